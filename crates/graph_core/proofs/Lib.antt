@@ -1,0 +1,46 @@
+mod Rows
+mod AlgebraRows
+mod ReadingRows
+pub mod AlgebraReading
+pub mod AlgebraRefusal
+pub mod AlgebraSoundness
+pub mod Bodies
+pub mod BuiltFacts
+pub mod Congruence
+pub mod Decided
+pub mod Evaluation
+pub mod Faults
+pub mod Fields
+pub mod FirstRefusal
+pub mod Gates
+pub mod JudgedLines
+pub mod LedgerLines
+pub mod Levels
+pub mod Lines
+pub mod Lists
+pub mod Multiplies
+pub mod Newlines
+pub mod NormalFormSizes
+pub mod NormalForms
+pub mod NumeralReading
+pub mod Numerals
+pub mod OperandBits
+pub mod Packed
+pub mod PackedOrder
+pub mod Readers
+pub mod Refusals
+pub mod Residues
+pub mod Rests
+pub mod Shown
+pub mod Soundness
+pub mod Steady
+pub mod Steps
+pub mod Support
+pub mod TableLemmas
+pub mod TableSteps
+pub mod Tail
+pub mod TextReaders
+pub mod WellFormedGates
+pub mod Words
+pub mod Writing
+pub mod WrittenValues

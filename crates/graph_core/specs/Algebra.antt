@@ -1,0 +1,164 @@
+-- The lines of an algebra certificate (the practical algebraic calculus), by their values.
+use Rattle.std.specs.Prelude.{◌≡◌, ℕ, ◌+◌, ◌*◌, ◌%◌, ◌^◌, ◌<◌, not, List, [], ◌∷◌, ◌++◌, map, IsSome, ◌==◌}
+use Rattle.std.specs.declared.option.Option.{Option}
+use Rattle.std.specs.declared.option.Option.TheVariants.{None, Some}
+use Rattle.std.specs.List.{All, find, filter}
+use Rattle.graph_core.specs.declared.gate.Gate.{Gate}
+use Rattle.graph_core.specs.declared.order.Order.{Order}
+use Rattle.graph_core.specs.Assignment.{Assignment, variable, literal, bit, word}
+use Rattle.graph_core.specs.Graph.{IsEvaluation}
+use Rattle.graph_core.specs.Operands.{HasMultiplierShape, width, a_bits, b_bits}
+use Rattle.graph_core.specs.Extended.{Extended, Column}
+use Rattle.graph_core.specs.Polynomial.{Polynomial, value, difference}
+
+-- A live line: its id, and its value at each assignment.
+pub record LiveLine : Type 0 where
+  pub id : ℕ
+  pub value : Assignment → ℕ
+
+-- A line times a polynomial.
+pub record Part : Type 0 where
+  pub id : ℕ
+  pub factor : Polynomial
+
+-- The lines: each but Delete introduces an id, and states a polynomial last.
+pub data Line : Type 0 where
+  Sum : ℕ → ℕ → ℕ → Polynomial → Line
+  Product : ℕ → ℕ → Polynomial → Polynomial → Line
+  Combination : ℕ → List Part → Polynomial → Line
+  Delete : ℕ → Line
+
+-- The live lines, and the greatest id in use so far, also of lines that were dropped.
+pub record Ledger : Type 0 where
+  pub live : List LiveLine
+  pub last : ℕ
+
+-- coefficients count modulo 2 ^ 2n
+abbrev pub modulus : Extended → ℕ
+modulus e = 2 ^ (2 * width e.graph)
+
+-- the axiom -v + A * B of a gate v with the operands A and B
+abbrev pub gate_axiom : ℕ → Gate → LiveLine
+gate_axiom m g = record { id = g.v; value = λ σ. difference m (bit (literal σ g.left) * bit (literal σ g.right)) (bit (variable σ g.v)) }
+
+-- the axiom o - r of a replaced column with the old output o and the new one r
+abbrev pub column_axiom : Extended → Column → LiveLine
+column_axiom e c = record { id = e.max + 1 + c.number; value = λ σ. difference (modulus e) (bit (literal σ c.old)) (bit (literal σ c.new)) }
+
+-- the lines that are live from the start
+abbrev pub axioms : Extended → Ledger
+axioms e = record {
+  live = map (gate_axiom (modulus e)) e.gates ++ map (column_axiom e) e.replaced;
+  last = e.max + 2 * width e.graph;
+}
+
+-- the live line of an id, if there is one
+abbrev pub line_of : List LiveLine → ℕ → Option LiveLine
+line_of live id = find (λ l. l.id == id) live
+
+abbrev pub IsLive : List LiveLine → ℕ → Type 0
+IsLive live id = IsSome (line_of live id)
+
+-- a live line's value; an id that isn't live counts as 0
+abbrev pub value_or_zero : Option LiveLine → Assignment → ℕ
+value_or_zero None σ = 0
+value_or_zero (Some l) σ = l.value σ
+
+abbrev pub value_of : List LiveLine → ℕ → Assignment → ℕ
+value_of live id = value_or_zero (line_of live id)
+
+-- the sum of live lines times polynomials
+abbrev pub combined : ℕ → List LiveLine → List Part → Assignment → ℕ
+combined m live [] σ = 0
+combined m live (p ∷ ps) σ = value_of live p.id σ * value m p.factor σ + combined m live ps σ
+
+-- the ids that a line names, from left to right
+abbrev pub operands : Line → List ℕ
+operands (Sum id i j p) = i ∷ j ∷ []
+operands (Product id i q p) = i ∷ []
+operands (Combination id parts p) = map (λ part. part.id) parts
+operands (Delete id) = id ∷ []
+
+-- the id that a line introduces is above all before it
+abbrev pub IsNewId : ℕ → Line → Type 0
+IsNewId last (Sum id i j p) = last < id
+IsNewId last (Product id i q p) = last < id
+IsNewId last (Combination id parts p) = last < id
+IsNewId last (Delete id) = Unit {0}
+
+-- the polynomial that a line states
+abbrev pub stated : Line → Polynomial
+stated (Sum id i j p) = p
+stated (Product id i q p) = p
+stated (Combination id parts p) = p
+stated (Delete id) = []
+
+-- the value that the line's rule names, up to multiples of m
+abbrev pub named : ℕ → List LiveLine → Line → Assignment → ℕ
+named m live (Sum id i j p) σ = value_of live i σ + value_of live j σ
+named m live (Product id i q p) σ = value_of live i σ * value m q σ
+named m live (Combination id parts p) σ = combined m live parts σ
+named m live (Delete id) σ = 0
+
+-- At every assignment, an evaluation or not, the stated polynomial has the value that the rule names.
+abbrev pub IsEqual : ℕ → List LiveLine → Line → Type 0
+IsEqual m live x = (σ : Assignment) → value m (stated x) σ ≡ named m live x σ % m
+
+-- A lawful line: its id is new, its operands are live, and its polynomial has the value that the rule names.
+pub record IsLawfulLine (m : ℕ) (l : Ledger) (x : Line) : Type 0 where
+  pub new_id : IsNewId l.last x
+  pub live_operands : All (IsLive l.live) (operands x)
+  pub equal : IsEqual m l.live x
+
+-- the lines that are live after a new one
+abbrev pub introduce : ℕ → Ledger → ℕ → Polynomial → Ledger
+introduce m l id p = record { live = record { id = id; value = value m p } ∷ l.live; last = id }
+
+-- the lines that are live after this one
+abbrev pub after : ℕ → Ledger → Line → Ledger
+after m l (Sum id i j p) = introduce m l id p
+after m l (Product id i q p) = introduce m l id p
+after m l (Combination id parts p) = introduce m l id p
+after m l (Delete id) = record { live = filter (λ x. not (x.id == id)) l.live; last = l.last }
+
+-- the specification: the outputs' word minus the product of the operands' words
+abbrev pub specification : Extended → Order → Assignment → ℕ
+specification e order σ = difference (modulus e) (word σ e.graph.outputs) (word σ (a_bits order e.graph) * word σ (b_bits order e.graph))
+
+-- the line q names a live line with the specification's value at every assignment
+abbrev pub Closes : Extended → Order → List LiveLine → ℕ → Type 0
+Closes e order live id = IsLive live id × ((σ : Assignment) → value_of live id σ ≡ specification e order σ)
+
+-- each line is lawful after those before it
+abbrev pub AreLawfulLines : ℕ → Ledger → List Line → Type 0
+AreLawfulLines m l [] = Unit {0}
+AreLawfulLines m l (x ∷ xs) = IsLawfulLine m l x × AreLawfulLines m (after m l x) xs
+
+-- the lines that are live after all of some lines
+abbrev pub after_all : ℕ → Ledger → List Line → Ledger
+after_all m l [] = l
+after_all m l (x ∷ xs) = after_all m (after m l x) xs
+
+-- Lawful lines from the axioms on, and a closing line.
+abbrev pub AreLawful : Extended → Order → List Line → ℕ → Type 0
+AreLawful e order lines closing = AreLawfulLines (modulus e) (axioms e) lines × Closes e order (after_all (modulus e) (axioms e) lines).live closing
+
+-- the old and the new output of each replaced column are equal
+abbrev pub AgreeOnColumns : Extended → Assignment → Type 0
+AgreeOnColumns e σ = All (λ c. literal σ c.old ≡ literal σ c.new) e.replaced
+
+-- Where the lines are lawful, the outputs' word is the product of the operands' words on every
+-- evaluation on which the replaced columns agree.
+abbrev pub AlgebraIsSound : Type 0
+AlgebraIsSound = (e : Extended) (order : Order) (lines : List Line) (closing : ℕ) (σ : Assignment) → HasMultiplierShape e.graph →
+    AreLawful e order lines closing → IsEvaluation e.gates σ → AgreeOnColumns e σ →
+    word σ e.graph.outputs ≡ word σ (a_bits order e.graph) * word σ (b_bits order e.graph)
+
+-- Where the specification vanishes modulo 2 ^ 2n, the outputs' word is the product.
+abbrev pub VanishingMeansProduct : Type 0
+VanishingMeansProduct = (e : Extended) (order : Order) (σ : Assignment) → HasMultiplierShape e.graph → specification e order σ ≡ 0 →
+    word σ e.graph.outputs ≡ word σ (a_bits order e.graph) * word σ (b_bits order e.graph)
+
+-- The axioms vanish on each evaluation on which the replaced columns agree.
+abbrev pub AxiomsVanish : Type 0
+AxiomsVanish = (e : Extended) (σ : Assignment) → IsEvaluation e.gates σ → AgreeOnColumns e σ → All (λ l. l.value σ ≡ 0) (axioms e).live

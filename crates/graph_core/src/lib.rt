@@ -1,0 +1,40 @@
+//! And-inverter graphs, and the definitions of a multiplier verifier with their laws.
+//!
+//! The contracts of all crates above cite the words of `specs/`: what bytes spell (`Aiger`), evaluation (`Graph`),
+//! operands and the product (`Operands`), polynomials by their values (`Polynomial`), and lawful algebra
+//! certificates (`Algebra`, `AlgebraText`). A law is the contract of a public function with an empty body.
+#![tactic(auto)]
+
+mod certificate_laws;
+mod evaluation_laws;
+mod fault;
+mod file_laws;
+mod gate;
+mod graph;
+mod literal;
+mod memory;
+mod order;
+mod polynomial_laws;
+
+pub use certificate_laws::{
+    algebra_is_exact, algebra_is_read, algebra_is_sound, algebra_line_is_read, axioms_vanish,
+    close_is_read, ledger_is_map, lines_keep_zero, live_lines_vanish, polynomial_is_read,
+    vanishing_means_product,
+};
+pub use evaluation_laws::{
+    evaluation_is_one, evaluations_suffice, levels_mean_acyclic, one_level, vanishing_multiplies,
+};
+pub use fault::{BuildFail, Field, GraphFault};
+pub use file_laws::{
+    ascii_text_spells, binary_text_spells, fault_is_found, graph_is_read, lists_are_read,
+    no_fault_is_found, not_spelled_and_refused, one_graph, one_refusal, packed_spells,
+    refusal_is_read, shown_faults, spelled_or_refused,
+};
+pub use gate::Gate;
+pub use graph::Graph;
+pub use literal::Lit;
+pub use memory::Memory;
+pub use order::Order;
+pub use polynomial_laws::{
+    normal_form_exists, normal_form_is_one, normal_forms_differ, size_is_one,
+};
