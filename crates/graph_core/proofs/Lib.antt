@@ -25,13 +25,15 @@ pub mod NormalForms
 pub mod NumeralReading
 pub mod Numerals
 pub mod OperandBits
+pub mod OperandPlaces
 pub mod Packed
-pub mod PackedOrder
 pub mod Readers
 pub mod Refusals
 pub mod Residues
 pub mod Rests
+pub mod SearchSteps
 pub mod Shown
+pub mod SoundLists
 pub mod Soundness
 pub mod Steady
 pub mod Steps
@@ -40,6 +42,8 @@ pub mod TableLemmas
 pub mod TableSteps
 pub mod Tail
 pub mod TextReaders
+pub mod WalkLevels
+pub mod WalkSteps
 pub mod WellFormedGates
 pub mod Words
 pub mod Writing

@@ -5,7 +5,7 @@ use Rattle.graph_core.specs.Graph.{IsWellFormed}
 use Rattle.graph_core.specs.Operands.{HasMultiplierShape}
 use Rattle.graph_core.specs.Extended.{without_cut}
 use Rattle.graph_core.specs.Aiger.{Listing, HasMultiplierCounts, graph_of}
-use Rattle.graph_core.specs.Soundness.{VanishingMultiplies}
+use Rattle.graph_core.specs.Soundness.{IsMultiplierSized, SpelledShape, VanishingMultiplies}
 use Rattle.graph_core.proofs.AlgebraSoundness.{vanishing_means_product}
 use Rattle.graph_core.proofs.Multiplies.{evaluations_suffice}
 
@@ -18,3 +18,13 @@ vanishing_multiplies bytes g order spells vanishes =
     let well : IsWellFormed g = subst IsWellFormed (sym same) spells.2.graph in
     let shape : HasMultiplierShape g = subst HasMultiplierShape (sym same) (shape_of spells.0 spells.1.2) in
     evaluations_suffice g order shape well.defined_once well.acyclic (λ σ evaluates. vanishing_means_product (without_cut g) order σ shape (vanishes σ evaluates))
+
+sized : (g : Listing) → HasMultiplierCounts g → IsMultiplierSized (graph_of g)
+sized g counts =
+    let even = counts.even in
+    let some = counts.some in
+    let few = counts.few in
+    record { shape = shape_of g counts; some = omega arith; narrow = omega arith; small = counts.max }
+
+pub spelled_shape : SpelledShape
+spelled_shape bytes g spells = subst IsMultiplierSized (sym spells.3) (sized spells.0 spells.1.2)

@@ -2,6 +2,7 @@ pub mod Literal
 pub mod Assignment
 pub mod Graph
 pub mod Tables
+pub mod Walk
 pub mod Operands
 pub mod Extended
 pub mod Polynomial
@@ -11,6 +12,7 @@ pub mod Ledger
 pub mod Text
 pub mod Aiger
 pub mod GraphRefusal
+pub mod Searches
 pub mod Reading
 pub mod Writing
 pub mod Soundness

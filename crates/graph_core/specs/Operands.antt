@@ -1,5 +1,5 @@
 -- The two operands of a multiplier and its value on them.
-use Rattle.std.specs.Prelude.{◌≡◌, ℕ, zero, suc, ◌*◌, ◌/◌, ◌%◌, ◌^◌, ◌<◌, Bool, List, [], ◌∷◌, ◌++◌, take, drop, length, ◌==◌}
+use Rattle.std.specs.Prelude.{◌≡◌, ℕ, zero, suc, ◌+◌, ◌*◌, ◌/◌, ◌%◌, ◌^◌, ◌<◌, ◌≤◌, Bool, List, [], ◌∷◌, ◌++◌, take, drop, length, ◌==◌}
 use Rattle.graph_core.specs.declared.literal.Lit.{Lit}
 use Rattle.graph_core.specs.declared.order.Order.{Order}
 use Rattle.graph_core.specs.declared.order.Order.TheVariants.{Separate, Interleaved}
@@ -67,3 +67,38 @@ MultipliesOnEvaluations g order = (σ : Assignment) → IsEvaluation g.gates σ 
 -- The evaluation with given inputs is one of them, so what holds on every evaluation holds for all operands.
 abbrev pub EvaluationsSuffice : Type 0
 EvaluationsSuffice = (g : Aig) (order : Order) → HasMultiplierShape g → IsDefinedOnce g → IsAcyclic g.gates → MultipliesOnEvaluations g order → Multiplies g order
+
+-- What operands are seen as: the order of the inputs, and the literals of each operand, the bit of weight 1 first.
+pub record Sides : Type 0 where
+  pub order : Order
+  pub a : List Lit
+  pub b : List Lit
+
+-- Operands are equally wide, and of at most 64 bits.
+pub record AreSides (s : Sides) : Type 0 where
+  pub equal : length s.a ≡ length s.b
+  pub narrow : length s.a ≤ 64
+
+-- They are the graph's operands.
+abbrev pub AreOperandsOf : Aig → Sides → Type 0
+AreOperandsOf g s = (s.a ≡ a_bits s.order g) × (s.b ≡ b_bits s.order g)
+
+-- ---- where the bits stand among the inputs; private clauses alone cite what follows
+
+-- the part of the inputs that is a, and the one that is b
+abbrev pub a_part : {X : Type 0} → Order → ℕ → List X → List X
+a_part Separate n xs = take n xs
+a_part Interleaved n xs = evens xs
+
+abbrev pub b_part : {X : Type 0} → Order → ℕ → List X → List X
+b_part Separate n xs = drop n xs
+b_part Interleaved n xs = odds xs
+
+-- the place of a bit of a, and that of a bit of b
+abbrev pub a_place : Order → ℕ → ℕ → ℕ
+a_place Separate n i = i
+a_place Interleaved n i = 2 * i
+
+abbrev pub b_place : Order → ℕ → ℕ → ℕ
+b_place Separate n i = n + i
+b_place Interleaved n i = 2 * i + 1

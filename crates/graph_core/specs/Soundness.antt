@@ -1,9 +1,9 @@
 -- What a vanishing specification means for the graph that a text spells.
-use Rattle.std.specs.Prelude.{◌≡◌, ℕ, List}
+use Rattle.std.specs.Prelude.{◌≡◌, ◌≤◌, ℕ, List}
 use Rattle.graph_core.specs.declared.order.Order.{Order}
 use Rattle.graph_core.specs.Assignment.{Assignment}
 use Rattle.graph_core.specs.Graph.{Aig, IsEvaluation}
-use Rattle.graph_core.specs.Operands.{Multiplies}
+use Rattle.graph_core.specs.Operands.{Multiplies, HasMultiplierShape, width}
 use Rattle.graph_core.specs.Extended.{without_cut}
 use Rattle.graph_core.specs.Algebra.{specification}
 use Rattle.graph_core.specs.Aiger.{Spells}
@@ -12,3 +12,13 @@ use Rattle.graph_core.specs.Aiger.{Spells}
 abbrev pub VanishingMultiplies : Type 0
 VanishingMultiplies = (bytes : List ℕ) (g : Aig) (order : Order) → Spells bytes g →
     ((σ : Assignment) → IsEvaluation g.gates σ → specification (without_cut g) order σ ≡ 0) → Multiplies g order
+
+-- A spelled graph has a multiplier's shape, of 1 to 64 bits.
+pub record IsMultiplierSized (g : Aig) : Type 0 where
+  pub shape : HasMultiplierShape g
+  pub some : 1 ≤ width g
+  pub narrow : width g ≤ 64
+  pub small : g.max ≤ 4194303
+
+abbrev pub SpelledShape : Type 0
+SpelledShape = (bytes : List ℕ) (g : Aig) → Spells bytes g → IsMultiplierSized g

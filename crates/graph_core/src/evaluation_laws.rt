@@ -2,7 +2,7 @@
 ghost use Rattle.graph_core.specs.Graph.{EvaluationIsOne};
 ghost use Rattle.graph_core.specs.GraphRefusal.{LevelsMeanAcyclic, OneLevel};
 ghost use Rattle.graph_core.specs.Operands.{EvaluationsSuffice};
-ghost use Rattle.graph_core.specs.Soundness.{VanishingMultiplies};
+ghost use Rattle.graph_core.specs.Soundness.{SpelledShape, VanishingMultiplies};
 
 /// What holds on every evaluation of an acyclic graph holds for all operands.
 pub fn evaluations_suffice()
@@ -27,4 +27,9 @@ pub fn one_level()
 /// Where the specification vanishes on each evaluation of a spelled graph, the graph multiplies.
 pub fn vanishing_multiplies()
     ensures { VanishingMultiplies }
+{}
+
+/// A graph that a text spells has a multiplier's shape, of 1 to 64 bits.
+pub fn spelled_shape()
+    ensures { SpelledShape }
 {}

@@ -3,9 +3,11 @@ use crate::literal::Lit;
 use std::marker::Model;
 
 mod build;
+mod faults;
 mod levels;
 mod places;
 mod reading;
+mod schedule;
 mod values;
 
 /// An and-inverter graph without faults, with what is asked of its variables at hand.

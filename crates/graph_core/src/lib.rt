@@ -13,6 +13,7 @@ mod gate;
 mod graph;
 mod literal;
 mod memory;
+mod operands;
 mod order;
 mod polynomial_laws;
 
@@ -22,7 +23,8 @@ pub use certificate_laws::{
     vanishing_means_product,
 };
 pub use evaluation_laws::{
-    evaluation_is_one, evaluations_suffice, levels_mean_acyclic, one_level, vanishing_multiplies,
+    evaluation_is_one, evaluations_suffice, levels_mean_acyclic, one_level, spelled_shape,
+    vanishing_multiplies,
 };
 pub use fault::{BuildFail, Field, GraphFault};
 pub use file_laws::{
@@ -34,6 +36,7 @@ pub use gate::Gate;
 pub use graph::Graph;
 pub use literal::Lit;
 pub use memory::Memory;
+pub use operands::Operands;
 pub use order::Order;
 pub use polynomial_laws::{
     normal_form_exists, normal_form_is_one, normal_forms_differ, size_is_one,

@@ -1,0 +1,4 @@
+pub mod CallerLemmas
+pub mod FilesLemmas
+pub mod PlacesLemmas
+pub mod ViewLemmas

@@ -1,0 +1,4 @@
+use Rattle.mv_desk.proofs.memory.honest_desk.HonestDeskDesk.read.Goals as goal
+
+pub returns-clause-only : goal.returns-clause-only
+returns-clause-only c = c.read.ensures.only _ _

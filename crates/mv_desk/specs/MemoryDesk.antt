@@ -1,0 +1,28 @@
+-- What a desk in memory tells, and when its calls fail.
+use Rattle.std.specs.Prelude.{ℕ, List, Option}
+use Rattle.mv_desk.specs.Files.{held_at}
+use Rattle.mv_desk.specs.Memory.{out_in, rest_in, tells}
+use Rattle.mv_desk.specs.Script.{Plan}
+use Rattle.mv_desk.specs.View.{View}
+use Rattle.mv_desk.specs.declared.slot.Slot.{Slot}
+use Rattle.mv_desk.specs.declared.memory.memory_desk.MemoryDesk.{MemoryDesk}
+
+-- it tells everything
+abbrev pub view_of : MemoryDesk → View
+view_of desk = tells desk.shelf desk.read_faults desk.write_faults
+
+-- the bytes under a name, if it is held
+abbrev pub held_of : MemoryDesk → List ℕ → Option (List ℕ)
+held_of desk name = held_at desk.shelf.0 name
+
+-- what is still to be read from a slot
+abbrev pub rest_of : MemoryDesk → Slot → List ℕ
+rest_of desk slot = rest_in desk.shelf slot
+
+-- what was written to a slot
+abbrev pub out_of : MemoryDesk → Slot → List ℕ
+out_of desk slot = out_in desk.shelf slot
+
+-- which of the next calls fail, and how the next reads are cut
+abbrev pub plan_of : MemoryDesk → Plan
+plan_of desk = desk.script

@@ -1,0 +1,30 @@
+//! The outside of the program: files by slots, a report, and two counts of faults.
+//!
+//! A call on a desk fails only where the count of faults of its kind rose, and then nothing else changed. What is
+//! read is what was left, what is written comes behind what was written before, and nothing else changes, as far as
+//! the desk tells its contents at all.
+//!
+//! *View*: what a desk tells (`specs/View.antt`); contents and names are optional in it. What each call does to a
+//! view is a word of `specs/Calls.antt`: *opens*, *reads only*, *creates*, *writes to*. *Rose*: a count of faults
+//! grew, or stands at its type's end.
+#![tactic(auto)]
+
+mod desk;
+mod faults;
+mod limits;
+mod memory;
+mod names;
+mod real;
+mod slot;
+#[cfg(test)]
+mod tests;
+mod whole;
+
+pub use desk::{Desk, Failed};
+pub use faults::{LineFail, ReadFault, WriteFault};
+pub use limits::Limits;
+pub use memory::{HonestDesk, MemoryDesk};
+pub use names::Names;
+pub use real::RealDesk;
+pub use slot::Slot;
+pub use whole::{read_whole, write_all};

@@ -1,0 +1,152 @@
+ghost use Rattle.std.specs.Prelude.{◌≡◌, ◌||◌, if◌then◌else◌, [], true, length, take, is_err, is_none, is_ok, option_map, IfOk, IsErr, IsTrue, OnOk, OnErr};
+ghost use Rattle.std.specs.Io.{ReadsAtMost};
+ghost use Rattle.std.specs.Io.KnownBytes.{ReadConsumes};
+ghost use Rattle.mv_desk.specs.Calls.{Creates, HasReadCause, HasWriteCause, Opens, ReadsOnly, TakesSome, WritesTo};
+ghost use Rattle.mv_desk.specs.Script.{after_call, after_read, is_next_failing, read_len};
+ghost use Rattle.mv_desk.specs.View.{HasReport, IsSame, KeepsTelling};
+
+use super::script::Script;
+use super::shelf::Shelf;
+use crate::{Desk, Failed, Slot};
+use std::alloc::Global;
+
+/// Files in memory that tell everything. The desk cuts its reads into pieces, and fails at the calls of a list.
+///
+/// A name that isn't held fails to open. Creating and writing may also fail for want of memory.
+#[derive(Drop)]
+pub struct MemoryDesk {
+    shelf: Shelf,
+    script: Script,
+    read_faults: u64,
+    write_faults: u64,
+}
+
+impl MemoryDesk {
+    ghost use Rattle.mv_desk.specs.MemoryDesk.{held_of, out_of, plan_of, rest_of, view_of};
+    ghost use Rattle.mv_desk.specs.Files.{files_of, held_at};
+
+    /// Nothing is open but the report. Of several files of one name the first counts.
+    ///
+    /// Each read gives at most its piece's length in bytes (0 counts as 1), after the last piece whatever fits.
+    /// The calls that `fails` numbers fail: all four calls count together, from 1.
+    pub fn new(
+        alloc: Global,
+        files: Vec<(String, Vec<u8>)>,
+        pieces: Vec<usize>,
+        fails: Vec<u64>,
+    ) -> Self
+        ensures report { HasReport (⟦<MemoryDesk as Desk>⟧.seen result) }
+        ensures files { (name : _) → held_of result name ≡ held_at (files_of files.items) name }
+        ensures unread { (slot : _) → rest_of result slot ≡ [] }
+        ensures unwritten { (slot : _) → out_of result slot ≡ [] }
+        ensures plan { plan_of result ≡ record { pieces = pieces.items; fails = fails.items; calls = 0 } }
+    {
+        MemoryDesk {
+            shelf: Shelf::new(alloc, files),
+            script: Script::new(pieces, fails),
+            read_faults: 0,
+            write_faults: 0,
+        }
+    }
+
+    /// The bytes under a name, where it is held.
+    pub fn bytes(&self, name: &str) -> Option<&[u8]>
+        ensures { option_map (λ bytes. bytes.now) result ≡ held_of self.now name.now }
+    {
+        self.shelf.bytes(name)
+    }
+
+    /// What is still to be read from a slot.
+    pub fn rest(&self, slot: Slot) -> &[u8]
+        ensures { result.now ≡ rest_of self.now slot }
+    {
+        self.shelf.rest(slot)
+    }
+
+    /// What was written to a slot since it was created.
+    pub fn out(&self, slot: Slot) -> &[u8]
+        ensures { result.now ≡ out_of self.now slot }
+    {
+        self.shelf.out(slot)
+    }
+}
+
+impl Desk for MemoryDesk {
+    ghost use Rattle.mv_desk.specs.MemoryDesk.{held_of, plan_of, rest_of, view_of};
+
+    ghost seen = { λ d. view_of d };
+
+    fn open_file(&mut self, slot: Slot, name: &str) -> Result<(), Failed>
+        ensures opens { OnOk result (Opens slot name.now (view_of self.old) (view_of self.new)) }
+        ensures failed { OnErr result (IsSame (view_of self.old) (view_of self.new)) }
+        ensures cause { HasReadCause (view_of self.old) (view_of self.new) result }
+        ensures tells { KeepsTelling (view_of self.old) (view_of self.new) }
+        // It fails by its list, and at a name that isn't held.
+        ensures refused { is_err result ≡ (is_next_failing (plan_of self.old) || is_none (held_of self.old name.now)) }
+        ensures plan { plan_of self.new ≡ after_call (plan_of self.old) }
+    {
+        if !self.script.fails_now() && self.shelf.open(slot, name) {
+            return Ok(());
+        }
+        self.read_faults = self.read_faults.saturating_add(1);
+        Err(Failed)
+    }
+
+    fn read(&mut self, slot: Slot, into: &mut [u8]) -> Result<usize, Failed>
+        requires { (view_of self.old).reads slot ≡ true }
+        ensures bound { ReadsAtMost result into.new }
+        ensures bytes { ReadConsumes ((view_of self.old).left slot) ((view_of self.new).left slot) result into.new }
+        ensures only { ReadsOnly slot (view_of self.old) (view_of self.new) }
+        ensures failed { OnErr result (IsSame (view_of self.old) (view_of self.new)) }
+        ensures cause { HasReadCause (view_of self.old) (view_of self.new) result }
+        ensures tells { KeepsTelling (view_of self.old) (view_of self.new) }
+        // It fails by its list alone, and cuts by its pieces alone.
+        ensures refused { is_err result ≡ is_next_failing (plan_of self.old) }
+        ensures piece { IfOk result (λ count. count ≡ read_len (plan_of self.old) (length into.old) (length (rest_of self.old slot))) }
+        ensures plan { plan_of self.new ≡ (if is_ok result then after_read (plan_of self.old) else after_call (plan_of self.old)) }
+    {
+        if self.script.fails_now() {
+            self.read_faults = self.read_faults.saturating_add(1);
+            return Err(Failed);
+        }
+        let most = self.script.take_piece();
+        Ok(self.shelf.read(slot, most, into))
+    }
+
+    fn create_file(&mut self, slot: Slot, name: &str) -> Result<(), Failed>
+        ensures creates { OnOk result (Creates slot name.now (view_of self.old) (view_of self.new)) }
+        ensures failed { OnErr result (IsSame (view_of self.old) (view_of self.new)) }
+        ensures cause { HasWriteCause (view_of self.old) (view_of self.new) result }
+        ensures tells { KeepsTelling (view_of self.old) (view_of self.new) }
+        ensures refused { IsTrue (is_next_failing (plan_of self.old)) → IsErr result }
+        ensures plan { plan_of self.new ≡ after_call (plan_of self.old) }
+    {
+        if !self.script.fails_now()
+            && let Ok(()) = self.shelf.create(slot, name)
+        {
+            return Ok(());
+        }
+        self.write_faults = self.write_faults.saturating_add(1);
+        Err(Failed)
+    }
+
+    fn write(&mut self, slot: Slot, piece: &[u8]) -> Result<usize, Failed>
+        requires { (view_of self.old).writes slot ≡ true }
+        ensures bound { IfOk result (λ taken. TakesSome taken (length piece.now)) }
+        ensures writes { IfOk result (λ taken. WritesTo slot (take taken piece.now) (view_of self.old) (view_of self.new)) }
+        ensures failed { OnErr result (IsSame (view_of self.old) (view_of self.new)) }
+        ensures cause { HasWriteCause (view_of self.old) (view_of self.new) result }
+        ensures tells { KeepsTelling (view_of self.old) (view_of self.new) }
+        ensures refused { IsTrue (is_next_failing (plan_of self.old)) → IsErr result }
+        ensures whole { IfOk result (λ taken. taken ≡ length piece.now) }
+        ensures plan { plan_of self.new ≡ after_call (plan_of self.old) }
+    {
+        if !self.script.fails_now()
+            && let Ok(()) = self.shelf.write(slot, piece)
+        {
+            return Ok(piece.len());
+        }
+        self.write_faults = self.write_faults.saturating_add(1);
+        Err(Failed)
+    }
+}

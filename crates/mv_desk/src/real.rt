@@ -1,0 +1,6 @@
+//! The trusted edge: files and standard output.
+mod channel;
+mod channels;
+mod real_desk;
+
+pub use real_desk::RealDesk;

@@ -1,0 +1,99 @@
+use super::channel::Channel;
+use super::channels::Channels;
+use crate::{Desk, Failed, Slot};
+use std::fs::File;
+use std::io::{Read, Write};
+use std::rt::Files;
+
+/// Files of the machine, and standard output as the report. It tells no contents and no names.
+#[derive(Drop)]
+pub struct RealDesk<R: Files + Print + Drop> {
+    rt: R,
+    channels: Channels<R::File>,
+    read_faults: u64,
+    write_faults: u64,
+}
+
+impl<R: Files + Print + Drop> RealDesk<R> {
+    ghost use Rattle.mv_desk.specs.View.{HasReport};
+
+    /// Nothing is open but the report.
+    pub fn new(rt: R) -> Self
+        ensures { HasReport (⟦<RealDesk<R> as Desk>⟧.seen result) }
+    {
+        RealDesk {
+            rt,
+            channels: Channels {
+                graph: Channel::Closed,
+                other: Channel::Closed,
+                clauses: Channel::Closed,
+                algebra: Channel::Closed,
+                report: Channel::Standard,
+            },
+            read_faults: 0,
+            write_faults: 0,
+        }
+    }
+}
+
+impl<R: Files + Print + Drop> Desk for RealDesk<R> {
+    ghost use Rattle.mv_desk.specs.Real.{real_view};
+
+    ghost seen = { λ d. real_view d.channels d.read_faults d.write_faults };
+
+    fn open_file(&mut self, slot: Slot, name: &str) -> Result<(), Failed> {
+        match File::open(&self.rt, name) {
+            Ok(file) => {
+                self.channels.put(slot, Channel::Reading(file));
+                Ok(())
+            }
+            Err(_) => {
+                self.read_faults = self.read_faults.saturating_add(1);
+                Err(Failed)
+            }
+        }
+    }
+
+    fn read(&mut self, slot: Slot, into: &mut [u8]) -> Result<usize, Failed> {
+        let mut channel = self.channels.take(slot);
+        let count = channel.read(into);
+        self.channels.put(slot, channel);
+        match count {
+            Ok(count) => Ok(count),
+            Err(_) => {
+                self.read_faults = self.read_faults.saturating_add(1);
+                Err(Failed)
+            }
+        }
+    }
+
+    fn create_file(&mut self, slot: Slot, name: &str) -> Result<(), Failed> {
+        match File::create(&self.rt, name) {
+            Ok(file) => {
+                self.channels.put(slot, Channel::Writing(file));
+                Ok(())
+            }
+            Err(_) => {
+                self.write_faults = self.write_faults.saturating_add(1);
+                Err(Failed)
+            }
+        }
+    }
+
+    fn write(&mut self, slot: Slot, piece: &[u8]) -> Result<usize, Failed> {
+        let mut channel = self.channels.take(slot);
+        let count = channel.write(&self.rt, piece);
+        self.channels.put(slot, channel);
+        match count {
+            Ok(0) if !piece.is_empty() => {
+                self.write_faults = self.write_faults.saturating_add(1);
+                Err(Failed)
+            }
+            Ok(count) => Ok(count),
+            Err(_) => {
+                self.write_faults = self.write_faults.saturating_add(1);
+                Err(Failed)
+            }
+        }
+    }
+}

@@ -1,0 +1,61 @@
+ghost use Rattle.std.specs.Prelude.{◌≡◌, ◌-◌, ◌<◌, ◌≤◌, ◌^◌, true, length, vec_len, IfOk, IfSome, IsErrOf, OnOk, OnErr};
+ghost use Rattle.std.specs.Io.KnownBytes.{IsAtEnd};
+ghost use Rattle.mv_desk.specs.View.{KeepsTelling, Rose};
+ghost use Rattle.mv_desk.specs.Calls.{HasWriteCause, ReadsOnly, WritesPart, WritesTo};
+
+use crate::{Desk, Failed, ReadFault, Slot, WriteFault};
+use std::alloc::Global;
+
+/// How many bytes a read asks for.
+const ROOM: usize = 4096;
+
+/// What is left in a slot, to its end, if that is at most `limit` bytes.
+pub fn read_whole<D: Desk>(
+    alloc: Global,
+    desk: &mut D,
+    slot: Slot,
+    limit: u64,
+) -> Result<Vec<u8>, ReadFault>
+    requires open { (D.seen desk.old).reads slot ≡ true }
+    requires limit { limit < 2 ^ 64 - 1 }
+    ensures whole { IfOk result (λ bytes. IfSome ((D.seen desk.old).left slot) (λ left. bytes.items ≡ left)) }
+    ensures within { IfOk result (λ bytes. vec_len bytes ≤ limit) }
+    ensures end { OnOk result (IsAtEnd ((D.seen desk.new).left slot)) }
+    ensures fault { IsErrOf result ReadFault.Fault → Rose (D.seen desk.old).read_faults (D.seen desk.new).read_faults }
+    ensures too_long { IsErrOf result ReadFault.TooLong → IfSome ((D.seen desk.old).left slot) (λ left. limit < length left) }
+    ensures only { ReadsOnly slot (D.seen desk.old) (D.seen desk.new) }
+    ensures tells { KeepsTelling (D.seen desk.old) (D.seen desk.new) }
+{
+    let mut bytes = Vec::new(alloc);
+    let mut buffer = [0u8; ROOM];
+    while bytes.len() as u64 <= limit {
+        match desk.read(slot, &mut buffer) {
+            Ok(0) => return Ok(bytes),
+            Ok(count) => {
+                if bytes.extend_from_slice(&buffer[..count]).is_err() {
+                    return Err(ReadFault::Memory);
+                }
+            }
+            Err(Failed) => return Err(ReadFault::Fault),
+        }
+    }
+    Err(ReadFault::TooLong)
+}
+
+/// Writes bytes whole, as the desk takes them. After an error a front part of them was written.
+pub fn write_all<D: Desk>(desk: &mut D, slot: Slot, bytes: &[u8]) -> Result<(), WriteFault>
+    requires { (D.seen desk.old).writes slot ≡ true }
+    ensures whole { OnOk result (WritesTo slot bytes.now (D.seen desk.old) (D.seen desk.new)) }
+    ensures part { OnErr result (WritesPart slot bytes.now (D.seen desk.old) (D.seen desk.new)) }
+    ensures cause { HasWriteCause (D.seen desk.old) (D.seen desk.new) result }
+    ensures tells { KeepsTelling (D.seen desk.old) (D.seen desk.new) }
+{
+    let mut rest = bytes;
+    while !rest.is_empty() {
+        match desk.write(slot, rest) {
+            Ok(count) => rest = &rest[count..],
+            Err(Failed) => return Err(WriteFault),
+        }
+    }
+    Ok(())
+}

@@ -1,0 +1,2 @@
+-- To be read by whoever trusts the contracts: Extension.
+pub mod Extension
