@@ -1,0 +1,12 @@
+pub mod Leading
+pub mod Numerals
+pub mod HeaderNumbers
+pub mod BinaryGates
+pub mod Turns
+pub mod Fails
+pub mod SymbolLines
+pub mod WholeTexts
+pub mod Fronts
+pub mod Graphs
+pub mod Within
+pub mod LimitLaws

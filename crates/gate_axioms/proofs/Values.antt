@@ -1,0 +1,96 @@
+-- The values of the polynomials of linear forms.
+use Rattle.std.proofs.Common.{◌≡◌, ℕ, ◌+◌, ◌*◌, ◌%◌, ◌^◌, [], ◌∷◌, sym, ap, ap₂, subst, ◌∙◌, arith}
+use Rattle.std.proofs.Math.Nat.{mod-mod, mod-add-mod}
+use Rattle.std.proofs.lemmas.Nat.{pow_pos}
+use Rattle.graph_core.specs.declared.literal.Lit.{Lit}
+use Rattle.graph_core.specs.declared.gate.Gate.{Gate}
+use Rattle.graph_core.specs.Assignment.{Assignment, variable, bit, literal, word}
+use Rattle.graph_core.specs.Graph.{Aig}
+use Rattle.graph_core.specs.Extended.{without_cut}
+use Rattle.graph_core.specs.Operands.{Sides, AreOperandsOf}
+use Rattle.graph_core.specs.Polynomial.{Polynomial, value, difference}
+use Rattle.graph_core.specs.Algebra.{modulus as modulus_of}
+use Rattle.poly_terms.specs.Tables.{Table, Sum, modulus, value_in, IsOf, Extends}
+use Rattle.poly_terms.specs.Laws.{modulus_stays, value_stays, extends_on}
+use Rattle.gate_axioms.specs.Axioms.{IsGateAxiom, IsDifference, IsSpecification}
+use Rattle.gate_axioms.specs.LinearForm.{Adds, HasValue}
+use Rattle.gate_axioms.proofs.Opposites.{opposite_difference, sum_with_product_same}
+
+-- A form with this value at each assignment, modulo a number.
+pub record FormHas (m : ℕ) (form : Polynomial) (f : Assignment → ℕ) : Type 0 where
+  pub value : (σ : Assignment) → value m form σ % m ≡ f σ % m
+
+-- a form that began as nothing has what was added to it
+pub form_has : (t : Table) (w : ℕ) (start form : Polynomial) (f : Assignment → ℕ) → w ≡ t.width → start ≡ [] → Adds w start form f → FormHas (modulus t) form f
+form_has t w start form f width none adds = subst (λ k. FormHas (2 ^ k) form f) width (record {
+  value = λ σ.
+      let m = 2 ^ w in
+      ap (λ n. n % m) (adds.sum σ) ∙ mod-mod (value m start σ + f σ) m ∙ ap (λ ps. (value m ps σ + f σ) % m) none ∙ mod-add-mod 0 m (f σ) ∙ ap (λ n. n % m) (omega arith);
+})
+
+-- so has its polynomial in a table that extends
+pub poly_has : (old new : Table) (p : Sum) (form : Polynomial) (f : Assignment → ℕ) → Extends old new → HasValue new p (value (modulus old) form) → FormHas (modulus old) form f → HasValue new p f
+poly_has old new p form f grown has is = record { value = λ σ. has.value σ ∙ subst (λ m. value (modulus old) form σ % m ≡ f σ % m) (sym (modulus_stays old new grown)) (is.value σ) }
+
+-- three polynomials made one after the other, and the first with the product of the others
+pub combined_has : (t0 t1 t2 t3 t4 : Table) (sum left right : Polynomial) (a b c p : Sum) → Extends t0 t1 → Extends t1 t2 → Extends t2 t3 → Extends t3 t4 → IsOf t1 a → IsOf t2 b →
+    HasValue t1 a (value (modulus t0) sum) → HasValue t2 b (value (modulus t1) left) → HasValue t3 c (value (modulus t2) right) →
+    ((σ : Assignment) → value_in t4 p σ ≡ (value_in t3 a σ + value_in t3 b σ * value_in t3 c σ) % modulus t3) →
+    HasValue t4 p (λ σ. value (modulus t0) sum σ + value (modulus t0) left σ * value (modulus t0) right σ)
+combined_has t0 t1 t2 t3 t4 sum left right a b c p e1 e2 e3 e4 a_of b_of a_is b_is c_is is = record {
+  value = λ σ.
+      let m = modulus t0 in
+      let m1 : modulus t1 ≡ m = modulus_stays t0 t1 e1 in
+      let m2 : modulus t2 ≡ m = modulus_stays t1 t2 e2 ∙ m1 in
+      let m3 : modulus t3 ≡ m = modulus_stays t2 t3 e3 ∙ m2 in
+      let first : value_in t3 a σ ≡ value m sum σ % m = value_stays t1 t3 a σ (extends_on t1 t2 t3 e2 e3) a_of ∙ a_is.value σ ∙ ap (λ k. value m sum σ % k) m1 in
+      let second : value_in t3 b σ ≡ value m left σ % m = value_stays t2 t3 b σ e3 b_of ∙ b_is.value σ ∙ ap₂ (λ j k. value j left σ % k) m1 m2 in
+      let third : value_in t3 c σ ≡ value m right σ % m = c_is.value σ ∙ ap₂ (λ j k. value j right σ % k) m2 m3 in
+      is σ ∙ ap (λ k. (value_in t3 a σ + value_in t3 b σ * value_in t3 c σ) % k) m3 ∙
+      sum_with_product_same m (value_in t3 a σ) (value_in t3 b σ) (value_in t3 c σ) (value m sum σ) (value m left σ) (value m right σ)
+      (ap (λ n. n % m) first ∙ mod-mod (value m sum σ) m) (ap (λ n. n % m) second ∙ mod-mod (value m left σ) m) (ap (λ n. n % m) third ∙ mod-mod (value m right σ) m) ∙
+      ap (λ k. (value m sum σ + value m left σ * value m right σ) % k) (sym (modulus_stays t3 t4 e4 ∙ m3));
+}
+
+-- the same, by what the forms have
+pub sum_with_product_has : (old new : Table) (p : Sum) (sum left right : Polynomial) (f g h : Assignment → ℕ) → Extends old new →
+    FormHas (modulus old) sum f → FormHas (modulus old) left g → FormHas (modulus old) right h →
+    HasValue new p (λ σ. value (modulus old) sum σ + value (modulus old) left σ * value (modulus old) right σ) → HasValue new p (λ σ. f σ + g σ * h σ)
+sum_with_product_has old new p sum left right f g h grown first second third has = record {
+  value = λ σ.
+      let m = modulus old in
+      let all = value m sum σ + value m left σ * value m right σ in
+      has.value σ ∙
+      subst (λ k. all % k ≡ (f σ + g σ * h σ) % k) (sym (modulus_stays old new grown))
+      (sum_with_product_same m (value m sum σ) (value m left σ) (value m right σ) (f σ) (g σ) (h σ) (first.value σ) (second.value σ) (third.value σ));
+}
+
+-- a value up to an opposite of 1 is a difference
+difference_from : (old new : Table) (p : Sum) (o x y : ℕ) (f : Assignment → ℕ) (σ : Assignment) → Extends old new → (o + 1) % modulus old ≡ 0 → HasValue new p f → f σ ≡ x + o * y →
+    value_in new p σ ≡ difference (modulus new) x y
+difference_from old new p o x y f σ grown opposite has is =
+    has.value σ ∙ opposite_difference (modulus new) x y (f σ) o (pow_pos new.width) (ap (λ m. (o + 1) % m) (modulus_stays old new grown) ∙ opposite) (ap (λ n. n % modulus new) is)
+
+pub literals_have : (old new : Table) (p : Sum) (n o : ℕ) (left right : Lit) → Extends old new → n ≡ 1 → (o + 1) % modulus old ≡ 0 →
+    HasValue new p (λ σ. n * bit (literal σ left) + o * bit (literal σ right)) → IsDifference new p left right
+literals_have old new p n o left right grown one opposite has σ =
+    difference_from old new p o (bit (literal σ left)) (bit (literal σ right)) _ σ grown opposite has (ap (λ k. k * bit (literal σ left) + o * bit (literal σ right)) one ∙ omega arith)
+
+pub gate_has : (old new : Table) (p : Sum) (gate : Gate) (o n k : ℕ) → Extends old new → (o + 1) % modulus old ≡ 0 → n ≡ 1 → k ≡ 1 →
+    HasValue new p (λ σ. o * bit (variable σ gate.v) + (n * word σ (gate.left ∷ [])) * (k * word σ (gate.right ∷ []))) → IsGateAxiom new p gate
+gate_has old new p gate o n k grown opposite one one' has σ =
+    let l = bit (literal σ gate.left) in
+    let r = bit (literal σ gate.right) in
+    let v = bit (variable σ gate.v) in
+    let left : n * word σ (gate.left ∷ []) ≡ l = ap (λ j. j * (l + 2 * 0)) one ∙ omega arith in
+    let right : k * word σ (gate.right ∷ []) ≡ r = ap (λ j. j * (r + 2 * 0)) one' ∙ omega arith in
+    difference_from old new p o (l * r) v _ σ grown opposite has (ap₂ (λ x y. o * v + x * y) left right ∙ omega arith)
+
+pub specification_has : (old new : Table) (p : Sum) (g : Aig) (s : Sides) (o n k : ℕ) → AreOperandsOf g s → modulus old ≡ modulus_of (without_cut g) → Extends old new →
+    (o + 1) % modulus old ≡ 0 → n ≡ 1 → k ≡ 1 →
+    HasValue new p (λ σ. n * word σ g.outputs + (o * word σ s.a) * (k * word σ s.b)) → IsSpecification new p (without_cut g) s.order
+specification_has old new p g s o n k sides same grown opposite one one' has σ =
+    difference_from old new p o (word σ g.outputs) (word σ s.a * word σ s.b) _ σ grown opposite has
+    (ap₂ (λ i j. i * word σ g.outputs + (o * word σ s.a) * (j * word σ s.b)) one one' ∙ omega arith) ∙
+    ap (λ m. difference m (word σ g.outputs) (word σ s.a * word σ s.b)) (modulus_stays old new grown ∙ same) ∙
+    ap₂ (λ x y. difference (modulus_of (without_cut g)) (word σ g.outputs) (word σ x * word σ y)) sides.0 sides.1

@@ -1,0 +1,34 @@
+-- Polynomials of a table with the values of axioms and of the specification, and where they are 0.
+use Rattle.std.specs.Prelude.{◌≡◌, List}
+use Rattle.std.specs.List.{Contains}
+use Rattle.graph_core.specs.declared.literal.Lit.{Lit}
+use Rattle.graph_core.specs.declared.gate.Gate.{Gate}
+use Rattle.graph_core.specs.declared.order.Order.{Order}
+use Rattle.graph_core.specs.Algebra.{gate_axiom, specification}
+use Rattle.graph_core.specs.Assignment.{Assignment, bit, literal}
+use Rattle.graph_core.specs.Extended.{Extended}
+use Rattle.graph_core.specs.Graph.{IsEvaluation}
+use Rattle.graph_core.specs.Polynomial.{difference}
+use Rattle.poly_terms.specs.Tables.{Table, Sum, modulus, value_in}
+
+-- at every assignment it has the value of a gate's axiom
+abbrev pub IsGateAxiom : Table → Sum → Gate → Type 0
+IsGateAxiom t p gate = (σ : Assignment) → value_in t p σ ≡ (gate_axiom (modulus t) gate).value σ
+
+-- at every assignment it has the value of the first literal minus the second
+abbrev pub IsDifference : Table → Sum → Lit → Lit → Type 0
+IsDifference t p left right = (σ : Assignment) → value_in t p σ ≡ difference (modulus t) (bit (literal σ left)) (bit (literal σ right))
+
+-- at every assignment it has the value of the specification
+abbrev pub IsSpecification : Table → Sum → Extended → Order → Type 0
+IsSpecification t p e order = (σ : Assignment) → value_in t p σ ≡ specification e order σ
+
+-- A gate's axiom is 0 on every evaluation of gates that have the gate among them.
+abbrev pub GateAxiomsVanish : Type 0
+GateAxiomsVanish = (t : Table) (p : Sum) (gates : List Gate) (gate : Gate) (σ : Assignment) →
+    IsGateAxiom t p gate → Contains gates gate → IsEvaluation gates σ → value_in t p σ ≡ 0
+
+-- The difference of two literals is 0 wherever they are equal.
+abbrev pub EqualLiteralsVanish : Type 0
+EqualLiteralsVanish = (t : Table) (p : Sum) (left right : Lit) (σ : Assignment) →
+    IsDifference t p left right → literal σ left ≡ literal σ right → value_in t p σ ≡ 0

@@ -1,0 +1,98 @@
+#![tactic(auto, using(poly_terms::specs::Laws::stays, poly_terms::specs::Laws::extends_on, poly_terms::specs::Laws::extends_itself))]
+
+ghost use Rattle.std.specs.Prelude.{◌≡◌, ◌+◌, ◌*◌, ◌%◌, IfOk};
+ghost use Rattle.graph_core.specs.Algebra.{modulus as modulus_of};
+ghost use Rattle.graph_core.specs.Extended.{without_cut};
+ghost use Rattle.graph_core.specs.Operands.{AreOperandsOf};
+ghost use Rattle.graph_core.specs.Polynomial.{value};
+ghost use Rattle.poly_terms.specs.Tables.{IsOf, Extends, modulus};
+ghost use Rattle.gate_axioms.specs.LinearForm.{HasValue};
+ghost use Rattle.gate_axioms.specs.Axioms.{IsDifference, IsGateAxiom, IsSpecification};
+
+use crate::linear_form::LinearForm;
+use graph_core::{Gate, Graph, Lit, Memory, Operands};
+use mv_nums::Residue;
+use poly_terms::{Poly, Terms};
+use std::alloc::Global;
+
+/// The axiom of a gate v with the operands A and B, -v + A * B.
+pub fn gate_poly(alloc: Global, terms: &mut Terms, gate: &Gate) -> Result<Poly, Memory>
+    ensures extends { Extends terms.old terms.new }
+    ensures of { IfOk result (λ p. IsOf terms.new p) }
+    ensures value { IfOk result (λ p. IsGateAxiom terms.new p gate.now) }
+{
+    let mut opposite = LinearForm::new(alloc);
+    opposite.add_variable(minus_one(terms), gate.v)?;
+    let left = LinearForm::word(alloc, one(terms), &[gate.left])?;
+    let right = LinearForm::word(alloc, one(terms), &[gate.right])?;
+    let poly = sum_with_product(terms, &opposite, &left, &right)?;
+    Ok(poly)
+}
+
+/// The difference of two literals, left - right: the axiom of a column with these outputs.
+pub fn equal_poly(alloc: Global, terms: &mut Terms, left: Lit, right: Lit) -> Result<Poly, Memory>
+    ensures extends { Extends terms.old terms.new }
+    ensures of { IfOk result (λ p. IsOf terms.new p) }
+    ensures value { IfOk result (λ p. IsDifference terms.new p left right) }
+{
+    let mut form = LinearForm::new(alloc);
+    form.add_literal(one(terms), left)?;
+    form.add_literal(minus_one(terms), right)?;
+    let poly = form.poly_in(terms)?;
+    Ok(poly)
+}
+
+/// The specification of a multiplier: the sum of 2^k times output k, minus the product of the operands.
+pub fn spec_poly(
+    alloc: Global,
+    terms: &mut Terms,
+    graph: &Graph,
+    operands: &Operands,
+) -> Result<Poly, Memory>
+    requires same_graph { AreOperandsOf graph.now operands.now }
+    requires same_modulus { modulus terms.old ≡ modulus_of (without_cut graph.now) }
+    ensures extends { Extends terms.old terms.new }
+    ensures of { IfOk result (λ p. IsOf terms.new p) }
+    ensures value { IfOk result (λ p.
+        IsSpecification terms.new p (without_cut graph.now) operands.now.order) }
+{
+    let outputs = LinearForm::word(alloc, one(terms), graph.outputs())?;
+    let opposite = LinearForm::word(alloc, minus_one(terms), operands.a_literals())?;
+    let b = LinearForm::word(alloc, one(terms), operands.b_literals())?;
+    let poly = sum_with_product(terms, &outputs, &opposite, &b)?;
+    Ok(poly)
+}
+
+// a form plus the product of two
+fn sum_with_product(
+    terms: &mut Terms,
+    sum: &LinearForm,
+    left: &LinearForm,
+    right: &LinearForm,
+) -> Result<Poly, Memory>
+    ensures extends { Extends terms.old terms.new }
+    ensures of { IfOk result (λ p. IsOf terms.new p) }
+    ensures value { IfOk result (λ p. HasValue terms.new p
+        (λ σ. value (modulus terms.old) sum.now σ
+        + value (modulus terms.old) left.now σ * value (modulus terms.old) right.now σ)) }
+{
+    let sum = sum.poly_in(terms)?;
+    let left = left.poly_in(terms)?;
+    let right = right.poly_in(terms)?;
+    let poly = terms.combine(&sum, &left, &right)?;
+    Ok(poly)
+}
+
+fn one(terms: &Terms) -> Residue
+    ensures width { result.width ≡ terms.now.width }
+    ensures value { result.value ≡ 1 }
+{
+    Residue::new(terms.width(), 1)
+}
+
+fn minus_one(terms: &Terms) -> Residue
+    ensures width { result.width ≡ terms.now.width }
+    ensures value { (result.value + 1) % modulus terms.now ≡ 0 }
+{
+    one(terms).neg()
+}

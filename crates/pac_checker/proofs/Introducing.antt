@@ -1,0 +1,63 @@
+-- New entries and entries that are gone, as live lines.
+use Rattle.std.specs.Prelude.{cond, ◌==◌}
+use Rattle.std.proofs.Common.{inr, inl, ◌≡◌, ℕ, Bool, true, false, [], refl, sym, ap, subst, ◌∙◌}
+use Rattle.std.specs.declared.option.Option.TheVariants.{None, Some}
+use Rattle.std.proofs.lemmas.Bool.{eqb-true, eq-eqb, true≢false}
+use Rattle.graph_core.specs.declared.Order.{Order}
+use Rattle.graph_core.specs.Extended.{Extended}
+use Rattle.graph_core.specs.Polynomial.{value}
+use Rattle.graph_core.specs.Algebra.{LiveLine, Delete, line_of, operands}
+use Rattle.mv_fact.specs.Facts.{Facts, fact_at, ChangesAt}
+use Rattle.poly_terms.specs.Tables.{Table, Sum, Extends, modulus, monomials_in}
+use Rattle.poly_terms.specs.Laws.{extends_itself}
+use Rattle.pac_checker.specs.declared.fault.LineFault.TheVariants as line
+use Rattle.pac_checker.specs.Agreement.{AreSame}
+use Rattle.pac_checker.specs.Checking.{checking_of, ledger_of, lines_in, Takes}
+use Rattle.pac_checker.specs.Faults.{IsFault}
+use Rattle.pac_checker.specs.Rules.{AreEqual, Introduces}
+use Rattle.pac_checker.proofs.Agreements.{same_of, line_of-dropped}
+use Rattle.pac_checker.proofs.Entries.{line_at, line_of-entries, missing_first, live_first}
+use Rattle.pac_checker.proofs.Lawful.{all_live}
+
+abbrev new_line : ℕ → Table → Sum → LiveLine
+new_line id t q = record { id = id; value = value (modulus t) (monomials_in t q) }
+
+-- a new entry whose polynomial has the stated one's values introduces its line
+pub introduces : (e : Extended) (order : Order) (old new : Facts Sum Table) (last id : ℕ) (p q : Sum) → ChangesAt id (Some p) old new → AreEqual old.table p q →
+    Introduces id (monomials_in old.table q) (checking_of e order old last) (checking_of e order new id)
+introduces e order old new last id p q change same = record {
+  extended = refl;
+  order = refl;
+  table = change.table;
+  ledger = record { last = refl; lines = λ other. subst (λ t. AreSame (line_of (lines_in t new.entries) other) (cond (id == other) (Some (new_line id old.table q)) (line_of (lines_in old.table old.entries) other))) (sym change.table) (go other (id == other) refl) };
+}
+  where
+    go : (other : ℕ) (b : Bool) → (id == other) ≡ b → AreSame (line_of (lines_in old.table new.entries) other) (cond b (Some (new_line id old.table q)) (line_of (lines_in old.table old.entries) other))
+    go other true f =
+        subst (λ n. AreSame (line_of (lines_in old.table new.entries) n) (Some (new_line id old.table q))) (eqb-true id other f)
+        (subst (λ x. AreSame x (Some (new_line id old.table q))) (sym (line_of-entries old.table new.entries id ∙ ap (line_at old.table id) change.at)) same)
+    go other false f =
+        same_of _ _ (line_of-entries old.table new.entries other ∙ ap (line_at old.table other) (change.others other (λ s. true≢false (sym (eq-eqb id other (sym s)) ∙ f))) ∙ sym (line_of-entries old.table old.entries other))
+
+-- ---- deleted lines
+
+pub delete_missing : (e : Extended) (order : Order) (old : Facts Sum Table) (last id : ℕ) → fact_at old.entries id ≡ None → IsFault e (ledger_of (checking_of e order old last)) (Delete id) (line.NoSuchLine id)
+delete_missing e order old last id none = inr (tt, inl (id, missing_first old.table old.entries id [] none, refl))
+
+pub deletes : (e : Extended) (order : Order) (old new : Facts Sum Table) (last id : ℕ) (p : Sum) → fact_at old.entries id ≡ Some p → ChangesAt id None old new →
+    Takes (Delete id) (checking_of e order old last) (checking_of e order new last)
+deletes e order old new last id p found change = record {
+  extended = refl;
+  order = refl;
+  table = subst (Extends old.table) (sym change.table) (extends_itself old.table);
+  lawful = record { new_id = tt; live_operands = all_live (lines_in old.table old.entries) (operands (Delete id)) (live_first old.table old.entries id p [] found); equal = λ σ. refl };
+  ledger = record {
+    last = refl;
+    lines = λ other. same_of _ _
+        (ap (λ t. line_of (lines_in t new.entries) other) change.table ∙ line_of-entries old.table new.entries other ∙ go other (other == id) refl ∙ sym (line_of-dropped (lines_in old.table old.entries) id other));
+  };
+}
+  where
+    go : (other : ℕ) (b : Bool) → (other == id) ≡ b → line_at old.table other (fact_at new.entries other) ≡ cond b None (line_of (lines_in old.table old.entries) other)
+    go other true f = subst (λ n. line_at old.table n (fact_at new.entries n) ≡ None) (sym (eqb-true other id f)) (ap (line_at old.table id) change.at)
+    go other false f = ap (line_at old.table other) (change.others other (λ s. true≢false (sym (eq-eqb other id s) ∙ f))) ∙ sym (line_of-entries old.table old.entries other)

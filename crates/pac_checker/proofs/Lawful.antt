@@ -1,0 +1,129 @@
+-- What a checker has found makes a line lawful, or refuses it.
+use Rattle.std.specs.Prelude.{IsSome, is_some, not, cond, ◌==◌}
+use Rattle.std.proofs.Common.{inl, inr, refl, Result, Ok, Err, IfErr, OnOk, ◌≡◌, ℕ, ◌%◌, Bool, true, false, List, [], ◌∷◌, sym, ap, subst, ◌∙◌}
+use Rattle.std.specs.declared.option.Option.TheVariants.{None, Some}
+use Rattle.std.specs.List.{All, AllByRecursion}
+use Rattle.std.proofs.lemmas.Bool.{true≢false}
+use Rattle.std.proofs.lemmas.List.Elements.{All-from_recursion}
+use Rattle.graph_core.specs.declared.Order.{Order}
+use Rattle.graph_core.specs.Assignment.{Assignment}
+use Rattle.graph_core.specs.Extended.{Extended}
+use Rattle.graph_core.specs.Operands.{Sides}
+use Rattle.graph_core.specs.Polynomial.{Polynomial, value}
+use Rattle.graph_core.specs.Algebra.{LiveLine, Line, Ledger, IsLive, line_of, IsLawfulLine, IsNewId, operands, named, stated, introduce, after}
+use Rattle.graph_core.specs.Algebra as algebra
+use Rattle.graph_core.specs.AlgebraRefusal.{first_missing}
+use Rattle.mv_fact.specs.Facts.{Facts, fact_at}
+use Rattle.poly_terms.specs.Tables.{Table, Sum, IsOf, Extends, modulus, value_in, monomials_in}
+use Rattle.poly_terms.specs.Laws.{modulus_stays, value_stays, extends_itself}
+use Rattle.pac_checker.specs.declared.fault.LineFault.{LineFault}
+use Rattle.pac_checker.specs.declared.fault.LineFault.TheVariants.{Id, NoSuchLine, NotEqual, Memory}
+use Rattle.pac_checker.specs.Agreement.{AreSame, Agree}
+use Rattle.pac_checker.specs.Checking.{Checking, checking_of, ledger_of, lines_in, Takes, Grows}
+use Rattle.pac_checker.specs.Faults.{IsFault}
+use Rattle.pac_checker.specs.Rules.{KeepsLines, IsNamed, IsNamingFault, AreEqual, IsStatingFault, Introduces, IsSound}
+use Rattle.pac_checker.proofs.Agreements.{agree_trans, agree_refl}
+
+-- ---- the table has grown
+
+-- the type's facts are kept
+pub sound_grown : (e : Extended) (s : Sides) (old new : Facts Sum Table) (last : ℕ) → KeepsLines old new → IsSound e s old last → IsSound e s new last
+sound_grown e s old new last k h = record {
+  same_gates = k.gates ∙ h.same_gates;
+  same_modulus = modulus_stays old.table new.table k.table ∙ h.same_modulus;
+  operands = h.operands;
+  fresh = λ id above. ap (λ es. fact_at es id) k.entries ∙ h.fresh id above;
+}
+
+pub grows : (e : Extended) (order : Order) (old new : Facts Sum Table) (last : ℕ) → KeepsLines old new → Grows (checking_of e order old last) (checking_of e order new last)
+grows e order old new last k = record { extended = refl; order = refl; table = k.table; entries = k.entries; last = refl; ledger = record { last = refl; lines = k.lines } }
+
+pub grows_itself : (c : Checking) → Grows c c
+grows_itself c = record { extended = refl; order = refl; table = extends_itself c.table; entries = refl; last = refl; ledger = agree_refl (ledger_of c) }
+
+-- ---- lawful lines
+
+none_missing : (live : List LiveLine) (ids : List ℕ) → first_missing live ids ≡ None → AllByRecursion (IsLive live) ids
+none_missing live [] h = tt
+none_missing live (id ∷ ids) h = go (is_some (line_of live id)) refl h (none_missing live ids)
+  where
+    go : (b : Bool) → is_some (line_of live id) ≡ b → cond (not b) (Some id) (first_missing live ids) ≡ None → (first_missing live ids ≡ None → AllByRecursion (IsLive live) ids) →
+        IsSome (line_of live id) × AllByRecursion (IsLive live) ids
+    go true f h next = (f, next h)
+    go false f h next = absurd (true≢false (ap is_some h))
+
+pub all_live : (live : List LiveLine) (ids : List ℕ) → first_missing live ids ≡ None → All (IsLive live) ids
+all_live live ids h = All-from_recursion (IsLive live) ids (none_missing live ids h)
+
+-- ledgers that agree do so with a new line of the same values
+introduce_same : (l k : Ledger) (id m n : ℕ) (p q : Polynomial) → Agree l k → ((σ : Assignment) → value m p σ ≡ value n q σ) → Agree (introduce m l id p) (introduce n k id q)
+introduce_same l k id m n p q a same = record { last = refl; lines = λ other. go other (id == other) }
+  where
+    go : (other : ℕ) (b : Bool) → AreSame (cond b (Some (record { id = id; value = value m p })) (line_of l.live other)) (cond b (Some (record { id = id; value = value n q })) (line_of k.live other))
+    go other true = same
+    go other false = a.lines other
+
+-- the stated polynomial has the value that the rule names, modulo the modulus of the graph
+equal_named : (e : Extended) (s : Sides) (old mid : Facts Sum Table) (last : ℕ) (x : Line) (p q : Sum) → IsSound e s old last → KeepsLines old mid → IsOf old.table q → stated x ≡ monomials_in old.table q →
+    IsNamed old mid (operands x) (named (modulus old.table) (lines_in old.table old.entries) x) p → (σ : Assignment) → value_in mid.table p σ ≡ value_in mid.table q σ →
+    value (algebra.modulus e) (stated x) σ ≡ named (algebra.modulus e) (lines_in old.table old.entries) x σ % algebra.modulus e
+equal_named e s old mid last x p q sound k of is found σ same =
+    subst (λ m. value m (stated x) σ ≡ named m (lines_in old.table old.entries) x σ % m) sound.same_modulus
+    (ap (λ r. value (modulus old.table) r σ) is ∙ sym (value_stays old.table mid.table q σ k.table of) ∙ sym same ∙ found.value.same σ)
+
+-- a line whose named polynomial is found equal, and put under the new id, is taken
+pub takes_named : (e : Extended) (s : Sides) (order : Order) (old mid : Facts Sum Table) (last : ℕ) (new : Checking) (x : Line) (id : ℕ) (p q : Sum) → IsSound e s old last → KeepsLines old mid → IsNewId last x →
+    IsOf old.table q → stated x ≡ monomials_in old.table q → introduce (algebra.modulus e) (ledger_of (checking_of e order old last)) id (monomials_in old.table q) ≡ after (algebra.modulus e) (ledger_of (checking_of e order old last)) x →
+    IsNamed old mid (operands x) (named (modulus old.table) (lines_in old.table old.entries) x) p → AreEqual mid.table p q →
+    Introduces id (monomials_in mid.table q) (checking_of e order mid last) new → Takes x (checking_of e order old last) new
+takes_named e s order old mid last new x id p q sound k new_id of is next found same i =
+    let before : Ledger = ledger_of (checking_of e order old last) in
+    let between : Ledger = ledger_of (checking_of e order mid last) in
+    record {
+      extended = i.extended;
+      order = i.order;
+      table = subst (Extends old.table) (sym i.table) k.table;
+      lawful = record { new_id = new_id; live_operands = all_live before.live (operands x) found.live; equal = λ σ. equal_named e s old mid last x p q sound k of is found σ (same σ) };
+      ledger = subst (Agree (ledger_of new)) next
+          (agree_trans (ledger_of new) (introduce (modulus mid.table) between id (monomials_in mid.table q)) (introduce (algebra.modulus e) before id (monomials_in old.table q)) i.ledger
+          (introduce_same between before id (modulus mid.table) (algebra.modulus e) (monomials_in mid.table q) (monomials_in old.table q) (record { last = refl; lines = k.lines })
+          (λ σ. value_stays old.table mid.table q σ k.table of ∙ ap (λ m. value m (monomials_in old.table q) σ) sound.same_modulus)));
+    }
+
+pub takes_stated : {T : Type 0} (r : Result T LineFault) (e : Extended) (s : Sides) (order : Order) (old mid : Facts Sum Table) (last : ℕ) (new : Checking) (x : Line) (id : ℕ) (p q : Sum) → IsSound e s old last → KeepsLines old mid → IsNewId last x →
+    IsOf old.table q → stated x ≡ monomials_in old.table q → introduce (algebra.modulus e) (ledger_of (checking_of e order old last)) id (monomials_in old.table q) ≡ after (algebra.modulus e) (ledger_of (checking_of e order old last)) x →
+    IsNamed old mid (operands x) (named (modulus old.table) (lines_in old.table old.entries) x) p → OnOk r (AreEqual mid.table p q) →
+    OnOk r (Introduces id (monomials_in mid.table q) (checking_of e order mid last) new) → OnOk r (Takes x (checking_of e order old last) new)
+takes_stated (Ok t) e s order old mid last new x id p q sound k new_id of is next found same i = takes_named e s order old mid last new x id p q sound k new_id of is next found same i
+takes_stated (Err fault) e s order old mid last new x id p q sound k new_id of is next found same i = same
+
+-- ---- refused lines
+
+-- a polynomial that differs from the named one refuses the line
+stating_fault : (e : Extended) (s : Sides) (order : Order) (old mid : Facts Sum Table) (last : ℕ) (x : Line) (p q : Sum) (fault : LineFault) → IsSound e s old last → KeepsLines old mid → IsNewId last x →
+    IsOf old.table q → stated x ≡ monomials_in old.table q → IsNamed old mid (operands x) (named (modulus old.table) (lines_in old.table old.entries) x) p →
+    IsStatingFault mid.table p q fault → IsFault e (ledger_of (checking_of e order old last)) x fault
+stating_fault e s order old mid last x p q Id sound k new of is found h = absurd h
+stating_fault e s order old mid last x p q (NoSuchLine id) sound k new of is found h = absurd h
+stating_fault e s order old mid last x p q NotEqual sound k new of is found h =
+    inr (new, inr (all_live (lines_in old.table old.entries) (operands x) found.live, inl ((h.0, λ same. h.1 (differ same)), refl)))
+  where
+    differ : value (algebra.modulus e) (stated x) h.0 ≡ named (algebra.modulus e) (lines_in old.table old.entries) x h.0 % algebra.modulus e → value_in mid.table p h.0 ≡ value_in mid.table q h.0
+    differ same =
+        found.value.same h.0 ∙ subst (λ m. named m (lines_in old.table old.entries) x h.0 % m ≡ value m (stated x) h.0) (sym sound.same_modulus) (sym same) ∙
+        ap (λ r. value (modulus old.table) r h.0) is ∙ sym (value_stays old.table mid.table q h.0 k.table of)
+stating_fault e s order old mid last x p q Memory sound k new of is found h = tt
+
+pub stating_faults : {T : Type 0} (r : Result T LineFault) (e : Extended) (s : Sides) (order : Order) (old mid : Facts Sum Table) (last : ℕ) (x : Line) (p q : Sum) → IsSound e s old last → KeepsLines old mid →
+    IsNewId last x → IsOf old.table q → stated x ≡ monomials_in old.table q → IsNamed old mid (operands x) (named (modulus old.table) (lines_in old.table old.entries) x) p →
+    IfErr r (IsStatingFault mid.table p q) → IfErr r (IsFault e (ledger_of (checking_of e order old last)) x)
+stating_faults (Ok t) e s order old mid last x p q sound k new of is found h = h
+stating_faults (Err fault) e s order old mid last x p q sound k new of is found h = stating_fault e s order old mid last x p q fault sound k new of is found h
+
+-- an operand that isn't live refuses it
+pub naming_fault : (e : Extended) (order : Order) (old : Facts Sum Table) (last : ℕ) (x : Line) (fault : LineFault) → IsNewId last x →
+    IsNamingFault old (operands x) fault → IsFault e (ledger_of (checking_of e order old last)) x fault
+naming_fault e order old last x Id new h = absurd h
+naming_fault e order old last x (NoSuchLine missing) new h = inr (new, inl (missing, h, refl))
+naming_fault e order old last x NotEqual new h = absurd h
+naming_fault e order old last x Memory new h = tt

@@ -1,0 +1,34 @@
+use Rattle.std.proofs.Common.{refl, arith, map}
+use Rattle.graph_core.specs.Algebra.{Line, Combination}
+use Rattle.poly_terms.specs.Tables.{IsOf, monomials_in}
+use Rattle.poly_text.specs.Lines.{told_part}
+use Rattle.pac_checker.proofs.Lawful.{sound_grown, takes_stated, stating_faults}
+use Rattle.pac_checker.proofs.checker.PacChecker.combination.Goals as goal
+
+pub invariant_of-self : goal.invariant_of-self
+invariant_of-self c = sound_grown c.self.inside.extended.now c.self.inside.operands.now c.self.inside.live c.combine.new.live c.self.inside.last c.combine.ensures.keeps c.self.invariant
+
+pub invariant_of-self-2 : goal.invariant_of-self-2
+invariant_of-self-2 c = sound_grown c.self.inside.extended.now c.self.inside.operands.now c.self.inside.live c.combine.new.live c.self.inside.last c.combine.ensures.keeps c.self.invariant
+
+pub returns-clause-taken : goal.returns-clause-taken
+returns-clause-taken c =
+    let e = c.self.inside.extended.now in
+    let s = c.self.inside.operands.now in
+    let live = c.self.inside.live in
+    let line : Line = Combination c.args.id (map (told_part live.table) c.args.parts.now) (monomials_in live.table c.args.poly.now) in
+    let of : IsOf live.table c.args.poly.now = rw (← c.self.view_is) at c.requires.of_table in
+    rw (← c.self.view_is)
+    (takes_stated c.state.result e s s.order live c.combine.new.live c.self.inside.last c.state.new.self line c.args.id c.in_ok-named.named c.args.poly.now c.self.invariant c.combine.ensures.keeps (omega arith) of refl refl
+    c.in_ok-named.ensures.sum c.state.ensures.equal c.state.ensures.introduced)
+
+pub returns-clause-refused : goal.returns-clause-refused
+returns-clause-refused c =
+    let e = c.self.inside.extended.now in
+    let s = c.self.inside.operands.now in
+    let live = c.self.inside.live in
+    let line : Line = Combination c.args.id (map (told_part live.table) c.args.parts.now) (monomials_in live.table c.args.poly.now) in
+    let of : IsOf live.table c.args.poly.now = rw (← c.self.view_is) at c.requires.of_table in
+    rw (← c.self.view_is)
+    (stating_faults c.state.result e s s.order live c.combine.new.live c.self.inside.last line c.in_ok-named.named c.args.poly.now c.self.invariant c.combine.ensures.keeps (omega arith) of refl
+    c.in_ok-named.ensures.sum c.state.ensures.refused)

@@ -1,0 +1,48 @@
+-- What contracts see of a checker of algebra lines: live polynomials of a table that grows, as the ledger of the definitions.
+use Rattle.std.specs.Prelude.{◌≡◌, ℕ, List, map}
+use Rattle.graph_core.specs.declared.Order.{Order}
+use Rattle.graph_core.specs.Extended.{Extended}
+use Rattle.graph_core.specs.Algebra.{LiveLine, Ledger, Line, modulus, after, IsLawfulLine}
+use Rattle.poly_terms.specs.Tables.{Table, Sum, Extends, value_in}
+use Rattle.mv_fact.specs.Facts.{Facts}
+use Rattle.pac_checker.specs.Agreement.{Agree}
+
+-- The extended graph, the order of its inputs, the table of polynomials, the live ones by id, and the last id in use.
+pub record Checking : Type 0 where
+  pub extended : Extended
+  pub order : Order
+  pub table : Table
+  pub entries : List (ℕ × Sum)
+  pub last : ℕ
+
+-- the checker of an extended graph and an order with these live polynomials
+abbrev pub checking_of : Extended → Order → Facts Sum Table → ℕ → Checking
+checking_of e order facts last = record { extended = e; order = order; table = facts.table; entries = facts.entries; last = last }
+
+-- a polynomial under an id, as a live line
+abbrev pub line_in : Table → ℕ × Sum → LiveLine
+line_in t entry = record { id = entry.0; value = value_in t entry.1 }
+
+abbrev pub lines_in : Table → List (ℕ × Sum) → List LiveLine
+lines_in t entries = map (line_in t) entries
+
+-- the ledger that the checker stands for
+abbrev pub ledger_of : Checking → Ledger
+ledger_of c = record { live = lines_in c.table c.entries; last = c.last }
+
+-- The line is lawful over the ledger so far, and the ledger afterwards is the one after the line.
+pub record Takes (line : Line) (old new : Checking) : Type 0 where
+  pub extended : new.extended ≡ old.extended
+  pub order : new.order ≡ old.order
+  pub table : Extends old.table new.table
+  pub lawful : IsLawfulLine (modulus old.extended) (ledger_of old) line
+  pub ledger : Agree (ledger_of new) (after (modulus old.extended) (ledger_of old) line)
+
+-- Nothing has changed but the table, which has grown; so the ledger says the same.
+pub record Grows (old new : Checking) : Type 0 where
+  pub extended : new.extended ≡ old.extended
+  pub order : new.order ≡ old.order
+  pub table : Extends old.table new.table
+  pub entries : new.entries ≡ old.entries
+  pub last : new.last ≡ old.last
+  pub ledger : Agree (ledger_of new) (ledger_of old)

@@ -1,0 +1,98 @@
+-- What the steps of a line find. These words serve private clauses.
+use Rattle.std.specs.Prelude.{◌≡◌, ◌≢◌, ◌<◌, ◌&&◌, ℕ, ◌%◌, List, map, sum_by, [], ◌∷◌}
+use Rattle.std.specs.declared.option.Option.TheVariants.{None, Some}
+use Rattle.std.specs.List.{All}
+use Rattle.std.specs.Option.{option_or}
+use Rattle.graph_core.specs.declared.Gate.{Gate}
+use Rattle.graph_core.specs.Assignment.{Assignment, variable, literal}
+use Rattle.graph_core.specs.Extended.{Extended}
+use Rattle.graph_core.specs.Operands.{Sides, AreOperandsOf}
+use Rattle.graph_core.specs.Polynomial.{Polynomial}
+use Rattle.graph_core.specs.Algebra.{LiveLine, line_of, introduce, combined}
+use Rattle.graph_core.specs.Algebra as algebra
+use Rattle.graph_core.specs.AlgebraRefusal.{first_missing}
+use Rattle.mv_fact.specs.Facts.{Facts, IsKept, fact_at}
+use Rattle.poly_terms.specs.Tables.{Table, Sum, IsOf, Extends, modulus, value_in}
+use Rattle.poly_text.specs.Lines.{told_part}
+use Rattle.pac_checker.specs.declared.fault.LineFault.{LineFault}
+use Rattle.pac_checker.specs.declared.fault.LineFault.TheVariants.{Id, NoSuchLine, NotEqual, Memory}
+use Rattle.pac_checker.specs.Agreement.{Agree, AreSame, AreSameLines}
+use Rattle.pac_checker.specs.Checking.{Checking, lines_in, ledger_of}
+
+-- A polynomial of the table that vanishes on every evaluation of the gates.
+abbrev pub Vanishes : List Gate → Table → Sum → Type 0
+Vanishes gates t p = IsKept {Fact = Sum} {Table = Table} (λ p t. IsOf t p) (λ p t σ. value_in t p σ ≡ 0) gates t p
+
+-- The table alone has grown, and each live line has its value.
+pub record KeepsLines (old new : Facts Sum Table) : Type 0 where
+  pub gates : new.gates ≡ old.gates
+  pub table : Extends old.table new.table
+  pub entries : new.entries ≡ old.entries
+  pub lines : AreSameLines (lines_in new.table new.entries) (lines_in old.table old.entries)
+
+-- A vanishing polynomial whose value at each assignment is f, modulo m.
+pub record HasValue (gates : List Gate) (t : Table) (m : ℕ) (f : Assignment → ℕ) (p : Sum) : Type 0 where
+  pub vanishes : Vanishes gates t p
+  pub same : (σ : Assignment) → value_in t p σ ≡ f σ % m
+
+-- The operands are live, and the polynomial has the value f that the rule names.
+pub record IsNamed (old new : Facts Sum Table) (ids : List ℕ) (f : Assignment → ℕ) (p : Sum) : Type 0 where
+  pub live : first_missing (lines_in old.table old.entries) ids ≡ None
+  pub value : HasValue new.gates new.table (modulus old.table) f p
+
+-- the ids of some lines, each times a polynomial
+abbrev pub ids_of : Table → List (ℕ × Sum) → List ℕ
+ids_of t parts = map (λ part. part.id) (map (told_part t) parts)
+
+-- The lines are live, and the polynomials that vanish sum up to theirs, each times its factor.
+pub record AreProducts (old new : Facts Sum Table) (parts : List (ℕ × Sum)) (products : List Sum) : Type 0 where
+  pub live : first_missing (lines_in old.table old.entries) (ids_of old.table parts) ≡ None
+  pub vanish : All (Vanishes new.gates new.table) products
+  pub same : (σ : Assignment) → sum_by (λ p. value_in new.table p σ) products % modulus old.table ≡
+      combined (modulus old.table) (lines_in old.table old.entries) (map (told_part old.table) parts) σ % modulus old.table
+
+-- the first operand that isn't live, or want of memory
+abbrev pub IsNamingFault : Facts Sum Table → List ℕ → LineFault → Type 0
+IsNamingFault facts ids Id = ⊥
+IsNamingFault facts ids (NoSuchLine id) = first_missing (lines_in facts.table facts.entries) ids ≡ Some id
+IsNamingFault facts ids NotEqual = ⊥
+IsNamingFault facts ids Memory = Unit {0}
+
+-- the same value at every assignment
+abbrev pub AreEqual : Table → Sum → Sum → Type 0
+AreEqual t p q = (σ : Assignment) → value_in t p σ ≡ value_in t q σ
+
+-- an assignment tells two polynomials apart
+abbrev pub Differ : Table → Sum → Sum → Type 0
+Differ t p q = (σ : Assignment) × (value_in t p σ ≢ value_in t q σ)
+
+-- the stated polynomial differs from the named one, or want of memory
+abbrev pub IsStatingFault : Table → Sum → Sum → LineFault → Type 0
+IsStatingFault t named stated Id = ⊥
+IsStatingFault t named stated (NoSuchLine id) = ⊥
+IsStatingFault t named stated NotEqual = Differ t named stated
+IsStatingFault t named stated Memory = Unit {0}
+
+-- A polynomial of the same table was put under a new id.
+pub record Introduces (id : ℕ) (p : Polynomial) (old new : Checking) : Type 0 where
+  pub extended : new.extended ≡ old.extended
+  pub order : new.order ≡ old.order
+  pub table : new.table ≡ old.table
+  pub ledger : Agree (ledger_of new) (introduce (modulus old.table) (ledger_of old) id p)
+
+-- What the type of a checker keeps besides that each live polynomial vanishes.
+pub record IsSound (e : Extended) (s : Sides) (facts : Facts Sum Table) (last : ℕ) : Type 0 where
+  pub same_gates : facts.gates ≡ e.gates
+  pub same_modulus : modulus facts.table ≡ algebra.modulus e
+  pub operands : AreOperandsOf e.graph s
+  pub fresh : (id : ℕ) → last < id → fact_at facts.entries id ≡ None
+
+-- what a gate says of an assignment
+abbrev pub Computes : Gate → Assignment → Type 0
+Computes g σ = variable σ g.v ≡ (literal σ g.left && literal σ g.right)
+
+-- One more line is live, unless its id was; the table has grown.
+pub record AddsLine (line : LiveLine) (old new : Facts Sum Table) : Type 0 where
+  pub gates : new.gates ≡ old.gates
+  pub table : Extends old.table new.table
+  pub lines : (id : ℕ) → AreSame (line_of (lines_in new.table new.entries) id) (option_or (line_of (lines_in old.table old.entries) id) (line_of (line ∷ []) id))

@@ -1,0 +1,247 @@
+#![tactic(auto, using(crate::proofs::Lawful::sound_grown, crate::proofs::Lawful::grows, crate::proofs::Lawful::grows_itself, crate::proofs::Growth::keeps_lines, poly_terms::specs::Laws::stays))]
+
+ghost use Rattle.std.specs.Prelude.{◌≡◌, ◌*◌, ◌<◌, ◌≤◌, [], IfOk, OnOk, OnErr, IfErr, IsSome, IfSome, map};
+ghost use Rattle.std.specs.List.{All};
+ghost use Rattle.graph_core.specs.Algebra.{Sum, Product, Combination, Delete, Closes, axioms, specification, AgreeOnColumns};
+ghost use Rattle.graph_core.specs.Algebra as algebra;
+ghost use Rattle.graph_core.specs.Operands.{width, AreOperandsOf, HasMultiplierShape};
+ghost use Rattle.mv_fact.specs.Always.{Always};
+ghost use Rattle.poly_terms.specs.Tables.{IsOf, modulus, monomials_in};
+ghost use Rattle.poly_text.specs.Lines.{told, told_part, AreOf};
+ghost use Rattle.gate_axioms.specs.Axioms.{IsSpecification};
+ghost use Rattle.pac_checker.specs.Agreement.{Agree};
+ghost use Rattle.pac_checker.specs.Checking.{ledger_of, Takes, Grows};
+ghost use Rattle.pac_checker.specs.Faults.{IsFault, IsCloseFault};
+ghost use Rattle.pac_checker.specs.Rules.{Vanishes, AreEqual, IsStatingFault, Introduces};
+
+use crate::axioms::add_axioms;
+use crate::rules::{add_two, combine, multiply};
+use crate::works::MakeSpecification;
+use crate::{CloseFault, LineFault};
+use graph_core::{Memory, Operands};
+use mv_fact::{Grow, Live};
+use poly_terms::{Poly, Terms};
+use poly_text::PacLine;
+use ripple_graft::Extended;
+use std::alloc::Global;
+use std::marker::Model;
+
+/// The live polynomials of an algebra certificate over an extended graph.
+#[derive(Drop)]
+pub struct PacChecker<'a> {
+    alloc: Global,
+    extended: &'a Extended<'a>,
+    operands: &'a Operands,
+    live: Live<'a, Poly>,
+    /// the greatest id in use so far, also of lines that were dropped
+    last: u64,
+}
+
+impl<'a> Model for PacChecker<'a> {
+    ghost use Rattle.pac_checker.specs.Checking.{Checking, checking_of};
+    ghost use Rattle.pac_checker.specs.Rules.{IsSound};
+
+    ghost Value = { Checking };
+
+    ghost view = { λ c. checking_of c.extended.now c.operands.now.order c.live c.last };
+
+    ghost invariant = { λ c. IsSound c.extended.now c.operands.now c.live c.last };
+}
+
+impl<'a> PacChecker<'a> {
+    /// The axioms of an extended graph: those of its gates, and of each replaced column.
+    pub fn new(
+        alloc: Global,
+        extended: &'a Extended<'a>,
+        operands: &'a Operands,
+    ) -> Result<PacChecker<'a>, Memory>
+        requires operands { AreOperandsOf extended.now.graph operands.now }
+        requires shape { HasMultiplierShape extended.now.graph }
+        requires wide { 1 ≤ width extended.now.graph }
+        requires narrow { width extended.now.graph ≤ 64 }
+        requires columns { Always extended.now.gates (AgreeOnColumns extended.now) }
+        ensures extended { IfOk result (λ c. c.extended ≡ extended.entry.now) }
+        ensures order { IfOk result (λ c. c.order ≡ operands.entry.now.order) }
+        ensures modulus { IfOk result (λ c. modulus c.table ≡ algebra.modulus c.extended) }
+        ensures axioms { IfOk result (λ c. Agree (ledger_of c) (axioms extended.entry.now)) }
+    {
+        let bits = extended.graph().bits();
+        let mut live = Live::new(alloc, extended.gates(), Terms::new(alloc, 2 * bits));
+        add_axioms(alloc, &mut live, extended)?;
+        Ok(PacChecker {
+            alloc,
+            extended,
+            operands,
+            live,
+            last: u64::from(extended.max()) + 2 * u64::from(bits),
+        })
+    }
+
+    /// The greatest id in use so far, which each new one must exceed.
+    pub fn last(&self) -> u64
+        ensures { result ≡ self.now.last }
+    {
+        self.last
+    }
+
+    /// The table of the live polynomials.
+    pub fn terms(&self) -> &Terms
+        ensures table { result.now ≡ self.now.table }
+        ensures modulus { modulus self.now.table ≡ algebra.modulus self.now.extended }
+    {
+        self.live.table()
+    }
+
+    /// Lends the table to a work, as to the reader of the next line.
+    pub fn grow<G: Grow<Poly>>(&mut self, work: &mut G, on: &mut G::On) -> G::Out
+        requires { G.can_grow work.old on.old self.old.table }
+        ensures did { G.did work.old on.old self.old.table result work.new on.new self.new.table }
+        ensures grows { Grows self.old self.new }
+        ensures modulus { modulus self.new.table ≡ algebra.modulus self.new.extended }
+    {
+        self.live.grow(work, on)
+    }
+
+    /// Judges a line. Where it is lawful it is taken, and else the answer is its first fault.
+    pub fn line(&mut self, line: &PacLine) -> Result<(), LineFault>
+        requires goes_on { IsSome (told self.old.table line.now) }
+        requires of_table { AreOf self.old.table line.now }
+        ensures taken { OnOk result (IfSome (told self.old.table line.now) (λ x. Takes x self.old self.new)) }
+        ensures refused { IfErr result (λ fault. IfSome (told self.old.table line.now) (λ x. IsFault self.old.extended (ledger_of self.old) x fault)) }
+        ensures unchanged { OnErr result (Grows self.old self.new) }
+    {
+        match line {
+            PacLine::Sum { id, i, j, poly } => self.sum(*id, *i, *j, poly),
+            PacLine::Product {
+                id,
+                i,
+                factor,
+                poly,
+            } => self.product(*id, *i, factor, poly),
+            PacLine::Combination { id, parts, poly } => {
+                self.combination(*id, parts.as_slice(), poly)
+            }
+            PacLine::Drop { id } => self.delete(*id),
+            PacLine::Close { .. } => unreachable!(),
+        }
+    }
+
+    /// Judges a closing line: that the line has the value of the specification. Then that vanishes on every evaluation.
+    pub fn close(&mut self, id: u64) -> Result<(), CloseFault>
+        ensures closes { OnOk result (Closes self.old.extended self.old.order (ledger_of self.old).live id) }
+        ensures vanishes { OnOk result (Always self.old.extended.gates (λ σ. specification self.old.extended self.old.order σ ≡ 0)) }
+        ensures refused { IfErr result (IsCloseFault self.old.extended self.old.order (ledger_of self.old) id) }
+        ensures unchanged { Grows self.old self.new }
+    {
+        let wanted = self.specification()?;
+        self.compare(id, &wanted)
+    }
+
+    fn specification(&mut self) -> Result<Poly, Memory>
+        ensures grows { Grows self.old self.new }
+        ensures of_table { IfOk result (IsOf self.new.table) }
+        ensures value { IfOk result (λ p. IsSpecification self.new.table p self.old.extended self.old.order) }
+    {
+        let mut work = MakeSpecification {
+            alloc: self.alloc,
+            graph: self.extended.graph(),
+            operands: self.operands,
+        };
+        self.live.grow(&mut work, &mut ())
+    }
+
+    /// Whether a line has the value that is wanted.
+    fn compare(&self, id: u64, wanted: &Poly) -> Result<(), CloseFault>
+        requires wanted { IsOf self.now.table wanted.now }
+        requires value { IsSpecification self.now.table wanted.now self.now.extended self.now.order }
+        ensures closes { OnOk result (Closes self.now.extended self.now.order (ledger_of self.now).live id) }
+        ensures vanishes { OnOk result (Always self.now.extended.gates (λ σ. specification self.now.extended self.now.order σ ≡ 0)) }
+        ensures refused { IfErr result (IsCloseFault self.now.extended self.now.order (ledger_of self.now) id) }
+    {
+        match self.live.get(id) {
+            None => Err(CloseFault::NoSuchLine(id)),
+            Some(poly) => {
+                if self.live.table().equals(poly, wanted) {
+                    Ok(())
+                } else {
+                    Err(CloseFault::NotSpec)
+                }
+            }
+        }
+    }
+
+    fn sum(&mut self, id: u64, i: u64, j: u64, poly: &Poly) -> Result<(), LineFault>
+        requires { IsOf self.old.table poly.now }
+        ensures taken { OnOk result (Takes (Sum id i j (monomials_in self.old.table poly.now)) self.old self.new) }
+        ensures refused { IfErr result (IsFault self.old.extended (ledger_of self.old) (Sum id i j (monomials_in self.old.table poly.now))) }
+        ensures unchanged { OnErr result (Grows self.old self.new) }
+    {
+        if id <= self.last {
+            return Err(LineFault::Id);
+        }
+        let named = add_two(&mut self.live, i, j)?;
+        self.state(id, named, poly)
+    }
+
+    fn product(&mut self, id: u64, i: u64, factor: &Poly, poly: &Poly) -> Result<(), LineFault>
+        requires factor_of_table { IsOf self.old.table factor.now }
+        requires of_table { IsOf self.old.table poly.now }
+        ensures taken { OnOk result (Takes (Product id i (monomials_in self.old.table factor.now) (monomials_in self.old.table poly.now)) self.old self.new) }
+        ensures refused { IfErr result (IsFault self.old.extended (ledger_of self.old) (Product id i (monomials_in self.old.table factor.now) (monomials_in self.old.table poly.now))) }
+        ensures unchanged { OnErr result (Grows self.old self.new) }
+    {
+        if id <= self.last {
+            return Err(LineFault::Id);
+        }
+        let named = multiply(&mut self.live, i, factor)?;
+        self.state(id, named, poly)
+    }
+
+    fn combination(&mut self, id: u64, parts: &[(u64, Poly)], poly: &Poly) -> Result<(), LineFault>
+        requires parts_of_table { All (λ part. IsOf self.old.table part.1) parts.now }
+        requires of_table { IsOf self.old.table poly.now }
+        ensures taken { OnOk result (Takes (Combination id (map (told_part self.old.table) parts.now) (monomials_in self.old.table poly.now)) self.old self.new) }
+        ensures refused { IfErr result (IsFault self.old.extended (ledger_of self.old) (Combination id (map (told_part self.old.table) parts.now) (monomials_in self.old.table poly.now))) }
+        ensures unchanged { OnErr result (Grows self.old self.new) }
+    {
+        if id <= self.last {
+            return Err(LineFault::Id);
+        }
+        let named = combine(self.alloc, &mut self.live, parts)?;
+        self.state(id, named, poly)
+    }
+
+    fn delete(&mut self, id: u64) -> Result<(), LineFault>
+        ensures taken { OnOk result (Takes (Delete id) self.old self.new) }
+        ensures refused { IfErr result (IsFault self.old.extended (ledger_of self.old) (Delete id)) }
+        ensures unchanged { OnErr result (Grows self.old self.new) }
+    {
+        match self.live.remove(id) {
+            Ok(_) => {}
+            Err(_) => return Err(LineFault::NoSuchLine(id)),
+        }
+        Ok(())
+    }
+
+    /// Compares the polynomial that a rule names with the stated one, and makes it live under a new id.
+    fn state(&mut self, id: u64, named: Poly, stated: &Poly) -> Result<(), LineFault>
+        requires new_id { self.old.last < id }
+        requires named { Vanishes self.old.extended.gates self.old.table named }
+        requires stated { IsOf self.old.table stated.now }
+        ensures equal { OnOk result (AreEqual self.old.table named stated.now) }
+        ensures introduced { OnOk result (Introduces id (monomials_in self.old.table stated.now) self.old self.new) }
+        ensures refused { IfErr result (IsStatingFault self.old.table named stated.now) }
+        ensures unchanged { OnErr result (self.new ≡ self.old) }
+    {
+        if !self.live.table().equals(&named, stated) {
+            return Err(LineFault::NotEqual);
+        }
+        match self.live.insert(id, named) {
+            Ok(()) => {
+                self.last = id;
+                Ok(())
+            }
+            Err(_) => Err(LineFault::Memory),
+        }
+    }
+}

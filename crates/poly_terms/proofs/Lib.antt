@@ -1,0 +1,15 @@
+pub mod Residues
+pub mod Merging
+pub mod Totals
+pub mod Orders
+pub mod Values
+pub mod Keys
+pub mod Products
+pub mod Gathering
+pub mod Equality
+pub mod Given
+pub mod Factors
+pub mod Made
+pub mod Assigned
+pub mod Leaving
+pub mod Replacing

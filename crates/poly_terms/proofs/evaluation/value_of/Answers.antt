@@ -1,0 +1,27 @@
+use Rattle.std.proofs.Common.{◌≡◌, ◌+◌, ◌%◌, ◌^◌, ℕ, List, ap, sym, ◌∙◌, arith}
+use Rattle.graph_core.specs.Assignment.{bit, listed}
+use Rattle.graph_core.specs.Polynomial.{product}
+use Rattle.poly_terms.proofs.Totals.{counted, not_counted}
+use Rattle.std.proofs.Common.{mod-lt}
+use Rattle.std.proofs.lemmas.Nat.{pow_pos}
+use Rattle.poly_terms.proofs.evaluation.value_of.Goals as goal
+use Rattle.poly_terms.proofs.evaluation.value_of.Goals.{then-are_true, else-are_true}
+
+pub loop-entry-preserved : goal.loop-entry-preserved
+loop-entry-preserved c =
+    let m = 2 ^ c.args.width in
+    let f = λ (k : List ℕ). product (listed c.args.values.now) k in
+    let e = c.entry-item.result in
+    let es = c.args.entries.now in
+    let i = c.loop-entry.entry-index in
+    let holds : bit c.are_true.result ≡ f e.0 = c.are_true.ensures ∙ ap f c.variables.ensures in
+    record {
+      below = elim c.if-are_true.branch [ then-are_true w ↦ rw (w.sum-is, w.sum-sum.ensures) (mod-lt _ (pow_pos c.args.width)) | else-are_true w ↦ omega arith ];
+      same = (elim c.if-are_true.branch [
+        | then-are_true w ↦
+            counted m f c.loop-entry.sum c.if-are_true.sum es i e c.loop-entry-test.true c.entry-item.is (sym (ap bit w.if-are_true.true) ∙ holds)
+            (w.sum-is ∙ w.sum-sum.ensures ∙ ap (λ n. (c.loop-entry.sum + n) % m) w.coefficient.ensures)
+        | else-are_true w ↦
+            not_counted m f c.loop-entry.sum c.if-are_true.sum es i e c.loop-entry-test.true c.entry-item.is (sym (ap bit w.if-are_true.false) ∙ holds) w.sum-is
+      ]) ∙ c.loop-entry.invariant.same;
+    }

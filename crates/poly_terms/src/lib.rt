@@ -1,0 +1,28 @@
+//! Polynomials over truth values, with coefficients modulo a power of two.
+//!
+//! Each call that makes a polynomial says its value at every assignment; `equals` is true exactly where two
+//! polynomials agree at every assignment, and `size` counts the monomials of the one normal form. A table only
+//! grows: an older polynomial keeps its values. Nothing but the calls that make a polynomial takes memory.
+//!
+//! *Value*: that of the monomials in the table, modulo its modulus. *Of the table*: in normal form there, as each
+//! polynomial is that a call of this table made. *Extends*: gives each polynomial of the old table its value
+//! (`specs/Tables.antt`, with the laws in `specs/TableLaws.antt`; a caller names these in `using`).
+#![tactic(auto)]
+
+mod addition;
+mod coefficient;
+mod entry;
+mod evaluation;
+mod monomial;
+mod multiplication;
+mod parts;
+mod poly;
+mod substitution;
+mod table_laws;
+mod terms;
+#[cfg(test)]
+mod tests;
+
+pub use poly::Poly;
+pub use table_laws::{modulus_stays, monomials_are_normal, tables_extend, values_stay};
+pub use terms::Terms;

@@ -1,0 +1,75 @@
+// Monomials: rising lists of variables. Nearly all are short, and stay inline.
+ghost use Rattle.std.specs.Prelude.{◌≡◌, false, IfOk};
+ghost use Rattle.poly_terms.specs.Monomials.{IsMonomialOf, has_variable, joined, without};
+
+use smallvec::SmallVec;
+use std::alloc::{AllocError, Global};
+use std::cmp::Ordering;
+
+pub(crate) type Monomial = SmallVec<u32, 4>;
+
+/// The product of two monomials: the variables of either, since a truth value is its own square.
+pub(crate) fn join(alloc: Global, left: &[u32], right: &[u32]) -> Result<Monomial, AllocError>
+    ensures { IfOk result (λ both. both.items ≡ joined left.now right.now) }
+{
+    let mut out = SmallVec::new(alloc);
+    let mut i: usize = 0;
+    let mut j: usize = 0;
+    while i < left.len() && j < right.len() {
+        let x = left[i];
+        let y = right[j];
+        match x.cmp(&y) {
+            Ordering::Less => {
+                out.push(x)?;
+                i += 1;
+            }
+            Ordering::Greater => {
+                out.push(y)?;
+                j += 1;
+            }
+            Ordering::Equal => {
+                out.push(x)?;
+                i += 1;
+                j += 1;
+            }
+        }
+    }
+    out.extend_from_slice(&left[i..])?;
+    out.extend_from_slice(&right[j..])?;
+    Ok(out)
+}
+
+/// The monomial of variables in any order, of which some may be repeated and none is the constant.
+pub(crate) fn from_variables(alloc: Global, variables: &[u32]) -> Result<Monomial, AllocError>
+    requires { has_variable 0 variables.now ≡ false }
+    ensures { IfOk result (λ monomial. IsMonomialOf variables.now monomial.items) }
+{
+    if variables.len() < 2 {
+        let monomial = SmallVec::from_slice(alloc, variables)?;
+        return Ok(monomial);
+    }
+    let (front, back) = variables.split_at(variables.len() / 2);
+    let left = from_variables(alloc, front)?;
+    let right = from_variables(alloc, back)?;
+    let both = join(alloc, left.as_slice(), right.as_slice())?;
+    Ok(both)
+}
+
+pub(crate) fn has_variable(variables: &[u32], v: u32) -> bool
+    ensures { result ≡ has_variable v variables.now }
+{
+    variables.iter().any(|u| *u == v)
+}
+
+/// The monomial without a variable.
+pub(crate) fn without(alloc: Global, variables: &[u32], v: u32) -> Result<Monomial, AllocError>
+    ensures { IfOk result (λ rest. rest.items ≡ without v variables.now) }
+{
+    let mut rest = SmallVec::new(alloc);
+    for u in variables {
+        if *u != v {
+            rest.push(*u)?;
+        }
+    }
+    Ok(rest)
+}

@@ -1,0 +1,11 @@
+pub mod NumberSteps
+pub mod Lengths
+pub mod Gathering
+pub mod TermSteps
+pub mod PolynomialSteps
+pub mod PartSteps
+pub mod LineSteps
+pub mod WholeLines
+pub mod Ahead
+pub mod LineLengths
+pub mod FileSteps

@@ -1,0 +1,10 @@
+pub mod WordsLemmas
+pub mod OutcomeLemmas
+pub mod AnswerLemmas
+pub mod AlgebraTurns
+pub mod AlikeLines
+pub mod FirstLine
+pub mod AlgebraJudged
+pub mod LineTurns
+pub mod AlgebraEnds
+pub mod ClauseLines

@@ -1,0 +1,10 @@
+pub mod Headline
+pub mod Words
+pub mod Outcome
+pub mod Answer
+pub mod Steps
+pub mod Unread
+pub mod AlgebraLeft
+pub mod LineSplit
+pub mod AlgebraFails
+pub mod LineRefusals
