@@ -20,6 +20,8 @@ mod program;
 mod read_line;
 mod report;
 mod report_texts;
+#[cfg(test)]
+mod tests;
 mod words;
 
 use mv_desk::RealDesk;
