@@ -24,5 +24,5 @@ mod text;
 
 pub use fail::ReadFail;
 pub use laws::{found_is_first, long_is_no_other, spelled_found_or_long};
-pub use reading::{read, Profile};
+pub use reading::{Profile, read};
 pub use text::graph_of_text;

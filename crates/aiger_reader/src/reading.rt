@@ -6,7 +6,7 @@ ghost use Rattle.aiger_reader.specs.Refusals.{Refuses, SpellsWithin};
 ghost use Rattle.aiger_reader.specs.Fails.{within};
 
 use crate::fail::ReadFail;
-use crate::lists::{read_lists, TextFail};
+use crate::lists::{TextFail, read_lists};
 use crate::source::read_front;
 use crate::text::graph_of_text;
 use graph_core::Graph;
@@ -22,7 +22,13 @@ pub enum Profile {
 
 /// The graph that is spelled by what is left in a slot, of at most `limits.graph` bytes; else the first refusal. Where
 /// there are more bytes, a refusal of the text before the limit or of the header is answered, and else `TooLong`.
-pub fn read<D: Desk>(alloc: Global, desk: &mut D, slot: Slot, profile: Profile, limits: &Limits) -> Result<Graph, ReadFail>
+pub fn read<D: Desk>(
+    alloc: Global,
+    desk: &mut D,
+    slot: Slot,
+    profile: Profile,
+    limits: &Limits,
+) -> Result<Graph, ReadFail>
     requires { (D.seen desk.old).reads slot ≡ true }
     ensures ok { IfOk result (λ graph. IfSome ((D.seen desk.old).left slot) (λ file. SpellsWithin limits.now.graph file graph)) }
     // whether or not the desk tells the bytes

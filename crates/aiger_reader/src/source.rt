@@ -11,7 +11,12 @@ use std::alloc::Global;
 const ROOM: usize = 4096;
 
 // What is left in a slot, to its end or up to a byte past the limit.
-pub fn read_front<D: Desk>(alloc: Global, desk: &mut D, slot: Slot, limit: u64) -> Result<Vec<u8>, ReadFail>
+pub fn read_front<D: Desk>(
+    alloc: Global,
+    desk: &mut D,
+    slot: Slot,
+    limit: u64,
+) -> Result<Vec<u8>, ReadFail>
     requires { (D.seen desk.old).reads slot ≡ true }
     ensures front { IfOk result (λ bytes. Consumes ((D.seen desk.old).left slot) ((D.seen desk.new).left slot) bytes.items) }
     ensures end { IfOk result (λ bytes. vec_len bytes ≤ limit → IsAtEnd ((D.seen desk.new).left slot)) }

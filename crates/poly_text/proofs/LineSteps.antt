@@ -39,11 +39,13 @@ alike_value t p q h = λ σ. sym (h.same σ)
 
 whole_sum_gives : (t : Table) (max : ℕ) (n a b : ℕ) (p : Polynomial) (id i j : Option ℕ) (poly : Option Sum) → Gives IsId IsSame n id → Gives IsId IsSame a i → Gives IsId IsSame b j → Gives (IsInRange max) (IsPolyOf t) p poly →
     Gives (IsLineInRange max) (IsLineOf t) (algebra.Sum n a b p) (whole_sum id i j poly)
-whole_sum_gives t max n a b p (Some id) (Some i) (Some j) (Some poly) g h k l =
-    ((g.0, h.0, k.0, l.0), record {
-      of = l.1.of;
-      alike = (monomials_in t poly, ap (λ z. algebra.Sum z i j (monomials_in t poly)) (sym g.1) ∙ ap (λ z. algebra.Sum n z j (monomials_in t poly)) (sym h.1) ∙ ap (λ z. algebra.Sum n a z (monomials_in t poly)) (sym k.1), alike_value t p poly l.1);
-    })
+whole_sum_gives t max n a b p (Some id) (Some i) (Some j) (Some poly) g h k l = (
+  (g.0, h.0, k.0, l.0),
+  record {
+    of = l.1.of;
+    alike = (monomials_in t poly, ap (λ z. algebra.Sum z i j (monomials_in t poly)) (sym g.1) ∙ ap (λ z. algebra.Sum n z j (monomials_in t poly)) (sym h.1) ∙ ap (λ z. algebra.Sum n a z (monomials_in t poly)) (sym k.1), alike_value t p poly l.1);
+  },
+)
 whole_sum_gives t max n a b p (Some id) (Some i) (Some j) None g h k l = λ r. l r.3
 whole_sum_gives t max n a b p (Some id) (Some i) None poly g h k l = λ r. k r.2
 whole_sum_gives t max n a b p (Some id) None j poly g h k l = λ r. h r.1
@@ -62,15 +64,19 @@ sum_taken t max n old one two three new id i j poly e g h k l = record {
 
 whole_product_gives : (t : Table) (max : ℕ) (n a : ℕ) (f p : Polynomial) (id i : Option ℕ) (factor poly : Option Sum) → Gives IsId IsSame n id → Gives IsId IsSame a i →
     Gives (IsInRange max) (IsPolyOf t) f factor → Gives (IsInRange max) (IsPolyOf t) p poly → Gives (IsLineInRange max) (IsLineOf t) (algebra.Product n a f p) (whole_product id i factor poly)
-whole_product_gives t max n a f p (Some id) (Some i) (Some factor) (Some poly) g h k l =
-    ((g.0, h.0, k.0, l.0), record {
-      of = (k.1.of, l.1.of);
-      alike = (
-        monomials_in t factor, monomials_in t poly,
-        ap (λ z. algebra.Product z i (monomials_in t factor) (monomials_in t poly)) (sym g.1) ∙ ap (λ z. algebra.Product n z (monomials_in t factor) (monomials_in t poly)) (sym h.1),
-        alike_value t f factor k.1, alike_value t p poly l.1,
-      );
-    })
+whole_product_gives t max n a f p (Some id) (Some i) (Some factor) (Some poly) g h k l = (
+  (g.0, h.0, k.0, l.0),
+  record {
+    of = (k.1.of, l.1.of);
+    alike = (
+      monomials_in t factor,
+      monomials_in t poly,
+      ap (λ z. algebra.Product z i (monomials_in t factor) (monomials_in t poly)) (sym g.1) ∙ ap (λ z. algebra.Product n z (monomials_in t factor) (monomials_in t poly)) (sym h.1),
+      alike_value t f factor k.1,
+      alike_value t p poly l.1,
+    );
+  },
+)
 whole_product_gives t max n a f p (Some id) (Some i) (Some factor) None g h k l = λ r. l r.3
 whole_product_gives t max n a f p (Some id) (Some i) None poly g h k l = λ r. k r.2
 whole_product_gives t max n a f p (Some id) None factor poly g h k l = λ r. h r.1
@@ -103,13 +109,19 @@ parts_of t (p ∷ ps) (x ∷ xs) h = All-cons (λ part. IsOf t part.1) x xs h.0.
 
 whole_combination_gives : (t : Table) (max n : ℕ) (ps : List Part) (p : Polynomial) (id : Option ℕ) (parts : Option (Vec (ℕ × Sum) Global)) (poly : Option Sum) → Gives IsId IsSame n id →
     Gives (All (IsPartInRange max)) (AreAllParts t) ps parts → Gives (IsInRange max) (IsPolyOf t) p poly → Gives (IsLineInRange max) (IsLineOf t) (algebra.Combination n ps p) (whole_combination id parts poly)
-whole_combination_gives t max n ps p (Some id) (Some parts) (Some poly) g h l =
-    ((g.0, h.0, l.0), record {
-      of = (parts_of t ps parts.items h.1, l.1.of);
-      alike = (
-        map (told_part t) parts.items, monomials_in t poly, ap (λ z. algebra.Combination z (map (told_part t) parts.items) (monomials_in t poly)) (sym g.1), parts_alike t ps parts.items h.1, alike_value t p poly l.1,
-      );
-    })
+whole_combination_gives t max n ps p (Some id) (Some parts) (Some poly) g h l = (
+  (g.0, h.0, l.0),
+  record {
+    of = (parts_of t ps parts.items h.1, l.1.of);
+    alike = (
+      map (told_part t) parts.items,
+      monomials_in t poly,
+      ap (λ z. algebra.Combination z (map (told_part t) parts.items) (monomials_in t poly)) (sym g.1),
+      parts_alike t ps parts.items h.1,
+      alike_value t p poly l.1,
+    );
+  },
+)
 whole_combination_gives t max n ps p (Some id) (Some parts) None g h l = λ r. l r.2
 whole_combination_gives t max n ps p (Some id) None poly g h l = λ r. h r.1
 whole_combination_gives t max n ps p None parts poly g h l = λ r. g r.0

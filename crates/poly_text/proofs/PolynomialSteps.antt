@@ -57,7 +57,7 @@ one_more : (m : ℕ) (list longer : Given) (part : ℕ × Vec ℕ Global) (base 
     sum_of m (given longer.items) σ % m ≡ (base + sum_of m (ts ++ t ∷ []) σ) % m
 one_more m list longer part base ts t σ longer_is so_far here =
     let more : sum_of m (given longer.items) σ ≡ sum_of m (given list.items) σ + (part.0 * product σ part.1.items + 0) =
-        ap (λ z. sum_of m z σ) (ap given longer_is ∙ given-append list.items (part ∷ [])) ∙ sum_of-append m (given list.items) (given (part ∷ [])) σ in
+    ap (λ z. sum_of m z σ) (ap given longer_is ∙ given-append list.items (part ∷ [])) ∙ sum_of-append m (given list.items) (given (part ∷ [])) σ in
     let here_sum : (part.0 * product σ part.1.items + 0) % m ≡ (term_value m t σ + 0) % m = sum_same m (part.0 * product σ part.1.items) (term_value m t σ) 0 0 (sym here) refl in
     let sums : base + sum_of m (ts ++ t ∷ []) σ ≡ (base + sum_of m ts σ) + (term_value m t σ + 0) = ap (λ z. base + z) (sum_of-append m ts (t ∷ []) σ) ∙ sym (add_assoc base (sum_of m ts σ) (term_value m t σ + 0)) in
     ap (λ z. z % m) more ∙ sum_same m (sum_of m (given list.items) σ) (base + sum_of m ts σ) (part.0 * product σ part.1.items + 0) (term_value m t σ + 0) so_far here_sum ∙ sym (ap (λ z. z % m) sums)

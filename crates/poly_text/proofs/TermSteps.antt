@@ -54,7 +54,7 @@ factors_more max before old now new given one given' at so_far next pushes =
   where
     step : (before : Option (Vec ℕ Global)) → (list longer : Vec ℕ Global) (k : ℕ) → HasVariables before so_far.read list → next.read ≡ k → longer.items ≡ list.items ++ k ∷ [] → HasVariables before (so_far.read ++ next.read ∷ []) longer
     step None list longer k all here more = all
-    step (Some b) list longer k all here more = 
+    step (Some b) list longer k all here more =
         let same : b.items ++ (so_far.read ++ k ∷ []) ≡ b.items ++ (so_far.read ++ next.read ∷ []) = ap (λ v. b.items ++ (so_far.read ++ v ∷ [])) (sym here) in
         more ∙ ap (λ xs. xs ++ k ∷ []) all ∙ append_assoc b.items so_far.read (k ∷ []) ∙ same
 
@@ -67,16 +67,18 @@ signed_value m false c k vs σ pos plus minus = ap (λ z. (z * product σ vs) % 
 signed_value m true c k vs σ pos plus minus =
     let zero_sum : (k + c) % m ≡ 0 % m = minus refl ∙ sym (zero-mod m) in
     let sum : (k * product σ vs + c * product σ vs) % m ≡ 0 % m =
-        ap (λ z. z % m) (sym (add-mul k c (product σ vs))) ∙ product_same m (k + c) 0 (product σ vs) (product σ vs) zero_sum refl ∙ ap (λ z. z % m) (zero-mul (product σ vs)) in
+    ap (λ z. z % m) (sym (add-mul k c (product σ vs))) ∙ product_same m (k + c) 0 (product σ vs) (product σ vs) zero_sum refl ∙ ap (λ z. z % m) (zero-mul (product σ vs)) in
     ap (λ z. z % m) (difference_is m 0 (c * product σ vs) (k * product σ vs) pos sum) ∙ mod-mod (k * product σ vs) m
 
 -- what code has of a term is the term
 signs_give : (m max : ℕ) (negative : Bool) (c : ℕ) (vs : List ℕ) (coefficient : Option ℕ) (variables : Option (Vec ℕ Global)) (part : Option (ℕ × Vec ℕ Global)) → 0 < m →
     Gives (λ n. n < 2 ^ 128) (λ n k. n ≡ k) c coefficient → Gives (λ ws. All (IsVariable max) ws) (λ ws all. all.items ≡ ws) vs variables → Signs m negative coefficient variables part →
     Gives (IsTermInRange max) (IsTermOf m) (record { negative = negative; coefficient = c; variables = vs }) part
-signs_give m max negative c vs (Some k) (Some list) (Some part) pos here all signs =
-    ((here.0, all.0), λ σ. signed_value m negative c part.0 vs σ pos (λ e. signs.1 e ∙ sym here.1) (λ e. ap (λ z. (part.0 + z) % m) here.1 ∙ signs.2 e) ∙
-    ap (λ z. (part.0 * product σ z) % m) (sym all.1 ∙ ap (λ v. v.items) (sym signs.0)))
+signs_give m max negative c vs (Some k) (Some list) (Some part) pos here all signs = (
+  (here.0, all.0),
+  λ σ. signed_value m negative c part.0 vs σ pos (λ e. signs.1 e ∙ sym here.1) (λ e. ap (λ z. (part.0 + z) % m) here.1 ∙ signs.2 e) ∙
+      ap (λ z. (part.0 * product σ z) % m) (sym all.1 ∙ ap (λ v. v.items) (sym signs.0)),
+)
 signs_give m max negative c vs (Some k) (Some list) None pos here all signs = absurd signs
 signs_give m max negative c vs (Some k) None part pos here all signs =
     subst (Gives (IsTermInRange max) (IsTermOf m) (record { negative = negative; coefficient = c; variables = vs })) (sym signs) (λ h. all h.1)

@@ -20,4 +20,3 @@ pub use algebra_file::AlgebraFile;
 pub use line::PacLine;
 pub use parts::Parts;
 pub use reading::read_line;
-

@@ -3,8 +3,8 @@ ghost use Rattle.graph_core.specs.Numerals.{number_at};
 ghost use Rattle.graph_core.specs.AlgebraText.{IsId};
 ghost use Rattle.poly_text.specs.Steps.{IsMisfit, Takes};
 
-use mv_desk::LineFail;
 use crate::scanner::Scanner;
+use mv_desk::LineFail;
 use mv_nums::read_decimal;
 
 /// A number of up to so many digits, or nothing where it is 2^128 or more.

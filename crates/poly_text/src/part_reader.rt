@@ -16,10 +16,7 @@ use mv_desk::LineFail;
 use poly_terms::{Poly, Terms};
 
 /// An id and a text behind it.
-pub(crate) fn ended_id(
-    scanner: &mut Scanner<'_>,
-    end: &[u8],
-) -> Result<Option<u64>, LineFail>
+pub(crate) fn ended_id(scanner: &mut Scanner<'_>, end: &[u8]) -> Result<Option<u64>, LineFail>
     ensures ok { IfOk result (Takes (ended_at (number_at 15) end.now) IsId (λ n k. n ≡ k) scanner.old scanner.new) }
     ensures err { IfErr result (IsMisfit (ended_at (number_at 15) end.now scanner.old ≡ None)) }
 {

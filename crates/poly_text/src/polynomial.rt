@@ -15,10 +15,7 @@ use poly_terms::{Poly, Terms};
 
 impl TermReader {
     /// The first term, which has no plus.
-    fn first_term(
-        &self,
-        scanner: &mut Scanner<'_>,
-    ) -> Result<Option<(u128, Vec<u32>)>, LineFail>
+    fn first_term(&self, scanner: &mut Scanner<'_>) -> Result<Option<(u128, Vec<u32>)>, LineFail>
         ensures ok { IfOk result (Takes first_term_at (IsTermInRange self.now.max) (IsTermOf (2 ^ self.now.width)) scanner.old scanner.new) }
         ensures err { IfErr result (IsMisfit (first_term_at scanner.old ≡ None)) }
     {
@@ -30,10 +27,7 @@ impl TermReader {
     }
 
     /// A term with its sign.
-    fn later_term(
-        &self,
-        scanner: &mut Scanner<'_>,
-    ) -> Result<Option<(u128, Vec<u32>)>, LineFail>
+    fn later_term(&self, scanner: &mut Scanner<'_>) -> Result<Option<(u128, Vec<u32>)>, LineFail>
         ensures ok { IfOk result (Takes signed_term_at (IsTermInRange self.now.max) (IsTermOf (2 ^ self.now.width)) scanner.old scanner.new) }
         ensures err { IfErr result (IsMisfit (signed_term_at scanner.old ≡ None)) }
     {

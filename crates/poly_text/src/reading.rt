@@ -13,12 +13,7 @@ use mv_desk::LineFail;
 use poly_terms::{Poly, Terms};
 use std::alloc::Global;
 
-fn sum_line(
-    id: Option<u64>,
-    i: Option<u64>,
-    j: Option<u64>,
-    poly: Option<Poly>,
-) -> Option<PacLine>
+fn sum_line(id: Option<u64>, i: Option<u64>, j: Option<u64>, poly: Option<Poly>) -> Option<PacLine>
     ensures { result ≡ whole_sum id i j poly }
 {
     let (id, i, j) = (id?, i?, j?);
@@ -162,10 +157,7 @@ impl TermReader {
 }
 
 /// What stands behind the id of a line that is removed.
-fn drop_line(
-    scanner: &mut Scanner<'_>,
-    id: Option<u64>,
-) -> Result<Option<PacLine>, LineFail>
+fn drop_line(scanner: &mut Scanner<'_>, id: Option<u64>) -> Result<Option<PacLine>, LineFail>
     ensures ok { (n : ℕ) → Gives IsId (λ n k. n ≡ k) n id → (t : Table) (max : ℕ) → IfOk result (Takes (drop_at n) (IsLineInRange max) (IsLineOf t) scanner.old scanner.new) }
     ensures err { (n : ℕ) → IfErr result (IsMisfit (drop_at n scanner.old ≡ None)) }
 {

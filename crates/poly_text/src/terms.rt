@@ -6,10 +6,10 @@ ghost use Rattle.graph_core.specs.AlgebraReading.{factors_at, coefficient_at, pr
 ghost use Rattle.poly_text.specs.Steps.{IsMisfit, Takes};
 ghost use Rattle.poly_text.specs.Values.{IsVariable, IsTermInRange, IsTermOf, Signs};
 
-use mv_desk::LineFail;
 use crate::numbers::{coefficient, variable};
 use crate::pushed::pushed;
 use crate::scanner::Scanner;
+use mv_desk::LineFail;
 use mv_nums::Residue;
 use std::alloc::Global;
 

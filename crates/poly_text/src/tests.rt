@@ -29,9 +29,17 @@ fn reads_lines_and_refuses_them(rt: HostRuntime) -> Result<(), Fail> {
         ("two parts", "6 % 3 * (-1) + 4 * (x1), 7;", "combination"),
         ("a drop", "3 d;", "drop"),
         ("the closing line", "q 6;", "close"),
-        ("leading zeros", "000000000000007 + 6, 03, 00*x0000000001;", "sum"),
+        (
+            "leading zeros",
+            "000000000000007 + 6, 03, 00*x0000000001;",
+            "sum",
+        ),
         ("a repeated variable", "7 + 6, 3, x1*x2*x1;", "sum"),
-        ("the greatest coefficient", "7 + 6, 3, 340282366920938463463374607431768211455;", "sum"),
+        (
+            "the greatest coefficient",
+            "7 + 6, 3, 340282366920938463463374607431768211455;",
+            "sum",
+        ),
         ("the greatest id", "281474976710655 d;", "drop"),
         ("nothing", "", "text"),
         ("a space for a comma", "7 + 6  3, 0;", "text"),
@@ -42,17 +50,37 @@ fn reads_lines_and_refuses_them(rt: HostRuntime) -> Result<(), Fail> {
         ("a star at the front", "7 + 6, 3, *x1;", "text"),
         ("two signs", "7 + 6, 3, x1+-x2;", "text"),
         ("an id of 16 digits", "0000000000000007 d;", "text"),
-        ("a variable of eleven digits", "7 + 6, 3, x00000000001;", "text"),
-        ("a coefficient of forty digits", "7 + 6, 3, 0000000000000000000000000000000000000001;", "text"),
+        (
+            "a variable of eleven digits",
+            "7 + 6, 3, x00000000001;",
+            "text",
+        ),
+        (
+            "a coefficient of forty digits",
+            "7 + 6, 3, 0000000000000000000000000000000000000001;",
+            "text",
+        ),
         ("an id of 0", "0 d;", "range"),
-        ("the first id that is too great", "281474976710656 d;", "range"),
+        (
+            "the first id that is too great",
+            "281474976710656 d;",
+            "range",
+        ),
         ("an operand of 0", "7 + 0, 3, 0;", "range"),
         ("a variable of 0", "7 + 6, 3, x0;", "range"),
         ("a variable above the greatest", "7 + 6, 3, x5;", "range"),
-        ("a coefficient of 2^128", "7 + 6, 3, 340282366920938463463374607431768211456;", "range"),
+        (
+            "a coefficient of 2^128",
+            "7 + 6, 3, 340282366920938463463374607431768211456;",
+            "range",
+        ),
         ("a closing id of 0", "q 0;", "range"),
         ("text before range", "0 + 6, 3, x1", "text"),
-        ("a range in the last part", "6 % 3 * (-1) + 0 * (x1), 7;", "range"),
+        (
+            "a range in the last part",
+            "6 % 3 * (-1) + 0 * (x1), 7;",
+            "range",
+        ),
     ] {
         let line = read_line(alloc, text.as_bytes(), &mut terms, 4);
         assert!(rt; form(&line) == answer, "{shows}: {text}");

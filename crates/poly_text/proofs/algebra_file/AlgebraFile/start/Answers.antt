@@ -14,7 +14,7 @@ returns-else-eq-clause-refused g c =
     let new : IsNew (lengths_of c.args.limits.now) c.new-lines.result = record { ahead = c.new-lines.ensures.ahead; taken = c.new-lines.ensures.taken; lengths_are = c.new-lines.ensures.lengths } in
     let told = ap (λ z. known_from z left) c.new-lines.ensures.ahead ∙ prepend_known-nil left in
     let takes = subst (λ o. IfSome o (λ line. TakesLine c.new-lines.result c.next_line.new.self left after line.items)) c.in-Ok-Some.field-0-is
-        (subst (λ z. IfSome c.in-Ok-Some.field-0 (λ line. TakesLine c.new-lines.result c.next_line.new.self z after line.items)) told c.in-Ok-Some.ensures.line) in
+    (subst (λ z. IfSome c.in-Ok-Some.field-0 (λ line. TakesLine c.new-lines.result c.next_line.new.self z after line.items)) told c.in-Ok-Some.ensures.line) in
     other_header (lengths_of c.args.limits.now) c.new-lines.result c.next_line.new.self left after c.in-Ok-Some.line.items new takes
     (λ e. other_text c.as_slice.result.now c.as_slice-in-Ok-Some.result.now (sym c.if-eq.false ∙ c.eq.ensures) (c.as_slice.ensures.value ∙ e ∙ sym c.as_slice-in-Ok-Some.ensures))
 

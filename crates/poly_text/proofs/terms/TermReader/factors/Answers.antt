@@ -13,8 +13,8 @@ loop-scanner-init c = factors_begin c.args.self.now.max c.args.before c.args.sca
 pub returns-in_err-variable-clause-err : goal.returns-in_err-variable-clause-err
 returns-in_err-variable-clause-err c =
     let misfit : IsMisfit (factors_at c.args.scanner.now ≡ None) c.in_err-variable.field-0.0 =
-        misfit_from c.in_err-variable.field-0.0
-        (gathers_misfit (behind_at (codes "*x") (number_at 10)) c.loop-scanner.invariant (factors_turn c.loop-scanner.scanner (sym c.is_at.ensures ∙ c.loop-scanner-test.true))) c.in_err-variable.ensures.err in
+    misfit_from c.in_err-variable.field-0.0
+    (gathers_misfit (behind_at (codes "*x") (number_at 10)) c.loop-scanner.invariant (factors_turn c.loop-scanner.scanner (sym c.is_at.ensures ∙ c.loop-scanner-test.true))) c.in_err-variable.ensures.err in
     search (rules, misfit)
 
 pub loop-scanner-smaller : goal.loop-scanner-smaller

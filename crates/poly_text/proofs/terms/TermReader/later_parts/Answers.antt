@@ -17,8 +17,8 @@ loop-scanner-init c = record {
 pub returns-in_err-part-clause-err : goal.returns-in_err-part-clause-err
 returns-in_err-part-clause-err c =
     let misfit : IsMisfit (many_at is_space (behind_at (codes " + ") part_at) c.args.scanner.now ≡ None) c.in_err-part.field-0.0 =
-        misfit_from c.in_err-part.field-0.0
-        (gathers_misfit (behind_at (codes " + ") part_at) c.loop-scanner.invariant.so_far (parts_turn c.loop-scanner.scanner (sym c.is_at.ensures ∙ c.loop-scanner-test.true))) c.in_err-part.ensures.err in
+    misfit_from c.in_err-part.field-0.0
+    (gathers_misfit (behind_at (codes " + ") part_at) c.loop-scanner.invariant.so_far (parts_turn c.loop-scanner.scanner (sym c.is_at.ensures ∙ c.loop-scanner-test.true))) c.in_err-part.ensures.err in
     search (rules, misfit)
 
 pub loop-scanner-smaller : goal.loop-scanner-smaller

@@ -13,7 +13,7 @@ loop-scanner-init c = terms_begin (2 ^ c.args.self.now.width) c.args.self.now.ma
 pub returns-in_err-term-clause-err : goal.returns-in_err-term-clause-err
 returns-in_err-term-clause-err c =
     let misfit : IsMisfit (many_at is_sign signed_term_at c.args.scanner.now ≡ None) c.in_err-term.field-0.0 =
-        misfit_from c.in_err-term.field-0.0 (gathers_misfit signed_term_at c.loop-scanner.invariant (terms_turn c.loop-scanner.scanner (sym c.is_at_sign.ensures ∙ c.loop-scanner-test.true))) c.in_err-term.ensures.err in
+    misfit_from c.in_err-term.field-0.0 (gathers_misfit signed_term_at c.loop-scanner.invariant (terms_turn c.loop-scanner.scanner (sym c.is_at_sign.ensures ∙ c.loop-scanner-test.true))) c.in_err-term.ensures.err in
     search (rules, misfit)
 
 pub loop-scanner-smaller : goal.loop-scanner-smaller
