@@ -1,8 +1,13 @@
 //! And-inverter graphs, and the definitions of a multiplier verifier with their laws.
 //!
-//! The contracts of all crates above cite the words of `specs/`: what bytes spell (`Aiger`), evaluation (`Graph`),
-//! operands and the product (`Operands`), polynomials by their values (`Polynomial`), and lawful algebra
-//! certificates (`Algebra`, `AlgebraText`). A law is the contract of a public function with an empty body.
+//! `Graph::build` gives the graph of some lists exactly where they have no fault, and else their first fault. A graph
+//! tells of each variable its gate, its level and how often it is read, and writes the values of all variables.
+//! `Operands` tells which input is which bit. Only `Graph::build` and `Operands::of` take memory.
+//!
+//! The contracts of all crates above cite the words of `specs/`: what bytes spell (`Aiger`), evaluation and levels
+//! (`Graph`), operands and the product (`Operands`), faults (`GraphRefusal`), polynomials by their values (`Polynomial`),
+//! and lawful algebra certificates (`Algebra`, `AlgebraText`). A law is the contract of a public function with an
+//! empty body.
 #![tactic(auto)]
 
 mod certificate_laws;

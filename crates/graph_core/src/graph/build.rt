@@ -16,7 +16,8 @@ impl Graph {
     ghost use Rattle.graph_core.specs.Aiger.{listing, graph_of};
     ghost use Rattle.graph_core.specs.GraphRefusal.{fault_of};
 
-    /// The graph of its lists: the greatest variable, the inputs, the outputs, and each gate's left side and two operands.
+    /// The graph of its lists: the greatest variable, the inputs, the outputs, and each gate's left
+    /// side and two operands. Takes time in proportion to the lists, which are given up on any error.
     pub fn build(
         alloc: Global,
         max: u32,
@@ -27,9 +28,12 @@ impl Graph {
         requires small { max ≤ 4194303 }
         requires few_inputs { length inputs.items ≤ 256 }
         requires few_outputs { length outputs.items ≤ 256 }
-        ensures ok { IfOk result (λ g. g ≡ graph_of (listing max inputs.items outputs.items gates.items)) }
-        ensures faultless { OnOk result (fault_of (listing max inputs.items outputs.items gates.items) ≡ None) }
-        ensures fault { (f : GraphFault) → result ≡ Err (BuildFail.Graph f) → fault_of (listing max inputs.items outputs.items gates.items) ≡ Some f }
+        ensures ok { IfOk result
+            (λ g. g ≡ graph_of (listing max inputs.items outputs.items gates.items)) }
+        ensures faultless { OnOk result
+            (fault_of (listing max inputs.items outputs.items gates.items) ≡ None) }
+        ensures fault { (f : GraphFault) → result ≡ Err (BuildFail.Graph f) →
+            fault_of (listing max inputs.items outputs.items gates.items) ≡ Some f }
     {
         check_lists(alloc, max, &inputs, &outputs, &gates)?;
         let gates = gates_of(alloc, &gates)?;
