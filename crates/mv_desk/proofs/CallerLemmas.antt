@@ -225,4 +225,5 @@ split_at bytes count most enough = rw (take_all most (drop count bytes) (rw (len
 
 -- no read of an honest desk ever failed
 pub never_failed : (desk : HonestDesk) → (view_of desk).read_faults ≡ 0
+unfolding view_of
 never_failed desk = refl

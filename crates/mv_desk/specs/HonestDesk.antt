@@ -7,7 +7,7 @@ use Rattle.mv_desk.specs.declared.slot.Slot.{Slot}
 use Rattle.mv_desk.specs.declared.memory.honest_desk.HonestDesk.{HonestDesk}
 
 -- it tells everything but the name of a slot that was opened under a name that isn't held, and no read ever failed
-abbrev pub view_of : HonestDesk → View
+unfoldable pub view_of : HonestDesk → View
 view_of desk = tells desk.shelf 0 desk.write_faults
 
 -- the bytes under a name, if it is held

@@ -8,7 +8,7 @@ use Rattle.mv_desk.specs.declared.slot.Slot.{Slot}
 use Rattle.mv_desk.specs.declared.memory.memory_desk.MemoryDesk.{MemoryDesk}
 
 -- it tells everything
-abbrev pub view_of : MemoryDesk → View
+unfoldable pub view_of : MemoryDesk → View
 view_of desk = tells desk.shelf desk.read_faults desk.write_faults
 
 -- the bytes under a name, if it is held

@@ -3,106 +3,129 @@ ghost use Rattle.std.specs.Prelude.{◌<◌, IfOk};
 ghost use Rattle.mv_desk.specs.View.{HasReport};
 
 use crate::{
-    Desk, HonestDesk, MemoryDesk, Names, ReadFault, RealDesk, Slot, WriteFault, read_whole,
+    Desk, Failed, HonestDesk, MemoryDesk, Names, ReadFault, RealDesk, Slot, WriteFault, read_whole,
     write_all,
 };
 use std::alloc::{AllocError, Global};
 use std::test::Fail;
 
-// A file `g` of these bytes, read in these pieces, over a desk that fails at these calls.
-fn desk_of(
-    alloc: Global,
-    bytes: &[u8],
-    pieces: &[usize],
-    fails: &[u64],
-) -> Result<MemoryDesk, AllocError>
+// A file `g` of the bytes `hello`, read in these pieces, over a desk that fails at these calls.
+fn desk_of(alloc: Global, pieces: &[usize], fails: &[u64]) -> Result<MemoryDesk, AllocError>
     ensures { IfOk result (λ desk. HasReport (⟦<MemoryDesk as Desk>⟧.seen desk)) }
 {
     let mut files = Vec::new(alloc);
     let name = String::from_str(alloc, "g")?;
-    files.push((name, Vec::from_slice(alloc, bytes)?))?;
+    files.push((name, Vec::from_slice(alloc, b"hello")?))?;
     let pieces = Vec::from_slice(alloc, pieces)?;
     let fails = Vec::from_slice(alloc, fails)?;
     Ok(MemoryDesk::new(alloc, files, pieces, fails))
 }
 
-#[test]
-fn reads_a_file_in_pieces(rt: HostRuntime) -> Result<(), Fail> {
-    let alloc = rt.alloc();
-    let mut desk = desk_of(alloc, b"hello", &[1, 3], &[])?;
-    desk.open_file(Slot::Graph, "g")?;
+// Opens a file and reads it whole.
+fn whole_of<D: Desk>(
+    alloc: Global,
+    desk: &mut D,
+    name: &str,
+    limit: u64,
+) -> Result<Vec<u8>, ReadFault>
+    requires { limit < 10 }
+{
+    let Ok(()) = desk.open_file(Slot::Graph, name) else {
+        return Err(ReadFault::Fault);
+    };
+    read_whole(alloc, desk, Slot::Graph, limit)
+}
+
+// How many bytes three reads of a file give.
+fn reads_of<D: Desk>(desk: &mut D, name: &str) -> Result<[usize; 3], Failed> {
     let mut buffer = [0u8; 8];
-    assert!(rt; desk.read(Slot::Graph, &mut buffer) == Ok(1));
-    assert!(rt; desk.read(Slot::Graph, &mut buffer) == Ok(3));
-    assert!(rt; &buffer[..3] == b"ell".as_slice());
-    assert!(rt; desk.rest(Slot::Graph) == b"o".as_slice());
-    assert!(rt; desk.read(Slot::Graph, &mut buffer) == Ok(1));
-    assert!(rt; desk.read(Slot::Graph, &mut buffer) == Ok(0));
+    desk.open_file(Slot::Graph, name)?;
+    let first = desk.read(Slot::Graph, &mut buffer)?;
+    let second = desk.read(Slot::Graph, &mut buffer)?;
+    let third = desk.read(Slot::Graph, &mut buffer)?;
+    Ok([first, second, third])
+}
+
+// Makes a file of these bytes.
+fn write_file<D: Desk>(desk: &mut D, name: &str, bytes: &[u8]) -> Result<(), WriteFault> {
+    let Ok(()) = desk.create_file(Slot::Other, name) else {
+        return Err(WriteFault);
+    };
+    write_all(desk, Slot::Other, bytes)
+}
+
+// Reports two lines.
+fn report<D: Desk>(desk: &mut D) -> Result<(), WriteFault>
+    requires { HasReport (D.seen desk.old) }
+{
+    write_all(desk, Slot::Report, b"proved\n")?;
+    write_all(desk, Slot::Report, b"rewriting none\n")
+}
+
+#[test]
+fn reads_are_cut_into_pieces(rt: HostRuntime) -> Result<(), Fail> {
+    let mut desk = desk_of(rt.alloc(), &[1, 3], &[])?;
+    assert!(rt; reads_of(&mut desk, "g") == Ok([1, 3, 1]));
+    assert!(rt; desk.rest(Slot::Graph).is_empty());
     Ok(())
 }
 
-// What a whole read of `hello` gives under a limit.
-fn whole_under(alloc: Global, limit: u64) -> Result<Result<Vec<u8>, ReadFault>, Fail>
-    requires { limit < 10 }
-{
-    let mut desk = desk_of(alloc, b"hello", &[1, 3], &[])?;
-    desk.open_file(Slot::Clauses, "g")?;
-    Ok(read_whole(alloc, &mut desk, Slot::Clauses, limit))
+#[test]
+fn a_file_in_pieces_is_read_whole(rt: HostRuntime) -> Result<(), Fail> {
+    let mut desk = desk_of(rt.alloc(), &[1, 3], &[])?;
+    let bytes = whole_of(rt.alloc(), &mut desk, "g", 9)?;
+    assert!(rt; bytes.as_slice() == b"hello".as_slice());
+    Ok(())
 }
 
 #[test]
-fn reads_a_file_of_exactly_the_limit(rt: HostRuntime) -> Result<(), Fail> {
-    assert!(rt; whole_under(rt.alloc(), 5)??.as_slice() == b"hello".as_slice());
+fn a_file_of_exactly_the_limit_is_read(rt: HostRuntime) -> Result<(), Fail> {
+    let mut desk = desk_of(rt.alloc(), &[1, 3], &[])?;
+    assert!(rt; whole_of(rt.alloc(), &mut desk, "g", 5)?.len() == 5);
     Ok(())
 }
 
 #[test]
 fn one_byte_more_than_the_limit_is_too_long(rt: HostRuntime) -> Result<(), Fail> {
-    assert!(rt; matches!(whole_under(rt.alloc(), 4)?, Err(ReadFault::TooLong)));
+    let mut desk = desk_of(rt.alloc(), &[1, 3], &[])?;
+    let read = whole_of(rt.alloc(), &mut desk, "g", 4);
+    assert!(rt; matches!(read, Err(ReadFault::TooLong)));
     Ok(())
 }
 
 #[test]
-fn fails_at_the_calls_of_its_list(rt: HostRuntime) -> Result<(), Fail> {
-    let alloc = rt.alloc();
-    let mut desk = desk_of(alloc, b"hello", &[2], &[1, 4])?;
-    assert!(rt; desk.open_file(Slot::Graph, "g").is_err());
-    desk.open_file(Slot::Graph, "g")?;
-    let mut buffer = [0u8; 8];
-    assert!(rt; desk.read(Slot::Graph, &mut buffer) == Ok(2));
-    let read = read_whole(alloc, &mut desk, Slot::Graph, 9);
+fn calls_fail_by_their_list(rt: HostRuntime) -> Result<(), Fail> {
+    let mut desk = desk_of(rt.alloc(), &[2], &[1, 4])?;
+    assert!(rt; reads_of(&mut desk, "g") == Err(Failed));
+    let read = whole_of(rt.alloc(), &mut desk, "g", 9);
     assert!(rt; matches!(read, Err(ReadFault::Fault)));
     assert!(rt; desk.rest(Slot::Graph) == b"llo".as_slice());
-    assert!(rt; desk.open_file(Slot::Other, "h").is_err());
+    assert!(rt; reads_of(&mut desk, "h") == Err(Failed), "no such file");
     Ok(())
 }
 
 #[test]
 fn a_write_that_fails_leaves_what_was_written(rt: HostRuntime) -> Result<(), Fail> {
-    let alloc = rt.alloc();
-    let mut desk = desk_of(alloc, b"old", &[], &[2])?;
-    write_all(&mut desk, Slot::Report, b"accepted\n")?;
-    assert!(rt; write_all(&mut desk, Slot::Report, b"x") == Err(WriteFault));
-    assert!(rt; desk.out(Slot::Report) == b"accepted\n".as_slice());
+    let mut desk = desk_of(rt.alloc(), &[], &[2])?;
+    assert!(rt; report(&mut desk) == Err(WriteFault));
+    assert!(rt; desk.out(Slot::Report) == b"proved\n".as_slice());
     Ok(())
 }
 
 #[test]
 fn a_file_that_is_created_loses_its_bytes(rt: HostRuntime) -> Result<(), Fail> {
-    let mut desk = desk_of(rt.alloc(), b"old", &[], &[])?;
-    desk.create_file(Slot::Graph, "g")?;
-    write_all(&mut desk, Slot::Graph, b"new")?;
+    let mut desk = desk_of(rt.alloc(), &[], &[])?;
+    write_file(&mut desk, "g", b"new")?;
     assert!(rt; desk.bytes("g") == Some(b"new".as_slice()));
     assert!(rt; desk.bytes("h") == None);
-    assert!(rt; desk.out(Slot::Graph) == b"new".as_slice());
+    assert!(rt; desk.out(Slot::Other) == b"new".as_slice());
     Ok(())
 }
 
 #[test]
 fn an_honest_desk_opens_what_is_not_held_as_empty(rt: HostRuntime) -> Result<(), Fail> {
     let mut desk = HonestDesk::new(rt.alloc());
-    desk.open_file(Slot::Graph, "g")?;
-    assert!(rt; read_whole(rt.alloc(), &mut desk, Slot::Graph, 9)?.is_empty());
+    assert!(rt; whole_of(rt.alloc(), &mut desk, "g", 9)?.is_empty());
     assert!(rt; desk.bytes("g") == None);
     Ok(())
 }
@@ -110,23 +133,21 @@ fn an_honest_desk_opens_what_is_not_held_as_empty(rt: HostRuntime) -> Result<(),
 #[test]
 fn an_honest_desk_reads_what_was_written(rt: HostRuntime) -> Result<(), Fail> {
     let mut desk = HonestDesk::new(rt.alloc());
-    desk.create_file(Slot::Other, "g")?;
-    write_all(&mut desk, Slot::Other, b"aag")?;
-    desk.open_file(Slot::Graph, "g")?;
-    assert!(rt; desk.rest(Slot::Graph) == b"aag".as_slice());
+    write_file(&mut desk, "g", b"aag")?;
+    let bytes = whole_of(rt.alloc(), &mut desk, "g", 9)?;
+    assert!(rt; bytes.as_slice() == b"aag".as_slice());
+    assert!(rt; desk.rest(Slot::Graph).is_empty());
+    assert!(rt; desk.out(Slot::Other) == b"aag".as_slice());
     Ok(())
 }
 
 #[test]
 fn files_of_the_machine_are_written_and_read(rt: HostRuntime) -> Result<(), Fail> {
-    let alloc = rt.alloc();
     let mut desk = RealDesk::new(&rt);
-    desk.create_file(Slot::Algebra, "mv_desk_test_file")?;
-    write_all(&mut desk, Slot::Algebra, b"pac 1\n")?;
-    desk.open_file(Slot::Algebra, "mv_desk_test_file")?;
-    let bytes = read_whole(alloc, &mut desk, Slot::Algebra, 6)?;
+    write_file(&mut desk, "mv_desk_test_file", b"pac 1\n")?;
+    let bytes = whole_of(rt.alloc(), &mut desk, "mv_desk_test_file", 6)?;
     assert!(rt; bytes.as_slice() == b"pac 1\n".as_slice());
-    assert!(rt; desk.open_file(Slot::Graph, "mv_desk_no_such_file").is_err());
+    assert!(rt; reads_of(&mut desk, "mv_desk_no_such_file") == Err(Failed));
     Ok(())
 }
 

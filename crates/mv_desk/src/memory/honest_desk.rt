@@ -17,6 +17,7 @@ pub struct HonestDesk {
     write_faults: u64,
 }
 
+#[tactic(auto, unfolding(crate::specs::HonestDesk::view_of))]
 impl HonestDesk {
     ghost use Rattle.mv_desk.specs.HonestDesk.{held_of, out_of, rest_of};
 
@@ -55,6 +56,7 @@ impl HonestDesk {
     }
 }
 
+#[tactic(auto, unfolding(crate::specs::HonestDesk::view_of))]
 impl Desk for HonestDesk {
     ghost use Rattle.mv_desk.specs.HonestDesk.{rest_of, view_of};
 

@@ -21,6 +21,7 @@ pub struct MemoryDesk {
     write_faults: u64,
 }
 
+#[tactic(auto, unfolding(crate::specs::MemoryDesk::view_of))]
 impl MemoryDesk {
     ghost use Rattle.mv_desk.specs.MemoryDesk.{held_of, out_of, plan_of, rest_of, view_of};
     ghost use Rattle.mv_desk.specs.Files.{files_of, held_at};
@@ -71,6 +72,7 @@ impl MemoryDesk {
     }
 }
 
+#[tactic(auto, unfolding(crate::specs::MemoryDesk::view_of))]
 impl Desk for MemoryDesk {
     ghost use Rattle.mv_desk.specs.MemoryDesk.{held_of, plan_of, rest_of, view_of};
 
