@@ -1,10 +1,12 @@
-//! Reads and writes graph files in the AIGER format, ascii and binary.
+//! Reads graph files in the AIGER format, ascii and binary.
 //!
-//! The lists that are read are those that the bytes spell, and a refusal is the first: a byte that no text has there
-//! (the end of the file counts), a number out of range, or a field of the header. A refusal needs no byte behind it.
+//! `read` gives the graph that a file's bytes spell, or their first refusal: a byte that no text has
+//! there (the end of the file counts), a number out of range, a field of the header, or a fault of what
+//! is listed. It judges no byte past its limit.
 //!
-//! *Spells*, *first refusal*: `specs/Aiger.antt` and `specs/GraphRefusal.antt` of `graph_core`. Each reader here is one
-//! function of its `specs/Reading.antt`, as code over a slice; where it ends is said by `specs/Stops.antt`.
+//! *Spells*, *first refusal*: `specs/Aiger.antt` and `specs/GraphRefusal.antt` of `graph_core`. *Found
+//! within a limit*, *too long*: `specs/Refusals.antt`. Each private reader is one function of
+//! `specs/Reading.antt` of `graph_core`, as code over a slice.
 #![tactic(auto)]
 
 mod ascii;
@@ -20,6 +22,8 @@ mod reading;
 mod refused;
 mod source;
 mod symbols;
+#[cfg(test)]
+mod tests;
 mod text;
 
 pub use fail::ReadFail;

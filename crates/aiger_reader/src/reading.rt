@@ -20,8 +20,9 @@ pub enum Profile {
     Multiplier,
 }
 
-/// The graph that is spelled by what is left in a slot, of at most `limits.graph` bytes; else the first refusal. Where
-/// there are more bytes, a refusal of the text before the limit or of the header is answered, and else `TooLong`.
+/// The graph that is spelled by what is left in a slot, of at most `limits.graph` bytes; else the first
+/// refusal. Of more bytes those up to the limit are judged: where they have no refusal before their
+/// end, the answer is `TooLong`. The slot is read to its end, or to a byte past the limit at least.
 pub fn read<D: Desk>(
     alloc: Global,
     desk: &mut D,
@@ -30,11 +31,15 @@ pub fn read<D: Desk>(
     limits: &Limits,
 ) -> Result<Graph, ReadFail>
     requires { (D.seen desk.old).reads slot ≡ true }
-    ensures ok { IfOk result (λ graph. IfSome ((D.seen desk.old).left slot) (λ file. SpellsWithin limits.now.graph file graph)) }
+    ensures ok { IfOk result
+        (λ graph. IfSome ((D.seen desk.old).left slot)
+        (λ file. SpellsWithin limits.now.graph file graph)) }
     // whether or not the desk tells the bytes
     ensures sized { IfOk result IsMultiplierSized }
-    ensures err { IfErr result (λ e. IfSome ((D.seen desk.old).left slot) (λ file. Refuses limits.now.graph file e)) }
-    ensures fault { IsErrOf result ReadFail.Fault → Rose (D.seen desk.old).read_faults (D.seen desk.new).read_faults }
+    ensures err { IfErr result
+        (λ e. IfSome ((D.seen desk.old).left slot) (λ file. Refuses limits.now.graph file e)) }
+    ensures fault { IsErrOf result ReadFail.Fault
+        → Rose (D.seen desk.old).read_faults (D.seen desk.new).read_faults }
     ensures only { ReadsOnly slot (D.seen desk.old) (D.seen desk.new) }
     ensures tells { KeepsTelling (D.seen desk.old) (D.seen desk.new) }
 {
@@ -47,7 +52,7 @@ pub fn read<D: Desk>(
     }
 }
 
-// The refusal of a file that begins with these bytes, more than the limit, by its first bytes up to the limit.
+// The refusal of a file that begins with these bytes, more than the limit, by those up to it.
 fn refusal_before(alloc: Global, bytes: &[u8], limit: u64) -> ReadFail
     requires { limit < length bytes.now }
     ensures refuses { (more : List ℕ) → Refuses limit (bytes.now ++ more) result }

@@ -1,4 +1,4 @@
-ghost use Rattle.std.specs.Prelude.{◌≡◌, ◌≤◌, ◌<◌, ◌-◌, ◌^◌, true, ◌⊎◌, vec_len, IfOk, IfErr};
+ghost use Rattle.std.specs.Prelude.{◌≡◌, ◌≤◌, ◌<◌, ◌-◌, ◌^◌, true, ◌⊎◌, vec_len, IfOk, IfErr, IsErrOf};
 ghost use Rattle.std.specs.Io.KnownBytes.{Consumes, IsAtEnd};
 ghost use Rattle.mv_desk.specs.View.{KeepsTelling, Rose};
 ghost use Rattle.mv_desk.specs.Calls.{ReadsOnly};
@@ -18,9 +18,13 @@ pub fn read_front<D: Desk>(
     limit: u64,
 ) -> Result<Vec<u8>, ReadFail>
     requires { (D.seen desk.old).reads slot ≡ true }
-    ensures front { IfOk result (λ bytes. Consumes ((D.seen desk.old).left slot) ((D.seen desk.new).left slot) bytes.items) }
-    ensures end { IfOk result (λ bytes. vec_len bytes ≤ limit → IsAtEnd ((D.seen desk.new).left slot)) }
-    ensures err { IfErr result (λ e. (e ≡ ReadFail.Memory) ⊎ ((e ≡ ReadFail.Fault) × Rose (D.seen desk.old).read_faults (D.seen desk.new).read_faults)) }
+    ensures front { IfOk result
+        (λ bytes. Consumes ((D.seen desk.old).left slot) ((D.seen desk.new).left slot) bytes.items) }
+    ensures end { IfOk result
+        (λ bytes. vec_len bytes ≤ limit → IsAtEnd ((D.seen desk.new).left slot)) }
+    ensures err { IfErr result (λ e. (e ≡ ReadFail.Memory) ⊎ (e ≡ ReadFail.Fault)) }
+    ensures fault { IsErrOf result ReadFail.Fault
+        → Rose (D.seen desk.old).read_faults (D.seen desk.new).read_faults }
     ensures only { ReadsOnly slot (D.seen desk.old) (D.seen desk.new) }
     ensures tells { KeepsTelling (D.seen desk.old) (D.seen desk.new) }
 {
