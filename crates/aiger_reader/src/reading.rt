@@ -1,4 +1,4 @@
-ghost use Rattle.std.specs.Prelude.{◌≡◌, ◌≢◌, ◌<◌, ◌-◌, ◌++◌, ◌^◌, ℕ, List, true, length, IfOk, IfErr, IfSome, IsErrOf};
+ghost use Rattle.std.specs.Prelude.{◌≡◌, ◌≢◌, ◌<◌, ◌++◌, ℕ, List, true, length, IfOk, IfErr, IfSome, IsErrOf};
 ghost use Rattle.mv_desk.specs.View.{KeepsTelling, Rose};
 ghost use Rattle.mv_desk.specs.Calls.{ReadsOnly};
 ghost use Rattle.graph_core.specs.Soundness.{IsMultiplierSized};

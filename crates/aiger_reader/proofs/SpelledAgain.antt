@@ -1,0 +1,48 @@
+-- A multiplier's graph without faults has room for its inputs and gates, so what is written for it spells it.
+use Rattle.std.specs.Prelude.{ℕ, ◌+◌, ◌<◌, ◌≤◌, map, length, slice_index_or}
+use Rattle.std.proofs.Common.{arith, length-append}
+use Rattle.std.proofs.lemmas.List.{length-map}
+use Rattle.std.proofs.lemmas.List.Elements.{All-append, All-map, Contains-get_or}
+use Rattle.graph_core.specs.Literal.{variable_of}
+use Rattle.graph_core.specs.Graph.{Aig, IsWellFormed, defined}
+use Rattle.graph_core.specs.Aiger.{HasMultiplierCounts}
+use Rattle.graph_core.specs.Soundness.{IsMultiplierSized}
+use Rattle.graph_core.specs.Writing.{written, written_gate}
+use Rattle.graph_core.proofs.BuiltFacts.{few_numbers}
+use Rattle.graph_core.proofs.WellFormedGates.{input_in_range}
+use Rattle.graph_core.proofs.Writing.{ascii_text_spells, binary_text_spells}
+use Rattle.aiger_reader.specs.Written.{AsciiSpellsAgain, BinarySpellsAgain}
+
+module _ (g : Aig) (well : IsWellFormed g) where
+  abbrev IsVariable : ℕ → Type 0
+  IsVariable v = (0 < v) × (v ≤ g.max)
+
+  pub room : length g.inputs + length g.gates ≤ g.max
+  room =
+      let few = few_numbers (defined g) g.max well.defined_once.once
+      (All-append IsVariable (map variable_of g.inputs) (map (λ x. x.v) g.gates)
+      (All-map IsVariable variable_of g.inputs
+      (λ k d below. let low = input_in_range g well (slice_index_or g.inputs k d) (Contains-get_or g.inputs k d below) in (low.1, omega (arith, low.0))))
+      (All-map IsVariable (λ x. x.v) g.gates (λ k d below. (well.defined_once.gates k d below, well.gates_in_range k d below)))) in
+      omega (arith, length-append (map variable_of g.inputs) (map (λ x. x.v) g.gates), length-map g.inputs variable_of, length-map g.gates (λ x. x.v))
+
+  counted : IsMultiplierSized g → HasMultiplierCounts (written g)
+  counted sized =
+      let inputs = sized.shape.inputs in
+      let outputs = sized.shape.outputs in
+      let some = sized.some in
+      let narrow = sized.narrow in
+      record {
+        max = sized.small;
+        even = omega arith;
+        some = omega arith;
+        few = omega arith;
+        outputs = omega arith;
+        room = omega (arith, room, length-map g.gates written_gate);
+      }
+
+pub ascii_spells_again : AsciiSpellsAgain
+ascii_spells_again g well sized = ascii_text_spells g well (counted g well sized)
+
+pub binary_spells_again : BinarySpellsAgain
+binary_spells_again g well sized packed = binary_text_spells g packed (counted g well sized)
