@@ -1,0 +1,6 @@
+pub mod Usage
+pub mod Numerals
+pub mod Answering
+pub mod Ranges
+pub mod PlainWords
+pub mod AnyNames

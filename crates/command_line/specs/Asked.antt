@@ -1,0 +1,147 @@
+-- What the words of a command line ask for.
+use Rattle.std.specs.Prelude.{◌≡◌, ◌≤◌, ⊤, ℕ, ◌^◌, ◌&&◌, Bool, false, nat_le, nat_lt, List, [], ◌∷◌, map, Option, Some, None, if◌then◌else◌, codes, string_bytes, option_and_then}
+use Rattle.std.specs.Global.{Global}
+use Rattle.std.specs.Option.{option_map_or}
+use Rattle.std.specs.Str.{all_ascii_digits, bytes_eq}
+use Rattle.std.specs.declared.string.String.{String}
+use Rattle.clap.specs.Words.{Kinds, Row, Text, fault_of, first_of, subcommand_of}
+use Rattle.graph_core.specs.declared.order.Order.{Order}
+use Rattle.graph_core.specs.declared.order.Order.TheVariants.{Separate, Interleaved}
+use Rattle.graph_maker.specs.declared.adder.Adder.{Adder}
+use Rattle.graph_maker.specs.declared.adder.Adder.TheVariants.{Ripple, Kogge, Sklansky}
+use Rattle.graph_maker.specs.declared.kind.Kind.{Kind}
+use Rattle.graph_maker.specs.declared.kind.Kind.TheVariants.{Array, Dadda}
+use Rattle.mv_desk.specs.declared.names.Names.{Names}
+use Rattle.mv_nums.specs.Numeral.{decimal_value}
+use Rattle.command_line.specs.declared.command.Command.{Command}
+use Rattle.command_line.specs.declared.command.Command.TheVariants.{Check, Eval, Make}
+use Rattle.command_line.specs.declared.files.Files.{Files}
+use Rattle.command_line.specs.FixedCommand.{mulver}
+
+-- the words as texts
+abbrev pub texts : List (String Global) → List Text
+texts words = map string_bytes words
+
+-- the names of three files, as texts
+abbrev pub files_of : Names → Files
+files_of names = record { graph = names.graph.now; clauses = names.clauses.now; algebra = names.algebra.now }
+
+-- ---- single texts
+
+abbrev pub order_named : Text → Option Order
+order_named text =
+    if bytes_eq text (codes "separate") then Some Separate
+    else (if bytes_eq text (codes "interleaved") then Some Interleaved else None)
+
+abbrev pub kind_named : Text → Option Kind
+kind_named text =
+    if bytes_eq text (codes "array") then Some Array
+    else (if bytes_eq text (codes "dadda") then Some Dadda else None)
+
+abbrev pub adder_named : Text → Option Adder
+adder_named text =
+    if bytes_eq text (codes "ripple") then Some Ripple
+    else (if bytes_eq text (codes "kogge") then Some Kogge
+    else (if bytes_eq text (codes "sklansky") then Some Sklansky else None))
+
+-- one decimal digit or more, and nothing else
+abbrev pub is_numeral : Text → Bool
+is_numeral [] = false
+is_numeral (byte ∷ bytes) = all_ascii_digits (byte ∷ bytes)
+
+-- the number below 2^128 that a text spells in decimal digits; the first may be zeros
+abbrev pub number_of : Text → Option ℕ
+number_of text =
+    if is_numeral text && nat_lt (decimal_value text) (2 ^ 128) then Some (decimal_value text) else None
+
+-- a number from 1 to 64
+abbrev pub bits_of : Text → Option ℕ
+bits_of text =
+    option_and_then (λ bits. if nat_le 1 bits && nat_le bits 64 then Some bits else None) (number_of text)
+
+-- ---- the texts of a subcommand, each under its name
+
+-- what the text of this name says
+abbrev pub read_at : {A : Type 0} → (Text → Option A) → Text → List Row → Option A
+read_at read name rows = option_and_then read (first_of name rows)
+
+-- the order that is named, or `separate` where none is
+abbrev pub order_at : List Row → Option Order
+order_at rows = option_map_or order_named (first_of (codes "inputs") rows) (Some Separate)
+
+-- `check`: the names of three files, and an order; nothing where one is missing
+abbrev pub check_with : Option Text → Option Text → Option Text → Option Order → Option Command
+check_with (Some graph) (Some clauses) (Some algebra) (Some order) =
+    Some (Check (record { graph = graph; clauses = clauses; algebra = algebra }) order)
+check_with _ _ _ _ = None
+
+abbrev pub check_of : List Row → Option Command
+check_of rows = check_with
+    (first_of (codes "graph") rows)
+    (first_of (codes "clauses") rows)
+    (first_of (codes "algebra") rows)
+    (order_at rows)
+
+-- `eval`: the name of a file, two numbers, and an order
+abbrev pub eval_with : Option Text → Option ℕ → Option ℕ → Option Order → Option Command
+eval_with (Some graph) (Some a) (Some b) (Some order) = Some (Eval graph a b order)
+eval_with _ _ _ _ = None
+
+abbrev pub eval_of : List Row → Option Command
+eval_of rows = eval_with
+    (first_of (codes "graph") rows)
+    (read_at number_of (codes "a") rows)
+    (read_at number_of (codes "b") rows)
+    (order_at rows)
+
+-- `make`: a kind, a number of bits, an adder, and the name of a file
+abbrev pub make_with : Option Kind → Option ℕ → Option Adder → Option Text → Option Command
+make_with (Some kind) (Some bits) (Some adder) (Some out) = Some (Make kind bits adder out)
+make_with _ _ _ _ = None
+
+abbrev pub make_of : List Row → Option Command
+make_of rows = make_with
+    (read_at kind_named (codes "kind") rows)
+    (read_at bits_of (codes "bits") rows)
+    (read_at adder_named (codes "adder") rows)
+    (first_of (codes "out") rows)
+
+-- ---- the words
+
+-- the subcommand of this name, with these texts
+abbrev pub named : Text → List Row → Option Command
+named name rows =
+    if bytes_eq name (codes "check") then check_of rows
+    else (if bytes_eq name (codes "eval") then eval_of rows
+    else (if bytes_eq name (codes "make") then make_of rows else None))
+
+-- the subcommand that was met
+abbrev pub met : Option (Text × List Row) → Option Command
+met subcommand = option_and_then (λ s. named s.0 s.1) subcommand
+
+-- what is there where nothing refuses it
+abbrev pub where_taken : Kinds → Option Command → Option Command
+where_taken [] there = there
+where_taken (kind ∷ kinds) there = None
+
+-- What the words ask for: nothing where `clap` refuses them for the fixed command, where a text isn't one of
+-- those that are named, and where it is no number in its range.
+unfoldable pub asked : List Text → Option Command
+asked words = where_taken (fault_of mulver words) (met (subcommand_of mulver words))
+
+-- The words ask for nothing.
+abbrev pub IsUsage : List Text → Type 0
+IsUsage words = asked words ≡ None
+
+-- The words ask for `check` of these files, under this order.
+abbrev pub IsCheck : List Text → Files → Order → Type 0
+IsCheck words files order = asked words ≡ Some (Check files order)
+
+-- the widths of multipliers
+abbrev pub AreBits : ℕ → Type 0
+AreBits bits = (1 ≤ bits) × (bits ≤ 64)
+
+-- the number of bits of `make` is in its range
+abbrev pub HasBitsInRange : Command → Type 0
+HasBitsInRange (Make kind bits adder out) = AreBits bits
+HasBitsInRange _ = ⊤

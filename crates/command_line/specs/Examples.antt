@@ -1,0 +1,37 @@
+-- What the definition says of plain words and numbers.
+use Rattle.std.specs.Prelude.{◌≡◌, ◌≢◌, ◌<◌, ◌^◌, ◌↔◌, ℕ, List, [], ◌∷◌, Some, codes, slice_get}
+use Rattle.clap.specs.Words.{Text}
+use Rattle.graph_core.specs.declared.order.Order.TheVariants.{Separate}
+use Rattle.mv_nums.specs.Numeral.{Spells}
+use Rattle.command_line.specs.declared.files.Files.{Files}
+use Rattle.command_line.specs.Asked.{IsCheck, number_of}
+
+-- the text doesn't begin with a hyphen (45)
+abbrev pub BeginsPlain : Text → Type 0
+BeginsPlain text = slice_get text 0 ≢ Some 45
+
+-- `PROGRAM check GRAPH CLAUSES ALGEBRA`, of names that don't begin with a hyphen, asks for `check` of these files.
+abbrev pub NamesAreChecked : Type 0
+NamesAreChecked = (program : Text) (files : Files)
+    → BeginsPlain files.graph → BeginsPlain files.clauses → BeginsPlain files.algebra
+    → IsCheck (program ∷ codes "check" ∷ files.graph ∷ files.clauses ∷ files.algebra ∷ []) files Separate
+
+-- The number that a text says is the one that it spells in decimal digits, below 2^128.
+abbrev pub NumbersAreNumerals : Type 0
+NumbersAreNumerals = (text : Text) (number : ℕ)
+    → (number_of text ≡ Some number) ↔ (Spells text number × (number < 2 ^ 128))
+
+abbrev pub g_c_a : Files
+g_c_a = record { graph = codes "g"; clauses = codes "c"; algebra = codes "a" }
+
+abbrev pub check_interleaved : List Text
+check_interleaved =
+    codes "mulver" ∷ codes "check" ∷ codes "g" ∷ codes "c" ∷ codes "a" ∷
+    codes "--inputs" ∷ codes "interleaved" ∷ []
+
+abbrev pub check_g : List Text
+check_g = codes "mulver" ∷ codes "check" ∷ codes "g" ∷ []
+
+abbrev pub make_array : List Text
+make_array =
+    codes "mulver" ∷ codes "make" ∷ codes "array" ∷ codes "064" ∷ codes "ripple" ∷ codes "x" ∷ []

@@ -1,0 +1,37 @@
+-- The command that `clap` is given: one level of subcommands, each with required words in their places and long options
+-- of one text.
+use Rattle.std.specs.Prelude.{true, Some, codes}
+use Rattle.clap.specs.declared.builder.ArgAction.TheVariants.{Set}
+use Rattle.clap.specs.Words.{App, Rule, Text, new_app, new_rule, with_rule, with_subcommand}
+
+-- a required word in its place
+abbrev pub word : Text → Rule
+word id = record (new_rule id) { action = Some Set; required = true }
+
+-- an option of this long name, with one text
+abbrev pub choice : Text → Rule
+choice id = record (new_rule id) { long = Some id; action = Some Set }
+
+-- `check GRAPH CLAUSES ALGEBRA [--inputs ORDER]`
+abbrev pub check_app : App
+check_app = with_rule (with_rule (with_rule (with_rule (new_app (codes "check"))
+    (word (codes "graph"))) (word (codes "clauses"))) (word (codes "algebra"))) (choice (codes "inputs"))
+
+-- `eval GRAPH A B [--inputs ORDER]`
+abbrev pub eval_app : App
+eval_app = with_rule (with_rule (with_rule (with_rule (new_app (codes "eval"))
+    (word (codes "graph"))) (word (codes "a"))) (word (codes "b"))) (choice (codes "inputs"))
+
+-- `make KIND BITS ADDER OUT`
+abbrev pub make_app : App
+make_app = with_rule (with_rule (with_rule (with_rule (new_app (codes "make"))
+    (word (codes "kind"))) (word (codes "bits"))) (word (codes "adder"))) (word (codes "out"))
+
+-- a command that asks for a subcommand
+abbrev pub must_choose : App → App
+must_choose app = record app { top = record app.top { subcommand_required = true } }
+
+-- the whole command
+abbrev pub mulver : App
+mulver = with_subcommand (with_subcommand (with_subcommand (must_choose (new_app (codes "mulver")))
+    check_app.top) eval_app.top) make_app.top

@@ -1,0 +1,81 @@
+// The fixed command, built for `clap`.
+ghost use Rattle.std.specs.Prelude.{◌≡◌, false, IfOk};
+ghost use Rattle.clap.specs.Words.{app_of, with_rule, with_subcommand};
+ghost use Rattle.clap.specs.declared.builder.Command.TheViews.{out-Command};
+ghost use Rattle.command_line.specs.FixedCommand.{word, choice, check_app, eval_app, make_app, mulver};
+ghost use Rattle.command_line.specs.Reading.{IsCommand};
+
+use clap::{Arg, ArgAction, Command};
+use std::alloc::{AllocError, Global};
+
+/// The whole command.
+pub fn mulver<'a>(alloc: Global) -> Result<Command<'a>, AllocError>
+    ensures { IfOk result (IsCommand mulver) }
+{
+    let command = Command::new(alloc, "mulver").subcommand_required(true);
+    let command = with_subcommand(command, check(alloc)?)?;
+    let command = with_subcommand(command, eval(alloc)?)?;
+    with_subcommand(command, make(alloc)?)
+}
+
+fn check<'a>(alloc: Global) -> Result<Command<'a>, AllocError>
+    ensures { IfOk result (IsCommand check_app) }
+{
+    let command = Command::new(alloc, "check");
+    let command = with_word(alloc, command, "graph")?;
+    let command = with_word(alloc, command, "clauses")?;
+    let command = with_word(alloc, command, "algebra")?;
+    with_choice(alloc, command, "inputs")
+}
+
+fn eval<'a>(alloc: Global) -> Result<Command<'a>, AllocError>
+    ensures { IfOk result (IsCommand eval_app) }
+{
+    let command = Command::new(alloc, "eval");
+    let command = with_word(alloc, command, "graph")?;
+    let command = with_word(alloc, command, "a")?;
+    let command = with_word(alloc, command, "b")?;
+    with_choice(alloc, command, "inputs")
+}
+
+fn make<'a>(alloc: Global) -> Result<Command<'a>, AllocError>
+    ensures { IfOk result (IsCommand make_app) }
+{
+    let command = Command::new(alloc, "make");
+    let command = with_word(alloc, command, "kind")?;
+    let command = with_word(alloc, command, "bits")?;
+    let command = with_word(alloc, command, "adder")?;
+    with_word(alloc, command, "out")
+}
+
+// A required word in its place.
+fn with_word<'a>(
+    alloc: Global,
+    command: Command<'a>,
+    id: &'a str,
+) -> Result<Command<'a>, AllocError>
+    requires { (out-Command command).has_globals ≡ false }
+    ensures { IfOk result (IsCommand (with_rule (app_of command.entry) (word id.entry.now))) }
+{
+    command.arg(Arg::new(alloc, id).required(true).action(ArgAction::Set))
+}
+
+// An option of one text.
+fn with_choice<'a>(
+    alloc: Global,
+    command: Command<'a>,
+    id: &'a str,
+) -> Result<Command<'a>, AllocError>
+    requires { (out-Command command).has_globals ≡ false }
+    ensures { IfOk result (IsCommand (with_rule (app_of command.entry) (choice id.entry.now))) }
+{
+    command.arg(Arg::new(alloc, id).long(id).action(ArgAction::Set))
+}
+
+fn with_subcommand<'a>(command: Command<'a>, sub: Command<'a>) -> Result<Command<'a>, AllocError>
+    requires command { (out-Command command).has_globals ≡ false }
+    requires sub { (out-Command sub).has_globals ≡ false }
+    ensures { IfOk result (IsCommand (with_subcommand (app_of command.entry) (app_of sub.entry).top)) }
+{
+    command.subcommand(sub)
+}

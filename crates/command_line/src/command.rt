@@ -1,0 +1,27 @@
+use crate::files::{FileName, Files};
+use graph_core::Order;
+use graph_maker::{Adder, Kind};
+
+/// What a command line asks for.
+#[derive(Debug, Drop)]
+pub enum Command {
+    /// To judge a pair of certificates for a graph.
+    Check {
+        files: Files,
+        order: Order,
+    },
+    /// To evaluate a graph at two operands, each below 2^128.
+    Eval {
+        graph: FileName,
+        a: u128,
+        b: u128,
+        order: Order,
+    },
+    /// To make a multiplier of 1 to 64 bits and to write it to a file.
+    Make {
+        kind: Kind,
+        bits: u32,
+        adder: Adder,
+        out: FileName,
+    },
+}

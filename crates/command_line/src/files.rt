@@ -1,0 +1,58 @@
+ghost use Rattle.std.specs.Prelude.{◌≡◌, IfOk};
+
+use mv_desk::Names;
+use std::alloc::{AllocError, Global};
+use std::marker::Model;
+
+/// A file's name, which contracts see as its bytes.
+#[derive(Debug, Drop)]
+pub struct FileName {
+    text: String,
+}
+
+impl Model for FileName {
+    ghost use Rattle.std.specs.Prelude.{List, ℕ, string_bytes};
+
+    ghost Value = { List ℕ };
+
+    ghost view = { λ name. string_bytes name.text };
+}
+
+impl FileName {
+    pub fn new(alloc: Global, text: &str) -> Result<FileName, AllocError>
+        ensures { IfOk result (λ name. name ≡ text.now) }
+    {
+        Ok(FileName {
+            text: String::from_str(alloc, text)?,
+        })
+    }
+
+    pub fn as_str(&self) -> &str
+        ensures { result.now ≡ self.now }
+    {
+        self.text.as_str()
+    }
+}
+
+/// The names of the three files of `check`.
+#[derive(Debug, Drop)]
+pub struct Files {
+    pub graph: FileName,
+    pub clauses: FileName,
+    pub algebra: FileName,
+}
+
+impl Files {
+    ghost use Rattle.command_line.specs.Asked.{files_of};
+
+    /// The names, lent.
+    pub fn names(&self) -> Names<'_>
+        ensures { files_of result ≡ self.now }
+    {
+        Names {
+            graph: self.graph.as_str(),
+            clauses: self.clauses.as_str(),
+            algebra: self.algebra.as_str(),
+        }
+    }
+}

@@ -1,0 +1,26 @@
+//! The words of a command line, by `clap`.
+//!
+//! `read_words` answers with what the words ask for, and `Usage` exactly where they ask for nothing; memory may be
+//! wanting. What plain words ask for is a law, the contract of `plain_words`.
+//!
+//! *Asked*: what words ask for, by what `clap` says of the fixed command, the texts that are named, and numbers in
+//! their range (`specs/Asked.antt`). *Fixed command*: `mulver` with its subcommands, as `clap` is given it
+//! (`specs/FixedCommand.antt`). *Usage*: the words ask for nothing.
+#![tactic(auto)]
+
+mod builders;
+mod command;
+mod examples;
+mod fail;
+mod files;
+mod reading;
+mod single;
+#[cfg(test)]
+mod tests;
+mod texts;
+
+pub use command::Command;
+pub use examples::plain_words;
+pub use fail::WordsFail;
+pub use files::{FileName, Files};
+pub use reading::read_words;

@@ -1,0 +1,102 @@
+// What the words ask for.
+ghost use Rattle.std.specs.Prelude.{◌≡◌, None, Some, IfOk, IsErrOf};
+ghost use Rattle.clap.specs.Words.{found_of, rows_of, subcommand_rows_of};
+ghost use Rattle.command_line.specs.Asked.{HasBitsInRange, IsUsage, asked, check_of, eval_of, make_of, met, named, texts};
+ghost use Rattle.command_line.specs.Reading.{Reads, TakesAs};
+
+use crate::builders::mulver;
+use crate::command::Command;
+use crate::fail::WordsFail;
+use crate::files::Files;
+use crate::texts::{adder_at, bits_at, file_at, kind_at, number_at, order_at};
+use clap::ArgMatches;
+use clap::error::ErrorKind;
+use std::alloc::Global;
+
+/// What the words of a command line ask for. The first is the program's name, whatever it is.
+pub fn read_words(alloc: Global, words: &[String]) -> Result<Command, WordsFail>
+    ensures ok { IfOk result (λ command. asked (texts words.now) ≡ Some command) }
+    ensures usage { IsErrOf result WordsFail.Usage → IsUsage (texts words.now) }
+    ensures bits { IfOk result HasBitsInRange }
+{
+    let found = matches(alloc, words)?;
+    met(alloc, &found)
+}
+
+// What the fixed command makes of the words.
+fn matches<'a>(alloc: Global, words: &'a [String]) -> Result<ArgMatches<'a>, WordsFail>
+    ensures ok { IfOk result (TakesAs (texts words.now)) }
+    ensures usage { IsErrOf result WordsFail.Usage → asked (texts words.now) ≡ None }
+{
+    let command = mulver(alloc)?;
+    match command.try_get_matches_from(words) {
+        Ok(matches) => Ok(matches),
+        Err(error) => match error.kind() {
+            ErrorKind::OutOfMemory => Err(WordsFail::Memory),
+            _ => Err(WordsFail::Usage),
+        },
+    }
+}
+
+// The subcommand that was met.
+fn met(alloc: Global, matches: &ArgMatches<'_>) -> Result<Command, WordsFail>
+    ensures { Reads (met (subcommand_rows_of matches.now)) result }
+{
+    match matches.subcommand() {
+        Some((name, inner)) => named(alloc, name, inner),
+        None => Err(WordsFail::Usage),
+    }
+}
+
+fn named(alloc: Global, name: &str, matches: &ArgMatches<'_>) -> Result<Command, WordsFail>
+    ensures { Reads (named name.now (rows_of (found_of matches.now))) result }
+{
+    match name {
+        "check" => check(alloc, matches),
+        "eval" => eval(alloc, matches),
+        "make" => make(alloc, matches),
+        _ => Err(WordsFail::Usage),
+    }
+}
+
+fn check(alloc: Global, matches: &ArgMatches<'_>) -> Result<Command, WordsFail>
+    ensures { Reads (check_of (rows_of (found_of matches.now))) result }
+{
+    let graph = file_at(alloc, matches, "graph")?;
+    let clauses = file_at(alloc, matches, "clauses")?;
+    let algebra = file_at(alloc, matches, "algebra")?;
+    let order = order_at(matches).ok_or(WordsFail::Usage)?;
+    Ok(Command::Check {
+        files: Files {
+            graph,
+            clauses,
+            algebra,
+        },
+        order,
+    })
+}
+
+fn eval(alloc: Global, matches: &ArgMatches<'_>) -> Result<Command, WordsFail>
+    ensures { Reads (eval_of (rows_of (found_of matches.now))) result }
+{
+    let graph = file_at(alloc, matches, "graph")?;
+    let a = number_at(matches, "a").ok_or(WordsFail::Usage)?;
+    let b = number_at(matches, "b").ok_or(WordsFail::Usage)?;
+    let order = order_at(matches).ok_or(WordsFail::Usage)?;
+    Ok(Command::Eval { graph, a, b, order })
+}
+
+fn make(alloc: Global, matches: &ArgMatches<'_>) -> Result<Command, WordsFail>
+    ensures { Reads (make_of (rows_of (found_of matches.now))) result }
+{
+    let kind = kind_at(matches, "kind").ok_or(WordsFail::Usage)?;
+    let bits = bits_at(matches, "bits").ok_or(WordsFail::Usage)?;
+    let adder = adder_at(matches, "adder").ok_or(WordsFail::Usage)?;
+    let out = file_at(alloc, matches, "out")?;
+    Ok(Command::Make {
+        kind,
+        bits,
+        adder,
+        out,
+    })
+}

@@ -1,0 +1,57 @@
+// What a single text says.
+ghost use Rattle.std.specs.Prelude.{◌≡◌};
+ghost use Rattle.command_line.specs.Asked.{adder_named, bits_of, kind_named, number_of, order_named};
+
+use graph_core::Order;
+use graph_maker::{Adder, Kind};
+use mv_nums::read_decimal;
+
+pub fn order_named(text: &str) -> Option<Order>
+    ensures { result ≡ order_named text.now }
+{
+    match text {
+        "separate" => Some(Order::Separate),
+        "interleaved" => Some(Order::Interleaved),
+        _ => None,
+    }
+}
+
+pub fn kind_named(text: &str) -> Option<Kind>
+    ensures { result ≡ kind_named text.now }
+{
+    match text {
+        "array" => Some(Kind::Array),
+        "dadda" => Some(Kind::Dadda),
+        _ => None,
+    }
+}
+
+pub fn adder_named(text: &str) -> Option<Adder>
+    ensures { result ≡ adder_named text.now }
+{
+    match text {
+        "ripple" => Some(Adder::Ripple),
+        "kogge" => Some(Adder::Kogge),
+        "sklansky" => Some(Adder::Sklansky),
+        _ => None,
+    }
+}
+
+/// The number below 2^128 that decimal digits spell.
+pub fn number_of(text: &str) -> Option<u128>
+    ensures { result ≡ number_of text.now }
+{
+    read_decimal(text.as_bytes()).ok()
+}
+
+/// A number of bits, from 1 to 64.
+pub fn bits_of(text: &str) -> Option<u32>
+    ensures { result ≡ bits_of text.now }
+{
+    let bits = number_of(text)?;
+    if 1 <= bits && bits <= 64 {
+        Some(bits as u32)
+    } else {
+        None
+    }
+}
