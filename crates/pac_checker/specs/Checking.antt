@@ -1,10 +1,13 @@
 -- What contracts see of a checker of algebra lines: live polynomials of a table that grows, as the ledger of the definitions.
-use Rattle.std.specs.Prelude.{◌≡◌, ℕ, List, map}
+use Rattle.std.specs.Prelude.{◌≡◌, ℕ, List, map, IfSome}
 use Rattle.graph_core.specs.declared.Order.{Order}
 use Rattle.graph_core.specs.Extended.{Extended}
-use Rattle.graph_core.specs.Algebra.{LiveLine, Ledger, Line, modulus, after, IsLawfulLine}
+use Rattle.graph_core.specs.Algebra.{LiveLine, Ledger, Line, modulus, after, IsLawfulLine, Closes, specification}
 use Rattle.poly_terms.specs.Tables.{Table, Sum, Extends, value_in}
+use Rattle.mv_fact.specs.Always.{Always}
 use Rattle.mv_fact.specs.Facts.{Facts}
+use Rattle.poly_text.specs.declared.PacLine.{PacLine}
+use Rattle.poly_text.specs.Lines.{told}
 use Rattle.pac_checker.specs.Agreement.{Agree}
 
 -- The extended graph, the order of its inputs, the table of polynomials, the live ones by id, and the last id in use.
@@ -30,6 +33,10 @@ lines_in t entries = map (line_in t) entries
 abbrev pub ledger_of : Checking → Ledger
 ledger_of c = record { live = lines_in c.table c.entries; last = c.last }
 
+-- live facts as lines
+abbrev pub lines_of : Facts Sum Table → List LiveLine
+lines_of facts = lines_in facts.table facts.entries
+
 -- The line is lawful over the ledger so far, and the ledger afterwards is the one after the line.
 pub record Takes (line : Line) (old new : Checking) : Type 0 where
   pub extended : new.extended ≡ old.extended
@@ -46,3 +53,15 @@ pub record Grows (old new : Checking) : Type 0 where
   pub entries : new.entries ≡ old.entries
   pub last : new.last ≡ old.last
   pub ledger : Agree (ledger_of new) (ledger_of old)
+
+-- A line of code is taken: what it says in the table is.
+abbrev pub TakesLine : PacLine → Checking → Checking → Type 0
+TakesLine line old new = IfSome (told old.table line) (λ x. Takes x old new)
+
+-- the line has the specification's value
+abbrev pub IsClosedBy : Checking → ℕ → Type 0
+IsClosedBy c id = Closes c.extended c.order (ledger_of c).live id
+
+-- The specification vanishes on every evaluation.
+abbrev pub SpecificationVanishes : Checking → Type 0
+SpecificationVanishes c = Always c.extended.gates (λ σ. specification c.extended c.order σ ≡ 0)

@@ -1,9 +1,12 @@
 -- What the faults of code say in the words of the definitions.
-use Rattle.std.specs.Prelude.{ℕ}
+use Rattle.std.specs.Prelude.{ℕ, IfSome}
 use Rattle.graph_core.specs.declared.Order.{Order}
 use Rattle.graph_core.specs.Extended.{Extended}
 use Rattle.graph_core.specs.Algebra.{Ledger, Line}
 use Rattle.graph_core.specs.AlgebraRefusal as cause
+use Rattle.poly_text.specs.declared.PacLine.{PacLine}
+use Rattle.poly_text.specs.Lines.{told}
+use Rattle.pac_checker.specs.Checking.{Checking, ledger_of}
 use Rattle.pac_checker.specs.InRange.{IsRefusedInRange, IsRefusedCloseInRange}
 use Rattle.pac_checker.specs.declared.fault.LineFault.{LineFault}
 use Rattle.pac_checker.specs.declared.fault.LineFault.TheVariants.{Id, NoSuchLine, NotEqual, Memory}
@@ -22,3 +25,10 @@ abbrev pub IsCloseFault : Extended → Order → Ledger → ℕ → CloseFault �
 IsCloseFault e order l id (close.NoSuchLine missing) = IsRefusedCloseInRange e order l id (cause.NoSuchLine missing)
 IsCloseFault e order l id close.NotSpec = IsRefusedCloseInRange e order l id cause.NotSpecification
 IsCloseFault e order l id close.Memory = Unit {0}
+
+-- the same of a line of code over a checker, and of a closing one
+abbrev pub IsLineFault : Checking → PacLine → LineFault → Type 0
+IsLineFault c line fault = IfSome (told c.table line) (λ x. IsFault c.extended (ledger_of c) x fault)
+
+abbrev pub IsClosingFault : Checking → ℕ → CloseFault → Type 0
+IsClosingFault c id fault = IsCloseFault c.extended c.order (ledger_of c) id fault

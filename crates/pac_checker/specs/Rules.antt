@@ -1,5 +1,5 @@
 -- What the steps of a line find. These words serve private clauses.
-use Rattle.std.specs.Prelude.{◌≡◌, ◌≢◌, ◌<◌, ◌&&◌, ℕ, ◌%◌, List, map, sum_by, [], ◌∷◌}
+use Rattle.std.specs.Prelude.{◌≡◌, ◌≢◌, ◌<◌, ◌&&◌, ℕ, ◌+◌, ◌*◌, ◌%◌, List, map, sum_by, [], ◌∷◌}
 use Rattle.std.specs.declared.option.Option.TheVariants.{None, Some}
 use Rattle.std.specs.List.{All}
 use Rattle.std.specs.Option.{option_or}
@@ -8,16 +8,17 @@ use Rattle.graph_core.specs.Assignment.{Assignment, variable, literal}
 use Rattle.graph_core.specs.Extended.{Extended}
 use Rattle.graph_core.specs.Operands.{Sides, AreOperandsOf}
 use Rattle.graph_core.specs.Polynomial.{Polynomial}
-use Rattle.graph_core.specs.Algebra.{LiveLine, line_of, introduce, combined}
+use Rattle.graph_core.specs.Algebra.{LiveLine, Line, line_of, value_of, introduce, combined}
 use Rattle.graph_core.specs.Algebra as algebra
 use Rattle.graph_core.specs.AlgebraRefusal.{first_missing}
 use Rattle.mv_fact.specs.Facts.{Facts, IsKept, fact_at}
-use Rattle.poly_terms.specs.Tables.{Table, Sum, IsOf, Extends, modulus, value_in}
+use Rattle.poly_terms.specs.Tables.{Table, Sum, IsOf, Extends, modulus, value_in, monomials_in}
 use Rattle.poly_text.specs.Lines.{told_part}
 use Rattle.pac_checker.specs.declared.fault.LineFault.{LineFault}
 use Rattle.pac_checker.specs.declared.fault.LineFault.TheVariants.{Id, NoSuchLine, NotEqual, Memory}
 use Rattle.pac_checker.specs.Agreement.{Agree, AreSame, AreSameLines}
-use Rattle.pac_checker.specs.Checking.{Checking, lines_in, ledger_of}
+use Rattle.pac_checker.specs.Checking.{Checking, lines_in, lines_of, ledger_of}
+use Rattle.pac_checker.specs.Faults.{IsFault}
 
 -- A polynomial of the table that vanishes on every evaluation of the gates.
 abbrev pub Vanishes : List Gate → Table → Sum → Type 0
@@ -35,6 +36,10 @@ pub record HasValue (gates : List Gate) (t : Table) (m : ℕ) (f : Assignment �
   pub vanishes : Vanishes gates t p
   pub same : (σ : Assignment) → value_in t p σ ≡ f σ % m
 
+-- A vanishing polynomial in the new table whose value is f, modulo the modulus.
+abbrev pub IsValued : Facts Sum Table → Facts Sum Table → (Assignment → ℕ) → Sum → Type 0
+IsValued old new f p = HasValue new.gates new.table (modulus old.table) f p
+
 -- The operands are live, and the polynomial has the value f that the rule names.
 pub record IsNamed (old new : Facts Sum Table) (ids : List ℕ) (f : Assignment → ℕ) (p : Sum) : Type 0 where
   pub live : first_missing (lines_in old.table old.entries) ids ≡ None
@@ -50,6 +55,37 @@ pub record AreProducts (old new : Facts Sum Table) (parts : List (ℕ × Sum)) (
   pub vanish : All (Vanishes new.gates new.table) products
   pub same : (σ : Assignment) → sum_by (λ p. value_in new.table p σ) products % modulus old.table ≡
       combined (modulus old.table) (lines_in old.table old.entries) (map (told_part old.table) parts) σ % modulus old.table
+
+-- lines of polynomials of a table, as the definitions know them
+abbrev pub sum_line : Table → ℕ → ℕ → ℕ → Sum → Line
+sum_line t id i j p = algebra.Sum id i j (monomials_in t p)
+
+abbrev pub product_line : Table → ℕ → ℕ → Sum → Sum → Line
+product_line t id i factor p = algebra.Product id i (monomials_in t factor) (monomials_in t p)
+
+abbrev pub combination_line : Table → ℕ → List (ℕ × Sum) → Sum → Line
+combination_line t id parts p = algebra.Combination id (map (told_part t) parts) (monomials_in t p)
+
+-- the values that steps of a rule name: a sum and one more line, a line times a polynomial, two lines, polynomials
+abbrev pub added_value : Facts Sum Table → Sum → ℕ → Assignment → ℕ
+added_value facts sum id σ = value_in facts.table sum σ + value_of (lines_of facts) id σ
+
+abbrev pub product_value : Facts Sum Table → ℕ → Sum → Assignment → ℕ
+product_value facts id factor σ = value_of (lines_of facts) id σ * value_in facts.table factor σ
+
+abbrev pub two_value : Facts Sum Table → ℕ → ℕ → Assignment → ℕ
+two_value facts i j σ = value_of (lines_of facts) i σ + value_of (lines_of facts) j σ
+
+abbrev pub total_value : Facts Sum Table → List Sum → Assignment → ℕ
+total_value facts parts σ = sum_by (λ p. value_in facts.table p σ) parts
+
+-- the sum of some lines, each times a polynomial
+abbrev pub combined_value : Facts Sum Table → List (ℕ × Sum) → Assignment → ℕ
+combined_value facts parts σ = combined (modulus facts.table) (lines_of facts) (map (told_part facts.table) parts) σ
+
+-- the line is refused over the checker's ledger
+abbrev pub IsRefused : Checking → Line → LineFault → Type 0
+IsRefused c x fault = IsFault c.extended (ledger_of c) x fault
 
 -- the first operand that isn't live, or want of memory
 abbrev pub IsNamingFault : Facts Sum Table → List ℕ → LineFault → Type 0

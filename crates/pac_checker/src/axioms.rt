@@ -7,7 +7,7 @@ ghost use Rattle.ripple_graft.specs.Extension.{IsExtension};
 ghost use Rattle.mv_fact.specs.Always.{Always};
 ghost use Rattle.poly_terms.specs.Tables.{Extends, modulus};
 ghost use Rattle.pac_checker.specs.Agreement.{AreSame, AreSameLines};
-ghost use Rattle.pac_checker.specs.Checking.{lines_in};
+ghost use Rattle.pac_checker.specs.Checking.{lines_of};
 ghost use Rattle.pac_checker.specs.Columns.{column_of, column_by, difference_line, PutsLine, HasColumns, AddsColumn};
 ghost use Rattle.pac_checker.specs.Rules.{Computes, AddsLine};
 
@@ -37,7 +37,7 @@ fn add_gates(alloc: Global, live: &mut Live<'_, Poly>, gates: &[Gate]) -> Result
     requires empty { live.old.entries ≡ [] }
     ensures gates { OnOk result (live.new.gates ≡ live.old.gates) }
     ensures table { OnOk result (Extends live.old.table live.new.table) }
-    ensures lines { OnOk result (AreSameLines (lines_in live.new.table live.new.entries) (map (gate_axiom (modulus live.old.table)) gates.now)) }
+    ensures lines { OnOk result (AreSameLines (lines_of live.new) (map (gate_axiom (modulus live.old.table)) gates.now)) }
 {
     for gate in gates {
         add_axiom(alloc, live, gate)?;
@@ -95,9 +95,9 @@ fn add_column(
 {
     match column_at(extended, k) {
         None => Ok(()),
-        Some((old, new)) => {
+        Some((left, right)) => {
             let id = u64::from(extended.max()) + 1 + u64::from(k);
-            add_difference(alloc, live, id, old, new)
+            add_difference(alloc, live, id, left, right)
         }
     }
 }
@@ -137,7 +137,7 @@ pub(crate) fn add_axioms(
     requires columns { Always extended.now.gates (AgreeOnColumns extended.now) }
     ensures gates { OnOk result (live.new.gates ≡ live.old.gates) }
     ensures table { OnOk result (Extends live.old.table live.new.table) }
-    ensures lines { OnOk result (AreSameLines (lines_in live.new.table live.new.entries) (axioms extended.now).live) }
+    ensures lines { OnOk result (AreSameLines (lines_of live.new) (axioms extended.now).live) }
 {
     add_gates(alloc, live, extended.gates())?;
     add_columns(alloc, live, extended)

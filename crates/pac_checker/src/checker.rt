@@ -2,7 +2,7 @@
 
 ghost use Rattle.std.specs.Prelude.{◌≡◌, ◌*◌, ◌<◌, ◌≤◌, [], IfOk, OnOk, OnErr, IfErr, IsSome, IfSome, map};
 ghost use Rattle.std.specs.List.{All};
-ghost use Rattle.graph_core.specs.Algebra.{Sum, Product, Combination, Delete, Closes, axioms, specification, AgreeOnColumns};
+ghost use Rattle.graph_core.specs.Algebra.{Delete, axioms, AgreeOnColumns};
 ghost use Rattle.graph_core.specs.Algebra as algebra;
 ghost use Rattle.graph_core.specs.Operands.{width, AreOperandsOf, HasMultiplierShape};
 ghost use Rattle.mv_fact.specs.Always.{Always};
@@ -10,9 +10,9 @@ ghost use Rattle.poly_terms.specs.Tables.{IsOf, modulus, monomials_in};
 ghost use Rattle.poly_text.specs.Lines.{told, told_part, AreOf};
 ghost use Rattle.gate_axioms.specs.Axioms.{IsSpecification};
 ghost use Rattle.pac_checker.specs.Agreement.{Agree};
-ghost use Rattle.pac_checker.specs.Checking.{ledger_of, Takes, Grows};
-ghost use Rattle.pac_checker.specs.Faults.{IsFault, IsCloseFault};
-ghost use Rattle.pac_checker.specs.Rules.{Vanishes, AreEqual, IsStatingFault, Introduces};
+ghost use Rattle.pac_checker.specs.Checking.{ledger_of, Takes, TakesLine, Grows, IsClosedBy, SpecificationVanishes};
+ghost use Rattle.pac_checker.specs.Faults.{IsLineFault, IsClosingFault};
+ghost use Rattle.pac_checker.specs.Rules.{Vanishes, AreEqual, IsRefused, IsStatingFault, Introduces, sum_line, product_line, combination_line};
 
 use crate::axioms::add_axioms;
 use crate::rules::{add_two, combine, multiply};
@@ -106,8 +106,8 @@ impl<'a> PacChecker<'a> {
     pub fn line(&mut self, line: &PacLine) -> Result<(), LineFault>
         requires goes_on { IsSome (told self.old.table line.now) }
         requires of_table { AreOf self.old.table line.now }
-        ensures taken { OnOk result (IfSome (told self.old.table line.now) (λ x. Takes x self.old self.new)) }
-        ensures refused { IfErr result (λ fault. IfSome (told self.old.table line.now) (λ x. IsFault self.old.extended (ledger_of self.old) x fault)) }
+        ensures taken { OnOk result (TakesLine line.now self.old self.new) }
+        ensures refused { IfErr result (IsLineFault self.old line.now) }
         ensures unchanged { OnErr result (Grows self.old self.new) }
     {
         match line {
@@ -128,9 +128,9 @@ impl<'a> PacChecker<'a> {
 
     /// Judges a closing line: that the line has the value of the specification. Then that vanishes on every evaluation.
     pub fn close(&mut self, id: u64) -> Result<(), CloseFault>
-        ensures closes { OnOk result (Closes self.old.extended self.old.order (ledger_of self.old).live id) }
-        ensures vanishes { OnOk result (Always self.old.extended.gates (λ σ. specification self.old.extended self.old.order σ ≡ 0)) }
-        ensures refused { IfErr result (IsCloseFault self.old.extended self.old.order (ledger_of self.old) id) }
+        ensures closes { OnOk result (IsClosedBy self.old id) }
+        ensures vanishes { OnOk result (SpecificationVanishes self.old) }
+        ensures refused { IfErr result (IsClosingFault self.old id) }
         ensures unchanged { Grows self.old self.new }
     {
         let wanted = self.specification()?;
@@ -154,9 +154,9 @@ impl<'a> PacChecker<'a> {
     fn compare(&self, id: u64, wanted: &Poly) -> Result<(), CloseFault>
         requires wanted { IsOf self.now.table wanted.now }
         requires value { IsSpecification self.now.table wanted.now self.now.extended self.now.order }
-        ensures closes { OnOk result (Closes self.now.extended self.now.order (ledger_of self.now).live id) }
-        ensures vanishes { OnOk result (Always self.now.extended.gates (λ σ. specification self.now.extended self.now.order σ ≡ 0)) }
-        ensures refused { IfErr result (IsCloseFault self.now.extended self.now.order (ledger_of self.now) id) }
+        ensures closes { OnOk result (IsClosedBy self.now id) }
+        ensures vanishes { OnOk result (SpecificationVanishes self.now) }
+        ensures refused { IfErr result (IsClosingFault self.now id) }
     {
         match self.live.get(id) {
             None => Err(CloseFault::NoSuchLine(id)),
@@ -172,13 +172,11 @@ impl<'a> PacChecker<'a> {
 
     fn sum(&mut self, id: u64, i: u64, j: u64, poly: &Poly) -> Result<(), LineFault>
         requires { IsOf self.old.table poly.now }
-        ensures taken { OnOk result (Takes (Sum id i j (monomials_in self.old.table poly.now)) self.old self.new) }
-        ensures refused { IfErr result (IsFault self.old.extended (ledger_of self.old) (Sum id i j (monomials_in self.old.table poly.now))) }
+        ensures taken { OnOk result (Takes (sum_line self.old.table id i j poly.now) self.old self.new) }
+        ensures refused { IfErr result (IsRefused self.old (sum_line self.old.table id i j poly.now)) }
         ensures unchanged { OnErr result (Grows self.old self.new) }
     {
-        if id <= self.last {
-            return Err(LineFault::Id);
-        }
+        judge_id(self.last, id)?;
         let named = add_two(&mut self.live, i, j)?;
         self.state(id, named, poly)
     }
@@ -186,13 +184,11 @@ impl<'a> PacChecker<'a> {
     fn product(&mut self, id: u64, i: u64, factor: &Poly, poly: &Poly) -> Result<(), LineFault>
         requires factor_of_table { IsOf self.old.table factor.now }
         requires of_table { IsOf self.old.table poly.now }
-        ensures taken { OnOk result (Takes (Product id i (monomials_in self.old.table factor.now) (monomials_in self.old.table poly.now)) self.old self.new) }
-        ensures refused { IfErr result (IsFault self.old.extended (ledger_of self.old) (Product id i (monomials_in self.old.table factor.now) (monomials_in self.old.table poly.now))) }
+        ensures taken { OnOk result (Takes (product_line self.old.table id i factor.now poly.now) self.old self.new) }
+        ensures refused { IfErr result (IsRefused self.old (product_line self.old.table id i factor.now poly.now)) }
         ensures unchanged { OnErr result (Grows self.old self.new) }
     {
-        if id <= self.last {
-            return Err(LineFault::Id);
-        }
+        judge_id(self.last, id)?;
         let named = multiply(&mut self.live, i, factor)?;
         self.state(id, named, poly)
     }
@@ -200,20 +196,18 @@ impl<'a> PacChecker<'a> {
     fn combination(&mut self, id: u64, parts: &[(u64, Poly)], poly: &Poly) -> Result<(), LineFault>
         requires parts_of_table { All (λ part. IsOf self.old.table part.1) parts.now }
         requires of_table { IsOf self.old.table poly.now }
-        ensures taken { OnOk result (Takes (Combination id (map (told_part self.old.table) parts.now) (monomials_in self.old.table poly.now)) self.old self.new) }
-        ensures refused { IfErr result (IsFault self.old.extended (ledger_of self.old) (Combination id (map (told_part self.old.table) parts.now) (monomials_in self.old.table poly.now))) }
+        ensures taken { OnOk result (Takes (combination_line self.old.table id parts.now poly.now) self.old self.new) }
+        ensures refused { IfErr result (IsRefused self.old (combination_line self.old.table id parts.now poly.now)) }
         ensures unchanged { OnErr result (Grows self.old self.new) }
     {
-        if id <= self.last {
-            return Err(LineFault::Id);
-        }
+        judge_id(self.last, id)?;
         let named = combine(self.alloc, &mut self.live, parts)?;
         self.state(id, named, poly)
     }
 
     fn delete(&mut self, id: u64) -> Result<(), LineFault>
         ensures taken { OnOk result (Takes (Delete id) self.old self.new) }
-        ensures refused { IfErr result (IsFault self.old.extended (ledger_of self.old) (Delete id)) }
+        ensures refused { IfErr result (IsRefused self.old (Delete id)) }
         ensures unchanged { OnErr result (Grows self.old self.new) }
     {
         match self.live.remove(id) {
@@ -244,4 +238,15 @@ impl<'a> PacChecker<'a> {
             Err(_) => Err(LineFault::Memory),
         }
     }
+}
+
+/// A new id is above the last one.
+fn judge_id(last: u64, id: u64) -> Result<(), LineFault>
+    ensures new { OnOk result (last < id) }
+    ensures used { IfErr result (λ fault. (fault ≡ LineFault.Id) × (id ≤ last)) }
+{
+    if id <= last {
+        return Err(LineFault::Id);
+    }
+    Ok(())
 }

@@ -1,12 +1,9 @@
 #![tactic(auto, using(crate::proofs::Growth::keeps_lines, crate::proofs::Growth::keeps_on))]
 
-ghost use Rattle.std.specs.Prelude.{◌≡◌, ◌+◌, ◌*◌, ◌∷◌, [], IfOk, IfErr, sum_by, map};
+ghost use Rattle.std.specs.Prelude.{◌≡◌, ◌∷◌, [], IfOk, IfErr};
 ghost use Rattle.std.specs.List.{All};
-ghost use Rattle.graph_core.specs.Algebra.{value_of, combined};
-ghost use Rattle.poly_terms.specs.Tables.{IsOf, modulus, value_in};
-ghost use Rattle.poly_text.specs.Lines.{told_part};
-ghost use Rattle.pac_checker.specs.Checking.{lines_in};
-ghost use Rattle.pac_checker.specs.Rules.{Vanishes, KeepsLines, HasValue, IsNamed, IsNamingFault, AreProducts, ids_of};
+ghost use Rattle.poly_terms.specs.Tables.{IsOf};
+ghost use Rattle.pac_checker.specs.Rules.{Vanishes, KeepsLines, IsValued, IsNamed, IsNamingFault, AreProducts, ids_of, added_value, product_value, two_value, total_value, combined_value};
 
 use crate::LineFault;
 use crate::works::{Add, AddAll, Multiply};
@@ -18,7 +15,7 @@ use std::alloc::Global;
 fn add_all(live: &mut Live<'_, Poly>, parts: &[Poly]) -> Result<Poly, LineFault>
     requires { All (Vanishes live.old.gates live.old.table) parts.now }
     ensures keeps { KeepsLines live.old live.new }
-    ensures total { IfOk result (HasValue live.new.gates live.new.table (modulus live.old.table) (λ σ. sum_by (λ p. value_in live.old.table p σ) parts.now)) }
+    ensures total { IfOk result (IsValued live.old live.new (total_value live.old parts.now)) }
     ensures memory { IfErr result (λ fault. fault ≡ LineFault.Memory) }
 {
     match live.grow(&mut AddAll { parts }, &mut ()) {
@@ -31,7 +28,7 @@ fn add_all(live: &mut Live<'_, Poly>, parts: &[Poly]) -> Result<Poly, LineFault>
 fn add(live: &mut Live<'_, Poly>, sum: &Poly, id: u64) -> Result<Poly, LineFault>
     requires { Vanishes live.old.gates live.old.table sum.now }
     ensures keeps { KeepsLines live.old live.new }
-    ensures sum { IfOk result (IsNamed live.old live.new (id ∷ []) (λ σ. value_in live.old.table sum.now σ + value_of (lines_in live.old.table live.old.entries) id σ)) }
+    ensures sum { IfOk result (IsNamed live.old live.new (id ∷ []) (added_value live.old sum.now id)) }
     ensures missing { IfErr result (IsNamingFault live.old (id ∷ [])) }
 {
     match live.grow_from(id, &mut Add { sum }) {
@@ -45,7 +42,7 @@ fn add(live: &mut Live<'_, Poly>, sum: &Poly, id: u64) -> Result<Poly, LineFault
 pub(crate) fn multiply(live: &mut Live<'_, Poly>, id: u64, factor: &Poly) -> Result<Poly, LineFault>
     requires { IsOf live.old.table factor.now }
     ensures keeps { KeepsLines live.old live.new }
-    ensures product { IfOk result (IsNamed live.old live.new (id ∷ []) (λ σ. value_of (lines_in live.old.table live.old.entries) id σ * value_in live.old.table factor.now σ)) }
+    ensures product { IfOk result (IsNamed live.old live.new (id ∷ []) (product_value live.old id factor.now)) }
     ensures missing { IfErr result (IsNamingFault live.old (id ∷ [])) }
 {
     match live.grow_from(id, &mut Multiply { factor }) {
@@ -82,7 +79,7 @@ pub(crate) fn combine(
 ) -> Result<Poly, LineFault>
     requires { All (λ part. IsOf live.old.table part.1) parts.now }
     ensures keeps { KeepsLines live.old live.new }
-    ensures sum { IfOk result (IsNamed live.old live.new (ids_of live.old.table parts.now) (combined (modulus live.old.table) (lines_in live.old.table live.old.entries) (map (told_part live.old.table) parts.now))) }
+    ensures sum { IfOk result (IsNamed live.old live.new (ids_of live.old.table parts.now) (combined_value live.old parts.now)) }
     ensures missing { IfErr result (IsNamingFault live.old (ids_of live.old.table parts.now)) }
 {
     let made = products(alloc, live, parts)?;
@@ -92,7 +89,7 @@ pub(crate) fn combine(
 /// The sum of two live polynomials.
 pub(crate) fn add_two(live: &mut Live<'_, Poly>, i: u64, j: u64) -> Result<Poly, LineFault>
     ensures keeps { KeepsLines live.old live.new }
-    ensures sum { IfOk result (IsNamed live.old live.new (i ∷ j ∷ []) (λ σ. value_of (lines_in live.old.table live.old.entries) i σ + value_of (lines_in live.old.table live.old.entries) j σ)) }
+    ensures sum { IfOk result (IsNamed live.old live.new (i ∷ j ∷ []) (two_value live.old i j)) }
     ensures missing { IfErr result (IsNamingFault live.old (i ∷ j ∷ [])) }
 {
     let zero = add_all(live, &[])?;

@@ -9,3 +9,5 @@ pub mod WholeLines
 pub mod Ahead
 pub mod LineLengths
 pub mod FileSteps
+pub mod LikeLines
+pub mod CallerLemmas

@@ -6,7 +6,7 @@ use Rattle.std.specs.Global.{Global}
 use Rattle.std.specs.declared.vec.Vec.{Vec}
 use Rattle.std.specs.List.{All}
 use Rattle.std.specs.Option.{IsSome, IfSome, is_some}
-use Rattle.std.proofs.Common.{refl, sym, ap, subst, lit<, ◌∙◌, arith, append_assoc, length-append}
+use Rattle.std.proofs.Common.{refl, sym, ap, subst, lit<, ◌∙◌, arith, append_assoc}
 use Rattle.std.proofs.lemmas.Bool.{false≢true}
 use Rattle.std.proofs.lemmas.List.{append-nil}
 use Rattle.std.proofs.lemmas.List.Elements.{All-nil, All-cons, All-head, All-tail}
@@ -15,13 +15,13 @@ use Rattle.graph_core.specs.Assignment.{Assignment}
 use Rattle.graph_core.specs.Polynomial.{product, term_value}
 use Rattle.graph_core.proofs.Congruence.{product_same, difference_is}
 use Rattle.graph_core.specs.Numerals.{◌>>=◌, number_at, front_at}
-use Rattle.graph_core.specs.TextReaders.{behind_at, put_before, BehindText}
+use Rattle.graph_core.specs.TextReaders.{behind_at, put_before}
 use Rattle.graph_core.specs.AlgebraReading.{is_star, factors_at, coefficient_at, product_at}
 use Rattle.graph_core.proofs.TextReaders.{reads_number, reads_behind}
 use Rattle.graph_core.proofs.AlgebraReading.{factors_next}
 use Rattle.poly_text.specs.Steps.{begins, Gives, Takes, Pushes}
 use Rattle.poly_text.specs.Values.{IsVariable, IsTermInRange, IsTermOf, Signs}
-use Rattle.poly_text.proofs.Gathering.{Gathers, gathers_none, gathers_more, pushes_give, many_stops}
+use Rattle.poly_text.proofs.Gathering.{Gathers, gathers_none, gathers_more, pushes_give}
 use Rattle.poly_text.proofs.Lengths.{LeavesFewer, leaves_fewer}
 
 -- ---- variables behind stars

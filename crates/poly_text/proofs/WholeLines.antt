@@ -1,5 +1,5 @@
 -- What a whole text says, and why it says nothing.
-use Rattle.std.specs.Prelude.{◌≡◌, ◌≢◌, ◌==◌, ◌⊎◌, ℕ, true, false, cond, List, [], ◌∷◌, ◌++◌, codes}
+use Rattle.std.specs.Prelude.{◌≡◌, ◌≢◌, ◌==◌, ℕ, true, false, List, [], ◌∷◌, codes}
 use Rattle.std.specs.declared.option.Option.{Option}
 use Rattle.std.specs.declared.option.Option.TheVariants.{None, Some}
 use Rattle.std.specs.declared.result.Result.{Result}
@@ -9,7 +9,7 @@ use Rattle.std.proofs.Common.{refl, sym, ap, subst, ◌∙◌, inl, inr, ⊎_eli
 use Rattle.std.proofs.lemmas.Option.{same_Some}
 use Rattle.std.proofs.lemmas.List.{append-nil}
 use Rattle.graph_core.specs.Numerals.{◌>>=◌, number_at}
-use Rattle.graph_core.specs.TextReaders.{Reader, ended_at}
+use Rattle.graph_core.specs.TextReaders.{ended_at}
 use Rattle.graph_core.specs.Algebra.{Line}
 use Rattle.graph_core.specs.AlgebraText.{IsLineText, IsCloseText, IsLineInRange, IsId}
 use Rattle.graph_core.specs.AlgebraReading.{algebra_line_at, close_at}
@@ -20,8 +20,9 @@ use Rattle.mv_desk.specs.declared.faults.LineFail.TheVariants as fail
 use Rattle.poly_text.specs.declared.line.PacLine.{PacLine}
 use Rattle.poly_text.specs.declared.line.PacLine.TheVariants as line
 use Rattle.poly_text.specs.Steps.{begins, Takes, IsMisfit}
-use Rattle.poly_text.specs.LineTexts.{IsLineOf, IsTextOf, IsNoLine, IsOutOfRange, IsRefusedLineText, TakesAny}
-use Rattle.poly_text.specs.LineTexts as texts
+use Rattle.poly_text.specs.LineTexts.{IsLineOf, IsTextOf, IsNoLine, IsOutOfRange, IsRefusedLineText}
+use Rattle.poly_text.specs.Forms.{TakesAny}
+use Rattle.poly_text.specs.Forms as forms
 use Rattle.poly_text.proofs.Gathering.{misfit_from}
 
 -- ---- a line or a closing line
@@ -29,7 +30,7 @@ use Rattle.poly_text.proofs.Gathering.{misfit_from}
 pub no_line_at_q : (bytes : List ℕ) → begins (λ b. b == 113) bytes ≡ true → algebra_line_at bytes ≡ None
 unfolding algebra_line_at
 no_line_at_q [] h = absurd (cc)
-no_line_at_q (b ∷ bytes) h = ap (λ z. ended_at (number_at 15) (codes " ") (z ∷ bytes) >>= λ x. texts.behind_id_at x.0 x.1) (eqb-true b 113 h)
+no_line_at_q (b ∷ bytes) h = ap (λ z. ended_at (number_at 15) (codes " ") (z ∷ bytes) >>= λ x. forms.behind_id_at x.0 x.1) (eqb-true b 113 h)
 
 pub no_close_elsewhere : (bytes : List ℕ) → begins (λ b. b == 113) bytes ≡ false → close_at bytes ≡ None
 no_close_elsewhere [] h = refl

@@ -1,4 +1,4 @@
-ghost use Rattle.std.specs.Prelude.{◌≡◌, ◌≢◌, ◌≤◌, ◌↔◌, [], ◌∷◌, true, None, IsTrue, OnOk, OnErr, IfOk, option_to_list};
+ghost use Rattle.std.specs.Prelude.{◌≡◌, ◌≢◌, ◌<◌, ◌≤◌, ◌↔◌, [], ◌∷◌, length, true, None, IsTrue, OnOk, OnErr, IfOk, option_to_list};
 ghost use Rattle.std.specs.Io.KnownBytes.{Consumes, IsAtEnd, Keeps};
 ghost use Rattle.mv_desk.specs.Calls.{HasReadCause, ReadsOnly};
 ghost use Rattle.mv_desk.specs.View.{KeepsTelling};
@@ -47,7 +47,8 @@ impl ByteReader {
 
     fn take(&mut self) -> u8
         requires { self.old ≢ [] }
-        ensures { self.old ≡ result ∷ self.new }
+        ensures first { self.old ≡ result ∷ self.new }
+        ensures piece { length self.new < 4096 }
     {
         let byte = self.buffer[self.start];
         self.start += 1;
@@ -82,7 +83,9 @@ impl ByteReader {
     /// The next byte, or none at the end of the input.
     pub(crate) fn next<D: Desk>(&mut self, desk: &mut D, slot: Slot) -> Result<Option<u8>, Failed>
         requires { (D.seen desk.old).reads slot ≡ true }
-        ensures bytes { IfOk result (λ b. Consumes (known_from self.old ((D.seen desk.old).left slot)) (known_from self.new ((D.seen desk.new).left slot)) (option_to_list b)) }
+        ensures piece { length self.new < 4096 }
+        ensures bytes { IfOk result (λ b. Consumes (known_from self.old ((D.seen desk.old).left slot))
+            (known_from self.new ((D.seen desk.new).left slot)) (option_to_list b)) }
         ensures end { result ≡ Ok None → IsAtEnd (known_from self.new ((D.seen desk.new).left slot)) }
         ensures only { ReadsOnly slot (D.seen desk.old) (D.seen desk.new) }
         ensures cause { HasReadCause (D.seen desk.old) (D.seen desk.new) result }

@@ -1,4 +1,4 @@
-ghost use Rattle.std.specs.Prelude.{◌≡◌, ◌≤◌, ◌+◌, [], length, true, IfOk, IfErr, IfSome, IfNone, option_to_list};
+ghost use Rattle.std.specs.Prelude.{◌≡◌, ◌<◌, ◌≤◌, ◌+◌, [], length, true, IfOk, IfErr, IfSome, IfNone, option_to_list};
 ghost use Rattle.std.specs.Io.KnownBytes.{Consumes, IsAtEnd};
 ghost use Rattle.mv_desk.specs.Calls.{ReadsOnly};
 ghost use Rattle.mv_desk.specs.View.{KeepsTelling};
@@ -9,10 +9,12 @@ use mv_desk::{Desk, Failed, Limits, LineFail, Slot};
 use std::alloc::Global;
 use std::marker::Model;
 
-/// Reads the lines of a certificate, and meets the lengths at their places. Contracts see the bytes of the piece in hand,
-/// how many bytes were taken before them, and the lengths.
+/// Reads the lines of a certificate from a slot of a desk, and meets the lengths at their places.
+///
+/// It asks for 4,096 bytes at a time. Contracts see the bytes of the piece in hand, of which there are
+/// fewer, how many bytes were taken before them, and the lengths that are allowed.
 #[derive(Drop)]
-pub(crate) struct LineReader {
+pub struct LineReader {
     bytes: ByteReader,
     taken: u64,
     file: u64,
@@ -20,18 +22,19 @@ pub(crate) struct LineReader {
 }
 
 impl Model for LineReader {
-    ghost use Rattle.std.specs.Prelude.{◌≤◌};
+    ghost use Rattle.std.specs.Prelude.{◌<◌, ◌≤◌, length};
     ghost use Rattle.poly_text.specs.LineReading.{Lines};
 
     ghost Value = { Lines };
 
     ghost view = { λ r. record { ahead = r.bytes; taken = r.taken; lengths = record { file = r.file; line = r.line } } };
 
-    ghost invariant = { λ r. r.taken ≤ r.file };
+    ghost invariant = { λ r. (r.taken ≤ r.file) × (length r.bytes < 4096) };
 }
 
 impl LineReader {
-    pub(crate) fn new(limits: &Limits) -> LineReader
+    /// A reader of a file of which nothing is taken yet.
+    pub fn new(limits: &Limits) -> LineReader
         ensures ahead { result.ahead ≡ [] }
         ensures taken { result.taken ≡ 0 }
         ensures lengths { result.lengths ≡ lengths_of limits.now }
@@ -54,11 +57,14 @@ impl LineReader {
     /// The next byte, or none at the end of the file.
     fn next_byte<D: Desk>(&mut self, desk: &mut D, slot: Slot) -> Result<Option<u8>, LineFail>
         requires { (D.seen desk.old).reads slot ≡ true }
-        ensures bytes { IfOk result (λ b. Consumes (known_from self.old.ahead ((D.seen desk.old).left slot)) (known_from self.new.ahead ((D.seen desk.new).left slot)) (option_to_list b)) }
+        ensures bytes { IfOk result (λ b. Consumes (known_from self.old.ahead ((D.seen desk.old).left slot))
+            (known_from self.new.ahead ((D.seen desk.new).left slot)) (option_to_list b)) }
         ensures taken { IfOk result (λ b. self.new.taken ≡ self.old.taken + length (option_to_list b)) }
         ensures within { self.new.taken ≤ self.new.lengths.file }
+        ensures piece { length self.new.ahead < 4096 }
         ensures end { IfOk result (λ b. IfNone b (IsAtEnd (known_from self.new.ahead ((D.seen desk.new).left slot)))) }
-        ensures fault { IfErr result (IsByteFault self.old (known_from self.old.ahead ((D.seen desk.old).left slot)) (D.seen desk.old).read_faults (D.seen desk.new).read_faults) }
+        ensures fault { IfErr result (IsByteFault self.old (known_from self.old.ahead ((D.seen desk.old).left slot))
+            (D.seen desk.old).read_faults (D.seen desk.new).read_faults) }
         ensures lengths { self.new.lengths ≡ self.old.lengths }
         ensures only { ReadsOnly slot (D.seen desk.old) (D.seen desk.new) }
         ensures tells { KeepsTelling (D.seen desk.old) (D.seen desk.new) }
@@ -76,18 +82,24 @@ impl LineReader {
 
     /// The next line without its line feed, or none at the end of the file.
     ///
-    /// `Text` comes exactly where the file ends behind some bytes of a line, and `TooLong` where the line is longer than a line
-    /// may be, or holds the first byte past the file's limit.
-    pub(crate) fn next_line<D: Desk>(
+    /// `Text` comes where the file ends behind some bytes of a line, and `TooLong` where the line is
+    /// longer than a line may be, or holds the first byte past the limit of the file.
+    pub fn next_line<D: Desk>(
         &mut self,
         alloc: Global,
         desk: &mut D,
         slot: Slot,
     ) -> Result<Option<Vec<u8>>, LineFail>
         requires { (D.seen desk.old).reads slot ≡ true }
-        ensures line { IfOk result (λ r. IfSome r (λ line. TakesLine self.old self.new (known_from self.old.ahead ((D.seen desk.old).left slot)) (known_from self.new.ahead ((D.seen desk.new).left slot)) line.items)) }
-        ensures end { IfOk result (λ r. IfNone r (IfSome (known_from self.old.ahead ((D.seen desk.old).left slot)) (λ left. (left ≡ []) × EndsIn self.old left))) }
-        ensures fault { IfErr result (IsLineFault self.old (known_from self.old.ahead ((D.seen desk.old).left slot)) (D.seen desk.old).read_faults (D.seen desk.new).read_faults) }
+        ensures line { IfOk result (λ r. IfSome r (λ line. TakesLine self.old self.new
+            (known_from self.old.ahead ((D.seen desk.old).left slot))
+            (known_from self.new.ahead ((D.seen desk.new).left slot)) line.items)) }
+        ensures end { IfOk result (λ r. IfNone r (IfSome (known_from self.old.ahead ((D.seen desk.old).left slot))
+            (λ left. (left ≡ []) × EndsIn self.old left))) }
+        ensures fault { IfErr result (IsLineFault self.old (known_from self.old.ahead ((D.seen desk.old).left slot))
+            (D.seen desk.old).read_faults (D.seen desk.new).read_faults) }
+        // Past what was taken, fewer bytes than a piece have been read.
+        ensures piece { length self.new.ahead < 4096 }
         ensures lengths { self.new.lengths ≡ self.old.lengths }
         ensures only { ReadsOnly slot (D.seen desk.old) (D.seen desk.new) }
         ensures tells { KeepsTelling (D.seen desk.old) (D.seen desk.new) }

@@ -1,7 +1,8 @@
 ghost use Rattle.std.specs.Prelude.{◌≡◌, ◌<◌, ◌≤◌, ◌^◌, ℕ, IfOk, IfErr, None};
 ghost use Rattle.graph_core.specs.Numerals.{number_at};
 ghost use Rattle.graph_core.specs.AlgebraText.{IsId};
-ghost use Rattle.poly_text.specs.Steps.{IsMisfit, Takes};
+ghost use Rattle.poly_text.specs.Steps.{IsMisfit, TakesNumber};
+ghost use Rattle.poly_text.specs.Values.{IsVariable};
 
 use crate::scanner::Scanner;
 use mv_desk::LineFail;
@@ -9,7 +10,7 @@ use mv_nums::read_decimal;
 
 /// A number of up to so many digits, or nothing where it is 2^128 or more.
 fn number(scanner: &mut Scanner<'_>, most: usize) -> Result<Option<u128>, LineFail>
-    ensures ok { IfOk result (Takes (number_at most) (λ n. n < 2 ^ 128) (λ n k. n ≡ k) scanner.old scanner.new) }
+    ensures ok { IfOk result (TakesNumber (number_at most) (λ n. n < 2 ^ 128) scanner.old scanner.new) }
     ensures err { IfErr result (IsMisfit (number_at most scanner.old ≡ None)) }
 {
     let digits = scanner.digits(most)?;
@@ -21,7 +22,7 @@ fn number(scanner: &mut Scanner<'_>, most: usize) -> Result<Option<u128>, LineFa
 
 /// A coefficient, or nothing where it is 2^128 or more.
 pub(crate) fn coefficient(scanner: &mut Scanner<'_>) -> Result<Option<u128>, LineFail>
-    ensures ok { IfOk result (Takes (number_at 39) (λ n. n < 2 ^ 128) (λ n k. n ≡ k) scanner.old scanner.new) }
+    ensures ok { IfOk result (TakesNumber (number_at 39) (λ n. n < 2 ^ 128) scanner.old scanner.new) }
     ensures err { IfErr result (IsMisfit (number_at 39 scanner.old ≡ None)) }
 {
     number(scanner, 39)
@@ -29,7 +30,7 @@ pub(crate) fn coefficient(scanner: &mut Scanner<'_>) -> Result<Option<u128>, Lin
 
 /// An id, or nothing where it is 0 or above 2^48 - 1.
 pub(crate) fn id(scanner: &mut Scanner<'_>) -> Result<Option<u64>, LineFail>
-    ensures ok { IfOk result (Takes (number_at 15) IsId (λ n k. n ≡ k) scanner.old scanner.new) }
+    ensures ok { IfOk result (TakesNumber (number_at 15) IsId scanner.old scanner.new) }
     ensures err { IfErr result (IsMisfit (number_at 15 scanner.old ≡ None)) }
 {
     match number(scanner, 15)? {
@@ -40,7 +41,7 @@ pub(crate) fn id(scanner: &mut Scanner<'_>) -> Result<Option<u64>, LineFail>
 
 /// A variable behind its x, or nothing where it is 0 or above the greatest one.
 pub(crate) fn variable(scanner: &mut Scanner<'_>, max: u32) -> Result<Option<u32>, LineFail>
-    ensures ok { IfOk result (Takes (number_at 10) (λ v. (0 < v) × (v ≤ max)) (λ v k. v ≡ k) scanner.old scanner.new) }
+    ensures ok { IfOk result (TakesNumber (number_at 10) (IsVariable max) scanner.old scanner.new) }
     ensures err { IfErr result (IsMisfit (number_at 10 scanner.old ≡ None)) }
 {
     match number(scanner, 10)? {

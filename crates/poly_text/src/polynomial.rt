@@ -5,7 +5,7 @@ ghost use Rattle.graph_core.specs.AlgebraReading.{is_sign, first_term_at, signed
 ghost use Rattle.graph_core.specs.AlgebraText.{IsInRange};
 ghost use Rattle.poly_terms.specs.Tables.{Extends, modulus};
 ghost use Rattle.poly_text.specs.Steps.{IsMisfit, Takes};
-ghost use Rattle.poly_text.specs.Values.{IsTermInRange, IsTermOf, AddTerms, AreTermsOf, IsPolyOf};
+ghost use Rattle.poly_text.specs.Values.{AreTermsOf, TakesPoly, TakesTerm, TakesTerms};
 
 use crate::pushed::pushed;
 use crate::scanner::Scanner;
@@ -16,7 +16,7 @@ use poly_terms::{Poly, Terms};
 impl TermReader {
     /// The first term, which has no plus.
     fn first_term(&self, scanner: &mut Scanner<'_>) -> Result<Option<(u128, Vec<u32>)>, LineFail>
-        ensures ok { IfOk result (Takes first_term_at (IsTermInRange self.now.max) (IsTermOf (2 ^ self.now.width)) scanner.old scanner.new) }
+        ensures ok { IfOk result (TakesTerm first_term_at self.now.max self.now.width scanner.old scanner.new) }
         ensures err { IfErr result (IsMisfit (first_term_at scanner.old ≡ None)) }
     {
         let negative = scanner.is_at(b'-');
@@ -28,7 +28,7 @@ impl TermReader {
 
     /// A term with its sign.
     fn later_term(&self, scanner: &mut Scanner<'_>) -> Result<Option<(u128, Vec<u32>)>, LineFail>
-        ensures ok { IfOk result (Takes signed_term_at (IsTermInRange self.now.max) (IsTermOf (2 ^ self.now.width)) scanner.old scanner.new) }
+        ensures ok { IfOk result (TakesTerm signed_term_at self.now.max self.now.width scanner.old scanner.new) }
         ensures err { IfErr result (IsMisfit (signed_term_at scanner.old ≡ None)) }
     {
         let negative = scanner.is_at(b'-');
@@ -42,7 +42,8 @@ impl TermReader {
         scanner: &mut Scanner<'_>,
         before: Option<Vec<(u128, Vec<u32>)>>,
     ) -> Result<Option<Vec<(u128, Vec<u32>)>>, LineFail>
-        ensures ok { IfOk result (Takes (many_at is_sign signed_term_at) (λ ts. IsSome before × All (IsTermInRange self.now.max) ts) (AddTerms (2 ^ self.now.width) before) scanner.old scanner.new) }
+        ensures ok { IfOk result (
+            TakesTerms (many_at is_sign signed_term_at) before self.now.max self.now.width scanner.old scanner.new) }
         ensures err { IfErr result (IsMisfit (many_at is_sign signed_term_at scanner.old ≡ None)) }
     {
         let mut terms = before;
@@ -58,7 +59,8 @@ impl TermReader {
         &self,
         scanner: &mut Scanner<'_>,
     ) -> Result<Option<Vec<(u128, Vec<u32>)>>, LineFail>
-        ensures ok { IfOk result (Takes poly_at (IsInRange self.now.max) (AreTermsOf (2 ^ self.now.width)) scanner.old scanner.new) }
+        ensures ok { IfOk result (
+            Takes poly_at (IsInRange self.now.max) (AreTermsOf (2 ^ self.now.width)) scanner.old scanner.new) }
         ensures err { IfErr result (IsMisfit (poly_at scanner.old ≡ None)) }
     {
         let first = self.first_term(scanner)?;
@@ -75,7 +77,7 @@ impl TermReader {
         terms: &mut Terms,
     ) -> Result<Option<Poly>, LineFail>
         requires { modulus terms.old ≡ 2 ^ self.now.width }
-        ensures ok { IfOk result (Takes poly_at (IsInRange self.now.max) (IsPolyOf terms.new) scanner.old scanner.new) }
+        ensures ok { IfOk result (TakesPoly poly_at self.now.max terms.new scanner.old scanner.new) }
         ensures err { IfErr result (IsMisfit (poly_at scanner.old ≡ None)) }
         ensures extends { Extends terms.old terms.new }
     {

@@ -1,11 +1,12 @@
 ghost use Rattle.std.specs.Prelude.{◌≡◌, ◌^◌, ◌+◌, ℕ, None, IfOk, IfErr};
 ghost use Rattle.graph_core.specs.AlgebraReading.{sum_at, multiple_at, combination_at, drop_at, algebra_line_at, close_at};
-ghost use Rattle.graph_core.specs.AlgebraText.{IsId, IsLineInRange};
+ghost use Rattle.graph_core.specs.AlgebraText.{IsId};
 ghost use Rattle.poly_terms.specs.Tables.{Table, Extends, modulus};
-ghost use Rattle.poly_text.specs.Steps.{IsMisfit, Takes, Gives};
-ghost use Rattle.poly_text.specs.LineTexts.{IsLineOf, IsTextOf, IsRefusedLineText, whole_sum, whole_product, whole_combination, behind_id_at, TakesAny};
+ghost use Rattle.poly_text.specs.Steps.{IsMisfit, Takes};
+ghost use Rattle.poly_text.specs.Forms.{behind_id_at, HasId, TakesAny, TakesForm, whole_combination, whole_product, whole_sum};
+ghost use Rattle.poly_text.specs.LineTexts.{IsTextOf, IsRefusedLineText};
 
-use crate::part_reader::ended_id;
+use crate::operands::ended_id;
 use crate::scanner::Scanner;
 use crate::terms::TermReader;
 use crate::{PacLine, Parts};
@@ -63,7 +64,8 @@ impl TermReader {
         id: Option<u64>,
     ) -> Result<Option<PacLine>, LineFail>
         requires { modulus terms.old ≡ 2 ^ self.now.width }
-        ensures ok { (n : ℕ) → Gives IsId (λ n k. n ≡ k) n id → IfOk result (Takes (sum_at n) (IsLineInRange self.now.max) (IsLineOf terms.new) scanner.old scanner.new) }
+        ensures ok { (n : ℕ) → HasId n id →
+            IfOk result (TakesForm (sum_at n) self.now.max terms.new scanner.old scanner.new) }
         ensures err { (n : ℕ) → IfErr result (IsMisfit (sum_at n scanner.old ≡ None)) }
         ensures extends { Extends terms.old terms.new }
     {
@@ -83,7 +85,8 @@ impl TermReader {
         id: Option<u64>,
     ) -> Result<Option<PacLine>, LineFail>
         requires { modulus terms.old ≡ 2 ^ self.now.width }
-        ensures ok { (n : ℕ) → Gives IsId (λ n k. n ≡ k) n id → IfOk result (Takes (multiple_at n) (IsLineInRange self.now.max) (IsLineOf terms.new) scanner.old scanner.new) }
+        ensures ok { (n : ℕ) → HasId n id →
+            IfOk result (TakesForm (multiple_at n) self.now.max terms.new scanner.old scanner.new) }
         ensures err { (n : ℕ) → IfErr result (IsMisfit (multiple_at n scanner.old ≡ None)) }
         ensures extends { Extends terms.old terms.new }
     {
@@ -103,7 +106,8 @@ impl TermReader {
         id: Option<u64>,
     ) -> Result<Option<PacLine>, LineFail>
         requires { modulus terms.old ≡ 2 ^ self.now.width }
-        ensures ok { (n : ℕ) → Gives IsId (λ n k. n ≡ k) n id → IfOk result (Takes (combination_at n) (IsLineInRange self.now.max) (IsLineOf terms.new) scanner.old scanner.new) }
+        ensures ok { (n : ℕ) → HasId n id →
+            IfOk result (TakesForm (combination_at n) self.now.max terms.new scanner.old scanner.new) }
         ensures err { (n : ℕ) → IfErr result (IsMisfit (combination_at n scanner.old ≡ None)) }
         ensures extends { Extends terms.old terms.new }
     {
@@ -122,7 +126,8 @@ impl TermReader {
         id: Option<u64>,
     ) -> Result<Option<PacLine>, LineFail>
         requires { modulus terms.old ≡ 2 ^ self.now.width }
-        ensures ok { (n : ℕ) → Gives IsId (λ n k. n ≡ k) n id → IfOk result (Takes (behind_id_at n) (IsLineInRange self.now.max) (IsLineOf terms.new) scanner.old scanner.new) }
+        ensures ok { (n : ℕ) → HasId n id →
+            IfOk result (TakesForm (behind_id_at n) self.now.max terms.new scanner.old scanner.new) }
         ensures err { (n : ℕ) → IfErr result (IsMisfit (behind_id_at n scanner.old ≡ None)) }
         ensures extends { Extends terms.old terms.new }
     {
@@ -146,7 +151,7 @@ impl TermReader {
         terms: &mut Terms,
     ) -> Result<Option<PacLine>, LineFail>
         requires { modulus terms.old ≡ 2 ^ self.now.width }
-        ensures ok { IfOk result (Takes algebra_line_at (IsLineInRange self.now.max) (IsLineOf terms.new) scanner.old scanner.new) }
+        ensures ok { IfOk result (TakesForm algebra_line_at self.now.max terms.new scanner.old scanner.new) }
         ensures err { IfErr result (IsMisfit (algebra_line_at scanner.old ≡ None)) }
         ensures extends { Extends terms.old terms.new }
     {
@@ -158,7 +163,8 @@ impl TermReader {
 
 /// What stands behind the id of a line that is removed.
 fn drop_line(scanner: &mut Scanner<'_>, id: Option<u64>) -> Result<Option<PacLine>, LineFail>
-    ensures ok { (n : ℕ) → Gives IsId (λ n k. n ≡ k) n id → (t : Table) (max : ℕ) → IfOk result (Takes (drop_at n) (IsLineInRange max) (IsLineOf t) scanner.old scanner.new) }
+    ensures ok { (n : ℕ) → HasId n id → (t : Table) (max : ℕ) →
+        IfOk result (TakesForm (drop_at n) max t scanner.old scanner.new) }
     ensures err { (n : ℕ) → IfErr result (IsMisfit (drop_at n scanner.old ≡ None)) }
 {
     scanner.text(b"d;")?;
@@ -202,8 +208,9 @@ impl TermReader {
 
 /// The line that a text says, without its line feed. Its polynomials are ones of the table.
 ///
-/// `Text` comes exactly where no line and no closing line has this text, and `Range` exactly where one has, but with
-/// an id that is 0 or above 2^48 - 1, a coefficient of 2^128 or more, or a variable that is 0 or above `max`.
+/// `Text` comes exactly where no line and no closing line has this text, and `Range` exactly where
+/// one has, but with an id that is 0 or above 2^48 - 1, a coefficient of 2^128 or more, or a variable
+/// that is 0 or above `max`. Time and memory are linear in the text.
 #[tactic(auto, using(poly_terms::specs::Laws::extends_itself))]
 pub fn read_line(
     alloc: Global,

@@ -3,8 +3,8 @@ ghost use Rattle.std.specs.List.{All};
 ghost use Rattle.graph_core.specs.Numerals.{number_at};
 ghost use Rattle.graph_core.specs.TextReaders.{behind_at};
 ghost use Rattle.graph_core.specs.AlgebraReading.{factors_at, coefficient_at, product_at, term_at};
-ghost use Rattle.poly_text.specs.Steps.{IsMisfit, Takes};
-ghost use Rattle.poly_text.specs.Values.{IsVariable, IsTermInRange, IsTermOf, Signs};
+ghost use Rattle.poly_text.specs.Steps.{IsMisfit, TakesNumber};
+ghost use Rattle.poly_text.specs.Values.{IsVariable, Signs, TakesFactors, TakesTerm};
 
 use crate::numbers::{coefficient, variable};
 use crate::pushed::pushed;
@@ -27,7 +27,7 @@ impl TermReader {
 
     /// A variable behind a star.
     fn factor(&self, scanner: &mut Scanner<'_>) -> Result<Option<u32>, LineFail>
-        ensures ok { IfOk result (Takes (behind_at (codes "*x") (number_at 10)) (IsVariable self.now.max) (λ v k. v ≡ k) scanner.old scanner.new) }
+        ensures ok { IfOk result (TakesNumber (behind_at (codes "*x") (number_at 10)) (IsVariable self.now.max) scanner.old scanner.new) }
         ensures err { IfErr result (IsMisfit (behind_at (codes "*x") (number_at 10) scanner.old ≡ None)) }
     {
         scanner.text(b"*x")?;
@@ -40,7 +40,7 @@ impl TermReader {
         scanner: &mut Scanner<'_>,
         before: Option<Vec<u32>>,
     ) -> Result<Option<Vec<u32>>, LineFail>
-        ensures ok { IfOk result (Takes factors_at (λ vs. IsSome before × All (IsVariable self.now.max) vs) (λ vs all. IfSome before (λ b. all.items ≡ b.items ++ vs)) scanner.old scanner.new) }
+        ensures ok { IfOk result (TakesFactors before self.now.max scanner.old scanner.new) }
         ensures err { IfErr result (IsMisfit (factors_at scanner.old ≡ None)) }
     {
         let mut variables = before;
@@ -83,7 +83,7 @@ impl TermReader {
         scanner: &mut Scanner<'_>,
         negative: bool,
     ) -> Result<Option<(u128, Vec<u32>)>, LineFail>
-        ensures ok { IfOk result (Takes (coefficient_at negative) (IsTermInRange self.now.max) (IsTermOf (2 ^ self.now.width)) scanner.old scanner.new) }
+        ensures ok { IfOk result (TakesTerm (coefficient_at negative) self.now.max self.now.width scanner.old scanner.new) }
         ensures err { IfErr result (IsMisfit (coefficient_at negative scanner.old ≡ None)) }
     {
         let coefficient = coefficient(scanner)?;
@@ -97,7 +97,7 @@ impl TermReader {
         scanner: &mut Scanner<'_>,
         negative: bool,
     ) -> Result<Option<(u128, Vec<u32>)>, LineFail>
-        ensures ok { IfOk result (Takes (product_at negative) (IsTermInRange self.now.max) (IsTermOf (2 ^ self.now.width)) scanner.old scanner.new) }
+        ensures ok { IfOk result (TakesTerm (product_at negative) self.now.max self.now.width scanner.old scanner.new) }
         ensures err { IfErr result (IsMisfit (product_at negative scanner.old ≡ None)) }
     {
         scanner.text(b"x")?;
@@ -113,7 +113,7 @@ impl TermReader {
         scanner: &mut Scanner<'_>,
         negative: bool,
     ) -> Result<Option<(u128, Vec<u32>)>, LineFail>
-        ensures ok { IfOk result (Takes (term_at negative) (IsTermInRange self.now.max) (IsTermOf (2 ^ self.now.width)) scanner.old scanner.new) }
+        ensures ok { IfOk result (TakesTerm (term_at negative) self.now.max self.now.width scanner.old scanner.new) }
         ensures err { IfErr result (IsMisfit (term_at negative scanner.old ≡ None)) }
     {
         if scanner.is_at_digit() {

@@ -1,7 +1,21 @@
-use crate::{PacLine, read_line};
-use mv_desk::LineFail;
+use crate::{AlgebraFile, PacLine, read_line};
+use mv_desk::{Desk, Limits, LineFail, MemoryDesk, Slot};
 use poly_terms::Terms;
+use std::alloc::{AllocError, Global};
 use std::test::Fail;
+
+/// The certificate of the one-bit multiplier, 35 bytes, whose longest line has 23.
+const ONE_BIT: &str = "pac 1\n6 % 3 * (-1), x3-x1*x2;\nq 6;\n";
+
+fn cause(fail: LineFail) -> &'static str {
+    match fail {
+        LineFail::Text => "text",
+        LineFail::Range => "range",
+        LineFail::Fault => "fault",
+        LineFail::TooLong => "too long",
+        LineFail::Memory => "memory",
+    }
+}
 
 fn form(line: &Result<PacLine, LineFail>) -> &'static str {
     match line {
@@ -10,11 +24,7 @@ fn form(line: &Result<PacLine, LineFail>) -> &'static str {
         Ok(PacLine::Combination { .. }) => "combination",
         Ok(PacLine::Drop { .. }) => "drop",
         Ok(PacLine::Close { .. }) => "close",
-        Err(LineFail::Text) => "text",
-        Err(LineFail::Range) => "range",
-        Err(LineFail::Fault) => "fault",
-        Err(LineFail::TooLong) => "too long",
-        Err(LineFail::Memory) => "memory",
+        Err(fail) => cause(*fail),
     }
 }
 
@@ -102,5 +112,114 @@ fn polynomials_have_their_values(rt: HostRuntime) -> Result<(), Fail> {
         return Ok(());
     }
     assert!(rt; false, "the line is a sum");
+    Ok(())
+}
+
+// A file of these bytes, read in these pieces, over a desk that fails at these calls.
+fn desk_of(
+    alloc: Global,
+    bytes: &str,
+    pieces: &[usize],
+    fails: &[u64],
+) -> Result<MemoryDesk, AllocError> {
+    let mut files = Vec::new(alloc);
+    let name = String::from_str(alloc, "algebra")?;
+    files.push((name, Vec::from_slice(alloc, bytes.as_bytes())?))?;
+    let pieces = Vec::from_slice(alloc, pieces)?;
+    let fails = Vec::from_slice(alloc, fails)?;
+    Ok(MemoryDesk::new(alloc, files, pieces, fails))
+}
+
+// The line at which reading ended, and how.
+fn ended<D: Desk>(alloc: Global, desk: &mut D, limits: &Limits) -> (u64, &'static str) {
+    let Ok(()) = desk.open_file(Slot::Algebra, "algebra") else {
+        return (0, "not opened");
+    };
+    let mut terms = Terms::new(alloc, 2);
+    let mut file = match AlgebraFile::start(alloc, desk, limits) {
+        Ok(file) => file,
+        Err(fail) => return (1, cause(fail)),
+    };
+    for line in 2..10 {
+        match file.next(desk, &mut terms, 3) {
+            Ok(PacLine::Close { .. }) => {
+                return match file.finish(desk) {
+                    Ok(()) => (line, "end"),
+                    Err(fail) => (line + 1, cause(fail)),
+                };
+            }
+            Ok(_) => {}
+            Err(fail) => {
+                let again = form(&file.next(desk, &mut terms, 3)) == cause(fail);
+                return (line, if again { cause(fail) } else { "another answer" });
+            }
+        }
+    }
+    (10, "more lines")
+}
+
+#[test]
+fn files_end_at_their_first_refusal(rt: HostRuntime) -> Result<(), Fail> {
+    let alloc = rt.alloc();
+    let all = Limits::STANDARD;
+    for (shows, bytes, file, line, ends) in [
+        (
+            "the whole certificate",
+            ONE_BIT,
+            all.certificate,
+            all.line,
+            (3, "end"),
+        ),
+        (
+            "a file and a line of the limits",
+            ONE_BIT,
+            35,
+            23,
+            (3, "end"),
+        ),
+        ("a line of one byte more", ONE_BIT, 35, 22, (2, "too long")),
+        ("a file of one byte more", ONE_BIT, 34, 23, (3, "too long")),
+        ("a header past the limit", ONE_BIT, 5, 23, (1, "too long")),
+        ("an empty file", "", 35, 23, (1, "text")),
+        ("another header", "pac 2\n", 35, 23, (1, "text")),
+        ("a header alone", "pac 1\n", 35, 23, (2, "text")),
+        ("a line that is cut", "pac 1\nq 6;", 35, 23, (2, "text")),
+        ("an empty line", "pac 1\n\nq 6;\n", 35, 23, (2, "text")),
+        ("a byte behind", "pac 1\nq 6;\nx", 35, 23, (3, "text")),
+        (
+            "a long line behind",
+            "pac 1\nq 6;\n0123456789",
+            35,
+            9,
+            (3, "too long"),
+        ),
+        (
+            "a variable that is too great",
+            "pac 1\n7 + 6, 3, x4;\n",
+            35,
+            23,
+            (2, "range"),
+        ),
+    ] {
+        let limits = Limits {
+            graph: 0,
+            certificate: file,
+            line,
+        };
+        let mut desk = desk_of(alloc, bytes, &[1, 5, 3], &[])?;
+        let end = ended(alloc, &mut desk, &limits);
+        assert!(rt; end.0 == ends.0 && end.1 == ends.1, "{shows}");
+    }
+    Ok(())
+}
+
+#[test]
+fn failed_reads_are_faults(rt: HostRuntime) -> Result<(), Fail> {
+    let alloc = rt.alloc();
+    for (call, ends) in [(2, (1, "fault")), (3, (2, "fault")), (4, (3, "fault"))] {
+        let mut desk = desk_of(alloc, ONE_BIT, &[6, 24, 4], &[call])?;
+        let end = ended(alloc, &mut desk, &Limits::STANDARD);
+        assert!(rt; end.0 == ends.0 && end.1 == ends.1);
+    }
     Ok(())
 }

@@ -19,7 +19,7 @@ returns-clause-taken c =
     let line : Line = Combination c.args.id (map (told_part live.table) c.args.parts.now) (monomials_in live.table c.args.poly.now) in
     let of : IsOf live.table c.args.poly.now = rw (← c.self.view_is) at c.requires.of_table in
     rw (← c.self.view_is)
-    (takes_stated c.state.result e s s.order live c.combine.new.live c.self.inside.last c.state.new.self line c.args.id c.in_ok-named.named c.args.poly.now c.self.invariant c.combine.ensures.keeps (omega arith) of refl refl
+    (takes_stated c.state.result e s s.order live c.combine.new.live c.self.inside.last c.state.new.self line c.args.id c.in_ok-named.named c.args.poly.now c.self.invariant c.combine.ensures.keeps c.in_ok-judge_id.ensures.new of refl refl
     c.in_ok-named.ensures.sum c.state.ensures.equal c.state.ensures.introduced)
 
 pub returns-clause-refused : goal.returns-clause-refused
@@ -30,5 +30,5 @@ returns-clause-refused c =
     let line : Line = Combination c.args.id (map (told_part live.table) c.args.parts.now) (monomials_in live.table c.args.poly.now) in
     let of : IsOf live.table c.args.poly.now = rw (← c.self.view_is) at c.requires.of_table in
     rw (← c.self.view_is)
-    (stating_faults c.state.result e s s.order live c.combine.new.live c.self.inside.last line c.in_ok-named.named c.args.poly.now c.self.invariant c.combine.ensures.keeps (omega arith) of refl
+    (stating_faults c.state.result e s s.order live c.combine.new.live c.self.inside.last line c.in_ok-named.named c.args.poly.now c.self.invariant c.combine.ensures.keeps c.in_ok-judge_id.ensures.new of refl
     c.in_ok-named.ensures.sum c.state.ensures.refused)

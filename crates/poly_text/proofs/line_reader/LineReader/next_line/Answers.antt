@@ -1,6 +1,4 @@
-use Rattle.std.proofs.Common.{◌≡◌, ◌∙◌, ◌++◌, ◌∷◌, ◌+◌, ◌≤◌, [], ap, sym, subst, arith, rules, length}
-use Rattle.std.proofs.KnownBytes.{Consumes-trans}
-use Rattle.std.proofs.lemmas.Grind.{common_steps}
+use Rattle.std.proofs.Common.{◌≡◌, ◌∙◌, ◌++◌, ◌∷◌, ◌+◌, [], ap, sym, subst, arith, rules, length}
 use Rattle.std.specs.Io.KnownBytes.{Consumes}
 use Rattle.std.specs.Option.{option_to_list}
 use Rattle.mv_desk.proofs.CallerLemmas.{ReadsOnly-trans, KeepsTelling-trans}

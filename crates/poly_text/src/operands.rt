@@ -5,8 +5,8 @@ ghost use Rattle.graph_core.specs.TextReaders.{many_at, behind_at, ended_at};
 ghost use Rattle.graph_core.specs.AlgebraReading.{is_space, part_at, parts_at, poly_at};
 ghost use Rattle.graph_core.specs.AlgebraText.{IsId, IsInRange};
 ghost use Rattle.poly_terms.specs.Tables.{Extends, modulus};
-ghost use Rattle.poly_text.specs.Steps.{IsMisfit, Takes};
-ghost use Rattle.poly_text.specs.Values.{IsPolyOf, IsPartInRange, IsPartOf, AddParts, ArePartsOf, AreAllParts};
+ghost use Rattle.poly_text.specs.Steps.{IsMisfit, TakesNumber};
+ghost use Rattle.poly_text.specs.Values.{TakesAllParts, TakesPart, TakesParts, TakesPoly};
 
 use crate::numbers::id;
 use crate::pushed::pushed;
@@ -17,7 +17,7 @@ use poly_terms::{Poly, Terms};
 
 /// An id and a text behind it.
 pub(crate) fn ended_id(scanner: &mut Scanner<'_>, end: &[u8]) -> Result<Option<u64>, LineFail>
-    ensures ok { IfOk result (Takes (ended_at (number_at 15) end.now) IsId (λ n k. n ≡ k) scanner.old scanner.new) }
+    ensures ok { IfOk result (TakesNumber (ended_at (number_at 15) end.now) IsId scanner.old scanner.new) }
     ensures err { IfErr result (IsMisfit (ended_at (number_at 15) end.now scanner.old ≡ None)) }
 {
     let id = id(scanner)?;
@@ -34,7 +34,7 @@ impl TermReader {
         end: &[u8],
     ) -> Result<Option<Poly>, LineFail>
         requires { modulus terms.old ≡ 2 ^ self.now.width }
-        ensures ok { IfOk result (Takes (ended_at poly_at end.now) (IsInRange self.now.max) (IsPolyOf terms.new) scanner.old scanner.new) }
+        ensures ok { IfOk result (TakesPoly (ended_at poly_at end.now) self.now.max terms.new scanner.old scanner.new) }
         ensures err { IfErr result (IsMisfit (ended_at poly_at end.now scanner.old ≡ None)) }
         ensures extends { Extends terms.old terms.new }
     {
@@ -51,7 +51,7 @@ impl TermReader {
         terms: &mut Terms,
     ) -> Result<Option<(u64, Poly)>, LineFail>
         requires { modulus terms.old ≡ 2 ^ self.now.width }
-        ensures ok { IfOk result (Takes part_at (IsPartInRange self.now.max) (IsPartOf terms.new) scanner.old scanner.new) }
+        ensures ok { IfOk result (TakesPart part_at self.now.max terms.new scanner.old scanner.new) }
         ensures err { IfErr result (IsMisfit (part_at scanner.old ≡ None)) }
         ensures extends { Extends terms.old terms.new }
     {
@@ -69,7 +69,9 @@ impl TermReader {
         before: Option<Vec<(u64, Poly)>>,
     ) -> Result<Option<Vec<(u64, Poly)>>, LineFail>
         requires { modulus terms.old ≡ 2 ^ self.now.width }
-        ensures ok { IfOk result (Takes (many_at is_space (behind_at (codes " + ") part_at)) (λ ps. IsSome before × All (IsPartInRange self.now.max) ps) (AddParts terms.new before) scanner.old scanner.new) }
+        ensures ok { IfOk result (
+            let later = many_at is_space (behind_at (codes " + ") part_at) in
+            TakesParts later before self.now.max terms.new scanner.old scanner.new) }
         ensures err { IfErr result (IsMisfit (many_at is_space (behind_at (codes " + ") part_at) scanner.old ≡ None)) }
         ensures extends { Extends terms.old terms.new }
     {
@@ -89,7 +91,7 @@ impl TermReader {
         terms: &mut Terms,
     ) -> Result<Option<(u64, Poly)>, LineFail>
         requires { modulus terms.old ≡ 2 ^ self.now.width }
-        ensures ok { IfOk result (Takes (behind_at (codes " + ") part_at) (IsPartInRange self.now.max) (IsPartOf terms.new) scanner.old scanner.new) }
+        ensures ok { IfOk result (TakesPart (behind_at (codes " + ") part_at) self.now.max terms.new scanner.old scanner.new) }
         ensures err { IfErr result (IsMisfit (behind_at (codes " + ") part_at scanner.old ≡ None)) }
         ensures extends { Extends terms.old terms.new }
     {
@@ -105,7 +107,7 @@ impl TermReader {
         terms: &mut Terms,
     ) -> Result<Option<Vec<(u64, Poly)>>, LineFail>
         requires { modulus terms.old ≡ 2 ^ self.now.width }
-        ensures ok { IfOk result (Takes parts_at (All (IsPartInRange self.now.max)) (AreAllParts terms.new) scanner.old scanner.new) }
+        ensures ok { IfOk result (TakesAllParts parts_at self.now.max terms.new scanner.old scanner.new) }
         ensures err { IfErr result (IsMisfit (parts_at scanner.old ≡ None)) }
         ensures extends { Extends terms.old terms.new }
     {
@@ -122,7 +124,7 @@ impl TermReader {
         terms: &mut Terms,
     ) -> Result<Option<Vec<(u64, Poly)>>, LineFail>
         requires { modulus terms.old ≡ 2 ^ self.now.width }
-        ensures ok { IfOk result (Takes (ended_at parts_at (codes ", ")) (All (IsPartInRange self.now.max)) (AreAllParts terms.new) scanner.old scanner.new) }
+        ensures ok { IfOk result (TakesAllParts (ended_at parts_at (codes ", ")) self.now.max terms.new scanner.old scanner.new) }
         ensures err { IfErr result (IsMisfit (ended_at parts_at (codes ", ") scanner.old ≡ None)) }
         ensures extends { Extends terms.old terms.new }
     {

@@ -1,0 +1,52 @@
+-- What a caller that judges a file line by line may cite: the next line in the words of the definitions of refusals.
+use Rattle.std.specs.Prelude.{◌≡◌, ◌+◌, ℕ, List, length}
+use Rattle.std.specs.declared.option.Option.TheVariants.{Some}
+use Rattle.std.proofs.Common.{refl, sym, subst, inl, inr, ⊎_elim}
+use Rattle.graph_core.specs.declared.order.Order.{Order}
+use Rattle.graph_core.specs.Algebra.{Line, Ledger}
+use Rattle.graph_core.specs.AlgebraText.{IsLineText, IsCloseText, IsLineInRange, IsId}
+use Rattle.graph_core.specs.AlgebraRefusal.{IsRefusedNext, IsRefusedText}
+use Rattle.graph_core.specs.AlgebraRefusal as cause
+use Rattle.graph_core.specs.Extended.{Extended}
+use Rattle.graph_core.specs.JudgedLines.{Lengths, BeginsWith, IsTooLong}
+use Rattle.poly_terms.specs.Tables.{Table}
+use Rattle.poly_text.specs.AlgebraFiles.{BeginsWithNone, BeginsOutOfRange}
+use Rattle.poly_text.specs.LineReading.{Lines, IsLongAhead}
+use Rattle.poly_text.specs.LineTexts.{IsLineOf, IsTextOf}
+use Rattle.poly_text.specs.Lines.{told}
+use Rattle.poly_text.specs.declared.line.PacLine.{PacLine}
+use Rattle.poly_text.specs.declared.line.PacLine.TheVariants as line
+
+-- ---- lengths: a reader over a file of so many bytes
+
+pub long_of : (lengths : Lengths) (total : ℕ) (lines : Lines) (left : List ℕ) → lines.lengths ≡ lengths → lines.taken + length left ≡ total → IsLongAhead lines left → IsTooLong lengths total left
+long_of lengths total lines left e f h = subst (λ k. IsTooLong k total left) e (subst (λ n. IsTooLong lines.lengths n left) f h)
+
+pub short_of : (lengths : Lengths) (total : ℕ) (lines : Lines) (left : List ℕ) → lines.lengths ≡ lengths → lines.taken + length left ≡ total → ¬ (IsLongAhead lines left) → ¬ (IsTooLong lengths total left)
+short_of lengths total lines left e f h = λ long. h (subst (λ n. IsTooLong lines.lengths n left) (sym f) (subst (λ k. IsTooLong k total left) (sym e) long))
+
+-- ---- refusals of the next line, over any ledger
+
+pub no_line_is_refused : (e : Extended) (order : Order) (IsLong : List ℕ → Type 0) (l : Ledger) (left : List ℕ) → ¬ (IsLong left) → BeginsWithNone left → IsRefusedNext e order IsLong l left (0, cause.Text)
+no_line_is_refused e order IsLong l left short none = inr (short, inl (none.0, none.1, refl))
+
+pub out_of_range_is_refused : (e : Extended) (order : Order) (IsLong : List ℕ → Type 0) (l : Ledger) (left : List ℕ) → ¬ (IsLong left) → BeginsOutOfRange e.max left → IsRefusedNext e order IsLong l left (0, cause.Range)
+out_of_range_is_refused e order IsLong l left short out =
+    inr (short, inr (⊎_elim (λ x. inl (x.0, x.1, x.2, (cause.Range, inl (x.3, refl), refl))) (λ q. inr (q.0, q.1, q.2, inl (cause.Range, inl (q.3, refl), refl))) out))
+
+pub long_is_refused : (e : Extended) (order : Order) (IsLong : List ℕ → Type 0) (l : Ledger) (left : List ℕ) → IsLong left → IsRefusedNext e order IsLong l left (0, cause.TooLong)
+long_is_refused e order IsLong l left long = inl (long, refl)
+
+-- ---- the next line
+
+-- a line that is no closing line
+pub line_there : (t : Table) (max : ℕ) (left rest : List ℕ) (given : PacLine) (y : Line) → told t given ≡ Some y → BeginsWith (IsTextOf t max) left given rest →
+    (x : Line) × BeginsWith IsLineText left x rest × IsLineInRange max x × IsLineOf t x given
+line_there t max left rest (line.Sum id i j poly) y e b = (b.1.0, (b.0, b.1.1, b.2), b.1.2, b.1.3)
+line_there t max left rest (line.Product id i factor poly) y e b = (b.1.0, (b.0, b.1.1, b.2), b.1.2, b.1.3)
+line_there t max left rest (line.Combination id parts poly) y e b = (b.1.0, (b.0, b.1.1, b.2), b.1.2, b.1.3)
+line_there t max left rest (line.Drop id) y e b = (b.1.0, (b.0, b.1.1, b.2), b.1.2, b.1.3)
+line_there t max left rest (line.Close id) y e b = absurd (cc)
+
+pub close_there : (t : Table) (max : ℕ) (left rest : List ℕ) (id : ℕ) → BeginsWith (IsTextOf t max) left (line.Close id) rest → BeginsWith IsCloseText left id rest × IsId id
+close_there t max left rest id b = ((b.0, b.1.0, b.2), b.1.1)
