@@ -1,14 +1,16 @@
 // The texts of reports.
 ghost use Rattle.std.specs.Prelude.{◌≡◌, ◌≤◌, ◌+◌, ◌++◌, length};
-ghost use Rattle.verdict_program.specs.Answer.{about_literal, at_line, letter_of, report_of_algebra, report_of_check, report_of_fault, report_of_graph, usage_text};
+ghost use Rattle.verdict_program.specs.Answer.{about_literal, at_line, letter_of, report_of_algebra, report_of_check, report_of_eval, report_of_fault, report_of_graph, report_of_make, usage_text, wants_memory};
 ghost use Rattle.aiger_reader.specs.declared.fail.ReadFail.TheVariants as fail;
 ghost use Rattle.graph_core.specs.declared.fault.GraphFault.TheVariants as fault;
-ghost use Rattle.verdict_program.specs.declared.checked.AlgebraWhy.TheVariants as why;
+ghost use Rattle.joint_checker.specs.declared.checked.AlgebraWhy.TheVariants as why;
 
-use crate::checked::{AlgebraWhy, Checked, ClauseWhy, Refusal};
+use crate::evaluated::Evaluated;
+use crate::made::Made;
 use crate::report::Report;
 use aiger_reader::ReadFail;
 use graph_core::{Field, GraphFault, Lit};
+use joint_checker::{AlgebraWhy, Checked, ClauseWhy, Refusal};
 use mv_desk::Slot;
 
 const USAGE: &str =
@@ -40,8 +42,39 @@ pub fn check_report(outcome: Checked) -> Report
         Checked::TooLong(Slot::Algebra) => Report::of("too long: algebra\n"),
         Checked::TooLong(_) => Report::new(),
         Checked::ReadFault => Report::of("read fault\n"),
-        Checked::Memory => Report::of("want of memory\n"),
+        Checked::Memory => want_of_memory(),
     }
+}
+
+/// The line that reports what `eval` says.
+pub fn eval_report(outcome: Evaluated) -> Report
+    ensures { result ≡ report_of_eval outcome }
+{
+    match outcome {
+        Evaluated::Value(value) => Report::numbered("value=", value, "\n"),
+        Evaluated::TooGreat => usage(),
+        Evaluated::Graph(why) => graph_report(why),
+        Evaluated::TooLong => Report::of("too long: graph\n"),
+        Evaluated::ReadFault => Report::of("read fault\n"),
+        Evaluated::Memory => want_of_memory(),
+    }
+}
+
+/// The line that reports what `make` says.
+pub fn make_report(outcome: Made) -> Report
+    ensures { result ≡ report_of_make outcome }
+{
+    match outcome {
+        Made::Written => Report::of("made\n"),
+        Made::WriteFault => Report::of("write fault\n"),
+        Made::Memory => want_of_memory(),
+    }
+}
+
+pub fn want_of_memory() -> Report
+    ensures { result ≡ wants_memory }
+{
+    Report::of("want of memory\n")
 }
 
 fn graph_report(why: ReadFail) -> Report

@@ -2,16 +2,16 @@
 ghost use Rattle.std.specs.Prelude.{IfOk};
 ghost use Rattle.mv_desk.specs.View.{HasReport};
 
-use crate::check::check;
-use crate::checked::Checked;
 use crate::program::run;
-use graph_core::Order;
-use mv_desk::{Desk, Limits, MemoryDesk, Names, Slot};
+use joint_checker::{Checked, check};
+use mv_desk::{Desk, MemoryDesk, Slot};
 use std::alloc::{AllocError, Global};
 use std::process::Abort;
 use std::test::Fail;
 
 const ONE_BIT_GRAPH: &str = "aag 3 2 0 2 1\n2\n4\n6\n0\n6 4 2\n";
+
+const ONE_BIT_BINARY: &[u8] = b"aig 3 2 0 2 1\n6\n0\n\x02\x02";
 
 const NO_CUT: &str = "joined 1\nnone\n";
 
@@ -29,7 +29,7 @@ const USAGE: &str =
 /// Files `g`, `c` and `a` of these texts, with cut reads and calls that fail.
 fn desk(
     alloc: Global,
-    graph: &str,
+    graph: &[u8],
     clauses: &str,
     algebra: &str,
     pieces: &[usize],
@@ -38,10 +38,14 @@ fn desk(
     ensures { IfOk result (λ desk. HasReport (⟦<MemoryDesk as Desk>⟧.seen desk)) }
 {
     let mut files = Vec::new(alloc);
-    for (name, text) in [("g", graph), ("c", clauses), ("a", algebra)] {
+    for (name, bytes) in [
+        ("g", graph),
+        ("c", clauses.as_bytes()),
+        ("a", algebra.as_bytes()),
+    ] {
         files.push((
             String::from_str(alloc, name)?,
-            Vec::from_slice(alloc, text.as_bytes())?,
+            Vec::from_slice(alloc, bytes)?,
         ))?;
     }
     Ok(MemoryDesk::new(
@@ -107,7 +111,7 @@ fn accepts_lawful_certificates(rt: HostRuntime) -> Result<(), Fail> {
             ONE_BIT_ALGEBRA,
         ),
     ] {
-        let mut desk = desk(alloc, graph, NO_CUT, algebra, &[], &[])?;
+        let mut desk = desk(alloc, graph.as_bytes(), NO_CUT, algebra, &[], &[])?;
         expect(&rt, alloc, &mut desk, &CHECK, 0, "accepted\n", shows)?;
     }
     Ok(())
@@ -153,7 +157,7 @@ fn refuses_a_line_of_the_algebra(rt: HostRuntime) -> Result<(), Fail> {
             "refused algebra line 3: not the specification\n",
         ),
     ] {
-        let mut desk = desk(alloc, ONE_BIT_GRAPH, NO_CUT, text, &[], &[])?;
+        let mut desk = desk(alloc, ONE_BIT_GRAPH.as_bytes(), NO_CUT, text, &[], &[])?;
         expect(&rt, alloc, &mut desk, &CHECK, 3, report, shows)?;
     }
     Ok(())
@@ -190,7 +194,7 @@ fn refuses_what_the_lines_before_rule_out(rt: HostRuntime) -> Result<(), Fail> {
         ),
         ("no header", "pac 2\n", "refused algebra line 1: text\n"),
     ] {
-        let mut desk = desk(alloc, ONE_BIT_GRAPH, NO_CUT, text, &[], &[])?;
+        let mut desk = desk(alloc, ONE_BIT_GRAPH.as_bytes(), NO_CUT, text, &[], &[])?;
         expect(&rt, alloc, &mut desk, &CHECK, 3, report, shows)?;
     }
     Ok(())
@@ -216,7 +220,14 @@ fn refuses_other_clause_files(rt: HostRuntime) -> Result<(), Fail> {
             "refused clauses line 3: text\n",
         ),
     ] {
-        let mut desk = desk(alloc, ONE_BIT_GRAPH, text, ONE_BIT_ALGEBRA, &[], &[])?;
+        let mut desk = desk(
+            alloc,
+            ONE_BIT_GRAPH.as_bytes(),
+            text,
+            ONE_BIT_ALGEBRA,
+            &[],
+            &[],
+        )?;
         expect(&rt, alloc, &mut desk, &CHECK, 3, report, shows)?;
     }
     Ok(())
@@ -243,7 +254,7 @@ fn refuses_texts_of_graphs(rt: HostRuntime) -> Result<(), Fail> {
             "graph refused: literal 4294967295 out of range\n",
         ),
     ] {
-        let mut desk = desk(alloc, text, NO_CUT, ONE_BIT_ALGEBRA, &[], &[])?;
+        let mut desk = desk(alloc, text.as_bytes(), NO_CUT, ONE_BIT_ALGEBRA, &[], &[])?;
         expect(&rt, alloc, &mut desk, &CHECK, 4, report, shows)?;
     }
     Ok(())
@@ -274,7 +285,7 @@ fn refuses_graphs_with_a_fault(rt: HostRuntime) -> Result<(), Fail> {
             "graph refused at byte 29: text\n",
         ),
     ] {
-        let mut desk = desk(alloc, text, NO_CUT, ONE_BIT_ALGEBRA, &[], &[])?;
+        let mut desk = desk(alloc, text.as_bytes(), NO_CUT, ONE_BIT_ALGEBRA, &[], &[])?;
         expect(&rt, alloc, &mut desk, &CHECK, 4, report, shows)?;
     }
     Ok(())
@@ -283,14 +294,23 @@ fn refuses_graphs_with_a_fault(rt: HostRuntime) -> Result<(), Fail> {
 #[test]
 fn tells_usage_and_opens_nothing(rt: HostRuntime) -> Result<(), Fail> {
     let alloc = rt.alloc();
-    let lists: [&[&str]; 4] = [
+    let lists: [&[&str]; 6] = [
         &["mulver", "check", "g"],
         &["mulver"],
         &["mulver", "prove", "g", "c", "a"],
-        &["mulver", "check", "g", "c", "a", "x"],
+        &["mulver", "check", "g", "c", "a", "--inputs", "x"],
+        &["mulver", "make", "array", "65", "ripple", "x"],
+        &["mulver", "eval", "g", "1", "x"],
     ];
     for words in lists {
-        let mut desk = desk(alloc, ONE_BIT_GRAPH, NO_CUT, ONE_BIT_ALGEBRA, &[], &[])?;
+        let mut desk = desk(
+            alloc,
+            ONE_BIT_GRAPH.as_bytes(),
+            NO_CUT,
+            ONE_BIT_ALGEBRA,
+            &[],
+            &[],
+        )?;
         expect(&rt, alloc, &mut desk, words, 2, USAGE, "no command")?;
         assert!(rt; desk.rest(Slot::Graph).is_empty());
     }
@@ -308,7 +328,7 @@ fn tells_faults_however_reads_are_cut(rt: HostRuntime) -> Result<(), Fail> {
     ] {
         let mut desk = desk(
             alloc,
-            ONE_BIT_GRAPH,
+            ONE_BIT_GRAPH.as_bytes(),
             NO_CUT,
             ONE_BIT_ALGEBRA,
             &[1, 2, 3],
@@ -324,7 +344,14 @@ fn tells_faults_however_reads_are_cut(rt: HostRuntime) -> Result<(), Fail> {
             "a call that fails",
         )?;
     }
-    let mut desk = desk(alloc, ONE_BIT_GRAPH, NO_CUT, ONE_BIT_ALGEBRA, &[], &[10])?;
+    let mut desk = desk(
+        alloc,
+        ONE_BIT_GRAPH.as_bytes(),
+        NO_CUT,
+        ONE_BIT_ALGEBRA,
+        &[],
+        &[10],
+    )?;
     expect(
         &rt,
         alloc,
@@ -339,7 +366,14 @@ fn tells_faults_however_reads_are_cut(rt: HostRuntime) -> Result<(), Fail> {
 #[test]
 fn a_missing_file_is_a_read_fault(rt: HostRuntime) -> Result<(), Fail> {
     let alloc = rt.alloc();
-    let mut desk = desk(alloc, ONE_BIT_GRAPH, NO_CUT, ONE_BIT_ALGEBRA, &[], &[])?;
+    let mut desk = desk(
+        alloc,
+        ONE_BIT_GRAPH.as_bytes(),
+        NO_CUT,
+        ONE_BIT_ALGEBRA,
+        &[],
+        &[],
+    )?;
     expect(
         &rt,
         alloc,
@@ -352,30 +386,110 @@ fn a_missing_file_is_a_read_fault(rt: HostRuntime) -> Result<(), Fail> {
 }
 
 #[test]
-fn lengths_are_met_at_one_byte_more(rt: HostRuntime) -> Result<(), Fail> {
+fn the_order_of_the_inputs_decides(rt: HostRuntime) -> Result<(), Fail> {
     let alloc = rt.alloc();
-    let names = Names {
-        graph: "g",
-        clauses: "c",
-        algebra: "a",
-    };
-    for (graph, certificate, line, outcome) in [
-        (28, 35, 23, Checked::Accepted),
-        (27, 35, 23, Checked::TooLong(Slot::Graph)),
-        (28, 34, 23, Checked::TooLong(Slot::Algebra)),
-        (28, 35, 22, Checked::TooLong(Slot::Algebra)),
-        (28, 13, 23, Checked::TooLong(Slot::Clauses)),
+    let mut desk = desk(
+        alloc,
+        TWO_BIT_ARRAY.as_bytes(),
+        NO_CUT,
+        TWO_BIT_ALGEBRA,
+        &[],
+        &[],
+    )?;
+    expect(
+        &rt,
+        alloc,
+        &mut desk,
+        &["mulver", "check", "g", "c", "a", "--inputs", "interleaved"],
+        3,
+        "refused algebra line 3: not the specification\n",
+        "the inputs are a0, b0, a1, b1",
+    )
+}
+
+#[test]
+fn evaluates_graphs(rt: HostRuntime) -> Result<(), Fail> {
+    let alloc = rt.alloc();
+    for (shows, graph, a, b, status, report) in [
+        ("binary", ONE_BIT_BINARY, "1", "1", 0, "value=1\n"),
+        (
+            "a gate number of five bytes",
+            b"aig 3 2 0 2 1\n6\n0\n\x82\x80\x80\x80\x00\x02",
+            "1",
+            "1",
+            0,
+            "value=1\n",
+        ),
+        (
+            "a gate number of six bytes",
+            b"aig 3 2 0 2 1\n6\n0\n\x82\x80\x80\x80\x80\x00\x02",
+            "1",
+            "1",
+            4,
+            "graph refused at byte 22: text\n",
+        ),
+        (
+            "two bits",
+            TWO_BIT_ARRAY.as_bytes(),
+            "3",
+            "03",
+            0,
+            "value=9\n",
+        ),
+        (
+            "an operand of three bits",
+            TWO_BIT_ARRAY.as_bytes(),
+            "4",
+            "0",
+            2,
+            USAGE,
+        ),
     ] {
-        let mut desk = desk(alloc, ONE_BIT_GRAPH, NO_CUT, ONE_BIT_ALGEBRA, &[5], &[])?;
-        let limits = Limits {
-            graph,
-            certificate,
-            line,
-        };
-        assert_eq!(rt;
-            check(alloc, &mut desk, Order::Separate, &limits, &names),
-            outcome
-        );
+        let mut desk = desk(alloc, graph, NO_CUT, ONE_BIT_ALGEBRA, &[], &[])?;
+        expect(
+            &rt,
+            alloc,
+            &mut desk,
+            &["mulver", "eval", "g", a, b],
+            status,
+            report,
+            shows,
+        )?;
     }
+    Ok(())
+}
+
+#[test]
+fn makes_multipliers(rt: HostRuntime) -> Result<(), Fail> {
+    let alloc = rt.alloc();
+    for (kind, bits, out, file) in [
+        ("array", "1", "x", ONE_BIT_GRAPH.as_bytes()),
+        ("array", "1", "x.aig", ONE_BIT_BINARY),
+        ("array", "2", "x", TWO_BIT_ARRAY.as_bytes()),
+        ("dadda", "2", "x", TWO_BIT_ARRAY.as_bytes()),
+    ] {
+        let mut desk = desk(alloc, b"", NO_CUT, ONE_BIT_ALGEBRA, &[], &[])?;
+        let words = ["mulver", "make", kind, bits, "ripple", out];
+        expect(&rt, alloc, &mut desk, &words, 0, "made\n", kind)?;
+        assert!(rt; desk.bytes(out) == Some(file), "{kind} {bits}");
+    }
+    Ok(())
+}
+
+#[test]
+fn a_file_that_cannot_be_created_is_a_write_fault(rt: HostRuntime) -> Result<(), Fail> {
+    let alloc = rt.alloc();
+    let mut desk = desk(alloc, b"", NO_CUT, ONE_BIT_ALGEBRA, &[], &[1])?;
+    let words = ["mulver", "make", "array", "1", "ripple", "x"];
+    expect(
+        &rt,
+        alloc,
+        &mut desk,
+        &words,
+        7,
+        "write fault\n",
+        "creating fails",
+    )?;
+    assert!(rt; desk.bytes("x").is_none());
     Ok(())
 }

@@ -1,0 +1,97 @@
+-- The header of an algebra file, and the whole file by what stands behind it.
+use Rattle.std.proofs.Common.{◌≡◌, ℕ, ◌≤◌, List, [], ◌∷◌, ◌++◌, length, Option, IfSome, refl, sym, ap, subst, ◌∙◌, inl, inr}
+use Rattle.std.specs.Prelude.{codes}
+use Rattle.graph_core.specs.AlgebraRefusal as cause
+use Rattle.graph_core.specs.AlgebraRefusal.{AlgebraCause, IsAlgebraRefusal, IsRefusedBody, algebra_header}
+use Rattle.graph_core.specs.Extended.{without_cut}
+use Rattle.graph_core.specs.Graph.{Aig}
+use Rattle.graph_core.specs.JudgedLines.{IsTooLong, Lengths}
+use Rattle.graph_core.specs.Text.{newline}
+use Rattle.graph_core.specs.declared.order.Order.{Order}
+use Rattle.graph_core.proofs.JudgedLines.{ShortFrom, short_next, short_within, start_later}
+use Rattle.graph_core.proofs.Newlines.{none_in}
+use Rattle.mv_desk.specs.declared.faults.LineFail.{LineFail}
+use Rattle.mv_desk.specs.declared.faults.LineFail.TheVariants as fail
+use Rattle.mv_desk.specs.declared.slot.Slot.TheVariants as slot
+use Rattle.poly_text.specs.AlgebraFiles.{FileState, HasHeader, IsHeaderRefusal}
+use Rattle.joint_checker.specs.declared.checked.Checked.{Checked}
+use Rattle.joint_checker.specs.declared.checked.Checked.TheVariants as checked
+use Rattle.joint_checker.specs.declared.checked.Refusal.TheVariants as refusal
+use Rattle.joint_checker.specs.AlgebraBody.{IsBodyFail, IsLawfulBody}
+use Rattle.joint_checker.specs.AlgebraLines.{IsLongIn}
+use Rattle.joint_checker.specs.Answers.{answer_of_line}
+use Rattle.joint_checker.specs.Certificates.{IsLawfulAlgebra}
+use Rattle.joint_checker.specs.Fails.{IsAlgebraFail}
+use Rattle.joint_checker.specs.Outcome.{cause_of}
+use Rattle.joint_checker.proofs.Told.{rose_before, told_more, told_of}
+
+module _ (lengths : Lengths) (g : Aig) (order : Order) where
+  -- the first line isn't the header
+  pub header_fails : (text : Option (List ℕ)) (before now : ℕ) (given : LineFail) → IsHeaderRefusal lengths text before now given → IsAlgebraFail lengths g order text before now (answer_of_line 1 given)
+  header_fails text before now fail.Text h =
+      told_more text _ (λ bytes. IsAlgebraRefusal (without_cut g) order lengths bytes (1, cause.Text)) (λ bytes k. inr (k.0, inl (k.1, refl))) h
+  header_fails text before now fail.Range h = absurd h
+  header_fails text before now fail.Fault h = h
+  header_fails text before now fail.TooLong h =
+      told_more text (λ bytes. IsTooLong lengths (length bytes) bytes) (λ bytes. (line : ℕ) × IsAlgebraRefusal (without_cut g) order lengths bytes (line, cause.TooLong)) (λ bytes k. (1, inl (k, refl))) h
+  header_fails text before now fail.Memory h = tt
+
+  module _ (file : FileState) (same : file.lines.lengths ≡ lengths) (bytes : List ℕ) (behind : Option (List ℕ)) (header : HasHeader file bytes behind) where
+    whole : (P : (List ℕ → Type 0) → Type 0) → P (IsLongIn file.lines header.body) → P (IsTooLong lengths (length bytes))
+    whole P h = subst (λ (k : Lengths). P (IsTooLong k (length bytes))) same (subst (λ (n : ℕ). P (IsTooLong file.lines.lengths n)) header.taken h)
+
+    short : ¬ (IsTooLong lengths (length bytes) bytes)
+    short = subst (λ (k : Lengths). ¬ (IsTooLong k (length bytes) bytes)) same header.short
+
+    pub file_is_lawful : IsLawfulBody (without_cut g) order file.lines header.body → IsLawfulAlgebra lengths g order bytes
+    file_is_lawful h =
+        let is : bytes ≡ codes "pac 1" ++ newline ∷ header.body = header.begins in
+        let later : ShortFrom (IsTooLong lengths (length bytes)) header.body = whole (λ IsLong. ShortFrom IsLong header.body) h.short in
+        let all : ShortFrom (IsTooLong lengths (length bytes)) bytes =
+        subst (ShortFrom (IsTooLong lengths (length bytes))) (sym is)
+        (short_next (IsTooLong lengths (length bytes)) (codes "pac 1") header.body (none_in (codes "pac 1") refl) (subst (λ (l : List ℕ). ¬ (IsTooLong lengths (length bytes) l)) is short) later) in (
+          record {
+            lines = h.lines;
+            closing = h.closing;
+            text = (header.body, h.last, h.close.1.0, h.close.1.1, h.texts, h.close.2 ∙ ap (λ (l : List ℕ). l ++ newline ∷ []) h.close.1.2, header.begins);
+            in_range = h.in_range;
+            closing_in_range = h.closing_in_range;
+            lawful = (h.lawful, h.closes);
+          },
+          short_within lengths bytes all (start_later bytes header.body [] (inr (codes "pac 1", is)) h.ends),
+        )
+
+    pub file_is_refused : (line : ℕ) (c : AlgebraCause) → IsRefusedBody (without_cut g) order (IsLongIn file.lines header.body) header.body (line, c) → IsAlgebraRefusal (without_cut g) order lengths bytes (line, c)
+    file_is_refused line c h = inr (short, inr (header.body, header.begins, whole (λ IsLong. IsRefusedBody (without_cut g) order IsLong header.body (line, c)) h))
+
+  -- ---- where the file is told
+
+  module _ (file : FileState) (same : file.lines.lengths ≡ lengths) (text : Option (List ℕ)) (behind : Option (List ℕ)) (header : IfSome text (λ bytes. HasHeader file bytes behind)) where
+    pub text_is_lawful : IfSome behind (IsLawfulBody (without_cut g) order file.lines) → IfSome text (IsLawfulAlgebra lengths g order)
+    text_is_lawful h = told_more text (λ bytes. HasHeader file bytes behind) (IsLawfulAlgebra lengths g order)
+        (λ bytes k. file_is_lawful file same bytes behind k (told_of behind k.body (IsLawfulBody (without_cut g) order file.lines) k.left h)) header
+
+    refused_text : (line : ℕ) (c : AlgebraCause) → IfSome behind (λ body. IsRefusedBody (without_cut g) order (IsLongIn file.lines body) body (line, c)) →
+        IfSome text (λ bytes. IsAlgebraRefusal (without_cut g) order lengths bytes (line, c))
+    refused_text line c h = told_more text (λ bytes. HasHeader file bytes behind) (λ bytes. IsAlgebraRefusal (without_cut g) order lengths bytes (line, c))
+        (λ bytes k. file_is_refused file same bytes behind k line c (told_of behind k.body (λ body. IsRefusedBody (without_cut g) order (IsLongIn file.lines body) body (line, c)) k.left h)) header
+
+    long_text : IfSome behind (λ body. (line : ℕ) × IsRefusedBody (without_cut g) order (IsLongIn file.lines body) body (line, cause.TooLong)) →
+        IfSome text (λ bytes. (line : ℕ) × IsAlgebraRefusal (without_cut g) order lengths bytes (line, cause.TooLong))
+    long_text h = told_more text (λ bytes. HasHeader file bytes behind) (λ bytes. (line : ℕ) × IsAlgebraRefusal (without_cut g) order lengths bytes (line, cause.TooLong))
+        (λ bytes k. let there = told_of behind k.body (λ body. (line : ℕ) × IsRefusedBody (without_cut g) order (IsLongIn file.lines body) body (line, cause.TooLong)) k.left h in
+        (there.0, file_is_refused file same bytes behind k there.0 cause.TooLong there.1)) header
+
+    -- what is behind the header isn't lawful
+    pub body_fails : (first before now : ℕ) (answer : Checked) → first ≤ before → IsBodyFail (without_cut g) order file.lines behind before now answer → IsAlgebraFail lengths g order text first now answer
+    body_fails first before now checked.Accepted later h = absurd h
+    body_fails first before now (checked.Graph why) later h = absurd h
+    body_fails first before now (checked.Refused (refusal.Clauses n why)) later h = absurd h
+    body_fails first before now (checked.Refused (refusal.Algebra n why)) later h = refused_text n (cause_of why) h
+    body_fails first before now (checked.TooLong slot.Graph) later h = absurd h
+    body_fails first before now (checked.TooLong slot.Other) later h = absurd h
+    body_fails first before now (checked.TooLong slot.Clauses) later h = absurd h
+    body_fails first before now (checked.TooLong slot.Algebra) later h = long_text h
+    body_fails first before now (checked.TooLong slot.Report) later h = absurd h
+    body_fails first before now checked.ReadFault later h = rose_before first before now later h
+    body_fails first before now checked.Memory later h = tt

@@ -1,0 +1,214 @@
+-- Of three files that are told just one answer is due: the graph's refusals, then those of the clause file, then those of the algebra file.
+use Rattle.std.proofs.Common.{◌≡◌, ℕ, List, Option, Some, None, refl, sym, ap, subst, ◌∙◌, arith, inl, inr, ⊎_elim}
+use Rattle.std.specs.Prelude.{◌⊎◌, IsSome}
+use Rattle.aiger_reader.specs.Refusals.{IsFoundWithin, IsTooLong, LongIsNoOther, SpellsWithin}
+use Rattle.aiger_reader.specs.declared.fail.ReadFail.TheVariants as fail
+use Rattle.aiger_reader.proofs.LimitLaws.{found_is_first, spelled_found_or_long}
+use Rattle.graph_core.specs.AlgebraRefusal as cause
+use Rattle.graph_core.specs.AlgebraRefusal.{AlgebraCause, IsAlgebraRefusal}
+use Rattle.graph_core.specs.Extended.{without_cut}
+use Rattle.graph_core.specs.Graph.{Aig}
+use Rattle.graph_core.specs.GraphRefusal as graph
+use Rattle.graph_core.specs.JudgedLines.{IsExact}
+use Rattle.graph_core.specs.declared.order.Order.{Order}
+use Rattle.graph_core.proofs.AlgebraRefusal.{algebra_is_exact}
+use Rattle.graph_core.proofs.FirstRefusal.{not_spelled_and_refused, one_graph, one_refusal}
+use Rattle.graph_core.proofs.JudgedLines.{exact_map}
+use Rattle.mv_desk.specs.View.{View}
+use Rattle.mv_desk.specs.declared.limits.Limits.{Limits}
+use Rattle.mv_desk.specs.declared.slot.Slot.TheVariants as slot
+use Rattle.poly_text.specs.LineReading.{lengths_of}
+use Rattle.joint_checker.specs.declared.checked.AlgebraWhy.{AlgebraWhy}
+use Rattle.joint_checker.specs.declared.checked.AlgebraWhy.TheVariants as why
+use Rattle.joint_checker.specs.declared.checked.Checked.{Checked}
+use Rattle.joint_checker.specs.declared.checked.Checked.TheVariants as checked
+use Rattle.joint_checker.specs.declared.checked.ClauseWhy.TheVariants as clause
+use Rattle.joint_checker.specs.declared.checked.Refusal.TheVariants as refusal
+use Rattle.joint_checker.specs.Certificates.{ClauseCause, IsClauseRefusal, IsLawfulAlgebra, IsNoCut}
+use Rattle.joint_checker.specs.Certificates as certificate
+use Rattle.joint_checker.specs.Files.{Files, Texts, texts_of}
+use Rattle.joint_checker.specs.Outcome.{IsDue, IsExactAnswer, IsOutcome, OneAnswerIsDue, OutcomesAreExact, cause_of}
+use Rattle.joint_checker.proofs.ClauseRows.{clauses_are_exact}
+
+-- causes of one thing, and behind it those of another
+next_exact : {C G H : Type 0} {Refused Others : C → Type 0} → IsExact G Refused → (G → IsExact H Others) → IsExact (G × H) (λ c. Refused c ⊎ (G × Others c))
+next_exact e h = record {
+  decided = ⊎_elim (λ g. ⊎_elim (λ k. inl (g, k)) (λ r. inr (r.0, inr (g, r.1))) (h g).decided) (λ r. inr (r.0, inl r.1)) e.decided;
+  not_both = λ c good r. ⊎_elim (λ x. e.not_both c good.0 x) (λ y. (h y.0).not_both c good.1 y.1) r;
+  one = λ a b r s. ⊎_elim (λ x. ⊎_elim (λ y. e.one a b x y) (λ y. absurd (e.not_both a y.0 x)) s) (λ x. ⊎_elim (λ y. absurd (e.not_both b x.0 y)) (λ y. (h x.0).one a b x.1 y.1) s) r;
+}
+
+-- a graph file that is too long spells no graph within the limit, and no refusal is found there
+long_is_no_other : LongIsNoOther
+long_is_no_other limit file long = (
+  λ g s. (let many = long.long in let few = s.short in absurd (omega (arith, many, few))),
+  λ r found. ⊎_elim (λ h. (let many = long.long in let few = h.0 in absurd (omega (arith, many, few)))) (λ h. long.none r h.1 h.2) found,
+)
+
+-- ---- the answers by their causes
+
+abbrev graph_answer : graph.Refusal → Checked
+graph_answer (graph.Text p) = checked.Graph (fail.Text p)
+graph_answer (graph.Header f) = checked.Graph (fail.Header f)
+graph_answer (graph.Faulty f) = checked.Graph (fail.Graph f)
+
+abbrev clause_answer : ℕ × ClauseCause → Checked
+clause_answer (line, certificate.Text) = checked.Refused (refusal.Clauses line clause.Text)
+clause_answer (line, certificate.TooLong) = checked.TooLong slot.Clauses
+
+abbrev algebra_answer : ℕ × AlgebraCause → Checked
+algebra_answer (line, cause.TooLong) = checked.TooLong slot.Algebra
+algebra_answer (line, cause.Text) = checked.Refused (refusal.Algebra line why.Text)
+algebra_answer (line, cause.Range) = checked.Refused (refusal.Algebra line why.Range)
+algebra_answer (line, cause.Id) = checked.Refused (refusal.Algebra line why.Id)
+algebra_answer (line, (cause.NoSuchLine id)) = checked.Refused (refusal.Algebra line (why.NoSuchLine id))
+algebra_answer (line, cause.NotEqual) = checked.Refused (refusal.Algebra line why.NotEqual)
+algebra_answer (line, cause.NotSpecification) = checked.Refused (refusal.Algebra line why.NotSpec)
+
+answer_is : (line : ℕ) (given : AlgebraWhy) → checked.Refused (refusal.Algebra line given) ≡ algebra_answer (line, cause_of given)
+answer_is line why.Text = refl
+answer_is line why.Range = refl
+answer_is line why.Id = refl
+answer_is line (why.NoSuchLine id) = refl
+answer_is line why.NotEqual = refl
+answer_is line why.NotSpec = refl
+
+module _ (limits : Limits) (order : Order) (file clauses algebra : List ℕ) where
+  abbrev told : Texts
+  told = record { graph = Some file; clauses = Some clauses; algebra = Some algebra }
+
+  abbrev Spelled : Type 0
+  Spelled = (g : Aig) × SpellsWithin limits.graph file g
+
+  abbrev IsGraphRefused : Checked → Type 0
+  IsGraphRefused c = ((r : graph.Refusal) × IsFoundWithin limits.graph file r × (c ≡ graph_answer r)) ⊎ (IsTooLong limits.graph file × (c ≡ checked.TooLong slot.Graph))
+
+  graph_exact : IsExact Spelled IsGraphRefused
+  graph_exact = record {
+    decided = ⊎_elim inl (λ h. ⊎_elim (λ r. inr (graph_answer r.0, inl (r.0, r.1, refl))) (λ long. inr (checked.TooLong slot.Graph, inr (long, refl))) h) (spelled_found_or_long limits.graph file);
+    not_both = λ c s r. ⊎_elim (λ f. not_spelled_and_refused file s.0 f.0 s.1.spells (found_is_first limits.graph file f.0 f.1)) (λ long. (long_is_no_other limits.graph file long.0).0 s.0 s.1) r;
+    one = λ a b r s. ⊎_elim
+        (λ f. ⊎_elim (λ g. f.2 ∙ ap graph_answer (one_refusal file f.0 g.0 (found_is_first limits.graph file f.0 f.1) (found_is_first limits.graph file g.0 g.1)) ∙ sym g.2)
+        (λ long. absurd ((long_is_no_other limits.graph file long.0).1 f.0 f.1)) s)
+        (λ long. ⊎_elim (λ g. absurd ((long_is_no_other limits.graph file long.0).1 g.0 g.1)) (λ other. long.1 ∙ sym other.1) s) r;
+  }
+
+  abbrev AreClausesRefused : Checked → Type 0
+  AreClausesRefused c = (p : ℕ × ClauseCause) × IsClauseRefusal (lengths_of limits) clauses p × (c ≡ clause_answer p)
+
+  abbrev Refused : Aig → Checked → Type 0
+  Refused g c = (p : ℕ × AlgebraCause) × IsAlgebraRefusal (without_cut g) order (lengths_of limits) algebra p × (c ≡ algebra_answer p)
+
+  abbrev Lawful : Type 0
+  Lawful = (g : Aig) × SpellsWithin limits.graph file g × IsLawfulAlgebra (lengths_of limits) g order algebra
+
+  abbrev IsAlgebraRefused : Checked → Type 0
+  IsAlgebraRefused c = (g : Aig) × SpellsWithin limits.graph file g × Refused g c
+
+  of_graph : (g : Aig) → IsExact (IsLawfulAlgebra (lengths_of limits) g order algebra) (Refused g)
+  of_graph g = exact_map algebra_answer (algebra_is_exact (without_cut g) order (lengths_of limits) algebra)
+
+  algebra_exact : Spelled → IsExact Lawful IsAlgebraRefused
+  algebra_exact s = record {
+    decided = ⊎_elim (λ l. inl (s.0, s.1, l)) (λ r. inr (r.0, (s.0, s.1, r.1))) (of_graph s.0).decided;
+    not_both = λ c l r. (of_graph l.0).not_both c l.2 (subst (λ (g : Aig). Refused g c) (one_graph file r.0 l.0 r.1.spells l.1.spells) r.2);
+    one = λ a b r t. (of_graph r.0).one a b r.2 (subst (λ (g : Aig). Refused g b) (one_graph file t.0 r.0 t.1.spells r.1.spells) t.2);
+  }
+
+  abbrev All : Type 0
+  All = Spelled × (IsNoCut (lengths_of limits) clauses × Lawful)
+
+  abbrev IsRefused : Checked → Type 0
+  IsRefused c = IsGraphRefused c ⊎ (Spelled × (AreClausesRefused c ⊎ (IsNoCut (lengths_of limits) clauses × IsAlgebraRefused c)))
+
+  all_exact : IsExact All IsRefused
+  all_exact = next_exact graph_exact (λ s. next_exact (exact_map clause_answer (clauses_are_exact (lengths_of limits) clauses)) (λ none. algebra_exact s))
+
+  -- ---- what is due, by its causes
+
+  due_is : (c : Checked) → IsDue limits order told c → ((c ≡ checked.Accepted) × All) ⊎ IsRefused c
+  due_is checked.Accepted h = inl (refl, ((h.lawful.0, h.lawful.1), (h.none, h.lawful)))
+  due_is (checked.Graph (fail.Text p)) h = inr (inl (inl (graph.Text p, h, refl)))
+  due_is (checked.Graph (fail.Header f)) h = inr (inl (inl (graph.Header f, h, refl)))
+  due_is (checked.Graph (fail.Graph f)) h = inr (inl (inl (graph.Faulty f, h, refl)))
+  due_is (checked.Graph fail.Fault) h = absurd h
+  due_is (checked.Graph fail.TooLong) h = absurd h
+  due_is (checked.Graph fail.Memory) h = absurd h
+  due_is (checked.Refused (refusal.Clauses line clause.Text)) h = inr (inr ((h.0.0, h.0.1), inl ((line, certificate.Text), h.1, refl)))
+  due_is (checked.Refused (refusal.Algebra line given)) h = inr (inr ((h.1.0, h.1.1), inr (h.0, (h.1.0, h.1.1, ((line, cause_of given), h.1.2, answer_is line given)))))
+  due_is (checked.TooLong slot.Graph) h = inr (inl (inr (h, refl)))
+  due_is (checked.TooLong slot.Other) h = absurd h
+  due_is (checked.TooLong slot.Clauses) h = inr (inr ((h.0.0, h.0.1), inl ((h.1.0, certificate.TooLong), h.1.1, refl)))
+  due_is (checked.TooLong slot.Algebra) h = inr (inr ((h.1.0, h.1.1), inr (h.0, (h.1.0, h.1.1, ((h.1.2.0, cause.TooLong), h.1.2.1, refl)))))
+  due_is (checked.TooLong slot.Report) h = absurd h
+  due_is checked.ReadFault h = absurd h
+  due_is checked.Memory h = absurd h
+
+  one_due : (a b : Checked) → IsDue limits order told a → IsDue limits order told b → a ≡ b
+  one_due a b h k =
+      ⊎_elim (λ x. ⊎_elim (λ y. x.0 ∙ sym y.0) (λ y. absurd (all_exact.not_both b x.1 y)) (due_is b k)) (λ x. ⊎_elim (λ y. absurd (all_exact.not_both a y.1 x)) (λ y. all_exact.one a b x y) (due_is b k)) (due_is a h)
+
+  abbrev IsSomeDue : Type 0
+  IsSomeDue = (c : Checked) × IsDue limits order told c
+
+  found_due : (r : graph.Refusal) → IsFoundWithin limits.graph file r → IsSomeDue
+  found_due (graph.Text p) h = (checked.Graph (fail.Text p), h)
+  found_due (graph.Header f) h = (checked.Graph (fail.Header f), h)
+  found_due (graph.Faulty f) h = (checked.Graph (fail.Graph f), h)
+
+  clause_due : Spelled → (p : ℕ × ClauseCause) → IsClauseRefusal (lengths_of limits) clauses p → IsSomeDue
+  clause_due s (line, certificate.Text) h = (checked.Refused (refusal.Clauses line clause.Text), ((s.0, s.1, tt), h))
+  clause_due s (line, certificate.TooLong) h = (checked.TooLong slot.Clauses, ((s.0, s.1, tt), (line, h)))
+
+  module _ (none : IsNoCut (lengths_of limits) clauses) (g : Aig) (s : SpellsWithin limits.graph file g) where
+    algebra_due : (p : ℕ × AlgebraCause) → IsAlgebraRefusal (without_cut g) order (lengths_of limits) algebra p → IsSomeDue
+    algebra_due (line, cause.TooLong) h = (checked.TooLong slot.Algebra, (none, (g, s, (line, h))))
+    algebra_due (line, cause.Text) h = (checked.Refused (refusal.Algebra line why.Text), (none, (g, s, h)))
+    algebra_due (line, cause.Range) h = (checked.Refused (refusal.Algebra line why.Range), (none, (g, s, h)))
+    algebra_due (line, cause.Id) h = (checked.Refused (refusal.Algebra line why.Id), (none, (g, s, h)))
+    algebra_due (line, (cause.NoSuchLine id)) h = (checked.Refused (refusal.Algebra line (why.NoSuchLine id)), (none, (g, s, h)))
+    algebra_due (line, cause.NotEqual) h = (checked.Refused (refusal.Algebra line why.NotEqual), (none, (g, s, h)))
+    algebra_due (line, cause.NotSpecification) h = (checked.Refused (refusal.Algebra line why.NotSpec), (none, (g, s, h)))
+
+  some_due : IsSomeDue
+  some_due = ⊎_elim (λ l. (checked.Accepted, record { none = l.1.0; lawful = l.1.1 }))
+      (λ r. ⊎_elim (λ x. ⊎_elim (λ f. found_due f.0 f.1) (λ long. (checked.TooLong slot.Graph, long.0)) x)
+      (λ x. ⊎_elim (λ y. clause_due x.0 y.0 y.1) (λ y. algebra_due y.0 y.1.0 y.1.1 y.1.2.0 y.1.2.1) x.1) r.1) all_exact.decided
+
+-- ---- three files that are told
+
+there_is : (limits : Limits) (order : Order) (file clauses algebra : Option (List ℕ)) → IsSome file → IsSome clauses → IsSome algebra →
+    (c : Checked) × IsDue limits order (record { graph = file; clauses = clauses; algebra = algebra }) c
+there_is limits order (Some file) (Some clauses) (Some algebra) f c a = some_due limits order file clauses algebra
+there_is limits order None clauses algebra f c a = absurd (cc)
+there_is limits order (Some file) None algebra f c a = absurd (cc)
+there_is limits order (Some file) (Some clauses) None f c a = absurd (cc)
+
+only_one : (limits : Limits) (order : Order) (file clauses algebra : Option (List ℕ)) → IsSome file → IsSome clauses → IsSome algebra →
+    (x y : Checked) → IsDue limits order (record { graph = file; clauses = clauses; algebra = algebra }) x → IsDue limits order (record { graph = file; clauses = clauses; algebra = algebra }) y → x ≡ y
+only_one limits order (Some file) (Some clauses) (Some algebra) f c a = one_due limits order file clauses algebra
+only_one limits order None clauses algebra f c a = absurd (cc)
+only_one limits order (Some file) None algebra f c a = absurd (cc)
+only_one limits order (Some file) (Some clauses) None f c a = absurd (cc)
+
+pub one_answer_is_due : OneAnswerIsDue
+one_answer_is_due = record {
+  some = λ limits order texts told. there_is limits order texts.graph texts.clauses texts.algebra told.graph_told told.clauses_told told.algebra_told;
+  one = λ limits order texts told. only_one limits order texts.graph texts.clauses texts.algebra told.graph_told told.clauses_told told.algebra_told;
+}
+
+-- an answer that has its cause is the one that is due
+module _ (limits : Limits) (order : Order) (files : Files) (before after : View) where
+  due_of : (given : Checked) → IsDue limits order (texts_of before files) given → IsExactAnswer limits order files before after given
+  due_of given h told due k = inl (one_answer_is_due.one limits order (texts_of before files) told given due h k)
+
+  exact : (given : Checked) → IsOutcome limits order files before after given → IsExactAnswer limits order files before after given
+  exact checked.Accepted h = due_of checked.Accepted h.0
+  exact (checked.Graph why) h = due_of (checked.Graph why) h.0
+  exact (checked.Refused why) h = due_of (checked.Refused why) h.0
+  exact (checked.TooLong at) h = due_of (checked.TooLong at) h.0
+  exact checked.ReadFault h = λ told due k. inr (inl (refl, h))
+  exact checked.Memory h = λ told due k. inr (inr refl)
+
+pub outcomes_are_exact : OutcomesAreExact
+outcomes_are_exact limits order files before after given h = exact limits order files before after given h

@@ -1,0 +1,11 @@
+pub mod Told
+pub mod LineEnds
+pub mod ClauseRows
+pub mod ClauseTurns
+pub mod ClauseReading
+pub mod AlgebraRests
+pub mod AlgebraReached
+pub mod AlgebraFiles
+pub mod LineTurns
+pub mod OutcomeRows
+pub mod DueRows

@@ -1,0 +1,52 @@
+use Rattle.std.proofs.Common.{ap, sym, subst, ◌∙◌}
+use Rattle.std.proofs.lemmas.Result.{IfErr-weaker, IfOk-weaker}
+use Rattle.graph_core.specs.Extended.{Extended}
+use Rattle.graph_core.specs.declared.order.Order.{Order}
+use Rattle.pac_checker.specs.Checking.{ledger_of}
+use Rattle.joint_checker.specs.AlgebraLines.{IsJudged, IsLineFail, IsUnlawful, Turns, left_in}
+use Rattle.joint_checker.proofs.LineTurns.{text_fails, turn_fails, turn_is}
+use Rattle.joint_checker.proofs.algebra_line.judge_line.Goals as goal
+
+pub returns-in-Err-clause-refused : goal.returns-in-Err-clause-refused
+returns-in-Err-clause-refused g c =
+    let checker = c.args.checker.now in
+    let file = c.args.work.now.file in
+    let before = g.D.Desk.seen c.args.desk.now in
+    rw c.line_refused.ensures
+    (text_fails c.args.line checker.extended checker.order (ledger_of checker) c.args.work.now.max file.lines (left_in file before) before.read_faults (g.D.Desk.seen c.grow.new.on).read_faults c.in-Err.fail c.requires.max
+    c.in-Err.ensures.did.0.refused)
+
+pub returns-in-Ok-clause-turns : goal.returns-in-Ok-clause-turns
+returns-in-Ok-clause-turns g c =
+    let old = c.args.checker.now in
+    let grown = c.grow.new.self in
+    let next = ledger_of c.judge_text.new.checker in
+    let lines = c.args.work.now.file.lines in
+    let then = c.grow.new.work.file.lines in
+    let left = left_in c.args.work.now.file (g.D.Desk.seen c.args.desk.now) in
+    let behind = left_in c.grow.new.work.file (g.D.Desk.seen c.grow.new.on) in
+    let grows = c.grow.ensures.grows in
+    let same_max = c.requires.max ∙ ap (λ e. e.max) (sym grows.extended) in
+    IfOk-weaker c.judge_text.result (IsJudged c.in-Ok.text grown c.judge_text.new.checker) (Turns old.extended old.order (ledger_of old) next lines then left behind) (λ turn h.
+    subst (λ (e : Extended). Turns e old.order (ledger_of old) next lines then left behind turn) grows.extended
+    (subst (λ (order : Order). Turns grown.extended order (ledger_of old) next lines then left behind turn) grows.order
+    (turn_is grown (ledger_of old) grows.ledger c.grow.ensures.modulus c.args.work.now.max same_max lines then left behind c.in-Ok.text c.in-Ok.ensures.did.0.line c.judge_text.new.checker turn h)))
+    c.judge_text.ensures.judged
+
+pub returns-in-Ok-clause-refused : goal.returns-in-Ok-clause-refused
+returns-in-Ok-clause-refused g c =
+    let old = c.args.checker.now in
+    let grown = c.grow.new.self in
+    let lines = c.args.work.now.file.lines in
+    let then = c.grow.new.work.file.lines in
+    let before = g.D.Desk.seen c.args.desk.now in
+    let after = g.D.Desk.seen c.grow.new.on in
+    let left = left_in c.args.work.now.file before in
+    let behind = left_in c.grow.new.work.file after in
+    let grows = c.grow.ensures.grows in
+    let same_max = c.requires.max ∙ ap (λ e. e.max) (sym grows.extended) in
+    IfErr-weaker c.judge_text.result (IsUnlawful c.args.line c.in-Ok.text grown) (IsLineFail c.args.line old.extended old.order (ledger_of old) lines left before.read_faults after.read_faults) (λ answer h.
+    subst (λ (e : Extended). IsLineFail c.args.line e old.order (ledger_of old) lines left before.read_faults after.read_faults answer) grows.extended
+    (subst (λ (order : Order). IsLineFail c.args.line grown.extended order (ledger_of old) lines left before.read_faults after.read_faults answer) grows.order
+    (turn_fails grown (ledger_of old) grows.ledger c.grow.ensures.modulus c.args.work.now.max same_max lines then left behind c.in-Ok.text c.in-Ok.ensures.did.0.line c.args.line before.read_faults after.read_faults answer h)))
+    c.judge_text.ensures.refused

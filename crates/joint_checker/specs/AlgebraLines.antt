@@ -1,0 +1,110 @@
+-- One line of an algebra file, over what is left of it and over the checker's ledger.
+use Rattle.std.specs.Prelude.{◌≡◌, ◌≢◌, ◌+◌, ◌⊎◌, ℕ, List, [], length, IfOk, IfErr, IfSome, ⊤}
+use Rattle.std.specs.Result.{result_err}
+use Rattle.std.specs.declared.option.Option.{Option}
+use Rattle.std.specs.declared.option.Option.TheVariants.{Some}
+use Rattle.std.specs.declared.result.Result.{Result}
+use Rattle.graph_core.specs.Algebra.{Ledger, Line, Closes, IsLawfulLine, after, modulus, specification}
+use Rattle.graph_core.specs.AlgebraRefusal.{IsRefusedNext}
+use Rattle.graph_core.specs.AlgebraText.{IsCloseText, IsId, IsLineInRange, IsLineText}
+use Rattle.graph_core.specs.Extended.{Extended}
+use Rattle.graph_core.specs.JudgedLines.{BeginsWith, IsTooLong}
+use Rattle.graph_core.specs.declared.order.Order.{Order}
+use Rattle.mv_desk.specs.Calls.{ReadsOnly}
+use Rattle.mv_desk.specs.View.{KeepsTelling, Rose, View}
+use Rattle.mv_desk.specs.declared.faults.LineFail.{LineFail}
+use Rattle.mv_desk.specs.declared.slot.Slot.TheVariants as slot
+use Rattle.mv_fact.specs.Always.{Always}
+use Rattle.pac_checker.specs.Agreement.{Agree}
+use Rattle.pac_checker.specs.Checking.{Checking, Takes, ledger_of}
+use Rattle.pac_checker.specs.Faults.{IsCloseFault, IsFault}
+use Rattle.pac_checker.specs.declared.fault.CloseFault.{CloseFault}
+use Rattle.pac_checker.specs.declared.fault.LineFault.{LineFault}
+use Rattle.poly_terms.specs.Tables.{Table}
+use Rattle.poly_text.specs.AlgebraFiles.{FileState, IsNextRefusal, TakesText, left_ahead}
+use Rattle.poly_text.specs.LineReading.{IsLongAhead, Lines}
+use Rattle.poly_text.specs.LineTexts.{IsTextOf}
+use Rattle.poly_text.specs.Lines.{told}
+use Rattle.poly_text.specs.declared.line.PacLine.{PacLine}
+use Rattle.poly_text.specs.declared.line.PacLine.TheVariants as pac
+use Rattle.joint_checker.specs.declared.algebra_line.Turn.{Turn}
+use Rattle.joint_checker.specs.declared.algebra_line.Turn.TheVariants as turn
+use Rattle.joint_checker.specs.declared.checked.AlgebraWhy.TheVariants as why
+use Rattle.joint_checker.specs.declared.checked.Checked.{Checked}
+use Rattle.joint_checker.specs.declared.checked.Checked.TheVariants as checked
+use Rattle.joint_checker.specs.declared.checked.Refusal.TheVariants as refusal
+use Rattle.joint_checker.specs.Answers.{answer_of_close, answer_of_rule}
+use Rattle.joint_checker.specs.Outcome.{cause_of}
+use Rattle.joint_checker.specs.Passing.{PassesLine}
+
+-- what is left of a file that a desk tells, for a reader of its lines
+abbrev pub left_in : FileState → View → Option (List ℕ)
+left_in file view = left_ahead file (view.left slot.Algebra)
+
+-- What the work of reading the next line does: the clauses of the file's reader, before its first failure.
+pub record ReadsNext (max : ℕ) (old : FileState) (before : View) (out : Result PacLine LineFail) (new : FileState) (now : View) (t : Table) : Type 0 where
+  pub text : IfOk out (λ line. (text : List ℕ) × IsTextOf t max text line)
+  pub line : IfOk out (λ line. IfSome (left_in old before) (λ left. TakesText t max old.lines new.lines left (left_in new now) line))
+  pub refused : IfErr out (IsNextRefusal max old.lines (left_in old before) before.read_faults now.read_faults)
+  pub failed : new.failed ≡ result_err out
+  pub lengths : new.lines.lengths ≡ old.lines.lengths
+  pub only : ReadsOnly slot.Algebra before now
+  pub tells : KeepsTelling before now
+
+-- What a line that was read is for a checker: lawful, or closing. Then the specification vanishes.
+abbrev pub IsJudged : PacLine → Checking → Checking → Turn → Type 0
+IsJudged text old new turn.Taken = (line : Line) × (told old.table text ≡ Some line) × Takes line old new
+IsJudged text old new turn.Closed =
+    (id : ℕ) × (text ≡ pac.Close id) × Closes old.extended old.order (ledger_of old).live id × Always old.extended.gates (λ σ. specification old.extended old.order σ ≡ 0)
+
+-- Why it is refused, at this number.
+abbrev pub IsUnlawful : ℕ → PacLine → Checking → Checked → Type 0
+IsUnlawful n text c answer =
+    ((line : Line) × (fault : LineFault) × (told c.table text ≡ Some line) × IsFault c.extended (ledger_of c) line fault × (answer ≡ answer_of_rule n fault)) ⊎
+    ((id : ℕ) × (fault : CloseFault) × (text ≡ pac.Close id) × IsCloseFault c.extended c.order (ledger_of c) id fault × (answer ≡ answer_of_close n fault))
+
+-- Where these bytes are left to a reader of lines: a line of them is too long for the whole file.
+abbrev pub IsLongIn : Lines → List ℕ → List ℕ → Type 0
+IsLongIn lines body left = IsTooLong lines.lengths (lines.taken + length body) left
+
+-- A lawful line stands there, and the ledger next is the one behind it.
+pub record TakesLawful (e : Extended) (l next : Ledger) (old new : Lines) (left : List ℕ) (behind : Option (List ℕ)) : Type 0 where
+  pub line : Line
+  pub rest : List ℕ
+  pub begins : BeginsWith IsLineText left line rest
+  pub in_range : IsLineInRange e.max line
+  pub lawful : IsLawfulLine (modulus e) l line
+  pub ledger : Agree next (after (modulus e) l line)
+  pub passes : PassesLine old new left rest behind
+
+-- A closing line stands there, which closes.
+pub record TakesClosing (e : Extended) (order : Order) (l : Ledger) (old new : Lines) (left : List ℕ) (behind : Option (List ℕ)) : Type 0 where
+  pub id : ℕ
+  pub rest : List ℕ
+  pub begins : BeginsWith IsCloseText left id rest
+  pub in_range : IsId id
+  pub closes : Closes e order l.live id
+  pub passes : PassesLine old new left rest behind
+
+-- What a line was. That the specification vanishes is known whether or not the desk tells the file.
+abbrev pub Turns : Extended → Order → Ledger → Ledger → Lines → Lines → Option (List ℕ) → Option (List ℕ) → Turn → Type 0
+Turns e order l next old new left behind turn.Taken = IfSome left (λ bytes. TakesLawful e l next old new bytes behind)
+Turns e order l next old new left behind turn.Closed =
+    IfSome left (λ bytes. TakesClosing e order l old new bytes behind) × Always e.gates (λ σ. specification e order σ ≡ 0)
+
+-- Why the line with this number isn't taken: the first cause over the ledger, or a length that is met there.
+abbrev pub IsLineFail : ℕ → Extended → Order → Ledger → Lines → Option (List ℕ) → ℕ → ℕ → Checked → Type 0
+IsLineFail n e order l lines left before now (checked.Refused (refusal.Algebra line why)) =
+    (line ≡ n) × IfSome left (λ bytes. IsRefusedNext e order (IsLongIn lines bytes) l bytes (0, cause_of why))
+IsLineFail n e order l lines left before now (checked.TooLong slot.Algebra) = IfSome left (IsLongAhead lines)
+IsLineFail n e order l lines left before now checked.ReadFault = Rose before now
+IsLineFail n e order l lines left before now checked.Memory = ⊤
+IsLineFail n e order l lines left before now _ = ⊥
+
+-- Why the file doesn't end before the line with this number.
+abbrev pub IsEndFail : ℕ → Lines → Option (List ℕ) → ℕ → ℕ → Checked → Type 0
+IsEndFail n lines left before now (checked.Refused (refusal.Algebra line why.Text)) = (line ≡ n) × IfSome left (λ bytes. ¬ (IsLongAhead lines bytes) × (bytes ≢ []))
+IsEndFail n lines left before now (checked.TooLong slot.Algebra) = IfSome left (IsLongAhead lines)
+IsEndFail n lines left before now checked.ReadFault = Rose before now
+IsEndFail n lines left before now checked.Memory = ⊤
+IsEndFail n lines left before now _ = ⊥

@@ -1,0 +1,101 @@
+-- What `check` says of three files, and where each answer comes.
+use Rattle.std.specs.Prelude.{◌≡◌, ◌⊎◌, ℕ, List, IfSome, ⊤}
+use Rattle.aiger_reader.specs.Refusals as reading
+use Rattle.aiger_reader.specs.Refusals.{Refuses}
+use Rattle.aiger_reader.specs.declared.fail.ReadFail.{ReadFail}
+use Rattle.aiger_reader.specs.declared.fail.ReadFail.TheVariants as fail
+use Rattle.graph_core.specs.AlgebraRefusal as cause
+use Rattle.graph_core.specs.AlgebraRefusal.{AlgebraCause, IsAlgebraRefusal}
+use Rattle.graph_core.specs.Extended.{without_cut}
+use Rattle.graph_core.specs.Graph.{Aig}
+use Rattle.graph_core.specs.Operands.{Multiplies}
+use Rattle.graph_core.specs.declared.order.Order.{Order}
+use Rattle.mv_desk.specs.View.{View, SlotStays, Rose}
+use Rattle.mv_desk.specs.declared.limits.Limits.{Limits}
+use Rattle.mv_desk.specs.declared.slot.Slot.TheVariants as slot
+use Rattle.poly_text.specs.LineReading.{lengths_of}
+use Rattle.joint_checker.specs.declared.checked.AlgebraWhy.{AlgebraWhy}
+use Rattle.joint_checker.specs.declared.checked.AlgebraWhy.TheVariants as why
+use Rattle.joint_checker.specs.declared.checked.Checked.{Checked}
+use Rattle.joint_checker.specs.declared.checked.Checked.TheVariants as checked
+use Rattle.joint_checker.specs.declared.checked.ClauseWhy.TheVariants as clause
+use Rattle.joint_checker.specs.declared.checked.Refusal.TheVariants as refusal
+use Rattle.joint_checker.specs.Certificates.{IsClauseRefusal, IsLawfulPair, IsNoCut}
+use Rattle.joint_checker.specs.Certificates as certificate
+use Rattle.joint_checker.specs.Files.{AreTold, Files, HasGraph, Texts, texts_of}
+
+-- ---- what the three files come to
+
+-- the graph file's first refusal: a byte, a field or a fault
+abbrev pub IsGraphRefusal : ℕ → List ℕ → ReadFail → Type 0
+IsGraphRefusal limit file (fail.Text p) = Refuses limit file (fail.Text p)
+IsGraphRefusal limit file (fail.Header f) = Refuses limit file (fail.Header f)
+IsGraphRefusal limit file (fail.Graph f) = Refuses limit file (fail.Graph f)
+IsGraphRefusal limit file _ = ⊥
+
+-- the definitions' cause of that name
+abbrev pub cause_of : AlgebraWhy → AlgebraCause
+cause_of why.Text = cause.Text
+cause_of why.Range = cause.Range
+cause_of why.Id = cause.Id
+cause_of (why.NoSuchLine id) = cause.NoSuchLine id
+cause_of why.NotEqual = cause.NotEqual
+cause_of why.NotSpec = cause.NotSpecification
+
+-- The graph is spelled, and something holds of the clause file.
+abbrev pub MeetsClauses : Limits → Texts → (List ℕ → Type 0) → Type 0
+MeetsClauses limits texts P = HasGraph limits.graph texts (λ g. ⊤) × IfSome texts.clauses P
+
+-- The graph is spelled, the clause file is the one that replaces nothing, and something holds of the graph and the algebra file.
+abbrev pub MeetsAlgebra : Limits → Texts → (Aig → List ℕ → Type 0) → Type 0
+MeetsAlgebra limits texts P = IfSome texts.clauses (IsNoCut (lengths_of limits)) × HasGraph limits.graph texts (λ g. IfSome texts.algebra (P g))
+
+-- The answer that is due: the pair is lawful, or the first refusal, or a length that is met before any refusal.
+abbrev pub IsDue : Limits → Order → Texts → Checked → Type 0
+IsDue limits order texts checked.Accepted = IsLawfulPair limits order texts
+IsDue limits order texts (checked.Graph why) = IfSome texts.graph (λ bytes. IsGraphRefusal limits.graph bytes why)
+IsDue limits order texts (checked.TooLong slot.Graph) = IfSome texts.graph (reading.IsTooLong limits.graph)
+IsDue limits order texts (checked.Refused (refusal.Clauses line clause.Text)) = MeetsClauses limits texts (λ bytes. IsClauseRefusal (lengths_of limits) bytes (line, certificate.Text))
+IsDue limits order texts (checked.TooLong slot.Clauses) = MeetsClauses limits texts (λ bytes. (line : ℕ) × IsClauseRefusal (lengths_of limits) bytes (line, certificate.TooLong))
+IsDue limits order texts (checked.Refused (refusal.Algebra line why)) = MeetsAlgebra limits texts (λ g bytes. IsAlgebraRefusal (without_cut g) order (lengths_of limits) bytes (line, cause_of why))
+IsDue limits order texts (checked.TooLong slot.Algebra) = MeetsAlgebra limits texts (λ g bytes. (line : ℕ) × IsAlgebraRefusal (without_cut g) order (lengths_of limits) bytes (line, cause.TooLong))
+IsDue limits order texts _ = ⊥
+
+-- ---- what `check` answers
+
+-- files are opened in their order, and only when they are needed
+abbrev pub LeavesUnopened : Checked → View → View → Type 0
+LeavesUnopened (checked.Graph why) before after = SlotStays slot.Clauses before after × SlotStays slot.Algebra before after
+LeavesUnopened (checked.TooLong slot.Graph) before after = SlotStays slot.Clauses before after × SlotStays slot.Algebra before after
+LeavesUnopened (checked.Refused (refusal.Clauses line why)) before after = SlotStays slot.Algebra before after
+LeavesUnopened (checked.TooLong slot.Clauses) before after = SlotStays slot.Algebra before after
+LeavesUnopened _ before after = ⊤
+
+-- Where each answer comes, as far as the desk tells the files.
+abbrev pub IsOutcome : Limits → Order → Files → View → View → Checked → Type 0
+IsOutcome limits order files before after checked.Accepted =
+    IsLawfulPair limits order (texts_of before files) × HasGraph limits.graph (texts_of before files) (λ g. Multiplies g order)
+IsOutcome limits order files before after checked.ReadFault = Rose before.read_faults after.read_faults
+IsOutcome limits order files before after checked.Memory = ⊤
+IsOutcome limits order files before after outcome = IsDue limits order (texts_of before files) outcome × LeavesUnopened outcome before after
+
+-- ---- exactness
+
+-- the answer that is due; or in its place a failed read, which was counted, or want of memory
+abbrev pub Gives : View → View → Checked → Checked → Type 0
+Gives before after due given = (given ≡ due) ⊎ (((given ≡ checked.ReadFault) × Rose before.read_faults after.read_faults) ⊎ (given ≡ checked.Memory))
+
+-- Where the desk tells the three files, whichever answer is due is given.
+abbrev pub IsExactAnswer : Limits → Order → Files → View → View → Checked → Type 0
+IsExactAnswer limits order files before after given =
+    AreTold (texts_of before files) → (due : Checked) → IsDue limits order (texts_of before files) due → Gives before after due given
+
+-- Of three files that are told just one answer is due.
+pub record OneAnswerIsDue : Type 0 where
+  pub some : (limits : Limits) (order : Order) (texts : Texts) → AreTold texts → (due : Checked) × IsDue limits order texts due
+  pub one : (limits : Limits) (order : Order) (texts : Texts) → AreTold texts → (due other : Checked) → IsDue limits order texts due → IsDue limits order texts other → due ≡ other
+
+-- So what has its cause is the answer that is due, or a failed read or want of memory.
+abbrev pub OutcomesAreExact : Type 0
+OutcomesAreExact = (limits : Limits) (order : Order) (files : Files) (before after : View) (given : Checked) →
+    IsOutcome limits order files before after given → IsExactAnswer limits order files before after given

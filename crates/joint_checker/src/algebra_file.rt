@@ -1,0 +1,107 @@
+// The algebra certificate, line by line.
+ghost use Rattle.std.specs.Prelude.{◌≡◌, ◌<◌, ◌^◌, true, None, IfErr, IfSome, OnOk};
+ghost use Rattle.graph_core.specs.Algebra.{axioms, specification};
+ghost use Rattle.graph_core.specs.Extended.{without_cut};
+ghost use Rattle.graph_core.specs.Soundness.{IsMultiplierSized};
+ghost use Rattle.mv_desk.specs.Calls.{Inspects, ReadsOnly};
+ghost use Rattle.mv_desk.specs.View.{KeepsTelling, bytes_under};
+ghost use Rattle.mv_desk.specs.declared.slot.Slot.TheVariants as slot;
+ghost use Rattle.mv_fact.specs.Always.{Always};
+ghost use Rattle.pac_checker.specs.Agreement.{Agree};
+ghost use Rattle.pac_checker.specs.Checking.{ledger_of};
+ghost use Rattle.poly_text.specs.LineReading.{lengths_of};
+ghost use Rattle.joint_checker.specs.AlgebraBody.{IsBodyFail, IsLawfulBody};
+ghost use Rattle.joint_checker.specs.AlgebraLines.{left_in};
+ghost use Rattle.joint_checker.specs.Certificates.{IsLawfulAlgebra};
+ghost use Rattle.joint_checker.specs.Fails.{IsAlgebraFail};
+
+use crate::algebra_line::{Turn, judge_end, judge_line, line_refused};
+use crate::checked::Checked;
+use crate::read_line::ReadLine;
+use graph_core::{Graph, Operands, Order};
+use mv_desk::{Desk, Limits, Slot};
+use pac_checker::PacChecker;
+use poly_text::AlgebraFile;
+use ripple_graft::Extended;
+use std::alloc::Global;
+use std::marker::PhantomData;
+
+/// Whether a file is a lawful algebra certificate for a graph of which nothing is replaced.
+pub(crate) fn check_algebra<D: Desk>(
+    alloc: Global,
+    desk: &mut D,
+    limits: &Limits,
+    name: &str,
+    graph: &Graph,
+    order: Order,
+) -> Result<(), Checked>
+    requires { IsMultiplierSized graph.now }
+    ensures lawful { OnOk result (IfSome (bytes_under (D.seen desk.old) name.now) (IsLawfulAlgebra (lengths_of limits.now) graph.now order)) }
+    ensures vanishes { OnOk result (Always graph.now.gates (λ σ. specification (without_cut graph.now) order σ ≡ 0)) }
+    ensures refused { IfErr result (IsAlgebraFail (lengths_of limits.now) graph.now order (bytes_under (D.seen desk.old) name.now) (D.seen desk.old).read_faults (D.seen desk.new).read_faults) }
+    ensures inspects { Inspects (D.seen desk.old) (D.seen desk.new) }
+    ensures tells { KeepsTelling (D.seen desk.old) (D.seen desk.new) }
+{
+    match desk.open_file(Slot::Algebra, name) {
+        Ok(()) => judge_algebra(alloc, desk, limits, graph, order),
+        Err(_) => Err(Checked::ReadFault),
+    }
+}
+
+// Whether what is left in the slot `Algebra` is one.
+fn judge_algebra<D: Desk>(
+    alloc: Global,
+    desk: &mut D,
+    limits: &Limits,
+    graph: &Graph,
+    order: Order,
+) -> Result<(), Checked>
+    requires reads { (D.seen desk.old).reads slot.Algebra ≡ true }
+    requires sized { IsMultiplierSized graph.now }
+    ensures lawful { OnOk result (IfSome ((D.seen desk.old).left slot.Algebra) (IsLawfulAlgebra (lengths_of limits.now) graph.now order)) }
+    ensures vanishes { OnOk result (Always graph.now.gates (λ σ. specification (without_cut graph.now) order σ ≡ 0)) }
+    ensures refused { IfErr result (IsAlgebraFail (lengths_of limits.now) graph.now order ((D.seen desk.old).left slot.Algebra) (D.seen desk.old).read_faults (D.seen desk.new).read_faults) }
+    ensures only { ReadsOnly slot.Algebra (D.seen desk.old) (D.seen desk.new) }
+    ensures tells { KeepsTelling (D.seen desk.old) (D.seen desk.new) }
+{
+    let file = match AlgebraFile::start(alloc, desk, limits) {
+        Ok(file) => file,
+        Err(fail) => return Err(line_refused(1, fail)),
+    };
+    let extended = Extended::without_cut(graph);
+    let operands = Operands::of(alloc, graph, order)?;
+    let mut checker = PacChecker::new(alloc, &extended, &operands)?;
+    let mut work = ReadLine {
+        file,
+        max: graph.max(),
+        desk: PhantomData,
+    };
+    judge_lines(desk, &mut checker, &mut work)
+}
+
+// The lines behind the header, up to the end of the file.
+fn judge_lines<D: Desk>(
+    desk: &mut D,
+    checker: &mut PacChecker<'_>,
+    work: &mut ReadLine<D>,
+) -> Result<(), Checked>
+    requires reads { (D.seen desk.old).reads slot.Algebra ≡ true }
+    requires going { work.old.file.failed ≡ None }
+    requires limit { work.old.file.lines.lengths.file < 2 ^ 64 }
+    requires max { work.old.max ≡ checker.old.extended.max }
+    requires axioms { Agree (ledger_of checker.old) (axioms checker.old.extended) }
+    ensures lawful { OnOk result (IfSome (left_in work.old.file (D.seen desk.old)) (IsLawfulBody checker.old.extended checker.old.order work.old.file.lines)) }
+    ensures vanishes { OnOk result (Always checker.old.extended.gates (λ σ. specification checker.old.extended checker.old.order σ ≡ 0)) }
+    ensures refused { IfErr result (IsBodyFail checker.old.extended checker.old.order work.old.file.lines (left_in work.old.file (D.seen desk.old)) (D.seen desk.old).read_faults (D.seen desk.new).read_faults) }
+    ensures only { ReadsOnly slot.Algebra (D.seen desk.old) (D.seen desk.new) }
+    ensures tells { KeepsTelling (D.seen desk.old) (D.seen desk.new) }
+{
+    for line in 2..u64::MAX {
+        match judge_line(desk, checker, work, line)? {
+            Turn::Taken => {}
+            Turn::Closed => return judge_end(desk, &mut work.file, line + 1),
+        }
+    }
+    // So many lines have more bytes than a file may have.
+    Err(Checked::TooLong(Slot::Algebra))
+}
