@@ -106,6 +106,11 @@ fn accepts_lawful_certificates(rt: HostRuntime) -> Result<(), Fail> {
             "pac 1\n6 * 3, 3, -3*x3+3*x1*x2;\n7 + 6, 3, 0;\n8 * 3, -1, x3-x1*x2;\n3 d;\nq 8;\n",
         ),
         (
+            "combinations of lines of the file",
+            ONE_BIT_GRAPH,
+            "pac 1\n6 * 3, 4, 0;\n7 + 6, 3, x1*x2-x3;\n8 % 7 * (1) + 7 * (-2), x3-x1*x2;\nq 8;\n",
+        ),
+        (
             "symbols and comments",
             "aag 3 2 0 2 1 0 0 0 0\n2\n4\n6\n0\n6 4 2\ni0 a\no1 high\nc\nanything",
             ONE_BIT_ALGEBRA,
@@ -201,6 +206,76 @@ fn refuses_what_the_lines_before_rule_out(rt: HostRuntime) -> Result<(), Fail> {
 }
 
 #[test]
+fn refuses_sums_and_products_at_their_first_fault(rt: HostRuntime) -> Result<(), Fail> {
+    let alloc = rt.alloc();
+    for (text, report) in [
+        ("pac 1\n6 + 3, 3 0;\n", "refused algebra line 2: text\n"),
+        ("pac 1\n0 + 3, 3, 0;\n", "refused algebra line 2: range\n"),
+        ("pac 1\n5 + 3, 3, 0;\n", "refused algebra line 2: id\n"),
+        (
+            "pac 1\n6 + 2, 3, 0;\n",
+            "refused algebra line 2: no such line 2\n",
+        ),
+        (
+            "pac 1\n6 + 3, 4, 0;\n",
+            "refused algebra line 2: no such line 4\n",
+        ),
+        (
+            "pac 1\n6 + 3, 3, 0;\n",
+            "refused algebra line 2: not equal\n",
+        ),
+        ("pac 1\n6 * 3, , 0;\n", "refused algebra line 2: text\n"),
+        ("pac 1\n6 * 3, x4, 0;\n", "refused algebra line 2: range\n"),
+        ("pac 1\n3 * 3, 1, 0;\n", "refused algebra line 2: id\n"),
+        (
+            "pac 1\n6 * 4, 1, 0;\n",
+            "refused algebra line 2: no such line 4\n",
+        ),
+        (
+            "pac 1\n6 * 3, 1, x3-x1*x2;\n",
+            "refused algebra line 2: not equal\n",
+        ),
+    ] {
+        let mut desk = desk(alloc, ONE_BIT_GRAPH.as_bytes(), NO_CUT, text, &[], &[])?;
+        expect(&rt, alloc, &mut desk, &CHECK, 3, report, text)?;
+    }
+    Ok(())
+}
+
+#[test]
+fn refuses_other_lines_at_their_first_fault(rt: HostRuntime) -> Result<(), Fail> {
+    let alloc = rt.alloc();
+    for (text, report) in [
+        ("pac 1\n6 % 3 * (1, 0;\n", "refused algebra line 2: text\n"),
+        (
+            "pac 1\n6 % 3 * (340282366920938463463374607431768211456), 0;\n",
+            "refused algebra line 2: range\n",
+        ),
+        (
+            "pac 1\n6 % 3 * (1) + 7 * (1), 0;\n",
+            "refused algebra line 2: no such line 7\n",
+        ),
+        (
+            "pac 1\n6 % 3 * (1) + 3 * (1), 0;\n",
+            "refused algebra line 2: not equal\n",
+        ),
+        ("pac 1\n3 d\n", "refused algebra line 2: text\n"),
+        (
+            "pac 1\n281474976710656 d;\n",
+            "refused algebra line 2: range\n",
+        ),
+        ("pac 1\n4 d;\n", "refused algebra line 2: no such line 4\n"),
+        ("pac 1\nq 3\n", "refused algebra line 2: text\n"),
+        ("pac 1\nq 0;\n", "refused algebra line 2: range\n"),
+        ("pac 1\nq 4;\n", "refused algebra line 2: no such line 4\n"),
+    ] {
+        let mut desk = desk(alloc, ONE_BIT_GRAPH.as_bytes(), NO_CUT, text, &[], &[])?;
+        expect(&rt, alloc, &mut desk, &CHECK, 3, report, text)?;
+    }
+    Ok(())
+}
+
+#[test]
 fn refuses_other_clause_files(rt: HostRuntime) -> Result<(), Fail> {
     let alloc = rt.alloc();
     for (shows, text, report) in [
@@ -243,6 +318,11 @@ fn refuses_texts_of_graphs(rt: HostRuntime) -> Result<(), Fail> {
             "graph refused at byte 0: text\n",
         ),
         ("latches", "aag 3 2 1 2 0\n", "graph refused: header L\n"),
+        (
+            "a gate is cut",
+            "aag 3 2 0 2 1\n2\n4\n6\n0\n6 4",
+            "graph refused at byte 25: text\n",
+        ),
         (
             "a cycle",
             "aag 4 2 0 2 2\n2\n4\n6\n0\n6 8 2\n8 6 4\n",
@@ -421,6 +501,14 @@ fn evaluates_graphs(rt: HostRuntime) -> Result<(), Fail> {
             "value=1\n",
         ),
         (
+            "the second gate number is missing",
+            b"aig 3 2 0 2 1\n6\n0\n\x02",
+            "1",
+            "1",
+            4,
+            "graph refused at byte 19: text\n",
+        ),
+        (
             "a gate number of six bytes",
             b"aig 3 2 0 2 1\n6\n0\n\x82\x80\x80\x80\x80\x00\x02",
             "1",
@@ -492,4 +580,26 @@ fn a_file_that_cannot_be_created_is_a_write_fault(rt: HostRuntime) -> Result<(),
     )?;
     assert!(rt; desk.bytes("x").is_none());
     Ok(())
+}
+
+#[test]
+fn the_64_bit_array_has_its_greatest_product(rt: HostRuntime) -> Result<(), Fail> {
+    let alloc = rt.alloc();
+    let mut made = desk(alloc, b"", NO_CUT, ONE_BIT_ALGEBRA, &[], &[])?;
+    let words = ["mulver", "make", "array", "64", "ripple", "x"];
+    expect(&rt, alloc, &mut made, &words, 0, "made\n", "64 bits")?;
+    let graph = Vec::from_slice(alloc, made.bytes("x").unwrap_or_default())?;
+    let mut desk = desk(alloc, &graph, NO_CUT, ONE_BIT_ALGEBRA, &[], &[])?;
+    let greatest = "18446744073709551615";
+    let words = ["mulver", "eval", "g", greatest, greatest];
+    let report = "value=340282366920938463426481119284349108225\n";
+    expect(
+        &rt,
+        alloc,
+        &mut desk,
+        &words,
+        0,
+        report,
+        "its greatest product",
+    )
 }
