@@ -1,11 +1,12 @@
 -- Of a graph file that is told just one answer of `eval` is due.
-use Rattle.std.proofs.Common.{◌≡◌, ℕ, ◌^◌, ◌<◌, ◌≤◌, List, refl, sym, ap, ap₂, subst, ◌∙◌, arith, inl, inr}
+use Rattle.std.proofs.Common.{◌≡◌, ℕ, ◌^◌, ◌<◌, ◌≤◌, Bool, true, false, List, nat_lt, refl, sym, ap, subst, ◌∙◌, arith, inl, inr, ltb-true}
+use Rattle.std.proofs.lemmas.Bool.{ltb-false}
 use Rattle.std.specs.Prelude.{◌⊎◌, Some}
 use Rattle.aiger_reader.specs.Refusals as reading
 use Rattle.aiger_reader.specs.Refusals.{IsFoundWithin, SpellsWithin}
 use Rattle.aiger_reader.specs.declared.fail.ReadFail.{ReadFail}
 use Rattle.aiger_reader.specs.declared.fail.ReadFail.TheVariants as fail
-use Rattle.aiger_reader.proofs.LimitLaws.{found_is_first}
+use Rattle.aiger_reader.proofs.LimitLaws.{found_is_first, spelled_found_or_long}
 use Rattle.graph_core.specs.Graph.{Aig}
 use Rattle.graph_core.specs.GraphRefusal.{Refusal, Text, Header, Faulty}
 use Rattle.graph_core.specs.Operands.{value_on, width}
@@ -14,7 +15,7 @@ use Rattle.joint_checker.specs.Outcome.{IsGraphRefusal}
 use Rattle.verdict_program.specs.declared.evaluated.Evaluated.{Evaluated}
 use Rattle.verdict_program.specs.declared.evaluated.Evaluated.TheVariants as evaluated
 use Rattle.verdict_program.specs.declared.pair.Pair.{Pair}
-use Rattle.verdict_program.specs.Evaluation.{Fits, IsTooGreat, IsValueDue}
+use Rattle.verdict_program.specs.Evaluation.{Fits, IsTooGreat, IsValueDue, OneValueIsDue}
 
 -- the reader's answer of a refusal
 abbrev answer_of : Refusal → ReadFail
@@ -88,3 +89,31 @@ module _ (limit : ℕ) (bytes : List ℕ) (pair : Pair) where
   one_value_due evaluated.TooLong evaluated.Memory h k = absurd k
   one_value_due evaluated.ReadFault other h k = absurd h
   one_value_due evaluated.Memory other h k = absurd h
+
+  refused : (r : Refusal) → IsFoundWithin limit bytes r → IsGraphRefusal limit bytes (answer_of r)
+  refused (Text p) h = h
+  refused (Header f) h = h
+  refused (Faulty f) h = h
+
+  judged : (g : Aig) → SpellsWithin limit bytes g → (due : Evaluated) × IsValueDue limit (Some bytes) pair due
+  judged g s = at (nat_lt pair.a (2 ^ width g)) refl (nat_lt pair.b (2 ^ width g)) refl
+    where
+      at : (c : Bool) → nat_lt pair.a (2 ^ width g) ≡ c → (d : Bool) → nat_lt pair.b (2 ^ width g) ≡ d → (due : Evaluated) × IsValueDue limit (Some bytes) pair due
+      at true low true high =
+          (evaluated.Value (value_on g pair.order pair.a pair.b), (g, s, ((ltb-true pair.a (2 ^ width g) low, ltb-true pair.b (2 ^ width g) high), refl)))
+      at true low false high = (evaluated.TooGreat, (g, s, inr (ltb-false pair.b (2 ^ width g) high)))
+      at false low d high = (evaluated.TooGreat, (g, s, inl (ltb-false pair.a (2 ^ width g) low)))
+
+  some_value_due : (due : Evaluated) × IsValueDue limit (Some bytes) pair due
+  some_value_due = go (spelled_found_or_long limit bytes)
+    where
+      go : ((g : Aig) × SpellsWithin limit bytes g) ⊎ ((r : Refusal) × IsFoundWithin limit bytes r) ⊎ reading.IsTooLong limit bytes → (due : Evaluated) × IsValueDue limit (Some bytes) pair due
+      go (inl s) = judged s.0 s.1
+      go (inr (inl r)) = (evaluated.Graph (answer_of r.0), refused r.0 r.1)
+      go (inr (inr long)) = (evaluated.TooLong, long)
+
+pub one_value_is_due : OneValueIsDue
+one_value_is_due = record {
+  some = λ limit bytes pair. some_value_due limit bytes pair;
+  one = λ limit bytes pair due other h k. one_value_due limit bytes pair due other h k;
+}

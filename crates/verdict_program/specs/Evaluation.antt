@@ -1,5 +1,5 @@
 -- What `eval` says of a graph file and two operands, and when.
-use Rattle.std.specs.Prelude.{◌≡◌, ◌⊎◌, ℕ, ◌^◌, ◌<◌, ◌≤◌, List, IfSome, ⊤}
+use Rattle.std.specs.Prelude.{◌≡◌, ◌⊎◌, ℕ, ◌^◌, ◌<◌, ◌≤◌, List, Some, IfSome, ⊤}
 use Rattle.std.specs.declared.option.Option.{Option}
 use Rattle.aiger_reader.specs.Refusals as reading
 use Rattle.aiger_reader.specs.Refusals.{SpellsWithin}
@@ -59,3 +59,10 @@ answer_of_graph (fail.Graph f) = evaluated.Graph (fail.Graph f)
 answer_of_graph fail.Fault = evaluated.ReadFault
 answer_of_graph fail.TooLong = evaluated.TooLong
 answer_of_graph fail.Memory = evaluated.Memory
+
+-- ---- a law
+
+-- To a file that is told just one answer is due.
+pub record OneValueIsDue : Type 0 where
+  pub some : (limit : ℕ) (bytes : List ℕ) (pair : Pair) → (due : Evaluated) × IsValueDue limit (Some bytes) pair due
+  pub one : (limit : ℕ) (bytes : List ℕ) (pair : Pair) (due other : Evaluated) → IsValueDue limit (Some bytes) pair due → IsValueDue limit (Some bytes) pair other → due ≡ other
