@@ -2,7 +2,8 @@
 //!
 //! `Graph::build` gives the graph of some lists exactly where they have no fault, and else their first fault. A graph
 //! tells of each variable its gate, its level and how often it is read, and writes the values of all variables.
-//! `Operands` tells which input is which bit. Only `Graph::build` and `Operands::of` take memory.
+//! `Operands` tells which input is which bit, and `Graph::value_on` gives the value on two operands. Only it, `Graph::build`
+//! and `Operands::of` take memory.
 //!
 //! The contracts of all crates above cite the words of `specs/`: what bytes spell (`Aiger`), evaluation and levels
 //! (`Graph`), operands and the product (`Operands`), faults (`GraphRefusal`), polynomials by their values (`Polynomial`),
