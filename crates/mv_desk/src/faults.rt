@@ -1,14 +1,11 @@
 use thiserror::Error;
 
-/// Why a file wasn't read whole.
+/// Why the front of a file isn't read.
 #[derive(Clone, Copy, Debug, PartialEq, Eq, Error)]
 pub enum ReadFault {
     /// A read failed.
     #[error("a read failed")]
     Fault,
-    /// More bytes than the limit.
-    #[error("too long")]
-    TooLong,
     #[error("want of memory")]
     Memory,
 }

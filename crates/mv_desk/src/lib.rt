@@ -27,4 +27,4 @@ pub use memory::{HonestDesk, MemoryDesk};
 pub use names::Names;
 pub use real::RealDesk;
 pub use slot::Slot;
-pub use whole::{read_whole, write_all};
+pub use whole::{read_front, write_all};

@@ -3,7 +3,7 @@ ghost use Rattle.std.specs.Prelude.{◌<◌, IfOk};
 ghost use Rattle.mv_desk.specs.View.{HasReport};
 
 use crate::{
-    Desk, Failed, HonestDesk, MemoryDesk, Names, ReadFault, RealDesk, Slot, WriteFault, read_whole,
+    Desk, Failed, HonestDesk, MemoryDesk, Names, ReadFault, RealDesk, Slot, WriteFault, read_front,
     write_all,
 };
 use std::alloc::{AllocError, Global};
@@ -22,7 +22,7 @@ fn desk_of(alloc: Global, pieces: &[usize], fails: &[u64]) -> Result<MemoryDesk,
 }
 
 // Opens a file and reads it whole.
-fn whole_of<D: Desk>(
+fn front_of<D: Desk>(
     alloc: Global,
     desk: &mut D,
     name: &str,
@@ -33,7 +33,7 @@ fn whole_of<D: Desk>(
     let Ok(()) = desk.open_file(Slot::Graph, name) else {
         return Err(ReadFault::Fault);
     };
-    read_whole(alloc, desk, Slot::Graph, limit)
+    read_front(alloc, desk, Slot::Graph, limit)
 }
 
 // How many bytes three reads of a file give.
@@ -71,9 +71,9 @@ fn reads_are_cut_into_pieces(rt: HostRuntime) -> Result<(), Fail> {
 }
 
 #[test]
-fn a_file_in_pieces_is_read_whole(rt: HostRuntime) -> Result<(), Fail> {
+fn a_file_in_pieces_is_read_to_its_end(rt: HostRuntime) -> Result<(), Fail> {
     let mut desk = desk_of(rt.alloc(), &[1, 3], &[])?;
-    let bytes = whole_of(rt.alloc(), &mut desk, "g", 9)?;
+    let bytes = front_of(rt.alloc(), &mut desk, "g", 9)?;
     assert!(rt; bytes.as_slice() == b"hello".as_slice());
     Ok(())
 }
@@ -81,15 +81,16 @@ fn a_file_in_pieces_is_read_whole(rt: HostRuntime) -> Result<(), Fail> {
 #[test]
 fn a_file_of_exactly_the_limit_is_read(rt: HostRuntime) -> Result<(), Fail> {
     let mut desk = desk_of(rt.alloc(), &[1, 3], &[])?;
-    assert!(rt; whole_of(rt.alloc(), &mut desk, "g", 5)?.len() == 5);
+    assert!(rt; front_of(rt.alloc(), &mut desk, "g", 5)?.len() == 5);
     Ok(())
 }
 
 #[test]
-fn one_byte_more_than_the_limit_is_too_long(rt: HostRuntime) -> Result<(), Fail> {
+fn a_byte_past_the_limit_is_read_and_no_piece_more(rt: HostRuntime) -> Result<(), Fail> {
     let mut desk = desk_of(rt.alloc(), &[1, 3], &[])?;
-    let read = whole_of(rt.alloc(), &mut desk, "g", 4);
-    assert!(rt; matches!(read, Err(ReadFault::TooLong)));
+    let bytes = front_of(rt.alloc(), &mut desk, "g", 3)?;
+    assert!(rt; bytes.as_slice() == b"hell".as_slice());
+    assert!(rt; desk.rest(Slot::Graph) == b"o".as_slice());
     Ok(())
 }
 
@@ -97,7 +98,7 @@ fn one_byte_more_than_the_limit_is_too_long(rt: HostRuntime) -> Result<(), Fail>
 fn calls_fail_by_their_list(rt: HostRuntime) -> Result<(), Fail> {
     let mut desk = desk_of(rt.alloc(), &[2], &[1, 4])?;
     assert!(rt; reads_of(&mut desk, "g") == Err(Failed));
-    let read = whole_of(rt.alloc(), &mut desk, "g", 9);
+    let read = front_of(rt.alloc(), &mut desk, "g", 9);
     assert!(rt; matches!(read, Err(ReadFault::Fault)));
     assert!(rt; desk.rest(Slot::Graph) == b"llo".as_slice());
     assert!(rt; reads_of(&mut desk, "h") == Err(Failed), "no such file");
@@ -125,7 +126,7 @@ fn a_file_that_is_created_loses_its_bytes(rt: HostRuntime) -> Result<(), Fail> {
 #[test]
 fn an_honest_desk_opens_what_is_not_held_as_empty(rt: HostRuntime) -> Result<(), Fail> {
     let mut desk = HonestDesk::new(rt.alloc());
-    assert!(rt; whole_of(rt.alloc(), &mut desk, "g", 9)?.is_empty());
+    assert!(rt; front_of(rt.alloc(), &mut desk, "g", 9)?.is_empty());
     assert!(rt; desk.bytes("g") == None);
     Ok(())
 }
@@ -134,7 +135,7 @@ fn an_honest_desk_opens_what_is_not_held_as_empty(rt: HostRuntime) -> Result<(),
 fn an_honest_desk_reads_what_was_written(rt: HostRuntime) -> Result<(), Fail> {
     let mut desk = HonestDesk::new(rt.alloc());
     write_file(&mut desk, "g", b"aag")?;
-    let bytes = whole_of(rt.alloc(), &mut desk, "g", 9)?;
+    let bytes = front_of(rt.alloc(), &mut desk, "g", 9)?;
     assert!(rt; bytes.as_slice() == b"aag".as_slice());
     assert!(rt; desk.rest(Slot::Graph).is_empty());
     assert!(rt; desk.out(Slot::Other) == b"aag".as_slice());
@@ -145,7 +146,7 @@ fn an_honest_desk_reads_what_was_written(rt: HostRuntime) -> Result<(), Fail> {
 fn files_of_the_machine_are_written_and_read(rt: HostRuntime) -> Result<(), Fail> {
     let mut desk = RealDesk::new(&rt);
     write_file(&mut desk, "mv_desk_test_file", b"pac 1\n")?;
-    let bytes = whole_of(rt.alloc(), &mut desk, "mv_desk_test_file", 6)?;
+    let bytes = front_of(rt.alloc(), &mut desk, "mv_desk_test_file", 6)?;
     assert!(rt; bytes.as_slice() == b"pac 1\n".as_slice());
     assert!(rt; reads_of(&mut desk, "mv_desk_no_such_file") == Err(Failed));
     Ok(())

@@ -1,5 +1,5 @@
-ghost use Rattle.std.specs.Prelude.{◌≡◌, ◌-◌, ◌<◌, ◌≤◌, ◌^◌, true, length, vec_len, IfOk, IfSome, IsErrOf, OnOk, OnErr};
-ghost use Rattle.std.specs.Io.KnownBytes.{IsAtEnd};
+ghost use Rattle.std.specs.Prelude.{◌≡◌, ◌≤◌, true, vec_len, IfOk, IsErrOf, OnOk, OnErr};
+ghost use Rattle.std.specs.Io.KnownBytes.{Consumes, IsAtEnd};
 ghost use Rattle.mv_desk.specs.View.{KeepsTelling, Rose};
 ghost use Rattle.mv_desk.specs.Calls.{HasWriteCause, ReadsOnly, WritesPart, WritesTo};
 
@@ -9,20 +9,20 @@ use std::alloc::Global;
 /// How many bytes a read asks for.
 const ROOM: usize = 4096;
 
-/// What is left in a slot, to its end, if that is at most `limit` bytes.
-pub fn read_whole<D: Desk>(
+/// What is left in a slot, to its end or up to a byte past the limit at least.
+pub fn read_front<D: Desk>(
     alloc: Global,
     desk: &mut D,
     slot: Slot,
     limit: u64,
 ) -> Result<Vec<u8>, ReadFault>
-    requires open { (D.seen desk.old).reads slot ≡ true }
-    requires limit { limit < 2 ^ 64 - 1 }
-    ensures whole { IfOk result (λ bytes. IfSome ((D.seen desk.old).left slot) (λ left. bytes.items ≡ left)) }
-    ensures within { IfOk result (λ bytes. vec_len bytes ≤ limit) }
-    ensures end { OnOk result (IsAtEnd ((D.seen desk.new).left slot)) }
-    ensures fault { IsErrOf result ReadFault.Fault → Rose (D.seen desk.old).read_faults (D.seen desk.new).read_faults }
-    ensures too_long { IsErrOf result ReadFault.TooLong → IfSome ((D.seen desk.old).left slot) (λ left. limit < length left) }
+    requires { (D.seen desk.old).reads slot ≡ true }
+    ensures front { IfOk result
+        (λ bytes. Consumes ((D.seen desk.old).left slot) ((D.seen desk.new).left slot) bytes.items) }
+    ensures end { IfOk result
+        (λ bytes. vec_len bytes ≤ limit → IsAtEnd ((D.seen desk.new).left slot)) }
+    ensures fault { IsErrOf result ReadFault.Fault
+        → Rose (D.seen desk.old).read_faults (D.seen desk.new).read_faults }
     ensures only { ReadsOnly slot (D.seen desk.old) (D.seen desk.new) }
     ensures tells { KeepsTelling (D.seen desk.old) (D.seen desk.new) }
 {
@@ -39,7 +39,7 @@ pub fn read_whole<D: Desk>(
             Err(Failed) => return Err(ReadFault::Fault),
         }
     }
-    Err(ReadFault::TooLong)
+    Ok(bytes)
 }
 
 /// Writes bytes whole, as the desk takes them. After an error a front part of them was written.

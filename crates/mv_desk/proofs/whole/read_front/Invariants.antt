@@ -2,7 +2,7 @@ use Rattle.std.proofs.Common.{◌-◌, ◌+◌, vec_len}
 use Rattle.std.specs.Io.KnownBytes.{Consumes}
 use Rattle.mv_desk.specs.Calls.{ReadsOnly}
 use Rattle.mv_desk.specs.View.{KeepsTelling}
-use Rattle.mv_desk.proofs.whole.read_whole.Given as goal
+use Rattle.mv_desk.proofs.whole.read_front.Given as goal
 
 abbrev pub invariant-loop-slot : goal.invariant-loop-slot
 invariant-loop-slot g l = record {
