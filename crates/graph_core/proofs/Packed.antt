@@ -9,7 +9,7 @@ use Rattle.graph_core.specs.declared.literal.Lit.{Lit}
 use Rattle.graph_core.specs.declared.gate.Gate.{Gate}
 use Rattle.graph_core.specs.Literal.{variable_of}
 use Rattle.graph_core.specs.Graph.{IsDefinedOnce, IsAcyclic, defined, read_literals}
-use Rattle.graph_core.specs.Aiger.{Listing, graph_of, AreConsecutive, ArePackedGates, IsPacked, HasMultiplierCounts, IsFaultless, PackedSpells}
+use Rattle.graph_core.specs.Aiger.{Listing, graph_of, AreConsecutive, ArePackedGates, IsPacked, HasMultiplierCounts, IsFaultless}
 
 -- the numbers k, k + 1, ..
 abbrev pub Counts : ℕ → List ℕ → Type 0
@@ -146,8 +146,3 @@ module _ (g : Listing) (packed : IsPacked g) where
 
 pub packed_is_faultless : (g : Listing) → HasMultiplierCounts g → IsPacked g → IsFaultless g
 packed_is_faultless g counts packed = packed_faultless g packed
-
-pub packed_spells : PackedSpells
-packed_spells bytes graph spells =
-    let g = spells.0 in
-    (g, ([], ([], [], tt, tt, refl), spells.2, inl spells.1), packed_is_faultless g spells.2 spells.3, spells.4)

@@ -35,8 +35,8 @@ pub use evaluation_laws::{
 pub use fault::{BuildFail, Field, GraphFault};
 pub use file_laws::{
     ascii_text_spells, binary_text_spells, fault_is_found, graph_is_read, lists_are_read,
-    no_fault_is_found, not_spelled_and_refused, one_graph, one_refusal, packed_spells,
-    refusal_is_read, shown_faults, spelled_or_refused,
+    no_fault_is_found, not_spelled_and_refused, one_graph, one_refusal, refusal_is_read,
+    shown_faults, spelled_or_refused,
 };
 pub use gate::Gate;
 pub use graph::Graph;
