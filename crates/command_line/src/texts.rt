@@ -1,5 +1,5 @@
 // The texts of a subcommand, each under its name.
-ghost use Rattle.std.specs.Prelude.{◌≡◌, codes, option_map};
+ghost use Rattle.std.specs.Prelude.{◌≡◌, option_map};
 ghost use Rattle.clap.specs.Words.{first_of, found_of, rows_of};
 ghost use Rattle.command_line.specs.Asked.{adder_named, bits_of, kind_named, number_of, order_at, read_at};
 ghost use Rattle.command_line.specs.Reading.{Reads};
