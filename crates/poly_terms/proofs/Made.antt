@@ -1,21 +1,20 @@
 -- What the calls of a table make, in values.
 use Rattle.std.specs.Global.{Global}
 use Rattle.std.specs.declared.vec.Vec.{Vec}
-use Rattle.std.proofs.Common.{◌≡◌, ℕ, ◌+◌, ◌*◌, ◌%◌, ◌^◌, List, [], ◌∷◌, take, drop, sum_by, refl, sym, ap, ap₂, subst, ◌∙◌, arith}
-use Rattle.std.proofs.Math.Nat.{mod-mod}
-use Rattle.std.proofs.lemmas.List.{take-append-drop}
-use Rattle.std.proofs.lemmas.List.Sums.{sum_by-append}
+use Rattle.std.proofs.Common.{◌≡◌, ℕ, ◌+◌, ◌*◌, ◌%◌, ◌^◌, List, [], ◌∷◌, ◌++◌, sum_by, refl, sym, ap, ap₂, subst, ◌∙◌}
+use Rattle.std.proofs.Math.Nat.{add-mod-mod, mod-mod}
+use Rattle.std.proofs.lemmas.List.Sums.{sum_by-cons}
 use Rattle.std.specs.List.{AllByRecursion}
 use Rattle.graph_core.specs.Assignment.{Assignment}
 use Rattle.graph_core.specs.Polynomial.{product, sum_of, value}
 use Rattle.graph_core.specs.NormalForm.{AreRising}
-use Rattle.graph_core.proofs.Lists.{all_split}
-use Rattle.poly_terms.specs.Entries.{plus, products, total, IsGathered, Sum}
+use Rattle.poly_terms.specs.Entries.{products, total, IsGathered, Sum}
 use Rattle.poly_terms.specs.Tables.{Table, IsOf, IsAdded, AreEntriesOf, modulus, table_of, variables_in, monomials_in, value_in, given}
 use Rattle.poly_terms.proofs.Residues.{sum_of_reduced, product_of_reduced}
 use Rattle.poly_terms.proofs.Keys.{product-joined}
 use Rattle.poly_terms.proofs.Factors.{total-products, rising-products}
-use Rattle.poly_terms.proofs.Values.{value-total, value-plus, plus-IsOf}
+use Rattle.poly_terms.proofs.Values.{value-total}
+use Rattle.poly_terms.proofs.Gathering.{all_joined, total-append}
 
 pub gathered-IsOf : (t : Table) (raw p : Sum) → IsGathered (modulus t) raw p → AllByRecursion (λ e. AreRising 0 e.0) raw → IsOf t p
 unfolding IsOf
@@ -43,20 +42,31 @@ gathered_along w t raw raw' p p' e f g h =
 pub value_below : (t : Table) (p : Sum) (σ : Assignment) → value_in t p σ % modulus t ≡ value_in t p σ
 value_below t p σ = mod-mod (sum_of (modulus t) (monomials_in t p) σ) (modulus t)
 
-pub added_none : (t : Table) → IsAdded t [] []
-unfolding IsOf monomials_in
-added_none t = record { of = λ h. record { coefficients = tt; variables = tt; order = tt }; values = λ σ. refl }
+-- the entries of some lists, one after the other
+abbrev pub appended : List Sum → Sum
+appended [] = []
+appended (p ∷ ps) = p ++ appended ps
 
-pub added_one : (t : Table) (p : Sum) → IsAdded t (p ∷ []) p
-added_one t p = record { of = λ h. h.0; values = λ σ. sym (value_below t p σ) ∙ ap (λ n. n % modulus t) (omega arith) }
+rising-appended : (t : Table) (ps : List Sum) → AllByRecursion (IsOf t) ps → AllByRecursion (λ e. AreRising 0 e.0) (appended ps)
+unfolding IsOf
+rising-appended t [] h = tt
+rising-appended t (p ∷ ps) h = all_joined (λ e. AreRising 0 e.0) p (appended ps) h.0.variables (rising-appended t ps h.1)
 
-pub added_halves : (t : Table) (k : ℕ) (ps : List Sum) (p q : Sum) → IsAdded t (take k ps) p → IsAdded t (drop k ps) q → IsAdded t ps (plus (modulus t) p q)
-added_halves t k ps p q a b =
-    let whole = take-append-drop k ps in
+total-appended : (t : Table) (ps : List Sum) (σ : Assignment) → total (λ k. product σ k) (appended ps) % modulus t ≡ sum_by (λ p. value_in t p σ) ps % modulus t
+total-appended t [] σ = refl
+total-appended t (p ∷ ps) σ =
+    let m = modulus t in
+    let f = λ (k : List ℕ). product σ k in
+    let v = λ (q : Sum). value_in t q σ in
+    ap (λ n. n % m) (total-append f p (appended ps)) ∙ sym (sum_of_reduced m (total f p) (total f (appended ps))) ∙
+    ap₂ (λ a b. (a + b) % m) (sym (value-total t p σ)) (total-appended t ps σ) ∙ add-mod-mod (v p) (sum_by v ps) m ∙ ap (λ n. n % m) (sym (sum_by-cons v p ps))
+
+-- the sum of the entries of all is that of the values
+pub added_all : (w : ℕ) (ps : List Sum) (raw out : Sum) → raw ≡ appended ps → IsGathered (2 ^ w) raw out → IsAdded (table_of w) ps out
+added_all w ps raw out is g =
+    let t = table_of w in
+    let h : IsGathered (modulus t) (appended ps) out = subst (λ x. IsGathered (2 ^ w) x out) is g in
     record {
-      of = λ h. let parts = all_split (IsOf t) (take k ps) (drop k ps) (subst (AllByRecursion (IsOf t)) (sym whole) h) in plus-IsOf t p q (a.of parts.0) (b.of parts.1);
-      values = λ σ.
-          let f = λ (r : Sum). value_in t r σ in
-          value-plus t p q σ ∙ ap₂ (λ x y. (x + y) % modulus t) (a.values σ) (b.values σ) ∙ sum_of_reduced (modulus t) (sum_by f (take k ps)) (sum_by f (drop k ps)) ∙
-          ap (λ n. n % modulus t) (sym (sum_by-append f (take k ps) (drop k ps)) ∙ ap (sum_by f) whole);
+      of = λ all. gathered-IsOf t (appended ps) out h (rising-appended t ps all);
+      values = λ σ. value-total t out σ ∙ h.sums (λ k. product σ k) ∙ total-appended t ps σ;
     }

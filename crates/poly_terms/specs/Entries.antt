@@ -1,5 +1,5 @@
 -- Entries, each a monomial with its coefficient, and what is made of lists of them.
-use Rattle.std.specs.Prelude.{◌≡◌, ℕ, ◌+◌, ◌*◌, ◌%◌, ◌<◌, cond, not, ◌==◌, None, List, [], ◌∷◌, ◌++◌, map}
+use Rattle.std.specs.Prelude.{◌≡◌, ◌≢◌, ◌⊎◌, ℕ, ◌+◌, ◌*◌, ◌%◌, ◌<◌, cond, not, ◌==◌, None, List, [], ◌∷◌, ◌++◌, map}
 use Rattle.std.specs.List.{AllByRecursion, filter}
 use Rattle.std.specs.declared.cmp.Ordering.{Ordering}
 use Rattle.std.specs.Ordering.{nat_cmp}
@@ -35,6 +35,12 @@ total f (e ∷ es) = e.1 * f e.0 + total f es
 -- an entry alone, unless its coefficient is 0 modulo m
 abbrev pub one_entry : ℕ → Summand → Sum
 one_entry m e = cond (e.1 % m == 0) [] ((e.0, e.1 % m) ∷ [])
+
+-- An entry put behind others: added to the last where that has its monomial, and not at all where the sum is 0.
+abbrev pub IsPutBehind : ℕ → Summand → Sum → Sum → Type 0
+IsPutBehind m e old new =
+    ((front : Sum) × (last : Summand) × (old ≡ front ++ last ∷ []) × (last.0 ≡ e.0) × (new ≡ front ++ one_entry m (e.0, last.1 + e.1)))
+    ⊎ (((front : Sum) (last : Summand) → old ≡ front ++ last ∷ [] → last.0 ≢ e.0) × (new ≡ old ++ one_entry m e))
 
 -- A sorted list with the sum of some entries, modulo m.
 pub record IsGathered (m : ℕ) (raw entries : Sum) : Type 0 where

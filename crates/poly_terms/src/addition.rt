@@ -1,7 +1,7 @@
 // Sums of sorted lists of entries, and of entries in any order.
 ghost use Rattle.std.specs.Prelude.{◌≡◌, ◌++◌, ◌^◌, [], IfOk, OnOk};
 ghost use Rattle.mv_nums.specs.Residue.{IsWidth};
-ghost use Rattle.poly_terms.specs.Entries.{IsGathered, add_entries, one_entry, plus};
+ghost use Rattle.poly_terms.specs.Entries.{IsGathered, IsPutBehind, add_entries, plus};
 ghost use Rattle.poly_terms.specs.Tables.{IsAdded, table_of};
 
 use crate::entry::Entry;
@@ -55,7 +55,8 @@ fn push_sum(
     out: &mut Vec<Entry>,
 ) -> Result<(), AllocError>
     requires { IsWidth width }
-    ensures { OnOk result (out.new.items ≡ out.old.items ++ add_entries (2 ^ width) x.now y.now []) }
+    ensures { OnOk result
+        (out.new.items ≡ out.old.items ++ add_entries (2 ^ width) x.now y.now []) }
 {
     let coefficient = coefficient::sum(width, x.coefficient(), y.coefficient());
     if coefficient != 0 {
@@ -72,61 +73,60 @@ pub(crate) fn copy_behind(
 ) -> Result<(), AllocError>
     ensures { OnOk result (out.new.items ≡ out.old.items ++ entries.now) }
 {
+    out.reserve(entries.len())?;
     for entry in entries {
         out.push(entry.copy(alloc)?)?;
     }
     Ok(())
 }
 
-/// The sum of entries in any order, by halves.
-pub(crate) fn gather(alloc: Global, width: u32, raw: &[Entry]) -> Result<Vec<Entry>, AllocError>
+/// The sum of entries in any order: sorted, and those of one monomial added up.
+pub(crate) fn gather(alloc: Global, width: u32, raw: Vec<Entry>) -> Result<Vec<Entry>, AllocError>
     requires { IsWidth width }
-    ensures { IfOk result (λ out. IsGathered (2 ^ width) raw.now out.items) }
+    ensures { IfOk result (λ out. IsGathered (2 ^ width) raw.items out.items) }
 {
-    if raw.len() == 0 {
-        return Ok(Vec::new(alloc));
+    let mut sorted = raw;
+    sorted.sort_unstable_by(|x, y| x.compare(y));
+    let mut out = Vec::with_capacity(alloc, sorted.len())?;
+    for entry in sorted {
+        put_behind(width, entry, &mut out)?;
     }
-    if raw.len() == 1 {
-        let out = alone(alloc, width, &raw[0])?;
-        return Ok(out);
-    }
-    let (front, back) = raw.split_at(raw.len() / 2);
-    let left = gather(alloc, width, front)?;
-    let right = gather(alloc, width, back)?;
-    let out = add_sorted(alloc, width, &left, &right)?;
+    out.shrink_to_fit();
     Ok(out)
 }
 
-/// The entry alone, or nothing where its coefficient is 0 modulo 2^width.
-fn alone(alloc: Global, width: u32, entry: &Entry) -> Result<Vec<Entry>, AllocError>
+/// Puts an entry behind others: added to the last where that has its monomial, and not at all where the sum is 0.
+fn put_behind(width: u32, entry: Entry, out: &mut Vec<Entry>) -> Result<(), AllocError>
     requires { IsWidth width }
-    ensures { IfOk result (λ out. out.items ≡ one_entry (2 ^ width) entry.now) }
+    ensures { OnOk result (IsPutBehind (2 ^ width) entry out.old.items out.new.items) }
 {
-    let mut out = Vec::new(alloc);
-    let coefficient = Residue::new(width, entry.coefficient()).value();
+    let coefficient = match out.pop_if(|last| last.is_like(&entry)) {
+        Some(last) => coefficient::sum(width, last.coefficient(), entry.coefficient()),
+        None => Residue::new(width, entry.coefficient()).value(),
+    };
     if coefficient != 0 {
-        out.push(entry.with_coefficient(alloc, coefficient)?)?;
+        out.push(entry.replace_coefficient(coefficient))?;
     }
-    Ok(out)
+    Ok(())
 }
 
-/// The sum of many polynomials, by halves.
+/// The sum of many polynomials.
 pub(crate) fn add_all(alloc: Global, width: u32, parts: &[Poly]) -> Result<Vec<Entry>, AllocError>
     requires { IsWidth width }
     ensures { IfOk result (λ v. IsAdded (table_of width) parts.now v.items) }
 {
-    if parts.len() == 0 {
-        return Ok(Vec::new(alloc));
+    let mut raw = Vec::with_capacity(alloc, count(parts))?;
+    for part in parts {
+        copy_behind(alloc, part.entries(), &mut raw)?;
     }
-    if parts.len() == 1 {
-        let part = &parts[0];
-        let mut out = Vec::new(alloc);
-        copy_behind(alloc, part.entries(), &mut out)?;
-        return Ok(out);
+    gather(alloc, width, raw)
+}
+
+// how many entries there are in all
+fn count(parts: &[Poly]) -> usize {
+    let mut sum: usize = 0;
+    for part in parts {
+        sum = sum.saturating_add(part.entries().len());
     }
-    let (front, back) = parts.split_at(parts.len() / 2);
-    let left = add_all(alloc, width, front)?;
-    let right = add_all(alloc, width, back)?;
-    let out = add_sorted(alloc, width, &left, &right)?;
-    Ok(out)
+    sum
 }

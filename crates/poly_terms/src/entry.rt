@@ -45,11 +45,16 @@ impl Entry {
         Ok(Entry::new(monomial, coefficient))
     }
 
+    pub(crate) fn replace_coefficient(self, coefficient: u128) -> Entry
+        ensures { result ≡ (self.0, coefficient) }
+    {
+        Entry::new(self.monomial, coefficient)
+    }
+
     pub(crate) fn copy(&self, alloc: Global) -> Result<Entry, AllocError>
         ensures { IfOk result (λ e. e ≡ self.now) }
     {
-        let copy = self.with_coefficient(alloc, self.coefficient)?;
-        Ok(copy)
+        self.with_coefficient(alloc, self.coefficient)
     }
 
     /// The product of two entries.
@@ -80,10 +85,16 @@ impl Entry {
         self.variables().cmp(other.variables())
     }
 
+    pub(crate) fn is_like(&self, other: &Entry) -> bool
+        ensures { IsTrue result ↔ (self.now.0 ≡ other.now.0) }
+    {
+        self.variables() == other.variables()
+    }
+
     fn is_same(&self, other: &Entry) -> bool
         ensures { IsTrue result ↔ (self.now ≡ other.now) }
     {
-        self.coefficient == other.coefficient && self.variables() == other.variables()
+        self.coefficient == other.coefficient && self.is_like(other)
     }
 }
 

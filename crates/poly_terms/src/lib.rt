@@ -6,7 +6,7 @@
 //!
 //! *Value*: that of the monomials in the table, modulo its modulus. *Of the table*: in normal form there, as each
 //! polynomial is that a call of this table made. *Extends*: gives each polynomial of the old table its value
-//! (`specs/Tables.antt`, with the laws in `specs/TableLaws.antt`; a caller names these in `using`).
+//! (`specs/Tables.antt`, with the laws in `specs/Laws.antt`; a caller names these in `using`).
 #![tactic(auto)]
 
 mod addition;

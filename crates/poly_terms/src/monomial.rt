@@ -45,14 +45,12 @@ pub(crate) fn from_variables(alloc: Global, variables: &[u32]) -> Result<Monomia
     ensures { IfOk result (λ monomial. IsMonomialOf variables.now monomial.items) }
 {
     if variables.len() < 2 {
-        let monomial = SmallVec::from_slice(alloc, variables)?;
-        return Ok(monomial);
+        return SmallVec::from_slice(alloc, variables);
     }
     let (front, back) = variables.split_at(variables.len() / 2);
     let left = from_variables(alloc, front)?;
     let right = from_variables(alloc, back)?;
-    let both = join(alloc, left.as_slice(), right.as_slice())?;
-    Ok(both)
+    join(alloc, left.as_slice(), right.as_slice())
 }
 
 pub(crate) fn has_variable(variables: &[u32], v: u32) -> bool

@@ -32,8 +32,10 @@ pub(crate) fn multiply_behind(
     out: &mut Vec<Entry>,
 ) -> Result<(), AllocError>
     requires { IsWidth width }
-    ensures { OnOk result (out.new.items ≡ out.old.items ++ map (times (2 ^ width) by.now) entries.now) }
+    ensures { OnOk result
+        (out.new.items ≡ out.old.items ++ map (times (2 ^ width) by.now) entries.now) }
 {
+    out.reserve(entries.len())?;
     for entry in entries {
         out.push(entry.times(alloc, width, by)?)?;
     }

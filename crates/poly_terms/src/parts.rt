@@ -12,7 +12,7 @@ pub(crate) fn entries_of(
 ) -> Result<Vec<Entry>, AllocError>
     ensures { IfOk result (λ out. AreEntriesOf parts.now out.items) }
 {
-    let mut out = Vec::new(alloc);
+    let mut out = Vec::with_capacity(alloc, parts.len())?;
     for (coefficient, variables) in parts {
         push_part(alloc, *coefficient, variables.as_slice(), &mut out)?;
     }

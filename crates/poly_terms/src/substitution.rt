@@ -20,9 +20,8 @@ pub(crate) fn substitute(
 {
     let kept = entries_free_of(alloc, entries, v)?;
     let raw = replacements(alloc, width, entries, v, by)?;
-    let gathered = addition::gather(alloc, width, &raw)?;
-    let out = addition::add_sorted(alloc, width, &kept, &gathered)?;
-    Ok(out)
+    let gathered = addition::gather(alloc, width, raw)?;
+    addition::add_sorted(alloc, width, &kept, &gathered)
 }
 
 /// The entries without the variable.
@@ -66,7 +65,8 @@ fn replace_behind(
     out: &mut Vec<Entry>,
 ) -> Result<(), AllocError>
     requires { IsWidth width }
-    ensures { OnOk result (out.new.items ≡ out.old.items ++ replaced (2 ^ width) v by.now (entry.now ∷ [])) }
+    ensures { OnOk result
+        (out.new.items ≡ out.old.items ++ replaced (2 ^ width) v by.now (entry.now ∷ [])) }
 {
     if monomial::has_variable(entry.variables(), v) {
         let monomial = monomial::without(alloc, entry.variables(), v)?;

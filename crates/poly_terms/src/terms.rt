@@ -55,7 +55,7 @@ impl Terms {
             value_in self.new r σ ≡ value (modulus self.old) (given parts.now) σ) }
     {
         let raw = parts::entries_of(self.alloc, parts)?;
-        let entries = addition::gather(self.alloc, self.width, &raw)?;
+        let entries = addition::gather(self.alloc, self.width, raw)?;
         Ok(Poly::of(entries))
     }
 
@@ -84,7 +84,7 @@ impl Terms {
             (value_in self.old p.now σ * value_in self.old q.now σ) % modulus self.old) }
     {
         let raw = multiplication::products_of(self.alloc, self.width, p.entries(), q.entries())?;
-        let entries = addition::gather(self.alloc, self.width, &raw)?;
+        let entries = addition::gather(self.alloc, self.width, raw)?;
         Ok(Poly::of(entries))
     }
 
@@ -101,8 +101,7 @@ impl Terms {
             value_in self.new r σ ≡ (value_in self.old sum.now σ + product) % modulus self.old) }
     {
         let product = self.mul(p, q)?;
-        let all = self.add(sum, &product)?;
-        Ok(all)
+        self.add(sum, &product)
     }
 
     /// A polynomial in which a variable is replaced by another polynomial, which may have it too.
@@ -130,7 +129,7 @@ impl Terms {
         Ok(Poly::of(entries))
     }
 
-    /// The sum of many polynomials, by halves: each monomial is looked at once for each halving of the list.
+    /// The sum of many polynomials: all monomials are sorted at once.
     #[tactic(auto, using(crate::specs::Laws::extends_itself))]
     pub fn add_all(&mut self, parts: &[Poly]) -> Result<Poly, Memory>
         requires { All (IsOf self.old) parts.now }
