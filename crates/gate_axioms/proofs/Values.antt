@@ -1,5 +1,5 @@
--- The values of the polynomials of linear forms.
-use Rattle.std.proofs.Common.{◌≡◌, ℕ, ◌+◌, ◌*◌, ◌%◌, ◌^◌, [], ◌∷◌, sym, ap, ap₂, subst, ◌∙◌, arith}
+-- The values of the polynomials of forms.
+use Rattle.std.proofs.Common.{◌≡◌, ℕ, ◌+◌, ◌*◌, ◌%◌, ◌^◌, [], sym, ap, ap₂, subst, ◌∙◌, arith}
 use Rattle.std.proofs.Math.Nat.{mod-mod, mod-add-mod}
 use Rattle.std.proofs.lemmas.Nat.{pow_pos}
 use Rattle.graph_core.specs.declared.literal.Lit.{Lit}
@@ -13,7 +13,7 @@ use Rattle.graph_core.specs.Algebra.{modulus as modulus_of}
 use Rattle.poly_terms.specs.Tables.{Table, Sum, modulus, value_in, IsOf, Extends}
 use Rattle.poly_terms.specs.Laws.{modulus_stays, value_stays, extends_on}
 use Rattle.gate_axioms.specs.Axioms.{IsGateAxiom, IsDifference, IsSpecification}
-use Rattle.gate_axioms.specs.LinearForm.{Adds, HasValue}
+use Rattle.gate_axioms.specs.Form.{Adds, HasValue}
 use Rattle.gate_axioms.proofs.Opposites.{opposite_difference, sum_with_product_same}
 
 -- A form with this value at each assignment, modulo a number.
@@ -76,15 +76,13 @@ pub literals_have : (old new : Table) (p : Sum) (n o : ℕ) (left right : Lit) �
 literals_have old new p n o left right grown one opposite has σ =
     difference_from old new p o (bit (literal σ left)) (bit (literal σ right)) _ σ grown opposite has (ap (λ k. k * bit (literal σ left) + o * bit (literal σ right)) one ∙ omega arith)
 
-pub gate_has : (old new : Table) (p : Sum) (gate : Gate) (o n k : ℕ) → Extends old new → (o + 1) % modulus old ≡ 0 → n ≡ 1 → k ≡ 1 →
-    HasValue new p (λ σ. o * bit (variable σ gate.v) + (n * word σ (gate.left ∷ [])) * (k * word σ (gate.right ∷ []))) → IsGateAxiom new p gate
-gate_has old new p gate o n k grown opposite one one' has σ =
+pub gate_has : (old new : Table) (p : Sum) (gate : Gate) (o n : ℕ) → Extends old new → (o + 1) % modulus old ≡ 0 → n ≡ 1 →
+    HasValue new p (λ σ. o * bit (variable σ gate.v) + n * (bit (literal σ gate.left) * bit (literal σ gate.right))) → IsGateAxiom new p gate
+gate_has old new p gate o n grown opposite one has σ =
     let l = bit (literal σ gate.left) in
     let r = bit (literal σ gate.right) in
     let v = bit (variable σ gate.v) in
-    let left : n * word σ (gate.left ∷ []) ≡ l = ap (λ j. j * (l + 2 * 0)) one ∙ omega arith in
-    let right : k * word σ (gate.right ∷ []) ≡ r = ap (λ j. j * (r + 2 * 0)) one' ∙ omega arith in
-    difference_from old new p o (l * r) v _ σ grown opposite has (ap₂ (λ x y. o * v + x * y) left right ∙ omega arith)
+    difference_from old new p o (l * r) v _ σ grown opposite has (ap (λ j. o * v + j * (l * r)) one ∙ omega arith)
 
 pub specification_has : (old new : Table) (p : Sum) (g : Aig) (s : Sides) (o n k : ℕ) → AreOperandsOf g s → modulus old ≡ modulus_of (without_cut g) → Extends old new →
     (o + 1) % modulus old ≡ 0 → n ≡ 1 → k ≡ 1 →

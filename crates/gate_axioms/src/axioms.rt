@@ -6,10 +6,10 @@ ghost use Rattle.graph_core.specs.Extended.{without_cut};
 ghost use Rattle.graph_core.specs.Operands.{AreOperandsOf};
 ghost use Rattle.graph_core.specs.Polynomial.{value};
 ghost use Rattle.poly_terms.specs.Tables.{IsOf, Extends, modulus};
-ghost use Rattle.gate_axioms.specs.LinearForm.{HasValue};
+ghost use Rattle.gate_axioms.specs.Form.{HasValue};
 ghost use Rattle.gate_axioms.specs.Axioms.{IsDifference, IsGateAxiom, IsSpecification};
 
-use crate::linear_form::LinearForm;
+use crate::form::Form;
 use graph_core::{Gate, Graph, Lit, Memory, Operands};
 use mv_nums::Residue;
 use poly_terms::{Poly, Terms};
@@ -21,11 +21,10 @@ pub fn gate_poly(alloc: Global, terms: &mut Terms, gate: &Gate) -> Result<Poly, 
     ensures of { IfOk result (λ p. IsOf terms.new p) }
     ensures value { IfOk result (λ p. IsGateAxiom terms.new p gate.now) }
 {
-    let mut opposite = LinearForm::new(alloc);
-    opposite.add_variable(minus_one(terms), gate.v)?;
-    let left = LinearForm::word(alloc, one(terms), &[gate.left])?;
-    let right = LinearForm::word(alloc, one(terms), &[gate.right])?;
-    let poly = sum_with_product(terms, &opposite, &left, &right)?;
+    let mut form = Form::new(alloc);
+    form.add_variable(minus_one(terms), gate.v)?;
+    form.add_product(one(terms), gate.left, gate.right)?;
+    let poly = form.poly_in(terms)?;
     Ok(poly)
 }
 
@@ -35,7 +34,7 @@ pub fn equal_poly(alloc: Global, terms: &mut Terms, left: Lit, right: Lit) -> Re
     ensures of { IfOk result (λ p. IsOf terms.new p) }
     ensures value { IfOk result (λ p. IsDifference terms.new p left right) }
 {
-    let mut form = LinearForm::new(alloc);
+    let mut form = Form::new(alloc);
     form.add_literal(one(terms), left)?;
     form.add_literal(minus_one(terms), right)?;
     let poly = form.poly_in(terms)?;
@@ -56,9 +55,9 @@ pub fn spec_poly(
     ensures value { IfOk result (λ p.
         IsSpecification terms.new p (without_cut graph.now) operands.now.order) }
 {
-    let outputs = LinearForm::word(alloc, one(terms), graph.outputs())?;
-    let opposite = LinearForm::word(alloc, minus_one(terms), operands.a_literals())?;
-    let b = LinearForm::word(alloc, one(terms), operands.b_literals())?;
+    let outputs = Form::word(alloc, one(terms), graph.outputs())?;
+    let opposite = Form::word(alloc, minus_one(terms), operands.a_literals())?;
+    let b = Form::word(alloc, one(terms), operands.b_literals())?;
     let poly = sum_with_product(terms, &outputs, &opposite, &b)?;
     Ok(poly)
 }
@@ -66,9 +65,9 @@ pub fn spec_poly(
 // a form plus the product of two
 fn sum_with_product(
     terms: &mut Terms,
-    sum: &LinearForm,
-    left: &LinearForm,
-    right: &LinearForm,
+    sum: &Form,
+    left: &Form,
+    right: &Form,
 ) -> Result<Poly, Memory>
     ensures extends { Extends terms.old terms.new }
     ensures of { IfOk result (λ p. IsOf terms.new p) }

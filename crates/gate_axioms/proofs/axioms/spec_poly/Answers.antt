@@ -1,6 +1,6 @@
 use Rattle.std.proofs.Common.{[], ◌*◌, refl}
 use Rattle.graph_core.specs.Assignment.{word}
-use Rattle.gate_axioms.specs.LinearForm.{Adds}
+use Rattle.gate_axioms.specs.Form.{Adds}
 use Rattle.gate_axioms.proofs.Values.{form_has, sum_with_product_has, specification_has}
 use Rattle.gate_axioms.proofs.axioms.spec_poly.Goals as goal
 
