@@ -1,6 +1,9 @@
-use crate::{AlgebraFile, PacLine, read_line};
-use mv_desk::{Desk, Limits, LineFail, MemoryDesk, Slot};
-use poly_terms::Terms;
+ghost use Rattle.std.specs.Prelude.{IfSome};
+ghost use Rattle.poly_terms.specs.Tables.{Extends, IsOf};
+
+use crate::{AlgebraFile, PacLine, read_line, write_line};
+use mv_desk::{Desk, Limits, LineFail, MemoryDesk, Slot, write_all};
+use poly_terms::{Poly, Terms};
 use std::alloc::{AllocError, Global};
 use std::test::Fail;
 
@@ -221,5 +224,132 @@ fn failed_reads_are_faults(rt: HostRuntime) -> Result<(), Fail> {
         let end = ended(alloc, &mut desk, &Limits::STANDARD);
         assert!(rt; end.0 == ends.0 && end.1 == ends.1);
     }
+    Ok(())
+}
+
+// Writes what a text says to a new file.
+#[tactic(auto, using(crate::proofs::WritableLines::read_is_writable))]
+fn writes<D: Desk>(alloc: Global, desk: &mut D, text: &str) -> Result<(), &'static str> {
+    let mut terms = Terms::new(alloc, 8);
+    let Ok(line) = read_line(alloc, text.as_bytes(), &mut terms, 4294967295) else {
+        return Err("not read");
+    };
+    let Ok(()) = desk.create_file(Slot::Algebra, "algebra") else {
+        return Err("not created");
+    };
+    match write_line(desk, &terms, &line) {
+        Ok(()) => Ok(()),
+        Err(_) => Err("a write failed"),
+    }
+}
+
+#[test]
+fn lines_are_written_as_they_are_read(rt: HostRuntime) -> Result<(), Fail> {
+    let alloc = rt.alloc();
+    for (shows, text, again) in [
+        ("a sum", "7 + 6, 3, 0;", "7 + 6, 3, 0;\n"),
+        (
+            "a product",
+            "6 * 3, 3, -3*x3+3*x1*x2;",
+            "6 * 3, 3, 3*x1*x2-3*x3;\n",
+        ),
+        (
+            "a combination",
+            "6 % 3 * (-1), x3-x1*x2;",
+            "6 % 3 * (-1), -x1*x2+x3;\n",
+        ),
+        (
+            "two parts",
+            "6 % 3 * (-1) + 4 * (x1), 7;",
+            "6 % 3 * (-1) + 4 * (x1), 7;\n",
+        ),
+        ("a drop", "003 d;", "3 d;\n"),
+        (
+            "the closing line",
+            "q 281474976710655;",
+            "q 281474976710655;\n",
+        ),
+        ("half the modulus", "7 + 6, 3, -128;", "7 + 6, 3, 128;\n"),
+        ("one above it", "7 + 6, 3, 129*x1;", "7 + 6, 3, -127*x1;\n"),
+        ("1 and -1", "6 * 3, 1, 255*x1+x2;", "6 * 3, 1, -x1+x2;\n"),
+        (
+            "the greatest variable",
+            "6 * 3, 1, 2*x4294967295;",
+            "6 * 3, 1, 2*x4294967295;\n",
+        ),
+    ] {
+        let mut desk = desk_of(alloc, "", &[], &[])?;
+        let end = writes(alloc, &mut desk, text);
+        assert!(rt;
+            end == Ok(()) && desk.out(Slot::Algebra) == again.as_bytes(),
+            "{shows}"
+        );
+    }
+    Ok(())
+}
+
+// The sum of so many variables of ten digits, each with a minus.
+#[tactic(auto, using(poly_terms::specs::Laws::extends_itself))]
+fn long_sum(alloc: Global, terms: &mut Terms, count: u32) -> Option<Poly>
+    ensures of { IfSome result (IsOf terms.new) }
+    ensures extends { Extends terms.old terms.new }
+{
+    let mut parts = Vec::new(alloc);
+    for i in 0..count {
+        let mut variables = Vec::new(alloc);
+        variables.push(4294967295 - i).ok()?;
+        parts.push((255, variables)).ok()?;
+    }
+    terms.make(&parts).ok()
+}
+
+// Writes a header, and a line of the sum of so many variables.
+fn writes_sum<D: Desk>(alloc: Global, desk: &mut D, count: u32) -> Option<()> {
+    let mut terms = Terms::new(alloc, 8);
+    let poly = long_sum(alloc, &mut terms, count)?;
+    let line = PacLine::Sum {
+        id: 7,
+        i: 6,
+        j: 3,
+        poly,
+    };
+    desk.create_file(Slot::Algebra, "algebra").ok()?;
+    write_all(desk, Slot::Algebra, b"pac 1\n").ok()?;
+    write_line(desk, &terms, &line).ok()
+}
+
+// Whether the line that was written is read as one of this sum.
+#[tactic(auto, using(poly_terms::specs::Laws::stays))]
+fn reads_sum<D: Desk>(alloc: Global, desk: &mut D, count: u32) -> Option<bool> {
+    let mut terms = Terms::new(alloc, 8);
+    desk.open_file(Slot::Algebra, "algebra").ok()?;
+    let mut file = AlgebraFile::start(alloc, desk, &Limits::STANDARD).ok()?;
+    let line = file.next(desk, &mut terms, 4294967295).ok()?;
+    let sum = long_sum(alloc, &mut terms, count)?;
+    match line {
+        PacLine::Sum { poly, .. } => Some(terms.equals(&poly, &sum)),
+        _ => None,
+    }
+}
+
+#[test]
+fn long_lines_are_read_again(rt: HostRuntime) -> Result<(), Fail> {
+    let alloc = rt.alloc();
+    for count in [1, 400, 1000] {
+        let mut desk = desk_of(alloc, "", &[4096, 100], &[])?;
+        assert!(rt; writes_sum(alloc, &mut desk, count) == Some(()));
+        assert!(rt; reads_sum(alloc, &mut desk, count) == Some(true), "{count}");
+    }
+    Ok(())
+}
+
+#[test]
+fn a_write_that_fails_leaves_a_front_part(rt: HostRuntime) -> Result<(), Fail> {
+    let alloc = rt.alloc();
+    let mut desk = desk_of(alloc, "", &[], &[4])?;
+    assert!(rt; writes_sum(alloc, &mut desk, 1000) == None);
+    let front = desk.out(Slot::Algebra);
+    assert!(rt; 4090 < front.len() && front.len() <= 4102);
+    assert!(rt; front.starts_with(b"pac 1\n7 + 6, 3, -x4294966296-x4294966297-x"));
     Ok(())
 }
