@@ -1,12 +1,12 @@
 ghost use Rattle.std.specs.Prelude.{◌≡◌, ◌*◌, ◌<◌, ◌≤◌, [], None, OnOk, length, map};
-ghost use Rattle.graph_core.specs.Algebra.{gate_axiom, axioms, line_of, AgreeOnColumns};
+ghost use Rattle.graph_core.specs.Algebra.{gate_axiom, axioms, AgreeOnColumns};
 ghost use Rattle.graph_core.specs.Algebra as algebra;
 ghost use Rattle.graph_core.specs.Assignment.{literal};
 ghost use Rattle.graph_core.specs.Operands.{width, HasMultiplierShape};
 ghost use Rattle.ripple_graft.specs.Extension.{IsExtension};
 ghost use Rattle.mv_fact.specs.Always.{Always};
 ghost use Rattle.poly_terms.specs.Tables.{Extends, modulus};
-ghost use Rattle.pac_checker.specs.Agreement.{AreSame, AreSameLines};
+ghost use Rattle.pac_checker.specs.Agreement.{AreSameLines};
 ghost use Rattle.pac_checker.specs.Checking.{lines_of};
 ghost use Rattle.pac_checker.specs.Columns.{column_of, column_by, difference_line, PutsLine, HasColumns, AddsColumn};
 ghost use Rattle.pac_checker.specs.Rules.{Computes, AddsLine};
@@ -21,7 +21,8 @@ use std::alloc::Global;
 /// Makes the axiom of a gate live, unless its variable has one.
 fn add_axiom(alloc: Global, live: &mut Live<'_, Poly>, gate: &Gate) -> Result<(), Memory>
     requires { Always live.old.gates (Computes gate.now) }
-    ensures { OnOk result (AddsLine (gate_axiom (modulus live.old.table) gate.now) live.old live.new) }
+    ensures { OnOk result
+        (AddsLine (gate_axiom (modulus live.old.table) gate.now) live.old live.new) }
 {
     let axiom = live.grow(&mut MakeAxiom { alloc, gate }, &mut ())?;
     match live.insert(u64::from(gate.v), axiom) {
@@ -37,7 +38,8 @@ fn add_gates(alloc: Global, live: &mut Live<'_, Poly>, gates: &[Gate]) -> Result
     requires empty { live.old.entries ≡ [] }
     ensures gates { OnOk result (live.new.gates ≡ live.old.gates) }
     ensures table { OnOk result (Extends live.old.table live.new.table) }
-    ensures lines { OnOk result (AreSameLines (lines_of live.new) (map (gate_axiom (modulus live.old.table)) gates.now)) }
+    ensures lines { OnOk result
+        (AreSameLines (lines_of live.new) (map (gate_axiom (modulus live.old.table)) gates.now)) }
 {
     for gate in gates {
         add_axiom(alloc, live, gate)?;
@@ -68,7 +70,8 @@ fn add_difference(
     right: Lit,
 ) -> Result<(), Memory>
     requires { Always live.old.gates (λ σ. literal σ left ≡ literal σ right) }
-    ensures { OnOk result (PutsLine (difference_line (modulus live.old.table) id left right) live.old live.new) }
+    ensures { OnOk result
+        (PutsLine (difference_line (modulus live.old.table) id left right) live.old live.new) }
 {
     let mut work = MakeDifference { alloc, left, right };
     let axiom = live.grow(&mut work, &mut ())?;
@@ -115,7 +118,8 @@ fn add_columns(
     requires extension { IsExtension extended.now }
     requires columns { Always extended.now.gates (AgreeOnColumns extended.now) }
     requires none { HasColumns extended.now 0 live.old live.old }
-    ensures { OnOk result (HasColumns extended.now (2 * width extended.now.graph) live.old live.new) }
+    ensures { OnOk result
+        (HasColumns extended.now (2 * width extended.now.graph) live.old live.new) }
 {
     for k in 0..2 * extended.graph().bits() {
         add_column(alloc, live, extended, k)?;

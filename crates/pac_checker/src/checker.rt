@@ -1,13 +1,13 @@
 #![tactic(auto, using(crate::proofs::Lawful::sound_grown, crate::proofs::Lawful::grows, crate::proofs::Lawful::grows_itself, crate::proofs::Growth::keeps_lines, poly_terms::specs::Laws::stays))]
 
-ghost use Rattle.std.specs.Prelude.{◌≡◌, ◌*◌, ◌<◌, ◌≤◌, [], IfOk, OnOk, OnErr, IfErr, IsSome, IfSome, map};
+ghost use Rattle.std.specs.Prelude.{◌≡◌, ◌*◌, ◌<◌, ◌≤◌, [], IfOk, OnOk, OnErr, IfErr, IsSome};
 ghost use Rattle.std.specs.List.{All};
 ghost use Rattle.graph_core.specs.Algebra.{Delete, axioms, AgreeOnColumns};
 ghost use Rattle.graph_core.specs.Algebra as algebra;
 ghost use Rattle.graph_core.specs.Operands.{width, AreOperandsOf, HasMultiplierShape};
 ghost use Rattle.mv_fact.specs.Always.{Always};
 ghost use Rattle.poly_terms.specs.Tables.{IsOf, modulus, monomials_in};
-ghost use Rattle.poly_text.specs.Lines.{told, told_part, AreOf};
+ghost use Rattle.poly_text.specs.Lines.{told, AreOf};
 ghost use Rattle.gate_axioms.specs.Axioms.{IsSpecification};
 ghost use Rattle.pac_checker.specs.Agreement.{Agree};
 ghost use Rattle.pac_checker.specs.Checking.{ledger_of, Takes, TakesLine, Grows, IsClosedBy, SpecificationVanishes};
@@ -140,7 +140,8 @@ impl<'a> PacChecker<'a> {
     fn specification(&mut self) -> Result<Poly, Memory>
         ensures grows { Grows self.old self.new }
         ensures of_table { IfOk result (IsOf self.new.table) }
-        ensures value { IfOk result (λ p. IsSpecification self.new.table p self.old.extended self.old.order) }
+        ensures value { IfOk result
+            (λ p. IsSpecification self.new.table p self.old.extended self.old.order) }
     {
         let mut work = MakeSpecification {
             alloc: self.alloc,
@@ -153,7 +154,8 @@ impl<'a> PacChecker<'a> {
     /// Whether a line has the value that is wanted.
     fn compare(&self, id: u64, wanted: &Poly) -> Result<(), CloseFault>
         requires wanted { IsOf self.now.table wanted.now }
-        requires value { IsSpecification self.now.table wanted.now self.now.extended self.now.order }
+        requires value { IsSpecification self.now.table wanted.now self.now.extended
+            self.now.order }
         ensures closes { OnOk result (IsClosedBy self.now id) }
         ensures vanishes { OnOk result (SpecificationVanishes self.now) }
         ensures refused { IfErr result (IsClosingFault self.now id) }
@@ -172,8 +174,10 @@ impl<'a> PacChecker<'a> {
 
     fn sum(&mut self, id: u64, i: u64, j: u64, poly: &Poly) -> Result<(), LineFault>
         requires { IsOf self.old.table poly.now }
-        ensures taken { OnOk result (Takes (sum_line self.old.table id i j poly.now) self.old self.new) }
-        ensures refused { IfErr result (IsRefused self.old (sum_line self.old.table id i j poly.now)) }
+        ensures taken { OnOk result
+            (Takes (sum_line self.old.table id i j poly.now) self.old self.new) }
+        ensures refused { IfErr result
+            (IsRefused self.old (sum_line self.old.table id i j poly.now)) }
         ensures unchanged { OnErr result (Grows self.old self.new) }
     {
         judge_id(self.last, id)?;
@@ -184,8 +188,10 @@ impl<'a> PacChecker<'a> {
     fn product(&mut self, id: u64, i: u64, factor: &Poly, poly: &Poly) -> Result<(), LineFault>
         requires factor_of_table { IsOf self.old.table factor.now }
         requires of_table { IsOf self.old.table poly.now }
-        ensures taken { OnOk result (Takes (product_line self.old.table id i factor.now poly.now) self.old self.new) }
-        ensures refused { IfErr result (IsRefused self.old (product_line self.old.table id i factor.now poly.now)) }
+        ensures taken { OnOk result
+            (Takes (product_line self.old.table id i factor.now poly.now) self.old self.new) }
+        ensures refused { IfErr result
+            (IsRefused self.old (product_line self.old.table id i factor.now poly.now)) }
         ensures unchanged { OnErr result (Grows self.old self.new) }
     {
         judge_id(self.last, id)?;
@@ -196,8 +202,10 @@ impl<'a> PacChecker<'a> {
     fn combination(&mut self, id: u64, parts: &[(u64, Poly)], poly: &Poly) -> Result<(), LineFault>
         requires parts_of_table { All (λ part. IsOf self.old.table part.1) parts.now }
         requires of_table { IsOf self.old.table poly.now }
-        ensures taken { OnOk result (Takes (combination_line self.old.table id parts.now poly.now) self.old self.new) }
-        ensures refused { IfErr result (IsRefused self.old (combination_line self.old.table id parts.now poly.now)) }
+        ensures taken { OnOk result
+            (Takes (combination_line self.old.table id parts.now poly.now) self.old self.new) }
+        ensures refused { IfErr result
+            (IsRefused self.old (combination_line self.old.table id parts.now poly.now)) }
         ensures unchanged { OnErr result (Grows self.old self.new) }
     {
         judge_id(self.last, id)?;
@@ -223,7 +231,8 @@ impl<'a> PacChecker<'a> {
         requires named { Vanishes self.old.extended.gates self.old.table named }
         requires stated { IsOf self.old.table stated.now }
         ensures equal { OnOk result (AreEqual self.old.table named stated.now) }
-        ensures introduced { OnOk result (Introduces id (monomials_in self.old.table stated.now) self.old self.new) }
+        ensures introduced { OnOk result
+            (Introduces id (monomials_in self.old.table stated.now) self.old self.new) }
         ensures refused { IfErr result (IsStatingFault self.old.table named stated.now) }
         ensures unchanged { OnErr result (self.new ≡ self.old) }
     {
