@@ -2,7 +2,7 @@
 use Rattle.std.proofs.Common.{◌≡◌, ℕ, ◌≤◌, List, [], ◌∷◌, ◌++◌, length, Option, IfSome, refl, sym, ap, subst, ◌∙◌, inl, inr}
 use Rattle.std.specs.Prelude.{codes}
 use Rattle.graph_core.specs.AlgebraRefusal as cause
-use Rattle.graph_core.specs.AlgebraRefusal.{AlgebraCause, IsAlgebraRefusal, IsRefusedBody, algebra_header}
+use Rattle.graph_core.specs.AlgebraRefusal.{AlgebraCause, IsAlgebraRefusal, IsRefusedBody}
 use Rattle.graph_core.specs.Extended.{without_cut}
 use Rattle.graph_core.specs.Graph.{Aig}
 use Rattle.graph_core.specs.JudgedLines.{IsTooLong, Lengths}
@@ -10,6 +10,7 @@ use Rattle.graph_core.specs.Text.{newline}
 use Rattle.graph_core.specs.declared.order.Order.{Order}
 use Rattle.graph_core.proofs.JudgedLines.{ShortFrom, short_next, short_within, start_later}
 use Rattle.graph_core.proofs.Newlines.{none_in}
+use Rattle.mv_desk.specs.View.{View}
 use Rattle.mv_desk.specs.declared.faults.LineFail.{LineFail}
 use Rattle.mv_desk.specs.declared.faults.LineFail.TheVariants as fail
 use Rattle.mv_desk.specs.declared.slot.Slot.TheVariants as slot
@@ -27,7 +28,7 @@ use Rattle.joint_checker.proofs.Told.{rose_before, told_more, told_of}
 
 module _ (lengths : Lengths) (g : Aig) (order : Order) where
   -- the first line isn't the header
-  pub header_fails : (text : Option (List ℕ)) (before now : ℕ) (given : LineFail) → IsHeaderRefusal lengths text before now given → IsAlgebraFail lengths g order text before now (answer_of_line 1 given)
+  pub header_fails : (text : Option (List ℕ)) (before now : View) (given : LineFail) → IsHeaderRefusal lengths text before.read_faults now.read_faults given → IsAlgebraFail lengths g order text before now (answer_of_line 1 given)
   header_fails text before now fail.Text h =
       told_more text _ (λ bytes. IsAlgebraRefusal (without_cut g) order lengths bytes (1, cause.Text)) (λ bytes k. inr (k.0, inl (k.1, refl))) h
   header_fails text before now fail.Range h = absurd h
@@ -83,7 +84,7 @@ module _ (lengths : Lengths) (g : Aig) (order : Order) where
         (there.0, file_is_refused file same bytes behind k there.0 cause.TooLong there.1)) header
 
     -- what is behind the header isn't lawful
-    pub body_fails : (first before now : ℕ) (answer : Checked) → first ≤ before → IsBodyFail (without_cut g) order file.lines behind before now answer → IsAlgebraFail lengths g order text first now answer
+    pub body_fails : (first before now : View) (answer : Checked) → first.read_faults ≤ before.read_faults → IsBodyFail (without_cut g) order file.lines behind before now answer → IsAlgebraFail lengths g order text first now answer
     body_fails first before now checked.Accepted later h = absurd h
     body_fails first before now (checked.Graph why) later h = absurd h
     body_fails first before now (checked.Refused (refusal.Clauses n why)) later h = absurd h
@@ -93,5 +94,5 @@ module _ (lengths : Lengths) (g : Aig) (order : Order) where
     body_fails first before now (checked.TooLong slot.Clauses) later h = absurd h
     body_fails first before now (checked.TooLong slot.Algebra) later h = long_text h
     body_fails first before now (checked.TooLong slot.Report) later h = absurd h
-    body_fails first before now checked.ReadFault later h = rose_before first before now later h
+    body_fails first before now checked.ReadFault later h = rose_before first.read_faults before.read_faults now.read_faults later h
     body_fails first before now checked.Memory later h = tt

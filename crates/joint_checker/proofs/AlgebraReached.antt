@@ -9,6 +9,7 @@ use Rattle.graph_core.specs.JudgedLines.{IsTooLong, Lengths}
 use Rattle.graph_core.specs.Text.{newline}
 use Rattle.graph_core.specs.declared.order.Order.{Order}
 use Rattle.graph_core.proofs.Newlines.{none_close, none_line}
+use Rattle.mv_desk.specs.View.{View}
 use Rattle.mv_desk.specs.declared.slot.Slot.TheVariants as slot
 use Rattle.pac_checker.specs.Agreement.{Agree}
 use Rattle.pac_checker.proofs.Agreements.{after_agrees, agree_trans, closes_agrees, lawful_agrees}
@@ -160,7 +161,7 @@ module _ (e : Extended) (order : Order) (start : Lines) (body : Option (List ℕ
       (λ bytes r. (line, long_refused e order start known line lines left same bytes r (told_of left r.rest (IsLongAhead lines) r.left_is h))) reached
 
   -- a line isn't taken
-  pub line_fails : (first before now : ℕ) (answer : Checked) → first ≤ before → IsLineFail line e order known lines left before now answer → IsBodyFail e order start body first now answer
+  pub line_fails : (first before now : View) (answer : Checked) → first.read_faults ≤ before.read_faults → IsLineFail line e order known lines left before now answer → IsBodyFail e order start body first now answer
   line_fails first before now checked.Accepted later h = absurd h
   line_fails first before now (checked.Graph why) later h = absurd h
   line_fails first before now (checked.Refused (refusal.Clauses n why)) later h = absurd h
@@ -170,7 +171,7 @@ module _ (e : Extended) (order : Order) (start : Lines) (body : Option (List ℕ
   line_fails first before now (checked.TooLong slot.Clauses) later h = absurd h
   line_fails first before now (checked.TooLong slot.Algebra) later h = long_fails h
   line_fails first before now (checked.TooLong slot.Report) later h = absurd h
-  line_fails first before now checked.ReadFault later h = rose_before first before now later h
+  line_fails first before now checked.ReadFault later h = rose_before first.read_faults before.read_faults now.read_faults later h
   line_fails first before now checked.Memory later h = tt
 
   -- so many lines have more bytes than a file may have
@@ -198,7 +199,7 @@ module _ (e : Extended) (order : Order) (start : Lines) (body : Option (List ℕ
         (λ bytes r. let c = closed bytes r in (line + 1, long_is_refused e order start known line lines left same bytes r new behind c keeps (told_of behind c.rest (IsLongAhead new) c.passes.left_is h))) reached
 
     -- the file doesn't end there
-    pub end_fails : (first before now : ℕ) (answer : Checked) → new.lengths ≡ lines.lengths → first ≤ before → IsEndFail (line + 1) new behind before now answer → IsBodyFail e order start body first now answer
+    pub end_fails : (first before now : View) (answer : Checked) → new.lengths ≡ lines.lengths → first.read_faults ≤ before.read_faults → IsEndFail (line + 1) new behind before now answer → IsBodyFail e order start body first now answer
     end_fails first before now checked.Accepted keeps later h = absurd h
     end_fails first before now (checked.Graph why) keeps later h = absurd h
     end_fails first before now (checked.Refused (refusal.Clauses n why)) keeps later h = absurd h
@@ -213,5 +214,5 @@ module _ (e : Extended) (order : Order) (start : Lines) (body : Option (List ℕ
     end_fails first before now (checked.TooLong slot.Clauses) keeps later h = absurd h
     end_fails first before now (checked.TooLong slot.Algebra) keeps later h = long_behind keeps h
     end_fails first before now (checked.TooLong slot.Report) keeps later h = absurd h
-    end_fails first before now checked.ReadFault keeps later h = rose_before first before now later h
+    end_fails first before now checked.ReadFault keeps later h = rose_before first.read_faults before.read_faults now.read_faults later h
     end_fails first before now checked.Memory keeps later h = tt

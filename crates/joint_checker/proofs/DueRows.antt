@@ -204,9 +204,9 @@ module _ (limits : Limits) (order : Order) (files : Files) (before after : View)
 
   exact : (given : Checked) → IsOutcome limits order files before after given → IsExactAnswer limits order files before after given
   exact checked.Accepted h = due_of checked.Accepted h.0
-  exact (checked.Graph why) h = due_of (checked.Graph why) h.0
-  exact (checked.Refused why) h = due_of (checked.Refused why) h.0
-  exact (checked.TooLong at) h = due_of (checked.TooLong at) h.0
+  exact (checked.Graph why) h = due_of (checked.Graph why) h
+  exact (checked.Refused why) h = due_of (checked.Refused why) h
+  exact (checked.TooLong at) h = due_of (checked.TooLong at) h
   exact checked.ReadFault h = λ told due k. inr (inl (refl, h))
   exact checked.Memory h = λ told due k. inr (inr refl)
 

@@ -2,7 +2,7 @@
 use Rattle.std.proofs.Common.{◌≡◌, ℕ, List, Option, Some, None, refl, sym, subst, inl, inr}
 use Rattle.std.specs.Prelude.{IfSome, IsSome}
 use Rattle.std.specs.Option.{IsSomeAnd}
-use Rattle.graph_core.specs.Algebra.{Line, LiveLine, Ledger, Closes, IsLawfulLine, after}
+use Rattle.graph_core.specs.Algebra.{Line, LiveLine, Ledger, Closes, after}
 use Rattle.graph_core.specs.Algebra as algebra
 use Rattle.graph_core.specs.AlgebraRefusal.{AlgebraCause, IsRefusedNext}
 use Rattle.graph_core.specs.AlgebraRefusal as cause
@@ -10,6 +10,7 @@ use Rattle.graph_core.specs.AlgebraText.{IsLineInRange, IsLineText}
 use Rattle.graph_core.specs.Extended.{Extended}
 use Rattle.graph_core.specs.JudgedLines.{BeginsWith}
 use Rattle.graph_core.specs.declared.order.Order.{Order}
+use Rattle.mv_desk.specs.View.{View}
 use Rattle.mv_desk.specs.declared.faults.LineFail.{LineFail}
 use Rattle.mv_desk.specs.declared.faults.LineFail.TheVariants as text
 use Rattle.pac_checker.specs.Agreement.{Agree, AreSame}
@@ -64,8 +65,8 @@ refused_text c line n fault answer is other h =
     inl (y.0, fault, y.1, subst (λ (o : Option Line). IfSome o (λ z. IsFault c.extended (ledger_of c) z fault)) y.1 h, is)
 
 -- no line is read
-pub text_fails : (n : ℕ) (e : Extended) (order : Order) (l : Ledger) (max : ℕ) (lines : Lines) (left : Option (List ℕ)) (before now : ℕ) (given : LineFail) → max ≡ e.max →
-    IsNextRefusal max lines left before now given → IsLineFail n e order l lines left before now (answer_of_line n given)
+pub text_fails : (n : ℕ) (e : Extended) (order : Order) (l : Ledger) (max : ℕ) (lines : Lines) (left : Option (List ℕ)) (before now : View) (given : LineFail) → max ≡ e.max →
+    IsNextRefusal max lines left before.read_faults now.read_faults given → IsLineFail n e order l lines left before now (answer_of_line n given)
 text_fails n e order l max lines left before now text.Text same h = (
   refl,
   told_more left (λ bytes. ¬ (IsLongAhead lines bytes) × BeginsWithNone bytes) (λ bytes. IsRefusedNext e order (IsLongIn lines bytes) l bytes (0, cause.Text))
@@ -127,7 +128,7 @@ module _ (grown : Checking) (l : Ledger) (agrees : Agree (ledger_of grown) l) (s
           passes = record { short = h.short; left_is = h.left_is; taken = h.taken };
         }) given
 
-    module _ (order : Order) (n before now : ℕ) where
+    module _ (order : Order) (n : ℕ) (before now : View) where
       refused_of : (c : AlgebraCause) (y : Line) → told grown.table line ≡ Some y → IsRefusedInRange grown.extended (ledger_of grown) y c →
           IfSome left (λ bytes. IsRefusedNext grown.extended order (IsLongIn old bytes) l bytes (0, c))
       refused_of c y is refused = told_more left (λ bytes. TakesText grown.table max old new bytes behind line) (λ bytes. IsRefusedNext grown.extended order (IsLongIn old bytes) l bytes (0, c)) (λ bytes h.
@@ -162,7 +163,7 @@ module _ (grown : Checking) (l : Ledger) (agrees : Agree (ledger_of grown) l) (s
         inr (h.short, inr (inr (id, h.rest, t.0, inl (c, inr (t.1, refused_close_in_range_agrees grown.extended order (ledger_of grown) l agrees id c refused), refl))))) given
 
     -- it doesn't close
-    pub close_fails : (n before now : ℕ) (fault : CloseFault) → IsCloseFault grown.extended order (ledger_of grown) id fault → IsLineFail n grown.extended order l old left before now (answer_of_close n fault)
+    pub close_fails : (n : ℕ) (before now : View) (fault : CloseFault) → IsCloseFault grown.extended order (ledger_of grown) id fault → IsLineFail n grown.extended order l old left before now (answer_of_close n fault)
     close_fails n before now (close.NoSuchLine missing) h = (refl, refused_close (cause.NoSuchLine missing) h)
     close_fails n before now close.NotSpec h = (refl, refused_close cause.NotSpecification h)
     close_fails n before now close.Memory h = tt
@@ -178,7 +179,7 @@ module _ (grown : Checking) (l : Ledger) (agrees : Agree (ledger_of grown) l) (s
   turn_is next turn.Taken h = line_is_taken grown l agrees same_modulus max same_max old new left behind line given next h.0 h.1 h.2
   turn_is next turn.Closed h = (line_is_closing grown l agrees same_modulus max same_max old new left behind grown.order h.0 (given_close h.0 h.1) h.2, h.3)
 
-  pub turn_fails : (n before now : ℕ) (answer : Checked) → IsUnlawful n line grown answer → IsLineFail n grown.extended grown.order l old left before now answer
+  pub turn_fails : (n : ℕ) (before now : View) (answer : Checked) → IsUnlawful n line grown answer → IsLineFail n grown.extended grown.order l old left before now answer
   turn_fails n before now answer (inl h) =
       subst (IsLineFail n grown.extended grown.order l old left before now) (sym h.4) (rule_fails grown l agrees same_modulus max same_max old new left behind line given grown.order n before now h.0 h.1 h.2 h.3)
   turn_fails n before now answer (inr h) =
@@ -199,7 +200,7 @@ module _ (e f : Extended) (order p : Order) (known next : Ledger) (old new : Lin
   closed_is is same same_order h =
       let at : Turns e order known next old new left behind turn.Closed = subst (Turns e order known next old new left behind) is (turns_at same same_order h) in at.0
 
-pub fail_is : (n : ℕ) (e f : Extended) (order p : Order) (known : Ledger) (lines : Lines) (left : Option (List ℕ)) (before now : ℕ) (answer : Checked) → f ≡ e → p ≡ order →
+pub fail_is : (n : ℕ) (e f : Extended) (order p : Order) (known : Ledger) (lines : Lines) (left : Option (List ℕ)) (before now : View) (answer : Checked) → f ≡ e → p ≡ order →
     IsLineFail n f p known lines left before now answer → IsLineFail n e order known lines left before now answer
 fail_is n e f order p known lines left before now answer same same_order h =
     subst (λ (o : Order). IsLineFail n e o known lines left before now answer) same_order (subst (λ (x : Extended). IsLineFail n x p known lines left before now answer) same h)

@@ -9,7 +9,7 @@ use Rattle.graph_core.specs.AlgebraText.{AreLineTexts, IsCloseText, IsId, IsLine
 use Rattle.graph_core.specs.Extended.{Extended}
 use Rattle.graph_core.specs.JudgedLines.{BeginsWith, IsLineStart}
 use Rattle.graph_core.specs.declared.order.Order.{Order}
-use Rattle.mv_desk.specs.View.{Rose}
+use Rattle.mv_desk.specs.View.{Rose, View}
 use Rattle.mv_desk.specs.declared.slot.Slot.TheVariants as slot
 use Rattle.poly_text.specs.LineReading.{Lines}
 use Rattle.joint_checker.specs.declared.checked.Checked.{Checked}
@@ -37,9 +37,9 @@ abbrev pub IsLawfulBody : Extended → Order → Lines → List ℕ → Type 0
 IsLawfulBody e order lines body = IsLawfulRest e order (IsLongIn lines body) (axioms e) body
 
 -- Why they aren't lawful.
-abbrev pub IsBodyFail : Extended → Order → Lines → Option (List ℕ) → ℕ → ℕ → Checked → Type 0
+abbrev pub IsBodyFail : Extended → Order → Lines → Option (List ℕ) → View → View → Checked → Type 0
 IsBodyFail e order lines left before now (checked.Refused (refusal.Algebra line why)) = IfSome left (λ body. IsRefusedBody e order (IsLongIn lines body) body (line, cause_of why))
 IsBodyFail e order lines left before now (checked.TooLong slot.Algebra) = IfSome left (λ body. (line : ℕ) × IsRefusedBody e order (IsLongIn lines body) body (line, cause.TooLong))
-IsBodyFail e order lines left before now checked.ReadFault = Rose before now
+IsBodyFail e order lines left before now checked.ReadFault = Rose before.read_faults now.read_faults
 IsBodyFail e order lines left before now checked.Memory = ⊤
 IsBodyFail e order lines left before now _ = ⊥

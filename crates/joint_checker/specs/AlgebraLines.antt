@@ -93,18 +93,18 @@ Turns e order l next old new left behind turn.Closed =
     IfSome left (λ bytes. TakesClosing e order l old new bytes behind) × Always e.gates (λ σ. specification e order σ ≡ 0)
 
 -- Why the line with this number isn't taken: the first cause over the ledger, or a length that is met there.
-abbrev pub IsLineFail : ℕ → Extended → Order → Ledger → Lines → Option (List ℕ) → ℕ → ℕ → Checked → Type 0
+abbrev pub IsLineFail : ℕ → Extended → Order → Ledger → Lines → Option (List ℕ) → View → View → Checked → Type 0
 IsLineFail n e order l lines left before now (checked.Refused (refusal.Algebra line why)) =
     (line ≡ n) × IfSome left (λ bytes. IsRefusedNext e order (IsLongIn lines bytes) l bytes (0, cause_of why))
 IsLineFail n e order l lines left before now (checked.TooLong slot.Algebra) = IfSome left (IsLongAhead lines)
-IsLineFail n e order l lines left before now checked.ReadFault = Rose before now
+IsLineFail n e order l lines left before now checked.ReadFault = Rose before.read_faults now.read_faults
 IsLineFail n e order l lines left before now checked.Memory = ⊤
 IsLineFail n e order l lines left before now _ = ⊥
 
 -- Why the file doesn't end before the line with this number.
-abbrev pub IsEndFail : ℕ → Lines → Option (List ℕ) → ℕ → ℕ → Checked → Type 0
+abbrev pub IsEndFail : ℕ → Lines → Option (List ℕ) → View → View → Checked → Type 0
 IsEndFail n lines left before now (checked.Refused (refusal.Algebra line why.Text)) = (line ≡ n) × IfSome left (λ bytes. ¬ (IsLongAhead lines bytes) × (bytes ≢ []))
 IsEndFail n lines left before now (checked.TooLong slot.Algebra) = IfSome left (IsLongAhead lines)
-IsEndFail n lines left before now checked.ReadFault = Rose before now
+IsEndFail n lines left before now checked.ReadFault = Rose before.read_faults now.read_faults
 IsEndFail n lines left before now checked.Memory = ⊤
 IsEndFail n lines left before now _ = ⊥

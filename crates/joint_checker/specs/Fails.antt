@@ -8,7 +8,7 @@ use Rattle.graph_core.specs.Extended.{without_cut}
 use Rattle.graph_core.specs.Graph.{Aig}
 use Rattle.graph_core.specs.JudgedLines.{Lengths}
 use Rattle.graph_core.specs.declared.order.Order.{Order}
-use Rattle.mv_desk.specs.View.{Rose}
+use Rattle.mv_desk.specs.View.{Rose, View}
 use Rattle.mv_desk.specs.declared.slot.Slot.TheVariants as slot
 use Rattle.joint_checker.specs.declared.checked.Checked.{Checked}
 use Rattle.joint_checker.specs.declared.checked.Checked.TheVariants as checked
@@ -19,25 +19,25 @@ use Rattle.joint_checker.specs.Certificates as certificate
 use Rattle.joint_checker.specs.Outcome.{IsGraphRefusal, cause_of}
 
 -- of the graph file
-abbrev pub IsGraphFail : ℕ → Option (List ℕ) → ℕ → ℕ → Checked → Type 0
+abbrev pub IsGraphFail : ℕ → Option (List ℕ) → View → View → Checked → Type 0
 IsGraphFail limit text before now (checked.Graph why) = IfSome text (λ bytes. IsGraphRefusal limit bytes why)
 IsGraphFail limit text before now (checked.TooLong slot.Graph) = IfSome text (reading.IsTooLong limit)
-IsGraphFail limit text before now checked.ReadFault = Rose before now
+IsGraphFail limit text before now checked.ReadFault = Rose before.read_faults now.read_faults
 IsGraphFail limit text before now checked.Memory = ⊤
 IsGraphFail limit text before now _ = ⊥
 
 -- of the clause file
-abbrev pub IsClauseFail : Lengths → Option (List ℕ) → ℕ → ℕ → Checked → Type 0
+abbrev pub IsClauseFail : Lengths → Option (List ℕ) → View → View → Checked → Type 0
 IsClauseFail lengths text before now (checked.Refused (refusal.Clauses line clause.Text)) = IfSome text (λ bytes. IsClauseRefusal lengths bytes (line, certificate.Text))
 IsClauseFail lengths text before now (checked.TooLong slot.Clauses) = IfSome text (λ bytes. (line : ℕ) × IsClauseRefusal lengths bytes (line, certificate.TooLong))
-IsClauseFail lengths text before now checked.ReadFault = Rose before now
+IsClauseFail lengths text before now checked.ReadFault = Rose before.read_faults now.read_faults
 IsClauseFail lengths text before now checked.Memory = ⊤
 IsClauseFail lengths text before now _ = ⊥
 
 -- of the algebra file, for a graph
-abbrev pub IsAlgebraFail : Lengths → Aig → Order → Option (List ℕ) → ℕ → ℕ → Checked → Type 0
+abbrev pub IsAlgebraFail : Lengths → Aig → Order → Option (List ℕ) → View → View → Checked → Type 0
 IsAlgebraFail lengths g order text before now (checked.Refused (refusal.Algebra line why)) = IfSome text (λ bytes. IsAlgebraRefusal (without_cut g) order lengths bytes (line, cause_of why))
 IsAlgebraFail lengths g order text before now (checked.TooLong slot.Algebra) = IfSome text (λ bytes. (line : ℕ) × IsAlgebraRefusal (without_cut g) order lengths bytes (line, cause.TooLong))
-IsAlgebraFail lengths g order text before now checked.ReadFault = Rose before now
+IsAlgebraFail lengths g order text before now checked.ReadFault = Rose before.read_faults now.read_faults
 IsAlgebraFail lengths g order text before now checked.Memory = ⊤
 IsAlgebraFail lengths g order text before now _ = ⊥

@@ -63,21 +63,42 @@ IsDue limits order texts _ = ⊥
 
 -- ---- what `check` answers
 
--- files are opened in their order, and only when they are needed
-abbrev pub LeavesUnopened : Checked → View → View → Type 0
-LeavesUnopened (checked.Graph why) before after = SlotStays slot.Clauses before after × SlotStays slot.Algebra before after
-LeavesUnopened (checked.TooLong slot.Graph) before after = SlotStays slot.Clauses before after × SlotStays slot.Algebra before after
-LeavesUnopened (checked.Refused (refusal.Clauses line why)) before after = SlotStays slot.Algebra before after
-LeavesUnopened (checked.TooLong slot.Clauses) before after = SlotStays slot.Algebra before after
-LeavesUnopened _ before after = ⊤
-
 -- Where each answer comes, as far as the desk tells the files.
 abbrev pub IsOutcome : Limits → Order → Files → View → View → Checked → Type 0
 IsOutcome limits order files before after checked.Accepted =
     IsLawfulPair limits order (texts_of before files) × HasGraph limits.graph (texts_of before files) (λ g. Multiplies g order)
 IsOutcome limits order files before after checked.ReadFault = Rose before.read_faults after.read_faults
 IsOutcome limits order files before after checked.Memory = ⊤
-IsOutcome limits order files before after outcome = IsDue limits order (texts_of before files) outcome × LeavesUnopened outcome before after
+IsOutcome limits order files before after outcome = IsDue limits order (texts_of before files) outcome
+
+-- ---- which files are opened
+
+-- the answer is one of the graph file
+abbrev pub IsOfGraph : Checked → Type 0
+IsOfGraph (checked.Graph why) = ⊤
+IsOfGraph (checked.TooLong slot.Graph) = ⊤
+IsOfGraph _ = ⊥
+
+-- the answer is one of the clause file
+abbrev pub IsOfClauses : Checked → Type 0
+IsOfClauses (checked.Refused (refusal.Clauses line why)) = ⊤
+IsOfClauses (checked.TooLong slot.Clauses) = ⊤
+IsOfClauses _ = ⊥
+
+-- The clause file is needed: the graph file spells a graph, and the answer isn't one of it.
+abbrev pub NeedsClauses : Limits → Texts → Checked → Type 0
+NeedsClauses limits texts answer = HasGraph limits.graph texts (λ g. ⊤) × ¬ (IsOfGraph answer)
+
+-- The algebra file is needed: moreover the clause file is the one that replaces nothing, and the answer isn't one of it.
+abbrev pub NeedsAlgebra : Limits → Texts → Checked → Type 0
+NeedsAlgebra limits texts answer =
+    NeedsClauses limits texts answer × IfSome texts.clauses (IsNoCut (lengths_of limits)) × ¬ (IsOfClauses answer)
+
+-- Each certificate is opened only when it is needed: else its slot is as it was. The slot `Other` always is.
+pub record OpensNeeded (limits : Limits) (texts : Texts) (before after : View) (answer : Checked) : Type 0 where
+  pub clauses : SlotStays slot.Clauses before after ⊎ NeedsClauses limits texts answer
+  pub algebra : SlotStays slot.Algebra before after ⊎ NeedsAlgebra limits texts answer
+  pub other : SlotStays slot.Other before after
 
 -- ---- exactness
 

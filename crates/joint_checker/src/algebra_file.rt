@@ -1,10 +1,11 @@
 // The algebra certificate, line by line.
-ghost use Rattle.std.specs.Prelude.{◌≡◌, ◌<◌, ◌^◌, true, None, IfErr, IfSome, OnOk};
+ghost use Rattle.std.specs.Prelude.{◌≡◌, ◌≢◌, ◌<◌, ◌^◌, true, None, IfErr, IfSome, OnOk};
 ghost use Rattle.graph_core.specs.Algebra.{axioms, specification};
 ghost use Rattle.graph_core.specs.Extended.{without_cut};
 ghost use Rattle.graph_core.specs.Soundness.{IsMultiplierSized};
 ghost use Rattle.mv_desk.specs.Calls.{Inspects, ReadsOnly};
-ghost use Rattle.mv_desk.specs.View.{KeepsTelling, bytes_under};
+ghost use Rattle.mv_desk.specs.View.{KeepsTelling, SlotStays, bytes_under};
+ghost use Rattle.mv_desk.specs.declared.slot.Slot.{Slot};
 ghost use Rattle.mv_desk.specs.declared.slot.Slot.TheVariants as slot;
 ghost use Rattle.mv_fact.specs.Always.{Always};
 ghost use Rattle.pac_checker.specs.Agreement.{Agree};
@@ -36,9 +37,14 @@ pub(crate) fn check_algebra<D: Desk>(
     order: Order,
 ) -> Result<(), Checked>
     requires { IsMultiplierSized graph.now }
-    ensures lawful { OnOk result (IfSome (bytes_under (D.seen desk.old) name.now) (IsLawfulAlgebra (lengths_of limits.now) graph.now order)) }
-    ensures vanishes { OnOk result (Always graph.now.gates (λ σ. specification (without_cut graph.now) order σ ≡ 0)) }
-    ensures refused { IfErr result (IsAlgebraFail (lengths_of limits.now) graph.now order (bytes_under (D.seen desk.old) name.now) (D.seen desk.old).read_faults (D.seen desk.new).read_faults) }
+    ensures lawful { OnOk result (IfSome (bytes_under (D.seen desk.old) name.now)
+        (IsLawfulAlgebra (lengths_of limits.now) graph.now order)) }
+    ensures vanishes { OnOk result (Always graph.now.gates
+        (λ σ. specification (without_cut graph.now) order σ ≡ 0)) }
+    ensures refused { IfErr result (IsAlgebraFail (lengths_of limits.now) graph.now order
+        (bytes_under (D.seen desk.old) name.now) (D.seen desk.old) (D.seen desk.new)) }
+    ensures others { (other : Slot) → other ≢ slot.Algebra →
+        SlotStays other (D.seen desk.old) (D.seen desk.new) }
     ensures inspects { Inspects (D.seen desk.old) (D.seen desk.new) }
     ensures tells { KeepsTelling (D.seen desk.old) (D.seen desk.new) }
 {
@@ -58,9 +64,12 @@ fn judge_algebra<D: Desk>(
 ) -> Result<(), Checked>
     requires reads { (D.seen desk.old).reads slot.Algebra ≡ true }
     requires sized { IsMultiplierSized graph.now }
-    ensures lawful { OnOk result (IfSome ((D.seen desk.old).left slot.Algebra) (IsLawfulAlgebra (lengths_of limits.now) graph.now order)) }
-    ensures vanishes { OnOk result (Always graph.now.gates (λ σ. specification (without_cut graph.now) order σ ≡ 0)) }
-    ensures refused { IfErr result (IsAlgebraFail (lengths_of limits.now) graph.now order ((D.seen desk.old).left slot.Algebra) (D.seen desk.old).read_faults (D.seen desk.new).read_faults) }
+    ensures lawful { OnOk result (IfSome ((D.seen desk.old).left slot.Algebra)
+        (IsLawfulAlgebra (lengths_of limits.now) graph.now order)) }
+    ensures vanishes { OnOk result (Always graph.now.gates
+        (λ σ. specification (without_cut graph.now) order σ ≡ 0)) }
+    ensures refused { IfErr result (IsAlgebraFail (lengths_of limits.now) graph.now order
+        ((D.seen desk.old).left slot.Algebra) (D.seen desk.old) (D.seen desk.new)) }
     ensures only { ReadsOnly slot.Algebra (D.seen desk.old) (D.seen desk.new) }
     ensures tells { KeepsTelling (D.seen desk.old) (D.seen desk.new) }
 {
@@ -90,9 +99,13 @@ fn judge_lines<D: Desk>(
     requires limit { work.old.file.lines.lengths.file < 2 ^ 64 }
     requires max { work.old.max ≡ checker.old.extended.max }
     requires axioms { Agree (ledger_of checker.old) (axioms checker.old.extended) }
-    ensures lawful { OnOk result (IfSome (left_in work.old.file (D.seen desk.old)) (IsLawfulBody checker.old.extended checker.old.order work.old.file.lines)) }
-    ensures vanishes { OnOk result (Always checker.old.extended.gates (λ σ. specification checker.old.extended checker.old.order σ ≡ 0)) }
-    ensures refused { IfErr result (IsBodyFail checker.old.extended checker.old.order work.old.file.lines (left_in work.old.file (D.seen desk.old)) (D.seen desk.old).read_faults (D.seen desk.new).read_faults) }
+    ensures lawful { OnOk result (IfSome (left_in work.old.file (D.seen desk.old))
+        (IsLawfulBody checker.old.extended checker.old.order work.old.file.lines)) }
+    ensures vanishes { OnOk result (Always checker.old.extended.gates
+        (λ σ. specification checker.old.extended checker.old.order σ ≡ 0)) }
+    ensures refused { IfErr result (IsBodyFail checker.old.extended checker.old.order
+        work.old.file.lines (left_in work.old.file (D.seen desk.old))
+        (D.seen desk.old) (D.seen desk.new)) }
     ensures only { ReadsOnly slot.Algebra (D.seen desk.old) (D.seen desk.new) }
     ensures tells { KeepsTelling (D.seen desk.old) (D.seen desk.new) }
 {

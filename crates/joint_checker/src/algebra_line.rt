@@ -33,8 +33,12 @@ pub(crate) fn judge_line<D: Desk>(
     requires reads { (D.seen desk.old).reads slot.Algebra ≡ true }
     requires going { work.old.file.failed ≡ None }
     requires max { work.old.max ≡ checker.old.extended.max }
-    ensures turns { IfOk result (Turns checker.old.extended checker.old.order (ledger_of checker.old) (ledger_of checker.new) work.old.file.lines work.new.file.lines (left_in work.old.file (D.seen desk.old)) (left_in work.new.file (D.seen desk.new))) }
-    ensures refused { IfErr result (IsLineFail line checker.old.extended checker.old.order (ledger_of checker.old) work.old.file.lines (left_in work.old.file (D.seen desk.old)) (D.seen desk.old).read_faults (D.seen desk.new).read_faults) }
+    ensures turns { IfOk result (Turns checker.old.extended checker.old.order
+        (ledger_of checker.old) (ledger_of checker.new) work.old.file.lines work.new.file.lines
+        (left_in work.old.file (D.seen desk.old)) (left_in work.new.file (D.seen desk.new))) }
+    ensures refused { IfErr result (IsLineFail line checker.old.extended checker.old.order
+        (ledger_of checker.old) work.old.file.lines (left_in work.old.file (D.seen desk.old))
+        (D.seen desk.old) (D.seen desk.new)) }
     ensures going { IfOk result (λ _. work.new.file.failed ≡ None) }
     ensures lengths { work.new.file.lines.lengths ≡ work.old.file.lines.lengths }
     ensures max { work.new.max ≡ work.old.max }
@@ -78,7 +82,8 @@ pub(crate) fn judge_end<D: Desk>(
     requires reads { (D.seen desk.old).reads slot.Algebra ≡ true }
     requires going { file.old.failed ≡ None }
     ensures end { OnOk result (IfSome (left_in file.old (D.seen desk.old)) (λ left. left ≡ [])) }
-    ensures refused { IfErr result (IsEndFail line file.old.lines (left_in file.old (D.seen desk.old)) (D.seen desk.old).read_faults (D.seen desk.new).read_faults) }
+    ensures refused { IfErr result (IsEndFail line file.old.lines
+        (left_in file.old (D.seen desk.old)) (D.seen desk.old) (D.seen desk.new)) }
     ensures only { ReadsOnly slot.Algebra (D.seen desk.old) (D.seen desk.new) }
     ensures tells { KeepsTelling (D.seen desk.old) (D.seen desk.new) }
 {

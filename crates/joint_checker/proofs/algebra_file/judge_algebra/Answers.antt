@@ -15,7 +15,7 @@ pub returns-in-Err-clause-refused : goal.returns-in-Err-clause-refused
 returns-in-Err-clause-refused g c =
     let before = g.D.Desk.seen c.args.desk.now in
     rw c.line_refused.ensures
-    (header_fails (lengths_of c.args.limits.now) c.args.graph.now c.args.order (before.left slot.Algebra) before.read_faults (g.D.Desk.seen c.start.new.desk).read_faults c.in-Err.fail c.in-Err.ensures.refused)
+    (header_fails (lengths_of c.args.limits.now) c.args.graph.now c.args.order (before.left slot.Algebra) before (g.D.Desk.seen c.start.new.desk) c.in-Err.fail c.in-Err.ensures.refused)
 
 pub returns-clause-lawful : goal.returns-clause-lawful
 returns-clause-lawful g c =
@@ -42,9 +42,9 @@ returns-clause-refused g c =
     let checker = c.in_ok-checker.checker in
     let same_graph = c.in_ok-checker.ensures.extended ∙ c.without_cut-extended.ensures in
     let same_order = c.in_ok-checker.ensures.order ∙ c.in_ok-operands.ensures.order in
-    IfErr-weaker c.judge_lines.result (IsBodyFail checker.extended checker.order file.lines behind middle.read_faults now.read_faults)
-    (IsAlgebraFail (lengths_of c.args.limits.now) graph c.args.order (before.left slot.Algebra) before.read_faults now.read_faults) (λ answer h.
-    body_fails (lengths_of c.args.limits.now) graph c.args.order file c.in-Ok.ensures.lengths (before.left slot.Algebra) behind c.in-Ok.ensures.header before.read_faults middle.read_faults now.read_faults answer c.in-Ok.ensures.only.later
-    (subst (λ (o : Order). IsBodyFail (without_cut graph) o file.lines behind middle.read_faults now.read_faults answer) same_order
-    (subst (λ (e : Extended). IsBodyFail e checker.order file.lines behind middle.read_faults now.read_faults answer) same_graph h)))
+    IfErr-weaker c.judge_lines.result (IsBodyFail checker.extended checker.order file.lines behind middle now)
+    (IsAlgebraFail (lengths_of c.args.limits.now) graph c.args.order (before.left slot.Algebra) before now) (λ answer h.
+    body_fails (lengths_of c.args.limits.now) graph c.args.order file c.in-Ok.ensures.lengths (before.left slot.Algebra) behind c.in-Ok.ensures.header before middle now answer c.in-Ok.ensures.only.later
+    (subst (λ (o : Order). IsBodyFail (without_cut graph) o file.lines behind middle now answer) same_order
+    (subst (λ (e : Extended). IsBodyFail e checker.order file.lines behind middle now answer) same_graph h)))
     c.judge_lines.ensures.refused

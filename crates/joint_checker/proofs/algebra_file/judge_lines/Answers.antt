@@ -22,9 +22,9 @@ returns-in_err-judge_line-clause-refused g c =
     let known = ledger_of c.loop-line.checker in
     let p = err_from_is_err_and c.from_residual.result c.from_residual.ensures.1 in
     rw (p.1, p.2)
-    (line_fails e order start.lines (left_in start first) known c.loop-line.line file.lines left c.loop-line.invariant.lengths c.loop-line.invariant.reached first.read_faults before.read_faults now.read_faults c.in_err-judge_line.field-0.0
+    (line_fails e order start.lines (left_in start first) known c.loop-line.line file.lines left c.loop-line.invariant.lengths c.loop-line.invariant.reached first before now c.in_err-judge_line.field-0.0
     c.loop-line.invariant.only.later
-    (fail_is c.loop-line.line e c.loop-line.checker.extended order c.loop-line.checker.order known file.lines left before.read_faults now.read_faults c.in_err-judge_line.field-0.0 c.loop-line.invariant.extended c.loop-line.invariant.order
+    (fail_is c.loop-line.line e c.loop-line.checker.extended order c.loop-line.checker.order known file.lines left before now c.in_err-judge_line.field-0.0 c.loop-line.invariant.extended c.loop-line.invariant.order
     c.in_err-judge_line.ensures.refused))
 
 pub returns-in-Closed-clause-lawful : goal.returns-in-Closed-clause-lawful
@@ -60,9 +60,9 @@ returns-in-Closed-clause-refused g c =
     c.loop-line.invariant.extended c.loop-line.invariant.order c.in_ok-judge_line.ensures.turns in
     let once = c.loop-line.invariant.only.later in
     let twice = c.in_ok-judge_line.ensures.only.later in
-    IfErr-weaker c.judge_end.result (IsEndFail (c.loop-line.line + 1) next.lines behind before.read_faults now.read_faults) (IsBodyFail e order start.lines (left_in start first) first.read_faults now.read_faults)
-    (λ answer h. end_fails e order start.lines (left_in start first) known c.loop-line.line file.lines left c.loop-line.invariant.lengths c.loop-line.invariant.reached next.lines behind closing first.read_faults before.read_faults
-    now.read_faults answer c.in_ok-judge_line.ensures.lengths (omega (arith, once, twice)) h) c.judge_end.ensures.refused
+    IfErr-weaker c.judge_end.result (IsEndFail (c.loop-line.line + 1) next.lines behind before now) (IsBodyFail e order start.lines (left_in start first) first now)
+    (λ answer h. end_fails e order start.lines (left_in start first) known c.loop-line.line file.lines left c.loop-line.invariant.lengths c.loop-line.invariant.reached next.lines behind closing first before
+    now answer c.in_ok-judge_line.ensures.lengths (omega (arith, once, twice)) h) c.judge_end.ensures.refused
 
 pub loop-line-preserved : goal.loop-line-preserved
 loop-line-preserved g c =

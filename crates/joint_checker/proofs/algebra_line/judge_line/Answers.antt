@@ -13,7 +13,7 @@ returns-in-Err-clause-refused g c =
     let file = c.args.work.now.file in
     let before = g.D.Desk.seen c.args.desk.now in
     rw c.line_refused.ensures
-    (text_fails c.args.line checker.extended checker.order (ledger_of checker) c.args.work.now.max file.lines (left_in file before) before.read_faults (g.D.Desk.seen c.grow.new.on).read_faults c.in-Err.fail c.requires.max
+    (text_fails c.args.line checker.extended checker.order (ledger_of checker) c.args.work.now.max file.lines (left_in file before) before (g.D.Desk.seen c.grow.new.on) c.in-Err.fail c.requires.max
     c.in-Err.ensures.did.0.refused)
 
 pub returns-in-Ok-clause-turns : goal.returns-in-Ok-clause-turns
@@ -45,8 +45,8 @@ returns-in-Ok-clause-refused g c =
     let behind = left_in c.grow.new.work.file after in
     let grows = c.grow.ensures.grows in
     let same_max = c.requires.max ∙ ap (λ e. e.max) (sym grows.extended) in
-    IfErr-weaker c.judge_text.result (IsUnlawful c.args.line c.in-Ok.text grown) (IsLineFail c.args.line old.extended old.order (ledger_of old) lines left before.read_faults after.read_faults) (λ answer h.
-    subst (λ (e : Extended). IsLineFail c.args.line e old.order (ledger_of old) lines left before.read_faults after.read_faults answer) grows.extended
-    (subst (λ (order : Order). IsLineFail c.args.line grown.extended order (ledger_of old) lines left before.read_faults after.read_faults answer) grows.order
-    (turn_fails grown (ledger_of old) grows.ledger c.grow.ensures.modulus c.args.work.now.max same_max lines then left behind c.in-Ok.text c.in-Ok.ensures.did.0.line c.args.line before.read_faults after.read_faults answer h)))
+    IfErr-weaker c.judge_text.result (IsUnlawful c.args.line c.in-Ok.text grown) (IsLineFail c.args.line old.extended old.order (ledger_of old) lines left before after) (λ answer h.
+    subst (λ (e : Extended). IsLineFail c.args.line e old.order (ledger_of old) lines left before after answer) grows.extended
+    (subst (λ (order : Order). IsLineFail c.args.line grown.extended order (ledger_of old) lines left before after answer) grows.order
+    (turn_fails grown (ledger_of old) grows.ledger c.grow.ensures.modulus c.args.work.now.max same_max lines then left behind c.in-Ok.text c.in-Ok.ensures.did.0.line c.args.line before after answer h)))
     c.judge_text.ensures.refused
