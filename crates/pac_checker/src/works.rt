@@ -50,7 +50,7 @@ impl<'a> GrowFrom<Poly> for Add<'a> {
     }
 }
 
-/// Adds up polynomials, by halves.
+/// Adds up polynomials.
 #[derive(Drop)]
 pub(crate) struct AddAll<'a> {
     pub(crate) parts: &'a [Poly],
