@@ -1,5 +1,5 @@
 -- The order of a gate's operands changes no value.
-use Rattle.std.specs.Prelude.{◌≡◌, ℕ, zero, suc, ◌+◌, ◌*◌, ◌^◌, ◌/◌, ◌<◌, Some, Bool, true, false, cond, ◌&&◌, ◌==◌, nat_lt, List, [], ◌∷◌, map, length}
+use Rattle.std.specs.Prelude.{◌≡◌, ℕ, zero, suc, ◌+◌, ◌*◌, ◌^◌, ◌/◌, ◌<◌, Some, Bool, true, false, cond, ◌&&◌, ◌==◌, nat_lt, List, [], ◌∷◌, map, length, ◌%◌}
 use Rattle.std.specs.List.{find}
 use Rattle.std.proofs.Common.{refl, sym, ap, ap₂, subst, ◌∙◌}
 use Rattle.std.proofs.Math.Bool.{and_comm}
@@ -7,11 +7,11 @@ use Rattle.std.proofs.lemmas.List.{length-map}
 use Rattle.graph_core.specs.declared.literal.Lit.{Lit}
 use Rattle.graph_core.specs.declared.gate.Gate.{Gate}
 use Rattle.graph_core.specs.declared.order.Order.{Order}
-use Rattle.graph_core.specs.Literal.{variable_of}
-use Rattle.graph_core.specs.Assignment.{Assignment, literal, bit, word}
+use Rattle.graph_core.specs.Graph.Literals.{variable_of}
+use Rattle.graph_core.specs.Graph.Assignments.{Assignment, literal, bit, word}
 use Rattle.graph_core.specs.Graph.{Aig, SameUpToOperands, computed, evaluated, greater_first, of_inputs, round, rounds}
-use Rattle.graph_core.specs.Operands.{inputs_of, value_on, width}
-use Rattle.graph_core.proofs.Evaluation.{literal_same}
+use Rattle.graph_core.specs.Graph.Operands.{inputs_of, value_on, width}
+use Rattle.graph_core.proofs.OfGraphs.CallerLemmas.{literal_same}
 use Rattle.aiger_reader.specs.Written.{OperandOrderIsFree}
 
 own_variable : (x : Gate) → (greater_first x).v ≡ x.v
@@ -77,6 +77,8 @@ module _ (g h : Aig) (same : SameUpToOperands g h) where
 
 pub operand_order_is_free : OperandOrderIsFree
 operand_order_is_free g h order same = (
-  λ m a b la lb. sym (value_same g h same order a b) ∙ m a b (subst (λ n. a < 2 ^ n) (sym (as_wide g h same)) la) (subst (λ n. b < 2 ^ n) (sym (as_wide g h same)) lb),
-  λ m a b la lb. value_same g h same order a b ∙ m a b (subst (λ n. a < 2 ^ n) (as_wide g h same) la) (subst (λ n. b < 2 ^ n) (as_wide g h same) lb),
+  λ m a b la lb. sym (value_same g h same order a b) ∙ m a b (subst (λ n. a < 2 ^ n) (sym (as_wide g h same)) la) (subst (λ n. b < 2 ^ n) (sym (as_wide g h same)) lb) ∙
+      ap (λ os. a * b % 2 ^ length os) same.2,
+  λ m a b la lb. value_same g h same order a b ∙ m a b (subst (λ n. a < 2 ^ n) (as_wide g h same) la) (subst (λ n. b < 2 ^ n) (as_wide g h same) lb) ∙
+      ap (λ os. a * b % 2 ^ length os) (sym same.2),
 )

@@ -3,14 +3,13 @@ use Rattle.std.specs.Prelude.{ℕ, ◌+◌, ◌<◌, ◌≤◌, map, length, sli
 use Rattle.std.proofs.Common.{arith, length-append}
 use Rattle.std.proofs.lemmas.List.{length-map}
 use Rattle.std.proofs.lemmas.List.Elements.{All-append, All-map, Contains-get_or}
-use Rattle.graph_core.specs.Literal.{variable_of}
+use Rattle.graph_core.specs.Graph.Literals.{variable_of}
 use Rattle.graph_core.specs.Graph.{Aig, IsWellFormed, defined}
 use Rattle.graph_core.specs.Aiger.{HasMultiplierCounts}
-use Rattle.graph_core.specs.Soundness.{IsMultiplierSized}
-use Rattle.graph_core.specs.Writing.{written, written_gate}
-use Rattle.graph_core.proofs.BuiltFacts.{few_numbers}
-use Rattle.graph_core.proofs.WellFormedGates.{input_in_range}
-use Rattle.graph_core.proofs.Writing.{ascii_text_spells, binary_text_spells}
+use Rattle.graph_core.specs.Aiger.Soundness.{IsMultiplierSized}
+use Rattle.graph_core.specs.Aiger.Writing.{written, written_gate}
+use Rattle.graph_core.proofs.OfGraphs.CallerLemmas.{few_numbers, input_in_range}
+use Rattle.graph_core.proofs.OfAiger.CallerLemmas.{ascii_text_spells, binary_text_spells}
 use Rattle.aiger_reader.specs.Written.{AsciiSpellsAgain, BinarySpellsAgain}
 
 module _ (g : Aig) (well : IsWellFormed g) where
@@ -29,6 +28,7 @@ module _ (g : Aig) (well : IsWellFormed g) where
   counted : IsMultiplierSized g → HasMultiplierCounts (written g)
   counted sized =
       let inputs = sized.shape.inputs in
+      let some_outputs = sized.shape.some_outputs in
       let outputs = sized.shape.outputs in
       let some = sized.some in
       let narrow = sized.narrow in
@@ -37,6 +37,7 @@ module _ (g : Aig) (well : IsWellFormed g) where
         even = omega arith;
         some = omega arith;
         few = omega arith;
+        some_outputs = omega arith;
         outputs = omega arith;
         room = omega (arith, room, length-map g.gates written_gate);
       }

@@ -1,15 +1,18 @@
--- What is asked for has its number of bits in range.
-use Rattle.std.proofs.Common.{◌≡◌, ◌&&◌, ℕ, Bool, true, false, List, [], ◌∷◌, Option, Some, None, nat_le, refl, subst, codes, arith}
+-- What is asked for has its numbers in range, and names that differ where they must.
+use Rattle.std.proofs.Common.{◌≡◌, ◌≢◌, ◌<◌, ◌≤◌, ◌^◌, ◌&&◌, ◌||◌, ℕ, Bool, true, false, List, [], ◌∷◌, Option, Some, None, nat_le, nat_lt, refl, sym, ◌∙◌, true≢false, subst, codes, arith}
 use Rattle.std.specs.Prelude.{IfSome, if◌then◌else◌, option_and_then}
+use Rattle.std.specs.Option.{option_map_or}
 use Rattle.std.specs.Str.{bytes_eq}
 use Rattle.std.proofs.lemmas.Bool.Decides.{nat_tests}
+use Rattle.std.proofs.lemmas.Slice.Eq.{bytes_eq-Decides}
 use Rattle.clap.specs.Words.{Kinds, Row, Text, fault_of, first_of, subcommand_of}
 use Rattle.graph_core.specs.declared.order.Order.{Order}
 use Rattle.graph_maker.specs.declared.adder.Adder.{Adder}
 use Rattle.graph_maker.specs.declared.kind.Kind.{Kind}
 use Rattle.command_line.specs.declared.command.Command.{Command}
-use Rattle.command_line.specs.declared.command.Command.TheVariants.{Make}
-use Rattle.command_line.specs.Asked.{AreBits, HasBitsInRange, adder_named, asked, bits_of, check_of, check_with, eval_of, eval_with, kind_named, make_of, make_with, met, named, number_of, order_at, read_at, where_taken}
+use Rattle.command_line.specs.declared.command.Command.TheVariants.{Check, Make, Verify}
+use Rattle.command_line.specs.declared.files.Files.{Files}
+use Rattle.command_line.specs.Asked.{AreApart, AreBits, IsInRange, adder_named, are_shared, asked, bits_of, check_of, check_with, files_at, verify_of, verify_with, word_at, word_from, eval_of, eval_with, kind_named, make_of, make_with, met, named, number_of, order_at, read_at, where_taken}
 use Rattle.command_line.specs.FixedCommand.{mulver}
 
 -- ---- the number
@@ -27,21 +30,62 @@ bits_in : (o : Option Text) → IfSome (option_and_then bits_of o) AreBits
 bits_in None = tt
 bits_in (Some text) = in_bits (number_of text)
 
+-- a number below 2^32 from a least one on
+abbrev AreFrom : ℕ → ℕ → Type 0
+AreFrom least n = (least ≤ n) × (n < 2 ^ 32)
+
+if_from : (t u : Bool) (least n : ℕ) → nat_le least n ≡ t → nat_lt n (2 ^ 32) ≡ u → IfSome (if t && u then Some n else None) (AreFrom least)
+if_from true true least n low high = grind (arith, nat_tests)
+if_from true false least n low high = tt
+if_from false u least n low high = tt
+
+in_word : (least : ℕ) (o : Option ℕ) → IfSome (option_and_then (λ n. if nat_le least n && nat_lt n (2 ^ 32) then Some n else None) o) (AreFrom least)
+in_word least None = tt
+in_word least (Some n) = if_from (nat_le least n) (nat_lt n (2 ^ 32)) least n refl refl
+
+word_in : (least default : ℕ) (o : Option Text) → AreFrom least default → IfSome (option_map_or (word_from least) o (Some default)) (AreFrom least)
+word_in least default None h = h
+word_in least default (Some text) h = in_word least (number_of text)
+
 -- ---- the commands
 
-same_range : (asked there : Command) → HasBitsInRange there → Some there ≡ Some asked → HasBitsInRange asked
-same_range asked there h e = let same : there ≡ asked = cc in subst HasBitsInRange same h
+same_range : (asked there : Command) → IsInRange there → Some there ≡ Some asked → IsInRange asked
+same_range asked there h e = let same : there ≡ asked = cc in subst IsInRange same h
 
-check_range : (graph clauses algebra : Option Text) (order : Option Order) (command : Command)
-    → check_with graph clauses algebra order ≡ Some command → HasBitsInRange command
-check_range (Some g) (Some c) (Some a) (Some o) command e = same_range command _ tt e
-check_range None clauses algebra order command e = cc
-check_range (Some g) None algebra order command e = cc
-check_range (Some g) (Some c) None order command e = cc
-check_range (Some g) (Some c) (Some a) None command e = cc
+check_range : (files : Option Files) (order : Option Order) (command : Command) → check_with files order ≡ Some command → IsInRange command
+check_range (Some f) (Some o) command e = same_range command (Check f o) tt e
+check_range None order command e = cc
+check_range (Some f) None command e = cc
+
+-- texts of which the test says that they differ
+differ : (xs ys : Text) → bytes_eq xs ys ≡ false → xs ≢ ys
+differ xs ys test same = true≢false (sym ((bytes_eq-Decides xs ys).1 same) ∙ test)
+
+or_none : (t u : Bool) → (t || u) ≡ false → (t ≡ false) × (u ≡ false)
+or_none true u e = absurd (true≢false e)
+or_none false u e = (refl, e)
+
+apart : (files : Files) → are_shared files ≡ false → AreApart files
+apart files test =
+    let one = or_none (bytes_eq files.graph files.clauses) (bytes_eq files.graph files.algebra || bytes_eq files.clauses files.algebra) test in
+    let two = or_none (bytes_eq files.graph files.algebra) (bytes_eq files.clauses files.algebra) one.1 in
+    record { clauses = differ files.graph files.clauses one.0; algebra = differ files.graph files.algebra two.0; certificates = differ files.clauses files.algebra two.1 }
+
+verify_one : (files : Files) (order : Order) (budget conflicts : ℕ) (command : Command) → (1 ≤ budget) × (budget < 2 ^ 32) → conflicts < 2 ^ 32
+    → (shared : Bool) → are_shared files ≡ shared → (if shared then None else Some (Verify files order budget conflicts)) ≡ Some command → IsInRange command
+verify_one files order budget conflicts command b c true test e = cc
+verify_one files order budget conflicts command b c false test e = same_range command (Verify files order budget conflicts) (apart files test, b.0, b.1, c) e
+
+verify_range : (files : Option Files) (order : Option Order) (budget conflicts : Option ℕ) (command : Command)
+    → IfSome budget (AreFrom 1) → IfSome conflicts (AreFrom 0) → verify_with files order budget conflicts ≡ Some command → IsInRange command
+verify_range (Some f) (Some o) (Some b) (Some c) command b_range c_range e = verify_one f o b c command b_range c_range.1 (are_shared f) refl e
+verify_range None order budget conflicts command b_range c_range e = cc
+verify_range (Some f) None budget conflicts command b_range c_range e = cc
+verify_range (Some f) (Some o) None conflicts command b_range c_range e = cc
+verify_range (Some f) (Some o) (Some b) None command b_range c_range e = cc
 
 eval_range : (graph : Option Text) (a b : Option ℕ) (order : Option Order) (command : Command)
-    → eval_with graph a b order ≡ Some command → HasBitsInRange command
+    → eval_with graph a b order ≡ Some command → IsInRange command
 eval_range (Some g) (Some a) (Some b) (Some o) command e = same_range command _ tt e
 eval_range None a b order command e = cc
 eval_range (Some g) None b order command e = cc
@@ -49,7 +93,7 @@ eval_range (Some g) (Some a) None order command e = cc
 eval_range (Some g) (Some a) (Some b) None command e = cc
 
 make_range : (kind : Option Kind) (bits : Option ℕ) (adder : Option Adder) (out : Option Text) (command : Command)
-    → IfSome bits AreBits → make_with kind bits adder out ≡ Some command → HasBitsInRange command
+    → IfSome bits AreBits → make_with kind bits adder out ≡ Some command → IsInRange command
 make_range (Some k) (Some n) (Some a) (Some o) command in_range e = same_range command (Make k n a o) in_range e
 make_range None bits adder out command in_range e = cc
 make_range (Some k) None adder out command in_range e = cc
@@ -58,26 +102,28 @@ make_range (Some k) (Some n) (Some a) None command in_range e = cc
 
 -- ---- the words
 
-named_range : (name : Text) (rows : List Row) (command : Command) → named name rows ≡ Some command → HasBitsInRange command
-named_range name rows command = pick (bytes_eq name (codes "check")) (bytes_eq name (codes "eval")) (bytes_eq name (codes "make"))
+named_range : (name : Text) (rows : List Row) (command : Command) → named name rows ≡ Some command → IsInRange command
+named_range name rows command = pick (bytes_eq name (codes "check")) (bytes_eq name (codes "verify")) (bytes_eq name (codes "eval")) (bytes_eq name (codes "make"))
   where
-    pick : (x y z : Bool) → (if x then check_of rows else (if y then eval_of rows else (if z then make_of rows else None))) ≡ Some command
-        → HasBitsInRange command
-    pick true y z e = check_range (first_of (codes "graph") rows) (first_of (codes "clauses") rows) (first_of (codes "algebra") rows) (order_at rows) command e
-    pick false true z e = eval_range (first_of (codes "graph") rows) (read_at number_of (codes "a") rows) (read_at number_of (codes "b") rows) (order_at rows) command e
-    pick false false true e = make_range (read_at kind_named (codes "kind") rows) (read_at bits_of (codes "bits") rows)
+    pick : (w x y z : Bool) → (if w then check_of rows else (if x then verify_of rows else (if y then eval_of rows else (if z then make_of rows else None)))) ≡ Some command
+        → IsInRange command
+    pick true x y z e = check_range (files_at rows) (order_at rows) command e
+    pick false true y z e = verify_range (files_at rows) (order_at rows) (word_at 1 1000000 (codes "budget") rows) (word_at 0 100000 (codes "conflicts") rows) command
+        (word_in 1 1000000 (first_of (codes "budget") rows) (omega arith, omega arith)) (word_in 0 100000 (first_of (codes "conflicts") rows) (omega arith, omega arith)) e
+    pick false false true z e = eval_range (first_of (codes "graph") rows) (read_at number_of (codes "a") rows) (read_at number_of (codes "b") rows) (order_at rows) command e
+    pick false false false true e = make_range (read_at kind_named (codes "kind") rows) (read_at bits_of (codes "bits") rows)
         (read_at adder_named (codes "adder") rows) (first_of (codes "out") rows) command (bits_in (first_of (codes "bits") rows)) e
-    pick false false false e = cc
+    pick false false false false e = cc
 
-met_range : (subcommand : Option (Text × List Row)) (command : Command) → met subcommand ≡ Some command → HasBitsInRange command
+met_range : (subcommand : Option (Text × List Row)) (command : Command) → met subcommand ≡ Some command → IsInRange command
 met_range None command e = cc
 met_range (Some s) command e = named_range s.0 s.1 command e
 
-taken_range : (kinds : Kinds) (there : Option Command) (command : Command) → ((c : Command) → there ≡ Some c → HasBitsInRange c)
-    → where_taken kinds there ≡ Some command → HasBitsInRange command
+taken_range : (kinds : Kinds) (there : Option Command) (command : Command) → ((c : Command) → there ≡ Some c → IsInRange c)
+    → where_taken kinds there ≡ Some command → IsInRange command
 taken_range [] there command range e = range command e
 taken_range (kind ∷ kinds) there command range e = cc
 
-pub asked_range : (words : List Text) (command : Command) → asked words ≡ Some command → HasBitsInRange command
+pub asked_range : (words : List Text) (command : Command) → asked words ≡ Some command → IsInRange command
 unfolding asked
 asked_range words command e = taken_range (fault_of mulver words) (met (subcommand_of mulver words)) command (met_range (subcommand_of mulver words)) e

@@ -1,5 +1,5 @@
 -- What the words of a command line ask for.
-use Rattle.std.specs.Prelude.{◌≡◌, ◌≤◌, ⊤, ℕ, ◌^◌, ◌&&◌, Bool, false, nat_le, nat_lt, List, [], ◌∷◌, map, Option, Some, None, if◌then◌else◌, codes, string_bytes, option_and_then}
+use Rattle.std.specs.Prelude.{◌≡◌, ◌≢◌, ◌<◌, ◌≤◌, ⊤, ℕ, ◌^◌, ◌&&◌, ◌||◌, Bool, false, nat_le, nat_lt, List, [], ◌∷◌, map, Option, Some, None, if◌then◌else◌, codes, string_bytes, option_and_then}
 use Rattle.std.specs.Global.{Global}
 use Rattle.std.specs.Option.{option_map_or}
 use Rattle.std.specs.Str.{all_ascii_digits, bytes_eq}
@@ -14,7 +14,7 @@ use Rattle.graph_maker.specs.declared.kind.Kind.TheVariants.{Array, Dadda}
 use Rattle.mv_desk.specs.declared.names.Names.{Names}
 use Rattle.mv_nums.specs.Numeral.{decimal_value}
 use Rattle.command_line.specs.declared.command.Command.{Command}
-use Rattle.command_line.specs.declared.command.Command.TheVariants.{Check, Eval, Make}
+use Rattle.command_line.specs.declared.command.Command.TheVariants.{Check, Eval, Make, Verify}
 use Rattle.command_line.specs.declared.files.Files.{Files}
 use Rattle.command_line.specs.FixedCommand.{mulver}
 
@@ -59,6 +59,11 @@ abbrev pub bits_of : Text → Option ℕ
 bits_of text =
     option_and_then (λ bits. if nat_le 1 bits && nat_le bits 64 then Some bits else None) (number_of text)
 
+-- a number below 2^32, from a least one on
+abbrev pub word_from : ℕ → Text → Option ℕ
+word_from least text =
+    option_and_then (λ n. if nat_le least n && nat_lt n (2 ^ 32) then Some n else None) (number_of text)
+
 -- ---- the texts of a subcommand, each under its name
 
 -- what the text of this name says
@@ -69,18 +74,47 @@ read_at read name rows = option_and_then read (first_of name rows)
 abbrev pub order_at : List Row → Option Order
 order_at rows = option_map_or order_named (first_of (codes "inputs") rows) (Some Separate)
 
--- `check`: the names of three files, and an order; nothing where one is missing
-abbrev pub check_with : Option Text → Option Text → Option Text → Option Order → Option Command
-check_with (Some graph) (Some clauses) (Some algebra) (Some order) =
-    Some (Check (record { graph = graph; clauses = clauses; algebra = algebra }) order)
-check_with _ _ _ _ = None
+-- the names of three files; nothing where one is missing
+abbrev pub files_with : Option Text → Option Text → Option Text → Option Files
+files_with (Some graph) (Some clauses) (Some algebra) =
+    Some (record { graph = graph; clauses = clauses; algebra = algebra })
+files_with _ _ _ = None
 
-abbrev pub check_of : List Row → Option Command
-check_of rows = check_with
+abbrev pub files_at : List Row → Option Files
+files_at rows = files_with
     (first_of (codes "graph") rows)
     (first_of (codes "clauses") rows)
     (first_of (codes "algebra") rows)
+
+-- `check`: the names of three files, and an order
+abbrev pub check_with : Option Files → Option Order → Option Command
+check_with (Some files) (Some order) = Some (Check files order)
+check_with _ _ = None
+
+abbrev pub check_of : List Row → Option Command
+check_of rows = check_with (files_at rows) (order_at rows)
+
+-- the number of this name, below 2^32 and from a least one on, or a default where none is named
+abbrev pub word_at : ℕ → ℕ → Text → List Row → Option ℕ
+word_at least default name rows = option_map_or (word_from least) (first_of name rows) (Some default)
+
+-- two of the three names are equal
+abbrev pub are_shared : Files → Bool
+are_shared files =
+    bytes_eq files.graph files.clauses || (bytes_eq files.graph files.algebra || bytes_eq files.clauses files.algebra)
+
+-- `verify`: the names of three files, no two of which are equal, an order, a budget and a number of conflicts
+abbrev pub verify_with : Option Files → Option Order → Option ℕ → Option ℕ → Option Command
+verify_with (Some files) (Some order) (Some budget) (Some conflicts) =
+    if are_shared files then None else Some (Verify files order budget conflicts)
+verify_with _ _ _ _ = None
+
+abbrev pub verify_of : List Row → Option Command
+verify_of rows = verify_with
+    (files_at rows)
     (order_at rows)
+    (word_at 1 1000000 (codes "budget") rows)
+    (word_at 0 100000 (codes "conflicts") rows)
 
 -- `eval`: the name of a file, two numbers, and an order
 abbrev pub eval_with : Option Text → Option ℕ → Option ℕ → Option Order → Option Command
@@ -112,8 +146,9 @@ make_of rows = make_with
 abbrev pub named : Text → List Row → Option Command
 named name rows =
     if bytes_eq name (codes "check") then check_of rows
+    else (if bytes_eq name (codes "verify") then verify_of rows
     else (if bytes_eq name (codes "eval") then eval_of rows
-    else (if bytes_eq name (codes "make") then make_of rows else None))
+    else (if bytes_eq name (codes "make") then make_of rows else None)))
 
 -- the subcommand that was met
 abbrev pub met : Option (Text × List Row) → Option Command
@@ -125,13 +160,17 @@ where_taken [] there = there
 where_taken (kind ∷ kinds) there = None
 
 -- What the words ask for: nothing where `clap` refuses them for the fixed command, where a text isn't one of
--- those that are named, and where it is no number in its range.
+-- those that are named, where it is no number in its range, and where two of the names of `verify` are equal.
 unfoldable pub asked : List Text → Option Command
 asked words = where_taken (fault_of mulver words) (met (subcommand_of mulver words))
 
 -- The words ask for nothing.
 abbrev pub IsUsage : List Text → Type 0
 IsUsage words = asked words ≡ None
+
+-- The words ask for `verify` of these files, under this order, with this budget and so many conflicts.
+abbrev pub IsVerify : List Text → Files → Order → ℕ → ℕ → Type 0
+IsVerify words files order budget conflicts = asked words ≡ Some (Verify files order budget conflicts)
 
 -- The words ask for `check` of these files, under this order.
 abbrev pub IsCheck : List Text → Files → Order → Type 0
@@ -141,7 +180,14 @@ IsCheck words files order = asked words ≡ Some (Check files order)
 abbrev pub AreBits : ℕ → Type 0
 AreBits bits = (1 ≤ bits) × (bits ≤ 64)
 
--- the number of bits of `make` is in its range
-abbrev pub HasBitsInRange : Command → Type 0
-HasBitsInRange (Make kind bits adder out) = AreBits bits
-HasBitsInRange _ = ⊤
+-- no two of the names are equal
+pub record AreApart (files : Files) : Type 0 where
+  pub clauses : files.graph ≢ files.clauses
+  pub algebra : files.graph ≢ files.algebra
+  pub certificates : files.clauses ≢ files.algebra
+
+-- The number of bits of `make` and the budget of `verify` are in their ranges, and no two names of `verify` are equal.
+abbrev pub IsInRange : Command → Type 0
+IsInRange (Make kind bits adder out) = AreBits bits
+IsInRange (Verify files order budget conflicts) = AreApart files × (1 ≤ budget) × (budget < 2 ^ 32) × (conflicts < 2 ^ 32)
+IsInRange _ = ⊤

@@ -12,10 +12,23 @@ word id = record (new_rule id) { action = Some Set; required = true }
 abbrev pub choice : Text → Rule
 choice id = record (new_rule id) { long = Some id; action = Some Set }
 
+-- an option of this long name that is required, with one text
+abbrev pub needed : Text → Rule
+needed id = record (new_rule id) { long = Some id; action = Some Set; required = true }
+
 -- `check GRAPH CLAUSES ALGEBRA [--inputs ORDER]`
 abbrev pub check_app : App
 check_app = with_rule (with_rule (with_rule (with_rule (new_app (codes "check"))
     (word (codes "graph"))) (word (codes "clauses"))) (word (codes "algebra"))) (choice (codes "inputs"))
+
+-- `verify GRAPH --clauses FILE --algebra FILE [--inputs ORDER] [--budget N] [--conflicts N]`
+abbrev pub verify_files : App
+verify_files = with_rule (with_rule (with_rule (new_app (codes "verify"))
+    (word (codes "graph"))) (needed (codes "clauses"))) (needed (codes "algebra"))
+
+abbrev pub verify_app : App
+verify_app = with_rule (with_rule (with_rule verify_files
+    (choice (codes "inputs"))) (choice (codes "budget"))) (choice (codes "conflicts"))
 
 -- `eval GRAPH A B [--inputs ORDER]`
 abbrev pub eval_app : App
@@ -31,7 +44,10 @@ make_app = with_rule (with_rule (with_rule (with_rule (new_app (codes "make"))
 abbrev pub must_choose : App → App
 must_choose app = record app { top = record app.top { subcommand_required = true } }
 
+-- the command with the subcommands that judge certificates or give a verdict
+abbrev pub judging : App
+judging = with_subcommand (with_subcommand (must_choose (new_app (codes "mulver"))) check_app.top) verify_app.top
+
 -- the whole command
 abbrev pub mulver : App
-mulver = with_subcommand (with_subcommand (with_subcommand (must_choose (new_app (codes "mulver")))
-    check_app.top) eval_app.top) make_app.top
+mulver = with_subcommand (with_subcommand judging eval_app.top) make_app.top

@@ -2,7 +2,7 @@
 ghost use Rattle.std.specs.Prelude.{◌≡◌, false, IfOk};
 ghost use Rattle.clap.specs.Words.{app_of, with_rule, with_subcommand};
 ghost use Rattle.clap.specs.declared.builder.Command.TheViews.{out-Command};
-ghost use Rattle.command_line.specs.FixedCommand.{word, choice, check_app, eval_app, make_app, mulver};
+ghost use Rattle.command_line.specs.FixedCommand.{word, choice, needed, check_app, eval_app, judging, make_app, mulver, verify_app, verify_files};
 ghost use Rattle.command_line.specs.Reading.{IsCommand};
 
 use clap::{Arg, ArgAction, Command};
@@ -12,10 +12,18 @@ use std::alloc::{AllocError, Global};
 pub fn mulver<'a>(alloc: Global) -> Result<Command<'a>, AllocError>
     ensures { IfOk result (IsCommand mulver) }
 {
-    let command = Command::new(alloc, "mulver").subcommand_required(true);
-    let command = with_subcommand(command, check(alloc)?)?;
+    let command = judging(alloc)?;
     let command = with_subcommand(command, eval(alloc)?)?;
     with_subcommand(command, make(alloc)?)
+}
+
+// The command with the subcommands that judge certificates or give a verdict.
+fn judging<'a>(alloc: Global) -> Result<Command<'a>, AllocError>
+    ensures { IfOk result (IsCommand judging) }
+{
+    let command = Command::new(alloc, "mulver").subcommand_required(true);
+    let command = with_subcommand(command, check(alloc)?)?;
+    with_subcommand(command, verify(alloc)?)
 }
 
 fn check<'a>(alloc: Global) -> Result<Command<'a>, AllocError>
@@ -26,6 +34,24 @@ fn check<'a>(alloc: Global) -> Result<Command<'a>, AllocError>
     let command = with_word(alloc, command, "clauses")?;
     let command = with_word(alloc, command, "algebra")?;
     with_choice(alloc, command, "inputs")
+}
+
+fn verify<'a>(alloc: Global) -> Result<Command<'a>, AllocError>
+    ensures { IfOk result (IsCommand verify_app) }
+{
+    let command = verify_files(alloc)?;
+    let command = with_choice(alloc, command, "inputs")?;
+    let command = with_choice(alloc, command, "budget")?;
+    with_choice(alloc, command, "conflicts")
+}
+
+fn verify_files<'a>(alloc: Global) -> Result<Command<'a>, AllocError>
+    ensures { IfOk result (IsCommand verify_files) }
+{
+    let command = Command::new(alloc, "verify");
+    let command = with_word(alloc, command, "graph")?;
+    let command = with_needed(alloc, command, "clauses")?;
+    with_needed(alloc, command, "algebra")
 }
 
 fn eval<'a>(alloc: Global) -> Result<Command<'a>, AllocError>
@@ -58,6 +84,23 @@ fn with_word<'a>(
     ensures { IfOk result (IsCommand (with_rule (app_of command.entry) (word id.entry.now))) }
 {
     command.arg(Arg::new(alloc, id).required(true).action(ArgAction::Set))
+}
+
+// An option of one text that is required.
+fn with_needed<'a>(
+    alloc: Global,
+    command: Command<'a>,
+    id: &'a str,
+) -> Result<Command<'a>, AllocError>
+    requires { (out-Command command).has_globals ≡ false }
+    ensures { IfOk result (IsCommand (with_rule (app_of command.entry) (needed id.entry.now))) }
+{
+    command.arg(
+        Arg::new(alloc, id)
+            .long(id)
+            .required(true)
+            .action(ArgAction::Set),
+    )
 }
 
 // An option of one text.

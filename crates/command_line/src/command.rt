@@ -10,6 +10,15 @@ pub enum Command {
         files: Files,
         order: Order,
     },
+    /// To give a verdict on a graph, and to write both certificates where it multiplies. No two of the names are equal.
+    Verify {
+        files: Files,
+        order: Order,
+        /// the most monomials that a remainder may have, from 1 to 2^32 - 1
+        budget: u64,
+        /// the most conflicts of the solver, below 2^32
+        conflicts: u64,
+    },
     /// To evaluate a graph at two operands, each below 2^128.
     Eval {
         graph: FileName,

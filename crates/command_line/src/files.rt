@@ -34,7 +34,7 @@ impl FileName {
     }
 }
 
-/// The names of the three files of `check`.
+/// The names of the three files of `check` and of `verify`.
 #[derive(Debug, Drop)]
 pub struct Files {
     pub graph: FileName,
@@ -43,7 +43,17 @@ pub struct Files {
 }
 
 impl Files {
-    ghost use Rattle.command_line.specs.Asked.{files_of};
+    ghost use Rattle.command_line.specs.Asked.{are_shared, files_of};
+
+    /// Whether two of the names are equal.
+    pub(crate) fn are_shared(&self) -> bool
+        ensures { result ≡ are_shared self.now }
+    {
+        let graph = self.graph.as_str();
+        let clauses = self.clauses.as_str();
+        let algebra = self.algebra.as_str();
+        graph == clauses || graph == algebra || clauses == algebra
+    }
 
     /// The names, lent.
     pub fn names(&self) -> Names<'_>

@@ -1,14 +1,14 @@
 // What the words ask for.
 ghost use Rattle.std.specs.Prelude.{◌≡◌, None, Some, IfOk, IsErrOf};
 ghost use Rattle.clap.specs.Words.{found_of, rows_of, subcommand_rows_of};
-ghost use Rattle.command_line.specs.Asked.{HasBitsInRange, IsUsage, asked, check_of, eval_of, make_of, met, named, texts};
+ghost use Rattle.command_line.specs.Asked.{IsInRange, IsUsage, asked, check_of, eval_of, make_of, met, named, texts, files_at, verify_of};
 ghost use Rattle.command_line.specs.Reading.{Reads, TakesAs};
 
 use crate::builders::mulver;
 use crate::command::Command;
 use crate::fail::WordsFail;
 use crate::files::Files;
-use crate::texts::{adder_at, bits_at, file_at, kind_at, number_at, order_at};
+use crate::texts::{adder_at, bits_at, file_at, kind_at, number_at, order_at, word_at};
 use clap::ArgMatches;
 use clap::error::ErrorKind;
 use std::alloc::Global;
@@ -17,7 +17,7 @@ use std::alloc::Global;
 pub fn read_words(alloc: Global, words: &[String]) -> Result<Command, WordsFail>
     ensures ok { IfOk result (λ command. asked (texts words.now) ≡ Some command) }
     ensures usage { IsErrOf result WordsFail.Usage → IsUsage (texts words.now) }
-    ensures bits { IfOk result HasBitsInRange }
+    ensures range { IfOk result IsInRange }
 {
     let found = matches(alloc, words)?;
     met(alloc, &found)
@@ -53,6 +53,7 @@ fn named(alloc: Global, name: &str, matches: &ArgMatches<'_>) -> Result<Command,
 {
     match name {
         "check" => check(alloc, matches),
+        "verify" => verify(alloc, matches),
         "eval" => eval(alloc, matches),
         "make" => make(alloc, matches),
         _ => Err(WordsFail::Usage),
@@ -62,17 +63,39 @@ fn named(alloc: Global, name: &str, matches: &ArgMatches<'_>) -> Result<Command,
 fn check(alloc: Global, matches: &ArgMatches<'_>) -> Result<Command, WordsFail>
     ensures { Reads (check_of (rows_of (found_of matches.now))) result }
 {
+    let files = files_at(alloc, matches)?;
+    let order = order_at(matches).ok_or(WordsFail::Usage)?;
+    Ok(Command::Check { files, order })
+}
+
+fn verify(alloc: Global, matches: &ArgMatches<'_>) -> Result<Command, WordsFail>
+    ensures { Reads (verify_of (rows_of (found_of matches.now))) result }
+{
+    let files = files_at(alloc, matches)?;
+    let order = order_at(matches).ok_or(WordsFail::Usage)?;
+    let budget = word_at(matches, "budget", 1, 1000000).ok_or(WordsFail::Usage)?;
+    let conflicts = word_at(matches, "conflicts", 0, 100000).ok_or(WordsFail::Usage)?;
+    if files.are_shared() {
+        return Err(WordsFail::Usage);
+    }
+    Ok(Command::Verify {
+        files,
+        order,
+        budget,
+        conflicts,
+    })
+}
+
+fn files_at(alloc: Global, matches: &ArgMatches<'_>) -> Result<Files, WordsFail>
+    ensures { Reads (files_at (rows_of (found_of matches.now))) result }
+{
     let graph = file_at(alloc, matches, "graph")?;
     let clauses = file_at(alloc, matches, "clauses")?;
     let algebra = file_at(alloc, matches, "algebra")?;
-    let order = order_at(matches).ok_or(WordsFail::Usage)?;
-    Ok(Command::Check {
-        files: Files {
-            graph,
-            clauses,
-            algebra,
-        },
-        order,
+    Ok(Files {
+        graph,
+        clauses,
+        algebra,
     })
 }
 

@@ -1,6 +1,6 @@
 // What a single text says.
 ghost use Rattle.std.specs.Prelude.{◌≡◌};
-ghost use Rattle.command_line.specs.Asked.{adder_named, bits_of, kind_named, number_of, order_named};
+ghost use Rattle.command_line.specs.Asked.{adder_named, bits_of, kind_named, number_of, order_named, word_from};
 
 use graph_core::Order;
 use graph_maker::{Adder, Kind};
@@ -51,6 +51,18 @@ pub fn bits_of(text: &str) -> Option<u32>
     let bits = number_of(text)?;
     if 1 <= bits && bits <= 64 {
         Some(bits as u32)
+    } else {
+        None
+    }
+}
+
+/// A number below 2^32, from a least one on.
+pub fn word_from(least: u64, text: &str) -> Option<u64>
+    ensures { result ≡ word_from least text.now }
+{
+    let number = number_of(text)?;
+    if u128::from(least) <= number && number < 4294967296 {
+        Some(number as u64)
     } else {
         None
     }

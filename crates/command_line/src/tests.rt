@@ -24,6 +24,18 @@ fn shown(alloc: Global, command: &Command) -> Result<String, Fail> {
                 names.graph, names.clauses, names.algebra
             )?
         }
+        Command::Verify {
+            files,
+            order,
+            budget,
+            conflicts,
+        } => {
+            let names = files.names();
+            format!(in alloc;
+                "verify <{}> <{}> <{}> {order:?} {budget} {conflicts}",
+                names.graph, names.clauses, names.algebra
+            )?
+        }
         Command::Eval { graph, a, b, order } => {
             let graph = graph.as_str();
             format!(in alloc; "eval <{graph}> {a} {b} {order:?}")?
@@ -89,6 +101,18 @@ fn reads_each_command(rt: HostRuntime) -> Result<(), Fail> {
             "mulver eval g 340282366920938463463374607431768211455 18446744073709551616",
             "eval <g> 340282366920938463463374607431768211455 18446744073709551616 Separate",
         ),
+        (
+            "mulver verify g --clauses c --algebra a",
+            "verify <g> <c> <a> Separate 1000000 100000",
+        ),
+        (
+            "mulver verify --algebra=a --conflicts 0 g --budget 4294967295 --clauses c --inputs interleaved",
+            "verify <g> <c> <a> Interleaved 4294967295 0",
+        ),
+        (
+            "mulver verify g --clauses c --algebra a --budget 1 --conflicts 4294967295",
+            "verify <g> <c> <a> Separate 1 4294967295",
+        ),
         ("mulver make array 1 ripple x", "make Array 1 Ripple <x>"),
         ("mulver make dadda 064 kogge x", "make Dadda 64 Kogge <x>"),
         (
@@ -115,7 +139,18 @@ fn refuses_other_words(rt: HostRuntime) -> Result<(), Fail> {
         "mulver -V",
         "mulver unknown",
         "mulver chec g c a",
-        "mulver verify g --clauses c --algebra a",
+        "mulver verify g c a",
+        "mulver verify g --clauses c",
+        "mulver verify g --algebra a",
+        "mulver verify --clauses c --algebra a",
+        "mulver verify g --clauses x --algebra x",
+        "mulver verify x --clauses x --algebra a",
+        "mulver verify x --clauses c --algebra x",
+        "mulver verify g --clauses c --algebra a --budget 0",
+        "mulver verify g --clauses c --algebra a --budget 4294967296",
+        "mulver verify g --clauses c --algebra a --budget x",
+        "mulver verify g --clauses c --algebra a --conflicts 4294967296",
+        "mulver verify g --clauses c --algebra a --clauses c",
         "mulver trial 0",
         "mulver -- check g c a",
         "mulver check",

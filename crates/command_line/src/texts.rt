@@ -1,12 +1,12 @@
 // The texts of a subcommand, each under its name.
 ghost use Rattle.std.specs.Prelude.{◌≡◌, option_map};
 ghost use Rattle.clap.specs.Words.{first_of, found_of, rows_of};
-ghost use Rattle.command_line.specs.Asked.{adder_named, bits_of, kind_named, number_of, order_at, read_at};
+ghost use Rattle.command_line.specs.Asked.{adder_named, bits_of, kind_named, number_of, order_at, read_at, word_at};
 ghost use Rattle.command_line.specs.Reading.{Reads};
 
 use crate::fail::WordsFail;
 use crate::files::FileName;
-use crate::single::{adder_named, bits_of, kind_named, number_of, order_named};
+use crate::single::{adder_named, bits_of, kind_named, number_of, order_named, word_from};
 use clap::ArgMatches;
 use graph_core::Order;
 use graph_maker::{Adder, Kind};
@@ -35,6 +35,16 @@ pub fn number_at(matches: &ArgMatches<'_>, name: &str) -> Option<u128>
     ensures { result ≡ read_at number_of name.now (rows_of (found_of matches.now)) }
 {
     number_of(text_at(matches, name)?)
+}
+
+/// A number below 2^32, from a least one on, or a default where none is named.
+pub fn word_at(matches: &ArgMatches<'_>, name: &str, least: u64, default: u64) -> Option<u64>
+    ensures { result ≡ word_at least default name.now (rows_of (found_of matches.now)) }
+{
+    match text_at(matches, name) {
+        Some(text) => word_from(least, text),
+        None => Some(default),
+    }
 }
 
 pub fn kind_at(matches: &ArgMatches<'_>, name: &str) -> Option<Kind>

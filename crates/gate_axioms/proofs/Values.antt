@@ -4,11 +4,11 @@ use Rattle.std.proofs.Math.Nat.{mod-mod, mod-add-mod}
 use Rattle.std.proofs.lemmas.Nat.{pow_pos}
 use Rattle.graph_core.specs.declared.literal.Lit.{Lit}
 use Rattle.graph_core.specs.declared.gate.Gate.{Gate}
-use Rattle.graph_core.specs.Assignment.{Assignment, variable, bit, literal, word}
+use Rattle.graph_core.specs.Graph.Assignments.{Assignment, variable, bit, literal, word}
 use Rattle.graph_core.specs.Graph.{Aig}
-use Rattle.graph_core.specs.Extended.{without_cut}
-use Rattle.graph_core.specs.Operands.{Sides, AreOperandsOf}
-use Rattle.graph_core.specs.Polynomial.{Polynomial, value, difference}
+use Rattle.graph_core.specs.Graph.Extended.{without_cut}
+use Rattle.graph_core.specs.Graph.Operands.{Sides}
+use Rattle.graph_core.specs.Algebra.Polynomials.{Polynomial, value, difference}
 use Rattle.graph_core.specs.Algebra.{modulus as modulus_of}
 use Rattle.poly_terms.specs.Tables.{Table, Sum, modulus, value_in, IsOf, Extends}
 use Rattle.poly_terms.specs.Laws.{modulus_stays, value_stays, extends_on}
@@ -84,11 +84,10 @@ gate_has old new p gate o n grown opposite one has σ =
     let v = bit (variable σ gate.v) in
     difference_from old new p o (l * r) v _ σ grown opposite has (ap (λ j. o * v + j * (l * r)) one ∙ omega arith)
 
-pub specification_has : (old new : Table) (p : Sum) (g : Aig) (s : Sides) (o n k : ℕ) → AreOperandsOf g s → modulus old ≡ modulus_of (without_cut g) → Extends old new →
+pub specification_has : (old new : Table) (p : Sum) (g : Aig) (s : Sides) (o n k : ℕ) → modulus old ≡ modulus_of (without_cut g) → Extends old new →
     (o + 1) % modulus old ≡ 0 → n ≡ 1 → k ≡ 1 →
-    HasValue new p (λ σ. n * word σ g.outputs + (o * word σ s.a) * (k * word σ s.b)) → IsSpecification new p (without_cut g) s.order
-specification_has old new p g s o n k sides same grown opposite one one' has σ =
+    HasValue new p (λ σ. n * word σ g.outputs + (o * word σ s.a) * (k * word σ s.b)) → IsSpecification new p (without_cut g) s
+specification_has old new p g s o n k same grown opposite one one' has σ =
     difference_from old new p o (word σ g.outputs) (word σ s.a * word σ s.b) _ σ grown opposite has
     (ap₂ (λ i j. i * word σ g.outputs + (o * word σ s.a) * (j * word σ s.b)) one one' ∙ omega arith) ∙
-    ap (λ m. difference m (word σ g.outputs) (word σ s.a * word σ s.b)) (modulus_stays old new grown ∙ same) ∙
-    ap₂ (λ x y. difference (modulus_of (without_cut g)) (word σ g.outputs) (word σ x * word σ y)) sides.0 sides.1
+    ap (λ m. difference m (word σ g.outputs) (word σ s.a * word σ s.b)) (modulus_stays old new grown ∙ same)

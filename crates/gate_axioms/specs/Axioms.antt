@@ -3,12 +3,12 @@ use Rattle.std.specs.Prelude.{◌≡◌, List}
 use Rattle.std.specs.List.{Contains}
 use Rattle.graph_core.specs.declared.literal.Lit.{Lit}
 use Rattle.graph_core.specs.declared.gate.Gate.{Gate}
-use Rattle.graph_core.specs.declared.order.Order.{Order}
 use Rattle.graph_core.specs.Algebra.{gate_axiom, specification}
-use Rattle.graph_core.specs.Assignment.{Assignment, bit, literal}
-use Rattle.graph_core.specs.Extended.{Extended}
+use Rattle.graph_core.specs.Graph.Assignments.{Assignment, bit, literal}
+use Rattle.graph_core.specs.Graph.Extended.{Extended}
 use Rattle.graph_core.specs.Graph.{IsEvaluation}
-use Rattle.graph_core.specs.Polynomial.{difference}
+use Rattle.graph_core.specs.Graph.Operands.{Sides}
+use Rattle.graph_core.specs.Algebra.Polynomials.{difference}
 use Rattle.poly_terms.specs.Tables.{Table, Sum, modulus, value_in}
 
 -- at every assignment it has the value of a gate's axiom
@@ -20,8 +20,8 @@ abbrev pub IsDifference : Table → Sum → Lit → Lit → Type 0
 IsDifference t p left right = (σ : Assignment) → value_in t p σ ≡ difference (modulus t) (bit (literal σ left)) (bit (literal σ right))
 
 -- at every assignment it has the value of the specification
-abbrev pub IsSpecification : Table → Sum → Extended → Order → Type 0
-IsSpecification t p e order = (σ : Assignment) → value_in t p σ ≡ specification e order σ
+abbrev pub IsSpecification : Table → Sum → Extended → Sides → Type 0
+IsSpecification t p e s = (σ : Assignment) → value_in t p σ ≡ specification e s σ
 
 -- A gate's axiom is 0 on every evaluation of gates that have the gate among them.
 abbrev pub GateAxiomsVanish : Type 0

@@ -1,11 +1,14 @@
 #![tactic(auto, using(poly_terms::specs::Laws::stays, poly_terms::specs::Laws::extends_on, poly_terms::specs::Laws::extends_itself))]
 
-ghost use Rattle.std.specs.Prelude.{◌≡◌, ◌+◌, ◌*◌, ◌%◌, IfOk};
+ghost use Rattle.std.specs.Prelude.{◌≡◌, ◌+◌, ◌*◌, ◌%◌, ◌<◌, IfOk, Some, length, slice_get};
+ghost use Rattle.frontier_core.specs.Columns.{column_value};
+ghost use Rattle.graph_core.specs.declared.literal.Lit.{Lit};
 ghost use Rattle.graph_core.specs.Algebra.{modulus as modulus_of};
-ghost use Rattle.graph_core.specs.Extended.{without_cut};
-ghost use Rattle.graph_core.specs.Operands.{AreOperandsOf};
-ghost use Rattle.graph_core.specs.Polynomial.{value};
-ghost use Rattle.poly_terms.specs.Tables.{IsOf, Extends, modulus};
+ghost use Rattle.graph_core.specs.Graph.Extended.{without_cut};
+ghost use Rattle.graph_core.specs.Graph.Assignments.{Assignment};
+ghost use Rattle.graph_core.specs.Algebra.Polynomials.{value};
+ghost use Rattle.poly_terms.specs.Tables.{IsOf, Extends, modulus, value_in};
+ghost use Rattle.ripple_graft.specs.Extension.{new_outputs};
 ghost use Rattle.gate_axioms.specs.Form.{HasValue};
 ghost use Rattle.gate_axioms.specs.Axioms.{IsDifference, IsGateAxiom, IsSpecification};
 
@@ -13,6 +16,7 @@ use crate::form::Form;
 use graph_core::{Gate, Graph, Lit, Memory, Operands};
 use mv_nums::Residue;
 use poly_terms::{Poly, Terms};
+use ripple_graft::Extended;
 use std::alloc::Global;
 
 /// The axiom of a gate v with the operands A and B, -v + A * B.
@@ -48,17 +52,47 @@ pub fn spec_poly(
     graph: &Graph,
     operands: &Operands,
 ) -> Result<Poly, Memory>
-    requires same_graph { AreOperandsOf graph.now operands.now }
     requires same_modulus { modulus terms.old ≡ modulus_of (without_cut graph.now) }
     ensures extends { Extends terms.old terms.new }
     ensures of { IfOk result (λ p. IsOf terms.new p) }
     ensures value { IfOk result (λ p.
-        IsSpecification terms.new p (without_cut graph.now) operands.now.order) }
+        IsSpecification terms.new p (without_cut graph.now) operands.now) }
 {
-    let outputs = Form::word(alloc, one(terms), graph.outputs())?;
+    let outputs = Form::word(alloc, one(terms), graph.output_literals())?;
     let opposite = Form::word(alloc, minus_one(terms), operands.a_literals())?;
     let b = Form::word(alloc, one(terms), operands.b_literals())?;
     let poly = sum_with_product(terms, &outputs, &opposite, &b)?;
+    Ok(poly)
+}
+
+/// Column k of a multiplier: 2^k times (its output minus the sum of the partial products a_i b_j with i + j = k). Where
+/// the column is replaced, that is its new output.
+pub fn column_poly(
+    alloc: Global,
+    terms: &mut Terms,
+    extended: &Extended<'_>,
+    operands: &Operands,
+    k: u32,
+) -> Result<Poly, Memory>
+    requires in_range { k < length extended.now.graph.outputs }
+    requires same_modulus { modulus terms.old ≡ modulus_of extended.now }
+    ensures extends { Extends terms.old terms.new }
+    ensures of { IfOk result (λ p. IsOf terms.new p) }
+    ensures value { IfOk result (λ p. (o : Lit) → slice_get (new_outputs extended.now) k ≡ Some o →
+        (σ : Assignment) →
+        value_in terms.new p σ ≡ column_value extended.now operands.now k o σ % modulus terms.old) }
+{
+    let weight = one(terms).shift(k);
+    let output = extended.new_output(k);
+    let mut form = Form::new(alloc);
+    form.add_literal(weight, output)?;
+    form.add_column(
+        weight.neg(),
+        operands.a_literals(),
+        operands.b_literals(),
+        k as usize,
+    )?;
+    let poly = form.poly_in(terms)?;
     Ok(poly)
 }
 

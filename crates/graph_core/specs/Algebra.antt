@@ -1,15 +1,24 @@
 -- The lines of an algebra certificate (the practical algebraic calculus), by their values.
-use Rattle.std.specs.Prelude.{◌≡◌, ℕ, ◌+◌, ◌*◌, ◌%◌, ◌^◌, ◌<◌, not, List, [], ◌∷◌, ◌++◌, map, IsSome, ◌==◌}
+pub mod Polynomials
+pub mod NormalForm
+pub mod Ledgers
+pub mod InRange
+pub mod Agreement
+pub mod Likeness
+pub mod Text
+pub mod Reading
+pub mod Refusal
+use Rattle.std.specs.Prelude.{◌≡◌, ℕ, ◌+◌, ◌*◌, ◌%◌, ◌<◌, not, List, [], ◌∷◌, ◌++◌, map, length, IsSome, ◌==◌}
 use Rattle.std.specs.declared.option.Option.{Option}
 use Rattle.std.specs.declared.option.Option.TheVariants.{None, Some}
 use Rattle.std.specs.List.{All, find, filter}
 use Rattle.graph_core.specs.declared.gate.Gate.{Gate}
 use Rattle.graph_core.specs.declared.order.Order.{Order}
-use Rattle.graph_core.specs.Assignment.{Assignment, variable, literal, bit, word}
+use Rattle.graph_core.specs.Graph.Assignments.{Assignment, variable, literal, bit, word}
 use Rattle.graph_core.specs.Graph.{IsEvaluation}
-use Rattle.graph_core.specs.Operands.{HasMultiplierShape, width, a_bits, b_bits}
-use Rattle.graph_core.specs.Extended.{Extended, Column}
-use Rattle.graph_core.specs.Polynomial.{Polynomial, value, difference}
+use Rattle.graph_core.specs.Graph.Operands.{HasMultiplierShape, Sides, sides_of, claimed, output_modulus, width, a_bits, b_bits}
+use Rattle.graph_core.specs.Graph.Extended.{Extended, Column}
+use Rattle.graph_core.specs.Algebra.Polynomials.{Polynomial, value, difference}
 
 -- A live line: its id, and its value at each assignment.
 pub record LiveLine : Type 0 where
@@ -28,14 +37,14 @@ pub data Line : Type 0 where
   Combination : ℕ → List Part → Polynomial → Line
   Delete : ℕ → Line
 
--- The live lines, and the greatest id in use so far, also of lines that were dropped.
+-- The live lines, and the greatest id in use so far, also of lines that were deleted.
 pub record Ledger : Type 0 where
   pub live : List LiveLine
   pub last : ℕ
 
--- coefficients count modulo 2 ^ 2n
+-- coefficients count modulo 2 ^ m, m the number of outputs
 abbrev pub modulus : Extended → ℕ
-modulus e = 2 ^ (2 * width e.graph)
+modulus e = output_modulus e.graph
 
 -- the axiom -v + A * B of a gate v with the operands A and B
 abbrev pub gate_axiom : ℕ → Gate → LiveLine
@@ -49,7 +58,7 @@ column_axiom e c = record { id = e.max + 1 + c.number; value = λ σ. difference
 abbrev pub axioms : Extended → Ledger
 axioms e = record {
   live = map (gate_axiom (modulus e)) e.gates ++ map (column_axiom e) e.replaced;
-  last = e.max + 2 * width e.graph;
+  last = e.max + length e.graph.outputs;
 }
 
 -- the live line of an id, if there is one
@@ -121,13 +130,13 @@ after m l (Product id i q p) = introduce m l id p
 after m l (Combination id parts p) = introduce m l id p
 after m l (Delete id) = record { live = filter (λ x. not (x.id == id)) l.live; last = l.last }
 
--- the specification: the outputs' word minus the product of the operands' words
-abbrev pub specification : Extended → Order → Assignment → ℕ
-specification e order σ = difference (modulus e) (word σ e.graph.outputs) (word σ (a_bits order e.graph) * word σ (b_bits order e.graph))
+-- the specification: the outputs' word minus what it is claimed to be
+abbrev pub specification : Extended → Sides → Assignment → ℕ
+specification e s σ = difference (modulus e) (word σ e.graph.outputs) (claimed (modulus e) s σ)
 
 -- the line q names a live line with the specification's value at every assignment
-abbrev pub Closes : Extended → Order → List LiveLine → ℕ → Type 0
-Closes e order live id = IsLive live id × ((σ : Assignment) → value_of live id σ ≡ specification e order σ)
+abbrev pub Closes : Extended → Sides → List LiveLine → ℕ → Type 0
+Closes e s live id = IsLive live id × ((σ : Assignment) → value_of live id σ ≡ specification e s σ)
 
 -- each line is lawful after those before it
 abbrev pub AreLawfulLines : ℕ → Ledger → List Line → Type 0
@@ -140,24 +149,26 @@ after_all m l [] = l
 after_all m l (x ∷ xs) = after_all m (after m l x) xs
 
 -- Lawful lines from the axioms on, and a closing line.
-abbrev pub AreLawful : Extended → Order → List Line → ℕ → Type 0
-AreLawful e order lines closing = AreLawfulLines (modulus e) (axioms e) lines × Closes e order (after_all (modulus e) (axioms e) lines).live closing
+abbrev pub AreLawful : Extended → Sides → List Line → ℕ → Type 0
+AreLawful e s lines closing = AreLawfulLines (modulus e) (axioms e) lines × Closes e s (after_all (modulus e) (axioms e) lines).live closing
 
 -- the old and the new output of each replaced column are equal
 abbrev pub AgreeOnColumns : Extended → Assignment → Type 0
 AgreeOnColumns e σ = All (λ c. literal σ c.old ≡ literal σ c.new) e.replaced
 
--- Where the lines are lawful, the outputs' word is the product of the operands' words on every
--- evaluation on which the replaced columns agree.
+-- Where the lines are lawful, the outputs' word is what it is claimed to be on every evaluation on which the replaced columns agree.
 abbrev pub AlgebraIsSound : Type 0
-AlgebraIsSound = (e : Extended) (order : Order) (lines : List Line) (closing : ℕ) (σ : Assignment) → HasMultiplierShape e.graph →
-    AreLawful e order lines closing → IsEvaluation e.gates σ → AgreeOnColumns e σ →
-    word σ e.graph.outputs ≡ word σ (a_bits order e.graph) * word σ (b_bits order e.graph)
+AlgebraIsSound = (e : Extended) (s : Sides) (lines : List Line) (closing : ℕ) (σ : Assignment) →
+    AreLawful e s lines closing → IsEvaluation e.gates σ → AgreeOnColumns e σ → word σ e.graph.outputs ≡ claimed (modulus e) s σ % modulus e
 
--- Where the specification vanishes modulo 2 ^ 2n, the outputs' word is the product.
+-- Where the specification vanishes, the outputs' word is what it is claimed to be.
+abbrev pub VanishingMeansClaim : Type 0
+VanishingMeansClaim = (e : Extended) (s : Sides) (σ : Assignment) → specification e s σ ≡ 0 → word σ e.graph.outputs ≡ claimed (modulus e) s σ % modulus e
+
+-- With an output for each bit of the product, it is the product as whole numbers.
 abbrev pub VanishingMeansProduct : Type 0
-VanishingMeansProduct = (e : Extended) (order : Order) (σ : Assignment) → HasMultiplierShape e.graph → specification e order σ ≡ 0 →
-    word σ e.graph.outputs ≡ word σ (a_bits order e.graph) * word σ (b_bits order e.graph)
+VanishingMeansProduct = (e : Extended) (order : Order) (σ : Assignment) → HasMultiplierShape e.graph → length e.graph.outputs ≡ 2 * width e.graph →
+    specification e (sides_of order e.graph) σ ≡ 0 → word σ e.graph.outputs ≡ word σ (a_bits order e.graph) * word σ (b_bits order e.graph)
 
 -- The axioms vanish on each evaluation on which the replaced columns agree.
 abbrev pub AxiomsVanish : Type 0

@@ -1,11 +1,11 @@
-// Laws of algebra certificates: lawful lines vanish, and a file is lawful or has one first refusal.
-ghost use Rattle.graph_core.specs.Algebra.{AlgebraIsSound, AxiomsVanish, VanishingMeansProduct};
-ghost use Rattle.graph_core.specs.AlgebraReading.{AlgebraIsRead, AlgebraLineIsRead, CloseIsRead, PolynomialIsRead};
-ghost use Rattle.graph_core.specs.AlgebraRefusal.{AlgebraIsExact};
-ghost use Rattle.graph_core.specs.Ledger.{LedgerIsMap, LinesKeepZero, LiveLinesVanish};
+// Laws of certificates: a lawful algebra certificate vanishes, and a file is lawful or has one first refusal.
+ghost use Rattle.graph_core.specs.Algebra.{AlgebraIsSound, AxiomsVanish, VanishingMeansClaim, VanishingMeansProduct};
+ghost use Rattle.graph_core.specs.Algebra.Reading.{AlgebraIsRead, AlgebraLineIsRead, CloseIsRead, PolynomialIsRead};
+ghost use Rattle.graph_core.specs.Algebra.Refusal.{AlgebraIsExact};
+ghost use Rattle.graph_core.specs.Certificates.{ClausesAreExact, LawfulPairsMultiply};
 
 /// On every evaluation the value that a lawful algebra certificate closes with is 0, so the outputs
-/// are the product of the operands.
+/// are what is claimed.
 pub fn algebra_is_sound()
     ensures { AlgebraIsSound }
 {}
@@ -15,24 +15,25 @@ pub fn axioms_vanish()
     ensures { AxiomsVanish }
 {}
 
-/// Where the specification vanishes, the outputs are the product of the operands.
+/// Where the specification vanishes, the outputs are what is claimed.
+pub fn vanishing_means_claim()
+    ensures { VanishingMeansClaim }
+{}
+
+/// Where there is an output for each bit of the product, a specification that vanishes means that the
+/// outputs are the product of the operands as whole numbers.
 pub fn vanishing_means_product()
     ensures { VanishingMeansProduct }
 {}
 
-/// Live lines are a map from ids.
-pub fn ledger_is_map()
-    ensures { LedgerIsMap }
+/// A clause file gives one extended graph for a graph, or there is one first refusal.
+pub fn clauses_are_exact()
+    ensures { ClausesAreExact }
 {}
 
-/// A lawful line keeps that every live line is 0 at an assignment.
-pub fn lines_keep_zero()
-    ensures { LinesKeepZero }
-{}
-
-/// Every live line is 0 on each evaluation on which the replaced columns agree.
-pub fn live_lines_vanish()
-    ensures { LiveLinesVanish }
+/// The graph of a lawful pair of certificates multiplies.
+pub fn lawful_pairs_multiply()
+    ensures { LawfulPairsMultiply }
 {}
 
 /// An algebra certificate is lawful and within the lengths, or there is one first refusal.

@@ -1,12 +1,32 @@
-// Laws of evaluation: what holds on every evaluation of a graph holds for all operands.
+// Laws of evaluation: what holds on every evaluation of a graph holds for all values of its inputs.
 ghost use Rattle.graph_core.specs.Graph.{EvaluationIsOne};
-ghost use Rattle.graph_core.specs.GraphRefusal.{LevelsMeanAcyclic, OneLevel};
-ghost use Rattle.graph_core.specs.Operands.{EvaluationsSuffice};
-ghost use Rattle.graph_core.specs.Soundness.{SpelledShape, VanishingMultiplies};
+ghost use Rattle.graph_core.specs.Aiger.Refusal.{LevelsMeanAcyclic, OneLevel};
+ghost use Rattle.graph_core.specs.Graph.Operands.{ClaimIsProduct, EvaluationsSuffice, SidesAreInputs, SidesReadInputs, WholeProducts};
+ghost use Rattle.graph_core.specs.Aiger.Soundness.{SpelledShape, VanishingMeetsClaim, VanishingMultiplies};
 
-/// What holds on every evaluation of an acyclic graph holds for all operands.
+/// What is claimed on every evaluation of an acyclic graph holds for all values of its inputs.
 pub fn evaluations_suffice()
     ensures { EvaluationsSuffice }
+{}
+
+/// The operands under an order are read from the inputs.
+pub fn sides_read_inputs()
+    ensures { SidesReadInputs }
+{}
+
+/// In their order they are the inputs.
+pub fn sides_are_inputs()
+    ensures { SidesAreInputs }
+{}
+
+/// A graph meets the claim of two operands exactly where it multiplies.
+pub fn claim_is_product()
+    ensures { ClaimIsProduct }
+{}
+
+/// With an output for each bit of the product, a graph that multiplies gives it as a whole number.
+pub fn whole_products()
+    ensures { WholeProducts }
 {}
 
 /// An evaluation that keeps the free variables is the evaluation.
@@ -24,7 +44,12 @@ pub fn one_level()
     ensures { OneLevel }
 {}
 
-/// Where the specification vanishes on each evaluation of a spelled graph, the graph multiplies.
+/// Where the specification vanishes on each evaluation of a spelled graph, the graph meets the claim.
+pub fn vanishing_meets_claim()
+    ensures { VanishingMeetsClaim }
+{}
+
+/// Where the specification of two operands vanishes there, the graph multiplies.
 pub fn vanishing_multiplies()
     ensures { VanishingMultiplies }
 {}

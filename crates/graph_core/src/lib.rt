@@ -5,10 +5,10 @@
 //! `Operands` tells which input is which bit, and `Graph::value_on` gives the value on two operands. Only it, `Graph::build`
 //! and `Operands::of` take memory.
 //!
-//! The contracts of all crates above cite the words of `specs/`: what bytes spell (`Aiger`), evaluation and levels
-//! (`Graph`), operands and the product (`Operands`), faults (`GraphRefusal`), polynomials by their values (`Polynomial`),
-//! and lawful algebra certificates (`Algebra`, `AlgebraText`). A law is the contract of a public function with an
-//! empty body.
+//! The contracts of all crates above cite the words of `specs/`: graphs, their evaluation, operands and the product
+//! (`Graph` and its files), what bytes spell and how a text is refused (`Text`, `Aiger`), lawful algebra certificates by the
+//! values of their polynomials (`Algebra`), and lawful pairs of certificates (`Certificates`). A law is the contract of a
+//! public function with an empty body.
 #![tactic(auto)]
 
 mod certificate_laws;
@@ -17,6 +17,7 @@ mod fault;
 mod file_laws;
 mod gate;
 mod graph;
+mod ledger_laws;
 mod literal;
 mod memory;
 mod operands;
@@ -25,12 +26,13 @@ mod polynomial_laws;
 
 pub use certificate_laws::{
     algebra_is_exact, algebra_is_read, algebra_is_sound, algebra_line_is_read, axioms_vanish,
-    close_is_read, ledger_is_map, lines_keep_zero, live_lines_vanish, polynomial_is_read,
-    vanishing_means_product,
+    clauses_are_exact, close_is_read, lawful_pairs_multiply, polynomial_is_read,
+    vanishing_means_claim, vanishing_means_product,
 };
 pub use evaluation_laws::{
-    evaluation_is_one, evaluations_suffice, levels_mean_acyclic, one_level, spelled_shape,
-    vanishing_multiplies,
+    claim_is_product, evaluation_is_one, evaluations_suffice, levels_mean_acyclic, one_level,
+    sides_are_inputs, sides_read_inputs, spelled_shape, vanishing_meets_claim,
+    vanishing_multiplies, whole_products,
 };
 pub use fault::{BuildFail, Field, GraphFault};
 pub use file_laws::{
@@ -40,6 +42,10 @@ pub use file_laws::{
 };
 pub use gate::Gate;
 pub use graph::Graph;
+pub use ledger_laws::{
+    agreement_is_equivalence, agreement_is_kept, ledger_is_map, likeness_is_kept, lines_keep_zero,
+    live_lines_vanish, refused_in_range, refused_is_unlawful,
+};
 pub use literal::Lit;
 pub use memory::Memory;
 pub use operands::Operands;

@@ -6,13 +6,13 @@ use Rattle.std.proofs.Common.{refl, ap, ◌∙◌, arith, pow-suc, length-append
 use Rattle.std.proofs.lemmas.List.{length-map}
 use Rattle.graph_core.specs.declared.literal.Lit.{Lit}
 use Rattle.graph_maker.specs.declared.adder.Adder.{Adder}
-use Rattle.graph_core.specs.Assignment.{Assignment, bit, literal, word}
-use Rattle.graph_maker.specs.Builder.{plain, constant_false}
+use Rattle.graph_core.specs.Graph.Assignments.{Assignment, bit, literal, word}
+use Rattle.graph_core.specs.Graph.Literals.{plain, constant_false}
 use Rattle.graph_maker.specs.Builder.{Builder, with_gates, literals_from}
 use Rattle.graph_maker.specs.Adders.{adder_outputs}
 use Rattle.graph_maker.specs.Products.{product_gates, products}
 use Rattle.graph_maker.specs.ArrayRows.{row_adder, array_rows, array}
-use Rattle.graph_maker.proofs.LiteralValues.{literal-even}
+use Rattle.graph_core.proofs.OfGraphs.CallerLemmas.{literal-even}
 use Rattle.graph_maker.proofs.CellFacts.{Computes, Holds, holds_split, word_or}
 use Rattle.graph_maker.proofs.AddersAdd.{adder_adds, length-adder}
 
@@ -67,7 +67,7 @@ word-split σ zero xs l = omega arith
 word-split σ (suc j) [] l = absurd (omega arith)
 word-split σ (suc j) (x ∷ xs) l = omega (arith, word-split σ j xs (omega arith), ap (λ p. p * word σ (drop j xs)) (pow-suc 2 j))
 
-length-take_to : (j : ℕ) (xs : List Lit) → j ≤ length xs → length (take j xs) ≡ j
+pub length-take_to : (j : ℕ) (xs : List Lit) → j ≤ length xs → length (take j xs) ≡ j
 length-take_to zero xs l = refl
 length-take_to (suc j) [] l = absurd (omega arith)
 length-take_to (suc j) (x ∷ xs) l = ap suc (length-take_to j xs (omega arith))

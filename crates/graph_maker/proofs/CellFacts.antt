@@ -6,14 +6,13 @@ use Rattle.std.specs.List.{AllByRecursion}
 use Rattle.std.proofs.Common.{refl, ap, ap₂, ◌∙◌, arith}
 use Rattle.graph_core.specs.declared.literal.Lit.{Lit}
 use Rattle.graph_core.specs.declared.gate.Gate.{Gate}
-use Rattle.graph_core.specs.Assignment.{Assignment, bit, variable, literal, word}
-use Rattle.graph_maker.specs.Builder.{plain, inverted}
+use Rattle.graph_core.specs.Graph.Assignments.{Assignment, bit, variable, literal, word}
+use Rattle.graph_core.specs.Graph.Literals.{plain, inverted}
 use Rattle.graph_maker.specs.Cells.{position, sum_after, carry_after}
 use Rattle.graph_maker.specs.Builder.{Builder, with_gates, or_false}
 use Rattle.graph_maker.specs.Cells.{half_gates, cell}
 use Rattle.graph_maker.specs.Ripple.{first, ripple}
-use Rattle.graph_core.proofs.Lists.{all_split}
-use Rattle.graph_maker.proofs.LiteralValues.{literal-even, literal-odd, literal-negated}
+use Rattle.graph_core.proofs.OfGraphs.CallerLemmas.{all_split, literal-even, literal-odd, literal-negated}
 use Rattle.graph_maker.proofs.FullAdders.{full_adder}
 
 -- the assignment gives each of the gates its value
@@ -62,7 +61,7 @@ position_adds σ v x y c h =
     (h.1.1.1.1.1.1.0 ∙ ap₂ ◌&&◌ (not_out 1) (not_out 4)) in
     ap₂ (λ s k. bit s + 2 * bit k) (out 6) (not_out 7) ∙ adds
 
-half_adds : (σ : Assignment) (v : ℕ) (x y : Lit) → Computes σ (half_gates v x y) →
+pub half_adds : (σ : Assignment) (v : ℕ) (x y : Lit) → Computes σ (half_gates v x y) →
     bit (literal σ (plain (v + 3))) + 2 * bit (literal σ (plain (v + 1))) ≡ bit (literal σ x) + bit (literal σ y)
 half_adds σ v x y h =
     let are = half_gates_are σ v x y h in

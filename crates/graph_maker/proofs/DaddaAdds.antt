@@ -7,7 +7,7 @@ use Rattle.std.proofs.lemmas.Bool.{ltb-true, ltb-false, cases_lt}
 use Rattle.std.proofs.lemmas.List.{length-map}
 use Rattle.graph_core.specs.declared.literal.Lit.{Lit}
 use Rattle.graph_maker.specs.declared.adder.Adder.{Adder}
-use Rattle.graph_core.specs.Assignment.{Assignment, bit, literal, word}
+use Rattle.graph_core.specs.Graph.Assignments.{Assignment, bit, literal, word}
 use Rattle.graph_maker.specs.Builder.{Builder, or_false}
 use Rattle.graph_maker.specs.Cells.{half_adder, full_adder}
 use Rattle.graph_maker.specs.DaddaTree.{Columns, put_first, columns_of, reduce_column, stage, stages, heights, x_of, y_of, last_adder, dadda}
@@ -202,7 +202,7 @@ length-one n d r = go (nat_lt d n)
     go true = length-stage d r.builder [] r.columns
     go false = refl
 
-stages_reduce : (n top : ℕ) (ds : List ℕ) (end : ℕ) (r : Columns) → Fall top ds end → AreReduced n top r.columns → AreReduced n end (stages n ds r).columns
+pub stages_reduce : (n top : ℕ) (ds : List ℕ) (end : ℕ) (r : Columns) → Fall top ds end → AreReduced n top r.columns → AreReduced n end (stages n ds r).columns
 stages_reduce n top [] end r fall reduced = subst (λ k. AreReduced n k r.columns) fall reduced
 stages_reduce n top (d ∷ ds) end r fall reduced = stages_reduce n d ds end (one_stage n d r) fall.2 (one_reduces n top d r fall.0 fall.1 reduced)
 
@@ -269,10 +269,10 @@ first-columns_of ((x ∷ xs) ∷ rows) = omega arith
 
 -- ---- the last adder
 
-abbrev ArePairs : List (List Lit) → Type 0
+abbrev pub ArePairs : List (List Lit) → Type 0
 ArePairs cs = AllByRecursion (λ c. length c ≤ 2) cs
 
-low_pairs : (e : ℕ) (cs : List (List Lit)) → e ≤ 2 → AreLow e cs → ArePairs cs
+pub low_pairs : (e : ℕ) (cs : List (List Lit)) → e ≤ 2 → AreLow e cs → ArePairs cs
 low_pairs e [] two h = tt
 low_pairs e (c ∷ cs) two h = (omega (arith, h.0), low_pairs e cs two h.2)
 
@@ -321,10 +321,10 @@ module _ (b : Builder) (rows : List (List Lit)) (pos : 0 < length rows) (long : 
     first = first-columns_of rows;
   }
 
-  reduced : AreReduced n 2 (stages n heights start).columns
+  pub reduced : AreReduced n 2 (stages n heights start).columns
   reduced = stages_reduce n (max n 63) heights 2 start (heights_fall n) start_reduced
 
-  two_at_most : reduced.height ≤ 2
+  pub two_at_most : reduced.height ≤ 2
   two_at_most = ⊎_elim (λ lt. omega (arith, reduced.is.reduced lt)) (λ ge. omega (arith, reduced.is.wide ge)) (cases_lt 2 n)
 
   pub dadda_adds : (adder : Adder) (σ : Assignment) → Holds σ (dadda adder b rows).builder → Holds σ b × (word σ (dadda adder b rows).outputs ≡ rows_sum σ rows)

@@ -11,17 +11,16 @@ use Rattle.graph_maker.specs.declared.kind.Kind.{Kind}
 use Rattle.graph_maker.specs.declared.kind.Kind.TheVariants.{Array, Dadda}
 use Rattle.graph_maker.specs.declared.adder.Adder.{Adder}
 use Rattle.graph_core.specs.declared.order.Order.TheVariants.{Separate}
-use Rattle.graph_core.specs.Literal.{variable_of}
-use Rattle.graph_core.specs.Assignment.{Assignment, variable, literal, word}
-use Rattle.graph_core.specs.Graph.{Aig, IsDefinedOnce, IsAcyclic, IsWellFormed, defined, read_literals}
-use Rattle.graph_core.specs.Operands.{width, a_bits, b_bits, HasMultiplierShape, MultipliesOnEvaluations}
-use Rattle.graph_maker.specs.Builder.{plain}
+use Rattle.graph_core.specs.Graph.Literals.{variable_of, plain}
+use Rattle.graph_core.specs.Graph.Assignments.{Assignment, variable, literal, word}
+use Rattle.graph_core.specs.Graph.{Aig, IsEvaluation, IsDefinedOnce, IsAcyclic, IsWellFormed, defined, read_literals}
+use Rattle.graph_core.specs.Graph.Operands.{width, a_bits, b_bits, HasMultiplierShape}
 use Rattle.graph_maker.specs.Builder.{Builder, literals_from}
 use Rattle.graph_maker.specs.Ripple.{Outputs}
 use Rattle.graph_maker.specs.Products.{Products, products}
 use Rattle.graph_maker.specs.Made.{outputs_of, made, IsMultiplier, MadeMultiplies}
-use Rattle.graph_core.proofs.Multiplies.{evaluations_suffice}
-use Rattle.graph_core.proofs.Packed.{Counts, counts_append, counts_apart, counts_contain, all_flat_map}
+use Rattle.graph_core.proofs.OfGraphs.CallerLemmas.{whole_from_evaluations, whole_products}
+use Rattle.graph_core.proofs.OfAiger.CallerLemmas.{Counts, counts_append, counts_apart, counts_contain, all_flat_map}
 use Rattle.graph_maker.proofs.CellFacts.{Holds}
 use Rattle.graph_maker.proofs.ArrayAdds.{rows_sum, AreLong, products_multiply, products_long, length-products, length-literals_from, array_adds, length-array}
 use Rattle.graph_maker.proofs.DaddaAdds.{dadda_adds, length-dadda}
@@ -183,19 +182,23 @@ module _ (kind : Kind) (n : ℕ) (adder : Adder) (pos : 0 < n) where
   pub width_is : width g ≡ n
   width_is = omega (arith, length-literals_from 1 (2 * n))
 
+  pub full : length g.outputs ≡ 2 * n
+  full = omega (arith, length-outputs kind adder all_products.builder all_products.rows (omega (arith, count)) long, count)
+
   pub shape : HasMultiplierShape g
   shape = record {
     inputs = omega (arith, length-literals_from 1 (2 * n));
-    outputs = omega (arith, length-outputs kind adder all_products.builder all_products.rows (omega (arith, count)) long, count, width_is);
+    some_outputs = omega (arith, full);
+    outputs = omega (arith, full, width_is);
   }
 
-  a_is : a_bits Separate g ≡ a_literals
+  pub a_is : a_bits Separate g ≡ a_literals
   a_is = ap (λ k. take k (literals_from 1 (2 * n))) width_is ∙ take-literals 1 n n (2 * n) (omega arith)
 
-  b_is : b_bits Separate g ≡ b_literals
+  pub b_is : b_bits Separate g ≡ b_literals
   b_is = ap (λ k. drop k (literals_from 1 (2 * n))) width_is ∙ drop-literals 1 n n (2 * n) (omega arith) ∙ ap (λ v. literals_from v n) (omega arith)
 
-  on_evaluations : MultipliesOnEvaluations g Separate
+  on_evaluations : (σ : Assignment) → IsEvaluation g.gates σ → word σ g.outputs ≡ word σ (a_bits Separate g) * word σ (b_bits Separate g)
   on_evaluations σ evaluates =
       let sum = outputs_add kind adder σ all_products.builder all_products.rows (omega (arith, count)) long (recursion_from_All (λ x. variable σ x.v ≡ (literal σ x.left && literal σ x.right)) g.gates evaluates) in
       sum.1 ∙ (products_multiply σ no_gates a_literals b_literals sum.0).1 ∙ ap₂ (λ x y. word σ x * word σ y) (sym a_is) (sym b_is)
@@ -203,7 +206,7 @@ module _ (kind : Kind) (n : ℕ) (adder : Adder) (pos : 0 < n) where
   is_multiplier : IsMultiplier n g
   is_multiplier =
       let well_formed = numbered_well_formed (2 * n) g numbered in
-      record { width = width_is; shape = shape; well_formed = well_formed; multiplies = evaluations_suffice g Separate shape well_formed.defined_once well_formed.acyclic on_evaluations }
+      record { width = width_is; shape = shape; whole = full; well_formed = well_formed; multiplies = (whole_products g Separate (omega (arith, full, width_is))).1 (whole_from_evaluations g Separate shape well_formed.defined_once well_formed.acyclic on_evaluations) }
 
 pub made_multiplies : MadeMultiplies
 made_multiplies kind n adder pos = is_multiplier kind n adder pos

@@ -4,16 +4,16 @@ use Rattle.std.proofs.Common.{refl, subst, arith}
 use Rattle.std.proofs.lemmas.List.{length-map}
 use Rattle.std.proofs.lemmas.List.Elements.{All-from_recursion, All-weaker}
 use Rattle.graph_core.specs.declared.gate.Gate.{Gate}
-use Rattle.graph_core.specs.Literal.{variable_of}
+use Rattle.graph_core.specs.Graph.Literals.{variable_of}
 use Rattle.graph_core.specs.Graph.{greater_first}
-use Rattle.graph_core.specs.Writing.{written_gate}
+use Rattle.graph_core.specs.Aiger.Writing.{written_gate}
 use Rattle.graph_core.specs.Aiger.{AreConsecutive, ArePackedGates}
 use Rattle.graph_maker.specs.Builder.{literals_from}
 use Rattle.graph_maker.specs.Made.{made, MadeArePacked}
 use Rattle.graph_maker.proofs.ArrayAdds.{length-literals_from}
 use Rattle.graph_maker.proofs.Places.{ArePlaced}
 use Rattle.graph_maker.proofs.Sizes.{products_few, made_few}
-use Rattle.graph_maker.proofs.MadeMultiplies.{a_literals, b_literals, no_gates, all_products, count, long, numbered, shape}
+use Rattle.graph_maker.proofs.MadeMultiplies.{a_literals, b_literals, no_gates, all_products, count, long, numbered, full, shape, width_is}
 
 -- with the greater operand first both are as low
 sorted_low : (x : Gate) (n : ℕ) → x.left.0 < n → x.right.0 < n → ((greater_first x).left.0 < n) × ((greater_first x).right.0 < n)
@@ -46,7 +46,8 @@ made_are_packed kind n adder pos small =
         even = omega (arith, inputs);
         some = omega (arith, inputs);
         few = omega (arith, inputs);
-        outputs = omega (arith, (shape kind n adder pos).outputs, (shape kind n adder pos).inputs);
+        some_outputs = omega (arith, full kind n adder pos, pos);
+        outputs = omega (arith, full kind n adder pos, (shape kind n adder pos).inputs, width_is kind n adder pos);
         room = omega (arith, inputs, gates, built.max);
       };
       packed = record {

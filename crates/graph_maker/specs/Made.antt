@@ -1,16 +1,17 @@
 -- The multipliers that are made, and that they multiply.
-use Rattle.std.specs.Prelude.{◌≡◌, ℕ, ◌+◌, ◌*◌, ◌<◌, ◌≤◌, List}
+use Rattle.std.specs.Prelude.{◌≡◌, ℕ, ◌+◌, ◌*◌, ◌<◌, ◌≤◌, List, length}
 use Rattle.graph_core.specs.declared.literal.Lit.{Lit}
 use Rattle.graph_core.specs.declared.gate.Gate.{Gate}
 use Rattle.graph_core.specs.declared.order.Order.TheVariants.{Separate}
 use Rattle.graph_core.specs.Graph.{Aig, IsWellFormed}
 use Rattle.graph_core.specs.Aiger.{HasMultiplierCounts, IsPacked}
-use Rattle.graph_core.specs.Writing.{written}
-use Rattle.graph_core.specs.Operands.{width, HasMultiplierShape, Multiplies}
+use Rattle.graph_core.specs.Aiger.Writing.{written}
+use Rattle.graph_core.specs.Graph.Operands.{width, HasMultiplierShape, Multiplies}
 use Rattle.graph_maker.specs.declared.kind.Kind.{Kind}
 use Rattle.graph_maker.specs.declared.kind.Kind.TheVariants.{Array, Dadda}
 use Rattle.graph_maker.specs.declared.adder.Adder.{Adder}
-use Rattle.graph_maker.specs.Builder.{plain, Builder, no_gates, literals_from}
+use Rattle.graph_core.specs.Graph.Literals.{plain}
+use Rattle.graph_maker.specs.Builder.{Builder, no_gates, literals_from}
 use Rattle.graph_maker.specs.Ripple.{Outputs}
 use Rattle.graph_maker.specs.Products.{products}
 use Rattle.graph_maker.specs.ArrayRows.{array}
@@ -31,6 +32,7 @@ made kind n adder =
 pub record IsMultiplier (n : ℕ) (g : Aig) : Type 0 where
   pub width : width g ≡ n
   pub shape : HasMultiplierShape g
+  pub whole : length g.outputs ≡ 2 * n
   pub well_formed : IsWellFormed g
   pub multiplies : Multiplies g Separate
 

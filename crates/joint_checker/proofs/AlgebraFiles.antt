@@ -1,15 +1,13 @@
 -- The header of an algebra file, and the whole file by what stands behind it.
 use Rattle.std.proofs.Common.{◌≡◌, ℕ, ◌≤◌, List, [], ◌∷◌, ◌++◌, length, Option, IfSome, refl, sym, ap, subst, ◌∙◌, inl, inr}
 use Rattle.std.specs.Prelude.{codes}
-use Rattle.graph_core.specs.AlgebraRefusal as cause
-use Rattle.graph_core.specs.AlgebraRefusal.{AlgebraCause, IsAlgebraRefusal, IsRefusedBody}
-use Rattle.graph_core.specs.Extended.{without_cut}
-use Rattle.graph_core.specs.Graph.{Aig}
-use Rattle.graph_core.specs.JudgedLines.{IsTooLong, Lengths}
+use Rattle.graph_core.specs.Algebra.Refusal as cause
+use Rattle.graph_core.specs.Graph.Operands.{Sides}
+use Rattle.graph_core.specs.Algebra.Refusal.{AlgebraCause, IsAlgebraRefusal, IsRefusedBody}
+use Rattle.graph_core.specs.Graph.Extended.{Extended}
+use Rattle.graph_core.specs.Text.JudgedLines.{IsTooLong, Lengths}
 use Rattle.graph_core.specs.Text.{newline}
-use Rattle.graph_core.specs.declared.order.Order.{Order}
-use Rattle.graph_core.proofs.JudgedLines.{ShortFrom, short_next, short_within, start_later}
-use Rattle.graph_core.proofs.Newlines.{none_in}
+use Rattle.graph_core.proofs.OfTexts.CallerLemmas.{ShortFrom, short_next, short_within, start_later, none_in}
 use Rattle.mv_desk.specs.View.{View}
 use Rattle.mv_desk.specs.declared.faults.LineFail.{LineFail}
 use Rattle.mv_desk.specs.declared.faults.LineFail.TheVariants as fail
@@ -21,20 +19,20 @@ use Rattle.joint_checker.specs.declared.checked.Refusal.TheVariants as refusal
 use Rattle.joint_checker.specs.AlgebraBody.{IsBodyFail, IsLawfulBody}
 use Rattle.joint_checker.specs.AlgebraLines.{IsLongIn}
 use Rattle.joint_checker.specs.Answers.{answer_of_line}
-use Rattle.joint_checker.specs.Certificates.{IsLawfulAlgebra}
+use Rattle.graph_core.specs.Certificates.{IsLawfulAlgebra}
 use Rattle.joint_checker.specs.Fails.{IsAlgebraFail}
 use Rattle.joint_checker.specs.Outcome.{cause_of}
 use Rattle.joint_checker.proofs.Told.{rose_before, told_more, told_of}
 
-module _ (lengths : Lengths) (g : Aig) (order : Order) where
+module _ (lengths : Lengths) (e : Extended) (sides : Sides) where
   -- the first line isn't the header
-  pub header_fails : (text : Option (List ℕ)) (before now : View) (given : LineFail) → IsHeaderRefusal lengths text before.read_faults now.read_faults given → IsAlgebraFail lengths g order text before now (answer_of_line 1 given)
+  pub header_fails : (text : Option (List ℕ)) (before now : View) (given : LineFail) → IsHeaderRefusal lengths text before.read_faults now.read_faults given → IsAlgebraFail lengths e sides text before now (answer_of_line 1 given)
   header_fails text before now fail.Text h =
-      told_more text _ (λ bytes. IsAlgebraRefusal (without_cut g) order lengths bytes (1, cause.Text)) (λ bytes k. inr (k.0, inl (k.1, refl))) h
+      told_more text _ (λ bytes. IsAlgebraRefusal e sides lengths bytes (1, cause.Text)) (λ bytes k. inr (k.0, inl (k.1, refl))) h
   header_fails text before now fail.Range h = absurd h
   header_fails text before now fail.Fault h = h
   header_fails text before now fail.TooLong h =
-      told_more text (λ bytes. IsTooLong lengths (length bytes) bytes) (λ bytes. (line : ℕ) × IsAlgebraRefusal (without_cut g) order lengths bytes (line, cause.TooLong)) (λ bytes k. (1, inl (k, refl))) h
+      told_more text (λ bytes. IsTooLong lengths (length bytes) bytes) (λ bytes. (line : ℕ) × IsAlgebraRefusal e sides lengths bytes (line, cause.TooLong)) (λ bytes k. (1, inl (k, refl))) h
   header_fails text before now fail.Memory h = tt
 
   module _ (file : FileState) (same : file.lines.lengths ≡ lengths) (bytes : List ℕ) (behind : Option (List ℕ)) (header : HasHeader file bytes behind) where
@@ -44,7 +42,7 @@ module _ (lengths : Lengths) (g : Aig) (order : Order) where
     short : ¬ (IsTooLong lengths (length bytes) bytes)
     short = subst (λ (k : Lengths). ¬ (IsTooLong k (length bytes) bytes)) same header.short
 
-    pub file_is_lawful : IsLawfulBody (without_cut g) order file.lines header.body → IsLawfulAlgebra lengths g order bytes
+    pub file_is_lawful : IsLawfulBody e sides file.lines header.body → IsLawfulAlgebra lengths e sides bytes
     file_is_lawful h =
         let is : bytes ≡ codes "pac 1" ++ newline ∷ header.body = header.begins in
         let later : ShortFrom (IsTooLong lengths (length bytes)) header.body = whole (λ IsLong. ShortFrom IsLong header.body) h.short in
@@ -62,29 +60,29 @@ module _ (lengths : Lengths) (g : Aig) (order : Order) where
           short_within lengths bytes all (start_later bytes header.body [] (inr (codes "pac 1", is)) h.ends),
         )
 
-    pub file_is_refused : (line : ℕ) (c : AlgebraCause) → IsRefusedBody (without_cut g) order (IsLongIn file.lines header.body) header.body (line, c) → IsAlgebraRefusal (without_cut g) order lengths bytes (line, c)
-    file_is_refused line c h = inr (short, inr (header.body, header.begins, whole (λ IsLong. IsRefusedBody (without_cut g) order IsLong header.body (line, c)) h))
+    pub file_is_refused : (line : ℕ) (c : AlgebraCause) → IsRefusedBody e sides (IsLongIn file.lines header.body) header.body (line, c) → IsAlgebraRefusal e sides lengths bytes (line, c)
+    file_is_refused line c h = inr (short, inr (header.body, header.begins, whole (λ IsLong. IsRefusedBody e sides IsLong header.body (line, c)) h))
 
   -- ---- where the file is told
 
   module _ (file : FileState) (same : file.lines.lengths ≡ lengths) (text : Option (List ℕ)) (behind : Option (List ℕ)) (header : IfSome text (λ bytes. HasHeader file bytes behind)) where
-    pub text_is_lawful : IfSome behind (IsLawfulBody (without_cut g) order file.lines) → IfSome text (IsLawfulAlgebra lengths g order)
-    text_is_lawful h = told_more text (λ bytes. HasHeader file bytes behind) (IsLawfulAlgebra lengths g order)
-        (λ bytes k. file_is_lawful file same bytes behind k (told_of behind k.body (IsLawfulBody (without_cut g) order file.lines) k.left h)) header
+    pub text_is_lawful : IfSome behind (IsLawfulBody e sides file.lines) → IfSome text (IsLawfulAlgebra lengths e sides)
+    text_is_lawful h = told_more text (λ bytes. HasHeader file bytes behind) (IsLawfulAlgebra lengths e sides)
+        (λ bytes k. file_is_lawful file same bytes behind k (told_of behind k.body (IsLawfulBody e sides file.lines) k.left h)) header
 
-    refused_text : (line : ℕ) (c : AlgebraCause) → IfSome behind (λ body. IsRefusedBody (without_cut g) order (IsLongIn file.lines body) body (line, c)) →
-        IfSome text (λ bytes. IsAlgebraRefusal (without_cut g) order lengths bytes (line, c))
-    refused_text line c h = told_more text (λ bytes. HasHeader file bytes behind) (λ bytes. IsAlgebraRefusal (without_cut g) order lengths bytes (line, c))
-        (λ bytes k. file_is_refused file same bytes behind k line c (told_of behind k.body (λ body. IsRefusedBody (without_cut g) order (IsLongIn file.lines body) body (line, c)) k.left h)) header
+    refused_text : (line : ℕ) (c : AlgebraCause) → IfSome behind (λ body. IsRefusedBody e sides (IsLongIn file.lines body) body (line, c)) →
+        IfSome text (λ bytes. IsAlgebraRefusal e sides lengths bytes (line, c))
+    refused_text line c h = told_more text (λ bytes. HasHeader file bytes behind) (λ bytes. IsAlgebraRefusal e sides lengths bytes (line, c))
+        (λ bytes k. file_is_refused file same bytes behind k line c (told_of behind k.body (λ body. IsRefusedBody e sides (IsLongIn file.lines body) body (line, c)) k.left h)) header
 
-    long_text : IfSome behind (λ body. (line : ℕ) × IsRefusedBody (without_cut g) order (IsLongIn file.lines body) body (line, cause.TooLong)) →
-        IfSome text (λ bytes. (line : ℕ) × IsAlgebraRefusal (without_cut g) order lengths bytes (line, cause.TooLong))
-    long_text h = told_more text (λ bytes. HasHeader file bytes behind) (λ bytes. (line : ℕ) × IsAlgebraRefusal (without_cut g) order lengths bytes (line, cause.TooLong))
-        (λ bytes k. let there = told_of behind k.body (λ body. (line : ℕ) × IsRefusedBody (without_cut g) order (IsLongIn file.lines body) body (line, cause.TooLong)) k.left h in
+    long_text : IfSome behind (λ body. (line : ℕ) × IsRefusedBody e sides (IsLongIn file.lines body) body (line, cause.TooLong)) →
+        IfSome text (λ bytes. (line : ℕ) × IsAlgebraRefusal e sides lengths bytes (line, cause.TooLong))
+    long_text h = told_more text (λ bytes. HasHeader file bytes behind) (λ bytes. (line : ℕ) × IsAlgebraRefusal e sides lengths bytes (line, cause.TooLong))
+        (λ bytes k. let there = told_of behind k.body (λ body. (line : ℕ) × IsRefusedBody e sides (IsLongIn file.lines body) body (line, cause.TooLong)) k.left h in
         (there.0, file_is_refused file same bytes behind k there.0 cause.TooLong there.1)) header
 
     -- what is behind the header isn't lawful
-    pub body_fails : (first before now : View) (answer : Checked) → first.read_faults ≤ before.read_faults → IsBodyFail (without_cut g) order file.lines behind before now answer → IsAlgebraFail lengths g order text first now answer
+    pub body_fails : (first before now : View) (answer : Checked) → first.read_faults ≤ before.read_faults → IsBodyFail e sides file.lines behind before now answer → IsAlgebraFail lengths e sides text first now answer
     body_fails first before now checked.Accepted later h = absurd h
     body_fails first before now (checked.Graph why) later h = absurd h
     body_fails first before now (checked.Refused (refusal.Clauses n why)) later h = absurd h

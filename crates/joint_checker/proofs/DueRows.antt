@@ -4,16 +4,16 @@ use Rattle.std.specs.Prelude.{◌⊎◌, IsSome}
 use Rattle.aiger_reader.specs.Refusals.{IsFoundWithin, IsTooLong, LongIsNoOther, SpellsWithin}
 use Rattle.aiger_reader.specs.declared.fail.ReadFail.TheVariants as fail
 use Rattle.aiger_reader.proofs.LimitLaws.{found_is_first, spelled_found_or_long}
-use Rattle.graph_core.specs.AlgebraRefusal as cause
-use Rattle.graph_core.specs.AlgebraRefusal.{AlgebraCause, IsAlgebraRefusal}
-use Rattle.graph_core.specs.Extended.{without_cut}
+use Rattle.graph_core.specs.Algebra.Refusal as cause
+use Rattle.graph_core.specs.Graph.Operands.{sides_of}
+use Rattle.graph_core.specs.Algebra.Refusal.{AlgebraCause, IsAlgebraRefusal}
+use Rattle.graph_core.specs.Graph.Extended.{Extended}
 use Rattle.graph_core.specs.Graph.{Aig}
-use Rattle.graph_core.specs.GraphRefusal as graph
-use Rattle.graph_core.specs.JudgedLines.{IsExact}
+use Rattle.graph_core.specs.Aiger.Refusal as graph
+use Rattle.graph_core.specs.Text.JudgedLines.{IsExact}
 use Rattle.graph_core.specs.declared.order.Order.{Order}
-use Rattle.graph_core.proofs.AlgebraRefusal.{algebra_is_exact}
-use Rattle.graph_core.proofs.FirstRefusal.{not_spelled_and_refused, one_graph, one_refusal}
-use Rattle.graph_core.proofs.JudgedLines.{exact_map}
+use Rattle.graph_core.proofs.OfAlgebra.CallerLemmas.{algebra_is_exact}
+use Rattle.graph_core.proofs.OfTexts.CallerLemmas.{not_spelled_and_refused, one_graph, one_refusal, exact_map}
 use Rattle.mv_desk.specs.View.{View}
 use Rattle.mv_desk.specs.declared.limits.Limits.{Limits}
 use Rattle.mv_desk.specs.declared.slot.Slot.TheVariants as slot
@@ -24,11 +24,11 @@ use Rattle.joint_checker.specs.declared.checked.Checked.{Checked}
 use Rattle.joint_checker.specs.declared.checked.Checked.TheVariants as checked
 use Rattle.joint_checker.specs.declared.checked.ClauseWhy.TheVariants as clause
 use Rattle.joint_checker.specs.declared.checked.Refusal.TheVariants as refusal
-use Rattle.joint_checker.specs.Certificates.{ClauseCause, IsClauseRefusal, IsLawfulAlgebra, IsNoCut}
-use Rattle.joint_checker.specs.Certificates as certificate
+use Rattle.graph_core.specs.Certificates.{ClauseCause, GivesExtended, IsClauseRefusal, IsLawfulAlgebra, IsLawfulPair}
+use Rattle.graph_core.specs.Certificates as certificate
 use Rattle.joint_checker.specs.Files.{Files, Texts, texts_of}
 use Rattle.joint_checker.specs.Outcome.{IsDue, IsExactAnswer, IsOutcome, OneAnswerIsDue, OutcomesAreExact, cause_of}
-use Rattle.joint_checker.proofs.ClauseRows.{clauses_are_exact}
+use Rattle.graph_core.proofs.OfCertificates.CallerLemmas.{clauses_are_exact}
 
 -- causes of one thing, and behind it those of another
 next_exact : {C G H : Type 0} {Refused Others : C → Type 0} → IsExact G Refused → (G → IsExact H Others) → IsExact (G × H) (λ c. Refused c ⊎ (G × Others c))
@@ -96,38 +96,63 @@ module _ (limits : Limits) (order : Order) (file clauses algebra : List ℕ) whe
   abbrev AreClausesRefused : Checked → Type 0
   AreClausesRefused c = (p : ℕ × ClauseCause) × IsClauseRefusal (lengths_of limits) clauses p × (c ≡ clause_answer p)
 
-  abbrev Refused : Aig → Checked → Type 0
-  Refused g c = (p : ℕ × AlgebraCause) × IsAlgebraRefusal (without_cut g) order (lengths_of limits) algebra p × (c ≡ algebra_answer p)
+  abbrev Gives : Aig → Extended → Type 0
+  Gives g e = GivesExtended (lengths_of limits) g clauses e
+
+  abbrev HasGiven : Type 0
+  HasGiven = (g : Aig) × SpellsWithin limits.graph file g × ((e : Extended) × Gives g e)
+
+  clauses_exact : Spelled → IsExact HasGiven AreClausesRefused
+  clauses_exact s = record {
+    decided = ⊎_elim (λ e. inl (s.0, s.1, e)) inr (of_clauses s.0).decided;
+    not_both = λ c h r. (of_clauses h.0).not_both c h.2 r;
+    one = (of_clauses s.0).one;
+  }
+    where
+      of_clauses : (g : Aig) → IsExact ((e : Extended) × Gives g e) AreClausesRefused
+      of_clauses g = exact_map clause_answer (clauses_are_exact.exact (lengths_of limits) g clauses)
+
+  abbrev Refused : Aig → Extended → Checked → Type 0
+  Refused g e c = (p : ℕ × AlgebraCause) × IsAlgebraRefusal e (sides_of order g) (lengths_of limits) algebra p × (c ≡ algebra_answer p)
+
+  abbrev IsLawful : Aig → Extended → Type 0
+  IsLawful g e = IsLawfulAlgebra (lengths_of limits) e (sides_of order g) algebra
 
   abbrev Lawful : Type 0
-  Lawful = (g : Aig) × SpellsWithin limits.graph file g × IsLawfulAlgebra (lengths_of limits) g order algebra
+  Lawful = (g : Aig) × SpellsWithin limits.graph file g × IsLawfulPair (lengths_of limits) g order clauses algebra
 
   abbrev IsAlgebraRefused : Checked → Type 0
-  IsAlgebraRefused c = (g : Aig) × SpellsWithin limits.graph file g × Refused g c
+  IsAlgebraRefused c = (g : Aig) × SpellsWithin limits.graph file g × ((e : Extended) × Gives g e × Refused g e c)
 
-  of_graph : (g : Aig) → IsExact (IsLawfulAlgebra (lengths_of limits) g order algebra) (Refused g)
-  of_graph g = exact_map algebra_answer (algebra_is_exact (without_cut g) order (lengths_of limits) algebra)
+  of_extended : (g : Aig) (e : Extended) → IsExact (IsLawful g e) (Refused g e)
+  of_extended g e = exact_map algebra_answer (algebra_is_exact e (sides_of order g) (lengths_of limits) algebra)
 
-  algebra_exact : Spelled → IsExact Lawful IsAlgebraRefused
-  algebra_exact s = record {
-    decided = ⊎_elim (λ l. inl (s.0, s.1, l)) (λ r. inr (r.0, (s.0, s.1, r.1))) (of_graph s.0).decided;
-    not_both = λ c l r. (of_graph l.0).not_both c l.2 (subst (λ (g : Aig). Refused g c) (one_graph file r.0 l.0 r.1.spells l.1.spells) r.2);
-    one = λ a b r t. (of_graph r.0).one a b r.2 (subst (λ (g : Aig). Refused g b) (one_graph file t.0 r.0 t.1.spells r.1.spells) t.2);
+  -- a refusal is one for the graph and the extended one that are there
+  refused_there : (c : Checked) (g : Aig) (e : Extended) → SpellsWithin limits.graph file g → Gives g e → IsAlgebraRefused c → Refused g e c
+  refused_there c g e s gives r =
+      let here : (f : Extended) × Gives g f × Refused g f c = subst (λ (x : Aig). (f : Extended) × Gives x f × Refused x f c) (one_graph file r.0 g r.1.spells s.spells) r.2 in
+      subst (λ (f : Extended). Refused g f c) (clauses_are_exact.one (lengths_of limits) g clauses here.0 e here.1 gives) here.2
+
+  algebra_exact : HasGiven → IsExact Lawful IsAlgebraRefused
+  algebra_exact (g, s, (e, gives)) = record {
+    decided = ⊎_elim (λ l. inl (g, s, record { extended = e; gives = gives; lawful = l })) (λ r. inr (r.0, (g, s, (e, gives, r.1)))) (of_extended g e).decided;
+    not_both = λ c l r. (of_extended l.0 l.2.extended).not_both c l.2.lawful (refused_there c l.0 l.2.extended l.1 l.2.gives r);
+    one = λ a b r t. (of_extended g e).one a b (refused_there a g e s gives r) (refused_there b g e s gives t);
   }
 
   abbrev All : Type 0
-  All = Spelled × (IsNoCut (lengths_of limits) clauses × Lawful)
+  All = Spelled × (HasGiven × Lawful)
 
   abbrev IsRefused : Checked → Type 0
-  IsRefused c = IsGraphRefused c ⊎ (Spelled × (AreClausesRefused c ⊎ (IsNoCut (lengths_of limits) clauses × IsAlgebraRefused c)))
+  IsRefused c = IsGraphRefused c ⊎ (Spelled × (AreClausesRefused c ⊎ (HasGiven × IsAlgebraRefused c)))
 
   all_exact : IsExact All IsRefused
-  all_exact = next_exact graph_exact (λ s. next_exact (exact_map clause_answer (clauses_are_exact (lengths_of limits) clauses)) (λ none. algebra_exact s))
+  all_exact = next_exact graph_exact (λ s. next_exact (clauses_exact s) algebra_exact)
 
   -- ---- what is due, by its causes
 
   due_is : (c : Checked) → IsDue limits order told c → ((c ≡ checked.Accepted) × All) ⊎ IsRefused c
-  due_is checked.Accepted h = inl (refl, ((h.lawful.0, h.lawful.1), (h.none, h.lawful)))
+  due_is checked.Accepted h = inl (refl, ((h.0, h.1), ((h.0, h.1, (h.2.extended, h.2.gives)), (h.0, h.1, h.2))))
   due_is (checked.Graph (fail.Text p)) h = inr (inl (inl (graph.Text p, h, refl)))
   due_is (checked.Graph (fail.Header f)) h = inr (inl (inl (graph.Header f, h, refl)))
   due_is (checked.Graph (fail.Graph f)) h = inr (inl (inl (graph.Faulty f, h, refl)))
@@ -135,11 +160,11 @@ module _ (limits : Limits) (order : Order) (file clauses algebra : List ℕ) whe
   due_is (checked.Graph fail.TooLong) h = absurd h
   due_is (checked.Graph fail.Memory) h = absurd h
   due_is (checked.Refused (refusal.Clauses line clause.Text)) h = inr (inr ((h.0.0, h.0.1), inl ((line, certificate.Text), h.1, refl)))
-  due_is (checked.Refused (refusal.Algebra line given)) h = inr (inr ((h.1.0, h.1.1), inr (h.0, (h.1.0, h.1.1, ((line, cause_of given), h.1.2, answer_is line given)))))
+  due_is (checked.Refused (refusal.Algebra line given)) h = inr (inr ((h.0, h.1), inr ((h.0, h.1, (h.2.0, h.2.1)), (h.0, h.1, (h.2.0, h.2.1, ((line, cause_of given), h.2.2, answer_is line given))))))
   due_is (checked.TooLong slot.Graph) h = inr (inl (inr (h, refl)))
   due_is (checked.TooLong slot.Other) h = absurd h
   due_is (checked.TooLong slot.Clauses) h = inr (inr ((h.0.0, h.0.1), inl ((h.1.0, certificate.TooLong), h.1.1, refl)))
-  due_is (checked.TooLong slot.Algebra) h = inr (inr ((h.1.0, h.1.1), inr (h.0, (h.1.0, h.1.1, ((h.1.2.0, cause.TooLong), h.1.2.1, refl)))))
+  due_is (checked.TooLong slot.Algebra) h = inr (inr ((h.0, h.1), inr ((h.0, h.1, (h.2.0, h.2.1)), (h.0, h.1, (h.2.0, h.2.1, ((h.2.2.0, cause.TooLong), h.2.2.1, refl))))))
   due_is (checked.TooLong slot.Report) h = absurd h
   due_is checked.ReadFault h = absurd h
   due_is checked.Memory h = absurd h
@@ -160,20 +185,20 @@ module _ (limits : Limits) (order : Order) (file clauses algebra : List ℕ) whe
   clause_due s (line, certificate.Text) h = (checked.Refused (refusal.Clauses line clause.Text), ((s.0, s.1, tt), h))
   clause_due s (line, certificate.TooLong) h = (checked.TooLong slot.Clauses, ((s.0, s.1, tt), (line, h)))
 
-  module _ (none : IsNoCut (lengths_of limits) clauses) (g : Aig) (s : SpellsWithin limits.graph file g) where
-    algebra_due : (p : ℕ × AlgebraCause) → IsAlgebraRefusal (without_cut g) order (lengths_of limits) algebra p → IsSomeDue
-    algebra_due (line, cause.TooLong) h = (checked.TooLong slot.Algebra, (none, (g, s, (line, h))))
-    algebra_due (line, cause.Text) h = (checked.Refused (refusal.Algebra line why.Text), (none, (g, s, h)))
-    algebra_due (line, cause.Range) h = (checked.Refused (refusal.Algebra line why.Range), (none, (g, s, h)))
-    algebra_due (line, cause.Id) h = (checked.Refused (refusal.Algebra line why.Id), (none, (g, s, h)))
-    algebra_due (line, (cause.NoSuchLine id)) h = (checked.Refused (refusal.Algebra line (why.NoSuchLine id)), (none, (g, s, h)))
-    algebra_due (line, cause.NotEqual) h = (checked.Refused (refusal.Algebra line why.NotEqual), (none, (g, s, h)))
-    algebra_due (line, cause.NotSpecification) h = (checked.Refused (refusal.Algebra line why.NotSpec), (none, (g, s, h)))
+  module _ (g : Aig) (s : SpellsWithin limits.graph file g) (e : Extended) (gives : Gives g e) where
+    algebra_due : (p : ℕ × AlgebraCause) → IsAlgebraRefusal e (sides_of order g) (lengths_of limits) algebra p → IsSomeDue
+    algebra_due (line, cause.TooLong) h = (checked.TooLong slot.Algebra, (g, s, (e, gives, (line, h))))
+    algebra_due (line, cause.Text) h = (checked.Refused (refusal.Algebra line why.Text), (g, s, (e, gives, h)))
+    algebra_due (line, cause.Range) h = (checked.Refused (refusal.Algebra line why.Range), (g, s, (e, gives, h)))
+    algebra_due (line, cause.Id) h = (checked.Refused (refusal.Algebra line why.Id), (g, s, (e, gives, h)))
+    algebra_due (line, (cause.NoSuchLine id)) h = (checked.Refused (refusal.Algebra line (why.NoSuchLine id)), (g, s, (e, gives, h)))
+    algebra_due (line, cause.NotEqual) h = (checked.Refused (refusal.Algebra line why.NotEqual), (g, s, (e, gives, h)))
+    algebra_due (line, cause.NotSpecification) h = (checked.Refused (refusal.Algebra line why.NotSpec), (g, s, (e, gives, h)))
 
   some_due : IsSomeDue
-  some_due = ⊎_elim (λ l. (checked.Accepted, record { none = l.1.0; lawful = l.1.1 }))
+  some_due = ⊎_elim (λ l. (checked.Accepted, l.1.1))
       (λ r. ⊎_elim (λ x. ⊎_elim (λ f. found_due f.0 f.1) (λ long. (checked.TooLong slot.Graph, long.0)) x)
-      (λ x. ⊎_elim (λ y. clause_due x.0 y.0 y.1) (λ y. algebra_due y.0 y.1.0 y.1.1 y.1.2.0 y.1.2.1) x.1) r.1) all_exact.decided
+      (λ x. ⊎_elim (λ y. clause_due x.0 y.0 y.1) (λ y. algebra_due y.1.0 y.1.1 y.1.2.0 y.1.2.1 y.1.2.2.0 y.1.2.2.1) x.1) r.1) all_exact.decided
 
 -- ---- three files that are told
 

@@ -4,35 +4,32 @@ use Rattle.std.specs.Prelude.{IfSome, IsSome}
 use Rattle.std.specs.Option.{IsSomeAnd}
 use Rattle.graph_core.specs.Algebra.{Line, LiveLine, Ledger, Closes, after}
 use Rattle.graph_core.specs.Algebra as algebra
-use Rattle.graph_core.specs.AlgebraRefusal.{AlgebraCause, IsRefusedNext}
-use Rattle.graph_core.specs.AlgebraRefusal as cause
-use Rattle.graph_core.specs.AlgebraText.{IsLineInRange, IsLineText}
-use Rattle.graph_core.specs.Extended.{Extended}
-use Rattle.graph_core.specs.JudgedLines.{BeginsWith}
-use Rattle.graph_core.specs.declared.order.Order.{Order}
+use Rattle.graph_core.specs.Algebra.Refusal.{AlgebraCause, IsRefusedNext}
+use Rattle.graph_core.specs.Algebra.Refusal as cause
+use Rattle.graph_core.specs.Algebra.Text.{IsLineInRange, IsLineText}
+use Rattle.graph_core.specs.Graph.Extended.{Extended}
+use Rattle.graph_core.specs.Text.JudgedLines.{BeginsWith}
+use Rattle.graph_core.specs.Graph.Operands.{Sides}
 use Rattle.mv_desk.specs.View.{View}
 use Rattle.mv_desk.specs.declared.faults.LineFail.{LineFail}
 use Rattle.mv_desk.specs.declared.faults.LineFail.TheVariants as text
-use Rattle.pac_checker.specs.Agreement.{Agree, AreSame}
+use Rattle.graph_core.specs.Algebra.Agreement.{Agree, AreSame}
 use Rattle.pac_checker.specs.Checking.{Checking, ledger_of, Takes}
-use Rattle.pac_checker.specs.InRange.{IsRefusedCloseInRange, IsRefusedInRange}
+use Rattle.graph_core.specs.Algebra.InRange.{IsRefusedCloseInRange, IsRefusedInRange}
 use Rattle.pac_checker.specs.Faults.{IsCloseFault, IsFault}
 use Rattle.pac_checker.specs.declared.fault.LineFault.{LineFault}
 use Rattle.pac_checker.specs.declared.fault.LineFault.TheVariants as rule
 use Rattle.pac_checker.specs.declared.fault.CloseFault.{CloseFault}
 use Rattle.pac_checker.specs.declared.fault.CloseFault.TheVariants as close
-use Rattle.pac_checker.proofs.Agreements.{after_agrees, agree_trans, closes_agrees, lawful_agrees, refused_close_in_range_agrees, refused_in_range_agrees}
+use Rattle.graph_core.proofs.OfAlgebra.CallerLemmas.{after_agrees, agree_trans, closes_agrees, lawful_agrees, refused_close_in_range_agrees, refused_in_range_agrees, likeness_is_kept}
 use Rattle.poly_terms.specs.Tables.{Table, modulus}
 use Rattle.poly_text.specs.AlgebraFiles.{BeginsOutOfRange, BeginsWithNone, IsNextRefusal, TakesText}
-use Rattle.poly_text.specs.Likeness.{AreAlike}
-use Rattle.poly_text.specs.LikenessLaws as likeness
-use Rattle.poly_text.specs.LikenessLaws.{SaySame}
+use Rattle.graph_core.specs.Algebra.Likeness.{AreAlike}
 use Rattle.poly_text.specs.Lines.{told}
 use Rattle.poly_text.specs.LineReading.{IsLongAhead, Lines}
 use Rattle.poly_text.specs.declared.line.PacLine.{PacLine}
 use Rattle.poly_text.specs.declared.line.PacLine.TheVariants as pac
 use Rattle.poly_text.proofs.CallerLemmas.{close_there, line_there, no_line_is_refused, out_of_range_is_refused}
-use Rattle.poly_text.proofs.LikeLines.{likeness_is_kept}
 use Rattle.joint_checker.specs.declared.algebra_line.Turn.{Turn}
 use Rattle.joint_checker.specs.declared.algebra_line.Turn.TheVariants as turn
 use Rattle.joint_checker.specs.declared.checked.Checked.{Checked}
@@ -65,30 +62,21 @@ refused_text c line n fault answer is other h =
     inl (y.0, fault, y.1, subst (λ (o : Option Line). IfSome o (λ z. IsFault c.extended (ledger_of c) z fault)) y.1 h, is)
 
 -- no line is read
-pub text_fails : (n : ℕ) (e : Extended) (order : Order) (l : Ledger) (max : ℕ) (lines : Lines) (left : Option (List ℕ)) (before now : View) (given : LineFail) → max ≡ e.max →
-    IsNextRefusal max lines left before.read_faults now.read_faults given → IsLineFail n e order l lines left before now (answer_of_line n given)
-text_fails n e order l max lines left before now text.Text same h = (
+pub text_fails : (n : ℕ) (e : Extended) (sides : Sides) (l : Ledger) (max : ℕ) (lines : Lines) (left : Option (List ℕ)) (before now : View) (given : LineFail) → max ≡ e.max →
+    IsNextRefusal max lines left before.read_faults now.read_faults given → IsLineFail n e sides l lines left before now (answer_of_line n given)
+text_fails n e sides l max lines left before now text.Text same h = (
   refl,
-  told_more left (λ bytes. ¬ (IsLongAhead lines bytes) × BeginsWithNone bytes) (λ bytes. IsRefusedNext e order (IsLongIn lines bytes) l bytes (0, cause.Text))
-      (λ bytes k. no_line_is_refused e order (IsLongIn lines bytes) l bytes k.0 k.1) h,
+  told_more left (λ bytes. ¬ (IsLongAhead lines bytes) × BeginsWithNone bytes) (λ bytes. IsRefusedNext e sides (IsLongIn lines bytes) l bytes (0, cause.Text))
+      (λ bytes k. no_line_is_refused e sides (IsLongIn lines bytes) l bytes k.0 k.1) h,
 )
-text_fails n e order l max lines left before now text.Range same h = (
+text_fails n e sides l max lines left before now text.Range same h = (
   refl,
-  told_more left (λ bytes. ¬ (IsLongAhead lines bytes) × BeginsOutOfRange max bytes) (λ bytes. IsRefusedNext e order (IsLongIn lines bytes) l bytes (0, cause.Range))
-      (λ bytes k. out_of_range_is_refused e order (IsLongIn lines bytes) l bytes k.0 (subst (λ (m : ℕ). BeginsOutOfRange m bytes) same k.1)) h,
+  told_more left (λ bytes. ¬ (IsLongAhead lines bytes) × BeginsOutOfRange max bytes) (λ bytes. IsRefusedNext e sides (IsLongIn lines bytes) l bytes (0, cause.Range))
+      (λ bytes k. out_of_range_is_refused e sides (IsLongIn lines bytes) l bytes k.0 (subst (λ (m : ℕ). BeginsOutOfRange m bytes) same k.1)) h,
 )
-text_fails n e order l max lines left before now text.Fault same h = h
-text_fails n e order l max lines left before now text.TooLong same h = h
-text_fails n e order l max lines left before now text.Memory same h = tt
-
-same_lines : (x y : Option LiveLine) → likeness.AreSame x y → AreSame x y
-same_lines None None h = tt
-same_lines None (Some y) h = h
-same_lines (Some x) None h = h
-same_lines (Some x) (Some y) h = h
-
-agree_of : (l k : Ledger) → SaySame l k → Agree l k
-agree_of l k h = record { last = h.last; lines = λ id. same_lines _ _ (h.lines id) }
+text_fails n e sides l max lines left before now text.Fault same h = h
+text_fails n e sides l max lines left before now text.TooLong same h = h
+text_fails n e sides l max lines left before now text.Memory same h = tt
 
 -- A checker that was lent to a reader: its table has grown, and its ledger agrees with the one before.
 module _ (grown : Checking) (l : Ledger) (agrees : Agree (ledger_of grown) l) (same_modulus : modulus grown.table ≡ algebra.modulus grown.extended) (max : ℕ) (same_max : max ≡ grown.extended.max)
@@ -124,46 +112,46 @@ module _ (grown : Checking) (l : Ledger) (agrees : Agree (ledger_of grown) l) (s
           in_range = t.in_range;
           lawful = lawful_agrees m known l agrees t.x (likeness_is_kept.lawful m known t.x y t.alike takes.lawful);
           ledger = agree_trans (ledger_of next) (after m known y) (after m l t.x) takes.ledger
-              (agree_trans (after m known y) (after m known t.x) (after m l t.x) (agree_of (after m known y) (after m known t.x) (likeness_is_kept.after m known t.x y t.alike)) (after_agrees m known l agrees t.x));
+              (agree_trans (after m known y) (after m known t.x) (after m l t.x) (likeness_is_kept.after m known t.x y t.alike) (after_agrees m known l agrees t.x));
           passes = record { short = h.short; left_is = h.left_is; taken = h.taken };
         }) given
 
-    module _ (order : Order) (n : ℕ) (before now : View) where
+    module _ (sides : Sides) (n : ℕ) (before now : View) where
       refused_of : (c : AlgebraCause) (y : Line) → told grown.table line ≡ Some y → IsRefusedInRange grown.extended (ledger_of grown) y c →
-          IfSome left (λ bytes. IsRefusedNext grown.extended order (IsLongIn old bytes) l bytes (0, c))
-      refused_of c y is refused = told_more left (λ bytes. TakesText grown.table max old new bytes behind line) (λ bytes. IsRefusedNext grown.extended order (IsLongIn old bytes) l bytes (0, c)) (λ bytes h.
+          IfSome left (λ bytes. IsRefusedNext grown.extended sides (IsLongIn old bytes) l bytes (0, c))
+      refused_of c y is refused = told_more left (λ bytes. TakesText grown.table max old new bytes behind line) (λ bytes. IsRefusedNext grown.extended sides (IsLongIn old bytes) l bytes (0, c)) (λ bytes h.
           let t = there y is bytes h in
           let here : IsRefusedInRange grown.extended l t.x c = refused_in_range_agrees grown.extended (ledger_of grown) l agrees t.x c (likeness_is_kept.refused grown.extended (ledger_of grown) t.x y c t.alike refused) in
           inr (h.short, inr (inl (t.x, h.rest, t.begins, (c, inr (t.in_range, here), refl))))) given
 
       -- it breaks its rule
-      pub rule_fails : (y : Line) (fault : LineFault) → told grown.table line ≡ Some y → IsFault grown.extended (ledger_of grown) y fault → IsLineFail n grown.extended order l old left before now (answer_of_rule n fault)
+      pub rule_fails : (y : Line) (fault : LineFault) → told grown.table line ≡ Some y → IsFault grown.extended (ledger_of grown) y fault → IsLineFail n grown.extended sides l old left before now (answer_of_rule n fault)
       rule_fails y rule.Id is h = (refl, refused_of cause.Id y is h)
       rule_fails y (rule.NoSuchLine id) is h = (refl, refused_of (cause.NoSuchLine id) y is h)
       rule_fails y rule.NotEqual is h = (refl, refused_of cause.NotEqual y is h)
       rule_fails y rule.Memory is h = tt
 
   -- a closing line
-  module _ (order : Order) (id : ℕ) (given : IfSome left (λ bytes. TakesText grown.table max old new bytes behind (pac.Close id))) where
-    pub line_is_closing : Closes grown.extended order (ledger_of grown).live id → IfSome left (λ bytes. TakesClosing grown.extended order l old new bytes behind)
-    line_is_closing closes = told_more left (λ bytes. TakesText grown.table max old new bytes behind (pac.Close id)) (λ bytes. TakesClosing grown.extended order l old new bytes behind) (λ bytes h.
+  module _ (sides : Sides) (id : ℕ) (given : IfSome left (λ bytes. TakesText grown.table max old new bytes behind (pac.Close id))) where
+    pub line_is_closing : Closes grown.extended sides (ledger_of grown).live id → IfSome left (λ bytes. TakesClosing grown.extended sides l old new bytes behind)
+    line_is_closing closes = told_more left (λ bytes. TakesText grown.table max old new bytes behind (pac.Close id)) (λ bytes. TakesClosing grown.extended sides l old new bytes behind) (λ bytes h.
         let t = close_there grown.table max bytes h.rest id h.begins in
         record {
           id = id;
           rest = h.rest;
           begins = t.0;
           in_range = t.1;
-          closes = closes_agrees grown.extended order (ledger_of grown) l agrees id closes;
+          closes = closes_agrees grown.extended sides (ledger_of grown) l agrees id closes;
           passes = record { short = h.short; left_is = h.left_is; taken = h.taken };
         }) given
 
-    refused_close : (c : AlgebraCause) → IsRefusedCloseInRange grown.extended order (ledger_of grown) id c → IfSome left (λ bytes. IsRefusedNext grown.extended order (IsLongIn old bytes) l bytes (0, c))
-    refused_close c refused = told_more left (λ bytes. TakesText grown.table max old new bytes behind (pac.Close id)) (λ bytes. IsRefusedNext grown.extended order (IsLongIn old bytes) l bytes (0, c)) (λ bytes h.
+    refused_close : (c : AlgebraCause) → IsRefusedCloseInRange grown.extended sides (ledger_of grown) id c → IfSome left (λ bytes. IsRefusedNext grown.extended sides (IsLongIn old bytes) l bytes (0, c))
+    refused_close c refused = told_more left (λ bytes. TakesText grown.table max old new bytes behind (pac.Close id)) (λ bytes. IsRefusedNext grown.extended sides (IsLongIn old bytes) l bytes (0, c)) (λ bytes h.
         let t = close_there grown.table max bytes h.rest id h.begins in
-        inr (h.short, inr (inr (id, h.rest, t.0, inl (c, inr (t.1, refused_close_in_range_agrees grown.extended order (ledger_of grown) l agrees id c refused), refl))))) given
+        inr (h.short, inr (inr (id, h.rest, t.0, inl (c, inr (t.1, refused_close_in_range_agrees grown.extended sides (ledger_of grown) l agrees id c refused), refl))))) given
 
     -- it doesn't close
-    pub close_fails : (n : ℕ) (before now : View) (fault : CloseFault) → IsCloseFault grown.extended order (ledger_of grown) id fault → IsLineFail n grown.extended order l old left before now (answer_of_close n fault)
+    pub close_fails : (n : ℕ) (before now : View) (fault : CloseFault) → IsCloseFault grown.extended sides (ledger_of grown) id fault → IsLineFail n grown.extended sides l old left before now (answer_of_close n fault)
     close_fails n before now (close.NoSuchLine missing) h = (refl, refused_close (cause.NoSuchLine missing) h)
     close_fails n before now close.NotSpec h = (refl, refused_close cause.NotSpecification h)
     close_fails n before now close.Memory h = tt
@@ -175,32 +163,32 @@ module _ (grown : Checking) (l : Ledger) (agrees : Agree (ledger_of grown) l) (s
   given_close : (id : ℕ) → line ≡ pac.Close id → IfSome left (λ bytes. TakesText grown.table max old new bytes behind (pac.Close id))
   given_close id is = subst (λ (x : PacLine). IfSome left (λ bytes. TakesText grown.table max old new bytes behind x)) is given
 
-  pub turn_is : (next : Checking) (given_turn : Turn) → IsJudged line grown next given_turn → Turns grown.extended grown.order l (ledger_of next) old new left behind given_turn
+  pub turn_is : (next : Checking) (given_turn : Turn) → IsJudged line grown next given_turn → Turns grown.extended grown.sides l (ledger_of next) old new left behind given_turn
   turn_is next turn.Taken h = line_is_taken grown l agrees same_modulus max same_max old new left behind line given next h.0 h.1 h.2
-  turn_is next turn.Closed h = (line_is_closing grown l agrees same_modulus max same_max old new left behind grown.order h.0 (given_close h.0 h.1) h.2, h.3)
+  turn_is next turn.Closed h = (line_is_closing grown l agrees same_modulus max same_max old new left behind grown.sides h.0 (given_close h.0 h.1) h.2, h.3)
 
-  pub turn_fails : (n : ℕ) (before now : View) (answer : Checked) → IsUnlawful n line grown answer → IsLineFail n grown.extended grown.order l old left before now answer
+  pub turn_fails : (n : ℕ) (before now : View) (answer : Checked) → IsUnlawful n line grown answer → IsLineFail n grown.extended grown.sides l old left before now answer
   turn_fails n before now answer (inl h) =
-      subst (IsLineFail n grown.extended grown.order l old left before now) (sym h.4) (rule_fails grown l agrees same_modulus max same_max old new left behind line given grown.order n before now h.0 h.1 h.2 h.3)
+      subst (IsLineFail n grown.extended grown.sides l old left before now) (sym h.4) (rule_fails grown l agrees same_modulus max same_max old new left behind line given grown.sides n before now h.0 h.1 h.2 h.3)
   turn_fails n before now answer (inr h) =
-      subst (IsLineFail n grown.extended grown.order l old left before now) (sym h.4) (close_fails grown l agrees same_modulus max same_max old new left behind grown.order h.0 (given_close h.0 h.2) n before now h.1 h.3)
+      subst (IsLineFail n grown.extended grown.sides l old left before now) (sym h.4) (close_fails grown l agrees same_modulus max same_max old new left behind grown.sides h.0 (given_close h.0 h.2) n before now h.1 h.3)
 
--- ---- the answers over a graph and an order that are equal
+-- ---- the answers over a graph and operands that are equal
 
-module _ (e f : Extended) (order p : Order) (known next : Ledger) (old new : Lines) (left behind : Option (List ℕ)) (given : Turn) where
-  turns_at : f ≡ e → p ≡ order → Turns f p known next old new left behind given → Turns e order known next old new left behind given
+module _ (e f : Extended) (sides p : Sides) (known next : Ledger) (old new : Lines) (left behind : Option (List ℕ)) (given : Turn) where
+  turns_at : f ≡ e → p ≡ sides → Turns f p known next old new left behind given → Turns e sides known next old new left behind given
   turns_at same same_order h =
-      subst (λ (o : Order). Turns e o known next old new left behind given) same_order (subst (λ (x : Extended). Turns x p known next old new left behind given) same h)
+      subst (λ (o : Sides). Turns e o known next old new left behind given) same_order (subst (λ (x : Extended). Turns x p known next old new left behind given) same h)
 
-  pub taken_is : given ≡ turn.Taken → f ≡ e → p ≡ order → Turns f p known next old new left behind given → IfSome left (λ bytes. TakesLawful e known next old new bytes behind)
+  pub taken_is : given ≡ turn.Taken → f ≡ e → p ≡ sides → Turns f p known next old new left behind given → IfSome left (λ bytes. TakesLawful e known next old new bytes behind)
   taken_is is same same_order h =
-      let at : Turns e order known next old new left behind turn.Taken = subst (Turns e order known next old new left behind) is (turns_at same same_order h) in at
+      let at : Turns e sides known next old new left behind turn.Taken = subst (Turns e sides known next old new left behind) is (turns_at same same_order h) in at
 
-  pub closed_is : given ≡ turn.Closed → f ≡ e → p ≡ order → Turns f p known next old new left behind given → IfSome left (λ bytes. TakesClosing e order known old new bytes behind)
+  pub closed_is : given ≡ turn.Closed → f ≡ e → p ≡ sides → Turns f p known next old new left behind given → IfSome left (λ bytes. TakesClosing e sides known old new bytes behind)
   closed_is is same same_order h =
-      let at : Turns e order known next old new left behind turn.Closed = subst (Turns e order known next old new left behind) is (turns_at same same_order h) in at.0
+      let at : Turns e sides known next old new left behind turn.Closed = subst (Turns e sides known next old new left behind) is (turns_at same same_order h) in at.0
 
-pub fail_is : (n : ℕ) (e f : Extended) (order p : Order) (known : Ledger) (lines : Lines) (left : Option (List ℕ)) (before now : View) (answer : Checked) → f ≡ e → p ≡ order →
-    IsLineFail n f p known lines left before now answer → IsLineFail n e order known lines left before now answer
-fail_is n e f order p known lines left before now answer same same_order h =
-    subst (λ (o : Order). IsLineFail n e o known lines left before now answer) same_order (subst (λ (x : Extended). IsLineFail n x p known lines left before now answer) same h)
+pub fail_is : (n : ℕ) (e f : Extended) (sides p : Sides) (known : Ledger) (lines : Lines) (left : Option (List ℕ)) (before now : View) (answer : Checked) → f ≡ e → p ≡ sides →
+    IsLineFail n f p known lines left before now answer → IsLineFail n e sides known lines left before now answer
+fail_is n e f sides p known lines left before now answer same same_order h =
+    subst (λ (o : Sides). IsLineFail n e o known lines left before now answer) same_order (subst (λ (x : Extended). IsLineFail n x p known lines left before now answer) same h)

@@ -5,13 +5,13 @@ use Rattle.aiger_reader.specs.Refusals.{Refuses, SpellsWithin}
 use Rattle.aiger_reader.specs.declared.fail.ReadFail.{ReadFail}
 use Rattle.aiger_reader.specs.declared.fail.ReadFail.TheVariants as fail
 use Rattle.graph_core.specs.Algebra.{specification}
-use Rattle.graph_core.specs.AlgebraRefusal as cause
-use Rattle.graph_core.specs.AlgebraRefusal.{IsAlgebraRefusal}
-use Rattle.graph_core.specs.Extended.{without_cut}
+use Rattle.graph_core.specs.Algebra.Refusal as cause
+use Rattle.graph_core.specs.Algebra.Refusal.{IsAlgebraRefusal}
+use Rattle.graph_core.specs.Graph.Extended.{Extended, without_cut}
 use Rattle.graph_core.specs.Graph.{Aig}
-use Rattle.graph_core.specs.Operands.{Multiplies}
+use Rattle.graph_core.specs.Graph.Operands.{Multiplies, Sides, sides_of}
 use Rattle.graph_core.specs.declared.order.Order.{Order}
-use Rattle.graph_core.proofs.Soundness.{vanishing_multiplies}
+use Rattle.graph_core.proofs.OfAiger.CallerLemmas.{vanishing_multiplies}
 use Rattle.mv_desk.specs.Calls.{Inspects}
 use Rattle.mv_desk.specs.View.{View, Rose, bytes_under}
 use Rattle.mv_desk.specs.declared.limits.Limits.{Limits}
@@ -24,10 +24,10 @@ use Rattle.joint_checker.specs.declared.checked.Checked.TheVariants as checked
 use Rattle.joint_checker.specs.declared.checked.ClauseWhy.TheVariants as clause
 use Rattle.joint_checker.specs.declared.checked.Refusal.TheVariants as refusal
 use Rattle.joint_checker.specs.Answers.{answer_of_graph}
-use Rattle.joint_checker.specs.Certificates.{IsClauseRefusal, IsLawfulAlgebra, IsNoCut}
-use Rattle.joint_checker.specs.Certificates as certificate
+use Rattle.graph_core.specs.Certificates.{GivesExtended, IsClauseRefusal, IsLawfulAlgebra, IsLawfulPair}
+use Rattle.graph_core.specs.Certificates as certificate
 use Rattle.joint_checker.specs.Fails.{IsAlgebraFail, IsClauseFail, IsGraphFail}
-use Rattle.joint_checker.specs.Files.{Files, HasGraph, texts_of}
+use Rattle.joint_checker.specs.Files.{Files, HasExtended, HasGraph, HasLawfulPair, texts_of}
 use Rattle.joint_checker.specs.Outcome.{IsOutcome, MeetsAlgebra, cause_of}
 use Rattle.joint_checker.proofs.Told.{rose_before, told_more}
 
@@ -83,33 +83,57 @@ module _ (limits : Limits) (order : Order) (files : Files) where
     clauses_answer checked.ReadFault h = rose_before a.read_faults b.read_faults c.read_faults first.later h
     clauses_answer checked.Memory h = tt
 
-  module _ (a b c d : View) (first : Inspects a b) (second : Inspects b c) (g : Aig) (spelled : IfSome (bytes_under a files.graph) (λ bytes. SpellsWithin limits.graph bytes g))
-      (none : IfSome (bytes_under b files.clauses) (IsNoCut (lengths_of limits))) where
-    meets : (P : Aig → List ℕ → Type 0) → IfSome (bytes_under c files.algebra) (P g) → MeetsAlgebra limits (texts_of a files) P
-    meets P h = (
-      earlier a b files.clauses (IsNoCut (lengths_of limits)) first none,
-      graph_there a g (λ x. IfSome (bytes_under a files.algebra) (P x)) spelled (earlier a c files.algebra (P g) (Inspects-trans a b c first second) h),
-    )
+  -- an extended graph, of which something holds
+  pub extended_there : (a b : View) (g : Aig) (e : Extended) (P : Aig → Extended → Type 0) → Inspects a b → IfSome (bytes_under a files.graph) (λ bytes. SpellsWithin limits.graph bytes g) →
+      IfSome (bytes_under b files.clauses) (λ bytes. GivesExtended (lengths_of limits) g bytes e) → P g e → HasExtended limits (texts_of a files) P
+  extended_there a b g e P inspects spelled gives holds =
+      graph_there a g (λ x. IfSome (bytes_under a files.clauses) (λ bytes. (f : Extended) × GivesExtended (lengths_of limits) x bytes f × P x f)) spelled
+      (earlier a b files.clauses (λ bytes. (f : Extended) × GivesExtended (lengths_of limits) g bytes f × P g f) inspects
+      (told_more (bytes_under b files.clauses) (λ bytes. GivesExtended (lengths_of limits) g bytes e) (λ bytes. (f : Extended) × GivesExtended (lengths_of limits) g bytes f × P g f) (λ bytes k. (e, k, holds)) gives))
+
+  module _ (a b c d : View) (first : Inspects a b) (second : Inspects b c) (g : Aig) (e : Extended) (sides : Sides) (same : sides ≡ sides_of order g)
+      (spelled : IfSome (bytes_under a files.graph) (λ bytes. SpellsWithin limits.graph bytes g))
+      (gives : IfSome (bytes_under b files.clauses) (λ bytes. GivesExtended (lengths_of limits) g bytes e)) where
+    there : (P : List ℕ → Type 0) → IfSome (bytes_under c files.algebra) P → IfSome (bytes_under a files.algebra) P
+    there P h = earlier a c files.algebra P (Inspects-trans a b c first second) h
+
+    meets : (P : Aig → Extended → List ℕ → Type 0) → IfSome (bytes_under c files.algebra) (P g e) → MeetsAlgebra limits (texts_of a files) P
+    meets P h = extended_there a b g e (λ x f. IfSome (bytes_under a files.algebra) (P x f)) first spelled gives (there (P g e) h)
+
+    answers : (answer : Checked) → IsAlgebraFail (lengths_of limits) e (sides_of order g) (bytes_under c files.algebra) c d answer → IsOutcome limits order files a d answer
+    answers checked.Accepted h = absurd h
+    answers (checked.Graph why) h = absurd h
+    answers (checked.Refused (refusal.Clauses line why)) h = absurd h
+    answers (checked.Refused (refusal.Algebra line why)) h = meets (λ x f bytes. IsAlgebraRefusal f (sides_of order x) (lengths_of limits) bytes (line, cause_of why)) h
+    answers (checked.TooLong slot.Graph) h = absurd h
+    answers (checked.TooLong slot.Other) h = absurd h
+    answers (checked.TooLong slot.Clauses) h = absurd h
+    answers (checked.TooLong slot.Algebra) h = meets (λ x f bytes. (line : ℕ) × IsAlgebraRefusal f (sides_of order x) (lengths_of limits) bytes (line, cause.TooLong)) h
+    answers (checked.TooLong slot.Report) h = absurd h
+    answers checked.ReadFault h = rose_before a.read_faults c.read_faults d.read_faults (Inspects-trans a b c first second).later h
+    answers checked.Memory h = tt
 
     -- the algebra file isn't lawful
-    pub algebra_answers : (answer : Checked) → IsAlgebraFail (lengths_of limits) g order (bytes_under c files.algebra) c d answer → IsOutcome limits order files a d answer
-    algebra_answers checked.Accepted h = absurd h
-    algebra_answers (checked.Graph why) h = absurd h
-    algebra_answers (checked.Refused (refusal.Clauses line why)) h = absurd h
-    algebra_answers (checked.Refused (refusal.Algebra line why)) h = meets (λ x bytes. IsAlgebraRefusal (without_cut x) order (lengths_of limits) bytes (line, cause_of why)) h
-    algebra_answers (checked.TooLong slot.Graph) h = absurd h
-    algebra_answers (checked.TooLong slot.Other) h = absurd h
-    algebra_answers (checked.TooLong slot.Clauses) h = absurd h
-    algebra_answers (checked.TooLong slot.Algebra) h = meets (λ x bytes. (line : ℕ) × IsAlgebraRefusal (without_cut x) order (lengths_of limits) bytes (line, cause.TooLong)) h
-    algebra_answers (checked.TooLong slot.Report) h = absurd h
-    algebra_answers checked.ReadFault h = rose_before a.read_faults c.read_faults d.read_faults (Inspects-trans a b c first second).later h
-    algebra_answers checked.Memory h = tt
+    pub algebra_answers : (answer : Checked) → IsAlgebraFail (lengths_of limits) e sides (bytes_under c files.algebra) c d answer → IsOutcome limits order files a d answer
+    algebra_answers answer h = answers answer (subst (λ (s : Sides). IsAlgebraFail (lengths_of limits) e s (bytes_under c files.algebra) c d answer) same h)
 
-    -- a lawful pair, and the specification vanishes on every evaluation
-    pub accepts : IfSome (bytes_under c files.algebra) (IsLawfulAlgebra (lengths_of limits) g order) → Always g.gates (λ σ. specification (without_cut g) order σ ≡ 0) → IsOutcome limits order files a d checked.Accepted
-    accepts lawful vanishes =
-        let met = meets (λ x. IsLawfulAlgebra (lengths_of limits) x order) lawful in (
-          record { none = met.0; lawful = met.1 },
-          told_more (bytes_under a files.graph) (λ bytes. SpellsWithin limits.graph bytes g) (λ bytes. (x : Aig) × SpellsWithin limits.graph bytes x × Multiplies x order)
-              (λ bytes h. (g, h, vanishing_multiplies bytes g order h.spells vanishes)) spelled,
-        )
+    pair : IfSome (bytes_under c files.algebra) (IsLawfulAlgebra (lengths_of limits) e (sides_of order g)) → HasLawfulPair limits order (texts_of a files)
+    pair lawful =
+        graph_there a g (λ x. IfSome (bytes_under a files.clauses) (λ clauses. IfSome (bytes_under a files.algebra) (IsLawfulPair (lengths_of limits) x order clauses))) spelled
+        (earlier a b files.clauses (λ clauses. IfSome (bytes_under a files.algebra) (IsLawfulPair (lengths_of limits) g order clauses)) first
+        (told_more (bytes_under b files.clauses) (λ clauses. GivesExtended (lengths_of limits) g clauses e) (λ clauses. IfSome (bytes_under a files.algebra) (IsLawfulPair (lengths_of limits) g order clauses))
+        (λ clauses k. told_more (bytes_under a files.algebra) (IsLawfulAlgebra (lengths_of limits) e (sides_of order g)) (IsLawfulPair (lengths_of limits) g order clauses)
+        (λ bytes l. record { extended = e; gives = k; lawful = l }) (there (IsLawfulAlgebra (lengths_of limits) e (sides_of order g)) lawful)) gives))
+
+    -- a lawful pair, and the specification vanishes on every evaluation of a graph of which nothing is replaced
+    pub accepts : e ≡ without_cut g → IfSome (bytes_under c files.algebra) (IsLawfulAlgebra (lengths_of limits) e sides) → Always e.gates (λ σ. specification e sides σ ≡ 0) → IsOutcome limits order files a d checked.Accepted
+    accepts itself lawful vanishes = (
+      pair (subst (λ (s : Sides). IfSome (bytes_under c files.algebra) (IsLawfulAlgebra (lengths_of limits) e s)) same lawful),
+      told_more (bytes_under a files.graph) (λ bytes. SpellsWithin limits.graph bytes g) (λ bytes. (x : Aig) × SpellsWithin limits.graph bytes x × Multiplies x order)
+          (λ bytes h. (
+            g,
+            h,
+            vanishing_multiplies bytes g order h.spells
+                (subst (λ (x : Extended). Always x.gates (λ σ. specification x (sides_of order g) σ ≡ 0)) itself (subst (λ (s : Sides). Always e.gates (λ σ. specification e s σ ≡ 0)) same vanishes)),
+          )) spelled,
+    )

@@ -3,12 +3,12 @@ use Rattle.std.specs.Prelude.{ℕ, List, [], IfSome, ⊤}
 use Rattle.std.specs.List.{All}
 use Rattle.std.specs.declared.option.Option.{Option}
 use Rattle.graph_core.specs.Algebra.{Line, Ledger, AreLawfulLines, Closes, after_all, axioms, modulus}
-use Rattle.graph_core.specs.AlgebraRefusal as cause
-use Rattle.graph_core.specs.AlgebraRefusal.{IsRefusedBody}
-use Rattle.graph_core.specs.AlgebraText.{AreLineTexts, IsCloseText, IsId, IsLineInRange}
-use Rattle.graph_core.specs.Extended.{Extended}
-use Rattle.graph_core.specs.JudgedLines.{BeginsWith, IsLineStart}
-use Rattle.graph_core.specs.declared.order.Order.{Order}
+use Rattle.graph_core.specs.Algebra.Refusal as cause
+use Rattle.graph_core.specs.Algebra.Refusal.{IsRefusedBody}
+use Rattle.graph_core.specs.Algebra.Text.{AreLineTexts, IsCloseText, IsId, IsLineInRange}
+use Rattle.graph_core.specs.Graph.Extended.{Extended}
+use Rattle.graph_core.specs.Text.JudgedLines.{BeginsWith, IsLineStart}
+use Rattle.graph_core.specs.Graph.Operands.{Sides}
 use Rattle.mv_desk.specs.View.{Rose, View}
 use Rattle.mv_desk.specs.declared.slot.Slot.TheVariants as slot
 use Rattle.poly_text.specs.LineReading.{Lines}
@@ -19,7 +19,7 @@ use Rattle.joint_checker.specs.AlgebraLines.{IsLongIn}
 use Rattle.joint_checker.specs.Outcome.{cause_of}
 
 -- Lawful lines over the ledger, a closing line, and nothing behind it. No line is too long.
-pub record IsLawfulRest (e : Extended) (order : Order) (IsLong : List ℕ → Type 0) (l : Ledger) (left : List ℕ) : Type 0 where
+pub record IsLawfulRest (e : Extended) (sides : Sides) (IsLong : List ℕ → Type 0) (l : Ledger) (left : List ℕ) : Type 0 where
   pub lines : List Line
   pub closing : ℕ
   pub last : List ℕ
@@ -28,18 +28,18 @@ pub record IsLawfulRest (e : Extended) (order : Order) (IsLong : List ℕ → Ty
   pub in_range : All (IsLineInRange e.max) lines
   pub closing_in_range : IsId closing
   pub lawful : AreLawfulLines (modulus e) l lines
-  pub closes : Closes e order (after_all (modulus e) l lines).live closing
+  pub closes : Closes e sides (after_all (modulus e) l lines).live closing
   pub short : (more : List ℕ) → IsLineStart left more → ¬ (IsLong more)
   pub ends : IsLineStart left []
 
 -- the lines behind the header, over the axioms, where this reader has them before it
-abbrev pub IsLawfulBody : Extended → Order → Lines → List ℕ → Type 0
-IsLawfulBody e order lines body = IsLawfulRest e order (IsLongIn lines body) (axioms e) body
+abbrev pub IsLawfulBody : Extended → Sides → Lines → List ℕ → Type 0
+IsLawfulBody e sides lines body = IsLawfulRest e sides (IsLongIn lines body) (axioms e) body
 
 -- Why they aren't lawful.
-abbrev pub IsBodyFail : Extended → Order → Lines → Option (List ℕ) → View → View → Checked → Type 0
-IsBodyFail e order lines left before now (checked.Refused (refusal.Algebra line why)) = IfSome left (λ body. IsRefusedBody e order (IsLongIn lines body) body (line, cause_of why))
-IsBodyFail e order lines left before now (checked.TooLong slot.Algebra) = IfSome left (λ body. (line : ℕ) × IsRefusedBody e order (IsLongIn lines body) body (line, cause.TooLong))
-IsBodyFail e order lines left before now checked.ReadFault = Rose before.read_faults now.read_faults
-IsBodyFail e order lines left before now checked.Memory = ⊤
-IsBodyFail e order lines left before now _ = ⊥
+abbrev pub IsBodyFail : Extended → Sides → Lines → Option (List ℕ) → View → View → Checked → Type 0
+IsBodyFail e sides lines left before now (checked.Refused (refusal.Algebra line why)) = IfSome left (λ body. IsRefusedBody e sides (IsLongIn lines body) body (line, cause_of why))
+IsBodyFail e sides lines left before now (checked.TooLong slot.Algebra) = IfSome left (λ body. (line : ℕ) × IsRefusedBody e sides (IsLongIn lines body) body (line, cause.TooLong))
+IsBodyFail e sides lines left before now checked.ReadFault = Rose before.read_faults now.read_faults
+IsBodyFail e sides lines left before now checked.Memory = ⊤
+IsBodyFail e sides lines left before now _ = ⊥

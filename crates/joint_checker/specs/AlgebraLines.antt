@@ -5,17 +5,17 @@ use Rattle.std.specs.declared.option.Option.{Option}
 use Rattle.std.specs.declared.option.Option.TheVariants.{Some}
 use Rattle.std.specs.declared.result.Result.{Result}
 use Rattle.graph_core.specs.Algebra.{Ledger, Line, Closes, IsLawfulLine, after, modulus, specification}
-use Rattle.graph_core.specs.AlgebraRefusal.{IsRefusedNext}
-use Rattle.graph_core.specs.AlgebraText.{IsCloseText, IsId, IsLineInRange, IsLineText}
-use Rattle.graph_core.specs.Extended.{Extended}
-use Rattle.graph_core.specs.JudgedLines.{BeginsWith, IsTooLong}
-use Rattle.graph_core.specs.declared.order.Order.{Order}
+use Rattle.graph_core.specs.Algebra.Refusal.{IsRefusedNext}
+use Rattle.graph_core.specs.Algebra.Text.{IsCloseText, IsId, IsLineInRange, IsLineText}
+use Rattle.graph_core.specs.Graph.Extended.{Extended}
+use Rattle.graph_core.specs.Text.JudgedLines.{BeginsWith, IsTooLong}
+use Rattle.graph_core.specs.Graph.Operands.{Sides}
 use Rattle.mv_desk.specs.Calls.{ReadsOnly}
 use Rattle.mv_desk.specs.View.{KeepsTelling, Rose, View}
 use Rattle.mv_desk.specs.declared.faults.LineFail.{LineFail}
 use Rattle.mv_desk.specs.declared.slot.Slot.TheVariants as slot
 use Rattle.mv_fact.specs.Always.{Always}
-use Rattle.pac_checker.specs.Agreement.{Agree}
+use Rattle.graph_core.specs.Algebra.Agreement.{Agree}
 use Rattle.pac_checker.specs.Checking.{Checking, Takes, ledger_of}
 use Rattle.pac_checker.specs.Faults.{IsCloseFault, IsFault}
 use Rattle.pac_checker.specs.declared.fault.CloseFault.{CloseFault}
@@ -55,13 +55,13 @@ pub record ReadsNext (max : ℕ) (old : FileState) (before : View) (out : Result
 abbrev pub IsJudged : PacLine → Checking → Checking → Turn → Type 0
 IsJudged text old new turn.Taken = (line : Line) × (told old.table text ≡ Some line) × Takes line old new
 IsJudged text old new turn.Closed =
-    (id : ℕ) × (text ≡ pac.Close id) × Closes old.extended old.order (ledger_of old).live id × Always old.extended.gates (λ σ. specification old.extended old.order σ ≡ 0)
+    (id : ℕ) × (text ≡ pac.Close id) × Closes old.extended old.sides (ledger_of old).live id × Always old.extended.gates (λ σ. specification old.extended old.sides σ ≡ 0)
 
 -- Why it is refused, at this number.
 abbrev pub IsUnlawful : ℕ → PacLine → Checking → Checked → Type 0
 IsUnlawful n text c answer =
     ((line : Line) × (fault : LineFault) × (told c.table text ≡ Some line) × IsFault c.extended (ledger_of c) line fault × (answer ≡ answer_of_rule n fault)) ⊎
-    ((id : ℕ) × (fault : CloseFault) × (text ≡ pac.Close id) × IsCloseFault c.extended c.order (ledger_of c) id fault × (answer ≡ answer_of_close n fault))
+    ((id : ℕ) × (fault : CloseFault) × (text ≡ pac.Close id) × IsCloseFault c.extended c.sides (ledger_of c) id fault × (answer ≡ answer_of_close n fault))
 
 -- Where these bytes are left to a reader of lines: a line of them is too long for the whole file.
 abbrev pub IsLongIn : Lines → List ℕ → List ℕ → Type 0
@@ -78,28 +78,28 @@ pub record TakesLawful (e : Extended) (l next : Ledger) (old new : Lines) (left 
   pub passes : PassesLine old new left rest behind
 
 -- A closing line stands there, which closes.
-pub record TakesClosing (e : Extended) (order : Order) (l : Ledger) (old new : Lines) (left : List ℕ) (behind : Option (List ℕ)) : Type 0 where
+pub record TakesClosing (e : Extended) (sides : Sides) (l : Ledger) (old new : Lines) (left : List ℕ) (behind : Option (List ℕ)) : Type 0 where
   pub id : ℕ
   pub rest : List ℕ
   pub begins : BeginsWith IsCloseText left id rest
   pub in_range : IsId id
-  pub closes : Closes e order l.live id
+  pub closes : Closes e sides l.live id
   pub passes : PassesLine old new left rest behind
 
 -- What a line was. That the specification vanishes is known whether or not the desk tells the file.
-abbrev pub Turns : Extended → Order → Ledger → Ledger → Lines → Lines → Option (List ℕ) → Option (List ℕ) → Turn → Type 0
-Turns e order l next old new left behind turn.Taken = IfSome left (λ bytes. TakesLawful e l next old new bytes behind)
-Turns e order l next old new left behind turn.Closed =
-    IfSome left (λ bytes. TakesClosing e order l old new bytes behind) × Always e.gates (λ σ. specification e order σ ≡ 0)
+abbrev pub Turns : Extended → Sides → Ledger → Ledger → Lines → Lines → Option (List ℕ) → Option (List ℕ) → Turn → Type 0
+Turns e sides l next old new left behind turn.Taken = IfSome left (λ bytes. TakesLawful e l next old new bytes behind)
+Turns e sides l next old new left behind turn.Closed =
+    IfSome left (λ bytes. TakesClosing e sides l old new bytes behind) × Always e.gates (λ σ. specification e sides σ ≡ 0)
 
 -- Why the line with this number isn't taken: the first cause over the ledger, or a length that is met there.
-abbrev pub IsLineFail : ℕ → Extended → Order → Ledger → Lines → Option (List ℕ) → View → View → Checked → Type 0
-IsLineFail n e order l lines left before now (checked.Refused (refusal.Algebra line why)) =
-    (line ≡ n) × IfSome left (λ bytes. IsRefusedNext e order (IsLongIn lines bytes) l bytes (0, cause_of why))
-IsLineFail n e order l lines left before now (checked.TooLong slot.Algebra) = IfSome left (IsLongAhead lines)
-IsLineFail n e order l lines left before now checked.ReadFault = Rose before.read_faults now.read_faults
-IsLineFail n e order l lines left before now checked.Memory = ⊤
-IsLineFail n e order l lines left before now _ = ⊥
+abbrev pub IsLineFail : ℕ → Extended → Sides → Ledger → Lines → Option (List ℕ) → View → View → Checked → Type 0
+IsLineFail n e sides l lines left before now (checked.Refused (refusal.Algebra line why)) =
+    (line ≡ n) × IfSome left (λ bytes. IsRefusedNext e sides (IsLongIn lines bytes) l bytes (0, cause_of why))
+IsLineFail n e sides l lines left before now (checked.TooLong slot.Algebra) = IfSome left (IsLongAhead lines)
+IsLineFail n e sides l lines left before now checked.ReadFault = Rose before.read_faults now.read_faults
+IsLineFail n e sides l lines left before now checked.Memory = ⊤
+IsLineFail n e sides l lines left before now _ = ⊥
 
 -- Why the file doesn't end before the line with this number.
 abbrev pub IsEndFail : ℕ → Lines → Option (List ℕ) → View → View → Checked → Type 0

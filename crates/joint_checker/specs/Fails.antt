@@ -2,20 +2,19 @@
 use Rattle.std.specs.Prelude.{ℕ, List, IfSome, ⊤}
 use Rattle.std.specs.declared.option.Option.{Option}
 use Rattle.aiger_reader.specs.Refusals as reading
-use Rattle.graph_core.specs.AlgebraRefusal as cause
-use Rattle.graph_core.specs.AlgebraRefusal.{IsAlgebraRefusal}
-use Rattle.graph_core.specs.Extended.{without_cut}
-use Rattle.graph_core.specs.Graph.{Aig}
-use Rattle.graph_core.specs.JudgedLines.{Lengths}
-use Rattle.graph_core.specs.declared.order.Order.{Order}
+use Rattle.graph_core.specs.Algebra.Refusal as cause
+use Rattle.graph_core.specs.Graph.Operands.{Sides}
+use Rattle.graph_core.specs.Algebra.Refusal.{IsAlgebraRefusal}
+use Rattle.graph_core.specs.Graph.Extended.{Extended}
+use Rattle.graph_core.specs.Text.JudgedLines.{Lengths}
 use Rattle.mv_desk.specs.View.{Rose, View}
 use Rattle.mv_desk.specs.declared.slot.Slot.TheVariants as slot
 use Rattle.joint_checker.specs.declared.checked.Checked.{Checked}
 use Rattle.joint_checker.specs.declared.checked.Checked.TheVariants as checked
 use Rattle.joint_checker.specs.declared.checked.ClauseWhy.TheVariants as clause
 use Rattle.joint_checker.specs.declared.checked.Refusal.TheVariants as refusal
-use Rattle.joint_checker.specs.Certificates.{IsClauseRefusal}
-use Rattle.joint_checker.specs.Certificates as certificate
+use Rattle.graph_core.specs.Certificates.{IsClauseRefusal}
+use Rattle.graph_core.specs.Certificates as certificate
 use Rattle.joint_checker.specs.Outcome.{IsGraphRefusal, cause_of}
 
 -- of the graph file
@@ -34,10 +33,10 @@ IsClauseFail lengths text before now checked.ReadFault = Rose before.read_faults
 IsClauseFail lengths text before now checked.Memory = ⊤
 IsClauseFail lengths text before now _ = ⊥
 
--- of the algebra file, for a graph
-abbrev pub IsAlgebraFail : Lengths → Aig → Order → Option (List ℕ) → View → View → Checked → Type 0
-IsAlgebraFail lengths g order text before now (checked.Refused (refusal.Algebra line why)) = IfSome text (λ bytes. IsAlgebraRefusal (without_cut g) order lengths bytes (line, cause_of why))
-IsAlgebraFail lengths g order text before now (checked.TooLong slot.Algebra) = IfSome text (λ bytes. (line : ℕ) × IsAlgebraRefusal (without_cut g) order lengths bytes (line, cause.TooLong))
-IsAlgebraFail lengths g order text before now checked.ReadFault = Rose before.read_faults now.read_faults
-IsAlgebraFail lengths g order text before now checked.Memory = ⊤
-IsAlgebraFail lengths g order text before now _ = ⊥
+-- of the algebra file, for an extended graph and operands
+abbrev pub IsAlgebraFail : Lengths → Extended → Sides → Option (List ℕ) → View → View → Checked → Type 0
+IsAlgebraFail lengths e sides text before now (checked.Refused (refusal.Algebra line why)) = IfSome text (λ bytes. IsAlgebraRefusal e sides lengths bytes (line, cause_of why))
+IsAlgebraFail lengths e sides text before now (checked.TooLong slot.Algebra) = IfSome text (λ bytes. (line : ℕ) × IsAlgebraRefusal e sides lengths bytes (line, cause.TooLong))
+IsAlgebraFail lengths e sides text before now checked.ReadFault = Rose before.read_faults now.read_faults
+IsAlgebraFail lengths e sides text before now checked.Memory = ⊤
+IsAlgebraFail lengths e sides text before now _ = ⊥

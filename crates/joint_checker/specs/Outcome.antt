@@ -4,11 +4,11 @@ use Rattle.aiger_reader.specs.Refusals as reading
 use Rattle.aiger_reader.specs.Refusals.{Refuses}
 use Rattle.aiger_reader.specs.declared.fail.ReadFail.{ReadFail}
 use Rattle.aiger_reader.specs.declared.fail.ReadFail.TheVariants as fail
-use Rattle.graph_core.specs.AlgebraRefusal as cause
-use Rattle.graph_core.specs.AlgebraRefusal.{AlgebraCause, IsAlgebraRefusal}
-use Rattle.graph_core.specs.Extended.{without_cut}
+use Rattle.graph_core.specs.Algebra.Refusal as cause
+use Rattle.graph_core.specs.Algebra.Refusal.{AlgebraCause, IsAlgebraRefusal}
+use Rattle.graph_core.specs.Graph.Extended.{Extended}
 use Rattle.graph_core.specs.Graph.{Aig}
-use Rattle.graph_core.specs.Operands.{Multiplies}
+use Rattle.graph_core.specs.Graph.Operands.{Multiplies, sides_of}
 use Rattle.graph_core.specs.declared.order.Order.{Order}
 use Rattle.mv_desk.specs.View.{View, SlotStays, Rose}
 use Rattle.mv_desk.specs.declared.limits.Limits.{Limits}
@@ -20,9 +20,9 @@ use Rattle.joint_checker.specs.declared.checked.Checked.{Checked}
 use Rattle.joint_checker.specs.declared.checked.Checked.TheVariants as checked
 use Rattle.joint_checker.specs.declared.checked.ClauseWhy.TheVariants as clause
 use Rattle.joint_checker.specs.declared.checked.Refusal.TheVariants as refusal
-use Rattle.joint_checker.specs.Certificates.{IsClauseRefusal, IsLawfulPair, IsNoCut}
-use Rattle.joint_checker.specs.Certificates as certificate
-use Rattle.joint_checker.specs.Files.{AreTold, Files, HasGraph, Texts, texts_of}
+use Rattle.graph_core.specs.Certificates.{IsClauseRefusal}
+use Rattle.graph_core.specs.Certificates as certificate
+use Rattle.joint_checker.specs.Files.{AreTold, Files, HasExtended, HasGraph, HasLawfulPair, Texts, texts_of}
 
 -- ---- what the three files come to
 
@@ -46,19 +46,19 @@ cause_of why.NotSpec = cause.NotSpecification
 abbrev pub MeetsClauses : Limits → Texts → (List ℕ → Type 0) → Type 0
 MeetsClauses limits texts P = HasGraph limits.graph texts (λ g. ⊤) × IfSome texts.clauses P
 
--- The graph is spelled, the clause file is the one that replaces nothing, and something holds of the graph and the algebra file.
-abbrev pub MeetsAlgebra : Limits → Texts → (Aig → List ℕ → Type 0) → Type 0
-MeetsAlgebra limits texts P = IfSome texts.clauses (IsNoCut (lengths_of limits)) × HasGraph limits.graph texts (λ g. IfSome texts.algebra (P g))
+-- The graph is spelled, the clause file gives an extended one, and something holds of both and of the algebra file.
+abbrev pub MeetsAlgebra : Limits → Texts → (Aig → Extended → List ℕ → Type 0) → Type 0
+MeetsAlgebra limits texts P = HasExtended limits texts (λ g e. IfSome texts.algebra (P g e))
 
 -- The answer that is due: the pair is lawful, or the first refusal, or a length that is met before any refusal.
 abbrev pub IsDue : Limits → Order → Texts → Checked → Type 0
-IsDue limits order texts checked.Accepted = IsLawfulPair limits order texts
+IsDue limits order texts checked.Accepted = HasLawfulPair limits order texts
 IsDue limits order texts (checked.Graph why) = IfSome texts.graph (λ bytes. IsGraphRefusal limits.graph bytes why)
 IsDue limits order texts (checked.TooLong slot.Graph) = IfSome texts.graph (reading.IsTooLong limits.graph)
 IsDue limits order texts (checked.Refused (refusal.Clauses line clause.Text)) = MeetsClauses limits texts (λ bytes. IsClauseRefusal (lengths_of limits) bytes (line, certificate.Text))
 IsDue limits order texts (checked.TooLong slot.Clauses) = MeetsClauses limits texts (λ bytes. (line : ℕ) × IsClauseRefusal (lengths_of limits) bytes (line, certificate.TooLong))
-IsDue limits order texts (checked.Refused (refusal.Algebra line why)) = MeetsAlgebra limits texts (λ g bytes. IsAlgebraRefusal (without_cut g) order (lengths_of limits) bytes (line, cause_of why))
-IsDue limits order texts (checked.TooLong slot.Algebra) = MeetsAlgebra limits texts (λ g bytes. (line : ℕ) × IsAlgebraRefusal (without_cut g) order (lengths_of limits) bytes (line, cause.TooLong))
+IsDue limits order texts (checked.Refused (refusal.Algebra line why)) = MeetsAlgebra limits texts (λ g e bytes. IsAlgebraRefusal e (sides_of order g) (lengths_of limits) bytes (line, cause_of why))
+IsDue limits order texts (checked.TooLong slot.Algebra) = MeetsAlgebra limits texts (λ g e bytes. (line : ℕ) × IsAlgebraRefusal e (sides_of order g) (lengths_of limits) bytes (line, cause.TooLong))
 IsDue limits order texts _ = ⊥
 
 -- ---- what `check` answers
@@ -66,7 +66,7 @@ IsDue limits order texts _ = ⊥
 -- Where each answer comes, as far as the desk tells the files.
 abbrev pub IsOutcome : Limits → Order → Files → View → View → Checked → Type 0
 IsOutcome limits order files before after checked.Accepted =
-    IsLawfulPair limits order (texts_of before files) × HasGraph limits.graph (texts_of before files) (λ g. Multiplies g order)
+    HasLawfulPair limits order (texts_of before files) × HasGraph limits.graph (texts_of before files) (λ g. Multiplies g order)
 IsOutcome limits order files before after checked.ReadFault = Rose before.read_faults after.read_faults
 IsOutcome limits order files before after checked.Memory = ⊤
 IsOutcome limits order files before after outcome = IsDue limits order (texts_of before files) outcome
@@ -89,10 +89,10 @@ IsOfClauses _ = ⊥
 abbrev pub NeedsClauses : Limits → Texts → Checked → Type 0
 NeedsClauses limits texts answer = HasGraph limits.graph texts (λ g. ⊤) × ¬ (IsOfGraph answer)
 
--- The algebra file is needed: moreover the clause file is the one that replaces nothing, and the answer isn't one of it.
+-- The algebra file is needed: moreover the clause file gives an extended graph, and the answer isn't one of it.
 abbrev pub NeedsAlgebra : Limits → Texts → Checked → Type 0
 NeedsAlgebra limits texts answer =
-    NeedsClauses limits texts answer × IfSome texts.clauses (IsNoCut (lengths_of limits)) × ¬ (IsOfClauses answer)
+    NeedsClauses limits texts answer × HasExtended limits texts (λ g e. ⊤) × ¬ (IsOfClauses answer)
 
 -- Each certificate is opened only when it is needed: else its slot is as it was. The slot `Other` always is.
 pub record OpensNeeded (limits : Limits) (texts : Texts) (before after : View) (answer : Checked) : Type 0 where

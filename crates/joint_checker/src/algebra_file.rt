@@ -1,25 +1,25 @@
 // The algebra certificate, line by line.
 ghost use Rattle.std.specs.Prelude.{◌≡◌, ◌≢◌, ◌<◌, ◌^◌, true, None, IfErr, IfSome, OnOk};
-ghost use Rattle.graph_core.specs.Algebra.{axioms, specification};
-ghost use Rattle.graph_core.specs.Extended.{without_cut};
-ghost use Rattle.graph_core.specs.Soundness.{IsMultiplierSized};
+ghost use Rattle.graph_core.specs.Graph.Operands.{sides_of};
+ghost use Rattle.graph_core.specs.Algebra.{AgreeOnColumns, axioms, specification};
+ghost use Rattle.graph_core.specs.Aiger.Soundness.{IsMultiplierSized};
 ghost use Rattle.mv_desk.specs.Calls.{Inspects, ReadsOnly};
 ghost use Rattle.mv_desk.specs.View.{KeepsTelling, SlotStays, bytes_under};
 ghost use Rattle.mv_desk.specs.declared.slot.Slot.{Slot};
 ghost use Rattle.mv_desk.specs.declared.slot.Slot.TheVariants as slot;
 ghost use Rattle.mv_fact.specs.Always.{Always};
-ghost use Rattle.pac_checker.specs.Agreement.{Agree};
+ghost use Rattle.graph_core.specs.Algebra.Agreement.{Agree};
 ghost use Rattle.pac_checker.specs.Checking.{ledger_of};
 ghost use Rattle.poly_text.specs.LineReading.{lengths_of};
 ghost use Rattle.joint_checker.specs.AlgebraBody.{IsBodyFail, IsLawfulBody};
 ghost use Rattle.joint_checker.specs.AlgebraLines.{left_in};
-ghost use Rattle.joint_checker.specs.Certificates.{IsLawfulAlgebra};
+ghost use Rattle.graph_core.specs.Certificates.{IsLawfulAlgebra};
 ghost use Rattle.joint_checker.specs.Fails.{IsAlgebraFail};
 
 use crate::algebra_line::{Turn, judge_end, judge_line, line_refused};
 use crate::checked::Checked;
 use crate::read_line::ReadLine;
-use graph_core::{Graph, Operands, Order};
+use graph_core::{Operands, Order};
 use mv_desk::{Desk, Limits, Slot};
 use pac_checker::PacChecker;
 use poly_text::AlgebraFile;
@@ -27,21 +27,23 @@ use ripple_graft::Extended;
 use std::alloc::Global;
 use std::marker::PhantomData;
 
-/// Whether a file is a lawful algebra certificate for a graph of which nothing is replaced.
+/// Whether a file is a lawful algebra certificate for an extended graph.
 pub(crate) fn check_algebra<D: Desk>(
     alloc: Global,
     desk: &mut D,
     limits: &Limits,
     name: &str,
-    graph: &Graph,
+    extended: &Extended<'_>,
     order: Order,
 ) -> Result<(), Checked>
-    requires { IsMultiplierSized graph.now }
+    requires sized { IsMultiplierSized extended.now.graph }
+    requires columns { Always extended.now.gates (AgreeOnColumns extended.now) }
     ensures lawful { OnOk result (IfSome (bytes_under (D.seen desk.old) name.now)
-        (IsLawfulAlgebra (lengths_of limits.now) graph.now order)) }
-    ensures vanishes { OnOk result (Always graph.now.gates
-        (λ σ. specification (without_cut graph.now) order σ ≡ 0)) }
-    ensures refused { IfErr result (IsAlgebraFail (lengths_of limits.now) graph.now order
+        (IsLawfulAlgebra (lengths_of limits.now) extended.now (sides_of order extended.now.graph))) }
+    ensures vanishes { OnOk result (Always extended.now.gates
+        (λ σ. specification extended.now (sides_of order extended.now.graph) σ ≡ 0)) }
+    ensures refused { IfErr result (IsAlgebraFail (lengths_of limits.now)
+        extended.now (sides_of order extended.now.graph)
         (bytes_under (D.seen desk.old) name.now) (D.seen desk.old) (D.seen desk.new)) }
     ensures others { (other : Slot) → other ≢ slot.Algebra →
         SlotStays other (D.seen desk.old) (D.seen desk.new) }
@@ -49,7 +51,7 @@ pub(crate) fn check_algebra<D: Desk>(
     ensures tells { KeepsTelling (D.seen desk.old) (D.seen desk.new) }
 {
     match desk.open_file(Slot::Algebra, name) {
-        Ok(()) => judge_algebra(alloc, desk, limits, graph, order),
+        Ok(()) => judge_algebra(alloc, desk, limits, extended, order),
         Err(_) => Err(Checked::ReadFault),
     }
 }
@@ -59,16 +61,18 @@ fn judge_algebra<D: Desk>(
     alloc: Global,
     desk: &mut D,
     limits: &Limits,
-    graph: &Graph,
+    extended: &Extended<'_>,
     order: Order,
 ) -> Result<(), Checked>
     requires reads { (D.seen desk.old).reads slot.Algebra ≡ true }
-    requires sized { IsMultiplierSized graph.now }
+    requires sized { IsMultiplierSized extended.now.graph }
+    requires columns { Always extended.now.gates (AgreeOnColumns extended.now) }
     ensures lawful { OnOk result (IfSome ((D.seen desk.old).left slot.Algebra)
-        (IsLawfulAlgebra (lengths_of limits.now) graph.now order)) }
-    ensures vanishes { OnOk result (Always graph.now.gates
-        (λ σ. specification (without_cut graph.now) order σ ≡ 0)) }
-    ensures refused { IfErr result (IsAlgebraFail (lengths_of limits.now) graph.now order
+        (IsLawfulAlgebra (lengths_of limits.now) extended.now (sides_of order extended.now.graph))) }
+    ensures vanishes { OnOk result (Always extended.now.gates
+        (λ σ. specification extended.now (sides_of order extended.now.graph) σ ≡ 0)) }
+    ensures refused { IfErr result (IsAlgebraFail (lengths_of limits.now)
+        extended.now (sides_of order extended.now.graph)
         ((D.seen desk.old).left slot.Algebra) (D.seen desk.old) (D.seen desk.new)) }
     ensures only { ReadsOnly slot.Algebra (D.seen desk.old) (D.seen desk.new) }
     ensures tells { KeepsTelling (D.seen desk.old) (D.seen desk.new) }
@@ -77,12 +81,11 @@ fn judge_algebra<D: Desk>(
         Ok(file) => file,
         Err(fail) => return Err(line_refused(1, fail)),
     };
-    let extended = Extended::without_cut(graph);
-    let operands = Operands::of(alloc, graph, order)?;
-    let mut checker = PacChecker::new(alloc, &extended, &operands)?;
+    let operands = Operands::of(alloc, extended.graph(), order)?;
+    let mut checker = PacChecker::new(alloc, extended, &operands)?;
     let mut work = ReadLine {
         file,
-        max: graph.max(),
+        max: extended.max(),
         desk: PhantomData,
     };
     judge_lines(desk, &mut checker, &mut work)
@@ -100,10 +103,10 @@ fn judge_lines<D: Desk>(
     requires max { work.old.max ≡ checker.old.extended.max }
     requires axioms { Agree (ledger_of checker.old) (axioms checker.old.extended) }
     ensures lawful { OnOk result (IfSome (left_in work.old.file (D.seen desk.old))
-        (IsLawfulBody checker.old.extended checker.old.order work.old.file.lines)) }
+        (IsLawfulBody checker.old.extended checker.old.sides work.old.file.lines)) }
     ensures vanishes { OnOk result (Always checker.old.extended.gates
-        (λ σ. specification checker.old.extended checker.old.order σ ≡ 0)) }
-    ensures refused { IfErr result (IsBodyFail checker.old.extended checker.old.order
+        (λ σ. specification checker.old.extended checker.old.sides σ ≡ 0)) }
+    ensures refused { IfErr result (IsBodyFail checker.old.extended checker.old.sides
         work.old.file.lines (left_in work.old.file (D.seen desk.old))
         (D.seen desk.old) (D.seen desk.new)) }
     ensures only { ReadsOnly slot.Algebra (D.seen desk.old) (D.seen desk.new) }

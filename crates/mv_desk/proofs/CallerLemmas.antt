@@ -1,10 +1,12 @@
 -- What calls on a desk do one after the other: what the crates above may cite of this crate's proofs.
-use Rattle.std.proofs.Common.{◌≡◌, ◌≢◌, ◌≤◌, ℕ, List, [], ◌++◌, None, Some, Option, refl, sym, ap, ◌∙◌, append_assoc, append-nil, ◌-◌, length, take, drop, take-append-drop, take_all, length-drop, subst, arith}
+use Rattle.std.proofs.Common.{◌≡◌, ◌≢◌, ◌≤◌, ℕ, List, [], ◌++◌, None, Some, Option, refl, sym, ap, ◌∙◌, append_assoc, append-nil, ◌+◌, ◌-◌, suc, zero, add-zero, add-suc, length, take, drop, take-append-drop, take_all, length-drop, subst, arith}
+use Rattle.std.specs.Io.{StartsWith}
 use Rattle.std.specs.Io.KnownBytes.{Keeps}
-use Rattle.std.specs.Prelude.{IfSome, Result, option_map, unwrap_or}
-use Rattle.std.proofs.KnownBytes.{Appends-nil, Appends-trans}
-use Rattle.mv_desk.specs.Calls.{AreApart, BytesGrow, Creates, HasReadCause, HeldGrows, Inspects, Opens, OtherStays, ReadsOnly, WritesTo}
-use Rattle.mv_desk.specs.View.{HasReport, IsSame, KeepsTelling, ModeStays, SlotStays, View, bytes_under}
+use Rattle.std.specs.Prelude.{IfSome, Result, Ok, Err, option_map, unwrap_or}
+use Rattle.std.proofs.KnownBytes.{Appends-nil, Appends-trans, starts_with_rest}
+use Rattle.std.proofs.Transfers.{starts_with_of_append}
+use Rattle.mv_desk.specs.Calls.{AreApart, BytesGrow, Creates, HasReadCause, HasWriteCause, HeldGrows, Inspects, Opens, OtherStays, ReadsOnly, WritesPart, WritesTo}
+use Rattle.mv_desk.specs.View.{HasReport, IsSame, KeepsTelling, ModeStays, OpensFiles, SlotStays, View, bytes_under, raised, raised_by}
 use Rattle.mv_desk.specs.HonestDesk.{view_of}
 use Rattle.mv_desk.specs.declared.memory.honest_desk.HonestDesk.{HonestDesk}
 use Rattle.mv_desk.specs.declared.slot.Slot.{Slot}
@@ -48,6 +50,7 @@ ReadsOnly-refl slot a = record {
   held = λ _. refl;
   later = omega arith;
   write_faults = refl;
+  opened = refl;
 }
 
 pub ReadsOnly-trans : (slot : Slot) (a b c : View) → ReadsOnly slot a b → ReadsOnly slot b c → ReadsOnly slot a c
@@ -61,6 +64,7 @@ ReadsOnly-trans slot a b c p q =
       held = λ name. q.held name ∙ p.held name;
       later = omega arith;
       write_faults = q.write_faults ∙ p.write_faults;
+      opened = q.opened ∙ p.opened;
     }
 
 -- how each slot is open stays, while one is read or written
@@ -134,6 +138,22 @@ Inspects-ReadsOnly slot a b apart only = record {
   later = only.later;
   write_faults = only.write_faults;
 }
+
+-- ---- how many files were opened
+
+raised_by-raised_by : (first second count : ℕ) → raised_by second (raised_by first count) ≡ raised_by (first + second) count
+raised_by-raised_by first zero count = rw (add-zero first) refl
+raised_by-raised_by first (suc second) count = rw (add-suc first second) (ap raised (raised_by-raised_by first second count))
+
+pub OpensFiles-refl : (a : View) → OpensFiles 0 a a
+OpensFiles-refl a = refl
+
+pub OpensFiles-trans : (first second : ℕ) (a b c : View) → OpensFiles first a b → OpensFiles second b c → OpensFiles (first + second) a c
+OpensFiles-trans first second a b c p q = q ∙ ap (raised_by second) p ∙ raised_by-raised_by first second a.opened
+
+-- a call that opened none
+pub OpensFiles-still : (count : ℕ) (a b c : View) → OpensFiles count a b → c.opened ≡ b.opened → OpensFiles count a c
+OpensFiles-still count a b c p same = same ∙ p
 
 -- the bytes under a name stay with what is held
 pub bytes_under-held : (a b : View) (name : List ℕ) → b.held name ≡ a.held name → bytes_under b name ≡ bytes_under a name
@@ -216,6 +236,55 @@ WritesTo-same slot p a b c first same = rw (append-nil p) at (WritesTo-trans slo
       others = λ other _. let one = same.slots other in record { mode = one.mode; written = one.written; left = λ _. one.left };
       held = λ name _. same.held name;
     }
+
+-- no write failed yet
+pub HasWriteCause-none : {T E : Type 0} (done : T) (a : View) → HasWriteCause {T = T} {E = E} a a (Ok done)
+HasWriteCause-none done a = record { later = omega arith; stands = refl; rose = tt; read_faults = refl; opened = refl }
+
+-- a call that succeeded, and another
+pub HasWriteCause-then : {S T F E : Type 0} (done : S) (a b c : View) (result : Result T E)
+    → HasWriteCause {T = S} {E = F} a b (Ok done) → HasWriteCause b c result → HasWriteCause a c result
+HasWriteCause-then done a b c (Ok x) p q =
+    let first = p.later in
+    let second = q.later in
+    record {
+      later = omega arith;
+      stands = q.stands ∙ p.stands;
+      rose = tt;
+      read_faults = q.read_faults ∙ p.read_faults;
+      opened = q.opened ∙ p.opened;
+    }
+HasWriteCause-then done a b c (Err e) p q =
+    let first = p.later in
+    let second = q.later in
+    let rose = q.rose in
+    record {
+      later = omega arith;
+      stands = tt;
+      rose = omega arith;
+      read_faults = q.read_faults ∙ p.read_faults;
+      opened = q.opened ∙ p.opened;
+    }
+
+starts_longer : (xs ys prefix : List ℕ) → StartsWith xs prefix → StartsWith (xs ++ ys) prefix
+starts_longer xs ys prefix h =
+    starts_with_of_append (xs ++ ys) prefix (drop (length prefix) xs ++ ys) (ap (λ (l : List ℕ). l ++ ys) (starts_with_rest xs prefix h) ∙ append_assoc prefix (drop (length prefix) xs) ys)
+
+starts_behind : (front xs prefix : List ℕ) → StartsWith xs prefix → StartsWith (front ++ xs) (front ++ prefix)
+starts_behind front xs prefix h =
+    starts_with_of_append (front ++ xs) (front ++ prefix) (drop (length prefix) xs) (ap (λ (l : List ℕ). front ++ l) (starts_with_rest xs prefix h) ∙ sym (append_assoc front prefix (drop (length prefix) xs)))
+
+-- a front part of these bytes is one of longer ones
+pub WritesPart-longer : (slot : Slot) (bytes more : List ℕ) (a b : View) → WritesPart slot bytes a b → WritesPart slot (bytes ++ more) a b
+WritesPart-longer slot bytes more a b h = record { part = h.part; starts = starts_longer bytes more h.part h.starts; writes = h.writes }
+
+-- bytes, and a front part of those behind them
+pub WritesPart-behind : (slot : Slot) (bytes more : List ℕ) (a b c : View) → WritesTo slot bytes a b → WritesPart slot more b c → WritesPart slot (bytes ++ more) a c
+WritesPart-behind slot bytes more a b c p q = record {
+  part = bytes ++ q.part;
+  starts = starts_behind bytes more q.part q.starts;
+  writes = WritesTo-trans slot a b c bytes q.part p q.writes;
+}
 
 -- bytes are those up to a place, and those from it on
 pub split_at : (bytes : List ℕ) (count most : ℕ) → length bytes - count ≤ most → bytes ≡ take count bytes ++ take most (drop count bytes)

@@ -10,6 +10,7 @@ use Rattle.mv_desk.specs.Calls.{Becomes, Creates, Opens, OtherStays, ReadsOnly, 
 use Rattle.mv_desk.specs.Files.{File, IsFirst, file_at, held_at, is_named}
 use Rattle.mv_desk.specs.Memory.{AllFit, WritesInto, is_read, is_written, left_of, memory_view, name_of, place_at, with_place, written_of}
 use Rattle.mv_desk.specs.View.{SlotStays}
+use Rattle.mv_desk.specs.declared.counts.Counts.{Counts}
 use Rattle.mv_desk.specs.declared.memory.bytes.Bytes.{Bytes}
 use Rattle.mv_desk.specs.declared.memory.place.Place.{Place}
 use Rattle.mv_desk.specs.declared.memory.place.Place.TheVariants as place
@@ -25,9 +26,9 @@ becomes None new value is = rw is refl
 becomes (Some before) new value is = is
 
 -- a slot that keeps its place, over the same files
-pub stays : (fs : List File) (p : Places) (s t : Slot) (q : Place) (r w r' w' : ℕ) → t ≢ s
-    → SlotStays t (memory_view fs p r w) (memory_view fs (with_place p s q) r' w')
-stays fs p s t q r w r' w' other =
+pub stays : (fs : List File) (p : Places) (s t : Slot) (q : Place) (counts counts' : Counts) → t ≢ s
+    → SlotStays t (memory_view fs p counts) (memory_view fs (with_place p s q) counts')
+stays fs p s t q counts counts' other =
     let e = put_other p s t q other in
     record {
       mode = record { reads = ap is_read e; writes = ap is_written e; name = ap (name_of fs) e };
@@ -35,9 +36,9 @@ stays fs p s t q r w r' w' other =
       written = ap (λ (x : Place). Some (written_of x)) e;
     }
 
-pub opens : (fs : List File) (p : Places) (s : Slot) (name : List ℕ) (i r w : ℕ) → position (is_named name) fs ≡ Some i
-    → Opens s name (memory_view fs p r w) (memory_view fs (with_place p s (place.Reading i 0)) r w)
-opens fs p s name i r w found =
+pub opens : (fs : List File) (p : Places) (s : Slot) (name : List ℕ) (i : ℕ) (counts counts' : Counts) → position (is_named name) fs ≡ Some i
+    → Opens s name (memory_view fs p counts) (memory_view fs (with_place p s (place.Reading i 0)) counts')
+opens fs p s name i counts counts' found =
     let one = first_found fs name i found in
     let here = put_same p s (place.Reading i 0) in
     let held : held_at fs name ≡ Some (file_at fs i).1 = rw one.1 at (held_first fs i one.0) in
@@ -47,27 +48,28 @@ opens fs p s name i r w found =
       writes = rw here refl;
       name = rw here (ap Some one.1);
       named = λ _ _. rw here refl;
-      others = λ t other. stays fs p s t (place.Reading i 0) r w r w other;
+      others = λ t other. stays fs p s t (place.Reading i 0) counts counts' other;
       held = λ n. refl;
     }
 
-pub reads_only : (fs : List File) (p : Places) (s : Slot) (i at at' r w : ℕ) → place_at p s ≡ place.Reading i at
-    → ReadsOnly s (memory_view fs p r w) (memory_view fs (with_place p s (place.Reading i at')) r w)
-reads_only fs p s i at at' r w was =
+pub reads_only : (fs : List File) (p : Places) (s : Slot) (i at at' : ℕ) (counts : Counts) → place_at p s ≡ place.Reading i at
+    → ReadsOnly s (memory_view fs p counts) (memory_view fs (with_place p s (place.Reading i at')) counts)
+reads_only fs p s i at at' counts was =
     let here = put_same p s (place.Reading i at') in
     record {
       mode = record { reads = rw (here, was) refl; writes = rw (here, was) refl; name = rw (here, was) refl };
       written = rw (here, was) refl;
-      others = λ t other. stays fs p s t (place.Reading i at') r w r w other;
+      others = λ t other. stays fs p s t (place.Reading i at') counts counts other;
       held = λ n. refl;
       later = omega arith;
       write_faults = refl;
+      opened = refl;
     }
 
 -- another slot, where one file was changed under its name
-other_set : (fs : List File) (p : Places) (s t : Slot) (q : Place) (i : ℕ) (g : File) (r w : ℕ) → i < length fs → g.0 ≡ (file_at fs i).0 → t ≢ s
-    → OtherStays (Some (Some g.0)) t (memory_view fs p r w) (memory_view (set fs i g) (with_place p s q) r w)
-other_set fs p s t q i g r w below same other =
+other_set : (fs : List File) (p : Places) (s t : Slot) (q : Place) (i : ℕ) (g : File) (counts : Counts) → i < length fs → g.0 ≡ (file_at fs i).0 → t ≢ s
+    → OtherStays (Some (Some g.0)) t (memory_view fs p counts) (memory_view (set fs i g) (with_place p s q) counts)
+other_set fs p s t q i g counts below same other =
     let e = put_other p s t q other in
     record {
       mode = record { reads = ap is_read e; writes = ap is_written e; name = ap (name_of (set fs i g)) e ∙ name_set fs i g (place_at p t) below same };
@@ -75,10 +77,10 @@ other_set fs p s t q i g r w below same other =
       left = λ apart. ap (λ (x : Place). Some (left_of (set fs i g) x)) e ∙ ap Some (left_set fs i g (place_at p t) below same apart);
     }
 
-pub creates_set : (fs : List File) (p : Places) (s : Slot) (name : List ℕ) (written : Bytes) (i : ℕ) (g : File) (r w : ℕ)
+pub creates_set : (fs : List File) (p : Places) (s : Slot) (name : List ℕ) (written : Bytes) (i : ℕ) (g : File) (counts : Counts)
     → position (is_named name) fs ≡ Some i → g.0 ≡ (file_at fs i).0 → g.1 ≡ [] → written ≡ []
-    → Creates s name (memory_view fs p r w) (memory_view (set fs i g) (with_place p s (place.Writing i written)) r w)
-creates_set fs p s name written i g r w found same empty none =
+    → Creates s name (memory_view fs p counts) (memory_view (set fs i g) (with_place p s (place.Writing i written)) counts)
+creates_set fs p s name written i g counts found same empty none =
     let one = first_found fs name i found in
     let named : g.0 ≡ name = same ∙ one.1 in
     let here = put_same p s (place.Writing i written) in
@@ -89,14 +91,14 @@ creates_set fs p s name written i g r w found same empty none =
       name = becomes (name_of fs (place_at p s)) _ _ (rw here (ap (λ (n : List ℕ). Some (Some n)) (set_names fs i i g one.0.within same ∙ one.1)));
       written = rw here (ap Some none);
       bytes = ap Some held;
-      others = λ t other. subst (λ (n : List ℕ). OtherStays (Some (Some n)) t (memory_view fs p r w) (memory_view (set fs i g) (with_place p s (place.Writing i written)) r w)) named (other_set fs p s t (place.Writing i written) i g r w one.0.within same other);
+      others = λ t other. subst (λ (n : List ℕ). OtherStays (Some (Some n)) t (memory_view fs p counts) (memory_view (set fs i g) (with_place p s (place.Writing i written)) counts)) named (other_set fs p s t (place.Writing i written) i g counts one.0.within same other);
       held = λ n other. ap Some (held_set_other fs i g n same (λ e. other (e ∙ named)));
     }
 
-pub creates_push : (fs : List File) (p : Places) (s : Slot) (name : List ℕ) (written : Bytes) (g : File) (r w : ℕ)
+pub creates_push : (fs : List File) (p : Places) (s : Slot) (name : List ℕ) (written : Bytes) (g : File) (counts : Counts)
     → AllFit fs p → position (is_named name) fs ≡ None → g.0 ≡ name → g.1 ≡ [] → written ≡ []
-    → Creates s name (memory_view fs p r w) (memory_view (fs ++ g ∷ []) (with_place p s (place.Writing (length fs) written)) r w)
-creates_push fs p s name written g r w fit none_named named empty none =
+    → Creates s name (memory_view fs p counts) (memory_view (fs ++ g ∷ []) (with_place p s (place.Writing (length fs) written)) counts)
+creates_push fs p s name written g counts fit none_named named empty none =
     let missing : position (is_named g.0) fs ≡ None = rw named none_named in
     let here = put_same p s (place.Writing (length fs) written) in
     let file : file_at (fs ++ g ∷ []) (length fs) ≡ g = get_or-append_seam fs g [] ([], []) in
@@ -117,9 +119,9 @@ creates_push fs p s name written g r w fit none_named named empty none =
       held = λ n other. ap Some (held_push_other fs g n (λ e. other (e ∙ named)));
     }
 
-pub writes_file : (fs : List File) (p : Places) (s : Slot) (piece : List ℕ) (i : ℕ) (written : Bytes) (r w : ℕ) → IsFirst fs i → place_at p s ≡ place.Writing i written
-    → WritesTo s piece (memory_view fs p r w) (memory_view (set fs i ((file_at fs i).0, (file_at fs i).1 ++ piece)) (with_place p s (place.Writing i (written ++ piece))) r w)
-writes_file fs p s piece i written r w one was =
+pub writes_file : (fs : List File) (p : Places) (s : Slot) (piece : List ℕ) (i : ℕ) (written : Bytes) (counts : Counts) → IsFirst fs i → place_at p s ≡ place.Writing i written
+    → WritesTo s piece (memory_view fs p counts) (memory_view (set fs i ((file_at fs i).0, (file_at fs i).1 ++ piece)) (with_place p s (place.Writing i (written ++ piece))) counts)
+writes_file fs p s piece i written counts one was =
     let g : File = ((file_at fs i).0, (file_at fs i).1 ++ piece) in
     let here = put_same p s (place.Writing i (written ++ piece)) in
     let before = held_first fs i one in
@@ -128,19 +130,19 @@ writes_file fs p s piece i written r w one was =
       mode = record { reads = rw (here, was) refl; writes = rw (here, was) refl; name = rw (here, was) (ap (λ (n : List ℕ). Some (Some n)) (set_names fs i i g one.within refl)) };
       written = rw (here, was) refl;
       bytes = rw (was, before, after) refl;
-      others = λ t other. rw was (other_set fs p s t (place.Writing i (written ++ piece)) i g r w one.within refl other);
+      others = λ t other. rw was (other_set fs p s t (place.Writing i (written ++ piece)) i g counts one.within refl other);
       held = λ n apart. let other = rw was at apart in ap Some (held_set_other fs i g n refl (λ e. other (sym e)));
     }
 
-pub writes_printed : (fs : List File) (p : Places) (s : Slot) (piece : List ℕ) (written : Bytes) (r w : ℕ) → place_at p s ≡ place.Printing written
-    → WritesTo s piece (memory_view fs p r w) (memory_view fs (with_place p s (place.Printing (written ++ piece))) r w)
-writes_printed fs p s piece written r w was =
+pub writes_printed : (fs : List File) (p : Places) (s : Slot) (piece : List ℕ) (written : Bytes) (counts : Counts) → place_at p s ≡ place.Printing written
+    → WritesTo s piece (memory_view fs p counts) (memory_view fs (with_place p s (place.Printing (written ++ piece))) counts)
+writes_printed fs p s piece written counts was =
     let here = put_same p s (place.Printing (written ++ piece)) in
     record {
       mode = record { reads = rw (here, was) refl; writes = rw (here, was) refl; name = rw (here, was) refl };
       written = rw (here, was) refl;
       bytes = rw was tt;
-      others = λ t other. let one = stays fs p s t (place.Printing (written ++ piece)) r w r w other in
+      others = λ t other. let one = stays fs p s t (place.Printing (written ++ piece)) counts counts other in
           record { mode = one.mode; written = one.written; left = λ _. one.left };
       held = λ n other. refl;
     }
@@ -148,15 +150,15 @@ writes_printed fs p s piece written r w was =
 -- what a write into a place leaves
 pub wrote : (fs : List File) (p : Places) (s : Slot) (piece : List ℕ) (was : Place) (gs : List File) (q : Place) → AllFit fs p → place_at p s ≡ was → is_written was ≡ true
     → WritesInto piece fs was gs q
-    → AllFit gs (with_place p s q) × ((r w : ℕ) → WritesTo s piece (memory_view fs p r w) (memory_view gs (with_place p s q) r w))
+    → AllFit gs (with_place p s q) × ((counts : Counts) → WritesTo s piece (memory_view fs p counts) (memory_view gs (with_place p s q) counts))
 wrote fs p s piece (place.Writing i written) gs q all was writes (files, new) =
     let one = fit_at fs p s (place.Writing i written) all was in
     rw (files, new) (
       all_fit_set fs p s (place.Writing i (written ++ piece)) i ((file_at fs i).0, (file_at fs i).1 ++ piece) all one one.within refl,
-      λ r w. writes_file fs p s piece i written r w one was,
+      λ counts. writes_file fs p s piece i written counts one was,
     )
 wrote fs p s piece (place.Printing written) gs q all was writes (files, new) =
-    rw (files, new) (fit_put fs p s (place.Printing (written ++ piece)) all tt, λ r w. writes_printed fs p s piece written r w was)
+    rw (files, new) (fit_put fs p s (place.Printing (written ++ piece)) all tt, λ counts. writes_printed fs p s piece written counts was)
 wrote fs p s piece place.Closed gs q all was writes into = absurd (false≢true writes)
 wrote fs p s piece place.Absent gs q all was writes into = absurd (false≢true writes)
 wrote fs p s piece (place.Reading i at) gs q all was writes into = absurd (false≢true writes)
@@ -166,7 +168,7 @@ pub appended : {E : Type 0} (result : Result (Unit {0}) E) (fs : List File) (p :
     → AllFit fs p → place_at p s ≡ was → is_written was ≡ true
     → OnOk result (WritesInto piece fs was gs q) → OnErr result (gs ≡ fs) → OnErr result (q ≡ was)
     → AllFit gs (with_place p s q)
-    × OnOk result ((r w : ℕ) → WritesTo s piece (memory_view fs p r w) (memory_view gs (with_place p s q) r w))
+    × OnOk result ((counts : Counts) → WritesTo s piece (memory_view fs p counts) (memory_view gs (with_place p s q) counts))
     × OnErr result (Same gs (with_place p s q) fs p)
 appended (Ok done) fs p s piece was gs q all at writes into none none' = let did = wrote fs p s piece was gs q all at writes into in (did.0, did.1, tt)
 appended (Err error) fs p s piece was gs q all at writes into files place =
@@ -174,11 +176,11 @@ appended (Err error) fs p s piece was gs q all at writes into files place =
     (rw (files, back) all, tt, rw (files, back) refl)
 
 -- a name that isn't held opens as an empty file
-pub opens_empty : (fs : List File) (p : Places) (s : Slot) (name : List ℕ) (r w : ℕ) → is_some (held_at fs name) ≡ false
-    → Opens s name (memory_view fs p r w) (memory_view fs (with_place p s place.Absent) r w)
-opens_empty fs p s name r w none = by_held (held_at fs name) refl
+pub opens_empty : (fs : List File) (p : Places) (s : Slot) (name : List ℕ) (counts counts' : Counts) → is_some (held_at fs name) ≡ false
+    → Opens s name (memory_view fs p counts) (memory_view fs (with_place p s place.Absent) counts')
+opens_empty fs p s name counts counts' none = by_held (held_at fs name) refl
   where
-    by_held : (held : Option (List ℕ)) → held_at fs name ≡ held → Opens s name (memory_view fs p r w) (memory_view fs (with_place p s place.Absent) r w)
+    by_held : (held : Option (List ℕ)) → held_at fs name ≡ held → Opens s name (memory_view fs p counts) (memory_view fs (with_place p s place.Absent) counts')
     by_held (Some bytes) is = absurd (false≢true (sym none ∙ ap is_some is))
     by_held None is =
         let here = put_same p s place.Absent in
@@ -188,6 +190,6 @@ opens_empty fs p s name r w none = by_held (held_at fs name) refl
           writes = rw here refl;
           name = rw here tt;
           named = λ held _. cc (held.1, is);
-          others = λ t other. stays fs p s t place.Absent r w r w other;
+          others = λ t other. stays fs p s t place.Absent counts counts' other;
           held = λ n. refl;
         }

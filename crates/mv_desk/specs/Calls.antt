@@ -1,22 +1,25 @@
 -- What the calls of a desk do to what it tells.
-use Rattle.std.specs.Prelude.{◌≡◌, ◌≢◌, ℕ, ◌<◌, ◌≤◌, ◌++◌, true, false, List, [], None, Some, IfSome, IsSome, OnErr, Option, Result, ⊤}
+use Rattle.std.specs.Prelude.{◌≡◌, ◌≢◌, ℕ, ◌<◌, ◌≤◌, ◌++◌, true, false, List, [], None, Some, IfSome, IsSome, OnErr, OnOk, Option, Result, ⊤}
 use Rattle.std.specs.Io.{StartsWith}
 use Rattle.std.specs.Io.KnownBytes.{Appends, Keeps}
-use Rattle.mv_desk.specs.View.{View, IsHeld, ModeStays, Rose, SlotStays, bytes_under}
+use Rattle.mv_desk.specs.View.{View, IsHeld, KeepsTelling, ModeStays, Rose, SlotStays, bytes_under}
 use Rattle.mv_desk.specs.declared.slot.Slot.{Slot}
 use Rattle.mv_desk.specs.declared.slot.Slot.TheVariants.{Report}
 
--- an error comes only where the count of read faults rose; the other count is as it was
+-- an error comes only where the count of read faults rose, and else it stands; the count of write faults is as it was
 pub record HasReadCause {T E : Type 0} (old new : View) (result : Result T E) : Type 0 where
   pub later : old.read_faults ≤ new.read_faults
+  pub stands : OnOk result (new.read_faults ≡ old.read_faults)
   pub rose : OnErr result (Rose old.read_faults new.read_faults)
   pub write_faults : new.write_faults ≡ old.write_faults
 
--- an error comes only where the count of write faults rose; the other count is as it was
+-- an error comes only where the count of write faults rose, and else it stands; the other counts are as they were
 pub record HasWriteCause {T E : Type 0} (old new : View) (result : Result T E) : Type 0 where
   pub later : old.write_faults ≤ new.write_faults
+  pub stands : OnOk result (new.write_faults ≡ old.write_faults)
   pub rose : OnErr result (Rose old.write_faults new.write_faults)
   pub read_faults : new.read_faults ≡ old.read_faults
+  pub opened : new.opened ≡ old.opened
 
 -- where it is told it is this, and it is told where it was
 abbrev pub Becomes : {A : Type 0} → Option A → Option A → A → Type 0
@@ -44,6 +47,14 @@ pub record ReadsOnly (slot : Slot) (old new : View) : Type 0 where
   pub held : (name : List ℕ) → new.held name ≡ old.held name
   pub later : old.read_faults ≤ new.read_faults
   pub write_faults : new.write_faults ≡ old.write_faults
+  pub opened : new.opened ≡ old.opened
+
+-- what a call that reads from one slot alone does, whatever it answers
+pub record Reads {T E : Type 0} (slot : Slot) (old new : View) (result : Result T E) : Type 0 where
+  pub only : ReadsOnly slot old new
+  -- no read failed where it has an answer
+  pub stands : OnOk result (new.read_faults ≡ old.read_faults)
+  pub tells : KeepsTelling old new
 
 -- files were only opened and read, the report wasn't touched
 pub record Inspects (old new : View) : Type 0 where
@@ -105,3 +116,10 @@ pub record WritesPart (slot : Slot) (bytes : List ℕ) (old new : View) : Type 0
   pub part : List ℕ
   pub starts : StartsWith bytes part
   pub writes : WritesTo slot part old new
+
+-- what a call that writes these bytes to one slot does, whatever it answers
+pub record Writes {T E : Type 0} (slot : Slot) (bytes : List ℕ) (old new : View) (result : Result T E) : Type 0 where
+  pub whole : OnOk result (WritesTo slot bytes old new)
+  pub part : OnErr result (WritesPart slot bytes old new)
+  pub cause : HasWriteCause old new result
+  pub tells : KeepsTelling old new

@@ -8,7 +8,7 @@ use Rattle.mv_desk.specs.declared.memory.honest_desk.HonestDesk.{HonestDesk}
 
 -- it tells everything but the name of a slot that was opened under a name that isn't held, and no read ever failed
 unfoldable pub view_of : HonestDesk → View
-view_of desk = tells desk.shelf 0 desk.write_faults
+view_of desk = tells desk.shelf (record { opened = desk.opened; read_faults = 0; write_faults = desk.write_faults })
 
 -- the bytes under a name, if it is held
 abbrev pub held_of : HonestDesk → List ℕ → Option (List ℕ)

@@ -2,6 +2,7 @@
 use Rattle.std.specs.Prelude.{◌≡◌, ℕ, Bool, true, false, List, [], drop, set, ◌++◌, None, Some, Option}
 use Rattle.mv_desk.specs.Files.{File, IsFirst, file_at, held_at}
 use Rattle.mv_desk.specs.View.{View}
+use Rattle.mv_desk.specs.declared.counts.Counts.{Counts}
 use Rattle.mv_desk.specs.declared.slot.Slot.{Slot}
 use Rattle.mv_desk.specs.declared.slot.Slot.TheVariants.{Graph, Other, Clauses, Algebra, Report}
 use Rattle.mv_desk.specs.declared.memory.place.Place.{Place}
@@ -79,16 +80,17 @@ abbrev pub AllFit : List File → Places → Type 0
 AllFit files places = (slot : Slot) → Fits files (place_at places slot)
 
 -- what a desk tells of these files and places
-abbrev pub memory_view : List File → Places → ℕ → ℕ → View
-memory_view files places read_faults write_faults = record {
+abbrev pub memory_view : List File → Places → Counts → View
+memory_view files places counts = record {
   held = λ name. Some (held_at files name);
   left = λ slot. Some (left_of files (place_at places slot));
   written = λ slot. Some (written_of (place_at places slot));
   name = λ slot. name_of files (place_at places slot);
   reads = λ slot. is_read (place_at places slot);
   writes = λ slot. is_written (place_at places slot);
-  read_faults = read_faults;
-  write_faults = write_faults;
+  opened = counts.opened;
+  read_faults = counts.read_faults;
+  write_faults = counts.write_faults;
 }
 
 -- files, and the places in them
@@ -96,7 +98,7 @@ abbrev pub Shelved : Type 0
 Shelved = List File × Places
 
 -- what a desk tells of them
-abbrev pub tells : Shelved → ℕ → ℕ → View
+abbrev pub tells : Shelved → Counts → View
 tells shelf = memory_view shelf.0 shelf.1
 
 -- what is still to be read from a slot, and what was written to it

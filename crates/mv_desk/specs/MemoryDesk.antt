@@ -9,7 +9,7 @@ use Rattle.mv_desk.specs.declared.memory.memory_desk.MemoryDesk.{MemoryDesk}
 
 -- it tells everything
 unfoldable pub view_of : MemoryDesk → View
-view_of desk = tells desk.shelf desk.read_faults desk.write_faults
+view_of desk = tells desk.shelf desk.counts
 
 -- the bytes under a name, if it is held
 abbrev pub held_of : MemoryDesk → List ℕ → Option (List ℕ)

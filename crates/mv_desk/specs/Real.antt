@@ -1,6 +1,7 @@
 -- What the real desk tells: which slots are open, and its counts.
 use Rattle.std.specs.Prelude.{ℕ, Bool, true, false, List, None, Option}
 use Rattle.mv_desk.specs.View.{View}
+use Rattle.mv_desk.specs.declared.counts.Counts.{Counts}
 use Rattle.mv_desk.specs.declared.slot.Slot.{Slot}
 use Rattle.mv_desk.specs.declared.slot.Slot.TheVariants.{Graph, Other, Clauses, Algebra, Report}
 use Rattle.mv_desk.specs.declared.real.channel.Channel.{Channel}
@@ -52,14 +53,15 @@ with_channel channels Algebra channel = record channels { algebra = channel }
 with_channel channels Report channel = record channels { report = channel }
 
 -- it tells no contents and no names
-abbrev pub real_view : {F : Type 0} → Channels F → ℕ → ℕ → View
-real_view channels read_faults write_faults = record {
+abbrev pub real_view : {F : Type 0} → Channels F → Counts → View
+real_view channels counts = record {
   held = λ _. None;
   left = λ _. None;
   written = λ _. None;
   name = λ _. None;
   reads = λ slot. is_reading (channel_at channels slot);
   writes = λ slot. is_writing (channel_at channels slot);
-  read_faults = read_faults;
-  write_faults = write_faults;
+  opened = counts.opened;
+  read_faults = counts.read_faults;
+  write_faults = counts.write_faults;
 }

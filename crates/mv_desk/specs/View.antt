@@ -1,5 +1,5 @@
 -- What a desk tells of the outside. A file's name and its bytes are lists of bytes.
-use Rattle.std.specs.Prelude.{◌≡◌, ℕ, ◌+◌, ◌-◌, ◌^◌, ◌≤◌, min, Bool, true, List, [], None, Some, IfSome, IsSome, Option, option_map, unwrap_or}
+use Rattle.std.specs.Prelude.{◌≡◌, ℕ, ◌+◌, ◌-◌, ◌^◌, ◌≤◌, suc, zero, min, Bool, true, List, [], None, Some, IfSome, IsSome, Option, option_map, unwrap_or}
 use Rattle.mv_desk.specs.declared.slot.Slot.{Slot}
 use Rattle.mv_desk.specs.declared.slot.Slot.TheVariants.{Report}
 
@@ -17,6 +17,8 @@ pub record View : Type 0 where
   pub reads : Slot → Bool
   -- the slot is open for writing
   pub writes : Slot → Bool
+  -- how many files were opened for reading, or failed to open
+  pub opened : ℕ
   -- how many reads failed, and how many writes
   pub read_faults : ℕ
   pub write_faults : ℕ
@@ -34,9 +36,26 @@ pub record HasReport (view : View) : Type 0 where
   pub writes : view.writes Report ≡ true
   pub unnamed : IfSome (view.name Report) (λ name. name ≡ None)
 
+-- one more; a count stands still at its type's end
+abbrev pub raised : ℕ → ℕ
+raised count = min (count + 1) (2 ^ 64 - 1)
+
 -- a count rose; one that stands at its type's end counts as risen
 abbrev pub Rose : ℕ → ℕ → Type 0
-Rose before now = min (before + 1) (2 ^ 64 - 1) ≤ now
+Rose before now = raised before ≤ now
+
+-- a count that was raised this often
+abbrev pub raised_by : ℕ → ℕ → ℕ
+raised_by zero count = count
+raised_by (suc more) count = raised (raised_by more count)
+
+-- this many files were opened for reading, or failed to open
+abbrev pub OpensFiles : ℕ → View → View → Type 0
+OpensFiles count old new = new.opened ≡ raised_by count old.opened
+
+-- at most this many were
+abbrev pub OpensAtMost : ℕ → View → View → Type 0
+OpensAtMost most old new = (count : ℕ) × (count ≤ most) × OpensFiles count old new
 
 -- what was told is told still
 pub record KeepsTelling (old new : View) : Type 0 where

@@ -1,27 +1,28 @@
 ghost use Rattle.std.specs.Prelude.{◌≡◌, true, length, take, IfOk, OnOk, OnErr};
 ghost use Rattle.std.specs.Io.{ReadsAtMost};
 ghost use Rattle.std.specs.Io.KnownBytes.{ReadConsumes};
-ghost use Rattle.mv_desk.specs.View.{View, IsSame, KeepsTelling};
+ghost use Rattle.mv_desk.specs.View.{View, IsSame, KeepsTelling, OpensFiles};
 ghost use Rattle.mv_desk.specs.Calls.{Creates, HasReadCause, HasWriteCause, Opens, ReadsOnly, TakesSome, WritesTo};
 
 use crate::Slot;
 use thiserror::Error;
 
-/// The outside refused. A count of faults says so too, and nothing else changed.
+/// The outside refused. A count of faults says so too, and no slot and no file changed.
 #[derive(Clone, Copy, Debug, PartialEq, Eq, Error)]
 #[error("the outside refused")]
 pub struct Failed;
 
-/// The outside: files by slots, and two counts of faults that never fall.
+/// The outside: files by slots, a count of opened files, and two counts of faults. No count falls.
 pub trait Desk {
     /// What it tells of the outside.
     ghost seen: { Self → View };
 
-    /// Opens a file for reading.
+    /// Opens a file for reading. It alone counts as opened, failed or not.
     fn open_file(&mut self, slot: Slot, name: &str) -> Result<(), Failed>
         ensures opens { OnOk result (Opens slot name.now (seen self.old) (seen self.new)) }
         ensures failed { OnErr result (IsSame (seen self.old) (seen self.new)) }
         ensures cause { HasReadCause (seen self.old) (seen self.new) result }
+        ensures counted { OpensFiles 1 (seen self.old) (seen self.new) }
         ensures tells { KeepsTelling (seen self.old) (seen self.new) };
 
     /// Reads bytes to the front of a buffer. 0 for a buffer that isn't empty is the end of the input.

@@ -1,4 +1,4 @@
-//! The outside of the program: files by slots, a report, and two counts of faults.
+//! The outside of the program: files by slots, a report, and counts of opened files and of faults.
 //!
 //! A call on a desk fails only where the count of faults of its kind rose, and then nothing else changed. What is
 //! read is what was left, what is written comes behind what was written before, and nothing else changes, as far as
@@ -9,6 +9,7 @@
 //! grew, or stands at its type's end.
 #![tactic(auto)]
 
+mod counts;
 mod desk;
 mod faults;
 mod limits;

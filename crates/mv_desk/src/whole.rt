@@ -1,7 +1,7 @@
-ghost use Rattle.std.specs.Prelude.{◌≡◌, ◌≤◌, true, vec_len, IfOk, IsErrOf, OnOk, OnErr};
+ghost use Rattle.std.specs.Prelude.{◌≡◌, ◌≤◌, true, vec_len, IfOk, IsErrOf};
 ghost use Rattle.std.specs.Io.KnownBytes.{Consumes, IsAtEnd};
-ghost use Rattle.mv_desk.specs.View.{KeepsTelling, Rose};
-ghost use Rattle.mv_desk.specs.Calls.{HasWriteCause, ReadsOnly, WritesPart, WritesTo};
+ghost use Rattle.mv_desk.specs.View.{Rose};
+ghost use Rattle.mv_desk.specs.Calls.{Reads, Writes};
 
 use crate::{Desk, Failed, ReadFault, Slot, WriteFault};
 use std::alloc::Global;
@@ -23,8 +23,7 @@ pub fn read_front<D: Desk>(
         (λ bytes. vec_len bytes ≤ limit → IsAtEnd ((D.seen desk.new).left slot)) }
     ensures fault { IsErrOf result ReadFault.Fault
         → Rose (D.seen desk.old).read_faults (D.seen desk.new).read_faults }
-    ensures only { ReadsOnly slot (D.seen desk.old) (D.seen desk.new) }
-    ensures tells { KeepsTelling (D.seen desk.old) (D.seen desk.new) }
+    ensures reads { Reads slot (D.seen desk.old) (D.seen desk.new) result }
 {
     let mut bytes = Vec::new(alloc);
     let mut buffer = [0u8; ROOM];
@@ -45,10 +44,7 @@ pub fn read_front<D: Desk>(
 /// Writes bytes whole, as the desk takes them. After an error a front part of them was written.
 pub fn write_all<D: Desk>(desk: &mut D, slot: Slot, bytes: &[u8]) -> Result<(), WriteFault>
     requires { (D.seen desk.old).writes slot ≡ true }
-    ensures whole { OnOk result (WritesTo slot bytes.now (D.seen desk.old) (D.seen desk.new)) }
-    ensures part { OnErr result (WritesPart slot bytes.now (D.seen desk.old) (D.seen desk.new)) }
-    ensures cause { HasWriteCause (D.seen desk.old) (D.seen desk.new) result }
-    ensures tells { KeepsTelling (D.seen desk.old) (D.seen desk.new) }
+    ensures { Writes slot bytes.now (D.seen desk.old) (D.seen desk.new) result }
 {
     let mut rest = bytes;
     while !rest.is_empty() {

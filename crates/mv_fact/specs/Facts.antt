@@ -5,7 +5,7 @@ use Rattle.std.specs.declared.option.Option.{Option}
 use Rattle.std.specs.Ordering.{nat_cmp}
 use Rattle.std.specs.BTreeMap.{is_at}
 use Rattle.graph_core.specs.declared.Gate.{Gate}
-use Rattle.graph_core.specs.Assignment.{Assignment}
+use Rattle.graph_core.specs.Graph.Assignments.{Assignment}
 use Rattle.mv_fact.specs.Always.{Always}
 
 -- What contracts see of live facts: the gates, the table, and the facts by id.

@@ -1,4 +1,4 @@
-ghost use Rattle.graph_core.specs.Assignment.{Assignment};
+ghost use Rattle.graph_core.specs.Graph.Assignments.{Assignment};
 
 /// A statement on assignments, which may cite a table that only grows.
 pub trait Fact: Drop {

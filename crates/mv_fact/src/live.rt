@@ -1,4 +1,4 @@
-ghost use Rattle.std.specs.Prelude.{◌≡◌, ◌↔◌, [], Some, None, IfOk, OnOk, OnErr, IfSome, IsSome, IsSomeAnd, IsErrOf, option_copied};
+ghost use Rattle.std.specs.Prelude.{◌≡◌, ◌↔◌, [], Some, None, IfOk, OnOk, OnErr, IfSome, IsSome, IsSomeAnd, IsErrOf, IsTrue, option_copied};
 ghost use Rattle.std.specs.List.{All};
 ghost use Rattle.std.specs.Map.{values_of};
 ghost use Rattle.mv_fact.specs.Facts.{fact_at, IsKept, ChangesAt, IsGrown};
@@ -66,13 +66,25 @@ impl<'a, F: Fact> Live<'a, F> {
         ensures used { IsErrOf result InsertFail.IdUsed ↔ IsSome (fact_at self.old.entries id) }
         ensures unchanged { OnErr result (self.new ≡ self.old) }
     {
-        if self.facts.contains_key(&id) {
+        if self.is_live(id) {
             return Err(InsertFail::IdUsed);
         }
         match self.facts.insert(id, fact) {
             Ok(_) => Ok(()),
             Err(_) => Err(InsertFail::Memory),
         }
+    }
+
+    // Ids mostly rise, so the last one is looked at first.
+    fn is_live(&self, id: u64) -> bool
+        ensures { IsTrue result ↔ IsSome (fact_at self.now.entries id) }
+    {
+        if let Some((last, _)) = self.facts.last_key_value() {
+            if *last < id {
+                return false;
+            }
+        }
+        self.facts.contains_key(&id)
     }
 
     /// Takes the fact with this id out.

@@ -15,8 +15,8 @@ struct Truth(Lit);
 impl Fact for Truth {
     ghost use Rattle.std.specs.Prelude.{◌≡◌, ◌≤◌, true};
     ghost use Rattle.std.proofs.Math.Nat.{le_refl, le_trans};
-    ghost use Rattle.graph_core.specs.Literal.{variable_of};
-    ghost use Rattle.graph_core.specs.Assignment.{literal};
+    ghost use Rattle.graph_core.specs.Graph.Literals.{variable_of};
+    ghost use Rattle.graph_core.specs.Graph.Assignments.{literal};
 
     type Table = Greatest;
 

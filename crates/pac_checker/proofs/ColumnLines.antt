@@ -1,6 +1,6 @@
 -- The axioms of replaced columns as entries, behind those of the gates.
 use Rattle.std.specs.Prelude.{cond, ◌==◌, map, slice_get}
-use Rattle.std.proofs.Common.{inl, inr, ◌⊎◌, ◌≡◌, ℕ, ◌+◌, ◌-◌, ◌*◌, ◌<◌, ◌≤◌, Bool, true, false, List, [], ◌∷◌, ◌++◌, refl, sym, ap, subst, ◌∙◌, arith}
+use Rattle.std.proofs.Common.{inl, inr, ◌⊎◌, ◌≡◌, ℕ, ◌+◌, ◌-◌, ◌<◌, ◌≤◌, Bool, true, false, List, [], ◌∷◌, ◌++◌, refl, sym, ap, subst, ◌∙◌, arith, length}
 use Rattle.std.specs.declared.option.Option.{Option}
 use Rattle.std.specs.declared.option.Option.TheVariants.{None, Some}
 use Rattle.std.specs.Option.{option_map, option_or}
@@ -11,25 +11,24 @@ use Rattle.std.proofs.lemmas.List.Folds.{find-append}
 use Rattle.std.proofs.lemmas.Nat.{pow_pos}
 use Rattle.std.proofs.lemmas.Option.{slice_get_within}
 use Rattle.graph_core.specs.declared.Lit.{Lit}
-use Rattle.graph_core.specs.Assignment.{Assignment, literal, bit}
-use Rattle.graph_core.specs.Extended.{Extended, Column}
+use Rattle.graph_core.specs.Graph.Assignments.{Assignment, literal, bit}
+use Rattle.graph_core.specs.Graph.Extended.{Extended, Column}
 use Rattle.graph_core.specs.Graph.{IsEvaluation}
-use Rattle.graph_core.specs.Operands.{width, HasMultiplierShape}
-use Rattle.graph_core.specs.Polynomial.{difference}
+use Rattle.graph_core.specs.Algebra.Polynomials.{difference}
 use Rattle.graph_core.specs.Algebra.{LiveLine, line_of, gate_axiom, column_axiom, axioms, AgreeOnColumns}
 use Rattle.graph_core.specs.Algebra as algebra
-use Rattle.graph_core.proofs.Residues.{difference_same}
+use Rattle.graph_core.proofs.OfGraphs.CallerLemmas.{difference_same}
 use Rattle.mv_fact.specs.Always.{Always}
 use Rattle.mv_fact.specs.Facts.{Facts, ChangesAt}
 use Rattle.poly_terms.specs.Tables.{Table, Sum, IsOf, Extends, modulus}
 use Rattle.poly_terms.specs.Laws.{extends_itself, extends_on, modulus_stays}
 use Rattle.gate_axioms.specs.Axioms.{IsDifference}
 use Rattle.ripple_graft.specs.Extension.{IsExtension}
-use Rattle.pac_checker.specs.Agreement.{AreSame, AreSameLines}
+use Rattle.graph_core.specs.Algebra.Agreement.{AreSame, AreSameLines}
 use Rattle.pac_checker.specs.Checking.{lines_in}
 use Rattle.pac_checker.specs.Columns.{column_of, column_line, difference_line, PutsLine, HasColumns}
 use Rattle.pac_checker.specs.Rules.{Vanishes, KeepsLines}
-use Rattle.pac_checker.proofs.Agreements.{same_of, same_refl, same_trans}
+use Rattle.graph_core.proofs.OfAlgebra.CallerLemmas.{same_of, same_refl, same_trans}
 use Rattle.pac_checker.proofs.Columns.{found_all, found_number}
 use Rattle.pac_checker.proofs.Entries.{line_at, line_of-entries}
 use Rattle.pac_checker.proofs.FirstLines.{none_above, or_none, gates_within}
@@ -139,12 +138,12 @@ none_below e (c ∷ cs) id low =
     ap (λ b. cond b (Some (column_axiom e c)) (line_of (map (column_axiom e) cs) id)) (false_from_ne_true (e.max + 1 + c.number == id) (λ t. let s : e.max + 1 + c.number ≡ id = eqb-true (e.max + 1 + c.number) id t in omega (arith, low))) ∙ none_below e cs id low
 
 -- a column's number is one of an output
-pub number_within : (e : Extended) → HasMultiplierShape e.graph → IsExtension e → AllByRecursion (λ c. c.number < 2 * width e.graph) e.replaced
-number_within e shape extension = go e.replaced (recursion_from_All _ e.replaced extension.replaced)
+pub number_within : (e : Extended) → IsExtension e → AllByRecursion (λ c. c.number < length e.graph.outputs) e.replaced
+number_within e extension = go e.replaced (recursion_from_All _ e.replaced extension.replaced)
   where
-    go : (cs : List Column) → AllByRecursion (λ c. slice_get e.graph.outputs c.number ≡ Some c.old) cs → AllByRecursion (λ c. c.number < 2 * width e.graph) cs
+    go : (cs : List Column) → AllByRecursion (λ c. slice_get e.graph.outputs c.number ≡ Some c.old) cs → AllByRecursion (λ c. c.number < length e.graph.outputs) cs
     go [] h = tt
-    go (c ∷ cs) h = (subst (λ n. c.number < n) shape.outputs (slice_get_within e.graph.outputs c.number c.old h.0), go cs h.1)
+    go (c ∷ cs) h = (slice_get_within e.graph.outputs c.number c.old h.0, go cs h.1)
 
 none_past : (e : Extended) (n j : ℕ) → AllByRecursion (λ c. c.number < n) e.replaced → n ≤ j → column_of e j ≡ None
 none_past e n j within high = go (column_of e j) refl
@@ -190,8 +189,8 @@ append_within last [] ys h j = j
 append_within last (x ∷ xs) ys h j = (h.0, append_within last xs ys h.1 j)
 
 -- no id of an axiom is above the last one
-pub axioms_within : (e : Extended) → HasMultiplierShape e.graph → IsExtension e → AllByRecursion (λ l. l.id ≤ (axioms e).last) (axioms e).live
-axioms_within e shape extension =
+pub axioms_within : (e : Extended) → IsExtension e → AllByRecursion (λ l. l.id ≤ (axioms e).last) (axioms e).live
+axioms_within e extension =
     append_within (axioms e).last (map (gate_axiom (algebra.modulus e)) e.gates) (map (column_axiom e) e.replaced)
     (gates_within (algebra.modulus e) (axioms e).last e.gates (recursion_from_All (λ g. g.v ≤ (axioms e).last) e.gates (λ k d low. let here = extension.gates_in_range k d low in omega (arith, here))))
-    (columns_within e (2 * width e.graph) e.replaced (number_within e shape extension))
+    (columns_within e (length e.graph.outputs) e.replaced (number_within e extension))

@@ -5,24 +5,23 @@ use Rattle.std.specs.declared.option.Option.TheVariants.{None, Some}
 use Rattle.std.specs.List.{All, AllByRecursion}
 use Rattle.std.proofs.lemmas.Bool.{true≢false}
 use Rattle.std.proofs.lemmas.List.Elements.{All-from_recursion}
-use Rattle.graph_core.specs.declared.Order.{Order}
-use Rattle.graph_core.specs.Assignment.{Assignment}
-use Rattle.graph_core.specs.Extended.{Extended}
-use Rattle.graph_core.specs.Operands.{Sides}
-use Rattle.graph_core.specs.Polynomial.{Polynomial, value}
+use Rattle.graph_core.specs.Graph.Assignments.{Assignment}
+use Rattle.graph_core.specs.Graph.Extended.{Extended}
+use Rattle.graph_core.specs.Graph.Operands.{Sides}
+use Rattle.graph_core.specs.Algebra.Polynomials.{Polynomial, value}
 use Rattle.graph_core.specs.Algebra.{LiveLine, Line, Ledger, IsLive, line_of, IsLawfulLine, IsNewId, operands, named, stated, introduce, after}
 use Rattle.graph_core.specs.Algebra as algebra
-use Rattle.graph_core.specs.AlgebraRefusal.{first_missing}
+use Rattle.graph_core.specs.Algebra.Refusal.{first_missing}
 use Rattle.mv_fact.specs.Facts.{Facts, fact_at}
 use Rattle.poly_terms.specs.Tables.{Table, Sum, IsOf, Extends, modulus, value_in, monomials_in}
 use Rattle.poly_terms.specs.Laws.{modulus_stays, value_stays, extends_itself}
 use Rattle.pac_checker.specs.declared.fault.LineFault.{LineFault}
 use Rattle.pac_checker.specs.declared.fault.LineFault.TheVariants.{Id, NoSuchLine, NotEqual, Memory}
-use Rattle.pac_checker.specs.Agreement.{AreSame, Agree}
+use Rattle.graph_core.specs.Algebra.Agreement.{AreSame, Agree}
 use Rattle.pac_checker.specs.Checking.{Checking, checking_of, ledger_of, lines_in, Takes, Grows}
 use Rattle.pac_checker.specs.Faults.{IsFault}
 use Rattle.pac_checker.specs.Rules.{KeepsLines, IsNamed, IsNamingFault, AreEqual, IsStatingFault, Introduces, IsSound}
-use Rattle.pac_checker.proofs.Agreements.{agree_trans, agree_refl}
+use Rattle.graph_core.proofs.OfAlgebra.CallerLemmas.{agree_trans, agree_refl}
 
 -- ---- the table has grown
 
@@ -35,11 +34,11 @@ sound_grown e s old new last k h = record {
   fresh = λ id above. ap (λ es. fact_at es id) k.entries ∙ h.fresh id above;
 }
 
-pub grows : (e : Extended) (order : Order) (old new : Facts Sum Table) (last : ℕ) → KeepsLines old new → Grows (checking_of e order old last) (checking_of e order new last)
-grows e order old new last k = record { extended = refl; order = refl; table = k.table; entries = k.entries; last = refl; ledger = record { last = refl; lines = k.lines } }
+pub grows : (e : Extended) (sides : Sides) (old new : Facts Sum Table) (last : ℕ) → KeepsLines old new → Grows (checking_of e sides old last) (checking_of e sides new last)
+grows e sides old new last k = record { extended = refl; sides = refl; table = k.table; entries = k.entries; last = refl; ledger = record { last = refl; lines = k.lines } }
 
 pub grows_itself : (c : Checking) → Grows c c
-grows_itself c = record { extended = refl; order = refl; table = extends_itself c.table; entries = refl; last = refl; ledger = agree_refl (ledger_of c) }
+grows_itself c = record { extended = refl; sides = refl; table = extends_itself c.table; entries = refl; last = refl; ledger = agree_refl (ledger_of c) }
 
 -- ---- lawful lines
 
@@ -72,16 +71,16 @@ equal_named e s old mid last x p q sound k of is found σ same =
     (ap (λ r. value (modulus old.table) r σ) is ∙ sym (value_stays old.table mid.table q σ k.table of) ∙ sym same ∙ found.value.same σ)
 
 -- a line whose named polynomial is found equal, and put under the new id, is taken
-pub takes_named : (e : Extended) (s : Sides) (order : Order) (old mid : Facts Sum Table) (last : ℕ) (new : Checking) (x : Line) (id : ℕ) (p q : Sum) → IsSound e s old last → KeepsLines old mid → IsNewId last x →
-    IsOf old.table q → stated x ≡ monomials_in old.table q → introduce (algebra.modulus e) (ledger_of (checking_of e order old last)) id (monomials_in old.table q) ≡ after (algebra.modulus e) (ledger_of (checking_of e order old last)) x →
+pub takes_named : (e : Extended) (s : Sides) (sides : Sides) (old mid : Facts Sum Table) (last : ℕ) (new : Checking) (x : Line) (id : ℕ) (p q : Sum) → IsSound e s old last → KeepsLines old mid → IsNewId last x →
+    IsOf old.table q → stated x ≡ monomials_in old.table q → introduce (algebra.modulus e) (ledger_of (checking_of e sides old last)) id (monomials_in old.table q) ≡ after (algebra.modulus e) (ledger_of (checking_of e sides old last)) x →
     IsNamed old mid (operands x) (named (modulus old.table) (lines_in old.table old.entries) x) p → AreEqual mid.table p q →
-    Introduces id (monomials_in mid.table q) (checking_of e order mid last) new → Takes x (checking_of e order old last) new
-takes_named e s order old mid last new x id p q sound k new_id of is next found same i =
-    let before : Ledger = ledger_of (checking_of e order old last) in
-    let between : Ledger = ledger_of (checking_of e order mid last) in
+    Introduces id (monomials_in mid.table q) (checking_of e sides mid last) new → Takes x (checking_of e sides old last) new
+takes_named e s sides old mid last new x id p q sound k new_id of is next found same i =
+    let before : Ledger = ledger_of (checking_of e sides old last) in
+    let between : Ledger = ledger_of (checking_of e sides mid last) in
     record {
       extended = i.extended;
-      order = i.order;
+      sides = i.sides;
       table = subst (Extends old.table) (sym i.table) k.table;
       lawful = record { new_id = new_id; live_operands = all_live before.live (operands x) found.live; equal = λ σ. equal_named e s old mid last x p q sound k of is found σ (same σ) };
       ledger = subst (Agree (ledger_of new)) next
@@ -90,40 +89,40 @@ takes_named e s order old mid last new x id p q sound k new_id of is next found 
           (λ σ. value_stays old.table mid.table q σ k.table of ∙ ap (λ m. value m (monomials_in old.table q) σ) sound.same_modulus)));
     }
 
-pub takes_stated : {T : Type 0} (r : Result T LineFault) (e : Extended) (s : Sides) (order : Order) (old mid : Facts Sum Table) (last : ℕ) (new : Checking) (x : Line) (id : ℕ) (p q : Sum) → IsSound e s old last → KeepsLines old mid → IsNewId last x →
-    IsOf old.table q → stated x ≡ monomials_in old.table q → introduce (algebra.modulus e) (ledger_of (checking_of e order old last)) id (monomials_in old.table q) ≡ after (algebra.modulus e) (ledger_of (checking_of e order old last)) x →
+pub takes_stated : {T : Type 0} (r : Result T LineFault) (e : Extended) (s : Sides) (sides : Sides) (old mid : Facts Sum Table) (last : ℕ) (new : Checking) (x : Line) (id : ℕ) (p q : Sum) → IsSound e s old last → KeepsLines old mid → IsNewId last x →
+    IsOf old.table q → stated x ≡ monomials_in old.table q → introduce (algebra.modulus e) (ledger_of (checking_of e sides old last)) id (monomials_in old.table q) ≡ after (algebra.modulus e) (ledger_of (checking_of e sides old last)) x →
     IsNamed old mid (operands x) (named (modulus old.table) (lines_in old.table old.entries) x) p → OnOk r (AreEqual mid.table p q) →
-    OnOk r (Introduces id (monomials_in mid.table q) (checking_of e order mid last) new) → OnOk r (Takes x (checking_of e order old last) new)
-takes_stated (Ok t) e s order old mid last new x id p q sound k new_id of is next found same i = takes_named e s order old mid last new x id p q sound k new_id of is next found same i
-takes_stated (Err fault) e s order old mid last new x id p q sound k new_id of is next found same i = same
+    OnOk r (Introduces id (monomials_in mid.table q) (checking_of e sides mid last) new) → OnOk r (Takes x (checking_of e sides old last) new)
+takes_stated (Ok t) e s sides old mid last new x id p q sound k new_id of is next found same i = takes_named e s sides old mid last new x id p q sound k new_id of is next found same i
+takes_stated (Err fault) e s sides old mid last new x id p q sound k new_id of is next found same i = same
 
 -- ---- refused lines
 
 -- a polynomial that differs from the named one refuses the line
-stating_fault : (e : Extended) (s : Sides) (order : Order) (old mid : Facts Sum Table) (last : ℕ) (x : Line) (p q : Sum) (fault : LineFault) → IsSound e s old last → KeepsLines old mid → IsNewId last x →
+stating_fault : (e : Extended) (s : Sides) (sides : Sides) (old mid : Facts Sum Table) (last : ℕ) (x : Line) (p q : Sum) (fault : LineFault) → IsSound e s old last → KeepsLines old mid → IsNewId last x →
     IsOf old.table q → stated x ≡ monomials_in old.table q → IsNamed old mid (operands x) (named (modulus old.table) (lines_in old.table old.entries) x) p →
-    IsStatingFault mid.table p q fault → IsFault e (ledger_of (checking_of e order old last)) x fault
-stating_fault e s order old mid last x p q Id sound k new of is found h = absurd h
-stating_fault e s order old mid last x p q (NoSuchLine id) sound k new of is found h = absurd h
-stating_fault e s order old mid last x p q NotEqual sound k new of is found h =
+    IsStatingFault mid.table p q fault → IsFault e (ledger_of (checking_of e sides old last)) x fault
+stating_fault e s sides old mid last x p q Id sound k new of is found h = absurd h
+stating_fault e s sides old mid last x p q (NoSuchLine id) sound k new of is found h = absurd h
+stating_fault e s sides old mid last x p q NotEqual sound k new of is found h =
     inr (new, inr (all_live (lines_in old.table old.entries) (operands x) found.live, inl ((h.0, λ same. h.1 (differ same)), refl)))
   where
     differ : value (algebra.modulus e) (stated x) h.0 ≡ named (algebra.modulus e) (lines_in old.table old.entries) x h.0 % algebra.modulus e → value_in mid.table p h.0 ≡ value_in mid.table q h.0
     differ same =
         found.value.same h.0 ∙ subst (λ m. named m (lines_in old.table old.entries) x h.0 % m ≡ value m (stated x) h.0) (sym sound.same_modulus) (sym same) ∙
         ap (λ r. value (modulus old.table) r h.0) is ∙ sym (value_stays old.table mid.table q h.0 k.table of)
-stating_fault e s order old mid last x p q Memory sound k new of is found h = tt
+stating_fault e s sides old mid last x p q Memory sound k new of is found h = tt
 
-pub stating_faults : {T : Type 0} (r : Result T LineFault) (e : Extended) (s : Sides) (order : Order) (old mid : Facts Sum Table) (last : ℕ) (x : Line) (p q : Sum) → IsSound e s old last → KeepsLines old mid →
+pub stating_faults : {T : Type 0} (r : Result T LineFault) (e : Extended) (s : Sides) (sides : Sides) (old mid : Facts Sum Table) (last : ℕ) (x : Line) (p q : Sum) → IsSound e s old last → KeepsLines old mid →
     IsNewId last x → IsOf old.table q → stated x ≡ monomials_in old.table q → IsNamed old mid (operands x) (named (modulus old.table) (lines_in old.table old.entries) x) p →
-    IfErr r (IsStatingFault mid.table p q) → IfErr r (IsFault e (ledger_of (checking_of e order old last)) x)
-stating_faults (Ok t) e s order old mid last x p q sound k new of is found h = h
-stating_faults (Err fault) e s order old mid last x p q sound k new of is found h = stating_fault e s order old mid last x p q fault sound k new of is found h
+    IfErr r (IsStatingFault mid.table p q) → IfErr r (IsFault e (ledger_of (checking_of e sides old last)) x)
+stating_faults (Ok t) e s sides old mid last x p q sound k new of is found h = h
+stating_faults (Err fault) e s sides old mid last x p q sound k new of is found h = stating_fault e s sides old mid last x p q fault sound k new of is found h
 
 -- an operand that isn't live refuses it
-pub naming_fault : (e : Extended) (order : Order) (old : Facts Sum Table) (last : ℕ) (x : Line) (fault : LineFault) → IsNewId last x →
-    IsNamingFault old (operands x) fault → IsFault e (ledger_of (checking_of e order old last)) x fault
-naming_fault e order old last x Id new h = absurd h
-naming_fault e order old last x (NoSuchLine missing) new h = inr (new, inl (missing, h, refl))
-naming_fault e order old last x NotEqual new h = absurd h
-naming_fault e order old last x Memory new h = tt
+pub naming_fault : (e : Extended) (sides : Sides) (old : Facts Sum Table) (last : ℕ) (x : Line) (fault : LineFault) → IsNewId last x →
+    IsNamingFault old (operands x) fault → IsFault e (ledger_of (checking_of e sides old last)) x fault
+naming_fault e sides old last x Id new h = absurd h
+naming_fault e sides old last x (NoSuchLine missing) new h = inr (new, inl (missing, h, refl))
+naming_fault e sides old last x NotEqual new h = absurd h
+naming_fault e sides old last x Memory new h = tt

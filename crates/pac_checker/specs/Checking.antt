@@ -1,26 +1,26 @@
 -- What contracts see of a checker of algebra lines: live polynomials of a table that grows, as the ledger of the definitions.
 use Rattle.std.specs.Prelude.{◌≡◌, ℕ, List, map, IfSome}
-use Rattle.graph_core.specs.declared.Order.{Order}
-use Rattle.graph_core.specs.Extended.{Extended}
+use Rattle.graph_core.specs.Graph.Operands.{Sides}
+use Rattle.graph_core.specs.Graph.Extended.{Extended}
 use Rattle.graph_core.specs.Algebra.{LiveLine, Ledger, Line, modulus, after, IsLawfulLine, Closes, specification}
 use Rattle.poly_terms.specs.Tables.{Table, Sum, Extends, value_in}
 use Rattle.mv_fact.specs.Always.{Always}
 use Rattle.mv_fact.specs.Facts.{Facts}
 use Rattle.poly_text.specs.declared.PacLine.{PacLine}
 use Rattle.poly_text.specs.Lines.{told}
-use Rattle.pac_checker.specs.Agreement.{Agree}
+use Rattle.graph_core.specs.Algebra.Agreement.{Agree}
 
--- The extended graph, the order of its inputs, the table of polynomials, the live ones by id, and the last id in use.
+-- The extended graph, its operands, the table of polynomials, the live ones by id, and the last id in use.
 pub record Checking : Type 0 where
   pub extended : Extended
-  pub order : Order
+  pub sides : Sides
   pub table : Table
   pub entries : List (ℕ × Sum)
   pub last : ℕ
 
--- the checker of an extended graph and an order with these live polynomials
-abbrev pub checking_of : Extended → Order → Facts Sum Table → ℕ → Checking
-checking_of e order facts last = record { extended = e; order = order; table = facts.table; entries = facts.entries; last = last }
+-- the checker of an extended graph and its operands with these live polynomials
+abbrev pub checking_of : Extended → Sides → Facts Sum Table → ℕ → Checking
+checking_of e sides facts last = record { extended = e; sides = sides; table = facts.table; entries = facts.entries; last = last }
 
 -- a polynomial under an id, as a live line
 abbrev pub line_in : Table → ℕ × Sum → LiveLine
@@ -40,7 +40,7 @@ lines_of facts = lines_in facts.table facts.entries
 -- The line is lawful over the ledger so far, and the ledger afterwards is the one after the line.
 pub record Takes (line : Line) (old new : Checking) : Type 0 where
   pub extended : new.extended ≡ old.extended
-  pub order : new.order ≡ old.order
+  pub sides : new.sides ≡ old.sides
   pub table : Extends old.table new.table
   pub lawful : IsLawfulLine (modulus old.extended) (ledger_of old) line
   pub ledger : Agree (ledger_of new) (after (modulus old.extended) (ledger_of old) line)
@@ -48,7 +48,7 @@ pub record Takes (line : Line) (old new : Checking) : Type 0 where
 -- Nothing has changed but the table, which has grown; so the ledger says the same.
 pub record Grows (old new : Checking) : Type 0 where
   pub extended : new.extended ≡ old.extended
-  pub order : new.order ≡ old.order
+  pub sides : new.sides ≡ old.sides
   pub table : Extends old.table new.table
   pub entries : new.entries ≡ old.entries
   pub last : new.last ≡ old.last
@@ -60,8 +60,8 @@ TakesLine line old new = IfSome (told old.table line) (λ x. Takes x old new)
 
 -- the line has the specification's value
 abbrev pub IsClosedBy : Checking → ℕ → Type 0
-IsClosedBy c id = Closes c.extended c.order (ledger_of c).live id
+IsClosedBy c id = Closes c.extended c.sides (ledger_of c).live id
 
 -- The specification vanishes on every evaluation.
 abbrev pub SpecificationVanishes : Checking → Type 0
-SpecificationVanishes c = Always c.extended.gates (λ σ. specification c.extended c.order σ ≡ 0)
+SpecificationVanishes c = Always c.extended.gates (λ σ. specification c.extended c.sides σ ≡ 0)

@@ -1,13 +1,13 @@
 -- What the faults of code say in the words of the definitions.
 use Rattle.std.specs.Prelude.{ℕ, IfSome}
-use Rattle.graph_core.specs.declared.Order.{Order}
-use Rattle.graph_core.specs.Extended.{Extended}
+use Rattle.graph_core.specs.Graph.Operands.{Sides}
+use Rattle.graph_core.specs.Graph.Extended.{Extended}
 use Rattle.graph_core.specs.Algebra.{Ledger, Line}
-use Rattle.graph_core.specs.AlgebraRefusal as cause
+use Rattle.graph_core.specs.Algebra.Refusal as cause
 use Rattle.poly_text.specs.declared.PacLine.{PacLine}
 use Rattle.poly_text.specs.Lines.{told}
 use Rattle.pac_checker.specs.Checking.{Checking, ledger_of}
-use Rattle.pac_checker.specs.InRange.{IsRefusedInRange, IsRefusedCloseInRange}
+use Rattle.graph_core.specs.Algebra.InRange.{IsRefusedInRange, IsRefusedCloseInRange}
 use Rattle.pac_checker.specs.declared.fault.LineFault.{LineFault}
 use Rattle.pac_checker.specs.declared.fault.LineFault.TheVariants.{Id, NoSuchLine, NotEqual, Memory}
 use Rattle.pac_checker.specs.declared.fault.CloseFault.{CloseFault}
@@ -21,14 +21,14 @@ IsFault e l x NotEqual = IsRefusedInRange e l x cause.NotEqual
 IsFault e l x Memory = Unit {0}
 
 -- likewise of a closing line
-abbrev pub IsCloseFault : Extended → Order → Ledger → ℕ → CloseFault → Type 0
-IsCloseFault e order l id (close.NoSuchLine missing) = IsRefusedCloseInRange e order l id (cause.NoSuchLine missing)
-IsCloseFault e order l id close.NotSpec = IsRefusedCloseInRange e order l id cause.NotSpecification
-IsCloseFault e order l id close.Memory = Unit {0}
+abbrev pub IsCloseFault : Extended → Sides → Ledger → ℕ → CloseFault → Type 0
+IsCloseFault e sides l id (close.NoSuchLine missing) = IsRefusedCloseInRange e sides l id (cause.NoSuchLine missing)
+IsCloseFault e sides l id close.NotSpec = IsRefusedCloseInRange e sides l id cause.NotSpecification
+IsCloseFault e sides l id close.Memory = Unit {0}
 
 -- the same of a line of code over a checker, and of a closing one
 abbrev pub IsLineFault : Checking → PacLine → LineFault → Type 0
 IsLineFault c line fault = IfSome (told c.table line) (λ x. IsFault c.extended (ledger_of c) x fault)
 
 abbrev pub IsClosingFault : Checking → ℕ → CloseFault → Type 0
-IsClosingFault c id fault = IsCloseFault c.extended c.order (ledger_of c) id fault
+IsClosingFault c id fault = IsCloseFault c.extended c.sides (ledger_of c) id fault

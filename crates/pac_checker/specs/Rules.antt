@@ -4,19 +4,19 @@ use Rattle.std.specs.declared.option.Option.TheVariants.{None, Some}
 use Rattle.std.specs.List.{All}
 use Rattle.std.specs.Option.{option_or}
 use Rattle.graph_core.specs.declared.Gate.{Gate}
-use Rattle.graph_core.specs.Assignment.{Assignment, variable, literal}
-use Rattle.graph_core.specs.Extended.{Extended}
-use Rattle.graph_core.specs.Operands.{Sides, AreOperandsOf}
-use Rattle.graph_core.specs.Polynomial.{Polynomial}
+use Rattle.graph_core.specs.Graph.Assignments.{Assignment, variable, literal}
+use Rattle.graph_core.specs.Graph.Extended.{Extended}
+use Rattle.graph_core.specs.Graph.Operands.{Sides, AreOperandsOf}
+use Rattle.graph_core.specs.Algebra.Polynomials.{Polynomial}
 use Rattle.graph_core.specs.Algebra.{LiveLine, Line, line_of, value_of, introduce, combined}
 use Rattle.graph_core.specs.Algebra as algebra
-use Rattle.graph_core.specs.AlgebraRefusal.{first_missing}
+use Rattle.graph_core.specs.Algebra.Refusal.{first_missing}
 use Rattle.mv_fact.specs.Facts.{Facts, IsKept, fact_at}
 use Rattle.poly_terms.specs.Tables.{Table, Sum, IsOf, Extends, modulus, value_in, monomials_in}
 use Rattle.poly_text.specs.Lines.{told_part}
 use Rattle.pac_checker.specs.declared.fault.LineFault.{LineFault}
 use Rattle.pac_checker.specs.declared.fault.LineFault.TheVariants.{Id, NoSuchLine, NotEqual, Memory}
-use Rattle.pac_checker.specs.Agreement.{Agree, AreSame, AreSameLines}
+use Rattle.graph_core.specs.Algebra.Agreement.{Agree, AreSame, AreSameLines}
 use Rattle.pac_checker.specs.Checking.{Checking, lines_in, lines_of, ledger_of}
 use Rattle.pac_checker.specs.Faults.{IsFault}
 
@@ -112,7 +112,7 @@ IsStatingFault t named stated Memory = Unit {0}
 -- A polynomial of the same table was put under a new id.
 pub record Introduces (id : ℕ) (p : Polynomial) (old new : Checking) : Type 0 where
   pub extended : new.extended ≡ old.extended
-  pub order : new.order ≡ old.order
+  pub sides : new.sides ≡ old.sides
   pub table : new.table ≡ old.table
   pub ledger : Agree (ledger_of new) (introduce (modulus old.table) (ledger_of old) id p)
 

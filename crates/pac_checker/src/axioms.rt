@@ -1,12 +1,11 @@
 ghost use Rattle.std.specs.Prelude.{◌≡◌, ◌*◌, ◌<◌, ◌≤◌, [], None, OnOk, length, map};
 ghost use Rattle.graph_core.specs.Algebra.{gate_axiom, axioms, AgreeOnColumns};
 ghost use Rattle.graph_core.specs.Algebra as algebra;
-ghost use Rattle.graph_core.specs.Assignment.{literal};
-ghost use Rattle.graph_core.specs.Operands.{width, HasMultiplierShape};
+ghost use Rattle.graph_core.specs.Graph.Assignments.{literal};
 ghost use Rattle.ripple_graft.specs.Extension.{IsExtension};
 ghost use Rattle.mv_fact.specs.Always.{Always};
 ghost use Rattle.poly_terms.specs.Tables.{Extends, modulus};
-ghost use Rattle.pac_checker.specs.Agreement.{AreSameLines};
+ghost use Rattle.graph_core.specs.Algebra.Agreement.{AreSameLines};
 ghost use Rattle.pac_checker.specs.Checking.{lines_of};
 ghost use Rattle.pac_checker.specs.Columns.{column_of, column_by, difference_line, PutsLine, HasColumns, AddsColumn};
 ghost use Rattle.pac_checker.specs.Rules.{Computes, AddsLine};
@@ -91,7 +90,7 @@ fn add_column(
     requires gates { live.old.gates ≡ extended.now.gates }
     requires modulus { modulus live.old.table ≡ algebra.modulus extended.now }
     requires in_range { k < length extended.now.graph.outputs }
-    requires few { length extended.now.graph.outputs ≤ 128 }
+    requires few { length extended.now.graph.outputs ≤ 256 }
     requires extension { IsExtension extended.now }
     requires columns { Always extended.now.gates (AgreeOnColumns extended.now) }
     ensures { OnOk result (AddsColumn extended.now k live.old live.new) }
@@ -113,15 +112,14 @@ fn add_columns(
 ) -> Result<(), Memory>
     requires gates { live.old.gates ≡ extended.now.gates }
     requires modulus { modulus live.old.table ≡ algebra.modulus extended.now }
-    requires shape { HasMultiplierShape extended.now.graph }
-    requires narrow { width extended.now.graph ≤ 64 }
     requires extension { IsExtension extended.now }
     requires columns { Always extended.now.gates (AgreeOnColumns extended.now) }
     requires none { HasColumns extended.now 0 live.old live.old }
     ensures { OnOk result
-        (HasColumns extended.now (2 * width extended.now.graph) live.old live.new) }
+        (HasColumns extended.now (length extended.now.graph.outputs) live.old live.new) }
 {
-    for k in 0..2 * extended.graph().bits() {
+    let columns = extended.graph().outputs();
+    for k in 0..columns {
         add_column(alloc, live, extended, k)?;
     }
     Ok(())
@@ -136,8 +134,6 @@ pub(crate) fn add_axioms(
     requires gates { live.old.gates ≡ extended.now.gates }
     requires empty { live.old.entries ≡ [] }
     requires modulus { modulus live.old.table ≡ algebra.modulus extended.now }
-    requires shape { HasMultiplierShape extended.now.graph }
-    requires narrow { width extended.now.graph ≤ 64 }
     requires columns { Always extended.now.gates (AgreeOnColumns extended.now) }
     ensures gates { OnOk result (live.new.gates ≡ live.old.gates) }
     ensures table { OnOk result (Extends live.old.table live.new.table) }

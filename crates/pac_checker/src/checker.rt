@@ -4,12 +4,12 @@ ghost use Rattle.std.specs.Prelude.{◌≡◌, ◌*◌, ◌<◌, ◌≤◌, [], 
 ghost use Rattle.std.specs.List.{All};
 ghost use Rattle.graph_core.specs.Algebra.{Delete, axioms, AgreeOnColumns};
 ghost use Rattle.graph_core.specs.Algebra as algebra;
-ghost use Rattle.graph_core.specs.Operands.{width, AreOperandsOf, HasMultiplierShape};
+ghost use Rattle.graph_core.specs.Graph.Operands.{width, AreOperandsOf, HasMultiplierShape};
 ghost use Rattle.mv_fact.specs.Always.{Always};
 ghost use Rattle.poly_terms.specs.Tables.{IsOf, modulus, monomials_in};
 ghost use Rattle.poly_text.specs.Lines.{told, AreOf};
 ghost use Rattle.gate_axioms.specs.Axioms.{IsSpecification};
-ghost use Rattle.pac_checker.specs.Agreement.{Agree};
+ghost use Rattle.graph_core.specs.Algebra.Agreement.{Agree};
 ghost use Rattle.pac_checker.specs.Checking.{ledger_of, Takes, TakesLine, Grows, IsClosedBy, SpecificationVanishes};
 ghost use Rattle.pac_checker.specs.Faults.{IsLineFault, IsClosingFault};
 ghost use Rattle.pac_checker.specs.Rules.{Vanishes, AreEqual, IsRefused, IsStatingFault, Introduces, sum_line, product_line, combination_line};
@@ -43,7 +43,7 @@ impl<'a> Model for PacChecker<'a> {
 
     ghost Value = { Checking };
 
-    ghost view = { λ c. checking_of c.extended.now c.operands.now.order c.live c.last };
+    ghost view = { λ c. checking_of c.extended.now c.operands.now c.live c.last };
 
     ghost invariant = { λ c. IsSound c.extended.now c.operands.now c.live c.last };
 }
@@ -61,19 +61,19 @@ impl<'a> PacChecker<'a> {
         requires narrow { width extended.now.graph ≤ 64 }
         requires columns { Always extended.now.gates (AgreeOnColumns extended.now) }
         ensures extended { IfOk result (λ c. c.extended ≡ extended.entry.now) }
-        ensures order { IfOk result (λ c. c.order ≡ operands.entry.now.order) }
+        ensures sides { IfOk result (λ c. c.sides ≡ operands.entry.now) }
         ensures modulus { IfOk result (λ c. modulus c.table ≡ algebra.modulus c.extended) }
         ensures axioms { IfOk result (λ c. Agree (ledger_of c) (axioms extended.entry.now)) }
     {
-        let bits = extended.graph().bits();
-        let mut live = Live::new(alloc, extended.gates(), Terms::new(alloc, 2 * bits));
+        let outputs = extended.graph().outputs();
+        let mut live = Live::new(alloc, extended.gates(), Terms::new(alloc, outputs));
         add_axioms(alloc, &mut live, extended)?;
         Ok(PacChecker {
             alloc,
             extended,
             operands,
             live,
-            last: u64::from(extended.max()) + 2 * u64::from(bits),
+            last: u64::from(extended.max()) + u64::from(outputs),
         })
     }
 
@@ -141,7 +141,7 @@ impl<'a> PacChecker<'a> {
         ensures grows { Grows self.old self.new }
         ensures of_table { IfOk result (IsOf self.new.table) }
         ensures value { IfOk result
-            (λ p. IsSpecification self.new.table p self.old.extended self.old.order) }
+            (λ p. IsSpecification self.new.table p self.old.extended self.old.sides) }
     {
         let mut work = MakeSpecification {
             alloc: self.alloc,
@@ -155,7 +155,7 @@ impl<'a> PacChecker<'a> {
     fn compare(&self, id: u64, wanted: &Poly) -> Result<(), CloseFault>
         requires wanted { IsOf self.now.table wanted.now }
         requires value { IsSpecification self.now.table wanted.now self.now.extended
-            self.now.order }
+            self.now.sides }
         ensures closes { OnOk result (IsClosedBy self.now id) }
         ensures vanishes { OnOk result (SpecificationVanishes self.now) }
         ensures refused { IfErr result (IsClosingFault self.now id) }

@@ -132,8 +132,7 @@ pub(crate) struct MakeSpecification<'a> {
 
 impl<'a> Grow<Poly> for MakeSpecification<'a> {
     ghost use Rattle.std.specs.Prelude.{◌≡◌, IfOk};
-    ghost use Rattle.graph_core.specs.Extended.{without_cut};
-    ghost use Rattle.graph_core.specs.Operands.{AreOperandsOf};
+    ghost use Rattle.graph_core.specs.Graph.Extended.{without_cut};
     ghost use Rattle.graph_core.specs.Algebra.{modulus as modulus_of};
     ghost use Rattle.poly_terms.specs.Tables.{IsOf, modulus};
     ghost use Rattle.gate_axioms.specs.Axioms.{IsSpecification};
@@ -142,9 +141,9 @@ impl<'a> Grow<Poly> for MakeSpecification<'a> {
 
     type On = ();
 
-    ghost can_grow = { λ work _ table. AreOperandsOf work.graph.now work.operands.now × (modulus table ≡ modulus_of (without_cut work.graph.now)) };
+    ghost can_grow = { λ work _ table. modulus table ≡ modulus_of (without_cut work.graph.now) };
 
-    ghost did = { λ work _ _ out _ _ table'. IfOk out (λ p. IsOf table' p × IsSpecification table' p (without_cut work.graph.now) work.operands.now.order) };
+    ghost did = { λ work _ _ out _ _ table'. IfOk out (λ p. IsOf table' p × IsSpecification table' p (without_cut work.graph.now) work.operands.now) };
 
     fn grow(&mut self, _on: &mut (), table: &mut Terms) -> Result<Poly, Memory> {
         spec_poly(self.alloc, table, self.graph, self.operands)

@@ -1,17 +1,17 @@
 -- Polynomials of a table with the same values are the same.
 use Rattle.std.proofs.Common.{◌≡◌, ℕ, ◌+◌, ◌*◌, ◌-◌, ◌%◌, ◌<◌, Bool, true, false, cond, ◌==◌, Option, Some, None, List, [], ◌∷◌, refl, ap, ap₂, ◌∙◌, arith, eqb-true, mod-eq_of_lt}
 use Rattle.std.proofs.Math.Nat.{mul-mod_right}
-use Rattle.std.proofs.lemmas.Map.Lookups.{exact_bytes}
+use Rattle.std.proofs.lemmas.Map.Lookups.{exact_unsigned}
 use Rattle.std.specs.List.{AllByRecursion}
 use Rattle.std.specs.declared.cmp.Ordering.{Ordering}
 use Rattle.std.specs.declared.cmp.Ordering.TheVariants.{Less, Equal, Greater}
-use Rattle.graph_core.specs.Assignment.{Assignment}
-use Rattle.graph_core.specs.Polynomial.{product}
-use Rattle.graph_core.specs.NormalForm.{AreRising}
-use Rattle.graph_core.proofs.NormalForms.{normal_forms_differ}
-use Rattle.graph_core.proofs.Residues.{same_from_difference}
+use Rattle.graph_core.specs.Graph.Assignments.{Assignment}
+use Rattle.graph_core.specs.Algebra.Polynomials.{product}
+use Rattle.graph_core.proofs.OfAlgebra.CallerLemmas.{normal_forms_differ}
+use Rattle.graph_core.proofs.OfGraphs.CallerLemmas.{same_from_difference}
 use Rattle.poly_terms.specs.Merges.{chosen, AreAfter}
 use Rattle.poly_terms.specs.Entries.{entry_order, add_entries, plus, total, Sum, Summand}
+use Rattle.poly_terms.specs.Monomials.{AreIn}
 use Rattle.poly_terms.specs.Tables.{Table, IsOf, modulus, variables_in, monomials_in, value_in}
 use Rattle.poly_terms.proofs.Orders.{after_list, same_bound}
 use Rattle.poly_terms.proofs.Residues.{sum_of_reduced}
@@ -30,10 +30,10 @@ negated_below m (e ∷ es) h =
     let high = h.0.1 in
     ((omega arith, omega arith), negated_below m es h.1)
 
-negated_rising : (t : Table) (m : ℕ) (es : Sum) → AllByRecursion (λ e. AreRising 0 (variables_in t e.0)) es → AllByRecursion (λ e. AreRising 0 (variables_in t e.0)) (negated m es)
+negated_in : (ms : List (List ℕ)) (m : ℕ) (es : Sum) → AreIn ms es → AreIn ms (negated m es)
 unfolding negated
-negated_rising t m [] h = tt
-negated_rising t m (e ∷ es) h = (h.0, negated_rising t m es h.1)
+negated_in ms m [] h = tt
+negated_in ms m (e ∷ es) h = (h.0, negated_in ms m es h.1)
 
 negated_after : (m : ℕ) (bound : Option (Summand)) (es : Sum) → AreAfter entry_order bound es → AreAfter entry_order bound (negated m es)
 unfolding negated
@@ -44,14 +44,15 @@ negated-IsOf : (t : Table) (p : Sum) → IsOf t p → IsOf t (negated (modulus t
 unfolding IsOf
 negated-IsOf t p h = record {
   coefficients = negated_below (modulus t) p h.coefficients;
-  variables = negated_rising t (modulus t) p h.variables;
+  numbers = negated_in t.monomials (modulus t) p h.numbers;
+  table = h.table;
   order = negated_after (modulus t) None p h.order;
 }
 
 multiple : (d c m f r s n : ℕ) → d + c ≡ m → r + s ≡ m * n → (d * f + r) + (c * f + s) ≡ m * (f + n)
 multiple d c m f r s n h g = omega (arith, ap (λ k. k * f) h, g)
 
-total-negated : (m : ℕ) (f : List ℕ → ℕ) (es : Sum) → AllByRecursion (λ e. (0 < e.1) × (e.1 < m)) es → (n : ℕ) × (total f (negated m es) + total f es ≡ m * n)
+total-negated : (m : ℕ) (f : ℕ → ℕ) (es : Sum) → AllByRecursion (λ e. (0 < e.1) × (e.1 < m)) es → (n : ℕ) × (total f (negated m es) + total f es ≡ m * n)
 unfolding negated
 total-negated m f [] h = (0, omega arith)
 total-negated m f (e ∷ es) h =
@@ -65,7 +66,7 @@ opposite : (t : Table) (p q : Sum) (σ : Assignment) → IsOf t q → value_in t
 unfolding IsOf
 opposite t p q σ h same =
     let m = modulus t in
-    let f = λ (k : List ℕ). product σ (variables_in t k) in
+    let f = λ (k : ℕ). product σ (variables_in t k) in
     let none = total-negated m f q h.coefficients in
     value-plus t p (negated m q) σ ∙ ap₂ (λ a b. (a + b) % m) (same ∙ value-total t q σ) (value-total t (negated m q) σ) ∙ sum_of_reduced m (total f q) (total f (negated m q)) ∙
     ap (λ n. n % m) (omega (arith, none.1)) ∙ mul-mod_right m none.0
@@ -73,7 +74,7 @@ opposite t p q σ h same =
 same_heads : (m : ℕ) (x y : Summand) → x.0 ≡ y.0 → x.1 < m → y.1 < m → (x.1 + (m - y.1)) % m ≡ 0 → x ≡ y
 same_heads m x y e xm ym h =
     let c : x.1 ≡ y.1 = same_from_difference m x.1 y.1 xm ym (ap (λ k. (x.1 + (m - k)) % m) (mod-eq_of_lt ym) ∙ h) in
-    let pair : (x.0, x.1) ≡ (y.0, y.1) = ap₂ (λ (a : List ℕ) (b : ℕ). (a, b)) e c in
+    let pair : (x.0, x.1) ≡ (y.0, y.1) = ap₂ (λ (a b : ℕ). (a, b)) e c in
     pair
 
 no_items : {A : Type 0} {X : Type 0} (x : X) (xs : List X) → x ∷ xs ≡ [] → A
@@ -96,7 +97,7 @@ none_left m (x ∷ xs) (y ∷ ys) a b h = go (λ g. none_left m xs ys a.1 b.1 g)
     go : (plus m xs (negated m ys) ≡ [] → xs ≡ ys) → (o : Ordering) → entry_order x y ≡ o →
         chosen (add_entries m) o x (y.0, m - y.1) (plus m xs ((y.0, m - y.1) ∷ negated m ys)) (plus m xs (negated m ys)) (plus m (x ∷ xs) (negated m ys)) ≡ [] → x ∷ xs ≡ y ∷ ys
     go later Less e g = no_items _ _ g
-    go later Equal e g = kept later (exact_bytes x.0 y.0 e) ((x.1 + (m - y.1)) % m == 0) refl g
+    go later Equal e g = kept later (exact_unsigned x.0 y.0 e) ((x.1 + (m - y.1)) % m == 0) refl g
     go later Greater e g = no_items _ _ g
 
 -- polynomials with the same value at every assignment are the same

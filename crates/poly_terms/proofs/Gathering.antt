@@ -1,18 +1,16 @@
 -- Entries in any order, gathered once they are sorted.
 use Rattle.std.proofs.Common.{◌≡◌, ◌≢◌, ℕ, suc, ◌+◌, ◌*◌, ◌%◌, ◌<◌, Bool, true, false, cond, ◌==◌, Option, Some, None, List, [], ◌∷◌, ◌++◌, get_or, sum_by, refl, sym, ap, subst, ◌∙◌, ⊎_elim, arith, mod-lt, eqb-true, true≢false}
-use Rattle.std.proofs.lemmas.Cmp.{nat_list_cmp_total}
+use Rattle.std.proofs.lemmas.Cmp.{nat_cmp_total}
 use Rattle.std.proofs.lemmas.List.Elements.{All-from_recursion, recursion_from_All}
 use Rattle.std.proofs.lemmas.List.Sorted.{All-permutation, ranks_by, sorted_far, sum_by-IsPermutation}
 use Rattle.std.proofs.lemmas.List.Sums.{sum_by-cons}
-use Rattle.std.proofs.lemmas.Map.Lookups.{exact_bytes}
-use Rattle.std.specs.Cmp.Lexicographic.{slice_cmp}
+use Rattle.std.proofs.lemmas.Map.Lookups.{exact_unsigned}
 use Rattle.std.specs.List.{AllByRecursion}
 use Rattle.std.specs.List.Sorted.{IsPermutation, IsSortedBy}
 use Rattle.std.specs.Ordering.{is_lt, nat_cmp, ordering_reverse}
 use Rattle.std.specs.declared.cmp.Ordering.{Ordering}
 use Rattle.std.specs.declared.cmp.Ordering.TheVariants.{Less, Equal, Greater}
-use Rattle.graph_core.specs.NormalForm.{AreRising}
-use Rattle.graph_core.proofs.Lists.{all_split, all_weaker}
+use Rattle.graph_core.proofs.OfGraphs.CallerLemmas.{all_split, all_weaker}
 use Rattle.poly_terms.specs.Merges.{AreAfter, IsAfter}
 use Rattle.poly_terms.specs.Entries.{entry_order, total, one_entry, IsGathered, IsPutBehind, Sum, Summand}
 use Rattle.poly_terms.proofs.Orders.{after_list}
@@ -20,7 +18,7 @@ use Rattle.poly_terms.proofs.Residues.{factor_reduced, plus_same}
 use Rattle.poly_terms.proofs.Values.{not_zero}
 
 pub gathered_none : (m : ℕ) → IsGathered m [] []
-gathered_none m = record { sums = λ f. refl; order = tt; coefficients = tt; keys = λ h. h }
+gathered_none m = record { sums = λ f. refl; order = tt; coefficients = tt; numbers = λ n h. h }
 
 pub gathered_one : (m : ℕ) (e : Summand) → 0 < m → IsGathered m (e ∷ []) (one_entry m e)
 gathered_one m e some = go (e.1 % m == 0) refl
@@ -30,16 +28,16 @@ gathered_one m e some = go (e.1 % m == 0) refl
       sums = λ f. let none = eqb-true (e.1 % m) 0 t in ap (λ n. n % m) (omega (arith, ap (λ n. n * f e.0) none)) ∙ factor_reduced m e.1 (f e.0) 0;
       order = tt;
       coefficients = tt;
-      keys = λ h. tt;
+      numbers = λ n h. tt;
     }
     go false t = record {
       sums = λ f. factor_reduced m e.1 (f e.0) 0;
       order = (tt, tt);
       coefficients = ((not_zero (e.1 % m) t, mod-lt e.1 some), tt);
-      keys = λ h. (h.0, tt);
+      numbers = λ n h. (h.0, tt);
     }
 
-pub total-append : (f : List ℕ → ℕ) (xs ys : Sum) → total f (xs ++ ys) ≡ total f xs + total f ys
+pub total-append : (f : ℕ → ℕ) (xs ys : Sum) → total f (xs ++ ys) ≡ total f xs + total f ys
 total-append f [] ys = omega arith
 total-append f (x ∷ xs) ys = omega (arith, total-append f xs ys)
 
@@ -56,8 +54,8 @@ after-one_entry m bound [] x a = go (x.1 % m == 0)
 after-one_entry m bound (y ∷ ys) x a = (a.0, after-one_entry m (Some y) ys x a.1)
 
 -- entries are gathered where all but the last are, and the last one is reduced
-ends : (m : ℕ) (raw front : Sum) (x : Summand) → 0 < m → ((f : List ℕ → ℕ) → total f (front ++ x ∷ []) % m ≡ total f raw % m) → AreAfter entry_order None (front ++ x ∷ []) →
-    AllByRecursion (λ e. (0 < e.1) × (e.1 < m)) front → (AllByRecursion (λ e. AreRising 0 e.0) raw → AllByRecursion (λ e. AreRising 0 e.0) (front ++ x ∷ [])) →
+ends : (m : ℕ) (raw front : Sum) (x : Summand) → 0 < m → ((f : ℕ → ℕ) → total f (front ++ x ∷ []) % m ≡ total f raw % m) → AreAfter entry_order None (front ++ x ∷ []) →
+    AllByRecursion (λ e. (0 < e.1) × (e.1 < m)) front → ((n : ℕ) → AllByRecursion (λ e. e.0 < n) raw → AllByRecursion (λ e. e.0 < n) (front ++ x ∷ [])) →
     IsGathered m raw (front ++ one_entry m x)
 ends m raw front x some sums order coefficients keys =
     let one = gathered_one m x some in
@@ -67,9 +65,9 @@ ends m raw front x some sums order coefficients keys =
           ap (λ n. n % m) (sym (total-append f front (x ∷ []))) ∙ sums f;
       order = after-one_entry m None front x order;
       coefficients = all_joined (λ e. (0 < e.1) × (e.1 < m)) front (one_entry m x) coefficients one.coefficients;
-      keys = λ h.
-          let parts = all_split (λ e. AreRising 0 e.0) front (x ∷ []) (keys h) in
-          all_joined (λ e. AreRising 0 e.0) front (one_entry m x) parts.0 (one.keys parts.1);
+      numbers = λ n h.
+          let parts = all_split (λ e. e.0 < n) front (x ∷ []) (keys n h) in
+          all_joined (λ e. e.0 < n) front (one_entry m x) parts.0 (one.numbers n parts.1);
     }
 
 -- one more entry, with the monomial of the last
@@ -85,10 +83,10 @@ gathered_onto m raw front last e some same g =
     ap (λ n. n % m) one ∙ plus_same m (e.1 * f e.0) (total f (front ++ last ∷ [])) (total f raw) (g.sums f) ∙ ap (λ n. n % m) two)
     (after_same None front last both same g.order)
     (all_split (λ x. (0 < x.1) × (x.1 < m)) front (last ∷ []) g.coefficients).0
-    (λ h.
-    let parts = all_split (λ x. AreRising 0 x.0) raw (e ∷ []) h in
-    let old = all_split (λ x. AreRising 0 x.0) front (last ∷ []) (g.keys parts.0) in
-    all_joined (λ x. AreRising 0 x.0) front (both ∷ []) old.0 (parts.1.0, tt))
+    (λ n h.
+    let parts = all_split (λ x. x.0 < n) raw (e ∷ []) h in
+    let old = all_split (λ x. x.0 < n) front (last ∷ []) (g.numbers n parts.0) in
+    all_joined (λ x. x.0 < n) front (both ∷ []) old.0 (parts.1.0, tt))
   where
     after_same : (bound : Option Summand) (xs : Sum) (x y : Summand) → x.0 ≡ y.0 → AreAfter entry_order bound (xs ++ x ∷ []) → AreAfter entry_order bound (xs ++ y ∷ [])
     after_same bound [] x y e a = (after_list bound x y e a.0, tt)
@@ -105,9 +103,9 @@ gathered_behind m raw old e some order g =
     ap (λ n. n % m) one ∙ plus_same m (e.1 * f e.0) (total f old) (total f raw) (g.sums f) ∙ ap (λ n. n % m) two)
     order
     g.coefficients
-    (λ h.
-    let parts = all_split (λ x. AreRising 0 x.0) raw (e ∷ []) h in
-    all_joined (λ x. AreRising 0 x.0) old (e ∷ []) (g.keys parts.0) parts.1)
+    (λ n h.
+    let parts = all_split (λ x. x.0 < n) raw (e ∷ []) h in
+    all_joined (λ x. x.0 < n) old (e ∷ []) (g.numbers n parts.0) parts.1)
 
 -- no entry of the list comes before x
 abbrev pub NoneBefore : Summand → Sum → Type 0
@@ -121,7 +119,7 @@ Ascend (x ∷ es) = NoneBefore x es × Ascend es
 -- only an entry's monomial matters
 none_before : (x y : Summand) (es : Sum) → x.0 ≡ y.0 → NoneBefore x es → NoneBefore y es
 none_before x y [] e h = tt
-none_before x y (z ∷ es) e h = (ap (λ k. is_lt (slice_cmp nat_cmp z.0 k)) (sym e) ∙ h.0, none_before x y es e h.1)
+none_before x y (z ∷ es) e h = (ap (λ k. is_lt (nat_cmp z.0 k)) (sym e) ∙ h.0, none_before x y es e h.1)
 
 none_before_one : (m : ℕ) (x : Summand) (es : Sum) → NoneBefore x es → AllByRecursion (λ o. NoneBefore o es) (one_entry m x)
 none_before_one m x es h = go (x.1 % m == 0)
@@ -136,9 +134,9 @@ comes_after x e h other = go (entry_order x e) refl
   where
     go : (o : Ordering) → entry_order x e ≡ o → entry_order x e ≡ Less
     go Less is = is
-    go Equal is = absurd (other (exact_bytes x.0 e.0 is))
+    go Equal is = absurd (other (exact_unsigned x.0 e.0 is))
     go Greater is =
-        let before : is_lt (entry_order e x) ≡ true = ap is_lt (nat_list_cmp_total.antisymm e.0 x.0 ∙ ap ordering_reverse is) in
+        let before : is_lt (entry_order e x) ≡ true = ap is_lt (nat_cmp_total.antisymm e.0 x.0 ∙ ap ordering_reverse is) in
         absurd (true≢false (sym before ∙ h))
 
 -- an entry after the last one is after all
@@ -178,14 +176,14 @@ before x y = is_lt (entry_order x y)
 pub ascend_sorted : (es : Sum) → IsSortedBy before es → Ascend es
 ascend_sorted [] up = tt
 ascend_sorted (x ∷ es) up = (
-  recursion_from_All (λ e. before e x ≡ false) es (λ k d h. sorted_far before (ranks_by nat_list_cmp_total (λ (e : Summand). e.0)) (x ∷ es) up 0 (suc k) d (omega arith) (omega arith)),
+  recursion_from_All (λ e. before e x ≡ false) es (λ k d h. sorted_far before (ranks_by nat_cmp_total (λ (e : Summand). e.0)) (x ∷ es) up 0 (suc k) d (omega arith) (omega arith)),
   ascend_sorted es
       (λ k d h i.
       let next : suc k + 1 ≡ suc (k + 1) = omega arith in
       subst (λ n. before (get_or (x ∷ es) n d) (get_or es k d) ≡ false) next (up (suc k) d (omega arith) (omega arith))),
 )
 
-total-sum_by : (f : List ℕ → ℕ) (es : Sum) → total f es ≡ sum_by (λ e. e.1 * f e.0) es
+total-sum_by : (f : ℕ → ℕ) (es : Sum) → total f es ≡ sum_by (λ e. e.1 * f e.0) es
 total-sum_by f [] = refl
 total-sum_by f (e ∷ es) = ap (λ n. e.1 * f e.0 + n) (total-sum_by f es) ∙ sym (sum_by-cons (λ (x : Summand). x.1 * f x.0) e es)
 
@@ -196,7 +194,7 @@ gathered_permuted m raw sorted out moved g = record {
       g.sums f ∙ ap (λ n. n % m) (total-sum_by f sorted ∙ sum_by-IsPermutation (λ (e : Summand). e.1 * f e.0) raw sorted moved ∙ sym (total-sum_by f raw));
   order = g.order;
   coefficients = g.coefficients;
-  keys = λ h.
-      let rising = λ (e : Summand). AreRising 0 e.0 in
-      g.keys (recursion_from_All rising sorted (All-permutation rising raw sorted moved (All-from_recursion rising raw h)));
+  numbers = λ n h.
+      let below = λ (e : Summand). e.0 < n in
+      g.numbers n (recursion_from_All below sorted (All-permutation below raw sorted moved (All-from_recursion below raw h)));
 }

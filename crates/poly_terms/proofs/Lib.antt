@@ -7,9 +7,14 @@ pub mod Keys
 pub mod Products
 pub mod Gathering
 pub mod Equality
-pub mod Given
-pub mod Factors
-pub mod Made
 pub mod Assigned
 pub mod Leaving
+pub mod Interned
+pub mod Adding
+pub mod Given
+pub mod Placing
+pub mod Made
 pub mod Replacing
+pub mod Dividing
+pub mod Summing
+pub mod Placed

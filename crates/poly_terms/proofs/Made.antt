@@ -1,72 +1,102 @@
 -- What the calls of a table make, in values.
-use Rattle.std.specs.Global.{Global}
-use Rattle.std.specs.declared.vec.Vec.{Vec}
-use Rattle.std.proofs.Common.{◌≡◌, ℕ, ◌+◌, ◌*◌, ◌%◌, ◌^◌, List, [], ◌∷◌, ◌++◌, sum_by, refl, sym, ap, ap₂, subst, ◌∙◌}
+use Rattle.std.proofs.Common.{◌≡◌, ℕ, ◌+◌, ◌*◌, ◌%◌, ◌^◌, ◌<◌, List, Some, [], ◌∷◌, get_or, length, map, slice_get, sum_by, refl, sym, ap, ap₂, subst, ◌∙◌, arith}
 use Rattle.std.proofs.Math.Nat.{add-mod-mod, mod-mod}
+use Rattle.std.proofs.lemmas.List.{length-map}
 use Rattle.std.proofs.lemmas.List.Sums.{sum_by-cons}
+use Rattle.std.proofs.lemmas.Option.{slice_get-map, slice_get_read}
 use Rattle.std.specs.List.{AllByRecursion}
-use Rattle.graph_core.specs.Assignment.{Assignment}
-use Rattle.graph_core.specs.Polynomial.{product, sum_of, value}
-use Rattle.graph_core.specs.NormalForm.{AreRising}
-use Rattle.poly_terms.specs.Entries.{products, total, IsGathered, Sum}
-use Rattle.poly_terms.specs.Tables.{Table, IsOf, IsAdded, AreEntriesOf, modulus, table_of, variables_in, monomials_in, value_in, given}
-use Rattle.poly_terms.proofs.Residues.{sum_of_reduced, product_of_reduced}
-use Rattle.poly_terms.proofs.Keys.{product-joined}
-use Rattle.poly_terms.proofs.Factors.{total-products, rising-products}
-use Rattle.poly_terms.proofs.Values.{value-total}
+use Rattle.std.specs.Prelude.{option_map}
+use Rattle.graph_core.specs.Graph.Assignments.{Assignment}
+use Rattle.graph_core.specs.Algebra.Polynomials.{product, sum_of}
+use Rattle.poly_terms.specs.Entries.{IsGathered, Sum, Summand, appended, total}
+use Rattle.poly_terms.specs.Monomials.{Adds, AreIn, AreMonomials, Grows, total_in}
+use Rattle.poly_terms.specs.Tables.{Table, Extends, IsOf, modulus, monomial_in, monomials_in, value_in}
+use Rattle.poly_terms.proofs.Adding.{all_at}
 use Rattle.poly_terms.proofs.Gathering.{all_joined, total-append}
+use Rattle.poly_terms.proofs.Residues.{product_of_reduced, sum_of_reduced}
+use Rattle.poly_terms.proofs.Values.{value-total}
 
-pub gathered-IsOf : (t : Table) (raw p : Sum) → IsGathered (modulus t) raw p → AllByRecursion (λ e. AreRising 0 e.0) raw → IsOf t p
+-- a table by its parts
+abbrev pub table_of : ℕ → List (List ℕ) → Table
+table_of w ms = record { width = w; monomials = ms }
+
+-- the table extends the one before
+pub extends_grown : (w : ℕ) (old new : List (List ℕ)) (t : Table) → table_of w old ≡ t → Grows old new → Extends t (table_of w new)
+unfolding Extends
+extends_grown w old new t e g = subst (λ (u : Table). (w ≡ u.width) × Grows u.monomials new) e (refl, g)
+
+-- a polynomial's numbers are in the table
+pub numbers_of : (w : ℕ) (ms : List (List ℕ)) (t : Table) (p p' : Sum) → table_of w ms ≡ t → p' ≡ p → IsOf t p → AreIn ms p'
 unfolding IsOf
-gathered-IsOf t raw p g h = record { coefficients = g.coefficients; variables = g.keys h; order = g.order }
+numbers_of w ms t p p' e f h = subst (λ (u : Table). AreIn u.monomials p') (sym e) (subst (AreIn t.monomials) (sym f) h.numbers)
 
-pub given-value : (t : Table) (parts : List (ℕ × Vec ℕ Global)) (raw p : Sum) (σ : Assignment) → AreEntriesOf parts raw → IsGathered (modulus t) raw p →
-    value_in t p σ ≡ value (modulus t) (given parts) σ
-given-value t parts raw p σ a g = value-total t p σ ∙ g.sums (λ k. product σ (variables_in t k)) ∙ ap (λ n. n % modulus t) (a.sums (modulus t) σ)
+-- what was gathered is a polynomial
+pub made-IsOf : (w : ℕ) (ms : List (List ℕ)) (raw out r : Sum) → r ≡ out → AreMonomials ms → AreIn ms raw → IsGathered (2 ^ w) raw out → IsOf (table_of w ms) r
+unfolding IsOf
+made-IsOf w ms raw out r is o h g =
+    subst (IsOf (table_of w ms)) (sym is) (record { coefficients = g.coefficients; numbers = g.numbers (length ms) h; order = g.order; table = o })
 
-pub product-value : (t : Table) (p q r : Sum) (σ : Assignment) → IsGathered (modulus t) (products (modulus t) p q) r → value_in t r σ ≡ (value_in t p σ * value_in t q σ) % modulus t
-product-value t p q r σ g =
-    let f = λ (k : List ℕ). product σ (variables_in t k) in
-    value-total t r σ ∙ g.sums f ∙ total-products (modulus t) f (λ a b. product-joined σ a b) p q ∙ sym (product_of_reduced (modulus t) (total f p) (total f q)) ∙
+-- and its value
+pub made-value : (w : ℕ) (old new : List (List ℕ)) (n : Assignment → ℕ) (raw out r : Sum) (σ : Assignment) → r ≡ out → Adds (2 ^ w) old new [] raw n → IsGathered (2 ^ w) raw out →
+    value_in (table_of w new) r σ ≡ n σ % 2 ^ w
+made-value w old new n raw out r σ is adds g =
+    value-total (table_of w new) r σ ∙ ap (λ es. total_in new σ es % 2 ^ w) is ∙ g.sums (λ k. product σ (get_or new k [])) ∙ adds.sums tt σ ∙ ap (λ k. k % 2 ^ w) (let e : 0 + n σ ≡ n σ = omega arith in e)
+
+-- the product of totals is that of values
+pub product-values : (w : ℕ) (ms : List (List ℕ)) (t : Table) (p q p' q' : Sum) (σ : Assignment) → table_of w ms ≡ t → p' ≡ p → q' ≡ q →
+    (total_in ms σ p' * total_in ms σ q') % 2 ^ w ≡ (value_in t p σ * value_in t q σ) % modulus t
+product-values w ms t p q p' q' σ e f g =
+    let one : (total_in ms σ p' * total_in ms σ q') % 2 ^ w ≡ (total_in t.monomials σ p * total_in t.monomials σ q) % modulus t =
+    ap₂ (λ a b. (total_in ms σ a * total_in ms σ b) % 2 ^ w) f g ∙ ap (λ (u : Table). (total_in u.monomials σ p * total_in u.monomials σ q) % modulus u) e in
+    one ∙ sym (product_of_reduced (modulus t) (total_in t.monomials σ p) (total_in t.monomials σ q)) ∙
     sym (ap₂ (λ a b. (a * b) % modulus t) (value-total t p σ) (value-total t q σ))
-
-pub product-IsOf : (t : Table) (p q r : Sum) → IsOf t p → IsOf t q → IsGathered (modulus t) (products (modulus t) p q) r → IsOf t r
-unfolding IsOf
-product-IsOf t p q r a b g = gathered-IsOf t (products (modulus t) p q) r g (rising-products (modulus t) p q a.variables b.variables)
-
--- what was gathered, seen from a table
-pub gathered_along : (w : ℕ) (t : Table) (raw raw' p p' : Sum) → table_of w ≡ t → raw' ≡ raw → p' ≡ p → IsGathered (2 ^ w) raw' p → IsGathered (modulus t) raw p'
-gathered_along w t raw raw' p p' e f g h =
-    subst (λ u. IsGathered (modulus u) raw p') e (subst (λ x. IsGathered (2 ^ w) x p') f (subst (IsGathered (2 ^ w) raw') (sym g) h))
 
 pub value_below : (t : Table) (p : Sum) (σ : Assignment) → value_in t p σ % modulus t ≡ value_in t p σ
 value_below t p σ = mod-mod (sum_of (modulus t) (monomials_in t p) σ) (modulus t)
 
--- the entries of some lists, one after the other
-abbrev pub appended : List Sum → Sum
-appended [] = []
-appended (p ∷ ps) = p ++ appended ps
-
-rising-appended : (t : Table) (ps : List Sum) → AllByRecursion (IsOf t) ps → AllByRecursion (λ e. AreRising 0 e.0) (appended ps)
+in-appended : (t : Table) (ps : List Sum) → AllByRecursion (IsOf t) ps → AreIn t.monomials (appended ps)
 unfolding IsOf
-rising-appended t [] h = tt
-rising-appended t (p ∷ ps) h = all_joined (λ e. AreRising 0 e.0) p (appended ps) h.0.variables (rising-appended t ps h.1)
+in-appended t [] h = tt
+in-appended t (p ∷ ps) h = all_joined (λ e. e.0 < length t.monomials) p (appended ps) h.0.numbers (in-appended t ps h.1)
 
-total-appended : (t : Table) (ps : List Sum) (σ : Assignment) → total (λ k. product σ k) (appended ps) % modulus t ≡ sum_by (λ p. value_in t p σ) ps % modulus t
+total-appended : (t : Table) (ps : List Sum) (σ : Assignment) → total_in t.monomials σ (appended ps) % modulus t ≡ sum_by (λ p. value_in t p σ) ps % modulus t
 total-appended t [] σ = refl
 total-appended t (p ∷ ps) σ =
     let m = modulus t in
-    let f = λ (k : List ℕ). product σ k in
+    let f = λ (k : ℕ). product σ (get_or t.monomials k []) in
     let v = λ (q : Sum). value_in t q σ in
     ap (λ n. n % m) (total-append f p (appended ps)) ∙ sym (sum_of_reduced m (total f p) (total f (appended ps))) ∙
     ap₂ (λ a b. (a + b) % m) (sym (value-total t p σ)) (total-appended t ps σ) ∙ add-mod-mod (v p) (sum_by v ps) m ∙ ap (λ n. n % m) (sym (sum_by-cons v p ps))
 
--- the sum of the entries of all is that of the values
-pub added_all : (w : ℕ) (ps : List Sum) (raw out : Sum) → raw ≡ appended ps → IsGathered (2 ^ w) raw out → IsAdded (table_of w) ps out
-added_all w ps raw out is g =
-    let t = table_of w in
-    let h : IsGathered (modulus t) (appended ps) out = subst (λ x. IsGathered (2 ^ w) x out) is g in
-    record {
-      of = λ all. gathered-IsOf t (appended ps) out h (rising-appended t ps all);
-      values = λ σ. value-total t out σ ∙ h.sums (λ k. product σ k) ∙ total-appended t ps σ;
-    }
+-- the entries of all, gathered
+pub added-IsOf : (w : ℕ) (ms : List (List ℕ)) (t : Table) (ps : List Sum) (out r : Sum) → table_of w ms ≡ t → r ≡ out → AreMonomials ms → AllByRecursion (IsOf t) ps →
+    IsGathered (2 ^ w) (appended ps) out → IsOf t r
+added-IsOf w ms t ps out r e is o all g =
+    subst (λ u. IsOf u r) e (made-IsOf w ms (appended ps) out r is o (numbers_in w ms t ps e all) g)
+  where
+    numbers_in : (w : ℕ) (ms : List (List ℕ)) (t : Table) (ps : List Sum) → table_of w ms ≡ t → AllByRecursion (IsOf t) ps → AreIn ms (appended ps)
+    numbers_in w ms t ps e all = subst (λ (u : Table). AreIn u.monomials (appended ps)) (sym e) (in-appended t ps all)
+
+pub added-value : (w : ℕ) (ms : List (List ℕ)) (t : Table) (ps : List Sum) (out r : Sum) (σ : Assignment) → table_of w ms ≡ t → r ≡ out → IsGathered (2 ^ w) (appended ps) out →
+    value_in t r σ ≡ sum_by (λ p. value_in t p σ) ps % modulus t
+added-value w ms t ps out r σ e is g =
+    let h : IsGathered (modulus t) (appended ps) out = subst (λ (u : Table). IsGathered (modulus u) (appended ps) out) e g in
+    value-total t r σ ∙ ap (λ es. total_in t.monomials σ es % modulus t) is ∙ h.sums (λ k. product σ (get_or t.monomials k [])) ∙ total-appended t ps σ
+
+-- the i-th entry's number is in the table
+pub number_in : (w : ℕ) (ms : List (List ℕ)) (t : Table) (p p' : Sum) (i n : ℕ) (e : Summand) → table_of w ms ≡ t → p' ≡ p → IsOf t p → i < length (monomials_in t p) → e ≡ get_or p' i e → n ≡ e.0 →
+    n < length ms
+unfolding monomials_in
+number_in w ms t p p' i n e v f h low at is =
+    let within : i < length p' = let len = length-map p (monomial_in t) in let same = ap length f in omega arith in
+    subst (λ k. k < length ms) (sym is) (all_at (λ x. x.0 < length ms) p' i e within at (numbers_of w ms t p p' v f h))
+
+-- and its variables
+pub vars_at : (w : ℕ) (ms : List (List ℕ)) (t : Table) (p p' : Sum) (i n : ℕ) (e : Summand) (vs : List ℕ) → table_of w ms ≡ t → p' ≡ p → i < length (monomials_in t p) → e ≡ get_or p' i e → n ≡ e.0 →
+    get_or ms n [] ≡ vs → option_map (λ m. m.variables) (slice_get (monomials_in t p) i) ≡ Some vs
+unfolding monomials_in
+vars_at w ms t p p' i n e vs v f low at is there =
+    let within : i < length p' = let len = length-map p (monomial_in t) in let same = ap length f in omega arith in
+    let found : slice_get p i ≡ Some e = ap (λ xs. slice_get xs i) (sym f) ∙ slice_get_read p' (length p') i e refl within at in
+    let term : slice_get (map (monomial_in t) p) i ≡ Some (monomial_in t e) = slice_get-map (monomial_in t) p i ∙ ap (option_map (monomial_in t)) found in
+    ap (option_map (λ m. m.variables)) term ∙ ap Some (ap (λ (u : Table). get_or u.monomials e.0 []) (sym v) ∙ ap (λ k. get_or ms k []) (sym is) ∙ there)

@@ -1,74 +1,64 @@
 -- The value of a polynomial in which a variable is replaced.
-use Rattle.std.proofs.Common.{◌≡◌, ℕ, ◌+◌, ◌*◌, ◌%◌, ◌^◌, ◌<◌, Bool, true, false, not, cond, None, List, [], ◌∷◌, ◌++◌, map, refl, sym, ap, ap₂, subst, ◌∙◌, arith}
+use Rattle.std.proofs.Common.{◌≡◌, ℕ, ◌+◌, ◌*◌, ◌%◌, ◌^◌, ◌<◌, Bool, true, false, not, cond, None, List, [], ◌∷◌, get_or, length, refl, sym, ap, ap₂, subst, ◌∙◌, arith}
 use Rattle.std.proofs.Math.Nat.{add-mod-mod, mod-add-mod, mod-mod}
 use Rattle.std.proofs.lemmas.Nat.{pow_pos}
-use Rattle.std.specs.List.{AllByRecursion}
-use Rattle.graph_core.specs.Assignment.{Assignment, bit}
-use Rattle.graph_core.specs.NormalForm.{AreRising}
-use Rattle.graph_core.specs.Polynomial.{product, difference}
-use Rattle.poly_terms.specs.Monomials.{has_variable, without}
-use Rattle.poly_terms.specs.Entries.{Sum, total, times, free_of, replaced, IsSubstituted}
-use Rattle.poly_terms.specs.Tables.{Table, IsOf, modulus, value_in, variables_in, assigned, replaced_value, table_of}
+use Rattle.graph_core.specs.Graph.Assignments.{Assignment, bit}
+use Rattle.graph_core.specs.Algebra.Polynomials.{product, difference}
+use Rattle.poly_terms.specs.Monomials.{Adds, AreMonomials, Grows, free_of, has_in, places_of, replaced, replaced_one, total_in, without}
+use Rattle.poly_terms.specs.Entries.{IsGathered, Sum, entry_order, plus}
+use Rattle.poly_terms.specs.Merges.{AreAfter}
+use Rattle.poly_terms.specs.Tables.{ArePlaces, Table, IsOf, modulus, value_in, assigned, replaced_value}
+use Rattle.poly_terms.specs.Laws.{values_stay}
 use Rattle.poly_terms.proofs.Assigned.{product-other, product-false, product-true}
-use Rattle.poly_terms.proofs.Factors.{plus_both, total-times, all-append, rising-times}
-use Rattle.poly_terms.proofs.Gathering.{total-append}
-use Rattle.poly_terms.proofs.Keys.{product-joined}
-use Rattle.poly_terms.proofs.Leaving.{after-filter, all-filter, rising-without}
-use Rattle.poly_terms.proofs.Made.{gathered-IsOf, value_below}
-use Rattle.poly_terms.proofs.Residues.{plus_same, factor_reduced, left_out, difference_plus}
-use Rattle.poly_terms.proofs.Totals.{total-plus}
-use Rattle.poly_terms.proofs.Values.{value-total, plus-IsOf}
+use Rattle.poly_terms.proofs.Leaving.{after-filter, all-filter}
+use Rattle.poly_terms.proofs.Made.{extends_grown, made-IsOf, made-value, table_of, value_below}
+use Rattle.poly_terms.proofs.Residues.{plus_same, factor_reduced, left_out, difference_plus, sum_of_reduced}
+use Rattle.poly_terms.proofs.Values.{value-total, value-plus, plus-IsOf}
 
-replaced_front : (c free made r q p0 : ℕ) → (free + (made + r)) + q * (c * 0 + p0) ≡ made + (free + r + q * p0)
-replaced_front c free made r q p0 = omega arith
+replaced_front : (c k free r n p0 : ℕ) → (free + (k * n + r)) + n * (c * 0 + p0) ≡ k * n + (free + r + n * p0)
+replaced_front c k free r n p0 = omega arith
 
-replaced_back : (c g q p0 p1 : ℕ) → q * (c * g) + (p0 + q * p1) ≡ c * 0 + p0 + q * (c * g + p1)
-replaced_back c g q p0 p1 = omega arith
+replaced_back : (c k n p0 p1 : ℕ) → k * n + (p0 + n * p1) ≡ c * 0 + p0 + n * (k + p1)
+replaced_back c k n p0 p1 = omega arith
 
-kept_front : (c g free r q p0 : ℕ) → (c * g + free + r) + q * (c * g + p0) ≡ c * g + q * (c * g) + (free + r + q * p0)
-kept_front c g free r q p0 = omega arith
+kept_front : (k free r n p0 : ℕ) → (k + free + (0 + r)) + n * (k + p0) ≡ k + n * k + (free + r + n * p0)
+kept_front k free r n p0 = omega arith
 
-kept_back : (c g q p0 p1 : ℕ) → c * g + q * (c * g) + (p0 + q * p1) ≡ c * g + p0 + q * (c * g + p1)
-kept_back c g q p0 p1 = omega arith
+kept_back : (k n p0 p1 : ℕ) → k + n * k + (p0 + n * p1) ≡ k + p0 + n * (k + p1)
+kept_back k n p0 p1 = omega arith
 
--- What entries without the variable and what the others become add up to, with no subtraction: the entries with the variable false, and what replaces it times what it adds.
-abbrev AddUp : ℕ → ℕ → Assignment → Sum → Sum → Sum → Sum → Type 0
-AddUp m v σ ys free raw es =
-    (total (λ k. product σ k) free + total (λ k. product σ k) raw + total (λ k. product σ k) ys * total (λ k. product (assigned σ v false) k) es) % m ≡
-    (total (λ k. product (assigned σ v false) k) es + total (λ k. product σ k) ys * total (λ k. product (assigned σ v true) k) es) % m
-
-total-replaced : (m v : ℕ) (σ : Assignment) (ys es : Sum) → 0 < v → AddUp m v σ ys (free_of v es) (replaced m v ys es) es
-total-replaced m v σ ys [] some = ap (λ n. n % m) (omega arith)
-total-replaced m v σ ys (e ∷ es) some = go (total-replaced m v σ ys es some) (has_variable v e.0) refl
+-- What entries without the variable and what the others become add up to, with no subtraction: the entries with the variable false, and n times what it adds.
+pub total-replaced : (ms : List (List ℕ)) (v : ℕ) (σ : Assignment) (n : ℕ) (es : Sum) → 0 < v →
+    total_in ms σ (free_of ms v es) + replaced ms v σ n es + n * total_in ms (assigned σ v false) es ≡ total_in ms (assigned σ v false) es + n * total_in ms (assigned σ v true) es
+total-replaced ms v σ n [] some = omega arith
+total-replaced ms v σ n (e ∷ es) some = go (total-replaced ms v σ n es some) (has_in ms v e) refl
   where
-    go : AddUp m v σ ys (free_of v es) (replaced m v ys es) es → (t : Bool) → has_variable v e.0 ≡ t →
-        AddUp m v σ ys (cond (not t) (e ∷ free_of v es) (free_of v es)) (cond t (map (times m (without v e.0, e.1)) ys) [] ++ replaced m v ys es) (e ∷ es)
+    go : total_in ms σ (free_of ms v es) + replaced ms v σ n es + n * total_in ms (assigned σ v false) es ≡ total_in ms (assigned σ v false) es + n * total_in ms (assigned σ v true) es →
+        (t : Bool) → has_in ms v e ≡ t →
+        total_in ms σ (cond (not t) (e ∷ free_of ms v es) (free_of ms v es)) + (cond t (replaced_one ms v σ n e) 0 + replaced ms v σ n es) + n * total_in ms (assigned σ v false) (e ∷ es) ≡
+        total_in ms (assigned σ v false) (e ∷ es) + n * total_in ms (assigned σ v true) (e ∷ es)
     go rest true h =
-        let q = total (λ k. product σ k) ys in
-        let made = total (λ k. product σ k) (map (times m (without v e.0, e.1)) ys) in
-        let free = total (λ k. product σ k) (free_of v es) in
-        let r = total (λ k. product σ k) (replaced m v ys es) in
-        let p0 = total (λ k. product (assigned σ v false) k) es in
-        let p1 = total (λ k. product (assigned σ v true) k) es in
-        let none : product (assigned σ v false) e.0 ≡ 0 = product-false σ v e.0 some h in
-        let one : product (assigned σ v true) e.0 ≡ product σ (without v e.0) = product-true σ v e.0 some in
-        ap₂ (λ a b. (free + a + q * (e.1 * b + p0)) % m) (total-append (λ k. product σ k) (map (times m (without v e.0, e.1)) ys) (replaced m v ys es)) none ∙
-        ap (λ n. n % m) (replaced_front e.1 free made r q p0) ∙
-        plus_both m made (free + r + q * p0) (q * (e.1 * product σ (without v e.0))) (p0 + q * p1) (total-times m (λ k. product σ k) (λ a b. product-joined σ a b) (without v e.0, e.1) ys) rest ∙
-        ap (λ n. n % m) (replaced_back e.1 (product σ (without v e.0)) q p0 p1) ∙
-        sym (ap₂ (λ a b. (e.1 * a + p0 + q * (e.1 * b + p1)) % m) none one)
+        let vs = get_or ms e.0 [] in
+        let free = total_in ms σ (free_of ms v es) in
+        let r = replaced ms v σ n es in
+        let p0 = total_in ms (assigned σ v false) es in
+        let p1 = total_in ms (assigned σ v true) es in
+        let k = e.1 * product σ (without v vs) in
+        let none : product (assigned σ v false) vs ≡ 0 = product-false σ v vs some h in
+        let one : product (assigned σ v true) vs ≡ product σ (without v vs) = product-true σ v vs some in
+        ap (λ b. free + (k * n + r) + n * (e.1 * b + p0)) none ∙ replaced_front e.1 k free r n p0 ∙ ap (λ z. k * n + z) rest ∙ replaced_back e.1 k n p0 p1 ∙
+        sym (ap₂ (λ a b. e.1 * a + p0 + n * (e.1 * b + p1)) none one)
     go rest false h =
-        let q = total (λ k. product σ k) ys in
-        let free = total (λ k. product σ k) (free_of v es) in
-        let r = total (λ k. product σ k) (replaced m v ys es) in
-        let p0 = total (λ k. product (assigned σ v false) k) es in
-        let p1 = total (λ k. product (assigned σ v true) k) es in
-        let g = product σ e.0 in
-        let low : product (assigned σ v false) e.0 ≡ g = product-other σ v false e.0 h in
-        let high : product (assigned σ v true) e.0 ≡ g = product-other σ v true e.0 h in
-        ap (λ b. (e.1 * g + free + r + q * (e.1 * b + p0)) % m) low ∙ ap (λ n. n % m) (kept_front e.1 g free r q p0) ∙
-        plus_same m (e.1 * g + q * (e.1 * g)) (free + r + q * p0) (p0 + q * p1) rest ∙ ap (λ n. n % m) (kept_back e.1 g q p0 p1) ∙
-        sym (ap₂ (λ a b. (e.1 * a + p0 + q * (e.1 * b + p1)) % m) low high)
+        let vs = get_or ms e.0 [] in
+        let free = total_in ms σ (free_of ms v es) in
+        let r = replaced ms v σ n es in
+        let p0 = total_in ms (assigned σ v false) es in
+        let p1 = total_in ms (assigned σ v true) es in
+        let k = e.1 * product σ vs in
+        let low : product (assigned σ v false) vs ≡ product σ vs = product-other σ v false vs h in
+        let high : product (assigned σ v true) vs ≡ product σ vs = product-other σ v true vs h in
+        ap (λ b. k + free + (0 + r) + n * (e.1 * b + p0)) low ∙ kept_front k free r n p0 ∙ ap (λ z. k + n * k + z) rest ∙ kept_back k n p0 p1 ∙
+        sym (ap₂ (λ a b. e.1 * a + p0 + n * (e.1 * b + p1)) low high)
 
 times_same : (m c a b : ℕ) → a % m ≡ b % m → (c * a) % m ≡ (c * b) % m
 times_same m c a b h =
@@ -91,70 +81,94 @@ replaced_number m r q p0 p1 some h =
     regrouped : (a b c : ℕ) → a + (b + c) ≡ a + b + c
     regrouped a b c = omega arith
 
--- the total where a variable is replaced
-total-substituted : (m v : ℕ) (f : List ℕ → ℕ) (q p r : Sum) → IsSubstituted m v q p r → total f r % m ≡ (total f (free_of v p) + total f (replaced m v q p)) % m
-total-substituted m v f q p r s =
-    ap (λ es. total f es % m) s.sum ∙ total-plus m f (free_of v p) s.gathered ∙ plus_same m (total f (free_of v p)) (total f s.gathered) (total f (replaced m v q p)) (s.others.sums f)
+pub free_of-IsOf : (t : Table) (v : ℕ) (p : Sum) → IsOf t p → IsOf t (free_of t.monomials v p)
+unfolding IsOf
+free_of-IsOf t v p h = record {
+  coefficients = all-filter (λ e. not (has_in t.monomials v e)) (λ e. (0 < e.1) × (e.1 < modulus t)) p h.coefficients;
+  numbers = all-filter (λ e. not (has_in t.monomials v e)) (λ e. e.0 < length t.monomials) p h.numbers;
+  order = after-filter (λ e. not (has_in t.monomials v e)) None p h.order;
+  table = h.table;
+}
 
--- the value where a variable is replaced
-pub substituted-value : (t : Table) (p q r : Sum) (v : ℕ) (σ : Assignment) → 0 < v → IsSubstituted (modulus t) v q p r → value_in t r σ ≡ replaced_value t p v (value_in t q σ) σ
-substituted-value t p q r v σ some s =
-    let m = modulus t in
-    let f = λ (k : List ℕ). product σ (variables_in t k) in
-    let f0 = λ (k : List ℕ). product (assigned σ v false) (variables_in t k) in
-    let f1 = λ (k : List ℕ). product (assigned σ v true) (variables_in t k) in
-    value-total t r σ ∙ total-substituted m v f q p r s ∙
-    replaced_number m (total f (free_of v p) + total f (replaced m v q p)) (total f q) (total f0 p) (total f1 p) (pow_pos t.width) (total-replaced m v σ q p some) ∙
-    sym (ap₂ (λ a b. (a + b * difference m (value_in t p (assigned σ v true)) a) % m) (value-total t p (assigned σ v false)) (value-total t q σ) ∙
-    ap (λ c. (total f0 p % m + total f q % m * difference m c (total f0 p % m)) % m) (value-total t p (assigned σ v true)))
+-- what a substitution makes, from its parts
+pub record IsSubstituted (w v : ℕ) (old new : List (List ℕ)) (p q r : Sum) : Type 0 where
+  pub raw : Sum
+  pub gathered : Sum
+  pub grows : Grows old new
+  pub once : AreMonomials new
+  pub adds : Adds (2 ^ w) old new [] raw (λ σ. replaced old v σ (total_in old σ q) p)
+  pub others : IsGathered (2 ^ w) raw gathered
+  pub sum : r ≡ plus (2 ^ w) (free_of old v p) gathered
+
+module _ (w v : ℕ) (old new : List (List ℕ)) (p q r : Sum) (of : IsOf (table_of w old) p) (s : IsSubstituted w v old new p q r) where
+  gathered-IsOf : IsOf (table_of w new) s.gathered
+  gathered-IsOf = made-IsOf w new s.raw s.gathered s.gathered refl s.once (s.adds.numbers tt) s.others
+
+  kept : IsOf (table_of w new) (free_of old v p) × ((σ : Assignment) → value_in (table_of w new) (free_of old v p) σ ≡ value_in (table_of w old) (free_of old v p) σ)
+  kept = values_stay (table_of w old) (table_of w new) (free_of old v p) (extends_grown w old new (table_of w old) refl s.grows) (free_of-IsOf (table_of w old) v p of)
+
+  pub substituted-IsOf : IsOf (table_of w new) r
+  substituted-IsOf = subst (IsOf (table_of w new)) (sym s.sum) (plus-IsOf (table_of w new) (free_of old v p) s.gathered kept.0 gathered-IsOf)
+
+  pub substituted-value : (σ : Assignment) → 0 < v → value_in (table_of w new) r σ ≡ replaced_value (table_of w old) p v (value_in (table_of w old) q σ) σ
+  substituted-value σ some =
+      let t = table_of w old in
+      let m = 2 ^ w in
+      let free = total_in old σ (free_of old v p) in
+      let made = replaced old v σ (total_in old σ q) p in
+      let p0 = total_in old (assigned σ v false) p in
+      let p1 = total_in old (assigned σ v true) p in
+      let n = total_in old σ q in
+      ap (λ x. value_in (table_of w new) x σ) s.sum ∙ value-plus (table_of w new) (free_of old v p) s.gathered σ ∙
+      ap₂ (λ a b. (a + b) % m) (kept.1 σ ∙ value-total t (free_of old v p) σ) (made-value w old new (λ σ. replaced old v σ (total_in old σ q) p) s.raw s.gathered s.gathered σ refl s.adds s.others) ∙
+      sum_of_reduced m free made ∙ replaced_number m (free + made) n p0 p1 (pow_pos w) (ap (λ z. z % m) (total-replaced old v σ n p some)) ∙
+      sym (ap₂ (λ a b. (a + b * difference m (value_in t p (assigned σ v true)) a) % m) (value-total t p (assigned σ v false)) (value-total t q σ) ∙
+      ap (λ c. (p0 % m + n % m * difference m c (p0 % m)) % m) (value-total t p (assigned σ v true)))
 
 -- where it is replaced by what is 0 or 1
-pub substituted-bit : (t : Table) (p q r : Sum) (v : ℕ) (σ : Assignment) (b : Bool) → 0 < v → IsSubstituted (modulus t) v q p r →
-    value_in t q σ ≡ bit b → value_in t r σ ≡ value_in t p (assigned σ v b)
-substituted-bit t p q r v σ true some g h =
+pub replaced-bit : (t : Table) (p : Sum) (v n : ℕ) (σ : Assignment) (b : Bool) → n ≡ bit b → replaced_value t p v n σ ≡ value_in t p (assigned σ v b)
+replaced-bit t p v n σ true h =
     let m = modulus t in
     let low = value_in t p (assigned σ v false) in
     let high = value_in t p (assigned σ v true) in
-    substituted-value t p q r v σ some g ∙ ap (λ n. (low + n * difference m high low) % m) h ∙ ap (λ n. n % m) (once low (difference m high low)) ∙ difference_plus m high low (pow_pos t.width) ∙
+    ap (λ n. (low + n * difference m high low) % m) h ∙ ap (λ n. n % m) (once low (difference m high low)) ∙ difference_plus m high low (pow_pos t.width) ∙
     value_below t p (assigned σ v true)
   where
     once : (a d : ℕ) → a + 1 * d ≡ d + a
     once a d = omega arith
-substituted-bit t p q r v σ false some g h =
+replaced-bit t p v n σ false h =
     let m = modulus t in
     let low = value_in t p (assigned σ v false) in
     let high = value_in t p (assigned σ v true) in
-    substituted-value t p q r v σ some g ∙ ap (λ n. (low + n * difference m high low) % m) h ∙ ap (λ n. n % m) (none low (difference m high low)) ∙ value_below t p (assigned σ v false)
+    ap (λ n. (low + n * difference m high low) % m) h ∙ ap (λ n. n % m) (none low (difference m high low)) ∙ value_below t p (assigned σ v false)
   where
     none : (a d : ℕ) → a + 0 * d ≡ a
     none a d = omega arith
 
-rising-replaced : (m v : ℕ) (ys es : Sum) → AllByRecursion (λ e. AreRising 0 e.0) ys → AllByRecursion (λ e. AreRising 0 e.0) es →
-    AllByRecursion (λ e. AreRising 0 e.0) (replaced m v ys es)
-rising-replaced m v ys [] a b = tt
-rising-replaced m v ys (e ∷ es) a b = go (rising-replaced m v ys es a b.1) (has_variable v e.0)
-  where
-    go : AllByRecursion (λ e. AreRising 0 e.0) (replaced m v ys es) → (t : Bool) →
-        AllByRecursion (λ e. AreRising 0 e.0) (cond t (map (times m (without v e.0, e.1)) ys) [] ++ replaced m v ys es)
-    go rest true = all-append (λ e. AreRising 0 e.0) (map (times m (without v e.0, e.1)) ys) (replaced m v ys es) (rising-times m (without v e.0, e.1) ys (rising-without 0 v e.0 b.0) a) rest
-    go rest false = rest
-
-free_of-IsOf : (t : Table) (v : ℕ) (p : Sum) → IsOf t p → IsOf t (free_of v p)
-unfolding IsOf
-free_of-IsOf t v p h = record {
-  coefficients = all-filter (λ e. not (has_variable v e.0)) (λ e. (0 < e.1) × (e.1 < modulus t)) p h.coefficients;
-  variables = all-filter (λ e. not (has_variable v e.0)) (λ e. AreRising 0 (variables_in t e.0)) p h.variables;
-  order = after-filter (λ e. not (has_variable v e.0)) None p h.order;
+-- what was substituted, from the steps
+pub substituted_along : (w v : ℕ) (old new : List (List ℕ)) (p q p1 p2 q1 raw kept gathered r : Sum) → p1 ≡ p → p2 ≡ p → q1 ≡ q → Grows old new → AreMonomials new →
+    Adds (2 ^ w) old new [] raw (λ σ. replaced old v σ (total_in old σ q1) p2) → IsGathered (2 ^ w) raw gathered → kept ≡ free_of old v p1 → r ≡ plus (2 ^ w) kept gathered →
+    IsSubstituted w v old new p q r
+substituted_along w v old new p q p1 p2 q1 raw kept gathered r e f h g once adds others is sum = record {
+  raw = raw;
+  gathered = gathered;
+  grows = g;
+  once = once;
+  adds = subst (λ x. Adds (2 ^ w) old new [] raw (λ σ. replaced old v σ (total_in old σ x) p)) h (subst (λ x. Adds (2 ^ w) old new [] raw (λ σ. replaced old v σ (total_in old σ q1) x)) f adds);
+  others = others;
+  sum = sum ∙ ap (λ k. plus (2 ^ w) k gathered) (is ∙ ap (free_of old v) e);
 }
 
-pub substituted-IsOf : (t : Table) (p q r : Sum) (v : ℕ) → IsOf t p → IsOf t q → IsSubstituted (modulus t) v q p r → IsOf t r
+-- the order of a polynomial's numbers
+pub order_of : (t : Table) (p p' : Sum) → p' ≡ p → IsOf t p → AreAfter entry_order None p'
 unfolding IsOf
-substituted-IsOf t p q r v a b s =
-    let others = gathered-IsOf t (replaced (modulus t) v q p) s.gathered s.others (rising-replaced (modulus t) v q p b.variables a.variables) in
-    subst (IsOf t) (sym s.sum) (plus-IsOf t (free_of v p) s.gathered (free_of-IsOf t v p a) others)
+order_of t p p' e h = subst (AreAfter entry_order None) (sym e) h.order
 
--- what was substituted, seen from a table
-pub substituted_along : (w v : ℕ) (t : Table) (q q' p p' r r' : Sum) → table_of w ≡ t → q' ≡ q → p' ≡ p → r' ≡ r → IsSubstituted (2 ^ w) v q' p' r → IsSubstituted (modulus t) v q p r'
-substituted_along w v t q q' p p' r r' e f g h s =
-    subst (λ u. IsSubstituted (modulus u) v q p r') e
-    (subst (λ x. IsSubstituted (2 ^ w) v x p r') f (subst (λ x. IsSubstituted (2 ^ w) v q' x r') g (subst (IsSubstituted (2 ^ w) v q' p') (sym h) s)))
+-- the places, seen from the table inside
+pub places_along : (w v : ℕ) (ms : List (List ℕ)) (t : Table) (p p' : Sum) (places : List ℕ) → table_of w ms ≡ t → p' ≡ p → ArePlaces t p v places → places ≡ places_of ms v p'
+unfolding ArePlaces
+places_along w v ms t p p' places e f h = h ∙ sym (ap (λ (u : Table). places_of u.monomials v p) e) ∙ sym (ap (places_of ms v) f)
+
+pub places_from : (w v : ℕ) (ms : List (List ℕ)) (t : Table) (p p' : Sum) (places : List ℕ) → table_of w ms ≡ t → p' ≡ p → places ≡ places_of ms v p' → ArePlaces t p v places
+unfolding ArePlaces
+places_from w v ms t p p' places e f h = h ∙ ap (places_of ms v) f ∙ ap (λ (u : Table). places_of u.monomials v p) e

@@ -1,25 +1,27 @@
 -- Polynomials in a table: their monomials and values, and how a table grows.
-use Rattle.std.specs.Prelude.{Bool, true, ◌+◌, ◌*◌, cond, ◌==◌, ◌≡◌, ℕ, ◌%◌, ◌^◌, ◌<◌, false, None, List, map, sum_by}
+use Rattle.std.specs.Prelude.{Bool, true, ◌+◌, ◌*◌, cond, ◌==◌, ◌≡◌, ℕ, ◌%◌, ◌^◌, ◌<◌, false, None, List, [], map, get_or}
 use Rattle.std.specs.Global.{Global}
 use Rattle.std.specs.declared.vec.Vec.{Vec}
 use Rattle.std.specs.List.{AllByRecursion}
-use Rattle.graph_core.specs.Assignment.{Assignment}
-use Rattle.graph_core.specs.Polynomial.{Polynomial, Term, value, product, sum_of, difference}
-use Rattle.graph_core.specs.NormalForm.{AreRising, IsNormalForm}
+use Rattle.graph_core.specs.Graph.Assignments.{Assignment}
+use Rattle.graph_core.specs.Algebra.Polynomials.{Polynomial, Term, value, difference}
+use Rattle.graph_core.specs.Algebra.NormalForm.{IsNormalForm}
 use Rattle.poly_terms.specs.Merges.{AreAfter}
-use Rattle.poly_terms.specs.Entries.{Summand, entry_order, total}
+use Rattle.poly_terms.specs.Entries.{Summand, entry_order}
+use Rattle.poly_terms.specs.Monomials.{AreIn, AreMonomials, Grows, places_of}
 pub use Rattle.poly_terms.specs.Entries.{Sum}
 
--- The table of the modulus 2 ^ width.
+-- The table of the modulus 2 ^ width, and its monomials by number.
 pub record Table : Type 0 where
   pub width : ℕ
+  pub monomials : List (List ℕ)
 
 abbrev pub modulus : Table → ℕ
 modulus t = 2 ^ t.width
 
--- the variables for which an entry stands
-abbrev pub variables_in : Table → List ℕ → List ℕ
-variables_in t key = key
+-- the variables of a number's monomial
+abbrev pub variables_in : Table → ℕ → List ℕ
+variables_in t n = get_or t.monomials n []
 
 abbrev pub monomial_in : Table → Summand → Term
 monomial_in t e = record { negative = false; coefficient = e.1; variables = variables_in t e.0 }
@@ -32,18 +34,23 @@ monomials_in t p = map (monomial_in t) p
 abbrev pub value_in : Table → Sum → Assignment → ℕ
 value_in t p σ = value (modulus t) (monomials_in t p) σ
 
--- A polynomial in the table's normal form: coefficients from 1 to below the modulus, rising variables, sorted by them.
+-- A polynomial in the table's normal form: numbers of the table, rising, with coefficients from 1 to below the modulus.
 pub record IsReduced (t : Table) (p : Sum) : Type 0 where
   pub coefficients : AllByRecursion (λ e. (0 < e.1) × (e.1 < modulus t)) p
-  pub variables : AllByRecursion (λ e. AreRising 0 (variables_in t e.0)) p
+  pub numbers : AreIn t.monomials p
   pub order : AreAfter entry_order None p
+  pub table : AreMonomials t.monomials
 
 unfoldable pub IsOf : Table → Sum → Type 0
 IsOf t p = IsReduced t p
 
--- The new table gives each polynomial of the old one its value.
+-- The new table gives each polynomial of the old one its value: it has the old monomials at their numbers.
 unfoldable pub Extends : Table → Table → Type 0
-Extends old new = new.width ≡ old.width
+Extends old new = (new.width ≡ old.width) × Grows old.monomials new.monomials
+
+-- the numbers, rising, of just the monomials with a variable
+unfoldable pub ArePlaces : Table → Sum → ℕ → List ℕ → Type 0
+ArePlaces t p v places = places ≡ places_of t.monomials v p
 
 -- a coefficient and variables, as a term
 abbrev pub given_term : ℕ × Vec ℕ Global → Term
@@ -52,25 +59,6 @@ given_term part = record { negative = false; coefficient = part.0; variables = p
 -- what a list of coefficients and variables says
 abbrev pub given : List (ℕ × Vec ℕ Global) → Polynomial
 given parts = map given_term parts
-
--- One more part stands behind entries, in what they add up to.
-pub record AddsPart (coefficient : ℕ) (variables : List ℕ) (old new : Sum) : Type 0 where
-  pub sums : (σ : Assignment) →
-      total (λ k. product σ k) new ≡ total (λ k. product σ k) old + coefficient * product σ variables
-  pub keys : AllByRecursion (λ e. AreRising 0 e.0) old → AllByRecursion (λ e. AreRising 0 e.0) new
-
--- Entries of rising variables that stand for given parts.
-pub record AreEntriesOf (parts : List (ℕ × Vec ℕ Global)) (entries : Sum) : Type 0 where
-  pub sums : (m : ℕ) (σ : Assignment) → total (λ k. product σ k) entries ≡ sum_of m (given parts) σ
-  pub keys : AllByRecursion (λ e. AreRising 0 e.0) entries
-
-abbrev pub table_of : ℕ → Table
-table_of w = record { width = w }
-
--- A polynomial with the sum of some polynomials' values.
-pub record IsAdded (t : Table) (parts : List Sum) (p : Sum) : Type 0 where
-  pub of : AllByRecursion (IsOf t) parts → IsOf t p
-  pub values : (σ : Assignment) → value_in t p σ ≡ sum_by (λ q. value_in t q σ) parts % modulus t
 
 -- A polynomial of a table is one of each table that extends it, with the same values.
 abbrev pub ValuesStay : Type 0
@@ -93,9 +81,10 @@ MonomialsAreNormal = (t : Table) (p : Sum) → IsOf t p → IsNormalForm (modulu
 abbrev pub assigned : Assignment → ℕ → Bool → Assignment
 assigned σ v b u = cond (u == v) b (σ u)
 
+-- what a variable adds to a polynomial's value: that with the variable true, minus that with it false
+abbrev pub quotient_value : Table → Sum → ℕ → Assignment → ℕ
+quotient_value t p v σ = difference (modulus t) (value_in t p (assigned σ v true)) (value_in t p (assigned σ v false))
+
 -- a polynomial's value where n stands for a variable: that with the variable false, and n times what the variable adds
 abbrev pub replaced_value : Table → Sum → ℕ → ℕ → Assignment → ℕ
-replaced_value t p v n σ =
-    let without = value_in t p (assigned σ v false) in
-    let with = value_in t p (assigned σ v true) in
-    (without + n * difference (modulus t) with without) % modulus t
+replaced_value t p v n σ = (value_in t p (assigned σ v false) + n * quotient_value t p v σ) % modulus t

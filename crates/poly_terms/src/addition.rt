@@ -1,10 +1,9 @@
-// Sums of sorted lists of entries, and of entries in any order.
-ghost use Rattle.std.specs.Prelude.{◌≡◌, ◌++◌, ◌^◌, [], IfOk, OnOk};
+// Sums of sorted lists of terms, and of terms in any order.
+ghost use Rattle.std.specs.Prelude.{◌≡◌, ◌++◌, ◌^◌, ◌<◌, [], IfOk, IsTrue, OnOk, length};
 ghost use Rattle.mv_nums.specs.Residue.{IsWidth};
-ghost use Rattle.poly_terms.specs.Entries.{IsGathered, IsPutBehind, add_entries, plus};
-ghost use Rattle.poly_terms.specs.Tables.{IsAdded, table_of};
+ghost use Rattle.poly_terms.specs.Entries.{IsGathered, IsOrderly, IsPlaced, IsPutBehind, add_entries, appended, plus};
 
-use crate::entry::Entry;
+use crate::term::Term;
 use crate::{Poly, coefficient};
 use mv_nums::Residue;
 use std::alloc::{AllocError, Global};
@@ -14,9 +13,9 @@ use std::cmp::Ordering;
 pub(crate) fn add_sorted(
     alloc: Global,
     width: u32,
-    left: &[Entry],
-    right: &[Entry],
-) -> Result<Vec<Entry>, AllocError>
+    left: &[Term],
+    right: &[Term],
+) -> Result<Vec<Term>, AllocError>
     requires { IsWidth width }
     ensures { IfOk result (λ out. out.items ≡ plus (2 ^ width) left.now right.now) }
 {
@@ -28,65 +27,61 @@ pub(crate) fn add_sorted(
         let y = &right[j];
         match x.compare(y) {
             Ordering::Less => {
-                out.push(x.copy(alloc)?)?;
+                out.push(x.copy())?;
                 i += 1;
             }
             Ordering::Greater => {
-                out.push(y.copy(alloc)?)?;
+                out.push(y.copy())?;
                 j += 1;
             }
             Ordering::Equal => {
-                push_sum(alloc, width, x, y, &mut out)?;
+                push_sum(width, x, y, &mut out)?;
                 i += 1;
                 j += 1;
             }
         }
     }
-    copy_behind(alloc, &left[i..], &mut out)?;
-    copy_behind(alloc, &right[j..], &mut out)?;
+    copy_behind(&left[i..], &mut out)?;
+    copy_behind(&right[j..], &mut out)?;
     Ok(out)
 }
 
-fn push_sum(
-    alloc: Global,
-    width: u32,
-    x: &Entry,
-    y: &Entry,
-    out: &mut Vec<Entry>,
-) -> Result<(), AllocError>
+fn push_sum(width: u32, x: &Term, y: &Term, out: &mut Vec<Term>) -> Result<(), AllocError>
     requires { IsWidth width }
     ensures { OnOk result
         (out.new.items ≡ out.old.items ++ add_entries (2 ^ width) x.now y.now []) }
 {
-    let coefficient = coefficient::sum(width, x.coefficient(), y.coefficient());
-    if coefficient != 0 {
-        out.push(x.with_coefficient(alloc, coefficient)?)?;
+    let sum = coefficient::sum(width, x.coefficient(), y.coefficient());
+    if sum != 0 {
+        out.push(x.with_coefficient(sum))?;
     }
     Ok(())
 }
 
 /// Copies entries behind others.
-pub(crate) fn copy_behind(
-    alloc: Global,
-    entries: &[Entry],
-    out: &mut Vec<Entry>,
-) -> Result<(), AllocError>
+fn copy_behind(entries: &[Term], out: &mut Vec<Term>) -> Result<(), AllocError>
     ensures { OnOk result (out.new.items ≡ out.old.items ++ entries.now) }
 {
     out.reserve(entries.len())?;
     for entry in entries {
-        out.push(entry.copy(alloc)?)?;
+        out.push(entry.copy())?;
     }
     Ok(())
 }
 
 /// The sum of entries in any order: sorted, and those of one monomial added up.
-pub(crate) fn gather(alloc: Global, width: u32, raw: Vec<Entry>) -> Result<Vec<Entry>, AllocError>
+pub(crate) fn gather(alloc: Global, width: u32, raw: Vec<Term>) -> Result<Vec<Term>, AllocError>
     requires { IsWidth width }
     ensures { IfOk result (λ out. IsGathered (2 ^ width) raw.items out.items) }
 {
+    if is_orderly(width, &raw) {
+        return Ok(raw);
+    }
     let mut sorted = raw;
     sorted.sort_unstable_by(|x, y| x.compare(y));
+    if is_orderly(width, &sorted) {
+        return Ok(sorted);
+    }
     let mut out = Vec::with_capacity(alloc, sorted.len())?;
     for entry in sorted {
         put_behind(width, entry, &mut out)?;
@@ -95,8 +90,36 @@ pub(crate) fn gather(alloc: Global, width: u32, raw: Vec<Entry>) -> Result<Vec<E
     Ok(out)
 }
 
+/// Whether entries are a sorted list as they stand. Most are, as they come or once they are sorted.
+fn is_orderly(width: u32, entries: &[Term]) -> bool
+    requires { IsWidth width }
+    ensures { IsTrue result → IsOrderly (2 ^ width) entries.now }
+{
+    let mut i = entries.len();
+    while i > 0 {
+        i -= 1;
+        if !is_placed(width, entries, i) {
+            return false;
+        }
+    }
+    true
+}
+
+fn is_placed(width: u32, entries: &[Term], i: usize) -> bool
+    requires width { IsWidth width }
+    requires in_range { i < length entries.now }
+    ensures { IsTrue result → IsPlaced (2 ^ width) entries.now i }
+{
+    let number = entries[i].number();
+    if i + 1 < entries.len() && entries[i + 1].number() <= number {
+        return false;
+    }
+    let coefficient = entries[i].coefficient();
+    coefficient != 0 && Residue::new(width, coefficient).value() == coefficient
+}
+
 /// Puts an entry behind others: added to the last where that has its monomial, and not at all where the sum is 0.
-fn put_behind(width: u32, entry: Entry, out: &mut Vec<Entry>) -> Result<(), AllocError>
+fn put_behind(width: u32, entry: Term, out: &mut Vec<Term>) -> Result<(), AllocError>
     requires { IsWidth width }
     ensures { OnOk result (IsPutBehind (2 ^ width) entry out.old.items out.new.items) }
 {
@@ -105,19 +128,19 @@ fn put_behind(width: u32, entry: Entry, out: &mut Vec<Entry>) -> Result<(), Allo
         None => Residue::new(width, entry.coefficient()).value(),
     };
     if coefficient != 0 {
-        out.push(entry.replace_coefficient(coefficient))?;
+        out.push(entry.with_coefficient(coefficient))?;
     }
     Ok(())
 }
 
 /// The sum of many polynomials.
-pub(crate) fn add_all(alloc: Global, width: u32, parts: &[Poly]) -> Result<Vec<Entry>, AllocError>
+pub(crate) fn add_all(alloc: Global, width: u32, parts: &[Poly]) -> Result<Vec<Term>, AllocError>
     requires { IsWidth width }
-    ensures { IfOk result (λ v. IsAdded (table_of width) parts.now v.items) }
+    ensures { IfOk result (λ v. IsGathered (2 ^ width) (appended parts.now) v.items) }
 {
     let mut raw = Vec::with_capacity(alloc, count(parts))?;
     for part in parts {
-        copy_behind(alloc, part.entries(), &mut raw)?;
+        copy_behind(part.entries(), &mut raw)?;
     }
     gather(alloc, width, raw)
 }

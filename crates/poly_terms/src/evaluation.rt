@@ -1,21 +1,23 @@
-// The value of entries at an assignment.
+// The value of terms at an assignment.
 ghost use Rattle.std.specs.Prelude.{◌≡◌, ◌%◌, ◌^◌};
-ghost use Rattle.graph_core.specs.Assignment.{bit, listed, variable};
-ghost use Rattle.graph_core.specs.Polynomial.{product};
+ghost use Rattle.graph_core.specs.Graph.Assignments.{bit, listed, variable};
+ghost use Rattle.graph_core.specs.Algebra.Polynomials.{product};
 ghost use Rattle.mv_nums.specs.Residue.{IsWidth};
-ghost use Rattle.poly_terms.specs.Entries.{total};
+ghost use Rattle.poly_terms.specs.Monomials.{AreIn, total_in};
 
 use crate::coefficient;
-use crate::entry::Entry;
+use crate::numbering::Numbering;
+use crate::term::Term;
 
 /// The sum of the coefficients whose variables are all true.
-pub(crate) fn value_of(width: u32, entries: &[Entry], values: &[bool]) -> u128
-    requires { IsWidth width }
-    ensures { result ≡ total (λ key. product (listed values.now) key) entries.now % 2 ^ width }
+pub(crate) fn value_of(table: &Numbering, width: u32, entries: &[Term], values: &[bool]) -> u128
+    requires width { IsWidth width }
+    requires entries { AreIn table.now entries.now }
+    ensures { result ≡ total_in table.now (listed values.now) entries.now % 2 ^ width }
 {
     let mut sum: u128 = 0;
     for entry in entries {
-        if are_true(entry.variables(), values) {
+        if are_true(table.variables(entry.number()), values) {
             sum = coefficient::sum(width, sum, entry.coefficient());
         }
     }

@@ -10,19 +10,24 @@
 #![tactic(auto)]
 
 mod addition;
+mod by_number;
 mod coefficient;
-mod entry;
 mod evaluation;
 mod monomial;
 mod multiplication;
+mod numbering;
 mod parts;
 mod poly;
+mod quotient;
 mod substitution;
+mod sum_of_products;
 mod table_laws;
+mod term;
 mod terms;
 #[cfg(test)]
 mod tests;
 
 pub use poly::Poly;
+pub use sum_of_products::SumOfProducts;
 pub use table_laws::{modulus_stays, monomials_are_normal, tables_extend, values_stay};
 pub use terms::Terms;

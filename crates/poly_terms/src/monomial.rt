@@ -1,5 +1,6 @@
 // Monomials: rising lists of variables. Nearly all are short, and stay inline.
-ghost use Rattle.std.specs.Prelude.{◌≡◌, false, IfOk};
+ghost use Rattle.std.specs.Prelude.{◌≡◌, ◌++◌, false, IfOk, IsTrue, OnOk};
+ghost use Rattle.graph_core.specs.Algebra.NormalForm.{AreRising};
 ghost use Rattle.poly_terms.specs.Monomials.{IsMonomialOf, has_variable, joined, without};
 
 use smallvec::SmallVec;
@@ -34,9 +35,19 @@ pub(crate) fn join(alloc: Global, left: &[u32], right: &[u32]) -> Result<Monomia
             }
         }
     }
-    out.extend_from_slice(&left[i..])?;
-    out.extend_from_slice(&right[j..])?;
+    push_all(&left[i..], &mut out)?;
+    push_all(&right[j..], &mut out)?;
     Ok(out)
+}
+
+// one by one: most often there is none, or one
+fn push_all(variables: &[u32], out: &mut Monomial) -> Result<(), AllocError>
+    ensures { OnOk result (out.new.items ≡ out.old.items ++ variables.now) }
+{
+    for v in variables {
+        out.push(*v)?;
+    }
+    Ok(())
 }
 
 /// The monomial of variables in any order, of which some may be repeated and none is the constant.
@@ -44,6 +55,9 @@ pub(crate) fn from_variables(alloc: Global, variables: &[u32]) -> Result<Monomia
     requires { has_variable 0 variables.now ≡ false }
     ensures { IfOk result (λ monomial. IsMonomialOf variables.now monomial.items) }
 {
+    if is_rising(variables) {
+        return copy(alloc, variables);
+    }
     if variables.len() < 2 {
         return SmallVec::from_slice(alloc, variables);
     }
@@ -51,6 +65,28 @@ pub(crate) fn from_variables(alloc: Global, variables: &[u32]) -> Result<Monomia
     let left = from_variables(alloc, front)?;
     let right = from_variables(alloc, back)?;
     join(alloc, left.as_slice(), right.as_slice())
+}
+
+/// Whether the variables are a monomial's as they stand.
+fn is_rising(variables: &[u32]) -> bool
+    ensures { IsTrue result → AreRising 0 variables.now }
+{
+    let mut last: u32 = 0;
+    for v in variables {
+        if *v <= last {
+            return false;
+        }
+        last = *v;
+    }
+    true
+}
+
+pub(crate) fn copy(alloc: Global, variables: &[u32]) -> Result<Monomial, AllocError>
+    ensures { IfOk result (λ monomial. monomial.items ≡ variables.now) }
+{
+    let mut out = SmallVec::new(alloc);
+    push_all(variables, &mut out)?;
+    Ok(out)
 }
 
 pub(crate) fn has_variable(variables: &[u32], v: u32) -> bool

@@ -1,43 +1,114 @@
-// Products of entries, in any order.
-ghost use Rattle.std.specs.Prelude.{◌≡◌, ◌++◌, ◌^◌, map, IfOk, OnOk};
+// Products of terms, in any order.
+ghost use Rattle.std.specs.Prelude.{◌*◌, ◌^◌, ◌<◌, ℕ, OnOk, IfOk, [], length, get_or};
+ghost use Rattle.graph_core.specs.Algebra.NormalForm.{AreRising};
+ghost use Rattle.graph_core.specs.Algebra.Polynomials.{product};
 ghost use Rattle.mv_nums.specs.Residue.{IsWidth};
-ghost use Rattle.poly_terms.specs.Entries.{products, times};
+ghost use Rattle.poly_terms.specs.Monomials.{Adds, AreIn, Grows, total_in};
 
-use crate::entry::Entry;
+use crate::coefficient;
+use crate::monomial::{self, Monomial};
+use crate::numbering::Numbering;
+use crate::term::Term;
 use std::alloc::{AllocError, Global};
 
-/// The products of each entry with each.
+/// The products of each term with each.
 pub(crate) fn products_of(
     alloc: Global,
+    table: &mut Numbering,
     width: u32,
-    left: &[Entry],
-    right: &[Entry],
-) -> Result<Vec<Entry>, AllocError>
-    requires { IsWidth width }
-    ensures { IfOk result (λ out. out.items ≡ products (2 ^ width) left.now right.now) }
+    left: &[Term],
+    right: &[Term],
+) -> Result<Vec<Term>, AllocError>
+    requires width { IsWidth width }
+    requires left { AreIn table.old left.now }
+    requires right { AreIn table.old right.now }
+    ensures grows { Grows table.old table.new }
+    ensures adds { IfOk result (λ out. Adds (2 ^ width) table.old table.new [] out.items
+        (λ σ. total_in table.old σ left.now * total_in table.old σ right.now)) }
 {
-    let mut out = Vec::new(alloc);
+    let count = left.len().saturating_mul(right.len());
+    let mut out = Vec::with_capacity(alloc, count)?;
     for by in right {
-        multiply_behind(alloc, width, left, by, &mut out)?;
+        multiply_by(alloc, table, width, left, by, &mut out)?;
     }
     Ok(out)
 }
 
-/// Each entry times one, behind others.
-pub(crate) fn multiply_behind(
+fn multiply_by(
     alloc: Global,
+    table: &mut Numbering,
     width: u32,
-    entries: &[Entry],
-    by: &Entry,
-    out: &mut Vec<Entry>,
+    entries: &[Term],
+    by: &Term,
+    out: &mut Vec<Term>,
 ) -> Result<(), AllocError>
-    requires { IsWidth width }
-    ensures { OnOk result
-        (out.new.items ≡ out.old.items ++ map (times (2 ^ width) by.now) entries.now) }
+    requires width { IsWidth width }
+    requires entries { AreIn table.old entries.now }
+    requires by { by.now.0 < length table.old }
+    ensures grows { Grows table.old table.new }
+    ensures adds { OnOk result (Adds (2 ^ width) table.old table.new out.old.items out.new.items
+        (λ σ. by.now.1 * product σ (get_or table.old by.now.0 []) * total_in table.old σ entries.now)) }
+{
+    let monomial = monomial::copy(alloc, table.variables(by.number()))?;
+    multiply_behind(table, width, &monomial, by.coefficient(), entries, out)
+}
+
+/// A monomial with its coefficient times each term, behind others.
+pub(crate) fn multiply_behind(
+    table: &mut Numbering,
+    width: u32,
+    monomial: &Monomial,
+    coefficient: u128,
+    entries: &[Term],
+    out: &mut Vec<Term>,
+) -> Result<(), AllocError>
+    requires width { IsWidth width }
+    requires monomial { AreRising 0 monomial.now.items }
+    requires entries { AreIn table.old entries.now }
+    ensures grows { Grows table.old table.new }
+    ensures adds { OnOk result (Adds (2 ^ width) table.old table.new out.old.items out.new.items
+        (λ σ. coefficient * product σ monomial.now.items * total_in table.old σ entries.now)) }
 {
     out.reserve(entries.len())?;
     for entry in entries {
-        out.push(entry.times(alloc, width, by)?)?;
+        push_product(table, width, monomial, coefficient, entry, out)?;
     }
+    Ok(())
+}
+
+fn push_product(
+    table: &mut Numbering,
+    width: u32,
+    monomial: &Monomial,
+    coefficient: u128,
+    entry: &Term,
+    out: &mut Vec<Term>,
+) -> Result<(), AllocError>
+    requires width { IsWidth width }
+    requires monomial { AreRising 0 monomial.now.items }
+    requires entry { entry.now.0 < length table.old }
+    ensures grows { Grows table.old table.new }
+    ensures adds { OnOk result (Adds (2 ^ width) table.old table.new out.old.items out.new.items
+        (λ σ. coefficient * product σ monomial.now.items * (entry.now.1 * product σ (get_or table.old entry.now.0 [])))) }
+{
+    let both = table.times(monomial.as_slice(), entry.number())?;
+    let coefficient = coefficient::product(width, coefficient, entry.coefficient());
+    push_term(table, both, coefficient, out)
+}
+
+/// A monomial with its coefficient, behind others.
+pub(crate) fn push_term(
+    table: &mut Numbering,
+    monomial: Monomial,
+    coefficient: u128,
+    out: &mut Vec<Term>,
+) -> Result<(), AllocError>
+    requires { AreRising 0 monomial.items }
+    ensures grows { Grows table.old table.new }
+    ensures adds { OnOk result ((m : ℕ) → Adds m table.old table.new out.old.items out.new.items
+        (λ σ. coefficient * product σ monomial.items)) }
+{
+    let number = table.intern(monomial)?;
+    out.push(Term::new(number, coefficient))?;
     Ok(())
 }

@@ -1,37 +1,45 @@
-// Entries of coefficients and variables as a caller gives them.
-ghost use Rattle.std.specs.Prelude.{IfOk, OnOk};
-ghost use Rattle.poly_terms.specs.Tables.{AddsPart, AreEntriesOf};
+// Terms of coefficients and variables as a caller gives them.
+ghost use Rattle.std.specs.Prelude.{◌*◌, ℕ, IfOk, OnOk, []};
+ghost use Rattle.graph_core.specs.Algebra.Polynomials.{product, sum_of};
+ghost use Rattle.poly_terms.specs.Monomials.{Adds, Grows};
+ghost use Rattle.poly_terms.specs.Tables.{given};
 
-use crate::entry::Entry;
-use crate::monomial;
+use crate::numbering::Numbering;
+use crate::term::Term;
+use crate::{monomial, multiplication};
 use std::alloc::{AllocError, Global};
 
 pub(crate) fn entries_of(
     alloc: Global,
+    table: &mut Numbering,
     parts: &[(u128, Vec<u32>)],
-) -> Result<Vec<Entry>, AllocError>
-    ensures { IfOk result (λ out. AreEntriesOf parts.now out.items) }
+) -> Result<Vec<Term>, AllocError>
+    ensures grows { Grows table.old table.new }
+    ensures adds { IfOk result (λ out. (m : ℕ) → Adds m table.old table.new [] out.items
+        (λ σ. sum_of m (given parts.now) σ)) }
 {
     let mut out = Vec::with_capacity(alloc, parts.len())?;
     for (coefficient, variables) in parts {
-        push_part(alloc, *coefficient, variables.as_slice(), &mut out)?;
+        push_part(alloc, table, *coefficient, variables.as_slice(), &mut out)?;
     }
     Ok(out)
 }
 
-/// Puts the entry of a part behind others. A part over the constant 0 has none.
-#[tactic(auto, using(crate::proofs::Given::adds_entry, crate::proofs::Given::adds_nothing))]
+/// Puts the term of a part behind others. A part over the constant 0 has none.
 fn push_part(
     alloc: Global,
+    table: &mut Numbering,
     coefficient: u128,
     variables: &[u32],
-    out: &mut Vec<Entry>,
+    out: &mut Vec<Term>,
 ) -> Result<(), AllocError>
-    ensures { OnOk result (AddsPart coefficient variables.now out.old.items out.new.items) }
+    ensures grows { Grows table.old table.new }
+    ensures adds { OnOk result ((m : ℕ) → Adds m table.old table.new out.old.items out.new.items
+        (λ σ. coefficient * product σ variables.now)) }
 {
     if !monomial::has_variable(variables, 0) {
         let monomial = monomial::from_variables(alloc, variables)?;
-        out.push(Entry::new(monomial, coefficient))?;
+        multiplication::push_term(table, monomial, coefficient, out)?;
     }
     Ok(())
 }

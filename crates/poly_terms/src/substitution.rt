@@ -1,77 +1,114 @@
-// A variable replaced by a polynomial. The entries without it stay sorted, so that only the others are gathered.
-ghost use Rattle.std.specs.Prelude.{◌≡◌, ◌++◌, ◌∷◌, ◌^◌, [], IfOk, OnOk};
+// A variable replaced by a polynomial. The terms without it stay sorted, so that only the others are gathered.
+ghost use Rattle.std.specs.Prelude.{◌≡◌, ◌<◌, ◌^◌, ◌↔◌, None, Some, [], IfOk, OnOk, IsTrue, length, slice_get};
 ghost use Rattle.mv_nums.specs.Residue.{IsWidth};
-ghost use Rattle.poly_terms.specs.Entries.{IsSubstituted, free_of, replaced};
+ghost use Rattle.poly_terms.specs.Entries.{entry_order};
+ghost use Rattle.poly_terms.specs.Merges.{AreAfter};
+ghost use Rattle.poly_terms.specs.Monomials.{Adds, AreIn, Grows, free_of, places_of, replaced, replaced_one, total_in};
 
-use crate::entry::Entry;
-use crate::{addition, monomial, multiplication};
+use crate::numbering::Numbering;
+use crate::term::Term;
+use crate::{monomial, multiplication};
 use std::alloc::{AllocError, Global};
 
-/// Entries in which a variable is replaced by the sum of others.
-pub(crate) fn substitute(
+/// The numbers of the terms with a variable.
+pub(crate) fn places_of(
     alloc: Global,
-    width: u32,
-    entries: &[Entry],
+    table: &Numbering,
+    entries: &[Term],
     v: u32,
-    by: &[Entry],
-) -> Result<Vec<Entry>, AllocError>
-    requires { IsWidth width }
-    ensures { IfOk result (λ out. IsSubstituted (2 ^ width) v by.now entries.now out.items) }
+) -> Result<Vec<u64>, AllocError>
+    requires { AreIn table.now entries.now }
+    ensures { IfOk result (λ places. places.items ≡ places_of table.now v entries.now) }
 {
-    let kept = entries_free_of(alloc, entries, v)?;
-    let raw = replacements(alloc, width, entries, v, by)?;
-    let gathered = addition::gather(alloc, width, raw)?;
-    addition::add_sorted(alloc, width, &kept, &gathered)
+    let mut places = Vec::new(alloc);
+    for entry in entries {
+        if monomial::has_variable(table.variables(entry.number()), v) {
+            places.push(entry.number())?;
+        }
+    }
+    Ok(places)
 }
 
-/// The entries without the variable.
-fn entries_free_of(alloc: Global, entries: &[Entry], v: u32) -> Result<Vec<Entry>, AllocError>
-    ensures { IfOk result (λ out. out.items ≡ free_of v entries.now) }
+/// The terms without the variable: those at no place.
+pub(crate) fn entries_free_of(
+    alloc: Global,
+    table: &Numbering,
+    entries: &[Term],
+    v: u32,
+    places: &[u64],
+) -> Result<Vec<Term>, AllocError>
+    requires order { AreAfter entry_order None entries.now }
+    requires places { places.now ≡ places_of table.now v entries.now }
+    ensures { IfOk result (λ out. out.items ≡ free_of table.now v entries.now) }
 {
     let mut out = Vec::new(alloc);
+    let mut j: usize = 0;
     for entry in entries {
-        if !monomial::has_variable(entry.variables(), v) {
-            out.push(entry.copy(alloc)?)?;
+        if is_place(places, j, entry) {
+            j += 1;
+        } else {
+            out.push(entry.copy())?;
         }
     }
     Ok(out)
 }
 
-/// What becomes of the entries with the variable, in any order.
-fn replacements(
+/// What becomes of the terms with the variable, in any order.
+pub(crate) fn replacements(
     alloc: Global,
+    table: &mut Numbering,
     width: u32,
-    entries: &[Entry],
+    entries: &[Term],
     v: u32,
-    by: &[Entry],
-) -> Result<Vec<Entry>, AllocError>
-    requires { IsWidth width }
-    ensures { IfOk result (λ out. out.items ≡ replaced (2 ^ width) v by.now entries.now) }
+    by: &[Term],
+    places: &[u64],
+) -> Result<Vec<Term>, AllocError>
+    requires width { IsWidth width }
+    requires order { AreAfter entry_order None entries.now }
+    requires entries { AreIn table.old entries.now }
+    requires by { AreIn table.old by.now }
+    requires places { places.now ≡ places_of table.old v entries.now }
+    ensures grows { Grows table.old table.new }
+    ensures adds { IfOk result (λ out. Adds (2 ^ width) table.old table.new [] out.items
+        (λ σ. replaced table.old v σ (total_in table.old σ by.now) entries.now)) }
 {
     let mut out = Vec::new(alloc);
+    let mut j: usize = 0;
     for entry in entries {
-        replace_behind(alloc, width, entry, v, by, &mut out)?;
+        if is_place(places, j, entry) {
+            replace_behind(table, width, entry, v, by, &mut out)?;
+            j += 1;
+        }
     }
     Ok(out)
 }
 
-/// The same for one entry, behind others.
+/// The same for one term, behind others.
 fn replace_behind(
-    alloc: Global,
+    table: &mut Numbering,
     width: u32,
-    entry: &Entry,
+    entry: &Term,
     v: u32,
-    by: &[Entry],
-    out: &mut Vec<Entry>,
+    by: &[Term],
+    out: &mut Vec<Term>,
 ) -> Result<(), AllocError>
-    requires { IsWidth width }
-    ensures { OnOk result
-        (out.new.items ≡ out.old.items ++ replaced (2 ^ width) v by.now (entry.now ∷ [])) }
+    requires width { IsWidth width }
+    requires entry { entry.now.0 < length table.old }
+    requires by { AreIn table.old by.now }
+    ensures grows { Grows table.old table.new }
+    ensures adds { OnOk result (Adds (2 ^ width) table.old table.new out.old.items out.new.items
+        (λ σ. replaced_one table.old v σ (total_in table.old σ by.now) entry.now)) }
 {
-    if monomial::has_variable(entry.variables(), v) {
-        let monomial = monomial::without(alloc, entry.variables(), v)?;
-        let rest = Entry::new(monomial, entry.coefficient());
-        multiplication::multiply_behind(alloc, width, by, &rest, out)?;
+    let rest = table.without(entry.number(), v)?;
+    multiplication::multiply_behind(table, width, &rest, entry.coefficient(), by, out)
+}
+
+/// Whether a term's number is the one at a place of the list.
+pub(crate) fn is_place(places: &[u64], j: usize, entry: &Term) -> bool
+    ensures { IsTrue result ↔ (slice_get places.now j ≡ Some entry.now.0) }
+{
+    match places.get(j) {
+        Some(number) => *number == entry.number(),
+        None => false,
     }
-    Ok(())
 }

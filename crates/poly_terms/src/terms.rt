@@ -1,11 +1,15 @@
-ghost use Rattle.std.specs.Prelude.{◌≡◌, ◌<◌, ◌↔◌, ◌+◌, ◌*◌, ◌%◌, All, Bool, IfOk, IsTrue, Some, length, option_map, slice_get, sum_by};
-ghost use Rattle.graph_core.specs.Assignment.{Assignment, bit, listed};
-ghost use Rattle.graph_core.specs.NormalForm.{HasSize};
-ghost use Rattle.graph_core.specs.Polynomial.{value};
+ghost use Rattle.std.specs.Prelude.{◌≡◌, ◌<◌, ◌↔◌, ◌+◌, ◌*◌, ◌%◌, All, Bool, false, IfOk, IsTrue, Some, [], length, option_map, slice_get, sum_by};
+ghost use Rattle.graph_core.specs.Graph.Assignments.{Assignment, bit, listed};
+ghost use Rattle.graph_core.specs.Algebra.NormalForm.{HasSize};
+ghost use Rattle.graph_core.specs.Algebra.Polynomials.{value};
 ghost use Rattle.mv_nums.specs.Residue.{IsWidth};
-ghost use Rattle.poly_terms.specs.Tables.{Extends, IsOf, assigned, given, modulus, monomials_in, replaced_value, value_in};
+ghost use Rattle.poly_terms.specs.Sums.{sum_in};
+ghost use Rattle.poly_terms.specs.Tables.{ArePlaces, Extends, IsOf, assigned, given, modulus, monomials_in, quotient_value, replaced_value, value_in};
 
-use crate::{Poly, addition, entry, evaluation, multiplication, parts, substitution};
+use crate::numbering::Numbering;
+use crate::{
+    Poly, SumOfProducts, addition, evaluation, multiplication, parts, quotient, substitution, term,
+};
 use graph_core::Memory;
 use std::alloc::Global;
 use std::marker::Model;
@@ -15,6 +19,7 @@ use std::marker::Model;
 pub struct Terms {
     alloc: Global,
     width: u32,
+    monomials: Numbering,
 }
 
 impl Model for Terms {
@@ -23,7 +28,7 @@ impl Model for Terms {
 
     ghost Value = { Table };
 
-    ghost view = { λ t. record { width = t.width } };
+    ghost view = { λ t. record { width = t.width; monomials = t.monomials } };
 
     ghost invariant = { λ t. IsWidth t.width };
 }
@@ -34,7 +39,11 @@ impl Terms {
         requires { IsWidth w }
         ensures { result.width ≡ w }
     {
-        Terms { alloc, width: w }
+        Terms {
+            alloc,
+            width: w,
+            monomials: Numbering::new(alloc),
+        }
     }
 
     /// The exponent of the modulus, from 1 to 128.
@@ -47,14 +56,15 @@ impl Terms {
 
     /// The sum of coefficients of any size, each times a product of variables. Parts and variables come in any order
     /// and may be repeated, and variable 0 is the constant false.
-    #[tactic(auto, using(crate::specs::Laws::extends_itself))]
+    #[tactic(auto, using(crate::specs::Laws::extends_itself, crate::proofs::Made::extends_grown))]
     pub fn make(&mut self, parts: &[(u128, Vec<u32>)]) -> Result<Poly, Memory>
         ensures extends { Extends self.old self.new }
         ensures of { IfOk result (IsOf self.new) }
         ensures value { IfOk result (λ r. (σ : Assignment) →
             value_in self.new r σ ≡ value (modulus self.old) (given parts.now) σ) }
     {
-        let raw = parts::entries_of(self.alloc, parts)?;
+        let raw = parts::entries_of(self.alloc, &mut self.monomials, parts)?;
+        self.monomials.stand_once();
         let entries = addition::gather(self.alloc, self.width, raw)?;
         Ok(Poly::of(entries))
     }
@@ -74,7 +84,7 @@ impl Terms {
     }
 
     /// The product of two polynomials.
-    #[tactic(auto, using(crate::specs::Laws::extends_itself))]
+    #[tactic(auto, using(crate::specs::Laws::extends_itself, crate::proofs::Made::extends_grown))]
     pub fn mul(&mut self, p: &Poly, q: &Poly) -> Result<Poly, Memory>
         requires left { IsOf self.old p.now }
         requires right { IsOf self.old q.now }
@@ -83,7 +93,14 @@ impl Terms {
         ensures value { IfOk result (λ r. (σ : Assignment) → value_in self.new r σ ≡
             (value_in self.old p.now σ * value_in self.old q.now σ) % modulus self.old) }
     {
-        let raw = multiplication::products_of(self.alloc, self.width, p.entries(), q.entries())?;
+        let raw = multiplication::products_of(
+            self.alloc,
+            &mut self.monomials,
+            self.width,
+            p.entries(),
+            q.entries(),
+        )?;
+        self.monomials.stand_once();
         let entries = addition::gather(self.alloc, self.width, raw)?;
         Ok(Poly::of(entries))
     }
@@ -105,7 +122,7 @@ impl Terms {
     }
 
     /// A polynomial in which a variable is replaced by another polynomial, which may have it too.
-    #[tactic(auto, using(crate::specs::Laws::extends_itself))]
+    #[tactic(auto, using(crate::specs::Laws::extends_itself, crate::proofs::Made::numbers_of), unfolding(crate::specs::Tables::ArePlaces))]
     pub fn substitute(&mut self, p: &Poly, v: u32, q: &Poly) -> Result<Poly, Memory>
         requires left { IsOf self.old p.now }
         requires right { IsOf self.old q.now }
@@ -119,14 +136,118 @@ impl Terms {
         ensures bit { IfOk result (λ r. (σ : Assignment) (b : Bool) → value_in self.old q.now σ ≡ bit b →
             value_in self.new r σ ≡ value_in self.old p.now (assigned σ v b)) }
     {
-        let entries = substitution::substitute(
+        let places = substitution::places_of(self.alloc, &self.monomials, p.entries(), v)?;
+        let replaced = self.substitute_at(p, v, q, &places)?;
+        Ok(replaced)
+    }
+
+    /// The same where the numbers of the terms that have the variable are known: `places` has them, rising.
+    #[tactic(auto, using(crate::specs::Laws::extends_itself, crate::proofs::Made::extends_grown))]
+    pub fn substitute_at(
+        &mut self,
+        p: &Poly,
+        v: u32,
+        q: &Poly,
+        places: &[u64],
+    ) -> Result<Poly, Memory>
+        requires left { IsOf self.old p.now }
+        requires right { IsOf self.old q.now }
+        requires variable { 0 < v }
+        requires places { ArePlaces self.old p.now v places.now }
+        ensures extends { Extends self.old self.new }
+        ensures of { IfOk result (IsOf self.new) }
+        ensures value { IfOk result (λ r. (σ : Assignment) →
+            value_in self.new r σ ≡ replaced_value self.old p.now v (value_in self.old q.now σ) σ) }
+        ensures bit { IfOk result (λ r. (σ : Assignment) (b : Bool) → value_in self.old q.now σ ≡ bit b →
+            value_in self.new r σ ≡ value_in self.old p.now (assigned σ v b)) }
+    {
+        let kept = substitution::entries_free_of(
             self.alloc,
+            &self.monomials,
+            p.entries(),
+            v,
+            places,
+        )?;
+        let raw = substitution::replacements(
+            self.alloc,
+            &mut self.monomials,
             self.width,
             p.entries(),
             v,
             q.entries(),
+            places,
         )?;
+        self.monomials.stand_once();
+        let gathered = addition::gather(self.alloc, self.width, raw)?;
+        let entries = addition::add_sorted(self.alloc, self.width, &kept, &gathered)?;
         Ok(Poly::of(entries))
+    }
+
+    /// What stands beside a variable: the polynomial is the variable times that, and what it is where the variable is
+    /// false.
+    #[tactic(auto, using(crate::specs::Laws::extends_itself, crate::proofs::Made::numbers_of), unfolding(crate::specs::Tables::ArePlaces))]
+    pub fn quotient(&mut self, p: &Poly, v: u32) -> Result<Poly, Memory>
+        requires of { IsOf self.old p.now }
+        requires variable { 0 < v }
+        ensures extends { Extends self.old self.new }
+        ensures of { IfOk result (IsOf self.new) }
+        ensures value { IfOk result (λ r. (σ : Assignment) →
+            value_in self.new r σ ≡ quotient_value self.old p.now v σ) }
+    {
+        let places = substitution::places_of(self.alloc, &self.monomials, p.entries(), v)?;
+        let quotient = self.quotient_at(p, v, &places)?;
+        Ok(quotient)
+    }
+
+    /// The same where the numbers of the terms that have the variable are known: `places` has them, rising.
+    #[tactic(auto, using(crate::specs::Laws::extends_itself, crate::proofs::Made::extends_grown))]
+    pub fn quotient_at(&mut self, p: &Poly, v: u32, places: &[u64]) -> Result<Poly, Memory>
+        requires of { IsOf self.old p.now }
+        requires variable { 0 < v }
+        requires places { ArePlaces self.old p.now v places.now }
+        ensures extends { Extends self.old self.new }
+        ensures of { IfOk result (IsOf self.new) }
+        ensures value { IfOk result (λ r. (σ : Assignment) →
+            value_in self.new r σ ≡ quotient_value self.old p.now v σ) }
+    {
+        let raw = quotient::quotients(self.alloc, &mut self.monomials, p.entries(), v, places)?;
+        self.monomials.stand_once();
+        let entries = addition::gather(self.alloc, self.width, raw)?;
+        Ok(Poly::of(entries))
+    }
+
+    /// A polynomial by a variable: what stands beside it, and what is left where the variable is false.
+    #[tactic(auto, using(crate::specs::Laws::extends_itself, crate::proofs::Made::numbers_of), unfolding(crate::specs::Tables::ArePlaces))]
+    pub fn split(&mut self, p: &Poly, v: u32) -> Result<(Poly, Poly), Memory>
+        requires of { IsOf self.old p.now }
+        requires variable { 0 < v }
+        ensures extends { Extends self.old self.new }
+        ensures of { IfOk result (λ parts. IsOf self.new parts.0 × IsOf self.new parts.1) }
+        ensures quotient { IfOk result (λ parts. (σ : Assignment) →
+            value_in self.new parts.0 σ ≡ quotient_value self.old p.now v σ) }
+        ensures rest { IfOk result (λ parts. (σ : Assignment) →
+            value_in self.new parts.1 σ ≡ value_in self.old p.now (assigned σ v false)) }
+    {
+        let places = substitution::places_of(self.alloc, &self.monomials, p.entries(), v)?;
+        let rest = substitution::entries_free_of(
+            self.alloc,
+            &self.monomials,
+            p.entries(),
+            v,
+            &places,
+        )?;
+        let quotient = self.quotient_at(p, v, &places)?;
+        Ok((quotient, Poly::of(rest)))
+    }
+
+    /// Whether some monomial has the variable. Where none has it, its value doesn't matter.
+    pub fn has_variable(&self, p: &Poly, v: u32) -> bool
+        requires { IsOf self.now p.now }
+        ensures places { ¬ IsTrue result ↔ ArePlaces self.now p.now v [] }
+        ensures free { ¬ IsTrue result → (σ : Assignment) (b : Bool) →
+            value_in self.now p.now (assigned σ v b) ≡ value_in self.now p.now σ }
+    {
+        quotient::has_variable(&self.monomials, p.entries(), v)
     }
 
     /// The sum of many polynomials: all monomials are sorted at once.
@@ -139,7 +260,30 @@ impl Terms {
             sum_by (λ p. value_in self.old p σ) parts.now % modulus self.old) }
     {
         let entries = addition::add_all(self.alloc, self.width, parts)?;
+        self.monomials.stand_once();
         Ok(Poly::of(entries))
+    }
+
+    /// The sum of products that were added up.
+    #[tactic(auto, using(crate::specs::Laws::extends_itself, crate::proofs::Made::extends_grown))]
+    pub fn sum_up(&mut self, products: &SumOfProducts) -> Result<Poly, Memory>
+        requires { products.now.width ≡ self.old.width }
+        ensures extends { Extends self.old self.new }
+        ensures of { IfOk result (IsOf self.new) }
+        ensures value { IfOk result (λ r. (σ : Assignment) →
+            value_in self.new r σ ≡ sum_in products.now σ) }
+    {
+        let raw = products.entries_in(self.alloc, &mut self.monomials)?;
+        self.monomials.stand_once();
+        let entries = addition::gather(self.alloc, self.width, raw)?;
+        Ok(Poly::of(entries))
+    }
+
+    // what numbers its monomials
+    pub(crate) fn numbering(&self) -> &Numbering
+        ensures { result.now ≡ self.now.monomials }
+    {
+        &self.monomials
     }
 
     /// The value modulo 2^w where variable v is true exactly if the list has true at place v: past its end all are
@@ -148,7 +292,7 @@ impl Terms {
         requires { IsOf self.now p.now }
         ensures { result ≡ value_in self.now p.now (listed values.now) }
     {
-        evaluation::value_of(self.width, p.entries(), values)
+        evaluation::value_of(&self.monomials, self.width, p.entries(), values)
     }
 
     /// Whether two polynomials have the same value at every assignment. They may be of different ages.
@@ -158,7 +302,7 @@ impl Terms {
         ensures { IsTrue result ↔
             ((σ : Assignment) → value_in self.now p.now σ ≡ value_in self.now q.now σ) }
     {
-        entry::are_same(p.entries(), q.entries())
+        term::are_same(p.entries(), q.entries())
     }
 
     /// How many monomials the polynomial has in its normal form. The empty monomial counts.
@@ -191,6 +335,16 @@ impl Terms {
             option_map (λ m. m.variables) monomial ≡ Some result.now }
     {
         let entry = &p.entries()[i as usize];
-        entry.variables()
+        self.monomials.variables(entry.number())
+    }
+
+    /// The number in the table of a monomial, by its place from 0. The numbers of a polynomial rise.
+    #[tactic(auto, unfolding(crate::specs::Tables::monomials_in))]
+    pub fn number(&self, p: &Poly, i: u64) -> u64
+        requires { i < length (monomials_in self.now p.now) }
+        ensures { option_map (λ e. e.0) (slice_get p.now i) ≡ Some result }
+    {
+        let entry = &p.entries()[i as usize];
+        entry.number()
     }
 }

@@ -141,6 +141,39 @@ fn adds_many_and_keeps_the_older(rt: HostRuntime) -> Result<(), Fail> {
     Ok(())
 }
 
+// The number of a place's monomial, where there is one.
+fn number_at(terms: &Terms, p: &Poly, i: u64) -> Option<u64>
+    requires { IsOf terms.now p.now }
+{
+    if i < terms.size(p) {
+        Some(terms.number(p, i))
+    } else {
+        None
+    }
+}
+
+// A thousand variables, each a part of its own.
+fn other_parts(alloc: Global) -> Result<Vec<(u128, Vec<u32>)>, Fail> {
+    let mut parts = Vec::new(alloc);
+    for v in 4..1004u32 {
+        parts.push(part(alloc, 1, &[v])?)?;
+    }
+    Ok(parts)
+}
+
+#[test]
+fn a_monomial_keeps_its_number(rt: HostRuntime) -> Result<(), Fail> {
+    let alloc = rt.alloc();
+    let mut terms = Terms::new(alloc, 8);
+    let before = terms.make(&[part(alloc, 1, &[1, 2])?, part(alloc, 255, &[3])?])?;
+    let _others = terms.make(&other_parts(alloc)?)?;
+    let after = terms.make(&[part(alloc, 255, &[3])?, part(alloc, 1, &[2, 1, 1])?])?;
+    assert!(rt; terms.equals(&before, &after));
+    assert!(rt; number_at(&terms, &before, 0) == Some(0));
+    assert!(rt; number_at(&terms, &after, 1) == Some(1));
+    Ok(())
+}
+
 #[test]
 fn a_polynomial_that_vanishes_is_a_fact(rt: HostRuntime) -> Result<(), Fail> {
     let alloc = rt.alloc();

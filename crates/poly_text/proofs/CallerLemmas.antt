@@ -1,41 +1,33 @@
 -- What a caller that judges a file line by line may cite: the next line in the words of the definitions of refusals.
-use Rattle.std.specs.Prelude.{◌≡◌, ◌+◌, ℕ, List, length}
+pub use Rattle.mv_text.proofs.CallerLemmas.{long_of, short_of}
+use Rattle.std.specs.Prelude.{◌≡◌, ℕ, List}
 use Rattle.std.specs.declared.option.Option.TheVariants.{Some}
-use Rattle.std.proofs.Common.{refl, sym, subst, inl, inr, ⊎_elim}
-use Rattle.graph_core.specs.declared.order.Order.{Order}
+use Rattle.std.proofs.Common.{refl, inl, inr, ⊎_elim}
+use Rattle.graph_core.specs.Graph.Operands.{Sides}
 use Rattle.graph_core.specs.Algebra.{Line, Ledger}
-use Rattle.graph_core.specs.AlgebraText.{IsLineText, IsCloseText, IsLineInRange, IsId}
-use Rattle.graph_core.specs.AlgebraRefusal.{IsRefusedNext, IsRefusedText}
-use Rattle.graph_core.specs.AlgebraRefusal as cause
-use Rattle.graph_core.specs.Extended.{Extended}
-use Rattle.graph_core.specs.JudgedLines.{Lengths, BeginsWith, IsTooLong}
+use Rattle.graph_core.specs.Algebra.Text.{IsLineText, IsCloseText, IsLineInRange, IsId}
+use Rattle.graph_core.specs.Algebra.Refusal.{IsRefusedNext, IsRefusedText}
+use Rattle.graph_core.specs.Algebra.Refusal as cause
+use Rattle.graph_core.specs.Graph.Extended.{Extended}
+use Rattle.graph_core.specs.Text.JudgedLines.{BeginsWith}
 use Rattle.poly_terms.specs.Tables.{Table}
 use Rattle.poly_text.specs.AlgebraFiles.{BeginsWithNone, BeginsOutOfRange}
-use Rattle.poly_text.specs.LineReading.{Lines, IsLongAhead}
 use Rattle.poly_text.specs.LineTexts.{IsLineOf, IsTextOf}
 use Rattle.poly_text.specs.Lines.{told}
 use Rattle.poly_text.specs.declared.line.PacLine.{PacLine}
 use Rattle.poly_text.specs.declared.line.PacLine.TheVariants as line
 
--- ---- lengths: a reader over a file of so many bytes
-
-pub long_of : (lengths : Lengths) (total : ℕ) (lines : Lines) (left : List ℕ) → lines.lengths ≡ lengths → lines.taken + length left ≡ total → IsLongAhead lines left → IsTooLong lengths total left
-long_of lengths total lines left e f h = subst (λ k. IsTooLong k total left) e (subst (λ n. IsTooLong lines.lengths n left) f h)
-
-pub short_of : (lengths : Lengths) (total : ℕ) (lines : Lines) (left : List ℕ) → lines.lengths ≡ lengths → lines.taken + length left ≡ total → ¬ (IsLongAhead lines left) → ¬ (IsTooLong lengths total left)
-short_of lengths total lines left e f h = λ long. h (subst (λ n. IsTooLong lines.lengths n left) (sym f) (subst (λ k. IsTooLong k total left) (sym e) long))
-
 -- ---- refusals of the next line, over any ledger
 
-pub no_line_is_refused : (e : Extended) (order : Order) (IsLong : List ℕ → Type 0) (l : Ledger) (left : List ℕ) → ¬ (IsLong left) → BeginsWithNone left → IsRefusedNext e order IsLong l left (0, cause.Text)
-no_line_is_refused e order IsLong l left short none = inr (short, inl (none.0, none.1, refl))
+pub no_line_is_refused : (e : Extended) (s : Sides) (IsLong : List ℕ → Type 0) (l : Ledger) (left : List ℕ) → ¬ (IsLong left) → BeginsWithNone left → IsRefusedNext e s IsLong l left (0, cause.Text)
+no_line_is_refused e s IsLong l left short none = inr (short, inl (none.0, none.1, refl))
 
-pub out_of_range_is_refused : (e : Extended) (order : Order) (IsLong : List ℕ → Type 0) (l : Ledger) (left : List ℕ) → ¬ (IsLong left) → BeginsOutOfRange e.max left → IsRefusedNext e order IsLong l left (0, cause.Range)
-out_of_range_is_refused e order IsLong l left short out =
+pub out_of_range_is_refused : (e : Extended) (s : Sides) (IsLong : List ℕ → Type 0) (l : Ledger) (left : List ℕ) → ¬ (IsLong left) → BeginsOutOfRange e.max left → IsRefusedNext e s IsLong l left (0, cause.Range)
+out_of_range_is_refused e s IsLong l left short out =
     inr (short, inr (⊎_elim (λ x. inl (x.0, x.1, x.2, (cause.Range, inl (x.3, refl), refl))) (λ q. inr (q.0, q.1, q.2, inl (cause.Range, inl (q.3, refl), refl))) out))
 
-pub long_is_refused : (e : Extended) (order : Order) (IsLong : List ℕ → Type 0) (l : Ledger) (left : List ℕ) → IsLong left → IsRefusedNext e order IsLong l left (0, cause.TooLong)
-long_is_refused e order IsLong l left long = inl (long, refl)
+pub long_is_refused : (e : Extended) (s : Sides) (IsLong : List ℕ → Type 0) (l : Ledger) (left : List ℕ) → IsLong left → IsRefusedNext e s IsLong l left (0, cause.TooLong)
+long_is_refused e s IsLong l left long = inl (long, refl)
 
 -- ---- the next line
 

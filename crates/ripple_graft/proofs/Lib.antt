@@ -1,1 +1,11 @@
+pub mod RippleAdds
+pub mod RippleGates
+pub mod Orders
 pub mod Plain
+pub mod OneBlock
+pub mod BlockLists
+pub mod NewOutputs
+pub mod Adders
+pub mod SeenGraphs
+pub mod KnownLiterals
+pub mod CallerLemmas

@@ -1,13 +1,29 @@
 //! Extended graphs: a graph, gates that are added to it, and the output columns that those gates replace.
 //!
-//! A certificate speaks of an extended graph. `Extended::without_cut` is the graph alone; no call here takes memory.
+//! A certificate speaks of an extended graph. `Extended::without_cut` is the graph alone; `graft` puts a ripple-carry
+//! adder in place of its last outputs, or tells the first fault of the cut. Only `graft` takes memory.
 //!
 //! *Extended graph*, *column*: the records `Extended` and `Column` of `graph_core`, which contracts see. *New
-//! outputs*: those of the graph, but for the replaced columns (`specs/Extension.antt`).
+//! outputs*: those of the graph, but for the replaced columns (`specs/Extension.antt`). *Cut*, `with_cut`: the adder
+//! and the graph with it (`specs/Ripple.antt`, `specs/Blocks.antt`).
 #![tactic(auto)]
 
+mod added;
+mod adder;
+mod cut;
 mod extended;
+mod fault;
+mod grafting;
+mod laws;
 #[cfg(test)]
 mod tests;
 
+pub use cut::{Cut, Pairs};
 pub use extended::Extended;
+pub use fault::GraftFail;
+pub use grafting::graft;
+pub use laws::{
+    block_outputs_are, blocks_add, blocks_are_joined, blocks_extend, cut_is_block, cut_replaces,
+    evaluation_goes_on, evaluations_extend, front_evaluates, graft_extends, outputs_are_new,
+    ripple_adds, whole_is_well_formed,
+};

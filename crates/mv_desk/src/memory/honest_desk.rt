@@ -2,7 +2,7 @@ ghost use Rattle.std.specs.Prelude.{◌≡◌, None, [], true, length, take, opt
 ghost use Rattle.std.specs.Io.{ReadsAtMost};
 ghost use Rattle.std.specs.Io.KnownBytes.{ReadConsumes};
 ghost use Rattle.mv_desk.specs.Calls.{HasReadCause, HasWriteCause, Opens, ReadsOnly, TakesSome, WritesTo};
-ghost use Rattle.mv_desk.specs.View.{HasReport, IsSame, KeepsTelling};
+ghost use Rattle.mv_desk.specs.View.{HasReport, IsSame, KeepsTelling, OpensFiles};
 
 use super::shelf::Shelf;
 use crate::{Desk, Failed, Slot};
@@ -14,6 +14,7 @@ use std::alloc::Global;
 #[derive(Drop)]
 pub struct HonestDesk {
     shelf: Shelf,
+    opened: u64,
     write_faults: u64,
 }
 
@@ -30,6 +31,7 @@ impl HonestDesk {
     {
         HonestDesk {
             shelf: Shelf::new(alloc, Vec::new(alloc)),
+            opened: 0,
             write_faults: 0,
         }
     }
@@ -67,8 +69,10 @@ impl Desk for HonestDesk {
         ensures failed { OnErr result (IsSame (view_of self.old) (view_of self.new)) }
         ensures cause { HasReadCause (view_of self.old) (view_of self.new) result }
         ensures tells { KeepsTelling (view_of self.old) (view_of self.new) }
+        ensures counted { OpensFiles 1 (view_of self.old) (view_of self.new) }
         ensures always { IsOk result }
     {
+        self.opened = self.opened.saturating_add(1);
         self.shelf.open_or_empty(slot, name);
         Ok(())
     }

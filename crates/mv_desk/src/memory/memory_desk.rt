@@ -3,10 +3,11 @@ ghost use Rattle.std.specs.Io.{ReadsAtMost};
 ghost use Rattle.std.specs.Io.KnownBytes.{ReadConsumes};
 ghost use Rattle.mv_desk.specs.Calls.{Creates, HasReadCause, HasWriteCause, Opens, ReadsOnly, TakesSome, WritesTo};
 ghost use Rattle.mv_desk.specs.Script.{after_call, after_read, is_next_failing, read_len};
-ghost use Rattle.mv_desk.specs.View.{HasReport, IsSame, KeepsTelling};
+ghost use Rattle.mv_desk.specs.View.{HasReport, IsSame, KeepsTelling, OpensFiles};
 
 use super::script::Script;
 use super::shelf::Shelf;
+use crate::counts::Counts;
 use crate::{Desk, Failed, Slot};
 use std::alloc::Global;
 
@@ -17,8 +18,7 @@ use std::alloc::Global;
 pub struct MemoryDesk {
     shelf: Shelf,
     script: Script,
-    read_faults: u64,
-    write_faults: u64,
+    counts: Counts,
 }
 
 #[tactic(auto, unfolding(crate::specs::MemoryDesk::view_of))]
@@ -45,8 +45,7 @@ impl MemoryDesk {
         MemoryDesk {
             shelf: Shelf::new(alloc, files),
             script: Script::new(pieces, fails),
-            read_faults: 0,
-            write_faults: 0,
+            counts: Counts::new(),
         }
     }
 
@@ -83,14 +82,16 @@ impl Desk for MemoryDesk {
         ensures failed { OnErr result (IsSame (view_of self.old) (view_of self.new)) }
         ensures cause { HasReadCause (view_of self.old) (view_of self.new) result }
         ensures tells { KeepsTelling (view_of self.old) (view_of self.new) }
+        ensures counted { OpensFiles 1 (view_of self.old) (view_of self.new) }
         // It fails by its list, and at a name that isn't held.
         ensures refused { is_err result ≡ (is_next_failing (plan_of self.old) || is_none (held_of self.old name.now)) }
         ensures plan { plan_of self.new ≡ after_call (plan_of self.old) }
     {
+        self.counts.count_opened();
         if !self.script.fails_now() && self.shelf.open(slot, name) {
             return Ok(());
         }
-        self.read_faults = self.read_faults.saturating_add(1);
+        self.counts.count_read_fault();
         Err(Failed)
     }
 
@@ -108,7 +109,7 @@ impl Desk for MemoryDesk {
         ensures plan { plan_of self.new ≡ (if is_ok result then after_read (plan_of self.old) else after_call (plan_of self.old)) }
     {
         if self.script.fails_now() {
-            self.read_faults = self.read_faults.saturating_add(1);
+            self.counts.count_read_fault();
             return Err(Failed);
         }
         let most = self.script.take_piece();
@@ -128,7 +129,7 @@ impl Desk for MemoryDesk {
         {
             return Ok(());
         }
-        self.write_faults = self.write_faults.saturating_add(1);
+        self.counts.count_write_fault();
         Err(Failed)
     }
 
@@ -148,7 +149,7 @@ impl Desk for MemoryDesk {
         {
             return Ok(piece.len());
         }
-        self.write_faults = self.write_faults.saturating_add(1);
+        self.counts.count_write_fault();
         Err(Failed)
     }
 }

@@ -1,6 +1,7 @@
 ghost use Rattle.std.specs.Prelude.{◌≡◌, ◌<◌, ◌≤◌, ◌++◌, ℕ, [], true, false, length, take, min, is_some, option_map, OnOk, OnErr};
 ghost use Rattle.mv_desk.specs.Calls.{Creates, Opens, ReadsOnly, WritesTo};
 ghost use Rattle.mv_desk.specs.Files.{files_of, held_at};
+ghost use Rattle.mv_desk.specs.declared.counts.Counts.{Counts};
 ghost use Rattle.mv_desk.specs.Memory.{is_read, is_written, out_in, place_at, rest_in, tells};
 
 use super::bytes::Bytes;
@@ -48,7 +49,7 @@ impl Shelf {
     /// Opens a file for reading, where it is held.
     pub fn open(&mut self, slot: Slot, name: &str) -> bool
         ensures held { result ≡ is_some (held_at self.old.0 name.now) }
-        ensures opens { result ≡ true → (r w : ℕ) → Opens slot name.now (tells self.old r w) (tells self.new r w) }
+        ensures opens { result ≡ true → (counts counts' : Counts) → Opens slot name.now (tells self.old counts) (tells self.new counts') }
         ensures none { result ≡ false → self.new ≡ self.old }
     {
         let Some(file) = self.files.position_of(name) else {
@@ -60,7 +61,7 @@ impl Shelf {
 
     /// Opens a file for reading, and an empty one where it isn't held.
     pub fn open_or_empty(&mut self, slot: Slot, name: &str)
-        ensures { (r w : ℕ) → Opens slot name.now (tells self.old r w) (tells self.new r w) }
+        ensures { (counts counts' : Counts) → Opens slot name.now (tells self.old counts) (tells self.new counts') }
     {
         if !self.open(slot, name) {
             self.places.put(slot, Place::Absent);
@@ -74,7 +75,7 @@ impl Shelf {
         ensures within { result ≤ length into.new }
         ensures bytes { rest_in self.old slot ≡ take result into.new ++ rest_in self.new slot }
         ensures end { result ≡ 0 → 0 < length into.new → rest_in self.new slot ≡ [] }
-        ensures only { (r w : ℕ) → ReadsOnly slot (tells self.old r w) (tells self.new r w) }
+        ensures only { (counts : Counts) → ReadsOnly slot (tells self.old counts) (tells self.new counts) }
     {
         let Place::Reading { file, at } = self.places.take(slot) else {
             self.places.put(slot, Place::Absent);
@@ -94,7 +95,7 @@ impl Shelf {
     }
 
     pub fn create(&mut self, slot: Slot, name: &str) -> Result<(), AllocError>
-        ensures creates { OnOk result ((r w : ℕ) → Creates slot name.now (tells self.old r w) (tells self.new r w)) }
+        ensures creates { OnOk result ((counts : Counts) → Creates slot name.now (tells self.old counts) (tells self.new counts)) }
         ensures err { OnErr result (self.new ≡ self.old) }
     {
         let written = Bytes::new(self.alloc);
@@ -110,7 +111,7 @@ impl Shelf {
 
     pub fn write(&mut self, slot: Slot, piece: &[u8]) -> Result<(), AllocError>
         requires { is_written (place_at self.old.1 slot) ≡ true }
-        ensures writes { OnOk result ((r w : ℕ) → WritesTo slot piece.now (tells self.old r w) (tells self.new r w)) }
+        ensures writes { OnOk result ((counts : Counts) → WritesTo slot piece.now (tells self.old counts) (tells self.new counts)) }
         ensures err { OnErr result (self.new ≡ self.old) }
     {
         let mut place = self.places.take(slot);

@@ -1,5 +1,6 @@
 use super::channel::Channel;
 use super::channels::Channels;
+use crate::counts::Counts;
 use crate::{Desk, Failed, Slot};
 use std::fs::File;
 use std::io::{Read, Write};
@@ -10,8 +11,7 @@ use std::rt::Files;
 pub struct RealDesk<R: Files + Print + Drop> {
     rt: R,
     channels: Channels<R::File>,
-    read_faults: u64,
-    write_faults: u64,
+    counts: Counts,
 }
 
 impl<R: Files + Print + Drop> RealDesk<R> {
@@ -30,8 +30,7 @@ impl<R: Files + Print + Drop> RealDesk<R> {
                 algebra: Channel::Closed,
                 report: Channel::Standard,
             },
-            read_faults: 0,
-            write_faults: 0,
+            counts: Counts::new(),
         }
     }
 }
@@ -39,16 +38,17 @@ impl<R: Files + Print + Drop> RealDesk<R> {
 impl<R: Files + Print + Drop> Desk for RealDesk<R> {
     ghost use Rattle.mv_desk.specs.Real.{real_view};
 
-    ghost seen = { λ d. real_view d.channels d.read_faults d.write_faults };
+    ghost seen = { λ d. real_view d.channels d.counts };
 
     fn open_file(&mut self, slot: Slot, name: &str) -> Result<(), Failed> {
+        self.counts.count_opened();
         match File::open(&self.rt, name) {
             Ok(file) => {
                 self.channels.put(slot, Channel::Reading(file));
                 Ok(())
             }
             Err(_) => {
-                self.read_faults = self.read_faults.saturating_add(1);
+                self.counts.count_read_fault();
                 Err(Failed)
             }
         }
@@ -61,7 +61,7 @@ impl<R: Files + Print + Drop> Desk for RealDesk<R> {
         match count {
             Ok(count) => Ok(count),
             Err(_) => {
-                self.read_faults = self.read_faults.saturating_add(1);
+                self.counts.count_read_fault();
                 Err(Failed)
             }
         }
@@ -74,7 +74,7 @@ impl<R: Files + Print + Drop> Desk for RealDesk<R> {
                 Ok(())
             }
             Err(_) => {
-                self.write_faults = self.write_faults.saturating_add(1);
+                self.counts.count_write_fault();
                 Err(Failed)
             }
         }
@@ -86,12 +86,12 @@ impl<R: Files + Print + Drop> Desk for RealDesk<R> {
         self.channels.put(slot, channel);
         match count {
             Ok(0) if !piece.is_empty() => {
-                self.write_faults = self.write_faults.saturating_add(1);
+                self.counts.count_write_fault();
                 Err(Failed)
             }
             Ok(count) => Ok(count),
             Err(_) => {
-                self.write_faults = self.write_faults.saturating_add(1);
+                self.counts.count_write_fault();
                 Err(Failed)
             }
         }

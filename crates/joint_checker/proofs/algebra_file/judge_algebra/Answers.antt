@@ -1,9 +1,13 @@
-use Rattle.std.proofs.Common.{subst, ◌∙◌}
+use Rattle.std.proofs.Common.{◌≡◌, ap, subst, ◌∙◌}
 use Rattle.std.specs.Option.{IfSome}
 use Rattle.std.proofs.lemmas.Result.{IfErr-weaker, on_ok_weaker}
-use Rattle.graph_core.specs.Extended.{Extended, without_cut}
-use Rattle.graph_core.specs.declared.order.Order.{Order}
+use Rattle.graph_core.specs.Algebra.{specification}
+use Rattle.graph_core.specs.Graph.Extended.{Extended}
+use Rattle.graph_core.specs.Graph.Operands.{Sides, sides_of}
+use Rattle.graph_core.proofs.OfGraphs.CallerLemmas.{operands_are_sides}
 use Rattle.mv_desk.specs.declared.slot.Slot.TheVariants as slot
+use Rattle.mv_desk.proofs.CallerLemmas.{ReadsOnly-trans}
+use Rattle.mv_fact.specs.Always.{Always}
 use Rattle.poly_text.specs.LineReading.{lengths_of}
 use Rattle.joint_checker.specs.AlgebraBody.{IsBodyFail, IsLawfulBody}
 use Rattle.joint_checker.specs.AlgebraLines.{left_in}
@@ -14,37 +18,61 @@ use Rattle.joint_checker.proofs.algebra_file.judge_algebra.Goals as goal
 pub returns-in-Err-clause-refused : goal.returns-in-Err-clause-refused
 returns-in-Err-clause-refused g c =
     let before = g.D.Desk.seen c.args.desk.now in
+    let e = c.args.extended.now in
     rw c.line_refused.ensures
-    (header_fails (lengths_of c.args.limits.now) c.args.graph.now c.args.order (before.left slot.Algebra) before (g.D.Desk.seen c.start.new.desk) c.in-Err.fail c.in-Err.ensures.refused)
+    (header_fails (lengths_of c.args.limits.now) e (sides_of c.args.order e.graph) (before.left slot.Algebra) before (g.D.Desk.seen c.start.new.desk) c.in-Err.fail c.in-Err.ensures.refused)
+
+pub returns-clause-only : goal.returns-clause-only
+returns-clause-only g c =
+    ReadsOnly-trans slot.Algebra (g.D.Desk.seen c.args.desk.now) (g.D.Desk.seen c.start.new.desk) (g.D.Desk.seen c.judge_lines.new.desk) c.in-Ok.ensures.reads.only
+    c.judge_lines.ensures.only
 
 pub returns-clause-lawful : goal.returns-clause-lawful
 returns-clause-lawful g c =
     let before = g.D.Desk.seen c.args.desk.now in
-    let graph = c.args.graph.now in
+    let e = c.args.extended.now in
+    let sides = sides_of c.args.order e.graph in
     let file = c.in-Ok.file in
     let behind = left_in file (g.D.Desk.seen c.start.new.desk) in
     let checker = c.in_ok-checker.checker in
-    let same_graph = c.in_ok-checker.ensures.extended ∙ c.without_cut-extended.ensures in
-    let same_order = c.in_ok-checker.ensures.order ∙ c.in_ok-operands.ensures.order in
+    let operands = c.in_ok-operands.operands in
+    let same_sides : checker.sides ≡ sides =
+    c.in_ok-checker.ensures.sides ∙ operands_are_sides c.graph.result.now operands c.in_ok-operands.ensures.operands ∙ ap (λ o. sides_of o c.graph.result.now) c.in_ok-operands.ensures.order ∙
+    ap (λ x. sides_of c.args.order x) c.graph.ensures in
     on_ok_weaker c.judge_lines.result (λ h.
-    text_is_lawful (lengths_of c.args.limits.now) graph c.args.order file c.in-Ok.ensures.lengths (before.left slot.Algebra) behind c.in-Ok.ensures.header
-    (subst (λ (o : Order). IfSome behind (IsLawfulBody (without_cut graph) o file.lines)) same_order (subst (λ (e : Extended). IfSome behind (IsLawfulBody e checker.order file.lines)) same_graph h)))
+    text_is_lawful (lengths_of c.args.limits.now) e sides file c.in-Ok.ensures.lengths (before.left slot.Algebra) behind c.in-Ok.ensures.header
+    (subst (λ (s : Sides). IfSome behind (IsLawfulBody e s file.lines)) same_sides (subst (λ (x : Extended). IfSome behind (IsLawfulBody x checker.sides file.lines)) c.in_ok-checker.ensures.extended h)))
     c.judge_lines.ensures.lawful
+
+pub returns-clause-vanishes : goal.returns-clause-vanishes
+returns-clause-vanishes g c =
+    let e = c.args.extended.now in
+    let checker = c.in_ok-checker.checker in
+    let operands = c.in_ok-operands.operands in
+    let same_sides : checker.sides ≡ sides_of c.args.order e.graph =
+    c.in_ok-checker.ensures.sides ∙ operands_are_sides c.graph.result.now operands c.in_ok-operands.ensures.operands ∙ ap (λ o. sides_of o c.graph.result.now) c.in_ok-operands.ensures.order ∙
+    ap (λ x. sides_of c.args.order x) c.graph.ensures in
+    on_ok_weaker c.judge_lines.result (λ h.
+    subst (λ (s : Sides). Always e.gates (λ σ. specification e s σ ≡ 0)) same_sides (subst (λ (x : Extended). Always x.gates (λ σ. specification x checker.sides σ ≡ 0)) c.in_ok-checker.ensures.extended h))
+    c.judge_lines.ensures.vanishes
 
 pub returns-clause-refused : goal.returns-clause-refused
 returns-clause-refused g c =
     let before = g.D.Desk.seen c.args.desk.now in
     let middle = g.D.Desk.seen c.start.new.desk in
     let now = g.D.Desk.seen c.judge_lines.new.desk in
-    let graph = c.args.graph.now in
+    let e = c.args.extended.now in
+    let sides = sides_of c.args.order e.graph in
     let file = c.in-Ok.file in
     let behind = left_in file middle in
     let checker = c.in_ok-checker.checker in
-    let same_graph = c.in_ok-checker.ensures.extended ∙ c.without_cut-extended.ensures in
-    let same_order = c.in_ok-checker.ensures.order ∙ c.in_ok-operands.ensures.order in
-    IfErr-weaker c.judge_lines.result (IsBodyFail checker.extended checker.order file.lines behind middle now)
-    (IsAlgebraFail (lengths_of c.args.limits.now) graph c.args.order (before.left slot.Algebra) before now) (λ answer h.
-    body_fails (lengths_of c.args.limits.now) graph c.args.order file c.in-Ok.ensures.lengths (before.left slot.Algebra) behind c.in-Ok.ensures.header before middle now answer c.in-Ok.ensures.only.later
-    (subst (λ (o : Order). IsBodyFail (without_cut graph) o file.lines behind middle now answer) same_order
-    (subst (λ (e : Extended). IsBodyFail e checker.order file.lines behind middle now answer) same_graph h)))
+    let operands = c.in_ok-operands.operands in
+    let same_sides : checker.sides ≡ sides =
+    c.in_ok-checker.ensures.sides ∙ operands_are_sides c.graph.result.now operands c.in_ok-operands.ensures.operands ∙ ap (λ o. sides_of o c.graph.result.now) c.in_ok-operands.ensures.order ∙
+    ap (λ x. sides_of c.args.order x) c.graph.ensures in
+    IfErr-weaker c.judge_lines.result (IsBodyFail checker.extended checker.sides file.lines behind middle now)
+    (IsAlgebraFail (lengths_of c.args.limits.now) e sides (before.left slot.Algebra) before now) (λ answer h.
+    body_fails (lengths_of c.args.limits.now) e sides file c.in-Ok.ensures.lengths (before.left slot.Algebra) behind c.in-Ok.ensures.header before middle now answer c.in-Ok.ensures.reads.only.later
+    (subst (λ (s : Sides). IsBodyFail e s file.lines behind middle now answer) same_sides
+    (subst (λ (x : Extended). IsBodyFail x checker.sides file.lines behind middle now answer) c.in_ok-checker.ensures.extended h)))
     c.judge_lines.ensures.refused

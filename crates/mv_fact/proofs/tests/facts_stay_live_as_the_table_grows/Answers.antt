@@ -1,5 +1,5 @@
 use Rattle.std.proofs.Common.{◌≡◌, ◌≤◌, true, lit<, lit≤, List, [], ◌∷◌, ◌∙◌, subst, sym}
-use Rattle.graph_core.specs.Assignment.{Assignment, variable}
+use Rattle.graph_core.specs.Graph.Assignments.{Assignment, variable}
 use Rattle.graph_core.specs.Graph.{IsEvaluation}
 use Rattle.graph_core.specs.declared.Gate.{Gate}
 use Rattle.mv_fact.specs.declared.tests.Greatest.{Greatest}

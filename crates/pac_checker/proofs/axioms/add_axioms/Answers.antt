@@ -1,9 +1,8 @@
-use Rattle.std.proofs.Common.{◌≡◌, ℕ, ◌≤◌, ◌*◌, List, map, subst, ◌∙◌}
+use Rattle.std.proofs.Common.{◌≡◌, ℕ, ◌≤◌, List, map, subst, ◌∙◌, length}
 use Rattle.std.specs.List.{AllByRecursion}
 use Rattle.std.proofs.lemmas.List.Elements.{recursion_from_All}
 use Rattle.std.proofs.lemmas.Result.{on_ok_weaker}
-use Rattle.graph_core.specs.Extended.{Extended}
-use Rattle.graph_core.specs.Operands.{width}
+use Rattle.graph_core.specs.Graph.Extended.{Extended}
 use Rattle.graph_core.specs.Algebra.{LiveLine, gate_axiom}
 use Rattle.graph_core.specs.Algebra as algebra
 use Rattle.graph_core.specs.declared.Gate.{Gate}
@@ -11,7 +10,7 @@ use Rattle.mv_fact.specs.Facts.{Facts}
 use Rattle.poly_terms.specs.Tables.{Table, Sum, modulus}
 use Rattle.poly_terms.specs.Laws.{extends_on, modulus_stays}
 use Rattle.ripple_graft.specs.Extension.{IsExtension}
-use Rattle.pac_checker.specs.Agreement.{AreSameLines}
+use Rattle.graph_core.specs.Algebra.Agreement.{AreSameLines}
 use Rattle.pac_checker.specs.Checking.{lines_in}
 use Rattle.pac_checker.proofs.ColumnLines.{columns_none, columns_end, number_within}
 use Rattle.pac_checker.proofs.FirstLines.{gates_within}
@@ -42,5 +41,5 @@ pub returns-clause-lines : goal.returns-clause-lines
 returns-clause-lines c =
     let e = c.args.extended.now in
     on_ok_weaker c.add_columns.result
-    (columns_end e (2 * width e.graph) c.add_gates.new.live c.add_columns.new.live (gate_lines e) (number_within e c.requires.shape c.gates.ensures.extension) (within e c.gates.ensures.extension) (are_lines c.args.extended.now c.add_gates.new.live c.gates.result.now (modulus c.args.live.now.table) c.gates.ensures.value c.requires.modulus c.in_ok-add_gates.ensures.lines))
+    (columns_end e (length e.graph.outputs) c.add_gates.new.live c.add_columns.new.live (gate_lines e) (number_within e c.gates.ensures.extension) (within e c.gates.ensures.extension) (are_lines c.args.extended.now c.add_gates.new.live c.gates.result.now (modulus c.args.live.now.table) c.gates.ensures.value c.requires.modulus c.in_ok-add_gates.ensures.lines))
     c.add_columns.ensures

@@ -1,13 +1,14 @@
 use Rattle.std.proofs.Common.{◌≡◌, ◌^◌, ◌∷◌, [], length, refl, sym, ap, subst, ◌∙◌, append_assoc, append-nil, rules, arith}
-use Rattle.std.proofs.lemmas.Cmp.{nat_list_cmp_total}
+use Rattle.std.proofs.lemmas.Cmp.{nat_cmp_total}
 use Rattle.std.proofs.lemmas.List.Sorted.{answers_always, ranks_by}
 use Rattle.std.proofs.lemmas.Nat.{pow_pos}
 use Rattle.std.specs.List.{AllByRecursion}
 use Rattle.std.specs.List.Sorted.{IsSortedBy}
 use Rattle.std.specs.Vec.Iter.{into_iter_items}
-use Rattle.poly_terms.specs.Entries.{IsGathered, Summand}
+use Rattle.poly_terms.specs.Entries.{IsGathered, IsOrderly, Summand}
 use Rattle.poly_terms.proofs.Gathering.{Ascend, NoneBefore, before, ascend_sorted, gathered_none, gathered_more, gathered_permuted}
 use Rattle.poly_terms.proofs.Merging.{nothing}
+use Rattle.poly_terms.proofs.Placed.{gathered_itself}
 use Rattle.poly_terms.proofs.addition.gather.Goals as goal
 
 pub loop-entry-init : goal.loop-entry-init
@@ -16,7 +17,7 @@ loop-entry-init c =
     let sorted = c.sort_unstable_by.new.self in
     let left = c.into_iter-entry-iterator.ensures.into_iter_gives in
     let up : IsSortedBy before sorted.items =
-    c.sort_unstable_by.ensures.sorted before (ranks_by nat_list_cmp_total (λ (e : Summand). e.0)) (answers_always _ _ _ (λ f a r f' k. search rules)) in
+    c.sort_unstable_by.ensures.sorted before (ranks_by nat_cmp_total (λ (e : Summand). e.0)) (answers_always _ _ _ (λ f a r f' k. search rules)) in
     record {
       rest = refl;
       len = left.1 ∙ sorted.ok.0 ∙ sym (ap length left.0);
@@ -57,3 +58,10 @@ returns c =
     subst (IsGathered m c.args.raw.items) (sym c.shrink_to_fit.ensures.items)
     (gathered_permuted m c.args.raw.items c.sort_unstable_by.new.self.items at.out.items c.sort_unstable_by.ensures.permutation
     (subst (λ xs. IsGathered m xs at.out.items) all at.invariant.gathered))
+
+pub returns-then-is_orderly-2 : goal.returns-then-is_orderly-2
+returns-then-is_orderly-2 c =
+    let m = 2 ^ c.args.width in
+    let sorted = c.sort_unstable_by.new.self.items in
+    let orderly : IsOrderly m sorted = subst (IsOrderly m) c.deref-2.ensures.value (c.is_orderly-2.ensures c.if-is_orderly-2.true) in
+    gathered_permuted m c.args.raw.items sorted sorted c.sort_unstable_by.ensures.permutation (gathered_itself m sorted orderly)

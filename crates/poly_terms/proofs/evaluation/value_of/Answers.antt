@@ -1,6 +1,6 @@
-use Rattle.std.proofs.Common.{◌≡◌, ◌+◌, ◌%◌, ◌^◌, ℕ, List, ap, sym, ◌∙◌, arith}
-use Rattle.graph_core.specs.Assignment.{bit, listed}
-use Rattle.graph_core.specs.Polynomial.{product}
+use Rattle.std.proofs.Common.{◌≡◌, ◌+◌, ◌%◌, ◌^◌, ℕ, [], get_or, ap, sym, ◌∙◌, arith}
+use Rattle.graph_core.specs.Graph.Assignments.{bit, listed}
+use Rattle.graph_core.specs.Algebra.Polynomials.{product}
 use Rattle.poly_terms.proofs.Totals.{counted, not_counted}
 use Rattle.std.proofs.Common.{mod-lt}
 use Rattle.std.proofs.lemmas.Nat.{pow_pos}
@@ -10,11 +10,12 @@ use Rattle.poly_terms.proofs.evaluation.value_of.Goals.{then-are_true, else-are_
 pub loop-entry-preserved : goal.loop-entry-preserved
 loop-entry-preserved c =
     let m = 2 ^ c.args.width in
-    let f = λ (k : List ℕ). product (listed c.args.values.now) k in
+    let t = c.args.table.now in
+    let f = λ (k : ℕ). product (listed c.args.values.now) (get_or t k []) in
     let e = c.entry-item.result in
     let es = c.args.entries.now in
     let i = c.loop-entry.entry-index in
-    let holds : bit c.are_true.result ≡ f e.0 = c.are_true.ensures ∙ ap f c.variables.ensures in
+    let holds : bit c.are_true.result ≡ f e.0 = c.are_true.ensures ∙ sym (ap (product (listed c.args.values.now)) (ap (λ k. get_or t k []) (sym c.number.ensures) ∙ c.variables.ensures.value)) in
     record {
       below = elim c.if-are_true.branch [ then-are_true w ↦ rw (w.sum-is, w.sum-sum.ensures) (mod-lt _ (pow_pos c.args.width)) | else-are_true w ↦ omega arith ];
       same = (elim c.if-are_true.branch [

@@ -1,6 +1,10 @@
-use Rattle.std.proofs.Common.{◌≡◌, ◌^◌, ◌++◌, map, take}
-use Rattle.poly_terms.specs.Entries.{times}
+use Rattle.std.proofs.Common.{◌*◌, ◌^◌, take}
+use Rattle.graph_core.specs.Algebra.Polynomials.{product}
+use Rattle.poly_terms.specs.Monomials.{Adds, Grows, total_in}
 use Rattle.poly_terms.proofs.multiplication.multiply_behind.Given as goal
 
 abbrev pub invariant-loop-entry : goal.invariant-loop-entry
-invariant-loop-entry l = l.out.items ≡ l.initial.out.items ++ map (times (2 ^ l.width) l.by) (take l.entry-index l.entries)
+invariant-loop-entry l = record {
+  grows : Grows l.initial.table l.table;
+  adds : Adds (2 ^ l.width) l.initial.table l.table l.initial.out.items l.out.items (λ σ. l.coefficient * product σ l.monomial.items * total_in l.initial.table σ (take l.entry-index l.entries));
+}

@@ -1,6 +1,5 @@
-use Rattle.std.proofs.Common.{◌≡◌, ℕ, ◌^◌, ◌*◌, ◌+◌, ◌<◌, ap, ap₂, subst, ◌∙◌}
-use Rattle.graph_core.specs.Operands.{width}
-use Rattle.graph_core.specs.Extended.{Extended}
+use Rattle.std.proofs.Common.{◌≡◌, ℕ, ◌^◌, ◌+◌, ◌<◌, length, ap, ap₂, subst, ◌∙◌}
+use Rattle.graph_core.specs.Graph.Extended.{Extended}
 use Rattle.graph_core.specs.Algebra.{axioms}
 use Rattle.graph_core.specs.Algebra as algebra
 use Rattle.poly_terms.specs.Tables.{Table, modulus}
@@ -9,43 +8,41 @@ use Rattle.pac_checker.proofs.ColumnLines.{axioms_within}
 use Rattle.pac_checker.proofs.FirstLines.{fresh_above}
 use Rattle.pac_checker.proofs.checker.PacChecker.new.Goals as goal
 
--- a table of the graph's width has the modulus of the graph
-table_modulus : (t s : Table) (e : Extended) (bits : ℕ) → t ≡ s → s.width ≡ 2 * bits → bits ≡ width e.graph → modulus t ≡ algebra.modulus e
-table_modulus t s e bits same wide is = ap modulus same ∙ ap (λ w. 2 ^ w) (wide ∙ ap (λ n. 2 * n) is)
+-- a table with the number of outputs as its width has the modulus of the graph
+table_modulus : (t s : Table) (e : Extended) (outputs : ℕ) → t ≡ s → s.width ≡ outputs → outputs ≡ length e.graph.outputs → modulus t ≡ algebra.modulus e
+table_modulus t s e outputs same wide is = ap modulus same ∙ ap (λ w. 2 ^ w) (wide ∙ is)
+
+last_is : (e : Extended) (a b max outputs : ℕ) → a ≡ max → max ≡ e.max → b ≡ outputs → outputs ≡ length e.graph.outputs → a + b ≡ (axioms e).last
+last_is e a b max outputs f g h j = ap₂ (λ x y. x + y) (f ∙ g) (h ∙ j)
 
 pub add_axioms-requires : goal.add_axioms-requires
 add_axioms-requires c = record {
   gates = c.new-live.ensures.gates ∙ c.gates.ensures.value;
   empty = c.new-live.ensures.empty;
-  modulus = table_modulus c.new-live.result.table c.new.result c.args.extended.now c.bits-bits.result c.new-live.ensures.table c.new.ensures (c.bits-bits.ensures ∙ ap width c.graph.ensures);
-  shape = c.requires.shape;
-  narrow = c.requires.narrow;
+  modulus = table_modulus c.new-live.result.table c.new.result c.args.extended.now (c.outputs-outputs.result) c.new-live.ensures.table c.new.ensures (c.outputs-outputs.ensures.value ∙ ap (λ g. length g.outputs) c.graph.ensures);
   columns = c.requires.columns;
 }
 
 pub returns-clause-modulus : goal.returns-clause-modulus
 returns-clause-modulus c =
     modulus_stays c.new-live.result.table c.add_axioms.new.live.table c.in_ok-add_axioms.ensures.table ∙
-    table_modulus c.new-live.result.table c.new.result c.args.extended.now c.bits-bits.result c.new-live.ensures.table c.new.ensures (c.bits-bits.ensures ∙ ap width c.graph.ensures)
-
-last_is : (e : Extended) (a b max bits : ℕ) → a ≡ max → max ≡ e.max → b ≡ bits → bits ≡ width e.graph → a + 2 * b ≡ (axioms e).last
-last_is e a b max bits f g h j = ap₂ (λ x y. x + 2 * y) (f ∙ g) (h ∙ j)
+    table_modulus c.new-live.result.table c.new.result c.args.extended.now (c.outputs-outputs.result) c.new-live.ensures.table c.new.ensures (c.outputs-outputs.ensures.value ∙ ap (λ g. length g.outputs) c.graph.ensures)
 
 pub returns-clause-axioms : goal.returns-clause-axioms
 returns-clause-axioms c = record {
-  last = last_is c.args.extended.now c.from.result c.from-2.result c.max.result c.bits-bits.result c.from.ensures c.max.ensures.value c.from-2.ensures (c.bits-bits.ensures ∙ ap width c.graph.ensures);
+  last = last_is c.args.extended.now c.from.result c.from-2.result c.max.result (c.outputs-outputs.result) c.from.ensures c.max.ensures.value c.from-2.ensures (c.outputs-outputs.ensures.value ∙ ap (λ g. length g.outputs) c.graph.ensures);
   lines = c.in_ok-add_axioms.ensures.lines;
 }
 
 pub invariant_of-result : goal.invariant_of-result
 invariant_of-result c =
     let e = c.args.extended.now in
-    let last : c.from.result + 2 * c.from-2.result ≡ (axioms e).last =
-    last_is e c.from.result c.from-2.result c.max.result c.bits-bits.result c.from.ensures c.max.ensures.value c.from-2.ensures (c.bits-bits.ensures ∙ ap width c.graph.ensures) in
+    let last : c.from.result + c.from-2.result ≡ (axioms e).last =
+    last_is e c.from.result c.from-2.result c.max.result (c.outputs-outputs.result) c.from.ensures c.max.ensures.value c.from-2.ensures (c.outputs-outputs.ensures.value ∙ ap (λ g. length g.outputs) c.graph.ensures) in
     record {
       same_gates = c.in_ok-add_axioms.ensures.gates ∙ c.new-live.ensures.gates ∙ c.gates.ensures.value;
       same_modulus = returns-clause-modulus c;
       operands = c.requires.operands;
       fresh = λ id above. fresh_above c.add_axioms.new.live (axioms e).live (axioms e).last id c.in_ok-add_axioms.ensures.lines
-          (axioms_within e c.requires.shape c.gates.ensures.extension) (subst (λ n. n < id) last above);
+          (axioms_within e c.gates.ensures.extension) (subst (λ n. n < id) last above);
     }

@@ -3,4 +3,4 @@ use Rattle.mv_desk.proofs.memory.memory_desk.MemoryDeskDesk.create_file.Goals as
 
 pub returns-clause-creates : goal.returns-clause-creates
 unfolding view_of
-returns-clause-creates c = c.in-Ok.ensures.creates _ _
+returns-clause-creates c = c.in-Ok.ensures.creates _

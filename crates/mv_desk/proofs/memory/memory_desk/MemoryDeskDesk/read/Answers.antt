@@ -3,4 +3,4 @@ use Rattle.mv_desk.proofs.memory.memory_desk.MemoryDeskDesk.read.Goals as goal
 
 pub returns-clause-only : goal.returns-clause-only
 unfolding view_of
-returns-clause-only c = c.read.ensures.only _ _
+returns-clause-only c = c.read.ensures.only _

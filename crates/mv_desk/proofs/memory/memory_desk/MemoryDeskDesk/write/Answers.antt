@@ -4,4 +4,4 @@ use Rattle.mv_desk.proofs.memory.memory_desk.MemoryDeskDesk.write.Goals as goal
 
 pub returns-clause-writes : goal.returns-clause-writes
 unfolding view_of
-returns-clause-writes c = rw take-length (c.in-Ok.ensures.writes _ _)
+returns-clause-writes c = rw take-length (c.in-Ok.ensures.writes _)

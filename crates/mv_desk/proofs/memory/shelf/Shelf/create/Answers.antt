@@ -15,7 +15,7 @@ invariant_of-self c =
 pub returns-in-Some-clause-creates : goal.returns-in-Some-clause-creates
 returns-in-Some-clause-creates c =
     let found : position (is_named c.args.name.now) c.self.inside.files ≡ Some c.in-Some.file = sym c.position_of.ensures ∙ c.in-Some.is in
-    λ r w. rw (← c.self.view_is, c.put.ensures, c.clear.ensures) (creates_set c.self.inside.files c.self.inside.places c.args.slot c.args.name.now c.new-written.result c.in-Some.file _ r w found refl refl c.new-written.ensures)
+    λ counts. rw (← c.self.view_is, c.put.ensures, c.clear.ensures) (creates_set c.self.inside.files c.self.inside.places c.args.slot c.args.name.now c.new-written.result c.in-Some.file _ counts found refl refl c.new-written.ensures)
 
 pub invariant_of-self-2 : goal.invariant_of-self-2
 invariant_of-self-2 c =
@@ -25,5 +25,5 @@ invariant_of-self-2 c =
 pub returns-clause-creates : goal.returns-clause-creates
 returns-clause-creates c =
     let none : position (is_named c.args.name.now) c.self.inside.files ≡ None = sym c.position_of.ensures ∙ c.in_default.is in
-    λ r w. rw (← c.self.view_is, c.in_ok-file.ensures.ok, c.put-2.ensures, c.in_ok-file.ensures.at)
-    (creates_push c.self.inside.files c.self.inside.places c.args.slot c.args.name.now c.new-written.result (c.args.name.now, []) r w c.self.invariant none refl refl c.new-written.ensures)
+    λ counts. rw (← c.self.view_is, c.in_ok-file.ensures.ok, c.put-2.ensures, c.in_ok-file.ensures.at)
+    (creates_push c.self.inside.files c.self.inside.places c.args.slot c.args.name.now c.new-written.result (c.args.name.now, []) counts c.self.invariant none refl refl c.new-written.ensures)

@@ -24,4 +24,4 @@ returns-clause-held c =
 pub returns-clause-opens : goal.returns-clause-opens
 returns-clause-opens c =
     let found : position (is_named c.args.name.now) c.self.inside.files ≡ Some c.in-Some.file = sym c.position_of.ensures ∙ c.in-Some.is in
-    λ _ r w. rw (← c.self.view_is, c.put.ensures) (opens c.self.inside.files c.self.inside.places c.args.slot c.args.name.now c.in-Some.file r w found)
+    λ _ counts counts'. rw (← c.self.view_is, c.put.ensures) (opens c.self.inside.files c.self.inside.places c.args.slot c.args.name.now c.in-Some.file counts counts' found)

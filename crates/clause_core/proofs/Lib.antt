@@ -1,0 +1,12 @@
+pub mod RupSoundness
+pub mod Propagation
+pub mod Decided
+pub mod PropagationEnds
+pub mod Sets
+pub mod Places
+pub mod Copies
+pub mod GateClauseLaws
+pub mod AddedClauses
+pub mod Goals
+pub mod Log
+pub mod CallerLemmas

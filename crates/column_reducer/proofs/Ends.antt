@@ -1,0 +1,94 @@
+-- What a walk answers.
+use Rattle.std.specs.Prelude.{◌≡◌, ℕ, ◌+◌, ◌%◌, ◌<◌, ◌≤◌, true, length, take, IfSome}
+use Rattle.std.specs.declared.option.Option.{Option}
+use Rattle.std.specs.declared.option.Option.TheVariants.{None, Some}
+use Rattle.std.proofs.Common.{sym, ap, subst, ◌∙◌, arith, ⊎_elim}
+use Rattle.std.proofs.Math.Nat.{mod-mod}
+use Rattle.std.proofs.Math.Seq.{take-length}
+use Rattle.std.proofs.lemmas.Bool.{cases_eq}
+use Rattle.graph_core.specs.Graph.Assignments.{Assignment}
+use Rattle.graph_core.specs.Graph.Operands.{Sides}
+use Rattle.graph_core.specs.Graph.Extended.{Extended}
+use Rattle.graph_core.specs.Algebra.{axioms, combined}
+use Rattle.graph_core.specs.Algebra as algebra
+use Rattle.graph_core.specs.Algebra.NormalForm.{HasSize, IsNormalForm}
+use Rattle.graph_core.specs.Algebra.Polynomials.{sum_of, value}
+use Rattle.poly_terms.specs.Tables.{Table, Sum, Extends, IsOf, modulus, monomials_in, value_in}
+use Rattle.poly_terms.specs.Laws.{modulus_stays, stays, value_stays}
+use Rattle.frontier_core.specs.Sets.{has}
+use Rattle.frontier_core.specs.Plan.{Taken, nothing, taken, value_of_taken}
+use Rattle.frontier_core.specs.Pending.{gap}
+use Rattle.frontier_core.proofs.Added.{total_ends}
+use Rattle.column_reducer.specs.declared.gathered.Gathered.{Gathered}
+use Rattle.column_reducer.specs.declared.walk.Walk.{Walk}
+use Rattle.column_reducer.specs.Gathering.{AreTotal, HasEnded, IsEnded, IsWalked, told_parts}
+use Rattle.column_reducer.specs.Reducing.{HasSizeAt, IsPassed, IsPlanned, Planned}
+
+-- what was taken after so many steps
+abbrev pub taken_after : Planned → ℕ → Taken
+taken_after p i = taken nothing (take i p.steps)
+
+-- the rest's size is the frontier's
+size_same : (p : Planned) (s : Sides) (t : Table) (count n : ℕ) (w : Walk) → IsWalked p.extended s t (taken_after p count) w → HasSize (modulus t) (value_in t w.rest) n →
+    HasSize (algebra.modulus p.extended) (value_of_taken p.extended s (taken_after p count)) n
+size_same p s t count n w h size =
+    (size.0, subst (λ m. IsNormalForm m size.0) h.same_modulus size.1, (λ σ. sym (ap (λ m. value m size.0 σ) h.same_modulus) ∙ size.2 σ ∙ h.value σ), size.3)
+
+size_back : (p : Planned) (s : Sides) (t : Table) (count n : ℕ) (w : Walk) → IsWalked p.extended s t (taken_after p count) w → HasSize (algebra.modulus p.extended) (value_of_taken p.extended s (taken_after p count)) n →
+    HasSize (modulus t) (value_in t w.rest) n
+size_back p s t count n w h size =
+    (size.0, subst (λ m. IsNormalForm m size.0) (sym h.same_modulus) size.1, (λ σ. ap (λ m. value m size.0 σ) h.same_modulus ∙ size.2 σ ∙ sym (h.value σ)), size.3)
+
+pub size_of_rest : (p : Planned) (s : Sides) (t : Table) (count step n : ℕ) (w : Walk) → IsWalked p.extended s t (taken_after p count) w → p.uncounted + step ≡ count → HasSize (modulus t) (value_in t w.rest) n →
+    HasSizeAt p s step n
+size_of_rest p s t count step n w h is size =
+    subst (λ i. HasSize (algebra.modulus p.extended) (value_of_taken p.extended s (taken_after p i)) n) (sym is) (size_same p s t count n w h size)
+
+-- no frontier before this one was above the budget, nor is this one
+pub within_more : (p : Planned) (s : Sides) (t : Table) (budget count : ℕ) (w : Walk) → IsWalked p.extended s t (taken_after p count) w →
+    (p.uncounted ≤ count → (n : ℕ) → HasSize (modulus t) (value_in t w.rest) n → n ≤ budget) →
+    ((i n : ℕ) → p.uncounted + i < count → HasSizeAt p s i n → n ≤ budget) → (i n : ℕ) → p.uncounted + i < count + 1 → HasSizeAt p s i n → n ≤ budget
+within_more p s t budget count w h here before i n low has =
+    ⊎_elim
+    (λ is. here (omega arith) n
+    (size_back p s t count n w h (subst (λ j. HasSize (algebra.modulus p.extended) (value_of_taken p.extended s (taken_after p j)) n) is has)))
+    (λ ne. before i n (omega (arith, ne)) has) (cases_eq (p.uncounted + i) count)
+
+pub is_passed : (p : Planned) (s : Sides) (t : Table) (budget count step n : ℕ) (w : Walk) → IsWalked p.extended s t (taken_after p count) w → p.uncounted + step ≡ count → count ≤ length p.steps →
+    HasSize (modulus t) (value_in t w.rest) n → budget < n → ((i k : ℕ) → p.uncounted + i < count → HasSizeAt p s i k → k ≤ budget) → IsPassed p s budget step n
+is_passed p s t budget count step n w h is low size above before = record {
+  there = omega arith;
+  above = above;
+  has = size_of_rest p s t count step n w h is size;
+  first = λ i k lt has. before i k (omega arith) has;
+}
+
+-- what the groups state in all is the specification minus the rest
+total_at_end : (e : Extended) (s : Sides) (t : Table) (f : Taken) (rest : Sum) (g : Gathered) → modulus t ≡ algebra.modulus e → ((k : ℕ) → k < length e.graph.outputs → has f.added k ≡ true) →
+    HasEnded e s t f rest g → AreTotal e s t rest g
+total_at_end e s t f rest g same all h =
+    let m = algebra.modulus e in
+    let alone : (σ : Assignment) → (value_in t g.total σ + 0) % m ≡ gap e s f.added (value_in t rest) σ = λ σ.
+    sym (ap (λ ps. (value_in t g.total σ + combined m (axioms e).live (told_parts t ps) σ) % m) h.none) ∙ h.gathered.pending.sum σ in
+    record {
+      groups = h.gathered.groups;
+      few = h.few;
+      total = λ σ. sym (mod-mod (sum_of (modulus t) (monomials_in t g.total) σ) (modulus t)) ∙ ap (λ k. value_in t g.total σ % k) same ∙ ap (λ z. z % m) (omega arith) ∙
+          alone σ ∙ (total_ends e s f.added (value_in t rest) all).0 σ;
+    }
+
+option_total : (e : Extended) (s : Sides) (t : Table) (f : Taken) (rest : Sum) (g : Option Gathered) → modulus t ≡ algebra.modulus e → ((k : ℕ) → k < length e.graph.outputs → has f.added k ≡ true) →
+    IfSome g (HasEnded e s t f rest) → IfSome g (AreTotal e s t rest)
+option_total e s t f rest None same all h = tt
+option_total e s t f rest (Some g) same all h = total_at_end e s t f rest g same all h
+
+pub is_ended : (p : Planned) (s : Sides) (t0 t : Table) (budget : ℕ) (w last : Walk) → IsPlanned p → Extends t0 t → IsWalked p.extended s t0 (taken_after p (length p.steps)) w → last.rest ≡ w.rest →
+    ((i n : ℕ) → p.uncounted + i < length p.steps + 1 → HasSizeAt p s i n → n ≤ budget) → IfSome last.gathered (HasEnded p.extended s t (taken_after p (length p.steps)) last.rest) →
+    IsEnded p s t budget last
+is_ended p s t0 t budget w last plan grown h same within total = record {
+  of = subst (IsOf t) (sym same) (stays t0 t w.rest grown h.of);
+  last = λ σ. ap (λ r. value_in t r σ) same ∙ value_stays t0 t w.rest σ grown h.of ∙ h.value σ;
+  within = λ i n low has. within i n (omega arith) has;
+  total = option_total p.extended s t (taken_after p (length p.steps)) last.rest last.gathered (modulus_stays t0 t grown ∙ h.same_modulus)
+      (subst (λ ss. (k : ℕ) → k < length p.extended.graph.outputs → has (taken nothing ss).added k ≡ true) (sym (take-length p.steps)) plan.plan.last.all_columns) total;
+}

@@ -1,0 +1,12 @@
+pub mod PieceValues
+pub mod Sizes
+pub mod Eliminations
+pub mod Grown
+pub mod Taken
+pub mod Walks
+pub mod Following
+pub mod Ends
+pub mod Fixed
+pub mod Written
+pub mod Finish
+pub mod PlainSteps

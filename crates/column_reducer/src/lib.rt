@@ -1,0 +1,30 @@
+//! Reductions of a multiplier's columns along a plan, with the lines of a certificate that state what they do.
+//!
+//! `plain_plan` gives the plan that adds all columns and then eliminates the gates by their levels. `reduce` takes the
+//! steps of a plan: a column is added, or a gate's variable is replaced by the product of its operands. After each step
+//! the polynomial that is kept is the next frontier's function. It ends at the first frontier with more monomials than the
+//! budget, or with the last one, and then the lines have one whose value is the specification minus it.
+//!
+//! *Frontier*, *plan*, *size*: those of `frontier_core`. *Counts*: a plan may have steps before the first frontier that
+//! counts, which is that of step 0 (`Planned` in `specs/Reducing.antt`). *Part*: an axiom times a polynomial. Each gate
+//! that the polynomial has leaves one; the parts of many gates are gathered into a *group*, which is one line, and a last
+//! line adds the groups up.
+#![tactic(auto)]
+
+mod elimination;
+mod gathered;
+mod group_lines;
+mod pieces;
+mod plain;
+mod plan;
+mod reduced;
+mod reduction;
+mod settling;
+#[cfg(test)]
+mod tests;
+mod walk;
+
+pub use plain::plain_plan;
+pub use plan::Plan;
+pub use reduced::Reduced;
+pub use reduction::reduce;

@@ -1,0 +1,178 @@
+// What a step makes of polynomials.
+#![tactic(auto, using(poly_terms::specs::Laws::stays, poly_terms::specs::Laws::extends_on, poly_terms::specs::Laws::extends_itself))]
+
+ghost use Rattle.std.specs.Prelude.{◌≡◌, ◌%◌, ◌<◌, ◌∷◌, [], IfOk};
+ghost use Rattle.graph_core.specs.Graph.Assignments.{Assignment, bit};
+ghost use Rattle.graph_core.specs.Algebra.Polynomials.{difference};
+ghost use Rattle.poly_terms.specs.Tables.{IsOf, Extends, given, modulus, value_in};
+ghost use Rattle.column_reducer.specs.Gathering.{term_of};
+ghost use Rattle.frontier_core.specs.Frontier.{set_to};
+ghost use Rattle.frontier_core.specs.Substitution.{gate_value, quotient, substituted};
+
+use gate_axioms::gate_poly;
+use graph_core::{Gate, Memory};
+use mv_nums::Residue;
+use poly_terms::{Poly, Terms};
+use std::alloc::{AllocError, Global};
+
+// A coefficient times variables, as the only part.
+fn part_of(
+    alloc: Global,
+    number: u128,
+    variables: Vec<u32>,
+) -> Result<Vec<(u128, Vec<u32>)>, AllocError>
+    ensures { IfOk result (λ parts. given parts.items ≡ term_of number variables.items ∷ []) }
+{
+    let mut parts = Vec::new(alloc);
+    parts.push((number, variables))?;
+    Ok(parts)
+}
+
+// A coefficient times one variable, as the only part.
+fn variable_part(alloc: Global, v: u32) -> Result<Vec<(u128, Vec<u32>)>, AllocError>
+    ensures { IfOk result (λ parts. given parts.items ≡ term_of 1 (v ∷ []) ∷ []) }
+{
+    let variables = vec![in alloc; v]?;
+    part_of(alloc, 1, variables)
+}
+
+// A number, modulo the table's modulus.
+fn constant(alloc: Global, terms: &mut Terms, number: u128) -> Result<Poly, Memory>
+    ensures extends { Extends terms.old terms.new }
+    ensures of { IfOk result (IsOf terms.new) }
+    ensures value { IfOk result (λ p. (σ : Assignment) → value_in terms.new p σ ≡ number % modulus terms.old) }
+{
+    let parts = part_of(alloc, number, Vec::new(alloc))?;
+    let poly = terms.make(&parts)?;
+    Ok(poly)
+}
+
+// The number 1 for true and 0 for false.
+fn bit_poly(alloc: Global, terms: &mut Terms, value: bool) -> Result<Poly, Memory>
+    ensures extends { Extends terms.old terms.new }
+    ensures of { IfOk result (IsOf terms.new) }
+    ensures value { IfOk result (λ p. (σ : Assignment) → value_in terms.new p σ ≡ bit value) }
+{
+    let _width = terms.width();
+    constant(alloc, terms, u128::from(value))
+}
+
+// The polynomial of no monomials.
+pub(crate) fn zero_poly(alloc: Global, terms: &mut Terms) -> Result<Poly, Memory>
+    ensures extends { Extends terms.old terms.new }
+    ensures of { IfOk result (IsOf terms.new) }
+    ensures value { IfOk result (λ p. (σ : Assignment) → value_in terms.new p σ ≡ 0) }
+{
+    bit_poly(alloc, terms, false)
+}
+
+// The polynomial 1.
+pub(crate) fn one_poly(alloc: Global, terms: &mut Terms) -> Result<Poly, Memory>
+    ensures extends { Extends terms.old terms.new }
+    ensures of { IfOk result (IsOf terms.new) }
+    ensures value { IfOk result (λ p. (σ : Assignment) → value_in terms.new p σ ≡ 1) }
+{
+    bit_poly(alloc, terms, true)
+}
+
+// A polynomial where a variable has a value.
+pub(crate) fn with_value(
+    alloc: Global,
+    terms: &mut Terms,
+    p: &Poly,
+    v: u32,
+    value: bool,
+) -> Result<Poly, Memory>
+    requires of { IsOf terms.old p.now }
+    requires variable { 0 < v }
+    ensures extends { Extends terms.old terms.new }
+    ensures of { IfOk result (IsOf terms.new) }
+    ensures value { IfOk result (λ r. (σ : Assignment) → value_in terms.new r σ ≡ value_in terms.old p.now (set_to v value σ)) }
+{
+    let number = bit_poly(alloc, terms, value)?;
+    let poly = terms.substitute(p, v, &number)?;
+    Ok(poly)
+}
+
+// The difference of two polynomials.
+pub(crate) fn minus(alloc: Global, terms: &mut Terms, p: &Poly, q: &Poly) -> Result<Poly, Memory>
+    requires left { IsOf terms.old p.now }
+    requires right { IsOf terms.old q.now }
+    ensures extends { Extends terms.old terms.new }
+    ensures of { IfOk result (IsOf terms.new) }
+    ensures value { IfOk result (λ r. (σ : Assignment) → value_in terms.new r σ ≡
+        difference (modulus terms.old) (value_in terms.old p.now σ) (value_in terms.old q.now σ)) }
+{
+    let opposite = minus_one(terms);
+    let number = constant(alloc, terms, opposite.value())?;
+    let poly = terms.combine(p, &number, q)?;
+    Ok(poly)
+}
+
+// Minus a polynomial.
+pub(crate) fn opposite(alloc: Global, terms: &mut Terms, p: &Poly) -> Result<Poly, Memory>
+    requires { IsOf terms.old p.now }
+    ensures extends { Extends terms.old terms.new }
+    ensures of { IfOk result (IsOf terms.new) }
+    ensures value { IfOk result (λ r. (σ : Assignment) → value_in terms.new r σ ≡
+        difference (modulus terms.old) 0 (value_in terms.old p.now σ)) }
+{
+    let zero = bit_poly(alloc, terms, false)?;
+    minus(alloc, terms, &zero, p)
+}
+
+ghost use Rattle.std.specs.Prelude.{◌+◌};
+
+fn minus_one(terms: &Terms) -> Residue
+    ensures width { result.width ≡ terms.now.width }
+    ensures value { (result.value + 1) % modulus terms.now ≡ 0 }
+{
+    Residue::new(terms.width(), 1).neg()
+}
+
+// The quotient of a polynomial by a variable: its value where the variable is true minus that where it is false.
+pub(crate) fn quotient(alloc: Global, terms: &mut Terms, p: &Poly, v: u32) -> Result<Poly, Memory>
+    requires of { IsOf terms.old p.now }
+    requires variable { 0 < v }
+    ensures extends { Extends terms.old terms.new }
+    ensures of { IfOk result (IsOf terms.new) }
+    ensures value { IfOk result (λ r. (σ : Assignment) → value_in terms.new r σ ≡
+        quotient (modulus terms.old) v (value_in terms.old p.now) σ) }
+{
+    let high = with_value(alloc, terms, p, v, true)?;
+    let low = with_value(alloc, terms, p, v, false)?;
+    minus(alloc, terms, &high, &low)
+}
+
+// The product of a gate's operands.
+pub(crate) fn product_of(alloc: Global, terms: &mut Terms, gate: &Gate) -> Result<Poly, Memory>
+    ensures extends { Extends terms.old terms.new }
+    ensures of { IfOk result (IsOf terms.new) }
+    ensures value { IfOk result (λ r. (σ : Assignment) → value_in terms.new r σ ≡
+        gate_value gate.now σ % modulus terms.old) }
+{
+    let axiom = gate_poly(alloc, terms, gate)?;
+    let parts = variable_part(alloc, gate.v)?;
+    let variable = terms.make(&parts)?;
+    let poly = terms.add(&axiom, &variable)?;
+    Ok(poly)
+}
+
+// A polynomial in which a gate's variable is replaced by the product of the gate's operands.
+pub(crate) fn eliminated(
+    alloc: Global,
+    terms: &mut Terms,
+    p: &Poly,
+    gate: &Gate,
+) -> Result<Poly, Memory>
+    requires of { IsOf terms.old p.now }
+    requires variable { 0 < gate.now.v }
+    ensures extends { Extends terms.old terms.new }
+    ensures of { IfOk result (IsOf terms.new) }
+    ensures value { IfOk result (λ r. (σ : Assignment) → value_in terms.new r σ ≡
+        substituted (modulus terms.old) gate.now.v (gate_value gate.now) (value_in terms.old p.now) σ) }
+{
+    let product = product_of(alloc, terms, gate)?;
+    let poly = terms.substitute(p, gate.v, &product)?;
+    Ok(poly)
+}

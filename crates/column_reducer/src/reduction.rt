@@ -1,0 +1,138 @@
+// Reductions along a plan.
+ghost use Rattle.std.specs.Prelude.{◌≡◌, ◌≤◌, ◌+◌, [], None, IfOk, length};
+ghost use Rattle.graph_core.specs.Graph.Operands.{ReadInputs};
+ghost use Rattle.column_reducer.specs.Gathering.{IsKept, IsOutcome};
+ghost use Rattle.column_reducer.specs.Reducing.{GoesOn, IsReduced};
+
+use crate::group_lines::write_groups;
+use crate::plan::Plan;
+use crate::reduced::Reduced;
+use crate::walk::{Outcome, Walk, take_steps};
+use graph_core::{Memory, Operands};
+use mv_fact::Grow;
+use pac_writer::Lines;
+use poly_terms::{Poly, Terms};
+use std::alloc::Global;
+
+/// More monomials of parts than this aren't kept before it is known that all steps stay within the budget.
+const MOST_KEPT: u64 = 1 << 22;
+
+/// Adds the columns and eliminates the gates of a plan, in the plan's order, as long as each frontier has at most
+/// `budget` monomials, and writes the lines by which the last one differs from the specification. The lines are new, and
+/// no column of the graph is replaced.
+pub fn reduce(
+    alloc: Global,
+    plan: &Plan<'_>,
+    budget: u64,
+    lines: &mut Lines<'_>,
+) -> Result<Reduced, Memory>
+    requires same_graph { lines.old.extended ≡ plan.now.extended }
+    requires new { lines.old.lines ≡ [] }
+    requires unclosed { lines.old.closing ≡ None }
+    requires plain { plan.now.extended.replaced ≡ [] }
+    requires inputs { ReadInputs plan.now.extended.graph lines.old.sides }
+    ensures goes_on { GoesOn lines.old lines.new }
+    ensures reduced { IfOk result (IsReduced plan.now lines.old.sides budget lines.new) }
+    ensures few { length lines.new.lines ≤ length plan.now.extended.gates + 2 }
+{
+    let mut work = TakeSteps {
+        alloc,
+        plan,
+        operands: lines.operands(),
+        budget,
+    };
+    let _last = lines.last();
+    let _gates = plan.extended().gates();
+    let outcome = lines.grow(&mut work, &mut ())?;
+    write_outcome(alloc, lines, outcome)
+}
+
+// Takes the steps in the table that the lines own.
+#[derive(Drop)]
+struct TakeSteps<'a> {
+    alloc: Global,
+    plan: &'a Plan<'a>,
+    operands: &'a Operands,
+    budget: u64,
+}
+
+impl<'a> Grow<Poly> for TakeSteps<'a> {
+    ghost use Rattle.std.specs.Prelude.{IfOk};
+    ghost use Rattle.column_reducer.specs.Gathering.{CanTake, IsOutcome, IsKept};
+
+    type Out = Result<Outcome, Memory>;
+
+    type On = ();
+
+    ghost can_grow = { λ work _ table. CanTake work.plan.now work.operands.now table };
+
+    ghost did = { λ work _ _ out _ _ table. IfOk out (λ o. IsOutcome work.plan.now work.operands.now table work.budget o × IsKept o) };
+
+    fn grow(&mut self, on: &mut (), table: &mut Terms) -> Result<Outcome, Memory> {
+        let bounded = take_steps(
+            self.alloc,
+            table,
+            self.plan,
+            self.operands,
+            self.budget,
+            Some(MOST_KEPT),
+        )?;
+        if is_kept(&bounded) {
+            return Ok(bounded);
+        }
+        take_steps(
+            self.alloc,
+            table,
+            self.plan,
+            self.operands,
+            self.budget,
+            None,
+        )
+    }
+}
+
+ghost use Rattle.std.specs.Prelude.{IsTrue};
+
+// Whether nothing was let go that a line needs.
+fn is_kept(outcome: &Outcome) -> bool
+    ensures { IsTrue result → IsKept outcome.now }
+{
+    match outcome {
+        Outcome::Ended(walk) => walk.gathered.is_some(),
+        Outcome::Passed { .. } => true,
+    }
+}
+
+// Writes what all steps have gathered.
+fn write_outcome(alloc: Global, lines: &mut Lines<'_>, outcome: Outcome) -> Result<Reduced, Memory>
+    requires new { lines.old.lines ≡ [] }
+    requires unclosed { lines.old.closing ≡ None }
+    requires extension { IsExtension lines.old.extended }
+    requires kept { IsKept outcome }
+    requires outcome { (p : Planned) × (budget : ℕ) × (p.extended ≡ lines.old.extended) × IsOutcome p lines.old.sides lines.old.table budget outcome }
+    ensures goes_on { GoesOn lines.old lines.new }
+    ensures reduced { IfOk result (λ r. (p : Planned) (budget : ℕ) → p.extended ≡ lines.old.extended →
+        IsOutcome p lines.old.sides lines.old.table budget outcome → IsReduced p lines.old.sides budget lines.new r) }
+    ensures few { length lines.new.lines ≤ length lines.old.extended.gates + 2 }
+{
+    let _last = lines.last();
+    let _max = lines.extended().max();
+    let _outputs = lines.extended().graph().outputs();
+    match outcome {
+        Outcome::Passed { step, size } => Ok(Reduced::Passed { step, size }),
+        Outcome::Ended(walk) => {
+            let Walk { rest, gathered } = walk;
+            match gathered {
+                None => unreachable!(),
+                Some(gathered) => {
+                    let id = write_groups(alloc, lines, gathered.groups, gathered.total)?;
+                    Ok(Reduced::Rest { poly: rest, id })
+                }
+            }
+        }
+    }
+}
+
+ghost use Rattle.std.specs.Prelude.{ℕ};
+ghost use Rattle.ripple_graft.specs.Extension.{IsExtension};
+ghost use Rattle.column_reducer.specs.Reducing.{Planned};

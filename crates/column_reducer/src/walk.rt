@@ -1,0 +1,277 @@
+// The loop over a plan's steps.
+#![tactic(auto, using(poly_terms::specs::Laws::stays, poly_terms::specs::Laws::extends_on, poly_terms::specs::Laws::extends_itself))]
+
+ghost use Rattle.std.specs.Prelude.{◌≡◌, ◌≢◌, ◌≤◌, ◌<◌, ◌+◌, ℕ, [], None, false, Ok, IfOk, IfSome, IsSome, OnOk, length};
+ghost use Rattle.std.specs.List.{Contains};
+ghost use Rattle.graph_core.specs.Algebra as algebra;
+ghost use Rattle.graph_core.specs.Algebra.NormalForm.{HasSize};
+ghost use Rattle.graph_core.specs.Graph.Assignments.{Assignment};
+ghost use Rattle.graph_core.specs.Graph.Operands.{ReadInputs, Sides};
+ghost use Rattle.graph_core.specs.Graph.Extended.{Extended as ExtendedGraph};
+ghost use Rattle.ripple_graft.specs.Extension.{IsExtension};
+ghost use Rattle.poly_terms.specs.Tables.{Extends, IsOf, modulus, value_in};
+ghost use Rattle.frontier_core.specs.Plan.{CanFollow, IsFrontierOf, Taken, nothing, step};
+ghost use Rattle.frontier_core.specs.Sets.{has};
+ghost use Rattle.frontier_core.specs.declared.step.Step.TheVariants as steps;
+ghost use Rattle.column_reducer.specs.Gathering.{IsOutcome, IsWalked, TakesIn};
+
+use crate::elimination::{Quotient, eliminate};
+use crate::gathered::Gathered;
+use crate::pieces::zero_poly;
+use crate::plan::Plan;
+use crate::settling::settle;
+use frontier_core::Step;
+use gate_axioms::column_poly;
+use graph_core::{Gate, Memory, Operands};
+use poly_terms::{Poly, Terms};
+use ripple_graft::Extended;
+use std::alloc::Global;
+
+/// What there is after some steps.
+#[derive(Debug, Drop)]
+pub(crate) struct Walk {
+    /// the frontier's function
+    pub(crate) rest: Poly,
+    /// none where it became too much to keep
+    pub(crate) gathered: Option<Gathered>,
+}
+
+/// What a walk ends with.
+#[derive(Debug, Drop)]
+pub(crate) enum Outcome {
+    /// all steps were taken
+    Ended(Walk),
+    /// the first step that leaves more monomials than the budget, and how many
+    Passed { step: u64, size: u64 },
+}
+
+/// Takes the steps of a plan until a frontier has more monomials than the budget.
+pub(crate) fn take_steps(
+    alloc: Global,
+    terms: &mut Terms,
+    plan: &Plan<'_>,
+    operands: &Operands,
+    budget: u64,
+    bound: Option<u64>,
+) -> Result<Outcome, Memory>
+    requires plain { plan.now.extended.replaced ≡ [] }
+    requires inputs { ReadInputs plan.now.extended.graph operands.now }
+    requires same_modulus { modulus terms.old ≡ algebra.modulus plan.now.extended }
+    ensures extends { Extends terms.old terms.new }
+    ensures outcome { IfOk result (IsOutcome plan.now operands.now terms.new budget) }
+    ensures kept { IfOk result (λ o. bound ≡ None → IsKept o) }
+{
+    let extended = plan.extended();
+    let steps = plan.steps();
+    let mut walk = Walk::start(alloc, terms)?;
+    for count in 0..steps.len() {
+        if let Some((step, size)) = passed(terms, plan, &walk.rest, count, budget) {
+            return Ok(Outcome::Passed { step, size });
+        }
+        walk = walk.take_step(alloc, terms, extended, operands, steps[count])?;
+        walk = walk.settled(alloc, terms, extended.gates().len(), bound)?;
+    }
+    if let Some((step, size)) = passed(terms, plan, &walk.rest, steps.len(), budget) {
+        return Ok(Outcome::Passed { step, size });
+    }
+    let ended = walk.ended(alloc, terms)?;
+    Ok(Outcome::Ended(ended))
+}
+
+ghost use Rattle.column_reducer.specs.Gathering.{IsKept};
+ghost use Rattle.column_reducer.specs.Reducing.{HasSizeAt};
+
+// The step that a frontier counts as and its size, where that is above the budget.
+fn passed(
+    terms: &Terms,
+    plan: &Plan<'_>,
+    rest: &Poly,
+    count: usize,
+    budget: u64,
+) -> Option<(u64, u64)>
+    requires of { IsOf terms.now rest.now }
+    ensures step { IfSome result (λ r. plan.now.uncounted + r.0 ≡ count) }
+    ensures above { IfSome result (λ r. budget < r.1) }
+    ensures size { IfSome result (λ r. HasSize (modulus terms.now) (value_in terms.now rest.now) r.1) }
+    ensures within { result ≡ None → plan.now.uncounted ≤ count → (n : ℕ) →
+        HasSize (modulus terms.now) (value_in terms.now rest.now) n → n ≤ budget }
+{
+    if count < plan.uncounted() {
+        return None;
+    }
+    let size = terms.size(rest);
+    if size <= budget {
+        return None;
+    }
+    Some(((count - plan.uncounted()) as u64, size))
+}
+
+impl Walk {
+    // Before the first step.
+    fn start(alloc: Global, terms: &mut Terms) -> Result<Walk, Memory>
+        ensures extends { Extends terms.old terms.new }
+        ensures kept { IfOk result (λ w. IsSome w.gathered) }
+        ensures walked { IfOk result (λ w. (e : ExtendedGraph) (s : Sides) → modulus terms.old ≡ algebra.modulus e → IsWalked e s terms.new nothing w) }
+    {
+        let rest = zero_poly(alloc, terms)?;
+        let gathered = Gathered::new(alloc, terms)?;
+        Ok(Walk {
+            rest,
+            gathered: Some(gathered),
+        })
+    }
+
+    // Takes a step.
+    fn take_step(
+        self,
+        alloc: Global,
+        terms: &mut Terms,
+        extended: &Extended<'_>,
+        operands: &Operands,
+        this: Step,
+    ) -> Result<Walk, Memory>
+        requires plain { extended.now.replaced ≡ [] }
+        requires inputs { ReadInputs extended.now.graph operands.now }
+        requires follows { (f : Taken) × IsWalked extended.now operands.now terms.old f self × CanFollow extended.now f this }
+        ensures extends { Extends terms.old terms.new }
+        ensures kept { IfOk result (λ w. IsSome self.gathered → IsSome w.gathered) }
+        ensures walked { IfOk result (λ w. (f : Taken) → IsFrontierOf extended.now f → CanFollow extended.now f this →
+            IsWalked extended.now operands.now terms.old f self → IsWalked extended.now operands.now terms.new (step f this) w) }
+    {
+        let _gates = extended.gates();
+        match this {
+            Step::Add(k) => self.add_column(alloc, terms, extended, operands, k),
+            Step::Eliminate(v) => match extended.gate(v) {
+                None => unreachable!(),
+                Some(gate) => self.eliminate(alloc, terms, extended, gate),
+            },
+        }
+    }
+
+    // Adds a column that isn't replaced: nothing is gathered.
+    fn add_column(
+        self,
+        alloc: Global,
+        terms: &mut Terms,
+        extended: &Extended<'_>,
+        operands: &Operands,
+        k: u32,
+    ) -> Result<Walk, Memory>
+        requires in_range { k < length extended.now.graph.outputs }
+        requires plain { extended.now.replaced ≡ [] }
+        requires inputs { ReadInputs extended.now.graph operands.now }
+        requires walked { (f : Taken) × IsWalked extended.now operands.now terms.old f self }
+        ensures extends { Extends terms.old terms.new }
+        ensures kept { IfOk result (λ w. w.gathered ≡ self.gathered) }
+        ensures walked { IfOk result (λ w. (f : Taken) → IsFrontierOf extended.now f → has f.added k ≡ false →
+            IsWalked extended.now operands.now terms.old f self → IsWalked extended.now operands.now terms.new (step f (steps.Add k)) w) }
+    {
+        let _gates = extended.gates();
+        let column = column_poly(alloc, terms, extended, operands, k)?;
+        let rest = terms.add(&self.rest, &column)?;
+        Ok(Walk {
+            rest,
+            gathered: self.gathered,
+        })
+    }
+
+    // Eliminates a gate: where the rest has its variable, a part is gathered.
+    fn eliminate(
+        self,
+        alloc: Global,
+        terms: &mut Terms,
+        extended: &Extended<'_>,
+        gate: Gate,
+    ) -> Result<Walk, Memory>
+        requires gate { Contains extended.now.gates gate }
+        requires walked { (s : Sides) × (f : Taken) × IsWalked extended.now s terms.old f self }
+        ensures extends { Extends terms.old terms.new }
+        ensures kept { IfOk result (λ w. IsSome self.gathered → IsSome w.gathered) }
+        ensures walked { IfOk result (λ w. (s : Sides) (f : Taken) → IsFrontierOf extended.now f → has f.eliminated gate.v ≡ false →
+            IsWalked extended.now s terms.old f self → IsWalked extended.now s terms.new (step f (steps.Eliminate gate.v)) w) }
+    {
+        let _gates = extended.gates();
+        let out = eliminate(alloc, terms, &self.rest, &gate)?;
+        let gathered = gather(terms, self.gathered, gate.v, out.quotient)?;
+        Ok(Walk {
+            rest: out.rest,
+            gathered,
+        })
+    }
+
+    // Ends a large group, and drops what is gathered where that has become too much.
+    fn settled(
+        self,
+        alloc: Global,
+        terms: &mut Terms,
+        most: usize,
+        bound: Option<u64>,
+    ) -> Result<Walk, Memory>
+        requires walked { (e : ExtendedGraph) × (s : Sides) × (f : Taken) × IsWalked e s terms.old f self }
+        ensures extends { Extends terms.old terms.new }
+        ensures kept { IfOk result (λ w. bound ≡ None → IsSome self.gathered → IsSome w.gathered) }
+        ensures walked { IfOk result (λ w. (e : ExtendedGraph) (s : Sides) (f : Taken) → most ≡ length e.gates →
+            IsWalked e s terms.old f self → IsWalked e s terms.new f w) }
+    {
+        let Walk { rest, gathered } = self;
+        match gathered {
+            None => Ok(Walk {
+                rest,
+                gathered: None,
+            }),
+            Some(gathered) => {
+                let settled = settle(alloc, terms, gathered, most, bound)?;
+                Ok(Walk {
+                    rest,
+                    gathered: settled,
+                })
+            }
+        }
+    }
+
+    // Ends the last group.
+    fn ended(self, alloc: Global, terms: &mut Terms) -> Result<Walk, Memory>
+        requires walked { (e : ExtendedGraph) × (s : Sides) × (f : Taken) × IsWalked e s terms.old f self }
+        ensures extends { Extends terms.old terms.new }
+        ensures kept { IfOk result (λ w. IsSome self.gathered → IsSome w.gathered) }
+        ensures rest { IfOk result (λ w. w.rest ≡ self.rest) }
+        ensures total { IfOk result (λ w. (e : ExtendedGraph) (s : Sides) (f : Taken) → IsWalked e s terms.old f self →
+            IfSome w.gathered (HasEnded e s terms.new f w.rest)) }
+    {
+        let Walk { rest, gathered } = self;
+        match gathered {
+            None => Ok(Walk {
+                rest,
+                gathered: None,
+            }),
+            Some(gathered) => {
+                let ended = gathered.end_group(alloc, terms)?;
+                Ok(Walk {
+                    rest,
+                    gathered: Some(ended),
+                })
+            }
+        }
+    }
+}
+
+ghost use Rattle.column_reducer.specs.Gathering.{HasEnded};
+
+// Gathers a part, if there is a quotient and what is gathered is kept.
+fn gather(
+    terms: &Terms,
+    gathered: Option<Gathered>,
+    v: u32,
+    quotient: Option<Quotient>,
+) -> Result<Option<Gathered>, Memory>
+    requires { IfSome quotient (λ q. IsOf terms.now q.factor) }
+    ensures { IfOk result (TakesIn v quotient gathered) }
+{
+    match gathered {
+        None => Ok(None),
+        Some(mut gathered) => {
+            gathered.take(terms, v, quotient)?;
+            Ok(Some(gathered))
+        }
+    }
+}

@@ -1,0 +1,75 @@
+-- A checker's steps are lawful lines, and its marks are right.
+use Rattle.std.specs.Prelude.{◌≡◌, ◌↔◌, ◌<◌, ◌⊎◌, true, List, [], ◌∷◌, ◌++◌, length}
+use Rattle.std.specs.List.{Any}
+use Rattle.std.proofs.Common.{refl, sym, ap, subst, ◌∙◌, arith, inl, inr, ⊎_elim}
+use Rattle.clause_core.specs.Clause.{Clause, IsSubset, SameSet}
+use Rattle.clause_core.specs.ClauseLines.{ClauseLine, added}
+use Rattle.clause_core.specs.Likeness.{AreAlike}
+use Rattle.clause_core.specs.declared.line.Line.TheVariants.{Add, Delete}
+use Rattle.clause_core.proofs.CallerLemmas.{alike_adds, alike_any, alike_flip, alike_joins, alike_removes, alike_rup, any_cases, any_here, any_nil, any_there, removes_any, removes_some, same_alike, same_flip}
+use Rattle.drup_checker.specs.Checking.{Adds, Checking, Deletes, goal_at, live_in, shown_at}
+use Rattle.unit_prop.specs.Standing.{live_of}
+use Rattle.drup_checker.specs.Steps.{HasShown, MarksAreRight, StepsAreLawful}
+use Rattle.drup_checker.proofs.Kept.{live_of-map}
+use Rattle.drup_checker.proofs.LiveClauses.{live_of-append}
+
+-- a clause at the end, or at the front
+alike_end : (live : List Clause) (c : Clause) → AreAlike (live ++ c ∷ []) (c ∷ live)
+alike_end [] c k = refl
+alike_end (d ∷ live) c k = let more = alike_end live c k in omega (arith, more)
+
+pub steps_are_lawful : StepsAreLawful
+steps_are_lawful = record {
+  begins = λ k cs given is same. subst (λ xs. AreAlike xs given) (sym (ap live_of is ∙ live_of-map cs)) (same_alike cs given same);
+  adds = λ c d old new live alike same a. (
+    alike_rup (live_in old) live c d alike same a.follows,
+    subst (λ xs. AreAlike xs (d ∷ live)) (sym (ap live_of a.clauses ∙ live_of-append old.clauses c)) (alike_joins (live_in old ++ c ∷ []) (c ∷ live_in old) (d ∷ live) (alike_end (live_in old) c) (alike_adds (live_in old) live c d alike same)),
+  );
+  not_implied = λ c d old live alike same n rup. n (alike_rup live (live_in old) d c (alike_flip (live_in old) live alike) (same_flip c d same) rup);
+  deletes = λ c d old new live alike same r.
+      let some = removes_some live d (alike_any (live_in old) live c d alike same (removes_any (live_in old) c (live_in new) r.removes)) in
+      (some.0, some.1, alike_removes (live_in old) live c d (live_in new) some.0 alike same r.removes some.1);
+  nowhere = λ c d old live alike same n some. n (alike_any live (live_in old) d c (alike_flip (live_in old) live alike) (same_flip c d same) some);
+}
+
+-- ---- marks
+
+added_more : (lines : List ClauseLine) (c : Clause) → added (lines ++ Add c ∷ []) ≡ added lines ++ c ∷ []
+added_more [] c = refl
+added_more (Add d ∷ lines) c = ap (λ (xs : List Clause). d ∷ xs) (added_more lines c)
+added_more (Delete d ∷ lines) c = added_more lines c
+
+added_same : (lines : List ClauseLine) (c : Clause) → added (lines ++ Delete c ∷ []) ≡ added lines
+added_same [] c = refl
+added_same (Add d ∷ lines) c = ap (λ (xs : List Clause). d ∷ xs) (added_same lines c)
+added_same (Delete d ∷ lines) c = added_same lines c
+
+any_end : (P : Clause → Type 0) (xs : List Clause) (c : Clause) → Any P (xs ++ c ∷ []) → Any P xs ⊎ P c
+any_end P [] c h = ⊎_elim inr (λ n. absurd (any_nil P n)) (any_cases P c [] h)
+any_end P (x ∷ xs) c h = ⊎_elim (λ p. inl (any_here P x xs p)) (λ r. ⊎_elim (λ a. inl (any_there P x xs a)) inr (any_end P xs c r)) (any_cases P x (xs ++ c ∷ []) h)
+
+any_front : (P : Clause → Type 0) (xs : List Clause) (c : Clause) → Any P xs ⊎ P c → Any P (xs ++ c ∷ [])
+any_front P [] c h = ⊎_elim (λ n. absurd (any_nil P n)) (λ p. any_here P c [] p) h
+any_front P (x ∷ xs) c h = ⊎_elim (λ a. ⊎_elim (λ p. any_here P x (xs ++ c ∷ []) p) (λ r. any_there P x (xs ++ c ∷ []) (any_front P xs c (inl r))) (any_cases P x xs a)) (λ p. any_there P x (xs ++ c ∷ []) (any_front P xs c (inr p))) h
+
+marks_added : (c d : Clause) (old new : Checking) (lines : List ClauseLine) → HasShown old lines → SameSet c d → Adds c old new → HasShown new (lines ++ Add d ∷ [])
+marks_added c d old new lines h same a i below =
+    let low : i < length old.goals = subst (λ gs. i < length gs) a.goals below in
+    let before = h i low in
+    let told = a.shown i (record { column = 0; clause = []; met = true }) low in
+    let goal = (goal_at old.goals i).clause in
+    subst (λ gs. (shown_at new.shown i ≡ true) ↔ Any (λ x. IsSubset x (goal_at gs i).clause) (added (lines ++ Add d ∷ []))) (sym a.goals)
+    (subst (λ xs. (shown_at new.shown i ≡ true) ↔ Any (λ x. IsSubset x goal) xs) (sym (added_more lines d)) (
+      λ t. any_front (λ x. IsSubset x goal) (added lines) d (⊎_elim (λ o. inl (before.0 o)) (λ s. inr (λ l k. s l (same.1 l k))) (told.0 t)),
+      λ s. told.1 (⊎_elim (λ o. inl (before.1 o)) (λ k. inr (λ l m. k l (same.0 l m))) (any_end (λ x. IsSubset x goal) (added lines) d s)),
+    ))
+
+marks_kept : (c d : Clause) (old new : Checking) (lines : List ClauseLine) → HasShown old lines → Deletes c old new → HasShown new (lines ++ Delete d ∷ [])
+marks_kept c d old new lines h r i below =
+    let low : i < length old.goals = subst (λ gs. i < length gs) r.goals below in
+    subst (λ gs. (shown_at new.shown i ≡ true) ↔ Any (λ x. IsSubset x (goal_at gs i).clause) (added (lines ++ Delete d ∷ []))) (sym r.goals)
+    (subst (λ marks. (shown_at marks i ≡ true) ↔ Any (λ x. IsSubset x (goal_at old.goals i).clause) (added (lines ++ Delete d ∷ []))) (sym r.shown)
+    (subst (λ xs. (shown_at old.shown i ≡ true) ↔ Any (λ x. IsSubset x (goal_at old.goals i).clause) xs) (sym (added_same lines d)) (h i low)))
+
+pub marks_are_right : MarksAreRight
+marks_are_right = record { adds = marks_added; deletes = marks_kept }

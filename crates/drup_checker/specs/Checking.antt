@@ -1,0 +1,100 @@
+-- A checker's clauses and goals, and how they change.
+use Rattle.std.specs.Prelude.{◌≡◌, ◌↔◌, ◌≤◌, ◌<◌, ◌⊎◌, ℕ, Bool, true, false, List, [], ◌∷◌, ◌++◌, length, map, slice_index_or}
+use Rattle.std.specs.declared.option.Option.{Option}
+use Rattle.std.specs.declared.option.Option.TheVariants.{None, Some}
+use Rattle.std.specs.List.{All, Any}
+use Rattle.graph_core.specs.declared.gate.Gate.{Gate}
+use Rattle.clause_core.specs.Clause.{Clause, IsSubset, SameSet}
+use Rattle.clause_core.specs.ClauseLines.{Removes}
+use Rattle.clause_core.specs.Facts.{IsClauseFact}
+use Rattle.clause_core.specs.UnitPropagation.{IsRup}
+use Rattle.unit_prop.specs.Standing.{IsFree, Standing, live_of}
+use Rattle.miter_encoder.specs.declared.goal.Goal.{Goal}
+
+-- The gates, the greatest variable, the clauses by their places, the goals, and which of them some added clause has shown.
+pub record Checking : Type 0 where
+  pub gates : List Gate
+  pub max : ℕ
+  pub clauses : List (Option Clause)
+  pub goals : List Goal
+  pub shown : List Bool
+
+abbrev pub checking : List Gate → Standing → List Goal → List Bool → Checking
+checking gates s goals shown = record { gates = gates; max = s.trail.greatest; clauses = s.clauses; goals = goals; shown = shown }
+
+-- the gates and the goals, and the clauses of a list, all live
+pub record Starts (gates : List Gate) (max : ℕ) (clauses : List Clause) (goals : List Goal) (c : Checking) : Type 0 where
+  pub gates_are : c.gates ≡ gates
+  pub max_is : c.max ≡ max
+  pub clauses_are : c.clauses ≡ map Some clauses
+  pub goals_are : c.goals ≡ goals
+
+-- the live clauses
+abbrev pub live_in : Checking → List Clause
+live_in c = live_of c.clauses
+
+-- whether the goal at a place is shown
+abbrev pub shown_at : List Bool → ℕ → Bool
+shown_at shown i = slice_index_or shown i false
+
+-- Nothing is assumed, each live clause holds on every evaluation of the gates, and there is a place for each goal.
+pub record IsKept (gates : List Gate) (s : Standing) (goals : List Goal) (shown : List Bool) : Type 0 where
+  pub free : IsFree s
+  pub facts : All (IsClauseFact gates) (live_of s.clauses)
+  pub places : length shown ≡ length goals
+
+-- the clause shows each goal that has all its literals; what was shown stays so
+abbrev pub ShowsBy : Clause → List Goal → List Bool → List Bool → Type 0
+ShowsBy c goals old new = (i : ℕ) (g : Goal) → i < length goals → (shown_at new i ≡ true) ↔ ((shown_at old i ≡ true) ⊎ IsSubset c (slice_index_or goals i g).clause)
+
+-- so far among the first n goals
+pub record ShowsFirst (c : Clause) (goals : List Goal) (old new : List Bool) (n : ℕ) : Type 0 where
+  pub places : length new ≡ length old
+  pub done : (i : ℕ) (g : Goal) → i < n → i < length goals → (shown_at new i ≡ true) ↔ ((shown_at old i ≡ true) ⊎ IsSubset c (slice_index_or goals i g).clause)
+  pub rest : (i : ℕ) → n ≤ i → shown_at new i ≡ shown_at old i
+
+-- A clause that follows is added: it is live, and it may show goals.
+pub record Adds (c : Clause) (old new : Checking) : Type 0 where
+  pub follows : IsRup (live_in old) c
+  pub clauses : new.clauses ≡ old.clauses ++ Some c ∷ []
+  pub shown : ShowsBy c old.goals old.shown new.shown
+  pub gates : new.gates ≡ old.gates
+  pub max : new.max ≡ old.max
+  pub goals : new.goals ≡ old.goals
+
+-- One live clause with the set is removed.
+pub record Deletes (c : Clause) (old new : Checking) : Type 0 where
+  pub removes : Removes (live_in old) c (live_in new)
+  pub shown : new.shown ≡ old.shown
+  pub gates : new.gates ≡ old.gates
+  pub max : new.max ≡ old.max
+  pub goals : new.goals ≡ old.goals
+
+-- no live clause has the set
+abbrev pub IsNowhere : Clause → Checking → Type 0
+IsNowhere c k = ¬ (Any (λ d. SameSet d c) (live_in k))
+
+-- the goal at a place
+abbrev pub goal_at : List Goal → ℕ → Goal
+goal_at goals i = slice_index_or goals i (record { column = 0; clause = []; met = true })
+
+-- the goal at a place is of the column, and neither met nor shown
+pub record IsUnshown (goals : List Goal) (shown : List Bool) (column i : ℕ) : Type 0 where
+  pub within : i < length goals
+  pub of_column : (goal_at goals i).column ≡ column
+  pub unmet : (goal_at goals i).met ≡ false
+  pub unshown : shown_at shown i ≡ false
+
+-- Among the first n goals: the least column of one that is neither met nor shown, or there is none.
+abbrev pub IsLeastFirst : List Goal → List Bool → ℕ → Option ℕ → Type 0
+IsLeastFirst goals shown n None = (i column : ℕ) → i < n → IsUnshown goals shown column i → ⊥
+IsLeastFirst goals shown n (Some least) = ((i : ℕ) × (i < n) × IsUnshown goals shown least i) × ((i column : ℕ) → i < n → IsUnshown goals shown column i → least ≤ column)
+
+-- the same among all goals
+abbrev pub IsLeastUnshown : List Goal → List Bool → Option ℕ → Type 0
+IsLeastUnshown goals shown = IsLeastFirst goals shown (length goals)
+
+-- the lesser of a column and another, if there is one
+abbrev pub IsLesser : Option ℕ → ℕ → ℕ → Type 0
+IsLesser None column result = result ≡ column
+IsLesser (Some other) column result = (result ≤ column) × (result ≤ other) × ((result ≡ column) ⊎ (result ≡ other))

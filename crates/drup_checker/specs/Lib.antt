@@ -1,0 +1,5 @@
+-- To be read by whoever trusts the contracts.
+pub mod Opposing
+pub mod Checking
+pub mod Steps
+pub mod Judging

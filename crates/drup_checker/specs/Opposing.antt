@@ -1,0 +1,42 @@
+-- A clause whose literals are opposed: the negation of each stands. Private clauses alone cite it.
+use Rattle.std.specs.Prelude.{◌≡◌, ◌≢◌, ℕ, ◌<◌, ◌≤◌, List, ◌++◌, [], ◌∷◌, length, map, ℤ, pos, neg_ℤ, nat_abs, slice_index_or}
+use Rattle.std.specs.declared.option.Option.{Option}
+use Rattle.std.specs.declared.option.Option.TheVariants.{Some}
+use Rattle.std.specs.List.{Contains}
+use Rattle.clause_core.specs.Clause.{Clause, IsSubset}
+use Rattle.unit_prop.specs.Standing.{IsFree, Standing, assumed_of}
+
+-- a literal of a variable from 1 to the greatest one
+abbrev pub IsLiteralOf : ℕ → ℤ → Type 0
+IsLiteralOf max l = (l ≢ pos 0) × (nat_abs l ≤ max)
+
+-- More stands, by assumption or by clauses; nothing else changed.
+pub record Begins (old now : Standing) : Type 0 where
+  pub literals : List ℤ
+  pub causes : List (Option ℕ)
+  pub clauses : now.clauses ≡ old.clauses
+  pub greatest : now.trail.greatest ≡ old.trail.greatest
+  pub units : now.units ≡ old.units
+  pub trail : now.trail.literals ≡ old.trail.literals ++ literals
+  pub reasons : now.trail.reasons ≡ old.trail.reasons ++ causes
+
+-- The negations of the first n literals stand, and nothing but negations of the clause's literals was assumed.
+pub record OpposesFirst (old now : Standing) (c : Clause) (n : ℕ) : Type 0 where
+  pub begins : Begins old now
+  pub assumed : IsSubset (assumed_of now) (map neg_ℤ c)
+  pub standing : (i : ℕ) → i < n → Contains now.trail.literals (neg_ℤ (slice_index_or c i (pos 0)))
+
+abbrev pub Opposes : Standing → Standing → Clause → Type 0
+Opposes old now c = OpposesFirst old now c (length c)
+
+-- one more clause is live, and nothing is assumed
+pub record Puts (old new : Standing) (c : Clause) : Type 0 where
+  pub greatest : new.trail.greatest ≡ old.trail.greatest
+  pub clauses : new.clauses ≡ old.clauses ++ Some c ∷ []
+  pub free : IsFree new
+
+-- the clauses of a list are live, and nothing is assumed
+pub record IsFilled (old : Standing) (cs : List Clause) (new : Standing) : Type 0 where
+  pub greatest : new.trail.greatest ≡ old.trail.greatest
+  pub clauses : new.clauses ≡ map Some cs
+  pub free : IsFree new

@@ -1,0 +1,107 @@
+// The checker of a clause certificate.
+ghost use Rattle.std.specs.Prelude.{◌≡◌, ◌↔◌, ◌<◌, ◌^◌, [], Some, None, false, IfOk, IfErr, IfSome, IsNone, IsErrOf, OnOk, OnErr, IsTrue, map, length};
+ghost use Rattle.std.specs.List.{All, Any};
+ghost use Rattle.clause_core.specs.Clause.{IsClauseInRange, SameSet};
+ghost use Rattle.clause_core.specs.GateClauses.{gate_clauses};
+ghost use Rattle.clause_core.specs.Likeness.{AreSameSets};
+ghost use Rattle.clause_core.specs.UnitPropagation.{IsRup};
+ghost use Rattle.drup_checker.specs.Checking.{Adds, Deletes, IsLeastUnshown, IsNowhere, Starts, live_in};
+
+use crate::fault::{AddFail, NoSuchClause};
+use crate::filling::{fill, put};
+use crate::least::least_unshown;
+use crate::rup::is_rup;
+use crate::showing::show;
+use clause_core::{Clause, ClauseList};
+use graph_core::{Gate, Memory};
+use miter_encoder::Goals;
+use std::alloc::Global;
+use std::marker::Model;
+use unit_prop::Propagator;
+
+/// The live clauses of a clause certificate over some gates, and which goals its added clauses have shown.
+#[derive(Drop)]
+pub struct Checker<'a> {
+    gates: &'a [Gate],
+    goals: &'a Goals,
+    propagator: Propagator,
+    /// for each goal
+    shown: Vec<bool>,
+}
+
+impl<'a> Model for Checker<'a> {
+    ghost use Rattle.drup_checker.specs.Checking.{Checking, IsKept, checking};
+
+    ghost Value = { Checking };
+
+    ghost view = { λ c. checking c.gates.now c.propagator c.goals.now c.shown.items };
+
+    ghost invariant = { λ c. IsKept c.gates.now c.propagator c.goals.now c.shown.items };
+}
+
+impl<'a> Checker<'a> {
+    /// A checker of the clauses of some gates, whose variables are at most the greatest one.
+    pub fn new(
+        alloc: Global,
+        max: u32,
+        gates: &'a [Gate],
+        clauses: &ClauseList,
+        goals: &'a Goals,
+    ) -> Result<Checker<'a>, Memory>
+        requires small { max < 2 ^ 31 }
+        requires in_range { All (IsClauseInRange max) clauses.now }
+        requires of_gates { AreSameSets clauses.now (gate_clauses gates.now) }
+        ensures starts { IfOk result (Starts gates.entry.now max clauses.now goals.entry.now) }
+        ensures shown { IfOk result (λ c. All (λ b. b ≡ false) c.shown) }
+    {
+        let mut propagator = Propagator::new(alloc, max)?;
+        fill(&mut propagator, clauses)?;
+        let shown = Vec::from_elem(alloc, false, goals.as_slice().len())?;
+        Ok(Checker {
+            gates,
+            goals,
+            propagator,
+            shown,
+        })
+    }
+
+    /// A line that adds the clause: it has to follow from the live ones.
+    pub fn add(&mut self, clause: &Clause) -> Result<(), AddFail>
+        requires in_range { IsClauseInRange self.old.max clause.now }
+        ensures ok { OnOk result (Adds clause.now self.old self.new) }
+        ensures not_implied { IsErrOf result AddFail.NotImplied ↔ ¬ (IsRup (live_in self.old) clause.now) }
+        ensures unchanged { OnErr result (self.new ≡ self.old) }
+    {
+        if !is_rup(&mut self.propagator, clause) {
+            return Err(AddFail::NotImplied);
+        }
+        match put(&mut self.propagator, clause) {
+            Ok(()) => {}
+            Err(_) => return Err(AddFail::Memory),
+        }
+        show(self.goals, clause, &mut self.shown);
+        Ok(())
+    }
+
+    /// A line that deletes a clause with this set.
+    pub fn delete(&mut self, clause: &Clause) -> Result<(), NoSuchClause>
+        ensures ok { OnOk result (Deletes clause.now self.old self.new) }
+        ensures err { OnErr result (IsNowhere clause.now self.old) }
+        ensures unchanged { OnErr result (self.new ≡ self.old) }
+    {
+        match self.propagator.find(clause) {
+            Some(reference) => {
+                self.propagator.remove(reference);
+                Ok(())
+            }
+            None => Err(NoSuchClause),
+        }
+    }
+
+    /// The least column with a goal that is neither met nor shown.
+    pub fn unshown(&self) -> Option<u32>
+        ensures { IsLeastUnshown self.now.goals self.now.shown result }
+    {
+        least_unshown(self.goals.as_slice(), self.shown.as_slice())
+    }
+}

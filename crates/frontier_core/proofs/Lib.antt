@@ -1,0 +1,25 @@
+pub mod Everywhere
+pub mod ColumnClaims
+pub mod Computed
+pub mod FrontierSteps
+pub mod FrontierSets
+pub mod Substituting
+pub mod Splitting
+pub mod Unused
+pub mod SizeBounds
+pub mod FunctionPolynomials
+pub mod PlainOrders
+pub mod OrderMade
+pub mod PlainSizes
+pub mod Plans
+pub mod RestLines
+pub mod NotZero
+pub mod LineLemmas
+pub mod Gathered
+pub mod Added
+pub mod LastFrontiers
+pub mod Positions
+pub mod LeastTerms
+pub mod LeastValues
+pub mod CallerLemmas
+mod FrontierRows

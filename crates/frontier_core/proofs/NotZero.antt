@@ -1,0 +1,119 @@
+-- The specification isn't 0 everywhere: the lowest bit of a product is no literal.
+use Rattle.std.specs.Prelude.{◌≡◌, ℕ, zero, suc, ◌+◌, ◌*◌, ◌/◌, ◌%◌, ◌^◌, ◌<◌, ◌⊎◌, Bool, true, false, not, cond, List, [], ◌∷◌, length, slice_get, ◌==◌}
+use Rattle.std.specs.declared.option.Option.TheVariants.{Some}
+use Rattle.std.proofs.Common.{refl, sym, ap, ap₂, ◌∙◌, arith, inl, inr, ⊎_elim, eq-eqb, ne_eqb, pow-suc}
+use Rattle.std.proofs.Math.Nat.{div-add-mod}
+use Rattle.graph_core.specs.declared.literal.Lit.{Lit}
+use Rattle.graph_core.specs.Graph.Literals.{variable_of}
+use Rattle.graph_core.specs.Graph.Assignments.{Assignment, variable, literal, bit, word}
+use Rattle.graph_core.specs.Graph.Operands.{Sides, claimed}
+use Rattle.graph_core.specs.Algebra.{modulus}
+use Rattle.graph_core.proofs.OfAlgebra.CallerLemmas.{vanishing_means_claim}
+use Rattle.graph_core.proofs.OfGraphs.CallerLemmas.{literal-input}
+use Rattle.frontier_core.specs.RestLine.{SpecificationIsNotZero}
+
+-- the assignment of two variables
+abbrev two : ℕ → ℕ → Bool → Bool → Assignment
+two a b x y v = cond (v == a) x (cond (v == b) y false)
+
+-- a literal depends on but one of them
+abbrev IsOfOne : Bool → Bool → Bool → Bool → Type 0
+IsOfOne x y z w = ((x ≡ y) × (z ≡ w)) ⊎ ((x ≡ z) × (y ≡ w))
+
+one_of_cond : (t x y z w p q r s : Bool) → IsOfOne x y z w → IsOfOne p q r s → IsOfOne (cond t x p) (cond t y q) (cond t z r) (cond t w s)
+one_of_cond true x y z w p q r s h k = h
+one_of_cond false x y z w p q r s h k = k
+
+two_of_one : (a b v : ℕ) → IsOfOne (two a b true true v) (two a b true false v) (two a b false true v) (two a b false false v)
+two_of_one a b v =
+    one_of_cond (v == a) true true false false (cond (v == b) true false) (cond (v == b) false false) (cond (v == b) true false) (cond (v == b) false false) (inl (refl, refl))
+    (one_of_cond (v == b) true false true false false false false false (inr (refl, refl)) (inl (refl, refl)))
+
+variable_of_one : (x y z w : Assignment) (v : ℕ) → IsOfOne (x v) (y v) (z v) (w v) → IsOfOne (variable x v) (variable y v) (variable z v) (variable w v)
+variable_of_one x y z w zero h = inl (refl, refl)
+variable_of_one x y z w (suc v) h = h
+
+one_of_map : (f : Bool → Bool) (x y z w : Bool) → IsOfOne x y z w → IsOfOne (f x) (f y) (f z) (f w)
+one_of_map f x y z w h = ⊎_elim (λ e. inl (ap f e.0, ap f e.1)) (λ e. inr (ap f e.0, ap f e.1)) h
+
+bits_of_one : (x y z w : Bool) → IsOfOne x y z w → bit x + bit w ≡ bit y + bit z
+bits_of_one x y z w h = ⊎_elim (λ e. ap₂ (λ p q. bit p + bit q) e.0 (sym e.1)) (λ e. ap₂ (λ p q. bit p + bit q) e.0 (sym e.1) ∙ omega arith) h
+
+-- the lowest bit of what is claimed
+claim_low : (m : ℕ) (s : Sides) (a b : Lit) (σ : Assignment) → slice_get s.a 0 ≡ Some a → slice_get s.b 0 ≡ Some b → claimed m s σ % 2 ≡ bit (literal σ a) * bit (literal σ b) % 2
+claim_low m s a b σ a_is b_is = go s.a s.b a_is b_is
+  where
+    go : (as' bs : List Lit) → slice_get as' 0 ≡ Some a → slice_get bs 0 ≡ Some b → word σ as' * word σ bs % 2 ≡ bit (literal σ a) * bit (literal σ b) % 2
+    go [] bs h k = absurd (cc)
+    go (x ∷ xs) [] h k = absurd (cc)
+    go (x ∷ xs) (y ∷ ys) h k =
+        let first : x ≡ a = cc in
+        let second : y ≡ b = cc in
+        let p = bit (literal σ x) in
+        let q = bit (literal σ y) in
+        let split : (p + 2 * word σ xs) * (q + 2 * word σ ys) ≡ p * q + 2 * (word σ xs * q + p * word σ ys + 2 * (word σ xs * word σ ys)) = omega arith in
+        ap (λ z. z % 2) split ∙ even (p * q) (word σ xs * q + p * word σ ys + 2 * (word σ xs * word σ ys)) ∙ ap₂ (λ u v. bit (literal σ u) * bit (literal σ v) % 2) first second
+      where
+        even : (u w : ℕ) → (u + 2 * w) % 2 ≡ u % 2
+        even u w = omega arith
+
+-- a remainder by 2 ^ n has the number's lowest bit
+low_stays : (n x : ℕ) → 0 < n → x % 2 ^ n % 2 ≡ x % 2
+low_stays zero x h = absurd (omega arith)
+low_stays (suc n) x h =
+    let m = 2 ^ n in
+    let up : 2 ^ suc n ≡ 2 * m = omega (arith, pow-suc 2 n) in
+    let split : x ≡ 2 ^ suc n * (x / 2 ^ suc n) + x % 2 ^ suc n = sym (div-add-mod x (2 ^ suc n)) in
+    let even : 2 ^ suc n * (x / 2 ^ suc n) ≡ 2 * (m * (x / 2 ^ suc n)) = ap (λ z. z * (x / 2 ^ suc n)) up ∙ omega arith in
+    omega arith
+
+word_low : (σ : Assignment) (l : Lit) (ls : List Lit) → word σ (l ∷ ls) % 2 ≡ bit (literal σ l) % 2
+word_low σ l ls = omega arith
+
+bit_small : (b : Bool) → bit b % 2 ≡ bit b
+bit_small true = refl
+bit_small false = refl
+
+product_small : (x y : Bool) → bit x * bit y % 2 ≡ bit x * bit y
+product_small true true = refl
+product_small true false = refl
+product_small false true = refl
+product_small false false = refl
+
+pub specification_is_not_zero : SpecificationIsNotZero
+specification_is_not_zero e s a b low some none = go e.graph.outputs refl
+  where
+    u : ℕ
+    u = variable_of a
+
+    w : ℕ
+    w = variable_of b
+
+    a_there : (x y : Bool) → literal (two u w x y) a ≡ x
+    a_there x y = literal-input (two u w x y) a (low.a_even, low.a_variable) ∙ ap (λ c. cond c x (cond (u == w) y false)) (eq-eqb u u refl)
+
+    b_there : (x y : Bool) → literal (two u w x y) b ≡ y
+    b_there x y =
+        literal-input (two u w x y) b (low.b_even, low.b_variable) ∙ ap (λ c. cond c x (cond (w == w) y false)) (ne_eqb w u (λ h. low.apart (sym h))) ∙ ap (λ c. cond c y false) (eq-eqb w w refl)
+
+    go : (os : List Lit) → e.graph.outputs ≡ os → ⊥
+    go [] h = let size = ap length h in omega arith
+    go (o ∷ os) h =
+        let at : (x y : Bool) → bit (literal (two u w x y) o) ≡ bit x * bit y = λ x y. there o os h x y in
+        let all = bits_of_one (literal (two u w true true) o) (literal (two u w true false) o) (literal (two u w false true) o) (literal (two u w false false) o)
+        (one_of_map (λ c. cond (o.0 % 2 == 0) c (not c)) (variable (two u w true true) (variable_of o)) (variable (two u w true false) (variable_of o)) (variable (two u w false true) (variable_of o)) (variable (two u w false false) (variable_of o))
+        (variable_of_one (two u w true true) (two u w true false) (two u w false true) (two u w false false) (variable_of o) (two_of_one u w (variable_of o)))) in
+        let p : bit (literal (two u w true true) o) ≡ 1 = at true true in
+        let q : bit (literal (two u w true false) o) ≡ 0 = at true false in
+        let r : bit (literal (two u w false true) o) ≡ 0 = at false true in
+        omega arith
+      where
+        there : (l : Lit) (ls : List Lit) → e.graph.outputs ≡ l ∷ ls → (x y : Bool) → bit (literal (two u w x y) l) ≡ bit x * bit y
+        there l ls is x y =
+            let σ = two u w x y in
+            let n = length e.graph.outputs in
+            let same : word σ e.graph.outputs ≡ claimed (modulus e) s σ % modulus e = vanishing_means_claim e s σ (none σ) in
+            let left : word σ e.graph.outputs % 2 ≡ bit (literal σ l) = ap (λ ks. word σ ks % 2) is ∙ word_low σ l ls ∙ bit_small (literal σ l) in
+            let right : claimed (modulus e) s σ % modulus e % 2 ≡ bit x * bit y =
+            low_stays n (claimed (modulus e) s σ) some ∙ claim_low (modulus e) s a b σ low.a_is low.b_is ∙ ap₂ (λ c d. bit c * bit d % 2) (a_there x y) (b_there x y) ∙ product_small x y in
+            sym left ∙ ap (λ z. z % 2) same ∙ right

@@ -1,0 +1,8 @@
+-- What crates above may cite of AIGER files.
+pub use Rattle.graph_core.proofs.OfAiger.Fields.{accepted}
+pub use Rattle.graph_core.proofs.OfAiger.Packed.{Counts, all_flat_map, counts_apart, counts_append, counts_contain}
+pub use Rattle.graph_core.proofs.OfAiger.Readers.{header_steady, symbol_steady}
+pub use Rattle.graph_core.proofs.OfAiger.Refusals.{header_refused, lists_refused, lists_take, text_refused}
+pub use Rattle.graph_core.proofs.OfAiger.Soundness.{shape_of, spelled_shape, vanishing_multiplies, well_formed}
+pub use Rattle.graph_core.proofs.OfAiger.Tail.{Ends, ends_behind, rest_sound}
+pub use Rattle.graph_core.proofs.OfAiger.Writing.{ascii_text_spells, binary_text_spells}

@@ -1,0 +1,13 @@
+-- Lemmas on polynomials and algebra certificates. Crates above import CallerLemmas alone.
+pub mod Agreements
+pub mod CallerLemmas
+mod FileRows
+pub mod FirstRefusals
+pub mod LedgerLines
+pub mod LikeLines
+mod LineRows
+pub mod NormalFormSizes
+pub mod NormalForms
+pub mod Reading
+pub mod Sound
+pub mod Unlawful

@@ -1,0 +1,25 @@
+-- Lemmas on graphs: how they are built, their levels, evaluation and operands. Crates above import CallerLemmas alone.
+pub mod CallerLemmas
+pub mod BuiltFacts
+pub mod Congruence
+pub mod Decided
+pub mod Evaluation
+pub mod Faults
+pub mod Gates
+pub mod Levels
+pub mod Lists
+pub mod LiteralValues
+pub mod Multiplies
+pub mod OperandBits
+pub mod OperandPlaces
+pub mod Residues
+pub mod SearchSteps
+pub mod Support
+pub mod TableLemmas
+pub mod TableSteps
+pub mod ValueSteps
+pub mod WalkLevels
+pub mod WalkSteps
+pub mod WellFormedGates
+pub mod Words
+pub mod WrittenValues

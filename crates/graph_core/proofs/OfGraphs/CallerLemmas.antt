@@ -1,0 +1,92 @@
+-- What crates above may cite of graphs that are built, of their values and of their operands.
+pub use Rattle.graph_core.proofs.OfGraphs.BuiltFacts.{few_numbers}
+pub use Rattle.graph_core.proofs.OfGraphs.Congruence.{difference_is, difference_plus, product_same, sum_same}
+pub use Rattle.graph_core.proofs.OfGraphs.Decided.{Decided, decided_all, decided_and, decided_as, decided_eq, decided_le, decided_lt, decided_or}
+pub use Rattle.graph_core.proofs.OfGraphs.Evaluation.{Distinct, evaluation_is, evaluation_is_one, finds_none, literal_same, rounds-free, variable-pos, variable_same}
+pub use Rattle.graph_core.proofs.OfGraphs.Faults.{no_fault_is_found}
+pub use Rattle.graph_core.proofs.OfGraphs.Gates.{never_wrong}
+pub use Rattle.graph_core.proofs.OfGraphs.Levels.{acyclic_levels, one_level}
+pub use Rattle.graph_core.proofs.OfGraphs.Lists.{all_split, all_weaker}
+pub use Rattle.graph_core.proofs.OfGraphs.LiteralValues.{literal-even, literal-false, literal-inverted, literal-negated, literal-odd, literal-plain, literal-true, variable_of-negated}
+pub use Rattle.graph_core.proofs.OfGraphs.Multiplies.{Apart, a_is, apart_from_pairs, b_is, claim_is, claim_is_product, evaluations_suffice, gates_distinct, inputs_have, length-inputs_of, lits_apart, rest_apart, sides_are_inputs, sides_read_inputs, take-length-append, whole_products}
+pub use Rattle.graph_core.proofs.OfGraphs.OperandBits.{DistinctLits, IsInput, inputs_are, literal-input, number_of}
+pub use Rattle.graph_core.proofs.OfGraphs.OperandPlaces.{a_bits_are, a_part_at, a_place_low, b_bits_are, b_part_at, b_place_low, byte_is_bit, length-a_part, length-b_part, number_of-low, parts_are}
+pub use Rattle.graph_core.proofs.OfGraphs.Residues.{claim_from_difference, difference_same, same_from_difference}
+pub use Rattle.graph_core.proofs.OfGraphs.WellFormedGates.{input_in_range, output_in_range}
+pub use Rattle.graph_core.proofs.OfGraphs.Words.{word_below}
+use Rattle.std.specs.Prelude.{◌≡◌, ℕ, ◌+◌, ◌*◌, ◌&&◌, slice_index_or, Bool, List, [], ◌∷◌, map, length}
+use Rattle.std.proofs.Common.{refl, sym, ap, ap₂, ◌∙◌, subst}
+use Rattle.graph_core.specs.declared.literal.Lit.{Lit}
+use Rattle.graph_core.specs.declared.gate.Gate.{Gate}
+use Rattle.graph_core.specs.declared.order.Order.{Order}
+use Rattle.graph_core.specs.Graph.Literals.{variable_of}
+use Rattle.graph_core.specs.Graph.Assignments.{literal, bit, word, listed, Assignment}
+use Rattle.graph_core.specs.Graph.{Aig, IsWellFormed, IsEvaluation, IsLevel, IsGateOf, AreValues, evaluated, IsDefinedOnce, IsAcyclic}
+use Rattle.graph_core.specs.Graph.Operands.{Sides, AreOperandsOf, HasMultiplierShape, width, inputs_of, value_on, sides_of, ReadInputs, a_bits, b_bits, MultipliesWhole}
+use Rattle.graph_core.proofs.OfGraphs.Evaluation.{literal_same, variable_same}
+use Rattle.graph_core.proofs.OfGraphs.Levels.{contains_in, distinct_from, distinct_same, one_level}
+use Rattle.graph_core.proofs.OfGraphs.Multiplies.{evaluated_is, inputs_have, sides_read_inputs, claim_is}
+use Rattle.graph_core.proofs.OfGraphs.OperandPlaces.{a_bits_are, b_bits_are, length-a_part, length-b_part}
+use Rattle.graph_core.proofs.OfGraphs.WellFormedGates.{gates_apart}
+
+-- ---- values
+
+pub literal_is : (g : Aig) (bits values : List Bool) → AreValues g bits values → (l : Lit) → literal (listed values) l ≡ literal (evaluated g bits) l
+literal_is g bits values h l = literal_same (listed values) (evaluated g bits) l (h (variable_of l))
+
+pub word_is_evaluated : (g : Aig) (bits values : List Bool) → AreValues g bits values → (ls : List Lit) → word (listed values) ls ≡ word (evaluated g bits) ls
+word_is_evaluated g bits values h [] = refl
+word_is_evaluated g bits values h (l ∷ ls) = ap₂ (λ b n. bit b + 2 * n) (literal_is g bits values h l) (word_is_evaluated g bits values h ls)
+
+-- Written values are an evaluation.
+pub values_evaluate : (g : Aig) (bits values : List Bool) → IsWellFormed g → AreValues g bits values → IsEvaluation g.gates (listed values)
+values_evaluate g bits values well h k d below =
+    let x : Gate = slice_index_or g.gates k d in
+    variable_same (listed values) (evaluated g bits) x.v (h x.v) ∙ evaluated_is g bits well.defined_once well.acyclic k d below ∙
+    ap₂ ◌&&◌ (sym (literal_is g bits values h x.left)) (sym (literal_is g bits values h x.right))
+
+-- The inputs have the values that were given.
+pub inputs_are_given : (g : Aig) (bits values : List Bool) → IsWellFormed g → length bits ≡ length g.inputs → AreValues g bits values → map (literal (listed values)) g.inputs ≡ bits
+inputs_are_given g bits values well same h = each g.inputs ∙ inputs_have g bits well.defined_once (sym same)
+  where
+    each : (ls : List Lit) → map (literal (listed values)) ls ≡ map (literal (evaluated g bits)) ls
+    each [] = refl
+    each (l ∷ ls) = ap₂ ◌∷◌ (literal_is g bits values h l) (each ls)
+
+-- The outputs' word is the graph's value on the pair whose bits the inputs are.
+pub outputs_are_value : (g : Aig) (order : Order) (bits values : List Bool) (a b : ℕ) → AreValues g bits values → bits ≡ inputs_of order (width g) a b → word (listed values) g.outputs ≡ value_on g order a b
+outputs_are_value g order bits values a b h pair = word_is_evaluated g bits values h g.outputs ∙ ap (λ inputs. word (evaluated g inputs) g.outputs) pair
+
+-- ---- gates and levels
+
+-- A variable has one gate.
+pub one_gate : (g : Aig) (v : ℕ) (x y : Gate) → IsWellFormed g → IsGateOf g.gates v x → IsGateOf g.gates v y → y ≡ x
+one_gate g v x y well p q =
+    distinct_same g.gates (distinct_from g.gates (gates_apart g well)) x y (contains_in x g.gates p.0) (contains_in y g.gates q.0) (p.1 ∙ sym q.1)
+
+-- A variable has one level.
+pub level_is_one : (g : Aig) (v i j : ℕ) → IsWellFormed g → IsLevel g.gates v i → IsLevel g.gates v j → j ≡ i
+level_is_one g v i j well p q = (one_level g.gates (gates_apart g well) v i p).1 j q
+
+-- ---- operands
+
+pub length-operands : (g : Aig) (s : Sides) → HasMultiplierShape g → AreOperandsOf g s → (length s.a ≡ width g) × (length s.b ≡ width g)
+length-operands g s shape h = (
+  ap length (h.0 ∙ a_bits_are s.order g) ∙ length-a_part s.order (width g) g.inputs shape.inputs,
+  ap length (h.1 ∙ b_bits_are s.order g) ∙ length-b_part s.order (width g) g.inputs shape.inputs,
+)
+
+-- What Operands::of gives are the graph's operands under their order.
+pub operands_are_sides : (g : Aig) (s : Sides) → AreOperandsOf g s → s ≡ sides_of s.order g
+operands_are_sides g s h = λ i. record { order = s.order; a = h.0 i; b = h.1 i }
+
+-- So each literal of theirs is an input.
+pub operands_read_inputs : (g : Aig) (s : Sides) → AreOperandsOf g s → ReadInputs g s
+operands_read_inputs g s h = subst (ReadInputs g) (sym (operands_are_sides g s h)) (sides_read_inputs g s.order)
+
+-- A product on each evaluation is the product of all operands, as whole numbers.
+pub whole_from_evaluations : (g : Aig) (order : Order) → HasMultiplierShape g → IsDefinedOnce g → IsAcyclic g.gates →
+    ((σ : Assignment) → IsEvaluation g.gates σ → word σ g.outputs ≡ word σ (a_bits order g) * word σ (b_bits order g)) → MultipliesWhole g order
+whole_from_evaluations g order shape once acyclic h a b below_a below_b =
+    let bits = inputs_of order (width g) a b in
+    h (evaluated g bits) (evaluated_is g bits once acyclic) ∙ claim_is g order a b shape once below_a below_b

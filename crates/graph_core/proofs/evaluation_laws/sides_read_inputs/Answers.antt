@@ -1,0 +1,5 @@
+use Rattle.graph_core.proofs.OfGraphs.Multiplies.{sides_read_inputs as law}
+use Rattle.graph_core.proofs.evaluation_laws.sides_read_inputs.Goals as goal
+
+pub returns : goal.returns
+returns c = law

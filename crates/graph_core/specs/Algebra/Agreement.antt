@@ -1,0 +1,47 @@
+-- When two ledgers say the same: the definitions of lawful lines look live lines up by their ids and use them by their values.
+use Rattle.std.specs.Prelude.{◌≡◌, ℕ, List}
+use Rattle.std.specs.declared.option.Option.{Option}
+use Rattle.std.specs.declared.option.Option.TheVariants.{None, Some}
+use Rattle.graph_core.specs.Graph.Assignments.{Assignment}
+use Rattle.graph_core.specs.Graph.Operands.{Sides}
+use Rattle.graph_core.specs.Graph.Extended.{Extended}
+use Rattle.graph_core.specs.Algebra.{LiveLine, Line, Ledger, line_of, IsLawfulLine, after, Closes, modulus}
+use Rattle.graph_core.specs.Algebra.Text.{IsLineInRange}
+use Rattle.graph_core.specs.Algebra.Refusal.{AlgebraCause, IsRefusedLine, IsRefusedClose}
+use Rattle.graph_core.specs.Algebra.InRange.{IsRefusedInRange, IsRefusedCloseInRange}
+
+-- both are there with the same value at every assignment, or neither is
+abbrev pub AreSame : Option LiveLine → Option LiveLine → Type 0
+AreSame None None = Unit {0}
+AreSame None (Some y) = ⊥
+AreSame (Some x) None = ⊥
+AreSame (Some x) (Some y) = (σ : Assignment) → x.value σ ≡ y.value σ
+
+-- Two lists of live lines have the same line under each id, in whatever order.
+abbrev pub AreSameLines : List LiveLine → List LiveLine → Type 0
+AreSameLines xs ys = (id : ℕ) → AreSame (line_of xs id) (line_of ys id)
+
+-- Two ledgers agree where they have the same last id and the same lines.
+pub record Agree (l k : Ledger) : Type 0 where
+  pub last : l.last ≡ k.last
+  pub lines : AreSameLines l.live k.live
+
+-- Agreeing is an equivalence.
+pub record AgreementIsEquivalence : Type 0 where
+  pub itself : (l : Ledger) → Agree l l
+  pub back : (l k : Ledger) → Agree l k → Agree k l
+  pub joins : (l k j : Ledger) → Agree l k → Agree k j → Agree l j
+
+-- Ledgers that agree take the same lines, agree after them, refuse the same lines for the same causes, and close alike.
+pub record AgreementIsKept : Type 0 where
+  pub lawful : (m : ℕ) (l k : Ledger) → Agree l k → (x : Line) → IsLawfulLine m l x → IsLawfulLine m k x
+  pub after : (m : ℕ) (l k : Ledger) → Agree l k → (x : Line) → Agree (after m l x) (after m k x)
+  pub refused : (e : Extended) (l k : Ledger) → Agree l k → (x : Line) (cause : AlgebraCause) → IsRefusedLine e l x cause → IsRefusedLine e k x cause
+  pub refused_in_range : (e : Extended) (l k : Ledger) → Agree l k → (x : Line) (cause : AlgebraCause) → IsRefusedInRange e l x cause → IsRefusedInRange e k x cause
+  pub closes : (e : Extended) (sides : Sides) (l k : Ledger) → Agree l k → (id : ℕ) → Closes e sides l.live id → Closes e sides k.live id
+  pub refused_close : (e : Extended) (sides : Sides) (l k : Ledger) → Agree l k → (id : ℕ) (cause : AlgebraCause) → IsRefusedClose e sides l id cause → IsRefusedClose e sides k id cause
+  pub refused_close_in_range : (e : Extended) (sides : Sides) (l k : Ledger) → Agree l k → (id : ℕ) (cause : AlgebraCause) → IsRefusedCloseInRange e sides l id cause → IsRefusedCloseInRange e sides k id cause
+
+-- A line in range is refused only where it isn't lawful.
+abbrev pub RefusedIsUnlawful : Type 0
+RefusedIsUnlawful = (e : Extended) (l : Ledger) (x : Line) (cause : AlgebraCause) → IsLineInRange e.max x → IsRefusedLine e l x cause → IsLawfulLine (modulus e) l x → ⊥

@@ -1,0 +1,45 @@
+// Laws of the ledger of an algebra certificate: which ledgers and which lines say the same.
+ghost use Rattle.graph_core.specs.Algebra.Agreement.{AgreementIsEquivalence, AgreementIsKept, RefusedIsUnlawful};
+ghost use Rattle.graph_core.specs.Algebra.InRange.{RefusedInRange};
+ghost use Rattle.graph_core.specs.Algebra.Ledgers.{LedgerIsMap, LinesKeepZero, LiveLinesVanish};
+ghost use Rattle.graph_core.specs.Algebra.Likeness.{LikenessIsKept};
+
+/// Live lines are a map from ids.
+pub fn ledger_is_map()
+    ensures { LedgerIsMap }
+{}
+
+/// A lawful line keeps that every live line is 0 at an assignment.
+pub fn lines_keep_zero()
+    ensures { LinesKeepZero }
+{}
+
+/// Every live line is 0 on each evaluation on which the replaced columns agree.
+pub fn live_lines_vanish()
+    ensures { LiveLinesVanish }
+{}
+
+/// Agreeing of ledgers is an equivalence.
+pub fn agreement_is_equivalence()
+    ensures { AgreementIsEquivalence }
+{}
+
+/// Ledgers that agree take and refuse the same lines, agree after them, and close alike.
+pub fn agreement_is_kept()
+    ensures { AgreementIsKept }
+{}
+
+/// Lines that are alike name the same operands, are lawful or refused together, and the same ledger follows.
+pub fn likeness_is_kept()
+    ensures { LikenessIsKept }
+{}
+
+/// A line that is refused isn't lawful.
+pub fn refused_is_unlawful()
+    ensures { RefusedIsUnlawful }
+{}
+
+/// A refusal of a line whose numbers are in range is the one of the definitions.
+pub fn refused_in_range()
+    ensures { RefusedInRange }
+{}

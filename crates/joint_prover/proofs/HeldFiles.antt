@@ -1,0 +1,108 @@
+-- What is held under the names once both certificates were written.
+use Rattle.std.proofs.Common.{◌≡◌, ◌≢◌, ℕ, List, [], Some, None, refl, sym, ap, subst, ◌∙◌}
+use Rattle.std.specs.Prelude.{IfSome, IsSome, option_map, unwrap_or}
+use Rattle.std.specs.declared.option.Option.{Option}
+use Rattle.aiger_reader.specs.Refusals.{SpellsWithin}
+use Rattle.graph_core.specs.Certificates.{no_cut}
+use Rattle.mv_desk.specs.Calls.{AreApart, Becomes, BytesGrow, HeldGrows}
+use Rattle.mv_desk.specs.View.{View}
+use Rattle.mv_desk.specs.declared.slot.Slot.{Slot}
+use Rattle.mv_desk.specs.declared.slot.Slot.TheVariants as slot
+use Rattle.joint_prover.specs.Written.{Files, ReadsGraph, WritesFile, WritesPair}
+use Rattle.joint_prover.specs.Verdicts as verdicts
+use Rattle.joint_prover.specs.Verdicts.{HoldsPair, IsTold, ProvedPairsAreHeld}
+
+none_told : (A : Type 0) → IsSome {T = A} None → ⊥
+none_told A h = cc
+
+becomes : {A : Type 0} (old new : Option A) (value : A) → IsSome old → Becomes old new value → new ≡ Some value
+becomes {A = A} None new value told h = absurd (none_told A told)
+becomes (Some before) new value told h = h
+
+same_told : {A : Type 0} (old new : Option A) → new ≡ old → IsSome old → IsSome new
+same_told old new same told = subst IsSome (sym same) told
+
+-- ---- one file
+
+module _ (at : Slot) (name text : List ℕ) (a b : View) (w : WritesFile at name text a b) (named : IsSome (a.name at)) where
+  created_name : w.created.name at ≡ Some (Some name)
+  created_name = becomes (a.name at) (w.created.name at) (Some name) named w.creates.name
+
+  file_is_held : IsSome (a.held name) → b.held name ≡ Some (Some text)
+  file_is_held told =
+      let empty = becomes (a.held name) (w.created.held name) (Some []) told w.creates.bytes in
+      let grows : HeldGrows (w.created.held name) (b.held name) text = subst (λ n. BytesGrow n w.created b text) created_name w.writes.bytes in
+      subst (λ old. HeldGrows old (b.held name) text) empty grows
+
+  others_are_held : (other : List ℕ) → name ≢ other → b.held other ≡ a.held other
+  others_are_held other apart =
+      w.writes.held other (subst (λ n. AreApart n (Some (Some other))) (sym created_name) apart) ∙ w.creates.held other (λ same. apart (sym same))
+
+  other_names : (other : Slot) → other ≢ at → b.name other ≡ a.name other
+  other_names other apart = (w.writes.others other apart).mode.name ∙ (w.creates.others other apart).mode.name
+
+-- ---- all of them
+
+clauses_no_graph : slot.Clauses ≢ slot.Graph
+clauses_no_graph e = cc
+
+algebra_no_graph : slot.Algebra ≢ slot.Graph
+algebra_no_graph e = cc
+
+algebra_no_clauses : slot.Algebra ≢ slot.Clauses
+algebra_no_clauses e = cc
+
+module _ (files : Files) (text : List ℕ) (a r c : View) (told : IsTold a) (apart : verdicts.AreApart files) (reads : ReadsGraph a r) (w : WritesPair files text r c) where
+  clause_slot : IsSome (r.name slot.Clauses)
+  clause_slot = same_told (a.name slot.Clauses) (r.name slot.Clauses) (reads.others slot.Clauses clauses_no_graph).mode.name (told.names slot.Clauses)
+
+  algebra_slot : IsSome (w.between.name slot.Algebra)
+  algebra_slot = same_told (a.name slot.Algebra) (w.between.name slot.Algebra)
+      (other_names slot.Clauses files.clauses no_cut r w.between w.clauses clause_slot slot.Algebra algebra_no_clauses ∙ (reads.others slot.Algebra algebra_no_graph).mode.name)
+      (told.names slot.Algebra)
+
+  held_in_r : (name : List ℕ) → IsSome (r.held name)
+  held_in_r name = same_told (a.held name) (r.held name) (reads.inspects.held name) (told.held name)
+
+  between_held : (name : List ℕ) → files.clauses ≢ name → w.between.held name ≡ a.held name
+  between_held name apart = others_are_held slot.Clauses files.clauses no_cut r w.between w.clauses clause_slot name apart ∙ reads.inspects.held name
+
+  end_held : (name : List ℕ) → files.algebra ≢ name → c.held name ≡ w.between.held name
+  end_held name apart = others_are_held slot.Algebra files.algebra text w.between c w.algebra algebra_slot name apart
+
+  pub graph_stays : c.held files.graph ≡ a.held files.graph
+  graph_stays = end_held files.graph (λ same. apart.algebra (sym same)) ∙ between_held files.graph (λ same. apart.clauses (sym same))
+
+  pub clauses_are_held : c.held files.clauses ≡ Some (Some no_cut)
+  clauses_are_held =
+      end_held files.clauses (λ same. apart.certificates (sym same)) ∙
+      file_is_held slot.Clauses files.clauses no_cut r w.between w.clauses clause_slot (held_in_r files.clauses)
+
+  pub algebra_is_held : c.held files.algebra ≡ Some (Some text)
+  algebra_is_held =
+      file_is_held slot.Algebra files.algebra text w.between c w.algebra algebra_slot
+      (same_told (a.held files.algebra) (w.between.held files.algebra) (between_held files.algebra apart.certificates) (told.held files.algebra))
+
+-- the bytes that are told
+told_file : (file : Option (Option (List ℕ))) → IsSome file → (bytes : List ℕ) × (option_map (λ b. unwrap_or b []) file ≡ Some bytes)
+told_file None told = absurd (none_told (Option (List ℕ)) told)
+told_file (Some bytes) told = (unwrap_or bytes [], refl)
+
+pub proved_pairs_are_held : ProvedPairsAreHeld
+proved_pairs_are_held limit order budget files a c told apart h =
+    let file = told_file (a.held files.graph) (told.held files.graph) in
+    let text = h.2.0 in
+    let state = h.2.3 in
+    let bytes : Option (Option (List ℕ)) → Option (List ℕ) = option_map (λ b. unwrap_or b []) in
+    record {
+      graph_file = file.0;
+      clause_file = no_cut;
+      algebra_file = text;
+      graph_held = ap bytes (graph_stays files text a state.0 c told apart state.1 state.2) ∙ file.1;
+      clauses_held = ap bytes (clauses_are_held files text a state.0 c told apart state.1 state.2);
+      algebra_held = ap bytes (algebra_is_held files text a state.0 c told apart state.1 state.2);
+      graph = h.0;
+      spells = subst (λ o. IfSome o (λ b. SpellsWithin limit b h.0)) file.1 h.1;
+      pair = h.2.1;
+      multiplies = h.2.2;
+    }

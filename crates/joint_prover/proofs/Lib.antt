@@ -1,0 +1,7 @@
+pub mod Exactness
+pub mod HeldFiles
+mod PlanLists
+pub mod Remainders
+pub mod Joining
+pub mod Pairs
+pub mod CallerLemmas

@@ -1,0 +1,218 @@
+-- What the plain plan's remainder says of the graph.
+use Rattle.std.proofs.Common.{◌≡◌, ◌≢◌, ℕ, ◌+◌, ◌%◌, ◌^◌, ◌<◌, ◌≤◌, Bool, cond, List, [], ◌∷◌, ◌++◌, length, map, take, refl, sym, ap, ap₂, subst, ◌∙◌, arith, ⊎_elim, ne_eqb, length-append}
+use Rattle.std.specs.Prelude.{None, Some, IsSome}
+use Rattle.std.specs.List.{AllByRecursion}
+use Rattle.std.proofs.Math.Seq.{take-append-add, take-length}
+use Rattle.std.proofs.lemmas.List.{length-map}
+use Rattle.std.proofs.lemmas.List.Sorted.{length_permutation}
+use Rattle.std.proofs.lemmas.List.Elements.{recursion_from_All}
+use Rattle.column_reducer.specs.Reducing.{GoesOn, IsPassed, IsRest, Planned, planned, value_after}
+use Rattle.frontier_core.specs.declared.step.Step.TheVariants.{Add, Eliminate}
+use Rattle.frontier_core.specs.Columns.{all_columns}
+use Rattle.frontier_core.specs.Frontier.{frontier_value}
+use Rattle.frontier_core.specs.LastFrontier.{IsEnd, IsOverInputs}
+use Rattle.frontier_core.specs.LeastDifference.{AreInputs, IsLeastDifference, IsLeastDifferenceAt, IsLeastNonzero}
+use Rattle.frontier_core.specs.Plan.{Taken, nothing, plain_steps, taken, value_of_taken}
+use Rattle.frontier_core.specs.PlainOrder.{HasPlainSize, IsPlainOrder}
+use Rattle.frontier_core.proofs.CallerLemmas.{graph_inputs, last_frontier_decides, last_frontier_gives_least, difference_is_of_operands, last_frontier_is_over_inputs, lowest_bits, operands_in_order, plain_order_is_one, plain_plan_is_plan, specification_is_not_zero, difference_small}
+use Rattle.graph_core.specs.Algebra.NormalForm.{HasSize, IsNormalForm}
+use Rattle.graph_core.specs.Graph.{Aig, IsDefinedOnce, of_inputs}
+use Rattle.graph_core.specs.declared.literal.Lit.{Lit}
+use Rattle.graph_core.specs.Graph.Assignments.{Assignment, word}
+use Rattle.graph_core.specs.Graph.Extended.{Extended, without_cut}
+use Rattle.graph_core.specs.Graph.Operands.{AreOperandsOf, MeetsClaim, Multiplies, ReadInputs, Sides, claimed, inputs_in, inputs_of, width}
+use Rattle.graph_core.specs.Algebra.{AgreeOnColumns, Closes, LiveLine, line_of, modulus, specification, value_of, value_or_zero}
+use Rattle.graph_core.specs.Algebra.Polynomials.{difference, value}
+use Rattle.graph_core.proofs.OfGraphs.CallerLemmas.{a_bits_are, claim_is_product, difference_is, length-a_part, sides_read_inputs}
+use Rattle.graph_core.proofs.OfAlgebra.CallerLemmas.{modulus_pos}
+use Rattle.pac_writer.specs.Writing.{AreLawfulSoFar, Made, ledger_of}
+use Rattle.poly_terms.specs.Laws.{modulus_stays}
+use Rattle.poly_terms.specs.Tables.{Table, Sum, monomials_in, value_in}
+use Rattle.poly_terms.specs.Tables as table
+use Rattle.poly_terms.proofs.Values.{normal}
+use Rattle.ripple_graft.specs.Extension.{IsExtension}
+use Rattle.joint_prover.proofs.PlanLists.{length-count_from, take-map}
+use Rattle.joint_prover.specs.declared.ending.Ending.{Ending}
+use Rattle.joint_prover.specs.declared.ending.Ending.TheVariants.{Closed, Differs, Passed}
+use Rattle.joint_prover.specs.Endings.{IsEnding, IsStart, IsWitness, IsWitnessOf}
+use Rattle.joint_prover.specs.Verdicts.{IsFirstAbove}
+
+-- ---- the plain plan
+
+abbrev pub plain_of : Extended → List ℕ → Planned
+plain_of e vs = planned e (plain_steps e vs) (length e.graph.outputs)
+
+pub plan_is_plain : (p : Planned) (e given : Extended) (vs : List ℕ) → p.extended ≡ e → given ≡ e → p.steps ≡ plain_steps given vs → p.uncounted ≡ length given.graph.outputs → p ≡ plain_of e vs
+plan_is_plain p e given vs extended same steps uncounted =
+    ap (λ ss. planned p.extended ss p.uncounted) (steps ∙ ap (λ x. plain_steps x vs) same) ∙
+    ap (planned p.extended (plain_steps e vs)) (uncounted ∙ ap (λ (x : Extended). length x.graph.outputs) same) ∙ ap (λ x. planned x (plain_steps e vs) (length e.graph.outputs)) extended
+
+size_same : (m n : ℕ) (f g : Assignment → ℕ) → ((σ : Assignment) → f σ ≡ g σ) → HasSize m f n → HasSize m g n
+size_same m n f g same h = (h.0, h.1, (λ σ. h.2 σ ∙ same σ), h.3)
+
+module _ (e : Extended) (s : Sides) (vs : List ℕ) (extension : IsExtension e) (order : IsPlainOrder e.gates vs) where
+  plain_steps_taken : (t : ℕ) → take (length e.graph.outputs + t) (plain_steps e vs) ≡ map Add (all_columns e) ++ map Eliminate (take t vs)
+  plain_steps_taken t =
+      let columns = map Add (all_columns e) in
+      let count : length columns ≡ length e.graph.outputs = length-map (all_columns e) Add ∙ length-count_from 0 (length e.graph.outputs) in
+      ap (λ n. take (n + t) (plain_steps e vs)) (sym count) ∙ take-append-add columns (map Eliminate vs) t ∙ ap (λ ys. columns ++ ys) (take-map Eliminate t vs)
+
+  value_plain : (t : ℕ) (σ : Assignment) → t ≤ length vs → value_after (plain_of e vs) s (length e.graph.outputs + t) σ ≡ frontier_value e s (all_columns e) (take t vs) σ
+  value_plain t σ low =
+      ap (λ ss. value_of_taken e s (taken nothing ss) σ) (plain_steps_taken t) ∙ (plain_plan_is_plan e vs extension order).1 s t low σ
+
+  length-plain_steps : length (plain_steps e vs) ≡ length e.graph.outputs + length vs
+  length-plain_steps =
+      length-append (map Add (all_columns e)) (map Eliminate vs) ∙
+      ap₂ ◌+◌ (length-map (all_columns e) Add ∙ length-count_from 0 (length e.graph.outputs)) (length-map vs Eliminate)
+
+  order_length : length vs ≡ length e.gates
+  order_length = sym (length_permutation vs (map (λ x. x.v) e.gates) order.0) ∙ length-map e.gates (λ x. x.v)
+
+  -- the first frontier above the budget, in the words of the plain order
+  pub passed_is_first : (budget step size : ℕ) → IsPassed (plain_of e vs) s budget step size →
+      (step ≤ length e.gates) × HasPlainSize e s step size × ((i k : ℕ) → i < step → HasPlainSize e s i k → k ≤ budget)
+  passed_is_first budget step size h =
+      let there = h.there in
+      let low : step ≤ length vs = omega (arith, length-plain_steps) in (
+        omega (arith, order_length),
+        (vs, order, size_same (modulus e) size (value_after (plain_of e vs) s (length e.graph.outputs + step)) (frontier_value e s (all_columns e) (take step vs)) (λ σ. value_plain step σ low) h.has),
+        λ i k before size_i. h.first i k before
+            (size_same (modulus e) k (frontier_value e s (all_columns e) (take i size_i.0)) (value_after (plain_of e vs) s (length e.graph.outputs + i))
+            (λ σ. ap (λ ws. frontier_value e s (all_columns e) (take i ws) σ) (plain_order_is_one e.gates size_i.0 vs extension.acyclic size_i.1 order) ∙ sym (value_plain i σ (omega arith))) size_i.2),
+      )
+
+-- what a reduction asks for
+pub nothing_replaced : (l : Made) → IsStart l → l.extended.replaced ≡ []
+nothing_replaced l start = ap (λ (x : Extended). x.replaced) start.extended
+
+pub reads_inputs : (l : Made) → IsStart l → ReadInputs l.extended.graph l.sides
+reads_inputs l start = subst (ReadInputs l.extended.graph) (sym start.sides) (sides_read_inputs l.extended.graph l.sides.order)
+
+-- ---- the remainder
+
+module _ (l : Made) (start : IsStart l) (vs : List ℕ) (order : IsPlainOrder l.extended.gates vs) (after : Made) (goes : GoesOn l after) (poly : Sum) (id : ℕ)
+    (rest : IsRest (plain_of l.extended vs) l.sides after.table (ledger_of after).live poly id) where
+  abbrev e : Extended
+  e = l.extended
+
+  abbrev s : Sides
+  s = l.sides
+
+  abbrev g : Aig
+  g = l.extended.graph
+
+  abbrev f : Taken
+  f = taken nothing (plain_steps l.extended vs)
+
+  once : IsDefinedOnce g
+  once = start.extension.graph.defined_once
+
+  are_operands : AreOperandsOf g s
+  are_operands = (ap (λ (x : Sides). x.a) start.sides, ap (λ (x : Sides). x.b) start.sides)
+
+  is_end : IsEnd e s f.added f.eliminated
+  is_end = record {
+    extension = start.extension;
+    inputs = reads_inputs l start;
+    agree = λ ρ h. subst (λ x. AgreeOnColumns x ρ) (sym start.extended) (λ k d low. absurd (omega arith));
+    last = (plain_plan_is_plan e vs start.extension order).0.last;
+  }
+
+  poly_value : (σ : Assignment) → value_in after.table poly σ ≡ frontier_value e s f.added f.eliminated σ
+  poly_value σ = rest.last σ ∙ ap (λ ss. value_of_taken e s (taken nothing ss) σ) (take-length (plain_steps e vs))
+
+  same_modulus : table.modulus after.table ≡ modulus e
+  same_modulus = modulus_stays l.table after.table goes.table ∙ start.same_modulus
+
+  inputs_are : inputs_in after.sides ≡ g.inputs
+  inputs_are = ap inputs_in goes.sides ∙ operands_in_order g s are_operands start.sized.shape
+
+  pub rest_inputs : AreInputs (inputs_in after.sides)
+  rest_inputs = subst AreInputs (sym inputs_are) (graph_inputs g once)
+
+  pub rest_over : IsOverInputs (inputs_in after.sides) (monomials_in after.table poly)
+  rest_over = subst (λ ls. IsOverInputs ls (monomials_in after.table poly)) (sym inputs_are)
+      (last_frontier_is_over_inputs e s f.added f.eliminated (monomials_in after.table poly) is_end
+      (subst (λ m. IsNormalForm m (monomials_in after.table poly)) same_modulus (normal after.table poly rest.of))
+      (λ σ. ap (λ m. value m (monomials_in after.table poly) σ) (sym same_modulus) ∙ poly_value σ))
+
+  -- ---- where it is 0
+
+  pub zero_multiplies : ((σ : Assignment) → value_in after.table poly σ ≡ 0) → Multiplies g s.order
+  zero_multiplies zero =
+      let meets = (last_frontier_decides e s f.added f.eliminated is_end).0 (λ σ. sym (poly_value σ) ∙ zero σ) in
+      (claim_is_product g s.order start.sized.shape once).0 (subst (MeetsClaim g) start.sides meets)
+
+  module _ (lawful : AreLawfulSoFar after) (zero : (σ : Assignment) → value_in after.table poly σ ≡ 0) where
+    closes_value : (σ : Assignment) → value_of (ledger_of after).live id σ ≡ specification e s σ
+    closes_value σ =
+        rest.differs σ ∙ ap (difference (modulus e) (specification e s σ)) (zero σ) ∙
+        difference_is (modulus e) (specification e s σ) 0 (specification e s σ) (modulus_pos e) (ap (λ z. z % modulus e) (omega arith)) ∙
+        difference_small (modulus e) (word σ g.outputs) (claimed (modulus e) s σ) (modulus_pos e)
+
+    none_there : (live : List LiveLine) → AllByRecursion (λ line. (0 < line.id) × (line.id ≤ after.last)) live → line_of live 0 ≡ None
+    none_there [] h = refl
+    none_there (x ∷ xs) h =
+        let above = h.0.0 in
+        let ne : x.id ≢ 0 = omega arith in
+        ap (λ c. cond c (Some x) (line_of xs 0)) (ne_eqb x.id 0 ne) ∙ none_there xs h.1
+
+    no_line : id ≡ 0 → ⊥
+    no_line none =
+        let bits = lowest_bits g s are_operands start.sized.shape once start.sized.some in
+        let missing = none_there (ledger_of after).live (recursion_from_All (λ line. (0 < line.id) × (line.id ≤ after.last)) (ledger_of after).live lawful.ids) in
+        specification_is_not_zero e s bits.0 bits.1 bits.2 start.sized.shape.some_outputs
+        (λ σ. sym (closes_value σ) ∙ ap (λ i. value_of (ledger_of after).live i σ) none ∙ ap (λ line. value_or_zero line σ) missing)
+
+    pub rest_closes : Closes after.extended after.sides (ledger_of after).live id
+    rest_closes = subst (λ x. Closes x after.sides (ledger_of after).live id) (sym goes.extended)
+        (subst (λ x. Closes e x (ledger_of after).live id) (sym goes.sides)
+        (⊎_elim (λ none. absurd (no_line none)) (λ live. live) rest.line, closes_value))
+
+  -- ---- where it isn't
+
+  change : (h k : Assignment → ℕ) (ls : List Lit) (bits : List Bool) → ((σ : Assignment) → h σ ≡ k σ) → IsLeastNonzero h ls bits → IsLeastNonzero k ls bits
+  change h k ls bits same least = record {
+    size = least.size;
+    nonzero = λ zero. least.nonzero (same (of_inputs ls bits) ∙ zero);
+    least = λ other size nonzero. least.least other size (λ zero. nonzero (sym (same (of_inputs ls other)) ∙ zero));
+  }
+
+  wide : length after.sides.a ≡ width g
+  wide = ap (λ (x : Sides). length x.a) goes.sides ∙ ap length are_operands.0 ∙ ap length (a_bits_are s.order g) ∙ length-a_part s.order (width g) g.inputs start.sized.shape.inputs
+
+  pub witness_is_least : (a b : ℕ) → IsWitnessOf after poly a b → IsLeastDifference g s.order a b
+  witness_is_least a b w =
+      let bits = inputs_of s.order (width g) a b in
+      let P : List Lit → Sides → ℕ → Type 0 = λ ls x n. IsLeastNonzero (value_in after.table poly) ls (inputs_of x.order n a b) in
+      let at_inputs = subst (λ n. P g.inputs s n) wide (subst (λ x. P g.inputs x (length after.sides.a)) goes.sides (subst (λ ls. P ls after.sides (length after.sides.a)) inputs_are w.least)) in
+      let least = last_frontier_gives_least e s f.added f.eliminated bits is_end (change (value_in after.table poly) (frontier_value e s f.added f.eliminated) g.inputs bits poly_value at_inputs) in
+      (difference_is_of_operands g s.order a b start.sized.shape once (subst (λ n. a < 2 ^ n) wide w.a_below) (subst (λ n. b < 2 ^ n) wide w.b_below)).0
+      (subst (λ x. IsLeastDifferenceAt g x bits) start.sides least)
+
+  -- ---- what a reduction comes to
+
+  pub ending_of : (budget : ℕ) (new : Made) (v : Ending) → IsWitness after new poly id v → IsEnding g s.order budget new v
+  ending_of budget new Closed h = (
+    record {
+      closed = subst (λ (x : Made). IsSome x.closing) (sym h.1) refl;
+      extended = ap (λ (x : Made). x.extended) h.1 ∙ goes.extended ∙ start.extended;
+      sides = ap (λ (x : Made). x.sides) h.1 ∙ goes.sides ∙ start.sides;
+    },
+    zero_multiplies h.0,
+  )
+  ending_of budget new (Differs a b) h = witness_is_least a b h.0
+  ending_of budget new (Passed step size) h = absurd h
+
+module _ (l : Made) (start : IsStart l) (vs : List ℕ) (order : IsPlainOrder l.extended.gates vs) where
+  pub first_above : (budget step size : ℕ) → IsPassed (plain_of l.extended vs) l.sides budget step size → IsFirstAbove l.extended.graph l.sides.order budget step size
+  first_above budget step size h =
+      let r = passed_is_first l.extended l.sides vs start.extension order budget step size h in
+      let g = l.extended.graph in
+      record {
+        there = subst (λ (x : Extended). step ≤ length x.gates) start.extended r.0;
+        above = h.above;
+        size = subst (λ x. HasPlainSize (without_cut g) x step size) start.sides (subst (λ x. HasPlainSize x l.sides step size) start.extended r.1);
+        first = λ i k before is. r.2 i k before (subst (λ x. HasPlainSize x l.sides i k) (sym start.extended) (subst (λ x. HasPlainSize (without_cut g) x i k) (sym start.sides) is));
+      }

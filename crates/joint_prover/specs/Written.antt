@@ -1,0 +1,55 @@
+-- What `verify` does to the files: it reads the graph, and writes both certificates, the clause file first.
+use Rattle.std.specs.Prelude.{◌≡◌, ◌≢◌, ◌⊎◌, List, ℕ}
+use Rattle.graph_core.specs.Certificates.{no_cut}
+use Rattle.mv_desk.specs.Calls.{Creates, Inspects, WritesPart, WritesTo}
+use Rattle.mv_desk.specs.View.{View, IsSame, ModeStays, SlotStays}
+use Rattle.mv_desk.specs.declared.names.Names.{Names}
+use Rattle.mv_desk.specs.declared.slot.Slot.{Slot}
+use Rattle.mv_desk.specs.declared.slot.Slot.TheVariants as slot
+
+-- the names of the graph and of its certificates
+pub record Files : Type 0 where
+  pub graph : List ℕ
+  pub clauses : List ℕ
+  pub algebra : List ℕ
+
+abbrev pub files_of : Names → Files
+files_of names = record { graph = names.graph.now; clauses = names.clauses.now; algebra = names.algebra.now }
+
+-- nothing was created or written, and every slot but `Graph` is as it was
+pub record ReadsGraph (before after : View) : Type 0 where
+  pub others : (other : Slot) → other ≢ slot.Graph → SlotStays other before after
+  pub inspects : Inspects before after
+
+-- the report is as it was
+pub record ReportStays (before after : View) : Type 0 where
+  pub mode : ModeStays slot.Report before after
+  pub written : after.written slot.Report ≡ before.written slot.Report
+
+-- a file was created, and this text was written to it
+pub record WritesFile (at : Slot) (name text : List ℕ) (before after : View) : Type 0 where
+  pub created : View
+  pub creates : Creates at name before created
+  pub writes : WritesTo at text created after
+
+-- a file was created, and a front part of this text was written to it
+pub record WritesFront (at : Slot) (name text : List ℕ) (before after : View) : Type 0 where
+  pub created : View
+  pub creates : Creates at name before created
+  pub writes : WritesPart at text created after
+
+-- both certificates were written whole, first the clause file, which is the one that replaces nothing
+pub record WritesPair (files : Files) (text : List ℕ) (before after : View) : Type 0 where
+  pub between : View
+  pub clauses : WritesFile slot.Clauses files.clauses no_cut before between
+  pub algebra : WritesFile slot.Algebra files.algebra text between after
+
+-- Writing stopped: no file of that name could be created, or a front part of a text of which something holds was written.
+abbrev pub StopsAt : Slot → List ℕ → (List ℕ → Type 0) → View → View → Type 0
+StopsAt at name P before after = IsSame before after ⊎ ((text : List ℕ) × P text × WritesFront at name text before after)
+
+-- The algebra file, of which something holds, is created only once the clause file is whole.
+abbrev pub StopsWriting : Files → (List ℕ → Type 0) → View → View → Type 0
+StopsWriting files P before after =
+    StopsAt slot.Clauses files.clauses (λ text. text ≡ no_cut) before after ⊎
+    ((between : View) × WritesFile slot.Clauses files.clauses no_cut before between × StopsAt slot.Algebra files.algebra P between after)

@@ -1,0 +1,60 @@
+// The plain plan's reduction, and what its remainder says.
+ghost use Rattle.std.specs.Prelude.{◌≡◌, ◌<◌, ◌^◌, IfOk, None, length};
+ghost use Rattle.graph_core.specs.Algebra.{Closes};
+ghost use Rattle.graph_core.specs.Graph.Assignments.{Assignment};
+ghost use Rattle.graph_core.specs.Graph.Operands.{inputs_in};
+ghost use Rattle.frontier_core.specs.LastFrontier.{IsOverInputs};
+ghost use Rattle.frontier_core.specs.LeastDifference.{AreInputs};
+ghost use Rattle.poly_terms.specs.Tables.{IsOf, monomials_in, value_in};
+ghost use Rattle.pac_writer.specs.Writing.{AreLawfulSoFar, ledger_of};
+ghost use Rattle.joint_prover.specs.Endings.{IsEnding, IsStart, IsWitness};
+
+use crate::ending::Ending;
+use column_reducer::{Reduced, plain_plan, reduce};
+use graph_core::Memory;
+use pac_writer::Lines;
+use poly_terms::Poly;
+use std::alloc::Global;
+use witness_finder::least;
+
+/// Adds all columns and eliminates the gates in the plain order; where the remainder is 0 the lines are closed.
+pub(crate) fn reduced(alloc: Global, budget: u64, lines: &mut Lines<'_>) -> Result<Ending, Memory>
+    requires { IsStart lines.old }
+    ensures { IfOk result (IsEnding lines.old.extended.graph lines.old.sides.order budget lines.new) }
+{
+    let extended = lines.extended();
+    let plan = plain_plan(alloc, extended)?;
+    match reduce(alloc, &plan, budget, lines)? {
+        Reduced::Rest { poly, id } => {
+            are_lawful(lines);
+            Ok(ended(lines, &poly, id))
+        }
+        Reduced::Passed { step, size } => Ok(Ending::Passed { step, size }),
+    }
+}
+
+// Lines are lawful so far.
+fn are_lawful(lines: &Lines<'_>)
+    ensures { AreLawfulSoFar lines.now }
+{
+    let _last = lines.last();
+}
+
+// The end: the lines are closed where the remainder is 0.
+fn ended(lines: &mut Lines<'_>, poly: &Poly, id: u64) -> Ending
+    requires of { IsOf lines.old.table poly.now }
+    requires inputs { AreInputs (inputs_in lines.old.sides) }
+    requires over { IsOverInputs (inputs_in lines.old.sides) (monomials_in lines.old.table poly.now) }
+    requires unclosed { lines.old.closing ≡ None }
+    requires closes { ((σ : Assignment) → value_in lines.old.table poly.now σ ≡ 0) →
+        Closes lines.old.extended lines.old.sides (ledger_of lines.old).live id }
+    ensures { IsWitness lines.old lines.new poly.now id result }
+{
+    match least(lines.terms(), poly, lines.operands()) {
+        Some((a, b)) => Ending::Differs { a, b },
+        None => {
+            lines.close(id);
+            Ending::Closed
+        }
+    }
+}

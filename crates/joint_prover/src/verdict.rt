@@ -1,0 +1,47 @@
+use aiger_reader::ReadFail;
+
+/// What `verify` says of a graph.
+#[derive(Debug, Drop)]
+pub enum Verdict {
+    /// The graph multiplies, and both certificates were written.
+    Proved,
+    /// The least operands on which the graph differs, its value there, and the product modulo 2 ^ the number of outputs.
+    Wrong {
+        a: u64,
+        b: u64,
+        value: u128,
+        product: u128,
+    },
+    /// A remainder passed the budget: what else was tried, and the plain order's first frontier above it.
+    Undecided {
+        tried: Vec<Tried>,
+        plain_step: u64,
+        plain_size: u64,
+    },
+    /// The graph file spells no graph: its first refusal, a `Text`, `Header` or `Graph`.
+    Graph(ReadFail),
+    /// Opening or reading the graph file failed.
+    ReadFault,
+    /// Creating or writing a certificate failed: what is there is a front part.
+    WriteFault,
+    /// The graph file is longer than its limit, and no refusal comes before that.
+    TooLong,
+    Memory,
+}
+
+/// A plan that passed the budget: a frontier of it above the budget, and how many monomials that has.
+#[derive(Debug, Drop)]
+pub struct Tried {
+    /// whether it is over the graph with an adder in place of its last one
+    pub rewritten: bool,
+    pub columns: Vec<u32>,
+    pub gates: Vec<u32>,
+    pub size: u64,
+}
+
+/// What became of putting an adder of known shape in place of the graph's last one. It isn't tried yet.
+#[derive(Clone, Copy, Debug, PartialEq, Eq)]
+pub enum Rewriting {
+    /// The graph has no last adder that was found.
+    None,
+}

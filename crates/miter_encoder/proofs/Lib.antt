@@ -1,0 +1,4 @@
+pub mod Collecting
+pub mod Appending
+pub mod GoalLists
+pub mod Meanings

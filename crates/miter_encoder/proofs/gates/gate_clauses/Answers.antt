@@ -1,0 +1,19 @@
+use Rattle.std.proofs.Common.{◌<◌, ◌^◌, List, subst, sym, arith}
+use Rattle.std.specs.Prelude.{◌↔◌, IfOk}
+use Rattle.std.specs.List.{All}
+use Rattle.graph_core.specs.declared.gate.Gate.{Gate}
+use Rattle.graph_core.specs.Graph.Assignments.{Assignment}
+use Rattle.graph_core.specs.Graph.{IsEvaluation}
+use Rattle.clause_core.specs.Clause.{Satisfies}
+use Rattle.miter_encoder.proofs.Meanings.{clauses_mean_ok}
+use Rattle.miter_encoder.proofs.gates.gate_clauses.Goals as goal
+
+pub gate_clauses_of-requires : goal.gate_clauses_of-requires
+gate_clauses_of-requires c =
+    subst (λ (gates : List Gate). All (λ x. x.v < 2 ^ 31) gates) (sym c.gates.ensures.value)
+    (λ k d h. let top = c.gates.ensures.extension.gates_in_range k d h in let small = c.max-greatest.ensures.small in omega arith)
+
+pub returns-clause-meaning : goal.returns-clause-meaning
+returns-clause-meaning c =
+    subst (λ (gates : List Gate). IfOk c.gate_clauses_of.result (λ clauses. (σ : Assignment) → Satisfies σ clauses ↔ IsEvaluation gates σ)) c.gates.ensures.value
+    (clauses_mean_ok c.gates.result.now c.gate_clauses_of.result c.gate_clauses_of.ensures)

@@ -1,0 +1,20 @@
+//! The clauses of an extended graph's gates, and the two goals of each replaced column.
+//!
+//! An assignment meets all gate clauses exactly where it is an evaluation, and all goals exactly where the old and the
+//! new output of each replaced column are equal. Each call takes memory for what it answers.
+//!
+//! *Gate clauses*, *goals*: by `specs/GateClauses.antt` of `clause_core`, where constants are dropped. A goal that a
+//! constant makes true is *met* (`specs/ColumnGoals.antt`).
+#![tactic(auto)]
+
+mod column_goals;
+mod gates;
+mod goal;
+mod literals;
+#[cfg(test)]
+mod tests;
+
+pub use column_goals::goals;
+pub use gates::{gate_clauses, gate_clauses_of};
+pub use goal::{Goal, Goals};
+pub use literals::{clause_of, signed};

@@ -1,0 +1,122 @@
+// What is taken from the front of a line.
+ghost use Rattle.std.specs.Prelude.{◌≡◌, ◌<◌, ◌≤◌, ◌^◌, ◌↔◌, ◌==◌, [], IsTrue, IfOk, OnOk, IfErr, Some, None, length, take, drop};
+ghost use Rattle.graph_core.specs.Text.Numerals.{number_at, byte_at, front_at, digits_of, behind_digits, is_digit};
+ghost use Rattle.mv_text.specs.Steps.{IsDigitsOf, IsMisfit, TakesNumber, first, begins};
+
+use mv_desk::LineFail;
+use mv_nums::read_decimal;
+use std::marker::Model;
+
+/// The bytes of a line that are still to be read.
+#[derive(Drop)]
+pub struct Scanner<'a> {
+    left: &'a [u8],
+}
+
+impl<'a> Model for Scanner<'a> {
+    ghost use Rattle.std.specs.Prelude.{List, ℕ};
+
+    ghost Value = { List ℕ };
+
+    ghost view = { λ s. s.left.now };
+}
+
+impl<'a> Scanner<'a> {
+    pub fn new(bytes: &'a [u8]) -> Scanner<'a>
+        ensures { result ≡ bytes.now }
+    {
+        Scanner { left: bytes }
+    }
+
+    pub fn is_empty(&self) -> bool
+        ensures { IsTrue result ↔ (self.now ≡ []) }
+    {
+        self.left.is_empty()
+    }
+
+    /// The next byte, which stays.
+    pub fn peek(&self) -> Option<u8>
+        ensures { result ≡ first self.now }
+    {
+        self.left.first().copied()
+    }
+
+    /// Whether this byte comes next.
+    pub fn is_at(&self, byte: u8) -> bool
+        ensures { result ≡ begins (λ b. b == byte) self.now }
+    {
+        self.peek() == Some(byte)
+    }
+
+    pub fn is_at_digit(&self) -> bool
+        ensures { result ≡ begins is_digit self.now }
+    {
+        match self.peek() {
+            Some(byte) => byte.is_ascii_digit(),
+            None => false,
+        }
+    }
+
+    /// Takes a text, where it is what comes next.
+    pub fn text(&mut self, text: &[u8]) -> Result<(), LineFail>
+        ensures ok { OnOk result (front_at text.now self.old ≡ Some self.new) }
+        ensures err { IfErr result (IsMisfit (front_at text.now self.old ≡ None)) }
+    {
+        for byte in text {
+            self.byte(*byte)?;
+        }
+        Ok(())
+    }
+
+    /// Takes a number of at most so many digits. It is nothing where it is 2^128 or more.
+    pub fn number(&mut self, most: usize) -> Result<Option<u128>, LineFail>
+        ensures ok { IfOk result
+            (TakesNumber (number_at most) (λ n. n < 2 ^ 128) self.old self.new) }
+        ensures err { IfErr result (IsMisfit (number_at most self.old ≡ None)) }
+    {
+        let digits = self.digits(most)?;
+        match read_decimal(digits) {
+            Ok(number) => Ok(Some(number)),
+            Err(_) => Ok(None),
+        }
+    }
+
+    // Takes one byte, where it is the next one.
+    fn byte(&mut self, byte: u8) -> Result<(), LineFail>
+        ensures ok { OnOk result (byte_at byte self.old ≡ Some self.new) }
+        ensures err { IfErr result (IsMisfit (byte_at byte self.old ≡ None)) }
+    {
+        if !self.is_at(byte) {
+            return Err(LineFail::Text);
+        }
+        self.left = &self.left[1..];
+        Ok(())
+    }
+
+    // Takes the digits at the front, of which there may be so many.
+    fn digits(&mut self, most: usize) -> Result<&'a [u8], LineFail>
+        ensures ok { IfOk result (λ digits. IsDigitsOf most self.old digits.now self.new) }
+        ensures err { IfErr result (IsMisfit (number_at most self.old ≡ None)) }
+    {
+        let count = digits_ahead(self.left);
+        if count == 0 || count > most {
+            return Err(LineFail::Text);
+        }
+        let (digits, left) = self.left.split_at(count);
+        self.left = left;
+        Ok(digits)
+    }
+}
+
+// How many digits there are at the front.
+fn digits_ahead(bytes: &[u8]) -> usize
+    ensures digits { take result bytes.now ≡ digits_of bytes.now }
+    ensures left { drop result bytes.now ≡ behind_digits bytes.now }
+    ensures within { result ≤ length bytes.now }
+{
+    let mut count: usize = 0;
+    while count < bytes.len() && bytes[count].is_ascii_digit() {
+        count += 1;
+    }
+    count
+}

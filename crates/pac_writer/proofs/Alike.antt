@@ -1,0 +1,23 @@
+-- Lines that are alike are lawful together, one after the other.
+use Rattle.std.specs.Prelude.{◌≡◌, ℕ, List, [], ◌∷◌}
+use Rattle.std.specs.declared.option.Option.{Option}
+use Rattle.std.specs.declared.option.Option.TheVariants.{None, Some}
+use Rattle.graph_core.specs.Algebra.{LiveLine, Ledger, Line, AreLawfulLines, after, after_all, line_of}
+use Rattle.graph_core.specs.Algebra.Agreement.{Agree}
+use Rattle.graph_core.proofs.OfAlgebra.CallerLemmas.{after_agrees, agree_trans, lawful_agrees, likeness_is_kept}
+use Rattle.graph_core.specs.Algebra.Likeness.{AreAlike}
+
+-- each line of one list is alike one of the other
+abbrev pub AreAllAlike : ℕ → List Line → List Line → Type 0
+AreAllAlike m [] ys = ys ≡ []
+AreAllAlike m (x ∷ xs) [] = ⊥
+AreAllAlike m (x ∷ xs) (y ∷ ys) = AreAlike m x y × AreAllAlike m xs ys
+
+-- over ledgers that agree
+pub alike_lawful : (m : ℕ) (l k : Ledger) (xs ys : List Line) → Agree l k → AreAllAlike m xs ys → AreLawfulLines m l ys → AreLawfulLines m k xs × Agree (after_all m l ys) (after_all m k xs)
+alike_lawful m l k [] ys same alike h = (tt, rw alike same)
+alike_lawful m l k (x ∷ xs) [] same alike h = absurd alike
+alike_lawful m l k (x ∷ xs) (y ∷ ys) same alike h =
+    let next = agree_trans (after m l y) (after m l x) (after m k x) (likeness_is_kept.after m l x y alike.0) (after_agrees m l k same x) in
+    let rest = alike_lawful m (after m l y) (after m k x) xs ys next alike.1 h.1 in
+    ((lawful_agrees m l k same x (likeness_is_kept.lawful m l x y alike.0 h.0), rest.0), rest.1)

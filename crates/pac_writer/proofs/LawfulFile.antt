@@ -1,0 +1,102 @@
+-- The text of a certificate is a lawful algebra file.
+use Rattle.std.specs.Prelude.{◌≡◌, ℕ, ◌<◌, ◌^◌, List, [], ◌∷◌, ◌++◌, codes, decimal, IsSomeAnd}
+use Rattle.std.specs.declared.option.Option.{Option}
+use Rattle.std.specs.declared.option.Option.TheVariants.{None, Some}
+use Rattle.std.specs.List.{AllByRecursion, cons_option}
+use Rattle.std.proofs.Common.{refl, sym, ap, ap₂, subst, ◌∙◌, arith, append_assoc}
+use Rattle.std.proofs.lemmas.List.Elements.{All-from_recursion, recursion_from_All}
+use Rattle.graph_core.specs.Graph.Operands.{Sides}
+use Rattle.graph_core.specs.Graph.Extended.{Extended}
+use Rattle.graph_core.specs.Text.{newline}
+use Rattle.graph_core.specs.Algebra.{Closes, Line, Ledger, after_all, axioms}
+use Rattle.graph_core.specs.Algebra as algebra
+use Rattle.graph_core.specs.Algebra.Text.{AreLineTexts, IsCloseText, IsId, IsLawfulAlgebraFile, IsLineInRange, IsLineText}
+use Rattle.graph_core.proofs.OfAlgebra.CallerLemmas.{agree_refl, closes_agrees}
+use Rattle.mv_nums.specs.Residue.{IsWidth}
+use Rattle.poly_terms.specs.Tables.{Table, modulus}
+use Rattle.poly_text.specs.declared.line.PacLine.{PacLine}
+use Rattle.poly_text.specs.declared.line.PacLine.TheVariants as line
+use Rattle.graph_core.specs.Algebra.Likeness.{AreAlike}
+use Rattle.poly_text.specs.LineTexts.{IsTextOf}
+use Rattle.poly_text.specs.Lines.{told}
+use Rattle.poly_text.specs.WrittenLines.{line_text}
+use Rattle.poly_text.proofs.WrittenAgain.{written_lines_are_read}
+use Rattle.pac_writer.specs.Writing.{Made, lines_in, made_of}
+use Rattle.pac_writer.specs.Certificates.{certificate_text, closing_text, lines_text}
+use Rattle.pac_writer.specs.Kept.{AreKept, GoesOn, IsKept}
+use Rattle.pac_writer.proofs.Alike.{AreAllAlike, alike_lawful}
+use Rattle.pac_writer.proofs.Combining.{live_is_id}
+use Rattle.pac_writer.proofs.Texts.{kept_texts, written_texts}
+
+-- A line of the definitions that a text says, alike to one that was told.
+pub record SaysLine (max m : ℕ) (text : List ℕ) (y : Option Line) : Type 0 where
+  pub line : Line
+  pub text_is : IsLineText text line
+  pub in_range : IsLineInRange max line
+  pub alike : IsSomeAnd y (AreAlike m line)
+
+says_line : (t : Table) (max : ℕ) (x : PacLine) → GoesOn x → IsTextOf t max (line_text t x) x → SaysLine max (modulus t) (line_text t x) (told t x)
+says_line t max (line.Sum id i j poly) h s = record { line = s.0; text_is = s.1; in_range = s.2; alike = s.3.alike }
+says_line t max (line.Product id i factor poly) h s = record { line = s.0; text_is = s.1; in_range = s.2; alike = s.3.alike }
+says_line t max (line.Combination id parts poly) h s = record { line = s.0; text_is = s.1; in_range = s.2; alike = s.3.alike }
+says_line t max (line.Drop id) h s = record { line = s.0; text_is = s.1; in_range = s.2; alike = s.3.alike }
+says_line t max (line.Close id) h s = absurd h
+
+-- what is written for a line that is kept says this line
+kept_says : (t : Table) (max : ℕ) (x : PacLine) → IsWidth t.width → max < 2 ^ 32 → IsKept max t x → SaysLine max (modulus t) (line_text t x) (told t x)
+kept_says t max x width small h = says_line t max x h.goes_on (written_lines_are_read t max x width small h.«of» h.writable h.up_to)
+
+-- Lines that a text says, and then these bytes, alike to those that were told.
+pub record SaysLines (max m : ℕ) (text after : List ℕ) (ys : List Line) : Type 0 where
+  pub lines : List Line
+  pub texts : AreLineTexts text lines after
+  pub in_range : AllByRecursion (IsLineInRange max) lines
+  pub alike : AreAllAlike m lines ys
+
+more_says : (max m : ℕ) (text rest after : List ℕ) (y : Option Line) (ys : List Line) → SaysLine max m text y → SaysLines max m (rest ++ after) after ys →
+    SaysLines max m (((text ++ newline ∷ []) ++ rest) ++ after) after (cons_option y ys)
+more_says max m text rest after None ys one more = absurd one.alike
+more_says max m text rest after (Some y) ys one more = record {
+  lines = one.line ∷ more.lines;
+  texts = (text, rest ++ after, one.text_is, more.texts, append_assoc (text ++ newline ∷ []) rest after ∙ append_assoc text (newline ∷ []) (rest ++ after));
+  in_range = (one.in_range, more.in_range);
+  alike = (one.alike, more.alike);
+}
+
+kept_say : (t : Table) (max : ℕ) (xs : List PacLine) (after : List ℕ) → IsWidth t.width → max < 2 ^ 32 → AllByRecursion (IsKept max t) xs →
+    SaysLines max (modulus t) (written_texts t xs ++ after) after (lines_in t xs)
+kept_say t max [] after width small h = record { lines = []; texts = refl; in_range = tt; alike = refl }
+kept_say t max (x ∷ xs) after width small h =
+    more_says max (modulus t) (line_text t x) (written_texts t xs) after (told t x) (lines_in t xs) (kept_says t max x width small h.0) (kept_say t max xs after width small h.1)
+
+-- ---- the file
+
+closing_says : (t : Table) (max id : ℕ) → IsWidth t.width → max < 2 ^ 32 → IsId id → IsCloseText (codes "q " ++ decimal id ++ codes ";") id
+closing_says t max id width small is = (written_lines_are_read t max (line.Close id) width small tt is tt).0
+
+closed_file : (e : Extended) (s : Sides) (t : Table) (xs : List PacLine) (last id : ℕ) → AreKept e s t xs last (Some id) →
+    IsLawfulAlgebraFile e s ((codes "pac 1" ++ newline ∷ []) ++ written_texts t xs ++ closing_text (Some id))
+closed_file e s t xs last id h =
+    let small : e.max < 2 ^ 32 = (let low = h.small in omega arith) in
+    let closes : Closes e s (after_all (algebra.modulus e) (axioms e) (lines_in t xs)).live id = h.so_far.closes in
+    let is = live_is_id (made_of e s t xs last (Some id)) id h.so_far closes.0 in
+    let close = closing_says t e.max id h.width small is in
+    let says = kept_say t e.max xs (closing_text (Some id)) h.width small (recursion_from_All (IsKept e.max t) xs h.kept) in
+    let alike : AreAllAlike (algebra.modulus e) says.lines (lines_in t xs) = subst (λ m. AreAllAlike m says.lines (lines_in t xs)) h.so_far.same_modulus says.alike in
+    let both = alike_lawful (algebra.modulus e) (axioms e) (axioms e) says.lines (lines_in t xs) (agree_refl (axioms e)) alike h.so_far.lawful in
+    record {
+      lines = says.lines;
+      closing = id;
+      text = (written_texts t xs ++ closing_text (Some id), closing_text (Some id), close.0, close.1, says.texts, ap (λ b. b ++ newline ∷ []) close.2, refl);
+      in_range = All-from_recursion (IsLineInRange e.max) says.lines says.in_range;
+      closing_in_range = is;
+      lawful = (both.0, closes_agrees e s (after_all (algebra.modulus e) (axioms e) (lines_in t xs)) (after_all (algebra.modulus e) (axioms e) says.lines) both.1 id closes);
+    }
+
+pub certificate_is_lawful : (old : Made) (e : Extended) (s : Sides) (t : Table) (xs : List PacLine) (last id : ℕ) (closing : Option ℕ) →
+    made_of e s t xs last closing ≡ old → closing ≡ Some id → AreKept e s t xs last closing → IsLawfulAlgebraFile old.extended old.sides (certificate_text old)
+certificate_is_lawful old e s t xs last id closing view closed h =
+    let texts : written_texts t xs ++ closing_text (Some id) ≡ lines_text (algebra.modulus e) (lines_in t xs) ++ closing_text closing =
+    ap₂ (λ a b. a ++ closing_text b) (kept_texts (made_of e s t xs last closing) e s t xs last closing refl h) (sym closed) in
+    subst (λ (o : Made). IsLawfulAlgebraFile o.extended o.sides (certificate_text o)) view
+    (subst (λ b. IsLawfulAlgebraFile e s ((codes "pac 1" ++ newline ∷ []) ++ b)) texts (closed_file e s t xs last id (subst (AreKept e s t xs last) closed h)))

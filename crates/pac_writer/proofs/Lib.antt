@@ -1,0 +1,10 @@
+pub mod FirstLines
+pub mod Following
+pub mod Growing
+pub mod Combining
+pub mod Wrote
+pub mod Texts
+pub mod Alike
+pub mod LawfulFile
+pub mod CallerLemmas
+pub mod OneBit

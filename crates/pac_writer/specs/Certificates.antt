@@ -1,0 +1,38 @@
+-- The text of a certificate, whose numbers are decimal numerals without leading zeros.
+use Rattle.std.specs.Prelude.{ℕ, Bool, true, false, List, [], ◌∷◌, ◌++◌, codes, decimal}
+use Rattle.std.specs.declared.option.Option.{Option}
+use Rattle.std.specs.declared.option.Option.TheVariants.{None, Some}
+use Rattle.graph_core.specs.Text.{newline}
+use Rattle.graph_core.specs.Algebra.{Line, Sum, Product, Combination, Delete, Part, modulus}
+use Rattle.poly_text.specs.WrittenLines.{joint_text, sum_text}
+use Rattle.pac_writer.specs.Writing.{Made}
+
+-- a line's id times a polynomial, modulo m
+abbrev pub part_text : ℕ → Part → List ℕ
+part_text m part = decimal part.id ++ codes " * (" ++ sum_text m part.factor ++ codes ")"
+
+-- a plus stands before each part but the first one
+abbrev pub parts_text : ℕ → Bool → List Part → List ℕ
+parts_text m first [] = []
+parts_text m first (part ∷ parts) = joint_text first ++ part_text m part ++ parts_text m false parts
+
+-- a line without its line feed
+abbrev pub line_text : ℕ → Line → List ℕ
+line_text m (Sum id i j p) = decimal id ++ codes " + " ++ decimal i ++ codes ", " ++ decimal j ++ codes ", " ++ sum_text m p ++ codes ";"
+line_text m (Product id i q p) = decimal id ++ codes " * " ++ decimal i ++ codes ", " ++ sum_text m q ++ codes ", " ++ sum_text m p ++ codes ";"
+line_text m (Combination id parts p) = decimal id ++ codes " % " ++ parts_text m true parts ++ codes ", " ++ sum_text m p ++ codes ";"
+line_text m (Delete id) = decimal id ++ codes " d;"
+
+-- lines, each with its line feed
+abbrev pub lines_text : ℕ → List Line → List ℕ
+lines_text m [] = []
+lines_text m (x ∷ xs) = (line_text m x ++ newline ∷ []) ++ lines_text m xs
+
+-- the closing line, where there is one, with its line feed
+abbrev pub closing_text : Option ℕ → List ℕ
+closing_text None = []
+closing_text (Some id) = (codes "q " ++ decimal id ++ codes ";") ++ newline ∷ []
+
+-- the header, the lines, and the closing line
+abbrev pub certificate_text : Made → List ℕ
+certificate_text l = (codes "pac 1" ++ newline ∷ []) ++ lines_text (modulus l.extended) l.lines ++ closing_text l.closing

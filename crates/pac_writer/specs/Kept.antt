@@ -1,0 +1,46 @@
+-- What is known of the lines as code keeps them.
+use Rattle.std.specs.Prelude.{◌≡◌, ℕ, ◌<◌, ◌^◌, List}
+use Rattle.std.specs.List.{All}
+use Rattle.std.specs.declared.option.Option.{Option}
+use Rattle.graph_core.specs.Graph.Operands.{Sides}
+use Rattle.graph_core.specs.Graph.Extended.{Extended}
+use Rattle.graph_core.specs.Algebra.{Line, IsLawfulLine, after, modulus}
+use Rattle.mv_nums.specs.Residue.{IsWidth}
+use Rattle.poly_terms.specs.Tables.{Table}
+use Rattle.poly_text.specs.declared.line.PacLine.{PacLine}
+use Rattle.poly_text.specs.declared.line.PacLine.TheVariants.{Sum, Product, Combination, Drop, Close}
+use Rattle.poly_text.specs.Lines.{AreOf}
+use Rattle.poly_text.specs.WrittenLaws.{AreUpTo}
+use Rattle.poly_text.specs.WrittenLines.{IsWritable}
+use Rattle.pac_writer.specs.Spare.{IsSpareLine}
+use Rattle.pac_writer.specs.Writing.{Made, AreLawfulSoFar, ledger_of, made_of}
+
+-- no closing line
+abbrev pub GoesOn : PacLine → Type 0
+GoesOn (Sum id i j poly) = Unit {0}
+GoesOn (Product id i factor poly) = Unit {0}
+GoesOn (Combination id parts poly) = Unit {0}
+GoesOn (Drop id) = Unit {0}
+GoesOn (Close id) = ⊥
+
+-- A line that can be written, and is read as the same: its polynomials are ones of the table, over variables up to a greatest one,
+-- its ids are in range, and a combination has a part.
+pub record IsKept (max : ℕ) (t : Table) (line : PacLine) : Type 0 where
+  pub goes_on : GoesOn line
+  pub of : AreOf t line
+  pub writable : IsWritable line
+  pub up_to : AreUpTo max t line
+
+-- A line that may stand behind the others: it is lawful and spare, and this is the greatest id in use then.
+pub record CanFollow (l : Made) (last : ℕ) (x : Line) : Type 0 where
+  pub lawful : IsLawfulLine (modulus l.extended) (ledger_of l) x
+  pub spare : IsSpareLine (modulus l.extended) x
+  pub greatest : (after (modulus l.extended) (ledger_of l) x).last ≡ last
+  pub room : last < 2 ^ 48
+
+-- The lines that are kept are lawful so far, and each can be written.
+pub record AreKept (e : Extended) (s : Sides) (t : Table) (lines : List PacLine) (last : ℕ) (closing : Option ℕ) : Type 0 where
+  pub small : e.max < 2 ^ 31
+  pub width : IsWidth t.width
+  pub kept : All (IsKept e.max t) lines
+  pub so_far : AreLawfulSoFar (made_of e s t lines last closing)

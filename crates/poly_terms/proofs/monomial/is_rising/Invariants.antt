@@ -1,0 +1,6 @@
+use Rattle.std.proofs.Common.{drop}
+use Rattle.graph_core.specs.Algebra.NormalForm.{AreRising}
+use Rattle.poly_terms.proofs.monomial.is_rising.Given as goal
+
+abbrev pub invariant-loop-v : goal.invariant-loop-v
+invariant-loop-v l = AreRising l.last (drop l.v-index l.variables) → AreRising 0 l.variables

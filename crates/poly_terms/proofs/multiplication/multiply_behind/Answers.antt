@@ -1,0 +1,42 @@
+use Rattle.std.proofs.Common.{ℕ, ◌*◌, ◌^◌, ◌<◌, ◌+◌, [], get_or, length, take, refl, mul-zero}
+use Rattle.graph_core.specs.Graph.Assignments.{Assignment}
+use Rattle.graph_core.specs.Algebra.Polynomials.{product}
+use Rattle.poly_terms.specs.Monomials.{total_in}
+use Rattle.poly_terms.specs.Laws.{grows_itself, grows_on, in_grown}
+use Rattle.poly_terms.proofs.Adding.{adds_none, adds_on, all_at, one_more_product}
+use Rattle.poly_terms.proofs.multiplication.multiply_behind.Goals as goal
+
+pub push_product-requires-clause-entry : goal.push_product-requires-clause-entry
+push_product-requires-clause-entry c =
+    let old = c.args.table.now in
+    let e = c.entry-item.result in
+    in_grown old c.loop-entry.table e.0 c.loop-entry.invariant.grows
+    (all_at (λ x. x.0 < length old) c.args.entries.now c.loop-entry.entry-index e c.loop-entry-test.true c.entry-item.is c.requires.entries)
+
+pub loop-entry-init : goal.loop-entry-init
+loop-entry-init c =
+    let old = c.args.table.now in
+    let out = c.reserve.new.self.items in
+    record {
+      grows = grows_itself old;
+      adds = adds_none (2 ^ c.args.width) old old out out (λ σ. c.args.coefficient * product σ c.args.monomial.now.items * total_in old σ (take 0 c.args.entries.now)) (grows_itself old) refl
+          (λ σ. mul-zero (c.args.coefficient * product σ c.args.monomial.now.items));
+    }
+
+pub loop-entry-preserved : goal.loop-entry-preserved
+loop-entry-preserved c =
+    let old = c.args.table.now in
+    let mid = c.loop-entry.table in
+    let new = c.push_product.new.table in
+    let e = c.entry-item.result in
+    let es = c.args.entries.now in
+    let i = c.loop-entry.entry-index in
+    let at = c.loop-entry.invariant in
+    let a : Assignment → ℕ = λ σ. c.args.coefficient * product σ c.args.monomial.now.items in
+    record {
+      grows = grows_on old mid new at.grows c.push_product.ensures.grows;
+      adds = adds_on (2 ^ c.args.width) old mid new c.reserve.new.self.items c.loop-entry.out.items c.push_product.new.out.items
+          (λ σ. a σ * total_in old σ (take i es)) (λ σ. a σ * (e.1 * product σ (get_or mid e.0 []))) (λ σ. a σ * total_in old σ (take (i + 1) es))
+          at.adds c.in_ok-push_product.ensures.adds
+          (λ σ. one_more_product old mid (a σ) σ es i e at.grows c.requires.entries c.loop-entry-test.true c.entry-item.is);
+    }

@@ -1,0 +1,30 @@
+use Rattle.std.proofs.Common.{◌+◌, ◌==◌, ◌∙◌, sym, subst, drop, map, get_or}
+use Rattle.poly_terms.specs.Tables.{modulus, monomials_in}
+use Rattle.poly_text.specs.WrittenLines.{none, poly_text, signed, term_text, terms_text}
+use Rattle.mv_text.proofs.CallerLemmas.{PutsUpTo, Puts-is, up_to_none, up_to_more}
+use Rattle.poly_text.proofs.WrittenTerms.{next_term, no_term, some_terms}
+use Rattle.poly_text.proofs.poly_writing.put_poly.Goals as goal
+
+pub returns-then-size-eq0-clause-puts : goal.returns-then-size-eq0-clause-puts
+returns-then-size-eq0-clause-puts g c = Puts-is (sym (no_term c.args.terms.now c.args.poly.now (sym c.size-size.ensures.monomials ∙ c.if-size-eq0.true))) c.put.ensures.puts
+
+pub loop-i-init : goal.loop-i-init
+loop-i-init g c =
+    let t = c.args.terms.now in
+    let p = c.args.poly.now in
+    let v = g.D.Desk.seen c.args.desk.now in
+    record {
+      «open» = c.requires.open;
+      puts = subst (λ rest. PutsUpTo (poly_text t p) rest c.args.output.now c.args.output.now v v) (some_terms t p (λ e. c.if-size-eq0.false (c.size-size.ensures.monomials ∙ e))) (up_to_none (poly_text t p) c.args.output.now v);
+    }
+
+pub loop-i-preserved : goal.loop-i-preserved
+loop-i-preserved g c =
+    let i = c.loop-i.i in
+    let t = c.args.terms.now in
+    let ts = monomials_in t c.args.poly.now in
+    record {
+      «open» = c.put_term.ensures.open;
+      puts = up_to_more (term_text (i == 0) (signed (modulus t) (get_or ts i none))) (terms_text (i + 1 == 0) (map (signed (modulus t)) (drop (i + 1) ts)))
+          (next_term (modulus t) ts i (rw (← c.size-size.ensures.monomials) c.loop-i-test.true)) c.loop-i.invariant.puts c.put_term.ensures.puts;
+    }

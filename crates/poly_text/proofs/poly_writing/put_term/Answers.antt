@@ -1,0 +1,31 @@
+use Rattle.std.proofs.Common.{◌≡◌, ◌^◌, ◌*◌, ◌==◌, ◌∙◌, ap, ap₂, get_or, nat_lt}
+use Rattle.poly_terms.specs.Tables.{modulus, monomials_in}
+use Rattle.poly_text.specs.WrittenLines.{lesser_of, none, product_text, sign_text}
+use Rattle.mv_text.proofs.CallerLemmas.{Puts-is, Puts-then}
+use Rattle.poly_text.proofs.WrittenTerms.{normal_here, coefficient_here, variables_here}
+use Rattle.poly_text.proofs.poly_writing.put_term.Goals as goal
+
+pub signed-negative-requires-clause-some : goal.signed-negative-requires-clause-some
+signed-negative-requires-clause-some g c =
+    let t = c.args.terms.now in
+    let p = c.args.poly.now in
+    rw (coefficient_here t p c.requires.of c.args.i c.requires.place c.coefficient.result c.coefficient.ensures) (normal_here t p c.requires.of c.args.i c.requires.place).1
+
+pub signed-negative-requires-clause-below : goal.signed-negative-requires-clause-below
+signed-negative-requires-clause-below g c =
+    let t = c.args.terms.now in
+    let p = c.args.poly.now in
+    rw (coefficient_here t p c.requires.of c.args.i c.requires.place c.coefficient.result c.coefficient.ensures, c.width.ensures.width) (normal_here t p c.requires.of c.args.i c.requires.place).2
+
+pub returns-clause-puts : goal.returns-clause-puts
+returns-clause-puts g c =
+    let t = c.args.terms.now in
+    let p = c.args.poly.now in
+    let term = get_or (monomials_in t p) c.args.i none in
+    let coefficient = coefficient_here t p c.requires.of c.args.i c.requires.place c.coefficient.result c.coefficient.ensures in
+    let variables = variables_here t p c.requires.of c.args.i c.requires.place c.vars.result.now c.vars.ensures in
+    let m : 2 ^ c.width.result ≡ modulus t = ap (λ w. 2 ^ w) c.width.ensures.width in
+    let sign = c.signed-negative.ensures.sign ∙ ap₂ (λ k n. nat_lt k (2 * n)) m coefficient in
+    let lesser = c.signed-negative.ensures.lesser ∙ ap₂ lesser_of m coefficient in
+    Puts-then (Puts-is (c.sign.ensures.text ∙ ap (sign_text (c.args.i == 0)) sign) c.put.ensures.puts)
+    (Puts-is (ap₂ product_text lesser variables) c.put_product.ensures.puts)

@@ -1,0 +1,13 @@
+// What the reading of lines needs to know.
+ghost use Rattle.std.specs.Prelude.{◌≤◌};
+
+use std::alloc::Global;
+
+// How the lines of a certificate are read: over the variables 1 to `max`, modulo 2^width.
+#[derive(Clone, Copy)]
+pub(crate) struct PacReader {
+    pub(crate) alloc: Global,
+    pub(crate) width: u32,
+    pub(crate) max: u32,
+    ghost width_in_range: { (1 ≤ width) × (width ≤ 128) },
+}

@@ -1,0 +1,100 @@
+// Polynomials, as they are read.
+ghost use Rattle.std.specs.Prelude.{◌≡◌, ◌^◌, None, IfOk, IfErr};
+ghost use Rattle.graph_core.specs.Text.Readers.{many_at};
+ghost use Rattle.graph_core.specs.Algebra.Reading.{is_sign, first_term_at, signed_term_at, poly_at};
+ghost use Rattle.graph_core.specs.Algebra.Text.{IsInRange};
+ghost use Rattle.poly_terms.specs.Tables.{Extends, modulus};
+ghost use Rattle.mv_text.specs.Steps.{IsMisfit, Takes, begins};
+ghost use Rattle.poly_text.specs.Values.{AreTermsOf, TakesPoly, TakesTerm, TakesTerms};
+
+use crate::pac_reader::PacReader;
+use mv_desk::LineFail;
+use mv_text::{Scanner, pushed};
+use poly_terms::{Poly, Terms};
+
+impl PacReader {
+    // A polynomial.
+    #[tactic(auto, using(poly_terms::specs::Laws::extends_itself))]
+    pub(crate) fn poly(
+        &self,
+        scanner: &mut Scanner<'_>,
+        terms: &mut Terms,
+    ) -> Result<Option<Poly>, LineFail>
+        requires { modulus terms.old ≡ 2 ^ self.now.width }
+        ensures ok { IfOk result
+            (TakesPoly poly_at self.now.max terms.new scanner.old scanner.new) }
+        ensures err { IfErr result (IsMisfit (poly_at scanner.old ≡ None)) }
+        ensures extends { Extends terms.old terms.new }
+    {
+        let Some(given) = self.all_terms(scanner)? else {
+            return Ok(None);
+        };
+        match terms.make(&given) {
+            Ok(poly) => Ok(Some(poly)),
+            Err(_) => Err(LineFail::Memory),
+        }
+    }
+
+    // The terms of a polynomial.
+    fn all_terms(
+        &self,
+        scanner: &mut Scanner<'_>,
+    ) -> Result<Option<Vec<(u128, Vec<u32>)>>, LineFail>
+        ensures ok { IfOk result (
+            Takes poly_at (IsInRange self.now.max) (AreTermsOf (2 ^ self.now.width)) scanner.old scanner.new) }
+        ensures err { IfErr result (IsMisfit (poly_at scanner.old ≡ None)) }
+    {
+        let first = self.first_term(scanner)?;
+        let terms = pushed(Some(Vec::new(self.alloc)), first)?;
+        let terms = self.later_terms(scanner, terms)?;
+        Ok(terms)
+    }
+
+    // The first term, which has no plus.
+    fn first_term(&self, scanner: &mut Scanner<'_>) -> Result<Option<(u128, Vec<u32>)>, LineFail>
+        ensures ok { IfOk result
+            (TakesTerm first_term_at self.now.max self.now.width scanner.old scanner.new) }
+        ensures err { IfErr result (IsMisfit (first_term_at scanner.old ≡ None)) }
+    {
+        let negative = scanner.is_at(b'-');
+        if negative {
+            scanner.text(b"-")?;
+        }
+        self.term(scanner, negative)
+    }
+
+    // Terms with their signs, put behind other terms.
+    fn later_terms(
+        &self,
+        scanner: &mut Scanner<'_>,
+        before: Option<Vec<(u128, Vec<u32>)>>,
+    ) -> Result<Option<Vec<(u128, Vec<u32>)>>, LineFail>
+        ensures ok { IfOk result (
+            TakesTerms (many_at is_sign signed_term_at) before self.now.max self.now.width scanner.old scanner.new) }
+        ensures err { IfErr result (IsMisfit (many_at is_sign signed_term_at scanner.old ≡ None)) }
+    {
+        let mut terms = before;
+        while is_at_sign(scanner) {
+            let term = self.later_term(scanner)?;
+            terms = pushed(terms, term)?;
+        }
+        Ok(terms)
+    }
+
+    // A term with its sign.
+    fn later_term(&self, scanner: &mut Scanner<'_>) -> Result<Option<(u128, Vec<u32>)>, LineFail>
+        ensures ok { IfOk result
+            (TakesTerm signed_term_at self.now.max self.now.width scanner.old scanner.new) }
+        ensures err { IfErr result (IsMisfit (signed_term_at scanner.old ≡ None)) }
+    {
+        let negative = scanner.is_at(b'-');
+        scanner.text(if negative { b"-" } else { b"+" })?;
+        self.term(scanner, negative)
+    }
+}
+
+fn is_at_sign(scanner: &Scanner<'_>) -> bool
+    ensures { result ≡ begins is_sign scanner.now }
+{
+    scanner.is_at(b'+') || scanner.is_at(b'-')
+}

@@ -1,0 +1,122 @@
+// Terms, as they are read.
+ghost use Rattle.std.specs.Prelude.{◌≡◌, ◌+◌, ◌%◌, ◌^◌, true, false, None, IfOk, IfErr};
+ghost use Rattle.graph_core.specs.Text.Numerals.{number_at};
+ghost use Rattle.graph_core.specs.Text.Readers.{behind_at};
+ghost use Rattle.graph_core.specs.Algebra.Reading.{factors_at, coefficient_at, product_at, term_at};
+ghost use Rattle.mv_text.specs.Steps.{IsMisfit, TakesNumber};
+ghost use Rattle.poly_text.specs.Values.{IsVariable, Signs, TakesFactors, TakesTerm};
+
+use crate::numbers::{coefficient, variable};
+use crate::pac_reader::PacReader;
+use mv_desk::LineFail;
+use mv_nums::Residue;
+use mv_text::{Scanner, pushed};
+
+impl PacReader {
+    ghost use Rattle.std.specs.Prelude.{codes};
+
+    // A term behind its sign.
+    pub(crate) fn term(
+        &self,
+        scanner: &mut Scanner<'_>,
+        negative: bool,
+    ) -> Result<Option<(u128, Vec<u32>)>, LineFail>
+        ensures ok { IfOk result
+            (TakesTerm (term_at negative) self.now.max self.now.width scanner.old scanner.new) }
+        ensures err { IfErr result (IsMisfit (term_at negative scanner.old ≡ None)) }
+    {
+        if scanner.is_at_digit() {
+            self.with_coefficient(scanner, negative)
+        } else {
+            self.product(scanner, negative)
+        }
+    }
+
+    // A coefficient, and variables behind stars.
+    fn with_coefficient(
+        &self,
+        scanner: &mut Scanner<'_>,
+        negative: bool,
+    ) -> Result<Option<(u128, Vec<u32>)>, LineFail>
+        ensures ok { IfOk result
+            (TakesTerm (coefficient_at negative) self.now.max self.now.width scanner.old
+            scanner.new) }
+        ensures err { IfErr result (IsMisfit (coefficient_at negative scanner.old ≡ None)) }
+    {
+        let coefficient = coefficient(scanner)?;
+        let variables = self.factors(scanner, Some(Vec::new(self.alloc)))?;
+        Ok(self.signed_term(negative, coefficient, variables))
+    }
+
+    // A variable, and variables behind stars.
+    fn product(
+        &self,
+        scanner: &mut Scanner<'_>,
+        negative: bool,
+    ) -> Result<Option<(u128, Vec<u32>)>, LineFail>
+        ensures ok { IfOk result
+            (TakesTerm (product_at negative) self.now.max self.now.width scanner.old scanner.new) }
+        ensures err { IfErr result (IsMisfit (product_at negative scanner.old ≡ None)) }
+    {
+        scanner.text(b"x")?;
+        let first = variable(scanner, self.max)?;
+        let first = pushed(Some(Vec::new(self.alloc)), first)?;
+        let variables = self.factors(scanner, first)?;
+        Ok(self.signed_term(negative, Some(1), variables))
+    }
+
+    // The variables behind stars, put behind other variables.
+    fn factors(
+        &self,
+        scanner: &mut Scanner<'_>,
+        before: Option<Vec<u32>>,
+    ) -> Result<Option<Vec<u32>>, LineFail>
+        ensures ok { IfOk result (TakesFactors before self.now.max scanner.old scanner.new) }
+        ensures err { IfErr result (IsMisfit (factors_at scanner.old ≡ None)) }
+    {
+        let mut variables = before;
+        while scanner.is_at(b'*') {
+            let variable = self.factor(scanner)?;
+            variables = pushed(variables, variable)?;
+        }
+        Ok(variables)
+    }
+
+    // A variable behind a star.
+    fn factor(&self, scanner: &mut Scanner<'_>) -> Result<Option<u32>, LineFail>
+        ensures ok { IfOk result
+            (TakesNumber (behind_at (codes "*x") (number_at 10)) (IsVariable self.now.max)
+            scanner.old scanner.new) }
+        ensures err { IfErr result
+            (IsMisfit (behind_at (codes "*x") (number_at 10) scanner.old ≡ None)) }
+    {
+        scanner.text(b"*x")?;
+        variable(scanner, self.max)
+    }
+
+    // A coefficient with its sign and variables, where both are in range.
+    fn signed_term(
+        &self,
+        negative: bool,
+        coefficient: Option<u128>,
+        variables: Option<Vec<u32>>,
+    ) -> Option<(u128, Vec<u32>)>
+        ensures { Signs (2 ^ self.now.width) negative coefficient variables result }
+    {
+        let coefficient = coefficient?;
+        let variables = variables?;
+        Some((self.signed(negative, coefficient), variables))
+    }
+
+    // A coefficient with its sign, modulo 2^width.
+    fn signed(&self, negative: bool, coefficient: u128) -> u128
+        ensures plus { negative ≡ false → result ≡ coefficient }
+        ensures minus { negative ≡ true → (result + coefficient) % 2 ^ self.now.width ≡ 0 }
+    {
+        if negative {
+            Residue::new(self.width, coefficient).neg().value()
+        } else {
+            coefficient
+        }
+    }
+}

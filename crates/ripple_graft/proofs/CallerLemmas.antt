@@ -1,0 +1,2 @@
+-- What crates above may cite of extended graphs.
+pub use Rattle.ripple_graft.proofs.NewOutputs.{outputs_are_new}

@@ -1,0 +1,17 @@
+pub mod Lists
+pub mod Codes
+pub mod ChainSteps
+pub mod Hanging
+pub mod HungViews
+pub mod TrailSteps
+pub mod VisitSteps
+pub mod Visiting
+pub mod Findings
+pub mod Standings
+pub mod Grounds
+pub mod Adding
+pub mod Removing
+pub mod FoundSets
+pub mod Chains
+pub mod CallerLemmas
+pub mod RowLemmas

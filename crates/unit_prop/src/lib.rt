@@ -1,0 +1,24 @@
+//! Unit propagation over a changing list of clauses, by watched literals.
+//!
+//! `propagate` answers a conflict exactly where a chain of live clauses leads to one; else every consequence stands.
+//! After `new` and `add` nothing here takes memory.
+//!
+//! *Live*: added and not removed. *Stands*: assumed or propagated (`specs/Standing.antt`). *Chain*: each clause but the
+//! last is unit under what stands and adds its literal; the last is false (`specs/UnitPropagation.antt` of
+//! `clause_core`).
+#![tactic(auto)]
+
+mod assumed;
+mod ground;
+mod literal;
+mod propagator;
+mod reference;
+#[cfg(test)]
+mod tests;
+mod trail;
+mod visits;
+mod watches;
+
+pub use assumed::Assumed;
+pub use propagator::Propagator;
+pub use reference::{Mark, Ref};

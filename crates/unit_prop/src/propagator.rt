@@ -1,0 +1,268 @@
+// Clauses, and what stands over them.
+ghost use Rattle.std.specs.Prelude.{◌≡◌, ◌↔◌, ◌<◌, ◌≤◌, ◌^◌, [], length, ℤ, IfOk, IfSome, OnErr, IsNone, IsSome, IsTrue, Some};
+ghost use Rattle.std.specs.List.{Any, Contains};
+ghost use Rattle.clause_core.specs.Clause.{SameSet};
+ghost use Rattle.unit_prop.specs.Trail.{IsWithin, HasValue};
+ghost use Rattle.unit_prop.specs.Standing.{
+  Standing,
+  IsSound,
+  IsFree,
+  StandsAlone,
+  IsMark,
+  Propagates,
+  IsFound,
+  Assumes,
+  Adds,
+  Removes,
+  IsReasonOf,
+  HasSetAt,
+  clause_at,
+  live_of,
+  standing_with,
+  back_at,
+};
+
+use crate::assumed::Assumed;
+use crate::ground::{forget, len_of, make_room, stand, stand_all};
+use crate::reference::{Mark, Ref};
+use crate::trail::Trail;
+use crate::visits::visit_all;
+use crate::watches::{NONE, Watches};
+use clause_core::Clause;
+use graph_core::Memory;
+use std::alloc::Global;
+use std::marker::Model;
+
+/// Clauses, and what stands by assumption and by unit propagation over them.
+#[derive(Drop)]
+pub struct Propagator {
+    alloc: Global,
+    /// The clauses by reference; None for one that was removed.
+    clauses: Vec<Option<Clause>>,
+    /// Those of fewer than two literals, which nothing watches.
+    shorts: Vec<u32>,
+    /// Two watches for each other one.
+    watches: Watches,
+    trail: Trail,
+    /// How many literals of the trail have been visited.
+    head: u32,
+    /// How many literals of unit clauses it begins with.
+    units: u32,
+    /// A clause that is false under these.
+    refuted: Option<u32>,
+}
+
+impl Model for Propagator {
+    ghost use Rattle.unit_prop.specs.Standing.{Standing};
+    ghost use Rattle.unit_prop.specs.Ground.{IsPropagator, standing_of};
+
+    ghost Value = { Standing };
+
+    ghost view = { λ s. standing_of s.clauses.items s.trail s.units };
+
+    ghost invariant = { λ s. IsPropagator s.clauses.items s.shorts.items s.watches s.trail s.head s.units s.refuted };
+}
+
+impl Propagator {
+    /// No clauses, over the variables from 1 to the greatest one.
+    pub fn new(alloc: Global, greatest: u32) -> Result<Propagator, Memory>
+        requires { greatest < 2 ^ 31 }
+        ensures { IfOk result (λ p. p ≡ record {
+          clauses = [];
+          trail = record { greatest = greatest; literals = []; reasons = [] };
+          units = 0;
+        }) }
+    {
+        Ok(Propagator {
+            alloc,
+            clauses: Vec::new(alloc),
+            shorts: Vec::new(alloc),
+            watches: Watches::new(alloc, greatest)?,
+            trail: Trail::new(alloc, greatest)?,
+            head: 0,
+            units: 0,
+            refuted: None,
+        })
+    }
+
+    /// One more clause. Only the literals of unit clauses stand after it.
+    pub fn add(&mut self, clause: &Clause) -> Result<Ref, Memory>
+        requires within { (l : ℤ) → Contains clause.now l → IsWithin self.old.trail.greatest l }
+        ensures ok { IfOk result (λ r. Adds self.old clause.now r self.new) }
+        ensures err { OnErr result (self.new ≡ self.old) }
+    {
+        let own = clause.copy(self.alloc)?;
+        make_room(&mut self.clauses, &mut self.shorts, &mut self.watches)?;
+        let units = self.units;
+        self.trail.truncate(units);
+        self.head = 0;
+        let place = self.clauses.len() as u32;
+        let _ = self.clauses.push(Some(own));
+        let lits = clause.lits();
+        if lits.len() < 2 {
+            let _ = self.shorts.push(place);
+            stand(&self.clauses, &mut self.trail, &mut self.refuted, place);
+            self.units = self.trail.len();
+            return Ok(Ref { place });
+        }
+        self.watches.hang(2 * place, lits[0]);
+        self.watches.hang(2 * place + 1, lits[1]);
+        Ok(Ref { place })
+    }
+
+    /// One clause less. Only the literals of unit clauses stand after it.
+    pub fn remove(&mut self, reference: Ref)
+        requires live { IsSome (clause_at self.old.clauses reference) }
+        ensures { Removes self.old reference self.new }
+    {
+        let place = reference.place;
+        let len = len_of(&self.clauses, place);
+        self.head = 0;
+        if len < 2 {
+            self.clauses[place as usize] = None;
+            forget(&mut self.shorts, place);
+            self.trail.truncate(0);
+            self.refuted = None;
+            stand_all(
+                &self.clauses,
+                &self.shorts,
+                &mut self.trail,
+                &mut self.refuted,
+            );
+            self.units = self.trail.len();
+            return;
+        }
+        let units = self.units;
+        self.trail.truncate(units);
+        self.watches.unlink(2 * place);
+        self.watches.unlink(2 * place + 1);
+        self.clauses[place as usize] = None;
+    }
+
+    /// Lets each consequence of what stands stand, or gives a clause that is false.
+    pub fn propagate(&mut self) -> Option<Ref>
+        ensures grows { Propagates self.old self.new }
+        ensures found { IsFound self.old self.new result }
+        ensures sound { IsSound self.new }
+    {
+        if let Some(place) = self.refuted {
+            return Some(Ref { place });
+        }
+        let conflict = visit_all(
+            &self.clauses,
+            &mut self.watches,
+            &mut self.trail,
+            &mut self.head,
+        );
+        if let Some(place) = conflict {
+            return Some(Ref { place });
+        }
+        None
+    }
+
+    /// Only `Fresh` changes anything.
+    pub fn assume(&mut self, lit: i32) -> Assumed
+        requires { IsWithin self.old.trail.greatest lit }
+        ensures stands { Assumes self.old lit result self.new }
+        ensures sound { IsSound self.old }
+    {
+        match self.trail.value(lit) {
+            Some(true) => Assumed::Known,
+            Some(false) => Assumed::Opposed,
+            None => {
+                let head = self.head;
+                self.trail.push(lit, NONE, head);
+                Assumed::Fresh
+            }
+        }
+    }
+
+    /// How many literals stand.
+    pub fn mark(&self) -> Mark
+        ensures count { result ≡ length self.now.trail.literals }
+        ensures mark { IsMark self.now result }
+        ensures sound { IsSound self.now }
+    {
+        let _units = self.units;
+        Mark {
+            count: self.trail.len(),
+        }
+    }
+
+    /// What stood at the mark stands, and nothing else.
+    pub fn back_to(&mut self, mark: Mark)
+        requires { IsMark self.old mark }
+        ensures { self.new ≡ back_at self.old mark }
+    {
+        if mark.count < self.trail.len() {
+            self.head = self.trail.visited(mark.count);
+            self.trail.truncate(mark.count);
+        }
+    }
+
+    /// Whether a literal is true or false, or neither.
+    pub fn value(&self, lit: i32) -> Option<bool>
+        requires { IsWithin self.now.trail.greatest lit }
+        ensures { HasValue self.now.trail.literals lit result }
+    {
+        self.trail.value(lit)
+    }
+
+    /// What stands, in the order in which it came.
+    pub fn trail(&self) -> &[i32]
+        ensures value { result.now ≡ self.now.trail.literals }
+        ensures sound { IsSound self.now }
+    {
+        self.trail.lits()
+    }
+
+    /// The clause that led to a variable; None where it was assumed or is open.
+    pub fn reason(&self, var: u32) -> Option<Ref>
+        requires some { 0 < var }
+        requires within { var ≤ self.now.trail.greatest }
+        ensures { IsReasonOf self.now.trail var result }
+    {
+        if self.trail.is_open(var) {
+            return None;
+        }
+        let place = self.trail.reason(var);
+        if place == NONE {
+            return None;
+        }
+        Some(Ref { place })
+    }
+
+    /// The first live clause with the set, if there is one.
+    pub fn find(&self, clause: &Clause) -> Option<Ref>
+        ensures some { IfSome result (HasSetAt self.now.clauses clause.now) }
+        ensures none { IsNone result → ¬ (Any (λ d. SameSet d clause.now) (live_of self.now.clauses)) }
+    {
+        for place in 0..self.clauses.len() as u32 {
+            if is_at(&self.clauses, place, clause) {
+                return Some(Ref { place });
+            }
+        }
+        None
+    }
+
+    /// A clause of the propagator.
+    pub fn clause(&self, reference: Ref) -> &Clause
+        requires { IsSome (clause_at self.now.clauses reference) }
+        ensures { clause_at self.now.clauses reference ≡ Some result.now }
+    {
+        match &self.clauses[reference.place as usize] {
+            Some(clause) => clause,
+            None => unreachable!(),
+        }
+    }
+}
+
+fn is_at(clauses: &[Option<Clause>], place: u32, clause: &Clause) -> bool
+    requires { place < length clauses.now }
+    ensures { IsTrue result ↔ HasSetAt clauses.now clause.now place }
+{
+    match &clauses[place as usize] {
+        None => false,
+        Some(other) => other.is_subset(clause) && clause.is_subset(other),
+    }
+}

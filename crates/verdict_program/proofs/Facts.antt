@@ -1,0 +1,57 @@
+-- What follows from a command's answer, by its status.
+use Rattle.std.proofs.Common.{◌≡◌, ℕ, List, Some, None}
+use Rattle.std.specs.Prelude.{[], ⊤, IsSome, Option, option_map, unwrap_or}
+use Rattle.command_line.specs.declared.command.Command.{Command}
+use Rattle.command_line.specs.declared.command.Command.TheVariants.{Check, Eval, Make, Verify}
+use Rattle.graph_maker.specs.Made.{made}
+use Rattle.joint_prover.specs.Verdicts.{HasGraph, HoldsPair, IsFirstAbove, IsWrong}
+use Rattle.mv_desk.specs.View.{View, Rose, bytes_under}
+use Rattle.verdict_program.specs.declared.answer.Answer.{Answer}
+use Rattle.verdict_program.specs.declared.evaluated.Evaluated.TheVariants.{TooGreat}
+use Rattle.verdict_program.specs.Answer.{status_of}
+use Rattle.verdict_program.specs.Evaluation.{IsValueDue}
+use Rattle.verdict_program.specs.Headline.{IsMultiplier}
+use Rattle.verdict_program.specs.Making.{text_for}
+use Rattle.verdict_program.specs.Runs.{EndsAsDue, IsDueOf, IsTold, TellsNames, proving_files, standard}
+use Rattle.verdict_program.proofs.Told.{none_told}
+
+-- what status 0 means
+abbrev pub Succeeds : Command → View → View → Type 0
+Succeeds (Check files order) a b = IsMultiplier a files.graph order
+Succeeds (Verify files order budget conflicts) a b = IsTold a → TellsNames a → HoldsPair order (proving_files files) b standard.graph
+Succeeds (Eval graph x y order) a b = ⊤
+Succeeds (Make kind bits adder out) a b = IsTold a → TellsNames a → b.held out ≡ Some (Some (text_for out (made kind bits adder)))
+
+-- where statuses 1, 2 and 5 come
+abbrev pub IsWrongFor : Command → View → Type 0
+IsWrongFor (Verify files order budget conflicts) a =
+    HasGraph standard.graph (bytes_under a files.graph) (λ g. (x : ℕ) × (y : ℕ) × (value : ℕ) × (product : ℕ) × IsWrong g order x y value product)
+IsWrongFor command a = ⊥
+
+abbrev pub IsTooGreatFor : Command → View → Type 0
+IsTooGreatFor (Eval graph x y order) a = IsValueDue standard.graph (bytes_under a graph) (record { a = x; b = y; order = order }) TooGreat
+IsTooGreatFor command a = ⊥
+
+abbrev pub IsUndecidedFor : Command → View → Type 0
+IsUndecidedFor (Verify files order budget conflicts) a =
+    HasGraph standard.graph (bytes_under a files.graph) (λ g. (step : ℕ) × (size : ℕ) × IsFirstAbove g order budget step size)
+IsUndecidedFor command a = ⊥
+
+-- One command's answer: what each status says, and that the answer which is due is given.
+pub record Facts (command : Command) (a b : View) (given : Answer) : Type 0 where
+  pub zero : status_of given ≡ 0 → Succeeds command a b
+  pub one : status_of given ≡ 1 → IsWrongFor command a
+  pub two : status_of given ≡ 2 → IsTooGreatFor command a
+  pub five : status_of given ≡ 5 → IsUndecidedFor command a
+  pub six : status_of given ≡ 6 → Rose a.read_faults b.read_faults
+  pub seven : status_of given ≡ 7 → Rose a.write_faults b.write_faults
+  pub due : IsTold a → (due : Answer) → IsDueOf command a due → EndsAsDue (status_of due) (status_of given)
+
+-- ---- what is told
+
+pub told_bytes : (a : View) → IsTold a → (name : List ℕ) → IsSome (bytes_under a name)
+told_bytes a told name = go (a.held name) (told name)
+  where
+    go : (file : Option (Option (List ℕ))) → IsSome file → IsSome (option_map (λ bytes. unwrap_or bytes []) file)
+    go None h = absurd (none_told (Option (List ℕ)) h)
+    go (Some file) h = h

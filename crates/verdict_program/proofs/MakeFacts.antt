@@ -1,0 +1,49 @@
+-- What follows from an answer of `make`.
+use Rattle.std.proofs.Common.{◌≡◌, ℕ, List, Some, refl, subst, sym, arith, inl, inr}
+use Rattle.command_line.specs.declared.command.Command.TheVariants.{Make}
+use Rattle.mv_desk.specs.View.{View, Rose}
+use Rattle.verdict_program.specs.declared.answer.Answer.TheVariants as answer
+use Rattle.verdict_program.specs.declared.made.Made.{Made}
+use Rattle.verdict_program.specs.declared.made.Made.TheVariants as made
+use Rattle.verdict_program.specs.declared.plan.Plan.{Plan}
+use Rattle.verdict_program.specs.Answer.{status_of, status_of_make}
+use Rattle.verdict_program.specs.Making.{IsMade, graph_of, text_for}
+use Rattle.verdict_program.specs.Runs.{EndsAsDue, IsTold, TellsNames}
+use Rattle.verdict_program.proofs.Facts.{Facts}
+use Rattle.verdict_program.proofs.MakingLemmas.{written_is_held}
+
+module _ (plan : Plan) (out : List ℕ) (a b : View) where
+  abbrev Is : Made → Type 0
+  Is outcome = IsMade (text_for out (graph_of plan)) out a b outcome
+
+  zero : (outcome : Made) → Is outcome → status_of_make outcome ≡ 0 → IsTold a → TellsNames a → b.held out ≡ Some (Some (text_for out (graph_of plan)))
+  zero made.Written h e told names = written_is_held out (text_for out (graph_of plan)) a b told names h
+  zero made.WriteFault h e told names = absurd (omega arith)
+  zero made.Memory h e told names = absurd (omega arith)
+
+  seven : (outcome : Made) → Is outcome → status_of_make outcome ≡ 7 → Rose a.write_faults b.write_faults
+  seven made.Written h e = absurd (omega arith)
+  seven made.WriteFault h e = h.0
+  seven made.Memory h e = absurd (omega arith)
+
+  -- no other status has a cause to be told
+  others : (outcome : Made) → (status_of_make outcome ≡ 1 → ⊥) × (status_of_make outcome ≡ 2 → ⊥) × (status_of_make outcome ≡ 5 → ⊥) × (status_of_make outcome ≡ 6 → ⊥)
+  others made.Written = ((λ e. absurd (omega arith)), (λ e. absurd (omega arith)), (λ e. absurd (omega arith)), (λ e. absurd (omega arith)))
+  others made.WriteFault = ((λ e. absurd (omega arith)), (λ e. absurd (omega arith)), (λ e. absurd (omega arith)), (λ e. absurd (omega arith)))
+  others made.Memory = ((λ e. absurd (omega arith)), (λ e. absurd (omega arith)), (λ e. absurd (omega arith)), (λ e. absurd (omega arith)))
+
+  given_as_due : (given : Made) → EndsAsDue 0 (status_of_make given)
+  given_as_due made.Written = inl refl
+  given_as_due made.WriteFault = inr (inr (inl refl))
+  given_as_due made.Memory = inr (inr (inr refl))
+
+  pub make_facts : (outcome : Made) → Is outcome → Facts (Make plan.kind plan.bits plan.adder out) a b (answer.Made outcome)
+  make_facts outcome h = let none = others outcome in record {
+    zero = λ e. zero outcome h e;
+    one = λ e. absurd (none.0 e);
+    two = λ e. absurd (none.1 e);
+    five = λ e. absurd (none.2 e);
+    six = λ e. absurd (none.3 e);
+    seven = λ e. seven outcome h e;
+    due = λ told due k. subst (λ d. EndsAsDue (status_of d) (status_of_make outcome)) (sym k) (given_as_due outcome);
+  }

@@ -1,0 +1,101 @@
+-- What follows from an answer of `verify`.
+use Rattle.std.proofs.Common.{◌≡◌, ℕ, ap, subst, sym, arith, inl, inr}
+use Rattle.command_line.specs.Asked.{AreApart}
+use Rattle.command_line.specs.declared.command.Command.TheVariants.{Verify}
+use Rattle.command_line.specs.declared.files.Files as named
+use Rattle.graph_core.specs.declared.order.Order.{Order}
+use Rattle.joint_prover.specs.Verdicts.{GivesDue, HasGraph, HoldsPair, IsFirstAbove, IsVerdict, IsWrong}
+use Rattle.joint_prover.specs.declared.verdict.Verdict.{Verdict}
+use Rattle.joint_prover.specs.declared.verdict.Verdict.TheVariants as verdict
+use Rattle.joint_prover.proofs.CallerLemmas.{proved_pairs_are_held, verdicts_are_exact}
+use Rattle.mv_desk.specs.View.{View, Rose, bytes_under}
+use Rattle.verdict_program.specs.declared.answer.Answer.TheVariants as answer
+use Rattle.verdict_program.specs.Answer.{status_of, status_of_verify}
+use Rattle.verdict_program.specs.Runs.{EndsAsDue, IsTold, TellsNames, proving_files, standard}
+use Rattle.verdict_program.proofs.Facts.{Facts}
+
+module _ (files : named.Files) (order : Order) (budget conflicts : ℕ) (a b : View) (apart : AreApart files) where
+  abbrev Is : Verdict → Type 0
+  Is outcome = IsVerdict standard.graph order budget (proving_files files) a b outcome
+
+  zero : (outcome : Verdict) → Is outcome → status_of_verify outcome ≡ 0 → IsTold a → TellsNames a → HoldsPair order (proving_files files) b standard.graph
+  zero verdict.Proved h e told names =
+      proved_pairs_are_held standard.graph order budget (proving_files files) a b (record { held = told; names = names })
+      (record { clauses = apart.clauses; algebra = apart.algebra; certificates = apart.certificates }) h
+  zero (verdict.Wrong x y value product) h e told names = absurd (omega arith)
+  zero (verdict.Undecided tried step size) h e told names = absurd (omega arith)
+  zero (verdict.Graph why) h e told names = absurd (omega arith)
+  zero verdict.ReadFault h e told names = absurd (omega arith)
+  zero verdict.WriteFault h e told names = absurd (omega arith)
+  zero verdict.TooLong h e told names = absurd (omega arith)
+  zero verdict.Memory h e told names = absurd (omega arith)
+
+  one : (outcome : Verdict) → Is outcome → status_of_verify outcome ≡ 1 →
+      HasGraph standard.graph (bytes_under a files.graph) (λ g. (x : ℕ) × (y : ℕ) × (value : ℕ) × (product : ℕ) × IsWrong g order x y value product)
+  one verdict.Proved h e = absurd (omega arith)
+  one (verdict.Wrong x y value product) h e = let r = h.0 in (r.0, r.1, (x, y, value, product, r.2))
+  one (verdict.Undecided tried step size) h e = absurd (omega arith)
+  one (verdict.Graph why) h e = absurd (omega arith)
+  one verdict.ReadFault h e = absurd (omega arith)
+  one verdict.WriteFault h e = absurd (omega arith)
+  one verdict.TooLong h e = absurd (omega arith)
+  one verdict.Memory h e = absurd (omega arith)
+
+  five : (outcome : Verdict) → Is outcome → status_of_verify outcome ≡ 5 →
+      HasGraph standard.graph (bytes_under a files.graph) (λ g. (step : ℕ) × (size : ℕ) × IsFirstAbove g order budget step size)
+  five verdict.Proved h e = absurd (omega arith)
+  five (verdict.Wrong x y value product) h e = absurd (omega arith)
+  five (verdict.Undecided tried step size) h e = let r = h.1 in (r.0, r.1, (step, size, r.2))
+  five (verdict.Graph why) h e = absurd (omega arith)
+  five verdict.ReadFault h e = absurd (omega arith)
+  five verdict.WriteFault h e = absurd (omega arith)
+  five verdict.TooLong h e = absurd (omega arith)
+  five verdict.Memory h e = absurd (omega arith)
+
+  six : (outcome : Verdict) → Is outcome → status_of_verify outcome ≡ 6 → Rose a.read_faults b.read_faults
+  six verdict.Proved h e = absurd (omega arith)
+  six (verdict.Wrong x y value product) h e = absurd (omega arith)
+  six (verdict.Undecided tried step size) h e = absurd (omega arith)
+  six (verdict.Graph why) h e = absurd (omega arith)
+  six verdict.ReadFault h e = h.0
+  six verdict.WriteFault h e = absurd (omega arith)
+  six verdict.TooLong h e = absurd (omega arith)
+  six verdict.Memory h e = absurd (omega arith)
+
+  seven : (outcome : Verdict) → Is outcome → status_of_verify outcome ≡ 7 → Rose a.write_faults b.write_faults
+  seven verdict.Proved h e = absurd (omega arith)
+  seven (verdict.Wrong x y value product) h e = absurd (omega arith)
+  seven (verdict.Undecided tried step size) h e = absurd (omega arith)
+  seven (verdict.Graph why) h e = absurd (omega arith)
+  seven verdict.ReadFault h e = absurd (omega arith)
+  seven verdict.WriteFault h e = h.0
+  seven verdict.TooLong h e = absurd (omega arith)
+  seven verdict.Memory h e = absurd (omega arith)
+
+  two : (outcome : Verdict) → status_of_verify outcome ≡ 2 → ⊥
+  two verdict.Proved e = absurd (omega arith)
+  two (verdict.Wrong x y value product) e = absurd (omega arith)
+  two (verdict.Undecided tried step size) e = absurd (omega arith)
+  two (verdict.Graph why) e = absurd (omega arith)
+  two verdict.ReadFault e = absurd (omega arith)
+  two verdict.WriteFault e = absurd (omega arith)
+  two verdict.TooLong e = absurd (omega arith)
+  two verdict.Memory e = absurd (omega arith)
+
+  as_due : (due given : Verdict) → GivesDue due given → EndsAsDue (status_of_verify due) (status_of_verify given)
+  as_due due given (inl same) = inl (ap status_of_verify same)
+  as_due due given (inr (inl fault)) = inr (inl (ap status_of_verify fault))
+  as_due due given (inr (inr (inl fault))) = inr (inr (inl (ap status_of_verify fault)))
+  as_due due given (inr (inr (inr none))) = inr (inr (inr (ap status_of_verify none)))
+
+  pub verify_facts : (outcome : Verdict) → Is outcome → Facts (Verify files order budget conflicts) a b (answer.Verified outcome)
+  verify_facts outcome h = record {
+    zero = λ e. zero outcome h e;
+    one = λ e. one outcome h e;
+    two = λ e. absurd (two outcome e);
+    five = λ e. five outcome h e;
+    six = λ e. six outcome h e;
+    seven = λ e. seven outcome h e;
+    due = λ told due k. subst (λ d. EndsAsDue (status_of d) (status_of_verify outcome)) (sym k.1)
+        (let file = k.2 in as_due k.0 outcome (verdicts_are_exact standard.graph order budget (proving_files files) a b file.0 k.0 outcome file.1 file.2 h));
+  }

@@ -1,0 +1,139 @@
+// What `verify` says, and what it writes.
+use crate::tests::{
+    NO_CUT, ONE_BIT_ALGEBRA, ONE_BIT_GRAPH, TWO_BIT_ARRAY, USAGE, desk, expect, expect_over,
+};
+use std::alloc::Global;
+use std::process::Abort;
+use std::str;
+use std::test::Fail;
+
+/// The certificates `x` and `y` of the graph `g`.
+const VERIFY: [&str; 7] = ["mulver", "verify", "g", "--clauses", "x", "--algebra", "y"];
+
+/// The lowest three outputs of the two-bit array.
+const TWO_BIT_FRONT: &[u8] =
+    b"aag 14 4 0 3 10\n2\n4\n6\n8\n10\n22\n28\n10 6 2\n12 6 4\n14 8 2\n16 8 4\n18 14 12\n20 15 13\n22 21 19\n24 18 16\n26 19 17\n28 27 25\n";
+
+/// A graph, more words, the status and the report.
+const UNPROVED: [(&str, &[u8], &[&str], u8, &str); 5] = [
+    (
+        "the second output is true",
+        b"aag 3 2 0 2 1\n2\n4\n6\n1\n6 4 2\n",
+        &[],
+        1,
+        "wrong a=0 b=0 value=2 product=0\n",
+    ),
+    (
+        "one pair only",
+        b"aag 14 4 0 4 10\n2\n4\n6\n8\n10\n22\n28\n0\n10 6 2\n12 6 4\n14 8 2\n16 8 4\n18 14 12\n20 15 13\n22 21 19\n24 18 16\n26 19 17\n28 27 25\n",
+        &[],
+        1,
+        "wrong a=3 b=3 value=1 product=9\n",
+    ),
+    (
+        "the first of several pairs with two ones",
+        TWO_BIT_ARRAY,
+        &["--inputs", "interleaved"],
+        1,
+        "wrong a=1 b=1 value=0 product=1\n",
+    ),
+    (
+        "the product modulo 8",
+        b"aag 14 4 0 3 10\n2\n4\n6\n8\n10\n22\n0\n10 6 2\n12 6 4\n14 8 2\n16 8 4\n18 14 12\n20 15 13\n22 21 19\n24 18 16\n26 19 17\n28 27 25\n",
+        &[],
+        1,
+        "wrong a=2 b=2 value=0 product=4\n",
+    ),
+    (
+        "four outputs and four products",
+        TWO_BIT_ARRAY,
+        &["--budget", "1"],
+        5,
+        "undecided plain step 0 monomials 8\n",
+    ),
+];
+
+/// No certificate is created.
+fn expect_unproved(
+    rt: &impl Abort,
+    alloc: Global,
+    graph: &[u8],
+    more: &[&str],
+    status: u8,
+    report: &str,
+    shows: &str,
+) -> Result<(), Fail> {
+    let mut desk = desk(alloc, (graph, NO_CUT, ONE_BIT_ALGEBRA), &[], &[])?;
+    let mut words = VERIFY.to_vec(alloc)?;
+    words.extend_from_slice(more)?;
+    expect(rt, alloc, &mut desk, &words, status, report, shows)?;
+    assert!(rt; desk.bytes("x").is_none(), "{shows}");
+    assert!(rt; desk.bytes("y").is_none(), "{shows}");
+    Ok(())
+}
+
+#[test]
+fn graphs_that_are_not_proved_get_no_certificates(rt: HostRuntime) -> Result<(), Fail> {
+    for &(shows, graph, more, status, report) in &UNPROVED {
+        expect_unproved(&rt, rt.alloc(), graph, more, status, report, shows)?;
+    }
+    Ok(())
+}
+
+const PROVED: [(&str, &[u8]); 3] = [
+    ("the one-bit multiplier", ONE_BIT_GRAPH),
+    ("the two-bit array", TWO_BIT_ARRAY),
+    ("its lowest three outputs", TWO_BIT_FRONT),
+];
+
+/// What is proved, `check` accepts.
+fn expect_proved(rt: &impl Abort, alloc: Global, graph: &[u8], shows: &str) -> Result<(), Fail> {
+    let mut desk = desk(alloc, (graph, NO_CUT, ONE_BIT_ALGEBRA), &[], &[])?;
+    expect(rt, alloc, &mut desk, &VERIFY, 0, "proved\n", shows)?;
+    assert!(rt; desk.bytes("x") == Some(NO_CUT.as_bytes()), "{shows}");
+    let algebra = match desk.bytes("y") {
+        Some(bytes) => str::from_utf8(bytes).unwrap_or(""),
+        None => "",
+    };
+    let files = (graph, NO_CUT, algebra);
+    let check = ["mulver", "check", "g", "c", "a"];
+    expect_over(rt, alloc, files, &check, 0, "accepted\n", shows)
+}
+
+#[test]
+fn what_is_proved_is_accepted(rt: HostRuntime) -> Result<(), Fail> {
+    for &(shows, graph) in &PROVED {
+        expect_proved(&rt, rt.alloc(), graph, shows)?;
+    }
+    Ok(())
+}
+
+#[test]
+fn the_clause_file_is_whole_before_the_algebra_file_is_created(
+    rt: HostRuntime,
+) -> Result<(), Fail> {
+    let alloc = rt.alloc();
+    let mut desk = desk(alloc, (TWO_BIT_ARRAY, NO_CUT, ONE_BIT_ALGEBRA), &[], &[6])?;
+    expect(
+        &rt,
+        alloc,
+        &mut desk,
+        &VERIFY,
+        7,
+        "write fault\n",
+        "the sixth call",
+    )?;
+    assert!(rt; desk.bytes("x") == Some(NO_CUT.as_bytes()));
+    assert!(rt; desk.bytes("y").is_none());
+    Ok(())
+}
+
+#[test]
+fn equal_names_and_no_budget_are_usage(rt: HostRuntime) -> Result<(), Fail> {
+    let alloc = rt.alloc();
+    let mut desk = desk(alloc, (TWO_BIT_ARRAY, NO_CUT, ONE_BIT_ALGEBRA), &[], &[])?;
+    let equal = ["mulver", "verify", "g", "--clauses", "x", "--algebra", "x"];
+    expect(&rt, alloc, &mut desk, &equal, 2, USAGE, "equal names")?;
+    assert!(rt; desk.bytes("x").is_none());
+    Ok(())
+}

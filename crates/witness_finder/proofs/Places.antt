@@ -1,0 +1,84 @@
+-- Which literal stands at a position of the inputs.
+use Rattle.std.specs.Prelude.{◌≡◌, ◌≢◌, ℕ, zero, suc, ◌+◌, ◌-◌, ◌*◌, ◌/◌, ◌%◌, ◌<◌, ◌≤◌, Some, false, List, [], ◌∷◌, ◌++◌, length, get_or, slice_get}
+use Rattle.std.proofs.Common.{refl, ap, subst, ◌∙◌, arith, length-append}
+use Rattle.std.proofs.lemmas.List.{get_or-map, length-map}
+use Rattle.std.proofs.lemmas.Option.{none-some, get_or_from_slice_get, slice_get_within}
+use Rattle.graph_core.specs.declared.Lit.{Lit}
+use Rattle.graph_core.specs.declared.Order.{Order}
+use Rattle.graph_core.specs.declared.order.Order.TheVariants.{Separate, Interleaved}
+use Rattle.graph_core.specs.Graph.Literals.{variable_of}
+use Rattle.graph_core.specs.Graph.Assignments.{literal}
+use Rattle.graph_core.specs.Graph.Operands.{Sides, AreSides, alternate, in_order, inputs_in}
+use Rattle.graph_core.proofs.OfGraphs.CallerLemmas.{literal-input}
+use Rattle.frontier_core.specs.Sets.{has}
+use Rattle.frontier_core.specs.LeastDifference.{AreInputs}
+use Rattle.witness_finder.specs.Positions.{bits_at}
+
+length-alternate : (xs ys : List Lit) → length xs ≡ length ys → length (alternate xs ys) ≡ 2 * length xs
+length-alternate [] [] e = refl
+length-alternate [] (y ∷ ys) e = absurd (omega arith)
+length-alternate (x ∷ xs) [] e = absurd (omega arith)
+length-alternate (x ∷ xs) (y ∷ ys) e = omega (arith, length-alternate xs ys (omega arith))
+
+pub length-inputs_in : (s : Sides) → AreSides s → length (inputs_in s) ≡ 2 * length s.a
+length-inputs_in s h = go s.order
+  where
+    go : (order : Order) → length (in_order order s.a s.b) ≡ 2 * length s.a
+    go Separate = let same = h.equal in omega (arith, length-append s.a s.b)
+    go Interleaved = length-alternate s.a s.b h.equal
+
+at_front : (xs ys : List Lit) (i : ℕ) (l : Lit) → slice_get xs i ≡ Some l → slice_get (xs ++ ys) i ≡ Some l
+at_front [] ys i l e = absurd (none-some l e)
+at_front (x ∷ xs) ys zero l e = e
+at_front (x ∷ xs) ys (suc i) l e = at_front xs ys i l e
+
+at_back : (xs ys : List Lit) (i j : ℕ) (l : Lit) → i ≡ length xs + j → slice_get ys j ≡ Some l → slice_get (xs ++ ys) i ≡ Some l
+at_back [] ys i j l e h = subst (λ k. slice_get ys k ≡ Some l) (omega arith) h
+at_back (x ∷ xs) ys zero j l e h = absurd (omega arith)
+at_back (x ∷ xs) ys (suc i) j l e h = at_back xs ys i j l (omega arith) h
+
+at_even : (xs ys : List Lit) (i k : ℕ) (l : Lit) → length xs ≡ length ys → i ≡ 2 * k → slice_get xs k ≡ Some l → slice_get (alternate xs ys) i ≡ Some l
+at_even [] ys i k l same e h = absurd (none-some l h)
+at_even (x ∷ xs) [] i k l same e h = absurd (omega arith)
+at_even (x ∷ xs) (y ∷ ys) zero zero l same e h = h
+at_even (x ∷ xs) (y ∷ ys) zero (suc k) l same e h = absurd (omega arith)
+at_even (x ∷ xs) (y ∷ ys) (suc zero) k l same e h = absurd (omega arith)
+at_even (x ∷ xs) (y ∷ ys) (suc (suc i)) zero l same e h = absurd (omega arith)
+at_even (x ∷ xs) (y ∷ ys) (suc (suc i)) (suc k) l same e h = at_even xs ys i k l (omega arith) (omega arith) h
+
+at_odd : (xs ys : List Lit) (i k : ℕ) (l : Lit) → length xs ≡ length ys → i ≡ 2 * k + 1 → slice_get ys k ≡ Some l → slice_get (alternate xs ys) i ≡ Some l
+at_odd xs [] i k l same e h = absurd (none-some l h)
+at_odd [] (y ∷ ys) i k l same e h = absurd (omega arith)
+at_odd (x ∷ xs) (y ∷ ys) zero k l same e h = absurd (omega arith)
+at_odd (x ∷ xs) (y ∷ ys) (suc zero) zero l same e h = h
+at_odd (x ∷ xs) (y ∷ ys) (suc zero) (suc k) l same e h = absurd (omega arith)
+at_odd (x ∷ xs) (y ∷ ys) (suc (suc i)) zero l same e h = absurd (omega arith)
+at_odd (x ∷ xs) (y ∷ ys) (suc (suc i)) (suc k) l same e h = at_odd xs ys i k l (omega arith) (omega arith) h
+
+module _ (s : Sides) (i : ℕ) (l : Lit) where
+  ordered : (order : Order) → s.order ≡ order → slice_get (in_order order s.a s.b) i ≡ Some l → slice_get (inputs_in s) i ≡ Some l
+  ordered order e h = ap (λ o. slice_get (in_order o s.a s.b) i) e ∙ h
+
+  pub separate_a : s.order ≡ Separate → slice_get s.a i ≡ Some l → slice_get (inputs_in s) i ≡ Some l
+  separate_a e h = ordered Separate e (at_front s.a s.b i l h)
+
+  pub separate_b : s.order ≡ Separate → length s.a ≤ i → slice_get s.b (i - length s.a) ≡ Some l → slice_get (inputs_in s) i ≡ Some l
+  separate_b e low h = ordered Separate e (at_back s.a s.b i (i - length s.a) l (omega arith) h)
+
+  pub interleaved_a : s.order ≡ Interleaved → AreSides s → i % 2 ≡ 0 → slice_get s.a (i / 2) ≡ Some l → slice_get (inputs_in s) i ≡ Some l
+  interleaved_a e sides even h = ordered Interleaved e (at_even s.a s.b i (i / 2) l sides.equal (omega arith) h)
+
+  pub interleaved_b : s.order ≡ Interleaved → AreSides s → i % 2 ≢ 0 → slice_get s.b (i / 2) ≡ Some l → slice_get (inputs_in s) i ≡ Some l
+  interleaved_b e sides odd h = ordered Interleaved e (at_odd s.a s.b i (i / 2) l sides.equal (omega arith) h)
+
+-- The input at a position is true exactly if its variable is among the true ones.
+pub bit_is : (s : Sides) (vs : List ℕ) (i : ℕ) (l : Lit) → AreInputs (inputs_in s) → slice_get (inputs_in s) i ≡ Some l → get_or (bits_at s vs) i false ≡ has vs (variable_of l)
+bit_is s vs i l inputs is =
+    let ls = inputs_in s in
+    let low = slice_get_within ls i l is in
+    let here = get_or_from_slice_get ls i l l is in
+    get_or-map (literal (has vs)) ls i l false low ∙ ap (literal (has vs)) here ∙
+    literal-input (has vs) l (subst (λ x. (x.0 % 2 ≡ 0) × (0 < variable_of x)) here (inputs.even i l low))
+
+pub length-bits_at : (s : Sides) (vs : List ℕ) → AreSides s → length (bits_at s vs) ≡ 2 * length s.a
+length-bits_at s vs h = length-map (inputs_in s) (literal (has vs)) ∙ length-inputs_in s h
