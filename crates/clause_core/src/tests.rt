@@ -1,3 +1,4 @@
+// Clauses and lists of them, over small constants.
 use crate::{Clause, ClauseList};
 use std::test::Fail;
 

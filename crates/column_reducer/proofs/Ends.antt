@@ -21,7 +21,8 @@ use Rattle.frontier_core.specs.Pending.{gap}
 use Rattle.frontier_core.proofs.Added.{total_ends}
 use Rattle.column_reducer.specs.declared.gathered.Gathered.{Gathered}
 use Rattle.column_reducer.specs.declared.walk.Walk.{Walk}
-use Rattle.column_reducer.specs.Gathering.{AreTotal, HasEnded, IsEnded, IsWalked, told_parts}
+use Rattle.pac_writer.specs.Writing.{parts_in}
+use Rattle.column_reducer.specs.Gathering.{AreTotal, HasEnded, IsEnded, IsWalked}
 use Rattle.column_reducer.specs.Reducing.{HasSizeAt, IsPassed, IsPlanned, Planned}
 
 -- what was taken after so many steps
@@ -69,7 +70,7 @@ total_at_end : (e : Extended) (s : Sides) (t : Table) (f : Taken) (rest : Sum) (
 total_at_end e s t f rest g same all h =
     let m = algebra.modulus e in
     let alone : (σ : Assignment) → (value_in t g.total σ + 0) % m ≡ gap e s f.added (value_in t rest) σ = λ σ.
-    sym (ap (λ ps. (value_in t g.total σ + combined m (axioms e).live (told_parts t ps) σ) % m) h.none) ∙ h.gathered.pending.sum σ in
+    sym (ap (λ ps. (value_in t g.total σ + combined m (axioms e).live (parts_in t ps) σ) % m) h.none) ∙ h.gathered.pending.sum σ in
     record {
       groups = h.gathered.groups;
       few = h.few;

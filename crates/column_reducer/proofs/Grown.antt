@@ -12,24 +12,24 @@ use Rattle.graph_core.specs.Algebra.{Part, axioms, combined}
 use Rattle.graph_core.specs.Algebra as algebra
 use Rattle.poly_terms.specs.Tables.{Table, Sum, Extends, IsOf, value_in}
 use Rattle.poly_terms.specs.Laws.{all_stay, monomials_stay, stays, value_stays}
-use Rattle.pac_writer.specs.Writing.{IsOver}
+use Rattle.pac_writer.specs.Writing.{IsOver, parts_in}
 use Rattle.frontier_core.specs.Plan.{Taken}
 use Rattle.frontier_core.specs.Pending.{AreSpare, IsPending}
 use Rattle.column_reducer.specs.declared.gathered.Gathered.{Gathered}
 use Rattle.column_reducer.specs.declared.gathered.Group.{Group}
-use Rattle.column_reducer.specs.Gathering.{AreGroups, AreParts, IsFixedAbove, IsGathered, IsGroup, groups_sum, told_parts}
+use Rattle.column_reducer.specs.Gathering.{AreGroups, AreParts, IsFixedAbove, IsGathered, IsGroup, groups_sum}
 
 -- a polynomial keeps its function
 pub function_stays : (t0 t1 : Table) (p : Sum) → Extends t0 t1 → IsOf t0 p → value_in t1 p ≡ value_in t0 p
 function_stays t0 t1 p grown of = fun_ext (λ σ. value_stays t0 t1 p σ grown of)
 
-told_stay : (max : ℕ) (t0 t1 : Table) (parts : List (ℕ × Sum)) → Extends t0 t1 → AllByRecursion (λ p. IsOver max t0 p.1) parts → told_parts t1 parts ≡ told_parts t0 parts
-told_stay max t0 t1 [] grown h = refl
-told_stay max t0 t1 (p ∷ parts) grown h =
-    ap₂ (λ q qs. record { id = p.0; factor = q } ∷ qs) (monomials_stay t0 t1 p.1 grown h.0.0) (told_stay max t0 t1 parts grown h.1)
+part_stays : (max : ℕ) (t0 t1 : Table) (parts : List (ℕ × Sum)) → Extends t0 t1 → AllByRecursion (λ p. IsOver max t0 p.1) parts → parts_in t1 parts ≡ parts_in t0 parts
+part_stays max t0 t1 [] grown h = refl
+part_stays max t0 t1 (p ∷ parts) grown h =
+    ap₂ (λ q qs. record { id = p.0; factor = q } ∷ qs) (monomials_stay t0 t1 p.1 grown h.0.0) (part_stays max t0 t1 parts grown h.1)
 
-pub told_stays : (e : Extended) (t0 t1 : Table) (parts : List (ℕ × Sum)) → Extends t0 t1 → AreParts e t0 parts → told_parts t1 parts ≡ told_parts t0 parts
-told_stays e t0 t1 parts grown h = told_stay e.max t0 t1 parts grown (recursion_from_All (λ p. IsOver e.max t0 p.1) parts h.of)
+pub parts_stay : (e : Extended) (t0 t1 : Table) (parts : List (ℕ × Sum)) → Extends t0 t1 → AreParts e t0 parts → parts_in t1 parts ≡ parts_in t0 parts
+parts_stay e t0 t1 parts grown h = part_stays e.max t0 t1 parts grown (recursion_from_All (λ p. IsOver e.max t0 p.1) parts h.of)
 
 over_grown : (max : ℕ) (t0 t1 : Table) (p : Sum) → Extends t0 t1 → IsOver max t0 p → IsOver max t1 p
 over_grown max t0 t1 p grown h =
@@ -43,7 +43,7 @@ parts_grown e t0 t1 parts grown h = record {
 
 group_grown : (e : Extended) (t0 t1 : Table) (g : Group) → Extends t0 t1 → IsGroup e t0 g → IsGroup e t1 g
 group_grown e t0 t1 g grown h =
-    let told = told_stays e t0 t1 g.parts.items grown h.parts in
+    let told = parts_stay e t0 t1 g.parts.items grown h.parts in
     record {
       some = h.some;
       parts = parts_grown e t0 t1 g.parts.items grown h.parts;
@@ -73,11 +73,11 @@ products_grown t0 t1 (p ∷ ps) σ grown h =
 
 pub gathered_grown : (e : Extended) (s : Sides) (t0 t1 : Table) (f : Taken) (rest : Assignment → ℕ) (g : Gathered) → Extends t0 t1 → IsGathered e s t0 f rest g → IsGathered e s t1 f rest g
 gathered_grown e s t0 t1 f rest g grown h =
-    let told = told_stays e t0 t1 g.parts.items grown h.parts in
+    let told = parts_stay e t0 t1 g.parts.items grown h.parts in
     record {
       groups = groups_grown e t0 t1 g.groups.items g.total grown h.groups;
       parts = parts_grown e t0 t1 g.parts.items grown h.parts;
-      pending = subst (λ start. IsPending e s (axioms e).live start f rest (told_parts t1 g.parts.items)) (sym (function_stays t0 t1 g.total grown h.groups.of))
+      pending = subst (λ start. IsPending e s (axioms e).live start f rest (parts_in t1 g.parts.items)) (sym (function_stays t0 t1 g.total grown h.groups.of))
           (subst (IsPending e s (axioms e).live (value_in t0 g.total) f rest) (sym told) h.pending);
       of_products = all_stay t0 t1 g.products.items grown h.of_products;
       products = λ σ. ap (λ z. z % algebra.modulus e) (products_grown t0 t1 g.products.items σ grown (recursion_from_All (IsOf t0) g.products.items h.of_products)) ∙ h.products σ ∙

@@ -18,7 +18,7 @@ use Rattle.graph_core.specs.Algebra.Polynomials.{difference, value}
 use Rattle.graph_core.proofs.OfGraphs.CallerLemmas.{difference_is, sum_same}
 use Rattle.graph_core.proofs.OfAlgebra.CallerLemmas.{modulus_pos}
 use Rattle.frontier_core.specs.Frontier.{set_to}
-use Rattle.pac_writer.specs.Writing.{IsOver}
+use Rattle.pac_writer.specs.Writing.{IsOver, parts_in}
 use Rattle.ripple_graft.specs.Extension.{IsExtension}
 use Rattle.poly_terms.specs.Tables.{Table, Sum, Extends, IsOf, modulus, monomials_in, value_in}
 use Rattle.poly_terms.specs.Laws.{extends_on, modulus_stays, stays, value_stays}
@@ -35,9 +35,9 @@ use Rattle.column_reducer.specs.declared.elimination.Elimination.{Elimination}
 use Rattle.column_reducer.specs.declared.elimination.Quotient.{Quotient}
 use Rattle.column_reducer.specs.declared.gathered.Gathered.{Gathered}
 use Rattle.column_reducer.specs.declared.gathered.Group.{Group}
-use Rattle.column_reducer.specs.Gathering.{AreGroups, AreParts, HasTaken, IsEliminated, IsFixedAbove, IsGathered, IsGroup, IsQuotient, IsQuotientOrNone, Takes, groups_sum, told_parts}
+use Rattle.column_reducer.specs.Gathering.{AreGroups, AreParts, HasTaken, IsEliminated, IsFixedAbove, IsGathered, IsGroup, IsQuotient, IsQuotientOrNone, Takes, groups_sum}
 use Rattle.column_reducer.proofs.Fixed.{over_fixed, quotient_fixed, same_fixed}
-use Rattle.column_reducer.proofs.Grown.{gathered_grown, told_stays}
+use Rattle.column_reducer.proofs.Grown.{gathered_grown, parts_stay}
 
 -- ---- before the first step
 
@@ -54,18 +54,18 @@ gathered_first e s t rest g groups parts products of none rest_none =
     record {
       groups = subst (λ gs. AreGroups e t gs g.total) (sym groups) (no_groups e t g.total of none);
       parts = subst (AreParts e t) (sym parts) (no_parts e t);
-      pending = subst (λ ps. IsPending e s (axioms e).live (value_in t g.total) nothing rest (told_parts t ps)) (sym parts)
+      pending = subst (λ ps. IsPending e s (axioms e).live (value_in t g.total) nothing rest (parts_in t ps)) (sym parts)
           (subst (λ (h : Assignment → ℕ). IsPending e s (axioms e).live h nothing rest []) start (pending_starts e s (axioms e).live nothing rest));
       of_products = subst (All (IsOf t)) (sym products) (λ k d low. absurd (omega arith));
       products = λ σ. ap₂ (λ ps qs. sum_by (λ p. value_in t p σ) ps % algebra.modulus e) products products ∙
-          sym (ap (λ ps. combined (algebra.modulus e) (axioms e).live (told_parts t ps) σ % algebra.modulus e) parts);
+          sym (ap (λ ps. combined (algebra.modulus e) (axioms e).live (parts_in t ps) σ % algebra.modulus e) parts);
     }
 
 -- ---- a part more
 
-told_pushed : (t : Table) (xs : List (ℕ × Sum)) (x : ℕ × Sum) → told_parts t (xs ++ x ∷ []) ≡ told_parts t xs ++ record { id = x.0; factor = monomials_in t x.1 } ∷ []
-told_pushed t [] x = refl
-told_pushed t (y ∷ xs) x = ap (λ ps. record { id = y.0; factor = monomials_in t y.1 } ∷ ps) (told_pushed t xs x)
+part_pushed : (t : Table) (xs : List (ℕ × Sum)) (x : ℕ × Sum) → parts_in t (xs ++ x ∷ []) ≡ parts_in t xs ++ record { id = x.0; factor = monomials_in t x.1 } ∷ []
+part_pushed t [] x = refl
+part_pushed t (y ∷ xs) x = ap (λ ps. record { id = y.0; factor = monomials_in t y.1 } ∷ ps) (part_pushed t xs x)
 
 parts_pushed : (e : Extended) (t : Table) (parts : List (ℕ × Sum)) (x : Gate) (factor : Sum) → Contains e.gates x → IsOver e.max t factor → AreParts e t parts → AreParts e t (parts ++ (x.v, factor) ∷ [])
 parts_pushed e t parts x factor c of h = record {
@@ -94,7 +94,7 @@ none_taken : (e : Extended) (s : Sides) (t0 t : Table) (f : Taken) (p next : Sum
     ((σ : Assignment) → value_in t next σ ≡ substituted (modulus t0) x.v (gate_value x) (value_in t0 p) σ) → ((σ : Assignment) → quotient (modulus t0) x.v (value_in t0 p) σ ≡ 0) →
     more ≡ g → IsGathered e s t f (value_in t0 p) g → IsGathered e s t (step f (Eliminate x.v)) (value_in t next) more
 none_taken e s t0 t f p next g more x is same next_is none unchanged h =
-    let law = pending_eliminates e s (axioms e).live (value_in t g.total) (value_in t0 p) (value_in t next) f (told_parts t g.parts.items) x h.pending (above_zero e f x is) (within e f x is) is.new
+    let law = pending_eliminates e s (axioms e).live (value_in t g.total) (value_in t0 p) (value_in t next) f (parts_in t g.parts.items) x h.pending (above_zero e f x is) (within e f x is) is.new
     (λ σ. next_is σ ∙ ap (λ m. substituted m x.v (gate_value x) (value_in t0 p) σ) same) in
     subst (IsGathered e s t (step f (Eliminate x.v)) (value_in t next)) (sym unchanged)
     (record {
@@ -116,9 +116,9 @@ one_taken e s t0 t f p next g more x q is same fixed next_is by here taken h =
     (same_fixed e.max (value_in t q.factor) (λ σ. difference (modulus t0) 0 (quotient (modulus t0) x.v (value_in t0 p) σ)) by.minus
     (λ v b σ above. ap (difference (modulus t0) 0) (quotient_fixed e.max (modulus t0) x.v (value_in t0 p) (within e f x is) fixed v b σ above))) in
     let axiom_live = (axioms_are_live e is.made).0 x is.gate in
-    let told : told_parts t more.parts.items ≡ told_parts t g.parts.items ++ part ∷ [] = ap (told_parts t) taken.parts ∙ told_pushed t g.parts.items (x.v, q.factor) in
+    let line : parts_in t more.parts.items ≡ parts_in t g.parts.items ++ part ∷ [] = ap (parts_in t) taken.parts ∙ part_pushed t g.parts.items (x.v, q.factor) in
     let factor_is : (σ : Assignment) → value m (monomials_in t q.factor) σ ≡ value_in t q.factor σ = λ σ. ap (λ k. value k (monomials_in t q.factor) σ) (sym here) in
-    let law = pending_eliminates e s live (value_in t g.total) (value_in t0 p) (value_in t next) f (told_parts t g.parts.items) x h.pending (above_zero e f x is) (within e f x is) is.new
+    let law = pending_eliminates e s live (value_in t g.total) (value_in t0 p) (value_in t next) f (parts_in t g.parts.items) x h.pending (above_zero e f x is) (within e f x is) is.new
     (λ σ. next_is σ ∙ ap (λ k. substituted k x.v (gate_value x) (value_in t0 p) σ) same) in
     let pending = law.1 part refl axiom_live.0 axiom_live.1
     (λ σ. factor_is σ ∙ by.minus σ ∙ ap (λ k. difference k 0 (quotient k x.v (value_in t0 p) σ)) same)
@@ -126,15 +126,15 @@ one_taken e s t0 t f p next g more x q is same fixed next_is by here taken h =
     record {
       groups = subst (λ gs. AreGroups e t gs more.total) (sym (ap (λ v. v.items) taken.groups)) (subst (AreGroups e t g.groups.items) (sym taken.total) h.groups);
       parts = subst (AreParts e t) (sym taken.parts) (parts_pushed e t g.parts.items x q.factor is.gate over h.parts);
-      pending = subst (λ total. IsPending e s live (value_in t total) (step f (Eliminate x.v)) (value_in t next) (told_parts t more.parts.items)) (sym taken.total)
-          (subst (IsPending e s live (value_in t g.total) (step f (Eliminate x.v)) (value_in t next)) (sym told) pending);
+      pending = subst (λ total. IsPending e s live (value_in t total) (step f (Eliminate x.v)) (value_in t next) (parts_in t more.parts.items)) (sym taken.total)
+          (subst (IsPending e s live (value_in t g.total) (step f (Eliminate x.v)) (value_in t next)) (sym line) pending);
       of_products = subst (All (IsOf t)) (sym taken.products) (All-push (IsOf t) g.products.items q.product h.of_products by.of_product);
       products = λ σ. ap (λ ps. sum_by (λ r. value_in t r σ) ps % m) taken.products ∙
-          sum_pushed m (λ r. value_in t r σ) g.products.items q.product (combined m live (told_parts t g.parts.items) σ) (value_of live x.v σ * value m part.factor σ) (h.products σ)
+          sum_pushed m (λ r. value_in t r σ) g.products.items q.product (combined m live (parts_in t g.parts.items) σ) (value_of live x.v σ * value m part.factor σ) (h.products σ)
           (ap (λ z. z % m)
           (by.times σ ∙ ap (λ k. ((gate_axiom k x).value σ * value_in t q.factor σ) % k) same ∙ ap₂ (λ a b. (a * b) % m) (sym (axiom_live.1 σ)) (sym (factor_is σ))) ∙
           mod-mod (value_of live x.v σ * value m part.factor σ) m) ∙
-          ap (λ z. z % m) (sym (combined_push m live (told_parts t g.parts.items) part σ)) ∙ sym (ap (λ ps. combined m live ps σ % m) told);
+          ap (λ z. z % m) (sym (combined_push m live (parts_in t g.parts.items) part σ)) ∙ sym (ap (λ ps. combined m live ps σ % m) line);
     }
 
 taken_by : (e : Extended) (s : Sides) (t0 t : Table) (f : Taken) (p next : Sum) (g more : Gathered) (x : Gate) (q : Option Quotient) → IsNext e f x → modulus t0 ≡ algebra.modulus e → IsFixedAbove e.max (value_in t0 p) → modulus t ≡ algebra.modulus e →
@@ -156,7 +156,7 @@ sum_more t (h ∷ gs) g σ = omega (arith, sum_more t gs g σ)
 
 ended : (e : Extended) (s : Sides) (t : Table) (f : Taken) (rest : Assignment → ℕ) (g more : Gathered) (poly one : Sum) → let m = algebra.modulus e in
     IsFixedAbove e.max (gap e s f.added rest) → 0 < length g.parts.items → IsOf t poly → IsOf t one → IsOf t more.total → ((σ : Assignment) → value_in t one σ ≡ 1) →
-    ((σ : Assignment) → value_in t poly σ ≡ combined m (axioms e).live (told_parts t g.parts.items) σ % m) →
+    ((σ : Assignment) → value_in t poly σ ≡ combined m (axioms e).live (parts_in t g.parts.items) σ % m) →
     ((σ : Assignment) → value_in t more.total σ ≡ (value_in t g.total σ + value_in t poly σ) % m) →
     more.groups.items ≡ g.groups.items ++ record { parts = g.parts; poly = poly; one = one } ∷ [] → more.parts.items ≡ [] → more.products.items ≡ [] →
     IsGathered e s t f rest g → IsGathered e s t f rest more
@@ -165,10 +165,10 @@ ended e s t f rest g more poly one fixed some of_poly of_one of_total one_is pol
     let live = (axioms e).live in
     let group : Group = record { parts = g.parts; poly = poly; one = one } in
     let sums : (σ : Assignment) → (value_in t g.total σ + value_in t poly σ) % m ≡ gap e s f.added rest σ =
-    λ σ. ap (λ z. (value_in t g.total σ + z) % m) (poly_is σ) ∙ add-mod-mod (value_in t g.total σ) (combined m live (told_parts t g.parts.items) σ) m ∙ h.pending.sum σ in
+    λ σ. ap (λ z. (value_in t g.total σ + z) % m) (poly_is σ) ∙ add-mod-mod (value_in t g.total σ) (combined m live (parts_in t g.parts.items) σ) m ∙ h.pending.sum σ in
     let now : value_in t more.total ≡ gap e s f.added rest = fun_ext (λ σ. total_is σ ∙ sums σ) in
     let more_fixed : IsFixedAbove e.max (value_in t more.total) = subst (IsFixedAbove e.max) (sym now) fixed in
-    let poly_small : (σ : Assignment) → value_in t poly σ % m ≡ value_in t poly σ = λ σ. ap (λ z. z % m) (poly_is σ) ∙ mod-mod (combined m live (told_parts t g.parts.items) σ) m ∙ sym (poly_is σ) in
+    let poly_small : (σ : Assignment) → value_in t poly σ % m ≡ value_in t poly σ = λ σ. ap (λ z. z % m) (poly_is σ) ∙ mod-mod (combined m live (parts_in t g.parts.items) σ) m ∙ sym (poly_is σ) in
     let less : (σ : Assignment) → value_in t poly σ ≡ difference m (value_in t more.total σ) (value_in t g.total σ) = λ σ.
     sym (difference_is m (value_in t more.total σ) (value_in t g.total σ) (value_in t poly σ) (modulus_pos e)
     (ap (λ z. z % m) (omega arith) ∙ sym (mod-mod (value_in t g.total σ + value_in t poly σ) m) ∙ ap (λ z. z % m) (sym (total_is σ))) ∙ poly_small σ) in
@@ -187,10 +187,10 @@ ended e s t f rest g more poly one fixed some of_poly of_one of_total one_is pol
     record {
       groups = subst (λ gs. AreGroups e t gs more.total) (sym groups) all;
       parts = subst (AreParts e t) (sym parts) (no_parts e t);
-      pending = subst (λ ps. IsPending e s live (value_in t more.total) f rest (told_parts t ps)) (sym parts)
+      pending = subst (λ ps. IsPending e s live (value_in t more.total) f rest (parts_in t ps)) (sym parts)
           (subst (λ (k : Assignment → ℕ). IsPending e s live k f rest []) (sym now) (pending_starts e s live f rest));
       of_products = subst (All (IsOf t)) (sym products) (λ k d low. absurd (omega arith));
-      products = λ σ. ap (λ ps. sum_by (λ p. value_in t p σ) ps % m) products ∙ sym (ap (λ ps. combined m live (told_parts t ps) σ % m) parts);
+      products = λ σ. ap (λ ps. sum_by (λ p. value_in t p σ) ps % m) products ∙ sym (ap (λ ps. combined m live (parts_in t ps) σ % m) parts);
     }
 
 pub group_ended : (e : Extended) (s : Sides) (t0 t1 t2 t3 : Table) (f : Taken) (rest : Assignment → ℕ) (g more : Gathered) (poly one : Sum) → modulus t0 ≡ algebra.modulus e → IsFixedAbove e.max (gap e s f.added rest) →
@@ -209,6 +209,6 @@ group_ended e s t0 t1 t2 t3 f rest g more poly one same fixed first second third
     let total2 = stays t0 t2 g.total both h.groups.of in
     ended e s t3 f rest g more poly one fixed some (stays t1 t3 poly late of_poly) (stays t2 t3 one third of_one) of_total (λ σ. value_stays t2 t3 one σ third of_one ∙ one_is σ)
     (λ σ. value_stays t1 t3 poly σ late of_poly ∙ poly_is σ ∙ ap (λ k. sum_by (λ p. value_in t0 p σ) g.products.items % k) same ∙ h.products σ ∙
-    ap (λ ps. combined m (axioms e).live ps σ % m) (sym (told_stays e t0 t3 g.parts.items all h.parts)))
+    ap (λ ps. combined m (axioms e).live ps σ % m) (sym (parts_stay e t0 t3 g.parts.items all h.parts)))
     (λ σ. total_is σ ∙ ap₂ (λ a k. a % k) (ap₂ ◌+◌ (sym (value_stays t2 t3 g.total σ third total2)) (sym (value_stays t2 t3 poly σ third of2))) same2)
     groups parts products (gathered_grown e s t0 t3 f rest g all h)

@@ -33,7 +33,8 @@ use Rattle.column_reducer.specs.declared.elimination.Elimination.{Elimination}
 use Rattle.column_reducer.specs.declared.elimination.Quotient.{Quotient}
 use Rattle.column_reducer.specs.declared.gathered.Gathered.{Gathered}
 use Rattle.column_reducer.specs.declared.walk.Walk.{Walk}
-use Rattle.column_reducer.specs.Gathering.{HasEnded, IsEliminated, IsFixedAbove, IsGathered, IsWalked, Settles, Takes, TakesIn, told_parts}
+use Rattle.pac_writer.specs.Writing.{parts_in}
+use Rattle.column_reducer.specs.Gathering.{HasEnded, IsEliminated, IsFixedAbove, IsGathered, IsWalked, Settles, Takes, TakesIn}
 use Rattle.column_reducer.proofs.Fixed.{column_fixed, gap_fixed, partial_fixed, same_fixed, substituted_fixed}
 use Rattle.column_reducer.proofs.Grown.{function_stays, gathered_grown}
 use Rattle.column_reducer.proofs.Taken.{IsNext, gate_taken}
@@ -77,7 +78,7 @@ column_pending e s t f rest next k o None old out new sum h = tt
 column_pending e s t f rest next k o (Some g) old out new sum h = record {
   groups = h.groups;
   parts = h.parts;
-  pending = (pending_adds_column e s (axioms e).live (value_in t g.total) rest next f (told_parts t g.parts.items) k o o h.pending old out new sum).0 refl;
+  pending = (pending_adds_column e s (axioms e).live (value_in t g.total) rest next f (parts_in t g.parts.items) k o o h.pending old out new sum).0 refl;
   of_products = h.of_products;
   products = h.products;
 }

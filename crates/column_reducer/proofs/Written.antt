@@ -23,7 +23,7 @@ use Rattle.frontier_core.proofs.Added.{sum_pushed, total_is_equal}
 use Rattle.frontier_core.proofs.Everywhere.{all_from_map, all_has}
 use Rattle.frontier_core.proofs.LineLemmas.{new_line_is_live}
 use Rattle.column_reducer.specs.declared.gathered.Group.{Group}
-use Rattle.column_reducer.specs.Gathering.{AreGroups, AreParts, AreWritten, IsGroup, told_parts}
+use Rattle.column_reducer.specs.Gathering.{AreGroups, AreParts, AreWritten, IsGroup}
 use Rattle.column_reducer.specs.Reducing.{IsOfGraph}
 use Rattle.column_reducer.proofs.Fixed.{all_left, all_right}
 use Rattle.column_reducer.proofs.Taken.{sum_more}
@@ -46,9 +46,9 @@ gates_low : (e : Extended) (v : ℕ) → IsExtension e → has (map (λ x. x.v) 
 gates_low e v made h = all_has (λ w. w ≤ e.max) (map (λ x. x.v) e.gates) v (all_from_map (λ w. w ≤ e.max) (λ x. x.v) e.gates (recursion_from_All (λ x. x.v ≤ e.max) e.gates made.gates_in_range)) h
 
 part_lines : (e : Extended) (t : Table) (live : List LiveLine) (parts : List (ℕ × Sum)) → IsExtension e → ((id : ℕ) → id ≤ e.max → line_of live id ≡ line_of (axioms e).live id) → AreParts e t parts →
-    All (λ p. line_of live p.id ≡ line_of (axioms e).live p.id) (told_parts t parts)
+    All (λ p. line_of live p.id ≡ line_of (axioms e).live p.id) (parts_in t parts)
 part_lines e t live parts made same h =
-    All-from_recursion (λ p. line_of live p.id ≡ line_of (axioms e).live p.id) (told_parts t parts)
+    All-from_recursion (λ p. line_of live p.id ≡ line_of (axioms e).live p.id) (parts_in t parts)
     (all_from_map (λ p. line_of live p.id ≡ line_of (axioms e).live p.id) (λ p. record { id = p.0; factor = monomials_in t p.1 }) parts
     (recursion_from_All (λ p. line_of live p.0 ≡ line_of (axioms e).live p.0) parts (λ k d low. same (slice_index_or parts k d).0 (gates_low e (slice_index_or parts k d).0 made (h.gates k d low)))))
 
@@ -63,7 +63,7 @@ group_spare e s t total gs g ones l h =
     let group = last_group e s t total gs g ones l h in
     subst (λ x. AreSpare (algebra.modulus x) (ledger_of l).live (parts_in l.table g.parts.items)) (sym h.graph.extended)
     (subst (λ u. AreSpare (algebra.modulus e) (ledger_of l).live (parts_in u g.parts.items)) (sym h.graph.table)
-    (spare_moves (algebra.modulus e) (axioms e).live (ledger_of l).live (told_parts t g.parts.items) (part_lines e t (ledger_of l).live g.parts.items h.made h.axioms group.parts) group.spare))
+    (spare_moves (algebra.modulus e) (axioms e).live (ledger_of l).live (parts_in t g.parts.items) (part_lines e t (ledger_of l).live g.parts.items h.made h.axioms group.parts) group.spare))
 
 pub group_equal : (e : Extended) (s : Sides) (t : Table) (total : Sum) (gs : List Group) (g : Group) (ones : List (ℕ × Sum)) (l : Made) → AreWritten e s t total (gs ++ g ∷ []) ones l →
     IsEqual (algebra.modulus l.extended) (ledger_of l).live (combination_of l.table 0 g.parts.items g.poly)
@@ -73,8 +73,8 @@ group_equal e s t total gs g ones l h =
     subst (λ x. IsEqual (algebra.modulus x) (ledger_of l).live (combination_of l.table 0 g.parts.items g.poly)) (sym h.graph.extended)
     (subst (λ u. IsEqual m (ledger_of l).live (combination_of u 0 g.parts.items g.poly)) (sym h.graph.table)
     (λ σ. ap (λ k. value k (monomials_in t g.poly) σ) (sym h.same_modulus) ∙ group.states σ ∙
-    ap (λ z. z % m) (sym (combined_moves m (axioms e).live (ledger_of l).live (told_parts t g.parts.items) σ
-    (recursion_from_All (λ p. line_of (ledger_of l).live p.id ≡ line_of (axioms e).live p.id) (told_parts t g.parts.items) (part_lines e t (ledger_of l).live g.parts.items h.made h.axioms group.parts))))))
+    ap (λ z. z % m) (sym (combined_moves m (axioms e).live (ledger_of l).live (parts_in t g.parts.items) σ
+    (recursion_from_All (λ p. line_of (ledger_of l).live p.id ≡ line_of (axioms e).live p.id) (parts_in t g.parts.items) (part_lines e t (ledger_of l).live g.parts.items h.made h.axioms group.parts))))))
 
 first_pushed : (xs : List (ℕ × Sum)) (x : ℕ × Sum) → map (λ p. p.0) (xs ++ x ∷ []) ≡ map (λ p. p.0) xs ++ x.0 ∷ []
 first_pushed [] x = refl
@@ -135,7 +135,7 @@ group_written e s t total gs g ones more id l new is puts pushed h =
 
 -- ---- the last line
 
-firsts : (t : Table) (ones : List (ℕ × Sum)) → map (λ p. p.id) (told_parts t ones) ≡ map (λ p. p.0) ones
+firsts : (t : Table) (ones : List (ℕ × Sum)) → map (λ p. p.id) (parts_in t ones) ≡ map (λ p. p.0) ones
 firsts t [] = refl
 firsts t (x ∷ xs) = ap (λ is. x.0 ∷ is) (firsts t xs)
 
@@ -165,10 +165,10 @@ group_lines e s t total ones l h = record {
   once = once_firsts ones h.once;
 }
 
-are_ones : (e : Extended) (s : Sides) (t : Table) (total : Sum) (ones : List (ℕ × Sum)) (l : Made) → AreWritten e s t total [] ones l → AreOnes (algebra.modulus e) (map (λ p. p.0) ones) (told_parts t ones)
+are_ones : (e : Extended) (s : Sides) (t : Table) (total : Sum) (ones : List (ℕ × Sum)) (l : Made) → AreWritten e s t total [] ones l → AreOnes (algebra.modulus e) (map (λ p. p.0) ones) (parts_in t ones)
 are_ones e s t total ones l h = record {
   lines = firsts t ones;
-  ones = All-from_recursion (λ p. (σ : Assignment) → value (algebra.modulus e) p.factor σ ≡ 1) (told_parts t ones)
+  ones = All-from_recursion (λ p. (σ : Assignment) → value (algebra.modulus e) p.factor σ ≡ 1) (parts_in t ones)
       (all_from_map (λ p. (σ : Assignment) → value (algebra.modulus e) p.factor σ ≡ 1) (λ p. record { id = p.0; factor = monomials_in t p.1 }) ones
       (recursion_from_All (λ p. (σ : Assignment) → value (algebra.modulus e) (monomials_in t p.1) σ ≡ 1) ones
       (λ k d low σ. ap (λ m. value m (monomials_in t (slice_index_or ones k d).1) σ) (sym h.same_modulus) ∙ h.one k d low σ)));
@@ -177,7 +177,7 @@ are_ones e s t total ones l h = record {
 pub sum_is_equal : (s : Sides) (total : Sum) (ones : List (ℕ × Sum)) (l : Made) → AreWritten l.extended s l.table total [] ones l →
     AreSpare (algebra.modulus l.extended) (ledger_of l).live (parts_in l.table ones) × IsEqual (algebra.modulus l.extended) (ledger_of l).live (combination_of l.table 0 ones total)
 sum_is_equal s total ones l h =
-    total_is_equal (algebra.modulus l.extended) (ledger_of l).live (map (λ p. p.0) ones) (value_in l.table total) (told_parts l.table ones) 0 (monomials_in l.table total)
+    total_is_equal (algebra.modulus l.extended) (ledger_of l).live (map (λ p. p.0) ones) (value_in l.table total) (parts_in l.table ones) 0 (monomials_in l.table total)
     (group_lines l.extended s l.table total ones l h) (are_ones l.extended s l.table total ones l h) (λ σ. ap (λ m. value m (monomials_in l.table total) σ) (sym h.same_modulus))
 
 -- no line has the id 0

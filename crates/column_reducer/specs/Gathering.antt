@@ -18,7 +18,7 @@ use Rattle.frontier_core.specs.Plan.{Taken, value_of_taken}
 use Rattle.frontier_core.specs.Pending.{AreSpare, IsNotZero, IsPending, gap}
 use Rattle.frontier_core.specs.Totals.{lines_sum}
 use Rattle.frontier_core.specs.RestLine.{partial_specification}
-use Rattle.pac_writer.specs.Writing.{IsOver, Made, ledger_of}
+use Rattle.pac_writer.specs.Writing.{IsOver, Made, ledger_of, parts_in}
 use Rattle.frontier_core.specs.Substitution.{gate_value, quotient, substituted}
 use Rattle.column_reducer.specs.declared.elimination.Elimination.{Elimination}
 use Rattle.column_reducer.specs.declared.elimination.Quotient.{Quotient}
@@ -72,10 +72,6 @@ pub record IsEliminated (t0 t1 : Table) (x : Gate) (p : Sum) (r : Elimination) :
 
 -- ---- groups
 
--- the parts of a line, as the definitions know them
-abbrev pub told_parts : Table → List (ℕ × Sum) → List Part
-told_parts t parts = map (λ p. record { id = p.0; factor = monomials_in t p.1 }) parts
-
 -- Parts of the table's polynomials, over the axioms of gates.
 pub record AreParts (e : Extended) (t : Table) (parts : List (ℕ × Sum)) : Type 0 where
   pub of : All (λ p. IsOver e.max t p.1) parts
@@ -87,8 +83,8 @@ pub record IsGroup (e : Extended) (t : Table) (g : Group) : Type 0 where
   pub parts : AreParts e t g.parts.items
   pub of : IsOver e.max t g.poly
   pub of_one : IsOver e.max t g.one
-  pub spare : AreSpare (algebra.modulus e) (axioms e).live (told_parts t g.parts.items)
-  pub states : (σ : Assignment) → value_in t g.poly σ ≡ combined (algebra.modulus e) (axioms e).live (told_parts t g.parts.items) σ % algebra.modulus e
+  pub spare : AreSpare (algebra.modulus e) (axioms e).live (parts_in t g.parts.items)
+  pub states : (σ : Assignment) → value_in t g.poly σ ≡ combined (algebra.modulus e) (axioms e).live (parts_in t g.parts.items) σ % algebra.modulus e
   pub one : (σ : Assignment) → value_in t g.one σ ≡ 1
 
 -- the sum of what groups state
@@ -107,10 +103,10 @@ pub record AreGroups (e : Extended) (t : Table) (gs : List Group) (total : Sum) 
 pub record IsGathered (e : Extended) (s : Sides) (t : Table) (f : Taken) (rest : Assignment → ℕ) (g : Gathered) : Type 0 where
   pub groups : AreGroups e t g.groups.items g.total
   pub parts : AreParts e t g.parts.items
-  pub pending : IsPending e s (axioms e).live (value_in t g.total) f rest (told_parts t g.parts.items)
+  pub pending : IsPending e s (axioms e).live (value_in t g.total) f rest (parts_in t g.parts.items)
   pub of_products : All (IsOf t) g.products.items
   pub products : (σ : Assignment) → sum_by (λ p. value_in t p σ) g.products.items % algebra.modulus e ≡
-      combined (algebra.modulus e) (axioms e).live (told_parts t g.parts.items) σ % algebra.modulus e
+      combined (algebra.modulus e) (axioms e).live (parts_in t g.parts.items) σ % algebra.modulus e
 
 -- The open group takes a part over a line.
 pub record HasTaken (v : ℕ) (q : Quotient) (old new : Gathered) : Type 0 where

@@ -1,3 +1,4 @@
+// A plan, as its steps over one extended graph.
 ghost use Rattle.std.specs.Prelude.{◌≡◌};
 
 use frontier_core::Step;

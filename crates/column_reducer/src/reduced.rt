@@ -1,3 +1,4 @@
+// The two ends of a reduction.
 use poly_terms::Poly;
 
 /// What a reduction ends with.

@@ -14,7 +14,7 @@ use pac_writer::Lines;
 use poly_terms::{Poly, Terms};
 use std::alloc::Global;
 
-/// More monomials of parts than this aren't kept before it is known that all steps stay within the budget.
+// More monomials of parts than this aren't kept before it is known that all steps stay within the budget.
 const MOST_KEPT: u64 = 1 << 22;
 
 /// Adds the columns and eliminates the gates of a plan, in the plan's order, as long as each frontier has at most

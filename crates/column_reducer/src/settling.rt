@@ -15,7 +15,7 @@ use graph_core::Memory;
 use poly_terms::Terms;
 use std::alloc::Global;
 
-/// A group ends once its factors have more monomials than this, so that no line gets very long.
+// A group ends once its factors have more monomials than this, so that no line gets very long.
 const LARGE_GROUP: u64 = 1 << 16;
 
 /// Ends a large group, as long as fewer than `most` were ended. Where more than `bound` monomials are kept, nothing is.

@@ -1,3 +1,4 @@
+// Reductions of one and two bits.
 #![tactic(auto, using(graph_core::proofs::OfGraphs::CallerLemmas::operands_read_inputs))]
 
 use crate::{Reduced, plain_plan, reduce};

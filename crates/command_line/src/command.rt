@@ -1,3 +1,4 @@
+// The commands, each with what its words say.
 use crate::files::{FileName, Files};
 use graph_core::Order;
 use graph_maker::{Adder, Kind};

@@ -1,3 +1,4 @@
+// Faults of words.
 use std::alloc::AllocError;
 use thiserror::Error;
 

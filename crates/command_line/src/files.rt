@@ -1,3 +1,4 @@
+// The names of files that words give.
 ghost use Rattle.std.specs.Prelude.{◌≡◌, IfOk};
 
 use mv_desk::Names;

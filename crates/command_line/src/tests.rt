@@ -1,8 +1,9 @@
+// Words that are read, and words that are refused.
 use crate::{Command, WordsFail, plain_words, read_words};
 use std::alloc::Global;
 use std::test::Fail;
 
-/// What a line's words ask for, one space between two words.
+// What a line's words ask for, one space between two words.
 fn told(alloc: Global, line: &str) -> Result<String, Fail> {
     let mut words = Vec::new(alloc);
     for word in line.split(' ') {

@@ -1,3 +1,4 @@
+// The polynomials of a graph: axioms of its gates, differences of literals, columns, the specification.
 #![tactic(auto, using(poly_terms::specs::Laws::stays, poly_terms::specs::Laws::extends_on, poly_terms::specs::Laws::extends_itself))]
 
 ghost use Rattle.std.specs.Prelude.{◌≡◌, ◌+◌, ◌*◌, ◌%◌, ◌<◌, IfOk, Some, length, slice_get};

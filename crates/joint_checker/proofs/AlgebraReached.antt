@@ -13,7 +13,7 @@ use Rattle.mv_desk.specs.View.{View}
 use Rattle.mv_desk.specs.declared.slot.Slot.TheVariants as slot
 use Rattle.graph_core.specs.Algebra.Agreement.{Agree}
 use Rattle.graph_core.proofs.OfAlgebra.CallerLemmas.{after_agrees, agree_trans, closes_agrees, lawful_agrees}
-use Rattle.poly_text.specs.LineReading.{IsLongAhead, Lines}
+use Rattle.mv_text.specs.LineReading.{IsLongAhead, Lines}
 use Rattle.poly_text.proofs.CallerLemmas.{long_of, short_of}
 use Rattle.joint_checker.specs.declared.checked.AlgebraWhy.TheVariants as why
 use Rattle.joint_checker.specs.declared.checked.Checked.{Checked}

@@ -17,7 +17,7 @@ use Rattle.graph_core.proofs.OfTexts.CallerLemmas.{not_spelled_and_refused, one_
 use Rattle.mv_desk.specs.View.{View}
 use Rattle.mv_desk.specs.declared.limits.Limits.{Limits}
 use Rattle.mv_desk.specs.declared.slot.Slot.TheVariants as slot
-use Rattle.poly_text.specs.LineReading.{lengths_of}
+use Rattle.mv_text.specs.LineReading.{lengths_of}
 use Rattle.joint_checker.specs.declared.checked.AlgebraWhy.{AlgebraWhy}
 use Rattle.joint_checker.specs.declared.checked.AlgebraWhy.TheVariants as why
 use Rattle.joint_checker.specs.declared.checked.Checked.{Checked}

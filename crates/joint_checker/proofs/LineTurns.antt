@@ -25,8 +25,8 @@ use Rattle.graph_core.proofs.OfAlgebra.CallerLemmas.{after_agrees, agree_trans, 
 use Rattle.poly_terms.specs.Tables.{Table, modulus}
 use Rattle.poly_text.specs.AlgebraFiles.{BeginsOutOfRange, BeginsWithNone, IsNextRefusal, TakesText}
 use Rattle.graph_core.specs.Algebra.Likeness.{AreAlike}
-use Rattle.poly_text.specs.Lines.{told}
-use Rattle.poly_text.specs.LineReading.{IsLongAhead, Lines}
+use Rattle.poly_text.specs.Lines.{line_in}
+use Rattle.mv_text.specs.LineReading.{IsLongAhead, Lines}
 use Rattle.poly_text.specs.declared.line.PacLine.{PacLine}
 use Rattle.poly_text.specs.declared.line.PacLine.TheVariants as pac
 use Rattle.poly_text.proofs.CallerLemmas.{close_there, line_there, no_line_is_refused, out_of_range_is_refused}
@@ -38,7 +38,7 @@ use Rattle.joint_checker.specs.Answers.{answer_of_close, answer_of_line, answer_
 use Rattle.joint_checker.proofs.Told.{told_more}
 
 -- a line that is no closing line is told
-pub some_is_told : (t : Table) (line : PacLine) → ((id : ℕ) → line ≡ pac.Close id → ⊥) → IsSome (told t line)
+pub some_is_told : (t : Table) (line : PacLine) → ((id : ℕ) → line ≡ pac.Close id → ⊥) → IsSome (line_in t line)
 some_is_told t (pac.Sum id i j poly) other = refl
 some_is_told t (pac.Product id i factor poly) other = refl
 some_is_told t (pac.Combination id parts poly) other = refl
@@ -50,15 +50,15 @@ some_of (Some y) h = (y, refl)
 some_of None h = cc
 
 -- a line that was judged by the checker, in the words of its contract
-pub taken_text : (old new : Checking) (line : PacLine) → ((id : ℕ) → line ≡ pac.Close id → ⊥) → IfSome (told old.table line) (λ y. Takes y old new) → IsJudged line old new turn.Taken
+pub taken_text : (old new : Checking) (line : PacLine) → ((id : ℕ) → line ≡ pac.Close id → ⊥) → IfSome (line_in old.table line) (λ y. Takes y old new) → IsJudged line old new turn.Taken
 taken_text old new line other takes =
-    let y = some_of (told old.table line) (some_is_told old.table line other) in
+    let y = some_of (line_in old.table line) (some_is_told old.table line other) in
     (y.0, y.1, subst (λ (o : Option Line). IfSome o (λ z. Takes z old new)) y.1 takes)
 
 pub refused_text : (c : Checking) (line : PacLine) (n : ℕ) (fault : LineFault) (answer : Checked) → answer ≡ answer_of_rule n fault → ((id : ℕ) → line ≡ pac.Close id → ⊥) →
-    IfSome (told c.table line) (λ y. IsFault c.extended (ledger_of c) y fault) → IsUnlawful n line c answer
+    IfSome (line_in c.table line) (λ y. IsFault c.extended (ledger_of c) y fault) → IsUnlawful n line c answer
 refused_text c line n fault answer is other h =
-    let y = some_of (told c.table line) (some_is_told c.table line other) in
+    let y = some_of (line_in c.table line) (some_is_told c.table line other) in
     inl (y.0, fault, y.1, subst (λ (o : Option Line). IfSome o (λ z. IsFault c.extended (ledger_of c) z fault)) y.1 h, is)
 
 -- no line is read
@@ -89,7 +89,7 @@ module _ (grown : Checking) (l : Ledger) (agrees : Agree (ledger_of grown) l) (s
       in_range : IsLineInRange grown.extended.max x
       alike : AreAlike (algebra.modulus grown.extended) x y
 
-    there : (y : Line) → told grown.table line ≡ Some y → (bytes : List ℕ) (h : TakesText grown.table max old new bytes behind line) → IsThere y bytes h.rest
+    there : (y : Line) → line_in grown.table line ≡ Some y → (bytes : List ℕ) (h : TakesText grown.table max old new bytes behind line) → IsThere y bytes h.rest
     there y is bytes h =
         let t = line_there grown.table max bytes h.rest line y is h.begins in
         record {
@@ -100,7 +100,7 @@ module _ (grown : Checking) (l : Ledger) (agrees : Agree (ledger_of grown) l) (s
         }
 
     -- it was lawful
-    pub line_is_taken : (next : Checking) (y : Line) → told grown.table line ≡ Some y → Takes y grown next → IfSome left (λ bytes. TakesLawful grown.extended l (ledger_of next) old new bytes behind)
+    pub line_is_taken : (next : Checking) (y : Line) → line_in grown.table line ≡ Some y → Takes y grown next → IfSome left (λ bytes. TakesLawful grown.extended l (ledger_of next) old new bytes behind)
     line_is_taken next y is takes = told_more left (λ bytes. TakesText grown.table max old new bytes behind line) (λ bytes. TakesLawful grown.extended l (ledger_of next) old new bytes behind) (λ bytes h.
         let t = there y is bytes h in
         let m = algebra.modulus grown.extended in
@@ -117,7 +117,7 @@ module _ (grown : Checking) (l : Ledger) (agrees : Agree (ledger_of grown) l) (s
         }) given
 
     module _ (sides : Sides) (n : ℕ) (before now : View) where
-      refused_of : (c : AlgebraCause) (y : Line) → told grown.table line ≡ Some y → IsRefusedInRange grown.extended (ledger_of grown) y c →
+      refused_of : (c : AlgebraCause) (y : Line) → line_in grown.table line ≡ Some y → IsRefusedInRange grown.extended (ledger_of grown) y c →
           IfSome left (λ bytes. IsRefusedNext grown.extended sides (IsLongIn old bytes) l bytes (0, c))
       refused_of c y is refused = told_more left (λ bytes. TakesText grown.table max old new bytes behind line) (λ bytes. IsRefusedNext grown.extended sides (IsLongIn old bytes) l bytes (0, c)) (λ bytes h.
           let t = there y is bytes h in
@@ -125,7 +125,7 @@ module _ (grown : Checking) (l : Ledger) (agrees : Agree (ledger_of grown) l) (s
           inr (h.short, inr (inl (t.x, h.rest, t.begins, (c, inr (t.in_range, here), refl))))) given
 
       -- it breaks its rule
-      pub rule_fails : (y : Line) (fault : LineFault) → told grown.table line ≡ Some y → IsFault grown.extended (ledger_of grown) y fault → IsLineFail n grown.extended sides l old left before now (answer_of_rule n fault)
+      pub rule_fails : (y : Line) (fault : LineFault) → line_in grown.table line ≡ Some y → IsFault grown.extended (ledger_of grown) y fault → IsLineFail n grown.extended sides l old left before now (answer_of_rule n fault)
       rule_fails y rule.Id is h = (refl, refused_of cause.Id y is h)
       rule_fails y (rule.NoSuchLine id) is h = (refl, refused_of (cause.NoSuchLine id) y is h)
       rule_fails y rule.NotEqual is h = (refl, refused_of cause.NotEqual y is h)

@@ -18,7 +18,7 @@ use Rattle.mv_desk.specs.declared.limits.Limits.{Limits}
 use Rattle.mv_desk.specs.declared.slot.Slot.TheVariants as slot
 use Rattle.mv_desk.proofs.CallerLemmas.{Inspects-trans, bytes_under-held}
 use Rattle.mv_fact.specs.Always.{Always}
-use Rattle.poly_text.specs.LineReading.{lengths_of}
+use Rattle.mv_text.specs.LineReading.{lengths_of}
 use Rattle.joint_checker.specs.declared.checked.Checked.{Checked}
 use Rattle.joint_checker.specs.declared.checked.Checked.TheVariants as checked
 use Rattle.joint_checker.specs.declared.checked.ClauseWhy.TheVariants as clause

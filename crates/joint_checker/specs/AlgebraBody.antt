@@ -11,7 +11,7 @@ use Rattle.graph_core.specs.Text.JudgedLines.{BeginsWith, IsLineStart}
 use Rattle.graph_core.specs.Graph.Operands.{Sides}
 use Rattle.mv_desk.specs.View.{Rose, View}
 use Rattle.mv_desk.specs.declared.slot.Slot.TheVariants as slot
-use Rattle.poly_text.specs.LineReading.{Lines}
+use Rattle.mv_text.specs.LineReading.{Lines}
 use Rattle.joint_checker.specs.declared.checked.Checked.{Checked}
 use Rattle.joint_checker.specs.declared.checked.Checked.TheVariants as checked
 use Rattle.joint_checker.specs.declared.checked.Refusal.TheVariants as refusal

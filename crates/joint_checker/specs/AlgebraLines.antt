@@ -22,9 +22,9 @@ use Rattle.pac_checker.specs.declared.fault.CloseFault.{CloseFault}
 use Rattle.pac_checker.specs.declared.fault.LineFault.{LineFault}
 use Rattle.poly_terms.specs.Tables.{Table}
 use Rattle.poly_text.specs.AlgebraFiles.{FileState, IsNextRefusal, TakesText, left_ahead}
-use Rattle.poly_text.specs.LineReading.{IsLongAhead, Lines}
+use Rattle.mv_text.specs.LineReading.{IsLongAhead, Lines}
 use Rattle.poly_text.specs.LineTexts.{IsTextOf}
-use Rattle.poly_text.specs.Lines.{told}
+use Rattle.poly_text.specs.Lines.{line_in}
 use Rattle.poly_text.specs.declared.line.PacLine.{PacLine}
 use Rattle.poly_text.specs.declared.line.PacLine.TheVariants as pac
 use Rattle.joint_checker.specs.declared.algebra_line.Turn.{Turn}
@@ -53,14 +53,14 @@ pub record ReadsNext (max : ℕ) (old : FileState) (before : View) (out : Result
 
 -- What a line that was read is for a checker: lawful, or closing. Then the specification vanishes.
 abbrev pub IsJudged : PacLine → Checking → Checking → Turn → Type 0
-IsJudged text old new turn.Taken = (line : Line) × (told old.table text ≡ Some line) × Takes line old new
+IsJudged text old new turn.Taken = (line : Line) × (line_in old.table text ≡ Some line) × Takes line old new
 IsJudged text old new turn.Closed =
     (id : ℕ) × (text ≡ pac.Close id) × Closes old.extended old.sides (ledger_of old).live id × Always old.extended.gates (λ σ. specification old.extended old.sides σ ≡ 0)
 
 -- Why it is refused, at this number.
 abbrev pub IsUnlawful : ℕ → PacLine → Checking → Checked → Type 0
 IsUnlawful n text c answer =
-    ((line : Line) × (fault : LineFault) × (told c.table text ≡ Some line) × IsFault c.extended (ledger_of c) line fault × (answer ≡ answer_of_rule n fault)) ⊎
+    ((line : Line) × (fault : LineFault) × (line_in c.table text ≡ Some line) × IsFault c.extended (ledger_of c) line fault × (answer ≡ answer_of_rule n fault)) ⊎
     ((id : ℕ) × (fault : CloseFault) × (text ≡ pac.Close id) × IsCloseFault c.extended c.sides (ledger_of c) id fault × (answer ≡ answer_of_close n fault))
 
 -- Where these bytes are left to a reader of lines: a line of them is too long for the whole file.

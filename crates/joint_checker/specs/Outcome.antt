@@ -13,7 +13,7 @@ use Rattle.graph_core.specs.declared.order.Order.{Order}
 use Rattle.mv_desk.specs.View.{View, SlotStays, Rose}
 use Rattle.mv_desk.specs.declared.limits.Limits.{Limits}
 use Rattle.mv_desk.specs.declared.slot.Slot.TheVariants as slot
-use Rattle.poly_text.specs.LineReading.{lengths_of}
+use Rattle.mv_text.specs.LineReading.{lengths_of}
 use Rattle.joint_checker.specs.declared.checked.AlgebraWhy.{AlgebraWhy}
 use Rattle.joint_checker.specs.declared.checked.AlgebraWhy.TheVariants as why
 use Rattle.joint_checker.specs.declared.checked.Checked.{Checked}

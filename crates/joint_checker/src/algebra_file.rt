@@ -10,7 +10,7 @@ ghost use Rattle.mv_desk.specs.declared.slot.Slot.TheVariants as slot;
 ghost use Rattle.mv_fact.specs.Always.{Always};
 ghost use Rattle.graph_core.specs.Algebra.Agreement.{Agree};
 ghost use Rattle.pac_checker.specs.Checking.{ledger_of};
-ghost use Rattle.poly_text.specs.LineReading.{lengths_of};
+ghost use Rattle.mv_text.specs.LineReading.{lengths_of};
 ghost use Rattle.joint_checker.specs.AlgebraBody.{IsBodyFail, IsLawfulBody};
 ghost use Rattle.joint_checker.specs.AlgebraLines.{left_in};
 ghost use Rattle.graph_core.specs.Certificates.{IsLawfulAlgebra};

@@ -1,3 +1,4 @@
+// The ends of a verification.
 use aiger_reader::ReadFail;
 
 /// What `verify` says of a graph.

@@ -11,7 +11,7 @@ ghost use Rattle.joint_prover.specs.Written.{StopsAt, StopsWriting, WritesFile, 
 use mv_desk::{Desk, Failed, Names, Slot, WriteFault, write_all};
 use pac_writer::Lines;
 
-/// The clause certificate that replaces nothing.
+// The clause certificate that replaces nothing.
 const NO_CUT: &str = "joined 1\nnone\n";
 
 /// Creates the clause file and writes it, and then the algebra file.

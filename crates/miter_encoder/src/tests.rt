@@ -1,3 +1,4 @@
+// The clauses and goals of a two-bit graph.
 use crate::{gate_clauses, goals};
 use clause_core::ClauseList;
 use graph_core::{Graph, Lit};

@@ -1,3 +1,4 @@
+// The counts of a desk: files opened, reads and writes that failed.
 ghost use Rattle.std.specs.Prelude.{◌≡◌, ◌≤◌};
 ghost use Rattle.mv_desk.specs.View.{raised};
 

@@ -1,3 +1,4 @@
+// A desk: the slots in which files are opened, read and written.
 ghost use Rattle.std.specs.Prelude.{◌≡◌, true, length, take, IfOk, OnOk, OnErr};
 ghost use Rattle.std.specs.Io.{ReadsAtMost};
 ghost use Rattle.std.specs.Io.KnownBytes.{ReadConsumes};

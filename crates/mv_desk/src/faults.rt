@@ -1,3 +1,4 @@
+// Why a call on a desk fails.
 use thiserror::Error;
 
 /// Why the front of a file isn't read.

@@ -1,3 +1,4 @@
+// The names of the files of a command.
 ghost use Rattle.std.specs.Prelude.{◌↔◌, IsTrue};
 
 /// The names of the three files of a command.

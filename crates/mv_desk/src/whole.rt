@@ -1,3 +1,4 @@
+// Slices written whole.
 ghost use Rattle.std.specs.Prelude.{◌≡◌, ◌≤◌, true, vec_len, IfOk, IsErrOf};
 ghost use Rattle.std.specs.Io.KnownBytes.{Consumes, IsAtEnd};
 ghost use Rattle.mv_desk.specs.View.{Rose};
@@ -6,7 +7,7 @@ ghost use Rattle.mv_desk.specs.Calls.{Reads, Writes};
 use crate::{Desk, Failed, ReadFault, Slot, WriteFault};
 use std::alloc::Global;
 
-/// How many bytes a read asks for.
+// How many bytes a read asks for.
 const ROOM: usize = 4096;
 
 /// What is left in a slot, to its end or up to a byte past the limit at least.

@@ -1,3 +1,4 @@
+// Statements on assignments, over a table that only grows.
 ghost use Rattle.graph_core.specs.Graph.Assignments.{Assignment};
 
 /// A statement on assignments, which may cite a table that only grows.

@@ -1,3 +1,4 @@
+// Faults of inserting and removing.
 use thiserror::Error;
 
 /// Why a fact isn't inserted.

@@ -1,3 +1,4 @@
+// Works that are lent a table to make it grow.
 use crate::Fact;
 
 /// A work that is lent the table of facts and may make it grow, as a reader that puts what it reads into the table.

@@ -1,3 +1,4 @@
+// Live facts by id, over a table that they own.
 ghost use Rattle.std.specs.Prelude.{◌≡◌, ◌↔◌, [], Some, None, IfOk, OnOk, OnErr, IfSome, IsSome, IsSomeAnd, IsErrOf, IsTrue, option_copied};
 ghost use Rattle.std.specs.List.{All};
 ghost use Rattle.std.specs.Map.{values_of};

@@ -1,14 +1,15 @@
+// A small fact, live as its table grows.
 ghost use Rattle.std.specs.Prelude.{◌≡◌, ◌≤◌, ◌+◌};
 
 use crate::{Fact, Grow, GrowFrom, InsertFail, Live, NoSuchId};
 use graph_core::{Gate, Lit};
 use std::test::Fail;
 
-/// The greatest variable in use.
+// The greatest variable in use.
 #[derive(Drop)]
 struct Greatest(u32);
 
-/// A literal that is true.
+// A literal that is true.
 #[derive(Clone, Copy, Debug, PartialEq)]
 struct Truth(Lit);
 
@@ -35,7 +36,7 @@ impl Fact for Truth {
     ghost joins = { λ _ _ _ g h. le_trans h g };
 }
 
-/// Raises the greatest variable to one that is given.
+// Raises the greatest variable to one that is given.
 #[derive(Drop)]
 struct Raise;
 
@@ -53,7 +54,7 @@ impl Grow<Truth> for Raise {
     }
 }
 
-/// Makes room for one more variable, and reads a literal.
+// Makes room for one more variable, and reads a literal.
 #[derive(Drop)]
 struct ReadAndRaise;
 

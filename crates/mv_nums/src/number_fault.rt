@@ -1,3 +1,4 @@
+// Why digits are no number.
 use thiserror::Error;
 
 /// Why a text is no decimal number below 2^128.

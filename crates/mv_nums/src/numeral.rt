@@ -28,7 +28,7 @@ fn are_digits(bytes: &[u8]) -> bool
     bytes.iter().all(|byte| byte.is_ascii_digit())
 }
 
-/// The number that digits spell, if it is below 2^128.
+// The number that digits spell, if it is below 2^128.
 #[tactic(auto, using(crate::proofs::Decimal::grows))]
 fn number_of(digits: &[u8]) -> Option<u128>
     requires { All IsDigit digits.now }
@@ -41,7 +41,7 @@ fn number_of(digits: &[u8]) -> Option<u128>
     Some(number)
 }
 
-/// The number with one more digit behind it, if it is below 2^128.
+// The number with one more digit behind it, if it is below 2^128.
 fn with_digit(number: u128, byte: u8) -> Option<u128>
     requires { IsDigit byte }
     ensures { let longer = append_digit number byte in SomeIff result (longer < 2 ^ 128) longer }

@@ -24,7 +24,7 @@ impl Model for Residue {
     ghost inverse = { λ c. record { width = c.width; value = c.value } };
 }
 
-/// What is left of a number modulo 2^width.
+// What is left of a number modulo 2^width.
 #[tactic(auto, using(crate::proofs::Powers::masked))]
 fn reduced(width: u32, value: u128) -> u128
     requires { IsWidth width }

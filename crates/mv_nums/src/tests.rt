@@ -1,3 +1,4 @@
+// Numbers printed and read, and residues.
 use crate::{NumberFault, Residue, print, read_decimal};
 use std::test::Fail;
 

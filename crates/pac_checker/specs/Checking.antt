@@ -7,7 +7,7 @@ use Rattle.poly_terms.specs.Tables.{Table, Sum, Extends, value_in}
 use Rattle.mv_fact.specs.Always.{Always}
 use Rattle.mv_fact.specs.Facts.{Facts}
 use Rattle.poly_text.specs.declared.PacLine.{PacLine}
-use Rattle.poly_text.specs.Lines.{told}
+use Rattle.poly_text.specs.Lines.{line_in}
 use Rattle.graph_core.specs.Algebra.Agreement.{Agree}
 
 -- The extended graph, its operands, the table of polynomials, the live ones by id, and the last id in use.
@@ -56,7 +56,7 @@ pub record Grows (old new : Checking) : Type 0 where
 
 -- A line of code is taken: what it says in the table is.
 abbrev pub TakesLine : PacLine → Checking → Checking → Type 0
-TakesLine line old new = IfSome (told old.table line) (λ x. Takes x old new)
+TakesLine line old new = IfSome (line_in old.table line) (λ x. Takes x old new)
 
 -- the line has the specification's value
 abbrev pub IsClosedBy : Checking → ℕ → Type 0

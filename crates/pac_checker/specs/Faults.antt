@@ -5,7 +5,7 @@ use Rattle.graph_core.specs.Graph.Extended.{Extended}
 use Rattle.graph_core.specs.Algebra.{Ledger, Line}
 use Rattle.graph_core.specs.Algebra.Refusal as cause
 use Rattle.poly_text.specs.declared.PacLine.{PacLine}
-use Rattle.poly_text.specs.Lines.{told}
+use Rattle.poly_text.specs.Lines.{line_in}
 use Rattle.pac_checker.specs.Checking.{Checking, ledger_of}
 use Rattle.graph_core.specs.Algebra.InRange.{IsRefusedInRange, IsRefusedCloseInRange}
 use Rattle.pac_checker.specs.declared.fault.LineFault.{LineFault}
@@ -28,7 +28,7 @@ IsCloseFault e sides l id close.Memory = Unit {0}
 
 -- the same of a line of code over a checker, and of a closing one
 abbrev pub IsLineFault : Checking → PacLine → LineFault → Type 0
-IsLineFault c line fault = IfSome (told c.table line) (λ x. IsFault c.extended (ledger_of c) x fault)
+IsLineFault c line fault = IfSome (line_in c.table line) (λ x. IsFault c.extended (ledger_of c) x fault)
 
 abbrev pub IsClosingFault : Checking → ℕ → CloseFault → Type 0
 IsClosingFault c id fault = IsCloseFault c.extended c.sides (ledger_of c) id fault

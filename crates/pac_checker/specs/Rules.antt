@@ -13,7 +13,7 @@ use Rattle.graph_core.specs.Algebra as algebra
 use Rattle.graph_core.specs.Algebra.Refusal.{first_missing}
 use Rattle.mv_fact.specs.Facts.{Facts, IsKept, fact_at}
 use Rattle.poly_terms.specs.Tables.{Table, Sum, IsOf, Extends, modulus, value_in, monomials_in}
-use Rattle.poly_text.specs.Lines.{told_part}
+use Rattle.poly_text.specs.Lines.{part_in}
 use Rattle.pac_checker.specs.declared.fault.LineFault.{LineFault}
 use Rattle.pac_checker.specs.declared.fault.LineFault.TheVariants.{Id, NoSuchLine, NotEqual, Memory}
 use Rattle.graph_core.specs.Algebra.Agreement.{Agree, AreSame, AreSameLines}
@@ -47,14 +47,14 @@ pub record IsNamed (old new : Facts Sum Table) (ids : List ℕ) (f : Assignment 
 
 -- the ids of some lines, each times a polynomial
 abbrev pub ids_of : Table → List (ℕ × Sum) → List ℕ
-ids_of t parts = map (λ part. part.id) (map (told_part t) parts)
+ids_of t parts = map (λ part. part.id) (map (part_in t) parts)
 
 -- The lines are live, and the polynomials that vanish sum up to theirs, each times its factor.
 pub record AreProducts (old new : Facts Sum Table) (parts : List (ℕ × Sum)) (products : List Sum) : Type 0 where
   pub live : first_missing (lines_in old.table old.entries) (ids_of old.table parts) ≡ None
   pub vanish : All (Vanishes new.gates new.table) products
   pub same : (σ : Assignment) → sum_by (λ p. value_in new.table p σ) products % modulus old.table ≡
-      combined (modulus old.table) (lines_in old.table old.entries) (map (told_part old.table) parts) σ % modulus old.table
+      combined (modulus old.table) (lines_in old.table old.entries) (map (part_in old.table) parts) σ % modulus old.table
 
 -- lines of polynomials of a table, as the definitions know them
 abbrev pub sum_line : Table → ℕ → ℕ → ℕ → Sum → Line
@@ -64,7 +64,7 @@ abbrev pub product_line : Table → ℕ → ℕ → Sum → Sum → Line
 product_line t id i factor p = algebra.Product id i (monomials_in t factor) (monomials_in t p)
 
 abbrev pub combination_line : Table → ℕ → List (ℕ × Sum) → Sum → Line
-combination_line t id parts p = algebra.Combination id (map (told_part t) parts) (monomials_in t p)
+combination_line t id parts p = algebra.Combination id (map (part_in t) parts) (monomials_in t p)
 
 -- the values that steps of a rule name: a sum and one more line, a line times a polynomial, two lines, polynomials
 abbrev pub added_value : Facts Sum Table → Sum → ℕ → Assignment → ℕ
@@ -81,7 +81,7 @@ total_value facts parts σ = sum_by (λ p. value_in facts.table p σ) parts
 
 -- the sum of some lines, each times a polynomial
 abbrev pub combined_value : Facts Sum Table → List (ℕ × Sum) → Assignment → ℕ
-combined_value facts parts σ = combined (modulus facts.table) (lines_of facts) (map (told_part facts.table) parts) σ
+combined_value facts parts σ = combined (modulus facts.table) (lines_of facts) (map (part_in facts.table) parts) σ
 
 -- the line is refused over the checker's ledger
 abbrev pub IsRefused : Checking → Line → LineFault → Type 0

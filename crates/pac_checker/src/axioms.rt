@@ -17,7 +17,7 @@ use poly_terms::Poly;
 use ripple_graft::Extended;
 use std::alloc::Global;
 
-/// Makes the axiom of a gate live, unless its variable has one.
+// Makes the axiom of a gate live, unless its variable has one.
 fn add_axiom(alloc: Global, live: &mut Live<'_, Poly>, gate: &Gate) -> Result<(), Memory>
     requires { Always live.old.gates (Computes gate.now) }
     ensures { OnOk result
@@ -31,7 +31,7 @@ fn add_axiom(alloc: Global, live: &mut Live<'_, Poly>, gate: &Gate) -> Result<()
     }
 }
 
-/// Makes the axiom of each gate live.
+// Makes the axiom of each gate live.
 fn add_gates(alloc: Global, live: &mut Live<'_, Poly>, gates: &[Gate]) -> Result<(), Memory>
     requires gates { live.old.gates ≡ gates.now }
     requires empty { live.old.entries ≡ [] }
@@ -46,7 +46,7 @@ fn add_gates(alloc: Global, live: &mut Live<'_, Poly>, gates: &[Gate]) -> Result
     Ok(())
 }
 
-/// The old and the new output of column k, where it is replaced.
+// The old and the new output of column k, where it is replaced.
 fn column_at(extended: &Extended<'_>, k: u32) -> Option<(Lit, Lit)>
     requires in_range { k < length extended.now.graph.outputs }
     requires extension { IsExtension extended.now }
@@ -60,7 +60,7 @@ fn column_at(extended: &Extended<'_>, k: u32) -> Option<(Lit, Lit)>
     Some((old, new))
 }
 
-/// Makes the difference of two literals that are equal on every evaluation live.
+// Makes the difference of two literals that are equal on every evaluation live.
 fn add_difference(
     alloc: Global,
     live: &mut Live<'_, Poly>,
@@ -80,7 +80,7 @@ fn add_difference(
     }
 }
 
-/// Makes the axiom of column k live, where the column is replaced.
+// Makes the axiom of column k live, where the column is replaced.
 fn add_column(
     alloc: Global,
     live: &mut Live<'_, Poly>,
@@ -104,7 +104,7 @@ fn add_column(
     }
 }
 
-/// Makes the axiom of each replaced column live.
+// Makes the axiom of each replaced column live.
 fn add_columns(
     alloc: Global,
     live: &mut Live<'_, Poly>,

@@ -1,3 +1,4 @@
+// The checker: live polynomials, line by line.
 #![tactic(auto, using(crate::proofs::Lawful::sound_grown, crate::proofs::Lawful::grows, crate::proofs::Lawful::grows_itself, crate::proofs::Growth::keeps_lines, poly_terms::specs::Laws::stays))]
 
 ghost use Rattle.std.specs.Prelude.{◌≡◌, ◌*◌, ◌<◌, ◌≤◌, [], IfOk, OnOk, OnErr, IfErr, IsSome};
@@ -7,7 +8,7 @@ ghost use Rattle.graph_core.specs.Algebra as algebra;
 ghost use Rattle.graph_core.specs.Graph.Operands.{width, AreOperandsOf, HasMultiplierShape};
 ghost use Rattle.mv_fact.specs.Always.{Always};
 ghost use Rattle.poly_terms.specs.Tables.{IsOf, modulus, monomials_in};
-ghost use Rattle.poly_text.specs.Lines.{told, AreOf};
+ghost use Rattle.poly_text.specs.Lines.{line_in, AreOf};
 ghost use Rattle.gate_axioms.specs.Axioms.{IsSpecification};
 ghost use Rattle.graph_core.specs.Algebra.Agreement.{Agree};
 ghost use Rattle.pac_checker.specs.Checking.{ledger_of, Takes, TakesLine, Grows, IsClosedBy, SpecificationVanishes};
@@ -104,7 +105,7 @@ impl<'a> PacChecker<'a> {
 
     /// Judges a line. Where it is lawful it is taken, and else the answer is its first fault.
     pub fn line(&mut self, line: &PacLine) -> Result<(), LineFault>
-        requires goes_on { IsSome (told self.old.table line.now) }
+        requires goes_on { IsSome (line_in self.old.table line.now) }
         requires of_table { AreOf self.old.table line.now }
         ensures taken { OnOk result (TakesLine line.now self.old self.new) }
         ensures refused { IfErr result (IsLineFault self.old line.now) }
@@ -151,7 +152,7 @@ impl<'a> PacChecker<'a> {
         self.live.grow(&mut work, &mut ())
     }
 
-    /// Whether a line has the value that is wanted.
+    // Whether a line has the value that is wanted.
     fn compare(&self, id: u64, wanted: &Poly) -> Result<(), CloseFault>
         requires wanted { IsOf self.now.table wanted.now }
         requires value { IsSpecification self.now.table wanted.now self.now.extended
@@ -225,7 +226,7 @@ impl<'a> PacChecker<'a> {
         Ok(())
     }
 
-    /// Compares the polynomial that a rule names with the stated one, and makes it live under a new id.
+    // Compares the polynomial that a rule names with the stated one, and makes it live under a new id.
     fn state(&mut self, id: u64, named: Poly, stated: &Poly) -> Result<(), LineFault>
         requires new_id { self.old.last < id }
         requires named { Vanishes self.old.extended.gates self.old.table named }
@@ -249,7 +250,7 @@ impl<'a> PacChecker<'a> {
     }
 }
 
-/// A new id is above the last one.
+// A new id is above the last one.
 fn judge_id(last: u64, id: u64) -> Result<(), LineFault>
     ensures new { OnOk result (last < id) }
     ensures used { IfErr result (λ fault. (fault ≡ LineFault.Id) × (id ≤ last)) }

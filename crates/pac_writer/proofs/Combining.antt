@@ -13,7 +13,7 @@ use Rattle.frontier_core.proofs.Gathered.{spare_is_lawful}
 use Rattle.poly_terms.specs.Tables.{Table, Sum, IsOf, monomials_in}
 use Rattle.poly_terms.proofs.Values.{normal as monomials_are_normal}
 use Rattle.poly_text.specs.declared.line.PacLine.TheVariants as line
-use Rattle.poly_text.specs.Lines.{told_part}
+use Rattle.poly_text.specs.Lines.{part_in}
 use Rattle.pac_writer.specs.Writing.{Made, AreLawfulSoFar, AreOver, combination_of, ledger_of, parts_in}
 use Rattle.pac_writer.specs.Kept.{CanFollow, IsKept}
 
@@ -71,7 +71,7 @@ combination_can_follow old parts poly id h is room over spare equal = record {
   spare = record {
     once = spare.once;
     nonzero = spare.nonzero;
-    factors = All-map (λ (p : Part). IsNormalForm (modulus old.extended) p.factor) (told_part old.table) parts (λ k d low. normal old _ h (over.factors k d low).0);
+    factors = All-map (λ (p : Part). IsNormalForm (modulus old.extended) p.factor) (part_in old.table) parts (λ k d low. normal old _ h (over.factors k d low).0);
     stated = normal old poly h over.stated.0;
   };
   greatest = refl;

@@ -12,7 +12,7 @@ use Rattle.graph_core.specs.Algebra.{LiveLine, Line, Ledger, Sum, Product, Combi
 use Rattle.frontier_core.proofs.LineLemmas.{lines_grow}
 use Rattle.poly_terms.specs.Tables.{Table}
 use Rattle.poly_text.specs.declared.line.PacLine.{PacLine}
-use Rattle.poly_text.specs.Lines.{told}
+use Rattle.poly_text.specs.Lines.{line_in}
 use Rattle.pac_writer.specs.Spare.{IsSpareLine}
 use Rattle.pac_writer.specs.Writing.{Made, AreLawfulSoFar, PutsLine, ledger_of, lines_in, made_of}
 use Rattle.pac_writer.specs.Kept.{AreKept, CanFollow, IsKept}
@@ -36,8 +36,8 @@ ids_after m l (Delete id) new h = All-filter (λ x. not (x.id == id)) (λ line. 
 
 -- ---- the lines that are kept
 
-lines_pushed : (t : Table) (xs : List PacLine) (x : PacLine) (y : Line) → told t x ≡ Some y → lines_in t (xs ++ x ∷ []) ≡ lines_in t xs ++ y ∷ []
-lines_pushed t xs x y is = filter_map-append (told t) xs (x ∷ []) ∙ ap (λ ys. lines_in t xs ++ ys) (one (told t x) is)
+lines_pushed : (t : Table) (xs : List PacLine) (x : PacLine) (y : Line) → line_in t x ≡ Some y → lines_in t (xs ++ x ∷ []) ≡ lines_in t xs ++ y ∷ []
+lines_pushed t xs x y is = filter_map-append (line_in t) xs (x ∷ []) ∙ ap (λ ys. lines_in t xs ++ ys) (one (line_in t x) is)
   where
     one : (o : Option Line) → o ≡ Some y → filter_map (λ z. z) (o ∷ []) ≡ y ∷ []
     one o e = rw e refl
@@ -64,11 +64,11 @@ so_far_grows l lines x last is none h can =
 
 -- one more line is kept
 pub line_follows : (e : Extended) (s : Sides) (t : Table) (xs ys : List PacLine) (x : PacLine) (before last : ℕ) (closing : Option ℕ) → ys ≡ xs ++ x ∷ [] →
-    AreKept e s t xs before closing → closing ≡ None → IsKept e.max t x → IsSomeAnd (told t x) (CanFollow (made_of e s t xs before closing) last) →
-    AreKept e s t ys last closing × IsSomeAnd (told t x) (λ y. PutsLine y last (made_of e s t xs before closing) (made_of e s t ys last closing))
-line_follows e s t xs ys x before last closing is h none kept can = go (told t x) refl can
+    AreKept e s t xs before closing → closing ≡ None → IsKept e.max t x → IsSomeAnd (line_in t x) (CanFollow (made_of e s t xs before closing) last) →
+    AreKept e s t ys last closing × IsSomeAnd (line_in t x) (λ y. PutsLine y last (made_of e s t xs before closing) (made_of e s t ys last closing))
+line_follows e s t xs ys x before last closing is h none kept can = go (line_in t x) refl can
   where
-    go : (o : Option Line) → told t x ≡ o → IsSomeAnd o (CanFollow (made_of e s t xs before closing) last) →
+    go : (o : Option Line) → line_in t x ≡ o → IsSomeAnd o (CanFollow (made_of e s t xs before closing) last) →
         AreKept e s t ys last closing × IsSomeAnd o (λ y. PutsLine y last (made_of e s t xs before closing) (made_of e s t ys last closing))
     go None said c = absurd c
     go (Some y) said c =
@@ -79,9 +79,9 @@ line_follows e s t xs ys x before last closing is h none kept can = go (told t x
 -- the same in the words of what contracts see
 pub put_follows : (old : Made) (e : Extended) (s : Sides) (t : Table) (xs ys : List PacLine) (x : PacLine) (before last : ℕ) (closing : Option ℕ) →
     made_of e s t xs before closing ≡ old → ys ≡ xs ++ x ∷ [] → AreKept e s t xs before closing → old.closing ≡ None →
-    IsKept old.extended.max old.table x → IsSomeAnd (told old.table x) (CanFollow old last) →
-    AreKept e s t ys last closing × IsSomeAnd (told old.table x) (λ y. PutsLine y last old (made_of e s t ys last closing))
+    IsKept old.extended.max old.table x → IsSomeAnd (line_in old.table x) (CanFollow old last) →
+    AreKept e s t ys last closing × IsSomeAnd (line_in old.table x) (λ y. PutsLine y last old (made_of e s t ys last closing))
 put_follows old e s t xs ys x before last closing view is h =
-    subst (λ (o : Made). o.closing ≡ None → IsKept o.extended.max o.table x → IsSomeAnd (told o.table x) (CanFollow o last) →
-    AreKept e s t ys last closing × IsSomeAnd (told o.table x) (λ y. PutsLine y last o (made_of e s t ys last closing))) view
+    subst (λ (o : Made). o.closing ≡ None → IsKept o.extended.max o.table x → IsSomeAnd (line_in o.table x) (CanFollow o last) →
+    AreKept e s t ys last closing × IsSomeAnd (line_in o.table x) (λ y. PutsLine y last o (made_of e s t ys last closing))) view
     (λ none kept can. line_follows e s t xs ys x before last closing is h none kept can)

@@ -15,19 +15,19 @@ use Rattle.poly_terms.specs.Tables as table
 use Rattle.poly_terms.specs.Laws.{modulus_stays, monomials_stay, stays}
 use Rattle.poly_text.specs.declared.line.PacLine.{PacLine}
 use Rattle.poly_text.specs.declared.line.PacLine.TheVariants.{Sum, Product, Combination, Drop, Close}
-use Rattle.poly_text.specs.Lines.{AreOf, told, told_part}
+use Rattle.poly_text.specs.Lines.{AreOf, line_in, part_in}
 use Rattle.poly_text.specs.WrittenLaws.{AreUpTo, IsUpTo}
 use Rattle.pac_writer.specs.Writing.{Grows, lines_in, made_of}
 use Rattle.pac_writer.specs.Kept.{AreKept, IsKept}
 
 -- ---- a line
 
-parts_stay : (old new : Table) (parts : List (ℕ × table.Sum)) → Extends old new → AllByRecursion (λ part. IsOf old part.1) parts → map (told_part new) parts ≡ map (told_part old) parts
+parts_stay : (old new : Table) (parts : List (ℕ × table.Sum)) → Extends old new → AllByRecursion (λ part. IsOf old part.1) parts → map (part_in new) parts ≡ map (part_in old) parts
 parts_stay old new [] e h = refl
 parts_stay old new (part ∷ parts) e h =
     ap₂ ◌∷◌ (ap (λ (q : Polynomial). record { id = part.0; factor = q }) (monomials_stay old new part.1 e h.0)) (parts_stay old new parts e h.1)
 
-told_stays : (old new : Table) (x : PacLine) → Extends old new → AreOf old x → told new x ≡ told old x
+told_stays : (old new : Table) (x : PacLine) → Extends old new → AreOf old x → line_in new x ≡ line_in old x
 told_stays old new (Sum id i j poly) e h = ap (λ p. Some (algebra.Sum id i j p)) (monomials_stay old new poly e h)
 told_stays old new (Product id i factor poly) e h = ap₂ (λ q p. Some (algebra.Product id i q p)) (monomials_stay old new factor e h.0) (monomials_stay old new poly e h.1)
 told_stays old new (Combination id parts poly) e h =

@@ -18,7 +18,7 @@ use Rattle.poly_text.specs.declared.line.PacLine.{PacLine}
 use Rattle.poly_text.specs.declared.line.PacLine.TheVariants as line
 use Rattle.graph_core.specs.Algebra.Likeness.{AreAlike}
 use Rattle.poly_text.specs.LineTexts.{IsTextOf}
-use Rattle.poly_text.specs.Lines.{told}
+use Rattle.poly_text.specs.Lines.{line_in}
 use Rattle.poly_text.specs.WrittenLines.{line_text}
 use Rattle.poly_text.proofs.WrittenAgain.{written_lines_are_read}
 use Rattle.pac_writer.specs.Writing.{Made, lines_in, made_of}
@@ -35,7 +35,7 @@ pub record SaysLine (max m : ℕ) (text : List ℕ) (y : Option Line) : Type 0 w
   pub in_range : IsLineInRange max line
   pub alike : IsSomeAnd y (AreAlike m line)
 
-says_line : (t : Table) (max : ℕ) (x : PacLine) → GoesOn x → IsTextOf t max (line_text t x) x → SaysLine max (modulus t) (line_text t x) (told t x)
+says_line : (t : Table) (max : ℕ) (x : PacLine) → GoesOn x → IsTextOf t max (line_text t x) x → SaysLine max (modulus t) (line_text t x) (line_in t x)
 says_line t max (line.Sum id i j poly) h s = record { line = s.0; text_is = s.1; in_range = s.2; alike = s.3.alike }
 says_line t max (line.Product id i factor poly) h s = record { line = s.0; text_is = s.1; in_range = s.2; alike = s.3.alike }
 says_line t max (line.Combination id parts poly) h s = record { line = s.0; text_is = s.1; in_range = s.2; alike = s.3.alike }
@@ -43,7 +43,7 @@ says_line t max (line.Drop id) h s = record { line = s.0; text_is = s.1; in_rang
 says_line t max (line.Close id) h s = absurd h
 
 -- what is written for a line that is kept says this line
-kept_says : (t : Table) (max : ℕ) (x : PacLine) → IsWidth t.width → max < 2 ^ 32 → IsKept max t x → SaysLine max (modulus t) (line_text t x) (told t x)
+kept_says : (t : Table) (max : ℕ) (x : PacLine) → IsWidth t.width → max < 2 ^ 32 → IsKept max t x → SaysLine max (modulus t) (line_text t x) (line_in t x)
 kept_says t max x width small h = says_line t max x h.goes_on (written_lines_are_read t max x width small h.«of» h.writable h.up_to)
 
 -- Lines that a text says, and then these bytes, alike to those that were told.
@@ -67,7 +67,7 @@ kept_say : (t : Table) (max : ℕ) (xs : List PacLine) (after : List ℕ) → Is
     SaysLines max (modulus t) (written_texts t xs ++ after) after (lines_in t xs)
 kept_say t max [] after width small h = record { lines = []; texts = refl; in_range = tt; alike = refl }
 kept_say t max (x ∷ xs) after width small h =
-    more_says max (modulus t) (line_text t x) (written_texts t xs) after (told t x) (lines_in t xs) (kept_says t max x width small h.0) (kept_say t max xs after width small h.1)
+    more_says max (modulus t) (line_text t x) (written_texts t xs) after (line_in t x) (lines_in t xs) (kept_says t max x width small h.0) (kept_say t max xs after width small h.1)
 
 -- ---- the file
 

@@ -13,7 +13,7 @@ use Rattle.poly_terms.specs.Tables.{Table, modulus}
 use Rattle.poly_terms.specs.Tables as table
 use Rattle.poly_text.specs.declared.line.PacLine.{PacLine}
 use Rattle.poly_text.specs.declared.line.PacLine.TheVariants.{Sum, Product, Combination, Drop, Close}
-use Rattle.poly_text.specs.Lines.{told_part}
+use Rattle.poly_text.specs.Lines.{part_in}
 use Rattle.poly_text.specs.WrittenLines.{joint_text, poly_text, written_text}
 use Rattle.poly_text.specs.WrittenLines as written
 use Rattle.pac_writer.specs.Certificates.{lines_text, parts_text}
@@ -25,7 +25,7 @@ abbrev pub written_texts : Table → List PacLine → List ℕ
 written_texts t [] = []
 written_texts t (x ∷ xs) = written_text t x ++ written_texts t xs
 
-same_parts : (t : Table) (first : Bool) (parts : List (ℕ × table.Sum)) → written.parts_text t first parts ≡ parts_text (modulus t) first (map (told_part t) parts)
+same_parts : (t : Table) (first : Bool) (parts : List (ℕ × table.Sum)) → written.parts_text t first parts ≡ parts_text (modulus t) first (map (part_in t) parts)
 unfolding poly_text
 same_parts t first [] = refl
 same_parts t first (part ∷ parts) = ap (λ rest. joint_text first ++ written.part_text t part ++ rest) (same_parts t false parts)

@@ -9,7 +9,7 @@ use Rattle.graph_core.specs.Algebra.{Line, Combination, Part, Ledger, AreLawfulL
 use Rattle.poly_terms.specs.Tables.{Table, Sum, IsOf, Extends, monomials_in}
 use Rattle.poly_terms.specs.Tables as table
 use Rattle.poly_text.specs.declared.line.PacLine.{PacLine}
-use Rattle.poly_text.specs.Lines.{told, told_part}
+use Rattle.poly_text.specs.Lines.{line_in, part_in}
 use Rattle.poly_text.specs.WrittenLaws.{IsUpTo}
 use Rattle.pac_writer.specs.Spare.{IsSpareLine}
 
@@ -25,7 +25,7 @@ pub record Made : Type 0 where
 
 -- the lines that code keeps, in the words of the definitions
 abbrev pub lines_in : Table → List PacLine → List Line
-lines_in t lines = filter_map (told t) lines
+lines_in t lines = filter_map (line_in t) lines
 
 abbrev pub made_of : Extended → Sides → Table → List PacLine → ℕ → Option ℕ → Made
 made_of e s t lines last closing = record { extended = e; sides = s; table = t; lines = lines_in t lines; last = last; closing = closing }
@@ -66,7 +66,7 @@ pub record AreOver (max : ℕ) (t : Table) (parts : List (ℕ × Sum)) (poly : S
 
 -- parts in the words of the definitions
 abbrev pub parts_in : Table → List (ℕ × Sum) → List Part
-parts_in t parts = map (told_part t) parts
+parts_in t parts = map (part_in t) parts
 
 -- the combination with this id
 abbrev pub combination_of : Table → ℕ → List (ℕ × Sum) → Sum → Line

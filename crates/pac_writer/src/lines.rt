@@ -1,10 +1,11 @@
+// The lines of a certificate, each lawful as it is put.
 ghost use Rattle.std.specs.Prelude.{◌≡◌, ◌+◌, ◌<◌, ◌≤◌, ◌^◌, [], All, None, IfOk, OnOk, OnErr, IsSomeAnd, length};
 ghost use Rattle.graph_core.specs.Algebra.{Closes, Delete, IsEqual, IsLive, axioms};
 ghost use Rattle.graph_core.specs.Algebra as algebra;
 ghost use Rattle.frontier_core.specs.Pending.{AreSpare};
 ghost use Rattle.mv_nums.specs.Residue.{IsWidth};
 ghost use Rattle.poly_terms.specs.Tables.{modulus};
-ghost use Rattle.poly_text.specs.Lines.{told};
+ghost use Rattle.poly_text.specs.Lines.{line_in};
 ghost use Rattle.pac_writer.specs.Writing.{AreLawfulSoFar, AreOver, Grows, IsFresh, PutsLine, closed, combination_of, ledger_of, parts_in};
 ghost use Rattle.pac_writer.specs.Kept.{CanFollow, IsKept};
 
@@ -96,8 +97,8 @@ impl<'a> Lines<'a> {
     fn put(&mut self, line: PacLine, last: u64) -> Result<(), Memory>
         requires unclosed { self.old.closing ≡ None }
         requires kept { IsKept self.old.extended.max self.old.table line }
-        requires lawful { IsSomeAnd (told self.old.table line) (CanFollow self.old last) }
-        ensures writes { OnOk result (IsSomeAnd (told self.old.table line) (λ x. PutsLine x last self.old self.new)) }
+        requires lawful { IsSomeAnd (line_in self.old.table line) (CanFollow self.old last) }
+        ensures writes { OnOk result (IsSomeAnd (line_in self.old.table line) (λ x. PutsLine x last self.old self.new)) }
         ensures unchanged { OnErr result (self.new ≡ self.old) }
     {
         match self.lines.push(line) {

@@ -14,7 +14,7 @@ use ripple_graft::Extended;
 use std::alloc::{AllocError, Global};
 use std::test::Fail;
 
-/// Makes a polynomial of coefficients and variables.
+// Makes a polynomial of coefficients and variables.
 #[derive(Drop)]
 struct Make<'a> {
     parts: &'a [(u128, Vec<u32>)],

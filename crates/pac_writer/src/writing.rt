@@ -1,3 +1,4 @@
+// The text of all lines, written to a slot.
 ghost use Rattle.std.specs.Prelude.{◌≡◌, true, All, IsSome, Some};
 ghost use Rattle.mv_desk.specs.Calls.{Writes};
 ghost use Rattle.mv_desk.specs.declared.slot.Slot.TheVariants.{Algebra};

@@ -58,7 +58,7 @@ fn push_sum(width: u32, x: &Term, y: &Term, out: &mut Vec<Term>) -> Result<(), A
     Ok(())
 }
 
-/// Copies entries behind others.
+// Copies entries behind others.
 fn copy_behind(entries: &[Term], out: &mut Vec<Term>) -> Result<(), AllocError>
     ensures { OnOk result (out.new.items ≡ out.old.items ++ entries.now) }
 {
@@ -90,7 +90,7 @@ pub(crate) fn gather(alloc: Global, width: u32, raw: Vec<Term>) -> Result<Vec<Te
     Ok(out)
 }
 
-/// Whether entries are a sorted list as they stand. Most are, as they come or once they are sorted.
+// Whether entries are a sorted list as they stand. Most are, as they come or once they are sorted.
 fn is_orderly(width: u32, entries: &[Term]) -> bool
     requires { IsWidth width }
     ensures { IsTrue result → IsOrderly (2 ^ width) entries.now }
@@ -118,7 +118,7 @@ fn is_placed(width: u32, entries: &[Term], i: usize) -> bool
     coefficient != 0 && Residue::new(width, coefficient).value() == coefficient
 }
 
-/// Puts an entry behind others: added to the last where that has its monomial, and not at all where the sum is 0.
+// Puts an entry behind others: added to the last where that has its monomial, and not at all where the sum is 0.
 fn put_behind(width: u32, entry: Term, out: &mut Vec<Term>) -> Result<(), AllocError>
     requires { IsWidth width }
     ensures { OnOk result (IsPutBehind (2 ^ width) entry out.old.items out.new.items) }

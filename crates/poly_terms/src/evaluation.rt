@@ -35,7 +35,7 @@ fn are_true(variables: &[u32], values: &[bool]) -> bool
     true
 }
 
-/// Whether a variable is true: the constant and those past the end aren't.
+// Whether a variable is true: the constant and those past the end aren't.
 fn is_true(v: u32, values: &[bool]) -> bool
     ensures { result ≡ variable (listed values.now) v }
 {

@@ -7,6 +7,14 @@
 //! *Value*: that of the monomials in the table, modulo its modulus. *Of the table*: in normal form there, as each
 //! polynomial is that a call of this table made. *Extends*: gives each polynomial of the old table its value
 //! (`specs/Tables.antt`, with the laws in `specs/Laws.antt`; a caller names these in `using`).
+//!
+//! ```text
+//! let mut terms = Terms::new(alloc, 8);                            // coefficients modulo 2^8
+//! let gate = terms.make(&[(1, vec![in alloc; 3]?), (255, vec![in alloc; 1, 2]?)])?;   // x3 - x1 * x2
+//! let operands = terms.make(&[(1, vec![in alloc; 1, 2]?)])?;                          // x1 * x2
+//! let nothing = terms.substitute(&gate, 3, &operands)?;            // x1 * x2 in place of x3
+//! assert!(terms.size(&nothing) == 0);
+//! ```
 #![tactic(auto)]
 
 mod addition;

@@ -67,7 +67,7 @@ pub(crate) fn from_variables(alloc: Global, variables: &[u32]) -> Result<Monomia
     join(alloc, left.as_slice(), right.as_slice())
 }
 
-/// Whether the variables are a monomial's as they stand.
+// Whether the variables are a monomial's as they stand.
 fn is_rising(variables: &[u32]) -> bool
     ensures { IsTrue result → AreRising 0 variables.now }
 {

@@ -1,3 +1,4 @@
+// Monomials, each with one number.
 ghost use Rattle.std.specs.Prelude.{◌≡◌, ◌<◌, [], IfOk, length, get_or};
 ghost use Rattle.graph_core.specs.Algebra.NormalForm.{AreRising};
 ghost use Rattle.poly_terms.specs.Monomials.{AreMonomials, Grows, Stands, joined, without};

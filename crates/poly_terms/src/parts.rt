@@ -25,7 +25,7 @@ pub(crate) fn entries_of(
     Ok(out)
 }
 
-/// Puts the term of a part behind others. A part over the constant 0 has none.
+// Puts the term of a part behind others. A part over the constant 0 has none.
 fn push_part(
     alloc: Global,
     table: &mut Numbering,

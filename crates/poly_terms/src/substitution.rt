@@ -83,7 +83,7 @@ pub(crate) fn replacements(
     Ok(out)
 }
 
-/// The same for one term, behind others.
+// The same for one term, behind others.
 fn replace_behind(
     table: &mut Numbering,
     width: u32,

@@ -1,3 +1,4 @@
+// Sums of products, gathered apart from the table.
 ghost use Rattle.std.specs.Prelude.{◌≡◌, ◌*◌, ◌<◌, ◌^◌, ℕ, [], IfOk, OnOk, length, get_or};
 ghost use Rattle.graph_core.specs.Algebra.NormalForm.{AreRising};
 ghost use Rattle.graph_core.specs.Algebra.Polynomials.{product};
@@ -15,7 +16,7 @@ use graph_core::Memory;
 use std::alloc::{AllocError, Global};
 use std::marker::Model;
 
-/// SumOfProducts of polynomials of a table, as far as they are added up. Their monomials are numbered apart, so that the table
+/// Products of polynomials of a table, as far as they are added up. Their monomials are numbered apart, so that the table
 /// takes those of the whole sum alone.
 #[derive(Drop)]
 pub struct SumOfProducts {

@@ -1,3 +1,4 @@
+// The table of monomials, and all that makes polynomials.
 ghost use Rattle.std.specs.Prelude.{◌≡◌, ◌<◌, ◌↔◌, ◌+◌, ◌*◌, ◌%◌, All, Bool, false, IfOk, IsTrue, Some, [], length, option_map, slice_get, sum_by};
 ghost use Rattle.graph_core.specs.Graph.Assignments.{Assignment, bit, listed};
 ghost use Rattle.graph_core.specs.Algebra.NormalForm.{HasSize};

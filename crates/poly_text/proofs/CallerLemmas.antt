@@ -13,7 +13,7 @@ use Rattle.graph_core.specs.Text.JudgedLines.{BeginsWith}
 use Rattle.poly_terms.specs.Tables.{Table}
 use Rattle.poly_text.specs.AlgebraFiles.{BeginsWithNone, BeginsOutOfRange}
 use Rattle.poly_text.specs.LineTexts.{IsLineOf, IsTextOf}
-use Rattle.poly_text.specs.Lines.{told}
+use Rattle.poly_text.specs.Lines.{line_in}
 use Rattle.poly_text.specs.declared.line.PacLine.{PacLine}
 use Rattle.poly_text.specs.declared.line.PacLine.TheVariants as line
 
@@ -32,7 +32,7 @@ long_is_refused e s IsLong l left long = inl (long, refl)
 -- ---- the next line
 
 -- a line that is no closing line
-pub line_there : (t : Table) (max : ℕ) (left rest : List ℕ) (given : PacLine) (y : Line) → told t given ≡ Some y → BeginsWith (IsTextOf t max) left given rest →
+pub line_there : (t : Table) (max : ℕ) (left rest : List ℕ) (given : PacLine) (y : Line) → line_in t given ≡ Some y → BeginsWith (IsTextOf t max) left given rest →
     (x : Line) × BeginsWith IsLineText left x rest × IsLineInRange max x × IsLineOf t x given
 line_there t max left rest (line.Sum id i j poly) y e b = (b.1.0, (b.0, b.1.1, b.2), b.1.2, b.1.3)
 line_there t max left rest (line.Product id i factor poly) y e b = (b.1.0, (b.0, b.1.1, b.2), b.1.2, b.1.3)

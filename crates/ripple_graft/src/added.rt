@@ -1,3 +1,4 @@
+// What stands beside a graph: gates of an adder, and the columns that they replace.
 use graph_core::{Gate, Lit};
 
 // An adder behind a graph's gates.

@@ -1,3 +1,4 @@
+// Where a ripple-carry adder replaces columns.
 use graph_core::Lit;
 use std::marker::Model;
 

@@ -1,3 +1,4 @@
+// Why a cut is refused.
 use std::alloc::AllocError;
 use thiserror::Error;
 

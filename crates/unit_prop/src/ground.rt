@@ -10,7 +10,7 @@ use crate::watches::Watches;
 use clause_core::Clause;
 use graph_core::Memory;
 
-/// The most clauses that there can be.
+// The most clauses that there can be.
 const MOST: usize = 2147483646;
 
 /// Takes the room for one more clause.

@@ -1,3 +1,4 @@
+// Chains of implications.
 ghost use Rattle.std.specs.Prelude.{◌≡◌, ◌<ℤ◌, pos, IfOk, IsSome};
 ghost use Rattle.unit_prop.specs.Trail.{IsWithin};
 ghost use Rattle.unit_prop.specs.Standing.{clause_at};

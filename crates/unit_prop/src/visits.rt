@@ -43,7 +43,7 @@ pub(crate) enum Settled {
     Conflict,
 }
 
-/// The other node of a node's clause.
+// The other node of a node's clause.
 fn partner_of(node: u32) -> u32
     requires { node < 4294967295 }
     ensures { result ≡ partner node }
@@ -51,7 +51,7 @@ fn partner_of(node: u32) -> u32
     if node % 2 == 0 { node + 1 } else { node - 1 }
 }
 
-/// A literal of the clause that isn't false, other than this one.
+// A literal of the clause that isn't false, other than this one.
 fn replacement(trail: &Trail, lits: &[i32], other: i32) -> Option<i32>
     requires { All (IsWithin trail.now.max) lits.now }
     ensures { MatchOption result
@@ -66,7 +66,7 @@ fn replacement(trail: &Trail, lits: &[i32], other: i32) -> Option<i32>
     None
 }
 
-/// Looks after a clause one of whose watched literals is false.
+// Looks after a clause one of whose watched literals is false.
 fn settle(
     trail: &mut Trail,
     clauses: &[Option<Clause>],
@@ -98,7 +98,7 @@ fn settle(
     }
 }
 
-/// Where a node whose literal is false is hung up again. After a conflict that is where it was.
+// Where a node whose literal is false is hung up again. After a conflict that is where it was.
 fn next_literal(
     clauses: &[Option<Clause>],
     trail: &mut Trail,

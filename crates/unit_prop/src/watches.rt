@@ -34,7 +34,7 @@ use std::marker::Model;
 /// The end of each chain, and no clause.
 pub(crate) const NONE: u32 = u32::MAX;
 
-/// One watch of a clause: nodes 2r and 2r + 1 are those of clause r.
+// One watch of a clause: nodes 2r and 2r + 1 are those of clause r.
 #[derive(Clone, Copy)]
 struct Node {
     /// The literal that is watched; 0 where there is none.

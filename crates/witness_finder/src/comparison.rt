@@ -1,3 +1,4 @@
+// The order of monomials by which the least operands are found.
 ghost use Rattle.std.specs.Prelude.{MatchBool};
 ghost use Rattle.graph_core.specs.Graph.Operands.{inputs_in};
 ghost use Rattle.frontier_core.specs.LeastDifference.{AreInputs, Precedes};

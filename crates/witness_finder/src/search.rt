@@ -1,3 +1,4 @@
+// The search for the least operands at which a polynomial isn't 0.
 ghost use Rattle.std.specs.Prelude.{◌≡◌, ◌<◌, ◌^◌, ◌↔◌, IfSome, None, length, slice_index_or};
 ghost use Rattle.graph_core.specs.Graph.Assignments.{Assignment};
 ghost use Rattle.graph_core.specs.Graph.Operands.{inputs_in, inputs_of};

@@ -1,3 +1,4 @@
+// The bytes of one file in memory.
 ghost use Rattle.std.specs.Prelude.{◌≡◌, ◌++◌, [], take, OnOk, OnErr};
 
 use std::alloc::{AllocError, Global};

@@ -1,3 +1,4 @@
+// The files of a desk in memory, by their names.
 ghost use Rattle.std.specs.Prelude.{◌≡◌, ◌<◌, ◌++◌, ◌∷◌, [], length, set, IfOk, OnOk, OnErr};
 ghost use Rattle.std.specs.List.{position};
 ghost use Rattle.mv_desk.specs.Files.{file_at, file_of, is_named};

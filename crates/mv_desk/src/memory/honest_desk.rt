@@ -1,3 +1,4 @@
+// A desk in memory whose calls do what they say.
 ghost use Rattle.std.specs.Prelude.{◌≡◌, None, [], true, length, take, option_map, IfOk, IsOk, OnOk, OnErr};
 ghost use Rattle.std.specs.Io.{ReadsAtMost};
 ghost use Rattle.std.specs.Io.KnownBytes.{ReadConsumes};

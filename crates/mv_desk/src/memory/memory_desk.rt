@@ -1,3 +1,4 @@
+// A desk in memory whose calls fail as a script says.
 ghost use Rattle.std.specs.Prelude.{◌≡◌, ◌||◌, if◌then◌else◌, [], true, length, take, is_err, is_none, is_ok, option_map, IfOk, IsErr, IsTrue, OnOk, OnErr};
 ghost use Rattle.std.specs.Io.{ReadsAtMost};
 ghost use Rattle.std.specs.Io.KnownBytes.{ReadConsumes};

@@ -1,3 +1,4 @@
+// Where a slot stands in the files.
 use super::bytes::Bytes;
 
 /// What a slot has of the files.

@@ -1,3 +1,4 @@
+// The places of all slots.
 ghost use Rattle.std.specs.Prelude.{◌≡◌};
 ghost use Rattle.mv_desk.specs.Memory.{fresh_places, place_at, with_place};
 ghost use Rattle.mv_desk.specs.declared.memory.place.Place.TheVariants.{Closed};

@@ -1,3 +1,4 @@
+// Which calls of a desk in memory fail, and how its reads are cut.
 ghost use Rattle.std.specs.Prelude.{◌≡◌, ◌≤◌, ◌<◌};
 
 use std::marker::Model;

@@ -1,3 +1,4 @@
+// Files in memory, with the slots in which they are open.
 ghost use Rattle.std.specs.Prelude.{◌≡◌, ◌<◌, ◌≤◌, ◌++◌, ℕ, [], true, false, length, take, min, is_some, option_map, OnOk, OnErr};
 ghost use Rattle.mv_desk.specs.Calls.{Creates, Opens, ReadsOnly, WritesTo};
 ghost use Rattle.mv_desk.specs.Files.{files_of, held_at};

@@ -1,3 +1,4 @@
+// How many bytes one call moves.
 ghost use Rattle.std.specs.Prelude.{◌≡◌, ◌<◌, ◌≤◌, ◌+◌, ◌++◌, true, [], length, take, drop, min, OnOk, OnErr};
 ghost use Rattle.mv_desk.specs.Memory.{is_written, Fits, WritesInto};
 

@@ -1,3 +1,4 @@
+// The channels of all slots.
 ghost use Rattle.std.specs.Prelude.{◌≡◌};
 
 use super::channel::Channel;

@@ -1,3 +1,4 @@
+// The desk of the machine's own files.
 use super::channel::Channel;
 use super::channels::Channels;
 use crate::counts::Counts;

@@ -7,14 +7,14 @@ use std::process::Abort;
 use std::str;
 use std::test::Fail;
 
-/// The certificates `x` and `y` of the graph `g`.
+// The certificates `x` and `y` of the graph `g`.
 const VERIFY: [&str; 7] = ["mulver", "verify", "g", "--clauses", "x", "--algebra", "y"];
 
-/// The lowest three outputs of the two-bit array.
+// The lowest three outputs of the two-bit array.
 const TWO_BIT_FRONT: &[u8] =
     b"aag 14 4 0 3 10\n2\n4\n6\n8\n10\n22\n28\n10 6 2\n12 6 4\n14 8 2\n16 8 4\n18 14 12\n20 15 13\n22 21 19\n24 18 16\n26 19 17\n28 27 25\n";
 
-/// A graph, more words, the status and the report.
+// A graph, more words, the status and the report.
 const UNPROVED: [(&str, &[u8], &[&str], u8, &str); 5] = [
     (
         "the second output is true",
@@ -53,7 +53,7 @@ const UNPROVED: [(&str, &[u8], &[&str], u8, &str); 5] = [
     ),
 ];
 
-/// No certificate is created.
+// No certificate is created.
 fn expect_unproved(
     rt: &impl Abort,
     alloc: Global,
@@ -86,7 +86,7 @@ const PROVED: [(&str, &[u8]); 3] = [
     ("its lowest three outputs", TWO_BIT_FRONT),
 ];
 
-/// What is proved, `check` accepts.
+// What is proved, `check` accepts.
 fn expect_proved(rt: &impl Abort, alloc: Global, graph: &[u8], shows: &str) -> Result<(), Fail> {
     let mut desk = desk(alloc, (graph, NO_CUT, ONE_BIT_ALGEBRA), &[], &[])?;
     expect(rt, alloc, &mut desk, &VERIFY, 0, "proved\n", shows)?;

@@ -8,7 +8,7 @@ use Rattle.graph_core.proofs.OfGraphs.CallerLemmas.{operands_are_sides}
 use Rattle.mv_desk.specs.declared.slot.Slot.TheVariants as slot
 use Rattle.mv_desk.proofs.CallerLemmas.{ReadsOnly-trans}
 use Rattle.mv_fact.specs.Always.{Always}
-use Rattle.poly_text.specs.LineReading.{lengths_of}
+use Rattle.mv_text.specs.LineReading.{lengths_of}
 use Rattle.joint_checker.specs.AlgebraBody.{IsBodyFail, IsLawfulBody}
 use Rattle.joint_checker.specs.AlgebraLines.{left_in}
 use Rattle.joint_checker.specs.Fails.{IsAlgebraFail}
