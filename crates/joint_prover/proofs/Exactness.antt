@@ -3,57 +3,22 @@ use Rattle.std.proofs.Common.{◌≡◌, ℕ, ◌*◌, ◌%◌, ◌^◌, List, r
 use Rattle.std.specs.Prelude.{Some, IfSome}
 use Rattle.std.specs.declared.option.Option.{Option}
 use Rattle.aiger_reader.specs.Refusals as reading
-use Rattle.aiger_reader.specs.Refusals.{IsFoundWithin, SpellsWithin}
-use Rattle.aiger_reader.specs.declared.fail.ReadFail.{ReadFail}
-use Rattle.aiger_reader.specs.declared.fail.ReadFail.TheVariants as fail
-use Rattle.aiger_reader.proofs.LimitLaws.{found_is_first}
+use Rattle.aiger_reader.specs.Refusals.{SpellsWithin}
 use Rattle.frontier_core.proofs.CallerLemmas.{least_difference_is_one}
 use Rattle.graph_core.specs.Graph.{Aig}
-use Rattle.graph_core.specs.Aiger.Refusal.{Refusal, Text, Header, Faulty}
 use Rattle.graph_core.specs.Graph.Operands.{Multiplies, value_on}
 use Rattle.graph_core.specs.declared.order.Order.{Order}
-use Rattle.graph_core.proofs.OfTexts.CallerLemmas.{not_spelled_and_refused, one_graph, one_refusal}
+use Rattle.graph_core.proofs.OfTexts.CallerLemmas.{one_graph}
+use Rattle.joint_checker.specs.Outcome.{IsGraphRefusal}
+use Rattle.joint_checker.proofs.CallerLemmas.{one_graph_refusal, refused_not_long, spelled_not_long, spelled_not_refused}
 use Rattle.joint_prover.specs.declared.verdict.Verdict.{Verdict}
 use Rattle.joint_prover.specs.declared.verdict.Verdict.TheVariants.{Proved, Wrong, Undecided, Graph, ReadFault, WriteFault, TooLong, Memory}
-use Rattle.joint_prover.specs.Verdicts.{GivesDue, HasGraph, IsFirstAbove, IsGraphRefusal, IsVerdict, IsVerdictDue, IsWithinBudget, IsWrong, VerdictsAreExact}
-
--- the reader's answer of a refusal
-abbrev answer_of : Refusal → ReadFail
-answer_of (Text p) = fail.Text p
-answer_of (Header f) = fail.Header f
-answer_of (Faulty f) = fail.Graph f
+use Rattle.joint_prover.specs.Verdicts.{GivesDue, HasGraph, IsFirstAbove, IsVerdict, IsVerdictDue, IsWithinBudget, IsWrong, VerdictsAreExact}
 
 wrong_same : (a c b d v w p q : ℕ) → a ≡ c → b ≡ d → v ≡ w → p ≡ q → Wrong a b v p ≡ Wrong c d w q
 wrong_same a c b d v w p q e f g h = cc
 
 module _ (limit : ℕ) (order : Order) (budget : ℕ) (file : List ℕ) where
-  found : (why : ReadFail) → IsGraphRefusal limit file why → (r : Refusal) × IsFoundWithin limit file r × (why ≡ answer_of r)
-  found (fail.Text p) h = (Text p, h, refl)
-  found (fail.Header f) h = (Header f, h, refl)
-  found (fail.Graph f) h = (Faulty f, h, refl)
-  found fail.Fault h = absurd h
-  found fail.TooLong h = absurd h
-  found fail.Memory h = absurd h
-
-  same_refusal : (why other : ReadFail) → IsGraphRefusal limit file why → IsGraphRefusal limit file other → why ≡ other
-  same_refusal why other h k =
-      let one = found why h in
-      let two = found other k in
-      one.2 ∙ ap answer_of (one_refusal file one.0 two.0 (found_is_first limit file one.0 one.1) (found_is_first limit file two.0 two.1)) ∙ sym two.2
-
-  not_both : (g : Aig) (why : ReadFail) → SpellsWithin limit file g → IsGraphRefusal limit file why → ⊥
-  not_both g why s h = let one = found why h in not_spelled_and_refused file g one.0 s.spells (found_is_first limit file one.0 one.1)
-
-  not_long : (g : Aig) → SpellsWithin limit file g → reading.IsTooLong limit file → ⊥
-  not_long g s long = let short = s.short in let far = long.long in omega arith
-
-  not_refused : (why : ReadFail) → IsGraphRefusal limit file why → reading.IsTooLong limit file → ⊥
-  not_refused why h long = let one = found why h in go one.0 one.1
-    where
-      go : (r : Refusal) → IsFoundWithin limit file r → ⊥
-      go r (inl within) = let short = within.0 in let far = long.long in omega arith
-      go r (inr before) = long.none r before.1 before.2
-
   -- a graph of the file, of which something holds
   abbrev Spelled : (Aig → Type 0) → Type 0
   Spelled P = (g : Aig) × SpellsWithin limit file g × P g
@@ -101,39 +66,39 @@ module _ (limit : ℕ) (order : Order) (budget : ℕ) (file : List ℕ) where
   exact Memory due h d = inr (inr (inr refl))
   exact Proved Proved h d = inl refl
   exact Proved (Wrong a b v p) h d = absurd (right_or_wrong a b v p h (d.0, d.1, d.3))
-  exact Proved (Graph why) h d = absurd (not_both h.0 why h.1 d)
-  exact Proved TooLong h d = absurd (not_long h.0 h.1 d)
+  exact Proved (Graph why) h d = absurd (spelled_not_refused limit file h.0 why h.1 d)
+  exact Proved TooLong h d = absurd (spelled_not_long limit file h.0 h.1 d)
   exact Proved (Undecided tried t n) h d = absurd d
   exact Proved ReadFault h d = absurd d
   exact Proved WriteFault h d = absurd d
   exact Proved Memory h d = absurd d
   exact (Wrong a b v p) Proved h d = absurd (right_or_wrong a b v p (d.0, d.1, d.3) h)
   exact (Wrong a b v p) (Wrong c e w q) h d = inl (one_wrong c e w q a b v p (d.0, d.1, d.3) h)
-  exact (Wrong a b v p) (Graph why) h d = absurd (not_both h.0 why h.1 d)
-  exact (Wrong a b v p) TooLong h d = absurd (not_long h.0 h.1 d)
+  exact (Wrong a b v p) (Graph why) h d = absurd (spelled_not_refused limit file h.0 why h.1 d)
+  exact (Wrong a b v p) TooLong h d = absurd (spelled_not_long limit file h.0 h.1 d)
   exact (Wrong a b v p) (Undecided tried t n) h d = absurd d
   exact (Wrong a b v p) ReadFault h d = absurd d
   exact (Wrong a b v p) WriteFault h d = absurd d
   exact (Wrong a b v p) Memory h d = absurd d
   exact (Undecided tried t n) Proved h d = absurd (within_or_above t n (d.0, d.1, d.2) h)
   exact (Undecided tried t n) (Wrong a b v p) h d = absurd (within_or_above t n (d.0, d.1, d.2) h)
-  exact (Undecided tried t n) (Graph why) h d = absurd (not_both h.0 why h.1 d)
-  exact (Undecided tried t n) TooLong h d = absurd (not_long h.0 h.1 d)
+  exact (Undecided tried t n) (Graph why) h d = absurd (spelled_not_refused limit file h.0 why h.1 d)
+  exact (Undecided tried t n) TooLong h d = absurd (spelled_not_long limit file h.0 h.1 d)
   exact (Undecided tried t n) (Undecided other u m) h d = absurd d
   exact (Undecided tried t n) ReadFault h d = absurd d
   exact (Undecided tried t n) WriteFault h d = absurd d
   exact (Undecided tried t n) Memory h d = absurd d
-  exact (Graph why) Proved h d = absurd (not_both d.0 why d.1 h)
-  exact (Graph why) (Wrong a b v p) h d = absurd (not_both d.0 why d.1 h)
-  exact (Graph why) (Graph other) h d = inl (ap Graph (same_refusal why other h d))
-  exact (Graph why) TooLong h d = absurd (not_refused why h d)
+  exact (Graph why) Proved h d = absurd (spelled_not_refused limit file d.0 why d.1 h)
+  exact (Graph why) (Wrong a b v p) h d = absurd (spelled_not_refused limit file d.0 why d.1 h)
+  exact (Graph why) (Graph other) h d = inl (ap Graph (one_graph_refusal limit file why other h d))
+  exact (Graph why) TooLong h d = absurd (refused_not_long limit file why h d)
   exact (Graph why) (Undecided tried t n) h d = absurd d
   exact (Graph why) ReadFault h d = absurd d
   exact (Graph why) WriteFault h d = absurd d
   exact (Graph why) Memory h d = absurd d
-  exact TooLong Proved h d = absurd (not_long d.0 d.1 h)
-  exact TooLong (Wrong a b v p) h d = absurd (not_long d.0 d.1 h)
-  exact TooLong (Graph why) h d = absurd (not_refused why d h)
+  exact TooLong Proved h d = absurd (spelled_not_long limit file d.0 d.1 h)
+  exact TooLong (Wrong a b v p) h d = absurd (spelled_not_long limit file d.0 d.1 h)
+  exact TooLong (Graph why) h d = absurd (refused_not_long limit file why d h)
   exact TooLong TooLong h d = inl refl
   exact TooLong (Undecided tried t n) h d = absurd d
   exact TooLong ReadFault h d = absurd d

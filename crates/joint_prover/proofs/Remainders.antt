@@ -7,6 +7,8 @@ use Rattle.std.proofs.lemmas.List.{length-map}
 use Rattle.std.proofs.lemmas.List.Sorted.{length_permutation}
 use Rattle.std.proofs.lemmas.List.Elements.{recursion_from_All}
 use Rattle.column_reducer.specs.Reducing.{GoesOn, IsPassed, IsRest, Planned, planned, value_after}
+use Rattle.column_reducer.specs.declared.reduced.Reduced.TheVariants as answer
+use Rattle.column_reducer.specs.declared.reduced.Reduced.TheVariants.{Rest}
 use Rattle.frontier_core.specs.declared.step.Step.TheVariants.{Add, Eliminate}
 use Rattle.frontier_core.specs.Columns.{all_columns}
 use Rattle.frontier_core.specs.Frontier.{frontier_value}
@@ -34,13 +36,10 @@ use Rattle.ripple_graft.specs.Extension.{IsExtension}
 use Rattle.joint_prover.proofs.PlanLists.{length-count_from, take-map}
 use Rattle.joint_prover.specs.declared.ending.Ending.{Ending}
 use Rattle.joint_prover.specs.declared.ending.Ending.TheVariants.{Closed, Differs, Passed}
-use Rattle.joint_prover.specs.Endings.{IsEnding, IsStart, IsWitness, IsWitnessOf}
+use Rattle.joint_prover.specs.Endings.{IsEnding, IsPlainlyReduced, IsStart, IsWitness, IsWitnessOf, plain_of}
 use Rattle.joint_prover.specs.Verdicts.{IsFirstAbove}
 
 -- ---- the plain plan
-
-abbrev pub plain_of : Extended → List ℕ → Planned
-plain_of e vs = planned e (plain_steps e vs) (length e.graph.outputs)
 
 pub plan_is_plain : (p : Planned) (e given : Extended) (vs : List ℕ) → p.extended ≡ e → given ≡ e → p.steps ≡ plain_steps given vs → p.uncounted ≡ length given.graph.outputs → p ≡ plain_of e vs
 plan_is_plain p e given vs extended same steps uncounted =
@@ -91,8 +90,19 @@ reads_inputs l start = subst (ReadInputs l.extended.graph) (sym start.sides) (si
 
 -- ---- the remainder
 
-module _ (l : Made) (start : IsStart l) (vs : List ℕ) (order : IsPlainOrder l.extended.gates vs) (after : Made) (goes : GoesOn l after) (poly : Sum) (id : ℕ)
-    (rest : IsRest (plain_of l.extended vs) l.sides after.table (ledger_of after).live poly id) where
+module _ (l : Made) (start : IsStart l) (budget : ℕ) (after : Made) (poly : Sum) (id : ℕ) (reduced : IsPlainlyReduced budget l after (Rest poly id)) where
+  abbrev vs : List ℕ
+  vs = reduced.order
+
+  order : IsPlainOrder l.extended.gates vs
+  order = reduced.plain
+
+  goes : GoesOn l after
+  goes = reduced.goes_on
+
+  rest : IsRest (plain_of l.extended vs) l.sides after.table (ledger_of after).live poly id
+  rest = reduced.reduced.0
+
   abbrev e : Extended
   e = l.extended
 
@@ -193,8 +203,8 @@ module _ (l : Made) (start : IsStart l) (vs : List ℕ) (order : IsPlainOrder l.
 
   -- ---- what a reduction comes to
 
-  pub ending_of : (budget : ℕ) (new : Made) (v : Ending) → IsWitness after new poly id v → IsEnding g s.order budget new v
-  ending_of budget new Closed h = (
+  pub ending_of : (new : Made) (v : Ending) → IsWitness after new poly id v → IsEnding g s.order budget new v
+  ending_of new Closed h = (
     record {
       closed = subst (λ (x : Made). IsSome x.closing) (sym h.1) refl;
       extended = ap (λ (x : Made). x.extended) h.1 ∙ goes.extended ∙ start.extended;
@@ -202,17 +212,17 @@ module _ (l : Made) (start : IsStart l) (vs : List ℕ) (order : IsPlainOrder l.
     },
     zero_multiplies h.0,
   )
-  ending_of budget new (Differs a b) h = witness_is_least a b h.0
-  ending_of budget new (Passed step size) h = absurd h
+  ending_of new (Differs a b) h = witness_is_least a b h.0
+  ending_of new (Passed step size) h = absurd h
 
-module _ (l : Made) (start : IsStart l) (vs : List ℕ) (order : IsPlainOrder l.extended.gates vs) where
-  pub first_above : (budget step size : ℕ) → IsPassed (plain_of l.extended vs) l.sides budget step size → IsFirstAbove l.extended.graph l.sides.order budget step size
-  first_above budget step size h =
-      let r = passed_is_first l.extended l.sides vs start.extension order budget step size h in
+module _ (l : Made) (start : IsStart l) where
+  pub first_above : (budget step size : ℕ) (after : Made) → IsPlainlyReduced budget l after (answer.Passed step size) → IsFirstAbove l.extended.graph l.sides.order budget step size
+  first_above budget step size after h =
+      let r = passed_is_first l.extended l.sides h.order start.extension h.plain budget step size h.reduced in
       let g = l.extended.graph in
       record {
         there = subst (λ (x : Extended). step ≤ length x.gates) start.extended r.0;
-        above = h.above;
+        above = h.reduced.above;
         size = subst (λ x. HasPlainSize (without_cut g) x step size) start.sides (subst (λ x. HasPlainSize x l.sides step size) start.extended r.1);
         first = λ i k before is. r.2 i k before (subst (λ x. HasPlainSize x l.sides i k) (sym start.extended) (subst (λ x. HasPlainSize (without_cut g) x i k) (sym start.sides) is));
       }

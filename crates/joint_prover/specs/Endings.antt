@@ -1,11 +1,15 @@
 -- What a reduction comes to. Private clauses alone cite this file.
-use Rattle.std.specs.Prelude.{◌≡◌, ℕ, ◌<◌, ◌^◌, [], length, None, IsSome}
+use Rattle.std.specs.Prelude.{◌≡◌, ℕ, ◌<◌, ◌^◌, List, [], length, None, IsSome}
+use Rattle.column_reducer.specs.Reducing.{GoesOn, IsReduced, Planned, planned}
+use Rattle.column_reducer.specs.declared.reduced.Reduced.{Reduced}
 use Rattle.frontier_core.specs.LeastDifference.{IsLeastDifference, IsLeastNonzero}
+use Rattle.frontier_core.specs.Plan.{plain_steps}
+use Rattle.frontier_core.specs.PlainOrder.{IsPlainOrder}
 use Rattle.graph_core.specs.Aiger.Soundness.{IsMultiplierSized}
 use Rattle.graph_core.specs.Algebra as algebra
 use Rattle.graph_core.specs.Graph.{Aig}
 use Rattle.graph_core.specs.Graph.Assignments.{Assignment}
-use Rattle.graph_core.specs.Graph.Extended.{without_cut}
+use Rattle.graph_core.specs.Graph.Extended.{Extended, without_cut}
 use Rattle.graph_core.specs.Graph.Operands.{Multiplies, inputs_in, inputs_of, sides_of}
 use Rattle.graph_core.specs.declared.order.Order.{Order}
 use Rattle.pac_writer.specs.Writing.{Made, closed}
@@ -24,6 +28,17 @@ pub record IsStart (l : Made) : Type 0 where
   pub unclosed : l.closing ≡ None
   pub sized : IsMultiplierSized l.extended.graph
   pub extension : IsExtension l.extended
+
+-- the plan of a plain order: all columns, and then the gates in that order
+abbrev pub plain_of : Extended → List ℕ → Planned
+plain_of e order = planned e (plain_steps e order) (length e.graph.outputs)
+
+-- The reduction of the plain order has this answer, and the lines go on.
+pub record IsPlainlyReduced (budget : ℕ) (old new : Made) (answer : Reduced) : Type 0 where
+  pub order : List ℕ
+  pub plain : IsPlainOrder old.extended.gates order
+  pub goes_on : GoesOn old new
+  pub reduced : IsReduced (plain_of old.extended order) old.sides budget new answer
 
 -- The lines are closed, over this graph.
 pub record IsClosed (g : Aig) (order : Order) (l : Made) : Type 0 where

@@ -2,7 +2,7 @@
 use Rattle.std.specs.Prelude.{◌≡◌, ◌≢◌, ◌⊎◌, ℕ, ◌*◌, ◌%◌, ◌^◌, ◌<◌, ◌≤◌, List, [], length, Some, IfSome, IsSome}
 use Rattle.std.specs.declared.option.Option.{Option}
 use Rattle.aiger_reader.specs.Refusals as reading
-use Rattle.aiger_reader.specs.Refusals.{Refuses, SpellsWithin}
+use Rattle.aiger_reader.specs.Refusals.{SpellsWithin}
 use Rattle.aiger_reader.specs.declared.fail.ReadFail.{ReadFail}
 use Rattle.aiger_reader.specs.declared.fail.ReadFail.TheVariants as fail
 use Rattle.frontier_core.specs.LeastDifference.{IsLeastDifference}
@@ -15,13 +15,11 @@ use Rattle.graph_core.specs.Text.JudgedLines.{Lengths, IsWithin}
 use Rattle.graph_core.specs.declared.order.Order.{Order}
 use Rattle.mv_desk.specs.View.{View, Rose, bytes_under}
 use Rattle.mv_desk.specs.declared.slot.Slot.{Slot}
+use Rattle.joint_checker.specs.Outcome.{IsGraphRefusal}
+pub use Rattle.joint_checker.specs.Files.{HasGraph}
 use Rattle.joint_prover.specs.declared.verdict.Verdict.{Verdict}
 use Rattle.joint_prover.specs.declared.verdict.Verdict.TheVariants.{Proved, Wrong, Undecided, Graph, ReadFault, WriteFault, TooLong, Memory}
 use Rattle.joint_prover.specs.Written.{Files, ReadsGraph, StopsWriting, WritesPair}
-
--- a graph that the file spells within its limit, where the file is told, and of which something holds
-abbrev pub HasGraph : ℕ → Option (List ℕ) → (Aig → Type 0) → Type 0
-HasGraph limit file P = (g : Aig) × IfSome file (λ bytes. SpellsWithin limit bytes g) × P g
 
 -- ---- proved
 
@@ -62,13 +60,6 @@ pub record IsWrong (g : Aig) (order : Order) (a b value product : ℕ) : Type 0 
   pub least : IsLeastDifference g order a b
   pub value_is : value ≡ value_on g order a b
   pub product_is : product ≡ a * b % 2 ^ length g.outputs
-
--- the graph file's first refusal: a byte, a field or a fault
-abbrev pub IsGraphRefusal : ℕ → List ℕ → ReadFail → Type 0
-IsGraphRefusal limit file (fail.Text p) = Refuses limit file (fail.Text p)
-IsGraphRefusal limit file (fail.Header f) = Refuses limit file (fail.Header f)
-IsGraphRefusal limit file (fail.Graph f) = Refuses limit file (fail.Graph f)
-IsGraphRefusal limit file _ = ⊥
 
 -- The certificates' text that is written, of a graph that the file spells.
 abbrev pub HasPair : ℕ → Order → Option (List ℕ) → (List ℕ → Type 0) → Type 0

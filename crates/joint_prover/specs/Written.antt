@@ -3,18 +3,9 @@ use Rattle.std.specs.Prelude.{◌≡◌, ◌≢◌, ◌⊎◌, List, ℕ}
 use Rattle.graph_core.specs.Certificates.{no_cut}
 use Rattle.mv_desk.specs.Calls.{Creates, Inspects, WritesPart, WritesTo}
 use Rattle.mv_desk.specs.View.{View, IsSame, ModeStays, SlotStays}
-use Rattle.mv_desk.specs.declared.names.Names.{Names}
 use Rattle.mv_desk.specs.declared.slot.Slot.{Slot}
 use Rattle.mv_desk.specs.declared.slot.Slot.TheVariants as slot
-
--- the names of the graph and of its certificates
-pub record Files : Type 0 where
-  pub graph : List ℕ
-  pub clauses : List ℕ
-  pub algebra : List ℕ
-
-abbrev pub files_of : Names → Files
-files_of names = record { graph = names.graph.now; clauses = names.clauses.now; algebra = names.algebra.now }
+pub use Rattle.joint_checker.specs.Files.{Files, files_of}
 
 -- nothing was created or written, and every slot but `Graph` is as it was
 pub record ReadsGraph (before after : View) : Type 0 where

@@ -6,7 +6,7 @@ ghost use Rattle.graph_core.specs.Graph.Operands.{sides_of};
 ghost use Rattle.ripple_graft.specs.Extension.{IsExtension};
 ghost use Rattle.frontier_core.specs.LeastDifference.{IsLeastDifference};
 ghost use Rattle.joint_prover.specs.Parts.{IsUndecided, IsWritten, IsWrongOrMemory};
-ghost use Rattle.mv_desk.specs.View.{KeepsTelling};
+ghost use Rattle.mv_desk.specs.View.{KeepsTelling, OpensFiles};
 ghost use Rattle.joint_prover.specs.Verdicts.{IsOfGraph, IsVerdict, answer_of_graph};
 ghost use Rattle.joint_prover.specs.Written.{ReportStays, files_of};
 
@@ -36,12 +36,15 @@ pub fn verify<D: Desk>(
         (D.seen desk.old) (D.seen desk.new) result.0 }
     ensures rewriting { result.1 ≡ None }
     ensures report { ReportStays (D.seen desk.old) (D.seen desk.new) }
+    // The graph file, failed or not; files that are created don't count.
+    ensures opened { OpensFiles 1 (D.seen desk.old) (D.seen desk.new) }
     ensures later { (D.seen desk.old).write_faults ≤ (D.seen desk.new).write_faults }
     ensures tells { KeepsTelling (D.seen desk.old) (D.seen desk.new) }
 {
     (verdict(alloc, desk, order, budget, limits, names), None)
 }
 
+// The verdict alone: the graph file is read and judged.
 fn verdict<D: Desk>(
     alloc: Global,
     desk: &mut D,
@@ -53,6 +56,7 @@ fn verdict<D: Desk>(
     ensures verdict { IsVerdict limits.now.graph order budget (files_of names.now)
         (D.seen desk.old) (D.seen desk.new) result }
     ensures report { ReportStays (D.seen desk.old) (D.seen desk.new) }
+    ensures opened { OpensFiles 1 (D.seen desk.old) (D.seen desk.new) }
     ensures later { (D.seen desk.old).write_faults ≤ (D.seen desk.new).write_faults }
     ensures tells { KeepsTelling (D.seen desk.old) (D.seen desk.new) }
 {
@@ -81,6 +85,7 @@ fn judge<D: Desk>(
     requires { IsMultiplierSized graph.now }
     ensures verdict { IsOfGraph graph.now order budget (files_of names.now)
         (D.seen desk.old) (D.seen desk.new) result }
+    ensures opened { (D.seen desk.new).opened ≡ (D.seen desk.old).opened }
     ensures later { (D.seen desk.old).write_faults ≤ (D.seen desk.new).write_faults }
     ensures tells { KeepsTelling (D.seen desk.old) (D.seen desk.new) }
 {
@@ -107,6 +112,7 @@ fn judge_over<D: Desk>(
     requires sized { IsMultiplierSized extended.now.graph }
     ensures verdict { IsOfGraph extended.now.graph operands.now.order budget (files_of names.now)
         (D.seen desk.old) (D.seen desk.new) result }
+    ensures opened { (D.seen desk.new).opened ≡ (D.seen desk.old).opened }
     ensures later { (D.seen desk.old).write_faults ≤ (D.seen desk.new).write_faults }
     ensures tells { KeepsTelling (D.seen desk.old) (D.seen desk.new) }
 {
@@ -136,6 +142,7 @@ fn written<D: Desk>(desk: &mut D, lines: &Lines<'_>, names: &Names<'_>) -> Verdi
     requires closed { IsSome lines.now.closing }
     ensures verdict { IsWritten lines.now (files_of names.now) (D.seen desk.old) (D.seen desk.new)
         result }
+    ensures opened { (D.seen desk.new).opened ≡ (D.seen desk.old).opened }
     ensures later { (D.seen desk.old).write_faults ≤ (D.seen desk.new).write_faults }
     ensures tells { KeepsTelling (D.seen desk.old) (D.seen desk.new) }
 {
@@ -175,6 +182,7 @@ fn product(a: u64, b: u64, bits: u32) -> u128
     }
 }
 
+// No other plan was tried.
 fn undecided(alloc: Global, step: u64, size: u64) -> Verdict
     ensures { IsUndecided step size result }
 {

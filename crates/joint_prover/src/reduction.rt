@@ -7,7 +7,7 @@ ghost use Rattle.frontier_core.specs.LastFrontier.{IsOverInputs};
 ghost use Rattle.frontier_core.specs.LeastDifference.{AreInputs};
 ghost use Rattle.poly_terms.specs.Tables.{IsOf, monomials_in, value_in};
 ghost use Rattle.pac_writer.specs.Writing.{AreLawfulSoFar, ledger_of};
-ghost use Rattle.joint_prover.specs.Endings.{IsEnding, IsStart, IsWitness};
+ghost use Rattle.joint_prover.specs.Endings.{IsEnding, IsPlainlyReduced, IsStart, IsWitness};
 
 use crate::ending::Ending;
 use column_reducer::{Reduced, plain_plan, reduce};
@@ -17,20 +17,28 @@ use poly_terms::Poly;
 use std::alloc::Global;
 use witness_finder::least;
 
-/// Adds all columns and eliminates the gates in the plain order; where the remainder is 0 the lines are closed.
+/// The end of the plain order's reduction; where the remainder is 0 the lines are closed.
 pub(crate) fn reduced(alloc: Global, budget: u64, lines: &mut Lines<'_>) -> Result<Ending, Memory>
     requires { IsStart lines.old }
     ensures { IfOk result (IsEnding lines.old.extended.graph lines.old.sides.order budget lines.new) }
 {
-    let extended = lines.extended();
-    let plan = plain_plan(alloc, extended)?;
-    match reduce(alloc, &plan, budget, lines)? {
+    match reduced_plainly(alloc, budget, lines)? {
         Reduced::Rest { poly, id } => {
             are_lawful(lines);
             Ok(ended(lines, &poly, id))
         }
         Reduced::Passed { step, size } => Ok(Ending::Passed { step, size }),
     }
+}
+
+// Adds all columns and eliminates the gates in the plain order.
+fn reduced_plainly(alloc: Global, budget: u64, lines: &mut Lines<'_>) -> Result<Reduced, Memory>
+    requires { IsStart lines.old }
+    ensures { IfOk result (IsPlainlyReduced budget lines.old lines.new) }
+{
+    let extended = lines.extended();
+    let plan = plain_plan(alloc, extended)?;
+    reduce(alloc, &plan, budget, lines)
 }
 
 // Lines are lawful so far.

@@ -36,6 +36,7 @@ pub(crate) fn write_pair<D: Desk>(
     }
 }
 
+// The clause file.
 fn write_clauses<D: Desk>(desk: &mut D, name: &str) -> Result<(), WriteFault>
     ensures whole { OnOk result
         (WritesFile slot.Clauses name.now no_cut (D.seen desk.old) (D.seen desk.new)) }
@@ -50,6 +51,7 @@ fn write_clauses<D: Desk>(desk: &mut D, name: &str) -> Result<(), WriteFault>
     }
 }
 
+// The algebra file, of lines that are closed.
 fn write_algebra<D: Desk>(desk: &mut D, lines: &Lines<'_>, name: &str) -> Result<(), WriteFault>
     requires { IsSome lines.now.closing }
     ensures lawful { OnOk result
