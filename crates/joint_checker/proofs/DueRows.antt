@@ -1,19 +1,18 @@
 -- Of three files that are told just one answer is due: the graph's refusals, then those of the clause file, then those of the algebra file.
-use Rattle.std.proofs.Common.{◌≡◌, ℕ, List, Option, Some, None, refl, sym, ap, subst, ◌∙◌, arith, inl, inr, ⊎_elim}
+use Rattle.std.proofs.Common.{◌≡◌, ℕ, List, Option, Some, None, refl, sym, ap, subst, ◌∙◌, inl, inr, ⊎_elim}
 use Rattle.std.specs.Prelude.{◌⊎◌, IsSome}
-use Rattle.aiger_reader.specs.Refusals.{IsFoundWithin, IsTooLong, LongIsNoOther, SpellsWithin}
-use Rattle.aiger_reader.specs.declared.fail.ReadFail.TheVariants as fail
-use Rattle.aiger_reader.proofs.LimitLaws.{found_is_first, spelled_found_or_long}
+use Rattle.aiger_reader.specs.Refusals.{IsTooLong, SpellsWithin}
+use Rattle.aiger_reader.specs.declared.fail.ReadFail.{ReadFail}
+use Rattle.aiger_reader.proofs.LimitLaws.{spelled_found_or_long}
 use Rattle.graph_core.specs.Algebra.Refusal as cause
 use Rattle.graph_core.specs.Graph.Operands.{sides_of}
 use Rattle.graph_core.specs.Algebra.Refusal.{AlgebraCause, IsAlgebraRefusal}
 use Rattle.graph_core.specs.Graph.Extended.{Extended}
 use Rattle.graph_core.specs.Graph.{Aig}
-use Rattle.graph_core.specs.Aiger.Refusal as graph
 use Rattle.graph_core.specs.Text.JudgedLines.{IsExact}
 use Rattle.graph_core.specs.declared.order.Order.{Order}
 use Rattle.graph_core.proofs.OfAlgebra.CallerLemmas.{algebra_is_exact}
-use Rattle.graph_core.proofs.OfTexts.CallerLemmas.{not_spelled_and_refused, one_graph, one_refusal, exact_map}
+use Rattle.graph_core.proofs.OfTexts.CallerLemmas.{one_graph, exact_map}
 use Rattle.mv_desk.specs.View.{View}
 use Rattle.mv_desk.specs.declared.limits.Limits.{Limits}
 use Rattle.mv_desk.specs.declared.slot.Slot.TheVariants as slot
@@ -27,8 +26,9 @@ use Rattle.joint_checker.specs.declared.checked.Refusal.TheVariants as refusal
 use Rattle.graph_core.specs.Certificates.{ClauseCause, GivesExtended, IsClauseRefusal, IsLawfulAlgebra, IsLawfulPair}
 use Rattle.graph_core.specs.Certificates as certificate
 use Rattle.joint_checker.specs.Files.{Files, Texts, texts_of}
-use Rattle.joint_checker.specs.Outcome.{IsDue, IsExactAnswer, IsOutcome, OneAnswerIsDue, OutcomesAreExact, cause_of}
+use Rattle.joint_checker.specs.Outcome.{IsDue, IsExactAnswer, IsGraphRefusal, IsOutcome, OneAnswerIsDue, OutcomesAreExact, cause_of}
 use Rattle.graph_core.proofs.OfCertificates.CallerLemmas.{clauses_are_exact}
+use Rattle.joint_checker.proofs.GraphFiles.{answer_of, one_graph_refusal, refused, refused_not_long, spelled_not_long, spelled_not_refused}
 
 -- causes of one thing, and behind it those of another
 next_exact : {C G H : Type 0} {Refused Others : C → Type 0} → IsExact G Refused → (G → IsExact H Others) → IsExact (G × H) (λ c. Refused c ⊎ (G × Others c))
@@ -38,19 +38,7 @@ next_exact e h = record {
   one = λ a b r s. ⊎_elim (λ x. ⊎_elim (λ y. e.one a b x y) (λ y. absurd (e.not_both a y.0 x)) s) (λ x. ⊎_elim (λ y. absurd (e.not_both b x.0 y)) (λ y. (h x.0).one a b x.1 y.1) s) r;
 }
 
--- a graph file that is too long spells no graph within the limit, and no refusal is found there
-long_is_no_other : LongIsNoOther
-long_is_no_other limit file long = (
-  λ g s. (let many = long.long in let few = s.short in absurd (omega (arith, many, few))),
-  λ r found. ⊎_elim (λ h. (let many = long.long in let few = h.0 in absurd (omega (arith, many, few)))) (λ h. long.none r h.1 h.2) found,
-)
-
 -- ---- the answers by their causes
-
-abbrev graph_answer : graph.Refusal → Checked
-graph_answer (graph.Text p) = checked.Graph (fail.Text p)
-graph_answer (graph.Header f) = checked.Graph (fail.Header f)
-graph_answer (graph.Faulty f) = checked.Graph (fail.Graph f)
 
 abbrev clause_answer : ℕ × ClauseCause → Checked
 clause_answer (line, certificate.Text) = checked.Refused (refusal.Clauses line clause.Text)
@@ -81,16 +69,15 @@ module _ (limits : Limits) (order : Order) (file clauses algebra : List ℕ) whe
   Spelled = (g : Aig) × SpellsWithin limits.graph file g
 
   abbrev IsGraphRefused : Checked → Type 0
-  IsGraphRefused c = ((r : graph.Refusal) × IsFoundWithin limits.graph file r × (c ≡ graph_answer r)) ⊎ (IsTooLong limits.graph file × (c ≡ checked.TooLong slot.Graph))
+  IsGraphRefused c = ((given : ReadFail) × IsGraphRefusal limits.graph file given × (c ≡ checked.Graph given)) ⊎ (IsTooLong limits.graph file × (c ≡ checked.TooLong slot.Graph))
 
   graph_exact : IsExact Spelled IsGraphRefused
   graph_exact = record {
-    decided = ⊎_elim inl (λ h. ⊎_elim (λ r. inr (graph_answer r.0, inl (r.0, r.1, refl))) (λ long. inr (checked.TooLong slot.Graph, inr (long, refl))) h) (spelled_found_or_long limits.graph file);
-    not_both = λ c s r. ⊎_elim (λ f. not_spelled_and_refused file s.0 f.0 s.1.spells (found_is_first limits.graph file f.0 f.1)) (λ long. (long_is_no_other limits.graph file long.0).0 s.0 s.1) r;
+    decided = ⊎_elim inl (λ h. inr (⊎_elim (λ r. (checked.Graph (answer_of r.0), inl (answer_of r.0, refused limits.graph file r.0 r.1, refl))) (λ long. (checked.TooLong slot.Graph, inr (long, refl))) h)) (spelled_found_or_long limits.graph file);
+    not_both = λ c s r. ⊎_elim (λ f. spelled_not_refused limits.graph file s.0 f.0 s.1 f.1) (λ long. spelled_not_long limits.graph file s.0 s.1 long.0) r;
     one = λ a b r s. ⊎_elim
-        (λ f. ⊎_elim (λ g. f.2 ∙ ap graph_answer (one_refusal file f.0 g.0 (found_is_first limits.graph file f.0 f.1) (found_is_first limits.graph file g.0 g.1)) ∙ sym g.2)
-        (λ long. absurd ((long_is_no_other limits.graph file long.0).1 f.0 f.1)) s)
-        (λ long. ⊎_elim (λ g. absurd ((long_is_no_other limits.graph file long.0).1 g.0 g.1)) (λ other. long.1 ∙ sym other.1) s) r;
+        (λ f. ⊎_elim (λ g. f.2 ∙ ap checked.Graph (one_graph_refusal limits.graph file f.0 g.0 f.1 g.1) ∙ sym g.2) (λ long. absurd (refused_not_long limits.graph file f.0 f.1 long.0)) s)
+        (λ long. ⊎_elim (λ g. absurd (refused_not_long limits.graph file g.0 g.1 long.0)) (λ other. long.1 ∙ sym other.1) s) r;
   }
 
   abbrev AreClausesRefused : Checked → Type 0
@@ -152,19 +139,14 @@ module _ (limits : Limits) (order : Order) (file clauses algebra : List ℕ) whe
   -- ---- what is due, by its causes
 
   due_is : (c : Checked) → IsDue limits order told c → ((c ≡ checked.Accepted) × All) ⊎ IsRefused c
-  due_is checked.Accepted h = inl (refl, ((h.0, h.1), ((h.0, h.1, (h.2.extended, h.2.gives)), (h.0, h.1, h.2))))
-  due_is (checked.Graph (fail.Text p)) h = inr (inl (inl (graph.Text p, h, refl)))
-  due_is (checked.Graph (fail.Header f)) h = inr (inl (inl (graph.Header f, h, refl)))
-  due_is (checked.Graph (fail.Graph f)) h = inr (inl (inl (graph.Faulty f, h, refl)))
-  due_is (checked.Graph fail.Fault) h = absurd h
-  due_is (checked.Graph fail.TooLong) h = absurd h
-  due_is (checked.Graph fail.Memory) h = absurd h
+  due_is checked.Accepted h = inl (refl, ((h.0, h.1), ((h.0, h.1, (h.2.0, h.2.2)), (h.0, h.1, record { extended = h.2.0; gives = h.2.2; lawful = h.2.3.0 }))))
+  due_is (checked.Graph given) h = inr (inl (inl (given, h, refl)))
   due_is (checked.Refused (refusal.Clauses line clause.Text)) h = inr (inr ((h.0.0, h.0.1), inl ((line, certificate.Text), h.1, refl)))
-  due_is (checked.Refused (refusal.Algebra line given)) h = inr (inr ((h.0, h.1), inr ((h.0, h.1, (h.2.0, h.2.1)), (h.0, h.1, (h.2.0, h.2.1, ((line, cause_of given), h.2.2, answer_is line given))))))
+  due_is (checked.Refused (refusal.Algebra line given)) h = inr (inr ((h.0, h.1), inr ((h.0, h.1, (h.2.0, h.2.2)), (h.0, h.1, (h.2.0, h.2.2, ((line, cause_of given), h.2.3, answer_is line given))))))
   due_is (checked.TooLong slot.Graph) h = inr (inl (inr (h, refl)))
   due_is (checked.TooLong slot.Other) h = absurd h
   due_is (checked.TooLong slot.Clauses) h = inr (inr ((h.0.0, h.0.1), inl ((h.1.0, certificate.TooLong), h.1.1, refl)))
-  due_is (checked.TooLong slot.Algebra) h = inr (inr ((h.0, h.1), inr ((h.0, h.1, (h.2.0, h.2.1)), (h.0, h.1, (h.2.0, h.2.1, ((h.2.2.0, cause.TooLong), h.2.2.1, refl))))))
+  due_is (checked.TooLong slot.Algebra) h = inr (inr ((h.0, h.1), inr ((h.0, h.1, (h.2.0, h.2.2)), (h.0, h.1, (h.2.0, h.2.2, ((h.2.3.0, cause.TooLong), h.2.3.1, refl))))))
   due_is (checked.TooLong slot.Report) h = absurd h
   due_is checked.ReadFault h = absurd h
   due_is checked.Memory h = absurd h
@@ -176,28 +158,26 @@ module _ (limits : Limits) (order : Order) (file clauses algebra : List ℕ) whe
   abbrev IsSomeDue : Type 0
   IsSomeDue = (c : Checked) × IsDue limits order told c
 
-  found_due : (r : graph.Refusal) → IsFoundWithin limits.graph file r → IsSomeDue
-  found_due (graph.Text p) h = (checked.Graph (fail.Text p), h)
-  found_due (graph.Header f) h = (checked.Graph (fail.Header f), h)
-  found_due (graph.Faulty f) h = (checked.Graph (fail.Graph f), h)
-
   clause_due : Spelled → (p : ℕ × ClauseCause) → IsClauseRefusal (lengths_of limits) clauses p → IsSomeDue
   clause_due s (line, certificate.Text) h = (checked.Refused (refusal.Clauses line clause.Text), ((s.0, s.1, tt), h))
   clause_due s (line, certificate.TooLong) h = (checked.TooLong slot.Clauses, ((s.0, s.1, tt), (line, h)))
 
   module _ (g : Aig) (s : SpellsWithin limits.graph file g) (e : Extended) (gives : Gives g e) where
     algebra_due : (p : ℕ × AlgebraCause) → IsAlgebraRefusal e (sides_of order g) (lengths_of limits) algebra p → IsSomeDue
-    algebra_due (line, cause.TooLong) h = (checked.TooLong slot.Algebra, (g, s, (e, gives, (line, h))))
-    algebra_due (line, cause.Text) h = (checked.Refused (refusal.Algebra line why.Text), (g, s, (e, gives, h)))
-    algebra_due (line, cause.Range) h = (checked.Refused (refusal.Algebra line why.Range), (g, s, (e, gives, h)))
-    algebra_due (line, cause.Id) h = (checked.Refused (refusal.Algebra line why.Id), (g, s, (e, gives, h)))
-    algebra_due (line, (cause.NoSuchLine id)) h = (checked.Refused (refusal.Algebra line (why.NoSuchLine id)), (g, s, (e, gives, h)))
-    algebra_due (line, cause.NotEqual) h = (checked.Refused (refusal.Algebra line why.NotEqual), (g, s, (e, gives, h)))
-    algebra_due (line, cause.NotSpecification) h = (checked.Refused (refusal.Algebra line why.NotSpec), (g, s, (e, gives, h)))
+    algebra_due (line, cause.TooLong) h = (checked.TooLong slot.Algebra, (g, s, (e, gives.itself, gives, (line, h))))
+    algebra_due (line, cause.Text) h = (checked.Refused (refusal.Algebra line why.Text), (g, s, (e, gives.itself, gives, h)))
+    algebra_due (line, cause.Range) h = (checked.Refused (refusal.Algebra line why.Range), (g, s, (e, gives.itself, gives, h)))
+    algebra_due (line, cause.Id) h = (checked.Refused (refusal.Algebra line why.Id), (g, s, (e, gives.itself, gives, h)))
+    algebra_due (line, (cause.NoSuchLine id)) h = (checked.Refused (refusal.Algebra line (why.NoSuchLine id)), (g, s, (e, gives.itself, gives, h)))
+    algebra_due (line, cause.NotEqual) h = (checked.Refused (refusal.Algebra line why.NotEqual), (g, s, (e, gives.itself, gives, h)))
+    algebra_due (line, cause.NotSpecification) h = (checked.Refused (refusal.Algebra line why.NotSpec), (g, s, (e, gives.itself, gives, h)))
+
+  lawful_due : (g : Aig) → SpellsWithin limits.graph file g → IsLawfulPair (lengths_of limits) g order clauses algebra → IsSomeDue
+  lawful_due g s pair = (checked.Accepted, (g, s, (pair.extended, pair.gives.itself, pair.gives, (pair.lawful, tt))))
 
   some_due : IsSomeDue
-  some_due = ⊎_elim (λ l. (checked.Accepted, l.1.1))
-      (λ r. ⊎_elim (λ x. ⊎_elim (λ f. found_due f.0 f.1) (λ long. (checked.TooLong slot.Graph, long.0)) x)
+  some_due = ⊎_elim (λ l. lawful_due l.1.1.0 l.1.1.1 l.1.1.2)
+      (λ r. ⊎_elim (λ x. ⊎_elim (λ f. (checked.Graph f.0, f.1)) (λ long. (checked.TooLong slot.Graph, long.0)) x)
       (λ x. ⊎_elim (λ y. clause_due x.0 y.0 y.1) (λ y. algebra_due y.1.0 y.1.1 y.1.2.0 y.1.2.1 y.1.2.2.0 y.1.2.2.1) x.1) r.1) all_exact.decided
 
 -- ---- three files that are told
@@ -228,7 +208,7 @@ module _ (limits : Limits) (order : Order) (files : Files) (before after : View)
   due_of given h told due k = inl (one_answer_is_due.one limits order (texts_of before files) told given due h k)
 
   exact : (given : Checked) → IsOutcome limits order files before after given → IsExactAnswer limits order files before after given
-  exact checked.Accepted h = due_of checked.Accepted h.0
+  exact checked.Accepted h = due_of checked.Accepted (h.0, h.1, (h.2.0, h.2.1, h.2.2, (h.2.3.0, tt)))
   exact (checked.Graph why) h = due_of (checked.Graph why) h
   exact (checked.Refused why) h = due_of (checked.Refused why) h
   exact (checked.TooLong at) h = due_of (checked.TooLong at) h

@@ -13,7 +13,7 @@ use Rattle.graph_core.specs.Graph.Operands.{Sides}
 use Rattle.mv_desk.specs.View.{View}
 use Rattle.mv_desk.specs.declared.faults.LineFail.{LineFail}
 use Rattle.mv_desk.specs.declared.faults.LineFail.TheVariants as text
-use Rattle.graph_core.specs.Algebra.Agreement.{Agree, AreSame}
+use Rattle.graph_core.specs.Algebra.Agreement.{Agree}
 use Rattle.pac_checker.specs.Checking.{Checking, ledger_of, Takes}
 use Rattle.graph_core.specs.Algebra.InRange.{IsRefusedCloseInRange, IsRefusedInRange}
 use Rattle.pac_checker.specs.Faults.{IsCloseFault, IsFault}

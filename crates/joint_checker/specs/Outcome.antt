@@ -10,7 +10,7 @@ use Rattle.graph_core.specs.Graph.Extended.{Extended}
 use Rattle.graph_core.specs.Graph.{Aig}
 use Rattle.graph_core.specs.Graph.Operands.{Multiplies, sides_of}
 use Rattle.graph_core.specs.declared.order.Order.{Order}
-use Rattle.mv_desk.specs.View.{View, SlotStays, Rose}
+use Rattle.mv_desk.specs.View.{View, OpensAtMost, OpensFiles, Rose, SlotStays}
 use Rattle.mv_desk.specs.declared.limits.Limits.{Limits}
 use Rattle.mv_desk.specs.declared.slot.Slot.TheVariants as slot
 use Rattle.mv_text.specs.LineReading.{lengths_of}
@@ -44,7 +44,7 @@ cause_of why.NotSpec = cause.NotSpecification
 
 -- The graph is spelled, and something holds of the clause file.
 abbrev pub MeetsClauses : Limits → Texts → (List ℕ → Type 0) → Type 0
-MeetsClauses limits texts P = HasGraph limits.graph texts (λ g. ⊤) × IfSome texts.clauses P
+MeetsClauses limits texts P = HasGraph limits.graph texts.graph (λ g. ⊤) × IfSome texts.clauses P
 
 -- The graph is spelled, the clause file gives an extended one, and something holds of both and of the algebra file.
 abbrev pub MeetsAlgebra : Limits → Texts → (Aig → Extended → List ℕ → Type 0) → Type 0
@@ -52,7 +52,7 @@ MeetsAlgebra limits texts P = HasExtended limits texts (λ g e. IfSome texts.alg
 
 -- The answer that is due: the pair is lawful, or the first refusal, or a length that is met before any refusal.
 abbrev pub IsDue : Limits → Order → Texts → Checked → Type 0
-IsDue limits order texts checked.Accepted = HasLawfulPair limits order texts
+IsDue limits order texts checked.Accepted = HasLawfulPair limits order texts (λ g. ⊤)
 IsDue limits order texts (checked.Graph why) = IfSome texts.graph (λ bytes. IsGraphRefusal limits.graph bytes why)
 IsDue limits order texts (checked.TooLong slot.Graph) = IfSome texts.graph (reading.IsTooLong limits.graph)
 IsDue limits order texts (checked.Refused (refusal.Clauses line clause.Text)) = MeetsClauses limits texts (λ bytes. IsClauseRefusal (lengths_of limits) bytes (line, certificate.Text))
@@ -65,8 +65,7 @@ IsDue limits order texts _ = ⊥
 
 -- Where each answer comes, as far as the desk tells the files.
 abbrev pub IsOutcome : Limits → Order → Files → View → View → Checked → Type 0
-IsOutcome limits order files before after checked.Accepted =
-    HasLawfulPair limits order (texts_of before files) × HasGraph limits.graph (texts_of before files) (λ g. Multiplies g order)
+IsOutcome limits order files before after checked.Accepted = HasLawfulPair limits order (texts_of before files) (λ g. Multiplies g order)
 IsOutcome limits order files before after checked.ReadFault = Rose before.read_faults after.read_faults
 IsOutcome limits order files before after checked.Memory = ⊤
 IsOutcome limits order files before after outcome = IsDue limits order (texts_of before files) outcome
@@ -87,7 +86,7 @@ IsOfClauses _ = ⊥
 
 -- The clause file is needed: the graph file spells a graph, and the answer isn't one of it.
 abbrev pub NeedsClauses : Limits → Texts → Checked → Type 0
-NeedsClauses limits texts answer = HasGraph limits.graph texts (λ g. ⊤) × ¬ (IsOfGraph answer)
+NeedsClauses limits texts answer = HasGraph limits.graph texts.graph (λ g. ⊤) × ¬ (IsOfGraph answer)
 
 -- The algebra file is needed: moreover the clause file gives an extended graph, and the answer isn't one of it.
 abbrev pub NeedsAlgebra : Limits → Texts → Checked → Type 0
@@ -99,6 +98,16 @@ pub record OpensNeeded (limits : Limits) (texts : Texts) (before after : View) (
   pub clauses : SlotStays slot.Clauses before after ⊎ NeedsClauses limits texts answer
   pub algebra : SlotStays slot.Algebra before after ⊎ NeedsAlgebra limits texts answer
   pub other : SlotStays slot.Other before after
+
+-- How many files were opened: up to the one that the answer is of. Where a read failed or memory was wanted, at most all three.
+abbrev pub OpensFor : Checked → View → View → Type 0
+OpensFor (checked.Graph why) before after = OpensFiles 1 before after
+OpensFor (checked.TooLong slot.Graph) before after = OpensFiles 1 before after
+OpensFor (checked.Refused (refusal.Clauses line why)) before after = OpensFiles 2 before after
+OpensFor (checked.TooLong slot.Clauses) before after = OpensFiles 2 before after
+OpensFor checked.ReadFault before after = OpensAtMost 3 before after
+OpensFor checked.Memory before after = OpensAtMost 3 before after
+OpensFor _ before after = OpensFiles 3 before after
 
 -- ---- exactness
 

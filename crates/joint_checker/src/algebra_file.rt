@@ -4,7 +4,7 @@ ghost use Rattle.graph_core.specs.Graph.Operands.{sides_of};
 ghost use Rattle.graph_core.specs.Algebra.{AgreeOnColumns, axioms, specification};
 ghost use Rattle.graph_core.specs.Aiger.Soundness.{IsMultiplierSized};
 ghost use Rattle.mv_desk.specs.Calls.{Inspects, ReadsOnly};
-ghost use Rattle.mv_desk.specs.View.{KeepsTelling, SlotStays, bytes_under};
+ghost use Rattle.mv_desk.specs.View.{KeepsTelling, OpensFiles, SlotStays, bytes_under};
 ghost use Rattle.mv_desk.specs.declared.slot.Slot.{Slot};
 ghost use Rattle.mv_desk.specs.declared.slot.Slot.TheVariants as slot;
 ghost use Rattle.mv_fact.specs.Always.{Always};
@@ -47,6 +47,7 @@ pub(crate) fn check_algebra<D: Desk>(
         (bytes_under (D.seen desk.old) name.now) (D.seen desk.old) (D.seen desk.new)) }
     ensures others { (other : Slot) → other ≢ slot.Algebra →
         SlotStays other (D.seen desk.old) (D.seen desk.new) }
+    ensures opened { OpensFiles 1 (D.seen desk.old) (D.seen desk.new) }
     ensures inspects { Inspects (D.seen desk.old) (D.seen desk.new) }
     ensures tells { KeepsTelling (D.seen desk.old) (D.seen desk.new) }
 {
