@@ -7,7 +7,7 @@ use Rattle.graph_core.specs.declared.gate.Gate.{Gate}
 use Rattle.graph_core.specs.Graph.Assignments.{Assignment}
 use Rattle.graph_core.specs.Graph.Operands.{ReadInputs, Sides}
 use Rattle.graph_core.specs.Graph.Extended.{Extended}
-use Rattle.graph_core.specs.Algebra.{Part, IsLive, axioms, combined, gate_axiom, line_of, specification, value_of}
+use Rattle.graph_core.specs.Algebra.{IsLive, axioms, combined, gate_axiom, line_of, specification, value_of}
 use Rattle.graph_core.specs.Algebra as algebra
 use Rattle.graph_core.specs.Algebra.Polynomials.{Term, difference}
 use Rattle.ripple_graft.specs.Extension.{IsExtension}

@@ -1,18 +1,18 @@
 -- Some gates of an extended graph without faults, computed from the other variables.
-use Rattle.std.specs.Prelude.{◌≡◌, ◌≢◌, ℕ, zero, suc, ◌+◌, ◌<◌, ◌≤◌, Bool, true, false, cond, List, [], ◌∷◌, ◌++◌, map, length, nat_lt, slice_index_or}
-use Rattle.std.specs.List.{All, AllByRecursion, Contains, filter}
-use Rattle.std.proofs.Common.{sym, ap, subst, ◌∙◌, arith, ⊎_elim, true≢false}
-use Rattle.std.proofs.lemmas.Bool.{cases_lt, lt-ltb, le-ltb}
+use Rattle.std.specs.Prelude.{◌≡◌, ◌≢◌, ℕ, zero, suc, ◌+◌, ◌<◌, Bool, true, false, cond, List, [], ◌∷◌, ◌++◌, map, length, slice_index_or}
+use Rattle.std.specs.List.{AllByRecursion, Contains, filter}
+use Rattle.std.proofs.Common.{sym, ap, subst, ◌∙◌, arith, true≢false}
 use Rattle.std.proofs.lemmas.List.Elements.{All-from_recursion, recursion_from_All, All-contains, All-filter, filter_passes}
 use Rattle.graph_core.specs.declared.literal.Lit.{Lit}
 use Rattle.graph_core.specs.declared.gate.Gate.{Gate}
 use Rattle.graph_core.specs.Graph.Literals.{variable_of}
 use Rattle.graph_core.specs.Graph.Assignments.{Assignment, literal}
-use Rattle.graph_core.specs.Graph.{IsEvaluation, IsOrder, IsAcyclic, defined, evaluation}
+use Rattle.graph_core.specs.Graph.{IsEvaluation, IsAcyclic, defined, evaluation}
 use Rattle.graph_core.specs.Graph.Operands.{Sides, ReadInputs, operand_literals}
 use Rattle.graph_core.specs.Graph.Extended.{Extended}
 use Rattle.ripple_graft.specs.Extension.{IsExtension, whole}
 use Rattle.graph_core.proofs.OfGraphs.CallerLemmas.{Distinct, evaluation_is, rounds-free, finds_none, literal_same, all_split, all_weaker, Apart, apart_from_pairs, gates_distinct, rest_apart}
+use Rattle.ripple_graft.proofs.CallerLemmas.{order_from, rank}
 use Rattle.frontier_core.specs.Sets.{has}
 use Rattle.frontier_core.specs.Columns.{AgreeOnOperands}
 use Rattle.frontier_core.specs.Frontier.{gates_among}
@@ -38,54 +38,6 @@ same_gate (y ∷ gates) x d (zero, below, is) = (
 same_gate (y ∷ gates) x d (suc k, below, is) =
     let other : y.v ≢ x.v = subst (λ z. y.v ≢ z.v) is (All-from_recursion (λ z. y.v ≢ z.v) gates d.0 k x (omega arith)) in
     ((λ e. absurd (other (sym e))), same_gate gates x d.1 (k, omega arith, is))
-
-abbrev pub unless : Bool → ℕ
-unless true = 0
-unless false = 1
-
--- how many gates are numbered at most as a variable is
-abbrev pub rank : List Gate → (ℕ → ℕ) → ℕ → ℕ
-rank [] number v = 0
-rank (x ∷ gates) number v = unless (nat_lt (number v) (number x.v)) + rank gates number v
-
-unless_below : (b : Bool) → unless b ≤ 1
-unless_below true = omega arith
-unless_below false = omega arith
-
-rank_below : (gates : List Gate) (number : ℕ → ℕ) (v : ℕ) → rank gates number v ≤ length gates
-rank_below [] number v = omega arith
-rank_below (x ∷ gates) number v = omega (arith, unless_below (nat_lt (number v) (number x.v)), rank_below gates number v)
-
-unless_more : (a b c : ℕ) → a ≤ b → unless (nat_lt a c) ≤ unless (nat_lt b c)
-unless_more a b c h =
-    ⊎_elim
-    (λ lt. let one : unless (nat_lt a c) ≡ 0 = ap unless (lt-ltb a c lt) in omega arith)
-    (λ ge. let one : unless (nat_lt b c) ≡ 1 = ap unless (le-ltb b c (omega arith)) in omega (arith, unless_below (nat_lt a c)))
-    (cases_lt a c)
-
-rank_more : (gates : List Gate) (number : ℕ → ℕ) (v w : ℕ) → number v ≤ number w → rank gates number v ≤ rank gates number w
-rank_more [] number v w h = omega arith
-rank_more (x ∷ gates) number v w h = omega (arith, unless_more (number v) (number w) (number x.v) h, rank_more gates number v w h)
-
-rank_rises : (gates : List Gate) (number : ℕ → ℕ) (v : ℕ) (k : ℕ) (d : Gate) → k < length gates → number v < number (slice_index_or gates k d).v →
-    rank gates number v < rank gates number (slice_index_or gates k d).v
-rank_rises [] number v k d h lt = absurd (omega arith)
-rank_rises (x ∷ gates) number v zero d h lt =
-    let low : unless (nat_lt (number v) (number x.v)) ≡ 0 = ap unless (lt-ltb (number v) (number x.v) lt) in
-    let high : unless (nat_lt (number x.v) (number x.v)) ≡ 1 = ap unless (le-ltb (number x.v) (number x.v) (omega arith)) in
-    omega (arith, rank_more gates number v x.v (omega arith))
-rank_rises (x ∷ gates) number v (suc k) d h lt =
-    let y = slice_index_or gates k d in
-    omega (arith, unless_more (number v) (number y.v) (number x.v) (omega arith), rank_rises gates number v k d (omega arith) lt)
-
--- Gates that are numbered above the variables that they read have an order.
-pub order_from : (gates : List Gate) (number : ℕ → ℕ) → All (λ x. number (variable_of x.left) < number x.v) gates → All (λ x. number (variable_of x.right) < number x.v) gates →
-    IsOrder gates (rank gates number)
-order_from gates number left right = record {
-  left = λ k d h. rank_rises gates number (variable_of (slice_index_or gates k d).left) k d h (left k d h);
-  right = λ k d h. rank_rises gates number (variable_of (slice_index_or gates k d).right) k d h (right k d h);
-  few = λ k d h. rank_below gates number (slice_index_or gates k d).v;
-}
 
 -- the gates that a test keeps have an order
 pub filter_order : (test : Gate → Bool) (gates : List Gate) → IsAcyclic gates → IsAcyclic (filter test gates)

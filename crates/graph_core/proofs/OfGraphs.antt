@@ -5,6 +5,7 @@ pub mod Congruence
 pub mod Decided
 pub mod Evaluation
 pub mod Faults
+pub mod FullAdders
 pub mod Gates
 pub mod Levels
 pub mod Lists

@@ -12,8 +12,7 @@ use Rattle.graph_maker.specs.Cells.{position, sum_after, carry_after}
 use Rattle.graph_maker.specs.Builder.{Builder, with_gates, or_false}
 use Rattle.graph_maker.specs.Cells.{half_gates, cell}
 use Rattle.graph_maker.specs.Ripple.{first, ripple}
-use Rattle.graph_core.proofs.OfGraphs.CallerLemmas.{all_split, literal-even, literal-odd, literal-negated}
-use Rattle.graph_maker.proofs.FullAdders.{full_adder}
+use Rattle.graph_core.proofs.OfGraphs.CallerLemmas.{all_split, full_adder, literal-even, literal-negated, literal-odd}
 
 -- the assignment gives each of the gates its value
 abbrev pub Computes : Assignment → List Gate → Type 0

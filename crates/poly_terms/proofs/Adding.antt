@@ -5,7 +5,7 @@ use Rattle.std.proofs.lemmas.List.Elements.{All-from_recursion}
 use Rattle.std.specs.List.{AllByRecursion}
 use Rattle.graph_core.specs.Graph.Assignments.{Assignment}
 use Rattle.graph_core.specs.Algebra.Polynomials.{product}
-use Rattle.poly_terms.specs.Entries.{Sum, Summand, total}
+use Rattle.poly_terms.specs.Entries.{Sum, Entry, total}
 use Rattle.poly_terms.specs.Monomials.{Adds, AreIn, Grows, Stands, total_in}
 use Rattle.poly_terms.specs.Laws.{all_in_grown, stands_in_grown}
 use Rattle.poly_terms.proofs.Gathering.{all_joined, total-append}
@@ -50,7 +50,7 @@ adds_on m a b c xs ys zs n k s p q both = record {
       plus_same m (k σ) (total_in b σ ys) (total_in a σ xs + n σ) (p.sums h σ) ∙ ap (λ z. z % m) (omega (arith, both σ));
 }
 
-pub total-take : (f : ℕ → ℕ) (es : Sum) (i : ℕ) (e : Summand) → i < length es → e ≡ get_or es i e → total f (take (i + 1) es) ≡ total f (take i es) + e.1 * f e.0
+pub total-take : (f : ℕ → ℕ) (es : Sum) (i : ℕ) (e : Entry) → i < length es → e ≡ get_or es i e → total f (take (i + 1) es) ≡ total f (take i es) + e.1 * f e.0
 total-take f es i e h at =
     ap (total f) (take_more es i e h) ∙ total-append f (take i es) (get_or es i e ∷ []) ∙ ap (λ x. total f (take i es) + (x.1 * f x.0 + 0)) (sym at) ∙ omega arith
 
@@ -65,14 +65,14 @@ turned : (l t u : ℕ) → l * t + u * l ≡ l * t + l * u
 turned l t u = omega arith
 
 -- the step of a loop that multiplies each entry
-pub one_more_product : (old mid : List (List ℕ)) (a : ℕ) (σ : Assignment) (es : Sum) (i : ℕ) (e : Summand) → Grows old mid → AreIn old es → i < length es → e ≡ get_or es i e →
+pub one_more_product : (old mid : List (List ℕ)) (a : ℕ) (σ : Assignment) (es : Sum) (i : ℕ) (e : Entry) → Grows old mid → AreIn old es → i < length es → e ≡ get_or es i e →
     a * total_in old σ (take i es) + a * (e.1 * product σ (get_or mid e.0 [])) ≡ a * total_in old σ (take (i + 1) es)
 one_more_product old mid a σ es i e g h in_list at =
     ap (λ vs. a * total_in old σ (take i es) + a * (e.1 * product σ vs)) (stands_in_grown old mid e.0 g (all_at (λ x. x.0 < length old) es i e in_list at h)) ∙
     spread a (total_in old σ (take i es)) (e.1 * product σ (get_or old e.0 [])) ∙ ap (λ n. a * n) (sym (total-take (λ k. product σ (get_or old k [])) es i e in_list at))
 
 -- the step of a loop over the other factor's entries
-pub one_more_row : (old mid : List (List ℕ)) (σ : Assignment) (left right : Sum) (i : ℕ) (e : Summand) → Grows old mid → AreIn old left → AreIn old right → i < length right → e ≡ get_or right i e →
+pub one_more_row : (old mid : List (List ℕ)) (σ : Assignment) (left right : Sum) (i : ℕ) (e : Entry) → Grows old mid → AreIn old left → AreIn old right → i < length right → e ≡ get_or right i e →
     total_in old σ left * total_in old σ (take i right) + e.1 * product σ (get_or mid e.0 []) * total_in mid σ left ≡ total_in old σ left * total_in old σ (take (i + 1) right)
 one_more_row old mid σ left right i e g p q in_list at =
     let l = total_in old σ left in

@@ -7,7 +7,7 @@ use Rattle.std.specs.List.{filter}
 use Rattle.graph_core.specs.Graph.Assignments.{Assignment}
 use Rattle.graph_core.specs.Algebra.Polynomials.{difference, product}
 use Rattle.graph_core.proofs.OfGraphs.CallerLemmas.{difference_is}
-use Rattle.poly_terms.specs.Entries.{IsGathered, Sum, Summand}
+use Rattle.poly_terms.specs.Entries.{IsGathered, Sum, Entry}
 use Rattle.poly_terms.specs.Monomials.{Adds, free_of, has_in, places_of, replaced, total_in}
 use Rattle.poly_terms.specs.Tables.{ArePlaces, Extends, IsOf, Table, assigned, modulus, quotient_value, value_in}
 use Rattle.poly_terms.specs.Laws.{stays, value_stays}
@@ -65,25 +65,25 @@ places-more : (ms : List (List ℕ)) (v : ℕ) (xs ys : Sum) → places_of ms v 
 places-more ms v [] ys = refl
 places-more ms v (x ∷ xs) ys = go (places-more ms v xs ys) (has_in ms v x)
   where
-    go : places_of ms v (xs ++ ys) ≡ places_of ms v xs ++ places_of ms v ys → (b : Bool) → map (λ (e : Summand). e.0) (cond b (x ∷ filter (has_in ms v) (xs ++ ys)) (filter (has_in ms v) (xs ++ ys))) ≡
-        map (λ (e : Summand). e.0) (cond b (x ∷ filter (has_in ms v) xs) (filter (has_in ms v) xs)) ++ places_of ms v ys
+    go : places_of ms v (xs ++ ys) ≡ places_of ms v xs ++ places_of ms v ys → (b : Bool) → map (λ (e : Entry). e.0) (cond b (x ∷ filter (has_in ms v) (xs ++ ys)) (filter (has_in ms v) (xs ++ ys))) ≡
+        map (λ (e : Entry). e.0) (cond b (x ∷ filter (has_in ms v) xs) (filter (has_in ms v) xs)) ++ places_of ms v ys
     go rest true = ap (λ ns. x.0 ∷ ns) rest
     go rest false = rest
 
-module _ (ms : List (List ℕ)) (v : ℕ) (es : Sum) (i : ℕ) (e : Summand) (within : i < length es) (at : e ≡ get_or es i e) where
+module _ (ms : List (List ℕ)) (v : ℕ) (es : Sum) (i : ℕ) (e : Entry) (within : i < length es) (at : e ≡ get_or es i e) where
   pub no_place_more : has_in ms v e ≡ false → places_of ms v (take i es) ≡ [] → places_of ms v (take (i + 1) es) ≡ []
   no_place_more none before =
       ap (places_of ms v) (take_more es i e within ∙ ap (λ x. take i es ++ x ∷ []) (sym at)) ∙ places-more ms v (take i es) (e ∷ []) ∙
-      ap₂ (λ ns b. ns ++ map (λ (x : Summand). x.0) (cond b (e ∷ []) [])) before none
+      ap₂ (λ ns b. ns ++ map (λ (x : Entry). x.0) (cond b (e ∷ []) [])) before none
 
   pub some_place : has_in ms v e ≡ true → places_of ms v es ≡ [] → ⊥
   some_place some none =
       let front = places_of ms v (take i es) in
-      let back = map (λ (x : Summand). x.0) (filter (has_in ms v) (drop (i + 1) es)) in
+      let back = map (λ (x : Entry). x.0) (filter (has_in ms v) (drop (i + 1) es)) in
       let split : places_of ms v es ≡ front ++ (e.0 ∷ back) =
       ap (places_of ms v) (sym (take-append-drop i es)) ∙ places-more ms v (take i es) (drop i es) ∙
       ap (λ xs. front ++ places_of ms v xs) (begins es i e within at) ∙
-      ap (λ b. front ++ map (λ (x : Summand). x.0) (cond b (e ∷ filter (has_in ms v) (drop (i + 1) es)) (filter (has_in ms v) (drop (i + 1) es)))) some in
+      ap (λ b. front ++ map (λ (x : Entry). x.0) (cond b (e ∷ filter (has_in ms v) (drop (i + 1) es)) (filter (has_in ms v) (drop (i + 1) es)))) some in
       let long = ap length (sym none ∙ split) ∙ length-append front (e.0 ∷ back) in
       absurd (omega arith)
 
@@ -93,11 +93,11 @@ total-free ms v σ b (e ∷ es) none = go (total-free ms v σ b es) (has_in ms v
   where
     go : (places_of ms v es ≡ [] → total_in ms (assigned σ v b) es ≡ total_in ms σ es) → (t : Bool) → has_in ms v e ≡ t → total_in ms (assigned σ v b) (e ∷ es) ≡ total_in ms σ (e ∷ es)
     go rest true is =
-        let some : map (λ (x : Summand). x.0) (cond true (e ∷ filter (has_in ms v) es) (filter (has_in ms v) es)) ≡ [] =
-        ap (λ t. map (λ (x : Summand). x.0) (cond t (e ∷ filter (has_in ms v) es) (filter (has_in ms v) es))) (sym is) ∙ none in
+        let some : map (λ (x : Entry). x.0) (cond true (e ∷ filter (has_in ms v) es) (filter (has_in ms v) es)) ≡ [] =
+        ap (λ t. map (λ (x : Entry). x.0) (cond t (e ∷ filter (has_in ms v) es) (filter (has_in ms v) es))) (sym is) ∙ none in
         absurd (cc)
     go rest false is =
-        let left : places_of ms v es ≡ [] = ap (λ t. map (λ (x : Summand). x.0) (cond t (e ∷ filter (has_in ms v) es) (filter (has_in ms v) es))) (sym is) ∙ none in
+        let left : places_of ms v es ≡ [] = ap (λ t. map (λ (x : Entry). x.0) (cond t (e ∷ filter (has_in ms v) es) (filter (has_in ms v) es))) (sym is) ∙ none in
         ap₂ (λ n k. e.1 * n + k) (product-other σ v b (get_or ms e.0 []) is) (rest left)
 
 -- its value doesn't hang on the variable

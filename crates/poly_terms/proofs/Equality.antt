@@ -10,7 +10,7 @@ use Rattle.graph_core.specs.Algebra.Polynomials.{product}
 use Rattle.graph_core.proofs.OfAlgebra.CallerLemmas.{normal_forms_differ}
 use Rattle.graph_core.proofs.OfGraphs.CallerLemmas.{same_from_difference}
 use Rattle.poly_terms.specs.Merges.{chosen, AreAfter}
-use Rattle.poly_terms.specs.Entries.{entry_order, add_entries, plus, total, Sum, Summand}
+use Rattle.poly_terms.specs.Entries.{entry_order, add_entries, plus, total, Sum, Entry}
 use Rattle.poly_terms.specs.Monomials.{AreIn}
 use Rattle.poly_terms.specs.Tables.{Table, IsOf, modulus, variables_in, monomials_in, value_in}
 use Rattle.poly_terms.proofs.Orders.{after_list, same_bound}
@@ -35,7 +35,7 @@ unfolding negated
 negated_in ms m [] h = tt
 negated_in ms m (e ∷ es) h = (h.0, negated_in ms m es h.1)
 
-negated_after : (m : ℕ) (bound : Option (Summand)) (es : Sum) → AreAfter entry_order bound es → AreAfter entry_order bound (negated m es)
+negated_after : (m : ℕ) (bound : Option (Entry)) (es : Sum) → AreAfter entry_order bound es → AreAfter entry_order bound (negated m es)
 unfolding negated
 negated_after m bound [] h = tt
 negated_after m bound (e ∷ es) h = (after_list bound e (e.0, m - e.1) refl h.0, same_bound e (e.0, m - e.1) (negated m es) refl (negated_after m (Some e) es h.1))
@@ -71,7 +71,7 @@ opposite t p q σ h same =
     value-plus t p (negated m q) σ ∙ ap₂ (λ a b. (a + b) % m) (same ∙ value-total t q σ) (value-total t (negated m q) σ) ∙ sum_of_reduced m (total f q) (total f (negated m q)) ∙
     ap (λ n. n % m) (omega (arith, none.1)) ∙ mul-mod_right m none.0
 
-same_heads : (m : ℕ) (x y : Summand) → x.0 ≡ y.0 → x.1 < m → y.1 < m → (x.1 + (m - y.1)) % m ≡ 0 → x ≡ y
+same_heads : (m : ℕ) (x y : Entry) → x.0 ≡ y.0 → x.1 < m → y.1 < m → (x.1 + (m - y.1)) % m ≡ 0 → x ≡ y
 same_heads m x y e xm ym h =
     let c : x.1 ≡ y.1 = same_from_difference m x.1 y.1 xm ym (ap (λ k. (x.1 + (m - k)) % m) (mod-eq_of_lt ym) ∙ h) in
     let pair : (x.0, x.1) ≡ (y.0, y.1) = ap₂ (λ (a b : ℕ). (a, b)) e c in

@@ -8,7 +8,7 @@ use Rattle.std.specs.List.{AllByRecursion}
 use Rattle.std.specs.Prelude.{option_map}
 use Rattle.graph_core.specs.Graph.Assignments.{Assignment}
 use Rattle.graph_core.specs.Algebra.Polynomials.{product, sum_of}
-use Rattle.poly_terms.specs.Entries.{IsGathered, Sum, Summand, appended, total}
+use Rattle.poly_terms.specs.Entries.{IsGathered, Sum, Entry, appended, total}
 use Rattle.poly_terms.specs.Monomials.{Adds, AreIn, AreMonomials, Grows, total_in}
 use Rattle.poly_terms.specs.Tables.{Table, Extends, IsOf, modulus, monomial_in, monomials_in, value_in}
 use Rattle.poly_terms.proofs.Adding.{all_at}
@@ -84,7 +84,7 @@ added-value w ms t ps out r σ e is g =
     value-total t r σ ∙ ap (λ es. total_in t.monomials σ es % modulus t) is ∙ h.sums (λ k. product σ (get_or t.monomials k [])) ∙ total-appended t ps σ
 
 -- the i-th entry's number is in the table
-pub number_in : (w : ℕ) (ms : List (List ℕ)) (t : Table) (p p' : Sum) (i n : ℕ) (e : Summand) → table_of w ms ≡ t → p' ≡ p → IsOf t p → i < length (monomials_in t p) → e ≡ get_or p' i e → n ≡ e.0 →
+pub number_in : (w : ℕ) (ms : List (List ℕ)) (t : Table) (p p' : Sum) (i n : ℕ) (e : Entry) → table_of w ms ≡ t → p' ≡ p → IsOf t p → i < length (monomials_in t p) → e ≡ get_or p' i e → n ≡ e.0 →
     n < length ms
 unfolding monomials_in
 number_in w ms t p p' i n e v f h low at is =
@@ -92,7 +92,7 @@ number_in w ms t p p' i n e v f h low at is =
     subst (λ k. k < length ms) (sym is) (all_at (λ x. x.0 < length ms) p' i e within at (numbers_of w ms t p p' v f h))
 
 -- and its variables
-pub vars_at : (w : ℕ) (ms : List (List ℕ)) (t : Table) (p p' : Sum) (i n : ℕ) (e : Summand) (vs : List ℕ) → table_of w ms ≡ t → p' ≡ p → i < length (monomials_in t p) → e ≡ get_or p' i e → n ≡ e.0 →
+pub vars_at : (w : ℕ) (ms : List (List ℕ)) (t : Table) (p p' : Sum) (i n : ℕ) (e : Entry) (vs : List ℕ) → table_of w ms ≡ t → p' ≡ p → i < length (monomials_in t p) → e ≡ get_or p' i e → n ≡ e.0 →
     get_or ms n [] ≡ vs → option_map (λ m. m.variables) (slice_get (monomials_in t p) i) ≡ Some vs
 unfolding monomials_in
 vars_at w ms t p p' i n e vs v f low at is there =

@@ -6,7 +6,7 @@ use Rattle.std.proofs.lemmas.List.Elements.{filter-append}
 use Rattle.std.proofs.lemmas.Option.{get_or_from_slice_get, slice_get_within, slice_get_cases}
 use Rattle.std.specs.List.{AllByRecursion, filter}
 use Rattle.graph_core.specs.Graph.Assignments.{Assignment}
-use Rattle.poly_terms.specs.Entries.{Sum, Summand, entry_order}
+use Rattle.poly_terms.specs.Entries.{Sum, Entry, entry_order}
 use Rattle.poly_terms.specs.Merges.{AreAfter}
 use Rattle.poly_terms.specs.Monomials.{free_of, has_in, places_of, replaced, replaced_one}
 use Rattle.poly_terms.proofs.Leaving.{all-filter}
@@ -17,7 +17,7 @@ abbrev rest_of : {X : Type 0} → List X → List X
 rest_of [] = []
 rest_of (x ∷ xs) = xs
 
-after-drop : (bound : Option Summand) (es : Sum) (i : ℕ) → AreAfter entry_order bound es → AreAfter entry_order bound (drop i es)
+after-drop : (bound : Option Entry) (es : Sum) (i : ℕ) → AreAfter entry_order bound es → AreAfter entry_order bound (drop i es)
 after-drop bound [] i h = subst (AreAfter entry_order bound) (sym (drop-nil i)) tt
 after-drop bound (e ∷ es) zero h = h
 after-drop bound (e ∷ es) (suc i) h = after-drop bound es i (weaker bound e es h.0 h.1)
@@ -37,7 +37,7 @@ numbers_differ : (n : ℕ) (es : Sum) → AllByRecursion (λ x. n ≢ x.0) es �
 numbers_differ n [] h = tt
 numbers_differ n (e ∷ es) h = (h.0, numbers_differ n es h.1)
 
-module _ (ms : List (List ℕ)) (v : ℕ) (places : List ℕ) (es : Sum) (i j : ℕ) (e : Summand) (order : AreAfter entry_order None es) (in_list : i < length es) (at : e ≡ get_or es i e)
+module _ (ms : List (List ℕ)) (v : ℕ) (places : List ℕ) (es : Sum) (i j : ℕ) (e : Entry) (order : AreAfter entry_order None es) (in_list : i < length es) (at : e ≡ get_or es i e)
     (left : drop j places ≡ places_of ms v (drop i es)) where
   abbrev later : Sum
   later = drop (i + 1) es
@@ -67,12 +67,12 @@ module _ (ms : List (List ℕ)) (v : ℕ) (places : List ℕ) (es : Sum) (i j : 
       go true is = absurd (none (first_left places j e.0 (places_of ms v later) (here true is)))
       go false is = (is, here false is)
 
-replaced-push : (ms : List (List ℕ)) (v : ℕ) (σ : Assignment) (n : ℕ) (xs : Sum) (x : Summand) →
+replaced-push : (ms : List (List ℕ)) (v : ℕ) (σ : Assignment) (n : ℕ) (xs : Sum) (x : Entry) →
     replaced ms v σ n (xs ++ x ∷ []) ≡ replaced ms v σ n xs + cond (has_in ms v x) (replaced_one ms v σ n x) 0
 replaced-push ms v σ n [] x = omega arith
 replaced-push ms v σ n (y ∷ ys) x = omega (arith, replaced-push ms v σ n ys x)
 
-module _ (ms : List (List ℕ)) (v : ℕ) (es : Sum) (i : ℕ) (e : Summand) (in_list : i < length es) (at : e ≡ get_or es i e) where
+module _ (ms : List (List ℕ)) (v : ℕ) (es : Sum) (i : ℕ) (e : Entry) (in_list : i < length es) (at : e ≡ get_or es i e) where
   more : take (i + 1) es ≡ take i es ++ e ∷ []
   more = take_more es i e in_list ∙ ap (λ x. take i es ++ x ∷ []) (sym at)
 

@@ -6,7 +6,7 @@ use Rattle.std.proofs.lemmas.List.{get_or_append_left, length-set}
 use Rattle.std.specs.List.{AllByRecursion}
 use Rattle.graph_core.specs.Graph.Assignments.{Assignment}
 use Rattle.graph_core.specs.Algebra.Polynomials.{product}
-use Rattle.poly_terms.specs.Entries.{Sum, Summand, total}
+use Rattle.poly_terms.specs.Entries.{Sum, Entry, total}
 use Rattle.poly_terms.specs.Laws.{all_in_grown}
 use Rattle.poly_terms.specs.Monomials.{Adds, AreIn, Grows, Stands, total_in}
 use Rattle.poly_terms.specs.Sums.{AddsTo, AreByNumber, Reaches, Summed, sum_in}
@@ -30,15 +30,15 @@ reaches_more number next old mid new low long is r = record {
       ap (λ (xs : Sum). (get_or xs i (0, 0)).0) is ∙ at_end mid next long (r.places h) i (omega arith);
 }
   where
-    last_of : (xs : Sum) (x : Summand) → get_or (xs ++ x ∷ []) (length xs) (0, 0) ≡ x
+    last_of : (xs : Sum) (x : Entry) → get_or (xs ++ x ∷ []) (length xs) (0, 0) ≡ x
     last_of [] x = refl
     last_of (y ∷ ys) x = last_of ys x
 
     at_end : (xs : Sum) (n : ℕ) → length xs ≡ n → ((i : ℕ) → i < length xs → (get_or xs i (0, 0)).0 ≡ i) → (i : ℕ) → i < length xs + 1 → (get_or (xs ++ (n, 0) ∷ []) i (0, 0)).0 ≡ i
     at_end xs n e h i low =
         ⊎_elim
-        (λ before. ap (λ (x : Summand). x.0) (get_or_append_left xs ((n, 0) ∷ []) (0, 0) i before) ∙ h i before)
-        (λ same. ap (λ j. (get_or (xs ++ (n, 0) ∷ []) j (0, 0)).0) same ∙ ap (λ (x : Summand). x.0) (last_of xs (n, 0)) ∙ sym e ∙ sym same)
+        (λ before. ap (λ (x : Entry). x.0) (get_or_append_left xs ((n, 0) ∷ []) (0, 0) i before) ∙ h i before)
+        (λ same. ap (λ j. (get_or (xs ++ (n, 0) ∷ []) j (0, 0)).0) same ∙ ap (λ (x : Entry). x.0) (last_of xs (n, 0)) ∙ sym e ∙ sym same)
         (split (eq-or-lt_of_le (omega arith)))
       where
         split : (i ≡ length xs) ⊎ (i < length xs) → (i < length xs) ⊎ (i ≡ length xs)
@@ -47,12 +47,12 @@ reaches_more number next old mid new low long is r = record {
 
 -- ---- one term changed
 
-total-set : (f : ℕ → ℕ) (es : Sum) (n : ℕ) (x : Summand) → n < length es → total f (set es n x) + (get_or es n (0, 0)).1 * f (get_or es n (0, 0)).0 ≡ total f es + x.1 * f x.0
+total-set : (f : ℕ → ℕ) (es : Sum) (n : ℕ) (x : Entry) → n < length es → total f (set es n x) + (get_or es n (0, 0)).1 * f (get_or es n (0, 0)).0 ≡ total f es + x.1 * f x.0
 total-set f [] n x h = absurd (omega arith)
 total-set f (e ∷ es) zero x h = omega arith
 total-set f (e ∷ es) (suc n) x h = omega (arith, total-set f es n x (omega arith))
 
-all_set : (P : Summand → Type 0) (es : Sum) (n : ℕ) (x : Summand) → P x → AllByRecursion P es → AllByRecursion P (set es n x)
+all_set : (P : Entry → Type 0) (es : Sum) (n : ℕ) (x : Entry) → P x → AllByRecursion P es → AllByRecursion P (set es n x)
 all_set P [] n x p h = tt
 all_set P (e ∷ es) zero x p h = (p, h.1)
 all_set P (e ∷ es) (suc n) x p h = (h.0, all_set P es n x p h.1)
@@ -86,8 +86,8 @@ by_number_set ms number c es low here h = record {
   within = all_set (λ e. e.0 < length ms) es number (number, c) low h.within;
   places = λ i in_list.
       let len = length-set es number (number, c) in
-      ⊎_elim (λ same. ap (λ j. (get_or (set es number (number, c)) j (0, 0)).0) same ∙ ap (λ (x : Summand). x.0) (get_or-set_same es number (number, c) (0, 0) here) ∙ sym same)
-      (λ other. ap (λ (x : Summand). x.0) (get_or-set_other es number i (number, c) (0, 0) other) ∙ h.places i (omega arith)) (same_or_not i number);
+      ⊎_elim (λ same. ap (λ j. (get_or (set es number (number, c)) j (0, 0)).0) same ∙ ap (λ (x : Entry). x.0) (get_or-set_same es number (number, c) (0, 0) here) ∙ sym same)
+      (λ other. ap (λ (x : Entry). x.0) (get_or-set_other es number i (number, c) (0, 0) other) ∙ h.places i (omega arith)) (same_or_not i number);
 }
   where
     same_or_not : (i n : ℕ) → (i ≡ n) ⊎ (i ≢ n)

@@ -7,7 +7,7 @@ use Rattle.graph_core.specs.Graph.Assignments.{Assignment}
 use Rattle.graph_core.specs.Algebra.Polynomials.{product, sum_of}
 use Rattle.graph_core.specs.Algebra.NormalForm.{AreRising, IsNormalTerm, IsNormalForm}
 use Rattle.poly_terms.specs.Merges.{AreAfter}
-use Rattle.poly_terms.specs.Entries.{entry_order, plus, total, Sum, Summand}
+use Rattle.poly_terms.specs.Entries.{entry_order, plus, total, Sum, Entry}
 use Rattle.poly_terms.specs.Monomials.{AreIn, AreMonomials}
 use Rattle.poly_terms.specs.Tables.{Table, IsOf, modulus, variables_in, monomial_in, monomials_in, value_in}
 use Rattle.poly_terms.proofs.Orders.{after-plus, all-plus, all_after}
@@ -33,7 +33,7 @@ value-plus t p q σ =
 pub not_zero : (n : ℕ) → (n == 0) ≡ false → 0 < n
 not_zero n h = let ne : n ≢ 0 = λ e. true≢false (sym (eq-eqb n 0 e) ∙ h) in omega arith
 
-pub sums_below : (m : ℕ) (x y : Summand) → ((x.1 + y.1) % m == 0) ≡ false → (0 < x.1) × (x.1 < m) → (0 < y.1) × (y.1 < m) → (0 < (x.1 + y.1) % m) × ((x.1 + y.1) % m < m)
+pub sums_below : (m : ℕ) (x y : Entry) → ((x.1 + y.1) % m == 0) ≡ false → (0 < x.1) × (x.1 < m) → (0 < y.1) × (y.1 < m) → (0 < (x.1 + y.1) % m) × ((x.1 + y.1) % m < m)
 sums_below m x y e p q =
     let low = p.0 in
     let high = p.1 in
@@ -59,12 +59,12 @@ unfolding monomials_in
 normal_terms t [] a b o = tt
 normal_terms t (e ∷ es) a b o = ((refl, a.0.0, a.0.1, rises t.monomials e.0 o b.0), normal_terms t es a.1 b.1 o)
 
-others : (t : Table) (x : Summand) (es : Sum) → AreMonomials t.monomials → x.0 < length t.monomials → AreIn t.monomials es → AllByRecursion (λ e. x.0 ≢ e.0) es → AllByRecursion (λ s. variables_in t x.0 ≢ s.variables) (monomials_in t es)
+others : (t : Table) (x : Entry) (es : Sum) → AreMonomials t.monomials → x.0 < length t.monomials → AreIn t.monomials es → AllByRecursion (λ e. x.0 ≢ e.0) es → AllByRecursion (λ s. variables_in t x.0 ≢ s.variables) (monomials_in t es)
 unfolding monomials_in
 others t x [] o h b a = tt
 others t x (e ∷ es) o h b a = (λ same. a.0 (o.once x.0 e.0 h b.0 same), others t x es o h b.1 a.1)
 
-once : (t : Table) (bound : Option (Summand)) (p : Sum) → AreMonomials t.monomials → AreIn t.monomials p → AreAfter entry_order bound p → AllPairs (λ s u. s.variables ≢ u.variables) (monomials_in t p)
+once : (t : Table) (bound : Option (Entry)) (p : Sum) → AreMonomials t.monomials → AreIn t.monomials p → AreAfter entry_order bound p → AllPairs (λ s u. s.variables ≢ u.variables) (monomials_in t p)
 unfolding monomials_in
 once t bound [] o b a = λ i j d g h. absurd (omega arith)
 once t bound (e ∷ es) o b a =

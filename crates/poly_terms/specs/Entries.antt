@@ -6,18 +6,18 @@ use Rattle.std.specs.Ordering.{nat_cmp}
 use Rattle.poly_terms.specs.Merges.{merged, AreAfter}
 
 -- An entry: the number of a monomial, and a coefficient.
-abbrev pub Summand : Type 0
-Summand = ℕ × ℕ
+abbrev pub Entry : Type 0
+Entry = ℕ × ℕ
 
 abbrev pub Sum : Type 0
-Sum = List Summand
+Sum = List Entry
 
 -- the order of entries: that of their numbers
-abbrev pub entry_order : Summand → Summand → Ordering
+abbrev pub entry_order : Entry → Entry → Ordering
 entry_order x y = nat_cmp x.0 y.0
 
 -- the sum of two entries of one number, before others; nothing where it is 0 modulo m
-abbrev pub add_entries : ℕ → Summand → Summand → Sum → Sum
+abbrev pub add_entries : ℕ → Entry → Entry → Sum → Sum
 add_entries m x y rest = cond ((x.1 + y.1) % m == 0) rest ((x.0, (x.1 + y.1) % m) ∷ rest)
 
 -- two sorted lists of entries, added
@@ -30,14 +30,14 @@ total f [] = 0
 total f (e ∷ es) = e.1 * f e.0 + total f es
 
 -- an entry alone, unless its coefficient is 0 modulo m
-abbrev pub one_entry : ℕ → Summand → Sum
+abbrev pub one_entry : ℕ → Entry → Sum
 one_entry m e = cond (e.1 % m == 0) [] ((e.0, e.1 % m) ∷ [])
 
 -- An entry put behind others: added to the last where that has its number, and not at all where the sum is 0.
-abbrev pub IsPutBehind : ℕ → Summand → Sum → Sum → Type 0
+abbrev pub IsPutBehind : ℕ → Entry → Sum → Sum → Type 0
 IsPutBehind m e old new =
-    ((front : Sum) × (last : Summand) × (old ≡ front ++ last ∷ []) × (last.0 ≡ e.0) × (new ≡ front ++ one_entry m (e.0, last.1 + e.1)))
-    ⊎ (((front : Sum) (last : Summand) → old ≡ front ++ last ∷ [] → last.0 ≢ e.0) × (new ≡ old ++ one_entry m e))
+    ((front : Sum) × (last : Entry) × (old ≡ front ++ last ∷ []) × (last.0 ≡ e.0) × (new ≡ front ++ one_entry m (e.0, last.1 + e.1)))
+    ⊎ (((front : Sum) (last : Entry) → old ≡ front ++ last ∷ [] → last.0 ≢ e.0) × (new ≡ old ++ one_entry m e))
 
 -- An entry as a sorted list has it: its coefficient from 1 to below m, and its number below that of the next one.
 pub record IsPlaced (m : ℕ) (es : Sum) (i : ℕ) : Type 0 where

@@ -6,7 +6,7 @@ use Rattle.graph_core.specs.Graph.Assignments.{Assignment}
 use Rattle.graph_core.specs.Algebra.NormalForm.{AreRising}
 use Rattle.graph_core.specs.Algebra.Polynomials.{product}
 use Rattle.poly_terms.specs.Merges.{merged}
-use Rattle.poly_terms.specs.Entries.{Sum, Summand, total}
+use Rattle.poly_terms.specs.Entries.{Sum, Entry, total}
 
 -- the variables of two monomials, as one
 abbrev pub joined : List ℕ → List ℕ → List ℕ
@@ -55,7 +55,7 @@ pub record Adds (m : ℕ) (old new : List (List ℕ)) (before after : Sum) (n : 
   pub sums : AreIn old before → (σ : Assignment) → total_in new σ after % m ≡ (total_in old σ before + n σ) % m
 
 -- whether an entry has a variable
-abbrev pub has_in : List (List ℕ) → ℕ → Summand → Bool
+abbrev pub has_in : List (List ℕ) → ℕ → Entry → Bool
 has_in ms v e = has_variable v (get_or ms e.0 [])
 
 -- the entries without a variable
@@ -67,7 +67,7 @@ abbrev pub places_of : List (List ℕ) → ℕ → Sum → List ℕ
 places_of ms v es = map (λ e. e.0) (filter (has_in ms v) es)
 
 -- what an entry with the variable adds, where the variable stands for n
-abbrev pub replaced_one : List (List ℕ) → ℕ → Assignment → ℕ → Summand → ℕ
+abbrev pub replaced_one : List (List ℕ) → ℕ → Assignment → ℕ → Entry → ℕ
 replaced_one ms v σ n e = e.1 * product σ (without v (get_or ms e.0 [])) * n
 
 -- what the entries with the variable add

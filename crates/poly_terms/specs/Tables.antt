@@ -7,7 +7,7 @@ use Rattle.graph_core.specs.Graph.Assignments.{Assignment}
 use Rattle.graph_core.specs.Algebra.Polynomials.{Polynomial, Term, value, difference}
 use Rattle.graph_core.specs.Algebra.NormalForm.{IsNormalForm}
 use Rattle.poly_terms.specs.Merges.{AreAfter}
-use Rattle.poly_terms.specs.Entries.{Summand, entry_order}
+use Rattle.poly_terms.specs.Entries.{Entry, entry_order}
 use Rattle.poly_terms.specs.Monomials.{AreIn, AreMonomials, Grows, places_of}
 pub use Rattle.poly_terms.specs.Entries.{Sum}
 
@@ -23,7 +23,7 @@ modulus t = 2 ^ t.width
 abbrev pub variables_in : Table → ℕ → List ℕ
 variables_in t n = get_or t.monomials n []
 
-abbrev pub monomial_in : Table → Summand → Term
+abbrev pub monomial_in : Table → Entry → Term
 monomial_in t e = record { negative = false; coefficient = e.1; variables = variables_in t e.0 }
 
 -- a polynomial's monomials, in an order of its own

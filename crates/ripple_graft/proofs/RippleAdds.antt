@@ -1,44 +1,13 @@
 -- A ripple-carry adder adds.
-use Rattle.std.specs.Prelude.{◌≡◌, ℕ, ◌+◌, ◌*◌, Bool, true, false, not, ◌&&◌, List, [], ◌∷◌, map}
+use Rattle.std.specs.Prelude.{◌≡◌, ℕ, ◌+◌, not, ◌&&◌, List, [], ◌∷◌, map}
 use Rattle.std.specs.List.{AllByRecursion}
 use Rattle.std.proofs.Common.{refl, ap, ap₂, ◌∙◌, arith}
 use Rattle.std.proofs.lemmas.List.Elements.{recursion_from_All}
 use Rattle.graph_core.specs.declared.literal.Lit.{Lit}
 use Rattle.graph_core.specs.Graph.Assignments.{Assignment, bit, variable, literal, word}
 use Rattle.graph_core.specs.Graph.Literals.{constant_false, inverted, plain}
-use Rattle.graph_core.proofs.OfGraphs.CallerLemmas.{literal-even, literal-negated, literal-odd}
+use Rattle.graph_core.proofs.OfGraphs.CallerLemmas.{full_adder, literal-even, literal-negated, literal-odd}
 use Rattle.ripple_graft.specs.Ripple.{ripple_gates, ripple_outputs, carry_after, sum_after, RippleAdds}
-
--- the seven gates of a position are a full adder
-pub full_adder : (x y c u w t e f s h : Bool) → u ≡ (x && y) → w ≡ (not x && not y) → t ≡ (not u && not w) → e ≡ (t && c) → f ≡ (not t && not c) →
-    s ≡ (not e && not f) → h ≡ (not u && not e) → bit s + 2 * bit (not h) ≡ bit x + bit y + bit c
-full_adder x y c u w t e f s h u_is w_is t_is e_is f_is s_is h_is =
-    ap₂ (λ a b. bit a + 2 * bit (not b)) s_from h_from ∙ table x y c
-  where
-    half : Bool → Bool → Bool
-    half a b = not (a && b) && not (not a && not b)
-
-    t_from : t ≡ half x y
-    t_from = t_is ∙ ap₂ (λ a b. not a && not b) u_is w_is
-
-    e_from : e ≡ (half x y && c)
-    e_from = e_is ∙ ap (λ a. a && c) t_from
-
-    s_from : s ≡ (not (half x y && c) && not (not (half x y) && not c))
-    s_from = s_is ∙ ap₂ (λ a b. not a && not b) e_from (f_is ∙ ap (λ a. not a && not c) t_from)
-
-    h_from : h ≡ (not (x && y) && not (half x y && c))
-    h_from = h_is ∙ ap₂ (λ a b. not a && not b) u_is e_from
-
-    table : (a b d : Bool) → bit (not (half a b && d) && not (not (half a b) && not d)) + 2 * bit (not (not (a && b) && not (half a b && d))) ≡ bit a + bit b + bit d
-    table true true true = refl
-    table true true false = refl
-    table true false true = refl
-    table true false false = refl
-    table false true true = refl
-    table false true false = refl
-    table false false true = refl
-    table false false false = refl
 
 ripple_adds_from : (v : ℕ) (c : Lit) (ps : List (Lit × Lit)) (σ : Assignment) →
     AllByRecursion (λ x. variable σ x.v ≡ (literal σ x.left && literal σ x.right)) (ripple_gates v c ps) →

@@ -4,6 +4,7 @@ pub use Rattle.graph_core.proofs.OfGraphs.Congruence.{difference_is, difference_
 pub use Rattle.graph_core.proofs.OfGraphs.Decided.{Decided, decided_all, decided_and, decided_as, decided_eq, decided_le, decided_lt, decided_or}
 pub use Rattle.graph_core.proofs.OfGraphs.Evaluation.{Distinct, evaluation_is, evaluation_is_one, finds_none, literal_same, rounds-free, variable-pos, variable_same}
 pub use Rattle.graph_core.proofs.OfGraphs.Faults.{no_fault_is_found}
+pub use Rattle.graph_core.proofs.OfGraphs.FullAdders.{full_adder}
 pub use Rattle.graph_core.proofs.OfGraphs.Gates.{never_wrong}
 pub use Rattle.graph_core.proofs.OfGraphs.Levels.{acyclic_levels, one_level}
 pub use Rattle.graph_core.proofs.OfGraphs.Lists.{all_split, all_weaker}

@@ -5,7 +5,7 @@ use Rattle.std.proofs.lemmas.Nat.{pow_pos}
 use Rattle.std.specs.List.{AllByRecursion}
 use Rattle.std.specs.List.Sorted.{IsSortedBy}
 use Rattle.std.specs.Vec.Iter.{into_iter_items}
-use Rattle.poly_terms.specs.Entries.{IsGathered, IsOrderly, Summand}
+use Rattle.poly_terms.specs.Entries.{IsGathered, IsOrderly, Entry}
 use Rattle.poly_terms.proofs.Gathering.{Ascend, NoneBefore, before, ascend_sorted, gathered_none, gathered_more, gathered_permuted}
 use Rattle.poly_terms.proofs.Merging.{nothing}
 use Rattle.poly_terms.proofs.Placed.{gathered_itself}
@@ -17,7 +17,7 @@ loop-entry-init c =
     let sorted = c.sort_unstable_by.new.self in
     let left = c.into_iter-entry-iterator.ensures.into_iter_gives in
     let up : IsSortedBy before sorted.items =
-    c.sort_unstable_by.ensures.sorted before (ranks_by nat_cmp_total (λ (e : Summand). e.0)) (answers_always _ _ _ (λ f a r f' k. search rules)) in
+    c.sort_unstable_by.ensures.sorted before (ranks_by nat_cmp_total (λ (e : Entry). e.0)) (answers_always _ _ _ (λ f a r f' k. search rules)) in
     record {
       rest = refl;
       len = left.1 ∙ sorted.ok.0 ∙ sym (ap length left.0);
