@@ -12,11 +12,13 @@ use Rattle.poly_terms.specs.Tables.{Table, Sum, Extends, modulus, monomials_in}
 use Rattle.poly_terms.specs.Laws.{extends_itself}
 use Rattle.pac_checker.specs.declared.fault.LineFault.TheVariants as line
 use Rattle.graph_core.specs.Algebra.Agreement.{AreSame}
-use Rattle.pac_checker.specs.Checking.{checking_of, ledger_of, lines_in, Takes}
+use Rattle.gate_axioms.specs.Lines.{lines_in}
+use Rattle.pac_checker.specs.Checking.{checking_of, ledger_of, Takes}
 use Rattle.pac_checker.specs.Faults.{IsFault}
 use Rattle.pac_checker.specs.Rules.{AreEqual, Introduces}
 use Rattle.graph_core.proofs.OfAlgebra.CallerLemmas.{same_of, line_of-deleted}
-use Rattle.pac_checker.proofs.Entries.{line_at, line_of-entries, missing_first, live_first}
+use Rattle.gate_axioms.proofs.CallerLemmas.{line_at, line_of-entries}
+use Rattle.pac_checker.proofs.Entries.{missing_first, live_first}
 use Rattle.pac_checker.proofs.Lawful.{all_live}
 
 abbrev new_line : ℕ → Table → Sum → LiveLine

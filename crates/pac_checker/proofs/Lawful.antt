@@ -1,6 +1,6 @@
 -- What a checker has found makes a line lawful, or refuses it.
 use Rattle.std.specs.Prelude.{IsSome, is_some, not, cond, ◌==◌}
-use Rattle.std.proofs.Common.{inl, inr, refl, Result, Ok, Err, IfErr, OnOk, ◌≡◌, ℕ, ◌%◌, Bool, true, false, List, [], ◌∷◌, sym, ap, subst, ◌∙◌}
+use Rattle.std.proofs.Common.{inl, inr, refl, Result, Ok, Err, IfErr, OnOk, ◌≡◌, ℕ, ◌%◌, ◌<◌, ◌≤◌, Bool, true, false, List, [], ◌∷◌, sym, ap, subst, ◌∙◌}
 use Rattle.std.specs.declared.option.Option.TheVariants.{None, Some}
 use Rattle.std.specs.List.{All, AllByRecursion}
 use Rattle.std.proofs.lemmas.Bool.{true≢false}
@@ -9,7 +9,7 @@ use Rattle.graph_core.specs.Graph.Assignments.{Assignment}
 use Rattle.graph_core.specs.Graph.Extended.{Extended}
 use Rattle.graph_core.specs.Graph.Operands.{Sides}
 use Rattle.graph_core.specs.Algebra.Polynomials.{Polynomial, value}
-use Rattle.graph_core.specs.Algebra.{LiveLine, Line, Ledger, IsLive, line_of, IsLawfulLine, IsNewId, operands, named, stated, introduce, after}
+use Rattle.graph_core.specs.Algebra.{LiveLine, Line, Ledger, IsLive, line_of, operands, named, stated, introduce}
 use Rattle.graph_core.specs.Algebra as algebra
 use Rattle.graph_core.specs.Algebra.Refusal.{first_missing}
 use Rattle.mv_fact.specs.Facts.{Facts, fact_at}
@@ -18,9 +18,10 @@ use Rattle.poly_terms.specs.Laws.{modulus_stays, value_stays, extends_itself}
 use Rattle.pac_checker.specs.declared.fault.LineFault.{LineFault}
 use Rattle.pac_checker.specs.declared.fault.LineFault.TheVariants.{Id, NoSuchLine, NotEqual, Memory}
 use Rattle.graph_core.specs.Algebra.Agreement.{AreSame, Agree}
-use Rattle.pac_checker.specs.Checking.{Checking, checking_of, ledger_of, lines_in, Takes, Grows}
-use Rattle.pac_checker.specs.Faults.{IsFault}
-use Rattle.pac_checker.specs.Rules.{KeepsLines, IsNamed, IsNamingFault, AreEqual, IsStatingFault, Introduces, IsSound}
+use Rattle.gate_axioms.specs.Lines.{lines_of}
+use Rattle.gate_axioms.specs.Steps.{KeepsLines}
+use Rattle.pac_checker.specs.Checking.{Checking, checking_of, ledger_of, Grows}
+use Rattle.pac_checker.specs.Rules.{AreEqual, AreRefused, Introduces, IsLineOf, IsNamed, IsNamingFault, IsSound, IsStatingFault, TakesLinesOf, ids_of, parts_in}
 use Rattle.graph_core.proofs.OfAlgebra.CallerLemmas.{agree_trans, agree_refl}
 
 -- ---- the table has grown
@@ -63,66 +64,70 @@ introduce_same l k id m n p q a same = record { last = refl; lines = λ other. g
     go other false = a.lines other
 
 -- the stated polynomial has the value that the rule names, modulo the modulus of the graph
-equal_named : (e : Extended) (s : Sides) (old mid : Facts Sum Table) (last : ℕ) (x : Line) (p q : Sum) → IsSound e s old last → KeepsLines old mid → IsOf old.table q → stated x ≡ monomials_in old.table q →
-    IsNamed old mid (operands x) (named (modulus old.table) (lines_in old.table old.entries) x) p → (σ : Assignment) → value_in mid.table p σ ≡ value_in mid.table q σ →
-    value (algebra.modulus e) (stated x) σ ≡ named (algebra.modulus e) (lines_in old.table old.entries) x σ % algebra.modulus e
-equal_named e s old mid last x p q sound k of is found σ same =
-    subst (λ m. value m (stated x) σ ≡ named m (lines_in old.table old.entries) x σ % m) sound.same_modulus
-    (ap (λ r. value (modulus old.table) r σ) is ∙ sym (value_stays old.table mid.table q σ k.table of) ∙ sym same ∙ found.value.same σ)
+equal_named : (e : Extended) (s : Sides) (old mid : Facts Sum Table) (last id : ℕ) (parts : List (ℕ × Sum)) (p q : Sum) (x : Line) → IsSound e s old last → KeepsLines old mid → IsOf old.table q → IsNamed old mid (parts_in old.table parts) p →
+    IsLineOf (checking_of e s old last) id parts q x → (σ : Assignment) → value_in mid.table p σ ≡ value_in mid.table q σ →
+    value (algebra.modulus e) (stated x) σ ≡ named (algebra.modulus e) (lines_of old) x σ % algebra.modulus e
+equal_named e s old mid last id parts p q x sound k of found line σ same =
+    subst (λ m. value m (stated x) σ ≡ named m (lines_of old) x σ % m) sound.same_modulus
+    (ap (λ r. value (modulus old.table) r σ) line.states ∙ sym (value_stays old.table mid.table q σ k.table of) ∙ sym same ∙ found.same σ ∙ sym (line.names σ))
+
+-- its operands are live
+live_named : (e : Extended) (s : Sides) (old mid : Facts Sum Table) (last id : ℕ) (parts : List (ℕ × Sum)) (p q : Sum) (x : Line) → IsNamed old mid (parts_in old.table parts) p →
+    IsLineOf (checking_of e s old last) id parts q x → All (IsLive (lines_of old)) (operands x)
+live_named e s old mid last id parts p q x found line = all_live (lines_of old) (operands x) (ap (first_missing (lines_of old)) line.lines ∙ found.live)
 
 -- a line whose named polynomial is found equal, and put under the new id, is taken
-pub takes_named : (e : Extended) (s : Sides) (sides : Sides) (old mid : Facts Sum Table) (last : ℕ) (new : Checking) (x : Line) (id : ℕ) (p q : Sum) → IsSound e s old last → KeepsLines old mid → IsNewId last x →
-    IsOf old.table q → stated x ≡ monomials_in old.table q → introduce (algebra.modulus e) (ledger_of (checking_of e sides old last)) id (monomials_in old.table q) ≡ after (algebra.modulus e) (ledger_of (checking_of e sides old last)) x →
-    IsNamed old mid (operands x) (named (modulus old.table) (lines_in old.table old.entries) x) p → AreEqual mid.table p q →
-    Introduces id (monomials_in mid.table q) (checking_of e sides mid last) new → Takes x (checking_of e sides old last) new
-takes_named e s sides old mid last new x id p q sound k new_id of is next found same i =
-    let before : Ledger = ledger_of (checking_of e sides old last) in
-    let between : Ledger = ledger_of (checking_of e sides mid last) in
+pub takes_named : (e : Extended) (s : Sides) (old mid : Facts Sum Table) (last id : ℕ) (parts : List (ℕ × Sum)) (p q : Sum) (new : Checking) → IsSound e s old last → KeepsLines old mid → last < id → IsOf old.table q →
+    IsNamed old mid (parts_in old.table parts) p → AreEqual mid.table p q → Introduces id (monomials_in mid.table q) (checking_of e s mid last) new → TakesLinesOf id parts q (checking_of e s old last) new
+takes_named e s old mid last id parts p q new sound k above of found same i = λ x line.
+    let before : Ledger = ledger_of (checking_of e s old last) in
+    let between : Ledger = ledger_of (checking_of e s mid last) in
     record {
       extended = i.extended;
       sides = i.sides;
       table = subst (Extends old.table) (sym i.table) k.table;
-      lawful = record { new_id = new_id; live_operands = all_live before.live (operands x) found.live; equal = λ σ. equal_named e s old mid last x p q sound k of is found σ (same σ) };
-      ledger = subst (Agree (ledger_of new)) next
+      lawful = record { new_id = line.is_new last above; live_operands = live_named e s old mid last id parts p q x found line; equal = λ σ. equal_named e s old mid last id parts p q x sound k of found line σ (same σ) };
+      ledger = subst (Agree (ledger_of new)) (sym (line.next (algebra.modulus e) before))
           (agree_trans (ledger_of new) (introduce (modulus mid.table) between id (monomials_in mid.table q)) (introduce (algebra.modulus e) before id (monomials_in old.table q)) i.ledger
           (introduce_same between before id (modulus mid.table) (algebra.modulus e) (monomials_in mid.table q) (monomials_in old.table q) (record { last = refl; lines = k.lines })
           (λ σ. value_stays old.table mid.table q σ k.table of ∙ ap (λ m. value m (monomials_in old.table q) σ) sound.same_modulus)));
     }
 
-pub takes_stated : {T : Type 0} (r : Result T LineFault) (e : Extended) (s : Sides) (sides : Sides) (old mid : Facts Sum Table) (last : ℕ) (new : Checking) (x : Line) (id : ℕ) (p q : Sum) → IsSound e s old last → KeepsLines old mid → IsNewId last x →
-    IsOf old.table q → stated x ≡ monomials_in old.table q → introduce (algebra.modulus e) (ledger_of (checking_of e sides old last)) id (monomials_in old.table q) ≡ after (algebra.modulus e) (ledger_of (checking_of e sides old last)) x →
-    IsNamed old mid (operands x) (named (modulus old.table) (lines_in old.table old.entries) x) p → OnOk r (AreEqual mid.table p q) →
-    OnOk r (Introduces id (monomials_in mid.table q) (checking_of e sides mid last) new) → OnOk r (Takes x (checking_of e sides old last) new)
-takes_stated (Ok t) e s sides old mid last new x id p q sound k new_id of is next found same i = takes_named e s sides old mid last new x id p q sound k new_id of is next found same i
-takes_stated (Err fault) e s sides old mid last new x id p q sound k new_id of is next found same i = same
+pub takes_stated : {T : Type 0} (r : Result T LineFault) (e : Extended) (s : Sides) (old mid : Facts Sum Table) (last id : ℕ) (parts : List (ℕ × Sum)) (p q : Sum) (new : Checking) → IsSound e s old last → KeepsLines old mid → last < id → IsOf old.table q →
+    IsNamed old mid (parts_in old.table parts) p → OnOk r (AreEqual mid.table p q) → OnOk r (Introduces id (monomials_in mid.table q) (checking_of e s mid last) new) → OnOk r (TakesLinesOf id parts q (checking_of e s old last) new)
+takes_stated (Ok t) e s old mid last id parts p q new sound k above of found same i = takes_named e s old mid last id parts p q new sound k above of found same i
+takes_stated (Err fault) e s old mid last id parts p q new sound k above of found same i = same
 
 -- ---- refused lines
 
--- a polynomial that differs from the named one refuses the line
-stating_fault : (e : Extended) (s : Sides) (sides : Sides) (old mid : Facts Sum Table) (last : ℕ) (x : Line) (p q : Sum) (fault : LineFault) → IsSound e s old last → KeepsLines old mid → IsNewId last x →
-    IsOf old.table q → stated x ≡ monomials_in old.table q → IsNamed old mid (operands x) (named (modulus old.table) (lines_in old.table old.entries) x) p →
-    IsStatingFault mid.table p q fault → IsFault e (ledger_of (checking_of e sides old last)) x fault
-stating_fault e s sides old mid last x p q Id sound k new of is found h = absurd h
-stating_fault e s sides old mid last x p q (NoSuchLine id) sound k new of is found h = absurd h
-stating_fault e s sides old mid last x p q NotEqual sound k new of is found h =
-    inr (new, inr (all_live (lines_in old.table old.entries) (operands x) found.live, inl ((h.0, λ same. h.1 (differ same)), refl)))
+-- an id that isn't new refuses the line
+pub id_refused : (e : Extended) (s : Sides) (old : Facts Sum Table) (last id : ℕ) (parts : List (ℕ × Sum)) (q : Sum) (fault : LineFault) → (fault ≡ Id) × (id ≤ last) → AreRefused (checking_of e s old last) id parts q fault
+id_refused e s old last id parts q fault h = subst (AreRefused (checking_of e s old last) id parts q) (sym h.0) (λ x line. inl (line.is_old last h.1, refl))
+
+-- an operand that isn't live does
+pub naming_refused : (e : Extended) (s : Sides) (old : Facts Sum Table) (last id : ℕ) (parts : List (ℕ × Sum)) (q : Sum) (fault : LineFault) → last < id → IsNamingFault old (ids_of (parts_in old.table parts)) fault →
+    AreRefused (checking_of e s old last) id parts q fault
+naming_refused e s old last id parts q Id above h = absurd h
+naming_refused e s old last id parts q (NoSuchLine missing) above h = λ x line. inr (line.is_new last above, inl (missing, ap (first_missing (lines_of old)) line.lines ∙ h, refl))
+naming_refused e s old last id parts q NotEqual above h = absurd h
+naming_refused e s old last id parts q Memory above h = λ x line. tt
+
+-- a polynomial that differs from the named one does
+stating_refused : (e : Extended) (s : Sides) (old mid : Facts Sum Table) (last id : ℕ) (parts : List (ℕ × Sum)) (p q : Sum) (fault : LineFault) → IsSound e s old last → KeepsLines old mid → last < id → IsOf old.table q →
+    IsNamed old mid (parts_in old.table parts) p → IsStatingFault mid.table p q fault → AreRefused (checking_of e s old last) id parts q fault
+stating_refused e s old mid last id parts p q Id sound k above of found h = absurd h
+stating_refused e s old mid last id parts p q (NoSuchLine missing) sound k above of found h = absurd h
+stating_refused e s old mid last id parts p q NotEqual sound k above of found h = λ x line.
+    inr (line.is_new last above, inr (live_named e s old mid last id parts p q x found line, inl ((h.0, λ same. h.1 (differ x line same)), refl)))
   where
-    differ : value (algebra.modulus e) (stated x) h.0 ≡ named (algebra.modulus e) (lines_in old.table old.entries) x h.0 % algebra.modulus e → value_in mid.table p h.0 ≡ value_in mid.table q h.0
-    differ same =
-        found.value.same h.0 ∙ subst (λ m. named m (lines_in old.table old.entries) x h.0 % m ≡ value m (stated x) h.0) (sym sound.same_modulus) (sym same) ∙
-        ap (λ r. value (modulus old.table) r h.0) is ∙ sym (value_stays old.table mid.table q h.0 k.table of)
-stating_fault e s sides old mid last x p q Memory sound k new of is found h = tt
+    differ : (x : Line) → IsLineOf (checking_of e s old last) id parts q x → value (algebra.modulus e) (stated x) h.0 ≡ named (algebra.modulus e) (lines_of old) x h.0 % algebra.modulus e →
+        value_in mid.table p h.0 ≡ value_in mid.table q h.0
+    differ x line same =
+        found.same h.0 ∙ sym (line.names h.0) ∙ subst (λ m. named m (lines_of old) x h.0 % m ≡ value m (stated x) h.0) (sym sound.same_modulus) (sym same) ∙
+        ap (λ r. value (modulus old.table) r h.0) line.states ∙ sym (value_stays old.table mid.table q h.0 k.table of)
+stating_refused e s old mid last id parts p q Memory sound k above of found h = λ x line. tt
 
-pub stating_faults : {T : Type 0} (r : Result T LineFault) (e : Extended) (s : Sides) (sides : Sides) (old mid : Facts Sum Table) (last : ℕ) (x : Line) (p q : Sum) → IsSound e s old last → KeepsLines old mid →
-    IsNewId last x → IsOf old.table q → stated x ≡ monomials_in old.table q → IsNamed old mid (operands x) (named (modulus old.table) (lines_in old.table old.entries) x) p →
-    IfErr r (IsStatingFault mid.table p q) → IfErr r (IsFault e (ledger_of (checking_of e sides old last)) x)
-stating_faults (Ok t) e s sides old mid last x p q sound k new of is found h = h
-stating_faults (Err fault) e s sides old mid last x p q sound k new of is found h = stating_fault e s sides old mid last x p q fault sound k new of is found h
-
--- an operand that isn't live refuses it
-pub naming_fault : (e : Extended) (sides : Sides) (old : Facts Sum Table) (last : ℕ) (x : Line) (fault : LineFault) → IsNewId last x →
-    IsNamingFault old (operands x) fault → IsFault e (ledger_of (checking_of e sides old last)) x fault
-naming_fault e sides old last x Id new h = absurd h
-naming_fault e sides old last x (NoSuchLine missing) new h = inr (new, inl (missing, h, refl))
-naming_fault e sides old last x NotEqual new h = absurd h
-naming_fault e sides old last x Memory new h = tt
+pub stating_faults : {T : Type 0} (r : Result T LineFault) (e : Extended) (s : Sides) (old mid : Facts Sum Table) (last id : ℕ) (parts : List (ℕ × Sum)) (p q : Sum) → IsSound e s old last → KeepsLines old mid → last < id → IsOf old.table q →
+    IsNamed old mid (parts_in old.table parts) p → IfErr r (IsStatingFault mid.table p q) → IfErr r (AreRefused (checking_of e s old last) id parts q)
+stating_faults (Ok t) e s old mid last id parts p q sound k above of found h = h
+stating_faults (Err fault) e s old mid last id parts p q sound k above of found h = stating_refused e s old mid last id parts p q fault sound k above of found h

@@ -1,14 +1,15 @@
 -- What contracts see of a checker of algebra lines: live polynomials of a table that grows, as the ledger of the definitions.
-use Rattle.std.specs.Prelude.{◌≡◌, ℕ, List, map, IfSome}
+use Rattle.std.specs.Prelude.{◌≡◌, ℕ, List, IfSome}
 use Rattle.graph_core.specs.Graph.Operands.{Sides}
 use Rattle.graph_core.specs.Graph.Extended.{Extended}
-use Rattle.graph_core.specs.Algebra.{LiveLine, Ledger, Line, modulus, after, IsLawfulLine, Closes, specification}
-use Rattle.poly_terms.specs.Tables.{Table, Sum, Extends, value_in}
+use Rattle.graph_core.specs.Algebra.{Ledger, Line, modulus, after, IsLawfulLine, Closes, specification}
+use Rattle.poly_terms.specs.Tables.{Table, Sum, Extends}
 use Rattle.mv_fact.specs.Always.{Always}
 use Rattle.mv_fact.specs.Facts.{Facts}
 use Rattle.poly_text.specs.declared.PacLine.{PacLine}
 use Rattle.poly_text.specs.Lines.{line_in}
 use Rattle.graph_core.specs.Algebra.Agreement.{Agree}
+use Rattle.gate_axioms.specs.Lines.{lines_in}
 
 -- The extended graph, its operands, the table of polynomials, the live ones by id, and the last id in use.
 pub record Checking : Type 0 where
@@ -22,20 +23,9 @@ pub record Checking : Type 0 where
 abbrev pub checking_of : Extended → Sides → Facts Sum Table → ℕ → Checking
 checking_of e sides facts last = record { extended = e; sides = sides; table = facts.table; entries = facts.entries; last = last }
 
--- a polynomial under an id, as a live line
-abbrev pub line_in : Table → ℕ × Sum → LiveLine
-line_in t entry = record { id = entry.0; value = value_in t entry.1 }
-
-abbrev pub lines_in : Table → List (ℕ × Sum) → List LiveLine
-lines_in t entries = map (line_in t) entries
-
 -- the ledger that the checker stands for
 abbrev pub ledger_of : Checking → Ledger
 ledger_of c = record { live = lines_in c.table c.entries; last = c.last }
-
--- live facts as lines
-abbrev pub lines_of : Facts Sum Table → List LiveLine
-lines_of facts = lines_in facts.table facts.entries
 
 -- The line is lawful over the ledger so far, and the ledger afterwards is the one after the line.
 pub record Takes (line : Line) (old new : Checking) : Type 0 where

@@ -1,60 +1,75 @@
 -- What the steps of a line find. These words serve private clauses.
-use Rattle.std.specs.Prelude.{◌≡◌, ◌≢◌, ◌<◌, ◌&&◌, ℕ, ◌+◌, ◌*◌, ◌%◌, List, map, sum_by, [], ◌∷◌}
+use Rattle.std.specs.Prelude.{◌≡◌, ◌≢◌, ◌<◌, ◌≤◌, ℕ, ◌*◌, ◌%◌, List, map}
+use denote.Ref.{Bor}
 use Rattle.std.specs.declared.option.Option.TheVariants.{None, Some}
-use Rattle.std.specs.List.{All}
-use Rattle.std.specs.Option.{option_or}
-use Rattle.graph_core.specs.declared.Gate.{Gate}
-use Rattle.graph_core.specs.Graph.Assignments.{Assignment, variable, literal}
+use Rattle.graph_core.specs.Graph.Assignments.{Assignment}
 use Rattle.graph_core.specs.Graph.Extended.{Extended}
 use Rattle.graph_core.specs.Graph.Operands.{Sides, AreOperandsOf}
 use Rattle.graph_core.specs.Algebra.Polynomials.{Polynomial}
-use Rattle.graph_core.specs.Algebra.{LiveLine, Line, line_of, value_of, introduce, combined}
+use Rattle.graph_core.specs.Algebra.{Line, Ledger, Part, IsNewId, value_of, introduce, combined, operands, stated, named, after}
 use Rattle.graph_core.specs.Algebra as algebra
+use Rattle.graph_core.specs.Algebra.Agreement.{Agree}
 use Rattle.graph_core.specs.Algebra.Refusal.{first_missing}
-use Rattle.mv_fact.specs.Facts.{Facts, IsKept, fact_at}
-use Rattle.poly_terms.specs.Tables.{Table, Sum, IsOf, Extends, modulus, value_in, monomials_in}
+use Rattle.mv_fact.specs.Facts.{Facts, fact_at}
+use Rattle.poly_terms.specs.Tables.{Table, Sum, modulus, value_in, monomials_in}
 use Rattle.poly_text.specs.Lines.{part_in}
+use Rattle.gate_axioms.specs.Lines.{lines_of}
+use Rattle.gate_axioms.specs.Steps.{Vanishes}
 use Rattle.pac_checker.specs.declared.fault.LineFault.{LineFault}
 use Rattle.pac_checker.specs.declared.fault.LineFault.TheVariants.{Id, NoSuchLine, NotEqual, Memory}
-use Rattle.graph_core.specs.Algebra.Agreement.{Agree, AreSame, AreSameLines}
-use Rattle.pac_checker.specs.Checking.{Checking, lines_in, lines_of, ledger_of}
+use Rattle.pac_checker.specs.Checking.{Checking, ledger_of, Takes}
 use Rattle.pac_checker.specs.Faults.{IsFault}
 
--- A polynomial of the table that vanishes on every evaluation of the gates.
-abbrev pub Vanishes : List Gate → Table → Sum → Type 0
-Vanishes gates t p = IsKept {Fact = Sum} {Table = Table} (λ p t. IsOf t p) (λ p t σ. value_in t p σ ≡ 0) gates t p
+-- lines, each beside a factor that is lent, as lines and factors
+abbrev pub lent : List (ℕ × Bor Sum) → List (ℕ × Sum)
+lent parts = map (λ part. (part.0, part.1.now)) parts
 
--- The table alone has grown, and each live line has its value.
-pub record KeepsLines (old new : Facts Sum Table) : Type 0 where
-  pub gates : new.gates ≡ old.gates
-  pub table : Extends old.table new.table
-  pub entries : new.entries ≡ old.entries
-  pub lines : AreSameLines (lines_in new.table new.entries) (lines_in old.table old.entries)
+-- lines, each times a polynomial of a table, as the definitions know them; and the ids of the lines
+abbrev pub parts_in : Table → List (ℕ × Sum) → List Part
+parts_in t parts = map (part_in t) parts
 
--- A vanishing polynomial whose value at each assignment is f, modulo m.
-pub record HasValue (gates : List Gate) (t : Table) (m : ℕ) (f : Assignment → ℕ) (p : Sum) : Type 0 where
-  pub vanishes : Vanishes gates t p
-  pub same : (σ : Assignment) → value_in t p σ ≡ f σ % m
+abbrev pub ids_of : List Part → List ℕ
+ids_of parts = map (λ part. part.id) parts
 
--- A vanishing polynomial in the new table whose value is f, modulo the modulus.
-abbrev pub IsValued : Facts Sum Table → Facts Sum Table → (Assignment → ℕ) → Sum → Type 0
-IsValued old new f p = HasValue new.gates new.table (modulus old.table) f p
+-- a live line times a polynomial, and the sum of some such products
+abbrev pub product_value : Facts Sum Table → ℕ → Sum → Assignment → ℕ
+product_value facts id factor σ = value_of (lines_of facts) id σ * value_in facts.table factor σ
 
--- The operands are live, and the polynomial has the value f that the rule names.
-pub record IsNamed (old new : Facts Sum Table) (ids : List ℕ) (f : Assignment → ℕ) (p : Sum) : Type 0 where
-  pub live : first_missing (lines_in old.table old.entries) ids ≡ None
-  pub value : HasValue new.gates new.table (modulus old.table) f p
+abbrev pub combined_value : Facts Sum Table → List Part → Assignment → ℕ
+combined_value facts parts σ = combined (modulus facts.table) (lines_of facts) parts σ % modulus facts.table
 
--- the ids of some lines, each times a polynomial
-abbrev pub ids_of : Table → List (ℕ × Sum) → List ℕ
-ids_of t parts = map (λ part. part.id) (map (part_in t) parts)
+-- The lines of some parts are live, and the polynomial is the sum of these parts, which vanishes on every evaluation.
+pub record IsNamed (old new : Facts Sum Table) (parts : List Part) (p : Sum) : Type 0 where
+  pub live : first_missing (lines_of old) (ids_of parts) ≡ None
+  pub vanishes : Vanishes new.gates new.table p
+  pub same : (σ : Assignment) → value_in new.table p σ ≡ combined_value old parts σ
 
--- The lines are live, and the polynomials that vanish sum up to theirs, each times its factor.
-pub record AreProducts (old new : Facts Sum Table) (parts : List (ℕ × Sum)) (products : List Sum) : Type 0 where
-  pub live : first_missing (lines_in old.table old.entries) (ids_of old.table parts) ≡ None
-  pub vanish : All (Vanishes new.gates new.table) products
-  pub same : (σ : Assignment) → sum_by (λ p. value_in new.table p σ) products % modulus old.table ≡
-      combined (modulus old.table) (lines_in old.table old.entries) (map (part_in old.table) parts) σ % modulus old.table
+-- the first operand that isn't live, or want of memory
+abbrev pub IsNamingFault : Facts Sum Table → List ℕ → LineFault → Type 0
+IsNamingFault facts ids Id = ⊥
+IsNamingFault facts ids (NoSuchLine id) = first_missing (lines_of facts) ids ≡ Some id
+IsNamingFault facts ids NotEqual = ⊥
+IsNamingFault facts ids Memory = Unit {0}
+
+-- A line that states a polynomial under an id, and whose rule names some lines, each times a factor.
+pub record IsLineOf (c : Checking) (id : ℕ) (parts : List (ℕ × Sum)) (p : Sum) (x : Line) : Type 0 where
+  pub is_new : (last : ℕ) → last < id → IsNewId last x
+  pub is_old : (last : ℕ) → id ≤ last → IsNewId last x → ⊥
+  pub lines : operands x ≡ ids_of (parts_in c.table parts)
+  pub states : stated x ≡ monomials_in c.table p
+  pub names : (σ : Assignment) → named (modulus c.table) (ledger_of c).live x σ % modulus c.table ≡ combined (modulus c.table) (ledger_of c).live (parts_in c.table parts) σ % modulus c.table
+  pub next : (m : ℕ) (l : Ledger) → after m l x ≡ introduce m l id (monomials_in c.table p)
+
+-- each such line is lawful, and the ledger afterwards is the one after it
+abbrev pub TakesLinesOf : ℕ → List (ℕ × Sum) → Sum → Checking → Checking → Type 0
+TakesLinesOf id parts p old new = (x : Line) → IsLineOf old id parts p x → Takes x old new
+
+-- the line is refused over the checker's ledger; and so is each such line
+abbrev pub IsRefused : Checking → Line → LineFault → Type 0
+IsRefused c x fault = IsFault c.extended (ledger_of c) x fault
+
+abbrev pub AreRefused : Checking → ℕ → List (ℕ × Sum) → Sum → LineFault → Type 0
+AreRefused c id parts p fault = (x : Line) → IsLineOf c id parts p x → IsRefused c x fault
 
 -- lines of polynomials of a table, as the definitions know them
 abbrev pub sum_line : Table → ℕ → ℕ → ℕ → Sum → Line
@@ -65,34 +80,6 @@ product_line t id i factor p = algebra.Product id i (monomials_in t factor) (mon
 
 abbrev pub combination_line : Table → ℕ → List (ℕ × Sum) → Sum → Line
 combination_line t id parts p = algebra.Combination id (map (part_in t) parts) (monomials_in t p)
-
--- the values that steps of a rule name: a sum and one more line, a line times a polynomial, two lines, polynomials
-abbrev pub added_value : Facts Sum Table → Sum → ℕ → Assignment → ℕ
-added_value facts sum id σ = value_in facts.table sum σ + value_of (lines_of facts) id σ
-
-abbrev pub product_value : Facts Sum Table → ℕ → Sum → Assignment → ℕ
-product_value facts id factor σ = value_of (lines_of facts) id σ * value_in facts.table factor σ
-
-abbrev pub two_value : Facts Sum Table → ℕ → ℕ → Assignment → ℕ
-two_value facts i j σ = value_of (lines_of facts) i σ + value_of (lines_of facts) j σ
-
-abbrev pub total_value : Facts Sum Table → List Sum → Assignment → ℕ
-total_value facts parts σ = sum_by (λ p. value_in facts.table p σ) parts
-
--- the sum of some lines, each times a polynomial
-abbrev pub combined_value : Facts Sum Table → List (ℕ × Sum) → Assignment → ℕ
-combined_value facts parts σ = combined (modulus facts.table) (lines_of facts) (map (part_in facts.table) parts) σ
-
--- the line is refused over the checker's ledger
-abbrev pub IsRefused : Checking → Line → LineFault → Type 0
-IsRefused c x fault = IsFault c.extended (ledger_of c) x fault
-
--- the first operand that isn't live, or want of memory
-abbrev pub IsNamingFault : Facts Sum Table → List ℕ → LineFault → Type 0
-IsNamingFault facts ids Id = ⊥
-IsNamingFault facts ids (NoSuchLine id) = first_missing (lines_in facts.table facts.entries) ids ≡ Some id
-IsNamingFault facts ids NotEqual = ⊥
-IsNamingFault facts ids Memory = Unit {0}
 
 -- the same value at every assignment
 abbrev pub AreEqual : Table → Sum → Sum → Type 0
@@ -122,13 +109,3 @@ pub record IsSound (e : Extended) (s : Sides) (facts : Facts Sum Table) (last : 
   pub same_modulus : modulus facts.table ≡ algebra.modulus e
   pub operands : AreOperandsOf e.graph s
   pub fresh : (id : ℕ) → last < id → fact_at facts.entries id ≡ None
-
--- what a gate says of an assignment
-abbrev pub Computes : Gate → Assignment → Type 0
-Computes g σ = variable σ g.v ≡ (literal σ g.left && literal σ g.right)
-
--- One more line is live, unless its id was; the table has grown.
-pub record AddsLine (line : LiveLine) (old new : Facts Sum Table) : Type 0 where
-  pub gates : new.gates ≡ old.gates
-  pub table : Extends old.table new.table
-  pub lines : (id : ℕ) → AreSame (line_of (lines_in new.table new.entries) id) (option_or (line_of (lines_in old.table old.entries) id) (line_of (line ∷ []) id))

@@ -1,7 +1,7 @@
 // The checker: live polynomials, line by line.
-#![tactic(auto, using(crate::proofs::Lawful::sound_grown, crate::proofs::Lawful::grows, crate::proofs::Lawful::grows_itself, crate::proofs::Growth::keeps_lines, poly_terms::specs::Laws::stays))]
+#![tactic(auto, using(crate::proofs::Lawful::sound_grown, crate::proofs::Lawful::grows, crate::proofs::Lawful::grows_itself, crate::proofs::LineKinds::grows_grown, gate_axioms::proofs::CallerLemmas::keeps_lines, poly_terms::specs::Laws::stays))]
 
-ghost use Rattle.std.specs.Prelude.{◌≡◌, ◌*◌, ◌<◌, ◌≤◌, [], IfOk, OnOk, OnErr, IfErr, IsSome};
+ghost use Rattle.std.specs.Prelude.{◌≡◌, ◌%◌, ◌<◌, ◌≤◌, IfErr, IfOk, IsSome, OnErr, OnOk};
 ghost use Rattle.std.specs.List.{All};
 ghost use Rattle.graph_core.specs.Algebra.{Delete, axioms, AgreeOnColumns};
 ghost use Rattle.graph_core.specs.Algebra as algebra;
@@ -13,12 +13,14 @@ ghost use Rattle.gate_axioms.specs.Axioms.{IsSpecification};
 ghost use Rattle.graph_core.specs.Algebra.Agreement.{Agree};
 ghost use Rattle.pac_checker.specs.Checking.{ledger_of, Takes, TakesLine, Grows, IsClosedBy, SpecificationVanishes};
 ghost use Rattle.pac_checker.specs.Faults.{IsLineFault, IsClosingFault};
-ghost use Rattle.pac_checker.specs.Rules.{Vanishes, AreEqual, IsRefused, IsStatingFault, Introduces, sum_line, product_line, combination_line};
+ghost use Rattle.gate_axioms.specs.Steps.{Vanishes};
+ghost use Rattle.pac_checker.specs.Rules.{AreEqual, AreRefused, Introduces, IsRefused, IsStatingFault, TakesLinesOf, combination_line, lent, product_line, sum_line};
+ghost use Rattle.pac_checker.specs.Works.{IsMade};
 
-use crate::axioms::add_axioms;
-use crate::rules::{add_two, combine, multiply};
-use crate::works::MakeSpecification;
+use crate::rules::combine;
+use crate::works::{MakeOne, MakeSpecification};
 use crate::{CloseFault, LineFault};
+use gate_axioms::add_axioms;
 use graph_core::{Memory, Operands};
 use mv_fact::{Grow, Live};
 use poly_terms::{Poly, Terms};
@@ -173,6 +175,7 @@ impl<'a> PacChecker<'a> {
         }
     }
 
+    // A sum is a combination of two lines, each times 1.
     fn sum(&mut self, id: u64, i: u64, j: u64, poly: &Poly) -> Result<(), LineFault>
         requires { IsOf self.old.table poly.now }
         ensures taken { OnOk result
@@ -181,11 +184,11 @@ impl<'a> PacChecker<'a> {
             (IsRefused self.old (sum_line self.old.table id i j poly.now)) }
         ensures unchanged { OnErr result (Grows self.old self.new) }
     {
-        judge_id(self.last, id)?;
-        let named = add_two(&mut self.live, i, j)?;
-        self.state(id, named, poly)
+        let one = self.one()?;
+        self.introduce(id, &[(i, &one), (j, &one)], poly)
     }
 
+    // A product is a combination of one line.
     fn product(&mut self, id: u64, i: u64, factor: &Poly, poly: &Poly) -> Result<(), LineFault>
         requires factor_of_table { IsOf self.old.table factor.now }
         requires of_table { IsOf self.old.table poly.now }
@@ -195,9 +198,7 @@ impl<'a> PacChecker<'a> {
             (IsRefused self.old (product_line self.old.table id i factor.now poly.now)) }
         ensures unchanged { OnErr result (Grows self.old self.new) }
     {
-        judge_id(self.last, id)?;
-        let named = multiply(&mut self.live, i, factor)?;
-        self.state(id, named, poly)
+        self.introduce(id, &[(i, factor)], poly)
     }
 
     fn combination(&mut self, id: u64, parts: &[(u64, Poly)], poly: &Poly) -> Result<(), LineFault>
@@ -209,21 +210,22 @@ impl<'a> PacChecker<'a> {
             (IsRefused self.old (combination_line self.old.table id parts.now poly.now)) }
         ensures unchanged { OnErr result (Grows self.old self.new) }
     {
-        judge_id(self.last, id)?;
-        let named = combine(self.alloc, &mut self.live, parts)?;
-        self.state(id, named, poly)
+        let parts = lend(self.alloc, parts)?;
+        self.introduce(id, &parts, poly)
     }
 
-    fn delete(&mut self, id: u64) -> Result<(), LineFault>
-        ensures taken { OnOk result (Takes (Delete id) self.old self.new) }
-        ensures refused { IfErr result (IsRefused self.old (Delete id)) }
+    // The rule of every line that introduces an id: it states the sum of live lines, each times a factor.
+    fn introduce(&mut self, id: u64, parts: &[(u64, &Poly)], stated: &Poly) -> Result<(), LineFault>
+        requires parts_of_table { All (λ part. IsOf self.old.table part.1.now) parts.now }
+        requires of_table { IsOf self.old.table stated.now }
+        ensures taken { OnOk result
+            (TakesLinesOf id (lent parts.now) stated.now self.old self.new) }
+        ensures refused { IfErr result (AreRefused self.old id (lent parts.now) stated.now) }
         ensures unchanged { OnErr result (Grows self.old self.new) }
     {
-        match self.live.remove(id) {
-            Ok(_) => {}
-            Err(_) => return Err(LineFault::NoSuchLine(id)),
-        }
-        Ok(())
+        judge_id(self.last, id)?;
+        let named = combine(self.alloc, &mut self.live, parts)?;
+        self.state(id, named, stated)
     }
 
     // Compares the polynomial that a rule names with the stated one, and makes it live under a new id.
@@ -248,6 +250,26 @@ impl<'a> PacChecker<'a> {
             Err(_) => Err(LineFault::Memory),
         }
     }
+
+    // The polynomial 1.
+    fn one(&mut self) -> Result<Poly, Memory>
+        ensures grows { Grows self.old self.new }
+        ensures one { IfOk result (IsMade self.new.table (λ σ. 1 % modulus self.old.table)) }
+    {
+        self.live.grow(&mut MakeOne { alloc: self.alloc }, &mut ())
+    }
+
+    fn delete(&mut self, id: u64) -> Result<(), LineFault>
+        ensures taken { OnOk result (Takes (Delete id) self.old self.new) }
+        ensures refused { IfErr result (IsRefused self.old (Delete id)) }
+        ensures unchanged { OnErr result (Grows self.old self.new) }
+    {
+        match self.live.remove(id) {
+            Ok(_) => {}
+            Err(_) => return Err(LineFault::NoSuchLine(id)),
+        }
+        Ok(())
+    }
 }
 
 // A new id is above the last one.
@@ -259,4 +281,16 @@ fn judge_id(last: u64, id: u64) -> Result<(), LineFault>
         return Err(LineFault::Id);
     }
     Ok(())
+}
+
+// Parts whose factors are lent.
+fn lend<'a>(alloc: Global, parts: &'a [(u64, Poly)]) -> Result<Vec<(u64, &'a Poly)>, LineFault>
+    ensures parts { IfOk result (λ out. lent out.items ≡ parts.entry.now) }
+    ensures memory { IfErr result (λ fault. fault ≡ LineFault.Memory) }
+{
+    let mut out = Vec::new(alloc);
+    for (id, factor) in parts {
+        out.push((*id, factor))?;
+    }
+    Ok(out)
 }

@@ -1,124 +1,55 @@
+// Works on the table of the live polynomials.
 ghost use Rattle.std.specs.Prelude.{IfOk};
 
-use gate_axioms::{equal_poly, gate_poly, spec_poly};
-use graph_core::{Gate, Graph, Lit, Memory, Operands};
-use mv_fact::{Grow, GrowFrom};
-use poly_terms::{Poly, Terms};
+use gate_axioms::spec_poly;
+use graph_core::{Graph, Memory, Operands};
+use mv_fact::Grow;
+use poly_terms::{Poly, SumOfProducts, Terms};
 use std::alloc::Global;
 
-/// Multiplies a live polynomial by a factor.
+/// Makes the polynomial of products that were added up apart from the table.
 #[derive(Drop)]
-pub(crate) struct Multiply<'a> {
-    pub(crate) factor: &'a Poly,
+pub(crate) struct SumUp<'a> {
+    pub(crate) products: &'a SumOfProducts,
 }
 
-impl<'a> GrowFrom<Poly> for Multiply<'a> {
-    ghost use Rattle.std.specs.Prelude.{IfOk};
-    ghost use Rattle.poly_terms.specs.Tables.{IsOf};
-    ghost use Rattle.pac_checker.specs.Works.{IsProduct};
-
-    type Out = Result<Poly, Memory>;
-
-    ghost can_grow = { λ work table. IsOf table work.factor.now };
-
-    ghost did = { λ work live table out _ table'. IfOk out (IsProduct table live work.factor.now table') };
-
-    fn grow(&mut self, live: &Poly, table: &mut Terms) -> Result<Poly, Memory> {
-        table.mul(live, self.factor).map_err(|_| Memory)
-    }
-}
-
-/// Adds a live polynomial to a sum.
-#[derive(Drop)]
-pub(crate) struct Add<'a> {
-    pub(crate) sum: &'a Poly,
-}
-
-impl<'a> GrowFrom<Poly> for Add<'a> {
-    ghost use Rattle.std.specs.Prelude.{IfOk};
-    ghost use Rattle.poly_terms.specs.Tables.{IsOf};
-    ghost use Rattle.pac_checker.specs.Works.{IsSum};
-
-    type Out = Result<Poly, Memory>;
-
-    ghost can_grow = { λ work table. IsOf table work.sum.now };
-
-    ghost did = { λ work live table out _ table'. IfOk out (IsSum table work.sum.now live table') };
-
-    fn grow(&mut self, live: &Poly, table: &mut Terms) -> Result<Poly, Memory> {
-        table.add(self.sum, live).map_err(|_| Memory)
-    }
-}
-
-/// Adds up polynomials.
-#[derive(Drop)]
-pub(crate) struct AddAll<'a> {
-    pub(crate) parts: &'a [Poly],
-}
-
-impl<'a> Grow<Poly> for AddAll<'a> {
-    ghost use Rattle.std.specs.Prelude.{IfOk};
-    ghost use Rattle.std.specs.List.{All};
-    ghost use Rattle.poly_terms.specs.Tables.{IsOf};
-    ghost use Rattle.pac_checker.specs.Works.{IsTotal};
+impl<'a> Grow<Poly> for SumUp<'a> {
+    ghost use Rattle.std.specs.Prelude.{◌≡◌, IfOk};
+    ghost use Rattle.poly_terms.specs.Sums.{sum_in};
+    ghost use Rattle.pac_checker.specs.Works.{IsMade};
 
     type Out = Result<Poly, Memory>;
 
     type On = ();
 
-    ghost can_grow = { λ work _ table. All (IsOf table) work.parts.now };
+    ghost can_grow = { λ work _ table. work.products.now.width ≡ table.width };
 
-    ghost did = { λ work _ table out _ _ table'. IfOk out (IsTotal table work.parts.now table') };
+    ghost did = { λ work _ _ out _ _ table'. IfOk out (IsMade table' (sum_in work.products.now)) };
 
     fn grow(&mut self, _on: &mut (), table: &mut Terms) -> Result<Poly, Memory> {
-        table.add_all(self.parts).map_err(|_| Memory)
+        table.sum_up(self.products)
     }
 }
 
-/// Makes the axiom of a gate.
+/// Makes the polynomial 1.
 #[derive(Drop)]
-pub(crate) struct MakeAxiom<'a> {
+pub(crate) struct MakeOne {
     pub(crate) alloc: Global,
-    pub(crate) gate: &'a Gate,
 }
 
-impl<'a> Grow<Poly> for MakeAxiom<'a> {
-    ghost use Rattle.std.specs.Prelude.{IfOk};
-    ghost use Rattle.poly_terms.specs.Tables.{IsOf};
-    ghost use Rattle.gate_axioms.specs.Axioms.{IsGateAxiom};
+impl Grow<Poly> for MakeOne {
+    ghost use Rattle.std.specs.Prelude.{◌%◌, IfOk};
+    ghost use Rattle.poly_terms.specs.Tables.{modulus};
+    ghost use Rattle.pac_checker.specs.Works.{IsMade};
 
     type Out = Result<Poly, Memory>;
 
     type On = ();
 
-    ghost did = { λ work _ _ out _ _ table'. IfOk out (λ p. IsOf table' p × IsGateAxiom table' p work.gate.now) };
+    ghost did = { λ _ _ table out _ _ table'. IfOk out (IsMade table' (λ σ. 1 % modulus table)) };
 
     fn grow(&mut self, _on: &mut (), table: &mut Terms) -> Result<Poly, Memory> {
-        gate_poly(self.alloc, table, self.gate)
-    }
-}
-
-/// Makes the difference of two literals.
-#[derive(Drop)]
-pub(crate) struct MakeDifference {
-    pub(crate) alloc: Global,
-    pub(crate) left: Lit,
-    pub(crate) right: Lit,
-}
-
-impl Grow<Poly> for MakeDifference {
-    ghost use Rattle.std.specs.Prelude.{IfOk};
-    ghost use Rattle.poly_terms.specs.Tables.{IsOf};
-    ghost use Rattle.gate_axioms.specs.Axioms.{IsDifference};
-
-    type Out = Result<Poly, Memory>;
-
-    type On = ();
-
-    ghost did = { λ work _ _ out _ _ table'. IfOk out (λ p. IsOf table' p × IsDifference table' p work.left work.right) };
-
-    fn grow(&mut self, _on: &mut (), table: &mut Terms) -> Result<Poly, Memory> {
-        equal_poly(self.alloc, table, self.left, self.right)
+        table.make(&[(1, Vec::new(self.alloc))])
     }
 }
 

@@ -3,8 +3,6 @@ use Rattle.std.proofs.Common.{◌≡◌, ap, subst, sym, arith, inl, inr}
 use Rattle.aiger_reader.specs.Refusals.{SpellsWithin}
 use Rattle.command_line.specs.declared.command.Command.TheVariants.{Check}
 use Rattle.command_line.specs.declared.files.Files as named
-use Rattle.graph_core.specs.Graph.{Aig}
-use Rattle.graph_core.specs.Graph.Operands.{Multiplies}
 use Rattle.graph_core.specs.declared.order.Order.{Order}
 use Rattle.joint_checker.specs.Files.{texts_of}
 use Rattle.joint_checker.specs.Outcome.{Gives, IsDue, IsOutcome}
@@ -25,7 +23,7 @@ module _ (files : named.Files) (order : Order) (a b : View) where
 
   zero : (outcome : Checked) → Is outcome → status_of_check outcome ≡ 0 → IsMultiplier a files.graph order
   zero checked.Accepted h e =
-      some_more (bytes_under a files.graph) (λ bytes. (g : Aig) × SpellsWithin standard.graph bytes g × Multiplies g order) _ (λ bytes g. (g.0, g.1.spells, g.2)) h.1
+      some_more (bytes_under a files.graph) (λ bytes. SpellsWithin standard.graph bytes h.0) _ (λ bytes spelled. (h.0, spelled.spells, h.2.3.1)) h.1
   zero (checked.Graph why) h e = absurd (omega arith)
   zero (checked.Refused why) h e = absurd (omega arith)
   zero (checked.TooLong at) h e = absurd (omega arith)

@@ -4,8 +4,7 @@ use Rattle.graph_core.specs.Algebra.{axioms}
 use Rattle.graph_core.specs.Algebra as algebra
 use Rattle.poly_terms.specs.Tables.{Table, modulus}
 use Rattle.poly_terms.specs.Laws.{modulus_stays}
-use Rattle.pac_checker.proofs.ColumnLines.{axioms_within}
-use Rattle.pac_checker.proofs.FirstLines.{fresh_above}
+use Rattle.gate_axioms.proofs.CallerLemmas.{axioms_within, fresh_above}
 use Rattle.pac_checker.proofs.checker.PacChecker.new.Goals as goal
 
 -- a table with the number of outputs as its width has the modulus of the graph

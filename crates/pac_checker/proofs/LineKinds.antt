@@ -1,0 +1,81 @@
+-- Each kind of line that introduces an id states the sum of some lines, each times a factor.
+use Rattle.std.proofs.Common.{◌≡◌, ℕ, ◌+◌, ◌*◌, ◌%◌, List, [], ◌∷◌, refl, sym, ap, ◌∙◌, arith}
+use Rattle.std.proofs.Math.Nat.{add-mul}
+use Rattle.std.proofs.lemmas.Nat.{mul-mod_second}
+use Rattle.graph_core.specs.Algebra.{Line, introduce, value_of}
+use Rattle.graph_core.specs.Algebra as algebra
+use Rattle.graph_core.specs.Algebra.Refusal as cause
+use Rattle.graph_core.proofs.OfAlgebra.CallerLemmas.{after_agrees, agree_trans, lawful_agrees, refused_in_range_agrees}
+use Rattle.poly_terms.specs.Tables.{Sum, IsOf, modulus, monomials_in}
+use Rattle.poly_terms.specs.Laws.{extends_on, modulus_stays, monomials_stay}
+use Rattle.pac_checker.specs.declared.fault.LineFault.{LineFault}
+use Rattle.pac_checker.specs.declared.fault.LineFault.TheVariants.{Id, NoSuchLine, NotEqual, Memory}
+use Rattle.pac_checker.specs.Checking.{Checking, ledger_of, Grows, Takes}
+use Rattle.pac_checker.specs.Rules.{IsLineOf, IsRefused, combination_line, product_line, sum_line}
+use Rattle.pac_checker.specs.Works.{IsMade}
+
+two_ones : (m k v w f : ℕ) → f ≡ 1 % k → m ≡ k → (v + w) % m ≡ (v * f + (w * f + 0)) % m
+two_ones m k v w f e same =
+    sym (ap (λ n. n % m) (omega arith ∙ sym (add-mul v w f)) ∙ ap (λ n. ((v + w) * n) % m) (e ∙ ap (λ n. 1 % n) (sym same)) ∙ mul-mod_second (v + w) 1 m ∙ ap (λ n. n % m) (omega arith))
+
+-- a sum, over a table that has grown by the polynomial 1
+pub sum_is_combination : (old mid : Checking) (id i j : ℕ) (one p : Sum) → Grows old mid → IsMade mid.table (λ σ. 1 % modulus old.table) one → IsOf old.table p →
+    IsLineOf mid id ((i, one) ∷ (j, one) ∷ []) p (sum_line old.table id i j p)
+sum_is_combination old mid id i j one p grown made of =
+    let same : monomials_in mid.table p ≡ monomials_in old.table p = monomials_stay old.table mid.table p grown.table of in
+    record {
+      is_new = λ last above. above;
+      is_old = λ last below above. absurd (omega (arith, below, above));
+      lines = refl;
+      states = sym same;
+      names = λ σ. two_ones (modulus mid.table) (modulus old.table) (value_of (ledger_of mid).live i σ) (value_of (ledger_of mid).live j σ) _ (made.value σ) (modulus_stays old.table mid.table grown.table);
+      next = λ m l. ap (introduce m l id) (sym same);
+    }
+
+pub product_is_combination : (c : Checking) (id i : ℕ) (factor p : Sum) → IsLineOf c id ((i, factor) ∷ []) p (product_line c.table id i factor p)
+product_is_combination c id i factor p = record {
+  is_new = λ last above. above;
+  is_old = λ last below above. absurd (omega (arith, below, above));
+  lines = refl;
+  states = refl;
+  names = λ σ. ap (λ n. n % modulus c.table) (omega arith);
+  next = λ m l. refl;
+}
+
+pub combination_is_combination : (c : Checking) (id : ℕ) (parts : List (ℕ × Sum)) (p : Sum) → IsLineOf c id parts p (combination_line c.table id parts p)
+combination_is_combination c id parts p = record {
+  is_new = λ last above. above;
+  is_old = λ last below above. absurd (omega (arith, below, above));
+  lines = refl;
+  states = refl;
+  names = λ σ. refl;
+  next = λ m l. refl;
+}
+
+-- ---- over a table that has grown
+
+pub takes_grown : (old mid new : Checking) (x : Line) → Grows old mid → Takes x mid new → Takes x old new
+takes_grown old mid new x g t = record {
+  extended = t.extended ∙ g.extended;
+  sides = t.sides ∙ g.sides;
+  table = extends_on old.table mid.table new.table g.table t.table;
+  lawful = lawful_agrees (algebra.modulus old.extended) (ledger_of mid) (ledger_of old) g.ledger x (rw g.extended at t.lawful);
+  ledger = agree_trans (ledger_of new) (algebra.after (algebra.modulus old.extended) (ledger_of mid) x) (algebra.after (algebra.modulus old.extended) (ledger_of old) x) (rw g.extended at t.ledger)
+      (after_agrees (algebra.modulus old.extended) (ledger_of mid) (ledger_of old) g.ledger x);
+}
+
+pub refused_grown : (old mid : Checking) (x : Line) (fault : LineFault) → Grows old mid → IsRefused mid x fault → IsRefused old x fault
+refused_grown old mid x Id g r = refused_in_range_agrees old.extended (ledger_of mid) (ledger_of old) g.ledger x cause.Id (rw g.extended at r)
+refused_grown old mid x (NoSuchLine id) g r = refused_in_range_agrees old.extended (ledger_of mid) (ledger_of old) g.ledger x (cause.NoSuchLine id) (rw g.extended at r)
+refused_grown old mid x NotEqual g r = refused_in_range_agrees old.extended (ledger_of mid) (ledger_of old) g.ledger x cause.NotEqual (rw g.extended at r)
+refused_grown old mid x Memory g r = tt
+
+pub grows_grown : (a b c : Checking) → Grows a b → Grows b c → Grows a c
+grows_grown a b c g h = record {
+  extended = h.extended ∙ g.extended;
+  sides = h.sides ∙ g.sides;
+  table = extends_on a.table b.table c.table g.table h.table;
+  entries = h.entries ∙ g.entries;
+  last = h.last ∙ g.last;
+  ledger = agree_trans (ledger_of c) (ledger_of b) (ledger_of a) h.ledger g.ledger;
+}

@@ -1,0 +1,26 @@
+use Rattle.poly_terms.specs.Tables.{IsOf}
+use Rattle.pac_checker.specs.Rules.{lent}
+use Rattle.pac_checker.proofs.Lawful.{sound_grown, takes_stated, stating_faults}
+use Rattle.pac_checker.proofs.checker.PacChecker.introduce.Goals as goal
+
+pub invariant_of-self : goal.invariant_of-self
+invariant_of-self c = sound_grown c.self.inside.extended.now c.self.inside.operands.now c.self.inside.live c.combine.new.live c.self.inside.last c.combine.ensures.keeps c.self.invariant
+
+pub invariant_of-self-2 : goal.invariant_of-self-2
+invariant_of-self-2 c = sound_grown c.self.inside.extended.now c.self.inside.operands.now c.self.inside.live c.combine.new.live c.self.inside.last c.combine.ensures.keeps c.self.invariant
+
+pub returns-clause-taken : goal.returns-clause-taken
+returns-clause-taken c =
+    let live = c.self.inside.live in
+    let of : IsOf live.table c.args.stated.now = rw (← c.self.view_is) at c.requires.of_table in
+    rw (← c.self.view_is)
+    (takes_stated c.state.result c.self.inside.extended.now c.self.inside.operands.now live c.combine.new.live c.self.inside.last c.args.id (lent c.args.parts.now) c.in_ok-named.named c.args.stated.now c.state.new.self c.self.invariant c.combine.ensures.keeps
+    c.in_ok-judge_id.ensures.new of c.in_ok-named.ensures.sum c.state.ensures.equal c.state.ensures.introduced)
+
+pub returns-clause-refused : goal.returns-clause-refused
+returns-clause-refused c =
+    let live = c.self.inside.live in
+    let of : IsOf live.table c.args.stated.now = rw (← c.self.view_is) at c.requires.of_table in
+    rw (← c.self.view_is)
+    (stating_faults c.state.result c.self.inside.extended.now c.self.inside.operands.now live c.combine.new.live c.self.inside.last c.args.id (lent c.args.parts.now) c.in_ok-named.named c.args.stated.now c.self.invariant c.combine.ensures.keeps
+    c.in_ok-judge_id.ensures.new of c.in_ok-named.ensures.sum c.state.ensures.refused)
