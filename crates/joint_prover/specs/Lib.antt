@@ -1,5 +1,5 @@
--- To be trusted by whoever reads the contracts: `Verdicts`, and `Written` for what is done to the files. `Endings` serves
--- private clauses alone.
+-- To be trusted by whoever reads the contracts: `Verdicts`, `Written` for what is done to the files, and `Files` of joint_checker.
+-- `Endings` and `Parts` serve private clauses alone.
 pub mod Written
 pub mod Verdicts
 pub mod Endings
