@@ -1,19 +1,17 @@
 -- The values of what a step makes.
 use Rattle.std.specs.Prelude.{◌≡◌, ℕ, ◌+◌, ◌*◌, ◌%◌, ◌^◌, ◌≤◌, Bool, true, false, List, [], ◌∷◌}
-use Rattle.std.proofs.Common.{refl, ap, ap₂, ◌∙◌, arith}
-use Rattle.std.proofs.Math.Nat.{mod-mod, zero-mod}
+use Rattle.std.proofs.Common.{refl, sym, ap, ap₂, ◌∙◌, arith}
+use Rattle.std.proofs.Math.Nat.{mod-mod, mul_comm, zero-mod}
 use Rattle.std.proofs.lemmas.Nat.{pow_pos}
 use Rattle.graph_core.specs.declared.gate.Gate.{Gate}
 use Rattle.graph_core.specs.Graph.Assignments.{Assignment, variable, bit}
-use Rattle.graph_core.specs.Algebra.Polynomials.{Polynomial, difference, value}
-use Rattle.graph_core.proofs.OfGraphs.CallerLemmas.{sum_same, difference_plus}
+use Rattle.graph_core.specs.Algebra.Polynomials.{Polynomial, difference, sum_of, value}
+use Rattle.graph_core.proofs.OfGraphs.CallerLemmas.{sum_same, difference_plus, difference_same}
 use Rattle.gate_axioms.proofs.Opposites.{opposite_difference, sum_with_product_same, one_reduced}
 use Rattle.gate_axioms.specs.Axioms.{IsGateAxiom}
-use Rattle.poly_terms.specs.Tables.{Table, Sum, IsOf, Extends, assigned, modulus, replaced_value, value_in}
+use Rattle.poly_terms.specs.Tables.{Table, Sum, IsOf, Extends, assigned, modulus, monomials_in, value_in}
 use Rattle.poly_terms.specs.Laws.{modulus_stays, value_stays}
-use Rattle.frontier_core.specs.Frontier.{set_to}
 use Rattle.frontier_core.specs.Substitution.{gate_value, quotient, substituted}
-use Rattle.frontier_core.proofs.Substituting.{substituting_is_modular}
 use Rattle.column_reducer.specs.Gathering.{term_of}
 
 pub bit_reduced : (b : Bool) (w : ℕ) → 1 ≤ w → bit b % 2 ^ w ≡ bit b
@@ -24,32 +22,18 @@ bit_reduced false w h = zero-mod (2 ^ w)
 pub term_has : (m c : ℕ) (vs : List ℕ) (σ : Assignment) (p : Polynomial) → p ≡ term_of c vs ∷ [] → value m p σ ≡ value m (term_of c vs ∷ []) σ
 term_has m c vs σ p e = ap (λ q. value m q σ) e
 
--- a polynomial plus an opposite of 1 times another one
-pub minus_has : (t0 t1 t2 : Table) (p n q r : Sum) (o : ℕ) (σ : Assignment) → (o + 1) % modulus t0 ≡ 0 → Extends t0 t1 → IsOf t0 p → IsOf t0 q → value_in t1 n σ ≡ o % modulus t0 →
-    value_in t2 r σ ≡ (value_in t1 p σ + value_in t1 n σ * value_in t1 q σ) % modulus t1 → value_in t2 r σ ≡ difference (modulus t0) (value_in t0 p σ) (value_in t0 q σ)
-minus_has t0 t1 t2 p n q r o σ opposite grown of_p of_q n_is r_is =
+-- a polynomial times an opposite of 1
+pub opposite_has : (t0 t1 t2 : Table) (p n r : Sum) (o : ℕ) (σ : Assignment) → (o + 1) % modulus t0 ≡ 0 → Extends t0 t1 → IsOf t0 p → value_in t1 n σ ≡ o % modulus t0 →
+    value_in t2 r σ ≡ (value_in t1 p σ * value_in t1 n σ) % modulus t1 → value_in t2 r σ ≡ difference (modulus t0) 0 (value_in t0 p σ)
+opposite_has t0 t1 t2 p n r o σ opposite grown of_p n_is r_is =
     let m = modulus t0 in
-    let x = value_in t0 p σ in
-    let y = value_in t0 q σ in
+    let y = value_in t0 p σ in
     let same : modulus t1 ≡ m = modulus_stays t0 t1 grown in
-    let there : (value_in t1 p σ + value_in t1 n σ * value_in t1 q σ) ≡ x + o % m * y =
-    ap₂ (λ a b. a + b) (value_stays t0 t1 p σ grown of_p) (ap₂ (λ a b. a * b) n_is (value_stays t0 t1 q σ grown of_q)) in
+    let none : o % m * y ≡ 0 + o % m * y = omega arith in
+    let there : value_in t1 p σ * value_in t1 n σ ≡ 0 + o % m * y =
+    ap₂ (λ a b. a * b) (value_stays t0 t1 p σ grown of_p) n_is ∙ mul_comm y (o % m) ∙ none in
     r_is ∙ ap₂ (λ a k. a % k) there same ∙
-    opposite_difference m x y (x + o % m * y) o (pow_pos t0.width) opposite (sum_with_product_same m x (o % m) y x o y refl (mod-mod o m) refl)
-
--- a polynomial with a bit for a variable
-pub set_has : (t0 t1 t2 : Table) (p n r : Sum) (v : ℕ) (b : Bool) (σ : Assignment) → Extends t0 t1 → IsOf t0 p → value_in t1 n σ ≡ bit b →
-    ((c : Bool) → value_in t1 n σ ≡ bit c → value_in t2 r σ ≡ value_in t1 p (assigned σ v c)) → value_in t2 r σ ≡ value_in t0 p (set_to v b σ)
-set_has t0 t1 t2 p n r v b σ grown of_p n_is r_is = r_is b n_is ∙ value_stays t0 t1 p (set_to v b σ) grown of_p
-
--- the difference of both is the quotient
-pub quotient_has : (t0 t1 t2 t3 : Table) (p high low r : Sum) (v : ℕ) (σ : Assignment) → Extends t0 t1 → Extends t1 t2 → IsOf t0 p → IsOf t1 high →
-    value_in t1 high σ ≡ value_in t0 p (set_to v true σ) → value_in t2 low σ ≡ value_in t1 p (set_to v false σ) →
-    value_in t3 r σ ≡ difference (modulus t2) (value_in t2 high σ) (value_in t2 low σ) → value_in t3 r σ ≡ quotient (modulus t0) v (value_in t0 p) σ
-quotient_has t0 t1 t2 t3 p high low r v σ first second of_p of_high high_is low_is r_is =
-    let same : modulus t2 ≡ modulus t0 = modulus_stays t1 t2 second ∙ modulus_stays t0 t1 first in
-    r_is ∙ ap (λ k. difference k (value_in t2 high σ) (value_in t2 low σ)) same ∙
-    ap₂ (difference (modulus t0)) (value_stays t1 t2 high σ second of_high ∙ high_is) (low_is ∙ value_stays t0 t1 p (set_to v false σ) first of_p)
+    opposite_difference m 0 y (0 + o % m * y) o (pow_pos t0.width) opposite (sum_with_product_same m 0 (o % m) y 0 o y refl (mod-mod o m) refl)
 
 -- an axiom plus its gate's variable is the product
 pub product_has : (t0 t1 t2 t3 : Table) (made variable' r : Sum) (gate : Gate) (given' : Polynomial) (σ : Assignment) → Extends t0 t1 → Extends t1 t2 → IsOf t1 made → IsGateAxiom t1 made gate →
@@ -65,15 +49,24 @@ product_has t0 t1 t2 t3 made variable' r gate given' σ first second of_axiom is
     r_is ∙ ap₂ (λ a k. a % k) (ap₂ ◌+◌ here there) m2 ∙
     sum_same m (difference m (gate_value gate σ) x) (difference m (gate_value gate σ) x) (x % m) x refl (mod-mod x m) ∙ difference_plus m (gate_value gate σ) x (pow_pos t0.width)
 
--- a polynomial with the product for the gate's variable
-pub eliminated_has : (t0 t1 t2 : Table) (p n r : Sum) (gate : Gate) (σ : Assignment) → Extends t0 t1 → IsOf t0 p → value_in t1 n σ ≡ gate_value gate σ % modulus t0 →
-    value_in t2 r σ ≡ replaced_value t1 p gate.v (value_in t1 n σ) σ → value_in t2 r σ ≡ substituted (modulus t0) gate.v (gate_value gate) (value_in t0 p) σ
-eliminated_has t0 t1 t2 p n r gate σ grown of_p n_is r_is =
+-- a polynomial plus another one times the product
+pub with_product_has : (t0 t1 t2 : Table) (p q n r : Sum) (gate : Gate) (σ : Assignment) → Extends t0 t1 → IsOf t0 p → IsOf t0 q → value_in t1 n σ ≡ gate_value gate σ % modulus t0 →
+    value_in t2 r σ ≡ (value_in t1 p σ + value_in t1 q σ * value_in t1 n σ) % modulus t1 → value_in t2 r σ ≡ (value_in t0 p σ + gate_value gate σ * value_in t0 q σ) % modulus t0
+with_product_has t0 t1 t2 p q n r gate σ grown of_p of_q n_is r_is =
     let m = modulus t0 in
-    let v = gate.v in
+    let x = value_in t0 p σ in
+    let y = value_in t0 q σ in
     let same : modulus t1 ≡ m = modulus_stays t0 t1 grown in
-    let low = value_stays t0 t1 p (set_to v false σ) grown of_p in
-    let high = value_stays t0 t1 p (set_to v true σ) grown of_p in
-    r_is ∙ ap (λ k. (value_in t1 p (set_to v false σ) + value_in t1 n σ * difference k (value_in t1 p (set_to v true σ)) (value_in t1 p (set_to v false σ))) % k) same ∙
-    ap₂ (λ a b. (a + value_in t1 n σ * difference m b a) % m) low high ∙
-    substituting_is_modular m v (value_in t1 n) (gate_value gate) (value_in t0 p) σ (ap (λ z. z % m) n_is ∙ mod-mod (gate_value gate σ) m)
+    let there : value_in t1 p σ + value_in t1 q σ * value_in t1 n σ ≡ x + gate_value gate σ % m * y =
+    ap₂ ◌+◌ (value_stays t0 t1 p σ grown of_p) (ap₂ (λ a b. a * b) (value_stays t0 t1 q σ grown of_q) n_is ∙ mul_comm y (gate_value gate σ % m)) in
+    r_is ∙ ap₂ (λ a k. a % k) there same ∙ sum_with_product_same m x (gate_value gate σ % m) y x (gate_value gate σ) y refl (mod-mod (gate_value gate σ) m) refl
+
+-- a polynomial that a variable doesn't change
+pub unchanged_quotient : (t : Table) (p : Sum) (v : ℕ) (σ : Assignment) → ((τ : Assignment) (b : Bool) → value_in t p (assigned τ v b) ≡ value_in t p τ) → quotient (modulus t) v (value_in t p) σ ≡ 0
+unchanged_quotient t p v σ free = ap₂ (difference (modulus t)) (free σ true) (free σ false) ∙ difference_same (modulus t) (value_in t p σ) (pow_pos t.width)
+
+pub unchanged_has : (t : Table) (p : Sum) (gate : Gate) (σ : Assignment) → ((τ : Assignment) (b : Bool) → value_in t p (assigned τ gate.v b) ≡ value_in t p τ) →
+    value_in t p σ ≡ substituted (modulus t) gate.v (gate_value gate) (value_in t p) σ
+unchanged_has t p gate σ free =
+    let m = modulus t in
+    sym (ap₂ (λ a b. (a + gate_value gate σ * b) % m) (free σ false) (unchanged_quotient t p gate.v σ free) ∙ ap (λ z. z % m) (omega arith) ∙ mod-mod (sum_of m (monomials_in t p) σ) m)

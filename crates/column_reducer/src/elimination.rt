@@ -4,10 +4,9 @@
 ghost use Rattle.std.specs.Prelude.{◌≡◌, ◌≢◌, ◌<◌, IfOk};
 ghost use Rattle.graph_core.specs.Graph.Assignments.{Assignment};
 ghost use Rattle.poly_terms.specs.Tables.{Extends, IsOf, modulus, value_in};
-ghost use Rattle.frontier_core.specs.Substitution.{quotient};
 ghost use Rattle.column_reducer.specs.Gathering.{IsEliminated, IsQuotient, IsQuotientOrNone};
 
-use crate::pieces::{eliminated, opposite, quotient};
+use crate::pieces::{opposite, with_product};
 use gate_axioms::gate_poly;
 use graph_core::{Gate, Memory};
 use poly_terms::{Poly, Terms};
@@ -27,20 +26,26 @@ pub(crate) struct Quotient {
     pub(crate) product: Poly,
 }
 
-/// Puts the product of a gate's operands in place of its variable.
+/// Puts the product of a gate's operands in place of its variable. Where no monomial has the variable, nothing changes.
 pub(crate) fn eliminate(
     alloc: Global,
     terms: &mut Terms,
-    rest: &Poly,
+    rest: Poly,
     gate: &Gate,
 ) -> Result<Elimination, Memory>
-    requires of { IsOf terms.old rest.now }
+    requires of { IsOf terms.old rest }
     requires variable { 0 < gate.now.v }
     ensures extends { Extends terms.old terms.new }
-    ensures eliminated { IfOk result (IsEliminated terms.old terms.new gate.now rest.now) }
+    ensures eliminated { IfOk result (IsEliminated terms.old terms.new gate.now rest) }
 {
-    let by = quotient(alloc, terms, rest, gate.v)?;
-    let next = eliminated(alloc, terms, rest, gate)?;
+    if !terms.has_variable(&rest, gate.v) {
+        return Ok(Elimination {
+            rest,
+            quotient: None,
+        });
+    }
+    let (by, without) = terms.split(&rest, gate.v)?;
+    let next = with_product(alloc, terms, &without, &by, gate)?;
     let quotient = quotient_of(alloc, terms, gate, &by)?;
     Ok(Elimination {
         rest: next,
@@ -64,7 +69,7 @@ fn quotient_of(
     }
     let factor = opposite(alloc, terms, by)?;
     let axiom = gate_poly(alloc, terms, gate)?;
-    let product = terms.mul(&axiom, &factor)?;
+    let product = terms.mul(&factor, &axiom)?;
     Ok(Some(Quotient { factor, product }))
 }
 

@@ -1,13 +1,12 @@
 // What a step makes of polynomials.
 #![tactic(auto, using(poly_terms::specs::Laws::stays, poly_terms::specs::Laws::extends_on, poly_terms::specs::Laws::extends_itself))]
 
-ghost use Rattle.std.specs.Prelude.{◌≡◌, ◌%◌, ◌<◌, ◌∷◌, [], IfOk};
+ghost use Rattle.std.specs.Prelude.{◌≡◌, ◌%◌, ◌+◌, ◌*◌, ◌∷◌, [], IfOk};
 ghost use Rattle.graph_core.specs.Graph.Assignments.{Assignment, bit};
 ghost use Rattle.graph_core.specs.Algebra.Polynomials.{difference};
 ghost use Rattle.poly_terms.specs.Tables.{IsOf, Extends, given, modulus, value_in};
 ghost use Rattle.column_reducer.specs.Gathering.{term_of};
-ghost use Rattle.frontier_core.specs.Frontier.{set_to};
-ghost use Rattle.frontier_core.specs.Substitution.{gate_value, quotient, substituted};
+ghost use Rattle.frontier_core.specs.Substitution.{gate_value};
 
 use gate_axioms::gate_poly;
 use graph_core::{Gate, Memory};
@@ -75,40 +74,6 @@ pub(crate) fn one_poly(alloc: Global, terms: &mut Terms) -> Result<Poly, Memory>
     bit_poly(alloc, terms, true)
 }
 
-// A polynomial where a variable has a value.
-pub(crate) fn with_value(
-    alloc: Global,
-    terms: &mut Terms,
-    p: &Poly,
-    v: u32,
-    value: bool,
-) -> Result<Poly, Memory>
-    requires of { IsOf terms.old p.now }
-    requires variable { 0 < v }
-    ensures extends { Extends terms.old terms.new }
-    ensures of { IfOk result (IsOf terms.new) }
-    ensures value { IfOk result (λ r. (σ : Assignment) → value_in terms.new r σ ≡ value_in terms.old p.now (set_to v value σ)) }
-{
-    let number = bit_poly(alloc, terms, value)?;
-    let poly = terms.substitute(p, v, &number)?;
-    Ok(poly)
-}
-
-// The difference of two polynomials.
-pub(crate) fn minus(alloc: Global, terms: &mut Terms, p: &Poly, q: &Poly) -> Result<Poly, Memory>
-    requires left { IsOf terms.old p.now }
-    requires right { IsOf terms.old q.now }
-    ensures extends { Extends terms.old terms.new }
-    ensures of { IfOk result (IsOf terms.new) }
-    ensures value { IfOk result (λ r. (σ : Assignment) → value_in terms.new r σ ≡
-        difference (modulus terms.old) (value_in terms.old p.now σ) (value_in terms.old q.now σ)) }
-{
-    let opposite = minus_one(terms);
-    let number = constant(alloc, terms, opposite.value())?;
-    let poly = terms.combine(p, &number, q)?;
-    Ok(poly)
-}
-
 // Minus a polynomial.
 pub(crate) fn opposite(alloc: Global, terms: &mut Terms, p: &Poly) -> Result<Poly, Memory>
     requires { IsOf terms.old p.now }
@@ -117,11 +82,11 @@ pub(crate) fn opposite(alloc: Global, terms: &mut Terms, p: &Poly) -> Result<Pol
     ensures value { IfOk result (λ r. (σ : Assignment) → value_in terms.new r σ ≡
         difference (modulus terms.old) 0 (value_in terms.old p.now σ)) }
 {
-    let zero = bit_poly(alloc, terms, false)?;
-    minus(alloc, terms, &zero, p)
+    let less = minus_one(terms);
+    let number = constant(alloc, terms, less.value())?;
+    let poly = terms.mul(p, &number)?;
+    Ok(poly)
 }
-
-ghost use Rattle.std.specs.Prelude.{◌+◌};
 
 fn minus_one(terms: &Terms) -> Residue
     ensures width { result.width ≡ terms.now.width }
@@ -130,22 +95,8 @@ fn minus_one(terms: &Terms) -> Residue
     Residue::new(terms.width(), 1).neg()
 }
 
-// The quotient of a polynomial by a variable: its value where the variable is true minus that where it is false.
-pub(crate) fn quotient(alloc: Global, terms: &mut Terms, p: &Poly, v: u32) -> Result<Poly, Memory>
-    requires of { IsOf terms.old p.now }
-    requires variable { 0 < v }
-    ensures extends { Extends terms.old terms.new }
-    ensures of { IfOk result (IsOf terms.new) }
-    ensures value { IfOk result (λ r. (σ : Assignment) → value_in terms.new r σ ≡
-        quotient (modulus terms.old) v (value_in terms.old p.now) σ) }
-{
-    let high = with_value(alloc, terms, p, v, true)?;
-    let low = with_value(alloc, terms, p, v, false)?;
-    minus(alloc, terms, &high, &low)
-}
-
 // The product of a gate's operands.
-pub(crate) fn product_of(alloc: Global, terms: &mut Terms, gate: &Gate) -> Result<Poly, Memory>
+fn product_of(alloc: Global, terms: &mut Terms, gate: &Gate) -> Result<Poly, Memory>
     ensures extends { Extends terms.old terms.new }
     ensures of { IfOk result (IsOf terms.new) }
     ensures value { IfOk result (λ r. (σ : Assignment) → value_in terms.new r σ ≡
@@ -158,21 +109,22 @@ pub(crate) fn product_of(alloc: Global, terms: &mut Terms, gate: &Gate) -> Resul
     Ok(poly)
 }
 
-// A polynomial in which a gate's variable is replaced by the product of the gate's operands.
-pub(crate) fn eliminated(
+// A polynomial plus another one times the product of a gate's operands.
+pub(crate) fn with_product(
     alloc: Global,
     terms: &mut Terms,
-    p: &Poly,
+    without: &Poly,
+    by: &Poly,
     gate: &Gate,
 ) -> Result<Poly, Memory>
-    requires of { IsOf terms.old p.now }
-    requires variable { 0 < gate.now.v }
+    requires without { IsOf terms.old without.now }
+    requires by { IsOf terms.old by.now }
     ensures extends { Extends terms.old terms.new }
     ensures of { IfOk result (IsOf terms.new) }
     ensures value { IfOk result (λ r. (σ : Assignment) → value_in terms.new r σ ≡
-        substituted (modulus terms.old) gate.now.v (gate_value gate.now) (value_in terms.old p.now) σ) }
+        (value_in terms.old without.now σ + gate_value gate.now σ * value_in terms.old by.now σ) % modulus terms.old) }
 {
     let product = product_of(alloc, terms, gate)?;
-    let poly = terms.substitute(p, gate.v, &product)?;
+    let poly = terms.combine(without, by, &product)?;
     Ok(poly)
 }

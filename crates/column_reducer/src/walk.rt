@@ -191,8 +191,9 @@ impl Walk {
             IsWalked extended.now s terms.old f self → IsWalked extended.now s terms.new (step f (steps.Eliminate gate.v)) w) }
     {
         let _gates = extended.gates();
-        let out = eliminate(alloc, terms, &self.rest, &gate)?;
-        let gathered = gather(terms, self.gathered, gate.v, out.quotient)?;
+        let Walk { rest, gathered } = self;
+        let out = eliminate(alloc, terms, rest, &gate)?;
+        let gathered = gather(terms, gathered, gate.v, out.quotient)?;
         Ok(Walk {
             rest: out.rest,
             gathered,
