@@ -4,7 +4,8 @@ use Rattle.std.specs.Prelude.{[], ⊤, IsSome, Option, option_map, unwrap_or}
 use Rattle.command_line.specs.declared.command.Command.{Command}
 use Rattle.command_line.specs.declared.command.Command.TheVariants.{Check, Eval, Make, Verify}
 use Rattle.graph_maker.specs.Made.{made}
-use Rattle.joint_prover.specs.Verdicts.{HasGraph, HoldsPair, IsFirstAbove, IsWrong}
+use Rattle.joint_checker.specs.Files.{HasGraph}
+use Rattle.joint_prover.specs.Verdicts.{HoldsPair, IsFirstAbove, IsWrong}
 use Rattle.mv_desk.specs.View.{View, Rose, bytes_under}
 use Rattle.verdict_program.specs.declared.answer.Answer.{Answer}
 use Rattle.verdict_program.specs.declared.evaluated.Evaluated.TheVariants.{TooGreat}
@@ -12,13 +13,13 @@ use Rattle.verdict_program.specs.Answer.{status_of}
 use Rattle.verdict_program.specs.Evaluation.{IsValueDue}
 use Rattle.verdict_program.specs.Headline.{IsMultiplier}
 use Rattle.verdict_program.specs.Making.{text_for}
-use Rattle.verdict_program.specs.Runs.{EndsAsDue, IsDueOf, IsTold, TellsNames, proving_files, standard}
+use Rattle.verdict_program.specs.Runs.{EndsAsDue, IsDueOf, IsTold, TellsNames, files_of, standard}
 use Rattle.verdict_program.proofs.Told.{none_told}
 
 -- what status 0 means
 abbrev pub Succeeds : Command → View → View → Type 0
 Succeeds (Check files order) a b = IsMultiplier a files.graph order
-Succeeds (Verify files order budget conflicts) a b = IsTold a → TellsNames a → HoldsPair order (proving_files files) b standard.graph
+Succeeds (Verify files order budget conflicts) a b = IsTold a → TellsNames a → HoldsPair order (files_of files) b standard.graph
 Succeeds (Eval graph x y order) a b = ⊤
 Succeeds (Make kind bits adder out) a b = IsTold a → TellsNames a → b.held out ≡ Some (Some (text_for out (made kind bits adder)))
 

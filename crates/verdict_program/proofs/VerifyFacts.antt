@@ -4,23 +4,24 @@ use Rattle.command_line.specs.Asked.{AreApart}
 use Rattle.command_line.specs.declared.command.Command.TheVariants.{Verify}
 use Rattle.command_line.specs.declared.files.Files as named
 use Rattle.graph_core.specs.declared.order.Order.{Order}
-use Rattle.joint_prover.specs.Verdicts.{GivesDue, HasGraph, HoldsPair, IsFirstAbove, IsVerdict, IsWrong}
+use Rattle.joint_checker.specs.Files.{HasGraph}
+use Rattle.joint_prover.specs.Verdicts.{GivesDue, HoldsPair, IsFirstAbove, IsVerdict, IsWrong}
 use Rattle.joint_prover.specs.declared.verdict.Verdict.{Verdict}
 use Rattle.joint_prover.specs.declared.verdict.Verdict.TheVariants as verdict
 use Rattle.joint_prover.proofs.CallerLemmas.{proved_pairs_are_held, verdicts_are_exact}
 use Rattle.mv_desk.specs.View.{View, Rose, bytes_under}
 use Rattle.verdict_program.specs.declared.answer.Answer.TheVariants as answer
 use Rattle.verdict_program.specs.Answer.{status_of, status_of_verify}
-use Rattle.verdict_program.specs.Runs.{EndsAsDue, IsTold, TellsNames, proving_files, standard}
+use Rattle.verdict_program.specs.Runs.{EndsAsDue, IsTold, TellsNames, files_of, standard}
 use Rattle.verdict_program.proofs.Facts.{Facts}
 
 module _ (files : named.Files) (order : Order) (budget conflicts : ℕ) (a b : View) (apart : AreApart files) where
   abbrev Is : Verdict → Type 0
-  Is outcome = IsVerdict standard.graph order budget (proving_files files) a b outcome
+  Is outcome = IsVerdict standard.graph order budget (files_of files) a b outcome
 
-  zero : (outcome : Verdict) → Is outcome → status_of_verify outcome ≡ 0 → IsTold a → TellsNames a → HoldsPair order (proving_files files) b standard.graph
+  zero : (outcome : Verdict) → Is outcome → status_of_verify outcome ≡ 0 → IsTold a → TellsNames a → HoldsPair order (files_of files) b standard.graph
   zero verdict.Proved h e told names =
-      proved_pairs_are_held standard.graph order budget (proving_files files) a b (record { held = told; names = names })
+      proved_pairs_are_held standard.graph order budget (files_of files) a b (record { held = told; names = names })
       (record { clauses = apart.clauses; algebra = apart.algebra; certificates = apart.certificates }) h
   zero (verdict.Wrong x y value product) h e told names = absurd (omega arith)
   zero (verdict.Undecided tried step size) h e told names = absurd (omega arith)
@@ -97,5 +98,5 @@ module _ (files : named.Files) (order : Order) (budget conflicts : ℕ) (a b : V
     six = λ e. six outcome h e;
     seven = λ e. seven outcome h e;
     due = λ told due k. subst (λ d. EndsAsDue (status_of d) (status_of_verify outcome)) (sym k.1)
-        (let file = k.2 in as_due k.0 outcome (verdicts_are_exact standard.graph order budget (proving_files files) a b file.0 k.0 outcome file.1 file.2 h));
+        (let file = k.2 in as_due k.0 outcome (verdicts_are_exact standard.graph order budget (files_of files) a b file.0 k.0 outcome file.1 file.2 h));
   }
