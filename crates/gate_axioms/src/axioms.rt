@@ -20,15 +20,19 @@ use poly_terms::{Poly, Terms};
 use ripple_graft::Extended;
 use std::alloc::Global;
 
+// The variable, and the product of two negated literals.
+const MAX_AXIOM_PARTS: usize = 5;
+
 /// The axiom of a gate v with the operands A and B, -v + A * B.
 pub fn gate_poly(alloc: Global, terms: &mut Terms, gate: &Gate) -> Result<Poly, Memory>
     ensures extends { Extends terms.old terms.new }
     ensures of { IfOk result (λ p. IsOf terms.new p) }
     ensures value { IfOk result (λ p. IsGateAxiom terms.new p gate.now) }
 {
-    let mut form = Form::new(alloc);
-    form.add_variable(minus_one(terms), gate.v)?;
+    let mut form = Form::with_room(alloc, MAX_AXIOM_PARTS)?;
+    // The gate's variable is most often new to the table, so it comes last: then nothing has to be sorted.
     form.add_product(one(terms), gate.left, gate.right)?;
+    form.add_variable(minus_one(terms), gate.v)?;
     let poly = form.poly_in(terms)?;
     Ok(poly)
 }

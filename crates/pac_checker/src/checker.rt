@@ -284,11 +284,10 @@ fn judge_id(last: u64, id: u64) -> Result<(), LineFault>
 }
 
 // Parts whose factors are lent.
-fn lend<'a>(alloc: Global, parts: &'a [(u64, Poly)]) -> Result<Vec<(u64, &'a Poly)>, LineFault>
-    ensures parts { IfOk result (λ out. lent out.items ≡ parts.entry.now) }
-    ensures memory { IfErr result (λ fault. fault ≡ LineFault.Memory) }
+fn lend<'a>(alloc: Global, parts: &'a [(u64, Poly)]) -> Result<Vec<(u64, &'a Poly)>, Memory>
+    ensures { IfOk result (λ out. lent out.items ≡ parts.entry.now) }
 {
-    let mut out = Vec::new(alloc);
+    let mut out = Vec::with_capacity(alloc, parts.len())?;
     for (id, factor) in parts {
         out.push((*id, factor))?;
     }
