@@ -9,11 +9,12 @@ use Rattle.graph_core.specs.Graph.{Aig}
 use Rattle.graph_core.specs.Graph.Operands.{Multiplies, value_on}
 use Rattle.graph_core.specs.declared.order.Order.{Order}
 use Rattle.graph_core.proofs.OfTexts.CallerLemmas.{one_graph}
+use Rattle.joint_checker.specs.Files.{HasGraph}
 use Rattle.joint_checker.specs.Outcome.{IsGraphRefusal}
 use Rattle.joint_checker.proofs.CallerLemmas.{one_graph_refusal, refused_not_long, spelled_not_long, spelled_not_refused}
 use Rattle.joint_prover.specs.declared.verdict.Verdict.{Verdict}
 use Rattle.joint_prover.specs.declared.verdict.Verdict.TheVariants.{Proved, Wrong, Undecided, Graph, ReadFault, WriteFault, TooLong, Memory}
-use Rattle.joint_prover.specs.Verdicts.{GivesDue, HasGraph, IsFirstAbove, IsVerdict, IsVerdictDue, IsWithinBudget, IsWrong, VerdictsAreExact}
+use Rattle.joint_prover.specs.Verdicts.{GivesDue, IsFirstAbove, IsVerdict, IsVerdictDue, IsWithinBudget, IsWrong, VerdictsAreExact}
 
 wrong_same : (a c b d v w p q : ℕ) → a ≡ c → b ≡ d → v ≡ w → p ≡ q → Wrong a b v p ≡ Wrong c d w q
 wrong_same a c b d v w p q e f g h = cc

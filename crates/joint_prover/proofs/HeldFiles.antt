@@ -8,7 +8,8 @@ use Rattle.mv_desk.specs.Calls.{AreApart, Becomes, BytesGrow, HeldGrows}
 use Rattle.mv_desk.specs.View.{View}
 use Rattle.mv_desk.specs.declared.slot.Slot.{Slot}
 use Rattle.mv_desk.specs.declared.slot.Slot.TheVariants as slot
-use Rattle.joint_prover.specs.Written.{Files, ReadsGraph, WritesFile, WritesPair}
+use Rattle.joint_checker.specs.Files.{Files}
+use Rattle.joint_prover.specs.Written.{ReadsGraph, WritesFile, WritesPair}
 use Rattle.joint_prover.specs.Verdicts as verdicts
 use Rattle.joint_prover.specs.Verdicts.{HoldsPair, IsTold, ProvedPairsAreHeld}
 

@@ -13,10 +13,11 @@ use Rattle.mv_desk.specs.View.{View, IsSame, Rose, bytes_under}
 use Rattle.mv_desk.specs.declared.slot.Slot.{Slot}
 use Rattle.mv_desk.specs.declared.slot.Slot.TheVariants as slot
 use Rattle.mv_desk.proofs.CallerLemmas.{ModeStays-refl, ModeStays-trans}
+use Rattle.joint_checker.specs.Files.{Files}
 use Rattle.joint_prover.specs.declared.verdict.Verdict.{Verdict}
 use Rattle.joint_prover.specs.declared.verdict.Verdict.TheVariants.{Proved, Wrong, Undecided, Graph, ReadFault, WriteFault, TooLong, Memory}
 use Rattle.joint_prover.specs.Verdicts.{IsOfGraph, IsPair, IsVerdict, answer_of_graph}
-use Rattle.joint_prover.specs.Written.{Files, ReadsGraph, ReportStays, StopsAt, StopsWriting, WritesFile, WritesFront}
+use Rattle.joint_prover.specs.Written.{ReadsGraph, ReportStays, StopsAt, StopsWriting, WritesFile, WritesFront}
 
 pub graph_is_read : {T E : Type 0} (a r : View) (result : Result T E) → OpensOnly slot.Graph a r result → ReadsGraph a r
 graph_is_read a r result opens = record {

@@ -10,12 +10,13 @@ use Rattle.mv_desk.specs.View.{View}
 use Rattle.mv_desk.specs.declared.slot.Slot.TheVariants.{Algebra}
 use Rattle.pac_writer.specs.Certificates.{certificate_text}
 use Rattle.pac_writer.specs.Writing.{Made}
+use Rattle.joint_checker.specs.Files.{Files}
 use Rattle.joint_prover.specs.declared.verdict.Verdict.{Verdict}
 use Rattle.joint_prover.specs.declared.verdict.Verdict.TheVariants.{Proved, Wrong, Undecided, Graph, ReadFault, WriteFault, TooLong, Memory}
 use Rattle.joint_prover.specs.Endings.{IsClosed}
 use Rattle.joint_prover.specs.Parts.{IsWritten, IsWrongOrMemory, IsUndecided}
 use Rattle.joint_prover.specs.Verdicts.{IsFirstAbove, IsOfGraph, IsPair}
-use Rattle.joint_prover.specs.Written.{Files, StopsAt, StopsWriting}
+use Rattle.joint_prover.specs.Written.{StopsAt, StopsWriting}
 
 pub pair_of_text : (g : Aig) (order : Order) (e : Extended) (s : Sides) (text : List ℕ) → e ≡ without_cut g → s ≡ sides_of order g → IsLawfulAlgebraFile e s text → IsPair g order no_cut text
 pair_of_text g order e s text extended sides lawful lengths clauses_within algebra_within = record {

@@ -6,10 +6,11 @@ use Rattle.graph_core.specs.declared.order.Order.{Order}
 use Rattle.mv_desk.specs.View.{View, Rose}
 use Rattle.pac_writer.specs.Certificates.{certificate_text}
 use Rattle.pac_writer.specs.Writing.{Made}
+use Rattle.joint_checker.specs.Files.{Files}
 use Rattle.joint_prover.specs.declared.verdict.Verdict.{Verdict}
 use Rattle.joint_prover.specs.declared.verdict.Verdict.TheVariants.{Proved, Wrong, Undecided, WriteFault, Memory}
 use Rattle.joint_prover.specs.Verdicts.{IsWrong}
-use Rattle.joint_prover.specs.Written.{Files, StopsWriting, WritesPair}
+use Rattle.joint_prover.specs.Written.{StopsWriting, WritesPair}
 
 abbrev pub IsWritten : Made → Files → View → View → Verdict → Type 0
 IsWritten l files before after Proved = IsLawfulAlgebraFile l.extended l.sides (certificate_text l) × WritesPair files (certificate_text l) before after

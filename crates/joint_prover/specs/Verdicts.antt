@@ -15,11 +15,11 @@ use Rattle.graph_core.specs.Text.JudgedLines.{Lengths, IsWithin}
 use Rattle.graph_core.specs.declared.order.Order.{Order}
 use Rattle.mv_desk.specs.View.{View, Rose, bytes_under}
 use Rattle.mv_desk.specs.declared.slot.Slot.{Slot}
+use Rattle.joint_checker.specs.Files.{Files, HasGraph}
 use Rattle.joint_checker.specs.Outcome.{IsGraphRefusal}
-pub use Rattle.joint_checker.specs.Files.{HasGraph}
 use Rattle.joint_prover.specs.declared.verdict.Verdict.{Verdict}
 use Rattle.joint_prover.specs.declared.verdict.Verdict.TheVariants.{Proved, Wrong, Undecided, Graph, ReadFault, WriteFault, TooLong, Memory}
-use Rattle.joint_prover.specs.Written.{Files, ReadsGraph, StopsWriting, WritesPair}
+use Rattle.joint_prover.specs.Written.{ReadsGraph, StopsWriting, WritesPair}
 
 -- ---- proved
 

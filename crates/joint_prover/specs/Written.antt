@@ -5,7 +5,7 @@ use Rattle.mv_desk.specs.Calls.{Creates, Inspects, WritesPart, WritesTo}
 use Rattle.mv_desk.specs.View.{View, IsSame, ModeStays, SlotStays}
 use Rattle.mv_desk.specs.declared.slot.Slot.{Slot}
 use Rattle.mv_desk.specs.declared.slot.Slot.TheVariants as slot
-pub use Rattle.joint_checker.specs.Files.{Files, files_of}
+use Rattle.joint_checker.specs.Files.{Files}
 
 -- nothing was created or written, and every slot but `Graph` is as it was
 pub record ReadsGraph (before after : View) : Type 0 where

@@ -5,10 +5,11 @@ ghost use Rattle.graph_core.specs.Graph.Extended.{without_cut};
 ghost use Rattle.graph_core.specs.Graph.Operands.{sides_of};
 ghost use Rattle.ripple_graft.specs.Extension.{IsExtension};
 ghost use Rattle.frontier_core.specs.LeastDifference.{IsLeastDifference};
+ghost use Rattle.joint_checker.specs.Files.{files_of};
 ghost use Rattle.joint_prover.specs.Parts.{IsUndecided, IsWritten, IsWrongOrMemory};
 ghost use Rattle.mv_desk.specs.View.{KeepsTelling, OpensFiles};
 ghost use Rattle.joint_prover.specs.Verdicts.{IsOfGraph, IsVerdict, answer_of_graph};
-ghost use Rattle.joint_prover.specs.Written.{ReportStays, files_of};
+ghost use Rattle.joint_prover.specs.Written.{ReportStays};
 
 use crate::ending::Ending;
 use crate::reduction::reduced;

@@ -6,7 +6,8 @@ ghost use Rattle.mv_desk.specs.Calls.{HasWriteCause};
 ghost use Rattle.mv_desk.specs.View.{KeepsTelling};
 ghost use Rattle.mv_desk.specs.declared.slot.Slot.TheVariants as slot;
 ghost use Rattle.pac_writer.specs.Certificates.{certificate_text};
-ghost use Rattle.joint_prover.specs.Written.{StopsAt, StopsWriting, WritesFile, WritesPair, files_of};
+ghost use Rattle.joint_checker.specs.Files.{files_of};
+ghost use Rattle.joint_prover.specs.Written.{StopsAt, StopsWriting, WritesFile, WritesPair};
 
 use mv_desk::{Desk, Failed, Names, Slot, WriteFault, write_all};
 use pac_writer::Lines;

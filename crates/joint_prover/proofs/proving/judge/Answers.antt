@@ -1,7 +1,7 @@
 use Rattle.std.proofs.Common.{subst}
 use Rattle.graph_core.specs.Graph.Extended.{Extended}
+use Rattle.joint_checker.specs.Files.{files_of}
 use Rattle.joint_prover.specs.Verdicts.{IsOfGraph}
-use Rattle.joint_prover.specs.Written.{files_of}
 use Rattle.joint_prover.proofs.proving.judge.Goals as goal
 
 pub returns-in-Ok-clause-verdict : goal.returns-in-Ok-clause-verdict

@@ -1,9 +1,9 @@
 use Rattle.std.proofs.Common.{subst}
 use Rattle.graph_core.specs.Graph.Extended.{Extended}
 use Rattle.graph_core.specs.Graph.Operands.{Sides}
+use Rattle.joint_checker.specs.Files.{files_of}
 use Rattle.joint_prover.specs.declared.ending.Ending.TheVariants.{Closed}
 use Rattle.joint_prover.specs.Endings.{IsEnding}
-use Rattle.joint_prover.specs.Written.{files_of}
 use Rattle.joint_prover.proofs.Pairs.{written_pair}
 use Rattle.joint_prover.proofs.proving.judge_over.Goals as goal
 

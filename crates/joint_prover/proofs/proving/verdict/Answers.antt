@@ -1,6 +1,6 @@
 use Rattle.std.proofs.Common.{Err, ap, sym, subst}
+use Rattle.joint_checker.specs.Files.{files_of}
 use Rattle.joint_prover.specs.Verdicts.{IsVerdict}
-use Rattle.joint_prover.specs.Written.{files_of}
 use Rattle.joint_prover.proofs.Joining.{graph_is_read, joined, reading_leaves, refused, report_is_left, stays_on}
 use Rattle.joint_prover.proofs.proving.verdict.Goals as goal
 
