@@ -10,44 +10,69 @@ use std::test::Fail;
 // The certificates `x` and `y` of the graph `g`.
 const VERIFY: [&str; 7] = ["mulver", "verify", "g", "--clauses", "x", "--algebra", "y"];
 
+// The same for inputs in turn, and with a budget of 1.
+const VERIFY_INTERLEAVED: [&str; 9] = [
+    "mulver",
+    "verify",
+    "g",
+    "--clauses",
+    "x",
+    "--algebra",
+    "y",
+    "--inputs",
+    "interleaved",
+];
+
+const VERIFY_WITH_1: [&str; 9] = [
+    "mulver",
+    "verify",
+    "g",
+    "--clauses",
+    "x",
+    "--algebra",
+    "y",
+    "--budget",
+    "1",
+];
+
 // The lowest three outputs of the two-bit array.
 const TWO_BIT_FRONT: &[u8] =
     b"aag 14 4 0 3 10\n2\n4\n6\n8\n10\n22\n28\n10 6 2\n12 6 4\n14 8 2\n16 8 4\n18 14 12\n20 15 13\n22 21 19\n24 18 16\n26 19 17\n28 27 25\n";
 
-// A graph, more words, the status and the report.
+// A graph, the words, the status and the report.
 const UNPROVED: [(&str, &[u8], &[&str], u8, &str); 5] = [
     (
         "the second output is true",
         b"aag 3 2 0 2 1\n2\n4\n6\n1\n6 4 2\n",
-        &[],
+        &VERIFY,
         1,
         "wrong a=0 b=0 value=2 product=0\n",
     ),
     (
         "one pair only",
         b"aag 14 4 0 4 10\n2\n4\n6\n8\n10\n22\n28\n0\n10 6 2\n12 6 4\n14 8 2\n16 8 4\n18 14 12\n20 15 13\n22 21 19\n24 18 16\n26 19 17\n28 27 25\n",
-        &[],
+        &VERIFY,
         1,
         "wrong a=3 b=3 value=1 product=9\n",
     ),
     (
         "the first of several pairs with two ones",
         TWO_BIT_ARRAY,
-        &["--inputs", "interleaved"],
+        &VERIFY_INTERLEAVED,
         1,
         "wrong a=1 b=1 value=0 product=1\n",
     ),
     (
         "the product modulo 8",
         b"aag 14 4 0 3 10\n2\n4\n6\n8\n10\n22\n0\n10 6 2\n12 6 4\n14 8 2\n16 8 4\n18 14 12\n20 15 13\n22 21 19\n24 18 16\n26 19 17\n28 27 25\n",
-        &[],
+        &VERIFY,
         1,
         "wrong a=2 b=2 value=0 product=4\n",
     ),
     (
         "four outputs and four products",
         TWO_BIT_ARRAY,
-        &["--budget", "1"],
+        &VERIFY_WITH_1,
         5,
         "undecided plain step 0 monomials 8\n",
     ),
@@ -58,15 +83,13 @@ fn expect_unproved(
     rt: &impl Abort,
     alloc: Global,
     graph: &[u8],
-    more: &[&str],
+    words: &[&str],
     status: u8,
     report: &str,
     shows: &str,
 ) -> Result<(), Fail> {
     let mut desk = desk(alloc, (graph, NO_CUT, ONE_BIT_ALGEBRA), &[], &[])?;
-    let mut words = VERIFY.to_vec(alloc)?;
-    words.extend_from_slice(more)?;
-    expect(rt, alloc, &mut desk, &words, status, report, shows)?;
+    expect(rt, alloc, &mut desk, words, status, report, shows)?;
     assert!(rt; desk.bytes("x").is_none(), "{shows}");
     assert!(rt; desk.bytes("y").is_none(), "{shows}");
     Ok(())
@@ -74,8 +97,8 @@ fn expect_unproved(
 
 #[test]
 fn graphs_that_are_not_proved_get_no_certificates(rt: HostRuntime) -> Result<(), Fail> {
-    for &(shows, graph, more, status, report) in &UNPROVED {
-        expect_unproved(&rt, rt.alloc(), graph, more, status, report, shows)?;
+    for &(shows, graph, words, status, report) in &UNPROVED {
+        expect_unproved(&rt, rt.alloc(), graph, words, status, report, shows)?;
     }
     Ok(())
 }
