@@ -8,7 +8,6 @@ use Rattle.std.specs.List.{AllByRecursion, find}
 use Rattle.std.proofs.lemmas.Bool.{eqb-true, eq-eqb, true≢false, false_from_ne_true, cases_lt}
 use Rattle.std.proofs.lemmas.List.Elements.{recursion_from_All}
 use Rattle.std.proofs.lemmas.List.Folds.{find-append}
-use Rattle.std.proofs.lemmas.Nat.{pow_pos}
 use Rattle.std.proofs.lemmas.Option.{slice_get_within}
 use Rattle.graph_core.specs.declared.Lit.{Lit}
 use Rattle.graph_core.specs.Graph.Assignments.{Assignment, literal, bit}
@@ -17,12 +16,12 @@ use Rattle.graph_core.specs.Graph.{IsEvaluation}
 use Rattle.graph_core.specs.Algebra.Polynomials.{difference}
 use Rattle.graph_core.specs.Algebra.{LiveLine, line_of, gate_axiom, column_axiom, axioms, AgreeOnColumns}
 use Rattle.graph_core.specs.Algebra as algebra
-use Rattle.graph_core.proofs.OfGraphs.CallerLemmas.{difference_same}
 use Rattle.mv_fact.specs.Always.{Always}
 use Rattle.mv_fact.specs.Facts.{Facts, ChangesAt}
 use Rattle.poly_terms.specs.Tables.{Table, Sum, IsOf, Extends, modulus}
 use Rattle.poly_terms.specs.Laws.{extends_itself, extends_on, modulus_stays}
 use Rattle.gate_axioms.specs.Axioms.{IsDifference}
+use Rattle.gate_axioms.specs.Laws.{equal_literals_vanish}
 use Rattle.ripple_graft.specs.Extension.{IsExtension}
 use Rattle.graph_core.specs.Algebra.Agreement.{AreSame, AreSameLines}
 use Rattle.gate_axioms.specs.Lines.{lines_in}
@@ -39,8 +38,7 @@ pub difference_vanishes : (old mid : Facts Sum Table) (left right : Lit) (p : Su
     Always old.gates (λ σ. literal σ left ≡ literal σ right) → Vanishes mid.gates mid.table p
 difference_vanishes old mid left right p of is e equal = record {
   of_table = of;
-  always = λ σ ev. is σ ∙ ap (λ b. difference (modulus mid.table) (bit b) (bit (literal σ right))) (equal σ (subst (λ gates. IsEvaluation gates σ) e ev)) ∙
-      difference_same (modulus mid.table) (bit (literal σ right)) (pow_pos mid.table.width);
+  always = λ σ ev. equal_literals_vanish mid.table p left right σ is (equal σ (subst (λ gates. IsEvaluation gates σ) e ev));
 }
 
 pub difference_put : (old mid new : Facts Sum Table) (id : ℕ) (left right : Lit) (p : Sum) → KeepsLines old mid → IsDifference mid.table p left right → ChangesAt id (Some p) mid new →
