@@ -1,20 +1,19 @@
 -- What is gathered stays so as the table grows.
-use Rattle.std.specs.Prelude.{◌≡◌, ℕ, ◌+◌, ◌%◌, ◌≤◌, List, [], ◌∷◌, slice_index_or, sum_by}
+use Rattle.std.specs.Prelude.{◌≡◌, ℕ, ◌+◌, ◌%◌, ◌≤◌, List, [], ◌∷◌, slice_index_or}
 use Rattle.std.specs.List.{All, AllByRecursion}
 use Rattle.std.proofs.Common.{refl, sym, ap, ap₂, subst, ◌∙◌}
 use Rattle.std.proofs.Math.Path.{fun_ext}
 use Rattle.std.proofs.lemmas.List.Elements.{recursion_from_All}
-use Rattle.std.proofs.lemmas.List.Sums.{sum_by-cons}
 use Rattle.graph_core.specs.Graph.Assignments.{Assignment}
 use Rattle.graph_core.specs.Graph.Operands.{Sides}
 use Rattle.graph_core.specs.Graph.Extended.{Extended}
 use Rattle.graph_core.specs.Algebra.{Part, axioms, combined}
 use Rattle.graph_core.specs.Algebra as algebra
 use Rattle.poly_terms.specs.Tables.{Table, Sum, Extends, IsOf, value_in}
-use Rattle.poly_terms.specs.Laws.{all_stay, monomials_stay, stays, value_stays}
+use Rattle.poly_terms.specs.Laws.{monomials_stay, stays, value_stays}
 use Rattle.pac_writer.specs.Writing.{IsOver, parts_in}
 use Rattle.frontier_core.specs.Plan.{Taken}
-use Rattle.frontier_core.specs.Pending.{AreSpare, IsPending}
+use Rattle.frontier_core.specs.Pending.{AreSpare, IsGained, IsPending}
 use Rattle.column_reducer.specs.declared.gathered.Gathered.{Gathered}
 use Rattle.column_reducer.specs.declared.gathered.Group.{Group}
 use Rattle.column_reducer.specs.Gathering.{AreGroups, AreParts, IsFixedAbove, IsGathered, IsGroup, groups_sum}
@@ -66,11 +65,6 @@ groups_grown e t0 t1 gs total grown h = record {
   sum = λ σ. ap (λ z. z % algebra.modulus e) (sum_grown e t0 t1 gs σ grown (recursion_from_All (IsGroup e t0) gs h.groups)) ∙ h.sum σ ∙ sym (value_stays t0 t1 total σ grown h.of);
 }
 
-products_grown : (t0 t1 : Table) (ps : List Sum) (σ : Assignment) → Extends t0 t1 → AllByRecursion (IsOf t0) ps → sum_by (λ p. value_in t1 p σ) ps ≡ sum_by (λ p. value_in t0 p σ) ps
-products_grown t0 t1 [] σ grown h = refl
-products_grown t0 t1 (p ∷ ps) σ grown h =
-    sum_by-cons (λ q. value_in t1 q σ) p ps ∙ ap₂ ◌+◌ (value_stays t0 t1 p σ grown h.0) (products_grown t0 t1 ps σ grown h.1) ∙ sym (sum_by-cons (λ q. value_in t0 q σ) p ps)
-
 pub gathered_grown : (e : Extended) (s : Sides) (t0 t1 : Table) (f : Taken) (rest : Assignment → ℕ) (g : Gathered) → Extends t0 t1 → IsGathered e s t0 f rest g → IsGathered e s t1 f rest g
 gathered_grown e s t0 t1 f rest g grown h =
     let told = parts_stay e t0 t1 g.parts.items grown h.parts in
@@ -79,7 +73,6 @@ gathered_grown e s t0 t1 f rest g grown h =
       parts = parts_grown e t0 t1 g.parts.items grown h.parts;
       pending = subst (λ start. IsPending e s (axioms e).live start f rest (parts_in t1 g.parts.items)) (sym (function_stays t0 t1 g.total grown h.groups.of))
           (subst (IsPending e s (axioms e).live (value_in t0 g.total) f rest) (sym told) h.pending);
-      of_products = all_stay t0 t1 g.products.items grown h.of_products;
-      products = λ σ. ap (λ z. z % algebra.modulus e) (products_grown t0 t1 g.products.items σ grown (recursion_from_All (IsOf t0) g.products.items h.of_products)) ∙ h.products σ ∙
-          ap (λ ps. combined (algebra.modulus e) (axioms e).live ps σ % algebra.modulus e) (sym told);
+      of_known = stays t0 t1 g.known grown h.of_known;
+      known = subst (IsGained e s [] f.added) (sym (function_stays t0 t1 g.known grown h.of_known)) h.known;
     }

@@ -22,18 +22,18 @@ bit_reduced false w h = zero-mod (2 ^ w)
 pub term_has : (m c : ℕ) (vs : List ℕ) (σ : Assignment) (p : Polynomial) → p ≡ term_of c vs ∷ [] → value m p σ ≡ value m (term_of c vs ∷ []) σ
 term_has m c vs σ p e = ap (λ q. value m q σ) e
 
--- a polynomial times an opposite of 1
-pub opposite_has : (t0 t1 t2 : Table) (p n r : Sum) (o : ℕ) (σ : Assignment) → (o + 1) % modulus t0 ≡ 0 → Extends t0 t1 → IsOf t0 p → value_in t1 n σ ≡ o % modulus t0 →
-    value_in t2 r σ ≡ (value_in t1 p σ * value_in t1 n σ) % modulus t1 → value_in t2 r σ ≡ difference (modulus t0) 0 (value_in t0 p σ)
-opposite_has t0 t1 t2 p n r o σ opposite grown of_p n_is r_is =
+-- a polynomial plus another one times an opposite of 1
+pub minus_has : (t0 t1 t2 : Table) (p q n r : Sum) (o : ℕ) (σ : Assignment) → (o + 1) % modulus t0 ≡ 0 → Extends t0 t1 → IsOf t0 p → IsOf t0 q → value_in t1 n σ ≡ o % modulus t0 →
+    value_in t2 r σ ≡ (value_in t1 p σ + value_in t1 q σ * value_in t1 n σ) % modulus t1 → value_in t2 r σ ≡ difference (modulus t0) (value_in t0 p σ) (value_in t0 q σ)
+minus_has t0 t1 t2 p q n r o σ opposite grown of_p of_q n_is r_is =
     let m = modulus t0 in
-    let y = value_in t0 p σ in
+    let x = value_in t0 p σ in
+    let y = value_in t0 q σ in
     let same : modulus t1 ≡ m = modulus_stays t0 t1 grown in
-    let none : o % m * y ≡ 0 + o % m * y = omega arith in
-    let there : value_in t1 p σ * value_in t1 n σ ≡ 0 + o % m * y =
-    ap₂ (λ a b. a * b) (value_stays t0 t1 p σ grown of_p) n_is ∙ mul_comm y (o % m) ∙ none in
+    let there : value_in t1 p σ + value_in t1 q σ * value_in t1 n σ ≡ x + o % m * y =
+    ap₂ ◌+◌ (value_stays t0 t1 p σ grown of_p) (ap₂ (λ a b. a * b) (value_stays t0 t1 q σ grown of_q) n_is ∙ mul_comm y (o % m)) in
     r_is ∙ ap₂ (λ a k. a % k) there same ∙
-    opposite_difference m 0 y (0 + o % m * y) o (pow_pos t0.width) opposite (sum_with_product_same m 0 (o % m) y 0 o y refl (mod-mod o m) refl)
+    opposite_difference m x y (x + o % m * y) o (pow_pos t0.width) opposite (sum_with_product_same m x (o % m) y x o y refl (mod-mod o m) refl)
 
 -- an axiom plus its gate's variable is the product
 pub product_has : (t0 t1 t2 t3 : Table) (made variable' r : Sum) (gate : Gate) (given' : Polynomial) (σ : Assignment) → Extends t0 t1 → Extends t1 t2 → IsOf t1 made → IsGateAxiom t1 made gate →

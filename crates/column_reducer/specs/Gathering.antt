@@ -1,5 +1,5 @@
 -- What the loop over a plan's steps keeps: the frontier's function, and what lines are to state.
-use Rattle.std.specs.Prelude.{Bool, ◌≡◌, ◌≢◌, ℕ, ◌+◌, ◌*◌, ◌%◌, ◌<◌, ◌≤◌, true, false, List, [], ◌∷◌, map, ◌++◌, length, IfSome, IsSome, sum_by}
+use Rattle.std.specs.Prelude.{Bool, ◌≡◌, ◌≢◌, ℕ, ◌+◌, ◌%◌, ◌<◌, ◌≤◌, true, false, List, [], ◌∷◌, map, ◌++◌, length, IfSome, IsSome}
 use Rattle.std.specs.declared.option.Option.{Option}
 use Rattle.std.specs.declared.option.Option.TheVariants.{None, Some}
 use Rattle.std.specs.List.{All, AllPairs}
@@ -7,7 +7,7 @@ use Rattle.graph_core.specs.declared.gate.Gate.{Gate}
 use Rattle.graph_core.specs.Graph.Assignments.{Assignment}
 use Rattle.graph_core.specs.Graph.Operands.{ReadInputs, Sides}
 use Rattle.graph_core.specs.Graph.Extended.{Extended}
-use Rattle.graph_core.specs.Algebra.{IsLive, axioms, combined, gate_axiom, line_of, specification, value_of}
+use Rattle.graph_core.specs.Algebra.{IsLive, axioms, combined, line_of, specification, value_of}
 use Rattle.graph_core.specs.Algebra as algebra
 use Rattle.graph_core.specs.Algebra.Polynomials.{Term, difference}
 use Rattle.ripple_graft.specs.Extension.{IsExtension}
@@ -15,13 +15,12 @@ use Rattle.poly_terms.specs.Tables.{Table, Sum, IsOf, modulus, monomials_in, val
 use Rattle.frontier_core.specs.Frontier.{set_to}
 use Rattle.frontier_core.specs.Sets.{has}
 use Rattle.frontier_core.specs.Plan.{Taken, value_of_taken}
-use Rattle.frontier_core.specs.Pending.{AreSpare, IsNotZero, IsPending, gap}
+use Rattle.frontier_core.specs.Pending.{AreSpare, IsGained, IsNotZero, IsPending, gap}
 use Rattle.frontier_core.specs.Totals.{lines_sum}
 use Rattle.frontier_core.specs.RestLine.{partial_specification}
 use Rattle.pac_writer.specs.Writing.{IsOver, Made, ledger_of, parts_in}
 use Rattle.frontier_core.specs.Substitution.{gate_value, quotient, substituted}
 use Rattle.column_reducer.specs.declared.elimination.Elimination.{Elimination}
-use Rattle.column_reducer.specs.declared.elimination.Quotient.{Quotient}
 use Rattle.column_reducer.specs.declared.gathered.Gathered.{Gathered}
 use Rattle.column_reducer.specs.declared.gathered.Group.{Group}
 use Rattle.column_reducer.specs.declared.walk.Walk.{Walk}
@@ -39,36 +38,22 @@ IsFixedAbove max f = (v : ℕ) (b : Bool) (σ : Assignment) → max < v → f (s
 
 -- ---- one gate
 
--- Minus the quotient by a gate's variable, and the gate's axiom times that.
-pub record IsQuotient (t0 t1 : Table) (x : Gate) (p : Sum) (q : Quotient) : Type 0 where
-  pub of_factor : IsOf t1 q.factor
-  pub of_product : IsOf t1 q.product
-  pub minus : (σ : Assignment) → value_in t1 q.factor σ ≡ difference (modulus t0) 0 (quotient (modulus t0) x.v (value_in t0 p) σ)
-  pub nonzero : IsNotZero (modulus t0) (monomials_in t1 q.factor)
-  pub times : (σ : Assignment) → value_in t1 q.product σ ≡ ((gate_axiom (modulus t0) x).value σ * value_in t1 q.factor σ) % modulus t0
+-- Minus a function, as a polynomial that isn't 0 everywhere.
+pub record IsOpposite (m : ℕ) (t : Table) (by : Assignment → ℕ) (factor : Sum) : Type 0 where
+  pub of : IsOf t factor
+  pub minus : (σ : Assignment) → value_in t factor σ ≡ difference m 0 (by σ)
+  pub nonzero : IsNotZero m (monomials_in t factor)
 
--- Minus a polynomial, and a gate's axiom times that; none where the polynomial is 0 everywhere.
-pub record IsOpposite (t0 t1 : Table) (x : Gate) (by : Sum) (q : Quotient) : Type 0 where
-  pub of_factor : IsOf t1 q.factor
-  pub of_product : IsOf t1 q.product
-  pub minus : (σ : Assignment) → value_in t1 q.factor σ ≡ difference (modulus t0) 0 (value_in t0 by σ)
-  pub nonzero : IsNotZero (modulus t0) (monomials_in t1 q.factor)
-  pub times : (σ : Assignment) → value_in t1 q.product σ ≡ ((gate_axiom (modulus t0) x).value σ * value_in t1 q.factor σ) % modulus t0
+-- none where the function is 0 everywhere
+abbrev pub IsTurned : ℕ → Table → (Assignment → ℕ) → Option Sum → Type 0
+IsTurned m t by None = (σ : Assignment) → by σ ≡ 0
+IsTurned m t by (Some factor) = IsOpposite m t by factor
 
-abbrev pub IsTurned : Table → Table → Gate → Sum → Option Quotient → Type 0
-IsTurned t0 t1 x by None = (σ : Assignment) → value_in t0 by σ ≡ 0
-IsTurned t0 t1 x by (Some q) = IsOpposite t0 t1 x by q
-
--- none where the quotient is 0 everywhere
-abbrev pub IsQuotientOrNone : Table → Table → Gate → Sum → Option Quotient → Type 0
-IsQuotientOrNone t0 t1 x p None = (σ : Assignment) → quotient (modulus t0) x.v (value_in t0 p) σ ≡ 0
-IsQuotientOrNone t0 t1 x p (Some q) = IsQuotient t0 t1 x p q
-
--- A polynomial with the product of a gate's operands in place of its variable, and the quotient by it.
+-- A polynomial with the product of a gate's operands in place of its variable, and minus the quotient by it.
 pub record IsEliminated (t0 t1 : Table) (x : Gate) (p : Sum) (r : Elimination) : Type 0 where
   pub of : IsOf t1 r.rest
   pub value : (σ : Assignment) → value_in t1 r.rest σ ≡ substituted (modulus t0) x.v (gate_value x) (value_in t0 p) σ
-  pub quotient : IsQuotientOrNone t0 t1 x p r.quotient
+  pub factor : IsTurned (modulus t0) t1 (quotient (modulus t0) x.v (value_in t0 p)) r.factor
 
 -- ---- groups
 
@@ -99,31 +84,38 @@ pub record AreGroups (e : Extended) (t : Table) (gs : List Group) (total : Sum) 
   pub fixed : IsFixedAbove e.max (value_in t total)
   pub sum : (σ : Assignment) → groups_sum t gs σ % algebra.modulus e ≡ value_in t total σ
 
--- The sum of the ended groups and the open one's parts are the gap at the frontier with this function.
+-- The sum of the ended groups and the open one's parts are the gap at the frontier with this function, and what is known is the sum of the columns.
 pub record IsGathered (e : Extended) (s : Sides) (t : Table) (f : Taken) (rest : Assignment → ℕ) (g : Gathered) : Type 0 where
   pub groups : AreGroups e t g.groups.items g.total
   pub parts : AreParts e t g.parts.items
   pub pending : IsPending e s (axioms e).live (value_in t g.total) f rest (parts_in t g.parts.items)
-  pub of_products : All (IsOf t) g.products.items
-  pub products : (σ : Assignment) → sum_by (λ p. value_in t p σ) g.products.items % algebra.modulus e ≡
-      combined (algebra.modulus e) (axioms e).live (parts_in t g.parts.items) σ % algebra.modulus e
+  pub of_known : IsOf t g.known
+  pub known : IsGained e s [] f.added (value_in t g.known)
 
 -- The open group takes a part over a line.
-pub record HasTaken (v : ℕ) (q : Quotient) (old new : Gathered) : Type 0 where
+pub record HasTaken (v : ℕ) (factor : Sum) (old new : Gathered) : Type 0 where
   pub groups : new.groups ≡ old.groups
   pub total : new.total ≡ old.total
-  pub parts : new.parts.items ≡ old.parts.items ++ (v, q.factor) ∷ []
-  pub products : new.products.items ≡ old.products.items ++ q.product ∷ []
+  pub known : new.known ≡ old.known
+  pub parts : new.parts.items ≡ old.parts.items ++ (v, factor) ∷ []
 
--- if there is a quotient
-abbrev pub Takes : ℕ → Option Quotient → Gathered → Gathered → Type 0
+-- if there is a factor
+abbrev pub Takes : ℕ → Option Sum → Gathered → Gathered → Type 0
 Takes v None old new = new ≡ old
-Takes v (Some q) old new = HasTaken v q old new
+Takes v (Some factor) old new = HasTaken v factor old new
+
+-- A column is known too.
+pub record HasColumn (t0 t1 : Table) (column : Sum) (old new : Gathered) : Type 0 where
+  pub groups : new.groups ≡ old.groups
+  pub total : new.total ≡ old.total
+  pub parts : new.parts ≡ old.parts
+  pub of : IsOf t1 new.known
+  pub known : (σ : Assignment) → value_in t1 new.known σ ≡ (value_in t0 old.known σ + value_in t0 column σ) % modulus t0
 
 -- What was gathered is so still, and no more groups than the most were ended.
-pub record Settles (t0 t1 : Table) (most : ℕ) (old new : Gathered) : Type 0 where
-  pub gathered : (e : Extended) (s : Sides) (f : Taken) (rest : Assignment → ℕ) → modulus t0 ≡ algebra.modulus e →
-      IsFixedAbove e.max (gap e s f.added rest) → IsGathered e s t0 f rest old → IsGathered e s t1 f rest new
+pub record Settles (t0 t1 : Table) (rest : Sum) (most : ℕ) (old new : Gathered) : Type 0 where
+  pub gathered : (e : Extended) (s : Sides) (f : Taken) → modulus t0 ≡ algebra.modulus e → IsFixedAbove e.max (gap e s f.added (value_in t0 rest)) →
+      IsGathered e s t0 f (value_in t0 rest) old → IsGathered e s t1 f (value_in t0 rest) new
   pub few : length old.groups.items ≤ most → length new.groups.items ≤ most
 
 -- ---- the walk over the steps
@@ -139,10 +131,15 @@ pub record IsWalked (e : Extended) (s : Sides) (t : Table) (f : Taken) (w : Walk
   pub few : IfSome w.gathered (λ g. length g.groups.items ≤ length e.gates)
 
 -- the same with what is kept before
-abbrev pub TakesIn : ℕ → Option Quotient → Option Gathered → Option Gathered → Type 0
+abbrev pub TakesIn : ℕ → Option Sum → Option Gathered → Option Gathered → Type 0
 TakesIn v q None r = r ≡ None
 TakesIn v q (Some g) None = ⊥
 TakesIn v q (Some g) (Some more) = Takes v q g more
+
+abbrev pub HasColumnIn : Table → Table → Sum → Option Gathered → Option Gathered → Type 0
+HasColumnIn t0 t1 column None r = r ≡ None
+HasColumnIn t0 t1 column (Some g) None = ⊥
+HasColumnIn t0 t1 column (Some g) (Some more) = HasColumn t0 t1 column g more
 
 -- The groups' lines state the specification minus the last frontier's function.
 pub record AreTotal (e : Extended) (s : Sides) (t : Table) (rest : Sum) (g : Gathered) : Type 0 where

@@ -6,13 +6,12 @@ ghost use Rattle.graph_core.specs.Algebra as algebra;
 ghost use Rattle.graph_core.specs.Graph.Assignments.{Assignment};
 ghost use Rattle.graph_core.specs.Graph.Extended.{Extended};
 ghost use Rattle.graph_core.specs.Graph.Operands.{Sides};
-ghost use Rattle.poly_terms.specs.Tables.{Extends, IsOf, modulus};
+ghost use Rattle.poly_terms.specs.Tables.{Extends, IsOf, modulus, value_in};
 ghost use Rattle.frontier_core.specs.Plan.{Taken, nothing};
 ghost use Rattle.frontier_core.specs.Pending.{gap};
-ghost use Rattle.column_reducer.specs.Gathering.{IsFixedAbove, IsGathered, Takes};
+ghost use Rattle.column_reducer.specs.Gathering.{HasColumn, IsFixedAbove, IsGathered, Takes};
 
-use crate::elimination::Quotient;
-use crate::pieces::{one_poly, zero_poly};
+use crate::pieces::{minus, one_poly, zero_poly};
 use graph_core::Memory;
 use poly_terms::{Poly, Terms};
 use std::alloc::Global;
@@ -31,9 +30,9 @@ pub(crate) struct Gathered {
     pub(crate) groups: Vec<Group>,
     /// the sum of what the groups state
     pub(crate) total: Poly,
+    /// the sum of the columns
+    pub(crate) known: Poly,
     pub(crate) parts: Vec<(u64, Poly)>,
-    /// the line of each part times its factor
-    pub(crate) products: Vec<Poly>,
     /// how many monomials the open group's factors have
     pub(crate) pending: u64,
     /// how many those of the ended groups have
@@ -48,43 +47,56 @@ impl Gathered {
         ensures gathered { IfOk result (λ g. (e : Extended) (s : Sides) (rest : Assignment → ℕ) →
             modulus terms.old ≡ algebra.modulus e → ((σ : Assignment) → rest σ ≡ 0) → IsGathered e s terms.new nothing rest g) }
     {
+        let total = zero_poly(alloc, terms)?;
+        let known = zero_poly(alloc, terms)?;
         Ok(Gathered {
             groups: Vec::new(alloc),
-            total: zero_poly(alloc, terms)?,
+            total,
+            known,
             parts: Vec::new(alloc),
-            products: Vec::new(alloc),
             pending: 0,
             ended: 0,
         })
     }
 
-    /// Takes a part of the open group, over the axiom of a gate.
-    pub(crate) fn take(
-        &mut self,
-        terms: &Terms,
-        v: u32,
-        quotient: Option<Quotient>,
-    ) -> Result<(), Memory>
-        requires { IfSome quotient (λ q. IsOf terms.now q.factor) }
-        ensures { OnOk result (Takes v quotient self.old self.new) }
+    /// Takes a column: it adds no part.
+    pub(crate) fn add_column(&mut self, terms: &mut Terms, column: &Poly) -> Result<(), Memory>
+        requires known { IsOf terms.old self.old.known }
+        requires column { IsOf terms.old column.now }
+        ensures extends { Extends terms.old terms.new }
+        ensures column { OnOk result (HasColumn terms.old terms.new column.now self.old self.new) }
     {
-        if let Some(quotient) = quotient {
-            self.pending = self.pending.saturating_add(terms.size(&quotient.factor));
-            self.parts.push((u64::from(v), quotient.factor))?;
-            self.products.push(quotient.product)?;
+        self.known = terms.add(&self.known, column)?;
+        Ok(())
+    }
+
+    /// Takes a part of the open group, over the axiom of a gate.
+    pub(crate) fn take(&mut self, terms: &Terms, v: u32, factor: Option<Poly>) -> Result<(), Memory>
+        requires { IfSome factor (IsOf terms.now) }
+        ensures { OnOk result (Takes v factor self.old self.new) }
+    {
+        if let Some(factor) = factor {
+            self.pending = self.pending.saturating_add(terms.size(&factor));
+            self.parts.push((u64::from(v), factor))?;
         }
         Ok(())
     }
 
-    /// Ends the open group, if it has a part.
-    pub(crate) fn end_group(self, alloc: Global, terms: &mut Terms) -> Result<Gathered, Memory>
-        requires { (e : Extended) × (s : Sides) × (f : Taken) × (rest : Assignment → ℕ) × IsGathered e s terms.old f rest self }
+    /// Ends the open group, if it has a part: it states what is known minus the rest, minus what the other groups state.
+    pub(crate) fn end_group(
+        self,
+        alloc: Global,
+        terms: &mut Terms,
+        rest: &Poly,
+    ) -> Result<Gathered, Memory>
+        requires of { IsOf terms.old rest.now }
+        requires gathered { (e : Extended) × (s : Sides) × (f : Taken) × IsGathered e s terms.old f (value_in terms.old rest.now) self }
         ensures extends { Extends terms.old terms.new }
         ensures count { IfOk result (λ g. length g.groups.items ≤ length self.groups.items + 1) }
-        ensures gathered { IfOk result (λ g. (e : Extended) (s : Sides) (f : Taken) (rest : Assignment → ℕ) →
-            modulus terms.old ≡ algebra.modulus e → IsFixedAbove e.max (gap e s f.added rest) →
-            IsGathered e s terms.old f rest self →
-            IsGathered e s terms.new f rest g × (g.parts.items ≡ [])) }
+        ensures gathered { IfOk result (λ g. (e : Extended) (s : Sides) (f : Taken) →
+            modulus terms.old ≡ algebra.modulus e → IsFixedAbove e.max (gap e s f.added (value_in terms.old rest.now)) →
+            IsGathered e s terms.old f (value_in terms.old rest.now) self →
+            IsGathered e s terms.new f (value_in terms.old rest.now) g × (g.parts.items ≡ [])) }
     {
         if self.parts.is_empty() {
             return Ok(self);
@@ -92,20 +104,20 @@ impl Gathered {
         let Gathered {
             mut groups,
             total,
+            known,
             parts,
-            products,
             pending,
             ended,
         } = self;
-        let poly = terms.add_all(&products)?;
+        let now = minus(alloc, terms, &known, rest)?;
+        let poly = minus(alloc, terms, &now, &total)?;
         let one = one_poly(alloc, terms)?;
-        let total = terms.add(&total, &poly)?;
         groups.push(Group { parts, poly, one })?;
         Ok(Gathered {
             groups,
-            total,
+            total: now,
+            known,
             parts: Vec::new(alloc),
-            products: Vec::new(alloc),
             pending: 0,
             ended: ended.saturating_add(pending),
         })

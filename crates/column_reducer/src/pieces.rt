@@ -74,6 +74,21 @@ pub(crate) fn one_poly(alloc: Global, terms: &mut Terms) -> Result<Poly, Memory>
     bit_poly(alloc, terms, true)
 }
 
+// The difference of two polynomials.
+pub(crate) fn minus(alloc: Global, terms: &mut Terms, p: &Poly, q: &Poly) -> Result<Poly, Memory>
+    requires left { IsOf terms.old p.now }
+    requires right { IsOf terms.old q.now }
+    ensures extends { Extends terms.old terms.new }
+    ensures of { IfOk result (IsOf terms.new) }
+    ensures value { IfOk result (λ r. (σ : Assignment) → value_in terms.new r σ ≡
+        difference (modulus terms.old) (value_in terms.old p.now σ) (value_in terms.old q.now σ)) }
+{
+    let less = minus_one(terms);
+    let number = constant(alloc, terms, less.value())?;
+    let poly = terms.combine(p, q, &number)?;
+    Ok(poly)
+}
+
 // Minus a polynomial.
 pub(crate) fn opposite(alloc: Global, terms: &mut Terms, p: &Poly) -> Result<Poly, Memory>
     requires { IsOf terms.old p.now }
@@ -82,10 +97,8 @@ pub(crate) fn opposite(alloc: Global, terms: &mut Terms, p: &Poly) -> Result<Pol
     ensures value { IfOk result (λ r. (σ : Assignment) → value_in terms.new r σ ≡
         difference (modulus terms.old) 0 (value_in terms.old p.now σ)) }
 {
-    let less = minus_one(terms);
-    let number = constant(alloc, terms, less.value())?;
-    let poly = terms.mul(p, &number)?;
-    Ok(poly)
+    let zero = bit_poly(alloc, terms, false)?;
+    minus(alloc, terms, &zero, p)
 }
 
 fn minus_one(terms: &Terms) -> Residue

@@ -6,13 +6,13 @@ ghost use Rattle.graph_core.specs.Algebra as algebra;
 ghost use Rattle.graph_core.specs.Graph.Assignments.{Assignment};
 ghost use Rattle.graph_core.specs.Graph.Extended.{Extended};
 ghost use Rattle.graph_core.specs.Graph.Operands.{Sides};
-ghost use Rattle.poly_terms.specs.Tables.{Extends, modulus};
+ghost use Rattle.poly_terms.specs.Tables.{Extends, IsOf, modulus, value_in};
 ghost use Rattle.frontier_core.specs.Plan.{Taken};
 ghost use Rattle.column_reducer.specs.Gathering.{IsGathered, Settles};
 
 use crate::gathered::Gathered;
 use graph_core::Memory;
-use poly_terms::Terms;
+use poly_terms::{Poly, Terms};
 use std::alloc::Global;
 
 // A group ends once its factors have more monomials than this, so that no line gets very long.
@@ -22,14 +22,16 @@ const LARGE_GROUP: u64 = 1 << 16;
 pub(crate) fn settle(
     alloc: Global,
     terms: &mut Terms,
+    rest: &Poly,
     gathered: Gathered,
     most: usize,
     bound: Option<u64>,
 ) -> Result<Option<Gathered>, Memory>
-    requires { (e : Extended) × (s : Sides) × (f : Taken) × (rest : Assignment → ℕ) × IsGathered e s terms.old f rest gathered }
+    requires of { IsOf terms.old rest.now }
+    requires gathered { (e : Extended) × (s : Sides) × (f : Taken) × IsGathered e s terms.old f (value_in terms.old rest.now) gathered }
     ensures extends { Extends terms.old terms.new }
     ensures kept { result ≡ Ok None → bound ≢ None }
-    ensures gathered { IfOk result (λ r. IfSome r (Settles terms.old terms.new most gathered)) }
+    ensures gathered { IfOk result (λ r. IfSome r (Settles terms.old terms.new rest.now most gathered)) }
 {
     if is_past(&gathered, bound) {
         return Ok(None);
@@ -37,7 +39,7 @@ pub(crate) fn settle(
     if gathered.pending <= LARGE_GROUP || gathered.groups.len() >= most {
         return Ok(Some(gathered));
     }
-    let ended = gathered.end_group(alloc, terms)?;
+    let ended = gathered.end_group(alloc, terms, rest)?;
     Ok(Some(ended))
 }
 

@@ -13,9 +13,9 @@ ghost use Rattle.poly_terms.specs.Tables.{Extends, IsOf, modulus, value_in};
 ghost use Rattle.frontier_core.specs.Plan.{CanFollow, IsFrontierOf, Taken, nothing, step};
 ghost use Rattle.frontier_core.specs.Sets.{has};
 ghost use Rattle.frontier_core.specs.declared.step.Step.TheVariants as steps;
-ghost use Rattle.column_reducer.specs.Gathering.{IsOutcome, IsWalked, TakesIn};
+ghost use Rattle.column_reducer.specs.Gathering.{HasColumnIn, IsOutcome, IsWalked, TakesIn};
 
-use crate::elimination::{Quotient, eliminate};
+use crate::elimination::eliminate;
 use crate::gathered::Gathered;
 use crate::pieces::zero_poly;
 use crate::plan::Plan;
@@ -148,7 +148,7 @@ impl Walk {
         }
     }
 
-    // Adds a column that isn't replaced: nothing is gathered.
+    // Adds a column that isn't replaced: no part is gathered.
     fn add_column(
         self,
         alloc: Global,
@@ -162,17 +162,16 @@ impl Walk {
         requires inputs { ReadInputs extended.now.graph operands.now }
         requires walked { (f : Taken) × IsWalked extended.now operands.now terms.old f self }
         ensures extends { Extends terms.old terms.new }
-        ensures kept { IfOk result (λ w. w.gathered ≡ self.gathered) }
+        ensures kept { IfOk result (λ w. IsSome self.gathered → IsSome w.gathered) }
         ensures walked { IfOk result (λ w. (f : Taken) → IsFrontierOf extended.now f → has f.added k ≡ false →
             IsWalked extended.now operands.now terms.old f self → IsWalked extended.now operands.now terms.new (step f (steps.Add k)) w) }
     {
         let _gates = extended.gates();
         let column = column_poly(alloc, terms, extended, operands, k)?;
-        let rest = terms.add(&self.rest, &column)?;
-        Ok(Walk {
-            rest,
-            gathered: self.gathered,
-        })
+        let Walk { rest, gathered } = self;
+        let rest = terms.add(&rest, &column)?;
+        let gathered = with_column(terms, gathered, &column)?;
+        Ok(Walk { rest, gathered })
     }
 
     // Eliminates a gate: where the rest has its variable, a part is gathered.
@@ -193,7 +192,7 @@ impl Walk {
         let _gates = extended.gates();
         let Walk { rest, gathered } = self;
         let out = eliminate(alloc, terms, rest, &gate)?;
-        let gathered = gather(terms, gathered, gate.v, out.quotient)?;
+        let gathered = gather(terms, gathered, gate.v, out.factor)?;
         Ok(Walk {
             rest: out.rest,
             gathered,
@@ -221,7 +220,7 @@ impl Walk {
                 gathered: None,
             }),
             Some(gathered) => {
-                let settled = settle(alloc, terms, gathered, most, bound)?;
+                let settled = settle(alloc, terms, &rest, gathered, most, bound)?;
                 Ok(Walk {
                     rest,
                     gathered: settled,
@@ -246,7 +245,7 @@ impl Walk {
                 gathered: None,
             }),
             Some(gathered) => {
-                let ended = gathered.end_group(alloc, terms)?;
+                let ended = gathered.end_group(alloc, terms, &rest)?;
                 Ok(Walk {
                     rest,
                     gathered: Some(ended),
@@ -258,20 +257,40 @@ impl Walk {
 
 ghost use Rattle.column_reducer.specs.Gathering.{HasEnded};
 
-// Gathers a part, if there is a quotient and what is gathered is kept.
-fn gather(
-    terms: &Terms,
+// Takes a column, if what is gathered is kept.
+fn with_column(
+    terms: &mut Terms,
     gathered: Option<Gathered>,
-    v: u32,
-    quotient: Option<Quotient>,
+    column: &Poly,
 ) -> Result<Option<Gathered>, Memory>
-    requires { IfSome quotient (λ q. IsOf terms.now q.factor) }
-    ensures { IfOk result (TakesIn v quotient gathered) }
+    requires known { IfSome gathered (λ g. IsOf terms.old g.known) }
+    requires column { IsOf terms.old column.now }
+    ensures extends { Extends terms.old terms.new }
+    ensures column { IfOk result (HasColumnIn terms.old terms.new column.now gathered) }
 {
     match gathered {
         None => Ok(None),
         Some(mut gathered) => {
-            gathered.take(terms, v, quotient)?;
+            gathered.add_column(terms, column)?;
+            Ok(Some(gathered))
+        }
+    }
+}
+
+// Gathers a part, if there is a factor and what is gathered is kept.
+fn gather(
+    terms: &Terms,
+    gathered: Option<Gathered>,
+    v: u32,
+    factor: Option<Poly>,
+) -> Result<Option<Gathered>, Memory>
+    requires { IfSome factor (IsOf terms.now) }
+    ensures { IfOk result (TakesIn v factor gathered) }
+{
+    match gathered {
+        None => Ok(None),
+        Some(mut gathered) => {
+            gathered.take(terms, v, factor)?;
             Ok(Some(gathered))
         }
     }

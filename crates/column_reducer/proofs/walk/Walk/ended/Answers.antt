@@ -7,5 +7,5 @@ pub returns-in_ok-ended-in-Some-clause-total : goal.returns-in_ok-ended-in-Some-
 returns-in_ok-ended-in-Some-clause-total c e s f h =
     let t0 = c.args.terms.now in
     walk_ended e s t0 c.end_group.new.terms f c.args.self.rest c.in-Some.gathered c.in_ok-ended-in-Some.ended c.in_ok-ended-in-Some.ensures.extends c.in_ok-ended-in-Some.ensures.count
-    (λ k same fixed g. c.in_ok-ended-in-Some.ensures.gathered e s f k same fixed g)
+    (λ same fixed g. c.in_ok-ended-in-Some.ensures.gathered e s f same fixed g)
     (subst (λ o. IsWalked e s t0 f (walk_of c.args.self.rest o)) c.in-Some.is h)
