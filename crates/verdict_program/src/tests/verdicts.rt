@@ -131,23 +131,27 @@ fn what_is_proved_is_accepted(rt: HostRuntime) -> Result<(), Fail> {
     Ok(())
 }
 
+// A call that fails, the status and the report, and what the two certificates are then.
+const FAILED: [(u64, u8, &str, Option<&[u8]>, Option<&[u8]>); 7] = [
+    (1, 6, "read fault\n", None, None),
+    (2, 6, "read fault\n", None, None),
+    (3, 6, "read fault\n", None, None),
+    (4, 7, "write fault\n", None, None),
+    (5, 7, "write fault\n", Some(b""), None),
+    (6, 7, "write fault\n", Some(b"joined 1\nnone\n"), None),
+    (7, 7, "write fault\n", Some(b"joined 1\nnone\n"), Some(b"")),
+];
+
 #[test]
-fn the_clause_file_is_whole_before_the_algebra_file_is_created(
-    rt: HostRuntime,
-) -> Result<(), Fail> {
+fn a_call_that_fails_leaves_what_was_written_before(rt: HostRuntime) -> Result<(), Fail> {
     let alloc = rt.alloc();
-    let mut desk = desk(alloc, (TWO_BIT_ARRAY, NO_CUT, ONE_BIT_ALGEBRA), &[], &[6])?;
-    expect(
-        &rt,
-        alloc,
-        &mut desk,
-        &VERIFY,
-        7,
-        "write fault\n",
-        "the sixth call",
-    )?;
-    assert!(rt; desk.bytes("x") == Some(NO_CUT.as_bytes()));
-    assert!(rt; desk.bytes("y").is_none());
+    for &(call, status, report, clauses, algebra) in &FAILED {
+        let files = (TWO_BIT_ARRAY, NO_CUT, ONE_BIT_ALGEBRA);
+        let mut desk = desk(alloc, files, &[], &[call])?;
+        expect(&rt, alloc, &mut desk, &VERIFY, status, report, "")?;
+        assert!(rt; desk.bytes("x") == clauses, "call {call}");
+        assert!(rt; desk.bytes("y") == algebra, "call {call}");
+    }
     Ok(())
 }
 
