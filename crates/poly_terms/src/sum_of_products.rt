@@ -21,7 +21,7 @@ use std::marker::Model;
 #[derive(Drop)]
 pub struct SumOfProducts {
     alloc: Global,
-    width: u32,
+    exponent: u32,
     monomials: Numbering,
     terms: Vec<Term>,
 }
@@ -32,21 +32,21 @@ impl Model for SumOfProducts {
 
     ghost Value = { Summed };
 
-    ghost view = { λ p. record { width = p.width; monomials = p.monomials; terms = p.terms.items } };
+    ghost view = { λ p. record { exponent = p.exponent; monomials = p.monomials; terms = p.terms.items } };
 
-    ghost invariant = { λ p. IsWidth p.width × AreByNumber p.monomials p.terms.items };
+    ghost invariant = { λ p. IsWidth p.exponent × AreByNumber p.monomials p.terms.items };
 }
 
 impl SumOfProducts {
     /// No products yet, for a table of the modulus 2^w.
     pub fn new(alloc: Global, w: u32) -> SumOfProducts
         requires { IsWidth w }
-        ensures width { result.width ≡ w }
+        ensures exponent { result.exponent ≡ w }
         ensures none { (σ : Assignment) → sum_in result σ ≡ 0 }
     {
         SumOfProducts {
             alloc,
-            width: w,
+            exponent: w,
             monomials: Numbering::new(alloc),
             terms: Vec::new(alloc),
         }
@@ -54,7 +54,7 @@ impl SumOfProducts {
 
     /// Adds the product of two polynomials.
     pub fn add(&mut self, terms: &Terms, p: &Poly, q: &Poly) -> Result<(), Memory>
-        requires width { terms.now.width ≡ self.old.width }
+        requires exponent { terms.now.exponent ≡ self.old.exponent }
         requires left { IsOf terms.now p.now }
         requires right { IsOf terms.now q.now }
         ensures { OnOk result (AddsTo self.old self.new
@@ -107,7 +107,11 @@ impl SumOfProducts {
             (entry.now.1 * product σ (get_or table.now entry.now.0 [])))) }
     {
         let both = table.times(table.variables(by.number()), entry.number())?;
-        let coefficient = coefficient::product(self.width, by.coefficient(), entry.coefficient());
+        let coefficient = coefficient::product(
+            self.exponent,
+            by.coefficient(),
+            entry.coefficient(),
+        );
         self.add_term(both, coefficient)
     }
 
@@ -116,7 +120,7 @@ impl SumOfProducts {
         ensures { OnOk result (AddsTo self.old self.new (λ σ. coefficient * product σ monomial.items)) }
     {
         by_number::add_term(
-            self.width,
+            self.exponent,
             &mut self.monomials,
             &mut self.terms,
             monomial,

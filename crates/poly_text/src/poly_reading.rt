@@ -20,7 +20,7 @@ impl PacReader {
         scanner: &mut Scanner<'_>,
         terms: &mut Terms,
     ) -> Result<Option<Poly>, LineFail>
-        requires { modulus terms.old ≡ 2 ^ self.now.width }
+        requires { modulus terms.old ≡ 2 ^ self.now.exponent }
         ensures ok { IfOk result
             (TakesPoly poly_at self.now.max terms.new scanner.old scanner.new) }
         ensures err { IfErr result (IsMisfit (poly_at scanner.old ≡ None)) }
@@ -41,7 +41,7 @@ impl PacReader {
         scanner: &mut Scanner<'_>,
     ) -> Result<Option<Vec<(u128, Vec<u32>)>>, LineFail>
         ensures ok { IfOk result (
-            Takes poly_at (IsInRange self.now.max) (AreTermsOf (2 ^ self.now.width)) scanner.old scanner.new) }
+            Takes poly_at (IsInRange self.now.max) (AreTermsOf (2 ^ self.now.exponent)) scanner.old scanner.new) }
         ensures err { IfErr result (IsMisfit (poly_at scanner.old ≡ None)) }
     {
         let first = self.first_term(scanner)?;
@@ -53,7 +53,7 @@ impl PacReader {
     // The first term, which has no plus.
     fn first_term(&self, scanner: &mut Scanner<'_>) -> Result<Option<(u128, Vec<u32>)>, LineFail>
         ensures ok { IfOk result
-            (TakesTerm first_term_at self.now.max self.now.width scanner.old scanner.new) }
+            (TakesTerm first_term_at self.now.max self.now.exponent scanner.old scanner.new) }
         ensures err { IfErr result (IsMisfit (first_term_at scanner.old ≡ None)) }
     {
         let negative = scanner.is_at(b'-');
@@ -70,7 +70,7 @@ impl PacReader {
         before: Option<Vec<(u128, Vec<u32>)>>,
     ) -> Result<Option<Vec<(u128, Vec<u32>)>>, LineFail>
         ensures ok { IfOk result (
-            TakesTerms (many_at is_sign signed_term_at) before self.now.max self.now.width scanner.old scanner.new) }
+            TakesTerms (many_at is_sign signed_term_at) before self.now.max self.now.exponent scanner.old scanner.new) }
         ensures err { IfErr result (IsMisfit (many_at is_sign signed_term_at scanner.old ≡ None)) }
     {
         let mut terms = before;
@@ -84,7 +84,7 @@ impl PacReader {
     // A term with its sign.
     fn later_term(&self, scanner: &mut Scanner<'_>) -> Result<Option<(u128, Vec<u32>)>, LineFail>
         ensures ok { IfOk result
-            (TakesTerm signed_term_at self.now.max self.now.width scanner.old scanner.new) }
+            (TakesTerm signed_term_at self.now.max self.now.exponent scanner.old scanner.new) }
         ensures err { IfErr result (IsMisfit (signed_term_at scanner.old ≡ None)) }
     {
         let negative = scanner.is_at(b'-');

@@ -22,7 +22,7 @@ impl PacReader {
         negative: bool,
     ) -> Result<Option<(u128, Vec<u32>)>, LineFail>
         ensures ok { IfOk result
-            (TakesTerm (term_at negative) self.now.max self.now.width scanner.old scanner.new) }
+            (TakesTerm (term_at negative) self.now.max self.now.exponent scanner.old scanner.new) }
         ensures err { IfErr result (IsMisfit (term_at negative scanner.old ≡ None)) }
     {
         if scanner.is_at_digit() {
@@ -39,7 +39,7 @@ impl PacReader {
         negative: bool,
     ) -> Result<Option<(u128, Vec<u32>)>, LineFail>
         ensures ok { IfOk result
-            (TakesTerm (coefficient_at negative) self.now.max self.now.width scanner.old
+            (TakesTerm (coefficient_at negative) self.now.max self.now.exponent scanner.old
             scanner.new) }
         ensures err { IfErr result (IsMisfit (coefficient_at negative scanner.old ≡ None)) }
     {
@@ -55,7 +55,7 @@ impl PacReader {
         negative: bool,
     ) -> Result<Option<(u128, Vec<u32>)>, LineFail>
         ensures ok { IfOk result
-            (TakesTerm (product_at negative) self.now.max self.now.width scanner.old scanner.new) }
+            (TakesTerm (product_at negative) self.now.max self.now.exponent scanner.old scanner.new) }
         ensures err { IfErr result (IsMisfit (product_at negative scanner.old ≡ None)) }
     {
         scanner.text(b"x")?;
@@ -101,20 +101,20 @@ impl PacReader {
         coefficient: Option<u128>,
         variables: Option<Vec<u32>>,
     ) -> Option<(u128, Vec<u32>)>
-        ensures { Signs (2 ^ self.now.width) negative coefficient variables result }
+        ensures { Signs (2 ^ self.now.exponent) negative coefficient variables result }
     {
         let coefficient = coefficient?;
         let variables = variables?;
         Some((self.signed(negative, coefficient), variables))
     }
 
-    // A coefficient with its sign, modulo 2^width.
+    // A coefficient with its sign, modulo 2^exponent.
     fn signed(&self, negative: bool, coefficient: u128) -> u128
         ensures plus { negative ≡ false → result ≡ coefficient }
-        ensures minus { negative ≡ true → (result + coefficient) % 2 ^ self.now.width ≡ 0 }
+        ensures minus { negative ≡ true → (result + coefficient) % 2 ^ self.now.exponent ≡ 0 }
     {
         if negative {
-            Residue::new(self.width, coefficient).neg().value()
+            Residue::new(self.exponent, coefficient).neg().value()
         } else {
             coefficient
         }
