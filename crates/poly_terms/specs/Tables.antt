@@ -53,10 +53,17 @@ unfoldable pub ArePlaces : Table → Sum → ℕ → List ℕ → Type 0
 ArePlaces t p v places = places ≡ places_of t.monomials v p
 
 -- a coefficient and variables, as a term
-abbrev pub given_term : ℕ × Vec ℕ Global → Term
-given_term part = record { negative = false; coefficient = part.0; variables = part.1.items }
+abbrev pub said_term : ℕ × List ℕ → Term
+said_term part = record { negative = false; coefficient = part.0; variables = part.1 }
 
 -- what a list of coefficients and variables says
+abbrev pub said : List (ℕ × List ℕ) → Polynomial
+said parts = map said_term parts
+
+-- the same, of variables that each have a list of their own
+abbrev pub given_term : ℕ × Vec ℕ Global → Term
+given_term part = said_term (part.0, part.1.items)
+
 abbrev pub given : List (ℕ × Vec ℕ Global) → Polynomial
 given parts = map given_term parts
 

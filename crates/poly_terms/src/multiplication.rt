@@ -89,7 +89,8 @@ fn push_product(
     requires entry { entry.now.0 < length table.old }
     ensures grows { Grows table.old table.new }
     ensures adds { OnOk result (Adds (2 ^ exponent) table.old table.new out.old.items out.new.items
-        (λ σ. coefficient * product σ monomial.now.items * (entry.now.1 * product σ (get_or table.old entry.now.0 [])))) }
+        (λ σ. coefficient * product σ monomial.now.items *
+        (entry.now.1 * product σ (get_or table.old entry.now.0 [])))) }
 {
     let both = table.times(monomial.as_slice(), entry.number())?;
     let coefficient = coefficient::product(exponent, coefficient, entry.coefficient());

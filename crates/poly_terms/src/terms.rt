@@ -5,11 +5,12 @@ ghost use Rattle.graph_core.specs.Algebra.NormalForm.{HasSize};
 ghost use Rattle.graph_core.specs.Algebra.Polynomials.{value};
 ghost use Rattle.mv_nums.specs.Residue.{IsWidth};
 ghost use Rattle.poly_terms.specs.Sums.{sum_in};
-ghost use Rattle.poly_terms.specs.Tables.{ArePlaces, Extends, IsOf, assigned, given, modulus, monomials_in, quotient_value, replaced_value, value_in};
+ghost use Rattle.poly_terms.specs.Tables.{ArePlaces, Extends, IsOf, assigned, given, modulus, monomials_in, quotient_value, replaced_value, said, value_in};
 
 use crate::numbering::Numbering;
 use crate::{
-    Poly, SumOfProducts, addition, evaluation, multiplication, parts, quotient, substitution, term,
+    Poly, SumOfProducts, Variables, addition, evaluation, multiplication, parts, quotient,
+    substitution, term,
 };
 use graph_core::Memory;
 use std::alloc::Global;
@@ -57,12 +58,25 @@ impl Terms {
 
     /// The sum of coefficients of any size, each times a product of variables. Parts and variables come in any order
     /// and may be repeated, and variable 0 is the constant false.
-    #[tactic(auto, using(crate::specs::Laws::extends_itself, crate::proofs::Made::extends_grown))]
+    #[tactic(auto, using(crate::specs::Laws::extends_itself))]
     pub fn make(&mut self, parts: &[(u128, Vec<u32>)]) -> Result<Poly, Memory>
         ensures extends { Extends self.old self.new }
         ensures of { IfOk result (IsOf self.new) }
         ensures value { IfOk result (λ r. (σ : Assignment) →
             value_in self.new r σ ≡ value (modulus self.old) (given parts.now) σ) }
+    {
+        let parts = parts::copies(self.alloc, parts)?;
+        let poly = self.make_of(&parts)?;
+        Ok(poly)
+    }
+
+    /// The same of parts that take no memory each.
+    #[tactic(auto, using(crate::specs::Laws::extends_itself, crate::proofs::Made::extends_grown))]
+    pub fn make_of(&mut self, parts: &[(u128, Variables)]) -> Result<Poly, Memory>
+        ensures extends { Extends self.old self.new }
+        ensures of { IfOk result (IsOf self.new) }
+        ensures value { IfOk result (λ r. (σ : Assignment) →
+            value_in self.new r σ ≡ value (modulus self.old) (said parts.now) σ) }
     {
         let raw = parts::entries_of(self.alloc, &mut self.monomials, parts)?;
         self.monomials.stand_once();

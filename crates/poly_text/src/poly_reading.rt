@@ -10,7 +10,7 @@ ghost use Rattle.poly_text.specs.Values.{AreTermsOf, TakesPoly, TakesTerm, Takes
 use crate::pac_reader::PacReader;
 use mv_desk::LineFail;
 use mv_text::{Scanner, pushed};
-use poly_terms::{Poly, Terms};
+use poly_terms::{Poly, Terms, Variables};
 
 impl PacReader {
     // A polynomial.
@@ -29,7 +29,7 @@ impl PacReader {
         let Some(given) = self.all_terms(scanner)? else {
             return Ok(None);
         };
-        match terms.make(&given) {
+        match terms.make_of(&given) {
             Ok(poly) => Ok(Some(poly)),
             Err(_) => Err(LineFail::Memory),
         }
@@ -39,7 +39,7 @@ impl PacReader {
     fn all_terms(
         &self,
         scanner: &mut Scanner<'_>,
-    ) -> Result<Option<Vec<(u128, Vec<u32>)>>, LineFail>
+    ) -> Result<Option<Vec<(u128, Variables)>>, LineFail>
         ensures ok { IfOk result (
             Takes poly_at (IsInRange self.now.max) (AreTermsOf (2 ^ self.now.exponent)) scanner.old scanner.new) }
         ensures err { IfErr result (IsMisfit (poly_at scanner.old ≡ None)) }
@@ -51,7 +51,7 @@ impl PacReader {
     }
 
     // The first term, which has no plus.
-    fn first_term(&self, scanner: &mut Scanner<'_>) -> Result<Option<(u128, Vec<u32>)>, LineFail>
+    fn first_term(&self, scanner: &mut Scanner<'_>) -> Result<Option<(u128, Variables)>, LineFail>
         ensures ok { IfOk result
             (TakesTerm first_term_at self.now.max self.now.exponent scanner.old scanner.new) }
         ensures err { IfErr result (IsMisfit (first_term_at scanner.old ≡ None)) }
@@ -67,8 +67,8 @@ impl PacReader {
     fn later_terms(
         &self,
         scanner: &mut Scanner<'_>,
-        before: Option<Vec<(u128, Vec<u32>)>>,
-    ) -> Result<Option<Vec<(u128, Vec<u32>)>>, LineFail>
+        before: Option<Vec<(u128, Variables)>>,
+    ) -> Result<Option<Vec<(u128, Variables)>>, LineFail>
         ensures ok { IfOk result (
             TakesTerms (many_at is_sign signed_term_at) before self.now.max self.now.exponent scanner.old scanner.new) }
         ensures err { IfErr result (IsMisfit (many_at is_sign signed_term_at scanner.old ≡ None)) }
@@ -82,7 +82,7 @@ impl PacReader {
     }
 
     // A term with its sign.
-    fn later_term(&self, scanner: &mut Scanner<'_>) -> Result<Option<(u128, Vec<u32>)>, LineFail>
+    fn later_term(&self, scanner: &mut Scanner<'_>) -> Result<Option<(u128, Variables)>, LineFail>
         ensures ok { IfOk result
             (TakesTerm signed_term_at self.now.max self.now.exponent scanner.old scanner.new) }
         ensures err { IfErr result (IsMisfit (signed_term_at scanner.old ≡ None)) }
