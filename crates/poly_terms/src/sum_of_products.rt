@@ -16,8 +16,11 @@ use graph_core::Memory;
 use std::alloc::{AllocError, Global};
 use std::marker::Model;
 
-/// Products of polynomials of a table, as far as they are added up. Their monomials are numbered apart, so that the table
-/// takes those of the whole sum alone.
+// A sum of more monomials than these leaves its room: to clear it would take longer than most sums.
+const MAX_KEPT_ROOM: usize = 1024;
+
+/// Products of polynomials of a table, as far as they are added up. Their monomials are numbered apart, so that the
+/// table takes those of the whole sum alone.
 #[derive(Drop)]
 pub struct SumOfProducts {
     alloc: Global,
@@ -49,6 +52,22 @@ impl SumOfProducts {
             exponent: w,
             monomials: Numbering::new(alloc),
             terms: Vec::new(alloc),
+        }
+    }
+
+    /// No products any more, for a table of the modulus 2^w. The room stays, but what a very long sum took.
+    pub fn restart(&mut self, w: u32)
+        requires { IsWidth w }
+        ensures exponent { self.new.exponent ≡ w }
+        ensures none { (σ : Assignment) → sum_in self.new σ ≡ 0 }
+    {
+        self.exponent = w;
+        if self.terms.len() > MAX_KEPT_ROOM {
+            self.terms = Vec::new(self.alloc);
+            self.monomials = Numbering::new(self.alloc);
+        } else {
+            self.terms.clear();
+            self.monomials.clear();
         }
     }
 
@@ -154,11 +173,16 @@ fn carry_all(
     ensures adds { IfOk result (λ out. (m : ℕ) → Adds m table.old table.new [] out.items
         (λ σ. total_in from.now σ terms.now)) }
 {
-    let mut out = Vec::new(alloc);
+    let mut out = Vec::with_capacity(alloc, count(terms))?;
     for term in terms {
         carry_behind(alloc, from, term, table, &mut out)?;
     }
     Ok(out)
+}
+
+// how many terms aren't 0
+fn count(terms: &[Term]) -> usize {
+    terms.iter().filter(|term| term.coefficient() != 0).count()
 }
 
 // A term with its monomial in another table, behind others, unless it is 0.
