@@ -25,7 +25,7 @@ opposite_of t0 t1 by factor n size some grown of minus =
       of = of;
       minus = minus;
       nonzero = λ none. size_some m (value_in t0 by) n size some
-          (λ σ. opposite_zero m (value_in t0 by σ) (pow_pos t0.width) (mod-mod (sum_of m (monomials_in t0 by) σ) m)
+          (λ σ. opposite_zero m (value_in t0 by σ) (pow_pos t0.exponent) (mod-mod (sum_of m (monomials_in t0 by) σ) m)
           (sym (minus σ) ∙ ap (λ k. value k (monomials_in t1 factor) σ) (modulus_stays t0 t1 grown) ∙ none σ));
     }
 

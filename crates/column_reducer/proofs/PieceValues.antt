@@ -33,7 +33,7 @@ minus_has t0 t1 t2 p q n r o σ opposite grown of_p of_q n_is r_is =
     let there : value_in t1 p σ + value_in t1 q σ * value_in t1 n σ ≡ x + o % m * y =
     ap₂ ◌+◌ (value_stays t0 t1 p σ grown of_p) (ap₂ (λ a b. a * b) (value_stays t0 t1 q σ grown of_q) n_is ∙ mul_comm y (o % m)) in
     r_is ∙ ap₂ (λ a k. a % k) there same ∙
-    opposite_difference m x y (x + o % m * y) o (pow_pos t0.width) opposite (sum_with_product_same m x (o % m) y x o y refl (mod-mod o m) refl)
+    opposite_difference m x y (x + o % m * y) o (pow_pos t0.exponent) opposite (sum_with_product_same m x (o % m) y x o y refl (mod-mod o m) refl)
 
 -- an axiom plus its gate's variable is the product
 pub product_has : (t0 t1 t2 t3 : Table) (made variable' r : Sum) (gate : Gate) (given' : Polynomial) (σ : Assignment) → Extends t0 t1 → Extends t1 t2 → IsOf t1 made → IsGateAxiom t1 made gate →
@@ -47,7 +47,7 @@ product_has t0 t1 t2 t3 made variable' r gate given' σ first second of_axiom is
     let here : value_in t2 made σ ≡ difference m (gate_value gate σ) x = value_stays t1 t2 made σ second of_axiom ∙ is σ ∙ ap (λ k. difference k (gate_value gate σ) x) m1 in
     let there : value_in t2 variable' σ ≡ x % m = v_is ∙ ap₂ (λ k q. value k q σ) m1 e ∙ ap (λ z. z % m) (omega arith) in
     r_is ∙ ap₂ (λ a k. a % k) (ap₂ ◌+◌ here there) m2 ∙
-    sum_same m (difference m (gate_value gate σ) x) (difference m (gate_value gate σ) x) (x % m) x refl (mod-mod x m) ∙ difference_plus m (gate_value gate σ) x (pow_pos t0.width)
+    sum_same m (difference m (gate_value gate σ) x) (difference m (gate_value gate σ) x) (x % m) x refl (mod-mod x m) ∙ difference_plus m (gate_value gate σ) x (pow_pos t0.exponent)
 
 -- a polynomial plus another one times the product
 pub with_product_has : (t0 t1 t2 : Table) (p q n r : Sum) (gate : Gate) (σ : Assignment) → Extends t0 t1 → IsOf t0 p → IsOf t0 q → value_in t1 n σ ≡ gate_value gate σ % modulus t0 →
@@ -63,7 +63,7 @@ with_product_has t0 t1 t2 p q n r gate σ grown of_p of_q n_is r_is =
 
 -- a polynomial that a variable doesn't change
 pub unchanged_quotient : (t : Table) (p : Sum) (v : ℕ) (σ : Assignment) → ((τ : Assignment) (b : Bool) → value_in t p (assigned τ v b) ≡ value_in t p τ) → quotient (modulus t) v (value_in t p) σ ≡ 0
-unchanged_quotient t p v σ free = ap₂ (difference (modulus t)) (free σ true) (free σ false) ∙ difference_same (modulus t) (value_in t p σ) (pow_pos t.width)
+unchanged_quotient t p v σ free = ap₂ (difference (modulus t)) (free σ true) (free σ false) ∙ difference_same (modulus t) (value_in t p σ) (pow_pos t.exponent)
 
 pub unchanged_has : (t : Table) (p : Sum) (gate : Gate) (σ : Assignment) → ((τ : Assignment) (b : Bool) → value_in t p (assigned τ gate.v b) ≡ value_in t p τ) →
     value_in t p σ ≡ substituted (modulus t) gate.v (gate_value gate) (value_in t p) σ

@@ -52,7 +52,7 @@ fn bit_poly(alloc: Global, terms: &mut Terms, value: bool) -> Result<Poly, Memor
     ensures of { IfOk result (IsOf terms.new) }
     ensures value { IfOk result (λ p. (σ : Assignment) → value_in terms.new p σ ≡ bit value) }
 {
-    let _width = terms.width();
+    let _exponent = terms.exponent();
     constant(alloc, terms, u128::from(value))
 }
 
@@ -102,10 +102,10 @@ pub(crate) fn opposite(alloc: Global, terms: &mut Terms, p: &Poly) -> Result<Pol
 }
 
 fn minus_one(terms: &Terms) -> Residue
-    ensures width { result.width ≡ terms.now.width }
+    ensures width { result.width ≡ terms.now.exponent }
     ensures value { (result.value + 1) % modulus terms.now ≡ 0 }
 {
-    Residue::new(terms.width(), 1).neg()
+    Residue::new(terms.exponent(), 1).neg()
 }
 
 // The product of a gate's operands.

@@ -130,5 +130,5 @@ column_has old new p e s k l one n o grown same is_one weight opposite has σ =
     let x = bit (literal σ l) in
     let y = partial_products σ s.a s.b k in
     let power : n % m ≡ 2 ^ k % m = ap (λ z. z % m) weight ∙ mod-mod (one * 2 ^ k) m ∙ ap (λ z. (z * 2 ^ k) % m) is_one ∙ ap (λ z. z % m) (omega arith) in
-    has.value σ ∙ ap (λ z. (n * x + o * y) % z) (modulus_stays old new grown) ∙ weighted_difference m k n o x y (pow_pos old.width) power opposite ∙
+    has.value σ ∙ ap (λ z. (n * x + o * y) % z) (modulus_stays old new grown) ∙ weighted_difference m k n o x y (pow_pos old.exponent) power opposite ∙
     ap (λ z. (2 ^ k * difference z x y) % m) same

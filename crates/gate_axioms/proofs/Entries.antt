@@ -3,9 +3,6 @@ use Rattle.std.specs.Prelude.{cond, ◌==◌}
 use Rattle.std.proofs.Common.{◌≡◌, ℕ, Bool, true, false, List, [], ◌∷◌, refl, sym, ap, ◌∙◌}
 use Rattle.std.specs.declared.option.Option.{Option}
 use Rattle.std.specs.declared.option.Option.TheVariants.{None, Some}
-use Rattle.std.specs.Cmp.{unsigned_tied}
-use Rattle.std.specs.Ordering.{nat_cmp}
-use Rattle.std.specs.BTreeMap.{is_at}
 use Rattle.std.proofs.lemmas.Bool.{eqb-true, eq-eqb, true≢false}
 use Rattle.graph_core.specs.Algebra.{LiveLine, line_of}
 use Rattle.mv_fact.specs.Facts.{fact_at}
@@ -26,12 +23,9 @@ equal_sym a b = go (a == b) refl (b == a) refl
     go false f true g = absurd (true≢false (sym (eq-eqb a b (sym (eqb-true b a g))) ∙ f))
     go false f false g = refl
 
-same_test : (id k : ℕ) → is_at (nat_cmp id) k ≡ (k == id)
-same_test id k = unsigned_tied id k ∙ equal_sym id k
-
 pub line_of-entries : (t : Table) (es : List (ℕ × Sum)) (id : ℕ) → line_of (lines_in t es) id ≡ line_at t id (fact_at es id)
 line_of-entries t [] id = refl
-line_of-entries t (e ∷ es) id = go (e.0 == id) refl (line_of-entries t es id) ∙ ap (λ b. line_at t id (cond b (Some e.1) (fact_at es id))) (sym (same_test id e.0))
+line_of-entries t (e ∷ es) id = go (e.0 == id) refl (line_of-entries t es id) ∙ ap (λ b. line_at t id (cond b (Some e.1) (fact_at es id))) (sym (equal_sym id e.0))
   where
     go : (b : Bool) → (e.0 == id) ≡ b → line_of (lines_in t es) id ≡ line_at t id (fact_at es id) →
         cond b (Some (line_in t e)) (line_of (lines_in t es) id) ≡ line_at t id (cond b (Some e.1) (fact_at es id))

@@ -131,7 +131,7 @@ gates_within m last (g ∷ gates) h = (h.0, gates_within m last gates h.1)
 pub gate_vanishes : (old mid : Facts Sum Table) (g : Gate) (p : Sum) → IsOf mid.table p → IsGateAxiom mid.table p g → mid.gates ≡ old.gates → Always old.gates (Computes g) → Vanishes mid.gates mid.table p
 gate_vanishes old mid g p of is e computes = record {
   of_table = of;
-  always = λ σ ev. is σ ∙ gate_axiom-zero (modulus mid.table) σ g (pow_pos mid.table.width) (computes σ (subst (λ gates. IsEvaluation gates σ) e ev));
+  always = λ σ ev. is σ ∙ gate_axiom-zero (modulus mid.table) σ g (pow_pos mid.table.exponent) (computes σ (subst (λ gates. IsEvaluation gates σ) e ev));
 }
 
 pub gate_added : (old mid new : Facts Sum Table) (g : Gate) (id : ℕ) (p : Sum) → id ≡ g.v → KeepsLines old mid → IsGateAxiom mid.table p g → (IsSome (fact_at mid.entries id) → ⊥) → ChangesAt id (Some p) mid new →

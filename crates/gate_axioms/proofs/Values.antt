@@ -21,7 +21,7 @@ pub record FormHas (m : ℕ) (form : Polynomial) (f : Assignment → ℕ) : Type
   pub value : (σ : Assignment) → value m form σ % m ≡ f σ % m
 
 -- a form that began as nothing has what was added to it
-pub form_has : (t : Table) (w : ℕ) (start form : Polynomial) (f : Assignment → ℕ) → w ≡ t.width → start ≡ [] → Adds w start form f → FormHas (modulus t) form f
+pub form_has : (t : Table) (w : ℕ) (start form : Polynomial) (f : Assignment → ℕ) → w ≡ t.exponent → start ≡ [] → Adds w start form f → FormHas (modulus t) form f
 form_has t w start form f width none adds = subst (λ k. FormHas (2 ^ k) form f) width (record {
   value = λ σ.
       let m = 2 ^ w in
@@ -69,7 +69,7 @@ sum_with_product_has old new p sum left right f g h grown first second third has
 difference_from : (old new : Table) (p : Sum) (o x y : ℕ) (f : Assignment → ℕ) (σ : Assignment) → Extends old new → (o + 1) % modulus old ≡ 0 → HasValue new p f → f σ ≡ x + o * y →
     value_in new p σ ≡ difference (modulus new) x y
 difference_from old new p o x y f σ grown opposite has is =
-    has.value σ ∙ opposite_difference (modulus new) x y (f σ) o (pow_pos new.width) (ap (λ m. (o + 1) % m) (modulus_stays old new grown) ∙ opposite) (ap (λ n. n % modulus new) is)
+    has.value σ ∙ opposite_difference (modulus new) x y (f σ) o (pow_pos new.exponent) (ap (λ m. (o + 1) % m) (modulus_stays old new grown) ∙ opposite) (ap (λ n. n % modulus new) is)
 
 pub literals_have : (old new : Table) (p : Sum) (n o : ℕ) (left right : Lit) → Extends old new → n ≡ 1 → (o + 1) % modulus old ≡ 0 →
     HasValue new p (λ σ. n * bit (literal σ left) + o * bit (literal σ right)) → IsDifference new p left right

@@ -122,14 +122,14 @@ fn sum_with_product(
 }
 
 fn one(terms: &Terms) -> Residue
-    ensures width { result.width ≡ terms.now.width }
+    ensures width { result.width ≡ terms.now.exponent }
     ensures value { result.value ≡ 1 }
 {
-    Residue::new(terms.width(), 1)
+    Residue::new(terms.exponent(), 1)
 }
 
 fn minus_one(terms: &Terms) -> Residue
-    ensures width { result.width ≡ terms.now.width }
+    ensures width { result.width ≡ terms.now.exponent }
     ensures value { (result.value + 1) % modulus terms.now ≡ 0 }
 {
     one(terms).neg()

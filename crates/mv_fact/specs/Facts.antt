@@ -1,9 +1,7 @@
 -- Facts by id over a table, and how they change.
-use Rattle.std.specs.Prelude.{◌≡◌, ◌≢◌, ℕ, List}
+use Rattle.std.specs.Prelude.{◌≡◌, ◌≢◌, ℕ, List, nat_eq}
 use Rattle.std.specs.Map.{lookup}
 use Rattle.std.specs.declared.option.Option.{Option}
-use Rattle.std.specs.Ordering.{nat_cmp}
-use Rattle.std.specs.BTreeMap.{is_at}
 use Rattle.graph_core.specs.declared.Gate.{Gate}
 use Rattle.graph_core.specs.Graph.Assignments.{Assignment}
 use Rattle.mv_fact.specs.Always.{Always}
@@ -16,7 +14,7 @@ pub record Facts (Fact Table : Type 0) : Type 0 where
 
 -- the fact with this id
 abbrev pub fact_at : {Fact : Type 0} → List (ℕ × Fact) → ℕ → Option Fact
-fact_at entries id = lookup (is_at (nat_cmp id)) entries
+fact_at entries id = lookup (nat_eq id) entries
 
 -- What is known of each live fact: it is one of the table, and holds on every evaluation.
 pub record IsKept {Fact Table : Type 0} (belongs : Fact → Table → Type 0) (holds : Fact → Table → Assignment → Type 0) (gates : List Gate) (table : Table) (fact : Fact) : Type 0 where

@@ -1,13 +1,13 @@
 // Live facts by id, over a table that they own.
-ghost use Rattle.std.specs.Prelude.{◌≡◌, ◌↔◌, [], Some, None, IfOk, OnOk, OnErr, IfSome, IsSome, IsSomeAnd, IsErrOf, IsTrue, option_copied};
+ghost use Rattle.std.specs.Prelude.{◌≡◌, ◌↔◌, [], Some, None, IfOk, OnOk, OnErr, IfSome, IsSome, IsSomeAnd, IsErrOf, option_copied};
 ghost use Rattle.std.specs.List.{All};
 ghost use Rattle.std.specs.Map.{values_of};
 ghost use Rattle.mv_fact.specs.Facts.{fact_at, IsKept, ChangesAt, IsGrown};
 
 use crate::{Fact, Grow, GrowFrom, InsertFail, NoSuchId};
 use graph_core::Gate;
+use indexmap::IndexMap;
 use std::alloc::Global;
-use std::collections::BTreeMap;
 use std::marker::Model;
 
 /// A table and facts by id, each of which belongs to the table and holds on every evaluation of the gates.
@@ -15,7 +15,7 @@ use std::marker::Model;
 pub struct Live<'a, F: Fact> {
     gates: &'a [Gate],
     table: F::Table,
-    facts: BTreeMap<u64, F>,
+    facts: IndexMap<u64, F>,
 }
 
 impl<'a, F: Fact> Model for Live<'a, F> {
@@ -40,7 +40,7 @@ impl<'a, F: Fact> Live<'a, F> {
         Live {
             gates,
             table,
-            facts: BTreeMap::new(alloc),
+            facts: IndexMap::new(alloc),
         }
     }
 
@@ -67,25 +67,13 @@ impl<'a, F: Fact> Live<'a, F> {
         ensures used { IsErrOf result InsertFail.IdUsed ↔ IsSome (fact_at self.old.entries id) }
         ensures unchanged { OnErr result (self.new ≡ self.old) }
     {
-        if self.is_live(id) {
+        if self.facts.contains_key(&id) {
             return Err(InsertFail::IdUsed);
         }
         match self.facts.insert(id, fact) {
             Ok(_) => Ok(()),
             Err(_) => Err(InsertFail::Memory),
         }
-    }
-
-    // Ids mostly rise, so the last one is looked at first.
-    fn is_live(&self, id: u64) -> bool
-        ensures { IsTrue result ↔ IsSome (fact_at self.now.entries id) }
-    {
-        if let Some((last, _)) = self.facts.last_key_value() {
-            if *last < id {
-                return false;
-            }
-        }
-        self.facts.contains_key(&id)
     }
 
     /// Takes the fact with this id out.
@@ -96,7 +84,7 @@ impl<'a, F: Fact> Live<'a, F> {
         ensures none { OnErr result (fact_at self.old.entries id ≡ None) }
         ensures unchanged { OnErr result (self.new ≡ self.old) }
     {
-        self.facts.remove(&id).ok_or(NoSuchId)
+        self.facts.swap_remove(&id).ok_or(NoSuchId)
     }
 
     /// Lends the table to a work. All that is live stays.

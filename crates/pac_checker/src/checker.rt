@@ -23,7 +23,7 @@ use crate::{CloseFault, LineFault};
 use gate_axioms::add_axioms;
 use graph_core::{Memory, Operands};
 use mv_fact::{Grow, Live};
-use poly_terms::{Poly, Terms};
+use poly_terms::{Poly, SumOfProducts, Terms};
 use poly_text::PacLine;
 use ripple_graft::Extended;
 use std::alloc::Global;
@@ -38,6 +38,8 @@ pub struct PacChecker<'a> {
     live: Live<'a, Poly>,
     /// the greatest id in use so far, also of lines that were dropped
     last: u64,
+    /// what the latest line names, as far as it was added up: each line takes its room over
+    products: SumOfProducts,
 }
 
 impl<'a> Model for PacChecker<'a> {
@@ -77,6 +79,7 @@ impl<'a> PacChecker<'a> {
             operands,
             live,
             last: u64::from(extended.max()) + u64::from(outputs),
+            products: SumOfProducts::new(alloc, outputs),
         })
     }
 
@@ -224,7 +227,7 @@ impl<'a> PacChecker<'a> {
         ensures unchanged { OnErr result (Grows self.old self.new) }
     {
         judge_id(self.last, id)?;
-        let named = combine(self.alloc, &mut self.live, parts)?;
+        let named = combine(&mut self.products, &mut self.live, parts)?;
         self.state(id, named, stated)
     }
 

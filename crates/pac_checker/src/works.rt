@@ -22,7 +22,7 @@ impl<'a> Grow<Poly> for SumUp<'a> {
 
     type On = ();
 
-    ghost can_grow = { λ work _ table. work.products.now.width ≡ table.width };
+    ghost can_grow = { λ work _ table. work.products.now.exponent ≡ table.exponent };
 
     ghost did = { λ work _ _ out _ _ table'. IfOk out (IsMade table' (sum_in work.products.now)) };
 

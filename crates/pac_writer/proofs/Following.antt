@@ -74,7 +74,7 @@ line_follows e s t xs ys x before last closing is h none kept can = go (line_in 
     go (Some y) said c =
         let lines : lines_in t ys ≡ lines_in t xs ++ y ∷ [] = ap (lines_in t) is ∙ lines_pushed t xs x y said in
         let both = so_far_grows (made_of e s t xs before closing) (lines_in t ys) y last lines none h.so_far c in
-        (record { small = h.small; width = h.width; kept = subst (All (IsKept e.max t)) (sym is) (All-push (IsKept e.max t) xs x h.kept kept); so_far = both.0 }, both.1)
+        (record { small = h.small; exponent = h.exponent; kept = subst (All (IsKept e.max t)) (sym is) (All-push (IsKept e.max t) xs x h.kept kept); so_far = both.0 }, both.1)
 
 -- the same in the words of what contracts see
 pub put_follows : (old : Made) (e : Extended) (s : Sides) (t : Table) (xs ys : List PacLine) (x : PacLine) (before last : ℕ) (closing : Option ℕ) →

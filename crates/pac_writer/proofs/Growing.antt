@@ -55,9 +55,9 @@ up_to_stays max old new (Close id) e h up = tt
 kept_stays : (max : ℕ) (old new : Table) (x : PacLine) → Extends old new → IsKept max old x → IsKept max new x
 kept_stays max old new x e h = record { goes_on = h.goes_on; «of» = of_stays old new x e h.«of»; writable = h.writable; up_to = up_to_stays max old new x e h.«of» h.up_to }
 
-width_stays : (old new : Table) → Extends old new → new.width ≡ old.width
+exponent_stays : (old new : Table) → Extends old new → new.exponent ≡ old.exponent
 unfolding Extends
-width_stays old new e = e.0
+exponent_stays old new e = e.0
 
 -- ---- all lines
 
@@ -71,7 +71,7 @@ lines_keep e s old new xs last closing grows h =
     let same = lines_stay e.max old new xs grows (recursion_from_All (IsKept e.max old) xs h.kept) in (
       record {
         small = h.small;
-        width = subst IsWidth (sym (width_stays old new grows)) h.width;
+        exponent = subst IsWidth (sym (exponent_stays old new grows)) h.exponent;
         kept = λ k d low. kept_stays e.max old new _ grows (h.kept k d low);
         so_far = record {
           same_modulus = modulus_stays old new grows ∙ h.so_far.same_modulus;

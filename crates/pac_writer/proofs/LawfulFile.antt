@@ -43,7 +43,7 @@ says_line t max (line.Drop id) h s = record { line = s.0; text_is = s.1; in_rang
 says_line t max (line.Close id) h s = absurd h
 
 -- what is written for a line that is kept says this line
-kept_says : (t : Table) (max : ℕ) (x : PacLine) → IsWidth t.width → max < 2 ^ 32 → IsKept max t x → SaysLine max (modulus t) (line_text t x) (line_in t x)
+kept_says : (t : Table) (max : ℕ) (x : PacLine) → IsWidth t.exponent → max < 2 ^ 32 → IsKept max t x → SaysLine max (modulus t) (line_text t x) (line_in t x)
 kept_says t max x width small h = says_line t max x h.goes_on (written_lines_are_read t max x width small h.«of» h.writable h.up_to)
 
 -- Lines that a text says, and then these bytes, alike to those that were told.
@@ -63,7 +63,7 @@ more_says max m text rest after (Some y) ys one more = record {
   alike = (one.alike, more.alike);
 }
 
-kept_say : (t : Table) (max : ℕ) (xs : List PacLine) (after : List ℕ) → IsWidth t.width → max < 2 ^ 32 → AllByRecursion (IsKept max t) xs →
+kept_say : (t : Table) (max : ℕ) (xs : List PacLine) (after : List ℕ) → IsWidth t.exponent → max < 2 ^ 32 → AllByRecursion (IsKept max t) xs →
     SaysLines max (modulus t) (written_texts t xs ++ after) after (lines_in t xs)
 kept_say t max [] after width small h = record { lines = []; texts = refl; in_range = tt; alike = refl }
 kept_say t max (x ∷ xs) after width small h =
@@ -71,7 +71,7 @@ kept_say t max (x ∷ xs) after width small h =
 
 -- ---- the file
 
-closing_says : (t : Table) (max id : ℕ) → IsWidth t.width → max < 2 ^ 32 → IsId id → IsCloseText (codes "q " ++ decimal id ++ codes ";") id
+closing_says : (t : Table) (max id : ℕ) → IsWidth t.exponent → max < 2 ^ 32 → IsId id → IsCloseText (codes "q " ++ decimal id ++ codes ";") id
 closing_says t max id width small is = (written_lines_are_read t max (line.Close id) width small tt is tt).0
 
 closed_file : (e : Extended) (s : Sides) (t : Table) (xs : List PacLine) (last id : ℕ) → AreKept e s t xs last (Some id) →
@@ -80,8 +80,8 @@ closed_file e s t xs last id h =
     let small : e.max < 2 ^ 32 = (let low = h.small in omega arith) in
     let closes : Closes e s (after_all (algebra.modulus e) (axioms e) (lines_in t xs)).live id = h.so_far.closes in
     let is = live_is_id (made_of e s t xs last (Some id)) id h.so_far closes.0 in
-    let close = closing_says t e.max id h.width small is in
-    let says = kept_say t e.max xs (closing_text (Some id)) h.width small (recursion_from_All (IsKept e.max t) xs h.kept) in
+    let close = closing_says t e.max id h.exponent small is in
+    let says = kept_say t e.max xs (closing_text (Some id)) h.exponent small (recursion_from_All (IsKept e.max t) xs h.kept) in
     let alike : AreAllAlike (algebra.modulus e) says.lines (lines_in t xs) = subst (λ m. AreAllAlike m says.lines (lines_in t xs)) h.so_far.same_modulus says.alike in
     let both = alike_lawful (algebra.modulus e) (axioms e) (axioms e) says.lines (lines_in t xs) (agree_refl (axioms e)) alike h.so_far.lawful in
     record {

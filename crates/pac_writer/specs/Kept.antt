@@ -41,6 +41,6 @@ pub record CanFollow (l : Made) (last : ℕ) (x : Line) : Type 0 where
 -- The lines that are kept are lawful so far, and each can be written.
 pub record AreKept (e : Extended) (s : Sides) (t : Table) (lines : List PacLine) (last : ℕ) (closing : Option ℕ) : Type 0 where
   pub small : e.max < 2 ^ 31
-  pub width : IsWidth t.width
+  pub exponent : IsWidth t.exponent
   pub kept : All (IsKept e.max t) lines
   pub so_far : AreLawfulSoFar (made_of e s t lines last closing)

@@ -1,6 +1,4 @@
 -- Parts as a caller gives them.
-use Rattle.std.specs.Global.{Global}
-use Rattle.std.specs.declared.vec.Vec.{Vec}
 use Rattle.std.proofs.Common.{◌≡◌, ℕ, ◌+◌, ◌*◌, ◌<◌, true, ◌||◌, ◌==◌, List, [], ◌∷◌, ◌++◌, length, get_or, take, sym, ap, ap₂, ◌∙◌, arith, ⊎_elim, eqb-true, mul-zero, true≢false}
 use Rattle.std.proofs.Math.Nat.{zero-mul}
 use Rattle.std.proofs.lemmas.Bool.{cases_Bool}
@@ -8,7 +6,7 @@ use Rattle.std.proofs.lemmas.List.{take_more}
 use Rattle.graph_core.specs.Graph.Assignments.{Assignment, variable, bit}
 use Rattle.graph_core.specs.Algebra.Polynomials.{product, sum_of}
 use Rattle.poly_terms.specs.Monomials.{has_variable}
-use Rattle.poly_terms.specs.Tables.{given}
+use Rattle.poly_terms.specs.Tables.{said}
 
 -- a product over the constant is 0
 pub zero_product : (σ : Assignment) (vs : List ℕ) → has_variable 0 vs ≡ true → product σ vs ≡ 0
@@ -19,13 +17,13 @@ zero_product σ (v ∷ vs) h =
     (λ f. ap (λ n. bit (variable σ v) * n) (zero_product σ vs (ap (λ c. c || has_variable 0 vs) (sym f) ∙ h)) ∙ mul-zero (bit (variable σ v)))
     (cases_Bool (v == 0))
 
-sum_given-push : (m : ℕ) (σ : Assignment) (xs : List (ℕ × Vec ℕ Global)) (x : ℕ × Vec ℕ Global) → sum_of m (given (xs ++ x ∷ [])) σ ≡ sum_of m (given xs) σ + x.0 * product σ x.1.items
-sum_given-push m σ [] x = omega arith
-sum_given-push m σ (y ∷ ys) x = omega (arith, sum_given-push m σ ys x)
+sum_said-push : (m : ℕ) (σ : Assignment) (xs : List (ℕ × List ℕ)) (x : ℕ × List ℕ) → sum_of m (said (xs ++ x ∷ [])) σ ≡ sum_of m (said xs) σ + x.0 * product σ x.1
+sum_said-push m σ [] x = omega arith
+sum_said-push m σ (y ∷ ys) x = omega (arith, sum_said-push m σ ys x)
 
 -- the step of a loop over parts
-pub one_more_part : (m : ℕ) (σ : Assignment) (parts : List (ℕ × Vec ℕ Global)) (i : ℕ) (part : ℕ × Vec ℕ Global) (vs : List ℕ) → i < length parts → part ≡ get_or parts i part → vs ≡ part.1.items →
-    sum_of m (given (take i parts)) σ + part.0 * product σ vs ≡ sum_of m (given (take (i + 1) parts)) σ
+pub one_more_part : (m : ℕ) (σ : Assignment) (parts : List (ℕ × List ℕ)) (i : ℕ) (part : ℕ × List ℕ) (vs : List ℕ) → i < length parts → part ≡ get_or parts i part → vs ≡ part.1 →
+    sum_of m (said (take i parts)) σ + part.0 * product σ vs ≡ sum_of m (said (take (i + 1) parts)) σ
 one_more_part m σ parts i part vs h at is =
-    ap₂ (λ p us. sum_of m (given (take i parts)) σ + p * product σ us) (ap (λ p. p.0) at) (is ∙ ap (λ p. p.1.items) at) ∙
-    sym (ap (λ ps. sum_of m (given ps) σ) (take_more parts i part h) ∙ sum_given-push m σ (take i parts) (get_or parts i part))
+    ap₂ (λ p us. sum_of m (said (take i parts)) σ + p * product σ us) (ap (λ p. p.0) at) (is ∙ ap (λ p. p.1) at) ∙
+    sym (ap (λ ps. sum_of m (said ps) σ) (take_more parts i part h) ∙ sum_said-push m σ (take i parts) (get_or parts i part))

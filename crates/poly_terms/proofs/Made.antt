@@ -18,12 +18,12 @@ use Rattle.poly_terms.proofs.Values.{value-total}
 
 -- a table by its parts
 abbrev pub table_of : ℕ → List (List ℕ) → Table
-table_of w ms = record { width = w; monomials = ms }
+table_of w ms = record { exponent = w; monomials = ms }
 
 -- the table extends the one before
 pub extends_grown : (w : ℕ) (old new : List (List ℕ)) (t : Table) → table_of w old ≡ t → Grows old new → Extends t (table_of w new)
 unfolding Extends
-extends_grown w old new t e g = subst (λ (u : Table). (w ≡ u.width) × Grows u.monomials new) e (refl, g)
+extends_grown w old new t e g = subst (λ (u : Table). (w ≡ u.exponent) × Grows u.monomials new) e (refl, g)
 
 -- a polynomial's numbers are in the table
 pub numbers_of : (w : ℕ) (ms : List (List ℕ)) (t : Table) (p p' : Sum) → table_of w ms ≡ t → p' ≡ p → IsOf t p → AreIn ms p'

@@ -131,7 +131,7 @@ replaced-bit t p v n σ true h =
     let m = modulus t in
     let low = value_in t p (assigned σ v false) in
     let high = value_in t p (assigned σ v true) in
-    ap (λ n. (low + n * difference m high low) % m) h ∙ ap (λ n. n % m) (once low (difference m high low)) ∙ difference_plus m high low (pow_pos t.width) ∙
+    ap (λ n. (low + n * difference m high low) % m) h ∙ ap (λ n. n % m) (once low (difference m high low)) ∙ difference_plus m high low (pow_pos t.exponent) ∙
     value_below t p (assigned σ v true)
   where
     once : (a d : ℕ) → a + 1 * d ≡ d + a

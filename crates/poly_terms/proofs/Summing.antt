@@ -109,28 +109,28 @@ term_added m old new before mid after n c key some g s h r low is = record {
 
 pub adds_nothing : (s : Summed) (f : Assignment → ℕ) → ((σ : Assignment) → f σ ≡ 0) → AddsTo s s f
 adds_nothing s f none = record {
-  width = refl;
-  sum = λ σ. sym (mod-mod (total_in s.monomials σ s.terms) (2 ^ s.width)) ∙ ap (λ n. n % 2 ^ s.width) (omega (arith, none σ));
+  exponent = refl;
+  sum = λ σ. sym (mod-mod (total_in s.monomials σ s.terms) (2 ^ s.exponent)) ∙ ap (λ n. n % 2 ^ s.exponent) (omega (arith, none σ));
 }
 
 pub adds_then : (a b c : Summed) (f g h : Assignment → ℕ) → AddsTo a b f → AddsTo b c g → ((σ : Assignment) → f σ + g σ ≡ h σ) → AddsTo a c h
 adds_then a b c f g h p q both = record {
-  width = q.width ∙ p.width;
+  exponent = q.exponent ∙ p.exponent;
   sum = λ σ.
-      let m = 2 ^ a.width in
-      q.sum σ ∙ ap₂ (λ n w. (n + g σ) % 2 ^ w) (p.sum σ) p.width ∙ mod-add-mod (sum_in a σ + f σ) m (g σ) ∙ ap (λ n. n % m) (omega (arith, both σ));
+      let m = 2 ^ a.exponent in
+      q.sum σ ∙ ap₂ (λ n w. (n + g σ) % 2 ^ w) (p.sum σ) p.exponent ∙ mod-add-mod (sum_in a σ + f σ) m (g σ) ∙ ap (λ n. n % m) (omega (arith, both σ));
 }
 
--- the same number modulo 2 ^ width
-pub adds_alike : (a b : Summed) (f g : Assignment → ℕ) → AddsTo a b f → ((σ : Assignment) → f σ % 2 ^ a.width ≡ g σ % 2 ^ a.width) → AddsTo a b g
-adds_alike a b f g p same = record { width = p.width; sum = λ σ. p.sum σ ∙ plus_same (2 ^ a.width) (sum_in a σ) (f σ) (g σ) (same σ) }
+-- the same number modulo 2 ^ exponent
+pub adds_alike : (a b : Summed) (f g : Assignment → ℕ) → AddsTo a b f → ((σ : Assignment) → f σ % 2 ^ a.exponent ≡ g σ % 2 ^ a.exponent) → AddsTo a b g
+adds_alike a b f g p same = record { exponent = p.exponent; sum = λ σ. p.sum σ ∙ plus_same (2 ^ a.exponent) (sum_in a σ) (f σ) (g σ) (same σ) }
 
 -- a sum from the terms inside
-pub sum_added : (w : ℕ) (old new : List (List ℕ)) (before after : Sum) (a b : Summed) (f : Assignment → ℕ) → record { width = w; monomials = old; terms = before } ≡ a →
-    record { width = w; monomials = new; terms = after } ≡ b → AreByNumber old before → Adds (2 ^ w) old new before after f → AddsTo a b f
+pub sum_added : (w : ℕ) (old new : List (List ℕ)) (before after : Sum) (a b : Summed) (f : Assignment → ℕ) → record { exponent = w; monomials = old; terms = before } ≡ a →
+    record { exponent = w; monomials = new; terms = after } ≡ b → AreByNumber old before → Adds (2 ^ w) old new before after f → AddsTo a b f
 sum_added w old new before after a b f e e' h adds =
-    subst (λ x. AddsTo x b f) e (subst (λ x. AddsTo (record { width = w; monomials = old; terms = before }) x f) e' (record {
-      width = refl;
+    subst (λ x. AddsTo x b f) e (subst (λ x. AddsTo (record { exponent = w; monomials = old; terms = before }) x f) e' (record {
+      exponent = refl;
       sum = λ σ. adds.sums h.within σ ∙ sym (mod-add-mod (total_in old σ before) (2 ^ w) (f σ));
     }))
 
@@ -140,8 +140,8 @@ pub numbers_in : (t : Table) (ms : List (List ℕ)) (p p' : Sum) → ms ≡ t.mo
 unfolding IsOf
 numbers_in t ms p p' e f h = subst (λ k. AreIn k p') (sym e) (subst (AreIn t.monomials) (sym f) h.numbers)
 
-pub product_alike : (t : Table) (w : ℕ) (ms : List (List ℕ)) (p q p' q' : Sum) (σ : Assignment) → t.width ≡ w → ms ≡ t.monomials → p' ≡ p → q' ≡ q →
+pub product_alike : (t : Table) (w : ℕ) (ms : List (List ℕ)) (p q p' q' : Sum) (σ : Assignment) → t.exponent ≡ w → ms ≡ t.monomials → p' ≡ p → q' ≡ q →
     (total_in ms σ p' * total_in ms σ q') % 2 ^ w ≡ (value_in t p σ * value_in t q σ) % 2 ^ w
 product_alike t w ms p q p' q' σ same e f g =
     subst (λ k. (total_in ms σ p' * total_in ms σ q') % 2 ^ k ≡ (value_in t p σ * value_in t q σ) % 2 ^ k) same
-    (product-values t.width ms t p q p' q' σ (ap (table_of t.width) e) f g)
+    (product-values t.exponent ms t p q p' q' σ (ap (table_of t.exponent) e) f g)

@@ -5,20 +5,20 @@ use Rattle.graph_core.specs.Graph.Assignments.{Assignment}
 use Rattle.poly_terms.specs.Entries.{Sum, total}
 use Rattle.poly_terms.specs.Monomials.{AreIn, total_in}
 
--- A sum as far as it has come: its monomials by number, and terms of theirs, modulo 2 ^ width.
+-- A sum as far as it has come: its monomials by number, and terms of theirs, modulo 2 ^ exponent.
 pub record Summed : Type 0 where
-  pub width : ℕ
+  pub exponent : ℕ
   pub monomials : List (List ℕ)
   pub terms : Sum
 
 -- its value at an assignment
 abbrev pub sum_in : Summed → Assignment → ℕ
-sum_in s σ = total_in s.monomials σ s.terms % 2 ^ s.width
+sum_in s σ = total_in s.monomials σ s.terms % 2 ^ s.exponent
 
 -- The new sum is the old one and a number.
 pub record AddsTo (old new : Summed) (number : Assignment → ℕ) : Type 0 where
-  pub width : new.width ≡ old.width
-  pub sum : (σ : Assignment) → sum_in new σ ≡ (sum_in old σ + number σ) % 2 ^ old.width
+  pub exponent : new.exponent ≡ old.exponent
+  pub sum : (σ : Assignment) → sum_in new σ ≡ (sum_in old σ + number σ) % 2 ^ old.exponent
 
 -- Terms by number: each stands at its number's place, and the numbers are of these monomials.
 pub record AreByNumber (ms : List (List ℕ)) (terms : Sum) : Type 0 where

@@ -11,13 +11,13 @@ use Rattle.poly_terms.specs.Entries.{Entry, entry_order}
 use Rattle.poly_terms.specs.Monomials.{AreIn, AreMonomials, Grows, places_of}
 pub use Rattle.poly_terms.specs.Entries.{Sum}
 
--- The table of the modulus 2 ^ width, and its monomials by number.
+-- The table of the modulus 2 ^ exponent, and its monomials by number.
 pub record Table : Type 0 where
-  pub width : ℕ
+  pub exponent : ℕ
   pub monomials : List (List ℕ)
 
 abbrev pub modulus : Table → ℕ
-modulus t = 2 ^ t.width
+modulus t = 2 ^ t.exponent
 
 -- the variables of a number's monomial
 abbrev pub variables_in : Table → ℕ → List ℕ
@@ -46,17 +46,24 @@ IsOf t p = IsReduced t p
 
 -- The new table gives each polynomial of the old one its value: it has the old monomials at their numbers.
 unfoldable pub Extends : Table → Table → Type 0
-Extends old new = (new.width ≡ old.width) × Grows old.monomials new.monomials
+Extends old new = (new.exponent ≡ old.exponent) × Grows old.monomials new.monomials
 
 -- the numbers, rising, of just the monomials with a variable
 unfoldable pub ArePlaces : Table → Sum → ℕ → List ℕ → Type 0
 ArePlaces t p v places = places ≡ places_of t.monomials v p
 
 -- a coefficient and variables, as a term
-abbrev pub given_term : ℕ × Vec ℕ Global → Term
-given_term part = record { negative = false; coefficient = part.0; variables = part.1.items }
+abbrev pub said_term : ℕ × List ℕ → Term
+said_term part = record { negative = false; coefficient = part.0; variables = part.1 }
 
 -- what a list of coefficients and variables says
+abbrev pub said : List (ℕ × List ℕ) → Polynomial
+said parts = map said_term parts
+
+-- the same, of variables that each have a list of their own
+abbrev pub given_term : ℕ × Vec ℕ Global → Term
+given_term part = said_term (part.0, part.1.items)
+
 abbrev pub given : List (ℕ × Vec ℕ Global) → Polynomial
 given parts = map given_term parts
 

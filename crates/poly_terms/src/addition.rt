@@ -12,12 +12,12 @@ use std::cmp::Ordering;
 /// The sum of two sorted lists, by one merge.
 pub(crate) fn add_sorted(
     alloc: Global,
-    width: u32,
+    exponent: u32,
     left: &[Term],
     right: &[Term],
 ) -> Result<Vec<Term>, AllocError>
-    requires { IsWidth width }
-    ensures { IfOk result (λ out. out.items ≡ plus (2 ^ width) left.now right.now) }
+    requires { IsWidth exponent }
+    ensures { IfOk result (λ out. out.items ≡ plus (2 ^ exponent) left.now right.now) }
 {
     let mut out = Vec::new(alloc);
     let mut i: usize = 0;
@@ -35,7 +35,7 @@ pub(crate) fn add_sorted(
                 j += 1;
             }
             Ordering::Equal => {
-                push_sum(width, x, y, &mut out)?;
+                push_sum(exponent, x, y, &mut out)?;
                 i += 1;
                 j += 1;
             }
@@ -46,12 +46,12 @@ pub(crate) fn add_sorted(
     Ok(out)
 }
 
-fn push_sum(width: u32, x: &Term, y: &Term, out: &mut Vec<Term>) -> Result<(), AllocError>
-    requires { IsWidth width }
+fn push_sum(exponent: u32, x: &Term, y: &Term, out: &mut Vec<Term>) -> Result<(), AllocError>
+    requires { IsWidth exponent }
     ensures { OnOk result
-        (out.new.items ≡ out.old.items ++ add_entries (2 ^ width) x.now y.now []) }
+        (out.new.items ≡ out.old.items ++ add_entries (2 ^ exponent) x.now y.now []) }
 {
-    let sum = coefficient::sum(width, x.coefficient(), y.coefficient());
+    let sum = coefficient::sum(exponent, x.coefficient(), y.coefficient());
     if sum != 0 {
         out.push(x.with_coefficient(sum))?;
     }
@@ -70,62 +70,62 @@ fn copy_behind(entries: &[Term], out: &mut Vec<Term>) -> Result<(), AllocError>
 }
 
 /// The sum of entries in any order: sorted, and those of one monomial added up.
-pub(crate) fn gather(alloc: Global, width: u32, raw: Vec<Term>) -> Result<Vec<Term>, AllocError>
-    requires { IsWidth width }
-    ensures { IfOk result (λ out. IsGathered (2 ^ width) raw.items out.items) }
+pub(crate) fn gather(alloc: Global, exponent: u32, raw: Vec<Term>) -> Result<Vec<Term>, AllocError>
+    requires { IsWidth exponent }
+    ensures { IfOk result (λ out. IsGathered (2 ^ exponent) raw.items out.items) }
 {
-    if is_orderly(width, &raw) {
+    if is_orderly(exponent, &raw) {
         return Ok(raw);
     }
     let mut sorted = raw;
     sorted.sort_unstable_by(|x, y| x.compare(y));
-    if is_orderly(width, &sorted) {
+    if is_orderly(exponent, &sorted) {
         return Ok(sorted);
     }
     let mut out = Vec::with_capacity(alloc, sorted.len())?;
     for entry in sorted {
-        put_behind(width, entry, &mut out)?;
+        put_behind(exponent, entry, &mut out)?;
     }
     out.shrink_to_fit();
     Ok(out)
 }
 
 // Whether entries are a sorted list as they stand. Most are, as they come or once they are sorted.
-fn is_orderly(width: u32, entries: &[Term]) -> bool
-    requires { IsWidth width }
-    ensures { IsTrue result → IsOrderly (2 ^ width) entries.now }
+fn is_orderly(exponent: u32, entries: &[Term]) -> bool
+    requires { IsWidth exponent }
+    ensures { IsTrue result → IsOrderly (2 ^ exponent) entries.now }
 {
     let mut i = entries.len();
     while i > 0 {
         i -= 1;
-        if !is_placed(width, entries, i) {
+        if !is_placed(exponent, entries, i) {
             return false;
         }
     }
     true
 }
 
-fn is_placed(width: u32, entries: &[Term], i: usize) -> bool
-    requires width { IsWidth width }
+fn is_placed(exponent: u32, entries: &[Term], i: usize) -> bool
+    requires exponent { IsWidth exponent }
     requires in_range { i < length entries.now }
-    ensures { IsTrue result → IsPlaced (2 ^ width) entries.now i }
+    ensures { IsTrue result → IsPlaced (2 ^ exponent) entries.now i }
 {
     let number = entries[i].number();
     if i + 1 < entries.len() && entries[i + 1].number() <= number {
         return false;
     }
     let coefficient = entries[i].coefficient();
-    coefficient != 0 && Residue::new(width, coefficient).value() == coefficient
+    coefficient != 0 && Residue::new(exponent, coefficient).value() == coefficient
 }
 
 // Puts an entry behind others: added to the last where that has its monomial, and not at all where the sum is 0.
-fn put_behind(width: u32, entry: Term, out: &mut Vec<Term>) -> Result<(), AllocError>
-    requires { IsWidth width }
-    ensures { OnOk result (IsPutBehind (2 ^ width) entry out.old.items out.new.items) }
+fn put_behind(exponent: u32, entry: Term, out: &mut Vec<Term>) -> Result<(), AllocError>
+    requires { IsWidth exponent }
+    ensures { OnOk result (IsPutBehind (2 ^ exponent) entry out.old.items out.new.items) }
 {
     let coefficient = match out.pop_if(|last| last.is_like(&entry)) {
-        Some(last) => coefficient::sum(width, last.coefficient(), entry.coefficient()),
-        None => Residue::new(width, entry.coefficient()).value(),
+        Some(last) => coefficient::sum(exponent, last.coefficient(), entry.coefficient()),
+        None => Residue::new(exponent, entry.coefficient()).value(),
     };
     if coefficient != 0 {
         out.push(entry.with_coefficient(coefficient))?;
@@ -134,15 +134,15 @@ fn put_behind(width: u32, entry: Term, out: &mut Vec<Term>) -> Result<(), AllocE
 }
 
 /// The sum of many polynomials.
-pub(crate) fn add_all(alloc: Global, width: u32, parts: &[Poly]) -> Result<Vec<Term>, AllocError>
-    requires { IsWidth width }
-    ensures { IfOk result (λ v. IsGathered (2 ^ width) (appended parts.now) v.items) }
+pub(crate) fn add_all(alloc: Global, exponent: u32, parts: &[Poly]) -> Result<Vec<Term>, AllocError>
+    requires { IsWidth exponent }
+    ensures { IfOk result (λ v. IsGathered (2 ^ exponent) (appended parts.now) v.items) }
 {
     let mut raw = Vec::with_capacity(alloc, count(parts))?;
     for part in parts {
         copy_behind(part.entries(), &mut raw)?;
     }
-    gather(alloc, width, raw)
+    gather(alloc, exponent, raw)
 }
 
 // how many entries there are in all

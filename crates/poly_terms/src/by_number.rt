@@ -14,22 +14,22 @@ use std::alloc::AllocError;
 
 /// Adds a monomial with a coefficient.
 pub(crate) fn add_term(
-    width: u32,
+    exponent: u32,
     table: &mut Numbering,
     terms: &mut Vec<Term>,
     monomial: Monomial,
     coefficient: u128,
 ) -> Result<(), AllocError>
-    requires width { IsWidth width }
+    requires exponent { IsWidth exponent }
     requires monomial { AreRising 0 monomial.items }
     requires terms { AreByNumber table.old terms.old.items }
     ensures terms { AreByNumber table.new terms.new.items }
-    ensures adds { OnOk result (Adds (2 ^ width) table.old table.new terms.old.items terms.new.items
+    ensures adds { OnOk result (Adds (2 ^ exponent) table.old table.new terms.old.items terms.new.items
         (λ σ. coefficient * product σ monomial.items)) }
 {
     let number = table.intern(monomial)?;
     reach(terms, number)?;
-    add_at(width, terms, number, coefficient);
+    add_at(exponent, terms, number, coefficient);
     Ok(())
 }
 
@@ -44,13 +44,13 @@ fn reach(terms: &mut Vec<Term>, number: u64) -> Result<(), AllocError>
     Ok(())
 }
 
-fn add_at(width: u32, terms: &mut Vec<Term>, number: u64, coefficient: u128)
-    requires width { IsWidth width }
+fn add_at(exponent: u32, terms: &mut Vec<Term>, number: u64, coefficient: u128)
+    requires exponent { IsWidth exponent }
     requires in_range { number < length terms.old.items }
     ensures { terms.new.items ≡ set terms.old.items number
-        (number, ((get_or terms.old.items number (0, 0)).1 + coefficient) % 2 ^ width) }
+        (number, ((get_or terms.old.items number (0, 0)).1 + coefficient) % 2 ^ exponent) }
 {
     let place = number as usize;
-    let sum = coefficient::sum(width, terms[place].coefficient(), coefficient);
+    let sum = coefficient::sum(exponent, terms[place].coefficient(), coefficient);
     terms[place] = Term::new(number, sum);
 }

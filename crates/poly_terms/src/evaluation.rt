@@ -10,15 +10,15 @@ use crate::numbering::Numbering;
 use crate::term::Term;
 
 /// The sum of the coefficients whose variables are all true.
-pub(crate) fn value_of(table: &Numbering, width: u32, entries: &[Term], values: &[bool]) -> u128
-    requires width { IsWidth width }
+pub(crate) fn value_of(table: &Numbering, exponent: u32, entries: &[Term], values: &[bool]) -> u128
+    requires exponent { IsWidth exponent }
     requires entries { AreIn table.now entries.now }
-    ensures { result ≡ total_in table.now (listed values.now) entries.now % 2 ^ width }
+    ensures { result ≡ total_in table.now (listed values.now) entries.now % 2 ^ exponent }
 {
     let mut sum: u128 = 0;
     for entry in entries {
         if are_true(table.variables(entry.number()), values) {
-            sum = coefficient::sum(width, sum, entry.coefficient());
+            sum = coefficient::sum(exponent, sum, entry.coefficient());
         }
     }
     sum

@@ -34,8 +34,10 @@ mod term;
 mod terms;
 #[cfg(test)]
 mod tests;
+mod variables;
 
 pub use poly::Poly;
 pub use sum_of_products::SumOfProducts;
 pub use table_laws::{modulus_stays, monomials_are_normal, tables_extend, values_stay};
 pub use terms::Terms;
+pub use variables::Variables;

@@ -15,21 +15,21 @@ use std::alloc::{AllocError, Global};
 pub(crate) fn products_of(
     alloc: Global,
     table: &mut Numbering,
-    width: u32,
+    exponent: u32,
     left: &[Term],
     right: &[Term],
 ) -> Result<Vec<Term>, AllocError>
-    requires width { IsWidth width }
+    requires exponent { IsWidth exponent }
     requires left { AreIn table.old left.now }
     requires right { AreIn table.old right.now }
     ensures grows { Grows table.old table.new }
-    ensures adds { IfOk result (λ out. Adds (2 ^ width) table.old table.new [] out.items
+    ensures adds { IfOk result (λ out. Adds (2 ^ exponent) table.old table.new [] out.items
         (λ σ. total_in table.old σ left.now * total_in table.old σ right.now)) }
 {
     let count = left.len().saturating_mul(right.len());
     let mut out = Vec::with_capacity(alloc, count)?;
     for by in right {
-        multiply_by(alloc, table, width, left, by, &mut out)?;
+        multiply_by(alloc, table, exponent, left, by, &mut out)?;
     }
     Ok(out)
 }
@@ -37,62 +37,63 @@ pub(crate) fn products_of(
 fn multiply_by(
     alloc: Global,
     table: &mut Numbering,
-    width: u32,
+    exponent: u32,
     entries: &[Term],
     by: &Term,
     out: &mut Vec<Term>,
 ) -> Result<(), AllocError>
-    requires width { IsWidth width }
+    requires exponent { IsWidth exponent }
     requires entries { AreIn table.old entries.now }
     requires by { by.now.0 < length table.old }
     ensures grows { Grows table.old table.new }
-    ensures adds { OnOk result (Adds (2 ^ width) table.old table.new out.old.items out.new.items
+    ensures adds { OnOk result (Adds (2 ^ exponent) table.old table.new out.old.items out.new.items
         (λ σ. by.now.1 * product σ (get_or table.old by.now.0 []) * total_in table.old σ entries.now)) }
 {
     let monomial = monomial::copy(alloc, table.variables(by.number()))?;
-    multiply_behind(table, width, &monomial, by.coefficient(), entries, out)
+    multiply_behind(table, exponent, &monomial, by.coefficient(), entries, out)
 }
 
 /// A monomial with its coefficient times each term, behind others.
 pub(crate) fn multiply_behind(
     table: &mut Numbering,
-    width: u32,
+    exponent: u32,
     monomial: &Monomial,
     coefficient: u128,
     entries: &[Term],
     out: &mut Vec<Term>,
 ) -> Result<(), AllocError>
-    requires width { IsWidth width }
+    requires exponent { IsWidth exponent }
     requires monomial { AreRising 0 monomial.now.items }
     requires entries { AreIn table.old entries.now }
     ensures grows { Grows table.old table.new }
-    ensures adds { OnOk result (Adds (2 ^ width) table.old table.new out.old.items out.new.items
+    ensures adds { OnOk result (Adds (2 ^ exponent) table.old table.new out.old.items out.new.items
         (λ σ. coefficient * product σ monomial.now.items * total_in table.old σ entries.now)) }
 {
     out.reserve(entries.len())?;
     for entry in entries {
-        push_product(table, width, monomial, coefficient, entry, out)?;
+        push_product(table, exponent, monomial, coefficient, entry, out)?;
     }
     Ok(())
 }
 
 fn push_product(
     table: &mut Numbering,
-    width: u32,
+    exponent: u32,
     monomial: &Monomial,
     coefficient: u128,
     entry: &Term,
     out: &mut Vec<Term>,
 ) -> Result<(), AllocError>
-    requires width { IsWidth width }
+    requires exponent { IsWidth exponent }
     requires monomial { AreRising 0 monomial.now.items }
     requires entry { entry.now.0 < length table.old }
     ensures grows { Grows table.old table.new }
-    ensures adds { OnOk result (Adds (2 ^ width) table.old table.new out.old.items out.new.items
-        (λ σ. coefficient * product σ monomial.now.items * (entry.now.1 * product σ (get_or table.old entry.now.0 [])))) }
+    ensures adds { OnOk result (Adds (2 ^ exponent) table.old table.new out.old.items out.new.items
+        (λ σ. coefficient * product σ monomial.now.items *
+        (entry.now.1 * product σ (get_or table.old entry.now.0 [])))) }
 {
     let both = table.times(monomial.as_slice(), entry.number())?;
-    let coefficient = coefficient::product(width, coefficient, entry.coefficient());
+    let coefficient = coefficient::product(exponent, coefficient, entry.coefficient());
     push_term(table, both, coefficient, out)
 }
 

@@ -36,6 +36,13 @@ impl Numbering {
         }
     }
 
+    /// No monomials any more. The room stays.
+    pub(crate) fn clear(&mut self)
+        ensures { self.new ≡ [] }
+    {
+        self.monomials.clear();
+    }
+
     /// The number of a monomial, which is added where it is new.
     pub(crate) fn intern(&mut self, monomial: Monomial) -> Result<u64, AllocError>
         requires { AreRising 0 monomial.items }

@@ -1,22 +1,38 @@
 // Terms of coefficients and variables as a caller gives them.
-ghost use Rattle.std.specs.Prelude.{◌*◌, ℕ, IfOk, OnOk, []};
+ghost use Rattle.std.specs.Prelude.{◌≡◌, ◌*◌, ℕ, IfOk, OnOk, []};
 ghost use Rattle.graph_core.specs.Algebra.Polynomials.{product, sum_of};
 ghost use Rattle.poly_terms.specs.Monomials.{Adds, Grows};
-ghost use Rattle.poly_terms.specs.Tables.{given};
+ghost use Rattle.poly_terms.specs.Tables.{given, said};
 
 use crate::numbering::Numbering;
 use crate::term::Term;
-use crate::{monomial, multiplication};
+use crate::{Variables, monomial, multiplication};
+use graph_core::Memory;
 use std::alloc::{AllocError, Global};
 
+/// Parts whose variables each have a list of their own.
+pub(crate) fn copies(
+    alloc: Global,
+    parts: &[(u128, Vec<u32>)],
+) -> Result<Vec<(u128, Variables)>, Memory>
+    ensures { IfOk result (λ out. said out.items ≡ given parts.now) }
+{
+    let mut out = Vec::with_capacity(alloc, parts.len())?;
+    for (coefficient, variables) in parts {
+        out.push((*coefficient, Variables::of(alloc, variables)?))?;
+    }
+    Ok(out)
+}
+
+/// The terms of parts, over a table that takes their monomials.
 pub(crate) fn entries_of(
     alloc: Global,
     table: &mut Numbering,
-    parts: &[(u128, Vec<u32>)],
+    parts: &[(u128, Variables)],
 ) -> Result<Vec<Term>, AllocError>
     ensures grows { Grows table.old table.new }
     ensures adds { IfOk result (λ out. (m : ℕ) → Adds m table.old table.new [] out.items
-        (λ σ. sum_of m (given parts.now) σ)) }
+        (λ σ. sum_of m (said parts.now) σ)) }
 {
     let mut out = Vec::with_capacity(alloc, parts.len())?;
     for (coefficient, variables) in parts {

@@ -57,26 +57,26 @@ pub(crate) fn entries_free_of(
 pub(crate) fn replacements(
     alloc: Global,
     table: &mut Numbering,
-    width: u32,
+    exponent: u32,
     entries: &[Term],
     v: u32,
     by: &[Term],
     places: &[u64],
 ) -> Result<Vec<Term>, AllocError>
-    requires width { IsWidth width }
+    requires exponent { IsWidth exponent }
     requires order { AreAfter entry_order None entries.now }
     requires entries { AreIn table.old entries.now }
     requires by { AreIn table.old by.now }
     requires places { places.now ≡ places_of table.old v entries.now }
     ensures grows { Grows table.old table.new }
-    ensures adds { IfOk result (λ out. Adds (2 ^ width) table.old table.new [] out.items
+    ensures adds { IfOk result (λ out. Adds (2 ^ exponent) table.old table.new [] out.items
         (λ σ. replaced table.old v σ (total_in table.old σ by.now) entries.now)) }
 {
     let mut out = Vec::new(alloc);
     let mut j: usize = 0;
     for entry in entries {
         if is_place(places, j, entry) {
-            replace_behind(table, width, entry, v, by, &mut out)?;
+            replace_behind(table, exponent, entry, v, by, &mut out)?;
             j += 1;
         }
     }
@@ -86,21 +86,21 @@ pub(crate) fn replacements(
 // The same for one term, behind others.
 fn replace_behind(
     table: &mut Numbering,
-    width: u32,
+    exponent: u32,
     entry: &Term,
     v: u32,
     by: &[Term],
     out: &mut Vec<Term>,
 ) -> Result<(), AllocError>
-    requires width { IsWidth width }
+    requires exponent { IsWidth exponent }
     requires entry { entry.now.0 < length table.old }
     requires by { AreIn table.old by.now }
     ensures grows { Grows table.old table.new }
-    ensures adds { OnOk result (Adds (2 ^ width) table.old table.new out.old.items out.new.items
+    ensures adds { OnOk result (Adds (2 ^ exponent) table.old table.new out.old.items out.new.items
         (λ σ. replaced_one table.old v σ (total_in table.old σ by.now) entry.now)) }
 {
     let rest = table.without(entry.number(), v)?;
-    multiplication::multiply_behind(table, width, &rest, entry.coefficient(), by, out)
+    multiplication::multiply_behind(table, exponent, &rest, entry.coefficient(), by, out)
 }
 
 /// Whether a term's number is the one at a place of the list.

@@ -16,12 +16,15 @@ use graph_core::Memory;
 use std::alloc::{AllocError, Global};
 use std::marker::Model;
 
-/// Products of polynomials of a table, as far as they are added up. Their monomials are numbered apart, so that the table
-/// takes those of the whole sum alone.
+// A sum of more monomials than these leaves its room: to clear it would take longer than most sums.
+const MAX_KEPT_ROOM: usize = 1024;
+
+/// Products of polynomials of a table, as far as they are added up. Their monomials are numbered apart, so that the
+/// table takes those of the whole sum alone.
 #[derive(Drop)]
 pub struct SumOfProducts {
     alloc: Global,
-    width: u32,
+    exponent: u32,
     monomials: Numbering,
     terms: Vec<Term>,
 }
@@ -32,29 +35,45 @@ impl Model for SumOfProducts {
 
     ghost Value = { Summed };
 
-    ghost view = { λ p. record { width = p.width; monomials = p.monomials; terms = p.terms.items } };
+    ghost view = { λ p. record { exponent = p.exponent; monomials = p.monomials; terms = p.terms.items } };
 
-    ghost invariant = { λ p. IsWidth p.width × AreByNumber p.monomials p.terms.items };
+    ghost invariant = { λ p. IsWidth p.exponent × AreByNumber p.monomials p.terms.items };
 }
 
 impl SumOfProducts {
     /// No products yet, for a table of the modulus 2^w.
     pub fn new(alloc: Global, w: u32) -> SumOfProducts
         requires { IsWidth w }
-        ensures width { result.width ≡ w }
+        ensures exponent { result.exponent ≡ w }
         ensures none { (σ : Assignment) → sum_in result σ ≡ 0 }
     {
         SumOfProducts {
             alloc,
-            width: w,
+            exponent: w,
             monomials: Numbering::new(alloc),
             terms: Vec::new(alloc),
         }
     }
 
+    /// No products any more, for a table of the modulus 2^w. The room stays, but what a very long sum took.
+    pub fn restart(&mut self, w: u32)
+        requires { IsWidth w }
+        ensures exponent { self.new.exponent ≡ w }
+        ensures none { (σ : Assignment) → sum_in self.new σ ≡ 0 }
+    {
+        self.exponent = w;
+        if self.terms.len() > MAX_KEPT_ROOM {
+            self.terms = Vec::new(self.alloc);
+            self.monomials = Numbering::new(self.alloc);
+        } else {
+            self.terms.clear();
+            self.monomials.clear();
+        }
+    }
+
     /// Adds the product of two polynomials.
     pub fn add(&mut self, terms: &Terms, p: &Poly, q: &Poly) -> Result<(), Memory>
-        requires width { terms.now.width ≡ self.old.width }
+        requires exponent { terms.now.exponent ≡ self.old.exponent }
         requires left { IsOf terms.now p.now }
         requires right { IsOf terms.now q.now }
         ensures { OnOk result (AddsTo self.old self.new
@@ -107,7 +126,11 @@ impl SumOfProducts {
             (entry.now.1 * product σ (get_or table.now entry.now.0 [])))) }
     {
         let both = table.times(table.variables(by.number()), entry.number())?;
-        let coefficient = coefficient::product(self.width, by.coefficient(), entry.coefficient());
+        let coefficient = coefficient::product(
+            self.exponent,
+            by.coefficient(),
+            entry.coefficient(),
+        );
         self.add_term(both, coefficient)
     }
 
@@ -116,7 +139,7 @@ impl SumOfProducts {
         ensures { OnOk result (AddsTo self.old self.new (λ σ. coefficient * product σ monomial.items)) }
     {
         by_number::add_term(
-            self.width,
+            self.exponent,
             &mut self.monomials,
             &mut self.terms,
             monomial,
@@ -150,11 +173,16 @@ fn carry_all(
     ensures adds { IfOk result (λ out. (m : ℕ) → Adds m table.old table.new [] out.items
         (λ σ. total_in from.now σ terms.now)) }
 {
-    let mut out = Vec::new(alloc);
+    let mut out = Vec::with_capacity(alloc, count(terms))?;
     for term in terms {
         carry_behind(alloc, from, term, table, &mut out)?;
     }
     Ok(out)
+}
+
+// how many terms aren't 0
+fn count(terms: &[Term]) -> usize {
+    terms.iter().filter(|term| term.coefficient() != 0).count()
 }
 
 // A term with its monomial in another table, behind others, unless it is 0.

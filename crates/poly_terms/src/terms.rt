@@ -5,11 +5,12 @@ ghost use Rattle.graph_core.specs.Algebra.NormalForm.{HasSize};
 ghost use Rattle.graph_core.specs.Algebra.Polynomials.{value};
 ghost use Rattle.mv_nums.specs.Residue.{IsWidth};
 ghost use Rattle.poly_terms.specs.Sums.{sum_in};
-ghost use Rattle.poly_terms.specs.Tables.{ArePlaces, Extends, IsOf, assigned, given, modulus, monomials_in, quotient_value, replaced_value, value_in};
+ghost use Rattle.poly_terms.specs.Tables.{ArePlaces, Extends, IsOf, assigned, given, modulus, monomials_in, quotient_value, replaced_value, said, value_in};
 
 use crate::numbering::Numbering;
 use crate::{
-    Poly, SumOfProducts, addition, evaluation, multiplication, parts, quotient, substitution, term,
+    Poly, SumOfProducts, Variables, addition, evaluation, multiplication, parts, quotient,
+    substitution, term,
 };
 use graph_core::Memory;
 use std::alloc::Global;
@@ -19,7 +20,7 @@ use std::marker::Model;
 #[derive(Drop)]
 pub struct Terms {
     alloc: Global,
-    width: u32,
+    exponent: u32,
     monomials: Numbering,
 }
 
@@ -29,44 +30,57 @@ impl Model for Terms {
 
     ghost Value = { Table };
 
-    ghost view = { λ t. record { width = t.width; monomials = t.monomials } };
+    ghost view = { λ t. record { exponent = t.exponent; monomials = t.monomials } };
 
-    ghost invariant = { λ t. IsWidth t.width };
+    ghost invariant = { λ t. IsWidth t.exponent };
 }
 
 impl Terms {
     /// A table of its own for one modulus. It keeps the allocator.
     pub fn new(alloc: Global, w: u32) -> Terms
         requires { IsWidth w }
-        ensures { result.width ≡ w }
+        ensures { result.exponent ≡ w }
     {
         Terms {
             alloc,
-            width: w,
+            exponent: w,
             monomials: Numbering::new(alloc),
         }
     }
 
     /// The exponent of the modulus, from 1 to 128.
-    pub fn width(&self) -> u32
-        ensures width { result ≡ self.now.width }
+    pub fn exponent(&self) -> u32
+        ensures exponent { result ≡ self.now.exponent }
         ensures in_range { IsWidth result }
     {
-        self.width
+        self.exponent
     }
 
     /// The sum of coefficients of any size, each times a product of variables. Parts and variables come in any order
     /// and may be repeated, and variable 0 is the constant false.
-    #[tactic(auto, using(crate::specs::Laws::extends_itself, crate::proofs::Made::extends_grown))]
+    #[tactic(auto, using(crate::specs::Laws::extends_itself))]
     pub fn make(&mut self, parts: &[(u128, Vec<u32>)]) -> Result<Poly, Memory>
         ensures extends { Extends self.old self.new }
         ensures of { IfOk result (IsOf self.new) }
         ensures value { IfOk result (λ r. (σ : Assignment) →
             value_in self.new r σ ≡ value (modulus self.old) (given parts.now) σ) }
     {
+        let parts = parts::copies(self.alloc, parts)?;
+        let poly = self.make_of(&parts)?;
+        Ok(poly)
+    }
+
+    /// The same of parts that take no memory each.
+    #[tactic(auto, using(crate::specs::Laws::extends_itself, crate::proofs::Made::extends_grown))]
+    pub fn make_of(&mut self, parts: &[(u128, Variables)]) -> Result<Poly, Memory>
+        ensures extends { Extends self.old self.new }
+        ensures of { IfOk result (IsOf self.new) }
+        ensures value { IfOk result (λ r. (σ : Assignment) →
+            value_in self.new r σ ≡ value (modulus self.old) (said parts.now) σ) }
+    {
         let raw = parts::entries_of(self.alloc, &mut self.monomials, parts)?;
         self.monomials.stand_once();
-        let entries = addition::gather(self.alloc, self.width, raw)?;
+        let entries = addition::gather(self.alloc, self.exponent, raw)?;
         Ok(Poly::of(entries))
     }
 
@@ -80,7 +94,7 @@ impl Terms {
         ensures value { IfOk result (λ r. (σ : Assignment) → value_in self.new r σ ≡
             (value_in self.old p.now σ + value_in self.old q.now σ) % modulus self.old) }
     {
-        let entries = addition::add_sorted(self.alloc, self.width, p.entries(), q.entries())?;
+        let entries = addition::add_sorted(self.alloc, self.exponent, p.entries(), q.entries())?;
         Ok(Poly::of(entries))
     }
 
@@ -97,12 +111,12 @@ impl Terms {
         let raw = multiplication::products_of(
             self.alloc,
             &mut self.monomials,
-            self.width,
+            self.exponent,
             p.entries(),
             q.entries(),
         )?;
         self.monomials.stand_once();
-        let entries = addition::gather(self.alloc, self.width, raw)?;
+        let entries = addition::gather(self.alloc, self.exponent, raw)?;
         Ok(Poly::of(entries))
     }
 
@@ -172,15 +186,15 @@ impl Terms {
         let raw = substitution::replacements(
             self.alloc,
             &mut self.monomials,
-            self.width,
+            self.exponent,
             p.entries(),
             v,
             q.entries(),
             places,
         )?;
         self.monomials.stand_once();
-        let gathered = addition::gather(self.alloc, self.width, raw)?;
-        let entries = addition::add_sorted(self.alloc, self.width, &kept, &gathered)?;
+        let gathered = addition::gather(self.alloc, self.exponent, raw)?;
+        let entries = addition::add_sorted(self.alloc, self.exponent, &kept, &gathered)?;
         Ok(Poly::of(entries))
     }
 
@@ -213,7 +227,7 @@ impl Terms {
     {
         let raw = quotient::quotients(self.alloc, &mut self.monomials, p.entries(), v, places)?;
         self.monomials.stand_once();
-        let entries = addition::gather(self.alloc, self.width, raw)?;
+        let entries = addition::gather(self.alloc, self.exponent, raw)?;
         Ok(Poly::of(entries))
     }
 
@@ -260,7 +274,7 @@ impl Terms {
         ensures value { IfOk result (λ r. (σ : Assignment) → value_in self.new r σ ≡
             sum_by (λ p. value_in self.old p σ) parts.now % modulus self.old) }
     {
-        let entries = addition::add_all(self.alloc, self.width, parts)?;
+        let entries = addition::add_all(self.alloc, self.exponent, parts)?;
         self.monomials.stand_once();
         Ok(Poly::of(entries))
     }
@@ -268,7 +282,7 @@ impl Terms {
     /// The sum of products that were added up.
     #[tactic(auto, using(crate::specs::Laws::extends_itself, crate::proofs::Made::extends_grown))]
     pub fn sum_up(&mut self, products: &SumOfProducts) -> Result<Poly, Memory>
-        requires { products.now.width ≡ self.old.width }
+        requires { products.now.exponent ≡ self.old.exponent }
         ensures extends { Extends self.old self.new }
         ensures of { IfOk result (IsOf self.new) }
         ensures value { IfOk result (λ r. (σ : Assignment) →
@@ -276,7 +290,7 @@ impl Terms {
     {
         let raw = products.entries_in(self.alloc, &mut self.monomials)?;
         self.monomials.stand_once();
-        let entries = addition::gather(self.alloc, self.width, raw)?;
+        let entries = addition::gather(self.alloc, self.exponent, raw)?;
         Ok(Poly::of(entries))
     }
 
@@ -293,7 +307,7 @@ impl Terms {
         requires { IsOf self.now p.now }
         ensures { result ≡ value_in self.now p.now (listed values.now) }
     {
-        evaluation::value_of(&self.monomials, self.width, p.entries(), values)
+        evaluation::value_of(&self.monomials, self.exponent, p.entries(), values)
     }
 
     /// Whether two polynomials have the same value at every assignment. They may be of different ages.

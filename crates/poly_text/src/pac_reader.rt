@@ -3,11 +3,11 @@ ghost use Rattle.std.specs.Prelude.{◌≤◌};
 
 use std::alloc::Global;
 
-// How the lines of a certificate are read: over the variables 1 to `max`, modulo 2^width.
+// How the lines of a certificate are read: over the variables 1 to `max`, modulo 2^exponent.
 #[derive(Clone, Copy)]
 pub(crate) struct PacReader {
     pub(crate) alloc: Global,
-    pub(crate) width: u32,
+    pub(crate) exponent: u32,
     pub(crate) max: u32,
-    ghost width_in_range: { (1 ≤ width) × (width ≤ 128) },
+    ghost exponent_in_range: { (1 ≤ exponent) × (exponent ≤ 128) },
 }

@@ -32,7 +32,7 @@ impl PacReader {
         scanner: &mut Scanner<'_>,
         terms: &mut Terms,
     ) -> Result<Option<Vec<(u64, Poly)>>, LineFail>
-        requires { modulus terms.old ≡ 2 ^ self.now.width }
+        requires { modulus terms.old ≡ 2 ^ self.now.exponent }
         ensures ok { IfOk result
             (TakesAllParts (ended_at parts_at (codes ", ")) self.now.max terms.new scanner.old
             scanner.new) }
@@ -51,7 +51,7 @@ impl PacReader {
         scanner: &mut Scanner<'_>,
         terms: &mut Terms,
     ) -> Result<Option<Vec<(u64, Poly)>>, LineFail>
-        requires { modulus terms.old ≡ 2 ^ self.now.width }
+        requires { modulus terms.old ≡ 2 ^ self.now.exponent }
         ensures ok { IfOk result
             (TakesAllParts parts_at self.now.max terms.new scanner.old scanner.new) }
         ensures err { IfErr result (IsMisfit (parts_at scanner.old ≡ None)) }
@@ -71,7 +71,7 @@ impl PacReader {
         terms: &mut Terms,
         before: Option<Vec<(u64, Poly)>>,
     ) -> Result<Option<Vec<(u64, Poly)>>, LineFail>
-        requires { modulus terms.old ≡ 2 ^ self.now.width }
+        requires { modulus terms.old ≡ 2 ^ self.now.exponent }
         ensures ok { IfOk result (
             let later = many_at is_space (behind_at (codes " + ") part_at) in
             TakesParts later before self.now.max terms.new scanner.old scanner.new) }
@@ -94,7 +94,7 @@ impl PacReader {
         scanner: &mut Scanner<'_>,
         terms: &mut Terms,
     ) -> Result<Option<(u64, Poly)>, LineFail>
-        requires { modulus terms.old ≡ 2 ^ self.now.width }
+        requires { modulus terms.old ≡ 2 ^ self.now.exponent }
         ensures ok { IfOk result
             (TakesPart (behind_at (codes " + ") part_at) self.now.max terms.new scanner.old
             scanner.new) }
@@ -112,7 +112,7 @@ impl PacReader {
         scanner: &mut Scanner<'_>,
         terms: &mut Terms,
     ) -> Result<Option<(u64, Poly)>, LineFail>
-        requires { modulus terms.old ≡ 2 ^ self.now.width }
+        requires { modulus terms.old ≡ 2 ^ self.now.exponent }
         ensures ok { IfOk result
             (TakesPart part_at self.now.max terms.new scanner.old scanner.new) }
         ensures err { IfErr result (IsMisfit (part_at scanner.old ≡ None)) }
@@ -130,7 +130,7 @@ impl PacReader {
         terms: &mut Terms,
         end: &[u8],
     ) -> Result<Option<Poly>, LineFail>
-        requires { modulus terms.old ≡ 2 ^ self.now.width }
+        requires { modulus terms.old ≡ 2 ^ self.now.exponent }
         ensures ok { IfOk result
             (TakesPoly (ended_at poly_at end.now) self.now.max terms.new scanner.old scanner.new) }
         ensures err { IfErr result (IsMisfit (ended_at poly_at end.now scanner.old ≡ None)) }

@@ -10,7 +10,7 @@ ghost use Rattle.poly_text.specs.Values.{AreTermsOf, TakesPoly, TakesTerm, Takes
 use crate::pac_reader::PacReader;
 use mv_desk::LineFail;
 use mv_text::{Scanner, pushed};
-use poly_terms::{Poly, Terms};
+use poly_terms::{Poly, Terms, Variables};
 
 impl PacReader {
     // A polynomial.
@@ -20,7 +20,7 @@ impl PacReader {
         scanner: &mut Scanner<'_>,
         terms: &mut Terms,
     ) -> Result<Option<Poly>, LineFail>
-        requires { modulus terms.old ≡ 2 ^ self.now.width }
+        requires { modulus terms.old ≡ 2 ^ self.now.exponent }
         ensures ok { IfOk result
             (TakesPoly poly_at self.now.max terms.new scanner.old scanner.new) }
         ensures err { IfErr result (IsMisfit (poly_at scanner.old ≡ None)) }
@@ -29,7 +29,7 @@ impl PacReader {
         let Some(given) = self.all_terms(scanner)? else {
             return Ok(None);
         };
-        match terms.make(&given) {
+        match terms.make_of(&given) {
             Ok(poly) => Ok(Some(poly)),
             Err(_) => Err(LineFail::Memory),
         }
@@ -39,9 +39,9 @@ impl PacReader {
     fn all_terms(
         &self,
         scanner: &mut Scanner<'_>,
-    ) -> Result<Option<Vec<(u128, Vec<u32>)>>, LineFail>
+    ) -> Result<Option<Vec<(u128, Variables)>>, LineFail>
         ensures ok { IfOk result (
-            Takes poly_at (IsInRange self.now.max) (AreTermsOf (2 ^ self.now.width)) scanner.old scanner.new) }
+            Takes poly_at (IsInRange self.now.max) (AreTermsOf (2 ^ self.now.exponent)) scanner.old scanner.new) }
         ensures err { IfErr result (IsMisfit (poly_at scanner.old ≡ None)) }
     {
         let first = self.first_term(scanner)?;
@@ -51,9 +51,9 @@ impl PacReader {
     }
 
     // The first term, which has no plus.
-    fn first_term(&self, scanner: &mut Scanner<'_>) -> Result<Option<(u128, Vec<u32>)>, LineFail>
+    fn first_term(&self, scanner: &mut Scanner<'_>) -> Result<Option<(u128, Variables)>, LineFail>
         ensures ok { IfOk result
-            (TakesTerm first_term_at self.now.max self.now.width scanner.old scanner.new) }
+            (TakesTerm first_term_at self.now.max self.now.exponent scanner.old scanner.new) }
         ensures err { IfErr result (IsMisfit (first_term_at scanner.old ≡ None)) }
     {
         let negative = scanner.is_at(b'-');
@@ -67,10 +67,10 @@ impl PacReader {
     fn later_terms(
         &self,
         scanner: &mut Scanner<'_>,
-        before: Option<Vec<(u128, Vec<u32>)>>,
-    ) -> Result<Option<Vec<(u128, Vec<u32>)>>, LineFail>
+        before: Option<Vec<(u128, Variables)>>,
+    ) -> Result<Option<Vec<(u128, Variables)>>, LineFail>
         ensures ok { IfOk result (
-            TakesTerms (many_at is_sign signed_term_at) before self.now.max self.now.width scanner.old scanner.new) }
+            TakesTerms (many_at is_sign signed_term_at) before self.now.max self.now.exponent scanner.old scanner.new) }
         ensures err { IfErr result (IsMisfit (many_at is_sign signed_term_at scanner.old ≡ None)) }
     {
         let mut terms = before;
@@ -82,9 +82,9 @@ impl PacReader {
     }
 
     // A term with its sign.
-    fn later_term(&self, scanner: &mut Scanner<'_>) -> Result<Option<(u128, Vec<u32>)>, LineFail>
+    fn later_term(&self, scanner: &mut Scanner<'_>) -> Result<Option<(u128, Variables)>, LineFail>
         ensures ok { IfOk result
-            (TakesTerm signed_term_at self.now.max self.now.width scanner.old scanner.new) }
+            (TakesTerm signed_term_at self.now.max self.now.exponent scanner.old scanner.new) }
         ensures err { IfErr result (IsMisfit (signed_term_at scanner.old ≡ None)) }
     {
         let negative = scanner.is_at(b'-');

@@ -4,13 +4,14 @@ ghost use Rattle.graph_core.specs.Text.Numerals.{number_at};
 ghost use Rattle.graph_core.specs.Text.Readers.{behind_at};
 ghost use Rattle.graph_core.specs.Algebra.Reading.{factors_at, coefficient_at, product_at, term_at};
 ghost use Rattle.mv_text.specs.Steps.{IsMisfit, TakesNumber};
-ghost use Rattle.poly_text.specs.Values.{IsVariable, Signs, TakesFactors, TakesTerm};
+ghost use Rattle.poly_text.specs.Values.{IsTimes, IsVariable, Signs, TakesFactors, TakesTerm};
 
 use crate::numbers::{coefficient, variable};
 use crate::pac_reader::PacReader;
 use mv_desk::LineFail;
 use mv_nums::Residue;
-use mv_text::{Scanner, pushed};
+use mv_text::Scanner;
+use poly_terms::Variables;
 
 impl PacReader {
     ghost use Rattle.std.specs.Prelude.{codes};
@@ -20,9 +21,9 @@ impl PacReader {
         &self,
         scanner: &mut Scanner<'_>,
         negative: bool,
-    ) -> Result<Option<(u128, Vec<u32>)>, LineFail>
+    ) -> Result<Option<(u128, Variables)>, LineFail>
         ensures ok { IfOk result
-            (TakesTerm (term_at negative) self.now.max self.now.width scanner.old scanner.new) }
+            (TakesTerm (term_at negative) self.now.max self.now.exponent scanner.old scanner.new) }
         ensures err { IfErr result (IsMisfit (term_at negative scanner.old ≡ None)) }
     {
         if scanner.is_at_digit() {
@@ -37,14 +38,14 @@ impl PacReader {
         &self,
         scanner: &mut Scanner<'_>,
         negative: bool,
-    ) -> Result<Option<(u128, Vec<u32>)>, LineFail>
+    ) -> Result<Option<(u128, Variables)>, LineFail>
         ensures ok { IfOk result
-            (TakesTerm (coefficient_at negative) self.now.max self.now.width scanner.old
+            (TakesTerm (coefficient_at negative) self.now.max self.now.exponent scanner.old
             scanner.new) }
         ensures err { IfErr result (IsMisfit (coefficient_at negative scanner.old ≡ None)) }
     {
         let coefficient = coefficient(scanner)?;
-        let variables = self.factors(scanner, Some(Vec::new(self.alloc)))?;
+        let variables = self.factors(scanner, Some(Variables::new(self.alloc)))?;
         Ok(self.signed_term(negative, coefficient, variables))
     }
 
@@ -53,14 +54,14 @@ impl PacReader {
         &self,
         scanner: &mut Scanner<'_>,
         negative: bool,
-    ) -> Result<Option<(u128, Vec<u32>)>, LineFail>
+    ) -> Result<Option<(u128, Variables)>, LineFail>
         ensures ok { IfOk result
-            (TakesTerm (product_at negative) self.now.max self.now.width scanner.old scanner.new) }
+            (TakesTerm (product_at negative) self.now.max self.now.exponent scanner.old scanner.new) }
         ensures err { IfErr result (IsMisfit (product_at negative scanner.old ≡ None)) }
     {
         scanner.text(b"x")?;
         let first = variable(scanner, self.max)?;
-        let first = pushed(Some(Vec::new(self.alloc)), first)?;
+        let first = times(Some(Variables::new(self.alloc)), first)?;
         let variables = self.factors(scanner, first)?;
         Ok(self.signed_term(negative, Some(1), variables))
     }
@@ -69,15 +70,15 @@ impl PacReader {
     fn factors(
         &self,
         scanner: &mut Scanner<'_>,
-        before: Option<Vec<u32>>,
-    ) -> Result<Option<Vec<u32>>, LineFail>
+        before: Option<Variables>,
+    ) -> Result<Option<Variables>, LineFail>
         ensures ok { IfOk result (TakesFactors before self.now.max scanner.old scanner.new) }
         ensures err { IfErr result (IsMisfit (factors_at scanner.old ≡ None)) }
     {
         let mut variables = before;
         while scanner.is_at(b'*') {
             let variable = self.factor(scanner)?;
-            variables = pushed(variables, variable)?;
+            variables = times(variables, variable)?;
         }
         Ok(variables)
     }
@@ -99,24 +100,38 @@ impl PacReader {
         &self,
         negative: bool,
         coefficient: Option<u128>,
-        variables: Option<Vec<u32>>,
-    ) -> Option<(u128, Vec<u32>)>
-        ensures { Signs (2 ^ self.now.width) negative coefficient variables result }
+        variables: Option<Variables>,
+    ) -> Option<(u128, Variables)>
+        ensures { Signs (2 ^ self.now.exponent) negative coefficient variables result }
     {
         let coefficient = coefficient?;
         let variables = variables?;
         Some((self.signed(negative, coefficient), variables))
     }
 
-    // A coefficient with its sign, modulo 2^width.
+    // A coefficient with its sign, modulo 2^exponent.
     fn signed(&self, negative: bool, coefficient: u128) -> u128
         ensures plus { negative ≡ false → result ≡ coefficient }
-        ensures minus { negative ≡ true → (result + coefficient) % 2 ^ self.now.width ≡ 0 }
+        ensures minus { negative ≡ true → (result + coefficient) % 2 ^ self.now.exponent ≡ 0 }
     {
         if negative {
-            Residue::new(self.width, coefficient).neg().value()
+            Residue::new(self.exponent, coefficient).neg().value()
         } else {
             coefficient
         }
+    }
+}
+
+// Variables and one more, where both are there.
+fn times(variables: Option<Variables>, v: Option<u32>) -> Result<Option<Variables>, LineFail>
+    ensures ok { IfOk result (IsTimes variables v) }
+    ensures err { IfErr result (IsMisfit ⊥) }
+{
+    match (variables, v) {
+        (Some(mut variables), Some(v)) => {
+            variables.push(v).map_err(|_| LineFail::Memory)?;
+            Ok(Some(variables))
+        }
+        _ => Ok(None),
     }
 }

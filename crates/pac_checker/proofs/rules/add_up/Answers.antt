@@ -14,9 +14,9 @@ loop-id-preserved c =
     let i = c.loop-id.id-index in
     let item = c.loop-id-item.result in
     let live : first_missing (lines_of facts) ((get_or parts i item).0 ∷ []) ≡ None = subst (λ part. first_missing (lines_of facts) (part.0 ∷ []) ≡ None) c.loop-id-item.is c.in_ok-add_product.ensures.live in
-    let adds : AddsTo c.loop-id.sum c.add_product.new.sum (product_value facts (get_or parts i item).0 (get_or parts i item).1.now) =
-    subst (λ part. AddsTo c.loop-id.sum c.add_product.new.sum (product_value facts part.0 part.1.now)) c.loop-id-item.is c.in_ok-add_product.ensures.adds in
-    sums_step facts parts i item c.loop-id.sum c.add_product.new.sum c.loop-id-test.true live adds c.loop-id.invariant
+    let adds : AddsTo c.loop-id.products c.add_product.new.sum (product_value facts (get_or parts i item).0 (get_or parts i item).1.now) =
+    subst (λ part. AddsTo c.loop-id.products c.add_product.new.sum (product_value facts part.0 part.1.now)) c.loop-id-item.is c.in_ok-add_product.ensures.adds in
+    sums_step facts parts i item c.loop-id.products c.add_product.new.sum c.loop-id-test.true live adds c.loop-id.invariant
 
 pub returns-clause-sum : goal.returns-clause-sum
-returns-clause-sum c = sums_end c.args.live.now c.args.parts.now c.loop-id.id-index c.loop-id.sum (omega (arith, c.loop-id-test.false)) c.loop-id.invariant
+returns-clause-sum c = sums_end c.args.live.now c.args.parts.now c.loop-id.id-index c.loop-id.products (omega (arith, c.loop-id-test.false)) c.loop-id.invariant

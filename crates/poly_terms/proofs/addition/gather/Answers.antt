@@ -13,7 +13,7 @@ use Rattle.poly_terms.proofs.addition.gather.Goals as goal
 
 pub loop-entry-init : goal.loop-entry-init
 loop-entry-init c =
-    let m = 2 ^ c.args.width in
+    let m = 2 ^ c.args.exponent in
     let sorted = c.sort_unstable_by.new.self in
     let left = c.into_iter-entry-iterator.ensures.into_iter_gives in
     let up : IsSortedBy before sorted.items =
@@ -28,7 +28,7 @@ loop-entry-init c =
 
 pub loop-entry-preserved : goal.loop-entry-preserved
 loop-entry-preserved c =
-    let m = 2 ^ c.args.width in
+    let m = 2 ^ c.args.exponent in
     let at = c.loop-entry in
     let e = c.in-Some.entry in
     let rest = into_iter_items c.next.new.self in
@@ -38,7 +38,7 @@ loop-entry-preserved c =
     let short = ap length steps in
     let ascend : Ascend (e ∷ rest) = subst Ascend steps at.invariant.ascend in
     let more =
-    gathered_more m at.yielded at.out.items c.put_behind.new.out.items rest e (pow_pos c.args.width) at.invariant.gathered
+    gathered_more m at.yielded at.out.items c.put_behind.new.out.items rest e (pow_pos c.args.exponent) at.invariant.gathered
     (subst (λ xs. AllByRecursion (λ o. NoneBefore o xs) at.out.items) steps at.invariant.before) ascend.0 c.in_ok-put_behind.ensures in
     record {
       rest = append_assoc at.yielded (e ∷ []) _ ∙ rw (← steps) at.invariant.rest;
@@ -50,7 +50,7 @@ loop-entry-preserved c =
 
 pub returns : goal.returns
 returns c =
-    let m = 2 ^ c.args.width in
+    let m = 2 ^ c.args.exponent in
     let at = c.loop-entry in
     let none = c.in-None.ensures.steps in
     let empty : into_iter_items at.entry-iterator ≡ [] = nothing _ (sym at.invariant.len ∙ none.0) in
@@ -61,7 +61,7 @@ returns c =
 
 pub returns-then-is_orderly-2 : goal.returns-then-is_orderly-2
 returns-then-is_orderly-2 c =
-    let m = 2 ^ c.args.width in
+    let m = 2 ^ c.args.exponent in
     let sorted = c.sort_unstable_by.new.self.items in
     let orderly : IsOrderly m sorted = subst (IsOrderly m) c.deref-2.ensures.value (c.is_orderly-2.ensures c.if-is_orderly-2.true) in
     gathered_permuted m c.args.raw.items sorted sorted c.sort_unstable_by.ensures.permutation (gathered_itself m sorted orderly)

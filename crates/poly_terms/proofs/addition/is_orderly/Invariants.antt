@@ -5,7 +5,7 @@ use Rattle.poly_terms.proofs.addition.is_orderly.Given as goal
 abbrev pub invariant-loop-i : goal.invariant-loop-i
 invariant-loop-i l = record {
   within : l.i ≤ length l.entries;
-  orderly : IsOrderly (2 ^ l.width) (drop l.i l.entries);
+  orderly : IsOrderly (2 ^ l.exponent) (drop l.i l.entries);
 }
 
 abbrev pub decreases-loop-i : goal.decreases-loop-i

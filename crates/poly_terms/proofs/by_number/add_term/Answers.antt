@@ -19,10 +19,10 @@ returns-clause-terms c =
     let n = c.in_ok-number.number in
     let low = c.in_ok-number.ensures.number.in_table in
     subst (AreByNumber new) (sym c.add_at.ensures)
-    (by_number_set new n (((get_or mid n (0, 0)).1 + c.args.coefficient) % 2 ^ c.args.width) mid low c.in_ok-reach.ensures.long
+    (by_number_set new n (((get_or mid n (0, 0)).1 + c.args.coefficient) % 2 ^ c.args.exponent) mid low c.in_ok-reach.ensures.long
     (by_number_reached new n old mid low c.in_ok-reach.ensures.reaches (by_number_grown c.args.table.now new old c.in_ok-number.ensures.grows c.requires.terms)))
 
 pub returns-clause-adds : goal.returns-clause-adds
 returns-clause-adds c =
-    term_added (2 ^ c.args.width) c.args.table.now c.intern.new.self c.args.terms.now.items c.reach.new.terms.items c.add_at.new.terms.items c.in_ok-number.number c.args.coefficient
-    c.args.monomial.items (pow_pos c.args.width) c.in_ok-number.ensures.grows c.in_ok-number.ensures.number c.requires.terms c.in_ok-reach.ensures.reaches c.in_ok-reach.ensures.long c.add_at.ensures
+    term_added (2 ^ c.args.exponent) c.args.table.now c.intern.new.self c.args.terms.now.items c.reach.new.terms.items c.add_at.new.terms.items c.in_ok-number.number c.args.coefficient
+    c.args.monomial.items (pow_pos c.args.exponent) c.in_ok-number.ensures.grows c.in_ok-number.ensures.number c.requires.terms c.in_ok-reach.ensures.reaches c.in_ok-reach.ensures.long c.add_at.ensures

@@ -19,7 +19,7 @@ loop-entry-init c =
     let out = c.reserve.new.self.items in
     record {
       grows = grows_itself old;
-      adds = adds_none (2 ^ c.args.width) old old out out (λ σ. c.args.coefficient * product σ c.args.monomial.now.items * total_in old σ (take 0 c.args.entries.now)) (grows_itself old) refl
+      adds = adds_none (2 ^ c.args.exponent) old old out out (λ σ. c.args.coefficient * product σ c.args.monomial.now.items * total_in old σ (take 0 c.args.entries.now)) (grows_itself old) refl
           (λ σ. mul-zero (c.args.coefficient * product σ c.args.monomial.now.items));
     }
 
@@ -35,7 +35,7 @@ loop-entry-preserved c =
     let a : Assignment → ℕ = λ σ. c.args.coefficient * product σ c.args.monomial.now.items in
     record {
       grows = grows_on old mid new at.grows c.push_product.ensures.grows;
-      adds = adds_on (2 ^ c.args.width) old mid new c.reserve.new.self.items c.loop-entry.out.items c.push_product.new.out.items
+      adds = adds_on (2 ^ c.args.exponent) old mid new c.reserve.new.self.items c.loop-entry.out.items c.push_product.new.out.items
           (λ σ. a σ * total_in old σ (take i es)) (λ σ. a σ * (e.1 * product σ (get_or mid e.0 []))) (λ σ. a σ * total_in old σ (take (i + 1) es))
           at.adds c.in_ok-push_product.ensures.adds
           (λ σ. one_more_product old mid (a σ) σ es i e at.grows c.requires.entries c.loop-entry-test.true c.entry-item.is);

@@ -27,7 +27,7 @@ loop-by-preserved c =
     let at = c.loop-by.invariant in
     record {
       grows = grows_on old mid new at.grows c.multiply_by.ensures.grows;
-      adds = adds_on (2 ^ c.args.width) old mid new [] c.loop-by.out.items c.multiply_by.new.out.items
+      adds = adds_on (2 ^ c.args.exponent) old mid new [] c.loop-by.out.items c.multiply_by.new.out.items
           (λ σ. total_in old σ left * total_in old σ (take i right)) (λ σ. e.1 * product σ (get_or mid e.0 []) * total_in mid σ left) (λ σ. total_in old σ left * total_in old σ (take (i + 1) right))
           at.adds c.in_ok-multiply_by.ensures.adds
           (λ σ. one_more_row old mid σ left right i e at.grows c.requires.left c.requires.right c.loop-by-test.true c.by-item.is);

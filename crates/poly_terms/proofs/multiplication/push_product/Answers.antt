@@ -9,7 +9,7 @@ use Rattle.poly_terms.proofs.multiplication.push_product.Goals as goal
 
 pub returns-clause-adds : goal.returns-clause-adds
 returns-clause-adds c =
-    let m = 2 ^ c.args.width in
+    let m = 2 ^ c.args.exponent in
     let table = c.args.table.now in
     let e = c.args.entry.now in
     let vs = c.args.monomial.now.items in

@@ -12,7 +12,7 @@ pub loop-entry-preserved : goal.loop-entry-preserved
 loop-entry-preserved c =
     let old = c.args.table.now in
     let mid = c.loop-entry.table in
-    let m = 2 ^ c.args.width in
+    let m = 2 ^ c.args.exponent in
     let v = c.args.v in
     let by = c.args.by.now in
     let places = c.args.places.now in

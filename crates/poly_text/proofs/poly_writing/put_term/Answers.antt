@@ -15,7 +15,7 @@ pub signed-negative-requires-clause-below : goal.signed-negative-requires-clause
 signed-negative-requires-clause-below g c =
     let t = c.args.terms.now in
     let p = c.args.poly.now in
-    rw (coefficient_here t p c.requires.of c.args.i c.requires.place c.coefficient.result c.coefficient.ensures, c.width.ensures.width) (normal_here t p c.requires.of c.args.i c.requires.place).2
+    rw (coefficient_here t p c.requires.of c.args.i c.requires.place c.coefficient.result c.coefficient.ensures, c.exponent.ensures.exponent) (normal_here t p c.requires.of c.args.i c.requires.place).2
 
 pub returns-clause-puts : goal.returns-clause-puts
 returns-clause-puts g c =
@@ -24,7 +24,7 @@ returns-clause-puts g c =
     let term = get_or (monomials_in t p) c.args.i none in
     let coefficient = coefficient_here t p c.requires.of c.args.i c.requires.place c.coefficient.result c.coefficient.ensures in
     let variables = variables_here t p c.requires.of c.args.i c.requires.place c.vars.result.now c.vars.ensures in
-    let m : 2 ^ c.width.result ≡ modulus t = ap (λ w. 2 ^ w) c.width.ensures.width in
+    let m : 2 ^ c.exponent.result ≡ modulus t = ap (λ w. 2 ^ w) c.exponent.ensures.exponent in
     let sign = c.signed-negative.ensures.sign ∙ ap₂ (λ k n. nat_lt k (2 * n)) m coefficient in
     let lesser = c.signed-negative.ensures.lesser ∙ ap₂ lesser_of m coefficient in
     Puts-then (Puts-is (c.sign.ensures.text ∙ ap (sign_text (c.args.i == 0)) sign) c.put.ensures.puts)

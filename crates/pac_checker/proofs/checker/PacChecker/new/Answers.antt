@@ -7,8 +7,8 @@ use Rattle.poly_terms.specs.Laws.{modulus_stays}
 use Rattle.gate_axioms.proofs.CallerLemmas.{axioms_within, fresh_above}
 use Rattle.pac_checker.proofs.checker.PacChecker.new.Goals as goal
 
--- a table with the number of outputs as its width has the modulus of the graph
-table_modulus : (t s : Table) (e : Extended) (outputs : ℕ) → t ≡ s → s.width ≡ outputs → outputs ≡ length e.graph.outputs → modulus t ≡ algebra.modulus e
+-- a table with the number of outputs as its exponent has the modulus of the graph
+table_modulus : (t s : Table) (e : Extended) (outputs : ℕ) → t ≡ s → s.exponent ≡ outputs → outputs ≡ length e.graph.outputs → modulus t ≡ algebra.modulus e
 table_modulus t s e outputs same wide is = ap modulus same ∙ ap (λ w. 2 ^ w) (wide ∙ is)
 
 last_is : (e : Extended) (a b max outputs : ℕ) → a ≡ max → max ≡ e.max → b ≡ outputs → outputs ≡ length e.graph.outputs → a + b ≡ (axioms e).last

@@ -19,4 +19,4 @@ returns c =
     let p' = c.entries.result.now in
     let q' = c.entries-2.result.now in
     adds_alike c.args.self.now c.add_all.new.self (λ σ. total_in ms σ p' * total_in ms σ q') (λ σ. value_in t p σ * value_in t q σ) c.in_ok-add_all.ensures
-    (λ σ. product_alike t c.args.self.now.width ms p q p' q' σ c.requires.width c.numbering.ensures c.entries.ensures c.entries-2.ensures)
+    (λ σ. product_alike t c.args.self.now.exponent ms p q p' q' σ c.requires.exponent c.numbering.ensures c.entries.ensures c.entries-2.ensures)

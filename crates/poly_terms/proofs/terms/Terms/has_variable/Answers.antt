@@ -5,11 +5,11 @@ use Rattle.poly_terms.proofs.terms.Terms.has_variable.Goals as goal
 
 pub has_variable-requires : goal.has_variable-requires
 has_variable-requires c =
-    numbers_of c.self.inside.width c.self.inside.monomials c.args.self.now c.args.p.now c.entries.result.now c.self.view_is c.entries.ensures c.requires
+    numbers_of c.self.inside.exponent c.self.inside.monomials c.args.self.now c.args.p.now c.entries.result.now c.self.view_is c.entries.ensures c.requires
 
 pub returns-clause-places : goal.returns-clause-places
 returns-clause-places c =
-    let w = c.self.inside.width in
+    let w = c.self.inside.exponent in
     let ms = c.self.inside.monomials in
     let p' = c.entries.result.now in
     let are = places_are w c.args.v ms c.args.self.now c.args.p.now p' c.self.view_is c.entries.ensures in (

@@ -9,19 +9,19 @@ quotients-requires-clause-order c = order_of c.args.self.now c.args.p.now c.entr
 
 pub quotients-requires-clause-entries : goal.quotients-requires-clause-entries
 quotients-requires-clause-entries c =
-    numbers_of c.self.inside.width c.self.inside.monomials c.args.self.now c.args.p.now c.entries.result.now c.self.view_is c.entries.ensures c.requires.of
+    numbers_of c.self.inside.exponent c.self.inside.monomials c.args.self.now c.args.p.now c.entries.result.now c.self.view_is c.entries.ensures c.requires.of
 
 pub quotients-requires-clause-places : goal.quotients-requires-clause-places
 quotients-requires-clause-places c =
-    places_along c.self.inside.width c.args.v c.self.inside.monomials c.args.self.now c.args.p.now c.entries.result.now c.args.places.now c.self.view_is c.entries.ensures c.requires.places
+    places_along c.self.inside.exponent c.args.v c.self.inside.monomials c.args.self.now c.args.p.now c.entries.result.now c.args.places.now c.self.view_is c.entries.ensures c.requires.places
 
 pub returns-clause-of : goal.returns-clause-of
 returns-clause-of c =
-    made-IsOf c.self.inside.width c.quotients.new.table c.in_ok-raw.raw.items c.in_ok-entries.entries.items c.of.result c.of.ensures c.stand_once.ensures
-    ((c.in_ok-raw.ensures.adds (2 ^ c.self.inside.width)).numbers tt) c.in_ok-entries.ensures
+    made-IsOf c.self.inside.exponent c.quotients.new.table c.in_ok-raw.raw.items c.in_ok-entries.entries.items c.of.result c.of.ensures c.stand_once.ensures
+    ((c.in_ok-raw.ensures.adds (2 ^ c.self.inside.exponent)).numbers tt) c.in_ok-entries.ensures
 
 pub returns-clause-value : goal.returns-clause-value
 returns-clause-value c σ =
-    let w = c.self.inside.width in
+    let w = c.self.inside.exponent in
     quotient-value w c.args.v c.self.inside.monomials c.quotients.new.table c.args.self.now c.args.p.now c.entries.result.now c.in_ok-raw.raw.items c.in_ok-entries.entries.items c.of.result σ
     c.self.view_is c.entries.ensures c.requires.variable c.of.ensures (c.in_ok-raw.ensures.adds (2 ^ w)) c.in_ok-entries.ensures

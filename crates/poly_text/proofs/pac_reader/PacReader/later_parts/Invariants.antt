@@ -6,7 +6,7 @@ use Rattle.poly_text.proofs.pac_reader.PacReader.later_parts.Given as goal
 abbrev pub invariant-loop-scanner : goal.invariant-loop-scanner
 invariant-loop-scanner l = record {
   extends : Extends l.initial.terms l.terms;
-  modulus_is : modulus l.terms ≡ 2 ^ l.self.width;
+  modulus_is : modulus l.terms ≡ 2 ^ l.self.exponent;
   so_far : ArePartsSoFar l.terms l.self.max l.fn.before l.initial.scanner l.scanner l.parts;
 }
 

@@ -8,7 +8,7 @@ use Rattle.poly_text.proofs.PolynomialSteps.{terms_begin, terms_more, terms_turn
 use Rattle.poly_text.proofs.pac_reader.PacReader.later_terms.Goals as goal
 
 pub loop-scanner-init : goal.loop-scanner-init
-loop-scanner-init c = terms_begin (2 ^ c.args.self.now.width) c.args.self.now.max c.args.before c.args.scanner.now
+loop-scanner-init c = terms_begin (2 ^ c.args.self.now.exponent) c.args.self.now.max c.args.before c.args.scanner.now
 
 pub returns-in_err-term-clause-err : goal.returns-in_err-term-clause-err
 returns-in_err-term-clause-err c =
@@ -21,7 +21,7 @@ loop-scanner-smaller c = signed_term_fewer c.loop-scanner.scanner _ c.later_term
 
 pub loop-scanner-preserved : goal.loop-scanner-preserved
 loop-scanner-preserved c =
-    terms_more (2 ^ c.args.self.now.width) c.args.self.now.max c.args.before c.args.scanner.now c.loop-scanner.scanner c.later_term.new.scanner c.loop-scanner.terms c.in_ok-term.term c.in_ok-terms.terms
+    terms_more (2 ^ c.args.self.now.exponent) c.args.self.now.max c.args.before c.args.scanner.now c.loop-scanner.scanner c.later_term.new.scanner c.loop-scanner.terms c.in_ok-term.term c.in_ok-terms.terms
     (sym c.is_at_sign.ensures ∙ c.loop-scanner-test.true) c.loop-scanner.invariant c.in_ok-term.ensures.ok c.in_ok-terms.ensures.ok
 
 pub returns-clause-ok : goal.returns-clause-ok
