@@ -1,0 +1,3 @@
+pub mod ReadCounts
+pub mod TakenSteps
+pub mod TablesMade
