@@ -15,8 +15,6 @@ mod fail;
 mod files;
 mod reading;
 mod single;
-#[cfg(test)]
-mod tests;
 mod texts;
 
 pub use command::Command;

@@ -11,8 +11,6 @@ mod column_goals;
 mod gates;
 mod goal;
 mod literals;
-#[cfg(test)]
-mod tests;
 
 pub use column_goals::goals;
 pub use gates::{gate_clauses, gate_clauses_of};

@@ -17,8 +17,6 @@ mod memory;
 mod names;
 mod real;
 mod slot;
-#[cfg(test)]
-mod tests;
 mod whole;
 
 pub use desk::{Desk, Failed};

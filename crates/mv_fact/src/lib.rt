@@ -14,8 +14,6 @@ mod fact;
 mod fault;
 mod grow;
 mod live;
-#[cfg(test)]
-mod tests;
 
 pub use fact::Fact;
 pub use fault::{InsertFail, NoSuchId};

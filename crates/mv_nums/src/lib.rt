@@ -11,8 +11,6 @@
 mod number_fault;
 mod numeral;
 mod residue;
-#[cfg(test)]
-mod tests;
 
 pub use number_fault::NumberFault;
 pub use numeral::{print, read_decimal};

@@ -15,8 +15,6 @@ mod extended;
 mod fault;
 mod grafting;
 mod laws;
-#[cfg(test)]
-mod tests;
 
 pub use cut::{Cut, Pairs};
 pub use extended::Extended;

@@ -13,8 +13,6 @@ mod ground;
 mod literal;
 mod propagator;
 mod reference;
-#[cfg(test)]
-mod tests;
 mod trail;
 mod visits;
 mod watches;

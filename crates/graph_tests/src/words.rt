@@ -1,5 +1,5 @@
-// Words that are read, and words that are refused.
-use crate::{Command, WordsFail, plain_words, read_words};
+// command_line: words that are read, and words that are refused.
+use command_line::{Command, WordsFail, plain_words, read_words};
 use std::alloc::Global;
 use std::test::Fail;
 

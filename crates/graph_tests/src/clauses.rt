@@ -1,5 +1,5 @@
-// Clauses and lists of them, over small constants.
-use crate::{Clause, ClauseList};
+// clause_core: clauses and lists of them, over small constants.
+use clause_core::{Clause, ClauseList};
 use std::test::Fail;
 
 #[test]

@@ -1,5 +1,5 @@
-// Numbers printed and read, and residues.
-use crate::{NumberFault, Residue, print, read_decimal};
+// mv_nums: numbers printed and read, and residues.
+use mv_nums::{NumberFault, Residue, print, read_decimal};
 use std::test::Fail;
 
 #[test]

@@ -1,8 +1,8 @@
-// A small fact, live as its table grows.
+// mv_fact: a small fact, live as its table grows.
 ghost use Rattle.std.specs.Prelude.{◌≡◌, ◌≤◌, ◌+◌};
 
-use crate::{Fact, Grow, GrowFrom, InsertFail, Live, NoSuchId};
 use graph_core::{Gate, Lit};
+use mv_fact::{Fact, Grow, GrowFrom, InsertFail, Live, NoSuchId};
 use std::test::Fail;
 
 // The greatest variable in use.

@@ -1,7 +1,7 @@
 use Rattle.std.proofs.Common.{◌≡◌}
 use Rattle.std.specs.Option.{IsSome}
 use Rattle.unit_prop.specs.Standing.{clause_at}
-use Rattle.unit_prop.proofs.tests.implications.Given as goal
+use Rattle.graph_tests.proofs.implications.implications.Given as goal
 
 abbrev pub invariant-loop-step : goal.invariant-loop-step
 invariant-loop-step l = l.p.trail.greatest ≡ 1000

@@ -1,25 +1,15 @@
-// Desks in memory and on the machine, and whole files over them.
-ghost use Rattle.std.specs.Prelude.{◌<◌, IfOk};
+// mv_desk: desks in memory and on the machine, and whole files over them.
+ghost use Rattle.std.specs.Prelude.{◌<◌};
 ghost use Rattle.mv_desk.specs.View.{HasReport};
 
-use crate::{
-    Desk, Failed, HonestDesk, MemoryDesk, Names, ReadFault, RealDesk, Slot, WriteFault, read_front,
-    write_all,
+use crate::fixtures::desk_of;
+use mv_desk::{
+    Desk, Failed, HonestDesk, Names, ReadFault, RealDesk, Slot, WriteFault, read_front, write_all,
 };
-use std::alloc::{AllocError, Global};
+use std::alloc::Global;
 use std::test::Fail;
 
-// A file `g` of the bytes `hello`, read in these pieces, over a desk that fails at these calls.
-fn desk_of(alloc: Global, pieces: &[usize], fails: &[u64]) -> Result<MemoryDesk, AllocError>
-    ensures { IfOk result (λ desk. HasReport (⟦<MemoryDesk as Desk>⟧.seen desk)) }
-{
-    let mut files = Vec::new(alloc);
-    let name = String::from_str(alloc, "g")?;
-    files.push((name, Vec::from_slice(alloc, b"hello")?))?;
-    let pieces = Vec::from_slice(alloc, pieces)?;
-    let fails = Vec::from_slice(alloc, fails)?;
-    Ok(MemoryDesk::new(alloc, files, pieces, fails))
-}
+const HELLO: &[u8] = b"hello";
 
 // Opens a file and reads it whole.
 fn front_of<D: Desk>(
@@ -64,7 +54,7 @@ fn report<D: Desk>(desk: &mut D) -> Result<(), WriteFault>
 
 #[test]
 fn reads_are_cut_into_pieces(rt: HostRuntime) -> Result<(), Fail> {
-    let mut desk = desk_of(rt.alloc(), &[1, 3], &[])?;
+    let mut desk = desk_of(rt.alloc(), HELLO, &[1, 3], &[])?;
     assert!(rt; reads_of(&mut desk, "g") == Ok([1, 3, 1]));
     assert!(rt; desk.rest(Slot::Graph).is_empty());
     Ok(())
@@ -72,22 +62,22 @@ fn reads_are_cut_into_pieces(rt: HostRuntime) -> Result<(), Fail> {
 
 #[test]
 fn a_file_in_pieces_is_read_to_its_end(rt: HostRuntime) -> Result<(), Fail> {
-    let mut desk = desk_of(rt.alloc(), &[1, 3], &[])?;
+    let mut desk = desk_of(rt.alloc(), HELLO, &[1, 3], &[])?;
     let bytes = front_of(rt.alloc(), &mut desk, "g", 9)?;
-    assert!(rt; bytes.as_slice() == b"hello".as_slice());
+    assert!(rt; bytes.as_slice() == HELLO);
     Ok(())
 }
 
 #[test]
 fn a_file_of_exactly_the_limit_is_read(rt: HostRuntime) -> Result<(), Fail> {
-    let mut desk = desk_of(rt.alloc(), &[1, 3], &[])?;
+    let mut desk = desk_of(rt.alloc(), HELLO, &[1, 3], &[])?;
     assert!(rt; front_of(rt.alloc(), &mut desk, "g", 5)?.len() == 5);
     Ok(())
 }
 
 #[test]
 fn a_byte_past_the_limit_is_read_and_no_piece_more(rt: HostRuntime) -> Result<(), Fail> {
-    let mut desk = desk_of(rt.alloc(), &[1, 3], &[])?;
+    let mut desk = desk_of(rt.alloc(), HELLO, &[1, 3], &[])?;
     let bytes = front_of(rt.alloc(), &mut desk, "g", 3)?;
     assert!(rt; bytes.as_slice() == b"hell".as_slice());
     assert!(rt; desk.rest(Slot::Graph) == b"o".as_slice());
@@ -96,7 +86,7 @@ fn a_byte_past_the_limit_is_read_and_no_piece_more(rt: HostRuntime) -> Result<()
 
 #[test]
 fn calls_fail_by_their_list(rt: HostRuntime) -> Result<(), Fail> {
-    let mut desk = desk_of(rt.alloc(), &[2], &[1, 4])?;
+    let mut desk = desk_of(rt.alloc(), HELLO, &[2], &[1, 4])?;
     assert!(rt; reads_of(&mut desk, "g") == Err(Failed));
     let read = front_of(rt.alloc(), &mut desk, "g", 9);
     assert!(rt; matches!(read, Err(ReadFault::Fault)));
@@ -107,7 +97,7 @@ fn calls_fail_by_their_list(rt: HostRuntime) -> Result<(), Fail> {
 
 #[test]
 fn a_write_that_fails_leaves_what_was_written(rt: HostRuntime) -> Result<(), Fail> {
-    let mut desk = desk_of(rt.alloc(), &[], &[2])?;
+    let mut desk = desk_of(rt.alloc(), HELLO, &[], &[2])?;
     assert!(rt; report(&mut desk) == Err(WriteFault));
     assert!(rt; desk.out(Slot::Report) == b"proved\n".as_slice());
     Ok(())
@@ -115,7 +105,7 @@ fn a_write_that_fails_leaves_what_was_written(rt: HostRuntime) -> Result<(), Fai
 
 #[test]
 fn a_file_that_is_created_loses_its_bytes(rt: HostRuntime) -> Result<(), Fail> {
-    let mut desk = desk_of(rt.alloc(), &[], &[])?;
+    let mut desk = desk_of(rt.alloc(), HELLO, &[], &[])?;
     write_file(&mut desk, "g", b"new")?;
     assert!(rt; desk.bytes("g") == Some(b"new".as_slice()));
     assert!(rt; desk.bytes("h") == None);

@@ -1,31 +1,10 @@
-// The clauses and goals of a two-bit graph.
-use crate::{gate_clauses, goals};
+// miter_encoder: the clauses and goals of a two-bit graph.
+use crate::fixtures::two_bit_array;
 use clause_core::ClauseList;
-use graph_core::{Graph, Lit};
+use graph_core::Lit;
+use miter_encoder::{gate_clauses, goals};
 use ripple_graft::{Cut, Pairs, graft};
-use std::alloc::Global;
 use std::test::Fail;
-
-// An array multiplier of two bits: four partial products, and an adder of two half adders.
-const TWO_BIT_ARRAY: [(Lit, Lit, Lit); 10] = [
-    (Lit(10), Lit(6), Lit(2)),
-    (Lit(12), Lit(6), Lit(4)),
-    (Lit(14), Lit(8), Lit(2)),
-    (Lit(16), Lit(8), Lit(4)),
-    (Lit(18), Lit(14), Lit(12)),
-    (Lit(20), Lit(15), Lit(13)),
-    (Lit(22), Lit(21), Lit(19)),
-    (Lit(24), Lit(18), Lit(16)),
-    (Lit(26), Lit(19), Lit(17)),
-    (Lit(28), Lit(27), Lit(25)),
-];
-
-fn two_bit_array(alloc: Global) -> Result<Graph, Fail> {
-    let inputs = vec![in alloc; Lit(2), Lit(4), Lit(6), Lit(8)]?;
-    let outputs = vec![in alloc; Lit(10), Lit(22), Lit(28), Lit(24)]?;
-    let gates = Vec::from_slice(alloc, &TWO_BIT_ARRAY)?;
-    Ok(Graph::build(alloc, 14, inputs, outputs, gates)?)
-}
 
 // The literals of the clause at a place.
 fn lits_at(clauses: &ClauseList, i: usize) -> Option<&[i32]> {

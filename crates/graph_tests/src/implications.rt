@@ -1,13 +1,13 @@
-// Chains of implications.
+// unit_prop: chains of implications.
 ghost use Rattle.std.specs.Prelude.{◌≡◌, ◌<ℤ◌, pos, IfOk, IsSome};
 ghost use Rattle.unit_prop.specs.Trail.{IsWithin};
 ghost use Rattle.unit_prop.specs.Standing.{clause_at};
 ghost use Rattle.unit_prop.specs.Rows.{Adds, Extends};
 
-use crate::{Assumed, Propagator, Ref};
 use clause_core::Clause;
 use graph_core::Memory;
 use std::alloc::Global;
+use unit_prop::{Assumed, Propagator, Ref};
 
 // Each variable from 1 to 999 implies the next one.
 fn add_implication(alloc: Global, p: &mut Propagator, v: i32) -> Result<Ref, Memory>

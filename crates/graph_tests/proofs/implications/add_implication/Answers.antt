@@ -2,7 +2,7 @@ use Rattle.std.proofs.Common.{◌≡◌, ◌∷◌, [], ◌∙◌, ap, subst, �
 use Rattle.std.proofs.lemmas.Int.{ints, to_z-of_z}
 use Rattle.clause_core.specs.Clause.{IsSubset}
 use Rattle.unit_prop.proofs.RowLemmas.{adds_none, adds_one, implied, live_one}
-use Rattle.unit_prop.proofs.tests.add_implication.Goals as goal
+use Rattle.graph_tests.proofs.implications.add_implication.Goals as goal
 
 pub returns-in_err-added-clause-adds : goal.returns-in_err-added-clause-adds
 returns-in_err-added-clause-adds c = adds_none _ _ c.in_err-added.ensures.err

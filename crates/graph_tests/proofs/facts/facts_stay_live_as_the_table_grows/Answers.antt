@@ -2,8 +2,8 @@ use Rattle.std.proofs.Common.{◌≡◌, ◌≤◌, true, lit<, lit≤, List, []
 use Rattle.graph_core.specs.Graph.Assignments.{Assignment, variable}
 use Rattle.graph_core.specs.Graph.{IsEvaluation}
 use Rattle.graph_core.specs.declared.Gate.{Gate}
-use Rattle.mv_fact.specs.declared.tests.Greatest.{Greatest}
-use Rattle.mv_fact.proofs.tests.facts_stay_live_as_the_table_grows.Goals as goal
+use Rattle.graph_tests.specs.declared.facts.Greatest.{Greatest}
+use Rattle.graph_tests.proofs.facts.facts_stay_live_as_the_table_grows.Goals as goal
 
 one_gate : Gate
 one_gate = record { v = 1; left = record { 0 = 1 }; right = record { 0 = 1 } }
