@@ -20,8 +20,6 @@ mod plan;
 mod reduced;
 mod reduction;
 mod settling;
-#[cfg(test)]
-mod tests;
 mod walk;
 
 pub use plain::plain_plan;

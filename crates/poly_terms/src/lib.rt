@@ -32,8 +32,6 @@ mod sum_of_products;
 mod table_laws;
 mod term;
 mod terms;
-#[cfg(test)]
-mod tests;
 
 pub use poly::Poly;
 pub use sum_of_products::SumOfProducts;
