@@ -22,8 +22,6 @@ mod reduced;
 mod reduction;
 mod settling;
 mod slice;
-#[cfg(test)]
-mod tests;
 mod walk;
 
 pub use plain::plain_plan;

@@ -14,11 +14,41 @@ use Rattle.mv_desk.specs.declared.slot.Slot.TheVariants.{Algebra, Clauses, Graph
 
 -- a fact of one slot, and of each other one
 pub each_slot : (P : Slot → Type 0) (slot : Slot) → P slot → ((other : Slot) → other ≢ slot → P other) → (each : Slot) → P each
-each_slot P Graph here others = λ each. elim each as P [ Graph ↦ here | Other ↦ others Other (λ e. cc) | Clauses ↦ others Clauses (λ e. cc) | Algebra ↦ others Algebra (λ e. cc) | Report ↦ others Report (λ e. cc) ]
-each_slot P Other here others = λ each. elim each as P [ Graph ↦ others Graph (λ e. cc) | Other ↦ here | Clauses ↦ others Clauses (λ e. cc) | Algebra ↦ others Algebra (λ e. cc) | Report ↦ others Report (λ e. cc) ]
-each_slot P Clauses here others = λ each. elim each as P [ Graph ↦ others Graph (λ e. cc) | Other ↦ others Other (λ e. cc) | Clauses ↦ here | Algebra ↦ others Algebra (λ e. cc) | Report ↦ others Report (λ e. cc) ]
-each_slot P Algebra here others = λ each. elim each as P [ Graph ↦ others Graph (λ e. cc) | Other ↦ others Other (λ e. cc) | Clauses ↦ others Clauses (λ e. cc) | Algebra ↦ here | Report ↦ others Report (λ e. cc) ]
-each_slot P Report here others = λ each. elim each as P [ Graph ↦ others Graph (λ e. cc) | Other ↦ others Other (λ e. cc) | Clauses ↦ others Clauses (λ e. cc) | Algebra ↦ others Algebra (λ e. cc) | Report ↦ here ]
+each_slot P Graph here others = λ each. elim each as P [
+  | Graph ↦ here
+  | Other ↦ others Other (λ e. cc)
+  | Clauses ↦ others Clauses (λ e. cc)
+  | Algebra ↦ others Algebra (λ e. cc)
+  | Report ↦ others Report (λ e. cc)
+]
+each_slot P Other here others = λ each. elim each as P [
+  | Graph ↦ others Graph (λ e. cc)
+  | Other ↦ here
+  | Clauses ↦ others Clauses (λ e. cc)
+  | Algebra ↦ others Algebra (λ e. cc)
+  | Report ↦ others Report (λ e. cc)
+]
+each_slot P Clauses here others = λ each. elim each as P [
+  | Graph ↦ others Graph (λ e. cc)
+  | Other ↦ others Other (λ e. cc)
+  | Clauses ↦ here
+  | Algebra ↦ others Algebra (λ e. cc)
+  | Report ↦ others Report (λ e. cc)
+]
+each_slot P Algebra here others = λ each. elim each as P [
+  | Graph ↦ others Graph (λ e. cc)
+  | Other ↦ others Other (λ e. cc)
+  | Clauses ↦ others Clauses (λ e. cc)
+  | Algebra ↦ here
+  | Report ↦ others Report (λ e. cc)
+]
+each_slot P Report here others = λ each. elim each as P [
+  | Graph ↦ others Graph (λ e. cc)
+  | Other ↦ others Other (λ e. cc)
+  | Clauses ↦ others Clauses (λ e. cc)
+  | Algebra ↦ others Algebra (λ e. cc)
+  | Report ↦ here
+]
 
 pub ModeStays-refl : (slot : Slot) (a : View) → ModeStays slot a a
 ModeStays-refl slot a = record { reads = refl; writes = refl; name = refl }
@@ -197,7 +227,8 @@ BytesGrow-trans (Some (Some name)) a b c p q first second = HeldGrows-trans (a.h
 OtherStays-refl : (name : Option (Option (List ℕ))) (slot : Slot) (a : View) → OtherStays name slot a a
 OtherStays-refl name slot a = record { mode = ModeStays-refl slot a; written = refl; left = λ _. refl }
 
-OtherStays-trans : (name : Option (Option (List ℕ))) (slot : Slot) (a b c : View) → OtherStays name slot a b → OtherStays name slot b c → OtherStays name slot a c
+OtherStays-trans : (name : Option (Option (List ℕ))) (slot : Slot) (a b c : View) → OtherStays name slot a b →
+    OtherStays name slot b c → OtherStays name slot a c
 OtherStays-trans name slot a b c p q = record {
   mode = ModeStays-trans slot a b c p.mode q.mode;
   written = q.written ∙ p.written;
@@ -220,8 +251,10 @@ WritesTo-trans slot a b c p q first second =
       mode = ModeStays-trans slot a b c first.mode second.mode;
       written = Appends-trans (a.written slot) (b.written slot) (c.written slot) p q first.written second.written;
       bytes = BytesGrow-trans (a.name slot) a b c p q first.bytes (subst (λ (name : Option (Option (List ℕ))). BytesGrow name b c q) same second.bytes);
-      others = λ other apart. OtherStays-trans (a.name slot) other a b c (first.others other apart) (subst (λ (name : Option (Option (List ℕ))). OtherStays name other b c) same (second.others other apart));
-      held = λ name apart. second.held name (subst (λ (own : Option (Option (List ℕ))). AreApart own (Some (Some name))) (sym same) apart) ∙ first.held name apart;
+      others = λ other apart. OtherStays-trans (a.name slot) other a b c (first.others other apart)
+          (subst (λ (name : Option (Option (List ℕ))). OtherStays name other b c) same (second.others other apart));
+      held = λ name apart. second.held name (subst (λ (own : Option (Option (List ℕ))). AreApart own (Some (Some name))) (sym same) apart) ∙
+          first.held name apart;
     }
 
 -- a call that changed nothing wrote nothing
@@ -268,18 +301,21 @@ HasWriteCause-then done a b c (Err e) p q =
 
 starts_longer : (xs ys prefix : List ℕ) → StartsWith xs prefix → StartsWith (xs ++ ys) prefix
 starts_longer xs ys prefix h =
-    starts_with_of_append (xs ++ ys) prefix (drop (length prefix) xs ++ ys) (ap (λ (l : List ℕ). l ++ ys) (starts_with_rest xs prefix h) ∙ append_assoc prefix (drop (length prefix) xs) ys)
+    starts_with_of_append (xs ++ ys) prefix (drop (length prefix) xs ++ ys) (ap (λ (l : List ℕ). l ++ ys) (starts_with_rest xs prefix h) ∙
+    append_assoc prefix (drop (length prefix) xs) ys)
 
 starts_behind : (front xs prefix : List ℕ) → StartsWith xs prefix → StartsWith (front ++ xs) (front ++ prefix)
 starts_behind front xs prefix h =
-    starts_with_of_append (front ++ xs) (front ++ prefix) (drop (length prefix) xs) (ap (λ (l : List ℕ). front ++ l) (starts_with_rest xs prefix h) ∙ sym (append_assoc front prefix (drop (length prefix) xs)))
+    starts_with_of_append (front ++ xs) (front ++ prefix) (drop (length prefix) xs) (ap (λ (l : List ℕ). front ++ l) (starts_with_rest xs prefix h) ∙
+    sym (append_assoc front prefix (drop (length prefix) xs)))
 
 -- a front part of these bytes is one of longer ones
 pub WritesPart-longer : (slot : Slot) (bytes more : List ℕ) (a b : View) → WritesPart slot bytes a b → WritesPart slot (bytes ++ more) a b
 WritesPart-longer slot bytes more a b h = record { part = h.part; starts = starts_longer bytes more h.part h.starts; writes = h.writes }
 
 -- bytes, and a front part of those behind them
-pub WritesPart-behind : (slot : Slot) (bytes more : List ℕ) (a b c : View) → WritesTo slot bytes a b → WritesPart slot more b c → WritesPart slot (bytes ++ more) a c
+pub WritesPart-behind : (slot : Slot) (bytes more : List ℕ) (a b c : View) → WritesTo slot bytes a b → WritesPart slot more b c →
+    WritesPart slot (bytes ++ more) a c
 WritesPart-behind slot bytes more a b c p q = record {
   part = bytes ++ q.part;
   starts = starts_behind bytes more q.part q.starts;

@@ -41,7 +41,8 @@ on_err (Ok value) P fact = tt
 on_err (Err error) P fact = fact
 
 -- the pair at a place, as a file
-pub file_at-files_of : (pairs : List (String Global × Vec ℕ Global)) (i : ℕ) (pair : String Global × Vec ℕ Global) → i < length (files_of pairs) → pair ≡ get_or pairs i pair
+pub file_at-files_of : (pairs : List (String Global × Vec ℕ Global)) (i : ℕ) (pair : String Global × Vec ℕ Global) → i < length (files_of pairs) →
+    pair ≡ get_or pairs i pair
     → file_at (files_of pairs) i ≡ file_of pair
 file_at-files_of pairs i pair below is =
     let within : i < length pairs = rw length-map at below in
@@ -53,7 +54,8 @@ pub files_of-set : (pairs : List (String Global × Vec ℕ Global)) (i : ℕ) (p
 files_of-set pairs i pair file is = map-set file_of pairs i pair ∙ ap (set (files_of pairs) i) is
 
 -- a pair is put that is the file that was there
-pub files_of-set_same : (pairs : List (String Global × Vec ℕ Global)) (i : ℕ) (old pair : String Global × Vec ℕ Global) → old ≡ get_or pairs i old → file_of pair ≡ file_of old
+pub files_of-set_same : (pairs : List (String Global × Vec ℕ Global)) (i : ℕ) (old pair : String Global × Vec ℕ Global) → old ≡ get_or pairs i old →
+    file_of pair ≡ file_of old
     → files_of (set pairs i pair) ≡ files_of pairs
 files_of-set_same pairs i old pair is same = map-set_same file_of pairs i pair old (same ∙ ap file_of is)
 
@@ -82,7 +84,8 @@ held_found fs name i found = let one = first_found fs name i found in rw one.1 a
 -- where it isn't, it isn't held
 pub held_missing : (fs : List File) (name : List ℕ) → position (is_named name) fs ≡ None → held_at fs name ≡ None
 held_missing fs name none =
-    ap (option_map (λ (file : File). file.1)) (find_at (is_named name) fs ∙ slice_get_past fs (position_or_len (is_named name) fs) (not_found (is_named name) fs none))
+    ap (option_map (λ (file : File). file.1)) (find_at (is_named name) fs ∙
+    slice_get_past fs (position_or_len (is_named name) fs) (not_found (is_named name) fs none))
 
 pub set_names : (fs : List File) (i j : ℕ) (g : File) → i < length fs → g.0 ≡ (file_at fs i).0 → (file_at (set fs i g) j).0 ≡ (file_at fs j).0
 set_names fs i j g below same = by_test (eqb_tells j i)
@@ -123,7 +126,8 @@ first_push fs j g one =
     let len : length (fs ++ g ∷ []) ≡ length fs + 1 = length-append fs (g ∷ []) in
     let p = is_named (file_at fs j).0 in
     let before : position_or_len p fs ≢ length fs = λ e. absurd (omega (arith, one.first, e, one.within)) in
-    let at : position_or_len p (fs ++ g ∷ []) ≡ position_or_len p fs = position_or_len_push p fs g ∙ rw (ne_eqb (position_or_len p fs) (length fs) before) refl in
+    let at : position_or_len p (fs ++ g ∷ []) ≡ position_or_len p fs =
+    position_or_len_push p fs g ∙ rw (ne_eqb (position_or_len p fs) (length fs) before) refl in
     record { within = omega (arith, len, one.within); first = rw file (one.first ∙ sym at) }
 
 pub held_push_other : (fs : List File) (g : File) (n : List ℕ) → n ≢ g.0 → held_at (fs ++ g ∷ []) n ≡ held_at fs n

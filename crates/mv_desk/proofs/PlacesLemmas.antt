@@ -68,11 +68,26 @@ pub put_again : (p : Places) (s : Slot) (q : Place) → q ≡ place_at p s → w
 put_again p s q e = put_twice p s place.Closed q ∙ rw e (put_back p s)
 
 pub fit_put : (fs : List File) (p : Places) (s : Slot) (q : Place) → AllFit fs p → Fits fs q → AllFit fs (with_place p s q)
-fit_put fs p Graph q all one = λ t. elim t as (λ k. Fits fs (place_at (with_place p Graph q) k)) [ Graph ↦ one | Other ↦ all Other | Clauses ↦ all Clauses | Algebra ↦ all Algebra | Report ↦ all Report ]
-fit_put fs p Other q all one = λ t. elim t as (λ k. Fits fs (place_at (with_place p Other q) k)) [ Graph ↦ all Graph | Other ↦ one | Clauses ↦ all Clauses | Algebra ↦ all Algebra | Report ↦ all Report ]
-fit_put fs p Clauses q all one = λ t. elim t as (λ k. Fits fs (place_at (with_place p Clauses q) k)) [ Graph ↦ all Graph | Other ↦ all Other | Clauses ↦ one | Algebra ↦ all Algebra | Report ↦ all Report ]
-fit_put fs p Algebra q all one = λ t. elim t as (λ k. Fits fs (place_at (with_place p Algebra q) k)) [ Graph ↦ all Graph | Other ↦ all Other | Clauses ↦ all Clauses | Algebra ↦ one | Report ↦ all Report ]
-fit_put fs p Report q all one = λ t. elim t as (λ k. Fits fs (place_at (with_place p Report q) k)) [ Graph ↦ all Graph | Other ↦ all Other | Clauses ↦ all Clauses | Algebra ↦ all Algebra | Report ↦ one ]
+fit_put fs p Graph q all one = λ t. elim t as (λ k. Fits fs (place_at (with_place p Graph q) k)) [
+  | Graph ↦ one
+  | Other ↦ all Other
+  | Clauses ↦ all Clauses
+  | Algebra ↦ all Algebra
+  | Report ↦ all Report
+]
+fit_put fs p Other q all one = λ t. elim t as (λ k. Fits fs (place_at (with_place p Other q) k)) [
+  | Graph ↦ all Graph
+  | Other ↦ one
+  | Clauses ↦ all Clauses
+  | Algebra ↦ all Algebra
+  | Report ↦ all Report
+]
+fit_put fs p Clauses q all one = λ t. elim t as (λ k. Fits fs (place_at (with_place p Clauses q) k))
+    [ Graph ↦ all Graph | Other ↦ all Other | Clauses ↦ one | Algebra ↦ all Algebra | Report ↦ all Report ]
+fit_put fs p Algebra q all one = λ t. elim t as (λ k. Fits fs (place_at (with_place p Algebra q) k))
+    [ Graph ↦ all Graph | Other ↦ all Other | Clauses ↦ all Clauses | Algebra ↦ one | Report ↦ all Report ]
+fit_put fs p Report q all one = λ t. elim t as (λ k. Fits fs (place_at (with_place p Report q) k))
+    [ Graph ↦ all Graph | Other ↦ all Other | Clauses ↦ all Clauses | Algebra ↦ all Algebra | Report ↦ one ]
 
 -- a slot keeps a file that is the first of its name
 pub fit_at : (fs : List File) (p : Places) (s : Slot) (q : Place) → AllFit fs p → place_at p s ≡ q → Fits fs q
@@ -92,7 +107,8 @@ name_set fs i g place.Closed below same = refl
 name_set fs i g place.Absent below same = refl
 name_set fs i g (place.Printing written) below same = refl
 
-pub left_set : (fs : List File) (i : ℕ) (g : File) (q : Place) → i < length fs → g.0 ≡ (file_at fs i).0 → AreApart (Some (Some g.0)) (name_of fs q) → left_of (set fs i g) q ≡ left_of fs q
+pub left_set : (fs : List File) (i : ℕ) (g : File) (q : Place) → i < length fs → g.0 ≡ (file_at fs i).0 → AreApart (Some (Some g.0)) (name_of fs q) →
+    left_of (set fs i g) q ≡ left_of fs q
 left_set fs i g (place.Reading file at) below same other =
     ap (λ (f : File). drop at f.1) (get_or-set_other fs i file g ([], []) (λ e. other (rw e same)))
 left_set fs i g (place.Writing file written) below same other = refl
@@ -123,11 +139,13 @@ left_push fs g (place.Printing written) one = refl
 
 pub all_fit_set : (fs : List File) (p : Places) (s : Slot) (q : Place) (i : ℕ) (g : File) → AllFit fs p → Fits fs q → i < length fs → g.0 ≡ (file_at fs i).0
     → AllFit (set fs i g) (with_place p s q)
-all_fit_set fs p s q i g all one below same = fit_put (set fs i g) p s q (λ t. fits_set fs i g (place_at p t) below same (all t)) (fits_set fs i g q below same one)
+all_fit_set fs p s q i g all one below same = fit_put (set fs i g) p s q (λ t. fits_set fs i g (place_at p t) below same (all t))
+    (fits_set fs i g q below same one)
 
 pub all_fit_push : (fs : List File) (p : Places) (s : Slot) (written : Bytes) (g : File) → AllFit fs p → position (is_named g.0) fs ≡ None
     → AllFit (fs ++ g ∷ []) (with_place p s (place.Writing (length fs) written))
-all_fit_push fs p s written g all none = fit_put (fs ++ g ∷ []) p s (place.Writing (length fs) written) (λ t. fits_push fs g (place_at p t) (all t)) (first_new fs g none)
+all_fit_push fs p s written g all none = fit_put (fs ++ g ∷ []) p s (place.Writing (length fs) written) (λ t. fits_push fs g (place_at p t) (all t))
+    (first_new fs g none)
 
 -- what is left behind what was given, where it is put as the place
 pub left_after : (fs : List File) (p : Places) (s : Slot) (i at start n : ℕ) (front : List ℕ) → place_at p s ≡ place.Reading i at

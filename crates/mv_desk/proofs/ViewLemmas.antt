@@ -91,7 +91,9 @@ creates_set fs p s name written i g counts found same empty none =
       name = becomes (name_of fs (place_at p s)) _ _ (rw here (ap (λ (n : List ℕ). Some (Some n)) (set_names fs i i g one.0.within same ∙ one.1)));
       written = rw here (ap Some none);
       bytes = ap Some held;
-      others = λ t other. subst (λ (n : List ℕ). OtherStays (Some (Some n)) t (memory_view fs p counts) (memory_view (set fs i g) (with_place p s (place.Writing i written)) counts)) named (other_set fs p s t (place.Writing i written) i g counts one.0.within same other);
+      others = λ t other. subst (λ (n : List ℕ). OtherStays (Some (Some n)) t (memory_view fs p counts)
+          (memory_view (set fs i g) (with_place p s (place.Writing i written)) counts)) named
+          (other_set fs p s t (place.Writing i written) i g counts one.0.within same other);
       held = λ n other. ap Some (held_set_other fs i g n same (λ e. other (e ∙ named)));
     }
 
@@ -119,15 +121,21 @@ creates_push fs p s name written g counts fit none_named named empty none =
       held = λ n other. ap Some (held_push_other fs g n (λ e. other (e ∙ named)));
     }
 
-pub writes_file : (fs : List File) (p : Places) (s : Slot) (piece : List ℕ) (i : ℕ) (written : Bytes) (counts : Counts) → IsFirst fs i → place_at p s ≡ place.Writing i written
-    → WritesTo s piece (memory_view fs p counts) (memory_view (set fs i ((file_at fs i).0, (file_at fs i).1 ++ piece)) (with_place p s (place.Writing i (written ++ piece))) counts)
+pub writes_file : (fs : List File) (p : Places) (s : Slot) (piece : List ℕ) (i : ℕ) (written : Bytes) (counts : Counts) → IsFirst fs i →
+    place_at p s ≡ place.Writing i written
+    → WritesTo s piece (memory_view fs p counts) (memory_view (set fs i ((file_at fs i).0, (file_at fs i).1 ++ piece))
+    (with_place p s (place.Writing i (written ++ piece))) counts)
 writes_file fs p s piece i written counts one was =
     let g : File = ((file_at fs i).0, (file_at fs i).1 ++ piece) in
     let here = put_same p s (place.Writing i (written ++ piece)) in
     let before = held_first fs i one in
     let after = held_set_same fs i g one refl in
     record {
-      mode = record { reads = rw (here, was) refl; writes = rw (here, was) refl; name = rw (here, was) (ap (λ (n : List ℕ). Some (Some n)) (set_names fs i i g one.within refl)) };
+      mode = record {
+        reads = rw (here, was) refl;
+        writes = rw (here, was) refl;
+        name = rw (here, was) (ap (λ (n : List ℕ). Some (Some n)) (set_names fs i i g one.within refl));
+      };
       written = rw (here, was) refl;
       bytes = rw (was, before, after) refl;
       others = λ t other. rw was (other_set fs p s t (place.Writing i (written ++ piece)) i g counts one.within refl other);
@@ -148,7 +156,8 @@ writes_printed fs p s piece written counts was =
     }
 
 -- what a write into a place leaves
-pub wrote : (fs : List File) (p : Places) (s : Slot) (piece : List ℕ) (was : Place) (gs : List File) (q : Place) → AllFit fs p → place_at p s ≡ was → is_written was ≡ true
+pub wrote : (fs : List File) (p : Places) (s : Slot) (piece : List ℕ) (was : Place) (gs : List File) (q : Place) → AllFit fs p →
+    place_at p s ≡ was → is_written was ≡ true
     → WritesInto piece fs was gs q
     → AllFit gs (with_place p s q) × ((counts : Counts) → WritesTo s piece (memory_view fs p counts) (memory_view gs (with_place p s q) counts))
 wrote fs p s piece (place.Writing i written) gs q all was writes (files, new) =

@@ -58,5 +58,6 @@ further n (b ∷ more) = omega (arith, further (append_digit n b) more)
 pub grows : (bytes : List ℕ) (i d : ℕ) → i < length bytes → append_digit (decimal_value (take i bytes)) (get_or bytes i d) ≤ decimal_value bytes
 grows bytes i d h =
     let number = λ (k : ℕ). decimal_value (take k bytes) in
-    let split : decimal_value bytes ≡ fold append_digit (number (i + 1)) (drop (i + 1) bytes) = ap decimal_value (sym (take-append-drop (i + 1) bytes)) ∙ fold-append append_digit 0 (take (i + 1) bytes) (drop (i + 1) bytes) in
+    let split : decimal_value bytes ≡ fold append_digit (number (i + 1)) (drop (i + 1) bytes) = ap decimal_value (sym (take-append-drop (i + 1) bytes)) ∙
+    fold-append append_digit 0 (take (i + 1) bytes) (drop (i + 1) bytes) in
     omega (arith, split, fold_more append_digit 0 bytes i d h, further (number (i + 1)) (drop (i + 1) bytes))

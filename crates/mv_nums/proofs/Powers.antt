@@ -22,7 +22,8 @@ opposite a b w h e = mod-add-mod b (2 ^ w) a ∙ sym (low_of (b + a) w h) ∙ ap
 pub difference : (a b c m : ℕ) → a < m → (c + b) % m ≡ 0 → ((a + c) % m + b) % m ≡ a
 difference a b c m h e =
     let add_zero : a + 0 ≡ a = omega arith in
-    mod-add-mod (a + c) m b ∙ ap (λ n. n % m) (add_assoc a c b) ∙ sym (add-mod-mod a (c + b) m) ∙ ap (λ r. (a + r) % m) e ∙ ap (λ n. n % m) add_zero ∙ mod-eq_of_lt h
+    mod-add-mod (a + c) m b ∙ ap (λ n. n % m) (add_assoc a c b) ∙ sym (add-mod-mod a (c + b) m) ∙ ap (λ r. (a + r) % m) e ∙
+    ap (λ n. n % m) add_zero ∙ mod-eq_of_lt h
 
 -- nothing is left of a shift by the width or more
 pub shifted_out : (a k w : ℕ) → w ≤ k → (a * 2 ^ k) % 2 ^ w ≡ 0

@@ -4,7 +4,8 @@
 //! of one width. `read_decimal` gives the number that digits spell, or says why the text spells none below 2^128;
 //! `print` writes the one numeral without leading zeros. Nothing here takes memory.
 //!
-//! *Residue class*: a width from 1 to 128 and the number below 2^width that stands for the class (`specs/Residue.antt`).
+//! *Residue class*: a width from 1 to 128, and the number below 2^width that stands for the class
+//! (`specs/Residue.antt`).
 //! *Numeral*: decimal digits, the greatest weight first, and the number that they spell (`specs/Numeral.antt`).
 #![tactic(auto)]
 

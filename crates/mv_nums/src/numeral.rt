@@ -22,6 +22,19 @@ pub fn read_decimal(bytes: &[u8]) -> Result<u128, NumberFault>
     number_of(bytes).ok_or(NumberFault::TooBig)
 }
 
+/// Writes the decimal numeral at the front of `out`, and gives its length, which is at most 39.
+pub fn print(value: u128, out: &mut [u8; 40]) -> usize
+    ensures short { result ≤ 39 }
+    ensures numeral { IsNumeralOf value (take result out.new) }
+    ensures text { take result out.new ≡ decimal value }
+    ensures rest { drop result out.new ≡ drop result out.old }
+{
+    let mut buffer = Buffer::new();
+    let text = buffer.format(value).as_bytes();
+    out[..text.len()].copy_from_slice(text);
+    text.len()
+}
+
 fn are_digits(bytes: &[u8]) -> bool
     ensures { MatchBool result (All IsDigit bytes.now) (Any (λ byte. ¬ IsDigit byte) bytes.now) }
 {
@@ -47,17 +60,4 @@ fn with_digit(number: u128, byte: u8) -> Option<u128>
     ensures { let longer = append_digit number byte in SomeIff result (longer < 2 ^ 128) longer }
 {
     number.checked_mul(10)?.checked_add((byte - b'0') as u128)
-}
-
-/// Writes the decimal numeral at the front of `out`, and gives its length, which is at most 39.
-pub fn print(value: u128, out: &mut [u8; 40]) -> usize
-    ensures short { result ≤ 39 }
-    ensures numeral { IsNumeralOf value (take result out.new) }
-    ensures text { take result out.new ≡ decimal value }
-    ensures rest { drop result out.new ≡ drop result out.old }
-{
-    let mut buffer = Buffer::new();
-    let text = buffer.format(value).as_bytes();
-    out[..text.len()].copy_from_slice(text);
-    text.len()
 }

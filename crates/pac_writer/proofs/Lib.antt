@@ -7,4 +7,3 @@ pub mod Texts
 pub mod Alike
 pub mod LawfulFile
 pub mod CallerLemmas
-pub mod OneBit

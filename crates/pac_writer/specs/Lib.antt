@@ -1,8 +1,7 @@
 -- To be trusted by whoever reads the contracts: `Spare` (what a certificate leaves out), `Writing` (lines that are made, one after the
 -- other) and `Certificates` (their text). `Kept` says what is known of the lines as code keeps them, and serves private clauses
--- alone, and `OneBit` (a graph and the polynomials of its certificate) the tests.
+-- alone.
 pub mod Spare
 pub mod Writing
 pub mod Certificates
 pub mod Kept
-pub mod OneBit

@@ -11,8 +11,6 @@
 #![tactic(auto)]
 
 mod lines;
-#[cfg(test)]
-mod tests;
 mod writing;
 
 pub use lines::Lines;

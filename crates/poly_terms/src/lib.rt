@@ -32,8 +32,6 @@ mod sum_of_products;
 mod table_laws;
 mod term;
 mod terms;
-#[cfg(test)]
-mod tests;
 mod variables;
 
 pub use poly::Poly;

@@ -46,7 +46,8 @@ impl Files {
 
     pub fn append(&mut self, at: usize, piece: &[u8]) -> Result<(), AllocError>
         requires { at < length self.old }
-        ensures ok { OnOk result (let file = file_at self.old at in self.new ≡ set self.old at (file.0, file.1 ++ piece.now)) }
+        ensures ok { OnOk result (let file = file_at self.old at in
+            self.new ≡ set self.old at (file.0, file.1 ++ piece.now)) }
         ensures err { OnErr result (self.new ≡ self.old) }
     {
         self.items[at].1.extend_from_slice(piece)?;

@@ -102,7 +102,8 @@ impl Desk for HonestDesk {
     fn write(&mut self, slot: Slot, piece: &[u8]) -> Result<usize, Failed>
         requires { (view_of self.old).writes slot ≡ true }
         ensures bound { IfOk result (λ taken. TakesSome taken (length piece.now)) }
-        ensures writes { IfOk result (λ taken. WritesTo slot (take taken piece.now) (view_of self.old) (view_of self.new)) }
+        ensures writes { IfOk result (λ taken.
+            WritesTo slot (take taken piece.now) (view_of self.old) (view_of self.new)) }
         ensures failed { OnErr result (IsSame (view_of self.old) (view_of self.new)) }
         ensures cause { HasWriteCause (view_of self.old) (view_of self.new) result }
         ensures tells { KeepsTelling (view_of self.old) (view_of self.new) }

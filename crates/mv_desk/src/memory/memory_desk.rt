@@ -106,8 +106,10 @@ impl Desk for MemoryDesk {
         ensures tells { KeepsTelling (view_of self.old) (view_of self.new) }
         // It fails by its list alone, and cuts by its pieces alone.
         ensures refused { is_err result ≡ is_next_failing (plan_of self.old) }
-        ensures piece { IfOk result (λ count. count ≡ read_len (plan_of self.old) (length into.old) (length (rest_of self.old slot))) }
-        ensures plan { plan_of self.new ≡ (if is_ok result then after_read (plan_of self.old) else after_call (plan_of self.old)) }
+        ensures piece { IfOk result (λ count.
+            count ≡ read_len (plan_of self.old) (length into.old) (length (rest_of self.old slot))) }
+        ensures plan { plan_of self.new ≡
+            (if is_ok result then after_read (plan_of self.old) else after_call (plan_of self.old)) }
     {
         if self.script.fails_now() {
             self.counts.count_read_fault();
@@ -137,7 +139,8 @@ impl Desk for MemoryDesk {
     fn write(&mut self, slot: Slot, piece: &[u8]) -> Result<usize, Failed>
         requires { (view_of self.old).writes slot ≡ true }
         ensures bound { IfOk result (λ taken. TakesSome taken (length piece.now)) }
-        ensures writes { IfOk result (λ taken. WritesTo slot (take taken piece.now) (view_of self.old) (view_of self.new)) }
+        ensures writes { IfOk result (λ taken.
+            WritesTo slot (take taken piece.now) (view_of self.old) (view_of self.new)) }
         ensures failed { OnErr result (IsSame (view_of self.old) (view_of self.new)) }
         ensures cause { HasWriteCause (view_of self.old) (view_of self.new) result }
         ensures tells { KeepsTelling (view_of self.old) (view_of self.new) }

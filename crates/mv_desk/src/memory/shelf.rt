@@ -50,7 +50,8 @@ impl Shelf {
     /// Opens a file for reading, where it is held.
     pub fn open(&mut self, slot: Slot, name: &str) -> bool
         ensures held { result ≡ is_some (held_at self.old.0 name.now) }
-        ensures opens { result ≡ true → (counts counts' : Counts) → Opens slot name.now (tells self.old counts) (tells self.new counts') }
+        ensures opens { result ≡ true → (counts counts' : Counts) →
+            Opens slot name.now (tells self.old counts) (tells self.new counts') }
         ensures none { result ≡ false → self.new ≡ self.old }
     {
         let Some(file) = self.files.position_of(name) else {
@@ -96,7 +97,8 @@ impl Shelf {
     }
 
     pub fn create(&mut self, slot: Slot, name: &str) -> Result<(), AllocError>
-        ensures creates { OnOk result ((counts : Counts) → Creates slot name.now (tells self.old counts) (tells self.new counts)) }
+        ensures creates { OnOk result ((counts : Counts) →
+            Creates slot name.now (tells self.old counts) (tells self.new counts)) }
         ensures err { OnErr result (self.new ≡ self.old) }
     {
         let written = Bytes::new(self.alloc);
@@ -112,7 +114,8 @@ impl Shelf {
 
     pub fn write(&mut self, slot: Slot, piece: &[u8]) -> Result<(), AllocError>
         requires { is_written (place_at self.old.1 slot) ≡ true }
-        ensures writes { OnOk result ((counts : Counts) → WritesTo slot piece.now (tells self.old counts) (tells self.new counts)) }
+        ensures writes { OnOk result ((counts : Counts) →
+            WritesTo slot piece.now (tells self.old counts) (tells self.new counts)) }
         ensures err { OnErr result (self.new ≡ self.old) }
     {
         let mut place = self.places.take(slot);

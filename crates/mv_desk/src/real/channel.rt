@@ -22,7 +22,8 @@ impl<F: Read + Write + Drop> Channel<F> {
     pub fn read(&mut self, into: &mut [u8]) -> io::Result<usize>
         requires { is_reading self.old ≡ true }
         ensures bound { ReadsAtMost result into.new }
-        ensures bytes { ReadConsumes (remaining_of F.remaining self.old) (remaining_of F.remaining self.new) result into.new }
+        ensures bytes { ReadConsumes (remaining_of F.remaining self.old)
+            (remaining_of F.remaining self.new) result into.new }
         ensures reading { is_reading self.new ≡ true }
         ensures not_writing { is_writing self.new ≡ false }
     {
@@ -35,7 +36,8 @@ impl<F: Read + Write + Drop> Channel<F> {
     pub fn write(&mut self, rt: &impl Print, piece: &[u8]) -> io::Result<usize>
         requires { is_writing self.old ≡ true }
         ensures bound { WritesAtMost result piece.now }
-        ensures bytes { WriteAppends (contents_of F.contents self.old) (contents_of F.contents self.new) result piece.now }
+        ensures bytes { WriteAppends (contents_of F.contents self.old)
+            (contents_of F.contents self.new) result piece.now }
         ensures writing { is_writing self.new ≡ true }
         ensures not_reading { is_reading self.new ≡ false }
     {

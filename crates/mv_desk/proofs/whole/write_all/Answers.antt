@@ -8,7 +8,8 @@ loop-rest-preserved g c =
     let did = c.in-Ok.ensures in
     record {
       part = kept.part ++ take c.in-Ok.count c.loop-rest.rest.now;
-      all = kept.all ∙ (ap (λ (l : List ℕ). kept.part ++ l) (split_at _ _ _ (omega arith)) ∙ sym (append_assoc kept.part (take c.in-Ok.count c.loop-rest.rest.now) _));
+      all = kept.all ∙ (ap (λ (l : List ℕ). kept.part ++ l) (split_at _ _ _ (omega arith)) ∙
+          sym (append_assoc kept.part (take c.in-Ok.count c.loop-rest.rest.now) _));
       writes = WritesTo-trans _ _ _ _ _ _ kept.writes did.writes;
       tells = KeepsTelling-trans _ _ _ kept.tells did.tells;
       write_faults = did.cause.stands ∙ kept.write_faults;

@@ -9,4 +9,7 @@ returns-clause-ok c =
 
 pub returns-in_err-extend_from_slice-clause-err : goal.returns-in_err-extend_from_slice-clause-err
 returns-in_err-extend_from_slice-clause-err c =
-    rw (← c.self.view_is) (on_err _ _ (files_of-set_same c.self.inside.items.items c.args.at c.index_mut.result.now (c.index_mut.result.now.0, c.extend_from_slice.new.self) c.index_mut.ensures.value (rw c.in_err-extend_from_slice.ensures.items refl)))
+    rw (← c.self.view_is) (on_err _ _ (files_of-set_same c.self.inside.items.items c.args.at c.index_mut.result.now (
+      c.index_mut.result.now.0,
+      c.extend_from_slice.new.self,
+    ) c.index_mut.ensures.value (rw c.in_err-extend_from_slice.ensures.items refl)))

@@ -14,7 +14,8 @@ returns-in_default-clause-held c =
 pub invariant_of-self : goal.invariant_of-self
 invariant_of-self c =
     let found : position (is_named c.args.name.now) c.self.inside.files ≡ Some c.in-Some.file = sym c.position_of.ensures ∙ c.in-Some.is in
-    rw c.put.ensures (fit_put c.self.inside.files c.self.inside.places c.args.slot _ c.self.invariant (first_found c.self.inside.files c.args.name.now c.in-Some.file found).0)
+    rw c.put.ensures (fit_put c.self.inside.files c.self.inside.places c.args.slot _ c.self.invariant
+    (first_found c.self.inside.files c.args.name.now c.in-Some.file found).0)
 
 pub returns-clause-held : goal.returns-clause-held
 returns-clause-held c =
@@ -24,4 +25,5 @@ returns-clause-held c =
 pub returns-clause-opens : goal.returns-clause-opens
 returns-clause-opens c =
     let found : position (is_named c.args.name.now) c.self.inside.files ≡ Some c.in-Some.file = sym c.position_of.ensures ∙ c.in-Some.is in
-    λ _ counts counts'. rw (← c.self.view_is, c.put.ensures) (opens c.self.inside.files c.self.inside.places c.args.slot c.args.name.now c.in-Some.file counts counts' found)
+    λ _ counts counts'. rw (← c.self.view_is, c.put.ensures)
+    (opens c.self.inside.files c.self.inside.places c.args.slot c.args.name.now c.in-Some.file counts counts' found)

@@ -10,4 +10,5 @@ pub invariant_of-self-2 : goal.invariant_of-self-2
 invariant_of-self-2 c =
     let was = sym c.take.ensures.taken ∙ c.in-Reading.is in
     rw (c.put-2.ensures, c.take.ensures.closed, put_twice)
-    (fit_put c.self.inside.files c.self.inside.places c.args.slot _ c.self.invariant (fit_at c.self.inside.files c.self.inside.places c.args.slot _ c.self.invariant was))
+    (fit_put c.self.inside.files c.self.inside.places c.args.slot _ c.self.invariant
+    (fit_at c.self.inside.files c.self.inside.places c.args.slot _ c.self.invariant was))

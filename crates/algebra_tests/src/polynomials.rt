@@ -1,11 +1,11 @@
-// Polynomials of few variables, with their values.
-#![tactic(auto, using(crate::specs::Laws::stays, crate::specs::Laws::extends_on, crate::specs::Laws::extends_itself))]
+// poly_terms: polynomials of few variables, with their values.
+#![tactic(auto, using(poly_terms::specs::Laws::stays, poly_terms::specs::Laws::extends_on, poly_terms::specs::Laws::extends_itself))]
 
 ghost use Rattle.mv_nums.specs.Residue.{IsWidth};
 ghost use Rattle.poly_terms.specs.Tables.{IsOf};
 
-use crate::{Poly, Terms};
 use mv_fact::Live;
+use poly_terms::{Poly, Terms};
 use std::alloc::{AllocError, Global};
 use std::test::Fail;
 

@@ -13,7 +13,7 @@ use Rattle.frontier_core.specs.Pending.{AreSpare, IsNotZero}
 use Rattle.poly_terms.specs.Tables.{Table, Sum, Extends, monomials_in}
 use Rattle.poly_terms.specs.Laws.{modulus_stays, stays, value_stays}
 use Rattle.pac_writer.specs.Writing.{Made, AreOver, Grows, IsOver, PutsLine, combination_of, ledger_of, parts_in}
-use Rattle.pac_writer.specs.OneBit.{IsOneBit, Says, error, minus_one, one_bit}
+use Rattle.algebra_tests.specs.OneBit.{IsOneBit, Says, error, minus_one, one_bit}
 use Rattle.pac_writer.proofs.CallerLemmas.{over_from_values}
 
 abbrev e : Extended

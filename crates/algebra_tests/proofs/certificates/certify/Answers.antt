@@ -1,6 +1,6 @@
-use Rattle.pac_writer.specs.OneBit.{IsOneBit, Says, minus_one}
-use Rattle.pac_writer.proofs.OneBit.{closes_one, equal_one, fresh_stays, over_one, says_stays, spare_one}
-use Rattle.pac_writer.proofs.tests.certify.Goals as goal
+use Rattle.algebra_tests.specs.OneBit.{IsOneBit, Says, minus_one}
+use Rattle.algebra_tests.proofs.OneBit.{closes_one, equal_one, fresh_stays, over_one, says_stays, spare_one}
+use Rattle.algebra_tests.proofs.certificates.certify.Goals as goal
 
 pub make_error-requires : goal.make_error-requires
 make_error-requires c = fresh_stays c.args.lines.now c.make_minus_one.new.lines c.requires c.in_ok-factor.ensures.grows

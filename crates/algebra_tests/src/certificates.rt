@@ -1,14 +1,15 @@
-// The certificate of the one-bit graph, made and written.
+// pac_writer: the certificate of the one-bit graph, made and written.
 #![tactic(auto, using(poly_terms::specs::Laws::stays))]
 
 ghost use Rattle.std.specs.Prelude.{◌≡◌, IfOk, OnOk, IsSome};
 ghost use Rattle.pac_writer.specs.Writing.{Grows};
-ghost use Rattle.pac_writer.specs.OneBit.{IsOneBit, Says, error, minus_one, one_bit};
+ghost use Rattle.algebra_tests.specs.OneBit.{IsOneBit, Says, error, minus_one};
 
-use crate::Lines;
-use graph_core::{Graph, Lit, Memory, Operands, Order};
+use crate::fixtures::one_bit_graph;
+use graph_core::{Memory, Operands, Order};
 use mv_desk::{Desk, MemoryDesk, Slot, WriteFault};
 use mv_fact::Grow;
+use pac_writer::Lines;
 use poly_terms::{Poly, Terms};
 use ripple_graft::Extended;
 use std::alloc::{AllocError, Global};
@@ -23,7 +24,7 @@ struct Make<'a> {
 impl<'a> Grow<Poly> for Make<'a> {
     ghost use Rattle.std.specs.Prelude.{◌≡◌, IfOk};
     ghost use Rattle.poly_terms.specs.Tables.{given, modulus};
-    ghost use Rattle.pac_writer.specs.OneBit.{Says};
+    ghost use Rattle.algebra_tests.specs.OneBit.{Says};
 
     type Out = Result<Poly, Memory>;
 
@@ -36,17 +37,6 @@ impl<'a> Grow<Poly> for Make<'a> {
     fn grow(&mut self, _on: &mut (), table: &mut Terms) -> Result<Poly, Memory> {
         table.make(self.parts)
     }
-}
-
-// x3 = x2 * x1, whose outputs are x3 and 0
-fn graph_of_one_bit(alloc: Global) -> Result<Graph, Fail>
-    ensures graph { IfOk result (λ g. g ≡ one_bit) }
-{
-    let inputs = vec![in alloc; Lit(2), Lit(4)]?;
-    let outputs = vec![in alloc; Lit(6), Lit(0)]?;
-    let gates = vec![in alloc; (Lit(6), Lit(4), Lit(2))]?;
-    let graph = Graph::build(alloc, 3, inputs, outputs, gates)?;
-    Ok(graph)
 }
 
 // -1
@@ -106,7 +96,7 @@ fn desk_of(alloc: Global, fails: u64) -> Result<MemoryDesk, AllocError> {
 #[test]
 fn the_one_bit_certificate_is_written(rt: HostRuntime) -> Result<(), Fail> {
     let alloc = rt.alloc();
-    let graph = graph_of_one_bit(alloc)?;
+    let graph = one_bit_graph(alloc)?;
     let operands = Operands::of(alloc, &graph, Order::Separate)?;
     let extended = Extended::without_cut(&graph);
     let mut lines = Lines::new(alloc, &extended, &operands)?;

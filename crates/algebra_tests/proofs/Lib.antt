@@ -1,0 +1,2 @@
+mod OneBit
+mod TwoBits
