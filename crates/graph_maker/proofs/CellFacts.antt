@@ -8,7 +8,7 @@ use Rattle.graph_core.specs.declared.literal.Lit.{Lit}
 use Rattle.graph_core.specs.declared.gate.Gate.{Gate}
 use Rattle.graph_core.specs.Graph.Assignments.{Assignment, bit, variable, literal, word}
 use Rattle.graph_core.specs.Graph.Literals.{plain, inverted}
-use Rattle.graph_maker.specs.Cells.{position, sum_after, carry_after}
+use Rattle.graph_core.specs.Graph.Positions.{position, sum_after, carry_after}
 use Rattle.graph_maker.specs.Builder.{Builder, with_gates, or_false}
 use Rattle.graph_maker.specs.Cells.{half_gates, cell}
 use Rattle.graph_maker.specs.Ripple.{first, ripple}

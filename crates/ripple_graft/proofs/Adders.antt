@@ -5,7 +5,8 @@ use Rattle.graph_core.specs.declared.literal.Lit.{Lit}
 use Rattle.graph_core.specs.declared.gate.Gate.{Gate}
 use Rattle.graph_core.specs.Graph.{Aig}
 use Rattle.graph_core.specs.Graph.Literals.{constant_false}
-use Rattle.ripple_graft.specs.Ripple.{carry_after, position, ripple_gates, ripple_outputs, sum_after}
+use Rattle.graph_core.specs.Graph.Positions.{carry_after, position, sum_after}
+use Rattle.ripple_graft.specs.Ripple.{ripple_gates, ripple_outputs}
 
 -- so many pairs are added; what is left comes behind
 pub record IsAdding (g : Aig) (pairs : List (Lit × Lit)) (i top : ℕ) (carry : Lit) (gates : List Gate) (outputs : List Lit) : Type 0 where

@@ -12,7 +12,8 @@ use Rattle.graph_core.specs.Graph.{Aig, IsEvaluation, IsWellFormed, read_literal
 use Rattle.graph_core.specs.Graph.Extended.{Column, Extended, without_cut}
 use Rattle.graph_core.specs.Graph.Literals.{variable_of, constant_false}
 use Rattle.graph_core.proofs.OfGraphs.CallerLemmas.{all_split}
-use Rattle.ripple_graft.specs.Ripple.{ripple_gates, ripple_outputs, carry_after}
+use Rattle.graph_core.specs.Graph.Positions.{carry_after}
+use Rattle.ripple_graft.specs.Ripple.{ripple_gates, ripple_outputs}
 use Rattle.ripple_graft.specs.Extension.{FrontEvaluates, IsExtension, IsReadable, WholeIsWellFormed, new_or_old, new_outputs, outputs_from, whole}
 use Rattle.ripple_graft.specs.Blocks.{AreBlocks, Block, BlockAdds, BlocksAdd, BlocksAreJoined, BlocksExtend, Cut, CutIsBlock, CutReplaces, EvaluationsExtend, IsBlock, IsCut, SameUpTo, block_columns, block_of, columns, graft_all, graft_block, pair_count, placed, with_cut}
 use Rattle.ripple_graft.proofs.OneBlock.{evaluation_goes_on, graft_extends}

@@ -14,7 +14,8 @@ use Rattle.graph_core.specs.Graph.{IsEvaluation, IsOrder, defined, evaluation, r
 use Rattle.graph_core.specs.Graph.Extended.{Column, Extended}
 use Rattle.graph_core.proofs.OfGraphs.CallerLemmas.{evaluation_is, finds_none, literal_same, rounds-free, variable_same, all_split, all_weaker, Apart, apart_from_pairs, gates_distinct}
 use Rattle.graph_core.proofs.OfAiger.CallerLemmas.{Counts, counts_apart, counts_contain}
-use Rattle.ripple_graft.specs.Ripple.{ripple_gates, ripple_outputs, sum_after, carry_after}
+use Rattle.graph_core.specs.Graph.Positions.{sum_after, carry_after}
+use Rattle.ripple_graft.specs.Ripple.{ripple_gates, ripple_outputs}
 use Rattle.ripple_graft.specs.Extension.{IsExtension, IsKnown, IsReadable, whole}
 use Rattle.ripple_graft.specs.Blocks.{Block, EvaluationGoesOn, GraftExtends, IsBlock, SameUpTo, block_columns, block_outputs, columns, graft_block, span}
 use Rattle.ripple_graft.proofs.Orders.{order_from, rank}

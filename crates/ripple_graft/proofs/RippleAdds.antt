@@ -7,7 +7,8 @@ use Rattle.graph_core.specs.declared.literal.Lit.{Lit}
 use Rattle.graph_core.specs.Graph.Assignments.{Assignment, bit, variable, literal, word}
 use Rattle.graph_core.specs.Graph.Literals.{constant_false, inverted, plain}
 use Rattle.graph_core.proofs.OfGraphs.CallerLemmas.{full_adder, literal-even, literal-negated, literal-odd}
-use Rattle.ripple_graft.specs.Ripple.{ripple_gates, ripple_outputs, carry_after, sum_after, RippleAdds}
+use Rattle.graph_core.specs.Graph.Positions.{carry_after, sum_after}
+use Rattle.ripple_graft.specs.Ripple.{ripple_gates, ripple_outputs, RippleAdds}
 
 ripple_adds_from : (v : ℕ) (c : Lit) (ps : List (Lit × Lit)) (σ : Assignment) →
     AllByRecursion (λ x. variable σ x.v ≡ (literal σ x.left && literal σ x.right)) (ripple_gates v c ps) →

@@ -6,7 +6,8 @@ use Rattle.graph_core.specs.declared.literal.Lit.{Lit}
 use Rattle.graph_core.specs.declared.gate.Gate.{Gate}
 use Rattle.graph_core.specs.Graph.Literals.{variable_of, negation_of}
 use Rattle.graph_core.proofs.OfGraphs.CallerLemmas.{variable_of-negated}
-use Rattle.ripple_graft.specs.Ripple.{ripple_gates, carry_after}
+use Rattle.graph_core.specs.Graph.Positions.{carry_after}
+use Rattle.ripple_graft.specs.Ripple.{ripple_gates}
 use Rattle.graph_core.proofs.OfAiger.CallerLemmas.{Counts}
 
 -- a variable of those below, or one of the adder's

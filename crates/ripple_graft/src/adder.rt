@@ -4,7 +4,7 @@ ghost use Rattle.graph_core.specs.Graph.{IsBuilt};
 ghost use Rattle.graph_core.specs.Graph.Literals.{and_gate, inverted, plain};
 ghost use Rattle.ripple_graft.specs.Blocks.{IsCut};
 ghost use Rattle.ripple_graft.specs.Grafts.{IsAdderOf};
-ghost use Rattle.ripple_graft.specs.Ripple.{position};
+ghost use Rattle.graph_core.specs.Graph.Positions.{position};
 
 use crate::added::Added;
 use crate::cut::Cut;
