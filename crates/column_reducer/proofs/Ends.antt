@@ -21,6 +21,7 @@ use Rattle.frontier_core.specs.Pending.{gap}
 use Rattle.frontier_core.proofs.Added.{total_ends}
 use Rattle.column_reducer.specs.declared.gathered.Gathered.{Gathered}
 use Rattle.column_reducer.specs.declared.walk.Walk.{Walk}
+use Rattle.column_reducer.specs.declared.walk.Ended.{Ended}
 use Rattle.pac_writer.specs.Writing.{parts_in}
 use Rattle.column_reducer.specs.Gathering.{AreTotal, HasEnded, IsEnded, IsWalked}
 use Rattle.column_reducer.specs.Reducing.{HasSizeAt, IsPassed, IsPlanned, Planned}
@@ -30,24 +31,24 @@ abbrev pub taken_after : Planned → ℕ → Taken
 taken_after p i = taken nothing (take i p.steps)
 
 -- the rest's size is the frontier's
-size_same : (p : Planned) (s : Sides) (t : Table) (count n : ℕ) (w : Walk) → IsWalked p.extended s t (taken_after p count) w → HasSize (modulus t) (value_in t w.rest) n →
+size_same : (p : Planned) (s : Sides) (t : Table) (count n : ℕ) (w : Walk) → IsWalked p.extended s t (taken_after p count) w → HasSize (modulus t) (value_in t w.rest.sum) n →
     HasSize (algebra.modulus p.extended) (value_of_taken p.extended s (taken_after p count)) n
 size_same p s t count n w h size =
     (size.0, subst (λ m. IsNormalForm m size.0) h.same_modulus size.1, (λ σ. sym (ap (λ m. value m size.0 σ) h.same_modulus) ∙ size.2 σ ∙ h.value σ), size.3)
 
 size_back : (p : Planned) (s : Sides) (t : Table) (count n : ℕ) (w : Walk) → IsWalked p.extended s t (taken_after p count) w → HasSize (algebra.modulus p.extended) (value_of_taken p.extended s (taken_after p count)) n →
-    HasSize (modulus t) (value_in t w.rest) n
+    HasSize (modulus t) (value_in t w.rest.sum) n
 size_back p s t count n w h size =
     (size.0, subst (λ m. IsNormalForm m size.0) (sym h.same_modulus) size.1, (λ σ. ap (λ m. value m size.0 σ) h.same_modulus ∙ size.2 σ ∙ sym (h.value σ)), size.3)
 
-pub size_of_rest : (p : Planned) (s : Sides) (t : Table) (count step n : ℕ) (w : Walk) → IsWalked p.extended s t (taken_after p count) w → p.uncounted + step ≡ count → HasSize (modulus t) (value_in t w.rest) n →
+pub size_of_rest : (p : Planned) (s : Sides) (t : Table) (count step n : ℕ) (w : Walk) → IsWalked p.extended s t (taken_after p count) w → p.uncounted + step ≡ count → HasSize (modulus t) (value_in t w.rest.sum) n →
     HasSizeAt p s step n
 size_of_rest p s t count step n w h is size =
     subst (λ i. HasSize (algebra.modulus p.extended) (value_of_taken p.extended s (taken_after p i)) n) (sym is) (size_same p s t count n w h size)
 
 -- no frontier before this one was above the budget, nor is this one
 pub within_more : (p : Planned) (s : Sides) (t : Table) (budget count : ℕ) (w : Walk) → IsWalked p.extended s t (taken_after p count) w →
-    (p.uncounted ≤ count → (n : ℕ) → HasSize (modulus t) (value_in t w.rest) n → n ≤ budget) →
+    (p.uncounted ≤ count → (n : ℕ) → HasSize (modulus t) (value_in t w.rest.sum) n → n ≤ budget) →
     ((i n : ℕ) → p.uncounted + i < count → HasSizeAt p s i n → n ≤ budget) → (i n : ℕ) → p.uncounted + i < count + 1 → HasSizeAt p s i n → n ≤ budget
 within_more p s t budget count w h here before i n low has =
     ⊎_elim
@@ -56,7 +57,7 @@ within_more p s t budget count w h here before i n low has =
     (λ ne. before i n (omega (arith, ne)) has) (cases_eq (p.uncounted + i) count)
 
 pub is_passed : (p : Planned) (s : Sides) (t : Table) (budget count step n : ℕ) (w : Walk) → IsWalked p.extended s t (taken_after p count) w → p.uncounted + step ≡ count → count ≤ length p.steps →
-    HasSize (modulus t) (value_in t w.rest) n → budget < n → ((i k : ℕ) → p.uncounted + i < count → HasSizeAt p s i k → k ≤ budget) → IsPassed p s budget step n
+    HasSize (modulus t) (value_in t w.rest.sum) n → budget < n → ((i k : ℕ) → p.uncounted + i < count → HasSizeAt p s i k → k ≤ budget) → IsPassed p s budget step n
 is_passed p s t budget count step n w h is low size above before = record {
   there = omega arith;
   above = above;
@@ -83,12 +84,12 @@ option_total : (e : Extended) (s : Sides) (t : Table) (f : Taken) (rest : Sum) (
 option_total e s t f rest None same all h = tt
 option_total e s t f rest (Some g) same all h = total_at_end e s t f rest g same all h
 
-pub is_ended : (p : Planned) (s : Sides) (t0 t : Table) (budget : ℕ) (w last : Walk) → IsPlanned p → Extends t0 t → IsWalked p.extended s t0 (taken_after p (length p.steps)) w → last.rest ≡ w.rest →
+pub is_ended : (p : Planned) (s : Sides) (t0 t : Table) (budget : ℕ) (w : Walk) (last : Ended) → IsPlanned p → Extends t0 t → IsWalked p.extended s t0 (taken_after p (length p.steps)) w → last.rest ≡ w.rest.sum →
     ((i n : ℕ) → p.uncounted + i < length p.steps + 1 → HasSizeAt p s i n → n ≤ budget) → IfSome last.gathered (HasEnded p.extended s t (taken_after p (length p.steps)) last.rest) →
     IsEnded p s t budget last
 is_ended p s t0 t budget w last plan grown h same within total = record {
-  of = subst (IsOf t) (sym same) (stays t0 t w.rest grown h.of);
-  last = λ σ. ap (λ r. value_in t r σ) same ∙ value_stays t0 t w.rest σ grown h.of ∙ h.value σ;
+  of = subst (IsOf t) (sym same) (stays t0 t w.rest.sum grown h.of);
+  last = λ σ. ap (λ r. value_in t r σ) same ∙ value_stays t0 t w.rest.sum σ grown h.of ∙ h.value σ;
   within = λ i n low has. within i n (omega arith) has;
   total = option_total p.extended s t (taken_after p (length p.steps)) last.rest last.gathered (modulus_stays t0 t grown ∙ h.same_modulus)
       (subst (λ ss. (k : ℕ) → k < length p.extended.graph.outputs → has (taken nothing ss).added k ≡ true) (sym (take-length p.steps)) plan.plan.last.all_columns) total;

@@ -6,12 +6,12 @@ use Rattle.std.proofs.lemmas.Nat.{pow_pos}
 use Rattle.graph_core.specs.declared.gate.Gate.{Gate}
 use Rattle.graph_core.specs.Graph.Assignments.{Assignment, variable, bit}
 use Rattle.graph_core.specs.Algebra.Polynomials.{Polynomial, difference, sum_of, value}
-use Rattle.graph_core.proofs.OfGraphs.CallerLemmas.{sum_same, difference_plus, difference_same}
+use Rattle.graph_core.proofs.OfGraphs.CallerLemmas.{sum_same, difference_plus}
 use Rattle.gate_axioms.proofs.Opposites.{opposite_difference, sum_with_product_same, one_reduced}
 use Rattle.gate_axioms.specs.Axioms.{IsGateAxiom}
 use Rattle.poly_terms.specs.Tables.{Table, Sum, IsOf, Extends, assigned, modulus, monomials_in, value_in}
 use Rattle.poly_terms.specs.Laws.{modulus_stays, value_stays}
-use Rattle.frontier_core.specs.Substitution.{gate_value, quotient, substituted}
+use Rattle.frontier_core.specs.Substitution.{gate_value}
 use Rattle.column_reducer.specs.Gathering.{term_of}
 
 pub bit_reduced : (b : Bool) (w : ℕ) → 1 ≤ w → bit b % 2 ^ w ≡ bit b
@@ -49,24 +49,13 @@ product_has t0 t1 t2 t3 made variable' r gate given' σ first second of_axiom is
     r_is ∙ ap₂ (λ a k. a % k) (ap₂ ◌+◌ here there) m2 ∙
     sum_same m (difference m (gate_value gate σ) x) (difference m (gate_value gate σ) x) (x % m) x refl (mod-mod x m) ∙ difference_plus m (gate_value gate σ) x (pow_pos t0.exponent)
 
--- a polynomial plus another one times the product
-pub with_product_has : (t0 t1 t2 : Table) (p q n r : Sum) (gate : Gate) (σ : Assignment) → Extends t0 t1 → IsOf t0 p → IsOf t0 q → value_in t1 n σ ≡ gate_value gate σ % modulus t0 →
-    value_in t2 r σ ≡ (value_in t1 p σ + value_in t1 q σ * value_in t1 n σ) % modulus t1 → value_in t2 r σ ≡ (value_in t0 p σ + gate_value gate σ * value_in t0 q σ) % modulus t0
-with_product_has t0 t1 t2 p q n r gate σ grown of_p of_q n_is r_is =
+-- a polynomial times the product
+pub times_product_has : (t0 t1 t2 : Table) (q n r : Sum) (gate : Gate) (σ : Assignment) → Extends t0 t1 → IsOf t0 q → value_in t1 n σ ≡ gate_value gate σ % modulus t0 →
+    value_in t2 r σ ≡ (value_in t1 q σ * value_in t1 n σ) % modulus t1 → value_in t2 r σ ≡ (gate_value gate σ * value_in t0 q σ) % modulus t0
+times_product_has t0 t1 t2 q n r gate σ grown of_q n_is r_is =
     let m = modulus t0 in
-    let x = value_in t0 p σ in
     let y = value_in t0 q σ in
-    let same : modulus t1 ≡ m = modulus_stays t0 t1 grown in
-    let there : value_in t1 p σ + value_in t1 q σ * value_in t1 n σ ≡ x + gate_value gate σ % m * y =
-    ap₂ ◌+◌ (value_stays t0 t1 p σ grown of_p) (ap₂ (λ a b. a * b) (value_stays t0 t1 q σ grown of_q) n_is ∙ mul_comm y (gate_value gate σ % m)) in
-    r_is ∙ ap₂ (λ a k. a % k) there same ∙ sum_with_product_same m x (gate_value gate σ % m) y x (gate_value gate σ) y refl (mod-mod (gate_value gate σ) m) refl
-
--- a polynomial that a variable doesn't change
-pub unchanged_quotient : (t : Table) (p : Sum) (v : ℕ) (σ : Assignment) → ((τ : Assignment) (b : Bool) → value_in t p (assigned τ v b) ≡ value_in t p τ) → quotient (modulus t) v (value_in t p) σ ≡ 0
-unchanged_quotient t p v σ free = ap₂ (difference (modulus t)) (free σ true) (free σ false) ∙ difference_same (modulus t) (value_in t p σ) (pow_pos t.exponent)
-
-pub unchanged_has : (t : Table) (p : Sum) (gate : Gate) (σ : Assignment) → ((τ : Assignment) (b : Bool) → value_in t p (assigned τ gate.v b) ≡ value_in t p τ) →
-    value_in t p σ ≡ substituted (modulus t) gate.v (gate_value gate) (value_in t p) σ
-unchanged_has t p gate σ free =
-    let m = modulus t in
-    sym (ap₂ (λ a b. (a + gate_value gate σ * b) % m) (free σ false) (unchanged_quotient t p gate.v σ free) ∙ ap (λ z. z % m) (omega arith) ∙ mod-mod (sum_of m (monomials_in t p) σ) m)
+    let there : value_in t1 q σ * value_in t1 n σ ≡ 0 + gate_value gate σ % m * y =
+    ap₂ (λ a b. a * b) (value_stays t0 t1 q σ grown of_q) n_is ∙ mul_comm y (gate_value gate σ % m) ∙ omega arith in
+    r_is ∙ ap₂ (λ a k. a % k) there (modulus_stays t0 t1 grown) ∙
+    sum_with_product_same m 0 (gate_value gate σ % m) y 0 (gate_value gate σ) y refl (mod-mod (gate_value gate σ) m) refl ∙ ap (λ z. z % m) (omega arith)

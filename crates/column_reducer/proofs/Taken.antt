@@ -135,9 +135,9 @@ taken_by e s t0 t f p next g more x None is same fixed here next_is by takes h =
 taken_by e s t0 t f p next g more x (Some q) is same fixed here next_is by takes h = one_taken e s t0 t f p next g more x q is same fixed next_is by here takes h
 
 pub gate_taken : (e : Extended) (s : Sides) (t0 t : Table) (f : Taken) (p : Sum) (g more : Gathered) (x : Gate) (r : Elimination) → IsNext e f x → modulus t0 ≡ algebra.modulus e → IsFixedAbove e.max (value_in t0 p) → Extends t0 t →
-    IsEliminated t0 t x p r → Takes x.v r.factor g more → IsGathered e s t0 f (value_in t0 p) g → IsGathered e s t (step f (Eliminate x.v)) (value_in t r.rest) more
+    IsEliminated t0 t x p r → Takes x.v r.factor g more → IsGathered e s t0 f (value_in t0 p) g → IsGathered e s t (step f (Eliminate x.v)) (value_in t r.rest.sum) more
 gate_taken e s t0 t f p g more x r is same fixed grown by takes h =
-    taken_by e s t0 t f p r.rest g more x r.factor is same fixed (modulus_stays t0 t grown ∙ same) by.value by.factor takes (gathered_grown e s t0 t f (value_in t0 p) g grown h)
+    taken_by e s t0 t f p r.rest.sum g more x r.factor is same fixed (modulus_stays t0 t grown ∙ same) by.value by.factor takes (gathered_grown e s t0 t f (value_in t0 p) g grown h)
 
 -- ---- a group ended
 

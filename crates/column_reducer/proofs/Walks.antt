@@ -16,8 +16,9 @@ use Rattle.graph_core.specs.Algebra as algebra
 use Rattle.graph_core.proofs.OfGraphs.CallerLemmas.{sum_same}
 use Rattle.ripple_graft.specs.Extension.{IsExtension, new_outputs, outputs_from}
 use Rattle.ripple_graft.proofs.Plain.{outputs_from-none}
+use Rattle.poly_terms.specs.Indexed.{IndexedSum, IsIndexed}
 use Rattle.poly_terms.specs.Tables.{Table, Sum, Extends, IsOf, modulus, value_in}
-use Rattle.poly_terms.specs.Laws.{extends_on, modulus_stays, stays, value_stays}
+use Rattle.poly_terms.specs.Laws.{extends_on, indexed_stays, modulus_stays, stays, value_stays}
 use Rattle.frontier_core.specs.Sets.{has}
 use Rattle.frontier_core.specs.Columns.{column_value}
 use Rattle.frontier_core.specs.Frontier.{set_to}
@@ -37,23 +38,24 @@ use Rattle.column_reducer.proofs.Fixed.{column_fixed, gap_fixed, partial_fixed, 
 use Rattle.column_reducer.proofs.Grown.{function_stays, gathered_grown}
 use Rattle.column_reducer.proofs.Taken.{IsNext, gate_taken, none_known}
 
-abbrev pub walk_of : Sum → Option Gathered → Walk
+abbrev pub walk_of : IndexedSum → Option Gathered → Walk
 walk_of rest gathered = record { rest = rest; gathered = gathered }
 
 -- ---- before the first step
 
-pub walk_started : (e : Extended) (s : Sides) (t0 t1 t2 : Table) (rest : Sum) (g : Gathered) → modulus t0 ≡ algebra.modulus e → Extends t0 t1 → Extends t1 t2 → IsOf t1 rest →
-    ((σ : Assignment) → value_in t1 rest σ ≡ 0) → g.groups.items ≡ [] →
-    ((k : Assignment → ℕ) → ((σ : Assignment) → k σ ≡ 0) → IsGathered e s t2 nothing k g) → IsWalked e s t2 nothing (walk_of rest (Some g))
-walk_started e s t0 t1 t2 rest g same first second of none groups gathered =
-    let zero_there : (σ : Assignment) → value_in t2 rest σ ≡ 0 = λ σ. value_stays t1 t2 rest σ second of ∙ none σ in
+pub walk_started : (e : Extended) (s : Sides) (t0 t : Table) (rest : IndexedSum) (g : Gathered) → modulus t0 ≡ algebra.modulus e → Extends t0 t → IsOf t0 rest.sum → IsIndexed t0 rest →
+    ((σ : Assignment) → value_in t0 rest.sum σ ≡ 0) → g.groups.items ≡ [] →
+    ((k : Assignment → ℕ) → ((σ : Assignment) → k σ ≡ 0) → IsGathered e s t nothing k g) → IsWalked e s t nothing (walk_of rest (Some g))
+walk_started e s t0 t rest g same grown of indexed none groups gathered =
+    let zero_there : (σ : Assignment) → value_in t rest.sum σ ≡ 0 = λ σ. value_stays t0 t rest.sum σ grown of ∙ none σ in
     record {
-      same_modulus = modulus_stays t1 t2 second ∙ modulus_stays t0 t1 first ∙ same;
-      of = stays t1 t2 rest second of;
+      same_modulus = modulus_stays t0 t grown ∙ same;
+      of = stays t0 t rest.sum grown of;
+      indexed = indexed_stays t0 t rest grown of indexed;
       value = λ σ. zero_there σ ∙ sym ((first_frontier e).1 s σ);
       fixed = λ v b σ above. zero_there (set_to v b σ) ∙ sym (zero_there σ);
       known = λ v b σ above. none_known e s (set_to v b σ) ∙ sym (none_known e s σ);
-      gathered = gathered (value_in t2 rest) zero_there;
+      gathered = gathered (value_in t rest.sum) zero_there;
       few = let none' : length g.groups.items ≡ 0 = ap length groups in omega arith;
     }
 
@@ -100,13 +102,13 @@ few_with n t0 t1 column None (Some more) takes h = cc
 few_with n t0 t1 column (Some g) None takes h = absurd takes
 few_with n t0 t1 column (Some g) (Some more) takes h = subst (λ gs. length gs.items ≤ n) (sym takes.groups) h
 
-pub walk_added : (e : Extended) (s : Sides) (t0 t1 t2 t3 : Table) (f : Taken) (w : Walk) (k : ℕ) (column rest : Sum) (more : Option Gathered) → IsExtension e → ReadInputs e.graph s → e.replaced ≡ [] → k < length e.graph.outputs →
-    Extends t0 t1 → Extends t1 t2 → Extends t2 t3 → IsOf t1 column → IsOf t2 rest →
+pub walk_added : (e : Extended) (s : Sides) (t0 t1 t2 t3 : Table) (f : Taken) (w : Walk) (k : ℕ) (column : Sum) (rest : IndexedSum) (more : Option Gathered) → IsExtension e → ReadInputs e.graph s → e.replaced ≡ [] → k < length e.graph.outputs →
+    Extends t0 t1 → Extends t1 t2 → Extends t2 t3 → IsOf t1 column → IsOf t2 rest.sum → IsIndexed t2 rest →
     ((o : Lit) → slice_get (new_outputs e) k ≡ Some o → (σ : Assignment) → value_in t1 column σ ≡ column_value e s k o σ % modulus t0) →
-    ((σ : Assignment) → value_in t2 rest σ ≡ (value_in t1 w.rest σ + value_in t1 column σ) % modulus t1) →
+    ((σ : Assignment) → value_in t2 rest.sum σ ≡ (value_in t1 w.rest.sum σ + value_in t1 column σ) % modulus t1) →
     HasColumnIn t2 t3 column w.gathered more →
     IsFrontierOf e f → has f.added k ≡ false → IsWalked e s t0 f w → IsWalked e s t3 (step f (Add k)) (walk_of rest more)
-walk_added e s t0 t1 t2 t3 f w k column rest more made read none low first second third of_column of column_is rest_is takes frontier new h =
+walk_added e s t0 t1 t2 t3 f w k column rest more made read none low first second third of_column of indexed column_is rest_is takes frontier new h =
     let m = algebra.modulus e in
     let o : Lit = get_or e.graph.outputs k (record { 0 = 0 }) in
     let old : slice_get e.graph.outputs k ≡ Some o = slice_get-get_or e.graph.outputs k (record { 0 = 0 }) low in
@@ -114,18 +116,19 @@ walk_added e s t0 t1 t2 t3 f w k column rest more made read none low first secon
     let m1 : modulus t1 ≡ m = modulus_stays t0 t1 first ∙ h.same_modulus in
     let m2 : modulus t2 ≡ m = modulus_stays t1 t2 second ∙ m1 in
     let at : (σ : Assignment) → value_in t1 column σ ≡ column_value e s k o σ % m = λ σ. column_is o out σ ∙ ap (λ n. column_value e s k o σ % n) h.same_modulus in
-    let sum : (σ : Assignment) → value_in t3 rest σ ≡ (value_in t0 w.rest σ + column_value e s k o σ) % m = λ σ.
-    value_stays t2 t3 rest σ third of ∙ rest_is σ ∙ ap₂ (λ x y. (x + y) % modulus t1) (value_stays t0 t1 w.rest σ first h.of) (at σ) ∙
-    ap (λ n. (value_in t0 w.rest σ + column_value e s k o σ % m) % n) m1 ∙
-    sum_same m (value_in t0 w.rest σ) (value_in t0 w.rest σ) (column_value e s k o σ % m) (column_value e s k o σ) refl (mod-mod (column_value e s k o σ) m) in
+    let sum : (σ : Assignment) → value_in t3 rest.sum σ ≡ (value_in t0 w.rest.sum σ + column_value e s k o σ) % m = λ σ.
+    value_stays t2 t3 rest.sum σ third of ∙ rest_is σ ∙ ap₂ (λ x y. (x + y) % modulus t1) (value_stays t0 t1 w.rest.sum σ first h.of) (at σ) ∙
+    ap (λ n. (value_in t0 w.rest.sum σ + column_value e s k o σ % m) % n) m1 ∙
+    sum_same m (value_in t0 w.rest.sum σ) (value_in t0 w.rest.sum σ) (column_value e s k o σ % m) (column_value e s k o σ) refl (mod-mod (column_value e s k o σ) m) in
     record {
       same_modulus = modulus_stays t2 t3 third ∙ m2;
-      of = stays t2 t3 rest third of;
+      of = stays t2 t3 rest.sum third of;
+      indexed = indexed_stays t2 t3 rest third of indexed;
       value = λ σ. sum σ ∙ ap (λ x. (x + column_value e s k o σ) % m) (h.value σ) ∙ sym (adding_adds_column e s f.added f.eliminated k o σ made read frontier out new);
-      fixed = same_fixed e.max (value_in t3 rest) (λ σ. (value_in t0 w.rest σ + column_value e s k o σ) % m) sum
+      fixed = same_fixed e.max (value_in t3 rest.sum) (λ σ. (value_in t0 w.rest.sum σ + column_value e s k o σ) % m) sum
           (λ v b σ above. ap₂ (λ x y. (x + y) % m) (h.fixed v b σ above) (column_fixed e s k o made read old v b σ above));
       known = partial_fixed e s (k ∷ f.added) made read;
-      gathered = column_in e s t0 t2 t3 f (value_in t0 w.rest) (value_in t3 rest) column k o w.gathered more m2 (extends_on t0 t1 t2 first second) third old out new
+      gathered = column_in e s t0 t2 t3 f (value_in t0 w.rest.sum) (value_in t3 rest.sum) column k o w.gathered more m2 (extends_on t0 t1 t2 first second) third old out new
           (λ σ. value_stays t1 t2 column σ second of_column ∙ at σ) sum takes h.gathered;
       few = few_with (length e.gates) t2 t3 column w.gathered more takes h.few;
     }
@@ -133,7 +136,7 @@ walk_added e s t0 t1 t2 t3 f w k column rest more made read none low first secon
 -- ---- a gate
 
 taken_in : (e : Extended) (s : Sides) (t0 t : Table) (f : Taken) (p : Sum) (g more : Option Gathered) (x : Gate) (r : Elimination) → IsNext e f x → modulus t0 ≡ algebra.modulus e → IsFixedAbove e.max (value_in t0 p) → Extends t0 t →
-    IsEliminated t0 t x p r → TakesIn x.v r.factor g more → IfSome g (IsGathered e s t0 f (value_in t0 p)) → IfSome more (IsGathered e s t (step f (Eliminate x.v)) (value_in t r.rest))
+    IsEliminated t0 t x p r → TakesIn x.v r.factor g more → IfSome g (IsGathered e s t0 f (value_in t0 p)) → IfSome more (IsGathered e s t (step f (Eliminate x.v)) (value_in t r.rest.sum))
 taken_in e s t0 t f p None None x r is same fixed grown by takes h = tt
 taken_in e s t0 t f p None (Some more) x r is same fixed grown by takes h = cc
 taken_in e s t0 t f p (Some g) None x r is same fixed grown by takes h = absurd takes
@@ -150,33 +153,35 @@ few_in n v q (Some g) None takes h = absurd takes
 few_in n v q (Some g) (Some more) takes h = let same = groups_same v q g more takes in omega arith
 
 pub walk_eliminated : (e : Extended) (s : Sides) (t0 t : Table) (f : Taken) (w : Walk) (more : Option Gathered) (x : Gate) (r : Elimination) → IsExtension e → Contains e.gates x → Extends t0 t →
-    IsEliminated t0 t x w.rest r → TakesIn x.v r.factor w.gathered more →
+    IsEliminated t0 t x w.rest.sum r → TakesIn x.v r.factor w.gathered more →
     IsFrontierOf e f → has f.eliminated x.v ≡ false → IsWalked e s t0 f w → IsWalked e s t (step f (Eliminate x.v)) (walk_of r.rest more)
 walk_eliminated e s t0 t f w more x r made is grown by takes frontier new h =
     let next : IsNext e f x = record { made = made; gate = is; new = new } in
     record {
       same_modulus = modulus_stays t0 t grown ∙ h.same_modulus;
       of = by.of;
-      value = λ σ. eliminating_substitutes e s f.added f.eliminated x (value_in t0 w.rest) (value_in t r.rest) made frontier is new h.value
-          (λ τ. by.value τ ∙ ap (λ n. substituted n x.v (gate_value x) (value_in t0 w.rest) τ) h.same_modulus) σ;
-      fixed = same_fixed e.max (value_in t r.rest) (substituted (modulus t0) x.v (gate_value x) (value_in t0 w.rest)) by.value
-          (substituted_fixed e (modulus t0) x (value_in t0 w.rest) made is h.fixed);
+      indexed = by.indexed;
+      value = λ σ. eliminating_substitutes e s f.added f.eliminated x (value_in t0 w.rest.sum) (value_in t r.rest.sum) made frontier is new h.value
+          (λ τ. by.value τ ∙ ap (λ n. substituted n x.v (gate_value x) (value_in t0 w.rest.sum) τ) h.same_modulus) σ;
+      fixed = same_fixed e.max (value_in t r.rest.sum) (substituted (modulus t0) x.v (gate_value x) (value_in t0 w.rest.sum)) by.value
+          (substituted_fixed e (modulus t0) x (value_in t0 w.rest.sum) made is h.fixed);
       known = h.known;
-      gathered = taken_in e s t0 t f w.rest w.gathered more x r next h.same_modulus h.fixed grown by takes h.gathered;
+      gathered = taken_in e s t0 t f w.rest.sum w.gathered more x r next h.same_modulus h.fixed grown by takes h.gathered;
       few = few_in (length e.gates) x.v r.factor w.gathered more takes h.few;
     }
 
 -- ---- between steps
 
-walk_grown : (e : Extended) (s : Sides) (t0 t : Table) (f : Taken) (w : Walk) (g : Option Gathered) → Extends t0 t → IsWalked e s t0 f w → IfSome g (IsGathered e s t f (value_in t0 w.rest)) →
+walk_grown : (e : Extended) (s : Sides) (t0 t : Table) (f : Taken) (w : Walk) (g : Option Gathered) → Extends t0 t → IsWalked e s t0 f w → IfSome g (IsGathered e s t f (value_in t0 w.rest.sum)) →
     IfSome g (λ k. length k.groups.items ≤ length e.gates) → IsWalked e s t f (walk_of w.rest g)
 walk_grown e s t0 t f w g grown h gathered few = record {
   same_modulus = modulus_stays t0 t grown ∙ h.same_modulus;
-  of = stays t0 t w.rest grown h.of;
-  value = λ σ. value_stays t0 t w.rest σ grown h.of ∙ h.value σ;
-  fixed = subst (IsFixedAbove e.max) (sym (function_stays t0 t w.rest grown h.of)) h.fixed;
+  of = stays t0 t w.rest.sum grown h.of;
+  indexed = indexed_stays t0 t w.rest grown h.of h.indexed;
+  value = λ σ. value_stays t0 t w.rest.sum σ grown h.of ∙ h.value σ;
+  fixed = subst (IsFixedAbove e.max) (sym (function_stays t0 t w.rest.sum grown h.of)) h.fixed;
   known = h.known;
-  gathered = subst (λ (k : Assignment → ℕ). IfSome g (IsGathered e s t f k)) (sym (function_stays t0 t w.rest grown h.of)) gathered;
+  gathered = subst (λ (k : Assignment → ℕ). IfSome g (IsGathered e s t f k)) (sym (function_stays t0 t w.rest.sum grown h.of)) gathered;
   few = few;
 }
 
@@ -189,19 +194,21 @@ settled_few : (t0 t : Table) (rest : Sum) (n : ℕ) (g : Gathered) (r : Option G
 settled_few t0 t rest n g None settles low = tt
 settled_few t0 t rest n g (Some r) settles low = settles.few low
 
-pub walk_settled : (e : Extended) (s : Sides) (t0 t : Table) (f : Taken) (rest : Sum) (g : Gathered) (r : Option Gathered) → Extends t0 t → IfSome r (Settles t0 t rest (length e.gates) g) →
+pub walk_settled : (e : Extended) (s : Sides) (t0 t : Table) (f : Taken) (rest : IndexedSum) (g : Gathered) (r : Option Gathered) → Extends t0 t → IfSome r (Settles t0 t rest.sum (length e.gates) g) →
     IsWalked e s t0 f (walk_of rest (Some g)) → IsWalked e s t f (walk_of rest r)
 walk_settled e s t0 t f rest g r grown settles h =
-    walk_grown e s t0 t f (walk_of rest (Some g)) r grown h (settled_gathered e s t0 t f rest (length e.gates) g r h.same_modulus (gap_fixed e s f.added (value_in t0 rest) h.known h.fixed) settles h.gathered)
-    (settled_few t0 t rest (length e.gates) g r settles h.few)
+    walk_grown e s t0 t f (walk_of rest (Some g)) r grown h (settled_gathered e s t0 t f rest.sum (length e.gates) g r h.same_modulus (gap_fixed e s f.added (value_in t0 rest.sum) h.known h.fixed) settles h.gathered)
+    (settled_few t0 t rest.sum (length e.gates) g r settles h.few)
 
-pub walk_ended : (e : Extended) (s : Sides) (t0 t : Table) (f : Taken) (rest : Sum) (g more : Gathered) → Extends t0 t → length more.groups.items ≤ length g.groups.items + 1 →
-    (modulus t0 ≡ algebra.modulus e → IsFixedAbove e.max (gap e s f.added (value_in t0 rest)) → IsGathered e s t0 f (value_in t0 rest) g →
-    IsGathered e s t f (value_in t0 rest) more × (more.parts.items ≡ [])) → IsWalked e s t0 f (walk_of rest (Some g)) → HasEnded e s t f rest more
-walk_ended e s t0 t f rest g more grown count ends h =
-    let here = ends h.same_modulus (gap_fixed e s f.added (value_in t0 rest) h.known h.fixed) h.gathered in
+pub walk_ended : (e : Extended) (s : Sides) (t0 t : Table) (f : Taken) (rest : IndexedSum) (last : Sum) (g more : Gathered) → last ≡ rest.sum → Extends t0 t → length more.groups.items ≤ length g.groups.items + 1 →
+    (modulus t0 ≡ algebra.modulus e → IsFixedAbove e.max (gap e s f.added (value_in t0 last)) → IsGathered e s t0 f (value_in t0 last) g →
+    IsGathered e s t f (value_in t0 last) more × (more.parts.items ≡ [])) → IsWalked e s t0 f (walk_of rest (Some g)) → HasEnded e s t f last more
+walk_ended e s t0 t f rest last g more is grown count ends h =
+    let fixed = subst (λ p. IsFixedAbove e.max (value_in t0 p)) (sym is) h.fixed in
+    let gathered = subst (λ p. IsGathered e s t0 f (value_in t0 p) g) (sym is) h.gathered in
+    let here = ends h.same_modulus (gap_fixed e s f.added (value_in t0 last) h.known fixed) gathered in
     record {
-      gathered = subst (λ (k : Assignment → ℕ). IsGathered e s t f k more) (sym (function_stays t0 t rest grown h.of)) here.0;
+      gathered = subst (λ (k : Assignment → ℕ). IsGathered e s t f k more) (sym (function_stays t0 t last grown (subst (IsOf t0) (sym is) h.of))) here.0;
       few = let low : length g.groups.items ≤ length e.gates = h.few in omega arith;
       none = here.1;
     }

@@ -11,6 +11,7 @@ use Rattle.graph_core.specs.Algebra.{IsLive, axioms, combined, line_of, specific
 use Rattle.graph_core.specs.Algebra as algebra
 use Rattle.graph_core.specs.Algebra.Polynomials.{Term, difference}
 use Rattle.ripple_graft.specs.Extension.{IsExtension}
+use Rattle.poly_terms.specs.Indexed.{IsIndexed}
 use Rattle.poly_terms.specs.Tables.{Table, Sum, IsOf, modulus, monomials_in, value_in}
 use Rattle.frontier_core.specs.Frontier.{set_to}
 use Rattle.frontier_core.specs.Sets.{has}
@@ -24,6 +25,7 @@ use Rattle.column_reducer.specs.declared.elimination.Elimination.{Elimination}
 use Rattle.column_reducer.specs.declared.gathered.Gathered.{Gathered}
 use Rattle.column_reducer.specs.declared.gathered.Group.{Group}
 use Rattle.column_reducer.specs.declared.walk.Walk.{Walk}
+use Rattle.column_reducer.specs.declared.walk.Ended.{Ended}
 use Rattle.column_reducer.specs.declared.walk.Outcome.{Outcome}
 use Rattle.column_reducer.specs.declared.walk.Outcome.TheVariants as outcome
 use Rattle.column_reducer.specs.Reducing.{IsOfGraph, Planned, IsPassed, IsWithin, value_after}
@@ -49,10 +51,11 @@ abbrev pub IsTurned : ℕ → Table → (Assignment → ℕ) → Option Sum → 
 IsTurned m t by None = (σ : Assignment) → by σ ≡ 0
 IsTurned m t by (Some factor) = IsOpposite m t by factor
 
--- A polynomial with the product of a gate's operands in place of its variable, and minus the quotient by it.
+-- A polynomial with the product of a gate's operands in place of its variable, with its index, and minus the quotient by it.
 pub record IsEliminated (t0 t1 : Table) (x : Gate) (p : Sum) (r : Elimination) : Type 0 where
-  pub of : IsOf t1 r.rest
-  pub value : (σ : Assignment) → value_in t1 r.rest σ ≡ substituted (modulus t0) x.v (gate_value x) (value_in t0 p) σ
+  pub of : IsOf t1 r.rest.sum
+  pub indexed : IsIndexed t1 r.rest
+  pub value : (σ : Assignment) → value_in t1 r.rest.sum σ ≡ substituted (modulus t0) x.v (gate_value x) (value_in t0 p) σ
   pub factor : IsTurned (modulus t0) t1 (quotient (modulus t0) x.v (value_in t0 p)) r.factor
 
 -- ---- groups
@@ -123,11 +126,12 @@ pub record Settles (t0 t1 : Table) (rest : Sum) (most : ℕ) (old new : Gathered
 -- What there is after some steps: the frontier's function, and what is gathered, if it is kept.
 pub record IsWalked (e : Extended) (s : Sides) (t : Table) (f : Taken) (w : Walk) : Type 0 where
   pub same_modulus : modulus t ≡ algebra.modulus e
-  pub of : IsOf t w.rest
-  pub value : (σ : Assignment) → value_in t w.rest σ ≡ value_of_taken e s f σ
-  pub fixed : IsFixedAbove e.max (value_in t w.rest)
+  pub of : IsOf t w.rest.sum
+  pub indexed : IsIndexed t w.rest
+  pub value : (σ : Assignment) → value_in t w.rest.sum σ ≡ value_of_taken e s f σ
+  pub fixed : IsFixedAbove e.max (value_in t w.rest.sum)
   pub known : IsFixedAbove e.max (partial_specification e s f.added)
-  pub gathered : IfSome w.gathered (IsGathered e s t f (value_in t w.rest))
+  pub gathered : IfSome w.gathered (IsGathered e s t f (value_in t w.rest.sum))
   pub few : IfSome w.gathered (λ g. length g.groups.items ≤ length e.gates)
 
 -- the same with what is kept before
@@ -148,7 +152,7 @@ pub record AreTotal (e : Extended) (s : Sides) (t : Table) (rest : Sum) (g : Gat
   pub total : (σ : Assignment) → value_in t g.total σ ≡ difference (algebra.modulus e) (specification e s σ) (value_in t rest σ)
 
 -- All steps were taken within the budget.
-pub record IsEnded (p : Planned) (s : Sides) (t : Table) (budget : ℕ) (w : Walk) : Type 0 where
+pub record IsEnded (p : Planned) (s : Sides) (t : Table) (budget : ℕ) (w : Ended) : Type 0 where
   pub of : IsOf t w.rest
   pub last : (σ : Assignment) → value_in t w.rest σ ≡ value_after p s (length p.steps) σ
   pub within : IsWithin p s budget

@@ -1,20 +1,21 @@
 // A gate taken out of a polynomial.
-#![tactic(auto, using(poly_terms::specs::Laws::stays, poly_terms::specs::Laws::extends_on, poly_terms::specs::Laws::extends_itself))]
+#![tactic(auto, using(poly_terms::specs::Laws::stays, poly_terms::specs::Laws::extends_on, poly_terms::specs::Laws::extends_itself, poly_terms::specs::Laws::indexed_stays))]
 
 ghost use Rattle.std.specs.Prelude.{◌≡◌, ◌≢◌, ◌<◌, IfOk};
 ghost use Rattle.graph_core.specs.Graph.Assignments.{Assignment};
+ghost use Rattle.poly_terms.specs.Indexed.{IsIndexed};
 ghost use Rattle.poly_terms.specs.Tables.{Extends, IsOf, modulus, value_in};
 ghost use Rattle.column_reducer.specs.Gathering.{IsEliminated, IsOpposite, IsTurned};
 
-use crate::pieces::{opposite, with_product};
+use crate::pieces::{opposite, times_product};
 use graph_core::{Gate, Memory};
-use poly_terms::{Poly, Terms};
+use poly_terms::{Indexed, Poly, Terms};
 use std::alloc::Global;
 
 /// A polynomial after a gate was eliminated, and minus the quotient by the gate's variable, where it isn't 0.
 #[derive(Debug, Drop)]
 pub(crate) struct Elimination {
-    pub(crate) rest: Poly,
+    pub(crate) rest: Indexed,
     pub(crate) factor: Option<Poly>,
 }
 
@@ -22,21 +23,25 @@ pub(crate) struct Elimination {
 pub(crate) fn eliminate(
     alloc: Global,
     terms: &mut Terms,
-    rest: Poly,
+    rest: Indexed,
     gate: &Gate,
 ) -> Result<Elimination, Memory>
-    requires of { IsOf terms.old rest }
+    requires of { IsOf terms.old rest.sum }
+    requires indexed { IsIndexed terms.old rest }
     requires variable { 0 < gate.now.v }
     ensures extends { Extends terms.old terms.new }
-    ensures eliminated { IfOk result (IsEliminated terms.old terms.new gate.now rest) }
+    ensures eliminated { IfOk result (IsEliminated terms.old terms.new gate.now rest.sum) }
 {
-    if !terms.has_variable(&rest, gate.v) {
+    let mut rest = rest;
+    let taken = rest.take(terms, gate.v)?;
+    if terms.size(&taken) == 0 {
         return Ok(Elimination { rest, factor: None });
     }
-    let (by, without) = terms.split(&rest, gate.v)?;
-    let next = with_product(alloc, terms, &without, &by, gate)?;
+    let by = terms.quotient(&taken, gate.v)?;
+    let more = times_product(alloc, terms, &by, gate)?;
+    rest.add(terms, &more)?;
     let factor = turned(alloc, terms, &by)?;
-    Ok(Elimination { rest: next, factor })
+    Ok(Elimination { rest, factor })
 }
 
 // Minus a polynomial, where it isn't 0.

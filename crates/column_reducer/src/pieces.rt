@@ -122,22 +122,20 @@ fn product_of(alloc: Global, terms: &mut Terms, gate: &Gate) -> Result<Poly, Mem
     Ok(poly)
 }
 
-// A polynomial plus another one times the product of a gate's operands.
-pub(crate) fn with_product(
+// A polynomial times the product of a gate's operands.
+pub(crate) fn times_product(
     alloc: Global,
     terms: &mut Terms,
-    without: &Poly,
     by: &Poly,
     gate: &Gate,
 ) -> Result<Poly, Memory>
-    requires without { IsOf terms.old without.now }
     requires by { IsOf terms.old by.now }
     ensures extends { Extends terms.old terms.new }
     ensures of { IfOk result (IsOf terms.new) }
     ensures value { IfOk result (λ r. (σ : Assignment) → value_in terms.new r σ ≡
-        (value_in terms.old without.now σ + gate_value gate.now σ * value_in terms.old by.now σ) % modulus terms.old) }
+        (gate_value gate.now σ * value_in terms.old by.now σ) % modulus terms.old) }
 {
     let product = product_of(alloc, terms, gate)?;
-    let poly = terms.combine(without, by, &product)?;
+    let poly = terms.mul(by, &product)?;
     Ok(poly)
 }

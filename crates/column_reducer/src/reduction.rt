@@ -7,7 +7,7 @@ ghost use Rattle.column_reducer.specs.Reducing.{GoesOn, IsReduced};
 use crate::group_lines::write_groups;
 use crate::plan::Plan;
 use crate::reduced::Reduced;
-use crate::walk::{Outcome, Walk, take_steps};
+use crate::walk::{Ended, Outcome, take_steps};
 use graph_core::{Memory, Operands};
 use mv_fact::Grow;
 use pac_writer::Lines;
@@ -98,7 +98,7 @@ fn is_kept(outcome: &Outcome) -> bool
     ensures { IsTrue result → IsKept outcome.now }
 {
     match outcome {
-        Outcome::Ended(walk) => walk.gathered.is_some(),
+        Outcome::Ended(ended) => ended.gathered.is_some(),
         Outcome::Passed { .. } => true,
     }
 }
@@ -120,8 +120,8 @@ fn write_outcome(alloc: Global, lines: &mut Lines<'_>, outcome: Outcome) -> Resu
     let _outputs = lines.extended().graph().outputs();
     match outcome {
         Outcome::Passed { step, size } => Ok(Reduced::Passed { step, size }),
-        Outcome::Ended(walk) => {
-            let Walk { rest, gathered } = walk;
+        Outcome::Ended(ended) => {
+            let Ended { rest, gathered } = ended;
             match gathered {
                 None => unreachable!(),
                 Some(gathered) => {

@@ -1,5 +1,5 @@
 // When a group ends, and when nothing is gathered any more.
-#![tactic(auto, using(poly_terms::specs::Laws::stays, poly_terms::specs::Laws::extends_on, poly_terms::specs::Laws::extends_itself))]
+#![tactic(auto, using(poly_terms::specs::Laws::stays, poly_terms::specs::Laws::extends_on, poly_terms::specs::Laws::extends_itself, poly_terms::specs::Laws::indexed_stays))]
 
 ghost use Rattle.std.specs.Prelude.{◌≡◌, ◌≢◌, ◌≤◌, ◌+◌, ℕ, None, Ok, IfOk, IfSome, OnOk, length};
 ghost use Rattle.graph_core.specs.Algebra as algebra;
@@ -12,7 +12,7 @@ ghost use Rattle.column_reducer.specs.Gathering.{IsGathered, Settles};
 
 use crate::gathered::Gathered;
 use graph_core::Memory;
-use poly_terms::{Poly, Terms};
+use poly_terms::{Indexed, Terms};
 use std::alloc::Global;
 
 // A group ends once its factors have more monomials than this, so that no line gets very long.
@@ -22,16 +22,16 @@ const LARGE_GROUP: u64 = 1 << 16;
 pub(crate) fn settle(
     alloc: Global,
     terms: &mut Terms,
-    rest: &Poly,
+    rest: &Indexed,
     gathered: Gathered,
     most: usize,
     bound: Option<u64>,
 ) -> Result<Option<Gathered>, Memory>
-    requires of { IsOf terms.old rest.now }
-    requires gathered { (e : Extended) × (s : Sides) × (f : Taken) × IsGathered e s terms.old f (value_in terms.old rest.now) gathered }
+    requires of { IsOf terms.old rest.now.sum }
+    requires gathered { (e : Extended) × (s : Sides) × (f : Taken) × IsGathered e s terms.old f (value_in terms.old rest.now.sum) gathered }
     ensures extends { Extends terms.old terms.new }
     ensures kept { result ≡ Ok None → bound ≢ None }
-    ensures gathered { IfOk result (λ r. IfSome r (Settles terms.old terms.new rest.now most gathered)) }
+    ensures gathered { IfOk result (λ r. IfSome r (Settles terms.old terms.new rest.now.sum most gathered)) }
 {
     if is_past(&gathered, bound) {
         return Ok(None);
@@ -39,7 +39,8 @@ pub(crate) fn settle(
     if gathered.pending <= LARGE_GROUP || gathered.groups.len() >= most {
         return Ok(Some(gathered));
     }
-    let ended = gathered.end_group(alloc, terms, rest)?;
+    let now = rest.to_poly()?;
+    let ended = gathered.end_group(alloc, terms, &now)?;
     Ok(Some(ended))
 }
 

@@ -1,5 +1,5 @@
 // The loop over a plan's steps.
-#![tactic(auto, using(poly_terms::specs::Laws::stays, poly_terms::specs::Laws::extends_on, poly_terms::specs::Laws::extends_itself))]
+#![tactic(auto, using(poly_terms::specs::Laws::stays, poly_terms::specs::Laws::extends_on, poly_terms::specs::Laws::extends_itself, poly_terms::specs::Laws::indexed_stays))]
 
 ghost use Rattle.std.specs.Prelude.{◌≡◌, ◌≢◌, ◌≤◌, ◌<◌, ◌+◌, ℕ, [], None, false, Ok, IfOk, IfSome, IsSome, OnOk, length};
 ghost use Rattle.std.specs.List.{Contains};
@@ -17,13 +17,12 @@ ghost use Rattle.column_reducer.specs.Gathering.{HasColumnIn, IsOutcome, IsWalke
 
 use crate::elimination::eliminate;
 use crate::gathered::Gathered;
-use crate::pieces::zero_poly;
 use crate::plan::Plan;
 use crate::settling::settle;
 use frontier_core::Step;
 use gate_axioms::column_poly;
 use graph_core::{Gate, Memory, Operands};
-use poly_terms::{Poly, Terms};
+use poly_terms::{Indexed, Poly, Terms};
 use ripple_graft::Extended;
 use std::alloc::Global;
 
@@ -31,8 +30,15 @@ use std::alloc::Global;
 #[derive(Debug, Drop)]
 pub(crate) struct Walk {
     /// the frontier's function
-    pub(crate) rest: Poly,
+    pub(crate) rest: Indexed,
     /// none where it became too much to keep
+    pub(crate) gathered: Option<Gathered>,
+}
+
+/// What there is after all steps: no group is open.
+#[derive(Debug, Drop)]
+pub(crate) struct Ended {
+    pub(crate) rest: Poly,
     pub(crate) gathered: Option<Gathered>,
 }
 
@@ -40,7 +46,7 @@ pub(crate) struct Walk {
 #[derive(Debug, Drop)]
 pub(crate) enum Outcome {
     /// all steps were taken
-    Ended(Walk),
+    Ended(Ended),
     /// the first step that leaves more monomials than the budget, and how many
     Passed { step: u64, size: u64 },
 }
@@ -85,21 +91,21 @@ ghost use Rattle.column_reducer.specs.Reducing.{HasSizeAt};
 fn passed(
     terms: &Terms,
     plan: &Plan<'_>,
-    rest: &Poly,
+    rest: &Indexed,
     count: usize,
     budget: u64,
 ) -> Option<(u64, u64)>
-    requires of { IsOf terms.now rest.now }
+    requires of { IsOf terms.now rest.now.sum }
     ensures step { IfSome result (λ r. plan.now.uncounted + r.0 ≡ count) }
     ensures above { IfSome result (λ r. budget < r.1) }
-    ensures size { IfSome result (λ r. HasSize (modulus terms.now) (value_in terms.now rest.now) r.1) }
+    ensures size { IfSome result (λ r. HasSize (modulus terms.now) (value_in terms.now rest.now.sum) r.1) }
     ensures within { result ≡ None → plan.now.uncounted ≤ count → (n : ℕ) →
-        HasSize (modulus terms.now) (value_in terms.now rest.now) n → n ≤ budget }
+        HasSize (modulus terms.now) (value_in terms.now rest.now.sum) n → n ≤ budget }
 {
     if count < plan.uncounted() {
         return None;
     }
-    let size = terms.size(rest);
+    let size = rest.size();
     if size <= budget {
         return None;
     }
@@ -113,7 +119,7 @@ impl Walk {
         ensures kept { IfOk result (λ w. IsSome w.gathered) }
         ensures walked { IfOk result (λ w. (e : ExtendedGraph) (s : Sides) → modulus terms.old ≡ algebra.modulus e → IsWalked e s terms.new nothing w) }
     {
-        let rest = zero_poly(alloc, terms)?;
+        let rest = Indexed::new(alloc, terms);
         let gathered = Gathered::new(alloc, terms)?;
         Ok(Walk {
             rest,
@@ -168,8 +174,8 @@ impl Walk {
     {
         let _gates = extended.gates();
         let column = column_poly(alloc, terms, extended, operands, k)?;
-        let Walk { rest, gathered } = self;
-        let rest = terms.add(&rest, &column)?;
+        let Walk { mut rest, gathered } = self;
+        rest.add(terms, &column)?;
         let gathered = with_column(terms, gathered, &column)?;
         Ok(Walk { rest, gathered })
     }
@@ -230,23 +236,24 @@ impl Walk {
     }
 
     // Ends the last group.
-    fn ended(self, alloc: Global, terms: &mut Terms) -> Result<Walk, Memory>
+    fn ended(self, alloc: Global, terms: &mut Terms) -> Result<Ended, Memory>
         requires walked { (e : ExtendedGraph) × (s : Sides) × (f : Taken) × IsWalked e s terms.old f self }
         ensures extends { Extends terms.old terms.new }
         ensures kept { IfOk result (λ w. IsSome self.gathered → IsSome w.gathered) }
-        ensures rest { IfOk result (λ w. w.rest ≡ self.rest) }
+        ensures rest { IfOk result (λ w. w.rest ≡ self.rest.sum) }
         ensures total { IfOk result (λ w. (e : ExtendedGraph) (s : Sides) (f : Taken) → IsWalked e s terms.old f self →
             IfSome w.gathered (HasEnded e s terms.new f w.rest)) }
     {
         let Walk { rest, gathered } = self;
+        let rest = rest.to_poly()?;
         match gathered {
-            None => Ok(Walk {
+            None => Ok(Ended {
                 rest,
                 gathered: None,
             }),
             Some(gathered) => {
                 let ended = gathered.end_group(alloc, terms, &rest)?;
-                Ok(Walk {
+                Ok(Ended {
                     rest,
                     gathered: Some(ended),
                 })

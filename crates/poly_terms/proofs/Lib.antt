@@ -18,3 +18,6 @@ pub mod Replacing
 pub mod Dividing
 pub mod Summing
 pub mod Placed
+pub mod Sparse
+pub mod Entering
+pub mod Indexing

@@ -1,12 +1,13 @@
 -- What holds of a polynomial in a table holds in each table that extends it.
-use Rattle.std.specs.Prelude.{ℕ, false, ◌≡◌, ◌^◌, ◌<◌, ◌++◌, List, [], ◌∷◌, get_or, length, slice_index_or, refl}
+use Rattle.std.specs.Prelude.{ℕ, false, true, ◌≡◌, ◌^◌, ◌<◌, ◌++◌, List, [], ◌∷◌, get_or, length, slice_index_or, refl}
 use Rattle.std.specs.List.{All, AllByRecursion}
 use Rattle.std.proofs.Common.{sym, ap, ap₂, subst, ◌∙◌, arith, append-nil, append_assoc, length-append}
 use Rattle.std.proofs.lemmas.List.{get_or_append_left}
 use Rattle.graph_core.specs.Algebra.Polynomials.{value}
 use Rattle.graph_core.specs.Graph.Assignments.{Assignment}
 use Rattle.poly_terms.specs.Entries.{Sum}
-use Rattle.poly_terms.specs.Monomials.{AreIn, Grows}
+use Rattle.poly_terms.specs.Indexed.{IndexedSum, IndexesStay, IsAtPlace, IsIndexed}
+use Rattle.poly_terms.specs.Monomials.{AreIn, Grows, has_in, has_variable}
 use Rattle.poly_terms.specs.Tables.{Table, IsOf, Extends, modulus, monomials_in, value_in, ValuesStay, ModulusStays, TablesExtend}
 
 pub modulus_stays : ModulusStays
@@ -82,6 +83,18 @@ monomials_stay old new p e h = same_monomials old new p e.1 h.numbers
 
 pub all_stay : (old new : Table) (ps : List Sum) → Extends old new → All (IsOf old) ps → All (IsOf new) ps
 all_stay old new ps e h = λ k d l. stays old new (slice_index_or ps k d) e (h k d l)
+
+all_indexed : (old new places : List (List ℕ)) (es : Sum) → Grows old new → AreIn old es → AllByRecursion (λ e. (v : ℕ) → has_in old v e ≡ true → IsAtPlace places v e.0) es →
+    AllByRecursion (λ e. (v : ℕ) → has_in new v e ≡ true → IsAtPlace places v e.0) es
+all_indexed old new places [] g n h = tt
+all_indexed old new places (e ∷ es) g n h = (λ v has. h.0 v (ap (has_variable v) (sym (stands_in_grown old new e.0 g n.0)) ∙ has), all_indexed old new places es g n.1 h.1)
+
+pub indexes_stay : IndexesStay
+unfolding Extends IsOf IsIndexed
+indexes_stay old new x e of h = all_indexed old.monomials new.monomials x.places x.sum e.1 of.numbers h
+
+pub indexed_stays : (old new : Table) (x : IndexedSum) → Extends old new → IsOf old x.sum → IsIndexed old x → IsIndexed new x
+indexed_stays old new x e of h = indexes_stay old new x e of h
 
 pub still_zero : (old new : Table) (p : Sum) (σ : Assignment) → Extends old new → IsOf old p → value_in old p σ ≡ 0 → value_in new p σ ≡ 0
 still_zero old new p σ e h z = value_stays old new p σ e h ∙ z

@@ -2,7 +2,9 @@
 //!
 //! Each call that makes a polynomial says its value at every assignment; `equals` is true exactly where two
 //! polynomials agree at every assignment, and `size` counts the monomials of the one normal form. A table only
-//! grows: an older polynomial keeps its values. Nothing but the calls that make a polynomial takes memory.
+//! grows: an older polynomial keeps its values. `Indexed` is a polynomial that changes in place, and from which the
+//! terms with a variable are taken out in their own number's time. Nothing but the calls that make or change a
+//! polynomial takes memory.
 //!
 //! *Value*: that of the monomials in the table, modulo its modulus. *Of the table*: in normal form there, as each
 //! polynomial is that a call of this table made. *Extends*: gives each polynomial of the old table its value
@@ -20,11 +22,14 @@
 mod addition;
 mod by_number;
 mod coefficient;
+mod coefficients;
 mod evaluation;
+mod indexed;
 mod monomial;
 mod multiplication;
 mod numbering;
 mod parts;
+mod places;
 mod poly;
 mod quotient;
 mod substitution;
@@ -34,8 +39,11 @@ mod term;
 mod terms;
 mod variables;
 
+pub use indexed::Indexed;
 pub use poly::Poly;
 pub use sum_of_products::SumOfProducts;
-pub use table_laws::{modulus_stays, monomials_are_normal, tables_extend, values_stay};
+pub use table_laws::{
+    indexes_stay, modulus_stays, monomials_are_normal, tables_extend, values_stay,
+};
 pub use terms::Terms;
 pub use variables::Variables;

@@ -1,12 +1,18 @@
-use Rattle.column_reducer.proofs.Eliminations.{eliminated_of, unchanged}
+use Rattle.poly_terms.specs.Tables.{modulus, value_in}
+use Rattle.column_reducer.proofs.Eliminations.{eliminated_none, eliminated_of}
+use Rattle.column_reducer.proofs.Sizes.{size_none}
 use Rattle.column_reducer.proofs.elimination.eliminate.Goals as goal
 
-pub returns-then-not-has_variable-clause-eliminated : goal.returns-then-not-has_variable-clause-eliminated
-returns-then-not-has_variable-clause-eliminated c =
-    unchanged c.args.terms.now c.args.gate.now c.args.rest c.requires.of (c.has_variable.ensures.free (λ is. cc (is, c.if-not-has_variable.true)))
+pub returns-then-size-eq0-clause-eliminated : goal.returns-then-size-eq0-clause-eliminated
+returns-then-size-eq0-clause-eliminated c =
+    let t = c.args.terms.now in
+    let taken = c.in_ok-taken.taken in
+    eliminated_none t c.args.gate.now c.args.rest.sum taken c.take.new.self c.in_ok-taken.ensures.of c.in_ok-taken.ensures.indexed c.in_ok-taken.ensures.rest c.in_ok-taken.ensures.quotient
+    (size_none (modulus t) (value_in t taken) c.size.result c.size.ensures.size c.if-size-eq0.true)
 
 pub returns-clause-eliminated : goal.returns-clause-eliminated
 returns-clause-eliminated c =
-    eliminated_of c.args.terms.now c.split.new.self c.with_product.new.terms c.turned.new.terms c.args.gate.now c.args.rest c.in_ok-by.without c.in_ok-by.by c.in_ok-next.next c.in_ok-factor.factor
-    c.in_ok-by.ensures.extends c.in_ok-next.ensures.extends c.in_ok-factor.ensures.extends c.in_ok-by.ensures.of.0 c.in_ok-next.ensures.of
-    c.in_ok-by.ensures.quotient c.in_ok-by.ensures.rest c.in_ok-next.ensures.value c.in_ok-factor.ensures.factor
+    eliminated_of c.args.terms.now c.quotient.new.self c.times_product.new.terms c.turned.new.terms c.args.gate.now c.args.rest.sum c.in_ok-taken.taken c.in_ok-by.by c.in_ok-more.more
+    c.take.new.self c.add.new.self c.in_ok-factor.factor c.in_ok-by.ensures.extends c.in_ok-more.ensures.extends c.in_ok-factor.ensures.extends
+    c.in_ok-taken.ensures.of c.in_ok-by.ensures.of c.in_ok-add.ensures.of c.in_ok-add.ensures.indexed c.in_ok-taken.ensures.rest c.in_ok-taken.ensures.quotient c.in_ok-by.ensures.value
+    c.in_ok-more.ensures.value c.in_ok-add.ensures.value c.in_ok-factor.ensures.factor

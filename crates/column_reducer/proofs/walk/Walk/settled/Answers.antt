@@ -12,5 +12,5 @@ returns-in_ok-settled-in-Some-clause-walked c e s f is h =
     let g = c.in-Some.gathered in
     let r = c.in_ok-settled-in-Some.settled in
     walk_settled e s t0 t f rest g r c.in_ok-settled-in-Some.ensures.extends
-    (subst (λ n. IfSome r (Settles t0 t rest n g)) is c.in_ok-settled-in-Some.ensures.gathered)
+    (subst (λ n. IfSome r (Settles t0 t rest.sum n g)) is c.in_ok-settled-in-Some.ensures.gathered)
     (subst (λ o. IsWalked e s t0 f (walk_of rest o)) c.in-Some.is h)

@@ -1,0 +1,86 @@
+-- Numbers put at the places of variables.
+use Rattle.std.proofs.Common.{◌≡◌, ◌≢◌, ◌⊎◌, ℕ, zero, suc, ◌+◌, ◌<◌, Bool, true, false, ◌||◌, ◌==◌, List, [], ◌∷◌, ◌++◌, length, get_or, map, set, take, inl, inr, refl, sym, ap, ap₂, subst, ◌∙◌, ⊎_elim, arith, eqb-true, true≢false, get_or-set_same, get_or-set_other}
+use Rattle.std.proofs.lemmas.Bool.{cases_Bool, eqb-false}
+use Rattle.std.proofs.lemmas.List.{get_or-map, length-map, take_more}
+use Rattle.std.proofs.lemmas.List.Elements.{Contains-append_left, Contains-push}
+use Rattle.std.specs.Global.{Global}
+use Rattle.std.specs.List.{Contains}
+use Rattle.std.specs.declared.vec.Vec.{Vec}
+use Rattle.poly_terms.specs.Indexed.{Enters, EntersNew, IsAtPlace}
+use Rattle.poly_terms.specs.Monomials.{has_variable}
+
+pub enters_none : (number : ℕ) (places : List (List ℕ)) → Enters number [] places places
+enters_none number places = record { kept = λ v n h. h; entered = λ v has. absurd (true≢false (sym has)) }
+
+has-more : (u v : ℕ) (vs : List ℕ) → has_variable u (vs ++ v ∷ []) ≡ true → (has_variable u vs ≡ true) ⊎ (has_variable u (v ∷ []) ≡ true)
+has-more u v [] h = inr h
+has-more u v (x ∷ xs) h = go (x == u) (λ g. has-more u v xs g) h
+  where
+    go : (b : Bool) → (has_variable u (xs ++ v ∷ []) ≡ true → (has_variable u xs ≡ true) ⊎ (has_variable u (v ∷ []) ≡ true)) → (b || has_variable u (xs ++ v ∷ [])) ≡ true →
+        ((b || has_variable u xs) ≡ true) ⊎ (has_variable u (v ∷ []) ≡ true)
+    go true rest h = inl refl
+    go false rest h = rest h
+
+-- the step of a loop over variables
+pub enters_more : (number : ℕ) (a b c : List (List ℕ)) (vs : List ℕ) (i v : ℕ) → i < length vs → v ≡ get_or vs i v → Enters number (take i vs) a b → Enters number (v ∷ []) b c →
+    Enters number (take (i + 1) vs) a c
+enters_more number a b c vs i v low at p q = record {
+  kept = λ u n h. q.kept u n (p.kept u n h);
+  entered = λ u has.
+      ⊎_elim (λ before. q.kept u number (p.entered u before)) (λ here. q.entered u here)
+      (has-more u v (take i vs) (subst (λ us. has_variable u us ≡ true) (take_more vs i v low ∙ ap (λ w. take i vs ++ w ∷ []) (sym at)) has));
+}
+
+same_or_not : (i n : ℕ) → (i ≡ n) ⊎ (i ≢ n)
+same_or_not i n = ⊎_elim (λ t. inl (eqb-true i n t)) (λ f. inr (eqb-false i n f)) (cases_Bool (i == n))
+
+-- a number put behind those of a variable
+pub enters_one : (number v : ℕ) (old mid new : List (List ℕ)) → ((u : ℕ) → get_or mid u [] ≡ get_or old u []) → v < length mid → new ≡ set mid v (get_or mid v [] ++ number ∷ []) →
+    Enters number (v ∷ []) old new
+enters_one number v old mid new same low is = record {
+  kept = λ u n h.
+      let before : Contains (get_or mid u []) n = subst (λ ns. Contains ns n) (sym (same u)) h in
+      ⊎_elim
+      (λ e. subst (λ ns. Contains ns n) (sym (ap (λ w. get_or new w []) e ∙ here)) (Contains-append_left (get_or mid v []) (number ∷ []) n (subst (λ w. Contains (get_or mid w []) n) e before)))
+      (λ other. subst (λ ns. Contains ns n) (sym (ap (λ ps. get_or ps u []) is ∙ get_or-set_other mid v u (get_or mid v [] ++ number ∷ []) [] other)) before)
+      (same_or_not u v);
+  entered = λ u has. subst (λ w. Contains (get_or new w []) number) (the_one u has) (subst (λ ns. Contains ns number) (sym here) (Contains-push (get_or mid v []) number));
+}
+  where
+    here : get_or new v [] ≡ get_or mid v [] ++ number ∷ []
+    here = ap (λ ps. get_or ps v []) is ∙ get_or-set_same mid v (get_or mid v [] ++ number ∷ []) [] low
+
+    the_one : (u : ℕ) → has_variable u (v ∷ []) ≡ true → v ≡ u
+    the_one u has = go (v == u) refl has
+      where
+        go : (b : Bool) → (v == u) ≡ b → (b || false) ≡ true → v ≡ u
+        go true e h = eqb-true v u e
+        go false e h = absurd (true≢false (sym h))
+
+pub enters_new : (before number : ℕ) (vs : List ℕ) (old new : List (List ℕ)) → Enters number vs old new → EntersNew before number vs old new
+enters_new before number vs old new e = record { kept = e.kept; entered = λ _. e.entered }
+
+pub enters_not : (before number : ℕ) (vs : List ℕ) (places : List (List ℕ)) → before ≢ 0 → EntersNew before number vs places places
+enters_not before number vs places some = record { kept = λ v n h. h; entered = λ none. absurd (some none) }
+
+-- ---- as they are kept
+
+map-set : {X Y : Type 0} (g : X → Y) (xs : List X) (n : ℕ) (x : X) → map g (set xs n x) ≡ set (map g xs) n (g x)
+map-set g [] n x = refl
+map-set g (y ∷ ys) zero x = refl
+map-set g (y ∷ ys) (suc n) x = ap (λ zs. g y ∷ zs) (map-set g ys n x)
+
+pub enters_item : (number v : ℕ) (old mid : List (List ℕ)) (xs : List (Vec ℕ Global)) (item more : Vec ℕ Global) → map (λ ns. ns.items) xs ≡ mid → ((u : ℕ) → get_or mid u [] ≡ get_or old u []) →
+    v < length mid → item ≡ get_or xs v item → more.items ≡ item.items ++ number ∷ [] → Enters number (v ∷ []) old (map (λ ns. ns.items) (set xs v more))
+enters_item number v old mid xs item more view same low at is =
+    let long : length mid ≡ length xs = ap length (sym view) ∙ length-map xs (λ (ns : Vec ℕ Global). ns.items) in
+    let within : v < length xs = omega arith in
+    let there : get_or mid v [] ≡ item.items =
+    ap (λ ps. get_or ps v []) (sym view) ∙ get_or-map (λ (ns : Vec ℕ Global). ns.items) xs v item [] within ∙ ap (λ (ns : Vec ℕ Global). ns.items) (sym at) in
+    enters_one number v old mid (map (λ ns. ns.items) (set xs v more)) same low
+    (map-set (λ (ns : Vec ℕ Global). ns.items) xs v more ∙ ap₂ (λ ps ns. set ps v ns) view (is ∙ ap (λ ns. ns ++ number ∷ []) (sym there)))
+
+pub others_item : (v : ℕ) (old : List (List ℕ)) (xs : List (Vec ℕ Global)) (item : Vec ℕ Global) → map (λ ns. ns.items) xs ≡ old → (u : ℕ) → u ≢ v →
+    get_or (map (λ ns. ns.items) (set xs v item)) u [] ≡ get_or old u []
+others_item v old xs item view u other =
+    ap (λ ps. get_or ps u []) (map-set (λ (ns : Vec ℕ Global). ns.items) xs v item) ∙ get_or-set_other (map (λ ns. ns.items) xs) v u item.items [] other ∙ ap (λ ps. get_or ps u []) view

@@ -1,0 +1,13 @@
+use Rattle.std.proofs.Common.{◌+◌, [], ◌∷◌, ◌++◌, get_or, take, ap, sym, ◌∙◌, arith}
+use Rattle.std.proofs.lemmas.List.{length-take-le, take_more}
+use Rattle.poly_terms.specs.Indexed.{terms_from}
+use Rattle.poly_terms.proofs.Sparse.{terms-push}
+use Rattle.poly_terms.proofs.coefficients.terms_of.Goals as goal
+
+pub loop-number-preserved : goal.loop-number-preserved
+loop-number-preserved c =
+    let cs = c.args.by_number.now in
+    let i = c.loop-number.number in
+    let low = c.loop-number-test.true in
+    c.in_ok-push_term.ensures ∙ ap (λ es. es ++ terms_from i (get_or cs i 0 ∷ [])) c.loop-number.invariant ∙
+    sym (ap (terms_from 0) (take_more cs i 0 low) ∙ terms-push (take i cs) i (get_or cs i 0) (length-take-le i cs (omega (arith, low))))

@@ -1,0 +1,17 @@
+use Rattle.std.proofs.Common.{◌≡◌, ◌<◌, [], ◌∷◌, ◌++◌, get_or, true, ap, sym, subst, ◌∙◌, arith}
+use Rattle.poly_terms.specs.Monomials.{has_variable}
+use Rattle.poly_terms.proofs.Indexing.{takes_one}
+use Rattle.poly_terms.proofs.Sparse.{some_within}
+use Rattle.poly_terms.proofs.indexed.take_one.Goals as goal
+
+pub returns-in_ok-push-clause-taken : goal.returns-in_ok-push-clause-taken
+returns-in_ok-push-clause-taken c =
+    let ms = c.args.table.now in
+    let v = c.args.v in
+    let n = c.args.number in
+    let old = c.args.coefficients.now in
+    let ne0 = c.if-coefficient-ne0.true in
+    let some : 0 < get_or old n 0 = omega (arith, c.at-coefficient.ensures, ne0) in
+    let has : has_variable v (get_or ms n []) ≡ true = ap (has_variable v) c.variables.ensures.value ∙ sym c.if-has_variable.ensures in
+    takes_one ms v old c.put.new.self c.args.out.now.items c.push.new.self.items n c.at-coefficient.result c.at-coefficient.ensures (some_within old n some) (c.requires n some) has
+    (c.in_ok-push.ensures.items ∙ ap (λ e. c.args.out.now.items ++ e ∷ []) c.new.ensures) c.put.ensures

@@ -1,0 +1,129 @@
+// Coefficients by the numbers of monomials, with a count of those that aren't 0.
+ghost use Rattle.std.specs.Prelude.{◌≡◌, ◌≢◌, ◌+◌, ◌<◌, [], IfOk, OnOk, get_or, length, set};
+ghost use Rattle.poly_terms.specs.Indexed.{IsLonger, counted, terms_from};
+
+use crate::term::Term;
+use std::alloc::{AllocError, Global};
+use std::marker::Model;
+
+/// The coefficients of a polynomial, by number. A number past the end has 0.
+#[derive(Debug, Drop)]
+pub(crate) struct Coefficients {
+    by_number: Vec<u128>,
+    /// how many aren't 0
+    count: u64,
+}
+
+impl Model for Coefficients {
+    ghost use Rattle.std.specs.Prelude.{List, ℕ, ◌≡◌, length};
+    ghost use Rattle.poly_terms.specs.Indexed.{terms_from};
+
+    ghost Value = { List ℕ };
+
+    ghost view = { λ c. c.by_number.items };
+
+    ghost invariant = { λ c. c.count ≡ length (terms_from 0 c.by_number.items) };
+}
+
+impl Coefficients {
+    pub(crate) fn new(alloc: Global) -> Coefficients
+        ensures { result ≡ [] }
+    {
+        Coefficients {
+            by_number: Vec::new(alloc),
+            count: 0,
+        }
+    }
+
+    /// Has a number within, by as many 0 as it takes.
+    pub(crate) fn reach(&mut self, number: u64) -> Result<(), AllocError>
+        ensures longer { IsLonger self.old self.new }
+        ensures long { OnOk result (number < length self.new) }
+    {
+        lengthen(&mut self.by_number, number)
+    }
+
+    /// Puts a coefficient in place of a number's.
+    pub(crate) fn put(&mut self, number: u64, coefficient: u128)
+        requires { number < length self.old }
+        ensures { self.new ≡ set self.old number coefficient }
+    {
+        let place = number as usize;
+        self.count = recount(self.count, self.by_number[place], coefficient);
+        self.by_number[place] = coefficient;
+    }
+
+    /// The coefficient of a number.
+    pub(crate) fn at(&self, number: u64) -> u128
+        ensures { result ≡ get_or self.now number 0 }
+    {
+        match self.by_number.get(number as usize) {
+            Some(coefficient) => *coefficient,
+            None => 0,
+        }
+    }
+
+    /// How many terms there are.
+    pub(crate) fn count(&self) -> u64
+        ensures { result ≡ length (terms_from 0 self.now) }
+    {
+        self.count
+    }
+
+    /// The terms, rising.
+    pub(crate) fn terms(&self, alloc: Global) -> Result<Vec<Term>, AllocError>
+        ensures { IfOk result (λ out. out.items ≡ terms_from 0 self.now) }
+    {
+        terms_of(alloc, &self.by_number)
+    }
+}
+
+// Coefficients of 0 up to a number.
+fn lengthen(by_number: &mut Vec<u128>, number: u64) -> Result<(), AllocError>
+    ensures longer { IsLonger by_number.old.items by_number.new.items }
+    ensures long { OnOk result (number < length by_number.new.items) }
+{
+    for _ in by_number.len()..=number as usize {
+        by_number.push(0)?;
+    }
+    Ok(())
+}
+
+// How many there are once a coefficient stands in place of another.
+fn recount(count: u64, before: u128, after: u128) -> u64
+    requires some { before ≢ 0 → 0 < count }
+    requires room { before ≡ 0 → count + 1 < 2 ^ 64 }
+    ensures { result + counted before ≡ count + counted after }
+{
+    if before == 0 {
+        if after == 0 { count } else { count + 1 }
+    } else if after == 0 {
+        count - 1
+    } else {
+        count
+    }
+}
+
+ghost use Rattle.std.specs.Prelude.{◌^◌};
+
+fn terms_of(alloc: Global, by_number: &[u128]) -> Result<Vec<Term>, AllocError>
+    ensures { IfOk result (λ out. out.items ≡ terms_from 0 by_number.now) }
+{
+    let mut out = Vec::new(alloc);
+    for number in 0..by_number.len() {
+        push_term(number as u64, by_number[number], &mut out)?;
+    }
+    Ok(out)
+}
+
+// A term behind others, unless it is 0.
+fn push_term(number: u64, coefficient: u128, out: &mut Vec<Term>) -> Result<(), AllocError>
+    ensures { OnOk result (out.new.items ≡ out.old.items ++ terms_from number (coefficient ∷ [])) }
+{
+    if coefficient != 0 {
+        out.push(Term::new(number, coefficient))?;
+    }
+    Ok(())
+}
+
+ghost use Rattle.std.specs.Prelude.{◌++◌, ◌∷◌};
