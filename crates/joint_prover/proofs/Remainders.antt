@@ -1,4 +1,4 @@
--- What the plain plan's remainder says of the graph.
+-- What the remainder of a plan says of the graph.
 use Rattle.std.proofs.Common.{◌≡◌, ◌≢◌, ℕ, ◌+◌, ◌%◌, ◌^◌, ◌<◌, ◌≤◌, Bool, cond, List, [], ◌∷◌, ◌++◌, length, map, take, refl, sym, ap, ap₂, subst, ◌∙◌, arith, ⊎_elim, ne_eqb, length-append}
 use Rattle.std.specs.Prelude.{None, Some, IsSome}
 use Rattle.std.specs.List.{AllByRecursion}
@@ -14,7 +14,7 @@ use Rattle.frontier_core.specs.Columns.{all_columns}
 use Rattle.frontier_core.specs.Frontier.{frontier_value}
 use Rattle.frontier_core.specs.LastFrontier.{IsEnd, IsOverInputs}
 use Rattle.frontier_core.specs.LeastDifference.{AreInputs, IsLeastDifference, IsLeastDifferenceAt, IsLeastNonzero}
-use Rattle.frontier_core.specs.Plan.{Taken, nothing, plain_steps, taken, value_of_taken}
+use Rattle.frontier_core.specs.Plan.{IsPlan, Taken, nothing, plain_steps, taken, value_of_taken}
 use Rattle.frontier_core.specs.PlainOrder.{HasPlainSize, IsPlainOrder}
 use Rattle.frontier_core.proofs.CallerLemmas.{graph_inputs, last_frontier_decides, last_frontier_gives_least, difference_is_of_operands, last_frontier_is_over_inputs, lowest_bits, operands_in_order, plain_order_is_one, plain_plan_is_plan, specification_is_not_zero, difference_small}
 use Rattle.graph_core.specs.Algebra.NormalForm.{HasSize, IsNormalForm}
@@ -36,7 +36,7 @@ use Rattle.ripple_graft.specs.Extension.{IsExtension}
 use Rattle.joint_prover.proofs.PlanLists.{length-count_from, take-map}
 use Rattle.joint_prover.specs.declared.ending.Ending.{Ending}
 use Rattle.joint_prover.specs.declared.ending.Ending.TheVariants.{Closed, Differs, Passed}
-use Rattle.joint_prover.specs.Endings.{IsEnding, IsPlainlyReduced, IsStart, IsWitness, IsWitnessOf, plain_of}
+use Rattle.joint_prover.specs.Endings.{IsEnding, IsPlainlyReduced, IsRemainder, IsStart, IsWitness, IsWitnessOf, plain_of}
 use Rattle.joint_prover.specs.Verdicts.{IsFirstAbove}
 
 -- ---- the plain plan
@@ -90,18 +90,26 @@ reads_inputs l start = subst (ReadInputs l.extended.graph) (sym start.sides) (si
 
 -- ---- the remainder
 
-module _ (l : Made) (start : IsStart l) (budget : ℕ) (after : Made) (poly : Sum) (id : ℕ) (reduced : IsPlainlyReduced budget l after (Rest poly id)) where
-  abbrev vs : List ℕ
-  vs = reduced.order
+pub remainder_of : (l after : Made) (p : Planned) (poly : Sum) (id : ℕ) → p.extended ≡ l.extended → IsPlan l.extended p.steps → GoesOn l after → IsRest p l.sides after.table (ledger_of after).live poly id →
+    IsRemainder l after poly id
+remainder_of l after p poly id same plan goes rest = record {
+  steps = p.steps;
+  uncounted = p.uncounted;
+  plan = plan;
+  goes_on = goes;
+  rest = subst (λ x. IsRest (planned x p.steps p.uncounted) l.sides after.table (ledger_of after).live poly id) same rest;
+}
 
-  order : IsPlainOrder l.extended.gates vs
-  order = reduced.plain
+pub plain_remainder : (l : Made) → IsStart l → (budget : ℕ) (after : Made) (poly : Sum) (id : ℕ) → IsPlainlyReduced budget l after (Rest poly id) → IsRemainder l after poly id
+plain_remainder l start budget after poly id h =
+    remainder_of l after (plain_of l.extended h.order) poly id refl (plain_plan_is_plan l.extended h.order start.extension h.plain).0 h.goes_on h.reduced.0
 
+module _ (l : Made) (start : IsStart l) (after : Made) (poly : Sum) (id : ℕ) (left : IsRemainder l after poly id) where
   goes : GoesOn l after
-  goes = reduced.goes_on
+  goes = left.goes_on
 
-  rest : IsRest (plain_of l.extended vs) l.sides after.table (ledger_of after).live poly id
-  rest = reduced.reduced.0
+  rest : IsRest (planned l.extended left.steps left.uncounted) l.sides after.table (ledger_of after).live poly id
+  rest = left.rest
 
   abbrev e : Extended
   e = l.extended
@@ -113,7 +121,7 @@ module _ (l : Made) (start : IsStart l) (budget : ℕ) (after : Made) (poly : Su
   g = l.extended.graph
 
   abbrev f : Taken
-  f = taken nothing (plain_steps l.extended vs)
+  f = taken nothing left.steps
 
   once : IsDefinedOnce g
   once = start.extension.graph.defined_once
@@ -126,11 +134,11 @@ module _ (l : Made) (start : IsStart l) (budget : ℕ) (after : Made) (poly : Su
     extension = start.extension;
     inputs = reads_inputs l start;
     agree = λ ρ h. subst (λ x. AgreeOnColumns x ρ) (sym start.extended) (λ k d low. absurd (omega arith));
-    last = (plain_plan_is_plan e vs start.extension order).0.last;
+    last = left.plan.last;
   }
 
   poly_value : (σ : Assignment) → value_in after.table poly σ ≡ frontier_value e s f.added f.eliminated σ
-  poly_value σ = rest.last σ ∙ ap (λ ss. value_of_taken e s (taken nothing ss) σ) (take-length (plain_steps e vs))
+  poly_value σ = rest.last σ ∙ ap (λ ss. value_of_taken e s (taken nothing ss) σ) (take-length left.steps)
 
   same_modulus : table.modulus after.table ≡ modulus e
   same_modulus = modulus_stays l.table after.table goes.table ∙ start.same_modulus
@@ -203,8 +211,8 @@ module _ (l : Made) (start : IsStart l) (budget : ℕ) (after : Made) (poly : Su
 
   -- ---- what a reduction comes to
 
-  pub ending_of : (new : Made) (v : Ending) → IsWitness after new poly id v → IsEnding g s.order budget new v
-  ending_of new Closed h = (
+  pub ending_of : (budget : ℕ) (new : Made) (v : Ending) → IsWitness after new poly id v → IsEnding g s.order budget new v
+  ending_of budget new Closed h = (
     record {
       closed = subst (λ (x : Made). IsSome x.closing) (sym h.1) refl;
       extended = ap (λ (x : Made). x.extended) h.1 ∙ goes.extended ∙ start.extended;
@@ -212,8 +220,8 @@ module _ (l : Made) (start : IsStart l) (budget : ℕ) (after : Made) (poly : Su
     },
     zero_multiplies h.0,
   )
-  ending_of new (Differs a b) h = witness_is_least a b h.0
-  ending_of new (Passed step size) h = absurd h
+  ending_of budget new (Differs a b) h = witness_is_least a b h.0
+  ending_of budget new (Passed step size) h = absurd h
 
 module _ (l : Made) (start : IsStart l) where
   pub first_above : (budget step size : ℕ) (after : Made) → IsPlainlyReduced budget l after (answer.Passed step size) → IsFirstAbove l.extended.graph l.sides.order budget step size

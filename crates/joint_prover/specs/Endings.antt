@@ -1,9 +1,10 @@
 -- What a reduction comes to. Private clauses alone cite this file.
 use Rattle.std.specs.Prelude.{◌≡◌, ℕ, ◌<◌, ◌^◌, List, [], length, None, IsSome}
-use Rattle.column_reducer.specs.Reducing.{GoesOn, IsReduced, Planned, planned}
+use Rattle.column_reducer.specs.Reducing.{GoesOn, IsReduced, IsRest, Planned, planned}
 use Rattle.column_reducer.specs.declared.reduced.Reduced.{Reduced}
 use Rattle.frontier_core.specs.LeastDifference.{IsLeastDifference, IsLeastNonzero}
-use Rattle.frontier_core.specs.Plan.{plain_steps}
+use Rattle.frontier_core.specs.declared.step.Step.{Step}
+use Rattle.frontier_core.specs.Plan.{IsPlan, plain_steps}
 use Rattle.frontier_core.specs.PlainOrder.{IsPlainOrder}
 use Rattle.graph_core.specs.Aiger.Soundness.{IsMultiplierSized}
 use Rattle.graph_core.specs.Algebra as algebra
@@ -12,7 +13,7 @@ use Rattle.graph_core.specs.Graph.Assignments.{Assignment}
 use Rattle.graph_core.specs.Graph.Extended.{Extended, without_cut}
 use Rattle.graph_core.specs.Graph.Operands.{Multiplies, inputs_in, inputs_of, sides_of}
 use Rattle.graph_core.specs.declared.order.Order.{Order}
-use Rattle.pac_writer.specs.Writing.{Made, closed}
+use Rattle.pac_writer.specs.Writing.{Made, closed, ledger_of}
 use Rattle.poly_terms.specs.Tables.{Sum, modulus, value_in}
 use Rattle.ripple_graft.specs.Extension.{IsExtension}
 use Rattle.joint_prover.specs.declared.ending.Ending.{Ending}
@@ -39,6 +40,14 @@ pub record IsPlainlyReduced (budget : ℕ) (old new : Made) (answer : Reduced) :
   pub plain : IsPlainOrder old.extended.gates order
   pub goes_on : GoesOn old new
   pub reduced : IsReduced (plain_of old.extended order) old.sides budget new answer
+
+-- A plan was reduced to its end and left this remainder, and the lines go on.
+pub record IsRemainder (old new : Made) (poly : Sum) (id : ℕ) : Type 0 where
+  pub steps : List Step
+  pub uncounted : ℕ
+  pub plan : IsPlan old.extended steps
+  pub goes_on : GoesOn old new
+  pub rest : IsRest (planned old.extended steps uncounted) old.sides new.table (ledger_of new).live poly id
 
 -- The lines are closed, over this graph.
 pub record IsClosed (g : Aig) (order : Order) (l : Made) : Type 0 where

@@ -1,22 +1,23 @@
 // `verify`: the graph is read, the verdict is found, and where it is proved the certificates are written.
-ghost use Rattle.std.specs.Prelude.{◌≡◌, ◌≤◌, ◌*◌, ◌%◌, ◌^◌, IsSome, None};
+ghost use Rattle.std.specs.Prelude.{◌≡◌, ◌≤◌, ◌*◌, ◌%◌, ◌^◌, IfOk, IsSome, None};
 ghost use Rattle.graph_core.specs.Aiger.Soundness.{IsMultiplierSized};
 ghost use Rattle.graph_core.specs.Graph.Extended.{without_cut};
 ghost use Rattle.graph_core.specs.Graph.Operands.{sides_of};
 ghost use Rattle.ripple_graft.specs.Extension.{IsExtension};
 ghost use Rattle.frontier_core.specs.LeastDifference.{IsLeastDifference};
 ghost use Rattle.joint_checker.specs.Files.{files_of};
+ghost use Rattle.joint_prover.specs.Endings.{IsEnding};
 ghost use Rattle.joint_prover.specs.Parts.{IsUndecided, IsWritten, IsWrongOrMemory};
 ghost use Rattle.mv_desk.specs.View.{KeepsTelling, OpensFiles};
 ghost use Rattle.joint_prover.specs.Verdicts.{IsOfGraph, IsVerdict, answer_of_graph};
 ghost use Rattle.joint_prover.specs.Written.{ReportStays};
 
 use crate::ending::Ending;
-use crate::reduction::reduced;
+use crate::reduction::{reduced, reduced_by_slices};
 use crate::verdict::{Rewriting, Verdict};
 use crate::writing::write_pair;
 use aiger_reader::{Profile, ReadFail, read_file};
-use graph_core::{Graph, Operands, Order};
+use graph_core::{Graph, Memory, Operands, Order};
 use mv_desk::{Desk, Limits, Names, Slot};
 use pac_writer::Lines;
 use ripple_graft::Extended;
@@ -117,18 +118,52 @@ fn judge_over<D: Desk>(
     ensures later { (D.seen desk.old).write_faults ≤ (D.seen desk.new).write_faults }
     ensures tells { KeepsTelling (D.seen desk.old) (D.seen desk.new) }
 {
-    has_no_fault(extended);
-    match Lines::new(alloc, extended, operands) {
-        Ok(mut lines) => match reduced(alloc, budget, &mut lines) {
-            Ok(Ending::Closed) => written(desk, &lines, names),
-            Ok(Ending::Differs { a, b }) => {
-                wrong(alloc, extended.graph(), operands.order(), a, b)
-            }
-            Ok(Ending::Passed { step, size }) => undecided(alloc, step, size),
-            Err(_) => Verdict::Memory,
-        },
+    match reduced_over(alloc, budget, extended, operands) {
+        Ok((lines, Ending::Closed)) => written(desk, &lines, names),
+        Ok((_, Ending::Differs { a, b })) => {
+            wrong(alloc, extended.graph(), operands.order(), a, b)
+        }
+        Ok((_, Ending::Passed { step, size })) => undecided(alloc, step, size),
         Err(_) => Verdict::Memory,
     }
+}
+
+// The end of the first plan whose frontiers are all within the budget: the slice plan is tried before the plain one.
+fn reduced_over<'a>(
+    alloc: Global,
+    budget: u64,
+    extended: &'a Extended<'a>,
+    operands: &'a Operands,
+) -> Result<(Lines<'a>, Ending), Memory>
+    requires alone { extended.now ≡ without_cut extended.now.graph }
+    requires operands { operands.now ≡ sides_of operands.now.order extended.now.graph }
+    requires sized { IsMultiplierSized extended.now.graph }
+    ensures { IfOk result (λ r. IsEnding extended.now.graph operands.now.order budget r.0 r.1) }
+{
+    has_no_fault(extended);
+    let mut lines = Lines::new(alloc, extended, operands)?;
+    if let Some(ending) = reduced_by_slices(alloc, budget, &mut lines)? {
+        return Ok((lines, ending));
+    }
+    reduced_anew(alloc, budget, extended, operands)
+}
+
+// The end of the plain plan, with new lines.
+fn reduced_anew<'a>(
+    alloc: Global,
+    budget: u64,
+    extended: &'a Extended<'a>,
+    operands: &'a Operands,
+) -> Result<(Lines<'a>, Ending), Memory>
+    requires alone { extended.now ≡ without_cut extended.now.graph }
+    requires operands { operands.now ≡ sides_of operands.now.order extended.now.graph }
+    requires sized { IsMultiplierSized extended.now.graph }
+    ensures { IfOk result (λ r. IsEnding extended.now.graph operands.now.order budget r.0 r.1) }
+{
+    has_no_fault(extended);
+    let mut lines = Lines::new(alloc, extended, operands)?;
+    let ending = reduced(alloc, budget, &mut lines)?;
+    Ok((lines, ending))
 }
 
 // An extended graph has no fault.

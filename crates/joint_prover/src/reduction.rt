@@ -1,21 +1,39 @@
-// The plain plan's reduction, and what its remainder says.
-ghost use Rattle.std.specs.Prelude.{◌≡◌, ◌<◌, ◌^◌, IfOk, None, length};
+// The reductions of the plans, and what a remainder says.
+ghost use Rattle.std.specs.Prelude.{◌≡◌, ◌<◌, ◌^◌, ℕ, IfOk, IfSome, None, length};
 ghost use Rattle.graph_core.specs.Algebra.{Closes};
 ghost use Rattle.graph_core.specs.Graph.Assignments.{Assignment};
 ghost use Rattle.graph_core.specs.Graph.Operands.{inputs_in};
 ghost use Rattle.frontier_core.specs.LastFrontier.{IsOverInputs};
 ghost use Rattle.frontier_core.specs.LeastDifference.{AreInputs};
 ghost use Rattle.poly_terms.specs.Tables.{IsOf, monomials_in, value_in};
-ghost use Rattle.pac_writer.specs.Writing.{AreLawfulSoFar, ledger_of};
-ghost use Rattle.joint_prover.specs.Endings.{IsEnding, IsPlainlyReduced, IsStart, IsWitness};
+ghost use Rattle.pac_writer.specs.Writing.{AreLawfulSoFar, Made, ledger_of};
+ghost use Rattle.joint_prover.specs.Endings.{IsEnding, IsPlainlyReduced, IsRemainder, IsStart, IsWitness};
 
 use crate::ending::Ending;
-use column_reducer::{Reduced, plain_plan, reduce};
+use column_reducer::{Reduced, plain_plan, reduce, slice_plan};
 use graph_core::Memory;
 use pac_writer::Lines;
 use poly_terms::Poly;
 use std::alloc::Global;
 use witness_finder::least;
+
+/// The end of the slice plan's reduction, or None where a frontier of it is above the budget.
+pub(crate) fn reduced_by_slices(
+    alloc: Global,
+    budget: u64,
+    lines: &mut Lines<'_>,
+) -> Result<Option<Ending>, Memory>
+    requires { IsStart lines.old }
+    ensures { IfOk result (λ r. IfSome r
+        (IsEnding lines.old.extended.graph lines.old.sides.order budget lines.new)) }
+{
+    let extended = lines.extended();
+    let plan = slice_plan(alloc, extended)?;
+    match reduce(alloc, &plan, budget, lines)? {
+        Reduced::Rest { poly, id } => Ok(Some(concluded(lines, &poly, id))),
+        Reduced::Passed { .. } => Ok(None),
+    }
+}
 
 /// The end of the plain order's reduction; where the remainder is 0 the lines are closed.
 pub(crate) fn reduced(alloc: Global, budget: u64, lines: &mut Lines<'_>) -> Result<Ending, Memory>
@@ -23,10 +41,7 @@ pub(crate) fn reduced(alloc: Global, budget: u64, lines: &mut Lines<'_>) -> Resu
     ensures { IfOk result (IsEnding lines.old.extended.graph lines.old.sides.order budget lines.new) }
 {
     match reduced_plainly(alloc, budget, lines)? {
-        Reduced::Rest { poly, id } => {
-            are_lawful(lines);
-            Ok(ended(lines, &poly, id))
-        }
+        Reduced::Rest { poly, id } => Ok(concluded(lines, &poly, id)),
         Reduced::Passed { step, size } => Ok(Ending::Passed { step, size }),
     }
 }
@@ -39,6 +54,16 @@ fn reduced_plainly(alloc: Global, budget: u64, lines: &mut Lines<'_>) -> Result<
     let extended = lines.extended();
     let plan = plain_plan(alloc, extended)?;
     reduce(alloc, &plan, budget, lines)
+}
+
+// The end where a plan has left a remainder.
+fn concluded(lines: &mut Lines<'_>, poly: &Poly, id: u64) -> Ending
+    requires { (start : Made) × IsStart start × IsRemainder start lines.old poly.now id }
+    ensures { (start : Made) (budget : ℕ) → IsStart start → IsRemainder start lines.old poly.now id →
+        IsEnding start.extended.graph start.sides.order budget lines.new result }
+{
+    are_lawful(lines);
+    ended(lines, poly, id)
 }
 
 // Lines are lawful so far.

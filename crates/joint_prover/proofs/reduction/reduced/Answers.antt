@@ -1,31 +1,19 @@
 use Rattle.std.proofs.Common.{subst}
 use Rattle.joint_prover.specs.Endings.{IsPlainlyReduced}
-use Rattle.joint_prover.proofs.Remainders.{ending_of, first_above, rest_closes, rest_inputs, rest_over}
+use Rattle.joint_prover.proofs.Remainders.{first_above, plain_remainder}
 use Rattle.joint_prover.proofs.reduction.reduced.Goals as goal
 
-pub ended-requires-clause-inputs : goal.ended-requires-clause-inputs
-ended-requires-clause-inputs c =
+pub concluded-requires : goal.concluded-requires
+concluded-requires c =
     let l = c.args.lines.now in
     let after = c.reduced_plainly.new.lines in
-    rest_inputs l c.requires c.args.budget after c.in-Rest.poly c.in-Rest.id (subst (IsPlainlyReduced c.args.budget l after) c.in-Rest.is c.in_ok-poly.ensures)
-
-pub ended-requires-clause-over : goal.ended-requires-clause-over
-ended-requires-clause-over c =
-    let l = c.args.lines.now in
-    let after = c.reduced_plainly.new.lines in
-    rest_over l c.requires c.args.budget after c.in-Rest.poly c.in-Rest.id (subst (IsPlainlyReduced c.args.budget l after) c.in-Rest.is c.in_ok-poly.ensures)
-
-pub ended-requires-clause-closes : goal.ended-requires-clause-closes
-ended-requires-clause-closes c =
-    let l = c.args.lines.now in
-    let after = c.reduced_plainly.new.lines in
-    rest_closes l c.requires c.args.budget after c.in-Rest.poly c.in-Rest.id (subst (IsPlainlyReduced c.args.budget l after) c.in-Rest.is c.in_ok-poly.ensures) c.are_lawful.ensures
+    (l, c.requires, plain_remainder l c.requires c.args.budget after c.in-Rest.poly c.in-Rest.id (subst (IsPlainlyReduced c.args.budget l after) c.in-Rest.is c.in_ok-poly.ensures))
 
 pub returns-in-Rest : goal.returns-in-Rest
 returns-in-Rest c =
     let l = c.args.lines.now in
     let after = c.reduced_plainly.new.lines in
-    ending_of l c.requires c.args.budget after c.in-Rest.poly c.in-Rest.id (subst (IsPlainlyReduced c.args.budget l after) c.in-Rest.is c.in_ok-poly.ensures) c.ended.new.lines c.ended.result c.ended.ensures
+    c.concluded.ensures l c.args.budget c.requires (plain_remainder l c.requires c.args.budget after c.in-Rest.poly c.in-Rest.id (subst (IsPlainlyReduced c.args.budget l after) c.in-Rest.is c.in_ok-poly.ensures))
 
 pub returns-in-Passed : goal.returns-in-Passed
 returns-in-Passed c =
