@@ -145,6 +145,8 @@ fn reduced_over<'a>(
     if let Some(ending) = reduced_by_slices(alloc, budget, &mut lines)? {
         return Ok((lines, ending));
     }
+    // what this plan kept goes before the next one begins
+    drop(lines);
     reduced_anew(alloc, budget, extended, operands)
 }
 
