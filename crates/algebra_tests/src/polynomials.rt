@@ -5,7 +5,7 @@ ghost use Rattle.mv_nums.specs.Residue.{IsWidth};
 ghost use Rattle.poly_terms.specs.Tables.{IsOf};
 
 use mv_fact::Live;
-use poly_terms::{Poly, Terms};
+use poly_terms::{Indexed, Poly, Terms};
 use std::alloc::{AllocError, Global};
 use std::test::Fail;
 
@@ -95,6 +95,30 @@ fn replaces_a_variable(rt: HostRuntime) -> Result<(), Fail> {
     let operands = terms.make(&[part(alloc, 1, &[2, 1])?])?;
     let nothing = terms.substitute(&gate, 3, &operands)?;
     assert_eq!(rt; terms.size(&nothing), 0);
+    Ok(())
+}
+
+#[test]
+fn an_indexed_polynomial_changes_in_place(rt: HostRuntime) -> Result<(), Fail> {
+    let alloc = rt.alloc();
+    let mut terms = Terms::new(alloc, 8);
+    let sum = terms.make(&[part(alloc, 1, &[1, 2])?, part(alloc, 1, &[3])?])?;
+    let minus = terms.make(&[part(alloc, 255, &[3])?])?;
+    let mut changing = Indexed::new(alloc, &terms);
+    changing.add(&terms, &sum)?;
+    changing.add(&terms, &minus)?;
+    assert_eq!(rt; changing.size(), 1);
+    let taken = changing.take(&terms, 1)?;
+    assert_eq!(rt; (terms.size(&taken), changing.size()), (1, 0));
+
+    // the number of what was taken is still at the places of x2
+    let nothing = changing.take(&terms, 2)?;
+    assert_eq!(rt; terms.size(&nothing), 0);
+
+    // and that of x3 stands twice at its places once it comes back
+    changing.add(&terms, &sum)?;
+    let once = changing.take(&terms, 3)?;
+    assert_eq!(rt; (terms.size(&once), changing.size()), (1, 1));
     Ok(())
 }
 

@@ -1,6 +1,6 @@
 // What `verify` says, and what it writes.
 use crate::tests::{
-    NO_CUT, ONE_BIT_ALGEBRA, ONE_BIT_GRAPH, TWO_BIT_ARRAY, USAGE, desk, expect, expect_over,
+    NO_CUT, ONE_BIT_ALGEBRA, ONE_BIT_GRAPH, TWO_BIT_ARRAY, USAGE, desk, expect, expect_over, made,
 };
 use std::alloc::Global;
 use std::process::Abort;
@@ -127,6 +127,15 @@ fn expect_proved(rt: &impl Abort, alloc: Global, graph: &[u8], shows: &str) -> R
 fn what_is_proved_is_accepted(rt: HostRuntime) -> Result<(), Fail> {
     for &(shows, graph) in &PROVED {
         expect_proved(&rt, rt.alloc(), graph, shows)?;
+    }
+    Ok(())
+}
+
+#[test]
+fn what_is_made_of_adders_is_proved(rt: HostRuntime) -> Result<(), Fail> {
+    for kind in ["array", "dadda"] {
+        let graph = made(&rt, rt.alloc(), [kind, "16", "ripple", "x"], kind)?;
+        expect_proved(&rt, rt.alloc(), graph.as_slice(), kind)?;
     }
     Ok(())
 }
