@@ -1,0 +1,10 @@
+-- To be trusted by whoever reads the contracts: `ClauseTexts`, `Headers`, `LineTexts`, `HeaderRefusal` and `FileStates`.
+-- `ClauseReading` and `Steps` serve private clauses alone.
+pub mod ClauseTexts
+pub mod Headers
+pub mod LineTexts
+pub mod HeaderRefusal
+pub mod FileStates
+pub mod ClauseReading
+pub mod Steps
+pub mod HeaderSteps
