@@ -38,7 +38,7 @@ no_line_there (b ∷ bytes) (c ∷ line) rest h e = let f : bytes ≡ line ++ ne
 no_end : (bytes : List ℕ) → All (λ b. b ≢ newline) bytes → HasNoNewline bytes
 no_end bytes h = recursion_from_All (λ b. b ≢ newline) bytes h
 
-some_left : (line rest : List ℕ) → line ++ newline ∷ rest ≢ []
+pub some_left : (line rest : List ℕ) → line ++ newline ∷ rest ≢ []
 some_left [] rest e = absurd (cc)
 some_left (b ∷ line) rest e = absurd (cc)
 

@@ -5,3 +5,6 @@ pub mod HeaderTexts
 pub mod FileSteps
 pub mod HeaderSteps
 pub mod CallerLemmas
+pub mod WrittenLoops
+pub mod WrittenAgain
+pub mod OneFile

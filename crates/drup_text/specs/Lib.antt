@@ -8,3 +8,5 @@ pub mod FileStates
 pub mod ClauseReading
 pub mod Steps
 pub mod HeaderSteps
+pub mod WrittenTexts
+pub mod WrittenLaws

@@ -40,16 +40,17 @@ impl Model for ClauseFile {
 
     ghost view = { λ f. record { lines = f.lines; number = f.number; ended = f.ended; failed = f.failed } };
 
-    ghost invariant = { λ f. IsCounted (record { lines = f.lines; number = f.number; ended = f.ended; failed = f.failed }) };
+    ghost invariant = { λ f. IsCounted
+        (record { lines = f.lines; number = f.number; ended = f.ended; failed = f.failed }) };
 }
 
 impl ClauseFile {
     /// Reads the header, and answers the cut that it names, if any; the graph takes it.
     ///
-    /// `Text` comes where a line of the header isn't there as it has to be, `Range` on line 2 where there is no pair, or
+    /// `Text` comes where a line of the header isn't there as it has to be, `Range` on line 2 where there is no pair or
     /// the cut ends neither at the last column nor at the one before it, and on a pair's line where the variable of a
-    /// literal is neither 0, an input nor a gate. `TooLong` comes where the line is too long or holds the first byte past
-    /// the limit of the file.
+    /// literal is neither 0, an input nor a gate. `TooLong` comes where the line is too long or holds the first byte
+    /// past the limit of the file.
     pub fn start<D: Desk>(
         alloc: Global,
         desk: &mut D,
@@ -90,14 +91,15 @@ impl ClauseFile {
 
     /// The next line, or none at the end of the file. After the end or an error each later call gives the same answer.
     ///
-    /// `Text` comes where no line stands there, with its line feed, `Range` where one does, but with a variable above
+    /// `Text` comes where no line stands there with its line feed, `Range` where one does, but with a variable above
     /// `max`, and `TooLong` where the line there is too long or holds the first byte past the limit of the file.
     pub fn next<D: Desk>(&mut self, desk: &mut D, max: u32) -> Result<Option<Line>, LineFail>
         requires open { (D.seen desk.old).reads Clauses ≡ true }
         requires small { max < 2 ^ 31 }
         ensures text { IfOk result (λ r. IfSome r
             (λ line. (text : List ℕ) × IsTextOf max text line)) }
-        ensures line { IfOk result (λ r. IfSome r (λ line. IfSome (left_ahead self.old ((D.seen desk.old).left Clauses))
+        ensures line { IfOk result (λ r. IfSome r (λ line.
+            IfSome (left_ahead self.old ((D.seen desk.old).left Clauses))
             (λ left. TakesText (IsTextOf max) self.old.lines self.new.lines left
             (left_ahead self.new ((D.seen desk.new).left Clauses)) line))) }
         ensures end { GoesOn self.old → IfOk result (λ r. IfNone r
@@ -141,7 +143,7 @@ impl ClauseFile {
         }
     }
 
-    /// How many lines were read, from the first one of the header on; after an error the number of the line that has it.
+    /// How many lines were read, from the first one of the header on; after an error the number of its line.
     pub fn line_no(&self) -> u64
         ensures { result ≡ self.now.number }
     {
@@ -170,7 +172,8 @@ fn next_line<D: Desk>(
     requires small { max < 2 ^ 31 }
     ensures text { IfOk result (λ r. IfSome r
         (λ line. (text : List ℕ) × IsTextOf max text line)) }
-    ensures line { IfOk result (λ r. IfSome r (λ line. IfSome (known_from lines.old.ahead ((D.seen desk.old).left Clauses))
+    ensures line { IfOk result (λ r. IfSome r (λ line.
+        IfSome (known_from lines.old.ahead ((D.seen desk.old).left Clauses))
         (λ left. TakesText (IsTextOf max) lines.old lines.new left
         (known_from lines.new.ahead ((D.seen desk.new).left Clauses)) line))) }
     ensures end { IfOk result (λ r. IfNone r
