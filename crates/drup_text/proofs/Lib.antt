@@ -8,3 +8,5 @@ pub mod CallerLemmas
 pub mod WrittenLoops
 pub mod WrittenAgain
 pub mod OneFile
+pub mod HeaderExact
+mod TextRows

@@ -61,8 +61,8 @@ impl ClauseFile {
         ensures header { IfOk result (λ r. IfSome ((D.seen desk.old).left Clauses)
             (λ bytes. HasHeader graph.now r.0 bytes (left_ahead r.0 ((D.seen desk.new).left Clauses)) r.1)) }
         ensures cut { IfOk result (λ r. IsHeaderOf graph.now r.1) }
-        ensures refused { IfErr result (IsStartRefusal graph.now (lengths_of limits.now) ((D.seen desk.old).left Clauses)
-            (D.seen desk.old).read_faults (D.seen desk.new).read_faults) }
+        ensures refused { IfErr result (IsStartRefusal graph.now (lengths_of limits.now)
+            ((D.seen desk.old).left Clauses) (D.seen desk.old).read_faults (D.seen desk.new).read_faults) }
         ensures number { IfOk result (λ r. r.0.number ≡ header_lines r.1) }
         ensures goes_on { IfOk result (λ r. GoesOn r.0) }
         ensures lengths { IfOk result (λ r. r.0.lines.lengths ≡ lengths_of limits.now) }

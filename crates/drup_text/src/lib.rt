@@ -25,5 +25,8 @@ mod writing;
 
 pub use clause_file::ClauseFile;
 pub use fault::StartFail;
-pub use laws::{one_text_is_one_file, written_files_are_read, written_lines_are_read};
+pub use laws::{
+    one_text_is_one_file, passing_headers_are_not_refused, written_files_are_read,
+    written_headers_pass, written_lines_are_read,
+};
 pub use writing::write_clauses;
