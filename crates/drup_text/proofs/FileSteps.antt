@@ -6,7 +6,7 @@ use Rattle.std.specs.declared.option.Option.{Option}
 use Rattle.std.specs.declared.option.Option.TheVariants.{None, Some}
 use Rattle.std.specs.declared.result.Result.{Result}
 use Rattle.std.specs.declared.result.Result.TheVariants.{Ok, Err}
-use Rattle.std.proofs.Common.{refl, sym, ap, subst, ◌∙◌, arith}
+use Rattle.std.proofs.Common.{refl, sym, ap, subst, ◌∙◌}
 use Rattle.std.proofs.lemmas.List.Elements.{recursion_from_All}
 use Rattle.mv_desk.specs.declared.faults.LineFail.{LineFail}
 use Rattle.mv_desk.specs.declared.faults.LineFail.TheVariants as fail
@@ -14,7 +14,7 @@ use Rattle.graph_core.specs.Text.{newline}
 use Rattle.graph_core.proofs.OfTexts.CallerLemmas.{HasNoNewline}
 use Rattle.mv_text.specs.LineReading.{EndsIn, IsLineFault, IsLongAhead, Lines, TakesLine}
 use Rattle.mv_text.proofs.CallerLemmas.{end_is_short, line_is_taken}
-use Rattle.drup_text.specs.FileStates.{BeginsOutOfRange, BeginsWithNone, IsAtEnd, IsLineRefusal, IsNeededFault, IsNextRefusal, TakesSome, TakesText}
+use Rattle.drup_text.specs.FileStates.{BeginsOutOfRange, BeginsWithNone, IsLineRefusal, IsNeededFault, IsNextRefusal, TakesText}
 use Rattle.drup_text.specs.LineTexts.{IsRefusedText}
 
 -- a line that stands in front of a line feed is the first line
@@ -50,27 +50,6 @@ told_from (Some bytes) P Q f h = f bytes refl h
 pub told : (left : Option (List ℕ)) (Q : List ℕ → Type 0) → ((bytes : List ℕ) → left ≡ Some bytes → Q bytes) → IfSome left Q
 told None Q f = tt
 told (Some bytes) Q f = f bytes refl
-
-pub takes_some : (old new : Lines) (before after : Option (List ℕ)) (line : List ℕ) → TakesLine old new before after line → TakesSome old new
-takes_some old new before after line h =
-    let count = h.taken in
-    let within = h.within in
-    let same = ap (λ k. k.file) h.lengths in
-    record { more = omega arith; within = omega arith }
-
--- why a line that needn't be there isn't had is why a needed one isn't
-pub fault_is_needed : (lines : Lines) (left : Option (List ℕ)) (before now : ℕ) (f : LineFail) → IsLineFault lines left before now f → IsNeededFault lines left before now f
-fault_is_needed lines left before now fail.Text h = told_from left (λ bytes. (bytes ≢ []) × EndsIn lines bytes) (EndsIn lines) (λ bytes e cut. cut.1) h
-fault_is_needed lines left before now fail.Range h = h
-fault_is_needed lines left before now fail.Fault h = h
-fault_is_needed lines left before now fail.TooLong h = h
-fault_is_needed lines left before now fail.Memory h = h
-
-pub end_is_needed : (lines : Lines) (left : Option (List ℕ)) → IfSome left (λ bytes. (bytes ≡ []) × EndsIn lines bytes) → IfSome left (EndsIn lines)
-end_is_needed lines left h = told_from left (λ bytes. (bytes ≡ []) × EndsIn lines bytes) (EndsIn lines) (λ bytes e at_end. at_end.1) h
-
-pub end_is_end : (lines : Lines) (left : Option (List ℕ)) → IfSome left (λ bytes. (bytes ≡ []) × EndsIn lines bytes) → IfSome left (IsAtEnd lines)
-end_is_end lines left h = told_from left (λ bytes. (bytes ≡ []) × EndsIn lines bytes) (IsAtEnd lines) (λ bytes e at_end. record { none = at_end.0; short = end_is_short lines bytes at_end.1 }) h
 
 -- ---- a line that was taken
 
@@ -117,7 +96,7 @@ module _ {X : Type 0} (IsText : List ℕ → X → Type 0) (InRange : X → Type
 
   -- ---- a line that needn't be there
 
-  next_refused_text : (old new : Lines) (before after : Option (List ℕ)) (bytes : List ℕ) (first then : ℕ) (f : LineFail) → TakesLine old new before after bytes → IsRefusedText IsText InRange bytes f → IsNextRefusal IsText InRange old before first then f
+  pub next_refused_text : (old new : Lines) (before after : Option (List ℕ)) (bytes : List ℕ) (first then : ℕ) (f : LineFail) → TakesLine old new before after bytes → IsRefusedText IsText InRange bytes f → IsNextRefusal IsText InRange old before first then f
   next_refused_text old new before after bytes first then fail.Text takes refused = told before (λ left. ¬ (IsLongAhead old left) × (left ≢ []) × BeginsWithNone IsText left) (λ left e.
       let l = line_is_taken old new before after bytes left takes e in
       (l.3, λ n. some_left bytes l.0 (sym l.2 ∙ n), none_begins bytes left l.0 (no_end bytes takes.no_end) l.2 refused))
@@ -125,9 +104,6 @@ module _ {X : Type 0} (IsText : List ℕ → X → Type 0) (InRange : X → Type
   next_refused_text old new before after bytes first then fail.Fault takes refused = absurd refused
   next_refused_text old new before after bytes first then fail.TooLong takes refused = absurd refused
   next_refused_text old new before after bytes first then fail.Memory takes refused = tt
-
-  pub next_text_refused : (old new : Lines) (before after : Option (List ℕ)) (bytes : List ℕ) (first then : ℕ) (f : LineFail) → TakesLine old new before after bytes → IsRefusedText IsText InRange bytes f → IsNextRefusal IsText InRange old before first then f
-  next_text_refused = next_refused_text
 
   pub next_fault : (lines : Lines) (left : Option (List ℕ)) (first then : ℕ) (f : LineFail) → IsLineFault lines left first then f → IsNextRefusal IsText InRange lines left first then f
   next_fault lines left first then fail.Text h = told_from left (λ bytes. (bytes ≢ []) × EndsIn lines bytes) (λ bytes. ¬ (IsLongAhead lines bytes) × (bytes ≢ []) × BeginsWithNone IsText bytes)

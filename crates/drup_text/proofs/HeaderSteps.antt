@@ -1,7 +1,7 @@
 -- The lines of a header, one behind the other: what passes, and the first refusal.
 use Rattle.std.specs.Prelude.{◌≡◌, ◌+◌, ◌<◌, ℕ, zero, suc, List, [], ◌∷◌, ◌++◌, length, codes, IfSome, ⊤}
 use Rattle.std.specs.declared.option.Option.{Option}
-use Rattle.std.specs.declared.option.Option.TheVariants.{None, Some}
+use Rattle.std.specs.declared.option.Option.TheVariants.{Some}
 use Rattle.std.proofs.Common.{refl, sym, ap, subst, ◌∙◌, arith, inl, inr}
 use Rattle.mv_desk.specs.declared.faults.LineFail.{LineFail}
 use Rattle.mv_desk.specs.declared.faults.LineFail.TheVariants as fail
@@ -12,15 +12,14 @@ use Rattle.graph_core.specs.Text.JudgedLines.{BeginsWith, Behind, IsTooLong, Len
 use Rattle.graph_core.proofs.OfTexts.CallerLemmas.{HasNoNewline, behind_map, none_in}
 use Rattle.mv_text.specs.LineReading.{IsLongAhead, Lines}
 use Rattle.mv_text.proofs.CallerLemmas.{long_of, short_of}
-use Rattle.ripple_graft.specs.declared.cut.Cut.{Cut}
-use Rattle.drup_text.specs.ClauseTexts.{IsCutLine, IsPairLine}
-use Rattle.drup_text.specs.FileStates.{BeginsOutOfRange, BeginsWithNone, FileState, HasHeader, IsCause, IsLineRefusal, PassesCut, PassesHeader, TakesText}
+use Rattle.drup_text.specs.ClauseTexts.{IsPairLine}
+use Rattle.drup_text.specs.FileStates.{BeginsOutOfRange, BeginsWithNone, IsCause, IsLineRefusal, TakesText}
 use Rattle.drup_text.specs.HeaderRefusal.{ClauseCause, IsFirstRefusal, IsHeaderRefusal, IsPairStep, IsRefusedBehindPairs, IsRefusedCut, IsRefusedPair, IsRefusedPairs, nothing_later}
 use Rattle.drup_text.specs.HeaderRefusal as cause
-use Rattle.drup_text.specs.HeaderSteps.{IsLongIn, Leaves, TakesCut, TakesPairs}
+use Rattle.drup_text.specs.HeaderSteps.{IsLongIn, Leaves, TakesPairs}
 use Rattle.drup_text.specs.Headers.{IsVersionLine}
-use Rattle.drup_text.specs.LineTexts.{IsCutSize, IsCutTextOf, IsPairOf, IsPairTextOf, IsSizeInRange}
-use Rattle.drup_text.proofs.FileSteps.{told, told_from}
+use Rattle.drup_text.specs.LineTexts.{IsCutTextOf, IsPairOf, IsPairTextOf}
+use Rattle.drup_text.proofs.FileSteps.{told_from}
 
 pub none_version : (line : List ℕ) (x : Unit {0}) → IsVersionLine line x → HasNoNewline line
 none_version line x e = subst HasNoNewline (sym e) (none_in (codes "joined 1") refl)
@@ -59,10 +58,6 @@ cause_behind Refused Later left after first mid last n f same passes h = go f h
 
 -- ---- lengths
 
--- what is too long is so by the same lengths, whatever was taken
-pub long_in : (old now : Lines) (bytes rest : List ℕ) → now.lengths ≡ old.lengths → now.taken + length rest ≡ old.taken + length bytes → IsLongAhead now rest → IsLongIn old bytes rest
-long_in old now bytes rest lengths taken long = subst (λ k. IsTooLong k (old.taken + length bytes) rest) lengths (subst (λ n. IsTooLong now.lengths n rest) taken long)
-
 pub long_back : (old now : Lines) (bytes rest : List ℕ) → now.lengths ≡ old.lengths → now.taken + length rest ≡ old.taken + length bytes → IsLongIn old bytes rest → IsLongAhead now rest
 long_back old now bytes rest lengths taken long = subst (λ n. IsTooLong now.lengths n rest) (sym taken) (subst (λ k. IsTooLong k (old.taken + length bytes) rest) (sym lengths) long)
 
@@ -81,13 +76,6 @@ pub record PairsSoFar (g : Aig) (count i : ℕ) (old now : Lines) (bytes : List 
   pub rest : List ℕ
   pub behind : Behind IsPairLine (IsPairStep g) (IsLongIn old bytes) (λ n left. (n + i ≡ count) × (left ≡ rest)) pairs count bytes
   pub leaves : Leaves old now bytes after rest
-
-pub pairs_begin : (g : Aig) (count : ℕ) (old : Lines) (before : Option (List ℕ)) (pairs : List (Lit × Lit)) → pairs ≡ [] → IfSome before (λ bytes. PairsSoFar g count 0 old old bytes before pairs)
-pairs_begin g count old before pairs none = told before (λ bytes. PairsSoFar g count 0 old old bytes before pairs) (λ bytes e. record {
-  rest = bytes;
-  behind = subst (λ ps. Behind IsPairLine (IsPairStep g) (IsLongIn old bytes) (λ n left. (n + 0 ≡ count) × (left ≡ bytes)) ps count bytes) (sym none) (omega arith, refl);
-  leaves = record { left_is = e; taken = refl };
-})
 
 pair_on : (g : Aig) (count i : ℕ) (old now new : Lines) (bytes : List ℕ) (left after : Option (List ℕ)) (pairs : List (Lit × Lit)) (p : Lit × Lit) → i < count → now.lengths ≡ old.lengths → PairsSoFar g count i old now bytes left pairs →
     IfSome left (λ rest. TakesText (IsPairTextOf g) now new rest after p) → PairsSoFar g count (i + 1) old new bytes after (pairs ++ p ∷ [])
@@ -178,38 +166,6 @@ pairs_refused g lo count i line old now before left pairs first mid last f early
 over_all : (P : (List ℕ → Type 0) → Type 0) (old mid : Lines) (bytes rest : List ℕ) → mid.lengths ≡ old.lengths → mid.taken + length rest ≡ old.taken + length bytes → P (IsLongIn mid rest) → P (IsLongIn old bytes)
 over_all P old mid bytes rest lengths taken h = subst (λ k. P (IsTooLong k (old.taken + length bytes))) lengths (subst (λ n. P (IsTooLong mid.lengths n)) taken h)
 
-pub cut_none : (g : Aig) (old new : Lines) (before after : Option (List ℕ)) → IfSome before (λ left. TakesText (IsCutTextOf (length g.outputs)) old new left after None) → IfSome before (λ left. TakesCut g old new left after None)
-cut_none g old new before after h =
-    told_from before (λ left. TakesText (IsCutTextOf (length g.outputs)) old new left after None) (λ left. TakesCut g old new left after None)
-    (λ left e t. (t.rest, (t.short, (t.begins.0, t.begins.1.0, t.begins.2)), record { left_is = t.left_is; taken = t.taken })) h
-
-abbrev PassPairs : Aig → (List ℕ → Type 0) → List ℕ → List ℕ → List ℕ → ℕ → List (Lit × Lit) → ℕ → Type 0
-PassPairs g IsLong bytes rest body lo pairs count =
-    BeginsWith IsCutLine bytes (Some (lo, count)) rest × IsCutSize (length g.outputs) (lo, count) × Behind IsPairLine (IsPairStep g) IsLong (λ n left. (n ≡ 0) × (left ≡ body)) pairs count rest
-
-pub cut_some : (g : Aig) (old mid new : Lines) (before left after : Option (List ℕ)) (lo count : ℕ) (pairs list : List (Lit × Lit)) → mid.lengths ≡ old.lengths → list ≡ pairs → length pairs ≡ count →
-    IfSome before (λ bytes. TakesText (IsCutTextOf (length g.outputs)) old mid bytes left (Some (lo, count))) → IfSome left (λ rest. TakesPairs g count mid new rest after pairs) →
-    IfSome before (λ bytes. TakesCut g old new bytes after (Some (record { lo = lo; pairs = list })))
-cut_some g old mid new before left after lo count pairs list lengths same many h told_pairs =
-    subst (λ ps. IfSome before (λ bytes. TakesCut g old new bytes after (Some (record { lo = lo; pairs = ps })))) (sym same)
-    (told_from before (λ bytes. TakesText (IsCutTextOf (length g.outputs)) old mid bytes left (Some (lo, count))) (λ bytes. TakesCut g old new bytes after (Some (record { lo = lo; pairs = pairs })))
-    (λ bytes e t.
-    let ps = subst (λ o. IfSome o (λ rest. TakesPairs g count mid new rest after pairs)) t.left_is told_pairs in
-    let behind = over_all (λ IsLong. Behind IsPairLine (IsPairStep g) IsLong (λ n rest. (n ≡ 0) × (rest ≡ ps.0)) pairs count t.rest) old mid bytes t.rest lengths t.taken ps.1 in
-    let all : PassPairs g (IsLongIn old bytes) bytes t.rest ps.0 lo pairs (length pairs) = subst (PassPairs g (IsLongIn old bytes) bytes t.rest ps.0 lo pairs) (sym many) ((t.begins.0, t.begins.1.0, t.begins.2), t.begins.1.1, behind) in
-    (ps.0, (t.rest, t.short, all.0, all.1, all.2), record { left_is = ps.2.left_is; taken = ps.2.taken ∙ t.taken })) h)
-
--- the cut's line is refused
-pub size_refused : (g : Aig) (lines : Lines) (left : Option (List ℕ)) (first last : ℕ) (f : LineFail) → IsLineRefusal IsCutLine (IsSizeInRange (length g.outputs)) lines left first last f →
-    IsCause (λ bytes. IsRefusedCut nothing_later g (IsLongIn lines bytes) bytes) left first last 2 f
-size_refused g lines left first last f h =
-    line_cause IsCutLine (IsSizeInRange (length g.outputs)) (λ bytes. IsRefusedCut nothing_later g (IsLongIn lines bytes) bytes) lines left first last 2 f (λ bytes long. inl (long, refl)) (λ bytes short none. inr (short, inl (none, refl)))
-    (λ bytes short out. inr (short, inr (out.0, out.1, out.2, there bytes out.0 out.1 out.3))) h
-  where
-    there : (bytes : List ℕ) (c : Option (ℕ × ℕ)) (rest : List ℕ) → ¬ (IsSizeInRange (length g.outputs) c) → cause.IsRefusedBehindCut nothing_later g (IsLongIn lines bytes) c rest (2, cause.Range)
-    there bytes None rest out = absurd (out tt)
-    there bytes (Some n) rest out = inl (out, refl)
-
 -- a pair of the cut is refused
 pub cut_refused : (g : Aig) (old mid : Lines) (before left : Option (List ℕ)) (lo count first then last line : ℕ) (f : LineFail) → mid.lengths ≡ old.lengths → then ≡ first →
     IfSome before (λ bytes. TakesText (IsCutTextOf (length g.outputs)) old mid bytes left (Some (lo, count))) → IsCause (λ bytes. IsRefusedPairs nothing_later g (IsLongIn mid bytes) (lo, count) bytes) left then last line f →
@@ -239,36 +195,6 @@ over_file P lengths lines now bytes rest fresh same taken h =
     let none = fresh.taken in
     let total : now.taken + length rest ≡ length bytes = omega arith in
     subst (λ k. P (IsTooLong k (length bytes))) (same ∙ fresh.lengths_are) (subst (λ n. P (IsTooLong now.lengths n)) total h)
-
-pub header_passes : (g : Aig) (lengths : Lengths) (lines now last : Lines) (file : FileState) (before left after : Option (List ℕ)) (cut : Option Cut) → IsNew lengths lines → now.lengths ≡ lines.lengths → last.lengths ≡ now.lengths → file.lines ≡ last →
-    IfSome before (λ bytes. TakesText IsVersionLine lines now bytes left tt) → IfSome left (λ rest. TakesCut g now last rest after cut) → IfSome before (λ bytes. HasHeader g file bytes after cut)
-header_passes g lengths lines now last file before left after cut fresh same_now same_last is h told_cut =
-    told_from before (λ bytes. TakesText IsVersionLine lines now bytes left tt) (λ bytes. HasHeader g file bytes after cut)
-    (λ bytes e t.
-    let c = subst (λ o. IfSome o (λ rest. TakesCut g now last rest after cut)) t.left_is told_cut in
-    let lengths_are : file.lines.lengths ≡ lengths = ap (λ z. z.lengths) is ∙ same_last ∙ same_now ∙ fresh.lengths_are in
-    let passes : PassesHeader g lengths bytes cut c.0 = record {
-      rest = t.rest;
-      short = λ long. t.short (long_first bytes long);
-      version = t.begins.2 ∙ ap (λ z. z ++ newline ∷ t.rest) t.begins.1;
-      cut_passes = over_file (λ IsLong. PassesCut g IsLong t.rest cut c.0) lengths lines now bytes t.rest fresh same_now t.taken c.1;
-    } in
-    let none = fresh.taken in
-    let first = t.taken in
-    let second = c.2.taken in
-    let count = ap (λ z. z.taken) is in
-    record {
-      body = c.0;
-      passes = subst (λ k. PassesHeader g k bytes cut c.0) (sym lengths_are) passes;
-      left = c.2.left_is;
-      taken = omega arith;
-    }) h
-  where
-    long_first : (bytes : List ℕ) → IsTooLong lengths (length bytes) bytes → IsLongAhead lines bytes
-    long_first bytes long =
-        let none = fresh.taken in
-        let total : length bytes ≡ lines.taken + length bytes = omega arith in
-        subst (λ k. IsTooLong k (lines.taken + length bytes) bytes) (sym fresh.lengths_are) (subst (λ n. IsTooLong lengths n bytes) total long)
 
 -- the first line is refused
 pub version_refused : (g : Aig) (lengths : Lengths) (lines : Lines) (left : Option (List ℕ)) (first last : ℕ) (f : LineFail) → IsNew lengths lines → IsLineRefusal IsVersionLine (λ x. ⊤) lines left first last f →

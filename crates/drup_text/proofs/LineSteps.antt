@@ -1,5 +1,5 @@
 -- Literals, clauses and lines that are read.
-use Rattle.std.specs.Prelude.{◌≡◌, ◌≢◌, ◌==◌, ◌<◌, ◌^◌, ℕ, zero, suc, Bool, true, false, cond, List, [], ◌∷◌, ◌++◌, codes, ℤ, pos}
+use Rattle.std.specs.Prelude.{◌≡◌, ◌≢◌, ◌==◌, ℕ, zero, suc, Bool, true, false, cond, List, [], ◌∷◌, ◌++◌, codes, ℤ, pos}
 use Rattle.std.specs.Global.{Global}
 use Rattle.std.specs.List.{All}
 use Rattle.std.specs.declared.option.Option.{Option}
@@ -9,7 +9,7 @@ use Rattle.std.proofs.Common.{refl, sym, ap, subst, ◌∙◌, arith}
 use Rattle.std.proofs.lemmas.List.Elements.{All-nil, All-push, All-pop}
 use Rattle.graph_core.specs.Text.Numerals.{◌>>=◌, front_at}
 use Rattle.graph_core.specs.Text.Readers.{Reader, behind_at, choose_at, ended_at, many_at, map_at, put_before}
-use Rattle.clause_core.specs.Clause.{Clause, IsClauseInRange, IsLiteral, SameSet}
+use Rattle.clause_core.specs.Clause.{Clause, IsClauseInRange, SameSet}
 use Rattle.clause_core.specs.ClauseLines.{ClauseLine}
 use Rattle.clause_core.specs.declared.line.Line.TheVariants.{Add, Delete}
 use Rattle.mv_text.proofs.CallerLemmas.{Gathers, gathers_more, gathers_none}
@@ -34,18 +34,9 @@ chosen_other test one two (b ∷ bytes) none h = ap (λ c. cond c (one (b ∷ by
 
 -- ---- literals
 
--- a literal's variable is in range where the literal is
-pub plus_in_range : (max v : ℕ) → IsVariable max v → IsLiteralInRange max (pos v)
-plus_in_range max zero h = let some : 0 < 0 = h.0 in absurd (omega arith)
-plus_in_range max (suc v) h = (λ e. cc, h.1)
-
 pub plus_out : (max v : ℕ) → IsLiteralInRange max (pos v) → IsVariable max v
 plus_out max zero h = absurd (h.0 refl)
 plus_out max (suc v) h = (omega arith, h.1)
-
-pub minus_in_range : (max v : ℕ) → IsVariable max v → IsLiteralInRange max (minus_number v)
-minus_in_range max zero h = let some : 0 < 0 = h.0 in absurd (omega arith)
-minus_in_range max (suc v) h = (λ e. cc, h.1)
 
 pub minus_out : (max v : ℕ) → IsLiteralInRange max (minus_number v) → IsVariable max v
 minus_out max zero h = absurd (h.0 refl)
@@ -80,26 +71,11 @@ minus_none max old mid new at e h = record {
   gives = λ r. h.gives (minus_out max h.read r);
 }
 
-pub minus_some : (max : ℕ) (old mid new : List ℕ) (v : ℕ) (l : ℤ) → begins (λ b. b == 45) old ≡ true → front_at (codes "-") old ≡ Some mid → Takes nonzero_at (IsVariable max) IsSame mid new (Some v) → l ≡ minus_number v →
-    Takes literal_at (IsLiteralInRange max) IsSame old new (Some l)
-minus_some max old mid new v l at e h is = record {
-  read = minus_number h.read;
-  taken = minus_there old at ∙ taken_behind minus_number (codes "-") nonzero_at old mid new h.read e h.taken;
-  gives = (minus_in_range max h.read h.gives.0, ap minus_number h.gives.1 ∙ sym is);
-}
-
 pub plus_none : (max : ℕ) (old new : List ℕ) → begins (λ b. b == 45) old ≡ false → Takes nonzero_at (IsVariable max) IsSame old new None → Takes literal_at (IsLiteralInRange max) IsSame old new None
 plus_none max old new at h = record {
   read = pos h.read;
   taken = plus_there old at ∙ taken_map pos nonzero_at old new h.read h.taken;
   gives = λ r. h.gives (plus_out max h.read r);
-}
-
-pub plus_some : (max : ℕ) (old new : List ℕ) (v : ℕ) (l : ℤ) → begins (λ b. b == 45) old ≡ false → Takes nonzero_at (IsVariable max) IsSame old new (Some v) → l ≡ pos v → Takes literal_at (IsLiteralInRange max) IsSame old new (Some l)
-plus_some max old new v l at h is = record {
-  read = pos h.read;
-  taken = plus_there old at ∙ taken_map pos nonzero_at old new h.read h.taken;
-  gives = (plus_in_range max h.read h.gives.0, ap pos h.gives.1 ∙ sym is);
 }
 
 -- ---- the loop over literals
@@ -130,10 +106,6 @@ pub literals_more : (max : ℕ) (old now new : List ℕ) (given : Option (Vec �
 literals_more max old now new given one given' at so_far next pushes =
     gathers_more given' so_far next (literals_turn now at) (more_give max so_far.read next.read given one given' so_far.gives next.gives pushes)
 
--- literals in range are ones of 32 bits
-pub literals_fit : (max : ℕ) (ls : List ℤ) → max < 2 ^ 31 → All (IsLiteralInRange max) ls → All IsLiteral ls
-literals_fit max ls small h k d below = let here = h k d below in let low = here.1 in (here.0, omega arith)
-
 -- ---- clauses and lines
 
 taken_ended : {A : Type 0} (item : Reader A) (text : List ℕ) (old mid new : List ℕ) (x : A) → item old ≡ Some (x, mid) → front_at text mid ≡ Some new → ended_at item text old ≡ Some (x, new)
@@ -144,9 +116,6 @@ pub clause_some : (max : ℕ) (old mid new : List ℕ) (all : Vec ℤ Global) (c
 clause_some max old mid new all c h e same =
     let k : SameSet c h.read = subst (SameSet c) h.gives.1 same in
     record { read = h.read; taken = taken_ended literals_at (codes "0") old mid new h.read h.taken e; gives = (h.gives.0, (k.1, k.0)) }
-
-pub clause_none : (max : ℕ) (old mid new : List ℕ) → Takes literals_at (All (IsLiteralInRange max)) HasItems old mid None → front_at (codes "0") mid ≡ Some new → Takes clause_at (IsClauseInRange max) SameSet old new None
-clause_none max old mid new h e = record { read = h.read; taken = taken_ended literals_at (codes "0") old mid new h.read h.taken e; gives = h.gives }
 
 abbrev delete_at : Reader ClauseLine
 delete_at = map_at Delete (behind_at (codes "d ") clause_at)

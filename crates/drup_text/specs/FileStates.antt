@@ -86,7 +86,8 @@ IsNeededFault lines left before now fail.Memory = Unit {0}
 abbrev pub PassesCut : Aig → (List ℕ → Type 0) → List ℕ → Option Cut → List ℕ → Type 0
 PassesCut g IsLong bytes None body = ¬ (IsLong bytes) × BeginsWith IsCutLine bytes None body
 PassesCut g IsLong bytes (Some cut) body =
-    (rest : List ℕ) × ¬ (IsLong bytes) × BeginsWith IsCutLine bytes (Some (cut.lo, length cut.pairs)) rest × IsCutSize (length g.outputs) (cut.lo, length cut.pairs) ×
+    (rest : List ℕ) × ¬ (IsLong bytes) × BeginsWith IsCutLine bytes (Some (cut.lo, length cut.pairs)) rest ×
+    IsCutSize (length g.outputs) (cut.lo, length cut.pairs) ×
     Behind IsPairLine (IsPairStep g) IsLong (λ left after. (left ≡ 0) × (after ≡ body)) cut.pairs (length cut.pairs) rest
 
 -- A file begins with the header of a cut, or of none, which the graph takes and no line of which is too long.

@@ -47,7 +47,8 @@ IsRefusedBehindPairs later g IsLong lo pairs (suc left) bytes p = (cause : Claus
 -- the pairs of a cut, the first of them in line 3
 abbrev pub IsRefusedPairs : Later → Aig → (List ℕ → Type 0) → ℕ × ℕ → List ℕ → ℕ × ClauseCause → Type 0
 IsRefusedPairs later g IsLong n bytes p =
-    (pairs : List (Lit × Lit)) × Behind IsPairLine (IsPairStep g) IsLong (λ left rest. IsRefusedBehindPairs later g IsLong n.0 pairs left rest p) pairs n.1 bytes
+    (pairs : List (Lit × Lit)) ×
+    Behind IsPairLine (IsPairStep g) IsLong (λ left rest. IsRefusedBehindPairs later g IsLong n.0 pairs left rest p) pairs n.1 bytes
 
 -- ---- the line before them
 

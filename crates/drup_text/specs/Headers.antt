@@ -31,7 +31,8 @@ version_line = codes "joined 1" ++ newline ∷ []
 -- Behind the first line: one line, and a line for each pair.
 abbrev pub IsCutText : List ℕ → Option Cut → List ℕ → Type 0
 IsCutText bytes None after = BeginsWith IsCutLine bytes None after
-IsCutText bytes (Some cut) after = (rest : List ℕ) × BeginsWith IsCutLine bytes (Some (cut.lo, length cut.pairs)) rest × AreLinesOf IsPairLine rest cut.pairs after
+IsCutText bytes (Some cut) after =
+    (rest : List ℕ) × BeginsWith IsCutLine bytes (Some (cut.lo, length cut.pairs)) rest × AreLinesOf IsPairLine rest cut.pairs after
 
 -- the whole header, and the bytes after it
 abbrev pub IsHeaderText : List ℕ → Option Cut → List ℕ → Type 0

@@ -1,5 +1,6 @@
--- To be trusted by whoever reads the contracts: `ClauseTexts`, `Headers`, `LineTexts`, `HeaderRefusal` and `FileStates`.
--- `ClauseReading` and `Steps` serve private clauses alone.
+-- To be trusted by whoever reads the contracts: `ClauseTexts`, `Headers`, `LineTexts`, `HeaderRefusal`, `FileStates` and
+-- `WrittenTexts`; `WrittenLaws` says what is read of a text that was written. `ClauseReading`, `Steps` and `HeaderSteps` serve private
+-- clauses alone.
 pub mod ClauseTexts
 pub mod Headers
 pub mod LineTexts

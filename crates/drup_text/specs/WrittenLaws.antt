@@ -33,12 +33,15 @@ WrittenFilesAreRead = (cut : Option Cut) (lines : List ClauseLine) → IsWritabl
 
 -- No text is two files.
 abbrev pub OneTextIsOneFile : Type 0
-OneTextIsOneFile = (bytes : List ℕ) (cut other : Option Cut) (lines others : List ClauseLine) → IsClauseFile bytes cut lines → IsClauseFile bytes other others → (cut ≡ other) × (lines ≡ others)
+OneTextIsOneFile = (bytes : List ℕ) (cut other : Option Cut) (lines others : List ClauseLine) → IsClauseFile bytes cut lines →
+    IsClauseFile bytes other others → (cut ≡ other) × (lines ≡ others)
 
 -- Within the lengths the header that is written passes over each graph that takes its cut, and the lines are left behind it.
 abbrev pub WrittenHeadersPass : Type 0
-WrittenHeadersPass = (g : Aig) (lengths : Lengths) (cut : Option Cut) (lines : List ClauseLine) → IsWritable cut → IsHeaderOf g cut → IsWithin lengths (file_text cut lines) → PassesHeader g lengths (file_text cut lines) cut (lines_text lines)
+WrittenHeadersPass = (g : Aig) (lengths : Lengths) (cut : Option Cut) (lines : List ClauseLine) → IsWritable cut → IsHeaderOf g cut →
+    IsWithin lengths (file_text cut lines) → PassesHeader g lengths (file_text cut lines) cut (lines_text lines)
 
 -- A header that passes has no refusal.
 abbrev pub PassingHeadersAreNotRefused : Type 0
-PassingHeadersAreNotRefused = (g : Aig) (lengths : Lengths) (bytes : List ℕ) (cut : Option Cut) (body : List ℕ) (p : ℕ × ClauseCause) → PassesHeader g lengths bytes cut body → IsHeaderRefusal g lengths bytes p → ⊥
+PassingHeadersAreNotRefused = (g : Aig) (lengths : Lengths) (bytes : List ℕ) (cut : Option Cut) (body : List ℕ) (p : ℕ × ClauseCause) →
+    PassesHeader g lengths bytes cut body → IsHeaderRefusal g lengths bytes p → ⊥

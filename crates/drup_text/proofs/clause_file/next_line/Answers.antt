@@ -5,7 +5,7 @@ use Rattle.mv_text.specs.LineReading.{TakesLine, known_from}
 use Rattle.drup_text.specs.ClauseTexts.{IsClauseLine}
 use Rattle.drup_text.specs.LineTexts.{IsLineInRange, IsRefusedText, IsTextOf}
 use Rattle.drup_text.proofs.ClauseReading.{none_clause_line}
-use Rattle.drup_text.proofs.FileSteps.{next_fault, next_text_refused, text_is_taken}
+use Rattle.drup_text.proofs.FileSteps.{next_fault, next_refused_text, text_is_taken}
 use Rattle.drup_text.proofs.clause_file.next_line.Goals as goal
 
 pub returns-in-Ok-clause-line : goal.returns-in-Ok-clause-line
@@ -20,7 +20,7 @@ pub returns-in-Ok-Some-clause-refused : goal.returns-in-Ok-Some-clause-refused
 returns-in-Ok-Some-clause-refused g c =
     let before = known_from c.args.lines.now.ahead ((g.D.Desk.seen c.args.desk.now).left Clauses) in
     let after = known_from c.next_line.new.self.ahead ((g.D.Desk.seen c.next_line.new.desk).left Clauses) in
-    next_text_refused IsClauseLine (IsLineInRange c.args.max) none_clause_line c.args.lines.now c.next_line.new.self before after c.in-Ok-Some.line.items
+    next_refused_text IsClauseLine (IsLineInRange c.args.max) none_clause_line c.args.lines.now c.next_line.new.self before after c.in-Ok-Some.line.items
     (g.D.Desk.seen c.args.desk.now).read_faults (g.D.Desk.seen c.next_line.new.desk).read_faults c.in-Err-read_line.fail
     (subst (λ o. IfSome o (λ line. TakesLine c.args.lines.now c.next_line.new.self before after line.items)) c.in-Ok-Some.field-0-is c.in-Ok-Some.ensures.line)
     (subst (λ z. IsRefusedText IsClauseLine (IsLineInRange c.args.max) z c.in-Err-read_line.fail) c.deref.ensures.value c.in-Err-read_line.ensures.err)
