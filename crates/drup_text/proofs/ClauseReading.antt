@@ -1,0 +1,264 @@
+-- What is read of a line of a clause certificate is what its text says.
+use Rattle.std.specs.Prelude.{◌≡◌, ◌≢◌, ℕ, zero, suc, ◌+◌, ◌*◌, ◌-◌, ◌<◌, ◌≤◌, ◌⊎◌, Bool, true, false, not, cond, List, [], ◌∷◌, ◌++◌, length, codes, ℤ, pos, negsuc, ◌==◌, slice_index}
+use Rattle.std.specs.declared.option.Option.{Option}
+use Rattle.std.specs.declared.option.Option.TheVariants.{None, Some}
+use Rattle.std.specs.List.{fold}
+use Rattle.std.proofs.Common.{refl, sym, ap, subst, ◌∙◌, arith, append_assoc, length-append, inl, inr, ⊎_elim, eqb-true, eq-eqb}
+use Rattle.std.proofs.lemmas.List.Elements.{recursion_from_All}
+use Rattle.graph_core.specs.declared.literal.Lit.{Lit}
+use Rattle.graph_core.specs.Text.{newline, space, IsNumeral, IsDigit}
+use Rattle.graph_core.specs.Text.Numerals.{number_at, is_digit, ◌>>=◌}
+use Rattle.graph_core.specs.Text.Readers.{Reads, map_at, behind_at, ended_at, Ended, BehindText, AreMany, NoneOf, OneOf, Anything, put_before}
+use Rattle.graph_core.proofs.OfTexts.CallerLemmas.{HasNoNewline, OtherOf, many_next, none_append, none_in, none_numeral, one_longer, reads_as, reads_before, reads_behind, reads_choice, reads_ended, reads_many, reads_map, reads_number, reads_text, reads_then}
+use Rattle.graph_core.proofs.OfAlgebra.CallerLemmas.{numeral_first}
+use Rattle.clause_core.specs.Clause.{Clause}
+use Rattle.clause_core.specs.ClauseLines.{ClauseLine}
+use Rattle.clause_core.specs.declared.line.Line.TheVariants.{Add, Delete}
+use Rattle.drup_text.specs.ClauseTexts.{IsVariableText, IsLiteralText, IsClauseText, IsClauseLine, IsCutLine, IsPairLine}
+use Rattle.drup_text.specs.ClauseReading.{is_no_zero, nonzero_at, minus_number, literal_at, literals_at, clause_at, clause_line_at, two_at, some_cut, cut_line_at, lits, pair_line_at}
+
+-- a number whose first digit isn't 0
+nonzero_takes : (bytes : List ℕ) (v : ℕ) (rest : List ℕ) → nonzero_at bytes ≡ Some (v, rest) → (front : List ℕ) × IsVariableText front v × (bytes ≡ front ++ rest)
+nonzero_takes [] v rest h = absurd (cc)
+nonzero_takes (b ∷ bytes) v rest h = go (b == 48) refl h
+  where
+    first : (front : List ℕ) → IsNumeral 10 front v → b ∷ bytes ≡ front ++ rest → slice_index front 0 ≡ b
+    first [] n e = let some : 0 < 0 = n.some in absurd (omega arith)
+    first (c ∷ front) n e = cc
+
+    go : (c : Bool) → (b == 48) ≡ c → cond c None (number_at 10 (b ∷ bytes)) ≡ Some (v, rest) → (front : List ℕ) × IsVariableText front v × (b ∷ bytes ≡ front ++ rest)
+    go true e f = absurd (cc)
+    go false e f =
+        let t = (reads_number 10).takes (b ∷ bytes) v rest f in
+        (t.0, (t.1, λ z. let g = eq-eqb b 48 (sym (first t.0 t.1 t.2) ∙ z) in absurd (cc)), t.2)
+
+nonzero_again : (front : List ℕ) (v : ℕ) (rest : List ℕ) → IsVariableText front v → NoneOf is_digit rest → nonzero_at (front ++ rest) ≡ Some (v, rest)
+nonzero_again [] v rest is stop = let some : 0 < 0 = is.0.some in absurd (omega arith)
+nonzero_again (b ∷ front) v rest is stop = go (b == 48) refl
+  where
+    go : (c : Bool) → (b == 48) ≡ c → cond c None (number_at 10 (b ∷ (front ++ rest))) ≡ Some (v, rest)
+    go true e = absurd (is.1 (eqb-true b 48 e))
+    go false e = (reads_number 10).again (b ∷ front) v rest is.0 stop
+
+reads_nonzero : Reads nonzero_at IsVariableText (NoneOf is_digit)
+reads_nonzero = record { takes = nonzero_takes; again = nonzero_again }
+
+-- such a number isn't 0
+fold_grows : (n : ℕ) (bytes : List ℕ) → n ≤ fold (λ k b. 10 * k + (b - 48)) n bytes
+fold_grows n [] = omega arith
+fold_grows n (b ∷ bytes) = let more = fold_grows (10 * n + (b - 48)) bytes in omega arith
+
+variable_pos : (bytes : List ℕ) (v : ℕ) → IsVariableText bytes v → 0 < v
+variable_pos [] v h = let some : 0 < 0 = h.0.some in absurd (omega arith)
+variable_pos (b ∷ bytes) v h =
+    let digit : IsDigit b = (recursion_from_All IsDigit (b ∷ bytes) h.0.digits).0 in
+    let other : b ≢ 48 = h.1 in
+    let low : 48 ≤ b = digit.0 in
+    let more = fold_grows (10 * 0 + (b - 48)) bytes in
+    let e : v ≡ fold (λ k c. 10 * k + (c - 48)) (10 * 0 + (b - 48)) bytes = h.0.number in
+    omega arith
+
+-- a variable's text begins with a digit other than 0
+variable_first : (bytes : List ℕ) (v : ℕ) → IsVariableText bytes v → OneOf is_digit bytes
+variable_first bytes v h = numeral_first 10 bytes v h.0
+
+abbrev IsMinus : List ℕ → ℤ → Type 0
+IsMinus bytes l = (v : ℕ) × (minus_number v ≡ l) × BehindText (codes "-") IsVariableText bytes v
+
+abbrev IsPlus : List ℕ → ℤ → Type 0
+IsPlus bytes l = (v : ℕ) × (pos v ≡ l) × IsVariableText bytes v
+
+reads_minus : Reads (map_at minus_number (behind_at (codes "-") nonzero_at)) IsMinus (NoneOf is_digit)
+reads_minus = reads_map minus_number IsMinus (reads_behind (codes "-") reads_nonzero) (λ bytes v h. (v, refl, h)) (λ bytes l h. (h.0, h.2, h.1))
+
+reads_plus : Reads (map_at pos nonzero_at) IsPlus (NoneOf is_digit)
+reads_plus = reads_map pos IsPlus reads_nonzero (λ bytes v h. (v, refl, h)) (λ bytes l h. (h.0, h.2, h.1))
+
+digit_other : (test : ℕ → Bool) (k : ℕ) → is_digit k ≡ false → ((b : ℕ) → test b ≡ true → b ≡ k) → (bytes : List ℕ) → OneOf is_digit bytes → OtherOf test bytes
+digit_other test k no' is [] d = absurd d
+digit_other test k no' is (b ∷ bytes) d = go (test b) refl
+  where
+    go : (c : Bool) → test b ≡ c → c ≡ false
+    go true e = let f : is_digit k ≡ true = subst (λ z. is_digit z ≡ true) (is b e) d in absurd (cc)
+    go false e = refl
+
+literal_there : (bytes : List ℕ) (l : ℤ) → IsMinus bytes l ⊎ IsPlus bytes l → IsLiteralText bytes l
+literal_there bytes l h = ⊎_elim (λ m. minus m.0 m.1 m.2) (λ p. subst (IsLiteralText bytes) p.1 p.2) h
+  where
+    minus : (v : ℕ) → minus_number v ≡ l → BehindText (codes "-") IsVariableText bytes v → IsLiteralText bytes l
+    minus zero e m = let some = variable_pos m.0 zero m.1 in absurd (omega arith)
+    minus (suc v) e m = subst (IsLiteralText bytes) e m
+
+literal_back : (bytes : List ℕ) (l : ℤ) → IsLiteralText bytes l → IsMinus bytes l ⊎ IsPlus bytes l
+literal_back bytes (pos v) h = inr (v, refl, h)
+literal_back bytes (negsuc v) h = inl (suc v, refl, h)
+
+reads_literal : Reads literal_at IsLiteralText (NoneOf is_digit)
+reads_literal =
+    reads_as IsLiteralText
+    (reads_choice (λ b. b == 45) reads_minus reads_plus (λ front l h. subst (OneOf (λ b. b == 45)) (sym h.2.2) refl) (λ front l h. digit_other (λ b. b == 45) 45 refl (λ b e. eqb-true b 45 e) front (variable_first front h.0 h.2)))
+    literal_there literal_back
+
+-- ---- clauses
+
+abbrev IsEndedLiteral : List ℕ → ℤ → Type 0
+IsEndedLiteral = Ended IsLiteralText (codes " ")
+
+-- a literal begins with a minus or a digit other than 0
+literal_first : (front : List ℕ) (l : ℤ) → IsLiteralText front l → OneOf is_no_zero front
+literal_first front (pos v) h = go front h
+  where
+    go : (bytes : List ℕ) → IsVariableText bytes v → OneOf is_no_zero bytes
+    go [] k = let some : 0 < 0 = k.0.some in absurd (omega arith)
+    go (b ∷ bytes) k = test (b == 48) refl
+      where
+        test : (c : Bool) → (b == 48) ≡ c → not c ≡ true
+        test true e = absurd (k.1 (eqb-true b 48 e))
+        test false e = refl
+literal_first front (negsuc v) h = subst (OneOf is_no_zero) (sym h.2) refl
+
+clause_there : (bytes : List ℕ) (c : Clause) (front : List ℕ) → AreMany IsEndedLiteral front c → bytes ≡ front ++ codes "0" → IsClauseText bytes c
+clause_there bytes [] front h e = e ∙ ap (λ z. z ++ codes "0") h
+clause_there bytes (l ∷ ls) front h e =
+    (h.2.0, h.1 ++ codes "0", h.2.1, clause_there (h.1 ++ codes "0") ls h.1 h.3 refl, e ∙ ap (λ z. z ++ codes "0") (h.4 ∙ ap (λ z. z ++ h.1) h.2.2) ∙ append_assoc (h.2.0 ++ codes " ") h.1 (codes "0") ∙ append_assoc h.2.0 (codes " ") (h.1 ++ codes "0"))
+
+clause_back : (bytes : List ℕ) (c : Clause) → IsClauseText bytes c → Ended (AreMany IsEndedLiteral) (codes "0") bytes c
+clause_back bytes [] h = ([], refl, h)
+clause_back bytes (l ∷ ls) h =
+    let more = clause_back h.1 ls h.3 in (
+      (h.0 ++ codes " ") ++ more.0,
+      (h.0 ++ codes " ", more.0, (h.0, h.2, refl), more.1, refl),
+      h.4 ∙ ap (λ z. h.0 ++ space ∷ z) more.2 ∙ sym (append_assoc h.0 (codes " ") (more.0 ++ codes "0")) ∙ sym (append_assoc (h.0 ++ codes " ") more.0 (codes "0")),
+    )
+
+pub reads_clause : Reads clause_at IsClauseText Anything
+reads_clause =
+    reads_as IsClauseText
+    (reads_ended (codes "0") (reads_many is_no_zero (ended_at literal_at (codes " ")) IsEndedLiteral Anything (reads_ended (codes " ") reads_literal (λ rest. refl))
+    (λ front l h. subst (OneOf is_no_zero) (sym h.2) (one_longer is_no_zero h.0 (codes " ") (literal_first h.0 l h.1))) (λ rest h. tt)) (λ rest. (refl, tt)))
+    (λ bytes c h. clause_there bytes c h.0 h.1 h.2) clause_back
+
+abbrev IsDelete : List ℕ → ClauseLine → Type 0
+IsDelete bytes x = (c : Clause) × (Delete c ≡ x) × BehindText (codes "d ") IsClauseText bytes c
+
+abbrev IsAdd : List ℕ → ClauseLine → Type 0
+IsAdd bytes x = (c : Clause) × (Add c ≡ x) × IsClauseText bytes c
+
+-- a clause doesn't begin with d
+clause_first : (front : List ℕ) (c : Clause) → IsClauseText front c → OtherOf (λ b. b == 100) front
+clause_first front [] h = subst (OtherOf (λ b. b == 100)) (sym h) refl
+clause_first front (l ∷ ls) h = subst (OtherOf (λ b. b == 100)) (sym h.4) (longer h.0 (go h.0 l h.2))
+  where
+    longer : (bytes : List ℕ) → OtherOf (λ b. b == 100) bytes → OtherOf (λ b. b == 100) (bytes ++ space ∷ h.1)
+    longer [] k = absurd k
+    longer (b ∷ bytes) k = k
+
+    go : (bytes : List ℕ) (k : ℤ) → IsLiteralText bytes k → OtherOf (λ b. b == 100) bytes
+    go bytes (pos v) k = digit_other (λ b. b == 100) 100 refl (λ b e. eqb-true b 100 e) bytes (variable_first bytes v k)
+    go bytes (negsuc v) k = subst (OtherOf (λ b. b == 100)) (sym k.2) refl
+
+pub reads_clause_line : Reads clause_line_at IsClauseLine Anything
+unfolding clause_line_at
+reads_clause_line =
+    reads_as IsClauseLine
+    (reads_choice (λ b. b == 100) (reads_map Delete IsDelete (reads_behind (codes "d ") reads_clause) (λ bytes c h. (c, refl, h)) (λ bytes x h. (h.0, h.2, h.1)))
+    (reads_map Add IsAdd reads_clause (λ bytes c h. (c, refl, h)) (λ bytes x h. (h.0, h.2, h.1)))
+    (λ front x h. subst (OneOf (λ b. b == 100)) (sym h.2.2) refl) (λ front x h. clause_first front h.0 h.2))
+    (λ bytes x h. ⊎_elim (λ d. subst (IsClauseLine bytes) d.1 d.2) (λ a. subst (IsClauseLine bytes) a.1 a.2) h)
+    back
+  where
+    back : (bytes : List ℕ) (x : ClauseLine) → IsClauseLine bytes x → IsDelete bytes x ⊎ IsAdd bytes x
+    back bytes (Add c) h = inr (c, refl, h)
+    back bytes (Delete c) h = inl (c, refl, h)
+
+-- ---- the header
+
+abbrev AreTwo : List ℕ → ℕ × ℕ → Type 0
+AreTwo bytes n = (one two : List ℕ) × IsNumeral 10 one n.0 × IsNumeral 10 two n.1 × (bytes ≡ one ++ space ∷ two)
+
+reads_two : Reads two_at AreTwo (NoneOf is_digit)
+reads_two =
+    reads_as AreTwo (reads_then (reads_ended (codes " ") (reads_number 10) (λ rest. refl)) (reads_number 10) (λ front y rest h f. tt))
+    (λ bytes n h. (h.2.0, h.1, h.2.1, h.3, h.4 ∙ ap (λ z. z ++ h.1) h.2.2 ∙ append_assoc h.2.0 (codes " ") h.1))
+    (λ bytes n h. (h.0 ++ codes " ", h.1, (h.0, h.2, refl), h.3, h.4 ∙ sym (append_assoc h.0 (codes " ") h.1)))
+
+abbrev IsNone : List ℕ → Option (ℕ × ℕ) → Type 0
+IsNone bytes c = (c ≡ None) × (bytes ≡ codes "none")
+
+abbrev IsReplace : List ℕ → Option (ℕ × ℕ) → Type 0
+IsReplace bytes c = (n : ℕ × ℕ) × (some_cut n ≡ c) × BehindText (codes "replace ") AreTwo bytes n
+
+pub reads_cut_line : Reads cut_line_at IsCutLine (NoneOf is_digit)
+unfolding cut_line_at
+reads_cut_line =
+    reads_as IsCutLine
+    (reads_choice (λ b. b == 110) (reads_before (NoneOf is_digit) (reads_text (codes "none") None) (λ rest h. tt))
+    (reads_map some_cut IsReplace (reads_behind (codes "replace ") reads_two) (λ bytes n h. (n, refl, h)) (λ bytes c h. (h.0, h.2, h.1)))
+    (λ front c h. subst (OneOf (λ b. b == 110)) (sym h.1) refl) (λ front c h. subst (OtherOf (λ b. b == 110)) (sym h.2.2) refl))
+    there back
+  where
+    there : (bytes : List ℕ) (c : Option (ℕ × ℕ)) → IsNone bytes c ⊎ IsReplace bytes c → IsCutLine bytes c
+    there bytes c h =
+        ⊎_elim (λ n. subst (IsCutLine bytes) (sym n.0) n.1)
+        (λ r. subst (IsCutLine bytes) r.1 (r.2.1.0, r.2.1.1, r.2.1.2, r.2.1.3, r.2.2 ∙ ap (λ z. codes "replace " ++ z) r.2.1.4 ∙ sym (append_assoc (codes "replace ") r.2.1.0 (space ∷ r.2.1.1)))) h
+
+    back : (bytes : List ℕ) (c : Option (ℕ × ℕ)) → IsCutLine bytes c → IsNone bytes c ⊎ IsReplace bytes c
+    back bytes None h = inl (refl, h)
+    back bytes (Some n) h = inr (n, refl, (h.0 ++ space ∷ h.1, (h.0, h.1, h.2, h.3, refl), h.4 ∙ append_assoc (codes "replace ") h.0 (space ∷ h.1)))
+
+pub reads_pair_line : Reads pair_line_at IsPairLine (NoneOf is_digit)
+unfolding pair_line_at
+reads_pair_line = reads_map lits IsPairLine reads_two (λ bytes n h. h) (λ bytes p h. ((p.0.0, p.1.0), h, refl))
+
+-- one turn of the loop that reads a clause's literals
+pub literals_next : (b : ℕ) (bytes : List ℕ) → literals_at (b ∷ bytes) ≡ cond (is_no_zero b) (ended_at literal_at (codes " ") (b ∷ bytes) >>= (λ x. put_before x.0 (literals_at x.1))) (Some ([], b ∷ bytes))
+literals_next = many_next is_no_zero (ended_at literal_at (codes " ")) IsEndedLiteral Anything (reads_ended (codes " ") reads_literal (λ rest. refl))
+    (λ front l h. subst (OneOf is_no_zero) (sym h.2) (one_longer is_no_zero h.0 (codes " ") (literal_first h.0 l h.1))) (λ rest h. tt)
+
+-- ---- with their line feeds
+
+pub clause_item : Reads (ended_at clause_line_at (newline ∷ [])) (Ended IsClauseLine (newline ∷ [])) Anything
+clause_item = reads_ended (newline ∷ []) reads_clause_line (λ rest. tt)
+
+pub pair_item : Reads (ended_at pair_line_at (newline ∷ [])) (Ended IsPairLine (newline ∷ [])) Anything
+pair_item = reads_ended (newline ∷ []) reads_pair_line (λ rest. refl)
+
+pub cut_item : Reads (ended_at cut_line_at (newline ∷ [])) (Ended IsCutLine (newline ∷ [])) Anything
+cut_item = reads_ended (newline ∷ []) reads_cut_line (λ rest. refl)
+
+-- ---- no line has a line feed in it
+
+none_same : (bytes other : List ℕ) → bytes ≡ other → HasNoNewline other → HasNoNewline bytes
+none_same bytes other e h = subst HasNoNewline (sym e) h
+
+none_literal : (bytes : List ℕ) (l : ℤ) → IsLiteralText bytes l → HasNoNewline bytes
+none_literal bytes (pos v) h = none_numeral 10 bytes v h.0
+none_literal bytes (negsuc v) h = none_same bytes _ h.2 (none_append (codes "-") h.0 (none_in (codes "-") refl) (none_numeral 10 h.0 (suc v) h.1.0))
+
+none_clause : (bytes : List ℕ) (c : Clause) → IsClauseText bytes c → HasNoNewline bytes
+none_clause bytes [] h = none_same bytes (codes "0") h (none_in (codes "0") refl)
+none_clause bytes (l ∷ ls) h = none_same bytes _ h.4 (none_append h.0 (space ∷ h.1) (none_literal h.0 l h.2) (none_append (space ∷ []) h.1 (none_in (space ∷ []) refl) (none_clause h.1 ls h.3)))
+
+pub none_clause_line : (bytes : List ℕ) (x : ClauseLine) → IsClauseLine bytes x → HasNoNewline bytes
+none_clause_line bytes (Add c) h = none_clause bytes c h
+none_clause_line bytes (Delete c) h = none_same bytes _ h.2 (none_append (codes "d ") h.0 (none_in (codes "d ") refl) (none_clause h.0 c h.1))
+
+none_two : (one two : List ℕ) (m n : ℕ) → IsNumeral 10 one m → IsNumeral 10 two n → HasNoNewline (one ++ space ∷ two)
+none_two one two m n h k = none_append one (space ∷ two) (none_numeral 10 one m h) (none_append (space ∷ []) two (none_in (space ∷ []) refl) (none_numeral 10 two n k))
+
+pub none_pair : (line : List ℕ) (p : Lit × Lit) → IsPairLine line p → HasNoNewline line
+none_pair line p h = none_same line _ h.4 (none_two h.0 h.1 p.0.0 p.1.0 h.2 h.3)
+
+pub none_cut : (line : List ℕ) (c : Option (ℕ × ℕ)) → IsCutLine line c → HasNoNewline line
+none_cut line None h = none_same line _ h (none_in (codes "none") refl)
+none_cut line (Some n) h =
+    none_same line _ (h.4 ∙ append_assoc (codes "replace ") h.0 (space ∷ h.1)) (none_append (codes "replace ") (h.0 ++ space ∷ h.1) (none_in (codes "replace ") refl) (none_two h.0 h.1 n.0 n.1 h.2 h.3))
+
+-- ---- a literal and a space take some bytes
+
+pub spaced_fewer : (bytes : List ℕ) (l : ℤ) (rest : List ℕ) → ended_at literal_at (codes " ") bytes ≡ Some (l, rest) → length rest < length bytes
+spaced_fewer bytes l rest h =
+    let t = (reads_ended (codes " ") reads_literal (λ rest. refl)).takes bytes l rest h in
+    let all : length bytes ≡ length t.0 + length rest = ap length t.2 ∙ length-append t.0 rest in
+    let front : length t.0 ≡ length t.1.0 + 1 = ap length t.1.2 ∙ length-append t.1.0 (codes " ") in
+    omega arith

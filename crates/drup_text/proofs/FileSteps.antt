@@ -1,0 +1,114 @@
+-- What the next line of a file says, and why there is none.
+use Rattle.std.specs.Prelude.{◌≡◌, ◌≢◌, ℕ, List, [], ◌∷◌, ◌++◌, IfSome}
+use Rattle.std.specs.List.{All}
+use Rattle.std.specs.Result.{IfOk, IfErr}
+use Rattle.std.specs.declared.option.Option.{Option}
+use Rattle.std.specs.declared.option.Option.TheVariants.{None, Some}
+use Rattle.std.specs.declared.result.Result.{Result}
+use Rattle.std.specs.declared.result.Result.TheVariants.{Ok, Err}
+use Rattle.std.proofs.Common.{refl, sym, ap, subst, ◌∙◌}
+use Rattle.std.proofs.lemmas.List.Elements.{recursion_from_All}
+use Rattle.mv_desk.specs.declared.faults.LineFail.{LineFail}
+use Rattle.mv_desk.specs.declared.faults.LineFail.TheVariants as fail
+use Rattle.graph_core.specs.Text.{newline}
+use Rattle.graph_core.proofs.OfTexts.CallerLemmas.{HasNoNewline}
+use Rattle.mv_text.specs.LineReading.{EndsIn, IsLineFault, IsLongAhead, Lines, TakesLine}
+use Rattle.mv_text.proofs.CallerLemmas.{end_is_short, line_is_taken}
+use Rattle.drup_text.specs.FileStates.{BeginsOutOfRange, BeginsWithNone, IsLineRefusal, IsNeededFault, IsNextRefusal, TakesText}
+use Rattle.drup_text.specs.LineTexts.{IsRefusedText}
+
+-- a line that stands in front of a line feed is the first line
+same_front : (line front more rest : List ℕ) → HasNoNewline line → HasNoNewline front → line ++ newline ∷ rest ≡ front ++ newline ∷ more → (line ≡ front) × (rest ≡ more)
+same_front [] [] more rest h i e = (refl, cc)
+same_front [] (b ∷ front) more rest h i e = let f : newline ≡ b = cc in absurd (i.0 (sym f))
+same_front (b ∷ line) [] more rest h i e = let f : b ≡ newline = cc in absurd (h.0 f)
+same_front (b ∷ line) (c ∷ front) more rest h i e =
+    let f : b ≡ c = cc in
+    let g : line ++ newline ∷ rest ≡ front ++ newline ∷ more = cc in
+    let same = same_front line front more rest h.1 i.1 g in
+    (ap (λ z. z ∷ line) f ∙ ap (λ z. c ∷ z) same.0, same.1)
+
+-- bytes with no line feed have no line in front of one
+no_line_there : (bytes line rest : List ℕ) → HasNoNewline bytes → bytes ≢ line ++ newline ∷ rest
+no_line_there [] [] rest h e = absurd (cc)
+no_line_there [] (b ∷ line) rest h e = absurd (cc)
+no_line_there (b ∷ bytes) [] rest h e = let f : b ≡ newline = cc in h.0 f
+no_line_there (b ∷ bytes) (c ∷ line) rest h e = let f : bytes ≡ line ++ newline ∷ rest = cc in no_line_there bytes line rest h.1 f
+
+no_end : (bytes : List ℕ) → All (λ b. b ≢ newline) bytes → HasNoNewline bytes
+no_end bytes h = recursion_from_All (λ b. b ≢ newline) bytes h
+
+pub some_left : (line rest : List ℕ) → line ++ newline ∷ rest ≢ []
+some_left [] rest e = absurd (cc)
+some_left (b ∷ line) rest e = absurd (cc)
+
+-- a fact of what is left, where that is told
+pub told_from : (left : Option (List ℕ)) (P Q : List ℕ → Type 0) → ((bytes : List ℕ) → left ≡ Some bytes → P bytes → Q bytes) → IfSome left P → IfSome left Q
+told_from None P Q f h = h
+told_from (Some bytes) P Q f h = f bytes refl h
+
+pub told : (left : Option (List ℕ)) (Q : List ℕ → Type 0) → ((bytes : List ℕ) → left ≡ Some bytes → Q bytes) → IfSome left Q
+told None Q f = tt
+told (Some bytes) Q f = f bytes refl
+
+-- ---- a line that was taken
+
+-- what a text says is what its line says
+pub text_is_taken : {X : Type 0} (IsText : List ℕ → X → Type 0) (old new : Lines) (before after : Option (List ℕ)) (bytes : List ℕ) (x : X) → TakesLine old new before after bytes → IsText bytes x →
+    IfSome before (λ left. TakesText IsText old new left after x)
+text_is_taken IsText old new before after bytes x takes is = told before (λ left. TakesText IsText old new left after x) (λ left e.
+    let l = line_is_taken old new before after bytes left takes e in
+    record { rest = l.0; begins = (bytes, is, l.2); short = l.3; left_is = l.1; taken = l.4 })
+
+pub text_ok : {X : Type 0} (IsText : List ℕ → X → Type 0) (old new : Lines) (before after : Option (List ℕ)) (bytes : List ℕ) (r : Result X LineFail) → TakesLine old new before after bytes → IfOk r (IsText bytes) →
+    IfOk r (λ x. IfSome before (λ left. TakesText IsText old new left after x))
+text_ok IsText old new before after bytes (Ok x) takes is = text_is_taken IsText old new before after bytes x takes is
+text_ok IsText old new before after bytes (Err f) takes is = is
+
+module _ {X : Type 0} (IsText : List ℕ → X → Type 0) (InRange : X → Type 0) (none_text : (line : List ℕ) (x : X) → IsText line x → HasNoNewline line) where
+  none_begins : (bytes left rest : List ℕ) → HasNoNewline bytes → left ≡ bytes ++ newline ∷ rest → ((x : X) → IsText bytes x → ⊥) → BeginsWithNone IsText left
+  none_begins bytes left rest none e refused x more b = refused x (subst (λ z. IsText z x) (sym (same_front bytes b.0 more rest none (none_text b.0 x b.1) (sym e ∙ b.2)).0) b.1)
+
+  -- the text of a line that was taken is refused
+  pub refused_text : (old new : Lines) (before after : Option (List ℕ)) (bytes : List ℕ) (first then : ℕ) (f : LineFail) → TakesLine old new before after bytes → IsRefusedText IsText InRange bytes f → IsLineRefusal IsText InRange old before first then f
+  refused_text old new before after bytes first then fail.Text takes refused = told before (λ left. ¬ (IsLongAhead old left) × BeginsWithNone IsText left) (λ left e.
+      let l = line_is_taken old new before after bytes left takes e in
+      (l.3, none_begins bytes left l.0 (no_end bytes takes.no_end) l.2 refused))
+  refused_text old new before after bytes first then fail.Range takes refused = told before (λ left. ¬ (IsLongAhead old left) × BeginsOutOfRange IsText InRange left) (λ left e.
+      let l = line_is_taken old new before after bytes left takes e in
+      (l.3, (refused.0, l.0, (bytes, refused.1, l.2), refused.2)))
+  refused_text old new before after bytes first then fail.Fault takes refused = absurd refused
+  refused_text old new before after bytes first then fail.TooLong takes refused = absurd refused
+  refused_text old new before after bytes first then fail.Memory takes refused = tt
+
+  pub text_err : (old new : Lines) (before after : Option (List ℕ)) (bytes : List ℕ) (first then : ℕ) (r : Result X LineFail) → TakesLine old new before after bytes → IfErr r (IsRefusedText IsText InRange bytes) → IfErr r (IsLineRefusal IsText InRange old before first then)
+  text_err old new before after bytes first then (Ok x) takes refused = refused
+  text_err old new before after bytes first then (Err f) takes refused = refused_text old new before after bytes first then f takes refused
+
+  -- a needed line isn't had
+  pub needed_refused : (lines : Lines) (left : Option (List ℕ)) (first then : ℕ) (f : LineFail) → IsNeededFault lines left first then f → IsLineRefusal IsText InRange lines left first then f
+  needed_refused lines left first then fail.Text h = told_from left (EndsIn lines) (λ bytes. ¬ (IsLongAhead lines bytes) × BeginsWithNone IsText bytes)
+      (λ bytes e ends. (end_is_short lines bytes ends, λ x rest b. no_line_there bytes b.0 rest (no_end bytes ends.no_end) b.2)) h
+  needed_refused lines left first then fail.Range h = absurd h
+  needed_refused lines left first then fail.Fault h = h
+  needed_refused lines left first then fail.TooLong h = h
+  needed_refused lines left first then fail.Memory h = h
+
+  -- ---- a line that needn't be there
+
+  pub next_refused_text : (old new : Lines) (before after : Option (List ℕ)) (bytes : List ℕ) (first then : ℕ) (f : LineFail) → TakesLine old new before after bytes → IsRefusedText IsText InRange bytes f → IsNextRefusal IsText InRange old before first then f
+  next_refused_text old new before after bytes first then fail.Text takes refused = told before (λ left. ¬ (IsLongAhead old left) × (left ≢ []) × BeginsWithNone IsText left) (λ left e.
+      let l = line_is_taken old new before after bytes left takes e in
+      (l.3, λ n. some_left bytes l.0 (sym l.2 ∙ n), none_begins bytes left l.0 (no_end bytes takes.no_end) l.2 refused))
+  next_refused_text old new before after bytes first then fail.Range takes refused = refused_text old new before after bytes first then fail.Range takes refused
+  next_refused_text old new before after bytes first then fail.Fault takes refused = absurd refused
+  next_refused_text old new before after bytes first then fail.TooLong takes refused = absurd refused
+  next_refused_text old new before after bytes first then fail.Memory takes refused = tt
+
+  pub next_fault : (lines : Lines) (left : Option (List ℕ)) (first then : ℕ) (f : LineFail) → IsLineFault lines left first then f → IsNextRefusal IsText InRange lines left first then f
+  next_fault lines left first then fail.Text h = told_from left (λ bytes. (bytes ≢ []) × EndsIn lines bytes) (λ bytes. ¬ (IsLongAhead lines bytes) × (bytes ≢ []) × BeginsWithNone IsText bytes)
+      (λ bytes e cut. (end_is_short lines bytes cut.1, cut.0, λ x rest b. no_line_there bytes b.0 rest (no_end bytes cut.1.no_end) b.2)) h
+  next_fault lines left first then fail.Range h = absurd h
+  next_fault lines left first then fail.Fault h = h
+  next_fault lines left first then fail.TooLong h = h
+  next_fault lines left first then fail.Memory h = h

@@ -1,0 +1,226 @@
+-- The lines of a header, one behind the other: what passes, and the first refusal.
+use Rattle.std.specs.Prelude.{◌≡◌, ◌+◌, ◌<◌, ℕ, zero, suc, List, [], ◌∷◌, ◌++◌, length, codes, IfSome, ⊤}
+use Rattle.std.specs.declared.option.Option.{Option}
+use Rattle.std.specs.declared.option.Option.TheVariants.{Some}
+use Rattle.std.proofs.Common.{refl, sym, ap, subst, ◌∙◌, arith, inl, inr}
+use Rattle.mv_desk.specs.declared.faults.LineFail.{LineFail}
+use Rattle.mv_desk.specs.declared.faults.LineFail.TheVariants as fail
+use Rattle.graph_core.specs.declared.literal.Lit.{Lit}
+use Rattle.graph_core.specs.Graph.{Aig}
+use Rattle.graph_core.specs.Text.{newline}
+use Rattle.graph_core.specs.Text.JudgedLines.{BeginsWith, Behind, IsTooLong, Lengths}
+use Rattle.graph_core.proofs.OfTexts.CallerLemmas.{HasNoNewline, behind_map, none_in}
+use Rattle.mv_text.specs.LineReading.{IsLongAhead, Lines}
+use Rattle.mv_text.proofs.CallerLemmas.{long_of, short_of}
+use Rattle.drup_text.specs.ClauseTexts.{IsPairLine}
+use Rattle.drup_text.specs.FileStates.{BeginsOutOfRange, BeginsWithNone, IsCause, IsLineRefusal, TakesText}
+use Rattle.drup_text.specs.HeaderRefusal.{ClauseCause, IsFirstRefusal, IsHeaderRefusal, IsPairStep, IsRefusedBehindPairs, IsRefusedCut, IsRefusedPair, IsRefusedPairs, nothing_later}
+use Rattle.drup_text.specs.HeaderRefusal as cause
+use Rattle.drup_text.specs.HeaderSteps.{IsLongIn, Leaves, TakesPairs}
+use Rattle.drup_text.specs.Headers.{IsVersionLine}
+use Rattle.drup_text.specs.LineTexts.{IsCutTextOf, IsPairOf, IsPairTextOf}
+use Rattle.drup_text.proofs.FileSteps.{told_from}
+
+pub none_version : (line : List ℕ) (x : Unit {0}) → IsVersionLine line x → HasNoNewline line
+none_version line x e = subst HasNoNewline (sym e) (none_in (codes "joined 1") refl)
+
+-- ---- causes
+
+-- why a line isn't given is a first refusal in its own line
+pub line_cause : {X : Type 0} (IsText : List ℕ → X → Type 0) (InRange : X → Type 0) (Refused : List ℕ → ℕ × ClauseCause → Type 0) (lines : Lines) (left : Option (List ℕ)) (before now n : ℕ) (f : LineFail) →
+    ((bytes : List ℕ) → IsLongAhead lines bytes → Refused bytes (n, cause.TooLong)) →
+    ((bytes : List ℕ) → ¬ (IsLongAhead lines bytes) → BeginsWithNone IsText bytes → Refused bytes (n, cause.Text)) →
+    ((bytes : List ℕ) → ¬ (IsLongAhead lines bytes) → BeginsOutOfRange IsText InRange bytes → Refused bytes (n, cause.Range)) →
+    IsLineRefusal IsText InRange lines left before now f → IsCause Refused left before now n f
+line_cause IsText InRange Refused lines left before now n fail.Text long none out h =
+    told_from left (λ bytes. ¬ (IsLongAhead lines bytes) × BeginsWithNone IsText bytes) (λ bytes. Refused bytes (n, cause.Text)) (λ bytes e t. none bytes t.0 t.1) h
+line_cause IsText InRange Refused lines left before now n fail.Range long none out h =
+    told_from left (λ bytes. ¬ (IsLongAhead lines bytes) × BeginsOutOfRange IsText InRange bytes) (λ bytes. Refused bytes (n, cause.Range)) (λ bytes e t. out bytes t.0 t.1) h
+line_cause IsText InRange Refused lines left before now n fail.Fault long none out h = h
+line_cause IsText InRange Refused lines left before now n fail.TooLong long none out h = told_from left (IsLongAhead lines) (λ bytes. Refused bytes (n, cause.TooLong)) (λ bytes e t. long bytes t) h
+line_cause IsText InRange Refused lines left before now n fail.Memory long none out h = tt
+
+-- a first refusal behind lines that pass
+pub cause_behind : (Refused Later : List ℕ → ℕ × ClauseCause → Type 0) (left after : Option (List ℕ)) (first mid last n : ℕ) (f : LineFail) → mid ≡ first →
+    IfSome left (λ bytes. (rest : List ℕ) × (after ≡ Some rest) × ((p : ℕ × ClauseCause) → Later rest p → Refused bytes p)) → IsCause Later after mid last n f → IsCause Refused left first last n f
+cause_behind Refused Later left after first mid last n f same passes h = go f h
+  where
+    at : (p : ℕ × ClauseCause) → IfSome after (λ rest. Later rest p) → IfSome left (λ bytes. Refused bytes p)
+    at p later = told_from left (λ bytes. (rest : List ℕ) × (after ≡ Some rest) × ((q : ℕ × ClauseCause) → Later rest q → Refused bytes q)) (λ bytes. Refused bytes p)
+        (λ bytes e t. t.2 p (subst (λ o. IfSome o (λ rest. Later rest p)) t.1 later)) passes
+
+    go : (f : LineFail) → IsCause Later after mid last n f → IsCause Refused left first last n f
+    go fail.Text k = at (n, cause.Text) k
+    go fail.Range k = at (n, cause.Range) k
+    go fail.Fault k = rw (sym same) k
+    go fail.TooLong k = at (n, cause.TooLong) k
+    go fail.Memory k = tt
+
+-- ---- lengths
+
+pub long_back : (old now : Lines) (bytes rest : List ℕ) → now.lengths ≡ old.lengths → now.taken + length rest ≡ old.taken + length bytes → IsLongIn old bytes rest → IsLongAhead now rest
+long_back old now bytes rest lengths taken long = subst (λ n. IsTooLong now.lengths n rest) (sym taken) (subst (λ k. IsTooLong k (old.taken + length bytes) rest) (sym lengths) long)
+
+-- ---- one more line that passes
+
+module _ {State Line : Type 0} (IsText : List ℕ → Line → Type 0) (Step : State → Line → State → Type 0) (IsLong : List ℕ → Type 0) (F G : State → List ℕ → Type 0) (x : Line)
+    (on : (s : State) (left : List ℕ) → F s left → (rest : List ℕ) × (next : State) × ¬ (IsLong left) × BeginsWith IsText left x rest × Step s x next × G next rest) where
+  pub behind_on : (xs : List Line) (s : State) (bytes : List ℕ) → Behind IsText Step IsLong F xs s bytes → Behind IsText Step IsLong G (xs ++ x ∷ []) s bytes
+  behind_on [] s bytes h = on s bytes h
+  behind_on (y ∷ xs) s bytes h = (h.0, h.1, h.2, h.3, h.4, behind_on xs h.1 h.0 h.5)
+
+-- ---- the loop over pairs
+
+-- So many pairs passed, and these bytes are left.
+pub record PairsSoFar (g : Aig) (count i : ℕ) (old now : Lines) (bytes : List ℕ) (after : Option (List ℕ)) (pairs : List (Lit × Lit)) : Type 0 where
+  pub rest : List ℕ
+  pub behind : Behind IsPairLine (IsPairStep g) (IsLongIn old bytes) (λ n left. (n + i ≡ count) × (left ≡ rest)) pairs count bytes
+  pub leaves : Leaves old now bytes after rest
+
+pair_on : (g : Aig) (count i : ℕ) (old now new : Lines) (bytes : List ℕ) (left after : Option (List ℕ)) (pairs : List (Lit × Lit)) (p : Lit × Lit) → i < count → now.lengths ≡ old.lengths → PairsSoFar g count i old now bytes left pairs →
+    IfSome left (λ rest. TakesText (IsPairTextOf g) now new rest after p) → PairsSoFar g count (i + 1) old new bytes after (pairs ++ p ∷ [])
+pair_on g count i old now new bytes left after pairs p early lengths so_far takes =
+    let t = subst (λ o. IfSome o (λ rest. TakesText (IsPairTextOf g) now new rest after p)) so_far.leaves.left_is takes in
+    let here = so_far.leaves.taken in
+    let next = t.taken in
+    record {
+      rest = t.rest;
+      behind = behind_on IsPairLine (IsPairStep g) (IsLongIn old bytes) (λ n rest. (n + i ≡ count) × (rest ≡ so_far.rest)) (λ n rest. (n + (i + 1) ≡ count) × (rest ≡ t.rest)) p
+          (λ n rest f. step n rest f.0 f.1 t) pairs count bytes so_far.behind;
+      leaves = record { left_is = t.left_is; taken = next ∙ here };
+    }
+  where
+    step : (n : ℕ) (rest : List ℕ) → n + i ≡ count → rest ≡ so_far.rest → (t : TakesText (IsPairTextOf g) now new so_far.rest after p) →
+        (more : List ℕ) × (next : ℕ) × ¬ (IsLongIn old bytes rest) × BeginsWith IsPairLine rest p more × IsPairStep g n p next × ((next + (i + 1) ≡ count) × (more ≡ t.rest))
+    step zero rest e same t = absurd (omega (arith, e))
+    step (suc m) rest e same t = (
+      t.rest,
+      m,
+      λ long. t.short (long_back old now bytes so_far.rest lengths so_far.leaves.taken (subst (IsLongIn old bytes) same long)),
+      (t.begins.0, t.begins.1.0, same ∙ t.begins.2),
+      (t.begins.1.1, refl),
+      (omega (arith, e), refl),
+    )
+
+pub pairs_on : (g : Aig) (count i : ℕ) (old now new : Lines) (before left after : Option (List ℕ)) (pairs longer : List (Lit × Lit)) (p : Lit × Lit) → i < count → now.lengths ≡ old.lengths → longer ≡ pairs ++ p ∷ [] →
+    IfSome before (λ bytes. PairsSoFar g count i old now bytes left pairs) → IfSome left (λ rest. TakesText (IsPairTextOf g) now new rest after p) → IfSome before (λ bytes. PairsSoFar g count (i + 1) old new bytes after longer)
+pairs_on g count i old now new before left after pairs longer p early lengths more so_far takes =
+    told_from before (λ bytes. PairsSoFar g count i old now bytes left pairs) (λ bytes. PairsSoFar g count (i + 1) old new bytes after longer)
+    (λ bytes e s. subst (PairsSoFar g count (i + 1) old new bytes after) (sym more) (pair_on g count i old now new bytes left after pairs p early lengths s takes)) so_far
+
+pub pairs_end : (g : Aig) (count i : ℕ) (old now : Lines) (before after : Option (List ℕ)) (pairs : List (Lit × Lit)) → i ≡ count → IfSome before (λ bytes. PairsSoFar g count i old now bytes after pairs) →
+    IfSome before (λ bytes. TakesPairs g count old now bytes after pairs)
+pairs_end g count i old now before after pairs all so_far =
+    told_from before (λ bytes. PairsSoFar g count i old now bytes after pairs) (λ bytes. TakesPairs g count old now bytes after pairs)
+    (λ bytes e s. (
+      s.rest,
+      behind_map IsPairLine (IsPairStep g) (IsLongIn old bytes) (λ n left. (n + i ≡ count) × (left ≡ s.rest)) (λ n left. (n ≡ 0) × (left ≡ s.rest)) (λ n left f. (omega (arith, all, f.0), f.1)) pairs count bytes s.behind,
+      s.leaves,
+    )) so_far
+
+-- ---- a pair that is refused
+
+-- what is wrong with the pair that comes next
+abbrev IsRefusedHere : Aig → Lines → ℕ → List ℕ → ℕ × ClauseCause → Type 0
+IsRefusedHere g lines n bytes p = (c : ClauseCause) × IsRefusedPair g (IsLongAhead lines) bytes c × (p ≡ (n, c))
+
+pair_cause : (g : Aig) (lines : Lines) (left : Option (List ℕ)) (before now n : ℕ) (f : LineFail) → IsLineRefusal IsPairLine (IsPairOf g) lines left before now f → IsCause (IsRefusedHere g lines n) left before now n f
+pair_cause g lines left before now n f h =
+    line_cause IsPairLine (IsPairOf g) (IsRefusedHere g lines n) lines left before now n f (λ bytes long. (cause.TooLong, inl (long, refl), refl)) (λ bytes short none. (cause.Text, inr (short, inl (none, refl)), refl))
+    (λ bytes short out. (cause.Range, inr (short, inr (out.0, out.1, out.2, inl (out.3, refl))), refl)) h
+
+pair_refused : (g : Aig) (lo count i : ℕ) (old now : Lines) (bytes : List ℕ) (left : Option (List ℕ)) (pairs : List (Lit × Lit)) (p : ℕ × ClauseCause) → i < count → length pairs ≡ i → now.lengths ≡ old.lengths → (s : PairsSoFar g count i old now bytes left pairs) →
+    IsRefusedHere g now (3 + i) s.rest p → IsRefusedPairs nothing_later g (IsLongIn old bytes) (lo, count) bytes p
+pair_refused g lo count i old now bytes left pairs p early many lengths s refused = (
+  pairs,
+  behind_map IsPairLine (IsPairStep g) (IsLongIn old bytes) (λ n rest. (n + i ≡ count) × (rest ≡ s.rest)) (λ n rest. IsRefusedBehindPairs nothing_later g (IsLongIn old bytes) lo pairs n rest p) (λ n rest f. step n rest f.0 f.1) pairs count bytes s.behind,
+)
+  where
+    there : (c : ClauseCause) (rest : List ℕ) → rest ≡ s.rest → IsRefusedPair g (IsLongAhead now) s.rest c → IsRefusedPair g (IsLongIn old bytes) rest c
+    there c rest same h =
+        let k : IsRefusedPair g (IsLongAhead now) s.rest c → IsRefusedPair g (IsLongIn old bytes) s.rest c =
+        λ r. subst (λ (q : Lengths). IsRefusedPair g (IsTooLong q (old.taken + length bytes)) s.rest c) lengths (subst (λ n. IsRefusedPair g (IsTooLong now.lengths n) s.rest c) s.leaves.taken (same_long c r)) in
+        subst (λ z. IsRefusedPair g (IsLongIn old bytes) z c) (sym same) (k h)
+      where
+        same_long : (c : ClauseCause) → IsRefusedPair g (IsLongAhead now) s.rest c → IsRefusedPair g (IsTooLong now.lengths (now.taken + length s.rest)) s.rest c
+        same_long c r = r
+
+    step : (n : ℕ) (rest : List ℕ) → n + i ≡ count → rest ≡ s.rest → IsRefusedBehindPairs nothing_later g (IsLongIn old bytes) lo pairs n rest p
+    step zero rest e same = absurd (omega (arith, e))
+    step (suc m) rest e same = (refused.0, there refused.0 rest same refused.1, refused.2 ∙ ap (λ k. (3 + k, refused.0)) (sym many))
+
+pub pairs_refused : (g : Aig) (lo count i line : ℕ) (old now : Lines) (before left : Option (List ℕ)) (pairs : List (Lit × Lit)) (first mid last : ℕ) (f : LineFail) → i < count → line ≡ 3 + i → length pairs ≡ i → now.lengths ≡ old.lengths → mid ≡ first →
+    IfSome before (λ bytes. PairsSoFar g count i old now bytes left pairs) → IsLineRefusal IsPairLine (IsPairOf g) now left mid last f →
+    IsCause (λ bytes. IsRefusedPairs nothing_later g (IsLongIn old bytes) (lo, count) bytes) before first last line f
+pairs_refused g lo count i line old now before left pairs first mid last f early number many lengths same so_far h =
+    subst (λ n. IsCause (λ bytes. IsRefusedPairs nothing_later g (IsLongIn old bytes) (lo, count) bytes) before first last n f) (sym number)
+    (cause_behind (λ bytes. IsRefusedPairs nothing_later g (IsLongIn old bytes) (lo, count) bytes) (IsRefusedHere g now (3 + i)) before left first mid last (3 + i) f same
+    (told_from before (λ bytes. PairsSoFar g count i old now bytes left pairs)
+    (λ bytes. (rest : List ℕ) × (left ≡ Some rest) × ((p : ℕ × ClauseCause) → IsRefusedHere g now (3 + i) rest p → IsRefusedPairs nothing_later g (IsLongIn old bytes) (lo, count) bytes p))
+    (λ bytes e s. (s.rest, s.leaves.left_is, λ p r. pair_refused g lo count i old now bytes left pairs p early many lengths s r)) so_far)
+    (pair_cause g now left mid last (3 + i) f h))
+
+-- ---- the cut's line and its pairs
+
+-- what holds of lengths and of a whole length
+over_all : (P : (List ℕ → Type 0) → Type 0) (old mid : Lines) (bytes rest : List ℕ) → mid.lengths ≡ old.lengths → mid.taken + length rest ≡ old.taken + length bytes → P (IsLongIn mid rest) → P (IsLongIn old bytes)
+over_all P old mid bytes rest lengths taken h = subst (λ k. P (IsTooLong k (old.taken + length bytes))) lengths (subst (λ n. P (IsTooLong mid.lengths n)) taken h)
+
+-- a pair of the cut is refused
+pub cut_refused : (g : Aig) (old mid : Lines) (before left : Option (List ℕ)) (lo count first then last line : ℕ) (f : LineFail) → mid.lengths ≡ old.lengths → then ≡ first →
+    IfSome before (λ bytes. TakesText (IsCutTextOf (length g.outputs)) old mid bytes left (Some (lo, count))) → IsCause (λ bytes. IsRefusedPairs nothing_later g (IsLongIn mid bytes) (lo, count) bytes) left then last line f →
+    IsCause (λ bytes. IsRefusedCut nothing_later g (IsLongIn old bytes) bytes) before first last line f
+cut_refused g old mid before left lo count first then last line f lengths same h refused =
+    cause_behind (λ bytes. IsRefusedCut nothing_later g (IsLongIn old bytes) bytes) (λ bytes. IsRefusedPairs nothing_later g (IsLongIn mid bytes) (lo, count) bytes) before left first then last line f same
+    (told_from before (λ bytes. TakesText (IsCutTextOf (length g.outputs)) old mid bytes left (Some (lo, count)))
+    (λ bytes. (rest : List ℕ) × (left ≡ Some rest) × ((p : ℕ × ClauseCause) → IsRefusedPairs nothing_later g (IsLongIn mid rest) (lo, count) rest p → IsRefusedCut nothing_later g (IsLongIn old bytes) bytes p))
+    (λ bytes e t. (
+      t.rest,
+      t.left_is,
+      λ p r. inr (t.short, inr (Some (lo, count), t.rest, (t.begins.0, t.begins.1.0, t.begins.2), inr (t.begins.1.1, over_all (λ IsLong. IsRefusedPairs nothing_later g IsLong (lo, count) t.rest p) old mid bytes t.rest lengths t.taken r))),
+    )) h)
+    refused
+
+-- ---- the whole header
+
+-- a reader of lines that took nothing yet
+pub record IsNew (lengths : Lengths) (lines : Lines) : Type 0 where
+  pub taken : lines.taken ≡ 0
+  pub lengths_are : lines.lengths ≡ lengths
+
+-- what holds of the lengths of a whole file
+over_file : (P : (List ℕ → Type 0) → Type 0) (lengths : Lengths) (lines now : Lines) (bytes rest : List ℕ) → IsNew lengths lines → now.lengths ≡ lines.lengths → now.taken + length rest ≡ lines.taken + length bytes →
+    P (IsLongIn now rest) → P (IsTooLong lengths (length bytes))
+over_file P lengths lines now bytes rest fresh same taken h =
+    let none = fresh.taken in
+    let total : now.taken + length rest ≡ length bytes = omega arith in
+    subst (λ k. P (IsTooLong k (length bytes))) (same ∙ fresh.lengths_are) (subst (λ n. P (IsTooLong now.lengths n)) total h)
+
+-- the first line is refused
+pub version_refused : (g : Aig) (lengths : Lengths) (lines : Lines) (left : Option (List ℕ)) (first last : ℕ) (f : LineFail) → IsNew lengths lines → IsLineRefusal IsVersionLine (λ x. ⊤) lines left first last f →
+    IsCause (IsHeaderRefusal g lengths) left first last 1 f
+version_refused g lengths lines left first last f fresh h =
+    line_cause IsVersionLine (λ x. ⊤) (IsHeaderRefusal g lengths) lines left first last 1 f
+    (λ bytes long. inl (long_of lengths (length bytes) lines bytes fresh.lengths_are (total bytes) long, refl))
+    (λ bytes short none. inr (short_of lengths (length bytes) lines bytes fresh.lengths_are (total bytes) short, inl (λ body e. none tt body (codes "joined 1", refl, e), refl)))
+    (λ bytes short out. absurd (out.3 tt)) h
+  where
+    total : (bytes : List ℕ) → lines.taken + length bytes ≡ length bytes
+    total bytes = let none = fresh.taken in omega arith
+
+-- a line behind it is refused
+pub header_refused : (g : Aig) (lengths : Lengths) (lines now : Lines) (before left : Option (List ℕ)) (first mid last line : ℕ) (f : LineFail) → IsNew lengths lines → now.lengths ≡ lines.lengths → mid ≡ first →
+    IfSome before (λ bytes. TakesText IsVersionLine lines now bytes left tt) → IsCause (λ bytes. IsRefusedCut nothing_later g (IsLongIn now bytes) bytes) left mid last line f → IsCause (IsHeaderRefusal g lengths) before first last line f
+header_refused g lengths lines now before left first mid last line f fresh same_now same h refused =
+    cause_behind (IsHeaderRefusal g lengths) (λ bytes. IsRefusedCut nothing_later g (IsLongIn now bytes) bytes) before left first mid last line f same
+    (told_from before (λ bytes. TakesText IsVersionLine lines now bytes left tt)
+    (λ bytes. (rest : List ℕ) × (left ≡ Some rest) × ((p : ℕ × ClauseCause) → IsRefusedCut nothing_later g (IsLongIn now rest) rest p → IsHeaderRefusal g lengths bytes p))
+    (λ bytes e t. (
+      t.rest,
+      t.left_is,
+      λ p r. inr (short_of lengths (length bytes) lines bytes fresh.lengths_are (total bytes) t.short, inr (t.rest, t.begins.2 ∙ ap (λ z. z ++ newline ∷ t.rest) t.begins.1, over_file (λ IsLong. IsRefusedCut nothing_later g IsLong t.rest p) lengths lines now bytes t.rest fresh same_now t.taken r)),
+    )) h)
+    refused
+  where
+    total : (bytes : List ℕ) → lines.taken + length bytes ≡ length bytes
+    total bytes = let none = fresh.taken in omega arith

@@ -1,0 +1,172 @@
+-- The lines of a header, as they are read.
+use Rattle.std.specs.Prelude.{◌≡◌, ◌≢◌, ◌==◌, ◌+◌, ◌*◌, ◌≤◌, ℕ, true, false, List, [], codes}
+use Rattle.std.specs.declared.option.Option.{Option}
+use Rattle.std.specs.declared.option.Option.TheVariants.{None, Some}
+use Rattle.std.specs.Option.{option_zip}
+use Rattle.std.proofs.Common.{refl, sym, ap, subst, ◌∙◌, arith, ⊎_elim}
+use Rattle.graph_core.specs.declared.literal.Lit.{Lit}
+use Rattle.graph_core.specs.Graph.Extended.{without_cut}
+use Rattle.graph_core.specs.Graph.Literals.{variable_of}
+use Rattle.graph_core.specs.Graph.{Aig, IsBuilt}
+use Rattle.graph_core.specs.Text.Numerals.{◌>>=◌, number_at, front_at}
+use Rattle.graph_core.specs.Text.Readers.{Reader, behind_at, ended_at, map_at, text_at}
+use Rattle.graph_core.proofs.OfGraphs.CallerLemmas.{input_in_range}
+use Rattle.mv_desk.specs.declared.faults.LineFail.{LineFail}
+use Rattle.mv_text.specs.Steps.{Gives, IsMisfit, Takes, begins}
+use Rattle.ripple_graft.specs.Extension.{IsKnown}
+use Rattle.ripple_graft.proofs.KnownLiterals.{defined_is}
+use Rattle.drup_text.specs.ClauseReading.{cut_line_at, lits, pair_line_at, some_cut, two_at}
+use Rattle.drup_text.specs.ClauseTexts.{IsCutLine, IsPairLine}
+use Rattle.drup_text.specs.LineTexts.{IsCutSize, IsCutTextOf, IsPairOf, IsPairTextOf, IsRefusedText, IsSizeInRange}
+use Rattle.drup_text.specs.Steps.{AreUpTo}
+use Rattle.drup_text.proofs.ClauseReading.{reads_cut_line, reads_pair_line}
+use Rattle.drup_text.proofs.WholeTexts.{left_over, misfit_refused, out_of_range, said}
+use Rattle.drup_text.proofs.LineSteps.{chosen_one, chosen_other, fails_behind, fails_front, fails_map, taken_behind, taken_map}
+
+abbrev IsSame : {A : Type 0} → A → A → Type 0
+IsSame x y = x ≡ y
+
+-- ---- two numbers
+
+both_give : (most : ℕ) (n k : ℕ) (one two : Option ℕ) → Gives (λ m. m ≤ most) IsSame n one → Gives (λ m. m ≤ most) IsSame k two → Gives (AreUpTo most) IsSame (n, k) (option_zip one two)
+both_give most n k (Some a) (Some b) g h = ((g.0, h.0), ap (λ z. (z, k)) g.1 ∙ ap (λ z. (a, z)) h.1)
+both_give most n k (Some a) None g h = λ all. h all.1
+both_give most n k None two g h = λ all. g all.0
+
+pub two_taken : (most : ℕ) (old mid new : List ℕ) (one two : Option ℕ) → Takes (ended_at (number_at 10) (codes " ")) (λ m. m ≤ most) IsSame old mid one → Takes (number_at 10) (λ m. m ≤ most) IsSame mid new two →
+    Takes two_at (AreUpTo most) IsSame old new (option_zip one two)
+two_taken most old mid new one two g h = record {
+  read = (g.read, h.read);
+  taken = ap (λ o. o >>= λ x. number_at 10 x.1 >>= λ y. Some ((x.0, y.0), y.1)) g.taken ∙ ap (λ o. o >>= λ y. Some ((g.read, y.0), y.1)) h.taken;
+  gives = both_give most g.read h.read one two g.gives h.gives;
+}
+
+-- ---- the line of a cut
+
+abbrev none_at : Reader (Option (ℕ × ℕ))
+none_at = text_at (codes "none") None
+
+abbrev replace_at : Reader (Option (ℕ × ℕ))
+replace_at = map_at some_cut (behind_at (codes "replace ") two_at)
+
+none_there : (bytes : List ℕ) → begins (λ b. b == 110) bytes ≡ true → cut_line_at bytes ≡ none_at bytes
+unfolding cut_line_at
+none_there bytes h = chosen_one (λ b. b == 110) none_at replace_at bytes h
+
+replace_there : (bytes : List ℕ) → begins (λ b. b == 110) bytes ≡ false → cut_line_at bytes ≡ replace_at bytes
+unfolding cut_line_at
+replace_there bytes h = chosen_other (λ b. b == 110) none_at replace_at bytes refl h
+
+pub none_taken : (outputs : ℕ) (old new : List ℕ) → begins (λ b. b == 110) old ≡ true → front_at (codes "none") old ≡ Some new → Takes cut_line_at (IsSizeInRange outputs) IsSame old new (Some None)
+none_taken outputs old new at e = record {
+  read = None;
+  taken = none_there old at ∙ ap (λ o. o >>= λ rest. Some (None, rest)) e;
+  gives = (tt, refl);
+}
+
+pub none_fails : (bytes : List ℕ) → begins (λ b. b == 110) bytes ≡ true → front_at (codes "none") bytes ≡ None → cut_line_at bytes ≡ None
+none_fails bytes at e = none_there bytes at ∙ ap (λ o. o >>= λ rest. Some (None, rest)) e
+
+pub replace_fails : (bytes : List ℕ) → begins (λ b. b == 110) bytes ≡ false → front_at (codes "replace ") bytes ≡ None → cut_line_at bytes ≡ None
+replace_fails bytes at e = replace_there bytes at ∙ fails_front some_cut (codes "replace ") two_at bytes e
+
+pub size_fails : (bytes mid : List ℕ) → begins (λ b. b == 110) bytes ≡ false → front_at (codes "replace ") bytes ≡ Some mid → two_at mid ≡ None → cut_line_at bytes ≡ None
+size_fails bytes mid at e h = replace_there bytes at ∙ fails_behind some_cut (codes "replace ") two_at bytes mid e h
+
+pub size_some : (outputs : ℕ) (old mid new : List ℕ) (n : ℕ × ℕ) → begins (λ b. b == 110) old ≡ false → front_at (codes "replace ") old ≡ Some mid → Takes two_at (AreUpTo outputs) IsSame mid new (Some n) → IsCutSize outputs n →
+    Takes cut_line_at (IsSizeInRange outputs) IsSame old new (Some (Some n))
+size_some outputs old mid new n at e h size = record {
+  read = Some h.read;
+  taken = replace_there old at ∙ taken_behind some_cut (codes "replace ") two_at old mid new h.read e h.taken;
+  gives = (rw h.gives.1 size, ap (λ k. Some k) h.gives.1);
+}
+
+-- another size, or numbers that are too great for one
+pub size_other : (outputs : ℕ) (old mid new : List ℕ) (n : ℕ × ℕ) → begins (λ b. b == 110) old ≡ false → front_at (codes "replace ") old ≡ Some mid → Takes two_at (AreUpTo outputs) IsSame mid new (Some n) → ¬ (IsCutSize outputs n) →
+    Takes cut_line_at (IsSizeInRange outputs) IsSame old new None
+size_other outputs old mid new n at e h other = record {
+  read = Some h.read;
+  taken = replace_there old at ∙ taken_behind some_cut (codes "replace ") two_at old mid new h.read e h.taken;
+  gives = λ size. other (rw (sym h.gives.1) size);
+}
+
+pub size_none : (outputs : ℕ) (old mid new : List ℕ) → begins (λ b. b == 110) old ≡ false → front_at (codes "replace ") old ≡ Some mid → Takes two_at (AreUpTo outputs) IsSame mid new None → Takes cut_line_at (IsSizeInRange outputs) IsSame old new None
+size_none outputs old mid new at e h = record {
+  read = Some h.read;
+  taken = replace_there old at ∙ taken_behind some_cut (codes "replace ") two_at old mid new h.read e h.taken;
+  gives = λ size. h.gives (low h.read size);
+}
+  where
+    low : (n : ℕ × ℕ) → IsCutSize outputs n → AreUpTo outputs n
+    low n size = ⊎_elim (λ a. (omega (arith, a), omega (arith, a))) (λ b. (omega (arith, b), omega (arith, b))) size.1
+
+-- ---- the line of a pair
+
+-- a literal of the graph is at most the greatest one
+known_low : (g : Aig) (l : Lit) → IsBuilt g → IsKnown (without_cut g) l → l.0 ≤ 2 * g.max + 1
+known_low g l built known =
+    ⊎_elim (λ none. omega (arith, none))
+    (λ c. ⊎_elim
+    (λ a. let low = (input_in_range g built.well_formed a.1 (a.0, a.2, a.3)).0 in let same : variable_of a.1 ≡ variable_of l = a.4 in omega arith)
+    (λ b. let low = built.well_formed.gates_in_range b.0 b.1 b.2 in let same = ap (λ y. y.v) b.3 ∙ b.4 in omega arith)
+    ((defined_is g (variable_of l)).0 c))
+    known
+
+pub pair_fails : (bytes : List ℕ) → two_at bytes ≡ None → pair_line_at bytes ≡ None
+unfolding pair_line_at
+pair_fails bytes h = fails_map lits two_at bytes h
+
+pair_read : (old new : List ℕ) (n : ℕ × ℕ) → two_at old ≡ Some (n, new) → pair_line_at old ≡ Some (lits n, new)
+unfolding pair_line_at
+pair_read old new n h = taken_map lits two_at old new n h
+
+pub pair_some : (g : Aig) (most : ℕ) (old new : List ℕ) (n : ℕ × ℕ) → Takes two_at (AreUpTo most) IsSame old new (Some n) → IsPairOf g (lits n) → Takes pair_line_at (IsPairOf g) IsSame old new (Some (lits n))
+pair_some g most old new n h is = record {
+  read = lits h.read;
+  taken = pair_read old new h.read h.taken;
+  gives = (rw h.gives.1 is, ap lits h.gives.1);
+}
+
+pub pair_other : (g : Aig) (most : ℕ) (old new : List ℕ) (n : ℕ × ℕ) → Takes two_at (AreUpTo most) IsSame old new (Some n) → ¬ (IsPairOf g (lits n)) → Takes pair_line_at (IsPairOf g) IsSame old new None
+pair_other g most old new n h other = record {
+  read = lits h.read;
+  taken = pair_read old new h.read h.taken;
+  gives = λ is. other (rw (sym h.gives.1) is);
+}
+
+pub pair_none : (g : Aig) (old new : List ℕ) → IsBuilt g → Takes two_at (AreUpTo (2 * g.max + 1)) IsSame old new None → Takes pair_line_at (IsPairOf g) IsSame old new None
+pair_none g old new built h = record {
+  read = lits h.read;
+  taken = pair_read old new h.read h.taken;
+  gives = λ is. h.gives (known_low g (lits h.read).0 built is.0, known_low g (lits h.read).1 built is.1);
+}
+
+-- ---- whole texts
+
+pub size_said : (outputs : ℕ) (bytes rest : List ℕ) (given : Option (Option (ℕ × ℕ))) (size : Option (ℕ × ℕ)) → rest ≡ [] → given ≡ Some size → Takes cut_line_at (IsSizeInRange outputs) IsSame bytes rest given → IsCutTextOf outputs bytes size
+size_said outputs bytes rest given size e f h =
+    let s = said reads_cut_line tt (IsSizeInRange outputs) IsSame bytes rest given size e f h in
+    subst (IsCutTextOf outputs bytes) s.3 (s.1, s.2)
+
+pub size_over : (outputs : ℕ) (bytes rest : List ℕ) (given : Option (Option (ℕ × ℕ))) → rest ≢ [] → Takes cut_line_at (IsSizeInRange outputs) IsSame bytes rest given → (c : Option (ℕ × ℕ)) → IsCutLine bytes c → ⊥
+size_over outputs bytes rest given some h = left_over reads_cut_line tt (IsSizeInRange outputs) IsSame bytes rest given some h
+
+pub size_out : (outputs : ℕ) (bytes rest : List ℕ) (given : Option (Option (ℕ × ℕ))) → rest ≡ [] → given ≡ None → Takes cut_line_at (IsSizeInRange outputs) IsSame bytes rest given → (c : Option (ℕ × ℕ)) × IsCutLine bytes c × ¬ (IsSizeInRange outputs c)
+size_out outputs bytes rest given e f h = out_of_range reads_cut_line tt (IsSizeInRange outputs) IsSame bytes rest given e f h
+
+pub size_misfit : (outputs : ℕ) (bytes : List ℕ) (f : LineFail) → IsMisfit (cut_line_at bytes ≡ None) f → IsRefusedText IsCutLine (IsSizeInRange outputs) bytes f
+size_misfit outputs bytes f h = misfit_refused {T = Option (ℕ × ℕ)} reads_cut_line tt (IsSizeInRange outputs) IsSame bytes f h
+
+pub pair_said : (g : Aig) (bytes rest : List ℕ) (given : Option (Lit × Lit)) (p : Lit × Lit) → rest ≡ [] → given ≡ Some p → Takes pair_line_at (IsPairOf g) IsSame bytes rest given → IsPairTextOf g bytes p
+pair_said g bytes rest given p e f h =
+    let s = said reads_pair_line tt (IsPairOf g) IsSame bytes rest given p e f h in
+    subst (IsPairTextOf g bytes) s.3 (s.1, s.2)
+
+pub pair_over : (g : Aig) (bytes rest : List ℕ) (given : Option (Lit × Lit)) → rest ≢ [] → Takes pair_line_at (IsPairOf g) IsSame bytes rest given → (p : Lit × Lit) → IsPairLine bytes p → ⊥
+pair_over g bytes rest given some h = left_over reads_pair_line tt (IsPairOf g) IsSame bytes rest given some h
+
+pub pair_out : (g : Aig) (bytes rest : List ℕ) (given : Option (Lit × Lit)) → rest ≡ [] → given ≡ None → Takes pair_line_at (IsPairOf g) IsSame bytes rest given → (p : Lit × Lit) × IsPairLine bytes p × ¬ (IsPairOf g p)
+pair_out g bytes rest given e f h = out_of_range reads_pair_line tt (IsPairOf g) IsSame bytes rest given e f h
+
+pub pair_misfit : (g : Aig) (bytes : List ℕ) (f : LineFail) → IsMisfit (pair_line_at bytes ≡ None) f → IsRefusedText IsPairLine (IsPairOf g) bytes f
+pair_misfit g bytes f h = misfit_refused {T = Lit × Lit} reads_pair_line tt (IsPairOf g) IsSame bytes f h

@@ -1,0 +1,12 @@
+pub mod ClauseReading
+pub mod WholeTexts
+pub mod LineSteps
+pub mod HeaderTexts
+pub mod FileSteps
+pub mod HeaderSteps
+pub mod CallerLemmas
+pub mod WrittenLoops
+pub mod WrittenAgain
+pub mod OneFile
+pub mod HeaderExact
+mod TextRows

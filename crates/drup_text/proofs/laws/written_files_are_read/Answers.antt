@@ -1,0 +1,5 @@
+use Rattle.drup_text.proofs.WrittenAgain.{written_files_are_read}
+use Rattle.drup_text.proofs.laws.written_files_are_read.Goals as goal
+
+pub returns : goal.returns
+returns c = written_files_are_read

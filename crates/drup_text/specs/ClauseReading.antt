@@ -1,0 +1,60 @@
+-- Reading the lines of a clause certificate from the front.
+use Rattle.std.specs.Prelude.{ℕ, Bool, not, List, codes, ℤ, pos, neg_ℤ, ◌==◌}
+use Rattle.std.specs.declared.option.Option.{Option}
+use Rattle.std.specs.declared.option.Option.TheVariants.{None, Some}
+use Rattle.graph_core.specs.declared.literal.Lit.{Lit}
+use Rattle.graph_core.specs.Text.Numerals.{number_at}
+use Rattle.graph_core.specs.Text.Readers.{Reader, behind_at, choose_at, ended_at, many_at, map_at, text_at, then_at}
+use Rattle.clause_core.specs.Clause.{Clause}
+use Rattle.clause_core.specs.ClauseLines.{ClauseLine}
+use Rattle.clause_core.specs.declared.line.Line.TheVariants.{Add, Delete}
+
+abbrev pub is_zero : ℕ → Bool
+is_zero b = b == 48
+
+-- what doesn't end a clause
+abbrev pub is_no_zero : ℕ → Bool
+is_no_zero b = not (b == 48)
+
+-- nothing is read
+abbrev pub nothing_at : {A : Type 0} → Reader A
+nothing_at bytes = None
+
+-- a number whose first digit isn't 0
+abbrev pub nonzero_at : Reader ℕ
+nonzero_at = choose_at is_zero nothing_at (number_at 10)
+
+abbrev pub minus_number : ℕ → ℤ
+minus_number v = neg_ℤ (pos v)
+
+-- a signed variable
+abbrev pub literal_at : Reader ℤ
+literal_at = choose_at (λ b. b == 45) (map_at minus_number (behind_at (codes "-") nonzero_at)) (map_at pos nonzero_at)
+
+-- literals, each with a space behind it
+abbrev pub literals_at : Reader (List ℤ)
+literals_at = many_at is_no_zero (ended_at literal_at (codes " "))
+
+-- and a 0
+abbrev pub clause_at : Reader Clause
+clause_at = ended_at literals_at (codes "0")
+
+-- a line without its line feed
+unfoldable pub clause_line_at : Reader ClauseLine
+clause_line_at = choose_at (λ b. b == 100) (map_at Delete (behind_at (codes "d ") clause_at)) (map_at Add clause_at)
+
+-- two numbers with a space between them
+abbrev pub two_at : Reader (ℕ × ℕ)
+two_at = then_at (ended_at (number_at 10) (codes " ")) (number_at 10)
+
+abbrev pub lits : ℕ × ℕ → Lit × Lit
+lits n = (record { 0 = n.0 }, record { 0 = n.1 })
+
+unfoldable pub pair_line_at : Reader (Lit × Lit)
+pair_line_at = map_at lits two_at
+
+abbrev pub some_cut : ℕ × ℕ → Option (ℕ × ℕ)
+some_cut n = Some n
+
+unfoldable pub cut_line_at : Reader (Option (ℕ × ℕ))
+cut_line_at = choose_at (λ b. b == 110) (text_at (codes "none") None) (map_at some_cut (behind_at (codes "replace ") two_at))

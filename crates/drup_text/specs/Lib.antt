@@ -1,0 +1,13 @@
+-- To be trusted by whoever reads the contracts: `ClauseTexts`, `Headers`, `LineTexts`, `HeaderRefusal`, `FileStates` and
+-- `WrittenTexts`; `WrittenLaws` says what is read of a text that was written. `ClauseReading`, `Steps` and `HeaderSteps` serve private
+-- clauses alone.
+pub mod ClauseTexts
+pub mod Headers
+pub mod LineTexts
+pub mod HeaderRefusal
+pub mod FileStates
+pub mod ClauseReading
+pub mod Steps
+pub mod HeaderSteps
+pub mod WrittenTexts
+pub mod WrittenLaws

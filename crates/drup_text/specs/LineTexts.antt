@@ -1,0 +1,59 @@
+-- What a text says, and why it says nothing.
+use Rattle.std.specs.Prelude.{◌≡◌, ◌⊎◌, ℕ, ◌+◌, ◌<◌, List, IfSome}
+use Rattle.std.specs.declared.option.Option.{Option}
+use Rattle.graph_core.specs.declared.literal.Lit.{Lit}
+use Rattle.graph_core.specs.Graph.Extended.{without_cut}
+use Rattle.graph_core.specs.Graph.{Aig}
+use Rattle.ripple_graft.specs.Extension.{IsKnown}
+use Rattle.clause_core.specs.Clause.{IsClauseInRange, SameSet}
+use Rattle.clause_core.specs.ClauseLines.{ClauseLine, clause_in}
+use Rattle.clause_core.specs.declared.line.Line.TheVariants.{Add, Delete}
+use Rattle.mv_desk.specs.declared.faults.LineFail.{LineFail}
+use Rattle.mv_desk.specs.declared.faults.LineFail.TheVariants as fail
+use Rattle.drup_text.specs.ClauseTexts.{IsClauseLine, IsCutLine, IsPairLine}
+
+-- ---- what is in range
+
+-- each variable of the line's clause is from 1 to the greatest one
+abbrev pub IsLineInRange : ℕ → ClauseLine → Type 0
+IsLineInRange max x = IsClauseInRange max (clause_in x)
+
+-- Of a graph with so many outputs a cut at this column with so many pairs ends at the last column or the one before it.
+abbrev pub IsCutSize : ℕ → ℕ × ℕ → Type 0
+IsCutSize outputs n = (0 < n.1) × ((n.0 + n.1 + 1 ≡ outputs) ⊎ (n.0 + n.1 ≡ outputs))
+
+-- so it does, if there is one
+abbrev pub IsSizeInRange : ℕ → Option (ℕ × ℕ) → Type 0
+IsSizeInRange outputs size = IfSome size (IsCutSize outputs)
+
+-- both literals are the constant, inputs or gates of the graph
+abbrev pub IsPairOf : Aig → Lit × Lit → Type 0
+IsPairOf g p = IsKnown (without_cut g) p.0 × IsKnown (without_cut g) p.1
+
+-- ---- what code has
+
+-- Both add a clause or both delete one, of the same literals.
+abbrev pub IsLineOf : ClauseLine → ClauseLine → Type 0
+IsLineOf (Add c) (Add d) = SameSet c d
+IsLineOf (Add c) (Delete d) = ⊥
+IsLineOf (Delete c) (Add d) = ⊥
+IsLineOf (Delete c) (Delete d) = SameSet c d
+
+-- The text is one of a line in range, of which code has this.
+abbrev pub IsTextOf : ℕ → List ℕ → ClauseLine → Type 0
+IsTextOf max bytes line = (x : ClauseLine) × IsClauseLine bytes x × IsLineInRange max x × IsLineOf x line
+
+-- The text is one of this cut in range, or of this pair.
+abbrev pub IsCutTextOf : ℕ → List ℕ → Option (ℕ × ℕ) → Type 0
+IsCutTextOf outputs bytes size = IsCutLine bytes size × IsSizeInRange outputs size
+
+abbrev pub IsPairTextOf : Aig → List ℕ → Lit × Lit → Type 0
+IsPairTextOf g bytes p = IsPairLine bytes p × IsPairOf g p
+
+-- Why a text says nothing: none has it, or one out of range does; or want of memory.
+abbrev pub IsRefusedText : {X : Type 0} → (List ℕ → X → Type 0) → (X → Type 0) → List ℕ → LineFail → Type 0
+IsRefusedText {X} IsText InRange bytes fail.Text = (x : X) → IsText bytes x → ⊥
+IsRefusedText {X} IsText InRange bytes fail.Range = (x : X) × IsText bytes x × ¬ (InRange x)
+IsRefusedText IsText InRange bytes fail.Fault = ⊥
+IsRefusedText IsText InRange bytes fail.TooLong = ⊥
+IsRefusedText IsText InRange bytes fail.Memory = Unit {0}

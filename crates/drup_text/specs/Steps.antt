@@ -1,0 +1,51 @@
+-- What the steps of reading a line of a clause certificate take.
+use Rattle.std.specs.Prelude.{◌≡◌, ◌≢◌, ◌<◌, ◌≤◌, ℕ, ℤ, List, pos, nat_abs}
+use Rattle.std.specs.Global.{Global}
+use Rattle.std.specs.List.{All}
+use Rattle.std.specs.declared.option.Option.{Option}
+use Rattle.std.specs.declared.vec.Vec.{Vec}
+use Rattle.graph_core.specs.declared.literal.Lit.{Lit}
+use Rattle.graph_core.specs.Graph.{Aig}
+use Rattle.graph_core.specs.Text.Readers.{Reader}
+use Rattle.clause_core.specs.Clause.{Clause, IsClauseInRange, SameSet}
+use Rattle.clause_core.specs.ClauseLines.{ClauseLine}
+use Rattle.mv_text.specs.Steps.{Takes}
+use Rattle.drup_text.specs.ClauseReading.{clause_at, cut_line_at, literals_at, pair_line_at, two_at}
+use Rattle.drup_text.specs.LineTexts.{IsLineInRange, IsLineOf, IsPairOf, IsSizeInRange}
+
+-- a variable from 1 to the greatest one
+abbrev pub IsVariable : ℕ → ℕ → Type 0
+IsVariable max v = (0 < v) × (v ≤ max)
+
+-- or its negation
+abbrev pub IsLiteralInRange : ℕ → ℤ → Type 0
+IsLiteralInRange max l = (l ≢ pos 0) × (nat_abs l ≤ max)
+
+-- both are at most so great
+abbrev pub AreUpTo : ℕ → ℕ × ℕ → Type 0
+AreUpTo most n = (n.0 ≤ most) × (n.1 ≤ most)
+
+abbrev pub TakesLiteral : Reader ℤ → ℕ → List ℕ → List ℕ → Option ℤ → Type 0
+TakesLiteral item max = Takes item (IsLiteralInRange max) (λ l k. l ≡ k)
+
+abbrev pub HasItems : List ℤ → Vec ℤ Global → Type 0
+HasItems ls all = all.items ≡ ls
+
+abbrev pub TakesLiterals : ℕ → List ℕ → List ℕ → Option (Vec ℤ Global) → Type 0
+TakesLiterals max = Takes literals_at (All (IsLiteralInRange max)) HasItems
+
+-- a clause, as a set
+abbrev pub TakesClause : ℕ → List ℕ → List ℕ → Option Clause → Type 0
+TakesClause max = Takes clause_at (IsClauseInRange max) SameSet
+
+abbrev pub TakesLine : Reader ClauseLine → ℕ → List ℕ → List ℕ → Option ClauseLine → Type 0
+TakesLine item max = Takes item (IsLineInRange max) IsLineOf
+
+abbrev pub TakesTwo : ℕ → List ℕ → List ℕ → Option (ℕ × ℕ) → Type 0
+TakesTwo most = Takes two_at (AreUpTo most) (λ n k. n ≡ k)
+
+abbrev pub TakesSize : ℕ → List ℕ → List ℕ → Option (Option (ℕ × ℕ)) → Type 0
+TakesSize outputs = Takes cut_line_at (IsSizeInRange outputs) (λ n k. n ≡ k)
+
+abbrev pub TakesPair : Aig → List ℕ → List ℕ → Option (Lit × Lit) → Type 0
+TakesPair g = Takes pair_line_at (IsPairOf g) (λ p q. p ≡ q)

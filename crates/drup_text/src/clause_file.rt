@@ -1,0 +1,197 @@
+// A certificate read line by line.
+ghost use Rattle.std.specs.Prelude.{◌≡◌, ◌+◌, ◌<◌, ◌^◌, true, false, List, ℕ, [], Some, None, IfOk, IfErr, IfSome, IfNone, OnErr, length, option_to_list};
+ghost use Rattle.std.specs.Result.{result_err};
+ghost use Rattle.mv_desk.specs.Calls.{Reads};
+ghost use Rattle.mv_desk.specs.declared.slot.Slot.TheVariants.{Clauses};
+ghost use Rattle.mv_text.specs.LineReading.{FitsPiece, known_from, lengths_of};
+ghost use Rattle.drup_text.specs.ClauseTexts.{IsClauseLine};
+ghost use Rattle.drup_text.specs.FileStates.{GoesOn, HasHeader, IsAtEnd, IsNextRefusal, IsStartRefusal, TakesSome, TakesText, header_lines, left_ahead};
+ghost use Rattle.drup_text.specs.Headers.{IsHeaderOf};
+ghost use Rattle.drup_text.specs.LineTexts.{IsLineInRange, IsTextOf};
+
+use crate::fault::StartFail;
+use crate::header::{cut, version};
+use crate::line_reading::read_line;
+use clause_core::Line;
+use graph_core::Graph;
+use mv_desk::{Desk, Limits, LineFail, Slot};
+use mv_text::LineReader;
+use ripple_graft::Cut;
+use std::alloc::Global;
+use std::marker::Model;
+
+/// A clause certificate that is read line by line from the slot `Clauses` of a desk.
+///
+/// Contracts see the bytes of the piece in hand, how many bytes were taken before them, the lengths that are allowed,
+/// how many lines were read or refused, whether the end was met, and the answer from the first failure on.
+#[derive(Drop)]
+pub struct ClauseFile {
+    alloc: Global,
+    lines: LineReader,
+    number: u64,
+    ended: bool,
+    failed: Option<LineFail>,
+}
+
+impl Model for ClauseFile {
+    ghost use Rattle.drup_text.specs.FileStates.{FileState, IsCounted};
+
+    ghost Value = { FileState };
+
+    ghost view = { λ f. record { lines = f.lines; number = f.number; ended = f.ended; failed = f.failed } };
+
+    ghost invariant = { λ f. IsCounted
+        (record { lines = f.lines; number = f.number; ended = f.ended; failed = f.failed }) };
+}
+
+impl ClauseFile {
+    /// Reads the header, and answers the cut that it names, if any; the graph takes it.
+    ///
+    /// `Text` comes where a line of the header isn't there as it has to be, `Range` on line 2 where there is no pair or
+    /// the cut ends neither at the last column nor at the one before it, and on a pair's line where the variable of a
+    /// literal is neither 0, an input nor a gate. `TooLong` comes where the line is too long or holds the first byte
+    /// past the limit of the file.
+    pub fn start<D: Desk>(
+        alloc: Global,
+        desk: &mut D,
+        graph: &Graph,
+        limits: &Limits,
+    ) -> Result<(ClauseFile, Option<Cut>), StartFail>
+        requires { (D.seen desk.old).reads Clauses ≡ true }
+        ensures header { IfOk result (λ r. IfSome ((D.seen desk.old).left Clauses)
+            (λ bytes. HasHeader graph.now r.0 bytes (left_ahead r.0 ((D.seen desk.new).left Clauses)) r.1)) }
+        ensures cut { IfOk result (λ r. IsHeaderOf graph.now r.1) }
+        ensures refused { IfErr result (IsStartRefusal graph.now (lengths_of limits.now)
+            ((D.seen desk.old).left Clauses) (D.seen desk.old).read_faults (D.seen desk.new).read_faults) }
+        ensures number { IfOk result (λ r. r.0.number ≡ header_lines r.1) }
+        ensures goes_on { IfOk result (λ r. GoesOn r.0) }
+        ensures lengths { IfOk result (λ r. r.0.lines.lengths ≡ lengths_of limits.now) }
+        ensures piece { IfOk result (λ r. FitsPiece r.0.lines) }
+        ensures reads { Reads Clauses (D.seen desk.old) (D.seen desk.new) result }
+    {
+        let mut lines = LineReader::new(limits);
+        match version(alloc, &mut lines, desk) {
+            Ok(()) => match cut(alloc, &mut lines, desk, graph) {
+                Ok(cut) => {
+                    let number = header_lines(&cut);
+                    let file = ClauseFile {
+                        alloc,
+                        lines,
+                        number,
+                        ended: false,
+                        failed: None,
+                    };
+                    Ok((file, cut))
+                }
+                Err(fail) => Err(fail),
+            },
+            Err(why) => Err(StartFail { line: 1, why }),
+        }
+    }
+
+    /// The next line, or none at the end of the file. After the end or an error each later call gives the same answer.
+    ///
+    /// `Text` comes where no line stands there with its line feed, `Range` where one does, but with a variable above
+    /// `max`, and `TooLong` where the line there is too long or holds the first byte past the limit of the file.
+    pub fn next<D: Desk>(&mut self, desk: &mut D, max: u32) -> Result<Option<Line>, LineFail>
+        requires open { (D.seen desk.old).reads Clauses ≡ true }
+        requires small { max < 2 ^ 31 }
+        ensures text { IfOk result (λ r. IfSome r
+            (λ line. (text : List ℕ) × IsTextOf max text line)) }
+        ensures line { IfOk result (λ r. IfSome r (λ line.
+            IfSome (left_ahead self.old ((D.seen desk.old).left Clauses))
+            (λ left. TakesText (IsTextOf max) self.old.lines self.new.lines left
+            (left_ahead self.new ((D.seen desk.new).left Clauses)) line))) }
+        ensures end { GoesOn self.old → IfOk result (λ r. IfNone r
+            (IfSome (left_ahead self.old ((D.seen desk.old).left Clauses)) (IsAtEnd self.old.lines))) }
+        ensures refused { GoesOn self.old → IfErr result (IsNextRefusal IsClauseLine (IsLineInRange max) self.old.lines
+            (left_ahead self.old ((D.seen desk.old).left Clauses))
+            (D.seen desk.old).read_faults (D.seen desk.new).read_faults) }
+        ensures number { IfOk result
+            (λ r. self.new.number ≡ self.old.number + length (option_to_list r)) }
+        ensures refused_number { GoesOn self.old → OnErr result
+            (self.new.number ≡ self.old.number + 1) }
+        ensures goes_on { GoesOn self.old → IfOk result (λ r. IfSome r (λ line. GoesOn self.new)) }
+        ensures ended { IfOk result (λ r. IfNone r (self.new.ended ≡ true)) }
+        ensures ended_again { self.old.failed ≡ None → self.old.ended ≡ true → result ≡ Ok None }
+        ensures failed { self.new.failed ≡ result_err result }
+        ensures failed_again { IfSome self.old.failed (λ fail. result ≡ Err fail) }
+        ensures lengths { self.new.lines.lengths ≡ self.old.lines.lengths }
+        ensures piece { FitsPiece self.new.lines }
+        ensures reads { Reads Clauses (D.seen desk.old) (D.seen desk.new) result }
+    {
+        if let Some(fail) = self.failed {
+            return Err(fail);
+        }
+        if self.ended {
+            return Ok(None);
+        }
+        match next_line(self.alloc, &mut self.lines, desk, max) {
+            Ok(Some(line)) => {
+                self.number += 1;
+                Ok(Some(line))
+            }
+            Ok(None) => {
+                self.ended = true;
+                Ok(None)
+            }
+            Err(fail) => {
+                self.number += 1;
+                self.failed = Some(fail);
+                Err(fail)
+            }
+        }
+    }
+
+    /// How many lines were read, from the first one of the header on; after an error the number of its line.
+    pub fn line_no(&self) -> u64
+        ensures { result ≡ self.now.number }
+    {
+        self.number
+    }
+}
+
+// How many lines a header has.
+fn header_lines(cut: &Option<Cut>) -> u64
+    ensures { result ≡ header_lines cut.now }
+{
+    match cut {
+        None => 2,
+        Some(cut) => 2 + cut.pairs.as_slice().len() as u64,
+    }
+}
+
+// The next line of the file, or none at its end.
+fn next_line<D: Desk>(
+    alloc: Global,
+    lines: &mut LineReader,
+    desk: &mut D,
+    max: u32,
+) -> Result<Option<Line>, LineFail>
+    requires open { (D.seen desk.old).reads Clauses ≡ true }
+    requires small { max < 2 ^ 31 }
+    ensures text { IfOk result (λ r. IfSome r
+        (λ line. (text : List ℕ) × IsTextOf max text line)) }
+    ensures line { IfOk result (λ r. IfSome r (λ line.
+        IfSome (known_from lines.old.ahead ((D.seen desk.old).left Clauses))
+        (λ left. TakesText (IsTextOf max) lines.old lines.new left
+        (known_from lines.new.ahead ((D.seen desk.new).left Clauses)) line))) }
+    ensures end { IfOk result (λ r. IfNone r
+        (IfSome (known_from lines.old.ahead ((D.seen desk.old).left Clauses)) (IsAtEnd lines.old))) }
+    ensures refused { IfErr result (IsNextRefusal IsClauseLine (IsLineInRange max) lines.old
+        (known_from lines.old.ahead ((D.seen desk.old).left Clauses))
+        (D.seen desk.old).read_faults (D.seen desk.new).read_faults) }
+    ensures some { IfOk result (λ r. IfSome r (λ line. TakesSome lines.old lines.new)) }
+    ensures lengths { lines.new.lengths ≡ lines.old.lengths }
+    ensures piece { FitsPiece lines.new }
+    ensures reads { Reads Clauses (D.seen desk.old) (D.seen desk.new) result }
+{
+    match lines.next_line(alloc, desk, Slot::Clauses) {
+        Ok(Some(line)) => match read_line(alloc, &line, max) {
+            Ok(line) => Ok(Some(line)),
+            Err(fail) => Err(fail),
+        },
+        Ok(None) => Ok(None),
+        Err(fail) => Err(fail),
+    }
+}

@@ -1,0 +1,186 @@
+// The header of a certificate, line by line.
+ghost use Rattle.std.specs.Prelude.{◌≡◌, ◌+◌, ◌≤◌, ◌++◌, ◌∷◌, [], ℕ, true, All, IfOk, IfErr, IfSome, OnOk, length, ⊤};
+ghost use Rattle.mv_desk.specs.Calls.{Reads};
+ghost use Rattle.mv_desk.specs.declared.slot.Slot.TheVariants.{Clauses};
+ghost use Rattle.mv_text.specs.LineReading.{FitsPiece, known_from};
+ghost use Rattle.drup_text.specs.ClauseTexts.{IsCutLine, IsPairLine};
+ghost use Rattle.drup_text.specs.FileStates.{IsLineRefusal, TakesSome, TakesText, header_lines};
+ghost use Rattle.drup_text.specs.HeaderSteps.{IsCutRefusal, IsPairsRefusal, TakesCut, TakesPairs};
+ghost use Rattle.drup_text.specs.Headers.{IsHeaderOf, IsVersionLine};
+ghost use Rattle.drup_text.specs.LineTexts.{IsCutTextOf, IsPairOf, IsPairTextOf, IsSizeInRange};
+
+use crate::fault::StartFail;
+use crate::header_reading::{read_pair, read_size};
+use crate::needed::needed_line;
+use graph_core::{Graph, Lit};
+use mv_desk::{Desk, LineFail};
+use mv_text::LineReader;
+use ripple_graft::{Cut, Pairs};
+use std::alloc::Global;
+
+// The first line.
+pub(crate) fn version<D: Desk>(
+    alloc: Global,
+    lines: &mut LineReader,
+    desk: &mut D,
+) -> Result<(), LineFail>
+    requires { (D.seen desk.old).reads Clauses ≡ true }
+    ensures line { OnOk result (IfSome (known_from lines.old.ahead ((D.seen desk.old).left Clauses))
+        (λ left. TakesText IsVersionLine lines.old lines.new left
+        (known_from lines.new.ahead ((D.seen desk.new).left Clauses)) tt)) }
+    ensures refused { IfErr result (IsLineRefusal IsVersionLine (λ x. ⊤) lines.old
+        (known_from lines.old.ahead ((D.seen desk.old).left Clauses))
+        (D.seen desk.old).read_faults (D.seen desk.new).read_faults) }
+    ensures some { OnOk result (TakesSome lines.old lines.new) }
+    ensures two { OnOk result (lines.old.taken + 2 ≤ lines.new.taken) }
+    ensures lengths { lines.new.lengths ≡ lines.old.lengths }
+    ensures piece { FitsPiece lines.new }
+    ensures reads { Reads Clauses (D.seen desk.old) (D.seen desk.new) result }
+{
+    match needed_line(alloc, lines, desk) {
+        Ok(line) => {
+            if line.as_slice() == b"joined 1".as_slice() {
+                return Ok(());
+            }
+            Err(LineFail::Text)
+        }
+        Err(fail) => Err(fail),
+    }
+}
+
+// The lines behind the first one: the cut's, and one for each pair.
+pub(crate) fn cut<D: Desk>(
+    alloc: Global,
+    lines: &mut LineReader,
+    desk: &mut D,
+    graph: &Graph,
+) -> Result<Option<Cut>, StartFail>
+    requires { (D.seen desk.old).reads Clauses ≡ true }
+    ensures cut { IfOk result (λ cut. IfSome (known_from lines.old.ahead ((D.seen desk.old).left Clauses))
+        (λ left. TakesCut graph.now lines.old lines.new left
+        (known_from lines.new.ahead ((D.seen desk.new).left Clauses)) cut)) }
+    ensures refused { IfErr result (IsCutRefusal graph.now lines.old
+        (known_from lines.old.ahead ((D.seen desk.old).left Clauses))
+        (D.seen desk.old).read_faults (D.seen desk.new).read_faults) }
+    ensures fits { IfOk result (IsHeaderOf graph.now) }
+    ensures counted { IfOk result
+        (λ cut. lines.old.taken + header_lines cut ≤ lines.new.taken + 1) }
+    ensures within { OnOk result (lines.new.taken ≤ lines.new.lengths.file) }
+    ensures lengths { lines.new.lengths ≡ lines.old.lengths }
+    ensures piece { FitsPiece lines.new }
+    ensures reads { Reads Clauses (D.seen desk.old) (D.seen desk.new) result }
+{
+    match next_size(alloc, lines, desk, graph) {
+        Ok(None) => Ok(None),
+        Ok(Some((lo, count))) => match pairs(alloc, lines, desk, graph, count) {
+            Ok(pairs) => {
+                let pairs = Pairs::from_vec(pairs);
+                Ok(Some(Cut { lo, pairs }))
+            }
+            Err(fail) => Err(fail),
+        },
+        Err(why) => Err(StartFail { line: 2, why }),
+    }
+}
+
+// The line of a cut.
+fn next_size<D: Desk>(
+    alloc: Global,
+    lines: &mut LineReader,
+    desk: &mut D,
+    graph: &Graph,
+) -> Result<Option<(u32, u32)>, LineFail>
+    requires { (D.seen desk.old).reads Clauses ≡ true }
+    ensures line { IfOk result (λ size. IfSome (known_from lines.old.ahead ((D.seen desk.old).left Clauses))
+        (λ left. TakesText (IsCutTextOf (length graph.now.outputs)) lines.old lines.new left
+        (known_from lines.new.ahead ((D.seen desk.new).left Clauses)) size)) }
+    ensures refused { IfErr result (IsLineRefusal IsCutLine (IsSizeInRange (length graph.now.outputs)) lines.old
+        (known_from lines.old.ahead ((D.seen desk.old).left Clauses))
+        (D.seen desk.old).read_faults (D.seen desk.new).read_faults) }
+    ensures size { IfOk result (IsSizeInRange (length graph.now.outputs)) }
+    ensures some { OnOk result (TakesSome lines.old lines.new) }
+    ensures lengths { lines.new.lengths ≡ lines.old.lengths }
+    ensures piece { FitsPiece lines.new }
+    ensures reads { Reads Clauses (D.seen desk.old) (D.seen desk.new) result }
+{
+    match needed_line(alloc, lines, desk) {
+        Ok(line) => read_size(&line, graph.outputs()),
+        Err(fail) => Err(fail),
+    }
+}
+
+// So many pairs, the first of them in line 3.
+fn pairs<D: Desk>(
+    alloc: Global,
+    lines: &mut LineReader,
+    desk: &mut D,
+    graph: &Graph,
+    count: u32,
+) -> Result<Vec<(Lit, Lit)>, StartFail>
+    requires open { (D.seen desk.old).reads Clauses ≡ true }
+    requires within { lines.old.taken ≤ lines.old.lengths.file }
+    requires piece { FitsPiece lines.old }
+    ensures pairs { IfOk result (λ pairs. IfSome (known_from lines.old.ahead ((D.seen desk.old).left Clauses))
+        (λ left. TakesPairs graph.now count lines.old lines.new left
+        (known_from lines.new.ahead ((D.seen desk.new).left Clauses)) pairs.items)) }
+    ensures refused { (lo : ℕ) → IfErr result (IsPairsRefusal graph.now (lo, count) lines.old
+        (known_from lines.old.ahead ((D.seen desk.old).left Clauses))
+        (D.seen desk.old).read_faults (D.seen desk.new).read_faults) }
+    ensures known { IfOk result (λ pairs. All (IsPairOf graph.now) pairs.items) }
+    ensures count { IfOk result (λ pairs. length pairs.items ≡ count) }
+    ensures counted { OnOk result (lines.old.taken + count ≤ lines.new.taken) }
+    ensures within { OnOk result (lines.new.taken ≤ lines.new.lengths.file) }
+    ensures lengths { lines.new.lengths ≡ lines.old.lengths }
+    ensures piece { FitsPiece lines.new }
+    ensures reads { Reads Clauses (D.seen desk.old) (D.seen desk.new) result }
+{
+    let mut pairs = Vec::new(alloc);
+    for i in 0..count {
+        let line = 3 + u64::from(i);
+        match next_pair(alloc, lines, desk, graph) {
+            Ok(pair) => match append(&mut pairs, pair) {
+                Ok(()) => {}
+                Err(why) => return Err(StartFail { line, why }),
+            },
+            Err(why) => return Err(StartFail { line, why }),
+        }
+    }
+    Ok(pairs)
+}
+
+// The line of a pair.
+fn next_pair<D: Desk>(
+    alloc: Global,
+    lines: &mut LineReader,
+    desk: &mut D,
+    graph: &Graph,
+) -> Result<(Lit, Lit), LineFail>
+    requires { (D.seen desk.old).reads Clauses ≡ true }
+    ensures line { IfOk result (λ pair. IfSome (known_from lines.old.ahead ((D.seen desk.old).left Clauses))
+        (λ left. TakesText (IsPairTextOf graph.now) lines.old lines.new left
+        (known_from lines.new.ahead ((D.seen desk.new).left Clauses)) pair)) }
+    ensures refused { IfErr result (IsLineRefusal IsPairLine (IsPairOf graph.now) lines.old
+        (known_from lines.old.ahead ((D.seen desk.old).left Clauses))
+        (D.seen desk.old).read_faults (D.seen desk.new).read_faults) }
+    ensures known { IfOk result (IsPairOf graph.now) }
+    ensures some { OnOk result (TakesSome lines.old lines.new) }
+    ensures lengths { lines.new.lengths ≡ lines.old.lengths }
+    ensures piece { FitsPiece lines.new }
+    ensures reads { Reads Clauses (D.seen desk.old) (D.seen desk.new) result }
+{
+    match needed_line(alloc, lines, desk) {
+        Ok(line) => read_pair(&line, graph),
+        Err(fail) => Err(fail),
+    }
+}
+
+// One pair more at the end.
+fn append(pairs: &mut Vec<(Lit, Lit)>, pair: (Lit, Lit)) -> Result<(), LineFail>
+    ensures ok { OnOk result (pairs.new.items ≡ pairs.old.items ++ pair ∷ []) }
+    ensures err { IfErr result (λ fail. fail ≡ LineFail.Memory) }
+{
+    match pairs.push(pair) {
+        Ok(()) => Ok(()),
+        Err(_) => Err(LineFail::Memory),
+    }
+}

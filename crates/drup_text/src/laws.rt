@@ -1,0 +1,27 @@
+// The laws of what is written and read.
+ghost use Rattle.drup_text.specs.WrittenLaws.{OneTextIsOneFile, PassingHeadersAreNotRefused, WrittenFilesAreRead, WrittenHeadersPass, WrittenLinesAreRead};
+
+/// What is written for a line is read as the same line, where `max` is at least each of its variables.
+pub fn written_lines_are_read()
+    ensures { WrittenLinesAreRead }
+{}
+
+/// What `write_clauses` writes is the text of the same cut and lines.
+pub fn written_files_are_read()
+    ensures { WrittenFilesAreRead }
+{}
+
+/// No text is two certificates.
+pub fn one_text_is_one_file()
+    ensures { OneTextIsOneFile }
+{}
+
+/// Within the lengths a header that is written passes over each graph that takes its cut.
+pub fn written_headers_pass()
+    ensures { WrittenHeadersPass }
+{}
+
+/// A header that passes has no refusal.
+pub fn passing_headers_are_not_refused()
+    ensures { PassingHeadersAreNotRefused }
+{}
