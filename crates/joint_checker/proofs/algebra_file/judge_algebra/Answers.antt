@@ -6,7 +6,7 @@ use Rattle.graph_core.specs.Graph.Extended.{Extended}
 use Rattle.graph_core.specs.Graph.Operands.{Sides, sides_of}
 use Rattle.graph_core.proofs.OfGraphs.CallerLemmas.{operands_are_sides}
 use Rattle.mv_desk.specs.declared.slot.Slot.TheVariants as slot
-use Rattle.mv_desk.proofs.CallerLemmas.{ReadsOnly-trans}
+use Rattle.mv_desk.proofs.CallerLemmas.{KeepsTelling-trans, ReadsOnly-trans}
 use Rattle.mv_fact.specs.Always.{Always}
 use Rattle.mv_text.specs.LineReading.{lengths_of}
 use Rattle.joint_checker.specs.AlgebraBody.{IsBodyFail, IsLawfulBody}
@@ -26,6 +26,11 @@ pub returns-clause-only : goal.returns-clause-only
 returns-clause-only g c =
     ReadsOnly-trans slot.Algebra (g.D.Desk.seen c.args.desk.now) (g.D.Desk.seen c.start.new.desk) (g.D.Desk.seen c.judge_lines.new.desk) c.in-Ok.ensures.reads.only
     c.judge_lines.ensures.only
+
+pub returns-clause-tells : goal.returns-clause-tells
+returns-clause-tells g c =
+    KeepsTelling-trans (g.D.Desk.seen c.args.desk.now) (g.D.Desk.seen c.start.new.desk) (g.D.Desk.seen c.judge_lines.new.desk) c.in-Ok.ensures.reads.tells
+    c.judge_lines.ensures.tells
 
 pub returns-clause-lawful : goal.returns-clause-lawful
 returns-clause-lawful g c =
