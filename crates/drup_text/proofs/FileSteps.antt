@@ -1,32 +1,30 @@
 -- What the next line of a file says, and why there is none.
-use Rattle.std.specs.Prelude.{◌≡◌, ◌≢◌, ℕ, List, [], ◌∷◌, ◌++◌, IfSome}
+use Rattle.std.specs.Prelude.{⊤, ◌≡◌, ◌≢◌, ℕ, List, [], ◌∷◌, ◌++◌, IfSome}
 use Rattle.std.specs.List.{All}
 use Rattle.std.specs.Result.{IfOk, IfErr}
 use Rattle.std.specs.declared.option.Option.{Option}
 use Rattle.std.specs.declared.option.Option.TheVariants.{None, Some}
 use Rattle.std.specs.declared.result.Result.{Result}
 use Rattle.std.specs.declared.result.Result.TheVariants.{Ok, Err}
-use Rattle.std.proofs.Common.{refl, sym, ap, subst, ◌∙◌}
+use Rattle.std.proofs.Common.{refl, sym, subst, ◌∙◌}
 use Rattle.std.proofs.lemmas.List.Elements.{recursion_from_All}
 use Rattle.mv_desk.specs.declared.faults.LineFail.{LineFail}
 use Rattle.mv_desk.specs.declared.faults.LineFail.TheVariants as fail
 use Rattle.graph_core.specs.Text.{newline}
-use Rattle.graph_core.proofs.OfTexts.CallerLemmas.{HasNoNewline}
+use Rattle.graph_core.specs.Text.JudgedLines.{BeginsWith}
+use Rattle.graph_core.proofs.OfTexts.CallerLemmas.{HasNoNewline, begins_front}
 use Rattle.mv_text.specs.LineReading.{EndsIn, IsLineFault, IsLongAhead, Lines, TakesLine}
 use Rattle.mv_text.proofs.CallerLemmas.{end_is_short, line_is_taken}
 use Rattle.drup_text.specs.FileStates.{BeginsOutOfRange, BeginsWithNone, IsLineRefusal, IsNeededFault, IsNextRefusal, TakesText}
 use Rattle.drup_text.specs.LineTexts.{IsRefusedText}
 
--- a line that stands in front of a line feed is the first line
-same_front : (line front more rest : List ℕ) → HasNoNewline line → HasNoNewline front → line ++ newline ∷ rest ≡ front ++ newline ∷ more → (line ≡ front) × (rest ≡ more)
-same_front [] [] more rest h i e = (refl, cc)
-same_front [] (b ∷ front) more rest h i e = let f : newline ≡ b = cc in absurd (i.0 (sym f))
-same_front (b ∷ line) [] more rest h i e = let f : b ≡ newline = cc in absurd (h.0 f)
-same_front (b ∷ line) (c ∷ front) more rest h i e =
-    let f : b ≡ c = cc in
-    let g : line ++ newline ∷ rest ≡ front ++ newline ∷ more = cc in
-    let same = same_front line front more rest h.1 i.1 g in
-    (ap (λ z. z ∷ line) f ∙ ap (λ z. c ∷ z) same.0, same.1)
+-- whatever bytes begin with is said by the line in front of their first line feed
+one_front : {X : Type 0} (IsText : List ℕ → X → Type 0) → ((line : List ℕ) (x : X) → IsText line x → HasNoNewline line) →
+    (bytes line rest : List ℕ) → HasNoNewline line → bytes ≡ line ++ newline ∷ rest → (x : X) (more : List ℕ) → BeginsWith IsText bytes x more → IsText line x
+one_front IsText none bytes line rest whole e x more b =
+    let front = begins_front IsText none bytes x more b in
+    let here = begins_front (λ z (t : ⊤). z ≡ line) (λ z t is. subst HasNoNewline (sym is) whole) bytes tt rest (line, refl, e) in
+    subst (λ z. IsText z x) here.0 front.0
 
 -- bytes with no line feed have no line in front of one
 no_line_there : (bytes line rest : List ℕ) → HasNoNewline bytes → bytes ≢ line ++ newline ∷ rest
@@ -67,7 +65,7 @@ text_ok IsText old new before after bytes (Err f) takes is = is
 
 module _ {X : Type 0} (IsText : List ℕ → X → Type 0) (InRange : X → Type 0) (none_text : (line : List ℕ) (x : X) → IsText line x → HasNoNewline line) where
   none_begins : (bytes left rest : List ℕ) → HasNoNewline bytes → left ≡ bytes ++ newline ∷ rest → ((x : X) → IsText bytes x → ⊥) → BeginsWithNone IsText left
-  none_begins bytes left rest none e refused x more b = refused x (subst (λ z. IsText z x) (sym (same_front bytes b.0 more rest none (none_text b.0 x b.1) (sym e ∙ b.2)).0) b.1)
+  none_begins bytes left rest none e refused x more b = refused x (one_front IsText none_text left bytes rest none e x more b)
 
   -- the text of a line that was taken is refused
   pub refused_text : (old new : Lines) (before after : Option (List ℕ)) (bytes : List ℕ) (first then : ℕ) (f : LineFail) → TakesLine old new before after bytes → IsRefusedText IsText InRange bytes f → IsLineRefusal IsText InRange old before first then f
