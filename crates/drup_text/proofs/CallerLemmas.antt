@@ -12,7 +12,7 @@ use Rattle.graph_core.proofs.OfTexts.CallerLemmas.{behind_map}
 use Rattle.ripple_graft.specs.declared.cut.Cut.{Cut}
 use Rattle.drup_text.specs.ClauseTexts.{AreLinesOf, IsPairLine}
 use Rattle.drup_text.specs.FileStates.{PassesCut, PassesHeader, header_lines}
-use Rattle.drup_text.specs.HeaderRefusal.{ClauseCause, IsFirstRefusal, IsHeaderRefusal, IsPairStep, IsRefusedBehindCut, IsRefusedBehindPairs, IsRefusedCut, IsRefusedPairs, Later, nothing_later}
+use Rattle.drup_text.specs.HeaderRefusal.{LineCause, IsFirstRefusal, IsHeaderRefusal, IsPairStep, IsRefusedBehindCut, IsRefusedBehindPairs, IsRefusedCut, IsRefusedPairs, Later, nothing_later}
 use Rattle.drup_text.specs.Headers.{IsCutText, IsHeaderText, extended_by}
 
 -- ---- what a header says
@@ -32,7 +32,7 @@ header_said g lengths bytes cut body h = (h.rest, cut_said g (IsTooLong lengths 
 -- ---- what is refused within a header is so whatever is behind it
 
 module _ (later : Later) (g : Aig) where
-  pairs_anyhow : (IsLong : List ℕ → Type 0) (n : ℕ × ℕ) (bytes : List ℕ) (p : ℕ × ClauseCause) → IsRefusedPairs nothing_later g IsLong n bytes p → IsRefusedPairs later g IsLong n bytes p
+  pairs_anyhow : (IsLong : List ℕ → Type 0) (n : ℕ × ℕ) (bytes : List ℕ) (p : ℕ × LineCause) → IsRefusedPairs nothing_later g IsLong n bytes p → IsRefusedPairs later g IsLong n bytes p
   pairs_anyhow IsLong n bytes p h = (
     h.0,
     behind_map IsPairLine (IsPairStep g) IsLong (λ left rest. IsRefusedBehindPairs nothing_later g IsLong n.0 h.0 left rest p) (λ left rest. IsRefusedBehindPairs later g IsLong n.0 h.0 left rest p) (λ left rest. step left rest) h.0 n.1 bytes h.1,
@@ -42,21 +42,21 @@ module _ (later : Later) (g : Aig) where
       step zero rest k = absurd k
       step (suc left) rest k = k
 
-  behind_anyhow : (IsLong : List ℕ → Type 0) (c : Option (ℕ × ℕ)) (bytes : List ℕ) (p : ℕ × ClauseCause) → IsRefusedBehindCut nothing_later g IsLong c bytes p → IsRefusedBehindCut later g IsLong c bytes p
+  behind_anyhow : (IsLong : List ℕ → Type 0) (c : Option (ℕ × ℕ)) (bytes : List ℕ) (p : ℕ × LineCause) → IsRefusedBehindCut nothing_later g IsLong c bytes p → IsRefusedBehindCut later g IsLong c bytes p
   behind_anyhow IsLong None bytes p h = absurd h
   behind_anyhow IsLong (Some n) bytes p h = ⊎_elim (λ f. inl f) (λ l. inr (l.0, pairs_anyhow IsLong n bytes p l.1)) h
 
-  cut_anyhow : (IsLong : List ℕ → Type 0) (bytes : List ℕ) (p : ℕ × ClauseCause) → IsRefusedCut nothing_later g IsLong bytes p → IsRefusedCut later g IsLong bytes p
+  cut_anyhow : (IsLong : List ℕ → Type 0) (bytes : List ℕ) (p : ℕ × LineCause) → IsRefusedCut nothing_later g IsLong bytes p → IsRefusedCut later g IsLong bytes p
   cut_anyhow IsLong bytes p h =
       ⊎_elim (λ f. inl f) (λ l. inr (l.0, ⊎_elim (λ none. inl none) (λ c. inr (c.0, c.1, c.2, behind_anyhow IsLong c.0 c.1 p c.3)) l.1)) h
 
-  pub header_anyhow : (lengths : Lengths) (bytes : List ℕ) (p : ℕ × ClauseCause) → IsHeaderRefusal g lengths bytes p → IsFirstRefusal later g lengths bytes p
+  pub header_anyhow : (lengths : Lengths) (bytes : List ℕ) (p : ℕ × LineCause) → IsHeaderRefusal g lengths bytes p → IsFirstRefusal later g lengths bytes p
   header_anyhow lengths bytes p h =
       ⊎_elim (λ f. inl f) (λ l. inr (l.0, ⊎_elim (λ none. inl none) (λ c. inr (c.0, c.1, cut_anyhow (IsTooLong lengths (length bytes)) c.0 p c.2)) l.1)) h
 
   -- ---- what is refused behind a header that passes
 
-  pairs_behind : (IsLong : List ℕ → Type 0) (cut : Cut) (bytes body : List ℕ) (p : ℕ × ClauseCause) → Behind IsPairLine (IsPairStep g) IsLong (λ n left. (n ≡ 0) × (left ≡ body)) cut.pairs (length cut.pairs) bytes →
+  pairs_behind : (IsLong : List ℕ → Type 0) (cut : Cut) (bytes body : List ℕ) (p : ℕ × LineCause) → Behind IsPairLine (IsPairStep g) IsLong (λ n left. (n ≡ 0) × (left ≡ body)) cut.pairs (length cut.pairs) bytes →
       later (extended_by g (Some cut)) (3 + length cut.pairs) body p → IsRefusedPairs later g IsLong (cut.lo, length cut.pairs) bytes p
   pairs_behind IsLong cut bytes body p h refused = (
     cut.pairs,
@@ -67,7 +67,7 @@ module _ (later : Later) (g : Aig) where
       step zero left e same = subst (λ z. later (extended_by g (Some cut)) (3 + length cut.pairs) z p) (sym same) refused
       step (suc n) left e same = absurd (cc)
 
-  cut_behind : (IsLong : List ℕ → Type 0) (bytes : List ℕ) (cut : Option Cut) (body : List ℕ) (p : ℕ × ClauseCause) → PassesCut g IsLong bytes cut body → later (extended_by g cut) (header_lines cut + 1) body p → IsRefusedCut later g IsLong bytes p
+  cut_behind : (IsLong : List ℕ → Type 0) (bytes : List ℕ) (cut : Option Cut) (body : List ℕ) (p : ℕ × LineCause) → PassesCut g IsLong bytes cut body → later (extended_by g cut) (header_lines cut + 1) body p → IsRefusedCut later g IsLong bytes p
   cut_behind IsLong bytes None body p h refused = inr (h.0, inr (None, body, h.1, refused))
   cut_behind IsLong bytes (Some cut) body p h refused =
       let next : later (extended_by g (Some cut)) (3 + length cut.pairs) body p = subst (λ n. later (extended_by g (Some cut)) n body p) (count (length cut.pairs)) refused in
@@ -76,5 +76,5 @@ module _ (later : Later) (g : Aig) where
       count : (n : ℕ) → 2 + n + 1 ≡ 3 + n
       count n = omega arith
 
-  pub behind_header : (lengths : Lengths) (bytes : List ℕ) (cut : Option Cut) (body : List ℕ) (p : ℕ × ClauseCause) → PassesHeader g lengths bytes cut body → later (extended_by g cut) (header_lines cut + 1) body p → IsFirstRefusal later g lengths bytes p
+  pub behind_header : (lengths : Lengths) (bytes : List ℕ) (cut : Option Cut) (body : List ℕ) (p : ℕ × LineCause) → PassesHeader g lengths bytes cut body → later (extended_by g cut) (header_lines cut + 1) body p → IsFirstRefusal later g lengths bytes p
   behind_header lengths bytes cut body p h refused = inr (h.short, inr (h.rest, h.version, cut_behind (IsTooLong lengths (length bytes)) h.rest cut body p h.cut_passes refused))

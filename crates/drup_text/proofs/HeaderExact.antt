@@ -12,7 +12,7 @@ use Rattle.graph_core.proofs.OfTexts.CallerLemmas.{ShortFrom, short_rest, start_
 use Rattle.ripple_graft.specs.declared.cut.Cut.{Cut}
 use Rattle.drup_text.specs.ClauseTexts.{AreLinesOf, IsPairLine}
 use Rattle.drup_text.specs.FileStates.{PassesCut}
-use Rattle.drup_text.specs.HeaderRefusal.{ClauseCause, IsPairStep, IsRefusedBehindCut, IsRefusedBehindPairs, IsRefusedCut, IsRefusedPair, nothing_later}
+use Rattle.drup_text.specs.HeaderRefusal.{LineCause, IsPairStep, IsRefusedBehindCut, IsRefusedBehindPairs, IsRefusedCut, IsRefusedPair, nothing_later}
 use Rattle.drup_text.specs.Headers.{IsCutText, IsHeaderOf, version_line}
 use Rattle.drup_text.specs.LineTexts.{IsCutSize, IsPairOf}
 use Rattle.drup_text.specs.WrittenLaws.{PassingHeadersAreNotRefused, WrittenHeadersPass}
@@ -56,11 +56,11 @@ written_headers_pass g lengths cut lines writable takes within =
 
 -- ---- what passes isn't refused
 
-module _ (g : Aig) (IsLong : List ℕ → Type 0) (body : List ℕ) (p : ℕ × ClauseCause) where
+module _ (g : Aig) (IsLong : List ℕ → Type 0) (body : List ℕ) (p : ℕ × LineCause) where
   abbrev Ends : ℕ → List ℕ → Type 0
   Ends n left = (n ≡ 0) × (left ≡ body)
 
-  pair_not_refused : (bytes rest : List ℕ) (x : Lit × Lit) (c : ClauseCause) → ¬ (IsLong bytes) → BeginsWith IsPairLine bytes x rest → IsPairOf g x → IsRefusedPair g IsLong bytes c → ⊥
+  pair_not_refused : (bytes rest : List ℕ) (x : Lit × Lit) (c : LineCause) → ¬ (IsLong bytes) → BeginsWith IsPairLine bytes x rest → IsPairOf g x → IsRefusedPair g IsLong bytes c → ⊥
   pair_not_refused bytes rest x c short begins known refused =
       ⊎_elim (λ l. short l.0)
       (λ t. ⊎_elim (λ none. none.0 x rest begins)

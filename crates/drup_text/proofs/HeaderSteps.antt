@@ -14,7 +14,7 @@ use Rattle.mv_text.specs.LineReading.{IsLongAhead, Lines}
 use Rattle.mv_text.proofs.CallerLemmas.{long_of, short_of}
 use Rattle.drup_text.specs.ClauseTexts.{IsPairLine}
 use Rattle.drup_text.specs.FileStates.{BeginsOutOfRange, BeginsWithNone, IsCause, IsLineRefusal, TakesText}
-use Rattle.drup_text.specs.HeaderRefusal.{ClauseCause, IsFirstRefusal, IsHeaderRefusal, IsPairStep, IsRefusedBehindPairs, IsRefusedCut, IsRefusedPair, IsRefusedPairs, nothing_later}
+use Rattle.drup_text.specs.HeaderRefusal.{LineCause, IsFirstRefusal, IsHeaderRefusal, IsPairStep, IsRefusedBehindPairs, IsRefusedCut, IsRefusedPair, IsRefusedPairs, nothing_later}
 use Rattle.drup_text.specs.HeaderRefusal as cause
 use Rattle.drup_text.specs.HeaderSteps.{IsLongIn, Leaves, TakesPairs}
 use Rattle.drup_text.specs.Headers.{IsVersionLine}
@@ -27,7 +27,7 @@ none_version line x e = subst HasNoNewline (sym e) (none_in (codes "joined 1") r
 -- ---- causes
 
 -- why a line isn't given is a first refusal in its own line
-pub line_cause : {X : Type 0} (IsText : List ℕ → X → Type 0) (InRange : X → Type 0) (Refused : List ℕ → ℕ × ClauseCause → Type 0) (lines : Lines) (left : Option (List ℕ)) (before now n : ℕ) (f : LineFail) →
+pub line_cause : {X : Type 0} (IsText : List ℕ → X → Type 0) (InRange : X → Type 0) (Refused : List ℕ → ℕ × LineCause → Type 0) (lines : Lines) (left : Option (List ℕ)) (before now n : ℕ) (f : LineFail) →
     ((bytes : List ℕ) → IsLongAhead lines bytes → Refused bytes (n, cause.TooLong)) →
     ((bytes : List ℕ) → ¬ (IsLongAhead lines bytes) → BeginsWithNone IsText bytes → Refused bytes (n, cause.Text)) →
     ((bytes : List ℕ) → ¬ (IsLongAhead lines bytes) → BeginsOutOfRange IsText InRange bytes → Refused bytes (n, cause.Range)) →
@@ -41,12 +41,12 @@ line_cause IsText InRange Refused lines left before now n fail.TooLong long none
 line_cause IsText InRange Refused lines left before now n fail.Memory long none out h = tt
 
 -- a first refusal behind lines that pass
-pub cause_behind : (Refused Later : List ℕ → ℕ × ClauseCause → Type 0) (left after : Option (List ℕ)) (first mid last n : ℕ) (f : LineFail) → mid ≡ first →
-    IfSome left (λ bytes. (rest : List ℕ) × (after ≡ Some rest) × ((p : ℕ × ClauseCause) → Later rest p → Refused bytes p)) → IsCause Later after mid last n f → IsCause Refused left first last n f
+pub cause_behind : (Refused Later : List ℕ → ℕ × LineCause → Type 0) (left after : Option (List ℕ)) (first mid last n : ℕ) (f : LineFail) → mid ≡ first →
+    IfSome left (λ bytes. (rest : List ℕ) × (after ≡ Some rest) × ((p : ℕ × LineCause) → Later rest p → Refused bytes p)) → IsCause Later after mid last n f → IsCause Refused left first last n f
 cause_behind Refused Later left after first mid last n f same passes h = go f h
   where
-    at : (p : ℕ × ClauseCause) → IfSome after (λ rest. Later rest p) → IfSome left (λ bytes. Refused bytes p)
-    at p later = told_from left (λ bytes. (rest : List ℕ) × (after ≡ Some rest) × ((q : ℕ × ClauseCause) → Later rest q → Refused bytes q)) (λ bytes. Refused bytes p)
+    at : (p : ℕ × LineCause) → IfSome after (λ rest. Later rest p) → IfSome left (λ bytes. Refused bytes p)
+    at p later = told_from left (λ bytes. (rest : List ℕ) × (after ≡ Some rest) × ((q : ℕ × LineCause) → Later rest q → Refused bytes q)) (λ bytes. Refused bytes p)
         (λ bytes e t. t.2 p (subst (λ o. IfSome o (λ rest. Later rest p)) t.1 later)) passes
 
     go : (f : LineFail) → IsCause Later after mid last n f → IsCause Refused left first last n f
@@ -121,28 +121,28 @@ pairs_end g count i old now before after pairs all so_far =
 -- ---- a pair that is refused
 
 -- what is wrong with the pair that comes next
-abbrev IsRefusedHere : Aig → Lines → ℕ → List ℕ → ℕ × ClauseCause → Type 0
-IsRefusedHere g lines n bytes p = (c : ClauseCause) × IsRefusedPair g (IsLongAhead lines) bytes c × (p ≡ (n, c))
+abbrev IsRefusedHere : Aig → Lines → ℕ → List ℕ → ℕ × LineCause → Type 0
+IsRefusedHere g lines n bytes p = (c : LineCause) × IsRefusedPair g (IsLongAhead lines) bytes c × (p ≡ (n, c))
 
 pair_cause : (g : Aig) (lines : Lines) (left : Option (List ℕ)) (before now n : ℕ) (f : LineFail) → IsLineRefusal IsPairLine (IsPairOf g) lines left before now f → IsCause (IsRefusedHere g lines n) left before now n f
 pair_cause g lines left before now n f h =
     line_cause IsPairLine (IsPairOf g) (IsRefusedHere g lines n) lines left before now n f (λ bytes long. (cause.TooLong, inl (long, refl), refl)) (λ bytes short none. (cause.Text, inr (short, inl (none, refl)), refl))
     (λ bytes short out. (cause.Range, inr (short, inr (out.0, out.1, out.2, inl (out.3, refl))), refl)) h
 
-pair_refused : (g : Aig) (lo count i : ℕ) (old now : Lines) (bytes : List ℕ) (left : Option (List ℕ)) (pairs : List (Lit × Lit)) (p : ℕ × ClauseCause) → i < count → length pairs ≡ i → now.lengths ≡ old.lengths → (s : PairsSoFar g count i old now bytes left pairs) →
+pair_refused : (g : Aig) (lo count i : ℕ) (old now : Lines) (bytes : List ℕ) (left : Option (List ℕ)) (pairs : List (Lit × Lit)) (p : ℕ × LineCause) → i < count → length pairs ≡ i → now.lengths ≡ old.lengths → (s : PairsSoFar g count i old now bytes left pairs) →
     IsRefusedHere g now (3 + i) s.rest p → IsRefusedPairs nothing_later g (IsLongIn old bytes) (lo, count) bytes p
 pair_refused g lo count i old now bytes left pairs p early many lengths s refused = (
   pairs,
   behind_map IsPairLine (IsPairStep g) (IsLongIn old bytes) (λ n rest. (n + i ≡ count) × (rest ≡ s.rest)) (λ n rest. IsRefusedBehindPairs nothing_later g (IsLongIn old bytes) lo pairs n rest p) (λ n rest f. step n rest f.0 f.1) pairs count bytes s.behind,
 )
   where
-    there : (c : ClauseCause) (rest : List ℕ) → rest ≡ s.rest → IsRefusedPair g (IsLongAhead now) s.rest c → IsRefusedPair g (IsLongIn old bytes) rest c
+    there : (c : LineCause) (rest : List ℕ) → rest ≡ s.rest → IsRefusedPair g (IsLongAhead now) s.rest c → IsRefusedPair g (IsLongIn old bytes) rest c
     there c rest same h =
         let k : IsRefusedPair g (IsLongAhead now) s.rest c → IsRefusedPair g (IsLongIn old bytes) s.rest c =
         λ r. subst (λ (q : Lengths). IsRefusedPair g (IsTooLong q (old.taken + length bytes)) s.rest c) lengths (subst (λ n. IsRefusedPair g (IsTooLong now.lengths n) s.rest c) s.leaves.taken (same_long c r)) in
         subst (λ z. IsRefusedPair g (IsLongIn old bytes) z c) (sym same) (k h)
       where
-        same_long : (c : ClauseCause) → IsRefusedPair g (IsLongAhead now) s.rest c → IsRefusedPair g (IsTooLong now.lengths (now.taken + length s.rest)) s.rest c
+        same_long : (c : LineCause) → IsRefusedPair g (IsLongAhead now) s.rest c → IsRefusedPair g (IsTooLong now.lengths (now.taken + length s.rest)) s.rest c
         same_long c r = r
 
     step : (n : ℕ) (rest : List ℕ) → n + i ≡ count → rest ≡ s.rest → IsRefusedBehindPairs nothing_later g (IsLongIn old bytes) lo pairs n rest p
@@ -156,7 +156,7 @@ pairs_refused g lo count i line old now before left pairs first mid last f early
     subst (λ n. IsCause (λ bytes. IsRefusedPairs nothing_later g (IsLongIn old bytes) (lo, count) bytes) before first last n f) (sym number)
     (cause_behind (λ bytes. IsRefusedPairs nothing_later g (IsLongIn old bytes) (lo, count) bytes) (IsRefusedHere g now (3 + i)) before left first mid last (3 + i) f same
     (told_from before (λ bytes. PairsSoFar g count i old now bytes left pairs)
-    (λ bytes. (rest : List ℕ) × (left ≡ Some rest) × ((p : ℕ × ClauseCause) → IsRefusedHere g now (3 + i) rest p → IsRefusedPairs nothing_later g (IsLongIn old bytes) (lo, count) bytes p))
+    (λ bytes. (rest : List ℕ) × (left ≡ Some rest) × ((p : ℕ × LineCause) → IsRefusedHere g now (3 + i) rest p → IsRefusedPairs nothing_later g (IsLongIn old bytes) (lo, count) bytes p))
     (λ bytes e s. (s.rest, s.leaves.left_is, λ p r. pair_refused g lo count i old now bytes left pairs p early many lengths s r)) so_far)
     (pair_cause g now left mid last (3 + i) f h))
 
@@ -173,7 +173,7 @@ pub cut_refused : (g : Aig) (old mid : Lines) (before left : Option (List ℕ)) 
 cut_refused g old mid before left lo count first then last line f lengths same h refused =
     cause_behind (λ bytes. IsRefusedCut nothing_later g (IsLongIn old bytes) bytes) (λ bytes. IsRefusedPairs nothing_later g (IsLongIn mid bytes) (lo, count) bytes) before left first then last line f same
     (told_from before (λ bytes. TakesText (IsCutTextOf (length g.outputs)) old mid bytes left (Some (lo, count)))
-    (λ bytes. (rest : List ℕ) × (left ≡ Some rest) × ((p : ℕ × ClauseCause) → IsRefusedPairs nothing_later g (IsLongIn mid rest) (lo, count) rest p → IsRefusedCut nothing_later g (IsLongIn old bytes) bytes p))
+    (λ bytes. (rest : List ℕ) × (left ≡ Some rest) × ((p : ℕ × LineCause) → IsRefusedPairs nothing_later g (IsLongIn mid rest) (lo, count) rest p → IsRefusedCut nothing_later g (IsLongIn old bytes) bytes p))
     (λ bytes e t. (
       t.rest,
       t.left_is,
@@ -214,7 +214,7 @@ pub header_refused : (g : Aig) (lengths : Lengths) (lines now : Lines) (before l
 header_refused g lengths lines now before left first mid last line f fresh same_now same h refused =
     cause_behind (IsHeaderRefusal g lengths) (λ bytes. IsRefusedCut nothing_later g (IsLongIn now bytes) bytes) before left first mid last line f same
     (told_from before (λ bytes. TakesText IsVersionLine lines now bytes left tt)
-    (λ bytes. (rest : List ℕ) × (left ≡ Some rest) × ((p : ℕ × ClauseCause) → IsRefusedCut nothing_later g (IsLongIn now rest) rest p → IsHeaderRefusal g lengths bytes p))
+    (λ bytes. (rest : List ℕ) × (left ≡ Some rest) × ((p : ℕ × LineCause) → IsRefusedCut nothing_later g (IsLongIn now rest) rest p → IsHeaderRefusal g lengths bytes p))
     (λ bytes e t. (
       t.rest,
       t.left_is,

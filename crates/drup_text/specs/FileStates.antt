@@ -10,7 +10,7 @@ use Rattle.graph_core.specs.Text.JudgedLines.{BeginsWith, Behind, IsTooLong, Len
 use Rattle.mv_text.specs.LineReading.{EndsIn, FitsPiece, IsLongAhead, Lines, known_from}
 use Rattle.ripple_graft.specs.declared.cut.Cut.{Cut}
 use Rattle.drup_text.specs.ClauseTexts.{IsCutLine, IsPairLine}
-use Rattle.drup_text.specs.HeaderRefusal.{ClauseCause, IsHeaderRefusal, IsPairStep, Range, Text, TooLong}
+use Rattle.drup_text.specs.HeaderRefusal.{LineCause, IsHeaderRefusal, IsPairStep, Range, Text, TooLong}
 use Rattle.drup_text.specs.Headers.{version_line}
 use Rattle.drup_text.specs.LineTexts.{IsCutSize}
 use Rattle.drup_text.specs.declared.fault.StartFail.{StartFail}
@@ -110,7 +110,7 @@ header_lines None = 2
 header_lines (Some cut) = 2 + length cut.pairs
 
 -- Why some of the lines of a header aren't had, where what is left has such first refusals: this one, a failed read, or want of memory.
-abbrev pub IsCause : (List ℕ → ℕ × ClauseCause → Type 0) → Option (List ℕ) → ℕ → ℕ → ℕ → LineFail → Type 0
+abbrev pub IsCause : (List ℕ → ℕ × LineCause → Type 0) → Option (List ℕ) → ℕ → ℕ → ℕ → LineFail → Type 0
 IsCause Refused left before now line fail.Text = IfSome left (λ bytes. Refused bytes (line, Text))
 IsCause Refused left before now line fail.Range = IfSome left (λ bytes. Refused bytes (line, Range))
 IsCause Refused left before now line fail.Fault = Rose before now

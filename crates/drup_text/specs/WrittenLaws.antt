@@ -9,7 +9,7 @@ use Rattle.ripple_graft.specs.declared.cut.Cut.{Cut}
 use Rattle.clause_core.specs.Clause.{IsLiteral}
 use Rattle.clause_core.specs.ClauseLines.{ClauseLine, clause_in}
 use Rattle.drup_text.specs.FileStates.{PassesHeader}
-use Rattle.drup_text.specs.HeaderRefusal.{ClauseCause, IsHeaderRefusal}
+use Rattle.drup_text.specs.HeaderRefusal.{LineCause, IsHeaderRefusal}
 use Rattle.drup_text.specs.Headers.{IsClauseFile, IsHeaderOf}
 use Rattle.drup_text.specs.LineTexts.{IsLineInRange, IsTextOf}
 use Rattle.drup_text.specs.WrittenTexts.{file_text, line_text, lines_text}
@@ -43,5 +43,5 @@ WrittenHeadersPass = (g : Aig) (lengths : Lengths) (cut : Option Cut) (lines : L
 
 -- A header that passes has no refusal.
 abbrev pub PassingHeadersAreNotRefused : Type 0
-PassingHeadersAreNotRefused = (g : Aig) (lengths : Lengths) (bytes : List ℕ) (cut : Option Cut) (body : List ℕ) (p : ℕ × ClauseCause) →
+PassingHeadersAreNotRefused = (g : Aig) (lengths : Lengths) (bytes : List ℕ) (cut : Option Cut) (body : List ℕ) (p : ℕ × LineCause) →
     PassesHeader g lengths bytes cut body → IsHeaderRefusal g lengths bytes p → ⊥

@@ -1,9 +1,8 @@
 // Whole certificates, as they are written.
-ghost use Rattle.std.specs.Prelude.{◌≡◌, ◌≤◌, ◌++◌, ◌∷◌, [], true, OnOk, OnErr, length, option_map};
+ghost use Rattle.std.specs.Prelude.{◌≡◌, ◌≤◌, ◌++◌, ◌∷◌, [], true, length, option_map};
 ghost use Rattle.std.specs.Fmt.{signed_decimal};
 ghost use Rattle.graph_core.specs.Text.{newline, space};
-ghost use Rattle.mv_desk.specs.Calls.{HasWriteCause, WritesPart, WritesTo};
-ghost use Rattle.mv_desk.specs.View.{KeepsTelling};
+ghost use Rattle.mv_desk.specs.Calls.{Writes};
 ghost use Rattle.mv_desk.specs.declared.slot.Slot.TheVariants.{Clauses};
 ghost use Rattle.mv_text.specs.Puts.{Puts};
 ghost use Rattle.drup_text.specs.WrittenTexts.{clause_text, cut_text, file_text, line_text, lines_text, literals_text, pairs_text, sign_text, two_text};
@@ -22,12 +21,8 @@ pub fn write_clauses<D: Desk>(
     lines: &[Line],
 ) -> Result<(), WriteFault>
     requires { (D.seen desk.old).writes Clauses ≡ true }
-    ensures whole { OnOk result (WritesTo Clauses (file_text (option_map (λ c. c.now) cut.entry) lines.now)
-        (D.seen desk.old) (D.seen desk.new)) }
-    ensures part { OnErr result (WritesPart Clauses (file_text (option_map (λ c. c.now) cut.entry) lines.now)
-        (D.seen desk.old) (D.seen desk.new)) }
-    ensures cause { HasWriteCause (D.seen desk.old) (D.seen desk.new) result }
-    ensures tells { KeepsTelling (D.seen desk.old) (D.seen desk.new) }
+    ensures { Writes Clauses (file_text (option_map (λ c. c.now) cut.entry) lines.now)
+        (D.seen desk.old) (D.seen desk.new) result }
 {
     let mut output = Output::new(Slot::Clauses);
     output.put(desk, b"joined 1\n");
