@@ -81,6 +81,10 @@ StandsAlone s = AreUnits s.clauses s.trail.literals s.trail.reasons s.units × (
 abbrev pub standing_with : Standing → ℤ → Option ℕ → Standing
 standing_with s l reason = record { clauses = s.clauses; trail = record { greatest = s.trail.greatest; literals = s.trail.literals ++ l ∷ []; reasons = s.trail.reasons ++ reason ∷ [] }; units = s.units }
 
+-- one more clause is live, and what stands still does
+abbrev pub standing_more : Standing → Clause → Standing
+standing_more s c = record { clauses = s.clauses ++ Some c ∷ []; trail = s.trail; units = s.units }
+
 -- what stood when fewer literals did
 abbrev pub back_at : Standing → ℕ → Standing
 back_at s mark = record { clauses = s.clauses; trail = record { greatest = s.trail.greatest; literals = take mark s.trail.literals; reasons = take mark s.trail.reasons }; units = s.units }

@@ -1,5 +1,5 @@
 // Clauses, and what stands over them.
-ghost use Rattle.std.specs.Prelude.{◌≡◌, ◌↔◌, ◌<◌, ◌≤◌, ◌^◌, [], length, ℤ, IfOk, IfSome, OnErr, IsNone, IsSome, IsTrue, Some};
+ghost use Rattle.std.specs.Prelude.{◌≡◌, ◌≢◌, ◌↔◌, ◌<◌, ◌≤◌, ◌^◌, [], length, neg_ℤ, ℤ, IfOk, IfSome, OnErr, IsNone, IsSome, IsTrue, Some};
 ghost use Rattle.std.specs.List.{Any, Contains};
 ghost use Rattle.clause_core.specs.Clause.{SameSet};
 ghost use Rattle.unit_prop.specs.Trail.{IsWithin, HasValue};
@@ -19,6 +19,7 @@ ghost use Rattle.unit_prop.specs.Standing.{
   clause_at,
   live_of,
   standing_with,
+  standing_more,
   back_at,
 };
 
@@ -107,6 +108,24 @@ impl Propagator {
         }
         self.watches.hang(2 * place, lits[0]);
         self.watches.hang(2 * place + 1, lits[1]);
+        Ok(Ref { place })
+    }
+
+    /// One more clause, two of whose literals are not false: it says nothing yet, and what stands still does.
+    pub fn add_open(&mut self, clause: &Clause, first: i32, second: i32) -> Result<Ref, Memory>
+        requires within { (l : ℤ) → Contains clause.now l → IsWithin self.old.trail.greatest l }
+        requires two { Contains clause.now first × Contains clause.now second × (first ≢ second) }
+        requires open { (Contains self.old.trail.literals (neg_ℤ first) → ⊥) × (Contains self.old.trail.literals (neg_ℤ second) → ⊥) }
+        ensures ok { IfOk result (λ r. (r ≡ length self.old.clauses) × (self.new ≡ standing_more self.old clause.now)) }
+        ensures err { OnErr result (self.new ≡ self.old) }
+    {
+        let _distinct = clause.lits();
+        let own = clause.copy(self.alloc)?;
+        make_room(&mut self.clauses, &mut self.shorts, &mut self.watches)?;
+        let place = self.clauses.len() as u32;
+        let _ = self.clauses.push(Some(own));
+        self.watches.hang(2 * place, first);
+        self.watches.hang(2 * place + 1, second);
         Ok(Ref { place })
     }
 

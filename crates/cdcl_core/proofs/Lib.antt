@@ -1,0 +1,9 @@
+pub mod Trails
+pub mod Standings
+pub mod LogLemmas
+pub mod SearchLemmas
+pub mod LoadLemmas
+pub mod LevelLemmas
+pub mod SolveLemmas
+pub mod AnalysisLemmas
+pub mod SolverLemmas

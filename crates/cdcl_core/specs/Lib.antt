@@ -1,0 +1,14 @@
+-- To be read by whoever trusts the contracts: Logs, Additions, Solving, Solvers and Loading. The others serve private clauses and
+-- the invariants alone.
+pub mod Logs
+pub mod Additions
+pub mod Solving
+pub mod Search
+pub mod Levels
+pub mod Descent
+pub mod Models
+pub mod Loading
+pub mod Analyses
+pub mod Orders
+pub mod Solvers
+pub mod Finding

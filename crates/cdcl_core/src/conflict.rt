@@ -1,0 +1,43 @@
+// From a clause that is false to a lemma.
+ghost use Rattle.std.specs.Prelude.{◌≡◌, ◌<◌, ◌^◌, IfOk};
+ghost use Rattle.clause_core.specs.Clause.{IsClauseInRange};
+ghost use Rattle.clause_core.specs.Log.{IsLemma};
+ghost use Rattle.unit_prop.specs.Standing.{live_of};
+ghost use Rattle.cdcl_core.specs.Search.{IsConflictAt};
+
+use crate::analysis::Analysis;
+use crate::order::Order;
+use clause_core::Clause;
+use graph_core::Memory;
+use std::alloc::Global;
+use unit_prop::{Propagator, Ref};
+
+/// A clause that is false, and what stood before the last decision.
+#[derive(Clone, Copy, Debug)]
+pub struct Conflict {
+    pub clause: Ref,
+    pub level: usize,
+}
+
+/// The lemma of the first literal of the last level through which all its reasons pass. What was resolved moves to the
+/// front of the order.
+pub fn learn(
+    alloc: Global,
+    propagator: &Propagator,
+    max: u32,
+    conflict: Conflict,
+    order: &mut Order,
+) -> Result<Clause, Memory>
+    requires conflict { IsConflictAt propagator.now conflict.clause conflict.level }
+    requires max { propagator.now.trail.greatest ≡ max }
+    requires signed { max < 2 ^ 31 }
+    requires order { order.old ≡ max }
+    ensures order { order.new ≡ order.old }
+    ensures lemma { IfOk result (λ lemma. IsLemma (live_of propagator.now.clauses) lemma) }
+    ensures in_range { IfOk result (λ lemma. IsClauseInRange max lemma) }
+{
+    let analysis = Analysis::of(alloc, propagator, max, conflict)?;
+    analysis.bump(propagator, order);
+    let lits = analysis.into_lits(propagator)?;
+    Clause::new(alloc, &lits)
+}

@@ -1,0 +1,28 @@
+//! A solver by conflict-driven clause learning whose log is lawful.
+//!
+//! `solve` refutes assumptions, finds a model, or spends its budget of lemmas; whatever it answers, each line that it
+//! logged is lawful. A `Solver` keeps its clauses and the order of decisions from goal to goal.
+//!
+//! *Lemma*: it follows from the live clauses by unit propagation, is no tautology, and has no live clause within it;
+//! *lawful* lines: `specs/Log.antt` of `clause_core`. What the lines of a log leave live, and how a log goes on:
+//! `specs/Logs.antt`. *Answer*: `specs/Solving.antt`. *Live*, *stands*: those of `unit_prop`.
+#![tactic(auto)]
+
+mod analysis;
+mod conflict;
+mod decision;
+mod descent;
+mod levels;
+mod literal;
+mod log;
+mod model;
+mod order;
+mod search;
+mod solved;
+mod solver;
+mod solving;
+
+pub use log::Log;
+pub use solved::Solved;
+pub use solver::Solver;
+pub use solving::solve;

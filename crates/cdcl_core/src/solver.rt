@@ -1,0 +1,150 @@
+// A solver that is kept between goals.
+ghost use Rattle.std.specs.Prelude.{◌≡◌, ◌<◌, ◌^◌, [], ◌++◌, IfOk, OnOk, OnErr};
+ghost use Rattle.std.specs.List.{All, Contains};
+ghost use Rattle.clause_core.specs.Clause.{Clause as Literals, IsClauseInRange};
+ghost use Rattle.cdcl_core.specs.Loading.{SameLive};
+ghost use Rattle.cdcl_core.specs.Logs.{LogView, Continues};
+ghost use Rattle.cdcl_core.specs.Solvers.{SolverView, IsEnd, Turns, with_clause};
+ghost use Rattle.cdcl_core.specs.Solving.{IsAnswer};
+
+use crate::levels::Levels;
+use crate::log::Log;
+use crate::order::Order;
+use crate::search::{Found, explore, is_settled};
+use crate::solved::Solved;
+use clause_core::Clause;
+use graph_core::Memory;
+use std::alloc::Global;
+use std::marker::Model;
+use unit_prop::Propagator;
+
+// How many lemmas are learnt from one beginning to the next.
+const RESTART: u64 = 64;
+
+/// Live clauses, and the order in which their variables are decided, kept from goal to goal.
+#[derive(Drop)]
+pub struct Solver {
+    alloc: Global,
+    /// The greatest variable.
+    max: u32,
+    propagator: Propagator,
+    levels: Levels,
+    order: Order,
+}
+
+impl Model for Solver {
+    ghost use Rattle.unit_prop.specs.Standing.{live_of};
+    ghost use Rattle.cdcl_core.specs.Solvers.{SolverView, IsReady};
+
+    ghost Value = { SolverView };
+
+    ghost view = { λ s. record { max = s.max; live = live_of s.propagator.clauses } };
+
+    ghost invariant = { λ s. IsReady s.max s.propagator s.order s.levels.base s.levels.marks.items };
+}
+
+impl Solver {
+    /// No clauses, over the variables from 1 to `max`.
+    pub fn new(alloc: Global, max: u32) -> Result<Solver, Memory>
+        requires { max < 2 ^ 31 }
+        ensures { IfOk result (λ s. s ≡ record { max = max; live = [] }) }
+    {
+        let propagator = Propagator::new(alloc, max)?;
+        let levels = Levels::new(alloc, &propagator);
+        let order = Order::new(alloc, max)?;
+        Ok(Solver {
+            alloc,
+            max,
+            propagator,
+            levels,
+            order,
+        })
+    }
+
+    /// One more clause.
+    pub fn add(&mut self, clause: &Clause) -> Result<(), Memory>
+        requires { IsClauseInRange self.old.max clause.now }
+        ensures ok { OnOk result (self.new ≡ with_clause self.old clause.now) }
+        ensures err { OnErr result (self.new ≡ self.old) }
+    {
+        self.levels.add_anew(&mut self.propagator, clause)
+    }
+
+    /// Decides these variables before the others, the last one first. It is advice: no answer depends on it.
+    pub fn prefer(&mut self, vars: &[u32])
+        ensures { self.new ≡ self.old }
+    {
+        self.order.prefer(vars);
+    }
+
+    /// Refutes the assumptions over the live clauses, finds a model of all of them, or logs `conflicts` lemmas.
+    ///
+    /// What the log left has to be live here. After an `Err` the log may have lemmas more, each lawful, and nothing is
+    /// known of the solver.
+    pub fn solve(
+        &mut self,
+        assumptions: &[i32],
+        conflicts: u64,
+        log: &mut Log,
+    ) -> Result<Solved, Memory>
+        requires known { (c : Literals) → Contains log.old.left c → Contains self.old.live c }
+        requires log { All (IsClauseInRange self.old.max) log.old.left }
+        requires assumptions { IsClauseInRange self.old.max assumptions.now }
+        ensures max { self.new.max ≡ self.old.max }
+        ensures log { Continues self.old.max self.old.live conflicts log.old log.new }
+        ensures in_range { All (IsClauseInRange self.old.max) log.new.left }
+        ensures live { OnOk result (SameLive self.new.live (log.new.left ++ self.old.live)) }
+        ensures answer { IfOk result (IsAnswer self.old.max self.old.live assumptions.now conflicts log.old log.new) }
+    {
+        for turn in 0..conflicts {
+            if let Some(solved) = self.turn(assumptions, turn % RESTART == 0, log)? {
+                return Ok(solved);
+            }
+        }
+        Ok(self.close(assumptions))
+    }
+
+    // An answer, or one lemma more.
+    fn turn(
+        &mut self,
+        assumptions: &[i32],
+        anew: bool,
+        log: &mut Log,
+    ) -> Result<Option<Solved>, Memory>
+        requires { IsClauseInRange self.old.max assumptions.now }
+        ensures max { self.new.max ≡ self.old.max }
+        ensures turn { IfOk result (Turns self.old log.old self.new log.new assumptions.now) }
+        ensures err { OnErr result (log.new ≡ log.old) }
+    {
+        let found = explore(
+            self.alloc,
+            self.max,
+            &mut self.propagator,
+            &mut self.order,
+            &mut self.levels,
+            assumptions,
+            anew,
+        )?;
+        match found {
+            Found::Answer(solved) => Ok(Some(solved)),
+            Found::Lemma(lemma) => {
+                self.levels.add(&mut self.propagator, &lemma)?;
+                log.push(lemma)?;
+                Ok(None)
+            }
+        }
+    }
+
+    // Whether the assumptions are refuted by propagation.
+    fn close(&mut self, assumptions: &[i32]) -> Solved
+        requires { IsClauseInRange self.old.max assumptions.now }
+        ensures same { self.new ≡ self.old }
+        ensures end { IsEnd self.old assumptions.now result }
+    {
+        self.levels.restart(&mut self.propagator);
+        if is_settled(self.max, &mut self.propagator, assumptions) {
+            return Solved::Spent;
+        }
+        Solved::Refuted
+    }
+}

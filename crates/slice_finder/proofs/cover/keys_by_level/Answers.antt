@@ -1,0 +1,8 @@
+use Rattle.std.proofs.Common.{arith}
+use Rattle.slice_finder.proofs.Orders.{keys_are}
+use Rattle.slice_finder.proofs.cover.keys_by_level.Goals as goal
+
+pub returns : goal.returns
+returns c =
+    keys_are c.args.graph.now c.max-max.ensures.built.well_formed c.in_ok-keys.keys.items c.sort.new.self.items c.sort.ensures.permutation c.in_ok-keys.ensures.levels c.in_ok-keys.ensures.variables
+    (λ k d low. c.in_ok-sort.ensures.sorted k d (omega arith) low)

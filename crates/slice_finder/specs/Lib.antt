@@ -1,0 +1,8 @@
+-- To be read by whoever trusts the contracts: XorShape, FinalStage and Adders. The others serve private clauses alone.
+pub mod XorShape
+pub mod FinalStage
+pub mod Adders
+pub mod Positions
+pub mod XorFound
+pub mod Cover
+pub mod StageSearch

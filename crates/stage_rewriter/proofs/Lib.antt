@@ -1,0 +1,9 @@
+pub mod Lists
+pub mod LogLines
+pub mod Columns
+pub mod ColumnGoals
+pub mod Answering
+pub mod Kept
+pub mod Refuting
+pub mod Using
+pub mod Values

@@ -1,0 +1,3 @@
+-- To be read by whoever trusts the contracts: Rewriting. Refuting serves private clauses alone.
+pub mod Rewriting
+pub mod Refuting

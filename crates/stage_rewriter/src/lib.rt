@@ -1,0 +1,21 @@
+//! Putting a ripple-carry adder in place of a graph's final stage, where a solver shows that the outputs stay the same.
+//!
+//! `rewrite` looks for the final stage, grafts the adder, and has the negation of each goal refuted, column by column
+//! upward, within a budget of conflicts. What it answers is one of four kinds, each by its cause: the lines of a
+//! lawful clause certificate, no final stage, operands at which an output differs, or a spent budget with the log that
+//! spent it.
+//!
+//! *Final stage*: `specs/FinalStage.antt` of `slice_finder`. *Goals*, *lawful lines*, *lemma*: `GateClauses`,
+//! `ClauseLines` and `Log` in `specs/` of `clause_core`. *Rewriting*: `specs/Rewriting.antt`.
+#![tactic(auto)]
+
+mod difference;
+mod goals;
+mod laws;
+mod outcome;
+mod refutation;
+mod rewriting;
+mod solver;
+
+pub use laws::refuted_is_lawful;
+pub use rewriting::{Rewritten, rewrite};

@@ -1,0 +1,54 @@
+// All goals of a graph with an adder, one after the other.
+ghost use Rattle.std.specs.Prelude.{◌≡◌, IfOk};
+ghost use Rattle.ripple_graft.specs.Blocks.{IsCut, with_cut};
+ghost use Rattle.stage_rewriter.specs.Refuting.{IsOutcome};
+
+use crate::goals::unmet_goals;
+use crate::refutation::refute;
+use crate::solver::solver_of;
+use cdcl_core::{Log, Solved};
+use graph_core::Memory;
+use miter_encoder::gate_clauses;
+use ripple_graft::{Cut, Extended};
+use std::alloc::Global;
+
+/// What comes of refuting the negation of each goal.
+#[derive(Debug, Drop)]
+pub enum Outcome {
+    /// Each is refuted, and the goals are among the lines.
+    Refuted(Log),
+    /// An evaluation at which a goal doesn't hold: the value of each variable from 1 on.
+    Model(Vec<bool>),
+    /// The conflicts are spent after so many goals, as the log has it.
+    Spent(u64, Log),
+}
+
+/// Refutes the negation of each goal that isn't met, within so many conflicts.
+pub fn refute_all(
+    alloc: Global,
+    extended: &Extended<'_>,
+    cut: &Cut,
+    conflicts: u64,
+) -> Result<Outcome, Memory>
+    requires cut { IsCut extended.now.graph cut.now }
+    requires graph { extended.now ≡ with_cut extended.now.graph cut.now }
+    ensures { IfOk result (IsOutcome extended.now conflicts) }
+{
+    let max = extended.max();
+    let _gates = extended.gates();
+    let clauses = gate_clauses(alloc, extended)?;
+    let goals = unmet_goals(alloc, extended, cut)?;
+    let mut solver = solver_of(alloc, max, &clauses)?;
+    let mut log = Log::new(alloc);
+    for goal in 0..goals.len() {
+        // the goals so far are among the added clauses beside the lemmas
+        let spent = log.added() - goal as u64;
+        let left = conflicts - spent;
+        match refute(alloc, &mut solver, goals.get(goal), left, &mut log)? {
+            Solved::Refuted => {}
+            Solved::Model(values) => return Ok(Outcome::Model(values)),
+            Solved::Spent => return Ok(Outcome::Spent(goal as u64, log)),
+        }
+    }
+    Ok(Outcome::Refuted(log))
+}

@@ -1,0 +1,103 @@
+// A graph's final stage, and a ripple-carry adder in its place.
+ghost use Rattle.std.specs.Prelude.{◌≡◌, ℕ, IfOk};
+ghost use Rattle.graph_core.specs.Graph.{Aig};
+ghost use Rattle.graph_core.specs.Graph.Operands.{AreOperandsOf, HasMultiplierShape};
+ghost use Rattle.ripple_graft.specs.Blocks.{IsCut, with_cut};
+ghost use Rattle.slice_finder.specs.FinalStage.{IsFinalStage};
+ghost use Rattle.stage_rewriter.specs.Rewriting.{Agrees, IsRewriting};
+
+use crate::difference::operands_of;
+use crate::outcome::{Outcome, refute_all};
+use cdcl_core::Log;
+use graph_core::{Graph, Memory, Operands};
+use ripple_graft::{Cut, Extended, GraftFail, graft};
+use slice_finder::final_stage;
+use std::alloc::Global;
+
+/// What comes of putting a ripple-carry adder in place of a graph's final stage.
+#[derive(Debug, Drop)]
+pub enum Rewritten<'a> {
+    /// The adder's outputs are the graph's on every evaluation, as the log's lines show.
+    Used {
+        cut: Cut,
+        extended: Extended<'a>,
+        log: Log,
+    },
+    /// There is no final stage.
+    None,
+    /// Operands at which an output of the adder isn't the graph's.
+    Differs {
+        a: u64,
+        b: u64,
+    },
+    /// As many lemmas as there may be conflicts, and beside them the goals that were refuted before the one in hand.
+    Spent {
+        lemmas: u64,
+        goal: u64,
+        log: Log,
+    },
+}
+
+/// Puts a ripple-carry adder in place of a graph's final stage, where so many conflicts are enough to show that its
+/// outputs are the graph's.
+pub fn rewrite<'a>(
+    alloc: Global,
+    graph: &'a Graph,
+    operands: &Operands,
+    conflicts: u64,
+) -> Result<Rewritten<'a>, Memory>
+    requires shape { HasMultiplierShape graph.now }
+    requires operands { AreOperandsOf graph.now operands.now }
+    ensures rewriting { IfOk result (IsRewriting graph.now operands.now.order conflicts) }
+    ensures agrees { IfOk result Agrees }
+{
+    match final_stage(alloc, graph)? {
+        None => Ok(Rewritten::None),
+        Some(cut) => replace(alloc, graph, operands, conflicts, cut),
+    }
+}
+
+// The same, with the final stage.
+fn replace<'a>(
+    alloc: Global,
+    graph: &'a Graph,
+    operands: &Operands,
+    conflicts: u64,
+    cut: Cut,
+) -> Result<Rewritten<'a>, Memory>
+    requires stage { IsFinalStage graph.now cut }
+    requires shape { HasMultiplierShape graph.now }
+    requires operands { AreOperandsOf graph.now operands.now }
+    ensures rewriting { IfOk result (IsRewriting graph.now operands.now.order conflicts) }
+    ensures agrees { IfOk result Agrees }
+{
+    let extended = grafted(alloc, graph, &cut)?;
+    match refute_all(alloc, &extended, &cut, conflicts)? {
+        Outcome::Refuted(log) => Ok(Rewritten::Used { cut, extended, log }),
+        Outcome::Model(values) => {
+            let (a, b) = operands_of(alloc, graph, operands, &values)?;
+            Ok(Rewritten::Differs { a, b })
+        }
+        Outcome::Spent(goal, log) => Ok(Rewritten::Spent {
+            lemmas: conflicts,
+            goal,
+            log,
+        }),
+    }
+}
+
+// The graph with the adder of a final stage, which is a cut of it.
+fn grafted<'a>(alloc: Global, graph: &'a Graph, cut: &Cut) -> Result<Extended<'a>, Memory>
+    requires { IsFinalStage graph.now cut.now }
+    ensures cut { IfOk result (λ _. IsCut graph.now cut.now) }
+    ensures graph { IfOk result (λ extended. extended ≡ with_cut graph.now cut.now) }
+{
+    // without faults
+    let _max = graph.max();
+    match graft(alloc, graph, cut) {
+        Ok(extended) => Ok(extended),
+        Err(GraftFail::Memory) => Err(Memory),
+        Err(GraftFail::Columns) => unreachable!(),
+        Err(GraftFail::Literal(_)) => unreachable!(),
+    }
+}
