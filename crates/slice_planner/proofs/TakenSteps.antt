@@ -15,12 +15,14 @@ use Rattle.graph_core.specs.Graph.Extended.{Extended}
 use Rattle.ripple_graft.specs.Extension.{IsExtension, new_outputs}
 use Rattle.frontier_core.specs.declared.step.Step.{Step}
 use Rattle.frontier_core.specs.declared.step.Step.TheVariants.{Add, Eliminate}
-use Rattle.frontier_core.specs.Plan.{CanEliminate, Taken, nothing, step, taken}
+use Rattle.frontier_core.specs.Plan.{CanEliminate, IsPlan, Taken, nothing, step, taken}
 use Rattle.frontier_core.specs.Sets.{has}
 use Rattle.frontier_core.proofs.OrderMade.{gates_of_defined}
 use Rattle.frontier_core.proofs.PlainOrders.{length-outputs_from, pairs_recursion}
 use Rattle.frontier_core.proofs.Plans.{step_is_pushed}
-use Rattle.slice_planner.specs.Slices.{IsSlicePlan, columns_added, count_down}
+use Rattle.slice_core.specs.GroupPlans.{AreAtGroups}
+use Rattle.slice_core.specs.SlicePlan.{columns_added, count_down}
+use Rattle.slice_core.proofs.GroupPlans.{column_is_pushed}
 use Rattle.slice_planner.specs.Taking.{IsReady, IsTaking, Lowers, Took, left_count, read_by_columns, read_by_gate, read_by_gates, still_read, took}
 use Rattle.slice_planner.proofs.ReadCounts.{all_gone, columns_more, columns_none, columns_zero, gates_less, gates_none, left_less, one_same}
 
@@ -47,7 +49,7 @@ set_at table us k h low v =
     (cases_eq v k)
 
 -- a gate of a list has its variable among theirs
-gates_have : (gates : List Gate) (x : Gate) → Contains gates x → has (map (λ y. y.v) gates) x.v ≡ true
+pub gates_have : (gates : List Gate) (x : Gate) → Contains gates x → has (map (λ y. y.v) gates) x.v ≡ true
 gates_have [] x h = let low = h.1 in absurd (omega arith)
 gates_have (y ∷ gates) x (zero, low, is) = or_left (y.v == x.v) (has (map (λ z. z.v) gates) x.v) (eq-eqb y.v x.v (ap (λ z. z.v) is))
 gates_have (y ∷ gates) x (suc k, low, is) = or_right (y.v == x.v) (has (map (λ z. z.v) gates) x.v) (gates_have gates x (k, omega arith, is))
@@ -110,7 +112,20 @@ module _ (e : Extended) (steps : List Step) (below : ℕ) (gone : List Bool) (re
       reads = λ v. reads v ∙ ap (λ g. read_by_gates e.gates g.eliminated v + read_by_columns (new_outputs e) k v) (sym added_is);
     }
 
+  -- steps between two groups stay there
+  pub column_at_groups : (k : ℕ) (gs : List (List ℕ)) → below ≡ k + 1 → AreAtGroups e gs steps → AreAtGroups e gs (steps ++ Add k ∷ [])
+  column_at_groups k gs next at = let few = t.low in column_is_pushed e gs steps k at (omega arith) (t.ahead k (omega arith))
+
   -- ---- a gate
+
+  -- With these columns, a gate that isn't eliminated can go where nothing reads it any more.
+  pub gate_can_go : (g : Taken) → g.added ≡ f.added → (x : Gate) → Contains e.gates x → has g.eliminated x.v ≡ false → read_by_gates e.gates g.eliminated x.v + read_by_columns (new_outputs e) below x.v ≡ 0 → CanEliminate e g x.v
+  gate_can_go g same x there new unread = record {
+    gate = gates_have e.gates x there;
+    new = new;
+    readers = All-from_recursion (λ y. (variable_of y.left ≡ x.v) ⊎ (variable_of y.right ≡ x.v) → has g.eliminated y.v ≡ true) e.gates (gates_none e.gates g.eliminated x.v (omega (arith, unread)));
+    outputs = λ k l is reads. ap (λ ks. has ks k) same ∙ t.added k (outputs_within e k l is) (columns_none (new_outputs e) below x.v (omega (arith, unread)) k l is reads);
+  }
 
   module _ (made : IsExtension e) (x : Gate) (there : Contains e.gates x) (new : has f.eliminated x.v ≡ false) where
     less : (v : ℕ) → read_by_gates e.gates f.eliminated v ≡ read_by_gate x v + read_by_gates e.gates (x.v ∷ f.eliminated) v
@@ -135,14 +150,6 @@ module _ (e : Extended) (steps : List Step) (below : ℕ) (gone : List Bool) (re
       gone_is : taken nothing (steps ++ Eliminate x.v ∷ []) ≡ record { added = f.added; eliminated = x.v ∷ f.eliminated }
       gone_is = after (Eliminate x.v)
 
-      goes : CanEliminate e f x.v
-      goes = record {
-        gate = gates_have e.gates x there;
-        new = new;
-        readers = All-from_recursion (λ y. (variable_of y.left ≡ x.v) ⊎ (variable_of y.right ≡ x.v) → has f.eliminated y.v ≡ true) e.gates (gates_none e.gates f.eliminated x.v (omega (arith, unread)));
-        outputs = λ k l is same. t.added k (outputs_within e k l is) (columns_none (new_outputs e) below x.v (omega (arith, unread)) k l is same);
-      }
-
       reads_on : (v : ℕ) → slice_index_or now v 0 ≡ read_by_gates e.gates (x.v ∷ f.eliminated) v + read_by_columns (new_outputs e) below v
       reads_on v = let all = t.reads v in let split = less v in let a = first.each v in let b = second.each v in omega arith
 
@@ -151,7 +158,7 @@ module _ (e : Extended) (steps : List Step) (below : ℕ) (gone : List Bool) (re
 
       pub gate_taken : IsTaking (took e (steps ++ Eliminate x.v ∷ []) below) (slice_set gone x.v true) now
       gate_taken = record {
-        follow = (step_is_pushed e nothing steps (Eliminate x.v)).1 t.follow goes;
+        follow = (step_is_pushed e nothing steps (Eliminate x.v)).1 t.follow (gate_can_go f refl x there new unread);
         low = t.low;
         columns = ap (λ ks. ks ++ count_down below) (columns_pushed steps (Eliminate x.v) ∙ append_nil (columns_added steps)) ∙ t.columns;
         added = λ j low from. ap (λ g. has g.added j) gone_is ∙ t.added j low from;
@@ -164,24 +171,24 @@ module _ (e : Extended) (steps : List Step) (below : ℕ) (gone : List Bool) (re
 
   -- ---- the end
 
-  pub finished : IsExtension e → below ≡ 0 → All (λ x. ¬ (IsReady (took e steps below) x.v)) e.gates → IsSlicePlan e steps
+  pub finished : IsExtension e → below ≡ 0 → All (λ x. ¬ (IsReady (took e steps below) x.v)) e.gates → IsPlan e steps
   finished made none stuck = record {
-    plan = record {
-      follow = t.follow;
-      last = record {
-        all_columns = λ k low. t.added k low (omega arith);
-        all_gates = all_gone e.gates f.eliminated made.acyclic (λ k d low.
-            let v = (slice_index_or e.gates k d).v in
-            ⊎_elim (λ is. inl is) (λ new. inr (read_on v (λ unread. stuck k d low (new, unread)))) (cases_Bool (has f.eliminated v)));
-      };
+    follow = t.follow;
+    last = record {
+      all_columns = λ k low. t.added k low (omega arith);
+      all_gates = all_gone e.gates f.eliminated made.acyclic (λ k d low.
+          let v = (slice_index_or e.gates k d).v in
+          ⊎_elim (λ is. inl is) (λ new. inr (read_on v (λ unread. stuck k d low (new, unread)))) (cases_Bool (has f.eliminated v)));
     };
-    columns = sym (append_nil (columns_added steps)) ∙ ap (λ n. columns_added steps ++ count_down n) (sym none) ∙ t.columns;
   }
     where
       read_on : (v : ℕ) → (still_read (took e steps below) v ≢ 0) → 0 < read_by_gates e.gates f.eliminated v
       read_on v h =
           let columns : read_by_columns (new_outputs e) below v ≡ 0 = ap (λ n. read_by_columns (new_outputs e) n v) none ∙ columns_zero (new_outputs e) v in
           omega (arith, h)
+
+  pub all_added : below ≡ 0 → columns_added steps ≡ count_down (length e.graph.outputs)
+  all_added none = sym (append_nil (columns_added steps)) ∙ ap (λ n. columns_added steps ++ count_down n) (sym none) ∙ t.columns
 
 -- Eliminating a gate leaves fewer.
 pub fewer_left : (old new : Took) (x : Gate) → new.extended ≡ old.extended → new.steps ≡ old.steps ++ Eliminate x.v ∷ [] → Contains old.extended.gates x → IsReady old x.v →

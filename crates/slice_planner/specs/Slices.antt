@@ -1,22 +1,16 @@
--- Slice plans: plans whose columns are added from the last down.
-use Rattle.std.specs.Prelude.{◌≡◌, ℕ, zero, suc, List, [], ◌∷◌, length}
+-- Slice plans: plans whose columns are added from the last down, and whose gates are eliminated group by group.
+use Rattle.std.specs.Prelude.{◌≡◌, List, length}
 use Rattle.graph_core.specs.Graph.Extended.{Extended}
 use Rattle.frontier_core.specs.declared.step.Step.{Step}
-use Rattle.frontier_core.specs.declared.step.Step.TheVariants.{Add, Eliminate}
 use Rattle.frontier_core.specs.Plan.{IsPlan}
+use Rattle.slice_core.specs.AdderLists.{AreAddersAndProducts}
+use Rattle.slice_core.specs.GroupPlans.{AreInOrder}
+use Rattle.slice_core.specs.Groups.{GoesByGroups, groups}
+use Rattle.slice_core.specs.SlicePlan.{columns_added, count_down}
 
--- the columns in the order in which steps add them
-abbrev pub columns_added : List Step → List ℕ
-columns_added [] = []
-columns_added (Add k ∷ steps) = k ∷ columns_added steps
-columns_added (Eliminate v ∷ steps) = columns_added steps
-
--- the numbers below k, from the last down
-abbrev pub count_down : ℕ → List ℕ
-count_down zero = []
-count_down (suc k) = k ∷ count_down k
-
--- A plan that adds the columns from the last down to 0, each once.
+-- A plan that adds the columns from the last down to 0, each once. Over adders and products of inputs, each gate listed
+-- behind those that it reads, it goes by the groups of the list.
 pub record IsSlicePlan (e : Extended) (steps : List Step) : Type 0 where
   pub plan : IsPlan e steps
   pub columns : columns_added steps ≡ count_down (length e.graph.outputs)
+  pub groups : AreAddersAndProducts e.gates → AreInOrder e.gates → GoesByGroups (groups e.gates) steps

@@ -8,7 +8,8 @@ use Rattle.ripple_graft.specs.Extension.{new_outputs}
 use Rattle.frontier_core.specs.declared.step.Step.{Step}
 use Rattle.frontier_core.specs.Plan.{AreSteps, nothing, taken}
 use Rattle.frontier_core.specs.Sets.{has}
-use Rattle.slice_planner.specs.Slices.{columns_added, count_down}
+use Rattle.slice_core.specs.GroupPlans.{AreAtGroups}
+use Rattle.slice_core.specs.SlicePlan.{columns_added, count_down}
 
 -- The steps so far over an extended graph, and from which column on the columns were added.
 pub record Took : Type 0 where
@@ -74,3 +75,7 @@ pub record Lowers (v : ℕ) (old new : List ℕ) : Type 0 where
 abbrev pub left_count : List Gate → List ℕ → ℕ
 left_count [] eliminated = 0
 left_count (x ∷ gates) eliminated = (if has eliminated x.v then 0 else 1) + left_count gates eliminated
+
+-- Steps that end between two groups still do.
+abbrev pub StaysAtGroups : Took → Took → Type 0
+StaysAtGroups old new = (gs : List (List ℕ)) → AreAtGroups old.extended gs old.steps → AreAtGroups old.extended gs new.steps

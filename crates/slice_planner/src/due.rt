@@ -1,26 +1,24 @@
-// The column behind which each gate is due.
-use crate::group::Group;
+// The column behind which each group of gates is due.
+use crate::arrangement::Arrangement;
 use graph_core::{Gate, Memory};
 use ripple_graft::Extended;
 use std::alloc::Global;
 
-/// By column: the places of the gates that are due behind it, in the groups' order, each group's last gate first.
+/// By column: the places of the groups that are due behind it, in their order.
 ///
 /// A group is due behind the least column that has an output of it, or behind which a reader of it is due.
-pub(crate) fn due_places(
+pub(crate) fn due_groups(
     alloc: Global,
     extended: &Extended<'_>,
-    groups: &[Group],
+    arrangement: &Arrangement,
 ) -> Result<Vec<Vec<usize>>, Memory> {
-    let gates = extended.gates();
     let mut columns = output_columns(alloc, extended)?;
     let mut due = no_places(alloc, extended.graph().outputs())?;
-    for group in groups {
-        if let Some(members) = gates.get(group.start..group.end) {
-            let column = least_column(&columns, members);
-            lower_operands(&mut columns, members, column);
-            push_places(&mut due, column, group)?;
-        }
+    for place in 0..arrangement.len() {
+        let members = arrangement.group(place);
+        let column = least_column(&columns, members);
+        lower_operands(&mut columns, members, column);
+        push_place(&mut due, column, place)?;
     }
     Ok(due)
 }
@@ -68,12 +66,10 @@ fn no_places(alloc: Global, columns: u32) -> Result<Vec<Vec<usize>>, Memory> {
     Ok(due)
 }
 
-// The places of a group, the last one first.
-fn push_places(due: &mut Vec<Vec<usize>>, column: u32, group: &Group) -> Result<(), Memory> {
+// One more place at a column.
+fn push_place(due: &mut Vec<Vec<usize>>, column: u32, place: usize) -> Result<(), Memory> {
     if let Some(places) = due.get_mut(column as usize) {
-        for place in (group.start..group.end).rev() {
-            places.push(place)?;
-        }
+        places.push(place)?;
     }
     Ok(())
 }

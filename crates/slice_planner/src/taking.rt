@@ -1,13 +1,21 @@
 // Steps of a slice plan, with what still reads each variable.
-ghost use Rattle.std.specs.Prelude.{◌≡◌, ◌↔◌, ◌<◌, ◌+◌, ◌^◌, ◌++◌, ◌∷◌, ℕ, [], None, Ok, IfOk, IfSome, OnOk, IsTrue};
-ghost use Rattle.std.specs.Prelude.{length, slice_index_or};
+ghost use Rattle.std.specs.Prelude.{◌≡◌, ◌↔◌, ◌<◌, ◌≤◌, ◌+◌, ◌^◌, ◌++◌, ◌∷◌, ℕ, [], None, Ok, IfOk};
+ghost use Rattle.std.specs.Prelude.{IfSome, IsTrue, List, OnOk, length, map, slice_index_or};
 ghost use Rattle.std.specs.List.{All, Contains};
+ghost use Rattle.graph_core.specs.Graph.Literals.{variable_of};
 ghost use Rattle.frontier_core.specs.declared.step.Step.TheVariants as steps;
-ghost use Rattle.slice_planner.specs.Slices.{IsSlicePlan};
-ghost use Rattle.slice_planner.specs.Taking.{IsReady, Lowers, Raises, read_by_gates, still_read, took};
+ghost use Rattle.frontier_core.specs.Plan.{AreSteps, CanEliminate, IsPlan, nothing, taken};
+ghost use Rattle.frontier_core.specs.Sets.{has};
+ghost use Rattle.slice_core.specs.GroupPlans.{AreAtGroups, AreGroups};
+ghost use Rattle.slice_core.specs.Groups.{GoesByGroups};
+ghost use Rattle.slice_core.specs.SlicePlan.{columns_added, count_down, swept};
+ghost use Rattle.slice_planner.specs.Arranged.{lists_in, variables};
+ghost use Rattle.slice_planner.specs.Taking.{IsReady, Lowers, Raises, StaysAtGroups};
+ghost use Rattle.slice_planner.specs.Taking.{is_one, read_by_gates, still_read, took};
 
+use crate::arrangement::Arrangement;
 use frontier_core::Step;
-use graph_core::{Gate, Memory};
+use graph_core::{Gate, Lit, Memory};
 use ripple_graft::Extended;
 use std::alloc::Global;
 use std::marker::Model;
@@ -60,6 +68,7 @@ impl<'a> Taking<'a> {
         ensures lower { IfOk result (λ r. IfSome r (λ k. self.old.below ≡ k + 1)) }
         ensures below { IfOk result (λ r. IfSome r (λ k. self.new.below ≡ k)) }
         ensures none { result ≡ Ok None → self.new.below ≡ 0 }
+        ensures groups { OnOk result (StaysAtGroups self.old self.new) }
     {
         if self.below == 0 {
             return Ok(None);
@@ -74,6 +83,7 @@ impl<'a> Taking<'a> {
         requires next { self.old.below ≡ column + 1 }
         ensures extended { self.new.extended ≡ self.old.extended }
         ensures below { OnOk result (self.new.below ≡ column) }
+        ensures groups { OnOk result (StaysAtGroups self.old self.new) }
     {
         let _gates = self.extended.gates();
         let _outputs = self.extended.graph().outputs();
@@ -84,41 +94,133 @@ impl<'a> Taking<'a> {
         Ok(())
     }
 
-    /// Eliminates those of the gates at these places of the list that can go, one after the other.
-    pub(crate) fn try_places(&mut self, places: &[usize]) -> Result<(), Memory>
+    /// Eliminates those of the groups at these places that can go, one after the other.
+    pub(crate) fn try_due(
+        &mut self,
+        arrangement: &Arrangement,
+        places: &[usize],
+    ) -> Result<(), Memory>
+        requires { All (Contains self.old.extended.gates) arrangement.now.gates }
         ensures extended { self.new.extended ≡ self.old.extended }
         ensures below { self.new.below ≡ self.old.below }
+        ensures groups { OnOk result ((gs : List (List ℕ)) → lists_in arrangement.now ≡ gs →
+            AreGroups self.old.extended gs → AreAtGroups self.old.extended gs self.old.steps →
+            AreAtGroups self.old.extended gs self.new.steps) }
     {
         for place in places {
-            self.try_place(*place)?;
+            self.try_place(arrangement, *place)?;
         }
         Ok(())
     }
 
-    // Eliminates the gate at a place of the list, if there is one and it can go.
-    fn try_place(&mut self, place: usize) -> Result<(), Memory>
+    // Eliminates the group at a place, if there is one and it can go.
+    fn try_place(&mut self, arrangement: &Arrangement, place: usize) -> Result<(), Memory>
+        requires { All (Contains self.old.extended.gates) arrangement.now.gates }
         ensures extended { self.new.extended ≡ self.old.extended }
         ensures below { self.new.below ≡ self.old.below }
+        ensures groups { OnOk result ((gs : List (List ℕ)) → lists_in arrangement.now ≡ gs →
+            AreGroups self.old.extended gs → AreAtGroups self.old.extended gs self.old.steps →
+            AreAtGroups self.old.extended gs self.new.steps) }
     {
-        let gates = self.extended.gates();
-        if place < gates.len() {
-            self.try_gate(gates[place])
+        if place < arrangement.len() {
+            self.try_group(arrangement.group(place))
         } else {
             Ok(())
         }
     }
 
-    // Eliminates a gate, if it can go.
-    fn try_gate(&mut self, gate: Gate) -> Result<(), Memory>
-        requires gate { Contains self.old.extended.gates gate }
+    // Eliminates all groups that can go, each after those before it.
+    fn try_all(&mut self, arrangement: &Arrangement) -> Result<(), Memory>
+        requires { All (Contains self.old.extended.gates) arrangement.now.gates }
         ensures extended { self.new.extended ≡ self.old.extended }
         ensures below { self.new.below ≡ self.old.below }
+        ensures steps { OnOk result (self.new.steps ≡
+            self.old.steps ++ swept self.old.extended (taken nothing self.old.steps) (lists_in arrangement.now)) }
     {
-        if self.can_go(gate) {
-            self.eliminate(gate)
+        for place in 0..arrangement.len() {
+            self.try_group(arrangement.group(place))?;
+        }
+        Ok(())
+    }
+
+    // Eliminates the gates of a group, if all can go.
+    fn try_group(&mut self, group: &[Gate]) -> Result<(), Memory>
+        requires { All (Contains self.old.extended.gates) group.now }
+        ensures extended { self.new.extended ≡ self.old.extended }
+        ensures below { self.new.below ≡ self.old.below }
+        ensures steps { OnOk result (self.new.steps ≡
+            self.old.steps ++ swept self.old.extended (taken nothing self.old.steps) (variables group.now ∷ [])) }
+    {
+        if self.can_all_go(group) {
+            self.eliminate_all(group)
         } else {
             Ok(())
         }
+    }
+
+    // Whether the gates of a group can go, one after the other.
+    fn can_all_go(&self, group: &[Gate]) -> bool
+        requires { All (Contains self.now.extended.gates) group.now }
+        ensures { IsTrue result ↔ AreSteps self.now.extended (taken nothing self.now.steps)
+            (map steps.Eliminate (variables group.now)) }
+    {
+        for (place, gate) in group.iter().enumerate() {
+            if !self.can_go_behind(&group[..place], *gate) {
+                return false;
+            }
+        }
+        true
+    }
+
+    // Whether a gate can go behind others, which can.
+    fn can_go_behind(&self, front: &[Gate], gate: Gate) -> bool
+        requires gate { Contains self.now.extended.gates gate }
+        requires gates { All (Contains self.now.extended.gates) front.now }
+        requires front { AreSteps self.now.extended (taken nothing self.now.steps)
+            (map steps.Eliminate (variables front.now)) }
+        ensures { IsTrue result ↔ CanEliminate self.now.extended
+            (taken (taken nothing self.now.steps) (map steps.Eliminate (variables front.now))) gate.v }
+    {
+        let _gates = self.extended.gates();
+        !self.is_gone_behind(front, gate)
+            && u128::from(self.readers[gate.v as usize]) == reads_of(front, gate.v)
+    }
+
+    // Whether a gate was eliminated, or is one of others.
+    fn is_gone_behind(&self, front: &[Gate], gate: Gate) -> bool
+        requires { Contains self.now.extended.gates gate }
+        ensures { result ≡ has (taken (taken nothing self.now.steps)
+            (map steps.Eliminate (variables front.now))).eliminated gate.v }
+    {
+        let _gates = self.extended.gates();
+        are_of(front, gate.v) || self.gone[gate.v as usize]
+    }
+
+    // Eliminates the gates of a group, which can go one after the other.
+    fn eliminate_all(&mut self, group: &[Gate]) -> Result<(), Memory>
+        requires gates { All (Contains self.old.extended.gates) group.now }
+        requires steps { AreSteps self.old.extended (taken nothing self.old.steps)
+            (map steps.Eliminate (variables group.now)) }
+        ensures extended { self.new.extended ≡ self.old.extended }
+        ensures below { self.new.below ≡ self.old.below }
+        ensures steps { OnOk result (self.new.steps ≡ self.old.steps ++ map steps.Eliminate (variables group.now)) }
+    {
+        for gate in group {
+            self.eliminate_next(*gate)?;
+        }
+        Ok(())
+    }
+
+    // Eliminates a gate whose readers were eliminated, and the columns whose output it is added.
+    fn eliminate_next(&mut self, gate: Gate) -> Result<(), Memory>
+        requires gate { Contains self.old.extended.gates gate }
+        requires next { CanEliminate self.old.extended (taken nothing self.old.steps) gate.v }
+        ensures extended { self.new.extended ≡ self.old.extended }
+        ensures below { self.new.below ≡ self.old.below }
+        ensures steps { OnOk result (self.new.steps ≡ self.old.steps ++ steps.Eliminate gate.v ∷ []) }
+    {
+        let _gates = self.extended.gates();
+        self.eliminate(gate)
     }
 
     // Whether a gate isn't eliminated, and nothing reads it any more.
@@ -160,18 +262,57 @@ impl<'a> Taking<'a> {
         None
     }
 
-    /// Eliminates the gates that are left.
-    pub(crate) fn finish(self) -> Result<Vec<Step>, Memory>
-        requires { self.below ≡ 0 }
-        ensures { IfOk result (λ steps. IsSlicePlan self.entry.extended steps.items) }
+    /// Eliminates the groups that are left, and then whatever gates are.
+    pub(crate) fn finish(self, arrangement: &Arrangement) -> Result<Vec<Step>, Memory>
+        requires below { self.below ≡ 0 }
+        requires gates { All (Contains self.extended.gates) arrangement.now.gates }
+        ensures plan { IfOk result (λ steps. IsPlan self.entry.extended steps.items) }
+        ensures columns { IfOk result (λ steps.
+            columns_added steps.items ≡ count_down (length self.entry.extended.graph.outputs)) }
+        ensures groups { IfOk result (λ steps. (gs : List (List ℕ)) → lists_in arrangement.now ≡ gs →
+            AreGroups self.entry.extended gs → AreAtGroups self.entry.extended gs self.entry.steps →
+            GoesByGroups gs steps.items) }
     {
         let mut taking = self;
         let _gates = taking.extended.gates();
+        taking.try_all(arrangement)?;
         while let Some(gate) = taking.first_ready() {
             taking.eliminate(gate)?;
         }
         Ok(taking.steps)
     }
+}
+
+// Whether a variable is one of these gates'.
+fn are_of(gates: &[Gate], v: u32) -> bool
+    ensures { result ≡ has (variables gates.now) v }
+{
+    for gate in gates {
+        if gate.v == v {
+            return true;
+        }
+    }
+    false
+}
+
+// How many operands of these gates are a variable's.
+#[tactic(auto, using(crate::proofs::GroupSteps::count_low))]
+fn reads_of(gates: &[Gate], v: u32) -> u128
+    ensures { result ≡ read_by_gates gates.now [] v }
+{
+    let mut count = 0;
+    for gate in gates {
+        count += is_of(gate.left, v) + is_of(gate.right, v);
+    }
+    count
+}
+
+// 1 where a literal is a variable's.
+fn is_of(lit: Lit, v: u32) -> u128
+    ensures value { result ≡ is_one (variable_of lit) v }
+    ensures small { result ≤ 1 }
+{
+    u128::from(lit.var() == v)
 }
 
 // How many gate operands and outputs are each variable's.

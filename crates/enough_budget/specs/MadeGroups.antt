@@ -1,0 +1,20 @@
+-- A made graph's gates, and their groups.
+use Rattle.std.specs.Prelude.{◌≡◌, ℕ, ◌<◌, false, List, [], ◌∷◌, map}
+use Rattle.std.specs.List.{All, Any}
+use Rattle.graph_core.specs.declared.gate.Gate.{Gate}
+use Rattle.graph_core.specs.Graph.Literals.{variable_of}
+use Rattle.graph_core.specs.Graph.{Aig, SameUpToOperands}
+use Rattle.frontier_core.specs.Sets.{has}
+use Rattle.graph_maker.specs.declared.kind.Kind.{Kind}
+use Rattle.graph_maker.specs.declared.adder.Adder.TheVariants.{Ripple}
+use Rattle.graph_maker.specs.Made.{made}
+use Rattle.slice_core.specs.AdderLists.{AreAddersAndProducts}
+use Rattle.slice_core.specs.GroupPlans.{AreInOrder}
+
+-- A made graph's gates are in such an order.
+abbrev pub MadeGatesAreInOrder : Type 0
+MadeGatesAreInOrder = (kind : Kind) (n : ℕ) (g : Aig) → 0 < n → SameUpToOperands (made kind n Ripple) g → AreInOrder g.gates
+
+-- They are adders and products of inputs.
+abbrev pub MadeGroupsAreAdders : Type 0
+MadeGroupsAreAdders = (kind : Kind) (n : ℕ) (g : Aig) → 0 < n → SameUpToOperands (made kind n Ripple) g → AreAddersAndProducts g.gates

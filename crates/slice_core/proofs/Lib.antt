@@ -1,0 +1,5 @@
+pub mod Cases
+pub mod Composition
+pub mod GroupPlans
+pub mod ListedGroups
+pub mod SlicePlans
