@@ -22,8 +22,8 @@ use Rattle.frontier_core.proofs.Added.{total_ends}
 use Rattle.column_reducer.specs.declared.gathered.Gathered.{Gathered}
 use Rattle.column_reducer.specs.declared.walk.Walk.{Walk}
 use Rattle.column_reducer.specs.declared.walk.Ended.{Ended}
-use Rattle.pac_writer.specs.Writing.{parts_in}
-use Rattle.column_reducer.specs.Gathering.{AreTotal, HasEnded, IsEnded, IsWalked}
+use Rattle.column_reducer.specs.Gathering.{AreTotal, HasEnded, IsEnded, IsWalked, whole}
+use Rattle.column_reducer.proofs.Counts.{eliminated_few}
 use Rattle.column_reducer.specs.Reducing.{HasSizeAt, IsPassed, IsPlanned, Planned}
 
 -- what was taken after so many steps
@@ -65,24 +65,31 @@ is_passed p s t budget count step n w h is low size above before = record {
   first = λ i k lt has. before i k (omega arith) has;
 }
 
+-- the same of what may be there
+pub may_be_passed : (p : Planned) (s : Sides) (t : Table) (budget count : ℕ) (at : Option (ℕ × ℕ)) (w : Walk) → IsWalked p.extended s t (taken_after p count) w → count ≤ length p.steps →
+    IfSome at (λ r. p.uncounted + r.0 ≡ count) → IfSome at (λ r. budget < r.1) → IfSome at (λ r. HasSize (modulus t) (value_in t w.rest.sum) r.1) →
+    ((i k : ℕ) → p.uncounted + i < count → HasSizeAt p s i k → k ≤ budget) → IfSome at (λ r. IsPassed p s budget r.0 r.1)
+may_be_passed p s t budget count None w h low is above size before = tt
+may_be_passed p s t budget count (Some r) w h low is above size before = is_passed p s t budget count r.0 r.1 w h is low size above before
+
 -- what the groups state in all is the specification minus the rest
-total_at_end : (e : Extended) (s : Sides) (t : Table) (f : Taken) (rest : Sum) (g : Gathered) → modulus t ≡ algebra.modulus e → ((k : ℕ) → k < length e.graph.outputs → has f.added k ≡ true) →
+total_at_end : (e : Extended) (s : Sides) (t : Table) (f : Taken) (rest : Sum) (g : Gathered) → modulus t ≡ algebra.modulus e → ((k : ℕ) → k < length e.graph.outputs → has f.added k ≡ true) → length f.eliminated ≤ length e.gates →
     HasEnded e s t f rest g → AreTotal e s t rest g
-total_at_end e s t f rest g same all h =
+total_at_end e s t f rest g same all few h =
     let m = algebra.modulus e in
     let alone : (σ : Assignment) → (value_in t g.total σ + 0) % m ≡ gap e s f.added (value_in t rest) σ = λ σ.
-    sym (ap (λ ps. (value_in t g.total σ + combined m (axioms e).live (parts_in t ps) σ) % m) h.none) ∙ h.gathered.pending.sum σ in
+    sym (ap (λ ps. (value_in t g.total σ + combined m (axioms e).live (whole t g.power ps) σ) % m) h.none) ∙ h.gathered.pending.sum σ in
     record {
       groups = h.gathered.groups;
-      few = h.few;
+      few = let low = h.few in omega arith;
       total = λ σ. sym (mod-mod (sum_of (modulus t) (monomials_in t g.total) σ) (modulus t)) ∙ ap (λ k. value_in t g.total σ % k) same ∙ ap (λ z. z % m) (omega arith) ∙
           alone σ ∙ (total_ends e s f.added (value_in t rest) all).0 σ;
     }
 
-option_total : (e : Extended) (s : Sides) (t : Table) (f : Taken) (rest : Sum) (g : Option Gathered) → modulus t ≡ algebra.modulus e → ((k : ℕ) → k < length e.graph.outputs → has f.added k ≡ true) →
+option_total : (e : Extended) (s : Sides) (t : Table) (f : Taken) (rest : Sum) (g : Option Gathered) → modulus t ≡ algebra.modulus e → ((k : ℕ) → k < length e.graph.outputs → has f.added k ≡ true) → length f.eliminated ≤ length e.gates →
     IfSome g (HasEnded e s t f rest) → IfSome g (AreTotal e s t rest)
-option_total e s t f rest None same all h = tt
-option_total e s t f rest (Some g) same all h = total_at_end e s t f rest g same all h
+option_total e s t f rest None same all few h = tt
+option_total e s t f rest (Some g) same all few h = total_at_end e s t f rest g same all few h
 
 pub is_ended : (p : Planned) (s : Sides) (t0 t : Table) (budget : ℕ) (w : Walk) (last : Ended) → IsPlanned p → Extends t0 t → IsWalked p.extended s t0 (taken_after p (length p.steps)) w → last.rest ≡ w.rest.sum →
     ((i n : ℕ) → p.uncounted + i < length p.steps + 1 → HasSizeAt p s i n → n ≤ budget) → IfSome last.gathered (HasEnded p.extended s t (taken_after p (length p.steps)) last.rest) →
@@ -92,5 +99,6 @@ is_ended p s t0 t budget w last plan grown h same within total = record {
   last = λ σ. ap (λ r. value_in t r σ) same ∙ value_stays t0 t w.rest.sum σ grown h.of ∙ h.value σ;
   within = λ i n low has. within i n (omega arith) has;
   total = option_total p.extended s t (taken_after p (length p.steps)) last.rest last.gathered (modulus_stays t0 t grown ∙ h.same_modulus)
-      (subst (λ ss. (k : ℕ) → k < length p.extended.graph.outputs → has (taken nothing ss).added k ≡ true) (sym (take-length p.steps)) plan.plan.last.all_columns) total;
+      (subst (λ ss. (k : ℕ) → k < length p.extended.graph.outputs → has (taken nothing ss).added k ≡ true) (sym (take-length p.steps)) plan.plan.last.all_columns)
+      (subst (λ ss. length (taken nothing ss).eliminated ≤ length p.extended.gates) (sym (take-length p.steps)) (eliminated_few p.extended p.steps plan.plan.follow)) total;
 }

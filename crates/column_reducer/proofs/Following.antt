@@ -44,15 +44,15 @@ follows_in e other f plan steps i d same all h =
     subst (λ x. CanFollow x f (get_or steps i d)) (sym same) (subst (λ ss. CanFollow e f (get_or ss i d)) (sym all) h)
 
 -- a step and what follows it
-pub step_walked : (e other : Extended) (s : Sides) (t0 t1 t2 : Table) (plan steps : List Step) (i n : ℕ) (d : Step) (w0 w1 w2 : Walk) → other ≡ e → steps ≡ plan → AreSteps e nothing plan → i < length plan → n ≡ length other.gates →
+pub step_walked : (e other : Extended) (s : Sides) (t0 t1 t2 : Table) (plan steps : List Step) (i : ℕ) (d : Step) (w0 w1 w2 : Walk) → other ≡ e → steps ≡ plan → AreSteps e nothing plan → i < length plan →
     ((f : Taken) → IsFrontierOf other f → CanFollow other f (get_or steps i d) → IsWalked other s t0 f w0 → IsWalked other s t1 (step f (get_or steps i d)) w1) →
-    ((x : Extended) (k : Sides) (f : Taken) → n ≡ length x.gates → IsWalked x k t1 f w1 → IsWalked x k t2 f w2) →
+    ((x : Extended) (k : Sides) (f : Taken) → IsWalked x k t1 f w1 → IsWalked x k t2 f w2) →
     IsWalked e s t0 (taken nothing (take i plan)) w0 → IsWalked e s t2 (taken nothing (take (i + 1) plan)) w2
-step_walked e other s t0 t1 t2 plan steps i n d w0 w1 w2 same all follow low most steps_on settles h =
+step_walked e other s t0 t1 t2 plan steps i d w0 w1 w2 same all follow low steps_on settles h =
     let f = taken nothing (take i plan) in
     let here : (g : Taken) → IsFrontierOf e g → CanFollow e g (get_or steps i d) → IsWalked e s t0 g w0 → IsWalked e s t1 (step g (get_or steps i d)) w1 =
     subst (λ x. (g : Taken) → IsFrontierOf x g → CanFollow x g (get_or steps i d) → IsWalked x s t0 g w0 → IsWalked x s t1 (step g (get_or steps i d)) w1) same steps_on in
     let there : (g : Taken) → IsFrontierOf e g → CanFollow e g (get_or plan i d) → IsWalked e s t0 g w0 → IsWalked e s t1 (step g (get_or plan i d)) w1 =
     subst (λ ss. (g : Taken) → IsFrontierOf e g → CanFollow e g (get_or ss i d) → IsWalked e s t0 g w0 → IsWalked e s t1 (step g (get_or ss i d)) w1) all here in
-    settles e s (taken nothing (take (i + 1) plan)) (most ∙ ap (λ x. length x.gates) same)
+    settles e s (taken nothing (take (i + 1) plan))
     (subst (λ g. IsWalked e s t1 g w1) (sym (taken_more plan i d low)) (there f (plan_leaves_frontiers e plan i follow).0 (follows_at e plan i d follow low) h))

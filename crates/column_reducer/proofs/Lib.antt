@@ -3,6 +3,7 @@ pub mod Sizes
 pub mod Eliminations
 pub mod Grown
 pub mod Taken
+pub mod Columns
 pub mod Walks
 pub mod Following
 pub mod Ends
@@ -10,3 +11,4 @@ pub mod Fixed
 pub mod Written
 pub mod Finish
 pub mod PlainSteps
+pub mod Counts

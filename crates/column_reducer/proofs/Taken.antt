@@ -1,71 +1,174 @@
 -- What is gathered before the first step, after a part was taken, and after a group was ended.
-use Rattle.std.specs.Prelude.{◌≡◌, ℕ, ◌+◌, ◌%◌, ◌<◌, ◌≤◌, true, false, List, [], ◌∷◌, ◌++◌, map, length, suc}
+use Rattle.std.specs.Prelude.{◌≡◌, ◌≢◌, ℕ, ◌+◌, ◌*◌, ◌%◌, ◌^◌, ◌<◌, ◌≤◌, true, false, List, [], ◌∷◌, ◌++◌, map, length, suc, sum_by, IfSome}
+use Rattle.std.specs.List.{All, AllByRecursion, AllPairs, Contains}
 use Rattle.std.specs.declared.option.Option.{Option}
 use Rattle.std.specs.declared.option.Option.TheVariants.{None, Some}
-use Rattle.std.specs.List.{Contains}
-use Rattle.std.proofs.Common.{refl, sym, ap, ap₂, subst, ◌∙◌, arith}
-use Rattle.std.proofs.Math.Nat.{zero-mod, mod-mod, add-mod-mod, mod-add-mod}
+use Rattle.std.proofs.Common.{length-append, refl, sym, ap, ap₂, subst, ◌∙◌, arith}
+use Rattle.std.proofs.Math.Nat.{zero-mod, mod-mod, mod-add-mod}
 use Rattle.std.proofs.Math.Path.{fun_ext}
-use Rattle.std.proofs.lemmas.List.Elements.{All-contains, All-push}
+use Rattle.std.proofs.lemmas.List.Elements.{All-contains, All-from_recursion, All-push, recursion_from_All}
+use Rattle.std.proofs.lemmas.List.Kept.{AllPairs-cons}
+use Rattle.std.proofs.lemmas.List.Sums.{sum_by-append, sum_by-cons}
+use Rattle.std.proofs.lemmas.Nat.{pow_pos}
 use Rattle.graph_core.specs.declared.gate.Gate.{Gate}
 use Rattle.graph_core.specs.declared.literal.Lit.{Lit}
 use Rattle.graph_core.specs.Graph.Assignments.{Assignment}
 use Rattle.graph_core.specs.Graph.Operands.{Sides}
 use Rattle.graph_core.specs.Graph.Extended.{Extended}
-use Rattle.graph_core.specs.Algebra.{Part, IsLive, axioms, combined, gate_axiom, value_of}
+use Rattle.graph_core.specs.Algebra.{LiveLine, Part, IsLive, axioms, combined, gate_axiom, value_of}
 use Rattle.graph_core.specs.Algebra as algebra
-use Rattle.graph_core.specs.Algebra.Polynomials.{difference, sum_of, value}
-use Rattle.graph_core.proofs.OfGraphs.CallerLemmas.{difference_is}
-use Rattle.graph_core.proofs.OfAlgebra.CallerLemmas.{modulus_pos}
+use Rattle.graph_core.specs.Algebra.Polynomials.{difference, product, sum_of, value}
+use Rattle.graph_core.proofs.OfGraphs.CallerLemmas.{product_same, sum_same}
 use Rattle.frontier_core.specs.Frontier.{set_to}
 use Rattle.pac_writer.specs.Writing.{IsOver, parts_in}
-use Rattle.ripple_graft.specs.Extension.{IsExtension}
-use Rattle.poly_terms.specs.Tables.{Table, Sum, Extends, IsOf, modulus, monomials_in, value_in}
+use Rattle.poly_terms.specs.Tables.{Table, Sum, Extends, IsOf, modulus, monomials_in, value_in, variables_in}
+use Rattle.poly_terms.specs.Entries.{total}
+use Rattle.poly_terms.proofs.Values.{value-total}
+use Rattle.poly_text.specs.Lines.{part_in}
 use Rattle.poly_terms.specs.Laws.{extends_on, modulus_stays, stays, value_stays}
 use Rattle.frontier_core.specs.Sets.{has}
 use Rattle.frontier_core.specs.declared.step.Step.TheVariants.{Eliminate}
 use Rattle.frontier_core.specs.Plan.{Taken, nothing, step}
-use Rattle.frontier_core.specs.Pending.{IsGained, IsPending, gap}
+use Rattle.frontier_core.specs.Pending.{AreSpare, IsNotZero, IsPending, gap}
 use Rattle.frontier_core.specs.Substitution.{gate_value, quotient, substituted}
 use Rattle.frontier_core.specs.Columns.{columns_sum}
 use Rattle.frontier_core.specs.RestLine.{partial_specification}
-use Rattle.frontier_core.proofs.Gathered.{gain_starts, gap_small, pending_eliminates, pending_starts}
+use Rattle.frontier_core.proofs.Gathered.{combined_push, pending_eliminates, pending_starts}
 use Rattle.frontier_core.proofs.LineLemmas.{axioms_are_live}
 use Rattle.frontier_core.proofs.PlainOrders.{gates_had}
 use Rattle.frontier_core.proofs.RestLines.{rest_line_starts}
-use Rattle.column_reducer.specs.declared.elimination.Elimination.{Elimination}
 use Rattle.column_reducer.specs.declared.gathered.Gathered.{Gathered}
 use Rattle.column_reducer.specs.declared.gathered.Group.{Group}
-use Rattle.column_reducer.specs.Gathering.{AreGroups, AreParts, HasTaken, IsEliminated, IsFixedAbove, IsGathered, IsGroup, IsOpposite, IsTurned, Takes, groups_sum}
-use Rattle.column_reducer.proofs.Fixed.{over_fixed, quotient_fixed, same_fixed}
-use Rattle.column_reducer.proofs.Grown.{gathered_grown}
+use Rattle.column_reducer.specs.Gathering.{AreColumns, AreGroups, AreOfAdded, AreParts, HasPart, HasPower, HasTaken, IsEndedGroup, IsFixedAbove, IsGathered, IsGroup, IsNext, IsTurned, Settles, groups_sum, one_if_some, times, whole}
+use Rattle.column_reducer.proofs.Fixed.{axiom_fixed, fixed_over, over_fixed, over_same, quotient_fixed, same_fixed}
+use Rattle.column_reducer.proofs.Grown.{gathered_grown, over_grown, products_sum}
+
+-- ---- factors that are 2^k times as great
+
+total_times : (F : ℕ → ℕ) (w : ℕ) (p : Sum) → total F (times w p) ≡ w * total F p
+total_times F w [] = omega arith
+total_times F w (e ∷ es) = ap (λ n. w * e.1 * F e.0 + n) (total_times F w es) ∙ omega arith
+
+pub times_value : (t : Table) (w : ℕ) (p : Sum) (σ : Assignment) → value_in t (times w p) σ ≡ (w * value_in t p σ) % modulus t
+times_value t w p σ =
+    let m = modulus t in
+    let F : ℕ → ℕ = λ k. product σ (variables_in t k) in
+    value-total t (times w p) σ ∙ ap (λ n. n % m) (total_times F w p) ∙ sym (product_same m w w (total F p % m) (total F p) refl (mod-mod (total F p) m)) ∙
+    ap (λ n. (w * n) % m) (sym (value-total t p σ))
+
+whole_sum : (t : Table) (live : List LiveLine) (k : ℕ) (parts : List (ℕ × Sum)) (σ : Assignment) →
+    combined (modulus t) live (whole t k parts) σ % modulus t ≡ (2 ^ k * combined (modulus t) live (parts_in t parts) σ) % modulus t
+whole_sum t live k [] σ = ap (λ n. n % modulus t) (omega arith)
+whole_sum t live k (p ∷ parts) σ =
+    let m = modulus t in
+    let w = 2 ^ k in
+    let l = value_of live p.0 σ in
+    let v = value_in t p.1 σ in
+    let c = combined m live (parts_in t parts) σ in
+    let one : (l * value_in t (times w p.1) σ) % m ≡ (w * (l * v)) % m =
+    ap (λ x. (l * x) % m) (times_value t w p.1 σ) ∙ product_same m l l ((w * v) % m) (w * v) refl (mod-mod (w * v) m) ∙ ap (λ n. n % m) (omega arith) in
+    sum_same m (l * value_in t (times w p.1) σ) (w * (l * v)) (combined m live (whole t k parts) σ) (w * c) one (whole_sum t live k parts σ) ∙
+    ap (λ n. n % m) (let e : w * (l * v) + w * c ≡ w * (l * v + c) = omega arith in e)
+
+-- the same where the modulus is the graph's
+pub whole_is : (e : Extended) (t : Table) (live : List LiveLine) (k : ℕ) (parts : List (ℕ × Sum)) (σ : Assignment) → modulus t ≡ algebra.modulus e →
+    combined (algebra.modulus e) live (whole t k parts) σ % algebra.modulus e ≡ (2 ^ k * combined (algebra.modulus e) live (parts_in t parts) σ) % algebra.modulus e
+whole_is e t live k parts σ same = subst (λ m. combined m live (whole t k parts) σ % m ≡ (2 ^ k * combined m live (parts_in t parts) σ) % m) same (whole_sum t live k parts σ)
+
+-- parts are spare where they are so 2^k times as great
+spare_parts : (t : Table) (lines : List LiveLine) (k : ℕ) (parts : List (ℕ × Sum)) → AreSpare (modulus t) lines (whole t k parts) → AreSpare (modulus t) lines (parts_in t parts)
+spare_parts t lines k parts h = record {
+  live = All-from_recursion (λ p. IsLive lines p.id) (parts_in t parts) (live_along parts (recursion_from_All (λ p. IsLive lines p.id) (whole t k parts) h.live));
+  once = once_along parts h.once;
+  nonzero = All-from_recursion (λ p. IsNotZero (modulus t) p.factor) (parts_in t parts) (nonzero_along parts (recursion_from_All (λ p. IsNotZero (modulus t) p.factor) (whole t k parts) h.nonzero));
+}
+  where
+    live_along : (ps : List (ℕ × Sum)) → AllByRecursion (λ p. IsLive lines p.id) (whole t k ps) → AllByRecursion (λ p. IsLive lines p.id) (parts_in t ps)
+    live_along [] h = tt
+    live_along (p ∷ ps) h = (h.0, live_along ps h.1)
+
+    nonzero_along : (ps : List (ℕ × Sum)) → AllByRecursion (λ p. IsNotZero (modulus t) p.factor) (whole t k ps) → AllByRecursion (λ p. IsNotZero (modulus t) p.factor) (parts_in t ps)
+    nonzero_along [] h = tt
+    nonzero_along (p ∷ ps) h = (
+      (λ none. h.0 (λ σ. times_value t (2 ^ k) p.1 σ ∙ ap (λ n. (2 ^ k * n) % modulus t) (none σ) ∙ ap (λ n. n % modulus t) (let e : 2 ^ k * 0 ≡ 0 = omega arith in e) ∙ zero-mod (modulus t))),
+      nonzero_along ps h.1,
+    )
+
+    apart_along : (i : ℕ) (ps : List (ℕ × Sum)) → AllByRecursion (λ q. i ≢ q.id) (whole t k ps) → AllByRecursion (λ q. i ≢ q.id) (parts_in t ps)
+    apart_along i [] h = tt
+    apart_along i (p ∷ ps) h = (h.0, apart_along i ps h.1)
+
+    once_along : (ps : List (ℕ × Sum)) → AllPairs (λ p q. p.id ≢ q.id) (whole t k ps) → AllPairs (λ p q. p.id ≢ q.id) (parts_in t ps)
+    once_along [] h = λ i j d lt within. absurd (omega arith)
+    once_along (p ∷ ps) h =
+        AllPairs-cons (λ (q : Part) (r : Part). q.id ≢ r.id) (part_in t p) (parts_in t ps)
+        (All-from_recursion (λ q. p.0 ≢ q.id) (parts_in t ps) (apart_along p.0 ps (recursion_from_All (λ q. p.0 ≢ q.id) (whole t k ps) (λ j d low. h 0 (suc j) d (omega arith) (omega arith)))))
+        (once_along ps (λ i j d lt within. h (suc i) (suc j) d (omega arith) (omega arith)))
 
 -- ---- before the first step
 
 no_parts : (e : Extended) (t : Table) → AreParts e t []
 no_parts e t = record { of = λ k d low. absurd (omega arith); gates = λ k d low. absurd (omega arith) }
 
-no_groups : (e : Extended) (t : Table) (total : Sum) → IsOf t total → ((σ : Assignment) → value_in t total σ ≡ 0) → AreGroups e t [] total
-no_groups e t total of none = record { groups = λ k d low. absurd (omega arith); of = of; fixed = λ v b σ above. none (set_to v b σ) ∙ sym (none σ); sum = λ σ. zero-mod (algebra.modulus e) ∙ sym (none σ) }
+no_columns : (e : Extended) (t : Table) → AreColumns e t []
+no_columns e t = record {
+  over = λ k d low. absurd (omega arith);
+  nonzero = λ k d low. absurd (omega arith);
+  live = λ k d low. absurd (omega arith);
+  once = λ i j d lt within. absurd (omega arith);
+  ids = λ k d low. absurd (omega arith);
+}
 
-pub gathered_first : (e : Extended) (s : Sides) (t : Table) (rest : Assignment → ℕ) (g : Gathered) → g.groups.items ≡ [] → g.parts.items ≡ [] → IsOf t g.total →
-    ((σ : Assignment) → value_in t g.total σ ≡ 0) → IsOf t g.known → ((σ : Assignment) → value_in t g.known σ ≡ 0) → ((σ : Assignment) → rest σ ≡ 0) → IsGathered e s t nothing rest g
-gathered_first e s t rest g groups parts of none of_known known_none rest_none =
-    let start : gap e s [] rest ≡ value_in t g.total = fun_ext (λ σ. sym (rest_line_starts e s (λ τ. 0) rest (λ τ. refl) rest_none σ) ∙ sym (none σ)) in
+no_groups : (e : Extended) (t : Table) (total : Sum) → IsOf t total → ((σ : Assignment) → value_in t total σ ≡ 0) → AreGroups e t [] [] total
+no_groups e t total of none = record {
+  groups = λ k d low. absurd (omega arith);
+  of_columns = no_columns e t;
+  of = of;
+  fixed = λ v b σ above. none (set_to v b σ) ∙ sym (none σ);
+  sum = λ σ. zero-mod (algebra.modulus e) ∙ sym (none σ);
+}
+
+-- no part is open, and the ended groups state the gap
+nothing_open : (e : Extended) (s : Sides) (t : Table) (f : Taken) (rest : Assignment → ℕ) (g : Gathered) → AreGroups e t g.groups.items g.columns.items g.total → AreOfAdded e f.added g.columns.items →
+    ((σ : Assignment) → value_in t g.total σ ≡ gap e s f.added rest σ) → g.power < t.exponent → g.parts.items ≡ [] → g.products.items ≡ [] → IsGathered e s t f rest g
+nothing_open e s t f rest g groups added is low parts products =
+    let m = algebra.modulus e in
+    let live = (axioms e).live in
     record {
-      groups = subst (λ gs. AreGroups e t gs g.total) (sym groups) (no_groups e t g.total of none);
+      groups = groups;
+      added = added;
       parts = subst (AreParts e t) (sym parts) (no_parts e t);
-      pending = subst (λ ps. IsPending e s (axioms e).live (value_in t g.total) nothing rest (parts_in t ps)) (sym parts)
-          (subst (λ (h : Assignment → ℕ). IsPending e s (axioms e).live h nothing rest []) start (pending_starts e s (axioms e).live nothing rest));
-      of_known = of_known;
-      known = gain_starts e s [] (value_in t g.known) known_none;
+      fixed = subst (λ ps. IsFixedAbove e.max (combined m live (parts_in t ps))) (sym parts) (λ v b σ above. refl);
+      low = low;
+      pending = subst (λ ps. IsPending e s live (value_in t g.total) f rest (whole t g.power ps)) (sym parts)
+          (subst (λ (h : Assignment → ℕ). IsPending e s live h f rest []) (sym (fun_ext is)) (pending_starts e s live f rest));
+      products = subst (All (IsOf t)) (sym products) (λ k d low. absurd (omega arith));
+      sum = λ σ. ap (λ ps. sum_by (λ p. value_in t p σ) ps % m) products ∙ sym (ap (λ ps. combined m live (parts_in t ps) σ % m) parts);
     }
+
+pub gathered_first : (e : Extended) (s : Sides) (t : Table) (rest : Assignment → ℕ) (g : Gathered) → g.groups.items ≡ [] → g.columns.items ≡ [] → g.parts.items ≡ [] → g.products.items ≡ [] → g.power < t.exponent → IsOf t g.total →
+    ((σ : Assignment) → value_in t g.total σ ≡ 0) → ((σ : Assignment) → rest σ ≡ 0) → IsGathered e s t nothing rest g
+gathered_first e s t rest g groups columns parts products low of none rest_none =
+    nothing_open e s t nothing rest g (subst (λ gs. AreGroups e t gs g.columns.items g.total) (sym groups) (subst (λ cs. AreGroups e t [] cs g.total) (sym columns) (no_groups e t g.total of none)))
+    (subst (AreOfAdded e []) (sym columns) (λ k d low'. absurd (omega arith)))
+    (λ σ. none σ ∙ rest_line_starts e s (λ τ. 0) rest (λ τ. refl) rest_none σ) low parts products
+
+-- the same groups and columns' parts
+pub groups_moved : (e : Extended) (t : Table) (g more : Gathered) → more.groups ≡ g.groups → more.columns ≡ g.columns → more.total ≡ g.total → AreGroups e t g.groups.items g.columns.items g.total →
+    AreGroups e t more.groups.items more.columns.items more.total
+groups_moved e t g more groups columns total h =
+    subst (λ gs. AreGroups e t gs.items more.columns.items more.total) (sym groups)
+    (subst (λ cs. AreGroups e t g.groups.items cs.items more.total) (sym columns) (subst (AreGroups e t g.groups.items g.columns.items) (sym total) h))
 
 -- ---- a part more
 
-part_pushed : (t : Table) (xs : List (ℕ × Sum)) (x : ℕ × Sum) → parts_in t (xs ++ x ∷ []) ≡ parts_in t xs ++ record { id = x.0; factor = monomials_in t x.1 } ∷ []
+pub part_pushed : (t : Table) (xs : List (ℕ × Sum)) (x : ℕ × Sum) → parts_in t (xs ++ x ∷ []) ≡ parts_in t xs ++ record { id = x.0; factor = monomials_in t x.1 } ∷ []
 part_pushed t [] x = refl
 part_pushed t (y ∷ xs) x = ap (λ ps. record { id = y.0; factor = monomials_in t y.1 } ∷ ps) (part_pushed t xs x)
+
+whole_pushed : (t : Table) (k : ℕ) (xs : List (ℕ × Sum)) (x : ℕ × Sum) → whole t k (xs ++ x ∷ []) ≡ whole t k xs ++ record { id = x.0; factor = monomials_in t (times (2 ^ k) x.1) } ∷ []
+whole_pushed t k [] x = refl
+whole_pushed t k (y ∷ xs) x = ap (λ ps. record { id = y.0; factor = monomials_in t (times (2 ^ k) y.1) } ∷ ps) (whole_pushed t k xs x)
 
 parts_pushed : (e : Extended) (t : Table) (parts : List (ℕ × Sum)) (x : Gate) (factor : Sum) → Contains e.gates x → IsOver e.max t factor → AreParts e t parts → AreParts e t (parts ++ (x.v, factor) ∷ [])
 parts_pushed e t parts x factor c of h = record {
@@ -74,114 +177,137 @@ parts_pushed e t parts x factor c of h = record {
       (All-contains (λ y. has (map (λ z. z.v) e.gates) y.v ≡ true) e.gates x (gates_had e.gates) c);
 }
 
--- what is known of a gate that is eliminated
-pub record IsNext (e : Extended) (f : Taken) (x : Gate) : Type 0 where
-  pub made : IsExtension e
-  pub gate : Contains e.gates x
-  pub new : has f.eliminated x.v ≡ false
-
 pub above_zero : (e : Extended) (f : Taken) (x : Gate) → IsNext e f x → 0 < x.v
 above_zero e f x h = All-contains (λ y. 0 < y.v) e.gates x h.made.defined_once.gates h.gate
 
 within : (e : Extended) (f : Taken) (x : Gate) → IsNext e f x → x.v ≤ e.max
 within e f x h = All-contains (λ y. y.v ≤ e.max) e.gates x h.made.gates_in_range h.gate
 
-none_taken : (e : Extended) (s : Sides) (t0 t : Table) (f : Taken) (p next : Sum) (g more : Gathered) (x : Gate) → IsNext e f x → modulus t0 ≡ algebra.modulus e →
-    ((σ : Assignment) → value_in t next σ ≡ substituted (modulus t0) x.v (gate_value x) (value_in t0 p) σ) → ((σ : Assignment) → quotient (modulus t0) x.v (value_in t0 p) σ ≡ 0) →
-    more ≡ g → IsGathered e s t f (value_in t0 p) g → IsGathered e s t (step f (Eliminate x.v)) (value_in t next) more
-none_taken e s t0 t f p next g more x is same next_is none unchanged h =
-    let law = pending_eliminates e s (axioms e).live (value_in t g.total) (value_in t0 p) (value_in t next) f (parts_in t g.parts.items) x h.pending (above_zero e f x is) (within e f x is) is.new
-    (λ σ. next_is σ ∙ ap (λ m. substituted m x.v (gate_value x) (value_in t0 p) σ) same) in
-    subst (IsGathered e s t (step f (Eliminate x.v)) (value_in t next)) (sym unchanged)
-    (record {
-      groups = h.groups;
-      parts = h.parts;
-      pending = law.0 (λ σ. sym (ap (λ m. quotient m x.v (value_in t0 p) σ) same) ∙ none σ);
-      of_known = h.of_known;
-      known = h.known;
-    })
+-- no term has the gate's variable
+pub none_taken : (e : Extended) (s : Sides) (t : Table) (f : Taken) (rest next : Assignment → ℕ) (g : Gathered) (x : Gate) → IsNext e f x →
+    ((σ : Assignment) → next σ ≡ substituted (algebra.modulus e) x.v (gate_value x) rest σ) → ((σ : Assignment) → quotient (algebra.modulus e) x.v rest σ ≡ 0) →
+    IsGathered e s t f rest g → IsGathered e s t (step f (Eliminate x.v)) next g
+none_taken e s t f rest next g x is next_is none h =
+    let law = pending_eliminates e s (axioms e).live (value_in t g.total) rest next f (whole t g.power g.parts.items) x h.pending (above_zero e f x is) (within e f x is) is.new next_is in
+    record { groups = h.groups; added = h.added; parts = h.parts; fixed = h.fixed; low = h.low; pending = law.0 none; products = h.products; sum = h.sum }
 
-one_taken : (e : Extended) (s : Sides) (t0 t : Table) (f : Taken) (p next : Sum) (g more : Gathered) (x : Gate) (q : Sum) → IsNext e f x → modulus t0 ≡ algebra.modulus e → IsFixedAbove e.max (value_in t0 p) →
-    ((σ : Assignment) → value_in t next σ ≡ substituted (modulus t0) x.v (gate_value x) (value_in t0 p) σ) → IsOpposite (modulus t0) t (quotient (modulus t0) x.v (value_in t0 p)) q → modulus t ≡ algebra.modulus e →
-    HasTaken x.v q g more → IsGathered e s t f (value_in t0 p) g → IsGathered e s t (step f (Eliminate x.v)) (value_in t next) more
-one_taken e s t0 t f p next g more x q is same fixed next_is by here taken h =
+-- a factor of which 2^k times is minus the quotient
+pub part_taken : (e : Extended) (s : Sides) (t0 t : Table) (f : Taken) (rest next full : Assignment → ℕ) (g more : Gathered) (x : Gate) (factor : Sum) → IsNext e f x → modulus t0 ≡ algebra.modulus e → Extends t0 t →
+    ((σ : Assignment) → next σ ≡ substituted (algebra.modulus e) x.v (gate_value x) rest σ) → IsOver e.max t0 factor → ((σ : Assignment) → (2 ^ g.power * value_in t0 factor σ) % modulus t0 ≡ full σ) →
+    ((σ : Assignment) → full σ ≡ difference (algebra.modulus e) 0 (quotient (algebra.modulus e) x.v rest σ)) → (((σ : Assignment) → full σ ≡ 0) → ⊥) →
+    HasPart t0 t x factor g more → IsGathered e s t0 f rest g → IsGathered e s t (step f (Eliminate x.v)) next more
+part_taken e s t0 t f rest next full g more x factor is same grown next_is over divided full_is nonzero has h0 =
     let m = algebra.modulus e in
     let live = (axioms e).live in
-    let part : Part = record { id = x.v; factor = monomials_in t q } in
-    let over : IsOver e.max t q = over_fixed e.max t q by.of
-    (same_fixed e.max (value_in t q) (λ σ. difference (modulus t0) 0 (quotient (modulus t0) x.v (value_in t0 p) σ)) by.minus
-    (λ v b σ above. ap (difference (modulus t0) 0) (quotient_fixed e.max (modulus t0) x.v (value_in t0 p) (within e f x is) fixed v b σ above))) in
+    let k = g.power in
+    let h = gathered_grown e s t0 t f rest g grown h0 in
+    let here : modulus t ≡ m = modulus_stays t0 t grown ∙ same in
+    let over_now : IsOver e.max t factor = over_grown e.max t0 t factor grown over in
+    let part : Part = record { id = x.v; factor = monomials_in t (times (2 ^ k) factor) } in
     let axiom_live = (axioms_are_live e is.made).0 x is.gate in
-    let line : parts_in t more.parts.items ≡ parts_in t g.parts.items ++ part ∷ [] = ap (parts_in t) taken.parts ∙ part_pushed t g.parts.items (x.v, q) in
-    let factor_is : (σ : Assignment) → value m (monomials_in t q) σ ≡ value_in t q σ = λ σ. ap (λ k. value k (monomials_in t q) σ) (sym here) in
-    let law = pending_eliminates e s live (value_in t g.total) (value_in t0 p) (value_in t next) f (parts_in t g.parts.items) x h.pending (above_zero e f x is) (within e f x is) is.new
-    (λ σ. next_is σ ∙ ap (λ k. substituted k x.v (gate_value x) (value_in t0 p) σ) same) in
-    let pending = law.1 part refl axiom_live.0 axiom_live.1
-    (λ σ. factor_is σ ∙ by.minus σ ∙ ap (λ k. difference k 0 (quotient k x.v (value_in t0 p) σ)) same)
-    (λ none. by.nonzero (λ σ. ap (λ k. value k (monomials_in t q) σ) same ∙ none σ)) in
+    let law = pending_eliminates e s live (value_in t g.total) rest next f (whole t k g.parts.items) x h.pending (above_zero e f x is) (within e f x is) is.new next_is in
+    let part_is : (σ : Assignment) → value m (monomials_in t (times (2 ^ k) factor)) σ ≡ full σ = λ σ.
+    ap (λ n. value n (monomials_in t (times (2 ^ k) factor)) σ) (sym here) ∙ times_value t (2 ^ k) factor σ ∙
+    ap₂ (λ n v. (2 ^ k * v) % n) (modulus_stays t0 t grown) (value_stays t0 t factor σ grown over.0) ∙ divided σ in
+    let pending = law.1 part refl axiom_live.0 axiom_live.1 (λ σ. part_is σ ∙ full_is σ) (λ none. nonzero (λ σ. sym (part_is σ) ∙ none σ)) in
+    let line : (σ : Assignment) → combined m live (parts_in t more.parts.items) σ ≡ combined m live (parts_in t g.parts.items) σ + value_of live x.v σ * value m (monomials_in t factor) σ = λ σ.
+    ap (λ ps. combined m live (parts_in t ps) σ) has.parts ∙ ap (λ ps. combined m live ps σ) (part_pushed t g.parts.items (x.v, factor)) ∙
+    combined_push m live (parts_in t g.parts.items) (record { id = x.v; factor = monomials_in t factor }) σ in
+    let factor_is : (σ : Assignment) → value m (monomials_in t factor) σ ≡ value_in t factor σ = λ σ. ap (λ n. value n (monomials_in t factor) σ) (sym here) in
+    let product_is : (σ : Assignment) → value_in t has.product σ % m ≡ (value_of live x.v σ * value m (monomials_in t factor) σ) % m = λ σ.
+    ap (λ n. n % m)
+    (has.value σ ∙ ap₂ (λ n v. ((gate_axiom n x).value σ * v) % n) same (sym (value_stays t0 t factor σ grown over.0) ∙ sym (factor_is σ)) ∙
+    ap (λ a. (a * value m (monomials_in t factor) σ) % m) (sym (axiom_live.1 σ))) ∙
+    mod-mod (value_of live x.v σ * value m (monomials_in t factor) σ) m in
     record {
-      groups = subst (λ gs. AreGroups e t gs more.total) (sym (ap (λ v. v.items) taken.groups)) (subst (AreGroups e t g.groups.items) (sym taken.total) h.groups);
-      parts = subst (AreParts e t) (sym taken.parts) (parts_pushed e t g.parts.items x q is.gate over h.parts);
-      pending = subst (λ total. IsPending e s live (value_in t total) (step f (Eliminate x.v)) (value_in t next) (parts_in t more.parts.items)) (sym taken.total)
-          (subst (IsPending e s live (value_in t g.total) (step f (Eliminate x.v)) (value_in t next)) (sym line) pending);
-      of_known = subst (IsOf t) (sym taken.known) h.of_known;
-      known = subst (λ k. IsGained e s [] f.added (value_in t k)) (sym taken.known) h.known;
+      groups = groups_moved e t g more has.groups has.columns has.total h.groups;
+      added = subst (AreOfAdded e f.added) (sym (ap (λ v. v.items) has.columns)) h.added;
+      parts = subst (AreParts e t) (sym has.parts) (parts_pushed e t g.parts.items x factor is.gate over_now h.parts);
+      fixed = same_fixed e.max (combined m live (parts_in t more.parts.items)) (λ σ. combined m live (parts_in t g.parts.items) σ + value_of live x.v σ * value m (monomials_in t factor) σ) line
+          (λ v b σ above. ap₂ ◌+◌ (h.fixed v b σ above)
+          (ap₂ ◌*◌ (same_fixed e.max (value_of live x.v) (gate_axiom m x).value axiom_live.1 (axiom_fixed e m x is.made is.gate) v b σ above)
+          (same_fixed e.max (value m (monomials_in t factor)) (value_in t factor) factor_is (fixed_over e.max t factor over_now) v b σ above)));
+      low = subst (λ n. n < t.exponent) (sym has.power) h.low;
+      pending = subst (λ n. IsPending e s live (value_in t more.total) (step f (Eliminate x.v)) next (whole t n more.parts.items)) (sym has.power)
+          (subst (λ total. IsPending e s live (value_in t total) (step f (Eliminate x.v)) next (whole t k more.parts.items)) (sym has.total)
+          (subst (IsPending e s live (value_in t g.total) (step f (Eliminate x.v)) next) (sym (ap (whole t k) has.parts ∙ whole_pushed t k g.parts.items (x.v, factor))) pending));
+      products = subst (All (IsOf t)) (sym has.products) (All-push (IsOf t) g.products.items has.product h.products has.of);
+      sum = λ σ.
+          let F : Sum → ℕ = λ p. value_in t p σ in
+          let old = sum_by F g.products.items in
+          ap (λ ps. sum_by F ps % m) has.products ∙ ap (λ n. n % m) (sum_by-append F g.products.items (has.product ∷ []) ∙ ap (λ n. old + n) (sum_by-cons F has.product [])) ∙
+          ap (λ n. n % m) (let e1 : old + (F has.product + 0) ≡ old + F has.product = omega arith in e1) ∙
+          sum_same m old (combined m live (parts_in t g.parts.items) σ) (F has.product) (value_of live x.v σ * value m (monomials_in t factor) σ) (h.sum σ) (product_is σ) ∙
+          ap (λ n. n % m) (sym (line σ));
     }
-
-taken_by : (e : Extended) (s : Sides) (t0 t : Table) (f : Taken) (p next : Sum) (g more : Gathered) (x : Gate) (q : Option Sum) → IsNext e f x → modulus t0 ≡ algebra.modulus e → IsFixedAbove e.max (value_in t0 p) → modulus t ≡ algebra.modulus e →
-    ((σ : Assignment) → value_in t next σ ≡ substituted (modulus t0) x.v (gate_value x) (value_in t0 p) σ) → IsTurned (modulus t0) t (quotient (modulus t0) x.v (value_in t0 p)) q → Takes x.v q g more →
-    IsGathered e s t f (value_in t0 p) g → IsGathered e s t (step f (Eliminate x.v)) (value_in t next) more
-taken_by e s t0 t f p next g more x None is same fixed here next_is by takes h = none_taken e s t0 t f p next g more x is same next_is by takes h
-taken_by e s t0 t f p next g more x (Some q) is same fixed here next_is by takes h = one_taken e s t0 t f p next g more x q is same fixed next_is by here takes h
-
-pub gate_taken : (e : Extended) (s : Sides) (t0 t : Table) (f : Taken) (p : Sum) (g more : Gathered) (x : Gate) (r : Elimination) → IsNext e f x → modulus t0 ≡ algebra.modulus e → IsFixedAbove e.max (value_in t0 p) → Extends t0 t →
-    IsEliminated t0 t x p r → Takes x.v r.factor g more → IsGathered e s t0 f (value_in t0 p) g → IsGathered e s t (step f (Eliminate x.v)) (value_in t r.rest.sum) more
-gate_taken e s t0 t f p g more x r is same fixed grown by takes h =
-    taken_by e s t0 t f p r.rest.sum g more x r.factor is same fixed (modulus_stays t0 t grown ∙ same) by.value by.factor takes (gathered_grown e s t0 t f (value_in t0 p) g grown h)
 
 -- ---- a group ended
 
-pub sum_more : (t : Table) (gs : List Group) (g : Group) (σ : Assignment) → groups_sum t (gs ++ g ∷ []) σ ≡ groups_sum t gs σ + value_in t g.poly σ
+pub sum_more : (t : Table) (gs : List Group) (g : Group) (σ : Assignment) → groups_sum t (gs ++ g ∷ []) σ ≡ groups_sum t gs σ + value_in t g.poly σ * value_in t g.weight σ
 sum_more t [] g σ = omega arith
 sum_more t (h ∷ gs) g σ = omega (arith, sum_more t gs g σ)
 
-ended : (e : Extended) (s : Sides) (t : Table) (f : Taken) (rest : Assignment → ℕ) (g more : Gathered) (poly one : Sum) → let m = algebra.modulus e in
-    IsFixedAbove e.max (gap e s f.added rest) → 0 < length g.parts.items → IsOf t poly → IsOf t one → IsOf t more.total → ((σ : Assignment) → value_in t one σ ≡ 1) →
-    ((σ : Assignment) → value_in t more.total σ ≡ gap e s f.added rest σ) →
-    ((σ : Assignment) → value_in t poly σ ≡ difference m (value_in t more.total σ) (value_in t g.total σ)) →
-    more.groups.items ≡ g.groups.items ++ record { parts = g.parts; poly = poly; one = one } ∷ [] → more.parts.items ≡ [] → more.known ≡ g.known →
-    IsGathered e s t f rest g → IsGathered e s t f rest more
-ended e s t f rest g more poly one fixed some of_poly of_one of_total one_is now_is poly_is groups parts known h =
+pub ended : (e : Extended) (s : Sides) (t : Table) (f : Taken) (rest : Assignment → ℕ) (g more : Gathered) (poly weight : Sum) → modulus t ≡ algebra.modulus e →
+    IsFixedAbove e.max (gap e s f.added rest) → 0 < length g.parts.items → IsOf t poly → IsOf t weight → IsOf t more.total → ((σ : Assignment) → value_in t weight σ ≡ 2 ^ g.power) →
+    ((σ : Assignment) → value_in t poly σ ≡ sum_by (λ p. value_in t p σ) g.products.items % modulus t) →
+    ((σ : Assignment) → value_in t more.total σ ≡ (value_in t g.total σ + value_in t poly σ * value_in t weight σ) % modulus t) →
+    more.groups.items ≡ g.groups.items ++ record { parts = g.parts; poly = poly; weight = weight } ∷ [] → more.columns ≡ g.columns → more.parts.items ≡ [] → more.products.items ≡ [] →
+    more.power ≡ g.power → IsGathered e s t f rest g → IsGathered e s t f rest more
+ended e s t f rest g more poly weight same fixed some of_poly of_weight of_total weight_is poly_is total_is groups columns parts products power h =
     let m = algebra.modulus e in
     let live = (axioms e).live in
-    let group : Group = record { parts = g.parts; poly = poly; one = one } in
-    let now : value_in t more.total ≡ gap e s f.added rest = fun_ext now_is in
-    let more_fixed : IsFixedAbove e.max (value_in t more.total) = subst (IsFixedAbove e.max) (sym now) fixed in
-    let small : (σ : Assignment) → value_in t more.total σ % m ≡ value_in t more.total σ = λ σ. ap (λ z. z % m) (now_is σ) ∙ gap_small e s f.added rest σ ∙ sym (now_is σ) in
-    let states : (σ : Assignment) → value_in t poly σ ≡ combined m live (parts_in t g.parts.items) σ % m = λ σ.
-    poly_is σ ∙ difference_is m (value_in t more.total σ) (value_in t g.total σ) (combined m live (parts_in t g.parts.items) σ) (modulus_pos e)
-    (ap (λ z. z % m) (omega arith) ∙ h.pending.sum σ ∙ sym (now_is σ) ∙ sym (small σ)) in
-    let sums : (σ : Assignment) → (value_in t g.total σ + value_in t poly σ) % m ≡ value_in t more.total σ = λ σ.
-    ap (λ z. (value_in t g.total σ + z) % m) (states σ) ∙ add-mod-mod (value_in t g.total σ) (combined m live (parts_in t g.parts.items) σ) m ∙ h.pending.sum σ ∙ sym (now_is σ) in
+    let w = 2 ^ g.power in
+    let group : Group = record { parts = g.parts; poly = poly; weight = weight } in
+    let c : Assignment → ℕ = combined m live (parts_in t g.parts.items) in
+    let states : (σ : Assignment) → value_in t poly σ ≡ c σ % m = λ σ. poly_is σ ∙ ap (λ n. sum_by (λ p. value_in t p σ) g.products.items % n) same ∙ h.sum σ in
+    let adds : (σ : Assignment) → value_in t more.total σ ≡ (value_in t g.total σ + value_in t poly σ * value_in t weight σ) % m = λ σ.
+    total_is σ ∙ ap (λ n. (value_in t g.total σ + value_in t poly σ * value_in t weight σ) % n) same in
+    let weighs : (σ : Assignment) → (value_in t poly σ * value_in t weight σ) % m ≡ combined m live (whole t g.power g.parts.items) σ % m = λ σ.
+    ap₂ (λ a b. (a * b) % m) (states σ) (weight_is σ) ∙ product_same m (c σ % m) (c σ) w w (mod-mod (c σ) m) refl ∙ ap (λ n. n % m) (omega arith) ∙ sym (whole_is e t live g.power g.parts.items σ same) in
+    let now : (σ : Assignment) → value_in t more.total σ ≡ gap e s f.added rest σ = λ σ.
+    adds σ ∙ sum_same m (value_in t g.total σ) (value_in t g.total σ) (value_in t poly σ * value_in t weight σ) (combined m live (whole t g.power g.parts.items) σ) refl (weighs σ) ∙ h.pending.sum σ in
     let poly_over = over_fixed e.max t poly of_poly
-    (same_fixed e.max (value_in t poly) (λ σ. difference m (value_in t more.total σ) (value_in t g.total σ)) poly_is
-    (λ v b σ above. ap₂ (difference m) (more_fixed v b σ above) (h.groups.fixed v b σ above))) in
-    let one_over = over_fixed e.max t one of_one (λ v b σ above. one_is (set_to v b σ) ∙ sym (one_is σ)) in
-    let all : AreGroups e t (g.groups.items ++ group ∷ []) more.total = record {
+    (same_fixed e.max (value_in t poly) (λ σ. c σ % m) states (λ v b σ above. ap (λ n. n % m) (h.fixed v b σ above))) in
+    let weight_over = over_fixed e.max t weight of_weight (λ v b σ above. weight_is (set_to v b σ) ∙ sym (weight_is σ)) in
+    let spare = subst (λ n. AreSpare n live (parts_in t g.parts.items)) same (spare_parts t live g.power g.parts.items (subst (λ n. AreSpare n live (whole t g.power g.parts.items)) (sym same) h.pending.spare)) in
+    let nonzero : IsNotZero m (monomials_in t weight) = λ none.
+    let at : Assignment = λ v. false in
+    let zero : w ≡ 0 = sym (weight_is at) ∙ ap (λ n. value n (monomials_in t weight) at) same ∙ none at in
+    let some' = pow_pos g.power in absurd (omega arith) in
+    let all : AreGroups e t (g.groups.items ++ group ∷ []) g.columns.items more.total = record {
       groups = All-push (IsGroup e t) g.groups.items group h.groups.groups
-          (record { some = some; parts = h.parts; of = poly_over; of_one = one_over; spare = h.pending.spare; states = states; one = one_is });
+          (record { some = some; parts = h.parts; of = poly_over; of_weight = weight_over; spare = spare; states = states; nonzero = nonzero });
+      of_columns = h.groups.of_columns;
       of = of_total;
-      fixed = more_fixed;
-      sum = λ σ. ap (λ z. z % m) (sum_more t g.groups.items group σ) ∙ sym (mod-add-mod (groups_sum t g.groups.items σ) m (value_in t poly σ)) ∙
-          ap (λ z. (z + value_in t poly σ) % m) (h.groups.sum σ) ∙ sums σ;
+      fixed = same_fixed e.max (value_in t more.total) (gap e s f.added rest) now fixed;
+      sum = λ σ.
+          let own = groups_sum t g.groups.items σ in
+          let of_columns = combined m live (parts_in t g.columns.items) σ in
+          let more_is : groups_sum t (g.groups.items ++ group ∷ []) σ + of_columns ≡ (own + of_columns) + value_in t poly σ * value_in t weight σ = omega (arith, sum_more t g.groups.items group σ) in
+          ap (λ z. z % m) more_is ∙ sym (mod-add-mod (own + of_columns) m (value_in t poly σ * value_in t weight σ)) ∙
+          ap (λ z. (z + value_in t poly σ * value_in t weight σ) % m) (h.groups.sum σ) ∙ sym (adds σ);
     } in
+    nothing_open e s t f rest more (subst (λ gs. AreGroups e t gs more.columns.items more.total) (sym groups) (subst (λ cs. AreGroups e t (g.groups.items ++ group ∷ []) cs.items more.total) (sym columns) all))
+    (subst (λ cs. AreOfAdded e f.added cs.items) (sym columns) h.added) now (subst (λ n. n < t.exponent) (sym power) h.low) parts products
+
+-- another power, where no group is open
+pub repowered : (e : Extended) (s : Sides) (t : Table) (f : Taken) (rest : Assignment → ℕ) (g more : Gathered) (k : ℕ) → more.groups ≡ g.groups → more.columns ≡ g.columns → more.total ≡ g.total → more.parts ≡ g.parts →
+    more.products ≡ g.products → more.power ≡ k → k ≤ g.power → g.parts.items ≡ [] → IsGathered e s t f rest g → IsGathered e s t f rest more
+repowered e s t f rest g more k groups columns total parts products power low none h =
+    let live = (axioms e).live in
+    let is : more.parts.items ≡ [] = ap (λ v. v.items) parts ∙ none in
+    let old = h.low in
     record {
-      groups = subst (λ gs. AreGroups e t gs more.total) (sym groups) all;
-      parts = subst (AreParts e t) (sym parts) (no_parts e t);
-      pending = subst (λ ps. IsPending e s live (value_in t more.total) f rest (parts_in t ps)) (sym parts)
-          (subst (λ (k : Assignment → ℕ). IsPending e s live k f rest []) (sym now) (pending_starts e s live f rest));
-      of_known = subst (IsOf t) (sym known) h.of_known;
-      known = subst (λ k. IsGained e s [] f.added (value_in t k)) (sym known) h.known;
+      groups = groups_moved e t g more groups columns total h.groups;
+      added = subst (λ cs. AreOfAdded e f.added cs.items) (sym columns) h.added;
+      parts = subst (AreParts e t) (sym (ap (λ v. v.items) parts)) h.parts;
+      fixed = subst (λ ps. IsFixedAbove e.max (combined (algebra.modulus e) live (parts_in t ps))) (sym (ap (λ v. v.items) parts)) h.fixed;
+      low = omega arith;
+      pending = subst (λ ps. IsPending e s live (value_in t more.total) f rest (whole t more.power ps)) (sym is)
+          (subst (λ u. IsPending e s live (value_in t u) f rest []) (sym total) (subst (λ ps. IsPending e s live (value_in t g.total) f rest (whole t g.power ps)) none h.pending));
+      products = subst (All (IsOf t)) (sym (ap (λ v. v.items) products)) h.products;
+      sum = λ σ. ap (λ v. sum_by (λ p. value_in t p σ) v.items % algebra.modulus e) products ∙ h.sum σ ∙
+          sym (ap (λ v. combined (algebra.modulus e) live (parts_in t v.items) σ % algebra.modulus e) parts);
     }
 
 -- no column is known at first
@@ -192,29 +318,106 @@ none_added m s k (o ∷ os) σ = omega (arith, none_added m s (suc k) os σ)
 pub none_known : (e : Extended) (s : Sides) (σ : Assignment) → partial_specification e s [] σ ≡ 0
 none_known e s σ = ap (λ z. z % algebra.modulus e) (none_added (algebra.modulus e) s 0 e.graph.outputs σ) ∙ zero-mod (algebra.modulus e)
 
--- what is known is the part of the specification that the columns make up
-known_is : (e : Extended) (s : Sides) (t : Table) (added : List ℕ) (known : Sum) → modulus t ≡ algebra.modulus e → IsGained e s [] added (value_in t known) →
-    (σ : Assignment) → value_in t known σ ≡ partial_specification e s added σ
-known_is e s t added known same h σ =
-    sym (h σ ∙ ap (λ z. (z + value_in t known σ) % algebra.modulus e) (none_known e s σ) ∙ ap (λ z. z % algebra.modulus e) (omega arith) ∙ ap (λ k. value_in t known σ % k) (sym same) ∙
-    mod-mod (sum_of (modulus t) (monomials_in t known) σ) (modulus t))
+-- ---- what calls answer
 
-pub group_ended : (e : Extended) (s : Sides) (t0 t1 t2 t3 : Table) (f : Taken) (rest : Sum) (g more : Gathered) (poly one : Sum) → modulus t0 ≡ algebra.modulus e →
-    IsFixedAbove e.max (gap e s f.added (value_in t0 rest)) →
-    Extends t0 t1 → Extends t1 t2 → Extends t2 t3 → 0 < length g.parts.items → IsOf t1 more.total → IsOf t2 poly → IsOf t3 one → ((σ : Assignment) → value_in t3 one σ ≡ 1) →
-    ((σ : Assignment) → value_in t1 more.total σ ≡ difference (modulus t0) (value_in t0 g.known σ) (value_in t0 rest σ)) →
-    ((σ : Assignment) → value_in t2 poly σ ≡ difference (modulus t1) (value_in t1 more.total σ) (value_in t1 g.total σ)) →
-    more.groups.items ≡ g.groups.items ++ record { parts = g.parts; poly = poly; one = one } ∷ [] → more.parts.items ≡ [] → more.known ≡ g.known →
-    IsGathered e s t0 f (value_in t0 rest) g → IsGathered e s t3 f (value_in t0 rest) more
-group_ended e s t0 t1 t2 t3 f rest g more poly one same fixed first second third some of_now of_poly of_one one_is now_is poly_is groups parts known h =
-    let m = algebra.modulus e in
-    let late = extends_on t1 t2 t3 second third in
-    let all = extends_on t0 t1 t3 first late in
-    let same1 : modulus t1 ≡ m = modulus_stays t0 t1 first ∙ same in
-    let total1 = stays t0 t1 g.total first h.groups.of in
-    ended e s t3 f (value_in t0 rest) g more poly one fixed some (stays t2 t3 poly third of_poly) of_one (stays t1 t3 more.total late of_now) one_is
-    (λ σ. value_stays t1 t3 more.total σ late of_now ∙ now_is σ ∙ ap₂ (λ k n. difference k n (value_in t0 rest σ)) same (known_is e s t0 f.added g.known same h.known σ))
-    (λ σ. value_stays t2 t3 poly σ third of_poly ∙ poly_is σ ∙
-    ap (λ k. difference k (value_in t1 more.total σ) (value_in t1 g.total σ)) same1 ∙
-    ap₂ (difference m) (sym (value_stays t1 t3 more.total σ late of_now)) (sym (value_stays t1 t3 g.total σ late total1)))
-    groups parts known (gathered_grown e s t0 t3 f (value_in t0 rest) g all h)
+pub settled_itself : (t : Table) (g : Gathered) → Settles t t g g
+settled_itself t g = record { gathered = λ e s f rest same fixed h. h; count = omega arith }
+
+pub ended_itself : (t : Table) (g : Gathered) → g.parts.items ≡ [] → IsEndedGroup t t g g
+ended_itself t g none = record { settles = settled_itself t g; none = none; power = refl }
+
+pub group_ended : (t0 t1 t2 t3 : Table) (g more : Gathered) (poly weight : Sum) → Extends t0 t1 → Extends t1 t2 → Extends t2 t3 → 0 < length g.parts.items → IsOf t1 poly → IsOf t2 weight → IsOf t3 more.total →
+    ((σ : Assignment) → value_in t1 poly σ ≡ sum_by (λ p. value_in t0 p σ) g.products.items % modulus t0) → ((σ : Assignment) → value_in t2 weight σ ≡ 2 ^ g.power) →
+    ((σ : Assignment) → value_in t3 more.total σ ≡ (value_in t2 g.total σ + value_in t2 poly σ * value_in t2 weight σ) % modulus t2) →
+    more.groups.items ≡ g.groups.items ++ record { parts = g.parts; poly = poly; weight = weight } ∷ [] → more.columns ≡ g.columns → more.parts.items ≡ [] → more.products.items ≡ [] →
+    more.power ≡ g.power → IsEndedGroup t0 t3 g more
+group_ended t0 t1 t2 t3 g more poly weight first second third some of_poly of_weight of_total poly_is weight_is total_is groups columns parts products power = record {
+  settles = record {
+    gathered = λ e s f rest same fixed h.
+        let all = extends_on t0 t1 t3 first (extends_on t1 t2 t3 second third) in
+        let grown = gathered_grown e s t0 t3 f rest g all h in
+        let to2 = extends_on t0 t1 t2 first second in
+        let late = extends_on t1 t2 t3 second third in
+        ended e s t3 f rest g more poly weight (modulus_stays t0 t3 all ∙ same) fixed some (stays t1 t3 poly late of_poly) (stays t2 t3 weight third of_weight) of_total
+        (λ σ. value_stays t2 t3 weight σ third of_weight ∙ weight_is σ)
+        (λ σ. value_stays t1 t3 poly σ late of_poly ∙ poly_is σ ∙
+        ap₂ ◌%◌ (sym (products_sum t0 t3 g.products.items σ all (recursion_from_All (IsOf t0) g.products.items h.products))) (sym (modulus_stays t0 t3 all)))
+        (λ σ. total_is σ ∙ ap₂ ◌%◌ (ap₂ ◌+◌ (sym (value_stays t2 t3 g.total σ third (stays t0 t2 g.total to2 h.groups.of)))
+        (ap₂ ◌*◌ (sym (value_stays t2 t3 poly σ third (stays t1 t2 poly second of_poly))) (sym (value_stays t2 t3 weight σ third of_weight)))) (sym (modulus_stays t2 t3 third)))
+        groups columns parts products power grown;
+    count =
+        let one : one_if_some g.parts.items ≡ 1 = counted g.parts.items some in
+        let none : one_if_some more.parts.items ≡ 0 = ap one_if_some parts in
+        let longer = ap length groups in
+        let sum = length-append g.groups.items (record { parts = g.parts; poly = poly; weight = weight } ∷ []) in
+        omega arith;
+  };
+  none = parts;
+  power = power;
+}
+  where
+    counted : (ps : List (ℕ × Sum)) → 0 < length ps → one_if_some ps ≡ 1
+    counted [] h = absurd (omega arith)
+    counted (p ∷ ps) h = refl
+
+pub power_set : (t0 t : Table) (g mid more : Gathered) (k : ℕ) → IsEndedGroup t0 t g mid → more.groups ≡ mid.groups → more.columns ≡ mid.columns → more.total ≡ mid.total → more.parts ≡ mid.parts →
+    more.products ≡ mid.products → more.power ≡ k → k ≤ g.power →
+    HasPower t0 t k g more
+power_set t0 t g mid more k h groups columns total parts products power low = record {
+  settles = record {
+    gathered = λ e s f rest same fixed old. let same_power = h.power in
+        repowered e s t f rest mid more k groups columns total parts products power (omega arith) h.none (h.settles.gathered e s f rest same fixed old);
+    count = let count = h.settles.count in let a = ap (λ v. length v.items) groups in let b = ap (λ v. one_if_some v.items) parts in omega arith;
+  };
+  power = power;
+}
+
+pub power_itself : (t : Table) (g : Gathered) (k : ℕ) → k ≡ g.power → HasPower t t k g g
+power_itself t g k is = record { settles = settled_itself t g; power = sym is }
+
+pub taken_none : (t : Table) (x : Gate) (g : Gathered) → HasTaken t t x None g g
+taken_none t x g = record { gathered = λ e s f rest next same is fixed gap_is next_is turned h. none_taken e s t f rest next g x is next_is turned h; count = omega arith }
+
+-- a factor of which 2^k times is the whole, over the same monomials or of the same table
+pub factor_taken : (t0 t1 t : Table) (x : Gate) (full factor : Sum) (g mid more : Gathered) (k : ℕ) → Extends t0 t1 → Extends t1 t → IsOf t0 full → IsOf t0 factor →
+    ((σ : Assignment) → (2 ^ k * value_in t0 factor σ) % modulus t0 ≡ value_in t0 full σ) → map (λ y. y.variables) (monomials_in t0 factor) ≡ map (λ y. y.variables) (monomials_in t0 full) →
+    HasPower t0 t1 k g mid → HasPart t1 t x factor mid more → HasTaken t0 t x (Some full) g more
+factor_taken t0 t1 t x full factor g mid more k first second of_full of_factor divided along has part = record {
+  gathered = λ e s f rest next same is fixed gap_is next_is turned h.
+      let m = algebra.modulus e in
+      let over_full : IsOver e.max t0 full = over_fixed e.max t0 full of_full
+      (same_fixed e.max (value_in t0 full) (λ σ. difference m 0 (quotient m x.v rest σ)) turned.minus
+      (λ v b σ above. ap (difference m 0) (quotient_fixed e.max m x.v rest (within e f x is) fixed v b σ above))) in
+      let over : IsOver e.max t1 factor = over_grown e.max t0 t1 factor first (over_same e.max t0 full factor of_factor along over_full) in
+      let here = has.settles.gathered e s f rest same gap_is h in
+      part_taken e s t1 t f rest next (value_in t0 full) mid more x factor is (modulus_stays t0 t1 first ∙ same) second next_is over
+      (λ σ. ap₂ (λ p n. (2 ^ p * value_in t1 factor σ) % n) has.power (modulus_stays t0 t1 first) ∙ ap (λ v. (2 ^ k * v) % modulus t0) (value_stays t0 t1 factor σ first of_factor) ∙ divided σ)
+      turned.minus (λ none. turned.nonzero (λ σ. ap (λ n. value n (monomials_in t0 full) σ) (sym same) ∙ none σ)) part here;
+  count =
+      let count = has.settles.count in
+      let groups = ap (λ v. length v.items) part.groups in
+      let one = at_most_one more.parts.items in
+      omega arith;
+}
+  where
+    at_most_one : (ps : List (ℕ × Sum)) → one_if_some ps ≤ 1
+    at_most_one [] = omega arith
+    at_most_one (p ∷ ps) = omega arith
+
+-- one times a factor is the factor
+pub undivided : (t : Table) (p : Sum) (σ : Assignment) → (2 ^ 0 * value_in t p σ) % modulus t ≡ value_in t p σ
+undivided t p σ = ap (λ n. n % modulus t) (let e : 2 ^ 0 * value_in t p σ ≡ value_in t p σ = omega arith in e) ∙ mod-mod (sum_of (modulus t) (monomials_in t p) σ) (modulus t)
+
+pub settled_ended : (t0 t : Table) (g r : Gathered) → IsEndedGroup t0 t g r → Settles t0 t g r
+settled_ended t0 t g r h = h.settles
+
+-- ---- what calls ask for
+
+pub gathered_somewhere : (e : Extended) (s : Sides) (t0 t : Table) (f : Taken) (rest : Assignment → ℕ) (o : Option Gathered) → Extends t0 t → IfSome o (IsGathered e s t0 f rest) →
+    IfSome o (λ g. (e : Extended) × (s : Sides) × (f : Taken) × (rest : Assignment → ℕ) × IsGathered e s t f rest g)
+gathered_somewhere e s t0 t f rest None grown h = tt
+gathered_somewhere e s t0 t f rest (Some g) grown h = (e, s, f, rest, gathered_grown e s t0 t f rest g grown h)
+
+pub turned_of : (m : ℕ) (t : Table) (by : Assignment → ℕ) (q : Option Sum) → IsTurned m t by q → IfSome q (IsOf t)
+turned_of m t by None h = tt
+turned_of m t by (Some q) h = h.of

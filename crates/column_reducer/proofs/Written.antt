@@ -3,30 +3,29 @@ use Rattle.std.specs.Prelude.{◌≡◌, ◌≢◌, ℕ, suc, ◌+◌, ◌*◌, 
 use Rattle.std.specs.declared.option.Option.TheVariants.{None, Some}
 use Rattle.std.specs.List.{All, AllByRecursion, AllPairs}
 use Rattle.std.proofs.Common.{refl, sym, ap, ap₂, subst, ◌∙◌, arith, ne_eqb}
-use Rattle.std.proofs.Math.Nat.{mod-mod, zero-mod}
+use Rattle.std.proofs.Math.Nat.{zero-mod}
 use Rattle.std.proofs.lemmas.List.Elements.{All-from_recursion, All-push, recursion_from_All}
 use Rattle.std.proofs.lemmas.List.Quantifiers.{all_pairs_push}
-use Rattle.std.proofs.Math.ListN.{get_or, get_or-map}
+use Rattle.std.proofs.lemmas.List.Kept.{AllPairs-cons}
 use Rattle.graph_core.specs.Graph.Assignments.{Assignment}
 use Rattle.graph_core.specs.Graph.Operands.{Sides}
 use Rattle.graph_core.specs.Graph.Extended.{Extended}
 use Rattle.graph_core.specs.Algebra.{LiveLine, Part, Combination, IsEqual, IsLive, axioms, combined, line_of, value_of, value_or_zero, introduce}
 use Rattle.graph_core.specs.Algebra as algebra
-use Rattle.graph_core.specs.Algebra.Polynomials.{sum_of, value}
+use Rattle.graph_core.specs.Algebra.Polynomials.{value}
 use Rattle.ripple_graft.specs.Extension.{IsExtension}
 use Rattle.poly_terms.specs.Tables.{Table, Sum, monomials_in, value_in}
-use Rattle.pac_writer.specs.Writing.{IsOver, Made, PutsLine, AreLawfulSoFar, combination_of, ledger_of, parts_in}
+use Rattle.pac_writer.specs.Writing.{AreOver, IsOver, Made, PutsLine, AreLawfulSoFar, combination_of, ledger_of, parts_in}
 use Rattle.frontier_core.specs.Sets.{has}
-use Rattle.frontier_core.specs.Pending.{AreSpare}
-use Rattle.frontier_core.specs.Totals.{AreGroupLines, AreOnes, lines_sum}
-use Rattle.frontier_core.proofs.Added.{sum_pushed, total_is_equal}
+use Rattle.frontier_core.specs.Pending.{AreSpare, IsNotZero}
+use Rattle.frontier_core.proofs.Gathered.{combined_push}
 use Rattle.frontier_core.proofs.Everywhere.{all_from_map, all_has}
 use Rattle.frontier_core.proofs.LineLemmas.{new_line_is_live}
 use Rattle.column_reducer.specs.declared.gathered.Group.{Group}
-use Rattle.column_reducer.specs.Gathering.{AreGroups, AreParts, AreWritten, IsGroup}
+use Rattle.column_reducer.specs.Gathering.{AreGroups, AreParts, AreWritten, IsGroup, groups_sum}
 use Rattle.column_reducer.specs.Reducing.{IsOfGraph}
 use Rattle.column_reducer.proofs.Fixed.{all_left, all_right}
-use Rattle.column_reducer.proofs.Taken.{sum_more}
+use Rattle.column_reducer.proofs.Taken.{part_pushed, sum_more}
 
 -- ---- where the lines of parts are as they were
 
@@ -57,6 +56,13 @@ part_lines e t live parts made same h =
 last_group : (e : Extended) (s : Sides) (t : Table) (total : Sum) (gs : List Group) (g : Group) (ones : List (ℕ × Sum)) (l : Made) → AreWritten e s t total (gs ++ g ∷ []) ones l → IsGroup e t g
 last_group e s t total gs g ones l h = all_right (IsGroup e t) gs (g ∷ []) h.groups 0 g (omega arith)
 
+pub group_over : (e : Extended) (s : Sides) (t : Table) (total : Sum) (gs : List Group) (g : Group) (ones : List (ℕ × Sum)) (l : Made) → AreWritten e s t total (gs ++ g ∷ []) ones l →
+    AreOver l.extended.max l.table g.parts.items g.poly
+group_over e s t total gs g ones l h =
+    let group = last_group e s t total gs g ones l h in
+    subst (λ x. AreOver x.max l.table g.parts.items g.poly) (sym h.graph.extended)
+    (subst (λ u. AreOver e.max u g.parts.items g.poly) (sym h.graph.table) (record { some = group.some; factors = group.parts.of; stated = group.of }))
+
 pub group_spare : (e : Extended) (s : Sides) (t : Table) (total : Sum) (gs : List Group) (g : Group) (ones : List (ℕ × Sum)) (l : Made) → AreWritten e s t total (gs ++ g ∷ []) ones l →
     AreSpare (algebra.modulus l.extended) (ledger_of l).live (parts_in l.table g.parts.items)
 group_spare e s t total gs g ones l h =
@@ -76,10 +82,6 @@ group_equal e s t total gs g ones l h =
     ap (λ z. z % m) (sym (combined_moves m (axioms e).live (ledger_of l).live (parts_in t g.parts.items) σ
     (recursion_from_All (λ p. line_of (ledger_of l).live p.id ≡ line_of (axioms e).live p.id) (parts_in t g.parts.items) (part_lines e t (ledger_of l).live g.parts.items h.made h.axioms group.parts))))))
 
-first_pushed : (xs : List (ℕ × Sum)) (x : ℕ × Sum) → map (λ p. p.0) (xs ++ x ∷ []) ≡ map (λ p. p.0) xs ++ x.0 ∷ []
-first_pushed [] x = refl
-first_pushed (y ∷ xs) x = ap (λ is. y.0 ∷ is) (first_pushed xs x)
-
 graph_on : (e : Extended) (s : Sides) (t : Table) (line : algebra.Line) (id : ℕ) (l new : Made) → PutsLine line id l new → IsOfGraph e s t l → IsOfGraph e s t new
 graph_on e s t line id l new puts h = record {
   extended = puts.extended ∙ h.extended;
@@ -89,7 +91,7 @@ graph_on e s t line id l new puts h = record {
 }
 
 pub group_written : (e : Extended) (s : Sides) (t : Table) (total : Sum) (gs : List Group) (g : Group) (ones more : List (ℕ × Sum)) (id : ℕ) (l new : Made) → id ≡ l.last + 1 →
-    PutsLine (combination_of l.table id g.parts.items g.poly) id l new → more ≡ ones ++ (id, g.one) ∷ [] → AreWritten e s t total (gs ++ g ∷ []) ones l → AreWritten e s t total gs more new
+    PutsLine (combination_of l.table id g.parts.items g.poly) id l new → more ≡ ones ++ (id, g.weight) ∷ [] → AreWritten e s t total (gs ++ g ∷ []) ones l → AreWritten e s t total gs more new
 group_written e s t total gs g ones more id l new is puts pushed h =
     let m = algebra.modulus e in
     let old = (ledger_of l).live in
@@ -111,74 +113,55 @@ group_written e s t total gs g ones more id l new is puts pushed h =
       axioms = λ i small. others i (λ same. absurd (omega arith)) ∙ h.axioms i small;
       groups = all_left (IsGroup e t) gs (g ∷ []) h.groups;
       sum = λ σ.
-          let ids = map (λ q. q.0) ones in
-          let lines : lines_sum live (map (λ q. q.0) (ones ++ (id, g.one) ∷ [])) σ ≡ lines_sum old ids σ + value_of live id σ =
-          ap (λ is'. lines_sum live is' σ) (first_pushed ones (id, g.one)) ∙
-          sum_pushed old live ids id σ
-          (all_from_map (λ i. (i ≢ id) × (line_of live i ≡ line_of old i)) (λ q. q.0) ones
-          (recursion_from_All (λ q. (q.0 ≢ id) × (line_of live q.0 ≡ line_of old q.0)) ones (λ k d within. (apart k d within, others (slice_index_or ones k d).0 (apart k d within))))) in
-          let poly : value_of live id σ ≡ value_in t g.poly σ = here σ ∙ ap (λ k. value k p σ) (sym h.same_modulus) in
-          ap (λ z. z % m) (omega (arith, lines, poly, sum_more t gs g σ)) ∙ h.sum σ;
-      over = All-push (λ q. IsOver e.max t q.1) ones (id, g.one) h.over group.of_one;
-      one = All-push (λ q. (σ : Assignment) → value_in t q.1 σ ≡ 1) ones (id, g.one) h.one group.one;
-      live = All-push (λ q. IsLive live q.0) ones (id, g.one) (λ k d within. subst IsSome (sym (others (slice_index_or ones k d).0 (apart k d within))) (h.live k d within))
+          let before = combined m old (parts_in t ones) σ in
+          let lines : combined m live (parts_in t (ones ++ (id, g.weight) ∷ [])) σ ≡ before + value_of live id σ * value m (monomials_in t g.weight) σ =
+          ap (λ ps. combined m live ps σ) (part_pushed t ones (id, g.weight)) ∙
+          combined_push m live (parts_in t ones) (record { id = id; factor = monomials_in t g.weight }) σ ∙
+          ap (λ n. n + value_of live id σ * value m (monomials_in t g.weight) σ)
+          (combined_moves m old live (parts_in t ones) σ
+          (all_from_map (λ q. line_of live q.id ≡ line_of old q.id) (λ q. record { id = q.0; factor = monomials_in t q.1 }) ones
+          (recursion_from_All (λ q. line_of live q.0 ≡ line_of old q.0) ones (λ k d within. others (slice_index_or ones k d).0 (apart k d within))))) in
+          let new_term : value_of live id σ * value m (monomials_in t g.weight) σ ≡ value_in t g.poly σ * value_in t g.weight σ =
+          ap₂ (λ a b. a * b) (here σ ∙ ap (λ k. value k p σ) (sym h.same_modulus)) (ap (λ k. value k (monomials_in t g.weight) σ) (sym h.same_modulus)) in
+          ap (λ z. z % m) (omega (arith, lines, new_term, sum_more t gs g σ)) ∙ h.sum σ;
+      over = All-push (λ q. IsOver e.max t q.1) ones (id, g.weight) h.over group.of_weight;
+      nonzero = All-push (λ q. IsNotZero m (monomials_in t q.1)) ones (id, g.weight) h.nonzero group.nonzero;
+      live = All-push (λ q. IsLive live q.0) ones (id, g.weight) (λ k d within. subst IsSome (sym (others (slice_index_or ones k d).0 (apart k d within))) (h.live k d within))
           (subst (λ k. IsLive k.live id) (sym ledger) law.0);
-      small = All-push (λ q. (σ : Assignment) → value_of live q.0 σ % m ≡ value_of live q.0 σ) ones (id, g.one)
-          (λ k d within σ.
-          let same : value_of live (slice_index_or ones k d).0 σ ≡ value_of old (slice_index_or ones k d).0 σ = ap (λ o. value_or_zero o σ) (others (slice_index_or ones k d).0 (apart k d within)) in
-          ap (λ z. z % m) same ∙ h.small k d within σ ∙ sym same)
-          (λ σ. ap (λ z. z % m) (here σ) ∙ mod-mod (sum_of m p σ) m ∙ sym (here σ));
-      once = all_pairs_push (λ a b. a.0 ≢ b.0) ones (id, g.one) h.once apart;
-      ids = All-push (λ q. (e.max < q.0) × (q.0 ≤ new.last)) ones (id, g.one) (λ k d within. let ids = h.ids k d within in (ids.0, omega (arith, ids.1))) (omega arith, omega arith);
+      once = all_pairs_push (λ a b. a.0 ≢ b.0) ones (id, g.weight) h.once apart;
+      ids = All-push (λ q. (e.max < q.0) × (q.0 ≤ new.last)) ones (id, g.weight) (λ k d within. let ids = h.ids k d within in (ids.0, omega (arith, ids.1))) (omega arith, omega arith);
       low = omega arith;
     })
 
 -- ---- the last line
 
-firsts : (t : Table) (ones : List (ℕ × Sum)) → map (λ p. p.id) (parts_in t ones) ≡ map (λ p. p.0) ones
-firsts t [] = refl
-firsts t (x ∷ xs) = ap (λ is. x.0 ∷ is) (firsts t xs)
+once_parts : (t : Table) (xs : List (ℕ × Sum)) → AllPairs (λ p q. p.0 ≢ q.0) xs → AllPairs (λ p q. p.id ≢ q.id) (parts_in t xs)
+once_parts t [] h = λ i j d lt within. absurd (omega arith)
+once_parts t (x ∷ xs) h =
+    AllPairs-cons (λ (q : Part) (r : Part). q.id ≢ r.id) (record { id = x.0; factor = monomials_in t x.1 }) (parts_in t xs)
+    (All-from_recursion (λ q. x.0 ≢ q.id) (parts_in t xs)
+    (all_from_map (λ q. x.0 ≢ q.id) (λ p. record { id = p.0; factor = monomials_in t p.1 }) xs (recursion_from_All (λ p. x.0 ≢ p.0) xs (λ k d low. h 0 (suc k) d (omega arith) (omega arith)))))
+    (once_parts t xs (λ i j d lt within. h (suc i) (suc j) d (omega arith) (omega arith)))
 
-as_many : (ones : List (ℕ × Sum)) → length (map (λ p. p.0) ones) ≡ length ones
-as_many [] = refl
-as_many (x ∷ xs) = ap suc (as_many xs)
-
-once_firsts : (ones : List (ℕ × Sum)) → AllPairs (λ p q. p.0 ≢ q.0) ones → AllPairs ◌≢◌ (map (λ p. p.0) ones)
-once_firsts ones h i j d lt within same =
-    h i j (d, []) lt (omega (arith, as_many ones)) (sym (get_or-map (λ (p : ℕ × Sum). p.0) ones i (d, [])) ∙ same ∙ get_or-map (λ (p : ℕ × Sum). p.0) ones j (d, []))
-
--- lists of no and of one element
+-- an empty list
 pub no_items : {X : Type 0} (xs : List X) → length xs ≡ 0 → xs ≡ []
 no_items [] h = refl
 no_items (x ∷ xs) h = absurd (omega arith)
 
-pub one_item : {X : Type 0} (xs : List X) (d : X) → length xs ≡ 1 → xs ≡ get_or xs 0 d ∷ []
-one_item [] d h = absurd (omega arith)
-one_item (x ∷ []) d h = refl
-one_item (x ∷ y ∷ xs) d h = absurd (omega arith)
-
-group_lines : (e : Extended) (s : Sides) (t : Table) (total : Sum) (ones : List (ℕ × Sum)) (l : Made) → AreWritten e s t total [] ones l → AreGroupLines (algebra.modulus e) (ledger_of l).live (map (λ p. p.0) ones) (value_in t total)
-group_lines e s t total ones l h = record {
-  sum = λ σ. ap (λ z. z % algebra.modulus e) (omega arith) ∙ h.sum σ;
-  live = All-from_recursion (IsLive (ledger_of l).live) (map (λ p. p.0) ones)
-      (all_from_map (IsLive (ledger_of l).live) (λ p. p.0) ones (recursion_from_All (λ p. IsLive (ledger_of l).live p.0) ones h.live));
-  once = once_firsts ones h.once;
-}
-
-are_ones : (e : Extended) (s : Sides) (t : Table) (total : Sum) (ones : List (ℕ × Sum)) (l : Made) → AreWritten e s t total [] ones l → AreOnes (algebra.modulus e) (map (λ p. p.0) ones) (parts_in t ones)
-are_ones e s t total ones l h = record {
-  lines = firsts t ones;
-  ones = All-from_recursion (λ p. (σ : Assignment) → value (algebra.modulus e) p.factor σ ≡ 1) (parts_in t ones)
-      (all_from_map (λ p. (σ : Assignment) → value (algebra.modulus e) p.factor σ ≡ 1) (λ p. record { id = p.0; factor = monomials_in t p.1 }) ones
-      (recursion_from_All (λ p. (σ : Assignment) → value (algebra.modulus e) (monomials_in t p.1) σ ≡ 1) ones
-      (λ k d low σ. ap (λ m. value m (monomials_in t (slice_index_or ones k d).1) σ) (sym h.same_modulus) ∙ h.one k d low σ)));
-}
-
 pub sum_is_equal : (s : Sides) (total : Sum) (ones : List (ℕ × Sum)) (l : Made) → AreWritten l.extended s l.table total [] ones l →
     AreSpare (algebra.modulus l.extended) (ledger_of l).live (parts_in l.table ones) × IsEqual (algebra.modulus l.extended) (ledger_of l).live (combination_of l.table 0 ones total)
 sum_is_equal s total ones l h =
-    total_is_equal (algebra.modulus l.extended) (ledger_of l).live (map (λ p. p.0) ones) (value_in l.table total) (parts_in l.table ones) 0 (monomials_in l.table total)
-    (group_lines l.extended s l.table total ones l h) (are_ones l.extended s l.table total ones l h) (λ σ. ap (λ m. value m (monomials_in l.table total) σ) (sym h.same_modulus))
+    let m = algebra.modulus l.extended in
+    let t = l.table in (
+      record {
+        live = All-from_recursion (λ p. IsLive (ledger_of l).live p.id) (parts_in t ones)
+            (all_from_map (λ p. IsLive (ledger_of l).live p.id) (λ p. record { id = p.0; factor = monomials_in t p.1 }) ones (recursion_from_All (λ p. IsLive (ledger_of l).live p.0) ones h.live));
+        once = once_parts t ones h.once;
+        nonzero = All-from_recursion (λ p. IsNotZero m p.factor) (parts_in t ones)
+            (all_from_map (λ p. IsNotZero m p.factor) (λ p. record { id = p.0; factor = monomials_in t p.1 }) ones (recursion_from_All (λ p. IsNotZero m (monomials_in t p.1)) ones h.nonzero));
+      },
+      λ σ. ap (λ k. value k (monomials_in t total) σ) (sym h.same_modulus) ∙ sym (h.sum σ) ∙ ap (λ z. z % m) (omega arith),
+    )
 
 -- no line has the id 0
 no_line : (live : List LiveLine) → AllByRecursion (λ x. 0 < x.id) live → line_of live 0 ≡ None
@@ -193,9 +176,6 @@ none_is_zero s total l σ lawful h =
     ap (λ o. value_or_zero o σ) (no_line (ledger_of l).live (recursion_from_All (λ x. 0 < x.id) (ledger_of l).live (λ k d low. (lawful.ids k d low).0))) ∙
     sym (zero-mod (algebra.modulus l.extended)) ∙ ap (λ z. z % algebra.modulus l.extended) (omega arith) ∙ h.sum σ
 
-pub one_is_total : (s : Sides) (total : Sum) (x : ℕ × Sum) (l : Made) (σ : Assignment) → AreWritten l.extended s l.table total [] (x ∷ []) l → value_of (ledger_of l).live x.0 σ ≡ value_in l.table total σ
-one_is_total s total x l σ h = sym (h.small 0 x (omega arith) σ) ∙ ap (λ z. z % algebra.modulus l.extended) (omega arith) ∙ h.sum σ
-
 pub sum_has : (s : Sides) (total : Sum) (ones : List (ℕ × Sum)) (id : ℕ) (l new : Made) (σ : Assignment) → PutsLine (combination_of l.table id ones total) id l new → AreWritten l.extended s l.table total [] ones l →
     value_of (ledger_of new).live id σ ≡ value_in l.table total σ
 sum_has s total ones id l new σ puts h =
@@ -204,9 +184,9 @@ sum_has s total ones id l new σ puts h =
 
 -- ---- before the first line
 
-pub none_written : (s : Sides) (total : Sum) (gs : List Group) (l : Made) → IsExtension l.extended → AreLawfulSoFar l → l.lines ≡ [] → l.closing ≡ None → AreGroups l.extended l.table gs total →
-    AreWritten l.extended l.sides l.table total gs [] l
-none_written s total gs l made lawful fresh unclosed h =
+pub none_written : (s : Sides) (total : Sum) (gs : List Group) (columns : List (ℕ × Sum)) (l : Made) → IsExtension l.extended → AreLawfulSoFar l → l.lines ≡ [] → l.closing ≡ None →
+    AreGroups l.extended l.table gs columns total → AreWritten l.extended l.sides l.table total gs columns l
+none_written s total gs columns l made lawful fresh unclosed h =
     let e = l.extended in
     let ledger : ledger_of l ≡ axioms e = ap (algebra.after_all (algebra.modulus e) (axioms e)) fresh in
     let greatest : e.max + length e.graph.outputs ≡ l.last = sym (ap (λ k. k.last) ledger) ∙ lawful.greatest in
@@ -216,12 +196,11 @@ none_written s total gs l made lawful fresh unclosed h =
       graph = record { extended = refl; sides = refl; table = refl; unclosed = unclosed };
       axioms = λ i small. ap (λ k. line_of k.live i) ledger;
       groups = h.groups;
-      sum = λ σ. ap (λ z. z % algebra.modulus e) (omega arith) ∙ h.sum σ;
-      over = λ k d low. absurd (omega arith);
-      one = λ k d low. absurd (omega arith);
-      live = λ k d low. absurd (omega arith);
-      small = λ k d low. absurd (omega arith);
-      once = λ i j d lt within. absurd (omega arith);
-      ids = λ k d low. absurd (omega arith);
+      sum = λ σ. ap (λ k. (groups_sum l.table gs σ + combined (algebra.modulus e) k.live (parts_in l.table columns) σ) % algebra.modulus e) ledger ∙ h.sum σ;
+      over = h.of_columns.over;
+      nonzero = h.of_columns.nonzero;
+      live = subst (λ k. All (λ p. IsLive k.live p.0) columns) (sym ledger) h.of_columns.live;
+      once = h.of_columns.once;
+      ids = subst (λ n. All (λ p. (e.max < p.0) × (p.0 ≤ n)) columns) greatest h.of_columns.ids;
       low = omega arith;
     }

@@ -1,23 +1,25 @@
 -- What the loop over a plan's steps keeps: the frontier's function, and what lines are to state.
-use Rattle.std.specs.Prelude.{Bool, ◌≡◌, ◌≢◌, ℕ, ◌+◌, ◌%◌, ◌<◌, ◌≤◌, true, false, List, [], ◌∷◌, map, ◌++◌, length, IfSome, IsSome}
+use Rattle.std.specs.Prelude.{Bool, ◌≡◌, ◌≢◌, ℕ, ◌+◌, ◌*◌, ◌%◌, ◌^◌, ◌<◌, ◌≤◌, true, false, List, [], ◌∷◌, map, ◌++◌, length, slice_get, IfSome, IsSome, sum_by}
 use Rattle.std.specs.declared.option.Option.{Option}
 use Rattle.std.specs.declared.option.Option.TheVariants.{None, Some}
-use Rattle.std.specs.List.{All, AllPairs}
+use Rattle.std.specs.List.{All, AllPairs, Contains}
 use Rattle.graph_core.specs.declared.gate.Gate.{Gate}
+use Rattle.graph_core.specs.declared.literal.Lit.{Lit}
 use Rattle.graph_core.specs.Graph.Assignments.{Assignment}
 use Rattle.graph_core.specs.Graph.Operands.{ReadInputs, Sides}
 use Rattle.graph_core.specs.Graph.Extended.{Extended}
-use Rattle.graph_core.specs.Algebra.{IsLive, axioms, combined, line_of, specification, value_of}
+use Rattle.graph_core.specs.Algebra.{IsLive, Part, axioms, combined, gate_axiom, line_of, specification}
 use Rattle.graph_core.specs.Algebra as algebra
 use Rattle.graph_core.specs.Algebra.Polynomials.{Term, difference}
-use Rattle.ripple_graft.specs.Extension.{IsExtension}
+use Rattle.ripple_graft.specs.Extension.{IsExtension, new_outputs}
 use Rattle.poly_terms.specs.Indexed.{IsIndexed}
 use Rattle.poly_terms.specs.Tables.{Table, Sum, IsOf, modulus, monomials_in, value_in}
+use Rattle.frontier_core.specs.Columns.{column_value}
 use Rattle.frontier_core.specs.Frontier.{set_to}
 use Rattle.frontier_core.specs.Sets.{has}
-use Rattle.frontier_core.specs.Plan.{Taken, value_of_taken}
-use Rattle.frontier_core.specs.Pending.{AreSpare, IsGained, IsNotZero, IsPending, gap}
-use Rattle.frontier_core.specs.Totals.{lines_sum}
+use Rattle.frontier_core.specs.declared.step.Step.TheVariants.{Add, Eliminate}
+use Rattle.frontier_core.specs.Plan.{Taken, step, value_of_taken}
+use Rattle.frontier_core.specs.Pending.{AreSpare, IsNotZero, IsPending, gap}
 use Rattle.frontier_core.specs.RestLine.{partial_specification}
 use Rattle.pac_writer.specs.Writing.{IsOver, Made, ledger_of, parts_in}
 use Rattle.frontier_core.specs.Substitution.{gate_value, quotient, substituted}
@@ -60,66 +62,125 @@ pub record IsEliminated (t0 t1 : Table) (x : Gate) (p : Sum) (r : Elimination) :
 
 -- ---- groups
 
+-- so many times a polynomial's entries
+abbrev pub times : ℕ → Sum → Sum
+times w p = map (λ e. (e.0, w * e.1)) p
+
+-- parts, each factor 2^k times as great
+abbrev pub whole : Table → ℕ → List (ℕ × Sum) → List Part
+whole t k parts = parts_in t (map (λ p. (p.0, times (2 ^ k) p.1)) parts)
+
 -- Parts of the table's polynomials, over the axioms of gates.
 pub record AreParts (e : Extended) (t : Table) (parts : List (ℕ × Sum)) : Type 0 where
   pub of : All (λ p. IsOver e.max t p.1) parts
   pub gates : All (λ p. has (map (λ x. x.v) e.gates) p.0 ≡ true) parts
 
--- A group of parts that can be a line over the axioms, and the polynomial that they add up to.
+-- A group of parts that can be a line over the axioms, the polynomial that they add up to, and a weight that isn't 0.
 pub record IsGroup (e : Extended) (t : Table) (g : Group) : Type 0 where
   pub some : 0 < length g.parts.items
   pub parts : AreParts e t g.parts.items
   pub of : IsOver e.max t g.poly
-  pub of_one : IsOver e.max t g.one
+  pub of_weight : IsOver e.max t g.weight
   pub spare : AreSpare (algebra.modulus e) (axioms e).live (parts_in t g.parts.items)
   pub states : (σ : Assignment) → value_in t g.poly σ ≡ combined (algebra.modulus e) (axioms e).live (parts_in t g.parts.items) σ % algebra.modulus e
-  pub one : (σ : Assignment) → value_in t g.one σ ≡ 1
+  pub nonzero : IsNotZero (algebra.modulus e) (monomials_in t g.weight)
 
--- the sum of what groups state
+-- the sum of what groups state, each times its weight
 abbrev pub groups_sum : Table → List Group → Assignment → ℕ
 groups_sum t [] σ = 0
-groups_sum t (g ∷ gs) σ = value_in t g.poly σ + groups_sum t gs σ
+groups_sum t (g ∷ gs) σ = value_in t g.poly σ * value_in t g.weight σ + groups_sum t gs σ
 
--- Groups, and the sum of what they state.
-pub record AreGroups (e : Extended) (t : Table) (gs : List Group) (total : Sum) : Type 0 where
+-- Parts over the axioms of replaced columns, none of them twice, that a line can be over.
+pub record AreColumns (e : Extended) (t : Table) (columns : List (ℕ × Sum)) : Type 0 where
+  pub over : All (λ p. IsOver e.max t p.1) columns
+  pub nonzero : All (λ p. IsNotZero (algebra.modulus e) (monomials_in t p.1)) columns
+  pub live : All (λ p. IsLive (axioms e).live p.0) columns
+  pub once : AllPairs (λ p q. p.0 ≢ q.0) columns
+  pub ids : All (λ p. (e.max < p.0) × (p.0 ≤ e.max + length e.graph.outputs)) columns
+
+-- parts over the axioms of columns that were added
+abbrev pub AreOfAdded : Extended → List ℕ → List (ℕ × Sum) → Type 0
+AreOfAdded e added columns = All (λ p. (k : ℕ) × (has added k ≡ true) × (p.0 ≡ e.max + 1 + k)) columns
+
+-- Groups and the parts of replaced columns, and the sum of what the groups state and of these parts.
+pub record AreGroups (e : Extended) (t : Table) (gs : List Group) (columns : List (ℕ × Sum)) (total : Sum) : Type 0 where
   pub groups : All (IsGroup e t) gs
+  pub of_columns : AreColumns e t columns
   pub of : IsOf t total
   pub fixed : IsFixedAbove e.max (value_in t total)
-  pub sum : (σ : Assignment) → groups_sum t gs σ % algebra.modulus e ≡ value_in t total σ
+  pub sum : (σ : Assignment) → (groups_sum t gs σ + combined (algebra.modulus e) (axioms e).live (parts_in t columns) σ) % algebra.modulus e ≡ value_in t total σ
 
--- The sum of the ended groups and the open one's parts are the gap at the frontier with this function, and what is known is the sum of the columns.
+-- The sum of the ended groups and the columns' parts, and 2^k times the open one's parts are the gap at the frontier with this function; the products are the
+-- parts' axioms times their factors.
 pub record IsGathered (e : Extended) (s : Sides) (t : Table) (f : Taken) (rest : Assignment → ℕ) (g : Gathered) : Type 0 where
-  pub groups : AreGroups e t g.groups.items g.total
+  pub groups : AreGroups e t g.groups.items g.columns.items g.total
+  pub added : AreOfAdded e f.added g.columns.items
   pub parts : AreParts e t g.parts.items
-  pub pending : IsPending e s (axioms e).live (value_in t g.total) f rest (parts_in t g.parts.items)
-  pub of_known : IsOf t g.known
-  pub known : IsGained e s [] f.added (value_in t g.known)
+  pub fixed : IsFixedAbove e.max (combined (algebra.modulus e) (axioms e).live (parts_in t g.parts.items))
+  pub low : g.power < t.exponent
+  pub pending : IsPending e s (axioms e).live (value_in t g.total) f rest (whole t g.power g.parts.items)
+  pub products : All (IsOf t) g.products.items
+  pub sum : (σ : Assignment) → sum_by (λ p. value_in t p σ) g.products.items % algebra.modulus e ≡
+      combined (algebra.modulus e) (axioms e).live (parts_in t g.parts.items) σ % algebra.modulus e
 
--- The open group takes a part over a line.
-pub record HasTaken (v : ℕ) (factor : Sum) (old new : Gathered) : Type 0 where
+-- 1 for a list that has something, else 0
+abbrev pub one_if_some : List (ℕ × Sum) → ℕ
+one_if_some [] = 0
+one_if_some (p ∷ parts) = 1
+
+-- how many groups there are, the open one among them, once it has a part
+abbrev pub group_count : Gathered → ℕ
+group_count g = length g.groups.items + one_if_some g.parts.items
+
+-- What was gathered is so still, and there are as many groups.
+pub record Settles (t0 t1 : Table) (old new : Gathered) : Type 0 where
+  pub gathered : (e : Extended) (s : Sides) (f : Taken) (rest : Assignment → ℕ) → modulus t0 ≡ algebra.modulus e → IsFixedAbove e.max (gap e s f.added rest) →
+      IsGathered e s t0 f rest old → IsGathered e s t1 f rest new
+  pub count : group_count new ≤ group_count old
+
+-- No group is open any more.
+pub record IsEndedGroup (t0 t1 : Table) (old new : Gathered) : Type 0 where
+  pub settles : Settles t0 t1 old new
+  pub none : new.parts.items ≡ []
+  pub power : new.power ≡ old.power
+
+-- Parts that are taken now are divided by this power of two.
+pub record HasPower (t0 t1 : Table) (k : ℕ) (old new : Gathered) : Type 0 where
+  pub settles : Settles t0 t1 old new
+  pub power : new.power ≡ k
+
+-- The open group takes a part over the axiom of a gate.
+pub record HasPart (t0 t1 : Table) (x : Gate) (factor : Sum) (old new : Gathered) : Type 0 where
+  pub product : Sum
   pub groups : new.groups ≡ old.groups
+  pub columns : new.columns ≡ old.columns
   pub total : new.total ≡ old.total
-  pub known : new.known ≡ old.known
-  pub parts : new.parts.items ≡ old.parts.items ++ (v, factor) ∷ []
+  pub power : new.power ≡ old.power
+  pub parts : new.parts.items ≡ old.parts.items ++ (x.v, factor) ∷ []
+  pub products : new.products.items ≡ old.products.items ++ product ∷ []
+  pub of : IsOf t1 product
+  pub value : (σ : Assignment) → value_in t1 product σ ≡ ((gate_axiom (modulus t0) x).value σ * value_in t0 factor σ) % modulus t0
 
--- if there is a factor
-abbrev pub Takes : ℕ → Option Sum → Gathered → Gathered → Type 0
-Takes v None old new = new ≡ old
-Takes v (Some factor) old new = HasTaken v factor old new
+-- A gate that may be eliminated next.
+pub record IsNext (e : Extended) (f : Taken) (x : Gate) : Type 0 where
+  pub made : IsExtension e
+  pub gate : Contains e.gates x
+  pub new : has f.eliminated x.v ≡ false
 
--- A column is known too.
-pub record HasColumn (t0 t1 : Table) (column : Sum) (old new : Gathered) : Type 0 where
-  pub groups : new.groups ≡ old.groups
-  pub total : new.total ≡ old.total
-  pub parts : new.parts ≡ old.parts
-  pub of : IsOf t1 new.known
-  pub known : (σ : Assignment) → value_in t1 new.known σ ≡ (value_in t0 old.known σ + value_in t0 column σ) % modulus t0
+-- The gate's part is taken: a factor that is minus the quotient by its variable, if that isn't 0.
+pub record HasTaken (t0 t1 : Table) (x : Gate) (q : Option Sum) (old new : Gathered) : Type 0 where
+  pub gathered : (e : Extended) (s : Sides) (f : Taken) (rest next : Assignment → ℕ) → modulus t0 ≡ algebra.modulus e → IsNext e f x →
+      IsFixedAbove e.max rest → IsFixedAbove e.max (gap e s f.added rest) → ((σ : Assignment) → next σ ≡ substituted (algebra.modulus e) x.v (gate_value x) rest σ) →
+      IsTurned (algebra.modulus e) t0 (quotient (algebra.modulus e) x.v rest) q →
+      IsGathered e s t0 f rest old → IsGathered e s t1 (step f (Eliminate x.v)) next new
+  pub count : group_count new ≤ group_count old + 1
 
--- What was gathered is so still, and no more groups than the most were ended.
-pub record Settles (t0 t1 : Table) (rest : Sum) (most : ℕ) (old new : Gathered) : Type 0 where
-  pub gathered : (e : Extended) (s : Sides) (f : Taken) → modulus t0 ≡ algebra.modulus e → IsFixedAbove e.max (gap e s f.added (value_in t0 rest)) →
-      IsGathered e s t0 f (value_in t0 rest) old → IsGathered e s t1 f (value_in t0 rest) new
-  pub few : length old.groups.items ≤ most → length new.groups.items ≤ most
+-- The column's part is taken, where it is replaced.
+pub record HasColumn (t0 t1 : Table) (e : Extended) (k : ℕ) (old new : Gathered) : Type 0 where
+  pub gathered : (s : Sides) (f : Taken) (rest next : Assignment → ℕ) → modulus t0 ≡ algebra.modulus e → IsExtension e → k < length e.graph.outputs → has f.added k ≡ false →
+      ((r : Lit) → slice_get (new_outputs e) k ≡ Some r → (σ : Assignment) → next σ ≡ (rest σ + column_value e s k r σ) % algebra.modulus e) →
+      IsGathered e s t0 f rest old → IsGathered e s t1 (step f (Add k)) next new
+  pub count : group_count new ≡ group_count old
 
 -- ---- the walk over the steps
 
@@ -132,22 +193,23 @@ pub record IsWalked (e : Extended) (s : Sides) (t : Table) (f : Taken) (w : Walk
   pub fixed : IsFixedAbove e.max (value_in t w.rest.sum)
   pub known : IsFixedAbove e.max (partial_specification e s f.added)
   pub gathered : IfSome w.gathered (IsGathered e s t f (value_in t w.rest.sum))
-  pub few : IfSome w.gathered (λ g. length g.groups.items ≤ length e.gates)
+  pub few : IfSome w.gathered (λ g. group_count g ≤ length f.eliminated)
 
--- the same with what is kept before
-abbrev pub TakesIn : ℕ → Option Sum → Option Gathered → Option Gathered → Type 0
-TakesIn v q None r = r ≡ None
-TakesIn v q (Some g) None = ⊥
-TakesIn v q (Some g) (Some more) = Takes v q g more
+-- the same, if what is gathered is kept
+abbrev pub HasTakenIn : Table → Table → Gate → Option Sum → Option Gathered → Option Gathered → Type 0
+HasTakenIn t0 t1 x q None r = r ≡ None
+HasTakenIn t0 t1 x q (Some g) None = ⊥
+HasTakenIn t0 t1 x q (Some g) (Some more) = HasTaken t0 t1 x q g more
 
-abbrev pub HasColumnIn : Table → Table → Sum → Option Gathered → Option Gathered → Type 0
-HasColumnIn t0 t1 column None r = r ≡ None
-HasColumnIn t0 t1 column (Some g) None = ⊥
-HasColumnIn t0 t1 column (Some g) (Some more) = HasColumn t0 t1 column g more
+-- the same, if what is gathered is kept
+abbrev pub HasColumnIn : Table → Table → Extended → ℕ → Option Gathered → Option Gathered → Type 0
+HasColumnIn t0 t1 e k None r = r ≡ None
+HasColumnIn t0 t1 e k (Some g) None = ⊥
+HasColumnIn t0 t1 e k (Some g) (Some more) = HasColumn t0 t1 e k g more
 
--- The groups' lines state the specification minus the last frontier's function.
+-- The groups' lines and the columns' parts state the specification minus the last frontier's function.
 pub record AreTotal (e : Extended) (s : Sides) (t : Table) (rest : Sum) (g : Gathered) : Type 0 where
-  pub groups : AreGroups e t g.groups.items g.total
+  pub groups : AreGroups e t g.groups.items g.columns.items g.total
   pub few : length g.groups.items ≤ length e.gates + 1
   pub total : (σ : Assignment) → value_in t g.total σ ≡ difference (algebra.modulus e) (specification e s σ) (value_in t rest σ)
 
@@ -162,38 +224,39 @@ pub record IsEnded (p : Planned) (s : Sides) (t : Table) (budget : ℕ) (w : End
 abbrev pub IsOutcome : Planned → Sides → Table → ℕ → Outcome → Type 0
 IsOutcome p s t budget (outcome.Ended w) = IsEnded p s t budget w
 IsOutcome p s t budget (outcome.Passed step size) = IsPassed p s budget step size
+IsOutcome p s t budget outcome.Stopped = Unit {0}
 
--- What a walk asks for: no column is replaced, the operands are inputs, and the table has the graph's modulus.
+-- What a walk asks for: the operands are inputs, and the table has the graph's modulus.
 pub record CanTake (p : Planned) (s : Sides) (t : Table) : Type 0 where
-  pub plain : p.extended.replaced ≡ []
   pub inputs : ReadInputs p.extended.graph s
   pub same_modulus : modulus t ≡ algebra.modulus p.extended
 
--- what was gathered is kept, if all steps were taken
+-- the walk ended, and what was gathered is kept if all steps were taken
 abbrev pub IsKept : Outcome → Type 0
 IsKept (outcome.Ended w) = IsSome w.gathered
 IsKept (outcome.Passed step size) = Unit {0}
+IsKept outcome.Stopped = ⊥
 
 -- No group is open.
 pub record HasEnded (e : Extended) (s : Sides) (t : Table) (f : Taken) (rest : Sum) (g : Gathered) : Type 0 where
   pub gathered : IsGathered e s t f (value_in t rest) g
-  pub few : length g.groups.items ≤ length e.gates + 1
+  pub few : length g.groups.items ≤ length f.eliminated
   pub none : g.parts.items ≡ []
 
 -- ---- the lines of the groups
 
--- Some groups' lines are written, and each is to be taken once by the last line; with the groups that are left they add up to the total.
-pub record AreWritten (e : Extended) (s : Sides) (t : Table) (total : Sum) (gs : List Group) (ones : List (ℕ × Sum)) (l : Made) : Type 0 where
+-- Some groups' lines are written, and each is to be taken by the last line, times its weight; with the groups that are left they add up
+-- to the total.
+pub record AreWritten (e : Extended) (s : Sides) (t : Table) (total : Sum) (gs : List Group) (weighted : List (ℕ × Sum)) (l : Made) : Type 0 where
   pub made : IsExtension e
   pub same_modulus : modulus t ≡ algebra.modulus e
   pub graph : IsOfGraph e s t l
   pub axioms : (id : ℕ) → id ≤ e.max → line_of (ledger_of l).live id ≡ line_of (axioms e).live id
   pub groups : All (IsGroup e t) gs
-  pub sum : (σ : Assignment) → (groups_sum t gs σ + lines_sum (ledger_of l).live (map (λ p. p.0) ones) σ) % algebra.modulus e ≡ value_in t total σ
-  pub over : All (λ p. IsOver e.max t p.1) ones
-  pub one : All (λ p. (σ : Assignment) → value_in t p.1 σ ≡ 1) ones
-  pub live : All (λ p. IsLive (ledger_of l).live p.0) ones
-  pub small : All (λ p. (σ : Assignment) → value_of (ledger_of l).live p.0 σ % algebra.modulus e ≡ value_of (ledger_of l).live p.0 σ) ones
-  pub once : AllPairs (λ p q. p.0 ≢ q.0) ones
-  pub ids : All (λ p. (e.max < p.0) × (p.0 ≤ l.last)) ones
+  pub sum : (σ : Assignment) → (groups_sum t gs σ + combined (algebra.modulus e) (ledger_of l).live (parts_in t weighted) σ) % algebra.modulus e ≡ value_in t total σ
+  pub over : All (λ p. IsOver e.max t p.1) weighted
+  pub nonzero : All (λ p. IsNotZero (algebra.modulus e) (monomials_in t p.1)) weighted
+  pub live : All (λ p. IsLive (ledger_of l).live p.0) weighted
+  pub once : AllPairs (λ p q. p.0 ≢ q.0) weighted
+  pub ids : All (λ p. (e.max < p.0) × (p.0 ≤ l.last)) weighted
   pub low : e.max ≤ l.last

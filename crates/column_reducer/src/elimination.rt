@@ -40,19 +40,18 @@ pub(crate) fn eliminate(
     let by = terms.quotient(&taken, gate.v)?;
     let more = times_product(alloc, terms, &by, gate)?;
     rest.add(terms, &more)?;
-    let factor = turned(alloc, terms, &by)?;
+    let factor = turned(terms, &by)?;
     Ok(Elimination { rest, factor })
 }
 
 // Minus a polynomial, where it isn't 0.
-fn turned(alloc: Global, terms: &mut Terms, by: &Poly) -> Result<Option<Poly>, Memory>
-    requires of { IsOf terms.old by.now }
-    ensures extends { Extends terms.old terms.new }
-    ensures factor { IfOk result (IsTurned (modulus terms.old) terms.new (value_in terms.old by.now)) }
+fn turned(terms: &Terms, by: &Poly) -> Result<Option<Poly>, Memory>
+    requires of { IsOf terms.now by.now }
+    ensures factor { IfOk result (IsTurned (modulus terms.now) terms.now (value_in terms.now by.now)) }
 {
     if terms.size(by) == 0 {
         return Ok(None);
     }
-    let factor = opposite(alloc, terms, by)?;
+    let factor = opposite(terms, by)?;
     Ok(Some(factor))
 }

@@ -1,38 +1,46 @@
 // What is gathered for the lines of a certificate.
 #![tactic(auto, using(poly_terms::specs::Laws::stays, poly_terms::specs::Laws::extends_on, poly_terms::specs::Laws::extends_itself))]
 
-ghost use Rattle.std.specs.Prelude.{◌≡◌, ◌≤◌, ◌+◌, ℕ, [], IfOk, IfSome, OnOk, length};
+ghost use Rattle.std.specs.Prelude.{◌≡◌, ◌≤◌, ◌<◌, ℕ, [], IfOk, IfSome, OnOk, length};
 ghost use Rattle.graph_core.specs.Algebra as algebra;
 ghost use Rattle.graph_core.specs.Graph.Assignments.{Assignment};
 ghost use Rattle.graph_core.specs.Graph.Extended.{Extended};
 ghost use Rattle.graph_core.specs.Graph.Operands.{Sides};
 ghost use Rattle.poly_terms.specs.Tables.{Extends, IsOf, modulus, value_in};
 ghost use Rattle.frontier_core.specs.Plan.{Taken, nothing};
-ghost use Rattle.frontier_core.specs.Pending.{gap};
-ghost use Rattle.column_reducer.specs.Gathering.{HasColumn, IsFixedAbove, IsGathered, Takes};
+ghost use Rattle.column_reducer.specs.Gathering.{HasColumn, HasPart, HasPower, HasTaken, IsEndedGroup, IsGathered, group_count};
 
-use crate::pieces::{minus, one_poly, zero_poly};
-use graph_core::Memory;
+use crate::pieces::{power_poly, zero_poly};
+use gate_axioms::{equal_poly, gate_poly};
+use graph_core::{Gate, Memory};
 use poly_terms::{Poly, Terms};
+use ripple_graft::Extended as ExtendedGraph;
 use std::alloc::Global;
 
-/// Parts of a line, the polynomial that they add up to, and the number 1, with which a last line takes this one.
+// So many columns share a line: a power of two that parts are divided by is a multiple of it.
+const COLUMNS: u32 = 4;
+
+/// Parts of a line, the polynomial that they add up to, and the number with which a last line takes this one.
 #[derive(Debug, Drop)]
 pub(crate) struct Group {
     pub(crate) parts: Vec<(u64, Poly)>,
     pub(crate) poly: Poly,
-    pub(crate) one: Poly,
+    pub(crate) weight: Poly,
 }
 
 /// Groups that were ended, and the parts of the group that is open.
 #[derive(Debug, Drop)]
 pub(crate) struct Gathered {
     pub(crate) groups: Vec<Group>,
-    /// the sum of what the groups state
+    /// parts over the axioms of replaced columns, which belong to the last line
+    pub(crate) columns: Vec<(u64, Poly)>,
+    /// the sum of what the groups state, each times its weight, and of the columns' parts
     pub(crate) total: Poly,
-    /// the sum of the columns
-    pub(crate) known: Poly,
+    /// parts that are divided by 2^power
     pub(crate) parts: Vec<(u64, Poly)>,
+    /// each part's axiom times its factor
+    pub(crate) products: Vec<Poly>,
+    pub(crate) power: u32,
     /// how many monomials the open group's factors have
     pub(crate) pending: u64,
     /// how many those of the ended groups have
@@ -43,83 +51,184 @@ impl Gathered {
     /// No group and no part.
     pub(crate) fn new(alloc: Global, terms: &mut Terms) -> Result<Gathered, Memory>
         ensures extends { Extends terms.old terms.new }
-        ensures none { IfOk result (λ g. g.groups.items ≡ []) }
+        ensures none { IfOk result (λ g. group_count g ≡ 0) }
         ensures gathered { IfOk result (λ g. (e : Extended) (s : Sides) (rest : Assignment → ℕ) →
             modulus terms.old ≡ algebra.modulus e → ((σ : Assignment) → rest σ ≡ 0) → IsGathered e s terms.new nothing rest g) }
     {
         let total = zero_poly(alloc, terms)?;
-        let known = zero_poly(alloc, terms)?;
+        let power = terms.exponent() - 1;
         Ok(Gathered {
             groups: Vec::new(alloc),
+            columns: Vec::new(alloc),
             total,
-            known,
             parts: Vec::new(alloc),
+            products: Vec::new(alloc),
+            power,
             pending: 0,
             ended: 0,
         })
     }
 
-    /// Takes a column: it adds no part.
-    pub(crate) fn add_column(&mut self, terms: &mut Terms, column: &Poly) -> Result<(), Memory>
-        requires known { IsOf terms.old self.old.known }
-        requires column { IsOf terms.old column.now }
-        ensures extends { Extends terms.old terms.new }
-        ensures column { OnOk result (HasColumn terms.old terms.new column.now self.old self.new) }
-    {
-        self.known = terms.add(&self.known, column)?;
-        Ok(())
-    }
-
-    /// Takes a part of the open group, over the axiom of a gate.
-    pub(crate) fn take(&mut self, terms: &Terms, v: u32, factor: Option<Poly>) -> Result<(), Memory>
-        requires { IfSome factor (IsOf terms.now) }
-        ensures { OnOk result (Takes v factor self.old self.new) }
-    {
-        if let Some(factor) = factor {
-            self.pending = self.pending.saturating_add(terms.size(&factor));
-            self.parts.push((u64::from(v), factor))?;
-        }
-        Ok(())
-    }
-
-    /// Ends the open group, if it has a part: it states what is known minus the rest, minus what the other groups state.
-    pub(crate) fn end_group(
+    /// Takes a part over the axiom of a gate, if there is a factor. It is divided by a power of two that divides the
+    /// factors of the open group too; where that has to be a lesser one, a group begins.
+    pub(crate) fn take(
         self,
         alloc: Global,
         terms: &mut Terms,
-        rest: &Poly,
+        gate: &Gate,
+        factor: Option<Poly>,
     ) -> Result<Gathered, Memory>
-        requires of { IsOf terms.old rest.now }
-        requires gathered { (e : Extended) × (s : Sides) × (f : Taken) × IsGathered e s terms.old f (value_in terms.old rest.now) self }
+        requires factor { IfSome factor (IsOf terms.old) }
+        requires gathered { (e : Extended) × (s : Sides) × (f : Taken) × (rest : Assignment → ℕ) × IsGathered e s terms.old f rest self }
         ensures extends { Extends terms.old terms.new }
-        ensures count { IfOk result (λ g. length g.groups.items ≤ length self.groups.items + 1) }
-        ensures gathered { IfOk result (λ g. (e : Extended) (s : Sides) (f : Taken) →
-            modulus terms.old ≡ algebra.modulus e → IsFixedAbove e.max (gap e s f.added (value_in terms.old rest.now)) →
-            IsGathered e s terms.old f (value_in terms.old rest.now) self →
-            IsGathered e s terms.new f (value_in terms.old rest.now) g × (g.parts.items ≡ [])) }
+        ensures taken { IfOk result (HasTaken terms.old terms.new gate.now factor self) }
+    {
+        match factor {
+            None => Ok(self),
+            Some(factor) => self.take_factor(alloc, terms, gate, factor),
+        }
+    }
+
+    fn take_factor(
+        self,
+        alloc: Global,
+        terms: &mut Terms,
+        gate: &Gate,
+        factor: Poly,
+    ) -> Result<Gathered, Memory>
+        requires factor { IsOf terms.old factor }
+        requires gathered { (e : Extended) × (s : Sides) × (f : Taken) × (rest : Assignment → ℕ) × IsGathered e s terms.old f rest self }
+        ensures extends { Extends terms.old terms.new }
+        ensures taken { IfOk result (HasTaken terms.old terms.new gate.now (Some factor) self) }
+    {
+        let _exponent = terms.exponent();
+        let power = common_power(terms, &factor, self.power);
+        match terms.divided(&factor, power)? {
+            Some(part) => {
+                let gathered = self.with_power(alloc, terms, power)?;
+                gathered.push(alloc, terms, gate, part)
+            }
+            None => {
+                let gathered = self.with_power(alloc, terms, 0)?;
+                gathered.push(alloc, terms, gate, factor)
+            }
+        }
+    }
+
+    // Ends the open group where its parts are divided by another power.
+    fn with_power(self, alloc: Global, terms: &mut Terms, power: u32) -> Result<Gathered, Memory>
+        requires low { power ≤ self.power }
+        requires gathered { (e : Extended) × (s : Sides) × (f : Taken) × (rest : Assignment → ℕ) × IsGathered e s terms.old f rest self }
+        ensures extends { Extends terms.old terms.new }
+        ensures power { IfOk result (HasPower terms.old terms.new power self) }
+    {
+        if power == self.power {
+            return Ok(self);
+        }
+        let mut ended = self.end_group(alloc, terms)?;
+        ended.power = power;
+        Ok(ended)
+    }
+
+    // Takes a part that is divided.
+    fn push(
+        self,
+        alloc: Global,
+        terms: &mut Terms,
+        gate: &Gate,
+        factor: Poly,
+    ) -> Result<Gathered, Memory>
+        requires { IsOf terms.old factor }
+        ensures extends { Extends terms.old terms.new }
+        ensures part { IfOk result (HasPart terms.old terms.new gate.now factor self) }
+    {
+        let mut gathered = self;
+        let axiom = gate_poly(alloc, terms, gate)?;
+        let product = terms.mul(&axiom, &factor)?;
+        gathered.products.push(product)?;
+        gathered.pending = gathered.pending.saturating_add(terms.size(&factor));
+        gathered.parts.push((u64::from(gate.v), factor))?;
+        Ok(gathered)
+    }
+
+    /// Takes the part of a column over its axiom, which is its old output minus its new one, where it is replaced.
+    pub(crate) fn take_column(
+        self,
+        alloc: Global,
+        terms: &mut Terms,
+        extended: &ExtendedGraph<'_>,
+        k: u32,
+    ) -> Result<Gathered, Memory>
+        requires in_range { k < length extended.now.graph.outputs }
+        requires weight { k < terms.old.exponent }
+        requires gathered { (e : Extended) × (s : Sides) × (f : Taken) × (rest : Assignment → ℕ) × IsGathered e s terms.old f rest self }
+        ensures extends { Extends terms.old terms.new }
+        ensures column { IfOk result (HasColumn terms.old terms.new extended.now k self) }
+    {
+        if !extended.replaced(k) {
+            return Ok(self);
+        }
+        let mut gathered = self;
+        let old = extended.graph().output(k);
+        let axiom = equal_poly(alloc, terms, old, extended.new_output(k))?;
+        let weight = power_poly(alloc, terms, k)?;
+        gathered.total = terms.combine(&gathered.total, &axiom, &weight)?;
+        let id = u64::from(extended.max()) + 1 + u64::from(k);
+        gathered.columns.push((id, weight))?;
+        Ok(gathered)
+    }
+
+    /// Ends the open group, if it has a part: it states what its parts add up to.
+    pub(crate) fn end_group(self, alloc: Global, terms: &mut Terms) -> Result<Gathered, Memory>
+        requires gathered { (e : Extended) × (s : Sides) × (f : Taken) × (rest : Assignment → ℕ) × IsGathered e s terms.old f rest self }
+        ensures extends { Extends terms.old terms.new }
+        ensures ended { IfOk result (IsEndedGroup terms.old terms.new self) }
     {
         if self.parts.is_empty() {
             return Ok(self);
         }
         let Gathered {
             mut groups,
+            columns,
             total,
-            known,
             parts,
+            products,
+            power,
             pending,
             ended,
         } = self;
-        let now = minus(alloc, terms, &known, rest)?;
-        let poly = minus(alloc, terms, &now, &total)?;
-        let one = one_poly(alloc, terms)?;
-        groups.push(Group { parts, poly, one })?;
+        let poly = terms.add_all(&products)?;
+        let weight = power_poly(alloc, terms, power)?;
+        let total = terms.combine(&total, &poly, &weight)?;
+        groups.push(Group {
+            parts,
+            poly,
+            weight,
+        })?;
         Ok(Gathered {
             groups,
-            total: now,
-            known,
+            columns,
+            total,
             parts: Vec::new(alloc),
+            products: Vec::new(alloc),
+            power,
             pending: 0,
             ended: ended.saturating_add(pending),
         })
     }
+}
+
+// The greatest power up to this one by which a factor can be divided, as a multiple of `COLUMNS`, if it isn't this one.
+fn common_power(terms: &Terms, factor: &Poly, most: u32) -> u32
+    requires { IsOf terms.now factor.now }
+    ensures { result ≤ most }
+{
+    let mut power = most;
+    for i in 0..terms.size(factor) {
+        power = power.min(terms.coefficient(factor, i).trailing_zeros());
+    }
+    if power == most {
+        return most;
+    }
+    power / COLUMNS * COLUMNS
 }

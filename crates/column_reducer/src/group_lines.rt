@@ -1,4 +1,4 @@
-// The lines of groups, and the last line, which adds them up.
+// The lines of groups, and the last line, which adds them up, each times its weight.
 ghost use Rattle.std.specs.Prelude.{◌≡◌, ◌<◌, ◌≤◌, ◌⊎◌, ◌+◌, ◌^◌, ◌++◌, ◌∷◌, ℕ, [], None, List, IfOk, OnOk, length};
 ghost use Rattle.graph_core.specs.Algebra.{IsLive, value_of};
 ghost use Rattle.graph_core.specs.Graph.Assignments.{Assignment};
@@ -15,19 +15,19 @@ use crate::gathered::Group;
 use graph_core::Memory;
 use pac_writer::Lines;
 use poly_terms::Poly;
-use std::alloc::Global;
 
-/// Writes a line for each group, and where there are several one more for their sum; none gives 0.
+/// Writes a line for each group, and one more for their sum, each times its weight, and the columns' parts; where there
+/// is neither, it gives 0.
 pub(crate) fn write_groups(
-    alloc: Global,
     lines: &mut Lines<'_>,
     groups: Vec<Group>,
+    columns: Vec<(u64, Poly)>,
     total: Poly,
 ) -> Result<u64, Memory>
     requires fresh { lines.old.lines ≡ [] }
     requires unclosed { lines.old.closing ≡ None }
     requires extension { IsExtension lines.old.extended }
-    requires groups { AreGroups lines.old.extended lines.old.table groups.items total }
+    requires groups { AreGroups lines.old.extended lines.old.table groups.items columns.items total }
     requires room { lines.old.last + length groups.items + 1 < 2 ^ 48 }
     ensures graph { IsOfGraph lines.old.extended lines.old.sides lines.old.table lines.new }
     ensures line { IfOk result (λ id. (id ≡ 0) ⊎ IsLive (ledger_of lines.new).live id) }
@@ -37,37 +37,41 @@ pub(crate) fn write_groups(
 {
     let _last = lines.last();
     let mut left = groups;
-    let mut ones = Vec::new(alloc);
+    let mut weighted = columns;
     while let Some(group) = left.pop() {
-        write_group(lines, group, &mut ones)?;
+        write_group(lines, group, &mut weighted)?;
     }
-    write_sum(lines, ones, total)
+    write_sum(lines, weighted, total)
 }
 
 // Writes a group's line.
 fn write_group(
     lines: &mut Lines<'_>,
     group: Group,
-    ones: &mut Vec<(u64, Poly)>,
+    weighted: &mut Vec<(u64, Poly)>,
 ) -> Result<(), Memory>
     requires written { (e : Extended) × (s : Sides) × (t : Table) × (total : Sum) × (gs : List OneGroup) ×
-        AreWritten e s t total (gs ++ group ∷ []) ones.old.items lines.old }
+        AreWritten e s t total (gs ++ group ∷ []) weighted.old.items lines.old }
     requires room { lines.old.last + 1 < 2 ^ 48 }
     ensures graph { (e : Extended) (s : Sides) (t : Table) → IsOfGraph e s t lines.old → IsOfGraph e s t lines.new }
     ensures few { length lines.new.lines ≤ length lines.old.lines + 1 }
     ensures last { OnOk result (lines.new.last ≡ lines.old.last + 1) }
     ensures written { OnOk result ((e : Extended) (s : Sides) (t : Table) (total : Sum) (gs : List OneGroup) →
-        AreWritten e s t total (gs ++ group ∷ []) ones.old.items lines.old → AreWritten e s t total gs ones.new.items lines.new) }
+        AreWritten e s t total (gs ++ group ∷ []) weighted.old.items lines.old → AreWritten e s t total gs weighted.new.items lines.new) }
 {
-    let Group { parts, poly, one } = group;
+    let Group {
+        parts,
+        poly,
+        weight,
+    } = group;
     let id = lines.combine(parts, poly)?;
-    ones.push((id, one))?;
+    weighted.push((id, weight))?;
     Ok(())
 }
 
-// Writes the sum of lines, if there are several.
-fn write_sum(lines: &mut Lines<'_>, ones: Vec<(u64, Poly)>, total: Poly) -> Result<u64, Memory>
-    requires written { AreWritten lines.old.extended lines.old.sides lines.old.table total [] ones.items lines.old }
+// Writes the sum of lines, each times its weight, if there is one.
+fn write_sum(lines: &mut Lines<'_>, weighted: Vec<(u64, Poly)>, total: Poly) -> Result<u64, Memory>
+    requires written { AreWritten lines.old.extended lines.old.sides lines.old.table total [] weighted.items lines.old }
     requires over { IsOver lines.old.extended.max lines.old.table total }
     requires room { lines.old.last + 1 < 2 ^ 48 }
     ensures graph { IsOfGraph lines.old.extended lines.old.sides lines.old.table lines.new }
@@ -77,11 +81,8 @@ fn write_sum(lines: &mut Lines<'_>, ones: Vec<(u64, Poly)>, total: Poly) -> Resu
     ensures few { length lines.new.lines ≤ length lines.old.lines + 1 }
 {
     let _last = lines.last();
-    if ones.is_empty() {
+    if weighted.is_empty() {
         return Ok(0);
     }
-    if ones.len() == 1 {
-        return Ok(ones[0].0);
-    }
-    lines.combine(ones, total)
+    lines.combine(weighted, total)
 }

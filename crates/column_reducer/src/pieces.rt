@@ -1,7 +1,7 @@
 // What a step makes of polynomials.
 #![tactic(auto, using(poly_terms::specs::Laws::stays, poly_terms::specs::Laws::extends_on, poly_terms::specs::Laws::extends_itself))]
 
-ghost use Rattle.std.specs.Prelude.{◌≡◌, ◌%◌, ◌+◌, ◌*◌, ◌∷◌, [], IfOk};
+ghost use Rattle.std.specs.Prelude.{◌≡◌, ◌<◌, ◌%◌, ◌+◌, ◌*◌, ◌^◌, ◌∷◌, [], IfOk};
 ghost use Rattle.graph_core.specs.Graph.Assignments.{Assignment, bit};
 ghost use Rattle.graph_core.specs.Algebra.Polynomials.{difference};
 ghost use Rattle.poly_terms.specs.Tables.{IsOf, Extends, given, modulus, value_in};
@@ -56,6 +56,17 @@ fn bit_poly(alloc: Global, terms: &mut Terms, value: bool) -> Result<Poly, Memor
     constant(alloc, terms, u128::from(value))
 }
 
+// The number 2^k, for k below the exponent of the modulus.
+pub(crate) fn power_poly(alloc: Global, terms: &mut Terms, k: u32) -> Result<Poly, Memory>
+    requires { k < terms.old.exponent }
+    ensures extends { Extends terms.old terms.new }
+    ensures of { IfOk result (IsOf terms.new) }
+    ensures value { IfOk result (λ p. (σ : Assignment) → value_in terms.new p σ ≡ 2 ^ k) }
+{
+    let _exponent = terms.exponent();
+    constant(alloc, terms, 1 << k)
+}
+
 // The polynomial of no monomials.
 pub(crate) fn zero_poly(alloc: Global, terms: &mut Terms) -> Result<Poly, Memory>
     ensures extends { Extends terms.old terms.new }
@@ -65,40 +76,15 @@ pub(crate) fn zero_poly(alloc: Global, terms: &mut Terms) -> Result<Poly, Memory
     bit_poly(alloc, terms, false)
 }
 
-// The polynomial 1.
-pub(crate) fn one_poly(alloc: Global, terms: &mut Terms) -> Result<Poly, Memory>
-    ensures extends { Extends terms.old terms.new }
-    ensures of { IfOk result (IsOf terms.new) }
-    ensures value { IfOk result (λ p. (σ : Assignment) → value_in terms.new p σ ≡ 1) }
-{
-    bit_poly(alloc, terms, true)
-}
-
-// The difference of two polynomials.
-pub(crate) fn minus(alloc: Global, terms: &mut Terms, p: &Poly, q: &Poly) -> Result<Poly, Memory>
-    requires left { IsOf terms.old p.now }
-    requires right { IsOf terms.old q.now }
-    ensures extends { Extends terms.old terms.new }
-    ensures of { IfOk result (IsOf terms.new) }
-    ensures value { IfOk result (λ r. (σ : Assignment) → value_in terms.new r σ ≡
-        difference (modulus terms.old) (value_in terms.old p.now σ) (value_in terms.old q.now σ)) }
+// Minus a polynomial.
+pub(crate) fn opposite(terms: &Terms, p: &Poly) -> Result<Poly, Memory>
+    requires { IsOf terms.now p.now }
+    ensures of { IfOk result (IsOf terms.now) }
+    ensures value { IfOk result (λ r. (σ : Assignment) → value_in terms.now r σ ≡
+        difference (modulus terms.now) 0 (value_in terms.now p.now σ)) }
 {
     let less = minus_one(terms);
-    let number = constant(alloc, terms, less.value())?;
-    let poly = terms.combine(p, q, &number)?;
-    Ok(poly)
-}
-
-// Minus a polynomial.
-pub(crate) fn opposite(alloc: Global, terms: &mut Terms, p: &Poly) -> Result<Poly, Memory>
-    requires { IsOf terms.old p.now }
-    ensures extends { Extends terms.old terms.new }
-    ensures of { IfOk result (IsOf terms.new) }
-    ensures value { IfOk result (λ r. (σ : Assignment) → value_in terms.new r σ ≡
-        difference (modulus terms.old) 0 (value_in terms.old p.now σ)) }
-{
-    let zero = bit_poly(alloc, terms, false)?;
-    minus(alloc, terms, &zero, p)
+    terms.multiple(p, less.value())
 }
 
 fn minus_one(terms: &Terms) -> Residue

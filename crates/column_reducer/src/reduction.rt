@@ -4,6 +4,7 @@ ghost use Rattle.graph_core.specs.Graph.Operands.{ReadInputs};
 ghost use Rattle.column_reducer.specs.Gathering.{IsKept, IsOutcome};
 ghost use Rattle.column_reducer.specs.Reducing.{GoesOn, IsReduced};
 
+use crate::frontier_walk::first_passed;
 use crate::group_lines::write_groups;
 use crate::plan::Plan;
 use crate::reduced::Reduced;
@@ -14,12 +15,14 @@ use pac_writer::Lines;
 use poly_terms::{Poly, Terms};
 use std::alloc::Global;
 
-// More monomials of parts than this aren't kept before it is known that all steps stay within the budget.
-const MOST_KEPT: u64 = 1 << 22;
+// More monomials than this aren't kept, in parts or in the table, before it is known that all steps stay within the
+// budget.
+const MOST_KEPT: u64 = 1 << 19;
 
 /// Adds the columns and eliminates the gates of a plan, in the plan's order, as long as each frontier has at most
-/// `budget` monomials, and writes the lines by which the last one differs from the specification. The lines are new, and
-/// no column of the graph is replaced.
+/// `budget` monomials, and writes the lines by which the last one differs from the specification. The lines are new.
+/// Where a column is replaced, the frontiers have its new output and the specification its old one, and the last line
+/// takes the column's axiom times 2^k.
 pub fn reduce(
     alloc: Global,
     plan: &Plan<'_>,
@@ -29,7 +32,6 @@ pub fn reduce(
     requires same_graph { lines.old.extended ≡ plan.now.extended }
     requires new { lines.old.lines ≡ [] }
     requires unclosed { lines.old.closing ≡ None }
-    requires plain { plan.now.extended.replaced ≡ [] }
     requires inputs { ReadInputs plan.now.extended.graph lines.old.sides }
     ensures goes_on { GoesOn lines.old lines.new }
     ensures reduced { IfOk result (IsReduced plan.now lines.old.sides budget lines.new) }
@@ -44,7 +46,7 @@ pub fn reduce(
     let _last = lines.last();
     let _gates = plan.extended().gates();
     let outcome = lines.grow(&mut work, &mut ())?;
-    write_outcome(alloc, lines, outcome)
+    write_outcome(lines, outcome)
 }
 
 // Takes the steps in the table that the lines own.
@@ -80,6 +82,15 @@ impl<'a> Grow<Poly> for TakeSteps<'a> {
         if is_kept(&bounded) {
             return Ok(bounded);
         }
+        if let Some((step, size)) = first_passed(
+            self.alloc,
+            table.exponent(),
+            self.plan,
+            self.operands,
+            self.budget,
+        )? {
+            return Ok(Outcome::Passed { step, size });
+        }
         take_steps(
             self.alloc,
             table,
@@ -100,11 +111,12 @@ fn is_kept(outcome: &Outcome) -> bool
     match outcome {
         Outcome::Ended(ended) => ended.gathered.is_some(),
         Outcome::Passed { .. } => true,
+        Outcome::Stopped => false,
     }
 }
 
 // Writes what all steps have gathered.
-fn write_outcome(alloc: Global, lines: &mut Lines<'_>, outcome: Outcome) -> Result<Reduced, Memory>
+fn write_outcome(lines: &mut Lines<'_>, outcome: Outcome) -> Result<Reduced, Memory>
     requires new { lines.old.lines ≡ [] }
     requires unclosed { lines.old.closing ≡ None }
     requires extension { IsExtension lines.old.extended }
@@ -120,12 +132,18 @@ fn write_outcome(alloc: Global, lines: &mut Lines<'_>, outcome: Outcome) -> Resu
     let _outputs = lines.extended().graph().outputs();
     match outcome {
         Outcome::Passed { step, size } => Ok(Reduced::Passed { step, size }),
+        Outcome::Stopped => unreachable!(),
         Outcome::Ended(ended) => {
             let Ended { rest, gathered } = ended;
             match gathered {
                 None => unreachable!(),
                 Some(gathered) => {
-                    let id = write_groups(alloc, lines, gathered.groups, gathered.total)?;
+                    let id = write_groups(
+                        lines,
+                        gathered.groups,
+                        gathered.columns,
+                        gathered.total,
+                    )?;
                     Ok(Reduced::Rest { poly: rest, id })
                 }
             }

@@ -1,4 +1,4 @@
-// When a group ends, and when nothing is gathered any more.
+// When a group ends.
 #![tactic(auto, using(poly_terms::specs::Laws::stays, poly_terms::specs::Laws::extends_on, poly_terms::specs::Laws::extends_itself, poly_terms::specs::Laws::indexed_stays))]
 
 ghost use Rattle.std.specs.Prelude.{◌≡◌, ◌≢◌, ◌≤◌, ◌+◌, ℕ, None, Ok, IfOk, IfSome, OnOk, length};
@@ -12,46 +12,26 @@ ghost use Rattle.column_reducer.specs.Gathering.{IsGathered, Settles};
 
 use crate::gathered::Gathered;
 use graph_core::Memory;
-use poly_terms::{Indexed, Terms};
+use poly_terms::Terms;
 use std::alloc::Global;
 
 // A group ends once its factors have more monomials than this, so that no line gets very long.
 const LARGE_GROUP: u64 = 1 << 16;
 
-/// Ends a large group, as long as fewer than `most` were ended. Where more than `bound` monomials are kept, nothing is.
+/// Ends a large group.
+#[tactic(auto, using(poly_terms::specs::Laws::extends_itself, crate::proofs::Taken::settled_itself, crate::proofs::Taken::settled_ended))]
 pub(crate) fn settle(
     alloc: Global,
     terms: &mut Terms,
-    rest: &Indexed,
     gathered: Gathered,
-    most: usize,
-    bound: Option<u64>,
-) -> Result<Option<Gathered>, Memory>
-    requires of { IsOf terms.old rest.now.sum }
-    requires gathered { (e : Extended) × (s : Sides) × (f : Taken) × IsGathered e s terms.old f (value_in terms.old rest.now.sum) gathered }
+) -> Result<Gathered, Memory>
+    requires gathered { (e : Extended) × (s : Sides) × (f : Taken) × (rest : Assignment → ℕ) × IsGathered e s terms.old f rest gathered }
     ensures extends { Extends terms.old terms.new }
-    ensures kept { result ≡ Ok None → bound ≢ None }
-    ensures gathered { IfOk result (λ r. IfSome r (Settles terms.old terms.new rest.now.sum most gathered)) }
+    ensures gathered { IfOk result (Settles terms.old terms.new gathered) }
 {
-    if is_past(&gathered, bound) {
-        return Ok(None);
+    if gathered.pending <= LARGE_GROUP {
+        return Ok(gathered);
     }
-    if gathered.pending <= LARGE_GROUP || gathered.groups.len() >= most {
-        return Ok(Some(gathered));
-    }
-    let now = rest.to_poly()?;
-    let ended = gathered.end_group(alloc, terms, &now)?;
-    Ok(Some(ended))
+    let ended = gathered.end_group(alloc, terms)?;
+    Ok(ended)
 }
-
-// Whether more monomials are kept than the bound, if there is one.
-fn is_past(gathered: &Gathered, bound: Option<u64>) -> bool
-    ensures { bound ≡ None → result ≡ false }
-{
-    match bound {
-        None => false,
-        Some(bound) => gathered.pending.saturating_add(gathered.ended) > bound,
-    }
-}
-
-ghost use Rattle.std.specs.Prelude.{false};

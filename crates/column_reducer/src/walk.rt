@@ -13,7 +13,7 @@ ghost use Rattle.poly_terms.specs.Tables.{Extends, IsOf, modulus, value_in};
 ghost use Rattle.frontier_core.specs.Plan.{CanFollow, IsFrontierOf, Taken, nothing, step};
 ghost use Rattle.frontier_core.specs.Sets.{has};
 ghost use Rattle.frontier_core.specs.declared.step.Step.TheVariants as steps;
-ghost use Rattle.column_reducer.specs.Gathering.{HasColumnIn, IsOutcome, IsWalked, TakesIn};
+ghost use Rattle.column_reducer.specs.Gathering.{HasColumnIn, HasTakenIn, IsGathered, IsOutcome, IsWalked};
 
 use crate::elimination::eliminate;
 use crate::gathered::Gathered;
@@ -31,7 +31,7 @@ use std::alloc::Global;
 pub(crate) struct Walk {
     /// the frontier's function
     pub(crate) rest: Indexed,
-    /// none where it became too much to keep
+    /// none where the frontiers alone are walked
     pub(crate) gathered: Option<Gathered>,
 }
 
@@ -49,9 +49,12 @@ pub(crate) enum Outcome {
     Ended(Ended),
     /// the first step that leaves more monomials than the budget, and how many
     Passed { step: u64, size: u64 },
+    /// more than the bound would be kept
+    Stopped,
 }
 
-/// Takes the steps of a plan until a frontier has more monomials than the budget.
+/// Takes the steps of a plan until a frontier has more monomials than the budget. It stops where the parts have, or the
+/// table has got, more monomials than `bound`.
 pub(crate) fn take_steps(
     alloc: Global,
     terms: &mut Terms,
@@ -60,7 +63,6 @@ pub(crate) fn take_steps(
     budget: u64,
     bound: Option<u64>,
 ) -> Result<Outcome, Memory>
-    requires plain { plan.now.extended.replaced ≡ [] }
     requires inputs { ReadInputs plan.now.extended.graph operands.now }
     requires same_modulus { modulus terms.old ≡ algebra.modulus plan.now.extended }
     ensures extends { Extends terms.old terms.new }
@@ -69,13 +71,17 @@ pub(crate) fn take_steps(
 {
     let extended = plan.extended();
     let steps = plan.steps();
+    let before = terms.count();
     let mut walk = Walk::start(alloc, terms)?;
     for count in 0..steps.len() {
         if let Some((step, size)) = passed(terms, plan, &walk.rest, count, budget) {
             return Ok(Outcome::Passed { step, size });
         }
+        if walk.is_past(terms.count().saturating_sub(before), bound) {
+            return Ok(Outcome::Stopped);
+        }
         walk = walk.take_step(alloc, terms, extended, operands, steps[count])?;
-        walk = walk.settled(alloc, terms, extended.gates().len(), bound)?;
+        walk = walk.settled(alloc, terms)?;
     }
     if let Some((step, size)) = passed(terms, plan, &walk.rest, steps.len(), budget) {
         return Ok(Outcome::Passed { step, size });
@@ -87,8 +93,8 @@ pub(crate) fn take_steps(
 ghost use Rattle.column_reducer.specs.Gathering.{IsKept};
 ghost use Rattle.column_reducer.specs.Reducing.{HasSizeAt};
 
-// The step that a frontier counts as and its size, where that is above the budget.
-fn passed(
+/// The step that a frontier counts as and its size, where that is above the budget.
+pub(crate) fn passed(
     terms: &Terms,
     plan: &Plan<'_>,
     rest: &Indexed,
@@ -127,8 +133,8 @@ impl Walk {
         })
     }
 
-    // Takes a step.
-    fn take_step(
+    /// Takes a step.
+    pub(crate) fn take_step(
         self,
         alloc: Global,
         terms: &mut Terms,
@@ -136,7 +142,6 @@ impl Walk {
         operands: &Operands,
         this: Step,
     ) -> Result<Walk, Memory>
-        requires plain { extended.now.replaced ≡ [] }
         requires inputs { ReadInputs extended.now.graph operands.now }
         requires follows { (f : Taken) × IsWalked extended.now operands.now terms.old f self × CanFollow extended.now f this }
         ensures extends { Extends terms.old terms.new }
@@ -154,7 +159,7 @@ impl Walk {
         }
     }
 
-    // Adds a column that isn't replaced: no part is gathered.
+    // Adds a column: where it is replaced, a part is gathered.
     fn add_column(
         self,
         alloc: Global,
@@ -164,7 +169,6 @@ impl Walk {
         k: u32,
     ) -> Result<Walk, Memory>
         requires in_range { k < length extended.now.graph.outputs }
-        requires plain { extended.now.replaced ≡ [] }
         requires inputs { ReadInputs extended.now.graph operands.now }
         requires walked { (f : Taken) × IsWalked extended.now operands.now terms.old f self }
         ensures extends { Extends terms.old terms.new }
@@ -176,7 +180,7 @@ impl Walk {
         let column = column_poly(alloc, terms, extended, operands, k)?;
         let Walk { mut rest, gathered } = self;
         rest.add(terms, &column)?;
-        let gathered = with_column(terms, gathered, &column)?;
+        let gathered = gather_column(alloc, terms, gathered, extended, k)?;
         Ok(Walk { rest, gathered })
     }
 
@@ -198,26 +202,33 @@ impl Walk {
         let _gates = extended.gates();
         let Walk { rest, gathered } = self;
         let out = eliminate(alloc, terms, rest, &gate)?;
-        let gathered = gather(terms, gathered, gate.v, out.factor)?;
+        let gathered = gather(alloc, terms, gathered, &gate, out.factor)?;
         Ok(Walk {
             rest: out.rest,
             gathered,
         })
     }
 
-    // Ends a large group, and drops what is gathered where that has become too much.
-    fn settled(
-        self,
-        alloc: Global,
-        terms: &mut Terms,
-        most: usize,
-        bound: Option<u64>,
-    ) -> Result<Walk, Memory>
+    // Whether more monomials are kept than the bound, if there is one, or that many are new in the table.
+    fn is_past(&self, new: u64, bound: Option<u64>) -> bool
+        ensures { bound ≡ None → result ≡ false }
+    {
+        let kept = match &self.gathered {
+            None => 0,
+            Some(gathered) => gathered.pending.saturating_add(gathered.ended),
+        };
+        match bound {
+            None => false,
+            Some(bound) => new > bound || kept > bound,
+        }
+    }
+
+    // Ends a large group.
+    fn settled(self, alloc: Global, terms: &mut Terms) -> Result<Walk, Memory>
         requires walked { (e : ExtendedGraph) × (s : Sides) × (f : Taken) × IsWalked e s terms.old f self }
         ensures extends { Extends terms.old terms.new }
-        ensures kept { IfOk result (λ w. bound ≡ None → IsSome self.gathered → IsSome w.gathered) }
-        ensures walked { IfOk result (λ w. (e : ExtendedGraph) (s : Sides) (f : Taken) → most ≡ length e.gates →
-            IsWalked e s terms.old f self → IsWalked e s terms.new f w) }
+        ensures kept { IfOk result (λ w. IsSome self.gathered → IsSome w.gathered) }
+        ensures walked { IfOk result (λ w. (e : ExtendedGraph) (s : Sides) (f : Taken) → IsWalked e s terms.old f self → IsWalked e s terms.new f w) }
     {
         let Walk { rest, gathered } = self;
         match gathered {
@@ -226,10 +237,10 @@ impl Walk {
                 gathered: None,
             }),
             Some(gathered) => {
-                let settled = settle(alloc, terms, &rest, gathered, most, bound)?;
+                let settled = settle(alloc, terms, gathered)?;
                 Ok(Walk {
                     rest,
-                    gathered: settled,
+                    gathered: Some(settled),
                 })
             }
         }
@@ -252,7 +263,7 @@ impl Walk {
                 gathered: None,
             }),
             Some(gathered) => {
-                let ended = gathered.end_group(alloc, terms, &rest)?;
+                let ended = gathered.end_group(alloc, terms)?;
                 Ok(Ended {
                     rest,
                     gathered: Some(ended),
@@ -264,41 +275,47 @@ impl Walk {
 
 ghost use Rattle.column_reducer.specs.Gathering.{HasEnded};
 
-// Takes a column, if what is gathered is kept.
-fn with_column(
+// Gathers a part, if there is a factor and what is gathered is kept.
+fn gather(
+    alloc: Global,
     terms: &mut Terms,
     gathered: Option<Gathered>,
-    column: &Poly,
+    gate: &Gate,
+    factor: Option<Poly>,
 ) -> Result<Option<Gathered>, Memory>
-    requires known { IfSome gathered (λ g. IsOf terms.old g.known) }
-    requires column { IsOf terms.old column.now }
+    requires factor { IfSome factor (IsOf terms.old) }
+    requires gathered { IfSome gathered (λ g. (e : ExtendedGraph) × (s : Sides) × (f : Taken) × (rest : Assignment → ℕ) × IsGathered e s terms.old f rest g) }
     ensures extends { Extends terms.old terms.new }
-    ensures column { IfOk result (HasColumnIn terms.old terms.new column.now gathered) }
+    ensures taken { IfOk result (HasTakenIn terms.old terms.new gate.now factor gathered) }
 {
     match gathered {
         None => Ok(None),
-        Some(mut gathered) => {
-            gathered.add_column(terms, column)?;
-            Ok(Some(gathered))
+        Some(gathered) => {
+            let taken = gathered.take(alloc, terms, gate, factor)?;
+            Ok(Some(taken))
         }
     }
 }
 
-// Gathers a part, if there is a factor and what is gathered is kept.
-fn gather(
-    terms: &Terms,
+// Gathers the part of a replaced column, if what is gathered is kept.
+fn gather_column(
+    alloc: Global,
+    terms: &mut Terms,
     gathered: Option<Gathered>,
-    v: u32,
-    factor: Option<Poly>,
+    extended: &Extended<'_>,
+    k: u32,
 ) -> Result<Option<Gathered>, Memory>
-    requires { IfSome factor (IsOf terms.now) }
-    ensures { IfOk result (TakesIn v factor gathered) }
+    requires in_range { k < length extended.now.graph.outputs }
+    requires weight { k < terms.old.exponent }
+    requires gathered { IfSome gathered (λ g. (e : ExtendedGraph) × (s : Sides) × (f : Taken) × (rest : Assignment → ℕ) × IsGathered e s terms.old f rest g) }
+    ensures extends { Extends terms.old terms.new }
+    ensures column { IfOk result (HasColumnIn terms.old terms.new extended.now k gathered) }
 {
     match gathered {
         None => Ok(None),
-        Some(mut gathered) => {
-            gathered.take(terms, v, factor)?;
-            Ok(Some(gathered))
+        Some(gathered) => {
+            let taken = gathered.take_column(alloc, terms, extended, k)?;
+            Ok(Some(taken))
         }
     }
 }

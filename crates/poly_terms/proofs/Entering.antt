@@ -6,7 +6,7 @@ use Rattle.std.proofs.lemmas.List.Elements.{Contains-append_left, Contains-push}
 use Rattle.std.specs.Global.{Global}
 use Rattle.std.specs.List.{Contains}
 use Rattle.std.specs.declared.vec.Vec.{Vec}
-use Rattle.poly_terms.specs.Indexed.{Enters, EntersNew, IsAtPlace}
+use Rattle.poly_terms.specs.Indexed.{Enters, EntersNew}
 use Rattle.poly_terms.specs.Monomials.{has_variable}
 
 pub enters_none : (number : ℕ) (places : List (List ℕ)) → Enters number [] places places

@@ -1,6 +1,6 @@
 -- What becomes of an index where a term is added, and where the terms with a variable are taken out.
 use Rattle.std.proofs.Common.{◌≡◌, ◌≢◌, ◌⊎◌, ℕ, ◌+◌, ◌*◌, ◌%◌, ◌^◌, ◌<◌, Bool, true, false, cond, ◌==◌, List, [], ◌∷◌, ◌++◌, length, get_or, map, set, take, inl, inr, refl, sym, ap, ap₂, subst, ◌∙◌, ⊎_elim, arith, mod-lt, mod-eq_of_lt, eqb-true, get_or-set_same, get_or-set_other, None}
-use Rattle.std.proofs.Math.Nat.{add-mod-mod, mod-add-mod, mod-mod}
+use Rattle.std.proofs.Math.Nat.{mod-mod}
 use Rattle.std.proofs.lemmas.Bool.{cases_Bool, eqb-false}
 use Rattle.std.proofs.lemmas.List.{take_more}
 use Rattle.std.proofs.lemmas.Nat.{pow_pos}

@@ -21,3 +21,4 @@ pub mod Placed
 pub mod Sparse
 pub mod Entering
 pub mod Indexing
+pub mod Scaled

@@ -1,5 +1,5 @@
 -- Entries, each the number of a monomial with its coefficient, and what is made of lists of them.
-use Rattle.std.specs.Prelude.{◌≡◌, ◌≢◌, ◌⊎◌, ℕ, ◌+◌, ◌*◌, ◌%◌, ◌<◌, cond, ◌==◌, None, List, [], ◌∷◌, ◌++◌, get_or, length}
+use Rattle.std.specs.Prelude.{◌≡◌, ◌≢◌, ◌⊎◌, ℕ, ◌+◌, ◌*◌, ◌%◌, ◌<◌, cond, ◌==◌, None, List, [], ◌∷◌, ◌++◌, get_or, length, map}
 use Rattle.std.specs.List.{AllByRecursion}
 use Rattle.std.specs.declared.cmp.Ordering.{Ordering}
 use Rattle.std.specs.Ordering.{nat_cmp}
@@ -56,6 +56,18 @@ pub record IsGathered (m : ℕ) (raw entries : Sum) : Type 0 where
   pub order : AreAfter entry_order None entries
   pub coefficients : AllByRecursion (λ e. (0 < e.1) × (e.1 < m)) entries
   pub numbers : (n : ℕ) → AllByRecursion (λ e. e.0 < n) raw → AllByRecursion (λ e. e.0 < n) entries
+
+-- Entries that add up to so many times what others do, modulo m, over no other numbers.
+pub record IsMultiple (m by : ℕ) (from to : Sum) : Type 0 where
+  pub sums : (f : ℕ → ℕ) → total f to % m ≡ (by * total f from) % m
+  pub numbers : (n : ℕ) → AllByRecursion (λ e. e.0 < n) from → AllByRecursion (λ e. e.0 < n) to
+
+-- Entries of the same numbers, so many times whose sum is that of others, modulo m. None is 0 where none was.
+pub record IsQuotient (m by : ℕ) (from to : Sum) : Type 0 where
+  pub sums : (f : ℕ → ℕ) → (by * total f to) % m ≡ total f from % m
+  pub numbers : map (λ e. e.0) to ≡ map (λ e. e.0) from
+  pub below : AllByRecursion (λ e. e.1 < m) to
+  pub some : AllByRecursion (λ e. 0 < e.1) from → AllByRecursion (λ e. 0 < e.1) to
 
 -- the entries of some lists, one after the other
 abbrev pub appended : List Sum → Sum

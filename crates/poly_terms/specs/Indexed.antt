@@ -1,5 +1,5 @@
 -- Polynomials that change, each with an index from variables to its terms.
-use Rattle.std.specs.Prelude.{◌≡◌, ◌⊎◌, ℕ, ◌+◌, ◌%◌, ◌<◌, cond, ◌==◌, true, List, [], ◌∷◌, get_or, length, set}
+use Rattle.std.specs.Prelude.{◌≡◌, ◌⊎◌, ℕ, ◌+◌, ◌%◌, ◌<◌, cond, ◌==◌, true, List, [], ◌∷◌, get_or, length}
 use Rattle.std.specs.List.{AllByRecursion, Contains}
 use Rattle.poly_terms.specs.Entries.{Sum, total}
 use Rattle.poly_terms.specs.Monomials.{has_in, has_variable}

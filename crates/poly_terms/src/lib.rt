@@ -32,6 +32,7 @@ mod parts;
 mod places;
 mod poly;
 mod quotient;
+mod scaling;
 mod substitution;
 mod sum_of_products;
 mod table_laws;

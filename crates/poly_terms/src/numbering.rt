@@ -36,6 +36,13 @@ impl Numbering {
         }
     }
 
+    /// How many monomials there are.
+    pub(crate) fn len(&self) -> u64
+        ensures { result ≡ length self.now }
+    {
+        self.monomials.len() as u64
+    }
+
     /// No monomials any more. The room stays.
     pub(crate) fn clear(&mut self)
         ensures { self.new ≡ [] }

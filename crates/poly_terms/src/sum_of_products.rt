@@ -161,8 +161,8 @@ impl SumOfProducts {
     }
 }
 
-// The terms, but those that are 0, with their monomials in another table.
-fn carry_all(
+/// The terms, but those that are 0, with their monomials in another table.
+pub(crate) fn carry_all(
     alloc: Global,
     from: &Numbering,
     terms: &[Term],

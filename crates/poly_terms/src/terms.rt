@@ -1,5 +1,5 @@
 // The table of monomials, and all that makes polynomials.
-ghost use Rattle.std.specs.Prelude.{◌≡◌, ◌<◌, ◌↔◌, ◌+◌, ◌*◌, ◌%◌, All, Bool, false, IfOk, IsTrue, Some, [], length, option_map, slice_get, sum_by};
+ghost use Rattle.std.specs.Prelude.{◌≡◌, ◌<◌, ◌↔◌, ◌+◌, ◌*◌, ◌%◌, ◌^◌, All, Bool, false, IfOk, IfSome, IsTrue, Some, [], length, map, option_map, slice_get, sum_by};
 ghost use Rattle.graph_core.specs.Graph.Assignments.{Assignment, bit, listed};
 ghost use Rattle.graph_core.specs.Algebra.NormalForm.{HasSize};
 ghost use Rattle.graph_core.specs.Algebra.Polynomials.{value};
@@ -9,8 +9,8 @@ ghost use Rattle.poly_terms.specs.Tables.{ArePlaces, Extends, IsOf, assigned, gi
 
 use crate::numbering::Numbering;
 use crate::{
-    Poly, SumOfProducts, Variables, addition, evaluation, multiplication, parts, quotient,
-    substitution, term,
+    Poly, SumOfProducts, Variables, addition, evaluation, multiplication, parts, quotient, scaling,
+    substitution, sum_of_products, term,
 };
 use graph_core::Memory;
 use std::alloc::Global;
@@ -292,6 +292,64 @@ impl Terms {
         self.monomials.stand_once();
         let entries = addition::gather(self.alloc, self.exponent, raw)?;
         Ok(Poly::of(entries))
+    }
+
+    /// A polynomial times a number.
+    pub fn multiple(&self, p: &Poly, by: u128) -> Result<Poly, Memory>
+        requires { IsOf self.now p.now }
+        ensures of { IfOk result (IsOf self.now) }
+        ensures value { IfOk result (λ r. (σ : Assignment) →
+            value_in self.now r σ ≡ (by * value_in self.now p.now σ) % modulus self.now) }
+    {
+        let raw = scaling::multiples(self.alloc, self.exponent, p.entries(), by)?;
+        let entries = addition::gather(self.alloc, self.exponent, raw)?;
+        Ok(Poly::of(entries))
+    }
+
+    /// A polynomial of the same monomials of which 2^k times is this one, with coefficients as near to 0 as can be.
+    /// None where one of this polynomial's isn't a multiple of 2^k.
+    pub fn divided(&self, p: &Poly, k: u32) -> Result<Option<Poly>, Memory>
+        requires of { IsOf self.now p.now }
+        requires power { k < 128 }
+        ensures of { IfOk result (λ r. IfSome r (IsOf self.now)) }
+        ensures value { IfOk result (λ r. IfSome r (λ q. (σ : Assignment) →
+            (2 ^ k * value_in self.now q σ) % modulus self.now ≡ value_in self.now p.now σ)) }
+        ensures variables { IfOk result (λ r. IfSome r (λ q.
+            map (λ x. x.variables) (monomials_in self.now q) ≡ map (λ x. x.variables) (monomials_in self.now p.now))) }
+    {
+        let divided = scaling::quotients(self.alloc, self.exponent, p.entries(), k)?;
+        match divided {
+            None => Ok(None),
+            Some(entries) => Ok(Some(Poly::of(entries))),
+        }
+    }
+
+    /// A polynomial of another table with the same modulus, made anew in this one.
+    #[tactic(auto, using(crate::specs::Laws::extends_itself, crate::proofs::Made::extends_grown))]
+    pub fn bring(&mut self, from: &Terms, p: &Poly) -> Result<Poly, Memory>
+        requires exponent { from.now.exponent ≡ self.old.exponent }
+        requires of { IsOf from.now p.now }
+        ensures extends { Extends self.old self.new }
+        ensures of { IfOk result (IsOf self.new) }
+        ensures value { IfOk result (λ r. (σ : Assignment) →
+            value_in self.new r σ ≡ value_in from.now p.now σ) }
+    {
+        let raw = sum_of_products::carry_all(
+            self.alloc,
+            from.numbering(),
+            p.entries(),
+            &mut self.monomials,
+        )?;
+        self.monomials.stand_once();
+        let entries = addition::gather(self.alloc, self.exponent, raw)?;
+        Ok(Poly::of(entries))
+    }
+
+    /// How many monomials the table has, those of polynomials that are gone among them.
+    pub fn count(&self) -> u64
+        ensures { result ≡ length self.now.monomials }
+    {
+        self.monomials.len()
     }
 
     // what numbers its monomials

@@ -13,7 +13,7 @@ loop-group-preserved c =
     let count : length c.loop-group.left.items ≡ length gs + 1 = omega (arith, ap length items, length-append gs (group ∷ [])) in
     record {
       written = c.in_ok-write_group.ensures.written l.extended l.sides l.table c.args.total gs
-          (subst (λ xs. AreWritten l.extended l.sides l.table c.args.total xs c.loop-group.ones.items c.loop-group.lines) items c.loop-group.invariant.written);
+          (subst (λ xs. AreWritten l.extended l.sides l.table c.args.total xs c.loop-group.weighted.items c.loop-group.lines) items c.loop-group.invariant.written);
       last = omega (arith, c.in_ok-write_group.ensures.last, c.loop-group.invariant.last);
       few = omega (arith, c.in_ok-write_group.ensures.few, c.loop-group.invariant.few);
     }

@@ -7,7 +7,6 @@ use Rattle.column_reducer.proofs.reduction.reduce.Goals as goal
 
 pub grow-requires : goal.grow-requires
 grow-requires c = record {
-  plain = c.requires.plain;
   inputs = subst (ReadInputs c.args.plan.now.extended.graph) (sym c.operands.ensures) c.requires.inputs;
   same_modulus = c.last-last.ensures.lawful.same_modulus ∙ ap modulus c.requires.same_graph;
 }

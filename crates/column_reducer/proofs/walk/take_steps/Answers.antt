@@ -41,9 +41,9 @@ settled-requires c =
         p.extended,
         s,
         taken_after p (i + 1),
-        step_walked p.extended c.extended-extended.result.now s c.loop-count.terms t t p.steps c.steps-steps.result.now i (length c.extended-extended.result.now.gates) (Add 0)
-            c.loop-count.walk c.in_ok-walk-2.walk c.in_ok-walk-2.walk c.extended-extended.ensures c.steps-steps.ensures.steps c.steps-steps.ensures.plan.plan.follow low refl
-            c.in_ok-walk-2.ensures.walked (λ x k f is h. h) c.loop-count.invariant.walked,
+        step_walked p.extended c.extended-extended.result.now s c.loop-count.terms t t p.steps c.steps-steps.result.now i (Add 0)
+            c.loop-count.walk c.in_ok-walk-2.walk c.in_ok-walk-2.walk c.extended-extended.ensures c.steps-steps.ensures.steps c.steps-steps.ensures.plan.plan.follow low
+            c.in_ok-walk-2.ensures.walked (λ x k f h. h) c.loop-count.invariant.walked,
       );
     }
 
@@ -58,11 +58,11 @@ loop-count-preserved c =
     let t2 = c.settled.new.terms in
     record {
       table = extends_on c.args.terms.now t0 t2 c.loop-count.invariant.table (extends_on t0 t1 t2 c.in_ok-walk-2.ensures.extends c.in_ok-walk-3.ensures.extends);
-      walked = step_walked p.extended c.extended-extended.result.now s t0 t1 t2 p.steps c.steps-steps.result.now i (length c.gates.result.now) (Add 0)
-          c.loop-count.walk c.in_ok-walk-2.walk c.in_ok-walk-3.walk c.extended-extended.ensures c.steps-steps.ensures.steps c.steps-steps.ensures.plan.plan.follow low (ap length c.gates.ensures.value)
-          c.in_ok-walk-2.ensures.walked (λ x k f is h. c.in_ok-walk-3.ensures.walked x k f is h) c.loop-count.invariant.walked;
+      walked = step_walked p.extended c.extended-extended.result.now s t0 t1 t2 p.steps c.steps-steps.result.now i (Add 0)
+          c.loop-count.walk c.in_ok-walk-2.walk c.in_ok-walk-3.walk c.extended-extended.ensures c.steps-steps.ensures.steps c.steps-steps.ensures.plan.plan.follow low
+          c.in_ok-walk-2.ensures.walked (λ x k f h. c.in_ok-walk-3.ensures.walked x k f h) c.loop-count.invariant.walked;
       within = within_more p s t0 c.args.budget i c.loop-count.walk c.loop-count.invariant.walked (c.in_default.ensures.within refl) c.loop-count.invariant.within;
-      kept = λ none. c.in_ok-walk-3.ensures.kept none (c.in_ok-walk-2.ensures.kept (c.loop-count.invariant.kept none));
+      kept = c.in_ok-walk-3.ensures.kept (c.in_ok-walk-2.ensures.kept c.loop-count.invariant.kept);
     }
 
 pub returns-in-Some-passed-clause-outcome : goal.returns-in-Some-passed-clause-outcome

@@ -1,6 +1,5 @@
-use Rattle.std.proofs.Common.{◌≡◌, ◌+◌, ◌<◌, ◌≤◌, ℕ}
+use Rattle.std.proofs.Common.{◌+◌, ◌<◌, ◌≤◌, ℕ}
 use Rattle.std.specs.Prelude.{IsSome}
-use Rattle.std.specs.declared.option.Option.TheVariants.{None}
 use Rattle.poly_terms.specs.Tables.{Extends}
 use Rattle.column_reducer.specs.Gathering.{IsWalked}
 use Rattle.column_reducer.specs.Reducing.{HasSizeAt}
@@ -12,5 +11,5 @@ invariant-loop-count l = record {
   table : Extends l.fn.terms l.terms;
   walked : IsWalked l.plan.extended l.operands l.terms (taken_after l.plan l.count) l.walk;
   within : (i n : ℕ) → l.plan.uncounted + i < l.count → HasSizeAt l.plan l.operands i n → n ≤ l.budget;
-  kept : l.bound ≡ None → IsSome l.walk.gathered;
+  kept : IsSome l.walk.gathered;
 }

@@ -1,4 +1,4 @@
-use Rattle.std.proofs.Common.{◌≡◌, ◌+◌, [], ◌∷◌, ◌++◌, length, ap, ◌∙◌, length-append}
+use Rattle.std.proofs.Common.{◌+◌, [], ◌∷◌, length, ap, ◌∙◌, length-append}
 use Rattle.poly_terms.proofs.Sparse.{longer_more}
 use Rattle.poly_terms.proofs.coefficients.lengthen.Goals as goal
 

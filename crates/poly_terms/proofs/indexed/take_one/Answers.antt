@@ -1,4 +1,4 @@
-use Rattle.std.proofs.Common.{◌≡◌, ◌<◌, [], ◌∷◌, ◌++◌, get_or, true, ap, sym, subst, ◌∙◌, arith}
+use Rattle.std.proofs.Common.{◌≡◌, ◌<◌, [], ◌∷◌, ◌++◌, get_or, true, ap, sym, ◌∙◌, arith}
 use Rattle.poly_terms.specs.Monomials.{has_variable}
 use Rattle.poly_terms.proofs.Indexing.{takes_one}
 use Rattle.poly_terms.proofs.Sparse.{some_within}

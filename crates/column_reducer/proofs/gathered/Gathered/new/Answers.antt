@@ -1,13 +1,9 @@
-use Rattle.std.proofs.Common.{◌∙◌}
-use Rattle.poly_terms.specs.Laws.{stays, value_stays}
+use Rattle.std.proofs.Common.{arith}
 use Rattle.column_reducer.proofs.Taken.{gathered_first}
 use Rattle.column_reducer.proofs.gathered.Gathered.new.Goals as goal
 
 pub returns-clause-gathered : goal.returns-clause-gathered
 returns-clause-gathered c e s rest same none =
-    let t1 = c.zero_poly.new.terms in
-    let t2 = c.zero_poly-2.new.terms in
-    let total = c.in_ok-total.total in
-    let grown = c.in_ok-known.ensures.extends in
-    gathered_first e s t2 rest _ c.new.ensures.items c.new-2.ensures.items (stays t1 t2 total grown c.in_ok-total.ensures.of) (λ σ. value_stays t1 t2 total σ grown c.in_ok-total.ensures.of ∙ c.in_ok-total.ensures.value σ)
-    c.in_ok-known.ensures.of c.in_ok-known.ensures.value none
+    gathered_first e s c.zero_poly.new.terms rest _ c.new.ensures.items c.new-2.ensures.items c.new-3.ensures.items c.new-4.ensures.items
+    (let is = c.exponent-power.ensures.exponent in let wide = c.exponent-power.ensures.in_range.0 in omega arith)
+    c.in_ok-total.ensures.of c.in_ok-total.ensures.value none

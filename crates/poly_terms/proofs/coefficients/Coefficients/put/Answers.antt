@@ -1,5 +1,5 @@
-use Rattle.std.proofs.Common.{◌≡◌, ◌+◌, ◌<◌, length, get_or, set, sym, ap, ◌∙◌, arith}
-use Rattle.poly_terms.specs.Indexed.{counted, terms_from}
+use Rattle.std.proofs.Common.{◌≡◌, ◌<◌, length, get_or, sym, ap, ◌∙◌, arith}
+use Rattle.poly_terms.specs.Indexed.{counted}
 use Rattle.poly_terms.proofs.Sparse.{any_default, count-put, count_below, count_some, counted_none, counted_some}
 use Rattle.poly_terms.proofs.coefficients.Coefficients.put.Goals as goal
 

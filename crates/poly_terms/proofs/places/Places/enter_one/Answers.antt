@@ -1,4 +1,3 @@
-use Rattle.std.proofs.Common.{sym}
 use Rattle.poly_terms.proofs.Entering.{enters_item}
 use Rattle.poly_terms.proofs.places.Places.enter_one.Goals as goal
 
