@@ -86,6 +86,7 @@ module _ (lengths : Lengths) (e : Extended) (sides : Sides) where
     body_fails first before now checked.Accepted later h = absurd h
     body_fails first before now (checked.Graph why) later h = absurd h
     body_fails first before now (checked.Refused (refusal.Clauses n why)) later h = absurd h
+    body_fails first before now (checked.Refused (refusal.Goals column)) later h = absurd h
     body_fails first before now (checked.Refused (refusal.Algebra n why)) later h = refused_text n (cause_of why) h
     body_fails first before now (checked.TooLong slot.Graph) later h = absurd h
     body_fails first before now (checked.TooLong slot.Other) later h = absurd h

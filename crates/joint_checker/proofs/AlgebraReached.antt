@@ -165,6 +165,7 @@ module _ (e : Extended) (sides : Sides) (start : Lines) (body : Option (List ℕ
   line_fails first before now checked.Accepted later h = absurd h
   line_fails first before now (checked.Graph why) later h = absurd h
   line_fails first before now (checked.Refused (refusal.Clauses n why)) later h = absurd h
+  line_fails first before now (checked.Refused (refusal.Goals column)) later h = absurd h
   line_fails first before now (checked.Refused (refusal.Algebra n why)) later h = text_fails n (cause_of why) h.0 h.1
   line_fails first before now (checked.TooLong slot.Graph) later h = absurd h
   line_fails first before now (checked.TooLong slot.Other) later h = absurd h
@@ -203,6 +204,7 @@ module _ (e : Extended) (sides : Sides) (start : Lines) (body : Option (List ℕ
     end_fails first before now checked.Accepted keeps later h = absurd h
     end_fails first before now (checked.Graph why) keeps later h = absurd h
     end_fails first before now (checked.Refused (refusal.Clauses n why)) keeps later h = absurd h
+    end_fails first before now (checked.Refused (refusal.Goals column)) keeps later h = absurd h
     end_fails first before now (checked.Refused (refusal.Algebra n why.Text)) keeps later h = more_fails keeps n h.0 h.1
     end_fails first before now (checked.Refused (refusal.Algebra n why.Range)) keeps later h = absurd h
     end_fails first before now (checked.Refused (refusal.Algebra n why.Id)) keeps later h = absurd h

@@ -21,13 +21,19 @@ use Rattle.joint_checker.specs.declared.checked.AlgebraWhy.{AlgebraWhy}
 use Rattle.joint_checker.specs.declared.checked.AlgebraWhy.TheVariants as why
 use Rattle.joint_checker.specs.declared.checked.Checked.{Checked}
 use Rattle.joint_checker.specs.declared.checked.Checked.TheVariants as checked
+use Rattle.joint_checker.specs.declared.checked.ClauseWhy.{ClauseWhy}
 use Rattle.joint_checker.specs.declared.checked.ClauseWhy.TheVariants as clause
 use Rattle.joint_checker.specs.declared.checked.Refusal.TheVariants as refusal
-use Rattle.graph_core.specs.Certificates.{ClauseCause, GivesExtended, IsClauseRefusal, IsLawfulAlgebra, IsLawfulPair}
-use Rattle.graph_core.specs.Certificates as certificate
+use Rattle.graph_core.specs.Certificates.{IsLawfulAlgebra}
+use Rattle.drup_text.specs.HeaderRefusal as clausal
+use Rattle.drup_text.specs.HeaderRefusal.{LineCause}
+use Rattle.joint_checker.specs.Certificates.{IsLawfulPair}
+use Rattle.joint_checker.specs.ClauseFiles.{GivesExtended}
+use Rattle.joint_checker.specs.ClauseRefusals.{ClauseFault, Goals, IsFileRefusal, Line}
 use Rattle.joint_checker.specs.Files.{Files, Texts, texts_of}
-use Rattle.joint_checker.specs.Outcome.{IsDue, IsExactAnswer, IsGraphRefusal, IsOutcome, OneAnswerIsDue, OutcomesAreExact, cause_of}
-use Rattle.graph_core.proofs.OfCertificates.CallerLemmas.{clauses_are_exact}
+use Rattle.joint_checker.specs.Outcome.{IsDue, IsExactAnswer, IsGraphRefusal, IsOutcome, OneAnswerIsDue, OutcomesAreExact, cause_of, line_cause}
+use Rattle.joint_checker.proofs.ClauseWholes.{clauses_are_exact}
+use Rattle.joint_checker.proofs.Joined.{gives_of}
 use Rattle.joint_checker.proofs.GraphFiles.{answer_of, one_graph_refusal, refused, refused_not_long, spelled_not_long, spelled_not_refused}
 
 -- causes of one thing, and behind it those of another
@@ -40,9 +46,22 @@ next_exact e h = record {
 
 -- ---- the answers by their causes
 
-abbrev clause_answer : ℕ × ClauseCause → Checked
-clause_answer (line, certificate.Text) = checked.Refused (refusal.Clauses line clause.Text)
-clause_answer (line, certificate.TooLong) = checked.TooLong slot.Clauses
+abbrev line_answer : ℕ × LineCause → Checked
+line_answer (line, clausal.TooLong) = checked.TooLong slot.Clauses
+line_answer (line, clausal.Text) = checked.Refused (refusal.Clauses line clause.Text)
+line_answer (line, clausal.Range) = checked.Refused (refusal.Clauses line clause.Range)
+line_answer (line, clausal.NotImplied) = checked.Refused (refusal.Clauses line clause.NotImplied)
+line_answer (line, clausal.NoSuchClause) = checked.Refused (refusal.Clauses line clause.NoSuchClause)
+
+abbrev clause_answer : ClauseFault → Checked
+clause_answer (Line p) = line_answer p
+clause_answer (Goals column) = checked.Refused (refusal.Goals column)
+
+clause_is : (line : ℕ) (given : ClauseWhy) → checked.Refused (refusal.Clauses line given) ≡ clause_answer (Line (line, line_cause given))
+clause_is line clause.Text = refl
+clause_is line clause.Range = refl
+clause_is line clause.NotImplied = refl
+clause_is line clause.NoSuchClause = refl
 
 abbrev algebra_answer : ℕ × AlgebraCause → Checked
 algebra_answer (line, cause.TooLong) = checked.TooLong slot.Algebra
@@ -80,8 +99,12 @@ module _ (limits : Limits) (order : Order) (file clauses algebra : List ℕ) whe
         (λ long. ⊎_elim (λ g. absurd (refused_not_long limits.graph file g.0 g.1 long.0)) (λ other. long.1 ∙ sym other.1) s) r;
   }
 
+  -- why the clause file gives no extended graph for a graph
+  abbrev IsRefusedFor : Aig → Checked → Type 0
+  IsRefusedFor g c = (f : ClauseFault) × IsFileRefusal (lengths_of limits) g clauses f × (c ≡ clause_answer f)
+
   abbrev AreClausesRefused : Checked → Type 0
-  AreClausesRefused c = (p : ℕ × ClauseCause) × IsClauseRefusal (lengths_of limits) clauses p × (c ≡ clause_answer p)
+  AreClausesRefused c = (g : Aig) × SpellsWithin limits.graph file g × IsRefusedFor g c
 
   abbrev Gives : Aig → Extended → Type 0
   Gives g e = GivesExtended (lengths_of limits) g clauses e
@@ -89,15 +112,19 @@ module _ (limits : Limits) (order : Order) (file clauses algebra : List ℕ) whe
   abbrev HasGiven : Type 0
   HasGiven = (g : Aig) × SpellsWithin limits.graph file g × ((e : Extended) × Gives g e)
 
+  of_clauses : (g : Aig) → IsExact ((e : Extended) × Gives g e) (IsRefusedFor g)
+  of_clauses g = exact_map clause_answer (clauses_are_exact.exact (lengths_of limits) g clauses)
+
+  -- a refusal is one for the graph that is there
+  refused_for : (c : Checked) (g : Aig) → SpellsWithin limits.graph file g → AreClausesRefused c → IsRefusedFor g c
+  refused_for c g s r = subst (λ (x : Aig). IsRefusedFor x c) (one_graph file r.0 g r.1.spells s.spells) r.2
+
   clauses_exact : Spelled → IsExact HasGiven AreClausesRefused
   clauses_exact s = record {
-    decided = ⊎_elim (λ e. inl (s.0, s.1, e)) inr (of_clauses s.0).decided;
-    not_both = λ c h r. (of_clauses h.0).not_both c h.2 r;
-    one = (of_clauses s.0).one;
+    decided = ⊎_elim (λ e. inl (s.0, s.1, e)) (λ r. inr (r.0, (s.0, s.1, r.1))) (of_clauses s.0).decided;
+    not_both = λ c h r. (of_clauses h.0).not_both c h.2 (refused_for c h.0 h.1 r);
+    one = λ a b r t. (of_clauses s.0).one a b (refused_for a s.0 s.1 r) (refused_for b s.0 s.1 t);
   }
-    where
-      of_clauses : (g : Aig) → IsExact ((e : Extended) × Gives g e) AreClausesRefused
-      of_clauses g = exact_map clause_answer (clauses_are_exact.exact (lengths_of limits) g clauses)
 
   abbrev Refused : Aig → Extended → Checked → Type 0
   Refused g e c = (p : ℕ × AlgebraCause) × IsAlgebraRefusal e (sides_of order g) (lengths_of limits) algebra p × (c ≡ algebra_answer p)
@@ -141,11 +168,12 @@ module _ (limits : Limits) (order : Order) (file clauses algebra : List ℕ) whe
   due_is : (c : Checked) → IsDue limits order told c → ((c ≡ checked.Accepted) × All) ⊎ IsRefused c
   due_is checked.Accepted h = inl (refl, ((h.0, h.1), ((h.0, h.1, (h.2.0, h.2.2)), (h.0, h.1, record { extended = h.2.0; gives = h.2.2; lawful = h.2.3.0 }))))
   due_is (checked.Graph given) h = inr (inl (inl (given, h, refl)))
-  due_is (checked.Refused (refusal.Clauses line clause.Text)) h = inr (inr ((h.0.0, h.0.1), inl ((line, certificate.Text), h.1, refl)))
+  due_is (checked.Refused (refusal.Clauses line given)) h = inr (inr ((h.0, h.1), inl (h.0, h.1, (Line (line, line_cause given), h.2, clause_is line given))))
+  due_is (checked.Refused (refusal.Goals column)) h = inr (inr ((h.0, h.1), inl (h.0, h.1, (Goals column, h.2, refl))))
   due_is (checked.Refused (refusal.Algebra line given)) h = inr (inr ((h.0, h.1), inr ((h.0, h.1, (h.2.0, h.2.2)), (h.0, h.1, (h.2.0, h.2.2, ((line, cause_of given), h.2.3, answer_is line given))))))
   due_is (checked.TooLong slot.Graph) h = inr (inl (inr (h, refl)))
   due_is (checked.TooLong slot.Other) h = absurd h
-  due_is (checked.TooLong slot.Clauses) h = inr (inr ((h.0.0, h.0.1), inl ((h.1.0, certificate.TooLong), h.1.1, refl)))
+  due_is (checked.TooLong slot.Clauses) h = inr (inr ((h.0, h.1), inl (h.0, h.1, (Line (h.2.0, clausal.TooLong), h.2.1, refl))))
   due_is (checked.TooLong slot.Algebra) h = inr (inr ((h.0, h.1), inr ((h.0, h.1, (h.2.0, h.2.2)), (h.0, h.1, (h.2.0, h.2.2, ((h.2.3.0, cause.TooLong), h.2.3.1, refl))))))
   due_is (checked.TooLong slot.Report) h = absurd h
   due_is checked.ReadFault h = absurd h
@@ -158,27 +186,31 @@ module _ (limits : Limits) (order : Order) (file clauses algebra : List ℕ) whe
   abbrev IsSomeDue : Type 0
   IsSomeDue = (c : Checked) × IsDue limits order told c
 
-  clause_due : Spelled → (p : ℕ × ClauseCause) → IsClauseRefusal (lengths_of limits) clauses p → IsSomeDue
-  clause_due s (line, certificate.Text) h = (checked.Refused (refusal.Clauses line clause.Text), ((s.0, s.1, tt), h))
-  clause_due s (line, certificate.TooLong) h = (checked.TooLong slot.Clauses, ((s.0, s.1, tt), (line, h)))
+  clause_due : (g : Aig) → SpellsWithin limits.graph file g → (f : ClauseFault) → IsFileRefusal (lengths_of limits) g clauses f → IsSomeDue
+  clause_due g s (Line (line, clausal.TooLong)) h = (checked.TooLong slot.Clauses, (g, s, (line, h)))
+  clause_due g s (Line (line, clausal.Text)) h = (checked.Refused (refusal.Clauses line clause.Text), (g, s, h))
+  clause_due g s (Line (line, clausal.Range)) h = (checked.Refused (refusal.Clauses line clause.Range), (g, s, h))
+  clause_due g s (Line (line, clausal.NotImplied)) h = (checked.Refused (refusal.Clauses line clause.NotImplied), (g, s, h))
+  clause_due g s (Line (line, clausal.NoSuchClause)) h = (checked.Refused (refusal.Clauses line clause.NoSuchClause), (g, s, h))
+  clause_due g s (Goals column) h = (checked.Refused (refusal.Goals column), (g, s, h))
 
   module _ (g : Aig) (s : SpellsWithin limits.graph file g) (e : Extended) (gives : Gives g e) where
     algebra_due : (p : ℕ × AlgebraCause) → IsAlgebraRefusal e (sides_of order g) (lengths_of limits) algebra p → IsSomeDue
-    algebra_due (line, cause.TooLong) h = (checked.TooLong slot.Algebra, (g, s, (e, gives.itself, gives, (line, h))))
-    algebra_due (line, cause.Text) h = (checked.Refused (refusal.Algebra line why.Text), (g, s, (e, gives.itself, gives, h)))
-    algebra_due (line, cause.Range) h = (checked.Refused (refusal.Algebra line why.Range), (g, s, (e, gives.itself, gives, h)))
-    algebra_due (line, cause.Id) h = (checked.Refused (refusal.Algebra line why.Id), (g, s, (e, gives.itself, gives, h)))
-    algebra_due (line, (cause.NoSuchLine id)) h = (checked.Refused (refusal.Algebra line (why.NoSuchLine id)), (g, s, (e, gives.itself, gives, h)))
-    algebra_due (line, cause.NotEqual) h = (checked.Refused (refusal.Algebra line why.NotEqual), (g, s, (e, gives.itself, gives, h)))
-    algebra_due (line, cause.NotSpecification) h = (checked.Refused (refusal.Algebra line why.NotSpec), (g, s, (e, gives.itself, gives, h)))
+    algebra_due (line, cause.TooLong) h = (checked.TooLong slot.Algebra, (g, s, (e, gives_of (lengths_of limits) g clauses e gives, gives, (line, h))))
+    algebra_due (line, cause.Text) h = (checked.Refused (refusal.Algebra line why.Text), (g, s, (e, gives_of (lengths_of limits) g clauses e gives, gives, h)))
+    algebra_due (line, cause.Range) h = (checked.Refused (refusal.Algebra line why.Range), (g, s, (e, gives_of (lengths_of limits) g clauses e gives, gives, h)))
+    algebra_due (line, cause.Id) h = (checked.Refused (refusal.Algebra line why.Id), (g, s, (e, gives_of (lengths_of limits) g clauses e gives, gives, h)))
+    algebra_due (line, (cause.NoSuchLine id)) h = (checked.Refused (refusal.Algebra line (why.NoSuchLine id)), (g, s, (e, gives_of (lengths_of limits) g clauses e gives, gives, h)))
+    algebra_due (line, cause.NotEqual) h = (checked.Refused (refusal.Algebra line why.NotEqual), (g, s, (e, gives_of (lengths_of limits) g clauses e gives, gives, h)))
+    algebra_due (line, cause.NotSpecification) h = (checked.Refused (refusal.Algebra line why.NotSpec), (g, s, (e, gives_of (lengths_of limits) g clauses e gives, gives, h)))
 
   lawful_due : (g : Aig) → SpellsWithin limits.graph file g → IsLawfulPair (lengths_of limits) g order clauses algebra → IsSomeDue
-  lawful_due g s pair = (checked.Accepted, (g, s, (pair.extended, pair.gives.itself, pair.gives, (pair.lawful, tt))))
+  lawful_due g s pair = (checked.Accepted, (g, s, (pair.extended, gives_of (lengths_of limits) g clauses pair.extended pair.gives, pair.gives, (pair.lawful, tt))))
 
   some_due : IsSomeDue
   some_due = ⊎_elim (λ l. lawful_due l.1.1.0 l.1.1.1 l.1.1.2)
       (λ r. ⊎_elim (λ x. ⊎_elim (λ f. (checked.Graph f.0, f.1)) (λ long. (checked.TooLong slot.Graph, long.0)) x)
-      (λ x. ⊎_elim (λ y. clause_due x.0 y.0 y.1) (λ y. algebra_due y.1.0 y.1.1 y.1.2.0 y.1.2.1 y.1.2.2.0 y.1.2.2.1) x.1) r.1) all_exact.decided
+      (λ x. ⊎_elim (λ y. clause_due y.0 y.1 y.2.0 y.2.1) (λ y. algebra_due y.1.0 y.1.1 y.1.2.0 y.1.2.1 y.1.2.2.0 y.1.2.2.1) x.1) r.1) all_exact.decided
 
 -- ---- three files that are told
 

@@ -1,5 +1,6 @@
 -- How many files were opened for each answer.
 use Rattle.std.proofs.Common.{ℕ, List, Option, arith}
+use Rattle.graph_core.specs.Graph.{Aig}
 use Rattle.graph_core.specs.Graph.Extended.{Extended}
 use Rattle.graph_core.specs.Graph.Operands.{Sides}
 use Rattle.graph_core.specs.Text.JudgedLines.{Lengths}
@@ -25,23 +26,25 @@ module _ (first before now : View) where
   graph_opened limit text checked.ReadFault h opened = (1, omega arith, opened)
   graph_opened limit text checked.Memory h opened = (1, omega arith, opened)
 
-  pub clauses_opened : (lengths : Lengths) (text : Option (List ℕ)) (answer : Checked) → IsClauseFail lengths text before now answer → OpensFiles 2 first now → OpensFor answer first now
-  clauses_opened lengths text checked.Accepted h opened = absurd h
-  clauses_opened lengths text (checked.Graph why) h opened = absurd h
-  clauses_opened lengths text (checked.Refused (refusal.Clauses line why)) h opened = opened
-  clauses_opened lengths text (checked.Refused (refusal.Algebra line why)) h opened = absurd h
-  clauses_opened lengths text (checked.TooLong slot.Graph) h opened = absurd h
-  clauses_opened lengths text (checked.TooLong slot.Other) h opened = absurd h
-  clauses_opened lengths text (checked.TooLong slot.Clauses) h opened = opened
-  clauses_opened lengths text (checked.TooLong slot.Algebra) h opened = absurd h
-  clauses_opened lengths text (checked.TooLong slot.Report) h opened = absurd h
-  clauses_opened lengths text checked.ReadFault h opened = (2, omega arith, opened)
-  clauses_opened lengths text checked.Memory h opened = (2, omega arith, opened)
+  pub clauses_opened : (lengths : Lengths) (g : Aig) (text : Option (List ℕ)) (answer : Checked) → IsClauseFail lengths g text before now answer → OpensFiles 2 first now → OpensFor answer first now
+  clauses_opened lengths g text checked.Accepted h opened = absurd h
+  clauses_opened lengths g text (checked.Graph why) h opened = absurd h
+  clauses_opened lengths g text (checked.Refused (refusal.Clauses line why)) h opened = opened
+  clauses_opened lengths g text (checked.Refused (refusal.Goals column)) h opened = opened
+  clauses_opened lengths g text (checked.Refused (refusal.Algebra line why)) h opened = absurd h
+  clauses_opened lengths g text (checked.TooLong slot.Graph) h opened = absurd h
+  clauses_opened lengths g text (checked.TooLong slot.Other) h opened = absurd h
+  clauses_opened lengths g text (checked.TooLong slot.Clauses) h opened = opened
+  clauses_opened lengths g text (checked.TooLong slot.Algebra) h opened = absurd h
+  clauses_opened lengths g text (checked.TooLong slot.Report) h opened = absurd h
+  clauses_opened lengths g text checked.ReadFault h opened = (2, omega arith, opened)
+  clauses_opened lengths g text checked.Memory h opened = (2, omega arith, opened)
 
   pub algebra_opened : (lengths : Lengths) (e : Extended) (sides : Sides) (text : Option (List ℕ)) (answer : Checked) → IsAlgebraFail lengths e sides text before now answer → OpensFiles 3 first now → OpensFor answer first now
   algebra_opened lengths e sides text checked.Accepted h opened = absurd h
   algebra_opened lengths e sides text (checked.Graph why) h opened = absurd h
   algebra_opened lengths e sides text (checked.Refused (refusal.Clauses line why)) h opened = absurd h
+  algebra_opened lengths e sides text (checked.Refused (refusal.Goals column)) h opened = absurd h
   algebra_opened lengths e sides text (checked.Refused (refusal.Algebra line why)) h opened = opened
   algebra_opened lengths e sides text (checked.TooLong slot.Graph) h opened = absurd h
   algebra_opened lengths e sides text (checked.TooLong slot.Other) h opened = absurd h

@@ -7,12 +7,10 @@ use Rattle.graph_core.specs.Aiger.Soundness.{IsMultiplierSized}
 use Rattle.graph_core.specs.Algebra.{specification}
 use Rattle.graph_core.specs.Algebra.Refusal as cause
 use Rattle.graph_core.specs.Algebra.Refusal.{IsAlgebraRefusal}
-use Rattle.graph_core.specs.Graph.Extended.{Extended, without_cut}
+use Rattle.graph_core.specs.Graph.Extended.{Extended}
 use Rattle.graph_core.specs.Graph.{Aig, IsWellFormed}
 use Rattle.graph_core.specs.Graph.Operands.{Multiplies, sides_of}
 use Rattle.graph_core.specs.declared.order.Order.{Order}
-use Rattle.graph_core.proofs.OfAlgebra.CallerLemmas.{vanishing_means_claim}
-use Rattle.graph_core.proofs.OfGraphs.CallerLemmas.{claim_is_product, evaluations_suffice}
 use Rattle.mv_desk.specs.Calls.{Inspects}
 use Rattle.mv_desk.specs.View.{View, Rose, bytes_under}
 use Rattle.mv_desk.specs.declared.limits.Limits.{Limits}
@@ -22,14 +20,16 @@ use Rattle.mv_fact.specs.Always.{Always}
 use Rattle.mv_text.specs.LineReading.{lengths_of}
 use Rattle.joint_checker.specs.declared.checked.Checked.{Checked}
 use Rattle.joint_checker.specs.declared.checked.Checked.TheVariants as checked
-use Rattle.joint_checker.specs.declared.checked.ClauseWhy.TheVariants as clause
 use Rattle.joint_checker.specs.declared.checked.Refusal.TheVariants as refusal
 use Rattle.joint_checker.specs.Answers.{answer_of_graph}
-use Rattle.graph_core.specs.Certificates.{GivesExtended, IsClauseRefusal, IsLawfulAlgebra}
-use Rattle.graph_core.specs.Certificates as certificate
+use Rattle.graph_core.specs.Certificates.{IsLawfulAlgebra}
+use Rattle.drup_text.specs.HeaderRefusal.{TooLong}
+use Rattle.joint_checker.specs.ClauseFiles.{GivesExtended, IsExtendedOf}
+use Rattle.joint_checker.specs.ClauseRefusals.{IsClauseRefusal, IsColumnRefusal}
 use Rattle.joint_checker.specs.Fails.{IsAlgebraFail, IsClauseFail, IsGraphFail}
 use Rattle.joint_checker.specs.Files.{Files, HasExtended, texts_of}
-use Rattle.joint_checker.specs.Outcome.{IsOutcome, MeetsAlgebra, cause_of}
+use Rattle.joint_checker.specs.Outcome.{IsOutcome, MeetsAlgebra, cause_of, line_cause}
+use Rattle.joint_checker.proofs.Joined.{graph_is, vanishing_multiplies}
 use Rattle.joint_checker.proofs.Told.{rose_before}
 
 -- ---- the graph file
@@ -43,12 +43,6 @@ graph_fails limit text before now (fail.Graph f) told rose = told
 graph_fails limit text before now fail.Fault told rose = rose refl
 graph_fails limit text before now fail.TooLong told rose = told
 graph_fails limit text before now fail.Memory told rose = tt
-
--- where the specification vanishes on every evaluation, a graph without faults multiplies
-multiplies : (g : Aig) (order : Order) → IsWellFormed g → IsMultiplierSized g → Always g.gates (λ σ. specification (without_cut g) (sides_of order g) σ ≡ 0) → Multiplies g order
-multiplies g order well sized vanishes =
-    (claim_is_product g order sized.shape well.defined_once).0
-    (evaluations_suffice g (sides_of order g) well.defined_once well.acyclic (λ σ evaluates. vanishing_means_claim (without_cut g) (sides_of order g) σ (vanishes σ evaluates)))
 
 module _ (limits : Limits) (order : Order) (files : Files) where
   -- no graph was read
@@ -70,30 +64,30 @@ module _ (limits : Limits) (order : Order) (files : Files) where
   earlier a b name P inspects h = subst (λ (o : Option (List ℕ)). IfSome o P) (bytes_under-held a b name (inspects.held name)) h
 
   module _ (a b c : View) (first : Inspects a b) (g : Aig) (spelled : IfSome (bytes_under a files.graph) (λ bytes. SpellsWithin limits.graph bytes g)) where
-    -- the clause file isn't the one that replaces nothing
-    pub clauses_answer : (answer : Checked) → IsClauseFail (lengths_of limits) (bytes_under b files.clauses) b c answer →
+    -- the clause file gives no extended graph
+    pub clauses_answer : (answer : Checked) → IsClauseFail (lengths_of limits) g (bytes_under b files.clauses) b c answer →
         IsOutcome limits order files a c answer
     clauses_answer checked.Accepted h = absurd h
     clauses_answer (checked.Graph why) h = absurd h
-    clauses_answer (checked.Refused (refusal.Clauses line clause.Text)) h =
-        ((g, spelled, tt), earlier a b files.clauses (λ bytes. IsClauseRefusal (lengths_of limits) bytes (line, certificate.Text)) first h)
+    clauses_answer (checked.Refused (refusal.Clauses line why)) h = (g, spelled, earlier a b files.clauses (λ bytes. IsClauseRefusal (lengths_of limits) g bytes (line, line_cause why)) first h)
+    clauses_answer (checked.Refused (refusal.Goals column)) h = (g, spelled, earlier a b files.clauses (λ bytes. IsColumnRefusal (lengths_of limits) g bytes column) first h)
     clauses_answer (checked.Refused (refusal.Algebra line why)) h = absurd h
     clauses_answer (checked.TooLong slot.Graph) h = absurd h
     clauses_answer (checked.TooLong slot.Other) h = absurd h
     clauses_answer (checked.TooLong slot.Clauses) h =
-        ((g, spelled, tt), earlier a b files.clauses (λ bytes. (line : ℕ) × IsClauseRefusal (lengths_of limits) bytes (line, certificate.TooLong)) first h)
+        (g, spelled, earlier a b files.clauses (λ bytes. (line : ℕ) × IsClauseRefusal (lengths_of limits) g bytes (line, TooLong)) first h)
     clauses_answer (checked.TooLong slot.Algebra) h = absurd h
     clauses_answer (checked.TooLong slot.Report) h = absurd h
     clauses_answer checked.ReadFault h = rose_before a.read_faults b.read_faults c.read_faults first.later h
     clauses_answer checked.Memory h = tt
 
   -- an extended graph, of which something holds
-  pub extended_there : (a b : View) (g : Aig) (e : Extended) (P : Aig → Extended → Type 0) → Inspects a b → e ≡ without_cut g → IfSome (bytes_under a files.graph) (λ bytes. SpellsWithin limits.graph bytes g) →
+  pub extended_there : (a b : View) (g : Aig) (e : Extended) (P : Aig → Extended → Type 0) → Inspects a b → IsExtendedOf g e → IfSome (bytes_under a files.graph) (λ bytes. SpellsWithin limits.graph bytes g) →
       IfSome (bytes_under b files.clauses) (λ bytes. GivesExtended (lengths_of limits) g bytes e) → P g e → HasExtended limits (texts_of a files) P
   extended_there a b g e P inspects itself spelled gives holds =
       (g, spelled, (e, itself, earlier a b files.clauses (λ bytes. GivesExtended (lengths_of limits) g bytes e) inspects gives, holds))
 
-  module _ (a b c d : View) (first : Inspects a b) (second : Inspects b c) (g : Aig) (e : Extended) (itself : e ≡ without_cut g)
+  module _ (a b c d : View) (first : Inspects a b) (second : Inspects b c) (g : Aig) (e : Extended) (itself : IsExtendedOf g e)
       (spelled : IfSome (bytes_under a files.graph) (λ bytes. SpellsWithin limits.graph bytes g))
       (gives : IfSome (bytes_under b files.clauses) (λ bytes. GivesExtended (lengths_of limits) g bytes e)) where
     there : (P : List ℕ → Type 0) → IfSome (bytes_under c files.algebra) P → IfSome (bytes_under a files.algebra) P
@@ -106,6 +100,7 @@ module _ (limits : Limits) (order : Order) (files : Files) where
     answers checked.Accepted h = absurd h
     answers (checked.Graph why) h = absurd h
     answers (checked.Refused (refusal.Clauses line why)) h = absurd h
+    answers (checked.Refused (refusal.Goals column)) h = absurd h
     answers (checked.Refused (refusal.Algebra line why)) h = meets (λ x f bytes. IsAlgebraRefusal f (sides_of order x) (lengths_of limits) bytes (line, cause_of why)) h
     answers (checked.TooLong slot.Graph) h = absurd h
     answers (checked.TooLong slot.Other) h = absurd h
@@ -117,7 +112,7 @@ module _ (limits : Limits) (order : Order) (files : Files) where
 
     -- the algebra file isn't lawful
     pub algebra_answers : (answer : Checked) → IsAlgebraFail (lengths_of limits) e (sides_of order e.graph) (bytes_under c files.algebra) c d answer → IsOutcome limits order files a d answer
-    algebra_answers answer h = answers answer (subst (λ (x : Extended). IsAlgebraFail (lengths_of limits) e (sides_of order x.graph) (bytes_under c files.algebra) c d answer) itself h)
+    algebra_answers answer h = answers answer (subst (λ (x : Aig). IsAlgebraFail (lengths_of limits) e (sides_of order x) (bytes_under c files.algebra) c d answer) (graph_is g e itself) h)
 
     -- It is lawful, and the specification vanishes on every evaluation.
     pub accepts : IsWellFormed g → IsMultiplierSized g → IfSome (bytes_under c files.algebra) (IsLawfulAlgebra (lengths_of limits) e (sides_of order e.graph)) →
@@ -125,6 +120,6 @@ module _ (limits : Limits) (order : Order) (files : Files) where
     accepts well sized lawful vanishes =
         extended_there a b g e (λ x f. IfSome (bytes_under a files.algebra) (IsLawfulAlgebra (lengths_of limits) f (sides_of order x)) × Multiplies x order) first itself spelled gives (
           there (IsLawfulAlgebra (lengths_of limits) e (sides_of order g))
-              (subst (λ (x : Extended). IfSome (bytes_under c files.algebra) (IsLawfulAlgebra (lengths_of limits) e (sides_of order x.graph))) itself lawful),
-          multiplies g order well sized (subst (λ (x : Extended). Always x.gates (λ σ. specification x (sides_of order x.graph) σ ≡ 0)) itself vanishes),
+              (subst (λ (x : Aig). IfSome (bytes_under c files.algebra) (IsLawfulAlgebra (lengths_of limits) e (sides_of order x))) (graph_is g e itself) lawful),
+          vanishing_multiplies g order e well sized itself (subst (λ (x : Aig). Always e.gates (λ σ. specification e (sides_of order x) σ ≡ 0)) (graph_is g e itself) vanishes),
         )

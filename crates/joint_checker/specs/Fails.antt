@@ -11,11 +11,11 @@ use Rattle.mv_desk.specs.View.{Rose, View}
 use Rattle.mv_desk.specs.declared.slot.Slot.TheVariants as slot
 use Rattle.joint_checker.specs.declared.checked.Checked.{Checked}
 use Rattle.joint_checker.specs.declared.checked.Checked.TheVariants as checked
-use Rattle.joint_checker.specs.declared.checked.ClauseWhy.TheVariants as clause
 use Rattle.joint_checker.specs.declared.checked.Refusal.TheVariants as refusal
-use Rattle.graph_core.specs.Certificates.{IsClauseRefusal}
-use Rattle.graph_core.specs.Certificates as certificate
-use Rattle.joint_checker.specs.Outcome.{IsGraphRefusal, cause_of}
+use Rattle.graph_core.specs.Graph.{Aig}
+use Rattle.drup_text.specs.HeaderRefusal.{TooLong}
+use Rattle.joint_checker.specs.ClauseRefusals.{IsClauseRefusal, IsColumnRefusal}
+use Rattle.joint_checker.specs.Outcome.{IsGraphRefusal, cause_of, line_cause}
 
 -- of the graph file
 abbrev pub IsGraphFail : ℕ → Option (List ℕ) → View → View → Checked → Type 0
@@ -25,13 +25,14 @@ IsGraphFail limit text before now checked.ReadFault = Rose before.read_faults no
 IsGraphFail limit text before now checked.Memory = ⊤
 IsGraphFail limit text before now _ = ⊥
 
--- of the clause file
-abbrev pub IsClauseFail : Lengths → Option (List ℕ) → View → View → Checked → Type 0
-IsClauseFail lengths text before now (checked.Refused (refusal.Clauses line clause.Text)) = IfSome text (λ bytes. IsClauseRefusal lengths bytes (line, certificate.Text))
-IsClauseFail lengths text before now (checked.TooLong slot.Clauses) = IfSome text (λ bytes. (line : ℕ) × IsClauseRefusal lengths bytes (line, certificate.TooLong))
-IsClauseFail lengths text before now checked.ReadFault = Rose before.read_faults now.read_faults
-IsClauseFail lengths text before now checked.Memory = ⊤
-IsClauseFail lengths text before now _ = ⊥
+-- of the clause file, for a graph
+abbrev pub IsClauseFail : Lengths → Aig → Option (List ℕ) → View → View → Checked → Type 0
+IsClauseFail lengths g text before now (checked.Refused (refusal.Clauses line why)) = IfSome text (λ bytes. IsClauseRefusal lengths g bytes (line, line_cause why))
+IsClauseFail lengths g text before now (checked.Refused (refusal.Goals column)) = IfSome text (λ bytes. IsColumnRefusal lengths g bytes column)
+IsClauseFail lengths g text before now (checked.TooLong slot.Clauses) = IfSome text (λ bytes. (line : ℕ) × IsClauseRefusal lengths g bytes (line, TooLong))
+IsClauseFail lengths g text before now checked.ReadFault = Rose before.read_faults now.read_faults
+IsClauseFail lengths g text before now checked.Memory = ⊤
+IsClauseFail lengths g text before now _ = ⊥
 
 -- of the algebra file, for an extended graph and operands
 abbrev pub IsAlgebraFail : Lengths → Extended → Sides → Option (List ℕ) → View → View → Checked → Type 0

@@ -18,10 +18,12 @@ use Rattle.joint_checker.specs.declared.checked.AlgebraWhy.{AlgebraWhy}
 use Rattle.joint_checker.specs.declared.checked.AlgebraWhy.TheVariants as why
 use Rattle.joint_checker.specs.declared.checked.Checked.{Checked}
 use Rattle.joint_checker.specs.declared.checked.Checked.TheVariants as checked
+use Rattle.joint_checker.specs.declared.checked.ClauseWhy.{ClauseWhy}
 use Rattle.joint_checker.specs.declared.checked.ClauseWhy.TheVariants as clause
 use Rattle.joint_checker.specs.declared.checked.Refusal.TheVariants as refusal
-use Rattle.graph_core.specs.Certificates.{IsClauseRefusal}
-use Rattle.graph_core.specs.Certificates as certificate
+use Rattle.drup_text.specs.HeaderRefusal as clausal
+use Rattle.drup_text.specs.HeaderRefusal.{LineCause}
+use Rattle.joint_checker.specs.ClauseRefusals.{IsClauseRefusal, IsColumnRefusal}
 use Rattle.joint_checker.specs.Files.{AreTold, Files, HasExtended, HasGraph, HasLawfulPair, Texts, texts_of}
 
 -- ---- what the three files come to
@@ -34,6 +36,12 @@ IsGraphRefusal limit file (fail.Graph f) = Refuses limit file (fail.Graph f)
 IsGraphRefusal limit file _ = ⊥
 
 -- the definitions' cause of that name
+abbrev pub line_cause : ClauseWhy → LineCause
+line_cause clause.Text = clausal.Text
+line_cause clause.Range = clausal.Range
+line_cause clause.NotImplied = clausal.NotImplied
+line_cause clause.NoSuchClause = clausal.NoSuchClause
+
 abbrev pub cause_of : AlgebraWhy → AlgebraCause
 cause_of why.Text = cause.Text
 cause_of why.Range = cause.Range
@@ -42,9 +50,9 @@ cause_of (why.NoSuchLine id) = cause.NoSuchLine id
 cause_of why.NotEqual = cause.NotEqual
 cause_of why.NotSpec = cause.NotSpecification
 
--- The graph is spelled, and something holds of the clause file.
-abbrev pub MeetsClauses : Limits → Texts → (List ℕ → Type 0) → Type 0
-MeetsClauses limits texts P = HasGraph limits.graph texts.graph (λ g. ⊤) × IfSome texts.clauses P
+-- The graph is spelled, and something holds of it and of the clause file.
+abbrev pub MeetsClauses : Limits → Texts → (Aig → List ℕ → Type 0) → Type 0
+MeetsClauses limits texts P = HasGraph limits.graph texts.graph (λ g. IfSome texts.clauses (P g))
 
 -- The graph is spelled, the clause file gives an extended one, and something holds of both and of the algebra file.
 abbrev pub MeetsAlgebra : Limits → Texts → (Aig → Extended → List ℕ → Type 0) → Type 0
@@ -55,8 +63,9 @@ abbrev pub IsDue : Limits → Order → Texts → Checked → Type 0
 IsDue limits order texts checked.Accepted = HasLawfulPair limits order texts (λ g. ⊤)
 IsDue limits order texts (checked.Graph why) = IfSome texts.graph (λ bytes. IsGraphRefusal limits.graph bytes why)
 IsDue limits order texts (checked.TooLong slot.Graph) = IfSome texts.graph (reading.IsTooLong limits.graph)
-IsDue limits order texts (checked.Refused (refusal.Clauses line clause.Text)) = MeetsClauses limits texts (λ bytes. IsClauseRefusal (lengths_of limits) bytes (line, certificate.Text))
-IsDue limits order texts (checked.TooLong slot.Clauses) = MeetsClauses limits texts (λ bytes. (line : ℕ) × IsClauseRefusal (lengths_of limits) bytes (line, certificate.TooLong))
+IsDue limits order texts (checked.Refused (refusal.Clauses n why)) = MeetsClauses limits texts (λ g bytes. IsClauseRefusal (lengths_of limits) g bytes (n, line_cause why))
+IsDue limits order texts (checked.TooLong slot.Clauses) = MeetsClauses limits texts (λ g bytes. (n : ℕ) × IsClauseRefusal (lengths_of limits) g bytes (n, clausal.TooLong))
+IsDue limits order texts (checked.Refused (refusal.Goals column)) = MeetsClauses limits texts (λ g bytes. IsColumnRefusal (lengths_of limits) g bytes column)
 IsDue limits order texts (checked.Refused (refusal.Algebra line why)) = MeetsAlgebra limits texts (λ g e bytes. IsAlgebraRefusal e (sides_of order g) (lengths_of limits) bytes (line, cause_of why))
 IsDue limits order texts (checked.TooLong slot.Algebra) = MeetsAlgebra limits texts (λ g e bytes. (line : ℕ) × IsAlgebraRefusal e (sides_of order g) (lengths_of limits) bytes (line, cause.TooLong))
 IsDue limits order texts _ = ⊥
@@ -80,7 +89,8 @@ IsOfGraph _ = ⊥
 
 -- the answer is one of the clause file
 abbrev pub IsOfClauses : Checked → Type 0
-IsOfClauses (checked.Refused (refusal.Clauses line why)) = ⊤
+IsOfClauses (checked.Refused (refusal.Clauses n why)) = ⊤
+IsOfClauses (checked.Refused (refusal.Goals column)) = ⊤
 IsOfClauses (checked.TooLong slot.Clauses) = ⊤
 IsOfClauses _ = ⊥
 
@@ -103,7 +113,8 @@ pub record OpensNeeded (limits : Limits) (texts : Texts) (before after : View) (
 abbrev pub OpensFor : Checked → View → View → Type 0
 OpensFor (checked.Graph why) before after = OpensFiles 1 before after
 OpensFor (checked.TooLong slot.Graph) before after = OpensFiles 1 before after
-OpensFor (checked.Refused (refusal.Clauses line why)) before after = OpensFiles 2 before after
+OpensFor (checked.Refused (refusal.Clauses n why)) before after = OpensFiles 2 before after
+OpensFor (checked.Refused (refusal.Goals column)) before after = OpensFiles 2 before after
 OpensFor (checked.TooLong slot.Clauses) before after = OpensFiles 2 before after
 OpensFor checked.ReadFault before after = OpensAtMost 3 before after
 OpensFor checked.Memory before after = OpensAtMost 3 before after

@@ -1,0 +1,17 @@
+use Rattle.std.proofs.Common.{◌≡◌}
+use Rattle.mv_desk.specs.Calls.{ReadsOnly}
+use Rattle.mv_desk.specs.View.{KeepsTelling}
+use Rattle.mv_desk.specs.declared.slot.Slot.TheVariants as slot
+use Rattle.miter_encoder.specs.ColumnGoals.{AreGoalsOf}
+use Rattle.joint_checker.specs.ClauseLines.{left_for}
+use Rattle.joint_checker.proofs.ClauseReached.{IsReached}
+use Rattle.joint_checker.proofs.clause_file.judge_lines.Given as goal
+
+abbrev pub invariant-loop : goal.invariant-loop
+invariant-loop g l = record {
+  only : ReadsOnly slot.Clauses (g.D.Desk.seen l.fn.desk) (g.D.Desk.seen l.desk);
+  tells : KeepsTelling (g.D.Desk.seen l.fn.desk) (g.D.Desk.seen l.desk);
+  max : l.checker.max ≡ l.fn.extended.max;
+  goals : AreGoalsOf l.fn.extended l.checker.goals;
+  reached : IsReached l.fn.extended l.fn.file (left_for l.fn.file (g.D.Desk.seen l.fn.desk)) l.checker l.counter l.next l.file (left_for l.file (g.D.Desk.seen l.desk));
+}
