@@ -111,12 +111,12 @@ module _ (limit : ℕ) (order : Order) (budget : ℕ) (file : List ℕ) where
   spelled given P told h = (h.0, subst (λ o. IfSome o (λ bytes. SpellsWithin limit bytes h.0)) told h.1, h.2)
 
 pub verdicts_are_exact : VerdictsAreExact
-verdicts_are_exact limit order budget files before after file due given told d h = exact limit order budget file given due (says given h) d
+verdicts_are_exact limit order budget conflicts files before after file due given noted told d h = exact limit order budget file given due (says given h) d
   where
-    says : (v : Verdict) → IsVerdict limit order budget files before after v → Says limit order budget file v
-    says Proved h = let s = spelled limit order budget file _ _ told h in (s.0, s.1, s.2.2)
-    says (Wrong a b value product) h = spelled limit order budget file _ _ told h.0
-    says (Undecided tried t n) h = spelled limit order budget file _ _ told h.1
+    says : (v : Verdict) → IsVerdict limit order budget conflicts files before after v noted → Says limit order budget file v
+    says Proved h = let s = spelled limit order budget file _ _ told h in (s.0, s.1, s.2.0)
+    says (Wrong a b value product) h = let s = spelled limit order budget file _ _ told h.0 in (s.0, s.1, s.2.0)
+    says (Undecided tried t n) h = let s = spelled limit order budget file _ _ told h.0 in (s.0, s.1, s.2.0)
     says (Graph why) h = subst (λ o. IfSome o (λ bytes. IsGraphRefusal limit bytes why)) told h.0
     says TooLong h = subst (λ o. IfSome o (reading.IsTooLong limit)) told h.0
     says ReadFault h = tt

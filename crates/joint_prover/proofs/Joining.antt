@@ -1,12 +1,13 @@
 -- A graph was read, and then judged.
 use Rattle.std.proofs.Common.{◌≡◌, ◌≢◌, ℕ, List, refl, sym, subst, ◌∙◌, inl, inr}
 use Rattle.std.specs.Prelude.{IfSome, Result}
+use Rattle.std.specs.declared.option.Option.{Option}
+use Rattle.std.specs.declared.option.Option.TheVariants.{None}
 use Rattle.aiger_reader.specs.Opening.{OpensOnly}
 use Rattle.aiger_reader.specs.Refusals.{Refuses, SpellsWithin}
 use Rattle.aiger_reader.specs.declared.fail.ReadFail.{ReadFail}
 use Rattle.aiger_reader.specs.declared.fail.ReadFail.TheVariants as fail
 use Rattle.aiger_reader.proofs.CallerLemmas.{Inspects-OpensOnly}
-use Rattle.graph_core.specs.Certificates.{no_cut}
 use Rattle.graph_core.specs.Graph.{Aig}
 use Rattle.graph_core.specs.declared.order.Order.{Order}
 use Rattle.mv_desk.specs.View.{View, IsSame, Rose, bytes_under}
@@ -16,7 +17,12 @@ use Rattle.mv_desk.proofs.CallerLemmas.{ModeStays-refl, ModeStays-trans}
 use Rattle.joint_checker.specs.Files.{Files}
 use Rattle.joint_prover.specs.declared.verdict.Verdict.{Verdict}
 use Rattle.joint_prover.specs.declared.verdict.Verdict.TheVariants.{Proved, Wrong, Undecided, Graph, ReadFault, WriteFault, TooLong, Memory}
-use Rattle.joint_prover.specs.Verdicts.{IsOfGraph, IsPair, IsVerdict, answer_of_graph}
+use Rattle.ripple_graft.specs.declared.cut.Cut.{Cut}
+use Rattle.joint_prover.specs.declared.rewriting.Rewriting.{Rewriting}
+use Rattle.joint_prover.specs.Notes.{IsNote, cut_of}
+use Rattle.joint_prover.specs.Pairs.{AreClausesFor, IsPairFor}
+use Rattle.joint_prover.specs.Parts.{IsJudged, IsOfGraph, note_with}
+use Rattle.joint_prover.specs.Verdicts.{IsVerdict, answer_of_graph}
 use Rattle.joint_prover.specs.Written.{ReadsGraph, ReportStays, StopsAt, StopsWriting, WritesFile, WritesFront}
 
 pub graph_is_read : {T E : Type 0} (a r : View) (result : Result T E) → OpensOnly slot.Graph a r result → ReadsGraph a r
@@ -25,26 +31,32 @@ graph_is_read a r result opens = record {
   inspects = Inspects-OpensOnly slot.Graph a r result (λ e. cc) opens;
 }
 
-module _ (limit : ℕ) (order : Order) (budget : ℕ) (files : Files) (a r : View) (reads : ReadsGraph a r) where
-  pub joined : (c : View) (g : Aig) (v : Verdict) → IfSome (bytes_under a files.graph) (λ bytes. SpellsWithin limit bytes g) → r.write_faults ≡ a.write_faults →
-      IsOfGraph g order budget files r c v → IsVerdict limit order budget files a c v
-  joined c g Proved spelled same h = (g, spelled, (h.0, h.1, h.2, (r, reads, h.3)))
-  joined c g (Wrong x y value product) spelled same h = ((g, spelled, h.0), subst (ReadsGraph a) (sym h.1) reads)
-  joined c g (Undecided tried t n) spelled same h = (h.0, (g, spelled, h.1), subst (ReadsGraph a) (sym h.2) reads)
-  joined c g (Graph why) spelled same h = absurd h
-  joined c g ReadFault spelled same h = absurd h
-  joined c g WriteFault spelled same h = (subst (λ n. Rose n c.write_faults) same h.0, (g, spelled, (h.1, (r, reads, h.2))))
-  joined c g TooLong spelled same h = absurd h
-  joined c g Memory spelled same h = subst (ReadsGraph a) (sym h) reads
+module _ (limit : ℕ) (order : Order) (budget conflicts : ℕ) (files : Files) (a r : View) (reads : ReadsGraph a r) where
+  of_graph : (c : View) (g : Aig) (v : Verdict) (n : Rewriting) → IfSome (bytes_under a files.graph) (λ bytes. SpellsWithin limit bytes g) → r.write_faults ≡ a.write_faults →
+      IsNote g order conflicts n → IsOfGraph g order budget conflicts (cut_of n) files r c v → IsVerdict limit order budget conflicts files a c v (note_with v n)
+  of_graph c g Proved n spelled same noted h = (g, spelled, (h.0, (noted, (r, reads, h.1))))
+  of_graph c g (Wrong x y value product) n spelled same noted h = ((g, spelled, (h.0, (noted, tt))), subst (ReadsGraph a) (sym h.1) reads)
+  of_graph c g (Undecided tried t k) n spelled same noted h = ((g, spelled, (h.0, (noted, h.1))), subst (ReadsGraph a) (sym h.2) reads)
+  of_graph c g (Graph why) n spelled same noted h = absurd h
+  of_graph c g ReadFault n spelled same noted h = absurd h
+  of_graph c g WriteFault n spelled same noted h = (subst (λ k. Rose k c.write_faults) same h.0, (g, spelled, (h.1, (n, noted, r, reads, h.2))), refl)
+  of_graph c g TooLong n spelled same noted h = absurd h
+  of_graph c g Memory n spelled same noted h = absurd h
+
+  pub joined : (c : View) (g : Aig) (v : Verdict) (noted : Option Rewriting) → IfSome (bytes_under a files.graph) (λ bytes. SpellsWithin limit bytes g) → r.write_faults ≡ a.write_faults →
+      IsJudged g order budget conflicts files r c v noted → IsVerdict limit order budget conflicts files a c v noted
+  joined c g v noted spelled same (inl h) = subst (IsVerdict limit order budget conflicts files a c v) (sym h.3) (of_graph c g v h.0 spelled same h.1 h.2)
+  joined c g v noted spelled same (inr h) =
+      subst (λ x. IsVerdict limit order budget conflicts files a c x noted) (sym h.0) (subst (ReadsGraph a) (sym h.2) reads, h.1)
 
   pub refused : (why : ReadFail) → IfSome (bytes_under a files.graph) (λ file. Refuses limit file why) → (why ≡ fail.Fault → Rose a.read_faults r.read_faults) →
-      IsVerdict limit order budget files a r (answer_of_graph why)
-  refused (fail.Text p) h rose = (h, reads)
-  refused (fail.Header f) h rose = (h, reads)
-  refused (fail.Graph f) h rose = (h, reads)
-  refused fail.Fault h rose = (rose refl, reads)
-  refused fail.TooLong h rose = (h, reads)
-  refused fail.Memory h rose = reads
+      IsVerdict limit order budget conflicts files a r (answer_of_graph why) None
+  refused (fail.Text p) h rose = (h, reads, refl)
+  refused (fail.Header f) h rose = (h, reads, refl)
+  refused (fail.Graph f) h rose = (h, reads, refl)
+  refused fail.Fault h rose = (rose refl, reads, refl)
+  refused fail.TooLong h rose = (h, reads, refl)
+  refused fail.Memory h rose = (reads, refl)
 
 -- ---- the report
 
@@ -79,21 +91,28 @@ stop_leaves : (at : Slot) (name : List ℕ) (P : List ℕ → Type 0) (a b : Vie
 stop_leaves at name P a b other (inl same) = stays_same a b same
 stop_leaves at name P a b other (inr w) = front_leaves at name w.0 a b other w.2
 
-stopping_leaves : (files : Files) (P : List ℕ → Type 0) (a b : View) → StopsWriting files P a b → ReportStays a b
-stopping_leaves files P a b (inl h) = stop_leaves slot.Clauses files.clauses (λ text. text ≡ no_cut) a b no_clauses h
-stopping_leaves files P a b (inr h) = stays_on a h.0 b (file_leaves slot.Clauses files.clauses no_cut a h.0 no_clauses h.1) (stop_leaves slot.Algebra files.algebra P h.0 b no_algebra h.2)
+stopping_leaves : (files : Files) (P : List ℕ → Type 0) (Q : List ℕ → List ℕ → Type 0) (a b : View) → StopsWriting files P Q a b → ReportStays a b
+stopping_leaves files P Q a b (inl h) = stop_leaves slot.Clauses files.clauses P a b no_clauses h
+stopping_leaves files P Q a b (inr h) =
+    stays_on a h.1 b (file_leaves slot.Clauses files.clauses h.0 a h.1 no_clauses h.3) (stop_leaves slot.Algebra files.algebra (Q h.0) h.1 b no_algebra h.4)
 
-pub report_is_left : (g : Aig) (order : Order) (budget : ℕ) (files : Files) (a b : View) (v : Verdict) → IsOfGraph g order budget files a b v → ReportStays a b
-report_is_left g order budget files a b Proved h =
-    let w = h.3 in
-    stays_on a w.between b (file_leaves slot.Clauses files.clauses no_cut a w.between no_clauses w.clauses) (file_leaves slot.Algebra files.algebra h.0 w.between b no_algebra w.algebra)
-report_is_left g order budget files a b (Wrong x y value product) h = subst (ReportStays a) (sym h.1) (stays a)
-report_is_left g order budget files a b (Undecided tried t n) h = subst (ReportStays a) (sym h.2) (stays a)
-report_is_left g order budget files a b (Graph why) h = absurd h
-report_is_left g order budget files a b ReadFault h = absurd h
-report_is_left g order budget files a b WriteFault h = stopping_leaves files (IsPair g order no_cut) a b h.2
-report_is_left g order budget files a b TooLong h = absurd h
-report_is_left g order budget files a b Memory h = subst (ReportStays a) (sym h) (stays a)
+of_graph_leaves : (g : Aig) (order : Order) (budget conflicts : ℕ) (used : Option Cut) (files : Files) (a b : View) (v : Verdict) → IsOfGraph g order budget conflicts used files a b v → ReportStays a b
+of_graph_leaves g order budget conflicts used files a b Proved h =
+    let pair = h.1 in
+    let w = pair.3 in
+    stays_on a w.between b (file_leaves slot.Clauses files.clauses pair.0 a w.between no_clauses w.clause_file) (file_leaves slot.Algebra files.algebra pair.1 w.between b no_algebra w.algebra_file)
+of_graph_leaves g order budget conflicts used files a b (Wrong x y value product) h = subst (ReportStays a) (sym h.1) (stays a)
+of_graph_leaves g order budget conflicts used files a b (Undecided tried t n) h = subst (ReportStays a) (sym h.2) (stays a)
+of_graph_leaves g order budget conflicts used files a b (Graph why) h = absurd h
+of_graph_leaves g order budget conflicts used files a b ReadFault h = absurd h
+of_graph_leaves g order budget conflicts used files a b WriteFault h =
+    stopping_leaves files (AreClausesFor g order budget conflicts used) (IsPairFor g order budget conflicts used) a b h.2
+of_graph_leaves g order budget conflicts used files a b TooLong h = absurd h
+of_graph_leaves g order budget conflicts used files a b Memory h = absurd h
+
+pub report_is_left : (g : Aig) (order : Order) (budget conflicts : ℕ) (files : Files) (a b : View) (v : Verdict) (noted : Option Rewriting) → IsJudged g order budget conflicts files a b v noted → ReportStays a b
+report_is_left g order budget conflicts files a b v noted (inl h) = of_graph_leaves g order budget conflicts (cut_of h.0) files a b v h.2
+report_is_left g order budget conflicts files a b v noted (inr h) = subst (ReportStays a) (sym h.2) (stays a)
 
 pub reading_leaves : (a r : View) → ReadsGraph a r → ReportStays a r
 reading_leaves a r reads = let s = reads.inspects.report in record { mode = s.mode; written = s.written }

@@ -1,7 +1,10 @@
+mod PlanLists
+pub mod TakenLists
+pub mod Remainders
+pub mod Clauses
+pub mod Telling
+pub mod Noting
+pub mod Joining
 pub mod Exactness
 pub mod HeldFiles
-mod PlanLists
-pub mod Remainders
-pub mod Joining
-pub mod Pairs
 pub mod CallerLemmas

@@ -9,13 +9,15 @@ use Rattle.std.proofs.lemmas.List.Elements.{recursion_from_All}
 use Rattle.column_reducer.specs.Reducing.{GoesOn, IsPassed, IsRest, Planned, planned, value_after}
 use Rattle.column_reducer.specs.declared.reduced.Reduced.TheVariants as answer
 use Rattle.column_reducer.specs.declared.reduced.Reduced.TheVariants.{Rest}
+use Rattle.frontier_core.specs.declared.step.Step.{Step}
 use Rattle.frontier_core.specs.declared.step.Step.TheVariants.{Add, Eliminate}
 use Rattle.frontier_core.specs.Columns.{all_columns}
-use Rattle.frontier_core.specs.Frontier.{frontier_value}
+use Rattle.frontier_core.specs.Frontier.{IsFrontier, frontier_value}
 use Rattle.frontier_core.specs.LastFrontier.{IsEnd, IsOverInputs}
 use Rattle.frontier_core.specs.LeastDifference.{AreInputs, IsLeastDifference, IsLeastDifferenceAt, IsLeastNonzero}
 use Rattle.frontier_core.specs.Plan.{IsPlan, Taken, nothing, plain_steps, taken, value_of_taken}
 use Rattle.frontier_core.specs.PlainOrder.{HasPlainSize, IsPlainOrder}
+use Rattle.frontier_core.proofs.Plans.{plan_leaves_frontiers}
 use Rattle.frontier_core.proofs.CallerLemmas.{graph_inputs, last_frontier_decides, last_frontier_gives_least, difference_is_of_operands, last_frontier_is_over_inputs, lowest_bits, operands_in_order, plain_order_is_one, plain_plan_is_plan, specification_is_not_zero, difference_small}
 use Rattle.graph_core.specs.Algebra.NormalForm.{HasSize, IsNormalForm}
 use Rattle.graph_core.specs.Graph.{Aig, IsDefinedOnce, of_inputs}
@@ -23,7 +25,7 @@ use Rattle.graph_core.specs.declared.literal.Lit.{Lit}
 use Rattle.graph_core.specs.Graph.Assignments.{Assignment, word}
 use Rattle.graph_core.specs.Graph.Extended.{Extended, without_cut}
 use Rattle.graph_core.specs.Graph.Operands.{AreOperandsOf, MeetsClaim, Multiplies, ReadInputs, Sides, claimed, inputs_in, inputs_of, width}
-use Rattle.graph_core.specs.Algebra.{AgreeOnColumns, Closes, LiveLine, line_of, modulus, specification, value_of, value_or_zero}
+use Rattle.graph_core.specs.Algebra.{Closes, LiveLine, line_of, modulus, specification, value_of, value_or_zero}
 use Rattle.graph_core.specs.Algebra.Polynomials.{difference, value}
 use Rattle.graph_core.proofs.OfGraphs.CallerLemmas.{a_bits_are, claim_is_product, difference_is, length-a_part, sides_read_inputs}
 use Rattle.graph_core.proofs.OfAlgebra.CallerLemmas.{modulus_pos}
@@ -35,8 +37,10 @@ use Rattle.poly_terms.proofs.Values.{normal}
 use Rattle.ripple_graft.specs.Extension.{IsExtension}
 use Rattle.joint_prover.proofs.PlanLists.{length-count_from, take-map}
 use Rattle.joint_prover.specs.declared.ending.Ending.{Ending}
-use Rattle.joint_prover.specs.declared.ending.Ending.TheVariants.{Closed, Differs, Passed}
-use Rattle.joint_prover.specs.Endings.{IsEnding, IsPlainlyReduced, IsRemainder, IsStart, IsWitness, IsWitnessOf, plain_of}
+use Rattle.joint_prover.specs.declared.ending.Ending.TheVariants.{Closed, Differs}
+use Rattle.joint_prover.specs.declared.verdict.Tried.{Tried}
+use Rattle.joint_prover.specs.Endings.{IsEnded, IsPlainlyReduced, IsRemainder, IsStart, IsTriedAt, IsWitness, IsWitnessOf, plain_of}
+use Rattle.joint_prover.specs.Tries.{IsAbove}
 use Rattle.joint_prover.specs.Verdicts.{IsFirstAbove}
 
 -- ---- the plain plan
@@ -82,11 +86,30 @@ module _ (e : Extended) (s : Sides) (vs : List ℕ) (extension : IsExtension e) 
       )
 
 -- what a reduction asks for
-pub nothing_replaced : (l : Made) → IsStart l → l.extended.replaced ≡ []
-nothing_replaced l start = ap (λ (x : Extended). x.replaced) start.extended
-
 pub reads_inputs : (l : Made) → IsStart l → ReadInputs l.extended.graph l.sides
 reads_inputs l start = subst (ReadInputs l.extended.graph) (sym start.sides) (sides_read_inputs l.extended.graph l.sides.order)
+
+-- ---- a frontier above the budget
+
+module _ (l : Made) (start : IsStart l) (steps : List Step) (plan : IsPlan l.extended steps) (budget step size : ℕ) (h : IsPassed (planned l.extended steps 0) l.sides budget step size) where
+  abbrev here : Taken
+  here = taken nothing (take step steps)
+
+  nothing_more : (n : ℕ) → 0 + n ≡ n
+  nothing_more n = omega arith
+
+  pub few_steps : step ≤ length steps
+  few_steps = let low = h.there in omega arith
+
+  pub above_of : (rewritten : Bool) (tried : Tried) → IsTriedAt steps step size rewritten tried → IsAbove l.extended l.sides budget tried
+  above_of rewritten tried at = record {
+    frontier = subst (λ ks. IsFrontier l.extended ks tried.gates.items) (sym at.columns)
+        (subst (IsFrontier l.extended here.added) (sym at.gates) (plan_leaves_frontiers l.extended steps step plan.follow).0);
+    size = subst (λ ks. HasSize (modulus l.extended) (frontier_value l.extended l.sides ks tried.gates.items) tried.size) (sym at.columns)
+        (subst (λ vs. HasSize (modulus l.extended) (frontier_value l.extended l.sides here.added vs) tried.size) (sym at.gates)
+        (subst (HasSize (modulus l.extended) (frontier_value l.extended l.sides here.added here.eliminated)) (sym at.size_is) (subst (λ k. HasSize (modulus l.extended) (value_after (planned l.extended steps 0) l.sides k) size) (nothing_more step) h.has)));
+    above = subst (λ n. budget < n) (sym at.size_is) h.above;
+  }
 
 -- ---- the remainder
 
@@ -133,7 +156,7 @@ module _ (l : Made) (start : IsStart l) (after : Made) (poly : Sum) (id : ℕ) (
   is_end = record {
     extension = start.extension;
     inputs = reads_inputs l start;
-    agree = λ ρ h. subst (λ x. AgreeOnColumns x ρ) (sym start.extended) (λ k d low. absurd (omega arith));
+    agree = start.agree;
     last = left.plan.last;
   }
 
@@ -211,26 +234,26 @@ module _ (l : Made) (start : IsStart l) (after : Made) (poly : Sum) (id : ℕ) (
 
   -- ---- what a reduction comes to
 
-  pub ending_of : (budget : ℕ) (new : Made) (v : Ending) → IsWitness after new poly id v → IsEnding g s.order budget new v
-  ending_of budget new Closed h = (
-    record {
-      closed = subst (λ (x : Made). IsSome x.closing) (sym h.1) refl;
-      extended = ap (λ (x : Made). x.extended) h.1 ∙ goes.extended ∙ start.extended;
-      sides = ap (λ (x : Made). x.sides) h.1 ∙ goes.sides ∙ start.sides;
-    },
-    zero_multiplies h.0,
-  )
-  ending_of budget new (Differs a b) h = witness_is_least a b h.0
-  ending_of budget new (Passed step size) h = absurd h
+  pub ended_of : (new : Made) (v : Ending) → IsWitness after new poly id v → IsEnded l.extended l.sides.order new v
+  ended_of new Closed h = record {
+    extended = ap (λ (x : Made). x.extended) h.1 ∙ goes.extended;
+    sides = ap (λ (x : Made). x.sides) h.1 ∙ goes.sides ∙ start.sides;
+    decides = (subst (λ (x : Made). IsSome x.closing) (sym h.1) refl, zero_multiplies h.0);
+  }
+  ended_of new (Differs a b) h = record {
+    extended = ap (λ (x : Made). x.extended) h.1 ∙ goes.extended;
+    sides = ap (λ (x : Made). x.sides) h.1 ∙ goes.sides ∙ start.sides;
+    decides = witness_is_least a b h.0;
+  }
 
-module _ (l : Made) (start : IsStart l) where
+module _ (l : Made) (start : IsStart l) (alone : l.extended ≡ without_cut l.extended.graph) where
   pub first_above : (budget step size : ℕ) (after : Made) → IsPlainlyReduced budget l after (answer.Passed step size) → IsFirstAbove l.extended.graph l.sides.order budget step size
   first_above budget step size after h =
       let r = passed_is_first l.extended l.sides h.order start.extension h.plain budget step size h.reduced in
       let g = l.extended.graph in
       record {
-        there = subst (λ (x : Extended). step ≤ length x.gates) start.extended r.0;
+        there = subst (λ (x : Extended). step ≤ length x.gates) alone r.0;
         above = h.reduced.above;
-        size = subst (λ x. HasPlainSize (without_cut g) x step size) start.sides (subst (λ x. HasPlainSize x l.sides step size) start.extended r.1);
-        first = λ i k before is. r.2 i k before (subst (λ x. HasPlainSize x l.sides i k) (sym start.extended) (subst (λ x. HasPlainSize (without_cut g) x i k) (sym start.sides) is));
+        size = subst (λ x. HasPlainSize (without_cut g) x step size) start.sides (subst (λ x. HasPlainSize x l.sides step size) alone r.1);
+        first = λ i k before is. r.2 i k before (subst (λ x. HasPlainSize x l.sides i k) (sym alone) (subst (λ x. HasPlainSize (without_cut g) x i k) (sym start.sides) is));
       }

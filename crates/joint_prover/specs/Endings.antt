@@ -1,34 +1,42 @@
--- What a reduction comes to. Private clauses alone cite this file.
-use Rattle.std.specs.Prelude.{◌≡◌, ℕ, ◌<◌, ◌^◌, List, [], length, None, IsSome}
+-- What plans come to. Private clauses alone cite this file.
+use Rattle.std.specs.Prelude.{◌≡◌, ℕ, ◌<◌, ◌^◌, Bool, List, [], ◌∷◌, length, take, None, IsSome}
 use Rattle.column_reducer.specs.Reducing.{GoesOn, IsReduced, IsRest, Planned, planned}
 use Rattle.column_reducer.specs.declared.reduced.Reduced.{Reduced}
+use Rattle.frontier_core.specs.LastFrontier.{AgreeEverywhere}
 use Rattle.frontier_core.specs.LeastDifference.{IsLeastDifference, IsLeastNonzero}
 use Rattle.frontier_core.specs.declared.step.Step.{Step}
-use Rattle.frontier_core.specs.Plan.{IsPlan, plain_steps}
+use Rattle.frontier_core.specs.declared.step.Step.TheVariants.{Add, Eliminate}
+use Rattle.frontier_core.specs.Plan.{IsPlan, nothing, plain_steps, taken}
 use Rattle.frontier_core.specs.PlainOrder.{IsPlainOrder}
 use Rattle.graph_core.specs.Aiger.Soundness.{IsMultiplierSized}
 use Rattle.graph_core.specs.Algebra as algebra
 use Rattle.graph_core.specs.Graph.{Aig}
 use Rattle.graph_core.specs.Graph.Assignments.{Assignment}
-use Rattle.graph_core.specs.Graph.Extended.{Extended, without_cut}
+use Rattle.graph_core.specs.Graph.Extended.{Extended}
 use Rattle.graph_core.specs.Graph.Operands.{Multiplies, inputs_in, inputs_of, sides_of}
 use Rattle.graph_core.specs.declared.order.Order.{Order}
 use Rattle.pac_writer.specs.Writing.{Made, closed, ledger_of}
 use Rattle.poly_terms.specs.Tables.{Sum, modulus, value_in}
 use Rattle.ripple_graft.specs.Extension.{IsExtension}
 use Rattle.joint_prover.specs.declared.ending.Ending.{Ending}
-use Rattle.joint_prover.specs.declared.ending.Ending.TheVariants.{Closed, Differs, Passed}
+use Rattle.joint_prover.specs.declared.ending.Ending.TheVariants.{Closed, Differs}
+use Rattle.joint_prover.specs.declared.ending.Plain.{Plain}
+use Rattle.joint_prover.specs.declared.ending.Plain.TheVariants as plain
+use Rattle.joint_prover.specs.declared.ending.Sliced.{Sliced}
+use Rattle.joint_prover.specs.declared.ending.Sliced.TheVariants as sliced
+use Rattle.joint_prover.specs.declared.verdict.Tried.{Tried}
+use Rattle.joint_prover.specs.Tries.{IsAbove}
 use Rattle.joint_prover.specs.Verdicts.{IsFirstAbove}
 
--- Lines over a multiplier that nothing is added to, of which none was written.
+-- Lines over a multiplier with or without an adder, of which none was written.
 pub record IsStart (l : Made) : Type 0 where
-  pub extended : l.extended ≡ without_cut l.extended.graph
   pub sides : l.sides ≡ sides_of l.sides.order l.extended.graph
   pub same_modulus : modulus l.table ≡ algebra.modulus l.extended
   pub lines : l.lines ≡ []
   pub unclosed : l.closing ≡ None
   pub sized : IsMultiplierSized l.extended.graph
   pub extension : IsExtension l.extended
+  pub agree : AgreeEverywhere l.extended
 
 -- the plan of a plain order: all columns, and then the gates in that order
 abbrev pub plain_of : Extended → List ℕ → Planned
@@ -49,16 +57,40 @@ pub record IsRemainder (old new : Made) (poly : Sum) (id : ℕ) : Type 0 where
   pub goes_on : GoesOn old new
   pub rest : IsRest (planned old.extended steps uncounted) old.sides new.table (ledger_of new).live poly id
 
--- The lines are closed, over this graph.
-pub record IsClosed (g : Aig) (order : Order) (l : Made) : Type 0 where
-  pub closed : IsSome l.closing
-  pub extended : l.extended ≡ without_cut g
-  pub sides : l.sides ≡ sides_of order g
+-- the lines are closed, and the graph multiplies; or these are the least operands on which it doesn't
+abbrev pub Decides : Aig → Order → Made → Ending → Type 0
+Decides g order l Closed = IsSome l.closing × Multiplies g order
+Decides g order l (Differs a b) = IsLeastDifference g order a b
 
-abbrev pub IsEnding : Aig → Order → ℕ → Made → Ending → Type 0
-IsEnding g order budget l Closed = IsClosed g order l × Multiplies g order
-IsEnding g order budget l (Differs a b) = IsLeastDifference g order a b
-IsEnding g order budget l (Passed step size) = IsFirstAbove g order budget step size
+-- The lines are over this graph, and the end of a plan decides.
+pub record IsEnded (e : Extended) (order : Order) (l : Made) (ending : Ending) : Type 0 where
+  pub extended : l.extended ≡ e
+  pub sides : l.sides ≡ sides_of order e.graph
+  pub decides : Decides e.graph order l ending
+
+abbrev pub IsSliced : Made → ℕ → Bool → Made → Sliced → Type 0
+IsSliced old budget rewritten l (sliced.Ended ending) = IsEnded old.extended old.sides.order l ending
+IsSliced old budget rewritten l (sliced.Passed tried) = (tried.rewritten ≡ rewritten) × IsAbove old.extended old.sides budget tried
+
+abbrev pub IsPlain : Made → ℕ → Made → Plain → Type 0
+IsPlain old budget l (plain.Ended ending) = IsEnded old.extended old.sides.order l ending
+IsPlain old budget l (plain.Passed step size) = IsFirstAbove old.extended.graph old.sides.order budget step size
+
+-- what one step takes
+abbrev pub columns_of : Step → List ℕ
+columns_of (Add k) = k ∷ []
+columns_of (Eliminate v) = []
+
+abbrev pub gates_of : Step → List ℕ
+gates_of (Add k) = []
+gates_of (Eliminate v) = v ∷ []
+
+-- The columns and gates that the first steps have taken, the latest first.
+pub record IsTriedAt (steps : List Step) (count size : ℕ) (rewritten : Bool) (tried : Tried) : Type 0 where
+  pub rewritten_is : tried.rewritten ≡ rewritten
+  pub columns : tried.columns.items ≡ (taken nothing (take count steps)).added
+  pub gates : tried.gates.items ≡ (taken nothing (take count steps)).eliminated
+  pub size_is : tried.size ≡ size
 
 -- The least operands at which a remainder isn't 0.
 pub record IsWitnessOf (l : Made) (poly : Sum) (a b : ℕ) : Type 0 where
@@ -69,4 +101,3 @@ pub record IsWitnessOf (l : Made) (poly : Sum) (a b : ℕ) : Type 0 where
 abbrev pub IsWitness : Made → Made → Sum → ℕ → Ending → Type 0
 IsWitness old new poly id Closed = ((σ : Assignment) → value_in old.table poly σ ≡ 0) × (new ≡ closed old id)
 IsWitness old new poly id (Differs a b) = IsWitnessOf old poly a b × (new ≡ old)
-IsWitness old new poly id (Passed step size) = ⊥

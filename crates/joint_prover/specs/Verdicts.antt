@@ -1,13 +1,13 @@
 -- What `verify` says of a graph file, and where each verdict comes.
-use Rattle.std.specs.Prelude.{◌≡◌, ◌≢◌, ◌⊎◌, ℕ, ◌*◌, ◌%◌, ◌^◌, ◌<◌, ◌≤◌, List, [], length, Some, IfSome, IsSome}
+use Rattle.std.specs.Prelude.{◌≡◌, ◌≢◌, ◌⊎◌, ℕ, ◌*◌, ◌%◌, ◌^◌, ◌<◌, ◌≤◌, List, length, IfSome, IsSome, IsSomeAnd, ⊤}
 use Rattle.std.specs.declared.option.Option.{Option}
+use Rattle.std.specs.declared.option.Option.TheVariants.{None, Some}
 use Rattle.aiger_reader.specs.Refusals as reading
 use Rattle.aiger_reader.specs.Refusals.{SpellsWithin}
 use Rattle.aiger_reader.specs.declared.fail.ReadFail.{ReadFail}
 use Rattle.aiger_reader.specs.declared.fail.ReadFail.TheVariants as fail
 use Rattle.frontier_core.specs.LeastDifference.{IsLeastDifference}
 use Rattle.frontier_core.specs.PlainOrder.{HasPlainSize}
-use Rattle.graph_core.specs.Certificates.{IsLawfulPair, no_cut}
 use Rattle.graph_core.specs.Graph.{Aig}
 use Rattle.graph_core.specs.Graph.Extended.{without_cut}
 use Rattle.graph_core.specs.Graph.Operands.{Multiplies, sides_of, value_on}
@@ -15,10 +15,16 @@ use Rattle.graph_core.specs.Text.JudgedLines.{Lengths, IsWithin}
 use Rattle.graph_core.specs.declared.order.Order.{Order}
 use Rattle.mv_desk.specs.View.{View, Rose, bytes_under}
 use Rattle.mv_desk.specs.declared.slot.Slot.{Slot}
+use Rattle.ripple_graft.specs.declared.cut.Cut.{Cut}
+use Rattle.joint_checker.specs.Certificates.{IsLawfulPair}
 use Rattle.joint_checker.specs.Files.{Files, HasGraph}
 use Rattle.joint_checker.specs.Outcome.{IsGraphRefusal}
+use Rattle.joint_prover.specs.declared.rewriting.Rewriting.{Rewriting}
 use Rattle.joint_prover.specs.declared.verdict.Verdict.{Verdict}
 use Rattle.joint_prover.specs.declared.verdict.Verdict.TheVariants.{Proved, Wrong, Undecided, Graph, ReadFault, WriteFault, TooLong, Memory}
+use Rattle.joint_prover.specs.Notes.{IsNote, cut_of}
+use Rattle.joint_prover.specs.Pairs.{AreClausesFor, IsPairFor}
+use Rattle.joint_prover.specs.Tries.{AreTried}
 use Rattle.joint_prover.specs.Written.{ReadsGraph, StopsWriting, WritesPair}
 
 -- ---- proved
@@ -27,8 +33,9 @@ use Rattle.joint_prover.specs.Written.{ReadsGraph, StopsWriting, WritesPair}
 abbrev pub IsPair : Aig → Order → List ℕ → List ℕ → Type 0
 IsPair g order clauses algebra = (lengths : Lengths) → IsWithin lengths clauses → IsWithin lengths algebra → IsLawfulPair lengths g order clauses algebra
 
--- The files that a desk holds: a graph, and a pair of certificates for it.
-pub record HoldsPair (order : Order) (files : Files) (view : View) (limit : ℕ) : Type 0 where
+-- The files that a desk holds: a graph that multiplies, a pair of certificates for it, which is the pair that is written with the cut
+-- of this note, and the note's cause.
+pub record HoldsPair (order : Order) (budget conflicts : ℕ) (files : Files) (view : View) (limit : ℕ) (noted : Option Rewriting) : Type 0 where
   pub graph_file : List ℕ
   pub clause_file : List ℕ
   pub algebra_file : List ℕ
@@ -39,6 +46,7 @@ pub record HoldsPair (order : Order) (files : Files) (view : View) (limit : ℕ)
   pub spells : SpellsWithin limit graph_file graph
   pub pair : IsPair graph order clause_file algebra_file
   pub multiplies : Multiplies graph order
+  pub note : IsSomeAnd noted (λ n. IsNote graph order conflicts n × IsPairFor graph order budget conflicts (cut_of n) clause_file algebra_file)
 
 -- ---- undecided
 
@@ -61,36 +69,31 @@ pub record IsWrong (g : Aig) (order : Order) (a b value product : ℕ) : Type 0 
   pub value_is : value ≡ value_on g order a b
   pub product_is : product ≡ a * b % 2 ^ length g.outputs
 
--- The certificates' text that is written, of a graph that the file spells.
-abbrev pub HasPair : ℕ → Order → Option (List ℕ) → (List ℕ → Type 0) → Type 0
-HasPair limit order file P = HasGraph limit file (λ g. (algebra : List ℕ) × IsPair g order no_cut algebra × Multiplies g order × P algebra)
+-- There is a note, which has its cause, and something holds of the cut that it has in use.
+abbrev pub HasNote : Aig → Order → ℕ → Option Rewriting → (Option Cut → Type 0) → Type 0
+HasNote g order conflicts noted P = IsSomeAnd noted (λ n. IsNote g order conflicts n × P (cut_of n))
 
--- Where each verdict comes, and what was done to the files. With each but the first and `WriteFault` nothing was created.
-abbrev pub IsVerdict : ℕ → Order → ℕ → Files → View → View → Verdict → Type 0
-IsVerdict limit order budget files before after Proved =
-    HasPair limit order (bytes_under before files.graph) (λ algebra. (read : View) × ReadsGraph before read × WritesPair files algebra read after)
-IsVerdict limit order budget files before after (Wrong a b value product) =
-    HasGraph limit (bytes_under before files.graph) (λ g. IsWrong g order a b value product) × ReadsGraph before after
-IsVerdict limit order budget files before after (Undecided tried step size) =
-    (tried.items ≡ []) × HasGraph limit (bytes_under before files.graph) (λ g. IsFirstAbove g order budget step size) × ReadsGraph before after
-IsVerdict limit order budget files before after (Graph why) =
-    IfSome (bytes_under before files.graph) (λ bytes. IsGraphRefusal limit bytes why) × ReadsGraph before after
-IsVerdict limit order budget files before after ReadFault = Rose before.read_faults after.read_faults × ReadsGraph before after
-IsVerdict limit order budget files before after WriteFault =
+-- Where each verdict comes, and what was done to the files. With each but the first and `WriteFault` nothing was created. There is a
+-- note with the first three, and with no other.
+abbrev pub IsVerdict : ℕ → Order → ℕ → ℕ → Files → View → View → Verdict → Option Rewriting → Type 0
+IsVerdict limit order budget conflicts files before after Proved noted =
+    HasGraph limit (bytes_under before files.graph) (λ g. Multiplies g order × HasNote g order conflicts noted (λ used. (read : View) × ReadsGraph before read ×
+    ((clauses : List ℕ) × (algebra : List ℕ) × IsPairFor g order budget conflicts used clauses algebra × WritesPair files clauses algebra read after)))
+IsVerdict limit order budget conflicts files before after (Wrong a b value product) noted =
+    HasGraph limit (bytes_under before files.graph) (λ g. IsWrong g order a b value product × HasNote g order conflicts noted (λ used. ⊤)) × ReadsGraph before after
+IsVerdict limit order budget conflicts files before after (Undecided tried step size) noted =
+    HasGraph limit (bytes_under before files.graph) (λ g. IsFirstAbove g order budget step size × HasNote g order conflicts noted (λ used. AreTried g order budget used tried.items)) ×
+    ReadsGraph before after
+IsVerdict limit order budget conflicts files before after (Graph why) noted =
+    IfSome (bytes_under before files.graph) (λ bytes. IsGraphRefusal limit bytes why) × ReadsGraph before after × (noted ≡ None)
+IsVerdict limit order budget conflicts files before after ReadFault noted = Rose before.read_faults after.read_faults × ReadsGraph before after × (noted ≡ None)
+IsVerdict limit order budget conflicts files before after WriteFault noted =
     Rose before.write_faults after.write_faults ×
-    HasGraph limit (bytes_under before files.graph) (λ g. Multiplies g order × ((read : View) × ReadsGraph before read × StopsWriting files (IsPair g order no_cut) read after))
-IsVerdict limit order budget files before after TooLong = IfSome (bytes_under before files.graph) (reading.IsTooLong limit) × ReadsGraph before after
-IsVerdict limit order budget files before after Memory = ReadsGraph before after
-
--- Of a graph that was read; private clauses alone cite this.
-abbrev pub IsOfGraph : Aig → Order → ℕ → Files → View → View → Verdict → Type 0
-IsOfGraph g order budget files before after Proved = (algebra : List ℕ) × IsPair g order no_cut algebra × Multiplies g order × WritesPair files algebra before after
-IsOfGraph g order budget files before after (Wrong a b value product) = IsWrong g order a b value product × (after ≡ before)
-IsOfGraph g order budget files before after (Undecided tried step size) = (tried.items ≡ []) × IsFirstAbove g order budget step size × (after ≡ before)
-IsOfGraph g order budget files before after WriteFault =
-    Rose before.write_faults after.write_faults × Multiplies g order × StopsWriting files (IsPair g order no_cut) before after
-IsOfGraph g order budget files before after Memory = after ≡ before
-IsOfGraph g order budget files before after _ = ⊥
+    HasGraph limit (bytes_under before files.graph) (λ g. Multiplies g order × ((n : Rewriting) × IsNote g order conflicts n × (read : View) × ReadsGraph before read ×
+    StopsWriting files (AreClausesFor g order budget conflicts (cut_of n)) (IsPairFor g order budget conflicts (cut_of n)) read after)) × (noted ≡ None)
+IsVerdict limit order budget conflicts files before after TooLong noted =
+    IfSome (bytes_under before files.graph) (reading.IsTooLong limit) × ReadsGraph before after × (noted ≡ None)
+IsVerdict limit order budget conflicts files before after Memory noted = ReadsGraph before after × (noted ≡ None)
 
 -- no graph was read
 abbrev pub answer_of_graph : ReadFail → Verdict
@@ -116,8 +119,8 @@ pub record IsTold (view : View) : Type 0 where
 
 -- With `Proved` the desk holds the pair, where it tells its files and no two names are equal.
 abbrev pub ProvedPairsAreHeld : Type 0
-ProvedPairsAreHeld = (limit : ℕ) (order : Order) (budget : ℕ) (files : Files) (before after : View) → IsTold before → AreApart files →
-    IsVerdict limit order budget files before after Proved → HoldsPair order files after limit
+ProvedPairsAreHeld = (limit : ℕ) (order : Order) (budget conflicts : ℕ) (files : Files) (before after : View) (noted : Option Rewriting) → IsTold before → AreApart files →
+    IsVerdict limit order budget conflicts files before after Proved noted → HoldsPair order budget conflicts files after limit noted
 
 -- The verdict that is due to a graph file where no frontier of the plain order is above the budget, or where no graph is spelled.
 abbrev pub IsVerdictDue : ℕ → Order → ℕ → List ℕ → Verdict → Type 0
@@ -132,5 +135,5 @@ abbrev pub GivesDue : Verdict → Verdict → Type 0
 GivesDue due given = (given ≡ due) ⊎ (given ≡ ReadFault) ⊎ (given ≡ WriteFault) ⊎ (given ≡ Memory)
 
 abbrev pub VerdictsAreExact : Type 0
-VerdictsAreExact = (limit : ℕ) (order : Order) (budget : ℕ) (files : Files) (before after : View) (file : List ℕ) (due given : Verdict) →
-    bytes_under before files.graph ≡ Some file → IsVerdictDue limit order budget file due → IsVerdict limit order budget files before after given → GivesDue due given
+VerdictsAreExact = (limit : ℕ) (order : Order) (budget conflicts : ℕ) (files : Files) (before after : View) (file : List ℕ) (due given : Verdict) (noted : Option Rewriting) →
+    bytes_under before files.graph ≡ Some file → IsVerdictDue limit order budget file due → IsVerdict limit order budget conflicts files before after given noted → GivesDue due given

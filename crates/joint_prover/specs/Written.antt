@@ -1,6 +1,5 @@
 -- What `verify` does to the files: it reads the graph, and writes both certificates, the clause file first.
 use Rattle.std.specs.Prelude.{◌≡◌, ◌≢◌, ◌⊎◌, List, ℕ}
-use Rattle.graph_core.specs.Certificates.{no_cut}
 use Rattle.mv_desk.specs.Calls.{Creates, Inspects, WritesPart, WritesTo}
 use Rattle.mv_desk.specs.View.{View, IsSame, ModeStays, SlotStays}
 use Rattle.mv_desk.specs.declared.slot.Slot.{Slot}
@@ -29,18 +28,19 @@ pub record WritesFront (at : Slot) (name text : List ℕ) (before after : View) 
   pub creates : Creates at name before created
   pub writes : WritesPart at text created after
 
--- both certificates were written whole, first the clause file, which is the one that replaces nothing
-pub record WritesPair (files : Files) (text : List ℕ) (before after : View) : Type 0 where
+-- both certificates were written whole, first the clause file
+pub record WritesPair (files : Files) (clauses algebra : List ℕ) (before after : View) : Type 0 where
   pub between : View
-  pub clauses : WritesFile slot.Clauses files.clauses no_cut before between
-  pub algebra : WritesFile slot.Algebra files.algebra text between after
+  pub clause_file : WritesFile slot.Clauses files.clauses clauses before between
+  pub algebra_file : WritesFile slot.Algebra files.algebra algebra between after
 
 -- Writing stopped: no file of that name could be created, or a front part of a text of which something holds was written.
 abbrev pub StopsAt : Slot → List ℕ → (List ℕ → Type 0) → View → View → Type 0
 StopsAt at name P before after = IsSame before after ⊎ ((text : List ℕ) × P text × WritesFront at name text before after)
 
--- The algebra file, of which something holds, is created only once the clause file is whole.
-abbrev pub StopsWriting : Files → (List ℕ → Type 0) → View → View → Type 0
-StopsWriting files P before after =
-    StopsAt slot.Clauses files.clauses (λ text. text ≡ no_cut) before after ⊎
-    ((between : View) × WritesFile slot.Clauses files.clauses no_cut before between × StopsAt slot.Algebra files.algebra P between after)
+-- Writing of a pair stopped. Something holds of the clause file's text, and something of both texts; the algebra file is created only
+-- once the clause file is whole.
+abbrev pub StopsWriting : Files → (List ℕ → Type 0) → (List ℕ → List ℕ → Type 0) → View → View → Type 0
+StopsWriting files P Q before after =
+    StopsAt slot.Clauses files.clauses P before after ⊎
+    ((clauses : List ℕ) × (between : View) × P clauses × WritesFile slot.Clauses files.clauses clauses before between × StopsAt slot.Algebra files.algebra (Q clauses) between after)

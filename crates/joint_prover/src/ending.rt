@@ -1,10 +1,27 @@
-/// What a reduction comes to.
+// What plans come to.
+use crate::verdict::Tried;
+
+/// What is left behind the last step of a plan that keeps to the budget.
 #[derive(Clone, Copy, Debug)]
 pub(crate) enum Ending {
     /// The remainder is 0, and the lines are closed.
     Closed,
     /// The least operands at which the remainder isn't 0.
     Differs { a: u64, b: u64 },
+}
+
+/// What the slice plan comes to.
+#[derive(Debug, Drop)]
+pub(crate) enum Sliced {
+    Ended(Ending),
+    /// A frontier above the budget.
+    Passed(Tried),
+}
+
+/// What the plain plan comes to.
+#[derive(Clone, Copy, Debug)]
+pub(crate) enum Plain {
+    Ended(Ending),
     /// The first frontier above the budget, and how many monomials it has.
     Passed { step: u64, size: u64 },
 }

@@ -1,15 +1,17 @@
 // The reductions of the plans, and what a remainder says.
-ghost use Rattle.std.specs.Prelude.{◌≡◌, ◌<◌, ◌^◌, ℕ, IfOk, IfSome, None, length};
+ghost use Rattle.std.specs.Prelude.{◌≡◌, IfOk, None};
 ghost use Rattle.graph_core.specs.Algebra.{Closes};
 ghost use Rattle.graph_core.specs.Graph.Assignments.{Assignment};
+ghost use Rattle.graph_core.specs.Graph.Extended.{without_cut};
 ghost use Rattle.graph_core.specs.Graph.Operands.{inputs_in};
 ghost use Rattle.frontier_core.specs.LastFrontier.{IsOverInputs};
 ghost use Rattle.frontier_core.specs.LeastDifference.{AreInputs};
 ghost use Rattle.poly_terms.specs.Tables.{IsOf, monomials_in, value_in};
 ghost use Rattle.pac_writer.specs.Writing.{AreLawfulSoFar, Made, ledger_of};
-ghost use Rattle.joint_prover.specs.Endings.{IsEnding, IsPlainlyReduced, IsRemainder, IsStart, IsWitness};
+ghost use Rattle.joint_prover.specs.Endings.{IsEnded, IsPlain, IsPlainlyReduced, IsRemainder, IsSliced, IsStart, IsWitness};
 
-use crate::ending::Ending;
+use crate::ending::{Ending, Plain, Sliced};
+use crate::tried::frontier_after;
 use column_reducer::{Reduced, plain_plan, reduce, slice_plan};
 use graph_core::Memory;
 use pac_writer::Lines;
@@ -17,38 +19,47 @@ use poly_terms::Poly;
 use std::alloc::Global;
 use witness_finder::least;
 
-/// The end of the slice plan's reduction, or None where a frontier of it is above the budget.
+/// What the slice plan comes to; where the remainder is 0 the lines are closed.
 pub(crate) fn reduced_by_slices(
     alloc: Global,
     budget: u64,
+    rewritten: bool,
     lines: &mut Lines<'_>,
-) -> Result<Option<Ending>, Memory>
+) -> Result<Sliced, Memory>
     requires { IsStart lines.old }
-    ensures { IfOk result (λ r. IfSome r
-        (IsEnding lines.old.extended.graph lines.old.sides.order budget lines.new)) }
+    ensures { IfOk result (IsSliced lines.old budget rewritten lines.new) }
 {
     let extended = lines.extended();
     let plan = slice_plan(alloc, extended)?;
     match reduce(alloc, &plan, budget, lines)? {
-        Reduced::Rest { poly, id } => Ok(Some(concluded(lines, &poly, id))),
-        Reduced::Passed { .. } => Ok(None),
+        Reduced::Rest { poly, id } => Ok(Sliced::Ended(concluded(lines, &poly, id))),
+        Reduced::Passed { step, size } => {
+            let tried = frontier_after(alloc, &plan, step, size, rewritten)?;
+            Ok(Sliced::Passed(tried))
+        }
     }
 }
 
-/// The end of the plain order's reduction; where the remainder is 0 the lines are closed.
-pub(crate) fn reduced(alloc: Global, budget: u64, lines: &mut Lines<'_>) -> Result<Ending, Memory>
-    requires { IsStart lines.old }
-    ensures { IfOk result (IsEnding lines.old.extended.graph lines.old.sides.order budget lines.new) }
+/// What the plain plan comes to, over a graph alone; where the remainder is 0 the lines are closed.
+pub(crate) fn reduced_plainly(
+    alloc: Global,
+    budget: u64,
+    lines: &mut Lines<'_>,
+) -> Result<Plain, Memory>
+    requires start { IsStart lines.old }
+    requires alone { lines.old.extended ≡ without_cut lines.old.extended.graph }
+    ensures { IfOk result (IsPlain lines.old budget lines.new) }
 {
-    match reduced_plainly(alloc, budget, lines)? {
-        Reduced::Rest { poly, id } => Ok(concluded(lines, &poly, id)),
-        Reduced::Passed { step, size } => Ok(Ending::Passed { step, size }),
+    match reduced_in_order(alloc, budget, lines)? {
+        Reduced::Rest { poly, id } => Ok(Plain::Ended(concluded(lines, &poly, id))),
+        Reduced::Passed { step, size } => Ok(Plain::Passed { step, size }),
     }
 }
 
 // Adds all columns and eliminates the gates in the plain order.
-fn reduced_plainly(alloc: Global, budget: u64, lines: &mut Lines<'_>) -> Result<Reduced, Memory>
-    requires { IsStart lines.old }
+fn reduced_in_order(alloc: Global, budget: u64, lines: &mut Lines<'_>) -> Result<Reduced, Memory>
+    requires start { IsStart lines.old }
+    requires alone { lines.old.extended ≡ without_cut lines.old.extended.graph }
     ensures { IfOk result (IsPlainlyReduced budget lines.old lines.new) }
 {
     let extended = lines.extended();
@@ -59,8 +70,8 @@ fn reduced_plainly(alloc: Global, budget: u64, lines: &mut Lines<'_>) -> Result<
 // The end where a plan has left a remainder.
 fn concluded(lines: &mut Lines<'_>, poly: &Poly, id: u64) -> Ending
     requires { (start : Made) × IsStart start × IsRemainder start lines.old poly.now id }
-    ensures { (start : Made) (budget : ℕ) → IsStart start → IsRemainder start lines.old poly.now id →
-        IsEnding start.extended.graph start.sides.order budget lines.new result }
+    ensures { (start : Made) → IsStart start → IsRemainder start lines.old poly.now id →
+        IsEnded start.extended start.sides.order lines.new result }
 {
     are_lawful(lines);
     ended(lines, poly, id)

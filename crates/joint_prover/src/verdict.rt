@@ -13,7 +13,7 @@ pub enum Verdict {
         value: u128,
         product: u128,
     },
-    /// A remainder passed the budget: what else was tried, and the plain order's first frontier above it.
+    /// All plans passed the budget: what was tried before the plain one, and the plain order's first frontier above it.
     Undecided {
         tried: Vec<Tried>,
         plain_step: u64,
@@ -33,16 +33,11 @@ pub enum Verdict {
 /// A plan that passed the budget: a frontier of it above the budget, and how many monomials that has.
 #[derive(Debug, Drop)]
 pub struct Tried {
-    /// whether it is over the graph with an adder in place of its last one
+    /// whether it is over the graph with an adder in place of its final stage
     pub rewritten: bool,
+    /// the columns that were added, from 0, the latest first
     pub columns: Vec<u32>,
+    /// the variables of the gates that were eliminated, the latest first
     pub gates: Vec<u32>,
     pub size: u64,
-}
-
-/// What became of putting an adder of known shape in place of the graph's last one. It isn't tried yet.
-#[derive(Clone, Copy, Debug, PartialEq, Eq)]
-pub enum Rewriting {
-    /// The graph has no last adder that was found.
-    None,
 }

@@ -5,6 +5,10 @@ use Rattle.command_line.specs.declared.command.Command.{Command}
 use Rattle.command_line.specs.declared.command.Command.TheVariants.{Check, Eval, Make, Verify}
 use Rattle.graph_maker.specs.Made.{made}
 use Rattle.joint_checker.specs.Files.{HasGraph}
+use Rattle.joint_prover.specs.declared.rewriting.Rewriting.{Rewriting}
+use Rattle.joint_prover.specs.declared.verdict.Tried.{Tried}
+use Rattle.joint_prover.specs.Notes.{IsNote, cut_of}
+use Rattle.joint_prover.specs.Tries.{AreTried}
 use Rattle.joint_prover.specs.Verdicts.{HoldsPair, IsFirstAbove, IsWrong}
 use Rattle.mv_desk.specs.View.{View, Rose, bytes_under}
 use Rattle.verdict_program.specs.declared.answer.Answer.{Answer}
@@ -19,14 +23,14 @@ use Rattle.verdict_program.proofs.Told.{none_told}
 -- what status 0 means
 abbrev pub Succeeds : Command → View → View → Type 0
 Succeeds (Check files order) a b = IsMultiplier a files.graph order
-Succeeds (Verify files order budget conflicts) a b = IsTold a → TellsNames a → HoldsPair order (files_of files) b standard.graph
+Succeeds (Verify files order budget conflicts) a b = IsTold a → TellsNames a → (noted : Option Rewriting) × HoldsPair order budget conflicts (files_of files) b standard.graph noted
 Succeeds (Eval graph x y order) a b = ⊤
 Succeeds (Make kind bits adder out) a b = IsTold a → TellsNames a → b.held out ≡ Some (Some (text_for out (made kind bits adder)))
 
 -- where statuses 1, 2 and 5 come
 abbrev pub IsWrongFor : Command → View → Type 0
 IsWrongFor (Verify files order budget conflicts) a =
-    HasGraph standard.graph (bytes_under a files.graph) (λ g. (x : ℕ) × (y : ℕ) × (value : ℕ) × (product : ℕ) × IsWrong g order x y value product)
+    HasGraph standard.graph (bytes_under a files.graph) (λ g. (x : ℕ) × (y : ℕ) × (value : ℕ) × (product : ℕ) × IsWrong g order x y value product × ((n : Rewriting) × IsNote g order conflicts n))
 IsWrongFor command a = ⊥
 
 abbrev pub IsTooGreatFor : Command → View → Type 0
@@ -35,7 +39,7 @@ IsTooGreatFor command a = ⊥
 
 abbrev pub IsUndecidedFor : Command → View → Type 0
 IsUndecidedFor (Verify files order budget conflicts) a =
-    HasGraph standard.graph (bytes_under a files.graph) (λ g. (step : ℕ) × (size : ℕ) × IsFirstAbove g order budget step size)
+    HasGraph standard.graph (bytes_under a files.graph) (λ g. (step : ℕ) × (size : ℕ) × IsFirstAbove g order budget step size × ((n : Rewriting) × IsNote g order conflicts n × (tried : List Tried) × AreTried g order budget (cut_of n) tried))
 IsUndecidedFor command a = ⊥
 
 -- One command's answer: what each status says, and that the answer which is due is given.

@@ -1,9 +1,9 @@
 use Rattle.std.proofs.Common.{sym, subst, ◌∙◌}
-use Rattle.column_reducer.specs.Reducing.{IsReduced}
+use Rattle.column_reducer.specs.Reducing.{IsPassed, IsReduced, planned}
 use Rattle.frontier_core.specs.Plan.{IsPlan}
 use Rattle.graph_core.specs.Graph.Extended.{Extended}
 use Rattle.graph_core.specs.Graph.Operands.{ReadInputs}
-use Rattle.joint_prover.proofs.Remainders.{reads_inputs, remainder_of}
+use Rattle.joint_prover.proofs.Remainders.{above_of, reads_inputs, remainder_of}
 use Rattle.joint_prover.proofs.reduction.reduced_by_slices.Goals as goal
 
 pub reduce-requires-clause-inputs : goal.reduce-requires-clause-inputs
@@ -18,5 +18,20 @@ returns-in-Rest c =
     let plan = c.in_ok-plan.ensures in
     let same = c.extended-extended.ensures in
     let reduced = subst (IsReduced p l.sides c.args.budget after) c.in-Rest.is c.in_ok-poly.ensures.reduced in
-    c.concluded.ensures l c.args.budget c.requires
+    c.concluded.ensures l c.requires
     (remainder_of l after p c.in-Rest.poly c.in-Rest.id (plan.extended ∙ same) (subst (λ x. IsPlan x p.steps) same plan.slice.plan) c.reduce.ensures.goes_on reduced.0)
+
+pub returns : goal.returns
+returns c =
+    let l = c.args.lines.now in
+    let after = c.reduce.new.lines in
+    let p = c.in_ok-plan.plan in
+    let plan = c.in_ok-plan.ensures in
+    let same = c.extended-extended.ensures in
+    let step = c.in-Passed.step in
+    let size = c.in-Passed.size in
+    let passed = subst (IsReduced p l.sides c.args.budget after) c.in-Passed.is c.in_ok-poly.ensures.reduced in
+    let over = subst (λ x. IsPassed (planned x p.steps p.uncounted) l.sides c.args.budget step size) (plan.extended ∙ same) passed in
+    let counted = subst (λ n. IsPassed (planned l.extended p.steps n) l.sides c.args.budget step size) plan.uncounted over in
+    let at = c.in_ok-tried-in-Passed.ensures in
+    (at.rewritten_is, above_of l c.requires p.steps (subst (λ x. IsPlan x p.steps) same plan.slice.plan) c.args.budget step size counted c.args.rewritten c.in_ok-tried-in-Passed.tried at)

@@ -1,37 +1,23 @@
-use Rattle.std.proofs.Common.{◌≡◌, sym, ap, subst, ◌∙◌}
-use Rattle.std.proofs.lemmas.Result.{IfOk-weaker}
-use Rattle.column_reducer.specs.Reducing.{IsReduced}
-use Rattle.frontier_core.specs.PlainOrder.{IsPlainOrder}
-use Rattle.graph_core.specs.Graph.Extended.{Extended, without_cut}
-use Rattle.graph_core.specs.Graph.Operands.{ReadInputs}
+use Rattle.std.proofs.Common.{subst}
 use Rattle.joint_prover.specs.Endings.{IsPlainlyReduced}
-use Rattle.joint_prover.proofs.Remainders.{nothing_replaced, plan_is_plain, reads_inputs}
+use Rattle.joint_prover.proofs.Remainders.{first_above, plain_remainder}
 use Rattle.joint_prover.proofs.reduction.reduced_plainly.Goals as goal
 
-pub plain_plan-requires : goal.plain_plan-requires
-plain_plan-requires c =
-    record { alone = subst (λ (x : Extended). x ≡ without_cut x.graph) (sym c.extended-extended.ensures) c.requires.extended }
-
-pub reduce-requires-clause-plain : goal.reduce-requires-clause-plain
-reduce-requires-clause-plain c =
-    ap (λ (x : Extended). x.replaced) (c.in_ok-plan.ensures.extended ∙ c.extended-extended.ensures) ∙ nothing_replaced c.args.lines.now c.requires
-
-pub reduce-requires-clause-inputs : goal.reduce-requires-clause-inputs
-reduce-requires-clause-inputs c =
-    subst (λ (x : Extended). ReadInputs x.graph c.args.lines.now.sides) (sym (c.in_ok-plan.ensures.extended ∙ c.extended-extended.ensures)) (reads_inputs c.args.lines.now c.requires)
-
-pub returns : goal.returns
-returns c =
+pub concluded-requires : goal.concluded-requires
+concluded-requires c =
     let l = c.args.lines.now in
-    let after = c.reduce.new.lines in
-    let p = c.in_ok-plan.plan in
-    let plan = c.in_ok-plan.ensures in
-    let same = c.extended-extended.ensures in
-    IfOk-weaker c.reduce.result (IsReduced p l.sides c.args.budget after) (IsPlainlyReduced c.args.budget l after)
-    (λ answer h. record {
-      order = plan.plain.0;
-      plain = subst (λ (x : Extended). IsPlainOrder x.gates plan.plain.0) same plan.plain.1;
-      goes_on = c.reduce.ensures.goes_on;
-      reduced = subst (λ q. IsReduced q l.sides c.args.budget after answer)
-          (plan_is_plain p l.extended c.extended-extended.result.now plan.plain.0 (plan.extended ∙ same) same plan.plain.2 plan.uncounted) h;
-    }) c.reduce.ensures.reduced
+    let after = c.reduced_in_order.new.lines in
+    (l, c.requires.start, plain_remainder l c.requires.start c.args.budget after c.in-Rest.poly c.in-Rest.id (subst (IsPlainlyReduced c.args.budget l after) c.in-Rest.is c.in_ok-poly.ensures))
+
+pub returns-in-Rest : goal.returns-in-Rest
+returns-in-Rest c =
+    let l = c.args.lines.now in
+    let after = c.reduced_in_order.new.lines in
+    c.concluded.ensures l c.requires.start
+    (plain_remainder l c.requires.start c.args.budget after c.in-Rest.poly c.in-Rest.id (subst (IsPlainlyReduced c.args.budget l after) c.in-Rest.is c.in_ok-poly.ensures))
+
+pub returns-in-Passed : goal.returns-in-Passed
+returns-in-Passed c =
+    let l = c.args.lines.now in
+    let after = c.reduced_in_order.new.lines in
+    first_above l c.requires.start c.requires.alone c.args.budget c.in-Passed.step c.in-Passed.size after (subst (IsPlainlyReduced c.args.budget l after) c.in-Passed.is c.in_ok-poly.ensures)

@@ -9,5 +9,6 @@ returns-in-Verify-clause-right g c =
     let a = g.D.Desk.seen c.args.desk.now in
     let b = g.D.Desk.seen c.verify-verdict.new.desk in
     let verdict = c.verify-verdict.result.0 in
-    subst (λ command. IsRightOf command a b (answer.Verified verdict)) (sym c.in-Verify.is)
-    (verdict, refl, (subst (λ f. IsVerdict standard.graph c.in-Verify.order c.in-Verify.budget (files_of f) a b verdict) c.names-names.ensures c.verify-verdict.ensures.verdict, c.verify-verdict.ensures.opened))
+    let noted = c.verify-verdict.result.1 in
+    let said = subst (λ f. IsVerdict standard.graph c.in-Verify.order c.in-Verify.budget c.in-Verify.conflicts (files_of f) a b verdict noted) c.names-names.ensures c.verify-verdict.ensures.verdict in
+    subst (λ command. IsRightOf command a b (answer.Verified verdict noted)) (sym c.in-Verify.is) (verdict, noted, refl, (said, c.verify-verdict.ensures.opened))

@@ -1,0 +1,180 @@
+-- What is told of a graph, from what was written and tried.
+use Rattle.std.proofs.Common.{◌≡◌, true, List, [], ◌∷◌, ◌++◌, ℕ, refl, sym, subst, inl, inr}
+use Rattle.std.specs.Prelude.{IfOk, Result}
+use Rattle.std.proofs.lemmas.Result.{IfOk-weaker}
+use Rattle.std.specs.declared.option.Option.{Option}
+use Rattle.std.specs.declared.option.Option.TheVariants.{None, Some}
+use Rattle.std.proofs.lemmas.Option.{none-some}
+use Rattle.cdcl_core.specs.Logs.{LogView}
+use Rattle.clause_core.specs.ClauseLines.{ClauseLine}
+use Rattle.drup_text.specs.Headers.{extended_by}
+use Rattle.drup_text.specs.WrittenTexts.{file_text}
+use Rattle.graph_core.specs.Aiger.Soundness.{IsMultiplierSized}
+use Rattle.graph_core.specs.Algebra.Text.{IsLawfulAlgebraFile}
+use Rattle.graph_core.specs.Graph.{Aig, IsWellFormed}
+use Rattle.graph_core.specs.Graph.Extended.{Extended, without_cut}
+use Rattle.graph_core.specs.Graph.Operands.{Multiplies, Sides, sides_of}
+use Rattle.graph_core.specs.declared.order.Order.{Order}
+use Rattle.mv_desk.specs.View.{View}
+use Rattle.mv_desk.specs.declared.slot.Slot.{Slot}
+use Rattle.mv_desk.specs.declared.slot.Slot.TheVariants.{Algebra, Clauses}
+use Rattle.pac_writer.specs.Certificates.{certificate_text}
+use Rattle.pac_writer.specs.Writing.{Made}
+use Rattle.ripple_graft.specs.declared.cut.Cut.{Cut}
+use Rattle.stage_rewriter.specs.Rewriting.{IsRewriting}
+use Rattle.stage_rewriter.specs.declared.rewriting.Rewritten.TheVariants as kind
+use Rattle.joint_checker.specs.Files.{Files}
+use Rattle.joint_prover.specs.declared.ending.Ending.{Ending}
+use Rattle.joint_prover.specs.declared.verdict.Tried.{Tried}
+use Rattle.joint_prover.specs.declared.verdict.Verdict.{Verdict}
+use Rattle.joint_prover.specs.declared.verdict.Verdict.TheVariants.{Proved, Wrong, Undecided, Graph, ReadFault, WriteFault, TooLong, Memory}
+use Rattle.joint_prover.specs.Endings.{IsEnded}
+use Rattle.joint_prover.specs.Pairs.{AreClausesFor, AreClausesOver, IsPairFor, IsPairOver}
+use Rattle.joint_prover.specs.Parts.{AreTriedBefore, IsOfGraph, IsToldOver, IsWritten, IsWrongAt}
+use Rattle.joint_prover.specs.Tries.{AreTried, EndsOver, IsAbove, IsTried}
+use Rattle.joint_prover.specs.Verdicts.{IsFirstAbove, IsPair}
+use Rattle.joint_prover.specs.Written.{StopsAt, StopsWriting}
+use Rattle.joint_prover.proofs.Clauses.{no_clauses, used_clauses}
+
+-- a pair over a graph is lawful
+pub pair_is_lawful : (g : Aig) (order : Order) (conflicts : ℕ) (cut : Option Cut) (clauses algebra : List ℕ) → IsPairOver g order conflicts cut clauses algebra → IsPair g order clauses algebra
+pair_is_lawful g order conflicts cut clauses algebra h lengths clauses_within algebra_within = record {
+  extended = extended_by g cut;
+  gives = h.clause_file.gives lengths clauses_within;
+  lawful = (h.algebra_file, algebra_within);
+}
+
+-- ---- what stops, of which more is known
+
+module _ (files : Files) (a b : View) where
+  stops_at : (at : Slot) (name : List ℕ) (P Q : List ℕ → Type 0) (x y : View) → ((text : List ℕ) → P text → Q text) → StopsAt at name P x y → StopsAt at name Q x y
+  stops_at at name P Q x y more (inl same) = inl same
+  stops_at at name P Q x y more (inr w) = inr (w.0, more w.0 w.1, w.2)
+
+  stops : (P Q : List ℕ → Type 0) (R S : List ℕ → List ℕ → Type 0) → ((text : List ℕ) → P text → Q text) → ((clauses text : List ℕ) → P clauses → R clauses text → S clauses text) →
+      StopsWriting files P R a b → StopsWriting files Q S a b
+  stops P Q R S more both (inl h) = inl (stops_at Clauses files.clauses P Q a b more h)
+  stops P Q R S more both (inr h) =
+      inr (h.0, h.1, more h.0 h.2, h.3, stops_at Algebra files.algebra (R h.0) (S h.0) h.1 b (λ text k. both h.0 text h.2 k) h.4)
+
+  -- ---- the end of a plan
+
+  module _ (e : Extended) (order : Order) (conflicts : ℕ) (cut : Option Cut) (clauses : List ℕ) (itself : e ≡ extended_by e.graph cut) (given : AreClausesOver e.graph conflicts cut clauses) where
+    lawful_over : (l : Made) → l.extended ≡ e → l.sides ≡ sides_of order e.graph → (text : List ℕ) → IsLawfulAlgebraFile l.extended l.sides text →
+        IsLawfulAlgebraFile (extended_by e.graph cut) (sides_of order e.graph) text
+    lawful_over l extended sides text h =
+        subst (λ x. IsLawfulAlgebraFile x (sides_of order e.graph) text) itself (subst (λ x. IsLawfulAlgebraFile e x text) sides (subst (λ x. IsLawfulAlgebraFile x l.sides text) extended h))
+
+    pair_of : (l : Made) → l.extended ≡ e → l.sides ≡ sides_of order e.graph → (text : List ℕ) → IsLawfulAlgebraFile l.extended l.sides text → IsPairOver e.graph order conflicts cut clauses text
+    pair_of l extended sides text h = record { clause_file = given; algebra_file = lawful_over l extended sides text h }
+
+    pub written_told : (l : Made) (v : Verdict) → l.extended ≡ e → l.sides ≡ sides_of order e.graph → Multiplies e.graph order → IsWritten l clauses files a b v →
+        IsToldOver e.graph order conflicts cut files a b v
+    written_told l Proved extended sides multiplies h = (multiplies, (clauses, certificate_text l, pair_of l extended sides (certificate_text l) h.0, h.1))
+    written_told l WriteFault extended sides multiplies h = (
+      h.0,
+      multiplies,
+      stops (λ text. text ≡ clauses) (AreClausesOver e.graph conflicts cut) (λ beside. IsLawfulAlgebraFile l.extended l.sides) (IsPairOver e.graph order conflicts cut)
+          (λ text same. subst (AreClausesOver e.graph conflicts cut) (sym same) given)
+          (λ beside text same k. subst (λ c. IsPairOver e.graph order conflicts cut c text) (sym same) (pair_of l extended sides text k)) h.1,
+    )
+    written_told l (Wrong x y value product) extended sides multiplies h = absurd h
+    written_told l (Undecided tried t n) extended sides multiplies h = absurd h
+    written_told l (Graph why) extended sides multiplies h = absurd h
+    written_told l ReadFault extended sides multiplies h = absurd h
+    written_told l TooLong extended sides multiplies h = absurd h
+    written_told l Memory extended sides multiplies h = absurd h
+
+  -- ---- and so of a graph
+
+  pub told_of : (g : Aig) (order : Order) (budget conflicts : ℕ) (used cut : Option Cut) (v : Verdict) → EndsOver g order budget used cut → IsToldOver g order conflicts cut files a b v →
+      IsOfGraph g order budget conflicts used files a b v
+  told_of g order budget conflicts used cut Proved over h = let w = h.1 in (h.0, (w.0, w.1, (cut, over, w.2), w.3))
+  told_of g order budget conflicts used cut (Wrong x y value product) over h = h
+  told_of g order budget conflicts used cut WriteFault over h = (
+    h.0,
+    h.1,
+    stops (AreClausesOver g conflicts cut) (AreClausesFor g order budget conflicts used) (IsPairOver g order conflicts cut) (IsPairFor g order budget conflicts used)
+        (λ text k. (cut, over, k)) (λ clauses text c k. (cut, over, k)) h.2,
+  )
+  told_of g order budget conflicts used cut (Undecided tried t n) over h = absurd h
+  told_of g order budget conflicts used cut (Graph why) over h = absurd h
+  told_of g order budget conflicts used cut ReadFault over h = absurd h
+  told_of g order budget conflicts used cut TooLong over h = absurd h
+  told_of g order budget conflicts used cut Memory over h = absurd h
+
+pub wrong_told : (g : Aig) (order : Order) (conflicts : ℕ) (cut : Option Cut) (files : Files) (a : View) (x y : ℕ) (v : Verdict) → IsWrongAt g order x y v → IsToldOver g order conflicts cut files a a v
+wrong_told g order conflicts cut files a x y (Wrong p q value product) h = (h, refl)
+wrong_told g order conflicts cut files a x y Memory h = absurd h
+wrong_told g order conflicts cut files a x y Proved h = absurd h
+wrong_told g order conflicts cut files a x y (Undecided tried t n) h = absurd h
+wrong_told g order conflicts cut files a x y (Graph why) h = absurd h
+wrong_told g order conflicts cut files a x y ReadFault h = absurd h
+wrong_told g order conflicts cut files a x y WriteFault h = absurd h
+wrong_told g order conflicts cut files a x y TooLong h = absurd h
+
+-- ---- what was tried before
+
+module _ (g : Aig) (order : Order) (budget : ℕ) where
+  -- with a cut in use a plan over the graph alone comes second
+  pub ends_behind : (used : Option Cut) (tried : List Tried) → AreTriedBefore g order budget used tried → EndsOver g order budget used None
+  ends_behind None tried h = λ cut same. absurd (none-some cut same)
+  ends_behind (Some used) tried h = λ cut same. (h.0, subst (λ c. IsTried g order budget c h.0) same h.2)
+
+  pub ends_last : (used : Option Cut) (tried : List Tried) → AreTried g order budget used tried → EndsOver g order budget used None
+  ends_last None tried h = λ cut same. absurd (none-some cut same)
+  ends_last (Some used) tried h = λ cut same. (h.0, subst (λ c. IsTried g order budget c h.0) same h.3)
+
+  pub one_more : (used : Option Cut) (tried : List Tried) (last : Tried) → AreTriedBefore g order budget used tried → IsTried g order budget None last → AreTried g order budget used (tried ++ last ∷ [])
+  one_more None tried last h k = (last, subst (λ ts. ts ++ last ∷ [] ≡ last ∷ []) (sym h) refl, k)
+  one_more (Some used) tried last h k = (h.0, last, subst (λ ts. ts ++ last ∷ [] ≡ h.0 ∷ last ∷ []) (sym h.1) refl, h.2, k)
+
+-- ---- whatever comes of a plan's end
+
+-- what the verdict at the end of a plan tells
+abbrev pub Tells : Option Cut → List ClauseLine → Made → Ending → Files → View → View → Verdict → Type 0
+Tells cut log l ending files a b v = (e : Extended) (order : Order) (conflicts : ℕ) → IsEnded e order l ending → e ≡ extended_by e.graph cut →
+    AreClausesOver e.graph conflicts cut (file_text cut log) → IsToldOver e.graph order conflicts cut files a b v
+
+module _ {E : Type 0} (files : Files) (a b : View) (l : Made) (ending : Ending) (result : Result Verdict E) (e : Extended) (order : Order) (budget : ℕ) (ended : IsEnded e order l ending) where
+  pub tells_last : (tried : List Tried) → e ≡ without_cut e.graph → IfOk result (Tells None [] l ending files a b) →
+      IfOk result (λ v. (conflicts : ℕ) (used : Option Cut) → AreTried e.graph order budget used tried → IsOfGraph e.graph order budget conflicts used files a b v)
+  tells_last tried alone h = IfOk-weaker result (Tells None [] l ending files a b)
+      (λ v. (conflicts : ℕ) (used : Option Cut) → AreTried e.graph order budget used tried → IsOfGraph e.graph order budget conflicts used files a b v)
+      (λ v told conflicts used are. told_of files a b e.graph order budget conflicts used None v (ends_last e.graph order budget used tried are)
+      (told e order conflicts ended alone (no_clauses e.graph conflicts))) h
+
+  pub tells_behind : (tried : List Tried) → e ≡ without_cut e.graph → IfOk result (Tells None [] l ending files a b) →
+      IfOk result (λ v. (conflicts : ℕ) (used : Option Cut) → AreTriedBefore e.graph order budget used tried → IsOfGraph e.graph order budget conflicts used files a b v)
+  tells_behind tried alone h = IfOk-weaker result (Tells None [] l ending files a b)
+      (λ v. (conflicts : ℕ) (used : Option Cut) → AreTriedBefore e.graph order budget used tried → IsOfGraph e.graph order budget conflicts used files a b v)
+      (λ v told conflicts used are. told_of files a b e.graph order budget conflicts used None v (ends_behind e.graph order budget used tried are)
+      (told e order conflicts ended alone (no_clauses e.graph conflicts))) h
+
+  -- over the graph with the adder of a cut
+  pub tells_first : (cut : Cut) (log : LogView) → IsMultiplierSized e.graph → IsWellFormed e.graph → IfOk result (Tells (Some cut) log.lines l ending files a b) →
+      IfOk result (λ v. (conflicts : ℕ) → IsRewriting e.graph order conflicts (kind.Used cut e log) → IsOfGraph e.graph order budget conflicts (Some cut) files a b v)
+  tells_first cut log sized well h = IfOk-weaker result (Tells (Some cut) log.lines l ending files a b)
+      (λ v. (conflicts : ℕ) → IsRewriting e.graph order conflicts (kind.Used cut e log) → IsOfGraph e.graph order budget conflicts (Some cut) files a b v)
+      (λ v told conflicts used. told_of files a b e.graph order budget conflicts (Some cut) (Some cut) v refl
+      (told e order conflicts ended used.extended_is (used_clauses e.graph sized well conflicts cut e log.lines used))) h
+
+-- one plan more was tried
+pub tried_more : {E : Type 0} (files : Files) (a b : View) (result : Result Verdict E) (g : Aig) (order : Order) (budget : ℕ) (tried all : List Tried) (last : Tried) → all ≡ tried ++ last ∷ [] →
+    IsTried g order budget None last →
+    IfOk result (λ v. (conflicts : ℕ) (used : Option Cut) → AreTried g order budget used all → IsOfGraph g order budget conflicts used files a b v) →
+    IfOk result (λ v. (conflicts : ℕ) (used : Option Cut) → AreTriedBefore g order budget used tried → IsOfGraph g order budget conflicts used files a b v)
+tried_more files a b result g order budget tried all last is above h =
+    IfOk-weaker result (λ v. (conflicts : ℕ) (used : Option Cut) → AreTried g order budget used all → IsOfGraph g order budget conflicts used files a b v)
+    (λ v. (conflicts : ℕ) (used : Option Cut) → AreTriedBefore g order budget used tried → IsOfGraph g order budget conflicts used files a b v)
+    (λ v told conflicts used are. told conflicts used (subst (AreTried g order budget used) (sym is) (one_more g order budget used tried last are above))) h
+
+-- the plan over the graph with the cut was tried first
+pub tried_first : {E : Type 0} (files : Files) (a b : View) (result : Result Verdict E) (g : Aig) (order : Order) (budget : ℕ) (cut : Cut) (e : Extended) (log : LogView) (tried : List Tried) (first : Tried) →
+    tried ≡ first ∷ [] → first.rewritten ≡ true → IsAbove e (sides_of order g) budget first →
+    IfOk result (λ v. (conflicts : ℕ) (used : Option Cut) → AreTriedBefore g order budget used tried → IsOfGraph g order budget conflicts used files a b v) →
+    IfOk result (λ v. (conflicts : ℕ) → IsRewriting g order conflicts (kind.Used cut e log) → IsOfGraph g order budget conflicts (Some cut) files a b v)
+tried_first files a b result g order budget cut e log tried first is rewritten above h =
+    IfOk-weaker result (λ v. (conflicts : ℕ) (used : Option Cut) → AreTriedBefore g order budget used tried → IsOfGraph g order budget conflicts used files a b v)
+    (λ v. (conflicts : ℕ) → IsRewriting g order conflicts (kind.Used cut e log) → IsOfGraph g order budget conflicts (Some cut) files a b v)
+    (λ v told conflicts used. told conflicts (Some cut) (first, is, record { rewritten = rewritten; above = subst (λ x. IsAbove x (sides_of order g) budget first) used.extended_is above })) h

@@ -1,0 +1,16 @@
+use Rattle.std.proofs.Common.{subst}
+use Rattle.joint_checker.specs.Files.{files_of}
+use Rattle.joint_prover.specs.Endings.{IsEnded, IsPlain}
+use Rattle.joint_prover.proofs.Telling.{tells_last}
+use Rattle.joint_prover.proofs.plans.in_order.Goals as goal
+
+pub returns-in-Ended-clause-verdict : goal.returns-in-Ended-clause-verdict
+returns-in-Ended-clause-verdict g c =
+    let start = c.in_ok-lines.lines in
+    let fresh = c.in_ok-lines.ensures.fresh in
+    let l = c.reduced_plainly.new.lines in
+    let end = c.in-Ended.ending in
+    let ended = subst (IsPlain start c.args.budget l) c.in-Ended.is c.in_ok-ending.ensures in
+    tells_last (files_of c.args.names.now) (g.D.Desk.seen c.args.desk.now) (g.D.Desk.seen c.told.new.desk) l end c.told.result c.args.extended.now c.args.operands.now.order c.args.budget
+    (subst (λ s. IsEnded c.args.extended.now s.order l end) fresh.sides (subst (λ x. IsEnded x start.sides.order l end) fresh.extended ended))
+    c.args.tried.items c.requires.alone c.told.ensures.verdict

@@ -1,0 +1,37 @@
+-- The plans that were tried before the plain one.
+use Rattle.std.specs.Prelude.{◌≡◌, ℕ, ◌<◌, List, [], ◌∷◌, is_some}
+use Rattle.std.specs.declared.option.Option.{Option}
+use Rattle.std.specs.declared.option.Option.TheVariants.{None, Some}
+use Rattle.drup_text.specs.Headers.{extended_by}
+use Rattle.frontier_core.specs.Frontier.{IsFrontier, frontier_value}
+use Rattle.graph_core.specs.Algebra.{modulus}
+use Rattle.graph_core.specs.Algebra.NormalForm.{HasSize}
+use Rattle.graph_core.specs.Graph.{Aig}
+use Rattle.graph_core.specs.Graph.Extended.{Extended}
+use Rattle.graph_core.specs.Graph.Operands.{Sides, sides_of}
+use Rattle.graph_core.specs.declared.order.Order.{Order}
+use Rattle.ripple_graft.specs.declared.cut.Cut.{Cut}
+use Rattle.joint_prover.specs.declared.verdict.Tried.{Tried}
+
+-- A frontier with more monomials than the budget: its columns, its gates, and how many monomials it has.
+pub record IsAbove (e : Extended) (s : Sides) (budget : ℕ) (tried : Tried) : Type 0 where
+  pub frontier : IsFrontier e tried.columns.items tried.gates.items
+  pub size : HasSize (modulus e) (frontier_value e s tried.columns.items tried.gates.items) tried.size
+  pub above : budget < tried.size
+
+-- over the graph with this cut, or without one
+pub record IsTried (g : Aig) (order : Order) (budget : ℕ) (cut : Option Cut) (tried : Tried) : Type 0 where
+  pub rewritten : tried.rewritten ≡ is_some cut
+  pub above : IsAbove (extended_by g cut) (sides_of order g) budget tried
+
+-- What was tried in this order: where a cut is used, the plan over the graph with it; and the plan over the graph.
+abbrev pub AreTried : Aig → Order → ℕ → Option Cut → List Tried → Type 0
+AreTried g order budget None tried = (only : Tried) × (tried ≡ only ∷ []) × IsTried g order budget None only
+AreTried g order budget (Some cut) tried =
+    (first : Tried) × (second : Tried) × (tried ≡ first ∷ second ∷ []) × IsTried g order budget (Some cut) first × IsTried g order budget None second
+
+-- The plan that ended is over this graph: that with the cut in use; or the graph alone, where no cut is in use, or the plan over the
+-- graph with it has passed the budget.
+abbrev pub EndsOver : Aig → Order → ℕ → Option Cut → Option Cut → Type 0
+EndsOver g order budget used (Some cut) = used ≡ Some cut
+EndsOver g order budget used None = (cut : Cut) → used ≡ Some cut → (tried : Tried) × IsTried g order budget (Some cut) tried
