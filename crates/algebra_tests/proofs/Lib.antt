@@ -1,2 +1,1 @@
 mod OneBit
-mod TwoBits

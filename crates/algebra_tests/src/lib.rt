@@ -1,19 +1,16 @@
-//! Tests of the crates of polynomials and algebra certificates: what no contract says. Nothing else is here.
+//! Tests of the crates of polynomials and algebra certificates: what no contract and no test of the program says. Nothing else
+//! is here.
 //!
-//! Each module tests one crate, which its first line names, over the small graphs of `fixtures`.
+//! Each module tests one crate, which its first line names.
 #![tactic(auto)]
 
 #[cfg(test)]
 mod axioms;
 #[cfg(test)]
-mod certificates;
-#[cfg(test)]
-mod fixtures;
-#[cfg(test)]
 mod judging;
 #[cfg(test)]
-mod polynomials;
+mod lines;
 #[cfg(test)]
-mod reductions;
+mod polynomials;
 #[cfg(test)]
 mod texts;

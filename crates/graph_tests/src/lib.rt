@@ -1,29 +1,34 @@
-//! Tests of the crates of numbers, desks, graphs, clauses and words: what no contract says. Nothing else is here.
+//! Tests of the crates of desks, graphs, clauses and words: what no contract and no test of the program says. Nothing else is
+//! here.
 //!
-//! Each module tests one crate, which its first line names, over the small graphs and files of `fixtures`.
+//! Each module tests the crates that its first line names.
 #![tactic(auto)]
 
 #[cfg(test)]
 mod aiger;
 #[cfg(test)]
+mod clause_lines;
+#[cfg(test)]
+mod clause_lists;
+#[cfg(test)]
+mod clause_texts;
+#[cfg(test)]
 mod clauses;
 #[cfg(test)]
-mod cuts;
-#[cfg(test)]
 mod desks;
-#[cfg(test)]
-mod facts;
-#[cfg(test)]
-mod fixtures;
-#[cfg(test)]
-mod graphs;
 #[cfg(test)]
 mod implications;
 #[cfg(test)]
 mod made_graphs;
 #[cfg(test)]
-mod miters;
+mod refutations;
 #[cfg(test)]
-mod numbers;
+mod rewritings;
+#[cfg(test)]
+mod scans;
+#[cfg(test)]
+mod stages;
+#[cfg(test)]
+mod two_bit;
 #[cfg(test)]
 mod words;
