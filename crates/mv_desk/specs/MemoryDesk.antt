@@ -23,6 +23,6 @@ rest_of desk slot = rest_in desk.shelf slot
 abbrev pub out_of : MemoryDesk → Slot → List ℕ
 out_of desk slot = out_in desk.shelf slot
 
--- which of the next calls fail, and how the next reads are cut
+-- which of the next calls fail, and how the next reads and writes are cut
 abbrev pub plan_of : MemoryDesk → Plan
 plan_of desk = desk.script

@@ -1,10 +1,11 @@
--- Which calls of a desk in memory fail, and how its reads are cut.
+-- Which calls of a desk in memory fail, and how its reads and writes are cut.
 use Rattle.std.specs.Prelude.{ℕ, ◌+◌, ◌-◌, ◌^◌, ◌==◌, Bool, List, [], ◌∷◌, max, min}
 use Rattle.std.specs.List.{list_any}
 
 pub record Plan : Type 0 where
-  -- the lengths of the reads to come
-  pub pieces : List ℕ
+  -- the lengths of the reads to come, and of the writes
+  pub reads : List ℕ
+  pub writes : List ℕ
   -- the numbers of the calls that fail
   pub fails : List ℕ
   -- how many calls there were
@@ -21,19 +22,27 @@ is_next_failing plan = list_any (λ call. call == next_call plan) plan.fails
 abbrev pub after_call : Plan → Plan
 after_call plan = record plan { calls = next_call plan }
 
--- how much the next read gives at most: a piece of 0 bytes counts as one byte, and after the last piece nothing is cut
-abbrev pub next_piece : List ℕ → ℕ
-next_piece [] = 2 ^ 64 - 1
-next_piece (piece ∷ pieces) = max piece 1
+-- how much the next call moves at most: a length of 0 bytes counts as one byte, and after the last length nothing is cut
+abbrev pub next : List ℕ → ℕ
+next [] = 2 ^ 64 - 1
+next (len ∷ lengths) = max len 1
+
+abbrev pub later : List ℕ → List ℕ
+later [] = []
+later (len ∷ lengths) = lengths
 
 -- how much a read gives of what is left
 abbrev pub read_len : Plan → ℕ → ℕ → ℕ
-read_len plan room left = min (next_piece plan.pieces) (min room left)
-
-abbrev pub later_pieces : List ℕ → List ℕ
-later_pieces [] = []
-later_pieces (piece ∷ pieces) = pieces
+read_len plan room left = min (next plan.reads) (min room left)
 
 -- after a read that gave bytes or met the end
 abbrev pub after_read : Plan → Plan
-after_read plan = record plan { pieces = later_pieces plan.pieces; calls = next_call plan }
+after_read plan = record plan { reads = later plan.reads; calls = next_call plan }
+
+-- how much a write takes of a piece
+abbrev pub write_len : Plan → ℕ → ℕ
+write_len plan len = min (next plan.writes) len
+
+-- after a write that took bytes
+abbrev pub after_write : Plan → Plan
+after_write plan = record plan { writes = later plan.writes; calls = next_call plan }

@@ -1,5 +1,6 @@
 //! Desks in memory: files by name, and what each slot has of them.
 mod bytes;
+mod cuts;
 mod files;
 mod honest_desk;
 mod memory_desk;

@@ -3,7 +3,7 @@ ghost use Rattle.std.specs.Prelude.{◌≡◌, ◌||◌, if◌then◌else◌, []
 ghost use Rattle.std.specs.Io.{ReadsAtMost};
 ghost use Rattle.std.specs.Io.KnownBytes.{ReadConsumes};
 ghost use Rattle.mv_desk.specs.Calls.{Creates, HasReadCause, HasWriteCause, Opens, ReadsOnly, TakesSome, WritesTo};
-ghost use Rattle.mv_desk.specs.Script.{after_call, after_read, is_next_failing, read_len};
+ghost use Rattle.mv_desk.specs.Script.{after_call, after_read, after_write, is_next_failing, read_len, write_len};
 ghost use Rattle.mv_desk.specs.View.{HasReport, IsSame, KeepsTelling, OpensFiles};
 
 use super::script::Script;
@@ -12,7 +12,8 @@ use crate::counts::Counts;
 use crate::{Desk, Failed, Slot};
 use std::alloc::Global;
 
-/// Files in memory that tell everything. The desk cuts its reads into pieces, and fails at the calls of a list.
+/// Files in memory that tell everything. The desk cuts its reads and its writes into pieces, and fails at the calls of
+/// a list.
 ///
 /// A name that isn't held fails to open. Creating and writing may also fail for want of memory.
 #[derive(Drop)]
@@ -29,25 +30,37 @@ impl MemoryDesk {
 
     /// Nothing is open but the report. Of several files of one name the first counts.
     ///
-    /// Each read gives at most its piece's length in bytes (0 counts as 1), after the last piece whatever fits.
+    /// The i-th read gives at most the i-th length in bytes (0 counts as 1), after the last one whatever fits. A write
+    /// takes its whole piece.
     /// The calls that `fails` numbers fail: all four calls count together, from 1.
     pub fn new(
         alloc: Global,
         files: Vec<(String, Vec<u8>)>,
-        pieces: Vec<usize>,
+        reads: Vec<usize>,
         fails: Vec<u64>,
     ) -> Self
         ensures report { HasReport (⟦<MemoryDesk as Desk>⟧.seen result) }
         ensures files { (name : _) → held_of result name ≡ held_at (files_of files.items) name }
         ensures unread { (slot : _) → rest_of result slot ≡ [] }
         ensures unwritten { (slot : _) → out_of result slot ≡ [] }
-        ensures plan { plan_of result ≡ record { pieces = pieces.items; fails = fails.items; calls = 0 } }
+        ensures plan { plan_of result ≡ record { reads = reads.items; writes = []; fails = fails.items; calls = 0 } }
     {
         MemoryDesk {
             shelf: Shelf::new(alloc, files),
-            script: Script::new(pieces, fails),
+            script: Script::new(alloc, reads, fails),
             counts: Counts::new(),
         }
+    }
+
+    /// From now on the i-th write takes at most the i-th length in bytes (0 counts as 1), later ones take all.
+    pub fn cut_writes(&mut self, lengths: Vec<usize>)
+        ensures same { view_of self.new ≡ view_of self.old }
+        ensures files { (name : _) → held_of self.new name ≡ held_of self.old name }
+        ensures unread { (slot : _) → rest_of self.new slot ≡ rest_of self.old slot }
+        ensures written { (slot : _) → out_of self.new slot ≡ out_of self.old slot }
+        ensures plan { plan_of self.new ≡ record (plan_of self.old) { writes = lengths.items } }
+    {
+        self.script.cut_writes(lengths);
     }
 
     /// The bytes under a name, where it is held.
@@ -104,7 +117,7 @@ impl Desk for MemoryDesk {
         ensures failed { OnErr result (IsSame (view_of self.old) (view_of self.new)) }
         ensures cause { HasReadCause (view_of self.old) (view_of self.new) result }
         ensures tells { KeepsTelling (view_of self.old) (view_of self.new) }
-        // It fails by its list alone, and cuts by its pieces alone.
+        // It fails by its list alone, and is cut by the lengths of reads alone.
         ensures refused { is_err result ≡ is_next_failing (plan_of self.old) }
         ensures piece { IfOk result (λ count.
             count ≡ read_len (plan_of self.old) (length into.old) (length (rest_of self.old slot))) }
@@ -115,7 +128,7 @@ impl Desk for MemoryDesk {
             self.counts.count_read_fault();
             return Err(Failed);
         }
-        let most = self.script.take_piece();
+        let most = self.script.take_read();
         Ok(self.shelf.read(slot, most, into))
     }
 
@@ -145,13 +158,16 @@ impl Desk for MemoryDesk {
         ensures cause { HasWriteCause (view_of self.old) (view_of self.new) result }
         ensures tells { KeepsTelling (view_of self.old) (view_of self.new) }
         ensures refused { IsTrue (is_next_failing (plan_of self.old)) → IsErr result }
-        ensures whole { IfOk result (λ taken. taken ≡ length piece.now) }
-        ensures plan { plan_of self.new ≡ after_call (plan_of self.old) }
+        ensures piece { IfOk result (λ taken. taken ≡ write_len (plan_of self.old) (length piece.now)) }
+        ensures plan { plan_of self.new ≡
+            (if is_ok result then after_write (plan_of self.old) else after_call (plan_of self.old)) }
     {
-        if !self.script.fails_now()
-            && let Ok(()) = self.shelf.write(slot, piece)
-        {
-            return Ok(piece.len());
+        if !self.script.fails_now() {
+            let taken = self.script.next_write().min(piece.len());
+            if let Ok(()) = self.shelf.write(slot, &piece[..taken]) {
+                self.script.pass_write();
+                return Ok(taken);
+            }
         }
         self.counts.count_write_fault();
         Err(Failed)

@@ -1,37 +1,37 @@
-// Which calls of a desk in memory fail, and how its reads are cut.
-ghost use Rattle.std.specs.Prelude.{◌≡◌, ◌≤◌, ◌<◌};
+// Which calls of a desk in memory fail, and how its reads and writes are cut.
+ghost use Rattle.std.specs.Prelude.{◌≡◌, []};
 
+use super::cuts::Cuts;
+use std::alloc::Global;
 use std::marker::Model;
 
-/// Which calls fail, and how reads are cut.
+/// Which calls fail, and how reads and writes are cut.
 #[derive(Drop)]
 pub struct Script {
-    pieces: Vec<usize>,
+    reads: Cuts,
+    writes: Cuts,
     fails: Vec<u64>,
-    /// reads that took a piece so far
-    reads: usize,
     calls: u64,
 }
 
 impl Model for Script {
-    ghost use Rattle.std.specs.Prelude.{drop};
     ghost use Rattle.mv_desk.specs.Script.{Plan};
 
     ghost Value = { Plan };
 
-    ghost view = { λ s. record { pieces = drop s.reads s.pieces.items; fails = s.fails.items; calls = s.calls } };
+    ghost view = { λ s. record { reads = s.reads; writes = s.writes; fails = s.fails.items; calls = s.calls } };
 }
 
 impl Script {
-    ghost use Rattle.mv_desk.specs.Script.{after_call, is_next_failing, later_pieces, next_piece};
+    ghost use Rattle.mv_desk.specs.Script.{after_call, is_next_failing, later, next};
 
-    pub fn new(pieces: Vec<usize>, fails: Vec<u64>) -> Script
-        ensures { result ≡ record { pieces = pieces.items; fails = fails.items; calls = 0 } }
+    pub fn new(alloc: Global, reads: Vec<usize>, fails: Vec<u64>) -> Script
+        ensures { result ≡ record { reads = reads.items; writes = []; fails = fails.items; calls = 0 } }
     {
         Script {
-            pieces,
+            reads: Cuts::new(reads),
+            writes: Cuts::new(Vec::new(alloc)),
             fails,
-            reads: 0,
             calls: 0,
         }
     }
@@ -45,15 +45,34 @@ impl Script {
         self.fails.contains(&self.calls)
     }
 
-    /// The most bytes that a read gives.
-    pub fn take_piece(&mut self) -> usize
-        ensures piece { result ≡ next_piece self.old.pieces }
-        ensures later { self.new ≡ record self.old { pieces = later_pieces self.old.pieces } }
+    /// From now on writes are cut so.
+    pub fn cut_writes(&mut self, lengths: Vec<usize>)
+        ensures { self.new ≡ record self.old { writes = lengths.items } }
     {
-        let Some(&piece) = self.pieces.get(self.reads) else {
-            return usize::MAX;
-        };
-        self.reads += 1;
-        piece.max(1)
+        self.writes = Cuts::new(lengths);
+    }
+
+    /// The most bytes that a read gives.
+    pub fn take_read(&mut self) -> usize
+        ensures most { result ≡ next self.old.reads }
+        ensures later { self.new ≡ record self.old { reads = later self.old.reads } }
+    {
+        let most = self.reads.next();
+        self.reads.pass();
+        most
+    }
+
+    /// The most bytes that the next write takes.
+    pub fn next_write(&self) -> usize
+        ensures { result ≡ next self.now.writes }
+    {
+        self.writes.next()
+    }
+
+    /// A write took bytes.
+    pub fn pass_write(&mut self)
+        ensures { self.new ≡ record self.old { writes = later self.old.writes } }
+    {
+        self.writes.pass();
     }
 }
