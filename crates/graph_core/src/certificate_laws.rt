@@ -2,7 +2,6 @@
 ghost use Rattle.graph_core.specs.Algebra.{AlgebraIsSound, AxiomsVanish, VanishingMeansClaim, VanishingMeansProduct};
 ghost use Rattle.graph_core.specs.Algebra.Reading.{AlgebraIsRead, AlgebraLineIsRead, CloseIsRead, PolynomialIsRead};
 ghost use Rattle.graph_core.specs.Algebra.Refusal.{AlgebraIsExact};
-ghost use Rattle.graph_core.specs.Certificates.{ClausesAreExact, LawfulPairsMultiply};
 
 /// On every evaluation the value that a lawful algebra certificate closes with is 0, so the outputs
 /// are what is claimed.
@@ -24,16 +23,6 @@ pub fn vanishing_means_claim()
 /// outputs are the product of the operands as whole numbers.
 pub fn vanishing_means_product()
     ensures { VanishingMeansProduct }
-{}
-
-/// A clause file gives one extended graph for a graph, or there is one first refusal.
-pub fn clauses_are_exact()
-    ensures { ClausesAreExact }
-{}
-
-/// The graph of a lawful pair of certificates multiplies.
-pub fn lawful_pairs_multiply()
-    ensures { LawfulPairsMultiply }
 {}
 
 /// An algebra certificate is lawful and within the lengths, or there is one first refusal.

@@ -2,13 +2,13 @@
 //!
 //! `Graph::build` gives the graph of some lists exactly where they have no fault, and else their first fault. A graph
 //! tells of each variable its gate, its level and how often it is read, and writes the values of all variables.
-//! `Operands` tells which input is which bit, and `Graph::value_on` gives the value on two operands. Only it, `Graph::build`
-//! and `Operands::of` take memory.
+//! `Operands` tells which input is which bit, and `Graph::value_on` gives the value on two operands. Only it,
+//! `Graph::build` and `Operands::of` take memory.
 //!
 //! The contracts of all crates above cite the words of `specs/`: graphs, their evaluation, operands and the product
-//! (`Graph` and its files), what bytes spell and how a text is refused (`Text`, `Aiger`), lawful algebra certificates by the
-//! values of their polynomials (`Algebra`), and lawful pairs of certificates (`Certificates`). A law is the contract of a
-//! public function with an empty body.
+//! (`Graph` and its files), what bytes spell and how a text is refused (`Text`, `Aiger`), lawful algebra certificates by
+//! the values of their polynomials (`Algebra`, `Certificates`). A law is the contract of a public function with an empty
+//! body.
 #![tactic(auto)]
 
 mod certificate_laws;
@@ -26,8 +26,7 @@ mod polynomial_laws;
 
 pub use certificate_laws::{
     algebra_is_exact, algebra_is_read, algebra_is_sound, algebra_line_is_read, axioms_vanish,
-    clauses_are_exact, close_is_read, lawful_pairs_multiply, polynomial_is_read,
-    vanishing_means_claim, vanishing_means_product,
+    close_is_read, polynomial_is_read, vanishing_means_claim, vanishing_means_product,
 };
 pub use evaluation_laws::{
     claim_is_product, evaluation_is_one, evaluations_suffice, levels_mean_acyclic, one_level,

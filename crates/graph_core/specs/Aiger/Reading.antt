@@ -238,7 +238,9 @@ literals_at (suc n) bytes = field_at newline bytes >>= λ x. (literals_at n x.1 
 
 -- a gate's line
 abbrev pub triple_at : List ℕ → Result ((Lit × Lit × Lit) × List ℕ) Stop
-triple_at bytes = field_at space bytes >>= λ x. (field_at space x.1 >>= λ y. (field_at newline y.1 >>= λ z. Ok ((shown (lit x.0), shown (lit y.0), shown (lit z.0)), z.1)))
+triple_at bytes = field_at space bytes >>= λ x.
+    (field_at space x.1 >>= λ y.
+    (field_at newline y.1 >>= λ z. Ok ((shown (lit x.0), shown (lit y.0), shown (lit z.0)), z.1)))
 
 abbrev pub triples_at : ℕ → List ℕ → Result (List (Lit × Lit × Lit) × List ℕ) Stop
 triples_at zero bytes = Ok ([], bytes)

@@ -48,8 +48,10 @@ abbrev pub IsFault : Listing → GraphFault → Type 0
 IsFault g (Range l) = (above : Lit) × (first_above g ≡ Some above) × (l ≡ shown above)
 IsFault g (Left l) = (first_above g ≡ None) × (first_no_left g ≡ Some l)
 IsFault g (Twice v) = (first_above g ≡ None) × (first_no_left g ≡ None) × (first_repeated [] (map variable_of (left_sides g)) ≡ Some v)
-IsFault g (Undefined l) = (first_above g ≡ None) × (first_no_left g ≡ None) × (first_repeated [] (map variable_of (left_sides g)) ≡ None) × (first_undefined g ≡ Some l)
-IsFault g (Cycle v) = (first_above g ≡ None) × (first_no_left g ≡ None) × (first_repeated [] (map variable_of (left_sides g)) ≡ None) × (first_undefined g ≡ None) ×
+IsFault g (Undefined l) = (first_above g ≡ None) × (first_no_left g ≡ None) ×
+    (first_repeated [] (map variable_of (left_sides g)) ≡ None) × (first_undefined g ≡ Some l)
+IsFault g (Cycle v) = (first_above g ≡ None) × (first_no_left g ≡ None) ×
+    (first_repeated [] (map variable_of (left_sides g)) ≡ None) × (first_undefined g ≡ None) ×
     (v ≤ g.max) × ¬ (HasLevel (graph_of g).gates v) × ((w : ℕ) → w < v → HasLevel (graph_of g).gates w)
 
 -- ---- the first fault by computing
@@ -61,7 +63,8 @@ is_free gates v = list_all (λ x. not (x.v == v)) gates
 -- the variable has a level of at most t
 abbrev pub levelled : List Gate → ℕ → ℕ → Bool
 levelled gates zero v = is_free gates v
-levelled gates (suc t) v = is_free gates v || list_any (λ x. x.v == v && (levelled gates t (variable_of x.left) && levelled gates t (variable_of x.right))) gates
+levelled gates (suc t) v = is_free gates v || list_any
+    (λ x. x.v == v && (levelled gates t (variable_of x.left) && levelled gates t (variable_of x.right))) gates
 
 -- the first of so many numbers of which the test is false
 abbrev pub first_without : (ℕ → Bool) → ℕ → ℕ → Option ℕ
@@ -106,7 +109,8 @@ has_wrong_room Binary m n = not (m == n)
 -- The fields in their order, each with whether it is refused.
 abbrev pub fields : Form → List ℕ → List (Field × Bool)
 fields form (m ∷ i ∷ l ∷ o ∷ a ∷ others) =
-    (field.M, nat_lt 4194303 m) ∷ (field.I, not (i % 2 == 0) || (i == 0 || nat_lt 128 i)) ∷ (field.L, not (l == 0)) ∷ (field.O, o == 0 || nat_lt i o) ∷ (field.A, has_wrong_room form m (i + a)) ∷
+    (field.M, nat_lt 4194303 m) ∷ (field.I, not (i % 2 == 0) || (i == 0 || nat_lt 128 i)) ∷ (field.L, not (l == 0)) ∷
+    (field.O, o == 0 || nat_lt i o) ∷ (field.A, has_wrong_room form m (i + a)) ∷
     zero_fields (field.B ∷ field.C ∷ field.J ∷ field.F ∷ []) others
 fields form _ = []
 
@@ -144,13 +148,15 @@ HasWrongSymbol c after here = (symbols : List (List ℕ)) × (kind bound n : ℕ
 abbrev pub HasWrongGate : ℕ → List ℕ → List ℕ → Type 0
 HasWrongGate left bytes here = (first rest : List ℕ) × (x : ℕ) × (length first ≤ 5) × IsGroups first x × (bytes ≡ first ++ rest) ×
     ((((x ≡ 0) ⊎ (left < x)) × (here ≡ bytes)) ⊎
-    ((0 < x) × (x ≤ left) × ((second more : List ℕ) × (y : ℕ) × (length second ≤ 5) × IsGroups second y × (left < x + y) × (rest ≡ second ++ more) × (here ≡ rest))))
+    ((0 < x) × (x ≤ left) × ((second more : List ℕ) × (y : ℕ) × (length second ≤ 5) × IsGroups second y ×
+    (left < x + y) × (rest ≡ second ++ more) × (here ≡ rest))))
 
 -- The bytes are in order up to a number that is out of range, which begins `here`.
 abbrev pub HasWrongNumber : Form → Counts → List ℕ → List ℕ → Type 0
 HasWrongNumber form c bytes here =
     ((g : Listing) × (after : List ℕ) × (counts g ≡ c) × IsBody form g bytes after × HasWrongSymbol c after here) ⊎
-    ((form ≡ Binary) × ((outputs : List Lit) × (gates : List (Lit × Lit × Lit)) × (middle after : List ℕ) × (length outputs ≡ c.outputs) × (length gates < c.gates) ×
+    ((form ≡ Binary) × ((outputs : List Lit) × (gates : List (Lit × Lit × Lit)) × (middle after : List ℕ) ×
+    (length outputs ≡ c.outputs) × (length gates < c.gates) ×
     AreLines bytes (map (λ l. l.0 ∷ []) outputs) middle × AreBinaryGates (2 * c.inputs + 2) middle gates after ×
     HasWrongGate (2 * c.inputs + 2 + 2 * length gates) after here))
 
@@ -192,7 +198,8 @@ IsRestRefusal form c rest n =
 abbrev pub IsRefusal : List ℕ → Refusal → Type 0
 IsRefusal bytes (Text p) =
     (((form : Form) (numbers rest : List ℕ) → HasHeader bytes form numbers rest → ⊥) × IsLongest IsHeaderLine bytes p) ⊎
-    ((form : Form) × (numbers rest : List ℕ) × (n : ℕ) × HasHeader bytes form numbers rest × (refused_field form numbers ≡ None) × IsRestRefusal form (counts_of numbers) rest n ×
+    ((form : Form) × (numbers rest : List ℕ) × (n : ℕ) × HasHeader bytes form numbers rest ×
+    (refused_field form numbers ≡ None) × IsRestRefusal form (counts_of numbers) rest n ×
     (p + length rest ≡ length bytes + n))
 IsRefusal bytes (Header f) = (form : Form) × (numbers rest : List ℕ) × HasHeader bytes form numbers rest × (refused_field form numbers ≡ Some f)
 IsRefusal bytes (Faulty f) = (g : Listing) × Lists bytes g × IsFault g f
@@ -224,7 +231,8 @@ LevelsMeanAcyclic = (gates : List Gate) → AllPairs ◌≢◌ (map (λ x. x.v) 
 
 -- There a variable has one level, and it is at most the number of gates.
 abbrev pub OneLevel : Type 0
-OneLevel = (gates : List Gate) → AllPairs ◌≢◌ (map (λ x. x.v) gates) → (v k : ℕ) → IsLevel gates v k → (k ≤ length gates) × ((j : ℕ) → IsLevel gates v j → j ≡ k)
+OneLevel = (gates : List Gate) → AllPairs ◌≢◌ (map (λ x. x.v) gates) → (v k : ℕ) → IsLevel gates v k →
+    (k ≤ length gates) × ((j : ℕ) → IsLevel gates v j → j ≡ k)
 
 -- the lists with numbers of 32 bits: a greater one is the greatest
 abbrev pub shown_gate : Lit × Lit × Lit → Lit × Lit × Lit

@@ -37,11 +37,16 @@ pub record AgreementIsKept : Type 0 where
   pub lawful : (m : ℕ) (l k : Ledger) → Agree l k → (x : Line) → IsLawfulLine m l x → IsLawfulLine m k x
   pub after : (m : ℕ) (l k : Ledger) → Agree l k → (x : Line) → Agree (after m l x) (after m k x)
   pub refused : (e : Extended) (l k : Ledger) → Agree l k → (x : Line) (cause : AlgebraCause) → IsRefusedLine e l x cause → IsRefusedLine e k x cause
-  pub refused_in_range : (e : Extended) (l k : Ledger) → Agree l k → (x : Line) (cause : AlgebraCause) → IsRefusedInRange e l x cause → IsRefusedInRange e k x cause
+  pub refused_in_range : (e : Extended) (l k : Ledger) → Agree l k → (x : Line) (cause : AlgebraCause) →
+      IsRefusedInRange e l x cause → IsRefusedInRange e k x cause
   pub closes : (e : Extended) (sides : Sides) (l k : Ledger) → Agree l k → (id : ℕ) → Closes e sides l.live id → Closes e sides k.live id
-  pub refused_close : (e : Extended) (sides : Sides) (l k : Ledger) → Agree l k → (id : ℕ) (cause : AlgebraCause) → IsRefusedClose e sides l id cause → IsRefusedClose e sides k id cause
-  pub refused_close_in_range : (e : Extended) (sides : Sides) (l k : Ledger) → Agree l k → (id : ℕ) (cause : AlgebraCause) → IsRefusedCloseInRange e sides l id cause → IsRefusedCloseInRange e sides k id cause
+  pub refused_close : (e : Extended) (sides : Sides) (l k : Ledger) → Agree l k → (id : ℕ) (cause : AlgebraCause) →
+      IsRefusedClose e sides l id cause → IsRefusedClose e sides k id cause
+  pub refused_close_in_range : (e : Extended) (sides : Sides) (l k : Ledger) → Agree l k →
+      (id : ℕ) (cause : AlgebraCause) → IsRefusedCloseInRange e sides l id cause →
+      IsRefusedCloseInRange e sides k id cause
 
 -- A line in range is refused only where it isn't lawful.
 abbrev pub RefusedIsUnlawful : Type 0
-RefusedIsUnlawful = (e : Extended) (l : Ledger) (x : Line) (cause : AlgebraCause) → IsLineInRange e.max x → IsRefusedLine e l x cause → IsLawfulLine (modulus e) l x → ⊥
+RefusedIsUnlawful = (e : Extended) (l : Ledger) (x : Line) (cause : AlgebraCause) → IsLineInRange e.max x →
+    IsRefusedLine e l x cause → IsLawfulLine (modulus e) l x → ⊥

@@ -15,9 +15,11 @@ IsRefusedInRange e l x = Unless (IsNewId l.last x) (¬ (IsNewId l.last x)) cause
 -- the first cause of a closing line, likewise
 abbrev pub IsRefusedCloseInRange : Extended → Sides → Ledger → ℕ → AlgebraCause → Type 0
 IsRefusedCloseInRange e sides l id =
-    Unless (IsLive l.live id) (¬ (IsLive l.live id)) (cause.NoSuchLine id) (Unless (IsSpecification e sides l id) (IsNoSpecification e sides l id) cause.NotSpecification Never)
+    Unless (IsLive l.live id) (¬ (IsLive l.live id)) (cause.NoSuchLine id)
+    (Unless (IsSpecification e sides l id) (IsNoSpecification e sides l id) cause.NotSpecification Never)
 
 -- Where the numbers are in range, such a refusal is that of the definitions.
 pub record RefusedInRange : Type 0 where
   pub line : (e : Extended) (l : Ledger) (x : Line) (cause : AlgebraCause) → IsLineInRange e.max x → IsRefusedInRange e l x cause → IsRefusedLine e l x cause
-  pub close : (e : Extended) (sides : Sides) (l : Ledger) (id : ℕ) (cause : AlgebraCause) → IsId id → IsRefusedCloseInRange e sides l id cause → IsRefusedClose e sides l id cause
+  pub close : (e : Extended) (sides : Sides) (l : Ledger) (id : ℕ) (cause : AlgebraCause) → IsId id →
+      IsRefusedCloseInRange e sides l id cause → IsRefusedClose e sides l id cause

@@ -10,14 +10,18 @@ use Rattle.graph_core.specs.Algebra.{Line, Delete, Ledger, IsLawfulLine, AreLawf
 
 -- Live lines are a map from ids: a new line is put there under its id, and deleting takes its id away.
 abbrev pub LedgerIsMap : Type 0
-LedgerIsMap = ((m : ℕ) (l : Ledger) (id : ℕ) (p : Polynomial) (k : ℕ) → line_of (introduce m l id p).live k ≡ (if id == k then Some (record { id = id; value = value m p }) else line_of l.live k)) ×
+LedgerIsMap = ((m : ℕ) (l : Ledger) (id : ℕ) (p : Polynomial) (k : ℕ) →
+    line_of (introduce m l id p).live k ≡
+    (if id == k then Some (record { id = id; value = value m p }) else line_of l.live k)) ×
     ((m : ℕ) (l : Ledger) (id k : ℕ) → line_of (after m l (Delete id)).live k ≡ (if id == k then None else line_of l.live k))
 
 -- A lawful line keeps that every live line is 0 at an assignment.
 abbrev pub LinesKeepZero : Type 0
-LinesKeepZero = (m : ℕ) (l : Ledger) (x : Line) (σ : Assignment) → IsLawfulLine m l x → All (λ y. y.value σ ≡ 0) l.live → All (λ y. y.value σ ≡ 0) (after m l x).live
+LinesKeepZero = (m : ℕ) (l : Ledger) (x : Line) (σ : Assignment) → IsLawfulLine m l x →
+    All (λ y. y.value σ ≡ 0) l.live → All (λ y. y.value σ ≡ 0) (after m l x).live
 
 -- Every line that is live behind lawful lines is 0 on each evaluation on which the replaced columns agree.
 abbrev pub LiveLinesVanish : Type 0
-LiveLinesVanish = (e : Extended) (lines : List Line) (σ : Assignment) → AreLawfulLines (modulus e) (axioms e) lines → IsEvaluation e.gates σ → AgreeOnColumns e σ →
+LiveLinesVanish = (e : Extended) (lines : List Line) (σ : Assignment) → AreLawfulLines (modulus e) (axioms e) lines →
+    IsEvaluation e.gates σ → AgreeOnColumns e σ →
     All (λ l. l.value σ ≡ 0) (after_all (modulus e) (axioms e) lines).live

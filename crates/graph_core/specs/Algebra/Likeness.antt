@@ -22,12 +22,14 @@ ArePartsAlike m (part ∷ parts) (other ∷ others) = (part.id ≡ other.id) × 
 abbrev pub AreAlike : ℕ → Line → Line → Type 0
 AreAlike m (Sum id i j p) other = (q : Polynomial) × (other ≡ Sum id i j q) × HaveSameValue m p q
 AreAlike m (Product id i f p) other = (g q : Polynomial) × (other ≡ Product id i g q) × HaveSameValue m f g × HaveSameValue m p q
-AreAlike m (Combination id parts p) other = (others : List Part) × (q : Polynomial) × (other ≡ Combination id others q) × ArePartsAlike m parts others × HaveSameValue m p q
+AreAlike m (Combination id parts p) other = (others : List Part) × (q : Polynomial) ×
+    (other ≡ Combination id others q) × ArePartsAlike m parts others × HaveSameValue m p q
 AreAlike m (Delete id) other = other ≡ Delete id
 
 -- Where lines are alike, they name the same operands, one is lawful or refused where the other one is, and the same ledger follows.
 pub record LikenessIsKept : Type 0 where
   pub operands : (m : ℕ) (x y : Line) → AreAlike m x y → operands x ≡ operands y
   pub lawful : (m : ℕ) (l : Ledger) (x y : Line) → AreAlike m x y → IsLawfulLine m l y → IsLawfulLine m l x
-  pub refused : (e : Extended) (l : Ledger) (x y : Line) (cause : AlgebraCause) → AreAlike (modulus e) x y → IsRefusedInRange e l y cause → IsRefusedInRange e l x cause
+  pub refused : (e : Extended) (l : Ledger) (x y : Line) (cause : AlgebraCause) → AreAlike (modulus e) x y →
+      IsRefusedInRange e l y cause → IsRefusedInRange e l x cause
   pub after : (m : ℕ) (l : Ledger) (x y : Line) → AreAlike m x y → Agree (after m l y) (after m l x)

@@ -37,4 +37,5 @@ SizeIsOne = (m : ℕ) (f : Assignment → ℕ) (j k : ℕ) → HasSize m f j →
 
 -- Each polynomial has a normal form, of at most as many terms.
 abbrev pub NormalFormExists : Type 0
-NormalFormExists = (m : ℕ) (p : Polynomial) → 0 < m → (q : Polynomial) × IsNormalForm m q × ((σ : Assignment) → value m q σ ≡ value m p σ) × (length q ≤ length p)
+NormalFormExists = (m : ℕ) (p : Polynomial) → 0 < m → (q : Polynomial) × IsNormalForm m q ×
+    ((σ : Assignment) → value m q σ ≡ value m p σ) × (length q ≤ length p)

@@ -30,7 +30,8 @@ abbrev pub coefficient_at : Bool → Reader Term
 coefficient_at negative = map_at (λ x. record { negative = negative; coefficient = x.0; variables = x.1 }) (then_at (number_at 39) factors_at)
 
 abbrev pub product_at : Bool → Reader Term
-product_at negative = map_at (λ x. record { negative = negative; coefficient = 1; variables = x.0 ∷ x.1 }) (then_at (behind_at (codes "x") (number_at 10)) factors_at)
+product_at negative = map_at (λ x. record { negative = negative; coefficient = 1; variables = x.0 ∷ x.1 })
+    (then_at (behind_at (codes "x") (number_at 10)) factors_at)
 
 abbrev pub term_at : Bool → Reader Term
 term_at negative = choose_at is_digit (coefficient_at negative) (product_at negative)
@@ -85,7 +86,8 @@ at_end (Some (x, b ∷ bytes)) = None
 
 -- the lines of a whole text, and the id that it closes with
 abbrev pub algebra_at : List ℕ → Option (List Line × ℕ)
-algebra_at bytes = at_end (behind_at (codes "pac 1" ++ newline ∷ []) (then_at (many_at is_digit (ended_at algebra_line_at (newline ∷ []))) (ended_at close_at (newline ∷ []))) bytes)
+algebra_at bytes = at_end (behind_at (codes "pac 1" ++ newline ∷ [])
+    (then_at (many_at is_digit (ended_at algebra_line_at (newline ∷ []))) (ended_at close_at (newline ∷ []))) bytes)
 
 -- ---- the laws
 
@@ -95,12 +97,14 @@ EndsPolynomial rest = NoneOf is_sign rest × (NoneOf is_star rest × NoneOf is_d
 
 -- Reading a polynomial gives one whose text it takes; and each polynomial's text that ends is read as it.
 abbrev pub PolynomialIsRead : Type 0
-PolynomialIsRead = ((bytes : List ℕ) (p : Polynomial) (rest : List ℕ) → poly_at bytes ≡ Some (p, rest) → (front : List ℕ) × IsPolynomial front p × (bytes ≡ front ++ rest)) ×
+PolynomialIsRead = ((bytes : List ℕ) (p : Polynomial) (rest : List ℕ) → poly_at bytes ≡ Some (p, rest) →
+    (front : List ℕ) × IsPolynomial front p × (bytes ≡ front ++ rest)) ×
     ((front : List ℕ) (p : Polynomial) (rest : List ℕ) → IsPolynomial front p → EndsPolynomial rest → poly_at (front ++ rest) ≡ Some (p, rest))
 
 -- Reading a line of an algebra certificate gives the line whose text it takes, and nothing else does.
 abbrev pub AlgebraLineIsRead : Type 0
-AlgebraLineIsRead = (bytes : List ℕ) (x : Line) (rest : List ℕ) → (algebra_line_at bytes ≡ Some (x, rest)) ↔ ((line : List ℕ) × IsLineText line x × (bytes ≡ line ++ rest))
+AlgebraLineIsRead = (bytes : List ℕ) (x : Line) (rest : List ℕ) → (algebra_line_at bytes ≡ Some (x, rest)) ↔
+    ((line : List ℕ) × IsLineText line x × (bytes ≡ line ++ rest))
 
 abbrev pub CloseIsRead : Type 0
 CloseIsRead = (bytes : List ℕ) (id : ℕ) (rest : List ℕ) → (close_at bytes ≡ Some (id, rest)) ↔ ((line : List ℕ) × IsCloseText line id × (bytes ≡ line ++ rest))

@@ -37,7 +37,8 @@ IsRefusedRule e l x cause = ((id : ℕ) × (first_missing l.live (operands x) �
 
 -- The first cause of a line over a ledger: numbers out of range, an id that isn't new, an operand that isn't live, a value that differs.
 abbrev pub IsRefusedLine : Extended → Ledger → Line → AlgebraCause → Type 0
-IsRefusedLine e l x = Unless (IsLineInRange e.max x) (¬ (IsLineInRange e.max x)) Range (Unless (IsNewId l.last x) (¬ (IsNewId l.last x)) Id (IsRefusedRule e l x))
+IsRefusedLine e l x = Unless (IsLineInRange e.max x) (¬ (IsLineInRange e.max x)) Range
+    (Unless (IsNewId l.last x) (¬ (IsNewId l.last x)) Id (IsRefusedRule e l x))
 
 -- a line's value is the specification's at every assignment, or some assignment tells them apart
 abbrev pub IsSpecification : Extended → Sides → Ledger → ℕ → Type 0
@@ -64,7 +65,8 @@ IsRefusedEnd IsLong rest = Unless (¬ (IsLong rest)) (IsLong rest) (1, TooLong) 
 -- line there and 1 for the one behind it.
 abbrev pub IsRefusedText : Extended → Sides → (List ℕ → Type 0) → Ledger → List ℕ → ℕ × AlgebraCause → Type 0
 IsRefusedText e s IsLong l bytes p =
-    (((x : Line) (rest : List ℕ) → BeginsWith IsLineText bytes x rest → ⊥) × ((id : ℕ) (rest : List ℕ) → BeginsWith IsCloseText bytes id rest → ⊥) × (p ≡ (0, Text))) ⊎
+    (((x : Line) (rest : List ℕ) → BeginsWith IsLineText bytes x rest → ⊥) ×
+    ((id : ℕ) (rest : List ℕ) → BeginsWith IsCloseText bytes id rest → ⊥) × (p ≡ (0, Text))) ⊎
     (((x : Line) × (rest : List ℕ) × BeginsWith IsLineText bytes x rest × ((cause : AlgebraCause) × IsRefusedLine e l x cause × (p ≡ (0, cause)))) ⊎
     ((id : ℕ) × (rest : List ℕ) × BeginsWith IsCloseText bytes id rest × (((cause : AlgebraCause) × IsRefusedClose e s l id cause × (p ≡ (0, cause))) ⊎
     ((IsId id × Closes e s l.live id) × IsRefusedEnd IsLong rest p))))
@@ -75,7 +77,8 @@ IsRefusedNext e s IsLong l bytes = Unless (¬ (IsLong bytes)) (IsLong bytes) (0,
 -- the refusal behind the header, which is line 1
 abbrev pub IsRefusedBody : Extended → Sides → (List ℕ → Type 0) → List ℕ → ℕ × AlgebraCause → Type 0
 IsRefusedBody e s IsLong body p =
-    (lines : List Line) × (q : ℕ × AlgebraCause) × Behind IsLineText (IsAlgebraStep e) IsLong (λ l left. IsRefusedNext e s IsLong l left q) lines (axioms e) body ×
+    (lines : List Line) × (q : ℕ × AlgebraCause) ×
+    Behind IsLineText (IsAlgebraStep e) IsLong (λ l left. IsRefusedNext e s IsLong l left q) lines (axioms e) body ×
     (p ≡ (length lines + 2 + q.0, q.1))
 
 abbrev pub algebra_header : List ℕ

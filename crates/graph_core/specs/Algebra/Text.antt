@@ -44,7 +44,8 @@ AreParts bytes (part ∷ next ∷ parts) = (front rest : List ℕ) × IsPart fro
 abbrev pub IsLineText : List ℕ → Line → Type 0
 IsLineText bytes (Sum id i j p) = (new left right poly : List ℕ) × IsNumeral 15 new id × IsNumeral 15 left i × IsNumeral 15 right j × IsPolynomial poly p ×
     (bytes ≡ new ++ codes " + " ++ left ++ codes ", " ++ right ++ codes ", " ++ poly ++ codes ";")
-IsLineText bytes (Product id i q p) = (new left factor poly : List ℕ) × IsNumeral 15 new id × IsNumeral 15 left i × IsPolynomial factor q × IsPolynomial poly p ×
+IsLineText bytes (Product id i q p) = (new left factor poly : List ℕ) × IsNumeral 15 new id × IsNumeral 15 left i ×
+    IsPolynomial factor q × IsPolynomial poly p ×
     (bytes ≡ new ++ codes " * " ++ left ++ codes ", " ++ factor ++ codes ", " ++ poly ++ codes ";")
 IsLineText bytes (Combination id parts p) = (new sum poly : List ℕ) × IsNumeral 15 new id × AreParts sum parts × IsPolynomial poly p ×
     (bytes ≡ new ++ codes " % " ++ sum ++ codes ", " ++ poly ++ codes ";")

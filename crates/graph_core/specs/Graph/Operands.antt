@@ -103,7 +103,8 @@ value_at_inputs g bits = word (evaluated g bits) g.outputs
 
 -- For all values of the inputs the graph evaluates to what is claimed.
 abbrev pub MeetsClaim : Aig → Sides → Type 0
-MeetsClaim g s = (bits : List Bool) → length bits ≡ length g.inputs → value_at_inputs g bits ≡ claimed (output_modulus g) s (evaluated g bits) % output_modulus g
+MeetsClaim g s = (bits : List Bool) → length bits ≡ length g.inputs →
+    value_at_inputs g bits ≡ claimed (output_modulus g) s (evaluated g bits) % output_modulus g
 
 -- On each evaluation of the gates the outputs are what is claimed.
 abbrev pub MeetsClaimOnEvaluations : Aig → Sides → Type 0

@@ -46,7 +46,9 @@ put_before x (Some xs) = Some (x ∷ xs.0, xs.1)
 abbrev pub many_in : {A : Type 0} → ℕ → (ℕ → Bool) → Reader A → Reader (List A)
 many_in zero begins item bytes = Some ([], bytes)
 many_in (suc most) begins item [] = Some ([], [])
-many_in (suc most) begins item (b ∷ bytes) = if begins b then (item (b ∷ bytes) >>= λ x. put_before x.0 (many_in most begins item x.1)) else Some ([], b ∷ bytes)
+many_in (suc most) begins item (b ∷ bytes) = if begins b
+    then (item (b ∷ bytes) >>= λ x. put_before x.0 (many_in most begins item x.1))
+    else Some ([], b ∷ bytes)
 
 -- Items, as long as one begins at the first byte; there are no more of them than bytes.
 unfoldable pub many_at : {A : Type 0} → (ℕ → Bool) → Reader A → Reader (List A)
