@@ -12,7 +12,7 @@ use Rattle.graph_core.specs.Graph.Assignments.{Assignment, literal, bit, word}
 use Rattle.graph_core.specs.Graph.{Aig, SameUpToOperands, computed, evaluated, greater_first, of_inputs, round, rounds}
 use Rattle.graph_core.specs.Graph.Operands.{inputs_of, value_on, width}
 use Rattle.graph_core.proofs.OfGraphs.CallerLemmas.{literal_same}
-use Rattle.aiger_reader.specs.Written.{OperandOrderIsFree}
+use Rattle.graph_maker.specs.OperandOrder.{OrderOfOperandsIsFree}
 
 own_variable : (x : Gate) → (greater_first x).v ≡ x.v
 own_variable x = go (nat_lt x.left.0 x.right.0)
@@ -69,14 +69,14 @@ module _ (g h : Aig) (same : SameUpToOperands g h) where
       rounds_same g.gates h.gates same.3 (of_inputs g.inputs bits) (of_inputs h.inputs bits) (λ w. ap (λ ls. of_inputs ls bits w) same.1) (length g.gates) v ∙
       ap (λ n. rounds n h.gates (of_inputs h.inputs bits) v) as_many
 
-  pub value_same : (order : Order) (a b : ℕ) → value_on g order a b ≡ value_on h order a b
+  value_same : (order : Order) (a b : ℕ) → value_on g order a b ≡ value_on h order a b
   value_same order a b =
       let bits = inputs_of order (width g) a b in
       words_same (evaluated g bits) (evaluated h bits) (evaluated_same bits) g.outputs ∙
       ap₂ (λ n ls. word (evaluated h (inputs_of order n a b)) ls) as_wide same.2
 
-pub operand_order_is_free : OperandOrderIsFree
-operand_order_is_free g h order same = (
+pub order_of_operands_is_free : OrderOfOperandsIsFree
+order_of_operands_is_free g h order same = (
   λ m a b la lb. sym (value_same g h same order a b) ∙ m a b (subst (λ n. a < 2 ^ n) (sym (as_wide g h same)) la) (subst (λ n. b < 2 ^ n) (sym (as_wide g h same)) lb) ∙
       ap (λ os. a * b % 2 ^ length os) same.2,
   λ m a b la lb. value_same g h same order a b ∙ m a b (subst (λ n. a < 2 ^ n) (as_wide g h same) la) (subst (λ n. b < 2 ^ n) (as_wide g h same) lb) ∙
