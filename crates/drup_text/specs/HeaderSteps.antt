@@ -24,13 +24,16 @@ pub record Leaves (old new : Lines) (left : List ℕ) (after : Option (List ℕ)
 -- so many pairs pass
 abbrev pub TakesPairs : Aig → ℕ → Lines → Lines → List ℕ → Option (List ℕ) → List (Lit × Lit) → Type 0
 TakesPairs g count old new left after pairs =
-    (body : List ℕ) × Behind IsPairLine (IsPairStep g) (IsLongIn old left) (λ n rest. (n ≡ 0) × (rest ≡ body)) pairs count left × Leaves old new left after body
+    (body : List ℕ) ×
+    Behind IsPairLine (IsPairStep g) (IsLongIn old left) (λ n rest. (n ≡ 0) × (rest ≡ body)) pairs count left ×
+    Leaves old new left after body
 
 abbrev pub TakesCut : Aig → Lines → Lines → List ℕ → Option (List ℕ) → Option Cut → Type 0
 TakesCut g old new left after cut = (body : List ℕ) × PassesCut g (IsLongIn old left) left cut body × Leaves old new left after body
 
 abbrev pub IsPairsRefusal : Aig → ℕ × ℕ → Lines → Option (List ℕ) → ℕ → ℕ → StartFail → Type 0
-IsPairsRefusal g size lines left before now f = IsCause (λ bytes. IsRefusedPairs nothing_later g (IsLongIn lines bytes) size bytes) left before now f.line f.why
+IsPairsRefusal g size lines left before now f =
+    IsCause (λ bytes. IsRefusedPairs nothing_later g (IsLongIn lines bytes) size bytes) left before now f.line f.why
 
 abbrev pub IsCutRefusal : Aig → Lines → Option (List ℕ) → ℕ → ℕ → StartFail → Type 0
 IsCutRefusal g lines left before now f = IsCause (λ bytes. IsRefusedCut nothing_later g (IsLongIn lines bytes) bytes) left before now f.line f.why

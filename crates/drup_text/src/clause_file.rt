@@ -115,7 +115,8 @@ impl ClauseFile {
         ensures ended { IfOk result (λ r. IfNone r (self.new.ended ≡ true)) }
         ensures ended_again { self.old.failed ≡ None → self.old.ended ≡ true → result ≡ Ok None }
         ensures failed { self.new.failed ≡ result_err result }
-        ensures failed_again { IfSome self.old.failed (λ fail. result ≡ Err fail) }
+        ensures failed_again { IfSome self.old.failed (λ fail.
+            (result ≡ Err fail) × (self.new.number ≡ self.old.number)) }
         ensures lengths { self.new.lines.lengths ≡ self.old.lines.lengths }
         ensures piece { FitsPiece self.new.lines }
         ensures reads { Reads Clauses (D.seen desk.old) (D.seen desk.new) result }

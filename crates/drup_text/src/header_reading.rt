@@ -6,11 +6,11 @@ ghost use Rattle.drup_text.specs.ClauseTexts.{IsCutLine, IsPairLine};
 ghost use Rattle.drup_text.specs.LineTexts.{IsCutSize, IsCutTextOf, IsPairOf, IsPairTextOf, IsRefusedText, IsSizeInRange};
 ghost use Rattle.drup_text.specs.Steps.{TakesPair, TakesSize, TakesTwo};
 
-use crate::known::is_known;
 use crate::numbers::{number, spaced_number};
 use graph_core::{Graph, Lit};
 use mv_desk::LineFail;
 use mv_text::Scanner;
+use ripple_graft::is_known;
 
 // The first column of a cut and the number of its pairs, or that there is no cut.
 //

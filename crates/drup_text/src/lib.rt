@@ -16,7 +16,6 @@ mod clause_reading;
 mod fault;
 mod header;
 mod header_reading;
-mod known;
 mod laws;
 mod line_reading;
 mod needed;

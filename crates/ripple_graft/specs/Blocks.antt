@@ -144,4 +144,5 @@ BlocksAdd = (g : Aig) (blocks : List Block) (σ : Assignment) → IsEvaluation (
 -- The output of a block's i-th column is its i-th new output: the sum there, or the last carry behind the sums.
 abbrev pub BlockOutputsAre : Type 0
 BlockOutputsAre = (g : Aig) (blocks : List Block) → IsWellFormed g → AreBlocks (without_cut g) blocks →
-    All (λ p. (i : ℕ) → i < span p.1 → slice_get (new_outputs (with_blocks g blocks)) (p.1.cut.lo + i) ≡ slice_get (block_outputs p.0 p.1) i) (placed g.max blocks)
+    All (λ p. (i : ℕ) → i < span p.1 → slice_get (new_outputs (with_blocks g blocks)) (p.1.cut.lo + i) ≡
+    slice_get (block_outputs p.0 p.1) i) (placed g.max blocks)

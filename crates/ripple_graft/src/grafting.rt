@@ -36,6 +36,14 @@ pub fn graft<'a>(alloc: Global, graph: &'a Graph, cut: &Cut) -> Result<Extended<
     }
 }
 
+/// Whether a literal is a constant, or one of an input or a gate.
+pub fn is_known(graph: &Graph, lit: Lit) -> bool
+    ensures { IsTrue result ↔ IsKnown (without_cut graph.now) lit }
+{
+    let v = lit.var();
+    v == 0 || is_defined(graph, v)
+}
+
 fn has_columns(graph: &Graph, cut: &Cut) -> bool
     ensures value { IsTrue result ↔ HasColumns graph.now cut.now }
     ensures few { HasColumns graph.now cut.now → length cut.now.pairs ≤ 256 }
@@ -60,13 +68,6 @@ fn first_unknown(graph: &Graph, pairs: &[(Lit, Lit)]) -> Option<u32>
         }
     }
     None
-}
-
-fn is_known(graph: &Graph, lit: Lit) -> bool
-    ensures { IsTrue result ↔ IsKnown (without_cut graph.now) lit }
-{
-    let v = lit.var();
-    v == 0 || is_defined(graph, v)
 }
 
 fn is_defined(graph: &Graph, v: u32) -> bool

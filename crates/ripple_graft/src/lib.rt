@@ -19,7 +19,7 @@ mod laws;
 pub use cut::{Cut, Pairs};
 pub use extended::Extended;
 pub use fault::GraftFail;
-pub use grafting::graft;
+pub use grafting::{graft, is_known};
 pub use laws::{
     block_outputs_are, blocks_add, blocks_are_joined, blocks_extend, cut_is_block, cut_replaces,
     evaluation_goes_on, evaluations_extend, front_evaluates, graft_extends, outputs_are_new,
