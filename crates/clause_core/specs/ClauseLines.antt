@@ -67,16 +67,19 @@ pub record IsGoalRefusal (e : Extended) (lines : List ClauseLine) (column : ℕ)
 
 -- Whichever one of several clauses with one set is removed, the same clauses follow.
 abbrev pub RemovalIsFree : Type 0
-RemovalIsFree = (live : List Clause) (c : Clause) (one other : List Clause) → Removes live c one → Removes live c other → (d : Clause) → IsRup one d → IsRup other d
+RemovalIsFree = (live : List Clause) (c : Clause) (one other : List Clause) → Removes live c one →
+    Removes live c other → (d : Clause) → IsRup one d → IsRup other d
 
 -- Where each clause holds at an assignment, each that lawful lines add does.
 abbrev pub AddedHold : Type 0
-AddedHold = (live : List Clause) (lines : List ClauseLine) (σ : Assignment) → All (λ c. HasSigns c × (holds σ c ≡ true)) live → All (λ x. HasSigns (clause_in x)) lines →
+AddedHold = (live : List Clause) (lines : List ClauseLine) (σ : Assignment) →
+    All (λ c. HasSigns c × (holds σ c ≡ true)) live → All (λ x. HasSigns (clause_in x)) lines →
     AreLawfulClauses live lines → All (λ c. HasSigns c × (holds σ c ≡ true)) (added lines)
 
 -- The clauses that lawful lines add to those of an extended graph's gates hold on every evaluation.
 abbrev pub AddedAreFacts : Type 0
-AddedAreFacts = (e : Extended) (lines : List ClauseLine) → All (λ x. IsClauseInRange e.max (clause_in x)) lines → AreLawfulClauses (gate_clauses e.gates) lines →
+AddedAreFacts = (e : Extended) (lines : List ClauseLine) → All (λ x. IsClauseInRange e.max (clause_in x)) lines →
+    AreLawfulClauses (gate_clauses e.gates) lines →
     All (λ c. Always e.gates (λ σ. holds σ c ≡ true)) (added lines)
 
 -- A goal that a clause shows holds where the clause does.

@@ -49,7 +49,8 @@ FixpointLeavesNoChain = (live : List Clause) (standing assumed : List ℤ) (chai
 
 -- Whatever is assumed, unit propagation ends: a chain refutes it, or it extends to a fixpoint.
 abbrev pub PropagationEnds : Type 0
-PropagationEnds = (live : List Clause) (assumed : List ℤ) → IsRefuted live assumed ⊎ ((standing : List ℤ) × IsFixpoint live standing × IsSubset assumed standing)
+PropagationEnds = (live : List Clause) (assumed : List ℤ) → IsRefuted live assumed ⊎
+    ((standing : List ℤ) × IsFixpoint live standing × IsSubset assumed standing)
 
 -- A clause follows by reverse unit propagation, or it doesn't.
 abbrev pub RupIsDecided : Type 0

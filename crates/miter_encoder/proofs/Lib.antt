@@ -1,4 +1,5 @@
 pub mod Collecting
 pub mod Appending
 pub mod GoalLists
+pub mod GateRanges
 pub mod Meanings

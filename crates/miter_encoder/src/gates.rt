@@ -3,7 +3,7 @@ ghost use Rattle.std.specs.Prelude.{◌≡◌, ◌↔◌, ◌<◌, ◌^◌, [], 
 ghost use Rattle.std.specs.List.{All, cons_option, filter_map};
 ghost use Rattle.graph_core.specs.Graph.{IsEvaluation};
 ghost use Rattle.graph_core.specs.Graph.Assignments.{Assignment};
-ghost use Rattle.clause_core.specs.Clause.{Satisfies};
+ghost use Rattle.clause_core.specs.Clause.{IsClauseInRange, Satisfies};
 ghost use Rattle.clause_core.specs.GateClauses.{clause_of as clause_by, gate_clauses as clauses_by, gate_literals};
 ghost use Rattle.clause_core.specs.Likeness.{AreSameSets};
 ghost use Rattle.miter_encoder.specs.Encoding.{Appends};
@@ -14,11 +14,12 @@ use graph_core::{Gate, Lit, Memory};
 use ripple_graft::Extended;
 use std::alloc::Global;
 
-/// The clauses of all gates of an extended graph.
+/// The clauses of all gates of an extended graph. Their variables are those of the graph.
 pub fn gate_clauses(alloc: Global, extended: &Extended<'_>) -> Result<ClauseList, Memory>
     ensures sets { IfOk result (λ clauses. AreSameSets clauses (clauses_by extended.now.gates)) }
     ensures meaning { IfOk result (λ clauses. (σ : Assignment) →
         Satisfies σ clauses ↔ IsEvaluation extended.now.gates σ) }
+    ensures in_range { IfOk result (λ clauses. All (IsClauseInRange extended.now.max) clauses) }
 {
     // no variable is above the greatest one
     let _greatest = extended.max();

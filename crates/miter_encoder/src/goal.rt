@@ -6,7 +6,7 @@ use graph_core::Memory;
 use std::alloc::Global;
 use std::marker::Model;
 
-/// A goal of a replaced column: a clause, unless a constant that is true has met it. Then it is empty.
+/// A goal of a replaced column: a clause, unless a constant that is true has met it.
 #[derive(Debug, Drop)]
 pub struct Goal {
     pub column: u32,
