@@ -45,7 +45,8 @@ pub record IsKept (gates : List Gate) (s : Standing) (goals : List Goal) (shown 
 
 -- the clause shows each goal that has all its literals; what was shown stays so
 abbrev pub ShowsBy : Clause → List Goal → List Bool → List Bool → Type 0
-ShowsBy c goals old new = (i : ℕ) (g : Goal) → i < length goals → (shown_at new i ≡ true) ↔ ((shown_at old i ≡ true) ⊎ IsSubset c (slice_index_or goals i g).clause)
+ShowsBy c goals old new = (i : ℕ) (g : Goal) → i < length goals → (shown_at new i ≡ true) ↔
+    ((shown_at old i ≡ true) ⊎ IsSubset c (slice_index_or goals i g).clause)
 
 -- so far among the first n goals
 pub record ShowsFirst (c : Clause) (goals : List Goal) (old new : List Bool) (n : ℕ) : Type 0 where
@@ -88,7 +89,8 @@ pub record IsUnshown (goals : List Goal) (shown : List Bool) (column i : ℕ) : 
 -- Among the first n goals: the least column of one that is neither met nor shown, or there is none.
 abbrev pub IsLeastFirst : List Goal → List Bool → ℕ → Option ℕ → Type 0
 IsLeastFirst goals shown n None = (i column : ℕ) → i < n → IsUnshown goals shown column i → ⊥
-IsLeastFirst goals shown n (Some least) = ((i : ℕ) × (i < n) × IsUnshown goals shown least i) × ((i column : ℕ) → i < n → IsUnshown goals shown column i → least ≤ column)
+IsLeastFirst goals shown n (Some least) = ((i : ℕ) × (i < n) × IsUnshown goals shown least i) ×
+    ((i column : ℕ) → i < n → IsUnshown goals shown column i → least ≤ column)
 
 -- the same among all goals
 abbrev pub IsLeastUnshown : List Goal → List Bool → Option ℕ → Type 0

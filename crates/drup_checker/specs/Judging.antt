@@ -9,5 +9,7 @@ use Rattle.drup_checker.specs.Steps.{HasShown}
 
 -- With right marks, none means that the lines show every goal, and a column that the goals are refused there.
 pub record GoalsAreJudged : Type 0 where
-  pub shown : (e : Extended) (k : Checking) (lines : List ClauseLine) → AreGoalsOf e k.goals → HasShown k lines → IsLeastUnshown k.goals k.shown None → AreGoalsShown lines e
-  pub refused : (e : Extended) (k : Checking) (lines : List ClauseLine) (column : ℕ) → AreGoalsOf e k.goals → HasShown k lines → IsLeastUnshown k.goals k.shown (Some column) → IsGoalRefusal e lines column
+  pub shown : (e : Extended) (k : Checking) (lines : List ClauseLine) → AreGoalsOf e k.goals → HasShown k lines →
+      IsLeastUnshown k.goals k.shown None → AreGoalsShown lines e
+  pub refused : (e : Extended) (k : Checking) (lines : List ClauseLine) (column : ℕ) → AreGoalsOf e k.goals →
+      HasShown k lines → IsLeastUnshown k.goals k.shown (Some column) → IsGoalRefusal e lines column

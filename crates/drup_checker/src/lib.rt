@@ -1,8 +1,9 @@
 //! Clause certificates: which clauses follow from the live ones, and which goals they show.
 //!
 //! A `Checker` begins with the clauses of some gates. `add` takes a clause exactly where it follows by reverse unit
-//! propagation, `delete` one exactly where a live clause has its set, and `unshown` is the least column with a goal that
-//! is neither met nor shown. Each live clause holds on every evaluation of the gates. Only `new` and `add` take memory.
+//! propagation, `delete` one exactly where a live clause has its set, and `unshown` is the least column with a goal
+//! that is neither met nor shown. Each live clause holds on every evaluation of the gates. Only `new` and `add` take
+//! memory.
 //!
 //! *Follows*, *chain*, *live*, *shown*: by `specs/UnitPropagation.antt` and `specs/ClauseLines.antt` of `clause_core`.
 #![tactic(auto)]

@@ -48,7 +48,8 @@ FirstFrontier = (e : Extended) → IsFrontier e [] [] × ((s : Sides) (σ : Assi
 
 -- A column that isn't added yet can be.
 abbrev pub AddingLeavesFrontier : Type 0
-AddingLeavesFrontier = (e : Extended) (added eliminated : List ℕ) (k : ℕ) → IsFrontier e added eliminated → k < length e.graph.outputs → has added k ≡ false → IsFrontier e (k ∷ added) eliminated
+AddingLeavesFrontier = (e : Extended) (added eliminated : List ℕ) (k : ℕ) → IsFrontier e added eliminated →
+    k < length e.graph.outputs → has added k ≡ false → IsFrontier e (k ∷ added) eliminated
 
 -- A gate that isn't eliminated yet can be, where its readers are and the columns whose output it is were added.
 abbrev pub EliminatingLeavesFrontier : Type 0
@@ -60,7 +61,8 @@ EliminatingLeavesFrontier = (e : Extended) (added eliminated : List ℕ) (v : �
 
 -- Adding a column adds its value to the function: none of its variables is eliminated.
 abbrev pub AddingAddsColumn : Type 0
-AddingAddsColumn = (e : Extended) (s : Sides) (added eliminated : List ℕ) (k : ℕ) (o : Lit) (σ : Assignment) → IsExtension e → ReadInputs e.graph s → IsFrontier e added eliminated →
+AddingAddsColumn = (e : Extended) (s : Sides) (added eliminated : List ℕ) (k : ℕ) (o : Lit) (σ : Assignment) →
+    IsExtension e → ReadInputs e.graph s → IsFrontier e added eliminated →
     slice_get (new_outputs e) k ≡ Some o → has added k ≡ false →
     frontier_value e s (k ∷ added) eliminated σ ≡ (frontier_value e s added eliminated σ + column_value e s k o σ) % modulus e
 
@@ -72,6 +74,7 @@ EliminatingComputesGate = (e : Extended) (s : Sides) (added eliminated : List �
 
 -- The order of the columns and of the gates doesn't matter.
 abbrev pub FrontierIsSet : Type 0
-FrontierIsSet = (e : Extended) (added eliminated columns gates : List ℕ) → ((k : ℕ) → has added k ≡ has columns k) → ((v : ℕ) → has eliminated v ≡ has gates v) →
+FrontierIsSet = (e : Extended) (added eliminated columns gates : List ℕ) → ((k : ℕ) → has added k ≡ has columns k) →
+    ((v : ℕ) → has eliminated v ≡ has gates v) →
     ((s : Sides) (σ : Assignment) → frontier_value e s added eliminated σ ≡ frontier_value e s columns gates σ) ×
     (AllPairs ◌≢◌ columns → AllPairs ◌≢◌ gates → IsFrontier e added eliminated → IsFrontier e columns gates)

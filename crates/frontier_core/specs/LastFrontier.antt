@@ -32,8 +32,10 @@ LastFrontierIsError = (e : Extended) (s : Sides) (added eliminated : List ℕ) (
 
 -- So at given values of the inputs.
 abbrev pub LastFrontierAtInputs : Type 0
-LastFrontierAtInputs = (e : Extended) (s : Sides) (added eliminated : List ℕ) (bits : List Bool) → IsEnd e s added eliminated → length bits ≡ length e.graph.inputs →
-    frontier_value e s added eliminated (of_inputs e.graph.inputs bits) ≡ difference (modulus e) (value_at_inputs e.graph bits) (claimed (modulus e) s (evaluated e.graph bits))
+LastFrontierAtInputs = (e : Extended) (s : Sides) (added eliminated : List ℕ) (bits : List Bool) →
+    IsEnd e s added eliminated → length bits ≡ length e.graph.inputs →
+    frontier_value e s added eliminated (of_inputs e.graph.inputs bits) ≡
+    difference (modulus e) (value_at_inputs e.graph bits) (claimed (modulus e) s (evaluated e.graph bits))
 
 -- It is 0 at every assignment exactly where the graph meets the claim.
 abbrev pub LastFrontierDecides : Type 0

@@ -45,7 +45,8 @@ pub record IsLeastDifferenceAt (g : Aig) (s : Sides) (bits : List Bool) : Type 0
 pub record IsLeastNonzero (f : Assignment → ℕ) (inputs : List Lit) (bits : List Bool) : Type 0 where
   pub size : length bits ≡ length inputs
   pub nonzero : f (of_inputs inputs bits) ≢ 0
-  pub least : (other : List Bool) → length other ≡ length inputs → f (of_inputs inputs other) ≢ 0 → (other ≡ bits) ⊎ Precedes (ones_from 0 bits) (ones_from 0 other)
+  pub least : (other : List Bool) → length other ≡ length inputs → f (of_inputs inputs other) ≢ 0 → (other ≡ bits) ⊎
+      Precedes (ones_from 0 bits) (ones_from 0 other)
 
 -- The least values at which the last frontier isn't 0 are the least difference.
 abbrev pub LastFrontierGivesLeast : Type 0
@@ -93,11 +94,13 @@ pub record AreInputs (ls : List Lit) : Type 0 where
 -- A term of a polynomial that no other one precedes, by the positions of their variables among the inputs.
 pub record IsLeastTerm (ls : List Lit) (p : Polynomial) (t : Term) : Type 0 where
   pub member : Contains p t
-  pub least : All (λ s. (ones_of (has t.variables) ls ≡ ones_of (has s.variables) ls) ⊎ Precedes (ones_of (has t.variables) ls) (ones_of (has s.variables) ls)) p
+  pub least : All (λ s. (ones_of (has t.variables) ls ≡ ones_of (has s.variables) ls) ⊎
+      Precedes (ones_of (has t.variables) ls) (ones_of (has s.variables) ls)) p
 
 -- A normal form over the inputs isn't 0 at the assignment of just a least term's variables, and 0 at each that comes before it.
 abbrev pub LeastTermIsLeast : Type 0
-LeastTermIsLeast = (m : ℕ) (ls : List Lit) (p : Polynomial) (t : Term) → IsNormalForm m p → IsOverInputs ls p → All (λ l. (l.0 % 2 ≡ 0) × (0 < variable_of l)) ls → IsLeastTerm ls p t →
+LeastTermIsLeast = (m : ℕ) (ls : List Lit) (p : Polynomial) (t : Term) → IsNormalForm m p → IsOverInputs ls p →
+    All (λ l. (l.0 % 2 ≡ 0) × (0 < variable_of l)) ls → IsLeastTerm ls p t →
     (value m p (has t.variables) ≡ t.coefficient) ×
     ((σ : Assignment) → value m p σ ≢ 0 → (ones_of (has t.variables) ls ≡ ones_of σ ls) ⊎ Precedes (ones_of (has t.variables) ls) (ones_of σ ls))
 
@@ -112,7 +115,8 @@ LeastTermExists = (ls : List Lit) (p : Polynomial) → 0 < length p → (t : Ter
 
 -- The order of positions is total and transitive.
 abbrev pub PrecedesIsAnOrder : Type 0
-PrecedesIsAnOrder = ((xs ys : List ℕ) → (xs ≡ ys) ⊎ (Precedes xs ys ⊎ Precedes ys xs)) × ((xs ys zs : List ℕ) → Precedes xs ys → Precedes ys zs → Precedes xs zs)
+PrecedesIsAnOrder = ((xs ys : List ℕ) → (xs ≡ ys) ⊎ (Precedes xs ys ⊎ Precedes ys xs)) ×
+    ((xs ys zs : List ℕ) → Precedes xs ys → Precedes ys zs → Precedes xs zs)
 
 -- Of two lists of truth values with as many ones, the one that is true at their first difference has the lesser positions.
 abbrev pub FirstDifferencePrecedes : Type 0

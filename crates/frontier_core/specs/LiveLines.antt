@@ -13,7 +13,8 @@ use Rattle.ripple_graft.specs.Extension.{IsExtension}
 abbrev pub AxiomsAreLive : Type 0
 AxiomsAreLive = (e : Extended) → IsExtension e →
     ((x : Gate) → Contains e.gates x → IsLive (axioms e).live x.v × ((σ : Assignment) → value_of (axioms e).live x.v σ ≡ (gate_axiom (modulus e) x).value σ)) ×
-    ((c : Column) → Contains e.replaced c → IsLive (axioms e).live (e.max + 1 + c.number) × ((σ : Assignment) → value_of (axioms e).live (e.max + 1 + c.number) σ ≡ (column_axiom e c).value σ))
+    ((c : Column) → Contains e.replaced c → IsLive (axioms e).live (e.max + 1 + c.number) ×
+    ((σ : Assignment) → value_of (axioms e).live (e.max + 1 + c.number) σ ≡ (column_axiom e c).value σ))
 
 -- A new line is live under its id, and each line of another id is as it was.
 abbrev pub NewLineIsLive : Type 0
@@ -34,7 +35,8 @@ LinesGrow = (m : ℕ) (l : Ledger) (xs : List Line) (x : Line) → AreLawfulLine
 
 -- A line times a polynomial, as a combination.
 abbrev pub CombinesOne : Type 0
-CombinesOne = (m : ℕ) (live : List LiveLine) (new other : ℕ) (c d : Polynomial) → ((σ : Assignment) → value m d σ ≡ (value_of live other σ * value m c σ) % m) →
+CombinesOne = (m : ℕ) (live : List LiveLine) (new other : ℕ) (c d : Polynomial) →
+    ((σ : Assignment) → value m d σ ≡ (value_of live other σ * value m c σ) % m) →
     IsEqual m live (Combination new (record { id = other; factor = c } ∷ []) d)
 
 -- A line and another one times a polynomial.

@@ -36,7 +36,8 @@ pub record AreSpare (m : ℕ) (lines : List LiveLine) (parts : List Part) : Type
   pub nonzero : All (λ p. IsNotZero m p.factor) parts
 
 -- The parts of a group: at every assignment they add up to what the gap is now minus what it was at the group's start.
-pub record IsPending (e : Extended) (s : Sides) (live : List LiveLine) (start : Assignment → ℕ) (f : Taken) (rest : Assignment → ℕ) (parts : List Part) : Type 0 where
+pub record IsPending (e : Extended) (s : Sides) (live : List LiveLine) (start : Assignment → ℕ) (f : Taken)
+    (rest : Assignment → ℕ) (parts : List Part) : Type 0 where
   pub sum : (σ : Assignment) → (start σ + combined (modulus e) live parts σ) % modulus e ≡ gap e s f.added rest σ
   pub spare : AreSpare (modulus e) live parts
   pub taken : All (λ p. IsTaken e f p.id) parts
@@ -98,4 +99,5 @@ GainGrows = (e : Extended) (s : Sides) (before added : List ℕ) (k : ℕ) (o : 
 -- So the columns of a group, plus the rest before, minus the rest now are the gap now minus the gap before.
 abbrev pub GroupStates : Type 0
 GroupStates = (e : Extended) (s : Sides) (before added : List ℕ) (gained first rest : Assignment → ℕ) → IsGained e s before added gained →
-    (σ : Assignment) → (gained σ + difference (modulus e) (first σ) (rest σ)) % modulus e ≡ difference (modulus e) (gap e s added rest σ) (gap e s before first σ)
+    (σ : Assignment) → (gained σ + difference (modulus e) (first σ) (rest σ)) % modulus e ≡
+    difference (modulus e) (gap e s added rest σ) (gap e s before first σ)

@@ -42,7 +42,8 @@ PlainOrderLeavesFrontiers = (e : Extended) (vs : List ℕ) (t : ℕ) → IsExten
 
 -- Whatever gates were eliminated before: where all that come before a gate in the plain order are, its readers are.
 abbrev pub PlainOrderFinishes : Type 0
-PlainOrderFinishes = (e : Extended) (eliminated vs : List ℕ) (t v : ℕ) → IsAcyclic e.gates → IsPlainOrder e.gates vs → All (λ w. has eliminated w ≡ true) (take t vs) →
+PlainOrderFinishes = (e : Extended) (eliminated vs : List ℕ) (t v : ℕ) → IsAcyclic e.gates → IsPlainOrder e.gates vs →
+    All (λ w. has eliminated w ≡ true) (take t vs) →
     slice_get vs t ≡ Some v → All (λ x. (variable_of x.left ≡ v) ⊎ (variable_of x.right ≡ v) → has eliminated x.v ≡ true) e.gates
 
 -- Each frontier of the plain order has one size.

@@ -24,7 +24,8 @@ IsRestLine e s added line rest = (σ : Assignment) → line σ ≡ difference (m
 
 -- At first the rest is 0, and so is the line.
 abbrev pub RestLineStarts : Type 0
-RestLineStarts = (e : Extended) (s : Sides) (line rest : Assignment → ℕ) → ((σ : Assignment) → line σ ≡ 0) → ((σ : Assignment) → rest σ ≡ 0) → IsRestLine e s [] line rest
+RestLineStarts = (e : Extended) (s : Sides) (line rest : Assignment → ℕ) → ((σ : Assignment) → line σ ≡ 0) →
+    ((σ : Assignment) → rest σ ≡ 0) → IsRestLine e s [] line rest
 
 -- A column adds 2 ^ k times its old output minus its new one to the line: nothing, where they are one literal.
 abbrev pub AddingKeepsRestLine : Type 0
@@ -37,7 +38,8 @@ AddingKeepsRestLine = (e : Extended) (s : Sides) (added : List ℕ) (k : ℕ) (o
 
 -- Eliminating a gate adds its axiom times minus the quotient by its variable: nothing, where the quotient is 0.
 abbrev pub EliminatingKeepsRestLine : Type 0
-EliminatingKeepsRestLine = (e : Extended) (s : Sides) (added : List ℕ) (x : Gate) (line rest next : Assignment → ℕ) → IsRestLine e s added line rest → 0 < x.v →
+EliminatingKeepsRestLine = (e : Extended) (s : Sides) (added : List ℕ) (x : Gate) (line rest next : Assignment → ℕ) →
+    IsRestLine e s added line rest → 0 < x.v →
     ((σ : Assignment) → next σ ≡ substituted (modulus e) x.v (gate_value x) rest σ) →
     ((more : Assignment → ℕ) →
     ((σ : Assignment) → more σ ≡ (line σ + (gate_axiom (modulus e) x).value σ * difference (modulus e) 0 (quotient (modulus e) x.v rest σ)) % modulus e) →
@@ -46,12 +48,14 @@ EliminatingKeepsRestLine = (e : Extended) (s : Sides) (added : List ℕ) (x : Ga
 
 -- At last the part is the specification, so the line is the specification minus the rest.
 abbrev pub RestLineEnds : Type 0
-RestLineEnds = (e : Extended) (s : Sides) (added : List ℕ) (line rest : Assignment → ℕ) → ((k : ℕ) → k < length e.graph.outputs → has added k ≡ true) → IsRestLine e s added line rest →
+RestLineEnds = (e : Extended) (s : Sides) (added : List ℕ) (line rest : Assignment → ℕ) →
+    ((k : ℕ) → k < length e.graph.outputs → has added k ≡ true) → IsRestLine e s added line rest →
     (σ : Assignment) → line σ ≡ difference (modulus e) (specification e s σ) (rest σ)
 
 -- So where the rest is 0, the line has the specification's value.
 abbrev pub ZeroRestCloses : Type 0
-ZeroRestCloses = (e : Extended) (s : Sides) (added : List ℕ) (line rest : Assignment → ℕ) → ((k : ℕ) → k < length e.graph.outputs → has added k ≡ true) → IsRestLine e s added line rest →
+ZeroRestCloses = (e : Extended) (s : Sides) (added : List ℕ) (line rest : Assignment → ℕ) →
+    ((k : ℕ) → k < length e.graph.outputs → has added k ≡ true) → IsRestLine e s added line rest →
     ((σ : Assignment) → rest σ ≡ 0) → (σ : Assignment) → line σ ≡ specification e s σ
 
 -- the lowest bits of the operands are two inputs
@@ -66,4 +70,5 @@ pub record HaveLowestBits (s : Sides) (a b : Lit) : Type 0 where
 
 -- The specification isn't 0 everywhere, so a line with its value is no line of value 0.
 abbrev pub SpecificationIsNotZero : Type 0
-SpecificationIsNotZero = (e : Extended) (s : Sides) (a b : Lit) → HaveLowestBits s a b → 0 < length e.graph.outputs → ((σ : Assignment) → specification e s σ ≡ 0) → ⊥
+SpecificationIsNotZero = (e : Extended) (s : Sides) (a b : Lit) → HaveLowestBits s a b → 0 < length e.graph.outputs →
+    ((σ : Assignment) → specification e s σ ≡ 0) → ⊥

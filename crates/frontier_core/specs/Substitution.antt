@@ -44,7 +44,8 @@ QuotientSplits = (m v : ℕ) (f : Assignment → ℕ) (σ : Assignment) → 0 < 
 -- Where a function has the frontier's value, and another one has its value with the gate's product in place of the gate's
 -- variable, the other one has the next frontier's value.
 abbrev pub EliminatingSubstitutes : Type 0
-EliminatingSubstitutes = (e : Extended) (s : Sides) (added eliminated : List ℕ) (x : Gate) (f h : Assignment → ℕ) → IsExtension e → IsFrontier e added eliminated →
+EliminatingSubstitutes = (e : Extended) (s : Sides) (added eliminated : List ℕ) (x : Gate) (f h : Assignment → ℕ) →
+    IsExtension e → IsFrontier e added eliminated →
     Contains e.gates x → has eliminated x.v ≡ false →
     ((σ : Assignment) → f σ ≡ frontier_value e s added eliminated σ) →
     ((σ : Assignment) → h σ ≡ substituted (modulus e) x.v (gate_value x) f σ) →
@@ -52,7 +53,8 @@ EliminatingSubstitutes = (e : Extended) (s : Sides) (added eliminated : List ℕ
 
 -- The same, where the other one is told by a change of the variable's value.
 abbrev pub EliminatingReplaces : Type 0
-EliminatingReplaces = (e : Extended) (s : Sides) (added eliminated : List ℕ) (x : Gate) (f h : Assignment → ℕ) → IsExtension e → IsFrontier e added eliminated →
+EliminatingReplaces = (e : Extended) (s : Sides) (added eliminated : List ℕ) (x : Gate) (f h : Assignment → ℕ) →
+    IsExtension e → IsFrontier e added eliminated →
     Contains e.gates x → has eliminated x.v ≡ false →
     ((σ : Assignment) → f σ ≡ frontier_value e s added eliminated σ) →
     ((σ : Assignment) (b : Bool) → gate_value x σ ≡ bit b → h σ ≡ f (set_to x.v b σ)) →
@@ -67,11 +69,13 @@ SplittingSubstitutes = (m v : ℕ) (p c d : Polynomial) → 0 < m → 0 < v → 
 
 -- A product with the variable v is v times the product without it.
 abbrev pub VariableIsTakenOut : Type 0
-VariableIsTakenOut = (v : ℕ) (vs : List ℕ) → (has (without v vs) v ≡ false) × (has vs v ≡ true → (σ : Assignment) → product σ vs ≡ bit (variable σ v) * product σ (without v vs))
+VariableIsTakenOut = (v : ℕ) (vs : List ℕ) → (has (without v vs) v ≡ false) ×
+    (has vs v ≡ true → (σ : Assignment) → product σ vs ≡ bit (variable σ v) * product σ (without v vs))
 
 -- A normal form whose value doesn't change with a variable doesn't have the variable.
 abbrev pub UnusedVariableIsAbsent : Type 0
-UnusedVariableIsAbsent = (m v : ℕ) (p : Polynomial) → 0 < v → IsNormalForm m p → ((σ : Assignment) → value m p (set_to v true σ) ≡ value m p (set_to v false σ)) → IsFreeOf v p
+UnusedVariableIsAbsent = (m v : ℕ) (p : Polynomial) → 0 < v → IsNormalForm m p →
+    ((σ : Assignment) → value m p (set_to v true σ) ≡ value m p (set_to v false σ)) → IsFreeOf v p
 
 -- So where it has the variable, its quotient isn't 0 everywhere.
 abbrev pub UsedVariableHasQuotient : Type 0

@@ -22,7 +22,8 @@ pub record AreGroupLines (m : ℕ) (lines : List LiveLine) (ids : List ℕ) (f :
 
 -- None before the first group: the gap is 0.
 abbrev pub TotalStarts : Type 0
-TotalStarts = (e : Extended) (s : Sides) (live : List LiveLine) (rest : Assignment → ℕ) → ((σ : Assignment) → rest σ ≡ 0) → AreGroupLines (modulus e) live [] (gap e s [] rest)
+TotalStarts = (e : Extended) (s : Sides) (live : List LiveLine) (rest : Assignment → ℕ) →
+    ((σ : Assignment) → rest σ ≡ 0) → AreGroupLines (modulus e) live [] (gap e s [] rest)
 
 -- A new line of the gap now minus the gap before.
 abbrev pub TotalGrows : Type 0

@@ -1,16 +1,16 @@
-//! Frontiers of a multiplier's columns and gates, plans, the lines of a reduction, and the least difference: definitions
-//! with their laws.
+//! Frontiers of a multiplier's columns and gates, plans, the lines of a reduction, and the least difference:
+//! definitions with their laws.
 //!
 //! A *frontier* is a set of columns that were added and a set of gates that were eliminated. Its function is the sum of
-//! 2^k times (output k minus what column k is claimed to be) over the added columns, modulo 2 ^ the number of outputs, in
-//! which the eliminated gates are computed from the other variables (`specs/Frontier.antt`). A *plan* is a list of steps
-//! of which each leaves a frontier (`Plan`); the *plain order* eliminates gates by level (`PlainOrder`). At the end the
-//! function is the graph's value minus what it is claimed to be (`LastFrontier`), and it is 0 everywhere exactly where the
-//! graph meets the claim; else its least term gives the least difference (`LeastDifference`).
+//! 2^k times (output k minus what column k is claimed to be) over the added columns, modulo 2 ^ the number of outputs,
+//! in which the eliminated gates are computed from the other variables (`specs/Frontier.antt`). A *plan* is a list of
+//! steps of which each leaves a frontier (`Plan`); the *plain order* eliminates gates by level (`PlainOrder`). At the
+//! end the function is the graph's value minus what it is claimed to be (`LastFrontier`), and it is 0 everywhere
+//! exactly where the graph meets the claim; else its least term gives the least difference (`LeastDifference`).
 //!
 //! The *gap* is the part of the specification that the added columns make up, minus the frontier's function. Each step
-//! changes it by an axiom times a polynomial: one line may state what a group of steps added (`Pending`), and a last line
-//! adds the groups up (`Totals`).
+//! changes it by an axiom times a polynomial: one line may state what a group of steps added (`Pending`), and a last
+//! line adds the groups up (`Totals`).
 //!
 //! There is no code but the enum of steps. A law is the contract of a public function with an empty body. What hangs on
 //! the kind of claim (a product of two operands) is told by `Columns` and proved in `proofs/ColumnClaims` and

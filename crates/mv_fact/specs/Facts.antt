@@ -17,7 +17,8 @@ abbrev pub fact_at : {Fact : Type 0} → List (ℕ × Fact) → ℕ → Option F
 fact_at entries id = lookup (nat_eq id) entries
 
 -- What is known of each live fact: it is one of the table, and holds on every evaluation.
-pub record IsKept {Fact Table : Type 0} (belongs : Fact → Table → Type 0) (holds : Fact → Table → Assignment → Type 0) (gates : List Gate) (table : Table) (fact : Fact) : Type 0 where
+pub record IsKept {Fact Table : Type 0} (belongs : Fact → Table → Type 0) (holds : Fact → Table → Assignment → Type 0)
+    (gates : List Gate) (table : Table) (fact : Fact) : Type 0 where
   pub of_table : belongs fact table
   pub always : Always gates (holds fact table)
 

@@ -18,7 +18,8 @@ pub trait Fact: Drop {
     ghost stays: { (f : Self) (new old : Self.Table) → extends new old → belongs f old → belongs f new };
 
     /// A fact that holds still holds as its table grows.
-    ghost keeps: { (f : Self) (new old : Self.Table) (σ : Assignment) → extends new old → belongs f old → holds f old σ → holds f new σ };
+    ghost keeps: { (f : Self) (new old : Self.Table) (σ : Assignment) →
+        extends new old → belongs f old → holds f old σ → holds f new σ };
 
     /// A table extends itself.
     ghost same: { (t : Self.Table) → extends t t };

@@ -28,7 +28,8 @@ impl Model for LineReader {
 
     ghost Value = { Lines };
 
-    ghost view = { λ r. record { ahead = r.bytes; taken = r.taken; lengths = record { file = r.file; line = r.line } } };
+    ghost view = { λ r. record
+        { ahead = r.bytes; taken = r.taken; lengths = record { file = r.file; line = r.line } } };
 
     ghost invariant = { λ r. (r.taken ≤ r.file) × (length r.bytes < ROOM) };
 }

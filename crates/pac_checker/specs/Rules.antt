@@ -57,7 +57,8 @@ pub record IsLineOf (c : Checking) (id : ℕ) (parts : List (ℕ × Sum)) (p : S
   pub is_old : (last : ℕ) → id ≤ last → IsNewId last x → ⊥
   pub lines : operands x ≡ ids_of (parts_in c.table parts)
   pub states : stated x ≡ monomials_in c.table p
-  pub names : (σ : Assignment) → named (modulus c.table) (ledger_of c).live x σ % modulus c.table ≡ combined (modulus c.table) (ledger_of c).live (parts_in c.table parts) σ % modulus c.table
+  pub names : (σ : Assignment) → named (modulus c.table) (ledger_of c).live x σ % modulus c.table ≡
+      combined (modulus c.table) (ledger_of c).live (parts_in c.table parts) σ % modulus c.table
   pub next : (m : ℕ) (l : Ledger) → after m l x ≡ introduce m l id (monomials_in c.table p)
 
 -- each such line is lawful, and the ledger afterwards is the one after it

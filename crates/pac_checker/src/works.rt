@@ -74,7 +74,8 @@ impl<'a> Grow<Poly> for MakeSpecification<'a> {
 
     ghost can_grow = { λ work _ table. modulus table ≡ modulus_of (without_cut work.graph.now) };
 
-    ghost did = { λ work _ _ out _ _ table'. IfOk out (λ p. IsOf table' p × IsSpecification table' p (without_cut work.graph.now) work.operands.now) };
+    ghost did = { λ work _ _ out _ _ table'. IfOk out (λ p. IsOf table' p ×
+        IsSpecification table' p (without_cut work.graph.now) work.operands.now) };
 
     fn grow(&mut self, _on: &mut (), table: &mut Terms) -> Result<Poly, Memory> {
         spec_poly(self.alloc, table, self.graph, self.operands)
