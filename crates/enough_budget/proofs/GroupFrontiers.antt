@@ -31,7 +31,7 @@ use Rattle.graph_maker.specs.declared.kind.Kind.{Kind}
 use Rattle.graph_maker.specs.declared.adder.Adder.TheVariants.{Ripple}
 use Rattle.graph_maker.proofs.MadeMultiplies.{all_products, numbered}
 use Rattle.graph_maker.proofs.Places.{ArePlaced}
-use Rattle.slice_core.proofs.Cases.{by_cases}
+use Rattle.slice_finder.proofs.Cases.{by_cases}
 use Rattle.slice_core.proofs.Composition.{has_append, eliminating_part}
 use Rattle.enough_budget.proofs.Linear.{IsLinear, AreInputs}
 use Rattle.enough_budget.proofs.FewVariables.{few_variables_are_small}

@@ -10,7 +10,7 @@ use Rattle.graph_core.specs.Graph.Assignments.{Assignment, variable, literal, bi
 use Rattle.graph_core.proofs.OfGraphs.Congruence.{sum_same, product_same}
 use Rattle.graph_core.proofs.OfGraphs.LiteralValues.{literal-even, literal-odd}
 use Rattle.frontier_core.specs.Sizes.{linear_sum, bilinear_sum}
-use Rattle.slice_core.proofs.Cases.{all_join}
+use Rattle.slice_finder.proofs.Cases.{all_join}
 
 abbrev pub AreInputs : ℕ → List (ℕ × ℕ × ℕ) → Type 0
 AreInputs b products = AllByRecursion (λ x. (x.1 ≤ b) × (x.2 ≤ b)) products

@@ -11,13 +11,14 @@ use Rattle.frontier_core.proofs.LastFrontiers.{last_frontier_decides}
 use Rattle.graph_maker.specs.declared.adder.Adder.TheVariants.{Ripple}
 use Rattle.graph_maker.specs.Made.{made}
 use Rattle.graph_maker.proofs.MadeMultiplies.{made_multiplies, shape}
+use Rattle.graph_maker.proofs.OperandOrder.{order_of_operands_is_free}
 use Rattle.enough_budget.specs.MadeSlices.{MadeRestIsZero}
-use Rattle.enough_budget.proofs.Swapped.{with_gates_of, order_of_operands_is_free}
+use Rattle.enough_budget.proofs.Swapped.{with_gates_of}
 
 pub made_rest_is_zero : MadeRestIsZero
 made_rest_is_zero kind n g steps σ pos same well plan =
     let M = made kind n Ripple in
-    let multiplies = order_of_operands_is_free M g Separate same (made_multiplies kind n Ripple pos).multiplies in
+    let multiplies = (order_of_operands_is_free M g Separate same).0 (made_multiplies kind n Ripple pos).multiplies in
     let is : with_gates_of M g.gates ≡ g = λ i. record { max = same.0 i; inputs = same.1 i; outputs = same.2 i; gates = g.gates } in
     let of_made = shape kind n Ripple pos in
     let shape_is : HasMultiplierShape g = subst HasMultiplierShape is (record { inputs = of_made.inputs; some_outputs = of_made.some_outputs; outputs = of_made.outputs }) in

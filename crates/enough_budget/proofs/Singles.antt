@@ -16,7 +16,7 @@ use Rattle.graph_maker.specs.Products.{product_gates, products}
 use Rattle.graph_maker.specs.Made.{made}
 use Rattle.graph_maker.proofs.MadeMultiplies.{a_literals, b_literals, numbered}
 use Rattle.graph_maker.proofs.MadeMultiplies.{no_gates}
-use Rattle.slice_core.proofs.Cases.{all_join}
+use Rattle.slice_finder.proofs.Cases.{all_join}
 use Rattle.slice_core.specs.Groups.{groups}
 use Rattle.slice_core.specs.AdderLists.{ReadsNoGate}
 use Rattle.enough_budget.specs.MadeGroups.{MadeGroupsAreAdders}

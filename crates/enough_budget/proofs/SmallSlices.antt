@@ -33,7 +33,7 @@ use Rattle.graph_maker.specs.Made.{made}
 use Rattle.graph_maker.proofs.MadeMultiplies.{a_literals, b_literals, all_products, placed}
 use Rattle.graph_maker.proofs.MadeMultiplies.{no_gates}
 use Rattle.graph_maker.proofs.Places.{ArePlaced}
-use Rattle.slice_core.proofs.Cases.{all_join, any_cases, any_nil}
+use Rattle.slice_finder.proofs.Cases.{all_join, any_cases, any_nil}
 use Rattle.slice_core.specs.Groups.{groups, groups_of, IsWhole, AreByGroups}
 use Rattle.slice_core.proofs.Composition.{has_append}
 use Rattle.enough_budget.proofs.Network.{Cell, gates_at, size_of}

@@ -10,10 +10,10 @@ use Rattle.std.proofs.lemmas.List.Elements.{recursion_from_All, All-from_recursi
 use Rattle.graph_core.specs.declared.literal.Lit.{Lit}
 use Rattle.graph_core.specs.declared.gate.Gate.{Gate}
 use Rattle.graph_core.specs.declared.order.Order.TheVariants.{Separate}
-use Rattle.graph_core.specs.Graph.Assignments.{Assignment, literal, word}
+use Rattle.graph_core.specs.Graph.Assignments.{Assignment, literal}
 use Rattle.graph_core.specs.Graph.Literals.{variable_of, negation_of}
-use Rattle.graph_core.specs.Graph.{Aig, of_inputs, computed, rounds, evaluation, greater_first}
-use Rattle.graph_core.specs.Graph.Operands.{width, inputs_of, Multiplies, sides_of}
+use Rattle.graph_core.specs.Graph.{Aig, computed, rounds, evaluation, greater_first}
+use Rattle.graph_core.specs.Graph.Operands.{sides_of}
 use Rattle.graph_core.specs.Graph.Extended.{without_cut}
 use Rattle.graph_core.specs.Algebra.{modulus}
 use Rattle.graph_core.specs.Algebra.NormalForm.{HasSize}
@@ -27,12 +27,11 @@ use Rattle.graph_maker.specs.declared.kind.Kind.{Kind}
 use Rattle.graph_maker.specs.declared.adder.Adder.TheVariants.{Ripple}
 use Rattle.graph_core.specs.Graph.Literals.{plain, inverted}
 use Rattle.graph_maker.specs.Made.{made}
-use Rattle.slice_core.specs.Positions.{reads, is_half, is_carried}
-use Rattle.slice_core.proofs.Cases.{all_join, by_cases}
+use Rattle.slice_finder.specs.Positions.{reads, is_half, is_carried}
+use Rattle.slice_finder.proofs.Cases.{all_join, by_cases}
 use Rattle.slice_core.specs.Groups.{ends_full, ends_half, group_size, groups_of, groups, AreByGroups}
 use Rattle.slice_core.proofs.ListedGroups.{map_reverse}
 use Rattle.enough_budget.specs.MadeSlices.{MadeSlicesAreSmall}
-use Rattle.enough_budget.specs.OperandOrder.{OrderOfOperandsIsFree}
 use Rattle.enough_budget.proofs.Needed.{IsReader}
 use Rattle.enough_budget.proofs.SmallSlices.{fronts_all, fronts_first, by_groups_small}
 
@@ -291,13 +290,3 @@ made_slices_are_small kind n g steps size pos same =
     let M = made kind n Ripple in
     let is : with_gates_of M g.gates ≡ g = λ i. record { max = same.0 i; inputs = same.1 i; outputs = same.2 i; gates = g.gates } in
     subst (IsBounded n steps size) is (swapped_small kind n g.gates steps size pos same.3)
-
-pub order_of_operands_is_free : OrderOfOperandsIsFree
-order_of_operands_is_free g h order same multiplies =
-    let is : with_gates_of g h.gates ≡ h = λ i. record { max = same.0 i; inputs = same.1 i; outputs = same.2 i; gates = h.gates } in
-    let pairs = paired g.gates h.gates same.3 in
-    subst (λ k. Multiplies k order) is
-    (λ a b low high.
-    let bits = of_inputs g.inputs (inputs_of order (width g) a b) in
-    ap (λ gs. word (evaluation gs bits) g.outputs) (sym pairs.second) ∙ ap (λ τ. word τ g.outputs) (sym (evaluation_same pairs.pairs pairs.same bits)) ∙
-    ap (λ gs. word (evaluation gs bits) g.outputs) pairs.first ∙ multiplies a b low high)

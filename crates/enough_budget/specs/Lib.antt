@@ -1,6 +1,5 @@
--- To be read by whoever trusts the contracts: all five.
+-- To be read by whoever trusts the contracts: all four.
 pub mod FewVariables
-pub mod OperandOrder
 pub mod MadeGroups
 pub mod MadeSlices
 pub mod Budgets

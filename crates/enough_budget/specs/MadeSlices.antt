@@ -22,16 +22,19 @@ use Rattle.slice_planner.specs.Slices.{IsSlicePlan}
 abbrev pub MadeSlicesAreSmall : Type 0
 MadeSlicesAreSmall = (kind : Kind) (n : ℕ) (g : Aig) (steps : List Step) (size : ℕ) → 0 < n → SameUpToOperands (made kind n Ripple) g →
     AreSteps (without_cut g) nothing steps → AreByGroups (groups g.gates) (taken nothing steps).eliminated →
-    HasSize (modulus (without_cut g)) (frontier_value (without_cut g) (sides_of Separate g) (taken nothing steps).added (taken nothing steps).eliminated) size → size ≤ 8 * n * n + 64
+    HasSize (modulus (without_cut g)) (frontier_value (without_cut g) (sides_of Separate g) (taken nothing steps).added
+    (taken nothing steps).eliminated) size → size ≤ 8 * n * n + 64
 
 -- So for every slice plan.
 abbrev pub SlicePlansAreSmall : Type 0
-SlicePlansAreSmall = (kind : Kind) (n : ℕ) (g : Aig) (steps : List Step) (t size : ℕ) → 0 < n → SameUpToOperands (made kind n Ripple) g → IsSlicePlan (without_cut g) steps →
+SlicePlansAreSmall = (kind : Kind) (n : ℕ) (g : Aig) (steps : List Step) (t size : ℕ) → 0 < n →
+    SameUpToOperands (made kind n Ripple) g → IsSlicePlan (without_cut g) steps →
     HasSize (modulus (without_cut g)) (value_of_taken (without_cut g) (sides_of Separate g) (taken nothing (take t steps))) size → size ≤ 8 * n * n + 64
 
 -- So there are plans over each made graph with a ripple-carry adder, with every frontier small.
 abbrev pub MadeSlicePlanIsSmall : Type 0
-MadeSlicePlanIsSmall = (kind : Kind) (n : ℕ) (g : Aig) (due : ℕ → List (List ℕ)) (t size : ℕ) → 0 < n → SameUpToOperands (made kind n Ripple) g → IsWellFormed g → ((k : ℕ) → All (Contains (groups g.gates)) (due k)) →
+MadeSlicePlanIsSmall = (kind : Kind) (n : ℕ) (g : Aig) (due : ℕ → List (List ℕ)) (t size : ℕ) → 0 < n →
+    SameUpToOperands (made kind n Ripple) g → IsWellFormed g → ((k : ℕ) → All (Contains (groups g.gates)) (due k)) →
     let e = without_cut g in
     let steps = slice_steps e (groups g.gates) due in
     let f = taken nothing (take t steps) in
@@ -39,5 +42,6 @@ MadeSlicePlanIsSmall = (kind : Kind) (n : ℕ) (g : Aig) (due : ℕ → List (Li
 
 -- And the last frontier of every plan over such a graph is 0 at every assignment.
 abbrev pub MadeRestIsZero : Type 0
-MadeRestIsZero = (kind : Kind) (n : ℕ) (g : Aig) (steps : List Step) (σ : Assignment) → 0 < n → SameUpToOperands (made kind n Ripple) g → IsWellFormed g → IsPlan (without_cut g) steps →
+MadeRestIsZero = (kind : Kind) (n : ℕ) (g : Aig) (steps : List Step) (σ : Assignment) → 0 < n →
+    SameUpToOperands (made kind n Ripple) g → IsWellFormed g → IsPlan (without_cut g) steps →
     frontier_value (without_cut g) (sides_of Separate g) (taken nothing steps).added (taken nothing steps).eliminated σ ≡ 0

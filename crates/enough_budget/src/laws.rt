@@ -3,16 +3,10 @@ ghost use Rattle.enough_budget.specs.Budgets.{MadeBudgetIsEnough};
 ghost use Rattle.enough_budget.specs.FewVariables.{FewVariablesAreSmall};
 ghost use Rattle.enough_budget.specs.MadeGroups.{MadeGatesAreInOrder, MadeGroupsAreAdders};
 ghost use Rattle.enough_budget.specs.MadeSlices.{MadeRestIsZero, MadeSlicePlanIsSmall, MadeSlicesAreSmall, SlicePlansAreSmall};
-ghost use Rattle.enough_budget.specs.OperandOrder.{OrderOfOperandsIsFree};
 
 /// A function of so many variables has at most two to that power monomials.
 pub fn few_variables_are_small()
     ensures { FewVariablesAreSmall }
-{}
-
-/// Graphs that are one up to the order of each gate's operands multiply together.
-pub fn order_of_operands_is_free()
-    ensures { OrderOfOperandsIsFree }
 {}
 
 /// A made graph's gates are listed so.

@@ -22,7 +22,7 @@ use Rattle.frontier_core.specs.Plan.{Taken, nothing, step, taken, AreSteps}
 use Rattle.frontier_core.proofs.PlainOrders.{length-outputs_from}
 use Rattle.frontier_core.proofs.Plans.{step_is_pushed}
 use Rattle.frontier_core.proofs.Everywhere.{all_has}
-use Rattle.slice_core.proofs.Cases.{all_join, any_here, any_there}
+use Rattle.slice_finder.proofs.Cases.{all_join, any_here, any_there}
 use Rattle.slice_core.specs.Groups.{IsWhole, AreByGroups, GoesByGroups}
 use Rattle.slice_core.specs.GroupPlans.{AreReadersFirst, FirstGroups, ColumnIsPushed, GroupIsPushed, NextGroupFollows, GroupsFinish}
 use Rattle.slice_core.proofs.Composition.{has_append}

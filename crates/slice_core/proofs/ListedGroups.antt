@@ -16,7 +16,7 @@ use Rattle.ripple_graft.proofs.OneBlock.{pairs_from_apart}
 use Rattle.frontier_core.specs.Sets.{has}
 use Rattle.frontier_core.proofs.Everywhere.{all_of_map}
 use Rattle.frontier_core.proofs.PlainOrders.{plain_order_leaves_frontiers, plain_order_finishes}
-use Rattle.slice_core.proofs.Cases.{all_join}
+use Rattle.slice_finder.proofs.Cases.{all_join}
 use Rattle.slice_core.specs.Groups.{ends_full, ends_half, group_size, groups_of, groups}
 use Rattle.slice_core.specs.GroupPlans.{AreReadersFirst, AreInOrder, ListedGroupsServe, PlainGroupsServe}
 use Rattle.slice_core.proofs.GroupPlans.{has_reversed, all_has_itself, all_reversed}

@@ -15,7 +15,8 @@ use Rattle.slice_core.specs.Groups.{groups, IsWhole, GoesByGroups}
 -- each gate that reads one of these variables was seen, or stands before it
 abbrev pub AreReadersFirst : List Gate → List ℕ → List ℕ → Type 0
 AreReadersFirst gates seen [] = Unit {0}
-AreReadersFirst gates seen (v ∷ vs) = All (λ x. (variable_of x.left ≡ v) ⊎ (variable_of x.right ≡ v) → has seen x.v ≡ true) gates × AreReadersFirst gates (v ∷ seen) vs
+AreReadersFirst gates seen (v ∷ vs) = All (λ x. (variable_of x.left ≡ v) ⊎ (variable_of x.right ≡ v) → has seen x.v ≡ true) gates ×
+    AreReadersFirst gates (v ∷ seen) vs
 
 -- Groups that have all gates, each once, with a gate's readers before it.
 pub record AreGroups (e : Extended) (gs : List (List ℕ)) : Type 0 where
@@ -36,22 +37,26 @@ FirstGroups = (e : Extended) (gs : List (List ℕ)) → AreAtGroups e gs []
 
 -- One more column.
 abbrev pub ColumnIsPushed : Type 0
-ColumnIsPushed = (e : Extended) (gs : List (List ℕ)) (steps : List Step) (k : ℕ) → AreAtGroups e gs steps → k < length e.graph.outputs → has (taken nothing steps).added k ≡ false → AreAtGroups e gs (steps ++ Add k ∷ [])
+ColumnIsPushed = (e : Extended) (gs : List (List ℕ)) (steps : List Step) (k : ℕ) → AreAtGroups e gs steps → k < length e.graph.outputs →
+    has (taken nothing steps).added k ≡ false → AreAtGroups e gs (steps ++ Add k ∷ [])
 
 -- One more group, where its gates can be eliminated one after the other.
 abbrev pub GroupIsPushed : Type 0
-GroupIsPushed = (e : Extended) (gs before after : List (List ℕ)) (group : List ℕ) (steps : List Step) → AreGroups e gs → gs ≡ before ++ group ∷ after → AreAtGroups e gs steps →
-    AreSteps e (taken nothing steps) (map Eliminate group) → AreAtGroups e gs (steps ++ map Eliminate group)
+GroupIsPushed = (e : Extended) (gs before after : List (List ℕ)) (group : List ℕ) (steps : List Step) → AreGroups e gs →
+    gs ≡ before ++ group ∷ after → AreAtGroups e gs steps → AreSteps e (taken nothing steps) (map Eliminate group) →
+    AreAtGroups e gs (steps ++ map Eliminate group)
 
 -- With all columns, the first group that is left can be eliminated.
 abbrev pub NextGroupFollows : Type 0
 NextGroupFollows = (e : Extended) (gs before after : List (List ℕ)) (group : List ℕ) (f : Taken) → AreGroups e gs → gs ≡ before ++ group ∷ after →
-    ((k : ℕ) → k < length e.graph.outputs → has f.added k ≡ true) → All (λ v. has f.eliminated v ≡ true) (concat before) → All (λ v. has f.eliminated v ≡ false) group → AreSteps e f (map Eliminate group)
+    ((k : ℕ) → k < length e.graph.outputs → has f.added k ≡ true) → All (λ v. has f.eliminated v ≡ true) (concat before) →
+    All (λ v. has f.eliminated v ≡ false) group → AreSteps e f (map Eliminate group)
 
 -- With all columns and all groups the steps are a plan.
 abbrev pub GroupsFinish : Type 0
 GroupsFinish = (e : Extended) (gs : List (List ℕ)) (steps : List Step) → AreGroups e gs → AreAtGroups e gs steps →
-    ((k : ℕ) → k < length e.graph.outputs → has (taken nothing steps).added k ≡ true) → All (λ v. has (taken nothing steps).eliminated v ≡ true) (concat gs) → IsPlan e steps
+    ((k : ℕ) → k < length e.graph.outputs → has (taken nothing steps).added k ≡ true) →
+    All (λ v. has (taken nothing steps).eliminated v ≡ true) (concat gs) → IsPlan e steps
 
 -- each gate reads no later one, and not itself
 abbrev pub AreInOrder : List Gate → Type 0

@@ -1,5 +1,4 @@
 -- To be read by whoever trusts the contracts: all of them.
-pub mod Positions
 pub mod Groups
 pub mod AdderLists
 pub mod GroupPlans

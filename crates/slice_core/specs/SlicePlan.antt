@@ -24,7 +24,8 @@ outputs_added [] k added v = true
 outputs_added (l ∷ ls) k added v = (not (variable_of l == v) || has added k) && outputs_added ls (suc k) added v
 
 abbrev pub can_go : Extended → Taken → ℕ → Bool
-can_go e f v = has (map (λ x. x.v) e.gates) v && (not (has f.eliminated v) && (readers_gone e.gates f.eliminated v && outputs_added (new_outputs e) 0 f.added v))
+can_go e f v = has (map (λ x. x.v) e.gates) v &&
+    (not (has f.eliminated v) && (readers_gone e.gates f.eliminated v && outputs_added (new_outputs e) 0 f.added v))
 
 -- whether the gates of a group can be eliminated one after the other
 abbrev pub can_all_go : Extended → Taken → List ℕ → Bool

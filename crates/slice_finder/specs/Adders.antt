@@ -54,20 +54,22 @@ IsHalfOfSeven gates t = (x y c : Lit) × (u w e f s h : ℕ) × IsFullAdder gate
 -- XOR shape that is no part of such seven one with its generating gate as carry.
 pub record AreAddingBlocks (e : Extended) (blocks : List Adds) : Type 0 where
   pub add : (σ : Assignment) → IsEvaluation e.gates σ → All (AddsUp σ) blocks
-  pub full : (s : ℕ) → IsSumOfSeven e.gates s → Any (λ b. (b.sum ≡ plain s) × ((x y c : Lit) × (u w t e' f h : ℕ) × IsFullAdder e.gates x y c u w t e' f s h × (b.carry ≡ inverted h))) blocks
-  pub half : (v generating other : ℕ) (x y : Lit) (pair : Lit × Lit) → IsXor (as_graph e) v generating other x y pair → ¬ (IsSumOfSeven e.gates v) → ¬ (IsHalfOfSeven e.gates v) →
-      Any (λ b. (b.sum ≡ plain v) × (b.carry ≡ plain generating)) blocks
+  pub full : (s : ℕ) → IsSumOfSeven e.gates s → Any (λ b. (b.sum ≡ plain s) ×
+      ((x y c : Lit) × (u w t e' f h : ℕ) × IsFullAdder e.gates x y c u w t e' f s h × (b.carry ≡ inverted h))) blocks
+  pub half : (v generating other : ℕ) (x y : Lit) (pair : Lit × Lit) → IsXor (as_graph e) v generating other x y pair → ¬ (IsSumOfSeven e.gates v) →
+      ¬ (IsHalfOfSeven e.gates v) → Any (λ b. (b.sum ≡ plain v) × (b.carry ≡ plain generating)) blocks
 
 -- ---- the laws
 
 -- Seven gates of a ripple position add on each evaluation.
 abbrev pub FullAddersAdd : Type 0
-FullAddersAdd = (gates : List Gate) (x y c : Lit) (u w t e f s h : ℕ) (σ : Assignment) → IsFullAdder gates x y c u w t e f s h → IsEvaluation gates σ → AddsUp σ (full_block x y c s h)
+FullAddersAdd = (gates : List Gate) (x y c : Lit) (u w t e f s h : ℕ) (σ : Assignment) → IsFullAdder gates x y c u w t e f s h →
+    IsEvaluation gates σ → AddsUp σ (full_block x y c s h)
 
 -- A gate of XOR shape with its generating gate adds the generating gate's operands, which are its pair, on each evaluation.
 abbrev pub HalfAddersAdd : Type 0
-HalfAddersAdd = (g : Aig) (v generating other : ℕ) (x y : Lit) (pair : Lit × Lit) (σ : Assignment) → IsDefinedOnce g → IsXor g v generating other x y pair → IsEvaluation g.gates σ →
-    AddsUp σ (half_block v generating pair)
+HalfAddersAdd = (g : Aig) (v generating other : ℕ) (x y : Lit) (pair : Lit × Lit) (σ : Assignment) → IsDefinedOnce g →
+    IsXor g v generating other x y pair → IsEvaluation g.gates σ → AddsUp σ (half_block v generating pair)
 
 -- Blocks that add, with none missing of those that the rule names.
 abbrev pub BlocksExist : Type 0

@@ -66,6 +66,7 @@ pub record IsCover (g : Aig) (v : ℕ) (old new : List ℕ) : Type 0 where
   pub room : length new ≡ length old
   pub others : (w : ℕ) → w ≢ v → slice_index new w ≡ slice_index old w
   pub less : slice_index new v ≤ slice_index old v
-  pub through : (x : Gate) (j : ℕ) → IsGateOf g.gates v x → slice_index old (variable_of x.left) ≤ j → slice_index old (variable_of x.right) ≤ j → slice_index new v ≤ j
+  pub through : (x : Gate) (j : ℕ) → IsGateOf g.gates v x → slice_index old (variable_of x.left) ≤ j → slice_index old (variable_of x.right) ≤ j →
+      slice_index new v ≤ j
   pub one : (j : ℕ) → slice_index new v ≤ j → (slice_index old v ≤ j) ⊎
       ((x : Gate) × IsGateOf g.gates v x × (slice_index old (variable_of x.left) ≤ j) × (slice_index old (variable_of x.right) ≤ j))

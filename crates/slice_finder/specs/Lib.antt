@@ -1,4 +1,4 @@
--- To be read by whoever trusts the contracts: XorShape, FinalStage and Adders. The others serve private clauses alone.
+-- To be read by whoever trusts the contracts: XorShape, FinalStage, Adders and Positions. The others serve private clauses alone.
 pub mod XorShape
 pub mod FinalStage
 pub mod Adders

@@ -15,7 +15,8 @@ is_half u w t = reads w (negation_of u.left) (negation_of u.right) && reads t (i
 
 -- e over t and some c, f over !t and !c
 abbrev pub is_carried : Gate → Gate → Gate → Bool
-is_carried t e f = ((e.left.0 == (plain t.v).0) && reads f (inverted t.v) (negation_of e.right)) || ((e.right.0 == (plain t.v).0) && reads f (inverted t.v) (negation_of e.left))
+is_carried t e f = ((e.left.0 == (plain t.v).0) && reads f (inverted t.v) (negation_of e.right)) ||
+    ((e.right.0 == (plain t.v).0) && reads f (inverted t.v) (negation_of e.left))
 
 -- a half adder of x and y, one of t and c with the sum s, and h over !u and !e
 abbrev pub is_full : Gate → Gate → Gate → Gate → Gate → Gate → Gate → Bool

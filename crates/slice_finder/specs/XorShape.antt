@@ -60,4 +60,5 @@ exclusive_or a b = (a || b) && not (a && b)
 -- On each evaluation a gate of XOR shape is x xor y, the gate below it over x and y is their AND, and the other one is true where neither is.
 abbrev pub XorShapeIsXor : Type 0
 XorShapeIsXor = (gates : List Gate) (v u w : ℕ) (x y : Lit) (σ : Assignment) → HasXorShape gates v u w x y → IsEvaluation gates σ →
-    (variable σ v ≡ exclusive_or (literal σ x) (literal σ y)) × (variable σ u ≡ (literal σ x && literal σ y)) × (variable σ w ≡ (not (literal σ x) && not (literal σ y)))
+    (variable σ v ≡ exclusive_or (literal σ x) (literal σ y)) × (variable σ u ≡ (literal σ x && literal σ y)) ×
+    (variable σ w ≡ (not (literal σ x) && not (literal σ y)))

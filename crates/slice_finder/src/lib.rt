@@ -1,13 +1,13 @@
 //! XOR shapes, and the final stage of a multiplier that ends with an adder.
 //!
-//! `xor_of` gives the shape of a gate exactly where it is an exclusive or over two gates; `final_stage` the fit cut with the
-//! least low column, or none exactly where no cut is fit. `xor_of` takes no memory.
+//! `xor_of` gives the shape of a gate exactly where it is an exclusive or over two gates; `final_stage` the fit cut
+//! with the least low column, or none exactly where no cut is fit. `xor_of` takes no memory.
 //!
-//! A gate of *XOR shape* is the exclusive or of its two *sides*, over two gates of which one *generates*; that one's operands
-//! are its *pair* (`specs/XorShape.antt`). A cut is *fit* by what the outputs from its low column on are, without proof that
-//! it may be made (`specs/FinalStage.antt`). A *block* is a sum and a carry of three literals, those of a ripple position or
-//! of a gate of XOR shape (`specs/Adders.antt`): of blocks there are definitions and laws, and no call. A law is the contract
-//! of a public function with an empty body.
+//! A gate of *XOR shape* is the exclusive or of its two *sides*, over two gates of which one *generates*; that one's
+//! operands are its *pair* (`specs/XorShape.antt`). A cut is *fit* by what the outputs from its low column on are,
+//! without proof that it may be made (`specs/FinalStage.antt`). A *block* is a sum and a carry of three literals, those
+//! of a ripple position or of a gate of XOR shape (`specs/Adders.antt`): of blocks there are definitions and laws, and
+//! no call. A law is the contract of a public function with an empty body.
 #![tactic(auto)]
 
 mod adds;

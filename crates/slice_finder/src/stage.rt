@@ -9,7 +9,8 @@ ghost use Rattle.ripple_graft.specs.declared.cut.Cut.{Cut as CutOf};
 ghost use Rattle.slice_finder.specs.FinalStage.{IsFinalStage, IsFit};
 ghost use Rattle.slice_finder.specs.XorShape.{HasPair};
 ghost use Rattle.slice_finder.specs.Cover.{AreKeys};
-ghost use Rattle.slice_finder.specs.StageSearch.{AreNextShapes, AreSidesIn, IsCount, IsLongestAt, IsNextShape, IsWhole, NoneFitsAt};
+ghost use Rattle.slice_finder.specs.StageSearch.{AreNextShapes, AreSidesIn, IsCount, IsLongestAt};
+ghost use Rattle.slice_finder.specs.StageSearch.{IsNextShape, IsWhole, NoneFitsAt};
 ghost use Rattle.slice_finder.specs.declared.stage.Next.{Next as NextOf};
 
 use crate::cover::{keys_by_level, needs_of};

@@ -23,7 +23,7 @@ use Rattle.frontier_core.specs.Sets.{has}
 use Rattle.frontier_core.proofs.OrderMade.{gates_of_defined}
 use Rattle.frontier_core.proofs.PlainOrders.{pairs_recursion}
 use Rattle.slice_core.specs.SlicePlan.{can_all_go, swept}
-use Rattle.slice_core.proofs.Cases.{all_join, by_cases}
+use Rattle.slice_finder.proofs.Cases.{all_join, by_cases}
 use Rattle.slice_core.proofs.GroupPlans.{taken-append}
 use Rattle.slice_core.specs.GroupPlans.{AreAtGroups, AreGroups}
 use Rattle.frontier_core.proofs.Everywhere.{all_has}
