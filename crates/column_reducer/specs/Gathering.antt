@@ -108,7 +108,8 @@ pub record AreGroups (e : Extended) (t : Table) (gs : List Group) (columns : Lis
   pub of_columns : AreColumns e t columns
   pub of : IsOf t total
   pub fixed : IsFixedAbove e.max (value_in t total)
-  pub sum : (σ : Assignment) → (groups_sum t gs σ + combined (algebra.modulus e) (axioms e).live (parts_in t columns) σ) % algebra.modulus e ≡ value_in t total σ
+  pub sum : (σ : Assignment) →
+      (groups_sum t gs σ + combined (algebra.modulus e) (axioms e).live (parts_in t columns) σ) % algebra.modulus e ≡ value_in t total σ
 
 -- The sum of the ended groups and the columns' parts, and 2^k times the open one's parts are the gap at the frontier with this function; the products are the
 -- parts' axioms times their factors.
@@ -170,14 +171,16 @@ pub record IsNext (e : Extended) (f : Taken) (x : Gate) : Type 0 where
 -- The gate's part is taken: a factor that is minus the quotient by its variable, if that isn't 0.
 pub record HasTaken (t0 t1 : Table) (x : Gate) (q : Option Sum) (old new : Gathered) : Type 0 where
   pub gathered : (e : Extended) (s : Sides) (f : Taken) (rest next : Assignment → ℕ) → modulus t0 ≡ algebra.modulus e → IsNext e f x →
-      IsFixedAbove e.max rest → IsFixedAbove e.max (gap e s f.added rest) → ((σ : Assignment) → next σ ≡ substituted (algebra.modulus e) x.v (gate_value x) rest σ) →
+      IsFixedAbove e.max rest → IsFixedAbove e.max (gap e s f.added rest) →
+      ((σ : Assignment) → next σ ≡ substituted (algebra.modulus e) x.v (gate_value x) rest σ) →
       IsTurned (algebra.modulus e) t0 (quotient (algebra.modulus e) x.v rest) q →
       IsGathered e s t0 f rest old → IsGathered e s t1 (step f (Eliminate x.v)) next new
   pub count : group_count new ≤ group_count old + 1
 
 -- The column's part is taken, where it is replaced.
 pub record HasColumn (t0 t1 : Table) (e : Extended) (k : ℕ) (old new : Gathered) : Type 0 where
-  pub gathered : (s : Sides) (f : Taken) (rest next : Assignment → ℕ) → modulus t0 ≡ algebra.modulus e → IsExtension e → k < length e.graph.outputs → has f.added k ≡ false →
+  pub gathered : (s : Sides) (f : Taken) (rest next : Assignment → ℕ) → modulus t0 ≡ algebra.modulus e →
+      IsExtension e → k < length e.graph.outputs → has f.added k ≡ false →
       ((r : Lit) → slice_get (new_outputs e) k ≡ Some r → (σ : Assignment) → next σ ≡ (rest σ + column_value e s k r σ) % algebra.modulus e) →
       IsGathered e s t0 f rest old → IsGathered e s t1 (step f (Add k)) next new
   pub count : group_count new ≡ group_count old
@@ -253,7 +256,8 @@ pub record AreWritten (e : Extended) (s : Sides) (t : Table) (total : Sum) (gs :
   pub graph : IsOfGraph e s t l
   pub axioms : (id : ℕ) → id ≤ e.max → line_of (ledger_of l).live id ≡ line_of (axioms e).live id
   pub groups : All (IsGroup e t) gs
-  pub sum : (σ : Assignment) → (groups_sum t gs σ + combined (algebra.modulus e) (ledger_of l).live (parts_in t weighted) σ) % algebra.modulus e ≡ value_in t total σ
+  pub sum : (σ : Assignment) →
+      (groups_sum t gs σ + combined (algebra.modulus e) (ledger_of l).live (parts_in t weighted) σ) % algebra.modulus e ≡ value_in t total σ
   pub over : All (λ p. IsOver e.max t p.1) weighted
   pub nonzero : All (λ p. IsNotZero (algebra.modulus e) (monomials_in t p.1)) weighted
   pub live : All (λ p. IsLive (ledger_of l).live p.0) weighted

@@ -7,7 +7,8 @@ ghost use Rattle.poly_terms.specs.Indexed.{IsIndexed};
 ghost use Rattle.poly_terms.specs.Tables.{Extends, IsOf, modulus, value_in};
 ghost use Rattle.column_reducer.specs.Gathering.{IsEliminated, IsOpposite, IsTurned};
 
-use crate::pieces::{opposite, times_product};
+use crate::pieces::opposite;
+use gate_axioms::times_operands;
 use graph_core::{Gate, Memory};
 use poly_terms::{Indexed, Poly, Terms};
 use std::alloc::Global;
@@ -38,7 +39,7 @@ pub(crate) fn eliminate(
         return Ok(Elimination { rest, factor: None });
     }
     let by = terms.quotient(&taken, gate.v)?;
-    let more = times_product(alloc, terms, &by, gate)?;
+    let more = times_operands(alloc, terms, &by, gate)?;
     rest.add(terms, &more)?;
     let factor = turned(terms, &by)?;
     Ok(Elimination { rest, factor })

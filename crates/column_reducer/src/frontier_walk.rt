@@ -49,7 +49,8 @@ pub(crate) fn first_passed(
 
 // Before the first step: nothing is gathered.
 fn start(alloc: Global, terms: &Terms) -> Walk
-    ensures { (e : Extended) (s : Sides) → modulus terms.now ≡ algebra.modulus e → IsWalked e s terms.now nothing result }
+    ensures { (e : Extended) (s : Sides) → modulus terms.now ≡ algebra.modulus e →
+        IsWalked e s terms.now nothing result }
 {
     Walk {
         rest: Indexed::new(alloc, terms),
@@ -60,7 +61,8 @@ fn start(alloc: Global, terms: &Terms) -> Walk
 // The frontier, in a new table where most monomials of this one aren't the frontier's any more.
 fn renewed(alloc: Global, terms: &mut Terms, walk: Walk) -> Result<Walk, Memory>
     requires walked { (e : Extended) × (s : Sides) × (f : Taken) × IsWalked e s terms.old f walk }
-    ensures walked { IfOk result (λ w. (e : Extended) (s : Sides) (f : Taken) → IsWalked e s terms.old f walk → IsWalked e s terms.new f w) }
+    ensures walked { IfOk result (λ w. (e : Extended) (s : Sides) (f : Taken) →
+        IsWalked e s terms.old f walk → IsWalked e s terms.new f w) }
 {
     if terms.count() / 2 <= walk.rest.size().max(SMALL_TABLE) {
         return Ok(walk);

@@ -8,10 +8,11 @@ ghost use Rattle.graph_core.specs.Graph.Extended.{Extended};
 ghost use Rattle.graph_core.specs.Graph.Operands.{Sides};
 ghost use Rattle.poly_terms.specs.Tables.{Extends, IsOf, modulus, value_in};
 ghost use Rattle.frontier_core.specs.Plan.{Taken, nothing};
-ghost use Rattle.column_reducer.specs.Gathering.{HasColumn, HasPart, HasPower, HasTaken, IsEndedGroup, IsGathered, group_count};
+ghost use Rattle.column_reducer.specs.Gathering.{HasColumn, HasPart, HasPower, HasTaken, IsEndedGroup};
+ghost use Rattle.column_reducer.specs.Gathering.{IsGathered, group_count};
 
 use crate::pieces::{power_poly, zero_poly};
-use gate_axioms::{equal_poly, gate_poly};
+use gate_axioms::{equal_poly, times_axiom};
 use graph_core::{Gate, Memory};
 use poly_terms::{Poly, Terms};
 use ripple_graft::Extended as ExtendedGraph;
@@ -53,7 +54,8 @@ impl Gathered {
         ensures extends { Extends terms.old terms.new }
         ensures none { IfOk result (λ g. group_count g ≡ 0) }
         ensures gathered { IfOk result (λ g. (e : Extended) (s : Sides) (rest : Assignment → ℕ) →
-            modulus terms.old ≡ algebra.modulus e → ((σ : Assignment) → rest σ ≡ 0) → IsGathered e s terms.new nothing rest g) }
+            modulus terms.old ≡ algebra.modulus e → ((σ : Assignment) → rest σ ≡ 0) →
+            IsGathered e s terms.new nothing rest g) }
     {
         let total = zero_poly(alloc, terms)?;
         let power = terms.exponent() - 1;
@@ -79,7 +81,8 @@ impl Gathered {
         factor: Option<Poly>,
     ) -> Result<Gathered, Memory>
         requires factor { IfSome factor (IsOf terms.old) }
-        requires gathered { (e : Extended) × (s : Sides) × (f : Taken) × (rest : Assignment → ℕ) × IsGathered e s terms.old f rest self }
+        requires gathered { (e : Extended) × (s : Sides) × (f : Taken) × (rest : Assignment → ℕ) ×
+            IsGathered e s terms.old f rest self }
         ensures extends { Extends terms.old terms.new }
         ensures taken { IfOk result (HasTaken terms.old terms.new gate.now factor self) }
     {
@@ -97,7 +100,8 @@ impl Gathered {
         factor: Poly,
     ) -> Result<Gathered, Memory>
         requires factor { IsOf terms.old factor }
-        requires gathered { (e : Extended) × (s : Sides) × (f : Taken) × (rest : Assignment → ℕ) × IsGathered e s terms.old f rest self }
+        requires gathered { (e : Extended) × (s : Sides) × (f : Taken) × (rest : Assignment → ℕ) ×
+            IsGathered e s terms.old f rest self }
         ensures extends { Extends terms.old terms.new }
         ensures taken { IfOk result (HasTaken terms.old terms.new gate.now (Some factor) self) }
     {
@@ -118,7 +122,8 @@ impl Gathered {
     // Ends the open group where its parts are divided by another power.
     fn with_power(self, alloc: Global, terms: &mut Terms, power: u32) -> Result<Gathered, Memory>
         requires low { power ≤ self.power }
-        requires gathered { (e : Extended) × (s : Sides) × (f : Taken) × (rest : Assignment → ℕ) × IsGathered e s terms.old f rest self }
+        requires gathered { (e : Extended) × (s : Sides) × (f : Taken) × (rest : Assignment → ℕ) ×
+            IsGathered e s terms.old f rest self }
         ensures extends { Extends terms.old terms.new }
         ensures power { IfOk result (HasPower terms.old terms.new power self) }
     {
@@ -143,8 +148,7 @@ impl Gathered {
         ensures part { IfOk result (HasPart terms.old terms.new gate.now factor self) }
     {
         let mut gathered = self;
-        let axiom = gate_poly(alloc, terms, gate)?;
-        let product = terms.mul(&axiom, &factor)?;
+        let product = times_axiom(alloc, terms, &factor, gate)?;
         gathered.products.push(product)?;
         gathered.pending = gathered.pending.saturating_add(terms.size(&factor));
         gathered.parts.push((u64::from(gate.v), factor))?;
@@ -161,7 +165,8 @@ impl Gathered {
     ) -> Result<Gathered, Memory>
         requires in_range { k < length extended.now.graph.outputs }
         requires weight { k < terms.old.exponent }
-        requires gathered { (e : Extended) × (s : Sides) × (f : Taken) × (rest : Assignment → ℕ) × IsGathered e s terms.old f rest self }
+        requires gathered { (e : Extended) × (s : Sides) × (f : Taken) × (rest : Assignment → ℕ) ×
+            IsGathered e s terms.old f rest self }
         ensures extends { Extends terms.old terms.new }
         ensures column { IfOk result (HasColumn terms.old terms.new extended.now k self) }
     {
@@ -180,7 +185,8 @@ impl Gathered {
 
     /// Ends the open group, if it has a part: it states what its parts add up to.
     pub(crate) fn end_group(self, alloc: Global, terms: &mut Terms) -> Result<Gathered, Memory>
-        requires gathered { (e : Extended) × (s : Sides) × (f : Taken) × (rest : Assignment → ℕ) × IsGathered e s terms.old f rest self }
+        requires gathered { (e : Extended) × (s : Sides) × (f : Taken) × (rest : Assignment → ℕ) ×
+            IsGathered e s terms.old f rest self }
         ensures extends { Extends terms.old terms.new }
         ensures ended { IfOk result (IsEndedGroup terms.old terms.new self) }
     {

@@ -57,7 +57,8 @@ fn write_group(
     ensures few { length lines.new.lines ≤ length lines.old.lines + 1 }
     ensures last { OnOk result (lines.new.last ≡ lines.old.last + 1) }
     ensures written { OnOk result ((e : Extended) (s : Sides) (t : Table) (total : Sum) (gs : List OneGroup) →
-        AreWritten e s t total (gs ++ group ∷ []) weighted.old.items lines.old → AreWritten e s t total gs weighted.new.items lines.new) }
+        AreWritten e s t total (gs ++ group ∷ []) weighted.old.items lines.old →
+        AreWritten e s t total gs weighted.new.items lines.new) }
 {
     let Group {
         parts,

@@ -6,10 +6,8 @@ ghost use Rattle.graph_core.specs.Graph.Assignments.{Assignment, bit};
 ghost use Rattle.graph_core.specs.Algebra.Polynomials.{difference};
 ghost use Rattle.poly_terms.specs.Tables.{IsOf, Extends, given, modulus, value_in};
 ghost use Rattle.column_reducer.specs.Gathering.{term_of};
-ghost use Rattle.frontier_core.specs.Substitution.{gate_value};
 
-use gate_axioms::gate_poly;
-use graph_core::{Gate, Memory};
+use graph_core::Memory;
 use mv_nums::Residue;
 use poly_terms::{Poly, Terms};
 use std::alloc::{AllocError, Global};
@@ -25,14 +23,6 @@ fn part_of(
     let mut parts = Vec::new(alloc);
     parts.push((number, variables))?;
     Ok(parts)
-}
-
-// A coefficient times one variable, as the only part.
-fn variable_part(alloc: Global, v: u32) -> Result<Vec<(u128, Vec<u32>)>, AllocError>
-    ensures { IfOk result (λ parts. given parts.items ≡ term_of 1 (v ∷ []) ∷ []) }
-{
-    let variables = vec![in alloc; v]?;
-    part_of(alloc, 1, variables)
 }
 
 // A number, modulo the table's modulus.
@@ -92,36 +82,4 @@ fn minus_one(terms: &Terms) -> Residue
     ensures value { (result.value + 1) % modulus terms.now ≡ 0 }
 {
     Residue::new(terms.exponent(), 1).neg()
-}
-
-// The product of a gate's operands.
-fn product_of(alloc: Global, terms: &mut Terms, gate: &Gate) -> Result<Poly, Memory>
-    ensures extends { Extends terms.old terms.new }
-    ensures of { IfOk result (IsOf terms.new) }
-    ensures value { IfOk result (λ r. (σ : Assignment) → value_in terms.new r σ ≡
-        gate_value gate.now σ % modulus terms.old) }
-{
-    let axiom = gate_poly(alloc, terms, gate)?;
-    let parts = variable_part(alloc, gate.v)?;
-    let variable = terms.make(&parts)?;
-    let poly = terms.add(&axiom, &variable)?;
-    Ok(poly)
-}
-
-// A polynomial times the product of a gate's operands.
-pub(crate) fn times_product(
-    alloc: Global,
-    terms: &mut Terms,
-    by: &Poly,
-    gate: &Gate,
-) -> Result<Poly, Memory>
-    requires by { IsOf terms.old by.now }
-    ensures extends { Extends terms.old terms.new }
-    ensures of { IfOk result (IsOf terms.new) }
-    ensures value { IfOk result (λ r. (σ : Assignment) → value_in terms.new r σ ≡
-        (gate_value gate.now σ * value_in terms.old by.now σ) % modulus terms.old) }
-{
-    let product = product_of(alloc, terms, gate)?;
-    let poly = terms.mul(by, &product)?;
-    Ok(poly)
 }

@@ -21,7 +21,8 @@ pub fn plain_plan<'a>(alloc: Global, extended: &'a Extended<'a>) -> Result<Plan<
     requires alone { extended.now ≡ without_cut extended.now.graph }
     ensures extended { IfOk result (λ p. p.extended ≡ extended.now) }
     ensures uncounted { IfOk result (λ p. p.uncounted ≡ length extended.now.graph.outputs) }
-    ensures plain { IfOk result (λ p. (vs : List ℕ) × IsPlainOrder extended.now.gates vs × (p.steps ≡ plain_steps extended.now vs)) }
+    ensures plain { IfOk result (λ p. (vs : List ℕ) × IsPlainOrder extended.now.gates vs ×
+        (p.steps ≡ plain_steps extended.now vs)) }
 {
     let _gates = extended.gates();
     let graph = extended.graph();

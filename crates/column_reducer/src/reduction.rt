@@ -68,7 +68,8 @@ impl<'a> Grow<Poly> for TakeSteps<'a> {
 
     ghost can_grow = { λ work _ table. CanTake work.plan.now work.operands.now table };
 
-    ghost did = { λ work _ _ out _ _ table. IfOk out (λ o. IsOutcome work.plan.now work.operands.now table work.budget o × IsKept o) };
+    ghost did = { λ work _ _ out _ _ table.
+        IfOk out (λ o. IsOutcome work.plan.now work.operands.now table work.budget o × IsKept o) };
 
     fn grow(&mut self, on: &mut (), table: &mut Terms) -> Result<Outcome, Memory> {
         let bounded = take_steps(
@@ -121,7 +122,8 @@ fn write_outcome(lines: &mut Lines<'_>, outcome: Outcome) -> Result<Reduced, Mem
     requires unclosed { lines.old.closing ≡ None }
     requires extension { IsExtension lines.old.extended }
     requires kept { IsKept outcome }
-    requires outcome { (p : Planned) × (budget : ℕ) × (p.extended ≡ lines.old.extended) × IsOutcome p lines.old.sides lines.old.table budget outcome }
+    requires outcome { (p : Planned) × (budget : ℕ) × (p.extended ≡ lines.old.extended) ×
+        IsOutcome p lines.old.sides lines.old.table budget outcome }
     ensures goes_on { GoesOn lines.old lines.new }
     ensures reduced { IfOk result (λ r. (p : Planned) (budget : ℕ) → p.extended ≡ lines.old.extended →
         IsOutcome p lines.old.sides lines.old.table budget outcome → IsReduced p lines.old.sides budget lines.new r) }

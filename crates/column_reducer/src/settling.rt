@@ -25,7 +25,8 @@ pub(crate) fn settle(
     terms: &mut Terms,
     gathered: Gathered,
 ) -> Result<Gathered, Memory>
-    requires gathered { (e : Extended) × (s : Sides) × (f : Taken) × (rest : Assignment → ℕ) × IsGathered e s terms.old f rest gathered }
+    requires gathered { (e : Extended) × (s : Sides) × (f : Taken) × (rest : Assignment → ℕ) ×
+        IsGathered e s terms.old f rest gathered }
     ensures extends { Extends terms.old terms.new }
     ensures gathered { IfOk result (Settles terms.old terms.new gathered) }
 {

@@ -1,7 +1,8 @@
 // The loop over a plan's steps.
 #![tactic(auto, using(poly_terms::specs::Laws::stays, poly_terms::specs::Laws::extends_on, poly_terms::specs::Laws::extends_itself, poly_terms::specs::Laws::indexed_stays))]
 
-ghost use Rattle.std.specs.Prelude.{◌≡◌, ◌≢◌, ◌≤◌, ◌<◌, ◌+◌, ℕ, [], None, false, Ok, IfOk, IfSome, IsSome, OnOk, length};
+ghost use Rattle.std.specs.Prelude.{◌≡◌, ◌≢◌, ◌≤◌, ◌<◌, ◌+◌};
+ghost use Rattle.std.specs.Prelude.{ℕ, [], None, false, Ok, IfOk, IfSome, IsSome, OnOk, length};
 ghost use Rattle.std.specs.List.{Contains};
 ghost use Rattle.graph_core.specs.Algebra as algebra;
 ghost use Rattle.graph_core.specs.Algebra.NormalForm.{HasSize};
@@ -123,7 +124,8 @@ impl Walk {
     fn start(alloc: Global, terms: &mut Terms) -> Result<Walk, Memory>
         ensures extends { Extends terms.old terms.new }
         ensures kept { IfOk result (λ w. IsSome w.gathered) }
-        ensures walked { IfOk result (λ w. (e : ExtendedGraph) (s : Sides) → modulus terms.old ≡ algebra.modulus e → IsWalked e s terms.new nothing w) }
+        ensures walked { IfOk result (λ w. (e : ExtendedGraph) (s : Sides) →
+            modulus terms.old ≡ algebra.modulus e → IsWalked e s terms.new nothing w) }
     {
         let rest = Indexed::new(alloc, terms);
         let gathered = Gathered::new(alloc, terms)?;
@@ -143,11 +145,13 @@ impl Walk {
         this: Step,
     ) -> Result<Walk, Memory>
         requires inputs { ReadInputs extended.now.graph operands.now }
-        requires follows { (f : Taken) × IsWalked extended.now operands.now terms.old f self × CanFollow extended.now f this }
+        requires follows { (f : Taken) ×
+            IsWalked extended.now operands.now terms.old f self × CanFollow extended.now f this }
         ensures extends { Extends terms.old terms.new }
         ensures kept { IfOk result (λ w. IsSome self.gathered → IsSome w.gathered) }
         ensures walked { IfOk result (λ w. (f : Taken) → IsFrontierOf extended.now f → CanFollow extended.now f this →
-            IsWalked extended.now operands.now terms.old f self → IsWalked extended.now operands.now terms.new (step f this) w) }
+            IsWalked extended.now operands.now terms.old f self →
+            IsWalked extended.now operands.now terms.new (step f this) w) }
     {
         let _gates = extended.gates();
         match this {
@@ -174,7 +178,8 @@ impl Walk {
         ensures extends { Extends terms.old terms.new }
         ensures kept { IfOk result (λ w. IsSome self.gathered → IsSome w.gathered) }
         ensures walked { IfOk result (λ w. (f : Taken) → IsFrontierOf extended.now f → has f.added k ≡ false →
-            IsWalked extended.now operands.now terms.old f self → IsWalked extended.now operands.now terms.new (step f (steps.Add k)) w) }
+            IsWalked extended.now operands.now terms.old f self →
+            IsWalked extended.now operands.now terms.new (step f (steps.Add k)) w) }
     {
         let _gates = extended.gates();
         let column = column_poly(alloc, terms, extended, operands, k)?;
@@ -196,8 +201,10 @@ impl Walk {
         requires walked { (s : Sides) × (f : Taken) × IsWalked extended.now s terms.old f self }
         ensures extends { Extends terms.old terms.new }
         ensures kept { IfOk result (λ w. IsSome self.gathered → IsSome w.gathered) }
-        ensures walked { IfOk result (λ w. (s : Sides) (f : Taken) → IsFrontierOf extended.now f → has f.eliminated gate.v ≡ false →
-            IsWalked extended.now s terms.old f self → IsWalked extended.now s terms.new (step f (steps.Eliminate gate.v)) w) }
+        ensures walked { IfOk result (λ w. (s : Sides) (f : Taken) →
+            IsFrontierOf extended.now f → has f.eliminated gate.v ≡ false →
+            IsWalked extended.now s terms.old f self →
+            IsWalked extended.now s terms.new (step f (steps.Eliminate gate.v)) w) }
     {
         let _gates = extended.gates();
         let Walk { rest, gathered } = self;
@@ -228,7 +235,8 @@ impl Walk {
         requires walked { (e : ExtendedGraph) × (s : Sides) × (f : Taken) × IsWalked e s terms.old f self }
         ensures extends { Extends terms.old terms.new }
         ensures kept { IfOk result (λ w. IsSome self.gathered → IsSome w.gathered) }
-        ensures walked { IfOk result (λ w. (e : ExtendedGraph) (s : Sides) (f : Taken) → IsWalked e s terms.old f self → IsWalked e s terms.new f w) }
+        ensures walked { IfOk result (λ w. (e : ExtendedGraph) (s : Sides) (f : Taken) →
+            IsWalked e s terms.old f self → IsWalked e s terms.new f w) }
     {
         let Walk { rest, gathered } = self;
         match gathered {
@@ -284,7 +292,8 @@ fn gather(
     factor: Option<Poly>,
 ) -> Result<Option<Gathered>, Memory>
     requires factor { IfSome factor (IsOf terms.old) }
-    requires gathered { IfSome gathered (λ g. (e : ExtendedGraph) × (s : Sides) × (f : Taken) × (rest : Assignment → ℕ) × IsGathered e s terms.old f rest g) }
+    requires gathered { IfSome gathered (λ g. (e : ExtendedGraph) × (s : Sides) × (f : Taken) ×
+        (rest : Assignment → ℕ) × IsGathered e s terms.old f rest g) }
     ensures extends { Extends terms.old terms.new }
     ensures taken { IfOk result (HasTakenIn terms.old terms.new gate.now factor gathered) }
 {
@@ -307,7 +316,8 @@ fn gather_column(
 ) -> Result<Option<Gathered>, Memory>
     requires in_range { k < length extended.now.graph.outputs }
     requires weight { k < terms.old.exponent }
-    requires gathered { IfSome gathered (λ g. (e : ExtendedGraph) × (s : Sides) × (f : Taken) × (rest : Assignment → ℕ) × IsGathered e s terms.old f rest g) }
+    requires gathered { IfSome gathered (λ g. (e : ExtendedGraph) × (s : Sides) × (f : Taken) ×
+        (rest : Assignment → ℕ) × IsGathered e s terms.old f rest g) }
     ensures extends { Extends terms.old terms.new }
     ensures column { IfOk result (HasColumnIn terms.old terms.new extended.now k gathered) }
 {

@@ -3,8 +3,9 @@
 
 ghost use Rattle.std.specs.Prelude.{◌≡◌, ◌+◌, ◌*◌, ◌%◌, ◌<◌, IfOk, Some, length, slice_get};
 ghost use Rattle.frontier_core.specs.Columns.{column_value};
+ghost use Rattle.frontier_core.specs.Substitution.{gate_value};
 ghost use Rattle.graph_core.specs.declared.literal.Lit.{Lit};
-ghost use Rattle.graph_core.specs.Algebra.{modulus as modulus_of};
+ghost use Rattle.graph_core.specs.Algebra.{gate_axiom, modulus as modulus_of};
 ghost use Rattle.graph_core.specs.Graph.Extended.{without_cut};
 ghost use Rattle.graph_core.specs.Graph.Assignments.{Assignment};
 ghost use Rattle.graph_core.specs.Algebra.Polynomials.{value};
@@ -23,6 +24,9 @@ use std::alloc::Global;
 // The variable, and the product of two negated literals.
 const MAX_AXIOM_PARTS: usize = 5;
 
+// The product of two negated literals.
+const MAX_PRODUCT_PARTS: usize = 4;
+
 /// The axiom of a gate v with the operands A and B, -v + A * B.
 pub fn gate_poly(alloc: Global, terms: &mut Terms, gate: &Gate) -> Result<Poly, Memory>
     ensures extends { Extends terms.old terms.new }
@@ -34,6 +38,40 @@ pub fn gate_poly(alloc: Global, terms: &mut Terms, gate: &Gate) -> Result<Poly, 
     form.add_product(one(terms), gate.left, gate.right)?;
     form.add_variable(minus_one(terms), gate.v)?;
     let poly = form.poly_in(terms)?;
+    Ok(poly)
+}
+
+/// A polynomial times the product of a gate's operands.
+pub fn times_operands(
+    alloc: Global,
+    terms: &mut Terms,
+    p: &Poly,
+    gate: &Gate,
+) -> Result<Poly, Memory>
+    requires { IsOf terms.old p.now }
+    ensures extends { Extends terms.old terms.new }
+    ensures of { IfOk result (λ r. IsOf terms.new r) }
+    ensures value { IfOk result (λ r. (σ : Assignment) → value_in terms.new r σ ≡
+        (gate_value gate.now σ * value_in terms.old p.now σ) % modulus terms.old) }
+{
+    let mut form = Form::with_room(alloc, MAX_PRODUCT_PARTS)?;
+    form.add_product(one(terms), gate.left, gate.right)?;
+    let poly = form.times(terms, p)?;
+    Ok(poly)
+}
+
+/// A polynomial times the axiom of a gate.
+pub fn times_axiom(alloc: Global, terms: &mut Terms, p: &Poly, gate: &Gate) -> Result<Poly, Memory>
+    requires { IsOf terms.old p.now }
+    ensures extends { Extends terms.old terms.new }
+    ensures of { IfOk result (λ r. IsOf terms.new r) }
+    ensures value { IfOk result (λ r. (σ : Assignment) → value_in terms.new r σ ≡
+        ((gate_axiom (modulus terms.old) gate.now).value σ * value_in terms.old p.now σ) % modulus terms.old) }
+{
+    let mut form = Form::with_room(alloc, MAX_AXIOM_PARTS)?;
+    form.add_product(one(terms), gate.left, gate.right)?;
+    form.add_variable(minus_one(terms), gate.v)?;
+    let poly = form.times(terms, p)?;
     Ok(poly)
 }
 

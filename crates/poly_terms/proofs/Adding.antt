@@ -58,10 +58,10 @@ total-take f es i e h at =
 pub all_at : {X : Type 0} (P : X → Type 0) (xs : List X) (i : ℕ) (x : X) → i < length xs → x ≡ get_or xs i x → AllByRecursion P xs → P x
 all_at P xs i x h at all = subst P (sym at) (All-from_recursion P xs all i x h)
 
-spread : (a t u : ℕ) → a * t + a * u ≡ a * (t + u)
+pub spread : (a t u : ℕ) → a * t + a * u ≡ a * (t + u)
 spread a t u = omega arith
 
-turned : (l t u : ℕ) → l * t + u * l ≡ l * t + l * u
+pub turned : (l t u : ℕ) → l * t + u * l ≡ l * t + l * u
 turned l t u = omega arith
 
 -- the step of a loop that multiplies each entry

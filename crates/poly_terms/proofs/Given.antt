@@ -5,8 +5,10 @@ use Rattle.std.proofs.lemmas.Bool.{cases_Bool}
 use Rattle.std.proofs.lemmas.List.{take_more}
 use Rattle.graph_core.specs.Graph.Assignments.{Assignment, variable, bit}
 use Rattle.graph_core.specs.Algebra.Polynomials.{product, sum_of}
-use Rattle.poly_terms.specs.Monomials.{has_variable}
+use Rattle.poly_terms.specs.Entries.{Sum}
+use Rattle.poly_terms.specs.Monomials.{AreIn, Grows, has_variable, total_in}
 use Rattle.poly_terms.specs.Tables.{said}
+use Rattle.poly_terms.proofs.Adding.{spread, total_grown, turned}
 
 -- a product over the constant is 0
 pub zero_product : (σ : Assignment) (vs : List ℕ) → has_variable 0 vs ≡ true → product σ vs ≡ 0
@@ -27,3 +29,13 @@ pub one_more_part : (m : ℕ) (σ : Assignment) (parts : List (ℕ × List ℕ))
 one_more_part m σ parts i part vs h at is =
     ap₂ (λ p us. sum_of m (said (take i parts)) σ + p * product σ us) (ap (λ p. p.0) at) (is ∙ ap (λ p. p.1) at) ∙
     sym (ap (λ ps. sum_of m (said ps) σ) (take_more parts i part h) ∙ sum_said-push m σ (take i parts) (get_or parts i part))
+
+-- the step of a loop that multiplies entries by each part
+pub one_more_multiple : (m : ℕ) (old mid : List (List ℕ)) (σ : Assignment) (es : Sum) (parts : List (ℕ × List ℕ)) (i : ℕ) (part : ℕ × List ℕ) (vs : List ℕ) →
+    Grows old mid → AreIn old es → i < length parts → part ≡ get_or parts i part → vs ≡ part.1 →
+    total_in old σ es * sum_of m (said (take i parts)) σ + part.0 * product σ vs * total_in mid σ es ≡ total_in old σ es * sum_of m (said (take (i + 1) parts)) σ
+one_more_multiple m old mid σ es parts i part vs g h low at is =
+    let l = total_in old σ es in
+    let t = sum_of m (said (take i parts)) σ in
+    let u = part.0 * product σ vs in
+    ap (λ n. l * t + u * n) (total_grown old mid es σ g h) ∙ turned l t u ∙ spread l t u ∙ ap (λ n. l * n) (one_more_part m σ parts i part vs low at is)

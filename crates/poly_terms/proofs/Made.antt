@@ -7,7 +7,7 @@ use Rattle.std.proofs.lemmas.Option.{slice_get-map, slice_get_read}
 use Rattle.std.specs.List.{AllByRecursion}
 use Rattle.std.specs.Prelude.{option_map}
 use Rattle.graph_core.specs.Graph.Assignments.{Assignment}
-use Rattle.graph_core.specs.Algebra.Polynomials.{product, sum_of}
+use Rattle.graph_core.specs.Algebra.Polynomials.{Polynomial, product, sum_of, value}
 use Rattle.poly_terms.specs.Entries.{IsGathered, Sum, Entry, appended, total}
 use Rattle.poly_terms.specs.Monomials.{Adds, AreIn, AreMonomials, Grows, total_in}
 use Rattle.poly_terms.specs.Tables.{Table, Extends, IsOf, modulus, monomial_in, monomials_in, value_in}
@@ -50,6 +50,15 @@ product-values w ms t p q p' q' σ e f g =
     ap₂ (λ a b. (total_in ms σ a * total_in ms σ b) % 2 ^ w) f g ∙ ap (λ (u : Table). (total_in u.monomials σ p * total_in u.monomials σ q) % modulus u) e in
     one ∙ sym (product_of_reduced (modulus t) (total_in t.monomials σ p) (total_in t.monomials σ q)) ∙
     sym (ap₂ (λ a b. (a * b) % modulus t) (value-total t p σ) (value-total t q σ))
+
+-- a total times what parts say is the product of the values
+pub multiple-values : (w : ℕ) (ms : List (List ℕ)) (t : Table) (p p' : Sum) (parts : Polynomial) (σ : Assignment) → table_of w ms ≡ t → p' ≡ p →
+    (total_in ms σ p' * sum_of (2 ^ w) parts σ) % 2 ^ w ≡ (value_in t p σ * value (modulus t) parts σ) % modulus t
+multiple-values w ms t p p' parts σ e f =
+    let one : (total_in ms σ p' * sum_of (2 ^ w) parts σ) % 2 ^ w ≡ (total_in t.monomials σ p * sum_of (modulus t) parts σ) % modulus t =
+    ap (λ a. (total_in ms σ a * sum_of (2 ^ w) parts σ) % 2 ^ w) f ∙ ap (λ (u : Table). (total_in u.monomials σ p * sum_of (modulus u) parts σ) % modulus u) e in
+    one ∙ sym (product_of_reduced (modulus t) (total_in t.monomials σ p) (sum_of (modulus t) parts σ)) ∙
+    sym (ap (λ a. (a * value (modulus t) parts σ) % modulus t) (value-total t p σ))
 
 pub value_below : (t : Table) (p : Sum) (σ : Assignment) → value_in t p σ % modulus t ≡ value_in t p σ
 value_below t p σ = mod-mod (sum_of (modulus t) (monomials_in t p) σ) (modulus t)

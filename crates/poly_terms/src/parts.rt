@@ -1,7 +1,8 @@
 // Terms of coefficients and variables as a caller gives them.
-ghost use Rattle.std.specs.Prelude.{◌≡◌, ◌*◌, ℕ, IfOk, OnOk, []};
+ghost use Rattle.std.specs.Prelude.{◌≡◌, ◌*◌, ◌^◌, ℕ, IfOk, OnOk, []};
 ghost use Rattle.graph_core.specs.Algebra.Polynomials.{product, sum_of};
-ghost use Rattle.poly_terms.specs.Monomials.{Adds, Grows};
+ghost use Rattle.mv_nums.specs.Residue.{IsWidth};
+ghost use Rattle.poly_terms.specs.Monomials.{Adds, AreIn, Grows, total_in};
 ghost use Rattle.poly_terms.specs.Tables.{given, said};
 
 use crate::numbering::Numbering;
@@ -56,6 +57,59 @@ fn push_part(
     if !monomial::has_variable(variables, 0) {
         let monomial = monomial::from_variables(alloc, variables)?;
         multiplication::push_term(table, monomial, coefficient, out)?;
+    }
+    Ok(())
+}
+
+/// The products of each term with each part, over a table that takes their monomials.
+pub(crate) fn products_of(
+    alloc: Global,
+    table: &mut Numbering,
+    exponent: u32,
+    entries: &[Term],
+    parts: &[(u128, Variables)],
+) -> Result<Vec<Term>, AllocError>
+    requires exponent { IsWidth exponent }
+    requires entries { AreIn table.old entries.now }
+    ensures grows { Grows table.old table.new }
+    ensures adds { IfOk result (λ out. Adds (2 ^ exponent) table.old table.new [] out.items
+        (λ σ. total_in table.old σ entries.now * sum_of (2 ^ exponent) (said parts.now) σ)) }
+{
+    let count = entries.len().saturating_mul(parts.len());
+    let mut out = Vec::with_capacity(alloc, count)?;
+    for (coefficient, variables) in parts {
+        push_products(
+            alloc,
+            table,
+            exponent,
+            *coefficient,
+            variables.as_slice(),
+            entries,
+            &mut out,
+        )?;
+    }
+    Ok(out)
+}
+
+// Puts the products of a part with each term behind others. A part over the constant 0 has none.
+fn push_products(
+    alloc: Global,
+    table: &mut Numbering,
+    exponent: u32,
+    coefficient: u128,
+    variables: &[u32],
+    entries: &[Term],
+    out: &mut Vec<Term>,
+) -> Result<(), AllocError>
+    requires exponent { IsWidth exponent }
+    requires entries { AreIn table.old entries.now }
+    ensures grows { Grows table.old table.new }
+    ensures adds { OnOk result (Adds (2 ^ exponent) table.old table.new out.old.items out.new.items
+        (λ σ. coefficient * product σ variables.now * total_in table.old σ entries.now)) }
+{
+    if !monomial::has_variable(variables, 0) {
+        let monomial = monomial::from_variables(alloc, variables)?;
+        multiplication::multiply_behind(table, exponent, &monomial, coefficient, entries, out)?;
     }
     Ok(())
 }

@@ -120,6 +120,27 @@ impl Terms {
         Ok(Poly::of(entries))
     }
 
+    /// A polynomial times the sum of coefficients of any size, each times a product of variables.
+    #[tactic(auto, using(crate::specs::Laws::extends_itself, crate::proofs::Made::extends_grown))]
+    pub fn times(&mut self, p: &Poly, parts: &[(u128, Variables)]) -> Result<Poly, Memory>
+        requires { IsOf self.old p.now }
+        ensures extends { Extends self.old self.new }
+        ensures of { IfOk result (IsOf self.new) }
+        ensures value { IfOk result (λ r. (σ : Assignment) → value_in self.new r σ ≡
+            (value_in self.old p.now σ * value (modulus self.old) (said parts.now) σ) % modulus self.old) }
+    {
+        let raw = parts::products_of(
+            self.alloc,
+            &mut self.monomials,
+            self.exponent,
+            p.entries(),
+            parts,
+        )?;
+        self.monomials.stand_once();
+        let entries = addition::gather(self.alloc, self.exponent, raw)?;
+        Ok(Poly::of(entries))
+    }
+
     /// A sum plus the product of two polynomials.
     #[tactic(auto, using(crate::specs::Laws::extends_on, crate::specs::Laws::stays))]
     pub fn combine(&mut self, sum: &Poly, p: &Poly, q: &Poly) -> Result<Poly, Memory>

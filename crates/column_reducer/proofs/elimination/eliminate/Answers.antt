@@ -13,7 +13,7 @@ returns-then-size-eq0-clause-eliminated c =
 
 pub returns-clause-eliminated : goal.returns-clause-eliminated
 returns-clause-eliminated c =
-    let t = c.times_product.new.terms in
+    let t = c.times_operands.new.terms in
     eliminated_of c.args.terms.now c.quotient.new.self t t c.args.gate.now c.args.rest.sum c.in_ok-taken.taken c.in_ok-by.by c.in_ok-more.more
     c.take.new.self c.add.new.self c.in_ok-factor.factor c.in_ok-by.ensures.extends c.in_ok-more.ensures.extends (extends_itself t)
     c.in_ok-taken.ensures.of c.in_ok-by.ensures.of c.in_ok-add.ensures.of c.in_ok-add.ensures.indexed c.in_ok-taken.ensures.rest c.in_ok-taken.ensures.quotient c.in_ok-by.ensures.value

@@ -1,0 +1,39 @@
+use Rattle.std.proofs.Common.{◌*◌, ◌^◌, ◌+◌, [], subst, take, arith}
+use Rattle.std.proofs.lemmas.List.{take_all}
+use Rattle.graph_core.specs.Algebra.Polynomials.{product, sum_of}
+use Rattle.poly_terms.specs.Monomials.{Adds, total_in}
+use Rattle.poly_terms.specs.Tables.{said}
+use Rattle.poly_terms.specs.Laws.{all_in_grown, grows_on}
+use Rattle.poly_terms.proofs.Adding.{adds_on}
+use Rattle.poly_terms.proofs.Given.{one_more_multiple}
+use Rattle.poly_terms.proofs.parts.products_of.Goals as goal
+
+pub push_products-requires-clause-entries : goal.push_products-requires-clause-entries
+push_products-requires-clause-entries c =
+    all_in_grown c.args.table.now c.loop-coefficient.table c.args.entries.now c.loop-coefficient.invariant.grows c.requires.entries
+
+pub loop-coefficient-preserved : goal.loop-coefficient-preserved
+loop-coefficient-preserved c =
+    let m = 2 ^ c.args.exponent in
+    let old = c.args.table.now in
+    let mid = c.loop-coefficient.table in
+    let new = c.push_products.new.table in
+    let es = c.args.entries.now in
+    let parts = c.args.parts.now in
+    let part = c.loop-coefficient-item.result in
+    let vs = c.as_slice.result.now in
+    let i = c.loop-coefficient.coefficient-index in
+    let at = c.loop-coefficient.invariant in
+    record {
+      grows = grows_on old mid new at.grows c.push_products.ensures.grows;
+      adds = adds_on m old mid new [] c.loop-coefficient.out.items c.push_products.new.out.items
+          (λ σ. total_in old σ es * sum_of m (said (take i parts)) σ) (λ σ. part.0 * product σ vs * total_in mid σ es) (λ σ. total_in old σ es * sum_of m (said (take (i + 1) parts)) σ)
+          at.adds c.in_ok-push_products.ensures.adds
+          (λ σ. one_more_multiple m old mid σ es parts i part vs at.grows c.requires.entries c.loop-coefficient-test.true c.loop-coefficient-item.is c.as_slice.ensures);
+    }
+
+pub returns-clause-adds : goal.returns-clause-adds
+returns-clause-adds c =
+    let m = 2 ^ c.args.exponent in
+    subst (λ ps. Adds m c.args.table.now c.loop-coefficient.table [] c.loop-coefficient.out.items (λ σ. total_in c.args.table.now σ c.args.entries.now * sum_of m (said ps) σ))
+    (take_all c.loop-coefficient.coefficient-index c.args.parts.now (omega arith)) c.loop-coefficient.invariant.adds
