@@ -20,7 +20,7 @@ use Rattle.cdcl_core.proofs.Trails.{neg-neg, variable-neg}
 use Rattle.cdcl_core.proofs.Trails.{one_place}
 use Rattle.cdcl_core.proofs.Standings.{refuted_now, refuted_before, live_has}
 use Rattle.cdcl_core.specs.Search.{IsConflictAt}
-use Rattle.cdcl_core.specs.Analyses.{AnalysisView, IsSeen, IsAnalysis, SeesNew, Sees, SeesAll, IsFalseOrSeen, Refutes, IsResolved}
+use Rattle.cdcl_core.specs.Analyses.{AnalysisView, IsSeen, IsAnalysis, IsLate, Sees, SeesEarly, SeesLate, SeesAll, IsFalseOrSeen, Refutes, IsResolved, place_of}
 use Rattle.cdcl_core.proofs.SearchLemmas.{IsLearnt, map_neg_has}
 use Rattle.unit_prop.specs.Trail.{variable}
 
@@ -52,14 +52,14 @@ module _ (s : Standing) (h : IsSound s) (a : AnalysisView) (an : IsAnalysis s a)
   only : (j : ℕ) → j < length s.trail.literals → variable (at s.trail.literals j) ≡ variable l → j ≡ place.0
   only j b e = one_place s.trail (trail_of s h) j place.0 b place.1 (e ∙ sym size)
 
-  early : reason_at a.places (variable l) ≡ None → place.0 < a.level
-  early e = ⊎_elim (λ k. k) (λ k. let f : reason_at a.places (variable l) ≡ Some place.0 = ap (reason_at a.places) (sym size) ∙ an.here place.0 k place.1 in absurd (cc)) (cases_lt place.0 a.level)
+  early : (IsLate s.trail.literals a l → ⊥) → place.0 < a.level
+  early e = ⊎_elim (λ k. k) (λ k. let f : place_of a l ≡ place.0 = ap (λ v. slice_index_or a.places v 0) (sym size) ∙ an.here place.0 k place.1 in
+      absurd (e (omega (arith, f, k), (omega (arith, f, place.1), subst (λ p. variable (at s.trail.literals p) ≡ variable l) (sym f) size)))) (cases_lt place.0 a.level)
 
-  by_early : reason_at a.places (variable l) ≡ None → IsAnalysis s (record { level = a.level; seen = set a.seen (variable l) true; places = a.places; lits = a.lits ++ l ∷ []; lowest = a.lowest })
+  by_early : (IsLate s.trail.literals a l → ⊥) → IsAnalysis s (record { level = a.level; seen = set a.seen (variable l) true; places = a.places; lits = a.lits ++ l ∷ []; lowest = a.lowest })
   by_early e = record {
     sizes = (length-set a.seen (variable l) true ∙ an.sizes.0, an.sizes.1);
     here = an.here;
-    back = an.back;
     from = λ k has. ⊎_elim (an.from k) (λ f. subst (λ x. Contains (take a.level s.trail.literals) (neg_ℤ x)) f (subst (Contains (take a.level s.trail.literals)) place.2 (at_front a.level s.trail.literals place.0 an.low.1 (early e)))) (Contains-push_cases a.lits l k has);
     all = λ j low seen. ⊎_elim (λ f. let q = only j (omega (arith, an.low.1)) f in subst (Contains (a.lits ++ l ∷ [])) (sym (ap neg_ℤ (ap (at s.trail.literals) q ∙ place.2) ∙ neg-neg l)) (Contains-push a.lits l))
         (λ f. Contains-append_left a.lits (l ∷ []) (neg_ℤ (at s.trail.literals j)) (an.all j low f)) (seen_after a.seen (variable l) (variable (at s.trail.literals j)) seen);
@@ -68,11 +68,10 @@ module _ (s : Standing) (h : IsSound s) (a : AnalysisView) (an : IsAnalysis s a)
     lowest = λ b. seen_kept a.seen (variable l) (variable (at s.trail.literals a.lowest)) room (an.lowest b);
   }
 
-  by_late : (p : ℕ) → reason_at a.places (variable l) ≡ Some p → IsAnalysis s (record { level = a.level; seen = set a.seen (variable l) true; places = a.places; lits = a.lits; lowest = min a.lowest p })
-  by_late p e = record {
+  by_late : IsLate s.trail.literals a l → IsAnalysis s (record { level = a.level; seen = set a.seen (variable l) true; places = a.places; lits = a.lits; lowest = min a.lowest (place_of a l) })
+  by_late late = record {
     sizes = (length-set a.seen (variable l) true ∙ an.sizes.0, an.sizes.1);
     here = an.here;
-    back = an.back;
     from = an.from;
     all = λ j low seen. ⊎_elim (λ f. absurd (omega (arith, only j (omega (arith, an.low.1)) f, one, back.0))) (an.all j low) (seen_after a.seen (variable l) (variable (at s.trail.literals j)) seen);
     low = (omega (arith, an.low.0, back.0), an.low.1);
@@ -80,8 +79,11 @@ module _ (s : Standing) (h : IsSound s) (a : AnalysisView) (an : IsAnalysis s a)
     lowest = λ b. ⊎_elim (λ k. subst IsSeenAfter (sym (smaller k)) (seen_kept a.seen (variable l) (variable (at s.trail.literals a.lowest)) room (an.lowest (omega (arith, back.1))))) (λ k. subst IsSeenAfter (sym (greater k)) (subst (λ v. slice_index_or (set a.seen (variable l) true) v false ≡ true) (sym back.2) (get_or-set_same a.seen (variable l) true false room))) (cases_lt a.lowest p);
   }
     where
+      p : ℕ
+      p = place_of a l
+
       back : (a.level ≤ p) × (p < length s.trail.literals) × (variable (at s.trail.literals p) ≡ variable l)
-      back = an.back (variable l) p e
+      back = (late.0, late.1.0, late.1.1)
 
       one : p ≡ place.0
       one = only p back.1 back.2
@@ -113,24 +115,26 @@ pub record SeesOne (s : Standing) (old new : AnalysisView) (l : ℤ) : Type 0 wh
   pub kept : (v : ℕ) → IsSeen old v → IsSeen new v
   pub seen : IsSeen new (variable l)
 
-pub sees_one : (s : Standing) (a new : AnalysisView) (l : ℤ) → IsSound s → IsAnalysis s a → variable l ≤ s.trail.greatest → Contains s.trail.literals (neg_ℤ l) ⊎ IsSeen a (variable l) → Sees a new l → SeesOne s a new l
+pub sees_one : (s : Standing) (a new : AnalysisView) (l : ℤ) → IsSound s → IsAnalysis s a → variable l ≤ s.trail.greatest → Contains s.trail.literals (neg_ℤ l) ⊎ IsSeen a (variable l) → Sees s.trail.literals a new l → SeesOne s a new l
 sees_one s a new l h an range told (inl e) = subst (λ (b : AnalysisView). SeesOne s a b l) (sym e.1) (record { analysis = an; level = refl; less = omega arith; kept = λ v k. k; seen = e.0 })
 sees_one s a new l h an range (inr seen) (inr e) = absurd (true≢false (sym seen ∙ e.0))
-sees_one s a new l h an range (inl false') (inr e) = by_place (reason_at a.places (variable l)) refl e.1
+sees_one s a new l h an range (inl false') (inr e) = ⊎_elim by_late_one by_early_one e.1
   where
     room : variable l < length a.seen
     room = omega (arith, an.sizes.0)
 
-    by_place : (o : Option ℕ) → reason_at a.places (variable l) ≡ o → SeesNew a new l o → SeesOne s a new l
-    by_place None f n = subst (λ (b : AnalysisView). SeesOne s a b l) (sym n) (record {
-      analysis = by_early s h a an l range false' f;
+    by_early_one : SeesEarly s.trail.literals a new l → SeesOne s a new l
+    by_early_one f = subst (λ (b : AnalysisView). SeesOne s a b l) (sym f.1) (record {
+      analysis = by_early s h a an l range false' f.0;
       level = refl;
       less = omega arith;
       kept = λ v k. seen_kept a.seen (variable l) v room k;
       seen = get_or-set_same a.seen (variable l) true false room;
     })
-    by_place (Some p) f n = subst (λ (b : AnalysisView). SeesOne s a b l) (sym n) (record {
-      analysis = by_late s h a an l range false' p f;
+
+    by_late_one : SeesLate s.trail.literals a new l → SeesOne s a new l
+    by_late_one f = subst (λ (b : AnalysisView). SeesOne s a b l) (sym f.1) (record {
+      analysis = by_late s h a an l range false' f.0;
       level = refl;
       less = omega arith;
       kept = λ v k. seen_kept a.seen (variable l) v room k;
@@ -149,48 +153,37 @@ sees_more s old mid new c n h one = record {
 }
 
 -- ---- the places of the last level
-pub record ArePlacesBelow (s : Standing) (level n : ℕ) (places : List (Option ℕ)) : Type 0 where
+pub record ArePlacesBelow (s : Standing) (level n : ℕ) (places : List ℕ) : Type 0 where
   pub size : length places ≡ suc s.trail.greatest
-  pub here : (j : ℕ) → level ≤ j → j < n → reason_at places (variable (at s.trail.literals j)) ≡ Some j
-  pub back : (v p : ℕ) → reason_at places v ≡ Some p → (level ≤ p) × (p < n) × (variable (at s.trail.literals p) ≡ v)
-
-nowhere : {X : Type 0} (n v : ℕ) → slice_index_or (replicate n (let o : Option X = None in o)) v None ≡ None
-nowhere zero v = refl
-nowhere (suc n) zero = refl
-nowhere (suc n) (suc v) = nowhere n v
+  pub here : (j : ℕ) → level ≤ j → j < n → slice_index_or places (variable (at s.trail.literals j)) 0 ≡ j
 
 unseen : (n v : ℕ) → slice_index_or (replicate n false) v false ≡ false
 unseen zero v = refl
 unseen (suc n) zero = refl
 unseen (suc n) (suc v) = unseen n v
 
-pub places_begin : (s : Standing) (level n : ℕ) (places : List (Option ℕ)) → n ≡ suc s.trail.greatest → length places ≡ n → places ≡ replicate n None → ArePlacesBelow s level level places
-places_begin s level n places size len e = record {
-  size = len ∙ size;
+pub places_begin : (s : Standing) (level : ℕ) (places : List ℕ) → length places ≡ suc s.trail.greatest → ArePlacesBelow s level level places
+places_begin s level places size = record {
+  size = size;
   here = λ j a b. absurd (omega arith);
-  back = λ v p f. let g : None ≡ Some p = sym (nowhere n v) ∙ ap (λ (xs : List (Option ℕ)). reason_at xs v) (sym e) ∙ f in absurd (cc);
 }
 
-pub places_more : (s : Standing) (level n : ℕ) (places : List (Option ℕ)) → IsSound s → level ≤ n → n < length s.trail.literals → ArePlacesBelow s level n places → ArePlacesBelow s level (n + 1) (set places (variable (at s.trail.literals n)) (Some n))
+pub places_more : (s : Standing) (level n : ℕ) (places : List ℕ) → IsSound s → level ≤ n → n < length s.trail.literals → ArePlacesBelow s level n places → ArePlacesBelow s level (n + 1) (set places (variable (at s.trail.literals n)) n)
 places_more s level n places h low b a = record {
-  size = length-set places (variable (at s.trail.literals n)) (Some n) ∙ a.size;
-  here = λ j high k. ⊎_elim (λ m. get_or-set_other places (variable (at s.trail.literals n)) (variable (at s.trail.literals j)) (Some n) None (λ e. let q = one_place s.trail (trail_of s h) j n (omega arith) b e in omega arith) ∙ a.here j high m)
-      (λ e. ap (λ i. reason_at (set places (variable (at s.trail.literals n)) (Some n)) (variable (at s.trail.literals i))) e ∙ get_or-set_same places (variable (at s.trail.literals n)) (Some n) None room ∙ ap Some (sym e)) (below_suc j n k);
-  back = λ v p f. ⊎_elim (λ e. let g : Some n ≡ Some p = sym (get_or-set_same places (variable (at s.trail.literals n)) (Some n) None room) ∙ ap (reason_at (set places (variable (at s.trail.literals n)) (Some n))) (sym e) ∙ f in
-      let same : n ≡ p = cc in (omega arith, omega arith, ap (λ i. variable (at s.trail.literals i)) (sym same) ∙ sym e))
-      (λ e. let q = a.back v p (sym (get_or-set_other places (variable (at s.trail.literals n)) v (Some n) None e) ∙ f) in (q.0, omega (arith, q.1), q.2)) (cases_eq v (variable (at s.trail.literals n)));
+  size = length-set places (variable (at s.trail.literals n)) n ∙ a.size;
+  here = λ j high k. ⊎_elim (λ m. get_or-set_other places (variable (at s.trail.literals n)) (variable (at s.trail.literals j)) n 0 (λ e. let q = one_place s.trail (trail_of s h) j n (omega arith) b e in omega arith) ∙ a.here j high m)
+      (λ e. ap (λ i. slice_index_or (set places (variable (at s.trail.literals n)) n) (variable (at s.trail.literals i)) 0) e ∙ get_or-set_same places (variable (at s.trail.literals n)) n 0 room ∙ sym e) (below_suc j n k);
 }
   where
     room : variable (at s.trail.literals n) < length places
     room = omega (arith, a.size, ((trail_of s h).in_range n b).1)
 
 -- an analysis that has seen nothing
-pub analysis_begins : (s : Standing) (level n size : ℕ) (seen : List Bool) (places : List (Option ℕ)) → level ≤ length s.trail.literals → length s.trail.literals ≤ n → n ≤ length s.trail.literals → size ≡ suc s.trail.greatest → length seen ≡ size → seen ≡ replicate size false → ArePlacesBelow s level n places →
+pub analysis_begins : (s : Standing) (level n size : ℕ) (seen : List Bool) (places : List ℕ) → level ≤ length s.trail.literals → length s.trail.literals ≤ n → n ≤ length s.trail.literals → size ≡ suc s.trail.greatest → length seen ≡ size → seen ≡ replicate size false → ArePlacesBelow s level n places →
     IsAnalysis s (record { level = level; seen = seen; places = places; lits = []; lowest = length s.trail.literals })
 analysis_begins s level n size seen places low up down is len none a = record {
   sizes = (len ∙ is, a.size);
   here = λ j high b. a.here j high (omega arith);
-  back = λ v p e. let q = a.back v p e in (q.0, omega (arith, q.1), q.2);
   from = λ k has. absurd (contains_nil k has);
   all = λ j k e. absurd (true≢false (sym e ∙ nothing (variable (at s.trail.literals j))));
   low = (low, low);

@@ -14,31 +14,53 @@ use Rattle.unit_prop.specs.Trail.{variable}
 pub record AnalysisView : Type 0 where
   pub level : ℕ
   pub seen : List Bool
-  pub places : List (Option ℕ)
+  pub places : List ℕ
   pub lits : List ℤ
   pub lowest : ℕ
 
 abbrev pub IsSeen : AnalysisView → ℕ → Type 0
 IsSeen a v = slice_index_or a.seen v false ≡ true
 
+-- the place that is told of a literal's variable
+abbrev pub place_of : AnalysisView → ℤ → ℕ
+place_of a l = slice_index_or a.places (variable l) 0
+
+-- a literal's variable stands there
+abbrev pub IsPlaceOf : List ℤ → ℕ → ℤ → Type 0
+IsPlaceOf standing p l = (p < length standing) × (variable (at standing p) ≡ variable l)
+
 -- The places are those of the last level; the literals are the negations of what was seen before it; nothing of it was seen below the lowest place.
 pub record IsAnalysis (s : Standing) (a : AnalysisView) : Type 0 where
   pub sizes : (length a.seen ≡ suc s.trail.greatest) × (length a.places ≡ suc s.trail.greatest)
-  pub here : (j : ℕ) → a.level ≤ j → j < length s.trail.literals → reason_at a.places (variable (at s.trail.literals j)) ≡ Some j
-  pub back : (v p : ℕ) → reason_at a.places v ≡ Some p → (a.level ≤ p) × (p < length s.trail.literals) × (variable (at s.trail.literals p) ≡ v)
+  pub here : (j : ℕ) → a.level ≤ j → j < length s.trail.literals → place_of a (at s.trail.literals j) ≡ j
   pub from : (k : ℤ) → Contains a.lits k → Contains (take a.level s.trail.literals) (neg_ℤ k)
   pub all : (j : ℕ) → j < a.level → IsSeen a (variable (at s.trail.literals j)) → Contains a.lits (neg_ℤ (at s.trail.literals j))
   pub low : (a.level ≤ a.lowest) × (a.level ≤ length s.trail.literals)
   pub bound : (j : ℕ) → a.level ≤ j → j < length s.trail.literals → IsSeen a (variable (at s.trail.literals j)) → a.lowest ≤ j
   pub lowest : a.lowest < length s.trail.literals → IsSeen a (variable (at s.trail.literals a.lowest))
 
--- what seeing one literal does
-abbrev pub SeesNew : AnalysisView → AnalysisView → ℤ → Option ℕ → Type 0
-SeesNew old new l None = new ≡ record { level = old.level; seen = slice_set old.seen (variable l) true; places = old.places; lits = old.lits ++ l ∷ []; lowest = old.lowest }
-SeesNew old new l (Some p) = new ≡ record { level = old.level; seen = slice_set old.seen (variable l) true; places = old.places; lits = old.lits; lowest = min old.lowest p }
+-- a literal's variable stands in the last level, at the place that is told of it
+abbrev pub IsLate : List ℤ → AnalysisView → ℤ → Type 0
+IsLate standing a l = (a.level ≤ place_of a l) × IsPlaceOf standing (place_of a l) l
 
-abbrev pub Sees : AnalysisView → AnalysisView → ℤ → Type 0
-Sees old new l = (IsSeen old (variable l) × (new ≡ old)) ⊎ ((slice_index_or old.seen (variable l) false ≡ false) × SeesNew old new l (reason_at old.places (variable l)))
+abbrev pub SeesLate : List ℤ → AnalysisView → AnalysisView → ℤ → Type 0
+SeesLate standing old new l = IsLate standing old l ×
+    (new ≡ record {
+      level = old.level;
+      seen = slice_set old.seen (variable l) true;
+      places = old.places;
+      lits = old.lits;
+      lowest = min old.lowest (place_of old l);
+    })
+
+abbrev pub SeesEarly : List ℤ → AnalysisView → AnalysisView → ℤ → Type 0
+SeesEarly standing old new l = (IsLate standing old l → ⊥) ×
+    (new ≡ record { level = old.level; seen = slice_set old.seen (variable l) true; places = old.places; lits = old.lits ++ l ∷ []; lowest = old.lowest })
+
+-- what seeing one literal does: it is seen already, or comes from the last level, or goes to the lemma
+abbrev pub Sees : List ℤ → AnalysisView → AnalysisView → ℤ → Type 0
+Sees standing old new l = (IsSeen old (variable l) × (new ≡ old)) ⊎ ((slice_index_or old.seen (variable l) false ≡ false) ×
+    (SeesLate standing old new l ⊎ SeesEarly standing old new l))
 
 -- more is seen, and these variables are
 pub record SeesAll (old new : AnalysisView) (c : Clause) (n : ℕ) : Type 0 where
@@ -57,7 +79,8 @@ Marks s old new r = (c : Clause) × (clause_at s.clauses r ≡ Some c) × SeesAl
 
 -- what was seen among the first n literals refutes the live clauses
 abbrev pub Refutes : Standing → AnalysisView → ℕ → Type 0
-Refutes s a n = (standing : List ℤ) → ((j : ℕ) → j < n → IsSeen a (variable (at s.trail.literals j)) → Contains standing (at s.trail.literals j)) → IsRefuted (live_of s.clauses) standing
+Refutes s a n = (standing : List ℤ) → ((j : ℕ) → j < n → IsSeen a (variable (at s.trail.literals j)) → Contains standing (at s.trail.literals j)) →
+    IsRefuted (live_of s.clauses) standing
 
 -- every literal behind this place was forced
 abbrev pub IsForcedBehind : Standing → ℕ → Type 0

@@ -34,12 +34,14 @@ pub record IsReady (max : ℕ) (s : Standing) (order base : ℕ) (marks : List �
 -- what is known of the assumptions at an answer: they are refuted, or true in a model, or neither is known
 abbrev pub IsEnd : SolverView → List ℤ → Solved → Type 0
 IsEnd s assumptions Refuted = IsRup s.live (map neg_ℤ assumptions)
-IsEnd s assumptions (Model values) = (length values.items ≡ s.max) × Satisfies (assignment_of values.items) s.live × All (λ l. signed (assignment_of values.items) l ≡ true) assumptions
+IsEnd s assumptions (Model values) =
+    (length values.items ≡ s.max) × Satisfies (assignment_of values.items) s.live × All (λ l. signed (assignment_of values.items) l ≡ true) assumptions
 IsEnd s assumptions Spent = IsRup s.live (map neg_ℤ assumptions) → ⊥
 
 -- One turn: it ends, or a lemma is learnt and logged.
 abbrev pub Turns : SolverView → LogView → SolverView → LogView → List ℤ → Option Solved → Type 0
-Turns old log new after assumptions None = (c : Clause) × IsLemma old.live c × IsClauseInRange old.max c × (new ≡ with_clause old c) × (after ≡ with_added log c)
+Turns old log new after assumptions None =
+    (c : Clause) × IsLemma old.live c × IsClauseInRange old.max c × (new ≡ with_clause old c) × (after ≡ with_added log c)
 Turns old log new after assumptions (Some Spent) = ⊥
 Turns old log new after assumptions (Some Refuted) = IsEnd old assumptions Refuted × (new ≡ old) × (after ≡ log)
 Turns old log new after assumptions (Some (Model values)) = IsEnd old assumptions (Model values) × (new ≡ old) × (after ≡ log)

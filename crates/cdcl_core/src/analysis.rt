@@ -1,9 +1,9 @@
 // What is known of a conflict, and the lemma that comes of it.
-ghost use Rattle.std.specs.Prelude.{◌≡◌, ◌<◌, ◌≤◌, ◌^◌, ◌⊎◌, ℤ, neg_ℤ, length, IfOk, OnOk, IsSome, Some};
+ghost use Rattle.std.specs.Prelude.{◌≡◌, ◌<◌, ◌≤◌, ◌^◌, ◌⊎◌, ℤ, neg_ℤ, length, IfOk, OnOk, IsSome, IsTrue, Some, ◌↔◌};
 ghost use Rattle.std.specs.List.{Contains};
 ghost use Rattle.unit_prop.specs.Standing.{Standing, IsSound, clause_at};
 ghost use Rattle.cdcl_core.specs.Analyses.{AnalysisView, IsAnalysis, IsSeen, IsFalseOrSeen, IsForcedBehind};
-ghost use Rattle.cdcl_core.specs.Analyses.{IsResolved, Marks, Refutes, Sees, lemma_of};
+ghost use Rattle.cdcl_core.specs.Analyses.{IsPlaceOf, IsResolved, Marks, Refutes, Sees, lemma_of};
 ghost use Rattle.cdcl_core.specs.Search.{IsConflictAt};
 ghost use Rattle.unit_prop.specs.Trail.{variable};
 
@@ -13,6 +13,7 @@ use crate::order::Order;
 use graph_core::Memory;
 use std::alloc::Global;
 use std::marker::Model;
+use std::mem;
 use unit_prop::{Propagator, Ref};
 
 /// What is known of a conflict while its reasons are resolved from the last one down.
@@ -22,8 +23,8 @@ pub struct Analysis {
     level: usize,
     /// whether each variable's literal is in the clause resolved so far, or was resolved away
     seen: Vec<bool>,
-    /// where each variable of the last level stands
-    places: Vec<Option<usize>>,
+    /// where each variable of the last level stands; of other variables it says nothing
+    places: Vec<usize>,
     /// the literals of the lemma from before the last level
     lits: Vec<i32>,
     /// the first place of the last level whose variable was seen
@@ -51,13 +52,14 @@ impl Analysis {
         propagator: &Propagator,
         max: u32,
         conflict: Conflict,
+        room: &mut Vec<usize>,
     ) -> Result<Analysis, Memory>
         requires conflict { IsConflictAt propagator.now conflict.clause conflict.level }
         requires max { propagator.now.trail.greatest ≡ max }
         ensures resolved { IfOk result (λ a. IsResolved propagator.now a) }
         ensures level { IfOk result (λ a. a.level ≡ conflict.level) }
     {
-        let mut analysis = Analysis::new(alloc, propagator, max, conflict.level)?;
+        let mut analysis = Analysis::new(alloc, propagator, max, conflict.level, room)?;
         analysis.mark(propagator, conflict.clause)?;
         analysis.resolve(propagator)?;
         Ok(analysis)
@@ -78,8 +80,12 @@ impl Analysis {
         }
     }
 
-    /// The literals of the lemma.
-    pub fn into_lits(self, propagator: &Propagator) -> Result<Vec<i32>, Memory>
+    /// The literals of the lemma. The room is given back.
+    pub fn into_lits(
+        self,
+        propagator: &Propagator,
+        room: &mut Vec<usize>,
+    ) -> Result<Vec<i32>, Memory>
         requires resolved { IsResolved propagator.now self }
         requires sound { IsSound propagator.now }
         requires signed { propagator.now.trail.greatest < 2 ^ 31 }
@@ -88,22 +94,25 @@ impl Analysis {
         let last = propagator.trail()[self.lowest];
         let mut lits = self.lits;
         lits.push(negation(last))?;
+        *room = self.places;
         Ok(lits)
     }
 
     // Sees one literal that is false.
-    fn see(&mut self, lit: i32) -> Result<(), Memory>
+    fn see(&mut self, trail: &[i32], lit: i32) -> Result<(), Memory>
         requires seen { variable lit < length self.old.seen }
         requires places { variable lit < length self.old.places }
-        ensures { OnOk result (Sees self.old self.new lit) }
+        ensures { OnOk result (Sees trail.now self.old self.new lit) }
     {
         let var = variable(lit) as usize;
         if self.seen[var] {
             return Ok(());
         }
-        match self.places[var] {
-            None => self.lits.push(lit)?,
-            Some(place) => self.lowest = self.lowest.min(place),
+        let place = self.places[var];
+        if self.level <= place && stands_at(trail, place, lit) {
+            self.lowest = self.lowest.min(place);
+        } else {
+            self.lits.push(lit)?;
         }
         self.seen[var] = true;
         Ok(())
@@ -114,6 +123,7 @@ impl Analysis {
         propagator: &Propagator,
         max: u32,
         level: usize,
+        room: &mut Vec<usize>,
     ) -> Result<Analysis, Memory>
         requires sound { IsSound propagator.now }
         requires max { propagator.now.trail.greatest ≡ max }
@@ -123,9 +133,9 @@ impl Analysis {
     {
         let size = max as usize + 1;
         let trail = propagator.trail();
-        let mut places = Vec::from_elem(alloc, None, size)?;
+        let mut places = places_in(alloc, room, size)?;
         for place in level..trail.len() {
-            places[variable(trail[place]) as usize] = Some(place);
+            places[variable(trail[place]) as usize] = place;
         }
         Ok(Analysis {
             level,
@@ -145,8 +155,9 @@ impl Analysis {
         ensures analysis { OnOk result (IsAnalysis propagator.now self.new) }
         ensures marks { OnOk result (Marks propagator.now self.old self.new clause) }
     {
+        let trail = propagator.trail();
         for &lit in propagator.clause(clause).lits() {
-            self.see(lit)?;
+            self.see(trail, lit)?;
         }
         Ok(())
     }
@@ -174,4 +185,22 @@ impl Analysis {
         }
         Ok(())
     }
+}
+
+// A table of so many places, whatever it says of them: the room, if it is as large.
+fn places_in(alloc: Global, room: &mut Vec<usize>, size: usize) -> Result<Vec<usize>, Memory>
+    ensures { IfOk result (λ places. length places.items ≡ size) }
+{
+    let places = mem::replace(room, Vec::new(alloc));
+    if places.len() == size {
+        return Ok(places);
+    }
+    Ok(Vec::from_elem(alloc, 0, size)?)
+}
+
+// Whether a literal's variable stands at a place of the trail.
+fn stands_at(trail: &[i32], place: usize, lit: i32) -> bool
+    ensures { IsTrue result ↔ IsPlaceOf trail.now place lit }
+{
+    place < trail.len() && variable(trail[place]) == variable(lit)
 }

@@ -20,13 +20,14 @@ pub struct Conflict {
 }
 
 /// The lemma of the first literal of the last level through which all its reasons pass. What was resolved moves to the
-/// front of the order.
+/// front of the order. The room is memory that is used again, whatever is in it.
 pub fn learn(
     alloc: Global,
     propagator: &Propagator,
     max: u32,
     conflict: Conflict,
     order: &mut Order,
+    room: &mut Vec<usize>,
 ) -> Result<Clause, Memory>
     requires conflict { IsConflictAt propagator.now conflict.clause conflict.level }
     requires max { propagator.now.trail.greatest ≡ max }
@@ -36,8 +37,8 @@ pub fn learn(
     ensures lemma { IfOk result (λ lemma. IsLemma (live_of propagator.now.clauses) lemma) }
     ensures in_range { IfOk result (λ lemma. IsClauseInRange max lemma) }
 {
-    let analysis = Analysis::of(alloc, propagator, max, conflict)?;
+    let analysis = Analysis::of(alloc, propagator, max, conflict, room)?;
     analysis.bump(propagator, order);
-    let lits = analysis.into_lits(propagator)?;
+    let lits = analysis.into_lits(propagator, room)?;
     Clause::new(alloc, &lits)
 }

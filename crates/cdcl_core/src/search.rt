@@ -32,6 +32,7 @@ pub(crate) fn explore(
     propagator: &mut Propagator,
     order: &mut Order,
     levels: &mut Levels,
+    room: &mut Vec<usize>,
     assumptions: &[i32],
     anew: bool,
 ) -> Result<Found, Memory>
@@ -48,7 +49,7 @@ pub(crate) fn explore(
         None => Ok(Found::Answer(Solved::Model(values(alloc, propagator, max)?))),
         Some(conflict) => {
             order.save(propagator.trail());
-            Ok(Found::Lemma(learn(alloc, propagator, max, conflict, order)?))
+            Ok(Found::Lemma(learn(alloc, propagator, max, conflict, order, room)?))
         }
     }
 }

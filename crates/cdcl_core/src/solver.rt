@@ -19,7 +19,7 @@ use std::marker::Model;
 use unit_prop::Propagator;
 
 // How many lemmas are learnt from one beginning to the next.
-const RESTART: u64 = 64;
+const RESTART: u64 = 4;
 
 /// Live clauses, and the order in which their variables are decided, kept from goal to goal.
 #[derive(Drop)]
@@ -30,6 +30,8 @@ pub struct Solver {
     propagator: Propagator,
     levels: Levels,
     order: Order,
+    /// What each analysis of a conflict uses again.
+    room: Vec<usize>,
 }
 
 impl Model for Solver {
@@ -58,6 +60,7 @@ impl Solver {
             propagator,
             levels,
             order,
+            room: Vec::new(alloc),
         })
     }
 
@@ -122,6 +125,7 @@ impl Solver {
             &mut self.propagator,
             &mut self.order,
             &mut self.levels,
+            &mut self.room,
             assumptions,
             anew,
         )?;

@@ -7,3 +7,4 @@ pub mod Kept
 pub mod Refuting
 pub mod Using
 pub mod Values
+pub mod NearLogs

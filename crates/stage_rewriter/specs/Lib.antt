@@ -1,3 +1,5 @@
--- To be read by whoever trusts the contracts: Rewriting. Refuting serves private clauses alone.
+-- To be read by whoever trusts the contracts: Rewriting. Refuting, NearClauses and NearKept serve private clauses alone.
 pub mod Rewriting
 pub mod Refuting
+pub mod NearClauses
+pub mod NearKept

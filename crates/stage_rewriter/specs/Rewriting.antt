@@ -35,7 +35,8 @@ unmet_goals e = flat_map unmet_of e.replaced
 abbrev pub AreRefuted : List Clause → List Clause → List Clause → List ClauseLine → List Clause → Type 0
 AreRefuted given own [] lines left = AreLogLines given [] own lines left
 AreRefuted given own (goal ∷ goals) lines left = (before after : List ClauseLine) × (live : List Clause) × (c : Clause) ×
-    (lines ≡ before ++ Add c ∷ after) × SameSet c goal × AreLogLines given [] own before live × IsRup (live ++ given) c × AreRefuted given (c ∷ live) goals after left
+    (lines ≡ before ++ Add c ∷ after) × SameSet c goal × AreLogLines given [] own before live × IsRup (live ++ given) c ×
+    AreRefuted given (c ∷ live) goals after left
 
 -- A log over the clauses of the gates that refutes the negations of the first goals that aren't met, by so many lemmas beside these goals.
 pub record IsRefutationLog (e : Extended) (goals lemmas : ℕ) (log : LogView) : Type 0 where

@@ -9,9 +9,11 @@
 //! `ClauseLines` and `Log` in `specs/` of `clause_core`. *Rewriting*: `specs/Rewriting.antt`.
 #![tactic(auto)]
 
+mod cone;
 mod difference;
 mod goals;
 mod laws;
+mod near;
 mod outcome;
 mod refutation;
 mod rewriting;

@@ -4,6 +4,7 @@ ghost use Rattle.ripple_graft.specs.Blocks.{IsCut, with_cut};
 ghost use Rattle.stage_rewriter.specs.Refuting.{IsOutcome};
 
 use crate::goals::unmet_goals;
+use crate::near::refute_near;
 use crate::refutation::refute;
 use crate::solver::solver_of;
 use cdcl_core::{Log, Solved};
@@ -23,8 +24,28 @@ pub enum Outcome {
     Spent(u64, Log),
 }
 
-/// Refutes the negation of each goal that isn't met, within so many conflicts.
+/// Refutes the negation of each goal that isn't met, within so many conflicts: over the clauses near the adder, and
+/// where that doesn't come off, over all.
 pub fn refute_all(
+    alloc: Global,
+    extended: &Extended<'_>,
+    cut: &Cut,
+    conflicts: u64,
+) -> Result<Outcome, Memory>
+    requires cut { IsCut extended.now.graph cut.now }
+    requires graph { extended.now ≡ with_cut extended.now.graph cut.now }
+    ensures { IfOk result (IsOutcome extended.now conflicts) }
+{
+    if conflicts > 0 {
+        if let Some(log) = refute_near(alloc, extended, cut, conflicts)? {
+            return Ok(Outcome::Refuted(log));
+        }
+    }
+    refute_over_all(alloc, extended, cut, conflicts)
+}
+
+// The same over all clauses.
+fn refute_over_all(
     alloc: Global,
     extended: &Extended<'_>,
     cut: &Cut,

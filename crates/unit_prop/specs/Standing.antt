@@ -60,7 +60,8 @@ pub record IsSound (s : Standing) : Type 0 where
   pub paired : length s.trail.reasons ≡ length s.trail.literals
   pub within : AreWithin s.trail.greatest s.trail.literals
   pub apart : AreApart s.trail.literals
-  pub forced : (i r : ℕ) → i < length s.trail.literals → reason_at s.trail.reasons i ≡ Some r → IsReason s.clauses (take i s.trail.literals) (at s.trail.literals i) r
+  pub forced : (i r : ℕ) → i < length s.trail.literals → reason_at s.trail.reasons i ≡ Some r →
+      IsReason s.clauses (take i s.trail.literals) (at s.trail.literals i) r
 
 -- no literal was assumed
 abbrev pub IsFree : Standing → Type 0
@@ -71,7 +72,8 @@ IsFree s = (i : ℕ) → i < length s.trail.literals → reason_at s.trail.reaso
 pub record AreUnits (clauses : List (Option Clause)) (lits : List ℤ) (reasons : List (Option ℕ)) (units : ℕ) : Type 0 where
   pub within : units ≤ length lits
   pub by_unit : (i : ℕ) → i < units → (r : ℕ) × (reason_at reasons i ≡ Some r) × (clause_at clauses r ≡ Some (at lits i ∷ []))
-  pub complete : (r : ℕ) (l : ℤ) → clause_at clauses r ≡ Some (l ∷ []) → (i q : ℕ) × (i < units) × (reason_at reasons i ≡ Some q) × ((at lits i ≡ l) × (q ≤ r) ⊎ (at lits i ≡ neg_ℤ l) × (q < r))
+  pub complete : (r : ℕ) (l : ℤ) → clause_at clauses r ≡ Some (l ∷ []) → (i q : ℕ) × (i < units) × (reason_at reasons i ≡ Some q) ×
+      ((at lits i ≡ l) × (q ≤ r) ⊎ (at lits i ≡ neg_ℤ l) × (q < r))
 
 -- nothing but the literals of unit clauses stands
 abbrev pub StandsAlone : Standing → Type 0
@@ -79,7 +81,15 @@ StandsAlone s = AreUnits s.clauses s.trail.literals s.trail.reasons s.units × (
 
 -- one more literal stands, assumed or forced
 abbrev pub standing_with : Standing → ℤ → Option ℕ → Standing
-standing_with s l reason = record { clauses = s.clauses; trail = record { greatest = s.trail.greatest; literals = s.trail.literals ++ l ∷ []; reasons = s.trail.reasons ++ reason ∷ [] }; units = s.units }
+standing_with s l reason = record {
+  clauses = s.clauses;
+  trail = record {
+    greatest = s.trail.greatest;
+    literals = s.trail.literals ++ l ∷ [];
+    reasons = s.trail.reasons ++ reason ∷ [];
+  };
+  units = s.units;
+}
 
 -- one more clause is live, and what stands still does
 abbrev pub standing_more : Standing → Clause → Standing
@@ -87,7 +97,15 @@ standing_more s c = record { clauses = s.clauses ++ Some c ∷ []; trail = s.tra
 
 -- what stood when fewer literals did
 abbrev pub back_at : Standing → ℕ → Standing
-back_at s mark = record { clauses = s.clauses; trail = record { greatest = s.trail.greatest; literals = take mark s.trail.literals; reasons = take mark s.trail.reasons }; units = s.units }
+back_at s mark = record {
+  clauses = s.clauses;
+  trail = record {
+    greatest = s.trail.greatest;
+    literals = take mark s.trail.literals;
+    reasons = take mark s.trail.reasons;
+  };
+  units = s.units;
+}
 
 -- a number of literals that stand, with those of unit clauses
 abbrev pub IsMark : Standing → ℕ → Type 0

@@ -21,9 +21,11 @@ pub(crate) fn make_room(
 ) -> Result<(), Memory>
     ensures clauses { clauses.new.items ≡ clauses.old.items }
     ensures shorts { shorts.new.items ≡ shorts.old.items }
-    ensures room { OnOk result ((vec_len clauses.new < vec_capacity clauses.new) × (vec_len shorts.new < vec_capacity shorts.new)) }
+    ensures room { OnOk result ((vec_len clauses.new < vec_capacity clauses.new) ×
+        (vec_len shorts.new < vec_capacity shorts.new)) }
     ensures few { OnOk result (length clauses.old.items < 2147483646) }
-    ensures watches { OnOk result (watches.new ≡ record watches.old { places = watches.old.places ++ pos 0 ∷ pos 0 ∷ [] }) }
+    ensures watches { OnOk result (watches.new ≡
+        record watches.old { places = watches.old.places ++ pos 0 ∷ pos 0 ∷ [] }) }
     ensures err { OnErr result (watches.new ≡ watches.old) }
 {
     if clauses.len() >= MOST {

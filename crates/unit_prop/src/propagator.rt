@@ -115,7 +115,8 @@ impl Propagator {
     pub fn add_open(&mut self, clause: &Clause, first: i32, second: i32) -> Result<Ref, Memory>
         requires within { (l : ℤ) → Contains clause.now l → IsWithin self.old.trail.greatest l }
         requires two { Contains clause.now first × Contains clause.now second × (first ≢ second) }
-        requires open { (Contains self.old.trail.literals (neg_ℤ first) → ⊥) × (Contains self.old.trail.literals (neg_ℤ second) → ⊥) }
+        requires open { (Contains self.old.trail.literals (neg_ℤ first) → ⊥) ×
+            (Contains self.old.trail.literals (neg_ℤ second) → ⊥) }
         ensures ok { IfOk result (λ r. (r ≡ length self.old.clauses) × (self.new ≡ standing_more self.old clause.now)) }
         ensures err { OnErr result (self.new ≡ self.old) }
     {
@@ -251,7 +252,7 @@ impl Propagator {
         Some(Ref { place })
     }
 
-    /// The first live clause with the set, if there is one.
+    /// A live clause with the set, if there is one.
     pub fn find(&self, clause: &Clause) -> Option<Ref>
         ensures some { IfSome result (HasSetAt self.now.clauses clause.now) }
         ensures none { IsNone result → ¬ (Any (λ d. SameSet d clause.now) (live_of self.now.clauses)) }

@@ -48,9 +48,15 @@ impl Model for Trail {
 
     ghost Value = { Stood };
 
-    ghost view = { λ s. record { max = length s.reasons.items - 1; lits = s.lits.items; reasons = reasons_of s.reasons.items s.lits.items; visited = s.visited.items } };
+    ghost view = { λ s. record {
+      max = length s.reasons.items - 1;
+      lits = s.lits.items;
+      reasons = reasons_of s.reasons.items s.lits.items;
+      visited = s.visited.items;
+    } };
 
-    ghost invariant = { λ s. IsTrail s.values.items s.reasons.items s.lits.items s.visited.items × (length s.reasons.items ≤ vec_capacity s.lits) × (length s.reasons.items ≤ vec_capacity s.visited) };
+    ghost invariant = { λ s. IsTrail s.values.items s.reasons.items s.lits.items s.visited.items ×
+        (length s.reasons.items ≤ vec_capacity s.lits) × (length s.reasons.items ≤ vec_capacity s.visited) };
 }
 
 impl Trail {

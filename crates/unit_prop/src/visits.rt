@@ -80,7 +80,8 @@ fn settle(
     requires live { (c : Literals) × (clause_at clauses.now reference ≡ Some c) × Contains c other }
     ensures kept { IsKept clauses.now trail.new head }
     ensures grows { Grows trail.old trail.new }
-    ensures settles { (c : Literals) → clause_at clauses.now reference ≡ Some c → Settles c other head trail.old result trail.new }
+    ensures settles { (c : Literals) → clause_at clauses.now reference ≡ Some c →
+        Settles c other head trail.old result trail.new }
 {
     if trail.is_true(other) {
         return Settled::Stays;
@@ -131,7 +132,8 @@ fn next_literal(
     }
 }
 
-/// Visits the clauses that watch the negation of the literal at a place of the trail, the first place that wasn't visited yet.
+/// Visits the clauses that watch the negation of the literal at a place of the trail, the first place that wasn't visited
+/// yet.
 /// Gives a clause that is false, if there is one.
 pub(crate) fn visit(
     clauses: &[Option<Clause>],
@@ -165,7 +167,8 @@ pub(crate) fn visit(
     conflict
 }
 
-/// Visits the clauses for each literal of the trail, also for those that come to stand, up to its end or to a clause that is false.
+/// Visits the clauses for each literal of the trail, also for those that come to stand, up to its end or to a clause that
+/// is false.
 pub(crate) fn visit_all(
     clauses: &[Option<Clause>],
     watches: &mut Watches,

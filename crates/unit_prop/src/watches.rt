@@ -60,7 +60,11 @@ impl Model for Watches {
 
     ghost Value = { Hung };
 
-    ghost view = { λ s. record { chains = length s.heads.items; places = map (λ n. n.lit) s.nodes.items; hand = chain s.nodes.items s.hand } };
+    ghost view = { λ s. record {
+      chains = length s.heads.items;
+      places = map (λ n. n.lit) s.nodes.items;
+      hand = chain s.nodes.items s.hand;
+    } };
 
     ghost invariant = { λ s. AreChains s.heads.items s.nodes.items s.hand };
 }

@@ -9,7 +9,7 @@ use Rattle.cdcl_core.proofs.Trails.{trail_of}
 pub loop-place-init : goal.loop-place-init
 loop-place-init c =
     let v = c.in_ok-places.places in
-    places_begin c.args.propagator.now c.args.level (c.args.max + 1) v.items (omega (arith, c.requires.max)) (omega (arith, c.in_ok-places.ensures.len, v.ok.0)) (c.in_ok-places.ensures.items_if_clones_equal (λ y h. search rules))
+    places_begin c.args.propagator.now c.args.level v.items (omega (arith, c.requires.max, c.in_ok-places.ensures))
 
 pub index_mut-requires : goal.index_mut-requires
 index_mut-requires c =

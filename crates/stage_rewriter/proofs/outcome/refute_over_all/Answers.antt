@@ -13,7 +13,7 @@ use Rattle.stage_rewriter.specs.Rewriting.{unmet_goals}
 use Rattle.stage_rewriter.proofs.ColumnGoals.{gates_range, goals_range, sets_range}
 use Rattle.stage_rewriter.proofs.Kept.{left_live, live_itself}
 use Rattle.stage_rewriter.proofs.Refuting.{at_goal, differing_here, so_far_all, so_far_next, so_far_none, spent_here}
-use Rattle.stage_rewriter.proofs.outcome.refute_all.Goals as goal
+use Rattle.stage_rewriter.proofs.outcome.refute_over_all.Goals as goal
 
 pub solver_of-requires-clause-in_range : goal.solver_of-requires-clause-in_range
 solver_of-requires-clause-in_range c =

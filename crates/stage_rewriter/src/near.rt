@@ -1,0 +1,122 @@
+// Goals that are refuted over the clauses near an adder alone.
+ghost use Rattle.std.specs.Prelude.{◌≡◌, ◌↔◌, drop, length, IfOk, IfSome, IsTrue, OnOk};
+ghost use Rattle.std.specs.List.{All};
+ghost use Rattle.ripple_graft.specs.Blocks.{IsCut, with_cut};
+ghost use Rattle.stage_rewriter.specs.NearClauses.{AreNearOf, IsMarked, IsNear, IsNearLine, PushesNear};
+ghost use Rattle.stage_rewriter.specs.Refuting.{IsSoFar};
+ghost use Rattle.stage_rewriter.specs.Rewriting.{unmet_goals};
+
+use crate::cone::near_variables;
+use crate::goals::unmet_goals;
+use crate::refutation::refute;
+use crate::solver::solver_of;
+use cdcl_core::{Log, Solved};
+use clause_core::{Clause, ClauseList, Line};
+use graph_core::Memory;
+use miter_encoder::gate_clauses;
+use ripple_graft::{Cut, Extended};
+use std::alloc::Global;
+
+/// Refutes the negation of each goal that isn't met over the clauses whose variables are all near the adder, within so
+/// many conflicts; None where that doesn't come off.
+///
+/// A log over these clauses is one over all: what is over other variables is within none of its clauses.
+pub(crate) fn refute_near(
+    alloc: Global,
+    extended: &Extended<'_>,
+    cut: &Cut,
+    conflicts: u64,
+) -> Result<Option<Log>, Memory>
+    requires cut { IsCut extended.now.graph cut.now }
+    requires graph { extended.now ≡ with_cut extended.now.graph cut.now }
+    ensures { IfOk result (λ found. IfSome found (IsSoFar extended.now conflicts (length (unmet_goals extended.now)))) }
+{
+    let max = extended.max();
+    let _gates = extended.gates();
+    let clauses = gate_clauses(alloc, extended)?;
+    let goals = unmet_goals(alloc, extended, cut)?;
+    let marks = near_variables(alloc, extended, cut)?;
+    let near = near_clauses(alloc, &clauses, &marks)?;
+    let mut solver = solver_of(alloc, max, &near)?;
+    let mut log = Log::new(alloc);
+    for goal in 0..goals.len() {
+        // the goals so far are among the added clauses beside the lemmas
+        let spent = log.added() - goal as u64;
+        let left = conflicts - spent;
+        let start = log.lines().len();
+        match refute(alloc, &mut solver, goals.get(goal), left, &mut log)? {
+            Solved::Refuted => {}
+            Solved::Model(_) => return Ok(None),
+            Solved::Spent => return Ok(None),
+        }
+        if !are_near(log.lines(), start, &marks) {
+            return Ok(None);
+        }
+    }
+    Ok(Some(log))
+}
+
+// The clauses whose variables are all marked.
+fn near_clauses(alloc: Global, clauses: &ClauseList, marks: &[bool]) -> Result<ClauseList, Memory>
+    ensures { IfOk result (AreNearOf marks.now clauses.now) }
+{
+    let mut near = ClauseList::new(alloc);
+    for i in 0..clauses.len() {
+        push_near(alloc, &mut near, clauses.get(i), marks)?;
+    }
+    Ok(near)
+}
+
+// One clause more, where it is near.
+fn push_near(
+    alloc: Global,
+    near: &mut ClauseList,
+    clause: &Clause,
+    marks: &[bool],
+) -> Result<(), Memory>
+    ensures { OnOk result (PushesNear marks.now clause.now near.old near.new) }
+{
+    if is_near(clause.lits(), marks) {
+        near.push(clause.copy(alloc)?)?;
+    }
+    Ok(())
+}
+
+// Whether the lines from one on name marked variables alone.
+fn are_near(lines: &[Line], start: usize, marks: &[bool]) -> bool
+    ensures { IsTrue result → All (IsNearLine marks.now) (drop start lines.now) }
+{
+    if lines.len() < start {
+        return false;
+    }
+    all_near(&lines[start..], marks)
+}
+
+fn all_near(lines: &[Line], marks: &[bool]) -> bool
+    ensures { IsTrue result ↔ All (IsNearLine marks.now) lines.now }
+{
+    lines.iter().all(|line| is_near_line(line, marks))
+}
+
+fn is_near_line(line: &Line, marks: &[bool]) -> bool
+    ensures { IsTrue result ↔ IsNearLine marks.now line.now }
+{
+    match line {
+        Line::Add(clause) => is_near(clause.lits(), marks),
+        Line::Delete(clause) => is_near(clause.lits(), marks),
+    }
+}
+
+// Whether the variables of a clause are all marked.
+fn is_near(lits: &[i32], marks: &[bool]) -> bool
+    ensures { IsTrue result ↔ IsNear marks.now lits.now }
+{
+    lits.iter().all(|&lit| is_marked(lit, marks))
+}
+
+fn is_marked(lit: i32, marks: &[bool]) -> bool
+    ensures { IsTrue result ↔ IsMarked marks.now lit }
+{
+    let var = lit.unsigned_abs() as usize;
+    var < marks.len() && marks[var]
+}
