@@ -1,19 +1,17 @@
 -- A checker that begins with the clauses of an extended graph's gates, and clauses in range.
-use Rattle.std.specs.Prelude.{◌≡◌, ◌≤◌, ℕ, zero, suc, Bool, true, false, List, [], ◌∷◌, map, slice_index_or, ℤ, pos, nat_abs, ◌≢◌}
+use Rattle.std.specs.Prelude.{◌≡◌, ℕ, zero, suc, Bool, true, false, List, [], ◌∷◌, map, slice_index_or}
 use Rattle.std.specs.declared.option.Option.TheVariants.{Some}
-use Rattle.std.specs.List.{All, AllByRecursion, Contains}
+use Rattle.std.specs.List.{All, AllByRecursion}
 use Rattle.std.proofs.Common.{refl, sym, ◌∙◌}
-use Rattle.std.proofs.lemmas.List.Elements.{All-contains, All-contains_itself, All-from_recursion, All-weaker, recursion_from_All}
+use Rattle.std.proofs.lemmas.List.Elements.{recursion_from_All}
 use Rattle.graph_core.specs.Graph.Extended.{Extended}
-use Rattle.graph_core.specs.Graph.Literals.{variable_of}
-use Rattle.ripple_graft.specs.Extension.{IsExtension, IsReadable}
-use Rattle.clause_core.specs.Clause.{Clause, IsClauseInRange, IsSubset}
+use Rattle.clause_core.specs.Clause.{Clause, IsClauseInRange}
 use Rattle.clause_core.specs.ClauseLines.{ClauseLine, clause_in}
-use Rattle.clause_core.specs.GateClauses.{AreGatesWithin, gate_clauses}
+use Rattle.clause_core.specs.GateClauses.{gate_clauses}
 use Rattle.clause_core.specs.Likeness.{AreSameSets}
 use Rattle.clause_core.specs.declared.line.Line.TheVariants.{Add, Delete}
 use Rattle.clause_core.proofs.CallerLemmas.{any_nil}
-use Rattle.clause_core.proofs.GateClauseLaws.{gate_clauses_are_in_range}
+use Rattle.miter_encoder.proofs.GateRanges.{range_subset}
 use Rattle.drup_checker.specs.Checking.{Checking, shown_at}
 use Rattle.drup_checker.proofs.StepLaws.{steps_are_lawful}
 use Rattle.drup_text.specs.LineTexts.{IsLineInRange, IsLineOf}
@@ -21,40 +19,12 @@ use Rattle.joint_checker.specs.Join.{HasTaken}
 
 -- ---- ranges
 
-abbrev InRange : ℕ → ℤ → Type 0
-InRange max l = (l ≢ pos 0) × (nat_abs l ≤ max)
-
-range_subset : (max : ℕ) (c d : Clause) → IsSubset d c → IsClauseInRange max c → IsClauseInRange max d
-range_subset max c d sub h = All-weaker (Contains d) (InRange max) (λ l k. All-contains (InRange max) c l h (sub l k)) d (All-contains_itself d)
-
 -- the line at hand is in range where that of the text is
 pub range_of : (max : ℕ) (x y : ClauseLine) → IsLineOf x y → IsLineInRange max x → IsClauseInRange max (clause_in y)
 range_of max (Add c) (Add d) same h = range_subset max c d same.1 h
 range_of max (Add c) (Delete d) same h = absurd same
 range_of max (Delete c) (Add d) same h = absurd same
 range_of max (Delete c) (Delete d) same h = range_subset max c d same.1 h
-
-sets_range : (max : ℕ) (cs ds : List Clause) → AreSameSets cs ds → AllByRecursion (IsClauseInRange max) ds → AllByRecursion (IsClauseInRange max) cs
-sets_range max [] [] same h = tt
-sets_range max [] (d ∷ ds) same h = absurd same
-sets_range max (c ∷ cs) [] same h = absurd same
-sets_range max (c ∷ cs) (d ∷ ds) same h = (range_subset max d c same.0.0 h.0, sets_range max cs ds same.1 h.1)
-
-both_all : {X : Type 0} (P Q : X → Type 0) (xs : List X) → AllByRecursion P xs → AllByRecursion Q xs → AllByRecursion (λ x. P x × Q x) xs
-both_all P Q [] h k = tt
-both_all P Q (x ∷ xs) h k = ((h.0, k.0), both_all P Q xs h.1 k.1)
-
-gates_within : (e : Extended) → IsExtension e → AreGatesWithin e.max e.gates
-gates_within e x = record {
-  own = All-from_recursion (λ g. (1 ≤ g.v) × (g.v ≤ e.max)) e.gates
-      (both_all (λ g. 1 ≤ g.v) (λ g. g.v ≤ e.max) e.gates (recursion_from_All (λ g. 1 ≤ g.v) e.gates x.defined_once.gates) (recursion_from_All (λ g. g.v ≤ e.max) e.gates x.gates_in_range));
-  operands = All-weaker (λ g. IsReadable e g.left × IsReadable e g.right) (λ g. (variable_of g.left ≤ e.max) × (variable_of g.right ≤ e.max)) (λ g h. (h.0.0, h.1.0)) e.gates x.operands;
-}
-
--- clauses of these sets are in range
-pub clauses_in_range : (e : Extended) (cs : List Clause) → IsExtension e → AreSameSets cs (gate_clauses e.gates) → All (IsClauseInRange e.max) cs
-clauses_in_range e cs x same = All-from_recursion (IsClauseInRange e.max) cs
-    (sets_range e.max cs (gate_clauses e.gates) same (recursion_from_All (IsClauseInRange e.max) (gate_clauses e.gates) (gate_clauses_are_in_range e.max e.gates (gates_within e x))))
 
 -- ---- the beginning
 

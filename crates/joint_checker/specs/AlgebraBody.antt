@@ -38,8 +38,10 @@ IsLawfulBody e sides lines body = IsLawfulRest e sides (IsLongIn lines body) (ax
 
 -- Why they aren't lawful.
 abbrev pub IsBodyFail : Extended → Sides → Lines → Option (List ℕ) → View → View → Checked → Type 0
-IsBodyFail e sides lines left before now (checked.Refused (refusal.Algebra line why)) = IfSome left (λ body. IsRefusedBody e sides (IsLongIn lines body) body (line, cause_of why))
-IsBodyFail e sides lines left before now (checked.TooLong slot.Algebra) = IfSome left (λ body. (line : ℕ) × IsRefusedBody e sides (IsLongIn lines body) body (line, cause.TooLong))
+IsBodyFail e sides lines left before now (checked.Refused (refusal.Algebra line why)) =
+    IfSome left (λ body. IsRefusedBody e sides (IsLongIn lines body) body (line, cause_of why))
+IsBodyFail e sides lines left before now (checked.TooLong slot.Algebra) =
+    IfSome left (λ body. (line : ℕ) × IsRefusedBody e sides (IsLongIn lines body) body (line, cause.TooLong))
 IsBodyFail e sides lines left before now checked.ReadFault = Rose before.read_faults now.read_faults
 IsBodyFail e sides lines left before now checked.Memory = ⊤
 IsBodyFail e sides lines left before now _ = ⊥

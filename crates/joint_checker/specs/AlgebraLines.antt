@@ -55,12 +55,14 @@ pub record ReadsNext (max : ℕ) (old : FileState) (before : View) (out : Result
 abbrev pub IsJudged : PacLine → Checking → Checking → Turn → Type 0
 IsJudged text old new turn.Taken = (line : Line) × (line_in old.table text ≡ Some line) × Takes line old new
 IsJudged text old new turn.Closed =
-    (id : ℕ) × (text ≡ pac.Close id) × Closes old.extended old.sides (ledger_of old).live id × Always old.extended.gates (λ σ. specification old.extended old.sides σ ≡ 0)
+    (id : ℕ) × (text ≡ pac.Close id) × Closes old.extended old.sides (ledger_of old).live id ×
+    Always old.extended.gates (λ σ. specification old.extended old.sides σ ≡ 0)
 
 -- Why it is refused, at this number.
 abbrev pub IsUnlawful : ℕ → PacLine → Checking → Checked → Type 0
 IsUnlawful n text c answer =
-    ((line : Line) × (fault : LineFault) × (line_in c.table text ≡ Some line) × IsFault c.extended (ledger_of c) line fault × (answer ≡ answer_of_rule n fault)) ⊎
+    ((line : Line) × (fault : LineFault) × (line_in c.table text ≡ Some line) ×
+    IsFault c.extended (ledger_of c) line fault × (answer ≡ answer_of_rule n fault)) ⊎
     ((id : ℕ) × (fault : CloseFault) × (text ≡ pac.Close id) × IsCloseFault c.extended c.sides (ledger_of c) id fault × (answer ≡ answer_of_close n fault))
 
 -- Where these bytes are left to a reader of lines: a line of them is too long for the whole file.
@@ -103,7 +105,8 @@ IsLineFail n e sides l lines left before now _ = ⊥
 
 -- Why the file doesn't end before the line with this number.
 abbrev pub IsEndFail : ℕ → Lines → Option (List ℕ) → View → View → Checked → Type 0
-IsEndFail n lines left before now (checked.Refused (refusal.Algebra line why.Text)) = (line ≡ n) × IfSome left (λ bytes. ¬ (IsLongAhead lines bytes) × (bytes ≢ []))
+IsEndFail n lines left before now (checked.Refused (refusal.Algebra line why.Text)) = (line ≡ n) ×
+    IfSome left (λ bytes. ¬ (IsLongAhead lines bytes) × (bytes ≢ []))
 IsEndFail n lines left before now (checked.TooLong slot.Algebra) = IfSome left (IsLongAhead lines)
 IsEndFail n lines left before now checked.ReadFault = Rose before.read_faults now.read_faults
 IsEndFail n lines left before now checked.Memory = ⊤

@@ -35,9 +35,12 @@ IsShownBody e lines body = (xs : List ClauseLine) × HasPassed e lines xs body �
 
 -- Why that isn't so, the first line having this number.
 abbrev pub IsRestFail : ℕ → Extended → Lines → Option (List ℕ) → View → View → Checked → Type 0
-IsRestFail number e lines left before now (checked.Refused (refusal.Clauses line why)) = IfSome left (λ body. IsRefusedLines (IsLongIn lines body) e number body (line, line_cause why))
-IsRestFail number e lines left before now (checked.Refused (refusal.Goals column)) = IfSome left (λ body. (xs : List ClauseLine) × HasPassed e lines xs body × IsGoalRefusal e xs column)
-IsRestFail number e lines left before now (checked.TooLong slot.Clauses) = IfSome left (λ body. (line : ℕ) × IsRefusedLines (IsLongIn lines body) e number body (line, TooLong))
+IsRestFail number e lines left before now (checked.Refused (refusal.Clauses line why)) =
+    IfSome left (λ body. IsRefusedLines (IsLongIn lines body) e number body (line, line_cause why))
+IsRestFail number e lines left before now (checked.Refused (refusal.Goals column)) =
+    IfSome left (λ body. (xs : List ClauseLine) × HasPassed e lines xs body × IsGoalRefusal e xs column)
+IsRestFail number e lines left before now (checked.TooLong slot.Clauses) =
+    IfSome left (λ body. (line : ℕ) × IsRefusedLines (IsLongIn lines body) e number body (line, TooLong))
 IsRestFail number e lines left before now checked.ReadFault = Rose before.read_faults now.read_faults
 IsRestFail number e lines left before now checked.Memory = ⊤
 IsRestFail number e lines left before now _ = ⊥

@@ -27,7 +27,8 @@ IsGraphFail limit text before now _ = ⊥
 
 -- of the clause file, for a graph
 abbrev pub IsClauseFail : Lengths → Aig → Option (List ℕ) → View → View → Checked → Type 0
-IsClauseFail lengths g text before now (checked.Refused (refusal.Clauses line why)) = IfSome text (λ bytes. IsClauseRefusal lengths g bytes (line, line_cause why))
+IsClauseFail lengths g text before now (checked.Refused (refusal.Clauses line why)) =
+    IfSome text (λ bytes. IsClauseRefusal lengths g bytes (line, line_cause why))
 IsClauseFail lengths g text before now (checked.Refused (refusal.Goals column)) = IfSome text (λ bytes. IsColumnRefusal lengths g bytes column)
 IsClauseFail lengths g text before now (checked.TooLong slot.Clauses) = IfSome text (λ bytes. (line : ℕ) × IsClauseRefusal lengths g bytes (line, TooLong))
 IsClauseFail lengths g text before now checked.ReadFault = Rose before.read_faults now.read_faults
@@ -36,8 +37,10 @@ IsClauseFail lengths g text before now _ = ⊥
 
 -- of the algebra file, for an extended graph and operands
 abbrev pub IsAlgebraFail : Lengths → Extended → Sides → Option (List ℕ) → View → View → Checked → Type 0
-IsAlgebraFail lengths e sides text before now (checked.Refused (refusal.Algebra line why)) = IfSome text (λ bytes. IsAlgebraRefusal e sides lengths bytes (line, cause_of why))
-IsAlgebraFail lengths e sides text before now (checked.TooLong slot.Algebra) = IfSome text (λ bytes. (line : ℕ) × IsAlgebraRefusal e sides lengths bytes (line, cause.TooLong))
+IsAlgebraFail lengths e sides text before now (checked.Refused (refusal.Algebra line why)) =
+    IfSome text (λ bytes. IsAlgebraRefusal e sides lengths bytes (line, cause_of why))
+IsAlgebraFail lengths e sides text before now (checked.TooLong slot.Algebra) =
+    IfSome text (λ bytes. (line : ℕ) × IsAlgebraRefusal e sides lengths bytes (line, cause.TooLong))
 IsAlgebraFail lengths e sides text before now checked.ReadFault = Rose before.read_faults now.read_faults
 IsAlgebraFail lengths e sides text before now checked.Memory = ⊤
 IsAlgebraFail lengths e sides text before now _ = ⊥

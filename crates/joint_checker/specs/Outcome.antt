@@ -63,11 +63,17 @@ abbrev pub IsDue : Limits → Order → Texts → Checked → Type 0
 IsDue limits order texts checked.Accepted = HasLawfulPair limits order texts (λ g. ⊤)
 IsDue limits order texts (checked.Graph why) = IfSome texts.graph (λ bytes. IsGraphRefusal limits.graph bytes why)
 IsDue limits order texts (checked.TooLong slot.Graph) = IfSome texts.graph (reading.IsTooLong limits.graph)
-IsDue limits order texts (checked.Refused (refusal.Clauses n why)) = MeetsClauses limits texts (λ g bytes. IsClauseRefusal (lengths_of limits) g bytes (n, line_cause why))
-IsDue limits order texts (checked.TooLong slot.Clauses) = MeetsClauses limits texts (λ g bytes. (n : ℕ) × IsClauseRefusal (lengths_of limits) g bytes (n, clausal.TooLong))
+IsDue limits order texts (checked.Refused (refusal.Clauses n why)) =
+    MeetsClauses limits texts (λ g bytes. IsClauseRefusal (lengths_of limits) g bytes (n, line_cause why))
+IsDue limits order texts (checked.TooLong slot.Clauses) =
+    MeetsClauses limits texts (λ g bytes. (n : ℕ) × IsClauseRefusal (lengths_of limits) g bytes (n, clausal.TooLong))
 IsDue limits order texts (checked.Refused (refusal.Goals column)) = MeetsClauses limits texts (λ g bytes. IsColumnRefusal (lengths_of limits) g bytes column)
-IsDue limits order texts (checked.Refused (refusal.Algebra line why)) = MeetsAlgebra limits texts (λ g e bytes. IsAlgebraRefusal e (sides_of order g) (lengths_of limits) bytes (line, cause_of why))
-IsDue limits order texts (checked.TooLong slot.Algebra) = MeetsAlgebra limits texts (λ g e bytes. (line : ℕ) × IsAlgebraRefusal e (sides_of order g) (lengths_of limits) bytes (line, cause.TooLong))
+IsDue limits order texts (checked.Refused (refusal.Algebra line why)) =
+    MeetsAlgebra limits texts (λ g e bytes.
+    IsAlgebraRefusal e (sides_of order g) (lengths_of limits) bytes (line, cause_of why))
+IsDue limits order texts (checked.TooLong slot.Algebra) =
+    MeetsAlgebra limits texts (λ g e bytes. (line : ℕ) ×
+    IsAlgebraRefusal e (sides_of order g) (lengths_of limits) bytes (line, cause.TooLong))
 IsDue limits order texts _ = ⊥
 
 -- ---- what `check` answers
@@ -134,7 +140,8 @@ IsExactAnswer limits order files before after given =
 -- Of three files that are told just one answer is due.
 pub record OneAnswerIsDue : Type 0 where
   pub some : (limits : Limits) (order : Order) (texts : Texts) → AreTold texts → (due : Checked) × IsDue limits order texts due
-  pub one : (limits : Limits) (order : Order) (texts : Texts) → AreTold texts → (due other : Checked) → IsDue limits order texts due → IsDue limits order texts other → due ≡ other
+  pub one : (limits : Limits) (order : Order) (texts : Texts) → AreTold texts → (due other : Checked) →
+      IsDue limits order texts due → IsDue limits order texts other → due ≡ other
 
 -- So what has its cause is the answer that is due, or a failed read or want of memory.
 abbrev pub OutcomesAreExact : Type 0

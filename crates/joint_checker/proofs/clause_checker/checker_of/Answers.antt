@@ -4,14 +4,14 @@ use Rattle.clause_core.specs.Clause.{IsClauseInRange}
 use Rattle.clause_core.specs.GateClauses.{gate_clauses}
 use Rattle.drup_checker.specs.Checking.{Starts}
 use Rattle.joint_checker.specs.Join.{HasTaken}
-use Rattle.joint_checker.proofs.CheckerBegins.{begins, clauses_in_range}
+use Rattle.joint_checker.proofs.CheckerBegins.{begins}
 use Rattle.joint_checker.proofs.Told.{both_of}
 use Rattle.joint_checker.proofs.clause_checker.checker_of.Goals as goal
 
 pub new-requires-clause-in_range : goal.new-requires-clause-in_range
 new-requires-clause-in_range c =
     let cs = c.in_ok-clauses.clauses in
-    subst (λ (m : ℕ). All (IsClauseInRange m) cs) (sym c.max.ensures.value) (clauses_in_range c.args.extended.now cs c.gates.ensures.extension c.in_ok-clauses.ensures.sets)
+    subst (λ (m : ℕ). All (IsClauseInRange m) cs) (sym c.max.ensures.value) c.in_ok-clauses.ensures.in_range
 
 pub returns-clause-taken : goal.returns-clause-taken
 returns-clause-taken c =
