@@ -1,14 +1,12 @@
 -- The clause certificates that are written give the graphs that they should.
 use Rattle.std.proofs.Common.{◌≡◌, ◌≢◌, ℕ, ◌+◌, ◌*◌, ◌<◌, ◌≤◌, ◌^◌, List, [], length, refl, sym, ap, subst, ◌∙◌, arith, inl, inr, ⊎_elim}
-use Rattle.std.specs.Prelude.{nat_abs, pos, ℤ}
+use Rattle.std.specs.Prelude.{nat_abs, pos}
 use Rattle.std.specs.List.{All, Any, Contains}
 use Rattle.std.specs.Prelude.{◌⊎◌}
-use Rattle.std.specs.declared.option.Option.{Option}
 use Rattle.std.specs.declared.option.Option.TheVariants.{None, Some}
 use Rattle.std.proofs.lemmas.List.Elements.{All-weaker}
 use Rattle.clause_core.specs.Clause.{Clause, IsClauseInRange, IsLiteral}
 use Rattle.clause_core.specs.ClauseLines.{AreLawfulClauseLines, ClauseLine, clause_in}
-use Rattle.drup_text.specs.Headers.{extended_by}
 use Rattle.drup_text.specs.WrittenLaws.{IsWritable, IsWritableLine}
 use Rattle.drup_text.specs.WrittenTexts.{file_text}
 use Rattle.drup_text.proofs.WrittenAgain.{written_files_are_read}
@@ -16,7 +14,6 @@ use Rattle.graph_core.specs.Aiger.Soundness.{IsMultiplierSized}
 use Rattle.graph_core.specs.Graph.{Aig, IsWellFormed, defined, read_literals}
 use Rattle.graph_core.specs.Graph.Literals.{variable_of}
 use Rattle.graph_core.specs.declared.literal.Lit.{Lit}
-use Rattle.graph_core.specs.Graph.Operands.{width}
 use Rattle.ripple_graft.specs.Blocks.{IsCut, with_cut}
 use Rattle.ripple_graft.specs.Extension.{IsKnown}
 use Rattle.ripple_graft.proofs.BlockLists.{all_split_at}

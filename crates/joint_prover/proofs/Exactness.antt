@@ -21,13 +21,13 @@ wrong_same a c b d v w p q e f g h = cc
 
 module _ (limit : ℕ) (order : Order) (budget : ℕ) (file : List ℕ) where
   -- a graph of the file, of which something holds
-  abbrev Spelled : (Aig → Type 0) → Type 0
+  abbrev pub Spelled : (Aig → Type 0) → Type 0
   Spelled P = (g : Aig) × SpellsWithin limit file g × P g
 
   together : (P Q : Aig → Type 0) → Spelled P → Spelled Q → (g : Aig) × (P g × Q g)
   together P Q h k = (h.0, (h.2, subst Q (one_graph file k.0 h.0 k.1.spells h.1.spells) k.2))
 
-  right_or_wrong : (a b v p : ℕ) → Spelled (λ g. Multiplies g order) → Spelled (λ g. IsWrong g order a b v p) → ⊥
+  pub right_or_wrong : (a b v p : ℕ) → Spelled (λ g. Multiplies g order) → Spelled (λ g. IsWrong g order a b v p) → ⊥
   right_or_wrong a b v p h k =
       let both = together (λ g. Multiplies g order) (λ g. IsWrong g order a b v p) h k in
       let far = both.1.1.least.difference in
@@ -107,7 +107,7 @@ module _ (limit : ℕ) (order : Order) (budget : ℕ) (file : List ℕ) where
   exact TooLong Memory h d = absurd d
 
   -- where the file is told
-  spelled : (given : Option (List ℕ)) (P : Aig → Type 0) → given ≡ Some file → HasGraph limit given P → Spelled P
+  pub spelled : (given : Option (List ℕ)) (P : Aig → Type 0) → given ≡ Some file → HasGraph limit given P → Spelled P
   spelled given P told h = (h.0, subst (λ o. IfSome o (λ bytes. SpellsWithin limit bytes h.0)) told h.1, h.2)
 
 pub verdicts_are_exact : VerdictsAreExact

@@ -35,6 +35,7 @@ use Rattle.poly_terms.specs.Tables.{Table, Sum, monomials_in, value_in}
 use Rattle.poly_terms.specs.Tables as table
 use Rattle.poly_terms.proofs.Values.{normal}
 use Rattle.ripple_graft.specs.Extension.{IsExtension}
+use Rattle.slice_planner.specs.Slices.{IsSlicePlan}
 use Rattle.joint_prover.proofs.PlanLists.{length-count_from, take-map}
 use Rattle.joint_prover.specs.declared.ending.Ending.{Ending}
 use Rattle.joint_prover.specs.declared.ending.Ending.TheVariants.{Closed, Differs}
@@ -91,7 +92,7 @@ reads_inputs l start = subst (ReadInputs l.extended.graph) (sym start.sides) (si
 
 -- ---- a frontier above the budget
 
-module _ (l : Made) (start : IsStart l) (steps : List Step) (plan : IsPlan l.extended steps) (budget step size : ℕ) (h : IsPassed (planned l.extended steps 0) l.sides budget step size) where
+module _ (l : Made) (start : IsStart l) (steps : List Step) (slices : IsSlicePlan l.extended steps) (budget step size : ℕ) (h : IsPassed (planned l.extended steps 0) l.sides budget step size) where
   abbrev here : Taken
   here = taken nothing (take step steps)
 
@@ -103,8 +104,9 @@ module _ (l : Made) (start : IsStart l) (steps : List Step) (plan : IsPlan l.ext
 
   pub above_of : (rewritten : Bool) (tried : Tried) → IsTriedAt steps step size rewritten tried → IsAbove l.extended l.sides budget tried
   above_of rewritten tried at = record {
+    of_slices = record { steps = steps; slices = slices; count = step; columns = at.columns; gates = at.gates };
     frontier = subst (λ ks. IsFrontier l.extended ks tried.gates.items) (sym at.columns)
-        (subst (IsFrontier l.extended here.added) (sym at.gates) (plan_leaves_frontiers l.extended steps step plan.follow).0);
+        (subst (IsFrontier l.extended here.added) (sym at.gates) (plan_leaves_frontiers l.extended steps step slices.plan.follow).0);
     size = subst (λ ks. HasSize (modulus l.extended) (frontier_value l.extended l.sides ks tried.gates.items) tried.size) (sym at.columns)
         (subst (λ vs. HasSize (modulus l.extended) (frontier_value l.extended l.sides here.added vs) tried.size) (sym at.gates)
         (subst (HasSize (modulus l.extended) (frontier_value l.extended l.sides here.added here.eliminated)) (sym at.size_is) (subst (λ k. HasSize (modulus l.extended) (value_after (planned l.extended steps 0) l.sides k) size) (nothing_more step) h.has)));

@@ -13,7 +13,7 @@ use Rattle.graph_core.specs.Aiger.Soundness.{IsMultiplierSized}
 use Rattle.graph_core.specs.Algebra.Text.{IsLawfulAlgebraFile}
 use Rattle.graph_core.specs.Graph.{Aig, IsWellFormed}
 use Rattle.graph_core.specs.Graph.Extended.{Extended, without_cut}
-use Rattle.graph_core.specs.Graph.Operands.{Multiplies, Sides, sides_of}
+use Rattle.graph_core.specs.Graph.Operands.{Multiplies, sides_of}
 use Rattle.graph_core.specs.declared.order.Order.{Order}
 use Rattle.mv_desk.specs.View.{View}
 use Rattle.mv_desk.specs.declared.slot.Slot.{Slot}
@@ -32,7 +32,7 @@ use Rattle.joint_prover.specs.Endings.{IsEnded}
 use Rattle.joint_prover.specs.Pairs.{AreClausesFor, AreClausesOver, IsPairFor, IsPairOver}
 use Rattle.joint_prover.specs.Parts.{AreTriedBefore, IsOfGraph, IsToldOver, IsWritten, IsWrongAt}
 use Rattle.joint_prover.specs.Tries.{AreTried, EndsOver, IsAbove, IsTried}
-use Rattle.joint_prover.specs.Verdicts.{IsFirstAbove, IsPair}
+use Rattle.joint_prover.specs.Verdicts.{IsPair}
 use Rattle.joint_prover.specs.Written.{StopsAt, StopsWriting}
 use Rattle.joint_prover.proofs.Clauses.{no_clauses, used_clauses}
 

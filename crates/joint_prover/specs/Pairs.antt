@@ -36,4 +36,5 @@ abbrev pub AreClausesFor : Aig → Order → ℕ → ℕ → Option Cut → List
 AreClausesFor g order budget conflicts used clauses = (cut : Option Cut) × EndsOver g order budget used cut × AreClausesOver g conflicts cut clauses
 
 abbrev pub IsPairFor : Aig → Order → ℕ → ℕ → Option Cut → List ℕ → List ℕ → Type 0
-IsPairFor g order budget conflicts used clauses algebra = (cut : Option Cut) × EndsOver g order budget used cut × IsPairOver g order conflicts cut clauses algebra
+IsPairFor g order budget conflicts used clauses algebra =
+    (cut : Option Cut) × EndsOver g order budget used cut × IsPairOver g order conflicts cut clauses algebra

@@ -23,7 +23,8 @@ use Rattle.joint_prover.specs.Written.{StopsWriting, WritesPair}
 
 -- lines that are closed were written beside this clause file
 abbrev pub IsWritten : Made → List ℕ → Files → View → View → Verdict → Type 0
-IsWritten l clauses files before after Proved = IsLawfulAlgebraFile l.extended l.sides (certificate_text l) × WritesPair files clauses (certificate_text l) before after
+IsWritten l clauses files before after Proved =
+    IsLawfulAlgebraFile l.extended l.sides (certificate_text l) × WritesPair files clauses (certificate_text l) before after
 IsWritten l clauses files before after WriteFault =
     Rose before.write_faults after.write_faults × StopsWriting files (λ text. text ≡ clauses) (λ beside. IsLawfulAlgebraFile l.extended l.sides) before after
 IsWritten l clauses files before after _ = ⊥
@@ -35,16 +36,19 @@ IsWrongAt g order a b _ = ⊥
 -- the verdict at the end of a plan over the graph with this cut, or without one
 abbrev pub IsToldOver : Aig → Order → ℕ → Option Cut → Files → View → View → Verdict → Type 0
 IsToldOver g order conflicts cut files before after Proved =
-    Multiplies g order × ((clauses : List ℕ) × (algebra : List ℕ) × IsPairOver g order conflicts cut clauses algebra × WritesPair files clauses algebra before after)
+    Multiplies g order × ((clauses : List ℕ) × (algebra : List ℕ) × IsPairOver g order conflicts cut clauses algebra ×
+    WritesPair files clauses algebra before after)
 IsToldOver g order conflicts cut files before after (Wrong a b value product) = IsWrong g order a b value product × (after ≡ before)
 IsToldOver g order conflicts cut files before after WriteFault =
-    Rose before.write_faults after.write_faults × Multiplies g order × StopsWriting files (AreClausesOver g conflicts cut) (IsPairOver g order conflicts cut) before after
+    Rose before.write_faults after.write_faults × Multiplies g order ×
+    StopsWriting files (AreClausesOver g conflicts cut) (IsPairOver g order conflicts cut) before after
 IsToldOver g order conflicts cut files before after _ = ⊥
 
 -- the verdict on a graph, with this cut in use or none
 abbrev pub IsOfGraph : Aig → Order → ℕ → ℕ → Option Cut → Files → View → View → Verdict → Type 0
 IsOfGraph g order budget conflicts used files before after Proved =
-    Multiplies g order × ((clauses : List ℕ) × (algebra : List ℕ) × IsPairFor g order budget conflicts used clauses algebra × WritesPair files clauses algebra before after)
+    Multiplies g order × ((clauses : List ℕ) × (algebra : List ℕ) × IsPairFor g order budget conflicts used clauses algebra ×
+    WritesPair files clauses algebra before after)
 IsOfGraph g order budget conflicts used files before after (Wrong a b value product) = IsWrong g order a b value product × (after ≡ before)
 IsOfGraph g order budget conflicts used files before after (Undecided tried step size) =
     IsFirstAbove g order budget step size × AreTried g order budget used tried.items × (after ≡ before)

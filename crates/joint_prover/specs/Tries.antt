@@ -1,9 +1,11 @@
 -- The plans that were tried before the plain one.
-use Rattle.std.specs.Prelude.{◌≡◌, ℕ, ◌<◌, List, [], ◌∷◌, is_some}
+use Rattle.std.specs.Prelude.{◌≡◌, ℕ, ◌<◌, List, [], ◌∷◌, take, is_some}
 use Rattle.std.specs.declared.option.Option.{Option}
 use Rattle.std.specs.declared.option.Option.TheVariants.{None, Some}
 use Rattle.drup_text.specs.Headers.{extended_by}
 use Rattle.frontier_core.specs.Frontier.{IsFrontier, frontier_value}
+use Rattle.frontier_core.specs.Plan.{nothing, taken}
+use Rattle.frontier_core.specs.declared.step.Step.{Step}
 use Rattle.graph_core.specs.Algebra.{modulus}
 use Rattle.graph_core.specs.Algebra.NormalForm.{HasSize}
 use Rattle.graph_core.specs.Graph.{Aig}
@@ -11,10 +13,20 @@ use Rattle.graph_core.specs.Graph.Extended.{Extended}
 use Rattle.graph_core.specs.Graph.Operands.{Sides, sides_of}
 use Rattle.graph_core.specs.declared.order.Order.{Order}
 use Rattle.ripple_graft.specs.declared.cut.Cut.{Cut}
+use Rattle.slice_planner.specs.Slices.{IsSlicePlan}
 use Rattle.joint_prover.specs.declared.verdict.Tried.{Tried}
 
--- A frontier with more monomials than the budget: its columns, its gates, and how many monomials it has.
+-- The columns and gates are those that the first steps of a slice plan take.
+pub record IsOfSlices (e : Extended) (tried : Tried) : Type 0 where
+  pub steps : List Step
+  pub slices : IsSlicePlan e steps
+  pub count : ℕ
+  pub columns : tried.columns.items ≡ (taken nothing (take count steps)).added
+  pub gates : tried.gates.items ≡ (taken nothing (take count steps)).eliminated
+
+-- A frontier of a slice plan with more monomials than the budget: its columns, its gates, and how many monomials it has.
 pub record IsAbove (e : Extended) (s : Sides) (budget : ℕ) (tried : Tried) : Type 0 where
+  pub of_slices : IsOfSlices e tried
   pub frontier : IsFrontier e tried.columns.items tried.gates.items
   pub size : HasSize (modulus e) (frontier_value e s tried.columns.items tried.gates.items) tried.size
   pub above : budget < tried.size

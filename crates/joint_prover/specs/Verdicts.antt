@@ -80,16 +80,19 @@ IsVerdict limit order budget conflicts files before after Proved noted =
     HasGraph limit (bytes_under before files.graph) (λ g. Multiplies g order × HasNote g order conflicts noted (λ used. (read : View) × ReadsGraph before read ×
     ((clauses : List ℕ) × (algebra : List ℕ) × IsPairFor g order budget conflicts used clauses algebra × WritesPair files clauses algebra read after)))
 IsVerdict limit order budget conflicts files before after (Wrong a b value product) noted =
-    HasGraph limit (bytes_under before files.graph) (λ g. IsWrong g order a b value product × HasNote g order conflicts noted (λ used. ⊤)) × ReadsGraph before after
+    HasGraph limit (bytes_under before files.graph) (λ g. IsWrong g order a b value product × HasNote g order conflicts noted (λ used. ⊤)) ×
+    ReadsGraph before after
 IsVerdict limit order budget conflicts files before after (Undecided tried step size) noted =
-    HasGraph limit (bytes_under before files.graph) (λ g. IsFirstAbove g order budget step size × HasNote g order conflicts noted (λ used. AreTried g order budget used tried.items)) ×
+    HasGraph limit (bytes_under before files.graph) (λ g. IsFirstAbove g order budget step size ×
+    HasNote g order conflicts noted (λ used. AreTried g order budget used tried.items)) ×
     ReadsGraph before after
 IsVerdict limit order budget conflicts files before after (Graph why) noted =
     IfSome (bytes_under before files.graph) (λ bytes. IsGraphRefusal limit bytes why) × ReadsGraph before after × (noted ≡ None)
 IsVerdict limit order budget conflicts files before after ReadFault noted = Rose before.read_faults after.read_faults × ReadsGraph before after × (noted ≡ None)
 IsVerdict limit order budget conflicts files before after WriteFault noted =
     Rose before.write_faults after.write_faults ×
-    HasGraph limit (bytes_under before files.graph) (λ g. Multiplies g order × ((n : Rewriting) × IsNote g order conflicts n × (read : View) × ReadsGraph before read ×
+    HasGraph limit (bytes_under before files.graph) (λ g. Multiplies g order ×
+    ((n : Rewriting) × IsNote g order conflicts n × (read : View) × ReadsGraph before read ×
     StopsWriting files (AreClausesFor g order budget conflicts (cut_of n)) (IsPairFor g order budget conflicts (cut_of n)) read after)) × (noted ≡ None)
 IsVerdict limit order budget conflicts files before after TooLong noted =
     IfSome (bytes_under before files.graph) (reading.IsTooLong limit) × ReadsGraph before after × (noted ≡ None)
@@ -119,13 +122,15 @@ pub record IsTold (view : View) : Type 0 where
 
 -- With `Proved` the desk holds the pair, where it tells its files and no two names are equal.
 abbrev pub ProvedPairsAreHeld : Type 0
-ProvedPairsAreHeld = (limit : ℕ) (order : Order) (budget conflicts : ℕ) (files : Files) (before after : View) (noted : Option Rewriting) → IsTold before → AreApart files →
+ProvedPairsAreHeld = (limit : ℕ) (order : Order) (budget conflicts : ℕ) (files : Files) (before after : View) (noted : Option Rewriting) →
+    IsTold before → AreApart files →
     IsVerdict limit order budget conflicts files before after Proved noted → HoldsPair order budget conflicts files after limit noted
 
 -- The verdict that is due to a graph file where no frontier of the plain order is above the budget, or where no graph is spelled.
 abbrev pub IsVerdictDue : ℕ → Order → ℕ → List ℕ → Verdict → Type 0
 IsVerdictDue limit order budget file Proved = (g : Aig) × SpellsWithin limit file g × IsWithinBudget g order budget × Multiplies g order
-IsVerdictDue limit order budget file (Wrong a b value product) = (g : Aig) × SpellsWithin limit file g × IsWithinBudget g order budget × IsWrong g order a b value product
+IsVerdictDue limit order budget file (Wrong a b value product) =
+    (g : Aig) × SpellsWithin limit file g × IsWithinBudget g order budget × IsWrong g order a b value product
 IsVerdictDue limit order budget file (Graph why) = IsGraphRefusal limit file why
 IsVerdictDue limit order budget file TooLong = reading.IsTooLong limit file
 IsVerdictDue limit order budget file _ = ⊥
@@ -136,4 +141,5 @@ GivesDue due given = (given ≡ due) ⊎ (given ≡ ReadFault) ⊎ (given ≡ Wr
 
 abbrev pub VerdictsAreExact : Type 0
 VerdictsAreExact = (limit : ℕ) (order : Order) (budget conflicts : ℕ) (files : Files) (before after : View) (file : List ℕ) (due given : Verdict) (noted : Option Rewriting) →
-    bytes_under before files.graph ≡ Some file → IsVerdictDue limit order budget file due → IsVerdict limit order budget conflicts files before after given noted → GivesDue due given
+    bytes_under before files.graph ≡ Some file → IsVerdictDue limit order budget file due →
+    IsVerdict limit order budget conflicts files before after given noted → GivesDue due given

@@ -43,4 +43,5 @@ StopsAt at name P before after = IsSame before after ⊎ ((text : List ℕ) × P
 abbrev pub StopsWriting : Files → (List ℕ → Type 0) → (List ℕ → List ℕ → Type 0) → View → View → Type 0
 StopsWriting files P Q before after =
     StopsAt slot.Clauses files.clauses P before after ⊎
-    ((clauses : List ℕ) × (between : View) × P clauses × WritesFile slot.Clauses files.clauses clauses before between × StopsAt slot.Algebra files.algebra (Q clauses) between after)
+    ((clauses : List ℕ) × (between : View) × P clauses × WritesFile slot.Clauses files.clauses clauses before between ×
+    StopsAt slot.Algebra files.algebra (Q clauses) between after)

@@ -10,7 +10,8 @@
 //! them takes no memory.
 //!
 //! *Pair*: certificates that are lawful for a graph. *Above*, *within the budget*: the sizes of frontiers. Where each
-//! verdict comes is told in `specs/Verdicts.antt`, where each note comes in `specs/Notes.antt`.
+//! verdict comes is told in `specs/Verdicts.antt`, where each note comes in `specs/Notes.antt`, and which budgets are enough
+//! for multipliers that `graph_maker` makes in `specs/Budgets.antt`.
 #![tactic(auto)]
 
 mod ending;
@@ -23,7 +24,7 @@ mod tried;
 mod verdict;
 mod writing;
 
-pub use laws::{proved_pairs_are_held, verdicts_are_exact};
+pub use laws::{enough_is_proved, proved_pairs_are_held, verdicts_are_exact};
 pub use proving::verify;
 pub use rewriting::Rewriting;
 pub use verdict::{Tried, Verdict};

@@ -45,7 +45,8 @@ pub(crate) fn over_rewritten<D: Desk>(
     requires sized { IsMultiplierSized graph.now }
     requires rewriting { (conflicts : ℕ) × IsRewriting graph.now operands.now.order conflicts rewritten.now }
     requires agrees { Agrees rewritten.now }
-    ensures verdict { IfOk result (λ v. (conflicts : ℕ) → IsRewriting graph.now operands.now.order conflicts rewritten.now →
+    ensures verdict { IfOk result (λ v. (conflicts : ℕ) →
+        IsRewriting graph.now operands.now.order conflicts rewritten.now →
         IsOfGraph graph.now operands.now.order budget conflicts (cut_of (note_of rewritten.now)) (files_of names.now)
         (D.seen desk.old) (D.seen desk.new) v) }
     ensures memory { OnErr result (D.seen desk.new ≡ D.seen desk.old) }
@@ -166,8 +167,10 @@ fn told<D: Desk>(
     log: &[Line],
     names: &Names<'_>,
 ) -> Result<Verdict, Memory>
-    requires ended { (e : ExtendedGraph) × (order : InputOrder) × IsMultiplierSized e.graph × IsEnded e order lines.now ending }
-    ensures verdict { IfOk result (λ v. (e : ExtendedGraph) (order : InputOrder) (conflicts : ℕ) → IsEnded e order lines.now ending →
+    requires ended { (e : ExtendedGraph) × (order : InputOrder) × IsMultiplierSized e.graph ×
+        IsEnded e order lines.now ending }
+    ensures verdict { IfOk result (λ v. (e : ExtendedGraph) (order : InputOrder) (conflicts : ℕ) →
+        IsEnded e order lines.now ending →
         e ≡ extended_by e.graph (option_map (λ c. c.now) cut.entry) →
         AreClausesOver e.graph conflicts (option_map (λ c. c.now) cut.entry) (file_text (option_map (λ c. c.now) cut.entry) log.now) →
         IsToldOver e.graph order conflicts (option_map (λ c. c.now) cut.entry) (files_of names.now)

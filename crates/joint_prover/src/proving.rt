@@ -2,7 +2,8 @@
 ghost use Rattle.std.specs.Prelude.{◌≡◌, ◌≤◌, IfOk, OnErr};
 ghost use Rattle.graph_core.specs.Aiger.Soundness.{IsMultiplierSized};
 ghost use Rattle.joint_checker.specs.Files.{files_of};
-ghost use Rattle.mv_desk.specs.View.{KeepsTelling, OpensFiles};
+ghost use Rattle.mv_desk.specs.View.{KeepsTelling, OpensFiles, bytes_under};
+ghost use Rattle.joint_prover.specs.Budgets.{ProvesEnough};
 ghost use Rattle.joint_prover.specs.Notes.{IsNote, cut_of};
 ghost use Rattle.joint_prover.specs.Parts.{IsJudged, IsOfGraph, note_with};
 ghost use Rattle.joint_prover.specs.Verdicts.{IsVerdict, answer_of_graph};
@@ -31,6 +32,9 @@ pub fn verify<D: Desk>(
 ) -> (Verdict, Option<Rewriting>)
     ensures verdict { IsVerdict limits.now.graph order budget conflicts (files_of names.now)
         (D.seen desk.old) (D.seen desk.new) result.0 result.1 }
+    // With enough budget a made multiplier with a ripple-carry adder is proved, but for a fault or want of memory.
+    ensures enough { ProvesEnough limits.now.graph order budget
+        (bytes_under (D.seen desk.old) (files_of names.now).graph) result.0 }
     ensures report { ReportStays (D.seen desk.old) (D.seen desk.new) }
     // The graph file, failed or not; files that are created don't count.
     ensures opened { OpensFiles 1 (D.seen desk.old) (D.seen desk.new) }

@@ -1,7 +1,6 @@
 use Rattle.std.proofs.Common.{subst}
 use Rattle.std.specs.Prelude.{option_map}
 use Rattle.drup_text.specs.WrittenTexts.{file_text}
-use Rattle.ripple_graft.specs.declared.cut.Cut.{Cut}
 use Rattle.joint_checker.specs.Files.{files_of}
 use Rattle.joint_prover.specs.Endings.{Decides}
 use Rattle.joint_prover.proofs.Telling.{written_told}

@@ -1,6 +1,6 @@
-use Rattle.std.proofs.Common.{ap, sym, subst}
+use Rattle.std.proofs.Common.{sym, subst}
 use Rattle.joint_checker.specs.Files.{files_of}
-use Rattle.joint_prover.specs.Notes.{IsNote, cut_of, note_of}
+use Rattle.joint_prover.specs.Notes.{IsNote, cut_of}
 use Rattle.joint_prover.specs.Parts.{IsOfGraph}
 use Rattle.joint_prover.proofs.Noting.{note_is}
 use Rattle.joint_prover.proofs.proving.judge_noted.Goals as goal

@@ -3,6 +3,7 @@ use Rattle.column_reducer.specs.Reducing.{IsPassed, IsReduced, planned}
 use Rattle.frontier_core.specs.Plan.{IsPlan}
 use Rattle.graph_core.specs.Graph.Extended.{Extended}
 use Rattle.graph_core.specs.Graph.Operands.{ReadInputs}
+use Rattle.slice_planner.specs.Slices.{IsSlicePlan}
 use Rattle.joint_prover.proofs.Remainders.{above_of, reads_inputs, remainder_of}
 use Rattle.joint_prover.proofs.reduction.reduced_by_slices.Goals as goal
 
@@ -34,4 +35,4 @@ returns c =
     let over = subst (λ x. IsPassed (planned x p.steps p.uncounted) l.sides c.args.budget step size) (plan.extended ∙ same) passed in
     let counted = subst (λ n. IsPassed (planned l.extended p.steps n) l.sides c.args.budget step size) plan.uncounted over in
     let at = c.in_ok-tried-in-Passed.ensures in
-    (at.rewritten_is, above_of l c.requires p.steps (subst (λ x. IsPlan x p.steps) same plan.slice.plan) c.args.budget step size counted c.args.rewritten c.in_ok-tried-in-Passed.tried at)
+    (at.rewritten_is, above_of l c.requires p.steps (subst (λ x. IsSlicePlan x p.steps) same plan.slice) c.args.budget step size counted c.args.rewritten c.in_ok-tried-in-Passed.tried at)
