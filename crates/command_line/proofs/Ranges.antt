@@ -10,9 +10,9 @@ use Rattle.graph_core.specs.declared.order.Order.{Order}
 use Rattle.graph_maker.specs.declared.adder.Adder.{Adder}
 use Rattle.graph_maker.specs.declared.kind.Kind.{Kind}
 use Rattle.command_line.specs.declared.command.Command.{Command}
-use Rattle.command_line.specs.declared.command.Command.TheVariants.{Check, Make, Verify}
+use Rattle.command_line.specs.declared.command.Command.TheVariants.{Check, Make, Trial, Verify}
 use Rattle.command_line.specs.declared.files.Files.{Files}
-use Rattle.command_line.specs.Asked.{AreApart, AreBits, IsInRange, adder_named, are_shared, asked, bits_of, check_of, check_with, files_at, verify_of, verify_with, word_at, word_from, eval_of, eval_with, kind_named, make_of, make_with, met, named, number_of, order_at, read_at, where_taken}
+use Rattle.command_line.specs.Asked.{AreApart, AreBits, IsInRange, adder_named, are_shared, asked, bits_of, check_of, check_with, files_at, verify_of, verify_with, word_at, word_from, eval_of, eval_with, kind_named, make_of, make_with, met, named, number_of, order_at, read_at, trial_of, trial_with, where_taken}
 use Rattle.command_line.specs.FixedCommand.{mulver}
 
 -- ---- the number
@@ -46,6 +46,10 @@ in_word least (Some n) = if_from (nat_le least n) (nat_lt n (2 ^ 32)) least n re
 word_in : (least default : ℕ) (o : Option Text) → AreFrom least default → IfSome (option_map_or (word_from least) o (Some default)) (AreFrom least)
 word_in least default None h = h
 word_in least default (Some text) h = in_word least (number_of text)
+
+word_of_in : (o : Option Text) → IfSome (option_and_then (word_from 0) o) (AreFrom 0)
+word_of_in None = tt
+word_of_in (Some text) = in_word 0 (number_of text)
 
 -- ---- the commands
 
@@ -100,20 +104,27 @@ make_range (Some k) None adder out command in_range e = cc
 make_range (Some k) (Some n) None out command in_range e = cc
 make_range (Some k) (Some n) (Some a) None command in_range e = cc
 
+trial_range : (number : Option ℕ) (command : Command) → IfSome number (AreFrom 0) → trial_with number ≡ Some command → IsInRange command
+trial_range (Some n) command in_range e = same_range command (Trial n) in_range.1 e
+trial_range None command in_range e = cc
+
 -- ---- the words
 
 named_range : (name : Text) (rows : List Row) (command : Command) → named name rows ≡ Some command → IsInRange command
-named_range name rows command = pick (bytes_eq name (codes "check")) (bytes_eq name (codes "verify")) (bytes_eq name (codes "eval")) (bytes_eq name (codes "make"))
+named_range name rows command =
+    pick (bytes_eq name (codes "check")) (bytes_eq name (codes "verify")) (bytes_eq name (codes "eval")) (bytes_eq name (codes "make")) (bytes_eq name (codes "trial"))
   where
-    pick : (w x y z : Bool) → (if w then check_of rows else (if x then verify_of rows else (if y then eval_of rows else (if z then make_of rows else None)))) ≡ Some command
+    pick : (v w x y z : Bool)
+        → (if v then check_of rows else (if w then verify_of rows else (if x then eval_of rows else (if y then make_of rows else (if z then trial_of rows else None))))) ≡ Some command
         → IsInRange command
-    pick true x y z e = check_range (files_at rows) (order_at rows) command e
-    pick false true y z e = verify_range (files_at rows) (order_at rows) (word_at 1 1000000 (codes "budget") rows) (word_at 0 100000 (codes "conflicts") rows) command
+    pick true w x y z e = check_range (files_at rows) (order_at rows) command e
+    pick false true x y z e = verify_range (files_at rows) (order_at rows) (word_at 1 1000000 (codes "budget") rows) (word_at 0 100000 (codes "conflicts") rows) command
         (word_in 1 1000000 (first_of (codes "budget") rows) (omega arith, omega arith)) (word_in 0 100000 (first_of (codes "conflicts") rows) (omega arith, omega arith)) e
-    pick false false true z e = eval_range (first_of (codes "graph") rows) (read_at number_of (codes "a") rows) (read_at number_of (codes "b") rows) (order_at rows) command e
-    pick false false false true e = make_range (read_at kind_named (codes "kind") rows) (read_at bits_of (codes "bits") rows)
+    pick false false true y z e = eval_range (first_of (codes "graph") rows) (read_at number_of (codes "a") rows) (read_at number_of (codes "b") rows) (order_at rows) command e
+    pick false false false true z e = make_range (read_at kind_named (codes "kind") rows) (read_at bits_of (codes "bits") rows)
         (read_at adder_named (codes "adder") rows) (first_of (codes "out") rows) command (bits_in (first_of (codes "bits") rows)) e
-    pick false false false false e = cc
+    pick false false false false true e = trial_range (read_at (word_from 0) (codes "number") rows) command (word_of_in (first_of (codes "number") rows)) e
+    pick false false false false false e = cc
 
 met_range : (subcommand : Option (Text × List Row)) (command : Command) → met subcommand ≡ Some command → IsInRange command
 met_range None command e = cc

@@ -14,7 +14,7 @@ use Rattle.graph_maker.specs.declared.kind.Kind.TheVariants.{Array, Dadda}
 use Rattle.mv_desk.specs.declared.names.Names.{Names}
 use Rattle.mv_nums.specs.Numeral.{decimal_value}
 use Rattle.command_line.specs.declared.command.Command.{Command}
-use Rattle.command_line.specs.declared.command.Command.TheVariants.{Check, Eval, Make, Verify}
+use Rattle.command_line.specs.declared.command.Command.TheVariants.{Check, Eval, Make, Trial, Verify}
 use Rattle.command_line.specs.declared.files.Files.{Files}
 use Rattle.command_line.specs.FixedCommand.{mulver}
 
@@ -140,6 +140,14 @@ make_of rows = make_with
     (read_at adder_named (codes "adder") rows)
     (first_of (codes "out") rows)
 
+-- `trial`: a number below 2^32
+abbrev pub trial_with : Option ℕ → Option Command
+trial_with (Some number) = Some (Trial number)
+trial_with None = None
+
+abbrev pub trial_of : List Row → Option Command
+trial_of rows = trial_with (read_at (word_from 0) (codes "number") rows)
+
 -- ---- the words
 
 -- the subcommand of this name, with these texts
@@ -148,7 +156,8 @@ named name rows =
     if bytes_eq name (codes "check") then check_of rows
     else (if bytes_eq name (codes "verify") then verify_of rows
     else (if bytes_eq name (codes "eval") then eval_of rows
-    else (if bytes_eq name (codes "make") then make_of rows else None)))
+    else (if bytes_eq name (codes "make") then make_of rows
+    else (if bytes_eq name (codes "trial") then trial_of rows else None))))
 
 -- the subcommand that was met
 abbrev pub met : Option (Text × List Row) → Option Command
@@ -186,8 +195,9 @@ pub record AreApart (files : Files) : Type 0 where
   pub algebra : files.graph ≢ files.algebra
   pub certificates : files.clauses ≢ files.algebra
 
--- The number of bits of `make` and the budget of `verify` are in their ranges, and no two names of `verify` are equal.
+-- The numbers of `make`, `verify` and `trial` are in their ranges, and no two names of `verify` are equal.
 abbrev pub IsInRange : Command → Type 0
 IsInRange (Make kind bits adder out) = AreBits bits
 IsInRange (Verify files order budget conflicts) = AreApart files × (1 ≤ budget) × (budget < 2 ^ 32) × (conflicts < 2 ^ 32)
+IsInRange (Trial number) = number < 2 ^ 32
 IsInRange _ = ⊤

@@ -35,3 +35,6 @@ check_g = codes "mulver" ∷ codes "check" ∷ codes "g" ∷ []
 abbrev pub make_array : List Text
 make_array =
     codes "mulver" ∷ codes "make" ∷ codes "array" ∷ codes "064" ∷ codes "ripple" ∷ codes "x" ∷ []
+
+abbrev pub trial_of_21 : List Text
+trial_of_21 = codes "mulver" ∷ codes "trial" ∷ codes "21" ∷ []

@@ -40,6 +40,10 @@ abbrev pub make_app : App
 make_app = with_rule (with_rule (with_rule (with_rule (new_app (codes "make"))
     (word (codes "kind"))) (word (codes "bits"))) (word (codes "adder"))) (word (codes "out"))
 
+-- `trial N`
+abbrev pub trial_app : App
+trial_app = with_rule (new_app (codes "trial")) (word (codes "number"))
+
 -- a command that asks for a subcommand
 abbrev pub must_choose : App → App
 must_choose app = record app { top = record app.top { subcommand_required = true } }
@@ -50,4 +54,4 @@ judging = with_subcommand (with_subcommand (must_choose (new_app (codes "mulver"
 
 -- the whole command
 abbrev pub mulver : App
-mulver = with_subcommand (with_subcommand judging eval_app.top) make_app.top
+mulver = with_subcommand (with_subcommand (with_subcommand judging eval_app.top) make_app.top) trial_app.top

@@ -2,7 +2,7 @@
 ghost use Rattle.std.specs.Prelude.{◌≡◌, false, IfOk};
 ghost use Rattle.clap.specs.Words.{app_of, with_rule, with_subcommand};
 ghost use Rattle.clap.specs.declared.builder.Command.TheViews.{out-Command};
-ghost use Rattle.command_line.specs.FixedCommand.{word, choice, needed, check_app, eval_app, judging, make_app, mulver, verify_app, verify_files};
+ghost use Rattle.command_line.specs.FixedCommand.{word, choice, needed, check_app, eval_app, judging, make_app, mulver, trial_app, verify_app, verify_files};
 ghost use Rattle.command_line.specs.Reading.{IsCommand};
 
 use clap::{Arg, ArgAction, Command};
@@ -14,7 +14,8 @@ pub fn mulver<'a>(alloc: Global) -> Result<Command<'a>, AllocError>
 {
     let command = judging(alloc)?;
     let command = with_subcommand(command, eval(alloc)?)?;
-    with_subcommand(command, make(alloc)?)
+    let command = with_subcommand(command, make(alloc)?)?;
+    with_subcommand(command, trial(alloc)?)
 }
 
 // The command with the subcommands that judge certificates or give a verdict.
@@ -72,6 +73,12 @@ fn make<'a>(alloc: Global) -> Result<Command<'a>, AllocError>
     let command = with_word(alloc, command, "bits")?;
     let command = with_word(alloc, command, "adder")?;
     with_word(alloc, command, "out")
+}
+
+fn trial<'a>(alloc: Global) -> Result<Command<'a>, AllocError>
+    ensures { IfOk result (IsCommand trial_app) }
+{
+    with_word(alloc, Command::new(alloc, "trial"), "number")
 }
 
 // A required word in its place.

@@ -34,4 +34,9 @@ pub enum Command {
         adder: Adder,
         out: FileName,
     },
+    /// To make a multiplier from a number, to give a verdict on it and to judge the certificates, in memory.
+    Trial {
+        /// below 2^32
+        number: u64,
+    },
 }

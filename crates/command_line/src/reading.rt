@@ -1,14 +1,14 @@
 // What the words ask for.
 ghost use Rattle.std.specs.Prelude.{◌≡◌, None, Some, IfOk, IsErrOf};
 ghost use Rattle.clap.specs.Words.{found_of, rows_of, subcommand_rows_of};
-ghost use Rattle.command_line.specs.Asked.{IsInRange, IsUsage, asked, check_of, eval_of, make_of, met, named, texts, files_at, verify_of};
+ghost use Rattle.command_line.specs.Asked.{IsInRange, IsUsage, asked, check_of, eval_of, make_of, met, named, texts, trial_of, files_at, verify_of};
 ghost use Rattle.command_line.specs.Reading.{Reads, TakesAs};
 
 use crate::builders::mulver;
 use crate::command::Command;
 use crate::fail::WordsFail;
 use crate::files::Files;
-use crate::texts::{adder_at, bits_at, file_at, kind_at, number_at, order_at, word_at};
+use crate::texts::{adder_at, bits_at, file_at, kind_at, number_at, order_at, word_at, word_of};
 use clap::ArgMatches;
 use clap::error::ErrorKind;
 use std::alloc::Global;
@@ -56,6 +56,7 @@ fn named(alloc: Global, name: &str, matches: &ArgMatches<'_>) -> Result<Command,
         "verify" => verify(alloc, matches),
         "eval" => eval(alloc, matches),
         "make" => make(alloc, matches),
+        "trial" => trial(matches),
         _ => Err(WordsFail::Usage),
     }
 }
@@ -122,4 +123,11 @@ fn make(alloc: Global, matches: &ArgMatches<'_>) -> Result<Command, WordsFail>
         adder,
         out,
     })
+}
+
+fn trial(matches: &ArgMatches<'_>) -> Result<Command, WordsFail>
+    ensures { Reads (trial_of (rows_of (found_of matches.now))) result }
+{
+    let number = word_of(matches, "number").ok_or(WordsFail::Usage)?;
+    Ok(Command::Trial { number })
 }

@@ -1,7 +1,7 @@
 // The texts of a subcommand, each under its name.
 ghost use Rattle.std.specs.Prelude.{◌≡◌, option_map};
 ghost use Rattle.clap.specs.Words.{first_of, found_of, rows_of};
-ghost use Rattle.command_line.specs.Asked.{adder_named, bits_of, kind_named, number_of, order_at, read_at, word_at};
+ghost use Rattle.command_line.specs.Asked.{adder_named, bits_of, kind_named, number_of, order_at, read_at, word_at, word_from};
 ghost use Rattle.command_line.specs.Reading.{Reads};
 
 use crate::fail::WordsFail;
@@ -45,6 +45,13 @@ pub fn word_at(matches: &ArgMatches<'_>, name: &str, least: u64, default: u64) -
         Some(text) => word_from(least, text),
         None => Some(default),
     }
+}
+
+/// A number below 2^32.
+pub fn word_of(matches: &ArgMatches<'_>, name: &str) -> Option<u64>
+    ensures { result ≡ read_at (word_from 0) name.now (rows_of (found_of matches.now)) }
+{
+    word_from(0, text_at(matches, name)?)
 }
 
 pub fn kind_at(matches: &ArgMatches<'_>, name: &str) -> Option<Kind>

@@ -50,12 +50,13 @@ fn shown(alloc: Global, command: &Command) -> Result<String, Fail> {
             let out = out.as_str();
             format!(in alloc; "make {kind:?} {bits} {adder:?} <{out}>")?
         }
+        Command::Trial { number } => format!(in alloc; "trial {number}")?,
     };
     Ok(text)
 }
 
 // Words, and what they ask for.
-const ASKED: [(&str, &str); 22] = [
+const ASKED: [(&str, &str); 24] = [
     ("mulver check g c a", "check <g> <c> <a> Separate"),
     (
         "mulver check g c a --inputs separate",
@@ -117,10 +118,12 @@ const ASKED: [(&str, &str); 22] = [
         "mulver make dadda 2 sklansky x",
         "make Dadda 2 Sklansky <x>",
     ),
+    ("mulver trial 0", "trial 0"),
+    ("mulver trial 4294967295", "trial 4294967295"),
 ];
 
 // Words that ask for nothing.
-const NOTHING: [&str; 51] = [
+const NOTHING: [&str; 53] = [
     "mulver ",
     "mulver --help",
     "mulver help",
@@ -138,7 +141,9 @@ const NOTHING: [&str; 51] = [
     "mulver verify g --clauses c --algebra a --budget x",
     "mulver verify g --clauses c --algebra a --conflicts 4294967296",
     "mulver verify g --clauses c --algebra a --clauses c",
-    "mulver trial 0",
+    "mulver trial",
+    "mulver trial x",
+    "mulver trial 4294967296",
     "mulver -- check g c a",
     "mulver check",
     "mulver check g c",

@@ -2,7 +2,7 @@
 use Rattle.std.proofs.Common.{◌≡◌, ℕ, List, Some, None}
 use Rattle.std.specs.Prelude.{[], ⊤, IsSome, Option, option_map, unwrap_or}
 use Rattle.command_line.specs.declared.command.Command.{Command}
-use Rattle.command_line.specs.declared.command.Command.TheVariants.{Check, Eval, Make, Verify}
+use Rattle.command_line.specs.declared.command.Command.TheVariants.{Check, Eval, Make, Trial, Verify}
 use Rattle.graph_maker.specs.Made.{made}
 use Rattle.joint_checker.specs.Files.{HasGraph}
 use Rattle.joint_prover.specs.declared.rewriting.Rewriting.{Rewriting}
@@ -17,6 +17,7 @@ use Rattle.verdict_program.specs.Answer.{status_of}
 use Rattle.verdict_program.specs.Evaluation.{IsValueDue}
 use Rattle.verdict_program.specs.Headline.{IsMultiplier}
 use Rattle.verdict_program.specs.Making.{text_for}
+use Rattle.verdict_program.specs.Trial.{IsAcceptedWith, IsUndecidedWith, OfMade, plan_of}
 use Rattle.verdict_program.specs.Runs.{EndsAsDue, IsDueOf, IsTold, TellsNames, files_of, standard}
 use Rattle.verdict_program.proofs.Told.{none_told}
 
@@ -26,6 +27,7 @@ Succeeds (Check files order) a b = IsMultiplier a files.graph order
 Succeeds (Verify files order budget conflicts) a b = IsTold a → TellsNames a → (noted : Option Rewriting) × HoldsPair order budget conflicts (files_of files) b standard.graph noted
 Succeeds (Eval graph x y order) a b = ⊤
 Succeeds (Make kind bits adder out) a b = IsTold a → TellsNames a → b.held out ≡ Some (Some (text_for out (made kind bits adder)))
+Succeeds (Trial number) a b = (n : Rewriting) × OfMade (plan_of number) (IsAcceptedWith n)
 
 -- where statuses 1, 2 and 5 come
 abbrev pub IsWrongFor : Command → View → Type 0
@@ -40,6 +42,7 @@ IsTooGreatFor command a = ⊥
 abbrev pub IsUndecidedFor : Command → View → Type 0
 IsUndecidedFor (Verify files order budget conflicts) a =
     HasGraph standard.graph (bytes_under a files.graph) (λ g. (step : ℕ) × (size : ℕ) × IsFirstAbove g order budget step size × ((n : Rewriting) × IsNote g order conflicts n × (tried : List Tried) × AreTried g order budget (cut_of n) tried))
+IsUndecidedFor (Trial number) a = (step : ℕ) × (size : ℕ) × (n : Rewriting) × OfMade (plan_of number) (IsUndecidedWith step size n)
 IsUndecidedFor command a = ⊥
 
 -- One command's answer: what each status says, and that the answer which is due is given.

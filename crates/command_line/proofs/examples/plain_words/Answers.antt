@@ -1,6 +1,6 @@
 use Rattle.command_line.proofs.AnyNames.{names_are_checked}
 use Rattle.command_line.proofs.Numerals.{numbers_are_numerals}
-use Rattle.command_line.proofs.PlainWords.{interleaved, made, too_few}
+use Rattle.command_line.proofs.PlainWords.{interleaved, made, too_few, tried}
 use Rattle.command_line.proofs.examples.plain_words.Goals as goal
 
 pub returns : goal.returns
@@ -9,5 +9,6 @@ returns c = record {
   numbers = numbers_are_numerals;
   interleaved = interleaved;
   made = made;
+  tried = tried;
   too_few = too_few;
 }

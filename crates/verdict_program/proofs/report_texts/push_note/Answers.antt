@@ -5,15 +5,15 @@ use Rattle.verdict_program.specs.Answer.{report_of_note}
 use Rattle.verdict_program.proofs.ReportLines.{number_line, numbers_line}
 use Rattle.verdict_program.proofs.report_texts.push_note.Goals as goal
 
-pub returns-in-Used : goal.returns-in-Used
-returns-in-Used c =
+pub returns-in-Used-clause-text : goal.returns-in-Used-clause-text
+returns-in-Used-clause-text c =
     let old = c.args.report.now in
     let text = codes "rewriting used from column " in
     c.push.ensures ∙ ap (λ xs. xs ++ newline ∷ []) (c.push_numbered.ensures.text ∙ ap (λ n. old ++ text ++ decimal n) c.from.ensures) ∙
     number_line old text (decimal c.in-Used.cut.lo) ∙ ap (λ n. old ++ report_of_note n) (sym c.in-Used.is)
 
-pub returns-in-Differs : goal.returns-in-Differs
-returns-in-Differs c =
+pub returns-in-Differs-clause-text : goal.returns-in-Differs-clause-text
+returns-in-Differs-clause-text c =
     let old = c.args.report.now in
     let text = codes "rewriting differs a=" in
     let more = codes " b=" in
@@ -24,8 +24,8 @@ returns-in-Differs c =
     c.push-in-Differs.ensures ∙ ap (λ xs. xs ++ newline ∷ []) (second ∙ ap (λ xs. xs ++ more ++ decimal b) first) ∙
     numbers_line old text (decimal a) more (decimal b) ∙ ap (λ n. old ++ report_of_note n) (sym c.in-Differs.is)
 
-pub returns-in-Spent : goal.returns-in-Spent
-returns-in-Spent c =
+pub returns-in-Spent-clause-text : goal.returns-in-Spent-clause-text
+returns-in-Spent-clause-text c =
     let old = c.args.report.now in
     let text = codes "rewriting spent " in
     c.push-in-Spent.ensures ∙ ap (λ xs. xs ++ newline ∷ []) (c.push_numbered-in-Spent.ensures.text ∙ ap (λ n. old ++ text ++ decimal n) c.from-in-Spent.ensures) ∙

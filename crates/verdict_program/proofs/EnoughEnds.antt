@@ -1,0 +1,45 @@
+-- A run that has enough budget ends with status 0, but for a fault or want of memory.
+use Rattle.std.proofs.Common.{◌≡◌, ℕ, List, Some, ap, sym, subst, inl, inr}
+use Rattle.std.specs.Prelude.{◌⊎◌}
+use Rattle.command_line.specs.Asked.{asked}
+use Rattle.command_line.specs.declared.command.Command.{Command}
+use Rattle.command_line.specs.declared.command.Command.TheVariants.{Verify}
+use Rattle.joint_prover.specs.Budgets.{ProvesEnough}
+use Rattle.joint_prover.specs.Verdicts.{GivesDue}
+use Rattle.joint_prover.specs.declared.verdict.Verdict.{Verdict}
+use Rattle.joint_prover.specs.declared.verdict.Verdict.TheVariants as verdict
+use Rattle.joint_prover.proofs.CallerLemmas.{enough_is_proved}
+use Rattle.mv_desk.specs.View.{View}
+use Rattle.verdict_program.specs.declared.answer.Answer.{Answer}
+use Rattle.verdict_program.specs.Answer.{status_of, status_of_verify}
+use Rattle.verdict_program.specs.EnoughBudget.{HasEnoughBudget}
+use Rattle.verdict_program.specs.Runs.{EndsAsDue, EndsWith, IsRight, IsRightOf, files_of, standard}
+use Rattle.verdict_program.proofs.Asking.{no_command, one_command}
+
+proved_ends : (given : Verdict) → GivesDue verdict.Proved given → EndsAsDue 0 (status_of_verify given)
+proved_ends given (inl proved) = inl (ap status_of_verify proved)
+proved_ends given (inr (inl fault)) = inr (inl (ap status_of_verify fault))
+proved_ends given (inr (inr (inl fault))) = inr (inr (inl (ap status_of_verify fault)))
+proved_ends given (inr (inr (inr memory))) = inr (inr (inr (ap status_of_verify memory)))
+
+module _ (words : List (List ℕ)) (a b c : View) (given : Answer) (status : ℕ) (right : IsRight words a b given) (ends : EndsWith given b c status) (h : HasEnoughBudget words a) where
+  abbrev asks : Command
+  asks = Verify h.0 h.1 h.2 h.3
+
+  verify_ends : IsRightOf asks a b given → EndsAsDue 0 (status_of given)
+  verify_ends r =
+      let told = enough_is_proved standard.graph h.1 h.2 h.3 (files_of h.0) a b r.0 r.1 r.3.0 in
+      subst (λ x. EndsAsDue 0 (status_of x)) (sym r.2)
+      (proved_ends r.0 (subst (λ file. ProvesEnough standard.graph h.1 h.2 file r.0) h.6 told h.7))
+
+  answer_ends : IsRight words a b given → EndsAsDue 0 (status_of given)
+  answer_ends (inl none) = absurd (no_command words asks h.4 none.1)
+  answer_ends (inr (inl memory)) = inr (inr (inr (ap status_of memory.0)))
+  answer_ends (inr (inr r)) = verify_ends (subst (λ command. IsRightOf command a b given) (one_command words r.0 asks r.1 h.4) r.2)
+
+  pub run_has_enough : EndsAsDue 0 status
+  run_has_enough = go ends
+    where
+      go : EndsWith given b c status → EndsAsDue 0 status
+      go (inl e) = subst (EndsAsDue 0) (sym e.0) (answer_ends right)
+      go (inr e) = inr (inr (inl e.0))

@@ -1,0 +1,102 @@
+-- Which multiplier a number names, what `trial` says of it, and when.
+use Rattle.std.specs.Prelude.{◌≡◌, ℕ, ◌+◌, ◌-◌, ◌/◌, ◌%◌, ◌^◌, ◌==◌, List, Some, codes, length, if◌then◌else◌, ⊤}
+use Rattle.graph_core.specs.Aiger.{Spells}
+use Rattle.graph_core.specs.Aiger.Writing.{ascii_text}
+use Rattle.graph_core.specs.Graph.{Aig}
+use Rattle.graph_core.specs.Graph.Operands.{Multiplies}
+use Rattle.graph_core.specs.declared.order.Order.TheVariants.{Separate}
+use Rattle.graph_maker.specs.declared.adder.Adder.{Adder}
+use Rattle.graph_maker.specs.declared.adder.Adder.TheVariants.{Ripple, Kogge, Sklansky}
+use Rattle.graph_maker.specs.declared.kind.Kind.{Kind}
+use Rattle.graph_maker.specs.declared.kind.Kind.TheVariants.{Array, Dadda}
+use Rattle.joint_checker.specs.Certificates.{IsLawfulPair}
+use Rattle.joint_checker.specs.Files.{Files}
+use Rattle.joint_prover.specs.Notes.{IsNote, cut_of}
+use Rattle.joint_prover.specs.Pairs.{IsPairFor}
+use Rattle.joint_prover.specs.Tries.{AreTried}
+use Rattle.joint_prover.specs.Verdicts.{HoldsPair, IsFirstAbove, IsWithinBudget}
+use Rattle.joint_prover.specs.declared.rewriting.Rewriting.{Rewriting}
+use Rattle.joint_prover.specs.declared.verdict.Tried.{Tried}
+use Rattle.mv_desk.specs.View.{View, bytes_under}
+use Rattle.mv_desk.specs.declared.limits.Limits.{Limits}
+use Rattle.mv_text.specs.LineReading.{lengths_of}
+use Rattle.verdict_program.specs.Making.{graph_of}
+use Rattle.verdict_program.specs.declared.plan.Plan.{Plan}
+use Rattle.verdict_program.specs.declared.tested.Multiplier.{Multiplier}
+use Rattle.verdict_program.specs.declared.tested.Tested.{Tested}
+use Rattle.verdict_program.specs.declared.tested.Tested.TheVariants.{Accepted, Undecided, Memory}
+
+-- ---- which multiplier
+
+abbrev pub kind_of : ℕ → Kind
+kind_of number = if number % 2 == 0 then Array else Dadda
+
+abbrev pub adder_of : ℕ → Adder
+adder_of number = if number / 2 % 3 == 0 then Ripple else (if number / 2 % 3 == 1 then Kogge else Sklansky)
+
+-- the multiplier that a number names
+abbrev pub plan_of : ℕ → Plan
+plan_of number = record { kind = kind_of number; bits = 1 + number / 6 % 64; adder = adder_of number }
+
+-- with how many gates it has
+abbrev pub multiplier_of : ℕ → Multiplier
+multiplier_of number = record { plan = plan_of number; gates = length (graph_of (plan_of number)).gates }
+
+-- ---- what is said of it
+
+-- the most monomials that a remainder may have, and the most conflicts
+abbrev pub default_budget : ℕ
+default_budget = 1000000
+
+abbrev pub default_conflicts : ℕ
+default_conflicts = 100000
+
+-- the lengths that files in memory may have
+abbrev pub no_limits : Limits
+no_limits = record { graph = 2 ^ 64 - 1; certificate = 2 ^ 64 - 1; line = 2 ^ 64 - 1 }
+
+-- Something holds of the graph that the made graph's ascii text spells.
+abbrev pub OfMade : Plan → (Aig → Type 0) → Type 0
+OfMade plan P = (g : Aig) × Spells (ascii_text (graph_of plan)) g × P g
+
+-- The graph multiplies, the note has its cause, and there is a lawful pair of certificates: the pair that is written with the note's cut.
+pub record IsAcceptedWith (note : Rewriting) (g : Aig) : Type 0 where
+  pub multiplies : Multiplies g Separate
+  pub noted : IsNote g Separate default_conflicts note
+  pub clauses : List ℕ
+  pub algebra : List ℕ
+  pub written : IsPairFor g Separate default_budget default_conflicts (cut_of note) clauses algebra
+  pub lawful : IsLawfulPair (lengths_of no_limits) g Separate clauses algebra
+
+-- This is the plain order's first frontier above the budget, the note has its cause, and each plan that was tried before has a frontier
+-- above the budget.
+pub record IsUndecidedWith (step size : ℕ) (note : Rewriting) (g : Aig) : Type 0 where
+  pub first : IsFirstAbove g Separate default_budget step size
+  pub noted : IsNote g Separate default_conflicts note
+  pub tried : List Tried
+  pub above : AreTried g Separate default_budget (cut_of note) tried
+
+-- Where each answer comes, and of which multiplier.
+abbrev pub IsTested : Multiplier → Tested → Type 0
+IsTested asked (Accepted multiplier note) = (multiplier ≡ asked) × OfMade asked.plan (IsAcceptedWith note)
+IsTested asked (Undecided multiplier step size note) = (multiplier ≡ asked) × OfMade asked.plan (IsUndecidedWith step size note)
+IsTested asked Memory = ⊤
+
+-- The answer that is due: acceptance, where no frontier of the plain order is above the budget.
+abbrev pub IsTestDue : Plan → Tested → Type 0
+IsTestDue plan (Accepted m n) = OfMade plan (λ g. IsWithinBudget g Separate default_budget)
+IsTestDue plan _ = ⊥
+
+-- ---- private clauses alone cite what follows
+
+-- the names of the files in memory
+abbrev pub trial_files : Files
+trial_files = record { graph = codes "graph"; clauses = codes "clauses"; algebra = codes "algebra" }
+
+-- the graph file is held
+abbrev pub HoldsGraph : View → Plan → Type 0
+HoldsGraph view plan = bytes_under view trial_files.graph ≡ Some (ascii_text (graph_of plan))
+
+-- and a lawful pair of certificates for what it spells
+abbrev pub HoldsTrial : View → Rewriting → Type 0
+HoldsTrial view note = HoldsPair Separate default_budget default_conflicts trial_files view no_limits.graph (Some note)

@@ -1,0 +1,30 @@
+// The ends of a trial.
+use crate::plan::Plan;
+use joint_prover::Rewriting;
+
+/// A multiplier that was made.
+#[derive(Clone, Copy, Debug)]
+pub struct Multiplier {
+    pub plan: Plan,
+    /// how many gates it has
+    pub gates: u64,
+}
+
+/// What `trial` says of the multiplier that a number names.
+#[derive(Debug, Drop)]
+pub enum Tested {
+    /// It was proved, and the certificates were accepted; with the note on a rewriting.
+    Accepted {
+        multiplier: Multiplier,
+        note: Rewriting,
+    },
+    /// All plans passed the budget: the plain order's first frontier above it; with the note on a rewriting.
+    Undecided {
+        multiplier: Multiplier,
+        step: u64,
+        size: u64,
+        note: Rewriting,
+    },
+    /// No memory for the multiplier, for its files, or for the work on them.
+    Memory,
+}

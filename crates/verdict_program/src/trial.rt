@@ -1,0 +1,148 @@
+// `trial`: the multiplier that a number names is made, and verified and checked in memory.
+ghost use Rattle.std.specs.Prelude.{◌≡◌, ◌<◌, ◌≤◌, ◌^◌, [], length, unwrap_or};
+ghost use Rattle.graph_core.specs.Aiger.{IsPacked};
+ghost use Rattle.graph_core.specs.Aiger.Writing.{written};
+ghost use Rattle.joint_checker.specs.Files.{files_of};
+ghost use Rattle.mv_desk.specs.HonestDesk.{held_of};
+ghost use Rattle.verdict_program.specs.Making.{graph_of};
+ghost use Rattle.graph_core.specs.declared.order.Order.TheVariants.{Separate};
+ghost use Rattle.joint_prover.specs.Verdicts.{IsVerdict};
+ghost use Rattle.verdict_program.specs.Trial.{HoldsGraph, HoldsTrial, IsTested, default_budget, default_conflicts, multiplier_of, no_limits, trial_files};
+
+use crate::made::Made;
+use crate::make_file::create_file;
+use crate::plan::plan_of;
+use crate::tested::{Multiplier, Tested};
+use graph_core::{Graph, Order};
+use graph_maker::make;
+use joint_checker::{Checked, check};
+use joint_prover::{Rewriting, Verdict, verify};
+use mv_desk::{Desk, HonestDesk, Limits, Names};
+use std::alloc::Global;
+
+// As long as a file in memory can be.
+const NO_LIMITS: Limits = Limits {
+    graph: u64::MAX,
+    certificate: u64::MAX,
+    line: u64::MAX,
+};
+
+/// Makes the multiplier that a number names, gives a verdict on it within the default budgets, and where it is proved
+/// judges the certificates. All files are in memory, and what is refused there is want of memory.
+pub fn trial(alloc: Global, number: u64) -> Tested
+    ensures { IsTested (multiplier_of number) result }
+{
+    let plan = plan_of(number);
+    match make(alloc, plan.kind, plan.bits, plan.adder) {
+        Ok(graph) => {
+            let gates = graph.gates().len() as u64;
+            test(alloc, Multiplier { plan, gates }, &graph)
+        }
+        Err(_) => Tested::Memory,
+    }
+}
+
+// The verdict on a made graph, and the check.
+fn test(alloc: Global, multiplier: Multiplier, graph: &Graph) -> Tested
+    requires made { graph.now ≡ graph_of multiplier.plan }
+    requires packed { IsPacked (written graph.now) }
+    requires some { 1 ≤ multiplier.plan.bits }
+    requires narrow { multiplier.plan.bits ≤ 64 }
+    ensures { IsTested multiplier result }
+{
+    let mut desk = HonestDesk::new(alloc);
+    match create_file(&mut desk, graph, names().graph) {
+        Made::Written => judge(alloc, &mut desk, multiplier),
+        Made::WriteFault | Made::Memory => Tested::Memory,
+    }
+}
+
+// The verdict on the graph that a desk holds, and where it is proved the check.
+fn judge(alloc: Global, desk: &mut HonestDesk, multiplier: Multiplier) -> Tested
+    requires held { HoldsGraph (⟦<HonestDesk as Desk>⟧.seen desk.old) multiplier.plan }
+    requires some { 1 ≤ multiplier.plan.bits }
+    requires narrow { multiplier.plan.bits ≤ 64 }
+    ensures { IsTested multiplier result }
+{
+    let names = names();
+    measure(desk, names.graph);
+    let (verdict, note) = verdict_on(alloc, desk, &names);
+    match verdict {
+        Verdict::Proved => check_pair(alloc, desk, multiplier, note.unwrap()),
+        Verdict::Undecided {
+            plain_step,
+            plain_size,
+            ..
+        } => Tested::Undecided {
+            multiplier,
+            step: plain_step,
+            size: plain_size,
+            note: note.unwrap(),
+        },
+        Verdict::WriteFault | Verdict::Memory => Tested::Memory,
+        _ => unreachable!(),
+    }
+}
+
+// The verdict on a file, within the default budgets.
+fn verdict_on(
+    alloc: Global,
+    desk: &mut HonestDesk,
+    names: &Names<'_>,
+) -> (Verdict, Option<Rewriting>)
+    ensures { IsVerdict no_limits.graph Separate default_budget default_conflicts (files_of names.now)
+        (⟦<HonestDesk as Desk>⟧.seen desk.old) (⟦<HonestDesk as Desk>⟧.seen desk.new) result.0 result.1 }
+{
+    verify(
+        alloc,
+        desk,
+        Order::Separate,
+        1000000,
+        100000,
+        &NO_LIMITS,
+        names,
+    )
+}
+
+// The check of the certificates that a desk holds.
+fn check_pair(
+    alloc: Global,
+    desk: &mut HonestDesk,
+    multiplier: Multiplier,
+    note: Rewriting,
+) -> Tested
+    requires made { HoldsGraph (⟦<HonestDesk as Desk>⟧.seen desk.old) multiplier.plan }
+    requires pair { HoldsTrial (⟦<HonestDesk as Desk>⟧.seen desk.old) note }
+    ensures { IsTested multiplier result }
+{
+    let names = names();
+    measure(desk, names.clauses);
+    measure(desk, names.algebra);
+    match check(alloc, desk, Order::Separate, &NO_LIMITS, &names) {
+        Checked::Accepted => Tested::Accepted { multiplier, note },
+        Checked::Memory => Tested::Memory,
+        _ => unreachable!(),
+    }
+}
+
+// How long a file is that a desk holds: no file in memory is longer than any limit.
+fn measure(desk: &HonestDesk, name: &str) -> usize
+    ensures count { result ≡ length (unwrap_or (held_of desk.now name.now) []) }
+    ensures short { result < 2 ^ 64 }
+{
+    match desk.bytes(name) {
+        Some(bytes) => bytes.len(),
+        None => 0,
+    }
+}
+
+// The names of the files in memory.
+fn names() -> Names<'static>
+    ensures { files_of result ≡ trial_files }
+{
+    Names {
+        graph: "graph",
+        clauses: "clauses",
+        algebra: "algebra",
+    }
+}
