@@ -8,8 +8,7 @@ use Rattle.graph_core.specs.declared.literal.Lit.{Lit}
 use Rattle.graph_core.specs.declared.gate.Gate.{Gate}
 use Rattle.graph_core.specs.Graph.Assignments.{Assignment, variable, literal}
 use Rattle.graph_core.specs.Graph.Literals.{variable_of, negation_of}
-use Rattle.graph_core.proofs.OfGraphs.Evaluation.{variable_same}
-use Rattle.graph_core.proofs.OfGraphs.LiteralValues.{variable_of-negated}
+use Rattle.graph_core.proofs.OfGraphs.CallerLemmas.{variable_of-negated, variable_same}
 use Rattle.frontier_core.specs.Sets.{has}
 use Rattle.graph_core.specs.Graph.Literals.{plain, inverted}
 use Rattle.enough_budget.proofs.Network.{gates_at}

@@ -16,10 +16,7 @@ use Rattle.graph_core.specs.Graph.{evaluation}
 use Rattle.graph_core.specs.Algebra.Polynomials.{Polynomial, value}
 use Rattle.graph_core.specs.Algebra.NormalForm.{HasSize}
 use Rattle.graph_core.specs.Graph.Operands.{sides_of}
-use Rattle.graph_core.proofs.OfGraphs.Lists.{all_split, all_weaker}
-use Rattle.graph_core.proofs.OfGraphs.Congruence.{sum_same}
-use Rattle.graph_core.proofs.OfGraphs.Evaluation.{variable_same, rounds-free, finds_none}
-use Rattle.graph_core.proofs.OfGraphs.Multiplies.{Apart, apart_from_pairs}
+use Rattle.graph_core.proofs.OfGraphs.CallerLemmas.{Apart, all_split, all_weaker, apart_from_pairs, finds_none, rounds-free, sum_same, variable_same}
 use Rattle.frontier_core.specs.Sets.{has}
 use Rattle.frontier_core.specs.Columns.{columns_sum}
 use Rattle.frontier_core.specs.Frontier.{IsFrontier, gates_among, frontier_value}

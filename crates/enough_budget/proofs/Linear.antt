@@ -7,8 +7,7 @@ use Rattle.std.proofs.lemmas.Bool.{cases_eq}
 use Rattle.std.proofs.lemmas.List.{length-map}
 use Rattle.graph_core.specs.declared.literal.Lit.{Lit}
 use Rattle.graph_core.specs.Graph.Assignments.{Assignment, variable, literal, bit}
-use Rattle.graph_core.proofs.OfGraphs.Congruence.{sum_same, product_same}
-use Rattle.graph_core.proofs.OfGraphs.LiteralValues.{literal-even, literal-odd}
+use Rattle.graph_core.proofs.OfGraphs.CallerLemmas.{literal-even, literal-odd, product_same, sum_same}
 use Rattle.frontier_core.specs.Sizes.{linear_sum, bilinear_sum}
 use Rattle.slice_finder.proofs.Cases.{all_join}
 

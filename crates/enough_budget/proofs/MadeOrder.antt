@@ -5,7 +5,7 @@ use Rattle.std.proofs.Common.{sym, ap, subst, ◌∙◌, arith, ⊎_elim}
 use Rattle.std.proofs.lemmas.List.Elements.{recursion_from_All, All-from_recursion}
 use Rattle.graph_core.specs.declared.gate.Gate.{Gate}
 use Rattle.graph_core.specs.Graph.Literals.{variable_of}
-use Rattle.graph_core.proofs.OfGraphs.Lists.{all_weaker}
+use Rattle.graph_core.proofs.OfGraphs.CallerLemmas.{all_weaker}
 use Rattle.graph_maker.specs.declared.adder.Adder.TheVariants.{Ripple}
 use Rattle.graph_maker.specs.Made.{made}
 use Rattle.graph_maker.proofs.MadeMultiplies.{numbered}

@@ -4,7 +4,7 @@ use Rattle.std.proofs.Common.{subst, arith}
 use Rattle.graph_core.specs.declared.order.Order.TheVariants.{Separate}
 use Rattle.graph_core.specs.Graph.Extended.{without_cut}
 use Rattle.graph_core.specs.Graph.Operands.{HasMultiplierShape, sides_of}
-use Rattle.graph_core.proofs.OfGraphs.Multiplies.{claim_is_product, sides_read_inputs}
+use Rattle.graph_core.proofs.OfGraphs.CallerLemmas.{claim_is_product, sides_read_inputs}
 use Rattle.ripple_graft.proofs.Plain.{graph_extends}
 use Rattle.frontier_core.specs.Plan.{nothing, taken}
 use Rattle.frontier_core.proofs.LastFrontiers.{last_frontier_decides}

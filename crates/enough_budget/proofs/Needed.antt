@@ -10,8 +10,7 @@ use Rattle.graph_core.specs.declared.literal.Lit.{Lit}
 use Rattle.graph_core.specs.declared.gate.Gate.{Gate}
 use Rattle.graph_core.specs.Graph.Assignments.{Assignment, variable, literal, bit}
 use Rattle.graph_core.specs.Graph.Literals.{variable_of}
-use Rattle.graph_core.proofs.OfGraphs.Lists.{all_split}
-use Rattle.graph_core.proofs.OfGraphs.LiteralValues.{literal-even}
+use Rattle.graph_core.proofs.OfGraphs.CallerLemmas.{all_split, literal-even}
 use Rattle.frontier_core.specs.Sets.{has}
 use Rattle.graph_core.specs.Graph.Literals.{plain, inverted, constant_false}
 use Rattle.graph_maker.proofs.CellFacts.{Computes, half_adds, position_adds}

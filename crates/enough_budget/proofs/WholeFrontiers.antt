@@ -16,11 +16,8 @@ use Rattle.graph_core.specs.Graph.Extended.{Extended, without_cut}
 use Rattle.graph_core.specs.Algebra.Polynomials.{difference}
 use Rattle.graph_core.specs.Algebra.{modulus}
 use Rattle.graph_core.specs.Graph.Operands.{Sides, sides_of}
-use Rattle.graph_core.proofs.OfGraphs.Lists.{all_split, all_weaker}
-use Rattle.graph_core.proofs.OfGraphs.Congruence.{sum_same, product_same, difference_plus}
-use Rattle.graph_core.proofs.OfGraphs.Evaluation.{literal_same, rounds-free, finds_none}
+use Rattle.graph_core.proofs.OfGraphs.CallerLemmas.{all_split, all_weaker, difference_plus, finds_none, literal-even, literal_same, product_same, rounds-free, sum_same}
 use Rattle.ripple_graft.specs.Extension.{outputs_from, new_outputs, IsExtension}
-use Rattle.graph_core.proofs.OfGraphs.LiteralValues.{literal-even}
 use Rattle.ripple_graft.proofs.Plain.{graph_extends}
 use Rattle.frontier_core.specs.Sets.{has}
 use Rattle.frontier_core.specs.Columns.{bit_at, partial_products, columns_sum}

@@ -45,13 +45,13 @@ or_true : (b c : Bool) → c ≡ true → (b || c) ≡ true
 or_true true c h = refl
 or_true false c h = h
 
-has_more : (k j : ℕ) (xs : List ℕ) → has xs j ≡ true → has (k ∷ xs) j ≡ true
+pub has_more : (k j : ℕ) (xs : List ℕ) → has xs j ≡ true → has (k ∷ xs) j ≡ true
 has_more k j xs h = or_true (k == j) (has xs j) h
 
-has_first : (k : ℕ) (xs : List ℕ) → has (k ∷ xs) k ≡ true
+pub has_first : (k : ℕ) (xs : List ℕ) → has (k ∷ xs) k ≡ true
 has_first k xs = ap (λ b. b || has xs k) (eq-eqb k k refl)
 
-taken_adding : (e : Extended) (f : Taken) (k id : ℕ) → IsTaken e f id → IsTaken e (step f (Add k)) id
+pub taken_adding : (e : Extended) (f : Taken) (k id : ℕ) → IsTaken e f id → IsTaken e (step f (Add k)) id
 taken_adding e f k id h = ⊎_elim (λ a. inl a) (λ b. inr (b.0, has_more k b.0 f.added b.1, b.2)) h
 
 taken_eliminating : (e : Extended) (f : Taken) (v id : ℕ) → IsTaken e f id → IsTaken e (step f (Eliminate v)) id

@@ -13,8 +13,7 @@ use Rattle.graph_core.specs.Graph.{IsEvaluation, IsFree, evaluation}
 use Rattle.graph_core.specs.Graph.Extended.{Extended}
 use Rattle.graph_core.specs.Algebra.{modulus}
 use Rattle.graph_core.specs.Graph.Operands.{Sides}
-use Rattle.graph_core.proofs.OfGraphs.Lists.{all_weaker}
-use Rattle.graph_core.proofs.OfGraphs.Evaluation.{evaluation_is_one, variable_same, literal_same, rounds-free, finds_none}
+use Rattle.graph_core.proofs.OfGraphs.CallerLemmas.{all_weaker, evaluation_is_one, finds_none, literal_same, rounds-free, variable_same}
 use Rattle.ripple_graft.specs.Extension.{new_outputs, IsExtension}
 use Rattle.frontier_core.specs.Sets.{has}
 use Rattle.frontier_core.specs.Columns.{columns_sum}

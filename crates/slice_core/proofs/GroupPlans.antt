@@ -12,8 +12,7 @@ use Rattle.graph_core.specs.declared.literal.Lit.{Lit}
 use Rattle.graph_core.specs.declared.gate.Gate.{Gate}
 use Rattle.graph_core.specs.Graph.Literals.{variable_of}
 use Rattle.graph_core.specs.Graph.Extended.{Extended}
-use Rattle.graph_core.proofs.OfGraphs.Lists.{all_split}
-use Rattle.graph_core.proofs.OfGraphs.Multiplies.{Apart, apart_from_pairs}
+use Rattle.graph_core.proofs.OfGraphs.CallerLemmas.{Apart, all_split, apart_from_pairs}
 use Rattle.ripple_graft.specs.Extension.{new_outputs}
 use Rattle.frontier_core.specs.declared.step.Step.{Step}
 use Rattle.frontier_core.specs.declared.step.Step.TheVariants.{Add, Eliminate}

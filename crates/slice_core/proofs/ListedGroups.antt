@@ -9,8 +9,7 @@ use Rattle.std.proofs.lemmas.List.Elements.{recursion_from_All, All-from_recursi
 use Rattle.graph_core.specs.declared.gate.Gate.{Gate}
 use Rattle.graph_core.specs.Graph.Literals.{variable_of}
 use Rattle.graph_core.specs.Graph.{defined}
-use Rattle.graph_core.proofs.OfGraphs.Lists.{all_split, all_weaker}
-use Rattle.graph_core.proofs.OfGraphs.Multiplies.{Apart, apart_from_pairs, rest_apart}
+use Rattle.graph_core.proofs.OfGraphs.CallerLemmas.{Apart, all_split, all_weaker, apart_from_pairs, rest_apart}
 use Rattle.ripple_graft.specs.Extension.{whole}
 use Rattle.ripple_graft.proofs.OneBlock.{pairs_from_apart}
 use Rattle.frontier_core.specs.Sets.{has}

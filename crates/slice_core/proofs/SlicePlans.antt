@@ -10,7 +10,7 @@ use Rattle.graph_core.specs.declared.literal.Lit.{Lit}
 use Rattle.graph_core.specs.declared.gate.Gate.{Gate}
 use Rattle.graph_core.specs.Graph.Literals.{variable_of}
 use Rattle.graph_core.specs.Graph.Extended.{Extended}
-use Rattle.graph_core.proofs.OfGraphs.Lists.{all_split, all_weaker}
+use Rattle.graph_core.proofs.OfGraphs.CallerLemmas.{all_split, all_weaker}
 use Rattle.ripple_graft.specs.Extension.{new_outputs}
 use Rattle.frontier_core.specs.declared.step.Step.{Step}
 use Rattle.frontier_core.specs.declared.step.Step.TheVariants.{Add, Eliminate}

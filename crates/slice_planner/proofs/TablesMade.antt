@@ -8,8 +8,7 @@ use Rattle.graph_core.specs.declared.gate.Gate.{Gate}
 use Rattle.graph_core.specs.declared.literal.Lit.{Lit}
 use Rattle.graph_core.specs.Graph.Literals.{variable_of}
 use Rattle.graph_core.specs.Graph.Extended.{Extended}
-use Rattle.graph_core.proofs.OfGraphs.BuiltFacts.{few_distinct}
-use Rattle.graph_core.proofs.OfGraphs.CallerLemmas.{output_in_range}
+use Rattle.graph_core.proofs.OfGraphs.CallerLemmas.{few_distinct, output_in_range}
 use Rattle.ripple_graft.specs.Extension.{IsExtension, new_outputs, whole}
 use Rattle.ripple_graft.proofs.BlockLists.{whole_is_well_formed}
 use Rattle.frontier_core.proofs.OrderMade.{gates_of_defined}

@@ -5,4 +5,4 @@ pub use Rattle.graph_core.proofs.OfAlgebra.LikeLines.{likeness_is_kept, same_ids
 pub use Rattle.graph_core.proofs.OfAlgebra.NormalFormSizes.{normal_form, normal_form_exists, plain_value, size_is_one}
 pub use Rattle.graph_core.proofs.OfAlgebra.NormalForms.{Once, all_mem, normal_forms_differ, once_around, once_from_pairs, part_length, part_whole, rising_from, rising_mem, sum_of-append, term_full, term_none, true_term}
 pub use Rattle.graph_core.proofs.OfAlgebra.Reading.{algebra_line_is_read, close_is_read, factors_next, numeral_first, parts_next, reads_factors, reads_part, terms_next}
-pub use Rattle.graph_core.proofs.OfAlgebra.Sound.{algebra_is_sound, gate_axiom-zero, modulus_pos, vanishing_means_claim}
+pub use Rattle.graph_core.proofs.OfAlgebra.Sound.{algebra_is_sound, axioms-vanish, gate_axiom-zero, modulus_pos, specification-zero, vanishing_means_claim}

@@ -1,19 +1,20 @@
 -- What crates above may cite of graphs that are built, of their values and of their operands.
-pub use Rattle.graph_core.proofs.OfGraphs.BuiltFacts.{few_numbers}
+pub use Rattle.graph_core.proofs.OfGraphs.BuiltFacts.{few_distinct, few_numbers}
 pub use Rattle.graph_core.proofs.OfGraphs.Congruence.{difference_is, difference_plus, product_same, sum_same}
 pub use Rattle.graph_core.proofs.OfGraphs.Decided.{Decided, decided_all, decided_and, decided_as, decided_eq, decided_le, decided_lt, decided_or}
 pub use Rattle.graph_core.proofs.OfGraphs.Evaluation.{Distinct, evaluation_is, evaluation_is_one, finds_none, literal_same, rounds-free, variable-pos, variable_same}
-pub use Rattle.graph_core.proofs.OfGraphs.Faults.{no_fault_is_found}
+pub use Rattle.graph_core.proofs.OfGraphs.Faults.{apart_pairs, no_fault_is_found}
 pub use Rattle.graph_core.proofs.OfGraphs.FullAdders.{full_adder}
 pub use Rattle.graph_core.proofs.OfGraphs.Gates.{never_wrong}
-pub use Rattle.graph_core.proofs.OfGraphs.Levels.{acyclic_levels, one_level}
+pub use Rattle.graph_core.proofs.OfGraphs.Levels.{acyclic_levels, level_inverted, one_level}
 pub use Rattle.graph_core.proofs.OfGraphs.Lists.{all_split, all_weaker}
 pub use Rattle.graph_core.proofs.OfGraphs.LiteralValues.{literal-even, literal-false, literal-inverted, literal-negated, literal-odd, literal-plain, literal-true, variable_of-negated}
 pub use Rattle.graph_core.proofs.OfGraphs.Multiplies.{Apart, a_is, apart_from_pairs, b_is, claim_is, claim_is_product, evaluations_suffice, gates_distinct, inputs_have, length-inputs_of, lits_apart, rest_apart, sides_are_inputs, sides_read_inputs, take-length-append, whole_products}
 pub use Rattle.graph_core.proofs.OfGraphs.OperandBits.{DistinctLits, IsInput, inputs_are, literal-input, number_of}
 pub use Rattle.graph_core.proofs.OfGraphs.OperandPlaces.{a_bits_are, a_part_at, a_place_low, b_bits_are, b_part_at, b_place_low, byte_is_bit, length-a_part, length-b_part, number_of-low, parts_are}
 pub use Rattle.graph_core.proofs.OfGraphs.Residues.{claim_from_difference, difference_same, same_from_difference}
-pub use Rattle.graph_core.proofs.OfGraphs.WellFormedGates.{input_in_range, output_in_range}
+pub use Rattle.graph_core.proofs.OfGraphs.TableSteps.{gates_read_more}
+pub use Rattle.graph_core.proofs.OfGraphs.WellFormedGates.{distinct_gates, gate_in_range, gates_apart, input_in_range, output_in_range}
 pub use Rattle.graph_core.proofs.OfGraphs.Words.{word_below}
 use Rattle.std.specs.Prelude.{◌≡◌, ℕ, ◌+◌, ◌*◌, ◌&&◌, slice_index_or, Bool, List, [], ◌∷◌, map, length}
 use Rattle.std.proofs.Common.{refl, sym, ap, ap₂, ◌∙◌, subst}
@@ -28,7 +29,6 @@ use Rattle.graph_core.proofs.OfGraphs.Evaluation.{literal_same, variable_same}
 use Rattle.graph_core.proofs.OfGraphs.Levels.{contains_in, distinct_from, distinct_same, one_level}
 use Rattle.graph_core.proofs.OfGraphs.Multiplies.{evaluated_is, inputs_have, sides_read_inputs, claim_is}
 use Rattle.graph_core.proofs.OfGraphs.OperandPlaces.{a_bits_are, b_bits_are, length-a_part, length-b_part}
-use Rattle.graph_core.proofs.OfGraphs.WellFormedGates.{gates_apart}
 
 -- ---- values
 

@@ -347,22 +347,22 @@ levels_mean_acyclic gates apart = (levels_order gates (distinct_from gates apart
 -- ---- one level
 
 -- how a variable has its level
-pub inverted : (gates : List Gate) (v k : ℕ) → IsLevel gates v k → (IsFree gates v × (k ≡ 0)) ⊎
+pub level_inverted : (gates : List Gate) (v k : ℕ) → IsLevel gates v k → (IsFree gates v × (k ≡ 0)) ⊎
     ((y : Gate) × (i j : ℕ) × Contains gates y × (y.v ≡ v) × IsLevel gates (variable_of y.left) i × IsLevel gates (variable_of y.right) j × (k ≡ suc (max i j)))
-inverted gates _ _ (free v f) = inl (f, refl)
-inverted gates _ _ (above x i j c l r) = inr (x, i, j, c, refl, l, r, refl)
+level_inverted gates _ _ (free v f) = inl (f, refl)
+level_inverted gates _ _ (above x i j c l r) = inr (x, i, j, c, refl, l, r, refl)
 
 pub not_free : (gates : List Gate) (x : Gate) (v : ℕ) → In x gates → x.v ≡ v → IsFree gates v → ⊥
 not_free gates x v i e f = all_in (λ y. y.v ≢ v) gates x (recursion_from_All (λ y. y.v ≢ v) gates f) i e
 
 module _ (gates : List Gate) (distinct : Distinct gates) where
   same_level : (v k : ℕ) → IsLevel gates v k → (j : ℕ) → IsLevel gates v j → j ≡ k
-  same_level _ _ (free v f) j h = ⊎_elim (λ a. a.1) (λ a. absurd (not_free gates a.0 v (contains_in a.0 gates a.3) a.4 f)) (inverted gates v j h)
+  same_level _ _ (free v f) j h = ⊎_elim (λ a. a.1) (λ a. absurd (not_free gates a.0 v (contains_in a.0 gates a.3) a.4 f)) (level_inverted gates v j h)
   same_level _ _ (above x i k c l r) j h =
       ⊎_elim (λ a. absurd (not_free gates x x.v (contains_in x gates c) refl a.0))
       (λ a. let same : a.0 ≡ x = distinct_same gates distinct x a.0 (contains_in x gates c) (contains_in a.0 gates a.3) (sym a.4) in
       a.7 ∙ ap₂ (λ m n. suc (max m n)) (same_level (variable_of x.left) i l a.1 (subst (λ y. IsLevel gates (variable_of y.left) a.1) same a.5))
-      (same_level (variable_of x.right) k r a.2 (subst (λ y. IsLevel gates (variable_of y.right) a.2) same a.6))) (inverted gates x.v j h)
+      (same_level (variable_of x.right) k r a.2 (subst (λ y. IsLevel gates (variable_of y.right) a.2) same a.6))) (level_inverted gates x.v j h)
 
 -- a level by computing is at most the round
 level_within : (gates : List Gate) (t v : ℕ) → levelled gates t v ≡ true → (k : ℕ) × (k ≤ t) × IsLevel gates v k

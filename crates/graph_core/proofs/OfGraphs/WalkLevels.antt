@@ -12,14 +12,14 @@ use Rattle.graph_core.specs.Graph.{IsLevel, free, above}
 use Rattle.graph_core.specs.Aiger.Refusal.{HasLevel}
 use Rattle.graph_core.specs.Graph.Tables.{IsSettled, IsSchedule}
 use Rattle.graph_core.specs.Graph.Walk.{Visits, AreVisits, FitsPlaces, Reads, mark_of}
-use Rattle.graph_core.proofs.OfGraphs.Levels.{contains_in, distinct_from, distinct_same, inverted, not_free, one_level}
+use Rattle.graph_core.proofs.OfGraphs.Levels.{contains_in, distinct_from, distinct_same, level_inverted, not_free, one_level}
 use Rattle.graph_core.proofs.OfGraphs.TableLemmas.{scheduled_left, scheduled_right}
 use Rattle.graph_core.proofs.OfGraphs.WellFormedGates.{free_or_some}
 use Rattle.graph_core.proofs.OfGraphs.WalkSteps.{contains_variable, variable_contained}
 
 -- a variable that a gate reads has a lower level
 reads_lower : (gates : List Gate) → AllPairs ◌≢◌ (map (λ x. x.v) gates) → (x : Gate) (u k : ℕ) → Contains gates x → Reads x u → IsLevel gates x.v k → (m : ℕ) × IsLevel gates u m × (m < k)
-reads_lower gates apart x u k some reads level = ⊎_elim (λ a. absurd (not_free gates x x.v (contains_in x gates some) refl a.0)) go (inverted gates x.v k level)
+reads_lower gates apart x u k some reads level = ⊎_elim (λ a. absurd (not_free gates x x.v (contains_in x gates some) refl a.0)) go (level_inverted gates x.v k level)
   where
     go : (y : Gate) × (i j : ℕ) × Contains gates y × (y.v ≡ x.v) × IsLevel gates (variable_of y.left) i × IsLevel gates (variable_of y.right) j × (k ≡ suc (max i j)) → (m : ℕ) × IsLevel gates u m × (m < k)
     go (y, i, j, c, e, l, r, q) =
