@@ -1,5 +1,5 @@
 // Live facts by id, over a table that they own.
-ghost use Rattle.std.specs.Prelude.{◌≡◌, ◌↔◌, [], Some, None, IfOk, OnOk, OnErr, IfSome, IsSome, IsSomeAnd, IsErrOf, option_copied};
+ghost use Rattle.std.specs.Prelude.{◌≡◌, ◌<◌, ◌↔◌, [], Some, None, IfOk, OnOk, OnErr, IfSome, IsSome, IsSomeAnd, IsErrOf, length, option_copied, slice_get};
 ghost use Rattle.std.specs.List.{All};
 ghost use Rattle.std.specs.Map.{values_of};
 ghost use Rattle.mv_fact.specs.Facts.{fact_at, IsKept, ChangesAt, IsGrown};
@@ -58,6 +58,25 @@ impl<'a, F: Fact> Live<'a, F> {
         ensures kept { IfSome result (λ f. IsKept F.belongs F.holds self.now.gates self.now.table f.now) }
     {
         self.facts.get(&id)
+    }
+
+    /// How many facts are live.
+    pub fn len(&self) -> usize
+        ensures { result ≡ length self.now.entries }
+    {
+        self.facts.len()
+    }
+
+    /// The live fact at a place from 0, and its id. Removing a fact may change the places of others.
+    pub fn at(&self, place: usize) -> (u64, &F)
+        requires { place < length self.now.entries }
+        ensures entry { slice_get self.now.entries place ≡ Some (result.0, result.1.now) }
+        ensures kept { IsKept F.belongs F.holds self.now.gates self.now.table result.1.now }
+    {
+        match self.facts.get_index(place) {
+            Some((id, fact)) => (*id, fact),
+            None => unreachable!(),
+        }
     }
 
     /// Makes a fact live under an id that isn't.

@@ -44,6 +44,12 @@ pub record Grows (old new : Checking) : Type 0 where
   pub last : new.last ≡ old.last
   pub ledger : Agree (ledger_of new) (ledger_of old)
 
+-- Nothing has changed but the table and the polynomials in it, which have their values; so the ledger says the same.
+pub record KeepsLedger (old new : Checking) : Type 0 where
+  pub extended : new.extended ≡ old.extended
+  pub sides : new.sides ≡ old.sides
+  pub ledger : Agree (ledger_of new) (ledger_of old)
+
 -- A line of code is taken: what it says in the table is.
 abbrev pub TakesLine : PacLine → Checking → Checking → Type 0
 TakesLine line old new = IfSome (line_in old.table line) (λ x. Takes x old new)

@@ -8,7 +8,7 @@ use Rattle.graph_core.specs.Graph.Operands.{Sides, AreOperandsOf}
 use Rattle.graph_core.specs.Algebra.Polynomials.{Polynomial}
 use Rattle.graph_core.specs.Algebra.{Line, Ledger, Part, IsNewId, value_of, introduce, combined, operands, stated, named, after}
 use Rattle.graph_core.specs.Algebra as algebra
-use Rattle.graph_core.specs.Algebra.Agreement.{Agree}
+use Rattle.graph_core.specs.Algebra.Agreement.{Agree, AreSameLines}
 use Rattle.graph_core.specs.Algebra.Refusal.{first_missing}
 use Rattle.mv_fact.specs.Facts.{Facts, fact_at}
 use Rattle.poly_terms.specs.Tables.{Table, Sum, modulus, value_in, monomials_in}
@@ -103,6 +103,12 @@ pub record Introduces (id : ℕ) (p : Polynomial) (old new : Checking) : Type 0 
   pub sides : new.sides ≡ old.sides
   pub table : new.table ≡ old.table
   pub ledger : Agree (ledger_of new) (introduce (modulus old.table) (ledger_of old) id p)
+
+-- The same live lines, over another table of the same modulus.
+pub record Carries (old new : Facts Sum Table) : Type 0 where
+  pub gates : new.gates ≡ old.gates
+  pub exponent : new.table.exponent ≡ old.table.exponent
+  pub lines : AreSameLines (lines_of new) (lines_of old)
 
 -- What the type of a checker keeps besides that each live polynomial vanishes.
 pub record IsSound (e : Extended) (s : Sides) (facts : Facts Sum Table) (last : ℕ) : Type 0 where

@@ -11,12 +11,13 @@ ghost use Rattle.poly_terms.specs.Tables.{IsOf, modulus, monomials_in};
 ghost use Rattle.poly_text.specs.Lines.{line_in, AreOf};
 ghost use Rattle.gate_axioms.specs.Axioms.{IsSpecification};
 ghost use Rattle.graph_core.specs.Algebra.Agreement.{Agree};
-ghost use Rattle.pac_checker.specs.Checking.{ledger_of, Takes, TakesLine, Grows, IsClosedBy, SpecificationVanishes};
+ghost use Rattle.pac_checker.specs.Checking.{ledger_of, Takes, TakesLine, Grows, KeepsLedger, IsClosedBy, SpecificationVanishes};
 ghost use Rattle.pac_checker.specs.Faults.{IsLineFault, IsClosingFault};
 ghost use Rattle.gate_axioms.specs.Steps.{Vanishes};
 ghost use Rattle.pac_checker.specs.Rules.{AreEqual, AreRefused, Introduces, IsRefused, IsStatingFault, TakesLinesOf, combination_line, lent, product_line, sum_line};
 ghost use Rattle.pac_checker.specs.Works.{IsMade};
 
+use crate::compaction::{compacted, most_monomials};
 use crate::rules::combine;
 use crate::works::{MakeOne, MakeSpecification};
 use crate::{CloseFault, LineFault};
@@ -40,6 +41,8 @@ pub struct PacChecker<'a> {
     last: u64,
     /// what the latest line names, as far as it was added up: each line takes its room over
     products: SumOfProducts,
+    /// with more monomials the table is made anew
+    most_monomials: u64,
 }
 
 impl<'a> Model for PacChecker<'a> {
@@ -73,6 +76,7 @@ impl<'a> PacChecker<'a> {
         let outputs = extended.graph().outputs();
         let mut live = Live::new(alloc, extended.gates(), Terms::new(alloc, outputs));
         add_axioms(alloc, &mut live, extended)?;
+        let most_monomials = most_monomials(&live);
         Ok(PacChecker {
             alloc,
             extended,
@@ -80,6 +84,7 @@ impl<'a> PacChecker<'a> {
             live,
             last: u64::from(extended.max()) + u64::from(outputs),
             products: SumOfProducts::new(alloc, outputs),
+            most_monomials,
         })
     }
 
@@ -106,6 +111,21 @@ impl<'a> PacChecker<'a> {
         ensures modulus { modulus self.new.table ≡ algebra.modulus self.new.extended }
     {
         self.live.grow(work, on)
+    }
+
+    /// Makes the table anew over the live polynomials, where it has more than twice as many monomials as there were
+    /// live lines and terms when it was last made: so its size is in proportion to what is live. No other polynomial of
+    /// the old table is one of the new table.
+    pub fn compact(&mut self) -> Result<(), Memory>
+        ensures keeps { KeepsLedger self.old self.new }
+        ensures unchanged { OnErr result (self.new ≡ self.old) }
+    {
+        if self.live.table().count() <= self.most_monomials {
+            return Ok(());
+        }
+        self.live = compacted(self.alloc, self.extended.gates(), &self.live)?;
+        self.most_monomials = most_monomials(&self.live);
+        Ok(())
     }
 
     /// Judges a line. Where it is lawful it is taken, and else the answer is its first fault.

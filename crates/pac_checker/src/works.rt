@@ -31,6 +31,33 @@ impl<'a> Grow<Poly> for SumUp<'a> {
     }
 }
 
+/// Makes the polynomial of a line of another table anew.
+#[derive(Drop)]
+pub(crate) struct Bring<'a> {
+    pub(crate) from: &'a Terms,
+    pub(crate) line: &'a Poly,
+}
+
+impl<'a> Grow<Poly> for Bring<'a> {
+    ghost use Rattle.std.specs.Prelude.{◌≡◌, IfOk};
+    ghost use Rattle.poly_terms.specs.Tables.{IsOf, value_in};
+    ghost use Rattle.pac_checker.specs.Works.{IsMade};
+
+    type Out = Result<Poly, Memory>;
+
+    type On = ();
+
+    ghost can_grow = { λ work _ table. (work.from.now.exponent ≡ table.exponent) ×
+        IsOf work.from.now work.line.now };
+
+    ghost did = { λ work _ _ out _ _ table'.
+        IfOk out (IsMade table' (value_in work.from.now work.line.now)) };
+
+    fn grow(&mut self, _on: &mut (), table: &mut Terms) -> Result<Poly, Memory> {
+        table.bring(self.from, self.line)
+    }
+}
+
 /// Makes the polynomial 1.
 #[derive(Drop)]
 pub(crate) struct MakeOne {

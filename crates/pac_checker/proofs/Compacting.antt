@@ -1,0 +1,77 @@
+-- Live lines that are carried to another table, one by one.
+use Rattle.std.specs.Prelude.{IsSome, slice_get}
+use Rattle.std.proofs.Common.{◌≡◌, ℕ, ◌+◌, ◌^◌, ◌<◌, ◌≤◌, List, [], ◌∷◌, ◌++◌, length, take, refl, sym, ap, subst, ◌∙◌}
+use Rattle.std.specs.declared.option.Option.{Option}
+use Rattle.std.specs.declared.option.Option.TheVariants.{None, Some}
+use Rattle.std.proofs.lemmas.List.{take_all, take_more, map-append}
+use Rattle.std.proofs.lemmas.Option.{get_or_from_slice_get}
+use Rattle.graph_core.specs.declared.Gate.{Gate}
+use Rattle.graph_core.specs.Graph.{IsEvaluation}
+use Rattle.graph_core.specs.Graph.Extended.{Extended}
+use Rattle.graph_core.specs.Graph.Operands.{Sides}
+use Rattle.graph_core.specs.Algebra.{line_of}
+use Rattle.graph_core.specs.Algebra.Agreement.{AreSame, AreSameLines}
+use Rattle.mv_fact.specs.Facts.{Facts, fact_at, ChangesAt}
+use Rattle.poly_terms.specs.Tables.{Table, Sum, Extends, value_in}
+use Rattle.gate_axioms.specs.Lines.{line_in, lines_in, lines_of}
+use Rattle.gate_axioms.specs.Steps.{AddsLine, KeepsLines, Vanishes}
+use Rattle.gate_axioms.proofs.CallerLemmas.{line_at, line_of-entries}
+use Rattle.gate_axioms.proofs.FirstLines.{adds_again, adds_new, lines_more, no_entry}
+use Rattle.pac_checker.specs.Rules.{Carries, IsSound}
+use Rattle.pac_checker.specs.Works.{IsMade}
+
+-- ---- one line
+
+pub exponent_stays : (old new : Table) → Extends old new → new.exponent ≡ old.exponent
+unfolding Extends
+exponent_stays old new e = e.0
+
+pub brought_vanishes : (gates : List Gate) (mid : Facts Sum Table) (from : Table) (p q : Sum) → mid.gates ≡ gates → IsMade mid.table (value_in from p) q → Vanishes gates from p → Vanishes mid.gates mid.table q
+brought_vanishes gates mid from p q same made zero = record {
+  of_table = made.of_table;
+  always = λ σ ev. made.value σ ∙ zero.always σ (subst (λ gates. IsEvaluation gates σ) same ev);
+}
+
+none_there : (x : Option Sum) → (IsSome x → ⊥) → x ≡ None
+none_there None h = refl
+none_there (Some p) h = absurd (h refl)
+
+pub line_carried : (old mid new : Facts Sum Table) (from : Table) (id : ℕ) (p q : Sum) → KeepsLines old mid → IsMade mid.table (value_in from p) q → (IsSome (fact_at mid.entries id) → ⊥) → ChangesAt id (Some q) mid new →
+    AddsLine (line_in from (id, p)) old new
+line_carried old mid new from id p q k made none change = adds_new (line_in from (id, p)) old mid new q k (none_there (fact_at mid.entries id) none) change made.value
+
+pub line_there : (old mid new : Facts Sum Table) (from : Table) (id : ℕ) (p : Sum) → KeepsLines old mid → new ≡ mid → IsSome (fact_at mid.entries id) → AddsLine (line_in from (id, p)) old new
+line_there old mid new from id p k same there = adds_again (line_in from (id, p)) old mid new k same there
+
+-- ---- all of them
+
+-- no line yet
+pub carried_none : (t : Table) (es : List (ℕ × Sum)) (a : Facts Sum Table) → a.entries ≡ [] → AreSameLines (lines_of a) (lines_in t (take 0 es))
+carried_none t es a none = subst (λ xs. AreSameLines (lines_in a.table xs) []) (sym none) (λ id. tt)
+
+-- the lines before a place, and the one there
+pub carried_more : (t : Table) (es : List (ℕ × Sum)) (i id : ℕ) (p : Sum) (a b : Facts Sum Table) → i < length es → slice_get es i ≡ Some (id, p) → AreSameLines (lines_of a) (lines_in t (take i es)) →
+    AddsLine (line_in t (id, p)) a b → AreSameLines (lines_of b) (lines_in t (take (i + 1) es))
+carried_more t es i id p a b low at before adds =
+    let e : ℕ × Sum = (id, p) in
+    subst (AreSameLines (lines_of b))
+    (sym (ap (lines_in t) (take_more es i e low ∙ ap (λ (x : ℕ × Sum). take i es ++ x ∷ []) (get_or_from_slice_get es i e e at)) ∙ map-append (line_in t) (take i es) (e ∷ [])))
+    (lines_more a b (lines_in t (take i es)) (line_in t e) before adds)
+
+pub carried_all : (old new : Facts Sum Table) (i : ℕ) → length old.entries ≤ i → new.gates ≡ old.gates → new.table.exponent ≡ old.table.exponent → AreSameLines (lines_of new) (lines_in old.table (take i old.entries)) → Carries old new
+carried_all old new i high gates exponent lines = record {
+  gates = gates;
+  exponent = exponent;
+  lines = subst (λ es. AreSameLines (lines_of new) (lines_in old.table es)) (take_all i old.entries high) lines;
+}
+
+-- ---- the checker over them
+
+pub sound_carried : (e : Extended) (s : Sides) (old new : Facts Sum Table) (last : ℕ) → Carries old new → IsSound e s old last → IsSound e s new last
+sound_carried e s old new last k h = record {
+  same_gates = k.gates ∙ h.same_gates;
+  same_modulus = ap (λ w. 2 ^ w) k.exponent ∙ h.same_modulus;
+  operands = h.operands;
+  fresh = λ id above. no_entry new.table new.entries id
+      (subst (AreSame (line_of (lines_of new) id)) (line_of-entries old.table old.entries id ∙ ap (line_at old.table id) (h.fresh id above)) (k.lines id));
+}
