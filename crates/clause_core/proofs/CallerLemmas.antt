@@ -4,7 +4,7 @@ pub use Rattle.clause_core.proofs.Copies.{alike_adds, alike_any, alike_flip, ali
 pub use Rattle.clause_core.proofs.Decided.{any_cases, any_here, any_nil, any_there, contains_here, contains_nil, contains_there}
 pub use Rattle.clause_core.proofs.GateClauseLaws.{gate_clauses_mean_evaluation, goals_mean_equality}
 pub use Rattle.clause_core.proofs.Goals.{decided_shown}
-pub use Rattle.clause_core.proofs.Places.{at, at_contained, below_suc, contains_at}
+pub use Rattle.clause_core.proofs.Places.{at, at_contained, below_suc, contains_at, distinct, sets_are_lists}
 pub use Rattle.clause_core.proofs.Propagation.{fixpoint_leaves_no_chain}
 pub use Rattle.clause_core.proofs.RupSoundness.{contains_cases}
 pub use Rattle.clause_core.proofs.Sets.{contains_map, refuted_more}

@@ -1,5 +1,5 @@
 -- Clauses over signed variables, and what they say at an assignment.
-use Rattle.std.specs.Prelude.{◌≡◌, ◌≢◌, ℕ, suc, ◌^◌, ◌<◌, ◌≤◌, Bool, true, not, List, length, slice_index_or, ℤ, pos, negsuc, nat_abs}
+use Rattle.std.specs.Prelude.{◌≡◌, ◌≢◌, ℕ, suc, ◌^◌, ◌<◌, ◌≤◌, ◌<ℤ◌, Bool, true, not, List, length, slice_index_or, ℤ, pos, negsuc, nat_abs}
 use Rattle.std.specs.List.{All, Contains, list_any}
 use Rattle.graph_core.specs.Graph.Assignments.{Assignment, variable}
 
@@ -20,10 +20,14 @@ HasSigns c = All (λ l. l ≢ pos 0) c
 abbrev pub IsLiteral : ℤ → Type 0
 IsLiteral l = (l ≢ pos 0) × (nat_abs l < 2 ^ 31)
 
--- a clause as it is kept: literals, none of them twice
+-- each literal is less than those behind it
+abbrev pub IsRising : Clause → Type 0
+IsRising c = (i j : ℕ) → i < j → j < length c → slice_index_or c i (pos 0) <ℤ slice_index_or c j (pos 0)
+
+-- a clause as it is kept: literals, none of them twice, in their one order
 pub record IsClause (c : Clause) : Type 0 where
   pub literals : All IsLiteral c
-  pub distinct : (i j : ℕ) → i < j → j < length c → slice_index_or c i (pos 0) ≢ slice_index_or c j (pos 0)
+  pub rising : IsRising c
 
 -- variables from 1 to the greatest one
 abbrev pub IsClauseInRange : ℕ → Clause → Type 0
@@ -47,3 +51,7 @@ SameSet c d = IsSubset c d × IsSubset d c
 -- Where a clause holds, so does each with at least its literals.
 abbrev pub SubsetHolds : Type 0
 SubsetHolds = (c d : Clause) (σ : Assignment) → IsSubset c d → holds σ c ≡ true → holds σ d ≡ true
+
+-- Kept clauses of one set are one list.
+abbrev pub SetsAreLists : Type 0
+SetsAreLists = (c d : Clause) → IsClause c → IsClause d → SameSet c d → c ≡ d

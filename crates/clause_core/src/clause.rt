@@ -1,7 +1,7 @@
-// A clause as it is kept: each literal once.
-ghost use Rattle.std.specs.Prelude.{◌≡◌, ◌↔◌, [], ◌∷◌, ◌++◌, IfOk, IsTrue, OnOk};
+// A clause as it is kept: its literals rise.
+ghost use Rattle.std.specs.Prelude.{◌≡◌, ◌↔◌, ◌<◌, ◌≤◌, ◌<ℤ◌, ◌≤ℤ◌, ℕ, length, pos, slice_index_or, IfOk, IsTrue};
 ghost use Rattle.std.specs.List.{All, Contains};
-ghost use Rattle.clause_core.specs.Clause.{IsClause, IsLiteral, IsSubset, SameSet};
+ghost use Rattle.clause_core.specs.Clause.{IsClause, IsLiteral, IsRising, IsSubset, SameSet};
 
 use graph_core::Memory;
 use mv_fact::Fact;
@@ -48,16 +48,14 @@ impl Fact for Clause {
 }
 
 impl Clause {
-    /// The clause of some literals, of which some may be repeated.
+    /// The clause of some literals, in any order, of which some may be repeated.
     pub fn new(alloc: Global, lits: &[i32]) -> Result<Clause, Memory>
         requires { All IsLiteral lits.now }
         ensures { IfOk result (λ clause. SameSet clause lits.now) }
     {
-        let mut items = Vec::with_capacity(alloc, lits.len())?;
-        for &lit in lits {
-            if !contains(&items, lit) {
-                append(&mut items, lit)?;
-            }
+        let mut items = Vec::from_slice(alloc, lits)?;
+        if !is_rising(&items) {
+            put_in_order(&mut items);
         }
         Ok(Clause { items })
     }
@@ -80,15 +78,17 @@ impl Clause {
     pub fn is_subset(&self, of: &Clause) -> bool
         ensures { IsTrue result ↔ IsSubset self.now of.now }
     {
+        let mut next = 0;
         for &lit in &self.items {
-            if !of.has(lit) {
+            next = skip_below(&of.items, next, lit);
+            if next == of.items.len() || of.items[next] != lit {
                 return false;
             }
         }
         true
     }
 
-    /// Its literals, each once.
+    /// Its literals, each once, rising.
     pub fn lits(&self) -> &[i32]
         ensures value { result.now ≡ self.now }
         ensures clause { IsClause self.now }
@@ -103,12 +103,37 @@ fn contains(lits: &[i32], lit: i32) -> bool
     lits.contains(&lit)
 }
 
-// one literal more at the end
-fn append(items: &mut Vec<i32>, lit: i32) -> Result<(), Memory>
-    ensures { OnOk result (items.new.items ≡ items.old.items ++ lit ∷ []) }
+// whether each literal is less than the next
+fn is_rising(lits: &[i32]) -> bool
+    ensures { IsTrue result → IsRising lits.now }
 {
-    match items.push(lit) {
-        Ok(()) => Ok(()),
-        Err(_) => Err(Memory),
+    for i in 1..lits.len() {
+        if lits[i] <= lits[i - 1] {
+            return false;
+        }
     }
+    true
+}
+
+// sorts them, and leaves each once
+fn put_in_order(lits: &mut Vec<i32>)
+    ensures rising { IsRising lits.new.items }
+    ensures same { SameSet lits.new.items lits.old.items }
+{
+    lits.sort_unstable();
+    lits.dedup();
+}
+
+// the first place from this one on whose literal isn't below
+fn skip_below(lits: &[i32], from: usize, lit: i32) -> usize
+    requires { from ≤ length lits.now }
+    ensures bound { (from ≤ result) × (result ≤ length lits.now) }
+    ensures below { (i : ℕ) → from ≤ i → i < result → slice_index_or lits.now i (pos 0) <ℤ lit }
+    ensures here { result < length lits.now → lit ≤ℤ slice_index_or lits.now result (pos 0) }
+{
+    let mut at = from;
+    while at < lits.len() && lits[at] < lit {
+        at += 1;
+    }
+    at
 }

@@ -7,11 +7,8 @@ use Rattle.clause_core.specs.ClauseLines.{ClauseLine, added}
 use Rattle.clause_core.specs.Likeness.{AreAlike}
 use Rattle.clause_core.specs.declared.line.Line.TheVariants.{Add, Delete}
 use Rattle.clause_core.proofs.CallerLemmas.{alike_adds, alike_any, alike_flip, alike_joins, alike_removes, alike_rup, any_cases, any_here, any_nil, any_there, removes_any, removes_some, same_alike, same_flip}
-use Rattle.drup_checker.specs.Checking.{Adds, Checking, Deletes, goal_at, live_in, shown_at}
-use Rattle.unit_prop.specs.Standing.{live_of}
+use Rattle.drup_checker.specs.Checking.{Adds, Checking, Deletes, goal_at, shown_at}
 use Rattle.drup_checker.specs.Steps.{HasShown, MarksAreRight, StepsAreLawful}
-use Rattle.drup_checker.proofs.Kept.{live_of-map}
-use Rattle.drup_checker.proofs.LiveClauses.{live_of-append}
 
 -- a clause at the end, or at the front
 alike_end : (live : List Clause) (c : Clause) → AreAlike (live ++ c ∷ []) (c ∷ live)
@@ -20,16 +17,16 @@ alike_end (d ∷ live) c k = let more = alike_end live c k in omega (arith, more
 
 pub steps_are_lawful : StepsAreLawful
 steps_are_lawful = record {
-  begins = λ k cs given is same. subst (λ xs. AreAlike xs given) (sym (ap live_of is ∙ live_of-map cs)) (same_alike cs given same);
+  begins = λ k cs given is same. subst (λ xs. AreAlike xs given) (sym is) (same_alike cs given same);
   adds = λ c d old new live alike same a. (
-    alike_rup (live_in old) live c d alike same a.follows,
-    subst (λ xs. AreAlike xs (d ∷ live)) (sym (ap live_of a.clauses ∙ live_of-append old.clauses c)) (alike_joins (live_in old ++ c ∷ []) (c ∷ live_in old) (d ∷ live) (alike_end (live_in old) c) (alike_adds (live_in old) live c d alike same)),
+    alike_rup old.live live c d alike same a.follows,
+    subst (λ xs. AreAlike xs (d ∷ live)) (sym a.live) (alike_joins (old.live ++ c ∷ []) (c ∷ old.live) (d ∷ live) (alike_end old.live c) (alike_adds old.live live c d alike same)),
   );
-  not_implied = λ c d old live alike same n rup. n (alike_rup live (live_in old) d c (alike_flip (live_in old) live alike) (same_flip c d same) rup);
+  not_implied = λ c d old live alike same n rup. n (alike_rup live old.live d c (alike_flip old.live live alike) (same_flip c d same) rup);
   deletes = λ c d old new live alike same r.
-      let some = removes_some live d (alike_any (live_in old) live c d alike same (removes_any (live_in old) c (live_in new) r.removes)) in
-      (some.0, some.1, alike_removes (live_in old) live c d (live_in new) some.0 alike same r.removes some.1);
-  nowhere = λ c d old live alike same n some. n (alike_any live (live_in old) d c (alike_flip (live_in old) live alike) (same_flip c d same) some);
+      let some = removes_some live d (alike_any old.live live c d alike same (removes_any old.live c new.live r.removes)) in
+      (some.0, some.1, alike_removes old.live live c d new.live some.0 alike same r.removes some.1);
+  nowhere = λ c d old live alike same n some. n (alike_any live old.live d c (alike_flip old.live live alike) (same_flip c d same) some);
 }
 
 -- ---- marks

@@ -1,5 +1,5 @@
 -- A checker's clauses and goals, and how they change.
-use Rattle.std.specs.Prelude.{◌≡◌, ◌↔◌, ◌≤◌, ◌<◌, ◌⊎◌, ℕ, Bool, true, false, List, [], ◌∷◌, ◌++◌, length, map, slice_index_or}
+use Rattle.std.specs.Prelude.{◌≡◌, ◌↔◌, ◌≤◌, ◌<◌, ◌⊎◌, ℕ, Bool, true, false, List, [], ◌∷◌, ◌++◌, length, slice_index_or}
 use Rattle.std.specs.declared.option.Option.{Option}
 use Rattle.std.specs.declared.option.Option.TheVariants.{None, Some}
 use Rattle.std.specs.List.{All, Any}
@@ -8,39 +8,42 @@ use Rattle.clause_core.specs.Clause.{Clause, IsSubset, SameSet}
 use Rattle.clause_core.specs.ClauseLines.{Removes}
 use Rattle.clause_core.specs.Facts.{IsClauseFact}
 use Rattle.clause_core.specs.UnitPropagation.{IsRup}
-use Rattle.unit_prop.specs.Standing.{IsFree, Standing, live_of}
+use Rattle.unit_prop.specs.Standing.{Standing, live_of}
 use Rattle.miter_encoder.specs.declared.goal.Goal.{Goal}
 
--- The gates, the greatest variable, the clauses by their places, the goals, and which of them some added clause has shown.
+-- the greatest variable, and the live clauses
+pub record Held : Type 0 where
+  pub max : ℕ
+  pub live : List Clause
+
+abbrev pub held : Standing → Held
+held s = record { max = s.trail.greatest; live = live_of s.clauses }
+
+-- The gates, the greatest variable, the live clauses, the goals, and which of them some added clause has shown.
 pub record Checking : Type 0 where
   pub gates : List Gate
   pub max : ℕ
-  pub clauses : List (Option Clause)
+  pub live : List Clause
   pub goals : List Goal
   pub shown : List Bool
 
-abbrev pub checking : List Gate → Standing → List Goal → List Bool → Checking
-checking gates s goals shown = record { gates = gates; max = s.trail.greatest; clauses = s.clauses; goals = goals; shown = shown }
+abbrev pub checking : List Gate → Held → List Goal → List Bool → Checking
+checking gates h goals shown = record { gates = gates; max = h.max; live = h.live; goals = goals; shown = shown }
 
--- the gates and the goals, and the clauses of a list, all live
+-- the gates and the goals, and the clauses of a list
 pub record Starts (gates : List Gate) (max : ℕ) (clauses : List Clause) (goals : List Goal) (c : Checking) : Type 0 where
   pub gates_are : c.gates ≡ gates
   pub max_is : c.max ≡ max
-  pub clauses_are : c.clauses ≡ map Some clauses
+  pub live_is : c.live ≡ clauses
   pub goals_are : c.goals ≡ goals
-
--- the live clauses
-abbrev pub live_in : Checking → List Clause
-live_in c = live_of c.clauses
 
 -- whether the goal at a place is shown
 abbrev pub shown_at : List Bool → ℕ → Bool
 shown_at shown i = slice_index_or shown i false
 
--- Nothing is assumed, each live clause holds on every evaluation of the gates, and there is a place for each goal.
-pub record IsKept (gates : List Gate) (s : Standing) (goals : List Goal) (shown : List Bool) : Type 0 where
-  pub free : IsFree s
-  pub facts : All (IsClauseFact gates) (live_of s.clauses)
+-- Each live clause holds on every evaluation of the gates, and there is a place for each goal.
+pub record IsKept (gates : List Gate) (h : Held) (goals : List Goal) (shown : List Bool) : Type 0 where
+  pub facts : All (IsClauseFact gates) h.live
   pub places : length shown ≡ length goals
 
 -- the clause shows each goal that has all its literals; what was shown stays so
@@ -56,8 +59,8 @@ pub record ShowsFirst (c : Clause) (goals : List Goal) (old new : List Bool) (n 
 
 -- A clause that follows is added: it is live, and it may show goals.
 pub record Adds (c : Clause) (old new : Checking) : Type 0 where
-  pub follows : IsRup (live_in old) c
-  pub clauses : new.clauses ≡ old.clauses ++ Some c ∷ []
+  pub follows : IsRup old.live c
+  pub live : new.live ≡ old.live ++ c ∷ []
   pub shown : ShowsBy c old.goals old.shown new.shown
   pub gates : new.gates ≡ old.gates
   pub max : new.max ≡ old.max
@@ -65,7 +68,7 @@ pub record Adds (c : Clause) (old new : Checking) : Type 0 where
 
 -- One live clause with the set is removed.
 pub record Deletes (c : Clause) (old new : Checking) : Type 0 where
-  pub removes : Removes (live_in old) c (live_in new)
+  pub removes : Removes old.live c new.live
   pub shown : new.shown ≡ old.shown
   pub gates : new.gates ≡ old.gates
   pub max : new.max ≡ old.max
@@ -73,7 +76,7 @@ pub record Deletes (c : Clause) (old new : Checking) : Type 0 where
 
 -- no live clause has the set
 abbrev pub IsNowhere : Clause → Checking → Type 0
-IsNowhere c k = ¬ (Any (λ d. SameSet d c) (live_in k))
+IsNowhere c k = ¬ (Any (λ d. SameSet d c) k.live)
 
 -- the goal at a place
 abbrev pub goal_at : List Goal → ℕ → Goal

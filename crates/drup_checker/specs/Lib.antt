@@ -1,5 +1,6 @@
 -- To be read by whoever trusts the contracts.
 pub mod Opposing
+pub mod Chains
 pub mod Checking
 pub mod Steps
 pub mod Judging

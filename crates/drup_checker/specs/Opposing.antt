@@ -28,15 +28,3 @@ pub record OpposesFirst (old now : Standing) (c : Clause) (n : ℕ) : Type 0 whe
 
 abbrev pub Opposes : Standing → Standing → Clause → Type 0
 Opposes old now c = OpposesFirst old now c (length c)
-
--- one more clause is live, and nothing is assumed
-pub record Puts (old new : Standing) (c : Clause) : Type 0 where
-  pub greatest : new.trail.greatest ≡ old.trail.greatest
-  pub clauses : new.clauses ≡ old.clauses ++ Some c ∷ []
-  pub free : IsFree new
-
--- the clauses of a list are live, and nothing is assumed
-pub record IsFilled (old : Standing) (cs : List Clause) (new : Standing) : Type 0 where
-  pub greatest : new.trail.greatest ≡ old.trail.greatest
-  pub clauses : new.clauses ≡ map Some cs
-  pub free : IsFree new

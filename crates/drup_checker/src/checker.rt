@@ -5,26 +5,24 @@ ghost use Rattle.clause_core.specs.Clause.{IsClauseInRange, SameSet};
 ghost use Rattle.clause_core.specs.GateClauses.{gate_clauses};
 ghost use Rattle.clause_core.specs.Likeness.{AreSameSets};
 ghost use Rattle.clause_core.specs.UnitPropagation.{IsRup};
-ghost use Rattle.drup_checker.specs.Checking.{Adds, Deletes, IsLeastUnshown, IsNowhere, Starts, live_in};
+ghost use Rattle.drup_checker.specs.Checking.{Adds, Deletes, IsLeastUnshown, IsNowhere, Starts};
 
 use crate::fault::{AddFail, NoSuchClause};
-use crate::filling::{fill, put};
 use crate::least::least_unshown;
-use crate::rup::is_rup;
 use crate::showing::show;
+use crate::store::Store;
 use clause_core::{Clause, ClauseList};
 use graph_core::{Gate, Memory};
 use miter_encoder::Goals;
 use std::alloc::Global;
 use std::marker::Model;
-use unit_prop::Propagator;
 
 /// The live clauses of a clause certificate over some gates, and which goals its added clauses have shown.
 #[derive(Drop)]
 pub struct Checker<'a> {
     gates: &'a [Gate],
     goals: &'a Goals,
-    propagator: Propagator,
+    store: Store,
     /// for each goal
     shown: Vec<bool>,
 }
@@ -34,9 +32,9 @@ impl<'a> Model for Checker<'a> {
 
     ghost Value = { Checking };
 
-    ghost view = { λ c. checking c.gates.now c.propagator c.goals.now c.shown.items };
+    ghost view = { λ c. checking c.gates.now c.store c.goals.now c.shown.items };
 
-    ghost invariant = { λ c. IsKept c.gates.now c.propagator c.goals.now c.shown.items };
+    ghost invariant = { λ c. IsKept c.gates.now c.store c.goals.now c.shown.items };
 }
 
 impl<'a> Checker<'a> {
@@ -54,13 +52,12 @@ impl<'a> Checker<'a> {
         ensures starts { IfOk result (Starts gates.entry.now max clauses.now goals.entry.now) }
         ensures shown { IfOk result (λ c. All (λ b. b ≡ false) c.shown) }
     {
-        let mut propagator = Propagator::new(alloc, max)?;
-        fill(&mut propagator, clauses)?;
+        let store = Store::new(alloc, max, clauses)?;
         let shown = Vec::from_elem(alloc, false, goals.as_slice().len())?;
         Ok(Checker {
             gates,
             goals,
-            propagator,
+            store,
             shown,
         })
     }
@@ -69,13 +66,13 @@ impl<'a> Checker<'a> {
     pub fn add(&mut self, clause: &Clause) -> Result<(), AddFail>
         requires in_range { IsClauseInRange self.old.max clause.now }
         ensures ok { OnOk result (Adds clause.now self.old self.new) }
-        ensures not_implied { IsErrOf result AddFail.NotImplied ↔ ¬ (IsRup (live_in self.old) clause.now) }
+        ensures not_implied { IsErrOf result AddFail.NotImplied ↔ ¬ (IsRup self.old.live clause.now) }
         ensures unchanged { OnErr result (self.new ≡ self.old) }
     {
-        if !is_rup(&mut self.propagator, clause) {
+        if !self.store.implies(clause) {
             return Err(AddFail::NotImplied);
         }
-        match put(&mut self.propagator, clause) {
+        match self.store.put(clause) {
             Ok(()) => {}
             Err(_) => return Err(AddFail::Memory),
         }
@@ -89,13 +86,10 @@ impl<'a> Checker<'a> {
         ensures err { OnErr result (IsNowhere clause.now self.old) }
         ensures unchanged { OnErr result (self.new ≡ self.old) }
     {
-        match self.propagator.find(clause) {
-            Some(reference) => {
-                self.propagator.remove(reference);
-                Ok(())
-            }
-            None => Err(NoSuchClause),
+        if !self.store.take(clause) {
+            return Err(NoSuchClause);
         }
+        Ok(())
     }
 
     /// The least column with a goal that is neither met nor shown.

@@ -8,13 +8,14 @@
 //! *Follows*, *chain*, *live*, *shown*: by `specs/UnitPropagation.antt` and `specs/ClauseLines.antt` of `clause_core`.
 #![tactic(auto)]
 
+mod chains;
 mod checker;
 mod fault;
-mod filling;
 mod laws;
 mod least;
 mod rup;
 mod showing;
+mod store;
 
 pub use checker::Checker;
 pub use fault::{AddFail, NoSuchClause};

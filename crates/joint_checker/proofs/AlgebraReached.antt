@@ -70,6 +70,20 @@ module _ (e : Extended) (sides : Sides) (start : Lines) where
     refused = λ k cause h. refused_body e sides (IsLongIn start body) body k cause h;
   }
 
+  -- the same lines are judged, and the ledger says the same
+  pub reached_again : (known next : Ledger) (line : ℕ) (lines : Lines) (left body : Option (List ℕ)) → Agree next known → IfSome body (IsReached e sides start known line lines left) → IfSome body (IsReached e sides start next line lines left)
+  reached_again known next line lines left body agrees reached = told_more body (IsReached e sides start known line lines left) (IsReached e sides start next line lines left) (λ bytes r. record {
+    rest = r.rest;
+    left_is = r.left_is;
+    count = r.count;
+    turns = r.turns;
+    room = r.room;
+    ledger = r.ledger;
+    agrees = agree_trans next known r.ledger agrees r.agrees;
+    lawful = r.lawful;
+    refused = r.refused;
+  }) reached
+
   -- a refusal at a line that is numbered in another way
   at_line : (body : List ℕ) (n m : ℕ) (c : AlgebraCause) → n ≡ m → IsRefusedBody e sides (IsLongIn start body) body (n, c) → IsRefusedBody e sides (IsLongIn start body) body (m, c)
   at_line body n m c is h = subst (λ (k : ℕ). IsRefusedBody e sides (IsLongIn start body) body (k, c)) is h

@@ -1,6 +1,5 @@
 -- A checker that begins with the clauses of an extended graph's gates, and clauses in range.
-use Rattle.std.specs.Prelude.{◌≡◌, ℕ, zero, suc, Bool, true, false, List, [], ◌∷◌, map, slice_index_or}
-use Rattle.std.specs.declared.option.Option.TheVariants.{Some}
+use Rattle.std.specs.Prelude.{◌≡◌, ℕ, zero, suc, Bool, true, false, List, [], ◌∷◌, slice_index_or}
 use Rattle.std.specs.List.{All, AllByRecursion}
 use Rattle.std.proofs.Common.{refl, sym, ◌∙◌}
 use Rattle.std.proofs.lemmas.List.Elements.{recursion_from_All}
@@ -33,7 +32,7 @@ none_shown [] i h = refl
 none_shown (b ∷ shown) zero h = h.0
 none_shown (b ∷ shown) (suc i) h = none_shown shown i h.1
 
-pub begins : (e : Extended) (cs : List Clause) (k : Checking) → AreSameSets cs (gate_clauses e.gates) → k.clauses ≡ map Some cs → All (λ b. b ≡ false) k.shown → HasTaken e [] (gate_clauses e.gates) k
+pub begins : (e : Extended) (cs : List Clause) (k : Checking) → AreSameSets cs (gate_clauses e.gates) → k.live ≡ cs → All (λ b. b ≡ false) k.shown → HasTaken e [] (gate_clauses e.gates) k
 begins e cs k same starts none = record {
   lawful = refl;
   alike = steps_are_lawful.begins k cs (gate_clauses e.gates) starts same;

@@ -13,7 +13,7 @@ use Rattle.clause_core.specs.GateClauses.{gate_clauses}
 use Rattle.clause_core.specs.Likeness.{AreAlike}
 use Rattle.clause_core.specs.declared.line.Line.TheVariants.{Add, Delete}
 use Rattle.clause_core.proofs.CallerLemmas.{same_flip}
-use Rattle.drup_checker.specs.Checking.{Checking, IsLeastUnshown, live_in}
+use Rattle.drup_checker.specs.Checking.{Checking, IsLeastUnshown}
 use Rattle.drup_checker.specs.Steps.{HasShown}
 use Rattle.drup_checker.proofs.JudgedGoals.{goals_are_judged}
 use Rattle.drup_checker.proofs.StepLaws.{marks_are_right, steps_are_lawful}
@@ -172,7 +172,7 @@ module _ (e : Extended) (start : FileState) (body : Option (List ℕ)) where
     module _ (k : Checking) (taken : HasTaken e xs live k) (new : FileState) (behind : Option (List ℕ)) (line : ClauseLine) (next : NextLine e.max file new left behind line) where
       -- what the checker does is a step of the definitions
       abbrev Steps : ClauseLine → Checking → Type 0
-      Steps x k' = (last : List Clause) × IsClauseStep e live x last × AreAlike (live_in k') last × HasShown k' (xs ++ x ∷ [])
+      Steps x k' = (last : List Clause) × IsClauseStep e live x last × AreAlike k'.live last × HasShown k' (xs ++ x ∷ [])
 
       step_of : (x y : ClauseLine) → IsLineOf x y → IsLineInRange e.max x → (k' : Checking) → Takes y k k' → Steps x k'
       step_of (Add d) (Add c) same range k' h =

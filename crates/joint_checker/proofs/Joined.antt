@@ -15,9 +15,8 @@ use Rattle.graph_core.specs.Graph.Operands.{MeetsClaimOnEvaluations, Multiplies,
 use Rattle.graph_core.specs.Graph.{Aig, IsEvaluation, IsWellFormed, read_literals}
 use Rattle.graph_core.specs.declared.literal.Lit.{Lit}
 use Rattle.graph_core.specs.declared.order.Order.{Order}
-use Rattle.graph_core.proofs.OfAiger.Soundness.{spelled_shape, well_formed}
-use Rattle.graph_core.proofs.OfAlgebra.CallerLemmas.{vanishing_means_claim}
-use Rattle.graph_core.proofs.OfAlgebra.Sound.{axioms-vanish, specification-zero}
+use Rattle.graph_core.proofs.OfAiger.CallerLemmas.{spelled_shape, well_formed}
+use Rattle.graph_core.proofs.OfAlgebra.CallerLemmas.{axioms-vanish, specification-zero, vanishing_means_claim}
 use Rattle.graph_core.proofs.OfGraphs.CallerLemmas.{all_split, all_weaker, claim_is_product, evaluations_suffice, literal_same, sides_read_inputs}
 use Rattle.mv_fact.specs.Always.{Always}
 use Rattle.ripple_graft.specs.Blocks.{AreBlocks, Block, SameUpTo, block_of, with_blocks}

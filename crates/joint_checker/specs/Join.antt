@@ -8,7 +8,7 @@ use Rattle.clause_core.specs.Clause.{Clause}
 use Rattle.clause_core.specs.ClauseLines.{ClauseLine}
 use Rattle.clause_core.specs.GateClauses.{gate_clauses}
 use Rattle.clause_core.specs.Likeness.{AreAlike}
-use Rattle.drup_checker.specs.Checking.{Checking, IsLeastUnshown, live_in}
+use Rattle.drup_checker.specs.Checking.{Checking, IsLeastUnshown}
 use Rattle.drup_checker.specs.Steps.{HasShown}
 use Rattle.miter_encoder.specs.ColumnGoals.{AreGoalsOf}
 use Rattle.joint_checker.specs.ClauseRefusals.{IsClauseStep}
@@ -22,7 +22,7 @@ TakeClauses e live (x ∷ xs) last = (next : List Clause) × IsClauseStep e live
 -- likeness, and its marks are of the goals that these lines show.
 pub record HasTaken (e : Extended) (lines : List ClauseLine) (live : List Clause) (k : Checking) : Type 0 where
   pub lawful : TakeClauses e (gate_clauses e.gates) lines live
-  pub alike : AreAlike (live_in k) live
+  pub alike : AreAlike k.live live
   pub shown : HasShown k lines
 
 -- Where a checker has taken lines and no goal is unshown, the old and the new output of each replaced column are equal on every

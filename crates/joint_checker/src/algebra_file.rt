@@ -115,7 +115,7 @@ fn judge_lines<D: Desk>(
 {
     for line in 2..u64::MAX {
         match judge_line(desk, checker, work, line)? {
-            Turn::Taken => {}
+            Turn::Taken => checker.compact()?,
             Turn::Closed => return judge_end(desk, &mut work.file, line + 1),
         }
     }

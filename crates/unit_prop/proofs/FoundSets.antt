@@ -1,9 +1,9 @@
 -- Looking for a set among the live clauses.
-use Rattle.std.specs.Prelude.{◌≡◌, ◌⊎◌, ℕ, zero, suc, ◌+◌, ◌<◌, List, [], ◌∷◌, length}
+use Rattle.std.specs.Prelude.{◌≡◌, ℕ, zero, suc, ◌<◌, List, [], ◌∷◌, length}
 use Rattle.std.specs.declared.option.Option.{Option}
 use Rattle.std.specs.declared.option.Option.TheVariants.{None, Some}
 use Rattle.std.specs.List.{Any}
-use Rattle.std.proofs.Common.{refl, arith, inl, inr, ⊎_elim}
+use Rattle.std.proofs.Common.{refl, arith, ⊎_elim}
 use Rattle.clause_core.specs.Clause.{Clause, SameSet}
 use Rattle.clause_core.proofs.CallerLemmas.{any_cases, any_nil}
 use Rattle.unit_prop.specs.Standing.{HasSetAt, clause_at, live_of}
@@ -21,6 +21,3 @@ none_live c xs none = none_of c xs (λ place d is same. none place (within xs pl
     within [] i d e = absurd (cc)
     within (y ∷ ys) zero d e = omega arith
     within (y ∷ ys) (suc i) d e = let more = within ys i d e in omega arith
-
-pub below_or : (i n : ℕ) → i < n + 1 → (i < n) ⊎ (i ≡ n)
-below_or i n h = search (arith, inl, inr)

@@ -1,7 +1,6 @@
 // Clauses, and what stands over them.
-ghost use Rattle.std.specs.Prelude.{◌≡◌, ◌≢◌, ◌↔◌, ◌<◌, ◌≤◌, ◌^◌, [], length, neg_ℤ, ℤ, IfOk, IfSome, OnErr, IsNone, IsSome, IsTrue, Some};
-ghost use Rattle.std.specs.List.{Any, Contains};
-ghost use Rattle.clause_core.specs.Clause.{SameSet};
+ghost use Rattle.std.specs.Prelude.{◌≡◌, ◌≢◌, ◌↔◌, ◌<◌, ◌≤◌, ◌^◌, [], length, neg_ℤ, ℤ, IfOk, IfSome, MatchOption, OnErr, None, IsNone, IsSome, IsTrue, Some};
+ghost use Rattle.std.specs.List.{Contains};
 ghost use Rattle.unit_prop.specs.Trail.{IsWithin, HasValue};
 ghost use Rattle.unit_prop.specs.Standing.{
   Standing,
@@ -17,7 +16,6 @@ ghost use Rattle.unit_prop.specs.Standing.{
   IsReasonOf,
   HasSetAt,
   clause_at,
-  live_of,
   standing_with,
   standing_more,
   back_at,
@@ -42,7 +40,7 @@ pub struct Propagator {
     clauses: Vec<Option<Clause>>,
     /// Those of fewer than two literals, which nothing watches.
     shorts: Vec<u32>,
-    /// Two watches for each other one.
+    /// Two watches for each other one, also for one that was removed, until propagation meets them.
     watches: Watches,
     trail: Trail,
     /// How many literals of the trail have been visited.
@@ -90,6 +88,7 @@ impl Propagator {
     pub fn add(&mut self, clause: &Clause) -> Result<Ref, Memory>
         requires within { (l : ℤ) → Contains clause.now l → IsWithin self.old.trail.greatest l }
         ensures ok { IfOk result (λ r. Adds self.old clause.now r self.new) }
+        ensures few { IfOk result (λ r. r < 2 ^ 31) }
         ensures err { OnErr result (self.new ≡ self.old) }
     {
         let own = clause.copy(self.alloc)?;
@@ -154,8 +153,6 @@ impl Propagator {
         }
         let units = self.units;
         self.trail.truncate(units);
-        self.watches.unlink(2 * place);
-        self.watches.unlink(2 * place + 1);
         self.clauses[place as usize] = None;
     }
 
@@ -252,15 +249,23 @@ impl Propagator {
         Some(Ref { place })
     }
 
-    /// A live clause with the set, if there is one.
-    pub fn find(&self, clause: &Clause) -> Option<Ref>
-        ensures some { IfSome result (HasSetAt self.now.clauses clause.now) }
-        ensures none { IsNone result → ¬ (Any (λ d. SameSet d clause.now) (live_of self.now.clauses)) }
+    /// The live clause of a place, if it has this set.
+    pub fn find_at(&self, place: u32, clause: &Clause) -> Option<Ref>
+        ensures some { IfSome result (λ r. (r ≡ place) × HasSetAt self.now.clauses clause.now place) }
+        ensures none { IsNone result → ¬ (HasSetAt self.now.clauses clause.now place) }
     {
-        for place in 0..self.clauses.len() as u32 {
-            if is_at(&self.clauses, place, clause) {
-                return Some(Ref { place });
-            }
+        if (place as usize) < self.clauses.len() && is_at(&self.clauses, place, clause) {
+            return Some(Ref { place });
+        }
+        None
+    }
+
+    /// The clause of a place, if it is live.
+    pub fn get(&self, place: u32) -> Option<&Clause>
+        ensures { MatchOption result (clause_at self.now.clauses place ≡ None) (λ c. clause_at self.now.clauses place ≡ Some c.now) }
+    {
+        if (place as usize) < self.clauses.len() {
+            return self.clauses[place as usize].as_ref();
         }
         None
     }

@@ -1,4 +1,6 @@
 // Names of clauses, and moments to which a propagator goes back.
+ghost use Rattle.std.specs.Prelude.{◌≡◌};
+
 use std::marker::Model;
 
 /// A clause of a propagator.
@@ -15,6 +17,15 @@ impl Model for Ref {
     ghost view = { λ r. r.place };
 
     ghost inverse = { λ n. record { place = n } };
+}
+
+impl Ref {
+    /// Its place among all that were added.
+    pub fn place(&self) -> u32
+        ensures { result ≡ self.now }
+    {
+        self.place
+    }
 }
 
 /// How many literals stood at a moment.

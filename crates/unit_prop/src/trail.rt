@@ -96,6 +96,7 @@ impl Trail {
         requires { at < length self.now.lits }
         ensures value { result ≡ slice_index_or self.now.lits at (pos 0) }
         ensures within { IsWithin self.now.max result }
+        ensures small { self.now.max < 2147483648 }
     {
         self.lits[at as usize]
     }

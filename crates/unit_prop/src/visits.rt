@@ -11,6 +11,7 @@ ghost use Rattle.std.specs.Prelude.{
   [],
   length,
   neg_ℤ,
+  pos,
   IfSome,
   MatchOption,
   Option,
@@ -41,6 +42,8 @@ pub(crate) enum Settled {
     Moves(i32),
     /// Each literal of the clause is false.
     Conflict,
+    /// The clause was removed.
+    Gone,
 }
 
 // The other node of a node's clause.
@@ -77,17 +80,21 @@ fn settle(
     requires kept { IsKept clauses.now trail.old head }
     requires clauses { AreClauses trail.old.max clauses.now }
     requires reference { reference < none }
-    requires live { (c : Literals) × (clause_at clauses.now reference ≡ Some c) × Contains c other }
+    requires place { reference < length clauses.now }
+    requires other { (other ≡ pos 0) ⊎ IsWithin trail.old.max other }
+    requires watched { (c : Literals) → clause_at clauses.now reference ≡ Some c → Contains c other }
     ensures kept { IsKept clauses.now trail.new head }
     ensures grows { Grows trail.old trail.new }
-    ensures settles { (c : Literals) → clause_at clauses.now reference ≡ Some c →
-        Settles c other head trail.old result trail.new }
+    ensures settles { Settles clauses.now reference other head trail.old result trail.new }
 {
+    if other == 0 {
+        return Settled::Gone;
+    }
     if trail.is_true(other) {
         return Settled::Stays;
     }
     let Some(clause) = &clauses[reference as usize] else {
-        return Settled::Stays;
+        return Settled::Gone;
     };
     match replacement(trail, clause.lits(), other) {
         Some(lit) => Settled::Moves(lit),
@@ -99,7 +106,8 @@ fn settle(
     }
 }
 
-// Where a node whose literal is false is hung up again. After a conflict that is where it was.
+// Where a node whose literal is false is hung up again, 0 where its clause was removed. After a conflict that is where
+// it was.
 fn next_literal(
     clauses: &[Option<Clause>],
     trail: &mut Trail,
@@ -112,7 +120,9 @@ fn next_literal(
     requires kept { IsKept clauses.now trail.old head }
     requires clauses { AreClauses trail.old.max clauses.now }
     requires reference { reference < none }
-    requires live { (c : Literals) × (clause_at clauses.now reference ≡ Some c) × Contains c other }
+    requires place { reference < length clauses.now }
+    requires other { (other ≡ pos 0) ⊎ IsWithin trail.old.max other }
+    requires watched { (c : Literals) → clause_at clauses.now reference ≡ Some c → Contains c other }
     requires conflict { IfSome conflict.old (IsFalse clauses.now trail.old.lits) }
     ensures kept { IsKept clauses.now trail.new head }
     ensures grows { Grows trail.old trail.new }
@@ -125,6 +135,7 @@ fn next_literal(
     match settle(trail, clauses, reference, other, head) {
         Settled::Stays => false_lit,
         Settled::Moves(lit) => lit,
+        Settled::Gone => 0,
         Settled::Conflict => {
             *conflict = Some(reference);
             false_lit
@@ -133,7 +144,7 @@ fn next_literal(
 }
 
 /// Visits the clauses that watch the negation of the literal at a place of the trail, the first place that wasn't visited
-/// yet.
+/// yet. The nodes of clauses that were removed are taken out.
 /// Gives a clause that is false, if there is one.
 pub(crate) fn visit(
     clauses: &[Option<Clause>],
@@ -162,7 +173,9 @@ pub(crate) fn visit(
             false_lit,
             at,
         );
-        watches.hang(node, lit);
+        if lit != 0 {
+            watches.hang(node, lit);
+        }
     }
     conflict
 }

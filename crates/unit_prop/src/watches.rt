@@ -46,7 +46,8 @@ struct Node {
 /// The watches of all clauses: for each literal the chain of the nodes that watch it.
 ///
 /// A chain is taken into the hand as a whole; then its nodes are taken one by one, and each is hung up anew. So a node is
-/// relinked by a change of indices, and no chain ever loses its place.
+/// relinked by a change of indices, and no chain ever loses its place. A node of a clause that was removed hangs where it
+/// is until it is taken from the hand.
 #[derive(Drop)]
 pub(crate) struct Watches {
     heads: Vec<u32>,
@@ -133,22 +134,6 @@ impl Watches {
         self.hand = self.nodes[at].next;
         self.nodes[at] = Node { lit: 0, next: NONE };
         Some(node)
-    }
-
-    /// Makes a node watch nothing.
-    pub(crate) fn unlink(&mut self, node: u32)
-        requires idle { self.old.hand ≡ [] }
-        requires node { node < length self.old.places }
-        requires lit { IsLiteral (slice_index_or self.old.places node (pos 0)) }
-        ensures { self.new ≡ record self.old { places = slice_set self.old.places node (pos 0) } }
-    {
-        let lit = self.lit(node);
-        self.take_up(lit);
-        while let Some(other) = self.next() {
-            if other != node {
-                self.hang(other, lit);
-            }
-        }
     }
 
     /// Makes a node that watches nothing watch a literal.

@@ -18,4 +18,4 @@ returns-clause-taken c =
     let e = c.args.extended.now in
     let cs = c.in_ok-clauses.clauses in
     both_of c.new.result (Starts c.gates.result.now c.max.result cs c.args.goals.now) (λ k. All (λ b. b ≡ false) k.shown) (HasTaken e [] (gate_clauses e.gates))
-    (λ k starts none. begins e cs k c.in_ok-clauses.ensures.sets starts.clauses_are none) c.new.ensures.starts c.new.ensures.shown
+    (λ k starts none. begins e cs k c.in_ok-clauses.ensures.sets starts.live_is none) c.new.ensures.starts c.new.ensures.shown

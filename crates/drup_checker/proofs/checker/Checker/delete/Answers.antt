@@ -1,15 +1,18 @@
-use Rattle.std.proofs.Common.{subst}
-use Rattle.drup_checker.specs.Checking.{Checking, Deletes, checking}
+use Rattle.std.proofs.Common.{subst, sym}
+use Rattle.drup_checker.specs.Checking.{Checking, Deletes, Held, IsKept, checking}
 use Rattle.drup_checker.proofs.Kept.{is_deleted, kept_removed}
 use Rattle.drup_checker.proofs.checker.Checker.delete.Goals as goal
 
 pub invariant_of-self : goal.invariant_of-self
-invariant_of-self c =
-    let some = c.in-Some.ensures.some in
-    kept_removed c.self.inside.gates.now c.self.inside.propagator c.remove.new.self c.self.inside.goals.now c.self.inside.shown.items c.args.clause.now c.self.invariant c.in-Some.reference some.0 c.remove.ensures some.1 some.2
+invariant_of-self c = subst (λ (h : Held). IsKept c.self.inside.gates.now h c.self.inside.goals.now c.self.inside.shown.items) (sym (c.take.ensures.none c.if-not-take.true).0) c.self.invariant
 
-pub returns-in-Some-clause-ok : goal.returns-in-Some-clause-ok
-returns-in-Some-clause-ok c =
-    let some = c.in-Some.ensures.some in
-    subst (λ (k : Checking). Deletes c.args.clause.now k (checking c.self.inside.gates.now c.remove.new.self c.self.inside.goals.now c.self.inside.shown.items)) c.self.view_is
-    (is_deleted c.self.inside.gates.now c.self.inside.propagator c.remove.new.self c.self.inside.goals.now c.self.inside.shown.items c.args.clause.now c.self.invariant c.in-Some.reference some.0 c.remove.ensures some.1 some.2)
+pub invariant_of-self-2 : goal.invariant_of-self-2
+invariant_of-self-2 c =
+    let took = c.take.ensures.some c.if-not-take.false in
+    kept_removed c.self.inside.gates.now c.self.inside.store c.take.new.self c.self.inside.goals.now c.self.inside.shown.items c.args.clause.now c.self.invariant took.0
+
+pub returns-clause-ok : goal.returns-clause-ok
+returns-clause-ok c =
+    let took = c.take.ensures.some c.if-not-take.false in
+    subst (λ (k : Checking). Deletes c.args.clause.now k (checking c.self.inside.gates.now c.take.new.self c.self.inside.goals.now c.self.inside.shown.items)) c.self.view_is
+    (is_deleted c.self.inside.gates.now c.self.inside.store c.take.new.self c.self.inside.goals.now c.self.inside.shown.items c.args.clause.now c.self.invariant took.0 took.1)

@@ -2,6 +2,7 @@ use Rattle.std.proofs.Common.{◌≡◌, ◌++◌, ◌∷◌, [], ℤ, length, a
 use Rattle.std.specs.List.{Contains}
 use Rattle.std.proofs.lemmas.Int.{to_z-of_z}
 use Rattle.clause_core.specs.Clause.{Clause}
+use Rattle.clause_core.proofs.CallerLemmas.{distinct}
 use Rattle.unit_prop.specs.Trail.{IsWithin}
 use Rattle.unit_prop.specs.Watches.{Hung}
 use Rattle.unit_prop.specs.Standing.{Standing, standing_more}
@@ -37,7 +38,7 @@ invariant_of-self-2 c =
     let free_a : Contains i.trail.lits (neg_ℤ c.args.first) → ⊥ = subst (λ (s : Standing). Contains s.trail.literals (neg_ℤ c.args.first) → ⊥) (sym c.self.view_is) c.requires.open.0 in
     let free_b : Contains i.trail.lits (neg_ℤ c.args.second) → ⊥ = subst (λ (s : Standing). Contains s.trail.literals (neg_ℤ c.args.second) → ⊥) (sym c.self.view_is) c.requires.open.1 in
     let hung = hung_twice i.watches c.make_room.new.watches c.hang.new.self c.hang-2.new.self c.len-place.result (length i.clauses.items) _ _ c.args.first c.args.second place x y room.watches c.hang.ensures c.hang-2.ensures in
-    let sound = adds_open i.clauses.items i.shorts.items i.watches i.trail i.head i.units i.refuted is c.args.clause.now c.lits-distinct.ensures.clause.distinct within room.few
+    let sound = adds_open i.clauses.items i.shorts.items i.watches i.trail i.head i.units i.refuted is c.args.clause.now (distinct c.args.clause.now c.lits-distinct.ensures.clause.rising) within room.few
     (two_literals c.args.clause.now c.args.first c.args.second c.requires.two.0 c.requires.two.1 c.requires.two.2) c.args.first c.args.second c.requires.two.2 c.requires.two.0 c.requires.two.1 free_a free_b c.hang-2.new.self hung in
     rw (pushed, room.shorts) sound
 

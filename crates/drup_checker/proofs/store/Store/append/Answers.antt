@@ -1,0 +1,26 @@
+use Rattle.std.proofs.Common.{◌≡◌, ◌<◌, ◌+◌, ◌%◌, ◌++◌, ◌∷◌, [], ℕ, List, length, ap, set, sym, subst, ◌∙◌, arith, slice_index}
+use Rattle.std.proofs.lemmas.List.{get_or_default}
+use Rattle.clause_core.specs.Clause.{IsClauseInRange}
+use Rattle.drup_checker.specs.Chains.{IsStore, number_of}
+use Rattle.drup_checker.specs.Checking.{Held}
+use Rattle.drup_checker.proofs.Stores.{held_more, store_more}
+use Rattle.drup_checker.proofs.store.Store.append.Goals as goal
+
+pub invariant_of-self-2 : goal.invariant_of-self-2
+invariant_of-self-2 c =
+    let i = c.self.inside in
+    let chain = c.chain_of-chain.result in
+    let many : c.len.result ≡ length i.heads.items = omega (arith, c.len.ensures, i.heads.ok) in
+    let there : c.chain_of-chain.result < length i.heads.items = omega (arith, many, c.chain_of-chain.ensures.bound) in
+    let its : c.chain_of-chain.result ≡ number_of c.args.clause.now % length i.heads.items = c.chain_of-chain.ensures.value ∙ ap (λ (n : ℕ). number_of c.args.clause.now % n) many in
+    let range = subst (λ (m : ℕ). IsClauseInRange m c.args.clause.now) (sym (ap (λ (h : Held). h.max) c.self.view_is) ∙ c.self.invariant.greatest) c.requires in
+    let begins : c.index.result.now ≡ slice_index i.heads.items chain = c.index.ensures ∙ sym (get_or_default i.heads.items chain 0 c.index.result.now there) in
+    let pushed : c.push.new.next.items ≡ i.next.items ++ slice_index i.heads.items chain ∷ [] =
+    c.push.ensures ∙ (ap (λ (xs : List ℕ). xs ++ c.index.result.now ∷ []) c.in_ok-reserve.ensures.items ∙ ap (λ (x : ℕ). i.next.items ++ x ∷ []) begins) in
+    let store = store_more i.max i.propagator c.add.new.self i.heads.items i.next.items c.self.invariant c.args.clause.now c.lits-lits.ensures.clause range
+    c.in_ok-reference.reference c.in_ok-reference.ensures.ok c.in_ok-reference.ensures.few chain its there in
+    subst (λ (p : ℕ). IsStore i.max c.add.new.self (set i.heads.items chain (p + 1)) c.push.new.next.items) (sym c.place.ensures)
+    (subst (λ (ns : List ℕ). IsStore i.max c.add.new.self (set i.heads.items chain (c.in_ok-reference.reference + 1)) ns) (sym pushed) store)
+
+pub returns-clause-ok : goal.returns-clause-ok
+returns-clause-ok c = held_more c.self.inside.propagator c.add.new.self c.args.self.now c.self.view_is c.args.clause.now c.in_ok-reference.reference c.in_ok-reference.ensures.ok

@@ -1,0 +1,19 @@
+use Rattle.std.proofs.Common.{◌≡◌, ◌<◌, ℕ, length, ap, sym, subst, ◌∙◌, arith}
+use Rattle.clause_core.specs.Clause.{IsClauseInRange}
+use Rattle.drup_checker.specs.Checking.{Held}
+use Rattle.drup_checker.proofs.Stores.{renew_none, renew_some}
+use Rattle.drup_checker.proofs.store.Store.renewed.Goals.{in-Some+in_ok-append-in-Some, in-None}
+use Rattle.drup_checker.proofs.store.Store.renewed.Goals as goal
+
+pub append-requires : goal.append-requires
+append-requires c =
+    subst (λ (m : ℕ). IsClauseInRange m c.in-Some.clause.now) (sym (ap (λ (h : Held). h.max) c.loop-place.invariant ∙ (sym (ap (λ (h : Held). h.max) c.self.view_is) ∙ c.self.invariant.greatest)))
+    (c.self.invariant.kept c.loop-place.place c.in-Some.clause.now c.in-Some.ensures).1
+
+pub loop-place-preserved : goal.loop-place-preserved
+loop-place-preserved c =
+    let below : c.loop-place.place < length c.self.inside.propagator.clauses = omega (arith, c.self.invariant.indexed.places, c.len-place-end.ensures, c.self.inside.next.ok) in
+    elim c.match-get.branch [
+      | in-Some+in_ok-append-in-Some w ↦ rw w.new-is (renew_some c.self.inside.propagator c.args.self.now c.loop-place.new w.append.new.self c.loop-place.place w.in-Some.clause.now below w.in-Some.ensures c.loop-place.invariant w.in_ok-append-in-Some.ensures.ok)
+      | in-None w ↦ rw w.new-is (renew_none c.self.inside.propagator c.args.self.now c.loop-place.new c.loop-place.place below w.in-None.ensures c.loop-place.invariant)
+    ]

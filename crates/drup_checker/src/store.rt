@@ -1,0 +1,167 @@
+// The live clauses, each of which is found by a look into one chain.
+ghost use Rattle.std.specs.Prelude.{◌≡◌, ◌↔◌, ◌+◌, ◌<◌, ◌^◌, ◌++◌, ◌∷◌, [], false, length, IfOk, IsTrue, OnErr, OnOk, vec_capacity, vec_len};
+ghost use Rattle.std.specs.List.{All, Any};
+ghost use Rattle.clause_core.specs.Clause.{IsClauseInRange, SameSet};
+ghost use Rattle.clause_core.specs.ClauseLines.{Removes};
+ghost use Rattle.clause_core.specs.UnitPropagation.{IsRup};
+ghost use Rattle.drup_checker.specs.Checking.{Held};
+
+use crate::chains::{chain_of, find, unlink};
+use crate::rup::is_rup;
+use clause_core::{Clause, ClauseList};
+use graph_core::Memory;
+use std::alloc::Global;
+use std::marker::Model;
+use unit_prop::Propagator;
+
+/// The live clauses. Once more places were given out than there are chains, all is made anew over those that are live, so
+/// that memory is in proportion to them and to the variables.
+#[derive(Drop)]
+pub struct Store {
+    alloc: Global,
+    max: u32,
+    propagator: Propagator,
+    /// where each chain begins
+    heads: Vec<u32>,
+    /// for each place of the propagator where it leads
+    next: Vec<u32>,
+}
+
+impl Model for Store {
+    ghost use Rattle.drup_checker.specs.Checking.{Held, held};
+    ghost use Rattle.drup_checker.specs.Chains.{IsStore};
+
+    ghost Value = { Held };
+
+    ghost view = { λ s. held s.propagator };
+
+    ghost invariant = { λ s. IsStore s.max s.propagator s.heads.items s.next.items };
+}
+
+impl Store {
+    /// The clauses of a list.
+    pub fn new(alloc: Global, max: u32, clauses: &ClauseList) -> Result<Store, Memory>
+        requires small { max < 2 ^ 31 }
+        requires in_range { All (IsClauseInRange max) clauses.now }
+        ensures { IfOk result (λ s. s ≡ record { max = max; live = clauses.now }) }
+    {
+        let mut store = Store::empty(alloc, max, clauses.len())?;
+        for place in 0..clauses.len() {
+            store.append(clauses.get(place))?;
+        }
+        Ok(store)
+    }
+
+    // No clauses, and chains for so many and as many again.
+    fn empty(alloc: Global, max: u32, clauses: usize) -> Result<Store, Memory>
+        requires { max < 2 ^ 31 }
+        ensures { IfOk result (λ s. s ≡ record { max = max; live = [] }) }
+    {
+        let chains = clauses
+            .saturating_mul(2)
+            .saturating_add(max as usize + 1024);
+        Ok(Store {
+            alloc,
+            max,
+            propagator: Propagator::new(alloc, max)?,
+            heads: vec![in alloc; 0; chains]?,
+            next: Vec::new(alloc),
+        })
+    }
+
+    /// One clause more.
+    pub fn put(&mut self, clause: &Clause) -> Result<(), Memory>
+        requires { IsClauseInRange self.old.max clause.now }
+        ensures ok { OnOk result (self.new ≡ record { max = self.old.max; live = self.old.live ++ clause.now ∷ [] }) }
+        ensures err { OnErr result (self.new ≡ self.old) }
+    {
+        if self.next.len() >= self.heads.len() {
+            *self = self.renewed()?;
+        }
+        self.append(clause)
+    }
+
+    // The same clauses, without the places of those that were taken out.
+    fn renewed(&self) -> Result<Store, Memory>
+        ensures { IfOk result (λ s. s ≡ self.now) }
+    {
+        let mut new = Store::empty(self.alloc, self.max, self.len())?;
+        for place in 0..self.next.len() {
+            match self.propagator.get(place as u32) {
+                Some(clause) => {
+                    new.append(clause)?;
+                }
+                None => {}
+            }
+        }
+        Ok(new)
+    }
+
+    // How many clauses are live.
+    fn len(&self) -> usize {
+        let mut count = 0;
+        for place in 0..self.next.len() {
+            if self.propagator.get(place as u32).is_some() {
+                count += 1;
+            }
+        }
+        count
+    }
+
+    fn append(&mut self, clause: &Clause) -> Result<(), Memory>
+        requires { IsClauseInRange self.old.max clause.now }
+        ensures ok { OnOk result (self.new ≡ record { max = self.old.max; live = self.old.live ++ clause.now ∷ [] }) }
+        ensures err { OnErr result (self.new ≡ self.old) }
+    {
+        // none of its literals is past 31 bits
+        let _lits = clause.lits();
+        reserve(&mut self.next)?;
+        let chain = chain_of(clause, self.heads.len());
+        let reference = self.propagator.add(clause)?;
+        push(&mut self.next, self.heads[chain]);
+        self.heads[chain] = reference.place() + 1;
+        Ok(())
+    }
+
+    /// Takes out a clause with this set, if there is one.
+    pub fn take(&mut self, clause: &Clause) -> bool
+        ensures some { IsTrue result → Removes self.old.live clause.now self.new.live × (self.new.max ≡ self.old.max) }
+        ensures none { result ≡ false → (self.new ≡ self.old) × ¬ (Any (λ d. SameSet d clause.now) self.old.live) }
+    {
+        // a live clause of its set is the same list, and so in the same chain
+        let _lits = clause.lits();
+        let chain = chain_of(clause, self.heads.len());
+        match find(self.heads[chain], &self.next, &self.propagator, clause) {
+            None => false,
+            Some(reference) => {
+                unlink(&mut self.heads, &mut self.next, chain, reference.place());
+                self.propagator.remove(reference);
+                true
+            }
+        }
+    }
+
+    /// Whether the clause follows from those that are live.
+    pub fn implies(&mut self, clause: &Clause) -> bool
+        requires { IsClauseInRange self.old.max clause.now }
+        ensures rup { IsTrue result ↔ IsRup self.old.live clause.now }
+        ensures kept { self.new ≡ self.old }
+    {
+        is_rup(&mut self.propagator, clause)
+    }
+}
+
+fn reserve(next: &mut Vec<u32>) -> Result<(), Memory>
+    ensures items { next.new.items ≡ next.old.items }
+    ensures room { OnOk result (vec_len next.new < vec_capacity next.new) }
+{
+    next.try_reserve(1)?;
+    Ok(())
+}
+
+fn push(next: &mut Vec<u32>, from: u32)
+    requires { vec_len next.old < vec_capacity next.old }
+    ensures { next.new.items ≡ next.old.items ++ from ∷ [] }
+{
+    let _ = next.push(from);
+}
