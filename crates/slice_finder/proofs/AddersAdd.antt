@@ -7,8 +7,7 @@ use Rattle.graph_core.specs.declared.gate.Gate.{Gate}
 use Rattle.graph_core.specs.Graph.Assignments.{variable, literal, bit}
 use Rattle.graph_core.specs.Graph.Literals.{negation_of}
 use Rattle.graph_core.specs.Graph.Literals.{plain, inverted}
-use Rattle.graph_core.proofs.OfGraphs.LiteralValues.{literal-negated}
-use Rattle.graph_core.proofs.OfGraphs.FullAdders.{full_adder}
+use Rattle.graph_core.proofs.OfGraphs.CallerLemmas.{full_adder, literal-negated}
 use Rattle.slice_finder.specs.XorShape.{in_order, exclusive_or}
 use Rattle.slice_finder.specs.Adders.{FullAddersAdd, HalfAddersAdd}
 use Rattle.slice_finder.proofs.XorShapes.{Equation, computes_and, inverted_is, plain_is, Operands, one_gate, gates_distinct, xor_shape_is_xor}

@@ -10,8 +10,7 @@ use Rattle.graph_core.specs.declared.gate.Gate.{Gate}
 use Rattle.graph_core.specs.Graph.Assignments.{Assignment, variable, literal, bit}
 use Rattle.graph_core.specs.Graph.Literals.{negation_of}
 use Rattle.graph_core.specs.Graph.Literals.{plain, inverted}
-use Rattle.graph_core.proofs.OfGraphs.LiteralValues.{literal-even, literal-odd, literal-negated}
-use Rattle.graph_core.proofs.OfGraphs.FullAdders.{full_adder}
+use Rattle.graph_core.proofs.OfGraphs.CallerLemmas.{full_adder, literal-even, literal-negated, literal-odd}
 use Rattle.slice_finder.specs.declared.adds.Adds.{Adds}
 use Rattle.slice_finder.specs.XorShape.{HasXorShape}
 use Rattle.slice_finder.specs.Adders.{IsFullAdder, AddsUp, full_block, half_block, IsSumOfSeven, BlocksExist}

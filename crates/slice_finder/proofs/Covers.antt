@@ -9,8 +9,7 @@ use Rattle.graph_core.specs.declared.gate.Gate.{Gate}
 use Rattle.graph_core.specs.declared.literal.Lit.{Lit}
 use Rattle.graph_core.specs.Graph.Literals.{variable_of}
 use Rattle.graph_core.specs.Graph.{Aig, IsGateOf, IsLevel, IsWellFormed}
-use Rattle.graph_core.proofs.OfGraphs.CallerLemmas.{level_is_one, one_gate}
-use Rattle.graph_core.proofs.OfGraphs.Levels.{inverted}
+use Rattle.graph_core.proofs.OfGraphs.CallerLemmas.{level_inverted, level_is_one, one_gate}
 use Rattle.slice_finder.specs.FinalStage.{IsCovered, constant, member, gate as gate_covered, variables_of}
 use Rattle.slice_finder.specs.Cover.{AreFirstNeeds, AreKeys, AreNeeds, AreNeedsAt, IsAhead, IsCover, IsCoveredBy, IsOfPairs, Lowers}
 use Rattle.slice_finder.proofs.XorSearch.{operands_low}
@@ -148,7 +147,7 @@ module _ (g : Aig) (well : IsWellFormed g) where
       ⊎_elim
       (λ e. let b_is : b ≡ k.1 = level_is_one g (variable_of x.left) k.1 b well (subst (λ (z : Gate). IsLevel g.gates (variable_of z.left) k.1) same k.5) (subst (λ z. IsLevel g.gates z b) e q) in omega arith)
       (λ e. let b_is : b ≡ k.2 = level_is_one g (variable_of x.right) k.2 b well (subst (λ (z : Gate). IsLevel g.gates (variable_of z.right) k.2) same k.6) (subst (λ z. IsLevel g.gates z b) e q) in omega arith)
-      reads) (inverted g.gates x.v a p)
+      reads) (level_inverted g.gates x.v a p)
 
   covered_least : (pairs : List (Lit × Lit)) (keys : List (ℕ × ℕ)) (i j : ℕ) (old new : List ℕ) → AreKeys g keys → AreNeedsAt g pairs keys i old → i < length keys → j ≤ length pairs → {v : ℕ} → IsCovered g.gates (variables_of (take j pairs)) v →
       IsCover g v old new → v ≤ g.max → ((d : ℕ × ℕ) → (slice_index_or keys i d).1 ≡ v) → slice_index new v ≤ j

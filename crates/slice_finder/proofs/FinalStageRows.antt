@@ -7,7 +7,7 @@ use Rattle.graph_core.specs.declared.literal.Lit.{Lit}
 use Rattle.graph_core.specs.declared.gate.Gate.{Gate}
 use Rattle.graph_core.specs.Graph.Literals.{variable_of}
 use Rattle.graph_core.specs.Graph.{IsDefinedOnce, Aig}
-use Rattle.graph_core.proofs.OfAiger.Packed.{counts_apart}
+use Rattle.graph_core.proofs.OfAiger.CallerLemmas.{counts_apart}
 use Rattle.ripple_graft.specs.declared.cut.Cut.{Cut}
 use Rattle.graph_core.specs.Graph.Literals.{inverted}
 use Rattle.slice_finder.specs.XorShape.{HasXorShape, IsUsedBesides, IsXorGate, HasPair}

@@ -8,8 +8,7 @@ use Rattle.graph_core.specs.declared.gate.Gate.{Gate}
 use Rattle.graph_core.specs.declared.literal.Lit.{Lit}
 use Rattle.graph_core.specs.Graph.Literals.{variable_of, inverted}
 use Rattle.graph_core.specs.Graph.{Aig, IsWellFormed, read_literals, reader_count}
-use Rattle.graph_core.proofs.OfGraphs.Evaluation.{Distinct}
-use Rattle.graph_core.proofs.OfGraphs.WellFormedGates.{distinct_gates}
+use Rattle.graph_core.proofs.OfGraphs.CallerLemmas.{Distinct, distinct_gates}
 use Rattle.slice_finder.specs.XorShape.{IsUsedBesides, IsGenerating}
 use Rattle.slice_finder.specs.XorFound.{Reads, IsReadMore}
 use Rattle.slice_finder.proofs.Cases.{by_cases, any_cases, any_here, any_nil, any_there}

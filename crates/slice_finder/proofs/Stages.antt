@@ -14,7 +14,7 @@ use Rattle.slice_finder.specs.XorShape.{IsXorGate, HasPair}
 use Rattle.slice_finder.specs.FinalStage.{IsCovered, variables_of, IsNextColumn, AreNextColumns, IsFinalStage, IsFit}
 use Rattle.slice_finder.specs.Cover.{AreNeeds, ArePairsIn}
 use Rattle.slice_finder.specs.StageSearch.{AreNextShapes, AreSidesIn, IsCount, IsLongestAt, IsNextShape, IsWhole, NoneFitsAt}
-use Rattle.graph_core.proofs.OfGraphs.WellFormedGates.{output_in_range}
+use Rattle.graph_core.proofs.OfGraphs.CallerLemmas.{output_in_range}
 use Rattle.slice_finder.proofs.NextShapes.{side_low}
 use Rattle.slice_finder.proofs.XorSearch.{pair_low}
 use Rattle.slice_finder.proofs.FinalStages.{next_one}
@@ -131,6 +131,40 @@ module _ (g : Aig) (once : IsDefinedOnce g) where
       let least = no_longer (p ∷ []) os ps f.3 r next in
       let most = few (p ∷ []) os ps r in
       ⊎_elim (λ len. not (as_long (p ∷ []) os ps f.3 r next (omega (arith, ne)))) (λ len. ne (omega arith)) (columns_count g (p ∷ []) os f.3 next)
+
+  -- each column that a pair follows has a shape
+  shape_at : (e : List (Lit × Lit)) (os : List Lit) (ps : List (Lit × Lit)) (k : ℕ) (o : Lit) → AreNextColumns g e os ps → k < length ps → (n : Next) × IsNextShape g (slice_index_or os k o) n
+  shape_at e os [] k o n low = absurd (omega arith)
+  shape_at e [] (p ∷ ps) k o n low = absurd n
+  shape_at e (a ∷ os) (p ∷ ps) zero o n low = let s = shape_of e a p n.0 in (s.0, s.1)
+  shape_at e (a ∷ os) (p ∷ ps) (suc k) o n low = shape_at (e ++ p ∷ []) os ps k o n.1 (omega arith)
+
+  too_few : (lo : ℕ) (o : Lit) (os : List Lit) (nexts : List Next) → drop lo g.outputs ≡ o ∷ os → AreNextShapes g os nexts → length nexts + 1 < length os → NoneFitsAt g lo
+  too_few lo o os nexts outputs shapes short cut low f =
+      let same : f.0 ∷ f.1 ≡ o ∷ os = sym f.4 ∙ ap (λ k. drop k g.outputs) low ∙ outputs in
+      let others : f.1 ≡ os = cc in
+      let next : AreNextColumns g (f.2 ∷ []) os f.3 = subst (λ z. AreNextColumns g (f.2 ∷ []) z f.3) others f.7 in
+      let below : length nexts < length f.3 = ⊎_elim (λ len. omega (arith, len)) (λ len. omega (arith, len)) (columns_count g (f.2 ∷ []) os f.3 next) in
+      let s = shape_at (f.2 ∷ []) os f.3 (length nexts) o next below in
+      shapes.last o s.0 (omega arith) s.1
+
+  -- the first pair covers the other side of the next column, unless that is the last
+  first_column : (e : List (Lit × Lit)) (os : List Lit) (ps : List (Lit × Lit)) (o : Lit) → AreNextColumns g e os ps → 1 < length os → (n : Next) × IsNextShape g (slice_index_or os 0 o) n × IsCovered g.gates (variables_of e) n.side
+  first_column e [] ps o n long = absurd (omega arith)
+  first_column e (a ∷ []) ps o n long = absurd (omega arith)
+  first_column e (a ∷ b ∷ os) [] o n long = absurd n
+  first_column e (a ∷ b ∷ os) (p ∷ ps) o n long = shape_of e a p n.0
+
+  missed : (lo : ℕ) (o : Lit) (os : List Lit) (p : Lit × Lit) (nexts : List Next) (d : Next) → drop lo g.outputs ≡ o ∷ os → HasPair g (variable_of o) p → AreNextShapes g os nexts → 1 < length os → 0 < length nexts →
+      ¬ (IsCovered g.gates (variables_of (p ∷ [])) (slice_index_or nexts 0 d).side) → NoneFitsAt g lo
+  missed lo o os p nexts d outputs has shapes long some not cut low f =
+      let same : f.0 ∷ f.1 ≡ o ∷ os = sym f.4 ∙ ap (λ k. drop k g.outputs) low ∙ outputs in
+      let first : f.0 ≡ o = cc in
+      let others : f.1 ≡ os = cc in
+      let pair : f.2 ≡ p = pair_one g once (variable_of o) f.2 p (subst (λ z. HasPair g (variable_of z) f.2) first f.6) has in
+      let next : AreNextColumns g (p ∷ []) os f.3 = subst (λ z. AreNextColumns g (z ∷ []) os f.3) pair (subst (λ z. AreNextColumns g (f.2 ∷ []) z f.3) others f.7) in
+      let c = first_column (p ∷ []) os f.3 o next long in
+      not (subst (IsCovered g.gates (variables_of (p ∷ []))) (side_one (slice_index_or os 0 o) c.0 (slice_index_or nexts 0 d) c.1 (shapes.each 0 o d some)) c.2)
 
 -- ---- how the cut is found
 
@@ -309,6 +343,19 @@ module _ (g : Aig) (well : IsWellFormed g) (lo : ℕ) (first : Lit × Lit) (rest
 
   pub missing_here : ¬ (IsWhole needs rest count) → NoneFitsAt g lo
   missing_here not = missing g well first rest nexts needs count ranges shapes needed counted lo (slice_index_or g.outputs lo constant_false) outputs (has constant_false) not
+
+-- fewer columns than two at the end have no shape
+pub missing_short : (g : Aig) → IsWellFormed g → (lo : ℕ) (rest : List Lit) (nexts : List Next) → rest ≡ drop (lo + 1) g.outputs → lo < length g.outputs → AreNextShapes g rest nexts → length nexts + 1 < length rest → NoneFitsAt g lo
+missing_short g well lo rest nexts is low shapes short =
+    too_few g well.defined_once lo (slice_index_or g.outputs lo constant_false) rest nexts
+    (drop_more g.outputs lo constant_false low ∙ ap (λ z. slice_index_or g.outputs lo constant_false ∷ z) (sym is)) shapes short
+
+-- the first pair doesn't cover the next column, and that isn't the last
+pub missing_next : (g : Aig) → IsWellFormed g → (lo : ℕ) (first : Lit × Lit) (rest : List Lit) (nexts : List Next) (d : Next) → rest ≡ drop (lo + 1) g.outputs → lo < length g.outputs →
+    ((o : Lit) → HasPair g (variable_of (slice_index_or g.outputs lo o)) first) → AreNextShapes g rest nexts → 1 < length rest → 0 < length nexts → ¬ (IsCovered g.gates (variables_of (first ∷ [])) (slice_index_or nexts 0 d).side) → NoneFitsAt g lo
+missing_next g well lo first rest nexts d is low has shapes long some not =
+    missed g well.defined_once lo (slice_index_or g.outputs lo constant_false) rest first nexts d
+    (drop_more g.outputs lo constant_false low ∙ ap (λ z. slice_index_or g.outputs lo constant_false ∷ z) (sym is)) (has constant_false) shapes long some not
 
 -- a column's output, as it is read
 pub output_is : (g : Aig) (outs : List Lit) (lo v : ℕ) (e : Lit) → outs ≡ g.outputs → lo < length g.outputs → v ≡ variable_of (slice_index_or outs lo e) → (d : Lit) → v ≡ variable_of (slice_index_or g.outputs lo d)

@@ -7,8 +7,7 @@ use Rattle.graph_core.specs.declared.literal.Lit.{Lit}
 use Rattle.graph_core.specs.declared.gate.Gate.{Gate}
 use Rattle.graph_core.specs.Graph.Literals.{variable_of, negation_of, inverted, IsNegated}
 use Rattle.graph_core.specs.Graph.{Aig, IsGateOf, IsWellFormed}
-use Rattle.graph_core.proofs.OfGraphs.CallerLemmas.{one_gate, variable_of-negated}
-use Rattle.graph_core.proofs.OfGraphs.WellFormedGates.{gate_in_range}
+use Rattle.graph_core.proofs.OfGraphs.CallerLemmas.{gate_in_range, one_gate, variable_of-negated}
 use Rattle.slice_finder.specs.declared.xor.Xor.{Xor}
 use Rattle.slice_finder.specs.XorShape.{Computes, HasPair, HasXorShape, IsXor, IsXorGate, IsXorOf, in_order}
 use Rattle.slice_finder.specs.XorFound.{AreTwo, IsBelow, IsReadMore, Reads}
@@ -17,19 +16,19 @@ use Rattle.slice_finder.proofs.ReadBesides.{generates_from}
 
 -- ---- literals
 
-same_lit : (l k : Lit) → l.0 ≡ k.0 → l ≡ k
+pub same_lit : (l k : Lit) → l.0 ≡ k.0 → l ≡ k
 same_lit l k e = let lit : ℕ → Lit = λ n. record { 0 = n } in ap lit e
 
-negated_is : (l : Lit) (v : ℕ) → IsNegated l → v ≡ variable_of l → l ≡ inverted v
+pub negated_is : (l : Lit) (v : ℕ) → IsNegated l → v ≡ variable_of l → l ≡ inverted v
 negated_is l v odd e = same_lit l (inverted v) (omega arith)
 
-inverted_variable : (l : Lit) (v : ℕ) → l ≡ inverted v → v ≡ variable_of l
+pub inverted_variable : (l : Lit) (v : ℕ) → l ≡ inverted v → v ≡ variable_of l
 inverted_variable l v e = let n : l.0 ≡ 2 * v + 1 = ap (λ k. k.0) e in omega arith
 
-inverted_odd : (l : Lit) (v : ℕ) → l ≡ inverted v → IsNegated l
+pub inverted_odd : (l : Lit) (v : ℕ) → l ≡ inverted v → IsNegated l
 inverted_odd l v e = let n : l.0 ≡ 2 * v + 1 = ap (λ k. k.0) e in omega arith
 
-number_of-negation : (l : Lit) → (((l.0 % 2 ≡ 0) × ((negation_of l).0 ≡ l.0 + 1)) ⊎ ((l.0 % 2 ≢ 0) × ((negation_of l).0 ≡ l.0 - 1)))
+pub number_of-negation : (l : Lit) → (((l.0 % 2 ≡ 0) × ((negation_of l).0 ≡ l.0 + 1)) ⊎ ((l.0 % 2 ≢ 0) × ((negation_of l).0 ≡ l.0 - 1)))
 number_of-negation l = by_cases (λ b. (l.0 % 2 == 0) ≡ b → (((l.0 % 2 ≡ 0) × ((cond {A = Lit} b (record { 0 = l.0 + 1 }) (record { 0 = l.0 - 1 })).0 ≡ l.0 + 1)) ⊎ ((l.0 % 2 ≢ 0) × ((cond {A = Lit} b (record { 0 = l.0 + 1 }) (record { 0 = l.0 - 1 })).0 ≡ l.0 - 1)))) (l.0 % 2 == 0)
     (λ _ e. inl (eqb-true (l.0 % 2) 0 e, refl)) (λ _ e. inr (eqb-false (l.0 % 2) 0 e, refl)) refl
 

@@ -8,11 +8,9 @@ use Rattle.graph_core.specs.declared.gate.Gate.{Gate}
 use Rattle.graph_core.specs.Graph.Assignments.{Assignment, variable, literal}
 use Rattle.graph_core.specs.Graph.Literals.{variable_of, negation_of}
 use Rattle.graph_core.specs.Graph.{Aig, IsDefinedOnce, defined}
-use Rattle.graph_core.proofs.OfGraphs.Evaluation.{Distinct}
-use Rattle.graph_core.proofs.OfGraphs.Multiplies.{apart_from_pairs, rest_apart, gates_distinct as distinct_gates}
+use Rattle.graph_core.proofs.OfGraphs.CallerLemmas.{Distinct, apart_from_pairs, gates_distinct as distinct_gates, literal-even, literal-negated, literal-odd, rest_apart, variable_of-negated}
 use Rattle.graph_core.specs.Graph.Literals.{plain, inverted}
-use Rattle.graph_core.proofs.OfGraphs.LiteralValues.{literal-even, literal-odd, literal-negated, variable_of-negated}
-use Rattle.slice_finder.specs.XorShape.{Computes, HasXorShape, IsGenerating, in_order, IsXorGate, HasPair, exclusive_or, XorShapeIsXor}
+use Rattle.slice_finder.specs.XorShape.{Computes, HasXorShape, IsGenerating, IsXor, in_order, IsXorGate, HasPair, exclusive_or, XorShapeIsXor}
 use Rattle.slice_finder.proofs.Cases.{any_cases, any_nil}
 
 -- a gate's equation, for its operands in either order
@@ -84,7 +82,7 @@ same_operands g x y a b h i =
 
 -- ---- one pair
 
-inverted_one : (a b : ℕ) → inverted a ≡ inverted b → a ≡ b
+pub inverted_one : (a b : ℕ) → inverted a ≡ inverted b → a ≡ b
 inverted_one a b e = let f : 2 * a + 1 ≡ 2 * b + 1 = ap (λ l. l.0) e in omega arith
 
 negated_variable : (l : Lit) → variable_of (negation_of l) ≡ variable_of l
@@ -122,6 +120,13 @@ one_generates : (g : Aig) (v u w : ℕ) → IsGenerating g v u w → IsGeneratin
 one_generates g v u w h i =
     ⊎_elim (λ a. ⊎_elim (λ b. b.1 a.0) (λ b. ⊎_elim (λ c. a.1 c.0) (λ c. c.1 a.0) b.0) i)
     (λ a. ⊎_elim (λ b. ⊎_elim (λ c. b.1 c.0) (λ c. c.1 b.0) a.0) (λ b. let l = a.1 in let m = b.1 in absurd (omega arith)) i) h
+
+-- so a gate has one generating gate
+pub generating_one : (g : Aig) → IsDefinedOnce g → (v u w a b : ℕ) (x y p q : Lit) (one other : Lit × Lit) → IsXor g v u w x y one → IsXor g v a b p q other → u ≡ a
+generating_one g once v u w a b x y p q one other h i =
+    ⊎_elim (λ e. e.0)
+    (λ e. absurd (one_generates g v u w h.generates (subst (λ z. IsGenerating g v z u) (sym e.1) (subst (λ z. IsGenerating g v a z) (sym e.0) i.generates))))
+    (same_below g once v u w a b x y p q h.shape i.shape)
 
 pub pair_one : (g : Aig) → IsDefinedOnce g → (v : ℕ) (p q : Lit × Lit) → HasPair g v p → HasPair g v q → p ≡ q
 pair_one g once v p q h i = ⊎_elim straight crossed (same_below g once v h.0 h.1 i.0 i.1 h.2 h.3 i.2 i.3 h.4.shape i.4.shape)

@@ -1,5 +1,5 @@
 -- Blocks that add: half and full adders among the gates of an extended graph.
-use Rattle.std.specs.Prelude.{◌≡◌, ◌≢◌, ℕ, ◌+◌, ◌*◌, List, [], ◌∷◌}
+use Rattle.std.specs.Prelude.{◌≡◌, ◌≢◌, ℕ, ◌+◌, ◌*◌, ◌⊎◌, List, [], ◌∷◌}
 use Rattle.std.specs.List.{All, AllPairs, Any}
 use Rattle.graph_core.specs.declared.literal.Lit.{Lit}
 use Rattle.graph_core.specs.declared.gate.Gate.{Gate}
@@ -42,6 +42,20 @@ as_graph e = record {
   outputs = new_outputs e;
   gates = e.gates;
 }
+
+-- A block that the rule names: of some seven gates that are a full adder, or of a gate of XOR shape.
+abbrev pub IsFullBlock : List Gate → Adds → Type 0
+IsFullBlock gates b = (x y c : Lit) × (u w t e f s h : ℕ) × IsFullAdder gates x y c u w t e f s h × (b ≡ full_block x y c s h)
+
+abbrev pub IsHalfBlock : Aig → Adds → Type 0
+IsHalfBlock g b = (v generating other : ℕ) × (x y : Lit) × (pair : Lit × Lit) × IsXor g v generating other x y pair × (b ≡ half_block v generating pair)
+
+abbrev pub IsNamed : Extended → Adds → Type 0
+IsNamed e b = IsFullBlock e.gates b ⊎ IsHalfBlock (as_graph e) b
+
+-- no two blocks have one sum
+abbrev pub HaveOwnSums : List Adds → Type 0
+HaveOwnSums blocks = AllPairs (λ a b. a.sum ≢ b.sum) blocks
 
 -- some seven gates are a full adder with this sum, or with this t
 abbrev pub IsSumOfSeven : List Gate → ℕ → Type 0

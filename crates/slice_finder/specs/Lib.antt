@@ -6,3 +6,6 @@ pub mod Positions
 pub mod XorFound
 pub mod Cover
 pub mod StageSearch
+pub mod Network
+pub mod FullSearch
+pub mod BlockSearch

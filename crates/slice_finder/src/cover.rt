@@ -14,7 +14,7 @@ pub(crate) fn keys_by_level(alloc: Global, graph: &Graph) -> Result<Vec<(u32, u3
 {
     let _max = graph.max();
     let mut keys = keys_of(alloc, graph)?;
-    keys.sort()?;
+    keys.sort_unstable();
     Ok(keys)
 }
 

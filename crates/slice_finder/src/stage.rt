@@ -14,6 +14,7 @@ ghost use Rattle.slice_finder.specs.StageSearch.{IsNextShape, IsWhole, NoneFitsA
 ghost use Rattle.slice_finder.specs.declared.stage.Next.{Next as NextOf};
 
 use crate::cover::{keys_by_level, needs_of};
+use crate::walk::misses;
 use crate::xor::xor_of;
 use graph_core::{Graph, Lit, Memory};
 use ripple_graft::{Cut, Pairs};
@@ -70,6 +71,14 @@ fn cut_from(
 {
     let rest = outputs_behind(graph, lo);
     let nexts = next_shapes(alloc, graph, rest)?;
+    // but for the last one each column has a shape
+    if nexts.len() + 1 < rest.len() {
+        return Ok(None);
+    }
+    // most pairs don't cover the next column
+    if rest.len() > 1 && misses(graph, first, nexts[0].side) {
+        return Ok(None);
+    }
     let mut pairs = pairs_of(alloc, first, &nexts)?;
     let needs = needs_of(alloc, graph, keys, &pairs)?;
     let count = covered_columns(&needs, &nexts);

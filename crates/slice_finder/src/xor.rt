@@ -57,7 +57,7 @@ fn gate_below(graph: &Graph, lit: Lit) -> Option<Gate>
 }
 
 // Whether two different gates are the AND of two literals of different variables and that of their negations.
-fn are_two(u: &Gate, w: &Gate) -> bool
+pub(crate) fn are_two(u: &Gate, w: &Gate) -> bool
     ensures { IsTrue result ↔ AreTwo u.now w.now }
 {
     let (x, y) = (u.left, u.right);
@@ -65,7 +65,7 @@ fn are_two(u: &Gate, w: &Gate) -> bool
 }
 
 // Whether these are the operands, in either order.
-fn reads(gate: &Gate, x: Lit, y: Lit) -> bool
+pub(crate) fn reads(gate: &Gate, x: Lit, y: Lit) -> bool
     ensures { IsTrue result ↔ Reads gate.now x y }
 {
     (gate.left == x && gate.right == y) || (gate.left == y && gate.right == x)
@@ -84,7 +84,7 @@ fn generates(graph: &Graph, u: u32, w: u32) -> bool
 }
 
 // What is told of a generating gate and the other one.
-fn xor_over(generating: &Gate, other: &Gate) -> Xor
+pub(crate) fn xor_over(generating: &Gate, other: &Gate) -> Xor
     ensures { result ≡ record { generating = generating.now.v; other = other.now.v; pair = in_order generating.now } }
 {
     let (left, right) = (generating.left, generating.right);

@@ -1,17 +1,41 @@
-use Rattle.std.proofs.Common.{◌+◌, ◌<◌, ◌≤◌, ◌∷◌, ◌∙◌, ap, arith, length, map, refl, sym, subst, true≢false}
+use Rattle.std.proofs.Common.{◌+◌, ◌<◌, ◌≤◌, ◌∷◌, ◌∙◌, [], ap, arith, length, map, refl, sym, subst, true≢false}
 use Rattle.std.specs.Prelude.{slice_index_or}
 use Rattle.std.specs.List.{All}
 use Rattle.std.proofs.lemmas.List.{length-drop}
 use Rattle.graph_core.specs.Graph.Literals.{variable_of, constant_false}
+use Rattle.slice_finder.specs.declared.stage.Next.{Next}
+use Rattle.slice_finder.specs.FinalStage.{IsCovered, variables_of}
 use Rattle.slice_finder.specs.Cover.{AreNeeds, ArePairsIn}
 use Rattle.slice_finder.specs.StageSearch.{AreSidesIn, IsCount, IsWhole}
-use Rattle.slice_finder.proofs.Stages.{found_here, missing_here, outputs_low, pairs_in, sides_in}
+use Rattle.slice_finder.proofs.Stages.{found_here, missing_here, missing_next, missing_short, outputs_low, pairs_in, sides_in}
 use Rattle.slice_finder.proofs.stage.cut_from.Goals as goal
 
 pub next_shapes-requires : goal.next_shapes-requires
 next_shapes-requires c =
     let rest = c.outputs_behind-rest in
     record { in_range = subst (All (λ l. variable_of l ≤ c.args.graph.now.max)) (sym rest.ensures.value) (outputs_low c.args.graph.now rest.ensures.built.well_formed (c.args.lo + 1)) }
+
+pub returns-then-len-rest : goal.returns-then-len-rest
+returns-then-len-rest c =
+    let rest = c.outputs_behind-rest in
+    missing_short c.args.graph.now rest.ensures.built.well_formed c.args.lo rest.result.now c.in_ok-nexts.nexts.items rest.ensures.value c.requires.in_range c.in_ok-nexts.ensures (omega (arith, c.len.ensures, c.if-len-rest.true))
+
+pub misses-requires : goal.misses-requires
+misses-requires c =
+    let g = c.args.graph.now in
+    let rest = c.outputs_behind-rest in
+    let some : 0 < length c.in_ok-nexts.nexts.items = omega (arith, c.len.ensures, c.if-len-rest.false, c.if-rest-gt1.true) in
+    let side = sides_in g rest.ensures.built.well_formed rest.result.now c.in_ok-nexts.nexts.items (g.max + 1) c.in_ok-nexts.ensures refl 0 c.index.result.now some in
+    let at = ap (λ (n : Next). n.side) c.index.ensures in
+    record { in_range = omega (arith, side, at) }
+
+pub returns-then-misses : goal.returns-then-misses
+returns-then-misses c =
+    let rest = c.outputs_behind-rest in
+    let nexts = c.in_ok-nexts.nexts.items in
+    let some : 0 < length nexts = omega (arith, c.len.ensures, c.if-len-rest.false, c.if-rest-gt1.true) in
+    missing_next c.args.graph.now rest.ensures.built.well_formed c.args.lo c.args.first rest.result.now nexts c.index.result.now rest.ensures.value c.requires.in_range c.requires.first c.in_ok-nexts.ensures c.if-rest-gt1.true some
+    (subst (λ (n : Next). ¬ (IsCovered c.args.graph.now.gates (variables_of (c.args.first ∷ [])) n.side)) c.index.ensures (c.misses.ensures c.if-misses.true))
 
 pub needs_of-requires : goal.needs_of-requires
 needs_of-requires c =
