@@ -25,15 +25,15 @@ drop_past [] (suc n) h = refl
 drop_past (x ∷ xs) zero h = absurd (omega arith)
 drop_past (x ∷ xs) (suc n) h = drop_past xs n (omega arith)
 
-clause_of-one : (l : Lit) (ls : List Lit) → l.0 ≡ 1 → clause_of (l ∷ ls) ≡ None
+pub clause_of-one : (l : Lit) (ls : List Lit) → l.0 ≡ 1 → clause_of (l ∷ ls) ≡ None
 clause_of-one l ls e = ap (λ b. cond b None (cond (l.0 == 0) (clause_of ls) (option_map (λ c. signed_of l ∷ c) (clause_of ls)))) (eq-eqb l.0 1 e)
 
-clause_of-zero : (l : Lit) (ls : List Lit) → l.0 ≡ 0 → clause_of (l ∷ ls) ≡ clause_of ls
+pub clause_of-zero : (l : Lit) (ls : List Lit) → l.0 ≡ 0 → clause_of (l ∷ ls) ≡ clause_of ls
 clause_of-zero l ls e =
     ap (λ b. cond b None (cond (l.0 == 0) (clause_of ls) (option_map (λ c. signed_of l ∷ c) (clause_of ls)))) (ne_eqb l.0 1 (λ f. absurd (omega arith))) ∙
     ap (λ b. cond b (clause_of ls) (option_map (λ c. signed_of l ∷ c) (clause_of ls))) (eq-eqb l.0 0 e)
 
-clause_of-other : (l : Lit) (ls : List Lit) → l.0 ≢ 1 → l.0 ≢ 0 → clause_of (l ∷ ls) ≡ option_map (λ c. signed_of l ∷ c) (clause_of ls)
+pub clause_of-other : (l : Lit) (ls : List Lit) → l.0 ≢ 1 → l.0 ≢ 0 → clause_of (l ∷ ls) ≡ option_map (λ c. signed_of l ∷ c) (clause_of ls)
 clause_of-other l ls e f =
     ap (λ b. cond b None (cond (l.0 == 0) (clause_of ls) (option_map (λ c. signed_of l ∷ c) (clause_of ls)))) (ne_eqb l.0 1 e) ∙
     ap (λ b. cond b (clause_of ls) (option_map (λ c. signed_of l ∷ c) (clause_of ls))) (ne_eqb l.0 0 f)

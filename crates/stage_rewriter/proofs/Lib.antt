@@ -8,3 +8,4 @@ pub mod Refuting
 pub mod Using
 pub mod Values
 pub mod NearLogs
+pub mod OpenGoals

@@ -1,6 +1,8 @@
 -- The log of the first goals goes on to the next one, or ends.
-use Rattle.std.specs.Prelude.{◌≡◌, ℕ, ◌+◌, ◌-◌, ◌<◌, ◌≤◌, Bool, true, List, [], ◌∷◌, ◌++◌, length, take, slice_index_or}
+use Rattle.std.specs.Prelude.{◌≡◌, ℕ, ◌+◌, ◌-◌, ◌<◌, ◌≤◌, Bool, true, List, [], ◌∷◌, ◌++◌, length, take, slice_index_or, IfOk, IsTrue}
 use Rattle.std.specs.List.{All}
+use Rattle.std.specs.declared.result.Result.{Result}
+use Rattle.std.specs.declared.result.Result.TheVariants.{Ok, Err}
 use Rattle.std.proofs.Common.{refl, sym, subst, ◌∙◌, arith, true≢false}
 use Rattle.std.proofs.lemmas.List.{get_or_default, take_more}
 use Rattle.std.proofs.lemmas.List.Elements.{All-append, All-nil, All-push, Contains-get_or}
@@ -15,11 +17,13 @@ use Rattle.clause_core.specs.Log.{AreRunsSpaced, first_spacing}
 use Rattle.clause_core.specs.declared.line.Line.TheVariants.{Add}
 use Rattle.clause_core.proofs.CallerLemmas.{subset_holds}
 use Rattle.clause_core.proofs.Log.{one_spaced}
+use Rattle.clause_core.specs.UnitPropagation.{IsRup}
+use Rattle.clause_core.proofs.Sets.{rup_same}
 use Rattle.cdcl_core.specs.Logs.{Continues, LogView, lemmas, with_added}
 use Rattle.cdcl_core.specs.Solving.{assignment_of}
 use Rattle.cdcl_core.specs.declared.solved.Solved.{Solved}
 use Rattle.stage_rewriter.specs.Refuting.{IsCounterexample, IsDiffering, IsRefutation, IsShownNext, IsSoFar, IsUnshown}
-use Rattle.stage_rewriter.specs.Rewriting.{AreRefuted, IsSpent, unmet_goals}
+use Rattle.stage_rewriter.specs.Rewriting.{AreRefuted, IsRefutationLog, IsSpent, unmet_goals}
 use Rattle.stage_rewriter.proofs.ColumnGoals.{agreeing_hold}
 use Rattle.stage_rewriter.proofs.Lists.{same_at, same_long, sames_flip, take_none}
 use Rattle.stage_rewriter.proofs.LogLines.{added_more, added_push, log_over, refuted_more, refuted_next, rup_over, spaced_joins}
@@ -148,3 +152,24 @@ so_far_all e conflicts goals i log sames end h =
     let some = h.log_is.some in
     let is : i ≡ length (unmet_goals e) = omega arith in
     subst (λ n. IsSoFar e conflicts n log) is h
+
+-- where no conflict is allowed, and the first goal doesn't follow from the clauses of the gates
+pub spent_at_once : (e : Extended) (goals : List Clause) (here : Clause) → AreSameSets goals (unmet_goals e) → 0 < length goals → here ≡ slice_index_or goals 0 here → (IsRup (gate_clauses e.gates) here → ⊥) →
+    IsSpent e 0 0 0 (record { lines = []; left = [] })
+spent_at_once e goals here sames some is not =
+    let log : LogView = record { lines = []; left = [] } in
+    let none = so_far_none e 0 log refl in
+    let no_lemma : none.lemmas_are ≡ 0 = let few = none.few in omega arith in
+    let long = same_long goals (unmet_goals e) sames in
+    record {
+      spent = refl;
+      log_is = subst (λ n. IsRefutationLog e 0 n log) no_lemma none.log_is;
+      within = omega arith;
+      next = λ d r. not (rup_same (gate_clauses e.gates) (slice_index_or (unmet_goals e) 0 d) here
+          (let s = same_at goals (unmet_goals e) 0 here d sames some in subst (SameSet (slice_index_or (unmet_goals e) 0 d)) (sym is) (s.1, s.0)) r);
+    }
+
+pub seen_spent : {M : Type 0} (e : Extended) (goals : List Clause) (here : Clause) (seen : Result Bool M) → AreSameSets goals (unmet_goals e) → 0 < length goals → here ≡ slice_index_or goals 0 here →
+    IfOk seen (λ s. IsTrue s → IsRup (gate_clauses e.gates) here → ⊥) → IfOk seen (λ s. IsTrue s → IsSpent e 0 0 0 (record { lines = []; left = [] }))
+seen_spent e goals here (Ok s) sames some is h = λ yes. spent_at_once e goals here sames some is (h yes)
+seen_spent e goals here (Err m) sames some is h = tt

@@ -16,6 +16,7 @@ mod laws;
 mod near;
 mod outcome;
 mod refutation;
+mod resting;
 mod rewriting;
 mod solver;
 

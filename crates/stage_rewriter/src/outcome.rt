@@ -1,11 +1,13 @@
 // All goals of a graph with an adder, one after the other.
-ghost use Rattle.std.specs.Prelude.{◌≡◌, IfOk};
+ghost use Rattle.std.specs.Prelude.{◌≡◌, [], IfOk, IsTrue};
 ghost use Rattle.ripple_graft.specs.Blocks.{IsCut, with_cut};
 ghost use Rattle.stage_rewriter.specs.Refuting.{IsOutcome};
+ghost use Rattle.stage_rewriter.specs.Rewriting.{IsSpent};
 
 use crate::goals::unmet_goals;
 use crate::near::refute_near;
 use crate::refutation::refute;
+use crate::resting::stays_open;
 use crate::solver::solver_of;
 use cdcl_core::{Log, Solved};
 use graph_core::Memory;
@@ -25,7 +27,8 @@ pub enum Outcome {
 }
 
 /// Refutes the negation of each goal that isn't met, within so many conflicts: over the clauses near the adder, and
-/// where that doesn't come off, over all.
+/// where that doesn't come off, over all. Where no conflict is allowed, the first goal is looked at without a clause
+/// being made.
 pub fn refute_all(
     alloc: Global,
     extended: &Extended<'_>,
@@ -36,12 +39,27 @@ pub fn refute_all(
     requires graph { extended.now ≡ with_cut extended.now.graph cut.now }
     ensures { IfOk result (IsOutcome extended.now conflicts) }
 {
-    if conflicts > 0 {
-        if let Some(log) = refute_near(alloc, extended, cut, conflicts)? {
-            return Ok(Outcome::Refuted(log));
+    if conflicts == 0 {
+        if is_spent_at_once(alloc, extended, cut)? {
+            return Ok(Outcome::Spent(0, Log::new(alloc)));
         }
+    } else if let Some(log) = refute_near(alloc, extended, cut, conflicts)? {
+        return Ok(Outcome::Refuted(log));
     }
     refute_over_all(alloc, extended, cut, conflicts)
+}
+
+// Whether it is seen without a solver that the first goal doesn't follow by propagation.
+fn is_spent_at_once(alloc: Global, extended: &Extended<'_>, cut: &Cut) -> Result<bool, Memory>
+    requires cut { IsCut extended.now.graph cut.now }
+    requires graph { extended.now ≡ with_cut extended.now.graph cut.now }
+    ensures { IfOk result (λ spent. IsTrue spent → IsSpent extended.now 0 0 0 (record { lines = []; left = [] })) }
+{
+    let goals = unmet_goals(alloc, extended, cut)?;
+    if goals.len() == 0 {
+        return Ok(false);
+    }
+    stays_open(alloc, extended, goals.get(0))
 }
 
 // The same over all clauses.
