@@ -1,9 +1,9 @@
 -- What is gathered after a column was added.
-use Rattle.std.specs.Prelude.{◌≡◌, ◌≢◌, ℕ, ◌+◌, ◌*◌, ◌%◌, ◌^◌, ◌<◌, ◌≤◌, Bool, true, false, ◌||◌, ◌==◌, List, [], ◌∷◌, ◌++◌, length, get_or, slice_get, slice_index_or, sum_by, IfSome}
+use Rattle.std.specs.Prelude.{◌≡◌, ◌≢◌, ℕ, ◌+◌, ◌*◌, ◌%◌, ◌^◌, ◌<◌, ◌≤◌, true, false, List, [], ◌∷◌, ◌++◌, length, get_or, slice_get, slice_index_or, IfSome}
 use Rattle.std.specs.declared.option.Option.{Option}
 use Rattle.std.specs.declared.option.Option.TheVariants.{None, Some}
 use Rattle.std.specs.List.{All, Contains}
-use Rattle.std.proofs.Common.{refl, sym, ap, ap₂, subst, ◌∙◌, arith, inl, inr, ⊎_elim, pow_mono, true≢false, lt_of_not-le, eq-eqb}
+use Rattle.std.proofs.Common.{refl, sym, ap, ap₂, subst, ◌∙◌, arith, pow_mono, true≢false, lt_of_not-le}
 use Rattle.std.proofs.Math.Nat.{mod-add-mod}
 use Rattle.std.proofs.Math.Pow.{pow-lt}
 use Rattle.std.proofs.lemmas.Nat.{pow_pos}
@@ -26,10 +26,10 @@ use Rattle.pac_writer.specs.Writing.{IsOver, parts_in}
 use Rattle.frontier_core.specs.Sets.{has}
 use Rattle.frontier_core.specs.Columns.{column_value}
 use Rattle.frontier_core.specs.Frontier.{set_to}
-use Rattle.frontier_core.specs.Pending.{IsNotZero, IsPending, IsTaken, gap}
+use Rattle.frontier_core.specs.Pending.{IsNotZero, IsPending, gap}
 use Rattle.frontier_core.specs.declared.step.Step.TheVariants.{Add}
 use Rattle.frontier_core.specs.Plan.{Taken, step}
-use Rattle.frontier_core.proofs.Gathered.{combined_push, pending_adds_column}
+use Rattle.frontier_core.proofs.Gathered.{combined_push, has_first, has_more, pending_adds_column, taken_adding}
 use Rattle.frontier_core.proofs.LineLemmas.{axioms_are_live}
 use Rattle.frontier_core.proofs.RestLines.{adding_keeps_rest_line}
 use Rattle.column_reducer.specs.declared.gathered.Gathered.{Gathered}
@@ -45,19 +45,6 @@ pub below_exponent : (e : Extended) (t : Table) (k : ℕ) → modulus t ≡ alge
 below_exponent e t k same low =
     lt_of_not-le (λ (h : t.exponent ≤ k).
     let small : 2 ^ t.exponent ≤ 2 ^ k = pow_mono h in let great : 2 ^ k < 2 ^ length e.graph.outputs = pow-lt low in absurd (omega (arith, same)))
-
-or_true : (b c : Bool) → c ≡ true → (b || c) ≡ true
-or_true true c h = refl
-or_true false c h = h
-
-has_more : (k j : ℕ) (xs : List ℕ) → has xs j ≡ true → has (k ∷ xs) j ≡ true
-has_more k j xs h = or_true (k == j) (has xs j) h
-
-has_first : (k : ℕ) (xs : List ℕ) → has (k ∷ xs) k ≡ true
-has_first k xs = ap (λ b. b || has xs k) (eq-eqb k k refl)
-
-taken_more : (e : Extended) (f : Taken) (k id : ℕ) → IsTaken e f id → IsTaken e (step f (Add k)) id
-taken_more e f k id h = ⊎_elim (λ a. inl a) (λ b. inr (b.0, has_more k b.0 f.added b.1, b.2)) h
 
 added_more : (e : Extended) (added : List ℕ) (k : ℕ) (columns : List (ℕ × Sum)) → AreOfAdded e added columns → AreOfAdded e (k ∷ added) columns
 added_more e added k columns h i d low = let one = h i d low in (one.0, has_more k one.0 added one.1, one.2)
@@ -97,7 +84,7 @@ column_kept t e k g kept = record {
         fixed = h.fixed;
         low = h.low;
         pending = (pending_adds_column e s (axioms e).live (value_in t g.total) rest next f (whole t g.power g.parts.items) k o o h.pending old out new (sum o out)).0 refl;
-        products = h.products;
+        of = h.of;
         sum = h.sum;
       };
   count = refl;
@@ -121,7 +108,7 @@ pending_more e s f start more rest next parts k o r old out new sum more_is h =
           let turned : start τ + d * 2 ^ k + c τ ≡ start τ + c τ + 2 ^ k * d = omega arith in
           ap (λ n. (n + c τ) % m) (more_is τ) ∙ mod-add-mod (start τ + d * 2 ^ k) m (c τ) ∙ ap (λ n. n % m) turned ∙ sym (mod-add-mod (start τ + c τ) m (2 ^ k * d)) ∙ ap (λ n. (n + 2 ^ k * d) % m) (h.sum τ)) σ;
       spare = h.spare;
-      taken = λ i d low. taken_more e f k (slice_index_or parts i d).id (h.taken i d low);
+      taken = λ i d low. taken_adding e f k (slice_index_or parts i d).id (h.taken i d low);
     }
 
 columns_pushed : (e : Extended) (t : Table) (added : List ℕ) (k : ℕ) (weight : Sum) (columns : List (ℕ × Sum)) → modulus t ≡ algebra.modulus e → k < length e.graph.outputs → has added k ≡ false → IsLive (axioms e).live (e.max + 1 + k) →
@@ -146,8 +133,8 @@ columns_pushed e t added k weight columns same low new live of weight_is are h =
 pub column_taken : (t0 t1 t2 t : Table) (e : Extended) (k : ℕ) (o r : Lit) (equal weight : Sum) (g more : Gathered) → Extends t0 t1 → Extends t1 t2 → Extends t2 t → IsReplaced e k →
     slice_get e.graph.outputs k ≡ Some o → slice_get (new_outputs e) k ≡ Some r → IsOf t1 equal → IsDifference t1 equal o r → IsOf t2 weight → ((σ : Assignment) → value_in t2 weight σ ≡ 2 ^ k) → IsOf t more.total →
     ((σ : Assignment) → value_in t more.total σ ≡ (value_in t2 g.total σ + value_in t2 equal σ * value_in t2 weight σ) % modulus t2) →
-    more.groups ≡ g.groups → more.columns.items ≡ g.columns.items ++ (e.max + 1 + k, weight) ∷ [] → more.parts ≡ g.parts → more.products ≡ g.products → more.power ≡ g.power → HasColumn t0 t e k g more
-column_taken t0 t1 t2 t e k o r equal weight g more first second third replaced old out of_axiom axiom_is of_weight weight_is of_total total_is groups columns parts products power = record {
+    more.groups ≡ g.groups → more.columns.items ≡ g.columns.items ++ (e.max + 1 + k, weight) ∷ [] → more.parts ≡ g.parts → more.stated ≡ g.stated → more.power ≡ g.power → HasColumn t0 t e k g more
+column_taken t0 t1 t2 t e k o r equal weight g more first second third replaced old out of_axiom axiom_is of_weight weight_is of_total total_is groups columns parts stated power = record {
   gathered = λ s f rest next same made low new sum h0.
       let m = algebra.modulus e in
       let live = (axioms e).live in
@@ -195,8 +182,8 @@ column_taken t0 t1 t2 t e k o r equal weight g more first second third replaced 
         pending = subst (λ ps. IsPending e s live (value_in t more.total) (step f (Add k)) next (whole t more.power ps.items)) (sym parts)
             (subst (λ n. IsPending e s live (value_in t more.total) (step f (Add k)) next (whole t n g.parts.items)) (sym power)
             (pending_more e s f (value_in t g.total) (value_in t more.total) rest next (whole t g.power g.parts.items) k o r old out new (sum r out) total_now h.pending));
-        products = subst (λ ps. All (IsOf t) ps.items) (sym products) h.products;
-        sum = λ σ. ap (λ ps. sum_by (λ p. value_in t p σ) ps.items % m) products ∙ h.sum σ ∙ sym (ap (λ ps. combined m live (parts_in t ps.items) σ % m) parts);
+        of = subst (IsOf t) (sym stated) h.of;
+        sum = λ σ. ap (λ p. value_in t p σ) stated ∙ h.sum σ ∙ sym (ap (λ ps. combined m live (parts_in t ps.items) σ % m) parts);
       };
   count = ap₂ (λ gs ps. length gs.items + one_if_some ps.items) groups parts;
 }

@@ -1,67 +1,89 @@
 -- A gate taken out of a polynomial.
-use Rattle.std.specs.Prelude.{true, false, ◌≡◌, ◌≢◌, ℕ, ◌+◌, ◌*◌, ◌%◌}
-use Rattle.std.specs.declared.option.Option.{Option}
-use Rattle.std.specs.declared.option.Option.TheVariants.{None}
-use Rattle.std.proofs.Common.{sym, ap, ap₂, subst, ◌∙◌, arith}
-use Rattle.std.proofs.Math.Nat.{add-mod-mod, mod-mod}
+use Rattle.std.specs.Prelude.{Bool, true, false, cond, ◌≡◌, ◌==◌, ℕ, ◌+◌, ◌*◌, ◌%◌, ◌^◌, ◌<◌}
+use Rattle.std.specs.declared.option.Option.TheVariants.{None, Some}
+use Rattle.std.proofs.Common.{refl, sym, ap, ap₂, subst, ◌∙◌, arith}
+use Rattle.std.proofs.Math.Nat.{mod-mod, zero-mod}
 use Rattle.std.proofs.Math.Path.{fun_ext}
 use Rattle.std.proofs.lemmas.Nat.{pow_pos}
 use Rattle.graph_core.specs.declared.gate.Gate.{Gate}
 use Rattle.graph_core.specs.Graph.Assignments.{Assignment}
-use Rattle.graph_core.specs.Algebra.NormalForm.{HasSize}
-use Rattle.graph_core.specs.Algebra.Polynomials.{difference, sum_of, value}
-use Rattle.graph_core.proofs.OfGraphs.CallerLemmas.{difference_same}
+use Rattle.graph_core.specs.Algebra.Polynomials.{difference, sum_of}
+use Rattle.graph_core.proofs.OfGraphs.CallerLemmas.{difference_is, difference_same, product_same, sum_same}
 use Rattle.poly_terms.specs.Indexed.{IndexedSum, IsIndexed}
 use Rattle.poly_terms.specs.Tables.{Table, Sum, Extends, IsOf, assigned, modulus, monomials_in, quotient_value, value_in}
-use Rattle.poly_terms.specs.Laws.{extends_on, indexed_stays, modulus_stays, stays, value_stays}
+use Rattle.poly_terms.specs.Laws.{modulus_stays, value_stays}
 use Rattle.frontier_core.specs.Substitution.{gate_value, quotient}
-use Rattle.column_reducer.specs.Gathering.{IsEliminated, IsOpposite, IsTurned}
-use Rattle.column_reducer.proofs.Sizes.{opposite_zero, size_some}
+use Rattle.column_reducer.specs.declared.gate_part.GatePart.{GatePart}
+use Rattle.column_reducer.specs.Gathering.{IsEliminated, IsPart}
+use Rattle.column_reducer.proofs.GateParts.{none_with, opposite_sum}
 
-pub opposite_of : (t0 t1 : Table) (by factor : Sum) (n : ℕ) → HasSize (modulus t0) (value_in t0 by) n → n ≢ 0 → Extends t0 t1 → IsOf t1 factor →
-    ((σ : Assignment) → value_in t1 factor σ ≡ difference (modulus t0) 0 (value_in t0 by σ)) → IsOpposite (modulus t0) t1 (value_in t0 by) factor
-opposite_of t0 t1 by factor n size some grown of minus =
-    let m = modulus t0 in
-    record {
-      of = of;
-      minus = minus;
-      nonzero = λ none. size_some m (value_in t0 by) n size some
-          (λ σ. opposite_zero m (value_in t0 by σ) (pow_pos t0.exponent) (mod-mod (sum_of m (monomials_in t0 by) σ) m)
-          (sym (minus σ) ∙ ap (λ k. value k (monomials_in t1 factor) σ) (modulus_stays t0 t1 grown) ∙ none σ));
-    }
+-- ---- what is taken out
 
--- of another function with the same values, and another modulus that is the same
-turned_same : (m n : ℕ) (t : Table) (f g : Assignment → ℕ) (q : Option Sum) → m ≡ n → ((σ : Assignment) → f σ ≡ g σ) → IsTurned m t f q → IsTurned n t g q
-turned_same m n t f g q same is h = subst (λ k. IsTurned k t g q) same (subst (λ (k : Assignment → ℕ). IsTurned m t k q) (fun_ext is) h)
+false_twice : (v : ℕ) (σ : Assignment) → assigned (assigned σ v false) v false ≡ assigned σ v false
+false_twice v σ = fun_ext (λ u. go (u == v) (σ u))
+  where
+    go : (b c : Bool) → cond b false (cond b false c) ≡ cond b false c
+    go true c = refl
+    go false c = refl
+
+-- what is taken is 0 where the variable is false
+pub taken_false : (t : Table) (v : ℕ) (p taken left : Sum) → ((σ : Assignment) → value_in t left σ ≡ value_in t p (assigned σ v false)) →
+    ((σ : Assignment) → value_in t p σ ≡ (value_in t left σ + value_in t taken σ) % modulus t) → (σ : Assignment) → value_in t taken (assigned σ v false) ≡ 0
+taken_false t v p taken left left_is sum σ =
+    let m = modulus t in
+    let τ : Assignment = assigned σ v false in
+    let a = value_in t p τ in
+    let x = value_in t taken τ in
+    let same : value_in t left τ ≡ a = left_is τ ∙ ap (value_in t p) (false_twice v σ) in
+    let twice : (x + a) % m ≡ a % m =
+    ap (λ n. n % m) (let e : x + a ≡ a + x = omega arith in e) ∙ sym (sum τ ∙ ap (λ n. (n + x) % m) same) ∙ sym (mod-mod (sum_of m (monomials_in t p) τ) m) in
+    sym (mod-mod (sum_of m (monomials_in t taken) τ) m) ∙ sym (difference_is m a a x (pow_pos t.exponent) twice) ∙ difference_same m a (pow_pos t.exponent)
+
+-- ---- what is put back
+
+-- c is minus w, and w times f minus q: so c times g times f is g times q
+turned_product : (m w c f q g o : ℕ) → 0 < m → (c + w) % m ≡ 0 → (w * f) % m ≡ difference m 0 q → o % m ≡ (g * f) % m → (c * o) % m ≡ (g * q) % m
+turned_product m w c f q g o pos opposite minus is =
+    let y = w * (g * f) in
+    let none : ((c + w) * (g * f)) % m ≡ (0 * (g * f)) % m = product_same m (c + w) 0 (g * f) (g * f) (opposite ∙ sym (zero-mod m)) refl in
+    let first : (c * (g * f) + y) % m ≡ 0 = ap (λ n. n % m) (let e : c * (g * f) + y ≡ (c + w) * (g * f) = omega arith in e) ∙ none ∙ ap (λ n. n % m) (let e : 0 * (g * f) ≡ 0 = omega arith in e) ∙ zero-mod m in
+    let turned : (w * f + q) % m ≡ 0 = sum_same m (w * f) (difference m 0 q) q q (sym (mod-mod (w * f) m) ∙ ap (λ n. n % m) minus) refl ∙ none_with m q pos in
+    let second : (g * q + y) % m ≡ 0 =
+    ap (λ n. n % m) (let e : g * q + y ≡ g * (w * f + q) = omega arith in e) ∙ product_same m g g (w * f + q) 0 refl (turned ∙ sym (zero-mod m)) ∙
+    ap (λ n. n % m) (let e : g * 0 ≡ 0 = omega arith in e) ∙ zero-mod m in
+    product_same m c c o (g * f) refl is ∙ sym (opposite_sum m (c * (g * f)) y pos first) ∙ opposite_sum m (g * q) y pos second
+
+part_same : (m : ℕ) (t : Table) (x : Gate) (f g : Assignment → ℕ) (p : GatePart) → ((σ : Assignment) → f σ ≡ g σ) → IsPart m t x f p → IsPart m t x g p
+part_same m t x f g p is h = subst (λ (k : Assignment → ℕ). IsPart m t x k p) (fun_ext is) h
 
 -- the terms with the variable, taken out and put back with the product in its place
-pub eliminated_of : (t0 t1 t2 t3 : Table) (x : Gate) (p taken by more : Sum) (left next : IndexedSum) (q : Option Sum) → Extends t0 t1 → Extends t1 t2 → Extends t2 t3 →
-    IsOf t0 left.sum → IsOf t1 by → IsOf t2 next.sum → IsIndexed t2 next →
+pub eliminated_of : (t0 t1 : Table) (x : Gate) (p taken more : Sum) (left next : IndexedSum) (part : GatePart) (c : ℕ) → Extends t0 t1 → IsOf t0 left.sum → IsOf t1 next.sum → IsIndexed t1 next →
     ((σ : Assignment) → value_in t0 left.sum σ ≡ value_in t0 p (assigned σ x.v false)) → ((σ : Assignment) → quotient_value t0 taken x.v σ ≡ quotient_value t0 p x.v σ) →
-    ((σ : Assignment) → value_in t1 by σ ≡ quotient_value t0 taken x.v σ) → ((σ : Assignment) → value_in t2 more σ ≡ (gate_value x σ * value_in t1 by σ) % modulus t1) →
-    ((σ : Assignment) → value_in t2 next.sum σ ≡ (value_in t2 left.sum σ + value_in t2 more σ) % modulus t2) → IsTurned (modulus t2) t3 (value_in t2 by) q →
-    IsEliminated t0 t3 x p (record { rest = next; factor = q })
-eliminated_of t0 t1 t2 t3 x p taken by more left next q first second third of_left of_by of_next indexed left_is same by_is more_is next_is turned =
+    IsPart (modulus t0) t1 x (quotient_value t0 taken x.v) part → (c + 2 ^ part.power) % modulus t1 ≡ 0 → ((σ : Assignment) → value_in t1 more σ ≡ (c * value_in t1 part.operands σ) % modulus t1) →
+    ((σ : Assignment) → value_in t1 next.sum σ ≡ (value_in t1 left.sum σ + value_in t1 more σ) % modulus t1) → IsEliminated t0 t1 x p (record { rest = next; part = Some part })
+eliminated_of t0 t1 x p taken more left next part c grown of_left of_next indexed left_is same is_part opposite more_is next_is =
     let m = modulus t0 in
-    let m1 : modulus t1 ≡ m = modulus_stays t0 t1 first in
-    let m2 : modulus t2 ≡ m = modulus_stays t1 t2 second ∙ m1 in
-    let quotient_is : (σ : Assignment) → value_in t1 by σ ≡ quotient_value t0 p x.v σ = λ σ. by_is σ ∙ same σ in
+    let m1 : modulus t1 ≡ m = modulus_stays t0 t1 grown in
     record {
-      of = stays t2 t3 next.sum third of_next;
-      indexed = indexed_stays t2 t3 next third of_next indexed;
+      of = of_next;
+      indexed = indexed;
       value = λ σ.
           let free = value_in t0 p (assigned σ x.v false) in
-          value_stays t2 t3 next.sum σ third of_next ∙ next_is σ ∙
-          ap₂ (λ a k. a % k)
-          (ap₂ ◌+◌ (value_stays t0 t2 left.sum σ (extends_on t0 t1 t2 first second) of_left ∙ left_is σ)
-          (more_is σ ∙ ap₂ (λ b k. (gate_value x σ * b) % k) (quotient_is σ) m1)) m2 ∙
-          add-mod-mod free (gate_value x σ * quotient_value t0 p x.v σ) m;
-      factor = turned_same (modulus t2) m t3 (value_in t2 by) (quotient m x.v (value_in t0 p)) q m2 (λ σ. value_stays t1 t2 by σ second of_by ∙ quotient_is σ) turned;
+          let g = gate_value x σ in
+          let f = value_in t1 part.factor σ in
+          let o = value_in t1 part.operands σ in
+          let q = quotient_value t0 p x.v σ in
+          let back : (c * o) % m ≡ (g * q) % m =
+          turned_product m (2 ^ part.power) c f q g o (pow_pos t0.exponent) (ap (λ n. (c + 2 ^ part.power) % n) (sym m1) ∙ opposite) (is_part.minus σ ∙ ap (difference m 0) (same σ))
+          (ap (λ n. n % m) (is_part.operands σ) ∙ mod-mod (g * f) m) in
+          next_is σ ∙ ap₂ (λ a k. a % k) (ap₂ ◌+◌ (value_stays t0 t1 left.sum σ grown of_left ∙ left_is σ) (more_is σ ∙ ap (λ k. (c * o) % k) m1)) m1 ∙
+          sum_same m free free ((c * o) % m) (g * q) refl (mod-mod (c * o) m ∙ back);
+      part = part_same m t1 x (quotient_value t0 taken x.v) (quotient m x.v (value_in t0 p)) part same is_part;
     }
 
 -- no term has the variable
 pub eliminated_none : (t : Table) (x : Gate) (p taken : Sum) (left : IndexedSum) → IsOf t left.sum → IsIndexed t left → ((σ : Assignment) → value_in t left.sum σ ≡ value_in t p (assigned σ x.v false)) →
-    ((σ : Assignment) → quotient_value t taken x.v σ ≡ quotient_value t p x.v σ) → ((σ : Assignment) → value_in t taken σ ≡ 0) → IsEliminated t t x p (record { rest = left; factor = None })
+    ((σ : Assignment) → quotient_value t taken x.v σ ≡ quotient_value t p x.v σ) → ((σ : Assignment) → value_in t taken σ ≡ 0) → IsEliminated t t x p (record { rest = left; part = None })
 eliminated_none t x p taken left of indexed left_is same none =
     let m = modulus t in
     let zero : (σ : Assignment) → quotient_value t p x.v σ ≡ 0 = λ σ.
@@ -74,5 +96,5 @@ eliminated_none t x p taken left of indexed left_is same none =
           sym
           (ap (λ b. (value_in t p (assigned σ x.v false) + gate_value x σ * b) % m) (zero σ) ∙ ap (λ z. z % m) (omega arith) ∙
           mod-mod (sum_of m (monomials_in t p) (assigned σ x.v false)) m);
-      factor = zero;
+      part = zero;
     }

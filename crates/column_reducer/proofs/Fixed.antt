@@ -109,7 +109,7 @@ substituted_fixed e m x f made is fixed v b σ above =
     let gate : gate_value x (set_to v b σ) ≡ gate_value x σ = ap₂ (λ c d. bit c * bit d) (literal_fixed e.max x.left v b σ above reads.0.0) (literal_fixed e.max x.right v b σ above reads.1.0) in
     ap₂ (λ c d. (c + d) % m) (at_value e.max f x.v false low fixed v b σ above) (ap₂ ◌*◌ gate (quotient_fixed e.max m x.v f low fixed v b σ above))
 
-variable_fixed : (max u v : ℕ) (b : Bool) (σ : Assignment) → max < v → u ≤ max → variable (set_to v b σ) u ≡ variable σ u
+pub variable_fixed : (max u v : ℕ) (b : Bool) (σ : Assignment) → max < v → u ≤ max → variable (set_to v b σ) u ≡ variable σ u
 variable_fixed max u v b σ above low = variable_same (set_to v b σ) σ u (set_to-other v b σ u (λ e. absurd (omega arith)))
 
 pub axiom_fixed : (e : Extended) (m : ℕ) (x : Gate) → IsExtension e → Contains e.gates x → IsFixedAbove e.max (gate_axiom m x).value

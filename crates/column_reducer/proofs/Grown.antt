@@ -1,10 +1,9 @@
 -- What is gathered stays so as the table grows.
-use Rattle.std.specs.Prelude.{◌≡◌, ℕ, ◌+◌, ◌*◌, ◌%◌, ◌^◌, ◌<◌, ◌≤◌, false, List, [], ◌∷◌, get_or, slice_index_or, sum_by}
+use Rattle.std.specs.Prelude.{◌≡◌, ℕ, ◌+◌, ◌*◌, ◌%◌, ◌^◌, ◌<◌, ◌≤◌, false, List, [], ◌∷◌, get_or, slice_index_or}
 use Rattle.std.specs.List.{All, AllByRecursion}
 use Rattle.std.proofs.Common.{refl, sym, ap, ap₂, subst, ◌∙◌}
 use Rattle.std.proofs.Math.Path.{fun_ext}
 use Rattle.std.proofs.lemmas.List.Elements.{recursion_from_All}
-use Rattle.std.proofs.lemmas.List.Sums.{sum_by-cons}
 use Rattle.graph_core.specs.Graph.Assignments.{Assignment}
 use Rattle.graph_core.specs.Graph.Operands.{Sides}
 use Rattle.graph_core.specs.Graph.Extended.{Extended}
@@ -103,11 +102,6 @@ whole_parts max t0 t1 k (p ∷ parts) grown h =
 pub whole_stays : (e : Extended) (t0 t1 : Table) (k : ℕ) (parts : List (ℕ × Sum)) → Extends t0 t1 → AreParts e t0 parts → whole t1 k parts ≡ whole t0 k parts
 whole_stays e t0 t1 k parts grown h = whole_parts e.max t0 t1 k parts grown (recursion_from_All (λ p. IsOver e.max t0 p.1) parts h.of)
 
-pub products_sum : (t0 t1 : Table) (ps : List Sum) (σ : Assignment) → Extends t0 t1 → AllByRecursion (IsOf t0) ps → sum_by (λ p. value_in t1 p σ) ps ≡ sum_by (λ p. value_in t0 p σ) ps
-products_sum t0 t1 [] σ grown h = refl
-products_sum t0 t1 (p ∷ ps) σ grown h =
-    sum_by-cons (λ q. value_in t1 q σ) p ps ∙ ap₂ ◌+◌ (value_stays t0 t1 p σ grown h.0) (products_sum t0 t1 ps σ grown h.1) ∙ sym (sum_by-cons (λ q. value_in t0 q σ) p ps)
-
 pub exponent_stays : (t0 t1 : Table) → Extends t0 t1 → t1.exponent ≡ t0.exponent
 unfolding Extends
 exponent_stays t0 t1 grown = grown.0
@@ -125,8 +119,6 @@ gathered_grown e s t0 t1 f rest g grown h =
       low = subst (λ k. g.power < k) (sym (exponent_stays t0 t1 grown)) h.low;
       pending = subst (λ start. IsPending e s live start f rest (whole t1 g.power g.parts.items)) (sym (function_stays t0 t1 g.total grown h.groups.of))
           (subst (IsPending e s live (value_in t0 g.total) f rest) (sym (whole_stays e t0 t1 g.power g.parts.items grown h.parts)) h.pending);
-      products = λ k d low. stays t0 t1 (slice_index_or g.products.items k d) grown (h.products k d low);
-      sum = λ σ.
-          ap (λ z. z % m) (products_sum t0 t1 g.products.items σ grown (recursion_from_All (IsOf t0) g.products.items h.products)) ∙ h.sum σ ∙
-          ap (λ ps. combined m live ps σ % m) (sym told);
+      of = stays t0 t1 g.stated grown h.of;
+      sum = λ σ. value_stays t0 t1 g.stated σ grown h.of ∙ h.sum σ ∙ ap (λ ps. combined m live ps σ % m) (sym told);
     }

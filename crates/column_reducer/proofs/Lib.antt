@@ -1,5 +1,6 @@
 pub mod PieceValues
 pub mod Sizes
+pub mod GateParts
 pub mod Eliminations
 pub mod Grown
 pub mod Taken

@@ -1,6 +1,6 @@
 -- What is gathered before the first step, after a part was taken, and after a group was ended.
-use Rattle.std.specs.Prelude.{◌≡◌, ◌≢◌, ℕ, ◌+◌, ◌*◌, ◌%◌, ◌^◌, ◌<◌, ◌≤◌, true, false, List, [], ◌∷◌, ◌++◌, map, length, suc, sum_by, IfSome}
-use Rattle.std.specs.List.{All, AllByRecursion, AllPairs, Contains}
+use Rattle.std.specs.Prelude.{◌≡◌, ◌≢◌, ℕ, ◌+◌, ◌*◌, ◌%◌, ◌^◌, ◌<◌, ◌≤◌, true, false, List, [], ◌∷◌, ◌++◌, map, length, suc, IfSome}
+use Rattle.std.specs.List.{AllByRecursion, AllPairs, Contains}
 use Rattle.std.specs.declared.option.Option.{Option}
 use Rattle.std.specs.declared.option.Option.TheVariants.{None, Some}
 use Rattle.std.proofs.Common.{length-append, refl, sym, ap, ap₂, subst, ◌∙◌, arith}
@@ -8,7 +8,6 @@ use Rattle.std.proofs.Math.Nat.{zero-mod, mod-mod, mod-add-mod}
 use Rattle.std.proofs.Math.Path.{fun_ext}
 use Rattle.std.proofs.lemmas.List.Elements.{All-contains, All-from_recursion, All-push, recursion_from_All}
 use Rattle.std.proofs.lemmas.List.Kept.{AllPairs-cons}
-use Rattle.std.proofs.lemmas.List.Sums.{sum_by-append, sum_by-cons}
 use Rattle.std.proofs.lemmas.Nat.{pow_pos}
 use Rattle.graph_core.specs.declared.gate.Gate.{Gate}
 use Rattle.graph_core.specs.declared.literal.Lit.{Lit}
@@ -17,12 +16,14 @@ use Rattle.graph_core.specs.Graph.Operands.{Sides}
 use Rattle.graph_core.specs.Graph.Extended.{Extended}
 use Rattle.graph_core.specs.Algebra.{LiveLine, Part, IsLive, axioms, combined, gate_axiom, value_of}
 use Rattle.graph_core.specs.Algebra as algebra
-use Rattle.graph_core.specs.Algebra.Polynomials.{difference, product, sum_of, value}
+use Rattle.graph_core.specs.Algebra.Polynomials.{difference, product, value}
+use Rattle.graph_core.proofs.OfAlgebra.CallerLemmas.{modulus_pos}
 use Rattle.graph_core.proofs.OfGraphs.CallerLemmas.{product_same, sum_same}
 use Rattle.frontier_core.specs.Frontier.{set_to}
 use Rattle.pac_writer.specs.Writing.{IsOver, parts_in}
 use Rattle.poly_terms.specs.Tables.{Table, Sum, Extends, IsOf, modulus, monomials_in, value_in, variables_in}
 use Rattle.poly_terms.specs.Entries.{total}
+use Rattle.poly_terms.proofs.Indexing.{table_once, zero_of, zero-value}
 use Rattle.poly_terms.proofs.Values.{value-total}
 use Rattle.poly_text.specs.Lines.{part_in}
 use Rattle.poly_terms.specs.Laws.{extends_on, modulus_stays, stays, value_stays}
@@ -36,12 +37,14 @@ use Rattle.frontier_core.specs.RestLine.{partial_specification}
 use Rattle.frontier_core.proofs.Gathered.{combined_push, pending_eliminates, pending_starts}
 use Rattle.frontier_core.proofs.LineLemmas.{axioms_are_live}
 use Rattle.frontier_core.proofs.PlainOrders.{gates_had}
-use Rattle.frontier_core.proofs.RestLines.{rest_line_starts}
+use Rattle.frontier_core.proofs.RestLines.{difference_small, rest_line_starts}
+use Rattle.column_reducer.specs.declared.gate_part.GatePart.{GatePart}
 use Rattle.column_reducer.specs.declared.gathered.Gathered.{Gathered}
 use Rattle.column_reducer.specs.declared.gathered.Group.{Group}
-use Rattle.column_reducer.specs.Gathering.{AreColumns, AreGroups, AreOfAdded, AreParts, HasPart, HasPower, HasTaken, IsEndedGroup, IsFixedAbove, IsGathered, IsGroup, IsNext, IsTurned, Settles, groups_sum, one_if_some, times, whole}
-use Rattle.column_reducer.proofs.Fixed.{axiom_fixed, fixed_over, over_fixed, over_same, quotient_fixed, same_fixed}
-use Rattle.column_reducer.proofs.Grown.{gathered_grown, over_grown, products_sum}
+use Rattle.column_reducer.specs.Gathering.{AreColumns, AreGroups, AreOfAdded, AreParts, HasPart, HasPower, HasTaken, IsEndedGroup, IsFixedAbove, IsGathered, IsGroup, IsLeft, IsNext, IsPart, IsPartOf, Settles, groups_sum, one_if_some, times, whole}
+use Rattle.column_reducer.proofs.Fixed.{axiom_fixed, fixed_over, over_fixed, quotient_fixed, same_fixed}
+use Rattle.column_reducer.proofs.Grown.{gathered_grown, over_grown}
+use Rattle.column_reducer.proofs.Sizes.{opposite_zero}
 
 -- ---- factors that are 2^k times as great
 
@@ -130,8 +133,8 @@ no_groups e t total of none = record {
 
 -- no part is open, and the ended groups state the gap
 nothing_open : (e : Extended) (s : Sides) (t : Table) (f : Taken) (rest : Assignment → ℕ) (g : Gathered) → AreGroups e t g.groups.items g.columns.items g.total → AreOfAdded e f.added g.columns.items →
-    ((σ : Assignment) → value_in t g.total σ ≡ gap e s f.added rest σ) → g.power < t.exponent → g.parts.items ≡ [] → g.products.items ≡ [] → IsGathered e s t f rest g
-nothing_open e s t f rest g groups added is low parts products =
+    ((σ : Assignment) → value_in t g.total σ ≡ gap e s f.added rest σ) → g.power < t.exponent → g.parts.items ≡ [] → g.stated ≡ [] → IsGathered e s t f rest g
+nothing_open e s t f rest g groups added is low parts stated =
     let m = algebra.modulus e in
     let live = (axioms e).live in
     record {
@@ -142,16 +145,16 @@ nothing_open e s t f rest g groups added is low parts products =
       low = low;
       pending = subst (λ ps. IsPending e s live (value_in t g.total) f rest (whole t g.power ps)) (sym parts)
           (subst (λ (h : Assignment → ℕ). IsPending e s live h f rest []) (sym (fun_ext is)) (pending_starts e s live f rest));
-      products = subst (All (IsOf t)) (sym products) (λ k d low. absurd (omega arith));
-      sum = λ σ. ap (λ ps. sum_by (λ p. value_in t p σ) ps % m) products ∙ sym (ap (λ ps. combined m live (parts_in t ps) σ % m) parts);
+      of = subst (IsOf t) (sym stated) (zero_of t (table_once t g.total groups.of));
+      sum = λ σ. ap (λ p. value_in t p σ) stated ∙ zero-value t σ ∙ sym (ap (λ ps. combined m live (parts_in t ps) σ % m) parts ∙ zero-mod m);
     }
 
-pub gathered_first : (e : Extended) (s : Sides) (t : Table) (rest : Assignment → ℕ) (g : Gathered) → g.groups.items ≡ [] → g.columns.items ≡ [] → g.parts.items ≡ [] → g.products.items ≡ [] → g.power < t.exponent → IsOf t g.total →
+pub gathered_first : (e : Extended) (s : Sides) (t : Table) (rest : Assignment → ℕ) (g : Gathered) → g.groups.items ≡ [] → g.columns.items ≡ [] → g.parts.items ≡ [] → g.stated ≡ [] → g.power < t.exponent → IsOf t g.total →
     ((σ : Assignment) → value_in t g.total σ ≡ 0) → ((σ : Assignment) → rest σ ≡ 0) → IsGathered e s t nothing rest g
-gathered_first e s t rest g groups columns parts products low of none rest_none =
+gathered_first e s t rest g groups columns parts stated low of none rest_none =
     nothing_open e s t nothing rest g (subst (λ gs. AreGroups e t gs g.columns.items g.total) (sym groups) (subst (λ cs. AreGroups e t [] cs g.total) (sym columns) (no_groups e t g.total of none)))
     (subst (AreOfAdded e []) (sym columns) (λ k d low'. absurd (omega arith)))
-    (λ σ. none σ ∙ rest_line_starts e s (λ τ. 0) rest (λ τ. refl) rest_none σ) low parts products
+    (λ σ. none σ ∙ rest_line_starts e s (λ τ. 0) rest (λ τ. refl) rest_none σ) low parts stated
 
 -- the same groups and columns' parts
 pub groups_moved : (e : Extended) (t : Table) (g more : Gathered) → more.groups ≡ g.groups → more.columns ≡ g.columns → more.total ≡ g.total → AreGroups e t g.groups.items g.columns.items g.total →
@@ -189,36 +192,37 @@ pub none_taken : (e : Extended) (s : Sides) (t : Table) (f : Taken) (rest next :
     IsGathered e s t f rest g → IsGathered e s t (step f (Eliminate x.v)) next g
 none_taken e s t f rest next g x is next_is none h =
     let law = pending_eliminates e s (axioms e).live (value_in t g.total) rest next f (whole t g.power g.parts.items) x h.pending (above_zero e f x is) (within e f x is) is.new next_is in
-    record { groups = h.groups; added = h.added; parts = h.parts; fixed = h.fixed; low = h.low; pending = law.0 none; products = h.products; sum = h.sum }
+    record { groups = h.groups; added = h.added; parts = h.parts; fixed = h.fixed; low = h.low; pending = law.0 none; of = h.of; sum = h.sum }
 
--- a factor of which 2^k times is minus the quotient
-pub part_taken : (e : Extended) (s : Sides) (t0 t : Table) (f : Taken) (rest next full : Assignment → ℕ) (g more : Gathered) (x : Gate) (factor : Sum) → IsNext e f x → modulus t0 ≡ algebra.modulus e → Extends t0 t →
-    ((σ : Assignment) → next σ ≡ substituted (algebra.modulus e) x.v (gate_value x) rest σ) → IsOver e.max t0 factor → ((σ : Assignment) → (2 ^ g.power * value_in t0 factor σ) % modulus t0 ≡ full σ) →
-    ((σ : Assignment) → full σ ≡ difference (algebra.modulus e) 0 (quotient (algebra.modulus e) x.v rest σ)) → (((σ : Assignment) → full σ ≡ 0) → ⊥) →
-    HasPart t0 t x factor g more → IsGathered e s t0 f rest g → IsGathered e s t (step f (Eliminate x.v)) next more
-part_taken e s t0 t f rest next full g more x factor is same grown next_is over divided full_is nonzero has h0 =
+-- a part that is divided by the open group's power
+pub part_taken : (e : Extended) (s : Sides) (t0 t : Table) (f : Taken) (rest next : Assignment → ℕ) (g more : Gathered) (x : Gate) (p : GatePart) → IsNext e f x → modulus t0 ≡ algebra.modulus e → Extends t0 t →
+    IsFixedAbove e.max rest → ((σ : Assignment) → next σ ≡ substituted (algebra.modulus e) x.v (gate_value x) rest σ) → IsPart (algebra.modulus e) t0 x (quotient (algebra.modulus e) x.v rest) p → g.power ≡ p.power →
+    HasPart t x p g more → IsGathered e s t f rest g → IsGathered e s t (step f (Eliminate x.v)) next more
+part_taken e s t0 t f rest next g more x p is same grown fixed next_is is_part power has h =
     let m = algebra.modulus e in
     let live = (axioms e).live in
     let k = g.power in
-    let h = gathered_grown e s t0 t f rest g grown h0 in
+    let factor = p.factor in
+    let low = within e f x is in
     let here : modulus t ≡ m = modulus_stays t0 t grown ∙ same in
+    let over : IsOver e.max t0 factor = over_fixed e.max t0 factor is_part.of.factor (is_part.fixed e.max low (quotient_fixed e.max m x.v rest low fixed)) in
     let over_now : IsOver e.max t factor = over_grown e.max t0 t factor grown over in
     let part : Part = record { id = x.v; factor = monomials_in t (times (2 ^ k) factor) } in
     let axiom_live = (axioms_are_live e is.made).0 x is.gate in
-    let law = pending_eliminates e s live (value_in t g.total) rest next f (whole t k g.parts.items) x h.pending (above_zero e f x is) (within e f x is) is.new next_is in
-    let part_is : (σ : Assignment) → value m (monomials_in t (times (2 ^ k) factor)) σ ≡ full σ = λ σ.
+    let law = pending_eliminates e s live (value_in t g.total) rest next f (whole t k g.parts.items) x h.pending (above_zero e f x is) low is.new next_is in
+    let part_is : (σ : Assignment) → value m (monomials_in t (times (2 ^ k) factor)) σ ≡ difference m 0 (quotient m x.v rest σ) = λ σ.
     ap (λ n. value n (monomials_in t (times (2 ^ k) factor)) σ) (sym here) ∙ times_value t (2 ^ k) factor σ ∙
-    ap₂ (λ n v. (2 ^ k * v) % n) (modulus_stays t0 t grown) (value_stays t0 t factor σ grown over.0) ∙ divided σ in
-    let pending = law.1 part refl axiom_live.0 axiom_live.1 (λ σ. part_is σ ∙ full_is σ) (λ none. nonzero (λ σ. sym (part_is σ) ∙ none σ)) in
+    ap₂ (λ n v. (2 ^ k * v) % n) here (value_stays t0 t factor σ grown over.0) ∙ ap (λ j. (2 ^ j * value_in t0 factor σ) % m) power ∙ is_part.minus σ in
+    let some : IsNotZero m (monomials_in t (times (2 ^ k) factor)) = λ none. is_part.nonzero
+    (λ σ. opposite_zero m (quotient m x.v rest σ) (modulus_pos e) (difference_small m (rest (set_to x.v true σ)) (rest (set_to x.v false σ)) (modulus_pos e)) (sym (part_is σ) ∙ none σ)) in
+    let pending = law.1 part refl axiom_live.0 axiom_live.1 part_is some in
     let line : (σ : Assignment) → combined m live (parts_in t more.parts.items) σ ≡ combined m live (parts_in t g.parts.items) σ + value_of live x.v σ * value m (monomials_in t factor) σ = λ σ.
     ap (λ ps. combined m live (parts_in t ps) σ) has.parts ∙ ap (λ ps. combined m live ps σ) (part_pushed t g.parts.items (x.v, factor)) ∙
     combined_push m live (parts_in t g.parts.items) (record { id = x.v; factor = monomials_in t factor }) σ in
     let factor_is : (σ : Assignment) → value m (monomials_in t factor) σ ≡ value_in t factor σ = λ σ. ap (λ n. value n (monomials_in t factor) σ) (sym here) in
-    let product_is : (σ : Assignment) → value_in t has.product σ % m ≡ (value_of live x.v σ * value m (monomials_in t factor) σ) % m = λ σ.
-    ap (λ n. n % m)
-    (has.value σ ∙ ap₂ (λ n v. ((gate_axiom n x).value σ * v) % n) same (sym (value_stays t0 t factor σ grown over.0) ∙ sym (factor_is σ)) ∙
-    ap (λ a. (a * value m (monomials_in t factor) σ) % m) (sym (axiom_live.1 σ))) ∙
-    mod-mod (value_of live x.v σ * value m (monomials_in t factor) σ) m in
+    let product_is : (σ : Assignment) → (value_in t p.operands σ + value_in t p.variable σ) % m ≡ (value_of live x.v σ * value m (monomials_in t factor) σ) % m = λ σ.
+    ap (λ n. n % m) (ap₂ ◌+◌ (value_stays t0 t p.operands σ grown is_part.of.operands) (value_stays t0 t p.variable σ grown is_part.of.variable)) ∙ is_part.product σ ∙
+    ap₂ (λ a v. (a * v) % m) (sym (axiom_live.1 σ)) (sym (value_stays t0 t factor σ grown over.0) ∙ sym (factor_is σ)) in
     record {
       groups = groups_moved e t g more has.groups has.columns has.total h.groups;
       added = subst (AreOfAdded e f.added) (sym (ap (λ v. v.items) has.columns)) h.added;
@@ -231,14 +235,14 @@ part_taken e s t0 t f rest next full g more x factor is same grown next_is over 
       pending = subst (λ n. IsPending e s live (value_in t more.total) (step f (Eliminate x.v)) next (whole t n more.parts.items)) (sym has.power)
           (subst (λ total. IsPending e s live (value_in t total) (step f (Eliminate x.v)) next (whole t k more.parts.items)) (sym has.total)
           (subst (IsPending e s live (value_in t g.total) (step f (Eliminate x.v)) next) (sym (ap (whole t k) has.parts ∙ whole_pushed t k g.parts.items (x.v, factor))) pending));
-      products = subst (All (IsOf t)) (sym has.products) (All-push (IsOf t) g.products.items has.product h.products has.of);
+      of = has.of;
       sum = λ σ.
-          let F : Sum → ℕ = λ p. value_in t p σ in
-          let old = sum_by F g.products.items in
-          ap (λ ps. sum_by F ps % m) has.products ∙ ap (λ n. n % m) (sum_by-append F g.products.items (has.product ∷ []) ∙ ap (λ n. old + n) (sum_by-cons F has.product [])) ∙
-          ap (λ n. n % m) (let e1 : old + (F has.product + 0) ≡ old + F has.product = omega arith in e1) ∙
-          sum_same m old (combined m live (parts_in t g.parts.items) σ) (F has.product) (value_of live x.v σ * value m (monomials_in t factor) σ) (h.sum σ) (product_is σ) ∙
-          ap (λ n. n % m) (sym (line σ));
+          let old = value_in t g.stated σ in
+          let o = value_in t p.operands σ in
+          let d = value_in t p.variable σ in
+          let c = combined m live (parts_in t g.parts.items) σ in
+          has.stated σ ∙ ap (λ n. ((old + o) % n + d) % n) here ∙ mod-add-mod (old + o) m d ∙ ap (λ n. n % m) (let e1 : old + o + d ≡ old + (o + d) = omega arith in e1) ∙
+          sum_same m old c (o + d) (value_of live x.v σ * value m (monomials_in t factor) σ) (ap (λ n. n % m) (h.sum σ) ∙ mod-mod c m) (product_is σ) ∙ ap (λ n. n % m) (sym (line σ));
     }
 
 -- ---- a group ended
@@ -249,17 +253,17 @@ sum_more t (h ∷ gs) g σ = omega (arith, sum_more t gs g σ)
 
 pub ended : (e : Extended) (s : Sides) (t : Table) (f : Taken) (rest : Assignment → ℕ) (g more : Gathered) (poly weight : Sum) → modulus t ≡ algebra.modulus e →
     IsFixedAbove e.max (gap e s f.added rest) → 0 < length g.parts.items → IsOf t poly → IsOf t weight → IsOf t more.total → ((σ : Assignment) → value_in t weight σ ≡ 2 ^ g.power) →
-    ((σ : Assignment) → value_in t poly σ ≡ sum_by (λ p. value_in t p σ) g.products.items % modulus t) →
+    ((σ : Assignment) → value_in t poly σ ≡ value_in t g.stated σ) →
     ((σ : Assignment) → value_in t more.total σ ≡ (value_in t g.total σ + value_in t poly σ * value_in t weight σ) % modulus t) →
-    more.groups.items ≡ g.groups.items ++ record { parts = g.parts; poly = poly; weight = weight } ∷ [] → more.columns ≡ g.columns → more.parts.items ≡ [] → more.products.items ≡ [] →
+    more.groups.items ≡ g.groups.items ++ record { parts = g.parts; poly = poly; weight = weight } ∷ [] → more.columns ≡ g.columns → more.parts.items ≡ [] → more.stated ≡ [] →
     more.power ≡ g.power → IsGathered e s t f rest g → IsGathered e s t f rest more
-ended e s t f rest g more poly weight same fixed some of_poly of_weight of_total weight_is poly_is total_is groups columns parts products power h =
+ended e s t f rest g more poly weight same fixed some of_poly of_weight of_total weight_is poly_is total_is groups columns parts stated power h =
     let m = algebra.modulus e in
     let live = (axioms e).live in
     let w = 2 ^ g.power in
     let group : Group = record { parts = g.parts; poly = poly; weight = weight } in
     let c : Assignment → ℕ = combined m live (parts_in t g.parts.items) in
-    let states : (σ : Assignment) → value_in t poly σ ≡ c σ % m = λ σ. poly_is σ ∙ ap (λ n. sum_by (λ p. value_in t p σ) g.products.items % n) same ∙ h.sum σ in
+    let states : (σ : Assignment) → value_in t poly σ ≡ c σ % m = λ σ. poly_is σ ∙ h.sum σ in
     let adds : (σ : Assignment) → value_in t more.total σ ≡ (value_in t g.total σ + value_in t poly σ * value_in t weight σ) % m = λ σ.
     total_is σ ∙ ap (λ n. (value_in t g.total σ + value_in t poly σ * value_in t weight σ) % n) same in
     let weighs : (σ : Assignment) → (value_in t poly σ * value_in t weight σ) % m ≡ combined m live (whole t g.power g.parts.items) σ % m = λ σ.
@@ -288,12 +292,12 @@ ended e s t f rest g more poly weight same fixed some of_poly of_weight of_total
           ap (λ z. (z + value_in t poly σ * value_in t weight σ) % m) (h.groups.sum σ) ∙ sym (adds σ);
     } in
     nothing_open e s t f rest more (subst (λ gs. AreGroups e t gs more.columns.items more.total) (sym groups) (subst (λ cs. AreGroups e t (g.groups.items ++ group ∷ []) cs.items more.total) (sym columns) all))
-    (subst (λ cs. AreOfAdded e f.added cs.items) (sym columns) h.added) now (subst (λ n. n < t.exponent) (sym power) h.low) parts products
+    (subst (λ cs. AreOfAdded e f.added cs.items) (sym columns) h.added) now (subst (λ n. n < t.exponent) (sym power) h.low) parts stated
 
 -- another power, where no group is open
 pub repowered : (e : Extended) (s : Sides) (t : Table) (f : Taken) (rest : Assignment → ℕ) (g more : Gathered) (k : ℕ) → more.groups ≡ g.groups → more.columns ≡ g.columns → more.total ≡ g.total → more.parts ≡ g.parts →
-    more.products ≡ g.products → more.power ≡ k → k ≤ g.power → g.parts.items ≡ [] → IsGathered e s t f rest g → IsGathered e s t f rest more
-repowered e s t f rest g more k groups columns total parts products power low none h =
+    more.stated ≡ g.stated → more.power ≡ k → k ≤ g.power → g.parts.items ≡ [] → IsGathered e s t f rest g → IsGathered e s t f rest more
+repowered e s t f rest g more k groups columns total parts stated power low none h =
     let live = (axioms e).live in
     let is : more.parts.items ≡ [] = ap (λ v. v.items) parts ∙ none in
     let old = h.low in
@@ -305,8 +309,8 @@ repowered e s t f rest g more k groups columns total parts products power low no
       low = omega arith;
       pending = subst (λ ps. IsPending e s live (value_in t more.total) f rest (whole t more.power ps)) (sym is)
           (subst (λ u. IsPending e s live (value_in t u) f rest []) (sym total) (subst (λ ps. IsPending e s live (value_in t g.total) f rest (whole t g.power ps)) none h.pending));
-      products = subst (All (IsOf t)) (sym (ap (λ v. v.items) products)) h.products;
-      sum = λ σ. ap (λ v. sum_by (λ p. value_in t p σ) v.items % algebra.modulus e) products ∙ h.sum σ ∙
+      of = subst (IsOf t) (sym stated) h.of;
+      sum = λ σ. ap (λ p. value_in t p σ) stated ∙ h.sum σ ∙
           sym (ap (λ v. combined (algebra.modulus e) live (parts_in t v.items) σ % algebra.modulus e) parts);
     }
 
@@ -321,17 +325,17 @@ none_known e s σ = ap (λ z. z % algebra.modulus e) (none_added (algebra.modulu
 -- ---- what calls answer
 
 pub settled_itself : (t : Table) (g : Gathered) → Settles t t g g
-settled_itself t g = record { gathered = λ e s f rest same fixed h. h; count = omega arith }
+settled_itself t g = record { gathered = λ e s f rest same fixed h. h; of = λ h. h; count = omega arith }
 
 pub ended_itself : (t : Table) (g : Gathered) → g.parts.items ≡ [] → IsEndedGroup t t g g
 ended_itself t g none = record { settles = settled_itself t g; none = none; power = refl }
 
 pub group_ended : (t0 t1 t2 t3 : Table) (g more : Gathered) (poly weight : Sum) → Extends t0 t1 → Extends t1 t2 → Extends t2 t3 → 0 < length g.parts.items → IsOf t1 poly → IsOf t2 weight → IsOf t3 more.total →
-    ((σ : Assignment) → value_in t1 poly σ ≡ sum_by (λ p. value_in t0 p σ) g.products.items % modulus t0) → ((σ : Assignment) → value_in t2 weight σ ≡ 2 ^ g.power) →
+    ((σ : Assignment) → value_in t1 poly σ ≡ value_in t0 g.stated σ) → ((σ : Assignment) → value_in t2 weight σ ≡ 2 ^ g.power) →
     ((σ : Assignment) → value_in t3 more.total σ ≡ (value_in t2 g.total σ + value_in t2 poly σ * value_in t2 weight σ) % modulus t2) →
-    more.groups.items ≡ g.groups.items ++ record { parts = g.parts; poly = poly; weight = weight } ∷ [] → more.columns ≡ g.columns → more.parts.items ≡ [] → more.products.items ≡ [] →
+    more.groups.items ≡ g.groups.items ++ record { parts = g.parts; poly = poly; weight = weight } ∷ [] → more.columns ≡ g.columns → more.parts.items ≡ [] → more.stated ≡ [] →
     more.power ≡ g.power → IsEndedGroup t0 t3 g more
-group_ended t0 t1 t2 t3 g more poly weight first second third some of_poly of_weight of_total poly_is weight_is total_is groups columns parts products power = record {
+group_ended t0 t1 t2 t3 g more poly weight first second third some of_poly of_weight of_total poly_is weight_is total_is groups columns parts stated power = record {
   settles = record {
     gathered = λ e s f rest same fixed h.
         let all = extends_on t0 t1 t3 first (extends_on t1 t2 t3 second third) in
@@ -340,11 +344,11 @@ group_ended t0 t1 t2 t3 g more poly weight first second third some of_poly of_we
         let late = extends_on t1 t2 t3 second third in
         ended e s t3 f rest g more poly weight (modulus_stays t0 t3 all ∙ same) fixed some (stays t1 t3 poly late of_poly) (stays t2 t3 weight third of_weight) of_total
         (λ σ. value_stays t2 t3 weight σ third of_weight ∙ weight_is σ)
-        (λ σ. value_stays t1 t3 poly σ late of_poly ∙ poly_is σ ∙
-        ap₂ ◌%◌ (sym (products_sum t0 t3 g.products.items σ all (recursion_from_All (IsOf t0) g.products.items h.products))) (sym (modulus_stays t0 t3 all)))
+        (λ σ. value_stays t1 t3 poly σ late of_poly ∙ poly_is σ ∙ sym (value_stays t0 t3 g.stated σ all h.of))
         (λ σ. total_is σ ∙ ap₂ ◌%◌ (ap₂ ◌+◌ (sym (value_stays t2 t3 g.total σ third (stays t0 t2 g.total to2 h.groups.of)))
         (ap₂ ◌*◌ (sym (value_stays t2 t3 poly σ third (stays t1 t2 poly second of_poly))) (sym (value_stays t2 t3 weight σ third of_weight)))) (sym (modulus_stays t2 t3 third)))
-        groups columns parts products power grown;
+        groups columns parts stated power grown;
+    of = λ h. subst (IsOf t3) (sym stated) (zero_of t3 (table_once t3 more.total of_total));
     count =
         let one : one_if_some g.parts.items ≡ 1 = counted g.parts.items some in
         let none : one_if_some more.parts.items ≡ 0 = ap one_if_some parts in
@@ -361,12 +365,13 @@ group_ended t0 t1 t2 t3 g more poly weight first second third some of_poly of_we
     counted (p ∷ ps) h = refl
 
 pub power_set : (t0 t : Table) (g mid more : Gathered) (k : ℕ) → IsEndedGroup t0 t g mid → more.groups ≡ mid.groups → more.columns ≡ mid.columns → more.total ≡ mid.total → more.parts ≡ mid.parts →
-    more.products ≡ mid.products → more.power ≡ k → k ≤ g.power →
+    more.stated ≡ mid.stated → more.power ≡ k → k ≤ g.power →
     HasPower t0 t k g more
-power_set t0 t g mid more k h groups columns total parts products power low = record {
+power_set t0 t g mid more k h groups columns total parts stated power low = record {
   settles = record {
     gathered = λ e s f rest same fixed old. let same_power = h.power in
-        repowered e s t f rest mid more k groups columns total parts products power (omega arith) h.none (h.settles.gathered e s f rest same fixed old);
+        repowered e s t f rest mid more k groups columns total parts stated power (omega arith) h.none (h.settles.gathered e s f rest same fixed old);
+    of = λ old. subst (IsOf t) (sym stated) (h.settles.of old);
     count = let count = h.settles.count in let a = ap (λ v. length v.items) groups in let b = ap (λ v. one_if_some v.items) parts in omega arith;
   };
   power = power;
@@ -378,21 +383,11 @@ power_itself t g k is = record { settles = settled_itself t g; power = sym is }
 pub taken_none : (t : Table) (x : Gate) (g : Gathered) → HasTaken t t x None g g
 taken_none t x g = record { gathered = λ e s f rest next same is fixed gap_is next_is turned h. none_taken e s t f rest next g x is next_is turned h; count = omega arith }
 
--- a factor of which 2^k times is the whole, over the same monomials or of the same table
-pub factor_taken : (t0 t1 t : Table) (x : Gate) (full factor : Sum) (g mid more : Gathered) (k : ℕ) → Extends t0 t1 → Extends t1 t → IsOf t0 full → IsOf t0 factor →
-    ((σ : Assignment) → (2 ^ k * value_in t0 factor σ) % modulus t0 ≡ value_in t0 full σ) → map (λ y. y.variables) (monomials_in t0 factor) ≡ map (λ y. y.variables) (monomials_in t0 full) →
-    HasPower t0 t1 k g mid → HasPart t1 t x factor mid more → HasTaken t0 t x (Some full) g more
-factor_taken t0 t1 t x full factor g mid more k first second of_full of_factor divided along has part = record {
-  gathered = λ e s f rest next same is fixed gap_is next_is turned h.
-      let m = algebra.modulus e in
-      let over_full : IsOver e.max t0 full = over_fixed e.max t0 full of_full
-      (same_fixed e.max (value_in t0 full) (λ σ. difference m 0 (quotient m x.v rest σ)) turned.minus
-      (λ v b σ above. ap (difference m 0) (quotient_fixed e.max m x.v rest (within e f x is) fixed v b σ above))) in
-      let over : IsOver e.max t1 factor = over_grown e.max t0 t1 factor first (over_same e.max t0 full factor of_factor along over_full) in
-      let here = has.settles.gathered e s f rest same gap_is h in
-      part_taken e s t1 t f rest next (value_in t0 full) mid more x factor is (modulus_stays t0 t1 first ∙ same) second next_is over
-      (λ σ. ap₂ (λ p n. (2 ^ p * value_in t1 factor σ) % n) has.power (modulus_stays t0 t1 first) ∙ ap (λ v. (2 ^ k * v) % modulus t0) (value_stays t0 t1 factor σ first of_factor) ∙ divided σ)
-      turned.minus (λ none. turned.nonzero (λ σ. ap (λ n. value n (monomials_in t0 full) σ) (sym same) ∙ none σ)) part here;
+-- a part, where the open group has its power
+pub taken_part : (t0 t : Table) (x : Gate) (p : GatePart) (g mid more : Gathered) → Extends t0 t → HasPower t0 t p.power g mid → HasPart t x p mid more → HasTaken t0 t x (Some p) g more
+taken_part t0 t x p g mid more grown has part = record {
+  gathered = λ e s f rest next same is fixed gap_is next_is left h.
+      part_taken e s t0 t f rest next mid more x p is same grown fixed next_is left has.power part (has.settles.gathered e s f rest same gap_is h);
   count =
       let count = has.settles.count in
       let groups = ap (λ v. length v.items) part.groups in
@@ -404,10 +399,6 @@ factor_taken t0 t1 t x full factor g mid more k first second of_full of_factor d
     at_most_one [] = omega arith
     at_most_one (p ∷ ps) = omega arith
 
--- one times a factor is the factor
-pub undivided : (t : Table) (p : Sum) (σ : Assignment) → (2 ^ 0 * value_in t p σ) % modulus t ≡ value_in t p σ
-undivided t p σ = ap (λ n. n % modulus t) (let e : 2 ^ 0 * value_in t p σ ≡ value_in t p σ = omega arith in e) ∙ mod-mod (sum_of (modulus t) (monomials_in t p) σ) (modulus t)
-
 pub settled_ended : (t0 t : Table) (g r : Gathered) → IsEndedGroup t0 t g r → Settles t0 t g r
 settled_ended t0 t g r h = h.settles
 
@@ -418,6 +409,20 @@ pub gathered_somewhere : (e : Extended) (s : Sides) (t0 t : Table) (f : Taken) (
 gathered_somewhere e s t0 t f rest None grown h = tt
 gathered_somewhere e s t0 t f rest (Some g) grown h = (e, s, f, rest, gathered_grown e s t0 t f rest g grown h)
 
-pub turned_of : (m : ℕ) (t : Table) (by : Assignment → ℕ) (q : Option Sum) → IsTurned m t by q → IfSome q (IsOf t)
-turned_of m t by None h = tt
-turned_of m t by (Some q) h = h.of
+pub left_of : (m : ℕ) (t : Table) (x : Gate) (by : Assignment → ℕ) (q : Option GatePart) → IsLeft m t x by q → IfSome q (IsPartOf t)
+left_of m t x by None h = tt
+left_of m t x by (Some q) h = h.of
+
+pub low_in : (most : ℕ) (o : Option Gathered) (q : Option GatePart) → IfSome o (λ g. most ≡ g.power) → IfSome q (λ p. p.power ≤ most) → IfSome o (λ g. IfSome q (λ p. p.power ≤ g.power))
+low_in most None q is low = tt
+low_in most (Some g) None is low = tt
+low_in most (Some g) (Some p) is low = omega (arith, is, low)
+
+pub most_below : (e : Extended) (s : Sides) (t : Table) (f : Taken) (rest : Assignment → ℕ) (most : ℕ) (o : Option Gathered) → 0 < t.exponent → (o ≡ None → most ≡ 0) → IfSome o (λ g. most ≡ g.power) →
+    IfSome o (IsGathered e s t f rest) → most < t.exponent
+most_below e s t f rest most None some none is h = omega (arith, none refl, some)
+most_below e s t f rest most (Some g) some none is h = omega (arith, is, h.low)
+
+-- a part in a table that has grown
+pub part_grown : (t0 t : Table) (p : GatePart) → Extends t0 t → IsPartOf t0 p → IsPartOf t p
+part_grown t0 t p grown h = record { factor = stays t0 t p.factor grown h.factor; operands = stays t0 t p.operands grown h.operands; variable = stays t0 t p.variable grown h.variable }

@@ -29,9 +29,10 @@ use Rattle.frontier_core.proofs.PlainOrders.{length-outputs_from}
 use Rattle.frontier_core.proofs.FrontierSteps.{adding_adds_column, first_frontier}
 use Rattle.frontier_core.proofs.Substituting.{eliminating_substitutes}
 use Rattle.column_reducer.specs.declared.elimination.Elimination.{Elimination}
+use Rattle.column_reducer.specs.declared.gate_part.GatePart.{GatePart}
 use Rattle.column_reducer.specs.declared.gathered.Gathered.{Gathered}
 use Rattle.column_reducer.specs.declared.walk.Walk.{Walk}
-use Rattle.column_reducer.specs.Gathering.{HasColumnIn, HasEnded, HasTakenIn, IsEliminated, IsEndedGroup, IsFixedAbove, IsGathered, IsNext, IsTurned, IsWalked, Settles, group_count}
+use Rattle.column_reducer.specs.Gathering.{HasColumnIn, HasEnded, HasTakenIn, IsEliminated, IsEndedGroup, IsFixedAbove, IsGathered, IsLeft, IsNext, IsWalked, Settles, group_count}
 use Rattle.column_reducer.proofs.Columns.{column_in, few_columns}
 use Rattle.column_reducer.proofs.Fixed.{column_fixed, gap_fixed, partial_fixed, same_fixed, substituted_fixed}
 use Rattle.column_reducer.proofs.Grown.{function_stays, gathered_grown}
@@ -108,26 +109,26 @@ walk_added e s t0 t1 t f w k column rest more made read low first second of inde
 
 -- ---- a gate
 
-taken_in : (e : Extended) (s : Sides) (t0 t1 t : Table) (f : Taken) (p next : Sum) (g more : Option Gathered) (x : Gate) (q : Option Sum) → IsNext e f x → modulus t0 ≡ algebra.modulus e → Extends t0 t1 → Extends t1 t → IsOf t0 p →
+taken_in : (e : Extended) (s : Sides) (t0 t1 t : Table) (f : Taken) (p next : Sum) (g more : Option Gathered) (x : Gate) (q : Option GatePart) → IsNext e f x → modulus t0 ≡ algebra.modulus e → Extends t0 t1 → Extends t1 t → IsOf t0 p →
     IsOf t1 next → IsFixedAbove e.max (value_in t0 p) → IsFixedAbove e.max (gap e s f.added (value_in t0 p)) → ((σ : Assignment) → value_in t1 next σ ≡ substituted (modulus t0) x.v (gate_value x) (value_in t0 p) σ) →
-    IsTurned (modulus t0) t1 (quotient (modulus t0) x.v (value_in t0 p)) q →
+    IsLeft (modulus t0) t1 x (quotient (modulus t0) x.v (value_in t0 p)) q →
     HasTakenIn t1 t x q g more → IfSome g (IsGathered e s t0 f (value_in t0 p)) → IfSome more (IsGathered e s t (step f (Eliminate x.v)) (value_in t next))
-taken_in e s t0 t1 t f p next None None x q is same first second of_p of_next fixed gap_is next_is turned takes h = tt
-taken_in e s t0 t1 t f p next None (Some more) x q is same first second of_p of_next fixed gap_is next_is turned takes h = cc
-taken_in e s t0 t1 t f p next (Some g) None x q is same first second of_p of_next fixed gap_is next_is turned takes h = absurd takes
-taken_in e s t0 t1 t f p next (Some g) (Some more) x q is same first second of_p of_next fixed gap_is next_is turned takes h =
+taken_in e s t0 t1 t f p next None None x q is same first second of_p of_next fixed gap_is next_is left takes h = tt
+taken_in e s t0 t1 t f p next None (Some more) x q is same first second of_p of_next fixed gap_is next_is left takes h = cc
+taken_in e s t0 t1 t f p next (Some g) None x q is same first second of_p of_next fixed gap_is next_is left takes h = absurd takes
+taken_in e s t0 t1 t f p next (Some g) (Some more) x q is same first second of_p of_next fixed gap_is next_is left takes h =
     takes.gathered e s f (value_in t0 p) (value_in t next) (modulus_stays t0 t1 first ∙ same) is fixed gap_is
     (λ σ. value_stays t1 t next σ second of_next ∙ next_is σ ∙ ap (λ m. substituted m x.v (gate_value x) (value_in t0 p) σ) same)
-    (subst (λ m. IsTurned m t1 (quotient m x.v (value_in t0 p)) q) same turned) (gathered_grown e s t0 t1 f (value_in t0 p) g first h)
+    (subst (λ m. IsLeft m t1 x (quotient m x.v (value_in t0 p)) q) same left) (gathered_grown e s t0 t1 f (value_in t0 p) g first h)
 
-few_in : (n : ℕ) (t0 t : Table) (x : Gate) (q : Option Sum) (g more : Option Gathered) → HasTakenIn t0 t x q g more → IfSome g (λ k. group_count k ≤ n) → IfSome more (λ k. group_count k ≤ suc n)
+few_in : (n : ℕ) (t0 t : Table) (x : Gate) (q : Option GatePart) (g more : Option Gathered) → HasTakenIn t0 t x q g more → IfSome g (λ k. group_count k ≤ n) → IfSome more (λ k. group_count k ≤ suc n)
 few_in n t0 t x q None None takes h = tt
 few_in n t0 t x q None (Some more) takes h = cc
 few_in n t0 t x q (Some g) None takes h = absurd takes
 few_in n t0 t x q (Some g) (Some more) takes h = let count = takes.count in omega arith
 
 pub walk_eliminated : (e : Extended) (s : Sides) (t0 t1 t : Table) (f : Taken) (w : Walk) (more : Option Gathered) (x : Gate) (r : Elimination) → IsExtension e → Contains e.gates x → Extends t0 t1 → Extends t1 t →
-    IsEliminated t0 t1 x w.rest.sum r → HasTakenIn t1 t x r.factor w.gathered more →
+    IsEliminated t0 t1 x w.rest.sum r → HasTakenIn t1 t x r.part w.gathered more →
     IsFrontierOf e f → has f.eliminated x.v ≡ false → IsWalked e s t0 f w → IsWalked e s t (step f (Eliminate x.v)) (walk_of r.rest more)
 walk_eliminated e s t0 t1 t f w more x r made is first second by takes frontier new h =
     let next : IsNext e f x = record { made = made; gate = is; new = new } in
@@ -141,9 +142,9 @@ walk_eliminated e s t0 t1 t f w more x r made is first second by takes frontier 
       fixed = same_fixed e.max (value_in t r.rest.sum) (substituted (modulus t0) x.v (gate_value x) (value_in t0 w.rest.sum)) (λ σ. there σ ∙ by.value σ)
           (substituted_fixed e (modulus t0) x (value_in t0 w.rest.sum) made is h.fixed);
       known = h.known;
-      gathered = taken_in e s t0 t1 t f w.rest.sum r.rest.sum w.gathered more x r.factor next h.same_modulus first second h.of by.of h.fixed
-          (gap_fixed e s f.added (value_in t0 w.rest.sum) h.known h.fixed) by.value by.factor takes h.gathered;
-      few = few_in (length f.eliminated) t1 t x r.factor w.gathered more takes h.few;
+      gathered = taken_in e s t0 t1 t f w.rest.sum r.rest.sum w.gathered more x r.part next h.same_modulus first second h.of by.of h.fixed
+          (gap_fixed e s f.added (value_in t0 w.rest.sum) h.known h.fixed) by.value by.part takes h.gathered;
+      few = few_in (length f.eliminated) t1 t x r.part w.gathered more takes h.few;
     }
 
 -- ---- between steps

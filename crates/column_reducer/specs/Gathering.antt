@@ -1,5 +1,5 @@
 -- What the loop over a plan's steps keeps: the frontier's function, and what lines are to state.
-use Rattle.std.specs.Prelude.{Bool, ◌≡◌, ◌≢◌, ℕ, ◌+◌, ◌*◌, ◌%◌, ◌^◌, ◌<◌, ◌≤◌, true, false, List, [], ◌∷◌, map, ◌++◌, length, slice_get, IfSome, IsSome, sum_by}
+use Rattle.std.specs.Prelude.{Bool, ◌≡◌, ◌≢◌, ℕ, ◌+◌, ◌*◌, ◌%◌, ◌^◌, ◌<◌, ◌≤◌, true, false, List, [], ◌∷◌, map, ◌++◌, length, slice_get, IfSome, IsSome}
 use Rattle.std.specs.declared.option.Option.{Option}
 use Rattle.std.specs.declared.option.Option.TheVariants.{None, Some}
 use Rattle.std.specs.List.{All, AllPairs, Contains}
@@ -24,6 +24,7 @@ use Rattle.frontier_core.specs.RestLine.{partial_specification}
 use Rattle.pac_writer.specs.Writing.{IsOver, Made, ledger_of, parts_in}
 use Rattle.frontier_core.specs.Substitution.{gate_value, quotient, substituted}
 use Rattle.column_reducer.specs.declared.elimination.Elimination.{Elimination}
+use Rattle.column_reducer.specs.declared.gate_part.GatePart.{GatePart}
 use Rattle.column_reducer.specs.declared.gathered.Gathered.{Gathered}
 use Rattle.column_reducer.specs.declared.gathered.Group.{Group}
 use Rattle.column_reducer.specs.declared.walk.Walk.{Walk}
@@ -42,23 +43,33 @@ IsFixedAbove max f = (v : ℕ) (b : Bool) (σ : Assignment) → max < v → f (s
 
 -- ---- one gate
 
--- Minus a function, as a polynomial that isn't 0 everywhere.
-pub record IsOpposite (m : ℕ) (t : Table) (by : Assignment → ℕ) (factor : Sum) : Type 0 where
-  pub of : IsOf t factor
-  pub minus : (σ : Assignment) → value_in t factor σ ≡ difference m 0 (by σ)
-  pub nonzero : IsNotZero m (monomials_in t factor)
+-- A part whose polynomials are of the table.
+pub record IsPartOf (t : Table) (p : GatePart) : Type 0 where
+  pub factor : IsOf t p.factor
+  pub operands : IsOf t p.operands
+  pub variable : IsOf t p.variable
+
+-- What is left of a gate's terms: 2^power times the factor is minus a function that isn't 0 everywhere, and what the operands and the variable make of
+-- the factor adds up to the gate's axiom times it.
+pub record IsPart (m : ℕ) (t : Table) (x : Gate) (by : Assignment → ℕ) (p : GatePart) : Type 0 where
+  pub of : IsPartOf t p
+  pub minus : (σ : Assignment) → (2 ^ p.power * value_in t p.factor σ) % m ≡ difference m 0 (by σ)
+  pub nonzero : ((σ : Assignment) → by σ ≡ 0) → ⊥
+  pub operands : (σ : Assignment) → value_in t p.operands σ ≡ (gate_value x σ * value_in t p.factor σ) % m
+  pub product : (σ : Assignment) → (value_in t p.operands σ + value_in t p.variable σ) % m ≡ ((gate_axiom m x).value σ * value_in t p.factor σ) % m
+  pub fixed : (max : ℕ) → x.v ≤ max → IsFixedAbove max by → IsFixedAbove max (value_in t p.factor)
 
 -- none where the function is 0 everywhere
-abbrev pub IsTurned : ℕ → Table → (Assignment → ℕ) → Option Sum → Type 0
-IsTurned m t by None = (σ : Assignment) → by σ ≡ 0
-IsTurned m t by (Some factor) = IsOpposite m t by factor
+abbrev pub IsLeft : ℕ → Table → Gate → (Assignment → ℕ) → Option GatePart → Type 0
+IsLeft m t x by None = (σ : Assignment) → by σ ≡ 0
+IsLeft m t x by (Some p) = IsPart m t x by p
 
--- A polynomial with the product of a gate's operands in place of its variable, with its index, and minus the quotient by it.
+-- A polynomial with the product of a gate's operands in place of its variable, with its index, and what is left of the terms that had it.
 pub record IsEliminated (t0 t1 : Table) (x : Gate) (p : Sum) (r : Elimination) : Type 0 where
   pub of : IsOf t1 r.rest.sum
   pub indexed : IsIndexed t1 r.rest
   pub value : (σ : Assignment) → value_in t1 r.rest.sum σ ≡ substituted (modulus t0) x.v (gate_value x) (value_in t0 p) σ
-  pub factor : IsTurned (modulus t0) t1 (quotient (modulus t0) x.v (value_in t0 p)) r.factor
+  pub part : IsLeft (modulus t0) t1 x (quotient (modulus t0) x.v (value_in t0 p)) r.part
 
 -- ---- groups
 
@@ -111,8 +122,8 @@ pub record AreGroups (e : Extended) (t : Table) (gs : List Group) (columns : Lis
   pub sum : (σ : Assignment) →
       (groups_sum t gs σ + combined (algebra.modulus e) (axioms e).live (parts_in t columns) σ) % algebra.modulus e ≡ value_in t total σ
 
--- The sum of the ended groups and the columns' parts, and 2^k times the open one's parts are the gap at the frontier with this function; the products are the
--- parts' axioms times their factors.
+-- The sum of the ended groups and the columns' parts, and 2^k times the open one's parts are the gap at the frontier with this function; the open group states
+-- the sum of the parts' axioms times their factors.
 pub record IsGathered (e : Extended) (s : Sides) (t : Table) (f : Taken) (rest : Assignment → ℕ) (g : Gathered) : Type 0 where
   pub groups : AreGroups e t g.groups.items g.columns.items g.total
   pub added : AreOfAdded e f.added g.columns.items
@@ -120,9 +131,8 @@ pub record IsGathered (e : Extended) (s : Sides) (t : Table) (f : Taken) (rest :
   pub fixed : IsFixedAbove e.max (combined (algebra.modulus e) (axioms e).live (parts_in t g.parts.items))
   pub low : g.power < t.exponent
   pub pending : IsPending e s (axioms e).live (value_in t g.total) f rest (whole t g.power g.parts.items)
-  pub products : All (IsOf t) g.products.items
-  pub sum : (σ : Assignment) → sum_by (λ p. value_in t p σ) g.products.items % algebra.modulus e ≡
-      combined (algebra.modulus e) (axioms e).live (parts_in t g.parts.items) σ % algebra.modulus e
+  pub of : IsOf t g.stated
+  pub sum : (σ : Assignment) → value_in t g.stated σ ≡ combined (algebra.modulus e) (axioms e).live (parts_in t g.parts.items) σ % algebra.modulus e
 
 -- 1 for a list that has something, else 0
 abbrev pub one_if_some : List (ℕ × Sum) → ℕ
@@ -137,6 +147,7 @@ group_count g = length g.groups.items + one_if_some g.parts.items
 pub record Settles (t0 t1 : Table) (old new : Gathered) : Type 0 where
   pub gathered : (e : Extended) (s : Sides) (f : Taken) (rest : Assignment → ℕ) → modulus t0 ≡ algebra.modulus e → IsFixedAbove e.max (gap e s f.added rest) →
       IsGathered e s t0 f rest old → IsGathered e s t1 f rest new
+  pub of : IsOf t0 old.stated → IsOf t1 new.stated
   pub count : group_count new ≤ group_count old
 
 -- No group is open any more.
@@ -151,16 +162,15 @@ pub record HasPower (t0 t1 : Table) (k : ℕ) (old new : Gathered) : Type 0 wher
   pub power : new.power ≡ k
 
 -- The open group takes a part over the axiom of a gate.
-pub record HasPart (t0 t1 : Table) (x : Gate) (factor : Sum) (old new : Gathered) : Type 0 where
-  pub product : Sum
+pub record HasPart (t : Table) (x : Gate) (p : GatePart) (old new : Gathered) : Type 0 where
   pub groups : new.groups ≡ old.groups
   pub columns : new.columns ≡ old.columns
   pub total : new.total ≡ old.total
   pub power : new.power ≡ old.power
-  pub parts : new.parts.items ≡ old.parts.items ++ (x.v, factor) ∷ []
-  pub products : new.products.items ≡ old.products.items ++ product ∷ []
-  pub of : IsOf t1 product
-  pub value : (σ : Assignment) → value_in t1 product σ ≡ ((gate_axiom (modulus t0) x).value σ * value_in t0 factor σ) % modulus t0
+  pub parts : new.parts.items ≡ old.parts.items ++ (x.v, p.factor) ∷ []
+  pub of : IsOf t new.stated
+  pub stated : (σ : Assignment) → value_in t new.stated σ ≡
+      ((value_in t old.stated σ + value_in t p.operands σ) % modulus t + value_in t p.variable σ) % modulus t
 
 -- A gate that may be eliminated next.
 pub record IsNext (e : Extended) (f : Taken) (x : Gate) : Type 0 where
@@ -168,12 +178,12 @@ pub record IsNext (e : Extended) (f : Taken) (x : Gate) : Type 0 where
   pub gate : Contains e.gates x
   pub new : has f.eliminated x.v ≡ false
 
--- The gate's part is taken: a factor that is minus the quotient by its variable, if that isn't 0.
-pub record HasTaken (t0 t1 : Table) (x : Gate) (q : Option Sum) (old new : Gathered) : Type 0 where
+-- The gate's part is taken, if its variable's quotient isn't 0.
+pub record HasTaken (t0 t1 : Table) (x : Gate) (q : Option GatePart) (old new : Gathered) : Type 0 where
   pub gathered : (e : Extended) (s : Sides) (f : Taken) (rest next : Assignment → ℕ) → modulus t0 ≡ algebra.modulus e → IsNext e f x →
       IsFixedAbove e.max rest → IsFixedAbove e.max (gap e s f.added rest) →
       ((σ : Assignment) → next σ ≡ substituted (algebra.modulus e) x.v (gate_value x) rest σ) →
-      IsTurned (algebra.modulus e) t0 (quotient (algebra.modulus e) x.v rest) q →
+      IsLeft (algebra.modulus e) t0 x (quotient (algebra.modulus e) x.v rest) q →
       IsGathered e s t0 f rest old → IsGathered e s t1 (step f (Eliminate x.v)) next new
   pub count : group_count new ≤ group_count old + 1
 
@@ -199,7 +209,7 @@ pub record IsWalked (e : Extended) (s : Sides) (t : Table) (f : Taken) (w : Walk
   pub few : IfSome w.gathered (λ g. group_count g ≤ length f.eliminated)
 
 -- the same, if what is gathered is kept
-abbrev pub HasTakenIn : Table → Table → Gate → Option Sum → Option Gathered → Option Gathered → Type 0
+abbrev pub HasTakenIn : Table → Table → Gate → Option GatePart → Option Gathered → Option Gathered → Type 0
 HasTakenIn t0 t1 x q None r = r ≡ None
 HasTakenIn t0 t1 x q (Some g) None = ⊥
 HasTakenIn t0 t1 x q (Some g) (Some more) = HasTaken t0 t1 x q g more

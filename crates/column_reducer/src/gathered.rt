@@ -9,17 +9,15 @@ ghost use Rattle.graph_core.specs.Graph.Operands.{Sides};
 ghost use Rattle.poly_terms.specs.Tables.{Extends, IsOf, modulus, value_in};
 ghost use Rattle.frontier_core.specs.Plan.{Taken, nothing};
 ghost use Rattle.column_reducer.specs.Gathering.{HasColumn, HasPart, HasPower, HasTaken, IsEndedGroup};
-ghost use Rattle.column_reducer.specs.Gathering.{IsGathered, group_count};
+ghost use Rattle.column_reducer.specs.Gathering.{IsGathered, IsPartOf, group_count};
 
+use crate::gate_part::GatePart;
 use crate::pieces::{power_poly, zero_poly};
-use gate_axioms::{equal_poly, times_axiom};
+use gate_axioms::equal_poly;
 use graph_core::{Gate, Memory};
-use poly_terms::{Poly, Terms};
+use poly_terms::{Poly, PolySum, Terms};
 use ripple_graft::Extended as ExtendedGraph;
 use std::alloc::Global;
-
-// So many columns share a line: a power of two that parts are divided by is a multiple of it.
-const COLUMNS: u32 = 4;
 
 /// Parts of a line, the polynomial that they add up to, and the number with which a last line takes this one.
 #[derive(Debug, Drop)]
@@ -39,8 +37,8 @@ pub(crate) struct Gathered {
     pub(crate) total: Poly,
     /// parts that are divided by 2^power
     pub(crate) parts: Vec<(u64, Poly)>,
-    /// each part's axiom times its factor
-    pub(crate) products: Vec<Poly>,
+    /// the sum of each part's axiom times its factor
+    pub(crate) stated: PolySum,
     pub(crate) power: u32,
     /// how many monomials the open group's factors have
     pub(crate) pending: u64,
@@ -64,57 +62,34 @@ impl Gathered {
             columns: Vec::new(alloc),
             total,
             parts: Vec::new(alloc),
-            products: Vec::new(alloc),
+            stated: PolySum::new(alloc),
             power,
             pending: 0,
             ended: 0,
         })
     }
 
-    /// Takes a part over the axiom of a gate, if there is a factor. It is divided by a power of two that divides the
-    /// factors of the open group too; where that has to be a lesser one, a group begins.
+    /// Takes a part over the axiom of a gate, if there is one. Where it is divided by a lesser power of two than those
+    /// of the open group, a group begins.
     pub(crate) fn take(
         self,
         alloc: Global,
         terms: &mut Terms,
         gate: &Gate,
-        factor: Option<Poly>,
+        part: Option<GatePart>,
     ) -> Result<Gathered, Memory>
-        requires factor { IfSome factor (IsOf terms.old) }
+        requires of { IfSome part (IsPartOf terms.old) }
+        requires low { IfSome part (λ p. p.power ≤ self.power) }
         requires gathered { (e : Extended) × (s : Sides) × (f : Taken) × (rest : Assignment → ℕ) ×
             IsGathered e s terms.old f rest self }
         ensures extends { Extends terms.old terms.new }
-        ensures taken { IfOk result (HasTaken terms.old terms.new gate.now factor self) }
+        ensures taken { IfOk result (HasTaken terms.old terms.new gate.now part self) }
     {
-        match factor {
+        match part {
             None => Ok(self),
-            Some(factor) => self.take_factor(alloc, terms, gate, factor),
-        }
-    }
-
-    fn take_factor(
-        self,
-        alloc: Global,
-        terms: &mut Terms,
-        gate: &Gate,
-        factor: Poly,
-    ) -> Result<Gathered, Memory>
-        requires factor { IsOf terms.old factor }
-        requires gathered { (e : Extended) × (s : Sides) × (f : Taken) × (rest : Assignment → ℕ) ×
-            IsGathered e s terms.old f rest self }
-        ensures extends { Extends terms.old terms.new }
-        ensures taken { IfOk result (HasTaken terms.old terms.new gate.now (Some factor) self) }
-    {
-        let _exponent = terms.exponent();
-        let power = common_power(terms, &factor, self.power);
-        match terms.divided(&factor, power)? {
             Some(part) => {
-                let gathered = self.with_power(alloc, terms, power)?;
-                gathered.push(alloc, terms, gate, part)
-            }
-            None => {
-                let gathered = self.with_power(alloc, terms, 0)?;
-                gathered.push(alloc, terms, gate, factor)
+                let gathered = self.with_power(alloc, terms, part.power)?;
+                gathered.push(terms, gate, part)
             }
         }
     }
@@ -135,23 +110,17 @@ impl Gathered {
         Ok(ended)
     }
 
-    // Takes a part that is divided.
-    fn push(
-        self,
-        alloc: Global,
-        terms: &mut Terms,
-        gate: &Gate,
-        factor: Poly,
-    ) -> Result<Gathered, Memory>
-        requires { IsOf terms.old factor }
-        ensures extends { Extends terms.old terms.new }
-        ensures part { IfOk result (HasPart terms.old terms.new gate.now factor self) }
+    // Takes a part that is divided by the open group's power.
+    fn push(self, terms: &Terms, gate: &Gate, part: GatePart) -> Result<Gathered, Memory>
+        requires of { IsPartOf terms.now part }
+        requires stated { IsOf terms.now self.stated }
+        ensures { IfOk result (HasPart terms.now gate.now part self) }
     {
         let mut gathered = self;
-        let product = times_axiom(alloc, terms, &factor, gate)?;
-        gathered.products.push(product)?;
-        gathered.pending = gathered.pending.saturating_add(terms.size(&factor));
-        gathered.parts.push((u64::from(gate.v), factor))?;
+        gathered.stated.add(terms, &part.operands)?;
+        gathered.stated.add(terms, &part.variable)?;
+        gathered.pending = gathered.pending.saturating_add(terms.size(&part.factor));
+        gathered.parts.push((u64::from(gate.v), part.factor))?;
         Ok(gathered)
     }
 
@@ -198,12 +167,12 @@ impl Gathered {
             columns,
             total,
             parts,
-            products,
+            mut stated,
             power,
             pending,
             ended,
         } = self;
-        let poly = terms.add_all(&products)?;
+        let poly = stated.take(terms)?;
         let weight = power_poly(alloc, terms, power)?;
         let total = terms.combine(&total, &poly, &weight)?;
         groups.push(Group {
@@ -216,25 +185,10 @@ impl Gathered {
             columns,
             total,
             parts: Vec::new(alloc),
-            products: Vec::new(alloc),
+            stated,
             power,
             pending: 0,
             ended: ended.saturating_add(pending),
         })
     }
-}
-
-// The greatest power up to this one by which a factor can be divided, as a multiple of `COLUMNS`, if it isn't this one.
-fn common_power(terms: &Terms, factor: &Poly, most: u32) -> u32
-    requires { IsOf terms.now factor.now }
-    ensures { result ≤ most }
-{
-    let mut power = most;
-    for i in 0..terms.size(factor) {
-        power = power.min(terms.coefficient(factor, i).trailing_zeros());
-    }
-    if power == most {
-        return most;
-    }
-    power / COLUMNS * COLUMNS
 }

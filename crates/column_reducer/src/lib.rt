@@ -16,6 +16,7 @@
 
 mod elimination;
 mod frontier_walk;
+mod gate_part;
 mod gathered;
 mod group_lines;
 mod pieces;

@@ -77,6 +77,15 @@ pub(crate) fn opposite(terms: &Terms, p: &Poly) -> Result<Poly, Memory>
     terms.multiple(p, less.value())
 }
 
+// Minus 2^k, for k below the exponent of the modulus.
+pub(crate) fn minus_power(terms: &Terms, k: u32) -> u128
+    requires { k < terms.now.exponent }
+    ensures { (result + 2 ^ k) % modulus terms.now ≡ 0 }
+{
+    let exponent = terms.exponent();
+    Residue::new(exponent, 1 << k).neg().value()
+}
+
 fn minus_one(terms: &Terms) -> Residue
     ensures width { result.width ≡ terms.now.exponent }
     ensures value { (result.value + 1) % modulus terms.now ≡ 0 }

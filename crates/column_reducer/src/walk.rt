@@ -14,9 +14,10 @@ ghost use Rattle.poly_terms.specs.Tables.{Extends, IsOf, modulus, value_in};
 ghost use Rattle.frontier_core.specs.Plan.{CanFollow, IsFrontierOf, Taken, nothing, step};
 ghost use Rattle.frontier_core.specs.Sets.{has};
 ghost use Rattle.frontier_core.specs.declared.step.Step.TheVariants as steps;
-ghost use Rattle.column_reducer.specs.Gathering.{HasColumnIn, HasTakenIn, IsGathered, IsOutcome, IsWalked};
+ghost use Rattle.column_reducer.specs.Gathering.{HasColumnIn, HasTakenIn, IsGathered, IsOutcome, IsPartOf, IsWalked};
 
 use crate::elimination::eliminate;
+use crate::gate_part::GatePart;
 use crate::gathered::Gathered;
 use crate::plan::Plan;
 use crate::settling::settle;
@@ -207,9 +208,11 @@ impl Walk {
             IsWalked extended.now s terms.new (step f (steps.Eliminate gate.v)) w) }
     {
         let _gates = extended.gates();
+        let _exponent = terms.exponent();
         let Walk { rest, gathered } = self;
-        let out = eliminate(alloc, terms, rest, &gate)?;
-        let gathered = gather(alloc, terms, gathered, &gate, out.factor)?;
+        let most = open_power(&gathered);
+        let out = eliminate(alloc, terms, rest, &gate, most)?;
+        let gathered = gather(alloc, terms, gathered, &gate, out.part)?;
         Ok(Walk {
             rest: out.rest,
             gathered,
@@ -283,24 +286,36 @@ impl Walk {
 
 ghost use Rattle.column_reducer.specs.Gathering.{HasEnded};
 
-// Gathers a part, if there is a factor and what is gathered is kept.
+// The power of two by which parts of the open group are divided: none where nothing is gathered.
+fn open_power(gathered: &Option<Gathered>) -> u32
+    ensures none { gathered.now ≡ None → result ≡ 0 }
+    ensures some { IfSome gathered.now (λ g. result ≡ g.power) }
+{
+    match gathered {
+        None => 0,
+        Some(gathered) => gathered.power,
+    }
+}
+
+// Gathers a part, if there is one and what is gathered is kept.
 fn gather(
     alloc: Global,
     terms: &mut Terms,
     gathered: Option<Gathered>,
     gate: &Gate,
-    factor: Option<Poly>,
+    part: Option<GatePart>,
 ) -> Result<Option<Gathered>, Memory>
-    requires factor { IfSome factor (IsOf terms.old) }
+    requires of { IfSome part (IsPartOf terms.old) }
+    requires low { IfSome gathered (λ g. IfSome part (λ p. p.power ≤ g.power)) }
     requires gathered { IfSome gathered (λ g. (e : ExtendedGraph) × (s : Sides) × (f : Taken) ×
         (rest : Assignment → ℕ) × IsGathered e s terms.old f rest g) }
     ensures extends { Extends terms.old terms.new }
-    ensures taken { IfOk result (HasTakenIn terms.old terms.new gate.now factor gathered) }
+    ensures taken { IfOk result (HasTakenIn terms.old terms.new gate.now part gathered) }
 {
     match gathered {
         None => Ok(None),
         Some(gathered) => {
-            let taken = gathered.take(alloc, terms, gate, factor)?;
+            let taken = gathered.take(alloc, terms, gate, part)?;
             Ok(Some(taken))
         }
     }

@@ -27,7 +27,7 @@ positive : (n : ℕ) → n ≢ 0 → 0 < n
 positive n some = omega arith
 
 -- a number's coefficient once one was put
-put_cases : (old mid new : List ℕ) (n c : ℕ) → IsLonger old mid → n < length mid → new ≡ set mid n c → (j : ℕ) →
+pub put_cases : (old mid new : List ℕ) (n c : ℕ) → IsLonger old mid → n < length mid → new ≡ set mid n c → (j : ℕ) →
     ((j ≡ n) × (get_or new j 0 ≡ c)) ⊎ ((j ≢ n) × (get_or new j 0 ≡ get_or old j 0))
 put_cases old mid new n c longer within put j =
     ⊎_elim

@@ -21,4 +21,5 @@ pub mod Placed
 pub mod Sparse
 pub mod Entering
 pub mod Indexing
+pub mod PolySums
 pub mod Scaled

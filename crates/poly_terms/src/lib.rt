@@ -3,7 +3,7 @@
 //! Each call that makes a polynomial says its value at every assignment; `equals` is true exactly where two
 //! polynomials agree at every assignment, and `size` counts the monomials of the one normal form. A table only
 //! grows: an older polynomial keeps its values. `Indexed` is a polynomial that changes in place, and from which the
-//! terms with a variable are taken out in their own number's time. Nothing but the calls that make or change a
+//! terms with a variable are taken out in their own number's time, `PolySum` a sum of many. Nothing but the calls that make or change a
 //! polynomial takes memory.
 //!
 //! *Value*: that of the monomials in the table, modulo its modulus. *Of the table*: in normal form there, as each
@@ -31,6 +31,7 @@ mod numbering;
 mod parts;
 mod places;
 mod poly;
+mod poly_sum;
 mod quotient;
 mod scaling;
 mod substitution;
@@ -42,6 +43,7 @@ mod variables;
 
 pub use indexed::Indexed;
 pub use poly::Poly;
+pub use poly_sum::PolySum;
 pub use sum_of_products::SumOfProducts;
 pub use table_laws::{
     indexes_stay, modulus_stays, monomials_are_normal, tables_extend, values_stay,

@@ -1,7 +1,8 @@
+use Rattle.std.proofs.Common.{arith}
 use Rattle.poly_terms.specs.Tables.{modulus, value_in}
-use Rattle.poly_terms.specs.Laws.{extends_itself}
-use Rattle.column_reducer.proofs.Eliminations.{eliminated_none, eliminated_of}
-use Rattle.column_reducer.proofs.Sizes.{size_none}
+use Rattle.column_reducer.proofs.Eliminations.{eliminated_none, eliminated_of, taken_false}
+use Rattle.column_reducer.proofs.Grown.{exponent_stays}
+use Rattle.column_reducer.proofs.Sizes.{size_none, size_some}
 use Rattle.column_reducer.proofs.elimination.eliminate.Goals as goal
 
 pub returns-then-size-eq0-clause-eliminated : goal.returns-then-size-eq0-clause-eliminated
@@ -11,10 +12,22 @@ returns-then-size-eq0-clause-eliminated c =
     eliminated_none t c.args.gate.now c.args.rest.sum taken c.take.new.self c.in_ok-taken.ensures.of c.in_ok-taken.ensures.indexed c.in_ok-taken.ensures.rest c.in_ok-taken.ensures.quotient
     (size_none (modulus t) (value_in t taken) c.size.result c.size.ensures.size c.if-size-eq0.true)
 
+pub of-requires-clause-all : goal.of-requires-clause-all
+of-requires-clause-all c =
+    taken_false c.args.terms.now c.args.gate.now.v c.args.rest.sum c.in_ok-taken.taken c.take.new.self.sum c.in_ok-taken.ensures.rest c.in_ok-taken.ensures.sum
+
+pub of-requires-clause-some : goal.of-requires-clause-some
+of-requires-clause-some c =
+    let t = c.args.terms.now in
+    size_some (modulus t) (value_in t c.in_ok-taken.taken) c.size.result c.size.ensures.size c.if-size-eq0.false
+
+pub minus_power-requires : goal.minus_power-requires
+minus_power-requires c =
+    let same = exponent_stays c.args.terms.now c.of.new.terms c.in_ok-part.ensures.extends in
+    omega (arith, same, c.requires.power, c.in_ok-part.ensures.low)
+
 pub returns-clause-eliminated : goal.returns-clause-eliminated
 returns-clause-eliminated c =
-    let t = c.times_operands.new.terms in
-    eliminated_of c.args.terms.now c.quotient.new.self t t c.args.gate.now c.args.rest.sum c.in_ok-taken.taken c.in_ok-by.by c.in_ok-more.more
-    c.take.new.self c.add.new.self c.in_ok-factor.factor c.in_ok-by.ensures.extends c.in_ok-more.ensures.extends (extends_itself t)
-    c.in_ok-taken.ensures.of c.in_ok-by.ensures.of c.in_ok-add.ensures.of c.in_ok-add.ensures.indexed c.in_ok-taken.ensures.rest c.in_ok-taken.ensures.quotient c.in_ok-by.ensures.value
-    c.in_ok-more.ensures.value c.in_ok-add.ensures.value c.in_ok-factor.ensures.factor
+    eliminated_of c.args.terms.now c.of.new.terms c.args.gate.now c.args.rest.sum c.in_ok-taken.taken c.in_ok-more.more c.take.new.self c.add.new.self c.in_ok-part.part c.minus_power.result
+    c.in_ok-part.ensures.extends c.in_ok-taken.ensures.of c.in_ok-add.ensures.of c.in_ok-add.ensures.indexed c.in_ok-taken.ensures.rest c.in_ok-taken.ensures.quotient c.in_ok-part.ensures.part
+    c.minus_power.ensures c.in_ok-more.ensures.value c.in_ok-add.ensures.value

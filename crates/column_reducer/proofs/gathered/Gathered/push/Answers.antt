@@ -1,17 +1,17 @@
-use Rattle.std.proofs.Common.{◌∷◌, ◌++◌, [], ap, refl, ◌∙◌}
+use Rattle.std.proofs.Common.{◌+◌, ◌%◌, ◌∷◌, ◌++◌, [], ap, refl, ◌∙◌}
+use Rattle.poly_terms.specs.Tables.{modulus, value_in}
 use Rattle.column_reducer.proofs.gathered.Gathered.push.Goals as goal
 
-pub returns-clause-part : goal.returns-clause-part
-returns-clause-part c =
-    let factor = c.args.factor in
+pub returns : goal.returns
+returns c =
+    let t = c.args.terms.now in
+    let factor = c.args.part.factor in
     record {
-      product = c.in_ok-product.product;
       groups = refl;
       columns = refl;
       total = refl;
       power = refl;
-      parts = c.in_ok-push-2.ensures.items ∙ ap (λ v. c.args.self.parts.items ++ (v, factor) ∷ []) c.from.ensures;
-      products = c.in_ok-push.ensures.items;
-      of = c.in_ok-product.ensures.of;
-      value = c.in_ok-product.ensures.value;
+      parts = c.in_ok-push.ensures.items ∙ ap (λ v. c.args.self.parts.items ++ (v, factor) ∷ []) c.from.ensures;
+      of = c.in_ok-add-2.ensures.of;
+      stated = λ σ. c.in_ok-add-2.ensures.value σ ∙ ap (λ n. (n + value_in t c.args.part.variable σ) % modulus t) (c.in_ok-add.ensures.value σ);
     }

@@ -1,0 +1,23 @@
+use Rattle.std.proofs.Common.{◌≡◌, [], sym, subst}
+use Rattle.poly_terms.specs.Indexed.{terms_from}
+use Rattle.poly_terms.specs.PolySums.{AreListed}
+use Rattle.poly_terms.proofs.PolySums.{nothing_left, taken-of, taken-value}
+use Rattle.poly_terms.proofs.poly_sum.PolySum.take.Goals as goal
+
+none_left : (c : goal.After-of) → terms_from 0 c.take_out.new.coefficients ≡ []
+none_left c =
+    let listed : AreListed c.self.inside.coefficients c.deref.result.now = subst (AreListed c.self.inside.coefficients) (sym c.deref.ensures.value) c.self.invariant in
+    nothing_left c.self.inside.coefficients c.take_out.new.coefficients c.deref.result.now listed c.in_ok-raw.ensures.less c.in_ok-raw.ensures.gone
+
+pub returns-clause-none : goal.returns-clause-none
+returns-clause-none c = none_left c
+
+pub returns-clause-of : goal.returns-clause-of
+returns-clause-of c =
+    taken-of c.args.terms.now c.exponent.result c.self.inside.coefficients c.take_out.new.coefficients c.args.self.now c.in_ok-raw.raw.items c.in_ok-entries.entries.items c.of.result
+    c.self.view_is c.exponent.ensures.exponent c.requires c.in_ok-raw.ensures.taken (none_left c) c.in_ok-entries.ensures c.of.ensures
+
+pub returns-clause-value : goal.returns-clause-value
+returns-clause-value c =
+    taken-value c.args.terms.now c.exponent.result c.self.inside.coefficients c.take_out.new.coefficients c.args.self.now c.in_ok-raw.raw.items c.in_ok-entries.entries.items c.of.result
+    c.self.view_is c.exponent.ensures.exponent c.requires c.in_ok-raw.ensures.taken (none_left c) c.in_ok-entries.ensures c.of.ensures

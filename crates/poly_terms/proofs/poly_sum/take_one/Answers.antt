@@ -1,0 +1,13 @@
+use Rattle.std.proofs.Common.{◌<◌, ◌∷◌, ◌++◌, [], get_or, ap, ◌∙◌, arith}
+use Rattle.poly_terms.proofs.PolySums.{taken_one}
+use Rattle.poly_terms.proofs.Sparse.{some_within}
+use Rattle.poly_terms.proofs.poly_sum.take_one.Goals as goal
+
+pub returns-in_ok-push-clause-taken : goal.returns-in_ok-push-clause-taken
+returns-in_ok-push-clause-taken c =
+    let n = c.args.number in
+    let old = c.args.coefficients.now in
+    let ne0 = c.if-coefficient-ne0.true in
+    let some : 0 < get_or old n 0 = omega (arith, c.at-coefficient.ensures, ne0) in
+    taken_one old c.put.new.self c.args.out.now.items c.push.new.self.items n c.at-coefficient.result c.at-coefficient.ensures some (some_within old n some)
+    (c.in_ok-push.ensures.items ∙ ap (λ e. c.args.out.now.items ++ e ∷ []) c.new.ensures) c.put.ensures

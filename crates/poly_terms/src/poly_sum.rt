@@ -1,0 +1,165 @@
+// Sums of many polynomials of one table.
+ghost use Rattle.std.specs.Prelude.{◌≡◌, ◌+◌, ◌%◌, ◌^◌, ◌<◌, ◌∷◌, ℕ, [], IfOk, OnOk, length, get_or};
+ghost use Rattle.std.specs.List.{Contains};
+ghost use Rattle.graph_core.specs.Graph.Assignments.{Assignment};
+ghost use Rattle.mv_nums.specs.Residue.{IsWidth};
+ghost use Rattle.poly_terms.specs.PolySums.{AreListed, AreTaken, IsAdded, IsLess};
+ghost use Rattle.poly_terms.specs.Tables.{IsOf, modulus, value_in};
+
+use crate::coefficients::Coefficients;
+use crate::term::Term;
+use crate::{Poly, Terms, addition, coefficient};
+use graph_core::Memory;
+use std::alloc::{AllocError, Global};
+use std::marker::Model;
+
+/// Polynomials of a table, as far as they are added up. Each monomial has one place, so that nothing is sorted before the
+/// whole sum is taken. Where a call wants memory, nothing more is known of the sum.
+#[derive(Debug, Drop)]
+pub struct PolySum {
+    alloc: Global,
+    coefficients: Coefficients,
+    /// the numbers of the terms; some may stand there twice, and some that have no term any more
+    numbers: Vec<u64>,
+}
+
+impl Model for PolySum {
+    ghost use Rattle.poly_terms.specs.Entries.{Sum};
+    ghost use Rattle.poly_terms.specs.Indexed.{terms_from};
+    ghost use Rattle.poly_terms.specs.PolySums.{AreListed};
+
+    ghost Value = { Sum };
+
+    ghost view = { λ s. terms_from 0 s.coefficients };
+
+    ghost invariant = { λ s. AreListed s.coefficients s.numbers.items };
+}
+
+impl PolySum {
+    /// The sum of none, which is 0.
+    pub fn new(alloc: Global) -> PolySum
+        ensures { result ≡ [] }
+    {
+        PolySum {
+            alloc,
+            coefficients: Coefficients::new(alloc),
+            numbers: Vec::new(alloc),
+        }
+    }
+
+    /// Adds a polynomial.
+    pub fn add(&mut self, terms: &Terms, p: &Poly) -> Result<(), Memory>
+        requires of { IsOf terms.now self.old }
+        requires addend { IsOf terms.now p.now }
+        ensures of { OnOk result (IsOf terms.now self.new) }
+        ensures value { OnOk result ((σ : Assignment) → value_in terms.now self.new σ ≡
+            (value_in terms.now self.old σ + value_in terms.now p.now σ) % modulus terms.now) }
+    {
+        add_all(
+            terms.exponent(),
+            &mut self.coefficients,
+            &mut self.numbers,
+            p.entries(),
+        )?;
+        Ok(())
+    }
+
+    /// Takes the whole sum, and leaves 0. The room stays.
+    pub fn take(&mut self, terms: &Terms) -> Result<Poly, Memory>
+        requires { IsOf terms.now self.old }
+        ensures none { OnOk result (self.new ≡ []) }
+        ensures of { IfOk result (IsOf terms.now) }
+        ensures value { IfOk result (λ p. (σ : Assignment) →
+            value_in terms.now p σ ≡ value_in terms.now self.old σ) }
+    {
+        let raw = take_out(self.alloc, &mut self.coefficients, &self.numbers)?;
+        self.numbers.clear();
+        let entries = addition::gather(self.alloc, terms.exponent(), raw)?;
+        Ok(Poly::of(entries))
+    }
+}
+
+// Adds terms.
+fn add_all(
+    width: u32,
+    coefficients: &mut Coefficients,
+    numbers: &mut Vec<u64>,
+    entries: &[Term],
+) -> Result<(), AllocError>
+    requires width { IsWidth width }
+    requires listed { AreListed coefficients.old numbers.old.items }
+    ensures listed { AreListed coefficients.new numbers.new.items }
+    ensures added { OnOk result (IsAdded (2 ^ width) coefficients.old coefficients.new entries.now) }
+{
+    for entry in entries {
+        add_term(width, coefficients, numbers, entry)?;
+    }
+    Ok(())
+}
+
+fn add_term(
+    width: u32,
+    coefficients: &mut Coefficients,
+    numbers: &mut Vec<u64>,
+    term: &Term,
+) -> Result<(), AllocError>
+    requires width { IsWidth width }
+    requires listed { AreListed coefficients.old numbers.old.items }
+    ensures listed { AreListed coefficients.new numbers.new.items }
+    ensures added { OnOk result
+        (IsAdded (2 ^ width) coefficients.old coefficients.new (term.now ∷ [])) }
+{
+    let number = term.number();
+    coefficients.reach(number)?;
+    let before = coefficients.at(number);
+    list_new(numbers, number, before)?;
+    coefficients.put(number, coefficient::sum(width, before, term.coefficient()));
+    Ok(())
+}
+
+// Puts a number into the list, where it had the coefficient 0.
+fn list_new(numbers: &mut Vec<u64>, number: u64, before: u128) -> Result<(), AllocError>
+    ensures kept { (n : ℕ) → Contains numbers.old.items n → Contains numbers.new.items n }
+    ensures listed { OnOk result (before ≡ 0 → Contains numbers.new.items number) }
+{
+    if before == 0 {
+        numbers.push(number)?;
+    }
+    Ok(())
+}
+
+// Takes out the terms of these numbers.
+fn take_out(
+    alloc: Global,
+    coefficients: &mut Coefficients,
+    numbers: &[u64],
+) -> Result<Vec<Term>, AllocError>
+    ensures less { IsLess coefficients.old coefficients.new }
+    ensures taken { IfOk result (λ out. AreTaken coefficients.old coefficients.new [] out.items) }
+    ensures gone { OnOk result ((k : ℕ) → k < length numbers.now →
+        get_or coefficients.new (get_or numbers.now k 0) 0 ≡ 0) }
+{
+    let mut out = Vec::new(alloc);
+    for number in numbers {
+        take_one(coefficients, *number, &mut out)?;
+    }
+    Ok(out)
+}
+
+// Takes out a number's term, if it has one.
+fn take_one(
+    coefficients: &mut Coefficients,
+    number: u64,
+    out: &mut Vec<Term>,
+) -> Result<(), AllocError>
+    ensures less { IsLess coefficients.old coefficients.new }
+    ensures taken { OnOk result (AreTaken coefficients.old coefficients.new out.old.items out.new.items) }
+    ensures gone { OnOk result (get_or coefficients.new number 0 ≡ 0) }
+{
+    let coefficient = coefficients.at(number);
+    if coefficient != 0 {
+        out.push(Term::new(number, coefficient))?;
+        coefficients.put(number, 0);
+    }
+    Ok(())
+}
