@@ -9,7 +9,7 @@ use std::test::Fail;
 
 // A clause with a repeated literal, copied into a list.
 fn listed(alloc: Global) -> Result<ClauseList, Memory> {
-    let clause = Clause::new(alloc, &[-14, 20, -14])?;
+    let clause = Clause::new(alloc, &[20, -14, 20])?;
     let mut list = ClauseList::new(alloc);
     list.push(clause.copy(alloc)?)?;
     Ok(list)
@@ -102,17 +102,17 @@ fn a_position_replaces_two_columns(rt: HostRuntime) -> Result<(), Fail> {
 const CLAUSES: [(usize, &[i32]); 6] = [
     (27, &[-14, -13]),
     (28, &[-14, -12]),
-    (29, &[14, 13, 12]),
+    (29, &[12, 13, 14]),
     (39, &[-18, 17]),
     (40, &[-18]),
-    (48, &[21, 15, 18]),
+    (48, &[15, 18, 21]),
 ];
 
 // A column's clause that is to be shown.
 const GOALS: [(u32, &[i32]); 4] = [
     (2, &[-14, 20]),
-    (2, &[14, -20]),
-    (3, &[-12, -21]),
+    (2, &[-20, 14]),
+    (3, &[-21, -12]),
     (3, &[12, 21]),
 ];
 

@@ -7,6 +7,8 @@
 #[cfg(test)]
 mod aiger;
 #[cfg(test)]
+mod blocks;
+#[cfg(test)]
 mod clause_lines;
 #[cfg(test)]
 mod clause_lists;
