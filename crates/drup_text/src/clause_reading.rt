@@ -8,7 +8,7 @@ ghost use Rattle.drup_text.specs.Steps.{TakesClause, TakesLiteral, TakesLiterals
 use crate::numbers::variable;
 use clause_core::Clause;
 use mv_desk::LineFail;
-use mv_text::{Scanner, pushed};
+use mv_text::{Scanner, push};
 use std::alloc::Global;
 
 // A clause, or nothing where a variable of it is above the greatest one.
@@ -45,7 +45,7 @@ fn literals(
     let mut literals = Some(Vec::new(alloc));
     while is_at_literal(scanner) {
         let literal = spaced_literal(scanner, max)?;
-        literals = pushed(literals, literal)?;
+        push(&mut literals, literal)?;
     }
     Ok(literals)
 }

@@ -1,5 +1,7 @@
 -- Std's decimal text is the numeral, and a numeral grows with each digit.
-use Rattle.std.proofs.Common.{◌≡◌, ℕ, ◌<◌, ◌+◌, ◌%◌, ◌/◌, ◌^◌, ◌≤◌, List, [], ◌∷◌, ◌++◌, All, length, decimal, take, drop, Some, slice_get, fold, get_or, refl, sym, ap, ◌∙◌, arith, rules}
+use Rattle.std.proofs.Common.{◌≡◌, ℕ, ◌<◌, ◌+◌, ◌*◌, ◌%◌, ◌/◌, ◌^◌, ◌≤◌, List, [], ◌∷◌, ◌++◌, All, length, decimal, take, drop, Some, slice_get, fold, get_or, refl, sym, ap, ◌∙◌, arith, rules}
+use Rattle.std.proofs.Math.Nat.{pow-le-pow_right}
+use Rattle.std.proofs.lemmas.Grind.{pow_more}
 use Rattle.std.proofs.lemmas.Fmt.{decimal_is_IsNumeral_wide, decimal_by_steps_wide, decimal_digit}
 use Rattle.std.proofs.lemmas.Str.Parse.{IsDigitsTest, FoldsDigits, IsNumeralModel, numerals_by_fold}
 use Rattle.std.proofs.lemmas.List.Sums.{fold-append, fold_more}
@@ -49,6 +51,13 @@ decimal_is_numeral n h =
 
 pub shown_is_numeral : (n : ℕ) (text : List ℕ) → n < 2 ^ 128 → text ≡ decimal n → IsNumeralOf n text
 shown_is_numeral n text h e = rw e (decimal_is_numeral n h)
+
+-- one of few digits more: the number stays below 2^64
+pub more_small : (n i d : ℕ) → n < 10 ^ i → i < 19 → d < 10 → (10 * n + d < 2 ^ 64) × (10 * n + d < 10 ^ (i + 1))
+more_small n i d small few digit =
+    let last : i ≤ 18 = omega arith in
+    let cap : 10 ^ i ≤ 10 ^ 18 = pow-le-pow_right (omega arith) last in
+    (omega arith, omega (arith, pow_more 10 i))
 
 further : (n : ℕ) (more : List ℕ) → n ≤ fold append_digit n more
 further n [] = omega arith

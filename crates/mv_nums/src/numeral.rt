@@ -1,10 +1,13 @@
-ghost use Rattle.std.specs.Prelude.{◌≡◌, ◌≤◌, ◌<◌, ◌^◌, ◌↔◌, [], All, Any, decimal, IfOk, IsErrOf, drop, take};
+ghost use Rattle.std.specs.Prelude.{◌≡◌, ◌≤◌, ◌<◌, ◌^◌, ◌↔◌, [], All, Any, decimal, IfNone, IfOk, IfSome, IsErrOf, drop, length, take};
 ghost use Rattle.std.specs.Bool.{MatchBool};
 ghost use Rattle.std.specs.Option.{SomeIff};
 ghost use Rattle.mv_nums.specs.Numeral.{IsDigit, IsNumeralOf, Spells, SpellsAtLeast, append_digit, decimal_value};
 
 use crate::NumberFault;
 use itoa::Buffer;
+
+// A number of so many digits is below 10^19, and so below 2^64.
+const SHORT: usize = 19;
 
 /// The number that decimal digits spell. Leading zeros are allowed, and any number of digits.
 pub fn read_decimal(bytes: &[u8]) -> Result<u128, NumberFault>
@@ -15,6 +18,12 @@ pub fn read_decimal(bytes: &[u8]) -> Result<u128, NumberFault>
 {
     if bytes.is_empty() {
         return Err(NumberFault::Empty);
+    }
+    if bytes.len() <= SHORT {
+        return match short_number(bytes) {
+            Some(number) => Ok(u128::from(number)),
+            None => Err(NumberFault::Digit),
+        };
     }
     if !are_digits(bytes) {
         return Err(NumberFault::Digit);
@@ -33,6 +42,23 @@ pub fn print(value: u128, out: &mut [u8; 40]) -> usize
     let text = buffer.format(value).as_bytes();
     out[..text.len()].copy_from_slice(text);
     text.len()
+}
+
+// The number that few digits spell, unless a byte is no digit. Most numerals are so short.
+fn short_number(bytes: &[u8]) -> Option<u64>
+    requires { length bytes.now ≤ 19 }
+    ensures digits { IfSome result
+        (λ number. All IsDigit bytes.now × (number ≡ decimal_value bytes.now)) }
+    ensures other { IfNone result (Any (λ byte. ¬ IsDigit byte) bytes.now) }
+{
+    let mut number: u64 = 0;
+    for byte in bytes {
+        if !byte.is_ascii_digit() {
+            return None;
+        }
+        number = 10 * number + u64::from(*byte - b'0');
+    }
+    Some(number)
 }
 
 fn are_digits(bytes: &[u8]) -> bool

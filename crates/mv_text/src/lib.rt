@@ -3,7 +3,7 @@
 //! `LineReader` gives the lines of a file from a slot, and meets the lengths of lines and of the file at their
 //! places. `Scanner` takes texts and numbers from the front of a line, as the readers of the definitions do.
 //! `Output` writes a text put piece by piece: the file grows by exactly the text, or by a front part where a write
-//! failed. Nothing here takes memory but a line and the list that `pushed` fills.
+//! failed. Nothing here takes memory but a line and the list that `push` fills.
 //!
 //! *Ahead*: read into the piece in hand, and not yet taken; what is *left* of a file is what is ahead and then what
 //! the desk has left (`specs/LineReading.antt`). *Takes*: a reader gave a value, and left these bytes
@@ -19,6 +19,6 @@ mod scanner;
 
 pub use line_reader::LineReader;
 pub use output::Output;
-pub use pushing::pushed;
+pub use pushing::push;
 pub use room::ROOM;
 pub use scanner::Scanner;

@@ -1,19 +1,21 @@
 // Lists of what was read.
-ghost use Rattle.std.specs.Prelude.{IfOk, IfErr};
+ghost use Rattle.std.specs.Prelude.{IfErr, OnOk};
 ghost use Rattle.mv_text.specs.Steps.{IsMisfit, Pushes};
 
 use mv_desk::LineFail;
 
-/// A list with one more item, where both are there.
-pub fn pushed<T: Drop>(list: Option<Vec<T>>, item: Option<T>) -> Result<Option<Vec<T>>, LineFail>
-    ensures ok { IfOk result (Pushes list item) }
+/// Puts an item behind those of a list, where both are there; else there is no list any more.
+pub fn push<T: Drop>(list: &mut Option<Vec<T>>, item: Option<T>) -> Result<(), LineFail>
+    ensures ok { OnOk result (Pushes list.old item list.new) }
     ensures err { IfErr result (IsMisfit ⊥) }
 {
-    match (list, item) {
-        (Some(mut list), Some(item)) => {
-            list.push(item).map_err(|_| LineFail::Memory)?;
-            Ok(Some(list))
+    match item {
+        Some(item) => {
+            if let Some(items) = list {
+                items.push(item).map_err(|_| LineFail::Memory)?;
+            }
         }
-        _ => Ok(None),
+        None => *list = None,
     }
+    Ok(())
 }

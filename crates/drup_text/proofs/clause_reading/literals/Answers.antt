@@ -22,8 +22,8 @@ loop-scanner-smaller c = spaced_fewer c.loop-scanner.scanner _ c.spaced_literal.
 
 pub loop-scanner-preserved : goal.loop-scanner-preserved
 loop-scanner-preserved c =
-    literals_more c.args.max c.args.scanner.now c.loop-scanner.scanner c.spaced_literal.new.scanner c.loop-scanner.literals c.in_ok-literal.literal c.in_ok-literals.literals
-    (sym c.is_at_literal.ensures ∙ c.loop-scanner-test.true) c.loop-scanner.invariant c.in_ok-literal.ensures.ok c.in_ok-literals.ensures.ok
+    literals_more c.args.max c.args.scanner.now c.loop-scanner.scanner c.spaced_literal.new.scanner c.loop-scanner.literals c.in_ok-literal.literal c.push.new.list
+    (sym c.is_at_literal.ensures ∙ c.loop-scanner-test.true) c.loop-scanner.invariant c.in_ok-literal.ensures.ok c.in_ok-push.ensures.ok
 
 pub returns-clause-ok : goal.returns-clause-ok
 returns-clause-ok c = gathers_all c.loop-scanner.invariant (many_stops is_no_zero (ended_at literal_at (codes " ")) c.loop-scanner.scanner (sym c.is_at_literal.ensures ∙ c.loop-scanner-test.false))
