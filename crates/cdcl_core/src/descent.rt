@@ -34,8 +34,8 @@ pub fn begin(propagator: &mut Propagator, assumptions: &[i32]) -> bool
     }
 }
 
-/// Lets the assumptions stand with their consequences: as at the last moment, if they stood then and the search does not
-/// go on anew. False where they are refuted.
+/// Lets the assumptions stand with their consequences: as at the last moment, if they stood then and the search does
+/// not go on anew. False where they are refuted.
 pub fn settle(
     propagator: &mut Propagator,
     levels: &mut Levels,

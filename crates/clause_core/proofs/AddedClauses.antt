@@ -9,7 +9,7 @@ use Rattle.graph_core.specs.declared.gate.Gate.{Gate}
 use Rattle.graph_core.specs.Graph.Assignments.{Assignment}
 use Rattle.graph_core.specs.Graph.{IsEvaluation}
 use Rattle.graph_core.specs.Graph.Extended.{Extended}
-use Rattle.graph_core.proofs.OfGraphs.CallerLemmas.{all_split}
+use Rattle.graph_core.proofs.OfGraphs.CallerLemmas.{all_join, all_split}
 use Rattle.clause_core.specs.Clause.{Clause, signed, holds, HasSigns, IsClauseInRange, SameSet, SubsetHolds}
 use Rattle.clause_core.specs.GateClauses.{gate_clauses, goals_of}
 use Rattle.clause_core.specs.UnitPropagation.{IsRup}
@@ -20,10 +20,6 @@ use Rattle.clause_core.proofs.RupSoundness.{rup_is_sound, true_at}
 use Rattle.clause_core.proofs.GateClauseLaws.{gate_clauses_hold, gate_clauses_signed, goals_agree}
 
 -- ---- lines
-
-all_join : {X : Type 0} (P : X → Type 0) (xs ys : List X) → AllByRecursion P xs → AllByRecursion P ys → AllByRecursion P (xs ++ ys)
-all_join P [] ys a b = b
-all_join P (x ∷ xs) ys a b = (a.0, all_join P xs ys a.1 b)
 
 -- a clause with signs that holds at the assignment
 abbrev Good : Assignment → Clause → Type 0

@@ -1,7 +1,8 @@
 -- What crates above may cite of clauses, of what follows from them, and of lists that are alike.
+pub use Rattle.graph_core.proofs.OfGraphs.CallerLemmas.{any_cases, any_here, any_nil, any_there}
 pub use Rattle.clause_core.proofs.AddedClauses.{facts_stay, subset_holds}
 pub use Rattle.clause_core.proofs.Copies.{alike_adds, alike_any, alike_flip, alike_joins, alike_removes, alike_rup, removes_any, removes_some, same_alike, same_flip}
-pub use Rattle.clause_core.proofs.Decided.{any_cases, any_here, any_nil, any_there, contains_here, contains_nil, contains_there}
+pub use Rattle.clause_core.proofs.Decided.{contains_here, contains_nil, contains_there}
 pub use Rattle.clause_core.proofs.GateClauseLaws.{gate_clauses_mean_evaluation, goals_mean_equality}
 pub use Rattle.clause_core.proofs.Goals.{decided_shown}
 pub use Rattle.clause_core.proofs.Places.{at, at_contained, below_suc, contains_at, distinct, sets_are_lists}

@@ -1,8 +1,8 @@
 -- Facts on clauses that hold or don't hold.
-use Rattle.std.specs.Prelude.{◌≡◌, ℕ, zero, suc, ◌<◌, ◌⊎◌, List, [], ◌∷◌, length, ℤ, pos, negsuc, slice_index_or}
+use Rattle.std.specs.Prelude.{◌≡◌, suc, ◌<◌, List, [], ◌∷◌, length, ℤ, pos, negsuc}
 use Rattle.std.specs.List.{Any, Contains}
-use Rattle.std.proofs.Common.{refl, sym, ap, subst, arith, inl, inr, ⊎_elim}
-use Rattle.graph_core.proofs.OfGraphs.CallerLemmas.{Decided, decided_and, decided_eq}
+use Rattle.std.proofs.Common.{refl, ap, subst, arith, inl, inr, ⊎_elim}
+use Rattle.graph_core.proofs.OfGraphs.CallerLemmas.{Decided, any_cases, any_here, any_nil, any_there, decided_and, decided_eq}
 use Rattle.clause_core.specs.Clause.{Clause, IsSubset, SameSet}
 use Rattle.clause_core.proofs.RupSoundness.{contains_cases}
 
@@ -14,22 +14,6 @@ decided_int (negsuc a) (negsuc b) = ⊎_elim (λ e. inl (ap negsuc e)) (λ n. in
 
 pub decided_not : {P : Type 0} → Decided P → Decided (P → ⊥)
 decided_not d = ⊎_elim (λ p. inr (λ n. n p)) inl d
-
-pub any_here : {X : Type 0} (P : X → Type 0) (x : X) (xs : List X) → P x → Any P (x ∷ xs)
-any_here P x xs h = (0, x, omega arith, refl, h)
-
-pub any_there : {X : Type 0} (P : X → Type 0) (x : X) (xs : List X) → Any P xs → Any P (x ∷ xs)
-any_there P x xs h = let below : h.0 < length xs = h.2 in (suc h.0, h.1, omega arith, h.3, h.4)
-
-pub any_cases : {X : Type 0} (P : X → Type 0) (x : X) (xs : List X) → Any P (x ∷ xs) → P x ⊎ Any P xs
-any_cases P x xs h = go h.0 h.2 h.3
-  where
-    go : (i : ℕ) → i < length (x ∷ xs) → slice_index_or (x ∷ xs) i h.1 ≡ h.1 → P x ⊎ Any P xs
-    go zero below e = inl (subst P (sym e) h.4)
-    go (suc i) below e = inr (i, h.1, omega arith, e, h.4)
-
-pub any_nil : {X : Type 0} (P : X → Type 0) → Any P [] → ⊥
-any_nil P h = let below : h.0 < 0 = h.2 in absurd (omega arith)
 
 pub decided_any : {X : Type 0} (P : X → Type 0) → ((x : X) → Decided (P x)) → (xs : List X) → Decided (Any P xs)
 decided_any P d [] = inr (any_nil P)

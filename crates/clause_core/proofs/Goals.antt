@@ -6,11 +6,11 @@ use Rattle.std.specs.List.{All, Any, AllByRecursion}
 use Rattle.std.proofs.Common.{refl, arith, inl, inr, ⊎_elim}
 use Rattle.std.proofs.lemmas.List.Elements.{All-from_recursion, recursion_from_All}
 use Rattle.graph_core.specs.Graph.Extended.{Column}
-use Rattle.graph_core.proofs.OfGraphs.CallerLemmas.{Decided, decided_all, decided_le}
+use Rattle.graph_core.proofs.OfGraphs.CallerLemmas.{Decided, any_cases, any_here, any_nil, any_there, decided_all, decided_le}
 use Rattle.clause_core.specs.Clause.{Clause, IsSubset}
 use Rattle.clause_core.specs.GateClauses.{goals_of}
 use Rattle.clause_core.specs.ClauseLines.{ClauseLine, IsShown, IsGoalRefusal, GoalsAreExact, added}
-use Rattle.clause_core.proofs.Decided.{decided_any, decided_subset, any_here, any_there, any_cases, any_nil}
+use Rattle.clause_core.proofs.Decided.{decided_any, decided_subset}
 
 pub decided_shown : (lines : List ClauseLine) (goal : Option Clause) → Decided (IsShown lines goal)
 decided_shown lines None = inl tt

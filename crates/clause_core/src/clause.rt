@@ -53,11 +53,20 @@ impl Clause {
         requires { All IsLiteral lits.now }
         ensures { IfOk result (λ clause. SameSet clause lits.now) }
     {
-        let mut items = Vec::from_slice(alloc, lits)?;
+        let items = Vec::from_slice(alloc, lits)?;
+        Ok(Clause::of(items))
+    }
+
+    /// The clause of a list of literals, which it keeps.
+    pub fn of(items: Vec<i32>) -> Clause
+        requires { All IsLiteral items.items }
+        ensures { SameSet result items.items }
+    {
+        let mut items = items;
         if !is_rising(&items) {
             put_in_order(&mut items);
         }
-        Ok(Clause { items })
+        Clause { items }
     }
 
     /// The same clause once more.

@@ -2,11 +2,13 @@
 use Rattle.std.specs.Prelude.{◌≡◌, ◌↔◌, ◌<◌, ◌⊎◌, true, List, [], ◌∷◌, ◌++◌, length}
 use Rattle.std.specs.List.{Any}
 use Rattle.std.proofs.Common.{refl, sym, ap, subst, ◌∙◌, arith, inl, inr, ⊎_elim}
+use Rattle.std.proofs.lemmas.List.Quantifiers.{Any-push}
+use Rattle.graph_core.proofs.OfGraphs.CallerLemmas.{any_cases, any_front, any_here, any_nil, any_there}
 use Rattle.clause_core.specs.Clause.{Clause, IsSubset, SameSet}
 use Rattle.clause_core.specs.ClauseLines.{ClauseLine, added}
 use Rattle.clause_core.specs.Likeness.{AreAlike}
 use Rattle.clause_core.specs.declared.line.Line.TheVariants.{Add, Delete}
-use Rattle.clause_core.proofs.CallerLemmas.{alike_adds, alike_any, alike_flip, alike_joins, alike_removes, alike_rup, any_cases, any_here, any_nil, any_there, removes_any, removes_some, same_alike, same_flip}
+use Rattle.clause_core.proofs.CallerLemmas.{alike_adds, alike_any, alike_flip, alike_joins, alike_removes, alike_rup, removes_any, removes_some, same_alike, same_flip}
 use Rattle.drup_checker.specs.Checking.{Adds, Checking, Deletes, goal_at, shown_at}
 use Rattle.drup_checker.specs.Steps.{HasShown, MarksAreRight, StepsAreLawful}
 
@@ -45,10 +47,6 @@ any_end : (P : Clause → Type 0) (xs : List Clause) (c : Clause) → Any P (xs 
 any_end P [] c h = ⊎_elim inr (λ n. absurd (any_nil P n)) (any_cases P c [] h)
 any_end P (x ∷ xs) c h = ⊎_elim (λ p. inl (any_here P x xs p)) (λ r. ⊎_elim (λ a. inl (any_there P x xs a)) inr (any_end P xs c r)) (any_cases P x (xs ++ c ∷ []) h)
 
-any_front : (P : Clause → Type 0) (xs : List Clause) (c : Clause) → Any P xs ⊎ P c → Any P (xs ++ c ∷ [])
-any_front P [] c h = ⊎_elim (λ n. absurd (any_nil P n)) (λ p. any_here P c [] p) h
-any_front P (x ∷ xs) c h = ⊎_elim (λ a. ⊎_elim (λ p. any_here P x (xs ++ c ∷ []) p) (λ r. any_there P x (xs ++ c ∷ []) (any_front P xs c (inl r))) (any_cases P x xs a)) (λ p. any_there P x (xs ++ c ∷ []) (any_front P xs c (inr p))) h
-
 marks_added : (c d : Clause) (old new : Checking) (lines : List ClauseLine) → HasShown old lines → SameSet c d → Adds c old new → HasShown new (lines ++ Add d ∷ [])
 marks_added c d old new lines h same a i below =
     let low : i < length old.goals = subst (λ gs. i < length gs) a.goals below in
@@ -57,7 +55,7 @@ marks_added c d old new lines h same a i below =
     let goal = (goal_at old.goals i).clause in
     subst (λ gs. (shown_at new.shown i ≡ true) ↔ Any (λ x. IsSubset x (goal_at gs i).clause) (added (lines ++ Add d ∷ []))) (sym a.goals)
     (subst (λ xs. (shown_at new.shown i ≡ true) ↔ Any (λ x. IsSubset x goal) xs) (sym (added_more lines d)) (
-      λ t. any_front (λ x. IsSubset x goal) (added lines) d (⊎_elim (λ o. inl (before.0 o)) (λ s. inr (λ l k. s l (same.1 l k))) (told.0 t)),
+      λ t. ⊎_elim (λ o. any_front (λ x. IsSubset x goal) (added lines) (d ∷ []) (before.0 o)) (λ s. Any-push (λ x. IsSubset x goal) (added lines) d (λ l k. s l (same.1 l k))) (told.0 t),
       λ s. told.1 (⊎_elim (λ o. inl (before.1 o)) (λ k. inr (λ l m. k l (same.0 l m))) (any_end (λ x. IsSubset x goal) (added lines) d s)),
     ))
 

@@ -22,15 +22,6 @@ pub fn chain_of(clause: &Clause, chains: usize) -> usize
     (number % chains as u64) as usize
 }
 
-fn mixed(number: u64, lit: i32) -> u64
-    requires { number < 4294967291 }
-    ensures value { result ≡ mix number lit }
-    ensures bound { result < 4294967291 }
-{
-    let code = 2 * u64::from(lit.unsigned_abs()) + u64::from(lit < 0);
-    (number * 1000003 + code) % NUMBERS
-}
-
 /// The live clause with the set that a chain leads to, if there is one. A place is given as its successor, and 0 is the
 /// end.
 pub fn find(head: u32, next: &[u32], propagator: &Propagator, clause: &Clause) -> Option<Ref>
@@ -74,6 +65,16 @@ pub fn unlink(heads: &mut [u32], next: &mut [u32], chain: usize, place: u32)
     if let Some(before) = before(head, next, place) {
         next[before as usize] = behind;
     }
+}
+
+// A number and a literal make a number.
+fn mixed(number: u64, lit: i32) -> u64
+    requires { number < 4294967291 }
+    ensures value { result ≡ mix number lit }
+    ensures bound { result < 4294967291 }
+{
+    let code = 2 * u64::from(lit.unsigned_abs()) + u64::from(lit < 0);
+    (number * 1000003 + code) % NUMBERS
 }
 
 // The place of a chain that leads to this one.

@@ -14,8 +14,8 @@ use std::alloc::Global;
 use std::marker::Model;
 use unit_prop::Propagator;
 
-/// The live clauses. Once more places were given out than there are chains, all is made anew over those that are live, so
-/// that memory is in proportion to them and to the variables.
+/// The live clauses. Once more places were given out than there are chains, all is made anew over those that are live,
+/// so that memory is in proportion to them and to the variables.
 #[derive(Drop)]
 pub struct Store {
     alloc: Global,

@@ -17,6 +17,7 @@ use Rattle.graph_core.specs.Algebra.Polynomials.{Polynomial, value}
 use Rattle.graph_core.specs.Algebra.NormalForm.{HasSize}
 use Rattle.graph_core.specs.Graph.Operands.{sides_of}
 use Rattle.graph_core.proofs.OfGraphs.CallerLemmas.{Apart, all_split, all_weaker, apart_from_pairs, finds_none, rounds-free, sum_same, variable_same}
+use Rattle.graph_core.proofs.OfAiger.CallerLemmas.{ArePlaced}
 use Rattle.frontier_core.specs.Sets.{has}
 use Rattle.frontier_core.specs.Columns.{columns_sum}
 use Rattle.frontier_core.specs.Frontier.{IsFrontier, gates_among, frontier_value}
@@ -27,7 +28,6 @@ use Rattle.frontier_core.proofs.SizeBounds.{linear_is_small}
 use Rattle.graph_maker.specs.declared.kind.Kind.{Kind}
 use Rattle.graph_maker.specs.declared.adder.Adder.TheVariants.{Ripple}
 use Rattle.graph_maker.proofs.MadeMultiplies.{all_products, numbered}
-use Rattle.graph_maker.proofs.Places.{ArePlaced}
 use Rattle.slice_finder.proofs.Cases.{by_cases}
 use Rattle.slice_core.proofs.Composition.{has_append, eliminating_part}
 use Rattle.enough_budget.proofs.Linear.{IsLinear, AreInputs}

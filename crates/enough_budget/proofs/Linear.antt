@@ -7,9 +7,8 @@ use Rattle.std.proofs.lemmas.Bool.{cases_eq}
 use Rattle.std.proofs.lemmas.List.{length-map}
 use Rattle.graph_core.specs.declared.literal.Lit.{Lit}
 use Rattle.graph_core.specs.Graph.Assignments.{Assignment, variable, literal, bit}
-use Rattle.graph_core.proofs.OfGraphs.CallerLemmas.{literal-even, literal-odd, product_same, sum_same}
+use Rattle.graph_core.proofs.OfGraphs.CallerLemmas.{all_join, literal-even, literal-odd, product_same, sum_same}
 use Rattle.frontier_core.specs.Sizes.{linear_sum, bilinear_sum}
-use Rattle.slice_finder.proofs.Cases.{all_join}
 
 abbrev pub AreInputs : ℕ → List (ℕ × ℕ × ℕ) → Type 0
 AreInputs b products = AllByRecursion (λ x. (x.1 ≤ b) × (x.2 ≤ b)) products

@@ -6,10 +6,10 @@ use Rattle.std.proofs.lemmas.List.Elements.{recursion_from_All, All-from_recursi
 use Rattle.graph_core.specs.declared.gate.Gate.{Gate}
 use Rattle.graph_core.specs.Graph.Literals.{variable_of}
 use Rattle.graph_core.proofs.OfGraphs.CallerLemmas.{all_weaker}
+use Rattle.graph_core.proofs.OfAiger.CallerLemmas.{ArePlaced}
 use Rattle.graph_maker.specs.declared.adder.Adder.TheVariants.{Ripple}
 use Rattle.graph_maker.specs.Made.{made}
 use Rattle.graph_maker.proofs.MadeMultiplies.{numbered}
-use Rattle.graph_maker.proofs.Places.{ArePlaced}
 use Rattle.slice_core.specs.GroupPlans.{AreInOrder}
 use Rattle.enough_budget.specs.MadeGroups.{MadeGatesAreInOrder}
 use Rattle.enough_budget.proofs.Swapped.{IsSame, ArePairs, firsts, seconds, paired}

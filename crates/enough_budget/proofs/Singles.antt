@@ -8,6 +8,7 @@ use Rattle.std.proofs.lemmas.List.Elements.{All-from_recursion}
 use Rattle.graph_core.specs.declared.literal.Lit.{Lit}
 use Rattle.graph_core.specs.declared.gate.Gate.{Gate}
 use Rattle.graph_core.specs.Graph.Literals.{variable_of}
+use Rattle.graph_core.proofs.OfGraphs.CallerLemmas.{all_join}
 use Rattle.frontier_core.specs.Sets.{has}
 use Rattle.graph_maker.specs.declared.kind.Kind.{Kind}
 use Rattle.graph_maker.specs.declared.adder.Adder.TheVariants.{Ripple}
@@ -16,7 +17,6 @@ use Rattle.graph_maker.specs.Products.{product_gates, products}
 use Rattle.graph_maker.specs.Made.{made}
 use Rattle.graph_maker.proofs.MadeMultiplies.{a_literals, b_literals, numbered}
 use Rattle.graph_maker.proofs.MadeMultiplies.{no_gates}
-use Rattle.slice_finder.proofs.Cases.{all_join}
 use Rattle.slice_core.specs.Groups.{groups}
 use Rattle.slice_core.specs.AdderLists.{ReadsNoGate}
 use Rattle.enough_budget.specs.MadeGroups.{MadeGroupsAreAdders}

@@ -16,6 +16,8 @@ use Rattle.graph_core.specs.Graph.Extended.{Extended, without_cut}
 use Rattle.graph_core.specs.Algebra.{modulus}
 use Rattle.graph_core.specs.Algebra.NormalForm.{HasSize}
 use Rattle.graph_core.specs.Graph.Operands.{sides_of}
+use Rattle.graph_core.proofs.OfGraphs.CallerLemmas.{all_join, any_cases, any_nil}
+use Rattle.graph_core.proofs.OfAiger.CallerLemmas.{ArePlaced}
 use Rattle.frontier_core.specs.declared.step.Step.{Step}
 use Rattle.frontier_core.specs.declared.step.Step.TheVariants.{Add, Eliminate}
 use Rattle.frontier_core.specs.Sets.{has}
@@ -32,8 +34,6 @@ use Rattle.graph_maker.specs.Products.{product_gates, products}
 use Rattle.graph_maker.specs.Made.{made}
 use Rattle.graph_maker.proofs.MadeMultiplies.{a_literals, b_literals, all_products, placed}
 use Rattle.graph_maker.proofs.MadeMultiplies.{no_gates}
-use Rattle.graph_maker.proofs.Places.{ArePlaced}
-use Rattle.slice_finder.proofs.Cases.{all_join, any_cases, any_nil}
 use Rattle.slice_core.specs.Groups.{groups, groups_of, IsWhole, AreByGroups}
 use Rattle.slice_core.proofs.Composition.{has_append}
 use Rattle.enough_budget.proofs.Network.{Cell, gates_at, size_of}

@@ -26,9 +26,10 @@ use Rattle.frontier_core.specs.Plan.{nothing, taken, AreSteps}
 use Rattle.graph_maker.specs.declared.kind.Kind.{Kind}
 use Rattle.graph_maker.specs.declared.adder.Adder.TheVariants.{Ripple}
 use Rattle.graph_core.specs.Graph.Literals.{plain, inverted}
+use Rattle.graph_core.proofs.OfGraphs.CallerLemmas.{all_join}
 use Rattle.graph_maker.specs.Made.{made}
 use Rattle.slice_finder.specs.Positions.{reads, is_half, is_carried}
-use Rattle.slice_finder.proofs.Cases.{all_join, by_cases}
+use Rattle.slice_finder.proofs.Cases.{by_cases}
 use Rattle.slice_core.specs.Groups.{ends_full, ends_half, group_size, groups_of, groups, AreByGroups}
 use Rattle.slice_core.proofs.ListedGroups.{map_reverse}
 use Rattle.enough_budget.specs.MadeSlices.{MadeSlicesAreSmall}

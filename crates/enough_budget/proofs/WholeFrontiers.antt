@@ -27,11 +27,11 @@ use Rattle.frontier_core.proofs.Computed.{computed_is, computed_keeps}
 use Rattle.graph_maker.specs.declared.kind.Kind.{Kind}
 use Rattle.graph_maker.specs.declared.adder.Adder.TheVariants.{Ripple}
 use Rattle.graph_core.specs.Graph.Literals.{plain}
+use Rattle.graph_core.proofs.OfAiger.CallerLemmas.{ArePlaced}
 use Rattle.graph_maker.specs.Builder.{Builder, with_gates, literals_from}
 use Rattle.graph_maker.specs.Products.{product_gates, products}
 use Rattle.graph_maker.specs.Made.{made}
 use Rattle.graph_maker.proofs.ArrayAdds.{length-literals_from}
-use Rattle.graph_maker.proofs.Places.{ArePlaced}
 use Rattle.graph_maker.proofs.MadeMultiplies.{a_literals, b_literals, all_products, whole_outputs, count, long, numbered, numbered_well_formed, a_is, b_is, full}
 use Rattle.graph_maker.proofs.MadeMultiplies.{no_gates}
 use Rattle.slice_finder.proofs.Cases.{by_cases}

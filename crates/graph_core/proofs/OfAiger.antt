@@ -3,6 +3,7 @@ pub mod CallerLemmas
 pub mod Bodies
 pub mod Fields
 pub mod Packed
+pub mod PlacedGates
 pub mod Readers
 mod ReadingRows
 pub mod Refusals

@@ -6,9 +6,9 @@
 //! `Graph::build` and `Operands::of` take memory.
 //!
 //! The contracts of all crates above cite the words of `specs/`: graphs, their evaluation, operands and the product
-//! (`Graph` and its files), what bytes spell and how a text is refused (`Text`, `Aiger`), lawful algebra certificates by
-//! the values of their polynomials (`Algebra`, `Certificates`). A law is the contract of a public function with an empty
-//! body.
+//! (`Graph` and its files), what bytes spell and how a text is refused (`Text`, `Aiger`), lawful algebra certificates
+//! by the values of their polynomials (`Algebra`, `Certificates`). A law is the contract of a public function with an
+//! empty body.
 #![tactic(auto)]
 
 mod certificate_laws;

@@ -20,11 +20,11 @@ use Rattle.graph_maker.specs.Ripple.{Outputs}
 use Rattle.graph_maker.specs.Products.{Products, products}
 use Rattle.graph_maker.specs.Made.{outputs_of, made, IsMultiplier, MadeMultiplies}
 use Rattle.graph_core.proofs.OfGraphs.CallerLemmas.{whole_from_evaluations, whole_products}
-use Rattle.graph_core.proofs.OfAiger.CallerLemmas.{Counts, counts_append, counts_apart, counts_contain, all_flat_map}
+use Rattle.graph_core.proofs.OfAiger.CallerLemmas.{ArePlaced, Counts, all_flat_map, counts_append, counts_apart, counts_contain, placed_count}
 use Rattle.graph_maker.proofs.CellFacts.{Holds}
 use Rattle.graph_maker.proofs.ArrayAdds.{rows_sum, AreLong, products_multiply, products_long, length-products, length-literals_from, array_adds, length-array}
 use Rattle.graph_maker.proofs.DaddaAdds.{dadda_adds, length-dadda}
-use Rattle.graph_maker.proofs.Places.{ArePlaced, AreUpTo, IsProducts, IsOutputs, products_placed, outputs_placed, up-literals_from}
+use Rattle.graph_maker.proofs.Places.{AreUpTo, IsProducts, IsOutputs, products_placed, outputs_placed, up-literals_from}
 
 -- ---- a graph of numbered gates has no fault
 
@@ -42,10 +42,6 @@ literals_count v (suc n) = (omega arith, subst (λ w. Counts w (map variable_of 
 literals_even : (v n : ℕ) → 0 < v → AllByRecursion (λ l. (l.0 % 2 ≡ 0) × (0 < variable_of l)) (literals_from v n)
 literals_even v zero p = tt
 literals_even v (suc n) p = ((omega arith, omega arith), literals_even (v + 1) n (omega arith))
-
-gates_count : (v : ℕ) (gates : List Gate) → ArePlaced v gates → Counts (suc v) (map (λ x. x.v) gates)
-gates_count v [] h = tt
-gates_count v (x ∷ gates) h = (h.0, gates_count (suc v) gates h.3)
 
 -- a gate's variable is above `low` and at most `high`, and its operands are below it
 record IsBetween (low high : ℕ) (x : Gate) : Type 0 where
@@ -69,7 +65,7 @@ module _ (n : ℕ) (g : Aig) (numbered : IsNumbered n g) where
   all_count =
       counts_append 1 (map variable_of g.inputs) (map (λ x. x.v) g.gates)
       (subst (λ ls. Counts 1 (map variable_of ls)) (sym numbered.inputs) (literals_count 1 n))
-      (subst (λ k. Counts k (map (λ x. x.v) g.gates)) (omega (arith, length-map g.inputs variable_of, ap length numbered.inputs, length-literals_from 1 n)) (gates_count n g.gates numbered.gates))
+      (subst (λ k. Counts k (map (λ x. x.v) g.gates)) (omega (arith, length-map g.inputs variable_of, ap length numbered.inputs, length-literals_from 1 n)) (placed_count n g.gates numbered.gates))
 
   length-defined : length (defined g) ≡ g.max
   length-defined =

@@ -8,10 +8,10 @@ use Rattle.graph_core.specs.Graph.Literals.{variable_of}
 use Rattle.graph_core.specs.Graph.{greater_first}
 use Rattle.graph_core.specs.Aiger.Writing.{written_gate}
 use Rattle.graph_core.specs.Aiger.{AreConsecutive, ArePackedGates}
+use Rattle.graph_core.proofs.OfAiger.CallerLemmas.{ArePlaced}
 use Rattle.graph_maker.specs.Builder.{literals_from}
 use Rattle.graph_maker.specs.Made.{made, MadeArePacked}
 use Rattle.graph_maker.proofs.ArrayAdds.{length-literals_from}
-use Rattle.graph_maker.proofs.Places.{ArePlaced}
 use Rattle.graph_maker.proofs.Sizes.{products_few, made_few}
 use Rattle.graph_maker.proofs.MadeMultiplies.{a_literals, b_literals, no_gates, all_products, count, long, numbered, full, shape, width_is}
 

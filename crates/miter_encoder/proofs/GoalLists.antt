@@ -9,22 +9,14 @@ use Rattle.std.proofs.lemmas.Option.{same_Some, slice_get_within}
 use Rattle.graph_core.specs.declared.literal.Lit.{Lit}
 use Rattle.graph_core.specs.Graph.Extended.{Column, Extended}
 use Rattle.graph_core.specs.Graph.Literals.{negation_of}
+use Rattle.graph_core.proofs.OfGraphs.CallerLemmas.{any_back, any_front, any_here, any_there}
 use Rattle.ripple_graft.specs.Extension.{IsExtension, IsReplaced, new_outputs}
 use Rattle.ripple_graft.proofs.CallerLemmas.{outputs_are_new}
 use Rattle.clause_core.specs.Clause.{Clause}
 use Rattle.clause_core.specs.GateClauses.{clause_of, goals_of}
-use Rattle.clause_core.proofs.CallerLemmas.{any_cases, any_here, any_nil, any_there}
 use Rattle.miter_encoder.specs.ColumnGoals.{AreGoalsBelow, AreGoalsOf, HasGoals, IsGoalOf, IsOfColumns}
 use Rattle.miter_encoder.specs.Pushing.{PushesGoals}
 use Rattle.miter_encoder.specs.declared.goal.Goal.{Goal}
-
-any_front : {X : Type 0} (P : X → Type 0) (xs ys : List X) → Any P xs → Any P (xs ++ ys)
-any_front P [] ys h = absurd (any_nil P h)
-any_front P (x ∷ xs) ys h = ⊎_elim (λ p. any_here P x (xs ++ ys) p) (λ r. any_there P x (xs ++ ys) (any_front P xs ys r)) (any_cases P x xs h)
-
-any_back : {X : Type 0} (P : X → Type 0) (xs ys : List X) → Any P ys → Any P (xs ++ ys)
-any_back P [] ys h = h
-any_back P (x ∷ xs) ys h = any_there P x (xs ++ ys) (any_back P xs ys h)
 
 again : (xs : List Column) (i : ℕ) (y : Column) → i < length xs → slice_index_or xs i (slice_index_or xs i y) ≡ slice_index_or xs i y
 again [] i y below = absurd (omega arith)

@@ -30,8 +30,7 @@ pub fn clause_of(alloc: Global, lits: &[Lit]) -> Result<Option<Clause>, Memory>
             push_signed(&mut items, *lit)?;
         }
     }
-    let clause = Clause::new(alloc, &items)?;
-    Ok(Some(clause))
+    Ok(Some(Clause::of(items)))
 }
 
 // the signed variable of one literal more at the end

@@ -12,7 +12,7 @@ use Rattle.graph_core.specs.Graph.Literals.{variable_of, constant_false}
 use Rattle.graph_core.specs.Graph.Assignments.{Assignment, variable, literal}
 use Rattle.graph_core.specs.Graph.{IsEvaluation, IsOrder, defined, evaluation, read_literals}
 use Rattle.graph_core.specs.Graph.Extended.{Column, Extended}
-use Rattle.graph_core.proofs.OfGraphs.CallerLemmas.{evaluation_is, finds_none, literal_same, rounds-free, variable_same, all_split, all_weaker, Apart, apart_from_pairs, gates_distinct}
+use Rattle.graph_core.proofs.OfGraphs.CallerLemmas.{evaluation_is, finds_none, literal_same, rounds-free, variable_same, all_join, all_split, all_weaker, Apart, apart_from_pairs, gates_distinct}
 use Rattle.graph_core.proofs.OfAiger.CallerLemmas.{Counts, counts_apart, counts_contain}
 use Rattle.graph_core.specs.Graph.Positions.{sum_after, carry_after}
 use Rattle.ripple_graft.specs.Ripple.{ripple_gates, ripple_outputs}
@@ -29,10 +29,6 @@ pairs_from_apart (x ∷ xs) h zero zero d lt within e = absurd (omega arith)
 pairs_from_apart (x ∷ xs) h zero (suc j) d lt within e = All-from_recursion (λ y. x ≢ y) xs h.0 j d (omega arith) e
 pairs_from_apart (x ∷ xs) h (suc i) zero d lt within e = absurd (omega arith)
 pairs_from_apart (x ∷ xs) h (suc i) (suc j) d lt within e = pairs_from_apart xs h.1 i j d (omega arith) (omega arith) e
-
-all_join : {X : Type 0} (P : X → Type 0) (xs ys : List X) → AllByRecursion P xs → AllByRecursion P ys → AllByRecursion P (xs ++ ys)
-all_join P [] ys h k = k
-all_join P (x ∷ xs) ys h k = (h.0, all_join P xs ys h.1 k)
 
 -- two lists without repeats, no element of which is in both
 apart_join : (xs ys : List ℕ) → Apart xs → Apart ys → AllByRecursion (λ x. AllByRecursion (λ y. x ≢ y) ys) xs → Apart (xs ++ ys)

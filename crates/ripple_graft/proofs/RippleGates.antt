@@ -4,11 +4,11 @@ use Rattle.std.specs.List.{AllByRecursion}
 use Rattle.std.proofs.Common.{refl, sym, subst, arith, inl, inr}
 use Rattle.graph_core.specs.declared.literal.Lit.{Lit}
 use Rattle.graph_core.specs.declared.gate.Gate.{Gate}
-use Rattle.graph_core.specs.Graph.Literals.{variable_of, negation_of}
+use Rattle.graph_core.specs.Graph.Literals.{constant_false, variable_of, negation_of}
 use Rattle.graph_core.proofs.OfGraphs.CallerLemmas.{variable_of-negated}
-use Rattle.graph_core.specs.Graph.Positions.{carry_after}
+use Rattle.graph_core.specs.Graph.Positions.{position, carry_after}
 use Rattle.ripple_graft.specs.Ripple.{ripple_gates}
-use Rattle.graph_core.proofs.OfAiger.CallerLemmas.{Counts}
+use Rattle.graph_core.proofs.OfAiger.CallerLemmas.{Counts, counts_append, placed_count, position_placed}
 
 -- a variable of those below, or one of the adder's
 abbrev pub IsOne : (ℕ → Type 0) → ℕ → ℕ → Type 0
@@ -69,28 +69,12 @@ module _ (Below : ℕ → Type 0) (low high : ℕ) where
 
 pub ripple_counts : (v : ℕ) (c : Lit) (ps : List (Lit × Lit)) → Counts (v + 1) (map (λ x. x.v) (ripple_gates v c ps))
 ripple_counts v c [] = tt
-ripple_counts v c (p ∷ ps) = (
-  refl,
-  (
-    omega arith,
-    (
-      omega arith,
-      (
-        omega arith,
-        (
-          omega arith,
-          (
-            omega arith,
-            (
-              omega arith,
-              subst (λ n. Counts n (map (λ x. x.v) (ripple_gates (v + 7) (carry_after v) ps))) (omega arith) (ripple_counts (v + 7) (carry_after v) ps),
-            ),
-          ),
-        ),
-      ),
-    ),
-  ),
-)
+ripple_counts v c (p ∷ ps) =
+    let rest : List ℕ = map (λ x. x.v) (ripple_gates (v + 7) (carry_after v) ps) in
+    let own : List ℕ = map (λ x. x.v) (position v constant_false constant_false constant_false) in
+    counts_append (v + 1) own rest
+    (subst (λ k. Counts k own) (omega arith) (placed_count v (position v constant_false constant_false constant_false) (position_placed v constant_false constant_false constant_false (omega arith) (omega arith) (omega arith))))
+    (subst (λ k. Counts k rest) (omega arith) (ripple_counts (v + 7) (carry_after v) ps))
 
 pub length-ripple_gates : (v : ℕ) (c : Lit) (ps : List (Lit × Lit)) → length (ripple_gates v c ps) ≡ 7 * length ps
 length-ripple_gates v c [] = refl

@@ -12,7 +12,7 @@ use Rattle.graph_core.specs.declared.literal.Lit.{Lit}
 use Rattle.graph_core.specs.declared.gate.Gate.{Gate}
 use Rattle.graph_core.specs.Graph.Literals.{variable_of}
 use Rattle.graph_core.specs.Graph.Extended.{Extended}
-use Rattle.graph_core.proofs.OfGraphs.CallerLemmas.{Apart, all_split, apart_from_pairs}
+use Rattle.graph_core.proofs.OfGraphs.CallerLemmas.{Apart, all_join, all_split, any_here, any_there, apart_from_pairs}
 use Rattle.ripple_graft.specs.Extension.{new_outputs}
 use Rattle.frontier_core.specs.declared.step.Step.{Step}
 use Rattle.frontier_core.specs.declared.step.Step.TheVariants.{Add, Eliminate}
@@ -21,7 +21,6 @@ use Rattle.frontier_core.specs.Plan.{Taken, nothing, step, taken, AreSteps}
 use Rattle.frontier_core.proofs.PlainOrders.{length-outputs_from}
 use Rattle.frontier_core.proofs.Plans.{step_is_pushed}
 use Rattle.frontier_core.proofs.Everywhere.{all_has}
-use Rattle.slice_finder.proofs.Cases.{all_join, any_here, any_there}
 use Rattle.slice_core.specs.Groups.{IsWhole, AreByGroups, GoesByGroups}
 use Rattle.slice_core.specs.GroupPlans.{AreReadersFirst, FirstGroups, ColumnIsPushed, GroupIsPushed, NextGroupFollows, GroupsFinish}
 use Rattle.slice_core.proofs.Composition.{has_append}

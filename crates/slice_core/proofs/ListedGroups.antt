@@ -9,13 +9,12 @@ use Rattle.std.proofs.lemmas.List.Elements.{recursion_from_All, All-from_recursi
 use Rattle.graph_core.specs.declared.gate.Gate.{Gate}
 use Rattle.graph_core.specs.Graph.Literals.{variable_of}
 use Rattle.graph_core.specs.Graph.{defined}
-use Rattle.graph_core.proofs.OfGraphs.CallerLemmas.{Apart, all_split, all_weaker, apart_from_pairs, rest_apart}
+use Rattle.graph_core.proofs.OfGraphs.CallerLemmas.{Apart, all_join, all_split, all_weaker, apart_from_pairs, rest_apart}
 use Rattle.ripple_graft.specs.Extension.{whole}
 use Rattle.ripple_graft.proofs.OneBlock.{pairs_from_apart}
 use Rattle.frontier_core.specs.Sets.{has}
 use Rattle.frontier_core.proofs.Everywhere.{all_of_map}
 use Rattle.frontier_core.proofs.PlainOrders.{plain_order_leaves_frontiers, plain_order_finishes}
-use Rattle.slice_finder.proofs.Cases.{all_join}
 use Rattle.slice_core.specs.Groups.{ends_full, ends_half, group_size, groups_of, groups}
 use Rattle.slice_core.specs.GroupPlans.{AreReadersFirst, AreInOrder, ListedGroupsServe, PlainGroupsServe}
 use Rattle.slice_core.proofs.GroupPlans.{has_reversed, all_has_itself, all_reversed}

@@ -10,13 +10,13 @@ use Rattle.graph_core.specs.declared.literal.Lit.{Lit}
 use Rattle.graph_core.specs.declared.gate.Gate.{Gate}
 use Rattle.graph_core.specs.Graph.Literals.{variable_of}
 use Rattle.graph_core.specs.Graph.Extended.{Extended}
-use Rattle.graph_core.proofs.OfGraphs.CallerLemmas.{all_split, all_weaker}
+use Rattle.graph_core.proofs.OfGraphs.CallerLemmas.{all_join, all_split, all_weaker}
 use Rattle.ripple_graft.specs.Extension.{new_outputs}
 use Rattle.frontier_core.specs.declared.step.Step.{Step}
 use Rattle.frontier_core.specs.declared.step.Step.TheVariants.{Add, Eliminate}
 use Rattle.frontier_core.specs.Sets.{has}
 use Rattle.frontier_core.specs.Plan.{Taken, nothing, step, taken, CanEliminate, AreSteps}
-use Rattle.slice_finder.proofs.Cases.{all_join, by_cases}
+use Rattle.slice_finder.proofs.Cases.{by_cases}
 use Rattle.slice_core.specs.Groups.{IsWhole}
 use Rattle.slice_core.specs.GroupPlans.{AreGroups, AreAtGroups}
 use Rattle.slice_core.specs.SlicePlan.{readers_gone, outputs_added, can_go, can_all_go, swept, slices, slice_steps, columns_added, count_down, SlicePlanServes}

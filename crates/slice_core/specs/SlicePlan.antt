@@ -16,7 +16,8 @@ use Rattle.slice_core.specs.GroupPlans.{AreGroups}
 -- whether each gate that reads v was eliminated
 abbrev pub readers_gone : List Gate → List ℕ → ℕ → Bool
 readers_gone [] eliminated v = true
-readers_gone (x ∷ gates) eliminated v = (not ((variable_of x.left == v) || (variable_of x.right == v)) || has eliminated x.v) && readers_gone gates eliminated v
+readers_gone (x ∷ gates) eliminated v =
+    (not ((variable_of x.left == v) || (variable_of x.right == v)) || has eliminated x.v) && readers_gone gates eliminated v
 
 -- whether each column from k on whose output is v's was added
 abbrev pub outputs_added : List Lit → ℕ → List ℕ → ℕ → Bool

@@ -10,12 +10,12 @@ use Rattle.graph_core.specs.declared.gate.Gate.{Gate}
 use Rattle.graph_core.specs.Graph.Assignments.{Assignment, variable, literal, bit}
 use Rattle.graph_core.specs.Graph.Literals.{negation_of}
 use Rattle.graph_core.specs.Graph.Literals.{plain, inverted}
-use Rattle.graph_core.proofs.OfGraphs.CallerLemmas.{full_adder, literal-even, literal-negated, literal-odd}
+use Rattle.graph_core.proofs.OfGraphs.CallerLemmas.{all_join, any_back, any_cases, any_front, any_here, any_nil, full_adder, literal-even, literal-negated, literal-odd}
 use Rattle.slice_finder.specs.declared.adds.Adds.{Adds}
 use Rattle.slice_finder.specs.XorShape.{HasXorShape}
 use Rattle.slice_finder.specs.Adders.{IsFullAdder, AddsUp, full_block, half_block, IsSumOfSeven, BlocksExist}
 use Rattle.slice_finder.specs.Positions.{reads, is_half}
-use Rattle.slice_finder.proofs.Cases.{all_join, any_here, any_there, any_cases, any_nil, by_cases}
+use Rattle.slice_finder.proofs.Cases.{by_cases}
 use Rattle.slice_finder.proofs.AddersAdd.{half_table}
 
 -- ---- lists made gate by gate
@@ -28,17 +28,9 @@ each_all : (P : Adds → Type 0) (C : Gate → Type 0) (f : Gate → List Adds) 
 each_all P C f [] h k = tt
 each_all P C f (x ∷ xs) h k = all_join P (f x) (each f xs) (h x k.0) (each_all P C f xs h k.1)
 
-any_left : (P : Adds → Type 0) (xs ys : List Adds) → Any P xs → Any P (xs ++ ys)
-any_left P [] ys h = absurd (any_nil P h)
-any_left P (x ∷ xs) ys h = ⊎_elim (λ p. any_here P x (xs ++ ys) p) (λ a. any_there P x (xs ++ ys) (any_left P xs ys a)) (any_cases P x xs h)
-
-any_right : (P : Adds → Type 0) (xs ys : List Adds) → Any P ys → Any P (xs ++ ys)
-any_right P [] ys h = h
-any_right P (x ∷ xs) ys h = any_there P x (xs ++ ys) (any_right P xs ys h)
-
 each_any : (P : Adds → Type 0) (C : Gate → Type 0) (f : Gate → List Adds) (xs : List Gate) → ((x : Gate) → C x → Any P (f x)) → Any C xs → Any P (each f xs)
 each_any P C f [] h k = absurd (any_nil C k)
-each_any P C f (x ∷ xs) h k = ⊎_elim (λ c. any_left P (f x) (each f xs) (h x c)) (λ a. any_right P (f x) (each f xs) (each_any P C f xs h a)) (any_cases C x xs k)
+each_any P C f (x ∷ xs) h k = ⊎_elim (λ c. any_front P (f x) (each f xs) (h x c)) (λ a. any_back P (f x) (each f xs) (each_any P C f xs h a)) (any_cases C x xs k)
 
 -- ---- tests
 
@@ -211,9 +203,9 @@ module _ (gates : List Gate) (s : ℕ) where
       let h_reads : reads gh (inverted gu.v) (inverted gd.v) ≡ true = ap₂ (λ i j. reads gh (inverted i) (inverted j)) hu.0 hd.0 ∙ reads_complete gh (inverted u) (inverted d) hh.1 in
       let f_reads : reads gf (inverted gt.v) (negation_of c) ≡ true = ap (λ i. reads gf (inverted i) (negation_of c)) ht.0 ∙ reads_complete gf (inverted t) (negation_of c) hf.1 in
       ⊎_elim
-      (λ a. any_left IsFound (seven_of gd.left gd.right gu gw gt gd gf gs gh) (seven_of gd.right gd.left gu gw gt gd gf gs gh)
+      (λ a. any_front IsFound (seven_of gd.left gd.right gu gw gt gd gf gs gh) (seven_of gd.right gd.left gu gw gt gd gf gs gh)
       (one gu gw gt gd gf gs gh gd.left gd.right a.0 a.1 half (ap (λ n. n.0) a.0 ∙ sym (ap (λ i. 2 * i) ht.0)) f_reads s_reads h_reads hs.0 hh.0))
-      (λ a. any_right IsFound (seven_of gd.left gd.right gu gw gt gd gf gs gh) (seven_of gd.right gd.left gu gw gt gd gf gs gh)
+      (λ a. any_back IsFound (seven_of gd.left gd.right gu gw gt gd gf gs gh) (seven_of gd.right gd.left gu gw gt gd gf gs gh)
       (one gu gw gt gd gf gs gh gd.right gd.left a.1 a.0 half (ap (λ n. n.0) a.1 ∙ sym (ap (λ i. 2 * i) ht.0)) f_reads s_reads h_reads hs.0 hh.0)) hd.1)
       is.h_gate) is.s_gate) is.f_gate) is.e_gate) is.t_gate) is.w_gate) is.u_gate
     where
@@ -234,7 +226,7 @@ blocks_exist e =
         add = λ σ evaluates.
             let all = recursion_from_All (λ g. variable σ g.v ≡ (literal σ g.left && literal σ g.right)) e.gates evaluates in
             All-from_recursion (AddsUp σ) (fulls ++ halves) (all_join (AddsUp σ) fulls halves (fulls_add σ e.gates all) (halves_add σ e.gates all));
-        full = λ s h. any_left (IsFound e.gates s) fulls halves (full_found e.gates s h);
-        half = λ v generating other x y pair h not_sum not_half. any_right (λ b. (b.sum ≡ plain v) × (b.carry ≡ plain generating)) fulls halves (half_found e.gates v generating other x y h.shape);
+        full = λ s h. any_front (IsFound e.gates s) fulls halves (full_found e.gates s h);
+        half = λ v generating other x y pair h not_sum not_half. any_back (λ b. (b.sum ≡ plain v) × (b.carry ≡ plain generating)) fulls halves (half_found e.gates v generating other x y h.shape);
       },
     )

@@ -10,9 +10,9 @@ use Rattle.graph_core.specs.Graph.{IsDefinedOnce, Aig}
 use Rattle.graph_core.proofs.OfAiger.CallerLemmas.{counts_apart}
 use Rattle.ripple_graft.specs.declared.cut.Cut.{Cut}
 use Rattle.graph_core.specs.Graph.Literals.{inverted}
+use Rattle.graph_core.proofs.OfGraphs.CallerLemmas.{any_cases, any_nil}
 use Rattle.slice_finder.specs.XorShape.{HasXorShape, IsUsedBesides, IsXorGate, HasPair}
 use Rattle.slice_finder.specs.FinalStage.{member, gate as gate_covered, IsNextColumn, AreNextColumns, IsFit, IsFinalStage}
-use Rattle.slice_finder.proofs.Cases.{any_cases, any_nil}
 use Rattle.slice_finder.proofs.XorShapes.{Operands, one_gate, same_sides, gates_distinct, pair_has_shape}
 
 abbrev lit : ℕ → Lit

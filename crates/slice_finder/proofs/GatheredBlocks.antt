@@ -13,7 +13,7 @@ use Rattle.graph_core.specs.declared.gate.Gate.{Gate}
 use Rattle.graph_core.specs.Graph.Literals.{inverted, plain}
 use Rattle.graph_core.specs.Graph.{IsDefinedOnce, IsWellFormed}
 use Rattle.graph_core.specs.Graph.Extended.{Extended}
-use Rattle.graph_core.proofs.OfGraphs.CallerLemmas.{gate_in_range, gates_apart}
+use Rattle.graph_core.proofs.OfGraphs.CallerLemmas.{any_front, gate_in_range, gates_apart}
 use Rattle.slice_finder.specs.declared.adds.Adds.{Adds}
 use Rattle.slice_finder.specs.declared.full.Full.{Full}
 use Rattle.slice_finder.specs.XorShape.{Computes}
@@ -21,7 +21,6 @@ use Rattle.slice_finder.specs.Adders.{AddsUp, AreAddingBlocks, HaveOwnSums, IsFu
 use Rattle.slice_finder.specs.FullSearch.{IsFullAt}
 use Rattle.slice_finder.specs.BlockSearch.{AreFulls, AreHalves, HasHalfAdder, IsFullOf, IsMarked, IsOfTried, TriesFull, TriesHalf, is_taken, no_full, no_half, one_full, one_half}
 use Rattle.slice_finder.proofs.AddersAdd.{full_adders_add, half_adders_add}
-use Rattle.slice_finder.proofs.Cases.{any_kept}
 use Rattle.slice_finder.proofs.XorShapes.{generating_one}
 
 -- ---- marks
@@ -81,7 +80,7 @@ fresh e well i d b low tried is =
 
 -- more are tried
 tried_more : (gates : List Gate) (i : ℕ) (d : Gate) (b : Adds) → i < length gates → IsOfTried (take i gates) b → IsOfTried (take (i + 1) gates) b
-tried_more gates i d b low h = subst (λ gs. IsOfTried gs b) (sym (take_more gates i d low)) (any_kept (λ y. b.sum ≡ plain y.v) (take i gates) (get_or gates i d ∷ []) h)
+tried_more gates i d b low h = subst (λ gs. IsOfTried gs b) (sym (take_more gates i d low)) (any_front (λ y. b.sum ≡ plain y.v) (take i gates) (get_or gates i d ∷ []) h)
 
 tried_own : (gates : List Gate) (i : ℕ) (d : Gate) (b : Adds) → i < length gates → b.sum ≡ plain (get_or gates i d).v → IsOfTried (take (i + 1) gates) b
 tried_own gates i d b low is = subst (λ gs. IsOfTried gs b) (sym (take_more gates i d low)) (Any-push (λ y. b.sum ≡ plain y.v) (take i gates) (get_or gates i d) is)
@@ -139,7 +138,7 @@ module _ (e : Extended) (well : IsWellFormed (as_graph e)) (i : ℕ) (d : Gate) 
         named = subst (All (IsFullBlock e.gates)) (sym pushed) (All-push (IsFullBlock e.gates) old full.adds h.named (block_of e.gates x.v full is));
         each = subst (λ blocks. All (IsTried blocks) (take (i + 1) e.gates)) (sym pushed)
             (All-more (IsTried (old ++ full.adds ∷ [])) e.gates i d low
-            (All-weaker (IsTried old) (IsTried (old ++ full.adds ∷ [])) (λ y t s. any_kept (IsFullOf e.gates y.v) old (full.adds ∷ []) (t s)) (take i e.gates) h.each)
+            (All-weaker (IsTried old) (IsTried (old ++ full.adds ∷ [])) (λ y t s. any_front (IsFullOf e.gates y.v) old (full.adds ∷ []) (t s)) (take i e.gates) h.each)
             (λ s. Any-push (IsFullOf e.gates x.v) old full.adds (full_of e.gates x.v full is)));
         once = subst HaveOwnSums (sym pushed) (all_pairs_push (λ a b. a.sum ≢ b.sum) old full.adds h.once (λ k c below same. fresh e well i d (get_or old k c) low (h.sums k c below) (same ∙ sum_is)));
         sums = subst (All (IsOfTried (take (i + 1) e.gates))) (sym pushed)
@@ -203,10 +202,10 @@ module _ (e : Extended) (well : IsWellFormed (as_graph e)) (marks : List Bool) (
             (λ m. unmarked (subst (λ v. slice_get marks v ≡ Some true) (plain_one m.0 z.v (sym m.1 ∙ same)) m.2))
             (λ t. fresh e well i d (get_or old k c) low t same) (h.sums k c below));
         sums = All-push (λ b. IsMarked marks b ⊎ IsOfTried (take (i + 1) e.gates) b) old block (sums_more old h.sums) (inr (tried_own e.gates i d block low refl));
-        full = λ s sum. any_kept (IsFullOf e.gates s) old (block ∷ []) (h.full s sum);
+        full = λ s sum. any_front (IsFullOf e.gates s) old (block ∷ []) (h.full s sum);
         each = All-more (λ k. HasHalfAdder e (old ++ block ∷ []) k.v) e.gates i d low
             (All-weaker (λ k. HasHalfAdder e old k.v) (λ k. HasHalfAdder e (old ++ block ∷ []) k.v)
-            (λ k t generating other x y pair is not_sum not_half. any_kept (λ b. (b.sum ≡ plain k.v) × (b.carry ≡ plain generating)) old (block ∷ []) (t generating other x y pair is not_sum not_half)) (take i e.gates) h.each)
+            (λ k t generating other x y pair is not_sum not_half. any_front (λ b. (b.sum ≡ plain k.v) × (b.carry ≡ plain generating)) old (block ∷ []) (t generating other x y pair is not_sum not_half)) (take i e.gates) h.each)
             (λ generating other x y pair is not_sum not_half. Any-push (λ b. (b.sum ≡ plain z.v) × (b.carry ≡ plain generating)) old block
             (refl, ap plain (generating_one (as_graph e) well.defined_once z.v xor.generating xor.other generating other xor.pair.0 xor.pair.1 x y xor.pair pair found is)));
       })

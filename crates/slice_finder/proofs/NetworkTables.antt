@@ -16,13 +16,12 @@ use Rattle.graph_core.specs.declared.gate.Gate.{Gate}
 use Rattle.graph_core.specs.Graph.Literals.{variable_of}
 use Rattle.graph_core.specs.Graph.{IsWellFormed}
 use Rattle.graph_core.specs.Graph.Extended.{Column, Extended}
-use Rattle.graph_core.proofs.OfGraphs.CallerLemmas.{gate_in_range, output_in_range}
+use Rattle.graph_core.proofs.OfGraphs.CallerLemmas.{any_front, gate_in_range, output_in_range}
 use Rattle.ripple_graft.specs.Extension.{IsExtension, new_outputs, outputs_from}
 use Rattle.ripple_graft.proofs.BlockLists.{whole_is_well_formed}
 use Rattle.slice_finder.specs.Adders.{as_graph}
 use Rattle.slice_finder.specs.Network.{AreByOperands, AreNarrow, AreReaders, key_of}
 use Rattle.slice_finder.specs.XorShape.{Computes}
-use Rattle.slice_finder.proofs.Cases.{any_kept}
 
 -- ---- readers
 
@@ -130,7 +129,7 @@ module _ {S : Type 0} (m n : IndexMap ℕ ℕ S) (gates : List Gate) (i : ℕ) (
     where
       either : (k v : ℕ) (b : Bool) → nat_eq key k ≡ b → cond b (Some item.v) (get nat_eq m k) ≡ Some v → Any (IsUnder v k) (take (i + 1) gates)
       either k v true same e = subst (Any (IsUnder v k)) (sym (take_more gates i d low)) (Any-push (IsUnder v k) (take i gates) item (some_same item.v v e, eqb-true key k same))
-      either k v false other e = subst (Any (IsUnder v k)) (sym (take_more gates i d low)) (any_kept (IsUnder v k) (take i gates) (item ∷ []) (h.sound k v e))
+      either k v false other e = subst (Any (IsUnder v k)) (sym (take_more gates i d low)) (any_front (IsUnder v k) (take i gates) (item ∷ []) (h.sound k v e))
 
       kept : (y : Gate) → IsSome (get nat_eq m (key_of y.left y.right)) → IsSome (get nat_eq n (key_of y.left y.right))
       kept y some = subst IsSome (sym (updates.0 (key_of y.left y.right))) (still (nat_eq key (key_of y.left y.right)))

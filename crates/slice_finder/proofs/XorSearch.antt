@@ -1,16 +1,18 @@
 -- A gate of XOR shape is found by the gates below it.
-use Rattle.std.specs.Prelude.{◌≡◌, ◌≢◌, ℕ, ◌+◌, ◌*◌, ◌-◌, ◌%◌, ◌<◌, ◌≤◌, ◌⊎◌, cond, ◌==◌, nat_le}
+use Rattle.std.specs.Prelude.{◌≡◌, ◌≢◌, ◌↔◌, ℕ, ◌+◌, ◌*◌, ◌-◌, ◌%◌, ◌<◌, ◌≤◌, ◌⊎◌, Bool, false, cond, ◌==◌, nat_le, IfSome, IsNone, IsTrue}
+use Rattle.std.specs.declared.option.Option.{Option}
+use Rattle.std.specs.declared.option.Option.TheVariants.{None, Some}
 use Rattle.std.specs.List.{Contains}
-use Rattle.std.proofs.Common.{refl, sym, ap, subst, ◌∙◌, arith, inl, inr, ⊎_elim, eqb-true}
-use Rattle.std.proofs.lemmas.Bool.{eqb-false}
+use Rattle.std.proofs.Common.{refl, sym, ap, subst, ◌∙◌, arith, inl, inr, ⊎_elim, eqb-true, true≢false}
+use Rattle.std.proofs.lemmas.Bool.{cases_lt, eqb-false}
 use Rattle.graph_core.specs.declared.literal.Lit.{Lit}
 use Rattle.graph_core.specs.declared.gate.Gate.{Gate}
 use Rattle.graph_core.specs.Graph.Literals.{variable_of, negation_of, inverted, IsNegated}
-use Rattle.graph_core.specs.Graph.{Aig, IsGateOf, IsWellFormed}
+use Rattle.graph_core.specs.Graph.{Aig, IsGateOf, IsWellFormed, reader_count}
 use Rattle.graph_core.proofs.OfGraphs.CallerLemmas.{gate_in_range, one_gate, variable_of-negated}
 use Rattle.slice_finder.specs.declared.xor.Xor.{Xor}
 use Rattle.slice_finder.specs.XorShape.{Computes, HasPair, HasXorShape, IsXor, IsXorGate, IsXorOf, in_order}
-use Rattle.slice_finder.specs.XorFound.{AreTwo, IsBelow, IsReadMore, Reads}
+use Rattle.slice_finder.specs.XorFound.{AreTwo, IsBelow, IsMoreRead, IsReadMore, IsShapeOver, Reads, shape_of}
 use Rattle.slice_finder.proofs.Cases.{by_cases}
 use Rattle.slice_finder.proofs.ReadBesides.{generates_from}
 
@@ -119,7 +121,7 @@ module _ (g : Aig) (well : IsWellFormed g) where
 
   -- the gate over two others, of which the first generates
   pub is_found : (top u w : Gate) → Contains g.gates top → Contains g.gates u → Contains g.gates w → Reads top (inverted u.v) (inverted w.v) → AreTwo u w → IsReadMore g u.v w.v →
-      (xor : Xor) → xor ≡ record { generating = u.v; other = w.v; pair = in_order u } → IsXorOf g top.v xor
+      (xor : Xor) → xor ≡ shape_of u w → IsXorOf g top.v xor
   is_found top u w has_top has_u has_w reads two more xor is =
       subst (IsXorOf g top.v) (sym is)
       (⊎_elim
@@ -193,19 +195,47 @@ module _ (g : Aig) (well : IsWellFormed g) where
       not (subst (λ z. AreTwo z w) a (subst (λ z. AreTwo h.0 z) b h.4))
 
   -- the two gates below, the first of which generates
-  pub found_left : (v : ℕ) (top u w : Gate) → IsGateOf g.gates v top → IsBelow g.gates top.left u → IsBelow g.gates top.right w → AreTwo u w → IsReadMore g u.v w.v →
-      (xor : Xor) → xor ≡ record { generating = u.v; other = w.v; pair = in_order u } → IsXorOf g v xor
+  found_left : (v : ℕ) (top u w : Gate) → IsGateOf g.gates v top → IsBelow g.gates top.left u → IsBelow g.gates top.right w → AreTwo u w → IsReadMore g u.v w.v →
+      (xor : Xor) → xor ≡ shape_of u w → IsXorOf g v xor
   found_left v top u w at p q two more xor is = subst (λ n. IsXorOf g n xor) at.1 (is_found top u w at.0 p.1.0 q.1.0 (below_reads top u w p q) two more xor is)
 
   -- or the second
-  pub found_right : (v : ℕ) (top u w : Gate) → IsGateOf g.gates v top → IsBelow g.gates top.left u → IsBelow g.gates top.right w → AreTwo u w → (u.v ≡ w.v) ⊎ IsReadMore g w.v u.v →
-      (xor : Xor) → xor ≡ record { generating = w.v; other = u.v; pair = in_order w } → IsXorOf g v xor
+  found_right : (v : ℕ) (top u w : Gate) → IsGateOf g.gates v top → IsBelow g.gates top.left u → IsBelow g.gates top.right w → AreTwo u w → IsReadMore g w.v u.v →
+      (xor : Xor) → xor ≡ shape_of w u → IsXorOf g v xor
   found_right v top u w at p q two more xor is =
-      let after : IsReadMore g w.v u.v = ⊎_elim (λ e. absurd (two.different e)) (λ m. m) more in
-      subst (λ n. IsXorOf g n xor) at.1 (is_found top w u at.0 q.1.0 p.1.0 (flip top (inverted u.v) (inverted w.v) (below_reads top u w p q)) (two_flip u w two) after xor is)
+      subst (λ n. IsXorOf g n xor) at.1 (is_found top w u at.0 q.1.0 p.1.0 (flip top (inverted u.v) (inverted w.v) (below_reads top u w p q)) (two_flip u w two) more xor is)
+
+  -- what is told of their readers is so
+  told_more : (u w : ℕ) (first second : Bool) → (IsTrue first ↔ 1 < reader_count g u) → (IsTrue second ↔ 1 < reader_count g w) → IsMoreRead u first w second → IsReadMore g u w
+  told_more u w first second a b =
+      ⊎_elim (λ s. inl (a.0 s.0, few w second b s.1))
+      (λ s. inr (
+        by_cases (λ c. first ≡ c → ((1 < reader_count g u) × (1 < reader_count g w)) ⊎ ((reader_count g u ≤ 1) × (reader_count g w ≤ 1))) first
+            (λ _ e. inl (a.0 e, b.0 (sym s.0 ∙ e))) (λ _ e. inr (few u first a e, few w second b (sym s.0 ∙ e))) refl,
+        s.1,
+      ))
+    where
+      few : (v : ℕ) (shared : Bool) → (IsTrue shared ↔ 1 < reader_count g v) → shared ≡ false → reader_count g v ≤ 1
+      few v shared told one = ⊎_elim (λ more. absurd (true≢false (sym (told.1 more) ∙ one))) (λ low. low) (cases_lt 1 (reader_count g v))
+
+  -- the shape over the two gates below
+  found : (v : ℕ) (top u w : Gate) (first second : Bool) → IsGateOf g.gates v top → IsBelow g.gates top.left u → IsBelow g.gates top.right w →
+      (IsTrue first ↔ 1 < reader_count g u.v) → (IsTrue second ↔ 1 < reader_count g w.v) → (xor : Xor) → IsShapeOver u first w second xor → IsXorOf g v xor
+  found v top u w first second at p q a b xor is =
+      ⊎_elim (λ s. found_left v top u w at p q is.two (told_more u.v w.v first second a b s.0) xor s.1)
+      (λ s. found_right v top u w at p q is.two (told_more w.v u.v second first b a s.0) xor s.1) is.over
 
   pub has_shape : (v : ℕ) (xor : Xor) → IsXorOf g v xor → IsXorGate g v
   has_shape v xor h = (xor.generating, xor.other, xor.pair.0, xor.pair.1, h.shape)
+
+  -- and none exactly where the gate has no such shape
+  pub found_exactly : (v : ℕ) (top u w : Gate) (first second : Bool) → IsGateOf g.gates v top → IsBelow g.gates top.left u → IsBelow g.gates top.right w →
+      (IsTrue first ↔ 1 < reader_count g u.v) → (IsTrue second ↔ 1 < reader_count g w.v) → (r : Option Xor) → IfSome r (IsShapeOver u first w second) → (IsNone r → ¬ (AreTwo u w)) →
+      IfSome r (IsXorOf g v) × (IsNone r ↔ ¬ (IsXorGate g v))
+  found_exactly v top u w first second at p q a b None some none = (some, (λ e. not_two v top u w at p q (none e), λ _. refl))
+  found_exactly v top u w first second at p q a b (Some xor) some none =
+      let is = found v top u w first second at p q a b xor some in
+      (is, (λ e. absurd (true≢false e), λ not. absurd (not (has_shape v xor is))))
 
   pub pair_low : (v : ℕ) (p : Lit × Lit) → HasPair g v p → (variable_of p.0 ≤ g.max) × (variable_of p.1 ≤ g.max)
   pair_low v p h =

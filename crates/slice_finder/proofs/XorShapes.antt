@@ -8,10 +8,9 @@ use Rattle.graph_core.specs.declared.gate.Gate.{Gate}
 use Rattle.graph_core.specs.Graph.Assignments.{Assignment, variable, literal}
 use Rattle.graph_core.specs.Graph.Literals.{variable_of, negation_of}
 use Rattle.graph_core.specs.Graph.{Aig, IsDefinedOnce, defined}
-use Rattle.graph_core.proofs.OfGraphs.CallerLemmas.{Distinct, apart_from_pairs, gates_distinct as distinct_gates, literal-even, literal-negated, literal-odd, rest_apart, variable_of-negated}
+use Rattle.graph_core.proofs.OfGraphs.CallerLemmas.{Distinct, any_cases, any_nil, apart_from_pairs, gates_distinct as distinct_gates, literal-even, literal-negated, literal-odd, rest_apart, variable_of-negated}
 use Rattle.graph_core.specs.Graph.Literals.{plain, inverted}
 use Rattle.slice_finder.specs.XorShape.{Computes, HasXorShape, IsGenerating, IsXor, in_order, IsXorGate, HasPair, exclusive_or, XorShapeIsXor}
-use Rattle.slice_finder.proofs.Cases.{any_cases, any_nil}
 
 -- a gate's equation, for its operands in either order
 abbrev pub Equation : Assignment → Gate → Type 0

@@ -57,4 +57,5 @@ pub record AreHalves (e : Extended) (marks : List Bool) (tried : List Gate) (blo
 pub data TriesHalf (e : Extended) (v : ℕ) (taken : List Bool) (old new : List Adds) : Type 0 where
   is_taken : slice_get taken v ≡ Some true → new ≡ old → TriesHalf e v taken old new
   no_half : ¬ (IsXorGate (as_graph e) v) → new ≡ old → TriesHalf e v taken old new
-  one_half : (xor : Xor) → ¬ (slice_get taken v ≡ Some true) → IsXorOf (as_graph e) v xor → new ≡ old ++ half_block v xor.generating xor.pair ∷ [] → TriesHalf e v taken old new
+  one_half : (xor : Xor) → ¬ (slice_get taken v ≡ Some true) → IsXorOf (as_graph e) v xor →
+      new ≡ old ++ half_block v xor.generating xor.pair ∷ [] → TriesHalf e v taken old new

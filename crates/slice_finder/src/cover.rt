@@ -1,7 +1,5 @@
 // How many pairs, from the first on, cover each variable.
-ghost use Rattle.std.specs.Prelude.{◌≡◌, ◌+◌, ◌<◌, ◌≤◌, IfOk, length, map};
-ghost use Rattle.std.specs.List.{All};
-ghost use Rattle.graph_core.specs.Graph.{IsLevel};
+ghost use Rattle.std.specs.Prelude.{◌≡◌, ◌+◌, ◌<◌, ◌≤◌, IfOk, length};
 ghost use Rattle.graph_core.specs.Graph.Literals.{variable_of};
 ghost use Rattle.slice_finder.specs.Cover.{AreFirstNeeds, AreKeys, AreNeeds, ArePairsIn, IsCover, Lowers};
 
@@ -12,21 +10,11 @@ use std::alloc::Global;
 pub(crate) fn keys_by_level(alloc: Global, graph: &Graph) -> Result<Vec<(u32, u32)>, Memory>
     ensures { IfOk result (λ keys. AreKeys graph.now keys.items) }
 {
-    let _max = graph.max();
-    let mut keys = keys_of(alloc, graph)?;
-    keys.sort_unstable();
-    Ok(keys)
-}
-
-// The level and the variable of each gate.
-fn keys_of(alloc: Global, graph: &Graph) -> Result<Vec<(u32, u32)>, Memory>
-    ensures levels { IfOk result (λ keys. All (λ key. IsLevel graph.now.gates key.1 key.0) keys.items) }
-    ensures variables { IfOk result (λ keys. map (λ key. key.1) keys.items ≡ map (λ x. x.v) graph.now.gates) }
-{
     let mut keys = Vec::new(alloc);
     for gate in graph.gates() {
         keys.push((graph.level(gate.v), gate.v))?;
     }
+    keys.sort_unstable();
     Ok(keys)
 }
 

@@ -1,6 +1,7 @@
 // An extended graph with what the search for blocks asks of it at hand.
 use crate::by_operands::{by_operands, key_of};
 use crate::readers::readers_of;
+use crate::xor::negated_variable;
 use graph_core::{Gate, Lit, Memory};
 use indexmap::IndexMap;
 use ripple_graft::Extended;
@@ -86,11 +87,7 @@ impl<'a> Network<'a> {
         ensures some { IfSome result (IsBelow self.now.gates lit) }
         ensures none { IsNone result → (x : AndGate) → ¬ (IsBelow self.now.gates lit x) }
     {
-        if lit.negated() {
-            self.gate(lit.var())
-        } else {
-            None
-        }
+        self.gate(negated_variable(lit)?)
     }
 
     /// The variable of a gate over two literals, in either order.

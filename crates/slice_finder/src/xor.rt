@@ -1,9 +1,10 @@
 // Gates of XOR shape.
-ghost use Rattle.std.specs.Prelude.{◌≡◌, ◌↔◌, ◌≤◌, ◌⊎◌, true, false, IsTrue, IsNone, IfSome};
+ghost use Rattle.std.specs.Prelude.{◌≡◌, ◌↔◌, ◌<◌, ◌≤◌, ◌⊎◌, true, false, IsTrue, IsNone, IfSome};
 ghost use Rattle.graph_core.specs.declared.gate.Gate.{Gate as AndGate};
-ghost use Rattle.graph_core.specs.Graph.Literals.{variable_of};
-ghost use Rattle.slice_finder.specs.XorShape.{IsXorGate, IsXorOf, in_order};
-ghost use Rattle.slice_finder.specs.XorFound.{AreTwo, IsBelow, IsReadMore, Reads};
+ghost use Rattle.graph_core.specs.Graph.{reader_count};
+ghost use Rattle.graph_core.specs.Graph.Literals.{IsNegated, variable_of};
+ghost use Rattle.slice_finder.specs.XorShape.{IsXorGate, IsXorOf};
+ghost use Rattle.slice_finder.specs.XorFound.{AreTwo, IsBelow, IsMoreRead, IsShapeOver, Reads, shape_of};
 
 use graph_core::{Gate, Graph, Lit};
 
@@ -33,35 +34,35 @@ pub fn xor_of(graph: &Graph, v: u32) -> Option<Xor>
     let top = graph.gate(v)?;
     let left = gate_below(graph, top.left)?;
     let right = gate_below(graph, top.right)?;
-    if !are_two(&left, &right) {
+    shape_over(
+        &left,
+        is_shared(graph, left.v),
+        &right,
+        is_shared(graph, right.v),
+    )
+}
+
+// The shape over two gates, where it is told of each whether it is read more than once.
+pub(crate) fn shape_over(u: &Gate, u_shared: bool, w: &Gate, w_shared: bool) -> Option<Xor>
+    ensures some { IfSome result (IsShapeOver u.now u_shared w.now w_shared) }
+    ensures none { IsNone result → ¬ (AreTwo u.now w.now) }
+{
+    if !are_two(u, w) {
         return None;
     }
-    if generates(graph, left.v, right.v) {
-        Some(xor_over(&left, &right))
+    if generates(u.v, u_shared, w.v, w_shared) {
+        Some(xor_over(u, w))
     } else {
-        Some(xor_over(&right, &left))
+        Some(xor_over(w, u))
     }
 }
 
-// The gate whose negation a literal is.
-fn gate_below(graph: &Graph, lit: Lit) -> Option<Gate>
-    requires in_range { variable_of lit ≤ graph.now.max }
-    ensures some { IfSome result (IsBelow graph.now.gates lit) }
-    ensures none { IsNone result → (x : AndGate) → ¬ (IsBelow graph.now.gates lit x) }
+// The variable whose negation a literal is.
+pub(crate) fn negated_variable(lit: Lit) -> Option<u32>
+    ensures some { IfSome result (λ v. IsNegated lit × (v ≡ variable_of lit)) }
+    ensures none { IsNone result → ¬ (IsNegated lit) }
 {
-    if lit.negated() {
-        graph.gate(lit.var())
-    } else {
-        None
-    }
-}
-
-// Whether two different gates are the AND of two literals of different variables and that of their negations.
-pub(crate) fn are_two(u: &Gate, w: &Gate) -> bool
-    ensures { IsTrue result ↔ AreTwo u.now w.now }
-{
-    let (x, y) = (u.left, u.right);
-    u.v != w.v && x.var() > 0 && y.var() > 0 && x.var() != y.var() && reads(w, x.not(), y.not())
+    if lit.negated() { Some(lit.var()) } else { None }
 }
 
 // Whether these are the operands, in either order.
@@ -71,21 +72,42 @@ pub(crate) fn reads(gate: &Gate, x: Lit, y: Lit) -> bool
     (gate.left == x && gate.right == y) || (gate.left == y && gate.right == x)
 }
 
-// Whether the first of two gates below a gate generates: it is read besides and the other isn't, or it is the lesser.
-fn generates(graph: &Graph, u: u32, w: u32) -> bool
-    requires u { u ≤ graph.now.max }
-    requires w { w ≤ graph.now.max }
-    ensures yes { result ≡ true → IsReadMore graph.now u w }
-    ensures no { result ≡ false → (u ≡ w) ⊎ IsReadMore graph.now w u }
+// The gate whose negation a literal is.
+fn gate_below(graph: &Graph, lit: Lit) -> Option<Gate>
+    requires in_range { variable_of lit ≤ graph.now.max }
+    ensures some { IfSome result (IsBelow graph.now.gates lit) }
+    ensures none { IsNone result → (x : AndGate) → ¬ (IsBelow graph.now.gates lit x) }
 {
-    let first = graph.readers(u) > 1;
-    let second = graph.readers(w) > 1;
+    graph.gate(negated_variable(lit)?)
+}
+
+// Whether more than one gate operand and output read a variable.
+fn is_shared(graph: &Graph, v: u32) -> bool
+    requires { v ≤ graph.now.max }
+    ensures { IsTrue result ↔ 1 < reader_count graph.now v }
+{
+    graph.readers(v) > 1
+}
+
+// Whether two different gates are the AND of two literals of different variables and that of their negations.
+fn are_two(u: &Gate, w: &Gate) -> bool
+    ensures { IsTrue result ↔ AreTwo u.now w.now }
+{
+    let (x, y) = (u.left, u.right);
+    u.v != w.v && x.var() > 0 && y.var() > 0 && x.var() != y.var() && reads(w, x.not(), y.not())
+}
+
+// Whether the first of two gates below a gate generates: it is read besides and the other isn't, or it is the lesser.
+fn generates(u: u32, first: bool, w: u32, second: bool) -> bool
+    ensures yes { result ≡ true → IsMoreRead u first w second }
+    ensures no { result ≡ false → (u ≡ w) ⊎ IsMoreRead w second u first }
+{
     if first == second { u < w } else { first }
 }
 
 // What is told of a generating gate and the other one.
-pub(crate) fn xor_over(generating: &Gate, other: &Gate) -> Xor
-    ensures { result ≡ record { generating = generating.now.v; other = other.now.v; pair = in_order generating.now } }
+fn xor_over(generating: &Gate, other: &Gate) -> Xor
+    ensures { result ≡ shape_of generating.now other.now }
 {
     let (left, right) = (generating.left, generating.right);
     Xor {

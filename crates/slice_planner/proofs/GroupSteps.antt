@@ -15,6 +15,7 @@ use Rattle.graph_core.specs.declared.literal.Lit.{Lit}
 use Rattle.graph_core.specs.Graph.{IsGateOf}
 use Rattle.graph_core.specs.Graph.Literals.{variable_of}
 use Rattle.graph_core.specs.Graph.Extended.{Extended}
+use Rattle.graph_core.proofs.OfGraphs.CallerLemmas.{all_join}
 use Rattle.ripple_graft.specs.Extension.{IsExtension, new_outputs}
 use Rattle.frontier_core.specs.declared.step.Step.{Step}
 use Rattle.frontier_core.specs.declared.step.Step.TheVariants.{Eliminate}
@@ -23,7 +24,7 @@ use Rattle.frontier_core.specs.Sets.{has}
 use Rattle.frontier_core.proofs.OrderMade.{gates_of_defined}
 use Rattle.frontier_core.proofs.PlainOrders.{pairs_recursion}
 use Rattle.slice_core.specs.SlicePlan.{can_all_go, swept}
-use Rattle.slice_finder.proofs.Cases.{all_join, by_cases}
+use Rattle.slice_finder.proofs.Cases.{by_cases}
 use Rattle.slice_core.proofs.GroupPlans.{taken-append}
 use Rattle.slice_core.specs.GroupPlans.{AreAtGroups, AreGroups}
 use Rattle.frontier_core.proofs.Everywhere.{all_has}

@@ -12,7 +12,7 @@ use Rattle.graph_core.specs.Algebra.{AgreeOnColumns}
 use Rattle.graph_core.specs.Graph.Assignments.{Assignment, literal}
 use Rattle.graph_core.specs.Graph.Extended.{Column, Extended}
 use Rattle.graph_core.specs.Graph.Literals.{negation_of, variable_of}
-use Rattle.graph_core.proofs.OfGraphs.CallerLemmas.{output_in_range}
+use Rattle.graph_core.proofs.OfGraphs.CallerLemmas.{all_join, output_in_range}
 use Rattle.ripple_graft.specs.Extension.{IsExtension}
 use Rattle.clause_core.specs.Clause.{Clause, IsClauseInRange, IsSubset, holds}
 use Rattle.clause_core.specs.ClauseLines.{AreGoalsShown, ClauseLine, IsShown, added}
@@ -21,7 +21,6 @@ use Rattle.clause_core.specs.Likeness.{AreSameSets}
 use Rattle.clause_core.proofs.CallerLemmas.{contains_cases, contains_here, contains_nil, goals_mean_equality}
 use Rattle.clause_core.proofs.GateClauseLaws.{gate_clauses_are_in_range, goals_are_in_range}
 use Rattle.stage_rewriter.specs.Rewriting.{unmet_goals, unmet_of}
-use Rattle.stage_rewriter.proofs.Lists.{both_recursive}
 
 -- ---- what they say
 
@@ -114,7 +113,7 @@ module _ (max : ℕ) where
 
   columns_range : (cs : List Column) → AllByRecursion (λ c. (variable_of c.old ≤ max) × (variable_of c.new ≤ max)) cs → AllByRecursion (IsClauseInRange max) (flat_map unmet_of cs)
   columns_range [] h = tt
-  columns_range (c ∷ cs) h = both_recursive (IsClauseInRange max) (unmet_of c) (flat_map unmet_of cs) (column_range c h.0.0 h.0.1) (columns_range cs h.1)
+  columns_range (c ∷ cs) h = all_join (IsClauseInRange max) (unmet_of c) (flat_map unmet_of cs) (column_range c h.0.0 h.0.1) (columns_range cs h.1)
 
   subset_range : (c d : Clause) → IsSubset c d → IsClauseInRange max d → IsClauseInRange max c
   subset_range c d sub h k x below = All-contains (λ l. (l ≢ pos 0) × (nat_abs l ≤ max)) d (slice_index_or c k x) h (sub (slice_index_or c k x) (Contains-get_or c k x below))

@@ -1,23 +1,9 @@
--- Lists whose elements are one by one those of another, and elements that are found.
+-- Lists whose elements are one by one those of another.
 use Rattle.std.specs.Prelude.{◌≡◌, ℕ, zero, suc, ◌<◌, List, [], ◌∷◌, ◌++◌, length, slice_index_or}
-use Rattle.std.specs.List.{Any, AllByRecursion}
-use Rattle.std.proofs.Common.{refl, ap, arith, ⊎_elim, take}
+use Rattle.std.proofs.Common.{refl, ap, arith, take}
 use Rattle.clause_core.specs.Clause.{Clause, SameSet}
 use Rattle.clause_core.specs.Likeness.{AreSameSets}
-use Rattle.clause_core.proofs.CallerLemmas.{any_cases, any_here, any_nil, any_there}
 use Rattle.clause_core.proofs.Copies.{same_self}
-
-pub any_front : {X : Type 0} (P : X → Type 0) (xs ys : List X) → Any P xs → Any P (xs ++ ys)
-any_front P [] ys h = absurd (any_nil P h)
-any_front P (x ∷ xs) ys h = ⊎_elim (λ p. any_here P x (xs ++ ys) p) (λ r. any_there P x (xs ++ ys) (any_front P xs ys r)) (any_cases P x xs h)
-
-pub any_back : {X : Type 0} (P : X → Type 0) (xs ys : List X) → Any P ys → Any P (xs ++ ys)
-any_back P [] ys h = h
-any_back P (x ∷ xs) ys h = any_there P x (xs ++ ys) (any_back P xs ys h)
-
-pub both_recursive : {X : Type 0} (P : X → Type 0) (xs ys : List X) → AllByRecursion P xs → AllByRecursion P ys → AllByRecursion P (xs ++ ys)
-both_recursive P [] ys h k = k
-both_recursive P (x ∷ xs) ys h k = (h.0, both_recursive P xs ys h.1 k)
 
 pub take_none : {X : Type 0} (xs : List X) → take 0 xs ≡ []
 take_none [] = refl

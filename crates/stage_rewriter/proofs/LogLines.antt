@@ -4,16 +4,17 @@ use Rattle.std.specs.List.{Any, AllByRecursion, Contains, fold}
 use Rattle.std.proofs.Common.{refl, sym, ap, subst, ◌∙◌, arith, inl, inr, ⊎_elim, append_assoc}
 use Rattle.std.proofs.lemmas.List.{length-append}
 use Rattle.std.proofs.lemmas.List.Elements.{All-from_recursion, recursion_from_All}
+use Rattle.graph_core.proofs.OfGraphs.CallerLemmas.{any_back, any_here, any_there}
 use Rattle.clause_core.specs.Clause.{Clause, IsSubset, SameSet}
 use Rattle.clause_core.specs.ClauseLines.{ClauseLine, added}
 use Rattle.clause_core.specs.Likeness.{AreSameSets}
 use Rattle.clause_core.specs.Log.{AreLogLines, AreRunsSpaced, IsLawfulLog, IsLemma, Spacing, spacing_after}
 use Rattle.clause_core.specs.UnitPropagation.{IsRup}
 use Rattle.clause_core.specs.declared.line.Line.TheVariants.{Add, Delete}
-use Rattle.clause_core.proofs.CallerLemmas.{alike_rup, any_here, any_there, contains_cases, contains_here, contains_nil, contains_there, same_alike}
+use Rattle.clause_core.proofs.CallerLemmas.{alike_rup, contains_cases, contains_here, contains_nil, contains_there, same_alike}
 use Rattle.clause_core.proofs.Copies.{same_self}
 use Rattle.stage_rewriter.specs.Rewriting.{AreRefuted, RefutedIsLawful}
-use Rattle.stage_rewriter.proofs.Lists.{any_back, same_behind}
+use Rattle.stage_rewriter.proofs.Lists.{same_behind}
 
 -- ---- over another list with the same sets
 

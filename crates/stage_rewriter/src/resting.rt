@@ -16,8 +16,8 @@ const ROUNDS: u32 = 16;
 // There are fewer variables.
 const VARIABLES: u32 = 2147483648;
 
-/// Whether it is seen that a goal doesn't follow from the gates' clauses by unit propagation: its literals are false, and then no
-/// clause is false or forces a literal that doesn't stand already.
+/// Whether it is seen that a goal doesn't follow from the gates' clauses by unit propagation: its literals are false,
+/// and then no clause is false or forces a literal that doesn't stand already.
 pub(crate) fn stays_open(
     alloc: Global,
     extended: &Extended<'_>,

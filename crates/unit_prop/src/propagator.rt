@@ -262,7 +262,8 @@ impl Propagator {
 
     /// The clause of a place, if it is live.
     pub fn get(&self, place: u32) -> Option<&Clause>
-        ensures { MatchOption result (clause_at self.now.clauses place ≡ None) (λ c. clause_at self.now.clauses place ≡ Some c.now) }
+        ensures { MatchOption result (clause_at self.now.clauses place ≡ None)
+            (λ c. clause_at self.now.clauses place ≡ Some c.now) }
     {
         if (place as usize) < self.clauses.len() {
             return self.clauses[place as usize].as_ref();

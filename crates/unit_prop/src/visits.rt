@@ -143,9 +143,8 @@ fn next_literal(
     }
 }
 
-/// Visits the clauses that watch the negation of the literal at a place of the trail, the first place that wasn't visited
-/// yet. The nodes of clauses that were removed are taken out.
-/// Gives a clause that is false, if there is one.
+/// Visits the clauses that watch the negation of the literal at a place of the trail, the first place that wasn't
+/// visited yet. The nodes of clauses that were removed are taken out. Gives a clause that is false, if there is one.
 pub(crate) fn visit(
     clauses: &[Option<Clause>],
     watches: &mut Watches,
@@ -180,8 +179,8 @@ pub(crate) fn visit(
     conflict
 }
 
-/// Visits the clauses for each literal of the trail, also for those that come to stand, up to its end or to a clause that
-/// is false.
+/// Visits the clauses for each literal of the trail, also for those that come to stand, up to its end or to a clause
+/// that is false.
 pub(crate) fn visit_all(
     clauses: &[Option<Clause>],
     watches: &mut Watches,

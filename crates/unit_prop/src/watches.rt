@@ -45,9 +45,9 @@ struct Node {
 
 /// The watches of all clauses: for each literal the chain of the nodes that watch it.
 ///
-/// A chain is taken into the hand as a whole; then its nodes are taken one by one, and each is hung up anew. So a node is
-/// relinked by a change of indices, and no chain ever loses its place. A node of a clause that was removed hangs where it
-/// is until it is taken from the hand.
+/// A chain is taken into the hand as a whole; then its nodes are taken one by one, and each is hung up anew. So a node
+/// is relinked by a change of indices, and no chain ever loses its place. A node of a clause that was removed hangs
+/// where it is until it is taken from the hand.
 #[derive(Drop)]
 pub(crate) struct Watches {
     heads: Vec<u32>,

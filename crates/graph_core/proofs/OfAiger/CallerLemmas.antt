@@ -1,6 +1,7 @@
 -- What crates above may cite of AIGER files.
 pub use Rattle.graph_core.proofs.OfAiger.Fields.{accepted}
 pub use Rattle.graph_core.proofs.OfAiger.Packed.{Counts, all_flat_map, counts_apart, counts_append, counts_contain}
+pub use Rattle.graph_core.proofs.OfAiger.PlacedGates.{ArePlaced, placed-append, placed_count, position_placed}
 pub use Rattle.graph_core.proofs.OfAiger.Readers.{header_steady, symbol_steady}
 pub use Rattle.graph_core.proofs.OfAiger.Refusals.{header_refused, lists_refused, lists_take, text_refused}
 pub use Rattle.graph_core.proofs.OfAiger.Soundness.{shape_of, spelled_shape, vanishing_multiplies, well_formed}

@@ -8,9 +8,8 @@ use Rattle.std.proofs.lemmas.List.Elements.{All-from_recursion, recursion_from_A
 use Rattle.graph_core.specs.Graph.Assignments.{Assignment, variable, bit}
 use Rattle.graph_core.specs.Algebra.Polynomials.{Term, product, term_value, sum_of, value, difference}
 use Rattle.graph_core.specs.Algebra.NormalForm.{AreRising, IsNormalTerm, IsNormalForm, NormalFormIsOne, SizeIsOne, NormalFormExists}
-use Rattle.graph_core.proofs.OfGraphs.Lists.{all_split}
+use Rattle.graph_core.proofs.OfGraphs.Lists.{all_join, all_split, all_weaker}
 use Rattle.graph_core.proofs.OfGraphs.Congruence.{sum_same, product_same, difference_plus, difference_is, difference_below}
-use Rattle.graph_core.proofs.OfGraphs.Lists.{all_weaker}
 use Rattle.graph_core.proofs.OfAlgebra.NormalForms.{true_term, term_full}
 use Rattle.graph_core.proofs.OfAlgebra.NormalForms.{IsShortest, find_shortest, all_longer, both_longer, part_whole, all_mem, others_zero, sum_of-append, Once, once_from_pairs, once_around, normal_forms_differ}
 
@@ -36,16 +35,12 @@ normal_from m ts h = (recursion_from_All (IsNormalTerm m) ts h.terms, once_from_
 pub normal_form : (m : ℕ) (ts : List Term) → Normal m ts → IsNormalForm m ts
 normal_form m ts h = record { terms = All-from_recursion (IsNormalTerm m) ts h.0; once = pairs_from_once ts h.1 }
 
-all_joined : {X : Type 0} (P : X → Type 0) (xs ys : List X) → AllByRecursion P xs → AllByRecursion P ys → AllByRecursion P (xs ++ ys)
-all_joined P [] ys h k = k
-all_joined P (x ∷ xs) ys h k = (h.0, all_joined P xs ys h.1 k)
-
 without_normal : (m : ℕ) (xs : List Term) (t : Term) (ys : List Term) → Normal m (xs ++ t ∷ ys) → Normal m (xs ++ ys)
 without_normal m [] t ys h = (h.0.1, h.1.1)
 without_normal m (x ∷ xs) t ys h =
     let rest = without_normal m xs t ys (h.0.1, h.1.1) in
     let parts = all_split (λ s. x.variables ≢ s.variables) xs (t ∷ ys) h.1.0 in
-    ((h.0.0, rest.0), (all_joined (λ s. x.variables ≢ s.variables) xs ys parts.0 parts.1.1, rest.1))
+    ((h.0.0, rest.0), (all_join (λ s. x.variables ≢ s.variables) xs ys parts.0 parts.1.1, rest.1))
 
 term_same : (s t : Term) → s.negative ≡ t.negative → s.coefficient ≡ t.coefficient → s.variables ≡ t.variables → s ≡ t
 term_same s t a b c = λ i. record { negative = a i; coefficient = b i; variables = c i }
@@ -124,7 +119,7 @@ one_more : (xs : List Term) (t : Term) (ys zs ws : List Term) → AllByRecursion
 one_more xs t ys zs ws h =
     let more = all_weaker (Contains (zs ++ ws)) (Contains (zs ++ t ∷ ws)) (xs ++ ys) (contains_more zs t ws) h in
     let parts = all_split (Contains (zs ++ t ∷ ws)) xs ys more in
-    all_joined (Contains (zs ++ t ∷ ws)) xs (t ∷ ys) parts.0 (contains_it zs t ws, parts.1)
+    all_join (Contains (zs ++ t ∷ ws)) xs (t ∷ ys) parts.0 (contains_it zs t ws, parts.1)
 
 shortest_long : (p : List Term) (s : IsShortest p) → AllByRecursion (λ t. length s.term.variables ≤ length t.variables) p
 shortest_long p s = subst (AllByRecursion (λ t. length s.term.variables ≤ length t.variables)) (sym s.whole)

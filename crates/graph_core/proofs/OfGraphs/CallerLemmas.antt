@@ -7,7 +7,7 @@ pub use Rattle.graph_core.proofs.OfGraphs.Faults.{apart_pairs, no_fault_is_found
 pub use Rattle.graph_core.proofs.OfGraphs.FullAdders.{full_adder}
 pub use Rattle.graph_core.proofs.OfGraphs.Gates.{never_wrong}
 pub use Rattle.graph_core.proofs.OfGraphs.Levels.{acyclic_levels, level_inverted, one_level}
-pub use Rattle.graph_core.proofs.OfGraphs.Lists.{all_split, all_weaker}
+pub use Rattle.graph_core.proofs.OfGraphs.Lists.{all_join, all_split, all_weaker, any_back, any_cases, any_front, any_here, any_nil, any_there}
 pub use Rattle.graph_core.proofs.OfGraphs.LiteralValues.{literal-even, literal-false, literal-inverted, literal-negated, literal-odd, literal-plain, literal-true, variable_of-negated}
 pub use Rattle.graph_core.proofs.OfGraphs.Multiplies.{Apart, a_is, apart_from_pairs, b_is, claim_is, claim_is_product, evaluations_suffice, gates_distinct, inputs_have, length-inputs_of, lits_apart, rest_apart, sides_are_inputs, sides_read_inputs, take-length-append, whole_products}
 pub use Rattle.graph_core.proofs.OfGraphs.OperandBits.{DistinctLits, IsInput, inputs_are, literal-input, number_of}

@@ -1,7 +1,7 @@
 use Rattle.std.proofs.Common.{◌≡◌, map, take}
 use Rattle.std.specs.List.{All}
 use Rattle.graph_core.specs.Graph.{IsLevel}
-use Rattle.slice_finder.proofs.cover.keys_of.Given as goal
+use Rattle.slice_finder.proofs.cover.keys_by_level.Given as goal
 
 abbrev pub invariant-loop-gate : goal.invariant-loop-gate
 invariant-loop-gate l = record {
