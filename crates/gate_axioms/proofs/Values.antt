@@ -10,7 +10,7 @@ use Rattle.graph_core.specs.Graph.Extended.{without_cut}
 use Rattle.graph_core.specs.Graph.Operands.{Sides}
 use Rattle.graph_core.specs.Algebra.Polynomials.{Polynomial, value, difference}
 use Rattle.frontier_core.specs.Substitution.{gate_value}
-use Rattle.graph_core.specs.Algebra.{gate_axiom, modulus as modulus_of}
+use Rattle.graph_core.specs.Algebra.{modulus as modulus_of}
 use Rattle.graph_core.proofs.OfGraphs.CallerLemmas.{product_same}
 use Rattle.poly_terms.specs.Tables.{Table, Sum, modulus, value_in, IsOf, Extends}
 use Rattle.poly_terms.specs.Laws.{modulus_stays, value_stays, extends_on}
@@ -94,20 +94,6 @@ times_has t form gate n x σ one has =
     let g = gate_value gate σ in
     let is : value m form σ % m ≡ g % m = has.value σ ∙ ap (λ k. k % m) (ap (λ j. j * g) one ∙ one-mul g) in
     product_same m x x (value m form σ) g refl is ∙ ap (λ k. k % m) (mul_comm x g)
-
--- a number times a gate's axiom
-pub axiom_times_has : (t : Table) (form : Polynomial) (gate : Gate) (o n x : ℕ) (σ : Assignment) → (o + 1) % modulus t ≡ 0 → n ≡ 1 →
-    FormHas (modulus t) form (λ σ. o * bit (variable σ gate.v) + n * (bit (literal σ gate.left) * bit (literal σ gate.right))) →
-    (x * value (modulus t) form σ) % modulus t ≡ ((gate_axiom (modulus t) gate).value σ * x) % modulus t
-axiom_times_has t form gate o n x σ opposite one has =
-    let m = modulus t in
-    let g = gate_value gate σ in
-    let v = bit (variable σ gate.v) in
-    let a = difference m g v in
-    let sum : o * v + n * g ≡ g + o * v = ap (λ j. o * v + j * g) one ∙ omega arith in
-    let is : value m form σ % m ≡ a = opposite_difference m g v (value m form σ) o (pow_pos t.exponent) opposite (has.value σ ∙ ap (λ k. k % m) sum) in
-    let low : value m form σ % m ≡ a % m = sym (mod-mod (value m form σ) m) ∙ ap (λ k. k % m) is in
-    product_same m x x (value m form σ) a refl low ∙ ap (λ k. k % m) (mul_comm x a)
 
 pub specification_has : (old new : Table) (p : Sum) (g : Aig) (s : Sides) (o n k : ℕ) → modulus old ≡ modulus_of (without_cut g) → Extends old new →
     (o + 1) % modulus old ≡ 0 → n ≡ 1 → k ≡ 1 →

@@ -28,4 +28,5 @@ Computes g σ = variable σ g.v ≡ (literal σ g.left && literal σ g.right)
 pub record AddsLine (line : LiveLine) (old new : Facts Sum Table) : Type 0 where
   pub gates : new.gates ≡ old.gates
   pub table : Extends old.table new.table
-  pub lines : (id : ℕ) → AreSame (line_of (lines_in new.table new.entries) id) (option_or (line_of (lines_in old.table old.entries) id) (line_of (line ∷ []) id))
+  pub lines : (id : ℕ) → AreSame (line_of (lines_in new.table new.entries) id)
+      (option_or (line_of (lines_in old.table old.entries) id) (line_of (line ∷ []) id))

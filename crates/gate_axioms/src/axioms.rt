@@ -5,7 +5,7 @@ ghost use Rattle.std.specs.Prelude.{◌≡◌, ◌+◌, ◌*◌, ◌%◌, ◌<�
 ghost use Rattle.frontier_core.specs.Columns.{column_value};
 ghost use Rattle.frontier_core.specs.Substitution.{gate_value};
 ghost use Rattle.graph_core.specs.declared.literal.Lit.{Lit};
-ghost use Rattle.graph_core.specs.Algebra.{gate_axiom, modulus as modulus_of};
+ghost use Rattle.graph_core.specs.Algebra.{modulus as modulus_of};
 ghost use Rattle.graph_core.specs.Graph.Extended.{without_cut};
 ghost use Rattle.graph_core.specs.Graph.Assignments.{Assignment};
 ghost use Rattle.graph_core.specs.Algebra.Polynomials.{value};
@@ -60,21 +60,6 @@ pub fn times_operands(
     Ok(poly)
 }
 
-/// A polynomial times the axiom of a gate.
-pub fn times_axiom(alloc: Global, terms: &mut Terms, p: &Poly, gate: &Gate) -> Result<Poly, Memory>
-    requires { IsOf terms.old p.now }
-    ensures extends { Extends terms.old terms.new }
-    ensures of { IfOk result (λ r. IsOf terms.new r) }
-    ensures value { IfOk result (λ r. (σ : Assignment) → value_in terms.new r σ ≡
-        ((gate_axiom (modulus terms.old) gate.now).value σ * value_in terms.old p.now σ) % modulus terms.old) }
-{
-    let mut form = Form::with_room(alloc, MAX_AXIOM_PARTS)?;
-    form.add_product(one(terms), gate.left, gate.right)?;
-    form.add_variable(minus_one(terms), gate.v)?;
-    let poly = form.times(terms, p)?;
-    Ok(poly)
-}
-
 /// The difference of two literals, left - right: the axiom of a column with these outputs.
 pub fn equal_poly(alloc: Global, terms: &mut Terms, left: Lit, right: Lit) -> Result<Poly, Memory>
     ensures extends { Extends terms.old terms.new }
@@ -104,7 +89,7 @@ pub fn spec_poly(
     let outputs = Form::word(alloc, one(terms), graph.output_literals())?;
     let opposite = Form::word(alloc, minus_one(terms), operands.a_literals())?;
     let b = Form::word(alloc, one(terms), operands.b_literals())?;
-    let poly = sum_with_product(terms, &outputs, &opposite, &b)?;
+    let poly = sum_with_product(terms, outputs, opposite, b)?;
     Ok(poly)
 }
 
@@ -140,17 +125,12 @@ pub fn column_poly(
 }
 
 // a form plus the product of two
-fn sum_with_product(
-    terms: &mut Terms,
-    sum: &Form,
-    left: &Form,
-    right: &Form,
-) -> Result<Poly, Memory>
+fn sum_with_product(terms: &mut Terms, sum: Form, left: Form, right: Form) -> Result<Poly, Memory>
     ensures extends { Extends terms.old terms.new }
     ensures of { IfOk result (λ p. IsOf terms.new p) }
     ensures value { IfOk result (λ p. HasValue terms.new p
-        (λ σ. value (modulus terms.old) sum.now σ
-        + value (modulus terms.old) left.now σ * value (modulus terms.old) right.now σ)) }
+        (λ σ. value (modulus terms.old) sum σ
+        + value (modulus terms.old) left σ * value (modulus terms.old) right σ)) }
 {
     let sum = sum.poly_in(terms)?;
     let left = left.poly_in(terms)?;

@@ -18,8 +18,8 @@ use poly_terms::Poly;
 use ripple_graft::Extended;
 use std::alloc::Global;
 
-/// Makes the axioms of an extended graph live where nothing is: that of each gate under the gate's variable, and that of
-/// each replaced column k under the greatest variable + 1 + k.
+/// Makes the axioms of an extended graph live where nothing is: that of each gate under the gate's variable, and that
+/// of each replaced column k under the greatest variable + 1 + k.
 pub fn add_axioms(
     alloc: Global,
     live: &mut Live<'_, Poly>,

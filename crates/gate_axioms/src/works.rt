@@ -47,7 +47,8 @@ impl Grow<Poly> for MakeDifference {
 
     type On = ();
 
-    ghost did = { λ work _ _ out _ _ table'. IfOk out (λ p. IsOf table' p × IsDifference table' p work.left work.right) };
+    ghost did = { λ work _ _ out _ _ table'.
+        IfOk out (λ p. IsOf table' p × IsDifference table' p work.left work.right) };
 
     fn grow(&mut self, _on: &mut (), table: &mut Terms) -> Result<Poly, Memory> {
         equal_poly(self.alloc, table, self.left, self.right)

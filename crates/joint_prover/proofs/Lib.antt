@@ -1,4 +1,5 @@
 mod PlanLists
+mod Starting
 pub mod TakenLists
 pub mod Remainders
 pub mod Clauses

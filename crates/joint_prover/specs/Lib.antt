@@ -1,5 +1,6 @@
 -- To be trusted by whoever reads the contracts: `Verdicts`, `Notes` for the note on a rewriting, `Tries` for the plans that were tried,
--- `Pairs` for the certificates, `Written` for what is done to the files, `Budgets` for those that are enough, and `Files`, `ClauseFiles` and `Certificates` of joint_checker.
+-- `Pairs` for the certificates, `Written` for what is done to the files, `Budgets` for those that are enough, and `Files`, `ClauseFiles`
+-- and `Certificates` of joint_checker.
 -- `Endings` and `Parts` serve private clauses alone.
 pub mod Written
 pub mod Notes

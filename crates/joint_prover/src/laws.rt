@@ -2,8 +2,8 @@
 ghost use Rattle.joint_prover.specs.Budgets.{EnoughIsProved};
 ghost use Rattle.joint_prover.specs.Verdicts.{ProvedPairsAreHeld, VerdictsAreExact};
 
-/// With `Proved` a desk that tells its files holds a graph that multiplies and a lawful pair of certificates for it, where
-/// no two names are equal.
+/// With `Proved` a desk that tells its files holds a graph that multiplies and a lawful pair of certificates for it,
+/// where no two names are equal.
 pub fn proved_pairs_are_held()
     ensures { ProvedPairsAreHeld }
 {}

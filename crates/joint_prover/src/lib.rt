@@ -2,16 +2,16 @@
 //!
 //! `verify` opens and reads the graph file alone, and looks whether a ripple-carry adder may stand in place of the
 //! graph's final stage: the *note* says what became of that. Then it reduces the columns of the multiplier along plans:
-//! the slice plan over the graph with the adder, where that is used; the slice plan over the graph; and the plain plan over
-//! it. Each is tried where the ones before it had a frontier with more monomials than the budget. Where the remainder is
-//! 0 the verdict is `Proved`, and the clause certificate and then the algebra certificate are written, over the graph
-//! with the adder where the first plan ended; else it is `Wrong` with the least operands on which the graph differs.
-//! Where all plans pass the budget it is `Undecided`. No certificate file is created before the verdict, and writing
-//! them takes no memory.
+//! the slice plan over the graph with the adder, where that is used; the slice plan over the graph; and the plain plan
+//! over it. Each is tried where the ones before it had a frontier with more monomials than the budget. Where the
+//! remainder is 0 the verdict is `Proved`, and the clause certificate and then the algebra certificate are written,
+//! over the graph with the adder where the first plan ended; else it is `Wrong` with the least operands on which the
+//! graph differs. Where all plans pass the budget it is `Undecided`. No certificate file is created before the verdict,
+//! and writing them takes no memory.
 //!
 //! *Pair*: certificates that are lawful for a graph. *Above*, *within the budget*: the sizes of frontiers. Where each
-//! verdict comes is told in `specs/Verdicts.antt`, where each note comes in `specs/Notes.antt`, and which budgets are enough
-//! for multipliers that `graph_maker` makes in `specs/Budgets.antt`.
+//! verdict comes is told in `specs/Verdicts.antt`, where each note comes in `specs/Notes.antt`, and which budgets are
+//! enough for multipliers that `graph_maker` makes in `specs/Budgets.antt`.
 #![tactic(auto)]
 
 mod ending;

@@ -18,9 +18,9 @@ use mv_desk::{Desk, Limits, Names, Slot};
 use stage_rewriter::rewrite;
 use std::alloc::Global;
 
-/// The verdict on a graph file, and what became of a rewriting of its final stage, where the verdict is `Proved`, `Wrong`
-/// or `Undecided`. `budget` is the most monomials that a remainder may have; `conflicts` is how many the solver may have
-/// before the rewriting is given up.
+/// The verdict on a graph file, and what became of a rewriting of its final stage, where the verdict is `Proved`,
+/// `Wrong` or `Undecided`. `budget` is the most monomials that a remainder may have; `conflicts` is how many the solver
+/// may have before the rewriting is given up.
 pub fn verify<D: Desk>(
     alloc: Global,
     desk: &mut D,

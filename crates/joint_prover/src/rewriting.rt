@@ -15,7 +15,7 @@ pub enum Rewriting {
     None,
     /// Operands at which an output of the adder isn't the graph's.
     Differs { a: u64, b: u64 },
-    /// As many lemmas as there may be conflicts, and beside them so many goals that were refuted before the one in hand.
+    /// As many lemmas as there may be conflicts, and beside them so many goals refuted before the one in hand.
     Spent { lemmas: u64, goal: u64, log: Log },
 }
 

@@ -6,7 +6,8 @@ use aiger_reader::ReadFail;
 pub enum Verdict {
     /// The graph multiplies, and both certificates were written.
     Proved,
-    /// The least operands on which the graph differs, its value there, and the product modulo 2 ^ the number of outputs.
+    /// The least operands on which the graph differs, its value there, and the product modulo 2 ^ the number of
+    /// outputs.
     Wrong {
         a: u64,
         b: u64,

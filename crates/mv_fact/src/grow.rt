@@ -38,15 +38,18 @@ pub trait Grow<F: Fact> {
 pub trait GrowFrom<F: Fact> {
     type Out;
 
+    type On;
+
     /// What the work asks for, beside that the fact belongs to the table.
-    ghost can_grow: { Self → F.Table → Type 0 } = { λ _ _. Unit {0} };
+    ghost can_grow: { Self → Self.On → F.Table → Type 0 } = { λ _ _ _. Unit {0} };
 
-    /// What the work has done: itself, the fact and the table before, its answer, itself and the table after.
-    ghost did: { Self → F → F.Table → Self.Out → Self → F.Table → Type 0 };
+    /// What the work has done: itself, what it works on, the fact and the table before, its answer, and the three after
+    /// but the fact.
+    ghost did: { Self → Self.On → F → F.Table → Self.Out → Self → Self.On → F.Table → Type 0 };
 
-    fn grow(&mut self, fact: &F, table: &mut F::Table) -> Self::Out
-        requires asks { can_grow self.old table.old }
+    fn grow(&mut self, on: &mut Self::On, fact: &F, table: &mut F::Table) -> Self::Out
+        requires asks { can_grow self.old on.old table.old }
         requires belongs { F.belongs fact.now table.old }
         ensures extends { F.extends table.new table.old }
-        ensures did { did self.old fact.now table.old result self.new table.new };
+        ensures did { did self.old on.old fact.now table.old result self.new on.new table.new };
 }

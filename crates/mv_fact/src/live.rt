@@ -118,19 +118,24 @@ impl<'a, F: Fact> Live<'a, F> {
     }
 
     /// Lends a live fact and the table to a work. All that is live stays.
-    pub fn grow_from<G: GrowFrom<F>>(&mut self, id: u64, work: &mut G) -> Result<G::Out, NoSuchId>
-        requires { G.can_grow work.old self.old.table }
+    pub fn grow_from<G: GrowFrom<F>>(
+        &mut self,
+        id: u64,
+        work: &mut G,
+        on: &mut G::On,
+    ) -> Result<G::Out, NoSuchId>
+        requires { G.can_grow work.old on.old self.old.table }
         ensures did { IfOk result (λ out. IsSomeAnd (fact_at self.old.entries id)
-            (λ f. G.did work.old f self.old.table out work.new self.new.table)) }
+            (λ f. G.did work.old on.old f self.old.table out work.new on.new self.new.table)) }
         ensures grows { IsGrown F.extends self.old self.new }
         // What is known of the live facts before; `Fact`'s laws say it of the new table.
         ensures kept { All (IsKept F.belongs F.holds self.old.gates self.old.table) (values_of self.old.entries) }
         ensures none { OnErr result (fact_at self.old.entries id ≡ None) }
-        ensures unchanged { OnErr result ((self.new ≡ self.old) × (work.new ≡ work.old)) }
+        ensures unchanged { OnErr result ((self.new ≡ self.old) × (work.new ≡ work.old) × (on.new ≡ on.old)) }
     {
         match self.facts.get(&id) {
             None => Err(NoSuchId),
-            Some(fact) => Ok(work.grow(fact, &mut self.table)),
+            Some(fact) => Ok(work.grow(on, fact, &mut self.table)),
         }
     }
 }

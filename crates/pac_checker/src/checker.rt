@@ -24,7 +24,7 @@ use crate::{CloseFault, LineFault};
 use gate_axioms::add_axioms;
 use graph_core::{Memory, Operands};
 use mv_fact::{Grow, Live};
-use poly_terms::{Poly, SumOfProducts, Terms};
+use poly_terms::{Poly, PolySum, Terms};
 use poly_text::PacLine;
 use ripple_graft::Extended;
 use std::alloc::Global;
@@ -40,7 +40,7 @@ pub struct PacChecker<'a> {
     /// the greatest id in use so far, also of lines that were dropped
     last: u64,
     /// what the latest line names, as far as it was added up: each line takes its room over
-    products: SumOfProducts,
+    products: PolySum,
     /// with more monomials the table is made anew
     most_monomials: u64,
 }
@@ -83,7 +83,7 @@ impl<'a> PacChecker<'a> {
             operands,
             live,
             last: u64::from(extended.max()) + u64::from(outputs),
-            products: SumOfProducts::new(alloc, outputs),
+            products: PolySum::new(alloc),
             most_monomials,
         })
     }
@@ -124,6 +124,7 @@ impl<'a> PacChecker<'a> {
             return Ok(());
         }
         self.live = compacted(self.alloc, self.extended.gates(), &self.live)?;
+        self.products = PolySum::new(self.alloc);
         self.most_monomials = most_monomials(&self.live);
         Ok(())
     }

@@ -3,31 +3,32 @@ ghost use Rattle.std.specs.Prelude.{IfOk};
 
 use gate_axioms::spec_poly;
 use graph_core::{Graph, Memory, Operands};
-use mv_fact::Grow;
-use poly_terms::{Poly, SumOfProducts, Terms};
+use mv_fact::{Grow, GrowFrom};
+use poly_terms::{Poly, PolySum, Terms};
 use std::alloc::Global;
 
-/// Makes the polynomial of products that were added up apart from the table.
+/// Adds a live line times a factor to a sum.
 #[derive(Drop)]
-pub(crate) struct SumUp<'a> {
-    pub(crate) products: &'a SumOfProducts,
+pub(crate) struct AddProduct<'a> {
+    pub(crate) factor: &'a Poly,
 }
 
-impl<'a> Grow<Poly> for SumUp<'a> {
-    ghost use Rattle.std.specs.Prelude.{◌≡◌, IfOk};
-    ghost use Rattle.poly_terms.specs.Sums.{sum_in};
-    ghost use Rattle.pac_checker.specs.Works.{IsMade};
+impl<'a> GrowFrom<Poly> for AddProduct<'a> {
+    ghost use Rattle.std.specs.Prelude.{◌*◌, OnOk};
+    ghost use Rattle.poly_terms.specs.Tables.{IsOf, value_in};
+    ghost use Rattle.pac_checker.specs.Works.{IsAddedTo};
 
-    type Out = Result<Poly, Memory>;
+    type Out = Result<(), Memory>;
 
-    type On = ();
+    type On = PolySum;
 
-    ghost can_grow = { λ work _ table. work.products.now.exponent ≡ table.exponent };
+    ghost can_grow = { λ work sum table. IsOf table sum × IsOf table work.factor.now };
 
-    ghost did = { λ work _ _ out _ _ table'. IfOk out (IsMade table' (sum_in work.products.now)) };
+    ghost did = { λ work sum line table out _ sum' table'.
+        OnOk out (IsAddedTo table table' sum sum' (λ σ. value_in table line σ * value_in table work.factor.now σ)) };
 
-    fn grow(&mut self, _on: &mut (), table: &mut Terms) -> Result<Poly, Memory> {
-        table.sum_up(self.products)
+    fn grow(&mut self, sum: &mut PolySum, line: &Poly, table: &mut Terms) -> Result<(), Memory> {
+        table.add_product(sum, line, self.factor)
     }
 }
 

@@ -98,7 +98,8 @@ impl<'a> Lines<'a> {
         requires unclosed { self.old.closing ≡ None }
         requires kept { IsKept self.old.extended.max self.old.table line }
         requires lawful { IsSomeAnd (line_in self.old.table line) (CanFollow self.old last) }
-        ensures writes { OnOk result (IsSomeAnd (line_in self.old.table line) (λ x. PutsLine x last self.old self.new)) }
+        ensures writes { OnOk result
+            (IsSomeAnd (line_in self.old.table line) (λ x. PutsLine x last self.old self.new)) }
         ensures unchanged { OnErr result (self.new ≡ self.old) }
     {
         match self.lines.push(line) {

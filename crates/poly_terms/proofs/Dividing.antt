@@ -7,12 +7,12 @@ use Rattle.std.specs.List.{filter}
 use Rattle.graph_core.specs.Graph.Assignments.{Assignment}
 use Rattle.graph_core.specs.Algebra.Polynomials.{difference, product}
 use Rattle.graph_core.proofs.OfGraphs.CallerLemmas.{difference_is}
-use Rattle.poly_terms.specs.Entries.{IsGathered, Sum, Entry}
+use Rattle.poly_terms.specs.Entries.{Sum, Entry}
 use Rattle.poly_terms.specs.Monomials.{Adds, free_of, has_in, places_of, replaced, total_in}
-use Rattle.poly_terms.specs.Tables.{ArePlaces, Extends, IsOf, Table, assigned, modulus, quotient_value, value_in}
+use Rattle.poly_terms.specs.Tables.{ArePlaces, Extends, IsOf, Table, assigned, modulus, quotient_value, value_in, table_of}
 use Rattle.poly_terms.specs.Laws.{stays, value_stays}
 use Rattle.poly_terms.proofs.Assigned.{product-other}
-use Rattle.poly_terms.proofs.Made.{made-value, table_of}
+use Rattle.poly_terms.proofs.Made.{adds-value}
 use Rattle.poly_terms.proofs.Merging.{begins}
 use Rattle.poly_terms.proofs.Replacing.{free_of-IsOf, total-replaced}
 use Rattle.poly_terms.proofs.Values.{value-total}
@@ -30,9 +30,9 @@ total-quotient : (ms : List (List ℕ)) (v : ℕ) (σ : Assignment) (es : Sum) �
 total-quotient ms v σ es some = omega (arith, total-replaced ms v σ 1 es some, total-replaced ms v σ 0 es some, replaced-none ms v σ es)
 
 -- what was divided has the quotient's value
-pub quotient-value : (w v : ℕ) (old new : List (List ℕ)) (t : Table) (p p' raw out r : Sum) (σ : Assignment) → table_of w old ≡ t → p' ≡ p → 0 < v → r ≡ out →
-    Adds (2 ^ w) old new [] raw (λ σ. replaced old v σ 1 p') → IsGathered (2 ^ w) raw out → value_in (table_of w new) r σ ≡ quotient_value t p v σ
-quotient-value w v old new t p p' raw out r σ e f some is adds g =
+pub quotient-total : (w v : ℕ) (old new : List (List ℕ)) (t : Table) (p p' raw : Sum) (σ : Assignment) → table_of w old ≡ t → p' ≡ p → 0 < v →
+    Adds (2 ^ w) old new [] raw (λ σ. replaced old v σ 1 p') → total_in new σ raw % 2 ^ w ≡ quotient_value t p v σ
+quotient-total w v old new t p p' raw σ e f some adds =
     let m = 2 ^ w in
     let p0 = total_in old (assigned σ v false) p' in
     let p1 = total_in old (assigned σ v true) p' in
@@ -40,7 +40,7 @@ quotient-value w v old new t p p' raw out r σ e f some is adds g =
     let plus : (made + p0 % m) % m ≡ p1 % m % m = add-mod-mod made p0 m ∙ ap (λ n. n % m) (total-quotient old v σ p' some) ∙ sym (mod-mod p1 m) in
     let values : difference m (p1 % m) (p0 % m) ≡ quotient_value (table_of w old) p' v σ =
     sym (ap₂ (difference m) (value-total (table_of w old) p' (assigned σ v true)) (value-total (table_of w old) p' (assigned σ v false))) in
-    made-value w old new (λ σ. replaced old v σ 1 p') raw out r σ is adds g ∙ sym (difference_is m (p1 % m) (p0 % m) made (pow_pos w) plus) ∙ values ∙
+    adds-value m old new (λ σ. replaced old v σ 1 p') raw σ adds ∙ sym (difference_is m (p1 % m) (p0 % m) made (pow_pos w) plus) ∙ values ∙
     ap₂ (λ u x. quotient_value u x v σ) e f
 
 -- what is left has the value where the variable is false

@@ -19,7 +19,8 @@ zero_product σ (v ∷ vs) h =
     (λ f. ap (λ n. bit (variable σ v) * n) (zero_product σ vs (ap (λ c. c || has_variable 0 vs) (sym f) ∙ h)) ∙ mul-zero (bit (variable σ v)))
     (cases_Bool (v == 0))
 
-sum_said-push : (m : ℕ) (σ : Assignment) (xs : List (ℕ × List ℕ)) (x : ℕ × List ℕ) → sum_of m (said (xs ++ x ∷ [])) σ ≡ sum_of m (said xs) σ + x.0 * product σ x.1
+-- one more part adds its product
+pub sum_said-push : (m : ℕ) (σ : Assignment) (xs : List (ℕ × List ℕ)) (x : ℕ × List ℕ) → sum_of m (said (xs ++ x ∷ [])) σ ≡ sum_of m (said xs) σ + x.0 * product σ x.1
 sum_said-push m σ [] x = omega arith
 sum_said-push m σ (y ∷ ys) x = omega (arith, sum_said-push m σ ys x)
 

@@ -1,4 +1,5 @@
 pub mod Residues
+pub mod Shifting
 pub mod Merging
 pub mod Totals
 pub mod Orders

@@ -10,15 +10,11 @@ use Rattle.graph_core.specs.Graph.Assignments.{Assignment}
 use Rattle.graph_core.specs.Algebra.Polynomials.{Polynomial, product, sum_of, value}
 use Rattle.poly_terms.specs.Entries.{IsGathered, Sum, Entry, appended, total}
 use Rattle.poly_terms.specs.Monomials.{Adds, AreIn, AreMonomials, Grows, total_in}
-use Rattle.poly_terms.specs.Tables.{Table, Extends, IsOf, modulus, monomial_in, monomials_in, value_in}
+use Rattle.poly_terms.specs.Tables.{Table, Extends, IsOf, modulus, monomial_in, monomials_in, table_of, value_in}
 use Rattle.poly_terms.proofs.Adding.{all_at}
 use Rattle.poly_terms.proofs.Gathering.{all_joined, total-append}
 use Rattle.poly_terms.proofs.Residues.{product_of_reduced, sum_of_reduced}
 use Rattle.poly_terms.proofs.Values.{value-total}
-
--- a table by its parts
-abbrev pub table_of : ℕ → List (List ℕ) → Table
-table_of w ms = record { exponent = w; monomials = ms }
 
 -- the table extends the one before
 pub extends_grown : (w : ℕ) (old new : List (List ℕ)) (t : Table) → table_of w old ≡ t → Grows old new → Extends t (table_of w new)
@@ -36,11 +32,26 @@ unfolding IsOf
 made-IsOf w ms raw out r is o h g =
     subst (IsOf (table_of w ms)) (sym is) (record { coefficients = g.coefficients; numbers = g.numbers (length ms) h; order = g.order; table = o })
 
+-- what is added to nothing has the number's value
+pub adds-value : (m : ℕ) (old new : List (List ℕ)) (n : Assignment → ℕ) (raw : Sum) (σ : Assignment) → Adds m old new [] raw n → total_in new σ raw % m ≡ n σ % m
+adds-value m old new n raw σ adds = adds.sums tt σ ∙ ap (λ k. k % m) (let e : 0 + n σ ≡ n σ = omega arith in e)
+
 -- and its value
 pub made-value : (w : ℕ) (old new : List (List ℕ)) (n : Assignment → ℕ) (raw out r : Sum) (σ : Assignment) → r ≡ out → Adds (2 ^ w) old new [] raw n → IsGathered (2 ^ w) raw out →
     value_in (table_of w new) r σ ≡ n σ % 2 ^ w
 made-value w old new n raw out r σ is adds g =
-    value-total (table_of w new) r σ ∙ ap (λ es. total_in new σ es % 2 ^ w) is ∙ g.sums (λ k. product σ (get_or new k [])) ∙ adds.sums tt σ ∙ ap (λ k. k % 2 ^ w) (let e : 0 + n σ ≡ n σ = omega arith in e)
+    value-total (table_of w new) r σ ∙ ap (λ es. total_in new σ es % 2 ^ w) is ∙ g.sums (λ k. product σ (get_or new k [])) ∙ adds-value (2 ^ w) old new n raw σ adds
+
+-- the same of what was gathered in a table as it stands
+pub gathered-IsOf : (w : ℕ) (ms : List (List ℕ)) (t : Table) (raw out r : Sum) → table_of w ms ≡ t → r ≡ out → AreMonomials ms → AreIn t.monomials raw → IsGathered (2 ^ w) raw out → IsOf t r
+gathered-IsOf w ms t raw out r e is o h g =
+    subst (λ u. IsOf u r) e (made-IsOf w ms raw out r is o (subst (λ (u : Table). AreIn u.monomials raw) (sym e) h) g)
+
+pub gathered-value : (w : ℕ) (ms : List (List ℕ)) (t : Table) (raw out r : Sum) (σ : Assignment) → table_of w ms ≡ t → r ≡ out → IsGathered (2 ^ w) raw out →
+    value_in t r σ ≡ total_in t.monomials σ raw % modulus t
+gathered-value w ms t raw out r σ e is g =
+    let h : IsGathered (modulus t) raw out = subst (λ (u : Table). IsGathered (modulus u) raw out) e g in
+    value-total t r σ ∙ ap (λ es. total_in t.monomials σ es % modulus t) is ∙ h.sums (λ k. product σ (get_or t.monomials k []))
 
 -- the product of totals is that of values
 pub product-values : (w : ℕ) (ms : List (List ℕ)) (t : Table) (p q p' q' : Sum) (σ : Assignment) → table_of w ms ≡ t → p' ≡ p → q' ≡ q →
@@ -81,16 +92,14 @@ total-appended t (p ∷ ps) σ =
 pub added-IsOf : (w : ℕ) (ms : List (List ℕ)) (t : Table) (ps : List Sum) (out r : Sum) → table_of w ms ≡ t → r ≡ out → AreMonomials ms → AllByRecursion (IsOf t) ps →
     IsGathered (2 ^ w) (appended ps) out → IsOf t r
 added-IsOf w ms t ps out r e is o all g =
-    subst (λ u. IsOf u r) e (made-IsOf w ms (appended ps) out r is o (numbers_in w ms t ps e all) g)
+    subst (λ u. IsOf u r) e (made-IsOf w ms (appended ps) out r is o (all_numbers w ms t ps e all) g)
   where
-    numbers_in : (w : ℕ) (ms : List (List ℕ)) (t : Table) (ps : List Sum) → table_of w ms ≡ t → AllByRecursion (IsOf t) ps → AreIn ms (appended ps)
-    numbers_in w ms t ps e all = subst (λ (u : Table). AreIn u.monomials (appended ps)) (sym e) (in-appended t ps all)
+    all_numbers : (w : ℕ) (ms : List (List ℕ)) (t : Table) (ps : List Sum) → table_of w ms ≡ t → AllByRecursion (IsOf t) ps → AreIn ms (appended ps)
+    all_numbers w ms t ps e all = subst (λ (u : Table). AreIn u.monomials (appended ps)) (sym e) (in-appended t ps all)
 
 pub added-value : (w : ℕ) (ms : List (List ℕ)) (t : Table) (ps : List Sum) (out r : Sum) (σ : Assignment) → table_of w ms ≡ t → r ≡ out → IsGathered (2 ^ w) (appended ps) out →
     value_in t r σ ≡ sum_by (λ p. value_in t p σ) ps % modulus t
-added-value w ms t ps out r σ e is g =
-    let h : IsGathered (modulus t) (appended ps) out = subst (λ (u : Table). IsGathered (modulus u) (appended ps) out) e g in
-    value-total t r σ ∙ ap (λ es. total_in t.monomials σ es % modulus t) is ∙ h.sums (λ k. product σ (get_or t.monomials k [])) ∙ total-appended t ps σ
+added-value w ms t ps out r σ e is g = gathered-value w ms t (appended ps) out r σ e is g ∙ total-appended t ps σ
 
 -- the i-th entry's number is in the table
 pub number_in : (w : ℕ) (ms : List (List ℕ)) (t : Table) (p p' : Sum) (i n : ℕ) (e : Entry) → table_of w ms ≡ t → p' ≡ p → IsOf t p → i < length (monomials_in t p) → e ≡ get_or p' i e → n ≡ e.0 →
@@ -109,3 +118,8 @@ vars_at w ms t p p' i n e vs v f low at is there =
     let found : slice_get p i ≡ Some e = ap (λ xs. slice_get xs i) (sym f) ∙ slice_get_read p' (length p') i e refl within at in
     let term : slice_get (map (monomial_in t) p) i ≡ Some (monomial_in t e) = slice_get-map (monomial_in t) p i ∙ ap (option_map (monomial_in t)) found in
     ap (option_map (λ m. m.variables)) term ∙ ap Some (ap (λ (u : Table). get_or u.monomials e.0 []) (sym v) ∙ ap (λ k. get_or ms k []) (sym is) ∙ there)
+
+-- a polynomial's numbers are among the table's monomials
+pub numbers_in : (t : Table) (ms : List (List ℕ)) (p p' : Sum) → ms ≡ t.monomials → p' ≡ p → IsOf t p → AreIn ms p'
+unfolding IsOf
+numbers_in t ms p p' e f h = subst (λ k. AreIn k p') (sym e) (subst (AreIn t.monomials) (sym f) h.numbers)

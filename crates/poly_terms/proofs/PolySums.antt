@@ -1,5 +1,6 @@
 -- Polynomials that are added up, each coefficient at its monomial's number.
 use Rattle.std.proofs.Common.{◌≡◌, ℕ, ◌+◌, ◌*◌, ◌%◌, ◌^◌, ◌<◌, zero, suc, None, List, [], ◌∷◌, ◌++◌, length, get_or, set, take, inl, inr, refl, sym, ap, ap₂, subst, ◌∙◌, ⊎_elim, arith, mod-lt}
+use Rattle.std.proofs.Math.Nat.{mod-add-mod}
 use Rattle.std.proofs.lemmas.List.{take_more}
 use Rattle.std.proofs.lemmas.Nat.{pow_pos}
 use Rattle.std.specs.List.{AllByRecursion}
@@ -8,15 +9,14 @@ use Rattle.graph_core.specs.Algebra.Polynomials.{product}
 use Rattle.graph_core.proofs.OfGraphs.CallerLemmas.{all_split}
 use Rattle.poly_terms.specs.Entries.{Entry, IsGathered, Sum, total}
 use Rattle.poly_terms.specs.Indexed.{IsLonger, terms_from}
-use Rattle.poly_terms.specs.Monomials.{AreMonomials}
-use Rattle.poly_terms.specs.PolySums.{AreListed, AreTaken, IsAdded, IsLess}
-use Rattle.poly_terms.specs.Tables.{IsOf, Table, modulus, value_in}
+use Rattle.poly_terms.specs.Monomials.{Adds, AreIn, AreMonomials, Grows, total_in}
+use Rattle.poly_terms.specs.PolySums.{AreListed, AreTaken, Gains, IsAdded, IsLess}
+use Rattle.poly_terms.specs.Tables.{IsOf, Table, modulus, table_of, value_in}
 use Rattle.poly_terms.proofs.Gathering.{all_joined, total-append}
 use Rattle.poly_terms.proofs.Indexing.{put_cases, sum-value, table_once}
-use Rattle.poly_terms.proofs.Made.{made-IsOf}
+use Rattle.poly_terms.proofs.Made.{made-IsOf, numbers_in, product-values}
 use Rattle.poly_terms.proofs.Residues.{factor_reduced, left_out, plus_same}
 use Rattle.poly_terms.proofs.Sparse.{after-terms, all_terms, any_default, each_term, total-put}
-use Rattle.poly_terms.proofs.Summing.{numbers_in}
 use Rattle.poly_terms.proofs.Values.{value-total}
 
 -- ---- terms added
@@ -163,3 +163,29 @@ module _ (t : Table) (w : ℕ) (cs new : List ℕ) (x raw out r : Sum) (view : t
       let f = λ (k : ℕ). product σ (get_or t.monomials k []) in
       let all : total f raw ≡ total f x = omega (arith, taken.sums f, ap (total f) left, ap (total f) view) in
       value-total t r σ ∙ ap (λ es. total f es % modulus t) is ∙ gathered_here.sums f ∙ ap (λ n. n % modulus t) all ∙ sym (value-total t x σ)
+
+-- ---- products
+
+-- what is seen of coefficients that gained a number, in a table that may have grown
+pub gained-of : (w : ℕ) (old new : List (List ℕ)) (cs cs' : List ℕ) (n : Assignment → ℕ) → Grows old new → Gains (2 ^ w) old new cs cs' n → IsOf (table_of w old) (terms_from 0 cs) → IsOf (table_of w new) (terms_from 0 cs')
+unfolding IsOf
+gained-of w old new cs cs' n g gains of =
+    of_coefficients (table_of w new) cs' (g.once of.table) (gains.below (below_of (table_of w old) cs of))
+    (each_term (λ e. e.0 < length new) cs' (gains.adds.numbers of.numbers))
+
+-- what is seen of a sum that gained a product
+pub product_gained-of : (w : ℕ) (old new : List (List ℕ)) (t : Table) (x y : Sum) → table_of w old ≡ t → (IsOf (table_of w old) x → IsOf (table_of w new) y) → IsOf t x → IsOf (table_of w new) y
+product_gained-of w old new t x y e keeps of = keeps (subst (λ u. IsOf u x) (sym e) of)
+
+pub product_gained-value : (w : ℕ) (old new : List (List ℕ)) (t : Table) (x y p q p' q' : Sum) (σ : Assignment) → table_of w old ≡ t → p' ≡ p → q' ≡ q → Adds (2 ^ w) old new x y (λ σ. total_in old σ p' * total_in old σ q') → IsOf t x →
+    value_in (table_of w new) y σ ≡ (value_in t x σ + value_in t p σ * value_in t q σ) % modulus t
+unfolding IsOf
+product_gained-value w old new t x y p q p' q' σ e f g adds of =
+    let m = modulus t in
+    let a = total_in t.monomials σ x in
+    let b = value_in t p σ * value_in t q σ in
+    value-total (table_of w new) y σ ∙ adds.sums (subst (λ (u : Table). AreIn u.monomials x) (sym e) of.numbers) σ ∙
+    plus_same (2 ^ w) (total_in old σ x) (total_in old σ p' * total_in old σ q') b
+    (product-values w old t p q p' q' σ e f g ∙ sym (ap (λ (u : Table). b % modulus u) e)) ∙
+    ap (λ (u : Table). (total_in u.monomials σ x + b) % modulus u) e ∙
+    sym (ap (λ k. (k + b) % m) (value-total t x σ) ∙ mod-add-mod a m b)

@@ -7,11 +7,11 @@ use Rattle.graph_core.specs.Algebra.Polynomials.{product, difference}
 use Rattle.poly_terms.specs.Monomials.{Adds, AreMonomials, Grows, free_of, has_in, places_of, replaced, replaced_one, total_in, without}
 use Rattle.poly_terms.specs.Entries.{IsGathered, Sum, entry_order, plus}
 use Rattle.poly_terms.specs.Merges.{AreAfter}
-use Rattle.poly_terms.specs.Tables.{ArePlaces, Table, IsOf, modulus, value_in, assigned, replaced_value}
+use Rattle.poly_terms.specs.Tables.{ArePlaces, Table, IsOf, modulus, value_in, assigned, replaced_value, table_of}
 use Rattle.poly_terms.specs.Laws.{values_stay}
 use Rattle.poly_terms.proofs.Assigned.{product-other, product-false, product-true}
 use Rattle.poly_terms.proofs.Leaving.{after-filter, all-filter}
-use Rattle.poly_terms.proofs.Made.{extends_grown, made-IsOf, made-value, table_of, value_below}
+use Rattle.poly_terms.proofs.Made.{extends_grown, made-IsOf, made-value, value_below}
 use Rattle.poly_terms.proofs.Residues.{plus_same, factor_reduced, left_out, difference_plus, sum_of_reduced}
 use Rattle.poly_terms.proofs.Values.{value-total, value-plus, plus-IsOf}
 
@@ -149,7 +149,7 @@ replaced-bit t p v n σ false h =
 pub substituted_along : (w v : ℕ) (old new : List (List ℕ)) (p q p1 p2 q1 raw kept gathered r : Sum) → p1 ≡ p → p2 ≡ p → q1 ≡ q → Grows old new → AreMonomials new →
     Adds (2 ^ w) old new [] raw (λ σ. replaced old v σ (total_in old σ q1) p2) → IsGathered (2 ^ w) raw gathered → kept ≡ free_of old v p1 → r ≡ plus (2 ^ w) kept gathered →
     IsSubstituted w v old new p q r
-substituted_along w v old new p q p1 p2 q1 raw kept gathered r e f h g once adds others is sum = record {
+substituted_along w v old new p q p1 p2 q1 raw stayed gathered r e f h g once adds others is sum = record {
   raw = raw;
   gathered = gathered;
   grows = g;

@@ -1,17 +1,17 @@
 -- Entries times a number, one after the other.
-use Rattle.std.proofs.Common.{◌≡◌, ℕ, List, ◌+◌, ◌*◌, ◌%◌, ◌^◌, ◌<◌, ◌≢◌, Some, None, map, [], ◌∷◌, ◌++◌, get_or, length, take, refl, sym, ap, ap₂, subst, ◌∙◌, arith}
+use Rattle.std.proofs.Common.{◌≡◌, ◌↔◌, ℕ, Bool, false, List, ◌+◌, ◌*◌, ◌%◌, ◌^◌, ◌<◌, ◌≢◌, Some, None, map, [], ◌∷◌, ◌++◌, get_or, length, take, refl, sym, ap, ap₂, subst, ◌∙◌, arith}
 use Rattle.std.proofs.Math.Nat.{zero-mod}
-use Rattle.std.proofs.lemmas.List.{take_more}
-use Rattle.std.specs.List.{AllByRecursion}
+use Rattle.std.proofs.lemmas.List.{get_or-map, get_or_default, length-map, take_more}
+use Rattle.std.proofs.lemmas.List.Elements.{All-from_recursion}
+use Rattle.std.specs.List.{All, AllByRecursion, Any}
 use Rattle.std.specs.Ordering.{nat_cmp}
 use Rattle.graph_core.specs.Graph.Assignments.{Assignment}
 use Rattle.graph_core.specs.Algebra.Polynomials.{product}
-use Rattle.poly_terms.specs.Entries.{Entry, IsGathered, IsMultiple, IsQuotient, Sum, entry_order, total}
+use Rattle.poly_terms.specs.Entries.{Entry, IsMultiple, IsQuotient, Sum, entry_order, total}
 use Rattle.poly_terms.specs.Merges.{AreAfter}
-use Rattle.poly_terms.specs.Monomials.{AreMonomials, total_in}
-use Rattle.poly_terms.specs.Tables.{Table, IsOf, modulus, monomials_in, value_in}
+use Rattle.poly_terms.specs.Monomials.{AreIn, total_in}
+use Rattle.poly_terms.specs.Tables.{Table, IsOf, modulus, monomial_in, monomials_in, table_of, value_in}
 use Rattle.poly_terms.proofs.Gathering.{all_joined, total-append}
-use Rattle.poly_terms.proofs.Made.{made-IsOf, numbers_of, table_of}
 use Rattle.poly_terms.proofs.Residues.{factor_reduced, plus_same}
 use Rattle.poly_terms.proofs.Values.{value-total}
 
@@ -86,28 +86,19 @@ reduced m by x =
     ap (λ n. n % m) (let e : by * (x % m) ≡ x % m * by + 0 = omega arith in e) ∙ factor_reduced m x by 0 ∙
     ap (λ n. n % m) (let e : x * by + 0 ≡ by * x = omega arith in e)
 
-gathered-IsOf : (w : ℕ) (ms : List (List ℕ)) (t : Table) (p p' raw out r : Sum) → table_of w ms ≡ t → p' ≡ p → IsOf t p →
-    ((n : ℕ) → AllByRecursion (λ e. e.0 < n) p' → AllByRecursion (λ e. e.0 < n) raw) → IsGathered (2 ^ w) raw out → r ≡ out → IsOf t r
+-- a multiple is over the table's numbers
+pub scaled-numbers : (m by : ℕ) (t : Table) (p p' raw : Sum) → p' ≡ p → IsOf t p → IsMultiple m by p' raw → AreIn t.monomials raw
 unfolding IsOf
-gathered-IsOf w ms t p p' raw out r e f h numbers g is =
-    subst (λ u. IsOf u r) e
-    (made-IsOf w ms raw out r is (subst (λ (u : Table). AreMonomials u.monomials) (sym e) h.table) (numbers (length ms) (numbers_of w ms t p p' e f h)) g)
-
--- a multiple is a polynomial
-pub scaled-IsOf : (w by : ℕ) (ms : List (List ℕ)) (t : Table) (p p' raw out r : Sum) → table_of w ms ≡ t → p' ≡ p → IsOf t p → IsMultiple (2 ^ w) by p' raw → IsGathered (2 ^ w) raw out → r ≡ out →
-    IsOf t r
-scaled-IsOf w by ms t p p' raw out r e f h times g is = gathered-IsOf w ms t p p' raw out r e f h times.numbers g is
+scaled-numbers m by t p p' raw f h times = times.numbers (length t.monomials) (subst (AreIn t.monomials) (sym f) h.numbers)
 
 -- with so many times the value
-pub scaled-value : (w by : ℕ) (ms : List (List ℕ)) (t : Table) (p p' raw out r : Sum) (σ : Assignment) → table_of w ms ≡ t → p' ≡ p → IsMultiple (2 ^ w) by p' raw → IsGathered (2 ^ w) raw out → r ≡ out →
-    value_in t r σ ≡ (by * value_in t p σ) % modulus t
-scaled-value w by ms t p p' raw out r σ e f times g is =
-    let u : Table = table_of w ms in
-    let m = 2 ^ w in
-    let F : ℕ → ℕ = λ k. product σ (get_or ms k []) in
-    subst (λ (u : Table). value_in u r σ ≡ (by * value_in u p σ) % modulus u) e
-    (value-total u r σ ∙ ap (λ es. total F es % m) is ∙ g.sums F ∙ times.sums F ∙ ap (λ es. (by * total F es) % m) f ∙ sym (reduced m by (total F p)) ∙
-    ap (λ n. (by * n) % m) (sym (value-total u p σ)))
+pub scaled-total : (w by : ℕ) (ms : List (List ℕ)) (t : Table) (p p' raw : Sum) (σ : Assignment) → table_of w ms ≡ t → p' ≡ p → IsMultiple (2 ^ w) by p' raw →
+    total_in t.monomials σ raw % modulus t ≡ (by * value_in t p σ) % modulus t
+scaled-total w by ms t p p' raw σ e f times =
+    let m = modulus t in
+    let F : ℕ → ℕ = λ k. product σ (get_or t.monomials k []) in
+    let of_p : IsMultiple m by p raw = subst (λ (u : Table). IsMultiple (modulus u) by p raw) e (subst (λ a. IsMultiple (2 ^ w) by a raw) f times) in
+    of_p.sums F ∙ sym (reduced m by (total F p)) ∙ ap (λ n. (by * n) % m) (sym (value-total t p σ))
 
 -- entries of the same numbers are alike in all that hangs on numbers
 over_firsts : (P : ℕ → Type 0) (xs : Sum) → AllByRecursion (λ e. P e.0) xs → AllByRecursion P (map (λ e. e.0) xs)
@@ -172,6 +163,35 @@ variables_along t (e ∷ es) = ap (λ vs. get_or t.monomials e.0 [] ∷ vs) (var
 pub quotient-variables : (t : Table) (by : ℕ) (p r : Sum) → IsQuotient (modulus t) by p r → map (λ x. x.variables) (monomials_in t r) ≡ map (λ x. x.variables) (monomials_in t p)
 quotient-variables t by p r part =
     variables_along t r ∙ ap (map (λ n. get_or t.monomials n [])) part.numbers ∙ sym (variables_along t p)
+
+-- the coefficients of a polynomial are below the modulus
+pub coefficients_below : (w : ℕ) (ms : List (List ℕ)) (t : Table) (p p' : Sum) → table_of w ms ≡ t → p' ≡ p → IsOf t p → All (λ e. e.1 < 2 ^ w) p'
+unfolding IsOf
+coefficients_below w ms t p p' e f h =
+    let low : All (λ e. e.1 < modulus t) p = λ i x in_list. (All-from_recursion (λ e. (0 < e.1) × (e.1 < modulus t)) p h.coefficients i x in_list).1 in
+    subst (λ (u : Table). All (λ e. e.1 < modulus u) p') (sym e) (subst (All (λ e. e.1 < modulus t)) (sym f) low)
+
+-- what holds of each doesn't fail of any
+pub fails_of_none : {X : Type 0} (P : X → Type 0) (xs : List X) → All P xs → Any (λ x. P x → ⊥) xs → ⊥
+fails_of_none P xs all some = some.4 (subst P some.3 (all some.0 some.1 some.2))
+
+-- a fact of some entry's coefficient is one of some monomial's
+coefficient_of_some : (P : ℕ → Type 0) (t : Table) (p : Sum) → Any (λ e. P e.1) p ↔ Any (λ x. P x.coefficient) (monomials_in t p)
+unfolding monomials_in
+coefficient_of_some P t p =
+    let f = monomial_in t in (
+      λ some. (some.0, f some.1, (let len = length-map p f in let low = some.2 in omega arith), get_or-map f p some.0 some.1 (f some.1) some.2 ∙ ap f some.3, some.4),
+      λ some.
+          let low : some.0 < length p = let len = length-map p f in let low = some.2 in omega arith in
+          let e = get_or p some.0 (0, 0) in
+          (some.0, e, low, get_or_default p some.0 e (0, 0) low, subst (λ x. P x.coefficient) (sym some.3 ∙ get_or-map f p some.0 (0, 0) some.1 low) some.4),
+    )
+
+-- that nothing is answered where some entry's coefficient is so, in the words of the table
+pub none_in : (b : Bool) (P : ℕ → Type 0) (t : Table) (p p' : Sum) → p' ≡ p → ((b ≡ false) ↔ Any (λ e. P e.1) p') → (b ≡ false) ↔ Any (λ x. P x.coefficient) (monomials_in t p)
+none_in b P t p p' f is =
+    let of = coefficient_of_some P t p in
+    (λ no. of.0 (subst (Any (λ e. P e.1)) f (is.0 no)), λ some. is.1 (subst (Any (λ e. P e.1)) (sym f) (of.1 some)))
 
 -- what is carried to another table has its value there
 pub brought-value : (w : ℕ) (ms : List (List ℕ)) (t : Table) (p p' : Sum) (σ : Assignment) → t.exponent ≡ w → ms ≡ t.monomials → p' ≡ p → total_in ms σ p' % 2 ^ w ≡ value_in t p σ

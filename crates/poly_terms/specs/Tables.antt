@@ -16,6 +16,10 @@ pub record Table : Type 0 where
   pub exponent : ℕ
   pub monomials : List (List ℕ)
 
+-- a table by its parts
+abbrev pub table_of : ℕ → List (List ℕ) → Table
+table_of exponent monomials = record { exponent = exponent; monomials = monomials }
+
 abbrev pub modulus : Table → ℕ
 modulus t = 2 ^ t.exponent
 

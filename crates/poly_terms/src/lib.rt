@@ -20,7 +20,7 @@
 #![tactic(auto)]
 
 mod addition;
-mod by_number;
+mod carrying;
 mod coefficient;
 mod coefficients;
 mod evaluation;
@@ -32,10 +32,10 @@ mod parts;
 mod places;
 mod poly;
 mod poly_sum;
+mod product_sum;
 mod quotient;
 mod scaling;
 mod substitution;
-mod sum_of_products;
 mod table_laws;
 mod term;
 mod terms;
@@ -44,7 +44,6 @@ mod variables;
 pub use indexed::Indexed;
 pub use poly::Poly;
 pub use poly_sum::PolySum;
-pub use sum_of_products::SumOfProducts;
 pub use table_laws::{
     indexes_stay, modulus_stays, monomials_are_normal, tables_extend, values_stay,
 };

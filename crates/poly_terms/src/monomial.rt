@@ -67,8 +67,8 @@ pub(crate) fn from_variables(alloc: Global, variables: &[u32]) -> Result<Monomia
     join(alloc, left.as_slice(), right.as_slice())
 }
 
-// Whether the variables are a monomial's as they stand.
-fn is_rising(variables: &[u32]) -> bool
+/// Whether the variables are a monomial's as they stand.
+pub(crate) fn is_rising(variables: &[u32]) -> bool
     ensures { IsTrue result → AreRising 0 variables.now }
 {
     let mut last: u32 = 0;

@@ -1,5 +1,5 @@
 // Monomials, each with one number.
-ghost use Rattle.std.specs.Prelude.{◌≡◌, ◌<◌, [], IfOk, length, get_or};
+ghost use Rattle.std.specs.Prelude.{◌≡◌, ◌<◌, [], IfOk, IsTrue, length, get_or};
 ghost use Rattle.graph_core.specs.Algebra.NormalForm.{AreRising};
 ghost use Rattle.poly_terms.specs.Monomials.{AreMonomials, Grows, Stands, joined, without};
 
@@ -8,11 +8,16 @@ use indexmap::IndexSet;
 use std::alloc::{AllocError, Global};
 use std::marker::Model;
 
+// Variables up to twice the number of monomials and so many have hints: then those take no more room than the monomials.
+const MORE_HINTS: usize = 64;
+
 /// Monomials by number: each stands once, and its place is its number.
 #[derive(Drop)]
 pub(crate) struct Numbering {
     alloc: Global,
     monomials: IndexSet<Monomial>,
+    /// which number a variable alone may have, by the variable, and at 0 the empty monomial
+    hints: Vec<usize>,
 }
 
 impl Model for Numbering {
@@ -33,6 +38,7 @@ impl Numbering {
         Numbering {
             alloc,
             monomials: IndexSet::new(alloc),
+            hints: Vec::new(alloc),
         }
     }
 
@@ -43,13 +49,6 @@ impl Numbering {
         self.monomials.len() as u64
     }
 
-    /// No monomials any more. The room stays.
-    pub(crate) fn clear(&mut self)
-        ensures { self.new ≡ [] }
-    {
-        self.monomials.clear();
-    }
-
     /// The number of a monomial, which is added where it is new.
     pub(crate) fn intern(&mut self, monomial: Monomial) -> Result<u64, AllocError>
         requires { AreRising 0 monomial.items }
@@ -57,8 +56,65 @@ impl Numbering {
         ensures once { AreMonomials self.new }
         ensures number { IfOk result (λ n. Stands self.new n monomial.items) }
     {
+        match place_of(monomial.as_slice()) {
+            Some(place) => self.intern_short(place, monomial),
+            None => self.enter(monomial),
+        }
+    }
+
+    // The same of a monomial that has a hint: most are of one variable or none, and were looked up before.
+    fn intern_short(&mut self, place: usize, monomial: Monomial) -> Result<u64, AllocError>
+        requires { AreRising 0 monomial.items }
+        ensures grows { Grows self.old self.new }
+        ensures once { AreMonomials self.new }
+        ensures number { IfOk result (λ n. Stands self.new n monomial.items) }
+    {
+        let hint = self.hint(place);
+        if self.stands_at(hint, monomial.as_slice()) {
+            self.stand_once();
+            return Ok(hint);
+        }
+        let number = self.enter(monomial)?;
+        self.note(place, number)?;
+        Ok(number)
+    }
+
+    // The same, by a look-up among all.
+    fn enter(&mut self, monomial: Monomial) -> Result<u64, AllocError>
+        requires { AreRising 0 monomial.items }
+        ensures grows { Grows self.old self.new }
+        ensures once { AreMonomials self.new }
+        ensures number { IfOk result (λ n. Stands self.new n monomial.items) }
+    {
         let (number, _) = self.monomials.insert_full(monomial)?;
         Ok(number as u64)
+    }
+
+    // Which number the monomial of a place may have.
+    fn hint(&self, place: usize) -> u64 {
+        match self.hints.get(place) {
+            Some(number) => *number as u64,
+            None => 0,
+        }
+    }
+
+    fn stands_at(&self, number: u64, monomial: &[u32]) -> bool
+        ensures { IsTrue result → Stands self.now number monomial.now }
+    {
+        match self.monomials.get_index(number as usize) {
+            Some(known) => known.as_slice() == monomial,
+            None => false,
+        }
+    }
+
+    // Keeps the number of a place as its hint.
+    fn note(&mut self, place: usize, number: u64) -> Result<(), AllocError>
+        ensures { self.new ≡ self.old }
+    {
+        if place / 2 > self.monomials.len() + MORE_HINTS {
+            return Ok(());
+        }
+        put_hint(&mut self.hints, place, number as usize)
     }
 
     /// Each monomial rises and stands once.
@@ -90,6 +146,25 @@ impl Numbering {
         monomial::join(self.alloc, monomial, self.variables(number))
     }
 
+    /// The number of the product of two numbers' monomials, which is added where it is new.
+    pub(crate) fn product(&mut self, left: u64, right: u64) -> Result<u64, AllocError>
+        requires left { left < length self.old }
+        requires right { right < length self.old }
+        ensures grows { Grows self.old self.new }
+        ensures number { IfOk result
+            (λ n. Stands self.new n (joined (get_or self.old left []) (get_or self.old right []))) }
+    {
+        // by 1
+        if self.variables(left).is_empty() {
+            return Ok(right);
+        }
+        if self.variables(right).is_empty() {
+            return Ok(left);
+        }
+        let both = self.times(self.variables(left), right)?;
+        self.intern(both)
+    }
+
     /// The monomial of a number, without a variable.
     pub(crate) fn without(&self, number: u64, v: u32) -> Result<Monomial, AllocError>
         requires { number < length self.now }
@@ -98,4 +173,23 @@ impl Numbering {
     {
         monomial::without(self.alloc, self.variables(number), v)
     }
+}
+
+// Where the hint of a monomial is, if that has one variable or none.
+fn place_of(monomial: &[u32]) -> Option<usize> {
+    match monomial {
+        [] => Some(0),
+        [v] => Some(*v as usize),
+        _ => None,
+    }
+}
+
+fn put_hint(hints: &mut Vec<usize>, place: usize, number: usize) -> Result<(), AllocError> {
+    for _ in hints.len()..=place {
+        hints.push(0)?;
+    }
+    if let Some(hint) = hints.get_mut(place) {
+        *hint = number;
+    }
+    Ok(())
 }

@@ -29,15 +29,15 @@ pub(crate) fn copies(
 pub(crate) fn entries_of(
     alloc: Global,
     table: &mut Numbering,
-    parts: &[(u128, Variables)],
+    parts: Vec<(u128, Variables)>,
 ) -> Result<Vec<Term>, AllocError>
     ensures grows { Grows table.old table.new }
     ensures adds { IfOk result (λ out. (m : ℕ) → Adds m table.old table.new [] out.items
-        (λ σ. sum_of m (said parts.now) σ)) }
+        (λ σ. sum_of m (said parts.items) σ)) }
 {
     let mut out = Vec::with_capacity(alloc, parts.len())?;
     for (coefficient, variables) in parts {
-        push_part(alloc, table, *coefficient, variables.as_slice(), &mut out)?;
+        push_part(alloc, table, coefficient, variables, &mut out)?;
     }
     Ok(out)
 }
@@ -47,18 +47,20 @@ fn push_part(
     alloc: Global,
     table: &mut Numbering,
     coefficient: u128,
-    variables: &[u32],
+    variables: Variables,
     out: &mut Vec<Term>,
 ) -> Result<(), AllocError>
     ensures grows { Grows table.old table.new }
     ensures adds { OnOk result ((m : ℕ) → Adds m table.old table.new out.old.items out.new.items
-        (λ σ. coefficient * product σ variables.now)) }
+        (λ σ. coefficient * product σ variables)) }
 {
-    if !monomial::has_variable(variables, 0) {
-        let monomial = monomial::from_variables(alloc, variables)?;
-        multiplication::push_term(table, monomial, coefficient, out)?;
+    match variables.into_monomial(alloc)? {
+        Some(monomial) => {
+            multiplication::push_term(table, monomial, coefficient, out)?;
+            Ok(())
+        }
+        None => Ok(()),
     }
-    Ok(())
 }
 
 /// The products of each term with each part, over a table that takes their monomials.

@@ -1,20 +1,22 @@
-// Sums of many polynomials of one table.
-ghost use Rattle.std.specs.Prelude.{◌≡◌, ◌+◌, ◌%◌, ◌^◌, ◌<◌, ◌∷◌, ℕ, [], IfOk, OnOk, length, get_or};
+// Sums of many polynomials and products of one table.
+ghost use Rattle.std.specs.Prelude.{◌≡◌, ◌+◌, ◌*◌, ◌%◌, ◌^◌, ◌<◌, ◌∷◌, ℕ, [], IfOk, OnOk, length, get_or};
 ghost use Rattle.std.specs.List.{Contains};
 ghost use Rattle.graph_core.specs.Graph.Assignments.{Assignment};
 ghost use Rattle.mv_nums.specs.Residue.{IsWidth};
+ghost use Rattle.poly_terms.specs.Monomials.{Adds, AreIn, Grows, total_in};
 ghost use Rattle.poly_terms.specs.PolySums.{AreListed, AreTaken, IsAdded, IsLess};
-ghost use Rattle.poly_terms.specs.Tables.{IsOf, modulus, value_in};
+ghost use Rattle.poly_terms.specs.Tables.{IsOf, modulus, table_of, value_in};
 
 use crate::coefficients::Coefficients;
+use crate::numbering::Numbering;
 use crate::term::Term;
-use crate::{Poly, Terms, addition, coefficient};
+use crate::{Poly, Terms, addition, coefficient, product_sum};
 use graph_core::Memory;
 use std::alloc::{AllocError, Global};
 use std::marker::Model;
 
-/// Polynomials of a table, as far as they are added up. Each monomial has one place, so that nothing is sorted before the
-/// whole sum is taken. Where a call wants memory, nothing more is known of the sum.
+/// Polynomials and products of a table, as far as they are added up. Each monomial has one place, so that nothing is
+/// sorted before the whole sum is taken. Where a call wants memory, nothing more is known of the sum.
 #[derive(Debug, Drop)]
 pub struct PolySum {
     alloc: Global,
@@ -64,6 +66,42 @@ impl PolySum {
         Ok(())
     }
 
+    /// Leaves 0, whatever was added. The room stays.
+    pub fn clear(&mut self, terms: &Terms)
+        ensures none { self.new ≡ [] }
+        ensures of { IsOf terms.now self.new }
+    {
+        terms.numbering().stand_once();
+        clear_all(&mut self.coefficients, &self.numbers);
+        self.numbers.clear();
+    }
+
+    // the products of each term with each
+    pub(crate) fn add_products(
+        &mut self,
+        width: u32,
+        table: &mut Numbering,
+        left: &[Term],
+        right: &[Term],
+    ) -> Result<(), AllocError>
+        requires width { IsWidth width }
+        requires left { AreIn table.old left.now }
+        requires right { AreIn table.old right.now }
+        ensures grows { Grows table.old table.new }
+        ensures of { OnOk result (IsOf (table_of width table.old) self.old → IsOf (table_of width table.new) self.new) }
+        ensures adds { OnOk result (Adds (2 ^ width) table.old table.new self.old self.new
+            (λ σ. total_in table.old σ left.now * total_in table.old σ right.now)) }
+    {
+        product_sum::add_products(
+            width,
+            table,
+            &mut self.coefficients,
+            &mut self.numbers,
+            left,
+            right,
+        )
+    }
+
     /// Takes the whole sum, and leaves 0. The room stays.
     pub fn take(&mut self, terms: &Terms) -> Result<Poly, Memory>
         requires { IsOf terms.now self.old }
@@ -97,7 +135,8 @@ fn add_all(
     Ok(())
 }
 
-fn add_term(
+/// Adds a term.
+pub(crate) fn add_term(
     width: u32,
     coefficients: &mut Coefficients,
     numbers: &mut Vec<u64>,
@@ -162,4 +201,23 @@ fn take_one(
         coefficients.put(number, 0);
     }
     Ok(())
+}
+
+// Puts 0 at these numbers.
+fn clear_all(coefficients: &mut Coefficients, numbers: &[u64])
+    ensures less { IsLess coefficients.old coefficients.new }
+    ensures gone { (k : ℕ) → k < length numbers.now → get_or coefficients.new (get_or numbers.now k 0) 0 ≡ 0 }
+{
+    for number in numbers {
+        clear_one(coefficients, *number);
+    }
+}
+
+fn clear_one(coefficients: &mut Coefficients, listed: u64)
+    ensures less { IsLess coefficients.old coefficients.new }
+    ensures gone { get_or coefficients.new listed 0 ≡ 0 }
+{
+    if coefficients.at(listed) != 0 {
+        coefficients.put(listed, 0);
+    }
 }

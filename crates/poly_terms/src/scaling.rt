@@ -1,11 +1,10 @@
 // Terms times a number, and divided by a power of two.
-ghost use Rattle.std.specs.Prelude.{◌≡◌, ◌*◌, ◌%◌, ◌^◌, ◌<◌, IfOk, IfSome};
+ghost use Rattle.std.specs.Prelude.{◌≡◌, ◌≢◌, ◌↔◌, ◌*◌, ◌%◌, ◌^◌, ◌<◌, All, Any, IfOk, IfSome, IsNone, IsTrue};
 ghost use Rattle.mv_nums.specs.Residue.{IsWidth};
 ghost use Rattle.poly_terms.specs.Entries.{IsMultiple, IsQuotient};
 
 use crate::coefficient;
 use crate::term::Term;
-use mv_nums::Residue;
 use std::alloc::{AllocError, Global};
 
 /// Each term times a number, some of which may be 0 then.
@@ -35,28 +34,42 @@ pub(crate) fn quotients(
 ) -> Result<Option<Vec<Term>>, AllocError>
     requires exponent { IsWidth exponent }
     requires power { k < 128 }
-    ensures { IfOk result (λ r. IfSome r (λ out. IsQuotient (2 ^ exponent) (2 ^ k) entries.now out.items)) }
+    requires below { All (λ e. e.1 < 2 ^ exponent) entries.now }
+    ensures quotient { IfOk result (λ r. IfSome r (λ out. IsQuotient (2 ^ exponent) (2 ^ k) entries.now out.items)) }
+    ensures none { IfOk result (λ r. IsNone r ↔ Any (λ e. e.1 % 2 ^ k ≢ 0) entries.now) }
 {
     let mut out = Vec::with_capacity(alloc, entries.len())?;
     for entry in entries {
-        let quotient = shifted(exponent, entry.coefficient(), k);
-        if coefficient::product(exponent, 1 << k, quotient) != entry.coefficient() {
+        if !is_multiple(entry.coefficient(), k) {
             return Ok(None);
         }
+        let quotient = shifted(exponent, entry.coefficient(), k);
         out.push(entry.with_coefficient(quotient))?;
     }
     Ok(Some(out))
 }
 
-// A coefficient without its last k bits. Of the coefficient and its opposite the lesser one is shifted.
+// Whether a coefficient is a multiple of 2^k.
+#[tactic(auto, using(std::proofs::lemmas::Nat::one_shl, std::proofs::lemmas::Nat::pow_pos))]
+fn is_multiple(coefficient: u128, k: u32) -> bool
+    requires { k < 128 }
+    ensures { IsTrue result ↔ (coefficient % 2 ^ k ≡ 0) }
+{
+    coefficient % (1 << k) == 0
+}
+
+// A multiple of 2^k without its last k bits. Of the coefficient and its opposite the lesser one is shifted.
 fn shifted(exponent: u32, coefficient: u128, k: u32) -> u128
     requires exponent { IsWidth exponent }
     requires power { k < 128 }
-    ensures { result < 2 ^ exponent }
+    requires below { coefficient < 2 ^ exponent }
+    requires multiple { coefficient % 2 ^ k ≡ 0 }
+    ensures below { result < 2 ^ exponent }
+    ensures quotient { (2 ^ k * result) % 2 ^ exponent ≡ coefficient }
 {
-    let opposite = Residue::new(exponent, coefficient).neg().value();
+    let opposite = coefficient::opposite(exponent, coefficient);
     if coefficient <= opposite {
-        return Residue::new(exponent, coefficient >> k).value();
+        return coefficient >> k;
     }
-    Residue::new(exponent, opposite >> k).neg().value()
+    coefficient::opposite(exponent, opposite >> k)
 }

@@ -1,16 +1,17 @@
 // The table of monomials, and all that makes polynomials.
-ghost use Rattle.std.specs.Prelude.{◌≡◌, ◌<◌, ◌↔◌, ◌+◌, ◌*◌, ◌%◌, ◌^◌, All, Bool, false, IfOk, IfSome, IsTrue, Some, [], length, map, option_map, slice_get, sum_by};
+ghost use Rattle.std.specs.Prelude.{◌≡◌, ◌≢◌, ◌<◌, ◌↔◌, ◌+◌, ◌*◌, ◌%◌, ◌^◌, All, Any, Bool, false, IfOk, IfSome, IsNone, IsTrue, OnOk, Some, [], length, map, option_map, slice_get, sum_by};
 ghost use Rattle.graph_core.specs.Graph.Assignments.{Assignment, bit, listed};
 ghost use Rattle.graph_core.specs.Algebra.NormalForm.{HasSize};
 ghost use Rattle.graph_core.specs.Algebra.Polynomials.{value};
 ghost use Rattle.mv_nums.specs.Residue.{IsWidth};
-ghost use Rattle.poly_terms.specs.Sums.{sum_in};
 ghost use Rattle.poly_terms.specs.Tables.{ArePlaces, Extends, IsOf, assigned, given, modulus, monomials_in, quotient_value, replaced_value, said, value_in};
+ghost use Rattle.poly_terms.specs.Monomials.{AreIn, total_in};
 
 use crate::numbering::Numbering;
+use crate::term::Term;
 use crate::{
-    Poly, SumOfProducts, Variables, addition, evaluation, multiplication, parts, quotient, scaling,
-    substitution, sum_of_products, term,
+    Poly, PolySum, Variables, addition, carrying, evaluation, multiplication, parts, quotient,
+    scaling, substitution, term,
 };
 use graph_core::Memory;
 use std::alloc::Global;
@@ -66,17 +67,17 @@ impl Terms {
             value_in self.new r σ ≡ value (modulus self.old) (given parts.now) σ) }
     {
         let parts = parts::copies(self.alloc, parts)?;
-        let poly = self.make_of(&parts)?;
+        let poly = self.make_of(parts)?;
         Ok(poly)
     }
 
     /// The same of parts that take no memory each.
     #[tactic(auto, using(crate::specs::Laws::extends_itself, crate::proofs::Made::extends_grown))]
-    pub fn make_of(&mut self, parts: &[(u128, Variables)]) -> Result<Poly, Memory>
+    pub fn make_of(&mut self, parts: Vec<(u128, Variables)>) -> Result<Poly, Memory>
         ensures extends { Extends self.old self.new }
         ensures of { IfOk result (IsOf self.new) }
         ensures value { IfOk result (λ r. (σ : Assignment) →
-            value_in self.new r σ ≡ value (modulus self.old) (said parts.now) σ) }
+            value_in self.new r σ ≡ value (modulus self.old) (said parts.items) σ) }
     {
         let raw = parts::entries_of(self.alloc, &mut self.monomials, parts)?;
         self.monomials.stand_once();
@@ -115,9 +116,8 @@ impl Terms {
             p.entries(),
             q.entries(),
         )?;
-        self.monomials.stand_once();
-        let entries = addition::gather(self.alloc, self.exponent, raw)?;
-        Ok(Poly::of(entries))
+        let product = self.gathered(raw)?;
+        Ok(product)
     }
 
     /// A polynomial times the sum of coefficients of any size, each times a product of variables.
@@ -136,6 +136,17 @@ impl Terms {
             p.entries(),
             parts,
         )?;
+        let product = self.gathered(raw)?;
+        Ok(product)
+    }
+
+    // The polynomial of terms in any order.
+    fn gathered(&self, raw: Vec<Term>) -> Result<Poly, Memory>
+        requires { AreIn self.now.monomials raw.items }
+        ensures of { IfOk result (IsOf self.now) }
+        ensures value { IfOk result (λ r. (σ : Assignment) →
+            value_in self.now r σ ≡ total_in self.now.monomials σ raw.items % modulus self.now) }
+    {
         self.monomials.stand_once();
         let entries = addition::gather(self.alloc, self.exponent, raw)?;
         Ok(Poly::of(entries))
@@ -247,9 +258,8 @@ impl Terms {
             value_in self.new r σ ≡ quotient_value self.old p.now v σ) }
     {
         let raw = quotient::quotients(self.alloc, &mut self.monomials, p.entries(), v, places)?;
-        self.monomials.stand_once();
-        let entries = addition::gather(self.alloc, self.exponent, raw)?;
-        Ok(Poly::of(entries))
+        let quotient = self.gathered(raw)?;
+        Ok(quotient)
     }
 
     /// A polynomial by a variable: what stands beside it, and what is left where the variable is false.
@@ -300,19 +310,19 @@ impl Terms {
         Ok(Poly::of(entries))
     }
 
-    /// The sum of products that were added up.
+    /// Adds the product of two polynomials to a sum. The table takes its monomials, also those that leave the sum again.
     #[tactic(auto, using(crate::specs::Laws::extends_itself, crate::proofs::Made::extends_grown))]
-    pub fn sum_up(&mut self, products: &SumOfProducts) -> Result<Poly, Memory>
-        requires { products.now.exponent ≡ self.old.exponent }
+    pub fn add_product(&mut self, sum: &mut PolySum, p: &Poly, q: &Poly) -> Result<(), Memory>
+        requires sum { IsOf self.old sum.old }
+        requires left { IsOf self.old p.now }
+        requires right { IsOf self.old q.now }
         ensures extends { Extends self.old self.new }
-        ensures of { IfOk result (IsOf self.new) }
-        ensures value { IfOk result (λ r. (σ : Assignment) →
-            value_in self.new r σ ≡ sum_in products.now σ) }
+        ensures of { OnOk result (IsOf self.new sum.new) }
+        ensures value { OnOk result ((σ : Assignment) → value_in self.new sum.new σ ≡
+            (value_in self.old sum.old σ + value_in self.old p.now σ * value_in self.old q.now σ) % modulus self.old) }
     {
-        let raw = products.entries_in(self.alloc, &mut self.monomials)?;
-        self.monomials.stand_once();
-        let entries = addition::gather(self.alloc, self.exponent, raw)?;
-        Ok(Poly::of(entries))
+        sum.add_products(self.exponent, &mut self.monomials, p.entries(), q.entries())?;
+        Ok(())
     }
 
     /// A polynomial times a number.
@@ -323,8 +333,8 @@ impl Terms {
             value_in self.now r σ ≡ (by * value_in self.now p.now σ) % modulus self.now) }
     {
         let raw = scaling::multiples(self.alloc, self.exponent, p.entries(), by)?;
-        let entries = addition::gather(self.alloc, self.exponent, raw)?;
-        Ok(Poly::of(entries))
+        let product = self.gathered(raw)?;
+        Ok(product)
     }
 
     /// A polynomial of the same monomials of which 2^k times is this one, with coefficients as near to 0 as can be.
@@ -337,6 +347,8 @@ impl Terms {
             (2 ^ k * value_in self.now q σ) % modulus self.now ≡ value_in self.now p.now σ)) }
         ensures variables { IfOk result (λ r. IfSome r (λ q.
             map (λ x. x.variables) (monomials_in self.now q) ≡ map (λ x. x.variables) (monomials_in self.now p.now))) }
+        ensures none { IfOk result (λ r. IsNone r ↔
+            Any (λ x. x.coefficient % 2 ^ k ≢ 0) (monomials_in self.now p.now)) }
     {
         let divided = scaling::quotients(self.alloc, self.exponent, p.entries(), k)?;
         match divided {
@@ -355,7 +367,7 @@ impl Terms {
         ensures value { IfOk result (λ r. (σ : Assignment) →
             value_in self.new r σ ≡ value_in from.now p.now σ) }
     {
-        let raw = sum_of_products::carry_all(
+        let raw = carrying::carry_all(
             self.alloc,
             from.numbering(),
             p.entries(),

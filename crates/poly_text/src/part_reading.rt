@@ -11,7 +11,7 @@ ghost use Rattle.poly_text.specs.Values.{TakesAllParts, TakesPart, TakesParts, T
 use crate::numbers::id;
 use crate::pac_reader::PacReader;
 use mv_desk::LineFail;
-use mv_text::{Scanner, pushed};
+use mv_text::{Scanner, push};
 use poly_terms::{Poly, Terms};
 
 // An id and a text behind it.
@@ -58,7 +58,8 @@ impl PacReader {
         ensures extends { Extends terms.old terms.new }
     {
         let first = self.part(scanner, terms)?;
-        let parts = pushed(Some(Vec::new(self.alloc)), first)?;
+        let mut parts = Some(Vec::new(self.alloc));
+        push(&mut parts, first)?;
         let parts = self.later_parts(scanner, terms, parts)?;
         Ok(parts)
     }
@@ -82,7 +83,7 @@ impl PacReader {
         let mut parts = before;
         while scanner.is_at(b' ') {
             let part = self.later_part(scanner, terms)?;
-            parts = pushed(parts, part)?;
+            push(&mut parts, part)?;
         }
         Ok(parts)
     }

@@ -9,7 +9,7 @@ ghost use Rattle.poly_text.specs.Values.{AreTermsOf, TakesPoly, TakesTerm, Takes
 
 use crate::pac_reader::PacReader;
 use mv_desk::LineFail;
-use mv_text::{Scanner, pushed};
+use mv_text::{Scanner, push};
 use poly_terms::{Poly, Terms, Variables};
 
 impl PacReader {
@@ -29,7 +29,7 @@ impl PacReader {
         let Some(given) = self.all_terms(scanner)? else {
             return Ok(None);
         };
-        match terms.make_of(&given) {
+        match terms.make_of(given) {
             Ok(poly) => Ok(Some(poly)),
             Err(_) => Err(LineFail::Memory),
         }
@@ -45,7 +45,8 @@ impl PacReader {
         ensures err { IfErr result (IsMisfit (poly_at scanner.old ≡ None)) }
     {
         let first = self.first_term(scanner)?;
-        let terms = pushed(Some(Vec::new(self.alloc)), first)?;
+        let mut terms = Some(Vec::new(self.alloc));
+        push(&mut terms, first)?;
         let terms = self.later_terms(scanner, terms)?;
         Ok(terms)
     }
@@ -76,7 +77,7 @@ impl PacReader {
         let mut terms = before;
         while is_at_sign(scanner) {
             let term = self.later_term(scanner)?;
-            terms = pushed(terms, term)?;
+            push(&mut terms, term)?;
         }
         Ok(terms)
     }

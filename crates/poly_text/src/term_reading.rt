@@ -1,5 +1,5 @@
 // Terms, as they are read.
-ghost use Rattle.std.specs.Prelude.{◌≡◌, ◌+◌, ◌%◌, ◌^◌, true, false, None, IfOk, IfErr};
+ghost use Rattle.std.specs.Prelude.{◌≡◌, ◌+◌, ◌%◌, ◌^◌, true, false, None, IfOk, IfErr, OnOk};
 ghost use Rattle.graph_core.specs.Text.Numerals.{number_at};
 ghost use Rattle.graph_core.specs.Text.Readers.{behind_at};
 ghost use Rattle.graph_core.specs.Algebra.Reading.{factors_at, coefficient_at, product_at, term_at};
@@ -61,8 +61,9 @@ impl PacReader {
     {
         scanner.text(b"x")?;
         let first = variable(scanner, self.max)?;
-        let first = times(Some(Variables::new(self.alloc)), first)?;
-        let variables = self.factors(scanner, first)?;
+        let mut before = Some(Variables::new(self.alloc));
+        times(&mut before, first)?;
+        let variables = self.factors(scanner, before)?;
         Ok(self.signed_term(negative, Some(1), variables))
     }
 
@@ -78,7 +79,7 @@ impl PacReader {
         let mut variables = before;
         while scanner.is_at(b'*') {
             let variable = self.factor(scanner)?;
-            variables = times(variables, variable)?;
+            times(&mut variables, variable)?;
         }
         Ok(variables)
     }
@@ -122,16 +123,18 @@ impl PacReader {
     }
 }
 
-// Variables and one more, where both are there.
-fn times(variables: Option<Variables>, v: Option<u32>) -> Result<Option<Variables>, LineFail>
-    ensures ok { IfOk result (IsTimes variables v) }
+// Puts one more variable behind others, where both are there; else there are no variables any more.
+fn times(variables: &mut Option<Variables>, v: Option<u32>) -> Result<(), LineFail>
+    ensures ok { OnOk result (IsTimes variables.old v variables.new) }
     ensures err { IfErr result (IsMisfit ⊥) }
 {
-    match (variables, v) {
-        (Some(mut variables), Some(v)) => {
-            variables.push(v).map_err(|_| LineFail::Memory)?;
-            Ok(Some(variables))
+    match v {
+        Some(v) => {
+            if let Some(variables) = variables {
+                variables.push(v).map_err(|_| LineFail::Memory)?;
+            }
         }
-        _ => Ok(None),
+        None => *variables = None,
     }
+    Ok(())
 }

@@ -9,6 +9,24 @@ use Rattle.joint_prover.specs.Tries.{AreTried, IsAbove}
 use Rattle.joint_prover.proofs.Telling.{tells_behind, tried_more}
 use Rattle.joint_prover.proofs.plans.over_graph.Goals as goal
 
+pub told-requires : goal.told-requires
+told-requires g c =
+    let e = without_cut c.args.graph.now in
+    let start = c.in_ok-lines.lines in
+    let fresh = c.in_ok-lines.ensures.fresh in
+    let same = fresh.extended ∙ c.without_cut-extended.ensures in
+    let l = c.reduced_by_slices.new.lines in
+    let end = c.in-Ended.ending in
+    let ended = subst (IsSliced start c.args.budget false l) c.in-Ended.is c.in_ok-ending.ensures in
+    record {
+      ended = (
+        e,
+        c.args.operands.now.order,
+        c.requires.sized,
+        subst (λ s. IsEnded e s.order l end) fresh.sides (subst (λ x. IsEnded x start.sides.order l end) same ended),
+      );
+    }
+
 pub returns-in-Ended-clause-verdict : goal.returns-in-Ended-clause-verdict
 returns-in-Ended-clause-verdict g c =
     let e = without_cut c.args.graph.now in

@@ -2,13 +2,15 @@ use Rattle.std.proofs.Common.{ℕ, true, ap, sym, subst, ◌∙◌}
 use Rattle.std.specs.Prelude.{IfOk, Some}
 use Rattle.graph_core.specs.Aiger.Soundness.{IsMultiplierSized}
 use Rattle.graph_core.specs.Graph.Extended.{Extended}
-use Rattle.stage_rewriter.specs.Rewriting.{IsRewriting}
+use Rattle.graph_core.specs.Graph.Operands.{sides_of}
+use Rattle.stage_rewriter.specs.Rewriting.{Agrees, IsRewriting}
 use Rattle.stage_rewriter.specs.declared.rewriting.Rewritten.TheVariants as kind
 use Rattle.joint_checker.specs.Files.{files_of}
 use Rattle.joint_prover.specs.Endings.{IsEnded, IsSliced}
 use Rattle.joint_prover.specs.Notes.{cut_of, note_of}
 use Rattle.joint_prover.specs.Parts.{IsOfGraph}
 use Rattle.joint_prover.specs.Tries.{IsAbove}
+use Rattle.joint_prover.proofs.Starting.{starts}
 use Rattle.joint_prover.proofs.Telling.{Tells, tells_first, tried_first}
 use Rattle.joint_prover.proofs.plans.over_rewritten.Goals as goal
 
@@ -74,3 +76,12 @@ returns-in_ok-tried-in-Passed-clause-verdict g c =
     let above = subst (λ s. IsAbove e s c.args.budget first) sides (subst (λ x. IsAbove x start.sides c.args.budget first) fresh.extended passed.1) in
     subst (λ r. IfOk c.over_graph.result (λ v. (conflicts : ℕ) → IsRewriting graph order conflicts r → IsOfGraph graph order c.args.budget conflicts (cut_of (note_of r)) files a b v)) (sym u.is)
     (tried_first files a b c.over_graph.result graph order c.args.budget u.cut e u.log c.in_ok-tried-in-Passed.tried.items first c.in_ok-tried-in-Passed.ensures.items passed.0 above c.over_graph.ensures.verdict)
+
+pub reduced_by_slices-requires : goal.reduced_by_slices-requires
+reduced_by_slices-requires g c =
+    let u = c.in-Used in
+    let e = u.extended in
+    let used = subst (IsRewriting c.args.graph.now c.args.operands.now.order c.requires.rewriting.0) u.is c.requires.rewriting.1 in
+    let below = ap (λ (x : Extended). x.graph) used.extended_is in
+    starts c.in_ok-lines-in-Used.lines e c.args.operands.now c.in_ok-lines-in-Used.ensures.fresh (c.requires.operands ∙ sym (ap (sides_of c.args.operands.now.order) below))
+    (subst IsMultiplierSized (sym below) c.requires.sized) c.new_lines.ensures.extension (subst Agrees u.is c.requires.agrees)

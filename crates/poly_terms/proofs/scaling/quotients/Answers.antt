@@ -1,5 +1,5 @@
-use Rattle.std.proofs.Common.{◌*◌, ◌%◌, ◌^◌, ◌+◌, ◌++◌, ◌∷◌, [], take, sym, ap, subst, ◌∙◌}
-use Rattle.std.proofs.lemmas.Nat.{one_shl}
+use Rattle.std.proofs.Common.{◌≡◌, ◌%◌, ◌^◌, ◌+◌, ◌++◌, ◌∷◌, [], take, sym, ap, subst, ◌∙◌}
+use Rattle.std.proofs.lemmas.List.Elements.{All-more}
 use Rattle.poly_terms.specs.Entries.{IsQuotient}
 use Rattle.poly_terms.proofs.Scaled.{quotient_on}
 use Rattle.poly_terms.proofs.scaling.quotients.Goals as goal
@@ -10,8 +10,14 @@ loop-entry-preserved c =
     let by = 2 ^ c.args.k in
     let es = c.args.entries.now in
     let i = c.loop-entry.entry-index in
+    let e = c.entry-item.result in
     let out = c.loop-entry.out.items in
-    subst (IsQuotient m by (take (i + 1) es)) (sym (c.in_ok-push.ensures.items ∙ ap (λ x. out ++ x ∷ []) c.with_coefficient.ensures))
-    (quotient_on m by es out i c.entry-item.result c.shifted-quotient.result c.loop-entry-test.true c.entry-item.is c.shifted-quotient.ensures
-    (sym c.coefficient-in-loop-entry.ensures ∙ sym c.if-product-coefficient.false ∙ c.product.ensures ∙
-    ap (λ n. (n * c.shifted-quotient.result) % m) (one_shl c.args.k 128 c.requires.power)) c.loop-entry.invariant)
+    record {
+      quotient =
+          subst (IsQuotient m by (take (i + 1) es)) (sym (c.in_ok-push.ensures.items ∙ ap (λ x. out ++ x ∷ []) c.with_coefficient.ensures))
+          (quotient_on m by es out i e c.shifted-quotient.result c.loop-entry-test.true c.entry-item.is c.shifted-quotient.ensures.below
+          (sym c.coefficient-in-loop-entry.ensures ∙ sym c.shifted-quotient.ensures.quotient) c.loop-entry.invariant.quotient);
+      multiples =
+          All-more (λ x. x.1 % by ≡ 0) es i e c.loop-entry-test.true c.loop-entry.invariant.multiples
+          (subst (λ x. x.1 % by ≡ 0) c.entry-item.is (subst (λ n. n % by ≡ 0) c.coefficient.ensures (c.is_multiple.ensures.0 c.if-not-is_multiple.false)));
+    }

@@ -1,5 +1,5 @@
 use Rattle.poly_terms.proofs.Indexing.{added-value, inside_of, outside_index, outside_of}
-use Rattle.poly_terms.proofs.Summing.{numbers_in}
+use Rattle.poly_terms.proofs.Made.{numbers_in}
 use Rattle.poly_terms.proofs.indexed.Indexed.add.Goals as goal
 
 pub add_all-requires-clause-entries : goal.add_all-requires-clause-entries

@@ -1,9 +1,8 @@
 use Rattle.std.proofs.Common.{◌^◌, sym, ap, ◌∙◌}
 use Rattle.poly_terms.specs.Monomials.{total_in}
 use Rattle.poly_terms.specs.Tables.{Table}
-use Rattle.poly_terms.proofs.Made.{made-IsOf, made-value}
+use Rattle.poly_terms.proofs.Made.{made-IsOf, made-value, numbers_in}
 use Rattle.poly_terms.proofs.Scaled.{brought-value}
-use Rattle.poly_terms.proofs.Summing.{numbers_in}
 use Rattle.poly_terms.proofs.terms.Terms.bring.Goals as goal
 
 pub carry_all-requires : goal.carry_all-requires

@@ -17,6 +17,6 @@ returns-clause-value c σ =
     let old = c.self.inside.monomials in
     let new = c.entries_of.new.table in
     let raw = c.in_ok-raw.raw.items in
-    let parts = c.args.parts.now in
+    let parts = c.args.parts.items in
     made-value w old new (λ σ. sum_of (2 ^ w) (said parts) σ) raw c.in_ok-entries.entries.items c.of.result σ c.of.ensures (c.in_ok-raw.ensures.adds (2 ^ w)) c.in_ok-entries.ensures ∙
     ap (λ (u : Table). value (modulus u) (said parts) σ) c.self.view_is

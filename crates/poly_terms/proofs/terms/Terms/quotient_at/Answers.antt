@@ -1,6 +1,6 @@
-use Rattle.std.proofs.Common.{◌^◌}
-use Rattle.poly_terms.proofs.Dividing.{quotient-value}
-use Rattle.poly_terms.proofs.Made.{made-IsOf, numbers_of}
+use Rattle.std.proofs.Common.{◌^◌, ◌∙◌}
+use Rattle.poly_terms.proofs.Dividing.{quotient-total}
+use Rattle.poly_terms.proofs.Made.{numbers_of}
 use Rattle.poly_terms.proofs.Replacing.{order_of, places_along}
 use Rattle.poly_terms.proofs.terms.Terms.quotient_at.Goals as goal
 
@@ -15,13 +15,12 @@ pub quotients-requires-clause-places : goal.quotients-requires-clause-places
 quotients-requires-clause-places c =
     places_along c.self.inside.exponent c.args.v c.self.inside.monomials c.args.self.now c.args.p.now c.entries.result.now c.args.places.now c.self.view_is c.entries.ensures c.requires.places
 
-pub returns-clause-of : goal.returns-clause-of
-returns-clause-of c =
-    made-IsOf c.self.inside.exponent c.quotients.new.table c.in_ok-raw.raw.items c.in_ok-entries.entries.items c.of.result c.of.ensures c.stand_once.ensures
-    ((c.in_ok-raw.ensures.adds (2 ^ c.self.inside.exponent)).numbers tt) c.in_ok-entries.ensures
+pub gathered-requires : goal.gathered-requires
+gathered-requires c = (c.in_ok-raw.ensures.adds (2 ^ c.self.inside.exponent)).numbers tt
 
 pub returns-clause-value : goal.returns-clause-value
 returns-clause-value c σ =
     let w = c.self.inside.exponent in
-    quotient-value w c.args.v c.self.inside.monomials c.quotients.new.table c.args.self.now c.args.p.now c.entries.result.now c.in_ok-raw.raw.items c.in_ok-entries.entries.items c.of.result σ
-    c.self.view_is c.entries.ensures c.requires.variable c.of.ensures (c.in_ok-raw.ensures.adds (2 ^ w)) c.in_ok-entries.ensures
+    c.in_ok-quotient.ensures.value σ ∙
+    quotient-total w c.args.v c.self.inside.monomials c.quotients.new.table c.args.self.now c.args.p.now c.entries.result.now c.in_ok-raw.raw.items σ c.self.view_is c.entries.ensures
+    c.requires.variable (c.in_ok-raw.ensures.adds (2 ^ w))

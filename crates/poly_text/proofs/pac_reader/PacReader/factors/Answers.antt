@@ -22,8 +22,8 @@ loop-scanner-smaller c = factor_fewer c.loop-scanner.scanner _ c.factor.new.scan
 
 pub loop-scanner-preserved : goal.loop-scanner-preserved
 loop-scanner-preserved c =
-    factors_more c.args.self.now.max c.args.before c.args.scanner.now c.loop-scanner.scanner c.factor.new.scanner c.loop-scanner.variables c.in_ok-variable.variable c.in_ok-variables.variables
-    (sym c.is_at.ensures ∙ c.loop-scanner-test.true) c.loop-scanner.invariant c.in_ok-variable.ensures.ok c.in_ok-variables.ensures.ok
+    factors_more c.args.self.now.max c.args.before c.args.scanner.now c.loop-scanner.scanner c.factor.new.scanner c.loop-scanner.variables c.in_ok-variable.variable c.times.new.variables
+    (sym c.is_at.ensures ∙ c.loop-scanner-test.true) c.loop-scanner.invariant c.in_ok-variable.ensures.ok c.in_ok-times.ensures.ok
 
 pub returns-clause-ok : goal.returns-clause-ok
 returns-clause-ok c = gathers_all c.loop-scanner.invariant (many_stops is_star (behind_at (codes "*x") (number_at 10)) c.loop-scanner.scanner (sym c.is_at.ensures ∙ c.loop-scanner-test.false))

@@ -28,8 +28,8 @@ pub loop-scanner-preserved : goal.loop-scanner-preserved
 loop-scanner-preserved c = record {
   extends = extends_on c.args.terms.now c.loop-scanner.terms c.later_part.new.terms c.loop-scanner.invariant.extends c.in_ok-part.ensures.extends;
   modulus_is = modulus_stays c.loop-scanner.terms c.later_part.new.terms c.in_ok-part.ensures.extends ∙ c.loop-scanner.invariant.modulus_is;
-  so_far = parts_more c.loop-scanner.terms c.later_part.new.terms c.args.self.now.max c.args.before c.args.scanner.now c.loop-scanner.scanner c.later_part.new.scanner c.loop-scanner.parts c.in_ok-part.part c.in_ok-parts.parts
-      c.in_ok-part.ensures.extends (sym c.is_at.ensures ∙ c.loop-scanner-test.true) c.loop-scanner.invariant.so_far c.in_ok-part.ensures.ok c.in_ok-parts.ensures.ok;
+  so_far = parts_more c.loop-scanner.terms c.later_part.new.terms c.args.self.now.max c.args.before c.args.scanner.now c.loop-scanner.scanner c.later_part.new.scanner c.loop-scanner.parts c.in_ok-part.part c.push.new.list
+      c.in_ok-part.ensures.extends (sym c.is_at.ensures ∙ c.loop-scanner-test.true) c.loop-scanner.invariant.so_far c.in_ok-part.ensures.ok c.in_ok-push.ensures.ok;
 }
 
 pub returns-clause-ok : goal.returns-clause-ok

@@ -21,8 +21,8 @@ loop-scanner-smaller c = signed_term_fewer c.loop-scanner.scanner _ c.later_term
 
 pub loop-scanner-preserved : goal.loop-scanner-preserved
 loop-scanner-preserved c =
-    terms_more (2 ^ c.args.self.now.exponent) c.args.self.now.max c.args.before c.args.scanner.now c.loop-scanner.scanner c.later_term.new.scanner c.loop-scanner.terms c.in_ok-term.term c.in_ok-terms.terms
-    (sym c.is_at_sign.ensures ∙ c.loop-scanner-test.true) c.loop-scanner.invariant c.in_ok-term.ensures.ok c.in_ok-terms.ensures.ok
+    terms_more (2 ^ c.args.self.now.exponent) c.args.self.now.max c.args.before c.args.scanner.now c.loop-scanner.scanner c.later_term.new.scanner c.loop-scanner.terms c.in_ok-term.term c.push.new.list
+    (sym c.is_at_sign.ensures ∙ c.loop-scanner-test.true) c.loop-scanner.invariant c.in_ok-term.ensures.ok c.in_ok-push.ensures.ok
 
 pub returns-clause-ok : goal.returns-clause-ok
 returns-clause-ok c = gathers_all c.loop-scanner.invariant (many_stops is_sign signed_term_at c.loop-scanner.scanner (sym c.is_at_sign.ensures ∙ c.loop-scanner-test.false))
