@@ -1,11 +1,9 @@
-//! Tests of the crates of polynomials and algebra certificates: what no contract and no test of the program says. Nothing else
-//! is here.
+//! Tests of the crates of polynomials and algebra certificates: what no contract and no test of the program says.
+//! Nothing else is here.
 //!
 //! Each module tests one crate, which its first line names.
 #![tactic(auto)]
 
-#[cfg(test)]
-mod axioms;
 #[cfg(test)]
 mod judging;
 #[cfg(test)]

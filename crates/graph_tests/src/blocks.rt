@@ -1,4 +1,4 @@
-// slice_finder: the blocks of a two-bit array, alone and with a cut, and those of a full adder.
+// slice_finder: the blocks of a two-bit array with a cut, and those of a full adder.
 use crate::clauses::with_cut;
 use crate::two_bit::two_bit_array;
 use graph_core::{BuildFail, Graph, Lit};
@@ -31,14 +31,6 @@ const POSITION: Adds = Adds {
     sum: Lit(40),
     carry: Lit(43),
 };
-
-#[test]
-fn the_two_bit_array_has_two_half_adders(rt: HostRuntime) -> Result<(), Fail> {
-    let graph = two_bit_array(rt.alloc())?;
-    let found = blocks(rt.alloc(), &Extended::without_cut(&graph))?;
-    assert_eq!(rt; found.as_slice(), [FIRST_HALF, SECOND_HALF].as_slice());
-    Ok(())
-}
 
 #[test]
 fn a_cut_is_a_full_adder_more(rt: HostRuntime) -> Result<(), Fail> {

@@ -1,30 +1,15 @@
-// clause_core, ripple_graft, miter_encoder: the two-bit array with a ripple-carry adder in place of its last two columns.
+// ripple_graft, miter_encoder: the two-bit array with a ripple-carry adder in place of its last two columns.
 use crate::two_bit::two_bit_array;
-use clause_core::{Clause, ClauseList};
-use graph_core::{Gate, Graph, Lit, Memory};
+use clause_core::ClauseList;
+use graph_core::{Gate, Graph, Lit};
 use miter_encoder::{Goal, gate_clauses, goals};
 use ripple_graft::{Cut, Extended, GraftFail, Pairs, graft};
 use std::alloc::Global;
 use std::test::Fail;
 
-// A clause with a repeated literal, copied into a list.
-fn listed(alloc: Global) -> Result<ClauseList, Memory> {
-    let clause = Clause::new(alloc, &[20, -14, 20])?;
-    let mut list = ClauseList::new(alloc);
-    list.push(clause.copy(alloc)?)?;
-    Ok(list)
-}
-
 // Whether the clause at a place has these literals.
 fn has_clause(clauses: &ClauseList, i: usize, lits: &[i32]) -> bool {
     i < clauses.len() && clauses.get(i).lits() == lits
-}
-
-#[test]
-fn a_clause_is_the_set_of_its_literals(rt: HostRuntime) -> Result<(), Memory> {
-    let list = listed(rt.alloc())?;
-    assert!(rt; has_clause(&list, 0, &[-14, 20]));
-    Ok(())
 }
 
 // The sum of 16 and 18 in place of the last two columns.
@@ -87,17 +72,6 @@ fn has_output(extended: &Extended<'_>, k: u32, output: Lit) -> bool {
         && extended.new_output(k) == output
 }
 
-#[test]
-fn a_position_replaces_two_columns(rt: HostRuntime) -> Result<(), Fail> {
-    let graph = two_bit_array(rt.alloc())?;
-    let extended = with_cut(rt.alloc(), &graph)?;
-    assert!(rt; extended.gates().ends_with(&POSITION));
-    for &(k, output) in &OUTPUTS {
-        assert!(rt; has_output(&extended, k, output), "column {k}");
-    }
-    Ok(())
-}
-
 // The place of a clause and its literals: gate 14, gate 18 over the first carry, which is 0, and the end of gate 21.
 const CLAUSES: [(usize, &[i32]); 6] = [
     (27, &[-14, -13]),
@@ -121,9 +95,13 @@ fn is_goal(goal: &Goal, column: u32, lits: &[i32]) -> bool {
 }
 
 #[test]
-fn a_position_is_encoded_without_its_constants(rt: HostRuntime) -> Result<(), Fail> {
+fn a_position_has_its_outputs_clauses_and_goals(rt: HostRuntime) -> Result<(), Fail> {
     let graph = two_bit_array(rt.alloc())?;
     let extended = with_cut(rt.alloc(), &graph)?;
+    assert!(rt; extended.gates().ends_with(&POSITION));
+    for &(k, output) in &OUTPUTS {
+        assert!(rt; has_output(&extended, k, output), "column {k}");
+    }
     let clauses = gate_clauses(rt.alloc(), &extended)?;
     for &(i, lits) in &CLAUSES {
         assert!(rt; has_clause(&clauses, i, lits), "clause {i}");

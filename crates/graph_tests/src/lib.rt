@@ -1,5 +1,5 @@
-//! Tests of the crates of desks, graphs, clauses and words: what no contract and no test of the program says. Nothing else is
-//! here.
+//! Tests of the crates of desks, graphs, clauses and words: what no contract and no test of the program says. Nothing
+//! else is here.
 //!
 //! Each module tests the crates that its first line names.
 #![tactic(auto)]
@@ -9,8 +9,6 @@ mod aiger;
 #[cfg(test)]
 mod blocks;
 #[cfg(test)]
-mod clause_lines;
-#[cfg(test)]
 mod clause_lists;
 #[cfg(test)]
 mod clause_texts;
@@ -19,15 +17,9 @@ mod clauses;
 #[cfg(test)]
 mod desks;
 #[cfg(test)]
-mod implications;
-#[cfg(test)]
-mod made_graphs;
+mod propagations;
 #[cfg(test)]
 mod refutations;
-#[cfg(test)]
-mod rewritings;
-#[cfg(test)]
-mod scans;
 #[cfg(test)]
 mod stages;
 #[cfg(test)]

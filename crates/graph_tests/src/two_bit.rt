@@ -1,7 +1,4 @@
 // The array multiplier of two bits: four partial products, and an adder of two half adders.
-ghost use Rattle.std.specs.Prelude.{◌≤◌, IfOk};
-ghost use Rattle.graph_core.specs.Graph.Operands.{width, HasMultiplierShape};
-
 use graph_core::{BuildFail, Graph, Lit};
 use std::alloc::Global;
 
@@ -21,20 +18,9 @@ const GATES: [(Lit, Lit, Lit); 10] = [
     (Lit(28), Lit(27), Lit(25)),
 ];
 
-pub(crate) fn two_bit_array(alloc: Global) -> Result<Graph, BuildFail>
-    ensures shape { IfOk result HasMultiplierShape }
-    ensures narrow { IfOk result (λ graph. width graph ≤ 64) }
-{
-    two_bits_ending_with(alloc, Lit(24))
-}
-
-// The same with another last output.
-pub(crate) fn two_bits_ending_with(alloc: Global, last: Lit) -> Result<Graph, BuildFail>
-    ensures shape { IfOk result HasMultiplierShape }
-    ensures narrow { IfOk result (λ graph. width graph ≤ 64) }
-{
+pub(crate) fn two_bit_array(alloc: Global) -> Result<Graph, BuildFail> {
     let inputs = Vec::from_slice(alloc, &INPUTS)?;
-    let outputs = Vec::from_slice(alloc, &[Lit(10), Lit(22), Lit(28), last])?;
+    let outputs = Vec::from_slice(alloc, &[Lit(10), Lit(22), Lit(28), Lit(24)])?;
     let gates = Vec::from_slice(alloc, &GATES)?;
     Graph::build(alloc, 14, inputs, outputs, gates)
 }

@@ -1,8 +1,7 @@
 // Calls on the desk that fail, and what is left then.
-use crate::tests::{CHECK, ONE_BIT, VERIFY, expect_cut, run_over};
+use crate::tests::{CHECK, ONE_BIT, VERIFY, expect, run_over};
 use mv_desk::{MemoryDesk, Slot};
-use std::alloc::{AllocError, Global};
-use std::process::Abort;
+use std::alloc::AllocError;
 
 const EVAL: [&str; 5] = ["mulver", "eval", "g", "1", "1"];
 
@@ -38,7 +37,7 @@ const FAULTS: [(&[&str], &[u64], u8, &str); 19] = [
 fn a_fault_is_told_by_its_kind(rt: HostRuntime) -> Result<(), AllocError> {
     for &(words, fails, status, report) in &FAULTS {
         let cuts = ([].as_slice(), [].as_slice(), fails);
-        expect_cut(
+        expect(
             &rt,
             rt.alloc(),
             ONE_BIT,
@@ -51,79 +50,49 @@ fn a_fault_is_told_by_its_kind(rt: HostRuntime) -> Result<(), AllocError> {
     Ok(())
 }
 
-// The status of `verify` on the one-bit multiplier and what it leaves, where writes are cut to these lengths and this
-// call fails.
-fn verified(alloc: Global, writes: &[usize], call: u64) -> Result<(u8, MemoryDesk), AllocError> {
-    run_over(alloc, ONE_BIT, (&[], writes, &[call]), &VERIFY)
-}
-
-// A file isn't there, or is a front of the whole one.
-fn is_front(left: Option<&[u8]>, whole: Option<&[u8]>) -> bool {
-    match (left, whole) {
-        (None, _) => true,
-        (Some(left), Some(whole)) => whole.starts_with(left),
-        _ => false,
-    }
+// This file isn't there, or is a front of the whole one.
+fn is_front(left: &MemoryDesk, whole: &MemoryDesk, name: &str) -> bool {
+    whole
+        .bytes(name)
+        .unwrap_or_default()
+        .starts_with(left.bytes(name).unwrap_or_default())
 }
 
 // Each file is a front, and the algebra file is there only if the clause file is whole.
 fn are_fronts(left: &MemoryDesk, whole: &MemoryDesk) -> bool {
     let in_order = left.bytes("y").is_none() || left.bytes("x") == whole.bytes("x");
-    in_order
-        && is_front(left.bytes("x"), whole.bytes("x"))
-        && is_front(left.bytes("y"), whole.bytes("y"))
+    in_order && is_front(left, whole, "x") && is_front(left, whole, "y")
 }
 
-// What `verify` comes to where this call fails, and whether there is such a call. The first three open the graph, read
-// it, and read it to its end.
-fn fails_at(
-    rt: &impl Abort,
-    alloc: Global,
-    writes: &[usize],
-    call: u64,
-    whole: &MemoryDesk,
-) -> Result<bool, AllocError> {
-    let (status, left) = verified(alloc, writes, call)?;
+// What is reported and left where this call failed. The first three open the graph, read it, and read it to its end.
+fn is_due(status: u8, left: &MemoryDesk, whole: &MemoryDesk, call: u64) -> bool {
     let report = left.out(Slot::Report);
-    assert!(rt; are_fronts(&left, whole), "call {call}");
-    if status == 0 {
-        return Ok(false);
-    }
     if call <= 3 {
-        assert_eq!(rt;
-            (status, report),
-            (6, b"read fault\n".as_slice()),
-            "call {call}"
-        );
-        assert!(rt; left.bytes("x").is_none(), "call {call}");
-    } else {
-        assert_eq!(rt; status, 7, "call {call}");
-        let of_file = report == b"write fault\n".as_slice();
-        let of_report = whole.out(Slot::Report).starts_with(report)
-            && left.bytes("y") == whole.bytes("y");
-        assert!(rt; of_file || of_report, "call {call}");
+        return status == 6 && report == b"read fault\n".as_slice() && left.bytes("x").is_none();
     }
-    Ok(true)
+    let of_report = whole.out(Slot::Report).starts_with(report)
+        && left.bytes("y") == whole.bytes("y");
+    status == 7 && (report == b"write fault\n".as_slice() || of_report)
 }
 
-// How writes are cut, and how many calls there are: three of the graph, one to create each certificate, and the writes.
-const WRITES: [(&[usize], u64); 2] = [(&[], 11), (&[1; 100], 99)];
+// How writes are cut, and the first call that isn't made: there are three of the graph, one to create each certificate,
+// and the writes.
+const WRITES: [(&[usize], u64); 2] = [(&[], 12), (&[1; 100], 100)];
 
 #[test]
 fn a_fault_leaves_fronts_of_the_certificates(rt: HostRuntime) -> Result<(), AllocError> {
-    for &(writes, calls) in &WRITES {
-        let (status, whole) = verified(rt.alloc(), writes, 0)?;
+    for &(writes, end) in &WRITES {
+        let (status, whole) = run_over(rt.alloc(), ONE_BIT, (&[], writes, &[]), &VERIFY)?;
         assert_eq!(rt; status, 0);
-        for call in 1..=calls {
-            assert!(rt;
-                fails_at(&rt, rt.alloc(), writes, call, &whole)?,
-                "call {call}"
-            );
+        for call in 1..=end {
+            let (status, left) = run_over(rt.alloc(), ONE_BIT, (&[], writes, &[call]), &VERIFY)?;
+            let as_due = if call < end {
+                is_due(status, &left, &whole, call)
+            } else {
+                status == 0
+            };
+            assert!(rt; as_due && are_fronts(&left, &whole), "call {call}");
         }
-        assert!(rt;
-            !fails_at(&rt, rt.alloc(), writes, calls + 1, &whole)?,
-            "{calls} calls"
-        );
     }
     Ok(())
 }

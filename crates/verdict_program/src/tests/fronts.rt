@@ -1,13 +1,44 @@
 // Files that are cut short.
 use crate::tests::{
-    CHECK, NO_CUT, ONE_BIT, ONE_BIT_ALGEBRA, ONE_BIT_GRAPH, TWO_BIT_ARRAY, TWO_BIT_CUT,
-    TWO_BIT_CUT_ALGEBRA, expect,
+    CHECK, ONE_BIT, TWO_BIT_ARRAY, TWO_BIT_CUT, TWO_BIT_CUT_ALGEBRA, WHOLE, expect, with_text,
 };
 use mv_desk::Slot;
 use std::alloc::{AllocError, Global};
 use std::process::Abort;
 
-// What is said of fronts of a clause certificate that replaces nothing, by the least length.
+// What is said of fronts of the one-bit graph, by the least length.
+const OF_GRAPH: [(usize, &str); 28] = [
+    (0, "graph refused at byte 0: text\n"),
+    (1, "graph refused at byte 1: text\n"),
+    (2, "graph refused at byte 2: text\n"),
+    (3, "graph refused at byte 3: text\n"),
+    (4, "graph refused at byte 4: text\n"),
+    (5, "graph refused at byte 5: text\n"),
+    (6, "graph refused at byte 6: text\n"),
+    (7, "graph refused at byte 7: text\n"),
+    (8, "graph refused at byte 8: text\n"),
+    (9, "graph refused at byte 9: text\n"),
+    (10, "graph refused at byte 10: text\n"),
+    (11, "graph refused at byte 11: text\n"),
+    (12, "graph refused at byte 12: text\n"),
+    (13, "graph refused at byte 13: text\n"),
+    (14, "graph refused at byte 14: text\n"),
+    (15, "graph refused at byte 15: text\n"),
+    (16, "graph refused at byte 16: text\n"),
+    (17, "graph refused at byte 17: text\n"),
+    (18, "graph refused at byte 18: text\n"),
+    (19, "graph refused at byte 19: text\n"),
+    (20, "graph refused at byte 20: text\n"),
+    (21, "graph refused at byte 21: text\n"),
+    (22, "graph refused at byte 22: text\n"),
+    (23, "graph refused at byte 23: text\n"),
+    (24, "graph refused at byte 24: text\n"),
+    (25, "graph refused at byte 25: text\n"),
+    (26, "graph refused at byte 26: text\n"),
+    (27, "graph refused at byte 27: text\n"),
+];
+
+// The same of a clause certificate that replaces nothing.
 const OF_NO_CUT: [(usize, &str); 2] = [
     (0, "refused clauses line 1: text\n"),
     (9, "refused clauses line 2: text\n"),
@@ -40,7 +71,8 @@ const OF_CUT: [(usize, &str); 15] = [
 ];
 
 // The files, which of them is cut, and what is said of its fronts.
-const CUT: [((&[u8], &[u8], &[u8]), Slot, &[(usize, &str)]); 3] = [
+const CUT: [((&[u8], &[u8], &[u8]), Slot, &[(usize, &str)]); 4] = [
+    (ONE_BIT, Slot::Graph, &OF_GRAPH),
     (ONE_BIT, Slot::Clauses, &OF_NO_CUT),
     (ONE_BIT, Slot::Algebra, &OF_ALGEBRA),
     (
@@ -61,7 +93,7 @@ fn said_of<'a>(rows: &[(usize, &'a str)], length: usize) -> &'a str {
     said
 }
 
-// Each front of a certificate.
+// Each front of the file in this slot.
 fn expect_fronts(
     rt: &impl Abort,
     alloc: Global,
@@ -70,56 +102,23 @@ fn expect_fronts(
     rows: &[(usize, &str)],
 ) -> Result<(), AllocError> {
     let (graph, clauses, algebra) = files;
-    let whole = if slot == Slot::Clauses {
-        clauses
-    } else {
-        algebra
+    let whole = match slot {
+        Slot::Graph => graph,
+        Slot::Clauses => clauses,
+        _ => algebra,
     };
     for length in 0..whole.len() {
-        let front = &whole[..length];
-        let files = if slot == Slot::Clauses {
-            (graph, front, algebra)
-        } else {
-            (graph, clauses, front)
-        };
-        expect(
-            rt,
-            alloc,
-            files,
-            &CHECK,
-            (3, said_of(rows, length)),
-            "a front",
-        )?;
+        let (cut, status) = with_text(files, slot, &whole[..length]);
+        let due = (status, said_of(rows, length));
+        expect(rt, alloc, cut, WHOLE, &CHECK, due, "a front")?;
     }
     Ok(())
 }
 
 #[test]
-fn a_certificate_is_refused_where_it_is_cut(rt: HostRuntime) -> Result<(), AllocError> {
+fn a_file_is_refused_where_it_is_cut(rt: HostRuntime) -> Result<(), AllocError> {
     for &(files, slot, rows) in &CUT {
         expect_fronts(&rt, rt.alloc(), files, slot, rows)?;
-    }
-    Ok(())
-}
-
-// A front of the graph is refused at its end.
-fn expect_front(rt: &impl Abort, alloc: Global, length: usize) -> Result<(), AllocError> {
-    let front = &ONE_BIT_GRAPH[..length.min(ONE_BIT_GRAPH.len())];
-    let report = format!(in alloc; "graph refused at byte {length}: text\n")?;
-    expect(
-        rt,
-        alloc,
-        (front, NO_CUT, ONE_BIT_ALGEBRA),
-        &CHECK,
-        (4, report.as_str()),
-        "a front",
-    )
-}
-
-#[test]
-fn a_graph_is_refused_where_it_is_cut(rt: HostRuntime) -> Result<(), AllocError> {
-    for length in 0..ONE_BIT_GRAPH.len() {
-        expect_front(&rt, rt.alloc(), length)?;
     }
     Ok(())
 }

@@ -1,27 +1,8 @@
 // Files whose length is meant to do harm.
-use crate::tests::{CHECK, NO_CUT, ONE_BIT_ALGEBRA, ONE_BIT_GRAPH, expect};
+use crate::tests::checks::expect_texts;
+use crate::tests::{CHECK, ONE_BIT_ALGEBRA, ONE_BIT_GRAPH, WHOLE, run_over};
+use mv_desk::Slot;
 use std::alloc::{AllocError, Global};
-
-// The one-bit multiplier with the greatest variable that a header may name, and its algebra.
-const MOST_VARIABLES: &[u8] = b"aag 4194303 2 0 2 1\n2\n4\n6\n0\n6 4 2\n";
-
-const BEHIND_THEM: &[u8] = b"pac 1\n4194306 % 3 * (-1), x3-x1*x2;\nq 4194306;\n";
-
-#[test]
-fn ids_begin_behind_the_greatest_variable(rt: HostRuntime) -> Result<(), AllocError> {
-    let files = (MOST_VARIABLES, NO_CUT, BEHIND_THEM);
-    expect(
-        &rt,
-        rt.alloc(),
-        files,
-        &CHECK,
-        (0, "accepted\n"),
-        "the first id",
-    )?;
-    let files = (MOST_VARIABLES, NO_CUT, ONE_BIT_ALGEBRA);
-    let due = (3, "refused algebra line 2: id\n");
-    expect(&rt, rt.alloc(), files, &CHECK, due, "an id below it")
-}
 
 // A thousand gates, each of which reads the next one, and the last one the first.
 fn ring(alloc: Global) -> Result<String, AllocError> {
@@ -34,34 +15,53 @@ fn ring(alloc: Global) -> Result<String, AllocError> {
     Ok(graph)
 }
 
-// The one-bit multiplier's algebra, with terms that add up to nothing.
-fn with_idle_terms(alloc: Global) -> Result<String, AllocError> {
-    let mut algebra = String::from_str(alloc, "pac 1\n6 % 3 * (-1), x3-x1*x2")?;
-    for _ in 0..32768 {
-        algebra.push_str("+x1-x1")?;
+// A front, a part so many times, and an end.
+fn repeated(
+    alloc: Global,
+    front: &str,
+    part: &str,
+    times: u32,
+    end: &str,
+) -> Result<String, AllocError> {
+    let mut text = String::from_str(alloc, front)?;
+    for _ in 0..times {
+        text.push_str(part)?;
     }
-    algebra.push_str(";\nq 6;\n")?;
-    Ok(algebra)
+    text.push_str(end)?;
+    Ok(text)
 }
 
 #[test]
-fn a_ring_of_gates_is_a_cycle(rt: HostRuntime) -> Result<(), AllocError> {
-    let graph = ring(rt.alloc())?;
-    let files = (graph.as_bytes(), NO_CUT, ONE_BIT_ALGEBRA);
-    let due = (4, "graph refused: cycle at variable 3\n");
-    expect(&rt, rt.alloc(), files, &CHECK, due, "a ring")
+fn long_files_are_judged(rt: HostRuntime) -> Result<(), AllocError> {
+    let alloc = rt.alloc();
+    let graph = ring(alloc)?;
+    // terms that add up to nothing
+    let algebra = repeated(
+        alloc,
+        "pac 1\n6 % 3 * (-1), x3-x1*x2",
+        "+x1-x1",
+        32768,
+        ";\nq 6;\n",
+    )?;
+    for (slot, text, report) in [
+        (
+            Slot::Graph,
+            graph.as_bytes(),
+            "graph refused: cycle at variable 3\n",
+        ),
+        (Slot::Algebra, algebra.as_bytes(), "accepted\n"),
+    ] {
+        expect_texts(&rt, alloc, slot, &[(text, report)], &[])?;
+    }
+    Ok(())
 }
 
 #[test]
-fn idle_terms_add_up_to_nothing(rt: HostRuntime) -> Result<(), AllocError> {
-    let algebra = with_idle_terms(rt.alloc())?;
-    let files = (ONE_BIT_GRAPH, NO_CUT, algebra.as_bytes());
-    expect(
-        &rt,
-        rt.alloc(),
-        files,
-        &CHECK,
-        (0, "accepted\n"),
-        "idle terms",
-    )
+fn a_refused_line_leaves_the_rest_unread(rt: HostRuntime) -> Result<(), AllocError> {
+    // a clause that isn't implied, and 3,000 that are
+    let clauses = repeated(rt.alloc(), "joined 1\nnone\n3 0\n", "1 -1 0\n", 3000, "")?;
+    let files = (ONE_BIT_GRAPH, clauses.as_bytes(), ONE_BIT_ALGEBRA);
+    let (_, desk) = run_over(rt.alloc(), files, WHOLE, &CHECK)?;
+    assert_eq!(rt; desk.rest(Slot::Clauses).len(), 16922);
+    Ok(())
 }

@@ -1,7 +1,5 @@
 // What `verify` says, and what it writes.
-use crate::tests::{
-    CHECK, NO_CUT, ONE_BIT_GRAPH, TWO_BIT_ARRAY, VERIFY, WHOLE, expect, made, run_over,
-};
+use crate::tests::{CHECK, NO_CUT, ONE_BIT_GRAPH, TWO_BIT_ARRAY, VERIFY, WHOLE, expect, run_over};
 use mv_desk::{MemoryDesk, Slot};
 use std::alloc::{AllocError, Global};
 use std::process::Abort;
@@ -144,7 +142,7 @@ fn expect_written(
         (Some(header), Some(graph), Some(clauses), Some(algebra)) => {
             assert!(rt; clauses.starts_with(header), "{shows}");
             let files = (graph, clauses, algebra);
-            expect(rt, alloc, files, &CHECK, (0, "accepted\n"), shows)
+            expect(rt, alloc, files, WHOLE, &CHECK, (0, "accepted\n"), shows)
         }
         (header, _, clauses, algebra) => {
             assert!(rt;
@@ -165,34 +163,6 @@ fn what_is_proved_and_nothing_else_is_written_and_accepted(
         assert_eq!(rt; given, status, "{shows}");
         assert_eq!(rt; desk.out(Slot::Report), report.as_bytes(), "{shows}");
         expect_written(&rt, rt.alloc(), &desk, header, shows)?;
-    }
-    Ok(())
-}
-
-// A kind, its bits, and an adder.
-const MADE: [(&str, &str, &str); 3] = [
-    ("array", "8", "ripple"),
-    ("dadda", "8", "ripple"),
-    ("dadda", "4", "kogge"),
-];
-
-// A graph is proved.
-fn expect_proved(
-    rt: &impl Abort,
-    alloc: Global,
-    graph: &[u8],
-    shows: &str,
-) -> Result<(), AllocError> {
-    let (status, desk) = run_over(alloc, (graph, b"", b""), WHOLE, &VERIFY)?;
-    assert_eq!(rt; status, 0, "{shows}");
-    expect_written(rt, alloc, &desk, Some(b"joined 1\n"), shows)
-}
-
-#[test]
-fn what_is_made_is_proved(rt: HostRuntime) -> Result<(), AllocError> {
-    for &(kind, bits, adder) in &MADE {
-        let graph = made(&rt, rt.alloc(), [kind, bits, adder, "x"])?;
-        expect_proved(&rt, rt.alloc(), &graph, kind)?;
     }
     Ok(())
 }

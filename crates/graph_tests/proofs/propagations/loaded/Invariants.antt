@@ -1,7 +1,7 @@
 use Rattle.std.proofs.Common.{◌≡◌}
 use Rattle.std.specs.Option.{IsSome}
 use Rattle.unit_prop.specs.Standing.{clause_at}
-use Rattle.graph_tests.proofs.scans.loaded.Given as goal
+use Rattle.graph_tests.proofs.propagations.loaded.Given as goal
 
 abbrev pub invariant-loop-lits : goal.invariant-loop-lits
 invariant-loop-lits l = record {

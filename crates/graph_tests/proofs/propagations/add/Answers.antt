@@ -2,7 +2,7 @@ use Rattle.std.proofs.Common.{subst, sym, arith}
 use Rattle.cdcl_core.proofs.Trails.{clause_within}
 use Rattle.unit_prop.specs.Trail.{IsWithin}
 use Rattle.unit_prop.proofs.RowLemmas.{adds_none, adds_one, live_one}
-use Rattle.graph_tests.proofs.scans.add.Goals as goal
+use Rattle.graph_tests.proofs.propagations.add.Goals as goal
 
 pub returns-in_err-added-clause-adds : goal.returns-in_err-added-clause-adds
 returns-in_err-added-clause-adds c = adds_none _ _ c.in_err-added.ensures.err

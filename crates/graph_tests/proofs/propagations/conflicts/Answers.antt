@@ -1,7 +1,7 @@
 use Rattle.std.proofs.Common.{refl, subst, sym, w32, to_z, of_z, arith}
 use Rattle.cdcl_core.proofs.Trails.{is_within, positive, variable-abs}
 use Rattle.unit_prop.specs.Trail.{IsWithin}
-use Rattle.graph_tests.proofs.scans.conflicts.Goals as goal
+use Rattle.graph_tests.proofs.propagations.conflicts.Goals as goal
 
 pub assume-assumed-requires : goal.assume-assumed-requires
 assume-assumed-requires c =
