@@ -1,17 +1,21 @@
-// A clause as it is kept: its literals rise.
+// A clause as it is kept: its literals rise. Nearly all are short, and stay inline.
 ghost use Rattle.std.specs.Prelude.{◌≡◌, ◌↔◌, ◌<◌, ◌≤◌, ◌<ℤ◌, ◌≤ℤ◌, ℕ, length, pos, slice_index_or, IfOk, IsTrue};
 ghost use Rattle.std.specs.List.{All, Contains};
 ghost use Rattle.clause_core.specs.Clause.{IsClause, IsLiteral, IsRising, IsSubset, SameSet};
 
 use graph_core::Memory;
 use mv_fact::Fact;
+use smallvec::SmallVec;
 use std::alloc::Global;
 use std::marker::Model;
+
+/// Literals in any order. Four of them take no memory.
+pub type Literals = SmallVec<i32, 4>;
 
 /// A set of signed variables, each from 1 to 2^31 - 1.
 #[derive(Debug, Drop)]
 pub struct Clause {
-    items: Vec<i32>,
+    items: Literals,
 }
 
 impl Model for Clause {
@@ -53,17 +57,17 @@ impl Clause {
         requires { All IsLiteral lits.now }
         ensures { IfOk result (λ clause. SameSet clause lits.now) }
     {
-        let items = Vec::from_slice(alloc, lits)?;
+        let items = SmallVec::from_slice(alloc, lits)?;
         Ok(Clause::of(items))
     }
 
     /// The clause of a list of literals, which it keeps.
-    pub fn of(items: Vec<i32>) -> Clause
+    pub fn of(items: Literals) -> Clause
         requires { All IsLiteral items.items }
         ensures { SameSet result items.items }
     {
         let mut items = items;
-        if !is_rising(&items) {
+        if !is_rising(items.as_slice()) {
             put_in_order(&mut items);
         }
         Clause { items }
@@ -73,24 +77,25 @@ impl Clause {
     pub fn copy(&self, alloc: Global) -> Result<Clause, Memory>
         ensures { IfOk result (λ clause. clause ≡ self.now) }
     {
-        let items = Vec::from_slice(alloc, &self.items)?;
+        let items = SmallVec::from_slice(alloc, self.items.as_slice())?;
         Ok(Clause { items })
     }
 
     pub fn has(&self, lit: i32) -> bool
         ensures { IsTrue result ↔ Contains self.now lit }
     {
-        contains(&self.items, lit)
+        contains(self.items.as_slice(), lit)
     }
 
     /// Whether each literal is one of the other clause.
     pub fn is_subset(&self, of: &Clause) -> bool
         ensures { IsTrue result ↔ IsSubset self.now of.now }
     {
+        let others = of.items.as_slice();
         let mut next = 0;
-        for &lit in &self.items {
-            next = skip_below(&of.items, next, lit);
-            if next == of.items.len() || of.items[next] != lit {
+        for &lit in self.items.as_slice() {
+            next = skip_below(others, next, lit);
+            if next == others.len() || others[next] != lit {
                 return false;
             }
         }
@@ -102,7 +107,7 @@ impl Clause {
         ensures value { result.now ≡ self.now }
         ensures clause { IsClause self.now }
     {
-        &self.items
+        self.items.as_slice()
     }
 }
 
@@ -125,11 +130,11 @@ fn is_rising(lits: &[i32]) -> bool
 }
 
 // sorts them, and leaves each once
-fn put_in_order(lits: &mut Vec<i32>)
+fn put_in_order(lits: &mut Literals)
     ensures rising { IsRising lits.new.items }
     ensures same { SameSet lits.new.items lits.old.items }
 {
-    lits.sort_unstable();
+    lits.as_mut_slice().sort_unstable();
     lits.dedup();
 }
 

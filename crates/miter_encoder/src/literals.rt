@@ -4,7 +4,7 @@ ghost use Rattle.graph_core.specs.Graph.Literals.{variable_of};
 ghost use Rattle.clause_core.specs.GateClauses.{clause_of as clause_by, signed_of};
 ghost use Rattle.miter_encoder.specs.Encoding.{IsSameGoal};
 
-use clause_core::Clause;
+use clause_core::{Clause, Literals};
 use graph_core::{Lit, Memory};
 use std::alloc::Global;
 
@@ -21,7 +21,7 @@ pub fn signed(lit: Lit) -> i32
 pub fn clause_of(alloc: Global, lits: &[Lit]) -> Result<Option<Clause>, Memory>
     ensures { IfOk result (λ clause. IsSameGoal clause (clause_by lits.now)) }
 {
-    let mut items = Vec::with_capacity(alloc, lits.len())?;
+    let mut items = Literals::new(alloc);
     for lit in lits {
         if lit.0 == 1 {
             return Ok(None);
@@ -34,7 +34,7 @@ pub fn clause_of(alloc: Global, lits: &[Lit]) -> Result<Option<Clause>, Memory>
 }
 
 // the signed variable of one literal more at the end
-fn push_signed(items: &mut Vec<i32>, lit: Lit) -> Result<(), Memory>
+fn push_signed(items: &mut Literals, lit: Lit) -> Result<(), Memory>
     requires { 0 < variable_of lit }
     ensures { OnOk result (items.new.items ≡ items.old.items ++ signed_of lit ∷ []) }
 {

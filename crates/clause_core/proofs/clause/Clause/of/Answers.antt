@@ -8,7 +8,7 @@ pub invariant_of-result : goal.invariant_of-result
 invariant_of-result c =
     elim c.if-not-is_rising.branch [
       | then-not-is_rising w ↦ rw w.items-is (is_clause _ c.args.items.items c.requires w.put_in_order.ensures.rising (λ l h. w.put_in_order.ensures.same.0 l h))
-      | else-not-is_rising w ↦ rw w.items-is (is_clause _ c.args.items.items c.requires (subst IsRising c.deref.ensures.value (c.is_rising.ensures w.if-not-is_rising.false)) (λ l h. h))
+      | else-not-is_rising w ↦ rw w.items-is (is_clause _ c.args.items.items c.requires (subst IsRising c.as_slice.ensures (c.is_rising.ensures w.if-not-is_rising.false)) (λ l h. h))
     ]
 
 pub returns : goal.returns
