@@ -1,7 +1,6 @@
 -- What stands beside a variable in a polynomial, and polynomials that don't have a variable.
-use Rattle.std.proofs.Common.{◌≡◌, ℕ, ◌+◌, ◌*◌, ◌%◌, ◌^◌, ◌<◌, ◌==◌, ◌↔◌, Bool, true, false, not, cond, List, [], ◌∷◌, ◌++◌, get_or, length, map, take, drop, refl, sym, ap, ap₂, subst, ◌∙◌, arith, length-append}
+use Rattle.std.proofs.Common.{◌≡◌, ℕ, ◌+◌, ◌*◌, ◌%◌, ◌^◌, ◌<◌, ◌==◌, Bool, true, false, not, cond, List, [], ◌∷◌, get_or, map, refl, sym, ap, ap₂, ◌∙◌, arith}
 use Rattle.std.proofs.Math.Nat.{add-mod-mod, mod-mod}
-use Rattle.std.proofs.lemmas.List.{take_more, take-append-drop}
 use Rattle.std.proofs.lemmas.Nat.{pow_pos}
 use Rattle.std.specs.List.{filter}
 use Rattle.graph_core.specs.Graph.Assignments.{Assignment}
@@ -10,10 +9,9 @@ use Rattle.graph_core.proofs.OfGraphs.CallerLemmas.{difference_is}
 use Rattle.poly_terms.specs.Entries.{Sum, Entry}
 use Rattle.poly_terms.specs.Monomials.{Adds, free_of, has_in, places_of, replaced, total_in}
 use Rattle.poly_terms.specs.Tables.{ArePlaces, Extends, IsOf, Table, assigned, modulus, quotient_value, value_in, table_of}
-use Rattle.poly_terms.specs.Laws.{stays, value_stays}
+use Rattle.poly_terms.specs.Laws.{value_stays}
 use Rattle.poly_terms.proofs.Assigned.{product-other}
 use Rattle.poly_terms.proofs.Made.{adds-value}
-use Rattle.poly_terms.proofs.Merging.{begins}
 use Rattle.poly_terms.proofs.Replacing.{free_of-IsOf, total-replaced}
 use Rattle.poly_terms.proofs.Values.{value-total}
 
@@ -47,10 +45,6 @@ quotient-total w v old new t p p' raw σ e f some adds =
 free-total : (ms : List (List ℕ)) (v : ℕ) (σ : Assignment) (es : Sum) → 0 < v → total_in ms σ (free_of ms v es) ≡ total_in ms (assigned σ v false) es
 free-total ms v σ es some = omega (arith, total-replaced ms v σ 0 es some, replaced-none ms v σ es)
 
-pub rest_of : (w v : ℕ) (ms : List (List ℕ)) (t new : Table) (p p' kept r : Sum) → table_of w ms ≡ t → p' ≡ p → IsOf t p → kept ≡ free_of ms v p' → r ≡ kept → Extends t new → IsOf new r
-rest_of w v ms t new p p' kept r e f h is same grown =
-    stays t new r grown (subst (IsOf t) (sym (same ∙ is ∙ ap₂ (λ (u : Table) x. free_of u.monomials v x) e f)) (free_of-IsOf t v p h))
-
 pub rest-value : (w v : ℕ) (ms : List (List ℕ)) (t new : Table) (p p' kept r : Sum) (σ : Assignment) → table_of w ms ≡ t → p' ≡ p → IsOf t p → kept ≡ free_of ms v p' → r ≡ kept → Extends t new → 0 < v →
     value_in new r σ ≡ value_in t p (assigned σ v false)
 rest-value w v ms t new p p' kept r σ e f h is same grown some =
@@ -60,32 +54,6 @@ rest-value w v ms t new p p' kept r σ e f h is same grown some =
     ap (λ n. n % modulus t) (free-total t.monomials v σ p some) ∙ sym (value-total t p (assigned σ v false))
 
 -- ---- a polynomial without a variable
-
-places-more : (ms : List (List ℕ)) (v : ℕ) (xs ys : Sum) → places_of ms v (xs ++ ys) ≡ places_of ms v xs ++ places_of ms v ys
-places-more ms v [] ys = refl
-places-more ms v (x ∷ xs) ys = go (places-more ms v xs ys) (has_in ms v x)
-  where
-    go : places_of ms v (xs ++ ys) ≡ places_of ms v xs ++ places_of ms v ys → (b : Bool) → map (λ (e : Entry). e.0) (cond b (x ∷ filter (has_in ms v) (xs ++ ys)) (filter (has_in ms v) (xs ++ ys))) ≡
-        map (λ (e : Entry). e.0) (cond b (x ∷ filter (has_in ms v) xs) (filter (has_in ms v) xs)) ++ places_of ms v ys
-    go rest true = ap (λ ns. x.0 ∷ ns) rest
-    go rest false = rest
-
-module _ (ms : List (List ℕ)) (v : ℕ) (es : Sum) (i : ℕ) (e : Entry) (within : i < length es) (at : e ≡ get_or es i e) where
-  pub no_place_more : has_in ms v e ≡ false → places_of ms v (take i es) ≡ [] → places_of ms v (take (i + 1) es) ≡ []
-  no_place_more none before =
-      ap (places_of ms v) (take_more es i e within ∙ ap (λ x. take i es ++ x ∷ []) (sym at)) ∙ places-more ms v (take i es) (e ∷ []) ∙
-      ap₂ (λ ns b. ns ++ map (λ (x : Entry). x.0) (cond b (e ∷ []) [])) before none
-
-  pub some_place : has_in ms v e ≡ true → places_of ms v es ≡ [] → ⊥
-  some_place some none =
-      let front = places_of ms v (take i es) in
-      let back = map (λ (x : Entry). x.0) (filter (has_in ms v) (drop (i + 1) es)) in
-      let split : places_of ms v es ≡ front ++ (e.0 ∷ back) =
-      ap (places_of ms v) (sym (take-append-drop i es)) ∙ places-more ms v (take i es) (drop i es) ∙
-      ap (λ xs. front ++ places_of ms v xs) (begins es i e within at) ∙
-      ap (λ b. front ++ map (λ (x : Entry). x.0) (cond b (e ∷ filter (has_in ms v) (drop (i + 1) es)) (filter (has_in ms v) (drop (i + 1) es)))) some in
-      let long = ap length (sym none ∙ split) ∙ length-append front (e.0 ∷ back) in
-      absurd (omega arith)
 
 total-free : (ms : List (List ℕ)) (v : ℕ) (σ : Assignment) (b : Bool) (es : Sum) → places_of ms v es ≡ [] → total_in ms (assigned σ v b) es ≡ total_in ms σ es
 total-free ms v σ b [] none = refl
@@ -105,14 +73,3 @@ pub free-value : (t : Table) (p : Sum) (v : ℕ) (σ : Assignment) (b : Bool) �
 unfolding ArePlaces
 free-value t p v σ b none =
     value-total t p (assigned σ v b) ∙ ap (λ n. n % modulus t) (total-free t.monomials v σ b p (sym none)) ∙ sym (value-total t p σ)
-
-pub places_are : (w v : ℕ) (ms : List (List ℕ)) (t : Table) (p p' : Sum) → table_of w ms ≡ t → p' ≡ p → (places_of ms v p' ≡ []) ↔ ArePlaces t p v []
-unfolding ArePlaces
-places_are w v ms t p p' e f =
-    let same : places_of t.monomials v p ≡ places_of ms v p' = ap₂ (λ (u : Table) x. places_of u.monomials v x) (sym e) (sym f) in
-    (λ h. sym (same ∙ h), λ h. sym same ∙ sym h)
-
--- a list of which it can't be that it has something is empty
-pub is_none : (ns : List ℕ) → ((ns ≡ [] → ⊥) → ⊥) → ns ≡ []
-is_none [] h = refl
-is_none (n ∷ ns) h = absurd (h (λ e. absurd (cc)))

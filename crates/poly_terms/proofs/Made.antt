@@ -1,19 +1,16 @@
 -- What the calls of a table make, in values.
-use Rattle.std.proofs.Common.{◌≡◌, ℕ, ◌+◌, ◌*◌, ◌%◌, ◌^◌, ◌<◌, List, Some, [], ◌∷◌, get_or, length, map, slice_get, sum_by, refl, sym, ap, ap₂, subst, ◌∙◌, arith}
-use Rattle.std.proofs.Math.Nat.{add-mod-mod, mod-mod}
+use Rattle.std.proofs.Common.{◌≡◌, ℕ, ◌+◌, ◌*◌, ◌%◌, ◌^◌, ◌<◌, List, Some, [], get_or, length, map, slice_get, refl, sym, ap, ap₂, subst, ◌∙◌, arith}
+use Rattle.std.proofs.Math.Nat.{mod-mod}
 use Rattle.std.proofs.lemmas.List.{length-map}
-use Rattle.std.proofs.lemmas.List.Sums.{sum_by-cons}
 use Rattle.std.proofs.lemmas.Option.{slice_get-map, slice_get_read}
-use Rattle.std.specs.List.{AllByRecursion}
 use Rattle.std.specs.Prelude.{option_map}
 use Rattle.graph_core.specs.Graph.Assignments.{Assignment}
 use Rattle.graph_core.specs.Algebra.Polynomials.{Polynomial, product, sum_of, value}
-use Rattle.poly_terms.specs.Entries.{IsGathered, Sum, Entry, appended, total}
+use Rattle.poly_terms.specs.Entries.{IsGathered, Sum, Entry}
 use Rattle.poly_terms.specs.Monomials.{Adds, AreIn, AreMonomials, Grows, total_in}
 use Rattle.poly_terms.specs.Tables.{Table, Extends, IsOf, modulus, monomial_in, monomials_in, table_of, value_in}
 use Rattle.poly_terms.proofs.Adding.{all_at}
-use Rattle.poly_terms.proofs.Gathering.{all_joined, total-append}
-use Rattle.poly_terms.proofs.Residues.{product_of_reduced, sum_of_reduced}
+use Rattle.poly_terms.proofs.Residues.{product_of_reduced}
 use Rattle.poly_terms.proofs.Values.{value-total}
 
 -- the table extends the one before
@@ -73,33 +70,6 @@ multiple-values w ms t p p' parts σ e f =
 
 pub value_below : (t : Table) (p : Sum) (σ : Assignment) → value_in t p σ % modulus t ≡ value_in t p σ
 value_below t p σ = mod-mod (sum_of (modulus t) (monomials_in t p) σ) (modulus t)
-
-in-appended : (t : Table) (ps : List Sum) → AllByRecursion (IsOf t) ps → AreIn t.monomials (appended ps)
-unfolding IsOf
-in-appended t [] h = tt
-in-appended t (p ∷ ps) h = all_joined (λ e. e.0 < length t.monomials) p (appended ps) h.0.numbers (in-appended t ps h.1)
-
-total-appended : (t : Table) (ps : List Sum) (σ : Assignment) → total_in t.monomials σ (appended ps) % modulus t ≡ sum_by (λ p. value_in t p σ) ps % modulus t
-total-appended t [] σ = refl
-total-appended t (p ∷ ps) σ =
-    let m = modulus t in
-    let f = λ (k : ℕ). product σ (get_or t.monomials k []) in
-    let v = λ (q : Sum). value_in t q σ in
-    ap (λ n. n % m) (total-append f p (appended ps)) ∙ sym (sum_of_reduced m (total f p) (total f (appended ps))) ∙
-    ap₂ (λ a b. (a + b) % m) (sym (value-total t p σ)) (total-appended t ps σ) ∙ add-mod-mod (v p) (sum_by v ps) m ∙ ap (λ n. n % m) (sym (sum_by-cons v p ps))
-
--- the entries of all, gathered
-pub added-IsOf : (w : ℕ) (ms : List (List ℕ)) (t : Table) (ps : List Sum) (out r : Sum) → table_of w ms ≡ t → r ≡ out → AreMonomials ms → AllByRecursion (IsOf t) ps →
-    IsGathered (2 ^ w) (appended ps) out → IsOf t r
-added-IsOf w ms t ps out r e is o all g =
-    subst (λ u. IsOf u r) e (made-IsOf w ms (appended ps) out r is o (all_numbers w ms t ps e all) g)
-  where
-    all_numbers : (w : ℕ) (ms : List (List ℕ)) (t : Table) (ps : List Sum) → table_of w ms ≡ t → AllByRecursion (IsOf t) ps → AreIn ms (appended ps)
-    all_numbers w ms t ps e all = subst (λ (u : Table). AreIn u.monomials (appended ps)) (sym e) (in-appended t ps all)
-
-pub added-value : (w : ℕ) (ms : List (List ℕ)) (t : Table) (ps : List Sum) (out r : Sum) (σ : Assignment) → table_of w ms ≡ t → r ≡ out → IsGathered (2 ^ w) (appended ps) out →
-    value_in t r σ ≡ sum_by (λ p. value_in t p σ) ps % modulus t
-added-value w ms t ps out r σ e is g = gathered-value w ms t (appended ps) out r σ e is g ∙ total-appended t ps σ
 
 -- the i-th entry's number is in the table
 pub number_in : (w : ℕ) (ms : List (List ℕ)) (t : Table) (p p' : Sum) (i n : ℕ) (e : Entry) → table_of w ms ≡ t → p' ≡ p → IsOf t p → i < length (monomials_in t p) → e ≡ get_or p' i e → n ≡ e.0 →

@@ -68,8 +68,3 @@ pub record IsQuotient (m by : ℕ) (from to : Sum) : Type 0 where
   pub numbers : map (λ e. e.0) to ≡ map (λ e. e.0) from
   pub below : AllByRecursion (λ e. e.1 < m) to
   pub some : AllByRecursion (λ e. 0 < e.1) from → AllByRecursion (λ e. 0 < e.1) to
-
--- the entries of some lists, one after the other
-abbrev pub appended : List Sum → Sum
-appended [] = []
-appended (p ∷ ps) = p ++ appended ps

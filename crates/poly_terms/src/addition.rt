@@ -1,10 +1,10 @@
 // Sums of sorted lists of terms, and of terms in any order.
 ghost use Rattle.std.specs.Prelude.{◌≡◌, ◌++◌, ◌^◌, ◌<◌, [], IfOk, IsTrue, OnOk, length};
 ghost use Rattle.mv_nums.specs.Residue.{IsWidth};
-ghost use Rattle.poly_terms.specs.Entries.{IsGathered, IsOrderly, IsPlaced, IsPutBehind, add_entries, appended, plus};
+ghost use Rattle.poly_terms.specs.Entries.{IsGathered, IsOrderly, IsPlaced, IsPutBehind, add_entries, plus};
 
+use crate::coefficient;
 use crate::term::Term;
-use crate::{Poly, coefficient};
 use mv_nums::Residue;
 use std::alloc::{AllocError, Global};
 use std::cmp::Ordering;
@@ -131,25 +131,4 @@ fn put_behind(exponent: u32, entry: Term, out: &mut Vec<Term>) -> Result<(), All
         out.push(entry.with_coefficient(coefficient))?;
     }
     Ok(())
-}
-
-/// The sum of many polynomials.
-pub(crate) fn add_all(alloc: Global, exponent: u32, parts: &[Poly]) -> Result<Vec<Term>, AllocError>
-    requires { IsWidth exponent }
-    ensures { IfOk result (λ v. IsGathered (2 ^ exponent) (appended parts.now) v.items) }
-{
-    let mut raw = Vec::with_capacity(alloc, count(parts))?;
-    for part in parts {
-        copy_behind(part.entries(), &mut raw)?;
-    }
-    gather(alloc, exponent, raw)
-}
-
-// how many entries there are in all
-fn count(parts: &[Poly]) -> usize {
-    let mut sum: usize = 0;
-    for part in parts {
-        sum = sum.saturating_add(part.entries().len());
-    }
-    sum
 }

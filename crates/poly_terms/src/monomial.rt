@@ -1,7 +1,8 @@
 // Monomials: rising lists of variables. Nearly all are short, and stay inline.
-ghost use Rattle.std.specs.Prelude.{◌≡◌, ◌++◌, false, IfOk, IsTrue, OnOk};
+ghost use Rattle.std.specs.Prelude.{◌≡◌, ◌++◌, false, IfOk, IsTrue, length};
 ghost use Rattle.graph_core.specs.Algebra.NormalForm.{AreRising};
 ghost use Rattle.poly_terms.specs.Monomials.{IsMonomialOf, has_variable, joined, without};
+ghost use Rattle.smallvec.specs.SmallVec.{HasRoomFor};
 
 use smallvec::SmallVec;
 use std::alloc::{AllocError, Global};
@@ -13,7 +14,7 @@ pub(crate) type Monomial = SmallVec<u32, 4>;
 pub(crate) fn join(alloc: Global, left: &[u32], right: &[u32]) -> Result<Monomial, AllocError>
     ensures { IfOk result (λ both. both.items ≡ joined left.now right.now) }
 {
-    let mut out = SmallVec::new(alloc);
+    let mut out = SmallVec::with_capacity(alloc, left.len() + right.len())?;
     let mut i: usize = 0;
     let mut j: usize = 0;
     while i < left.len() && j < right.len() {
@@ -21,33 +22,34 @@ pub(crate) fn join(alloc: Global, left: &[u32], right: &[u32]) -> Result<Monomia
         let y = right[j];
         match x.cmp(&y) {
             Ordering::Less => {
-                out.push(x)?;
+                out.push_reserved(x);
                 i += 1;
             }
             Ordering::Greater => {
-                out.push(y)?;
+                out.push_reserved(y);
                 j += 1;
             }
             Ordering::Equal => {
-                out.push(x)?;
+                out.push_reserved(x);
                 i += 1;
                 j += 1;
             }
         }
     }
-    push_all(&left[i..], &mut out)?;
-    push_all(&right[j..], &mut out)?;
+    push_all(&left[i..], &mut out);
+    push_all(&right[j..], &mut out);
     Ok(out)
 }
 
 // one by one: most often there is none, or one
-fn push_all(variables: &[u32], out: &mut Monomial) -> Result<(), AllocError>
-    ensures { OnOk result (out.new.items ≡ out.old.items ++ variables.now) }
+fn push_all(variables: &[u32], out: &mut Monomial)
+    requires { HasRoomFor out.old (length variables.now) }
+    ensures items { out.new.items ≡ out.old.items ++ variables.now }
+    ensures capacity { out.new.capacity ≡ out.old.capacity }
 {
     for v in variables {
-        out.push(*v)?;
+        out.push_reserved(*v);
     }
-    Ok(())
 }
 
 /// The monomial of variables in any order, of which some may be repeated and none is the constant.
@@ -84,9 +86,24 @@ pub(crate) fn is_rising(variables: &[u32]) -> bool
 pub(crate) fn copy(alloc: Global, variables: &[u32]) -> Result<Monomial, AllocError>
     ensures { IfOk result (λ monomial. monomial.items ≡ variables.now) }
 {
-    let mut out = SmallVec::new(alloc);
-    push_all(variables, &mut out)?;
+    let mut out = SmallVec::with_capacity(alloc, variables.len())?;
+    push_all(variables, &mut out);
     Ok(out)
+}
+
+/// Whether two monomials are the same. Nearly all are so short that a call of std's comparison costs more.
+pub(crate) fn are_same(left: &[u32], right: &[u32]) -> bool
+    ensures { IsTrue result → left.now ≡ right.now }
+{
+    if left.len() != right.len() {
+        return false;
+    }
+    for i in 0..left.len() {
+        if left[i] != right[i] {
+            return false;
+        }
+    }
+    true
 }
 
 pub(crate) fn has_variable(variables: &[u32], v: u32) -> bool
@@ -99,10 +116,10 @@ pub(crate) fn has_variable(variables: &[u32], v: u32) -> bool
 pub(crate) fn without(alloc: Global, variables: &[u32], v: u32) -> Result<Monomial, AllocError>
     ensures { IfOk result (λ rest. rest.items ≡ without v variables.now) }
 {
-    let mut rest = SmallVec::new(alloc);
+    let mut rest = SmallVec::with_capacity(alloc, variables.len())?;
     for u in variables {
         if *u != v {
-            rest.push(*u)?;
+            rest.push_reserved(*u);
         }
     }
     Ok(rest)

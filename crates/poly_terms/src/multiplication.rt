@@ -50,24 +50,31 @@ fn multiply_by(
         (λ σ. by.now.1 * product σ (get_or table.old by.now.0 []) * total_in table.old σ entries.now)) }
 {
     let monomial = monomial::copy(alloc, table.variables(by.number()))?;
-    multiply_behind(table, exponent, &monomial, by.coefficient(), entries, out)
+    multiply_behind(
+        table,
+        exponent,
+        monomial.as_slice(),
+        by.coefficient(),
+        entries,
+        out,
+    )
 }
 
 /// A monomial with its coefficient times each term, behind others.
 pub(crate) fn multiply_behind(
     table: &mut Numbering,
     exponent: u32,
-    monomial: &Monomial,
+    monomial: &[u32],
     coefficient: u128,
     entries: &[Term],
     out: &mut Vec<Term>,
 ) -> Result<(), AllocError>
     requires exponent { IsWidth exponent }
-    requires monomial { AreRising 0 monomial.now.items }
+    requires monomial { AreRising 0 monomial.now }
     requires entries { AreIn table.old entries.now }
     ensures grows { Grows table.old table.new }
     ensures adds { OnOk result (Adds (2 ^ exponent) table.old table.new out.old.items out.new.items
-        (λ σ. coefficient * product σ monomial.now.items * total_in table.old σ entries.now)) }
+        (λ σ. coefficient * product σ monomial.now * total_in table.old σ entries.now)) }
 {
     out.reserve(entries.len())?;
     for entry in entries {
@@ -79,22 +86,23 @@ pub(crate) fn multiply_behind(
 fn push_product(
     table: &mut Numbering,
     exponent: u32,
-    monomial: &Monomial,
+    monomial: &[u32],
     coefficient: u128,
     entry: &Term,
     out: &mut Vec<Term>,
 ) -> Result<(), AllocError>
     requires exponent { IsWidth exponent }
-    requires monomial { AreRising 0 monomial.now.items }
+    requires monomial { AreRising 0 monomial.now }
     requires entry { entry.now.0 < length table.old }
     ensures grows { Grows table.old table.new }
     ensures adds { OnOk result (Adds (2 ^ exponent) table.old table.new out.old.items out.new.items
-        (λ σ. coefficient * product σ monomial.now.items *
+        (λ σ. coefficient * product σ monomial.now *
         (entry.now.1 * product σ (get_or table.old entry.now.0 [])))) }
 {
-    let both = table.times(monomial.as_slice(), entry.number())?;
+    let number = table.multiple(monomial, entry.number())?;
     let coefficient = coefficient::product(exponent, coefficient, entry.coefficient());
-    push_term(table, both, coefficient, out)
+    out.push(Term::new(number, coefficient))?;
+    Ok(())
 }
 
 /// A monomial with its coefficient, behind others.

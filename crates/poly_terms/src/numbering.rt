@@ -17,7 +17,7 @@ pub(crate) struct Numbering {
     alloc: Global,
     monomials: IndexSet<Monomial>,
     /// which number a variable alone may have, by the variable, and at 0 the empty monomial
-    hints: Vec<usize>,
+    hints: Vec<u32>,
 }
 
 impl Model for Numbering {
@@ -102,19 +102,22 @@ impl Numbering {
         ensures { IsTrue result → Stands self.now number monomial.now }
     {
         match self.monomials.get_index(number as usize) {
-            Some(known) => known.as_slice() == monomial,
+            Some(known) => monomial::are_same(known.as_slice(), monomial),
             None => false,
         }
     }
 
-    // Keeps the number of a place as its hint.
+    // Keeps the number of a place as its hint, unless it is too great for one.
     fn note(&mut self, place: usize, number: u64) -> Result<(), AllocError>
         ensures { self.new ≡ self.old }
     {
         if place / 2 > self.monomials.len() + MORE_HINTS {
             return Ok(());
         }
-        put_hint(&mut self.hints, place, number as usize)
+        match u32::try_from(number) {
+            Ok(number) => put_hint(&mut self.hints, place, number),
+            Err(_) => Ok(()),
+        }
     }
 
     /// Each monomial rises and stands once.
@@ -136,14 +139,19 @@ impl Numbering {
         }
     }
 
-    /// A monomial times that of a number.
-    pub(crate) fn times(&self, monomial: &[u32], number: u64) -> Result<Monomial, AllocError>
-        requires number { number < length self.now }
+    /// The number of a monomial times that of a number, which is added where it is new.
+    pub(crate) fn multiple(&mut self, monomial: &[u32], number: u64) -> Result<u64, AllocError>
+        requires number { number < length self.old }
         requires rising { AreRising 0 monomial.now }
-        ensures value { IfOk result (λ both. both.items ≡ joined monomial.now (get_or self.now number [])) }
-        ensures rising { IfOk result (λ both. AreRising 0 both.items) }
+        ensures grows { Grows self.old self.new }
+        ensures number { IfOk result (λ n. Stands self.new n (joined monomial.now (get_or self.old number []))) }
     {
-        monomial::join(self.alloc, monomial, self.variables(number))
+        // 1 times it
+        if monomial.is_empty() {
+            return Ok(number);
+        }
+        let both = monomial::join(self.alloc, monomial, self.variables(number))?;
+        self.intern(both)
     }
 
     /// The number of the product of two numbers' monomials, which is added where it is new.
@@ -161,7 +169,7 @@ impl Numbering {
         if self.variables(right).is_empty() {
             return Ok(left);
         }
-        let both = self.times(self.variables(left), right)?;
+        let both = monomial::join(self.alloc, self.variables(left), self.variables(right))?;
         self.intern(both)
     }
 
@@ -184,7 +192,7 @@ fn place_of(monomial: &[u32]) -> Option<usize> {
     }
 }
 
-fn put_hint(hints: &mut Vec<usize>, place: usize, number: usize) -> Result<(), AllocError> {
+fn put_hint(hints: &mut Vec<u32>, place: usize, number: u32) -> Result<(), AllocError> {
     for _ in hints.len()..=place {
         hints.push(0)?;
     }

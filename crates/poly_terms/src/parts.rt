@@ -109,9 +109,27 @@ fn push_products(
     ensures adds { OnOk result (Adds (2 ^ exponent) table.old table.new out.old.items out.new.items
         (λ σ. coefficient * product σ variables.now * total_in table.old σ entries.now)) }
 {
-    if !monomial::has_variable(variables, 0) {
-        let monomial = monomial::from_variables(alloc, variables)?;
-        multiplication::multiply_behind(table, exponent, &monomial, coefficient, entries, out)?;
+    // Most often they rise as they stand.
+    if monomial::is_rising(variables) {
+        return multiplication::multiply_behind(
+            table,
+            exponent,
+            variables,
+            coefficient,
+            entries,
+            out,
+        );
     }
-    Ok(())
+    if monomial::has_variable(variables, 0) {
+        return Ok(());
+    }
+    let monomial = monomial::from_variables(alloc, variables)?;
+    multiplication::multiply_behind(
+        table,
+        exponent,
+        monomial.as_slice(),
+        coefficient,
+        entries,
+        out,
+    )
 }

@@ -1,12 +1,12 @@
 // What stands beside a variable: the terms that have it, each without it.
-ghost use Rattle.std.specs.Prelude.{◌≡◌, ◌<◌, ◌↔◌, ℕ, None, [], IfOk, IsTrue, OnOk, length};
+ghost use Rattle.std.specs.Prelude.{◌≡◌, ◌<◌, ℕ, None, [], IfOk, OnOk, length};
 ghost use Rattle.poly_terms.specs.Entries.{entry_order};
 ghost use Rattle.poly_terms.specs.Merges.{AreAfter};
 ghost use Rattle.poly_terms.specs.Monomials.{Adds, AreIn, Grows, places_of, replaced, replaced_one};
 
 use crate::numbering::Numbering;
 use crate::term::Term;
-use crate::{monomial, multiplication, substitution};
+use crate::{multiplication, substitution};
 use std::alloc::{AllocError, Global};
 
 /// The terms with the variable, without it, in any order.
@@ -49,17 +49,4 @@ fn divide_behind(
 {
     let rest = table.without(entry.number(), v)?;
     multiplication::push_term(table, rest, entry.coefficient(), out)
-}
-
-/// Whether some term has the variable.
-pub(crate) fn has_variable(table: &Numbering, entries: &[Term], v: u32) -> bool
-    requires { AreIn table.now entries.now }
-    ensures { IsTrue result ↔ ¬ (places_of table.now v entries.now ≡ []) }
-{
-    for entry in entries {
-        if monomial::has_variable(table.variables(entry.number()), v) {
-            return true;
-        }
-    }
-    false
 }

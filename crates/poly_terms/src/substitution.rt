@@ -100,7 +100,14 @@ fn replace_behind(
         (λ σ. replaced_one table.old v σ (total_in table.old σ by.now) entry.now)) }
 {
     let rest = table.without(entry.number(), v)?;
-    multiplication::multiply_behind(table, exponent, &rest, entry.coefficient(), by, out)
+    multiplication::multiply_behind(
+        table,
+        exponent,
+        rest.as_slice(),
+        entry.coefficient(),
+        by,
+        out,
+    )
 }
 
 /// Whether a term's number is the one at a place of the list.

@@ -1,5 +1,5 @@
 // The table of monomials, and all that makes polynomials.
-ghost use Rattle.std.specs.Prelude.{◌≡◌, ◌≢◌, ◌<◌, ◌↔◌, ◌+◌, ◌*◌, ◌%◌, ◌^◌, All, Any, Bool, false, IfOk, IfSome, IsNone, IsTrue, OnOk, Some, [], length, map, option_map, slice_get, sum_by};
+ghost use Rattle.std.specs.Prelude.{◌≡◌, ◌≢◌, ◌<◌, ◌↔◌, ◌+◌, ◌*◌, ◌%◌, ◌^◌, Any, Bool, false, IfOk, IfSome, IsNone, IsTrue, OnOk, Some, [], length, map, option_map, slice_get};
 ghost use Rattle.graph_core.specs.Graph.Assignments.{Assignment, bit, listed};
 ghost use Rattle.graph_core.specs.Algebra.NormalForm.{HasSize};
 ghost use Rattle.graph_core.specs.Algebra.Polynomials.{value};
@@ -188,15 +188,9 @@ impl Terms {
         Ok(replaced)
     }
 
-    /// The same where the numbers of the terms that have the variable are known: `places` has them, rising.
+    // The same where the numbers of the terms that have the variable are known: `places` has them, rising.
     #[tactic(auto, using(crate::specs::Laws::extends_itself, crate::proofs::Made::extends_grown))]
-    pub fn substitute_at(
-        &mut self,
-        p: &Poly,
-        v: u32,
-        q: &Poly,
-        places: &[u64],
-    ) -> Result<Poly, Memory>
+    fn substitute_at(&mut self, p: &Poly, v: u32, q: &Poly, places: &[u64]) -> Result<Poly, Memory>
         requires left { IsOf self.old p.now }
         requires right { IsOf self.old q.now }
         requires variable { 0 < v }
@@ -246,9 +240,9 @@ impl Terms {
         Ok(quotient)
     }
 
-    /// The same where the numbers of the terms that have the variable are known: `places` has them, rising.
+    // The same where the numbers of the terms that have the variable are known: `places` has them, rising.
     #[tactic(auto, using(crate::specs::Laws::extends_itself, crate::proofs::Made::extends_grown))]
-    pub fn quotient_at(&mut self, p: &Poly, v: u32, places: &[u64]) -> Result<Poly, Memory>
+    fn quotient_at(&mut self, p: &Poly, v: u32, places: &[u64]) -> Result<Poly, Memory>
         requires of { IsOf self.old p.now }
         requires variable { 0 < v }
         requires places { ArePlaces self.old p.now v places.now }
@@ -262,55 +256,8 @@ impl Terms {
         Ok(quotient)
     }
 
-    /// A polynomial by a variable: what stands beside it, and what is left where the variable is false.
-    #[tactic(auto, using(crate::specs::Laws::extends_itself, crate::proofs::Made::numbers_of), unfolding(crate::specs::Tables::ArePlaces))]
-    pub fn split(&mut self, p: &Poly, v: u32) -> Result<(Poly, Poly), Memory>
-        requires of { IsOf self.old p.now }
-        requires variable { 0 < v }
-        ensures extends { Extends self.old self.new }
-        ensures of { IfOk result (λ parts. IsOf self.new parts.0 × IsOf self.new parts.1) }
-        ensures quotient { IfOk result (λ parts. (σ : Assignment) →
-            value_in self.new parts.0 σ ≡ quotient_value self.old p.now v σ) }
-        ensures rest { IfOk result (λ parts. (σ : Assignment) →
-            value_in self.new parts.1 σ ≡ value_in self.old p.now (assigned σ v false)) }
-    {
-        let places = substitution::places_of(self.alloc, &self.monomials, p.entries(), v)?;
-        let rest = substitution::entries_free_of(
-            self.alloc,
-            &self.monomials,
-            p.entries(),
-            v,
-            &places,
-        )?;
-        let quotient = self.quotient_at(p, v, &places)?;
-        Ok((quotient, Poly::of(rest)))
-    }
-
-    /// Whether some monomial has the variable. Where none has it, its value doesn't matter.
-    pub fn has_variable(&self, p: &Poly, v: u32) -> bool
-        requires { IsOf self.now p.now }
-        ensures places { ¬ IsTrue result ↔ ArePlaces self.now p.now v [] }
-        ensures free { ¬ IsTrue result → (σ : Assignment) (b : Bool) →
-            value_in self.now p.now (assigned σ v b) ≡ value_in self.now p.now σ }
-    {
-        quotient::has_variable(&self.monomials, p.entries(), v)
-    }
-
-    /// The sum of many polynomials: all monomials are sorted at once.
-    #[tactic(auto, using(crate::specs::Laws::extends_itself))]
-    pub fn add_all(&mut self, parts: &[Poly]) -> Result<Poly, Memory>
-        requires { All (IsOf self.old) parts.now }
-        ensures extends { Extends self.old self.new }
-        ensures of { IfOk result (IsOf self.new) }
-        ensures value { IfOk result (λ r. (σ : Assignment) → value_in self.new r σ ≡
-            sum_by (λ p. value_in self.old p σ) parts.now % modulus self.old) }
-    {
-        let entries = addition::add_all(self.alloc, self.exponent, parts)?;
-        self.monomials.stand_once();
-        Ok(Poly::of(entries))
-    }
-
-    /// Adds the product of two polynomials to a sum. The table takes its monomials, also those that leave the sum again.
+    /// Adds the product of two polynomials to a sum. The table takes its monomials, also those that leave the sum
+    /// again.
     #[tactic(auto, using(crate::specs::Laws::extends_itself, crate::proofs::Made::extends_grown))]
     pub fn add_product(&mut self, sum: &mut PolySum, p: &Poly, q: &Poly) -> Result<(), Memory>
         requires sum { IsOf self.old sum.old }

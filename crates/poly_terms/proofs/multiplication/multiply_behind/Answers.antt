@@ -19,8 +19,8 @@ loop-entry-init c =
     let out = c.reserve.new.self.items in
     record {
       grows = grows_itself old;
-      adds = adds_none (2 ^ c.args.exponent) old old out out (λ σ. c.args.coefficient * product σ c.args.monomial.now.items * total_in old σ (take 0 c.args.entries.now)) (grows_itself old) refl
-          (λ σ. mul-zero (c.args.coefficient * product σ c.args.monomial.now.items));
+      adds = adds_none (2 ^ c.args.exponent) old old out out (λ σ. c.args.coefficient * product σ c.args.monomial.now * total_in old σ (take 0 c.args.entries.now)) (grows_itself old) refl
+          (λ σ. mul-zero (c.args.coefficient * product σ c.args.monomial.now));
     }
 
 pub loop-entry-preserved : goal.loop-entry-preserved
@@ -32,7 +32,7 @@ loop-entry-preserved c =
     let es = c.args.entries.now in
     let i = c.loop-entry.entry-index in
     let at = c.loop-entry.invariant in
-    let a : Assignment → ℕ = λ σ. c.args.coefficient * product σ c.args.monomial.now.items in
+    let a : Assignment → ℕ = λ σ. c.args.coefficient * product σ c.args.monomial.now in
     record {
       grows = grows_on old mid new at.grows c.push_product.ensures.grows;
       adds = adds_on (2 ^ c.args.exponent) old mid new c.reserve.new.self.items c.loop-entry.out.items c.push_product.new.out.items

@@ -6,5 +6,5 @@ use Rattle.poly_terms.proofs.multiplication.multiply_behind.Given as goal
 abbrev pub invariant-loop-entry : goal.invariant-loop-entry
 invariant-loop-entry l = record {
   grows : Grows l.initial.table l.table;
-  adds : Adds (2 ^ l.exponent) l.initial.table l.table l.initial.out.items l.out.items (λ σ. l.coefficient * product σ l.monomial.items * total_in l.initial.table σ (take l.entry-index l.entries));
+  adds : Adds (2 ^ l.exponent) l.initial.table l.table l.initial.out.items l.out.items (λ σ. l.coefficient * product σ l.monomial * total_in l.initial.table σ (take l.entry-index l.entries));
 }
