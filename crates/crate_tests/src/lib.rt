@@ -1,0 +1,25 @@
+//! Tests of the crates below the program: what no contract and no test of the program says.
+#![tactic(auto)]
+
+#[cfg(test)]
+mod aiger;
+#[cfg(test)]
+mod blocks;
+#[cfg(test)]
+mod clause_lists;
+#[cfg(test)]
+mod desks;
+#[cfg(test)]
+mod judging;
+#[cfg(test)]
+mod lines;
+#[cfg(test)]
+mod polynomials;
+#[cfg(test)]
+mod refutations;
+#[cfg(test)]
+mod stages;
+#[cfg(test)]
+mod texts;
+#[cfg(test)]
+mod words;
