@@ -77,7 +77,8 @@ HasNote g order conflicts noted P = IsSomeAnd noted (λ n. IsNote g order confli
 -- note with the first three, and with no other.
 abbrev pub IsVerdict : ℕ → Order → ℕ → ℕ → Files → View → View → Verdict → Option Rewriting → Type 0
 IsVerdict limit order budget conflicts files before after Proved noted =
-    HasGraph limit (bytes_under before files.graph) (λ g. Multiplies g order × HasNote g order conflicts noted (λ used. (read : View) × ReadsGraph before read ×
+    HasGraph limit (bytes_under before files.graph) (λ g. Multiplies g order × HasNote g order conflicts noted (λ used.
+    (read : View) × ReadsGraph before read ×
     ((clauses : List ℕ) × (algebra : List ℕ) × IsPairFor g order budget conflicts used clauses algebra × WritesPair files clauses algebra read after)))
 IsVerdict limit order budget conflicts files before after (Wrong a b value product) noted =
     HasGraph limit (bytes_under before files.graph) (λ g. IsWrong g order a b value product × HasNote g order conflicts noted (λ used. ⊤)) ×
@@ -88,7 +89,8 @@ IsVerdict limit order budget conflicts files before after (Undecided tried step 
     ReadsGraph before after
 IsVerdict limit order budget conflicts files before after (Graph why) noted =
     IfSome (bytes_under before files.graph) (λ bytes. IsGraphRefusal limit bytes why) × ReadsGraph before after × (noted ≡ None)
-IsVerdict limit order budget conflicts files before after ReadFault noted = Rose before.read_faults after.read_faults × ReadsGraph before after × (noted ≡ None)
+IsVerdict limit order budget conflicts files before after ReadFault noted =
+    Rose before.read_faults after.read_faults × ReadsGraph before after × (noted ≡ None)
 IsVerdict limit order budget conflicts files before after WriteFault noted =
     Rose before.write_faults after.write_faults ×
     HasGraph limit (bytes_under before files.graph) (λ g. Multiplies g order ×
@@ -140,6 +142,7 @@ abbrev pub GivesDue : Verdict → Verdict → Type 0
 GivesDue due given = (given ≡ due) ⊎ (given ≡ ReadFault) ⊎ (given ≡ WriteFault) ⊎ (given ≡ Memory)
 
 abbrev pub VerdictsAreExact : Type 0
-VerdictsAreExact = (limit : ℕ) (order : Order) (budget conflicts : ℕ) (files : Files) (before after : View) (file : List ℕ) (due given : Verdict) (noted : Option Rewriting) →
+VerdictsAreExact = (limit : ℕ) (order : Order) (budget conflicts : ℕ) (files : Files) (before after : View) (file : List ℕ)
+    (due given : Verdict) (noted : Option Rewriting) →
     bytes_under before files.graph ≡ Some file → IsVerdictDue limit order budget file due →
     IsVerdict limit order budget conflicts files before after given noted → GivesDue due given

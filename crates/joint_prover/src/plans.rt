@@ -172,7 +172,8 @@ fn told<D: Desk>(
     ensures verdict { IfOk result (λ v. (e : ExtendedGraph) (order : InputOrder) (conflicts : ℕ) →
         IsEnded e order lines.now ending →
         e ≡ extended_by e.graph (option_map (λ c. c.now) cut.entry) →
-        AreClausesOver e.graph conflicts (option_map (λ c. c.now) cut.entry) (file_text (option_map (λ c. c.now) cut.entry) log.now) →
+        AreClausesOver e.graph conflicts (option_map (λ c. c.now) cut.entry)
+        (file_text (option_map (λ c. c.now) cut.entry) log.now) →
         IsToldOver e.graph order conflicts (option_map (λ c. c.now) cut.entry) (files_of names.now)
         (D.seen desk.old) (D.seen desk.new) v) }
     ensures memory { OnErr result (D.seen desk.new ≡ D.seen desk.old) }
