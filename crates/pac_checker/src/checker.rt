@@ -74,7 +74,9 @@ impl<'a> PacChecker<'a> {
         ensures axioms { IfOk result (λ c. Agree (ledger_of c) (axioms extended.entry.now)) }
     {
         let outputs = extended.graph().outputs();
-        let mut live = Live::new(alloc, extended.gates(), Terms::new(alloc, outputs));
+        let gates = extended.gates();
+        let terms = Terms::for_gates(alloc, outputs, gates.len())?;
+        let mut live = Live::new(alloc, gates, terms);
         add_axioms(alloc, &mut live, extended)?;
         let most_monomials = most_monomials(&live);
         Ok(PacChecker {

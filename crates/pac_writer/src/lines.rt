@@ -55,7 +55,7 @@ impl<'a> Lines<'a> {
         Ok(Lines {
             extended,
             operands,
-            terms: Terms::new(alloc, outputs),
+            terms: Terms::for_gates(alloc, outputs, extended.gates().len())?,
             lines: Vec::new(alloc),
             last: last_axiom(extended),
             closing: None,

@@ -70,6 +70,17 @@ map-set g [] n x = refl
 map-set g (y ∷ ys) zero x = refl
 map-set g (y ∷ ys) (suc n) x = ap (λ zs. g y ∷ zs) (map-set g ys n x)
 
+-- one variable more, that has no number
+pub with_one_more : (old : List (List ℕ)) (xs ys : List (Vec ℕ Global)) (none : Vec ℕ Global) → ys ≡ xs ++ none ∷ [] → none.items ≡ [] →
+    ((u : ℕ) → get_or (map (λ ns. ns.items) xs) u [] ≡ get_or old u []) → (u : ℕ) → get_or (map (λ ns. ns.items) ys) u [] ≡ get_or old u []
+with_one_more old xs ys none is empty same u = ap (λ zs. get_or (map (λ (ns : Vec ℕ Global). ns.items) zs) u []) is ∙ go xs u ∙ same u
+  where
+    go : (zs : List (Vec ℕ Global)) (k : ℕ) → get_or (map (λ ns. ns.items) (zs ++ none ∷ [])) k [] ≡ get_or (map (λ ns. ns.items) zs) k []
+    go [] zero = empty
+    go [] (suc k) = refl
+    go (z ∷ zs) zero = refl
+    go (z ∷ zs) (suc k) = go zs k
+
 pub enters_item : (number v : ℕ) (old mid : List (List ℕ)) (xs : List (Vec ℕ Global)) (item more : Vec ℕ Global) → map (λ ns. ns.items) xs ≡ mid → ((u : ℕ) → get_or mid u [] ≡ get_or old u []) →
     v < length mid → item ≡ get_or xs v item → more.items ≡ item.items ++ number ∷ [] → Enters number (v ∷ []) old (map (λ ns. ns.items) (set xs v more))
 enters_item number v old mid xs item more view same low at is =

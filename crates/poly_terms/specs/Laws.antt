@@ -84,10 +84,12 @@ monomials_stay old new p e h = same_monomials old new p e.1 h.numbers
 pub all_stay : (old new : Table) (ps : List Sum) → Extends old new → All (IsOf old) ps → All (IsOf new) ps
 all_stay old new ps e h = λ k d l. stays old new (slice_index_or ps k d) e (h k d l)
 
-all_indexed : (old new places : List (List ℕ)) (es : Sum) → Grows old new → AreIn old es → AllByRecursion (λ e. (v : ℕ) → has_in old v e ≡ true → IsAtPlace places v e.0) es →
+all_indexed : (old new places : List (List ℕ)) (es : Sum) → Grows old new → AreIn old es →
+    AllByRecursion (λ e. (v : ℕ) → has_in old v e ≡ true → IsAtPlace places v e.0) es →
     AllByRecursion (λ e. (v : ℕ) → has_in new v e ≡ true → IsAtPlace places v e.0) es
 all_indexed old new places [] g n h = tt
-all_indexed old new places (e ∷ es) g n h = (λ v has. h.0 v (ap (has_variable v) (sym (stands_in_grown old new e.0 g n.0)) ∙ has), all_indexed old new places es g n.1 h.1)
+all_indexed old new places (e ∷ es) g n h =
+    (λ v has. h.0 v (ap (has_variable v) (sym (stands_in_grown old new e.0 g n.0)) ∙ has), all_indexed old new places es g n.1 h.1)
 
 pub indexes_stay : IndexesStay
 unfolding Extends IsOf IsIndexed

@@ -8,7 +8,7 @@ use indexmap::IndexSet;
 use std::alloc::{AllocError, Global};
 use std::marker::Model;
 
-// Variables up to twice the number of monomials and so many have hints: then those take no more room than the monomials.
+// Variables up to twice the number of monomials and so many have hints: so these take no more room than the monomials.
 const MORE_HINTS: usize = 64;
 
 /// Monomials by number: each stands once, and its place is its number.
@@ -40,6 +40,17 @@ impl Numbering {
             monomials: IndexSet::new(alloc),
             hints: Vec::new(alloc),
         }
+    }
+
+    /// No monomial yet, with room for so many.
+    pub(crate) fn with_capacity(alloc: Global, count: usize) -> Result<Numbering, AllocError>
+        ensures { IfOk result (λ n. n ≡ []) }
+    {
+        Ok(Numbering {
+            alloc,
+            monomials: IndexSet::with_capacity(alloc, count)?,
+            hints: Vec::new(alloc),
+        })
     }
 
     /// How many monomials there are.

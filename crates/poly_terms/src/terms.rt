@@ -17,6 +17,9 @@ use graph_core::Memory;
 use std::alloc::Global;
 use std::marker::Model;
 
+// A gate's axiom brings its variable and the product of its operands, and the lines of a certificate about one more.
+const MONOMIALS_OF_GATE: usize = 3;
+
 /// The table of a modulus 2^w, w from 1 to 128, in which polynomials have their values.
 #[derive(Drop)]
 pub struct Terms {
@@ -47,6 +50,20 @@ impl Terms {
             exponent: w,
             monomials: Numbering::new(alloc),
         }
+    }
+
+    /// The same with room for the monomials that a certificate over so many gates most often has.
+    pub fn for_gates(alloc: Global, w: u32, gates: usize) -> Result<Terms, Memory>
+        requires { IsWidth w }
+        ensures { IfOk result (λ t. t.exponent ≡ w) }
+    {
+        let count = gates.saturating_mul(MONOMIALS_OF_GATE);
+        let monomials = Numbering::with_capacity(alloc, count)?;
+        Ok(Terms {
+            alloc,
+            exponent: w,
+            monomials,
+        })
     }
 
     /// The exponent of the modulus, from 1 to 128.
@@ -188,9 +205,15 @@ impl Terms {
         Ok(replaced)
     }
 
-    // The same where the numbers of the terms that have the variable are known: `places` has them, rising.
+    /// The same where the numbers of the terms that have the variable are known: `places` has them, rising.
     #[tactic(auto, using(crate::specs::Laws::extends_itself, crate::proofs::Made::extends_grown))]
-    fn substitute_at(&mut self, p: &Poly, v: u32, q: &Poly, places: &[u64]) -> Result<Poly, Memory>
+    pub fn substitute_at(
+        &mut self,
+        p: &Poly,
+        v: u32,
+        q: &Poly,
+        places: &[u64],
+    ) -> Result<Poly, Memory>
         requires left { IsOf self.old p.now }
         requires right { IsOf self.old q.now }
         requires variable { 0 < v }

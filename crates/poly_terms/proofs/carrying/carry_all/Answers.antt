@@ -1,11 +1,23 @@
-use Rattle.std.proofs.Common.{◌+◌, ◌*◌, [], get_or, take, sym, subst}
+use Rattle.std.proofs.Common.{◌+◌, ◌*◌, [], ◌<◌, get_or, length, refl, take, sym, subst}
 use Rattle.std.proofs.lemmas.List.{take_all}
 use Rattle.graph_core.specs.Algebra.Polynomials.{product}
 use Rattle.poly_terms.specs.Entries.{Sum}
-use Rattle.poly_terms.specs.Laws.{grows_on}
+use Rattle.poly_terms.specs.Laws.{grows_itself, grows_on}
 use Rattle.poly_terms.specs.Monomials.{Adds, total_in}
-use Rattle.poly_terms.proofs.Adding.{adds_on, total-take}
+use Rattle.poly_terms.proofs.Adding.{adds_none, adds_on, all_at, total-take}
 use Rattle.poly_terms.proofs.carrying.carry_all.Goals as goal
+
+pub loop-term-init : goal.loop-term-init
+loop-term-init c =
+    let old = c.args.table.now in
+    record {
+      grows = grows_itself old;
+      adds = λ m. adds_none m old old [] _ (λ σ. total_in c.args.from.now σ (take 0 c.args.terms.now)) (grows_itself old) c.in_ok-out.ensures.items (λ σ. refl);
+    }
+
+pub carry_behind-requires : goal.carry_behind-requires
+carry_behind-requires c =
+    all_at (λ x. x.0 < length c.args.from.now) c.args.terms.now c.loop-term.term-index c.term-item.result c.loop-term-test.true c.term-item.is c.requires
 
 pub loop-term-preserved : goal.loop-term-preserved
 loop-term-preserved c =

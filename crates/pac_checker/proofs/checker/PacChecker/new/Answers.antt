@@ -16,16 +16,16 @@ last_is e a b max outputs f g h j = ap₂ (λ x y. x + y) (f ∙ g) (h ∙ j)
 
 pub add_axioms-requires : goal.add_axioms-requires
 add_axioms-requires c = record {
-  gates = c.new-live.ensures.gates ∙ c.gates.ensures.value;
+  gates = c.new-live.ensures.gates ∙ c.gates-gates.ensures.value;
   empty = c.new-live.ensures.empty;
-  modulus = table_modulus c.new-live.result.table c.new.result c.args.extended.now (c.outputs-outputs.result) c.new-live.ensures.table c.new.ensures (c.outputs-outputs.ensures.value ∙ ap (λ g. length g.outputs) c.graph.ensures);
+  modulus = table_modulus c.new-live.result.table c.in_ok-terms.terms c.args.extended.now (c.outputs-outputs.result) c.new-live.ensures.table c.in_ok-terms.ensures (c.outputs-outputs.ensures.value ∙ ap (λ g. length g.outputs) c.graph.ensures);
   columns = c.requires.columns;
 }
 
 pub returns-clause-modulus : goal.returns-clause-modulus
 returns-clause-modulus c =
     modulus_stays c.new-live.result.table c.add_axioms.new.live.table c.in_ok-add_axioms.ensures.table ∙
-    table_modulus c.new-live.result.table c.new.result c.args.extended.now (c.outputs-outputs.result) c.new-live.ensures.table c.new.ensures (c.outputs-outputs.ensures.value ∙ ap (λ g. length g.outputs) c.graph.ensures)
+    table_modulus c.new-live.result.table c.in_ok-terms.terms c.args.extended.now (c.outputs-outputs.result) c.new-live.ensures.table c.in_ok-terms.ensures (c.outputs-outputs.ensures.value ∙ ap (λ g. length g.outputs) c.graph.ensures)
 
 pub returns-clause-axioms : goal.returns-clause-axioms
 returns-clause-axioms c = record {
@@ -39,9 +39,9 @@ invariant_of-result c =
     let last : c.from.result + c.from-2.result ≡ (axioms e).last =
     last_is e c.from.result c.from-2.result c.max.result (c.outputs-outputs.result) c.from.ensures c.max.ensures.value c.from-2.ensures (c.outputs-outputs.ensures.value ∙ ap (λ g. length g.outputs) c.graph.ensures) in
     record {
-      same_gates = c.in_ok-add_axioms.ensures.gates ∙ c.new-live.ensures.gates ∙ c.gates.ensures.value;
+      same_gates = c.in_ok-add_axioms.ensures.gates ∙ c.new-live.ensures.gates ∙ c.gates-gates.ensures.value;
       same_modulus = returns-clause-modulus c;
       operands = c.requires.operands;
       fresh = λ id above. fresh_above c.add_axioms.new.live (axioms e).live (axioms e).last id c.in_ok-add_axioms.ensures.lines
-          (axioms_within e c.gates.ensures.extension) (subst (λ n. n < id) last above);
+          (axioms_within e c.gates-gates.ensures.extension) (subst (λ n. n < id) last above);
     }

@@ -1,0 +1,20 @@
+use Rattle.std.proofs.Common.{◌+◌, ◌∷◌, [], get_or, length, ap, ◌∙◌, length-append}
+use Rattle.poly_terms.proofs.Entering.{with_one_more}
+use Rattle.poly_terms.proofs.places.Places.reach.Goals as goal
+
+pub loop-preserved : goal.loop-preserved
+loop-preserved c =
+    let before = c.loop.self-inside.by_variable.items in
+    let is = c.in_ok-push.ensures.items in
+    record {
+      same = with_one_more _ before c.push.new.self.items c.new.result is c.new.ensures.items c.loop.invariant.same;
+      counter = ap length is ∙ length-append before (c.new.result ∷ []) ∙ ap (λ n. n + 1) c.loop.invariant.counter;
+    }
+
+pub returns-clause-same : goal.returns-clause-same
+returns-clause-same c u = c.loop.invariant.same u ∙ ap (λ ps. get_or ps u []) c.self.view_is
+
+pub returns-in_ok-push-clause-same : goal.returns-in_ok-push-clause-same
+returns-in_ok-push-clause-same c u =
+    with_one_more _ c.loop.self-inside.by_variable.items c.push.new.self.items c.new.result c.in_ok-push.ensures.items c.new.ensures.items c.loop.invariant.same u ∙
+    ap (λ ps. get_or ps u []) c.self.view_is
