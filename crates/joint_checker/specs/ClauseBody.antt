@@ -1,13 +1,16 @@
 -- What stands behind the header of a clause file: when it is lawful, and its first refusal.
-use Rattle.std.specs.Prelude.{◌≡◌, ℕ, List, [], IfSome, ⊤}
+use Rattle.std.specs.Prelude.{◌≡◌, ◌+◌, ◌<◌, ◌≤◌, ◌^◌, ℕ, List, [], IfSome, ⊤}
 use Rattle.std.specs.declared.option.Option.{Option}
 use Rattle.graph_core.specs.Graph.Extended.{Extended}
 use Rattle.graph_core.specs.Text.JudgedLines.{Behind}
 use Rattle.clause_core.specs.Clause.{Clause}
 use Rattle.clause_core.specs.ClauseLines.{AreGoalsShown, ClauseLine, IsGoalRefusal}
 use Rattle.clause_core.specs.GateClauses.{gate_clauses}
+use Rattle.drup_checker.specs.Checking.{Checking}
 use Rattle.drup_text.specs.ClauseTexts.{IsClauseLine}
+use Rattle.drup_text.specs.FileStates.{FileState}
 use Rattle.drup_text.specs.HeaderRefusal.{TooLong}
+use Rattle.miter_encoder.specs.ColumnGoals.{AreGoalsOf}
 use Rattle.mv_desk.specs.View.{Rose, View}
 use Rattle.mv_desk.specs.declared.slot.Slot.TheVariants as slot
 use Rattle.mv_text.specs.LineReading.{Lines}
@@ -15,7 +18,9 @@ use Rattle.joint_checker.specs.declared.checked.Checked.{Checked}
 use Rattle.joint_checker.specs.declared.checked.Checked.TheVariants as checked
 use Rattle.joint_checker.specs.declared.checked.Refusal.TheVariants as refusal
 use Rattle.joint_checker.specs.AlgebraLines.{IsLongIn}
+use Rattle.joint_checker.specs.ClauseLines.{ReadsNext}
 use Rattle.joint_checker.specs.ClauseRefusals.{IsClauseStep, IsRefusedLines}
+use Rattle.joint_checker.specs.Join.{HasTaken}
 use Rattle.joint_checker.specs.Outcome.{line_cause}
 
 -- the file ends there
@@ -44,3 +49,28 @@ IsRestFail number e lines left before now (checked.TooLong slot.Clauses) =
 IsRestFail number e lines left before now checked.ReadFault = Rose before.read_faults now.read_faults
 IsRestFail number e lines left before now checked.Memory = ⊤
 IsRestFail number e lines left before now _ = ⊥
+
+-- ---- from the first line on
+
+-- Of a body that a reader had before it the first line was read, or its end, and a checker has taken no line.
+pub record Begins (e : Extended) (k : Checking) (start : FileState) (body : Option (List ℕ)) (first : Option ClauseLine) (file : FileState) (left : Option (List ℕ)) : Type 0 where
+  pub taken : HasTaken e [] (gate_clauses e.gates) k
+  pub max : k.max ≡ e.max
+  pub goals : AreGoalsOf e k.goals
+  pub lengths : file.lines.lengths ≡ start.lines.lengths
+  pub limit : start.lines.lengths.file < 2 ^ 64
+  pub read : ReadsNext e.max start file body left first
+
+abbrev pub BeginsSomewhere : Extended → Checking → Option ClauseLine → FileState → Option (List ℕ) → Type 0
+BeginsSomewhere e k first file left = (start : FileState) × (body : Option (List ℕ)) × Begins e k start body first file left
+
+-- Wherever it begins, the lines are lawful and show each goal.
+abbrev pub IsShownFrom : Extended → Checking → Option ClauseLine → FileState → Option (List ℕ) → Type 0
+IsShownFrom e k first file left =
+    (start : FileState) (body : Option (List ℕ)) → Begins e k start body first file left → IfSome body (IsShownBody e start.lines)
+
+-- Wherever it begins, why that isn't so.
+abbrev pub IsFailFrom : Extended → Checking → Option ClauseLine → FileState → Option (List ℕ) → View → View → Checked → Type 0
+IsFailFrom e k first file left entry now answer =
+    (start : FileState) (body : Option (List ℕ)) → Begins e k start body first file left → (before : View) → before.read_faults ≤ entry.read_faults →
+    IsRestFail (start.number + 1) e start.lines body before now answer
