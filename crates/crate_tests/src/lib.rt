@@ -14,6 +14,8 @@ mod judging;
 #[cfg(test)]
 mod lines;
 #[cfg(test)]
+mod making;
+#[cfg(test)]
 mod polynomials;
 #[cfg(test)]
 mod refutations;
@@ -21,5 +23,3 @@ mod refutations;
 mod stages;
 #[cfg(test)]
 mod texts;
-#[cfg(test)]
-mod words;
