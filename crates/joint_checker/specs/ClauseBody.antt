@@ -53,7 +53,7 @@ IsRestFail number e lines left before now _ = ⊥
 -- ---- from the first line on
 
 -- Of a body that a reader had before it the first line was read, or its end, and a checker has taken no line.
-pub record Begins (e : Extended) (k : Checking) (start : FileState) (body : Option (List ℕ)) (first : Option ClauseLine) (file : FileState) (left : Option (List ℕ)) : Type 0 where
+pub record Begins (e : Extended) (k : Checking) (start file : FileState) (body left : Option (List ℕ)) (first : Option ClauseLine) : Type 0 where
   pub taken : HasTaken e [] (gate_clauses e.gates) k
   pub max : k.max ≡ e.max
   pub goals : AreGoalsOf e k.goals
@@ -62,15 +62,15 @@ pub record Begins (e : Extended) (k : Checking) (start : FileState) (body : Opti
   pub read : ReadsNext e.max start file body left first
 
 abbrev pub BeginsSomewhere : Extended → Checking → Option ClauseLine → FileState → Option (List ℕ) → Type 0
-BeginsSomewhere e k first file left = (start : FileState) × (body : Option (List ℕ)) × Begins e k start body first file left
+BeginsSomewhere e k first file left = (start : FileState) × (body : Option (List ℕ)) × Begins e k start file body left first
 
 -- Wherever it begins, the lines are lawful and show each goal.
 abbrev pub IsShownFrom : Extended → Checking → Option ClauseLine → FileState → Option (List ℕ) → Type 0
 IsShownFrom e k first file left =
-    (start : FileState) (body : Option (List ℕ)) → Begins e k start body first file left → IfSome body (IsShownBody e start.lines)
+    (start : FileState) (body : Option (List ℕ)) → Begins e k start file body left first → IfSome body (IsShownBody e start.lines)
 
 -- Wherever it begins, why that isn't so.
 abbrev pub IsFailFrom : Extended → Checking → Option ClauseLine → FileState → Option (List ℕ) → View → View → Checked → Type 0
 IsFailFrom e k first file left entry now answer =
-    (start : FileState) (body : Option (List ℕ)) → Begins e k start body first file left → (before : View) → before.read_faults ≤ entry.read_faults →
+    (start : FileState) (body : Option (List ℕ)) → Begins e k start file body left first → (before : View) → before.read_faults ≤ entry.read_faults →
     IsRestFail (start.number + 1) e start.lines body before now answer

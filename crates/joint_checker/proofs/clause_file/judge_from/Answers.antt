@@ -1,8 +1,10 @@
-use Rattle.std.proofs.Common.{◌+◌, ℕ, List, Option, sym, subst, ◌∙◌, arith}
+use Rattle.std.proofs.Common.{◌≡◌, ◌+◌, ℕ, List, Option, sym, subst, ◌∙◌, arith}
 use Rattle.std.proofs.Math.Nat.{le_trans}
 use Rattle.std.proofs.lemmas.Result.{IfErr-weaker, err_from_is_err_and, on_ok_weaker}
+use Rattle.graph_core.specs.Graph.Extended.{Extended}
 use Rattle.clause_core.specs.Clause.{IsClauseInRange}
 use Rattle.clause_core.specs.ClauseLines.{ClauseLine, clause_in}
+use Rattle.drup_checker.specs.Checking.{Checking}
 use Rattle.drup_text.specs.FileStates.{FileState}
 use Rattle.miter_encoder.specs.ColumnGoals.{AreGoalsOf}
 use Rattle.mv_desk.specs.declared.slot.Slot.TheVariants as slot
@@ -13,6 +15,12 @@ use Rattle.joint_checker.proofs.CheckerBegins.{range_of}
 use Rattle.joint_checker.proofs.ClauseReached.{IsReached}
 use Rattle.joint_checker.proofs.ClauseTurns.{all_joined, all_shown, going, goals_fail, next_reached, reached_first, rule_fails, takes_goals, takes_max, text_fails, too_many}
 use Rattle.joint_checker.proofs.clause_file.judge_from.Goals as goal
+
+-- the same of the next line, whatever that is
+reached_by : {e : Extended} {k₀ k : Checking} {turn : ℕ} {first next some : Option ClauseLine} {file₀ file : FileState} {left₀ left : Option (List ℕ)} → next ≡ some →
+    ((start : FileState) (body : Option (List ℕ)) → Begins e k₀ start file₀ body left₀ first → IsReached e start body k turn next file left) →
+    (start : FileState) (body : Option (List ℕ)) → Begins e k₀ start file₀ body left₀ first → IsReached e start body k turn some file left
+reached_by {e = e} {k = k} {turn = turn} {file = file} {left = left} is h start body b = subst (λ (n : Option ClauseLine). IsReached e start body k turn n file left) is (h start body b)
 
 pub loop-init : goal.loop-init
 loop-init g c =
@@ -31,25 +39,19 @@ loop-init g c =
 pub take_line-requires : goal.take_line-requires
 take_line-requires g c =
     let e = c.args.extended.now in
-    let first = g.D.Desk.seen c.args.desk.now in
-    let left = left_for c.loop.file (g.D.Desk.seen c.loop.desk) in
-    let k = c.loop.checker in
-    let r = λ (start : FileState) (body : Option (List ℕ)) (b : Begins e c.args.checker.now start body c.args.first c.args.file.now (left_for c.args.file.now first)).
-    subst (λ (next : Option ClauseLine). IsReached e start body k c.loop.counter next c.loop.file left) c.in-Some.is (c.loop.invariant.reached start body b) in
+    let r = reached_by c.in-Some.is c.loop.invariant.reached in
     let at = r c.requires.begins.0 c.requires.begins.1 c.requires.begins.2 in
     subst (λ (m : ℕ). IsClauseInRange m (clause_in c.in-Some.line)) (sym c.loop.invariant.max) (range_of e.max at.read.text c.in-Some.line at.read.same at.read.in_range)
 
 pub returns-in_err-take_line-in-Some-clause-refused : goal.returns-in_err-take_line-in-Some-clause-refused
 returns-in_err-take_line-in-Some-clause-refused g c =
     let e = c.args.extended.now in
-    let first = g.D.Desk.seen c.args.desk.now in
     let now = g.D.Desk.seen c.loop.desk in
     let left = left_for c.loop.file now in
     let k = c.loop.checker in
     let line = c.in-Some.line in
     let answer = c.in_err-take_line-in-Some.field-0.0 in
-    let r = λ (start : FileState) (body : Option (List ℕ)) (b : Begins e c.args.checker.now start body c.args.first c.args.file.now (left_for c.args.file.now first)).
-    subst (λ (next : Option ClauseLine). IsReached e start body k c.loop.counter next c.loop.file left) c.in-Some.is (c.loop.invariant.reached start body b) in
+    let r = reached_by c.in-Some.is c.loop.invariant.reached in
     let p = err_from_is_err_and c.from_residual.result c.from_residual.ensures.1 in
     rw (p.1, p.2)
     (λ start body b before later. rule_fails e start body k c.loop.counter line c.loop.file left (r start body b) before now answer
@@ -60,25 +62,21 @@ returns-in_err-take_line-in-Some-clause-refused g c =
 pub read_line-requires-clause-going : goal.read_line-requires-clause-going
 read_line-requires-clause-going g c =
     let e = c.args.extended.now in
-    let first = g.D.Desk.seen c.args.desk.now in
     let left = left_for c.loop.file (g.D.Desk.seen c.loop.desk) in
     let k = c.loop.checker in
-    let r = λ (start : FileState) (body : Option (List ℕ)) (b : Begins e c.args.checker.now start body c.args.first c.args.file.now (left_for c.args.file.now first)).
-    subst (λ (next : Option ClauseLine). IsReached e start body k c.loop.counter next c.loop.file left) c.in-Some.is (c.loop.invariant.reached start body b) in
+    let r = reached_by c.in-Some.is c.loop.invariant.reached in
     going e c.requires.begins.0 c.requires.begins.1 k c.loop.counter c.in-Some.line c.loop.file left (r c.requires.begins.0 c.requires.begins.1 c.requires.begins.2)
 
 pub returns-in_err-next-clause-refused : goal.returns-in_err-next-clause-refused
 returns-in_err-next-clause-refused g c =
     let e = c.args.extended.now in
-    let first = g.D.Desk.seen c.args.desk.now in
     let middle = g.D.Desk.seen c.loop.desk in
     let now = g.D.Desk.seen c.read_line.new.desk in
     let file = c.loop.file in
     let left = left_for file middle in
     let k = c.loop.checker in
     let answer = c.in_err-next.field-0.0 in
-    let r = λ (start : FileState) (body : Option (List ℕ)) (b : Begins e c.args.checker.now start body c.args.first c.args.file.now (left_for c.args.file.now first)).
-    subst (λ (next : Option ClauseLine). IsReached e start body k c.loop.counter next c.loop.file left) c.in-Some.is (c.loop.invariant.reached start body b) in
+    let r = reached_by c.in-Some.is c.loop.invariant.reached in
     let p = err_from_is_err_and c.from_residual-in_err-next.result c.from_residual-in_err-next.ensures.1 in
     rw (p.1, p.2)
     (λ start body b before later. text_fails e start body k c.loop.counter c.in-Some.line file left (r start body b) c.take_line.new.checker c.in_ok-take_line-in-Some.ensures.taken before middle now answer
@@ -99,8 +97,7 @@ loop-preserved g c =
     let line = c.in-Some.line in
     let k' = c.take_line.new.checker in
     let takes = c.in_ok-take_line-in-Some.ensures.taken in
-    let r = λ (start : FileState) (body : Option (List ℕ)) (b : Begins e c.args.checker.now start body c.args.first c.args.file.now (left_for c.args.file.now first)).
-    subst (λ (next : Option ClauseLine). IsReached e start body k c.loop.counter next c.loop.file left) c.in-Some.is (c.loop.invariant.reached start body b) in
+    let r = reached_by c.in-Some.is c.loop.invariant.reached in
     record {
       only = ReadsOnly-trans slot.Clauses first middle now c.loop.invariant.only c.in_ok-next.ensures.only;
       tells = KeepsTelling-trans first middle now c.loop.invariant.tells c.in_ok-next.ensures.tells;
@@ -115,21 +112,17 @@ loop-preserved g c =
 pub returns-in-None-clause-lawful : goal.returns-in-None-clause-lawful
 returns-in-None-clause-lawful g c =
     let e = c.args.extended.now in
-    let first = g.D.Desk.seen c.args.desk.now in
     let left = left_for c.loop.file (g.D.Desk.seen c.loop.desk) in
     let k = c.loop.checker in
-    let r = λ (start : FileState) (body : Option (List ℕ)) (b : Begins e c.args.checker.now start body c.args.first c.args.file.now (left_for c.args.file.now first)).
-    subst (λ (next : Option ClauseLine). IsReached e start body k c.loop.counter next c.loop.file left) c.in-None.is (c.loop.invariant.reached start body b) in
+    let r = reached_by c.in-None.is c.loop.invariant.reached in
     on_ok_weaker c.judge_goals.result (λ none start body b. all_shown e start body k c.loop.counter c.loop.file left (r start body b) c.loop.invariant.goals none) c.judge_goals.ensures.shown
 
 pub returns-in-None-clause-columns : goal.returns-in-None-clause-columns
 returns-in-None-clause-columns g c =
     let e = c.args.extended.now in
-    let first = g.D.Desk.seen c.args.desk.now in
     let left = left_for c.loop.file (g.D.Desk.seen c.loop.desk) in
     let k = c.loop.checker in
-    let r = λ (start : FileState) (body : Option (List ℕ)) (b : Begins e c.args.checker.now start body c.args.first c.args.file.now (left_for c.args.file.now first)).
-    subst (λ (next : Option ClauseLine). IsReached e start body k c.loop.counter next c.loop.file left) c.in-None.is (c.loop.invariant.reached start body b) in
+    let r = reached_by c.in-None.is c.loop.invariant.reached in
     let begins = c.requires.begins in
     on_ok_weaker c.judge_goals.result (λ none. all_joined e begins.0 begins.1 k c.loop.counter c.loop.file left (r begins.0 begins.1 begins.2) c.loop.invariant.goals none) c.judge_goals.ensures.shown
 
@@ -140,8 +133,7 @@ returns-in-None-clause-refused g c =
     let now = g.D.Desk.seen c.loop.desk in
     let left = left_for c.loop.file now in
     let k = c.loop.checker in
-    let r = λ (start : FileState) (body : Option (List ℕ)) (b : Begins e c.args.checker.now start body c.args.first c.args.file.now (left_for c.args.file.now first)).
-    subst (λ (next : Option ClauseLine). IsReached e start body k c.loop.counter next c.loop.file left) c.in-None.is (c.loop.invariant.reached start body b) in
+    let r = reached_by c.in-None.is c.loop.invariant.reached in
     IfErr-weaker c.judge_goals.result (IsGoalFail k) (IsFailFrom e c.args.checker.now c.args.first c.args.file.now (left_for c.args.file.now first) first now)
     (λ answer h start body b before later. goals_fail e start body k c.loop.counter c.loop.file left (r start body b) c.loop.invariant.goals before now answer h) c.judge_goals.ensures.refused
 

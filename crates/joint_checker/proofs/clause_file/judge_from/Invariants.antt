@@ -15,6 +15,6 @@ invariant-loop g l = record {
   tells : KeepsTelling (g.D.Desk.seen l.fn.desk) (g.D.Desk.seen l.desk);
   max : l.checker.max ≡ l.fn.extended.max;
   goals : AreGoalsOf l.fn.extended l.checker.goals;
-  reached : (start : FileState) (body : Option (List ℕ)) → Begins l.fn.extended l.fn.checker start body l.fn.first l.fn.file (left_for l.fn.file (g.D.Desk.seen l.fn.desk)) →
+  reached : (start : FileState) (body : Option (List ℕ)) → Begins l.fn.extended l.fn.checker start l.fn.file body (left_for l.fn.file (g.D.Desk.seen l.fn.desk)) l.fn.first →
       IsReached l.fn.extended start body l.checker l.counter l.next l.file (left_for l.file (g.D.Desk.seen l.desk));
 }
