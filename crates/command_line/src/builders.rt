@@ -1,131 +1,138 @@
 // The fixed command, built for `clap`.
 ghost use Rattle.std.specs.Prelude.{◌≡◌, false, IfOk};
-ghost use Rattle.clap.specs.Words.{app_of, with_rule, with_subcommand};
+ghost use Rattle.clap.specs.Words.{app_of, new_app, rule_of, with_rule, with_subcommand};
 ghost use Rattle.clap.specs.declared.builder.Command.TheViews.{out-Command};
-ghost use Rattle.command_line.specs.FixedCommand.{word, choice, needed, check_app, eval_app, judging, make_app, mulver, trial_app, verify_app, verify_files};
-ghost use Rattle.command_line.specs.Reading.{IsCommand};
+ghost use Rattle.command_line.specs.FixedCommand.{mulver};
+ghost use Rattle.command_line.specs.Reading.{IsCommand, rule_for, with_args, with_subcommands};
 
 use clap::{Arg, ArgAction, Command};
 use std::alloc::{AllocError, Global};
+
+// How an argument is given.
+#[derive(Clone, Copy)]
+enum Form {
+    // A required word in its place.
+    Word,
+    // An option of one text.
+    Choice,
+    // An option of one text that is required.
+    Needed,
+}
+
+// The subcommands, each with its arguments.
+const SUBCOMMANDS: [(&str, &[(Form, &str)]); 5] = [
+    (
+        "check",
+        &[
+            (Form::Word, "graph"),
+            (Form::Word, "clauses"),
+            (Form::Word, "algebra"),
+            (Form::Choice, "inputs"),
+        ],
+    ),
+    (
+        "verify",
+        &[
+            (Form::Word, "graph"),
+            (Form::Needed, "clauses"),
+            (Form::Needed, "algebra"),
+            (Form::Choice, "inputs"),
+            (Form::Choice, "budget"),
+            (Form::Choice, "conflicts"),
+        ],
+    ),
+    (
+        "eval",
+        &[
+            (Form::Word, "graph"),
+            (Form::Word, "a"),
+            (Form::Word, "b"),
+            (Form::Choice, "inputs"),
+        ],
+    ),
+    (
+        "make",
+        &[
+            (Form::Word, "kind"),
+            (Form::Word, "bits"),
+            (Form::Word, "adder"),
+            (Form::Word, "out"),
+        ],
+    ),
+    ("trial", &[(Form::Word, "number")]),
+];
 
 /// The whole command.
 pub fn mulver<'a>(alloc: Global) -> Result<Command<'a>, AllocError>
     ensures { IfOk result (IsCommand mulver) }
 {
-    let command = judging(alloc)?;
-    let command = with_subcommand(command, eval(alloc)?)?;
-    let command = with_subcommand(command, make(alloc)?)?;
-    with_subcommand(command, trial(alloc)?)
-}
-
-// The command with the subcommands that judge certificates or give a verdict.
-fn judging<'a>(alloc: Global) -> Result<Command<'a>, AllocError>
-    ensures { IfOk result (IsCommand judging) }
-{
     let command = Command::new(alloc, "mulver").subcommand_required(true);
-    let command = with_subcommand(command, check(alloc)?)?;
-    with_subcommand(command, verify(alloc)?)
+    with_subcommands(alloc, command, &SUBCOMMANDS)
 }
 
-fn check<'a>(alloc: Global) -> Result<Command<'a>, AllocError>
-    ensures { IfOk result (IsCommand check_app) }
-{
-    let command = Command::new(alloc, "check");
-    let command = with_word(alloc, command, "graph")?;
-    let command = with_word(alloc, command, "clauses")?;
-    let command = with_word(alloc, command, "algebra")?;
-    with_choice(alloc, command, "inputs")
-}
-
-fn verify<'a>(alloc: Global) -> Result<Command<'a>, AllocError>
-    ensures { IfOk result (IsCommand verify_app) }
-{
-    let command = verify_files(alloc)?;
-    let command = with_choice(alloc, command, "inputs")?;
-    let command = with_choice(alloc, command, "budget")?;
-    with_choice(alloc, command, "conflicts")
-}
-
-fn verify_files<'a>(alloc: Global) -> Result<Command<'a>, AllocError>
-    ensures { IfOk result (IsCommand verify_files) }
-{
-    let command = Command::new(alloc, "verify");
-    let command = with_word(alloc, command, "graph")?;
-    let command = with_needed(alloc, command, "clauses")?;
-    with_needed(alloc, command, "algebra")
-}
-
-fn eval<'a>(alloc: Global) -> Result<Command<'a>, AllocError>
-    ensures { IfOk result (IsCommand eval_app) }
-{
-    let command = Command::new(alloc, "eval");
-    let command = with_word(alloc, command, "graph")?;
-    let command = with_word(alloc, command, "a")?;
-    let command = with_word(alloc, command, "b")?;
-    with_choice(alloc, command, "inputs")
-}
-
-fn make<'a>(alloc: Global) -> Result<Command<'a>, AllocError>
-    ensures { IfOk result (IsCommand make_app) }
-{
-    let command = Command::new(alloc, "make");
-    let command = with_word(alloc, command, "kind")?;
-    let command = with_word(alloc, command, "bits")?;
-    let command = with_word(alloc, command, "adder")?;
-    with_word(alloc, command, "out")
-}
-
-fn trial<'a>(alloc: Global) -> Result<Command<'a>, AllocError>
-    ensures { IfOk result (IsCommand trial_app) }
-{
-    with_word(alloc, Command::new(alloc, "trial"), "number")
-}
-
-// A required word in its place.
-fn with_word<'a>(
+fn with_subcommands<'a>(
     alloc: Global,
     command: Command<'a>,
+    subcommands: &[(&'a str, &[(Form, &'a str)])],
+) -> Result<Command<'a>, AllocError>
+    requires { (out-Command command).has_globals ≡ false }
+    ensures { IfOk result (IsCommand (with_subcommands subcommands.now (app_of command.entry))) }
+{
+    let mut command = command;
+    for sub in subcommands {
+        command = with_subcommand(alloc, command, sub.0, sub.1)?;
+    }
+    Ok(command)
+}
+
+fn with_subcommand<'a>(
+    alloc: Global,
+    command: Command<'a>,
+    name: &'a str,
+    args: &[(Form, &'a str)],
+) -> Result<Command<'a>, AllocError>
+    requires { (out-Command command).has_globals ≡ false }
+    ensures { IfOk result (IsCommand
+        (with_subcommand (app_of command.entry) (with_args args.now (new_app name.entry.now)).top)) }
+{
+    command.subcommand(with_args(alloc, Command::new(alloc, name), args)?)
+}
+
+fn with_args<'a>(
+    alloc: Global,
+    command: Command<'a>,
+    args: &[(Form, &'a str)],
+) -> Result<Command<'a>, AllocError>
+    requires { (out-Command command).has_globals ≡ false }
+    ensures { IfOk result (IsCommand (with_args args.now (app_of command.entry))) }
+{
+    let mut command = command;
+    for arg in args {
+        command = with_arg(alloc, command, arg.0, arg.1)?;
+    }
+    Ok(command)
+}
+
+fn with_arg<'a>(
+    alloc: Global,
+    command: Command<'a>,
+    form: Form,
     id: &'a str,
 ) -> Result<Command<'a>, AllocError>
     requires { (out-Command command).has_globals ≡ false }
-    ensures { IfOk result (IsCommand (with_rule (app_of command.entry) (word id.entry.now))) }
+    ensures { IfOk result (IsCommand (with_rule (app_of command.entry) (rule_for form id.entry.now))) }
 {
-    command.arg(Arg::new(alloc, id).required(true).action(ArgAction::Set))
+    command.arg(arg(alloc, form, id))
 }
 
-// An option of one text that is required.
-fn with_needed<'a>(
-    alloc: Global,
-    command: Command<'a>,
-    id: &'a str,
-) -> Result<Command<'a>, AllocError>
-    requires { (out-Command command).has_globals ≡ false }
-    ensures { IfOk result (IsCommand (with_rule (app_of command.entry) (needed id.entry.now))) }
+fn arg<'a>(alloc: Global, form: Form, id: &'a str) -> Arg<'a>
+    ensures rule { rule_of result ≡ rule_for form id.entry.now }
+    ensures local { result.global ≡ false }
 {
-    command.arg(
-        Arg::new(alloc, id)
-            .long(id)
-            .required(true)
-            .action(ArgAction::Set),
-    )
-}
-
-// An option of one text.
-fn with_choice<'a>(
-    alloc: Global,
-    command: Command<'a>,
-    id: &'a str,
-) -> Result<Command<'a>, AllocError>
-    requires { (out-Command command).has_globals ≡ false }
-    ensures { IfOk result (IsCommand (with_rule (app_of command.entry) (choice id.entry.now))) }
-{
-    command.arg(Arg::new(alloc, id).long(id).action(ArgAction::Set))
-}
-
-fn with_subcommand<'a>(command: Command<'a>, sub: Command<'a>) -> Result<Command<'a>, AllocError>
-    requires command { (out-Command command).has_globals ≡ false }
-    requires sub { (out-Command sub).has_globals ≡ false }
-    ensures { IfOk result (IsCommand (with_subcommand (app_of command.entry) (app_of sub.entry).top)) }
-{
-    command.subcommand(sub)
+    let arg = Arg::new(alloc, id).action(ArgAction::Set);
+    match form {
+        Form::Word => arg.required(true),
+        Form::Choice => arg.long(id),
+        Form::Needed => arg.long(id).required(true),
+    }
 }
