@@ -8,8 +8,8 @@ use std::test::Fail;
 
 const ONE_BIT: &[u8] = b"aag 3 2 0 2 1\n2\n4\n6\n0\n6 4 2\n";
 
-const TWO_BIT: &[u8] =
-    b"aag 14 4 0 4 10\n2\n4\n6\n8\n10\n22\n28\n24\n10 6 2\n12 6 4\n14 8 2\n16 8 4\n18 14 12\n20 15 13\n22 21 19\n24 18 16\n26 19 17\n28 27 25\n";
+const TWO_BIT: &[u8] = b"aag 14 4 0 4 10\n2\n4\n6\n8\n10\n22\n28\n24\n\
+    10 6 2\n12 6 4\n14 8 2\n16 8 4\n18 14 12\n20 15 13\n22 21 19\n24 18 16\n26 19 17\n28 27 25\n";
 
 // Writes a graph to a new file.
 fn write_new<D: Desk>(desk: &mut D, graph: &Graph) -> Option<()> {
