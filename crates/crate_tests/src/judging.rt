@@ -115,16 +115,26 @@ const LENGTHS: [((&str, &str, &str), u64, u64, u64, Checked); 17] = [
     ),
 ];
 
+// Whether that is said.
+fn is_said(
+    alloc: Global,
+    texts: (&str, &str, &str),
+    limits: &Limits,
+    said: &Checked,
+) -> Result<bool, AllocError> {
+    Ok(said_of(alloc, texts, limits)? == *said)
+}
+
 #[test]
 fn lengths_are_met_at_their_places(rt: HostRuntime) -> Result<(), AllocError> {
-    for &(texts, graph, certificate, line, said) in &LENGTHS {
+    for (texts, graph, certificate, line, said) in &LENGTHS {
         let limits = Limits {
-            graph,
-            certificate,
-            line,
+            graph: *graph,
+            certificate: *certificate,
+            line: *line,
         };
         assert!(rt;
-            said_of(rt.alloc(), texts, &limits)? == said,
+            is_said(rt.alloc(), *texts, &limits, said)?,
             "{graph} {certificate} {line}"
         );
     }

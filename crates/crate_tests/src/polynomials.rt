@@ -26,24 +26,37 @@ fn three_and_two(alloc: Global, terms: &mut Terms) -> Result<Poly, Fail>
     Ok(poly)
 }
 
+// The values of p * p + p and of p + p * p + p at an assignment, where p is 3 + 2 * x2.
+fn sums(alloc: Global, terms: &mut Terms) -> Result<(u128, u128), Fail> {
+    let p = three_and_two(alloc, terms)?;
+    let both = terms.combine(&p, &p, &p)?;
+    let sum = terms.add(&p, &both)?;
+    let at = [false, true, true];
+    Ok((terms.value_at(&both, &at), terms.value_at(&sum, &at)))
+}
+
 #[test]
 fn adds_and_multiplies(rt: HostRuntime) -> Result<(), Fail> {
     let mut terms = Terms::new(rt.alloc(), 4);
-    let p = three_and_two(rt.alloc(), &mut terms)?;
-    let both = terms.combine(&p, &p, &p)?;
-    assert!(rt; terms.value_at(&both, &[false, true, true]) == 14);
-    let sum = terms.add(&p, &both)?;
-    assert!(rt; terms.value_at(&sum, &[false, true, true]) == 3);
+    assert!(rt; sums(rt.alloc(), &mut terms)? == (14, 3));
     Ok(())
+}
+
+// The values of p with itself in place of x2, and of p divided by x2, at an assignment.
+fn parts(alloc: Global, terms: &mut Terms) -> Result<(u128, u128), Fail> {
+    let p = three_and_two(alloc, terms)?;
+    let replaced = terms.substitute(&p, 2, &p)?;
+    let quotient = terms.quotient(&p, 2)?;
+    let at = [false, true, true];
+    Ok((
+        terms.value_at(&replaced, &at),
+        terms.value_at(&quotient, &at),
+    ))
 }
 
 #[test]
 fn replaces_and_divides(rt: HostRuntime) -> Result<(), Fail> {
     let mut terms = Terms::new(rt.alloc(), 4);
-    let p = three_and_two(rt.alloc(), &mut terms)?;
-    let replaced = terms.substitute(&p, 2, &p)?;
-    assert!(rt; terms.value_at(&replaced, &[false, true, true]) == 13);
-    let quotient = terms.quotient(&p, 2)?;
-    assert!(rt; terms.value_at(&quotient, &[false, true, true]) == 2);
+    assert!(rt; parts(rt.alloc(), &mut terms)? == (13, 2));
     Ok(())
 }
