@@ -45,7 +45,6 @@ impl PacReader {
     }
 
     // The parts of a combination.
-    #[tactic(auto, using(poly_terms::specs::Laws::extends_itself, poly_terms::specs::Laws::extends_on))]
     fn parts(
         &self,
         scanner: &mut Scanner<'_>,
@@ -65,7 +64,6 @@ impl PacReader {
     }
 
     // Parts with a plus before each, put behind other parts.
-    #[tactic(auto, using(poly_terms::specs::Laws::extends_itself, poly_terms::specs::Laws::extends_on))]
     fn later_parts(
         &self,
         scanner: &mut Scanner<'_>,

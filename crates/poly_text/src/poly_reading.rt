@@ -14,7 +14,6 @@ use poly_terms::{Poly, Terms, Variables};
 
 impl PacReader {
     // A polynomial.
-    #[tactic(auto, using(poly_terms::specs::Laws::extends_itself))]
     pub(crate) fn poly(
         &self,
         scanner: &mut Scanner<'_>,

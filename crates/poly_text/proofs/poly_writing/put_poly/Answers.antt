@@ -1,9 +1,18 @@
-use Rattle.std.proofs.Common.{◌+◌, ◌==◌, ◌∙◌, sym, subst, drop, map, get_or}
+use Rattle.std.proofs.Common.{◌+◌, ◌==◌, ◌∙◌, lit≤, sym, subst, drop, map, get_or}
 use Rattle.poly_terms.specs.Tables.{modulus, monomials_in}
 use Rattle.poly_text.specs.WrittenLines.{none, poly_text, signed, term_text, terms_text}
-use Rattle.mv_text.proofs.CallerLemmas.{PutsUpTo, Puts-is, up_to_none, up_to_more}
-use Rattle.poly_text.proofs.WrittenTerms.{next_term, no_term, some_terms}
+use Rattle.mv_text.proofs.CallerLemmas.{PutsUpTo, Puts-is, up_to_all, up_to_none, up_to_more}
+use Rattle.poly_text.proofs.WrittenTerms.{next_term, no_term, no_term_left, some_terms}
 use Rattle.poly_text.proofs.poly_writing.put_poly.Goals as goal
+
+pub put-requires-clause-open : goal.put-requires-clause-open
+put-requires-clause-open g c = c.requires.open
+
+pub put-requires-clause-fits : goal.put-requires-clause-fits
+put-requires-clause-fits g c = lit≤ tt
+
+pub returns-then-size-eq0-clause-open : goal.returns-then-size-eq0-clause-open
+returns-then-size-eq0-clause-open g c = c.put.ensures.open
 
 pub returns-then-size-eq0-clause-puts : goal.returns-then-size-eq0-clause-puts
 returns-then-size-eq0-clause-puts g c = Puts-is (sym (no_term c.args.terms.now c.args.poly.now (sym c.size-size.ensures.monomials ∙ c.if-size-eq0.true))) c.put.ensures.puts
@@ -18,6 +27,15 @@ loop-i-init g c =
       puts = subst (λ rest. PutsUpTo (poly_text t p) rest c.args.output.now c.args.output.now v v) (some_terms t p (λ e. c.if-size-eq0.false (c.size-size.ensures.monomials ∙ e))) (up_to_none (poly_text t p) c.args.output.now v);
     }
 
+pub put_term-requires-clause-open : goal.put_term-requires-clause-open
+put_term-requires-clause-open g c = c.loop-i.invariant.open
+
+pub put_term-requires-clause-of : goal.put_term-requires-clause-of
+put_term-requires-clause-of g c = c.requires.of
+
+pub put_term-requires-clause-place : goal.put_term-requires-clause-place
+put_term-requires-clause-place g c = rw (← c.size-size.ensures.monomials) c.loop-i-test.true
+
 pub loop-i-preserved : goal.loop-i-preserved
 loop-i-preserved g c =
     let i = c.loop-i.i in
@@ -28,3 +46,12 @@ loop-i-preserved g c =
       puts = up_to_more (term_text (i == 0) (signed (modulus t) (get_or ts i none))) (terms_text (i + 1 == 0) (map (signed (modulus t)) (drop (i + 1) ts)))
           (next_term (modulus t) ts i (rw (← c.size-size.ensures.monomials) c.loop-i-test.true)) c.loop-i.invariant.puts c.put_term.ensures.puts;
     }
+
+pub returns-clause-open : goal.returns-clause-open
+returns-clause-open g c = c.loop-i.invariant.open
+
+pub returns-clause-puts : goal.returns-clause-puts
+returns-clause-puts g c =
+    let t = c.args.terms.now in
+    let ts = monomials_in t c.args.poly.now in
+    up_to_all (no_term_left (modulus t) (c.loop-i.i == 0) ts c.loop-i.i (rw (← c.size-size.ensures.monomials) c.loop-i-test.false)) c.loop-i.invariant.puts
