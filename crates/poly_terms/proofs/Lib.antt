@@ -1,3 +1,4 @@
+pub mod Ends
 pub mod Residues
 pub mod Shifting
 pub mod Merging

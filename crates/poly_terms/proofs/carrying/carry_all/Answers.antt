@@ -5,6 +5,7 @@ use Rattle.poly_terms.specs.Entries.{Sum}
 use Rattle.poly_terms.specs.Laws.{grows_itself, grows_on}
 use Rattle.poly_terms.specs.Monomials.{Adds, total_in}
 use Rattle.poly_terms.proofs.Adding.{adds_none, adds_on, all_at, total-take}
+use Rattle.poly_terms.proofs.Ends.{not_given}
 use Rattle.poly_terms.proofs.carrying.carry_all.Goals as goal
 
 pub loop-term-init : goal.loop-term-init
@@ -40,3 +41,18 @@ pub returns-clause-adds : goal.returns-clause-adds
 returns-clause-adds c m =
     let P : Sum → Type 0 = λ es. Adds m c.args.table.now c.loop-term.table [] c.loop-term.out.items (λ σ. total_in c.args.from.now σ es) in
     subst P (take_all c.loop-term.term-index c.args.terms.now c.loop-term-test.false) (c.loop-term.invariant.adds m)
+
+pub returns-in_err-out-clause-grows : goal.returns-in_err-out-clause-grows
+returns-in_err-out-clause-grows c = grows_itself c.args.table.now
+
+pub returns-in_err-out-clause-adds : goal.returns-in_err-out-clause-adds
+returns-in_err-out-clause-adds c = not_given _ _ c.from_residual.result c.from_residual.ensures.1
+
+pub returns-in_err-carry_behind-clause-grows : goal.returns-in_err-carry_behind-clause-grows
+returns-in_err-carry_behind-clause-grows c = grows_on c.args.table.now c.loop-term.table c.carry_behind.new.table c.loop-term.invariant.grows c.carry_behind.ensures.grows
+
+pub returns-in_err-carry_behind-clause-adds : goal.returns-in_err-carry_behind-clause-adds
+returns-in_err-carry_behind-clause-adds c = not_given _ _ c.from_residual-in_err-carry_behind.result c.from_residual-in_err-carry_behind.ensures.1
+
+pub returns-clause-grows : goal.returns-clause-grows
+returns-clause-grows c = c.loop-term.invariant.grows

@@ -2,6 +2,7 @@ use Rattle.std.proofs.Common.{◌≡◌, ◌<◌, [], ◌∷◌, ◌++◌, get_o
 use Rattle.poly_terms.specs.Monomials.{has_variable}
 use Rattle.poly_terms.proofs.Indexing.{takes_one}
 use Rattle.poly_terms.proofs.Sparse.{some_within}
+use Rattle.poly_terms.proofs.Ends.{not_done}
 use Rattle.poly_terms.proofs.indexed.take_one.Goals as goal
 
 pub returns-in_ok-push-clause-taken : goal.returns-in_ok-push-clause-taken
@@ -15,3 +16,9 @@ returns-in_ok-push-clause-taken c =
     let has : has_variable v (get_or ms n []) ≡ true = ap (has_variable v) c.variables.ensures.value ∙ sym c.if-has_variable.ensures in
     takes_one ms v old c.put.new.self c.args.out.now.items c.push.new.self.items n c.at-coefficient.result c.at-coefficient.ensures (some_within old n some) (c.requires n some) has
     (c.in_ok-push.ensures.items ∙ ap (λ e. c.args.out.now.items ++ e ∷ []) c.new.ensures) c.put.ensures
+
+pub returns-in_err-push-clause-taken : goal.returns-in_err-push-clause-taken
+returns-in_err-push-clause-taken c = not_done _ _ c.from_residual.result c.from_residual.ensures.1
+
+pub returns-in_err-push-clause-gone : goal.returns-in_err-push-clause-gone
+returns-in_err-push-clause-gone c = not_done _ _ c.from_residual.result c.from_residual.ensures.1

@@ -1,9 +1,12 @@
-use Rattle.std.proofs.Common.{ℕ, ◌*◌, ◌^◌, ◌<◌, ◌+◌, [], get_or, length, take, refl, mul-zero}
+use Rattle.std.proofs.Common.{ℕ, ◌*◌, ◌^◌, ◌<◌, ◌+◌, [], get_or, length, take, refl, mul-zero, subst}
 use Rattle.graph_core.specs.Graph.Assignments.{Assignment}
 use Rattle.graph_core.specs.Algebra.Polynomials.{product}
-use Rattle.poly_terms.specs.Monomials.{total_in}
+use Rattle.poly_terms.specs.Monomials.{total_in, Adds}
 use Rattle.poly_terms.specs.Laws.{grows_itself, grows_on, in_grown}
 use Rattle.poly_terms.proofs.Adding.{adds_none, adds_on, all_at, one_more_product}
+use Rattle.poly_terms.proofs.Ends.{not_done}
+use Rattle.std.proofs.lemmas.List.{take_all}
+use Rattle.poly_terms.specs.Entries.{Sum}
 use Rattle.poly_terms.proofs.multiplication.multiply_behind.Goals as goal
 
 pub push_product-requires-clause-entry : goal.push_product-requires-clause-entry
@@ -40,3 +43,26 @@ loop-entry-preserved c =
           at.adds c.in_ok-push_product.ensures.adds
           (λ σ. one_more_product old mid (a σ) σ es i e at.grows c.requires.entries c.loop-entry-test.true c.entry-item.is);
     }
+
+pub returns-in_err-reserve-clause-grows : goal.returns-in_err-reserve-clause-grows
+returns-in_err-reserve-clause-grows c = grows_itself c.args.table.now
+
+pub returns-in_err-reserve-clause-adds : goal.returns-in_err-reserve-clause-adds
+returns-in_err-reserve-clause-adds c = not_done _ _ c.from_residual.result c.from_residual.ensures.1
+
+pub returns-in_err-push_product-clause-grows : goal.returns-in_err-push_product-clause-grows
+returns-in_err-push_product-clause-grows c = grows_on c.args.table.now c.loop-entry.table c.push_product.new.table c.loop-entry.invariant.grows c.push_product.ensures.grows
+
+pub returns-in_err-push_product-clause-adds : goal.returns-in_err-push_product-clause-adds
+returns-in_err-push_product-clause-adds c = not_done _ _ c.from_residual-in_err-push_product.result c.from_residual-in_err-push_product.ensures.1
+
+pub returns-clause-grows : goal.returns-clause-grows
+returns-clause-grows c = c.loop-entry.invariant.grows
+
+pub returns-clause-adds : goal.returns-clause-adds
+returns-clause-adds c =
+    let old = c.args.table.now in
+    let P : Sum → Sum → Type 0 =
+    λ os es. Adds (2 ^ c.args.exponent) old c.loop-entry.table os c.loop-entry.out.items (λ σ. c.args.coefficient * product σ c.args.monomial.now * total_in old σ es) in
+    subst (λ os. P os c.args.entries.now) c.reserve.ensures.items
+    (subst (P c.reserve.new.self.items) (take_all c.loop-entry.entry-index c.args.entries.now c.loop-entry-test.false) c.loop-entry.invariant.adds)

@@ -3,10 +3,11 @@ use Rattle.std.specs.Vec.Iter.{into_iter_items}
 use Rattle.graph_core.specs.Algebra.Polynomials.{product, sum_of}
 use Rattle.poly_terms.specs.Monomials.{Adds}
 use Rattle.poly_terms.specs.Tables.{said}
-use Rattle.poly_terms.specs.Laws.{grows_on}
+use Rattle.poly_terms.specs.Laws.{grows_on, grows_itself}
 use Rattle.poly_terms.proofs.Adding.{adds_on}
 use Rattle.poly_terms.proofs.Given.{sum_said-push}
 use Rattle.poly_terms.proofs.Merging.{nothing}
+use Rattle.poly_terms.proofs.Ends.{not_given}
 use Rattle.poly_terms.proofs.parts.entries_of.Goals as goal
 
 pub loop-coefficient-preserved : goal.loop-coefficient-preserved
@@ -34,3 +35,18 @@ returns-clause-adds c m =
     let empty : into_iter_items at.coefficient-iterator ≡ [] = nothing _ (sym at.invariant.len ∙ none.0) in
     let all = sym (append-nil at.yielded) ∙ rw empty at at.invariant.rest ∙ c.into_iter-coefficient-iterator.ensures.into_iter_gives.0 in
     subst (λ ps. Adds m c.args.table.now at.table [] at.out.items (λ σ. sum_of m (said ps) σ)) all (at.invariant.adds m)
+
+pub returns-in_err-out-clause-grows : goal.returns-in_err-out-clause-grows
+returns-in_err-out-clause-grows c = grows_itself c.args.table.now
+
+pub returns-in_err-out-clause-adds : goal.returns-in_err-out-clause-adds
+returns-in_err-out-clause-adds c = not_given _ _ c.from_residual.result c.from_residual.ensures.1
+
+pub returns-in_err-push_part-clause-grows : goal.returns-in_err-push_part-clause-grows
+returns-in_err-push_part-clause-grows c = grows_on c.args.table.now c.loop-coefficient.table c.push_part.new.table c.loop-coefficient.invariant.grows c.push_part.ensures.grows
+
+pub returns-in_err-push_part-clause-adds : goal.returns-in_err-push_part-clause-adds
+returns-in_err-push_part-clause-adds c = not_given _ _ c.from_residual-in_err-push_part.result c.from_residual-in_err-push_part.ensures.1
+
+pub returns-clause-grows : goal.returns-clause-grows
+returns-clause-grows c = c.loop-coefficient.invariant.grows

@@ -3,9 +3,10 @@ use Rattle.std.proofs.lemmas.List.{take_all}
 use Rattle.graph_core.specs.Algebra.Polynomials.{product, sum_of}
 use Rattle.poly_terms.specs.Monomials.{Adds, total_in}
 use Rattle.poly_terms.specs.Tables.{said}
-use Rattle.poly_terms.specs.Laws.{all_in_grown, grows_on}
+use Rattle.poly_terms.specs.Laws.{all_in_grown, grows_on, grows_itself}
 use Rattle.poly_terms.proofs.Adding.{adds_on}
 use Rattle.poly_terms.proofs.Given.{one_more_multiple}
+use Rattle.poly_terms.proofs.Ends.{not_given}
 use Rattle.poly_terms.proofs.parts.products_of.Goals as goal
 
 pub push_products-requires-clause-entries : goal.push_products-requires-clause-entries
@@ -37,3 +38,18 @@ returns-clause-adds c =
     let m = 2 ^ c.args.exponent in
     subst (λ ps. Adds m c.args.table.now c.loop-coefficient.table [] c.loop-coefficient.out.items (λ σ. total_in c.args.table.now σ c.args.entries.now * sum_of m (said ps) σ))
     (take_all c.loop-coefficient.coefficient-index c.args.parts.now (omega arith)) c.loop-coefficient.invariant.adds
+
+pub returns-in_err-out-clause-grows : goal.returns-in_err-out-clause-grows
+returns-in_err-out-clause-grows c = grows_itself c.args.table.now
+
+pub returns-in_err-out-clause-adds : goal.returns-in_err-out-clause-adds
+returns-in_err-out-clause-adds c = not_given _ _ c.from_residual.result c.from_residual.ensures.1
+
+pub returns-in_err-push_products-clause-grows : goal.returns-in_err-push_products-clause-grows
+returns-in_err-push_products-clause-grows c = grows_on c.args.table.now c.loop-coefficient.table c.push_products.new.table c.loop-coefficient.invariant.grows c.push_products.ensures.grows
+
+pub returns-in_err-push_products-clause-adds : goal.returns-in_err-push_products-clause-adds
+returns-in_err-push_products-clause-adds c = not_given _ _ c.from_residual-in_err-push_products.result c.from_residual-in_err-push_products.ensures.1
+
+pub returns-clause-grows : goal.returns-clause-grows
+returns-clause-grows c = c.loop-coefficient.invariant.grows

@@ -1,12 +1,13 @@
-use Rattle.std.proofs.Common.{ℕ, ◌≡◌, ◌<◌, ◌%◌, ◌*◌, ◌+◌, [], length, take, sym, ap, subst, ◌∙◌, true≢false}
+use Rattle.std.proofs.Common.{ℕ, ◌≡◌, ◌<◌, ◌%◌, ◌*◌, ◌+◌, [], length, take, sym, ap, subst, ◌∙◌, true≢false, refl}
 use Rattle.graph_core.specs.Graph.Assignments.{Assignment}
 use Rattle.graph_core.specs.Algebra.Polynomials.{product}
 use Rattle.poly_terms.specs.Monomials.{Adds, replaced, replaced_one, without}
 use Rattle.std.proofs.lemmas.List.{take_all}
 use Rattle.poly_terms.specs.Entries.{Sum}
-use Rattle.poly_terms.specs.Laws.{grows_on, stands_in_grown}
-use Rattle.poly_terms.proofs.Adding.{adds_on, adds_same, all_at}
+use Rattle.poly_terms.specs.Laws.{grows_on, stands_in_grown, grows_itself}
+use Rattle.poly_terms.proofs.Adding.{adds_on, adds_same, all_at, adds_none}
 use Rattle.poly_terms.proofs.Placing.{at_place, at_no_place, replaced_here, replaced_not}
+use Rattle.poly_terms.proofs.Ends.{not_given}
 use Rattle.poly_terms.proofs.quotient.quotients.Goals as goal
 use Rattle.poly_terms.proofs.quotient.quotients.Goals.{then-is_place+in_ok-divide_behind, else-is_place}
 
@@ -56,3 +57,27 @@ returns-clause-adds c m =
     let old = c.args.table.now in
     let P : Sum → Type 0 = λ es. Adds m old c.loop-entry.table [] c.loop-entry.out.items (λ σ. replaced old c.args.v σ 1 es) in
     subst P (take_all c.loop-entry.entry-index c.args.entries.now c.loop-entry-test.false) (c.loop-entry.invariant.adds m)
+
+pub returns-in_err-out-clause-grows : goal.returns-in_err-out-clause-grows
+returns-in_err-out-clause-grows c = grows_itself c.args.table.now
+
+pub returns-in_err-out-clause-adds : goal.returns-in_err-out-clause-adds
+returns-in_err-out-clause-adds c = not_given _ _ c.from_residual.result c.from_residual.ensures.1
+
+pub loop-entry-init : goal.loop-entry-init
+loop-entry-init c =
+    let old = c.args.table.now in
+    record {
+      grows = grows_itself old;
+      adds = λ m. adds_none m old old [] _ (λ σ. replaced old c.args.v σ 1 (take 0 c.args.entries.now)) (grows_itself old) c.in_ok-out.ensures.items (λ σ. refl);
+      left = c.requires.places;
+    }
+
+pub returns-in_err-divide_behind-clause-grows : goal.returns-in_err-divide_behind-clause-grows
+returns-in_err-divide_behind-clause-grows c = grows_on c.args.table.now c.loop-entry.table c.divide_behind.new.table c.loop-entry.invariant.grows c.divide_behind.ensures.grows
+
+pub returns-in_err-divide_behind-clause-adds : goal.returns-in_err-divide_behind-clause-adds
+returns-in_err-divide_behind-clause-adds c = not_given _ _ c.from_residual-in_err-divide_behind.result c.from_residual-in_err-divide_behind.ensures.1
+
+pub returns-clause-grows : goal.returns-clause-grows
+returns-clause-grows c = c.loop-entry.invariant.grows

@@ -1,6 +1,8 @@
 use Rattle.std.proofs.Common.{◌≡◌, ◌++◌, ◌∷◌, [], get_or, sym, ap, ap₂, ◌∙◌}
-use Rattle.poly_terms.specs.Monomials.{has_in, has_variable}
+use Rattle.poly_terms.specs.Monomials.{has_in, has_variable, places_of}
 use Rattle.poly_terms.proofs.Placing.{places_here, places_not}
+use Rattle.poly_terms.proofs.Ends.{not_given}
+use Rattle.std.proofs.lemmas.List.{take_all}
 use Rattle.poly_terms.proofs.substitution.places_of.Goals as goal
 use Rattle.poly_terms.proofs.substitution.places_of.Goals.{then-has_variable+in_ok-push, else-has_variable}
 
@@ -20,3 +22,9 @@ loop-entry-preserved c =
       | else-has_variable w ↦
           ap (λ o. o.items) w.places-is ∙ c.loop-entry.invariant ∙ sym (places_not t v es i e c.loop-entry-test.true c.entry-item.is (has ∙ w.if-has_variable.false))
     ]
+
+pub returns-in_err-push : goal.returns-in_err-push
+returns-in_err-push c = not_given _ _ c.from_residual.result c.from_residual.ensures.1
+
+pub returns : goal.returns
+returns c = c.loop-entry.invariant ∙ ap (places_of c.args.table.now c.args.v) (take_all c.loop-entry.entry-index c.args.entries.now c.loop-entry-test.false)

@@ -2,10 +2,11 @@ use Rattle.std.proofs.Common.{ℕ, ◌+◌, ◌<◌, ◌^◌, [], length, refl, 
 use Rattle.std.proofs.lemmas.List.{take_all}
 use Rattle.graph_core.specs.Graph.Assignments.{Assignment}
 use Rattle.poly_terms.specs.Entries.{Sum}
-use Rattle.poly_terms.specs.Laws.{all_in_grown, grows_itself, in_grown}
+use Rattle.poly_terms.specs.Laws.{all_in_grown, grows_itself, in_grown, grows_on}
 use Rattle.poly_terms.specs.Monomials.{Adds, replaced, total_in}
 use Rattle.poly_terms.proofs.Adding.{adds_none, all_at}
 use Rattle.poly_terms.proofs.Placing.{IsReplaced, replaced_at, replaced_past}
+use Rattle.poly_terms.proofs.Ends.{not_given}
 use Rattle.poly_terms.proofs.substitution.replacements.Goals as goal
 use Rattle.poly_terms.proofs.substitution.replacements.Goals.{then-is_place+in_ok-replace_behind, else-is_place}
 
@@ -61,3 +62,12 @@ returns-clause-adds c =
     let old = c.args.table.now in
     let P : Sum → Type 0 = λ es. Adds (2 ^ c.args.exponent) old c.loop-entry.table [] c.loop-entry.out.items (λ σ. replaced old c.args.v σ (total_in old σ c.args.by.now) es) in
     subst P (take_all c.loop-entry.entry-index c.args.entries.now c.loop-entry-test.false) c.loop-entry.invariant.adds
+
+pub returns-in_err-replace_behind-clause-grows : goal.returns-in_err-replace_behind-clause-grows
+returns-in_err-replace_behind-clause-grows c = grows_on c.args.table.now c.loop-entry.table c.replace_behind.new.table c.loop-entry.invariant.grows c.replace_behind.ensures.grows
+
+pub returns-in_err-replace_behind-clause-adds : goal.returns-in_err-replace_behind-clause-adds
+returns-in_err-replace_behind-clause-adds c = not_given _ _ c.from_residual.result c.from_residual.ensures.1
+
+pub returns-clause-grows : goal.returns-clause-grows
+returns-clause-grows c = c.loop-entry.invariant.grows

@@ -2,6 +2,7 @@ use Rattle.std.proofs.Common.{◌≡◌, [], sym, subst}
 use Rattle.poly_terms.specs.Indexed.{terms_from}
 use Rattle.poly_terms.specs.PolySums.{AreListed}
 use Rattle.poly_terms.proofs.PolySums.{nothing_left, taken-of, taken-value}
+use Rattle.poly_terms.proofs.Ends.{not_done, not_given}
 use Rattle.poly_terms.proofs.poly_sum.PolySum.take.Goals as goal
 
 none_left : (c : goal.After-of) → terms_from 0 c.take_out.new.coefficients ≡ []
@@ -21,3 +22,21 @@ pub returns-clause-value : goal.returns-clause-value
 returns-clause-value c =
     taken-value c.args.terms.now c.exponent.result c.self.inside.coefficients c.take_out.new.coefficients c.args.self.now c.in_ok-raw.raw.items c.in_ok-entries.entries.items c.of.result
     c.self.view_is c.exponent.ensures.exponent c.requires c.in_ok-raw.ensures.taken (none_left c) c.in_ok-entries.ensures c.of.ensures
+
+pub returns-in_err-raw-clause-none : goal.returns-in_err-raw-clause-none
+returns-in_err-raw-clause-none c = not_done _ _ c.from_residual.result c.from_residual.ensures.1
+
+pub returns-in_err-raw-clause-of : goal.returns-in_err-raw-clause-of
+returns-in_err-raw-clause-of c = not_given _ _ c.from_residual.result c.from_residual.ensures.1
+
+pub returns-in_err-raw-clause-value : goal.returns-in_err-raw-clause-value
+returns-in_err-raw-clause-value c = not_given _ _ c.from_residual.result c.from_residual.ensures.1
+
+pub returns-in_err-entries-clause-none : goal.returns-in_err-entries-clause-none
+returns-in_err-entries-clause-none c = not_done _ _ c.from_residual-in_err-entries.result c.from_residual-in_err-entries.ensures.1
+
+pub returns-in_err-entries-clause-of : goal.returns-in_err-entries-clause-of
+returns-in_err-entries-clause-of c = not_given _ _ c.from_residual-in_err-entries.result c.from_residual-in_err-entries.ensures.1
+
+pub returns-in_err-entries-clause-value : goal.returns-in_err-entries-clause-value
+returns-in_err-entries-clause-value c = not_given _ _ c.from_residual-in_err-entries.result c.from_residual-in_err-entries.ensures.1
