@@ -2,10 +2,10 @@
 use Rattle.std.proofs.Common.{◌≡◌, ◌≢◌, ◌≤◌, ℕ, List, [], ◌++◌, None, Some, Option, refl, sym, ap, ◌∙◌, append_assoc, append-nil, ◌+◌, ◌-◌, suc, zero, add-zero, add-suc, length, take, drop, take-append-drop, take_all, length-drop, subst, arith}
 use Rattle.std.specs.Io.{StartsWith}
 use Rattle.std.specs.Io.KnownBytes.{Keeps}
-use Rattle.std.specs.Prelude.{IfSome, Result, Ok, Err, option_map, unwrap_or}
+use Rattle.std.specs.Prelude.{IfSome, OnOk, Result, Ok, Err, option_map, unwrap_or}
 use Rattle.std.proofs.KnownBytes.{Appends-nil, Appends-trans, starts_with_rest}
 use Rattle.std.proofs.Transfers.{starts_with_of_append}
-use Rattle.mv_desk.specs.Calls.{AreApart, BytesGrow, Creates, HasReadCause, HasWriteCause, HeldGrows, Inspects, Opens, OtherStays, ReadsOnly, WritesPart, WritesTo}
+use Rattle.mv_desk.specs.Calls.{AreApart, BytesGrow, Creates, HasReadCause, HasWriteCause, HeldGrows, Inspects, Opens, OtherStays, Reads, ReadsOnly, WritesPart, WritesTo}
 use Rattle.mv_desk.specs.View.{HasReport, IsSame, KeepsTelling, ModeStays, OpensFiles, SlotStays, View, bytes_under, raised, raised_by}
 use Rattle.mv_desk.specs.HonestDesk.{view_of}
 use Rattle.mv_desk.specs.declared.memory.honest_desk.HonestDesk.{HonestDesk}
@@ -325,6 +325,15 @@ WritesPart-behind slot bytes more a b c p q = record {
 -- bytes are those up to a place, and those from it on
 pub split_at : (bytes : List ℕ) (count most : ℕ) → length bytes - count ≤ most → bytes ≡ take count bytes ++ take most (drop count bytes)
 split_at bytes count most enough = rw (take_all most (drop count bytes) (rw (length-drop count bytes) enough)) (sym (take-append-drop count bytes))
+
+-- a read behind others
+pub reads_on : {T E : Type 0} (slot : Slot) (a b c : View) → ReadsOnly slot a b → KeepsTelling a b → ReadsOnly slot b c → KeepsTelling b c → (result : Result T E)
+    → OnOk result (c.read_faults ≡ a.read_faults) → Reads slot a c result
+reads_on slot a b c first told second tells result stands = record {
+  only = ReadsOnly-trans slot a b c first second;
+  stands = stands;
+  tells = KeepsTelling-trans a b c told tells;
+}
 
 -- ---- honest desks
 
