@@ -1,10 +1,11 @@
 -- The steps of a walk over gates keep what is known of it.
-use Rattle.std.specs.Prelude.{◌≡◌, ◌≢◌, ℕ, zero, suc, ◌+◌, ◌-◌, ◌<◌, ◌≤◌, List, [], ◌∷◌, ◌++◌, map, take, length, slice_get, Some, slice_index_or, slice_set, get_or, Bool, true, false, cond, ◌==◌}
-use Rattle.std.specs.List.{All, AllPairs, Contains}
+use Rattle.std.specs.Prelude.{◌≡◌, ◌≢◌, ℕ, zero, suc, ◌+◌, ◌-◌, ◌<◌, ◌≤◌, List, [], ◌∷◌, ◌++◌, map, take, length, slice_get, Some, None, slice_index_or, slice_set, get_or, Bool, true, false, cond, ◌==◌}
+use Rattle.std.specs.List.{All, AllPairs, Contains, sum_by}
 use Rattle.std.proofs.Common.{refl, sym, ap, ap₂, subst, ◌∙◌, arith, inl, inr, ⊎_elim, length-set, length-append, get_or-set_same, get_or-set_other, eq-eqb, eqb-true}
 use Rattle.std.proofs.lemmas.Bool.{cases_eq}
-use Rattle.std.proofs.lemmas.List.{length-map, map_push, get_or-map, get_or_append_left, get_or_push, get_or_read, take-append-le, take_at, take_all, take_more, get_or_past}
-use Rattle.std.proofs.lemmas.Option.{slice_get_within, get_or_from_slice_get}
+use Rattle.std.proofs.lemmas.List.{length-map, map_push, get_or-map, get_or_append_left, get_or_push, get_or_read, get_or-take, length-take, take-append-le, take_at, take_all, take_more, get_or_past}
+use Rattle.std.proofs.lemmas.Option.{slice_get_within, slice_get-get_or, get_or_from_slice_get}
+use Rattle.std.proofs.lemmas.List.Sums.{sum_by-set}
 use Rattle.std.proofs.lemmas.List.Elements.{All-nil, All-contains, All-push, Contains-get_or, Contains-push, Contains-push_cases, Contains-append_left}
 use Rattle.std.proofs.lemmas.List.Quantifiers.{all_pairs_push}
 use Rattle.graph_core.specs.declared.gate.Gate.{Gate}
@@ -316,6 +317,18 @@ is_last path x h =
       on = (length path - 1, below, get_or_from_slice_get path (length path - 1) x x h);
     }
 
+-- the same of a walk's path that a reference leads to
+pub last_read : (inside w : Visits) (path : List Gate) (x : Gate) → path ≡ inside.path → inside ≡ w → slice_get path (length path - 1) ≡ Some x → IsLast w.path x
+last_read inside w path x own same read = is_last w.path x (subst (λ p. slice_get p (length p - 1) ≡ Some x) (own ∙ ap (λ v. v.path) same) read)
+
+-- a path without a last gate is empty
+no_last : (path : List Gate) → slice_get path (length path - 1) ≡ None → path ≡ []
+no_last [] h = refl
+no_last (x ∷ xs) h = let some = slice_get-get_or (x ∷ xs) (length (x ∷ xs) - 1) x (omega arith) in cc
+
+pub none_read : (inside w : Visits) (path : List Gate) → path ≡ inside.path → inside ≡ w → slice_get path (length path - 1) ≡ None → w.path ≡ []
+none_read inside w path own same read = subst (λ p. p ≡ []) (own ∙ ap (λ v. v.path) same) (no_last path read)
+
 -- the path has the gate that it began with
 abbrev pub SameStart : Visits → Visits → Type 0
 SameStart old new = (d : Gate) → 0 < length new.path → slice_index_or new.path 0 d ≡ slice_index_or old.path 0 d
@@ -330,9 +343,46 @@ goes_on_by_entering old w new x is some on e = subst (GoesOn old) (sym e) (recor
 pub start_by_entering : (old w new : Visits) (x : Gate) → 0 < length w.path → SameStart old w → new ≡ entered w x → SameStart old new
 start_by_entering old w new x some start e = subst (SameStart old) (sym e) (λ d more. get_or_append_left w.path (x ∷ []) d 0 some ∙ start d some)
 
+-- a step brings a mark closer to done
+marks_fall : (f : Mark → ℕ) (marks : List Mark) (v : ℕ) (m : Mark) → v < length marks → f m < f (slice_index_or marks v Done) → sum_by f (slice_set marks v m) < sum_by f marks
+marks_fall f marks v m low less = let sums = sum_by-set f marks v m Done low in omega arith
+
+pub falls_by_entering : (f : Mark → ℕ) (w new : Visits) (x : Gate) → AreVisits w → Contains w.gates x → mark_of w x.v ≡ New → new ≡ entered w x → f Open < f New → sum_by f new.marks < sum_by f w.marks
+falls_by_entering f w new x is some fresh e low = subst (λ v. sum_by f v.marks < sum_by f w.marks) (sym e) (marks_fall f w.marks x.v Open (own_fits w is x some) (subst (λ m. f Open < f m) (sym fresh) low))
+
+-- the last gate of the path leaves it
+module _ (old w new : Visits) (x : Gate) (is : AreVisits w) (on : Contains w.path x) (e : new ≡ left w (take (length w.path - 1) w.path) x) where
+  here_open : mark_of w x.v ≡ Open
+  here_open = All-contains (λ y. mark_of w y.v ≡ Open) w.path x is.«open» on
+
+  here_some : Contains w.gates x
+  here_some = All-contains (Contains w.gates) w.path x is.on_path on
+
+  pub goes_on_by_leaving : GoesOn old w → GoesOn old new
+  goes_on_by_leaving on = subst (GoesOn old) (sym e) (record {
+    gates = on.gates;
+    size = length-set w.marks x.v Done ∙ on.size;
+    reached = λ v n. ⊎_elim (λ same. λ fresh. new_done fresh (marked_here w is x here_some Done v same)) (λ other. λ fresh. on.reached v n (sym (marked_other w is x here_some Done v other) ∙ fresh)) (cases_eq v x.v);
+  })
+
+  pub start_by_leaving : SameStart old w → SameStart old new
+  start_by_leaving start = subst (SameStart old) (sym e) (λ d more. let size = length-take (length w.path - 1) w.path in get_or-take (length w.path - 1) w.path 0 d (omega arith) ∙ start d (omega arith))
+
+  pub falls_by_leaving : (f : Mark → ℕ) → f Done < f Open → sum_by f new.marks < sum_by f w.marks
+  falls_by_leaving f low = subst (λ v. sum_by f v.marks < sum_by f w.marks) (sym e) (marks_fall f w.marks x.v Done (own_fits w is x here_some) (subst (λ m. f Done < f m) (sym here_open) low))
+
 -- what is read of a mark
 pub mark_read : (marks : List Mark) (v : ℕ) (m : Mark) → v < length marks → m ≡ get_or marks v m → slice_index_or marks v Done ≡ m
 mark_read marks v m low read = sym (get_or_read marks v m low read Done)
+
+-- a mark that is read and is none of the others
+pub still_new : (inside w : Visits) (v : ℕ) (m : Mark) → inside ≡ w → v < length w.marks → m ≡ get_or inside.marks v m → m ≢ Open → mark_of w v ≢ Done → mark_of w v ≡ New
+still_new inside w v m same low read shut undone = go (mark_of w v) refl
+  where
+    go : (n : Mark) → mark_of w v ≡ n → mark_of w v ≡ New
+    go New e = e
+    go Open e = absurd (shut (sym (mark_read w.marks v m low (subst (λ u. m ≡ get_or u.marks v m) same read)) ∙ e))
+    go Done e = absurd (undone e)
 
 pub reads_in_range : (n : ℕ) (x : Gate) (v : ℕ) → FitsPlaces n x → Reads x v → v < n
 reads_in_range n x v fits (inl e) = let l = fits.left in omega arith
@@ -349,3 +399,7 @@ pub first_entered : (w new : Visits) (x : Gate) (v : ℕ) → w.path ≡ [] → 
 first_entered w new x v empty own e level =
     let path : new.path ≡ x ∷ [] = ap (λ y. y.path) e ∙ ap (λ p. p ++ x ∷ []) empty in
     subst (λ p. HasLevel new.gates (slice_index_or p 0 x).v) (sym path) (subst (λ gs. HasLevel gs x.v) (sym (ap (λ y. y.gates) e)) (subst (HasLevel w.gates) (sym own) level))
+
+-- what was put on a path is reached
+pub entered_reached : (w new : Visits) (x : Gate) (v : ℕ) → AreVisits w → Contains w.gates x → x.v ≡ v → new ≡ entered w x → mark_of new v ≢ New
+entered_reached w new x v is some own e fresh = new_open (subst (λ u. mark_of u v ≡ New) e fresh) (marked_here w is x some Open v (sym own))
