@@ -79,7 +79,7 @@ less_then a b c p q n = ⊎_elim (λ same. ⊎_elim (λ e. inl (same ∙ e)) (λ
 pub zero_still : (a b : List ℕ) (n : ℕ) → IsLess a b → get_or a n 0 ≡ 0 → get_or b n 0 ≡ 0
 zero_still a b n p none = ⊎_elim (λ same. same ∙ none) (λ zero. zero) (p n)
 
-some_before : (a b : List ℕ) (n : ℕ) → IsLess a b → 0 < get_or b n 0 → 0 < get_or a n 0
+pub some_before : (a b : List ℕ) (n : ℕ) → IsLess a b → 0 < get_or b n 0 → 0 < get_or a n 0
 some_before a b n p some = ⊎_elim (λ same. omega (arith, same)) (λ none. absurd (omega (arith, none))) (p n)
 
 pub taken_none : (cs : List ℕ) (es : Sum) → AreTaken cs cs es es
@@ -135,17 +135,18 @@ module _ (t : Table) (w : ℕ) (cs new : List ℕ) (x p p' : Sum) (view : terms_
   pub added-value : (σ : Assignment) → value_in t (terms_from 0 new) σ ≡ (value_in t x σ + value_in t p σ) % modulus t
   added-value σ = sum-value t x p (terms_from 0 new) σ (λ f. added_here.sums f ∙ ap₂ (λ y q. (total f y + total f q) % modulus t) view is)
 
+-- What is listed and 0 where it is listed is 0.
+pub all_gone : (cs new numbers : List ℕ) → AreListed cs numbers → IsLess cs new → ((k : ℕ) → k < length numbers → get_or new (get_or numbers k 0) 0 ≡ 0) → (n : ℕ) → 0 < get_or new n 0 → ⊥
+all_gone cs new numbers listed less gone n some =
+    let (k, low, at) = listed n (some_before cs new n less some) in
+    let there : get_or numbers k 0 ≡ n = any_default numbers k 0 n low ∙ at in
+    let zero' : get_or new n 0 ≡ 0 = subst (λ j. get_or new j 0 ≡ 0) there (gone k low) in
+    absurd (omega (arith, zero'))
+
 -- all was taken
 pub nothing_left : (cs new numbers : List ℕ) → AreListed cs numbers → IsLess cs new → ((k : ℕ) → k < length numbers → get_or new (get_or numbers k 0) 0 ≡ 0) → terms_from 0 new ≡ []
-nothing_left cs new numbers listed less gone = none (terms_from 0 new) (all_terms (λ e. ⊥) new (λ n some. never n some))
+nothing_left cs new numbers listed less gone = none (terms_from 0 new) (all_terms (λ e. ⊥) new (all_gone cs new numbers listed less gone))
   where
-    never : (n : ℕ) → 0 < get_or new n 0 → ⊥
-    never n some =
-        let (k, low, at) = listed n (some_before cs new n less some) in
-        let there : get_or numbers k 0 ≡ n = any_default numbers k 0 n low ∙ at in
-        let zero' : get_or new n 0 ≡ 0 = subst (λ j. get_or new j 0 ≡ 0) there (gone k low) in
-        absurd (omega (arith, zero'))
-
     none : (es : Sum) → AllByRecursion (λ e. ⊥) es → es ≡ []
     none [] h = refl
     none (e ∷ es) h = absurd h.0

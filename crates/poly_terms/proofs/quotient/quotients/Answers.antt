@@ -1,8 +1,9 @@
-use Rattle.std.proofs.Common.{ℕ, ◌≡◌, ◌<◌, ◌%◌, ◌*◌, ◌+◌, [], length, take, sym, ap, subst, ◌∙◌, true≢false, refl}
+use Rattle.std.proofs.Common.{ℕ, ◌≡◌, ◌<◌, ◌%◌, ◌*◌, ◌+◌, [], length, take, sym, ap, subst, ◌∙◌, true≢false, refl, arith}
 use Rattle.graph_core.specs.Graph.Assignments.{Assignment}
 use Rattle.graph_core.specs.Algebra.Polynomials.{product}
 use Rattle.poly_terms.specs.Monomials.{Adds, replaced, replaced_one, without}
 use Rattle.std.proofs.lemmas.List.{take_all}
+use Rattle.std.proofs.lemmas.Option.{slice_get_within}
 use Rattle.poly_terms.specs.Entries.{Sum}
 use Rattle.poly_terms.specs.Laws.{grows_on, stands_in_grown, grows_itself}
 use Rattle.poly_terms.proofs.Adding.{adds_on, adds_same, all_at, adds_none}
@@ -81,3 +82,8 @@ returns-in_err-divide_behind-clause-adds c = not_given _ _ c.from_residual-in_er
 
 pub returns-clause-grows : goal.returns-clause-grows
 returns-clause-grows c = c.loop-entry.invariant.grows
+
+pub overflow_add-j : goal.overflow_add-j
+overflow_add-j c =
+    let low : c.loop-entry.j < length c.args.places.now = slice_get_within c.args.places.now c.loop-entry.j c.entry-item.result.0 (c.is_place.ensures.0 c.if-is_place.true) in
+    omega (arith, low)

@@ -1,5 +1,6 @@
-use Rattle.std.proofs.Common.{ℕ, ◌+◌, ◌<◌, ◌^◌, [], length, refl, take, sym, ap, subst, ◌∙◌, true≢false}
+use Rattle.std.proofs.Common.{ℕ, ◌+◌, ◌<◌, ◌^◌, [], length, refl, take, sym, ap, subst, ◌∙◌, true≢false, arith}
 use Rattle.std.proofs.lemmas.List.{take_all}
+use Rattle.std.proofs.lemmas.Option.{slice_get_within}
 use Rattle.graph_core.specs.Graph.Assignments.{Assignment}
 use Rattle.poly_terms.specs.Entries.{Sum}
 use Rattle.poly_terms.specs.Laws.{all_in_grown, grows_itself, in_grown, grows_on}
@@ -71,3 +72,8 @@ returns-in_err-replace_behind-clause-adds c = not_given _ _ c.from_residual.resu
 
 pub returns-clause-grows : goal.returns-clause-grows
 returns-clause-grows c = c.loop-entry.invariant.grows
+
+pub overflow_add-j : goal.overflow_add-j
+overflow_add-j c =
+    let low : c.loop-entry.j < length c.args.places.now = slice_get_within c.args.places.now c.loop-entry.j c.entry-item.result.0 (c.is_place.ensures.0 c.if-is_place.true) in
+    omega (arith, low)

@@ -1,14 +1,16 @@
 use Rattle.std.proofs.Common.{◌≡◌, [], sym, subst}
 use Rattle.poly_terms.specs.Indexed.{terms_from}
 use Rattle.poly_terms.specs.PolySums.{AreListed}
-use Rattle.poly_terms.proofs.PolySums.{nothing_left, taken-of, taken-value}
+use Rattle.poly_terms.proofs.PolySums.{all_gone, nothing_left, some_before, taken-of, taken-value}
 use Rattle.poly_terms.proofs.Ends.{not_done, not_given}
 use Rattle.poly_terms.proofs.poly_sum.PolySum.take.Goals as goal
 
+listed : (c : goal.After-of) → AreListed c.self.inside.coefficients c.deref.result.now
+listed c = subst (AreListed c.self.inside.coefficients) (sym c.deref.ensures.value) c.self.invariant
+
 none_left : (c : goal.After-of) → terms_from 0 c.take_out.new.coefficients ≡ []
 none_left c =
-    let listed : AreListed c.self.inside.coefficients c.deref.result.now = subst (AreListed c.self.inside.coefficients) (sym c.deref.ensures.value) c.self.invariant in
-    nothing_left c.self.inside.coefficients c.take_out.new.coefficients c.deref.result.now listed c.in_ok-raw.ensures.less c.in_ok-raw.ensures.gone
+    nothing_left c.self.inside.coefficients c.take_out.new.coefficients c.deref.result.now (listed c) c.in_ok-raw.ensures.less c.in_ok-raw.ensures.gone
 
 pub returns-clause-none : goal.returns-clause-none
 returns-clause-none c = none_left c
@@ -40,3 +42,15 @@ returns-in_err-entries-clause-of c = not_given _ _ c.from_residual-in_err-entrie
 
 pub returns-in_err-entries-clause-value : goal.returns-in_err-entries-clause-value
 returns-in_err-entries-clause-value c = not_given _ _ c.from_residual-in_err-entries.result c.from_residual-in_err-entries.ensures.1
+
+pub invariant_of-self : goal.invariant_of-self
+invariant_of-self c n some = c.self.invariant n (some_before c.self.inside.coefficients c.take_out.new.coefficients n c.take_out.ensures.less some)
+
+pub invariant_of-self-in_err-entries : goal.invariant_of-self-in_err-entries
+invariant_of-self-in_err-entries c n some =
+    let listed : AreListed c.self.inside.coefficients c.deref.result.now = subst (AreListed c.self.inside.coefficients) (sym c.deref.ensures.value) c.self.invariant in
+    absurd (all_gone c.self.inside.coefficients c.take_out.new.coefficients c.deref.result.now listed c.in_ok-raw.ensures.less c.in_ok-raw.ensures.gone n some)
+
+pub invariant_of-self-2 : goal.invariant_of-self-2
+invariant_of-self-2 c n some =
+    absurd (all_gone c.self.inside.coefficients c.take_out.new.coefficients c.deref.result.now (listed c) c.in_ok-raw.ensures.less c.in_ok-raw.ensures.gone n some)
