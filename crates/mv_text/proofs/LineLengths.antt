@@ -1,9 +1,9 @@
 -- Lines of what is left of a file, and lengths that are met within them.
-use Rattle.std.specs.Prelude.{◌≡◌, ◌≢◌, ◌==◌, ◌+◌, ◌≤◌, ℕ, Bool, true, false, cond, List, [], ◌∷◌, ◌++◌, length, IfSome}
-use Rattle.std.specs.Io.KnownBytes.{Consumes}
+use Rattle.std.specs.Prelude.{◌≡◌, ◌≢◌, ◌==◌, ◌+◌, ◌≤◌, ℕ, Bool, true, false, cond, List, [], ◌∷◌, ◌++◌, length, IfNone, IfSome}
+use Rattle.std.specs.Io.KnownBytes.{Consumes, IsAtEnd}
 use Rattle.std.specs.List.{All}
 use Rattle.std.specs.Option.{option_to_list}
-use Rattle.std.proofs.KnownBytes.{Consumes-trans}
+use Rattle.std.proofs.KnownBytes.{Consumes-trans, Consumes-whole}
 use Rattle.std.specs.declared.option.Option.{Option}
 use Rattle.std.specs.declared.option.Option.TheVariants.{None, Some}
 use Rattle.std.proofs.Common.{refl, sym, ap, subst, ◌∙◌, arith, append_assoc, length-append, inl, inr, ⊎_elim, eqb-true}
@@ -165,3 +165,39 @@ plain_goes_on old mid new before left line longer h t =
     rest : (left : Option (List ℕ)) → Consumes (known_from mid.ahead left) (known_from new.ahead left) t.part
     rest None = tt
     rest (Some xs) = ap (λ l. l ++ xs) t.ahead ∙ append_assoc t.part new.ahead xs
+
+-- ---- where a line ends
+
+-- a line feed comes next
+pub line_ends : (old mid new : Lines) (before now after : Option (List ℕ)) (line : List ℕ) (next : Option ℕ) → LineSoFar old mid before now line → next ≡ Some newline → Consumes now after (option_to_list next) →
+    new.taken ≡ mid.taken + length (option_to_list next) → new.taken ≤ new.lengths.file → new.lengths ≡ mid.lengths → TakesLine old new before after line
+line_ends old mid new before now after line next h is bytes taken within lengths =
+    let one : new.taken ≡ mid.taken + 1 = subst (λ o. new.taken ≡ mid.taken + length (option_to_list o)) is taken in
+    let most = ap (λ l. l.file) (lengths ∙ h.lengths) in
+    let long = ap (λ l. l.line) h.lengths in
+    record {
+      no_end = h.no_end;
+      short = omega (arith, h.short, long);
+      within = omega (arith, h.taken, one, within, most);
+      taken = omega (arith, h.taken, one);
+      lengths = lengths ∙ h.lengths;
+      bytes = one_byte before now after line newline next is h.bytes bytes;
+    }
+
+-- the file ends
+pub file_ends : (old mid new : Lines) (before now after : Option (List ℕ)) (line : List ℕ) (next : Option ℕ) → LineSoFar old mid before now line → next ≡ None → Consumes now after (option_to_list next) → IfNone next (IsAtEnd after) →
+    new.taken ≡ mid.taken + length (option_to_list next) → new.taken ≤ new.lengths.file → new.lengths ≡ mid.lengths → (P : List ℕ → Type 0) → (EndsIn old line → P line) → IfSome before P
+file_ends old mid new before now after line next h is bytes end taken within lengths P so =
+    let none : new.taken ≡ mid.taken + 0 = subst (λ o. new.taken ≡ mid.taken + length (option_to_list o)) is taken in
+    let most = ap (λ l. l.file) (lengths ∙ h.lengths) in
+    let long = ap (λ l. l.line) h.lengths in
+    let rest : Consumes now after [] = subst (λ o. Consumes now after (option_to_list o)) is bytes in
+    let whole : Consumes before after line = subst (Consumes before after) (append-nil line) (Consumes-trans before now after line [] h.bytes rest) in
+    Consumes-whole before after line P whole (subst (λ o. IfNone o (IsAtEnd after)) is end)
+    (so (record { no_end = h.no_end; short = omega (arith, h.short, long); within = omega (arith, h.taken, none, within, most) }))
+
+-- a byte comes next
+pub not_over : (before after : Option (List ℕ)) (b : ℕ) → Consumes before after (b ∷ []) → IfSome before (λ bytes. bytes ≢ [])
+not_over None after b taken = tt
+not_over (Some xs) None b taken = absurd taken
+not_over (Some xs) (Some ys) b taken = λ none. absurd (omega (arith, ap length (sym none ∙ taken)))
