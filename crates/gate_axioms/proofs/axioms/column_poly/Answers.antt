@@ -1,6 +1,5 @@
 use Rattle.std.proofs.Common.{◌≡◌, ◌+◌, ◌*◌, ◌%◌, ◌^◌, ap, sym, refl, subst, ◌∙◌}
 use Rattle.std.proofs.lemmas.Option.{same_Some}
-use Rattle.std.proofs.lemmas.Result.{err_from_is_err_and}
 use Rattle.frontier_core.specs.Columns.{partial_products, column_value}
 use Rattle.graph_core.specs.declared.literal.Lit.{Lit}
 use Rattle.graph_core.specs.Graph.Assignments.{bit, literal}
@@ -35,21 +34,3 @@ returns-clause-value c l is σ =
     let P : Lit → Type 0 = λ l. value_in new p σ ≡ column_value c.args.extended.now s c.args.k l σ % modulus old in
     subst P (same_Some o l (sym c.new_output-output.ensures ∙ is))
     (column_has old new p c.args.extended.now s c.args.k o c.one.result.value n opposite grown c.requires.same_modulus c.one.ensures.value weight none has σ)
-
-pub returns-in_err-add_literal-clause-of : goal.returns-in_err-add_literal-clause-of
-returns-in_err-add_literal-clause-of c = rw ((err_from_is_err_and c.from_residual.result c.from_residual.ensures.1).1) tt
-
-pub returns-in_err-add_literal-clause-value : goal.returns-in_err-add_literal-clause-value
-returns-in_err-add_literal-clause-value c = rw ((err_from_is_err_and c.from_residual.result c.from_residual.ensures.1).1) tt
-
-pub returns-in_err-add_column-clause-of : goal.returns-in_err-add_column-clause-of
-returns-in_err-add_column-clause-of c = rw ((err_from_is_err_and c.from_residual-in_err-add_column.result c.from_residual-in_err-add_column.ensures.1).1) tt
-
-pub returns-in_err-add_column-clause-value : goal.returns-in_err-add_column-clause-value
-returns-in_err-add_column-clause-value c = rw ((err_from_is_err_and c.from_residual-in_err-add_column.result c.from_residual-in_err-add_column.ensures.1).1) tt
-
-pub returns-in_err-poly-clause-of : goal.returns-in_err-poly-clause-of
-returns-in_err-poly-clause-of c = rw ((err_from_is_err_and c.from_residual-in_err-poly.result c.from_residual-in_err-poly.ensures.1).1) tt
-
-pub returns-in_err-poly-clause-value : goal.returns-in_err-poly-clause-value
-returns-in_err-poly-clause-value c = rw ((err_from_is_err_and c.from_residual-in_err-poly.result c.from_residual-in_err-poly.ensures.1).1) tt

@@ -1,5 +1,4 @@
 use Rattle.std.proofs.Common.{[], ◌*◌, refl}
-use Rattle.std.proofs.lemmas.Result.{err_from_is_err_and}
 use Rattle.graph_core.specs.Graph.Assignments.{word}
 use Rattle.gate_axioms.specs.Form.{Adds}
 use Rattle.gate_axioms.proofs.Values.{form_has, sum_with_product_has, specification_has}
@@ -23,27 +22,3 @@ returns-clause-value c =
     (form_has old c.minus_one.result.width [] c.in_ok-opposite.opposite _ c.minus_one.ensures.width refl a)
     (form_has old c.one-2.result.width [] c.in_ok-b.b _ c.one-2.ensures.width refl b)
     c.in_ok-poly.ensures.value)
-
-pub returns-in_err-outputs-clause-of : goal.returns-in_err-outputs-clause-of
-returns-in_err-outputs-clause-of c = rw ((err_from_is_err_and c.from_residual.result c.from_residual.ensures.1).1) tt
-
-pub returns-in_err-outputs-clause-value : goal.returns-in_err-outputs-clause-value
-returns-in_err-outputs-clause-value c = rw ((err_from_is_err_and c.from_residual.result c.from_residual.ensures.1).1) tt
-
-pub returns-in_err-opposite-clause-of : goal.returns-in_err-opposite-clause-of
-returns-in_err-opposite-clause-of c = rw ((err_from_is_err_and c.from_residual-in_err-opposite.result c.from_residual-in_err-opposite.ensures.1).1) tt
-
-pub returns-in_err-opposite-clause-value : goal.returns-in_err-opposite-clause-value
-returns-in_err-opposite-clause-value c = rw ((err_from_is_err_and c.from_residual-in_err-opposite.result c.from_residual-in_err-opposite.ensures.1).1) tt
-
-pub returns-in_err-b-clause-of : goal.returns-in_err-b-clause-of
-returns-in_err-b-clause-of c = rw ((err_from_is_err_and c.from_residual-in_err-b.result c.from_residual-in_err-b.ensures.1).1) tt
-
-pub returns-in_err-b-clause-value : goal.returns-in_err-b-clause-value
-returns-in_err-b-clause-value c = rw ((err_from_is_err_and c.from_residual-in_err-b.result c.from_residual-in_err-b.ensures.1).1) tt
-
-pub returns-in_err-poly-clause-of : goal.returns-in_err-poly-clause-of
-returns-in_err-poly-clause-of c = rw ((err_from_is_err_and c.from_residual-in_err-poly.result c.from_residual-in_err-poly.ensures.1).1) tt
-
-pub returns-in_err-poly-clause-value : goal.returns-in_err-poly-clause-value
-returns-in_err-poly-clause-value c = rw ((err_from_is_err_and c.from_residual-in_err-poly.result c.from_residual-in_err-poly.ensures.1).1) tt

@@ -1,7 +1,6 @@
 use Rattle.std.proofs.Common.{Result, Ok, Err, ◌≡◌, IsSome, ap, subst}
 use Rattle.std.specs.Result.{is_ok}
 use Rattle.std.proofs.lemmas.Bool.{true≢false}
-use Rattle.std.proofs.lemmas.Result.{err_from_is_err_and}
 use Rattle.mv_fact.specs.Facts.{fact_at}
 use Rattle.gate_axioms.proofs.Growth.{keeps_lines}
 use Rattle.gate_axioms.proofs.FirstLines.{adds_again, gate_vanishes, gate_added}
@@ -26,6 +25,3 @@ returns-in-Err-IdUsed c =
     let mid = c.grow.new.self in
     let there : IsSome (fact_at mid.entries c.args.gate.now.v) = subst (λ n. IsSome (fact_at mid.entries n)) c.from.ensures (c.in-Err-IdUsed.ensures.used.0 (ap Err c.in-Err-IdUsed.field-0-is)) in
     adds_again (gate_axiom (modulus c.args.live.now.table) c.args.gate.now) c.args.live.now mid c.insert.new.self (keeps_lines c.args.live.now mid c.grow.ensures.grows c.grow.ensures.kept) c.in-Err-IdUsed.ensures.unchanged there
-
-pub returns-in_err-axiom : goal.returns-in_err-axiom
-returns-in_err-axiom c = rw ((err_from_is_err_and c.from_residual.result c.from_residual.ensures.1).1) tt

@@ -1,10 +1,6 @@
 use Rattle.std.proofs.Common.{◌∙◌}
-use Rattle.std.proofs.lemmas.Result.{err_from_is_err_and}
 use Rattle.poly_terms.specs.Laws.{modulus_stays}
 use Rattle.gate_axioms.proofs.live_axioms.add_columns.Goals as goal
 
 pub add_column-requires-clause-modulus : goal.add_column-requires-clause-modulus
 add_column-requires-clause-modulus c = modulus_stays c.args.live.now.table c.loop-k.live.table c.loop-k.invariant.table ∙ c.requires.modulus
-
-pub returns-in_err-add_column : goal.returns-in_err-add_column
-returns-in_err-add_column c = rw ((err_from_is_err_and c.from_residual.result c.from_residual.ensures.1).1) tt
