@@ -1,7 +1,6 @@
 use Rattle.std.proofs.Common.{Result, Ok, Err, ◌≡◌, ap}
 use Rattle.std.specs.Result.{is_ok}
 use Rattle.std.proofs.lemmas.Bool.{true≢false}
-use Rattle.std.proofs.lemmas.Result.{err_from_is_err_and}
 use Rattle.gate_axioms.proofs.CallerLemmas.{keeps_lines}
 use Rattle.pac_checker.proofs.Compacting.{brought_vanishes, line_carried, line_there}
 use Rattle.pac_checker.proofs.compaction.carry.Goals as goal
@@ -22,6 +21,3 @@ pub returns-in-Err-IdUsed : goal.returns-in-Err-IdUsed
 returns-in-Err-IdUsed c =
     line_there c.args.live.now c.grow.new.self c.insert.new.self c.args.from.now c.args.id c.args.line.now (keeps_lines c.args.live.now c.grow.new.self c.grow.ensures.grows c.grow.ensures.kept)
     c.in-Err-IdUsed.ensures.unchanged (c.in-Err-IdUsed.ensures.used.0 (ap Err c.in-Err-IdUsed.field-0-is))
-
-pub returns-in_err-brought : goal.returns-in_err-brought
-returns-in_err-brought c = rw ((err_from_is_err_and c.from_residual.result c.from_residual.ensures.1).1) tt
