@@ -11,21 +11,23 @@ const NAMES: Names<'static> = Names {
     algebra: "a",
 };
 
-// What is said of a graph, clauses and algebra that are read in pieces within these limits.
-fn said_of(
-    alloc: Global,
-    texts: (&str, &str, &str),
-    limits: &Limits,
-) -> Result<Checked, AllocError> {
-    let (graph, clauses, algebra) = texts;
-    let mut files = Vec::new(alloc);
-    for (name, text) in [("g", graph), ("c", clauses), ("a", algebra)] {
-        let bytes = Vec::from_slice(alloc, text.as_bytes())?;
-        files.push((String::from_str(alloc, name)?, bytes))?;
-    }
+// A file under a name.
+fn file(alloc: Global, name: &str, text: &str) -> Result<(String, Vec<u8>), AllocError> {
+    Ok((
+        String::from_str(alloc, name)?,
+        Vec::from_slice(alloc, text.as_bytes())?,
+    ))
+}
+
+// A desk with a graph, clauses and algebra that are read in pieces.
+fn desk_of(alloc: Global, texts: (&str, &str, &str)) -> Result<MemoryDesk, AllocError> {
+    let files = vec![in alloc;
+        file(alloc, "g", texts.0)?,
+        file(alloc, "c", texts.1)?,
+        file(alloc, "a", texts.2)?,
+    ]?;
     let pieces = Vec::from_slice(alloc, &[1, 7, 4096, 5, 2])?;
-    let mut desk = MemoryDesk::new(alloc, files, pieces, Vec::new(alloc));
-    Ok(check(alloc, &mut desk, Order::Separate, limits, &NAMES))
+    Ok(MemoryDesk::new(alloc, files, pieces, Vec::new(alloc)))
 }
 
 const GRAPH: &str = "aag 3 2 0 2 1\n2\n4\n6\n0\n6 4 2\n";
@@ -57,86 +59,126 @@ const REFUSED_3: Checked = Checked::Refused(Refusal::Algebra {
 });
 
 // The files, the longest graph, certificate and line, and what is said.
-const LENGTHS: [((&str, &str, &str), u64, u64, u64, Checked); 17] = [
-    (ONE_BIT, 28, 35, 23, Checked::Accepted),
-    (ONE_BIT, 28, 35, 22, Checked::TooLong(Slot::Algebra)),
-    (ONE_BIT, 27, 35, 23, Checked::TooLong(Slot::Graph)),
-    (ONE_BIT, 28, 34, 23, Checked::TooLong(Slot::Algebra)),
-    (ONE_BIT, 28, 13, 23, Checked::TooLong(Slot::Clauses)),
-    (ONE_BIT, 28, 35, 7, Checked::TooLong(Slot::Clauses)),
-    (WITH_CLAUSE, 28, 26, 11, REFUSED_2),
-    (WITH_CLAUSE, 28, 25, 11, Checked::TooLong(Slot::Clauses)),
-    (WITH_CLAUSE, 28, 26, 10, Checked::TooLong(Slot::Clauses)),
-    // the limit behind a bad line, before it, within it and at its end
-    ((GRAPH, NO_CUT, BAD_SECOND_LINE), 28, 14, 23, REFUSED_2),
+const LENGTHS: &[(&str, (&str, &str, &str), (u64, u64, u64), Checked)] = &[
     (
-        (GRAPH, NO_CUT, BAD_THIRD_LINE),
-        28,
-        29,
-        23,
+        "each length is enough",
+        ONE_BIT,
+        (28, 35, 23),
+        Checked::Accepted,
+    ),
+    (
+        "a line of the algebra",
+        ONE_BIT,
+        (28, 35, 22),
         Checked::TooLong(Slot::Algebra),
     ),
     (
-        (GRAPH, NO_CUT, BAD_THIRD_LINE),
-        28,
-        31,
-        23,
-        Checked::TooLong(Slot::Algebra),
-    ),
-    ((GRAPH, NO_CUT, BAD_THIRD_LINE), 28, 32, 23, REFUSED_3),
-    // a bad byte of the graph before the limit and behind it, a field before it, and a fault of meaning
-    (
-        ("aag 3 2 0 2 1\n2\n4\nx", "", ""),
-        19,
-        99,
-        99,
-        Checked::Graph(ReadFail::Text(18)),
-    ),
-    (
-        ("aag 3 2 0 2 1\n2\n4\nx", "", ""),
-        18,
-        99,
-        99,
+        "the graph",
+        ONE_BIT,
+        (27, 35, 23),
         Checked::TooLong(Slot::Graph),
     ),
     (
+        "the algebra",
+        ONE_BIT,
+        (28, 34, 23),
+        Checked::TooLong(Slot::Algebra),
+    ),
+    (
+        "the clauses",
+        ONE_BIT,
+        (28, 13, 23),
+        Checked::TooLong(Slot::Clauses),
+    ),
+    (
+        "a line of the clauses' header",
+        ONE_BIT,
+        (28, 35, 7),
+        Checked::TooLong(Slot::Clauses),
+    ),
+    ("a clause is enough", WITH_CLAUSE, (28, 26, 11), REFUSED_2),
+    (
+        "clauses with a clause",
+        WITH_CLAUSE,
+        (28, 25, 11),
+        Checked::TooLong(Slot::Clauses),
+    ),
+    (
+        "a clause",
+        WITH_CLAUSE,
+        (28, 26, 10),
+        Checked::TooLong(Slot::Clauses),
+    ),
+    (
+        "the limit behind a bad line",
+        (GRAPH, NO_CUT, BAD_SECOND_LINE),
+        (28, 14, 23),
+        REFUSED_2,
+    ),
+    (
+        "the limit before a bad line",
+        (GRAPH, NO_CUT, BAD_THIRD_LINE),
+        (28, 29, 23),
+        Checked::TooLong(Slot::Algebra),
+    ),
+    (
+        "the limit within a bad line",
+        (GRAPH, NO_CUT, BAD_THIRD_LINE),
+        (28, 31, 23),
+        Checked::TooLong(Slot::Algebra),
+    ),
+    (
+        "the limit at the end of a bad line",
+        (GRAPH, NO_CUT, BAD_THIRD_LINE),
+        (28, 32, 23),
+        REFUSED_3,
+    ),
+    (
+        "a bad byte before the limit",
+        ("aag 3 2 0 2 1\n2\n4\nx", "", ""),
+        (19, 99, 99),
+        Checked::Graph(ReadFail::Text(18)),
+    ),
+    (
+        "a bad byte behind the limit",
+        ("aag 3 2 0 2 1\n2\n4\nx", "", ""),
+        (18, 99, 99),
+        Checked::TooLong(Slot::Graph),
+    ),
+    (
+        "a field before the limit",
         ("aag 3 2 1 2 1\n2\n", "", ""),
-        14,
-        99,
-        99,
+        (14, 99, 99),
         Checked::Graph(ReadFail::Header(Field::L)),
     ),
     (
+        "a fault of meaning in a graph that is too long",
         ("aag 3 2 0 2 1\n2\n2\n6\n0\n6 4 2\nc", "", ""),
-        28,
-        99,
-        99,
+        (28, 99, 99),
         Checked::TooLong(Slot::Graph),
     ),
 ];
 
-// Whether that is said.
+// Whether that is said of the files with these lengths of a graph, a certificate and a line as limits.
 fn is_said(
     alloc: Global,
     texts: (&str, &str, &str),
-    limits: &Limits,
+    (graph, certificate, line): (u64, u64, u64),
     said: &Checked,
 ) -> Result<bool, AllocError> {
-    Ok(said_of(alloc, texts, limits)? == *said)
+    let limits = Limits {
+        graph,
+        certificate,
+        line,
+    };
+    let mut desk = desk_of(alloc, texts)?;
+    Ok(check(alloc, &mut desk, Order::Separate, &limits, &NAMES) == *said)
 }
 
 #[test]
 fn lengths_are_met_at_their_places(rt: HostRuntime) -> Result<(), AllocError> {
-    for (texts, graph, certificate, line, said) in &LENGTHS {
-        let limits = Limits {
-            graph: *graph,
-            certificate: *certificate,
-            line: *line,
-        };
-        assert!(rt;
-            is_said(rt.alloc(), *texts, &limits, said)?,
-            "{graph} {certificate} {line}"
-        );
+    for (shows, texts, lengths, said) in LENGTHS {
+        assert!(rt; is_said(rt.alloc(), *texts, *lengths, said)?, "{shows}");
     }
     Ok(())
 }
