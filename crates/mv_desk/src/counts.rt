@@ -3,7 +3,7 @@ ghost use Rattle.std.specs.Prelude.{◌≡◌, ◌≤◌};
 ghost use Rattle.mv_desk.specs.View.{raised};
 
 /// How many calls a desk had of each kind. A count stands still at its type's end.
-#[derive(Clone, Copy, Debug, PartialEq, Eq)]
+#[derive(Clone, Copy)]
 pub struct Counts {
     /// files that were opened for reading, or failed to open
     pub opened: u64,

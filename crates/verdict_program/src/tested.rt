@@ -3,7 +3,7 @@ use crate::plan::Plan;
 use joint_prover::Rewriting;
 
 /// A multiplier that was made.
-#[derive(Clone, Copy, Debug)]
+#[derive(Clone, Copy)]
 pub struct Multiplier {
     pub plan: Plan,
     /// how many gates it has
@@ -11,7 +11,7 @@ pub struct Multiplier {
 }
 
 /// What `trial` says of the multiplier that a number names.
-#[derive(Debug, Drop)]
+#[derive(Drop)]
 pub enum Tested {
     /// It was proved, and the certificates were accepted; with the note on a rewriting.
     Accepted {
