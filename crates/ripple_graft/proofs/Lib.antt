@@ -8,4 +8,5 @@ pub mod NewOutputs
 pub mod Adders
 pub mod SeenGraphs
 pub mod KnownLiterals
+pub mod CutTests
 pub mod CallerLemmas

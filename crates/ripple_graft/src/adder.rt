@@ -4,7 +4,7 @@ ghost use Rattle.graph_core.specs.Graph.{IsBuilt};
 ghost use Rattle.graph_core.specs.Graph.Literals.{and_gate, inverted, plain};
 ghost use Rattle.ripple_graft.specs.Blocks.{IsCut};
 ghost use Rattle.ripple_graft.specs.Grafts.{IsAdderOf};
-ghost use Rattle.graph_core.specs.Graph.Positions.{position};
+ghost use Rattle.graph_core.specs.Graph.Positions.{carry_after, position, sum_after};
 
 use crate::added::Added;
 use crate::cut::Cut;
@@ -23,8 +23,8 @@ pub fn adder_of(alloc: Global, graph: &Graph, cut: &Cut) -> Result<Added, AllocE
     let pairs = cut.pairs.as_slice();
     for (x, y) in pairs {
         gates.extend_from_slice(&position(max, *x, *y, carry))?;
-        outputs.push(plain(max + 6))?;
-        carry = inverted(max + 7);
+        outputs.push(sum_after(max))?;
+        carry = carry_after(max);
         max += 7;
     }
     outputs.push(carry)?;
@@ -50,6 +50,22 @@ fn position(v: u32, x: Lit, y: Lit, carry: Lit) -> [Gate; 7]
         and_gate(v + 6, inverted(v + 4), inverted(v + 5)),
         and_gate(v + 7, inverted(v + 1), inverted(v + 4)),
     ]
+}
+
+// the sum of the position behind a variable
+fn sum_after(v: u32) -> Lit
+    requires { v + 7 < 2 ^ 31 }
+    ensures { result ≡ sum_after v }
+{
+    plain(v + 6)
+}
+
+// and its carry
+fn carry_after(v: u32) -> Lit
+    requires { v + 7 < 2 ^ 31 }
+    ensures { result ≡ carry_after v }
+{
+    inverted(v + 7)
 }
 
 fn and_gate(v: u32, left: Lit, right: Lit) -> Gate
