@@ -1,16 +1,22 @@
 -- Lines that close.
-use Rattle.std.proofs.Common.{inl, inr, ◌≡◌, ℕ, refl, sym, ◌∙◌}
+use Rattle.std.proofs.Common.{inl, inr, ◌≡◌, ℕ, refl, sym, subst, ◌∙◌}
 use Rattle.std.specs.declared.option.Option.TheVariants.{None, Some}
 use Rattle.std.proofs.lemmas.Bool.{true≢false}
 use Rattle.graph_core.specs.Graph.Operands.{Sides}
 use Rattle.graph_core.specs.Graph.Extended.{Extended}
-use Rattle.graph_core.specs.Algebra.{Closes}
+use Rattle.graph_core.specs.Algebra.{Closes, specification}
+use Rattle.graph_core.specs.Algebra.InRange.{IsRefusedCloseInRange}
+use Rattle.graph_core.specs.Algebra.Refusal as cause
+use Rattle.graph_core.specs.Algebra.Refusal.{AlgebraCause}
+use Rattle.graph_core.proofs.OfAlgebra.CallerLemmas.{closes_agrees, refused_close_in_range_agrees}
+use Rattle.mv_fact.specs.Always.{Always}
 use Rattle.mv_fact.specs.Facts.{Facts, fact_at}
 use Rattle.poly_terms.specs.Tables.{Table, Sum}
 use Rattle.gate_axioms.specs.Axioms.{IsSpecification}
+use Rattle.pac_checker.specs.declared.fault.CloseFault.{CloseFault}
 use Rattle.pac_checker.specs.declared.fault.CloseFault.TheVariants as close
-use Rattle.pac_checker.specs.Checking.{checking_of, ledger_of}
-use Rattle.pac_checker.specs.Faults.{IsCloseFault}
+use Rattle.pac_checker.specs.Checking.{Checking, Grows, IsClosedBy, SpecificationVanishes, checking_of, ledger_of}
+use Rattle.pac_checker.specs.Faults.{IsCloseFault, IsClosingFault}
 use Rattle.pac_checker.specs.Rules.{AreEqual, Differ}
 use Rattle.pac_checker.proofs.Entries.{there, gone, value_of-entry}
 
@@ -26,3 +32,25 @@ pub closes_unequal : (e : Extended) (sides : Sides) (facts : Facts Sum Table) (l
     Differ facts.table p wanted → IsCloseFault e sides (ledger_of (checking_of e sides facts last)) id close.NotSpec
 closes_unequal e sides facts last id p wanted found is apart =
     inr (there facts.table facts.entries id p found, inl ((apart.0, λ same. apart.1 (sym (value_of-entry facts.table facts.entries id p found apart.0) ∙ same ∙ sym (is apart.0))), refl))
+
+-- ---- over a table that has grown
+
+module _ (old mid : Checking) (g : Grows old mid) where
+  pub closes_grown : (id : ℕ) → IsClosedBy mid id → IsClosedBy old id
+  closes_grown id h =
+      closes_agrees old.extended old.sides (ledger_of mid) (ledger_of old) g.ledger id
+      (subst (λ (s : Sides). Closes old.extended s (ledger_of mid).live id) g.sides (subst (λ (e : Extended). Closes e mid.sides (ledger_of mid).live id) g.extended h))
+
+  pub vanishes_grown : SpecificationVanishes mid → SpecificationVanishes old
+  vanishes_grown h =
+      subst (λ (s : Sides). Always old.extended.gates (λ σ. specification old.extended s σ ≡ 0)) g.sides (subst (λ (e : Extended). Always e.gates (λ σ. specification e mid.sides σ ≡ 0)) g.extended h)
+
+  cause_grown : (id : ℕ) (why : AlgebraCause) → IsRefusedCloseInRange mid.extended mid.sides (ledger_of mid) id why → IsRefusedCloseInRange old.extended old.sides (ledger_of old) id why
+  cause_grown id why h =
+      refused_close_in_range_agrees old.extended old.sides (ledger_of mid) (ledger_of old) g.ledger id why
+      (subst (λ (s : Sides). IsRefusedCloseInRange old.extended s (ledger_of mid) id why) g.sides (subst (λ (e : Extended). IsRefusedCloseInRange e mid.sides (ledger_of mid) id why) g.extended h))
+
+  pub fault_grown : (id : ℕ) (fault : CloseFault) → IsClosingFault mid id fault → IsClosingFault old id fault
+  fault_grown id (close.NoSuchLine missing) h = cause_grown id (cause.NoSuchLine missing) h
+  fault_grown id close.NotSpec h = cause_grown id cause.NotSpecification h
+  fault_grown id close.Memory h = tt
