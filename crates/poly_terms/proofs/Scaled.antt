@@ -43,6 +43,9 @@ multiple_more m by from to e c is before = record {
   numbers = λ n. numbers_more from to e c n before.numbers;
 }
 
+pub quotient_none : (m by : ℕ) → IsQuotient m by [] []
+quotient_none m by = record { sums = λ f. ap (λ n. n % m) (let e : by * 0 ≡ 0 = omega arith in e); numbers = refl; below = tt; some = λ h. h }
+
 firsts_more : (xs : Sum) (x : Entry) → map (λ e. e.0) (xs ++ x ∷ []) ≡ map (λ e. e.0) xs ++ x.0 ∷ []
 firsts_more [] x = refl
 firsts_more (y ∷ xs) x = ap (λ ns. y.0 ∷ ns) (firsts_more xs x)
@@ -80,6 +83,10 @@ pub quotient_on : (m by : ℕ) (es to : Sum) (i : ℕ) (e : Entry) (c : ℕ) →
     IsQuotient m by (take (i + 1) es) (to ++ (e.0, c) ∷ [])
 quotient_on m by es to i e c low at below is before =
     subst (λ from. IsQuotient m by from (to ++ (e.0, c) ∷ [])) (sym (taken_on es i e low at)) (quotient_more m by (take i es) to e c below is before)
+
+-- where each is a multiple, there is none that isn't
+pub none_between : (by : ℕ) (es : Sum) → All (λ x. x.1 % by ≡ 0) es → Any (λ x. x.1 % by ≢ 0) es → ⊥
+none_between by es all other = other.4 (subst (λ (x : Entry). x.1 % by ≡ 0) other.3 (all other.0 other.1 other.2))
 
 reduced : (m by x : ℕ) → (by * (x % m)) % m ≡ (by * x) % m
 reduced m by x =

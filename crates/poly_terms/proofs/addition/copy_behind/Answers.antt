@@ -1,5 +1,6 @@
 use Rattle.std.proofs.Common.{◌++◌, ap₂, ◌∙◌}
 use Rattle.std.proofs.lemmas.List.{take_all}
+use Rattle.poly_terms.proofs.Merging.{copied_on}
 use Rattle.poly_terms.proofs.Ends.{not_done}
 use Rattle.poly_terms.proofs.addition.copy_behind.Goals as goal
 
@@ -11,3 +12,8 @@ returns-in_err-push c = not_done _ _ c.from_residual-in_err-push.result c.from_r
 
 pub returns : goal.returns
 returns c = c.loop-entry.invariant ∙ ap₂ ◌++◌ c.reserve.ensures.items (take_all c.loop-entry.entry-index c.args.entries.now c.loop-entry-test.false)
+
+pub loop-entry-preserved : goal.loop-entry-preserved
+loop-entry-preserved c =
+    copied_on _ c.loop-entry.out.items c.push.new.self.items c.args.entries.now c.loop-entry.entry-index c.entry-item.result c.copy.result c.loop-entry-test.true c.entry-item.is
+    c.in_ok-push.ensures.items c.copy.ensures c.loop-entry.invariant

@@ -1,4 +1,7 @@
-use Rattle.std.proofs.Common.{◌+◌, ◌∷◌, [], get_or, length, ap, ◌∙◌, length-append}
+use Rattle.std.proofs.Common.{ℕ, ◌+◌, ◌∷◌, [], get_or, length, ap, ◌∙◌, length-append, arith}
+use Rattle.std.proofs.lemmas.List.{length-map}
+use Rattle.std.specs.Global.{Global}
+use Rattle.std.specs.declared.vec.Vec.{Vec}
 use Rattle.poly_terms.proofs.Entering.{with_one_more}
 use Rattle.poly_terms.proofs.Ends.{not_done}
 use Rattle.poly_terms.proofs.places.Places.reach.Goals as goal
@@ -25,3 +28,15 @@ returns-in_err-push-clause-same c = not_done _ _ c.from_residual.result c.from_r
 
 pub returns-in_err-push-clause-long : goal.returns-in_err-push-clause-long
 returns-in_err-push-clause-long c = not_done _ _ c.from_residual.result c.from_residual.ensures.1
+
+pub returns-clause-long : goal.returns-clause-long
+returns-clause-long c =
+    let long = length-map c.loop.self-inside.by_variable.items (λ (ns : Vec ℕ Global). ns.items) in
+    omega (arith, long, c.loop.invariant.counter, c.loop-test.false)
+
+pub returns-in_ok-push-clause-long : goal.returns-in_ok-push-clause-long
+returns-in_ok-push-clause-long c =
+    let before = c.loop.self-inside.by_variable.items in
+    let more = ap length c.in_ok-push.ensures.items ∙ length-append before (c.new.result ∷ []) in
+    let long = length-map c.push.new.self.items (λ (ns : Vec ℕ Global). ns.items) in
+    omega (arith, more, long, c.loop.invariant.counter)

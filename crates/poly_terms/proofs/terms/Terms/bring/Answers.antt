@@ -1,7 +1,7 @@
 use Rattle.std.proofs.Common.{◌^◌, sym, ap, ◌∙◌}
 use Rattle.poly_terms.specs.Monomials.{total_in}
 use Rattle.poly_terms.specs.Tables.{Table}
-use Rattle.poly_terms.proofs.Made.{made-IsOf, made-value, numbers_in}
+use Rattle.poly_terms.proofs.Made.{extends_grown, made-IsOf, made-value, numbers_in}
 use Rattle.poly_terms.proofs.Scaled.{brought-value}
 use Rattle.poly_terms.proofs.terms.Terms.bring.Goals as goal
 
@@ -21,3 +21,21 @@ returns-clause-value c σ =
     made-value w c.self.inside.monomials c.carry_all.new.table (λ σ. total_in ms σ p') c.in_ok-raw.raw.items c.in_ok-entries.entries.items c.of.result σ c.of.ensures
     (c.in_ok-raw.ensures.adds (2 ^ w)) c.in_ok-entries.ensures ∙
     brought-value w ms c.args.from.now c.args.p.now p' σ (c.requires.exponent ∙ sym (ap (λ (t : Table). t.exponent) c.self.view_is)) c.numbering.ensures c.entries.ensures
+
+pub invariant_of-self : goal.invariant_of-self
+invariant_of-self c = c.self.invariant
+
+pub invariant_of-self-2 : goal.invariant_of-self-2
+invariant_of-self-2 c = c.self.invariant
+
+pub invariant_of-self-in_err-entries : goal.invariant_of-self-in_err-entries
+invariant_of-self-in_err-entries c = c.self.invariant
+
+pub returns-clause-extends : goal.returns-clause-extends
+returns-clause-extends c = extends_grown c.self.inside.exponent c.self.inside.monomials c.carry_all.new.table c.args.self.now c.self.view_is c.carry_all.ensures.grows
+
+pub returns-in_err-raw-clause-extends : goal.returns-in_err-raw-clause-extends
+returns-in_err-raw-clause-extends c = extends_grown c.self.inside.exponent c.self.inside.monomials c.carry_all.new.table c.args.self.now c.self.view_is c.carry_all.ensures.grows
+
+pub returns-in_err-entries-clause-extends : goal.returns-in_err-entries-clause-extends
+returns-in_err-entries-clause-extends c = extends_grown c.self.inside.exponent c.self.inside.monomials c.carry_all.new.table c.args.self.now c.self.view_is c.carry_all.ensures.grows
