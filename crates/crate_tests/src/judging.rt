@@ -58,7 +58,7 @@ const REFUSED_3: Checked = Checked::Refused(Refusal::Algebra {
     why: AlgebraWhy::Text,
 });
 
-// The files, the longest graph, certificate and line, and what is said.
+// What a row shows, the files, the greatest lengths of a graph, a certificate and a line, and what is said.
 const LENGTHS: &[(&str, (&str, &str, &str), (u64, u64, u64), Checked)] = &[
     (
         "each length is enough",
