@@ -1,10 +1,10 @@
 -- What crates above may cite: laws, and of a graph's inputs and operands.
-pub use Rattle.frontier_core.proofs.LastFrontiers.{last_frontier_decides, last_frontier_is_over_inputs}
+pub use Rattle.frontier_core.proofs.LastFrontiers.{last_frontier_decides, last_frontier_is_over_inputs, outputs_are}
 pub use Rattle.frontier_core.proofs.LeastValues.{difference_is_of_operands, last_frontier_gives_least, least_difference_is_one, least_term_gives_inputs}
 pub use Rattle.frontier_core.proofs.NotZero.{specification_is_not_zero}
 pub use Rattle.frontier_core.proofs.PlainOrders.{plain_order_is_one}
 pub use Rattle.frontier_core.proofs.Plans.{plain_plan_is_plan}
-pub use Rattle.frontier_core.proofs.Positions.{first_difference_precedes, precedes_transitive}
+pub use Rattle.frontier_core.proofs.Positions.{first_difference_precedes, ones_above, ones_injective, precedes_total, precedes_transitive}
 pub use Rattle.frontier_core.proofs.RestLines.{difference_small}
 use Rattle.std.specs.Prelude.{◌≡◌, ◌≢◌, ℕ, zero, suc, ◌<◌, List, [], ◌∷◌, length, map, get_or, slice_get}
 use Rattle.std.specs.declared.option.Option.TheVariants.{Some}

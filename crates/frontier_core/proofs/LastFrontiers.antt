@@ -101,6 +101,14 @@ module _ (g : Aig) (well : IsWellFormed g) (ρ : Assignment) (evaluates : IsEval
   known_word [] h = refl
   known_word (l ∷ ls) h = ap₂ (λ b n. bit b + 2 * n) (known_literal l h.0) (known_word ls h.1)
 
+  known_values : (ls : List Lit) → AllByRecursion IsKnownLit ls → map (literal known) ls ≡ map (literal ρ) ls
+  known_values [] h = refl
+  known_values (l ∷ ls) h = ap₂ ◌∷◌ (known_literal l h.0) (known_values ls h.1)
+
+  -- on an evaluation the outputs have the values that the graph gives the values of its inputs
+  pub outputs_are : map (literal ρ) g.outputs ≡ map (literal (evaluated g (map (literal ρ) g.inputs))) g.outputs
+  outputs_are = sym (known_values g.outputs reads.0) ∙ ap (λ σ. map (literal σ) g.outputs) (fun_ext known_is)
+
   -- on an evaluation the outputs are the graph's value on the values of its inputs
   pub outputs_are_value : word ρ g.outputs ≡ value_at_inputs g (map (literal ρ) g.inputs)
   outputs_are_value = sym (known_word g.outputs reads.0) ∙ ap (λ σ. word σ g.outputs) (fun_ext known_is)

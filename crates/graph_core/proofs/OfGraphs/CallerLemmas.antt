@@ -11,11 +11,13 @@ pub use Rattle.graph_core.proofs.OfGraphs.Lists.{all_join, all_split, all_weaker
 pub use Rattle.graph_core.proofs.OfGraphs.LiteralValues.{literal-even, literal-false, literal-inverted, literal-negated, literal-odd, literal-plain, literal-true, variable_of-negated}
 pub use Rattle.graph_core.proofs.OfGraphs.Multiplies.{Apart, a_is, apart_from_pairs, b_is, claim_is, claim_is_product, evaluations_suffice, gates_distinct, inputs_have, length-inputs_of, lits_apart, rest_apart, sides_are_inputs, sides_read_inputs, take-length-append, whole_products}
 pub use Rattle.graph_core.proofs.OfGraphs.OperandBits.{DistinctLits, IsInput, inputs_are, literal-input, number_of}
-pub use Rattle.graph_core.proofs.OfGraphs.OperandPlaces.{a_bits_are, a_part_at, a_place_low, b_bits_are, b_part_at, b_place_low, byte_is_bit, length-a_part, length-b_part, number_of-low, parts_are}
+pub use Rattle.graph_core.proofs.OfGraphs.OperandPlaces.{a_bits_are, a_part_at, a_place_low, b_bits_are, b_part_at, b_place_low, bit_low, byte_is_bit, length-a_part, length-b_part, number_of-low, parts_are}
 pub use Rattle.graph_core.proofs.OfGraphs.Residues.{claim_from_difference, difference_same, same_from_difference}
 pub use Rattle.graph_core.proofs.OfGraphs.TableSteps.{gates_read_more}
 pub use Rattle.graph_core.proofs.OfGraphs.WellFormedGates.{distinct_gates, gate_in_range, gates_apart, input_in_range, output_in_range}
+pub use Rattle.graph_core.proofs.OfGraphs.ValueSteps.{outputs_below, word_fits, word_step}
 pub use Rattle.graph_core.proofs.OfGraphs.Words.{word_below}
+pub use Rattle.graph_core.proofs.OfGraphs.WrittenValues.{all_gates_written, all_inputs_written, constant_written, input_written, inputs_apart, inputs_written, next_written}
 use Rattle.std.specs.Prelude.{◌≡◌, ℕ, ◌+◌, ◌*◌, ◌&&◌, slice_index_or, Bool, List, [], ◌∷◌, map, length}
 use Rattle.std.proofs.Common.{refl, sym, ap, ap₂, ◌∙◌, subst}
 use Rattle.graph_core.specs.declared.literal.Lit.{Lit}

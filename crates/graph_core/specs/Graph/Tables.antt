@@ -1,4 +1,4 @@
--- The tables that a graph keeps beside its lists. No public clause cites them.
+-- The tables that a graph keeps beside its lists. Of these a public clause cites IsSchedule alone.
 use Rattle.std.specs.Prelude.{◌≡◌, ◌≢◌, ◌==◌, ℕ, suc, ◌+◌, ◌<◌, ◌≤◌, ◌⊎◌, List, [], ◌∷◌, map, take, length, slice_index, slice_index_or}
 use Rattle.std.specs.List.{All, AllPairs, Contains, count_by, flat_map}
 use Rattle.graph_core.specs.declared.literal.Lit.{Lit}

@@ -1,0 +1,5 @@
+pub mod Advancing
+pub mod Bits
+pub mod Orders
+pub mod Running
+pub mod Steps

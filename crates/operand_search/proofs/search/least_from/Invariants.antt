@@ -1,0 +1,14 @@
+use Rattle.std.proofs.Common.{◌≡◌, ◌≤◌, length}
+use Rattle.operand_search.specs.Enumeration.{left_over, ones}
+use Rattle.operand_search.specs.Runs.{NoneBefore}
+use Rattle.operand_search.proofs.search.least_from.Given as goal
+
+abbrev pub invariant-loop-pairs : goal.invariant-loop-pairs
+invariant-loop-pairs l = record {
+  size : length l.inputs ≡ length l.graph.inputs;
+  few : ones l.inputs ≤ l.most_ones;
+  clear : NoneBefore l.graph l.operands.order l.inputs;
+}
+
+abbrev pub decreases-loop-pairs : goal.decreases-loop-pairs
+decreases-loop-pairs l = left_over l.inputs
