@@ -1,10 +1,12 @@
 //! Reductions of a multiplier's columns along a plan, with the lines of a certificate that state what they do.
 //!
 //! `plain_plan` gives the plan that adds all columns and then eliminates the gates by their levels, `slice_plan` one
-//! that adds the columns from the last down and eliminates gates behind each. `reduce` takes the steps of a plan: a
-//! column is added, or a gate's variable is replaced by the product of its operands. After each step the polynomial
-//! that is kept is the next frontier's function. It ends at the first frontier with more monomials than the budget,
-//! or with the last one, and then the lines have one whose value is the specification minus it.
+//! that adds the columns from the last down and eliminates gates behind each. `layered_plan` does so too, and
+//! `columns_first_plan` eliminates them behind all columns; both take the gates nearest to the outputs first. `reduce`
+//! takes the steps of a plan: a column is added, or a gate's variable is replaced by the product of its operands. After
+//! each step the polynomial that is kept is the next frontier's function. It ends at the first frontier with more
+//! monomials than the budget, or with the last one, and then the lines have one whose value is the specification minus
+//! it.
 //!
 //! *Frontier*, *plan*, *size*: those of `frontier_core`. *Counts*: a plan may have steps before the first frontier that
 //! counts, which is that of step 0 (`Planned` in `specs/Reducing.antt`). *Part*: an axiom times a polynomial. Each gate
@@ -14,11 +16,13 @@
 //! the graph's own outputs.
 #![tactic(auto)]
 
+mod columns_first;
 mod elimination;
 mod frontier_walk;
 mod gate_part;
 mod gathered;
 mod group_lines;
+mod layered;
 mod pieces;
 mod plain;
 mod plan;
@@ -28,6 +32,8 @@ mod settling;
 mod slice;
 mod walk;
 
+pub use columns_first::columns_first_plan;
+pub use layered::layered_plan;
 pub use plain::plain_plan;
 pub use plan::Plan;
 pub use reduced::Reduced;

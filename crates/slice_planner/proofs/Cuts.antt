@@ -53,3 +53,7 @@ left_over gates start size low from = let is = ap length (between_to_end gates s
 pub within_more : (gates : List Gate) (parts now : List Part) (p : Part) → now ≡ parts ++ p ∷ [] → AreWithin gates parts → p.start ≤ p.end → p.end ≤ length gates → AreWithin gates now
 within_more gates parts now p is all from to =
     subst (AreWithin gates) (sym is) (All-from_recursion (λ (q : Part). (q.start ≤ q.end) × (q.end ≤ length gates)) (parts ++ p ∷ []) (all_join (λ (q : Part). (q.start ≤ q.end) × (q.end ≤ length gates)) parts (p ∷ []) (recursion_from_All (λ (q : Part). (q.start ≤ q.end) × (q.end ≤ length gates)) parts all) ((from, to), tt)))
+
+-- parts of a list are parts of a longer one
+pub within_longer : (gates more : List Gate) (parts : List Part) → length gates ≤ length more → AreWithin gates parts → AreWithin more parts
+within_longer gates more parts longer all = λ k d low. ((all k d low).0, omega (arith, longer, (all k d low).1))

@@ -88,8 +88,8 @@ fn is_gate(extended: &Extended<'_>, lit: Lit) -> bool
     lit.var() <= extended.max() && extended.gate(lit.var()).is_some()
 }
 
-// The gates alone, by greater level, ties by greater variable.
-fn by_levels(alloc: Global, extended: &Extended<'_>) -> Result<Arrangement, Memory>
+/// The gates alone, by greater level, ties by greater variable.
+pub(crate) fn by_levels(alloc: Global, extended: &Extended<'_>) -> Result<Arrangement, Memory>
     ensures { IfOk result (λ a. All (Contains extended.now.gates) a.gates) }
 {
     let mut keys = keys_of(alloc, extended)?;

@@ -30,8 +30,8 @@ pub fn slice_steps<'a>(alloc: Global, extended: &'a Extended<'a>) -> Result<Vec<
     taking.finish(&arrangement)
 }
 
-// Eliminates those of the groups that are due behind a column that can go.
-fn take_due(
+/// Eliminates those of the groups that are due behind a column that can go.
+pub(crate) fn take_due(
     taking: &mut Taking<'_>,
     arrangement: &Arrangement,
     due: &[Vec<usize>],
