@@ -9,7 +9,7 @@ use Rattle.graph_core.specs.declared.literal.Lit.{Lit}
 use Rattle.graph_core.specs.Graph.{Aig}
 use Rattle.graph_core.specs.Text.{newline}
 use Rattle.graph_core.specs.Text.JudgedLines.{BeginsWith, Behind, IsTooLong, Lengths}
-use Rattle.graph_core.proofs.OfTexts.CallerLemmas.{HasNoNewline, behind_map, none_in}
+use Rattle.graph_core.proofs.OfTexts.CallerLemmas.{HasNoNewline, behind_map}
 use Rattle.mv_text.specs.LineReading.{IsLongAhead, Lines}
 use Rattle.mv_text.proofs.CallerLemmas.{long_of, short_of}
 use Rattle.drup_text.specs.ClauseTexts.{IsPairLine}
@@ -17,12 +17,12 @@ use Rattle.drup_text.specs.FileStates.{BeginsOutOfRange, BeginsWithNone, IsCause
 use Rattle.drup_text.specs.HeaderRefusal.{LineCause, IsFirstRefusal, IsHeaderRefusal, IsPairStep, IsRefusedBehindPairs, IsRefusedCut, IsRefusedPair, IsRefusedPairs, nothing_later}
 use Rattle.drup_text.specs.HeaderRefusal as cause
 use Rattle.drup_text.specs.HeaderSteps.{IsLongIn, Leaves, TakesPairs}
-use Rattle.drup_text.specs.Headers.{IsVersionLine}
+use Rattle.drup_text.specs.Headers.{IsThis, IsVersionLine}
 use Rattle.drup_text.specs.LineTexts.{IsCutTextOf, IsPairOf, IsPairTextOf}
 use Rattle.drup_text.proofs.FileSteps.{told_from}
 
-pub none_version : (line : List ℕ) (x : Unit {0}) → IsVersionLine line x → HasNoNewline line
-none_version line x e = subst HasNoNewline (sym e) (none_in (codes "joined 1") refl)
+pub none_this : (text : List ℕ) → HasNoNewline text → (line : List ℕ) (x : Unit {0}) → IsThis text line x → HasNoNewline line
+none_this text none line x e = subst HasNoNewline (sym e) none
 
 -- ---- causes
 

@@ -7,6 +7,8 @@ pub mod HeaderSteps
 pub mod CallerLemmas
 pub mod WrittenLoops
 pub mod WrittenAgain
+pub mod Writable
 pub mod OneFile
 pub mod HeaderExact
+pub mod SameHeaders
 mod TextRows

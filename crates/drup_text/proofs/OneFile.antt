@@ -33,7 +33,7 @@ same_pair = same_line IsPairLine (ended_at pair_line_at (newline ∷ [])) pair_i
 not_at_end : {Line : Type 0} (IsText : List ℕ → Line → Type 0) (x : Line) (rest : List ℕ) → BeginsWith IsText [] x rest → ⊥
 not_at_end IsText x rest b = some_left b.0 rest (sym b.2)
 
-lines_one : (bytes : List ℕ) (xs ys : List ClauseLine) → AreLinesOf IsClauseLine bytes xs [] → AreLinesOf IsClauseLine bytes ys [] → xs ≡ ys
+pub lines_one : (bytes : List ℕ) (xs ys : List ClauseLine) → AreLinesOf IsClauseLine bytes xs [] → AreLinesOf IsClauseLine bytes ys [] → xs ≡ ys
 lines_one bytes [] [] h i = refl
 lines_one bytes [] (y ∷ ys) h i = absurd (not_at_end IsClauseLine y i.0 (subst (λ z. BeginsWith IsClauseLine z y i.0) h i.1))
 lines_one bytes (x ∷ xs) [] h i = absurd (not_at_end IsClauseLine x h.0 (subst (λ z. BeginsWith IsClauseLine z x h.0) i h.1))

@@ -52,7 +52,7 @@ line_same (Delete c) = (λ l h. h, λ l h. h)
 pub written_lines_are_read : WrittenLinesAreRead
 written_lines_are_read max line writable range = (line, line_written line writable, range, line_same line)
 
-lines_written : (lines : List ClauseLine) → All IsWritableLine lines → AreLinesOf IsClauseLine (lines_text lines) lines []
+pub lines_written : (lines : List ClauseLine) → All IsWritableLine lines → AreLinesOf IsClauseLine (lines_text lines) lines []
 lines_written [] h = refl
 lines_written (x ∷ xs) h = (lines_text xs, (line_text x, line_written x (All-head IsWritableLine x xs h), refl), lines_written xs (All-tail IsWritableLine x xs h))
 

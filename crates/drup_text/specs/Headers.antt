@@ -21,6 +21,10 @@ abbrev pub IsHeaderOf : Aig → Option Cut → Type 0
 IsHeaderOf g None = Unit {0}
 IsHeaderOf g (Some cut) = IsCut g cut
 
+-- a line that is this text
+abbrev pub IsThis : List ℕ → List ℕ → Unit {0} → Type 0
+IsThis text bytes x = bytes ≡ text
+
 -- the first line
 abbrev pub IsVersionLine : List ℕ → Unit {0} → Type 0
 IsVersionLine bytes x = bytes ≡ codes "joined 1"

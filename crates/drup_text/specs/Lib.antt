@@ -1,5 +1,5 @@
 -- To be trusted by whoever reads the contracts: `ClauseTexts`, `Headers`, `LineTexts`, `HeaderRefusal`, `FileStates` and
--- `WrittenTexts`; `WrittenLaws` says what is read of a text that was written. `ClauseReading`, `Steps` and `HeaderSteps` serve private
+-- `WrittenTexts`, and for the certificate of two graphs `SameFiles`; `WrittenLaws` says what is read of a text that was written. `ClauseReading`, `Steps` and `HeaderSteps` serve private
 -- clauses alone.
 pub mod ClauseTexts
 pub mod Headers
@@ -11,3 +11,4 @@ pub mod Steps
 pub mod HeaderSteps
 pub mod WrittenTexts
 pub mod WrittenLaws
+pub mod SameFiles

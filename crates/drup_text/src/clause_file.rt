@@ -8,9 +8,10 @@ ghost use Rattle.drup_text.specs.ClauseTexts.{IsClauseLine};
 ghost use Rattle.drup_text.specs.FileStates.{GoesOn, HasHeader, IsAtEnd, IsNextRefusal, IsStartRefusal, TakesSome, TakesText, header_lines, left_ahead};
 ghost use Rattle.drup_text.specs.Headers.{IsHeaderOf};
 ghost use Rattle.drup_text.specs.LineTexts.{IsLineInRange, IsTextOf};
+ghost use Rattle.drup_text.specs.SameFiles.{HasSameLine, IsSameStartRefusal};
 
 use crate::fault::StartFail;
-use crate::header::{cut, version};
+use crate::header::{cut, first_line, version};
 use crate::line_reading::read_line;
 use clause_core::Line;
 use graph_core::Graph;
@@ -85,6 +86,40 @@ impl ClauseFile {
                 }
                 Err(fail) => Err(fail),
             },
+            Err(why) => Err(StartFail { line: 1, why }),
+        }
+    }
+
+    /// Reads the first line of the certificate of two graphs, which names no variable, so that `_max` has no use.
+    ///
+    /// `Text` comes where another line stands there, or none with its line feed. `TooLong` comes where the line is too long
+    /// or holds the first byte past the limit of the file.
+    pub fn start_same<D: Desk>(
+        alloc: Global,
+        desk: &mut D,
+        _max: u32,
+        limits: &Limits,
+    ) -> Result<ClauseFile, StartFail>
+        requires { (D.seen desk.old).reads Clauses ≡ true }
+        ensures header { IfOk result (λ file. IfSome ((D.seen desk.old).left Clauses)
+            (λ bytes. HasSameLine file bytes (left_ahead file ((D.seen desk.new).left Clauses)))) }
+        ensures refused { IfErr result (IsSameStartRefusal (lengths_of limits.now)
+            ((D.seen desk.old).left Clauses) (D.seen desk.old).read_faults (D.seen desk.new).read_faults) }
+        ensures number { IfOk result (λ file. file.number ≡ 1) }
+        ensures goes_on { IfOk result GoesOn }
+        ensures lengths { IfOk result (λ file. file.lines.lengths ≡ lengths_of limits.now) }
+        ensures piece { IfOk result (λ file. FitsPiece file.lines) }
+        ensures reads { Reads Clauses (D.seen desk.old) (D.seen desk.new) result }
+    {
+        let mut lines = LineReader::new(limits);
+        match first_line(alloc, &mut lines, desk, b"same 1".as_slice()) {
+            Ok(()) => Ok(ClauseFile {
+                alloc,
+                lines,
+                number: 1,
+                ended: false,
+                failed: None,
+            }),
             Err(why) => Err(StartFail { line: 1, why }),
         }
     }

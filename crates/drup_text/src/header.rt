@@ -1,12 +1,14 @@
 // The header of a certificate, line by line.
-ghost use Rattle.std.specs.Prelude.{◌≡◌, ◌+◌, ◌≤◌, ◌++◌, ◌∷◌, [], ℕ, true, All, IfOk, IfErr, IfSome, OnOk, length, ⊤};
+ghost use Rattle.std.specs.Prelude.{◌≡◌, ◌≢◌, ◌+◌, ◌<◌, ◌≤◌, ◌++◌, ◌∷◌, [], ℕ, true, All, IfOk, IfErr, IfSome, OnOk, length, ⊤};
+ghost use Rattle.std.specs.List.{AllByRecursion};
+ghost use Rattle.graph_core.specs.Text.{newline};
 ghost use Rattle.mv_desk.specs.Calls.{Reads};
 ghost use Rattle.mv_desk.specs.declared.slot.Slot.TheVariants.{Clauses};
 ghost use Rattle.mv_text.specs.LineReading.{FitsPiece, known_from};
 ghost use Rattle.drup_text.specs.ClauseTexts.{IsCutLine, IsPairLine};
 ghost use Rattle.drup_text.specs.FileStates.{IsLineRefusal, TakesSome, TakesText, header_lines};
 ghost use Rattle.drup_text.specs.HeaderSteps.{IsCutRefusal, IsPairsRefusal, TakesCut, TakesPairs};
-ghost use Rattle.drup_text.specs.Headers.{IsHeaderOf, IsVersionLine};
+ghost use Rattle.drup_text.specs.Headers.{IsHeaderOf, IsThis, IsVersionLine};
 ghost use Rattle.drup_text.specs.LineTexts.{IsCutTextOf, IsPairOf, IsPairTextOf, IsSizeInRange};
 
 use crate::fault::StartFail;
@@ -18,7 +20,40 @@ use mv_text::LineReader;
 use ripple_graft::{Cut, Pairs};
 use std::alloc::Global;
 
-// The first line.
+// The first line, which has to be this text.
+pub(crate) fn first_line<D: Desk>(
+    alloc: Global,
+    lines: &mut LineReader,
+    desk: &mut D,
+    text: &[u8],
+) -> Result<(), LineFail>
+    requires reads { (D.seen desk.old).reads Clauses ≡ true }
+    requires plain { AllByRecursion (λ b. b ≢ newline) text.now }
+    requires some { 0 < length text.now }
+    ensures line { OnOk result (IfSome (known_from lines.old.ahead ((D.seen desk.old).left Clauses))
+        (λ left. TakesText (IsThis text.now) lines.old lines.new left
+        (known_from lines.new.ahead ((D.seen desk.new).left Clauses)) tt)) }
+    ensures refused { IfErr result (IsLineRefusal (IsThis text.now) (λ x. ⊤) lines.old
+        (known_from lines.old.ahead ((D.seen desk.old).left Clauses))
+        (D.seen desk.old).read_faults (D.seen desk.new).read_faults) }
+    ensures some { OnOk result (TakesSome lines.old lines.new) }
+    ensures two { OnOk result (lines.old.taken + 2 ≤ lines.new.taken) }
+    ensures lengths { lines.new.lengths ≡ lines.old.lengths }
+    ensures piece { FitsPiece lines.new }
+    ensures reads { Reads Clauses (D.seen desk.old) (D.seen desk.new) result }
+{
+    match needed_line(alloc, lines, desk) {
+        Ok(line) => {
+            if line.as_slice() == text {
+                return Ok(());
+            }
+            Err(LineFail::Text)
+        }
+        Err(fail) => Err(fail),
+    }
+}
+
+// The first line of a certificate with a header.
 pub(crate) fn version<D: Desk>(
     alloc: Global,
     lines: &mut LineReader,
@@ -37,15 +72,7 @@ pub(crate) fn version<D: Desk>(
     ensures piece { FitsPiece lines.new }
     ensures reads { Reads Clauses (D.seen desk.old) (D.seen desk.new) result }
 {
-    match needed_line(alloc, lines, desk) {
-        Ok(line) => {
-            if line.as_slice() == b"joined 1".as_slice() {
-                return Ok(());
-            }
-            Err(LineFail::Text)
-        }
-        Err(fail) => Err(fail),
-    }
+    first_line(alloc, lines, desk, b"joined 1".as_slice())
 }
 
 // The lines behind the first one: the cut's, and one for each pair.

@@ -1,4 +1,5 @@
 // The laws of what is written and read.
+ghost use Rattle.drup_text.specs.SameFiles.{WrittenSameIsRead};
 ghost use Rattle.drup_text.specs.WrittenLaws.{OneTextIsOneFile, PassingHeadersAreNotRefused, WrittenFilesAreRead, WrittenHeadersPass, WrittenLinesAreRead};
 
 /// What is written for a line is read as the same line, where `max` is at least each of its variables.
@@ -9,6 +10,11 @@ pub fn written_lines_are_read()
 /// What `write_clauses` writes is the text of the same cut and lines.
 pub fn written_files_are_read()
     ensures { WrittenFilesAreRead }
+{}
+
+/// What `write_same` writes is the text of the same lines.
+pub fn written_same_is_read()
+    ensures { WrittenSameIsRead }
 {}
 
 /// No text is two certificates.

@@ -3,7 +3,8 @@
 //! `ClauseFile::start` reads the header of a certificate from a desk and answers its cut, which the graph takes, or the
 //! first refusal within the header. `next` gives the lines behind it, one by one; only the line in hand is held.
 //! `write_clauses` appends a whole certificate and takes no memory. By the laws of `specs/WrittenLaws.antt` what it
-//! writes is read as the same.
+//! writes is read as the same. `start_same` and `write_same` are for the certificate of two graphs, which has one line of its
+//! own before those of clauses (`specs/SameFiles.antt`).
 //!
 //! *Cut*: where a ripple-carry adder replaces columns (`ripple_graft`). *Text of*: the text says this line, up to the
 //! order and the repeats of its literals (`specs/ClauseTexts.antt`, `specs/LineTexts.antt`). *First refusal*:
@@ -26,6 +27,6 @@ pub use clause_file::ClauseFile;
 pub use fault::StartFail;
 pub use laws::{
     one_text_is_one_file, passing_headers_are_not_refused, written_files_are_read,
-    written_headers_pass, written_lines_are_read,
+    written_headers_pass, written_lines_are_read, written_same_is_read,
 };
-pub use writing::write_clauses;
+pub use writing::{write_clauses, write_same};

@@ -5,6 +5,7 @@ ghost use Rattle.graph_core.specs.Text.{newline, space};
 ghost use Rattle.mv_desk.specs.Calls.{Writes};
 ghost use Rattle.mv_desk.specs.declared.slot.Slot.TheVariants.{Clauses};
 ghost use Rattle.mv_text.specs.Puts.{Puts};
+ghost use Rattle.drup_text.specs.SameFiles.{same_text};
 ghost use Rattle.drup_text.specs.WrittenTexts.{clause_text, cut_text, file_text, line_text, lines_text, literals_text, pairs_text, sign_text, two_text};
 
 use clause_core::{Clause, Line};
@@ -27,6 +28,18 @@ pub fn write_clauses<D: Desk>(
     let mut output = Output::new(Slot::Clauses);
     output.put(desk, b"joined 1\n");
     put_cut(&mut output, desk, cut);
+    put_lines(&mut output, desk, lines);
+    output.flush(desk)
+}
+
+/// Appends the certificate of two graphs to the slot `Clauses`: its first line, and lines. After an error a front part
+/// was written.
+pub fn write_same<D: Desk>(desk: &mut D, lines: &[Line]) -> Result<(), WriteFault>
+    requires { (D.seen desk.old).writes Clauses ≡ true }
+    ensures { Writes Clauses (same_text lines.now) (D.seen desk.old) (D.seen desk.new) result }
+{
+    let mut output = Output::new(Slot::Clauses);
+    output.put(desk, b"same 1\n");
     put_lines(&mut output, desk, lines);
     output.flush(desk)
 }

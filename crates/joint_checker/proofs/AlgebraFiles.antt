@@ -17,12 +17,12 @@ use Rattle.joint_checker.specs.declared.checked.Checked.{Checked}
 use Rattle.joint_checker.specs.declared.checked.Checked.TheVariants as checked
 use Rattle.joint_checker.specs.declared.checked.Refusal.TheVariants as refusal
 use Rattle.joint_checker.specs.AlgebraBody.{IsBodyFail, IsLawfulBody}
-use Rattle.joint_checker.specs.AlgebraLines.{IsLongIn}
+use Rattle.clause_judge.specs.ClauseBody.{IsLongIn}
 use Rattle.joint_checker.specs.Answers.{answer_of_line}
 use Rattle.graph_core.specs.Certificates.{IsLawfulAlgebra}
 use Rattle.joint_checker.specs.Fails.{IsAlgebraFail}
 use Rattle.joint_checker.specs.Outcome.{cause_of}
-use Rattle.joint_checker.proofs.Told.{rose_before, told_more, told_of}
+use Rattle.clause_judge.proofs.Told.{rose_before, told_more, told_of}
 
 module _ (lengths : Lengths) (e : Extended) (sides : Sides) where
   -- the first line isn't the header

@@ -20,11 +20,12 @@ use Rattle.joint_checker.specs.declared.checked.Checked.{Checked}
 use Rattle.joint_checker.specs.declared.checked.Checked.TheVariants as checked
 use Rattle.joint_checker.specs.declared.checked.Refusal.TheVariants as refusal
 use Rattle.joint_checker.specs.AlgebraBody.{IsBodyFail, IsLawfulBody, IsLawfulRest}
-use Rattle.joint_checker.specs.AlgebraLines.{IsEndFail, IsLineFail, IsLongIn, TakesClosing, TakesLawful}
+use Rattle.clause_judge.specs.ClauseBody.{IsLongIn}
+use Rattle.joint_checker.specs.AlgebraLines.{IsEndFail, IsLineFail, TakesClosing, TakesLawful}
 use Rattle.joint_checker.specs.Outcome.{cause_of}
 use Rattle.joint_checker.proofs.AlgebraRests.{IsRefusedRest, lawful_close, lawful_turn, next_agrees, refused_body, refused_end, refused_here, refused_turn}
-use Rattle.joint_checker.proofs.LineEnds.{short_end, within_behind}
-use Rattle.joint_checker.proofs.Told.{rose_before, told_more, told_of}
+use Rattle.clause_judge.proofs.LineEnds.{short_end, within_behind}
+use Rattle.clause_judge.proofs.Told.{rose_before, told_more, told_of}
 
 -- The body is judged up to the line with this number: the checker's ledger is that of the lines before, and what is shown of the rest
 -- holds of the body.

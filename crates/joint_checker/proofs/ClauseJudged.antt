@@ -20,21 +20,19 @@ use Rattle.drup_text.proofs.CallerLemmas.{behind_header, header_anyhow, header_s
 use Rattle.mv_desk.specs.View.{View}
 use Rattle.mv_desk.specs.declared.faults.LineFail.{LineFail}
 use Rattle.mv_desk.specs.declared.faults.LineFail.TheVariants as fail
-use Rattle.mv_desk.specs.declared.slot.Slot.TheVariants as slot
-use Rattle.joint_checker.specs.declared.checked.Checked.{Checked}
-use Rattle.joint_checker.specs.declared.checked.Checked.TheVariants as checked
-use Rattle.joint_checker.specs.declared.checked.Refusal.TheVariants as refusal
-use Rattle.joint_checker.specs.AlgebraLines.{IsLongIn}
-use Rattle.joint_checker.specs.Answers.{answer_of_clause}
-use Rattle.joint_checker.specs.ClauseBody.{HasPassed, IsRestFail, IsShownBody, Pass}
+use Rattle.joint_checker.specs.Answers.{answer_of_clauses}
+use Rattle.clause_judge.specs.ClauseLines.{answer_of_line}
+use Rattle.clause_judge.specs.declared.fail.ClauseFail.{ClauseFail}
+use Rattle.clause_judge.specs.declared.fail.ClauseFail.TheVariants as clauses
+use Rattle.clause_judge.specs.ClauseBody.{HasPassed, IsLongIn, IsRestFail, IsShownBody, Pass}
 use Rattle.joint_checker.specs.ClauseFiles.{GivesExtended, HasLawfulLines}
-use Rattle.joint_checker.specs.ClauseRefusals.{IsClauseRefusal, IsColumnRefusal, IsRefusedLines}
+use Rattle.joint_checker.specs.ClauseRefusals.{IsClauseRefusal, IsColumnRefusal}
+use Rattle.clause_judge.specs.LineRefusals.{IsRefusedLines, line_cause}
 use Rattle.joint_checker.specs.Fails.{IsClauseFail}
-use Rattle.joint_checker.specs.Outcome.{line_cause}
 use Rattle.joint_checker.proofs.ClauseHeaders.{Ends, GoodCut}
-use Rattle.joint_checker.proofs.ClauseRests.{passes_lawful}
+use Rattle.clause_judge.proofs.ClauseRests.{passes_lawful}
 use Rattle.joint_checker.proofs.ClauseWholes.{GoodFile, GoodLines, Long, file_short, long_or}
-use Rattle.joint_checker.proofs.Told.{rose_before, told_more, told_of}
+use Rattle.clause_judge.proofs.Told.{rose_before, told_more, told_of}
 
 -- ---- a file that is told
 
@@ -82,7 +80,7 @@ module _ (lengths : Lengths) (g : Aig) where
   started : (bytes : List ℕ) (p : ℕ × LineCause) → IsHeaderRefusal g lengths bytes p → IsClauseRefusal lengths g bytes p
   started bytes p h = header_anyhow (IsRefusedLines (IsTooLong lengths (length bytes))) g lengths bytes p h
 
-  pub header_fails : (text : Option (List ℕ)) (before now : View) (line : ℕ) (why : LineFail) → IsCause (IsHeaderRefusal g lengths) text before.read_faults now.read_faults line why → IsClauseFail lengths g text before now (answer_of_clause line why)
+  pub header_fails : (text : Option (List ℕ)) (before now : View) (line : ℕ) (why : LineFail) → IsCause (IsHeaderRefusal g lengths) text before.read_faults now.read_faults line why → IsClauseFail lengths g text before now (answer_of_clauses (answer_of_line line why))
   header_fails text before now line fail.Text h = told_more text (λ bytes. IsHeaderRefusal g lengths bytes (line, Text)) (λ bytes. IsClauseRefusal lengths g bytes (line, Text)) (λ bytes k. started bytes (line, Text) k) h
   header_fails text before now line fail.Range h = told_more text (λ bytes. IsHeaderRefusal g lengths bytes (line, Range)) (λ bytes. IsClauseRefusal lengths g bytes (line, Range)) (λ bytes k. started bytes (line, Range) k) h
   header_fails text before now line fail.Fault h = h
@@ -127,16 +125,9 @@ module _ (lengths : Lengths) (g : Aig) where
         let there = told_of behind h.body (λ body. (xs : List ClauseLine) × HasPassed (extended_by g cut) file.lines xs body × IsGoalRefusal (extended_by g cut) xs column) h.left k in
         (cut, there.0, good bytes h there.0 there.1, there.2)) header
 
-    pub rest_fails : (first before now : View) (answer : Checked) → first.read_faults ≤ before.read_faults → IsRestFail (file.number + 1) (extended_by g cut) file.lines behind before now answer → IsClauseFail lengths g text first now answer
-    rest_fails first before now checked.Accepted later k = absurd k
-    rest_fails first before now (checked.Graph why) later k = absurd k
-    rest_fails first before now (checked.Refused (refusal.Clauses n why)) later k = told_refusal (n, line_cause why) k
-    rest_fails first before now (checked.Refused (refusal.Goals column)) later k = column_refusal column k
-    rest_fails first before now (checked.Refused (refusal.Algebra n why)) later k = absurd k
-    rest_fails first before now (checked.TooLong slot.Graph) later k = absurd k
-    rest_fails first before now (checked.TooLong slot.Other) later k = absurd k
-    rest_fails first before now (checked.TooLong slot.Clauses) later k = long_refusal k
-    rest_fails first before now (checked.TooLong slot.Algebra) later k = absurd k
-    rest_fails first before now (checked.TooLong slot.Report) later k = absurd k
-    rest_fails first before now checked.ReadFault later k = rose_before first.read_faults before.read_faults now.read_faults later k
-    rest_fails first before now checked.Memory later k = tt
+    pub rest_fails : (first before now : View) (given : ClauseFail) → first.read_faults ≤ before.read_faults → IsRestFail (file.number + 1) (extended_by g cut) file.lines behind before now given → IsClauseFail lengths g text first now (answer_of_clauses given)
+    rest_fails first before now (clauses.Line n why) later k = told_refusal (n, line_cause why) k
+    rest_fails first before now (clauses.Goals column) later k = column_refusal column k
+    rest_fails first before now clauses.TooLong later k = long_refusal k
+    rest_fails first before now clauses.ReadFault later k = rose_before first.read_faults before.read_faults now.read_faults later k
+    rest_fails first before now clauses.Memory later k = tt

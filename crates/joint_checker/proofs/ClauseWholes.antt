@@ -11,7 +11,7 @@ use Rattle.graph_core.specs.Graph.{Aig}
 use Rattle.graph_core.specs.Text.JudgedLines.{BeginsWith, Behind, IsExact, IsLineStart, IsTooLong, IsWithin, Lengths}
 use Rattle.graph_core.specs.Text.{newline}
 use Rattle.graph_core.proofs.OfGraphs.CallerLemmas.{Decided}
-use Rattle.graph_core.proofs.OfTexts.CallerLemmas.{HasNoNewline, ShortFrom, behind_short, decided_long, exact_as, front_exact, none_in, reached, short_next, short_rest, short_within, start_here, start_later, unless_exact, within_short}
+use Rattle.graph_core.proofs.OfTexts.CallerLemmas.{ShortFrom, behind_short, decided_long, exact_as, front_exact, none_in, reached, short_rest, short_within, start_here, start_later, unless_exact, within_short}
 use Rattle.ripple_graft.specs.Blocks.{with_cut}
 use Rattle.ripple_graft.specs.declared.cut.Cut.{Cut}
 use Rattle.clause_core.specs.Clause.{IsClauseInRange}
@@ -25,18 +25,12 @@ use Rattle.drup_text.specs.LineTexts.{IsPairOf}
 use Rattle.drup_text.proofs.CallerLemmas.{none_cut, none_pair}
 use Rattle.drup_text.proofs.OneFile.{one_text_is_one_file}
 use Rattle.joint_checker.specs.ClauseFiles.{GivesExtended, HasLawfulLines}
-use Rattle.joint_checker.specs.ClauseRefusals.{ClauseFault, ClausesAreExact, Goals, IsClauseRefusal, IsFileRefusal, IsRefusedLines, Line}
+use Rattle.joint_checker.specs.ClauseRefusals.{ClauseFault, ClausesAreExact, Goals, IsClauseRefusal, IsFileRefusal, Line}
+use Rattle.clause_judge.specs.LineRefusals.{IsRefusedLines}
 use Rattle.joint_checker.proofs.ClauseHeaders.{GoodBehind, GoodCut, cut_exact, cut_of}
-use Rattle.joint_checker.proofs.ClauseRests.{Passes, lawful_passes, lines_exact, passes_lawful, passes_short}
+use Rattle.clause_judge.proofs.ClauseRests.{Passes, ShortTo, lawful_passes, lines_exact, passes_lawful, passes_short, short_line}
 
 -- ---- line starts
-
-abbrev ShortTo : (List ℕ → Type 0) → List ℕ → Type 0
-ShortTo IsLong bytes = ShortFrom IsLong bytes × IsLineStart bytes []
-
-short_line : (IsLong : List ℕ → Type 0) (bytes line rest : List ℕ) → bytes ≡ line ++ newline ∷ rest → HasNoNewline line → ¬ (IsLong bytes) → ShortTo IsLong rest → ShortTo IsLong bytes
-short_line IsLong bytes line rest e none long s =
-    (subst (ShortFrom IsLong) (sym e) (short_next IsLong line rest none (subst (λ z. ¬ (IsLong z)) e long) s.0), start_later bytes rest [] (inr (line, e)) s.1)
 
 -- behind lines a line starts
 lines_start : {Line : Type 0} (IsText : List ℕ → Line → Type 0) (bytes : List ℕ) (xs : List Line) (after : List ℕ) → AreLinesOf IsText bytes xs after → IsLineStart bytes after

@@ -1,7 +1,7 @@
 -- Of three files that are told just one answer is due: the graph's refusals, then those of the clause file, then those of the algebra file.
 use Rattle.std.proofs.Common.{◌≡◌, ℕ, List, Option, Some, None, refl, sym, ap, subst, ◌∙◌, inl, inr, ⊎_elim}
 use Rattle.std.specs.Prelude.{◌⊎◌, IsSome}
-use Rattle.aiger_reader.specs.Refusals.{IsTooLong, SpellsWithin}
+use Rattle.aiger_reader.specs.Refusals.{IsGraphRefusal, IsTooLong, SpellsWithin}
 use Rattle.aiger_reader.specs.declared.fail.ReadFail.{ReadFail}
 use Rattle.aiger_reader.proofs.LimitLaws.{spelled_found_or_long}
 use Rattle.graph_core.specs.Algebra.Refusal as cause
@@ -21,8 +21,8 @@ use Rattle.joint_checker.specs.declared.checked.AlgebraWhy.{AlgebraWhy}
 use Rattle.joint_checker.specs.declared.checked.AlgebraWhy.TheVariants as why
 use Rattle.joint_checker.specs.declared.checked.Checked.{Checked}
 use Rattle.joint_checker.specs.declared.checked.Checked.TheVariants as checked
-use Rattle.joint_checker.specs.declared.checked.ClauseWhy.{ClauseWhy}
-use Rattle.joint_checker.specs.declared.checked.ClauseWhy.TheVariants as clause
+use Rattle.clause_judge.specs.declared.fail.ClauseWhy.{ClauseWhy}
+use Rattle.clause_judge.specs.declared.fail.ClauseWhy.TheVariants as clause
 use Rattle.joint_checker.specs.declared.checked.Refusal.TheVariants as refusal
 use Rattle.graph_core.specs.Certificates.{IsLawfulAlgebra}
 use Rattle.drup_text.specs.HeaderRefusal as clausal
@@ -31,18 +31,12 @@ use Rattle.joint_checker.specs.Certificates.{IsLawfulPair}
 use Rattle.joint_checker.specs.ClauseFiles.{GivesExtended}
 use Rattle.joint_checker.specs.ClauseRefusals.{ClauseFault, Goals, IsFileRefusal, Line}
 use Rattle.joint_checker.specs.Files.{Files, Texts, texts_of}
-use Rattle.joint_checker.specs.Outcome.{IsDue, IsExactAnswer, IsGraphRefusal, IsOutcome, OneAnswerIsDue, OutcomesAreExact, cause_of, line_cause}
+use Rattle.joint_checker.specs.Outcome.{IsDue, IsExactAnswer, IsOutcome, OneAnswerIsDue, OutcomesAreExact, cause_of}
+use Rattle.clause_judge.specs.LineRefusals.{line_cause}
+use Rattle.clause_judge.proofs.Causes.{next_exact}
 use Rattle.joint_checker.proofs.ClauseWholes.{clauses_are_exact}
 use Rattle.joint_checker.proofs.Joined.{gives_of}
-use Rattle.joint_checker.proofs.GraphFiles.{answer_of, one_graph_refusal, refused, refused_not_long, spelled_not_long, spelled_not_refused}
-
--- causes of one thing, and behind it those of another
-next_exact : {C G H : Type 0} {Refused Others : C → Type 0} → IsExact G Refused → (G → IsExact H Others) → IsExact (G × H) (λ c. Refused c ⊎ (G × Others c))
-next_exact e h = record {
-  decided = ⊎_elim (λ g. ⊎_elim (λ k. inl (g, k)) (λ r. inr (r.0, inr (g, r.1))) (h g).decided) (λ r. inr (r.0, inl r.1)) e.decided;
-  not_both = λ c good r. ⊎_elim (λ x. e.not_both c good.0 x) (λ y. (h y.0).not_both c good.1 y.1) r;
-  one = λ a b r s. ⊎_elim (λ x. ⊎_elim (λ y. e.one a b x y) (λ y. absurd (e.not_both a y.0 x)) s) (λ x. ⊎_elim (λ y. absurd (e.not_both b x.0 y)) (λ y. (h x.0).one a b x.1 y.1) s) r;
-}
+use Rattle.aiger_reader.proofs.GraphFiles.{answer_of, one_graph_refusal, refused, refused_not_long, spelled_not_long, spelled_not_refused}
 
 -- ---- the answers by their causes
 

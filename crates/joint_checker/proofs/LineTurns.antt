@@ -33,9 +33,10 @@ use Rattle.poly_text.proofs.CallerLemmas.{close_there, line_there, no_line_is_re
 use Rattle.joint_checker.specs.declared.algebra_line.Turn.{Turn}
 use Rattle.joint_checker.specs.declared.algebra_line.Turn.TheVariants as turn
 use Rattle.joint_checker.specs.declared.checked.Checked.{Checked}
-use Rattle.joint_checker.specs.AlgebraLines.{IsJudged, IsLineFail, IsLongIn, IsUnlawful, TakesClosing, TakesLawful, Turns}
+use Rattle.clause_judge.specs.ClauseBody.{IsLongIn}
+use Rattle.joint_checker.specs.AlgebraLines.{IsJudged, IsLineFail, IsUnlawful, TakesClosing, TakesLawful, Turns}
 use Rattle.joint_checker.specs.Answers.{answer_of_close, answer_of_line, answer_of_rule}
-use Rattle.joint_checker.proofs.Told.{told_more}
+use Rattle.clause_judge.proofs.Told.{told_more}
 
 -- a line that is no closing line is told
 pub some_is_told : (t : Table) (line : PacLine) → ((id : ℕ) → line ≡ pac.Close id → ⊥) → IsSome (line_in t line)

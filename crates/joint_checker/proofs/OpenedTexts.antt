@@ -16,8 +16,9 @@ use Rattle.joint_checker.specs.declared.checked.Checked.TheVariants as checked
 use Rattle.joint_checker.specs.declared.checked.Refusal.TheVariants as refusal
 use Rattle.joint_checker.specs.ClauseRefusals.{IsClauseRefusal, IsColumnRefusal}
 use Rattle.joint_checker.specs.Fails.{IsAlgebraFail, IsClauseFail}
-use Rattle.joint_checker.specs.Outcome.{cause_of, line_cause}
-use Rattle.joint_checker.proofs.Told.{rose_before}
+use Rattle.joint_checker.specs.Outcome.{cause_of}
+use Rattle.clause_judge.specs.LineRefusals.{line_cause}
+use Rattle.clause_judge.proofs.Told.{rose_before}
 
 -- the bytes under the name and what is left, and the desk before the file is opened, once it is, and at the end
 module _ (text left : Option (List ℕ)) (kept : Keeps text left) (first before now : View) (later : first.read_faults ≤ before.read_faults) (lengths : Lengths) where

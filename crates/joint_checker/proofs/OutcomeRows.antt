@@ -28,9 +28,10 @@ use Rattle.joint_checker.specs.ClauseFiles.{GivesExtended, IsExtendedOf}
 use Rattle.joint_checker.specs.ClauseRefusals.{IsClauseRefusal, IsColumnRefusal}
 use Rattle.joint_checker.specs.Fails.{IsAlgebraFail, IsClauseFail, IsGraphFail}
 use Rattle.joint_checker.specs.Files.{Files, HasExtended, texts_of}
-use Rattle.joint_checker.specs.Outcome.{IsOutcome, MeetsAlgebra, cause_of, line_cause}
+use Rattle.joint_checker.specs.Outcome.{IsOutcome, MeetsAlgebra, cause_of}
+use Rattle.clause_judge.specs.LineRefusals.{line_cause}
 use Rattle.joint_checker.proofs.Joined.{graph_is, vanishing_multiplies}
-use Rattle.joint_checker.proofs.Told.{rose_before}
+use Rattle.clause_judge.proofs.Told.{rose_before}
 
 -- ---- the graph file
 

@@ -15,7 +15,7 @@ use Rattle.mv_text.specs.LineReading.{Lines}
 use Rattle.joint_checker.specs.declared.checked.Checked.{Checked}
 use Rattle.joint_checker.specs.declared.checked.Checked.TheVariants as checked
 use Rattle.joint_checker.specs.declared.checked.Refusal.TheVariants as refusal
-use Rattle.joint_checker.specs.AlgebraLines.{IsLongIn}
+use Rattle.clause_judge.specs.ClauseBody.{IsLongIn}
 use Rattle.joint_checker.specs.Outcome.{cause_of}
 
 -- Lawful lines over the ledger, a closing line, and nothing behind it. No line is too long.

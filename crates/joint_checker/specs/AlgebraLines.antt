@@ -1,5 +1,5 @@
 -- One line of an algebra file, over what is left of it and over the checker's ledger.
-use Rattle.std.specs.Prelude.{◌≡◌, ◌≢◌, ◌+◌, ◌⊎◌, ℕ, List, [], length, IfOk, IfErr, IfSome, ⊤}
+use Rattle.std.specs.Prelude.{◌≡◌, ◌≢◌, ◌+◌, ◌⊎◌, ℕ, List, [], IfOk, IfErr, IfSome, ⊤}
 use Rattle.std.specs.Result.{result_err}
 use Rattle.std.specs.declared.option.Option.{Option}
 use Rattle.std.specs.declared.option.Option.TheVariants.{Some}
@@ -8,7 +8,7 @@ use Rattle.graph_core.specs.Algebra.{Ledger, Line, Closes, IsLawfulLine, after, 
 use Rattle.graph_core.specs.Algebra.Refusal.{IsRefusedNext}
 use Rattle.graph_core.specs.Algebra.Text.{IsCloseText, IsId, IsLineInRange, IsLineText}
 use Rattle.graph_core.specs.Graph.Extended.{Extended}
-use Rattle.graph_core.specs.Text.JudgedLines.{BeginsWith, IsTooLong}
+use Rattle.graph_core.specs.Text.JudgedLines.{BeginsWith}
 use Rattle.graph_core.specs.Graph.Operands.{Sides}
 use Rattle.mv_desk.specs.Calls.{ReadsOnly}
 use Rattle.mv_desk.specs.View.{KeepsTelling, Rose, View}
@@ -27,6 +27,7 @@ use Rattle.poly_text.specs.LineTexts.{IsTextOf}
 use Rattle.poly_text.specs.Lines.{line_in}
 use Rattle.poly_text.specs.declared.line.PacLine.{PacLine}
 use Rattle.poly_text.specs.declared.line.PacLine.TheVariants as pac
+use Rattle.clause_judge.specs.ClauseBody.{IsLongIn}
 use Rattle.joint_checker.specs.declared.algebra_line.Turn.{Turn}
 use Rattle.joint_checker.specs.declared.algebra_line.Turn.TheVariants as turn
 use Rattle.joint_checker.specs.declared.checked.AlgebraWhy.TheVariants as why
@@ -64,10 +65,6 @@ IsUnlawful n text c answer =
     ((line : Line) × (fault : LineFault) × (line_in c.table text ≡ Some line) ×
     IsFault c.extended (ledger_of c) line fault × (answer ≡ answer_of_rule n fault)) ⊎
     ((id : ℕ) × (fault : CloseFault) × (text ≡ pac.Close id) × IsCloseFault c.extended c.sides (ledger_of c) id fault × (answer ≡ answer_of_close n fault))
-
--- Where these bytes are left to a reader of lines: a line of them is too long for the whole file.
-abbrev pub IsLongIn : Lines → List ℕ → List ℕ → Type 0
-IsLongIn lines body left = IsTooLong lines.lengths (lines.taken + length body) left
 
 -- A lawful line stands there, and the ledger next is the one behind it.
 pub record TakesLawful (e : Extended) (l next : Ledger) (old new : Lines) (left : List ℕ) (behind : Option (List ℕ)) : Type 0 where

@@ -2,6 +2,7 @@
 use Rattle.std.specs.Prelude.{ℕ, List, IfSome, ⊤}
 use Rattle.std.specs.declared.option.Option.{Option}
 use Rattle.aiger_reader.specs.Refusals as reading
+use Rattle.aiger_reader.specs.Refusals.{IsGraphRefusal}
 use Rattle.graph_core.specs.Algebra.Refusal as cause
 use Rattle.graph_core.specs.Graph.Operands.{Sides}
 use Rattle.graph_core.specs.Algebra.Refusal.{IsAlgebraRefusal}
@@ -15,7 +16,8 @@ use Rattle.joint_checker.specs.declared.checked.Refusal.TheVariants as refusal
 use Rattle.graph_core.specs.Graph.{Aig}
 use Rattle.drup_text.specs.HeaderRefusal.{TooLong}
 use Rattle.joint_checker.specs.ClauseRefusals.{IsClauseRefusal, IsColumnRefusal}
-use Rattle.joint_checker.specs.Outcome.{IsGraphRefusal, cause_of, line_cause}
+use Rattle.clause_judge.specs.LineRefusals.{line_cause}
+use Rattle.joint_checker.specs.Outcome.{cause_of}
 
 -- of the graph file
 abbrev pub IsGraphFail : ℕ → Option (List ℕ) → View → View → Checked → Type 0

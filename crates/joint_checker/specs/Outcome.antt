@@ -1,9 +1,7 @@
 -- What `check` says of three files, and where each answer comes.
 use Rattle.std.specs.Prelude.{◌≡◌, ◌⊎◌, ℕ, List, IfSome, ⊤}
 use Rattle.aiger_reader.specs.Refusals as reading
-use Rattle.aiger_reader.specs.Refusals.{Refuses}
-use Rattle.aiger_reader.specs.declared.fail.ReadFail.{ReadFail}
-use Rattle.aiger_reader.specs.declared.fail.ReadFail.TheVariants as fail
+use Rattle.aiger_reader.specs.Refusals.{IsGraphRefusal}
 use Rattle.graph_core.specs.Algebra.Refusal as cause
 use Rattle.graph_core.specs.Algebra.Refusal.{AlgebraCause, IsAlgebraRefusal}
 use Rattle.graph_core.specs.Graph.Extended.{Extended}
@@ -18,30 +16,15 @@ use Rattle.joint_checker.specs.declared.checked.AlgebraWhy.{AlgebraWhy}
 use Rattle.joint_checker.specs.declared.checked.AlgebraWhy.TheVariants as why
 use Rattle.joint_checker.specs.declared.checked.Checked.{Checked}
 use Rattle.joint_checker.specs.declared.checked.Checked.TheVariants as checked
-use Rattle.joint_checker.specs.declared.checked.ClauseWhy.{ClauseWhy}
-use Rattle.joint_checker.specs.declared.checked.ClauseWhy.TheVariants as clause
 use Rattle.joint_checker.specs.declared.checked.Refusal.TheVariants as refusal
 use Rattle.drup_text.specs.HeaderRefusal as clausal
-use Rattle.drup_text.specs.HeaderRefusal.{LineCause}
+use Rattle.clause_judge.specs.LineRefusals.{line_cause}
 use Rattle.joint_checker.specs.ClauseRefusals.{IsClauseRefusal, IsColumnRefusal}
 use Rattle.joint_checker.specs.Files.{AreTold, Files, HasExtended, HasGraph, HasLawfulPair, Texts, texts_of}
 
 -- ---- what the three files come to
 
--- the graph file's first refusal: a byte, a field or a fault
-abbrev pub IsGraphRefusal : ℕ → List ℕ → ReadFail → Type 0
-IsGraphRefusal limit file (fail.Text p) = Refuses limit file (fail.Text p)
-IsGraphRefusal limit file (fail.Header f) = Refuses limit file (fail.Header f)
-IsGraphRefusal limit file (fail.Graph f) = Refuses limit file (fail.Graph f)
-IsGraphRefusal limit file _ = ⊥
-
 -- the definitions' cause of that name
-abbrev pub line_cause : ClauseWhy → LineCause
-line_cause clause.Text = clausal.Text
-line_cause clause.Range = clausal.Range
-line_cause clause.NotImplied = clausal.NotImplied
-line_cause clause.NoSuchClause = clausal.NoSuchClause
-
 abbrev pub cause_of : AlgebraWhy → AlgebraCause
 cause_of why.Text = cause.Text
 cause_of why.Range = cause.Range

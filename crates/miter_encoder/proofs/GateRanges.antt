@@ -5,6 +5,7 @@ use Rattle.std.specs.declared.result.Result.TheVariants.{Ok, Err}
 use Rattle.std.specs.Result.{IfOk}
 use Rattle.std.specs.List.{All, AllByRecursion, Contains}
 use Rattle.std.proofs.lemmas.List.Elements.{All-contains, All-contains_itself, All-from_recursion, All-weaker, recursion_from_All}
+use Rattle.graph_core.specs.declared.gate.Gate.{Gate}
 use Rattle.graph_core.specs.Graph.Extended.{Extended}
 use Rattle.graph_core.specs.Graph.Literals.{variable_of}
 use Rattle.ripple_graft.specs.Extension.{IsExtension, IsReadable}
@@ -37,9 +38,12 @@ gates_within e x = record {
 }
 
 -- clauses of these sets are in range
+pub within_range : (max : ℕ) (gates : List Gate) (cs : List Clause) → AreGatesWithin max gates → AreSameSets cs (gate_clauses gates) → All (IsClauseInRange max) cs
+within_range max gates cs within same = All-from_recursion (IsClauseInRange max) cs
+    (sets_range max cs (gate_clauses gates) same (recursion_from_All (IsClauseInRange max) (gate_clauses gates) (gate_clauses_are_in_range max gates within)))
+
 clauses_in_range : (e : Extended) (cs : List Clause) → IsExtension e → AreSameSets cs (gate_clauses e.gates) → All (IsClauseInRange e.max) cs
-clauses_in_range e cs x same = All-from_recursion (IsClauseInRange e.max) cs
-    (sets_range e.max cs (gate_clauses e.gates) same (recursion_from_All (IsClauseInRange e.max) (gate_clauses e.gates) (gate_clauses_are_in_range e.max e.gates (gates_within e x))))
+clauses_in_range e cs x same = within_range e.max e.gates cs (gates_within e x) same
 
 pub in_range_ok : {E : Type 0} (e : Extended) (r : Result (List Clause) E) → IsExtension e → IfOk r (λ clauses. AreSameSets clauses (gate_clauses e.gates)) →
     IfOk r (λ clauses. All (IsClauseInRange e.max) clauses)

@@ -3,3 +3,4 @@ pub mod Appending
 pub mod GoalLists
 pub mod GateRanges
 pub mod Meanings
+pub mod PairGoals

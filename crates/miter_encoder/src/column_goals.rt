@@ -1,11 +1,11 @@
-// The goals of the replaced columns.
-ghost use Rattle.std.specs.Prelude.{◌≡◌, ◌↔◌, ◌∷◌, [], ◌++◌, IfOk, OnOk};
+// The goals of columns.
+ghost use Rattle.std.specs.Prelude.{◌≡◌, ◌↔◌, ◌≤◌, ◌^◌, ◌∷◌, [], ◌++◌, length, IfOk, OnOk};
 ghost use Rattle.std.specs.List.{All};
 ghost use Rattle.graph_core.specs.Algebra.{AgreeOnColumns};
 ghost use Rattle.graph_core.specs.Graph.Assignments.{Assignment};
 ghost use Rattle.graph_core.specs.Graph.Literals.{negation_of};
 ghost use Rattle.clause_core.specs.GateClauses.{clause_of as clause_by};
-ghost use Rattle.miter_encoder.specs.ColumnGoals.{AreGoalsOf, GoalHolds, IsGoalOf};
+ghost use Rattle.miter_encoder.specs.ColumnGoals.{AgreeOnPairs, AreGoalsOf, AreGoalsOfColumns, GoalHolds, IsGoalOf, columns_from};
 ghost use Rattle.miter_encoder.specs.Pushing.{PushesGoal, PushesGoals};
 
 use crate::clause_of;
@@ -29,6 +29,21 @@ pub fn goals(alloc: Global, extended: &Extended<'_>) -> Result<Goals, Memory>
             let new = extended.new_output(column as u32);
             push_column(alloc, &mut goals, column as u32, outputs[column], new)?;
         }
+    }
+    Ok(goals)
+}
+
+/// The two goals of each pair of outputs; pair k is column k.
+pub fn goals_of(alloc: Global, pairs: &[(Lit, Lit)]) -> Result<Goals, Memory>
+    requires { length pairs.now ≤ 2 ^ 32 }
+    ensures sets { IfOk result (AreGoalsOfColumns (columns_from 0 pairs.now)) }
+    ensures meaning { IfOk result (λ goals. (σ : Assignment) →
+        All (GoalHolds σ) goals ↔ AgreeOnPairs pairs.now σ) }
+{
+    let mut goals = Goals::new(alloc);
+    for column in 0..pairs.len() {
+        let (old, new) = pairs[column];
+        push_column(alloc, &mut goals, column as u32, old, new)?;
     }
     Ok(goals)
 }

@@ -29,7 +29,9 @@ pub fn gate_clauses(alloc: Global, extended: &Extended<'_>) -> Result<ClauseList
 /// The three clauses of each gate, constants left out.
 pub fn gate_clauses_of(alloc: Global, gates: &[Gate]) -> Result<ClauseList, Memory>
     requires { All (λ gate. gate.v < 2 ^ 31) gates.now }
-    ensures { IfOk result (λ clauses. AreSameSets clauses (clauses_by gates.now)) }
+    ensures sets { IfOk result (λ clauses. AreSameSets clauses (clauses_by gates.now)) }
+    ensures meaning { IfOk result (λ clauses. (σ : Assignment) →
+        Satisfies σ clauses ↔ IsEvaluation gates.now σ) }
 {
     let mut clauses = ClauseList::new(alloc);
     for gate in gates {

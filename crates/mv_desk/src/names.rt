@@ -1,10 +1,12 @@
 // The names of the files of a command.
 ghost use Rattle.std.specs.Prelude.{◌↔◌, IsTrue};
 
-/// The names of the three files of a command.
+/// The names of the files of a command, empty for those that it hasn't.
 #[derive(Clone, Copy, Debug)]
 pub struct Names<'a> {
     pub graph: &'a str,
+    /// the second graph
+    pub other: &'a str,
     pub clauses: &'a str,
     pub algebra: &'a str,
 }
@@ -12,7 +14,7 @@ pub struct Names<'a> {
 impl Names<'_> {
     ghost use Rattle.mv_desk.specs.Names.{AreDistinct};
 
-    /// No two of the names are equal as texts.
+    /// No two of the names of the graph and of both certificates are equal as texts.
     pub fn are_distinct(&self) -> bool
         ensures { IsTrue result ↔ AreDistinct self.now }
     {

@@ -1,11 +1,16 @@
-use Rattle.std.proofs.Common.{◌+◌, ℕ, Option, subst}
+use Rattle.std.proofs.Common.{◌+◌, ℕ, List, Option, sym, subst}
+use Rattle.std.specs.List.{All}
+use Rattle.graph_core.specs.declared.gate.Gate.{Gate}
+use Rattle.clause_core.specs.Clause.{IsClauseInRange}
 use Rattle.std.proofs.lemmas.Result.{IfErr-weaker, err_from_is_err_and, on_ok_weaker}
 use Rattle.clause_core.specs.ClauseLines.{ClauseLine}
 use Rattle.mv_desk.specs.declared.slot.Slot.TheVariants as slot
 use Rattle.mv_desk.proofs.CallerLemmas.{KeepsTelling-trans, ReadsOnly-trans}
-use Rattle.joint_checker.specs.ClauseBody.{IsFailFrom, IsRestFail}
-use Rattle.joint_checker.specs.ClauseLines.{IsTextFail, ReadsNext, left_for}
-use Rattle.joint_checker.proofs.ClauseTurns.{begins_with, first_fails, nothing_joined, nothing_passed}
+use Rattle.clause_core.specs.GateClauses.{gate_clauses}
+use Rattle.clause_core.specs.Likeness.{AreSameSets}
+use Rattle.clause_judge.specs.ClauseBody.{IsFailFrom, IsRestFail}
+use Rattle.clause_judge.specs.ClauseLines.{IsTextFail, ReadsNext, left_for}
+use Rattle.clause_judge.proofs.ClauseTurns.{begins_with, first_fails, nothing_joined, nothing_passed}
 use Rattle.joint_checker.proofs.clause_file.judge_lines.Goals as goal
 
 -- ---- the first line
@@ -21,7 +26,7 @@ returns-in_err-first-clause-refused g c =
     let p = err_from_is_err_and c.from_residual-in_err-first.result c.from_residual-in_err-first.ensures.1 in
     rw (p.1, p.2)
     (first_fails e start body first now answer
-    (subst (λ (m : ℕ). IsTextFail (start.number + 1) m start.lines body first now answer) c.max.ensures.value c.in_err-first.ensures.refused))
+    (subst (λ (m : ℕ). IsTextFail (start.number + 1) m start.lines body first now answer) c.max-max.ensures.value c.in_err-first.ensures.refused))
 
 pub returns-then-is_nothing-clause-lawful : goal.returns-then-is_nothing-clause-lawful
 returns-then-is_nothing-clause-lawful g c =
@@ -33,7 +38,7 @@ returns-then-is_nothing-clause-lawful g c =
     let none = c.is_nothing.ensures c.if-is_nothing.true in
     nothing_passed e start body c.in_ok-goals.goals c.in_ok-goals.ensures.sets none.1 file left
     (subst (λ (next : Option ClauseLine). ReadsNext e.max start file body left next) none.0
-    (subst (λ (m : ℕ). ReadsNext m start file body left c.in_ok-first.first) c.max.ensures.value c.in_ok-first.ensures.next))
+    (subst (λ (m : ℕ). ReadsNext m start file body left c.in_ok-first.first) c.max-max.ensures.value c.in_ok-first.ensures.next))
 
 pub returns-then-is_nothing-clause-columns : goal.returns-then-is_nothing-clause-columns
 returns-then-is_nothing-clause-columns g c =
@@ -43,24 +48,52 @@ returns-then-is_nothing-clause-columns g c =
 
 -- ---- all lines
 
+pub checker_of-requires-clause-in_range : goal.checker_of-requires-clause-in_range
+checker_of-requires-clause-in_range g c = subst (λ (m : ℕ). All (IsClauseInRange m) c.in_ok-clauses.clauses) (sym c.max-max.ensures.value) c.in_ok-clauses.ensures.in_range
+
+pub checker_of-requires-clause-of_gates : goal.checker_of-requires-clause-of_gates
+checker_of-requires-clause-of_gates g c = subst (λ (gates : List Gate). AreSameSets c.in_ok-clauses.clauses (gate_clauses gates)) (sym c.gates.ensures.value) c.in_ok-clauses.ensures.sets
+
 pub judge_from-requires-clause-begins : goal.judge_from-requires-clause-begins
 judge_from-requires-clause-begins g c =
+    let e = c.args.extended.now in
     let start = c.args.file.now in
+    let middle = g.D.Desk.seen c.read_line.new.desk in
+    let file = c.read_line.new.file in
     let body = left_for start (g.D.Desk.seen c.args.desk.now) in (
+      e,
       start,
       body,
-      begins_with c.args.extended.now start body c.in_ok-checker.checker c.in_ok-goals.goals c.max.result c.in_ok-first.first c.read_line.new.file (left_for c.read_line.new.file (g.D.Desk.seen c.read_line.new.desk))
-          c.in_ok-checker.ensures.taken c.in_ok-checker.ensures.max c.in_ok-checker.ensures.goals c.in_ok-goals.ensures.sets c.in_ok-first.ensures.lengths c.requires.limit c.max.ensures.value c.in_ok-first.ensures.next,
+      begins_with e start body c.in_ok-checker.checker c.gates.result.now c.in_ok-goals.goals c.max-max.result c.in_ok-first.first file (left_for file middle)
+          c.in_ok-checker.ensures.taken (sym c.gates.ensures.value) c.in_ok-checker.ensures.max c.max-max.ensures.value c.in_ok-checker.ensures.goals c.in_ok-goals.ensures.sets c.in_ok-first.ensures.lengths c.requires.limit
+          c.in_ok-first.ensures.next,
     )
 
 pub returns-clause-lawful : goal.returns-clause-lawful
 returns-clause-lawful g c =
+    let e = c.args.extended.now in
     let start = c.args.file.now in
+    let middle = g.D.Desk.seen c.read_line.new.desk in
+    let file = c.read_line.new.file in
     let body = left_for start (g.D.Desk.seen c.args.desk.now) in
     let begins =
-    begins_with c.args.extended.now start body c.in_ok-checker.checker c.in_ok-goals.goals c.max.result c.in_ok-first.first c.read_line.new.file (left_for c.read_line.new.file (g.D.Desk.seen c.read_line.new.desk))
-    c.in_ok-checker.ensures.taken c.in_ok-checker.ensures.max c.in_ok-checker.ensures.goals c.in_ok-goals.ensures.sets c.in_ok-first.ensures.lengths c.requires.limit c.max.ensures.value c.in_ok-first.ensures.next in
-    on_ok_weaker c.judge_from.result (λ shown. shown start body begins) c.judge_from.ensures.lawful
+    begins_with e start body c.in_ok-checker.checker c.gates.result.now c.in_ok-goals.goals c.max-max.result c.in_ok-first.first file (left_for file middle)
+    c.in_ok-checker.ensures.taken (sym c.gates.ensures.value) c.in_ok-checker.ensures.max c.max-max.ensures.value c.in_ok-checker.ensures.goals c.in_ok-goals.ensures.sets c.in_ok-first.ensures.lengths c.requires.limit
+    c.in_ok-first.ensures.next in
+    on_ok_weaker c.judge_from.result (λ shown. shown e start body begins) c.judge_from.ensures.lawful
+
+pub returns-clause-columns : goal.returns-clause-columns
+returns-clause-columns g c =
+    let e = c.args.extended.now in
+    let start = c.args.file.now in
+    let middle = g.D.Desk.seen c.read_line.new.desk in
+    let file = c.read_line.new.file in
+    let body = left_for start (g.D.Desk.seen c.args.desk.now) in
+    let begins =
+    begins_with e start body c.in_ok-checker.checker c.gates.result.now c.in_ok-goals.goals c.max-max.result c.in_ok-first.first file (left_for file middle)
+    c.in_ok-checker.ensures.taken (sym c.gates.ensures.value) c.in_ok-checker.ensures.max c.max-max.ensures.value c.in_ok-checker.ensures.goals c.in_ok-goals.ensures.sets c.in_ok-first.ensures.lengths c.requires.limit
+    c.in_ok-first.ensures.next in
+    on_ok_weaker c.judge_from.result (λ joins. joins e start body begins) c.judge_from.ensures.columns
 
 pub returns-clause-refused : goal.returns-clause-refused
 returns-clause-refused g c =
@@ -72,10 +105,11 @@ returns-clause-refused g c =
     let file = c.read_line.new.file in
     let body = left_for start first in
     let begins =
-    begins_with c.args.extended.now start body c.in_ok-checker.checker c.in_ok-goals.goals c.max.result c.in_ok-first.first c.read_line.new.file (left_for c.read_line.new.file (g.D.Desk.seen c.read_line.new.desk))
-    c.in_ok-checker.ensures.taken c.in_ok-checker.ensures.max c.in_ok-checker.ensures.goals c.in_ok-goals.ensures.sets c.in_ok-first.ensures.lengths c.requires.limit c.max.ensures.value c.in_ok-first.ensures.next in
-    IfErr-weaker c.judge_from.result (IsFailFrom e c.in_ok-checker.checker c.in_ok-first.first file (left_for file middle) middle now) (IsRestFail (start.number + 1) e start.lines body first now)
-    (λ answer fails. fails start body begins first c.in_ok-first.ensures.only.later) c.judge_from.ensures.refused
+    begins_with e start body c.in_ok-checker.checker c.gates.result.now c.in_ok-goals.goals c.max-max.result c.in_ok-first.first file (left_for file middle)
+    c.in_ok-checker.ensures.taken (sym c.gates.ensures.value) c.in_ok-checker.ensures.max c.max-max.ensures.value c.in_ok-checker.ensures.goals c.in_ok-goals.ensures.sets c.in_ok-first.ensures.lengths c.requires.limit
+    c.in_ok-first.ensures.next in
+    IfErr-weaker c.judge_from.result (IsFailFrom c.in_ok-checker.checker c.in_ok-first.first file (left_for file middle) middle now) (IsRestFail (start.number + 1) e start.lines body first now)
+    (λ answer fails. fails e start body begins first c.in_ok-first.ensures.only.later) c.judge_from.ensures.refused
 
 pub returns-clause-only : goal.returns-clause-only
 returns-clause-only g c =

@@ -1,4 +1,4 @@
-use Rattle.joint_checker.proofs.Joined.{goals_join_columns as law}
+use Rattle.clause_judge.proofs.Joins.{goals_join_columns as law}
 use Rattle.joint_checker.proofs.laws.goals_join_columns.Goals as goal
 
 pub returns : goal.returns

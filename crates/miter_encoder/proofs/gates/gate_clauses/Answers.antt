@@ -8,7 +8,6 @@ use Rattle.clause_core.specs.Clause.{Satisfies}
 use Rattle.clause_core.specs.GateClauses.{gate_clauses}
 use Rattle.clause_core.specs.Likeness.{AreSameSets}
 use Rattle.miter_encoder.proofs.GateRanges.{in_range_ok}
-use Rattle.miter_encoder.proofs.Meanings.{clauses_mean_ok}
 use Rattle.miter_encoder.proofs.gates.gate_clauses.Goals as goal
 
 pub gate_clauses_of-requires : goal.gate_clauses_of-requires
@@ -18,10 +17,9 @@ gate_clauses_of-requires c =
 
 pub returns-clause-meaning : goal.returns-clause-meaning
 returns-clause-meaning c =
-    subst (λ (gates : List Gate). IfOk c.gate_clauses_of.result (λ clauses. (σ : Assignment) → Satisfies σ clauses ↔ IsEvaluation gates σ)) c.gates.ensures.value
-    (clauses_mean_ok c.gates.result.now c.gate_clauses_of.result c.gate_clauses_of.ensures)
+    subst (λ (gates : List Gate). IfOk c.gate_clauses_of.result (λ clauses. (σ : Assignment) → Satisfies σ clauses ↔ IsEvaluation gates σ)) c.gates.ensures.value c.gate_clauses_of.ensures.meaning
 
 pub returns-clause-in_range : goal.returns-clause-in_range
 returns-clause-in_range c =
     in_range_ok c.args.extended.now c.gate_clauses_of.result c.gates.ensures.extension
-    (subst (λ (gates : List Gate). IfOk c.gate_clauses_of.result (λ clauses. AreSameSets clauses (gate_clauses gates))) c.gates.ensures.value c.gate_clauses_of.ensures)
+    (subst (λ (gates : List Gate). IfOk c.gate_clauses_of.result (λ clauses. AreSameSets clauses (gate_clauses gates))) c.gates.ensures.value c.gate_clauses_of.ensures.sets)

@@ -1,0 +1,9 @@
+pub mod Told
+pub mod LineEnds
+pub mod Causes
+pub mod ClauseRests
+pub mod Joins
+pub mod CheckerBegins
+pub mod ClauseReading
+pub mod ClauseReached
+pub mod ClauseTurns

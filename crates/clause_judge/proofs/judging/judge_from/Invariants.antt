@@ -1,0 +1,21 @@
+use Rattle.std.proofs.Common.{◌≡◌, ℕ, List, Option}
+use Rattle.graph_core.specs.Graph.Extended.{Extended}
+use Rattle.drup_text.specs.FileStates.{FileState}
+use Rattle.mv_desk.specs.Calls.{ReadsOnly}
+use Rattle.mv_desk.specs.View.{KeepsTelling}
+use Rattle.mv_desk.specs.declared.slot.Slot.TheVariants as slot
+use Rattle.miter_encoder.specs.ColumnGoals.{AreGoalsOf}
+use Rattle.clause_judge.specs.ClauseBody.{Begins}
+use Rattle.clause_judge.specs.ClauseLines.{left_for}
+use Rattle.clause_judge.proofs.ClauseReached.{IsReached}
+use Rattle.clause_judge.proofs.judging.judge_from.Given as goal
+
+abbrev pub invariant-loop : goal.invariant-loop
+invariant-loop g l = record {
+  only : ReadsOnly slot.Clauses (g.D.Desk.seen l.fn.desk) (g.D.Desk.seen l.desk);
+  tells : KeepsTelling (g.D.Desk.seen l.fn.desk) (g.D.Desk.seen l.desk);
+  max : l.checker.max ≡ l.fn.max;
+  goals : (e : Extended) (start : FileState) (body : Option (List ℕ)) → Begins e l.fn.checker start l.fn.file body (left_for l.fn.file (g.D.Desk.seen l.fn.desk)) l.fn.first → AreGoalsOf e l.checker.goals;
+  reached : (e : Extended) (start : FileState) (body : Option (List ℕ)) → Begins e l.fn.checker start l.fn.file body (left_for l.fn.file (g.D.Desk.seen l.fn.desk)) l.fn.first →
+      IsReached e start body l.checker l.counter l.next l.file (left_for l.file (g.D.Desk.seen l.desk));
+}

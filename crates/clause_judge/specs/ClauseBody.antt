@@ -1,0 +1,82 @@
+-- What stands behind the header of a clause file, over any gates: when it is lawful, and its first refusal.
+use Rattle.std.specs.Prelude.{◌≡◌, ◌+◌, ◌<◌, ◌≤◌, ◌^◌, ℕ, List, [], length, IfSome, ⊤}
+use Rattle.std.specs.declared.option.Option.{Option}
+use Rattle.graph_core.specs.Graph.Extended.{Extended}
+use Rattle.graph_core.specs.Text.JudgedLines.{Behind, IsTooLong}
+use Rattle.graph_core.specs.Algebra.{AgreeOnColumns}
+use Rattle.mv_fact.specs.Always.{Always}
+use Rattle.clause_core.specs.Clause.{Clause}
+use Rattle.clause_core.specs.ClauseLines.{AreGoalsShown, ClauseLine, IsGoalRefusal}
+use Rattle.clause_core.specs.GateClauses.{gate_clauses}
+use Rattle.drup_checker.specs.Checking.{Checking}
+use Rattle.drup_text.specs.ClauseTexts.{IsClauseLine}
+use Rattle.drup_text.specs.FileStates.{FileState}
+use Rattle.drup_text.specs.HeaderRefusal.{TooLong}
+use Rattle.miter_encoder.specs.ColumnGoals.{AreGoalsOf}
+use Rattle.mv_desk.specs.View.{Rose, View}
+use Rattle.mv_text.specs.LineReading.{Lines}
+use Rattle.clause_judge.specs.declared.fail.ClauseFail.{ClauseFail}
+use Rattle.clause_judge.specs.declared.fail.ClauseFail.TheVariants as fail
+use Rattle.clause_judge.specs.ClauseLines.{ReadsNext}
+use Rattle.clause_judge.specs.LineRefusals.{IsClauseStep, IsRefusedLines, line_cause}
+use Rattle.clause_judge.specs.Taking.{HasTaken}
+
+-- Where these bytes are left to a reader of lines: a line of them is too long for the whole file.
+abbrev pub IsLongIn : Lines → List ℕ → List ℕ → Type 0
+IsLongIn lines body left = IsTooLong lines.lengths (lines.taken + length body) left
+
+-- the file ends there
+abbrev pub Ends : (List ℕ → Type 0) → List Clause → List ℕ → Type 0
+Ends IsLong live bytes = ¬ (IsLong bytes) × (bytes ≡ [])
+
+-- From these live clauses on the lines are lawful, no line is too long, and nothing stands behind them.
+abbrev pub Pass : Extended → (List ℕ → Type 0) → List ClauseLine → List Clause → List ℕ → Type 0
+Pass e IsLong = Behind IsClauseLine (IsClauseStep e) IsLong (Ends IsLong)
+
+abbrev pub HasPassed : Extended → Lines → List ClauseLine → List ℕ → Type 0
+HasPassed e lines xs body = Pass e (IsLongIn lines body) xs (gate_clauses e.gates) body
+
+-- The lines behind the header are lawful, where this reader has them before it, and they show each goal.
+abbrev pub IsShownBody : Extended → Lines → List ℕ → Type 0
+IsShownBody e lines body = (xs : List ClauseLine) × HasPassed e lines xs body × AreGoalsShown xs e
+
+-- Why that isn't so, the first line having this number.
+abbrev pub IsRestFail : ℕ → Extended → Lines → Option (List ℕ) → View → View → ClauseFail → Type 0
+IsRestFail number e lines left before now (fail.Line line why) =
+    IfSome left (λ body. IsRefusedLines (IsLongIn lines body) e number body (line, line_cause why))
+IsRestFail number e lines left before now (fail.Goals column) =
+    IfSome left (λ body. (xs : List ClauseLine) × HasPassed e lines xs body × IsGoalRefusal e xs column)
+IsRestFail number e lines left before now fail.TooLong =
+    IfSome left (λ body. (line : ℕ) × IsRefusedLines (IsLongIn lines body) e number body (line, TooLong))
+IsRestFail number e lines left before now fail.ReadFault = Rose before.read_faults now.read_faults
+IsRestFail number e lines left before now fail.Memory = ⊤
+
+-- ---- from the first line on
+
+-- Of a body that a reader had before it the first line was read, or its end, and a checker has taken no line.
+pub record Begins (e : Extended) (k : Checking) (start file : FileState) (body left : Option (List ℕ)) (first : Option ClauseLine) : Type 0 where
+  pub taken : HasTaken e [] (gate_clauses e.gates) k
+  pub max : k.max ≡ e.max
+  pub goals : AreGoalsOf e k.goals
+  pub lengths : file.lines.lengths ≡ start.lines.lengths
+  pub limit : start.lines.lengths.file < 2 ^ 64
+  pub read : ReadsNext e.max start file body left first
+
+abbrev pub BeginsSomewhere : Checking → Option ClauseLine → FileState → Option (List ℕ) → Type 0
+BeginsSomewhere k first file left = (e : Extended) × (start : FileState) × (body : Option (List ℕ)) × Begins e k start file body left first
+
+-- Wherever it begins, the lines are lawful and show each goal.
+abbrev pub IsShownFrom : Checking → Option ClauseLine → FileState → Option (List ℕ) → Type 0
+IsShownFrom k first file left =
+    (e : Extended) (start : FileState) (body : Option (List ℕ)) → Begins e k start file body left first → IfSome body (IsShownBody e start.lines)
+
+-- Wherever it begins, the old and the new output of each replaced column are equal on every evaluation.
+abbrev pub JoinsFrom : Checking → Option ClauseLine → FileState → Option (List ℕ) → Type 0
+JoinsFrom k first file left =
+    (e : Extended) (start : FileState) (body : Option (List ℕ)) → Begins e k start file body left first → Always e.gates (AgreeOnColumns e)
+
+-- Wherever it begins, why the lines aren't lawful or don't show each goal.
+abbrev pub IsFailFrom : Checking → Option ClauseLine → FileState → Option (List ℕ) → View → View → ClauseFail → Type 0
+IsFailFrom k first file left entry now answer =
+    (e : Extended) (start : FileState) (body : Option (List ℕ)) → Begins e k start file body left first → (before : View) → before.read_faults ≤ entry.read_faults →
+    IsRestFail (start.number + 1) e start.lines body before now answer

@@ -1,0 +1,6 @@
+-- To be trusted by whoever reads the contracts: `LineRefusals` and `ClauseBody`. `Taking` says what a checker has taken, `ClauseLines` what
+-- one line is for a reader and for a checker.
+pub mod LineRefusals
+pub mod Taking
+pub mod ClauseLines
+pub mod ClauseBody

@@ -1,0 +1,37 @@
+-- What a checker has taken of the lines of a clause certificate.
+use Rattle.std.specs.Prelude.{◌≡◌, List, [], ◌∷◌}
+use Rattle.std.specs.declared.option.Option.TheVariants.{None}
+use Rattle.graph_core.specs.Algebra.{AgreeOnColumns}
+use Rattle.graph_core.specs.Graph.Extended.{Extended}
+use Rattle.graph_core.specs.declared.gate.Gate.{Gate}
+use Rattle.mv_fact.specs.Always.{Always}
+use Rattle.clause_core.specs.Clause.{Clause}
+use Rattle.clause_core.specs.ClauseLines.{ClauseLine}
+use Rattle.clause_core.specs.GateClauses.{gate_clauses}
+use Rattle.clause_core.specs.Likeness.{AreAlike}
+use Rattle.drup_checker.specs.Checking.{Checking, IsLeastUnshown}
+use Rattle.drup_checker.specs.Steps.{HasShown}
+use Rattle.miter_encoder.specs.ColumnGoals.{AreGoalsOf}
+use Rattle.clause_judge.specs.LineRefusals.{IsClauseStep}
+
+-- lines that are lawful one behind the other take the live clauses to the last ones
+abbrev pub TakeClauses : Extended → List Clause → List ClauseLine → List Clause → Type 0
+TakeClauses e live [] last = last ≡ live
+TakeClauses e live (x ∷ xs) last = (next : List Clause) × IsClauseStep e live x next × TakeClauses e next xs last
+
+-- A checker has taken these lines: they are lawful from the gates' clauses on, the clauses that are live then are the checker's, up to
+-- likeness, and its marks are of the goals that these lines show.
+pub record HasTaken (e : Extended) (lines : List ClauseLine) (live : List Clause) (k : Checking) : Type 0 where
+  pub lawful : TakeClauses e (gate_clauses e.gates) lines live
+  pub alike : AreAlike k.live live
+  pub shown : HasShown k lines
+
+-- A checker of these gates has taken no line.
+abbrev pub HasTakenNone : List Gate → Checking → Type 0
+HasTakenNone gates k = (e : Extended) → e.gates ≡ gates → HasTaken e [] (gate_clauses e.gates) k
+
+-- Where a checker has taken lines and no goal is unshown, the old and the new output of each replaced column are equal on every
+-- evaluation.
+abbrev pub GoalsJoinColumns : Type 0
+GoalsJoinColumns = (e : Extended) (lines : List ClauseLine) (live : List Clause) (k : Checking) → HasTaken e lines live k → AreGoalsOf e k.goals →
+    IsLeastUnshown k.goals k.shown None → Always e.gates (AgreeOnColumns e)

@@ -1,0 +1,49 @@
+// The lines of a clause file and then the goals, by a checker.
+ghost use Rattle.std.specs.Prelude.{◌≡◌, ◌<◌, ◌^◌, true, None, IfErr, OnOk};
+ghost use Rattle.mv_desk.specs.Calls.{ReadsOnly};
+ghost use Rattle.mv_desk.specs.View.{KeepsTelling};
+ghost use Rattle.mv_desk.specs.declared.slot.Slot.TheVariants as slot;
+ghost use Rattle.clause_judge.specs.ClauseBody.{BeginsSomewhere, IsFailFrom, IsShownFrom, JoinsFrom};
+ghost use Rattle.clause_judge.specs.ClauseLines.{left_for};
+
+use crate::clause_checker::{judge_goals, take_line};
+use crate::clause_line::read_line;
+use crate::fail::ClauseFail;
+use clause_core::Line;
+use drup_checker::Checker;
+use drup_text::ClauseFile;
+use mv_desk::Desk;
+
+/// Judges a line that was read and those behind it, up to the end of the file, and then the goals, by a checker that has
+/// taken no line. The greatest variable is the checker's.
+pub fn judge_from<D: Desk>(
+    desk: &mut D,
+    file: &mut ClauseFile,
+    max: u32,
+    checker: &mut Checker<'_>,
+    first: Option<Line>,
+) -> Result<(), ClauseFail>
+    requires reads { (D.seen desk.old).reads slot.Clauses ≡ true }
+    requires small { max < 2 ^ 31 }
+    requires greatest { checker.old.max ≡ max }
+    requires begins { BeginsSomewhere checker.old first file.old (left_for file.old (D.seen desk.old)) }
+    ensures lawful { OnOk result (IsShownFrom checker.old first file.old
+        (left_for file.old (D.seen desk.old))) }
+    ensures columns { OnOk result (JoinsFrom checker.old first file.old
+        (left_for file.old (D.seen desk.old))) }
+    ensures refused { IfErr result (IsFailFrom checker.old first file.old
+        (left_for file.old (D.seen desk.old)) (D.seen desk.old) (D.seen desk.new)) }
+    ensures only { ReadsOnly slot.Clauses (D.seen desk.old) (D.seen desk.new) }
+    ensures tells { KeepsTelling (D.seen desk.old) (D.seen desk.new) }
+{
+    let mut next = first;
+    for _ in 0..u64::MAX {
+        match next {
+            Some(line) => take_line(checker, &line, file.line_no())?,
+            None => return judge_goals(checker),
+        }
+        next = read_line(desk, file, max)?;
+    }
+    // So many lines have more bytes than a file may have.
+    Err(ClauseFail::TooLong)
+}

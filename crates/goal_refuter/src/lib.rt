@@ -1,0 +1,21 @@
+//! Refutes the negations of goals over the clauses of gates, by a solver and within a budget of conflicts.
+//!
+//! `refute_goals` has the negation of each goal refuted, one after the other, and answers one of three: the log, whose lines
+//! are a lawful clause certificate that shows each goal; an evaluation of the gates at which some goal fails; or a spent
+//! budget with the log that spent it. `refute` is one goal.
+//!
+//! *Log of refutations*, *spent*: `specs/Refutations.antt`. *Outcome*: `specs/Refuting.antt`. *Lemma*, *lawful lines*: `Log` and
+//! `ClauseLines` in `specs/` of `clause_core`.
+#![tactic(auto)]
+
+mod goals;
+mod laws;
+mod refutation;
+mod refuting;
+mod solver;
+
+pub use goals::{pair_goals, push_goals};
+pub use laws::refuted_is_lawful;
+pub use refutation::refute;
+pub use refuting::{Outcome, refute_goals};
+pub use solver::solver_of;

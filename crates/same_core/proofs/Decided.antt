@@ -1,0 +1,77 @@
+-- The answers of `same`, by what the solver and the desk come to.
+use Rattle.std.specs.Prelude.{◌≡◌, ℕ, Bool, List, length, map}
+use Rattle.std.proofs.Common.{ap, arith, subst}
+use Rattle.std.specs.Global.{Global}
+use Rattle.std.specs.declared.vec.Vec.{Vec}
+use Rattle.cdcl_core.specs.Logs.{LogView}
+use Rattle.cdcl_core.specs.Solving.{assignment_of}
+use Rattle.clause_core.specs.ClauseLines.{ClauseLine}
+use Rattle.drup_text.proofs.Writable.{lines_are_writable}
+use Rattle.goal_refuter.specs.Refutations.{IsSpent, unmet_goals}
+use Rattle.goal_refuter.specs.Refuting.{IsDiffering, IsSoFar}
+use Rattle.goal_refuter.proofs.Lawful.{lawful_lines, lines_agree, lines_few}
+use Rattle.graph_core.specs.Graph.Assignments.{literal}
+use Rattle.graph_core.specs.Graph.Extended.{Extended}
+use Rattle.graph_core.specs.Graph.{Aig}
+use Rattle.mv_desk.specs.Calls.{Inspects}
+use Rattle.mv_desk.specs.View.{Rose, View}
+use Rattle.mv_desk.specs.declared.limits.Limits.{Limits}
+use Rattle.same_core.specs.declared.pairs.PairFail.{PairFail}
+use Rattle.same_core.specs.declared.pairs.PairFail.TheVariants as pair
+use Rattle.same_core.specs.declared.verdict.Same.TheVariants as same
+use Rattle.same_core.specs.Answers.{same_of_pair}
+use Rattle.same_core.specs.Deciding.{AreWritten, IsAnswer, ReadsGraphs, StopsAt, WritesFile}
+use Rattle.same_core.specs.Files.{Files, texts_of}
+use Rattle.same_core.specs.Merged.{Both, both, merged}
+use Rattle.same_core.specs.Pairs.{IsPairFail, IsPairOf}
+use Rattle.same_core.specs.Places.{IsMerged}
+use Rattle.same_core.proofs.Differing.{difference}
+use Rattle.same_core.proofs.MergedColumns.{length-columns_from}
+use Rattle.same_core.proofs.Merging.{merged_outputs_agree}
+use Rattle.same_core.proofs.Ranges.{both_merged}
+
+module _ (limits : Limits) (conflicts : ℕ) (files : Files) (a b : View) (inspects : Inspects a b) where
+  pub pair_fails : (given : PairFail) → IsPairFail limits files a b given → IsAnswer limits conflicts files a b (same_of_pair given)
+  pair_fails (pair.Graph at why) h = (h.0, inspects)
+  pair_fails pair.ReadFault h = (h.0, inspects)
+  pair_fails pair.Memory h = inspects
+  pair_fails (pair.TooLong at) h = ((λ e. h.1 (ap (λ s. pair.TooLong s) e)), h.0, inspects)
+  pair_fails pair.Shapes h = (h.0, inspects)
+
+  -- writing stopped
+  pub stopped : (lines : List ClauseLine) (c : View) → StopsAt files.clauses lines b c → Rose b.write_faults c.write_faults → IsAnswer limits conflicts files a c same.WriteFault
+  stopped lines c stops rose = (subst (λ (n : ℕ). Rose n c.write_faults) inspects.write_faults rose, (lines, b, inspects, stops))
+
+  module _ (g : Aig) (m : Both) (p : IsPairOf limits.graph (texts_of a files) g m) where
+    abbrev e : Extended
+    e = merged g p.other
+
+    is_merged : IsMerged (both g p.other)
+    is_merged = both_merged g p.other p.built p.other_built
+
+    -- an outcome of these gates is one of the merged ones
+    pub of_merged : (P : Both → Type 0) → P m → P (both g p.other)
+    of_merged P h = subst P p.merged_is h
+
+    written : (log : LogView) → IsSoFar e conflicts (length (unmet_goals e)) log → AreWritten g p.other conflicts log.lines
+    written log h =
+        let most = lines_few e conflicts log h in
+        let columns = length-columns_from 0 (both g p.other).pairs in
+        let few = is_merged.few in
+        record {
+          lawful = lawful_lines e conflicts log h;
+          writable = lines_are_writable e.max log.lines is_merged.small h.log_is.in_range;
+          few = omega (arith, most, columns, few);
+        }
+
+    pub equal : (log : LogView) → IsSoFar e conflicts (length (unmet_goals e)) log → ReadsGraphs a b → (c : View) → WritesFile files.clauses log.lines b c → IsAnswer limits conflicts files a c same.Equal
+    equal log h reads c writes =
+        let agree = merged_outputs_agree g p.other p.built.well_formed p.other_built.well_formed p.shape (lines_agree e conflicts log h) in
+        (g, p.spelled, (p.other, p.other_spelled, (p.shape, (agree, (log.lines, b, written log h, reads, writes)))))
+
+    pub spent : (goal : ℕ) (log : LogView) → IsSpent e conflicts conflicts goal log → IsAnswer limits conflicts files a b (same.Spent conflicts goal log)
+    spent goal log h = ((g, p.spelled, (p.other, p.other_spelled, (p.shape, h))), inspects)
+
+    pub differs : (values : List Bool) (inputs : Vec Bool Global) → IsDiffering e values → inputs.items ≡ map (literal (assignment_of values)) g.inputs → IsAnswer limits conflicts files a b (same.Differs inputs)
+    differs values inputs h is =
+        ((g, p.spelled, (p.other, p.other_spelled, (p.shape, difference g p.other p.built.well_formed p.other_built.well_formed p.shape (assignment_of values) h.evaluation inputs.items is h.differ))), inspects)

@@ -1,0 +1,70 @@
+-- What the files are once two graphs were called equal.
+use Rattle.std.proofs.Common.{◌≡◌, ◌≢◌, ℕ, List, [], Some, None, refl, sym, ap, subst, ◌∙◌}
+use Rattle.std.specs.Prelude.{IfSome, IsSome, option_map, unwrap_or}
+use Rattle.std.specs.declared.option.Option.{Option}
+use Rattle.aiger_reader.specs.Refusals.{SpellsWithin}
+use Rattle.clause_core.specs.ClauseLines.{ClauseLine}
+use Rattle.drup_text.specs.SameFiles.{same_text}
+use Rattle.mv_desk.specs.Calls.{AreApart, Becomes, BytesGrow, HeldGrows}
+use Rattle.mv_desk.specs.View.{View}
+use Rattle.mv_desk.specs.declared.slot.Slot.TheVariants as slot
+use Rattle.same_core.specs.Deciding.{EqualPairsAreHeld, IsTold, ReadsGraphs, WritesFile}
+
+none_told : (A : Type 0) → IsSome {T = A} None → ⊥
+none_told A h = cc
+
+becomes : {A : Type 0} (old new : Option A) (value : A) → IsSome old → Becomes old new value → new ≡ Some value
+becomes {A = A} None new value told h = absurd (none_told A told)
+becomes (Some before) new value told h = h
+
+same_told : {A : Type 0} (old new : Option A) → new ≡ old → IsSome old → IsSome new
+same_told old new same told = subst IsSome (sym same) told
+
+clauses_no_graph : slot.Clauses ≢ slot.Graph
+clauses_no_graph e = cc
+
+clauses_no_other : slot.Clauses ≢ slot.Other
+clauses_no_other e = cc
+
+-- the bytes that are told
+told_file : (file : Option (Option (List ℕ))) → IsSome file → (bytes : List ℕ) × (option_map (λ b. unwrap_or b []) file ≡ Some bytes)
+told_file None told = absurd (none_told (Option (List ℕ)) told)
+told_file (Some bytes) told = (unwrap_or bytes [], refl)
+
+module _ (name : List ℕ) (lines : List ClauseLine) (a r c : View) (told : IsTold a) (reads : ReadsGraphs a r) (w : WritesFile name lines r c) where
+  named : w.created.name slot.Clauses ≡ Some (Some name)
+  named = becomes (r.name slot.Clauses) (w.created.name slot.Clauses) (Some name)
+      (same_told (a.name slot.Clauses) (r.name slot.Clauses) (reads.others slot.Clauses clauses_no_graph clauses_no_other).mode.name (told.names slot.Clauses)) w.creates.name
+
+  empty : w.created.held name ≡ Some (Some [])
+  empty = becomes (r.held name) (w.created.held name) (Some []) (same_told (a.held name) (r.held name) (reads.inspects.held name) (told.held name)) w.creates.bytes
+
+  pub certificate_is_held : c.held name ≡ Some (Some (same_text lines))
+  certificate_is_held =
+      let grows : HeldGrows (w.created.held name) (c.held name) (same_text lines) = subst (λ n. BytesGrow n w.created c (same_text lines)) named w.writes.bytes in
+      subst (λ old. HeldGrows old (c.held name) (same_text lines)) empty grows
+
+  pub others_stay : (other : List ℕ) → name ≢ other → c.held other ≡ a.held other
+  others_stay other apart =
+      w.writes.held other (subst (λ n. AreApart n (Some (Some other))) (sym named) apart) ∙ w.creates.held other (λ same. apart (sym same)) ∙ reads.inspects.held other
+
+pub equal_pairs_are_held : EqualPairsAreHeld
+equal_pairs_are_held limits conflicts files a c told no_graph no_other (g, spelled, (h, other_spelled, (shape, (agree, (lines, r, written, reads, w))))) =
+    let file = told_file (a.held files.graph) (told.held files.graph) in
+    let other = told_file (a.held files.other) (told.held files.other) in
+    let bytes : Option (Option (List ℕ)) → Option (List ℕ) = option_map (λ b. unwrap_or b []) in
+    record {
+      graph_file = file.0;
+      other_file = other.0;
+      lines = lines;
+      graph_held = ap bytes (others_stay files.clauses lines a r c told reads w files.graph no_graph) ∙ file.1;
+      other_held = ap bytes (others_stay files.clauses lines a r c told reads w files.other no_other) ∙ other.1;
+      clauses_held = ap bytes (certificate_is_held files.clauses lines a r c told reads w);
+      graph = g;
+      other = h;
+      spells = subst (λ o. IfSome o (λ b. SpellsWithin limits.graph b g)) file.1 spelled;
+      other_spells = subst (λ o. IfSome o (λ b. SpellsWithin limits.graph b h)) other.1 other_spelled;
+      shape = shape;
+      written = written;
+      agree = agree;
+    }

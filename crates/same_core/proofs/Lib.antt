@@ -1,0 +1,14 @@
+pub mod Merging
+pub mod Ranges
+pub mod MergeSteps
+pub mod Wholes
+pub mod Judged
+pub mod OutcomeRows
+pub mod DueRows
+pub mod MergedColumns
+pub mod Differing
+pub mod Decided
+pub mod Inputs
+pub mod OnPairs
+pub mod HeldEqual
+pub mod Openings

@@ -1,0 +1,121 @@
+use Rattle.std.proofs.Common.{◌+◌, ◌≤◌, ◌<◌, ◌^◌, ℕ, List, length, sym, subst, arith}
+use Rattle.std.specs.List.{All}
+use Rattle.std.proofs.lemmas.Result.{IfErr-weaker, err_from_is_err_and, on_ok_weaker}
+use Rattle.graph_core.specs.declared.gate.Gate.{Gate}
+use Rattle.graph_core.specs.declared.literal.Lit.{Lit}
+use Rattle.mv_desk.specs.declared.slot.Slot.TheVariants as slot
+use Rattle.mv_desk.proofs.CallerLemmas.{KeepsTelling-trans, ReadsOnly-trans}
+use Rattle.clause_core.specs.Clause.{IsClauseInRange}
+use Rattle.clause_core.specs.GateClauses.{gate_clauses}
+use Rattle.clause_core.specs.Likeness.{AreSameSets}
+use Rattle.miter_encoder.specs.ColumnGoals.{AreGoalsOfColumns, columns_from}
+use Rattle.miter_encoder.proofs.GateRanges.{within_range}
+use Rattle.clause_judge.specs.ClauseBody.{IsFailFrom, IsRestFail}
+use Rattle.clause_judge.specs.ClauseLines.{IsTextFail, left_for}
+use Rattle.clause_judge.proofs.ClauseTurns.{begins_with, first_fails}
+use Rattle.same_core.specs.Merged.{over}
+use Rattle.same_core.proofs.clauses.judge_lines.Goals as goal
+
+pub gate_clauses_of-requires : goal.gate_clauses_of-requires
+gate_clauses_of-requires g c =
+    subst (λ (gates : List Gate). All (λ x. x.v < 2 ^ 31) gates) (sym c.gates-merged_gates.ensures)
+    (λ k d below. let own = c.requires.merged.within.own k d below in let small = c.requires.merged.small in omega (arith, own.1, small))
+
+pub goals_of-requires : goal.goals_of-requires
+goals_of-requires g c = subst (λ (pairs : List (Lit × Lit)). length pairs ≤ 2 ^ 32) (sym c.pairs.ensures) (let few = c.requires.merged.few in omega (arith, few))
+
+-- ---- the first line
+
+pub returns-in_err-first-clause-refused : goal.returns-in_err-first-clause-refused
+returns-in_err-first-clause-refused g c =
+    let e = over c.args.merged.now in
+    let start = c.args.file.now in
+    let first = g.D.Desk.seen c.args.desk.now in
+    let now = g.D.Desk.seen c.read_line.new.desk in
+    let body = left_for start first in
+    let answer = c.in_err-first.field-0.0 in
+    let p = err_from_is_err_and c.from_residual-in_err-first.result c.from_residual-in_err-first.ensures.1 in
+    rw (p.1, p.2)
+    (first_fails e start body first now answer
+    (subst (λ (m : ℕ). IsTextFail (start.number + 1) m start.lines body first now answer) c.max-greatest.ensures c.in_err-first.ensures.refused))
+
+-- ---- all lines
+
+pub checker_of-requires-clause-in_range : goal.checker_of-requires-clause-in_range
+checker_of-requires-clause-in_range g c =
+    let b = c.args.merged.now in
+    let clauses = c.in_ok-clauses.clauses in
+    subst (λ (m : ℕ). All (IsClauseInRange m) clauses) (sym c.max-greatest.ensures)
+    (within_range b.max b.gates clauses c.requires.merged.within (subst (λ (gates : List Gate). AreSameSets clauses (gate_clauses gates)) c.gates-merged_gates.ensures c.in_ok-clauses.ensures.sets))
+
+pub checker_of-requires-clause-of_gates : goal.checker_of-requires-clause-of_gates
+checker_of-requires-clause-of_gates g c = c.in_ok-clauses.ensures.sets
+
+pub judge_from-requires-clause-begins : goal.judge_from-requires-clause-begins
+judge_from-requires-clause-begins g c =
+    let e = over c.args.merged.now in
+    let start = c.args.file.now in
+    let middle = g.D.Desk.seen c.read_line.new.desk in
+    let file = c.read_line.new.file in
+    let body = left_for start (g.D.Desk.seen c.args.desk.now) in
+    let shown_goals = subst (λ (pairs : List (Lit × Lit)). AreGoalsOfColumns (columns_from 0 pairs) c.in_ok-goals.goals) c.pairs.ensures c.in_ok-goals.ensures.sets in (
+      e,
+      start,
+      body,
+      begins_with e start body c.in_ok-checker.checker c.gates-merged_gates.result.now c.in_ok-goals.goals c.max-greatest.result c.in_ok-first.first file (left_for file middle)
+          c.in_ok-checker.ensures.taken (sym c.gates-merged_gates.ensures) c.in_ok-checker.ensures.max c.max-greatest.ensures c.in_ok-checker.ensures.goals shown_goals c.in_ok-first.ensures.lengths c.requires.limit
+          c.in_ok-first.ensures.next,
+    )
+
+pub returns-clause-lawful : goal.returns-clause-lawful
+returns-clause-lawful g c =
+    let e = over c.args.merged.now in
+    let start = c.args.file.now in
+    let middle = g.D.Desk.seen c.read_line.new.desk in
+    let file = c.read_line.new.file in
+    let body = left_for start (g.D.Desk.seen c.args.desk.now) in
+    let shown_goals = subst (λ (pairs : List (Lit × Lit)). AreGoalsOfColumns (columns_from 0 pairs) c.in_ok-goals.goals) c.pairs.ensures c.in_ok-goals.ensures.sets in
+    let begins =
+    begins_with e start body c.in_ok-checker.checker c.gates-merged_gates.result.now c.in_ok-goals.goals c.max-greatest.result c.in_ok-first.first file (left_for file middle)
+    c.in_ok-checker.ensures.taken (sym c.gates-merged_gates.ensures) c.in_ok-checker.ensures.max c.max-greatest.ensures c.in_ok-checker.ensures.goals shown_goals c.in_ok-first.ensures.lengths c.requires.limit
+    c.in_ok-first.ensures.next in
+    on_ok_weaker c.judge_from.result (λ shown. shown e start body begins) c.judge_from.ensures.lawful
+
+pub returns-clause-agree : goal.returns-clause-agree
+returns-clause-agree g c =
+    let e = over c.args.merged.now in
+    let start = c.args.file.now in
+    let middle = g.D.Desk.seen c.read_line.new.desk in
+    let file = c.read_line.new.file in
+    let body = left_for start (g.D.Desk.seen c.args.desk.now) in
+    let shown_goals = subst (λ (pairs : List (Lit × Lit)). AreGoalsOfColumns (columns_from 0 pairs) c.in_ok-goals.goals) c.pairs.ensures c.in_ok-goals.ensures.sets in
+    let begins =
+    begins_with e start body c.in_ok-checker.checker c.gates-merged_gates.result.now c.in_ok-goals.goals c.max-greatest.result c.in_ok-first.first file (left_for file middle)
+    c.in_ok-checker.ensures.taken (sym c.gates-merged_gates.ensures) c.in_ok-checker.ensures.max c.max-greatest.ensures c.in_ok-checker.ensures.goals shown_goals c.in_ok-first.ensures.lengths c.requires.limit
+    c.in_ok-first.ensures.next in
+    on_ok_weaker c.judge_from.result (λ joins. joins e start body begins) c.judge_from.ensures.columns
+
+pub returns-clause-refused : goal.returns-clause-refused
+returns-clause-refused g c =
+    let e = over c.args.merged.now in
+    let start = c.args.file.now in
+    let first = g.D.Desk.seen c.args.desk.now in
+    let middle = g.D.Desk.seen c.read_line.new.desk in
+    let now = g.D.Desk.seen c.judge_from.new.desk in
+    let file = c.read_line.new.file in
+    let body = left_for start first in
+    let shown_goals = subst (λ (pairs : List (Lit × Lit)). AreGoalsOfColumns (columns_from 0 pairs) c.in_ok-goals.goals) c.pairs.ensures c.in_ok-goals.ensures.sets in
+    let begins =
+    begins_with e start body c.in_ok-checker.checker c.gates-merged_gates.result.now c.in_ok-goals.goals c.max-greatest.result c.in_ok-first.first file (left_for file middle)
+    c.in_ok-checker.ensures.taken (sym c.gates-merged_gates.ensures) c.in_ok-checker.ensures.max c.max-greatest.ensures c.in_ok-checker.ensures.goals shown_goals c.in_ok-first.ensures.lengths c.requires.limit
+    c.in_ok-first.ensures.next in
+    IfErr-weaker c.judge_from.result (IsFailFrom c.in_ok-checker.checker c.in_ok-first.first file (left_for file middle) middle now) (IsRestFail (start.number + 1) e start.lines body first now)
+    (λ answer fails. fails e start body begins first c.in_ok-first.ensures.only.later) c.judge_from.ensures.refused
+
+pub returns-clause-only : goal.returns-clause-only
+returns-clause-only g c =
+    ReadsOnly-trans slot.Clauses (g.D.Desk.seen c.args.desk.now) (g.D.Desk.seen c.read_line.new.desk) (g.D.Desk.seen c.judge_from.new.desk) c.in_ok-first.ensures.only c.judge_from.ensures.only
+
+pub returns-clause-tells : goal.returns-clause-tells
+returns-clause-tells g c =
+    KeepsTelling-trans (g.D.Desk.seen c.args.desk.now) (g.D.Desk.seen c.read_line.new.desk) (g.D.Desk.seen c.judge_from.new.desk) c.in_ok-first.ensures.tells c.judge_from.ensures.tells

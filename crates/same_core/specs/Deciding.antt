@@ -1,0 +1,148 @@
+-- What `same` says of two files, and where each answer comes.
+use Rattle.std.specs.Prelude.{◌≡◌, ◌≢◌, ◌⊎◌, ◌+◌, ◌*◌, ◌≤◌, ⊤, ℕ, Bool, List, Some, IsSome, length, map}
+use Rattle.std.specs.List.{All}
+use Rattle.clause_core.specs.ClauseLines.{AreLawfulClauseLines, ClauseLine}
+use Rattle.drup_text.specs.SameFiles.{same_text}
+use Rattle.drup_text.specs.WrittenLaws.{IsWritableLine}
+use Rattle.goal_refuter.specs.Refutations.{IsSpent}
+use Rattle.graph_core.specs.Graph.Assignments.{literal}
+use Rattle.graph_core.specs.Graph.{Aig, evaluated}
+use Rattle.graph_core.specs.Text.JudgedLines.{IsWithin, Lengths}
+use Rattle.mv_desk.specs.Calls.{Creates, Inspects, WritesPart, WritesTo}
+use Rattle.mv_desk.specs.View.{IsSame, OpensAtMost, OpensFiles, Rose, SlotStays, View, bytes_under}
+use Rattle.mv_desk.specs.declared.limits.Limits.{Limits}
+use Rattle.mv_desk.specs.declared.slot.Slot.{Slot}
+use Rattle.mv_desk.specs.declared.slot.Slot.TheVariants as slot
+use Rattle.same_core.specs.declared.checked.SameChecked.TheVariants as checked
+use Rattle.same_core.specs.declared.verdict.Same.{Same}
+use Rattle.same_core.specs.declared.verdict.Same.TheVariants as same
+use Rattle.same_core.specs.Certificates.{IsLawful}
+use Rattle.aiger_reader.specs.Refusals.{SpellsWithin}
+use Rattle.same_core.specs.Files.{Files, HasPair, Texts, texts_of}
+use Rattle.same_core.specs.Merged.{AgreeOnInputs, AreOfOneShape, merged}
+use Rattle.same_core.specs.Outcome.{IsDue, IsOutcome}
+
+-- Inputs on which some output of the two graphs differs.
+pub record IsDifference (g h : Aig) (inputs : List Bool) : Type 0 where
+  pub all : length inputs ≡ length g.inputs
+  pub differ : map (literal (evaluated g inputs)) g.outputs ≢ map (literal (evaluated h inputs)) h.outputs
+
+-- Lines that are written: they are lawful and show each goal, their literals have 32 bits, and they are few.
+pub record AreWritten (g h : Aig) (conflicts : ℕ) (lines : List ClauseLine) : Type 0 where
+  pub lawful : AreLawfulClauseLines (merged g h) lines
+  pub writable : All IsWritableLine lines
+  pub few : length lines ≤ 2 * (conflicts + 512)
+
+-- The graphs alone were opened and read: every slot but theirs is as it was.
+pub record ReadsGraphs (before after : View) : Type 0 where
+  pub others : (other : Slot) → other ≢ slot.Graph → other ≢ slot.Other → SlotStays other before after
+  pub inspects : Inspects before after
+
+-- the file was created, and the text of these lines was written to it
+pub record WritesFile (name : List ℕ) (lines : List ClauseLine) (before after : View) : Type 0 where
+  pub created : View
+  pub creates : Creates slot.Clauses name before created
+  pub writes : WritesTo slot.Clauses (same_text lines) created after
+
+-- it was created, and a front part of that text was written to it
+pub record WritesFront (name : List ℕ) (lines : List ClauseLine) (before after : View) : Type 0 where
+  pub created : View
+  pub creates : Creates slot.Clauses name before created
+  pub writes : WritesPart slot.Clauses (same_text lines) created after
+
+-- Writing stopped: no file of that name could be created, or a front part was written.
+abbrev pub StopsAt : List ℕ → List ClauseLine → View → View → Type 0
+StopsAt name lines before after = IsSame before after ⊎ WritesFront name lines before after
+
+-- Where each answer comes, as far as the desk tells the files. Graphs that are called equal agree on all inputs; where no pair of graphs
+-- is read, the answer is that of a check.
+abbrev pub IsAnswer : Limits → ℕ → Files → View → View → Same → Type 0
+IsAnswer limits conflicts files before after same.Equal =
+    HasPair limits.graph (texts_of before files) (λ g h. AgreeOnInputs g h × ((lines : List ClauseLine) × (between : View) × AreWritten g h conflicts lines ×
+    ReadsGraphs before between × WritesFile files.clauses lines between after))
+IsAnswer limits conflicts files before after (same.Differs inputs) = HasPair limits.graph (texts_of before files) (λ g h. IsDifference g h inputs.items) × Inspects before after
+IsAnswer limits conflicts files before after (same.Spent lemmas goal log) =
+    HasPair limits.graph (texts_of before files) (λ g h. IsSpent (merged g h) conflicts lemmas goal log) × Inspects before after
+IsAnswer limits conflicts files before after same.WriteFault =
+    Rose before.write_faults after.write_faults × ((lines : List ClauseLine) × (between : View) × Inspects before between × StopsAt files.clauses lines between after)
+IsAnswer limits conflicts files before after (same.Graph at why) = IsOutcome limits files before after (checked.Graph at why) × Inspects before after
+IsAnswer limits conflicts files before after (same.TooLong at) = (at ≢ slot.Clauses) × IsOutcome limits files before after (checked.TooLong at) × Inspects before after
+IsAnswer limits conflicts files before after same.Shapes = IsOutcome limits files before after checked.Shapes × Inspects before after
+IsAnswer limits conflicts files before after same.ReadFault = Rose before.read_faults after.read_faults × Inspects before after
+IsAnswer limits conflicts files before after same.Memory = Inspects before after
+
+-- How many files were opened: both graphs, or the first one alone where the answer is of it. Where a read failed or memory was wanted, at
+-- most both.
+abbrev pub OpensForAnswer : Same → View → View → Type 0
+OpensForAnswer (same.Graph slot.Graph why) before after = OpensFiles 1 before after
+OpensForAnswer (same.TooLong slot.Graph) before after = OpensFiles 1 before after
+OpensForAnswer same.ReadFault before after = OpensAtMost 2 before after
+OpensForAnswer same.Memory before after = OpensAtMost 2 before after
+OpensForAnswer _ before after = OpensFiles 2 before after
+
+-- The answer that is due where no pair of graphs is spelled: that of a check.
+abbrev pub IsPairDue : Limits → Texts → Same → Type 0
+IsPairDue limits texts (same.Graph at why) = IsDue limits texts (checked.Graph at why)
+IsPairDue limits texts (same.TooLong at) = (at ≢ slot.Clauses) × IsDue limits texts (checked.TooLong at)
+IsPairDue limits texts same.Shapes = IsDue limits texts checked.Shapes
+IsPairDue limits texts _ = ⊥
+
+-- ---- laws
+
+-- What is written for graphs that are called equal is a lawful file within all lengths that it keeps to.
+abbrev pub WrittenIsLawful : Type 0
+WrittenIsLawful = (lengths : Lengths) (g h : Aig) (conflicts : ℕ) (lines : List ClauseLine) → AreWritten g h conflicts lines →
+    IsWithin lengths (same_text lines) → IsLawful lengths (merged g h) (same_text lines)
+
+-- The files spell two graphs of one shape, and are told.
+abbrev pub HasToldPair : ℕ → Texts → Type 0
+HasToldPair limit texts = (file : List ℕ) × (other : List ℕ) × (texts.graph ≡ Some file) × (texts.other ≡ Some other) ×
+    (g : Aig) × (h : Aig) × SpellsWithin limit file g × SpellsWithin limit other h × AreOfOneShape g h
+
+-- the answer is on two graphs, or none is on the files: a fault, or want of memory
+abbrev pub IsOnPair : Same → Type 0
+IsOnPair (same.Graph at why) = ⊥
+IsOnPair (same.TooLong at) = ⊥
+IsOnPair same.Shapes = ⊥
+IsOnPair _ = ⊤
+
+-- Two graphs of one shape are called equal, or differ, or the conflicts are spent; but for a fault or want of memory.
+abbrev pub PairsAreDecided : Type 0
+PairsAreDecided = (limits : Limits) (conflicts : ℕ) (files : Files) (before after : View) (given : Same) → HasToldPair limits.graph (texts_of before files) →
+    IsAnswer limits conflicts files before after given → IsOnPair given
+
+-- the answer that is due, or a fault, or want of memory
+abbrev pub GivesPair : Same → Same → Type 0
+GivesPair due given = (given ≡ due) ⊎ (given ≡ same.ReadFault) ⊎ (given ≡ same.WriteFault) ⊎ (given ≡ same.Memory)
+
+-- Where two graph files are told, whichever such answer is due is given.
+abbrev pub PairAnswersAreExact : Type 0
+PairAnswersAreExact = (limits : Limits) (conflicts : ℕ) (files : Files) (before after : View) (given : Same) →
+    IsSome (bytes_under before files.graph) → IsSome (bytes_under before files.other) → IsAnswer limits conflicts files before after given →
+    (due : Same) → IsPairDue limits (texts_of before files) due → GivesPair due given
+
+-- the desk tells every name and which name each slot is open under
+pub record IsTold (view : View) : Type 0 where
+  pub held : (name : List ℕ) → IsSome (view.held name)
+  pub names : (at : Slot) → IsSome (view.name at)
+
+-- The files are two graphs that agree on all inputs, and the text of lines that show it.
+pub record HoldsEqual (limit conflicts : ℕ) (files : Files) (view : View) : Type 0 where
+  pub graph_file : List ℕ
+  pub other_file : List ℕ
+  pub lines : List ClauseLine
+  pub graph_held : bytes_under view files.graph ≡ Some graph_file
+  pub other_held : bytes_under view files.other ≡ Some other_file
+  pub clauses_held : bytes_under view files.clauses ≡ Some (same_text lines)
+  pub graph : Aig
+  pub other : Aig
+  pub spells : SpellsWithin limit graph_file graph
+  pub other_spells : SpellsWithin limit other_file other
+  pub shape : AreOfOneShape graph other
+  pub written : AreWritten graph other conflicts lines
+  pub agree : AgreeOnInputs graph other
+
+-- Where graphs are called equal, and the certificate has the name of neither, that is what the files are then.
+abbrev pub EqualPairsAreHeld : Type 0
+EqualPairsAreHeld = (limits : Limits) (conflicts : ℕ) (files : Files) (before after : View) → IsTold before → files.clauses ≢ files.graph → files.clauses ≢ files.other →
+    IsAnswer limits conflicts files before after same.Equal → HoldsEqual limits.graph conflicts files after

@@ -1,0 +1,59 @@
+// `check_same`: the two graphs, and then the clause certificate.
+ghost use Rattle.std.specs.Prelude.{IfErr, OnOk};
+ghost use Rattle.mv_desk.specs.Calls.{Inspects};
+ghost use Rattle.mv_desk.specs.View.{KeepsTelling, OpensFiles};
+ghost use Rattle.same_core.specs.Files.{files_of};
+ghost use Rattle.same_core.specs.Outcome.{IsExactAnswer, IsOutcome, OpensFor};
+
+use crate::answers::{clauses_answer, pair_answer};
+use crate::checked::SameChecked;
+use crate::clauses::check_clauses;
+use crate::pairs::read_pair;
+use mv_desk::{Desk, Limits, Names};
+use std::alloc::Global;
+
+/// Judges a clause certificate for two graphs. The files are opened in their order, and only when they are needed; the
+/// certificate is read line by line.
+pub fn check_same<D: Desk>(
+    alloc: Global,
+    desk: &mut D,
+    limits: &Limits,
+    names: &Names<'_>,
+) -> SameChecked
+    ensures outcome { IsOutcome limits.now (files_of names.now) (D.seen desk.old) (D.seen desk.new) result }
+    ensures exact { IsExactAnswer limits.now (files_of names.now) (D.seen desk.old) (D.seen desk.new) result }
+    ensures opened { OpensFor result (D.seen desk.old) (D.seen desk.new) }
+    ensures inspects { Inspects (D.seen desk.old) (D.seen desk.new) }
+    ensures tells { KeepsTelling (D.seen desk.old) (D.seen desk.new) }
+{
+    match check_files(alloc, desk, limits, names) {
+        Ok(()) => SameChecked::Accepted,
+        Err(answer) => answer,
+    }
+}
+
+// The three files in their order.
+fn check_files<D: Desk>(
+    alloc: Global,
+    desk: &mut D,
+    limits: &Limits,
+    names: &Names<'_>,
+) -> Result<(), SameChecked>
+    ensures accepted { OnOk result (IsOutcome limits.now (files_of names.now)
+        (D.seen desk.old) (D.seen desk.new) SameChecked.Accepted) }
+    ensures refused { IfErr result (IsOutcome limits.now (files_of names.now)
+        (D.seen desk.old) (D.seen desk.new)) }
+    ensures opened_all { OnOk result (OpensFiles 3 (D.seen desk.old) (D.seen desk.new)) }
+    ensures opened { IfErr result (λ answer. OpensFor answer (D.seen desk.old) (D.seen desk.new)) }
+    ensures inspects { Inspects (D.seen desk.old) (D.seen desk.new) }
+    ensures tells { KeepsTelling (D.seen desk.old) (D.seen desk.new) }
+{
+    let pair = match read_pair(alloc, desk, limits, names) {
+        Ok(pair) => pair,
+        Err(fail) => return Err(pair_answer(fail)),
+    };
+    match check_clauses(alloc, desk, limits, names.clauses, &pair.1) {
+        Ok(()) => Ok(()),
+        Err(fail) => Err(clauses_answer(fail)),
+    }
+}

@@ -1,0 +1,50 @@
+// `same`: the two graphs, a solver, and the certificate.
+ghost use Rattle.std.specs.Prelude.{◌≤◌};
+ghost use Rattle.mv_desk.specs.View.{KeepsTelling};
+ghost use Rattle.same_core.specs.Deciding.{IsAnswer, OpensForAnswer};
+ghost use Rattle.same_core.specs.Files.{files_of};
+
+use crate::answers::pair_failed;
+use crate::certificate::write_certificate;
+use crate::pairs::read_pair;
+use crate::solving::{decide, inputs_at};
+use crate::verdict::Same;
+use goal_refuter::Outcome;
+use mv_desk::{Desk, Limits, Names};
+use std::alloc::Global;
+
+/// Says whether two graphs are equal, within so many conflicts of a solver. Where each goal of their merged gates is
+/// refuted, the certificate is created and written; else no file is.
+pub fn same<D: Desk>(
+    alloc: Global,
+    desk: &mut D,
+    conflicts: u64,
+    limits: &Limits,
+    names: &Names<'_>,
+) -> Same
+    ensures answer { IsAnswer limits.now conflicts (files_of names.now) (D.seen desk.old) (D.seen desk.new) result }
+    ensures opened { OpensForAnswer result (D.seen desk.old) (D.seen desk.new) }
+    ensures later { (D.seen desk.old).write_faults ≤ (D.seen desk.new).write_faults }
+    ensures tells { KeepsTelling (D.seen desk.old) (D.seen desk.new) }
+{
+    let pair = match read_pair(alloc, desk, limits, names) {
+        Ok(pair) => pair,
+        Err(fail) => return pair_failed(fail),
+    };
+    match decide(alloc, &pair.1, conflicts) {
+        Ok(Outcome::Refuted(log)) => match write_certificate(desk, log.lines(), names.clauses) {
+            Ok(()) => Same::Equal,
+            Err(_) => Same::WriteFault,
+        },
+        Ok(Outcome::Model(values)) => match inputs_at(alloc, &pair.0, &values) {
+            Ok(inputs) => Same::Differs { inputs },
+            Err(_) => Same::Memory,
+        },
+        Ok(Outcome::Spent(goal, log)) => Same::Spent {
+            lemmas: conflicts,
+            goal,
+            log,
+        },
+        Err(_) => Same::Memory,
+    }
+}

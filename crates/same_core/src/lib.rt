@@ -1,0 +1,38 @@
+//! Judges whether two graphs are the same: for all inputs all their outputs agree.
+//!
+//! `merge` puts the gates of two graphs into one list over the same inputs. `check_same` opens the two graphs and a clause
+//! certificate, reads the certificate line by line, and says what the files come to: accepted where the bytes spell two
+//! graphs of one shape and each line meets its rule, and then the graphs agree; else the first refusal, or a length that is
+//! met before any refusal. A failed read is answered where it was counted, and want of memory at any time.
+//!
+//! `same` lets a solver refute that some output differs, within a number of conflicts: where each goal is refuted it writes the
+//! certificate, which `check_same` accepts; where an evaluation differs it gives its inputs.
+//!
+//! *Merged gates*, *agree*: `specs/Merged.antt`. *Lawful*, *first refusal*: `specs/Certificates.antt`. *Told*:
+//! `specs/Files.antt`. *Due*, *outcome*: `specs/Outcome.antt`. *Answer*: `specs/Deciding.antt`.
+#![tactic(auto)]
+
+mod answers;
+mod certificate;
+mod checked;
+mod checking;
+mod clauses;
+mod deciding;
+mod graphs;
+mod laws;
+mod merged;
+mod pairs;
+mod solving;
+mod verdict;
+
+pub use checked::{SameChecked, SameRefusal};
+pub use checking::check_same;
+pub use clause_judge::ClauseWhy as SameWhy;
+pub use deciding::same;
+pub use laws::{
+    certificates_are_exact, equal_pairs_are_held, lawful_graphs_agree, merged_is_pair,
+    merged_outputs_agree, one_answer_is_due, outcomes_are_exact, pair_answers_are_exact,
+    pairs_are_decided, written_is_lawful,
+};
+pub use merged::{MergeFail, Merged, merge};
+pub use verdict::Same;
