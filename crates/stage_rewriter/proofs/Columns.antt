@@ -1,8 +1,7 @@
 -- The replaced columns of a cut, one after the other, and their goals.
 use Rattle.std.specs.Prelude.{◌≡◌, ℕ, zero, suc, ◌+◌, ◌-◌, ◌<◌, ◌≤◌, List, [], ◌∷◌, ◌++◌, length, drop, take, slice_get, slice_index_or}
-use Rattle.std.specs.declared.option.Option.{Option}
-use Rattle.std.specs.declared.option.Option.TheVariants.{None, Some}
-use Rattle.std.specs.List.{cons_option, flat_map}
+use Rattle.std.specs.declared.option.Option.TheVariants.{Some}
+use Rattle.std.specs.List.{flat_map}
 use Rattle.std.proofs.Common.{refl, sym, ap, ap₂, subst, ◌∙◌, arith, ⊎_elim}
 use Rattle.std.proofs.lemmas.List.{append-nil, length-drop, take_all, take_more}
 use Rattle.std.proofs.lemmas.Grind.{flat_map-append}
@@ -20,8 +19,8 @@ use Rattle.clause_core.specs.Clause.{Clause}
 use Rattle.clause_core.specs.Likeness.{AreSameSets}
 use Rattle.miter_encoder.specs.Encoding.{Appends}
 use Rattle.miter_encoder.proofs.Appending.{appends_same}
-use Rattle.stage_rewriter.specs.Rewriting.{unmet_goals, unmet_of}
-use Rattle.stage_rewriter.proofs.Lists.{take_none}
+use Rattle.goal_refuter.specs.Refutations.{unmet_goals, unmet_of}
+use Rattle.goal_refuter.proofs.Lists.{take_none}
 
 columns_long : (k : ℕ) (old new : List Lit) → length old ≤ length new → length (columns k old new) ≡ length old
 columns_long k [] new h = refl
@@ -92,11 +91,3 @@ module _ (e : Extended) (cut : Cut) (is_cut : IsCut e.graph cut) (is : e ≡ wit
   goals_all k goals end same =
       let long = replaced_long in
       subst (λ (cs : List Column). AreSameSets goals (flat_map unmet_of cs)) (take_all (k - cut.lo) e.replaced (omega arith)) same
-
-cons_split : (o : Option Clause) (cs : List Clause) → cons_option o cs ≡ cons_option o [] ++ cs
-cons_split None cs = refl
-cons_split (Some c) cs = refl
-
--- the goals of one column
-pub two_goals : (a b : Option Clause) → cons_option a (cons_option b []) ≡ cons_option a [] ++ cons_option b []
-two_goals a b = cons_split a (cons_option b [])

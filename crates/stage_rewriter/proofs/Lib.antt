@@ -1,10 +1,5 @@
-pub mod Lists
-pub mod LogLines
 pub mod Columns
 pub mod ColumnGoals
-pub mod Answering
-pub mod Kept
-pub mod Refuting
 pub mod Using
 pub mod Values
 pub mod NearLogs

@@ -15,8 +15,8 @@ use Rattle.clause_core.proofs.Copies.{same_self}
 use Rattle.clause_core.proofs.Sets.{rup_by_sets}
 use Rattle.cdcl_core.specs.Logs.{LogView}
 use Rattle.stage_rewriter.specs.NearClauses.{AreNearOf, IsMarked, IsNear, IsNearLine, PushesNear}
-use Rattle.stage_rewriter.specs.Refuting.{IsShownNext}
-use Rattle.stage_rewriter.proofs.Kept.{Within}
+use Rattle.goal_refuter.specs.Refuting.{IsShownNext}
+use Rattle.goal_refuter.proofs.Kept.{Within}
 
 -- ---- the clauses that are near
 

@@ -1,9 +1,9 @@
 -- Goals that propagation leaves open don't follow.
-use Rattle.std.specs.Prelude.{◌≡◌, ◌≢◌, ℕ, zero, suc, ◌+◌, ◌*◌, ◌-◌, ◌/◌, ◌%◌, ◌<◌, ◌⊎◌, Bool, true, false, cond, List, [], ◌∷◌, ◌++◌, length, map, ℤ, pos, negsuc, neg_ℤ, slice_index_or, ◌==◌}
+use Rattle.std.specs.Prelude.{◌≡◌, ◌≢◌, ℕ, zero, suc, ◌+◌, ◌*◌, ◌-◌, ◌%◌, ◌<◌, ◌⊎◌, Bool, true, false, cond, List, [], ◌∷◌, length, map, ℤ, pos, neg_ℤ, slice_index_or, ◌==◌}
 use Rattle.std.specs.declared.option.Option.{Option}
 use Rattle.std.specs.declared.option.Option.TheVariants.{None, Some}
 use Rattle.std.specs.Option.{option_map}
-use Rattle.std.specs.List.{All, Any, Contains, cons_option, filter_map, flat_map}
+use Rattle.std.specs.List.{All, Contains, cons_option, filter_map, flat_map}
 use Rattle.std.proofs.Common.{refl, sym, ap, subst, ◌∙◌, arith, inl, inr, ⊎_elim, true≢false, eqb-true}
 use Rattle.std.proofs.lemmas.Bool.{cases_eq, eqb-false}
 use Rattle.std.proofs.lemmas.List.{get_or_default}
@@ -13,10 +13,10 @@ use Rattle.graph_core.specs.declared.gate.Gate.{Gate}
 use Rattle.graph_core.specs.Graph.Literals.{negation_of, variable_of}
 use Rattle.clause_core.specs.Clause.{Clause}
 use Rattle.clause_core.specs.GateClauses.{clause_of, gate_clauses, gate_literals, signed_of}
-use Rattle.clause_core.specs.UnitPropagation.{IsChain, IsFalsified, IsRup, IsTautology, IsUnit}
+use Rattle.clause_core.specs.UnitPropagation.{IsChain, IsRup, IsTautology}
 use Rattle.clause_core.proofs.RupSoundness.{contains_cases}
 use Rattle.miter_encoder.proofs.Collecting.{clause_of-one, clause_of-other, clause_of-zero}
-use Rattle.stage_rewriter.specs.Resting.{IsAtRest, IsGateAtRest, IsOpposed, IsOther, IsPossible, RestsAt, is_marked, mark_at, number_of}
+use Rattle.stage_rewriter.specs.Resting.{IsAtRest, IsGateAtRest, IsOpposed, IsPossible, mark_at, number_of}
 
 -- ---- numbers
 

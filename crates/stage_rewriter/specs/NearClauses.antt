@@ -1,11 +1,8 @@
 -- Clauses near an adder, and logs over them alone.
-use Rattle.std.specs.Prelude.{◌≡◌, ◌⊎◌, ℕ, Bool, true, false, List, [], ◌∷◌, ◌++◌, ℤ, nat_abs, slice_index_or}
+use Rattle.std.specs.Prelude.{◌≡◌, ◌⊎◌, Bool, true, false, List, [], ◌∷◌, ◌++◌, ℤ, nat_abs, slice_index_or}
 use Rattle.std.specs.List.{All, Contains}
-use Rattle.clause_core.specs.Clause.{Clause, IsClauseInRange}
+use Rattle.clause_core.specs.Clause.{Clause}
 use Rattle.clause_core.specs.ClauseLines.{ClauseLine, clause_in}
-use Rattle.cdcl_core.specs.Loading.{SameLive}
-use Rattle.cdcl_core.specs.Logs.{LogView}
-use Rattle.cdcl_core.specs.Solvers.{SolverView}
 
 -- a literal whose variable is marked
 abbrev pub IsMarked : List Bool → ℤ → Type 0
@@ -27,9 +24,3 @@ pub record AreNearOf (marks : List Bool) (clauses near : List Clause) : Type 0 w
 -- one clause more, or none where it isn't near
 abbrev pub PushesNear : List Bool → Clause → List Clause → List Clause → Type 0
 PushesNear marks c old new = (IsNear marks c × (new ≡ old ++ c ∷ [])) ⊎ ((IsNear marks c → ⊥) × (new ≡ old))
-
--- The solver's clauses are these, and those that the log left.
-pub record IsKeptOver (max : ℕ) (near : List Clause) (solver : SolverView) (log : LogView) : Type 0 where
-  pub max_is : solver.max ≡ max
-  pub live : SameLive solver.live (log.left ++ near)
-  pub in_range : All (IsClauseInRange max) log.left

@@ -6,7 +6,8 @@ use Rattle.clause_core.specs.GateClauses.{gate_clauses}
 use Rattle.clause_core.specs.Likeness.{AreSameSets}
 use Rattle.cdcl_core.specs.Logs.{LogView}
 use Rattle.cdcl_core.specs.Solvers.{SolverView}
-use Rattle.stage_rewriter.specs.NearClauses.{AreNearOf, IsKeptOver}
+use Rattle.goal_refuter.specs.Refuting.{IsKeptOver}
+use Rattle.stage_rewriter.specs.NearClauses.{AreNearOf}
 
 -- The solver's clauses are near ones of the gates' clauses, and those that the log left.
 pub record IsKeptNear (e : Extended) (marks : List Bool) (solver : SolverView) (log : LogView) : Type 0 where

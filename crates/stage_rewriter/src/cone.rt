@@ -1,14 +1,16 @@
 // The variables near an adder.
+use clause_core::Clause;
 use graph_core::Memory;
 use ripple_graft::{Cut, Extended};
 use std::alloc::Global;
 
-/// By variable, whether it is near: one of a pair, or of a gate between the pairs and the outputs, old or new.
-/// Which are is advice: no answer depends on it.
+/// By variable, whether it is near: one of a pair, or of a gate between the pairs and the outputs, old or new, or one
+/// that is read below a pair through at most so many gates. Which are is advice: no answer depends on it.
 pub(crate) fn near_variables(
     alloc: Global,
     extended: &Extended<'_>,
     cut: &Cut,
+    depth: u32,
 ) -> Result<Vec<bool>, Memory> {
     let most = extended.max() as usize;
     let mut walk = Walk {
@@ -30,14 +32,31 @@ pub(crate) fn near_variables(
             walk.reach(gate.v)?;
         }
     }
-    for place in pairs..most + 1 {
-        if place >= walk.path.len() {
-            break;
-        }
-        let var = walk.path[place];
-        walk.enter(extended, var)?;
-    }
+    walk.go_down(extended, pairs)?;
+    walk.deepen(extended, pairs, depth)?;
     Ok(walk.reached)
+}
+
+/// The variables of a goal, and what is read below them as far as it is marked, the deepest first.
+pub(crate) fn variables_below(
+    alloc: Global,
+    extended: &Extended<'_>,
+    goal: &Clause,
+    marks: &[bool],
+) -> Result<Vec<u32>, Memory> {
+    let mut walk = Walk {
+        reached: Vec::from_slice(alloc, marks)?,
+        path: Vec::new(alloc),
+    };
+    for mark in walk.reached.iter_mut() {
+        *mark = !*mark;
+    }
+    for lit in goal.lits() {
+        walk.reach(lit.unsigned_abs())?;
+    }
+    walk.go_down(extended, 0)?;
+    walk.path.reverse();
+    Ok(walk.path)
 }
 
 // The variables that are reached, in their order.
@@ -54,6 +73,32 @@ impl Walk {
         if var > 0 && place < self.reached.len() && !self.reached[place] {
             self.reached[place] = true;
             self.path.push(var)?;
+        }
+        Ok(())
+    }
+
+    // What is read below the variables from a place on.
+    fn go_down(&mut self, extended: &Extended<'_>, from: usize) -> Result<(), Memory> {
+        for place in from..self.reached.len() {
+            match self.path.get(place).copied() {
+                Some(var) => self.enter(extended, var)?,
+                None => break,
+            }
+        }
+        Ok(())
+    }
+
+    // What is read below the first variables, through at most so many gates.
+    fn deepen(&mut self, extended: &Extended<'_>, first: usize, depth: u32) -> Result<(), Memory> {
+        let (mut start, mut end) = (0, first);
+        for _depth in 0..depth {
+            let count = self.path.len();
+            for place in start..end {
+                if let Some(var) = self.path.get(place).copied() {
+                    self.enter(extended, var)?;
+                }
+            }
+            (start, end) = (count, self.path.len());
         }
         Ok(())
     }

@@ -3,22 +3,19 @@
 //! `rewrite` looks for the final stage, grafts the adder, and has the negation of each goal refuted, column by column
 //! upward, within a budget of conflicts. What it answers is one of four kinds, each by its cause: the lines of a
 //! lawful clause certificate, no final stage, operands at which an output differs, or a spent budget with the log that
-//! spent it.
+//! spent it. `rewrite_at` does the same with any cut in place of the final stage.
 //!
 //! *Final stage*: `specs/FinalStage.antt` of `slice_finder`. *Goals*, *lawful lines*, *lemma*: `GateClauses`,
-//! `ClauseLines` and `Log` in `specs/` of `clause_core`. *Rewriting*: `specs/Rewriting.antt`.
+//! `ClauseLines` and `Log` in `specs/` of `clause_core`. *Spent*: `specs/Refutations.antt` of `goal_refuter`. *Rewriting*:
+//! `specs/Rewriting.antt`.
 #![tactic(auto)]
 
 mod cone;
 mod difference;
 mod goals;
-mod laws;
 mod near;
 mod outcome;
-mod refutation;
 mod resting;
 mod rewriting;
-mod solver;
 
-pub use laws::refuted_is_lawful;
-pub use rewriting::{Rewritten, rewrite};
+pub use rewriting::{Rewritten, rewrite, rewrite_at};

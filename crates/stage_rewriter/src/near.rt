@@ -1,30 +1,32 @@
 // Goals that are refuted over the clauses near an adder alone.
-ghost use Rattle.std.specs.Prelude.{◌≡◌, ◌↔◌, drop, length, IfOk, IfSome, IsTrue, OnOk};
-ghost use Rattle.std.specs.List.{All};
+ghost use Rattle.std.specs.Prelude.{List, ◌≡◌, ◌↔◌, ◌++◌, drop, length, IfOk, IfSome, IsTrue, OnOk};
+ghost use Rattle.std.specs.List.{All, Contains};
+ghost use Rattle.clause_core.specs.Clause.{Clause as Literals, IsClauseInRange};
+ghost use Rattle.cdcl_core.specs.Loading.{SameLive};
 ghost use Rattle.ripple_graft.specs.Blocks.{IsCut, with_cut};
 ghost use Rattle.stage_rewriter.specs.NearClauses.{AreNearOf, IsMarked, IsNear, IsNearLine, PushesNear};
-ghost use Rattle.stage_rewriter.specs.Refuting.{IsSoFar};
-ghost use Rattle.stage_rewriter.specs.Rewriting.{unmet_goals};
+ghost use Rattle.goal_refuter.specs.Refuting.{IsRefutation, IsSoFar};
+ghost use Rattle.goal_refuter.specs.Refutations.{unmet_goals};
 
-use crate::cone::near_variables;
+use crate::cone::{near_variables, variables_below};
 use crate::goals::unmet_goals;
-use crate::refutation::refute;
-use crate::solver::solver_of;
-use cdcl_core::{Log, Solved};
+use cdcl_core::{Log, Solved, Solver};
 use clause_core::{Clause, ClauseList, Line};
+use goal_refuter::{refute, solver_of};
 use graph_core::Memory;
 use miter_encoder::gate_clauses;
 use ripple_graft::{Cut, Extended};
 use std::alloc::Global;
 
-/// Refutes the negation of each goal that isn't met over the clauses whose variables are all near the adder, within so
-/// many conflicts; None where that doesn't come off.
+/// Refutes the negation of each goal that isn't met over the clauses whose variables are all near the adder, or read at
+/// most so deep below its pairs, within so many conflicts; None where that doesn't come off.
 ///
 /// A log over these clauses is one over all: what is over other variables is within none of its clauses.
 pub(crate) fn refute_near(
     alloc: Global,
     extended: &Extended<'_>,
     cut: &Cut,
+    depth: u32,
     conflicts: u64,
 ) -> Result<Option<Log>, Memory>
     requires cut { IsCut extended.now.graph cut.now }
@@ -35,7 +37,7 @@ pub(crate) fn refute_near(
     let _gates = extended.gates();
     let clauses = gate_clauses(alloc, extended)?;
     let goals = unmet_goals(alloc, extended, cut)?;
-    let marks = near_variables(alloc, extended, cut)?;
+    let marks = near_variables(alloc, extended, cut, depth)?;
     let near = near_clauses(alloc, &clauses, &marks)?;
     let mut solver = solver_of(alloc, max, &near)?;
     let mut log = Log::new(alloc);
@@ -44,7 +46,16 @@ pub(crate) fn refute_near(
         let spent = log.added() - goal as u64;
         let left = conflicts - spent;
         let start = log.lines().len();
-        match refute(alloc, &mut solver, goals.get(goal), left, &mut log)? {
+        match refute_by(
+            alloc,
+            extended,
+            &marks,
+            depth,
+            &mut solver,
+            goals.get(goal),
+            left,
+            &mut log,
+        )? {
             Solved::Refuted => {}
             Solved::Model(_) => return Ok(None),
             Solved::Spent => return Ok(None),
@@ -54,6 +65,50 @@ pub(crate) fn refute_near(
         }
     }
     Ok(Some(log))
+}
+
+// Refutes the negation of a goal, as `refute` does.
+fn refute_by(
+    alloc: Global,
+    extended: &Extended<'_>,
+    marks: &[bool],
+    depth: u32,
+    solver: &mut Solver,
+    goal: &Clause,
+    conflicts: u64,
+    log: &mut Log,
+) -> Result<Solved, Memory>
+    requires goal { IsClauseInRange solver.old.max goal.now }
+    requires log { All (IsClauseInRange solver.old.max) log.old.left }
+    requires known { (c : Literals) → Contains log.old.left c → Contains solver.old.live c }
+    ensures max { OnOk result (solver.new.max ≡ solver.old.max) }
+    ensures left { OnOk result (All (IsClauseInRange solver.old.max) log.new.left) }
+    ensures answer { (given : List Literals) → SameLive solver.old.live (log.old.left ++ given) →
+        IfOk result (IsRefutation solver.old.max given goal.now conflicts log.old log.new) }
+    ensures live { (given : List Literals) → SameLive solver.old.live (log.old.left ++ given) →
+        OnOk result (SameLive solver.new.live (log.new.left ++ given)) }
+{
+    prefer_below(alloc, extended, marks, depth, solver, goal)?;
+    refute(alloc, solver, goal, conflicts, log)
+}
+
+// Has the variables of a goal and those below decided first, the goal's foremost, where what lies below the pairs counts
+// as near.
+fn prefer_below(
+    alloc: Global,
+    extended: &Extended<'_>,
+    marks: &[bool],
+    depth: u32,
+    solver: &mut Solver,
+    goal: &Clause,
+) -> Result<(), Memory>
+    ensures { solver.new ≡ solver.old }
+{
+    if depth > 0 {
+        let vars = variables_below(alloc, extended, goal, marks)?;
+        solver.prefer(&vars);
+    }
+    Ok(())
 }
 
 // The clauses whose variables are all marked.

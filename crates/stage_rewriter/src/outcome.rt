@@ -1,38 +1,27 @@
 // All goals of a graph with an adder, one after the other.
 ghost use Rattle.std.specs.Prelude.{◌≡◌, [], IfOk, IsTrue};
 ghost use Rattle.ripple_graft.specs.Blocks.{IsCut, with_cut};
-ghost use Rattle.stage_rewriter.specs.Refuting.{IsOutcome};
-ghost use Rattle.stage_rewriter.specs.Rewriting.{IsSpent};
+ghost use Rattle.goal_refuter.specs.Refuting.{IsOutcome};
+ghost use Rattle.goal_refuter.specs.Refutations.{IsSpent};
 
 use crate::goals::unmet_goals;
 use crate::near::refute_near;
-use crate::refutation::refute;
 use crate::resting::stays_open;
-use crate::solver::solver_of;
-use cdcl_core::{Log, Solved};
+use cdcl_core::Log;
+use goal_refuter::{Outcome, refute_goals};
 use graph_core::Memory;
 use miter_encoder::gate_clauses;
 use ripple_graft::{Cut, Extended};
 use std::alloc::Global;
 
-/// What comes of refuting the negation of each goal.
-#[derive(Debug, Drop)]
-pub enum Outcome {
-    /// Each is refuted, and the goals are among the lines.
-    Refuted(Log),
-    /// An evaluation at which a goal doesn't hold: the value of each variable from 1 on.
-    Model(Vec<bool>),
-    /// The conflicts are spent after so many goals, as the log has it.
-    Spent(u64, Log),
-}
-
-/// Refutes the negation of each goal that isn't met, within so many conflicts: over the clauses near the adder, and
-/// where that doesn't come off, over all. Where no conflict is allowed, the first goal is looked at without a clause
-/// being made.
+/// Refutes the negation of each goal that isn't met, within so many conflicts: over the clauses near the adder, so deep
+/// below its pairs, and where that doesn't come off, over all. Where no conflict is allowed, the first goal is looked at
+/// without a clause being made.
 pub fn refute_all(
     alloc: Global,
     extended: &Extended<'_>,
     cut: &Cut,
+    depth: u32,
     conflicts: u64,
 ) -> Result<Outcome, Memory>
     requires cut { IsCut extended.now.graph cut.now }
@@ -43,7 +32,7 @@ pub fn refute_all(
         if is_spent_at_once(alloc, extended, cut)? {
             return Ok(Outcome::Spent(0, Log::new(alloc)));
         }
-    } else if let Some(log) = refute_near(alloc, extended, cut, conflicts)? {
+    } else if let Some(log) = refute_near(alloc, extended, cut, depth, conflicts)? {
         return Ok(Outcome::Refuted(log));
     }
     refute_over_all(alloc, extended, cut, conflicts)
@@ -77,17 +66,5 @@ fn refute_over_all(
     let _gates = extended.gates();
     let clauses = gate_clauses(alloc, extended)?;
     let goals = unmet_goals(alloc, extended, cut)?;
-    let mut solver = solver_of(alloc, max, &clauses)?;
-    let mut log = Log::new(alloc);
-    for goal in 0..goals.len() {
-        // the goals so far are among the added clauses beside the lemmas
-        let spent = log.added() - goal as u64;
-        let left = conflicts - spent;
-        match refute(alloc, &mut solver, goals.get(goal), left, &mut log)? {
-            Solved::Refuted => {}
-            Solved::Model(values) => return Ok(Outcome::Model(values)),
-            Solved::Spent => return Ok(Outcome::Spent(goal as u64, log)),
-        }
-    }
-    Ok(Outcome::Refuted(log))
+    refute_goals(alloc, max, &clauses, &goals, conflicts)
 }

@@ -4,15 +4,20 @@ ghost use Rattle.graph_core.specs.Graph.{Aig};
 ghost use Rattle.graph_core.specs.Graph.Operands.{AreOperandsOf, HasMultiplierShape};
 ghost use Rattle.ripple_graft.specs.Blocks.{IsCut, with_cut};
 ghost use Rattle.slice_finder.specs.FinalStage.{IsFinalStage};
-ghost use Rattle.stage_rewriter.specs.Rewriting.{Agrees, IsRewriting};
+ghost use Rattle.stage_rewriter.specs.Rewriting.{Agrees, IsRewriting, IsRewritingAt};
 
 use crate::difference::operands_of;
-use crate::outcome::{Outcome, refute_all};
+use crate::outcome::refute_all;
 use cdcl_core::Log;
+use goal_refuter::Outcome;
 use graph_core::{Graph, Memory, Operands};
 use ripple_graft::{Cut, Extended, GraftFail, graft};
 use slice_finder::final_stage;
 use std::alloc::Global;
+
+// At a cut that isn't known to be a final stage, pairs are often the sum and the carry of the same two literals, which
+// are read this deep below them.
+const DEPTH: u32 = 4;
 
 /// What comes of putting a ripple-carry adder in place of a graph's final stage.
 #[derive(Debug, Drop)]
@@ -57,6 +62,54 @@ pub fn rewrite<'a>(
     }
 }
 
+/// Puts a ripple-carry adder in place of a cut of a graph, where so many conflicts are enough to show that its outputs
+/// are the graph's. There is no answer `None`.
+pub fn rewrite_at<'a>(
+    alloc: Global,
+    graph: &'a Graph,
+    operands: &Operands,
+    conflicts: u64,
+    cut: Cut,
+) -> Result<Rewritten<'a>, Memory>
+    requires cut { IsCut graph.now cut }
+    requires shape { HasMultiplierShape graph.now }
+    requires operands { AreOperandsOf graph.now operands.now }
+    ensures rewriting { IfOk result (IsRewritingAt graph.now operands.now.order conflicts cut) }
+    ensures agrees { IfOk result Agrees }
+{
+    rewrite_near(alloc, graph, operands, conflicts, cut, DEPTH)
+}
+
+// The same, with what is read so deep below the pairs counted as near.
+fn rewrite_near<'a>(
+    alloc: Global,
+    graph: &'a Graph,
+    operands: &Operands,
+    conflicts: u64,
+    cut: Cut,
+    depth: u32,
+) -> Result<Rewritten<'a>, Memory>
+    requires cut { IsCut graph.now cut }
+    requires shape { HasMultiplierShape graph.now }
+    requires operands { AreOperandsOf graph.now operands.now }
+    ensures rewriting { IfOk result (IsRewritingAt graph.now operands.now.order conflicts cut) }
+    ensures agrees { IfOk result Agrees }
+{
+    let extended = grafted(alloc, graph, &cut)?;
+    match refute_all(alloc, &extended, &cut, depth, conflicts)? {
+        Outcome::Refuted(log) => Ok(Rewritten::Used { cut, extended, log }),
+        Outcome::Model(values) => {
+            let (a, b) = operands_of(alloc, graph, operands, &values)?;
+            Ok(Rewritten::Differs { a, b })
+        }
+        Outcome::Spent(goal, log) => Ok(Rewritten::Spent {
+            lemmas: conflicts,
+            goal,
+            log,
+        }),
+    }
+}
+
 // The same, with the final stage.
 fn replace<'a>(
     alloc: Global,
@@ -71,29 +124,17 @@ fn replace<'a>(
     ensures rewriting { IfOk result (IsRewriting graph.now operands.now.order conflicts) }
     ensures agrees { IfOk result Agrees }
 {
-    let extended = grafted(alloc, graph, &cut)?;
-    match refute_all(alloc, &extended, &cut, conflicts)? {
-        Outcome::Refuted(log) => Ok(Rewritten::Used { cut, extended, log }),
-        Outcome::Model(values) => {
-            let (a, b) = operands_of(alloc, graph, operands, &values)?;
-            Ok(Rewritten::Differs { a, b })
-        }
-        Outcome::Spent(goal, log) => Ok(Rewritten::Spent {
-            lemmas: conflicts,
-            goal,
-            log,
-        }),
-    }
-}
-
-// The graph with the adder of a final stage, which is a cut of it.
-fn grafted<'a>(alloc: Global, graph: &'a Graph, cut: &Cut) -> Result<Extended<'a>, Memory>
-    requires { IsFinalStage graph.now cut.now }
-    ensures cut { IfOk result (λ _. IsCut graph.now cut.now) }
-    ensures graph { IfOk result (λ extended. extended ≡ with_cut graph.now cut.now) }
-{
     // without faults
     let _max = graph.max();
+    let rewritten = rewrite_near(alloc, graph, operands, conflicts, cut, 0)?;
+    Ok(rewritten)
+}
+
+// The graph with the adder of a cut.
+fn grafted<'a>(alloc: Global, graph: &'a Graph, cut: &Cut) -> Result<Extended<'a>, Memory>
+    requires { IsCut graph.now cut.now }
+    ensures { IfOk result (λ extended. extended ≡ with_cut graph.now cut.now) }
+{
     match graft(alloc, graph, cut) {
         Ok(extended) => Ok(extended),
         Err(GraftFail::Memory) => Err(Memory),

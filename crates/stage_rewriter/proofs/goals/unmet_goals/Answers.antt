@@ -17,8 +17,8 @@ loop-column-preserved c =
     let low : c.args.cut.now.lo ≤ k = omega arith in
     let old : Lit = slice_index_or c.output_literals-outputs.result.now k (record { 0 = 0 }) in
     let olds : slice_get e.graph.outputs k ≡ Some old = subst (λ (ls : List Lit). slice_get ls k ≡ Some old) outputs (slice_get-get_or c.output_literals-outputs.result.now k (record { 0 = 0 }) below) in
-    goals_more e c.args.cut.now c.requires.cut c.requires.graph c.gates-gates.ensures.extension k old c.new_output-new.result c.loop-column.goals c.push_column.new.goals low (omega (arith, ap length outputs))
-    olds c.new_output-new.ensures c.loop-column.invariant c.in_ok-push_column.ensures
+    goals_more e c.args.cut.now c.requires.cut c.requires.graph c.gates-gates.ensures.extension k old c.new_output-new.result c.loop-column.goals c.push_goals.new.goals low (omega (arith, ap length outputs))
+    olds c.new_output-new.ensures c.loop-column.invariant c.in_ok-push_goals.ensures
 
 pub returns : goal.returns
 returns c =

@@ -1,7 +1,7 @@
 use Rattle.std.proofs.Common.{◌-◌, take}
 use Rattle.std.specs.List.{flat_map}
 use Rattle.clause_core.specs.Likeness.{AreSameSets}
-use Rattle.stage_rewriter.specs.Rewriting.{unmet_of}
+use Rattle.goal_refuter.specs.Refutations.{unmet_of}
 use Rattle.stage_rewriter.proofs.goals.unmet_goals.Given as goal
 
 abbrev pub invariant-loop-column : goal.invariant-loop-column

@@ -8,12 +8,13 @@ use Rattle.cdcl_core.specs.Logs.{LogView}
 use Rattle.cdcl_core.specs.Solvers.{SolverView}
 use Rattle.cdcl_core.specs.declared.solved.Solved.{Solved}
 use Rattle.stage_rewriter.specs.NearClauses.{AreNearOf, IsNearLine}
-use Rattle.stage_rewriter.specs.Refuting.{IsRefutation}
-use Rattle.stage_rewriter.specs.Rewriting.{unmet_goals}
-use Rattle.stage_rewriter.proofs.ColumnGoals.{gates_range, goals_range, sets_range}
-use Rattle.stage_rewriter.proofs.Kept.{left_live, live_itself}
+use Rattle.goal_refuter.specs.Refuting.{IsRefutation}
+use Rattle.goal_refuter.specs.Refutations.{unmet_goals}
+use Rattle.goal_refuter.proofs.GoalClauses.{sets_range}
+use Rattle.stage_rewriter.proofs.ColumnGoals.{gates_range, goals_range}
+use Rattle.goal_refuter.proofs.Kept.{left_live, live_itself}
 use Rattle.stage_rewriter.proofs.NearLogs.{near_range, shown_near}
-use Rattle.stage_rewriter.proofs.Refuting.{at_goal, so_far_all, so_far_next, so_far_none}
+use Rattle.goal_refuter.proofs.Outcomes.{at_goal, so_far_all, so_far_next, so_far_none}
 use Rattle.stage_rewriter.proofs.near.refute_near.Goals as goal
 
 pub solver_of-requires-clause-in_range : goal.solver_of-requires-clause-in_range
@@ -23,8 +24,8 @@ solver_of-requires-clause-in_range c =
     (near_range c.deref.result.now e.max c.in_ok-clauses.clauses c.in_ok-near.near c.in_ok-near.ensures
     (sets_range e.max c.in_ok-clauses.clauses (gate_clauses e.gates) c.in_ok-clauses.ensures.sets (gates_range e c.gates-gates.ensures.extension)))
 
-pub refute-requires-clause-goal : goal.refute-requires-clause-goal
-refute-requires-clause-goal c =
+pub refute_by-requires-clause-goal : goal.refute_by-requires-clause-goal
+refute_by-requires-clause-goal c =
     let e = c.args.extended.now in
     let goals = c.in_ok-goals.goals in
     let i = c.loop-goal.goal in
@@ -32,11 +33,11 @@ refute-requires-clause-goal c =
     subst (λ m. IsClauseInRange m c.get.result.now) (sym c.loop-goal.invariant.kept.over.max_is)
     (subst (IsClauseInRange e.max) (sym c.get.ensures) (sets_range e.max goals (unmet_goals e) c.in_ok-goals.ensures (goals_range e c.gates-gates.ensures.extension) i c.get.result.now below))
 
-pub refute-requires-clause-log : goal.refute-requires-clause-log
-refute-requires-clause-log c = subst (λ m. All (IsClauseInRange m) c.loop-goal.log.left) (sym c.loop-goal.invariant.kept.over.max_is) c.loop-goal.invariant.kept.over.in_range
+pub refute_by-requires-clause-log : goal.refute_by-requires-clause-log
+refute_by-requires-clause-log c = subst (λ m. All (IsClauseInRange m) c.loop-goal.log.left) (sym c.loop-goal.invariant.kept.over.max_is) c.loop-goal.invariant.kept.over.in_range
 
-pub refute-requires-clause-known : goal.refute-requires-clause-known
-refute-requires-clause-known c = left_live c.loop-goal.solver.live c.loop-goal.log.left c.loop-goal.invariant.kept.near c.loop-goal.invariant.kept.over.live
+pub refute_by-requires-clause-known : goal.refute_by-requires-clause-known
+refute_by-requires-clause-known c = left_live c.loop-goal.solver.live c.loop-goal.log.left c.loop-goal.invariant.kept.near c.loop-goal.invariant.kept.over.live
 
 pub loop-goal-init : goal.loop-goal-init
 loop-goal-init c =
@@ -67,23 +68,23 @@ loop-goal-preserved c =
     let log = c.loop-goal.log in
     let below : i < length goals = omega arith in
     let spent : ℕ = c.added.result - i in
-    let known = at_goal c.loop-goal.solver.max e.max near goals i (c.args.conflicts - spent) c.get.result.now log c.refute.new.log c.in_ok-refute.field-0 c.loop-goal.invariant.kept.over.max_is below c.get.ensures
-    (c.in_ok-refute.ensures.answer near c.loop-goal.invariant.kept.over.live) in
+    let known = at_goal c.loop-goal.solver.max e.max near goals i (c.args.conflicts - spent) c.get.result.now log c.refute_by.new.log c.in_ok-refute_by.field-0 c.loop-goal.invariant.kept.over.max_is below c.get.ensures
+    (c.in_ok-refute_by.ensures.answer near c.loop-goal.invariant.kept.over.live) in
     let range = sets_range e.max goals (unmet_goals e) c.in_ok-goals.ensures (goals_range e c.gates-gates.ensures.extension) i [] below in
-    let shown = subst (λ (s : Solved). IsRefutation e.max near (slice_index_or goals i []) (c.args.conflicts - spent) log c.refute.new.log s) c.in-Refuted.is known in
-    let lines : All (IsNearLine c.in_ok-marks.marks.items) (drop (length log.lines) c.refute.new.log.lines) = search rules in
+    let shown = subst (λ (s : Solved). IsRefutation e.max near (slice_index_or goals i []) (c.args.conflicts - spent) log c.refute_by.new.log s) c.in-Refuted.is known in
+    let lines : All (IsNearLine c.in_ok-marks.marks.items) (drop (length log.lines) c.refute_by.new.log.lines) = search rules in
     record {
-      so_far = so_far_next e c.args.conflicts clauses goals c.loop-goal.invariant.kept.sets c.in_ok-goals.ensures i below log c.loop-goal.invariant.so_far spent (ap (λ n. n - i) c.added.ensures) c.refute.new.log range
-          (shown_near c.in_ok-marks.marks.items clauses near c.loop-goal.invariant.kept.is_near e.max (c.args.conflicts - spent) (slice_index_or goals i []) log c.refute.new.log shown lines);
+      so_far = so_far_next e c.args.conflicts clauses goals c.loop-goal.invariant.kept.sets c.in_ok-goals.ensures i below log c.loop-goal.invariant.so_far spent (ap (λ n. n - i) c.added.ensures) c.refute_by.new.log range
+          (shown_near c.in_ok-marks.marks.items clauses near c.loop-goal.invariant.kept.is_near e.max (c.args.conflicts - spent) (slice_index_or goals i []) log c.refute_by.new.log shown lines);
       kept = record {
         clauses = clauses;
         sets = c.loop-goal.invariant.kept.sets;
         near = near;
         is_near = c.loop-goal.invariant.kept.is_near;
         over = record {
-          max_is = c.in_ok-refute.ensures.max ∙ c.loop-goal.invariant.kept.over.max_is;
-          live = c.in_ok-refute.ensures.live near c.loop-goal.invariant.kept.over.live;
-          in_range = subst (λ m. All (IsClauseInRange m) c.refute.new.log.left) c.loop-goal.invariant.kept.over.max_is c.in_ok-refute.ensures.left;
+          max_is = c.in_ok-refute_by.ensures.max ∙ c.loop-goal.invariant.kept.over.max_is;
+          live = c.in_ok-refute_by.ensures.live near c.loop-goal.invariant.kept.over.live;
+          in_range = subst (λ m. All (IsClauseInRange m) c.refute_by.new.log.left) c.loop-goal.invariant.kept.over.max_is c.in_ok-refute_by.ensures.left;
         };
       };
     }

@@ -1,5 +1,5 @@
 use Rattle.stage_rewriter.specs.NearKept.{IsKeptNear}
-use Rattle.stage_rewriter.specs.Refuting.{IsSoFar}
+use Rattle.goal_refuter.specs.Refuting.{IsSoFar}
 use Rattle.stage_rewriter.proofs.near.refute_near.Given as goal
 
 abbrev pub invariant-loop-goal : goal.invariant-loop-goal

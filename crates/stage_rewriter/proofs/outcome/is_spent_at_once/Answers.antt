@@ -1,5 +1,5 @@
 use Rattle.std.proofs.Common.{◌<◌, length, arith}
-use Rattle.stage_rewriter.proofs.Refuting.{seen_spent}
+use Rattle.goal_refuter.proofs.Outcomes.{seen_spent}
 use Rattle.stage_rewriter.proofs.outcome.is_spent_at_once.Goals as goal
 
 pub returns : goal.returns

@@ -1,4 +1,4 @@
-use Rattle.std.proofs.Common.{rules, ◌≡◌, ◌<◌, ◌^◌, [], ◌∷◌, subst, sym, arith}
+use Rattle.std.proofs.Common.{rules, [], ◌∷◌, subst, sym, arith}
 use Rattle.graph_core.specs.declared.literal.Lit.{Lit}
 use Rattle.graph_core.specs.Graph.Literals.{negation_of, plain}
 use Rattle.stage_rewriter.specs.Resting.{IsAtRest}

@@ -1,30 +1,9 @@
-use Rattle.std.proofs.Common.{◌≡◌, ◌∙◌, Bool, List, map, sym, ap, subst}
-use Rattle.graph_core.specs.Graph.Assignments.{literal}
-use Rattle.graph_core.specs.Graph.Operands.{inputs_of, width}
-use Rattle.cdcl_core.specs.Solving.{assignment_of}
-use Rattle.stage_rewriter.specs.Refuting.{IsOutcome}
-use Rattle.stage_rewriter.proofs.Using.{differs, lines_agree, used}
+use Rattle.slice_finder.proofs.FitCuts.{fit_is_cut}
+use Rattle.stage_rewriter.proofs.Using.{at_stage}
 use Rattle.stage_rewriter.proofs.rewriting.replace.Goals as goal
 
-pub returns-in-Refuted-clause-rewriting : goal.returns-in-Refuted-clause-rewriting
-returns-in-Refuted-clause-rewriting c =
-    used c.args.graph.now c.args.conflicts c.args.cut c.in_ok-extended.extended c.in-Refuted.log c.requires.stage c.in_ok-extended.ensures.cut c.in_ok-extended.ensures.graph
-    (subst (IsOutcome c.in_ok-extended.extended c.args.conflicts) c.in-Refuted.is c.in_ok-log.ensures)
+pub rewrite_near-requires-clause-cut : goal.rewrite_near-requires-clause-cut
+rewrite_near-requires-clause-cut c = fit_is_cut c.args.graph.now c.args.cut c.max-max.ensures.built.well_formed c.requires.stage.fit
 
-pub returns-in-Refuted-clause-agrees : goal.returns-in-Refuted-clause-agrees
-returns-in-Refuted-clause-agrees c = lines_agree c.in_ok-extended.extended c.args.conflicts c.in-Refuted.log (subst (IsOutcome c.in_ok-extended.extended c.args.conflicts) c.in-Refuted.is c.in_ok-log.ensures)
-
-pub returns-in-Model-clause-rewriting : goal.returns-in-Model-clause-rewriting
-returns-in-Model-clause-rewriting c =
-    let g = c.args.graph.now in
-    let values = c.in-Model.values.items in
-    let order = c.args.operands.now.order in
-    let e = c.in_ok-extended.extended in
-    let a = c.in_ok-a-in-Model.a in
-    let b = c.in_ok-a-in-Model.b in
-    let inputs : map (literal (assignment_of values)) g.inputs ≡ inputs_of order (width g) a b =
-    ap (λ (vs : List Bool). map (literal (assignment_of vs)) g.inputs) (sym c.deref.ensures.value) ∙ c.in_ok-a-in-Model.ensures.inputs in (
-      c.args.cut,
-      c.requires.stage,
-      differs g order c.args.cut e values a b c.in_ok-extended.ensures.graph (subst (IsOutcome e c.args.conflicts) c.in-Model.is c.in_ok-log.ensures) inputs c.in_ok-a-in-Model.ensures.a c.in_ok-a-in-Model.ensures.b,
-    )
+pub returns-clause-rewriting : goal.returns-clause-rewriting
+returns-clause-rewriting c = at_stage c.args.graph.now c.args.operands.now.order c.args.conflicts c.args.cut c.requires.stage c.in_ok-rewritten.rewritten c.in_ok-rewritten.ensures.rewriting

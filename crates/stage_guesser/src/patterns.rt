@@ -1,0 +1,129 @@
+// Pairs of operands of several kinds.
+ghost use Rattle.std.specs.Prelude.{◌<◌};
+
+use crate::draws::Draws;
+use crate::signature::WORDS;
+use graph_core::Memory;
+use std::alloc::Global;
+
+/// As many pairs as signatures have values: the given ones, as far as they are at most half, and then drawn ones.
+pub(crate) fn patterns(
+    alloc: Global,
+    bits: u32,
+    given: &[(u64, u64)],
+) -> Result<Vec<(u64, u64)>, Memory> {
+    let mut draws = Draws::new();
+    let mut patterns = Vec::new(alloc);
+    for (i, pair) in given.iter().enumerate() {
+        if i < WORDS * 32 {
+            patterns.push(*pair)?;
+        }
+    }
+    for _pattern in patterns.len()..WORDS * 64 {
+        patterns.push(pair(&mut draws, bits))?;
+    }
+    Ok(patterns)
+}
+
+// Two numbers of at most so many bits: apart from one another, or such that a carry goes far.
+fn pair(draws: &mut Draws, bits: u32) -> (u64, u64) {
+    match draws.next() % 16 {
+        0 => inverses(draws, bits),
+        1 => (great(draws, bits), great(draws, bits)),
+        2 => (power_below(draws, bits), operand(draws, bits)),
+        3 => (operand(draws, bits), power_below(draws, bits)),
+        _ => (operand(draws, bits), operand(draws, bits)),
+    }
+}
+
+// Two whose product's low half is 1 or near it, or has one bit.
+fn inverses(draws: &mut Draws, bits: u32) -> (u64, u64) {
+    let first = operand(draws, bits) | 1;
+    let product = match draws.next() % 4 {
+        0 => 1,
+        1 => u64::MAX,
+        2 => 3,
+        _ => power(place(draws, bits)),
+    };
+    (first, inverse(first).wrapping_mul(product) & ones(bits))
+}
+
+// The number by which an odd one is 1 modulo 2^64: each round doubles how many bits are right.
+fn inverse(odd: u64) -> u64 {
+    let mut inverse = odd;
+    for _round in 0..6 {
+        inverse = inverse.wrapping_mul(2u64.wrapping_sub(odd.wrapping_mul(inverse)));
+    }
+    inverse
+}
+
+// A number whose first bits are ones.
+fn great(draws: &mut Draws, bits: u32) -> u64 {
+    let number = draws.next() & ones(bits);
+    ones(bits) & !(number >> (draws.next() % 16) as u32)
+}
+
+// A power of two, half of the time the greatest one.
+fn power_below(draws: &mut Draws, bits: u32) -> u64 {
+    if draws.next() % 2 == 0 {
+        power(bits.wrapping_sub(1)) & ones(bits)
+    } else {
+        power(place(draws, bits))
+    }
+}
+
+// A number of at most so many bits: any, one with few ones or few zeros, a run of ones, or one near a power of two.
+fn operand(draws: &mut Draws, bits: u32) -> u64 {
+    let number = match draws.next() % 8 {
+        0 | 1 | 2 => draws.next(),
+        3 => draws.next() & draws.next(),
+        4 => draws.next() | draws.next(),
+        5 => draws.next() | draws.next() | draws.next(),
+        6 => run(draws, bits),
+        _ => near_power(draws, bits),
+    };
+    number & ones(bits)
+}
+
+// A run of ones, sometimes with one bit changed.
+fn run(draws: &mut Draws, bits: u32) -> u64 {
+    let run = ones(place(draws, bits)) ^ ones(place(draws, bits) + 1);
+    if draws.next() % 2 == 0 {
+        run ^ power(place(draws, bits))
+    } else {
+        run
+    }
+}
+
+// A power of two, and another one or one less than it changed in it.
+fn near_power(draws: &mut Draws, bits: u32) -> u64 {
+    let first = power(place(draws, bits));
+    let second = power(place(draws, bits));
+    first ^ second.wrapping_sub(draws.next() % 3)
+}
+
+// A place of a bit.
+fn place(draws: &mut Draws, bits: u32) -> u32
+    ensures { result < 64 }
+{
+    let place = draws.place();
+    if bits == 0 || bits > 64 {
+        0
+    } else {
+        place % bits
+    }
+}
+
+// The number with so many ones.
+fn ones(count: u32) -> u64 {
+    if count < 64 {
+        (1u64 << count).wrapping_sub(1)
+    } else {
+        u64::MAX
+    }
+}
+
+// The power of two with this exponent.
+fn power(place: u32) -> u64 {
+    if place < 64 { 1u64 << place } else { 0 }
+}

@@ -1,0 +1,149 @@
+// The signatures of a graph's variables.
+use crate::patterns::patterns;
+use crate::signature::Signature;
+use graph_core::{Gate, Graph, Lit, Memory, Operands};
+use indexmap::IndexMap;
+use std::alloc::Global;
+
+/// By variable its signature and that one's key; and by key the lowest of the variables that have it, or whose
+/// negations do.
+#[derive(Drop)]
+pub(crate) struct Table {
+    signatures: Vec<Signature>,
+    keys: Vec<u64>,
+    lowest: IndexMap<u64, u32>,
+    /// the key of the constant true
+    ones: u64,
+}
+
+impl Table {
+    /// The table of a graph on the given pairs of operands and drawn ones.
+    pub(crate) fn new(
+        alloc: Global,
+        graph: &Graph,
+        operands: &Operands,
+        given: &[(u64, u64)],
+    ) -> Result<Table, Memory> {
+        let order = by_level(alloc, graph)?;
+        let patterns = patterns(alloc, operands.bits(), given)?;
+        let size = graph.max() as usize + 1;
+        let mut table = Table {
+            signatures: vec![in alloc; Signature::zero(); size]?,
+            keys: vec![in alloc; 0; size]?,
+            lowest: IndexMap::new(alloc),
+            ones: Signature::zero().negated_if(true).key(),
+        };
+        table.set_operand(operands.a_literals(), &patterns, true);
+        table.set_operand(operands.b_literals(), &patterns, false);
+        for (_level, v) in order.as_slice() {
+            if *v <= graph.max() {
+                if let Some(gate) = graph.gate(*v) {
+                    table.set_gate(gate);
+                }
+            }
+            table.enter(*v)?;
+        }
+        Ok(table)
+    }
+
+    /// The signature of a literal.
+    pub(crate) fn signature(&self, lit: Lit) -> Signature {
+        match self.signatures.get(lit.var() as usize) {
+            Some(signature) => signature.negated_if(lit.negated()),
+            None => Signature::zero(),
+        }
+    }
+
+    /// The key of a literal and of its negation alike.
+    pub(crate) fn class(&self, lit: Lit) -> u64 {
+        match self.keys.get(lit.var() as usize) {
+            Some(key) => self.class_of(*key),
+            None => 0,
+        }
+    }
+
+    /// The key of a variable.
+    pub(crate) fn key(&self, v: u32) -> u64 {
+        match self.keys.get(v as usize) {
+            Some(key) => *key,
+            None => 0,
+        }
+    }
+
+    /// The lowest literal with a signature, whose key is told.
+    pub(crate) fn find(&self, key: u64, signature: &Signature) -> Option<Lit> {
+        let v = *self.lowest.get(&self.class_of(key))?;
+        let lit = Lit(v.wrapping_mul(2));
+        if self.signature(lit).is(signature) {
+            Some(lit)
+        } else if self.signature(lit.not()).is(signature) {
+            Some(lit.not())
+        } else {
+            None
+        }
+    }
+
+    // The lesser one of the keys of a signature and its negation.
+    pub(crate) fn class_of(&self, key: u64) -> u64 {
+        key.min(key ^ self.ones)
+    }
+
+    // The values of an operand's bits.
+    fn set_operand(&mut self, lits: &[Lit], patterns: &[(u64, u64)], first: bool) {
+        for (i, lit) in lits.iter().enumerate() {
+            if let Some(signature) = self.signatures.get_mut(lit.var() as usize) {
+                *signature = bit_of(patterns, i, first);
+            }
+        }
+    }
+
+    // The values of a gate's variable, from those of its operands.
+    fn set_gate(&mut self, gate: Gate) {
+        let left = self.signature(gate.left);
+        let right = self.signature(gate.right);
+        if let Some(signature) = self.signatures.get_mut(gate.v as usize) {
+            *signature = left.and(&right);
+        }
+    }
+
+    // The key of a variable, which is behind all lower ones.
+    fn enter(&mut self, v: u32) -> Result<(), Memory> {
+        let key = self.signature(Lit(v.wrapping_mul(2))).key();
+        if let Some(entry) = self.keys.get_mut(v as usize) {
+            *entry = key;
+        }
+        let class = self.class_of(key);
+        if self.lowest.get(&class).is_none() {
+            self.lowest.insert(class, v)?;
+        }
+        Ok(())
+    }
+}
+
+// The level and the variable of the constant, the inputs and the gates, rising.
+fn by_level(alloc: Global, graph: &Graph) -> Result<Vec<(u32, u32)>, Memory> {
+    let mut order = Vec::new(alloc);
+    order.push((0, 0))?;
+    for lit in graph.input_literals() {
+        order.push((0, lit.var()))?;
+    }
+    for gate in graph.gates() {
+        if gate.v <= graph.max() {
+            order.push((graph.level(gate.v), gate.v))?;
+        }
+    }
+    order.sort_unstable();
+    Ok(order)
+}
+
+// The values of a bit of an operand.
+fn bit_of(patterns: &[(u64, u64)], place: usize, first: bool) -> Signature {
+    let mut signature = Signature::zero();
+    for (pattern, (a, b)) in patterns.iter().enumerate() {
+        let operand = if first { *a } else { *b };
+        if place < 64 && (operand >> place as u32) % 2 == 1 {
+            signature.set(pattern);
+        }
+    }
+    signature
+}
