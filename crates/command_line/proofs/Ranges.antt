@@ -10,9 +10,10 @@ use Rattle.graph_core.specs.declared.order.Order.{Order}
 use Rattle.graph_maker.specs.declared.adder.Adder.{Adder}
 use Rattle.graph_maker.specs.declared.kind.Kind.{Kind}
 use Rattle.command_line.specs.declared.command.Command.{Command}
-use Rattle.command_line.specs.declared.command.Command.TheVariants.{Check, Make, Trial, Verify}
+use Rattle.command_line.specs.declared.command.Command.TheVariants.{Check, CheckSame, Make, Same, Trial, Verify}
 use Rattle.command_line.specs.declared.files.Files.{Files}
-use Rattle.command_line.specs.Asked.{AreApart, AreBits, IsInRange, adder_named, are_shared, asked, bits_of, check_of, check_with, files_at, verify_of, verify_with, word_at, word_from, eval_of, eval_with, kind_named, make_of, make_with, met, named, number_of, order_at, read_at, trial_of, trial_with, where_taken}
+use Rattle.command_line.specs.declared.files.PairFiles.{PairFiles}
+use Rattle.command_line.specs.Asked.{AreApart, AreBits, IsInRange, LeavesGraphs, adder_named, are_shared, asked, bits_of, check_of, check_same_of, check_same_with, check_with, is_overwriting, pair_at, same_of, same_with, files_at, verify_of, verify_with, word_at, word_from, eval_of, eval_with, kind_named, make_of, make_with, met, named, number_of, order_at, read_at, trial_of, trial_with, where_taken}
 use Rattle.command_line.specs.FixedCommand.{mulver}
 
 -- ---- the number
@@ -108,23 +109,48 @@ trial_range : (number : Option ℕ) (command : Command) → IfSome number (AreFr
 trial_range (Some n) command in_range e = same_range command (Trial n) in_range.1 e
 trial_range None command in_range e = cc
 
+leaves_graphs : (files : PairFiles) → is_overwriting files ≡ false → LeavesGraphs files
+leaves_graphs files test =
+    let two = or_none (bytes_eq files.clauses files.graph) (bytes_eq files.clauses files.other) test in
+    record { graph = differ files.clauses files.graph two.0; other = differ files.clauses files.other two.1 }
+
+same_one : (files : PairFiles) (conflicts : ℕ) (command : Command) → conflicts < 2 ^ 32
+    → (over : Bool) → is_overwriting files ≡ over → (if over then None else Some (Same files conflicts)) ≡ Some command → IsInRange command
+same_one files conflicts command c true test e = cc
+same_one files conflicts command c false test e = same_range command (Same files conflicts) (leaves_graphs files test, c) e
+
+pair_range : (files : Option PairFiles) (conflicts : Option ℕ) (command : Command)
+    → IfSome conflicts (AreFrom 0) → same_with files conflicts ≡ Some command → IsInRange command
+pair_range (Some f) (Some c) command c_range e = same_one f c command c_range.1 (is_overwriting f) refl e
+pair_range None conflicts command c_range e = cc
+pair_range (Some f) None command c_range e = cc
+
+check_same_range : (files : Option PairFiles) (command : Command) → check_same_with files ≡ Some command → IsInRange command
+check_same_range (Some f) command e = same_range command (CheckSame f) tt e
+check_same_range None command e = cc
+
 -- ---- the words
 
 named_range : (name : Text) (rows : List Row) (command : Command) → named name rows ≡ Some command → IsInRange command
 named_range name rows command =
     pick (bytes_eq name (codes "check")) (bytes_eq name (codes "verify")) (bytes_eq name (codes "eval")) (bytes_eq name (codes "make")) (bytes_eq name (codes "trial"))
+    (bytes_eq name (codes "same")) (bytes_eq name (codes "check-same"))
   where
-    pick : (v w x y z : Bool)
-        → (if v then check_of rows else (if w then verify_of rows else (if x then eval_of rows else (if y then make_of rows else (if z then trial_of rows else None))))) ≡ Some command
+    pick : (v w x y z s t : Bool)
+        → (if v then check_of rows else (if w then verify_of rows else (if x then eval_of rows else (if y then make_of rows else (if z then trial_of rows
+        else (if s then same_of rows else (if t then check_same_of rows else None))))))) ≡ Some command
         → IsInRange command
-    pick true w x y z e = check_range (files_at rows) (order_at rows) command e
-    pick false true x y z e = verify_range (files_at rows) (order_at rows) (word_at 1 1000000 (codes "budget") rows) (word_at 0 100000 (codes "conflicts") rows) command
+    pick true w x y z s t e = check_range (files_at rows) (order_at rows) command e
+    pick false true x y z s t e = verify_range (files_at rows) (order_at rows) (word_at 1 1000000 (codes "budget") rows) (word_at 0 100000 (codes "conflicts") rows) command
         (word_in 1 1000000 (first_of (codes "budget") rows) (omega arith, omega arith)) (word_in 0 100000 (first_of (codes "conflicts") rows) (omega arith, omega arith)) e
-    pick false false true y z e = eval_range (first_of (codes "graph") rows) (read_at number_of (codes "a") rows) (read_at number_of (codes "b") rows) (order_at rows) command e
-    pick false false false true z e = make_range (read_at kind_named (codes "kind") rows) (read_at bits_of (codes "bits") rows)
+    pick false false true y z s t e = eval_range (first_of (codes "graph") rows) (read_at number_of (codes "a") rows) (read_at number_of (codes "b") rows) (order_at rows) command e
+    pick false false false true z s t e = make_range (read_at kind_named (codes "kind") rows) (read_at bits_of (codes "bits") rows)
         (read_at adder_named (codes "adder") rows) (first_of (codes "out") rows) command (bits_in (first_of (codes "bits") rows)) e
-    pick false false false false true e = trial_range (read_at (word_from 0) (codes "number") rows) command (word_of_in (first_of (codes "number") rows)) e
-    pick false false false false false e = cc
+    pick false false false false true s t e = trial_range (read_at (word_from 0) (codes "number") rows) command (word_of_in (first_of (codes "number") rows)) e
+    pick false false false false false true t e = pair_range (pair_at rows) (word_at 0 100000 (codes "conflicts") rows) command
+        (word_in 0 100000 (first_of (codes "conflicts") rows) (omega arith, omega arith)) e
+    pick false false false false false false true e = check_same_range (pair_at rows) command e
+    pick false false false false false false false e = cc
 
 met_range : (subcommand : Option (Text × List Row)) (command : Command) → met subcommand ≡ Some command → IsInRange command
 met_range None command e = cc

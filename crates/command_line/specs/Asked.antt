@@ -14,8 +14,9 @@ use Rattle.graph_maker.specs.declared.kind.Kind.TheVariants.{Array, Dadda}
 use Rattle.mv_desk.specs.declared.names.Names.{Names}
 use Rattle.mv_nums.specs.Numeral.{decimal_value}
 use Rattle.command_line.specs.declared.command.Command.{Command}
-use Rattle.command_line.specs.declared.command.Command.TheVariants.{Check, Eval, Make, Trial, Verify}
+use Rattle.command_line.specs.declared.command.Command.TheVariants.{Check, CheckSame, Eval, Make, Same, Trial, Verify}
 use Rattle.command_line.specs.declared.files.Files.{Files}
+use Rattle.command_line.specs.declared.files.PairFiles.{PairFiles}
 use Rattle.command_line.specs.FixedCommand.{mulver}
 
 -- the words as texts
@@ -25,6 +26,9 @@ texts words = map string_bytes words
 -- the names of three files, as texts
 abbrev pub files_of : Names → Files
 files_of names = record { graph = names.graph.now; clauses = names.clauses.now; algebra = names.algebra.now }
+
+abbrev pub pair_files_of : Names → PairFiles
+pair_files_of names = record { graph = names.graph.now; other = names.other.now; clauses = names.clauses.now }
 
 -- ---- single texts
 
@@ -148,6 +152,38 @@ trial_with None = None
 abbrev pub trial_of : List Row → Option Command
 trial_of rows = trial_with (read_at (word_from 0) (codes "number") rows)
 
+-- the names of two graphs and of their certificate; nothing where one is missing
+abbrev pub pair_with : Option Text → Option Text → Option Text → Option PairFiles
+pair_with (Some graph) (Some other) (Some clauses) =
+    Some (record { graph = graph; other = other; clauses = clauses })
+pair_with _ _ _ = None
+
+abbrev pub pair_at : List Row → Option PairFiles
+pair_at rows = pair_with
+    (first_of (codes "graph") rows)
+    (first_of (codes "other") rows)
+    (first_of (codes "clauses") rows)
+
+-- the certificate has the name of a graph
+abbrev pub is_overwriting : PairFiles → Bool
+is_overwriting files = bytes_eq files.clauses files.graph || bytes_eq files.clauses files.other
+
+-- `same`: the names of three files, of which the last one is neither of the others, and a number of conflicts
+abbrev pub same_with : Option PairFiles → Option ℕ → Option Command
+same_with (Some files) (Some conflicts) = if is_overwriting files then None else Some (Same files conflicts)
+same_with _ _ = None
+
+abbrev pub same_of : List Row → Option Command
+same_of rows = same_with (pair_at rows) (word_at 0 100000 (codes "conflicts") rows)
+
+-- `check-same`: the names of three files
+abbrev pub check_same_with : Option PairFiles → Option Command
+check_same_with (Some files) = Some (CheckSame files)
+check_same_with None = None
+
+abbrev pub check_same_of : List Row → Option Command
+check_same_of rows = check_same_with (pair_at rows)
+
 -- ---- the words
 
 -- the subcommand of this name, with these texts
@@ -157,7 +193,9 @@ named name rows =
     else (if bytes_eq name (codes "verify") then verify_of rows
     else (if bytes_eq name (codes "eval") then eval_of rows
     else (if bytes_eq name (codes "make") then make_of rows
-    else (if bytes_eq name (codes "trial") then trial_of rows else None))))
+    else (if bytes_eq name (codes "trial") then trial_of rows
+    else (if bytes_eq name (codes "same") then same_of rows
+    else (if bytes_eq name (codes "check-same") then check_same_of rows else None))))))
 
 -- the subcommand that was met
 abbrev pub met : Option (Text × List Row) → Option Command
@@ -169,7 +207,8 @@ where_taken [] there = there
 where_taken (kind ∷ kinds) there = None
 
 -- What the words ask for: nothing where `clap` refuses them for the fixed command, where a text isn't one of
--- those that are named, where it is no number in its range, and where two of the names of `verify` are equal.
+-- those that are named, where it is no number in its range, where two of the names of `verify` are equal, and where the
+-- certificate of `same` has the name of a graph.
 unfoldable pub asked : List Text → Option Command
 asked words = where_taken (fault_of mulver words) (met (subcommand_of mulver words))
 
@@ -185,6 +224,14 @@ IsVerify words files order budget conflicts = asked words ≡ Some (Verify files
 abbrev pub IsCheck : List Text → Files → Order → Type 0
 IsCheck words files order = asked words ≡ Some (Check files order)
 
+-- The words ask for `same` of these files, with so many conflicts.
+abbrev pub AsksSame : List Text → PairFiles → ℕ → Type 0
+AsksSame words files conflicts = asked words ≡ Some (Same files conflicts)
+
+-- The words ask for `check-same` of these files.
+abbrev pub AsksCheckSame : List Text → PairFiles → Type 0
+AsksCheckSame words files = asked words ≡ Some (CheckSame files)
+
 -- the widths of multipliers
 abbrev pub AreBits : ℕ → Type 0
 AreBits bits = (1 ≤ bits) × (bits ≤ 64)
@@ -195,9 +242,16 @@ pub record AreApart (files : Files) : Type 0 where
   pub algebra : files.graph ≢ files.algebra
   pub certificates : files.clauses ≢ files.algebra
 
--- The numbers of `make`, `verify` and `trial` are in their ranges, and no two names of `verify` are equal.
+-- the certificate is neither of the graphs
+pub record LeavesGraphs (files : PairFiles) : Type 0 where
+  pub graph : files.clauses ≢ files.graph
+  pub other : files.clauses ≢ files.other
+
+-- The numbers of `make`, `verify`, `trial` and `same` are in their ranges, no two names of `verify` are equal, and `same` writes over no
+-- graph.
 abbrev pub IsInRange : Command → Type 0
 IsInRange (Make kind bits adder out) = AreBits bits
 IsInRange (Verify files order budget conflicts) = AreApart files × (1 ≤ budget) × (budget < 2 ^ 32) × (conflicts < 2 ^ 32)
 IsInRange (Trial number) = number < 2 ^ 32
+IsInRange (Same files conflicts) = LeavesGraphs files × (conflicts < 2 ^ 32)
 IsInRange _ = ⊤

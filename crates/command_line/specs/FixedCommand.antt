@@ -52,6 +52,20 @@ must_choose app = record app { top = record app.top { subcommand_required = true
 abbrev pub judging : App
 judging = with_subcommand (with_subcommand (must_choose (new_app (codes "mulver"))) check_app.top) verify_app.top
 
+-- `same G H CLAUSES [--conflicts N]`, with the names `graph`, `other` and `clauses`
+abbrev pub same_app : App
+same_app = with_rule (with_rule (with_rule (with_rule (new_app (codes "same"))
+    (word (codes "graph"))) (word (codes "other"))) (word (codes "clauses"))) (choice (codes "conflicts"))
+
+-- `check-same G H CLAUSES`, likewise
+abbrev pub check_same_app : App
+check_same_app = with_rule (with_rule (with_rule (new_app (codes "check-same"))
+    (word (codes "graph"))) (word (codes "other"))) (word (codes "clauses"))
+
+-- the command with those for one graph
+abbrev pub of_one_graph : App
+of_one_graph = with_subcommand (with_subcommand (with_subcommand judging eval_app.top) make_app.top) trial_app.top
+
 -- the whole command
 abbrev pub mulver : App
-mulver = with_subcommand (with_subcommand (with_subcommand judging eval_app.top) make_app.top) trial_app.top
+mulver = with_subcommand (with_subcommand of_one_graph same_app.top) check_same_app.top

@@ -20,7 +20,7 @@ enum Form {
 }
 
 // The subcommands, each with its arguments.
-const SUBCOMMANDS: [(&str, &[(Form, &str)]); 5] = [
+const SUBCOMMANDS: [(&str, &[(Form, &str)]); 7] = [
     (
         "check",
         &[
@@ -60,6 +60,23 @@ const SUBCOMMANDS: [(&str, &[(Form, &str)]); 5] = [
         ],
     ),
     ("trial", &[(Form::Word, "number")]),
+    (
+        "same",
+        &[
+            (Form::Word, "graph"),
+            (Form::Word, "other"),
+            (Form::Word, "clauses"),
+            (Form::Choice, "conflicts"),
+        ],
+    ),
+    (
+        "check-same",
+        &[
+            (Form::Word, "graph"),
+            (Form::Word, "other"),
+            (Form::Word, "clauses"),
+        ],
+    ),
 ];
 
 /// The whole command.

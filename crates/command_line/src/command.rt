@@ -1,5 +1,5 @@
 // The commands, each with what its words say.
-use crate::files::{FileName, Files};
+use crate::files::{FileName, Files, PairFiles};
 use graph_core::Order;
 use graph_maker::{Adder, Kind};
 
@@ -38,5 +38,15 @@ pub enum Command {
     Trial {
         /// below 2^32
         number: u64,
+    },
+    /// To say whether two graphs are the same, and to write the certificate where they are. Its name is that of neither graph.
+    Same {
+        files: PairFiles,
+        /// the most conflicts of the solver, below 2^32
+        conflicts: u64,
+    },
+    /// To judge a certificate for two graphs.
+    CheckSame {
+        files: PairFiles,
     },
 }

@@ -62,8 +62,41 @@ impl Files {
     {
         Names {
             graph: self.graph.as_str(),
+            other: "",
             clauses: self.clauses.as_str(),
             algebra: self.algebra.as_str(),
+        }
+    }
+}
+
+/// The names of the three files of `same` and of `check-same`.
+#[derive(Debug, Drop)]
+pub struct PairFiles {
+    pub graph: FileName,
+    pub other: FileName,
+    pub clauses: FileName,
+}
+
+impl PairFiles {
+    ghost use Rattle.command_line.specs.Asked.{is_overwriting, pair_files_of};
+
+    /// Whether the certificate has the name of a graph.
+    pub(crate) fn is_overwriting(&self) -> bool
+        ensures { result ≡ is_overwriting self.now }
+    {
+        let clauses = self.clauses.as_str();
+        clauses == self.graph.as_str() || clauses == self.other.as_str()
+    }
+
+    /// The names, lent.
+    pub fn names(&self) -> Names<'_>
+        ensures { pair_files_of result ≡ self.now }
+    {
+        Names {
+            graph: self.graph.as_str(),
+            other: self.other.as_str(),
+            clauses: self.clauses.as_str(),
+            algebra: "",
         }
     }
 }

@@ -20,5 +20,5 @@ mod texts;
 pub use command::Command;
 pub use examples::plain_words;
 pub use fail::WordsFail;
-pub use files::{FileName, Files};
+pub use files::{FileName, Files, PairFiles};
 pub use reading::read_words;

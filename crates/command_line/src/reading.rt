@@ -1,13 +1,13 @@
 // What the words ask for.
 ghost use Rattle.std.specs.Prelude.{◌≡◌, None, Some, IfOk, IsErrOf};
 ghost use Rattle.clap.specs.Words.{found_of, rows_of, subcommand_rows_of};
-ghost use Rattle.command_line.specs.Asked.{IsInRange, IsUsage, asked, check_of, eval_of, make_of, met, named, texts, trial_of, files_at, verify_of};
+ghost use Rattle.command_line.specs.Asked.{IsInRange, IsUsage, asked, check_of, check_same_of, eval_of, make_of, met, named, pair_at, same_of, texts, trial_of, files_at, verify_of};
 ghost use Rattle.command_line.specs.Reading.{Reads, TakesAs};
 
 use crate::builders::mulver;
 use crate::command::Command;
 use crate::fail::WordsFail;
-use crate::files::Files;
+use crate::files::{Files, PairFiles};
 use crate::texts::{adder_at, bits_at, file_at, kind_at, number_at, order_at, word_at, word_of};
 use clap::ArgMatches;
 use clap::error::ErrorKind;
@@ -57,6 +57,8 @@ fn named(alloc: Global, name: &str, matches: &ArgMatches<'_>) -> Result<Command,
         "eval" => eval(alloc, matches),
         "make" => make(alloc, matches),
         "trial" => trial(matches),
+        "same" => same(alloc, matches),
+        "check-same" => check_same(alloc, matches),
         _ => Err(WordsFail::Usage),
     }
 }
@@ -130,4 +132,35 @@ fn trial(matches: &ArgMatches<'_>) -> Result<Command, WordsFail>
 {
     let number = word_of(matches, "number").ok_or(WordsFail::Usage)?;
     Ok(Command::Trial { number })
+}
+
+fn same(alloc: Global, matches: &ArgMatches<'_>) -> Result<Command, WordsFail>
+    ensures { Reads (same_of (rows_of (found_of matches.now))) result }
+{
+    let files = pair_at(alloc, matches)?;
+    let conflicts = word_at(matches, "conflicts", 0, 100000).ok_or(WordsFail::Usage)?;
+    if files.is_overwriting() {
+        return Err(WordsFail::Usage);
+    }
+    Ok(Command::Same { files, conflicts })
+}
+
+fn check_same(alloc: Global, matches: &ArgMatches<'_>) -> Result<Command, WordsFail>
+    ensures { Reads (check_same_of (rows_of (found_of matches.now))) result }
+{
+    let files = pair_at(alloc, matches)?;
+    Ok(Command::CheckSame { files })
+}
+
+fn pair_at(alloc: Global, matches: &ArgMatches<'_>) -> Result<PairFiles, WordsFail>
+    ensures { Reads (pair_at (rows_of (found_of matches.now))) result }
+{
+    let graph = file_at(alloc, matches, "graph")?;
+    let other = file_at(alloc, matches, "other")?;
+    let clauses = file_at(alloc, matches, "clauses")?;
+    Ok(PairFiles {
+        graph,
+        other,
+        clauses,
+    })
 }

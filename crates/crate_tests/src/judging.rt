@@ -7,6 +7,7 @@ use std::alloc::{AllocError, Global};
 
 const NAMES: Names<'static> = Names {
     graph: "g",
+    other: "",
     clauses: "c",
     algebra: "a",
 };

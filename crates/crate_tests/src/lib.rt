@@ -20,6 +20,8 @@ mod polynomials;
 #[cfg(test)]
 mod refutations;
 #[cfg(test)]
+mod searching;
+#[cfg(test)]
 mod stages;
 #[cfg(test)]
 mod texts;

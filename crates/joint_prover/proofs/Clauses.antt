@@ -9,6 +9,7 @@ use Rattle.clause_core.specs.Clause.{Clause, IsClauseInRange, IsLiteral}
 use Rattle.clause_core.specs.ClauseLines.{AreLawfulClauseLines, ClauseLine, clause_in}
 use Rattle.drup_text.specs.WrittenLaws.{IsWritable, IsWritableLine}
 use Rattle.drup_text.specs.WrittenTexts.{file_text}
+use Rattle.drup_text.proofs.Writable.{lines_are_writable}
 use Rattle.drup_text.proofs.WrittenAgain.{written_files_are_read}
 use Rattle.graph_core.specs.Aiger.Soundness.{IsMultiplierSized}
 use Rattle.graph_core.specs.Graph.{Aig, IsWellFormed, defined, read_literals}
@@ -19,24 +20,17 @@ use Rattle.ripple_graft.specs.Extension.{IsKnown}
 use Rattle.ripple_graft.proofs.BlockLists.{all_split_at}
 use Rattle.ripple_graft.proofs.KnownLiterals.{defined_is}
 use Rattle.ripple_graft.specs.declared.cut.Cut.{Cut}
-use Rattle.slice_finder.proofs.FitCuts.{fit_is_cut}
 use Rattle.joint_checker.proofs.CallerLemmas.{no_cut_gives}
-use Rattle.stage_rewriter.specs.Rewriting.{IsUsed}
+use Rattle.stage_rewriter.specs.Rewriting.{IsShown}
 use Rattle.graph_core.specs.Graph.Extended.{Extended, without_cut}
 use Rattle.joint_prover.specs.Pairs.{AreClausesOver}
 
 pub no_clauses : (g : Aig) (conflicts : ℕ) → AreClausesOver g conflicts None (file_text None [])
 no_clauses g conflicts = record { names = refl; gives = λ lengths within. no_cut_gives lengths g within }
 
-literals_are : (max : ℕ) (c : Clause) → max < 2 ^ 31 → IsClauseInRange max c → All IsLiteral c
-literals_are max c small h = All-weaker (λ l. (l ≢ pos 0) × (nat_abs l ≤ max)) IsLiteral (λ l k. (k.0, let low = k.1 in omega arith)) c h
-
-lines_are_writable : (max : ℕ) (lines : List ClauseLine) → max < 2 ^ 31 → All (λ x. IsClauseInRange max (clause_in x)) lines → All IsWritableLine lines
-lines_are_writable max lines small h = All-weaker (λ x. IsClauseInRange max (clause_in x)) IsWritableLine (λ x k. literals_are max (clause_in x) small k) lines h
-
-module _ (g : Aig) (sized : IsMultiplierSized g) (well : IsWellFormed g) (conflicts : ℕ) (cut : Cut) (extended : Extended) (lines : List ClauseLine) (used : IsUsed g conflicts cut extended lines) where
+module _ (g : Aig) (sized : IsMultiplierSized g) (well : IsWellFormed g) (conflicts : ℕ) (cut : Cut) (extended : Extended) (lines : List ClauseLine) (used : IsShown g conflicts cut extended lines) where
   pub is_cut : IsCut g cut
-  is_cut = fit_is_cut g cut well used.stage.fit
+  is_cut = used.fits
 
   few_outputs : length g.outputs ≤ 128
   few_outputs = let n = sized.narrow in let few = sized.shape.outputs in omega arith

@@ -19,7 +19,7 @@ use Rattle.graph_core.proofs.OfTexts.CallerLemmas.{one_graph}
 use Rattle.graph_maker.specs.Made.{made}
 use Rattle.graph_maker.specs.declared.adder.Adder.TheVariants.{Ripple}
 use Rattle.graph_maker.proofs.MadeMultiplies.{made_multiplies}
-use Rattle.joint_checker.specs.Outcome.{IsGraphRefusal}
+use Rattle.aiger_reader.specs.Refusals.{IsGraphRefusal}
 use Rattle.joint_checker.proofs.CallerLemmas.{spelled_not_long, spelled_not_refused}
 use Rattle.mv_desk.specs.View.{View, bytes_under}
 use Rattle.joint_checker.specs.Files.{Files}

@@ -1,5 +1,5 @@
 -- The verdict that is due is given, but for a fault or want of memory.
-use Rattle.std.proofs.Common.{◌≡◌, ℕ, ◌*◌, ◌%◌, ◌^◌, List, refl, sym, ap, ap₂, subst, ◌∙◌, arith, length, inl, inr}
+use Rattle.std.proofs.Common.{◌≡◌, ℕ, ◌*◌, ◌%◌, ◌^◌, List, refl, sym, ap, ap₂, subst, ◌∙◌, arith, length, inl, inr, ⊎_elim}
 use Rattle.std.specs.Prelude.{Some, IfSome}
 use Rattle.std.specs.declared.option.Option.{Option}
 use Rattle.aiger_reader.specs.Refusals as reading
@@ -10,11 +10,11 @@ use Rattle.graph_core.specs.Graph.Operands.{Multiplies, value_on}
 use Rattle.graph_core.specs.declared.order.Order.{Order}
 use Rattle.graph_core.proofs.OfTexts.CallerLemmas.{one_graph}
 use Rattle.joint_checker.specs.Files.{HasGraph}
-use Rattle.joint_checker.specs.Outcome.{IsGraphRefusal}
+use Rattle.aiger_reader.specs.Refusals.{IsGraphRefusal}
 use Rattle.joint_checker.proofs.CallerLemmas.{one_graph_refusal, refused_not_long, spelled_not_long, spelled_not_refused}
 use Rattle.joint_prover.specs.declared.verdict.Verdict.{Verdict}
 use Rattle.joint_prover.specs.declared.verdict.Verdict.TheVariants.{Proved, Wrong, Undecided, Graph, ReadFault, WriteFault, TooLong, Memory}
-use Rattle.joint_prover.specs.Verdicts.{GivesDue, IsFirstAbove, IsVerdict, IsVerdictDue, IsWithinBudget, IsWrong, VerdictsAreExact}
+use Rattle.joint_prover.specs.Verdicts.{GivesDue, HasFewOnes, HaveManyOnes, IsFirstAbove, IsVerdict, IsVerdictDue, IsWithinBudget, IsWrong, VerdictsAreExact}
 
 wrong_same : (a c b d v w p q : ℕ) → a ≡ c → b ≡ d → v ≡ w → p ≡ q → Wrong a b v p ≡ Wrong c d w q
 wrong_same a c b d v w p q e f g h = cc
@@ -41,6 +41,12 @@ module _ (limit : ℕ) (order : Order) (budget : ℕ) (file : List ℕ) where
       let high = first.above in
       omega arith
 
+  few_or_many : (a b v p : ℕ) → Spelled (λ g. HasFewOnes g order a b × IsWrong g order a b v p) → Spelled (λ g. HaveManyOnes g order) → ⊥
+  few_or_many a b v p h k =
+      let both = together (λ g. HasFewOnes g order a b × IsWrong g order a b v p) (λ g. HaveManyOnes g order) h k in
+      let told = both.1.0 in
+      both.1.1 a b told.1.least.difference told.0
+
   one_wrong : (a b v p c d w q : ℕ) → Spelled (λ g. IsWrong g order a b v p) → Spelled (λ g. IsWrong g order c d w q) → Wrong c d w q ≡ Wrong a b v p
   one_wrong a b v p c d w q h k =
       let both = together (λ g. IsWrong g order a b v p) (λ g. IsWrong g order c d w q) h k in
@@ -56,7 +62,7 @@ module _ (limit : ℕ) (order : Order) (budget : ℕ) (file : List ℕ) where
   abbrev Says : Verdict → Type 0
   Says Proved = Spelled (λ g. Multiplies g order)
   Says (Wrong a b v p) = Spelled (λ g. IsWrong g order a b v p)
-  Says (Undecided tried t n) = Spelled (λ g. IsFirstAbove g order budget t n)
+  Says (Undecided tried t n) = Spelled (λ g. IsFirstAbove g order budget t n × HaveManyOnes g order)
   Says (Graph why) = IsGraphRefusal limit file why
   Says TooLong = reading.IsTooLong limit file
   Says _ = Unit {0}
@@ -81,8 +87,9 @@ module _ (limit : ℕ) (order : Order) (budget : ℕ) (file : List ℕ) where
   exact (Wrong a b v p) ReadFault h d = absurd d
   exact (Wrong a b v p) WriteFault h d = absurd d
   exact (Wrong a b v p) Memory h d = absurd d
-  exact (Undecided tried t n) Proved h d = absurd (within_or_above t n (d.0, d.1, d.2) h)
-  exact (Undecided tried t n) (Wrong a b v p) h d = absurd (within_or_above t n (d.0, d.1, d.2) h)
+  exact (Undecided tried t n) Proved h d = absurd (within_or_above t n (d.0, d.1, d.2) (h.0, h.1, h.2.0))
+  exact (Undecided tried t n) (Wrong a b v p) h d =
+      absurd (⊎_elim (λ within. within_or_above t n (d.0, d.1, within) (h.0, h.1, h.2.0)) (λ few. few_or_many a b v p (d.0, d.1, (few, d.3)) (h.0, h.1, h.2.1)) d.2)
   exact (Undecided tried t n) (Graph why) h d = absurd (spelled_not_refused limit file h.0 why h.1 d)
   exact (Undecided tried t n) TooLong h d = absurd (spelled_not_long limit file h.0 h.1 d)
   exact (Undecided tried t n) (Undecided other u m) h d = absurd d
@@ -116,7 +123,7 @@ verdicts_are_exact limit order budget conflicts files before after file due give
     says : (v : Verdict) → IsVerdict limit order budget conflicts files before after v noted → Says limit order budget file v
     says Proved h = let s = spelled limit order budget file _ _ told h in (s.0, s.1, s.2.0)
     says (Wrong a b value product) h = let s = spelled limit order budget file _ _ told h.0 in (s.0, s.1, s.2.0)
-    says (Undecided tried t n) h = let s = spelled limit order budget file _ _ told h.0 in (s.0, s.1, s.2.0)
+    says (Undecided tried t n) h = let s = spelled limit order budget file _ _ told h.0 in (s.0, s.1, (s.2.0, s.2.2))
     says (Graph why) h = subst (λ o. IfSome o (λ bytes. IsGraphRefusal limit bytes why)) told h.0
     says TooLong h = subst (λ o. IfSome o (reading.IsTooLong limit)) told h.0
     says ReadFault h = tt

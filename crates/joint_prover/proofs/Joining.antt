@@ -36,7 +36,7 @@ module _ (limit : ℕ) (order : Order) (budget conflicts : ℕ) (files : Files) 
       IsNote g order conflicts n → IsOfGraph g order budget conflicts (cut_of n) files r c v → IsVerdict limit order budget conflicts files a c v (note_with v n)
   of_graph c g Proved n spelled same noted h = (g, spelled, (h.0, (noted, (r, reads, h.1))))
   of_graph c g (Wrong x y value product) n spelled same noted h = ((g, spelled, (h.0, (noted, tt))), subst (ReadsGraph a) (sym h.1) reads)
-  of_graph c g (Undecided tried t k) n spelled same noted h = ((g, spelled, (h.0, (noted, h.1))), subst (ReadsGraph a) (sym h.2) reads)
+  of_graph c g (Undecided tried t k) n spelled same noted h = ((g, spelled, (h.0, (noted, h.1), h.3)), subst (ReadsGraph a) (sym h.2) reads)
   of_graph c g (Graph why) n spelled same noted h = absurd h
   of_graph c g ReadFault n spelled same noted h = absurd h
   of_graph c g WriteFault n spelled same noted h = (subst (λ k. Rose k c.write_faults) same h.0, (g, spelled, (h.1, (n, noted, r, reads, h.2))), refl)

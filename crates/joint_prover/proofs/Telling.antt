@@ -1,11 +1,11 @@
 -- What is told of a graph, from what was written and tried.
 use Rattle.std.proofs.Common.{◌≡◌, true, List, [], ◌∷◌, ◌++◌, ℕ, refl, sym, subst, inl, inr}
-use Rattle.std.specs.Prelude.{IfOk, Result}
+use Rattle.std.specs.Prelude.{IfOk, IfSome, OnErr, Result}
+use Rattle.std.specs.declared.result.Result.TheVariants.{Err, Ok}
 use Rattle.std.proofs.lemmas.Result.{IfOk-weaker}
 use Rattle.std.specs.declared.option.Option.{Option}
 use Rattle.std.specs.declared.option.Option.TheVariants.{None, Some}
 use Rattle.std.proofs.lemmas.Option.{none-some}
-use Rattle.cdcl_core.specs.Logs.{LogView}
 use Rattle.clause_core.specs.ClauseLines.{ClauseLine}
 use Rattle.drup_text.specs.Headers.{extended_by}
 use Rattle.drup_text.specs.WrittenTexts.{file_text}
@@ -21,16 +21,17 @@ use Rattle.mv_desk.specs.declared.slot.Slot.TheVariants.{Algebra, Clauses}
 use Rattle.pac_writer.specs.Certificates.{certificate_text}
 use Rattle.pac_writer.specs.Writing.{Made}
 use Rattle.ripple_graft.specs.declared.cut.Cut.{Cut}
-use Rattle.stage_rewriter.specs.Rewriting.{IsRewriting}
-use Rattle.stage_rewriter.specs.declared.rewriting.Rewritten.TheVariants as kind
+use Rattle.stage_rewriter.specs.Rewriting.{IsShown}
 use Rattle.joint_checker.specs.Files.{Files}
+use Rattle.joint_prover.specs.declared.attempts.Attempt.{Attempt}
+use Rattle.joint_prover.specs.declared.attempts.Attempt.TheVariants as attempt
 use Rattle.joint_prover.specs.declared.ending.Ending.{Ending}
 use Rattle.joint_prover.specs.declared.verdict.Tried.{Tried}
 use Rattle.joint_prover.specs.declared.verdict.Verdict.{Verdict}
 use Rattle.joint_prover.specs.declared.verdict.Verdict.TheVariants.{Proved, Wrong, Undecided, Graph, ReadFault, WriteFault, TooLong, Memory}
 use Rattle.joint_prover.specs.Endings.{IsEnded}
 use Rattle.joint_prover.specs.Pairs.{AreClausesFor, AreClausesOver, IsPairFor, IsPairOver}
-use Rattle.joint_prover.specs.Parts.{AreTriedBefore, IsOfGraph, IsToldOver, IsWritten, IsWrongAt}
+use Rattle.joint_prover.specs.Parts.{AreTriedBefore, IsAttempt, IsOfGraph, IsToldOver, IsToldWrong, IsWritten, MayTell, MayTellOver, verdict_in}
 use Rattle.joint_prover.specs.Tries.{AreTried, EndsOver, IsAbove, IsTried}
 use Rattle.joint_prover.specs.Verdicts.{IsPair}
 use Rattle.joint_prover.specs.Written.{StopsAt, StopsWriting}
@@ -103,15 +104,32 @@ module _ (files : Files) (a b : View) where
   told_of g order budget conflicts used cut TooLong over h = absurd h
   told_of g order budget conflicts used cut Memory over h = absurd h
 
-pub wrong_told : (g : Aig) (order : Order) (conflicts : ℕ) (cut : Option Cut) (files : Files) (a : View) (x y : ℕ) (v : Verdict) → IsWrongAt g order x y v → IsToldOver g order conflicts cut files a a v
-wrong_told g order conflicts cut files a x y (Wrong p q value product) h = (h, refl)
-wrong_told g order conflicts cut files a x y Memory h = absurd h
-wrong_told g order conflicts cut files a x y Proved h = absurd h
-wrong_told g order conflicts cut files a x y (Undecided tried t n) h = absurd h
-wrong_told g order conflicts cut files a x y (Graph why) h = absurd h
-wrong_told g order conflicts cut files a x y ReadFault h = absurd h
-wrong_told g order conflicts cut files a x y WriteFault h = absurd h
-wrong_told g order conflicts cut files a x y TooLong h = absurd h
+-- what is told of a graph that is wrong, whatever cut is in use
+pub wrong_told : (g : Aig) (order : Order) (conflicts : ℕ) (cut : Option Cut) (files : Files) (a : View) (v : Verdict) → IsToldWrong g order v → IsToldOver g order conflicts cut files a a v
+wrong_told g order conflicts cut files a (Wrong p q value product) h = (h, refl)
+wrong_told g order conflicts cut files a Memory h = absurd h
+wrong_told g order conflicts cut files a Proved h = absurd h
+wrong_told g order conflicts cut files a (Undecided tried t n) h = absurd h
+wrong_told g order conflicts cut files a (Graph why) h = absurd h
+wrong_told g order conflicts cut files a ReadFault h = absurd h
+wrong_told g order conflicts cut files a WriteFault h = absurd h
+wrong_told g order conflicts cut files a TooLong h = absurd h
+
+pub wrong_of : (g : Aig) (order : Order) (budget conflicts : ℕ) (used : Option Cut) (files : Files) (a : View) (v : Verdict) → IsToldWrong g order v →
+    IsOfGraph g order budget conflicts used files a a v
+wrong_of g order budget conflicts used files a (Wrong p q value product) h = (h, refl)
+wrong_of g order budget conflicts used files a Memory h = absurd h
+wrong_of g order budget conflicts used files a Proved h = absurd h
+wrong_of g order budget conflicts used files a (Undecided tried t n) h = absurd h
+wrong_of g order budget conflicts used files a (Graph why) h = absurd h
+wrong_of g order budget conflicts used files a ReadFault h = absurd h
+wrong_of g order budget conflicts used files a WriteFault h = absurd h
+wrong_of g order budget conflicts used files a TooLong h = absurd h
+
+pub wrong_may_tell : (g : Aig) (order : Order) (budget conflicts : ℕ) (used : Option Cut) (files : Files) (a b : View) (v : Option Verdict) → b ≡ a → IfSome v (IsToldWrong g order) →
+    MayTell g order budget conflicts used files a b v
+wrong_may_tell g order budget conflicts used files a b (Some v) same h = subst (λ x. IsOfGraph g order budget conflicts used files a x v) (sym same) (wrong_of g order budget conflicts used files a v h)
+wrong_may_tell g order budget conflicts used files a b None same h = same
 
 -- ---- what was tried before
 
@@ -144,21 +162,6 @@ module _ {E : Type 0} (files : Files) (a b : View) (l : Made) (ending : Ending) 
       (λ v told conflicts used are. told_of files a b e.graph order budget conflicts used None v (ends_last e.graph order budget used tried are)
       (told e order conflicts ended alone (no_clauses e.graph conflicts))) h
 
-  pub tells_behind : (tried : List Tried) → e ≡ without_cut e.graph → IfOk result (Tells None [] l ending files a b) →
-      IfOk result (λ v. (conflicts : ℕ) (used : Option Cut) → AreTriedBefore e.graph order budget used tried → IsOfGraph e.graph order budget conflicts used files a b v)
-  tells_behind tried alone h = IfOk-weaker result (Tells None [] l ending files a b)
-      (λ v. (conflicts : ℕ) (used : Option Cut) → AreTriedBefore e.graph order budget used tried → IsOfGraph e.graph order budget conflicts used files a b v)
-      (λ v told conflicts used are. told_of files a b e.graph order budget conflicts used None v (ends_behind e.graph order budget used tried are)
-      (told e order conflicts ended alone (no_clauses e.graph conflicts))) h
-
-  -- over the graph with the adder of a cut
-  pub tells_first : (cut : Cut) (log : LogView) → IsMultiplierSized e.graph → IsWellFormed e.graph → IfOk result (Tells (Some cut) log.lines l ending files a b) →
-      IfOk result (λ v. (conflicts : ℕ) → IsRewriting e.graph order conflicts (kind.Used cut e log) → IsOfGraph e.graph order budget conflicts (Some cut) files a b v)
-  tells_first cut log sized well h = IfOk-weaker result (Tells (Some cut) log.lines l ending files a b)
-      (λ v. (conflicts : ℕ) → IsRewriting e.graph order conflicts (kind.Used cut e log) → IsOfGraph e.graph order budget conflicts (Some cut) files a b v)
-      (λ v told conflicts used. told_of files a b e.graph order budget conflicts (Some cut) (Some cut) v refl
-      (told e order conflicts ended used.extended_is (used_clauses e.graph sized well conflicts cut e log.lines used))) h
-
 -- one plan more was tried
 pub tried_more : {E : Type 0} (files : Files) (a b : View) (result : Result Verdict E) (g : Aig) (order : Order) (budget : ℕ) (tried all : List Tried) (last : Tried) → all ≡ tried ++ last ∷ [] →
     IsTried g order budget None last →
@@ -169,12 +172,32 @@ tried_more files a b result g order budget tried all last is above h =
     (λ v. (conflicts : ℕ) (used : Option Cut) → AreTriedBefore g order budget used tried → IsOfGraph g order budget conflicts used files a b v)
     (λ v told conflicts used are. told conflicts used (subst (AreTried g order budget used) (sym is) (one_more g order budget used tried last are above))) h
 
--- the plan over the graph with the cut was tried first
-pub tried_first : {E : Type 0} (files : Files) (a b : View) (result : Result Verdict E) (g : Aig) (order : Order) (budget : ℕ) (cut : Cut) (e : Extended) (log : LogView) (tried : List Tried) (first : Tried) →
-    tried ≡ first ∷ [] → first.rewritten ≡ true → IsAbove e (sides_of order g) budget first →
-    IfOk result (λ v. (conflicts : ℕ) (used : Option Cut) → AreTriedBefore g order budget used tried → IsOfGraph g order budget conflicts used files a b v) →
-    IfOk result (λ v. (conflicts : ℕ) → IsRewriting g order conflicts (kind.Used cut e log) → IsOfGraph g order budget conflicts (Some cut) files a b v)
-tried_first files a b result g order budget cut e log tried first is rewritten above h =
-    IfOk-weaker result (λ v. (conflicts : ℕ) (used : Option Cut) → AreTriedBefore g order budget used tried → IsOfGraph g order budget conflicts used files a b v)
-    (λ v. (conflicts : ℕ) → IsRewriting g order conflicts (kind.Used cut e log) → IsOfGraph g order budget conflicts (Some cut) files a b v)
-    (λ v told conflicts used. told conflicts (Some cut) (first, is, record { rewritten = rewritten; above = subst (λ x. IsAbove x (sides_of order g) budget first) used.extended_is above })) h
+-- over the graph with the adder of a cut
+pub told_over : (files : Files) (a b : View) (l : Made) (ending : Ending) (v : Verdict) (e : Extended) (order : Order) → IsEnded e order l ending → (cut : Cut) (lines : List ClauseLine) →
+    IsMultiplierSized e.graph → IsWellFormed e.graph → Tells (Some cut) lines l ending files a b v → (conflicts : ℕ) → IsShown e.graph conflicts cut e lines →
+    IsToldOver e.graph order conflicts (Some cut) files a b v
+told_over files a b l ending v e order ended cut lines sized well told conflicts shown = told e order conflicts ended shown.extended_is (used_clauses e.graph sized well conflicts cut e lines shown)
+
+-- over the graph alone
+pub told_alone : (files : Files) (a b : View) (l : Made) (ending : Ending) (v : Verdict) (e : Extended) (order : Order) → IsEnded e order l ending → e ≡ without_cut e.graph →
+    Tells None [] l ending files a b v → (conflicts : ℕ) → IsToldOver e.graph order conflicts None files a b v
+told_alone files a b l ending v e order ended alone told conflicts = told e order conflicts ended alone (no_clauses e.graph conflicts)
+
+-- ---- what may be told
+
+pub attempt_tells : (g : Aig) (order : Order) (budget conflicts : ℕ) (cut : Option Cut) (files : Files) (a b : View) (x : Attempt) → IsAttempt g order budget conflicts cut files a b x →
+    MayTellOver g order conflicts cut files a b (verdict_in x)
+attempt_tells g order budget conflicts cut files a b (attempt.Told v) h = h
+attempt_tells g order budget conflicts cut files a b (attempt.Passed tried) h = h.1
+
+-- over the cut in use, or over the graph alone where none is
+pub may_tell : (g : Aig) (order : Order) (budget conflicts : ℕ) (used : Option Cut) (files : Files) (a b : View) (v : Option Verdict) → MayTellOver g order conflicts used files a b v →
+    MayTell g order budget conflicts used files a b v
+may_tell g order budget conflicts (Some cut) files a b (Some v) h = told_of files a b g order budget conflicts (Some cut) (Some cut) v refl h
+may_tell g order budget conflicts None files a b (Some v) h = told_of files a b g order budget conflicts None None v (λ cut same. absurd (none-some cut same)) h
+may_tell g order budget conflicts used files a b None h = h
+
+-- whatever the error
+pub on_err : {A E : Type 0} (result : Result A E) (P : Type 0) → P → OnErr result P
+on_err (Ok x) P p = tt
+on_err (Err e) P p = p

@@ -6,10 +6,11 @@ use Rattle.graph_core.specs.Algebra.{AgreeOnColumns}
 use Rattle.graph_core.specs.Graph.{Aig}
 use Rattle.graph_core.specs.declared.order.Order.{Order}
 use Rattle.mv_fact.specs.Always.{Always}
-use Rattle.ripple_graft.specs.Blocks.{with_cut}
+use Rattle.ripple_graft.specs.Blocks.{IsCut, with_cut}
 use Rattle.ripple_graft.specs.declared.cut.Cut.{Cut}
 use Rattle.slice_finder.specs.FinalStage.{IsFinalStage}
-use Rattle.stage_rewriter.specs.Rewriting.{IsDifference, IsSpent}
+use Rattle.goal_refuter.specs.Refutations.{IsSpent}
+use Rattle.stage_rewriter.specs.Rewriting.{IsDifference}
 use Rattle.stage_rewriter.specs.declared.rewriting.Rewritten.{Rewritten}
 use Rattle.stage_rewriter.specs.declared.rewriting.Rewritten.TheVariants as kind
 use Rattle.joint_prover.specs.declared.rewriting.Rewriting.{Rewriting}
@@ -20,6 +21,11 @@ pub record IsUsedCut (g : Aig) (cut : Cut) : Type 0 where
   pub stage : IsFinalStage g cut
   pub agree : Always (with_cut g cut).gates (AgreeOnColumns (with_cut g cut))
 
+-- A cut; with an adder there each new output equals the old one on every evaluation.
+pub record IsFoundCut (g : Aig) (cut : Cut) : Type 0 where
+  pub fits : IsCut g cut
+  pub agree : Always (with_cut g cut).gates (AgreeOnColumns (with_cut g cut))
+
 -- Each kind by its cause: there is no final stage; operands on which some new output differs from the old one; as many lemmas as there
 -- may be conflicts, and the goal in hand doesn't follow.
 abbrev pub IsNote : Aig → Order → ℕ → Rewriting → Type 0
@@ -27,6 +33,7 @@ IsNote g order conflicts (note.Used cut) = IsUsedCut g cut
 IsNote g order conflicts note.None = (cut : Cut) → ¬ (IsFinalStage g cut)
 IsNote g order conflicts (note.Differs a b) = (cut : Cut) × IsFinalStage g cut × IsDifference (with_cut g cut) order a b
 IsNote g order conflicts (note.Spent lemmas goal log) = (cut : Cut) × IsFinalStage g cut × IsSpent (with_cut g cut) conflicts lemmas goal log
+IsNote g order conflicts (note.Found cut) = IsFoundCut g cut
 
 -- the cut over which a plan is tried first
 abbrev pub cut_of : Rewriting → Option Cut
@@ -34,6 +41,7 @@ cut_of (note.Used cut) = Some cut
 cut_of note.None = None
 cut_of (note.Differs a b) = None
 cut_of (note.Spent lemmas goal log) = None
+cut_of (note.Found cut) = Some cut
 
 -- the note on what came of a rewriting
 abbrev pub note_of : Rewritten → Rewriting

@@ -6,7 +6,7 @@ use Rattle.aiger_reader.specs.Refusals as reading
 use Rattle.aiger_reader.specs.Refusals.{SpellsWithin}
 use Rattle.aiger_reader.specs.declared.fail.ReadFail.{ReadFail}
 use Rattle.aiger_reader.specs.declared.fail.ReadFail.TheVariants as fail
-use Rattle.frontier_core.specs.LeastDifference.{IsLeastDifference}
+use Rattle.frontier_core.specs.LeastDifference.{IsDifference, IsLeastDifference, ones_at}
 use Rattle.frontier_core.specs.PlainOrder.{HasPlainSize}
 use Rattle.graph_core.specs.Graph.{Aig}
 use Rattle.graph_core.specs.Graph.Extended.{without_cut}
@@ -18,7 +18,7 @@ use Rattle.mv_desk.specs.declared.slot.Slot.{Slot}
 use Rattle.ripple_graft.specs.declared.cut.Cut.{Cut}
 use Rattle.joint_checker.specs.Certificates.{IsLawfulPair}
 use Rattle.joint_checker.specs.Files.{Files, HasGraph}
-use Rattle.joint_checker.specs.Outcome.{IsGraphRefusal}
+use Rattle.aiger_reader.specs.Refusals.{IsGraphRefusal}
 use Rattle.joint_prover.specs.declared.rewriting.Rewriting.{Rewriting}
 use Rattle.joint_prover.specs.declared.verdict.Verdict.{Verdict}
 use Rattle.joint_prover.specs.declared.verdict.Verdict.TheVariants.{Proved, Wrong, Undecided, Graph, ReadFault, WriteFault, TooLong, Memory}
@@ -61,6 +61,16 @@ pub record IsFirstAbove (g : Aig) (order : Order) (budget t n : ℕ) : Type 0 wh
 abbrev pub IsWithinBudget : Aig → Order → ℕ → Type 0
 IsWithinBudget g order budget = (t n : ℕ) → HasPlainSize (without_cut g) (sides_of order g) t n → n ≤ budget
 
+-- ---- few ones
+
+-- among the bits of both operands at most two are one
+abbrev pub HasFewOnes : Aig → Order → ℕ → ℕ → Type 0
+HasFewOnes g order a b = length (ones_at g order a b) ≤ 2
+
+-- No operands with few ones are a difference.
+abbrev pub HaveManyOnes : Aig → Order → Type 0
+HaveManyOnes g order = (a b : ℕ) → IsDifference g order a b → ¬ (HasFewOnes g order a b)
+
 -- ---- the verdicts
 
 -- The least operands on which the graph's value isn't their product, with both numbers.
@@ -85,7 +95,7 @@ IsVerdict limit order budget conflicts files before after (Wrong a b value produ
     ReadsGraph before after
 IsVerdict limit order budget conflicts files before after (Undecided tried step size) noted =
     HasGraph limit (bytes_under before files.graph) (λ g. IsFirstAbove g order budget step size ×
-    HasNote g order conflicts noted (λ used. AreTried g order budget used tried.items)) ×
+    HasNote g order conflicts noted (λ used. AreTried g order budget used tried.items) × HaveManyOnes g order) ×
     ReadsGraph before after
 IsVerdict limit order budget conflicts files before after (Graph why) noted =
     IfSome (bytes_under before files.graph) (λ bytes. IsGraphRefusal limit bytes why) × ReadsGraph before after × (noted ≡ None)
@@ -128,11 +138,12 @@ ProvedPairsAreHeld = (limit : ℕ) (order : Order) (budget conflicts : ℕ) (fil
     IsTold before → AreApart files →
     IsVerdict limit order budget conflicts files before after Proved noted → HoldsPair order budget conflicts files after limit noted
 
--- The verdict that is due to a graph file where no frontier of the plain order is above the budget, or where no graph is spelled.
+-- The verdict that is due to a graph file where no frontier of the plain order is above the budget, where the least difference has few
+-- ones, or where no graph is spelled.
 abbrev pub IsVerdictDue : ℕ → Order → ℕ → List ℕ → Verdict → Type 0
 IsVerdictDue limit order budget file Proved = (g : Aig) × SpellsWithin limit file g × IsWithinBudget g order budget × Multiplies g order
 IsVerdictDue limit order budget file (Wrong a b value product) =
-    (g : Aig) × SpellsWithin limit file g × IsWithinBudget g order budget × IsWrong g order a b value product
+    (g : Aig) × SpellsWithin limit file g × (IsWithinBudget g order budget ⊎ HasFewOnes g order a b) × IsWrong g order a b value product
 IsVerdictDue limit order budget file (Graph why) = IsGraphRefusal limit file why
 IsVerdictDue limit order budget file TooLong = reading.IsTooLong limit file
 IsVerdictDue limit order budget file _ = ⊥

@@ -2,10 +2,12 @@
 //!
 //! `verify` opens and reads the graph file alone, and looks whether a ripple-carry adder may stand in place of the
 //! graph's final stage: the *note* says what became of that. Then it reduces the columns of the multiplier along plans:
-//! the slice plan over the graph with the adder, where that is used; the slice plan over the graph; and the plain plan
-//! over it. Each is tried where the ones before it had a frontier with more monomials than the budget. Where the
+//! the slice plan over the graph with the adder, where that is used; with a small budget the slice plan over the graph
+//! with an adder at a cut that is found by the values of its variables, where a solver shows that this may stand there;
+//! the slice plan over the graph; and the plain plan over it. Each is tried where the ones before it had a frontier with
+//! more monomials than the budget. Where the
 //! remainder is 0 the verdict is `Proved`, and the clause certificate and then the algebra certificate are written,
-//! over the graph with the adder where the first plan ended; else it is `Wrong` with the least operands on which the
+//! over the graph with an adder where a plan over that ended; else it is `Wrong` with the least operands on which the
 //! graph differs. Where all plans pass the budget it is `Undecided`. No certificate file is created before the verdict,
 //! and writing them takes no memory.
 //!
@@ -14,12 +16,17 @@
 //! enough for multipliers that `graph_maker` makes in `specs/Budgets.antt`.
 #![tactic(auto)]
 
+mod attempts;
+mod conclusion;
 mod ending;
+mod few_ones;
+mod found;
 mod laws;
 mod plans;
 mod proving;
 mod reduction;
 mod rewriting;
+mod soon;
 mod tried;
 mod verdict;
 mod writing;

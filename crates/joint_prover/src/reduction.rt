@@ -1,21 +1,25 @@
 // The reductions of the plans, and what a remainder says.
-ghost use Rattle.std.specs.Prelude.{◌≡◌, IfOk, None};
+ghost use Rattle.std.specs.Prelude.{◌≡◌, IfOk, IfSome, None};
 ghost use Rattle.graph_core.specs.Algebra.{Closes};
 ghost use Rattle.graph_core.specs.Graph.Assignments.{Assignment};
 ghost use Rattle.graph_core.specs.Graph.Extended.{without_cut};
 ghost use Rattle.graph_core.specs.Graph.Operands.{inputs_in};
 ghost use Rattle.frontier_core.specs.LastFrontier.{IsOverInputs};
 ghost use Rattle.frontier_core.specs.LeastDifference.{AreInputs};
+ghost use Rattle.slice_planner.specs.ColumnPlans.{IsColumnPlan};
 ghost use Rattle.poly_terms.specs.Tables.{IsOf, monomials_in, value_in};
 ghost use Rattle.pac_writer.specs.Writing.{AreLawfulSoFar, Made, ledger_of};
 ghost use Rattle.joint_prover.specs.Endings.{IsEnded, IsPlain, IsPlainlyReduced, IsRemainder, IsSliced, IsStart, IsWitness};
 
 use crate::ending::{Ending, Plain, Sliced};
 use crate::tried::frontier_after;
-use column_reducer::{Reduced, plain_plan, reduce, slice_plan};
+use column_reducer::{
+    Plan, Reduced, columns_first_plan, layered_plan, plain_plan, reduce, slice_plan,
+};
 use graph_core::Memory;
 use pac_writer::Lines;
 use poly_terms::Poly;
+use ripple_graft::Extended;
 use std::alloc::Global;
 use witness_finder::least;
 
@@ -37,6 +41,50 @@ pub(crate) fn reduced_by_slices(
             let tried = frontier_after(alloc, &plan, step, size, rewritten)?;
             Ok(Sliced::Passed(tried))
         }
+    }
+}
+
+/// Where gates are eliminated by their layers.
+#[derive(Clone, Copy)]
+pub(crate) enum Layers {
+    /// behind each column that is added
+    ByColumn,
+    /// behind all columns
+    AtEnd,
+}
+
+/// What a plan by layers comes to; where the remainder is 0 the lines are closed. None where a frontier is above the
+/// budget.
+pub(crate) fn reduced_by_layers(
+    alloc: Global,
+    budget: u64,
+    layers: Layers,
+    lines: &mut Lines<'_>,
+) -> Result<Option<Ending>, Memory>
+    requires { IsStart lines.old }
+    ensures { IfOk result (λ ending. IfSome ending
+        (IsEnded lines.old.extended lines.old.sides.order lines.new)) }
+{
+    let extended = lines.extended();
+    let plan = plan_by_layers(alloc, layers, extended)?;
+    match reduce(alloc, &plan, budget, lines)? {
+        Reduced::Rest { poly, id } => Ok(Some(concluded(lines, &poly, id))),
+        Reduced::Passed { .. } => Ok(None),
+    }
+}
+
+// The plan.
+fn plan_by_layers<'a>(
+    alloc: Global,
+    layers: Layers,
+    extended: &'a Extended<'a>,
+) -> Result<Plan<'a>, Memory>
+    ensures extended { IfOk result (λ p. p.extended ≡ extended.now) }
+    ensures columns { IfOk result (λ p. IsColumnPlan extended.now p.steps) }
+{
+    match layers {
+        Layers::ByColumn => layered_plan(alloc, extended),
+        Layers::AtEnd => columns_first_plan(alloc, extended),
     }
 }
 

@@ -17,6 +17,9 @@ pub enum Rewriting {
     Differs { a: u64, b: u64 },
     /// As many lemmas as there may be conflicts, and beside them so many goals refuted before the one in hand.
     Spent { lemmas: u64, goal: u64, log: Log },
+    /// At a cut that was found by the values of its variables the adder's outputs are the graph's on every evaluation,
+    /// and the slice plan over the graph with it gave the verdict.
+    Found(Cut),
 }
 
 /// The note: neither the graph with the adder is kept nor the lines that show its goals.

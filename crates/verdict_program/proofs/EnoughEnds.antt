@@ -1,7 +1,5 @@
 -- A run that has enough budget ends with status 0, but for a fault or want of memory.
-use Rattle.std.proofs.Common.{◌≡◌, ℕ, List, Some, ap, sym, subst, inl, inr}
-use Rattle.std.specs.Prelude.{◌⊎◌}
-use Rattle.command_line.specs.Asked.{asked}
+use Rattle.std.proofs.Common.{ℕ, List, ap, sym, subst, inl, inr}
 use Rattle.command_line.specs.declared.command.Command.{Command}
 use Rattle.command_line.specs.declared.command.Command.TheVariants.{Verify}
 use Rattle.joint_prover.specs.Budgets.{ProvesEnough}

@@ -5,7 +5,6 @@ use Rattle.joint_prover.specs.declared.rewriting.Rewriting.{Rewriting}
 use Rattle.mv_desk.specs.View.{View}
 use Rattle.joint_prover.specs.Verdicts.{IsFirstAbove, IsWithinBudget}
 use Rattle.graph_core.specs.Aiger.Writing.{ascii_text}
-use Rattle.graph_core.specs.Graph.{Aig}
 use Rattle.graph_core.specs.declared.order.Order.TheVariants.{Separate}
 use Rattle.graph_core.proofs.OfTexts.CallerLemmas.{one_graph}
 use Rattle.verdict_program.specs.declared.answer.Answer.TheVariants as answer

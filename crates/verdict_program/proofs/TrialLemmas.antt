@@ -1,5 +1,5 @@
 -- What `verify` and `check` answer over a made graph that is held in memory.
-use Rattle.std.proofs.Common.{◌≡◌, ◌≢◌, ℕ, ◌-◌, ◌^◌, ◌≤◌, List, length, Option, Some, None, refl, sym, ap, subst, ◌∙◌, arith, inl, inr, codes}
+use Rattle.std.proofs.Common.{◌≡◌, ◌≢◌, ℕ, ◌-◌, ◌^◌, ◌≤◌, List, length, Option, Some, refl, sym, ap, subst, ◌∙◌, arith, inl, inr}
 use Rattle.std.specs.Prelude.{IfSome, IsSome, IsSomeAnd, ⊤, [], option_map, unwrap_or}
 use Rattle.aiger_reader.specs.Refusals as reading
 use Rattle.aiger_reader.specs.Refusals.{SpellsWithin}
@@ -15,13 +15,14 @@ use Rattle.graph_core.proofs.OfTexts.CallerLemmas.{one_graph}
 use Rattle.joint_checker.specs.Certificates.{IsLawfulPair}
 use Rattle.joint_checker.specs.ClauseFiles.{GivesExtended, IsExtendedOf}
 use Rattle.joint_checker.specs.Files.{HasGraph, texts_of}
-use Rattle.joint_checker.specs.Outcome.{Gives, IsDue, IsGraphRefusal}
+use Rattle.aiger_reader.specs.Refusals.{IsGraphRefusal}
+use Rattle.joint_checker.specs.Outcome.{Gives, IsDue}
 use Rattle.joint_checker.specs.declared.checked.Checked.{Checked}
 use Rattle.joint_checker.specs.declared.checked.Checked.TheVariants as checked
 use Rattle.joint_checker.proofs.CallerLemmas.{spelled_not_long, spelled_not_refused}
 use Rattle.joint_prover.specs.Notes.{IsNote, cut_of}
 use Rattle.joint_prover.specs.Pairs.{IsPairFor}
-use Rattle.joint_prover.specs.Verdicts.{HasNote, HoldsPair, IsVerdict, IsWrong}
+use Rattle.joint_prover.specs.Verdicts.{HasNote, IsVerdict, IsWrong}
 use Rattle.joint_prover.specs.Written.{ReadsGraph, WritesFile, WritesPair}
 use Rattle.joint_prover.specs.declared.rewriting.Rewriting.{Rewriting}
 use Rattle.joint_prover.specs.declared.verdict.Tried.{Tried}

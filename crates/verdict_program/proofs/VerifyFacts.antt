@@ -12,7 +12,7 @@ use Rattle.joint_prover.specs.Notes.{IsNote, cut_of}
 use Rattle.joint_prover.specs.Tries.{AreTried}
 use Rattle.graph_core.specs.Graph.{Aig}
 use Rattle.ripple_graft.specs.declared.cut.Cut.{Cut}
-use Rattle.joint_prover.specs.Verdicts.{GivesDue, HasNote, HoldsPair, IsFirstAbove, IsVerdict, IsWrong}
+use Rattle.joint_prover.specs.Verdicts.{GivesDue, HasNote, HaveManyOnes, HoldsPair, IsFirstAbove, IsVerdict, IsWrong}
 use Rattle.joint_prover.specs.declared.verdict.Verdict.{Verdict}
 use Rattle.joint_prover.specs.declared.verdict.Verdict.TheVariants as verdict
 use Rattle.joint_prover.proofs.CallerLemmas.{proved_pairs_are_held, verdicts_are_exact}
@@ -57,10 +57,10 @@ module _ (files : named.Files) (order : Order) (budget conflicts : ℕ) (a b : V
   one verdict.Memory h e = absurd (omega arith)
 
   five : (outcome : Verdict) → Is outcome → status_of_verify outcome ≡ 5 →
-      HasGraph standard.graph (bytes_under a files.graph) (λ g. (step : ℕ) × (size : ℕ) × IsFirstAbove g order budget step size × ((n : Rewriting) × IsNote g order conflicts n × (tried : List Tried) × AreTried g order budget (cut_of n) tried))
+      HasGraph standard.graph (bytes_under a files.graph) (λ g. (step : ℕ) × (size : ℕ) × IsFirstAbove g order budget step size × ((n : Rewriting) × IsNote g order conflicts n × (tried : List Tried) × AreTried g order budget (cut_of n) tried) × HaveManyOnes g order)
   five verdict.Proved h e = absurd (omega arith)
   five (verdict.Wrong x y value product) h e = absurd (omega arith)
-  five (verdict.Undecided tried step size) h e = let r = h.0 in let n = note_there r.0 (λ used. AreTried r.0 order budget used tried.items) r.2.1 in (r.0, r.1, (step, size, r.2.0, (n.0, n.1, tried.items, n.2)))
+  five (verdict.Undecided tried step size) h e = let r = h.0 in let n = note_there r.0 (λ used. AreTried r.0 order budget used tried.items) r.2.1 in (r.0, r.1, (step, size, r.2.0, (n.0, n.1, tried.items, n.2), r.2.2))
   five (verdict.Graph why) h e = absurd (omega arith)
   five verdict.ReadFault h e = absurd (omega arith)
   five verdict.WriteFault h e = absurd (omega arith)

@@ -142,6 +142,7 @@ fn names() -> Names<'static>
 {
     Names {
         graph: "graph",
+        other: "",
         clauses: "clauses",
         algebra: "algebra",
     }

@@ -1,4 +1,5 @@
-use Rattle.std.proofs.Common.{subst}
+use Rattle.std.proofs.Common.{refl, subst, ◌∙◌}
+use Rattle.graph_core.specs.Graph.Extended.{without_cut}
 use Rattle.joint_checker.specs.Files.{files_of}
 use Rattle.joint_prover.specs.Endings.{IsEnded, IsPlain}
 use Rattle.joint_prover.proofs.Telling.{tells_last}
@@ -6,9 +7,10 @@ use Rattle.joint_prover.proofs.plans.in_order.Goals as goal
 
 pub told-requires : goal.told-requires
 told-requires g c =
-    let e = c.args.extended.now in
+    let e = without_cut c.args.graph.now in
     let start = c.in_ok-lines.lines in
     let fresh = c.in_ok-lines.ensures.fresh in
+    let same = fresh.extended ∙ c.without_cut-extended.ensures in
     let l = c.reduced_plainly.new.lines in
     let end = c.in-Ended.ending in
     let ended = subst (IsPlain start c.args.budget l) c.in-Ended.is c.in_ok-ending.ensures in
@@ -17,17 +19,19 @@ told-requires g c =
         e,
         c.args.operands.now.order,
         c.requires.sized,
-        subst (λ s. IsEnded e s.order l end) fresh.sides (subst (λ x. IsEnded x start.sides.order l end) fresh.extended ended),
+        subst (λ s. IsEnded e s.order l end) fresh.sides (subst (λ x. IsEnded x start.sides.order l end) same ended),
       );
     }
 
 pub returns-in-Ended-clause-verdict : goal.returns-in-Ended-clause-verdict
 returns-in-Ended-clause-verdict g c =
+    let e = without_cut c.args.graph.now in
     let start = c.in_ok-lines.lines in
     let fresh = c.in_ok-lines.ensures.fresh in
+    let same = fresh.extended ∙ c.without_cut-extended.ensures in
     let l = c.reduced_plainly.new.lines in
     let end = c.in-Ended.ending in
     let ended = subst (IsPlain start c.args.budget l) c.in-Ended.is c.in_ok-ending.ensures in
-    tells_last (files_of c.args.names.now) (g.D.Desk.seen c.args.desk.now) (g.D.Desk.seen c.told.new.desk) l end c.told.result c.args.extended.now c.args.operands.now.order c.args.budget
-    (subst (λ s. IsEnded c.args.extended.now s.order l end) fresh.sides (subst (λ x. IsEnded x start.sides.order l end) fresh.extended ended))
-    c.args.tried.items c.requires.alone c.told.ensures.verdict
+    tells_last (files_of c.args.names.now) (g.D.Desk.seen c.args.desk.now) (g.D.Desk.seen c.told.new.desk) l end c.told.result e c.args.operands.now.order c.args.budget
+    (subst (λ s. IsEnded e s.order l end) fresh.sides (subst (λ x. IsEnded x start.sides.order l end) same ended))
+    c.args.tried.items refl c.told.ensures.verdict

@@ -1,58 +1,54 @@
-use Rattle.std.proofs.Common.{ℕ, false, refl, subst, ◌∙◌}
-use Rattle.std.specs.Prelude.{IfOk, Option}
-use Rattle.graph_core.specs.Graph.Extended.{Extended, without_cut}
-use Rattle.ripple_graft.specs.declared.cut.Cut.{Cut}
+use Rattle.std.proofs.Common.{◌≡◌, ℕ, subst}
+use Rattle.std.specs.Prelude.{IfOk, None, OnErr, Option}
 use Rattle.joint_checker.specs.Files.{files_of}
-use Rattle.joint_prover.specs.Endings.{IsEnded, IsSliced}
-use Rattle.joint_prover.specs.Parts.{IsOfGraph}
-use Rattle.joint_prover.specs.Tries.{AreTried, IsAbove}
-use Rattle.joint_prover.proofs.Telling.{tells_behind, tried_more}
+use Rattle.ripple_graft.specs.declared.cut.Cut.{Cut}
+use Rattle.joint_prover.specs.Parts.{IsAttempt, IsOfGraph}
+use Rattle.joint_prover.specs.Tries.{AreTried}
+use Rattle.joint_prover.proofs.Telling.{ends_behind, on_err, told_of, tried_more}
 use Rattle.joint_prover.proofs.plans.over_graph.Goals as goal
 
-pub told-requires : goal.told-requires
-told-requires g c =
-    let e = without_cut c.args.graph.now in
-    let start = c.in_ok-lines.lines in
-    let fresh = c.in_ok-lines.ensures.fresh in
-    let same = fresh.extended ∙ c.without_cut-extended.ensures in
-    let l = c.reduced_by_slices.new.lines in
-    let end = c.in-Ended.ending in
-    let ended = subst (IsSliced start c.args.budget false l) c.in-Ended.is c.in_ok-ending.ensures in
-    record {
-      ended = (
-        e,
-        c.args.operands.now.order,
-        c.requires.sized,
-        subst (λ s. IsEnded e s.order l end) fresh.sides (subst (λ x. IsEnded x start.sides.order l end) same ended),
-      );
-    }
-
-pub returns-in-Ended-clause-verdict : goal.returns-in-Ended-clause-verdict
-returns-in-Ended-clause-verdict g c =
-    let e = without_cut c.args.graph.now in
-    let start = c.in_ok-lines.lines in
-    let fresh = c.in_ok-lines.ensures.fresh in
-    let same = fresh.extended ∙ c.without_cut-extended.ensures in
-    let l = c.reduced_by_slices.new.lines in
-    let end = c.in-Ended.ending in
-    let ended = subst (IsSliced start c.args.budget false l) c.in-Ended.is c.in_ok-ending.ensures in
-    tells_behind (files_of c.args.names.now) (g.D.Desk.seen c.args.desk.now) (g.D.Desk.seen c.told.new.desk) l end c.told.result e c.args.operands.now.order c.args.budget
-    (subst (λ s. IsEnded e s.order l end) fresh.sides (subst (λ x. IsEnded x start.sides.order l end) same ended))
-    c.args.tried.items refl c.told.ensures.verdict
+pub returns-in-Told-clause-verdict : goal.returns-in-Told-clause-verdict
+returns-in-Told-clause-verdict g c =
+    let graph = c.args.graph.now in
+    let order = c.args.operands.now.order in
+    let files = files_of c.args.names.now in
+    let a = g.D.Desk.seen c.args.desk.now in
+    let b = g.D.Desk.seen c.over_alone.new.desk in
+    λ conflicts used tried.
+    told_of files a b graph order c.args.budget conflicts used None c.in-Told.verdict (ends_behind graph order c.args.budget used c.args.tried.items tried)
+    (subst (IsAttempt graph order c.args.budget conflicts None files a b) c.in-Told.is (c.in_ok-verdict.ensures.over conflicts))
 
 pub returns-in_ok-push-in-Passed-clause-verdict : goal.returns-in_ok-push-in-Passed-clause-verdict
 returns-in_ok-push-in-Passed-clause-verdict g c =
-    let e = without_cut c.args.graph.now in
+    let graph = c.args.graph.now in
     let order = c.args.operands.now.order in
-    let start = c.in_ok-lines.lines in
-    let fresh = c.in_ok-lines.ensures.fresh in
-    let same = fresh.extended ∙ c.without_cut-extended.ensures in
-    let sides = fresh.sides ∙ c.requires.operands in
-    let l = c.reduced_by_slices.new.lines in
+    let files = files_of c.args.names.now in
+    let a = g.D.Desk.seen c.args.desk.now in
+    let m = g.D.Desk.seen c.over_alone.new.desk in
+    let b = g.D.Desk.seen c.in_order.new.desk in
     let last = c.in-Passed.last in
-    let passed = subst (IsSliced start c.args.budget false l) c.in-Passed.is c.in_ok-ending.ensures in
-    tried_more (files_of c.args.names.now) (g.D.Desk.seen c.args.desk.now) (g.D.Desk.seen c.in_order.new.desk) c.in_order.result c.args.graph.now order c.args.budget c.args.tried.items c.push.new.self.items last
-    c.in_ok-push-in-Passed.ensures.items
-    (record { rewritten = passed.0; above = subst (λ s. IsAbove e s c.args.budget last) sides (subst (λ x. IsAbove x start.sides c.args.budget last) same passed.1) })
-    (subst (λ (x : Extended). IfOk c.in_order.result (λ v. (conflicts : ℕ) (used : Option Cut) → AreTried x.graph order c.args.budget used c.push.new.self.items →
-    IsOfGraph x.graph order c.args.budget conflicts used (files_of c.args.names.now) (g.D.Desk.seen c.args.desk.now) (g.D.Desk.seen c.in_order.new.desk) v)) c.without_cut-extended.ensures c.in_order.ensures.verdict)
+    let passed = subst (IsAttempt graph order c.args.budget 0 None files a m) c.in-Passed.is (c.in_ok-verdict.ensures.over 0) in
+    tried_more files a b c.in_order.result graph order c.args.budget c.args.tried.items c.push.new.self.items last c.in_ok-push-in-Passed.ensures.items passed.0
+    (subst (λ x. IfOk c.in_order.result (λ v. (conflicts : ℕ) (used : Option Cut) → AreTried graph order c.args.budget used c.push.new.self.items →
+    IsOfGraph graph order c.args.budget conflicts used files x b v)) passed.1 c.in_order.ensures.verdict)
+
+pub returns-in_err-push-in-Passed-clause-memory : goal.returns-in_err-push-in-Passed-clause-memory
+returns-in_err-push-in-Passed-clause-memory g c =
+    let graph = c.args.graph.now in
+    let order = c.args.operands.now.order in
+    let files = files_of c.args.names.now in
+    let a = g.D.Desk.seen c.args.desk.now in
+    let m = g.D.Desk.seen c.over_alone.new.desk in
+    let passed = subst (IsAttempt graph order c.args.budget 0 None files a m) c.in-Passed.is (c.in_ok-verdict.ensures.over 0) in
+    on_err _ (m ≡ a) passed.1
+
+pub returns-in_ok-push-in-Passed-clause-memory : goal.returns-in_ok-push-in-Passed-clause-memory
+returns-in_ok-push-in-Passed-clause-memory g c =
+    let graph = c.args.graph.now in
+    let order = c.args.operands.now.order in
+    let files = files_of c.args.names.now in
+    let a = g.D.Desk.seen c.args.desk.now in
+    let m = g.D.Desk.seen c.over_alone.new.desk in
+    let b = g.D.Desk.seen c.in_order.new.desk in
+    let passed = subst (IsAttempt graph order c.args.budget 0 None files a m) c.in-Passed.is (c.in_ok-verdict.ensures.over 0) in
+    subst (λ x. OnErr c.in_order.result (b ≡ x)) passed.1 c.in_order.ensures.memory

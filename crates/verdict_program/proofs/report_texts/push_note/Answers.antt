@@ -12,6 +12,13 @@ returns-in-Used-clause-text c =
     c.push.ensures ∙ ap (λ xs. xs ++ newline ∷ []) (c.push_numbered.ensures.text ∙ ap (λ n. old ++ text ++ decimal n) c.from.ensures) ∙
     number_line old text (decimal c.in-Used.cut.lo) ∙ ap (λ n. old ++ report_of_note n) (sym c.in-Used.is)
 
+pub returns-in-Found-clause-text : goal.returns-in-Found-clause-text
+returns-in-Found-clause-text c =
+    let old = c.args.report.now in
+    let text = codes "rewriting found from column " in
+    c.push-in-Found.ensures ∙ ap (λ xs. xs ++ newline ∷ []) (c.push_numbered-in-Found.ensures.text ∙ ap (λ n. old ++ text ++ decimal n) c.from-in-Found.ensures) ∙
+    number_line old text (decimal c.in-Found.cut.lo) ∙ ap (λ n. old ++ report_of_note n) (sym c.in-Found.is)
+
 pub returns-in-Differs-clause-text : goal.returns-in-Differs-clause-text
 returns-in-Differs-clause-text c =
     let old = c.args.report.now in

@@ -4,7 +4,7 @@ use Rattle.drup_text.specs.WrittenTexts.{file_text}
 use Rattle.joint_checker.specs.Files.{files_of}
 use Rattle.joint_prover.specs.Endings.{Decides}
 use Rattle.joint_prover.proofs.Telling.{written_told}
-use Rattle.joint_prover.proofs.plans.told.Goals as goal
+use Rattle.joint_prover.proofs.conclusion.told.Goals as goal
 
 pub returns-in-Closed-clause-verdict : goal.returns-in-Closed-clause-verdict
 returns-in-Closed-clause-verdict g c = λ e order conflicts ended itself given.

@@ -1,0 +1,89 @@
+// operand_search and stage_guesser: what is found by evaluating a graph.
+ghost use Rattle.std.specs.Prelude.{◌≤◌};
+
+use aiger_reader::graph_of_text;
+use graph_core::{Operands, Order};
+use graph_maker::{Adder, Kind, make};
+use operand_search::{least_seen, least_within, most_ones_within};
+use stage_guesser::candidate;
+use std::alloc::Global;
+use std::test::Fail;
+
+// The least difference of the graph of a text, with at most so many ones, by both searches; None where one fails.
+fn least(
+    alloc: Global,
+    text: &[u8],
+    most_ones: u32,
+) -> Option<(Option<(u64, u64)>, Option<(u64, u64)>)> {
+    let graph = graph_of_text(alloc, text).ok()?;
+    let operands = Operands::of(alloc, &graph, Order::Separate).ok()?;
+    let within = least_within(alloc, &graph, &operands, most_ones).ok()?;
+    let seen = least_seen(alloc, &graph, &operands, most_ones).ok()?;
+    Some((within, seen))
+}
+
+const DIFFERENCES: [(&str, &[u8], u32, Option<(u64, u64)>); 4] = [
+    (
+        "a multiplier of one bit",
+        b"aag 3 2 0 1 1\n2\n4\n6\n6 4 2\n",
+        2,
+        None,
+    ),
+    (
+        "an output that is 0",
+        b"aag 3 2 0 1 1\n2\n4\n0\n6 4 2\n",
+        2,
+        Some((1, 1)),
+    ),
+    (
+        "one bit is allowed",
+        b"aag 3 2 0 1 1\n2\n4\n0\n6 4 2\n",
+        1,
+        None,
+    ),
+    ("an or", b"aag 3 2 0 1 1\n2\n4\n7\n6 5 3\n", 2, Some((1, 0))),
+];
+
+#[test]
+fn differences_are_found(rt: HostRuntime) {
+    for &(shows, text, most_ones, due) in &DIFFERENCES {
+        assert!(rt;
+            least(rt.alloc(), text, most_ones) == Some((due, due)),
+            "{shows}"
+        );
+    }
+}
+
+// Where the adder begins that is found in a made multiplier, and how many pairs it has.
+fn found(alloc: Global, kind: Kind, bits: u32, adder: Adder) -> Result<Option<(u32, usize)>, Fail>
+    requires { 1 ≤ bits × bits ≤ 64 }
+{
+    let graph = make(alloc, kind, bits, adder)?;
+    let operands = Operands::of(alloc, &graph, Order::Separate)?;
+    let cut = candidate(alloc, &graph, &operands, &[])?;
+    Ok(cut.map(|cut| (cut.lo, cut.pairs.as_slice().len())))
+}
+
+const ADDERS: [(&str, Kind, u32, Adder, Option<(u32, usize)>); 4] = [
+    ("no carry", Kind::Array, 1, Adder::Ripple, None),
+    ("ripple", Kind::Array, 4, Adder::Ripple, Some((2, 6))),
+    ("Kogge-Stone", Kind::Dadda, 4, Adder::Kogge, Some((1, 6))),
+    ("Sklansky", Kind::Dadda, 5, Adder::Sklansky, Some((1, 8))),
+];
+
+#[test]
+fn last_adders_are_found(rt: HostRuntime) -> Result<(), Fail> {
+    for &(shows, kind, bits, adder, due) in &ADDERS {
+        assert!(rt; 1 <= bits && bits <= 64);
+        assert!(rt; found(rt.alloc(), kind, bits, adder)? == due, "{shows}");
+    }
+    Ok(())
+}
+
+#[test]
+fn work_is_enough_for_some_ones(rt: HostRuntime) -> Result<(), Fail> {
+    let graph = make(rt.alloc(), Kind::Array, 8, Adder::Ripple)?;
+    assert!(rt; most_ones_within(&graph, 0) == 2);
+    assert!(rt; most_ones_within(&graph, 1 << 24) == 16);
+    Ok(())
+}

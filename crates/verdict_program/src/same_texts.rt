@@ -1,0 +1,100 @@
+// The texts of reports on two graphs.
+ghost use Rattle.std.specs.Prelude.{◌≡◌, ◌≤◌, ◌+◌, ◌++◌, [], ◌∷◌, codes, length, map, take};
+ghost use Rattle.verdict_program.specs.Answer.{digit_of, input_digits, report_of_judged, report_of_same, shapes_line};
+ghost use Rattle.verdict_program.specs.Stops.{line};
+
+use crate::report::Report;
+use crate::report_texts::clauses_report;
+use crate::stop::Stop;
+use same_core::{Same, SameChecked, SameRefusal};
+
+/// The line that reports what `same` says.
+pub fn same_report(outcome: &Same) -> Report
+    ensures { result ≡ report_of_same outcome.now }
+{
+    match outcome {
+        Same::Equal => Report::of("equal\n"),
+        Same::Differs { inputs } => differs_report(inputs),
+        Same::Spent { lemmas, .. } => Report::numbered(
+            "undecided spent ",
+            u128::from(*lemmas),
+            "\n",
+        ),
+        Same::Shapes => shapes_report(),
+        Same::Graph { slot, why } => Stop::Graph {
+            slot: *slot,
+            why: *why,
+        }
+        .report(),
+        Same::ReadFault => Stop::ReadFault.report(),
+        Same::WriteFault => Stop::WriteFault.report(),
+        Same::Memory => Stop::Memory.report(),
+        Same::TooLong(slot) => Stop::TooLong(*slot).report(),
+    }
+}
+
+/// The line that reports what `check-same` says.
+pub fn judged_report(outcome: SameChecked) -> Report
+    ensures { result ≡ report_of_judged outcome }
+{
+    match outcome {
+        SameChecked::Accepted => Report::of("accepted\n"),
+        SameChecked::Refused(SameRefusal::Clauses { line, why }) => clauses_report(line, why),
+        SameChecked::Refused(SameRefusal::Goals { output }) => Report::numbered(
+            "refused goals output ",
+            u128::from(output),
+            "\n",
+        ),
+        SameChecked::Shapes => shapes_report(),
+        SameChecked::Graph { slot, why } => Stop::Graph { slot, why }.report(),
+        SameChecked::ReadFault => Stop::ReadFault.report(),
+        SameChecked::Memory => Stop::Memory.report(),
+        SameChecked::TooLong(slot) => Stop::TooLong(slot).report(),
+    }
+}
+
+fn shapes_report() -> Report
+    ensures { result ≡ shapes_line }
+{
+    Report::of("shapes differ\n")
+}
+
+// The inputs on which two graphs differ, the first one first.
+fn differs_report(inputs: &[bool]) -> Report
+    ensures { result ≡ codes "differs input=" ++ input_digits inputs.now ++ line [] }
+{
+    let mut report = Report::of("differs input=");
+    push_bits(&mut report, front(inputs, 256));
+    report.push("\n");
+    report
+}
+
+// The first of some bits, as many as there may be.
+fn front(bits: &[bool], most: usize) -> &[bool]
+    ensures front { result.now ≡ take most bits.now }
+    ensures few { length result.now ≤ most }
+{
+    if bits.len() <= most {
+        bits
+    } else {
+        &bits[..most]
+    }
+}
+
+fn push_bits(report: &mut Report, bits: &[bool])
+    requires few { length bits.now ≤ 256 }
+    requires room { length report.old ≤ 128 }
+    ensures text { report.new ≡ report.old ++ map digit_of bits.now }
+    ensures short { length report.new ≤ length report.old + 256 }
+{
+    for bit in bits {
+        report.push(digit(*bit));
+    }
+}
+
+fn digit(bit: bool) -> &'static str
+    ensures text { result.now ≡ digit_of bit ∷ [] }
+    ensures short { length result.now ≡ 1 }
+{
+    if bit { "1" } else { "0" }
+}
