@@ -1,5 +1,5 @@
 -- The note has the cause of what came of the rewriting.
-use Rattle.std.proofs.Common.{◌≡◌, ℕ, List, refl, subst}
+use Rattle.std.proofs.Common.{◌≡◌, ℕ, ◌+◌, ◌*◌, ◌≤◌, List, arith, length, refl, subst}
 use Rattle.std.specs.Prelude.{None}
 use Rattle.graph_core.specs.Algebra.{AgreeOnColumns}
 use Rattle.cdcl_core.specs.Logs.{LogView}
@@ -38,6 +38,15 @@ shown_of g conflicts cut e lines well used = record {
   extended_is = used.extended_is;
   lawful = used.lawful;
   few = used.few;
+}
+
+-- What few conflicts show, more do.
+pub shown_by_more : (g : Aig) (few more : ℕ) (cut : Cut) (e : Extended) (lines : List ClauseLine) → few ≤ more → IsShown g few cut e lines → IsShown g more cut e lines
+shown_by_more g few more cut e lines low shown = record {
+  fits = shown.fits;
+  extended_is = shown.extended_is;
+  lawful = shown.lawful;
+  few = let short = shown.few in omega arith;
 }
 
 pub found_is : (g : Aig) (conflicts : ℕ) (cut : Cut) (e : Extended) (lines : List ClauseLine) → IsShown g conflicts cut e lines → Always e.gates (AgreeOnColumns e) → IsFoundCut g cut

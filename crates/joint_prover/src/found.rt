@@ -20,9 +20,10 @@ use std::alloc::Global;
 // How many cuts are looked at.
 const TRIES: u32 = 8;
 
-// How many times the small budget the plans by layers have: behind each column, and behind all.
+// How many times the small budget a plan by layers has that goes behind each column.
 const BY_COLUMN: u64 = 2;
 
+// And one that goes behind all columns.
 const AT_END: u64 = 16;
 
 /// The verdict over the graph with the adder of a cut that is found and shown, with that cut.
@@ -169,7 +170,8 @@ pub(crate) struct Shown<'a> {
     pub(crate) log: Log,
 }
 
-// A cut that is found and shown, within so many conflicts. Operands at which one differs are held against the next.
+// A cut that is found and shown, within so many conflicts. Operands at which one differs are held against the next, which
+// may have half as many conflicts.
 fn found<'a>(
     alloc: Global,
     graph: &'a Graph,
@@ -181,17 +183,19 @@ fn found<'a>(
     ensures { IfOk result (λ found. IfSome found (IsShownCut graph.now conflicts)) }
 {
     let mut given = Vec::new(alloc);
+    let mut left = conflicts;
     for _try in 0..TRIES {
         let Some(cut) = candidate(alloc, graph, operands, &given)? else {
             return Ok(None);
         };
-        match rewrite_at(alloc, graph, operands, conflicts, cut)? {
+        match rewrite_at(alloc, graph, operands, left, cut)? {
             Rewritten::Used { cut, extended, log } => {
                 return Ok(Some(Shown { cut, extended, log }));
             }
             Rewritten::Differs { a, b } => given.push((a, b))?,
             _ => return Ok(None),
         }
+        left /= 2;
     }
     Ok(None)
 }
