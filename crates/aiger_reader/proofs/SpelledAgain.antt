@@ -1,12 +1,14 @@
--- A multiplier's graph without faults has room for its inputs and gates, so what is written for it spells it.
+-- A graph without faults has room for its inputs and gates, so what is written for it spells it.
 use Rattle.std.specs.Prelude.{ℕ, ◌+◌, ◌<◌, ◌≤◌, map, length, slice_index_or}
 use Rattle.std.proofs.Common.{arith, length-append}
 use Rattle.std.proofs.lemmas.List.{length-map}
 use Rattle.std.proofs.lemmas.List.Elements.{All-append, All-map, Contains-get_or}
+use Rattle.graph_core.specs.declared.profile.Profile.{Profile}
+use Rattle.graph_core.specs.declared.profile.Profile.TheVariants.{Multiplier, MultiplyAdd, Any}
 use Rattle.graph_core.specs.Graph.Literals.{variable_of}
 use Rattle.graph_core.specs.Graph.{Aig, IsWellFormed, defined}
-use Rattle.graph_core.specs.Aiger.{HasMultiplierCounts}
-use Rattle.graph_core.specs.Aiger.Soundness.{IsMultiplierSized}
+use Rattle.graph_core.specs.Aiger.{least_inputs, most_inputs, input_step, most_outputs, HasCounts}
+use Rattle.graph_core.specs.Aiger.Soundness.{IsSizedAs}
 use Rattle.graph_core.specs.Aiger.Writing.{written, written_gate}
 use Rattle.graph_core.proofs.OfGraphs.CallerLemmas.{few_numbers, input_in_range}
 use Rattle.graph_core.proofs.OfAiger.CallerLemmas.{ascii_text_spells, binary_text_spells}
@@ -25,25 +27,29 @@ module _ (g : Aig) (well : IsWellFormed g) where
       (All-map IsVariable (λ x. x.v) g.gates (λ k d below. (well.defined_once.gates k d below, well.gates_in_range k d below)))) in
       omega (arith, length-append (map variable_of g.inputs) (map (λ x. x.v) g.gates), length-map g.inputs variable_of, length-map g.gates (λ x. x.v))
 
-  counted : IsMultiplierSized g → HasMultiplierCounts (written g)
-  counted sized =
+  written_room : length g.inputs + length (written g).gates ≤ g.max
+  written_room = omega (arith, room, length-map g.gates written_gate)
+
+  counted : (profile : Profile) → IsSizedAs profile g → HasCounts profile (written g)
+  counted Multiplier sized =
       let inputs = sized.shape.inputs in
       let some_outputs = sized.shape.some_outputs in
       let outputs = sized.shape.outputs in
       let some = sized.some in
       let narrow = sized.narrow in
-      record {
-        max = sized.small;
-        even = omega arith;
-        some = omega arith;
-        few = omega arith;
-        some_outputs = omega arith;
-        outputs = omega arith;
-        room = omega (arith, room, length-map g.gates written_gate);
-      }
+      record { max = sized.small; step = omega arith; some = omega arith; few = omega arith; some_outputs = omega arith; outputs = omega arith; room = written_room }
+  counted MultiplyAdd sized =
+      let inputs = sized.shape.inputs in
+      let some_outputs = sized.shape.some_outputs in
+      let outputs = sized.shape.outputs in
+      let some = sized.some in
+      let narrow = sized.narrow in
+      record { max = sized.small; step = omega arith; some = omega arith; few = omega arith; some_outputs = omega arith; outputs = omega arith; room = written_room }
+  counted Any sized =
+      record { max = sized.small; step = omega arith; some = omega arith; few = sized.few_inputs; some_outputs = omega (arith, sized.some_outputs); outputs = sized.few_outputs; room = written_room }
 
 pub ascii_spells_again : AsciiSpellsAgain
-ascii_spells_again g well sized = ascii_text_spells g well (counted g well sized)
+ascii_spells_again profile g well sized = ascii_text_spells profile g well (counted g well profile sized)
 
 pub binary_spells_again : BinarySpellsAgain
-binary_spells_again g well sized packed = binary_text_spells g packed (counted g well sized)
+binary_spells_again profile g well sized packed = binary_text_spells profile g packed (counted g well profile sized)

@@ -1,6 +1,7 @@
 -- Lemmas on graphs: how they are built, their levels, evaluation and operands. Crates above import CallerLemmas alone.
 pub mod CallerLemmas
 pub mod BuiltFacts
+pub mod Claims
 pub mod Congruence
 pub mod Decided
 pub mod Evaluation
@@ -15,6 +16,7 @@ pub mod OperandBits
 pub mod OperandPlaces
 pub mod Residues
 pub mod SearchSteps
+pub mod SignedWords
 pub mod Support
 pub mod TableLemmas
 pub mod TableSteps

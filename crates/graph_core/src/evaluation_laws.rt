@@ -1,7 +1,7 @@
 // Laws of evaluation: what holds on every evaluation of a graph holds for all values of its inputs.
 ghost use Rattle.graph_core.specs.Graph.{EvaluationIsOne};
 ghost use Rattle.graph_core.specs.Aiger.Refusal.{LevelsMeanAcyclic, OneLevel};
-ghost use Rattle.graph_core.specs.Graph.Operands.{ClaimIsProduct, EvaluationsSuffice, SidesAreInputs, SidesReadInputs, WholeProducts};
+ghost use Rattle.graph_core.specs.Graph.Operands.{ClaimIsDone, ClaimIsProduct, EvaluationsSuffice, SidesAreInputs, SidesReadInputs, WholeProducts};
 ghost use Rattle.graph_core.specs.Aiger.Soundness.{SpelledShape, VanishingMeetsClaim, VanishingMultiplies};
 
 /// What is claimed on every evaluation of an acyclic graph holds for all values of its inputs.
@@ -9,7 +9,7 @@ pub fn evaluations_suffice()
     ensures { EvaluationsSuffice }
 {}
 
-/// The operands under an order are read from the inputs.
+/// The operands are read from the inputs, and so is an addend.
 pub fn sides_read_inputs()
     ensures { SidesReadInputs }
 {}
@@ -22,6 +22,11 @@ pub fn sides_are_inputs()
 /// A graph meets the claim of two operands exactly where it multiplies.
 pub fn claim_is_product()
     ensures { ClaimIsProduct }
+{}
+
+/// A graph meets any claim exactly where it does what is claimed on all numbers.
+pub fn claim_is_done()
+    ensures { ClaimIsDone }
 {}
 
 /// With an output for each bit of the product, a graph that multiplies gives it as a whole number.
@@ -49,12 +54,12 @@ pub fn vanishing_meets_claim()
     ensures { VanishingMeetsClaim }
 {}
 
-/// Where the specification of two operands vanishes there, the graph multiplies.
+/// Where the specification of two operands vanishes on those of a multiplier's graph, it multiplies.
 pub fn vanishing_multiplies()
     ensures { VanishingMultiplies }
 {}
 
-/// A graph that a text spells has a multiplier's shape, of 1 to 64 bits.
+/// A graph that a text spells is of its profile's size.
 pub fn spelled_shape()
     ensures { SpelledShape }
 {}

@@ -2,8 +2,10 @@
 //!
 //! `Graph::build` gives the graph of some lists exactly where they have no fault, and else their first fault. A graph
 //! tells of each variable its gate, its level and how often it is read, and writes the values of all variables.
-//! `Operands` tells which input is which bit, and `Graph::value_on` gives the value on two operands. Only it,
-//! `Graph::build` and `Operands::of` take memory.
+//! A `Claim` is what is claimed of a graph: how its inputs make two operands, whether these are signed, and whether there
+//! is an addend. `Operands` tells which input is then which bit;
+//! `Graph::value_on` gives the value on two operands, `Graph::sum_on` that with an addend. Only these two, `Graph::build`
+//! and the makers of `Operands` take memory.
 //!
 //! The contracts of all crates above cite the words of `specs/`: graphs, their evaluation, operands and the product
 //! (`Graph` and its files), what bytes spell and how a text is refused (`Text`, `Aiger`), lawful algebra certificates
@@ -12,6 +14,7 @@
 #![tactic(auto)]
 
 mod certificate_laws;
+mod claim;
 mod evaluation_laws;
 mod fault;
 mod file_laws;
@@ -20,17 +23,21 @@ mod graph;
 mod ledger_laws;
 mod literal;
 mod memory;
+mod numbers;
 mod operands;
 mod order;
 mod polynomial_laws;
+mod profile;
+mod sign;
 
 pub use certificate_laws::{
     algebra_is_exact, algebra_is_read, algebra_is_sound, algebra_line_is_read, axioms_vanish,
     close_is_read, polynomial_is_read, vanishing_means_claim, vanishing_means_product,
 };
+pub use claim::Claim;
 pub use evaluation_laws::{
-    claim_is_product, evaluation_is_one, evaluations_suffice, levels_mean_acyclic, one_level,
-    sides_are_inputs, sides_read_inputs, spelled_shape, vanishing_meets_claim,
+    claim_is_done, claim_is_product, evaluation_is_one, evaluations_suffice, levels_mean_acyclic,
+    one_level, sides_are_inputs, sides_read_inputs, spelled_shape, vanishing_meets_claim,
     vanishing_multiplies, whole_products,
 };
 pub use fault::{BuildFail, Field, GraphFault};
@@ -47,8 +54,11 @@ pub use ledger_laws::{
 };
 pub use literal::Lit;
 pub use memory::Memory;
+pub use numbers::Numbers;
 pub use operands::Operands;
 pub use order::Order;
 pub use polynomial_laws::{
     normal_form_exists, normal_form_is_one, normal_forms_differ, size_is_one,
 };
+pub use profile::Profile;
+pub use sign::Sign;

@@ -5,9 +5,10 @@ use Rattle.std.proofs.Common.{refl, sym, ap, ap₂, subst, ◌∙◌, arith, app
 use Rattle.std.proofs.lemmas.Bool.{ltb-false, eqb-false}
 use Rattle.graph_core.specs.declared.fault.Field.{Field}
 use Rattle.graph_core.specs.declared.fault.Field.TheVariants as field
+use Rattle.graph_core.specs.declared.profile.Profile.{Profile}
 use Rattle.graph_core.specs.Text.{IsLine}
-use Rattle.graph_core.specs.Aiger.{Form, Ascii, Binary, Counts, counts, Listing, IsHeader, IsTail, HasMultiplierCounts, Lists}
-use Rattle.graph_core.specs.Aiger.Refusal.{zero_fields, has_wrong_room, first_refused, refused_field, counts_of, letters, HasHeader, IsBody, IsRest}
+use Rattle.graph_core.specs.Aiger.{Form, Ascii, Binary, Counts, counts, Listing, input_step, least_inputs, most_inputs, most_outputs, IsHeader, IsTail, HasCounts, Lists}
+use Rattle.graph_core.specs.Aiger.Refusal.{zero_fields, has_wrong_inputs, has_wrong_outputs, has_wrong_room, first_refused, refused_field, counts_of, letters, HasHeader, IsBody, IsRest}
 use Rattle.graph_core.proofs.OfTexts.Numerals.{not_below}
 
 -- ---- tests
@@ -26,17 +27,17 @@ none_first false f o h = (refl, h)
 
 -- ---- fields that are accepted
 
-pub record AreAccepted (form : Form) (numbers : List ℕ) : Type 0 where
+pub record AreAccepted (p : Profile) (form : Form) (numbers : List ℕ) : Type 0 where
   pub zeros : List ℕ
   pub few_zeros : length zeros ≤ 4
   pub all_zero : AllByRecursion (λ z. z ≡ 0) zeros
   pub is : numbers ≡ ((counts_of numbers).max ∷ (counts_of numbers).inputs ∷ 0 ∷ (counts_of numbers).outputs ∷ (counts_of numbers).gates ∷ []) ++ zeros
   pub max : (counts_of numbers).max ≤ 4194303
-  pub even : (counts_of numbers).inputs % 2 ≡ 0
-  pub some : 0 < (counts_of numbers).inputs
-  pub few : (counts_of numbers).inputs ≤ 128
+  pub step : (counts_of numbers).inputs % input_step p ≡ 0
+  pub some : least_inputs p ≤ (counts_of numbers).inputs
+  pub few : (counts_of numbers).inputs ≤ most_inputs p
   pub some_outputs : 0 < (counts_of numbers).outputs
-  pub outputs : (counts_of numbers).outputs ≤ (counts_of numbers).inputs
+  pub outputs : (counts_of numbers).outputs ≤ most_outputs p (counts_of numbers).inputs
   pub room : (counts_of numbers).inputs + (counts_of numbers).gates ≤ (counts_of numbers).max
   pub full : form ≡ Binary → (counts_of numbers).max ≡ (counts_of numbers).inputs + (counts_of numbers).gates
 
@@ -60,23 +61,31 @@ room_back : (form : Form) (m n : ℕ) → n ≤ m → (form ≡ Binary → m ≡
 room_back Ascii m n low full = not_below m n low
 room_back Binary m n low full = ap not (eq-eqb m n (full refl))
 
-pub accepted : (form : Form) (numbers : List ℕ) → 5 ≤ length numbers → length numbers ≤ 9 → refused_field form numbers ≡ None → AreAccepted form numbers
-accepted form [] many few h = absurd (omega arith)
-accepted form (m ∷ []) many few h = absurd (omega arith)
-accepted form (m ∷ i ∷ []) many few h = absurd (omega arith)
-accepted form (m ∷ i ∷ l ∷ []) many few h = absurd (omega arith)
-accepted form (m ∷ i ∷ l ∷ o ∷ []) many few h = absurd (omega arith)
-accepted form (m ∷ i ∷ l ∷ o ∷ a ∷ others) many few h =
+inputs_from : (p : Profile) (i : ℕ) → has_wrong_inputs p i ≡ false → (i % input_step p ≡ 0) × (least_inputs p ≤ i) × (i ≤ most_inputs p)
+inputs_from p i h =
+    let step = or_false (not (i % input_step p == 0)) (nat_lt i (least_inputs p) || nat_lt (most_inputs p) i) h in
+    let sizes = or_false (nat_lt i (least_inputs p)) (nat_lt (most_inputs p) i) step.1 in
+    (eqb-true (i % input_step p) 0 (not_false (i % input_step p == 0) step.0), ltb-false i (least_inputs p) sizes.0, ltb-false (most_inputs p) i sizes.1)
+
+inputs_back : (p : Profile) (i : ℕ) → i % input_step p ≡ 0 → least_inputs p ≤ i → i ≤ most_inputs p → has_wrong_inputs p i ≡ false
+inputs_back p i step some few =
+    ap₂ (λ b c. not b || c) (eq-eqb (i % input_step p) 0 step) (ap₂ ◌||◌ (not_below i (least_inputs p) some) (not_below (most_inputs p) i few))
+
+pub accepted : (p : Profile) (form : Form) (numbers : List ℕ) → 5 ≤ length numbers → length numbers ≤ 9 → refused_field p form numbers ≡ None → AreAccepted p form numbers
+accepted p form [] many few h = absurd (omega arith)
+accepted p form (m ∷ []) many few h = absurd (omega arith)
+accepted p form (m ∷ i ∷ []) many few h = absurd (omega arith)
+accepted p form (m ∷ i ∷ l ∷ []) many few h = absurd (omega arith)
+accepted p form (m ∷ i ∷ l ∷ o ∷ []) many few h = absurd (omega arith)
+accepted p form (m ∷ i ∷ l ∷ o ∷ a ∷ others) many few h =
     let zs : List (Field × Bool) = zero_fields (field.B ∷ field.C ∷ field.J ∷ field.F ∷ []) others in
     let pm = none_first (nat_lt 4194303 m) field.M _ h in
-    let pi = none_first (not (i % 2 == 0) || (i == 0 || nat_lt 128 i)) field.I _ pm.1 in
+    let pi = none_first (has_wrong_inputs p i) field.I _ pm.1 in
     let pl = none_first (not (l == 0)) field.L _ pi.1 in
-    let po = none_first (o == 0 || nat_lt i o) field.O _ pl.1 in
+    let po = none_first (has_wrong_outputs p i o) field.O _ pl.1 in
     let pa = none_first (has_wrong_room form m (i + a)) field.A _ po.1 in
-    let i1 = or_false (not (i % 2 == 0)) (i == 0 || nat_lt 128 i) pi.0 in
-    let i2 = or_false (i == 0) (nat_lt 128 i) i1.1 in
-    let not_zero = eqb-false i 0 i2.0 in
-    let o1 = or_false (o == 0) (nat_lt i o) po.0 in
+    let inputs = inputs_from p i pi.0 in
+    let o1 = or_false (o == 0) (nat_lt (most_outputs p i) o) po.0 in
     let not_none = eqb-false o 0 o1.0 in
     let room = room_from form m (i + a) pa.0 in
     record {
@@ -85,34 +94,32 @@ accepted form (m ∷ i ∷ l ∷ o ∷ a ∷ others) many few h =
       all_zero = zeros_from (field.B ∷ field.C ∷ field.J ∷ field.F ∷ []) others (omega arith) pa.1;
       is = ap (λ x. m ∷ i ∷ x ∷ o ∷ a ∷ others) (eqb-true l 0 (not_false (l == 0) pl.0));
       max = ltb-false 4194303 m pm.0;
-      even = eqb-true (i % 2) 0 (not_false (i % 2 == 0) i1.0);
-      some = omega arith;
-      few = ltb-false 128 i i2.1;
+      step = inputs.0;
+      some = inputs.1;
+      few = inputs.2;
       some_outputs = omega arith;
-      outputs = ltb-false i o o1.1;
+      outputs = ltb-false (most_outputs p i) o o1.1;
       room = room.0;
       full = room.1;
     }
 
-pub none_refused : (form : Form) (m i o a : ℕ) (zeros : List ℕ) → AllByRecursion (λ z. z ≡ 0) zeros → m ≤ 4194303 → i % 2 ≡ 0 → 0 < i → i ≤ 128 → 0 < o → o ≤ i → i + a ≤ m → (form ≡ Binary → m ≡ i + a) →
-    refused_field form ((m ∷ i ∷ 0 ∷ o ∷ a ∷ []) ++ zeros) ≡ None
-none_refused form m i o a zeros all max even some few some_outputs most room full =
-    let last : Option Field = first_refused (zero_fields (field.B ∷ field.C ∷ field.J ∷ field.F ∷ []) zeros) in
-    ap (λ b. cond b (Some field.M) (cond (not (i % 2 == 0) || (i == 0 || nat_lt 128 i)) (Some field.I) (cond (o == 0 || nat_lt i o) (Some field.O) (cond (has_wrong_room form m (i + a)) (Some field.A) (first_refused (zero_fields (field.B ∷ field.C ∷ field.J ∷ field.F ∷ []) zeros)))))) (not_below 4194303 m max) ∙
-    ap (λ b. cond (not b || (i == 0 || nat_lt 128 i)) (Some field.I) (cond (o == 0 || nat_lt i o) (Some field.O) (cond (has_wrong_room form m (i + a)) (Some field.A) (first_refused (zero_fields (field.B ∷ field.C ∷ field.J ∷ field.F ∷ []) zeros))))) (eq-eqb (i % 2) 0 even) ∙
-    ap₂ (λ b c. cond (b || c) (Some field.I) (cond (o == 0 || nat_lt i o) (Some field.O) (cond (has_wrong_room form m (i + a)) (Some field.A) (first_refused (zero_fields (field.B ∷ field.C ∷ field.J ∷ field.F ∷ []) zeros))))) (ne_eqb i 0 (omega arith)) (not_below 128 i few) ∙
-    ap₂ (λ b c. cond (b || c) (Some field.O) (cond (has_wrong_room form m (i + a)) (Some field.A) (first_refused (zero_fields (field.B ∷ field.C ∷ field.J ∷ field.F ∷ []) zeros)))) (ne_eqb o 0 (omega arith)) (not_below i o most) ∙
+pub none_refused : (p : Profile) (form : Form) (m i o a : ℕ) (zeros : List ℕ) → AllByRecursion (λ z. z ≡ 0) zeros → m ≤ 4194303 → i % input_step p ≡ 0 → least_inputs p ≤ i → i ≤ most_inputs p → 0 < o →
+    o ≤ most_outputs p i → i + a ≤ m → (form ≡ Binary → m ≡ i + a) → refused_field p form ((m ∷ i ∷ 0 ∷ o ∷ a ∷ []) ++ zeros) ≡ None
+none_refused p form m i o a zeros all max step some few some_outputs most room full =
+    ap (λ b. cond b (Some field.M) (cond (has_wrong_inputs p i) (Some field.I) (cond (has_wrong_outputs p i o) (Some field.O) (cond (has_wrong_room form m (i + a)) (Some field.A) (first_refused (zero_fields (field.B ∷ field.C ∷ field.J ∷ field.F ∷ []) zeros)))))) (not_below 4194303 m max) ∙
+    ap (λ b. cond b (Some field.I) (cond (has_wrong_outputs p i o) (Some field.O) (cond (has_wrong_room form m (i + a)) (Some field.A) (first_refused (zero_fields (field.B ∷ field.C ∷ field.J ∷ field.F ∷ []) zeros))))) (inputs_back p i step some few) ∙
+    ap₂ (λ b c. cond (b || c) (Some field.O) (cond (has_wrong_room form m (i + a)) (Some field.A) (first_refused (zero_fields (field.B ∷ field.C ∷ field.J ∷ field.F ∷ []) zeros)))) (ne_eqb o 0 (omega arith)) (not_below (most_outputs p i) o most) ∙
     ap (λ b. cond b (Some field.A) (first_refused (zero_fields (field.B ∷ field.C ∷ field.J ∷ field.F ∷ []) zeros))) (room_back form m (i + a) room full) ∙
     zeros_back (field.B ∷ field.C ∷ field.J ∷ field.F ∷ []) zeros all
 
 -- ---- lists as a header with a rest
 
-abbrev pub Splits : List ℕ → Listing → Type 0
-Splits bytes g = (form : Form) × (numbers rest : List ℕ) × HasHeader bytes form numbers rest × (refused_field form numbers ≡ None) × IsRest form (counts_of numbers) g rest
+abbrev pub Splits : Profile → List ℕ → Listing → Type 0
+Splits p bytes g = (form : Form) × (numbers rest : List ℕ) × HasHeader bytes form numbers rest × (refused_field p form numbers ≡ None) × IsRest form (counts_of numbers) g rest
 
-header_fields : (form : Form) (g : Listing) (numbers : List ℕ) → IsHeader g numbers → HasMultiplierCounts g → (form ≡ Binary → g.max ≡ length g.inputs + length g.gates) → refused_field form numbers ≡ None
-header_fields form g numbers h c full =
-    ap (refused_field form) h.3 ∙ none_refused form g.max (length g.inputs) (length g.outputs) (length g.gates) h.0 h.2 c.max c.even c.some c.few c.some_outputs c.outputs c.room full
+header_fields : (p : Profile) (form : Form) (g : Listing) (numbers : List ℕ) → IsHeader g numbers → HasCounts p g → (form ≡ Binary → g.max ≡ length g.inputs + length g.gates) → refused_field p form numbers ≡ None
+header_fields p form g numbers h c full =
+    ap (refused_field p form) h.3 ∙ none_refused p form g.max (length g.inputs) (length g.outputs) (length g.gates) h.0 h.2 c.max c.step c.some c.few c.some_outputs c.outputs c.room full
 
 header_counts : (g : Listing) (numbers : List ℕ) → IsHeader g numbers → counts g ≡ counts_of numbers
 header_counts g numbers h = ap counts_of (sym h.3)
@@ -125,60 +132,60 @@ header_many g numbers h =
     many : (a b c d e : ℕ) (zs : List ℕ) → length zs ≤ 4 → (5 ≤ length ((a ∷ b ∷ c ∷ d ∷ e ∷ []) ++ zs)) × (length ((a ∷ b ∷ c ∷ d ∷ e ∷ []) ++ zs) ≤ 9)
     many a b c d e zs h = (omega arith, omega arith)
 
-split_from : (form : Form) (bytes : List ℕ) (g : Listing) (after numbers line text rest : List ℕ) → IsTail (counts g) after → HasMultiplierCounts g → (form ≡ Binary → g.max ≡ length g.inputs + length g.gates) → IsHeader g numbers →
-    IsLine line numbers → text ≡ line ++ rest → bytes ≡ letters form ++ text → IsBody form g rest after → Splits bytes g
-split_from form bytes g after numbers line text rest tail c full header is_line split front b =
+split_from : (p : Profile) (form : Form) (bytes : List ℕ) (g : Listing) (after numbers line text rest : List ℕ) → IsTail (counts g) after → HasCounts p g → (form ≡ Binary → g.max ≡ length g.inputs + length g.gates) → IsHeader g numbers →
+    IsLine line numbers → text ≡ line ++ rest → bytes ≡ letters form ++ text → IsBody form g rest after → Splits p bytes g
+split_from p form bytes g after numbers line text rest tail c full header is_line split front b =
     let many = header_many g numbers header in (
       form,
       numbers,
       rest,
       (letters form ++ line, (line, is_line, many.0, many.1, refl), front ∙ ap (λ ys. letters form ++ ys) split ∙ sym (append_assoc (letters form) line rest)),
-      header_fields form g numbers header c full,
+      header_fields p form g numbers header c full,
       (header_counts g numbers header, (after, b, subst (λ d. IsTail d after) (header_counts g numbers header) tail)),
     )
 
-pub lists_split : (bytes : List ℕ) (g : Listing) → Lists bytes g → Splits bytes g
-lists_split bytes g (after, tail, c, inl h) =
-    split_from Ascii bytes g after h.0 h.3.0 h.1 h.3.1 tail c (λ e. absurd (cc)) h.2 h.3.2 h.3.4 h.4 h.3.3
-lists_split bytes g (after, tail, c, inr (h, full)) =
-    split_from Binary bytes g after h.0 h.5.0 h.1 h.5.1 tail c (λ e. full) h.3 h.5.2 h.5.4 h.7 (h.4, (h.2, h.5.3, h.6))
+pub lists_split : (p : Profile) (bytes : List ℕ) (g : Listing) → Lists p bytes g → Splits p bytes g
+lists_split p bytes g (after, tail, c, inl h) =
+    split_from p Ascii bytes g after h.0 h.3.0 h.1 h.3.1 tail c (λ e. absurd (cc)) h.2 h.3.2 h.3.4 h.4 h.3.3
+lists_split p bytes g (after, tail, c, inr (h, full)) =
+    split_from p Binary bytes g after h.0 h.5.0 h.1 h.5.1 tail c (λ e. full) h.3 h.5.2 h.5.4 h.7 (h.4, (h.2, h.5.3, h.6))
 
-counts_header : (form : Form) (g : Listing) (numbers : List ℕ) → AreAccepted form numbers → counts g ≡ counts_of numbers → IsHeader g numbers
-counts_header form g numbers a e = (a.zeros, a.few_zeros, a.all_zero, subst (λ c. numbers ≡ (c.max ∷ c.inputs ∷ 0 ∷ c.outputs ∷ c.gates ∷ []) ++ a.zeros) (sym e) a.is)
+counts_header : (p : Profile) (form : Form) (g : Listing) (numbers : List ℕ) → AreAccepted p form numbers → counts g ≡ counts_of numbers → IsHeader g numbers
+counts_header p form g numbers a e = (a.zeros, a.few_zeros, a.all_zero, subst (λ c. numbers ≡ (c.max ∷ c.inputs ∷ 0 ∷ c.outputs ∷ c.gates ∷ []) ++ a.zeros) (sym e) a.is)
 
--- the counts of a multiplier
-record AreMultiplierCounts (c : Counts) : Type 0 where
+-- the counts of a profile, in a header
+record AreCounts (p : Profile) (c : Counts) : Type 0 where
   max : c.max ≤ 4194303
-  even : c.inputs % 2 ≡ 0
-  some : 0 < c.inputs
-  few : c.inputs ≤ 128
+  step : c.inputs % input_step p ≡ 0
+  some : least_inputs p ≤ c.inputs
+  few : c.inputs ≤ most_inputs p
   some_outputs : 0 < c.outputs
-  outputs : c.outputs ≤ c.inputs
+  outputs : c.outputs ≤ most_outputs p c.inputs
   room : c.inputs + c.gates ≤ c.max
 
-accepted_counts : (form : Form) (g : Listing) (numbers : List ℕ) → AreAccepted form numbers → counts g ≡ counts_of numbers → HasMultiplierCounts g
-accepted_counts form g numbers a e =
-    let c = subst AreMultiplierCounts (sym e) (record { max = a.max; even = a.even; some = a.some; few = a.few; some_outputs = a.some_outputs; outputs = a.outputs; room = a.room }) in
-    record { max = c.max; even = c.even; some = c.some; few = c.few; some_outputs = c.some_outputs; outputs = c.outputs; room = c.room }
+accepted_counts : (p : Profile) (form : Form) (g : Listing) (numbers : List ℕ) → AreAccepted p form numbers → counts g ≡ counts_of numbers → HasCounts p g
+accepted_counts p form g numbers a e =
+    let c = subst (AreCounts p) (sym e) (record { max = a.max; step = a.step; some = a.some; few = a.few; some_outputs = a.some_outputs; outputs = a.outputs; room = a.room }) in
+    record { max = c.max; step = c.step; some = c.some; few = c.few; some_outputs = c.some_outputs; outputs = c.outputs; room = c.room }
 
-join_from : (form : Form) (bytes : List ℕ) (g : Listing) (numbers rest front line after : List ℕ) → AreAccepted form numbers → IsLine line numbers → front ≡ letters form ++ line → bytes ≡ front ++ rest → counts g ≡ counts_of numbers →
-    IsBody form g rest after → IsTail (counts_of numbers) after → Lists bytes g
-join_from Ascii bytes g numbers rest front line after a is_line front_is is e b tail = (
+join_from : (p : Profile) (form : Form) (bytes : List ℕ) (g : Listing) (numbers rest front line after : List ℕ) → AreAccepted p form numbers → IsLine line numbers → front ≡ letters form ++ line → bytes ≡ front ++ rest → counts g ≡ counts_of numbers →
+    IsBody form g rest after → IsTail (counts_of numbers) after → Lists p bytes g
+join_from p Ascii bytes g numbers rest front line after a is_line front_is is e b tail = (
   after,
   subst (λ c. IsTail c after) (sym e) tail,
-  accepted_counts Ascii g numbers a e,
-  inl (numbers, line ++ rest, counts_header Ascii g numbers a e, (line, rest, is_line, b, refl), is ∙ ap (λ ys. ys ++ rest) front_is ∙ append_assoc (letters Ascii) line rest),
+  accepted_counts p Ascii g numbers a e,
+  inl (numbers, line ++ rest, counts_header p Ascii g numbers a e, (line, rest, is_line, b, refl), is ∙ ap (λ ys. ys ++ rest) front_is ∙ append_assoc (letters Ascii) line rest),
 )
-join_from Binary bytes g numbers rest front line after a is_line front_is is e b tail = (
+join_from p Binary bytes g numbers rest front line after a is_line front_is is e b tail = (
   after,
   subst (λ c. IsTail c after) (sym e) tail,
-  accepted_counts Binary g numbers a e,
+  accepted_counts p Binary g numbers a e,
   inr (
-    (numbers, line ++ rest, b.1.0, counts_header Binary g numbers a e, b.0, (line, rest, is_line, b.1.1, refl), b.1.2, is ∙ ap (λ ys. ys ++ rest) front_is ∙ append_assoc (letters Binary) line rest),
+    (numbers, line ++ rest, b.1.0, counts_header p Binary g numbers a e, b.0, (line, rest, is_line, b.1.1, refl), b.1.2, is ∙ ap (λ ys. ys ++ rest) front_is ∙ append_assoc (letters Binary) line rest),
     subst (λ c. c.max ≡ c.inputs + c.gates) (sym e) (a.full refl),
   ),
 )
 
-pub lists_join : (bytes : List ℕ) (g : Listing) → Splits bytes g → Lists bytes g
-lists_join bytes g (form, numbers, rest, (front, (line, is_line, many, few, front_is), is), none, (e, (after, b, tail))) =
-    join_from form bytes g numbers rest front line after (accepted form numbers many few none) is_line front_is is e b tail
+pub lists_join : (p : Profile) (bytes : List ℕ) (g : Listing) → Splits p bytes g → Lists p bytes g
+lists_join p bytes g (form, numbers, rest, (front, (line, is_line, many, few, front_is), is), none, (e, (after, b, tail))) =
+    join_from p form bytes g numbers rest front line after (accepted p form numbers many few none) is_line front_is is e b tail

@@ -9,7 +9,7 @@ use Rattle.graph_core.specs.declared.literal.Lit.{Lit}
 use Rattle.graph_core.specs.declared.gate.Gate.{Gate}
 use Rattle.graph_core.specs.Graph.Literals.{variable_of}
 use Rattle.graph_core.specs.Graph.{IsDefinedOnce, IsAcyclic, defined, read_literals}
-use Rattle.graph_core.specs.Aiger.{Listing, graph_of, AreConsecutive, ArePackedGates, IsPacked, HasMultiplierCounts, IsFaultless}
+use Rattle.graph_core.specs.Aiger.{Listing, graph_of, AreConsecutive, ArePackedGates, IsPacked, IsFaultless}
 
 -- the numbers k, k + 1, ..
 abbrev pub Counts : ℕ → List ℕ → Type 0
@@ -144,5 +144,5 @@ module _ (g : Listing) (packed : IsPacked g) where
     };
   }
 
-pub packed_is_faultless : (g : Listing) → HasMultiplierCounts g → IsPacked g → IsFaultless g
-packed_is_faultless g counts packed = packed_faultless g packed
+pub packed_is_faultless : (g : Listing) → IsPacked g → IsFaultless g
+packed_is_faultless g packed = packed_faultless g packed

@@ -3,6 +3,7 @@ use Rattle.std.specs.Prelude.{◌≡◌, ℕ, zero, suc, ◌+◌, ◌<◌, ◌�
 use Rattle.std.proofs.Common.{refl, sym, ap, subst, ◌∙◌, arith, append_assoc, append-nil, length-append, inl, inr}
 use Rattle.std.proofs.Math.Seq.{take-append_seam}
 use Rattle.graph_core.specs.declared.fault.Field.{Field}
+use Rattle.graph_core.specs.declared.profile.Profile.{Profile}
 use Rattle.graph_core.specs.Aiger.{Form, Counts, Listing, Lists}
 use Rattle.graph_core.specs.Aiger.Refusal.{refused_field, counts_of, IsHeaderText, HasHeader, IsHeaderLine, Begins, IsLongest, IsRestOrWrong, IsRestRefusal, Refusal, Text, Header, IsRefusal}
 use Rattle.graph_core.specs.Aiger.Reading.{Stop, Stops, Wrong, left_of, header_at, rest_at, place, or_text, behind_fields, behind_header, lists_at, ListsAreRead}
@@ -111,78 +112,78 @@ module _ (form : Form) (c : Counts) where
 
 -- ---- the file
 
-pub lists_take : (bytes : List ℕ) (g : Listing) → lists_at bytes ≡ Ok g → Lists bytes g
-lists_take bytes g h = go (header_at bytes) refl h
+pub lists_take : (p : Profile) (bytes : List ℕ) (g : Listing) → lists_at p bytes ≡ Ok g → Lists p bytes g
+lists_take p bytes g h = go (header_at bytes) refl h
   where
     rest_step : (form : Form) (numbers rest : List ℕ) (o : Result Listing Stop) → or_text bytes o ≡ Ok g → o ≡ Ok g
     rest_step form numbers rest (Ok x) f = ap Ok (same_Ok x g f)
     rest_step form numbers rest (Err e) f = absurd (cc)
 
-    field_step : (form : Form) (numbers rest : List ℕ) → HasHeader bytes form numbers rest → (o : Option Field) → refused_field form numbers ≡ o → behind_fields bytes form numbers rest o ≡ Ok g → Splits bytes g
+    field_step : (form : Form) (numbers rest : List ℕ) → HasHeader bytes form numbers rest → (o : Option Field) → refused_field p form numbers ≡ o → behind_fields bytes form numbers rest o ≡ Ok g → Splits p bytes g
     field_step form numbers rest header None e f = (form, numbers, rest, header, e, rest_takes form (counts_of numbers) rest g (rest_step form numbers rest (rest_at form (counts_of numbers) rest) f))
     field_step form numbers rest header (Some x) e f = absurd (cc)
 
-    go : (o : Result ((Form × List ℕ) × List ℕ) Stop) → header_at bytes ≡ o → behind_header bytes o ≡ Ok g → Lists bytes g
-    go (Ok x) e f = lists_join bytes g (field_step x.0.0 x.0.1 x.1 (header_takes bytes x.0.0 x.0.1 x.1 e) (refused_field x.0.0 x.0.1) refl f)
+    go : (o : Result ((Form × List ℕ) × List ℕ) Stop) → header_at bytes ≡ o → behind_header p bytes o ≡ Ok g → Lists p bytes g
+    go (Ok x) e f = lists_join p bytes g (field_step x.0.0 x.0.1 x.1 (header_takes bytes x.0.0 x.0.1 x.1 e) (refused_field p x.0.0 x.0.1) refl f)
     go (Err x) e f = absurd (cc)
 
 -- reading behind a header of which no field is refused
-pub behind_good : (bytes : List ℕ) (form : Form) (numbers rest : List ℕ) → HasHeader bytes form numbers rest → refused_field form numbers ≡ None → lists_at bytes ≡ or_text bytes (rest_at form (counts_of numbers) rest)
-behind_good bytes form numbers rest header none =
-    ap (behind_header bytes) (has_header_read bytes form numbers rest header) ∙ ap (behind_fields bytes form numbers rest) none
+pub behind_good : (p : Profile) (bytes : List ℕ) (form : Form) (numbers rest : List ℕ) → HasHeader bytes form numbers rest → refused_field p form numbers ≡ None → lists_at p bytes ≡ or_text bytes (rest_at form (counts_of numbers) rest)
+behind_good p bytes form numbers rest header none =
+    ap (behind_header p bytes) (has_header_read bytes form numbers rest header) ∙ ap (behind_fields bytes form numbers rest) none
 
-pub lists_again : (bytes : List ℕ) (g : Listing) → Lists bytes g → lists_at bytes ≡ Ok g
-lists_again bytes g h =
-    let s = lists_split bytes g h in
-    behind_good bytes s.0 s.1 s.2 s.3 s.4 ∙ ap (or_text bytes) (rest_again s.0 (counts_of s.1) s.2 g s.5)
+pub lists_again : (p : Profile) (bytes : List ℕ) (g : Listing) → Lists p bytes g → lists_at p bytes ≡ Ok g
+lists_again p bytes g h =
+    let s = lists_split p bytes g h in
+    behind_good p bytes s.0 s.1 s.2 s.3 s.4 ∙ ap (or_text bytes) (rest_again s.0 (counts_of s.1) s.2 g s.5)
 
 pub lists_are_read : ListsAreRead
-lists_are_read bytes g = (lists_take bytes g, lists_again bytes g)
+lists_are_read p bytes g = (lists_take p bytes g, lists_again p bytes g)
 
-pub lists_refused : (bytes : List ℕ) (r : Refusal) → lists_at bytes ≡ Err r → IsRefusal bytes r
-lists_refused bytes r h = go (header_at bytes) refl h
+pub lists_refused : (p : Profile) (bytes : List ℕ) (r : Refusal) → lists_at p bytes ≡ Err r → IsRefusal p bytes r
+lists_refused p bytes r h = go (header_at bytes) refl h
   where
     text_at : (n : ℕ) (e : Stop) → n + length (left_of e) ≡ length bytes → n ≡ place bytes (left_of e)
     text_at n e l = omega arith
 
-    rest_step : (form : Form) (numbers rest : List ℕ) → HasHeader bytes form numbers rest → refused_field form numbers ≡ None → (o : Result Listing Stop) → rest_at form (counts_of numbers) rest ≡ o → or_text bytes o ≡ Err r → IsRefusal bytes r
+    rest_step : (form : Form) (numbers rest : List ℕ) → HasHeader bytes form numbers rest → refused_field p form numbers ≡ None → (o : Result Listing Stop) → rest_at form (counts_of numbers) rest ≡ o → or_text bytes o ≡ Err r → IsRefusal p bytes r
     rest_step form numbers rest header none (Ok x) e f = absurd (cc)
     rest_step form numbers rest header none (Err x) e f =
         let d = rest_refused form (counts_of numbers) rest x e in
         let long : length bytes ≡ length header.0 + length rest = ap length header.2 ∙ length-append header.0 rest in
         let len : d.0 + length (left_of x) ≡ length rest = d.2 in
-        subst (IsRefusal bytes) (same_Err (Text (place bytes (left_of x))) r f) (inr (form, numbers, rest, d.0, header, none, d.1, omega arith))
+        subst (IsRefusal p bytes) (same_Err (Text (place bytes (left_of x))) r f) (inr (form, numbers, rest, d.0, header, none, d.1, omega arith))
 
-    field_step : (form : Form) (numbers rest : List ℕ) → HasHeader bytes form numbers rest → (o : Option Field) → refused_field form numbers ≡ o → behind_fields bytes form numbers rest o ≡ Err r → IsRefusal bytes r
+    field_step : (form : Form) (numbers rest : List ℕ) → HasHeader bytes form numbers rest → (o : Option Field) → refused_field p form numbers ≡ o → behind_fields bytes form numbers rest o ≡ Err r → IsRefusal p bytes r
     field_step form numbers rest header None e f = rest_step form numbers rest header e (rest_at form (counts_of numbers) rest) refl f
-    field_step form numbers rest header (Some x) e f = subst (IsRefusal bytes) (same_Err (Header x) r f) (form, numbers, rest, header, e)
+    field_step form numbers rest header (Some x) e f = subst (IsRefusal p bytes) (same_Err (Header x) r f) (form, numbers, rest, header, e)
 
-    go : (o : Result ((Form × List ℕ) × List ℕ) Stop) → header_at bytes ≡ o → behind_header bytes o ≡ Err r → IsRefusal bytes r
-    go (Ok x) e f = field_step x.0.0 x.0.1 x.1 (header_takes bytes x.0.0 x.0.1 x.1 e) (refused_field x.0.0 x.0.1) refl f
+    go : (o : Result ((Form × List ℕ) × List ℕ) Stop) → header_at bytes ≡ o → behind_header p bytes o ≡ Err r → IsRefusal p bytes r
+    go (Ok x) e f = field_step x.0.0 x.0.1 x.1 (header_takes bytes x.0.0 x.0.1 x.1 e) (refused_field p x.0.0 x.0.1) refl f
     go (Err (Wrong here)) e f = absurd (header_not_wrong bytes here e)
     go (Err (Stops rest)) e f =
         let l = header_longest bytes rest e in
         let none : (form : Form) (numbers left : List ℕ) → HasHeader bytes form numbers left → ⊥ = λ form numbers left header. let both = sym (has_header_read bytes form numbers left header) ∙ e in cc in
-        subst (IsRefusal bytes) (same_Err (Text (place bytes rest)) r f) (inl (none, subst (IsLongest IsHeaderLine bytes) (text_at l.0 (Stops rest) l.2) l.1))
+        subst (IsRefusal p bytes) (same_Err (Text (place bytes rest)) r f) (inl (none, subst (IsLongest IsHeaderLine bytes) (text_at l.0 (Stops rest) l.2) l.1))
 
-pub text_refused : (bytes : List ℕ) (p : ℕ) → IsRefusal bytes (Text p) → lists_at bytes ≡ Err (Text p)
-text_refused bytes p (inl h) = go (header_at bytes) refl
+pub text_refused : (p : Profile) (bytes : List ℕ) (at : ℕ) → IsRefusal p bytes (Text at) → lists_at p bytes ≡ Err (Text at)
+text_refused p bytes at (inl h) = go (header_at bytes) refl
   where
-    go : (o : Result ((Form × List ℕ) × List ℕ) Stop) → header_at bytes ≡ o → lists_at bytes ≡ Err (Text p)
+    go : (o : Result ((Form × List ℕ) × List ℕ) Stop) → header_at bytes ≡ o → lists_at p bytes ≡ Err (Text at)
     go (Ok x) e = absurd (h.0 x.0.0 x.0.1 x.1 (header_takes bytes x.0.0 x.0.1 x.1 e))
     go (Err (Wrong here)) e = absurd (header_not_wrong bytes here e)
     go (Err (Stops rest)) e =
         let l = header_longest bytes rest e in
-        let one = longest_one IsHeaderLine bytes p l.0 h.1 l.1 in
+        let one = longest_one IsHeaderLine bytes at l.0 h.1 l.1 in
         let len : l.0 + length rest ≡ length bytes = l.2 in
-        let at : place bytes rest ≡ p = omega arith in
-        ap (behind_header bytes) e ∙ ap (λ n. Err (Text n)) at
-text_refused bytes p (inr (form, numbers, rest, n, header, none, refused, at)) =
+        let here : place bytes rest ≡ at = omega arith in
+        ap (behind_header p bytes) e ∙ ap (λ n. Err (Text n)) here
+text_refused p bytes at (inr (form, numbers, rest, n, header, none, refused, is)) =
     let r = rest_refusal form (counts_of numbers) rest n refused in
     let len : n + length (left_of r.0) ≡ length rest = r.2 in
-    let here : place bytes (left_of r.0) ≡ p = omega arith in
-    behind_good bytes form numbers rest header none ∙ ap (or_text bytes) r.1 ∙ ap (λ m. Err (Text m)) here
+    let here : place bytes (left_of r.0) ≡ at = omega arith in
+    behind_good p bytes form numbers rest header none ∙ ap (or_text bytes) r.1 ∙ ap (λ m. Err (Text m)) here
 
-pub header_refused : (bytes : List ℕ) (f : Field) → IsRefusal bytes (Header f) → lists_at bytes ≡ Err (Header f)
-header_refused bytes f (form, numbers, rest, header, refused) =
-    ap (behind_header bytes) (has_header_read bytes form numbers rest header) ∙ ap (behind_fields bytes form numbers rest) refused
+pub header_refused : (p : Profile) (bytes : List ℕ) (f : Field) → IsRefusal p bytes (Header f) → lists_at p bytes ≡ Err (Header f)
+header_refused p bytes f (form, numbers, rest, header, refused) =
+    ap (behind_header p bytes) (has_header_read bytes form numbers rest header) ∙ ap (behind_fields bytes form numbers rest) refused

@@ -3,7 +3,7 @@ use Rattle.std.proofs.Common.{refl, arith}
 use Rattle.std.specs.Prelude.{◌++◌, ◌≤◌, length, codes}
 use Rattle.std.specs.Prelude.{None, Some, Ok}
 use Rattle.std.proofs.lemmas.List.Elements.{All-from_recursion}
-use Rattle.graph_core.specs.Aiger.{Listing, IsPacked, HasMultiplierCounts, Spells}
+use Rattle.graph_core.specs.Aiger.{Listing, IsPacked, Spells}
 use Rattle.graph_core.specs.Aiger.Reading.{header_at, ascii_at, rest_at, lists_at}
 use Rattle.graph_core.proofs.OfAiger.Refusals.{lists_are_read}
 use Rattle.graph_core.proofs.OfAiger.Packed.{packed_is_faultless}
@@ -13,6 +13,7 @@ use Rattle.graph_core.specs.Graph.Literals.{variable_of}
 use Rattle.graph_core.specs.Aiger.{graph_of}
 use Rattle.graph_core.specs.Aiger.Refusal.{first_above, first_no_left, first_repeated, first_undefined, left_sides}
 use Rattle.graph_core.specs.declared.gate.Gate.{Gate}
+use Rattle.graph_core.specs.declared.profile.Profile.TheVariants.{Multiplier}
 use Rattle.graph_core.specs.declared.order.Order.TheVariants.{Separate, Interleaved}
 use Rattle.graph_core.specs.Graph.{Aig}
 use Rattle.graph_core.specs.Graph.Operands.{value_on}
@@ -64,18 +65,15 @@ one_bit_length : length one_bit_text ≡ 28
 one_bit_length = refl
 
 -- the graph of the one-bit multiplier is what its text spells
-one_bit_is_read : lists_at one_bit_text ≡ Ok one_bit_listing
+one_bit_is_read : lists_at Multiplier one_bit_text ≡ Ok one_bit_listing
 unfolding header_at rest_at ascii_at
 one_bit_is_read = refl
-
-one_bit_counts : HasMultiplierCounts one_bit_listing
-one_bit_counts = record { max = omega arith; even = refl; some = omega arith; few = omega arith; some_outputs = omega arith; outputs = omega arith; room = omega arith }
 
 one_bit_packed : IsPacked one_bit_listing
 one_bit_packed = record { inputs = (refl, (refl, tt)); gates = (refl, omega arith, omega arith, tt); max = refl; outputs = All-from_recursion (λ l. l.0 ≤ 7) (map lit (6 ∷ 0 ∷ [])) (omega arith, (omega arith, tt)) }
 
-pub one_bit_is_spelled : Spells one_bit_text one_bit
-one_bit_is_spelled = (one_bit_listing, (lists_are_read one_bit_text one_bit_listing).0 one_bit_is_read, packed_is_faultless one_bit_listing one_bit_counts one_bit_packed, refl)
+pub one_bit_is_spelled : Spells Multiplier one_bit_text one_bit
+one_bit_is_spelled = (one_bit_listing, (lists_are_read Multiplier one_bit_text one_bit_listing).0 one_bit_is_read, packed_is_faultless one_bit_listing one_bit_packed, refl)
 
 -- the text of the two-bit multiplier lists its graph
 abbrev pub two_bits_text : List ℕ
@@ -84,7 +82,7 @@ two_bits_text = concat ((codes "aag 14 4 0 4 10" ++ line_feed) ∷ (codes "2" ++
 abbrev pub two_bits_listing : Listing
 two_bits_listing = record { max = 14; inputs = map lit (2 ∷ 4 ∷ 6 ∷ 8 ∷ []); outputs = map lit (10 ∷ 22 ∷ 28 ∷ 24 ∷ []); gates = (lit 10, lit 6, lit 2) ∷ (lit 12, lit 6, lit 4) ∷ (lit 14, lit 8, lit 2) ∷ (lit 16, lit 8, lit 4) ∷ (lit 18, lit 14, lit 12) ∷ (lit 20, lit 15, lit 13) ∷ (lit 22, lit 21, lit 19) ∷ (lit 24, lit 18, lit 16) ∷ (lit 26, lit 19, lit 17) ∷ (lit 28, lit 27, lit 25) ∷ [] }
 
-two_bits_is_read : lists_at two_bits_text ≡ Ok two_bits_listing
+two_bits_is_read : lists_at Multiplier two_bits_text ≡ Ok two_bits_listing
 unfolding header_at rest_at ascii_at
 two_bits_is_read = refl
 

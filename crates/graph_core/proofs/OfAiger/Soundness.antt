@@ -1,36 +1,65 @@
 -- A graph on whose evaluations the specification vanishes meets the claim.
-use Rattle.std.specs.Prelude.{ℕ, List}
+use Rattle.std.specs.Prelude.{ℕ, ◌≤◌, Bool, true, false, List}
 use Rattle.std.proofs.Common.{sym, subst, arith}
+use Rattle.graph_core.specs.declared.profile.Profile.{Profile}
+use Rattle.graph_core.specs.declared.profile.Profile.TheVariants.{Multiplier, MultiplyAdd, Any}
 use Rattle.graph_core.specs.Graph.{Aig, IsWellFormed}
-use Rattle.graph_core.specs.Graph.Operands.{HasMultiplierShape, sides_of}
+use Rattle.graph_core.specs.Graph.Operands.{HasMultiplierShape, HasSumShape, HasShapeFor, profile_of, sides_of, width_for}
 use Rattle.graph_core.specs.Graph.Extended.{without_cut}
-use Rattle.graph_core.specs.Aiger.{Listing, HasMultiplierCounts, Spells, graph_of}
-use Rattle.graph_core.specs.Aiger.Soundness.{IsMultiplierSized, SpelledShape, VanishingMeetsClaim, VanishingMultiplies}
+use Rattle.graph_core.specs.Aiger.{Listing, HasCounts, Spells, graph_of}
+use Rattle.graph_core.specs.Aiger.Soundness.{IsSizedAs, SpelledShape, VanishingMeetsClaim, VanishingMultiplies}
 use Rattle.graph_core.proofs.OfAlgebra.Sound.{vanishing_means_claim}
 use Rattle.graph_core.proofs.OfGraphs.Multiplies.{claim_is_product, evaluations_suffice}
 
-pub shape_of : (g : Listing) → HasMultiplierCounts g → HasMultiplierShape (graph_of g)
-shape_of g counts = record { inputs = omega (arith, counts.even); some_outputs = omega (arith, counts.some_outputs); outputs = omega (arith, counts.even, counts.outputs) }
+pub shape_of : (g : Listing) → HasCounts Multiplier g → HasMultiplierShape (graph_of g)
+shape_of g counts = record { inputs = omega (arith, counts.step); some_outputs = omega (arith, counts.some_outputs); outputs = omega (arith, counts.step, counts.outputs) }
 
-pub well_formed : (bytes : List ℕ) (g : Aig) → Spells bytes g → IsWellFormed g
-well_formed bytes g spells = subst IsWellFormed (sym spells.3) spells.2.graph
+pub sum_shape_of : (g : Listing) → HasCounts MultiplyAdd g → HasSumShape (graph_of g)
+sum_shape_of g counts = record { inputs = omega (arith, counts.step); some_outputs = omega (arith, counts.some_outputs); outputs = omega (arith, counts.step, counts.outputs) }
+
+pub well_formed : (p : Profile) (bytes : List ℕ) (g : Aig) → Spells p bytes g → IsWellFormed g
+well_formed p bytes g spells = subst IsWellFormed (sym spells.3) spells.2.graph
 
 pub vanishing_meets_claim : VanishingMeetsClaim
-vanishing_meets_claim bytes g s spells vanishes =
-    let well = well_formed bytes g spells in
+vanishing_meets_claim p bytes g s spells vanishes =
+    let well = well_formed p bytes g spells in
     evaluations_suffice g s well.defined_once well.acyclic (λ σ evaluates. vanishing_means_claim (without_cut g) s σ (vanishes σ evaluates))
 
 pub vanishing_multiplies : VanishingMultiplies
 vanishing_multiplies bytes g order spells vanishes =
     let shape : HasMultiplierShape g = subst HasMultiplierShape (sym spells.3) (shape_of spells.0 spells.1.2) in
-    (claim_is_product g order shape (well_formed bytes g spells).defined_once).0 (vanishing_meets_claim bytes g (sides_of order g) spells vanishes)
+    (claim_is_product g order shape (well_formed Multiplier bytes g spells).defined_once).0 (vanishing_meets_claim Multiplier bytes g (sides_of order g) spells vanishes)
 
-sized : (g : Listing) → HasMultiplierCounts g → IsMultiplierSized (graph_of g)
-sized g counts =
-    let even = counts.even in
+sized : (p : Profile) (g : Listing) → HasCounts p g → IsSizedAs p (graph_of g)
+sized Multiplier g counts =
+    let step = counts.step in
     let some = counts.some in
     let few = counts.few in
     record { shape = shape_of g counts; some = omega arith; narrow = omega arith; small = counts.max }
+sized MultiplyAdd g counts =
+    let step = counts.step in
+    let some = counts.some in
+    let few = counts.few in
+    record { shape = sum_shape_of g counts; some = omega arith; narrow = omega arith; small = counts.max }
+sized Any g counts = record { few_inputs = counts.few; some_outputs = omega (arith, counts.some_outputs); few_outputs = counts.outputs; small = counts.max }
 
 pub spelled_shape : SpelledShape
-spelled_shape bytes g spells = subst IsMultiplierSized (sym spells.3) (sized spells.0 spells.1.2)
+spelled_shape p bytes g spells = subst (IsSizedAs p) (sym spells.3) (sized p spells.0 spells.1.2)
+
+-- the shape that a claim asks for is that of its profile
+pub shape_for : (add : Bool) (g : Aig) → IsSizedAs (profile_of add) g → HasShapeFor add g
+shape_for false g sized = sized.shape
+shape_for true g sized = sized.shape
+
+-- and so is the width
+pub narrow_for : (add : Bool) (g : Aig) → IsSizedAs (profile_of add) g → width_for add g ≤ 64
+narrow_for false g sized = sized.narrow
+narrow_for true g sized = sized.narrow
+
+pub some_for : (add : Bool) (g : Aig) → IsSizedAs (profile_of add) g → 1 ≤ width_for add g
+some_for false g sized = sized.some
+some_for true g sized = sized.some
+
+pub small_for : (add : Bool) (g : Aig) → IsSizedAs (profile_of add) g → g.max ≤ 4194303
+small_for false g sized = sized.small
+small_for true g sized = sized.small

@@ -8,10 +8,12 @@ use Rattle.std.proofs.lemmas.List.Sums.{fold_push}
 use Rattle.std.proofs.lemmas.List.Elements.{All-from_recursion, recursion_from_All, All-append}
 use Rattle.graph_core.specs.declared.literal.Lit.{Lit}
 use Rattle.graph_core.specs.declared.gate.Gate.{Gate}
+use Rattle.graph_core.specs.declared.profile.Profile.{Profile}
+use Rattle.graph_core.specs.declared.profile.Profile.TheVariants.{Multiplier, MultiplyAdd, Any}
 use Rattle.graph_core.specs.Graph.Literals.{variable_of}
 use Rattle.graph_core.specs.Text.{IsDigit, IsNumeral, IsLine, AreLines, decimal}
 use Rattle.graph_core.specs.Graph.{Aig, IsWellFormed, IsAcyclic, greater_first, SameUpToOperands, read_literals, defined}
-use Rattle.graph_core.specs.Aiger.{graph_of, body, IsGroups, AreBinaryGates, ArePackedGates, IsPacked, HasMultiplierCounts, IsFaultless, Lists}
+use Rattle.graph_core.specs.Aiger.{graph_of, body, IsGroups, AreBinaryGates, ArePackedGates, IsPacked, most_inputs, most_outputs, HasCounts, IsFaultless, Lists}
 use Rattle.graph_core.specs.Aiger.Writing.{digits_upto, numeral, line_of, written_gate, written, header_of, ascii_text, groups_upto, gate_bytes, binary_text, AsciiTextSpells, BinaryTextSpells}
 use Rattle.graph_core.proofs.OfTexts.Numerals.{not_below}
 use Rattle.graph_core.proofs.OfGraphs.Levels.{In, all_in, all_from_in}
@@ -287,11 +289,16 @@ good_append : (xs ys : List (List ℕ)) → AllByRecursion IsGood xs → AllByRe
 good_append [] ys a b = b
 good_append (x ∷ xs) ys a b = (a.0, good_append xs ys a.1 b)
 
-header_good : (g : Aig) → HasMultiplierCounts (written g) → IsGood (header_of g)
-header_good g c =
+few_outputs : (p : Profile) (i : ℕ) → i ≤ most_inputs p → most_outputs p i ≤ 256
+few_outputs Multiplier i h = omega (arith, h)
+few_outputs MultiplyAdd i h = omega (arith, h)
+few_outputs Any i h = omega arith
+
+header_good : (p : Profile) (g : Aig) → HasCounts p (written g) → IsGood (header_of g)
+header_good p g c =
     let max = c.max in
-    let few = c.few in
     let outs = c.outputs in
+    let most = few_outputs p (length g.inputs) c.few in
     let room = c.room in
     let len = length-map g.gates written_gate in
     (omega arith, (omega arith, (omega arith, (omega arith, (omega arith, (omega arith, tt))))))
@@ -310,7 +317,7 @@ small_all max [] a h = tt
 small_all max (l ∷ ls) a h = (small_lit max l a h.0, small_all max ls a h.1)
 
 pub ascii_text_spells : AsciiTextSpells
-ascii_text_spells g w c =
+ascii_text_spells p g w c =
     let max : g.max ≤ 4194303 = c.max in
     let well = sorted_well g w in
     let low : (l : Lit) → In l (g.inputs ++ read_literals (with_sorted g)) → l.0 ≤ 2 * g.max + 1 =
@@ -319,14 +326,14 @@ ascii_text_spells g w c =
     let outputs = all_from_in (λ l. l.0 ≤ 2 * g.max + 1) g.outputs (λ l i. low l (in_right l g.inputs (read_literals (with_sorted g)) (in_left l g.outputs (flat_map operands (map sorted g.gates)) i))) in
     let reads = all_from_in (λ l. l.0 ≤ 2 * g.max + 1) (flat_map operands (map sorted g.gates)) (λ l i. low l (in_right l g.inputs (read_literals (with_sorted g)) (in_right l g.outputs (flat_map operands (map sorted g.gates)) i))) in
     let gates = triples_good g.max g.gates max (recursion_from_All (λ x. x.v ≤ g.max) g.gates w.gates_in_range) reads in
-    (graph_of (written g), (written g, ascii_lists g c (singles_good g.inputs (small_all g.max g.inputs max inputs)) (singles_good g.outputs (small_all g.max g.outputs max outputs)) gates, written_faultless g w, refl), same_graph g)
+    (graph_of (written g), (written g, ascii_lists p g c (singles_good g.inputs (small_all g.max g.inputs max inputs)) (singles_good g.outputs (small_all g.max g.outputs max outputs)) gates, written_faultless g w, refl), same_graph g)
   where
-    ascii_lists : (g : Aig) → HasMultiplierCounts (written g) → AllByRecursion IsGood (map (λ l. l.0 ∷ []) g.inputs) → AllByRecursion IsGood (map (λ l. l.0 ∷ []) g.outputs) →
-        AllByRecursion IsGood (map (λ t. t.0.0 ∷ t.1.0 ∷ t.2.0 ∷ []) (map written_gate g.gates)) → Lists (ascii_text g) (written g)
-    ascii_lists g c a b d =
+    ascii_lists : (p : Profile) (g : Aig) → HasCounts p (written g) → AllByRecursion IsGood (map (λ l. l.0 ∷ []) g.inputs) → AllByRecursion IsGood (map (λ l. l.0 ∷ []) g.outputs) →
+        AllByRecursion IsGood (map (λ t. t.0.0 ∷ t.1.0 ∷ t.2.0 ∷ []) (map written_gate g.gates)) → Lists p (ascii_text g) (written g)
+    ascii_lists p g c a b d =
         let lines : List (List ℕ) = header_of g ∷ body (written g) in
         let good : AllByRecursion IsGood (header_of g ∷ body (written g)) =
-        (header_good g c, good_append (map (λ l. l.0 ∷ []) g.inputs ++ map (λ l. l.0 ∷ []) g.outputs) (map (λ t. t.0.0 ∷ t.1.0 ∷ t.2.0 ∷ []) (map written_gate g.gates)) (good_append (map (λ l. l.0 ∷ []) g.inputs) (map (λ l. l.0 ∷ []) g.outputs) a b) d) in (
+        (header_good p g c, good_append (map (λ l. l.0 ∷ []) g.inputs ++ map (λ l. l.0 ∷ []) g.outputs) (map (λ t. t.0.0 ∷ t.1.0 ∷ t.2.0 ∷ []) (map written_gate g.gates)) (good_append (map (λ l. l.0 ∷ []) g.inputs) (map (λ l. l.0 ∷ []) g.outputs) a b) d) in (
           [],
           ([], [], tt, tt, refl),
           c,
@@ -345,16 +352,16 @@ packed_sorted max left [] a b h = tt
 packed_sorted max left (x ∷ xs) a b h = (h.0, h.1, (sorted_cases x).2, omega arith, packed_sorted max (left + 2) xs a (omega arith) h.3)
 
 pub binary_text_spells : BinaryTextSpells
-binary_text_spells g p c =
+binary_text_spells p g packed c =
     let max : g.max ≤ 4194303 = c.max in
-    let full : g.max ≡ length g.inputs + length (map written_gate g.gates) = p.max in
+    let full : g.max ≡ length g.inputs + length (map written_gate g.gates) = packed.max in
     let len : length (map written_gate g.gates) ≡ length g.gates = length-map g.gates written_gate in
-    let gates = packed_sorted g.max (2 * length g.inputs + 2) g.gates max (omega arith) p.gates in
-    let outputs = singles_good g.outputs (small_all g.max g.outputs max (recursion_from_All (λ l. l.0 ≤ 2 * g.max + 1) g.outputs p.outputs)) in
-    (graph_of (written g), (written g, binary_lists g p c outputs gates, packed_is_faultless (written g) c p, refl), same_graph g)
+    let gates = packed_sorted g.max (2 * length g.inputs + 2) g.gates max (omega arith) packed.gates in
+    let outputs = singles_good g.outputs (small_all g.max g.outputs max (recursion_from_All (λ l. l.0 ≤ 2 * g.max + 1) g.outputs packed.outputs)) in
+    (graph_of (written g), (written g, binary_lists p g packed c outputs gates, packed_is_faultless (written g) packed, refl), same_graph g)
   where
-    binary_lists : (g : Aig) → IsPacked (written g) → HasMultiplierCounts (written g) → AllByRecursion IsGood (map (λ l. l.0 ∷ []) g.outputs) → AreSorted (2 * length g.inputs + 2) (map written_gate g.gates) → Lists (binary_text g) (written g)
-    binary_lists g p c b d =
+    binary_lists : (p : Profile) (g : Aig) → IsPacked (written g) → HasCounts p (written g) → AllByRecursion IsGood (map (λ l. l.0 ∷ []) g.outputs) → AreSorted (2 * length g.inputs + 2) (map written_gate g.gates) → Lists p (binary_text g) (written g)
+    binary_lists p g packed c b d =
         let after : List ℕ = concat (map gate_bytes (map written_gate g.gates)) in (
           [],
           ([], [], tt, tt, refl),
@@ -365,11 +372,11 @@ binary_text_spells g p c =
               concat (map line_of (header_of g ∷ map (λ l. l.0 ∷ []) g.outputs)) ++ concat (map gate_bytes (map written_gate g.gates)),
               concat (map gate_bytes (map written_gate g.gates)),
               ([], omega arith, tt, header_is g),
-              p.inputs,
-              lines_spell (header_of g ∷ map (λ l. l.0 ∷ []) g.outputs) (concat (map gate_bytes (map written_gate g.gates))) (header_good g c, b),
+              packed.inputs,
+              lines_spell (header_of g ∷ map (λ l. l.0 ∷ []) g.outputs) (concat (map gate_bytes (map written_gate g.gates))) (header_good p g c, b),
               gates_spell (2 * length g.inputs + 2) (map written_gate g.gates) d,
               append_assoc (codes "aig ") (concat (map line_of (header_of g ∷ map (λ l. l.0 ∷ []) g.outputs))) (concat (map gate_bytes (map written_gate g.gates))),
             ),
-            p.max,
+            packed.max,
           ),
         )

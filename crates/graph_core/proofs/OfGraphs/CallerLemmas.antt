@@ -1,5 +1,6 @@
 -- What crates above may cite of graphs that are built, of their values and of their operands.
 pub use Rattle.graph_core.proofs.OfGraphs.BuiltFacts.{few_distinct, few_numbers}
+pub use Rattle.graph_core.proofs.OfGraphs.Claims.{claim_is_done, product_at}
 pub use Rattle.graph_core.proofs.OfGraphs.Congruence.{difference_is, difference_plus, product_same, sum_same}
 pub use Rattle.graph_core.proofs.OfGraphs.Decided.{Decided, decided_all, decided_and, decided_as, decided_eq, decided_le, decided_lt, decided_or}
 pub use Rattle.graph_core.proofs.OfGraphs.Evaluation.{Distinct, evaluation_is, evaluation_is_one, finds_none, literal_same, rounds-free, variable-pos, variable_same}
@@ -10,23 +11,25 @@ pub use Rattle.graph_core.proofs.OfGraphs.Levels.{acyclic_levels, level_inverted
 pub use Rattle.graph_core.proofs.OfGraphs.Lists.{all_join, all_split, all_weaker, any_back, any_cases, any_front, any_here, any_nil, any_there}
 pub use Rattle.graph_core.proofs.OfGraphs.LiteralValues.{literal-even, literal-false, literal-inverted, literal-negated, literal-odd, literal-plain, literal-true, variable_of-negated}
 pub use Rattle.graph_core.proofs.OfGraphs.Multiplies.{Apart, a_is, apart_from_pairs, b_is, claim_is, claim_is_product, evaluations_suffice, gates_distinct, inputs_have, length-inputs_of, lits_apart, rest_apart, sides_are_inputs, sides_read_inputs, take-length-append, whole_products}
-pub use Rattle.graph_core.proofs.OfGraphs.OperandBits.{DistinctLits, IsInput, inputs_are, literal-input, number_of}
-pub use Rattle.graph_core.proofs.OfGraphs.OperandPlaces.{a_bits_are, a_part_at, a_place_low, b_bits_are, b_part_at, b_place_low, bit_low, byte_is_bit, length-a_part, length-b_part, number_of-low, parts_are}
+pub use Rattle.graph_core.proofs.OfGraphs.OperandBits.{DistinctLits, IsInput, evens-alternate, inputs_are, length-alternate, length-bits_of, literal-input, number_of, number_of-bits_of, odds-alternate, word_is}
+pub use Rattle.graph_core.proofs.OfGraphs.OperandPlaces.{a_bits_are, a_part_at, a_place_low, b_bits_are, b_part_at, b_place_low, bit_low, bits_of-number_of, byte_is_bit, length-a_part, length-b_part, number_of-low, parts_are}
 pub use Rattle.graph_core.proofs.OfGraphs.Residues.{claim_from_difference, difference_same, same_from_difference}
+pub use Rattle.graph_core.proofs.OfGraphs.SignedWords.{claim_same, operand_number, plus_word_is, signed_is, top, top_low, word_top}
 pub use Rattle.graph_core.proofs.OfGraphs.TableSteps.{gates_read_more}
 pub use Rattle.graph_core.proofs.OfGraphs.WellFormedGates.{distinct_gates, gate_in_range, gates_apart, input_in_range, output_in_range}
 pub use Rattle.graph_core.proofs.OfGraphs.ValueSteps.{outputs_below, word_fits, word_step}
 pub use Rattle.graph_core.proofs.OfGraphs.Words.{word_below}
 pub use Rattle.graph_core.proofs.OfGraphs.WrittenValues.{all_gates_written, all_inputs_written, constant_written, input_written, inputs_apart, inputs_written, next_written}
-use Rattle.std.specs.Prelude.{◌≡◌, ℕ, ◌+◌, ◌*◌, ◌&&◌, slice_index_or, Bool, List, [], ◌∷◌, map, length}
-use Rattle.std.proofs.Common.{refl, sym, ap, ap₂, ◌∙◌, subst}
+use Rattle.std.specs.Prelude.{◌≡◌, ℕ, ◌+◌, ◌*◌, ◌&&◌, slice_index_or, Bool, true, false, List, [], ◌∷◌, map, length}
+use Rattle.std.proofs.Common.{refl, sym, ap, ap₂, ◌∙◌, subst, arith, take}
+use Rattle.std.proofs.lemmas.List.{length-take}
 use Rattle.graph_core.specs.declared.literal.Lit.{Lit}
 use Rattle.graph_core.specs.declared.gate.Gate.{Gate}
 use Rattle.graph_core.specs.declared.order.Order.{Order}
 use Rattle.graph_core.specs.Graph.Literals.{variable_of}
 use Rattle.graph_core.specs.Graph.Assignments.{literal, bit, word, listed, Assignment}
 use Rattle.graph_core.specs.Graph.{Aig, IsWellFormed, IsEvaluation, IsLevel, IsGateOf, AreValues, evaluated, IsDefinedOnce, IsAcyclic}
-use Rattle.graph_core.specs.Graph.Operands.{Sides, AreOperandsOf, HasMultiplierShape, width, inputs_of, value_on, sides_of, ReadInputs, a_bits, b_bits, MultipliesWhole}
+use Rattle.graph_core.specs.Graph.Operands.{Sides, AreOperandsOf, HasMultiplierShape, HasShapeFor, width, sum_width, width_for, inputs_of, value_on, sides_for, ReadInputs, a_bits, b_bits, a_literals, b_literals, MultipliesWhole}
 use Rattle.graph_core.proofs.OfGraphs.Evaluation.{literal_same, variable_same}
 use Rattle.graph_core.proofs.OfGraphs.Levels.{contains_in, distinct_from, distinct_same, one_level}
 use Rattle.graph_core.proofs.OfGraphs.Multiplies.{evaluated_is, inputs_have, sides_read_inputs, claim_is}
@@ -73,19 +76,23 @@ level_is_one g v i j well p q = (one_level g.gates (gates_apart g well) v i p).1
 
 -- ---- operands
 
-pub length-operands : (g : Aig) (s : Sides) → HasMultiplierShape g → AreOperandsOf g s → (length s.a ≡ width g) × (length s.b ≡ width g)
-length-operands g s shape h = (
-  ap length (h.0 ∙ a_bits_are s.order g) ∙ length-a_part s.order (width g) g.inputs shape.inputs,
-  ap length (h.1 ∙ b_bits_are s.order g) ∙ length-b_part s.order (width g) g.inputs shape.inputs,
-)
+pub length-operands : (g : Aig) (s : Sides) → HasShapeFor s.claim.add g → AreOperandsOf g s →
+    (length s.a ≡ width_for s.claim.add g) × (length s.b ≡ width_for s.claim.add g)
+length-operands g s shape h = (ap (λ z. length z.a) h ∙ (go s.claim.add s.claim.order shape).0, ap (λ z. length z.b) h ∙ (go s.claim.add s.claim.order shape).1)
+  where
+    go : (add : Bool) (order : Order) → HasShapeFor add g → (length (a_literals add order g) ≡ width_for add g) × (length (b_literals add order g) ≡ width_for add g)
+    go false order shape = (
+      ap length (a_bits_are order g) ∙ length-a_part order (width g) g.inputs shape.inputs,
+      ap length (b_bits_are order g) ∙ length-b_part order (width g) g.inputs shape.inputs,
+    )
+    go true order shape =
+        let front : length (take (2 * sum_width g) g.inputs) ≡ 2 * sum_width g =
+        let h = shape.inputs in omega (arith, length-take (2 * sum_width g) g.inputs) in
+        (length-a_part order (sum_width g) (take (2 * sum_width g) g.inputs) front, length-b_part order (sum_width g) (take (2 * sum_width g) g.inputs) front)
 
--- What Operands::of gives are the graph's operands under their order.
-pub operands_are_sides : (g : Aig) (s : Sides) → AreOperandsOf g s → s ≡ sides_of s.order g
-operands_are_sides g s h = λ i. record { order = s.order; a = h.0 i; b = h.1 i }
-
--- So each literal of theirs is an input.
+-- Each literal of operands is an input.
 pub operands_read_inputs : (g : Aig) (s : Sides) → AreOperandsOf g s → ReadInputs g s
-operands_read_inputs g s h = subst (ReadInputs g) (sym (operands_are_sides g s h)) (sides_read_inputs g s.order)
+operands_read_inputs g s h = subst (ReadInputs g) (sym h) (sides_read_inputs g s.claim)
 
 -- A product on each evaluation is the product of all operands, as whole numbers.
 pub whole_from_evaluations : (g : Aig) (order : Order) → HasMultiplierShape g → IsDefinedOnce g → IsAcyclic g.gates →

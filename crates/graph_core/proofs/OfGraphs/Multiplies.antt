@@ -1,17 +1,18 @@
 -- What is claimed on every evaluation holds for all values of the inputs, and of two operands it is their product.
-use Rattle.std.specs.Prelude.{◌≡◌, ◌≢◌, ℕ, zero, suc, ◌+◌, ◌*◌, ◌%◌, ◌^◌, ◌<◌, Bool, List, [], ◌∷◌, ◌++◌, map, length, take, drop, ⊤}
-use Rattle.std.specs.List.{AllByRecursion, AllPairs, Contains}
-use Rattle.std.proofs.Common.{refl, sym, ap, ap₂, subst, ◌∙◌, arith, length-append, mod-eq_of_lt, take-append-drop}
+use Rattle.std.specs.Prelude.{◌≡◌, ◌≢◌, ℕ, zero, suc, ◌+◌, ◌*◌, ◌%◌, ◌^◌, ◌<◌, Bool, true, false, List, [], ◌∷◌, ◌++◌, map, length, take, drop, ⊤}
+use Rattle.std.specs.List.{All, AllByRecursion, AllPairs, Contains}
+use Rattle.std.proofs.Common.{refl, sym, ap, ap₂, subst, ◌∙◌, arith, length-append, append-nil, mod-eq_of_lt, take-append-drop}
 use Rattle.std.proofs.lemmas.List.Elements.{All-contains_itself, All-from_recursion, recursion_from_All, All-append}
 use Rattle.std.proofs.lemmas.Nat.{mul-lt, pow-add}
 use Rattle.graph_core.specs.declared.literal.Lit.{Lit}
 use Rattle.graph_core.specs.declared.gate.Gate.{Gate}
 use Rattle.graph_core.specs.declared.order.Order.{Order}
 use Rattle.graph_core.specs.declared.order.Order.TheVariants.{Separate, Interleaved}
+use Rattle.graph_core.specs.declared.sign.Sign.{Sign}
 use Rattle.graph_core.specs.Graph.Literals.{variable_of}
 use Rattle.graph_core.specs.Graph.Assignments.{Assignment, literal, word}
 use Rattle.graph_core.specs.Graph.{Aig, IsEvaluation, IsDefinedOnce, IsAcyclic, defined, of_inputs, evaluated, evaluation}
-use Rattle.graph_core.specs.Graph.Operands.{HasMultiplierShape, width, a_bits, b_bits, a_part, b_part, bits_of, inputs_of, sides_of, claimed, output_modulus, value_at_inputs, EvaluationsSuffice, SidesReadInputs, ClaimIsProduct, WholeProducts, evens, odds, SidesAreInputs}
+use Rattle.graph_core.specs.Graph.Operands.{HasMultiplierShape, width, sum_width, a_bits, b_bits, a_part, b_part, bits_of, inputs_of, sides_of, sides_for, claimed, output_modulus, operand_literals, value_at_inputs, EvaluationsSuffice, SidesReadInputs, ClaimIsProduct, WholeProducts, evens, odds, alternate, in_order, inputs_in, HasShapeFor, SidesAreInputs}
 use Rattle.graph_core.proofs.OfGraphs.Evaluation.{Distinct, evaluation_is, rounds-free, finds_none}
 use Rattle.graph_core.proofs.OfGraphs.OperandBits.{DistinctLits, inputs_are, word_is, number_of, number_of-bits_of, length-bits_of, length-alternate, evens-alternate, odds-alternate, map-evens, map-odds, map-take, map-drop}
 use Rattle.graph_core.proofs.OfGraphs.OperandPlaces.{length-a_part, length-b_part, number_of-low, parts_are, alternate-parts}
@@ -76,7 +77,7 @@ pub take-length-append : {X : Type 0} (xs ys : List X) → take (length xs) (xs 
 take-length-append [] ys = refl
 take-length-append (x ∷ xs) ys = ap (λ zs. x ∷ zs) (take-length-append xs ys)
 
-drop-length-append : {X : Type 0} (xs ys : List X) → drop (length xs) (xs ++ ys) ≡ ys
+pub drop-length-append : {X : Type 0} (xs ys : List X) → drop (length xs) (xs ++ ys) ≡ ys
 drop-length-append [] ys = refl
 drop-length-append (x ∷ xs) ys = drop-length-append xs ys
 
@@ -124,23 +125,49 @@ odds_from P [] h = tt
 odds_from P (x ∷ []) h = tt
 odds_from P (x ∷ y ∷ xs) h = (h.1.0, odds_from P xs h.1.1)
 
+a_part_from : {X : Type 0} (P : X → Type 0) (order : Order) (n : ℕ) (xs : List X) → AllByRecursion P xs → AllByRecursion P (a_part order n xs)
+a_part_from P Separate n xs h = taken_from P n xs h
+a_part_from P Interleaved n xs h = evens_from P xs h
+
+b_part_from : {X : Type 0} (P : X → Type 0) (order : Order) (n : ℕ) (xs : List X) → AllByRecursion P xs → AllByRecursion P (b_part order n xs)
+b_part_from P Separate n xs h = dropped_from P n xs h
+b_part_from P Interleaved n xs h = odds_from P xs h
+
+-- the three lists one behind the other
+three_from : {X : Type 0} (P : X → Type 0) (xs ys zs : List X) → AllByRecursion P xs → AllByRecursion P ys → AllByRecursion P zs → All P (xs ++ (ys ++ zs))
+three_from P xs ys zs h k l =
+    All-append P xs (ys ++ zs) (All-from_recursion P xs h) (All-append P ys zs (All-from_recursion P ys k) (All-from_recursion P zs l))
+
 pub sides_read_inputs : SidesReadInputs
-sides_read_inputs g order = All-append (Contains g.inputs) (a_bits order g) (b_bits order g) (All-from_recursion (Contains g.inputs) (a_bits order g) (a_inputs order)) (All-from_recursion (Contains g.inputs) (b_bits order g) (b_inputs order))
+sides_read_inputs g k = go k.add k.order
   where
     members : AllByRecursion (Contains g.inputs) g.inputs
     members = recursion_from_All (Contains g.inputs) g.inputs (All-contains_itself g.inputs)
 
-    a_inputs : (o : Order) → AllByRecursion (Contains g.inputs) (a_bits o g)
-    a_inputs Separate = taken_from (Contains g.inputs) (width g) g.inputs members
-    a_inputs Interleaved = evens_from (Contains g.inputs) g.inputs members
+    front : AllByRecursion (Contains g.inputs) (take (2 * sum_width g) g.inputs)
+    front = taken_from (Contains g.inputs) (2 * sum_width g) g.inputs members
 
-    b_inputs : (o : Order) → AllByRecursion (Contains g.inputs) (b_bits o g)
-    b_inputs Separate = dropped_from (Contains g.inputs) (width g) g.inputs members
-    b_inputs Interleaved = odds_from (Contains g.inputs) g.inputs members
+    go : (add : Bool) (order : Order) → All (Contains g.inputs) (operand_literals (sides_for (record { order = order; sign = k.sign; add = add }) g))
+    go false Separate =
+        three_from (Contains g.inputs) (take (width g) g.inputs) (drop (width g) g.inputs) [] (taken_from (Contains g.inputs) (width g) g.inputs members) (dropped_from (Contains g.inputs) (width g) g.inputs members) tt
+    go false Interleaved = three_from (Contains g.inputs) (evens g.inputs) (odds g.inputs) [] (evens_from (Contains g.inputs) g.inputs members) (odds_from (Contains g.inputs) g.inputs members) tt
+    go true order =
+        three_from (Contains g.inputs) (a_part order (sum_width g) (take (2 * sum_width g) g.inputs)) (b_part order (sum_width g) (take (2 * sum_width g) g.inputs)) (drop (2 * sum_width g) g.inputs)
+        (a_part_from (Contains g.inputs) order (sum_width g) (take (2 * sum_width g) g.inputs) front)
+        (b_part_from (Contains g.inputs) order (sum_width g) (take (2 * sum_width g) g.inputs) front) (dropped_from (Contains g.inputs) (2 * sum_width g) g.inputs members)
 
 pub sides_are_inputs : SidesAreInputs
-sides_are_inputs g Separate shape = take-append-drop (width g) g.inputs
-sides_are_inputs g Interleaved shape = alternate-parts g.inputs
+sides_are_inputs g k = go k.add k.order
+  where
+    parts : (order : Order) (n : ℕ) (xs : List Lit) → in_order order (a_part order n xs) (b_part order n xs) ≡ xs
+    parts Separate n xs = take-append-drop n xs
+    parts Interleaved n xs = alternate-parts xs
+
+    go : (add : Bool) (order : Order) → HasShapeFor add g → inputs_in (sides_for (record { order = order; sign = k.sign; add = add }) g) ≡ g.inputs
+    go false Separate shape = append-nil (take (width g) g.inputs ++ drop (width g) g.inputs) ∙ take-append-drop (width g) g.inputs
+    go false Interleaved shape = append-nil (alternate (evens g.inputs) (odds g.inputs)) ∙ alternate-parts g.inputs
+    go true order shape =
+        ap (λ xs. xs ++ drop (2 * sum_width g) g.inputs) (parts order (sum_width g) (take (2 * sum_width g) g.inputs)) ∙ take-append-drop (2 * sum_width g) g.inputs
 
 -- the operands are the numbers that the inputs stand for
 pub a_is : (g : Aig) (order : Order) (a b : ℕ) → HasMultiplierShape g → IsDefinedOnce g → a < 2 ^ width g → word (evaluated g (inputs_of order (width g) a b)) (a_bits order g) ≡ a

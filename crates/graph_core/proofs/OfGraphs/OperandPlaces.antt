@@ -140,13 +140,13 @@ number_step bits (suc i) a x some h e f =
     let value : x ≡ bit (get_or bits i false) = f ∙ ap (λ k. bit (get_or bits k false)) here in
     omega (arith, ap (λ k. number_of (drop k bits)) here)
 
--- behind the first bit of at most 64 there is room for one more
-pub number_fits : (bits : List Bool) (i : ℕ) → 0 < i → length bits ≤ 64 → number_of (drop i bits) < 2 ^ 63
-number_fits bits i some narrow =
+-- behind the first bit of at most w + 1 there is room for one more
+pub number_fits : (bits : List Bool) (w i : ℕ) → 0 < i → length bits ≤ w + 1 → number_of (drop i bits) < 2 ^ w
+number_fits bits w i some narrow =
     let low = number_of-low (drop i bits) in
     let size = length-drop i bits in
-    let short : length (drop i bits) ≤ 63 = omega arith in
-    let pow : 2 ^ length (drop i bits) ≤ 2 ^ 63 = pow-le-pow_right {n = 2} (omega arith) short in
+    let short : length (drop i bits) ≤ w = omega arith in
+    let pow : 2 ^ length (drop i bits) ≤ 2 ^ w = pow-le-pow_right {n = 2} (omega arith) short in
     omega arith
 
 pub byte_is_bit : (b : Bool) → bool_byte b ≡ bit b

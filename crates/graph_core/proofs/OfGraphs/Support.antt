@@ -1,5 +1,5 @@
 -- Values that depend on finitely many variables: two of them agree everywhere, or some assignment tells them apart.
-use Rattle.std.specs.Prelude.{◌≡◌, ◌≢◌, ℕ, zero, suc, ◌+◌, ◌*◌, ◌%◌, ◌≤◌, ◌⊎◌, Bool, true, false, not, cond, List, [], ◌∷◌, ◌++◌, map, ◌==◌}
+use Rattle.std.specs.Prelude.{◌≡◌, ◌≢◌, ℕ, zero, suc, ◌+◌, ◌*◌, ◌-◌, ◌%◌, ◌≤◌, ◌⊎◌, Bool, true, false, not, cond, List, [], ◌∷◌, ◌++◌, map, ◌==◌}
 use Rattle.std.specs.declared.option.Option.TheVariants.{Some}
 use Rattle.std.specs.List.{AllByRecursion, filter}
 use Rattle.std.proofs.Common.{refl, sym, ap, ap₂, ◌∙◌, arith, inl, inr, ⊎_elim, eq-eqb, eqb-true}
@@ -7,7 +7,9 @@ use Rattle.graph_core.specs.declared.literal.Lit.{Lit}
 use Rattle.graph_core.specs.declared.gate.Gate.{Gate}
 use Rattle.graph_core.specs.Graph.Literals.{variable_of}
 use Rattle.graph_core.specs.Graph.Assignments.{Assignment, variable, literal, bit, word}
-use Rattle.graph_core.specs.Graph.Operands.{Sides, claimed}
+use Rattle.graph_core.specs.declared.sign.Sign.{Sign}
+use Rattle.graph_core.specs.declared.sign.Sign.TheVariants.{Unsigned, Signed}
+use Rattle.graph_core.specs.Graph.Operands.{Sides, claimed, signed_word, operand_word, plus_word}
 use Rattle.graph_core.specs.Algebra.Polynomials.{Term, Polynomial, product, term_value, sum_of, value, difference}
 use Rattle.graph_core.specs.Graph.Extended.{Extended, Column}
 use Rattle.graph_core.specs.Algebra.{LiveLine, Part, Line, Sum, Product, Combination, Delete, Ledger, value_of, value_or_zero, line_of, combined, named, after, axioms, gate_axiom, column_axiom, modulus, specification}
@@ -156,8 +158,23 @@ columns-bounded e (c ∷ cs) = (bound_of_two (λ x y. difference (modulus e) (bi
 pub axioms-bounded : (e : Extended) → AreBounded (axioms e).live
 axioms-bounded e = append-bounded (map (gate_axiom (modulus e)) e.gates) (map (column_axiom e) e.replaced) (gates-bounded (modulus e) e.gates) (columns-bounded e e.replaced)
 
+bound_signed : (m : ℕ) (ls : List Lit) → HasBound (λ σ. signed_word m σ ls)
+bound_signed m [] = bound_constant 0
+bound_signed m (l ∷ []) = bound_of_two (λ x y. x * bit y) (λ σ. m - 1) (λ σ. literal σ l) (bound_constant (m - 1)) (bound_literal l)
+bound_signed m (l ∷ k ∷ ls) = bound_of_two (λ x y. bit x + 2 * y) (λ σ. literal σ l) (λ σ. signed_word m σ (k ∷ ls)) (bound_literal l) (bound_signed m (k ∷ ls))
+
+bound_operand : (m : ℕ) (sign : Sign) (ls : List Lit) → HasBound (λ σ. operand_word m sign σ ls)
+bound_operand m Unsigned ls = bound_word ls
+bound_operand m Signed ls = bound_signed m ls
+
+bound_plus : (f : Assignment → ℕ) (ls : List Lit) → HasBound f → HasBound (λ σ. plus_word (f σ) σ ls)
+bound_plus f [] b = b
+bound_plus f (l ∷ ls) b = bound_of_two (λ x y. x + y) f (λ σ. word σ (l ∷ ls)) b (bound_word (l ∷ ls))
+
 pub bound_claimed : (m : ℕ) (s : Sides) → HasBound (claimed m s)
-bound_claimed m s = bound_of_two (λ x y. x * y) (λ σ. word σ s.a) (λ σ. word σ s.b) (bound_word s.a) (bound_word s.b)
+bound_claimed m s =
+    bound_plus (λ σ. operand_word m s.claim.sign σ s.a * operand_word m s.claim.sign σ s.b) s.c
+    (bound_of_two (λ x y. x * y) (λ σ. operand_word m s.claim.sign σ s.a) (λ σ. operand_word m s.claim.sign σ s.b) (bound_operand m s.claim.sign s.a) (bound_operand m s.claim.sign s.b))
 
 pub bound_specification : (e : Extended) (s : Sides) → HasBound (specification e s)
 bound_specification e s = bound_of_two (difference (modulus e)) (λ σ. word σ e.graph.outputs) (claimed (modulus e) s) (bound_word e.graph.outputs) (bound_claimed (modulus e) s)

@@ -3,6 +3,7 @@ use Rattle.std.specs.Prelude.{◌≡◌, ℕ, zero, suc, ◌+◌, ◌*◌, ◌-�
 use Rattle.graph_core.specs.declared.literal.Lit.{Lit}
 use Rattle.graph_core.specs.Text.{space, newline}
 use Rattle.graph_core.specs.declared.fault.Field.{Field}
+use Rattle.graph_core.specs.declared.profile.Profile.{Profile}
 use Rattle.graph_core.specs.declared.fault.GraphFault.{GraphFault}
 use Rattle.graph_core.specs.Graph.{Aig}
 use Rattle.graph_core.specs.Aiger.{Form, Ascii, Binary, Counts, Listing, graph_of, symbol_bound, Lists, Spells}
@@ -260,13 +261,13 @@ abbrev pub behind_fields : List ℕ → Form → List ℕ → List ℕ → Optio
 behind_fields bytes form numbers rest None = or_text bytes (rest_at form (counts_of numbers) rest)
 behind_fields bytes form numbers rest (Some f) = Err (Header f)
 
-abbrev pub behind_header : List ℕ → Result ((Form × List ℕ) × List ℕ) Stop → Result Listing Refusal
-behind_header bytes (Ok x) = behind_fields bytes x.0.0 x.0.1 x.1 (refused_field x.0.0 x.0.1)
-behind_header bytes (Err e) = Err (Text (place bytes (left_of e)))
+abbrev pub behind_header : Profile → List ℕ → Result ((Form × List ℕ) × List ℕ) Stop → Result Listing Refusal
+behind_header p bytes (Ok x) = behind_fields bytes x.0.0 x.0.1 x.1 (refused_field p x.0.0 x.0.1)
+behind_header p bytes (Err e) = Err (Text (place bytes (left_of e)))
 
 -- the lists of a file, or the first refusal before those of its faults
-abbrev pub lists_at : List ℕ → Result Listing Refusal
-lists_at bytes = behind_header bytes (header_at bytes)
+abbrev pub lists_at : Profile → List ℕ → Result Listing Refusal
+lists_at p bytes = behind_header p bytes (header_at bytes)
 
 abbrev pub faulty_or : Listing → Option GraphFault → Result Aig Refusal
 faulty_or g None = Ok (graph_of g)
@@ -277,16 +278,16 @@ judged_lists (Ok g) = faulty_or g (fault_of g)
 judged_lists (Err r) = Err r
 
 -- the graph of a file, or its first refusal
-abbrev pub graph_at : List ℕ → Result Aig Refusal
-graph_at bytes = judged_lists (lists_at bytes)
+abbrev pub graph_at : Profile → List ℕ → Result Aig Refusal
+graph_at p bytes = judged_lists (lists_at p bytes)
 
 -- What is read is listed, and what is listed is read.
 abbrev pub ListsAreRead : Type 0
-ListsAreRead = (bytes : List ℕ) (g : Listing) → (lists_at bytes ≡ Ok g) ↔ Lists bytes g
+ListsAreRead = (p : Profile) (bytes : List ℕ) (g : Listing) → (lists_at p bytes ≡ Ok g) ↔ Lists p bytes g
 
 -- The graph that is read is the one that is spelled, and the refusal is the first.
 abbrev pub GraphIsRead : Type 0
-GraphIsRead = (bytes : List ℕ) (graph : Aig) → (graph_at bytes ≡ Ok graph) ↔ Spells bytes graph
+GraphIsRead = (p : Profile) (bytes : List ℕ) (graph : Aig) → (graph_at p bytes ≡ Ok graph) ↔ Spells p bytes graph
 
 abbrev pub RefusalIsRead : Type 0
-RefusalIsRead = (bytes : List ℕ) (r : Refusal) → (graph_at bytes ≡ Err r) ↔ IsRefusal bytes r
+RefusalIsRead = (p : Profile) (bytes : List ℕ) (r : Refusal) → (graph_at p bytes ≡ Err r) ↔ IsRefusal p bytes r

@@ -3,6 +3,7 @@ use Rattle.std.specs.Prelude.{◌≡◌, ℕ, ◌+◌, ◌*◌, ◌%◌, ◌<◌
 use Rattle.std.specs.List.{find, flat_map, list_any, list_all, concat, AllByRecursion, AllPairs}
 use Rattle.graph_core.specs.declared.literal.Lit.{Lit}
 use Rattle.graph_core.specs.declared.gate.Gate.{Gate}
+use Rattle.graph_core.specs.declared.profile.Profile.{Profile}
 use Rattle.graph_core.specs.declared.fault.Field.{Field}
 use Rattle.graph_core.specs.declared.fault.Field.TheVariants as field
 use Rattle.graph_core.specs.declared.fault.GraphFault.{GraphFault}
@@ -10,7 +11,7 @@ use Rattle.graph_core.specs.declared.fault.GraphFault.TheVariants.{Range, Left, 
 use Rattle.graph_core.specs.Graph.Literals.{variable_of}
 use Rattle.graph_core.specs.Graph.{Aig, IsLevel, IsAcyclic, defined, read_literals}
 use Rattle.graph_core.specs.Text.{IsNumeral, IsLine, AreLines}
-use Rattle.graph_core.specs.Aiger.{Form, Ascii, Binary, Counts, counts, Listing, graph_of, body, IsTail, IsSymbolLine, symbol_bound, IsGroups, AreBinaryGates, AreConsecutive, Lists, Spells, IsFaultless}
+use Rattle.graph_core.specs.Aiger.{Form, Ascii, Binary, Counts, counts, Listing, graph_of, input_step, least_inputs, most_inputs, most_outputs, body, IsTail, IsSymbolLine, symbol_bound, IsGroups, AreBinaryGates, AreConsecutive, Lists, Spells, IsFaultless}
 
 -- ---- faults of the lists, in the order in which they are judged
 
@@ -101,25 +102,33 @@ zero_fields [] ns = []
 zero_fields (f ∷ fs) [] = []
 zero_fields (f ∷ fs) (n ∷ ns) = (f, not (n == 0)) ∷ zero_fields fs ns
 
--- The inputs and gates are at most the variables, and in the binary form all of them.
+-- The inputs and gates are more than the variables, or in the binary form not all of them.
 abbrev pub has_wrong_room : Form → ℕ → ℕ → Bool
 has_wrong_room Ascii m n = nat_lt m n
 has_wrong_room Binary m n = not (m == n)
 
+-- The inputs aren't in the profile's steps, or are too few or too many.
+abbrev pub has_wrong_inputs : Profile → ℕ → Bool
+has_wrong_inputs p i = not (i % input_step p == 0) || (nat_lt i (least_inputs p) || nat_lt (most_inputs p) i)
+
+-- There is no output, or there are too many for so many inputs.
+abbrev pub has_wrong_outputs : Profile → ℕ → ℕ → Bool
+has_wrong_outputs p i o = o == 0 || nat_lt (most_outputs p i) o
+
 -- The fields in their order, each with whether it is refused.
-abbrev pub fields : Form → List ℕ → List (Field × Bool)
-fields form (m ∷ i ∷ l ∷ o ∷ a ∷ others) =
-    (field.M, nat_lt 4194303 m) ∷ (field.I, not (i % 2 == 0) || (i == 0 || nat_lt 128 i)) ∷ (field.L, not (l == 0)) ∷
-    (field.O, o == 0 || nat_lt i o) ∷ (field.A, has_wrong_room form m (i + a)) ∷
+abbrev pub fields : Profile → Form → List ℕ → List (Field × Bool)
+fields p form (m ∷ i ∷ l ∷ o ∷ a ∷ others) =
+    (field.M, nat_lt 4194303 m) ∷ (field.I, has_wrong_inputs p i) ∷ (field.L, not (l == 0)) ∷
+    (field.O, has_wrong_outputs p i o) ∷ (field.A, has_wrong_room form m (i + a)) ∷
     zero_fields (field.B ∷ field.C ∷ field.J ∷ field.F ∷ []) others
-fields form _ = []
+fields p form _ = []
 
 abbrev pub first_refused : List (Field × Bool) → Option Field
 first_refused [] = None
 first_refused (p ∷ ps) = if p.1 then Some p.0 else first_refused ps
 
-abbrev pub refused_field : Form → List ℕ → Option Field
-refused_field form numbers = first_refused (fields form numbers)
+abbrev pub refused_field : Profile → Form → List ℕ → Option Field
+refused_field p form numbers = first_refused (fields p form numbers)
 
 -- what a header's numbers say
 abbrev pub counts_of : List ℕ → Counts
@@ -195,28 +204,28 @@ IsRestRefusal form c rest n =
     (((here : List ℕ) → HasWrongNumber form c rest here → ⊥) × ((g : Listing) → IsRest form c g rest → ⊥) × IsLongest (IsRestOrWrong form c) rest n)
 
 -- The first refusal of a file.
-abbrev pub IsRefusal : List ℕ → Refusal → Type 0
-IsRefusal bytes (Text p) =
-    (((form : Form) (numbers rest : List ℕ) → HasHeader bytes form numbers rest → ⊥) × IsLongest IsHeaderLine bytes p) ⊎
-    ((form : Form) × (numbers rest : List ℕ) × (n : ℕ) × HasHeader bytes form numbers rest ×
-    (refused_field form numbers ≡ None) × IsRestRefusal form (counts_of numbers) rest n ×
-    (p + length rest ≡ length bytes + n))
-IsRefusal bytes (Header f) = (form : Form) × (numbers rest : List ℕ) × HasHeader bytes form numbers rest × (refused_field form numbers ≡ Some f)
-IsRefusal bytes (Faulty f) = (g : Listing) × Lists bytes g × IsFault g f
+abbrev pub IsRefusal : Profile → List ℕ → Refusal → Type 0
+IsRefusal p bytes (Text n) =
+    (((form : Form) (numbers rest : List ℕ) → HasHeader bytes form numbers rest → ⊥) × IsLongest IsHeaderLine bytes n) ⊎
+    ((form : Form) × (numbers rest : List ℕ) × (m : ℕ) × HasHeader bytes form numbers rest ×
+    (refused_field p form numbers ≡ None) × IsRestRefusal form (counts_of numbers) rest m ×
+    (n + length rest ≡ length bytes + m))
+IsRefusal p bytes (Header f) = (form : Form) × (numbers rest : List ℕ) × HasHeader bytes form numbers rest × (refused_field p form numbers ≡ Some f)
+IsRefusal p bytes (Faulty f) = (g : Listing) × Lists p bytes g × IsFault g f
 
 -- The first refusal is one, and a file has one exactly where it spells no graph.
 abbrev pub OneRefusal : Type 0
-OneRefusal = (bytes : List ℕ) (r s : Refusal) → IsRefusal bytes r → IsRefusal bytes s → r ≡ s
+OneRefusal = (p : Profile) (bytes : List ℕ) (r s : Refusal) → IsRefusal p bytes r → IsRefusal p bytes s → r ≡ s
 
 abbrev pub SpelledOrRefused : Type 0
-SpelledOrRefused = (bytes : List ℕ) → ((graph : Aig) × Spells bytes graph) ⊎ ((r : Refusal) × IsRefusal bytes r)
+SpelledOrRefused = (p : Profile) (bytes : List ℕ) → ((graph : Aig) × Spells p bytes graph) ⊎ ((r : Refusal) × IsRefusal p bytes r)
 
 abbrev pub NotSpelledAndRefused : Type 0
-NotSpelledAndRefused = (bytes : List ℕ) (graph : Aig) (r : Refusal) → Spells bytes graph → IsRefusal bytes r → ⊥
+NotSpelledAndRefused = (p : Profile) (bytes : List ℕ) (graph : Aig) (r : Refusal) → Spells p bytes graph → IsRefusal p bytes r → ⊥
 
--- No bytes spell two graphs.
+-- No bytes spell two graphs of one profile.
 abbrev pub OneGraph : Type 0
-OneGraph = (bytes : List ℕ) (g h : Aig) → Spells bytes g → Spells bytes h → g ≡ h
+OneGraph = (p : Profile) (bytes : List ℕ) (g h : Aig) → Spells p bytes g → Spells p bytes h → g ≡ h
 
 -- The first fault by computing is the first one, and there is none exactly where the lists have no fault.
 abbrev pub FaultIsFound : Type 0

@@ -1,10 +1,16 @@
--- The two operands of a multiplier, what its outputs are claimed to be, and its value.
-use Rattle.std.specs.Prelude.{◌≡◌, ℕ, zero, suc, ◌+◌, ◌*◌, ◌/◌, ◌%◌, ◌^◌, ◌<◌, ◌≤◌, ◌↔◌, Bool, List, [], ◌∷◌, ◌++◌, take, drop, length, ◌==◌}
+-- The two operands of a multiplier and perhaps an addend, what its outputs are claimed to be, and its value.
+use Rattle.std.specs.Prelude.{◌≡◌, ℕ, zero, suc, ◌+◌, ◌*◌, ◌-◌, ◌/◌, ◌%◌, ◌^◌, ◌<◌, ◌≤◌, ◌↔◌, Bool, true, false, List, [], ◌∷◌, ◌++◌, take, drop, length, ◌==◌, if◌then◌else◌, nat_lt}
 use Rattle.std.specs.List.{All, Contains}
 use Rattle.graph_core.specs.declared.literal.Lit.{Lit}
 use Rattle.graph_core.specs.declared.order.Order.{Order}
 use Rattle.graph_core.specs.declared.order.Order.TheVariants.{Separate, Interleaved}
-use Rattle.graph_core.specs.Graph.Assignments.{Assignment, word}
+use Rattle.graph_core.specs.declared.sign.Sign.{Sign}
+use Rattle.graph_core.specs.declared.sign.Sign.TheVariants.{Unsigned, Signed}
+use Rattle.graph_core.specs.declared.claim.Claim.{Claim}
+use Rattle.graph_core.specs.declared.numbers.Numbers.{Numbers}
+use Rattle.graph_core.specs.declared.profile.Profile.{Profile}
+use Rattle.graph_core.specs.declared.profile.Profile.TheVariants.{Multiplier, MultiplyAdd}
+use Rattle.graph_core.specs.Graph.Assignments.{Assignment, bit, literal, word}
 use Rattle.graph_core.specs.Graph.{Aig, IsEvaluation, IsDefinedOnce, IsAcyclic, evaluated}
 
 -- every other element, from the first on
@@ -24,6 +30,15 @@ abbrev pub alternate : {X : Type 0} → List X → List X → List X
 alternate [] ys = ys
 alternate (x ∷ xs) [] = x ∷ xs
 alternate (x ∷ xs) (y ∷ ys) = x ∷ y ∷ alternate xs ys
+
+-- the part of the inputs that is a, and the one that is b
+abbrev pub a_part : {X : Type 0} → Order → ℕ → List X → List X
+a_part Separate n xs = take n xs
+a_part Interleaved n xs = evens xs
+
+abbrev pub b_part : {X : Type 0} → Order → ℕ → List X → List X
+b_part Separate n xs = drop n xs
+b_part Interleaved n xs = odds xs
 
 -- the number of bits of an operand
 abbrev pub width : Aig → ℕ
@@ -54,28 +69,83 @@ pub record HasMultiplierShape (g : Aig) : Type 0 where
   pub some_outputs : 1 ≤ length g.outputs
   pub outputs : length g.outputs ≤ 2 * width g
 
--- What operands are seen as: the order of the inputs, and the literals of each operand, the bit of weight 1 first.
+-- With an addend a quarter of the inputs is a, a quarter b, and the other half the addend.
+abbrev pub sum_width : Aig → ℕ
+sum_width g = length g.inputs / 4
+
+-- Two operands of one width, an addend twice as wide, and an output for each of the lowest bits of their sum, from 1 to as many as the
+-- addend has.
+pub record HasSumShape (g : Aig) : Type 0 where
+  pub inputs : length g.inputs ≡ 4 * sum_width g
+  pub some_outputs : 1 ≤ length g.outputs
+  pub outputs : length g.outputs ≤ 2 * sum_width g
+
+-- the shape without an addend, and with one
+abbrev pub HasShapeFor : Bool → Aig → Type 0
+HasShapeFor false g = HasMultiplierShape g
+HasShapeFor true g = HasSumShape g
+
+-- the number of bits of an operand, without an addend and with one
+abbrev pub width_for : Bool → Aig → ℕ
+width_for false g = width g
+width_for true g = sum_width g
+
+-- What operands are seen as: what is claimed of them, the literals of each operand, and those of an addend, of which there are none
+-- without one; the bit of weight 1 first.
 pub record Sides : Type 0 where
-  pub order : Order
+  pub claim : Claim
   pub a : List Lit
   pub b : List Lit
+  pub c : List Lit
 
--- Operands are equally wide, and of at most 64 bits.
+-- Operands are equally wide, and of at most 64 bits, and an addend is at most twice as wide.
 pub record AreSides (s : Sides) : Type 0 where
   pub equal : length s.a ≡ length s.b
   pub narrow : length s.a ≤ 64
+  pub addend : length s.c ≤ 2 * length s.a
 
--- the operands of a graph under an order of its inputs
+-- the literals of the operands a and b and of the addend, without an addend and with one
+abbrev pub a_literals : Bool → Order → Aig → List Lit
+a_literals false order g = a_bits order g
+a_literals true order g = a_part order (sum_width g) (take (2 * sum_width g) g.inputs)
+
+abbrev pub b_literals : Bool → Order → Aig → List Lit
+b_literals false order g = b_bits order g
+b_literals true order g = b_part order (sum_width g) (take (2 * sum_width g) g.inputs)
+
+abbrev pub c_literals : Bool → Aig → List Lit
+c_literals false g = []
+c_literals true g = drop (2 * sum_width g) g.inputs
+
+-- the operands that a claim names in a graph
+abbrev pub sides_for : Claim → Aig → Sides
+sides_for k g = record { claim = k; a = a_literals k.add k.order g; b = b_literals k.add k.order g; c = c_literals k.add g }
+
+-- the product under an order of operands of either kind, that of unsigned ones, and a product with an addend
+abbrev pub multiplying : Order → Sign → Claim
+multiplying order sign = record { order = order; sign = sign; add = false }
+
+abbrev pub product_under : Order → Claim
+product_under order = multiplying order Unsigned
+
+abbrev pub adding : Order → Sign → Claim
+adding order sign = record { order = order; sign = sign; add = true }
+
+-- which graphs it can be claimed of
+abbrev pub profile_of : Bool → Profile
+profile_of false = Multiplier
+profile_of true = MultiplyAdd
+
 abbrev pub sides_of : Order → Aig → Sides
-sides_of order g = record { order = order; a = a_bits order g; b = b_bits order g }
+sides_of order g = sides_for (product_under order) g
 
--- They are the graph's operands.
+-- They are the operands that their claim names in the graph.
 abbrev pub AreOperandsOf : Aig → Sides → Type 0
-AreOperandsOf g s = (s.a ≡ a_bits s.order g) × (s.b ≡ b_bits s.order g)
+AreOperandsOf g s = s ≡ sides_for s.claim g
 
--- all literals of the operands
+-- all literals of the operands, and of the addend
 abbrev pub operand_literals : Sides → List Lit
-operand_literals s = s.a ++ s.b
+operand_literals s = s.a ++ (s.b ++ s.c)
 
 -- Each literal of the operands is an input of the graph.
 abbrev pub ReadInputs : Aig → Sides → Type 0
@@ -87,11 +157,37 @@ in_order Separate xs ys = xs ++ ys
 in_order Interleaved xs ys = alternate xs ys
 
 abbrev pub inputs_in : Sides → List Lit
-inputs_in s = in_order s.order s.a s.b
+inputs_in s = in_order s.claim.order s.a s.b ++ s.c
 
--- What the outputs are claimed to be at an assignment, up to multiples of m: the product of the operands.
+-- the values of the inputs that stand for two operands and an addend
+abbrev pub inputs_at : Sides → Numbers → List Bool
+inputs_at s x = inputs_of s.claim.order (length s.a) x.a x.b ++ bits_of (length s.c) x.c
+
+-- The numbers have at most as many bits as the operands and the addend.
+pub record AreInRange (s : Sides) (x : Numbers) : Type 0 where
+  pub a : x.a < 2 ^ length s.a
+  pub b : x.b < 2 ^ length s.a
+  pub c : x.c < 2 ^ length s.c
+
+-- The number of signed literals, up to multiples of m: each counts 1 times its power of 2, and the last one -1 times.
+abbrev pub signed_word : ℕ → Assignment → List Lit → ℕ
+signed_word m σ [] = 0
+signed_word m σ (l ∷ []) = (m - 1) * bit (literal σ l)
+signed_word m σ (l ∷ k ∷ ls) = bit (literal σ l) + 2 * signed_word m σ (k ∷ ls)
+
+-- the number of an operand's literals, by how they count
+abbrev pub operand_word : ℕ → Sign → Assignment → List Lit → ℕ
+operand_word m Unsigned σ ls = word σ ls
+operand_word m Signed σ ls = signed_word m σ ls
+
+-- a number and an addend, where there is one
+abbrev pub plus_word : ℕ → Assignment → List Lit → ℕ
+plus_word n σ [] = n
+plus_word n σ (l ∷ ls) = n + word σ (l ∷ ls)
+
+-- What the outputs are claimed to be at an assignment, up to multiples of m: the product of the operands, and the addend.
 abbrev pub claimed : ℕ → Sides → Assignment → ℕ
-claimed m s σ = word σ s.a * word σ s.b
+claimed m s σ = plus_word (operand_word m s.claim.sign σ s.a * operand_word m s.claim.sign σ s.b) σ s.c
 
 -- the claim is about as many bits as there are outputs
 abbrev pub output_modulus : Aig → ℕ
@@ -114,13 +210,13 @@ MeetsClaimOnEvaluations g s = (σ : Assignment) → IsEvaluation g.gates σ → 
 abbrev pub EvaluationsSuffice : Type 0
 EvaluationsSuffice = (g : Aig) (s : Sides) → IsDefinedOnce g → IsAcyclic g.gates → MeetsClaimOnEvaluations g s → MeetsClaim g s
 
--- The operands under an order are read from the inputs.
+-- The operands are read from the inputs, and so is an addend.
 abbrev pub SidesReadInputs : Type 0
-SidesReadInputs = (g : Aig) (order : Order) → ReadInputs g (sides_of order g)
+SidesReadInputs = (g : Aig) (k : Claim) → ReadInputs g (sides_for k g)
 
 -- In their order they are the inputs.
 abbrev pub SidesAreInputs : Type 0
-SidesAreInputs = (g : Aig) (order : Order) → HasMultiplierShape g → inputs_in (sides_of order g) ≡ g.inputs
+SidesAreInputs = (g : Aig) (k : Claim) → HasShapeFor k.add g → inputs_in (sides_for k g) ≡ g.inputs
 
 -- ---- two operands as numbers
 
@@ -144,16 +240,44 @@ ClaimIsProduct = (g : Aig) (order : Order) → HasMultiplierShape g → IsDefine
 abbrev pub WholeProducts : Type 0
 WholeProducts = (g : Aig) (order : Order) → length g.outputs ≡ 2 * width g → (Multiplies g order ↔ MultipliesWhole g order)
 
+-- ---- numbers for other claims
+
+-- The number that n bits of a stand for, up to multiples of m: signed ones stand for 2 ^ n less from 2 ^ (n - 1) on.
+abbrev pub number_as : Sign → ℕ → ℕ → ℕ → ℕ
+number_as Unsigned m n a = a
+number_as Signed m n a = if nat_lt a (2 ^ (n - 1)) then a else a + (m - 1) * 2 ^ n
+
+-- the product of two operands of n bits, up to multiples of m
+abbrev pub product_as : Sign → ℕ → ℕ → ℕ → ℕ → ℕ
+product_as sign m n a b = number_as sign m n a * number_as sign m n b
+
+-- For all operands the graph evaluates to the product of the numbers that they stand for, modulo 2 ^ m, m the number of its outputs.
+abbrev pub MultipliesAs : Sign → Aig → Order → Type 0
+MultipliesAs sign g order = (a b : ℕ) → a < 2 ^ width g → b < 2 ^ width g →
+    value_on g order a b ≡ product_as sign (output_modulus g) (width g) a b % output_modulus g
+
+-- the graph's value on two operands and an addend
+abbrev pub sum_on : Aig → Order → ℕ → ℕ → ℕ → ℕ
+sum_on g order a b c = value_at_inputs g (inputs_of order (sum_width g) a b ++ bits_of (2 * sum_width g) c)
+
+-- For all operands and addends the graph evaluates to that product plus the addend, modulo 2 ^ m.
+abbrev pub MultipliesAndAdds : Sign → Aig → Order → Type 0
+MultipliesAndAdds sign g order = (a b c : ℕ) → a < 2 ^ sum_width g → b < 2 ^ sum_width g → c < 2 ^ (2 * sum_width g) →
+    sum_on g order a b c ≡ (product_as sign (output_modulus g) (sum_width g) a b + c) % output_modulus g
+
+-- It does what is claimed.
+abbrev pub DoesAs : Bool → Order → Sign → Aig → Type 0
+DoesAs false order sign g = MultipliesAs sign g order
+DoesAs true order sign g = MultipliesAndAdds sign g order
+
+abbrev pub Does : Claim → Aig → Type 0
+Does k g = DoesAs k.add k.order k.sign g
+
+-- A graph meets the claim exactly where it does so on all numbers.
+abbrev pub ClaimIsDone : Type 0
+ClaimIsDone = (g : Aig) (k : Claim) → HasShapeFor k.add g → IsDefinedOnce g → (MeetsClaim g (sides_for k g) ↔ Does k g)
+
 -- ---- where the bits stand among the inputs; private clauses alone cite what follows
-
--- the part of the inputs that is a, and the one that is b
-abbrev pub a_part : {X : Type 0} → Order → ℕ → List X → List X
-a_part Separate n xs = take n xs
-a_part Interleaved n xs = evens xs
-
-abbrev pub b_part : {X : Type 0} → Order → ℕ → List X → List X
-b_part Separate n xs = drop n xs
-b_part Interleaved n xs = odds xs
 
 -- the place of a bit of a, and that of a bit of b
 abbrev pub a_place : Order → ℕ → ℕ → ℕ
