@@ -20,6 +20,7 @@ pub mod Added
 pub mod LastFrontiers
 pub mod Positions
 pub mod LeastTerms
+pub mod InputNumbers
 pub mod LeastValues
 pub mod CallerLemmas
 mod FrontierRows

@@ -1,15 +1,20 @@
 -- The specification isn't 0 everywhere: the lowest bit of a product is no literal.
-use Rattle.std.specs.Prelude.{◌≡◌, ℕ, zero, suc, ◌+◌, ◌*◌, ◌/◌, ◌%◌, ◌^◌, ◌<◌, ◌⊎◌, Bool, true, false, not, cond, List, [], ◌∷◌, length, slice_get, ◌==◌}
+use Rattle.std.specs.Prelude.{◌≡◌, ℕ, zero, suc, ◌+◌, ◌*◌, ◌-◌, ◌/◌, ◌%◌, ◌^◌, ◌<◌, ◌≢◌, ◌⊎◌, Bool, true, false, not, cond, List, [], ◌∷◌, length, slice_get, ◌==◌}
 use Rattle.std.specs.declared.option.Option.TheVariants.{Some}
 use Rattle.std.proofs.Common.{refl, sym, ap, ap₂, ◌∙◌, arith, inl, inr, ⊎_elim, eq-eqb, ne_eqb, pow-suc}
 use Rattle.std.proofs.Math.Nat.{div-add-mod}
+use Rattle.std.specs.List.{AllByRecursion}
+use Rattle.std.proofs.lemmas.Nat.{pow_pos}
+use Rattle.std.proofs.lemmas.List.Elements.{recursion_from_All}
 use Rattle.graph_core.specs.declared.literal.Lit.{Lit}
 use Rattle.graph_core.specs.Graph.Literals.{variable_of}
 use Rattle.graph_core.specs.Graph.Assignments.{Assignment, variable, literal, bit, word}
-use Rattle.graph_core.specs.Graph.Operands.{Sides, claimed}
+use Rattle.graph_core.specs.declared.sign.Sign.{Sign}
+use Rattle.graph_core.specs.declared.sign.Sign.TheVariants.{Unsigned, Signed}
+use Rattle.graph_core.specs.Graph.Operands.{Sides, signed_word, operand_word, claimed}
 use Rattle.graph_core.specs.Algebra.{modulus}
 use Rattle.graph_core.proofs.OfAlgebra.CallerLemmas.{vanishing_means_claim}
-use Rattle.graph_core.proofs.OfGraphs.CallerLemmas.{literal-input}
+use Rattle.graph_core.proofs.OfGraphs.CallerLemmas.{literal-input, plus_word_is, product_same}
 use Rattle.frontier_core.specs.RestLine.{SpecificationIsNotZero}
 
 -- the assignment of two variables
@@ -40,22 +45,41 @@ bits_of_one : (x y z w : Bool) → IsOfOne x y z w → bit x + bit w ≡ bit y +
 bits_of_one x y z w h = ⊎_elim (λ e. ap₂ (λ p q. bit p + bit q) e.0 (sym e.1)) (λ e. ap₂ (λ p q. bit p + bit q) e.0 (sym e.1) ∙ omega arith) h
 
 -- the lowest bit of what is claimed
-claim_low : (m : ℕ) (s : Sides) (a b : Lit) (σ : Assignment) → slice_get s.a 0 ≡ Some a → slice_get s.b 0 ≡ Some b → claimed m s σ % 2 ≡ bit (literal σ a) * bit (literal σ b) % 2
-claim_low m s a b σ a_is b_is = go s.a s.b a_is b_is
+signed_low : (n : ℕ) (σ : Assignment) (l : Lit) (ls : List Lit) → 0 < n → signed_word (2 ^ n) σ (l ∷ ls) % 2 ≡ bit (literal σ l) % 2
+signed_low zero σ l ls some = absurd (omega arith)
+signed_low (suc n) σ l [] some =
+    let b = bit (literal σ l) in
+    let odd : 2 ^ suc n - 1 ≡ 1 + 2 * (2 ^ n - 1) = omega (arith, pow-suc 2 n, pow_pos n) in
+    ap (λ d. d * b % 2) odd ∙ low (2 ^ n - 1) b
   where
-    go : (as' bs : List Lit) → slice_get as' 0 ≡ Some a → slice_get bs 0 ≡ Some b → word σ as' * word σ bs % 2 ≡ bit (literal σ a) * bit (literal σ b) % 2
+    low : (d x : ℕ) → (1 + 2 * d) * x % 2 ≡ x % 2
+    low d x = let split : (1 + 2 * d) * x ≡ x + 2 * (d * x) = omega arith in omega arith
+signed_low (suc n) σ l (k ∷ ls) some = low (bit (literal σ l)) (signed_word (2 ^ suc n) σ (k ∷ ls))
+  where
+    low : (x y : ℕ) → (x + 2 * y) % 2 ≡ x % 2
+    low x y = omega arith
+
+operand_low : (n : ℕ) (sign : Sign) (σ : Assignment) (l : Lit) (ls : List Lit) → 0 < n → operand_word (2 ^ n) sign σ (l ∷ ls) % 2 ≡ bit (literal σ l) % 2
+operand_low n Unsigned σ l ls some = low (bit (literal σ l)) (word σ ls)
+  where
+    low : (x y : ℕ) → (x + 2 * y) % 2 ≡ x % 2
+    low x y = omega arith
+operand_low n Signed σ l ls some = signed_low n σ l ls some
+
+claim_low : (n : ℕ) (s : Sides) (a b : Lit) (σ : Assignment) → 0 < n → slice_get s.a 0 ≡ Some a → slice_get s.b 0 ≡ Some b → word σ s.c ≡ 0 →
+    claimed (2 ^ n) s σ % 2 ≡ bit (literal σ a) * bit (literal σ b) % 2
+claim_low n s a b σ some a_is b_is none =
+    ap (λ z. z % 2) (plus_word_is (operand_word (2 ^ n) s.claim.sign σ s.a * operand_word (2 ^ n) s.claim.sign σ s.b) σ s.c ∙
+    ap (λ z. operand_word (2 ^ n) s.claim.sign σ s.a * operand_word (2 ^ n) s.claim.sign σ s.b + z) none ∙ omega arith) ∙ go s.a s.b a_is b_is
+  where
+    go : (as' bs : List Lit) → slice_get as' 0 ≡ Some a → slice_get bs 0 ≡ Some b → operand_word (2 ^ n) s.claim.sign σ as' * operand_word (2 ^ n) s.claim.sign σ bs % 2 ≡ bit (literal σ a) * bit (literal σ b) % 2
     go [] bs h k = absurd (cc)
     go (x ∷ xs) [] h k = absurd (cc)
     go (x ∷ xs) (y ∷ ys) h k =
         let first : x ≡ a = cc in
         let second : y ≡ b = cc in
-        let p = bit (literal σ x) in
-        let q = bit (literal σ y) in
-        let split : (p + 2 * word σ xs) * (q + 2 * word σ ys) ≡ p * q + 2 * (word σ xs * q + p * word σ ys + 2 * (word σ xs * word σ ys)) = omega arith in
-        ap (λ z. z % 2) split ∙ even (p * q) (word σ xs * q + p * word σ ys + 2 * (word σ xs * word σ ys)) ∙ ap₂ (λ u v. bit (literal σ u) * bit (literal σ v) % 2) first second
-      where
-        even : (u w : ℕ) → (u + 2 * w) % 2 ≡ u % 2
-        even u w = omega arith
+        product_same 2 (operand_word (2 ^ n) s.claim.sign σ (x ∷ xs)) (bit (literal σ x)) (operand_word (2 ^ n) s.claim.sign σ (y ∷ ys)) (bit (literal σ y))
+        (operand_low n s.claim.sign σ x xs some) (operand_low n s.claim.sign σ y ys some) ∙ ap₂ (λ u v. bit (literal σ u) * bit (literal σ v) % 2) first second
 
 -- a remainder by 2 ^ n has the number's lowest bit
 low_stays : (n x : ℕ) → 0 < n → x % 2 ^ n % 2 ≡ x % 2
@@ -79,6 +103,18 @@ product_small true true = refl
 product_small true false = refl
 product_small false true = refl
 product_small false false = refl
+
+-- literals of other variables are 0 there
+others_zero : (a b : ℕ) (x y : Bool) (ls : List Lit) → AllByRecursion (λ l. (l.0 % 2 ≡ 0) × (variable_of l ≢ a) × (variable_of l ≢ b)) ls → word (two a b x y) ls ≡ 0
+others_zero a b x y [] h = refl
+others_zero a b x y (l ∷ ls) h =
+    let off : two a b x y (variable_of l) ≡ false = ap (λ t. cond t x (cond (variable_of l == b) y false)) (ne_eqb (variable_of l) a h.0.1) ∙ ap (λ t. cond t y false) (ne_eqb (variable_of l) b h.0.2) in
+    let at : literal (two a b x y) l ≡ false = ap (λ t. cond t (variable (two a b x y) (variable_of l)) (not (variable (two a b x y) (variable_of l)))) (eq-eqb (l.0 % 2) 0 h.0.0) ∙ none (variable_of l) off in
+    ap (λ t. bit t + 2 * word (two a b x y) ls) at ∙ ap (λ w. 0 + 2 * w) (others_zero a b x y ls h.1)
+  where
+    none : (v : ℕ) → two a b x y v ≡ false → variable (two a b x y) v ≡ false
+    none zero e = refl
+    none (suc v) e = e
 
 pub specification_is_not_zero : SpecificationIsNotZero
 specification_is_not_zero e s a b low some none = go e.graph.outputs refl
@@ -115,5 +151,5 @@ specification_is_not_zero e s a b low some none = go e.graph.outputs refl
             let same : word σ e.graph.outputs ≡ claimed (modulus e) s σ % modulus e = vanishing_means_claim e s σ (none σ) in
             let left : word σ e.graph.outputs % 2 ≡ bit (literal σ l) = ap (λ ks. word σ ks % 2) is ∙ word_low σ l ls ∙ bit_small (literal σ l) in
             let right : claimed (modulus e) s σ % modulus e % 2 ≡ bit x * bit y =
-            low_stays n (claimed (modulus e) s σ) some ∙ claim_low (modulus e) s a b σ low.a_is low.b_is ∙ ap₂ (λ c d. bit c * bit d % 2) (a_there x y) (b_there x y) ∙ product_small x y in
+            low_stays n (claimed (modulus e) s σ) some ∙ claim_low n s a b σ some low.a_is low.b_is (others_zero u w x y s.c (recursion_from_All _ s.c low.addend)) ∙ ap₂ (λ c d. bit c * bit d % 2) (a_there x y) (b_there x y) ∙ product_small x y in
             sym left ∙ ap (λ z. z % 2) same ∙ right

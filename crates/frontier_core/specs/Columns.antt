@@ -1,7 +1,9 @@
 -- The columns of a multiplier: what each is claimed to be, and the sum of some of them.
-use Rattle.std.specs.Prelude.{◌≡◌, ℕ, zero, suc, ◌+◌, ◌*◌, ◌%◌, ◌^◌, ◌<◌, true, List, [], ◌∷◌, length, if◌then◌else◌}
+use Rattle.std.specs.Prelude.{◌≡◌, ℕ, zero, suc, ◌+◌, ◌*◌, ◌-◌, ◌%◌, ◌^◌, ◌<◌, true, List, [], ◌∷◌, length, if◌then◌else◌}
 use Rattle.std.specs.List.{All}
 use Rattle.graph_core.specs.declared.literal.Lit.{Lit}
+use Rattle.graph_core.specs.declared.sign.Sign.{Sign}
+use Rattle.graph_core.specs.declared.sign.Sign.TheVariants.{Unsigned, Signed}
 use Rattle.graph_core.specs.Graph.Assignments.{Assignment, literal, bit, word}
 use Rattle.graph_core.specs.Graph.Operands.{Sides, operand_literals, claimed}
 use Rattle.graph_core.specs.Algebra.Polynomials.{difference}
@@ -21,9 +23,37 @@ partial_products σ [] bs k = 0
 partial_products σ (a ∷ as') bs zero = bit (literal σ a) * bit_at σ bs 0
 partial_products σ (a ∷ as') bs (suc k) = bit (literal σ a) * bit_at σ bs (suc k) + partial_products σ as' bs k
 
--- What column k is claimed to be at an assignment, up to multiples of m: the sum of its partial products.
+-- what signed literals count, each without its power of 2 and up to multiples of m: the last one -1 times its value
+abbrev pub signed_digits : ℕ → Assignment → List Lit → List ℕ
+signed_digits m σ [] = []
+signed_digits m σ (l ∷ []) = (m - 1) * bit (literal σ l) ∷ []
+signed_digits m σ (l ∷ k ∷ ls) = bit (literal σ l) ∷ signed_digits m σ (k ∷ ls)
+
+-- the number at place k, or 0 past the end
+abbrev pub digit_at : List ℕ → ℕ → ℕ
+digit_at [] k = 0
+digit_at (d ∷ ds) zero = d
+digit_at (d ∷ ds) (suc k) = digit_at ds k
+
+-- the sum of the products of the i-th and the j-th with i + j = k
+abbrev pub digit_products : List ℕ → List ℕ → ℕ → ℕ
+digit_products [] es k = 0
+digit_products (d ∷ ds) es zero = d * digit_at es 0
+digit_products (d ∷ ds) es (suc k) = d * digit_at es (suc k) + digit_products ds es k
+
+-- the sum of the partial products of column k: of signed operands a_i b_j counts -1 times where just one of the two is the last
+abbrev pub product_column : ℕ → Sign → Assignment → List Lit → List Lit → ℕ → ℕ
+product_column m Unsigned σ as' bs k = partial_products σ as' bs k
+product_column m Signed σ as' bs k = digit_products (signed_digits m σ as') (signed_digits m σ bs) k
+
+-- a number and a bit of an addend, where there is one
+abbrev pub plus_bit : ℕ → Assignment → List Lit → ℕ → ℕ
+plus_bit n σ [] k = n
+plus_bit n σ (l ∷ ls) k = n + bit_at σ (l ∷ ls) k
+
+-- What column k is claimed to be at an assignment, up to multiples of m: the sum of its partial products, and its bit of the addend.
 abbrev pub column_claim : ℕ → Sides → ℕ → Assignment → ℕ
-column_claim m s k σ = partial_products σ s.a s.b k
+column_claim m s k σ = plus_bit (product_column m s.claim.sign σ s.a s.b k) σ s.c k
 
 -- 2 ^ k times an output minus what column k is claimed to be, up to multiples of m
 abbrev pub column_of : ℕ → Sides → ℕ → Lit → Assignment → ℕ

@@ -1,12 +1,13 @@
 -- The least values of the inputs at which a graph isn't what it is claimed to be.
-use Rattle.std.specs.Prelude.{◌≡◌, ◌≢◌, ◌↔◌, ℕ, suc, ◌*◌, ◌%◌, ◌^◌, ◌<◌, ◌⊎◌, Bool, true, false, List, [], ◌∷◌, ◌++◌, map, length, if◌then◌else◌}
+use Rattle.std.specs.Prelude.{◌≡◌, ◌≢◌, ◌↔◌, ℕ, suc, ◌+◌, ◌*◌, ◌%◌, ◌^◌, ◌<◌, ◌⊎◌, Bool, true, false, List, [], ◌∷◌, ◌++◌, map, length, if◌then◌else◌}
 use Rattle.std.specs.List.{All, AllPairs, Contains}
 use Rattle.graph_core.specs.declared.literal.Lit.{Lit}
 use Rattle.graph_core.specs.declared.order.Order.{Order}
+use Rattle.graph_core.specs.declared.sign.Sign.{Sign}
 use Rattle.graph_core.specs.Graph.Literals.{variable_of}
 use Rattle.graph_core.specs.Graph.Assignments.{Assignment, literal}
 use Rattle.graph_core.specs.Graph.{Aig, IsDefinedOnce, of_inputs, evaluated}
-use Rattle.graph_core.specs.Graph.Operands.{Sides, sides_of, width, inputs_of, value_on, value_at_inputs, claimed, output_modulus, HasMultiplierShape}
+use Rattle.graph_core.specs.Graph.Operands.{Sides, sides_for, multiplying, adding, width, sum_width, bits_of, inputs_of, product_as, value_on, sum_on, value_at_inputs, claimed, output_modulus, HasMultiplierShape, HasSumShape}
 use Rattle.graph_core.specs.Algebra.Polynomials.{Term, Polynomial, value}
 use Rattle.graph_core.specs.Algebra.NormalForm.{IsNormalForm}
 use Rattle.graph_core.specs.Graph.Extended.{Extended}
@@ -55,30 +56,58 @@ LastFrontierGivesLeast = (e : Extended) (s : Sides) (added eliminated : List ℕ
 
 -- ---- two operands
 
--- operands of the graph's width on which its value isn't their product
-pub record IsDifference (g : Aig) (order : Order) (a b : ℕ) : Type 0 where
+-- operands of the graph's width on which its value isn't the product of the numbers that they stand for
+pub record IsDifference (g : Aig) (order : Order) (sign : Sign) (a b : ℕ) : Type 0 where
   pub a_below : a < 2 ^ width g
   pub b_below : b < 2 ^ width g
-  pub differs : value_on g order a b ≢ a * b % 2 ^ length g.outputs
+  pub differs : value_on g order a b ≢ product_as sign (output_modulus g) (width g) a b % output_modulus g
 
 -- the positions of the inputs that are one at these operands, in order
 abbrev pub ones_at : Aig → Order → ℕ → ℕ → List ℕ
 ones_at g order a b = ones_from 0 (inputs_of order (width g) a b)
 
 -- The difference with the fewest ones, ties by the lexicographically least list of input positions.
-pub record IsLeastDifference (g : Aig) (order : Order) (a b : ℕ) : Type 0 where
-  pub difference : IsDifference g order a b
-  pub least : (c d : ℕ) → IsDifference g order c d → ((c ≡ a) × (d ≡ b)) ⊎ Precedes (ones_at g order a b) (ones_at g order c d)
+pub record IsLeastDifference (g : Aig) (order : Order) (sign : Sign) (a b : ℕ) : Type 0 where
+  pub difference : IsDifference g order sign a b
+  pub least : (c d : ℕ) → IsDifference g order sign c d → ((c ≡ a) × (d ≡ b)) ⊎ Precedes (ones_at g order a b) (ones_at g order c d)
 
 -- The values that stand for two operands are the least difference exactly where the operands are.
 abbrev pub DifferenceIsOfOperands : Type 0
-DifferenceIsOfOperands = (g : Aig) (order : Order) (a b : ℕ) → HasMultiplierShape g → IsDefinedOnce g → a < 2 ^ width g → b < 2 ^ width g →
-    (IsLeastDifferenceAt g (sides_of order g) (inputs_of order (width g) a b) ↔ IsLeastDifference g order a b)
+DifferenceIsOfOperands = (g : Aig) (order : Order) (sign : Sign) (a b : ℕ) → HasMultiplierShape g → IsDefinedOnce g → a < 2 ^ width g → b < 2 ^ width g →
+    (IsLeastDifferenceAt g (sides_for (multiplying order sign) g) (inputs_of order (width g) a b) ↔ IsLeastDifference g order sign a b)
+
+-- ---- two operands and an addend
+
+-- operands and an addend on which the graph's value isn't the product of the numbers that the operands stand for plus the addend
+pub record IsSumDifference (g : Aig) (order : Order) (sign : Sign) (a b c : ℕ) : Type 0 where
+  pub a_below : a < 2 ^ sum_width g
+  pub b_below : b < 2 ^ sum_width g
+  pub c_below : c < 2 ^ (2 * sum_width g)
+  pub differs : sum_on g order a b c ≢ (product_as sign (output_modulus g) (sum_width g) a b + c) % output_modulus g
+
+-- the positions of the inputs that are one at these operands and this addend, in order
+abbrev pub sum_ones_at : Aig → Order → ℕ → ℕ → ℕ → List ℕ
+sum_ones_at g order a b c = ones_from 0 (inputs_of order (sum_width g) a b ++ bits_of (2 * sum_width g) c)
+
+-- The difference with the fewest ones, those of the addend too, ties by the lexicographically least list of input positions.
+pub record IsLeastSumDifference (g : Aig) (order : Order) (sign : Sign) (a b c : ℕ) : Type 0 where
+  pub difference : IsSumDifference g order sign a b c
+  pub least : (d e f : ℕ) → IsSumDifference g order sign d e f →
+      ((d ≡ a) × (e ≡ b) × (f ≡ c)) ⊎ Precedes (sum_ones_at g order a b c) (sum_ones_at g order d e f)
+
+-- The values that stand for two operands and an addend are the least difference exactly where these are.
+abbrev pub DifferenceIsOfSum : Type 0
+DifferenceIsOfSum = (g : Aig) (order : Order) (sign : Sign) (a b c : ℕ) → HasSumShape g → IsDefinedOnce g →
+    a < 2 ^ sum_width g → b < 2 ^ sum_width g → c < 2 ^ (2 * sum_width g) →
+    (IsLeastDifferenceAt g (sides_for (adding order sign) g) (inputs_of order (sum_width g) a b ++ bits_of (2 * sum_width g) c) ↔
+    IsLeastSumDifference g order sign a b c)
 
 -- There is at most one least difference.
 abbrev pub LeastDifferenceIsOne : Type 0
 LeastDifferenceIsOne = ((g : Aig) (s : Sides) (bits other : List Bool) → IsLeastDifferenceAt g s bits → IsLeastDifferenceAt g s other → other ≡ bits) ×
-    ((g : Aig) (order : Order) (a b c d : ℕ) → IsLeastDifference g order a b → IsLeastDifference g order c d → (c ≡ a) × (d ≡ b))
+    ((g : Aig) (order : Order) (sign : Sign) (a b c d : ℕ) → IsLeastDifference g order sign a b → IsLeastDifference g order sign c d → (c ≡ a) × (d ≡ b)) ×
+    ((g : Aig) (order : Order) (sign : Sign) (a b c d e f : ℕ) → IsLeastSumDifference g order sign a b c → IsLeastSumDifference g order sign d e f →
+    (d ≡ a) × (e ≡ b) × (f ≡ c))
 
 -- ---- terms
 

@@ -1,6 +1,7 @@
 -- The line by which the rest of a reduction differs from the specification, as columns are added and gates eliminated.
 use Rattle.std.specs.Prelude.{◌≡◌, ◌≢◌, ℕ, ◌+◌, ◌*◌, ◌%◌, ◌^◌, ◌<◌, true, false, List, [], ◌∷◌, length, slice_get}
 use Rattle.std.specs.declared.option.Option.TheVariants.{Some}
+use Rattle.std.specs.List.{All}
 use Rattle.graph_core.specs.declared.literal.Lit.{Lit}
 use Rattle.graph_core.specs.declared.gate.Gate.{Gate}
 use Rattle.graph_core.specs.Graph.Literals.{variable_of}
@@ -58,7 +59,7 @@ ZeroRestCloses = (e : Extended) (s : Sides) (added : List ℕ) (line rest : Assi
     ((k : ℕ) → k < length e.graph.outputs → has added k ≡ true) → IsRestLine e s added line rest →
     ((σ : Assignment) → rest σ ≡ 0) → (σ : Assignment) → line σ ≡ specification e s σ
 
--- the lowest bits of the operands are two inputs
+-- the lowest bits of the operands are two inputs, and no bit of the addend is one of them
 pub record HaveLowestBits (s : Sides) (a b : Lit) : Type 0 where
   pub a_is : slice_get s.a 0 ≡ Some a
   pub b_is : slice_get s.b 0 ≡ Some b
@@ -67,6 +68,7 @@ pub record HaveLowestBits (s : Sides) (a b : Lit) : Type 0 where
   pub a_variable : 0 < variable_of a
   pub b_variable : 0 < variable_of b
   pub apart : variable_of a ≢ variable_of b
+  pub addend : All (λ l. (l.0 % 2 ≡ 0) × (variable_of l ≢ variable_of a) × (variable_of l ≢ variable_of b)) s.c
 
 -- The specification isn't 0 everywhere, so a line with its value is no line of value 0.
 abbrev pub SpecificationIsNotZero : Type 0

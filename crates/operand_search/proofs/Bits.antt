@@ -9,11 +9,11 @@ use Rattle.std.proofs.lemmas.Nat.Bits.{bit_at_and, bit_at_not, bit_at-lt, bit_at
 use Rattle.graph_core.specs.declared.Lit.{Lit}
 use Rattle.graph_core.specs.Graph.Literals.{variable_of}
 use Rattle.graph_core.specs.Graph.Assignments.{Assignment, variable, literal, listed, word}
-use Rattle.graph_core.specs.Graph.{Aig}
-use Rattle.graph_core.specs.Graph.Operands.{Sides, AreOperandsOf, HasMultiplierShape, inputs_of, value_on, width}
-use Rattle.graph_core.specs.declared.Order.{Order}
-use Rattle.graph_core.proofs.OfGraphs.CallerLemmas.{length-operands, literal-even, literal-odd, outputs_are_value}
-use Rattle.operand_search.specs.Lanes.{truth, lane, AreWords, AreLanes}
+use Rattle.graph_core.specs.Graph.{Aig, evaluated}
+use Rattle.graph_core.specs.Graph.Operands.{Sides, inputs_at, value_at_inputs}
+use Rattle.graph_core.specs.declared.numbers.Numbers.{Numbers}
+use Rattle.graph_core.proofs.OfGraphs.CallerLemmas.{literal-even, literal-odd, word_is_evaluated}
+use Rattle.operand_search.specs.Lanes.{truth, lane, AreWords, AreLanes, StandFor}
 
 zero_or_one : (n : ℕ) → n < 2 → (n ≡ 0) ⊎ (n ≡ 1)
 zero_or_one n h = ⊎_elim (λ lt. inl (omega arith)) (λ ge. inr (omega arith)) (cases_lt n 1)
@@ -84,31 +84,25 @@ lane_zeros i n words v e =
     lane_at i words v ∙ ap (λ ws. truth i (get_or ws v 0)) e ∙
     ap (truth i) (⊎_elim (λ lt. get_or-replicate n v 0 0 lt) (λ ge. get_or_past (replicate n 0) v 0 (omega (arith, length-replicate {A = ℕ} n 0))) (cases_lt v n)) ∙ truth-zero i
 
--- ---- a lane's operands
+-- ---- a lane's numbers
 
 -- one more lane
-pub lanes_more : (order : Order) (n : ℕ) (ps : List (ℕ × ℕ)) (p : ℕ × ℕ) (old new : List ℕ) (xs : List Bool) → length ps < 64 → AreLanes order n ps old → xs ≡ inputs_of order n p.0 p.1 →
-    lane (length ps) new ≡ xs → ((i : ℕ) → i < 64 → i ≢ length ps → lane i new ≡ lane i old) → AreLanes order n (ps ++ p ∷ []) new
-lanes_more order n ps p old new xs few lanes is here others j d low =
-    let size = length_push ps p in
+pub lanes_more : (s : Sides) (xs : List Numbers) (x : Numbers) (old new : List ℕ) (bits : List Bool) → length xs < 64 → AreLanes s xs old → StandFor s bits x →
+    lane (length xs) new ≡ bits → ((i : ℕ) → i < 64 → i ≢ length xs → lane i new ≡ lane i old) → AreLanes s (xs ++ x ∷ []) new
+lanes_more s xs x old new bits few lanes stand here others j d low =
+    let size = length_push xs x in
     ⊎_elim
-    (λ lt. let ne : j ≢ length ps = omega arith in
-    others j (omega arith) ne ∙ lanes j d lt ∙ ap (λ (q : ℕ × ℕ). inputs_of order n q.0 q.1) (sym (get_or_append_left ps (p ∷ []) d j lt)))
-    (λ ge. let same : length ps ≡ j = omega arith in
-    ap (λ i. lane i new) (sym same) ∙ here ∙ is ∙ ap (λ (q : ℕ × ℕ). inputs_of order n q.0 q.1) (sym (get_or_push ps p d j same)))
-    (cases_lt j (length ps))
+    (λ lt. let ne : j ≢ length xs = omega arith in
+    subst (StandFor s (lane j new)) (sym (get_or_append_left xs (x ∷ []) d j lt)) (subst (λ bs. StandFor s bs (get_or xs j d)) (sym (others j (omega arith) ne)) (lanes j d lt)))
+    (λ ge. let same : length xs ≡ j = omega arith in
+    subst (StandFor s (lane j new)) (sym (get_or_push xs x d j same)) (subst (λ bs. StandFor s bs x) (sym (ap (λ i. lane i new) (sym same) ∙ here)) stand))
+    (cases_lt j (length xs))
 
--- the outputs' number in a lane is the graph's value on its operands
-pub lane_value : (g : Aig) (order : Order) (ps : List (ℕ × ℕ)) (inputs words : List ℕ) → AreWords g inputs words → AreLanes order (width g) ps inputs →
-    (j : ℕ) (d : ℕ × ℕ) → j < length ps → j < 64 → (ls : List Lit) → ls ≡ g.outputs → word (listed (lane j words)) ls ≡ value_on g order (get_or ps j d).0 (get_or ps j d).1
-lane_value g order ps inputs words are lanes j d low within ls same =
-    let p = get_or ps j d in
-    ap (word (listed (lane j words))) same ∙ outputs_are_value g order (lane j inputs) (lane j words) p.0 p.1 (are j within) (lanes j d low)
-
--- lanes of the operands of a graph
-pub lanes_of : (g : Aig) (s : Sides) → HasMultiplierShape g → AreOperandsOf g s → (ps qs : List (ℕ × ℕ)) → qs ≡ ps → (ws : List ℕ) → AreLanes s.order (length s.a) ps ws → AreLanes s.order (width g) qs ws
-lanes_of g s shape of ps qs same ws lanes =
-    subst (λ us. AreLanes s.order (width g) us ws) (sym same) (subst (λ n. AreLanes s.order n ps ws) (length-operands g s shape of).0 lanes)
+-- the outputs' number in a lane is the graph's value there
+pub lane_value : (g : Aig) (s : Sides) (xs : List Numbers) (inputs words : List ℕ) → AreWords g inputs words → AreLanes s xs inputs →
+    (j : ℕ) (d : Numbers) → j < length xs → j < 64 → (ls : List Lit) → ls ≡ g.outputs → word (listed (lane j words)) ls ≡ value_at_inputs g (inputs_at s (get_or xs j d))
+lane_value g s xs inputs words are lanes j d low within ls same =
+    ap (word (listed (lane j words))) same ∙ word_is_evaluated g (lane j inputs) (lane j words) (are j within) g.outputs ∙ ap (λ bits. word (evaluated g bits) g.outputs) (lanes j d low).is
 
 -- not negated
 pub not_odd : (l : Lit) → (l.0 % 2 ≡ 1 → false ≡ true) → l.0 % 2 ≡ 0

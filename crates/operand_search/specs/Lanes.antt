@@ -1,9 +1,9 @@
 -- Truth values that are kept as the bits of words: lane i of some words is the list of their bits i.
 use Rattle.std.specs.Prelude.{◌≡◌, ℕ, ◌<◌, Bool, List, map, length, slice_index_or, ◌==◌}
 use Rattle.std.specs.Int.{bit_at}
-use Rattle.graph_core.specs.declared.order.Order.{Order}
+use Rattle.graph_core.specs.declared.numbers.Numbers.{Numbers}
 use Rattle.graph_core.specs.Graph.{Aig, AreValues}
-use Rattle.graph_core.specs.Graph.Operands.{inputs_of}
+use Rattle.graph_core.specs.Graph.Operands.{Sides, AreInRange, inputs_at}
 
 -- whether bit i is one
 abbrev pub truth : ℕ → ℕ → Bool
@@ -16,6 +16,11 @@ lane i words = map (truth i) words
 abbrev pub AreWords : Aig → List ℕ → List ℕ → Type 0
 AreWords g inputs words = (i : ℕ) → i < 64 → AreValues g (lane i inputs) (lane i words)
 
--- Lane j of the inputs stands for the operands at place j, of n bits each.
-abbrev pub AreLanes : Order → ℕ → List (ℕ × ℕ) → List ℕ → Type 0
-AreLanes order n ps inputs = (j : ℕ) (d : ℕ × ℕ) → j < length ps → lane j inputs ≡ inputs_of order n (slice_index_or ps j d).0 (slice_index_or ps j d).1
+-- The values of the inputs stand for two operands and, where there is one, an addend.
+pub record StandFor (s : Sides) (bits : List Bool) (x : Numbers) : Type 0 where
+  pub range : AreInRange s x
+  pub is : bits ≡ inputs_at s x
+
+-- Lane j of the inputs stands for the numbers at place j.
+abbrev pub AreLanes : Sides → List Numbers → List ℕ → Type 0
+AreLanes s xs inputs = (j : ℕ) (d : Numbers) → j < length xs → StandFor s (lane j inputs) (slice_index_or xs j d)

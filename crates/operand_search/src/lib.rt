@@ -1,15 +1,16 @@
-//! The least operands on which a multiplier differs from their product, by trying those with few ones.
+//! The least operands and addend on which a graph differs from what is claimed, by trying those with few ones.
 //!
 //! `least_within` answers the least difference exactly where it has at most so many ones, else None: then every difference
 //! has more. It goes through the values of the inputs in the order of differences (fewer ones first, as many by the
 //! lexicographically least list of positions), and evaluates the graph on 64 of them at a time, in the bits of one word a
 //! variable. With k ones among n inputs there are n! / (k! (n - k)!) values: of 128 inputs 8,257 with at most two ones, and
 //! 349,633 with at most three. `most_ones_within` says how many ones some work is enough for, and `least_seen` looks only
-//! where a few hundred fixed operands already show that the graph differs.
+//! where a few hundred fixed values of the inputs already show that the graph differs.
 //!
 //! *Difference*, *least difference*: `LeastDifference` of `frontier_core`.
 #![tactic(auto)]
 
+mod claimed;
 mod comparison;
 mod draws;
 mod enumeration;
@@ -19,7 +20,7 @@ mod search;
 mod simulation;
 mod work;
 
-pub use comparison::product;
+pub use claimed::claimed_value;
 pub use sampling::least_seen;
 pub use search::least_within;
 pub use work::most_ones_within;

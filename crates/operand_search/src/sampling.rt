@@ -1,30 +1,31 @@
 // The least difference, looked for only where some fixed operands show that there is one.
-ghost use Rattle.std.specs.Prelude.{◌≡◌, ◌+◌, ◌*◌, ◌≤◌, length, IfOk, IfSome};
-ghost use Rattle.graph_core.specs.Graph.Operands.{AreOperandsOf, HasMultiplierShape, width};
-ghost use Rattle.frontier_core.specs.LeastDifference.{IsLeastDifference};
+ghost use Rattle.std.specs.Prelude.{◌≡◌, ◌+◌, ◌≤◌, length, IfOk, IfSome};
+ghost use Rattle.graph_core.specs.Graph.Operands.{AreInRange, AreOperandsOf, HasShapeFor, inputs_at, operand_literals};
+ghost use Rattle.frontier_core.specs.LeastDifference.{IsLeastDifferenceAt};
 
 use crate::comparison::first_wrong;
 use crate::draws::Draws;
 use crate::lanes::{LANES, has_bit};
 use crate::search::least_within;
-use graph_core::{Graph, Memory, Operands};
+use graph_core::{Graph, Memory, Numbers, Operands};
 use std::alloc::{AllocError, Global};
 
-// How many times as many operands as there are lanes are looked at.
+// How many times as many values of the inputs as there are lanes are looked at.
 const ROUNDS: u32 = 8;
 
-/// The least operands on which the graph's value isn't their product, where they have at most so many ones and some of
-/// a few hundred fixed operands, the same in each call, already show a difference.
+/// The least operands and addend on which the graph's value isn't what is claimed, where they have at most so many ones
+/// and some of a few hundred fixed ones, the same in each call, already show a difference.
 pub fn least_seen(
     alloc: Global,
     graph: &Graph,
     operands: &Operands,
     most_ones: u32,
-) -> Result<Option<(u64, u64)>, Memory>
-    requires shape { HasMultiplierShape graph.now }
+) -> Result<Option<Numbers>, Memory>
+    requires shape { HasShapeFor operands.now.claim.add graph.now }
     requires operands { AreOperandsOf graph.now operands.now }
-    ensures some { IfOk result (λ found. IfSome found (λ pair.
-        IsLeastDifference graph.now operands.now.order pair.0 pair.1)) }
+    ensures some { IfOk result (λ found. IfSome found (λ x.
+        IsLeastDifferenceAt graph.now operands.now (inputs_at operands.now x))) }
+    ensures range { IfOk result (λ found. IfSome found (AreInRange operands.now)) }
 {
     if is_seen_to_differ(alloc, graph, operands)? {
         least_within(alloc, graph, operands, most_ones)
@@ -33,19 +34,19 @@ pub fn least_seen(
     }
 }
 
-// Whether on one of these operands the graph's value isn't their product.
+// Whether on one of these values of the inputs the graph's value isn't what is claimed.
 fn is_seen_to_differ(alloc: Global, graph: &Graph, operands: &Operands) -> Result<bool, Memory>
-    requires shape { HasMultiplierShape graph.now }
+    requires shape { HasShapeFor operands.now.claim.add graph.now }
     requires operands { AreOperandsOf graph.now operands.now }
 {
-    let count = 2 * operands.bits() as usize;
+    let count = graph.inputs() as usize;
     let mut bits = vec![in alloc; false; count]?;
     let mut lanes = vec![in alloc; 0; count]?;
     let mut words = vec![in alloc; 0; graph.max() as usize + 1]?;
     differs_on_draws(alloc, graph, operands, &mut bits, &mut lanes, &mut words)
 }
 
-// The same, with room for the bits of two operands, for the inputs' words and for the variables'.
+// The same, with room for the inputs' bits, for the inputs' words and for the variables'.
 fn differs_on_draws(
     alloc: Global,
     graph: &Graph,
@@ -54,9 +55,9 @@ fn differs_on_draws(
     lanes: &mut [u64],
     words: &mut [u64],
 ) -> Result<bool, Memory>
-    requires shape { HasMultiplierShape graph.now }
-    requires narrow { width graph.now ≤ 64 }
-    requires bits { length bits.old ≡ 2 * length operands.now.a }
+    requires shape { HasShapeFor operands.now.claim.add graph.now }
+    requires operands { AreOperandsOf graph.now operands.now }
+    requires bits { length bits.old ≡ length (operand_literals operands.now) }
     requires lanes { length lanes.old ≡ length graph.now.inputs }
     requires as_many { length bits.old ≡ length lanes.old }
     requires words { length words.old ≡ graph.now.max + 1 }
@@ -64,8 +65,8 @@ fn differs_on_draws(
     let mut draws = Draws::new();
     for round in 0..ROUNDS {
         draw_into(&mut draws, round, lanes);
-        let pairs = pairs_in(alloc, operands, bits, lanes)?;
-        if first_wrong(graph, &pairs, lanes, words).is_some() {
+        let numbers = numbers_in(alloc, operands, bits, lanes)?;
+        if first_wrong(graph, operands, &numbers, lanes, words).is_some() {
             return Ok(true);
         }
     }
@@ -87,24 +88,24 @@ fn draw_into(draws: &mut Draws, round: u32, lanes: &mut [u64])
     }
 }
 
-// The operands of each lane.
-fn pairs_in(
+// The numbers of each lane.
+fn numbers_in(
     alloc: Global,
     operands: &Operands,
     bits: &mut [bool],
     lanes: &[u64],
-) -> Result<Vec<(u64, u64)>, AllocError>
-    requires bits { length bits.old ≡ 2 * length operands.now.a }
+) -> Result<Vec<Numbers>, AllocError>
+    requires bits { length bits.old ≡ length (operand_literals operands.now) }
     requires as_many { length bits.old ≡ length lanes.now }
     ensures size { length bits.new ≡ length bits.old }
-    ensures at_most { IfOk result (λ pairs. length pairs.items ≤ 64) }
+    ensures at_most { IfOk result (λ numbers. length numbers.items ≤ 64) }
 {
-    let mut pairs = Vec::new(alloc);
+    let mut numbers = Vec::new(alloc);
     for lane in 0..LANES {
         for (place, &word) in lanes.iter().enumerate() {
             bits[place] = has_bit(word, lane);
         }
-        pairs.push(operands.pair_of(bits))?;
+        numbers.push(operands.numbers_of(bits))?;
     }
-    Ok(pairs)
+    Ok(numbers)
 }

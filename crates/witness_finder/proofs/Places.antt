@@ -1,6 +1,6 @@
 -- Which literal stands at a position of the inputs.
 use Rattle.std.specs.Prelude.{◌≡◌, ◌≢◌, ℕ, zero, suc, ◌+◌, ◌-◌, ◌*◌, ◌/◌, ◌%◌, ◌<◌, ◌≤◌, Some, false, List, [], ◌∷◌, ◌++◌, length, get_or, slice_get}
-use Rattle.std.proofs.Common.{refl, ap, subst, ◌∙◌, arith, length-append}
+use Rattle.std.proofs.Common.{ap, subst, ◌∙◌, arith, length-append}
 use Rattle.std.proofs.lemmas.List.{get_or-map, length-map}
 use Rattle.std.proofs.lemmas.Option.{none-some, get_or_from_slice_get, slice_get_within}
 use Rattle.graph_core.specs.declared.Lit.{Lit}
@@ -12,20 +12,13 @@ use Rattle.graph_core.specs.Graph.Operands.{Sides, AreSides, alternate, in_order
 use Rattle.graph_core.proofs.OfGraphs.CallerLemmas.{literal-input}
 use Rattle.frontier_core.specs.Sets.{has}
 use Rattle.frontier_core.specs.LeastDifference.{AreInputs}
+use Rattle.frontier_core.proofs.CallerLemmas.{length-in_order}
 use Rattle.witness_finder.specs.Positions.{bits_at}
 
-length-alternate : (xs ys : List Lit) → length xs ≡ length ys → length (alternate xs ys) ≡ 2 * length xs
-length-alternate [] [] e = refl
-length-alternate [] (y ∷ ys) e = absurd (omega arith)
-length-alternate (x ∷ xs) [] e = absurd (omega arith)
-length-alternate (x ∷ xs) (y ∷ ys) e = omega (arith, length-alternate xs ys (omega arith))
-
-pub length-inputs_in : (s : Sides) → AreSides s → length (inputs_in s) ≡ 2 * length s.a
-length-inputs_in s h = go s.order
-  where
-    go : (order : Order) → length (in_order order s.a s.b) ≡ 2 * length s.a
-    go Separate = let same = h.equal in omega (arith, length-append s.a s.b)
-    go Interleaved = length-alternate s.a s.b h.equal
+pub length-inputs_in : (s : Sides) → AreSides s → length (inputs_in s) ≡ 2 * length s.a + length s.c
+length-inputs_in s h =
+    let same = h.equal in
+    omega (arith, length-append (in_order s.claim.order s.a s.b) s.c, length-in_order s.claim.order s.a s.b)
 
 at_front : (xs ys : List Lit) (i : ℕ) (l : Lit) → slice_get xs i ≡ Some l → slice_get (xs ++ ys) i ≡ Some l
 at_front [] ys i l e = absurd (none-some l e)
@@ -56,20 +49,26 @@ at_odd (x ∷ xs) (y ∷ ys) (suc (suc i)) zero l same e h = absurd (omega arith
 at_odd (x ∷ xs) (y ∷ ys) (suc (suc i)) (suc k) l same e h = at_odd xs ys i k l (omega arith) (omega arith) h
 
 module _ (s : Sides) (i : ℕ) (l : Lit) where
-  ordered : (order : Order) → s.order ≡ order → slice_get (in_order order s.a s.b) i ≡ Some l → slice_get (inputs_in s) i ≡ Some l
-  ordered order e h = ap (λ o. slice_get (in_order o s.a s.b) i) e ∙ h
+  ordered : (order : Order) → s.claim.order ≡ order → slice_get (in_order order s.a s.b) i ≡ Some l → slice_get (inputs_in s) i ≡ Some l
+  ordered order e h = at_front (in_order s.claim.order s.a s.b) s.c i l (ap (λ o. slice_get (in_order o s.a s.b) i) e ∙ h)
 
-  pub separate_a : s.order ≡ Separate → slice_get s.a i ≡ Some l → slice_get (inputs_in s) i ≡ Some l
+  pub separate_a : s.claim.order ≡ Separate → slice_get s.a i ≡ Some l → slice_get (inputs_in s) i ≡ Some l
   separate_a e h = ordered Separate e (at_front s.a s.b i l h)
 
-  pub separate_b : s.order ≡ Separate → length s.a ≤ i → slice_get s.b (i - length s.a) ≡ Some l → slice_get (inputs_in s) i ≡ Some l
+  pub separate_b : s.claim.order ≡ Separate → length s.a ≤ i → slice_get s.b (i - length s.a) ≡ Some l → slice_get (inputs_in s) i ≡ Some l
   separate_b e low h = ordered Separate e (at_back s.a s.b i (i - length s.a) l (omega arith) h)
 
-  pub interleaved_a : s.order ≡ Interleaved → AreSides s → i % 2 ≡ 0 → slice_get s.a (i / 2) ≡ Some l → slice_get (inputs_in s) i ≡ Some l
+  pub interleaved_a : s.claim.order ≡ Interleaved → AreSides s → i % 2 ≡ 0 → slice_get s.a (i / 2) ≡ Some l → slice_get (inputs_in s) i ≡ Some l
   interleaved_a e sides even h = ordered Interleaved e (at_even s.a s.b i (i / 2) l sides.equal (omega arith) h)
 
-  pub interleaved_b : s.order ≡ Interleaved → AreSides s → i % 2 ≢ 0 → slice_get s.b (i / 2) ≡ Some l → slice_get (inputs_in s) i ≡ Some l
+  pub interleaved_b : s.claim.order ≡ Interleaved → AreSides s → i % 2 ≢ 0 → slice_get s.b (i / 2) ≡ Some l → slice_get (inputs_in s) i ≡ Some l
   interleaved_b e sides odd h = ordered Interleaved e (at_odd s.a s.b i (i / 2) l sides.equal (omega arith) h)
+
+  -- a literal of the addend
+  pub addend_at : (k : ℕ) → AreSides s → i ≡ 2 * length s.a + k → slice_get s.c k ≡ Some l → slice_get (inputs_in s) i ≡ Some l
+  addend_at k sides place h =
+      let same = sides.equal in
+      at_back (in_order s.claim.order s.a s.b) s.c i k l (omega (arith, length-in_order s.claim.order s.a s.b)) h
 
 -- The input at a position is true exactly if its variable is among the true ones.
 pub bit_is : (s : Sides) (vs : List ℕ) (i : ℕ) (l : Lit) → AreInputs (inputs_in s) → slice_get (inputs_in s) i ≡ Some l → get_or (bits_at s vs) i false ≡ has vs (variable_of l)
@@ -80,5 +79,5 @@ bit_is s vs i l inputs is =
     get_or-map (literal (has vs)) ls i l false low ∙ ap (literal (has vs)) here ∙
     literal-input (has vs) l (subst (λ x. (x.0 % 2 ≡ 0) × (0 < variable_of x)) here (inputs.even i l low))
 
-pub length-bits_at : (s : Sides) (vs : List ℕ) → AreSides s → length (bits_at s vs) ≡ 2 * length s.a
-length-bits_at s vs h = length-map (inputs_in s) (literal (has vs)) ∙ length-inputs_in s h
+pub length-bits_at : (s : Sides) (vs : List ℕ) → length (bits_at s vs) ≡ length (inputs_in s)
+length-bits_at s vs = length-map (inputs_in s) (literal (has vs))

@@ -1,25 +1,23 @@
 // The values of the inputs at which just a monomial's variables are true.
-ghost use Rattle.std.specs.Prelude.{◌≡◌, ◌<◌, ◌^◌, Some, length, slice_get, slice_index_or, false};
-ghost use Rattle.graph_core.specs.Graph.Operands.{inputs_in, inputs_of};
+ghost use Rattle.std.specs.Prelude.{◌≡◌, ◌*◌, ◌<◌, ◌≤◌, Some, length, slice_get, slice_index_or, false};
+ghost use Rattle.graph_core.specs.Graph.Operands.{AreInRange, inputs_at, inputs_in, operand_literals};
 ghost use Rattle.frontier_core.specs.LeastDifference.{AreInputs};
 ghost use Rattle.witness_finder.specs.Positions.{bits_at};
 
-use graph_core::{Lit, Operands, Order};
+use graph_core::{Lit, Numbers, Operands, Order};
 
-/// The operands at which the variables of a monomial are true and no others.
-pub(crate) fn operands_at(variables: &[u32], operands: &Operands) -> (u64, u64)
+/// The numbers at which the variables of a monomial are true and no others.
+pub(crate) fn numbers_at(variables: &[u32], operands: &Operands) -> Numbers
     requires { AreInputs (inputs_in operands.now) }
-    ensures inputs { inputs_of operands.now.order (length operands.now.a) result.0 result.1 ≡
-        bits_at operands.now variables.now }
-    ensures a { result.0 < 2 ^ length operands.now.a }
-    ensures b { result.1 < 2 ^ length operands.now.a }
+    ensures inputs { inputs_at operands.now result ≡ bits_at operands.now variables.now }
+    ensures range { AreInRange operands.now result }
 {
-    let mut inputs = [false; 128];
-    let count = 2 * operands.bits();
+    let mut values = [false; 256];
+    let count = inputs(operands);
     for i in 0..count {
-        inputs[i as usize] = is_one(variables, operands, i);
+        values[i as usize] = is_one(variables, operands, i);
     }
-    operands.pair_of(&inputs[..count as usize])
+    operands.numbers_of(&values[..count as usize])
 }
 
 /// Whether the input at a position is a variable of the monomial.
@@ -31,9 +29,31 @@ pub(crate) fn is_one(variables: &[u32], operands: &Operands, i: u32) -> bool
     variables.contains(&input_at(operands, i).var())
 }
 
-// The input at a position.
+/// How many inputs there are: those of the operands and those of an addend.
+pub(crate) fn inputs(operands: &Operands) -> u32
+    ensures value { result ≡ length (inputs_in operands.now) }
+    ensures literals { result ≡ length (operand_literals operands.now) }
+    ensures few { result ≤ 256 }
+{
+    2 * operands.bits() + operands.c_literals().len() as u32
+}
+
+// The input at a position: the addend's stand behind those of the operands.
 fn input_at(operands: &Operands, i: u32) -> Lit
     requires { i < length (inputs_in operands.now) }
+    ensures { slice_get (inputs_in operands.now) i ≡ Some result }
+{
+    let both = 2 * operands.bits();
+    if i < both {
+        operand_at(operands, i)
+    } else {
+        operands.c_literals()[(i - both) as usize]
+    }
+}
+
+// The literal of the operands at a position.
+fn operand_at(operands: &Operands, i: u32) -> Lit
+    requires { i < 2 * length operands.now.a }
     ensures { slice_get (inputs_in operands.now) i ≡ Some result }
 {
     let bits = operands.bits();

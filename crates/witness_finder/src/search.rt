@@ -1,34 +1,33 @@
-// The search for the least operands at which a polynomial isn't 0.
-ghost use Rattle.std.specs.Prelude.{◌≡◌, ◌<◌, ◌^◌, ◌↔◌, IfSome, None, length, slice_index_or};
+// The search for the least values of the inputs at which a polynomial isn't 0, as numbers.
+ghost use Rattle.std.specs.Prelude.{◌≡◌, ◌<◌, ◌↔◌, IfSome, None, length, slice_index_or};
 ghost use Rattle.graph_core.specs.Graph.Assignments.{Assignment};
-ghost use Rattle.graph_core.specs.Graph.Operands.{inputs_in, inputs_of};
+ghost use Rattle.graph_core.specs.Graph.Operands.{AreInRange, inputs_at, inputs_in};
 ghost use Rattle.graph_core.specs.Algebra.Polynomials.{Term};
 ghost use Rattle.frontier_core.specs.LastFrontier.{IsOverInputs};
 ghost use Rattle.frontier_core.specs.LeastDifference.{AreInputs, IsLeastNonzero, IsLeastTerm};
 ghost use Rattle.poly_terms.specs.Tables.{IsOf, monomials_in, value_in};
 
 use crate::comparison::comes_before;
-use crate::ones::operands_at;
-use graph_core::Operands;
+use crate::ones::numbers_at;
+use graph_core::{Numbers, Operands};
 use poly_terms::{Poly, Terms};
 
-/// The operands with the fewest one bits at which a polynomial over the inputs isn't 0, ties by the lexicographically
-/// least list of input positions.
-pub fn least(terms: &Terms, poly: &Poly, operands: &Operands) -> Option<(u64, u64)>
+/// The operands and the addend with the fewest one bits at which a polynomial over the inputs isn't 0, ties by the
+/// lexicographically least list of input positions.
+pub fn least(terms: &Terms, poly: &Poly, operands: &Operands) -> Option<Numbers>
     requires of { IsOf terms.now poly.now }
     requires inputs { AreInputs (inputs_in operands.now) }
     requires over { IsOverInputs (inputs_in operands.now) (monomials_in terms.now poly.now) }
     ensures none { result ≡ None ↔ ((σ : Assignment) → value_in terms.now poly.now σ ≡ 0) }
-    ensures some { IfSome result (λ pair. IsLeastNonzero (value_in terms.now poly.now) (inputs_in operands.now)
-        (inputs_of operands.now.order (length operands.now.a) pair.0 pair.1)) }
-    ensures below { IfSome result (λ pair.
-        (pair.0 < 2 ^ length operands.now.a) × (pair.1 < 2 ^ length operands.now.a)) }
+    ensures some { IfSome result (λ x. IsLeastNonzero (value_in terms.now poly.now) (inputs_in operands.now)
+        (inputs_at operands.now x)) }
+    ensures range { IfSome result (AreInRange operands.now) }
 {
     if terms.size(poly) == 0 {
         return None;
     }
     let place = least_place(terms, poly, operands);
-    Some(operands_at(terms.vars(poly, place), operands))
+    Some(numbers_at(terms.vars(poly, place), operands))
 }
 
 // The place of a monomial that no other one precedes.

@@ -1,21 +1,27 @@
-use Rattle.std.proofs.Common.{◌≡◌, ◌-◌, ◌≤◌, Some, slice_get, arith, sym, subst, ◌∙◌}
-use Rattle.witness_finder.proofs.Places.{length-inputs_in, separate_a, separate_b, interleaved_a, interleaved_b}
+use Rattle.std.proofs.Common.{◌≡◌, ◌*◌, ◌-◌, ◌<◌, Some, get_or, slice_get, length, ap, subst, arith}
+use Rattle.std.proofs.lemmas.Option.{slice_get-get_or}
+use Rattle.graph_core.specs.declared.literal.Lit.{Lit}
+use Rattle.witness_finder.proofs.Places.{addend_at, length-inputs_in}
 use Rattle.witness_finder.proofs.ones.input_at.Goals as goal
 
-pub a-requires-then-i-eq0 : goal.a-requires-then-i-eq0
-a-requires-then-i-eq0 c = record { in_range = let s = c.args.operands.now in let low = c.requires in omega (arith, length-inputs_in s c.bits-bits.ensures.sides) }
+pub bounds-c_literals-i : goal.bounds-c_literals-i
+bounds-c_literals-i c =
+    let low = c.requires in
+    let value = c.bits-both.ensures.value in
+    let high = c.if-i-both.false in
+    let addend = ap length c.c_literals.ensures.value in
+    omega (arith, length-inputs_in c.args.operands.now c.bits-both.ensures.sides)
 
-pub b-requires-else-i-eq0 : goal.b-requires-else-i-eq0
-b-requires-else-i-eq0 c = record { in_range = let s = c.args.operands.now in let low = c.requires in let same = c.bits-bits.ensures.sides.equal in omega (arith, length-inputs_in s c.bits-bits.ensures.sides) }
-
-pub returns-then-i-bits : goal.returns-then-i-bits
-returns-then-i-bits c = separate_a c.args.operands.now c.args.i c.a.result (sym c.order.ensures ∙ c.in-Separate.is) c.a.ensures
-
-pub returns-else-i-bits : goal.returns-else-i-bits
-returns-else-i-bits c = separate_b c.args.operands.now c.args.i c.b.result (sym c.order.ensures ∙ c.in-Separate.is) (subst (λ n. n ≤ c.args.i) c.bits-bits.ensures.value c.if-i-bits.false) (subst (λ n. slice_get c.args.operands.now.b (c.args.i - n) ≡ Some c.b.result) c.bits-bits.ensures.value c.b.ensures)
-
-pub returns-then-i-eq0 : goal.returns-then-i-eq0
-returns-then-i-eq0 c = interleaved_a c.args.operands.now c.args.i c.a-then-i-eq0.result (sym c.order.ensures ∙ c.in-Interleaved.is) c.bits-bits.ensures.sides c.if-i-eq0.true c.a-then-i-eq0.ensures
-
-pub returns-else-i-eq0 : goal.returns-else-i-eq0
-returns-else-i-eq0 c = interleaved_b c.args.operands.now c.args.i c.b-else-i-eq0.result (sym c.order.ensures ∙ c.in-Interleaved.is) c.bits-bits.ensures.sides c.if-i-eq0.false c.b-else-i-eq0.ensures
+pub returns-else-i-both : goal.returns-else-i-both
+returns-else-i-both c =
+    let s = c.args.operands.now in
+    let k = c.args.i - 2 * c.bits-both.result in
+    let ls = c.c_literals.result.now in
+    let d : Lit = record { 0 = 0 } in
+    let low = c.requires in
+    let value = c.bits-both.ensures.value in
+    let high = c.if-i-both.false in
+    let addend = ap length c.c_literals.ensures.value in
+    let below : k < length ls = omega (arith, length-inputs_in s c.bits-both.ensures.sides) in
+    addend_at s c.args.i (get_or ls k d) k c.bits-both.ensures.sides (omega arith)
+    (subst (λ xs. slice_get xs k ≡ Some (get_or ls k d)) c.c_literals.ensures.value (slice_get-get_or ls k d below))

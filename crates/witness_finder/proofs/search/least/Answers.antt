@@ -17,7 +17,7 @@ returns-clause-some c =
     let ts = monomials_in t p in
     let place = c.least_place-place.result in
     let variables = variables_at ts place no_term c.vars.result.now c.least_place-place.ensures.place c.vars.ensures in
-    subst (IsLeastNonzero (value_in t p) (inputs_in s)) (ap (bits_at s) variables ∙ sym c.operands_at.ensures.inputs)
+    subst (IsLeastNonzero (value_in t p) (inputs_in s)) (ap (bits_at s) variables ∙ sym c.numbers_at.ensures.inputs)
     (least_term_gives_inputs (modulus t) (inputs_in s) ts _ c.requires.inputs (normal t p c.requires.of) c.requires.over (c.least_place-place.ensures.least no_term))
 
 pub returns-clause-none : goal.returns-clause-none

@@ -1,0 +1,5 @@
+use Rattle.std.proofs.Common.{◌≡◌, length}
+use Rattle.operand_search.proofs.sampling.numbers_in.Given as goal
+
+abbrev pub invariant-loop-lane : goal.invariant-loop-lane
+invariant-loop-lane l = (length l.bits ≡ length l.initial.bits) × (length l.numbers.items ≡ l.lane)

@@ -1,5 +1,0 @@
-use Rattle.std.proofs.Common.{◌≡◌, length}
-use Rattle.operand_search.proofs.sampling.pairs_in.Given as goal
-
-abbrev pub invariant-loop-lane : goal.invariant-loop-lane
-invariant-loop-lane l = (length l.bits ≡ length l.initial.bits) × (length l.pairs.items ≡ l.lane)
