@@ -7,11 +7,11 @@ use Rattle.graph_core.specs.declared.gate.Gate.{Gate}
 use Rattle.graph_core.specs.Graph.Assignments.{Assignment, variable, bit, literal, word}
 use Rattle.graph_core.specs.Graph.{Aig}
 use Rattle.graph_core.specs.Graph.Extended.{without_cut}
-use Rattle.graph_core.specs.Graph.Operands.{Sides}
+use Rattle.graph_core.specs.Graph.Operands.{Sides, claimed, operand_word}
 use Rattle.graph_core.specs.Algebra.Polynomials.{Polynomial, value, difference}
 use Rattle.frontier_core.specs.Substitution.{gate_value}
 use Rattle.graph_core.specs.Algebra.{modulus as modulus_of}
-use Rattle.graph_core.proofs.OfGraphs.CallerLemmas.{product_same}
+use Rattle.graph_core.proofs.OfGraphs.CallerLemmas.{plus_word_is, product_same}
 use Rattle.poly_terms.specs.Tables.{Table, Sum, modulus, value_in, IsOf, Extends}
 use Rattle.poly_terms.specs.Laws.{modulus_stays, value_stays, extends_on}
 use Rattle.gate_axioms.specs.Axioms.{IsGateAxiom, IsDifference, IsSpecification}
@@ -95,10 +95,18 @@ times_has t form gate n x σ one has =
     let is : value m form σ % m ≡ g % m = has.value σ ∙ ap (λ k. k % m) (ap (λ j. j * g) one ∙ one-mul g) in
     product_same m x x (value m form σ) g refl is ∙ ap (λ k. k % m) (mul_comm x g)
 
-pub specification_has : (old new : Table) (p : Sum) (g : Aig) (s : Sides) (o n k : ℕ) → modulus old ≡ modulus_of (without_cut g) → Extends old new →
-    (o + 1) % modulus old ≡ 0 → n ≡ 1 → k ≡ 1 →
-    HasValue new p (λ σ. n * word σ g.outputs + (o * word σ s.a) * (k * word σ s.b)) → IsSpecification new p (without_cut g) s
-specification_has old new p g s o n k same grown opposite one one' has σ =
-    difference_from old new p o (word σ g.outputs) (word σ s.a * word σ s.b) _ σ grown opposite has
-    (ap₂ (λ i j. i * word σ g.outputs + (o * word σ s.a) * (j * word σ s.b)) one one' ∙ omega arith) ∙
-    ap (λ m. difference m (word σ g.outputs) (word σ s.a * word σ s.b)) (modulus_stays old new grown ∙ same)
+pub specification_has : (old new : Table) (p : Sum) (g : Aig) (s : Sides) (o n : ℕ) → modulus old ≡ modulus_of (without_cut g) → Extends old new →
+    (o + 1) % modulus old ≡ 0 → n ≡ 1 →
+    HasValue new p (λ σ. (n * word σ g.outputs + o * word σ s.c) + (o * operand_word (modulus old) s.claim.sign σ s.a) * (n * operand_word (modulus old) s.claim.sign σ s.b)) →
+    IsSpecification new p (without_cut g) s
+specification_has old new p g s o n same grown opposite one has σ =
+    let out = word σ g.outputs in
+    let a = operand_word (modulus old) s.claim.sign σ s.a in
+    let b = operand_word (modulus old) s.claim.sign σ s.b in
+    let c = word σ s.c in
+    difference_from old new p o out (a * b + c) _ σ grown opposite has (ap (λ i. (i * out + o * c) + (o * a) * (i * b)) one ∙ gathered out o c a b) ∙
+    ap (λ m. difference m out (a * b + c)) (modulus_stays old new grown) ∙ ap (difference (modulus old) out) (sym (plus_word_is (a * b) σ s.c)) ∙
+    ap (λ m. difference m out (claimed m s σ)) same
+  where
+    gathered : (w o c a b : ℕ) → (1 * w + o * c) + (o * a) * (1 * b) ≡ w + o * (a * b + c)
+    gathered w o c a b = omega arith

@@ -73,7 +73,8 @@ pub fn equal_poly(alloc: Global, terms: &mut Terms, left: Lit, right: Lit) -> Re
     Ok(poly)
 }
 
-/// The specification of a multiplier: the sum of 2^k times output k, minus the product of the operands.
+/// The specification of a multiplier: the sum of 2^k times output k, minus the product of the operands and the addend,
+/// where there is one.
 pub fn spec_poly(
     alloc: Global,
     terms: &mut Terms,
@@ -86,15 +87,19 @@ pub fn spec_poly(
     ensures value { IfOk result (λ p.
         IsSpecification terms.new p (without_cut graph.now) operands.now) }
 {
-    let outputs = Form::word(alloc, one(terms), graph.output_literals())?;
-    let opposite = Form::word(alloc, minus_one(terms), operands.a_literals())?;
-    let b = Form::word(alloc, one(terms), operands.b_literals())?;
+    let one = one(terms);
+    let minus = minus_one(terms);
+    let mut outputs = Form::word(alloc, one, graph.output_literals())?;
+    outputs.add_word(minus, operands.c_literals())?;
+    let opposite = Form::operand(alloc, minus, operands.sign(), operands.a_literals())?;
+    let b = Form::operand(alloc, one, operands.sign(), operands.b_literals())?;
     let poly = sum_with_product(terms, outputs, opposite, b)?;
     Ok(poly)
 }
 
-/// Column k of a multiplier: 2^k times (its output minus the sum of the partial products a_i b_j with i + j = k). Where
-/// the column is replaced, that is its new output.
+/// Column k of a multiplier: 2^k times (its output minus the sum of the partial products a_i b_j with i + j = k and minus
+/// bit k of the addend, where there is one). Of signed operands of n bits a_i b_j counts -1 times where just one of i and
+/// j is n - 1. Where the column is replaced, the output is its new one.
 pub fn column_poly(
     alloc: Global,
     terms: &mut Terms,
@@ -112,14 +117,17 @@ pub fn column_poly(
 {
     let weight = one(terms).shift(k);
     let output = extended.new_output(k);
+    let opposite = weight.neg();
     let mut form = Form::new(alloc);
     form.add_literal(weight, output)?;
     form.add_column(
-        weight.neg(),
+        opposite,
+        operands.sign(),
         operands.a_literals(),
         operands.b_literals(),
         k as usize,
     )?;
+    form.add_optional(opposite, operands.c(k))?;
     let poly = form.poly_in(terms)?;
     Ok(poly)
 }

@@ -5,12 +5,12 @@ use Rattle.aiger_reader.specs.Refusals.{IsGraphRefusal, IsTooLong, SpellsWithin}
 use Rattle.aiger_reader.specs.declared.fail.ReadFail.{ReadFail}
 use Rattle.aiger_reader.proofs.LimitLaws.{spelled_found_or_long}
 use Rattle.graph_core.specs.Algebra.Refusal as cause
-use Rattle.graph_core.specs.Graph.Operands.{sides_of}
+use Rattle.graph_core.specs.declared.claim.Claim.{Claim}
+use Rattle.graph_core.specs.Graph.Operands.{profile_of, sides_for}
 use Rattle.graph_core.specs.Algebra.Refusal.{AlgebraCause, IsAlgebraRefusal}
 use Rattle.graph_core.specs.Graph.Extended.{Extended}
 use Rattle.graph_core.specs.Graph.{Aig}
 use Rattle.graph_core.specs.Text.JudgedLines.{IsExact}
-use Rattle.graph_core.specs.declared.order.Order.{Order}
 use Rattle.graph_core.proofs.OfAlgebra.CallerLemmas.{algebra_is_exact}
 use Rattle.graph_core.proofs.OfTexts.CallerLemmas.{one_graph, exact_map}
 use Rattle.mv_desk.specs.View.{View}
@@ -74,23 +74,23 @@ answer_is line (why.NoSuchLine id) = refl
 answer_is line why.NotEqual = refl
 answer_is line why.NotSpec = refl
 
-module _ (limits : Limits) (order : Order) (file clauses algebra : List ℕ) where
+module _ (limits : Limits) (claim : Claim) (file clauses algebra : List ℕ) where
   abbrev told : Texts
   told = record { graph = Some file; clauses = Some clauses; algebra = Some algebra }
 
   abbrev Spelled : Type 0
-  Spelled = (g : Aig) × SpellsWithin limits.graph file g
+  Spelled = (g : Aig) × SpellsWithin (profile_of claim.add) limits.graph file g
 
   abbrev IsGraphRefused : Checked → Type 0
-  IsGraphRefused c = ((given : ReadFail) × IsGraphRefusal limits.graph file given × (c ≡ checked.Graph given)) ⊎ (IsTooLong limits.graph file × (c ≡ checked.TooLong slot.Graph))
+  IsGraphRefused c = ((given : ReadFail) × IsGraphRefusal (profile_of claim.add) limits.graph file given × (c ≡ checked.Graph given)) ⊎ (IsTooLong (profile_of claim.add) limits.graph file × (c ≡ checked.TooLong slot.Graph))
 
   graph_exact : IsExact Spelled IsGraphRefused
   graph_exact = record {
-    decided = ⊎_elim inl (λ h. inr (⊎_elim (λ r. (checked.Graph (answer_of r.0), inl (answer_of r.0, refused limits.graph file r.0 r.1, refl))) (λ long. (checked.TooLong slot.Graph, inr (long, refl))) h)) (spelled_found_or_long limits.graph file);
-    not_both = λ c s r. ⊎_elim (λ f. spelled_not_refused limits.graph file s.0 f.0 s.1 f.1) (λ long. spelled_not_long limits.graph file s.0 s.1 long.0) r;
+    decided = ⊎_elim inl (λ h. inr (⊎_elim (λ r. (checked.Graph (answer_of r.0), inl (answer_of r.0, refused (profile_of claim.add) limits.graph file r.0 r.1, refl))) (λ long. (checked.TooLong slot.Graph, inr (long, refl))) h)) (spelled_found_or_long (profile_of claim.add) limits.graph file);
+    not_both = λ c s r. ⊎_elim (λ f. spelled_not_refused (profile_of claim.add) limits.graph file s.0 f.0 s.1 f.1) (λ long. spelled_not_long (profile_of claim.add) limits.graph file s.0 s.1 long.0) r;
     one = λ a b r s. ⊎_elim
-        (λ f. ⊎_elim (λ g. f.2 ∙ ap checked.Graph (one_graph_refusal limits.graph file f.0 g.0 f.1 g.1) ∙ sym g.2) (λ long. absurd (refused_not_long limits.graph file f.0 f.1 long.0)) s)
-        (λ long. ⊎_elim (λ g. absurd (refused_not_long limits.graph file g.0 g.1 long.0)) (λ other. long.1 ∙ sym other.1) s) r;
+        (λ f. ⊎_elim (λ g. f.2 ∙ ap checked.Graph (one_graph_refusal (profile_of claim.add) limits.graph file f.0 g.0 f.1 g.1) ∙ sym g.2) (λ long. absurd (refused_not_long (profile_of claim.add) limits.graph file f.0 f.1 long.0)) s)
+        (λ long. ⊎_elim (λ g. absurd (refused_not_long (profile_of claim.add) limits.graph file g.0 g.1 long.0)) (λ other. long.1 ∙ sym other.1) s) r;
   }
 
   -- why the clause file gives no extended graph for a graph
@@ -98,20 +98,20 @@ module _ (limits : Limits) (order : Order) (file clauses algebra : List ℕ) whe
   IsRefusedFor g c = (f : ClauseFault) × IsFileRefusal (lengths_of limits) g clauses f × (c ≡ clause_answer f)
 
   abbrev AreClausesRefused : Checked → Type 0
-  AreClausesRefused c = (g : Aig) × SpellsWithin limits.graph file g × IsRefusedFor g c
+  AreClausesRefused c = (g : Aig) × SpellsWithin (profile_of claim.add) limits.graph file g × IsRefusedFor g c
 
   abbrev Gives : Aig → Extended → Type 0
   Gives g e = GivesExtended (lengths_of limits) g clauses e
 
   abbrev HasGiven : Type 0
-  HasGiven = (g : Aig) × SpellsWithin limits.graph file g × ((e : Extended) × Gives g e)
+  HasGiven = (g : Aig) × SpellsWithin (profile_of claim.add) limits.graph file g × ((e : Extended) × Gives g e)
 
   of_clauses : (g : Aig) → IsExact ((e : Extended) × Gives g e) (IsRefusedFor g)
   of_clauses g = exact_map clause_answer (clauses_are_exact.exact (lengths_of limits) g clauses)
 
   -- a refusal is one for the graph that is there
-  refused_for : (c : Checked) (g : Aig) → SpellsWithin limits.graph file g → AreClausesRefused c → IsRefusedFor g c
-  refused_for c g s r = subst (λ (x : Aig). IsRefusedFor x c) (one_graph file r.0 g r.1.spells s.spells) r.2
+  refused_for : (c : Checked) (g : Aig) → SpellsWithin (profile_of claim.add) limits.graph file g → AreClausesRefused c → IsRefusedFor g c
+  refused_for c g s r = subst (λ (x : Aig). IsRefusedFor x c) (one_graph (profile_of claim.add) file r.0 g r.1.spells s.spells) r.2
 
   clauses_exact : Spelled → IsExact HasGiven AreClausesRefused
   clauses_exact s = record {
@@ -121,24 +121,24 @@ module _ (limits : Limits) (order : Order) (file clauses algebra : List ℕ) whe
   }
 
   abbrev Refused : Aig → Extended → Checked → Type 0
-  Refused g e c = (p : ℕ × AlgebraCause) × IsAlgebraRefusal e (sides_of order g) (lengths_of limits) algebra p × (c ≡ algebra_answer p)
+  Refused g e c = (p : ℕ × AlgebraCause) × IsAlgebraRefusal e (sides_for claim g) (lengths_of limits) algebra p × (c ≡ algebra_answer p)
 
   abbrev IsLawful : Aig → Extended → Type 0
-  IsLawful g e = IsLawfulAlgebra (lengths_of limits) e (sides_of order g) algebra
+  IsLawful g e = IsLawfulAlgebra (lengths_of limits) e (sides_for claim g) algebra
 
   abbrev Lawful : Type 0
-  Lawful = (g : Aig) × SpellsWithin limits.graph file g × IsLawfulPair (lengths_of limits) g order clauses algebra
+  Lawful = (g : Aig) × SpellsWithin (profile_of claim.add) limits.graph file g × IsLawfulPair (lengths_of limits) g claim clauses algebra
 
   abbrev IsAlgebraRefused : Checked → Type 0
-  IsAlgebraRefused c = (g : Aig) × SpellsWithin limits.graph file g × ((e : Extended) × Gives g e × Refused g e c)
+  IsAlgebraRefused c = (g : Aig) × SpellsWithin (profile_of claim.add) limits.graph file g × ((e : Extended) × Gives g e × Refused g e c)
 
   of_extended : (g : Aig) (e : Extended) → IsExact (IsLawful g e) (Refused g e)
-  of_extended g e = exact_map algebra_answer (algebra_is_exact e (sides_of order g) (lengths_of limits) algebra)
+  of_extended g e = exact_map algebra_answer (algebra_is_exact e (sides_for claim g) (lengths_of limits) algebra)
 
   -- a refusal is one for the graph and the extended one that are there
-  refused_there : (c : Checked) (g : Aig) (e : Extended) → SpellsWithin limits.graph file g → Gives g e → IsAlgebraRefused c → Refused g e c
+  refused_there : (c : Checked) (g : Aig) (e : Extended) → SpellsWithin (profile_of claim.add) limits.graph file g → Gives g e → IsAlgebraRefused c → Refused g e c
   refused_there c g e s gives r =
-      let here : (f : Extended) × Gives g f × Refused g f c = subst (λ (x : Aig). (f : Extended) × Gives x f × Refused x f c) (one_graph file r.0 g r.1.spells s.spells) r.2 in
+      let here : (f : Extended) × Gives g f × Refused g f c = subst (λ (x : Aig). (f : Extended) × Gives x f × Refused x f c) (one_graph (profile_of claim.add) file r.0 g r.1.spells s.spells) r.2 in
       subst (λ (f : Extended). Refused g f c) (clauses_are_exact.one (lengths_of limits) g clauses here.0 e here.1 gives) here.2
 
   algebra_exact : HasGiven → IsExact Lawful IsAlgebraRefused
@@ -159,7 +159,7 @@ module _ (limits : Limits) (order : Order) (file clauses algebra : List ℕ) whe
 
   -- ---- what is due, by its causes
 
-  due_is : (c : Checked) → IsDue limits order told c → ((c ≡ checked.Accepted) × All) ⊎ IsRefused c
+  due_is : (c : Checked) → IsDue limits claim told c → ((c ≡ checked.Accepted) × All) ⊎ IsRefused c
   due_is checked.Accepted h = inl (refl, ((h.0, h.1), ((h.0, h.1, (h.2.0, h.2.2)), (h.0, h.1, record { extended = h.2.0; gives = h.2.2; lawful = h.2.3.0 }))))
   due_is (checked.Graph given) h = inr (inl (inl (given, h, refl)))
   due_is (checked.Refused (refusal.Clauses line given)) h = inr (inr ((h.0, h.1), inl (h.0, h.1, (Line (line, line_cause given), h.2, clause_is line given))))
@@ -173,14 +173,14 @@ module _ (limits : Limits) (order : Order) (file clauses algebra : List ℕ) whe
   due_is checked.ReadFault h = absurd h
   due_is checked.Memory h = absurd h
 
-  one_due : (a b : Checked) → IsDue limits order told a → IsDue limits order told b → a ≡ b
+  one_due : (a b : Checked) → IsDue limits claim told a → IsDue limits claim told b → a ≡ b
   one_due a b h k =
       ⊎_elim (λ x. ⊎_elim (λ y. x.0 ∙ sym y.0) (λ y. absurd (all_exact.not_both b x.1 y)) (due_is b k)) (λ x. ⊎_elim (λ y. absurd (all_exact.not_both a y.1 x)) (λ y. all_exact.one a b x y) (due_is b k)) (due_is a h)
 
   abbrev IsSomeDue : Type 0
-  IsSomeDue = (c : Checked) × IsDue limits order told c
+  IsSomeDue = (c : Checked) × IsDue limits claim told c
 
-  clause_due : (g : Aig) → SpellsWithin limits.graph file g → (f : ClauseFault) → IsFileRefusal (lengths_of limits) g clauses f → IsSomeDue
+  clause_due : (g : Aig) → SpellsWithin (profile_of claim.add) limits.graph file g → (f : ClauseFault) → IsFileRefusal (lengths_of limits) g clauses f → IsSomeDue
   clause_due g s (Line (line, clausal.TooLong)) h = (checked.TooLong slot.Clauses, (g, s, (line, h)))
   clause_due g s (Line (line, clausal.Text)) h = (checked.Refused (refusal.Clauses line clause.Text), (g, s, h))
   clause_due g s (Line (line, clausal.Range)) h = (checked.Refused (refusal.Clauses line clause.Range), (g, s, h))
@@ -188,8 +188,8 @@ module _ (limits : Limits) (order : Order) (file clauses algebra : List ℕ) whe
   clause_due g s (Line (line, clausal.NoSuchClause)) h = (checked.Refused (refusal.Clauses line clause.NoSuchClause), (g, s, h))
   clause_due g s (Goals column) h = (checked.Refused (refusal.Goals column), (g, s, h))
 
-  module _ (g : Aig) (s : SpellsWithin limits.graph file g) (e : Extended) (gives : Gives g e) where
-    algebra_due : (p : ℕ × AlgebraCause) → IsAlgebraRefusal e (sides_of order g) (lengths_of limits) algebra p → IsSomeDue
+  module _ (g : Aig) (s : SpellsWithin (profile_of claim.add) limits.graph file g) (e : Extended) (gives : Gives g e) where
+    algebra_due : (p : ℕ × AlgebraCause) → IsAlgebraRefusal e (sides_for claim g) (lengths_of limits) algebra p → IsSomeDue
     algebra_due (line, cause.TooLong) h = (checked.TooLong slot.Algebra, (g, s, (e, gives_of (lengths_of limits) g clauses e gives, gives, (line, h))))
     algebra_due (line, cause.Text) h = (checked.Refused (refusal.Algebra line why.Text), (g, s, (e, gives_of (lengths_of limits) g clauses e gives, gives, h)))
     algebra_due (line, cause.Range) h = (checked.Refused (refusal.Algebra line why.Range), (g, s, (e, gives_of (lengths_of limits) g clauses e gives, gives, h)))
@@ -198,7 +198,7 @@ module _ (limits : Limits) (order : Order) (file clauses algebra : List ℕ) whe
     algebra_due (line, cause.NotEqual) h = (checked.Refused (refusal.Algebra line why.NotEqual), (g, s, (e, gives_of (lengths_of limits) g clauses e gives, gives, h)))
     algebra_due (line, cause.NotSpecification) h = (checked.Refused (refusal.Algebra line why.NotSpec), (g, s, (e, gives_of (lengths_of limits) g clauses e gives, gives, h)))
 
-  lawful_due : (g : Aig) → SpellsWithin limits.graph file g → IsLawfulPair (lengths_of limits) g order clauses algebra → IsSomeDue
+  lawful_due : (g : Aig) → SpellsWithin (profile_of claim.add) limits.graph file g → IsLawfulPair (lengths_of limits) g claim clauses algebra → IsSomeDue
   lawful_due g s pair = (checked.Accepted, (g, s, (pair.extended, gives_of (lengths_of limits) g clauses pair.extended pair.gives, pair.gives, (pair.lawful, tt))))
 
   some_due : IsSomeDue
@@ -208,32 +208,32 @@ module _ (limits : Limits) (order : Order) (file clauses algebra : List ℕ) whe
 
 -- ---- three files that are told
 
-there_is : (limits : Limits) (order : Order) (file clauses algebra : Option (List ℕ)) → IsSome file → IsSome clauses → IsSome algebra →
-    (c : Checked) × IsDue limits order (record { graph = file; clauses = clauses; algebra = algebra }) c
-there_is limits order (Some file) (Some clauses) (Some algebra) f c a = some_due limits order file clauses algebra
-there_is limits order None clauses algebra f c a = absurd (cc)
-there_is limits order (Some file) None algebra f c a = absurd (cc)
-there_is limits order (Some file) (Some clauses) None f c a = absurd (cc)
+there_is : (limits : Limits) (claim : Claim) (file clauses algebra : Option (List ℕ)) → IsSome file → IsSome clauses → IsSome algebra →
+    (c : Checked) × IsDue limits claim (record { graph = file; clauses = clauses; algebra = algebra }) c
+there_is limits claim (Some file) (Some clauses) (Some algebra) f c a = some_due limits claim file clauses algebra
+there_is limits claim None clauses algebra f c a = absurd (cc)
+there_is limits claim (Some file) None algebra f c a = absurd (cc)
+there_is limits claim (Some file) (Some clauses) None f c a = absurd (cc)
 
-only_one : (limits : Limits) (order : Order) (file clauses algebra : Option (List ℕ)) → IsSome file → IsSome clauses → IsSome algebra →
-    (x y : Checked) → IsDue limits order (record { graph = file; clauses = clauses; algebra = algebra }) x → IsDue limits order (record { graph = file; clauses = clauses; algebra = algebra }) y → x ≡ y
-only_one limits order (Some file) (Some clauses) (Some algebra) f c a = one_due limits order file clauses algebra
-only_one limits order None clauses algebra f c a = absurd (cc)
-only_one limits order (Some file) None algebra f c a = absurd (cc)
-only_one limits order (Some file) (Some clauses) None f c a = absurd (cc)
+only_one : (limits : Limits) (claim : Claim) (file clauses algebra : Option (List ℕ)) → IsSome file → IsSome clauses → IsSome algebra →
+    (x y : Checked) → IsDue limits claim (record { graph = file; clauses = clauses; algebra = algebra }) x → IsDue limits claim (record { graph = file; clauses = clauses; algebra = algebra }) y → x ≡ y
+only_one limits claim (Some file) (Some clauses) (Some algebra) f c a = one_due limits claim file clauses algebra
+only_one limits claim None clauses algebra f c a = absurd (cc)
+only_one limits claim (Some file) None algebra f c a = absurd (cc)
+only_one limits claim (Some file) (Some clauses) None f c a = absurd (cc)
 
 pub one_answer_is_due : OneAnswerIsDue
 one_answer_is_due = record {
-  some = λ limits order texts told. there_is limits order texts.graph texts.clauses texts.algebra told.graph_told told.clauses_told told.algebra_told;
-  one = λ limits order texts told. only_one limits order texts.graph texts.clauses texts.algebra told.graph_told told.clauses_told told.algebra_told;
+  some = λ limits claim texts told. there_is limits claim texts.graph texts.clauses texts.algebra told.graph_told told.clauses_told told.algebra_told;
+  one = λ limits claim texts told. only_one limits claim texts.graph texts.clauses texts.algebra told.graph_told told.clauses_told told.algebra_told;
 }
 
 -- an answer that has its cause is the one that is due
-module _ (limits : Limits) (order : Order) (files : Files) (before after : View) where
-  due_of : (given : Checked) → IsDue limits order (texts_of before files) given → IsExactAnswer limits order files before after given
-  due_of given h told due k = inl (one_answer_is_due.one limits order (texts_of before files) told given due h k)
+module _ (limits : Limits) (claim : Claim) (files : Files) (before after : View) where
+  due_of : (given : Checked) → IsDue limits claim (texts_of before files) given → IsExactAnswer limits claim files before after given
+  due_of given h told due k = inl (one_answer_is_due.one limits claim (texts_of before files) told given due h k)
 
-  exact : (given : Checked) → IsOutcome limits order files before after given → IsExactAnswer limits order files before after given
+  exact : (given : Checked) → IsOutcome limits claim files before after given → IsExactAnswer limits claim files before after given
   exact checked.Accepted h = due_of checked.Accepted (h.0, h.1, (h.2.0, h.2.1, h.2.2, (h.2.3.0, tt)))
   exact (checked.Graph why) h = due_of (checked.Graph why) h
   exact (checked.Refused why) h = due_of (checked.Refused why) h
@@ -242,4 +242,4 @@ module _ (limits : Limits) (order : Order) (files : Files) (before after : View)
   exact checked.Memory h = λ told due k. inr (inr refl)
 
 pub outcomes_are_exact : OutcomesAreExact
-outcomes_are_exact limits order files before after given h = exact limits order files before after given h
+outcomes_are_exact limits claim files before after given h = exact limits claim files before after given h

@@ -6,18 +6,17 @@ use Rattle.std.specs.declared.option.Option.TheVariants.{None, Some}
 use Rattle.std.specs.List.{All, AllByRecursion, Contains, flat_map}
 use Rattle.std.proofs.Common.{refl, sym, ap, ap₂, subst, ◌∙◌, arith}
 use Rattle.std.proofs.lemmas.List.Elements.{All-nil, All-contains, All-from_recursion, All-weaker, recursion_from_All}
-use Rattle.graph_core.specs.Aiger.Soundness.{IsMultiplierSized}
 use Rattle.graph_core.specs.Algebra.{AgreeOnColumns, specification}
-use Rattle.graph_core.specs.Graph.Assignments.{Assignment, bit, word}
+use Rattle.graph_core.specs.Graph.Assignments.{Assignment, bit, literal, word}
 use Rattle.graph_core.specs.Graph.Extended.{Extended, without_cut}
 use Rattle.graph_core.specs.Graph.Literals.{variable_of}
-use Rattle.graph_core.specs.Graph.Operands.{MeetsClaimOnEvaluations, Multiplies, ReadInputs, Sides, claimed, operand_literals, output_modulus, sides_of}
+use Rattle.graph_core.specs.declared.claim.Claim.{Claim}
+use Rattle.graph_core.specs.Graph.Operands.{profile_of, Does, HasShapeFor, MeetsClaimOnEvaluations, ReadInputs, Sides, claimed, operand_literals, output_modulus, sides_for}
 use Rattle.graph_core.specs.Graph.{Aig, IsEvaluation, IsWellFormed, read_literals}
 use Rattle.graph_core.specs.declared.literal.Lit.{Lit}
-use Rattle.graph_core.specs.declared.order.Order.{Order}
-use Rattle.graph_core.proofs.OfAiger.CallerLemmas.{spelled_shape, well_formed}
+use Rattle.graph_core.proofs.OfAiger.CallerLemmas.{shape_for, spelled_shape, well_formed}
 use Rattle.graph_core.proofs.OfAlgebra.CallerLemmas.{axioms-vanish, specification-zero, vanishing_means_claim}
-use Rattle.graph_core.proofs.OfGraphs.CallerLemmas.{all_split, all_weaker, claim_is_product, evaluations_suffice, literal_same, sides_read_inputs}
+use Rattle.graph_core.proofs.OfGraphs.CallerLemmas.{all_split, all_weaker, claim_is_done, claim_same, evaluations_suffice, literal_same, sides_read_inputs}
 use Rattle.mv_fact.specs.Always.{Always}
 use Rattle.ripple_graft.specs.Blocks.{AreBlocks, Block, SameUpTo, block_of, with_blocks}
 use Rattle.ripple_graft.specs.declared.cut.Cut.{Cut}
@@ -31,7 +30,7 @@ use Rattle.drup_text.specs.Headers.{IsHeaderOf, extended_by}
 use Rattle.graph_core.specs.Certificates.{no_cut}
 use Rattle.graph_core.specs.Text.JudgedLines.{IsWithin, Lengths}
 use Rattle.graph_core.specs.Text.{newline}
-use Rattle.joint_checker.specs.Certificates.{LawfulPairsMultiply}
+use Rattle.joint_checker.specs.Certificates.{LawfulPairsAreSound}
 use Rattle.joint_checker.specs.ClauseFiles.{GivesExtended, IsExtendedOf}
 
 -- ---- the graph below an extended one
@@ -73,11 +72,14 @@ module _ (g : Aig) (well : IsWellFormed g) where
   outputs_low = (all_split IsLow g.outputs (flat_map (λ x. x.left ∷ x.right ∷ []) g.gates) low_lits.1).0
 
   module _ (s : Sides) (reads : ReadInputs g s) where
-    sides_low : AllByRecursion IsLow s.a × AllByRecursion IsLow s.b
-    sides_low =
-        all_split IsLow s.a s.b
+    operands_low : AllByRecursion IsLow s.a × AllByRecursion IsLow (s.b ++ s.c)
+    operands_low =
+        all_split IsLow s.a (s.b ++ s.c)
         (recursion_from_All IsLow (operand_literals s)
         (All-weaker (Contains g.inputs) IsLow (λ l c. All-contains IsLow g.inputs l (All-from_recursion IsLow g.inputs low_lits.0) c) (operand_literals s) reads))
+
+    sides_low : AllByRecursion IsLow s.b × AllByRecursion IsLow s.c
+    sides_low = all_split IsLow s.b s.c operands_low.1
 
     -- what the outputs' word is, with a cut and without one
     abbrev IsClaimed : Assignment → Type 0
@@ -86,7 +88,10 @@ module _ (g : Aig) (well : IsWellFormed g) where
     claim_back : (σ τ : Assignment) → SameUpTo g.max σ τ → IsClaimed σ → IsClaimed τ
     claim_back σ τ same on =
         sym (word_same σ τ g.max g.outputs same outputs_low) ∙ on ∙
-        ap (λ n. n % output_modulus g) (ap₂ ◌*◌ (word_same σ τ g.max s.a same sides_low.0) (word_same σ τ g.max s.b same sides_low.1))
+        ap (λ n. n % output_modulus g) (claim_same (output_modulus g) s τ σ (lits s.a operands_low.0) (lits s.b sides_low.0) (lits s.c sides_low.1))
+      where
+        lits : (ls : List Lit) → AllByRecursion IsLow ls → AllByRecursion (λ l. literal σ l ≡ literal τ l) ls
+        lits ls h = all_weaker IsLow (λ l. literal σ l ≡ literal τ l) ls (λ l low. literal_same σ τ l (same (variable_of l) low)) h
 
     -- Where the outputs' word is what is claimed on the evaluations of an extended graph, it is on those of the graph.
     claimed_below : (e : Extended) → IsExtendedOf g e → ((σ : Assignment) → IsEvaluation e.gates σ → IsClaimed σ) → MeetsClaimOnEvaluations g s
@@ -95,13 +100,13 @@ module _ (g : Aig) (well : IsWellFormed g) where
         let gates : IsEvaluation e.gates longer.0 = subst (λ (x : Extended). IsEvaluation x.gates longer.0) (with_blocks_is g of.cut ∙ sym of.itself) longer.1 in
         claim_back longer.0 τ longer.2 (on longer.0 gates)
 
--- Where the specification vanishes on every evaluation of an extended graph, a graph without faults multiplies.
-pub vanishing_multiplies : (g : Aig) (order : Order) (e : Extended) → IsWellFormed g → IsMultiplierSized g → IsExtendedOf g e → Always e.gates (λ σ. specification e (sides_of order g) σ ≡ 0) → Multiplies g order
-vanishing_multiplies g order e well sized of vanishes =
-    let sides = sides_of order g in
-    (claim_is_product g order sized.shape well.defined_once).0
+-- Where the specification vanishes on every evaluation of an extended graph, a graph without faults does what is claimed.
+pub vanishing_does : (g : Aig) (claim : Claim) (e : Extended) → IsWellFormed g → HasShapeFor claim.add g → IsExtendedOf g e → Always e.gates (λ σ. specification e (sides_for claim g) σ ≡ 0) → Does claim g
+vanishing_does g claim e well shape of vanishes =
+    let sides = sides_for claim g in
+    (claim_is_done g claim shape well.defined_once).0
     (evaluations_suffice g sides well.defined_once well.acyclic
-    (claimed_below g well sides (sides_read_inputs g order) e of
+    (claimed_below g well sides (sides_read_inputs g claim) e of
     (λ σ evaluates. subst (λ (h : Aig). word σ h.outputs ≡ claimed (output_modulus h) sides σ % output_modulus h) (graph_is g e of) (vanishing_means_claim e sides σ (vanishes σ evaluates)))))
 
 -- ---- lawful pairs
@@ -115,12 +120,12 @@ gives_columns lengths g bytes e gives =
     subst (λ (x : Extended). Always x.gates (AgreeOnColumns x)) (sym gives.itself)
     (columns_agree (extended_by g gives.cut) gives.lines (record { in_range = h.in_range; lawful = h.lawful; goals = gives.shown }))
 
-pub lawful_pairs_multiply : LawfulPairsMultiply
-lawful_pairs_multiply file lengths g order clauses algebra spells pair =
+pub lawful_pairs_are_sound : LawfulPairsAreSound
+lawful_pairs_are_sound file lengths g claim clauses algebra spells pair =
     let e = pair.extended in
-    let sides = sides_of order g in
+    let sides = sides_for claim g in
     let lawful = pair.lawful.0 in
-    vanishing_multiplies g order e (well_formed file g spells) (spelled_shape file g spells) (gives_of lengths g clauses e pair.gives)
+    vanishing_does g claim e (well_formed (profile_of claim.add) file g spells) (shape_for claim.add g (spelled_shape (profile_of claim.add) file g spells)) (gives_of lengths g clauses e pair.gives)
     (λ σ evaluates. specification-zero e sides σ lawful.lines lawful.closing lawful.lawful (axioms-vanish e σ evaluates (gives_columns lengths g clauses e pair.gives σ evaluates)))
 
 -- the certificate that replaces nothing gives the graph itself

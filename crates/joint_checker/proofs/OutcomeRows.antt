@@ -3,14 +3,14 @@ use Rattle.std.proofs.Common.{◌≡◌, ℕ, List, Option, IfSome, refl, subst}
 use Rattle.aiger_reader.specs.Refusals.{Refuses, SpellsWithin}
 use Rattle.aiger_reader.specs.declared.fail.ReadFail.{ReadFail}
 use Rattle.aiger_reader.specs.declared.fail.ReadFail.TheVariants as fail
-use Rattle.graph_core.specs.Aiger.Soundness.{IsMultiplierSized}
 use Rattle.graph_core.specs.Algebra.{specification}
 use Rattle.graph_core.specs.Algebra.Refusal as cause
 use Rattle.graph_core.specs.Algebra.Refusal.{IsAlgebraRefusal}
 use Rattle.graph_core.specs.Graph.Extended.{Extended}
 use Rattle.graph_core.specs.Graph.{Aig, IsWellFormed}
-use Rattle.graph_core.specs.Graph.Operands.{Multiplies, sides_of}
-use Rattle.graph_core.specs.declared.order.Order.{Order}
+use Rattle.graph_core.specs.declared.claim.Claim.{Claim}
+use Rattle.graph_core.specs.declared.profile.Profile.{Profile}
+use Rattle.graph_core.specs.Graph.Operands.{profile_of, Does, HasShapeFor, sides_for}
 use Rattle.mv_desk.specs.Calls.{Inspects}
 use Rattle.mv_desk.specs.View.{View, Rose, bytes_under}
 use Rattle.mv_desk.specs.declared.limits.Limits.{Limits}
@@ -30,25 +30,25 @@ use Rattle.joint_checker.specs.Fails.{IsAlgebraFail, IsClauseFail, IsGraphFail}
 use Rattle.joint_checker.specs.Files.{Files, HasExtended, texts_of}
 use Rattle.joint_checker.specs.Outcome.{IsOutcome, MeetsAlgebra, cause_of}
 use Rattle.clause_judge.specs.LineRefusals.{line_cause}
-use Rattle.joint_checker.proofs.Joined.{graph_is, vanishing_multiplies}
+use Rattle.joint_checker.proofs.Joined.{graph_is, vanishing_does}
 use Rattle.clause_judge.proofs.Told.{rose_before}
 
 -- ---- the graph file
 
 -- why no graph was read
-pub graph_fails : (limit : ℕ) (text : Option (List ℕ)) (before now : View) (given : ReadFail) → IfSome text (λ bytes. Refuses limit bytes given) → (given ≡ fail.Fault → Rose before.read_faults now.read_faults) →
-    IsGraphFail limit text before now (answer_of_graph given)
-graph_fails limit text before now (fail.Text p) told rose = told
-graph_fails limit text before now (fail.Header f) told rose = told
-graph_fails limit text before now (fail.Graph f) told rose = told
-graph_fails limit text before now fail.Fault told rose = rose refl
-graph_fails limit text before now fail.TooLong told rose = told
-graph_fails limit text before now fail.Memory told rose = tt
+pub graph_fails : (profile : Profile) (limit : ℕ) (text : Option (List ℕ)) (before now : View) (given : ReadFail) → IfSome text (λ bytes. Refuses profile limit bytes given) → (given ≡ fail.Fault → Rose before.read_faults now.read_faults) →
+    IsGraphFail profile limit text before now (answer_of_graph given)
+graph_fails profile limit text before now (fail.Text p) told rose = told
+graph_fails profile limit text before now (fail.Header f) told rose = told
+graph_fails profile limit text before now (fail.Graph f) told rose = told
+graph_fails profile limit text before now fail.Fault told rose = rose refl
+graph_fails profile limit text before now fail.TooLong told rose = told
+graph_fails profile limit text before now fail.Memory told rose = tt
 
-module _ (limits : Limits) (order : Order) (files : Files) where
+module _ (limits : Limits) (claim : Claim) (files : Files) where
   -- no graph was read
-  pub graph_answers : (a b : View) (answer : Checked) → IsGraphFail limits.graph (bytes_under a files.graph) a b answer →
-      IsOutcome limits order files a b answer
+  pub graph_answers : (a b : View) (answer : Checked) → IsGraphFail (profile_of claim.add) limits.graph (bytes_under a files.graph) a b answer →
+      IsOutcome limits claim files a b answer
   graph_answers a b checked.Accepted h = absurd h
   graph_answers a b (checked.Graph why) h = h
   graph_answers a b (checked.Refused why) h = absurd h
@@ -64,10 +64,10 @@ module _ (limits : Limits) (order : Order) (files : Files) where
   pub earlier : (a b : View) (name : List ℕ) (P : List ℕ → Type 0) → Inspects a b → IfSome (bytes_under b name) P → IfSome (bytes_under a name) P
   earlier a b name P inspects h = subst (λ (o : Option (List ℕ)). IfSome o P) (bytes_under-held a b name (inspects.held name)) h
 
-  module _ (a b c : View) (first : Inspects a b) (g : Aig) (spelled : IfSome (bytes_under a files.graph) (λ bytes. SpellsWithin limits.graph bytes g)) where
+  module _ (a b c : View) (first : Inspects a b) (g : Aig) (spelled : IfSome (bytes_under a files.graph) (λ bytes. SpellsWithin (profile_of claim.add) limits.graph bytes g)) where
     -- the clause file gives no extended graph
     pub clauses_answer : (answer : Checked) → IsClauseFail (lengths_of limits) g (bytes_under b files.clauses) b c answer →
-        IsOutcome limits order files a c answer
+        IsOutcome limits claim files a c answer
     clauses_answer checked.Accepted h = absurd h
     clauses_answer (checked.Graph why) h = absurd h
     clauses_answer (checked.Refused (refusal.Clauses line why)) h = (g, spelled, earlier a b files.clauses (λ bytes. IsClauseRefusal (lengths_of limits) g bytes (line, line_cause why)) first h)
@@ -83,44 +83,44 @@ module _ (limits : Limits) (order : Order) (files : Files) where
     clauses_answer checked.Memory h = tt
 
   -- an extended graph, of which something holds
-  pub extended_there : (a b : View) (g : Aig) (e : Extended) (P : Aig → Extended → Type 0) → Inspects a b → IsExtendedOf g e → IfSome (bytes_under a files.graph) (λ bytes. SpellsWithin limits.graph bytes g) →
-      IfSome (bytes_under b files.clauses) (λ bytes. GivesExtended (lengths_of limits) g bytes e) → P g e → HasExtended limits (texts_of a files) P
+  pub extended_there : (a b : View) (g : Aig) (e : Extended) (P : Aig → Extended → Type 0) → Inspects a b → IsExtendedOf g e → IfSome (bytes_under a files.graph) (λ bytes. SpellsWithin (profile_of claim.add) limits.graph bytes g) →
+      IfSome (bytes_under b files.clauses) (λ bytes. GivesExtended (lengths_of limits) g bytes e) → P g e → HasExtended (profile_of claim.add) limits (texts_of a files) P
   extended_there a b g e P inspects itself spelled gives holds =
       (g, spelled, (e, itself, earlier a b files.clauses (λ bytes. GivesExtended (lengths_of limits) g bytes e) inspects gives, holds))
 
   module _ (a b c d : View) (first : Inspects a b) (second : Inspects b c) (g : Aig) (e : Extended) (itself : IsExtendedOf g e)
-      (spelled : IfSome (bytes_under a files.graph) (λ bytes. SpellsWithin limits.graph bytes g))
+      (spelled : IfSome (bytes_under a files.graph) (λ bytes. SpellsWithin (profile_of claim.add) limits.graph bytes g))
       (gives : IfSome (bytes_under b files.clauses) (λ bytes. GivesExtended (lengths_of limits) g bytes e)) where
     there : (P : List ℕ → Type 0) → IfSome (bytes_under c files.algebra) P → IfSome (bytes_under a files.algebra) P
     there P h = earlier a c files.algebra P (Inspects-trans a b c first second) h
 
-    meets : (P : Aig → Extended → List ℕ → Type 0) → IfSome (bytes_under c files.algebra) (P g e) → MeetsAlgebra limits (texts_of a files) P
+    meets : (P : Aig → Extended → List ℕ → Type 0) → IfSome (bytes_under c files.algebra) (P g e) → MeetsAlgebra (profile_of claim.add) limits (texts_of a files) P
     meets P h = extended_there a b g e (λ x f. IfSome (bytes_under a files.algebra) (P x f)) first itself spelled gives (there (P g e) h)
 
-    answers : (answer : Checked) → IsAlgebraFail (lengths_of limits) e (sides_of order g) (bytes_under c files.algebra) c d answer → IsOutcome limits order files a d answer
+    answers : (answer : Checked) → IsAlgebraFail (lengths_of limits) e (sides_for claim g) (bytes_under c files.algebra) c d answer → IsOutcome limits claim files a d answer
     answers checked.Accepted h = absurd h
     answers (checked.Graph why) h = absurd h
     answers (checked.Refused (refusal.Clauses line why)) h = absurd h
     answers (checked.Refused (refusal.Goals column)) h = absurd h
-    answers (checked.Refused (refusal.Algebra line why)) h = meets (λ x f bytes. IsAlgebraRefusal f (sides_of order x) (lengths_of limits) bytes (line, cause_of why)) h
+    answers (checked.Refused (refusal.Algebra line why)) h = meets (λ x f bytes. IsAlgebraRefusal f (sides_for claim x) (lengths_of limits) bytes (line, cause_of why)) h
     answers (checked.TooLong slot.Graph) h = absurd h
     answers (checked.TooLong slot.Other) h = absurd h
     answers (checked.TooLong slot.Clauses) h = absurd h
-    answers (checked.TooLong slot.Algebra) h = meets (λ x f bytes. (line : ℕ) × IsAlgebraRefusal f (sides_of order x) (lengths_of limits) bytes (line, cause.TooLong)) h
+    answers (checked.TooLong slot.Algebra) h = meets (λ x f bytes. (line : ℕ) × IsAlgebraRefusal f (sides_for claim x) (lengths_of limits) bytes (line, cause.TooLong)) h
     answers (checked.TooLong slot.Report) h = absurd h
     answers checked.ReadFault h = rose_before a.read_faults c.read_faults d.read_faults (Inspects-trans a b c first second).later h
     answers checked.Memory h = tt
 
     -- the algebra file isn't lawful
-    pub algebra_answers : (answer : Checked) → IsAlgebraFail (lengths_of limits) e (sides_of order e.graph) (bytes_under c files.algebra) c d answer → IsOutcome limits order files a d answer
-    algebra_answers answer h = answers answer (subst (λ (x : Aig). IsAlgebraFail (lengths_of limits) e (sides_of order x) (bytes_under c files.algebra) c d answer) (graph_is g e itself) h)
+    pub algebra_answers : (answer : Checked) → IsAlgebraFail (lengths_of limits) e (sides_for claim e.graph) (bytes_under c files.algebra) c d answer → IsOutcome limits claim files a d answer
+    algebra_answers answer h = answers answer (subst (λ (x : Aig). IsAlgebraFail (lengths_of limits) e (sides_for claim x) (bytes_under c files.algebra) c d answer) (graph_is g e itself) h)
 
     -- It is lawful, and the specification vanishes on every evaluation.
-    pub accepts : IsWellFormed g → IsMultiplierSized g → IfSome (bytes_under c files.algebra) (IsLawfulAlgebra (lengths_of limits) e (sides_of order e.graph)) →
-        Always e.gates (λ σ. specification e (sides_of order e.graph) σ ≡ 0) → IsOutcome limits order files a d checked.Accepted
-    accepts well sized lawful vanishes =
-        extended_there a b g e (λ x f. IfSome (bytes_under a files.algebra) (IsLawfulAlgebra (lengths_of limits) f (sides_of order x)) × Multiplies x order) first itself spelled gives (
-          there (IsLawfulAlgebra (lengths_of limits) e (sides_of order g))
-              (subst (λ (x : Aig). IfSome (bytes_under c files.algebra) (IsLawfulAlgebra (lengths_of limits) e (sides_of order x))) (graph_is g e itself) lawful),
-          vanishing_multiplies g order e well sized itself (subst (λ (x : Aig). Always e.gates (λ σ. specification e (sides_of order x) σ ≡ 0)) (graph_is g e itself) vanishes),
+    pub accepts : IsWellFormed g → HasShapeFor claim.add g → IfSome (bytes_under c files.algebra) (IsLawfulAlgebra (lengths_of limits) e (sides_for claim e.graph)) →
+        Always e.gates (λ σ. specification e (sides_for claim e.graph) σ ≡ 0) → IsOutcome limits claim files a d checked.Accepted
+    accepts well shape lawful vanishes =
+        extended_there a b g e (λ x f. IfSome (bytes_under a files.algebra) (IsLawfulAlgebra (lengths_of limits) f (sides_for claim x)) × Does claim x) first itself spelled gives (
+          there (IsLawfulAlgebra (lengths_of limits) e (sides_for claim g))
+              (subst (λ (x : Aig). IfSome (bytes_under c files.algebra) (IsLawfulAlgebra (lengths_of limits) e (sides_for claim x))) (graph_is g e itself) lawful),
+          vanishing_does g claim e well shape itself (subst (λ (x : Aig). Always e.gates (λ σ. specification e (sides_for claim x) σ ≡ 0)) (graph_is g e itself) vanishes),
         )

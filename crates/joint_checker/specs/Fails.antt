@@ -5,6 +5,7 @@ use Rattle.aiger_reader.specs.Refusals as reading
 use Rattle.aiger_reader.specs.Refusals.{IsGraphRefusal}
 use Rattle.graph_core.specs.Algebra.Refusal as cause
 use Rattle.graph_core.specs.Graph.Operands.{Sides}
+use Rattle.graph_core.specs.declared.profile.Profile.{Profile}
 use Rattle.graph_core.specs.Algebra.Refusal.{IsAlgebraRefusal}
 use Rattle.graph_core.specs.Graph.Extended.{Extended}
 use Rattle.graph_core.specs.Text.JudgedLines.{Lengths}
@@ -20,12 +21,12 @@ use Rattle.clause_judge.specs.LineRefusals.{line_cause}
 use Rattle.joint_checker.specs.Outcome.{cause_of}
 
 -- of the graph file
-abbrev pub IsGraphFail : ℕ → Option (List ℕ) → View → View → Checked → Type 0
-IsGraphFail limit text before now (checked.Graph why) = IfSome text (λ bytes. IsGraphRefusal limit bytes why)
-IsGraphFail limit text before now (checked.TooLong slot.Graph) = IfSome text (reading.IsTooLong limit)
-IsGraphFail limit text before now checked.ReadFault = Rose before.read_faults now.read_faults
-IsGraphFail limit text before now checked.Memory = ⊤
-IsGraphFail limit text before now _ = ⊥
+abbrev pub IsGraphFail : Profile → ℕ → Option (List ℕ) → View → View → Checked → Type 0
+IsGraphFail profile limit text before now (checked.Graph why) = IfSome text (λ bytes. IsGraphRefusal profile limit bytes why)
+IsGraphFail profile limit text before now (checked.TooLong slot.Graph) = IfSome text (reading.IsTooLong profile limit)
+IsGraphFail profile limit text before now checked.ReadFault = Rose before.read_faults now.read_faults
+IsGraphFail profile limit text before now checked.Memory = ⊤
+IsGraphFail profile limit text before now _ = ⊥
 
 -- of the clause file, for a graph
 abbrev pub IsClauseFail : Lengths → Aig → Option (List ℕ) → View → View → Checked → Type 0

@@ -1,8 +1,8 @@
 // The algebra certificate, line by line.
 ghost use Rattle.std.specs.Prelude.{◌≡◌, ◌≢◌, ◌<◌, ◌^◌, true, None, IfErr, IfSome, OnOk};
-ghost use Rattle.graph_core.specs.Graph.Operands.{sides_of};
+ghost use Rattle.graph_core.specs.Graph.Operands.{profile_of, sides_for};
 ghost use Rattle.graph_core.specs.Algebra.{AgreeOnColumns, axioms, specification};
-ghost use Rattle.graph_core.specs.Aiger.Soundness.{IsMultiplierSized};
+ghost use Rattle.graph_core.specs.Aiger.Soundness.{IsSizedAs};
 ghost use Rattle.mv_desk.specs.Calls.{Inspects, ReadsOnly};
 ghost use Rattle.mv_desk.specs.View.{KeepsTelling, OpensFiles, SlotStays, bytes_under};
 ghost use Rattle.mv_desk.specs.declared.slot.Slot.{Slot};
@@ -19,7 +19,7 @@ ghost use Rattle.joint_checker.specs.Fails.{IsAlgebraFail};
 use crate::algebra_line::{Turn, judge_end, judge_line, line_refused};
 use crate::checked::Checked;
 use crate::read_line::ReadLine;
-use graph_core::{Operands, Order};
+use graph_core::{Claim, Operands};
 use mv_desk::{Desk, Limits, Slot};
 use pac_checker::PacChecker;
 use poly_text::AlgebraFile;
@@ -34,16 +34,16 @@ pub(crate) fn check_algebra<D: Desk>(
     limits: &Limits,
     name: &str,
     extended: &Extended<'_>,
-    order: Order,
+    claim: Claim,
 ) -> Result<(), Checked>
-    requires sized { IsMultiplierSized extended.now.graph }
+    requires sized { IsSizedAs (profile_of claim.add) extended.now.graph }
     requires columns { Always extended.now.gates (AgreeOnColumns extended.now) }
     ensures lawful { OnOk result (IfSome (bytes_under (D.seen desk.old) name.now)
-        (IsLawfulAlgebra (lengths_of limits.now) extended.now (sides_of order extended.now.graph))) }
+        (IsLawfulAlgebra (lengths_of limits.now) extended.now (sides_for claim extended.now.graph))) }
     ensures vanishes { OnOk result (Always extended.now.gates
-        (λ σ. specification extended.now (sides_of order extended.now.graph) σ ≡ 0)) }
+        (λ σ. specification extended.now (sides_for claim extended.now.graph) σ ≡ 0)) }
     ensures refused { IfErr result (IsAlgebraFail (lengths_of limits.now)
-        extended.now (sides_of order extended.now.graph)
+        extended.now (sides_for claim extended.now.graph)
         (bytes_under (D.seen desk.old) name.now) (D.seen desk.old) (D.seen desk.new)) }
     ensures others { (other : Slot) → other ≢ slot.Algebra →
         SlotStays other (D.seen desk.old) (D.seen desk.new) }
@@ -52,7 +52,7 @@ pub(crate) fn check_algebra<D: Desk>(
     ensures tells { KeepsTelling (D.seen desk.old) (D.seen desk.new) }
 {
     match desk.open_file(Slot::Algebra, name) {
-        Ok(()) => judge_algebra(alloc, desk, limits, extended, order),
+        Ok(()) => judge_algebra(alloc, desk, limits, extended, claim),
         Err(_) => Err(Checked::ReadFault),
     }
 }
@@ -63,17 +63,17 @@ fn judge_algebra<D: Desk>(
     desk: &mut D,
     limits: &Limits,
     extended: &Extended<'_>,
-    order: Order,
+    claim: Claim,
 ) -> Result<(), Checked>
     requires reads { (D.seen desk.old).reads slot.Algebra ≡ true }
-    requires sized { IsMultiplierSized extended.now.graph }
+    requires sized { IsSizedAs (profile_of claim.add) extended.now.graph }
     requires columns { Always extended.now.gates (AgreeOnColumns extended.now) }
     ensures lawful { OnOk result (IfSome ((D.seen desk.old).left slot.Algebra)
-        (IsLawfulAlgebra (lengths_of limits.now) extended.now (sides_of order extended.now.graph))) }
+        (IsLawfulAlgebra (lengths_of limits.now) extended.now (sides_for claim extended.now.graph))) }
     ensures vanishes { OnOk result (Always extended.now.gates
-        (λ σ. specification extended.now (sides_of order extended.now.graph) σ ≡ 0)) }
+        (λ σ. specification extended.now (sides_for claim extended.now.graph) σ ≡ 0)) }
     ensures refused { IfErr result (IsAlgebraFail (lengths_of limits.now)
-        extended.now (sides_of order extended.now.graph)
+        extended.now (sides_for claim extended.now.graph)
         ((D.seen desk.old).left slot.Algebra) (D.seen desk.old) (D.seen desk.new)) }
     ensures only { ReadsOnly slot.Algebra (D.seen desk.old) (D.seen desk.new) }
     ensures tells { KeepsTelling (D.seen desk.old) (D.seen desk.new) }
@@ -82,7 +82,7 @@ fn judge_algebra<D: Desk>(
         Ok(file) => file,
         Err(fail) => return Err(line_refused(1, fail)),
     };
-    let operands = Operands::of(alloc, extended.graph(), order)?;
+    let operands = Operands::under(alloc, extended.graph(), claim)?;
     let mut checker = PacChecker::new(alloc, extended, &operands)?;
     let mut work = ReadLine {
         file,

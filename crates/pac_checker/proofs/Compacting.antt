@@ -71,7 +71,6 @@ pub sound_carried : (e : Extended) (s : Sides) (old new : Facts Sum Table) (last
 sound_carried e s old new last k h = record {
   same_gates = k.gates ∙ h.same_gates;
   same_modulus = ap (λ w. 2 ^ w) k.exponent ∙ h.same_modulus;
-  operands = h.operands;
   fresh = λ id above. no_entry new.table new.entries id
       (subst (AreSame (line_of (lines_of new) id)) (line_of-entries old.table old.entries id ∙ ap (line_at old.table id) (h.fresh id above)) (k.lines id));
 }

@@ -31,7 +31,6 @@ pub sound_grown : (e : Extended) (s : Sides) (old new : Facts Sum Table) (last :
 sound_grown e s old new last k h = record {
   same_gates = k.gates ∙ h.same_gates;
   same_modulus = modulus_stays old.table new.table k.table ∙ h.same_modulus;
-  operands = h.operands;
   fresh = λ id above. ap (λ es. fact_at es id) k.entries ∙ h.fresh id above;
 }
 

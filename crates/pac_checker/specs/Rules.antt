@@ -4,7 +4,7 @@ use denote.Ref.{Bor}
 use Rattle.std.specs.declared.option.Option.TheVariants.{None, Some}
 use Rattle.graph_core.specs.Graph.Assignments.{Assignment}
 use Rattle.graph_core.specs.Graph.Extended.{Extended}
-use Rattle.graph_core.specs.Graph.Operands.{Sides, AreOperandsOf}
+use Rattle.graph_core.specs.Graph.Operands.{Sides}
 use Rattle.graph_core.specs.Algebra.Polynomials.{Polynomial}
 use Rattle.graph_core.specs.Algebra.{Line, Ledger, Part, IsNewId, value_of, introduce, combined, operands, stated, named, after}
 use Rattle.graph_core.specs.Algebra as algebra
@@ -114,5 +114,4 @@ pub record Carries (old new : Facts Sum Table) : Type 0 where
 pub record IsSound (e : Extended) (s : Sides) (facts : Facts Sum Table) (last : ℕ) : Type 0 where
   pub same_gates : facts.gates ≡ e.gates
   pub same_modulus : modulus facts.table ≡ algebra.modulus e
-  pub operands : AreOperandsOf e.graph s
   pub fresh : (id : ℕ) → last < id → fact_at facts.entries id ≡ None

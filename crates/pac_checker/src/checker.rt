@@ -1,11 +1,10 @@
 // The checker: live polynomials, line by line.
 #![tactic(auto, using(crate::proofs::Lawful::sound_grown, crate::proofs::Lawful::grows, crate::proofs::Lawful::grows_itself, crate::proofs::LineKinds::grows_grown, gate_axioms::proofs::CallerLemmas::keeps_lines, poly_terms::specs::Laws::stays))]
 
-ghost use Rattle.std.specs.Prelude.{◌≡◌, ◌%◌, ◌<◌, ◌≤◌, IfErr, IfOk, IsSome, OnErr, OnOk};
+ghost use Rattle.std.specs.Prelude.{◌≡◌, ◌%◌, ◌<◌, ◌≤◌, length, IfErr, IfOk, IsSome, OnErr, OnOk};
 ghost use Rattle.std.specs.List.{All};
 ghost use Rattle.graph_core.specs.Algebra.{Delete, axioms, AgreeOnColumns};
 ghost use Rattle.graph_core.specs.Algebra as algebra;
-ghost use Rattle.graph_core.specs.Graph.Operands.{width, AreOperandsOf, HasMultiplierShape};
 ghost use Rattle.mv_fact.specs.Always.{Always};
 ghost use Rattle.poly_terms.specs.Tables.{IsOf, modulus, monomials_in};
 ghost use Rattle.poly_text.specs.Lines.{line_in, AreOf};
@@ -63,10 +62,8 @@ impl<'a> PacChecker<'a> {
         extended: &'a Extended<'a>,
         operands: &'a Operands,
     ) -> Result<PacChecker<'a>, Memory>
-        requires operands { AreOperandsOf extended.now.graph operands.now }
-        requires shape { HasMultiplierShape extended.now.graph }
-        requires wide { 1 ≤ width extended.now.graph }
-        requires narrow { width extended.now.graph ≤ 64 }
+        requires some { 1 ≤ length extended.now.graph.outputs }
+        requires few { length extended.now.graph.outputs ≤ 128 }
         requires columns { Always extended.now.gates (AgreeOnColumns extended.now) }
         ensures extended { IfOk result (λ c. c.extended ≡ extended.entry.now) }
         ensures sides { IfOk result (λ c. c.sides ≡ operands.entry.now) }

@@ -1,6 +1,6 @@
 use Rattle.std.proofs.lemmas.Result.{IfErr-weaker, on_ok_weaker}
 use Rattle.graph_core.specs.Certificates.{IsLawfulAlgebra}
-use Rattle.graph_core.specs.Graph.Operands.{sides_of}
+use Rattle.graph_core.specs.Graph.Operands.{profile_of, sides_for}
 use Rattle.mv_desk.specs.View.{bytes_under}
 use Rattle.mv_desk.specs.declared.slot.Slot.TheVariants as slot
 use Rattle.mv_desk.proofs.CallerLemmas.{IfSome-Keeps, Inspects-Opens, Inspects-ReadsOnly, Inspects-trans, KeepsTelling-trans, OpensFiles-still, SlotStays-trans}
@@ -14,14 +14,14 @@ returns-in-Ok-clause-lawful g c =
     let e = c.args.extended.now in
     on_ok_weaker c.judge_algebra.result
     (IfSome-Keeps (bytes_under (g.D.Desk.seen c.args.desk.now) c.args.name.now) ((g.D.Desk.seen c.open_file.new.self).left slot.Algebra)
-    (IsLawfulAlgebra (lengths_of c.args.limits.now) e (sides_of c.args.order e.graph)) c.in-Ok.ensures.opens.left)
+    (IsLawfulAlgebra (lengths_of c.args.limits.now) e (sides_for c.args.claim e.graph)) c.in-Ok.ensures.opens.left)
     c.judge_algebra.ensures.lawful
 
 pub returns-in-Ok-clause-refused : goal.returns-in-Ok-clause-refused
 returns-in-Ok-clause-refused g c =
     let lengths = lengths_of c.args.limits.now in
     let e = c.args.extended.now in
-    let sides = sides_of c.args.order e.graph in
+    let sides = sides_for c.args.claim e.graph in
     let first = g.D.Desk.seen c.args.desk.now in
     let before = g.D.Desk.seen c.open_file.new.self in
     let now = g.D.Desk.seen c.judge_algebra.new.desk in

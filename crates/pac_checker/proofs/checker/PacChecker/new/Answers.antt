@@ -41,7 +41,6 @@ invariant_of-result c =
     record {
       same_gates = c.in_ok-add_axioms.ensures.gates ∙ c.new-live.ensures.gates ∙ c.gates-gates.ensures.value;
       same_modulus = returns-clause-modulus c;
-      operands = c.requires.operands;
       fresh = λ id above. fresh_above c.add_axioms.new.live (axioms e).live (axioms e).last id c.in_ok-add_axioms.ensures.lines
           (axioms_within e c.gates-gates.ensures.extension) (subst (λ n. n < id) last above);
     }
