@@ -15,7 +15,7 @@ use Rattle.graph_core.specs.Graph.{Aig, evaluation}
 use Rattle.graph_core.specs.Graph.Extended.{Extended, without_cut}
 use Rattle.graph_core.specs.Algebra.Polynomials.{difference}
 use Rattle.graph_core.specs.Algebra.{modulus}
-use Rattle.graph_core.specs.Graph.Operands.{Sides, sides_of}
+use Rattle.graph_core.specs.Graph.Operands.{Sides, product_under, sides_of}
 use Rattle.graph_core.proofs.OfGraphs.CallerLemmas.{all_split, all_weaker, difference_plus, finds_none, literal-even, literal_same, product_same, rounds-free, sum_same}
 use Rattle.ripple_graft.specs.Extension.{outputs_from, new_outputs, IsExtension}
 use Rattle.ripple_graft.proofs.Plain.{graph_extends}
@@ -128,7 +128,7 @@ module _ (m b : ℕ) (pos : 0 < m) where
         (away_linear as' bs K (suc k) os h g))
 
     abbrev pub two : List Lit → List Lit → Sides
-    two as' bs = record { order = Separate; a = as'; b = bs }
+    two as' bs = record { claim = product_under Separate; a = as'; b = bs; c = [] }
 
     -- the columns' sum, and what is taken away, are the outputs
     columns_plus : (as' bs : List Lit) (K : List ℕ) (k : ℕ) (os : List Lit) (σ : Assignment) →

@@ -1,17 +1,15 @@
 -- The clause certificates that are written give the graphs that they should.
-use Rattle.std.proofs.Common.{◌≡◌, ◌≢◌, ℕ, ◌+◌, ◌*◌, ◌<◌, ◌≤◌, ◌^◌, List, [], length, refl, sym, ap, subst, ◌∙◌, arith, inl, inr, ⊎_elim}
-use Rattle.std.specs.Prelude.{nat_abs, pos}
-use Rattle.std.specs.List.{All, Any, Contains}
+use Rattle.std.proofs.Common.{◌≡◌, ℕ, ◌+◌, ◌*◌, ◌<◌, ◌≤◌, ◌^◌, Bool, List, [], length, refl, sym, ap, subst, ◌∙◌, arith, inl, inr, ⊎_elim}
+use Rattle.std.specs.List.{Any, Contains}
 use Rattle.std.specs.Prelude.{◌⊎◌}
 use Rattle.std.specs.declared.option.Option.TheVariants.{None, Some}
 use Rattle.std.proofs.lemmas.List.Elements.{All-weaker}
-use Rattle.clause_core.specs.Clause.{Clause, IsClauseInRange, IsLiteral}
-use Rattle.clause_core.specs.ClauseLines.{AreLawfulClauseLines, ClauseLine, clause_in}
-use Rattle.drup_text.specs.WrittenLaws.{IsWritable, IsWritableLine}
+use Rattle.clause_core.specs.ClauseLines.{AreLawfulClauseLines, ClauseLine}
+use Rattle.drup_text.specs.WrittenLaws.{IsWritable}
 use Rattle.drup_text.specs.WrittenTexts.{file_text}
 use Rattle.drup_text.proofs.Writable.{lines_are_writable}
 use Rattle.drup_text.proofs.WrittenAgain.{written_files_are_read}
-use Rattle.graph_core.specs.Aiger.Soundness.{IsMultiplierSized}
+use Rattle.graph_core.specs.Aiger.Soundness.{IsSizedAs}
 use Rattle.graph_core.specs.Graph.{Aig, IsWellFormed, defined, read_literals}
 use Rattle.graph_core.specs.Graph.Literals.{variable_of}
 use Rattle.graph_core.specs.declared.literal.Lit.{Lit}
@@ -23,23 +21,28 @@ use Rattle.ripple_graft.specs.declared.cut.Cut.{Cut}
 use Rattle.joint_checker.proofs.CallerLemmas.{no_cut_gives}
 use Rattle.stage_rewriter.specs.Rewriting.{IsShown}
 use Rattle.graph_core.specs.Graph.Extended.{Extended, without_cut}
+use Rattle.graph_core.specs.Graph.Operands.{profile_of}
 use Rattle.joint_prover.specs.Pairs.{AreClausesOver}
+use Rattle.joint_prover.proofs.Sizes.{few_outputs, few_variables}
 
 pub no_clauses : (g : Aig) (conflicts : ℕ) → AreClausesOver g conflicts None (file_text None [])
 no_clauses g conflicts = record { names = refl; gives = λ lengths within. no_cut_gives lengths g within }
 
-module _ (g : Aig) (sized : IsMultiplierSized g) (well : IsWellFormed g) (conflicts : ℕ) (cut : Cut) (extended : Extended) (lines : List ClauseLine) (used : IsShown g conflicts cut extended lines) where
+module _ (g : Aig) (add : Bool) (sized : IsSizedAs (profile_of add) g) (well : IsWellFormed g) (conflicts : ℕ) (cut : Cut) (extended : Extended) (lines : List ClauseLine) (used : IsShown g conflicts cut extended lines) where
   pub is_cut : IsCut g cut
   is_cut = used.fits
 
-  few_outputs : length g.outputs ≤ 128
-  few_outputs = let n = sized.narrow in let few = sized.shape.outputs in omega arith
+  few : length g.outputs ≤ 128
+  few = few_outputs add g sized
+
+  low_max : g.max ≤ 4194303
+  low_max = few_variables add g sized
 
   few_pairs : length cut.pairs ≤ length g.outputs
   few_pairs = ⊎_elim (λ e. omega arith) (λ e. omega arith) is_cut.columns
 
   pub small : extended.max < 2 ^ 31
-  small = subst (λ (x : Extended). x.max < 2 ^ 31) (sym used.extended_is) (let low = sized.small in omega (arith, few_pairs, few_outputs))
+  small = subst (λ (x : Extended). x.max < 2 ^ 31) (sym used.extended_is) (omega (arith, few_pairs, few, low_max))
 
   known_variable : (v : ℕ) → (v ≡ 0) ⊎ Contains (defined g) v → v ≤ g.max
   known_variable v (inl none) = omega arith
@@ -52,12 +55,12 @@ module _ (g : Aig) (sized : IsMultiplierSized g) (well : IsWellFormed g) (confli
       gate a = let low = well.gates_in_range a.0 a.1 a.2 in let same = ap (λ y. y.v) a.3 ∙ a.4 in omega arith
 
   literal_fits : (l : Lit) → IsKnown (without_cut g) l → l.0 < 2 ^ 32
-  literal_fits l known = let low = known_variable (variable_of l) known in let bound = sized.small in omega arith
+  literal_fits l known = let low = known_variable (variable_of l) known in omega (arith, low_max)
 
   pub writable : IsWritable (Some cut)
   writable = (
-    ⊎_elim (λ e. omega (arith, few_outputs)) (λ e. omega (arith, few_outputs)) is_cut.columns,
-    omega (arith, few_pairs, few_outputs),
+    ⊎_elim (λ e. omega (arith, few)) (λ e. omega (arith, few)) is_cut.columns,
+    omega (arith, few_pairs, few),
     All-weaker (λ p. IsKnown (without_cut g) p.0 × IsKnown (without_cut g) p.1) (λ p. (p.0.0 < 2 ^ 32) × (p.1.0 < 2 ^ 32))
         (λ p h. (literal_fits p.0 h.0, literal_fits p.1 h.1)) cut.pairs is_cut.known,
   )

@@ -13,26 +13,27 @@ use Rattle.graph_core.specs.Algebra.{modulus}
 use Rattle.graph_core.specs.Algebra.NormalForm.{HasSize}
 use Rattle.graph_core.specs.Graph.{Aig}
 use Rattle.graph_core.specs.Graph.Extended.{Extended, without_cut}
-use Rattle.graph_core.specs.Graph.Operands.{Multiplies, Sides, sides_of}
-use Rattle.graph_core.specs.declared.order.Order.{Order}
+use Rattle.graph_core.specs.Graph.Operands.{Does, Sides, profile_of, sides_for}
+use Rattle.graph_core.specs.declared.claim.Claim.{Claim}
 use Rattle.graph_core.proofs.OfTexts.CallerLemmas.{one_graph}
 use Rattle.graph_maker.specs.Made.{made}
 use Rattle.graph_maker.specs.declared.adder.Adder.TheVariants.{Ripple}
 use Rattle.graph_maker.proofs.MadeMultiplies.{made_multiplies}
-use Rattle.aiger_reader.specs.Refusals.{IsGraphRefusal}
+use Rattle.aiger_reader.specs.Refusals.{IsGraphRefusal, SpellsWithin}
 use Rattle.joint_checker.proofs.CallerLemmas.{spelled_not_long, spelled_not_refused}
 use Rattle.mv_desk.specs.View.{View, bytes_under}
 use Rattle.joint_checker.specs.Files.{Files}
 use Rattle.ripple_graft.specs.declared.cut.Cut.{Cut}
 use Rattle.joint_prover.specs.declared.rewriting.Rewriting.{Rewriting}
+use Rattle.joint_prover.specs.declared.task.Task.{Task}
 use Rattle.joint_prover.specs.declared.verdict.Tried.{Tried}
 use Rattle.joint_prover.specs.declared.verdict.Verdict.{Verdict}
-use Rattle.joint_prover.specs.declared.verdict.Verdict.TheVariants.{Proved, Wrong, Undecided, Graph, ReadFault, WriteFault, TooLong, Memory}
+use Rattle.joint_prover.specs.declared.verdict.Verdict.TheVariants.{Proved, Wrong, WrongSum, Undecided, Graph, ReadFault, WriteFault, TooLong, Memory}
 use Rattle.joint_prover.specs.Budgets.{EnoughIsProved, IsEnough, ProvesEnough}
 use Rattle.joint_prover.specs.Notes.{cut_of}
 use Rattle.joint_prover.specs.Tries.{AreTried, IsAbove}
 use Rattle.joint_prover.specs.Verdicts.{GivesDue, HasNote, IsVerdict}
-use Rattle.joint_prover.proofs.Exactness.{right_or_wrong, spelled}
+use Rattle.joint_prover.proofs.Exactness.{right_or_wrong, right_or_wrong_sum, spelled}
 
 -- ---- a slice plan over the graph alone was tried
 
@@ -51,45 +52,52 @@ module _ (e : Extended) (s : Sides) (budget : ℕ) where
             (subst (λ vs. HasSize (modulus e) (frontier_value e s tried.columns.items vs) tried.size) p.gates h.size);
       }
 
-module _ (g : Aig) (order : Order) (budget : ℕ) where
-  pub tried_passes : (used : Option Cut) (tried : List Tried) → AreTried g order budget used tried → PassesBySlices (without_cut g) (sides_of order g) budget
-  tried_passes None tried h = passes (without_cut g) (sides_of order g) budget h.0 h.2.above
-  tried_passes (Some cut) tried h = passes (without_cut g) (sides_of order g) budget h.1 h.4.above
+module _ (g : Aig) (claim : Claim) (budget : ℕ) where
+  pub tried_passes : (used : Option Cut) (tried : List Tried) → AreTried g claim budget used tried → PassesBySlices (without_cut g) (sides_for claim g) budget
+  tried_passes None tried h = passes (without_cut g) (sides_for claim g) budget h.0 h.2.above
+  tried_passes (Some cut) tried h = passes (without_cut g) (sides_for claim g) budget h.1 h.4.above
 
 -- ---- the verdict
 
-module _ (limit : ℕ) (order : Order) (budget conflicts : ℕ) (file : List ℕ) (h : IsEnough limit order budget file) where
-  multiplies : Multiplies h.graph order
-  multiplies = (order_of_operands_is_free (made h.kind h.bits Ripple) h.graph order h.same).0
-      (subst (Multiplies (made h.kind h.bits Ripple)) (sym h.separate) (made_multiplies h.kind h.bits Ripple h.some).multiplies)
+module _ (limit : ℕ) (task : Task) (file : List ℕ) (h : IsEnough limit task file) where
+  does : Does task.claim h.graph
+  does = (order_of_operands_is_free (made h.kind h.bits Ripple) h.graph task.claim h.same).0
+      (subst (λ k. Does k (made h.kind h.bits Ripple)) (sym h.separate) (made_multiplies h.kind h.bits Ripple h.some).multiplies)
 
-  never_passes : PassesBySlices (without_cut h.graph) (sides_of order h.graph) budget → ⊥
+  spells : SpellsWithin (profile_of task.claim.add) limit file h.graph
+  spells = subst (λ (k : Claim). SpellsWithin (profile_of k.add) limit file h.graph) (sym h.separate) h.spells
+
+  never_passes : PassesBySlices (without_cut h.graph) (sides_for task.claim h.graph) task.budget → ⊥
   never_passes p =
-      made_budget_is_enough h.kind h.bits h.graph budget h.some h.same h.high (subst (λ o. PassesBySlices (without_cut h.graph) (sides_of o h.graph) budget) h.separate p)
+      made_budget_is_enough h.kind h.bits h.graph task.budget h.some h.same h.high (subst (λ k. PassesBySlices (without_cut h.graph) (sides_for k h.graph) task.budget) h.separate p)
 
-  never_tried : (tried : List Tried) (noted : Option Rewriting) → HasNote h.graph order conflicts noted (λ used. AreTried h.graph order budget used tried) → ⊥
+  never_tried : (tried : List Tried) (noted : Option Rewriting) → HasNote h.graph task noted (λ used. AreTried h.graph task.claim task.budget used tried) → ⊥
   never_tried tried None k = absurd k
-  never_tried tried (Some n) k = never_passes (tried_passes h.graph order budget (cut_of n) tried k.1)
+  never_tried tried (Some n) k = never_passes (tried_passes h.graph task.claim task.budget (cut_of n) tried k.1)
 
-  pub proved_or_not : (files : Files) (a b : View) (given : Verdict) (noted : Option Rewriting) → bytes_under a files.graph ≡ Some file → IsVerdict limit order budget conflicts files a b given noted → GivesDue Proved given
+  pub proved_or_not : (files : Files) (a b : View) (given : Verdict) (noted : Option Rewriting) → bytes_under a files.graph ≡ Some file → IsVerdict limit task files a b given noted → GivesDue Proved given
   proved_or_not files a b Proved noted told k = inl refl
   proved_or_not files a b (Wrong x y value product) noted told k =
-      let s = spelled limit order budget file _ _ told k.0 in
-      absurd (right_or_wrong limit order budget file x y value product (h.graph, h.spells, multiplies) (s.0, s.1, s.2.0))
+      let s = spelled limit task file _ _ told k.0 in
+      absurd (right_or_wrong limit task file x y value product (h.graph, spells, does) (s.0, s.1, s.2.0))
+  proved_or_not files a b (WrongSum x y z value sum) noted told k =
+      let s = spelled limit task file _ _ told k.0 in
+      absurd (right_or_wrong_sum limit task file x y z value sum (h.graph, spells, does) (s.0, s.1, s.2.0))
   proved_or_not files a b (Undecided tried t n) noted told k =
-      let s = spelled limit order budget file _ _ told k.0 in
-      let same = one_graph file s.0 h.graph s.1.spells h.spells.spells in
-      absurd (never_tried tried.items noted (subst (λ g. HasNote g order conflicts noted (λ used. AreTried g order budget used tried.items)) same s.2.1))
+      let s = spelled limit task file _ _ told k.0 in
+      let same = one_graph (profile_of task.claim.add) file s.0 h.graph s.1.spells spells.spells in
+      absurd (never_tried tried.items noted (subst (λ g. HasNote g task noted (λ used. AreTried g task.claim task.budget used tried.items)) same s.2.1))
   proved_or_not files a b (Graph why) noted told k =
-      absurd (spelled_not_refused limit file h.graph why h.spells (subst (λ o. IfSome o (λ bytes. IsGraphRefusal limit bytes why)) told k.0))
-  proved_or_not files a b TooLong noted told k = absurd (spelled_not_long limit file h.graph h.spells (subst (λ o. IfSome o (reading.IsTooLong limit)) told k.0))
+      absurd (spelled_not_refused (profile_of task.claim.add) limit file h.graph why spells (subst (λ o. IfSome o (λ bytes. IsGraphRefusal (profile_of task.claim.add) limit bytes why)) told k.0))
+  proved_or_not files a b TooLong noted told k =
+      absurd (spelled_not_long (profile_of task.claim.add) limit file h.graph spells (subst (λ o. IfSome o (reading.IsTooLong (profile_of task.claim.add) limit)) told k.0))
   proved_or_not files a b ReadFault noted told k = inr (inl refl)
   proved_or_not files a b WriteFault noted told k = inr (inr (inl refl))
   proved_or_not files a b Memory noted told k = inr (inr (inr refl))
 
 pub enough_is_proved : EnoughIsProved
-enough_is_proved limit order budget conflicts files before after given noted h = go (bytes_under before files.graph) refl
+enough_is_proved limit task files before after given noted h = go (bytes_under before files.graph) refl
   where
-    go : (told : Option (List ℕ)) → bytes_under before files.graph ≡ told → ProvesEnough limit order budget told given
+    go : (told : Option (List ℕ)) → bytes_under before files.graph ≡ told → ProvesEnough limit task told given
     go None same = tt
-    go (Some file) same = λ enough. proved_or_not limit order budget conflicts file enough files before after given noted same h
+    go (Some file) same = λ enough. proved_or_not limit task file enough files before after given noted same h

@@ -1,131 +1,234 @@
 -- The verdict that is due is given, but for a fault or want of memory.
-use Rattle.std.proofs.Common.{◌≡◌, ℕ, ◌*◌, ◌%◌, ◌^◌, List, refl, sym, ap, ap₂, subst, ◌∙◌, arith, length, inl, inr, ⊎_elim}
+use Rattle.std.proofs.Common.{◌≡◌, ℕ, ◌+◌, ◌*◌, ◌%◌, Bool, true, false, List, ◌++◌, refl, sym, ap, ap₂, subst, ◌∙◌, arith, inl, inr, ⊎_elim}
 use Rattle.std.specs.Prelude.{Some, IfSome}
 use Rattle.std.specs.declared.option.Option.{Option}
 use Rattle.aiger_reader.specs.Refusals as reading
-use Rattle.aiger_reader.specs.Refusals.{SpellsWithin}
-use Rattle.frontier_core.proofs.CallerLemmas.{least_difference_is_one}
-use Rattle.graph_core.specs.Graph.{Aig}
-use Rattle.graph_core.specs.Graph.Operands.{Multiplies, value_on}
-use Rattle.graph_core.specs.declared.order.Order.{Order}
+use Rattle.aiger_reader.specs.Refusals.{IsGraphRefusal, SpellsWithin}
+use Rattle.frontier_core.proofs.CallerLemmas.{difference_is_of_operands, difference_is_of_sum, least_difference_is_one}
+use Rattle.frontier_core.specs.LeastDifference.{IsDifferenceAt}
+use Rattle.graph_core.specs.Graph.{Aig, IsDefinedOnce}
+use Rattle.graph_core.specs.Graph.Operands.{Does, DoesAs, HasShapeFor, bits_of, inputs_of, output_modulus, product_as, profile_of, sides_for, sum_on, sum_width, value_on, width}
+use Rattle.graph_core.specs.declared.claim.Claim.{Claim}
+use Rattle.graph_core.specs.declared.profile.Profile.{Profile}
+use Rattle.graph_core.proofs.OfAiger.CallerLemmas.{shape_for, spelled_shape, well_formed}
 use Rattle.graph_core.proofs.OfTexts.CallerLemmas.{one_graph}
 use Rattle.joint_checker.specs.Files.{HasGraph}
-use Rattle.aiger_reader.specs.Refusals.{IsGraphRefusal}
 use Rattle.joint_checker.proofs.CallerLemmas.{one_graph_refusal, refused_not_long, spelled_not_long, spelled_not_refused}
+use Rattle.joint_prover.specs.declared.task.Task.{Task}
 use Rattle.joint_prover.specs.declared.verdict.Verdict.{Verdict}
-use Rattle.joint_prover.specs.declared.verdict.Verdict.TheVariants.{Proved, Wrong, Undecided, Graph, ReadFault, WriteFault, TooLong, Memory}
-use Rattle.joint_prover.specs.Verdicts.{GivesDue, HasFewOnes, HaveManyOnes, IsFirstAbove, IsVerdict, IsVerdictDue, IsWithinBudget, IsWrong, VerdictsAreExact}
+use Rattle.joint_prover.specs.declared.verdict.Verdict.TheVariants.{Proved, Wrong, WrongSum, Undecided, Graph, ReadFault, WriteFault, TooLong, Memory}
+use Rattle.joint_prover.specs.Verdicts.{GivesDue, HasFewOnes, HaveManyOnes, IsFirstAbove, IsVerdict, IsVerdictDue, IsWithinBudget, IsWrong, IsWrongSum, VerdictsAreExact}
 
 wrong_same : (a c b d v w p q : ℕ) → a ≡ c → b ≡ d → v ≡ w → p ≡ q → Wrong a b v p ≡ Wrong c d w q
 wrong_same a c b d v w p q e f g h = cc
 
-module _ (limit : ℕ) (order : Order) (budget : ℕ) (file : List ℕ) where
+sum_same : (a d b e c f v w p q : ℕ) → a ≡ d → b ≡ e → c ≡ f → v ≡ w → p ≡ q → WrongSum a b c v p ≡ WrongSum d e f w q
+sum_same a d b e c f v w p q x y z g h = cc
+
+-- a claim has an addend or none
+both_ways : (add : Bool) → add ≡ false → add ≡ true → ⊥
+both_ways add alone added = cc
+
+-- a claim by its parts
+abbrev Under : Claim → Bool → Claim
+Under claim add = record { order = claim.order; sign = claim.sign; add = add }
+
+-- ---- a graph that is wrong
+
+module _ (g : Aig) (claim : Claim) where
+  does_or_wrong : (a b v p : ℕ) → Does claim g → IsWrong g claim a b v p → ⊥
+  does_or_wrong a b v p does wrong =
+      let far = wrong.least.difference in
+      let product : DoesAs false claim.order claim.sign g = subst (λ add. DoesAs add claim.order claim.sign g) wrong.alone does in
+      far.differs (product a b far.a_below far.b_below)
+
+  does_or_wrong_sum : (a b c v p : ℕ) → Does claim g → IsWrongSum g claim a b c v p → ⊥
+  does_or_wrong_sum a b c v p does wrong =
+      let far = wrong.least.difference in
+      let sum : DoesAs true claim.order claim.sign g = subst (λ add. DoesAs add claim.order claim.sign g) wrong.added does in
+      far.differs (sum a b c far.a_below far.b_below far.c_below)
+
+  -- the values of the inputs at which it is
+
+  module _ (shape : HasShapeFor claim.add g) (once : IsDefinedOnce g) where
+    differs_there : (a b v p : ℕ) → IsWrong g claim a b v p → IsDifferenceAt g (sides_for claim g) (inputs_of claim.order (width g) a b)
+    differs_there a b v p wrong =
+        let far = wrong.least.difference in
+        let least = (difference_is_of_operands g claim.order claim.sign a b (subst (λ add. HasShapeFor add g) wrong.alone shape) once far.a_below far.b_below).1 wrong.least in
+        subst (λ add. IsDifferenceAt g (sides_for (Under claim add) g) (inputs_of claim.order (width g) a b)) (sym wrong.alone) least.difference
+
+    differs_there_sum : (a b c v p : ℕ) → IsWrongSum g claim a b c v p →
+        IsDifferenceAt g (sides_for claim g) (inputs_of claim.order (sum_width g) a b ++ bits_of (2 * sum_width g) c)
+    differs_there_sum a b c v p wrong =
+        let far = wrong.least.difference in
+        let least = (difference_is_of_sum g claim.order claim.sign a b c (subst (λ add. HasShapeFor add g) wrong.added shape) once far.a_below far.b_below far.c_below).1 wrong.least in
+        subst (λ add. IsDifferenceAt g (sides_for (Under claim add) g) (inputs_of claim.order (sum_width g) a b ++ bits_of (2 * sum_width g) c)) (sym wrong.added) least.difference
+
+-- ---- two verdicts on a file
+
+module _ (limit : ℕ) (task : Task) (file : List ℕ) where
+  abbrev claim : Claim
+  claim = task.claim
+
+  abbrev profile : Profile
+  profile = profile_of task.claim.add
+
   -- a graph of the file, of which something holds
   abbrev pub Spelled : (Aig → Type 0) → Type 0
-  Spelled P = (g : Aig) × SpellsWithin limit file g × P g
+  Spelled P = (g : Aig) × SpellsWithin profile limit file g × P g
 
-  together : (P Q : Aig → Type 0) → Spelled P → Spelled Q → (g : Aig) × (P g × Q g)
-  together P Q h k = (h.0, (h.2, subst Q (one_graph file k.0 h.0 k.1.spells h.1.spells) k.2))
+  together : (P Q : Aig → Type 0) → Spelled P → Spelled Q → Spelled (λ g. P g × Q g)
+  together P Q h k = (h.0, h.1, (h.2, subst Q (one_graph profile file k.0 h.0 k.1.spells h.1.spells) k.2))
 
-  pub right_or_wrong : (a b v p : ℕ) → Spelled (λ g. Multiplies g order) → Spelled (λ g. IsWrong g order a b v p) → ⊥
-  right_or_wrong a b v p h k =
-      let both = together (λ g. Multiplies g order) (λ g. IsWrong g order a b v p) h k in
-      let far = both.1.1.least.difference in
-      far.differs (both.1.0 a b far.a_below far.b_below)
+  shape_there : (g : Aig) → SpellsWithin profile limit file g → HasShapeFor claim.add g
+  shape_there g s = shape_for claim.add g (spelled_shape profile file g s.spells)
 
-  within_or_above : (t n : ℕ) → Spelled (λ g. IsWithinBudget g order budget) → Spelled (λ g. IsFirstAbove g order budget t n) → ⊥
+  once_there : (g : Aig) → SpellsWithin profile limit file g → IsDefinedOnce g
+  once_there g s = (well_formed profile file g s.spells).defined_once
+
+  pub right_or_wrong : (a b v p : ℕ) → Spelled (Does claim) → Spelled (λ g. IsWrong g claim a b v p) → ⊥
+  right_or_wrong a b v p h k = let both = together (Does claim) (λ g. IsWrong g claim a b v p) h k in does_or_wrong both.0 claim a b v p both.2.0 both.2.1
+
+  pub right_or_wrong_sum : (a b c v p : ℕ) → Spelled (Does claim) → Spelled (λ g. IsWrongSum g claim a b c v p) → ⊥
+  right_or_wrong_sum a b c v p h k =
+      let both = together (Does claim) (λ g. IsWrongSum g claim a b c v p) h k in does_or_wrong_sum both.0 claim a b c v p both.2.0 both.2.1
+
+  product_or_sum : (a b v p c d e w q : ℕ) → Spelled (λ g. IsWrong g claim a b v p) → Spelled (λ g. IsWrongSum g claim c d e w q) → ⊥
+  product_or_sum a b v p c d e w q h k = both_ways claim.add h.2.alone k.2.added
+
+  within_or_above : (t n : ℕ) → Spelled (λ g. IsWithinBudget g claim task.budget) → Spelled (λ g. IsFirstAbove g claim task.budget t n) → ⊥
   within_or_above t n h k =
-      let both = together (λ g. IsWithinBudget g order budget) (λ g. IsFirstAbove g order budget t n) h k in
-      let first = both.1.1 in
-      let low = both.1.0 t n first.size in
+      let both = together (λ g. IsWithinBudget g claim task.budget) (λ g. IsFirstAbove g claim task.budget t n) h k in
+      let first = both.2.1 in
+      let low = both.2.0 t n first.size in
       let high = first.above in
       omega arith
 
-  few_or_many : (a b v p : ℕ) → Spelled (λ g. HasFewOnes g order a b × IsWrong g order a b v p) → Spelled (λ g. HaveManyOnes g order) → ⊥
+  few_or_many : (a b v p : ℕ) → Spelled (λ g. HasFewOnes (inputs_of claim.order (width g) a b) × IsWrong g claim a b v p) → Spelled (λ g. HaveManyOnes g claim) → ⊥
   few_or_many a b v p h k =
-      let both = together (λ g. HasFewOnes g order a b × IsWrong g order a b v p) (λ g. HaveManyOnes g order) h k in
-      let told = both.1.0 in
-      both.1.1 a b told.1.least.difference told.0
-
-  one_wrong : (a b v p c d w q : ℕ) → Spelled (λ g. IsWrong g order a b v p) → Spelled (λ g. IsWrong g order c d w q) → Wrong c d w q ≡ Wrong a b v p
-  one_wrong a b v p c d w q h k =
-      let both = together (λ g. IsWrong g order a b v p) (λ g. IsWrong g order c d w q) h k in
+      let both = together (λ g. HasFewOnes (inputs_of claim.order (width g) a b) × IsWrong g claim a b v p) (λ g. HaveManyOnes g claim) h k in
       let g = both.0 in
-      let one = both.1.0 in
-      let two = both.1.1 in
-      let same = least_difference_is_one.1 g order a b c d one.least two.least in
+      let told = both.2.0 in
+      both.2.1 (inputs_of claim.order (width g) a b) (differs_there g claim (shape_there g both.1) (once_there g both.1) a b v p told.1) told.0
+
+  few_or_many_sum : (a b c v p : ℕ) → Spelled (λ g. HasFewOnes (inputs_of claim.order (sum_width g) a b ++ bits_of (2 * sum_width g) c) × IsWrongSum g claim a b c v p) →
+      Spelled (λ g. HaveManyOnes g claim) → ⊥
+  few_or_many_sum a b c v p h k =
+      let both = together (λ g. HasFewOnes (inputs_of claim.order (sum_width g) a b ++ bits_of (2 * sum_width g) c) × IsWrongSum g claim a b c v p) (λ g. HaveManyOnes g claim) h k in
+      let g = both.0 in
+      let told = both.2.0 in
+      both.2.1 (inputs_of claim.order (sum_width g) a b ++ bits_of (2 * sum_width g) c) (differs_there_sum g claim (shape_there g both.1) (once_there g both.1) a b c v p told.1) told.0
+
+  one_wrong : (a b v p c d w q : ℕ) → Spelled (λ g. IsWrong g claim a b v p) → Spelled (λ g. IsWrong g claim c d w q) → Wrong c d w q ≡ Wrong a b v p
+  one_wrong a b v p c d w q h k =
+      let both = together (λ g. IsWrong g claim a b v p) (λ g. IsWrong g claim c d w q) h k in
+      let g = both.0 in
+      let m = output_modulus g in
+      let one = both.2.0 in
+      let two = both.2.1 in
+      let same = least_difference_is_one.1 g claim.order claim.sign a b c d one.least two.least in
       wrong_same c a d b w v q p same.0 same.1
-      (two.value_is ∙ ap₂ (value_on g order) same.0 same.1 ∙ sym one.value_is)
-      (two.product_is ∙ ap₂ (λ x y. x * y % 2 ^ length g.outputs) same.0 same.1 ∙ sym one.product_is)
+      (two.value_is ∙ ap₂ (value_on g claim.order) same.0 same.1 ∙ sym one.value_is)
+      (two.product_is ∙ ap₂ (λ x y. product_as claim.sign m (width g) x y % m) same.0 same.1 ∙ sym one.product_is)
+
+  one_wrong_sum : (a b c v p d e f w q : ℕ) → Spelled (λ g. IsWrongSum g claim a b c v p) → Spelled (λ g. IsWrongSum g claim d e f w q) → WrongSum d e f w q ≡ WrongSum a b c v p
+  one_wrong_sum a b c v p d e f w q h k =
+      let both = together (λ g. IsWrongSum g claim a b c v p) (λ g. IsWrongSum g claim d e f w q) h k in
+      let g = both.0 in
+      let n = sum_width g in
+      let m = output_modulus g in
+      let one = both.2.0 in
+      let two = both.2.1 in
+      let same = least_difference_is_one.2 g claim.order claim.sign a b c d e f one.least two.least in
+      sum_same d a e b f c w v q p same.0 same.1 same.2
+      (two.value_is ∙ ap₂ (λ x y. sum_on g claim.order x y f) same.0 same.1 ∙ ap (sum_on g claim.order a b) same.2 ∙ sym one.value_is)
+      (two.sum_is ∙ ap₂ (λ x y. (product_as claim.sign m n x y + f) % m) same.0 same.1 ∙ ap (λ z. (product_as claim.sign m n a b + z) % m) same.2 ∙ sym one.sum_is)
 
   -- what the verdict says of the file
   abbrev Says : Verdict → Type 0
-  Says Proved = Spelled (λ g. Multiplies g order)
-  Says (Wrong a b v p) = Spelled (λ g. IsWrong g order a b v p)
-  Says (Undecided tried t n) = Spelled (λ g. IsFirstAbove g order budget t n × HaveManyOnes g order)
-  Says (Graph why) = IsGraphRefusal limit file why
-  Says TooLong = reading.IsTooLong limit file
+  Says Proved = Spelled (Does claim)
+  Says (Wrong a b v p) = Spelled (λ g. IsWrong g claim a b v p)
+  Says (WrongSum a b c v p) = Spelled (λ g. IsWrongSum g claim a b c v p)
+  Says (Undecided tried t n) = Spelled (λ g. IsFirstAbove g claim task.budget t n × HaveManyOnes g claim)
+  Says (Graph why) = IsGraphRefusal profile limit file why
+  Says TooLong = reading.IsTooLong profile limit file
   Says _ = Unit {0}
 
-  exact : (given due : Verdict) → Says given → IsVerdictDue limit order budget file due → GivesDue due given
+  exact : (given due : Verdict) → Says given → IsVerdictDue limit task file due → GivesDue due given
   exact ReadFault due h d = inr (inl refl)
   exact WriteFault due h d = inr (inr (inl refl))
   exact Memory due h d = inr (inr (inr refl))
   exact Proved Proved h d = inl refl
-  exact Proved (Wrong a b v p) h d = absurd (right_or_wrong a b v p h (d.0, d.1, d.3))
-  exact Proved (Graph why) h d = absurd (spelled_not_refused limit file h.0 why h.1 d)
-  exact Proved TooLong h d = absurd (spelled_not_long limit file h.0 h.1 d)
-  exact Proved (Undecided tried t n) h d = absurd d
+  exact Proved (Wrong x y w q) h d = absurd (right_or_wrong x y w q h (d.0, d.1, d.3))
+  exact Proved (WrongSum x y z w q) h d = absurd (right_or_wrong_sum x y z w q h (d.0, d.1, d.3))
+  exact Proved (Graph other) h d = absurd (spelled_not_refused profile limit file h.0 other h.1 d)
+  exact Proved TooLong h d = absurd (spelled_not_long profile limit file h.0 h.1 d)
+  exact Proved (Undecided others u m) h d = absurd d
   exact Proved ReadFault h d = absurd d
   exact Proved WriteFault h d = absurd d
   exact Proved Memory h d = absurd d
   exact (Wrong a b v p) Proved h d = absurd (right_or_wrong a b v p (d.0, d.1, d.3) h)
-  exact (Wrong a b v p) (Wrong c e w q) h d = inl (one_wrong c e w q a b v p (d.0, d.1, d.3) h)
-  exact (Wrong a b v p) (Graph why) h d = absurd (spelled_not_refused limit file h.0 why h.1 d)
-  exact (Wrong a b v p) TooLong h d = absurd (spelled_not_long limit file h.0 h.1 d)
-  exact (Wrong a b v p) (Undecided tried t n) h d = absurd d
+  exact (Wrong a b v p) (Wrong x y w q) h d = inl (one_wrong x y w q a b v p (d.0, d.1, d.3) h)
+  exact (Wrong a b v p) (WrongSum x y z w q) h d = absurd (product_or_sum a b v p x y z w q h (d.0, d.1, d.3))
+  exact (Wrong a b v p) (Graph other) h d = absurd (spelled_not_refused profile limit file h.0 other h.1 d)
+  exact (Wrong a b v p) TooLong h d = absurd (spelled_not_long profile limit file h.0 h.1 d)
+  exact (Wrong a b v p) (Undecided others u m) h d = absurd d
   exact (Wrong a b v p) ReadFault h d = absurd d
   exact (Wrong a b v p) WriteFault h d = absurd d
   exact (Wrong a b v p) Memory h d = absurd d
+  exact (WrongSum a b c v p) Proved h d = absurd (right_or_wrong_sum a b c v p (d.0, d.1, d.3) h)
+  exact (WrongSum a b c v p) (Wrong x y w q) h d = absurd (product_or_sum x y w q a b c v p (d.0, d.1, d.3) h)
+  exact (WrongSum a b c v p) (WrongSum x y z w q) h d = inl (one_wrong_sum x y z w q a b c v p (d.0, d.1, d.3) h)
+  exact (WrongSum a b c v p) (Graph other) h d = absurd (spelled_not_refused profile limit file h.0 other h.1 d)
+  exact (WrongSum a b c v p) TooLong h d = absurd (spelled_not_long profile limit file h.0 h.1 d)
+  exact (WrongSum a b c v p) (Undecided others u m) h d = absurd d
+  exact (WrongSum a b c v p) ReadFault h d = absurd d
+  exact (WrongSum a b c v p) WriteFault h d = absurd d
+  exact (WrongSum a b c v p) Memory h d = absurd d
   exact (Undecided tried t n) Proved h d = absurd (within_or_above t n (d.0, d.1, d.2) (h.0, h.1, h.2.0))
-  exact (Undecided tried t n) (Wrong a b v p) h d =
-      absurd (⊎_elim (λ within. within_or_above t n (d.0, d.1, within) (h.0, h.1, h.2.0)) (λ few. few_or_many a b v p (d.0, d.1, (few, d.3)) (h.0, h.1, h.2.1)) d.2)
-  exact (Undecided tried t n) (Graph why) h d = absurd (spelled_not_refused limit file h.0 why h.1 d)
-  exact (Undecided tried t n) TooLong h d = absurd (spelled_not_long limit file h.0 h.1 d)
-  exact (Undecided tried t n) (Undecided other u m) h d = absurd d
+  exact (Undecided tried t n) (Wrong x y w q) h d =
+      absurd (⊎_elim (λ within. within_or_above t n (d.0, d.1, within) (h.0, h.1, h.2.0)) (λ few. few_or_many x y w q (d.0, d.1, (few, d.3)) (h.0, h.1, h.2.1)) d.2)
+  exact (Undecided tried t n) (WrongSum x y z w q) h d =
+      absurd (⊎_elim (λ within. within_or_above t n (d.0, d.1, within) (h.0, h.1, h.2.0)) (λ few. few_or_many_sum x y z w q (d.0, d.1, (few, d.3)) (h.0, h.1, h.2.1)) d.2)
+  exact (Undecided tried t n) (Graph other) h d = absurd (spelled_not_refused profile limit file h.0 other h.1 d)
+  exact (Undecided tried t n) TooLong h d = absurd (spelled_not_long profile limit file h.0 h.1 d)
+  exact (Undecided tried t n) (Undecided others u m) h d = absurd d
   exact (Undecided tried t n) ReadFault h d = absurd d
   exact (Undecided tried t n) WriteFault h d = absurd d
   exact (Undecided tried t n) Memory h d = absurd d
-  exact (Graph why) Proved h d = absurd (spelled_not_refused limit file d.0 why d.1 h)
-  exact (Graph why) (Wrong a b v p) h d = absurd (spelled_not_refused limit file d.0 why d.1 h)
-  exact (Graph why) (Graph other) h d = inl (ap Graph (one_graph_refusal limit file why other h d))
-  exact (Graph why) TooLong h d = absurd (refused_not_long limit file why h d)
-  exact (Graph why) (Undecided tried t n) h d = absurd d
+  exact (Graph why) Proved h d = absurd (spelled_not_refused profile limit file d.0 why d.1 h)
+  exact (Graph why) (Wrong x y w q) h d = absurd (spelled_not_refused profile limit file d.0 why d.1 h)
+  exact (Graph why) (WrongSum x y z w q) h d = absurd (spelled_not_refused profile limit file d.0 why d.1 h)
+  exact (Graph why) (Graph other) h d = inl (ap Graph (one_graph_refusal profile limit file why other h d))
+  exact (Graph why) TooLong h d = absurd (refused_not_long profile limit file why h d)
+  exact (Graph why) (Undecided others u m) h d = absurd d
   exact (Graph why) ReadFault h d = absurd d
   exact (Graph why) WriteFault h d = absurd d
   exact (Graph why) Memory h d = absurd d
-  exact TooLong Proved h d = absurd (spelled_not_long limit file d.0 d.1 h)
-  exact TooLong (Wrong a b v p) h d = absurd (spelled_not_long limit file d.0 d.1 h)
-  exact TooLong (Graph why) h d = absurd (refused_not_long limit file why d h)
+  exact TooLong Proved h d = absurd (spelled_not_long profile limit file d.0 d.1 h)
+  exact TooLong (Wrong x y w q) h d = absurd (spelled_not_long profile limit file d.0 d.1 h)
+  exact TooLong (WrongSum x y z w q) h d = absurd (spelled_not_long profile limit file d.0 d.1 h)
+  exact TooLong (Graph other) h d = absurd (refused_not_long profile limit file other d h)
   exact TooLong TooLong h d = inl refl
-  exact TooLong (Undecided tried t n) h d = absurd d
+  exact TooLong (Undecided others u m) h d = absurd d
   exact TooLong ReadFault h d = absurd d
   exact TooLong WriteFault h d = absurd d
   exact TooLong Memory h d = absurd d
 
   -- where the file is told
-  pub spelled : (given : Option (List ℕ)) (P : Aig → Type 0) → given ≡ Some file → HasGraph limit given P → Spelled P
-  spelled given P told h = (h.0, subst (λ o. IfSome o (λ bytes. SpellsWithin limit bytes h.0)) told h.1, h.2)
+  pub spelled : (given : Option (List ℕ)) (P : Aig → Type 0) → given ≡ Some file → HasGraph profile limit given P → Spelled P
+  spelled given P told h = (h.0, subst (λ o. IfSome o (λ bytes. SpellsWithin profile limit bytes h.0)) told h.1, h.2)
 
 pub verdicts_are_exact : VerdictsAreExact
-verdicts_are_exact limit order budget conflicts files before after file due given noted told d h = exact limit order budget file given due (says given h) d
+verdicts_are_exact limit task files before after file due given noted told d h = exact limit task file given due (says given h) d
   where
-    says : (v : Verdict) → IsVerdict limit order budget conflicts files before after v noted → Says limit order budget file v
-    says Proved h = let s = spelled limit order budget file _ _ told h in (s.0, s.1, s.2.0)
-    says (Wrong a b value product) h = let s = spelled limit order budget file _ _ told h.0 in (s.0, s.1, s.2.0)
-    says (Undecided tried t n) h = let s = spelled limit order budget file _ _ told h.0 in (s.0, s.1, (s.2.0, s.2.2))
-    says (Graph why) h = subst (λ o. IfSome o (λ bytes. IsGraphRefusal limit bytes why)) told h.0
-    says TooLong h = subst (λ o. IfSome o (reading.IsTooLong limit)) told h.0
+    says : (v : Verdict) → IsVerdict limit task files before after v noted → Says limit task file v
+    says Proved h = let s = spelled limit task file _ _ told h in (s.0, s.1, s.2.0)
+    says (Wrong a b value product) h = let s = spelled limit task file _ _ told h.0 in (s.0, s.1, s.2.0)
+    says (WrongSum a b c value sum) h = let s = spelled limit task file _ _ told h.0 in (s.0, s.1, s.2.0)
+    says (Undecided tried t n) h = let s = spelled limit task file _ _ told h.0 in (s.0, s.1, (s.2.0, s.2.2))
+    says (Graph why) h = subst (λ o. IfSome o (λ bytes. IsGraphRefusal (profile_of task.claim.add) limit bytes why)) told h.0
+    says TooLong h = subst (λ o. IfSome o (reading.IsTooLong (profile_of task.claim.add) limit)) told h.0
     says ReadFault h = tt
     says WriteFault h = tt
     says Memory h = tt

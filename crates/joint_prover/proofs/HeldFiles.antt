@@ -12,9 +12,10 @@ use Rattle.joint_prover.specs.Written.{ReadsGraph, WritesFile, WritesPair}
 use Rattle.joint_prover.specs.Verdicts as verdicts
 use Rattle.joint_prover.specs.Verdicts.{HasNote, HoldsPair, IsTold, ProvedPairsAreHeld}
 use Rattle.graph_core.specs.Graph.{Aig}
-use Rattle.graph_core.specs.declared.order.Order.{Order}
+use Rattle.graph_core.specs.Graph.Operands.{profile_of}
 use Rattle.ripple_graft.specs.declared.cut.Cut.{Cut}
 use Rattle.joint_prover.specs.declared.rewriting.Rewriting.{Rewriting}
+use Rattle.joint_prover.specs.declared.task.Task.{Task}
 use Rattle.joint_prover.specs.Notes.{IsNote, cut_of}
 use Rattle.joint_prover.specs.Pairs.{IsPairFor}
 use Rattle.joint_prover.proofs.Telling.{pair_is_lawful}
@@ -96,16 +97,16 @@ told_file None told = absurd (none_told (Option (List ℕ)) told)
 told_file (Some bytes) told = (unwrap_or bytes [], refl)
 
 -- the note, with what else holds of its cut
-note_there : (g : Aig) (order : Order) (conflicts : ℕ) (noted : Option Rewriting) (P : Option Cut → Type 0) → HasNote g order conflicts noted P → (n : Rewriting) × (noted ≡ Some n) × IsNote g order conflicts n × P (cut_of n)
-note_there g order conflicts None P h = absurd h
-note_there g order conflicts (Some n) P h = (n, refl, h.0, h.1)
+note_there : (g : Aig) (task : Task) (noted : Option Rewriting) (P : Option Cut → Type 0) → HasNote g task noted P → (n : Rewriting) × (noted ≡ Some n) × IsNote g task.claim task.conflicts n × P (cut_of n)
+note_there g task None P h = absurd h
+note_there g task (Some n) P h = (n, refl, h.0, h.1)
 
 pub proved_pairs_are_held : ProvedPairsAreHeld
-proved_pairs_are_held limit order budget conflicts files a c noted told apart h =
+proved_pairs_are_held limit task files a c noted told apart h =
     let file = told_file (a.held files.graph) (told.held files.graph) in
     let g = h.0 in
-    let n = note_there g order conflicts noted
-    (λ used. (read : View) × ReadsGraph a read × ((clauses : List ℕ) × (algebra : List ℕ) × IsPairFor g order budget conflicts used clauses algebra × WritesPair files clauses algebra read c)) h.2.1 in
+    let n = note_there g task noted
+    (λ used. (read : View) × ReadsGraph a read × ((clauses : List ℕ) × (algebra : List ℕ) × IsPairFor g task used clauses algebra × WritesPair files clauses algebra read c)) h.2.1 in
     let state = n.3 in
     let written = state.2 in
     let clauses = written.0 in
@@ -120,8 +121,8 @@ proved_pairs_are_held limit order budget conflicts files a c noted told apart h 
       clauses_held = ap bytes (clauses_are_held files clauses text a state.0 c told apart state.1 written.3);
       algebra_held = ap bytes (algebra_is_held files clauses text a state.0 c told apart state.1 written.3);
       graph = g;
-      spells = subst (λ o. IfSome o (λ b. SpellsWithin limit b g)) file.1 h.1;
-      pair = pair_is_lawful g order conflicts pair.0 clauses text pair.2;
-      multiplies = h.2.0;
-      note = subst (λ o. IsSomeAnd o (λ m. IsNote g order conflicts m × IsPairFor g order budget conflicts (cut_of m) clauses text)) (sym n.1) (n.2, pair);
+      spells = subst (λ o. IfSome o (λ b. SpellsWithin (profile_of task.claim.add) limit b g)) file.1 h.1;
+      pair = pair_is_lawful g task.claim task.conflicts pair.0 clauses text pair.2;
+      does = h.2.0;
+      note = subst (λ o. IsSomeAnd o (λ m. IsNote g task.claim task.conflicts m × IsPairFor g task (cut_of m) clauses text)) (sym n.1) (n.2, pair);
     }

@@ -9,14 +9,15 @@ use Rattle.aiger_reader.specs.declared.fail.ReadFail.{ReadFail}
 use Rattle.aiger_reader.specs.declared.fail.ReadFail.TheVariants as fail
 use Rattle.aiger_reader.proofs.CallerLemmas.{Inspects-OpensOnly}
 use Rattle.graph_core.specs.Graph.{Aig}
-use Rattle.graph_core.specs.declared.order.Order.{Order}
+use Rattle.graph_core.specs.Graph.Operands.{profile_of}
 use Rattle.mv_desk.specs.View.{View, IsSame, Rose, bytes_under}
 use Rattle.mv_desk.specs.declared.slot.Slot.{Slot}
 use Rattle.mv_desk.specs.declared.slot.Slot.TheVariants as slot
 use Rattle.mv_desk.proofs.CallerLemmas.{ModeStays-refl, ModeStays-trans}
 use Rattle.joint_checker.specs.Files.{Files}
+use Rattle.joint_prover.specs.declared.task.Task.{Task}
 use Rattle.joint_prover.specs.declared.verdict.Verdict.{Verdict}
-use Rattle.joint_prover.specs.declared.verdict.Verdict.TheVariants.{Proved, Wrong, Undecided, Graph, ReadFault, WriteFault, TooLong, Memory}
+use Rattle.joint_prover.specs.declared.verdict.Verdict.TheVariants.{Proved, Wrong, WrongSum, Undecided, Graph, ReadFault, WriteFault, TooLong, Memory}
 use Rattle.ripple_graft.specs.declared.cut.Cut.{Cut}
 use Rattle.joint_prover.specs.declared.rewriting.Rewriting.{Rewriting}
 use Rattle.joint_prover.specs.Notes.{IsNote, cut_of}
@@ -31,11 +32,12 @@ graph_is_read a r result opens = record {
   inspects = Inspects-OpensOnly slot.Graph a r result (λ e. cc) opens;
 }
 
-module _ (limit : ℕ) (order : Order) (budget conflicts : ℕ) (files : Files) (a r : View) (reads : ReadsGraph a r) where
-  of_graph : (c : View) (g : Aig) (v : Verdict) (n : Rewriting) → IfSome (bytes_under a files.graph) (λ bytes. SpellsWithin limit bytes g) → r.write_faults ≡ a.write_faults →
-      IsNote g order conflicts n → IsOfGraph g order budget conflicts (cut_of n) files r c v → IsVerdict limit order budget conflicts files a c v (note_with v n)
+module _ (limit : ℕ) (task : Task) (files : Files) (a r : View) (reads : ReadsGraph a r) where
+  of_graph : (c : View) (g : Aig) (v : Verdict) (n : Rewriting) → IfSome (bytes_under a files.graph) (λ bytes. SpellsWithin (profile_of task.claim.add) limit bytes g) → r.write_faults ≡ a.write_faults →
+      IsNote g task.claim task.conflicts n → IsOfGraph g task (cut_of n) files r c v → IsVerdict limit task files a c v (note_with v n)
   of_graph c g Proved n spelled same noted h = (g, spelled, (h.0, (noted, (r, reads, h.1))))
   of_graph c g (Wrong x y value product) n spelled same noted h = ((g, spelled, (h.0, (noted, tt))), subst (ReadsGraph a) (sym h.1) reads)
+  of_graph c g (WrongSum x y z value sum) n spelled same noted h = ((g, spelled, (h.0, (noted, tt))), subst (ReadsGraph a) (sym h.1) reads)
   of_graph c g (Undecided tried t k) n spelled same noted h = ((g, spelled, (h.0, (noted, h.1), h.3)), subst (ReadsGraph a) (sym h.2) reads)
   of_graph c g (Graph why) n spelled same noted h = absurd h
   of_graph c g ReadFault n spelled same noted h = absurd h
@@ -43,14 +45,14 @@ module _ (limit : ℕ) (order : Order) (budget conflicts : ℕ) (files : Files) 
   of_graph c g TooLong n spelled same noted h = absurd h
   of_graph c g Memory n spelled same noted h = absurd h
 
-  pub joined : (c : View) (g : Aig) (v : Verdict) (noted : Option Rewriting) → IfSome (bytes_under a files.graph) (λ bytes. SpellsWithin limit bytes g) → r.write_faults ≡ a.write_faults →
-      IsJudged g order budget conflicts files r c v noted → IsVerdict limit order budget conflicts files a c v noted
-  joined c g v noted spelled same (inl h) = subst (IsVerdict limit order budget conflicts files a c v) (sym h.3) (of_graph c g v h.0 spelled same h.1 h.2)
+  pub joined : (c : View) (g : Aig) (v : Verdict) (noted : Option Rewriting) → IfSome (bytes_under a files.graph) (λ bytes. SpellsWithin (profile_of task.claim.add) limit bytes g) → r.write_faults ≡ a.write_faults →
+      IsJudged g task files r c v noted → IsVerdict limit task files a c v noted
+  joined c g v noted spelled same (inl h) = subst (IsVerdict limit task files a c v) (sym h.3) (of_graph c g v h.0 spelled same h.1 h.2)
   joined c g v noted spelled same (inr h) =
-      subst (λ x. IsVerdict limit order budget conflicts files a c x noted) (sym h.0) (subst (ReadsGraph a) (sym h.2) reads, h.1)
+      subst (λ x. IsVerdict limit task files a c x noted) (sym h.0) (subst (ReadsGraph a) (sym h.2) reads, h.1)
 
-  pub refused : (why : ReadFail) → IfSome (bytes_under a files.graph) (λ file. Refuses limit file why) → (why ≡ fail.Fault → Rose a.read_faults r.read_faults) →
-      IsVerdict limit order budget conflicts files a r (answer_of_graph why) None
+  pub refused : (why : ReadFail) → IfSome (bytes_under a files.graph) (λ file. Refuses (profile_of task.claim.add) limit file why) → (why ≡ fail.Fault → Rose a.read_faults r.read_faults) →
+      IsVerdict limit task files a r (answer_of_graph why) None
   refused (fail.Text p) h rose = (h, reads, refl)
   refused (fail.Header f) h rose = (h, reads, refl)
   refused (fail.Graph f) h rose = (h, reads, refl)
@@ -96,23 +98,24 @@ stopping_leaves files P Q a b (inl h) = stop_leaves slot.Clauses files.clauses P
 stopping_leaves files P Q a b (inr h) =
     stays_on a h.1 b (file_leaves slot.Clauses files.clauses h.0 a h.1 no_clauses h.3) (stop_leaves slot.Algebra files.algebra (Q h.0) h.1 b no_algebra h.4)
 
-of_graph_leaves : (g : Aig) (order : Order) (budget conflicts : ℕ) (used : Option Cut) (files : Files) (a b : View) (v : Verdict) → IsOfGraph g order budget conflicts used files a b v → ReportStays a b
-of_graph_leaves g order budget conflicts used files a b Proved h =
+of_graph_leaves : (g : Aig) (task : Task) (used : Option Cut) (files : Files) (a b : View) (v : Verdict) → IsOfGraph g task used files a b v → ReportStays a b
+of_graph_leaves g task used files a b Proved h =
     let pair = h.1 in
     let w = pair.3 in
     stays_on a w.between b (file_leaves slot.Clauses files.clauses pair.0 a w.between no_clauses w.clause_file) (file_leaves slot.Algebra files.algebra pair.1 w.between b no_algebra w.algebra_file)
-of_graph_leaves g order budget conflicts used files a b (Wrong x y value product) h = subst (ReportStays a) (sym h.1) (stays a)
-of_graph_leaves g order budget conflicts used files a b (Undecided tried t n) h = subst (ReportStays a) (sym h.2) (stays a)
-of_graph_leaves g order budget conflicts used files a b (Graph why) h = absurd h
-of_graph_leaves g order budget conflicts used files a b ReadFault h = absurd h
-of_graph_leaves g order budget conflicts used files a b WriteFault h =
-    stopping_leaves files (AreClausesFor g order budget conflicts used) (IsPairFor g order budget conflicts used) a b h.2
-of_graph_leaves g order budget conflicts used files a b TooLong h = absurd h
-of_graph_leaves g order budget conflicts used files a b Memory h = absurd h
+of_graph_leaves g task used files a b (Wrong x y value product) h = subst (ReportStays a) (sym h.1) (stays a)
+of_graph_leaves g task used files a b (WrongSum x y z value sum) h = subst (ReportStays a) (sym h.1) (stays a)
+of_graph_leaves g task used files a b (Undecided tried t n) h = subst (ReportStays a) (sym h.2) (stays a)
+of_graph_leaves g task used files a b (Graph why) h = absurd h
+of_graph_leaves g task used files a b ReadFault h = absurd h
+of_graph_leaves g task used files a b WriteFault h =
+    stopping_leaves files (AreClausesFor g task used) (IsPairFor g task used) a b h.2
+of_graph_leaves g task used files a b TooLong h = absurd h
+of_graph_leaves g task used files a b Memory h = absurd h
 
-pub report_is_left : (g : Aig) (order : Order) (budget conflicts : ℕ) (files : Files) (a b : View) (v : Verdict) (noted : Option Rewriting) → IsJudged g order budget conflicts files a b v noted → ReportStays a b
-report_is_left g order budget conflicts files a b v noted (inl h) = of_graph_leaves g order budget conflicts (cut_of h.0) files a b v h.2
-report_is_left g order budget conflicts files a b v noted (inr h) = subst (ReportStays a) (sym h.2) (stays a)
+pub report_is_left : (g : Aig) (task : Task) (files : Files) (a b : View) (v : Verdict) (noted : Option Rewriting) → IsJudged g task files a b v noted → ReportStays a b
+report_is_left g task files a b v noted (inl h) = of_graph_leaves g task (cut_of h.0) files a b v h.2
+report_is_left g task files a b v noted (inr h) = subst (ReportStays a) (sym h.2) (stays a)
 
 pub reading_leaves : (a r : View) → ReadsGraph a r → ReportStays a r
 reading_leaves a r reads = let s = reads.inspects.report in record { mode = s.mode; written = s.written }

@@ -1,5 +1,7 @@
 mod PlanLists
+mod Sizes
 mod Starting
+mod WrongNumbers
 pub mod TakenLists
 pub mod Remainders
 pub mod Clauses

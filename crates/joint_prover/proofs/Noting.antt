@@ -1,34 +1,58 @@
 -- The note has the cause of what came of the rewriting.
-use Rattle.std.proofs.Common.{◌≡◌, ℕ, ◌+◌, ◌*◌, ◌≤◌, List, arith, length, refl, subst}
+use Rattle.std.proofs.Common.{◌≡◌, ℕ, ◌^◌, ◌<◌, ◌≤◌, Bool, true, false, List, arith, length, refl, subst}
 use Rattle.std.specs.Prelude.{None}
 use Rattle.graph_core.specs.Algebra.{AgreeOnColumns}
 use Rattle.cdcl_core.specs.Logs.{LogView}
 use Rattle.clause_core.specs.ClauseLines.{ClauseLine}
 use Rattle.graph_core.specs.Graph.{Aig, IsWellFormed}
 use Rattle.graph_core.specs.Graph.Extended.{Extended}
-use Rattle.graph_core.specs.declared.order.Order.{Order}
+use Rattle.graph_core.specs.Graph.Operands.{AreInRange, AreOperandsOf, Sides, c_literals, sides_for}
+use Rattle.graph_core.specs.declared.claim.Claim.{Claim}
+use Rattle.graph_core.specs.declared.numbers.Numbers.{Numbers}
 use Rattle.mv_fact.specs.Always.{Always}
+use Rattle.ripple_graft.specs.Blocks.{with_cut}
 use Rattle.ripple_graft.specs.declared.cut.Cut.{Cut}
 use Rattle.slice_finder.proofs.FitCuts.{fit_is_cut}
-use Rattle.stage_rewriter.specs.Rewriting.{Agrees, IsRewriting, IsShown, IsUsed}
+use Rattle.stage_rewriter.specs.Rewriting.{Agrees, IsDifference, IsRewriting, IsShown, IsUsed}
 use Rattle.stage_rewriter.specs.declared.rewriting.Rewritten.{Rewritten}
 use Rattle.stage_rewriter.specs.declared.rewriting.Rewritten.TheVariants as kind
-use Rattle.joint_prover.specs.Notes.{IsFoundCut, IsNote, cut_of, note_of}
+use Rattle.joint_prover.specs.Notes.{DiffersAtStage, IsFoundCut, IsNote, cut_in, cut_of, differing, note_of}
 
-pub note_is : (g : Aig) (order : Order) (conflicts : ℕ) (r : Rewritten) → IsRewriting g order conflicts r → Agrees r → IsNote g order conflicts (note_of r)
-note_is g order conflicts (kind.Used cut extended log) used agrees = record {
+-- without an addend only 0 stands for one
+no_addend : (g : Aig) (claim : Claim) (x : Numbers) → claim.add ≡ false → AreInRange (sides_for claim g) x → x.c ≡ 0
+no_addend g claim x alone range = let low : x.c < 2 ^ 0 = subst (λ add. x.c < 2 ^ length (c_literals add g)) alone range.c in omega arith
+
+differing_is : (g : Aig) (claim : Claim) (conflicts : ℕ) (add : Bool) (x : Numbers) → claim.add ≡ add → DiffersAtStage g claim x → IsNote g claim conflicts (differing add x)
+differing_is g claim conflicts false x alone h =
+    (alone, subst (λ c. DiffersAtStage g claim (record { a = x.a; b = x.b; c = c })) (no_addend g claim x alone h.2.range) h)
+differing_is g claim conflicts true x added h = (added, h)
+
+pub note_is : (g : Aig) (s : Sides) (conflicts : ℕ) (r : Rewritten) → AreOperandsOf g s → IsRewriting g s conflicts r → Agrees r → IsNote g s.claim conflicts (note_of s.claim.add r)
+note_is g s conflicts (kind.Used cut extended log) of used agrees = record {
   stage = used.stage;
   agree = subst (λ (x : Extended). Always x.gates (AgreeOnColumns x)) used.extended_is agrees;
 }
-note_is g order conflicts kind.None none agrees = none
-note_is g order conflicts (kind.Differs a b) differs agrees = differs
-note_is g order conflicts (kind.Spent lemmas goal log) spent agrees = spent
+note_is g s conflicts kind.None of none agrees = none
+note_is g s conflicts (kind.Differs x) of h agrees =
+    differing_is g s.claim conflicts s.claim.add x refl (h.0, h.1, subst (λ (t : Sides). IsDifference (with_cut g h.0) t x) of h.2)
+note_is g s conflicts (kind.Spent lemmas goal log) of spent agrees = spent
 
--- Where no adder is used, the note has no cut.
-pub without_adder : (r : Rewritten) → ((cut : Cut) (e : Extended) (log : LogView) → r ≡ kind.Used cut e log → ⊥) → cut_of (note_of r) ≡ None
+-- The note has the cut whose adder is used.
+cut_of_differing : (add : Bool) (x : Numbers) → cut_of (differing add x) ≡ None
+cut_of_differing false x = refl
+cut_of_differing true x = refl
+
+pub cut_of_note : (add : Bool) (r : Rewritten) → cut_of (note_of add r) ≡ cut_in r
+cut_of_note add (kind.Used cut extended log) = refl
+cut_of_note add kind.None = refl
+cut_of_note add (kind.Differs x) = cut_of_differing add x
+cut_of_note add (kind.Spent lemmas goal log) = refl
+
+-- There is none where no adder is used.
+pub without_adder : (r : Rewritten) → ((cut : Cut) (e : Extended) (log : LogView) → r ≡ kind.Used cut e log → ⊥) → cut_in r ≡ None
 without_adder (kind.Used cut e log) unused = absurd (unused cut e log refl)
 without_adder kind.None unused = refl
-without_adder (kind.Differs a b) unused = refl
+without_adder (kind.Differs x) unused = refl
 without_adder (kind.Spent lemmas goal log) unused = refl
 
 -- The final stage in use is a cut that is shown.

@@ -1,5 +1,5 @@
 -- What the remainder of a plan says of the graph.
-use Rattle.std.proofs.Common.{◌≡◌, ◌≢◌, ℕ, ◌+◌, ◌%◌, ◌^◌, ◌<◌, ◌≤◌, Bool, cond, List, [], ◌∷◌, ◌++◌, length, map, take, refl, sym, ap, ap₂, subst, ◌∙◌, arith, ⊎_elim, ne_eqb, length-append}
+use Rattle.std.proofs.Common.{◌≡◌, ◌≢◌, ℕ, ◌+◌, ◌%◌, ◌<◌, ◌≤◌, Bool, cond, List, [], ◌∷◌, ◌++◌, length, map, take, refl, sym, ap, ap₂, subst, ◌∙◌, arith, ⊎_elim, ne_eqb, length-append}
 use Rattle.std.specs.Prelude.{None, Some, IsSome}
 use Rattle.std.specs.List.{AllByRecursion}
 use Rattle.std.proofs.Math.Seq.{take-append-add, take-length}
@@ -14,20 +14,22 @@ use Rattle.frontier_core.specs.declared.step.Step.TheVariants.{Add, Eliminate}
 use Rattle.frontier_core.specs.Columns.{all_columns}
 use Rattle.frontier_core.specs.Frontier.{IsFrontier, frontier_value}
 use Rattle.frontier_core.specs.LastFrontier.{IsEnd, IsOverInputs}
-use Rattle.frontier_core.specs.LeastDifference.{AreInputs, IsLeastDifference, IsLeastDifferenceAt, IsLeastNonzero}
+use Rattle.frontier_core.specs.LeastDifference.{AreInputs, IsLeastDifferenceAt, IsLeastNonzero}
 use Rattle.frontier_core.specs.Plan.{IsPlan, Taken, nothing, plain_steps, taken, value_of_taken}
 use Rattle.frontier_core.specs.PlainOrder.{HasPlainSize, IsPlainOrder}
 use Rattle.frontier_core.proofs.Plans.{plan_leaves_frontiers}
-use Rattle.frontier_core.proofs.CallerLemmas.{graph_inputs, last_frontier_decides, last_frontier_gives_least, difference_is_of_operands, last_frontier_is_over_inputs, lowest_bits, operands_in_order, plain_order_is_one, plain_plan_is_plan, specification_is_not_zero, difference_small}
+use Rattle.frontier_core.proofs.CallerLemmas.{graph_inputs, last_frontier_decides, last_frontier_gives_least, last_frontier_is_over_inputs, lowest_bits, operands_in_order, plain_order_is_one, plain_plan_is_plan, specification_is_not_zero, difference_small}
 use Rattle.graph_core.specs.Algebra.NormalForm.{HasSize, IsNormalForm}
 use Rattle.graph_core.specs.Graph.{Aig, IsDefinedOnce, of_inputs}
 use Rattle.graph_core.specs.declared.literal.Lit.{Lit}
 use Rattle.graph_core.specs.Graph.Assignments.{Assignment, word}
 use Rattle.graph_core.specs.Graph.Extended.{Extended, without_cut}
-use Rattle.graph_core.specs.Graph.Operands.{AreOperandsOf, MeetsClaim, Multiplies, ReadInputs, Sides, claimed, inputs_in, inputs_of, width}
+use Rattle.graph_core.specs.Graph.Operands.{AreInRange, Does, HasShapeFor, MeetsClaim, ReadInputs, Sides, claimed, inputs_at, inputs_in, sides_for}
+use Rattle.graph_core.specs.declared.numbers.Numbers.{Numbers}
 use Rattle.graph_core.specs.Algebra.{Closes, LiveLine, line_of, modulus, specification, value_of, value_or_zero}
 use Rattle.graph_core.specs.Algebra.Polynomials.{difference, value}
-use Rattle.graph_core.proofs.OfGraphs.CallerLemmas.{a_bits_are, claim_is_product, difference_is, length-a_part, sides_read_inputs}
+use Rattle.graph_core.proofs.OfGraphs.CallerLemmas.{claim_is_done, difference_is, sides_read_inputs}
+use Rattle.graph_core.proofs.OfAiger.CallerLemmas.{shape_for}
 use Rattle.graph_core.proofs.OfAlgebra.CallerLemmas.{modulus_pos}
 use Rattle.pac_writer.specs.Writing.{AreLawfulSoFar, Made, ledger_of}
 use Rattle.poly_terms.specs.Laws.{modulus_stays}
@@ -37,10 +39,11 @@ use Rattle.poly_terms.proofs.Values.{normal}
 use Rattle.ripple_graft.specs.Extension.{IsExtension}
 use Rattle.slice_planner.specs.Slices.{IsSlicePlan}
 use Rattle.joint_prover.proofs.PlanLists.{length-count_from, take-map}
+use Rattle.joint_prover.proofs.Sizes.{some_bits, some_outputs}
 use Rattle.joint_prover.specs.declared.ending.Ending.{Ending}
 use Rattle.joint_prover.specs.declared.ending.Ending.TheVariants.{Closed, Differs}
 use Rattle.joint_prover.specs.declared.verdict.Tried.{Tried}
-use Rattle.joint_prover.specs.Endings.{IsEnded, IsPlainlyReduced, IsRemainder, IsStart, IsTriedAt, IsWitness, IsWitnessOf, plain_of}
+use Rattle.joint_prover.specs.Endings.{AreLeast, IsEnded, IsPlainlyReduced, IsRemainder, IsStart, IsTriedAt, IsWitness, IsWitnessOf, plain_of}
 use Rattle.joint_prover.specs.Tries.{IsAbove}
 use Rattle.joint_prover.specs.Verdicts.{IsFirstAbove}
 
@@ -88,7 +91,7 @@ module _ (e : Extended) (s : Sides) (vs : List ℕ) (extension : IsExtension e) 
 
 -- what a reduction asks for
 pub reads_inputs : (l : Made) → IsStart l → ReadInputs l.extended.graph l.sides
-reads_inputs l start = subst (ReadInputs l.extended.graph) (sym start.sides) (sides_read_inputs l.extended.graph l.sides.order)
+reads_inputs l start = subst (ReadInputs l.extended.graph) (sym start.sides) (sides_read_inputs l.extended.graph l.sides.claim)
 
 -- ---- a frontier above the budget
 
@@ -151,8 +154,8 @@ module _ (l : Made) (start : IsStart l) (after : Made) (poly : Sum) (id : ℕ) (
   once : IsDefinedOnce g
   once = start.extension.graph.defined_once
 
-  are_operands : AreOperandsOf g s
-  are_operands = (ap (λ (x : Sides). x.a) start.sides, ap (λ (x : Sides). x.b) start.sides)
+  shape : HasShapeFor s.claim.add g
+  shape = shape_for s.claim.add g start.sized
 
   is_end : IsEnd e s f.added f.eliminated
   is_end = record {
@@ -169,7 +172,7 @@ module _ (l : Made) (start : IsStart l) (after : Made) (poly : Sum) (id : ℕ) (
   same_modulus = modulus_stays l.table after.table goes.table ∙ start.same_modulus
 
   inputs_are : inputs_in after.sides ≡ g.inputs
-  inputs_are = ap inputs_in goes.sides ∙ operands_in_order g s are_operands start.sized.shape
+  inputs_are = ap inputs_in goes.sides ∙ operands_in_order g s start.sides shape
 
   pub rest_inputs : AreInputs (inputs_in after.sides)
   rest_inputs = subst AreInputs (sym inputs_are) (graph_inputs g once)
@@ -182,10 +185,10 @@ module _ (l : Made) (start : IsStart l) (after : Made) (poly : Sum) (id : ℕ) (
 
   -- ---- where it is 0
 
-  pub zero_multiplies : ((σ : Assignment) → value_in after.table poly σ ≡ 0) → Multiplies g s.order
-  zero_multiplies zero =
+  pub zero_does : ((σ : Assignment) → value_in after.table poly σ ≡ 0) → Does s.claim g
+  zero_does zero =
       let meets = (last_frontier_decides e s f.added f.eliminated is_end).0 (λ σ. sym (poly_value σ) ∙ zero σ) in
-      (claim_is_product g s.order start.sized.shape once).0 (subst (MeetsClaim g) start.sides meets)
+      (claim_is_done g s.claim shape once).0 (subst (MeetsClaim g) start.sides meets)
 
   module _ (lawful : AreLawfulSoFar after) (zero : (σ : Assignment) → value_in after.table poly σ ≡ 0) where
     closes_value : (σ : Assignment) → value_of (ledger_of after).live id σ ≡ specification e s σ
@@ -203,9 +206,9 @@ module _ (l : Made) (start : IsStart l) (after : Made) (poly : Sum) (id : ℕ) (
 
     no_line : id ≡ 0 → ⊥
     no_line none =
-        let bits = lowest_bits g s are_operands start.sized.shape once start.sized.some in
+        let bits = lowest_bits g s start.sides shape once (some_bits s.claim.add g start.sized) in
         let missing = none_there (ledger_of after).live (recursion_from_All (λ line. (0 < line.id) × (line.id ≤ after.last)) (ledger_of after).live lawful.ids) in
-        specification_is_not_zero e s bits.0 bits.1 bits.2 start.sized.shape.some_outputs
+        specification_is_not_zero e s bits.0 bits.1 bits.2 (some_outputs s.claim.add g start.sized)
         (λ σ. sym (closes_value σ) ∙ ap (λ i. value_of (ledger_of after).live i σ) none ∙ ap (λ line. value_or_zero line σ) missing)
 
     pub rest_closes : Closes after.extended after.sides (ledger_of after).live id
@@ -222,34 +225,33 @@ module _ (l : Made) (start : IsStart l) (after : Made) (poly : Sum) (id : ℕ) (
     least = λ other size nonzero. least.least other size (λ zero. nonzero (sym (same (of_inputs ls other)) ∙ zero));
   }
 
-  wide : length after.sides.a ≡ width g
-  wide = ap (λ (x : Sides). length x.a) goes.sides ∙ ap length are_operands.0 ∙ ap length (a_bits_are s.order g) ∙ length-a_part s.order (width g) g.inputs start.sized.shape.inputs
-
-  pub witness_is_least : (a b : ℕ) → IsWitnessOf after poly a b → IsLeastDifference g s.order a b
-  witness_is_least a b w =
-      let bits = inputs_of s.order (width g) a b in
-      let P : List Lit → Sides → ℕ → Type 0 = λ ls x n. IsLeastNonzero (value_in after.table poly) ls (inputs_of x.order n a b) in
-      let at_inputs = subst (λ n. P g.inputs s n) wide (subst (λ x. P g.inputs x (length after.sides.a)) goes.sides (subst (λ ls. P ls after.sides (length after.sides.a)) inputs_are w.least)) in
-      let least = last_frontier_gives_least e s f.added f.eliminated bits is_end (change (value_in after.table poly) (frontier_value e s f.added f.eliminated) g.inputs bits poly_value at_inputs) in
-      (difference_is_of_operands g s.order a b start.sized.shape once (subst (λ n. a < 2 ^ n) wide w.a_below) (subst (λ n. b < 2 ^ n) wide w.b_below)).0
-      (subst (λ x. IsLeastDifferenceAt g x bits) start.sides least)
+  pub witness_is_least : (x : Numbers) → IsWitnessOf after poly x → AreLeast g (sides_for s.claim g) x
+  witness_is_least x w =
+      let bits = inputs_at s x in
+      let P : List Lit → Sides → Type 0 = λ ls t. IsLeastNonzero (value_in after.table poly) ls (inputs_at t x) in
+      let at_inputs : P g.inputs s = subst (P g.inputs) goes.sides (subst (λ ls. P ls after.sides) inputs_are w.least) in
+      let least : IsLeastDifferenceAt g s bits =
+      last_frontier_gives_least e s f.added f.eliminated bits is_end (change (value_in after.table poly) (frontier_value e s f.added f.eliminated) g.inputs bits poly_value at_inputs) in
+      let range : AreInRange s x = subst (λ (t : Sides). AreInRange t x) goes.sides w.range in
+      let are : AreLeast g s x = record { least = least; range = range } in
+      subst (λ (t : Sides). AreLeast g t x) start.sides are
 
   -- ---- what a reduction comes to
 
-  pub ended_of : (new : Made) (v : Ending) → IsWitness after new poly id v → IsEnded l.extended l.sides.order new v
+  pub ended_of : (new : Made) (v : Ending) → IsWitness after new poly id v → IsEnded l.extended l.sides.claim new v
   ended_of new Closed h = record {
     extended = ap (λ (x : Made). x.extended) h.1 ∙ goes.extended;
     sides = ap (λ (x : Made). x.sides) h.1 ∙ goes.sides ∙ start.sides;
-    decides = (subst (λ (x : Made). IsSome x.closing) (sym h.1) refl, zero_multiplies h.0);
+    decides = (subst (λ (x : Made). IsSome x.closing) (sym h.1) refl, zero_does h.0);
   }
-  ended_of new (Differs a b) h = record {
+  ended_of new (Differs x) h = record {
     extended = ap (λ (x : Made). x.extended) h.1 ∙ goes.extended;
     sides = ap (λ (x : Made). x.sides) h.1 ∙ goes.sides ∙ start.sides;
-    decides = witness_is_least a b h.0;
+    decides = witness_is_least x h.0;
   }
 
 module _ (l : Made) (start : IsStart l) (alone : l.extended ≡ without_cut l.extended.graph) where
-  pub first_above : (budget step size : ℕ) (after : Made) → IsPlainlyReduced budget l after (answer.Passed step size) → IsFirstAbove l.extended.graph l.sides.order budget step size
+  pub first_above : (budget step size : ℕ) (after : Made) → IsPlainlyReduced budget l after (answer.Passed step size) → IsFirstAbove l.extended.graph l.sides.claim budget step size
   first_above budget step size after h =
       let r = passed_is_first l.extended l.sides h.order start.extension h.plain budget step size h.reduced in
       let g = l.extended.graph in

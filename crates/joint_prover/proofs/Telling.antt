@@ -1,5 +1,5 @@
 -- What is told of a graph, from what was written and tried.
-use Rattle.std.proofs.Common.{◌≡◌, true, List, [], ◌∷◌, ◌++◌, ℕ, refl, sym, subst, inl, inr}
+use Rattle.std.proofs.Common.{◌≡◌, List, [], ◌∷◌, ◌++◌, ℕ, refl, sym, ap, subst, ◌∙◌, inl, inr}
 use Rattle.std.specs.Prelude.{IfOk, IfSome, OnErr, Result}
 use Rattle.std.specs.declared.result.Result.TheVariants.{Err, Ok}
 use Rattle.std.proofs.lemmas.Result.{IfOk-weaker}
@@ -9,12 +9,13 @@ use Rattle.std.proofs.lemmas.Option.{none-some}
 use Rattle.clause_core.specs.ClauseLines.{ClauseLine}
 use Rattle.drup_text.specs.Headers.{extended_by}
 use Rattle.drup_text.specs.WrittenTexts.{file_text}
-use Rattle.graph_core.specs.Aiger.Soundness.{IsMultiplierSized}
+use Rattle.graph_core.specs.Aiger.Soundness.{IsSizedAs}
 use Rattle.graph_core.specs.Algebra.Text.{IsLawfulAlgebraFile}
 use Rattle.graph_core.specs.Graph.{Aig, IsWellFormed}
 use Rattle.graph_core.specs.Graph.Extended.{Extended, without_cut}
-use Rattle.graph_core.specs.Graph.Operands.{Multiplies, sides_of}
-use Rattle.graph_core.specs.declared.order.Order.{Order}
+use Rattle.graph_core.specs.Graph.Operands.{AreOperandsOf, Does, Sides, profile_of, sides_for}
+use Rattle.graph_core.specs.declared.claim.Claim.{Claim}
+use Rattle.graph_core.specs.declared.numbers.Numbers.{Numbers}
 use Rattle.mv_desk.specs.View.{View}
 use Rattle.mv_desk.specs.declared.slot.Slot.{Slot}
 use Rattle.mv_desk.specs.declared.slot.Slot.TheVariants.{Algebra, Clauses}
@@ -26,20 +27,22 @@ use Rattle.joint_checker.specs.Files.{Files}
 use Rattle.joint_prover.specs.declared.attempts.Attempt.{Attempt}
 use Rattle.joint_prover.specs.declared.attempts.Attempt.TheVariants as attempt
 use Rattle.joint_prover.specs.declared.ending.Ending.{Ending}
+use Rattle.joint_prover.specs.declared.ending.Ending.TheVariants.{Differs}
+use Rattle.joint_prover.specs.declared.task.Task.{Task}
 use Rattle.joint_prover.specs.declared.verdict.Tried.{Tried}
 use Rattle.joint_prover.specs.declared.verdict.Verdict.{Verdict}
-use Rattle.joint_prover.specs.declared.verdict.Verdict.TheVariants.{Proved, Wrong, Undecided, Graph, ReadFault, WriteFault, TooLong, Memory}
-use Rattle.joint_prover.specs.Endings.{IsEnded}
+use Rattle.joint_prover.specs.declared.verdict.Verdict.TheVariants.{Proved, Wrong, WrongSum, Undecided, Graph, ReadFault, WriteFault, TooLong, Memory}
+use Rattle.joint_prover.specs.Endings.{AreLeast, IsEnded}
 use Rattle.joint_prover.specs.Pairs.{AreClausesFor, AreClausesOver, IsPairFor, IsPairOver}
 use Rattle.joint_prover.specs.Parts.{AreTriedBefore, IsAttempt, IsOfGraph, IsToldOver, IsToldWrong, IsWritten, MayTell, MayTellOver, verdict_in}
-use Rattle.joint_prover.specs.Tries.{AreTried, EndsOver, IsAbove, IsTried}
+use Rattle.joint_prover.specs.Tries.{AreTried, EndsOver, IsTried}
 use Rattle.joint_prover.specs.Verdicts.{IsPair}
 use Rattle.joint_prover.specs.Written.{StopsAt, StopsWriting}
 use Rattle.joint_prover.proofs.Clauses.{no_clauses, used_clauses}
 
 -- a pair over a graph is lawful
-pub pair_is_lawful : (g : Aig) (order : Order) (conflicts : ℕ) (cut : Option Cut) (clauses algebra : List ℕ) → IsPairOver g order conflicts cut clauses algebra → IsPair g order clauses algebra
-pair_is_lawful g order conflicts cut clauses algebra h lengths clauses_within algebra_within = record {
+pub pair_is_lawful : (g : Aig) (claim : Claim) (conflicts : ℕ) (cut : Option Cut) (clauses algebra : List ℕ) → IsPairOver g claim conflicts cut clauses algebra → IsPair g claim clauses algebra
+pair_is_lawful g claim conflicts cut clauses algebra h lengths clauses_within algebra_within = record {
   extended = extended_by g cut;
   gives = h.clause_file.gives lengths clauses_within;
   lawful = (h.algebra_file, algebra_within);
@@ -60,90 +63,113 @@ module _ (files : Files) (a b : View) where
 
   -- ---- the end of a plan
 
-  module _ (e : Extended) (order : Order) (conflicts : ℕ) (cut : Option Cut) (clauses : List ℕ) (itself : e ≡ extended_by e.graph cut) (given : AreClausesOver e.graph conflicts cut clauses) where
-    lawful_over : (l : Made) → l.extended ≡ e → l.sides ≡ sides_of order e.graph → (text : List ℕ) → IsLawfulAlgebraFile l.extended l.sides text →
-        IsLawfulAlgebraFile (extended_by e.graph cut) (sides_of order e.graph) text
+  module _ (e : Extended) (claim : Claim) (conflicts : ℕ) (cut : Option Cut) (clauses : List ℕ) (itself : e ≡ extended_by e.graph cut) (given : AreClausesOver e.graph conflicts cut clauses) where
+    lawful_over : (l : Made) → l.extended ≡ e → l.sides ≡ sides_for claim e.graph → (text : List ℕ) → IsLawfulAlgebraFile l.extended l.sides text →
+        IsLawfulAlgebraFile (extended_by e.graph cut) (sides_for claim e.graph) text
     lawful_over l extended sides text h =
-        subst (λ x. IsLawfulAlgebraFile x (sides_of order e.graph) text) itself (subst (λ x. IsLawfulAlgebraFile e x text) sides (subst (λ x. IsLawfulAlgebraFile x l.sides text) extended h))
+        subst (λ x. IsLawfulAlgebraFile x (sides_for claim e.graph) text) itself (subst (λ x. IsLawfulAlgebraFile e x text) sides (subst (λ x. IsLawfulAlgebraFile x l.sides text) extended h))
 
-    pair_of : (l : Made) → l.extended ≡ e → l.sides ≡ sides_of order e.graph → (text : List ℕ) → IsLawfulAlgebraFile l.extended l.sides text → IsPairOver e.graph order conflicts cut clauses text
+    pair_of : (l : Made) → l.extended ≡ e → l.sides ≡ sides_for claim e.graph → (text : List ℕ) → IsLawfulAlgebraFile l.extended l.sides text → IsPairOver e.graph claim conflicts cut clauses text
     pair_of l extended sides text h = record { clause_file = given; algebra_file = lawful_over l extended sides text h }
 
-    pub written_told : (l : Made) (v : Verdict) → l.extended ≡ e → l.sides ≡ sides_of order e.graph → Multiplies e.graph order → IsWritten l clauses files a b v →
-        IsToldOver e.graph order conflicts cut files a b v
-    written_told l Proved extended sides multiplies h = (multiplies, (clauses, certificate_text l, pair_of l extended sides (certificate_text l) h.0, h.1))
-    written_told l WriteFault extended sides multiplies h = (
+    pub written_told : (l : Made) (v : Verdict) → l.extended ≡ e → l.sides ≡ sides_for claim e.graph → Does claim e.graph → IsWritten l clauses files a b v →
+        IsToldOver e.graph claim conflicts cut files a b v
+    written_told l Proved extended sides does h = (does, (clauses, certificate_text l, pair_of l extended sides (certificate_text l) h.0, h.1))
+    written_told l WriteFault extended sides does h = (
       h.0,
-      multiplies,
-      stops (λ text. text ≡ clauses) (AreClausesOver e.graph conflicts cut) (λ beside. IsLawfulAlgebraFile l.extended l.sides) (IsPairOver e.graph order conflicts cut)
+      does,
+      stops (λ text. text ≡ clauses) (AreClausesOver e.graph conflicts cut) (λ beside. IsLawfulAlgebraFile l.extended l.sides) (IsPairOver e.graph claim conflicts cut)
           (λ text same. subst (AreClausesOver e.graph conflicts cut) (sym same) given)
-          (λ beside text same k. subst (λ c. IsPairOver e.graph order conflicts cut c text) (sym same) (pair_of l extended sides text k)) h.1,
+          (λ beside text same k. subst (λ c. IsPairOver e.graph claim conflicts cut c text) (sym same) (pair_of l extended sides text k)) h.1,
     )
-    written_told l (Wrong x y value product) extended sides multiplies h = absurd h
-    written_told l (Undecided tried t n) extended sides multiplies h = absurd h
-    written_told l (Graph why) extended sides multiplies h = absurd h
-    written_told l ReadFault extended sides multiplies h = absurd h
-    written_told l TooLong extended sides multiplies h = absurd h
-    written_told l Memory extended sides multiplies h = absurd h
+    written_told l (Wrong x y value product) extended sides does h = absurd h
+    written_told l (WrongSum p q c value sum) extended sides does h = absurd h
+    written_told l (Undecided tried t n) extended sides does h = absurd h
+    written_told l (Graph why) extended sides does h = absurd h
+    written_told l ReadFault extended sides does h = absurd h
+    written_told l TooLong extended sides does h = absurd h
+    written_told l Memory extended sides does h = absurd h
 
   -- ---- and so of a graph
 
-  pub told_of : (g : Aig) (order : Order) (budget conflicts : ℕ) (used cut : Option Cut) (v : Verdict) → EndsOver g order budget used cut → IsToldOver g order conflicts cut files a b v →
-      IsOfGraph g order budget conflicts used files a b v
-  told_of g order budget conflicts used cut Proved over h = let w = h.1 in (h.0, (w.0, w.1, (cut, over, w.2), w.3))
-  told_of g order budget conflicts used cut (Wrong x y value product) over h = h
-  told_of g order budget conflicts used cut WriteFault over h = (
+  pub told_of : (g : Aig) (task : Task) (used cut : Option Cut) (v : Verdict) → EndsOver g task.claim task.budget used cut → IsToldOver g task.claim task.conflicts cut files a b v →
+      IsOfGraph g task used files a b v
+  told_of g task used cut Proved over h = let w = h.1 in (h.0, (w.0, w.1, (cut, over, w.2), w.3))
+  told_of g task used cut (Wrong x y value product) over h = h
+  told_of g task used cut (WrongSum p q c value sum) over h = h
+  told_of g task used cut WriteFault over h = (
     h.0,
     h.1,
-    stops (AreClausesOver g conflicts cut) (AreClausesFor g order budget conflicts used) (IsPairOver g order conflicts cut) (IsPairFor g order budget conflicts used)
+    stops (AreClausesOver g task.conflicts cut) (AreClausesFor g task used) (IsPairOver g task.claim task.conflicts cut) (IsPairFor g task used)
         (λ text k. (cut, over, k)) (λ clauses text c k. (cut, over, k)) h.2,
   )
-  told_of g order budget conflicts used cut (Undecided tried t n) over h = absurd h
-  told_of g order budget conflicts used cut (Graph why) over h = absurd h
-  told_of g order budget conflicts used cut ReadFault over h = absurd h
-  told_of g order budget conflicts used cut TooLong over h = absurd h
-  told_of g order budget conflicts used cut Memory over h = absurd h
+  told_of g task used cut (Undecided tried t n) over h = absurd h
+  told_of g task used cut (Graph why) over h = absurd h
+  told_of g task used cut ReadFault over h = absurd h
+  told_of g task used cut TooLong over h = absurd h
+  told_of g task used cut Memory over h = absurd h
 
 -- what is told of a graph that is wrong, whatever cut is in use
-pub wrong_told : (g : Aig) (order : Order) (conflicts : ℕ) (cut : Option Cut) (files : Files) (a : View) (v : Verdict) → IsToldWrong g order v → IsToldOver g order conflicts cut files a a v
-wrong_told g order conflicts cut files a (Wrong p q value product) h = (h, refl)
-wrong_told g order conflicts cut files a Memory h = absurd h
-wrong_told g order conflicts cut files a Proved h = absurd h
-wrong_told g order conflicts cut files a (Undecided tried t n) h = absurd h
-wrong_told g order conflicts cut files a (Graph why) h = absurd h
-wrong_told g order conflicts cut files a ReadFault h = absurd h
-wrong_told g order conflicts cut files a WriteFault h = absurd h
-wrong_told g order conflicts cut files a TooLong h = absurd h
+pub wrong_told : (g : Aig) (claim : Claim) (conflicts : ℕ) (cut : Option Cut) (files : Files) (a : View) (v : Verdict) → IsToldWrong g claim v → IsToldOver g claim conflicts cut files a a v
+wrong_told g claim conflicts cut files a (Wrong p q value product) h = (h, refl)
+wrong_told g claim conflicts cut files a (WrongSum p q c value sum) h = (h, refl)
+wrong_told g claim conflicts cut files a Memory h = absurd h
+wrong_told g claim conflicts cut files a Proved h = absurd h
+wrong_told g claim conflicts cut files a (Undecided tried t n) h = absurd h
+wrong_told g claim conflicts cut files a (Graph why) h = absurd h
+wrong_told g claim conflicts cut files a ReadFault h = absurd h
+wrong_told g claim conflicts cut files a WriteFault h = absurd h
+wrong_told g claim conflicts cut files a TooLong h = absurd h
 
-pub wrong_of : (g : Aig) (order : Order) (budget conflicts : ℕ) (used : Option Cut) (files : Files) (a : View) (v : Verdict) → IsToldWrong g order v →
-    IsOfGraph g order budget conflicts used files a a v
-wrong_of g order budget conflicts used files a (Wrong p q value product) h = (h, refl)
-wrong_of g order budget conflicts used files a Memory h = absurd h
-wrong_of g order budget conflicts used files a Proved h = absurd h
-wrong_of g order budget conflicts used files a (Undecided tried t n) h = absurd h
-wrong_of g order budget conflicts used files a (Graph why) h = absurd h
-wrong_of g order budget conflicts used files a ReadFault h = absurd h
-wrong_of g order budget conflicts used files a WriteFault h = absurd h
-wrong_of g order budget conflicts used files a TooLong h = absurd h
+pub wrong_of : (g : Aig) (task : Task) (used : Option Cut) (files : Files) (a : View) (v : Verdict) → IsToldWrong g task.claim v → IsOfGraph g task used files a a v
+wrong_of g task used files a (Wrong p q value product) h = (h, refl)
+wrong_of g task used files a (WrongSum p q c value sum) h = (h, refl)
+wrong_of g task used files a Memory h = absurd h
+wrong_of g task used files a Proved h = absurd h
+wrong_of g task used files a (Undecided tried t n) h = absurd h
+wrong_of g task used files a (Graph why) h = absurd h
+wrong_of g task used files a ReadFault h = absurd h
+wrong_of g task used files a WriteFault h = absurd h
+wrong_of g task used files a TooLong h = absurd h
 
-pub wrong_may_tell : (g : Aig) (order : Order) (budget conflicts : ℕ) (used : Option Cut) (files : Files) (a b : View) (v : Option Verdict) → b ≡ a → IfSome v (IsToldWrong g order) →
-    MayTell g order budget conflicts used files a b v
-wrong_may_tell g order budget conflicts used files a b (Some v) same h = subst (λ x. IsOfGraph g order budget conflicts used files a x v) (sym same) (wrong_of g order budget conflicts used files a v h)
-wrong_may_tell g order budget conflicts used files a b None same h = same
+pub wrong_may_tell : (g : Aig) (task : Task) (used : Option Cut) (files : Files) (a b : View) (v : Option Verdict) → b ≡ a → IfSome v (IsToldWrong g task.claim) →
+    MayTell g task used files a b v
+wrong_may_tell g task used files a b (Some v) same h = subst (λ x. IsOfGraph g task used files a x v) (sym same) (wrong_of g task used files a v h)
+wrong_may_tell g task used files a b None same h = same
+
+-- what lines that are no longer needed say of a graph and operands, where they ended at numbers
+module _ (l : Made) (graph : Aig) (s : Sides) (of_graph : graph ≡ l.extended.graph) (of_sides : s ≡ l.sides) (e : Extended) (claim : Claim) (x : Numbers) (ended : IsEnded e claim l (Differs x)) where
+  same_graph : graph ≡ e.graph
+  same_graph = of_graph ∙ ap (λ (z : Extended). z.graph) ended.extended
+
+  same_sides : s ≡ sides_for claim e.graph
+  same_sides = of_sides ∙ ended.sides
+
+  pub differs_sized : IsSizedAs (profile_of claim.add) e.graph → IsSizedAs (profile_of s.claim.add) graph
+  differs_sized sized = subst (IsSizedAs (profile_of s.claim.add)) (sym same_graph) (subst (λ (t : Sides). IsSizedAs (profile_of t.claim.add) e.graph) (sym same_sides) sized)
+
+  pub differs_operands : AreOperandsOf graph s
+  differs_operands = subst (λ h. AreOperandsOf h s) (sym same_graph) (subst (AreOperandsOf e.graph) (sym same_sides) refl)
+
+  pub differs_least : AreLeast graph s x
+  differs_least = subst (λ h. AreLeast h s x) (sym same_graph) (subst (λ t. AreLeast e.graph t x) (sym same_sides) ended.decides)
+
+  pub differs_told : (v : Verdict) → IsToldWrong graph s.claim v → IsToldWrong e.graph claim v
+  differs_told v told = subst (λ h. IsToldWrong h claim v) same_graph (subst (λ (t : Sides). IsToldWrong graph t.claim v) same_sides told)
 
 -- ---- what was tried before
 
-module _ (g : Aig) (order : Order) (budget : ℕ) where
+module _ (g : Aig) (claim : Claim) (budget : ℕ) where
   -- with a cut in use a plan over the graph alone comes second
-  pub ends_behind : (used : Option Cut) (tried : List Tried) → AreTriedBefore g order budget used tried → EndsOver g order budget used None
+  pub ends_behind : (used : Option Cut) (tried : List Tried) → AreTriedBefore g claim budget used tried → EndsOver g claim budget used None
   ends_behind None tried h = λ cut same. absurd (none-some cut same)
-  ends_behind (Some used) tried h = λ cut same. (h.0, subst (λ c. IsTried g order budget c h.0) same h.2)
+  ends_behind (Some used) tried h = λ cut same. (h.0, subst (λ c. IsTried g claim budget c h.0) same h.2)
 
-  pub ends_last : (used : Option Cut) (tried : List Tried) → AreTried g order budget used tried → EndsOver g order budget used None
+  pub ends_last : (used : Option Cut) (tried : List Tried) → AreTried g claim budget used tried → EndsOver g claim budget used None
   ends_last None tried h = λ cut same. absurd (none-some cut same)
-  ends_last (Some used) tried h = λ cut same. (h.0, subst (λ c. IsTried g order budget c h.0) same h.3)
+  ends_last (Some used) tried h = λ cut same. (h.0, subst (λ c. IsTried g claim budget c h.0) same h.3)
 
-  pub one_more : (used : Option Cut) (tried : List Tried) (last : Tried) → AreTriedBefore g order budget used tried → IsTried g order budget None last → AreTried g order budget used (tried ++ last ∷ [])
+  pub one_more : (used : Option Cut) (tried : List Tried) (last : Tried) → AreTriedBefore g claim budget used tried → IsTried g claim budget None last → AreTried g claim budget used (tried ++ last ∷ [])
   one_more None tried last h k = (last, subst (λ ts. ts ++ last ∷ [] ≡ last ∷ []) (sym h) refl, k)
   one_more (Some used) tried last h k = (h.0, last, subst (λ ts. ts ++ last ∷ [] ≡ h.0 ∷ last ∷ []) (sym h.1) refl, h.2, k)
 
@@ -151,51 +177,52 @@ module _ (g : Aig) (order : Order) (budget : ℕ) where
 
 -- what the verdict at the end of a plan tells
 abbrev pub Tells : Option Cut → List ClauseLine → Made → Ending → Files → View → View → Verdict → Type 0
-Tells cut log l ending files a b v = (e : Extended) (order : Order) (conflicts : ℕ) → IsEnded e order l ending → e ≡ extended_by e.graph cut →
-    AreClausesOver e.graph conflicts cut (file_text cut log) → IsToldOver e.graph order conflicts cut files a b v
+Tells cut log l ending files a b v = (e : Extended) (claim : Claim) (conflicts : ℕ) → IsEnded e claim l ending → e ≡ extended_by e.graph cut →
+    AreClausesOver e.graph conflicts cut (file_text cut log) → IsToldOver e.graph claim conflicts cut files a b v
 
-module _ {E : Type 0} (files : Files) (a b : View) (l : Made) (ending : Ending) (result : Result Verdict E) (e : Extended) (order : Order) (budget : ℕ) (ended : IsEnded e order l ending) where
+module _ {E : Type 0} (files : Files) (a b : View) (l : Made) (ending : Ending) (result : Result Verdict E) (e : Extended) (task : Task) (ended : IsEnded e task.claim l ending) where
   pub tells_last : (tried : List Tried) → e ≡ without_cut e.graph → IfOk result (Tells None [] l ending files a b) →
-      IfOk result (λ v. (conflicts : ℕ) (used : Option Cut) → AreTried e.graph order budget used tried → IsOfGraph e.graph order budget conflicts used files a b v)
+      IfOk result (λ v. (used : Option Cut) → AreTried e.graph task.claim task.budget used tried → IsOfGraph e.graph task used files a b v)
   tells_last tried alone h = IfOk-weaker result (Tells None [] l ending files a b)
-      (λ v. (conflicts : ℕ) (used : Option Cut) → AreTried e.graph order budget used tried → IsOfGraph e.graph order budget conflicts used files a b v)
-      (λ v told conflicts used are. told_of files a b e.graph order budget conflicts used None v (ends_last e.graph order budget used tried are)
-      (told e order conflicts ended alone (no_clauses e.graph conflicts))) h
+      (λ v. (used : Option Cut) → AreTried e.graph task.claim task.budget used tried → IsOfGraph e.graph task used files a b v)
+      (λ v told used are. told_of files a b e.graph task used None v (ends_last e.graph task.claim task.budget used tried are)
+      (told e task.claim task.conflicts ended alone (no_clauses e.graph task.conflicts))) h
 
 -- one plan more was tried
-pub tried_more : {E : Type 0} (files : Files) (a b : View) (result : Result Verdict E) (g : Aig) (order : Order) (budget : ℕ) (tried all : List Tried) (last : Tried) → all ≡ tried ++ last ∷ [] →
-    IsTried g order budget None last →
-    IfOk result (λ v. (conflicts : ℕ) (used : Option Cut) → AreTried g order budget used all → IsOfGraph g order budget conflicts used files a b v) →
-    IfOk result (λ v. (conflicts : ℕ) (used : Option Cut) → AreTriedBefore g order budget used tried → IsOfGraph g order budget conflicts used files a b v)
-tried_more files a b result g order budget tried all last is above h =
-    IfOk-weaker result (λ v. (conflicts : ℕ) (used : Option Cut) → AreTried g order budget used all → IsOfGraph g order budget conflicts used files a b v)
-    (λ v. (conflicts : ℕ) (used : Option Cut) → AreTriedBefore g order budget used tried → IsOfGraph g order budget conflicts used files a b v)
-    (λ v told conflicts used are. told conflicts used (subst (AreTried g order budget used) (sym is) (one_more g order budget used tried last are above))) h
+pub tried_more : {E : Type 0} (files : Files) (a b : View) (result : Result Verdict E) (g : Aig) (task : Task) (tried all : List Tried) (last : Tried) → all ≡ tried ++ last ∷ [] →
+    IsTried g task.claim task.budget None last →
+    IfOk result (λ v. (used : Option Cut) → AreTried g task.claim task.budget used all → IsOfGraph g task used files a b v) →
+    IfOk result (λ v. (used : Option Cut) → AreTriedBefore g task.claim task.budget used tried → IsOfGraph g task used files a b v)
+tried_more files a b result g task tried all last is above h =
+    IfOk-weaker result (λ v. (used : Option Cut) → AreTried g task.claim task.budget used all → IsOfGraph g task used files a b v)
+    (λ v. (used : Option Cut) → AreTriedBefore g task.claim task.budget used tried → IsOfGraph g task used files a b v)
+    (λ v told used are. told used (subst (AreTried g task.claim task.budget used) (sym is) (one_more g task.claim task.budget used tried last are above))) h
 
 -- over the graph with the adder of a cut
-pub told_over : (files : Files) (a b : View) (l : Made) (ending : Ending) (v : Verdict) (e : Extended) (order : Order) → IsEnded e order l ending → (cut : Cut) (lines : List ClauseLine) →
-    IsMultiplierSized e.graph → IsWellFormed e.graph → Tells (Some cut) lines l ending files a b v → (conflicts : ℕ) → IsShown e.graph conflicts cut e lines →
-    IsToldOver e.graph order conflicts (Some cut) files a b v
-told_over files a b l ending v e order ended cut lines sized well told conflicts shown = told e order conflicts ended shown.extended_is (used_clauses e.graph sized well conflicts cut e lines shown)
+pub told_over : (files : Files) (a b : View) (l : Made) (ending : Ending) (v : Verdict) (e : Extended) (claim : Claim) → IsEnded e claim l ending → (cut : Cut) (lines : List ClauseLine) →
+    IsSizedAs (profile_of claim.add) e.graph → IsWellFormed e.graph → Tells (Some cut) lines l ending files a b v → (conflicts : ℕ) → IsShown e.graph conflicts cut e lines →
+    IsToldOver e.graph claim conflicts (Some cut) files a b v
+told_over files a b l ending v e claim ended cut lines sized well told conflicts shown =
+    told e claim conflicts ended shown.extended_is (used_clauses e.graph claim.add sized well conflicts cut e lines shown)
 
 -- over the graph alone
-pub told_alone : (files : Files) (a b : View) (l : Made) (ending : Ending) (v : Verdict) (e : Extended) (order : Order) → IsEnded e order l ending → e ≡ without_cut e.graph →
-    Tells None [] l ending files a b v → (conflicts : ℕ) → IsToldOver e.graph order conflicts None files a b v
-told_alone files a b l ending v e order ended alone told conflicts = told e order conflicts ended alone (no_clauses e.graph conflicts)
+pub told_alone : (files : Files) (a b : View) (l : Made) (ending : Ending) (v : Verdict) (e : Extended) (claim : Claim) → IsEnded e claim l ending → e ≡ without_cut e.graph →
+    Tells None [] l ending files a b v → (conflicts : ℕ) → IsToldOver e.graph claim conflicts None files a b v
+told_alone files a b l ending v e claim ended alone told conflicts = told e claim conflicts ended alone (no_clauses e.graph conflicts)
 
 -- ---- what may be told
 
-pub attempt_tells : (g : Aig) (order : Order) (budget conflicts : ℕ) (cut : Option Cut) (files : Files) (a b : View) (x : Attempt) → IsAttempt g order budget conflicts cut files a b x →
-    MayTellOver g order conflicts cut files a b (verdict_in x)
-attempt_tells g order budget conflicts cut files a b (attempt.Told v) h = h
-attempt_tells g order budget conflicts cut files a b (attempt.Passed tried) h = h.1
+pub attempt_tells : (g : Aig) (claim : Claim) (budget conflicts : ℕ) (cut : Option Cut) (files : Files) (a b : View) (x : Attempt) → IsAttempt g claim budget conflicts cut files a b x →
+    MayTellOver g claim conflicts cut files a b (verdict_in x)
+attempt_tells g claim budget conflicts cut files a b (attempt.Told v) h = h
+attempt_tells g claim budget conflicts cut files a b (attempt.Passed tried) h = h.1
 
 -- over the cut in use, or over the graph alone where none is
-pub may_tell : (g : Aig) (order : Order) (budget conflicts : ℕ) (used : Option Cut) (files : Files) (a b : View) (v : Option Verdict) → MayTellOver g order conflicts used files a b v →
-    MayTell g order budget conflicts used files a b v
-may_tell g order budget conflicts (Some cut) files a b (Some v) h = told_of files a b g order budget conflicts (Some cut) (Some cut) v refl h
-may_tell g order budget conflicts None files a b (Some v) h = told_of files a b g order budget conflicts None None v (λ cut same. absurd (none-some cut same)) h
-may_tell g order budget conflicts used files a b None h = h
+pub may_tell : (g : Aig) (task : Task) (used : Option Cut) (files : Files) (a b : View) (v : Option Verdict) → MayTellOver g task.claim task.conflicts used files a b v →
+    MayTell g task used files a b v
+may_tell g task (Some cut) files a b (Some v) h = told_of files a b g task (Some cut) (Some cut) v refl h
+may_tell g task None files a b (Some v) h = told_of files a b g task None None v (λ cut same. absurd (none-some cut same)) h
+may_tell g task used files a b None h = h
 
 -- whatever the error
 pub on_err : {A E : Type 0} (result : Result A E) (P : Type 0) → P → OnErr result P

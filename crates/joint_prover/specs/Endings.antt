@@ -1,20 +1,21 @@
 -- What plans come to. Private clauses alone cite this file.
-use Rattle.std.specs.Prelude.{◌≡◌, ℕ, ◌<◌, ◌^◌, Bool, List, [], ◌∷◌, length, take, None, IsSome}
+use Rattle.std.specs.Prelude.{◌≡◌, ℕ, Bool, List, [], ◌∷◌, length, take, None, IsSome}
 use Rattle.column_reducer.specs.Reducing.{GoesOn, IsReduced, IsRest, Planned, planned}
 use Rattle.column_reducer.specs.declared.reduced.Reduced.{Reduced}
 use Rattle.frontier_core.specs.LastFrontier.{AgreeEverywhere}
-use Rattle.frontier_core.specs.LeastDifference.{IsLeastDifference, IsLeastNonzero}
+use Rattle.frontier_core.specs.LeastDifference.{IsLeastDifferenceAt, IsLeastNonzero}
 use Rattle.frontier_core.specs.declared.step.Step.{Step}
 use Rattle.frontier_core.specs.declared.step.Step.TheVariants.{Add, Eliminate}
 use Rattle.frontier_core.specs.Plan.{IsPlan, nothing, plain_steps, taken}
 use Rattle.frontier_core.specs.PlainOrder.{IsPlainOrder}
-use Rattle.graph_core.specs.Aiger.Soundness.{IsMultiplierSized}
+use Rattle.graph_core.specs.Aiger.Soundness.{IsSizedAs}
 use Rattle.graph_core.specs.Algebra as algebra
 use Rattle.graph_core.specs.Graph.{Aig}
 use Rattle.graph_core.specs.Graph.Assignments.{Assignment}
 use Rattle.graph_core.specs.Graph.Extended.{Extended}
-use Rattle.graph_core.specs.Graph.Operands.{Multiplies, inputs_in, inputs_of, sides_of}
-use Rattle.graph_core.specs.declared.order.Order.{Order}
+use Rattle.graph_core.specs.Graph.Operands.{AreInRange, AreOperandsOf, Does, Sides, inputs_at, inputs_in, profile_of, sides_for}
+use Rattle.graph_core.specs.declared.claim.Claim.{Claim}
+use Rattle.graph_core.specs.declared.numbers.Numbers.{Numbers}
 use Rattle.pac_writer.specs.Writing.{Made, closed, ledger_of}
 use Rattle.poly_terms.specs.Tables.{Sum, modulus, value_in}
 use Rattle.ripple_graft.specs.Extension.{IsExtension}
@@ -28,13 +29,13 @@ use Rattle.joint_prover.specs.declared.verdict.Tried.{Tried}
 use Rattle.joint_prover.specs.Tries.{IsAbove}
 use Rattle.joint_prover.specs.Verdicts.{IsFirstAbove}
 
--- Lines over a multiplier with or without an adder, of which none was written.
+-- Lines over a graph with or without an adder, of which none was written.
 pub record IsStart (l : Made) : Type 0 where
-  pub sides : l.sides ≡ sides_of l.sides.order l.extended.graph
+  pub sides : AreOperandsOf l.extended.graph l.sides
   pub same_modulus : modulus l.table ≡ algebra.modulus l.extended
   pub lines : l.lines ≡ []
   pub unclosed : l.closing ≡ None
-  pub sized : IsMultiplierSized l.extended.graph
+  pub sized : IsSizedAs (profile_of l.sides.claim.add) l.extended.graph
   pub extension : IsExtension l.extended
   pub agree : AgreeEverywhere l.extended
 
@@ -57,24 +58,29 @@ pub record IsRemainder (old new : Made) (poly : Sum) (id : ℕ) : Type 0 where
   pub goes_on : GoesOn old new
   pub rest : IsRest (planned old.extended steps uncounted) old.sides new.table (ledger_of new).live poly id
 
--- the lines are closed, and the graph multiplies; or these are the least operands on which it doesn't
-abbrev pub Decides : Aig → Order → Made → Ending → Type 0
-Decides g order l Closed = IsSome l.closing × Multiplies g order
-Decides g order l (Differs a b) = IsLeastDifference g order a b
+-- The numbers stand for the least values of the inputs at which the graph isn't what is claimed.
+pub record AreLeast (g : Aig) (s : Sides) (x : Numbers) : Type 0 where
+  pub least : IsLeastDifferenceAt g s (inputs_at s x)
+  pub range : AreInRange s x
+
+-- the lines are closed, and the graph does what is claimed; or these are the least numbers on which it doesn't
+abbrev pub Decides : Aig → Claim → Made → Ending → Type 0
+Decides g claim l Closed = IsSome l.closing × Does claim g
+Decides g claim l (Differs x) = AreLeast g (sides_for claim g) x
 
 -- The lines are over this graph, and the end of a plan decides.
-pub record IsEnded (e : Extended) (order : Order) (l : Made) (ending : Ending) : Type 0 where
+pub record IsEnded (e : Extended) (claim : Claim) (l : Made) (ending : Ending) : Type 0 where
   pub extended : l.extended ≡ e
-  pub sides : l.sides ≡ sides_of order e.graph
-  pub decides : Decides e.graph order l ending
+  pub sides : l.sides ≡ sides_for claim e.graph
+  pub decides : Decides e.graph claim l ending
 
 abbrev pub IsSliced : Made → ℕ → Bool → Made → Sliced → Type 0
-IsSliced old budget rewritten l (sliced.Ended ending) = IsEnded old.extended old.sides.order l ending
+IsSliced old budget rewritten l (sliced.Ended ending) = IsEnded old.extended old.sides.claim l ending
 IsSliced old budget rewritten l (sliced.Passed tried) = (tried.rewritten ≡ rewritten) × IsAbove old.extended old.sides budget tried
 
 abbrev pub IsPlain : Made → ℕ → Made → Plain → Type 0
-IsPlain old budget l (plain.Ended ending) = IsEnded old.extended old.sides.order l ending
-IsPlain old budget l (plain.Passed step size) = IsFirstAbove old.extended.graph old.sides.order budget step size
+IsPlain old budget l (plain.Ended ending) = IsEnded old.extended old.sides.claim l ending
+IsPlain old budget l (plain.Passed step size) = IsFirstAbove old.extended.graph old.sides.claim budget step size
 
 -- what one step takes
 abbrev pub columns_of : Step → List ℕ
@@ -92,12 +98,11 @@ pub record IsTriedAt (steps : List Step) (count size : ℕ) (rewritten : Bool) (
   pub gates : tried.gates.items ≡ (taken nothing (take count steps)).eliminated
   pub size_is : tried.size ≡ size
 
--- The least operands at which a remainder isn't 0.
-pub record IsWitnessOf (l : Made) (poly : Sum) (a b : ℕ) : Type 0 where
-  pub least : IsLeastNonzero (value_in l.table poly) (inputs_in l.sides) (inputs_of l.sides.order (length l.sides.a) a b)
-  pub a_below : a < 2 ^ length l.sides.a
-  pub b_below : b < 2 ^ length l.sides.a
+-- The least numbers at which a remainder isn't 0.
+pub record IsWitnessOf (l : Made) (poly : Sum) (x : Numbers) : Type 0 where
+  pub least : IsLeastNonzero (value_in l.table poly) (inputs_in l.sides) (inputs_at l.sides x)
+  pub range : AreInRange l.sides x
 
 abbrev pub IsWitness : Made → Made → Sum → ℕ → Ending → Type 0
 IsWitness old new poly id Closed = ((σ : Assignment) → value_in old.table poly σ ≡ 0) × (new ≡ closed old id)
-IsWitness old new poly id (Differs a b) = IsWitnessOf old poly a b × (new ≡ old)
+IsWitness old new poly id (Differs x) = IsWitnessOf old poly x × (new ≡ old)

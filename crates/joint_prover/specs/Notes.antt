@@ -1,10 +1,12 @@
 -- The note on a rewriting, and where each kind of it comes.
-use Rattle.std.specs.Prelude.{ℕ}
+use Rattle.std.specs.Prelude.{◌≡◌, ℕ, Bool, true, false}
 use Rattle.std.specs.declared.option.Option.{Option}
 use Rattle.std.specs.declared.option.Option.TheVariants.{None, Some}
 use Rattle.graph_core.specs.Algebra.{AgreeOnColumns}
 use Rattle.graph_core.specs.Graph.{Aig}
-use Rattle.graph_core.specs.declared.order.Order.{Order}
+use Rattle.graph_core.specs.Graph.Operands.{sides_for}
+use Rattle.graph_core.specs.declared.claim.Claim.{Claim}
+use Rattle.graph_core.specs.declared.numbers.Numbers.{Numbers}
 use Rattle.mv_fact.specs.Always.{Always}
 use Rattle.ripple_graft.specs.Blocks.{IsCut, with_cut}
 use Rattle.ripple_graft.specs.declared.cut.Cut.{Cut}
@@ -26,26 +28,44 @@ pub record IsFoundCut (g : Aig) (cut : Cut) : Type 0 where
   pub fits : IsCut g cut
   pub agree : Always (with_cut g cut).gates (AgreeOnColumns (with_cut g cut))
 
--- Each kind by its cause: there is no final stage; operands on which some new output differs from the old one; as many lemmas as there
--- may be conflicts, and the goal in hand doesn't follow.
-abbrev pub IsNote : Aig → Order → ℕ → Rewriting → Type 0
-IsNote g order conflicts (note.Used cut) = IsUsedCut g cut
-IsNote g order conflicts note.None = (cut : Cut) → ¬ (IsFinalStage g cut)
-IsNote g order conflicts (note.Differs a b) = (cut : Cut) × IsFinalStage g cut × IsDifference (with_cut g cut) order a b
-IsNote g order conflicts (note.Spent lemmas goal log) = (cut : Cut) × IsFinalStage g cut × IsSpent (with_cut g cut) conflicts lemmas goal log
-IsNote g order conflicts (note.Found cut) = IsFoundCut g cut
+-- Numbers on which some new output differs from the old one, with an adder in place of the final stage.
+abbrev pub DiffersAtStage : Aig → Claim → Numbers → Type 0
+DiffersAtStage g claim x = (cut : Cut) × IsFinalStage g cut × IsDifference (with_cut g cut) (sides_for claim g) x
+
+-- Each kind by its cause: there is no final stage; operands on which some new output differs from the old one, or operands and an addend;
+-- as many lemmas as there may be conflicts, and the goal in hand doesn't follow.
+abbrev pub IsNote : Aig → Claim → ℕ → Rewriting → Type 0
+IsNote g claim conflicts (note.Used cut) = IsUsedCut g cut
+IsNote g claim conflicts note.None = (cut : Cut) → ¬ (IsFinalStage g cut)
+IsNote g claim conflicts (note.Differs a b) = (claim.add ≡ false) × DiffersAtStage g claim (record { a = a; b = b; c = 0 })
+IsNote g claim conflicts (note.DiffersSum a b c) = (claim.add ≡ true) × DiffersAtStage g claim (record { a = a; b = b; c = c })
+IsNote g claim conflicts (note.Spent lemmas goal log) = (cut : Cut) × IsFinalStage g cut × IsSpent (with_cut g cut) conflicts lemmas goal log
+IsNote g claim conflicts (note.Found cut) = IsFoundCut g cut
 
 -- the cut over which a plan is tried first
 abbrev pub cut_of : Rewriting → Option Cut
 cut_of (note.Used cut) = Some cut
 cut_of note.None = None
 cut_of (note.Differs a b) = None
+cut_of (note.DiffersSum a b c) = None
 cut_of (note.Spent lemmas goal log) = None
 cut_of (note.Found cut) = Some cut
 
+-- the note that numbers differ, without an addend and with one
+abbrev pub differing : Bool → Numbers → Rewriting
+differing false x = note.Differs x.a x.b
+differing true x = note.DiffersSum x.a x.b x.c
+
 -- the note on what came of a rewriting
-abbrev pub note_of : Rewritten → Rewriting
-note_of (kind.Used cut extended log) = note.Used cut
-note_of kind.None = note.None
-note_of (kind.Differs a b) = note.Differs a b
-note_of (kind.Spent lemmas goal log) = note.Spent lemmas goal log
+abbrev pub note_of : Bool → Rewritten → Rewriting
+note_of add (kind.Used cut extended log) = note.Used cut
+note_of add kind.None = note.None
+note_of add (kind.Differs x) = differing add x
+note_of add (kind.Spent lemmas goal log) = note.Spent lemmas goal log
+
+-- the cut whose adder is used
+abbrev pub cut_in : Rewritten → Option Cut
+cut_in (kind.Used cut extended log) = Some cut
+cut_in kind.None = None
+cut_in (kind.Differs x) = None
+cut_in (kind.Spent lemmas goal log) = None

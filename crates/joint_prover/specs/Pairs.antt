@@ -8,11 +8,12 @@ use Rattle.drup_text.specs.WrittenTexts.{file_text}
 use Rattle.graph_core.specs.Algebra.Text.{IsLawfulAlgebraFile}
 use Rattle.graph_core.specs.Certificates.{no_cut}
 use Rattle.graph_core.specs.Graph.{Aig}
-use Rattle.graph_core.specs.Graph.Operands.{sides_of}
+use Rattle.graph_core.specs.Graph.Operands.{sides_for}
 use Rattle.graph_core.specs.Text.JudgedLines.{IsWithin, Lengths}
-use Rattle.graph_core.specs.declared.order.Order.{Order}
+use Rattle.graph_core.specs.declared.claim.Claim.{Claim}
 use Rattle.ripple_graft.specs.declared.cut.Cut.{Cut}
 use Rattle.joint_checker.specs.ClauseFiles.{GivesExtended}
+use Rattle.joint_prover.specs.declared.task.Task.{Task}
 use Rattle.joint_prover.specs.Tries.{EndsOver}
 
 -- The header names the cut, and there are at most so many lines; or it is the certificate that replaces nothing.
@@ -26,15 +27,15 @@ pub record AreClausesOver (g : Aig) (conflicts : ℕ) (cut : Option Cut) (clause
   pub gives : (lengths : Lengths) → IsWithin lengths clauses → GivesExtended lengths g clauses (extended_by g cut)
 
 -- And an algebra file that is lawful over that graph.
-pub record IsPairOver (g : Aig) (order : Order) (conflicts : ℕ) (cut : Option Cut) (clauses algebra : List ℕ) : Type 0 where
+pub record IsPairOver (g : Aig) (claim : Claim) (conflicts : ℕ) (cut : Option Cut) (clauses algebra : List ℕ) : Type 0 where
   pub clause_file : AreClausesOver g conflicts cut clauses
-  pub algebra_file : IsLawfulAlgebraFile (extended_by g cut) (sides_of order g) algebra
+  pub algebra_file : IsLawfulAlgebraFile (extended_by g cut) (sides_for claim g) algebra
 
--- ---- what is written where a graph multiplies, with this cut in use or none
+-- ---- what is written where a graph does what is claimed, with this cut in use or none
 
-abbrev pub AreClausesFor : Aig → Order → ℕ → ℕ → Option Cut → List ℕ → Type 0
-AreClausesFor g order budget conflicts used clauses = (cut : Option Cut) × EndsOver g order budget used cut × AreClausesOver g conflicts cut clauses
+abbrev pub AreClausesFor : Aig → Task → Option Cut → List ℕ → Type 0
+AreClausesFor g task used clauses = (cut : Option Cut) × EndsOver g task.claim task.budget used cut × AreClausesOver g task.conflicts cut clauses
 
-abbrev pub IsPairFor : Aig → Order → ℕ → ℕ → Option Cut → List ℕ → List ℕ → Type 0
-IsPairFor g order budget conflicts used clauses algebra =
-    (cut : Option Cut) × EndsOver g order budget used cut × IsPairOver g order conflicts cut clauses algebra
+abbrev pub IsPairFor : Aig → Task → Option Cut → List ℕ → List ℕ → Type 0
+IsPairFor g task used clauses algebra =
+    (cut : Option Cut) × EndsOver g task.claim task.budget used cut × IsPairOver g task.claim task.conflicts cut clauses algebra

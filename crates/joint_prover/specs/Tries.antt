@@ -10,8 +10,8 @@ use Rattle.graph_core.specs.Algebra.{modulus}
 use Rattle.graph_core.specs.Algebra.NormalForm.{HasSize}
 use Rattle.graph_core.specs.Graph.{Aig}
 use Rattle.graph_core.specs.Graph.Extended.{Extended}
-use Rattle.graph_core.specs.Graph.Operands.{Sides, sides_of}
-use Rattle.graph_core.specs.declared.order.Order.{Order}
+use Rattle.graph_core.specs.Graph.Operands.{Sides, sides_for}
+use Rattle.graph_core.specs.declared.claim.Claim.{Claim}
 use Rattle.ripple_graft.specs.declared.cut.Cut.{Cut}
 use Rattle.slice_planner.specs.Slices.{IsSlicePlan}
 use Rattle.joint_prover.specs.declared.verdict.Tried.{Tried}
@@ -32,18 +32,18 @@ pub record IsAbove (e : Extended) (s : Sides) (budget : ℕ) (tried : Tried) : T
   pub above : budget < tried.size
 
 -- over the graph with this cut, or without one
-pub record IsTried (g : Aig) (order : Order) (budget : ℕ) (cut : Option Cut) (tried : Tried) : Type 0 where
+pub record IsTried (g : Aig) (claim : Claim) (budget : ℕ) (cut : Option Cut) (tried : Tried) : Type 0 where
   pub rewritten : tried.rewritten ≡ is_some cut
-  pub above : IsAbove (extended_by g cut) (sides_of order g) budget tried
+  pub above : IsAbove (extended_by g cut) (sides_for claim g) budget tried
 
 -- What was tried in this order: where a cut is used, the plan over the graph with it; and the plan over the graph.
-abbrev pub AreTried : Aig → Order → ℕ → Option Cut → List Tried → Type 0
-AreTried g order budget None tried = (only : Tried) × (tried ≡ only ∷ []) × IsTried g order budget None only
-AreTried g order budget (Some cut) tried =
-    (first : Tried) × (second : Tried) × (tried ≡ first ∷ second ∷ []) × IsTried g order budget (Some cut) first × IsTried g order budget None second
+abbrev pub AreTried : Aig → Claim → ℕ → Option Cut → List Tried → Type 0
+AreTried g claim budget None tried = (only : Tried) × (tried ≡ only ∷ []) × IsTried g claim budget None only
+AreTried g claim budget (Some cut) tried =
+    (first : Tried) × (second : Tried) × (tried ≡ first ∷ second ∷ []) × IsTried g claim budget (Some cut) first × IsTried g claim budget None second
 
 -- The plan that ended is over this graph: that with the cut in use; or the graph alone, where no cut is in use, or the plan over the
 -- graph with it has passed the budget.
-abbrev pub EndsOver : Aig → Order → ℕ → Option Cut → Option Cut → Type 0
-EndsOver g order budget used (Some cut) = used ≡ Some cut
-EndsOver g order budget used None = (cut : Cut) → used ≡ Some cut → (tried : Tried) × IsTried g order budget (Some cut) tried
+abbrev pub EndsOver : Aig → Claim → ℕ → Option Cut → Option Cut → Type 0
+EndsOver g claim budget used (Some cut) = used ≡ Some cut
+EndsOver g claim budget used None = (cut : Cut) → used ≡ Some cut → (tried : Tried) × IsTried g claim budget (Some cut) tried

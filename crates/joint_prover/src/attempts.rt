@@ -1,21 +1,20 @@
 // Single plans over the graph, with an adder at a cut or alone: each tells a verdict, or passes its budget.
-ghost use Rattle.std.specs.Prelude.{◌≡◌, ◌≤◌, ℕ, IfOk, None, OnErr, Some};
-ghost use Rattle.graph_core.specs.Aiger.Soundness.{IsMultiplierSized};
+ghost use Rattle.std.specs.Prelude.{◌≡◌, ◌≤◌, IfOk, None, OnErr, Some};
 ghost use Rattle.graph_core.specs.Algebra.{AgreeOnColumns};
-ghost use Rattle.graph_core.specs.Graph.Operands.{sides_of};
 ghost use Rattle.mv_desk.specs.View.{KeepsTelling};
 ghost use Rattle.mv_fact.specs.Always.{Always};
 ghost use Rattle.stage_rewriter.specs.Rewriting.{IsShown};
 ghost use Rattle.joint_checker.specs.Files.{files_of};
-ghost use Rattle.joint_prover.specs.Parts.{IsAttempt, MayTellOver, verdict_in};
+ghost use Rattle.joint_prover.specs.Parts.{IsAttempt, IsJob, MayTellOver, verdict_in};
 
 use crate::conclusion::{new_lines, told};
 use crate::ending::Sliced;
+use crate::job::Job;
 use crate::reduction::{Layers, reduced_by_layers, reduced_by_slices};
 use crate::verdict::{Tried, Verdict};
 use cdcl_core::Log;
-use graph_core::{Graph, Memory, Operands};
-use mv_desk::{Desk, Names};
+use graph_core::Memory;
+use mv_desk::Desk;
 use ripple_graft::{Cut, Extended};
 use std::alloc::Global;
 
@@ -39,101 +38,103 @@ impl Attempt {
     }
 }
 
-/// The slice plan over the graph with the adder of a cut that is shown.
+/// The slice plan with this budget over the graph with the adder of a cut that is shown.
 pub(crate) fn over_cut<D: Desk>(
     alloc: Global,
     desk: &mut D,
     budget: u64,
-    graph: &Graph,
-    operands: &Operands,
+    job: &Job<'_>,
     cut: &Cut,
     extended: &Extended<'_>,
     log: &Log,
-    names: &Names<'_>,
 ) -> Result<Attempt, Memory>
-    requires operands { operands.now ≡ sides_of operands.now.order graph.now }
-    requires sized { IsMultiplierSized graph.now }
-    requires shown { (conflicts : ℕ) × IsShown graph.now conflicts cut.now extended.now log.now.lines }
+    requires job { IsJob job.now }
+    requires shown { IsShown job.now.graph.now job.now.conflicts cut.now extended.now log.now.lines }
     requires agree { Always extended.now.gates (AgreeOnColumns extended.now) }
-    ensures over { IfOk result (λ o. (conflicts : ℕ) →
-        IsShown graph.now conflicts cut.now extended.now log.now.lines →
-        IsAttempt graph.now operands.now.order budget conflicts (Some cut.now) (files_of names.now)
-        (D.seen desk.old) (D.seen desk.new) o) }
+    ensures over { IfOk result (IsAttempt job.now.graph.now job.now.operands.now.claim budget job.now.conflicts
+        (Some cut.now) (files_of job.now.names.now) (D.seen desk.old) (D.seen desk.new)) }
     ensures memory { OnErr result (D.seen desk.new ≡ D.seen desk.old) }
     ensures opened { (D.seen desk.new).opened ≡ (D.seen desk.old).opened }
     ensures later { (D.seen desk.old).write_faults ≤ (D.seen desk.new).write_faults }
     ensures tells { KeepsTelling (D.seen desk.old) (D.seen desk.new) }
 {
-    let mut lines = new_lines(alloc, extended, operands)?;
+    let mut lines = new_lines(alloc, extended, job.operands)?;
     match reduced_by_slices(alloc, budget, true, &mut lines)? {
         Sliced::Ended(ending) => {
-            let verdict = told(alloc, desk, ending, &lines, Some(cut), log.lines(), names)?;
+            let verdict = told(
+                alloc,
+                desk,
+                ending,
+                &lines,
+                Some(cut),
+                log.lines(),
+                job.names,
+            )?;
             Ok(Attempt::Told(verdict))
         }
         Sliced::Passed(tried) => Ok(Attempt::Passed(tried)),
     }
 }
 
-/// A plan by layers over the graph with the adder of a cut that is shown: a verdict, if it keeps to the budget.
+/// A plan by layers with this budget over the graph with the adder of a cut that is shown: a verdict, if it keeps to it.
 pub(crate) fn by_layers<D: Desk>(
     alloc: Global,
     desk: &mut D,
     budget: u64,
     layers: Layers,
-    graph: &Graph,
-    operands: &Operands,
+    job: &Job<'_>,
     cut: &Cut,
     extended: &Extended<'_>,
     log: &Log,
-    names: &Names<'_>,
 ) -> Result<Option<Verdict>, Memory>
-    requires operands { operands.now ≡ sides_of operands.now.order graph.now }
-    requires sized { IsMultiplierSized graph.now }
-    requires shown { (conflicts : ℕ) × IsShown graph.now conflicts cut.now extended.now log.now.lines }
+    requires job { IsJob job.now }
+    requires shown { IsShown job.now.graph.now job.now.conflicts cut.now extended.now log.now.lines }
     requires agree { Always extended.now.gates (AgreeOnColumns extended.now) }
-    ensures told { IfOk result (λ told. (conflicts : ℕ) →
-        IsShown graph.now conflicts cut.now extended.now log.now.lines →
-        MayTellOver graph.now operands.now.order conflicts (Some cut.now) (files_of names.now)
-        (D.seen desk.old) (D.seen desk.new) told) }
+    ensures told { IfOk result (MayTellOver job.now.graph.now job.now.operands.now.claim job.now.conflicts
+        (Some cut.now) (files_of job.now.names.now) (D.seen desk.old) (D.seen desk.new)) }
     ensures memory { OnErr result (D.seen desk.new ≡ D.seen desk.old) }
     ensures opened { (D.seen desk.new).opened ≡ (D.seen desk.old).opened }
     ensures later { (D.seen desk.old).write_faults ≤ (D.seen desk.new).write_faults }
     ensures tells { KeepsTelling (D.seen desk.old) (D.seen desk.new) }
 {
-    let mut lines = new_lines(alloc, extended, operands)?;
+    let mut lines = new_lines(alloc, extended, job.operands)?;
     match reduced_by_layers(alloc, budget, layers, &mut lines)? {
         Some(ending) => {
-            let verdict = told(alloc, desk, ending, &lines, Some(cut), log.lines(), names)?;
+            let verdict = told(
+                alloc,
+                desk,
+                ending,
+                &lines,
+                Some(cut),
+                log.lines(),
+                job.names,
+            )?;
             Ok(Some(verdict))
         }
         None => Ok(None),
     }
 }
 
-/// The slice plan over the graph alone.
+/// The slice plan with this budget over the graph alone.
 pub(crate) fn over_alone<D: Desk>(
     alloc: Global,
     desk: &mut D,
     budget: u64,
-    graph: &Graph,
-    operands: &Operands,
-    names: &Names<'_>,
+    job: &Job<'_>,
 ) -> Result<Attempt, Memory>
-    requires operands { operands.now ≡ sides_of operands.now.order graph.now }
-    requires sized { IsMultiplierSized graph.now }
-    ensures over { IfOk result (λ o. (conflicts : ℕ) →
-        IsAttempt graph.now operands.now.order budget conflicts None (files_of names.now)
-        (D.seen desk.old) (D.seen desk.new) o) }
+    requires { IsJob job.now }
+    ensures over { IfOk result (IsAttempt job.now.graph.now job.now.operands.now.claim budget job.now.conflicts
+        None (files_of job.now.names.now) (D.seen desk.old) (D.seen desk.new)) }
     ensures memory { OnErr result (D.seen desk.new ≡ D.seen desk.old) }
     ensures opened { (D.seen desk.new).opened ≡ (D.seen desk.old).opened }
     ensures later { (D.seen desk.old).write_faults ≤ (D.seen desk.new).write_faults }
     ensures tells { KeepsTelling (D.seen desk.old) (D.seen desk.new) }
 {
-    let extended = Extended::without_cut(graph);
-    let mut lines = new_lines(alloc, &extended, operands)?;
+    let extended = Extended::without_cut(job.graph);
+    let mut lines = new_lines(alloc, &extended, job.operands)?;
     match reduced_by_slices(alloc, budget, false, &mut lines)? {
         Sliced::Ended(ending) => {
-            let verdict = told(alloc, desk, ending, &lines, None, &[], names)?;
+            let verdict = told(alloc, desk, ending, &lines, None, &[], job.names)?;
             Ok(Attempt::Told(verdict))
         }
         Sliced::Passed(tried) => Ok(Attempt::Passed(tried)),

@@ -1,16 +1,16 @@
 // What the end of a plan tells, and the lines that a plan begins with.
-ghost use Rattle.std.specs.Prelude.{◌≡◌, ◌≤◌, ℕ, IfOk, OnErr, option_map};
+ghost use Rattle.std.specs.Prelude.{◌≡◌, ◌≤◌, ℕ, IfOk, OnErr, false, option_map, true};
 ghost use Rattle.drup_text.specs.Headers.{extended_by};
 ghost use Rattle.drup_text.specs.WrittenTexts.{file_text};
-ghost use Rattle.frontier_core.specs.LeastDifference.{IsLeastDifference};
-ghost use Rattle.graph_core.specs.Aiger.Soundness.{IsMultiplierSized};
+ghost use Rattle.graph_core.specs.Aiger.Soundness.{IsMultiplierSized, IsSizedAs, IsSumSized};
 ghost use Rattle.graph_core.specs.Graph.Extended.{Extended as ExtendedGraph};
-ghost use Rattle.graph_core.specs.declared.order.Order.{Order as InputOrder};
+ghost use Rattle.graph_core.specs.Graph.Operands.{AreOperandsOf, profile_of};
+ghost use Rattle.graph_core.specs.declared.claim.Claim.{Claim};
 ghost use Rattle.mv_desk.specs.View.{KeepsTelling};
 ghost use Rattle.pac_writer.specs.Writing.{IsFresh};
 ghost use Rattle.ripple_graft.specs.Extension.{IsExtension};
 ghost use Rattle.joint_checker.specs.Files.{files_of};
-ghost use Rattle.joint_prover.specs.Endings.{IsEnded};
+ghost use Rattle.joint_prover.specs.Endings.{AreLeast, IsEnded};
 ghost use Rattle.joint_prover.specs.Pairs.{AreClausesOver};
 ghost use Rattle.joint_prover.specs.Parts.{IsToldOver, IsToldWrong};
 
@@ -18,9 +18,9 @@ use crate::ending::Ending;
 use crate::verdict::Verdict;
 use crate::writing::written;
 use clause_core::Line;
-use graph_core::{Graph, Memory, Operands, Order};
+use graph_core::{Graph, Memory, Numbers, Operands};
 use mv_desk::{Desk, Names};
-use operand_search::product;
+use operand_search::claimed_value;
 use pac_writer::Lines;
 use ripple_graft::{Cut, Extended};
 use std::alloc::Global;
@@ -31,7 +31,7 @@ pub(crate) fn new_lines<'a>(
     extended: &'a Extended<'a>,
     operands: &'a Operands,
 ) -> Result<Lines<'a>, Memory>
-    requires sized { IsMultiplierSized extended.now.graph }
+    requires sized { IsSizedAs (profile_of operands.now.claim.add) extended.now.graph }
     ensures fresh { IfOk result (IsFresh extended.now operands.now) }
     ensures extension { IsExtension extended.now }
 {
@@ -50,14 +50,14 @@ pub(crate) fn told<D: Desk>(
     log: &[Line],
     names: &Names<'_>,
 ) -> Result<Verdict, Memory>
-    requires ended { (e : ExtendedGraph) × (order : InputOrder) × IsMultiplierSized e.graph ×
-        IsEnded e order lines.now ending }
-    ensures verdict { IfOk result (λ v. (e : ExtendedGraph) (order : InputOrder) (conflicts : ℕ) →
-        IsEnded e order lines.now ending →
+    requires ended { (e : ExtendedGraph) × (claim : Claim) × IsSizedAs (profile_of claim.add) e.graph ×
+        IsEnded e claim lines.now ending }
+    ensures verdict { IfOk result (λ v. (e : ExtendedGraph) (claim : Claim) (conflicts : ℕ) →
+        IsEnded e claim lines.now ending →
         e ≡ extended_by e.graph (option_map (λ c. c.now) cut.entry) →
         AreClausesOver e.graph conflicts (option_map (λ c. c.now) cut.entry)
         (file_text (option_map (λ c. c.now) cut.entry) log.now) →
-        IsToldOver e.graph order conflicts (option_map (λ c. c.now) cut.entry) (files_of names.now)
+        IsToldOver e.graph claim conflicts (option_map (λ c. c.now) cut.entry) (files_of names.now)
         (D.seen desk.old) (D.seen desk.new) v) }
     ensures memory { OnErr result (D.seen desk.new ≡ D.seen desk.old) }
     ensures opened { (D.seen desk.new).opened ≡ (D.seen desk.old).opened }
@@ -66,30 +66,77 @@ pub(crate) fn told<D: Desk>(
 {
     match ending {
         Ending::Closed => Ok(written(desk, lines, cut, log, names)),
-        Ending::Differs { a, b } => {
+        Ending::Differs(numbers) => {
             let graph = lines.extended().graph();
-            wrong(alloc, graph, lines.operands().order(), a, b)
+            wrong(alloc, graph, lines.operands(), numbers)
         }
     }
 }
 
-/// Operands on which a graph differs, with its value there and the product.
+/// The verdict on a graph that differs at these numbers and at none before them.
 pub(crate) fn wrong(
     alloc: Global,
     graph: &Graph,
-    order: Order,
-    a: u64,
-    b: u64,
+    operands: &Operands,
+    numbers: Numbers,
 ) -> Result<Verdict, Memory>
-    requires sized { IsMultiplierSized graph.now }
-    requires least { IsLeastDifference graph.now order a b }
-    ensures { IfOk result (IsToldWrong graph.now order) }
+    requires sized { IsSizedAs (profile_of operands.now.claim.add) graph.now }
+    requires operands { AreOperandsOf graph.now operands.now }
+    requires least { AreLeast graph.now operands.now numbers }
+    ensures { IfOk result (IsToldWrong graph.now operands.now.claim) }
 {
-    let value = graph.value_on(alloc, order, a, b)?;
+    if operands.claim().add {
+        wrong_sum(alloc, graph, operands, numbers)
+    } else {
+        wrong_product(alloc, graph, operands, numbers)
+    }
+}
+
+// With its value there and the product.
+fn wrong_product(
+    alloc: Global,
+    graph: &Graph,
+    operands: &Operands,
+    numbers: Numbers,
+) -> Result<Verdict, Memory>
+    requires alone { operands.now.claim.add ≡ false }
+    requires sized { IsMultiplierSized graph.now }
+    requires operands { AreOperandsOf graph.now operands.now }
+    requires least { AreLeast graph.now operands.now numbers }
+    ensures { IfOk result (IsToldWrong graph.now operands.now.claim) }
+{
+    let Numbers { a, b, .. } = numbers;
+    let value = graph.value_on(alloc, operands.order(), a, b)?;
+    let product = claimed_value(operands, numbers, graph.outputs());
     Ok(Verdict::Wrong {
         a,
         b,
         value,
-        product: product(a, b, graph.outputs()),
+        product,
+    })
+}
+
+// With its value there and the product plus the addend.
+fn wrong_sum(
+    alloc: Global,
+    graph: &Graph,
+    operands: &Operands,
+    numbers: Numbers,
+) -> Result<Verdict, Memory>
+    requires added { operands.now.claim.add ≡ true }
+    requires sized { IsSumSized graph.now }
+    requires operands { AreOperandsOf graph.now operands.now }
+    requires least { AreLeast graph.now operands.now numbers }
+    ensures { IfOk result (IsToldWrong graph.now operands.now.claim) }
+{
+    let Numbers { a, b, c } = numbers;
+    let value = graph.sum_on(alloc, operands.order(), a, b, c)?;
+    let sum = claimed_value(operands, numbers, graph.outputs());
+    Ok(Verdict::WrongSum {
+        a,
+        b,
+        c,
+        value,
+        sum,
     })
 }

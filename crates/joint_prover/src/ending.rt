@@ -1,13 +1,14 @@
 // What plans come to.
 use crate::verdict::Tried;
+use graph_core::Numbers;
 
 /// What is left behind the last step of a plan that keeps to the budget.
 #[derive(Clone, Copy, Debug)]
 pub(crate) enum Ending {
     /// The remainder is 0, and the lines are closed.
     Closed,
-    /// The least operands at which the remainder isn't 0.
-    Differs { a: u64, b: u64 },
+    /// The least numbers at which the remainder isn't 0.
+    Differs(Numbers),
 }
 
 /// What the slice plan comes to.

@@ -1,7 +1,7 @@
-// Graphs that are wrong on operands with few ones.
+// Graphs that are wrong on values of their inputs with few ones.
 ghost use Rattle.std.specs.Prelude.{IfOk, IfSome, IsNone};
-ghost use Rattle.graph_core.specs.Aiger.Soundness.{IsMultiplierSized};
-ghost use Rattle.graph_core.specs.Graph.Operands.{AreOperandsOf};
+ghost use Rattle.graph_core.specs.Aiger.Soundness.{IsSizedAs};
+ghost use Rattle.graph_core.specs.Graph.Operands.{AreOperandsOf, profile_of};
 ghost use Rattle.joint_prover.specs.Parts.{IsToldWrong};
 ghost use Rattle.joint_prover.specs.Verdicts.{HaveManyOnes};
 
@@ -11,33 +11,33 @@ use graph_core::{Graph, Memory, Operands};
 use operand_search::{least_seen, least_within, most_ones_within};
 use std::alloc::Global;
 
-/// What it may cost to try operands before a plan is known to be hard: at 64 bits, those with two ones.
+/// What it may cost to try values of the inputs before a plan is known to be hard: at 64 bits, those with two ones.
 pub(crate) const SOON: u64 = 1 << 24;
 /// What it may cost where a plan is: at 64 bits, those with three ones.
 pub(crate) const LATE: u64 = 1 << 29;
 
-/// The verdict on a graph that some fixed operands show to be wrong, if operands with few ones do too.
+/// The verdict on a graph that some fixed values of its inputs show to be wrong, if values with few ones do too.
 pub(crate) fn seen_wrong(
     alloc: Global,
     graph: &Graph,
     operands: &Operands,
 ) -> Result<Option<Verdict>, Memory>
     requires operands { AreOperandsOf graph.now operands.now }
-    requires sized { IsMultiplierSized graph.now }
-    ensures some { IfOk result (λ told. IfSome told (IsToldWrong graph.now operands.now.order)) }
+    requires sized { IsSizedAs (profile_of operands.now.claim.add) graph.now }
+    ensures some { IfOk result (λ told. IfSome told (IsToldWrong graph.now operands.now.claim)) }
 {
     let most = most_ones_within(graph, LATE);
     match least_seen(alloc, graph, operands, most)? {
-        Some((a, b)) => {
-            let verdict = wrong(alloc, graph, operands.order(), a, b)?;
+        Some(numbers) => {
+            let verdict = wrong(alloc, graph, operands, numbers)?;
             Ok(Some(verdict))
         }
         None => Ok(None),
     }
 }
 
-/// The verdict on a graph that is wrong on operands with at most two ones, or with as many more as some work is enough
-/// for.
+/// The verdict on a graph that is wrong on values of its inputs with at most two ones, or with as many more as some work
+/// is enough for.
 pub(crate) fn wrong_on_few(
     alloc: Global,
     graph: &Graph,
@@ -45,14 +45,14 @@ pub(crate) fn wrong_on_few(
     work: u64,
 ) -> Result<Option<Verdict>, Memory>
     requires operands { AreOperandsOf graph.now operands.now }
-    requires sized { IsMultiplierSized graph.now }
-    ensures some { IfOk result (λ told. IfSome told (IsToldWrong graph.now operands.now.order)) }
-    ensures none { IfOk result (λ told. IsNone told → HaveManyOnes graph.now operands.now.order) }
+    requires sized { IsSizedAs (profile_of operands.now.claim.add) graph.now }
+    ensures some { IfOk result (λ told. IfSome told (IsToldWrong graph.now operands.now.claim)) }
+    ensures none { IfOk result (λ told. IsNone told → HaveManyOnes graph.now operands.now.claim) }
 {
     let most = most_ones_within(graph, work);
     match least_within(alloc, graph, operands, most)? {
-        Some((a, b)) => {
-            let verdict = wrong(alloc, graph, operands.order(), a, b)?;
+        Some(numbers) => {
+            let verdict = wrong(alloc, graph, operands, numbers)?;
             Ok(Some(verdict))
         }
         None => Ok(None),

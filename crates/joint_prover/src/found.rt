@@ -1,17 +1,17 @@
 // A cut that is found by the values of its variables, and shown by a solver: the plans over the graph with it.
-ghost use Rattle.std.specs.Prelude.{◌≡◌, ◌≤◌, ℕ, IfOk, IfSome, OnErr, Some};
-ghost use Rattle.graph_core.specs.Aiger.Soundness.{IsMultiplierSized};
-ghost use Rattle.graph_core.specs.Graph.Operands.{AreOperandsOf, HasMultiplierShape, sides_of};
+ghost use Rattle.std.specs.Prelude.{◌≡◌, ◌≤◌, IfOk, IfSome, OnErr, Some};
+ghost use Rattle.graph_core.specs.Graph.Operands.{AreOperandsOf, HasShapeFor};
 ghost use Rattle.mv_desk.specs.View.{KeepsTelling};
 ghost use Rattle.joint_checker.specs.Files.{files_of};
-ghost use Rattle.joint_prover.specs.Parts.{IsShownCut, MayTellFound, MayTellOver};
+ghost use Rattle.joint_prover.specs.Parts.{IsJob, IsShownCut, MayTellFound, MayTellOver};
 
 use crate::attempts::{by_layers, over_cut};
+use crate::job::Job;
 use crate::reduction::Layers;
 use crate::verdict::Verdict;
 use cdcl_core::Log;
 use graph_core::{Graph, Memory, Operands};
-use mv_desk::{Desk, Names};
+use mv_desk::Desk;
 use ripple_graft::{Cut, Extended};
 use stage_guesser::candidate;
 use stage_rewriter::{Rewritten, rewrite_at};
@@ -30,26 +30,20 @@ const AT_END: u64 = 16;
 pub(crate) fn over_found<D: Desk>(
     alloc: Global,
     desk: &mut D,
-    budget: u64,
-    conflicts: u64,
-    graph: &Graph,
-    operands: &Operands,
-    names: &Names<'_>,
+    job: &Job<'_>,
 ) -> Result<Option<(Verdict, Cut)>, Memory>
-    requires operands { operands.now ≡ sides_of operands.now.order graph.now }
-    requires same { AreOperandsOf graph.now operands.now }
-    requires sized { IsMultiplierSized graph.now }
-    ensures told { IfOk result (MayTellFound graph.now operands.now.order conflicts (files_of names.now)
-        (D.seen desk.old) (D.seen desk.new)) }
+    requires { IsJob job.now }
+    ensures told { IfOk result (MayTellFound job.now.graph.now job.now.operands.now.claim job.now.conflicts
+        (files_of job.now.names.now) (D.seen desk.old) (D.seen desk.new)) }
     ensures memory { OnErr result (D.seen desk.new ≡ D.seen desk.old) }
     ensures opened { (D.seen desk.new).opened ≡ (D.seen desk.old).opened }
     ensures later { (D.seen desk.old).write_faults ≤ (D.seen desk.new).write_faults }
     ensures tells { KeepsTelling (D.seen desk.old) (D.seen desk.new) }
 {
-    let Some(shown) = found(alloc, graph, operands, conflicts)? else {
+    let Some(shown) = found(alloc, job.graph, job.operands, job.conflicts)? else {
         return Ok(None);
     };
-    match over_shown(alloc, desk, budget, graph, operands, &shown, names)? {
+    match over_shown(alloc, desk, job, &shown)? {
         Some(verdict) => {
             let Shown { cut, .. } = shown;
             Ok(Some((verdict, cut)))
@@ -59,10 +53,10 @@ pub(crate) fn over_found<D: Desk>(
 }
 
 /// The budget of a plan that is tried before it is known whether it ends soon: that of made multipliers.
-pub(crate) fn small_budget(graph: &Graph, budget: u64) -> u64 {
-    let bits = u64::from(graph.bits());
+pub(crate) fn small_budget(job: &Job<'_>) -> u64 {
+    let bits = u64::from(job.operands.bits());
     let square = bits.saturating_mul(bits);
-    budget.min(square.saturating_mul(8).saturating_add(64))
+    job.budget.min(square.saturating_mul(8).saturating_add(64))
 }
 
 // The plans over the graph with that adder: the slice plan with a small budget, those by layers with some more, and then
@@ -70,68 +64,53 @@ pub(crate) fn small_budget(graph: &Graph, budget: u64) -> u64 {
 fn over_shown<D: Desk>(
     alloc: Global,
     desk: &mut D,
-    budget: u64,
-    graph: &Graph,
-    operands: &Operands,
+    job: &Job<'_>,
     shown: &Shown<'_>,
-    names: &Names<'_>,
 ) -> Result<Option<Verdict>, Memory>
-    requires operands { operands.now ≡ sides_of operands.now.order graph.now }
-    requires sized { IsMultiplierSized graph.now }
-    requires shown { (conflicts : ℕ) × IsShownCut graph.now conflicts shown.now }
-    ensures told { IfOk result (λ v. (conflicts : ℕ) → IsShownCut graph.now conflicts shown.now →
-        MayTellOver graph.now operands.now.order conflicts (Some shown.now.cut) (files_of names.now)
-        (D.seen desk.old) (D.seen desk.new) v) }
+    requires job { IsJob job.now }
+    requires shown { IsShownCut job.now.graph.now job.now.conflicts shown.now }
+    ensures told { IfOk result (MayTellOver job.now.graph.now job.now.operands.now.claim job.now.conflicts
+        (Some shown.now.cut) (files_of job.now.names.now) (D.seen desk.old) (D.seen desk.new)) }
     ensures memory { OnErr result (D.seen desk.new ≡ D.seen desk.old) }
     ensures opened { (D.seen desk.new).opened ≡ (D.seen desk.old).opened }
     ensures later { (D.seen desk.old).write_faults ≤ (D.seen desk.new).write_faults }
     ensures tells { KeepsTelling (D.seen desk.old) (D.seen desk.new) }
 {
-    let least = small_budget(graph, budget);
-    if let Some(verdict) = by_slices(alloc, desk, least, graph, operands, shown, names)? {
+    if let Some(verdict) = by_slices(alloc, desk, small_budget(job), job, shown)? {
         return Ok(Some(verdict));
     }
-    if let Some(verdict) = in_layers(alloc, desk, budget, graph, operands, shown, names)? {
+    if let Some(verdict) = in_layers(alloc, desk, job, shown)? {
         return Ok(Some(verdict));
     }
-    by_slices(alloc, desk, budget, graph, operands, shown, names)
+    by_slices(alloc, desk, job.budget, job, shown)
 }
 
 // The plans by layers over it, with some more than the small budget.
 fn in_layers<D: Desk>(
     alloc: Global,
     desk: &mut D,
-    budget: u64,
-    graph: &Graph,
-    operands: &Operands,
+    job: &Job<'_>,
     shown: &Shown<'_>,
-    names: &Names<'_>,
 ) -> Result<Option<Verdict>, Memory>
-    requires operands { operands.now ≡ sides_of operands.now.order graph.now }
-    requires sized { IsMultiplierSized graph.now }
-    requires shown { (conflicts : ℕ) × IsShownCut graph.now conflicts shown.now }
-    ensures told { IfOk result (λ v. (conflicts : ℕ) → IsShownCut graph.now conflicts shown.now →
-        MayTellOver graph.now operands.now.order conflicts (Some shown.now.cut) (files_of names.now)
-        (D.seen desk.old) (D.seen desk.new) v) }
+    requires job { IsJob job.now }
+    requires shown { IsShownCut job.now.graph.now job.now.conflicts shown.now }
+    ensures told { IfOk result (MayTellOver job.now.graph.now job.now.operands.now.claim job.now.conflicts
+        (Some shown.now.cut) (files_of job.now.names.now) (D.seen desk.old) (D.seen desk.new)) }
     ensures memory { OnErr result (D.seen desk.new ≡ D.seen desk.old) }
     ensures opened { (D.seen desk.new).opened ≡ (D.seen desk.old).opened }
     ensures later { (D.seen desk.old).write_faults ≤ (D.seen desk.new).write_faults }
     ensures tells { KeepsTelling (D.seen desk.old) (D.seen desk.new) }
 {
     let Shown { cut, extended, log } = shown;
-    let least = small_budget(graph, budget);
+    let least = small_budget(job);
     let layers = Layers::ByColumn;
-    let more = budget.min(least.saturating_mul(BY_COLUMN));
-    if let Some(verdict) = by_layers(
-        alloc, desk, more, layers, graph, operands, cut, extended, log, names,
-    )? {
+    let more = job.budget.min(least.saturating_mul(BY_COLUMN));
+    if let Some(verdict) = by_layers(alloc, desk, more, layers, job, cut, extended, log)? {
         return Ok(Some(verdict));
     }
     let layers = Layers::AtEnd;
-    let more = budget.min(least.saturating_mul(AT_END));
-    by_layers(
-        alloc, desk, more, layers, graph, operands, cut, extended, log, names,
-    )
+    let more = job.budget.min(least.saturating_mul(AT_END));
+    by_layers(alloc, desk, more, layers, job, cut, extended, log)
 }
 
 // The slice plan over it.
@@ -139,26 +118,20 @@ fn by_slices<D: Desk>(
     alloc: Global,
     desk: &mut D,
     budget: u64,
-    graph: &Graph,
-    operands: &Operands,
+    job: &Job<'_>,
     shown: &Shown<'_>,
-    names: &Names<'_>,
 ) -> Result<Option<Verdict>, Memory>
-    requires operands { operands.now ≡ sides_of operands.now.order graph.now }
-    requires sized { IsMultiplierSized graph.now }
-    requires shown { (conflicts : ℕ) × IsShownCut graph.now conflicts shown.now }
-    ensures told { IfOk result (λ v. (conflicts : ℕ) → IsShownCut graph.now conflicts shown.now →
-        MayTellOver graph.now operands.now.order conflicts (Some shown.now.cut) (files_of names.now)
-        (D.seen desk.old) (D.seen desk.new) v) }
+    requires job { IsJob job.now }
+    requires shown { IsShownCut job.now.graph.now job.now.conflicts shown.now }
+    ensures told { IfOk result (MayTellOver job.now.graph.now job.now.operands.now.claim job.now.conflicts
+        (Some shown.now.cut) (files_of job.now.names.now) (D.seen desk.old) (D.seen desk.new)) }
     ensures memory { OnErr result (D.seen desk.new ≡ D.seen desk.old) }
     ensures opened { (D.seen desk.new).opened ≡ (D.seen desk.old).opened }
     ensures later { (D.seen desk.old).write_faults ≤ (D.seen desk.new).write_faults }
     ensures tells { KeepsTelling (D.seen desk.old) (D.seen desk.new) }
 {
     let Shown { cut, extended, log } = shown;
-    let attempt = over_cut(
-        alloc, desk, budget, graph, operands, cut, extended, log, names,
-    )?;
+    let attempt = over_cut(alloc, desk, budget, job, cut, extended, log)?;
     Ok(attempt.verdict())
 }
 
@@ -170,7 +143,7 @@ pub(crate) struct Shown<'a> {
     pub(crate) log: Log,
 }
 
-// A cut that is found and shown, within so many conflicts. Operands at which one differs are held against the next, which
+// A cut that is found and shown, within so many conflicts. Numbers at which one differs are held against the next, which
 // may have half as many conflicts.
 fn found<'a>(
     alloc: Global,
@@ -178,7 +151,7 @@ fn found<'a>(
     operands: &Operands,
     conflicts: u64,
 ) -> Result<Option<Shown<'a>>, Memory>
-    requires shape { HasMultiplierShape graph.now }
+    requires shape { HasShapeFor operands.now.claim.add graph.now }
     requires operands { AreOperandsOf graph.now operands.now }
     ensures { IfOk result (λ found. IfSome found (IsShownCut graph.now conflicts)) }
 {
@@ -192,7 +165,7 @@ fn found<'a>(
             Rewritten::Used { cut, extended, log } => {
                 return Ok(Some(Shown { cut, extended, log }));
             }
-            Rewritten::Differs { a, b } => given.push((a, b))?,
+            Rewritten::Differs(numbers) => given.push(numbers)?,
             _ => return Ok(None),
         }
         left /= 2;

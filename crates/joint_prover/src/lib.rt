@@ -1,16 +1,17 @@
-//! Gives a verdict on a graph, and writes both certificates where it multiplies.
+//! Gives a verdict on a graph, and writes both certificates where it does what is claimed.
 //!
+//! What is asked is a `Task`: the claim, a product of two operands or such a product plus an addend, and two bounds.
 //! `verify` opens and reads the graph file alone, and looks whether a ripple-carry adder may stand in place of the
 //! graph's final stage: the *note* says what became of that. Then it reduces the columns of the multiplier along plans.
 //! With a small budget the slice plan comes first, over the graph with the adder, where that is used, or over the graph.
 //! Where that passes its budget, an adder at a cut that is found by the values of the variables may stand in the graph,
 //! if a solver shows it: plans over that graph come next. At last come the plans with the whole budget, each where the
 //! ones before it had a frontier with more monomials: the slice plan over the graph with the adder that is used, the
-//! slice plan over the graph, and the plain plan over it. Between these, operands with few ones are tried.
+//! slice plan over the graph, and the plain plan over it. Between these, values of the inputs with few ones are tried.
 //!
 //! Where the remainder is 0 the verdict is `Proved`, and the clause certificate and then the algebra certificate are
 //! written, over the graph with an adder where a plan over that ended; else it is `Wrong` with the least operands on
-//! which the graph differs. Where all plans pass the budget it is `Undecided`. No certificate file is created before the
+//! which the graph differs, or with an addend `WrongSum`. Where all plans pass the budget it is `Undecided`. No certificate file is created before the
 //! verdict, and writing them takes no memory.
 //!
 //! *Pair*: certificates that are lawful for a graph. *Above*, *within the budget*: the sizes of frontiers. Where each
@@ -23,12 +24,14 @@ mod conclusion;
 mod ending;
 mod few_ones;
 mod found;
+mod job;
 mod laws;
 mod plans;
 mod proving;
 mod reduction;
 mod rewriting;
 mod soon;
+mod task;
 mod tried;
 mod verdict;
 mod writing;
@@ -36,4 +39,5 @@ mod writing;
 pub use laws::{enough_is_proved, proved_pairs_are_held, verdicts_are_exact};
 pub use proving::verify;
 pub use rewriting::Rewriting;
+pub use task::Task;
 pub use verdict::{Tried, Verdict};

@@ -1,15 +1,13 @@
 // The plans in their order, with the whole budget: each is tried where those before it passed it.
-ghost use Rattle.std.specs.Prelude.{◌≡◌, ◌≤◌, ℕ, IfOk, OnErr};
+ghost use Rattle.std.specs.Prelude.{◌≡◌, ◌≤◌, IfOk, OnErr};
 ghost use Rattle.std.specs.declared.option.Option.{Option};
-ghost use Rattle.graph_core.specs.Aiger.Soundness.{IsMultiplierSized};
 ghost use Rattle.graph_core.specs.Graph.{IsWellFormed};
-ghost use Rattle.graph_core.specs.Graph.Operands.{AreOperandsOf, sides_of};
 ghost use Rattle.mv_desk.specs.View.{KeepsTelling};
 ghost use Rattle.ripple_graft.specs.declared.cut.Cut.{Cut as CutAt};
 ghost use Rattle.stage_rewriter.specs.Rewriting.{Agrees, IsRewriting};
 ghost use Rattle.joint_checker.specs.Files.{files_of};
-ghost use Rattle.joint_prover.specs.Notes.{cut_of, note_of};
-ghost use Rattle.joint_prover.specs.Parts.{AreTriedBefore, IsFirst, IsOfGraph};
+ghost use Rattle.joint_prover.specs.Notes.{cut_in};
+ghost use Rattle.joint_prover.specs.Parts.{AreTriedBefore, IsFirst, IsJob, IsOfGraph, task_of};
 ghost use Rattle.joint_prover.specs.Tries.{AreTried};
 ghost use Rattle.joint_prover.specs.Verdicts.{HaveManyOnes};
 
@@ -17,10 +15,11 @@ use crate::attempts::{Attempt, over_alone, over_cut};
 use crate::conclusion::{new_lines, told};
 use crate::ending::Plain;
 use crate::few_ones::{LATE, wrong_on_few};
+use crate::job::Job;
 use crate::reduction::reduced_plainly;
 use crate::verdict::{Tried, Verdict};
-use graph_core::{Graph, Memory, Operands};
-use mv_desk::{Desk, Names};
+use graph_core::Memory;
+use mv_desk::Desk;
 use ripple_graft::Extended;
 use stage_rewriter::Rewritten;
 use std::alloc::Global;
@@ -33,37 +32,30 @@ enum First {
     Left(Vec<Tried>),
 }
 
-/// The verdict by the plans, where operands with few ones don't show that the graph is wrong.
+/// The verdict by the plans, where values of the inputs with few ones don't show that the graph is wrong.
 pub(crate) fn with_whole_budget<D: Desk>(
     alloc: Global,
     desk: &mut D,
-    budget: u64,
-    graph: &Graph,
-    operands: &Operands,
+    job: &Job<'_>,
     rewritten: &Rewritten<'_>,
-    names: &Names<'_>,
 ) -> Result<Verdict, Memory>
-    requires operands { operands.now ≡ sides_of operands.now.order graph.now }
-    requires same { AreOperandsOf graph.now operands.now }
-    requires sized { IsMultiplierSized graph.now }
-    requires well_formed { IsWellFormed graph.now }
-    requires rewriting { (conflicts : ℕ) × IsRewriting graph.now operands.now.order conflicts rewritten.now }
+    requires job { IsJob job.now }
+    requires well_formed { IsWellFormed job.now.graph.now }
+    requires rewriting { IsRewriting job.now.graph.now job.now.operands.now job.now.conflicts rewritten.now }
     requires agrees { Agrees rewritten.now }
-    ensures verdict { IfOk result (λ v. (conflicts : ℕ) →
-        IsRewriting graph.now operands.now.order conflicts rewritten.now →
-        IsOfGraph graph.now operands.now.order budget conflicts (cut_of (note_of rewritten.now)) (files_of names.now)
-        (D.seen desk.old) (D.seen desk.new) v) }
+    ensures verdict { IfOk result (IsOfGraph job.now.graph.now (task_of job.now) (cut_in rewritten.now)
+        (files_of job.now.names.now) (D.seen desk.old) (D.seen desk.new)) }
     ensures memory { OnErr result (D.seen desk.new ≡ D.seen desk.old) }
     ensures opened { (D.seen desk.new).opened ≡ (D.seen desk.old).opened }
     ensures later { (D.seen desk.old).write_faults ≤ (D.seen desk.new).write_faults }
     ensures tells { KeepsTelling (D.seen desk.old) (D.seen desk.new) }
 {
-    if let Some(verdict) = wrong_on_few(alloc, graph, operands, LATE)? {
+    if let Some(verdict) = wrong_on_few(alloc, job.graph, job.operands, LATE)? {
         return Ok(verdict);
     }
-    match over_rewritten(alloc, desk, budget, graph, operands, rewritten, names)? {
+    match over_rewritten(alloc, desk, job, rewritten)? {
         First::Told(verdict) => Ok(verdict),
-        First::Left(tried) => over_graph(alloc, desk, budget, graph, operands, tried, names),
+        First::Left(tried) => over_graph(alloc, desk, job, tried),
     }
 }
 
@@ -71,21 +63,15 @@ pub(crate) fn with_whole_budget<D: Desk>(
 fn over_rewritten<D: Desk>(
     alloc: Global,
     desk: &mut D,
-    budget: u64,
-    graph: &Graph,
-    operands: &Operands,
+    job: &Job<'_>,
     rewritten: &Rewritten<'_>,
-    names: &Names<'_>,
 ) -> Result<First, Memory>
-    requires operands { operands.now ≡ sides_of operands.now.order graph.now }
-    requires sized { IsMultiplierSized graph.now }
-    requires well_formed { IsWellFormed graph.now }
-    requires rewriting { (conflicts : ℕ) × IsRewriting graph.now operands.now.order conflicts rewritten.now }
+    requires job { IsJob job.now }
+    requires well_formed { IsWellFormed job.now.graph.now }
+    requires rewriting { IsRewriting job.now.graph.now job.now.operands.now job.now.conflicts rewritten.now }
     requires agrees { Agrees rewritten.now }
-    ensures first { IfOk result (λ f. (conflicts : ℕ) →
-        IsRewriting graph.now operands.now.order conflicts rewritten.now →
-        IsFirst graph.now operands.now.order budget conflicts (cut_of (note_of rewritten.now)) (files_of names.now)
-        (D.seen desk.old) (D.seen desk.new) f) }
+    ensures first { IfOk result (IsFirst job.now.graph.now (task_of job.now) (cut_in rewritten.now)
+        (files_of job.now.names.now) (D.seen desk.old) (D.seen desk.new)) }
     ensures memory { OnErr result (D.seen desk.new ≡ D.seen desk.old) }
     ensures opened { (D.seen desk.new).opened ≡ (D.seen desk.old).opened }
     ensures later { (D.seen desk.old).write_faults ≤ (D.seen desk.new).write_faults }
@@ -93,10 +79,7 @@ fn over_rewritten<D: Desk>(
 {
     match rewritten {
         Rewritten::Used { cut, extended, log } => {
-            let over = over_cut(
-                alloc, desk, budget, graph, operands, cut, extended, log, names,
-            )?;
-            match over {
+            match over_cut(alloc, desk, job.budget, job, cut, extended, log)? {
                 Attempt::Told(verdict) => Ok(First::Told(verdict)),
                 Attempt::Passed(tried) => {
                     let tried = vec![in alloc; tried]?;
@@ -112,30 +95,26 @@ fn over_rewritten<D: Desk>(
 fn over_graph<D: Desk>(
     alloc: Global,
     desk: &mut D,
-    budget: u64,
-    graph: &Graph,
-    operands: &Operands,
+    job: &Job<'_>,
     tried: Vec<Tried>,
-    names: &Names<'_>,
 ) -> Result<Verdict, Memory>
-    requires operands { operands.now ≡ sides_of operands.now.order graph.now }
-    requires sized { IsMultiplierSized graph.now }
-    requires many { HaveManyOnes graph.now operands.now.order }
-    ensures verdict { IfOk result (λ v. (conflicts : ℕ) (used : Option CutAt) →
-        AreTriedBefore graph.now operands.now.order budget used tried.items →
-        IsOfGraph graph.now operands.now.order budget conflicts used (files_of names.now)
+    requires job { IsJob job.now }
+    requires many { HaveManyOnes job.now.graph.now job.now.operands.now.claim }
+    ensures verdict { IfOk result (λ v. (used : Option CutAt) →
+        AreTriedBefore job.now.graph.now job.now.operands.now.claim job.now.budget used tried.items →
+        IsOfGraph job.now.graph.now (task_of job.now) used (files_of job.now.names.now)
         (D.seen desk.old) (D.seen desk.new) v) }
     ensures memory { OnErr result (D.seen desk.new ≡ D.seen desk.old) }
     ensures opened { (D.seen desk.new).opened ≡ (D.seen desk.old).opened }
     ensures later { (D.seen desk.old).write_faults ≤ (D.seen desk.new).write_faults }
     ensures tells { KeepsTelling (D.seen desk.old) (D.seen desk.new) }
 {
-    match over_alone(alloc, desk, budget, graph, operands, names)? {
+    match over_alone(alloc, desk, job.budget, job)? {
         Attempt::Told(verdict) => Ok(verdict),
         Attempt::Passed(last) => {
             let mut tried = tried;
             tried.push(last)?;
-            in_order(alloc, desk, budget, graph, operands, tried, names)
+            in_order(alloc, desk, job, tried)
         }
     }
 }
@@ -144,28 +123,24 @@ fn over_graph<D: Desk>(
 fn in_order<D: Desk>(
     alloc: Global,
     desk: &mut D,
-    budget: u64,
-    graph: &Graph,
-    operands: &Operands,
+    job: &Job<'_>,
     tried: Vec<Tried>,
-    names: &Names<'_>,
 ) -> Result<Verdict, Memory>
-    requires operands { operands.now ≡ sides_of operands.now.order graph.now }
-    requires sized { IsMultiplierSized graph.now }
-    requires many { HaveManyOnes graph.now operands.now.order }
-    ensures verdict { IfOk result (λ v. (conflicts : ℕ) (used : Option CutAt) →
-        AreTried graph.now operands.now.order budget used tried.items →
-        IsOfGraph graph.now operands.now.order budget conflicts used (files_of names.now)
+    requires job { IsJob job.now }
+    requires many { HaveManyOnes job.now.graph.now job.now.operands.now.claim }
+    ensures verdict { IfOk result (λ v. (used : Option CutAt) →
+        AreTried job.now.graph.now job.now.operands.now.claim job.now.budget used tried.items →
+        IsOfGraph job.now.graph.now (task_of job.now) used (files_of job.now.names.now)
         (D.seen desk.old) (D.seen desk.new) v) }
     ensures memory { OnErr result (D.seen desk.new ≡ D.seen desk.old) }
     ensures opened { (D.seen desk.new).opened ≡ (D.seen desk.old).opened }
     ensures later { (D.seen desk.old).write_faults ≤ (D.seen desk.new).write_faults }
     ensures tells { KeepsTelling (D.seen desk.old) (D.seen desk.new) }
 {
-    let extended = Extended::without_cut(graph);
-    let mut lines = new_lines(alloc, &extended, operands)?;
-    match reduced_plainly(alloc, budget, &mut lines)? {
-        Plain::Ended(ending) => told(alloc, desk, ending, &lines, None, &[], names),
+    let extended = Extended::without_cut(job.graph);
+    let mut lines = new_lines(alloc, &extended, job.operands)?;
+    match reduced_plainly(alloc, job.budget, &mut lines)? {
+        Plain::Ended(ending) => told(alloc, desk, ending, &lines, None, &[], job.names),
         Plain::Passed { step, size } => Ok(Verdict::Undecided {
             tried,
             plain_step: step,

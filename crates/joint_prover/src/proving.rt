@@ -1,44 +1,43 @@
 // `verify`: the graph is read, the verdict is found, and where it is proved the certificates are written.
 ghost use Rattle.std.specs.Prelude.{◌≡◌, ◌≤◌, IfOk, OnErr};
-ghost use Rattle.graph_core.specs.Aiger.Soundness.{IsMultiplierSized};
+ghost use Rattle.graph_core.specs.Aiger.Soundness.{IsSizedAs};
 ghost use Rattle.graph_core.specs.Graph.{IsWellFormed};
-ghost use Rattle.graph_core.specs.Graph.Operands.{AreOperandsOf, sides_of};
+ghost use Rattle.graph_core.specs.Graph.Operands.{profile_of};
 ghost use Rattle.stage_rewriter.specs.Rewriting.{Agrees, IsRewriting};
 ghost use Rattle.joint_checker.specs.Files.{files_of};
 ghost use Rattle.mv_desk.specs.View.{KeepsTelling, OpensFiles, bytes_under};
 ghost use Rattle.joint_prover.specs.Budgets.{ProvesEnough};
 ghost use Rattle.joint_prover.specs.Notes.{IsNote, cut_of};
-ghost use Rattle.joint_prover.specs.Parts.{IsJudged, IsOfGraph, note_with};
+ghost use Rattle.joint_prover.specs.Parts.{IsJob, IsJudged, IsOfGraph, note_with, task_of};
 ghost use Rattle.joint_prover.specs.Verdicts.{IsVerdict, answer_of_graph};
 ghost use Rattle.joint_prover.specs.Written.{ReportStays};
 
 use crate::found::over_found;
+use crate::job::Job;
 use crate::plans::with_whole_budget;
 use crate::rewriting::{Rewriting, note};
 use crate::soon::told_soon;
+use crate::task::Task;
 use crate::verdict::Verdict;
-use aiger_reader::{Profile, ReadFail, read_file};
-use graph_core::{Graph, Memory, Operands, Order};
+use aiger_reader::{ReadFail, read_file};
+use graph_core::{Graph, Memory, Operands};
 use mv_desk::{Desk, Limits, Names, Slot};
 use stage_rewriter::{Rewritten, rewrite};
 use std::alloc::Global;
 
 /// The verdict on a graph file, and what became of a rewriting of its final stage, where the verdict is `Proved`,
-/// `Wrong` or `Undecided`. `budget` is the most monomials that a remainder may have; `conflicts` is how many the solver
-/// may have before the rewriting is given up.
+/// `Wrong`, `WrongSum` or `Undecided`.
 pub fn verify<D: Desk>(
     alloc: Global,
     desk: &mut D,
-    order: Order,
-    budget: u64,
-    conflicts: u64,
+    task: &Task,
     limits: &Limits,
     names: &Names<'_>,
 ) -> (Verdict, Option<Rewriting>)
-    ensures verdict { IsVerdict limits.now.graph order budget conflicts (files_of names.now)
+    ensures verdict { IsVerdict limits.now.graph task.now (files_of names.now)
         (D.seen desk.old) (D.seen desk.new) result.0 result.1 }
     // With enough budget a made multiplier with a ripple-carry adder is proved, but for a fault or want of memory.
-    ensures enough { ProvesEnough limits.now.graph order budget
+    ensures enough { ProvesEnough limits.now.graph task.now
         (bytes_under (D.seen desk.old) (files_of names.now).graph) result.0 }
     ensures report { ReportStays (D.seen desk.old) (D.seen desk.new) }
     // The graph file, failed or not; files that are created don't count.
@@ -46,15 +45,9 @@ pub fn verify<D: Desk>(
     ensures later { (D.seen desk.old).write_faults ≤ (D.seen desk.new).write_faults }
     ensures tells { KeepsTelling (D.seen desk.old) (D.seen desk.new) }
 {
-    match read_file(
-        alloc,
-        desk,
-        Slot::Graph,
-        names.graph,
-        Profile::Multiplier,
-        limits,
-    ) {
-        Ok(graph) => judge(alloc, desk, order, budget, conflicts, &graph, names),
+    let profile = task.claim.profile();
+    match read_file(alloc, desk, Slot::Graph, names.graph, profile, limits) {
+        Ok(graph) => judge(alloc, desk, task, &graph, names),
         Err(fail) => (unread(fail), None),
     }
 }
@@ -63,20 +56,18 @@ pub fn verify<D: Desk>(
 fn judge<D: Desk>(
     alloc: Global,
     desk: &mut D,
-    order: Order,
-    budget: u64,
-    conflicts: u64,
+    task: &Task,
     graph: &Graph,
     names: &Names<'_>,
 ) -> (Verdict, Option<Rewriting>)
-    requires { IsMultiplierSized graph.now }
-    ensures verdict { IsJudged graph.now order budget conflicts (files_of names.now)
+    requires { IsSizedAs (profile_of task.now.claim.add) graph.now }
+    ensures verdict { IsJudged graph.now task.now (files_of names.now)
         (D.seen desk.old) (D.seen desk.new) result.0 result.1 }
     ensures opened { (D.seen desk.new).opened ≡ (D.seen desk.old).opened }
     ensures later { (D.seen desk.old).write_faults ≤ (D.seen desk.new).write_faults }
     ensures tells { KeepsTelling (D.seen desk.old) (D.seen desk.new) }
 {
-    match judge_noted(alloc, desk, order, budget, conflicts, graph, names) {
+    match judge_noted(alloc, desk, task, graph, names) {
         Ok((verdict, note)) => with_note(verdict, note),
         Err(_) => (Verdict::Memory, None),
     }
@@ -86,59 +77,54 @@ fn judge<D: Desk>(
 fn judge_noted<D: Desk>(
     alloc: Global,
     desk: &mut D,
-    order: Order,
-    budget: u64,
-    conflicts: u64,
+    task: &Task,
     graph: &Graph,
     names: &Names<'_>,
 ) -> Result<(Verdict, Rewriting), Memory>
-    requires { IsMultiplierSized graph.now }
-    ensures note { IfOk result (λ r. IsNote graph.now order conflicts r.1) }
-    ensures verdict { IfOk result (λ r. IsOfGraph graph.now order budget conflicts (cut_of r.1) (files_of names.now)
+    requires { IsSizedAs (profile_of task.now.claim.add) graph.now }
+    ensures note { IfOk result (λ r. IsNote graph.now task.now.claim task.now.conflicts r.1) }
+    ensures verdict { IfOk result (λ r. IsOfGraph graph.now task.now (cut_of r.1) (files_of names.now)
         (D.seen desk.old) (D.seen desk.new) r.0) }
     ensures memory { OnErr result (D.seen desk.new ≡ D.seen desk.old) }
     ensures opened { (D.seen desk.new).opened ≡ (D.seen desk.old).opened }
     ensures later { (D.seen desk.old).write_faults ≤ (D.seen desk.new).write_faults }
     ensures tells { KeepsTelling (D.seen desk.old) (D.seen desk.new) }
 {
-    let operands = Operands::of(alloc, graph, order)?;
-    let rewritten = rewrite(alloc, graph, &operands, conflicts)?;
-    judge_rewritten(
-        alloc, desk, budget, conflicts, graph, &operands, rewritten, names,
-    )
+    let operands = Operands::under(alloc, graph, task.claim)?;
+    let job = Job {
+        graph,
+        operands: &operands,
+        budget: task.budget,
+        conflicts: task.conflicts,
+        names,
+    };
+    let rewritten = rewrite(alloc, graph, &operands, task.conflicts)?;
+    judge_rewritten(alloc, desk, &job, rewritten)
 }
 
 // The same, where it is known what came of the rewriting.
 fn judge_rewritten<D: Desk>(
     alloc: Global,
     desk: &mut D,
-    budget: u64,
-    conflicts: u64,
-    graph: &Graph,
-    operands: &Operands,
+    job: &Job<'_>,
     rewritten: Rewritten<'_>,
-    names: &Names<'_>,
 ) -> Result<(Verdict, Rewriting), Memory>
-    requires operands { operands.now ≡ sides_of operands.now.order graph.now }
-    requires same { AreOperandsOf graph.now operands.now }
-    requires sized { IsMultiplierSized graph.now }
-    requires rewriting { IsRewriting graph.now operands.now.order conflicts rewritten }
+    requires job { IsJob job.now }
+    requires rewriting { IsRewriting job.now.graph.now job.now.operands.now job.now.conflicts rewritten }
     requires agrees { Agrees rewritten }
-    ensures note { IfOk result (λ r. IsNote graph.now operands.now.order conflicts r.1) }
-    ensures verdict { IfOk result (λ r. IsOfGraph graph.now operands.now.order budget conflicts (cut_of r.1)
-        (files_of names.now) (D.seen desk.old) (D.seen desk.new) r.0) }
+    ensures note { IfOk result (λ r. IsNote job.now.graph.now job.now.operands.now.claim job.now.conflicts r.1) }
+    ensures verdict { IfOk result (λ r. IsOfGraph job.now.graph.now (task_of job.now) (cut_of r.1)
+        (files_of job.now.names.now) (D.seen desk.old) (D.seen desk.new) r.0) }
     ensures memory { OnErr result (D.seen desk.new ≡ D.seen desk.old) }
     ensures opened { (D.seen desk.new).opened ≡ (D.seen desk.old).opened }
     ensures later { (D.seen desk.old).write_faults ≤ (D.seen desk.new).write_faults }
     ensures tells { KeepsTelling (D.seen desk.old) (D.seen desk.new) }
 {
     // without faults
-    let _max = graph.max();
-    match told_soon(alloc, desk, budget, graph, operands, &rewritten, names)? {
-        Some(verdict) => Ok((verdict, note(rewritten))),
-        None => judge_further(
-            alloc, desk, budget, conflicts, graph, operands, rewritten, names,
-        ),
+    let _max = job.graph.max();
+    match told_soon(alloc, desk, job, &rewritten)? {
+        Some(verdict) => Ok((verdict, note(job.operands.claim().add, rewritten))),
+        None => judge_further(alloc, desk, job, rewritten),
     }
 }
 
@@ -147,45 +133,40 @@ fn judge_rewritten<D: Desk>(
 fn judge_further<D: Desk>(
     alloc: Global,
     desk: &mut D,
-    budget: u64,
-    conflicts: u64,
-    graph: &Graph,
-    operands: &Operands,
+    job: &Job<'_>,
     rewritten: Rewritten<'_>,
-    names: &Names<'_>,
 ) -> Result<(Verdict, Rewriting), Memory>
-    requires operands { operands.now ≡ sides_of operands.now.order graph.now }
-    requires same { AreOperandsOf graph.now operands.now }
-    requires sized { IsMultiplierSized graph.now }
-    requires well_formed { IsWellFormed graph.now }
-    requires rewriting { IsRewriting graph.now operands.now.order conflicts rewritten }
+    requires job { IsJob job.now }
+    requires well_formed { IsWellFormed job.now.graph.now }
+    requires rewriting { IsRewriting job.now.graph.now job.now.operands.now job.now.conflicts rewritten }
     requires agrees { Agrees rewritten }
-    ensures note { IfOk result (λ r. IsNote graph.now operands.now.order conflicts r.1) }
-    ensures verdict { IfOk result (λ r. IsOfGraph graph.now operands.now.order budget conflicts (cut_of r.1)
-        (files_of names.now) (D.seen desk.old) (D.seen desk.new) r.0) }
+    ensures note { IfOk result (λ r. IsNote job.now.graph.now job.now.operands.now.claim job.now.conflicts r.1) }
+    ensures verdict { IfOk result (λ r. IsOfGraph job.now.graph.now (task_of job.now) (cut_of r.1)
+        (files_of job.now.names.now) (D.seen desk.old) (D.seen desk.new) r.0) }
     ensures memory { OnErr result (D.seen desk.new ≡ D.seen desk.old) }
     ensures opened { (D.seen desk.new).opened ≡ (D.seen desk.old).opened }
     ensures later { (D.seen desk.old).write_faults ≤ (D.seen desk.new).write_faults }
     ensures tells { KeepsTelling (D.seen desk.old) (D.seen desk.new) }
 {
-    match over_found(alloc, desk, budget, conflicts, graph, operands, names)? {
+    match over_found(alloc, desk, job)? {
         Some((verdict, cut)) => Ok((verdict, Rewriting::Found(cut))),
         None => {
-            let verdict = with_whole_budget(
-                alloc, desk, budget, graph, operands, &rewritten, names,
-            )?;
-            Ok((verdict, note(rewritten)))
+            let verdict = with_whole_budget(alloc, desk, job, &rewritten)?;
+            Ok((verdict, note(job.operands.claim().add, rewritten)))
         }
     }
 }
 
-// A note is told with three of the verdicts.
+// A note is told with four of the verdicts.
 fn with_note(verdict: Verdict, note: Rewriting) -> (Verdict, Option<Rewriting>)
     ensures verdict { result.0 ≡ verdict }
     ensures note { result.1 ≡ note_with verdict note }
 {
     let told = match verdict {
-        Verdict::Proved | Verdict::Wrong { .. } | Verdict::Undecided { .. } => Some(note),
+        Verdict::Proved
+        | Verdict::Wrong { .. }
+        | Verdict::WrongSum { .. }
+        | Verdict::Undecided { .. } => Some(note),
         _ => None,
     };
     (verdict, told)

@@ -63,7 +63,7 @@ pub(crate) fn reduced_by_layers(
 ) -> Result<Option<Ending>, Memory>
     requires { IsStart lines.old }
     ensures { IfOk result (λ ending. IfSome ending
-        (IsEnded lines.old.extended lines.old.sides.order lines.new)) }
+        (IsEnded lines.old.extended lines.old.sides.claim lines.new)) }
 {
     let extended = lines.extended();
     let plan = plan_by_layers(alloc, layers, extended)?;
@@ -119,7 +119,7 @@ fn reduced_in_order(alloc: Global, budget: u64, lines: &mut Lines<'_>) -> Result
 fn concluded(lines: &mut Lines<'_>, poly: &Poly, id: u64) -> Ending
     requires { (start : Made) × IsStart start × IsRemainder start lines.old poly.now id }
     ensures { (start : Made) → IsStart start → IsRemainder start lines.old poly.now id →
-        IsEnded start.extended start.sides.order lines.new result }
+        IsEnded start.extended start.sides.claim lines.new result }
 {
     are_lawful(lines);
     ended(lines, poly, id)
@@ -143,7 +143,7 @@ fn ended(lines: &mut Lines<'_>, poly: &Poly, id: u64) -> Ending
     ensures { IsWitness lines.old lines.new poly.now id result }
 {
     match least(lines.terms(), poly, lines.operands()) {
-        Some((a, b)) => Ending::Differs { a, b },
+        Some(numbers) => Ending::Differs(numbers),
         None => {
             lines.close(id);
             Ending::Closed

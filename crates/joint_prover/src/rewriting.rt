@@ -1,8 +1,9 @@
 // The note on a rewriting.
 ghost use Rattle.std.specs.Prelude.{◌≡◌};
-ghost use Rattle.joint_prover.specs.Notes.{note_of};
+ghost use Rattle.joint_prover.specs.Notes.{differing, note_of};
 
 use cdcl_core::Log;
+use graph_core::Numbers;
 use ripple_graft::Cut;
 use stage_rewriter::Rewritten;
 
@@ -15,6 +16,8 @@ pub enum Rewriting {
     None,
     /// Operands at which an output of the adder isn't the graph's.
     Differs { a: u64, b: u64 },
+    /// With an addend the same: operands and an addend.
+    DiffersSum { a: u64, b: u64, c: u128 },
     /// As many lemmas as there may be conflicts, and beside them so many goals refuted before the one in hand.
     Spent { lemmas: u64, goal: u64, log: Log },
     /// At a cut that was found by the values of its variables the adder's outputs are the graph's on every evaluation,
@@ -22,14 +25,27 @@ pub enum Rewriting {
     Found(Cut),
 }
 
-/// The note: neither the graph with the adder is kept nor the lines that show its goals.
-pub(crate) fn note(rewritten: Rewritten<'_>) -> Rewriting
-    ensures { result ≡ note_of rewritten.entry }
+/// The note, where the claim has an addend or none: neither the graph with the adder is kept nor the lines that show its
+/// goals.
+pub(crate) fn note(add: bool, rewritten: Rewritten<'_>) -> Rewriting
+    ensures { result ≡ note_of add rewritten.entry }
 {
     match rewritten {
         Rewritten::Used { cut, .. } => Rewriting::Used(cut),
         Rewritten::None => Rewriting::None,
-        Rewritten::Differs { a, b } => Rewriting::Differs { a, b },
+        Rewritten::Differs(numbers) => differing(add, numbers),
         Rewritten::Spent { lemmas, goal, log } => Rewriting::Spent { lemmas, goal, log },
+    }
+}
+
+// The note that numbers differ.
+fn differing(add: bool, numbers: Numbers) -> Rewriting
+    ensures { result ≡ differing add numbers }
+{
+    let Numbers { a, b, c } = numbers;
+    if add {
+        Rewriting::DiffersSum { a, b, c }
+    } else {
+        Rewriting::Differs { a, b }
     }
 }

@@ -4,15 +4,23 @@ use aiger_reader::ReadFail;
 /// What `verify` says of a graph.
 #[derive(Debug, Drop)]
 pub enum Verdict {
-    /// The graph multiplies, and both certificates were written.
+    /// The graph does what is claimed, and both certificates were written.
     Proved,
     /// The least operands on which the graph differs, its value there, and the product modulo 2 ^ the number of
-    /// outputs.
+    /// outputs. Operands are told as their bits count unsigned.
     Wrong {
         a: u64,
         b: u64,
         value: u128,
         product: u128,
+    },
+    /// With an addend the same: the least operands and addend, the value there, and the product plus the addend.
+    WrongSum {
+        a: u64,
+        b: u64,
+        c: u128,
+        value: u128,
+        sum: u128,
     },
     /// All plans passed the budget: what was tried before the plain one, and the plain order's first frontier above it.
     Undecided {

@@ -5,7 +5,7 @@ ghost use Rattle.ripple_graft.specs.Blocks.{IsCut};
 use crate::chain::Search;
 use crate::raised::{Raised, raise};
 use crate::table::Table;
-use graph_core::{Graph, Memory, Operands};
+use graph_core::{Graph, Memory, Numbers, Operands};
 use ripple_graft::{Cut, GraftFail, Pairs, graft};
 use std::alloc::Global;
 
@@ -15,13 +15,13 @@ const MOST_VARIABLES: u32 = 65536;
 // So many variables for each pair are few.
 const NARROW: usize = 64;
 
-/// A cut with the least low column that was found: on some pairs of operands, the given ones among them, the outputs
+/// A cut with the least low column that was found: on some operands, the given ones among them, the outputs
 /// from there on are those of a ripple-carry adder over its pairs.
 pub fn candidate(
     alloc: Global,
     graph: &Graph,
     operands: &Operands,
-    given: &[(u64, u64)],
+    given: &[Numbers],
 ) -> Result<Option<Cut>, Memory>
     ensures { IfOk result (λ cut. IfSome cut (IsCut graph.now)) }
 {
@@ -40,7 +40,7 @@ fn guess(
     alloc: Global,
     graph: &Graph,
     operands: &Operands,
-    given: &[(u64, u64)],
+    given: &[Numbers],
 ) -> Result<Option<Cut>, Memory> {
     let table = Table::new(alloc, graph, operands, given)?;
     let mut search = Search::new(alloc, graph, &table)?;

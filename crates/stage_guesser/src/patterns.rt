@@ -1,28 +1,46 @@
-// Pairs of operands of several kinds.
+// Operands of several kinds, and addends.
 ghost use Rattle.std.specs.Prelude.{◌<◌};
 
 use crate::draws::Draws;
 use crate::signature::WORDS;
-use graph_core::Memory;
+use graph_core::{Memory, Numbers, Operands};
 use std::alloc::Global;
 
-/// As many pairs as signatures have values: the given ones, as far as they are at most half, and then drawn ones.
+/// As many numbers as signatures have values: the given ones, as far as they are at most half, and then drawn ones.
 pub(crate) fn patterns(
     alloc: Global,
-    bits: u32,
-    given: &[(u64, u64)],
-) -> Result<Vec<(u64, u64)>, Memory> {
+    operands: &Operands,
+    given: &[Numbers],
+) -> Result<Vec<Numbers>, Memory> {
     let mut draws = Draws::new();
     let mut patterns = Vec::new(alloc);
-    for (i, pair) in given.iter().enumerate() {
+    for (i, numbers) in given.iter().enumerate() {
         if i < WORDS * 32 {
-            patterns.push(*pair)?;
+            patterns.push(*numbers)?;
         }
     }
     for _pattern in patterns.len()..WORDS * 64 {
-        patterns.push(pair(&mut draws, bits))?;
+        patterns.push(numbers(&mut draws, operands))?;
     }
     Ok(patterns)
+}
+
+// Two operands, and an addend where there is one.
+fn numbers(draws: &mut Draws, operands: &Operands) -> Numbers {
+    let (a, b) = pair(draws, operands.bits());
+    let c = if operands.c_literals().is_empty() {
+        0
+    } else {
+        addend(draws)
+    };
+    Numbers { a, b, c }
+}
+
+// A number, of which an addend has the lowest bits.
+fn addend(draws: &mut Draws) -> u128 {
+    let high = u128::from(operand(draws, 64));
+    let low = u128::from(operand(draws, 64));
+    high << 64 | low
 }
 
 // Two numbers of at most so many bits: apart from one another, or such that a carry goes far.

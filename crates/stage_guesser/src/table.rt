@@ -1,9 +1,17 @@
 // The signatures of a graph's variables.
 use crate::patterns::patterns;
 use crate::signature::Signature;
-use graph_core::{Gate, Graph, Lit, Memory, Operands};
+use graph_core::{Gate, Graph, Lit, Memory, Numbers, Operands};
 use indexmap::IndexMap;
 use std::alloc::Global;
+
+// One of the words that the inputs are.
+#[derive(Clone, Copy)]
+enum Word {
+    A,
+    B,
+    C,
+}
 
 /// By variable its signature and that one's key; and by key the lowest of the variables that have it, or whose
 /// negations do.
@@ -17,15 +25,15 @@ pub(crate) struct Table {
 }
 
 impl Table {
-    /// The table of a graph on the given pairs of operands and drawn ones.
+    /// The table of a graph on the given numbers and drawn ones.
     pub(crate) fn new(
         alloc: Global,
         graph: &Graph,
         operands: &Operands,
-        given: &[(u64, u64)],
+        given: &[Numbers],
     ) -> Result<Table, Memory> {
         let order = by_level(alloc, graph)?;
-        let patterns = patterns(alloc, operands.bits(), given)?;
+        let patterns = patterns(alloc, operands, given)?;
         let size = graph.max() as usize + 1;
         let mut table = Table {
             signatures: vec![in alloc; Signature::zero(); size]?,
@@ -33,8 +41,9 @@ impl Table {
             lowest: IndexMap::new(alloc),
             ones: Signature::zero().negated_if(true).key(),
         };
-        table.set_operand(operands.a_literals(), &patterns, true);
-        table.set_operand(operands.b_literals(), &patterns, false);
+        table.set_word(operands.a_literals(), &patterns, Word::A);
+        table.set_word(operands.b_literals(), &patterns, Word::B);
+        table.set_word(operands.c_literals(), &patterns, Word::C);
         for (_level, v) in order.as_slice() {
             if *v <= graph.max() {
                 if let Some(gate) = graph.gate(*v) {
@@ -88,11 +97,11 @@ impl Table {
         key.min(key ^ self.ones)
     }
 
-    // The values of an operand's bits.
-    fn set_operand(&mut self, lits: &[Lit], patterns: &[(u64, u64)], first: bool) {
+    // The values of a word's bits.
+    fn set_word(&mut self, lits: &[Lit], patterns: &[Numbers], word: Word) {
         for (i, lit) in lits.iter().enumerate() {
             if let Some(signature) = self.signatures.get_mut(lit.var() as usize) {
-                *signature = bit_of(patterns, i, first);
+                *signature = bit_of(patterns, i, word);
             }
         }
     }
@@ -136,14 +145,22 @@ fn by_level(alloc: Global, graph: &Graph) -> Result<Vec<(u32, u32)>, Memory> {
     Ok(order)
 }
 
-// The values of a bit of an operand.
-fn bit_of(patterns: &[(u64, u64)], place: usize, first: bool) -> Signature {
+// The values of a bit of a word.
+fn bit_of(patterns: &[Numbers], place: usize, word: Word) -> Signature {
     let mut signature = Signature::zero();
-    for (pattern, (a, b)) in patterns.iter().enumerate() {
-        let operand = if first { *a } else { *b };
-        if place < 64 && (operand >> place as u32) % 2 == 1 {
+    for (pattern, numbers) in patterns.iter().enumerate() {
+        if has_bit(numbers, word, place) {
             signature.set(pattern);
         }
     }
     signature
+}
+
+// Whether a bit of a word is one.
+fn has_bit(numbers: &Numbers, word: Word, place: usize) -> bool {
+    match word {
+        Word::A => place < 64 && (numbers.a >> place as u32) % 2 == 1,
+        Word::B => place < 64 && (numbers.b >> place as u32) % 2 == 1,
+        Word::C => place < 128 && (numbers.c >> place as u32) % 2 == 1,
+    }
 }

@@ -1,11 +1,11 @@
 -- An adder whose goals are all refuted is used, and operands at which one fails are a difference.
-use Rattle.std.specs.Prelude.{◌≡◌, ℕ, ◌^◌, ◌<◌, Bool, List, length, map}
+use Rattle.std.specs.Prelude.{◌≡◌, ℕ, Bool, List, length, map}
 use Rattle.std.proofs.Common.{sym, ap, subst, ◌∙◌, arith}
 use Rattle.graph_core.specs.Algebra.{AgreeOnColumns}
 use Rattle.graph_core.specs.Graph.{Aig, IsEvaluation}
 use Rattle.graph_core.specs.Graph.Assignments.{literal}
-use Rattle.graph_core.specs.Graph.Operands.{inputs_of, width}
-use Rattle.graph_core.specs.declared.order.Order.{Order}
+use Rattle.graph_core.specs.Graph.Operands.{Sides, AreInRange, inputs_at}
+use Rattle.graph_core.specs.declared.numbers.Numbers.{Numbers}
 use Rattle.graph_core.specs.Graph.Extended.{Extended}
 use Rattle.ripple_graft.specs.Blocks.{IsCut, with_cut}
 use Rattle.ripple_graft.specs.declared.cut.Cut.{Cut}
@@ -30,12 +30,11 @@ shown g conflicts cut e log is_cut is h =
     let few = lines_few e conflicts log h in
     record { fits = is_cut; extended_is = is; lawful = lawful_lines e conflicts log h; few = omega arith }
 
--- operands at which an old and a new output differ
-pub differs : (g : Aig) (order : Order) (cut : Cut) (e : Extended) (values : List Bool) (a b : ℕ) → e ≡ with_cut g cut → IsDiffering e values → map (literal (assignment_of values)) g.inputs ≡ inputs_of order (width g) a b →
-    a < 2 ^ width g → b < 2 ^ width g → IsDifference (with_cut g cut) order a b
-differs g order cut e values a b is h inputs a_below b_below = record {
-  a_below = a_below;
-  b_below = b_below;
+-- numbers at which an old and a new output differ
+pub differs : (g : Aig) (s : Sides) (cut : Cut) (e : Extended) (values : List Bool) (x : Numbers) → e ≡ with_cut g cut → IsDiffering e values → map (literal (assignment_of values)) g.inputs ≡ inputs_at s x →
+    AreInRange s x → IsDifference (with_cut g cut) s x
+differs g s cut e values x is h inputs range = record {
+  range = range;
   values = assignment_of values;
   evaluation = subst (λ (x : Extended). IsEvaluation x.gates (assignment_of values)) is h.evaluation;
   inputs = inputs;
@@ -43,13 +42,13 @@ differs g order cut e values a b is h inputs a_below b_below = record {
 }
 
 -- What comes of it at the final stage.
-pub at_stage : (g : Aig) (order : Order) (conflicts : ℕ) (cut : Cut) → IsFinalStage g cut → (r : Rewritten) → IsRewritingAt g order conflicts cut r → IsRewriting g order conflicts r
-at_stage g order conflicts cut stage (kind.Used at e log) h = record {
+pub at_stage : (g : Aig) (s : Sides) (conflicts : ℕ) (cut : Cut) → IsFinalStage g cut → (r : Rewritten) → IsRewritingAt g s conflicts cut r → IsRewriting g s conflicts r
+at_stage g s conflicts cut stage (kind.Used at e log) h = record {
   stage = subst (IsFinalStage g) (sym h.0) stage;
   extended_is = h.1.extended_is;
   lawful = h.1.lawful;
   few = h.1.few;
 }
-at_stage g order conflicts cut stage kind.None h = absurd h
-at_stage g order conflicts cut stage (kind.Differs a b) h = (cut, stage, h)
-at_stage g order conflicts cut stage (kind.Spent lemmas goal log) h = (cut, stage, h)
+at_stage g s conflicts cut stage kind.None h = absurd h
+at_stage g s conflicts cut stage (kind.Differs x) h = (cut, stage, h)
+at_stage g s conflicts cut stage (kind.Spent lemmas goal log) h = (cut, stage, h)

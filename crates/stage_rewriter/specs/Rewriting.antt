@@ -1,11 +1,11 @@
 -- What comes of putting a ripple-carry adder in place of a graph's final stage.
-use Rattle.std.specs.Prelude.{◌≡◌, ℕ, ◌+◌, ◌*◌, ◌^◌, ◌<◌, ◌≤◌, List, length, map}
+use Rattle.std.specs.Prelude.{◌≡◌, ℕ, ◌+◌, ◌*◌, ◌≤◌, List, length, map}
 use Rattle.graph_core.specs.Algebra.{AgreeOnColumns}
 use Rattle.graph_core.specs.Graph.{Aig, IsEvaluation}
 use Rattle.graph_core.specs.Graph.Assignments.{Assignment, literal}
 use Rattle.graph_core.specs.Graph.Extended.{Extended}
-use Rattle.graph_core.specs.Graph.Operands.{inputs_of, width}
-use Rattle.graph_core.specs.declared.order.Order.{Order}
+use Rattle.graph_core.specs.Graph.Operands.{Sides, AreInRange, inputs_at}
+use Rattle.graph_core.specs.declared.numbers.Numbers.{Numbers}
 use Rattle.mv_fact.specs.Always.{Always}
 use Rattle.ripple_graft.specs.Blocks.{IsCut, with_cut}
 use Rattle.ripple_graft.specs.declared.cut.Cut.{Cut}
@@ -29,32 +29,31 @@ pub record IsUsed (g : Aig) (conflicts : ℕ) (cut : Cut) (extended : Extended) 
   pub lawful : AreLawfulClauseLines extended lines
   pub few : length lines ≤ 2 * (conflicts + 2 * length g.outputs)
 
--- An evaluation with these operands at the inputs, on which an old and a new output differ.
-pub record IsDifference (e : Extended) (order : Order) (a b : ℕ) : Type 0 where
-  pub a_below : a < 2 ^ width e.graph
-  pub b_below : b < 2 ^ width e.graph
+-- An evaluation with these operands and this addend at the inputs, on which an old and a new output differ.
+pub record IsDifference (e : Extended) (s : Sides) (x : Numbers) : Type 0 where
+  pub range : AreInRange s x
   pub values : Assignment
   pub evaluation : IsEvaluation e.gates values
-  pub inputs : map (literal values) e.graph.inputs ≡ inputs_of order (width e.graph) a b
+  pub inputs : map (literal values) e.graph.inputs ≡ inputs_at s x
   pub differ : ¬ (AgreeOnColumns e values)
 
 -- What comes of it at a cut: each kind by its cause.
-abbrev pub IsRewritingAt : Aig → Order → ℕ → Cut → Rewritten → Type 0
-IsRewritingAt g order conflicts at (kind.Used cut extended log) = (cut ≡ at) × IsShown g conflicts cut extended log.lines
-IsRewritingAt g order conflicts at kind.None = ⊥
-IsRewritingAt g order conflicts at (kind.Differs a b) = IsDifference (with_cut g at) order a b
-IsRewritingAt g order conflicts at (kind.Spent lemmas goal log) = IsSpent (with_cut g at) conflicts lemmas goal log
+abbrev pub IsRewritingAt : Aig → Sides → ℕ → Cut → Rewritten → Type 0
+IsRewritingAt g s conflicts at (kind.Used cut extended log) = (cut ≡ at) × IsShown g conflicts cut extended log.lines
+IsRewritingAt g s conflicts at kind.None = ⊥
+IsRewritingAt g s conflicts at (kind.Differs x) = IsDifference (with_cut g at) s x
+IsRewritingAt g s conflicts at (kind.Spent lemmas goal log) = IsSpent (with_cut g at) conflicts lemmas goal log
 
 -- And at the final stage.
-abbrev pub IsRewriting : Aig → Order → ℕ → Rewritten → Type 0
-IsRewriting g order conflicts (kind.Used cut extended log) = IsUsed g conflicts cut extended log.lines
-IsRewriting g order conflicts kind.None = (cut : Cut) → ¬ (IsFinalStage g cut)
-IsRewriting g order conflicts (kind.Differs a b) = (cut : Cut) × IsFinalStage g cut × IsDifference (with_cut g cut) order a b
-IsRewriting g order conflicts (kind.Spent lemmas goal log) = (cut : Cut) × IsFinalStage g cut × IsSpent (with_cut g cut) conflicts lemmas goal log
+abbrev pub IsRewriting : Aig → Sides → ℕ → Rewritten → Type 0
+IsRewriting g s conflicts (kind.Used cut extended log) = IsUsed g conflicts cut extended log.lines
+IsRewriting g s conflicts kind.None = (cut : Cut) → ¬ (IsFinalStage g cut)
+IsRewriting g s conflicts (kind.Differs x) = (cut : Cut) × IsFinalStage g cut × IsDifference (with_cut g cut) s x
+IsRewriting g s conflicts (kind.Spent lemmas goal log) = (cut : Cut) × IsFinalStage g cut × IsSpent (with_cut g cut) conflicts lemmas goal log
 
 -- Where the adder is used, the old and the new outputs are equal on every evaluation.
 abbrev pub Agrees : Rewritten → Type 0
 Agrees (kind.Used cut extended log) = Always extended.gates (AgreeOnColumns extended)
 Agrees kind.None = Unit {0}
-Agrees (kind.Differs a b) = Unit {0}
+Agrees (kind.Differs x) = Unit {0}
 Agrees (kind.Spent lemmas goal log) = Unit {0}

@@ -1,33 +1,32 @@
-// The operands that an evaluation has at the inputs.
-ghost use Rattle.std.specs.Prelude.{◌≡◌, ◌<◌, ◌≤◌, ◌^◌, length, map, IfOk};
+// The operands and the addend that an evaluation has at the inputs.
+ghost use Rattle.std.specs.Prelude.{◌≡◌, ◌<◌, ◌≤◌, length, map, IfOk};
 ghost use Rattle.graph_core.specs.Graph.Assignments.{literal};
 ghost use Rattle.graph_core.specs.Graph.Literals.{variable_of};
-ghost use Rattle.graph_core.specs.Graph.Operands.{AreOperandsOf, HasMultiplierShape, inputs_of, width};
+ghost use Rattle.graph_core.specs.Graph.Operands.{AreInRange, AreOperandsOf, HasShapeFor, inputs_at};
 ghost use Rattle.cdcl_core.specs.Solving.{assignment_of};
 
-use graph_core::{Graph, Lit, Memory, Operands};
+use graph_core::{Graph, Lit, Memory, Numbers, Operands};
 use std::alloc::Global;
 
-/// The operands that the values have at the inputs, that of variable v at place v - 1.
-pub fn operands_of(
+/// The operands and the addend that the values have at the inputs, that of variable v at place v - 1.
+pub fn numbers_of(
     alloc: Global,
     graph: &Graph,
     operands: &Operands,
     values: &[bool],
-) -> Result<(u64, u64), Memory>
-    requires shape { HasMultiplierShape graph.now }
+) -> Result<Numbers, Memory>
+    requires shape { HasShapeFor operands.now.claim.add graph.now }
     requires operands { AreOperandsOf graph.now operands.now }
     requires all { graph.now.max ≤ length values.now }
-    ensures inputs { IfOk result (λ pair. map (literal (assignment_of values.now)) graph.now.inputs ≡
-        inputs_of operands.now.order (width graph.now) pair.0 pair.1) }
-    ensures a { IfOk result (λ pair. pair.0 < 2 ^ width graph.now) }
-    ensures b { IfOk result (λ pair. pair.1 < 2 ^ width graph.now) }
+    ensures inputs { IfOk result (λ x.
+        map (literal (assignment_of values.now)) graph.now.inputs ≡ inputs_at operands.now x) }
+    ensures range { IfOk result (AreInRange operands.now) }
 {
     let mut inputs = Vec::new(alloc);
     for &lit in graph.input_literals() {
         inputs.push(value_of(values, lit))?;
     }
-    Ok(operands.pair_of(&inputs))
+    Ok(operands.numbers_of(&inputs))
 }
 
 // the value of a literal that is no constant

@@ -2,7 +2,7 @@
 //!
 //! `rewrite` looks for the final stage, grafts the adder, and has the negation of each goal refuted, column by column
 //! upward, within a budget of conflicts. What it answers is one of four kinds, each by its cause: the lines of a
-//! lawful clause certificate, no final stage, operands at which an output differs, or a spent budget with the log that
+//! lawful clause certificate, no final stage, numbers at which an output differs, or a spent budget with the log that
 //! spent it. `rewrite_at` does the same with any cut in place of the final stage.
 //!
 //! *Final stage*: `specs/FinalStage.antt` of `slice_finder`. *Goals*, *lawful lines*, *lemma*: `GateClauses`,

@@ -1,16 +1,16 @@
 // A graph's final stage, and a ripple-carry adder in its place.
 ghost use Rattle.std.specs.Prelude.{◌≡◌, ℕ, IfOk};
 ghost use Rattle.graph_core.specs.Graph.{Aig};
-ghost use Rattle.graph_core.specs.Graph.Operands.{AreOperandsOf, HasMultiplierShape};
+ghost use Rattle.graph_core.specs.Graph.Operands.{AreOperandsOf, HasShapeFor};
 ghost use Rattle.ripple_graft.specs.Blocks.{IsCut, with_cut};
 ghost use Rattle.slice_finder.specs.FinalStage.{IsFinalStage};
 ghost use Rattle.stage_rewriter.specs.Rewriting.{Agrees, IsRewriting, IsRewritingAt};
 
-use crate::difference::operands_of;
+use crate::difference::numbers_of;
 use crate::outcome::refute_all;
 use cdcl_core::Log;
 use goal_refuter::Outcome;
-use graph_core::{Graph, Memory, Operands};
+use graph_core::{Graph, Memory, Numbers, Operands};
 use ripple_graft::{Cut, Extended, GraftFail, graft};
 use slice_finder::final_stage;
 use std::alloc::Global;
@@ -30,11 +30,8 @@ pub enum Rewritten<'a> {
     },
     /// There is no final stage.
     None,
-    /// Operands at which an output of the adder isn't the graph's.
-    Differs {
-        a: u64,
-        b: u64,
-    },
+    /// Operands and an addend at which an output of the adder isn't the graph's.
+    Differs(Numbers),
     /// As many lemmas as there may be conflicts, and beside them the goals that were refuted before the one in hand.
     Spent {
         lemmas: u64,
@@ -51,9 +48,9 @@ pub fn rewrite<'a>(
     operands: &Operands,
     conflicts: u64,
 ) -> Result<Rewritten<'a>, Memory>
-    requires shape { HasMultiplierShape graph.now }
+    requires shape { HasShapeFor operands.now.claim.add graph.now }
     requires operands { AreOperandsOf graph.now operands.now }
-    ensures rewriting { IfOk result (IsRewriting graph.now operands.now.order conflicts) }
+    ensures rewriting { IfOk result (IsRewriting graph.now operands.now conflicts) }
     ensures agrees { IfOk result Agrees }
 {
     match final_stage(alloc, graph)? {
@@ -72,9 +69,9 @@ pub fn rewrite_at<'a>(
     cut: Cut,
 ) -> Result<Rewritten<'a>, Memory>
     requires cut { IsCut graph.now cut }
-    requires shape { HasMultiplierShape graph.now }
+    requires shape { HasShapeFor operands.now.claim.add graph.now }
     requires operands { AreOperandsOf graph.now operands.now }
-    ensures rewriting { IfOk result (IsRewritingAt graph.now operands.now.order conflicts cut) }
+    ensures rewriting { IfOk result (IsRewritingAt graph.now operands.now conflicts cut) }
     ensures agrees { IfOk result Agrees }
 {
     rewrite_near(alloc, graph, operands, conflicts, cut, DEPTH)
@@ -90,17 +87,17 @@ fn rewrite_near<'a>(
     depth: u32,
 ) -> Result<Rewritten<'a>, Memory>
     requires cut { IsCut graph.now cut }
-    requires shape { HasMultiplierShape graph.now }
+    requires shape { HasShapeFor operands.now.claim.add graph.now }
     requires operands { AreOperandsOf graph.now operands.now }
-    ensures rewriting { IfOk result (IsRewritingAt graph.now operands.now.order conflicts cut) }
+    ensures rewriting { IfOk result (IsRewritingAt graph.now operands.now conflicts cut) }
     ensures agrees { IfOk result Agrees }
 {
     let extended = grafted(alloc, graph, &cut)?;
     match refute_all(alloc, &extended, &cut, depth, conflicts)? {
         Outcome::Refuted(log) => Ok(Rewritten::Used { cut, extended, log }),
         Outcome::Model(values) => {
-            let (a, b) = operands_of(alloc, graph, operands, &values)?;
-            Ok(Rewritten::Differs { a, b })
+            let numbers = numbers_of(alloc, graph, operands, &values)?;
+            Ok(Rewritten::Differs(numbers))
         }
         Outcome::Spent(goal, log) => Ok(Rewritten::Spent {
             lemmas: conflicts,
@@ -119,9 +116,9 @@ fn replace<'a>(
     cut: Cut,
 ) -> Result<Rewritten<'a>, Memory>
     requires stage { IsFinalStage graph.now cut }
-    requires shape { HasMultiplierShape graph.now }
+    requires shape { HasShapeFor operands.now.claim.add graph.now }
     requires operands { AreOperandsOf graph.now operands.now }
-    ensures rewriting { IfOk result (IsRewriting graph.now operands.now.order conflicts) }
+    ensures rewriting { IfOk result (IsRewriting graph.now operands.now conflicts) }
     ensures agrees { IfOk result Agrees }
 {
     // without faults

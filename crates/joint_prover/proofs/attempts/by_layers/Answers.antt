@@ -1,9 +1,9 @@
-use Rattle.std.proofs.Common.{ℕ, ap, sym, subst, ◌∙◌}
+use Rattle.std.proofs.Common.{ap, sym, subst}
 use Rattle.std.specs.Prelude.{IfSome, Some}
-use Rattle.graph_core.specs.Aiger.Soundness.{IsMultiplierSized}
+use Rattle.graph_core.specs.Aiger.Soundness.{IsSizedAs}
 use Rattle.graph_core.specs.Graph.{Aig}
 use Rattle.graph_core.specs.Graph.Extended.{Extended}
-use Rattle.graph_core.specs.Graph.Operands.{sides_of}
+use Rattle.graph_core.specs.Graph.Operands.{AreOperandsOf, profile_of}
 use Rattle.stage_rewriter.specs.Rewriting.{IsShown}
 use Rattle.joint_checker.specs.Files.{files_of}
 use Rattle.joint_prover.specs.Endings.{IsEnded}
@@ -12,50 +12,60 @@ use Rattle.joint_prover.proofs.Starting.{starts}
 use Rattle.joint_prover.proofs.Telling.{Tells, told_over}
 use Rattle.joint_prover.proofs.attempts.by_layers.Goals as goal
 
+pub new_lines-requires : goal.new_lines-requires
+new_lines-requires g c = record {
+  sized = subst (IsSizedAs (profile_of c.args.job.now.operands.now.claim.add)) (sym (ap (λ (x : Extended). x.graph) c.requires.shown.extended_is)) c.requires.job.sized;
+}
+
 pub reduced_by_layers-requires : goal.reduced_by_layers-requires
 reduced_by_layers-requires g c =
+    let job = c.args.job.now in
     let e = c.args.extended.now in
-    let below = ap (λ (x : Extended). x.graph) c.requires.shown.1.extended_is in
-    starts c.in_ok-lines.lines e c.args.operands.now c.in_ok-lines.ensures.fresh (c.requires.operands ∙ sym (ap (sides_of c.args.operands.now.order) below))
-    (subst IsMultiplierSized (sym below) c.requires.sized) c.new_lines.ensures.extension c.requires.agree
+    let claim = job.operands.now.claim in
+    let below = ap (λ (x : Extended). x.graph) c.requires.shown.extended_is in
+    starts c.in_ok-lines.lines e job.operands.now c.in_ok-lines.ensures.fresh (subst (λ h. AreOperandsOf h job.operands.now) (sym below) c.requires.job.operands)
+    (subst (IsSizedAs (profile_of claim.add)) (sym below) c.requires.job.sized) c.new_lines.ensures.extension c.requires.agree
 
 pub told-requires : goal.told-requires
 told-requires g c =
+    let job = c.args.job.now in
     let e = c.args.extended.now in
-    let order = c.args.operands.now.order in
+    let claim = job.operands.now.claim in
     let start = c.in_ok-lines.lines in
     let fresh = c.in_ok-lines.ensures.fresh in
     let l = c.reduced_by_layers.new.lines in
     let end = c.in-Some.ending in
-    let below = ap (λ (x : Extended). x.graph) c.requires.shown.1.extended_is in
-    let ended = subst (λ o. IfSome o (IsEnded start.extended start.sides.order l)) c.in-Some.is c.in_ok-ending.ensures in
+    let below = ap (λ (x : Extended). x.graph) c.requires.shown.extended_is in
+    let ended = subst (λ o. IfSome o (IsEnded start.extended start.sides.claim l)) c.in-Some.is c.in_ok-ending.ensures in
     record {
       ended = (
         e,
-        order,
-        subst IsMultiplierSized (sym below) c.requires.sized,
-        subst (λ s. IsEnded e s.order l end) fresh.sides (subst (λ x. IsEnded x start.sides.order l end) fresh.extended ended),
+        claim,
+        subst (IsSizedAs (profile_of claim.add)) (sym below) c.requires.job.sized,
+        subst (λ s. IsEnded e s.claim l end) fresh.sides (subst (λ x. IsEnded x start.sides.claim l end) fresh.extended ended),
       );
     }
 
 pub returns-in-Some-clause-told : goal.returns-in-Some-clause-told
 returns-in-Some-clause-told g c =
+    let job = c.args.job.now in
     let e = c.args.extended.now in
-    let order = c.args.operands.now.order in
-    let files = files_of c.args.names.now in
-    let a = g.D.Desk.seen c.args.desk.now in
-    let b = g.D.Desk.seen c.told.new.desk in
+    let claim = job.operands.now.claim in
     let start = c.in_ok-lines.lines in
     let fresh = c.in_ok-lines.ensures.fresh in
     let l = c.reduced_by_layers.new.lines in
     let end = c.in-Some.ending in
+    let below = ap (λ (x : Extended). x.graph) c.requires.shown.extended_is in
+    let ended = subst (λ o. IfSome o (IsEnded start.extended start.sides.claim l)) c.in-Some.is c.in_ok-ending.ensures in
+    let files = files_of job.names.now in
+    let a = g.D.Desk.seen c.args.desk.now in
+    let b = g.D.Desk.seen c.told.new.desk in
     let v = c.in_ok-verdict-in-Some.verdict in
     let cut = c.args.cut.now in
     let log = c.args.log.now.lines in
-    let below = ap (λ (x : Extended). x.graph) c.requires.shown.1.extended_is in
-    let ended = subst (λ o. IfSome o (IsEnded start.extended start.sides.order l)) c.in-Some.is c.in_ok-ending.ensures in
-    subst (λ (h : Aig). (conflicts : ℕ) → IsShown h conflicts cut e log → IsToldOver h order conflicts (Some cut) files a b v) below
-    (told_over files a b l end v e order
-    (subst (λ s. IsEnded e s.order l end) fresh.sides (subst (λ x. IsEnded x start.sides.order l end) fresh.extended ended))
-    cut log (subst IsMultiplierSized (sym below) c.requires.sized) c.new_lines.ensures.extension.graph
-    (subst (λ ls. Tells (Some cut) ls l end files a b v) c.lines-in-Some.ensures.lines c.in_ok-verdict-in-Some.ensures.verdict))
+    subst (λ (h : Aig). IsShown h job.conflicts cut e log → IsToldOver h claim job.conflicts (Some cut) files a b v) below
+    (told_over files a b l end v e claim
+    (subst (λ s. IsEnded e s.claim l end) fresh.sides (subst (λ x. IsEnded x start.sides.claim l end) fresh.extended ended))
+    cut log (subst (IsSizedAs (profile_of claim.add)) (sym below) c.requires.job.sized) c.new_lines.ensures.extension.graph
+    (subst (λ ls. Tells (Some cut) ls l end files a b v) c.lines-in-Some.ensures.lines c.in_ok-verdict-in-Some.ensures.verdict) job.conflicts)
+    c.requires.shown

@@ -1,14 +1,32 @@
-use Rattle.std.proofs.Common.{ℕ, false, refl, subst, ◌∙◌}
+use Rattle.std.proofs.Common.{false, refl, sym, subst, ◌∙◌}
+use Rattle.graph_core.specs.Aiger.Soundness.{IsSizedAs}
 use Rattle.graph_core.specs.Graph.Extended.{Extended, without_cut}
+use Rattle.graph_core.specs.Graph.Operands.{profile_of}
+use Rattle.pac_writer.specs.Writing.{IsFresh}
+use Rattle.ripple_graft.specs.Extension.{IsExtension}
 use Rattle.joint_checker.specs.Files.{files_of}
 use Rattle.joint_prover.specs.Endings.{IsEnded, IsSliced}
 use Rattle.joint_prover.specs.Tries.{IsAbove}
+use Rattle.joint_prover.proofs.Starting.{starts_alone}
 use Rattle.joint_prover.proofs.Telling.{told_alone}
 use Rattle.joint_prover.proofs.attempts.over_alone.Goals as goal
 
+pub new_lines-requires : goal.new_lines-requires
+new_lines-requires g c = record {
+  sized = subst (λ (x : Extended). IsSizedAs (profile_of c.args.job.now.operands.now.claim.add) x.graph) (sym c.without_cut-extended.ensures) c.requires.sized;
+}
+
+pub reduced_by_slices-requires : goal.reduced_by_slices-requires
+reduced_by_slices-requires g c =
+    let job = c.args.job.now in
+    let lone = c.without_cut-extended.ensures in
+    starts_alone c.in_ok-lines.lines job.graph.now job.operands.now (subst (λ (x : Extended). IsFresh x job.operands.now c.in_ok-lines.lines) lone c.in_ok-lines.ensures.fresh)
+    c.requires.operands c.requires.sized (subst IsExtension lone c.new_lines.ensures.extension)
+
 pub told-requires : goal.told-requires
 told-requires g c =
-    let e = without_cut c.args.graph.now in
+    let job = c.args.job.now in
+    let e = without_cut job.graph.now in
     let start = c.in_ok-lines.lines in
     let fresh = c.in_ok-lines.ensures.fresh in
     let same = fresh.extended ∙ c.without_cut-extended.ensures in
@@ -18,35 +36,36 @@ told-requires g c =
     record {
       ended = (
         e,
-        c.args.operands.now.order,
+        job.operands.now.claim,
         c.requires.sized,
-        subst (λ s. IsEnded e s.order l end) fresh.sides (subst (λ x. IsEnded x start.sides.order l end) same ended),
+        subst (λ s. IsEnded e s.claim l end) fresh.sides (subst (λ x. IsEnded x start.sides.claim l end) same ended),
       );
     }
 
 pub returns-in-Ended-clause-over : goal.returns-in-Ended-clause-over
 returns-in-Ended-clause-over g c =
-    let e = without_cut c.args.graph.now in
+    let job = c.args.job.now in
+    let e = without_cut job.graph.now in
     let start = c.in_ok-lines.lines in
     let fresh = c.in_ok-lines.ensures.fresh in
     let same = fresh.extended ∙ c.without_cut-extended.ensures in
     let l = c.reduced_by_slices.new.lines in
     let end = c.in-Ended.ending in
     let ended = subst (IsSliced start c.args.budget false l) c.in-Ended.is c.in_ok-ending.ensures in
-    told_alone (files_of c.args.names.now) (g.D.Desk.seen c.args.desk.now) (g.D.Desk.seen c.told.new.desk) l end c.in_ok-verdict-in-Ended.verdict e c.args.operands.now.order
-    (subst (λ s. IsEnded e s.order l end) fresh.sides (subst (λ x. IsEnded x start.sides.order l end) same ended))
-    refl c.in_ok-verdict-in-Ended.ensures.verdict
+    told_alone (files_of job.names.now) (g.D.Desk.seen c.args.desk.now) (g.D.Desk.seen c.told.new.desk) l end c.in_ok-verdict-in-Ended.verdict e job.operands.now.claim
+    (subst (λ s. IsEnded e s.claim l end) fresh.sides (subst (λ x. IsEnded x start.sides.claim l end) same ended))
+    refl c.in_ok-verdict-in-Ended.ensures.verdict job.conflicts
 
 pub returns-clause-over : goal.returns-clause-over
 returns-clause-over g c =
+    let job = c.args.job.now in
     let start = c.in_ok-lines.lines in
     let fresh = c.in_ok-lines.ensures.fresh in
     let same = fresh.extended ∙ c.without_cut-extended.ensures in
     let sides = fresh.sides ∙ c.requires.operands in
     let l = c.reduced_by_slices.new.lines in
     let last = c.in-Passed.tried in
-    let passed = subst (IsSliced start c.args.budget false l) c.in-Passed.is c.in_ok-ending.ensures in
-    λ conflicts. (
-      record { rewritten = passed.0; above = subst (λ s. IsAbove (without_cut c.args.graph.now) s c.args.budget last) sides (subst (λ x. IsAbove x start.sides c.args.budget last) same passed.1) },
+    let passed = subst (IsSliced start c.args.budget false l) c.in-Passed.is c.in_ok-ending.ensures in (
+      record { rewritten = passed.0; above = subst (λ s. IsAbove (without_cut job.graph.now) s c.args.budget last) sides (subst (λ x. IsAbove x start.sides c.args.budget last) same passed.1) },
       refl,
     )

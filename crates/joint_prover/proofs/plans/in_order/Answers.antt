@@ -1,37 +1,57 @@
-use Rattle.std.proofs.Common.{refl, subst, ◌∙◌}
-use Rattle.graph_core.specs.Graph.Extended.{without_cut}
+use Rattle.std.proofs.Common.{refl, sym, subst, ◌∙◌}
+use Rattle.graph_core.specs.Aiger.Soundness.{IsSizedAs}
+use Rattle.graph_core.specs.Graph.Extended.{Extended, without_cut}
+use Rattle.graph_core.specs.Graph.Operands.{profile_of}
+use Rattle.pac_writer.specs.Writing.{IsFresh}
+use Rattle.ripple_graft.specs.Extension.{IsExtension}
 use Rattle.joint_checker.specs.Files.{files_of}
 use Rattle.joint_prover.specs.Endings.{IsEnded, IsPlain}
+use Rattle.joint_prover.specs.Parts.{task_of}
+use Rattle.joint_prover.proofs.Starting.{starts_alone}
 use Rattle.joint_prover.proofs.Telling.{tells_last}
 use Rattle.joint_prover.proofs.plans.in_order.Goals as goal
 
+pub new_lines-requires : goal.new_lines-requires
+new_lines-requires g c = record {
+  sized = subst (λ (x : Extended). IsSizedAs (profile_of c.args.job.now.operands.now.claim.add) x.graph) (sym c.without_cut-extended.ensures) c.requires.job.sized;
+}
+
+pub reduced_plainly-requires-clause-start : goal.reduced_plainly-requires-clause-start
+reduced_plainly-requires-clause-start g c =
+    let job = c.args.job.now in
+    let lone = c.without_cut-extended.ensures in
+    starts_alone c.in_ok-lines.lines job.graph.now job.operands.now (subst (λ (x : Extended). IsFresh x job.operands.now c.in_ok-lines.lines) lone c.in_ok-lines.ensures.fresh)
+    c.requires.job.operands c.requires.job.sized (subst IsExtension lone c.new_lines.ensures.extension)
+
 pub told-requires : goal.told-requires
 told-requires g c =
-    let e = without_cut c.args.graph.now in
+    let job = c.args.job.now in
+    let e = without_cut job.graph.now in
     let start = c.in_ok-lines.lines in
     let fresh = c.in_ok-lines.ensures.fresh in
     let same = fresh.extended ∙ c.without_cut-extended.ensures in
     let l = c.reduced_plainly.new.lines in
     let end = c.in-Ended.ending in
-    let ended = subst (IsPlain start c.args.budget l) c.in-Ended.is c.in_ok-ending.ensures in
+    let ended = subst (IsPlain start job.budget l) c.in-Ended.is c.in_ok-ending.ensures in
     record {
       ended = (
         e,
-        c.args.operands.now.order,
-        c.requires.sized,
-        subst (λ s. IsEnded e s.order l end) fresh.sides (subst (λ x. IsEnded x start.sides.order l end) same ended),
+        job.operands.now.claim,
+        c.requires.job.sized,
+        subst (λ s. IsEnded e s.claim l end) fresh.sides (subst (λ x. IsEnded x start.sides.claim l end) same ended),
       );
     }
 
 pub returns-in-Ended-clause-verdict : goal.returns-in-Ended-clause-verdict
 returns-in-Ended-clause-verdict g c =
-    let e = without_cut c.args.graph.now in
+    let job = c.args.job.now in
+    let e = without_cut job.graph.now in
     let start = c.in_ok-lines.lines in
     let fresh = c.in_ok-lines.ensures.fresh in
     let same = fresh.extended ∙ c.without_cut-extended.ensures in
     let l = c.reduced_plainly.new.lines in
     let end = c.in-Ended.ending in
-    let ended = subst (IsPlain start c.args.budget l) c.in-Ended.is c.in_ok-ending.ensures in
-    tells_last (files_of c.args.names.now) (g.D.Desk.seen c.args.desk.now) (g.D.Desk.seen c.told.new.desk) l end c.told.result e c.args.operands.now.order c.args.budget
-    (subst (λ s. IsEnded e s.order l end) fresh.sides (subst (λ x. IsEnded x start.sides.order l end) same ended))
+    let ended = subst (IsPlain start job.budget l) c.in-Ended.is c.in_ok-ending.ensures in
+    tells_last (files_of job.names.now) (g.D.Desk.seen c.args.desk.now) (g.D.Desk.seen c.told.new.desk) l end c.told.result e (task_of job)
+    (subst (λ s. IsEnded e s.claim l end) fresh.sides (subst (λ x. IsEnded x start.sides.claim l end) same ended))
     c.args.tried.items refl c.told.ensures.verdict

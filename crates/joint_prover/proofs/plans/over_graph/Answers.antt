@@ -1,54 +1,58 @@
-use Rattle.std.proofs.Common.{◌≡◌, ℕ, subst}
+use Rattle.std.proofs.Common.{◌≡◌, subst}
 use Rattle.std.specs.Prelude.{IfOk, None, OnErr, Option}
 use Rattle.joint_checker.specs.Files.{files_of}
 use Rattle.ripple_graft.specs.declared.cut.Cut.{Cut}
-use Rattle.joint_prover.specs.Parts.{IsAttempt, IsOfGraph}
+use Rattle.joint_prover.specs.Parts.{IsAttempt, IsOfGraph, task_of}
 use Rattle.joint_prover.specs.Tries.{AreTried}
 use Rattle.joint_prover.proofs.Telling.{ends_behind, on_err, told_of, tried_more}
 use Rattle.joint_prover.proofs.plans.over_graph.Goals as goal
 
 pub returns-in-Told-clause-verdict : goal.returns-in-Told-clause-verdict
 returns-in-Told-clause-verdict g c =
-    let graph = c.args.graph.now in
-    let order = c.args.operands.now.order in
-    let files = files_of c.args.names.now in
+    let job = c.args.job.now in
+    let graph = job.graph.now in
+    let claim = job.operands.now.claim in
+    let files = files_of job.names.now in
     let a = g.D.Desk.seen c.args.desk.now in
     let b = g.D.Desk.seen c.over_alone.new.desk in
-    λ conflicts used tried.
-    told_of files a b graph order c.args.budget conflicts used None c.in-Told.verdict (ends_behind graph order c.args.budget used c.args.tried.items tried)
-    (subst (IsAttempt graph order c.args.budget conflicts None files a b) c.in-Told.is (c.in_ok-verdict.ensures.over conflicts))
+    λ used tried.
+    told_of files a b graph (task_of job) used None c.in-Told.verdict (ends_behind graph claim job.budget used c.args.tried.items tried)
+    (subst (IsAttempt graph claim job.budget job.conflicts None files a b) c.in-Told.is c.in_ok-verdict.ensures.over)
 
 pub returns-in_ok-push-in-Passed-clause-verdict : goal.returns-in_ok-push-in-Passed-clause-verdict
 returns-in_ok-push-in-Passed-clause-verdict g c =
-    let graph = c.args.graph.now in
-    let order = c.args.operands.now.order in
-    let files = files_of c.args.names.now in
+    let job = c.args.job.now in
+    let graph = job.graph.now in
+    let claim = job.operands.now.claim in
+    let files = files_of job.names.now in
     let a = g.D.Desk.seen c.args.desk.now in
     let m = g.D.Desk.seen c.over_alone.new.desk in
     let b = g.D.Desk.seen c.in_order.new.desk in
     let last = c.in-Passed.last in
-    let passed = subst (IsAttempt graph order c.args.budget 0 None files a m) c.in-Passed.is (c.in_ok-verdict.ensures.over 0) in
-    tried_more files a b c.in_order.result graph order c.args.budget c.args.tried.items c.push.new.self.items last c.in_ok-push-in-Passed.ensures.items passed.0
-    (subst (λ x. IfOk c.in_order.result (λ v. (conflicts : ℕ) (used : Option Cut) → AreTried graph order c.args.budget used c.push.new.self.items →
-    IsOfGraph graph order c.args.budget conflicts used files x b v)) passed.1 c.in_order.ensures.verdict)
+    let passed = subst (IsAttempt graph claim job.budget job.conflicts None files a m) c.in-Passed.is c.in_ok-verdict.ensures.over in
+    tried_more files a b c.in_order.result graph (task_of job) c.args.tried.items c.push.new.self.items last c.in_ok-push-in-Passed.ensures.items passed.0
+    (subst (λ x. IfOk c.in_order.result (λ v. (used : Option Cut) → AreTried graph claim job.budget used c.push.new.self.items → IsOfGraph graph (task_of job) used files x b v)) passed.1
+    c.in_order.ensures.verdict)
 
 pub returns-in_err-push-in-Passed-clause-memory : goal.returns-in_err-push-in-Passed-clause-memory
 returns-in_err-push-in-Passed-clause-memory g c =
-    let graph = c.args.graph.now in
-    let order = c.args.operands.now.order in
-    let files = files_of c.args.names.now in
+    let job = c.args.job.now in
+    let graph = job.graph.now in
+    let claim = job.operands.now.claim in
+    let files = files_of job.names.now in
     let a = g.D.Desk.seen c.args.desk.now in
     let m = g.D.Desk.seen c.over_alone.new.desk in
-    let passed = subst (IsAttempt graph order c.args.budget 0 None files a m) c.in-Passed.is (c.in_ok-verdict.ensures.over 0) in
+    let passed = subst (IsAttempt graph claim job.budget job.conflicts None files a m) c.in-Passed.is c.in_ok-verdict.ensures.over in
     on_err _ (m ≡ a) passed.1
 
 pub returns-in_ok-push-in-Passed-clause-memory : goal.returns-in_ok-push-in-Passed-clause-memory
 returns-in_ok-push-in-Passed-clause-memory g c =
-    let graph = c.args.graph.now in
-    let order = c.args.operands.now.order in
-    let files = files_of c.args.names.now in
+    let job = c.args.job.now in
+    let graph = job.graph.now in
+    let claim = job.operands.now.claim in
+    let files = files_of job.names.now in
     let a = g.D.Desk.seen c.args.desk.now in
     let m = g.D.Desk.seen c.over_alone.new.desk in
     let b = g.D.Desk.seen c.in_order.new.desk in
-    let passed = subst (IsAttempt graph order c.args.budget 0 None files a m) c.in-Passed.is (c.in_ok-verdict.ensures.over 0) in
+    let passed = subst (IsAttempt graph claim job.budget job.conflicts None files a m) c.in-Passed.is c.in_ok-verdict.ensures.over in
     subst (λ x. OnErr c.in_order.result (b ≡ x)) passed.1 c.in_order.ensures.memory

@@ -6,4 +6,4 @@ pub rewrite_near-requires-clause-cut : goal.rewrite_near-requires-clause-cut
 rewrite_near-requires-clause-cut c = fit_is_cut c.args.graph.now c.args.cut c.max-max.ensures.built.well_formed c.requires.stage.fit
 
 pub returns-clause-rewriting : goal.returns-clause-rewriting
-returns-clause-rewriting c = at_stage c.args.graph.now c.args.operands.now.order c.args.conflicts c.args.cut c.requires.stage c.in_ok-rewritten.rewritten c.in_ok-rewritten.ensures.rewriting
+returns-clause-rewriting c = at_stage c.args.graph.now c.args.operands.now c.args.conflicts c.args.cut c.requires.stage c.in_ok-rewritten.rewritten c.in_ok-rewritten.ensures.rewriting

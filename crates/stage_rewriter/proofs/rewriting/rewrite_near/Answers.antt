@@ -1,6 +1,6 @@
 use Rattle.std.proofs.Common.{◌≡◌, ◌∙◌, refl, Bool, List, map, sym, ap, subst}
 use Rattle.graph_core.specs.Graph.Assignments.{literal}
-use Rattle.graph_core.specs.Graph.Operands.{inputs_of, width}
+use Rattle.graph_core.specs.Graph.Operands.{inputs_at}
 use Rattle.cdcl_core.specs.Solving.{assignment_of}
 use Rattle.goal_refuter.specs.Refuting.{IsOutcome}
 use Rattle.goal_refuter.proofs.Lawful.{lines_agree}
@@ -20,11 +20,10 @@ returns-in-Refuted-clause-agrees c = lines_agree c.in_ok-extended.extended c.arg
 pub returns-in-Model-clause-rewriting : goal.returns-in-Model-clause-rewriting
 returns-in-Model-clause-rewriting c =
     let g = c.args.graph.now in
+    let s = c.args.operands.now in
     let values = c.in-Model.values.items in
-    let order = c.args.operands.now.order in
     let e = c.in_ok-extended.extended in
-    let a = c.in_ok-a-in-Model.a in
-    let b = c.in_ok-a-in-Model.b in
-    let inputs : map (literal (assignment_of values)) g.inputs ≡ inputs_of order (width g) a b =
-    ap (λ (vs : List Bool). map (literal (assignment_of vs)) g.inputs) (sym c.deref.ensures.value) ∙ c.in_ok-a-in-Model.ensures.inputs in
-    differs g order c.args.cut e values a b c.in_ok-extended.ensures (subst (IsOutcome e c.args.conflicts) c.in-Model.is c.in_ok-log.ensures) inputs c.in_ok-a-in-Model.ensures.a c.in_ok-a-in-Model.ensures.b
+    let x = c.in_ok-numbers-in-Model.numbers in
+    let inputs : map (literal (assignment_of values)) g.inputs ≡ inputs_at s x =
+    ap (λ (vs : List Bool). map (literal (assignment_of vs)) g.inputs) (sym c.deref.ensures.value) ∙ c.in_ok-numbers-in-Model.ensures.inputs in
+    differs g s c.args.cut e values x c.in_ok-extended.ensures (subst (IsOutcome e c.args.conflicts) c.in-Model.is c.in_ok-log.ensures) inputs c.in_ok-numbers-in-Model.ensures.range

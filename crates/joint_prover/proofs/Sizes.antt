@@ -1,0 +1,32 @@
+-- What a graph's size says, for a claim with an addend and without one.
+use Rattle.std.proofs.Common.{◌≡◌, ◌≤◌, Bool, true, false, length, arith, subst}
+use Rattle.graph_core.specs.Aiger.Soundness.{IsMultiplierSized, IsSizedAs, IsSumSized}
+use Rattle.graph_core.specs.Graph.{Aig}
+use Rattle.graph_core.specs.Graph.Operands.{profile_of, width_for}
+
+pub some_bits : (add : Bool) (g : Aig) → IsSizedAs (profile_of add) g → 1 ≤ width_for add g
+some_bits false g sized = sized.some
+some_bits true g sized = sized.some
+
+pub few_bits : (add : Bool) (g : Aig) → IsSizedAs (profile_of add) g → width_for add g ≤ 64
+few_bits false g sized = sized.narrow
+few_bits true g sized = sized.narrow
+
+pub some_outputs : (add : Bool) (g : Aig) → IsSizedAs (profile_of add) g → 1 ≤ length g.outputs
+some_outputs false g sized = sized.shape.some_outputs
+some_outputs true g sized = sized.shape.some_outputs
+
+pub few_outputs : (add : Bool) (g : Aig) → IsSizedAs (profile_of add) g → length g.outputs ≤ 128
+few_outputs false g sized = let n = sized.narrow in let few = sized.shape.outputs in omega arith
+few_outputs true g sized = let n = sized.narrow in let few = sized.shape.outputs in omega arith
+
+pub few_variables : (add : Bool) (g : Aig) → IsSizedAs (profile_of add) g → g.max ≤ 4194303
+few_variables false g sized = sized.small
+few_variables true g sized = sized.small
+
+-- where it is known whether there is an addend
+pub sized_alone : (add : Bool) (g : Aig) → add ≡ false → IsSizedAs (profile_of add) g → IsMultiplierSized g
+sized_alone add g alone sized = subst (λ k. IsSizedAs (profile_of k) g) alone sized
+
+pub sized_added : (add : Bool) (g : Aig) → add ≡ true → IsSizedAs (profile_of add) g → IsSumSized g
+sized_added add g added sized = subst (λ k. IsSizedAs (profile_of k) g) added sized

@@ -1,0 +1,80 @@
+-- The least numbers on which a graph isn't what is claimed: two operands, or two operands and an addend.
+use Rattle.std.proofs.Common.{◌≡◌, ℕ, ◌+◌, ◌*◌, ◌%◌, ◌^◌, ◌<◌, Bool, true, false, ◌++◌, arith, drop, length, length-drop, sym, ap, ap₂, subst, ◌∙◌}
+use Rattle.std.proofs.lemmas.List.{append-nil}
+use Rattle.frontier_core.specs.LeastDifference.{IsLeastDifference, IsLeastDifferenceAt, IsLeastSumDifference}
+use Rattle.frontier_core.proofs.CallerLemmas.{difference_is_of_operands, difference_is_of_sum}
+use Rattle.graph_core.specs.Graph.{Aig, IsDefinedOnce}
+use Rattle.graph_core.specs.Graph.Operands.{AreOperandsOf, HasMultiplierShape, HasShapeFor, HasSumShape, Sides, adding, bits_of, c_literals, inputs_at, inputs_of, multiplying, output_modulus, product_as, sides_for, sum_width, width, width_for}
+use Rattle.graph_core.specs.declared.numbers.Numbers.{Numbers}
+use Rattle.graph_core.specs.declared.order.Order.{Order}
+use Rattle.graph_core.specs.declared.sign.Sign.{Sign}
+use Rattle.graph_core.proofs.OfGraphs.CallerLemmas.{length-operands}
+use Rattle.joint_prover.specs.Endings.{AreLeast}
+
+plus_none : (n : ℕ) → n + 0 ≡ n
+plus_none n = omega arith
+
+module _ (g : Aig) (s : Sides) (of : AreOperandsOf g s) (once : IsDefinedOnce g) (x : Numbers) (are : AreLeast g s x) where
+  abbrev order : Order
+  order = s.claim.order
+
+  abbrev sign : Sign
+  sign = s.claim.sign
+
+  abbrev m : ℕ
+  m = output_modulus g
+
+  -- where it is known whether there is an addend
+  under : (add : Bool) → s.claim.add ≡ add → IsLeastDifferenceAt g (sides_for (record { order = order; sign = sign; add = add }) g) (inputs_at s x)
+  under add same = subst (λ k. IsLeastDifferenceAt g (sides_for (record { order = order; sign = sign; add = k }) g) (inputs_at s x)) same
+      (subst (λ (t : Sides). IsLeastDifferenceAt g t (inputs_at s x)) of are.least)
+
+  wide_for : (add : Bool) → s.claim.add ≡ add → HasShapeFor add g → length s.a ≡ width_for add g
+  wide_for add same shape = (length-operands g s (subst (λ k. HasShapeFor k g) (sym same) shape) of).0 ∙ ap (λ k. width_for k g) same
+
+  long_for : (add : Bool) → s.claim.add ≡ add → length s.c ≡ length (c_literals add g)
+  long_for add same = ap (λ (t : Sides). length t.c) of ∙ ap (λ k. length (c_literals k g)) same
+
+  -- ---- without an addend
+
+  module _ (alone : s.claim.add ≡ false) (shape : HasMultiplierShape g) where
+    wide : length s.a ≡ width g
+    wide = wide_for false alone shape
+
+    none : x.c ≡ 0
+    none = let low : x.c < 2 ^ 0 = subst (λ n. x.c < 2 ^ n) (long_for false alone) are.range.c in omega arith
+
+    bits : inputs_at s x ≡ inputs_of order (width g) x.a x.b
+    bits = ap₂ (λ n k. inputs_of order n x.a x.b ++ bits_of k x.c) wide (long_for false alone) ∙ append-nil (inputs_of order (width g) x.a x.b)
+
+    pub least_operands : IsLeastDifference g order sign x.a x.b
+    least_operands =
+        (difference_is_of_operands g order sign x.a x.b shape once (subst (λ n. x.a < 2 ^ n) wide are.range.a) (subst (λ n. x.b < 2 ^ n) wide are.range.b)).0
+        (subst (IsLeastDifferenceAt g (sides_for (multiplying order sign) g)) bits (under false alone))
+
+    pub product_is : (p : ℕ) → p ≡ (product_as sign m (length s.a) x.a x.b + x.c) % m → p ≡ product_as sign m (width g) x.a x.b % m
+    product_is p is =
+        is ∙ ap₂ (λ n c. (product_as sign m n x.a x.b + c) % m) wide none ∙ ap (λ k. k % m) (plus_none (product_as sign m (width g) x.a x.b))
+
+  -- ---- with one
+
+  module _ (added : s.claim.add ≡ true) (shape : HasSumShape g) where
+    as_wide : length s.a ≡ sum_width g
+    as_wide = wide_for true added shape
+
+    long : length s.c ≡ 2 * sum_width g
+    long =
+        let rest : length (drop (2 * sum_width g) g.inputs) ≡ 2 * sum_width g = let h = shape.inputs in omega (arith, length-drop (2 * sum_width g) g.inputs) in
+        long_for true added ∙ rest
+
+    sum_bits : inputs_at s x ≡ inputs_of order (sum_width g) x.a x.b ++ bits_of (2 * sum_width g) x.c
+    sum_bits = ap₂ (λ n k. inputs_of order n x.a x.b ++ bits_of k x.c) as_wide long
+
+    pub least_sum : IsLeastSumDifference g order sign x.a x.b x.c
+    least_sum =
+        (difference_is_of_sum g order sign x.a x.b x.c shape once (subst (λ n. x.a < 2 ^ n) as_wide are.range.a) (subst (λ n. x.b < 2 ^ n) as_wide are.range.b)
+        (subst (λ n. x.c < 2 ^ n) long are.range.c)).0
+        (subst (IsLeastDifferenceAt g (sides_for (adding order sign) g)) sum_bits (under true added))
+
+    pub sum_is : (p : ℕ) → p ≡ (product_as sign m (length s.a) x.a x.b + x.c) % m → p ≡ (product_as sign m (sum_width g) x.a x.b + x.c) % m
+    sum_is p is = is ∙ ap (λ n. (product_as sign m n x.a x.b + x.c) % m) as_wide
