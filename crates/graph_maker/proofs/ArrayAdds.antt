@@ -24,7 +24,7 @@ rows_sum σ (r ∷ rows) = word σ r + 2 * rows_sum σ rows
 abbrev pub AreLong : ℕ → List (List Lit) → Type 0
 AreLong n rows = AllByRecursion (λ r. length r ≡ n) rows
 
-bit_and : (x y : Bool) → bit (x && y) ≡ bit y * bit x
+pub bit_and : (x y : Bool) → bit (x && y) ≡ bit y * bit x
 bit_and true true = refl
 bit_and true false = refl
 bit_and false true = refl
@@ -58,11 +58,11 @@ length-products b xs (y ∷ ys) = ap suc (length-products (with_gates b (product
 
 -- ---- words
 
-word-append : (σ : Assignment) (xs ys : List Lit) → word σ (xs ++ ys) ≡ word σ xs + 2 ^ length xs * word σ ys
+pub word-append : (σ : Assignment) (xs ys : List Lit) → word σ (xs ++ ys) ≡ word σ xs + 2 ^ length xs * word σ ys
 word-append σ [] ys = omega arith
 word-append σ (x ∷ xs) ys = omega (arith, word-append σ xs ys, ap (λ p. p * word σ ys) (pow-suc 2 (length xs)))
 
-word-split : (σ : Assignment) (j : ℕ) (xs : List Lit) → j ≤ length xs → word σ xs ≡ word σ (take j xs) + 2 ^ j * word σ (drop j xs)
+pub word-split : (σ : Assignment) (j : ℕ) (xs : List Lit) → j ≤ length xs → word σ xs ≡ word σ (take j xs) + 2 ^ j * word σ (drop j xs)
 word-split σ zero xs l = omega arith
 word-split σ (suc j) [] l = absurd (omega arith)
 word-split σ (suc j) (x ∷ xs) l = omega (arith, word-split σ j xs (omega arith), ap (λ p. p * word σ (drop j xs)) (pow-suc 2 j))
@@ -72,7 +72,7 @@ length-take_to zero xs l = refl
 length-take_to (suc j) [] l = absurd (omega arith)
 length-take_to (suc j) (x ∷ xs) l = ap suc (length-take_to j xs (omega arith))
 
-word_or-some : (σ : Assignment) (xs : List Lit) → word_or σ (map Some xs) ≡ word σ xs
+pub word_or-some : (σ : Assignment) (xs : List Lit) → word_or σ (map Some xs) ≡ word σ xs
 word_or-some σ [] = refl
 word_or-some σ (x ∷ xs) = omega (arith, word_or-some σ xs)
 

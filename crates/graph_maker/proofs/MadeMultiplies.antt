@@ -120,24 +120,24 @@ module _ (n : ℕ) (g : Aig) (numbered : IsNumbered n g) where
 
 -- ---- the two operands
 
-take-literals : (v n m k : ℕ) → k ≡ n + m → take n (literals_from v k) ≡ literals_from v n
+pub take-literals : (v n m k : ℕ) → k ≡ n + m → take n (literals_from v k) ≡ literals_from v n
 take-literals v zero m k e = refl
 take-literals v (suc n) m zero e = absurd (omega arith)
 take-literals v (suc n) m (suc k) e = ap (λ ls. plain v ∷ ls) (take-literals (v + 1) n m k (omega arith))
 
-drop-literals : (v n m k : ℕ) → k ≡ n + m → drop n (literals_from v k) ≡ literals_from (v + n) m
+pub drop-literals : (v n m k : ℕ) → k ≡ n + m → drop n (literals_from v k) ≡ literals_from (v + n) m
 drop-literals v zero m k e = ap₂ literals_from (omega arith) (omega arith)
 drop-literals v (suc n) m zero e = absurd (omega arith)
 drop-literals v (suc n) m (suc k) e = drop-literals (v + 1) n m k (omega arith) ∙ ap (λ w. literals_from w m) (omega arith)
 
 -- ---- the outputs
 
-outputs_add : (kind : Kind) (adder : Adder) (σ : Assignment) (b : Builder) (rows : List (List Lit)) → 0 < length rows → AreLong (length rows) rows → Holds σ (outputs_of kind adder b rows).builder →
+pub outputs_add : (kind : Kind) (adder : Adder) (σ : Assignment) (b : Builder) (rows : List (List Lit)) → 0 < length rows → AreLong (length rows) rows → Holds σ (outputs_of kind adder b rows).builder →
     Holds σ b × (word σ (outputs_of kind adder b rows).outputs ≡ rows_sum σ rows)
 outputs_add Array adder σ b rows pos long h = array_adds (length rows) adder σ b rows pos long h
 outputs_add Dadda adder σ b rows pos long h = dadda_adds b rows pos long adder σ h
 
-length-outputs : (kind : Kind) (adder : Adder) (b : Builder) (rows : List (List Lit)) → 0 < length rows → AreLong (length rows) rows → length (outputs_of kind adder b rows).outputs ≡ 2 * length rows
+pub length-outputs : (kind : Kind) (adder : Adder) (b : Builder) (rows : List (List Lit)) → 0 < length rows → AreLong (length rows) rows → length (outputs_of kind adder b rows).outputs ≡ 2 * length rows
 length-outputs Array adder b rows pos long = omega (arith, length-array (length rows) adder b rows pos pos long)
 length-outputs Dadda adder b rows pos long = length-dadda b rows pos long adder
 

@@ -1,5 +1,5 @@
 -- The order of a gate's operands changes no value.
-use Rattle.std.specs.Prelude.{◌≡◌, ℕ, zero, suc, ◌+◌, ◌*◌, ◌^◌, ◌/◌, ◌<◌, Some, Bool, true, false, cond, ◌&&◌, ◌==◌, nat_lt, List, [], ◌∷◌, map, length, ◌%◌}
+use Rattle.std.specs.Prelude.{◌≡◌, ℕ, zero, suc, ◌+◌, ◌*◌, ◌^◌, ◌/◌, ◌<◌, Some, Bool, true, false, cond, ◌&&◌, ◌==◌, nat_lt, List, [], ◌∷◌, ◌++◌, map, length, ◌%◌}
 use Rattle.std.specs.List.{find}
 use Rattle.std.proofs.Common.{refl, sym, ap, ap₂, subst, ◌∙◌}
 use Rattle.std.proofs.Math.Bool.{and_comm}
@@ -10,7 +10,8 @@ use Rattle.graph_core.specs.declared.order.Order.{Order}
 use Rattle.graph_core.specs.Graph.Literals.{variable_of}
 use Rattle.graph_core.specs.Graph.Assignments.{Assignment, literal, bit, word}
 use Rattle.graph_core.specs.Graph.{Aig, SameUpToOperands, computed, evaluated, greater_first, of_inputs, round, rounds}
-use Rattle.graph_core.specs.Graph.Operands.{inputs_of, value_on, width}
+use Rattle.graph_core.specs.declared.sign.Sign.{Sign}
+use Rattle.graph_core.specs.Graph.Operands.{DoesAs, bits_of, inputs_of, output_modulus, product_as, value_at_inputs, width_for}
 use Rattle.graph_core.proofs.OfGraphs.CallerLemmas.{literal_same}
 use Rattle.graph_maker.specs.OperandOrder.{OrderOfOperandsIsFree}
 
@@ -61,24 +62,41 @@ module _ (g h : Aig) (same : SameUpToOperands g h) where
   as_many : length g.gates ≡ length h.gates
   as_many = sym (length-map g.gates greater_first) ∙ ap length same.3 ∙ length-map h.gates greater_first
 
-  as_wide : width g ≡ width h
-  as_wide = ap (λ ls. length ls / 2) same.1
-
   evaluated_same : (bits : List Bool) (v : ℕ) → evaluated g bits v ≡ evaluated h bits v
   evaluated_same bits v =
       rounds_same g.gates h.gates same.3 (of_inputs g.inputs bits) (of_inputs h.inputs bits) (λ w. ap (λ ls. of_inputs ls bits w) same.1) (length g.gates) v ∙
       ap (λ n. rounds n h.gates (of_inputs h.inputs bits) v) as_many
 
-  value_same : (order : Order) (a b : ℕ) → value_on g order a b ≡ value_on h order a b
-  value_same order a b =
-      let bits = inputs_of order (width g) a b in
-      words_same (evaluated g bits) (evaluated h bits) (evaluated_same bits) g.outputs ∙
-      ap₂ (λ n ls. word (evaluated h (inputs_of order n a b)) ls) as_wide same.2
+  as_wide_with : (add : Bool) → width_for add g ≡ width_for add h
+  as_wide_with false = ap (λ ls. length ls / 2) same.1
+  as_wide_with true = ap (λ ls. length ls / 4) same.1
+
+  values_same : (bits : List Bool) → value_at_inputs g bits ≡ value_at_inputs h bits
+  values_same bits = words_same (evaluated g bits) (evaluated h bits) (evaluated_same bits) g.outputs ∙ ap (word (evaluated h bits)) same.2
+
+-- what is claimed of the values at all inputs, for so many bits and modulo so much
+abbrev DoesWith : Bool → Order → Sign → ℕ → ℕ → (List Bool → ℕ) → Type 0
+DoesWith false order sign n m v = (a b : ℕ) → a < 2 ^ n → b < 2 ^ n → v (inputs_of order n a b) ≡ product_as sign m n a b % m
+DoesWith true order sign n m v =
+    (a b c : ℕ) → a < 2 ^ n → b < 2 ^ n → c < 2 ^ (2 * n) → v (inputs_of order n a b ++ bits_of (2 * n) c) ≡ (product_as sign m n a b + c) % m
+
+by_values : (add : Bool) (order : Order) (sign : Sign) (n m : ℕ) (v w : List Bool → ℕ) → ((bits : List Bool) → v bits ≡ w bits) →
+    DoesWith add order sign n m v → DoesWith add order sign n m w
+by_values false order sign n m v w e d = λ a b la lb. sym (e (inputs_of order n a b)) ∙ d a b la lb
+by_values true order sign n m v w e d = λ a b c la lb lc. sym (e (inputs_of order n a b ++ bits_of (2 * n) c)) ∙ d a b c la lb lc
+
+does_is : (add : Bool) (order : Order) (sign : Sign) (g : Aig) →
+    (DoesAs add order sign g → DoesWith add order sign (width_for add g) (output_modulus g) (value_at_inputs g)) ×
+    (DoesWith add order sign (width_for add g) (output_modulus g) (value_at_inputs g) → DoesAs add order sign g)
+does_is false order sign g = ((λ d. d), (λ d. d))
+does_is true order sign g = ((λ d. d), (λ d. d))
+
+carried : (g h : Aig) (add : Bool) (order : Order) (sign : Sign) → SameUpToOperands g h → DoesAs add order sign g → DoesAs add order sign h
+carried g h add order sign same d =
+    (does_is add order sign h).1 (by_values add order sign (width_for add h) (output_modulus h) (value_at_inputs g) (value_at_inputs h) (values_same g h same)
+    (subst (λ n. DoesWith add order sign n (output_modulus h) (value_at_inputs g)) (as_wide_with g h same add)
+    (subst (λ m. DoesWith add order sign (width_for add g) m (value_at_inputs g)) (ap (λ os. 2 ^ length os) same.2) ((does_is add order sign g).0 d))))
 
 pub order_of_operands_is_free : OrderOfOperandsIsFree
-order_of_operands_is_free g h order same = (
-  λ m a b la lb. sym (value_same g h same order a b) ∙ m a b (subst (λ n. a < 2 ^ n) (sym (as_wide g h same)) la) (subst (λ n. b < 2 ^ n) (sym (as_wide g h same)) lb) ∙
-      ap (λ os. a * b % 2 ^ length os) same.2,
-  λ m a b la lb. value_same g h same order a b ∙ m a b (subst (λ n. a < 2 ^ n) (as_wide g h same) la) (subst (λ n. b < 2 ^ n) (as_wide g h same) lb) ∙
-      ap (λ os. a * b % 2 ^ length os) (sym same.2),
-)
+order_of_operands_is_free g h claim same =
+    (carried g h claim.add claim.order claim.sign same, carried h g claim.add claim.order claim.sign (sym same.0, sym same.1, sym same.2, sym same.3))

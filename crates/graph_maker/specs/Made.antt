@@ -4,7 +4,9 @@ use Rattle.graph_core.specs.declared.literal.Lit.{Lit}
 use Rattle.graph_core.specs.declared.gate.Gate.{Gate}
 use Rattle.graph_core.specs.declared.order.Order.TheVariants.{Separate}
 use Rattle.graph_core.specs.Graph.{Aig, IsWellFormed}
-use Rattle.graph_core.specs.Aiger.{HasMultiplierCounts, IsPacked}
+use Rattle.graph_core.specs.declared.profile.Profile.{Profile}
+use Rattle.graph_core.specs.declared.profile.Profile.TheVariants as profile
+use Rattle.graph_core.specs.Aiger.{HasCounts, IsPacked}
 use Rattle.graph_core.specs.Aiger.Writing.{written}
 use Rattle.graph_core.specs.Graph.Operands.{width, HasMultiplierShape, Multiplies}
 use Rattle.graph_maker.specs.declared.kind.Kind.{Kind}
@@ -21,12 +23,18 @@ abbrev pub outputs_of : Kind → Adder → Builder → List (List Lit) → Outpu
 outputs_of Array adder b rows = array adder b rows
 outputs_of Dadda adder b rows = dadda adder b rows
 
+-- The product of a, in the variables 1 to n, and b, in the next n, whose gates stand behind so many inputs.
+abbrev pub product_behind : ℕ → Kind → ℕ → Adder → Outputs
+product_behind inputs kind n adder =
+    let p = products (no_gates inputs) (literals_from 1 n) (literals_from (n + 1) n) in outputs_of kind adder p.builder p.rows
+
+-- the graph of so many inputs, and of what was made behind them
+abbrev pub whole_graph : ℕ → Outputs → Aig
+whole_graph inputs r = record { max = r.builder.last; inputs = literals_from 1 inputs; outputs = r.outputs; gates = r.builder.gates }
+
 -- The graph of a kind, a width and an adder: a is in the variables 1 to n, b in the next n, and the gates follow.
 abbrev pub made : Kind → ℕ → Adder → Aig
-made kind n adder =
-    let p = products (no_gates (2 * n)) (literals_from 1 n) (literals_from (n + 1) n) in
-    let r = outputs_of kind adder p.builder p.rows in
-    record { max = r.builder.last; inputs = literals_from 1 (2 * n); outputs = r.outputs; gates = r.builder.gates }
+made kind n adder = whole_graph (2 * n) (product_behind (2 * n) kind n adder)
 
 -- Each made graph has two operands of n bits and an output for each bit of the product, has no fault, and multiplies.
 pub record IsMultiplier (n : ℕ) (g : Aig) : Type 0 where
@@ -43,11 +51,11 @@ MadeMultiplies = (kind : Kind) (n : ℕ) (adder : Adder) → 0 < n → IsMultipl
 abbrev pub line_of : Gate → Lit × Lit × Lit
 line_of x = (plain x.v, x.left, x.right)
 
--- What is written for the graph is packed, and within the counts that are read.
-pub record IsPackedGraph (g : Aig) : Type 0 where
-  pub counts : HasMultiplierCounts (written g)
+-- What is written for the graph is packed, and within the counts of a profile.
+pub record IsPackedAs (p : Profile) (g : Aig) : Type 0 where
+  pub counts : HasCounts p (written g)
   pub packed : IsPacked (written g)
 
 -- Up to 64 bits a made graph is a packed one.
 abbrev pub MadeArePacked : Type 0
-MadeArePacked = (kind : Kind) (n : ℕ) (adder : Adder) → 0 < n → n ≤ 64 → IsPackedGraph (made kind n adder)
+MadeArePacked = (kind : Kind) (n : ℕ) (adder : Adder) → 0 < n → n ≤ 64 → IsPackedAs profile.Multiplier (made kind n adder)

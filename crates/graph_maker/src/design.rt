@@ -1,0 +1,12 @@
+use crate::kind::Kind;
+
+/// Which graph is made, of operands of n bits.
+#[derive(Clone, Copy, Debug, PartialEq, Eq)]
+pub enum Design {
+    /// A multiplier of unsigned operands.
+    Multiplier(Kind),
+    /// The array for signed operands.
+    Corrected,
+    /// A multiplier of unsigned operands whose product is added to an addend of 2n bits.
+    MultiplyAdd(Kind),
+}
