@@ -12,6 +12,7 @@ use Rattle.clause_judge.specs.declared.fail.ClauseWhy.{ClauseWhy}
 use Rattle.clause_judge.specs.declared.fail.ClauseWhy.TheVariants as why
 use Rattle.drup_text.specs.HeaderRefusal as clausal
 use Rattle.drup_text.specs.HeaderRefusal.{LineCause}
+use Rattle.graph_core.specs.declared.profile.Profile.TheVariants.{Any}
 use Rattle.graph_core.specs.Graph.{Aig}
 use Rattle.graph_core.specs.Text.JudgedLines.{IsExact}
 use Rattle.graph_core.proofs.OfGraphs.CallerLemmas.{Decided, decided_eq}
@@ -53,22 +54,22 @@ clause_is line why.NoSuchClause = refl
 
 module _ (limit : ℕ) (file : List ℕ) (at : Slot) where
   abbrev Spelled : Type 0
-  Spelled = (g : Aig) × SpellsWithin limit file g
+  Spelled = (g : Aig) × SpellsWithin Any limit file g
 
   abbrev IsGraphRefused : SameChecked → Type 0
-  IsGraphRefused c = ((given : ReadFail) × IsGraphRefusal limit file given × (c ≡ checked.Graph at given)) ⊎ (IsTooLong limit file × (c ≡ checked.TooLong at))
+  IsGraphRefused c = ((given : ReadFail) × IsGraphRefusal Any limit file given × (c ≡ checked.Graph at given)) ⊎ (IsTooLong Any limit file × (c ≡ checked.TooLong at))
 
   graph_exact : IsExact Spelled IsGraphRefused
   graph_exact = record {
-    decided = ⊎_elim inl (λ h. inr (⊎_elim (λ r. (checked.Graph at (answer_of r.0), inl (answer_of r.0, refused limit file r.0 r.1, refl))) (λ long. (checked.TooLong at, inr (long, refl))) h)) (spelled_found_or_long limit file);
-    not_both = λ c s r. ⊎_elim (λ f. spelled_not_refused limit file s.0 f.0 s.1 f.1) (λ long. spelled_not_long limit file s.0 s.1 long.0) r;
+    decided = ⊎_elim inl (λ h. inr (⊎_elim (λ r. (checked.Graph at (answer_of r.0), inl (answer_of r.0, refused Any limit file r.0 r.1, refl))) (λ long. (checked.TooLong at, inr (long, refl))) h)) (spelled_found_or_long Any limit file);
+    not_both = λ c s r. ⊎_elim (λ f. spelled_not_refused Any limit file s.0 f.0 s.1 f.1) (λ long. spelled_not_long Any limit file s.0 s.1 long.0) r;
     one = λ a b r s. ⊎_elim
-        (λ f. ⊎_elim (λ g. f.2 ∙ ap (checked.Graph at) (one_graph_refusal limit file f.0 g.0 f.1 g.1) ∙ sym g.2) (λ long. absurd (refused_not_long limit file f.0 f.1 long.0)) s)
-        (λ long. ⊎_elim (λ g. absurd (refused_not_long limit file g.0 g.1 long.0)) (λ other. long.1 ∙ sym other.1) s) r;
+        (λ f. ⊎_elim (λ g. f.2 ∙ ap (checked.Graph at) (one_graph_refusal Any limit file f.0 g.0 f.1 g.1) ∙ sym g.2) (λ long. absurd (refused_not_long Any limit file f.0 f.1 long.0)) s)
+        (λ long. ⊎_elim (λ g. absurd (refused_not_long Any limit file g.0 g.1 long.0)) (λ other. long.1 ∙ sym other.1) s) r;
   }
 
-  same_graph : (g h : Aig) → SpellsWithin limit file g → SpellsWithin limit file h → g ≡ h
-  same_graph g h s t = one_graph file g h s.spells t.spells
+  same_graph : (g h : Aig) → SpellsWithin Any limit file g → SpellsWithin Any limit file h → g ≡ h
+  same_graph g h s t = one_graph Any file g h s.spells t.spells
 
 decided_shape : (g h : Aig) → Decided (AreOfOneShape g h)
 decided_shape g h = ⊎_elim
@@ -91,13 +92,13 @@ module _ (limits : Limits) (file other clauses : List ℕ) where
   -- ---- the shapes
 
   abbrev Shaped : Type 0
-  Shaped = (g : Aig) × (h : Aig) × SpellsWithin limit file g × SpellsWithin limit other h × AreOfOneShape g h
+  Shaped = (g : Aig) × (h : Aig) × SpellsWithin Any limit file g × SpellsWithin Any limit other h × AreOfOneShape g h
 
   abbrev AreShapesRefused : SameChecked → Type 0
-  AreShapesRefused c = (g : Aig) × (h : Aig) × SpellsWithin limit file g × SpellsWithin limit other h × ¬ (AreOfOneShape g h) × (c ≡ checked.Shapes)
+  AreShapesRefused c = (g : Aig) × (h : Aig) × SpellsWithin Any limit file g × SpellsWithin Any limit other h × ¬ (AreOfOneShape g h) × (c ≡ checked.Shapes)
 
   -- a shape of the graphs that are there
-  pub shape_there : (g h k l : Aig) → SpellsWithin limit file g → SpellsWithin limit other h → SpellsWithin limit file k → SpellsWithin limit other l → AreOfOneShape g h → AreOfOneShape k l
+  pub shape_there : (g h k l : Aig) → SpellsWithin Any limit file g → SpellsWithin Any limit other h → SpellsWithin Any limit file k → SpellsWithin Any limit other l → AreOfOneShape g h → AreOfOneShape k l
   shape_there g h k l a b c d shape =
       subst (λ (x : Aig). AreOfOneShape x l) (same_graph limit file slot.Graph g k a c) (subst (AreOfOneShape g) (same_graph limit other slot.Other h l b d) shape)
 
@@ -114,15 +115,15 @@ module _ (limits : Limits) (file other clauses : List ℕ) where
   IsRefusedFor g h c = (f : SameFault) × IsFileRefusal (lengths_of limits) (merged g h) clauses f × (c ≡ clause_answer f)
 
   abbrev Lawful : Type 0
-  Lawful = (g : Aig) × (h : Aig) × SpellsWithin limit file g × SpellsWithin limit other h × IsLawful (lengths_of limits) (merged g h) clauses
+  Lawful = (g : Aig) × (h : Aig) × SpellsWithin Any limit file g × SpellsWithin Any limit other h × IsLawful (lengths_of limits) (merged g h) clauses
 
   abbrev AreClausesRefused : SameChecked → Type 0
-  AreClausesRefused c = (g : Aig) × (h : Aig) × SpellsWithin limit file g × SpellsWithin limit other h × IsRefusedFor g h c
+  AreClausesRefused c = (g : Aig) × (h : Aig) × SpellsWithin Any limit file g × SpellsWithin Any limit other h × IsRefusedFor g h c
 
   of_clauses : (g h : Aig) → IsExact (IsLawful (lengths_of limits) (merged g h) clauses) (IsRefusedFor g h)
   of_clauses g h = exact_map clause_answer (certificates_are_exact (lengths_of limits) (merged g h) clauses)
 
-  refused_there : (c : SameChecked) (g h : Aig) → SpellsWithin limit file g → SpellsWithin limit other h → AreClausesRefused c → IsRefusedFor g h c
+  refused_there : (c : SameChecked) (g h : Aig) → SpellsWithin Any limit file g → SpellsWithin Any limit other h → AreClausesRefused c → IsRefusedFor g h c
   refused_there c g h a b r =
       subst (λ (x : Aig). IsRefusedFor x h c) (same_graph limit file slot.Graph r.0 g r.2 a) (subst (λ (x : Aig). IsRefusedFor r.0 x c) (same_graph limit other slot.Other r.1 h r.3 b) r.4)
 
@@ -144,7 +145,7 @@ module _ (limits : Limits) (file other clauses : List ℕ) where
 
   -- ---- what is due, by its causes
 
-  clause_fault : (g h : Aig) → SpellsWithin limit file g → SpellsWithin limit other h → AreOfOneShape g h → (c : SameChecked) → IsRefusedFor g h c → IsRefused c
+  clause_fault : (g h : Aig) → SpellsWithin Any limit file g → SpellsWithin Any limit other h → AreOfOneShape g h → (c : SameChecked) → IsRefusedFor g h c → IsRefused c
   clause_fault g h a b shape c r = inr ((g, a), inr ((h, b), inr ((g, h, a, b, shape), (g, h, a, b, r))))
 
   due_is : (c : SameChecked) → IsDue limits told c → ((c ≡ checked.Accepted) × All) ⊎ IsRefused c
@@ -173,7 +174,7 @@ module _ (limits : Limits) (file other clauses : List ℕ) where
   abbrev IsSomeDue : Type 0
   IsSomeDue = (c : SameChecked) × IsDue limits told c
 
-  clause_due : (g h : Aig) → SpellsWithin limit file g → SpellsWithin limit other h → AreOfOneShape g h → (f : SameFault) → IsFileRefusal (lengths_of limits) (merged g h) clauses f → IsSomeDue
+  clause_due : (g h : Aig) → SpellsWithin Any limit file g → SpellsWithin Any limit other h → AreOfOneShape g h → (f : SameFault) → IsFileRefusal (lengths_of limits) (merged g h) clauses f → IsSomeDue
   clause_due g h a b shape (Line (line, clausal.TooLong)) k = (checked.TooLong slot.Clauses, (g, a, (h, b, (shape, (line, k)))))
   clause_due g h a b shape (Line (line, clausal.Text)) k = (checked.Refused (refusal.Clauses line why.Text), (g, a, (h, b, (shape, k))))
   clause_due g h a b shape (Line (line, clausal.Range)) k = (checked.Refused (refusal.Clauses line why.Range), (g, a, (h, b, (shape, k))))

@@ -3,6 +3,7 @@ use Rattle.std.proofs.Common.{◌≡◌, ◌≢◌, ℕ, List, [], Some, None, r
 use Rattle.std.specs.Prelude.{IfSome, IsSome, option_map, unwrap_or}
 use Rattle.std.specs.declared.option.Option.{Option}
 use Rattle.aiger_reader.specs.Refusals.{SpellsWithin}
+use Rattle.graph_core.specs.declared.profile.Profile.TheVariants.{Any}
 use Rattle.clause_core.specs.ClauseLines.{ClauseLine}
 use Rattle.drup_text.specs.SameFiles.{same_text}
 use Rattle.mv_desk.specs.Calls.{AreApart, Becomes, BytesGrow, HeldGrows}
@@ -62,8 +63,8 @@ equal_pairs_are_held limits conflicts files a c told no_graph no_other (g, spell
       clauses_held = ap bytes (certificate_is_held files.clauses lines a r c told reads w);
       graph = g;
       other = h;
-      spells = subst (λ o. IfSome o (λ b. SpellsWithin limits.graph b g)) file.1 spelled;
-      other_spells = subst (λ o. IfSome o (λ b. SpellsWithin limits.graph b h)) other.1 other_spelled;
+      spells = subst (λ o. IfSome o (λ b. SpellsWithin Any limits.graph b g)) file.1 spelled;
+      other_spells = subst (λ o. IfSome o (λ b. SpellsWithin Any limits.graph b h)) other.1 other_spelled;
       shape = shape;
       written = written;
       agree = agree;

@@ -4,6 +4,7 @@ use Rattle.std.specs.Prelude.{IfSome, IsSome}
 use Rattle.aiger_reader.specs.Refusals.{IsGraphRefusal, IsTooLong, SpellsWithin}
 use Rattle.aiger_reader.specs.declared.fail.ReadFail.{ReadFail}
 use Rattle.aiger_reader.proofs.GraphFiles.{spelled_not_long, spelled_not_refused}
+use Rattle.graph_core.specs.declared.profile.Profile.TheVariants.{Any}
 use Rattle.graph_core.specs.Graph.{Aig}
 use Rattle.mv_desk.specs.declared.limits.Limits.{Limits}
 use Rattle.mv_desk.specs.declared.slot.Slot.{Slot}
@@ -24,24 +25,24 @@ at_told text file P is h = subst (λ o. IfSome o P) is h
 module _ (limits : Limits) (texts : Texts) (p : HasToldPair limits.graph texts) where
   no_graph : (at : Slot) (why : ReadFail) → IsDue limits texts (checked.Graph at why) → ⊥
   no_graph slot.Graph why h =
-      spelled_not_refused limits.graph p.0 p.4 why p.6 (at_told texts.graph p.0 (λ bytes. IsGraphRefusal limits.graph bytes why) p.2 h)
+      spelled_not_refused Any limits.graph p.0 p.4 why p.6 (at_told texts.graph p.0 (λ bytes. IsGraphRefusal Any limits.graph bytes why) p.2 h)
   no_graph slot.Other why h =
-      spelled_not_refused limits.graph p.1 p.5 why p.7 (at_told texts.other p.1 (λ bytes. IsGraphRefusal limits.graph bytes why) p.3 h.2)
+      spelled_not_refused Any limits.graph p.1 p.5 why p.7 (at_told texts.other p.1 (λ bytes. IsGraphRefusal Any limits.graph bytes why) p.3 h.2)
   no_graph slot.Clauses why h = h
   no_graph slot.Algebra why h = h
   no_graph slot.Report why h = h
 
   not_long : (at : Slot) → (at ≡ slot.Clauses → ⊥) → IsDue limits texts (checked.TooLong at) → ⊥
-  not_long slot.Graph other h = spelled_not_long limits.graph p.0 p.4 p.6 (at_told texts.graph p.0 (IsTooLong limits.graph) p.2 h)
-  not_long slot.Other other h = spelled_not_long limits.graph p.1 p.5 p.7 (at_told texts.other p.1 (IsTooLong limits.graph) p.3 h.2)
+  not_long slot.Graph other h = spelled_not_long Any limits.graph p.0 p.4 p.6 (at_told texts.graph p.0 (IsTooLong Any limits.graph) p.2 h)
+  not_long slot.Other other h = spelled_not_long Any limits.graph p.1 p.5 p.7 (at_told texts.other p.1 (IsTooLong Any limits.graph) p.3 h.2)
   not_long slot.Clauses other h = other refl
   not_long slot.Algebra other h = h
   not_long slot.Report other h = h
 
   one_shape : IsDue limits texts checked.Shapes → ⊥
   one_shape h =
-      let first = at_told texts.graph p.0 (λ bytes. SpellsWithin limits.graph bytes h.0) p.2 h.1 in
-      let second = at_told texts.other p.1 (λ bytes. SpellsWithin limits.graph bytes h.2.0) p.3 h.2.1 in
+      let first = at_told texts.graph p.0 (λ bytes. SpellsWithin Any limits.graph bytes h.0) p.2 h.1 in
+      let second = at_told texts.other p.1 (λ bytes. SpellsWithin Any limits.graph bytes h.2.0) p.3 h.2.1 in
       h.2.2 (shape_there limits p.0 p.1 [] p.4 p.5 h.0 h.2.0 p.6 p.7 first second p.8)
 
 pub pairs_are_decided : PairsAreDecided

@@ -7,6 +7,7 @@ use Rattle.aiger_reader.specs.declared.fail.ReadFail.{ReadFail}
 use Rattle.aiger_reader.specs.declared.fail.ReadFail.TheVariants as fail
 use Rattle.graph_core.specs.Algebra.{AgreeOnColumns}
 use Rattle.graph_core.specs.Graph.Extended.{Extended}
+use Rattle.graph_core.specs.declared.profile.Profile.TheVariants.{Any}
 use Rattle.graph_core.specs.Graph.{Aig, IsBuilt}
 use Rattle.mv_fact.specs.Always.{Always}
 use Rattle.clause_judge.specs.LineRefusals.{line_cause}
@@ -35,7 +36,7 @@ use Rattle.same_core.specs.Pairs.{IsPairFail, IsPairOf}
 use Rattle.same_core.proofs.Merging.{merged_outputs_agree}
 
 -- why no graph was read
-pub graph_fails : (limit : ℕ) (text : Option (List ℕ)) (before now : View) (given : ReadFail) → IfSome text (λ bytes. Refuses limit bytes given) → (given ≡ fail.Fault → Rose before.read_faults now.read_faults) →
+pub graph_fails : (limit : ℕ) (text : Option (List ℕ)) (before now : View) (given : ReadFail) → IfSome text (λ bytes. Refuses Any limit bytes given) → (given ≡ fail.Fault → Rose before.read_faults now.read_faults) →
     IsGraphFail limit text before now (fail_of_read given)
 graph_fails limit text before now (fail.Text p) told rose = told
 graph_fails limit text before now (fail.Header f) told rose = told
@@ -78,7 +79,7 @@ module _ (limits : Limits) (files : Files) where
 
     module _ (h : Aig) (other : IsSpelled limits.graph (bytes_under b files.other) h) where
       there : IsSpelled limits.graph (bytes_under a files.other) h
-      there = earlier a b files.other (λ bytes. SpellsWithin limits.graph bytes h) first other
+      there = earlier a b files.other (λ bytes. SpellsWithin Any limits.graph bytes h) first other
 
       -- they weren't merged
       pub merge_answers : (given : MergeFail) → (given ≡ merge.Shape → ¬ (AreOfOneShape g h)) → IsPairFail limits files a c (answer_of_merge given)

@@ -6,6 +6,7 @@ use Rattle.drup_text.specs.SameFiles.{same_text}
 use Rattle.drup_text.specs.WrittenLaws.{IsWritableLine}
 use Rattle.goal_refuter.specs.Refutations.{IsSpent}
 use Rattle.graph_core.specs.Graph.Assignments.{literal}
+use Rattle.graph_core.specs.declared.profile.Profile.TheVariants.{Any}
 use Rattle.graph_core.specs.Graph.{Aig, evaluated}
 use Rattle.graph_core.specs.Text.JudgedLines.{IsWithin, Lengths}
 use Rattle.mv_desk.specs.Calls.{Creates, Inspects, WritesPart, WritesTo}
@@ -97,7 +98,7 @@ WrittenIsLawful = (lengths : Lengths) (g h : Aig) (conflicts : ℕ) (lines : Lis
 -- The files spell two graphs of one shape, and are told.
 abbrev pub HasToldPair : ℕ → Texts → Type 0
 HasToldPair limit texts = (file : List ℕ) × (other : List ℕ) × (texts.graph ≡ Some file) × (texts.other ≡ Some other) ×
-    (g : Aig) × (h : Aig) × SpellsWithin limit file g × SpellsWithin limit other h × AreOfOneShape g h
+    (g : Aig) × (h : Aig) × SpellsWithin Any limit file g × SpellsWithin Any limit other h × AreOfOneShape g h
 
 -- the answer is on two graphs, or none is on the files: a fault, or want of memory
 abbrev pub IsOnPair : Same → Type 0
@@ -136,8 +137,8 @@ pub record HoldsEqual (limit conflicts : ℕ) (files : Files) (view : View) : Ty
   pub clauses_held : bytes_under view files.clauses ≡ Some (same_text lines)
   pub graph : Aig
   pub other : Aig
-  pub spells : SpellsWithin limit graph_file graph
-  pub other_spells : SpellsWithin limit other_file other
+  pub spells : SpellsWithin Any limit graph_file graph
+  pub other_spells : SpellsWithin Any limit other_file other
   pub shape : AreOfOneShape graph other
   pub written : AreWritten graph other conflicts lines
   pub agree : AgreeOnInputs graph other

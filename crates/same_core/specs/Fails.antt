@@ -7,6 +7,7 @@ use Rattle.clause_judge.specs.LineRefusals.{line_cause}
 use Rattle.clause_judge.specs.declared.fail.ClauseFail.{ClauseFail}
 use Rattle.clause_judge.specs.declared.fail.ClauseFail.TheVariants as clauses
 use Rattle.drup_text.specs.HeaderRefusal.{TooLong}
+use Rattle.graph_core.specs.declared.profile.Profile.TheVariants.{Any}
 use Rattle.graph_core.specs.Graph.Extended.{Extended}
 use Rattle.graph_core.specs.Text.JudgedLines.{Lengths}
 use Rattle.mv_desk.specs.View.{Rose, View}
@@ -16,8 +17,8 @@ use Rattle.same_core.specs.Certificates.{IsLineRefusal, IsOutputRefusal}
 
 -- of a graph file
 abbrev pub IsGraphFail : ℕ → Option (List ℕ) → View → View → GraphFail → Type 0
-IsGraphFail limit text before now (graph.Refused why) = IfSome text (λ bytes. IsGraphRefusal limit bytes why)
-IsGraphFail limit text before now graph.TooLong = IfSome text (reading.IsTooLong limit)
+IsGraphFail limit text before now (graph.Refused why) = IfSome text (λ bytes. IsGraphRefusal Any limit bytes why)
+IsGraphFail limit text before now graph.TooLong = IfSome text (reading.IsTooLong Any limit)
 IsGraphFail limit text before now graph.ReadFault = Rose before.read_faults now.read_faults
 IsGraphFail limit text before now graph.Memory = ⊤
 

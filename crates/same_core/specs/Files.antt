@@ -2,6 +2,7 @@
 use Rattle.std.specs.Prelude.{ℕ, List, IfSome, IsSome}
 use Rattle.std.specs.declared.option.Option.{Option}
 use Rattle.aiger_reader.specs.Refusals.{SpellsWithin}
+use Rattle.graph_core.specs.declared.profile.Profile.TheVariants.{Any}
 use Rattle.graph_core.specs.Graph.{Aig}
 use Rattle.mv_desk.specs.View.{View, bytes_under}
 use Rattle.mv_desk.specs.declared.names.Names.{Names}
@@ -36,7 +37,7 @@ pub record AreTold (texts : Texts) : Type 0 where
 
 -- the file spells the graph within its limit, where it is told
 abbrev pub IsSpelled : ℕ → Option (List ℕ) → Aig → Type 0
-IsSpelled limit file g = IfSome file (λ bytes. SpellsWithin limit bytes g)
+IsSpelled limit file g = IfSome file (λ bytes. SpellsWithin Any limit bytes g)
 
 -- There is a first graph, of which something holds.
 abbrev pub HasFirst : ℕ → Texts → (Aig → Type 0) → Type 0

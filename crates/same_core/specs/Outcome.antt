@@ -4,6 +4,7 @@ use Rattle.aiger_reader.specs.Refusals as reading
 use Rattle.aiger_reader.specs.Refusals.{IsGraphRefusal}
 use Rattle.clause_judge.specs.LineRefusals.{line_cause}
 use Rattle.drup_text.specs.HeaderRefusal as clausal
+use Rattle.graph_core.specs.declared.profile.Profile.TheVariants.{Any}
 use Rattle.graph_core.specs.Graph.{Aig}
 use Rattle.mv_desk.specs.View.{View, OpensAtMost, OpensFiles, Rose}
 use Rattle.mv_desk.specs.declared.limits.Limits.{Limits}
@@ -23,10 +24,10 @@ MeetsClauses limits texts P = HasPair limits.graph texts (λ g h. IfSome texts.c
 -- The answer that is due: the file is lawful, or the first refusal, or a length that is met before any refusal.
 abbrev pub IsDue : Limits → Texts → SameChecked → Type 0
 IsDue limits texts checked.Accepted = MeetsClauses limits texts (λ g h bytes. IsLawful (lengths_of limits) (merged g h) bytes)
-IsDue limits texts (checked.Graph slot.Graph why) = IfSome texts.graph (λ bytes. IsGraphRefusal limits.graph bytes why)
-IsDue limits texts (checked.Graph slot.Other why) = HasFirst limits.graph texts (λ g. IfSome texts.other (λ bytes. IsGraphRefusal limits.graph bytes why))
-IsDue limits texts (checked.TooLong slot.Graph) = IfSome texts.graph (reading.IsTooLong limits.graph)
-IsDue limits texts (checked.TooLong slot.Other) = HasFirst limits.graph texts (λ g. IfSome texts.other (reading.IsTooLong limits.graph))
+IsDue limits texts (checked.Graph slot.Graph why) = IfSome texts.graph (λ bytes. IsGraphRefusal Any limits.graph bytes why)
+IsDue limits texts (checked.Graph slot.Other why) = HasFirst limits.graph texts (λ g. IfSome texts.other (λ bytes. IsGraphRefusal Any limits.graph bytes why))
+IsDue limits texts (checked.TooLong slot.Graph) = IfSome texts.graph (reading.IsTooLong Any limits.graph)
+IsDue limits texts (checked.TooLong slot.Other) = HasFirst limits.graph texts (λ g. IfSome texts.other (reading.IsTooLong Any limits.graph))
 IsDue limits texts checked.Shapes = HasBoth limits.graph texts (λ g h. ¬ (AreOfOneShape g h))
 IsDue limits texts (checked.Refused (refusal.Clauses line why)) =
     MeetsClauses limits texts (λ g h bytes. IsLineRefusal (lengths_of limits) (merged g h) bytes (line, line_cause why))

@@ -24,7 +24,7 @@ pub(crate) enum GraphFail {
     Memory,
 }
 
-// The graph that a file spells, which is opened in a slot.
+// The graph of any profile that a file spells, which is opened in a slot.
 pub(crate) fn read_graph<D: Desk>(
     alloc: Global,
     desk: &mut D,
@@ -42,7 +42,7 @@ pub(crate) fn read_graph<D: Desk>(
     ensures inspects { Inspects (D.seen desk.old) (D.seen desk.new) }
     ensures tells { KeepsTelling (D.seen desk.old) (D.seen desk.new) }
 {
-    match read_file(alloc, desk, slot, name, Profile::Multiplier, limits) {
+    match read_file(alloc, desk, slot, name, Profile::Any, limits) {
         Ok(graph) => {
             // a graph is built without faults, whatever is known of its file
             let _gates = graph.gates();

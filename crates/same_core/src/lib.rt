@@ -1,4 +1,5 @@
-//! Judges whether two graphs are the same: for all inputs all their outputs agree.
+//! Judges whether two graphs are the same: for all inputs all their outputs agree. They may be any graphs of at most 256
+//! inputs, odd numbers and 0 among them, and of 1 to 256 outputs.
 //!
 //! `merge` puts the gates of two graphs into one list over the same inputs. `check_same` opens the two graphs and a clause
 //! certificate, reads the certificate line by line, and says what the files come to: accepted where the bytes spell two
