@@ -1,16 +1,23 @@
 -- What plain words ask for, computed.
 use Rattle.std.proofs.Common.{◌≡◌, Some, None, refl, codes}
 use Rattle.clap.proofs.OnLiterals.{clap_on_literals}
-use Rattle.graph_core.specs.declared.order.Order.TheVariants.{Interleaved}
-use Rattle.graph_maker.specs.declared.adder.Adder.TheVariants.{Ripple}
-use Rattle.graph_maker.specs.declared.kind.Kind.TheVariants.{Array}
-use Rattle.command_line.specs.declared.command.Command.TheVariants.{Make, Trial}
+use Rattle.graph_core.specs.declared.order.Order.TheVariants.{Interleaved, Separate}
+use Rattle.graph_core.specs.declared.sign.Sign.TheVariants.{Signed, Unsigned}
+use Rattle.graph_core.specs.Graph.Operands.{adding, multiplying}
+use Rattle.graph_maker.specs.declared.adder.Adder.TheVariants.{Kogge, Ripple}
+use Rattle.graph_maker.specs.declared.design.Design.TheVariants.{Corrected, Multiplier, MultiplyAdd}
+use Rattle.graph_maker.specs.declared.kind.Kind.TheVariants.{Array, Dadda}
+use Rattle.command_line.specs.declared.command.Command.TheVariants.{Eval, Make, Trial}
 use Rattle.command_line.specs.Asked.{IsCheck, asked}
-use Rattle.command_line.specs.Examples.{g_c_a, check_interleaved, check_g, make_array, trial_of_21}
+use Rattle.command_line.specs.Examples.{g_c_a, check_interleaved, check_signed_sum, check_g, make_array, make_corrected, make_dadda_add, make_corrected_add, eval_addend, trial_of_21}
 
-pub interleaved : IsCheck check_interleaved g_c_a Interleaved
+pub interleaved : IsCheck check_interleaved g_c_a (multiplying Interleaved Unsigned)
 unfolding asked clap_on_literals
 interleaved = refl
+
+pub signed_sum : IsCheck check_signed_sum g_c_a (adding Separate Signed)
+unfolding asked clap_on_literals
+signed_sum = refl
 
 pub too_few : asked check_g ≡ None
 unfolding asked clap_on_literals
@@ -20,6 +27,22 @@ pub tried : asked trial_of_21 ≡ Some (Trial 21)
 unfolding asked clap_on_literals
 tried = refl
 
-pub made : asked make_array ≡ Some (Make Array 64 Ripple (codes "x"))
+pub made : asked make_array ≡ Some (Make (Multiplier Array) 64 Ripple (codes "x"))
 unfolding asked clap_on_literals
 made = refl
+
+pub corrected : asked make_corrected ≡ Some (Make Corrected 8 Kogge (codes "x"))
+unfolding asked clap_on_literals
+corrected = refl
+
+pub sum : asked make_dadda_add ≡ Some (Make (MultiplyAdd Dadda) 8 Kogge (codes "x"))
+unfolding asked clap_on_literals
+sum = refl
+
+pub no_sum : asked make_corrected_add ≡ None
+unfolding asked clap_on_literals
+no_sum = refl
+
+pub added : asked eval_addend ≡ Some (Eval (codes "g") 1 2 Separate (Some 3))
+unfolding asked clap_on_literals
+added = refl

@@ -6,14 +6,15 @@ use Rattle.std.specs.Str.{bytes_eq}
 use Rattle.std.proofs.lemmas.Bool.Decides.{nat_tests}
 use Rattle.std.proofs.lemmas.Slice.Eq.{bytes_eq-Decides}
 use Rattle.clap.specs.Words.{Kinds, Row, Text, fault_of, first_of, subcommand_of}
+use Rattle.graph_core.specs.declared.claim.Claim.{Claim}
 use Rattle.graph_core.specs.declared.order.Order.{Order}
 use Rattle.graph_maker.specs.declared.adder.Adder.{Adder}
-use Rattle.graph_maker.specs.declared.kind.Kind.{Kind}
+use Rattle.graph_maker.specs.declared.design.Design.{Design}
 use Rattle.command_line.specs.declared.command.Command.{Command}
-use Rattle.command_line.specs.declared.command.Command.TheVariants.{Check, CheckSame, Make, Same, Trial, Verify}
+use Rattle.command_line.specs.declared.command.Command.TheVariants.{Check, CheckSame, Eval, Make, Same, Trial, Verify}
 use Rattle.command_line.specs.declared.files.Files.{Files}
 use Rattle.command_line.specs.declared.files.PairFiles.{PairFiles}
-use Rattle.command_line.specs.Asked.{AreApart, AreBits, IsInRange, LeavesGraphs, adder_named, are_shared, asked, bits_of, check_of, check_same_of, check_same_with, check_with, is_overwriting, pair_at, same_of, same_with, files_at, verify_of, verify_with, word_at, word_from, eval_of, eval_with, kind_named, make_of, make_with, met, named, number_of, order_at, read_at, trial_of, trial_with, where_taken}
+use Rattle.command_line.specs.Asked.{AreApart, AreBits, IsInRange, LeavesGraphs, addend_at, adder_named, are_shared, asked, bits_of, check_of, check_same_of, check_same_with, check_with, claim_at, design_named, is_overwriting, is_set, pair_at, same_of, same_with, files_at, verify_of, verify_with, word_at, word_from, eval_of, eval_with, make_of, make_with, met, named, number_of, order_at, read_at, trial_of, trial_with, where_taken}
 use Rattle.command_line.specs.FixedCommand.{mulver}
 
 -- ---- the number
@@ -57,9 +58,9 @@ word_of_in (Some text) = in_word 0 (number_of text)
 same_range : (asked there : Command) → IsInRange there → Some there ≡ Some asked → IsInRange asked
 same_range asked there h e = let same : there ≡ asked = cc in subst IsInRange same h
 
-check_range : (files : Option Files) (order : Option Order) (command : Command) → check_with files order ≡ Some command → IsInRange command
-check_range (Some f) (Some o) command e = same_range command (Check f o) tt e
-check_range None order command e = cc
+check_range : (files : Option Files) (claim : Option Claim) (command : Command) → check_with files claim ≡ Some command → IsInRange command
+check_range (Some f) (Some k) command e = same_range command (Check f k) tt e
+check_range None claim command e = cc
 check_range (Some f) None command e = cc
 
 -- texts of which the test says that they differ
@@ -76,34 +77,35 @@ apart files test =
     let two = or_none (bytes_eq files.graph files.algebra) (bytes_eq files.clauses files.algebra) one.1 in
     record { clauses = differ files.graph files.clauses one.0; algebra = differ files.graph files.algebra two.0; certificates = differ files.clauses files.algebra two.1 }
 
-verify_one : (files : Files) (order : Order) (budget conflicts : ℕ) (command : Command) → (1 ≤ budget) × (budget < 2 ^ 32) → conflicts < 2 ^ 32
-    → (shared : Bool) → are_shared files ≡ shared → (if shared then None else Some (Verify files order budget conflicts)) ≡ Some command → IsInRange command
-verify_one files order budget conflicts command b c true test e = cc
-verify_one files order budget conflicts command b c false test e = same_range command (Verify files order budget conflicts) (apart files test, b.0, b.1, c) e
+verify_one : (files : Files) (claim : Claim) (budget conflicts : ℕ) (command : Command) → (1 ≤ budget) × (budget < 2 ^ 32) → conflicts < 2 ^ 32
+    → (shared : Bool) → are_shared files ≡ shared → (if shared then None else Some (Verify files claim budget conflicts)) ≡ Some command → IsInRange command
+verify_one files claim budget conflicts command b c true test e = cc
+verify_one files claim budget conflicts command b c false test e = same_range command (Verify files claim budget conflicts) (apart files test, b.0, b.1, c) e
 
-verify_range : (files : Option Files) (order : Option Order) (budget conflicts : Option ℕ) (command : Command)
-    → IfSome budget (AreFrom 1) → IfSome conflicts (AreFrom 0) → verify_with files order budget conflicts ≡ Some command → IsInRange command
-verify_range (Some f) (Some o) (Some b) (Some c) command b_range c_range e = verify_one f o b c command b_range c_range.1 (are_shared f) refl e
-verify_range None order budget conflicts command b_range c_range e = cc
+verify_range : (files : Option Files) (claim : Option Claim) (budget conflicts : Option ℕ) (command : Command)
+    → IfSome budget (AreFrom 1) → IfSome conflicts (AreFrom 0) → verify_with files claim budget conflicts ≡ Some command → IsInRange command
+verify_range (Some f) (Some k) (Some b) (Some c) command b_range c_range e = verify_one f k b c command b_range c_range.1 (are_shared f) refl e
+verify_range None claim budget conflicts command b_range c_range e = cc
 verify_range (Some f) None budget conflicts command b_range c_range e = cc
-verify_range (Some f) (Some o) None conflicts command b_range c_range e = cc
-verify_range (Some f) (Some o) (Some b) None command b_range c_range e = cc
+verify_range (Some f) (Some k) None conflicts command b_range c_range e = cc
+verify_range (Some f) (Some k) (Some b) None command b_range c_range e = cc
 
-eval_range : (graph : Option Text) (a b : Option ℕ) (order : Option Order) (command : Command)
-    → eval_with graph a b order ≡ Some command → IsInRange command
-eval_range (Some g) (Some a) (Some b) (Some o) command e = same_range command _ tt e
-eval_range None a b order command e = cc
-eval_range (Some g) None b order command e = cc
-eval_range (Some g) (Some a) None order command e = cc
-eval_range (Some g) (Some a) (Some b) None command e = cc
+eval_range : (graph : Option Text) (a b : Option ℕ) (order : Option Order) (addend : Option (Option ℕ)) (command : Command)
+    → eval_with graph a b order addend ≡ Some command → IsInRange command
+eval_range (Some g) (Some a) (Some b) (Some o) (Some c) command e = same_range command (Eval g a b o c) tt e
+eval_range None a b order addend command e = cc
+eval_range (Some g) None b order addend command e = cc
+eval_range (Some g) (Some a) None order addend command e = cc
+eval_range (Some g) (Some a) (Some b) None addend command e = cc
+eval_range (Some g) (Some a) (Some b) (Some o) None command e = cc
 
-make_range : (kind : Option Kind) (bits : Option ℕ) (adder : Option Adder) (out : Option Text) (command : Command)
-    → IfSome bits AreBits → make_with kind bits adder out ≡ Some command → IsInRange command
-make_range (Some k) (Some n) (Some a) (Some o) command in_range e = same_range command (Make k n a o) in_range e
+make_range : (design : Option Design) (bits : Option ℕ) (adder : Option Adder) (out : Option Text) (command : Command)
+    → IfSome bits AreBits → make_with design bits adder out ≡ Some command → IsInRange command
+make_range (Some d) (Some n) (Some a) (Some o) command in_range e = same_range command (Make d n a o) in_range e
 make_range None bits adder out command in_range e = cc
-make_range (Some k) None adder out command in_range e = cc
-make_range (Some k) (Some n) None out command in_range e = cc
-make_range (Some k) (Some n) (Some a) None command in_range e = cc
+make_range (Some d) None adder out command in_range e = cc
+make_range (Some d) (Some n) None out command in_range e = cc
+make_range (Some d) (Some n) (Some a) None command in_range e = cc
 
 trial_range : (number : Option ℕ) (command : Command) → IfSome number (AreFrom 0) → trial_with number ≡ Some command → IsInRange command
 trial_range (Some n) command in_range e = same_range command (Trial n) in_range.1 e
@@ -140,11 +142,11 @@ named_range name rows command =
         → (if v then check_of rows else (if w then verify_of rows else (if x then eval_of rows else (if y then make_of rows else (if z then trial_of rows
         else (if s then same_of rows else (if t then check_same_of rows else None))))))) ≡ Some command
         → IsInRange command
-    pick true w x y z s t e = check_range (files_at rows) (order_at rows) command e
-    pick false true x y z s t e = verify_range (files_at rows) (order_at rows) (word_at 1 1000000 (codes "budget") rows) (word_at 0 100000 (codes "conflicts") rows) command
+    pick true w x y z s t e = check_range (files_at rows) (claim_at rows) command e
+    pick false true x y z s t e = verify_range (files_at rows) (claim_at rows) (word_at 1 1000000 (codes "budget") rows) (word_at 0 100000 (codes "conflicts") rows) command
         (word_in 1 1000000 (first_of (codes "budget") rows) (omega arith, omega arith)) (word_in 0 100000 (first_of (codes "conflicts") rows) (omega arith, omega arith)) e
-    pick false false true y z s t e = eval_range (first_of (codes "graph") rows) (read_at number_of (codes "a") rows) (read_at number_of (codes "b") rows) (order_at rows) command e
-    pick false false false true z s t e = make_range (read_at kind_named (codes "kind") rows) (read_at bits_of (codes "bits") rows)
+    pick false false true y z s t e = eval_range (first_of (codes "graph") rows) (read_at number_of (codes "a") rows) (read_at number_of (codes "b") rows) (order_at rows) (addend_at rows) command e
+    pick false false false true z s t e = make_range (read_at (design_named (is_set (codes "add") rows)) (codes "kind") rows) (read_at bits_of (codes "bits") rows)
         (read_at adder_named (codes "adder") rows) (first_of (codes "out") rows) command (bits_in (first_of (codes "bits") rows)) e
     pick false false false false true s t e = trial_range (read_at (word_from 0) (codes "number") rows) command (word_of_in (first_of (codes "number") rows)) e
     pick false false false false false true t e = pair_range (pair_at rows) (word_at 0 100000 (codes "conflicts") rows) command

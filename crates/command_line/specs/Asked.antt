@@ -1,14 +1,19 @@
 -- What the words of a command line ask for.
-use Rattle.std.specs.Prelude.{◌≡◌, ◌≢◌, ◌<◌, ◌≤◌, ⊤, ℕ, ◌^◌, ◌&&◌, ◌||◌, Bool, false, nat_le, nat_lt, List, [], ◌∷◌, map, Option, Some, None, if◌then◌else◌, codes, string_bytes, option_and_then}
+use Rattle.std.specs.Prelude.{◌≡◌, ◌≢◌, ◌<◌, ◌≤◌, ⊤, ℕ, ◌^◌, ◌&&◌, ◌||◌, Bool, false, nat_le, nat_lt, List, [], ◌∷◌, map, Option, Some, None, if◌then◌else◌, codes, string_bytes, option_and_then, option_map}
 use Rattle.std.specs.Global.{Global}
 use Rattle.std.specs.Option.{option_map_or}
 use Rattle.std.specs.Str.{all_ascii_digits, bytes_eq}
 use Rattle.std.specs.declared.string.String.{String}
 use Rattle.clap.specs.Words.{Kinds, Row, Text, fault_of, first_of, subcommand_of}
+use Rattle.graph_core.specs.declared.claim.Claim.{Claim}
 use Rattle.graph_core.specs.declared.order.Order.{Order}
 use Rattle.graph_core.specs.declared.order.Order.TheVariants.{Separate, Interleaved}
+use Rattle.graph_core.specs.declared.sign.Sign.{Sign}
+use Rattle.graph_core.specs.declared.sign.Sign.TheVariants.{Unsigned, Signed}
 use Rattle.graph_maker.specs.declared.adder.Adder.{Adder}
 use Rattle.graph_maker.specs.declared.adder.Adder.TheVariants.{Ripple, Kogge, Sklansky}
+use Rattle.graph_maker.specs.declared.design.Design.{Design}
+use Rattle.graph_maker.specs.declared.design.Design.TheVariants.{Corrected, Multiplier, MultiplyAdd}
 use Rattle.graph_maker.specs.declared.kind.Kind.{Kind}
 use Rattle.graph_maker.specs.declared.kind.Kind.TheVariants.{Array, Dadda}
 use Rattle.mv_desk.specs.declared.names.Names.{Names}
@@ -37,10 +42,21 @@ order_named text =
     if bytes_eq text (codes "separate") then Some Separate
     else (if bytes_eq text (codes "interleaved") then Some Interleaved else None)
 
+abbrev pub sign_named : Text → Option Sign
+sign_named text =
+    if bytes_eq text (codes "unsigned") then Some Unsigned
+    else (if bytes_eq text (codes "signed") then Some Signed else None)
+
 abbrev pub kind_named : Text → Option Kind
 kind_named text =
     if bytes_eq text (codes "array") then Some Array
     else (if bytes_eq text (codes "dadda") then Some Dadda else None)
+
+-- `corrected` is made without an addend alone, and the other kinds without one and with one
+abbrev pub design_named : Bool → Text → Option Design
+design_named add text =
+    if bytes_eq text (codes "corrected") then (if add then None else Some Corrected)
+    else option_map (λ kind. if add then MultiplyAdd kind else Multiplier kind) (kind_named text)
 
 abbrev pub adder_named : Text → Option Adder
 adder_named text =
@@ -78,6 +94,22 @@ read_at read name rows = option_and_then read (first_of name rows)
 abbrev pub order_at : List Row → Option Order
 order_at rows = option_map_or order_named (first_of (codes "inputs") rows) (Some Separate)
 
+-- the kind of operands that is named, or `unsigned` where none is
+abbrev pub sign_at : List Row → Option Sign
+sign_at rows = option_map_or sign_named (first_of (codes "operands") rows) (Some Unsigned)
+
+-- the flag of this name is given
+abbrev pub is_set : Text → List Row → Bool
+is_set name rows = option_map_or (λ text. bytes_eq text (codes "true")) (first_of name rows) false
+
+-- what is claimed: an order, a kind of operands, and whether there is an addend
+abbrev pub claim_with : Option Order → Option Sign → Bool → Option Claim
+claim_with (Some order) (Some sign) add = Some (record { order = order; sign = sign; add = add })
+claim_with _ _ _ = None
+
+abbrev pub claim_at : List Row → Option Claim
+claim_at rows = claim_with (order_at rows) (sign_at rows) (is_set (codes "add") rows)
+
 -- the names of three files; nothing where one is missing
 abbrev pub files_with : Option Text → Option Text → Option Text → Option Files
 files_with (Some graph) (Some clauses) (Some algebra) =
@@ -90,13 +122,13 @@ files_at rows = files_with
     (first_of (codes "clauses") rows)
     (first_of (codes "algebra") rows)
 
--- `check`: the names of three files, and an order
-abbrev pub check_with : Option Files → Option Order → Option Command
-check_with (Some files) (Some order) = Some (Check files order)
+-- `check`: the names of three files, and a claim
+abbrev pub check_with : Option Files → Option Claim → Option Command
+check_with (Some files) (Some claim) = Some (Check files claim)
 check_with _ _ = None
 
 abbrev pub check_of : List Row → Option Command
-check_of rows = check_with (files_at rows) (order_at rows)
+check_of rows = check_with (files_at rows) (claim_at rows)
 
 -- the number of this name, below 2^32 and from a least one on, or a default where none is named
 abbrev pub word_at : ℕ → ℕ → Text → List Row → Option ℕ
@@ -107,23 +139,34 @@ abbrev pub are_shared : Files → Bool
 are_shared files =
     bytes_eq files.graph files.clauses || (bytes_eq files.graph files.algebra || bytes_eq files.clauses files.algebra)
 
--- `verify`: the names of three files, no two of which are equal, an order, a budget and a number of conflicts
-abbrev pub verify_with : Option Files → Option Order → Option ℕ → Option ℕ → Option Command
-verify_with (Some files) (Some order) (Some budget) (Some conflicts) =
-    if are_shared files then None else Some (Verify files order budget conflicts)
+-- the most monomials that a remainder may have, and the most conflicts, where the words give none
+abbrev pub default_budget : ℕ
+default_budget = 1000000
+
+abbrev pub default_conflicts : ℕ
+default_conflicts = 100000
+
+-- `verify`: the names of three files, no two of which are equal, a claim, a budget and a number of conflicts
+abbrev pub verify_with : Option Files → Option Claim → Option ℕ → Option ℕ → Option Command
+verify_with (Some files) (Some claim) (Some budget) (Some conflicts) =
+    if are_shared files then None else Some (Verify files claim budget conflicts)
 verify_with _ _ _ _ = None
 
 abbrev pub verify_of : List Row → Option Command
 verify_of rows = verify_with
     (files_at rows)
-    (order_at rows)
-    (word_at 1 1000000 (codes "budget") rows)
-    (word_at 0 100000 (codes "conflicts") rows)
+    (claim_at rows)
+    (word_at 1 default_budget (codes "budget") rows)
+    (word_at 0 default_conflicts (codes "conflicts") rows)
 
--- `eval`: the name of a file, two numbers, and an order
-abbrev pub eval_with : Option Text → Option ℕ → Option ℕ → Option Order → Option Command
-eval_with (Some graph) (Some a) (Some b) (Some order) = Some (Eval graph a b order)
-eval_with _ _ _ _ = None
+-- the addend that is given, or none
+abbrev pub addend_at : List Row → Option (Option ℕ)
+addend_at rows = option_map_or (λ text. option_map (λ c. Some c) (number_of text)) (first_of (codes "addend") rows) (Some None)
+
+-- `eval`: the name of a file, two numbers, an order, and perhaps an addend
+abbrev pub eval_with : Option Text → Option ℕ → Option ℕ → Option Order → Option (Option ℕ) → Option Command
+eval_with (Some graph) (Some a) (Some b) (Some order) (Some addend) = Some (Eval graph a b order addend)
+eval_with _ _ _ _ _ = None
 
 abbrev pub eval_of : List Row → Option Command
 eval_of rows = eval_with
@@ -131,15 +174,16 @@ eval_of rows = eval_with
     (read_at number_of (codes "a") rows)
     (read_at number_of (codes "b") rows)
     (order_at rows)
+    (addend_at rows)
 
--- `make`: a kind, a number of bits, an adder, and the name of a file
-abbrev pub make_with : Option Kind → Option ℕ → Option Adder → Option Text → Option Command
-make_with (Some kind) (Some bits) (Some adder) (Some out) = Some (Make kind bits adder out)
+-- `make`: a design, a number of bits, an adder, and the name of a file
+abbrev pub make_with : Option Design → Option ℕ → Option Adder → Option Text → Option Command
+make_with (Some design) (Some bits) (Some adder) (Some out) = Some (Make design bits adder out)
 make_with _ _ _ _ = None
 
 abbrev pub make_of : List Row → Option Command
 make_of rows = make_with
-    (read_at kind_named (codes "kind") rows)
+    (read_at (design_named (is_set (codes "add") rows)) (codes "kind") rows)
     (read_at bits_of (codes "bits") rows)
     (read_at adder_named (codes "adder") rows)
     (first_of (codes "out") rows)
@@ -174,7 +218,7 @@ same_with (Some files) (Some conflicts) = if is_overwriting files then None else
 same_with _ _ = None
 
 abbrev pub same_of : List Row → Option Command
-same_of rows = same_with (pair_at rows) (word_at 0 100000 (codes "conflicts") rows)
+same_of rows = same_with (pair_at rows) (word_at 0 default_conflicts (codes "conflicts") rows)
 
 -- `check-same`: the names of three files
 abbrev pub check_same_with : Option PairFiles → Option Command
@@ -216,13 +260,13 @@ asked words = where_taken (fault_of mulver words) (met (subcommand_of mulver wor
 abbrev pub IsUsage : List Text → Type 0
 IsUsage words = asked words ≡ None
 
--- The words ask for `verify` of these files, under this order, with this budget and so many conflicts.
-abbrev pub IsVerify : List Text → Files → Order → ℕ → ℕ → Type 0
-IsVerify words files order budget conflicts = asked words ≡ Some (Verify files order budget conflicts)
+-- The words ask for `verify` of these files and this claim, with this budget and so many conflicts.
+abbrev pub IsVerify : List Text → Files → Claim → ℕ → ℕ → Type 0
+IsVerify words files claim budget conflicts = asked words ≡ Some (Verify files claim budget conflicts)
 
--- The words ask for `check` of these files, under this order.
-abbrev pub IsCheck : List Text → Files → Order → Type 0
-IsCheck words files order = asked words ≡ Some (Check files order)
+-- The words ask for `check` of these files and this claim.
+abbrev pub IsCheck : List Text → Files → Claim → Type 0
+IsCheck words files claim = asked words ≡ Some (Check files claim)
 
 -- The words ask for `same` of these files, with so many conflicts.
 abbrev pub AsksSame : List Text → PairFiles → ℕ → Type 0
@@ -250,8 +294,8 @@ pub record LeavesGraphs (files : PairFiles) : Type 0 where
 -- The numbers of `make`, `verify`, `trial` and `same` are in their ranges, no two names of `verify` are equal, and `same` writes over no
 -- graph.
 abbrev pub IsInRange : Command → Type 0
-IsInRange (Make kind bits adder out) = AreBits bits
-IsInRange (Verify files order budget conflicts) = AreApart files × (1 ≤ budget) × (budget < 2 ^ 32) × (conflicts < 2 ^ 32)
+IsInRange (Make design bits adder out) = AreBits bits
+IsInRange (Verify files claim budget conflicts) = AreApart files × (1 ≤ budget) × (budget < 2 ^ 32) × (conflicts < 2 ^ 32)
 IsInRange (Trial number) = number < 2 ^ 32
 IsInRange (Same files conflicts) = LeavesGraphs files × (conflicts < 2 ^ 32)
 IsInRange _ = ⊤

@@ -2,6 +2,7 @@
 use Rattle.std.specs.Prelude.{◌≡◌, ◌≢◌, ◌<◌, ◌^◌, ◌↔◌, ℕ, List, [], ◌∷◌, Some, codes, slice_get}
 use Rattle.clap.specs.Words.{Text}
 use Rattle.graph_core.specs.declared.order.Order.TheVariants.{Separate}
+use Rattle.graph_core.specs.Graph.Operands.{product_under}
 use Rattle.mv_nums.specs.Numeral.{Spells}
 use Rattle.command_line.specs.declared.files.Files.{Files}
 use Rattle.command_line.specs.Asked.{IsCheck, number_of}
@@ -14,7 +15,7 @@ BeginsPlain text = slice_get text 0 ≢ Some 45
 abbrev pub NamesAreChecked : Type 0
 NamesAreChecked = (program : Text) (files : Files)
     → BeginsPlain files.graph → BeginsPlain files.clauses → BeginsPlain files.algebra
-    → IsCheck (program ∷ codes "check" ∷ files.graph ∷ files.clauses ∷ files.algebra ∷ []) files Separate
+    → IsCheck (program ∷ codes "check" ∷ files.graph ∷ files.clauses ∷ files.algebra ∷ []) files (product_under Separate)
 
 -- The number that a text says is the one that it spells in decimal digits, below 2^128.
 abbrev pub NumbersAreNumerals : Type 0
@@ -29,12 +30,33 @@ check_interleaved =
     codes "mulver" ∷ codes "check" ∷ codes "g" ∷ codes "c" ∷ codes "a" ∷
     codes "--inputs" ∷ codes "interleaved" ∷ []
 
+abbrev pub check_signed_sum : List Text
+check_signed_sum =
+    codes "mulver" ∷ codes "check" ∷ codes "g" ∷ codes "c" ∷ codes "a" ∷
+    codes "--operands" ∷ codes "signed" ∷ codes "--add" ∷ []
+
 abbrev pub check_g : List Text
 check_g = codes "mulver" ∷ codes "check" ∷ codes "g" ∷ []
 
 abbrev pub make_array : List Text
 make_array =
     codes "mulver" ∷ codes "make" ∷ codes "array" ∷ codes "064" ∷ codes "ripple" ∷ codes "x" ∷ []
+
+abbrev pub make_corrected : List Text
+make_corrected =
+    codes "mulver" ∷ codes "make" ∷ codes "corrected" ∷ codes "8" ∷ codes "kogge" ∷ codes "x" ∷ []
+
+abbrev pub make_dadda_add : List Text
+make_dadda_add =
+    codes "mulver" ∷ codes "make" ∷ codes "dadda" ∷ codes "8" ∷ codes "kogge" ∷ codes "x" ∷ codes "--add" ∷ []
+
+abbrev pub make_corrected_add : List Text
+make_corrected_add =
+    codes "mulver" ∷ codes "make" ∷ codes "corrected" ∷ codes "8" ∷ codes "kogge" ∷ codes "x" ∷ codes "--add" ∷ []
+
+abbrev pub eval_addend : List Text
+eval_addend =
+    codes "mulver" ∷ codes "eval" ∷ codes "g" ∷ codes "1" ∷ codes "2" ∷ codes "--addend" ∷ codes "3" ∷ []
 
 abbrev pub trial_of_21 : List Text
 trial_of_21 = codes "mulver" ∷ codes "trial" ∷ codes "21" ∷ []

@@ -1,7 +1,7 @@
--- The command that `clap` is given: one level of subcommands, each with required words in their places and long options
--- of one text.
+-- The command that `clap` is given: one level of subcommands, each with required words in their places, long options of
+-- one text, and flags.
 use Rattle.std.specs.Prelude.{true, Some, codes}
-use Rattle.clap.specs.declared.builder.ArgAction.TheVariants.{Set}
+use Rattle.clap.specs.declared.builder.ArgAction.TheVariants.{Set, SetTrue}
 use Rattle.clap.specs.Words.{App, Rule, Text, new_app, new_rule, with_rule, with_subcommand}
 
 -- a required word in its place
@@ -16,29 +16,37 @@ choice id = record (new_rule id) { long = Some id; action = Some Set }
 abbrev pub needed : Text → Rule
 needed id = record (new_rule id) { long = Some id; action = Some Set; required = true }
 
--- `check GRAPH CLAUSES ALGEBRA [--inputs ORDER]`
-abbrev pub check_app : App
-check_app = with_rule (with_rule (with_rule (with_rule (new_app (codes "check"))
-    (word (codes "graph"))) (word (codes "clauses"))) (word (codes "algebra"))) (choice (codes "inputs"))
+-- a flag of this long name, which has no text
+abbrev pub flag : Text → Rule
+flag id = record (new_rule id) { long = Some id; action = Some SetTrue }
 
--- `verify GRAPH --clauses FILE --algebra FILE [--inputs ORDER] [--budget N] [--conflicts N]`
+-- `check GRAPH CLAUSES ALGEBRA [--inputs ORDER] [--operands KIND] [--add]`
+abbrev pub check_files : App
+check_files = with_rule (with_rule (with_rule (new_app (codes "check"))
+    (word (codes "graph"))) (word (codes "clauses"))) (word (codes "algebra"))
+
+abbrev pub check_app : App
+check_app = with_rule (with_rule (with_rule check_files
+    (choice (codes "inputs"))) (choice (codes "operands"))) (flag (codes "add"))
+
+-- `verify GRAPH --clauses FILE --algebra FILE [--inputs ORDER] [--budget N] [--conflicts N] [--operands KIND] [--add]`
 abbrev pub verify_files : App
 verify_files = with_rule (with_rule (with_rule (new_app (codes "verify"))
     (word (codes "graph"))) (needed (codes "clauses"))) (needed (codes "algebra"))
 
 abbrev pub verify_app : App
-verify_app = with_rule (with_rule (with_rule verify_files
-    (choice (codes "inputs"))) (choice (codes "budget"))) (choice (codes "conflicts"))
+verify_app = with_rule (with_rule (with_rule (with_rule (with_rule verify_files
+    (choice (codes "inputs"))) (choice (codes "budget"))) (choice (codes "conflicts"))) (choice (codes "operands"))) (flag (codes "add"))
 
--- `eval GRAPH A B [--inputs ORDER]`
+-- `eval GRAPH A B [--inputs ORDER] [--addend C]`
 abbrev pub eval_app : App
-eval_app = with_rule (with_rule (with_rule (with_rule (new_app (codes "eval"))
-    (word (codes "graph"))) (word (codes "a"))) (word (codes "b"))) (choice (codes "inputs"))
+eval_app = with_rule (with_rule (with_rule (with_rule (with_rule (new_app (codes "eval"))
+    (word (codes "graph"))) (word (codes "a"))) (word (codes "b"))) (choice (codes "inputs"))) (choice (codes "addend"))
 
--- `make KIND BITS ADDER OUT`
+-- `make KIND BITS ADDER OUT [--add]`
 abbrev pub make_app : App
-make_app = with_rule (with_rule (with_rule (with_rule (new_app (codes "make"))
-    (word (codes "kind"))) (word (codes "bits"))) (word (codes "adder"))) (word (codes "out"))
+make_app = with_rule (with_rule (with_rule (with_rule (with_rule (new_app (codes "make"))
+    (word (codes "kind"))) (word (codes "bits"))) (word (codes "adder"))) (word (codes "out"))) (flag (codes "add"))
 
 -- `trial N`
 abbrev pub trial_app : App

@@ -6,16 +6,17 @@ use Rattle.clap.specs.declared.builder.Command.TheViews.{out-Command}
 use Rattle.clap.specs.declared.ArgMatches.{ArgMatches}
 use Rattle.clap.specs.Words.{App, Rule, Text, app_of, fault_of, new_app, subcommand_of, subcommand_rows_of, with_rule, with_subcommand}
 use Rattle.command_line.specs.declared.builders.Form.{Form}
-use Rattle.command_line.specs.declared.builders.Form.TheVariants.{Word, Choice, Needed}
+use Rattle.command_line.specs.declared.builders.Form.TheVariants.{Word, Choice, Needed, Flag}
 use Rattle.command_line.specs.declared.fail.WordsFail.{WordsFail}
 use Rattle.command_line.specs.declared.fail.WordsFail.TheVariants.{Usage}
-use Rattle.command_line.specs.FixedCommand.{choice, mulver, needed, word}
+use Rattle.command_line.specs.FixedCommand.{choice, flag, mulver, needed, word}
 
 -- the rule of an argument of this form
 abbrev pub rule_for : Form → Text → Rule
 rule_for Word id = word id
 rule_for Choice id = choice id
 rule_for Needed id = needed id
+rule_for Flag id = flag id
 
 -- a command with more arguments, in turn
 abbrev pub with_args : List (Form × Bor Text) → App → App

@@ -17,6 +17,8 @@ enum Form {
     Choice,
     // An option of one text that is required.
     Needed,
+    // An option without a text.
+    Flag,
 }
 
 // The subcommands, each with its arguments.
@@ -28,6 +30,8 @@ const SUBCOMMANDS: [(&str, &[(Form, &str)]); 7] = [
             (Form::Word, "clauses"),
             (Form::Word, "algebra"),
             (Form::Choice, "inputs"),
+            (Form::Choice, "operands"),
+            (Form::Flag, "add"),
         ],
     ),
     (
@@ -39,6 +43,8 @@ const SUBCOMMANDS: [(&str, &[(Form, &str)]); 7] = [
             (Form::Choice, "inputs"),
             (Form::Choice, "budget"),
             (Form::Choice, "conflicts"),
+            (Form::Choice, "operands"),
+            (Form::Flag, "add"),
         ],
     ),
     (
@@ -48,6 +54,7 @@ const SUBCOMMANDS: [(&str, &[(Form, &str)]); 7] = [
             (Form::Word, "a"),
             (Form::Word, "b"),
             (Form::Choice, "inputs"),
+            (Form::Choice, "addend"),
         ],
     ),
     (
@@ -57,6 +64,7 @@ const SUBCOMMANDS: [(&str, &[(Form, &str)]); 7] = [
             (Form::Word, "bits"),
             (Form::Word, "adder"),
             (Form::Word, "out"),
+            (Form::Flag, "add"),
         ],
     ),
     ("trial", &[(Form::Word, "number")]),
@@ -151,5 +159,6 @@ fn arg<'a>(alloc: Global, form: Form, id: &'a str) -> Arg<'a>
         Form::Word => arg.required(true),
         Form::Choice => arg.long(id),
         Form::Needed => arg.long(id).required(true),
+        Form::Flag => arg.long(id).action(ArgAction::SetTrue),
     }
 }

@@ -1,35 +1,37 @@
 // The commands, each with what its words say.
 use crate::files::{FileName, Files, PairFiles};
-use graph_core::Order;
-use graph_maker::{Adder, Kind};
+use graph_core::{Claim, Order};
+use graph_maker::{Adder, Design};
 
 /// What a command line asks for.
 #[derive(Debug, Drop)]
 pub enum Command {
-    /// To judge a pair of certificates for a graph.
+    /// To judge a pair of certificates for what is claimed of a graph.
     Check {
         files: Files,
-        order: Order,
+        claim: Claim,
     },
-    /// To give a verdict on a graph, and to write both certificates where it multiplies. No two of the names are equal.
+    /// To give a verdict on what is claimed of a graph, and to write both certificates where it holds. No two of the names
+    /// are equal.
     Verify {
         files: Files,
-        order: Order,
+        claim: Claim,
         /// the most monomials that a remainder may have, from 1 to 2^32 - 1
         budget: u64,
         /// the most conflicts of the solver, below 2^32
         conflicts: u64,
     },
-    /// To evaluate a graph at two operands, each below 2^128.
+    /// To evaluate a graph at two operands and perhaps an addend, each below 2^128.
     Eval {
         graph: FileName,
         a: u128,
         b: u128,
         order: Order,
+        addend: Option<u128>,
     },
-    /// To make a multiplier of 1 to 64 bits and to write it to a file.
+    /// To make the graph of a design, of operands of 1 to 64 bits, and to write it to a file.
     Make {
-        kind: Kind,
+        design: Design,
         bits: u32,
         adder: Adder,
         out: FileName,

@@ -1,19 +1,28 @@
 // What the definition says of plain words and numbers.
 ghost use Rattle.std.specs.Prelude.{◌≡◌, None, Some, codes};
-ghost use Rattle.graph_core.specs.declared.order.Order.TheVariants.{Interleaved};
-ghost use Rattle.graph_maker.specs.declared.adder.Adder.TheVariants.{Ripple};
-ghost use Rattle.graph_maker.specs.declared.kind.Kind.TheVariants.{Array};
-ghost use Rattle.command_line.specs.declared.command.Command.TheVariants.{Make, Trial};
+ghost use Rattle.graph_core.specs.declared.order.Order.TheVariants.{Interleaved, Separate};
+ghost use Rattle.graph_core.specs.declared.sign.Sign.TheVariants.{Signed, Unsigned};
+ghost use Rattle.graph_core.specs.Graph.Operands.{adding, multiplying};
+ghost use Rattle.graph_maker.specs.declared.adder.Adder.TheVariants.{Kogge, Ripple};
+ghost use Rattle.graph_maker.specs.declared.design.Design.TheVariants.{Corrected, Multiplier, MultiplyAdd};
+ghost use Rattle.graph_maker.specs.declared.kind.Kind.TheVariants.{Array, Dadda};
+ghost use Rattle.command_line.specs.declared.command.Command.TheVariants.{Eval, Make, Trial};
 ghost use Rattle.command_line.specs.Asked.{IsCheck, asked};
-ghost use Rattle.command_line.specs.Examples.{NamesAreChecked, NumbersAreNumerals, g_c_a, check_interleaved, check_g, make_array, trial_of_21};
+ghost use Rattle.command_line.specs.Examples.{NamesAreChecked, NumbersAreNumerals, g_c_a, check_interleaved, check_signed_sum, check_g, make_array, make_corrected, make_dadda_add, make_corrected_add, eval_addend, trial_of_21};
 
-/// `mulver check` with any three names asks for `check` of these files, under `separate`. With an order behind them it
-/// asks for that order, and with one name for nothing.
+/// `mulver check` with any three names asks for `check` of these files: that the graph multiplies unsigned operands
+/// under `separate`. With an order, a kind of operands or `--add` behind them it asks for that claim, and with one name
+/// for nothing. `make corrected` takes no `--add`.
 pub fn plain_words()
     ensures names { NamesAreChecked }
     ensures numbers { NumbersAreNumerals }
-    ensures interleaved { IsCheck check_interleaved g_c_a Interleaved }
-    ensures made { asked make_array ≡ Some (Make Array 64 Ripple (codes "x")) }
+    ensures interleaved { IsCheck check_interleaved g_c_a (multiplying Interleaved Unsigned) }
+    ensures signed_sum { IsCheck check_signed_sum g_c_a (adding Separate Signed) }
+    ensures made { asked make_array ≡ Some (Make (Multiplier Array) 64 Ripple (codes "x")) }
+    ensures corrected { asked make_corrected ≡ Some (Make Corrected 8 Kogge (codes "x")) }
+    ensures sum { asked make_dadda_add ≡ Some (Make (MultiplyAdd Dadda) 8 Kogge (codes "x")) }
+    ensures no_sum { asked make_corrected_add ≡ None }
+    ensures added { asked eval_addend ≡ Some (Eval (codes "g") 1 2 Separate (Some 3)) }
     ensures tried { asked trial_of_21 ≡ Some (Trial 21) }
     ensures too_few { asked check_g ≡ None }
 {}

@@ -10,6 +10,7 @@
 
 mod builders;
 mod command;
+mod defaults;
 mod examples;
 mod fail;
 mod files;
@@ -18,6 +19,7 @@ mod single;
 mod texts;
 
 pub use command::Command;
+pub use defaults::{BUDGET, CONFLICTS};
 pub use examples::plain_words;
 pub use fail::WordsFail;
 pub use files::{FileName, Files, PairFiles};

@@ -6,9 +6,13 @@ ghost use Rattle.command_line.specs.Reading.{Reads, TakesAs};
 
 use crate::builders::mulver;
 use crate::command::Command;
+use crate::defaults::{BUDGET, CONFLICTS};
 use crate::fail::WordsFail;
 use crate::files::{Files, PairFiles};
-use crate::texts::{adder_at, bits_at, file_at, kind_at, number_at, order_at, word_at, word_of};
+use crate::texts::{
+    addend_at, adder_at, bits_at, claim_at, design_at, file_at, number_at, order_at, word_at,
+    word_of,
+};
 use clap::ArgMatches;
 use clap::error::ErrorKind;
 use std::alloc::Global;
@@ -67,23 +71,23 @@ fn check(alloc: Global, matches: &ArgMatches<'_>) -> Result<Command, WordsFail>
     ensures { Reads (check_of (rows_of (found_of matches.now))) result }
 {
     let files = files_at(alloc, matches)?;
-    let order = order_at(matches).ok_or(WordsFail::Usage)?;
-    Ok(Command::Check { files, order })
+    let claim = claim_at(matches).ok_or(WordsFail::Usage)?;
+    Ok(Command::Check { files, claim })
 }
 
 fn verify(alloc: Global, matches: &ArgMatches<'_>) -> Result<Command, WordsFail>
     ensures { Reads (verify_of (rows_of (found_of matches.now))) result }
 {
     let files = files_at(alloc, matches)?;
-    let order = order_at(matches).ok_or(WordsFail::Usage)?;
-    let budget = word_at(matches, "budget", 1, 1000000).ok_or(WordsFail::Usage)?;
-    let conflicts = word_at(matches, "conflicts", 0, 100000).ok_or(WordsFail::Usage)?;
+    let claim = claim_at(matches).ok_or(WordsFail::Usage)?;
+    let budget = word_at(matches, "budget", 1, BUDGET).ok_or(WordsFail::Usage)?;
+    let conflicts = word_at(matches, "conflicts", 0, CONFLICTS).ok_or(WordsFail::Usage)?;
     if files.are_shared() {
         return Err(WordsFail::Usage);
     }
     Ok(Command::Verify {
         files,
-        order,
+        claim,
         budget,
         conflicts,
     })
@@ -109,18 +113,25 @@ fn eval(alloc: Global, matches: &ArgMatches<'_>) -> Result<Command, WordsFail>
     let a = number_at(matches, "a").ok_or(WordsFail::Usage)?;
     let b = number_at(matches, "b").ok_or(WordsFail::Usage)?;
     let order = order_at(matches).ok_or(WordsFail::Usage)?;
-    Ok(Command::Eval { graph, a, b, order })
+    let addend = addend_at(matches).ok_or(WordsFail::Usage)?;
+    Ok(Command::Eval {
+        graph,
+        a,
+        b,
+        order,
+        addend,
+    })
 }
 
 fn make(alloc: Global, matches: &ArgMatches<'_>) -> Result<Command, WordsFail>
     ensures { Reads (make_of (rows_of (found_of matches.now))) result }
 {
-    let kind = kind_at(matches, "kind").ok_or(WordsFail::Usage)?;
+    let design = design_at(matches).ok_or(WordsFail::Usage)?;
     let bits = bits_at(matches, "bits").ok_or(WordsFail::Usage)?;
     let adder = adder_at(matches, "adder").ok_or(WordsFail::Usage)?;
     let out = file_at(alloc, matches, "out")?;
     Ok(Command::Make {
-        kind,
+        design,
         bits,
         adder,
         out,
@@ -138,7 +149,7 @@ fn same(alloc: Global, matches: &ArgMatches<'_>) -> Result<Command, WordsFail>
     ensures { Reads (same_of (rows_of (found_of matches.now))) result }
 {
     let files = pair_at(alloc, matches)?;
-    let conflicts = word_at(matches, "conflicts", 0, 100000).ok_or(WordsFail::Usage)?;
+    let conflicts = word_at(matches, "conflicts", 0, CONFLICTS).ok_or(WordsFail::Usage)?;
     if files.is_overwriting() {
         return Err(WordsFail::Usage);
     }

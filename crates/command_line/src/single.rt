@@ -1,9 +1,9 @@
 // What a single text says.
 ghost use Rattle.std.specs.Prelude.{◌≡◌};
-ghost use Rattle.command_line.specs.Asked.{adder_named, bits_of, kind_named, number_of, order_named, word_from};
+ghost use Rattle.command_line.specs.Asked.{adder_named, bits_of, design_named, kind_named, number_of, order_named, sign_named, word_from};
 
-use graph_core::Order;
-use graph_maker::{Adder, Kind};
+use graph_core::{Order, Sign};
+use graph_maker::{Adder, Design, Kind};
 use mv_nums::read_decimal;
 
 pub fn order_named(text: &str) -> Option<Order>
@@ -16,7 +16,32 @@ pub fn order_named(text: &str) -> Option<Order>
     }
 }
 
-pub fn kind_named(text: &str) -> Option<Kind>
+pub fn sign_named(text: &str) -> Option<Sign>
+    ensures { result ≡ sign_named text.now }
+{
+    match text {
+        "unsigned" => Some(Sign::Unsigned),
+        "signed" => Some(Sign::Signed),
+        _ => None,
+    }
+}
+
+/// `corrected` is made without an addend alone, and the other kinds without one and with one.
+pub fn design_named(add: bool, text: &str) -> Option<Design>
+    ensures { result ≡ design_named add text.now }
+{
+    if text == "corrected" {
+        return if add { None } else { Some(Design::Corrected) };
+    }
+    let kind = kind_named(text)?;
+    Some(if add {
+        Design::MultiplyAdd(kind)
+    } else {
+        Design::Multiplier(kind)
+    })
+}
+
+fn kind_named(text: &str) -> Option<Kind>
     ensures { result ≡ kind_named text.now }
 {
     match text {

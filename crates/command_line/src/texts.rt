@@ -1,15 +1,17 @@
 // The texts of a subcommand, each under its name.
-ghost use Rattle.std.specs.Prelude.{◌≡◌, option_map};
+ghost use Rattle.std.specs.Prelude.{◌≡◌, codes, option_map};
 ghost use Rattle.clap.specs.Words.{first_of, found_of, rows_of};
-ghost use Rattle.command_line.specs.Asked.{adder_named, bits_of, kind_named, number_of, order_at, read_at, word_at, word_from};
+ghost use Rattle.command_line.specs.Asked.{addend_at, adder_named, bits_of, claim_at, design_named, is_set, number_of, order_at, read_at, sign_at, word_at, word_from};
 ghost use Rattle.command_line.specs.Reading.{Reads};
 
 use crate::fail::WordsFail;
 use crate::files::FileName;
-use crate::single::{adder_named, bits_of, kind_named, number_of, order_named, word_from};
+use crate::single::{
+    adder_named, bits_of, design_named, number_of, order_named, sign_named, word_from,
+};
 use clap::ArgMatches;
-use graph_core::Order;
-use graph_maker::{Adder, Kind};
+use graph_core::{Claim, Order, Sign};
+use graph_maker::{Adder, Design};
 use std::alloc::Global;
 
 pub fn file_at(alloc: Global, matches: &ArgMatches<'_>, name: &str) -> Result<FileName, WordsFail>
@@ -28,6 +30,36 @@ pub fn order_at(matches: &ArgMatches<'_>) -> Option<Order>
     match text_at(matches, "inputs") {
         Some(text) => order_named(text),
         None => Some(Order::Separate),
+    }
+}
+
+/// What is claimed, by an order, a kind of operands and the flag `add`.
+pub fn claim_at(matches: &ArgMatches<'_>) -> Option<Claim>
+    ensures { result ≡ claim_at (rows_of (found_of matches.now)) }
+{
+    let order = order_at(matches)?;
+    let sign = sign_at(matches)?;
+    let add = is_set(matches, "add");
+    Some(Claim { order, sign, add })
+}
+
+/// The kind of operands that is named, or `unsigned` where none is.
+fn sign_at(matches: &ArgMatches<'_>) -> Option<Sign>
+    ensures { result ≡ sign_at (rows_of (found_of matches.now)) }
+{
+    match text_at(matches, "operands") {
+        Some(text) => sign_named(text),
+        None => Some(Sign::Unsigned),
+    }
+}
+
+/// The addend that is given, or none.
+pub fn addend_at(matches: &ArgMatches<'_>) -> Option<Option<u128>>
+    ensures { result ≡ addend_at (rows_of (found_of matches.now)) }
+{
+    match text_at(matches, "addend") {
+        Some(text) => Some(Some(number_of(text)?)),
+        None => Some(None),
     }
 }
 
@@ -54,10 +86,12 @@ pub fn word_of(matches: &ArgMatches<'_>, name: &str) -> Option<u64>
     word_from(0, text_at(matches, name)?)
 }
 
-pub fn kind_at(matches: &ArgMatches<'_>, name: &str) -> Option<Kind>
-    ensures { result ≡ read_at kind_named name.now (rows_of (found_of matches.now)) }
+/// The design of the kind that is named, with the flag `add` or without it.
+pub fn design_at(matches: &ArgMatches<'_>) -> Option<Design>
+    ensures { result ≡ read_at (design_named (is_set (codes "add") (rows_of (found_of matches.now))))
+        (codes "kind") (rows_of (found_of matches.now)) }
 {
-    kind_named(text_at(matches, name)?)
+    design_named(is_set(matches, "add"), text_at(matches, "kind")?)
 }
 
 pub fn bits_at(matches: &ArgMatches<'_>, name: &str) -> Option<u32>
@@ -70,6 +104,16 @@ pub fn adder_at(matches: &ArgMatches<'_>, name: &str) -> Option<Adder>
     ensures { result ≡ read_at adder_named name.now (rows_of (found_of matches.now)) }
 {
     adder_named(text_at(matches, name)?)
+}
+
+// The flag of this name is given.
+fn is_set(matches: &ArgMatches<'_>, name: &str) -> bool
+    ensures { result ≡ is_set name.now (rows_of (found_of matches.now)) }
+{
+    match text_at(matches, name) {
+        Some(text) => text == "true",
+        None => false,
+    }
 }
 
 fn text_at<'a>(matches: &ArgMatches<'a>, name: &str) -> Option<&'a str>

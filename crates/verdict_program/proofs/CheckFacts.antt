@@ -3,7 +3,8 @@ use Rattle.std.proofs.Common.{◌≡◌, ap, subst, sym, arith, inl, inr}
 use Rattle.aiger_reader.specs.Refusals.{SpellsWithin}
 use Rattle.command_line.specs.declared.command.Command.TheVariants.{Check}
 use Rattle.command_line.specs.declared.files.Files as named
-use Rattle.graph_core.specs.declared.order.Order.{Order}
+use Rattle.graph_core.specs.Graph.Operands.{profile_of}
+use Rattle.graph_core.specs.declared.claim.Claim.{Claim}
 use Rattle.joint_checker.specs.Files.{texts_of}
 use Rattle.joint_checker.specs.Outcome.{Gives, IsDue, IsOutcome}
 use Rattle.joint_checker.proofs.DueRows.{outcomes_are_exact}
@@ -12,18 +13,18 @@ use Rattle.joint_checker.specs.declared.checked.Checked.TheVariants as checked
 use Rattle.mv_desk.specs.View.{View, Rose, bytes_under}
 use Rattle.verdict_program.specs.declared.answer.Answer.TheVariants as answer
 use Rattle.verdict_program.specs.Answer.{status_of, status_of_check}
-use Rattle.verdict_program.specs.Headline.{IsMultiplier}
+use Rattle.verdict_program.specs.Headline.{IsAsClaimed}
 use Rattle.verdict_program.specs.Runs.{EndsAsDue, IsTold, files_of, standard}
 use Rattle.verdict_program.proofs.Facts.{Facts, told_bytes}
 use Rattle.verdict_program.proofs.Told.{some_more}
 
-module _ (files : named.Files) (order : Order) (a b : View) where
+module _ (files : named.Files) (claim : Claim) (a b : View) where
   abbrev Is : Checked → Type 0
-  Is outcome = IsOutcome standard order (files_of files) a b outcome
+  Is outcome = IsOutcome standard claim (files_of files) a b outcome
 
-  zero : (outcome : Checked) → Is outcome → status_of_check outcome ≡ 0 → IsMultiplier a files.graph order
+  zero : (outcome : Checked) → Is outcome → status_of_check outcome ≡ 0 → IsAsClaimed a files.graph claim
   zero checked.Accepted h e =
-      some_more (bytes_under a files.graph) (λ bytes. SpellsWithin standard.graph bytes h.0) _ (λ bytes spelled. (h.0, spelled.spells, h.2.3.1)) h.1
+      some_more (bytes_under a files.graph) (λ bytes. SpellsWithin (profile_of claim.add) standard.graph bytes h.0) _ (λ bytes spelled. (h.0, spelled.spells, h.2.3.1)) h.1
   zero (checked.Graph why) h e = absurd (omega arith)
   zero (checked.Refused why) h e = absurd (omega arith)
   zero (checked.TooLong at) h e = absurd (omega arith)
@@ -52,12 +53,12 @@ module _ (files : named.Files) (order : Order) (a b : View) where
   as_due due given (inr (inl fault)) = inr (inl (ap status_of_check fault.0))
   as_due due given (inr (inr none)) = inr (inr (inr (ap status_of_check none)))
 
-  given_as_due : (outcome : Checked) → Is outcome → IsTold a → (due : Checked) → IsDue standard order (texts_of a (files_of files)) due → EndsAsDue (status_of_check due) (status_of_check outcome)
+  given_as_due : (outcome : Checked) → Is outcome → IsTold a → (due : Checked) → IsDue standard claim (texts_of a (files_of files)) due → EndsAsDue (status_of_check due) (status_of_check outcome)
   given_as_due outcome h told due k =
-      as_due due outcome (outcomes_are_exact standard order (files_of files) a b outcome h
+      as_due due outcome (outcomes_are_exact standard claim (files_of files) a b outcome h
       (record { graph_told = told_bytes a told files.graph; clauses_told = told_bytes a told files.clauses; algebra_told = told_bytes a told files.algebra }) due k)
 
-  pub check_facts : (outcome : Checked) → Is outcome → Facts (Check files order) a b (answer.Checked outcome)
+  pub check_facts : (outcome : Checked) → Is outcome → Facts (Check files claim) a b (answer.Checked outcome)
   check_facts outcome h = let none = others outcome in record {
     zero = λ e. zero outcome h e;
     one = λ e. absurd (none.0 e);

@@ -11,7 +11,7 @@ use Rattle.mv_desk.specs.View.{View}
 use Rattle.verdict_program.specs.declared.answer.Answer.{Answer}
 use Rattle.verdict_program.specs.Answer.{status_of, status_of_verify}
 use Rattle.verdict_program.specs.EnoughBudget.{HasEnoughBudget}
-use Rattle.verdict_program.specs.Runs.{EndsAsDue, EndsWith, IsRight, IsRightOf, files_of, standard}
+use Rattle.verdict_program.specs.Runs.{EndsAsDue, EndsWith, IsRight, IsRightOf, files_of, standard, task_of}
 use Rattle.verdict_program.proofs.Asking.{no_command, one_command}
 
 proved_ends : (given : Verdict) → GivesDue verdict.Proved given → EndsAsDue 0 (status_of_verify given)
@@ -26,9 +26,9 @@ module _ (words : List (List ℕ)) (a b c : View) (given : Answer) (status : ℕ
 
   verify_ends : IsRightOf asks a b given → EndsAsDue 0 (status_of given)
   verify_ends r =
-      let told = enough_is_proved standard.graph h.1 h.2 h.3 (files_of h.0) a b r.0 r.1 r.3.0 in
+      let told = enough_is_proved standard.graph (task_of h.1 h.2 h.3) (files_of h.0) a b r.0 r.1 r.3.0 in
       subst (λ x. EndsAsDue 0 (status_of x)) (sym r.2)
-      (proved_ends r.0 (subst (λ file. ProvesEnough standard.graph h.1 h.2 file r.0) h.6 told h.7))
+      (proved_ends r.0 (subst (λ file. ProvesEnough standard.graph (task_of h.1 h.2 h.3) file r.0) h.6 told h.7))
 
   answer_ends : IsRight words a b given → EndsAsDue 0 (status_of given)
   answer_ends (inl none) = absurd (no_command words asks h.4 none.1)

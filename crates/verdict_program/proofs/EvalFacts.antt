@@ -6,7 +6,7 @@ use Rattle.mv_desk.specs.View.{View, Rose, bytes_under}
 use Rattle.verdict_program.specs.declared.answer.Answer.TheVariants as answer
 use Rattle.verdict_program.specs.declared.evaluated.Evaluated.{Evaluated}
 use Rattle.verdict_program.specs.declared.evaluated.Evaluated.TheVariants as evaluated
-use Rattle.verdict_program.specs.declared.pair.Pair.{Pair}
+use Rattle.verdict_program.specs.declared.point.Point.{Point}
 use Rattle.verdict_program.specs.Answer.{status_of, status_of_eval}
 use Rattle.verdict_program.specs.Evaluation.{IsEvaluated, IsValueDue}
 use Rattle.verdict_program.specs.Runs.{EndsAsDue, standard}
@@ -14,11 +14,11 @@ use Rattle.verdict_program.proofs.Facts.{Facts, told_bytes}
 use Rattle.verdict_program.proofs.Told.{none_told}
 use Rattle.verdict_program.proofs.ValueDue.{one_value_due}
 
-module _ (graph : List ℕ) (pair : Pair) (a b : View) where
+module _ (graph : List ℕ) (point : Point) (a b : View) where
   abbrev Is : Evaluated → Type 0
-  Is outcome = IsEvaluated standard.graph graph pair a b outcome
+  Is outcome = IsEvaluated standard.graph graph point a b outcome
 
-  two : (outcome : Evaluated) → Is outcome → status_of_eval outcome ≡ 2 → IsValueDue standard.graph (bytes_under a graph) pair evaluated.TooGreat
+  two : (outcome : Evaluated) → Is outcome → status_of_eval outcome ≡ 2 → IsValueDue standard.graph (bytes_under a graph) point evaluated.TooGreat
   two (evaluated.Value value) h e = absurd (omega arith)
   two evaluated.TooGreat h e = h
   two (evaluated.Graph why) h e = absurd (omega arith)
@@ -43,11 +43,11 @@ module _ (graph : List ℕ) (pair : Pair) (a b : View) where
   others evaluated.TooLong = ((λ e. absurd (omega arith)), (λ e. absurd (omega arith)), (λ e. absurd (omega arith)))
   others evaluated.Memory = ((λ e. absurd (omega arith)), (λ e. absurd (omega arith)), (λ e. absurd (omega arith)))
 
-  value_as_due : (file : Option (List ℕ)) (due given : Evaluated) → IsSome file → IsValueDue standard.graph file pair due → IsValueDue standard.graph file pair given → EndsAsDue (status_of_eval due) (status_of_eval given)
+  value_as_due : (file : Option (List ℕ)) (due given : Evaluated) → IsSome file → IsValueDue standard.graph file point due → IsValueDue standard.graph file point given → EndsAsDue (status_of_eval due) (status_of_eval given)
   value_as_due None due given told h k = absurd (none_told (List ℕ) told)
-  value_as_due (Some bytes) due given told h k = inl (ap status_of_eval (one_value_due standard.graph bytes pair given due k h))
+  value_as_due (Some bytes) due given told h k = inl (ap status_of_eval (one_value_due standard.graph bytes point given due k h))
 
-  given_as_due : (due given : Evaluated) → IsSome (bytes_under a graph) → IsValueDue standard.graph (bytes_under a graph) pair due → Is given → EndsAsDue (status_of_eval due) (status_of_eval given)
+  given_as_due : (due given : Evaluated) → IsSome (bytes_under a graph) → IsValueDue standard.graph (bytes_under a graph) point due → Is given → EndsAsDue (status_of_eval due) (status_of_eval given)
   given_as_due due (evaluated.Value value) told h k = value_as_due (bytes_under a graph) due (evaluated.Value value) told h k
   given_as_due due evaluated.TooGreat told h k = value_as_due (bytes_under a graph) due evaluated.TooGreat told h k
   given_as_due due (evaluated.Graph why) told h k = value_as_due (bytes_under a graph) due (evaluated.Graph why) told h k
@@ -55,7 +55,7 @@ module _ (graph : List ℕ) (pair : Pair) (a b : View) where
   given_as_due due evaluated.ReadFault told h k = inr (inl refl)
   given_as_due due evaluated.Memory told h k = inr (inr (inr refl))
 
-  pub eval_facts : (outcome : Evaluated) → Is outcome → Facts (Eval graph pair.a pair.b pair.order) a b (answer.Evaluated outcome)
+  pub eval_facts : (outcome : Evaluated) → Is outcome → Facts (Eval graph point.a point.b point.order point.addend) a b (answer.Evaluated outcome)
   eval_facts outcome h = let none = others outcome in record {
     zero = λ e. tt;
     one = λ e. absurd (none.0 e);

@@ -11,29 +11,29 @@ use Rattle.mv_desk.specs.View.{View, Rose}
 use Rattle.mv_desk.specs.declared.slot.Slot.TheVariants as slot
 use Rattle.verdict_program.specs.declared.evaluated.Evaluated.{Evaluated}
 use Rattle.verdict_program.specs.declared.evaluated.Evaluated.TheVariants as evaluated
-use Rattle.verdict_program.specs.declared.pair.Pair.{Pair}
-use Rattle.verdict_program.specs.Evaluation.{IsEvaluatedFrom, IsValueOf, answer_of_graph}
+use Rattle.verdict_program.specs.declared.point.Point.{Point}
+use Rattle.verdict_program.specs.Evaluation.{IsEvaluatedFrom, IsValueOf, answer_of_graph, profile_at}
 use Rattle.verdict_program.proofs.Told.{some_more}
 
 -- of a graph that the file spells
-pub value_is_due : (limit : ℕ) (file : Option (List ℕ)) (g : Aig) (pair : Pair) (before now : ℕ) (v : Evaluated) →
-    IfSome file (λ bytes. SpellsWithin limit bytes g) → IsValueOf g pair v → IsEvaluatedFrom limit file pair before now v
-value_is_due limit file g pair before now (evaluated.Value value) s h = some_more file _ _ (λ bytes spells. (g, spells, h)) s
-value_is_due limit file g pair before now evaluated.TooGreat s h = some_more file _ _ (λ bytes spells. (g, spells, h)) s
-value_is_due limit file g pair before now (evaluated.Graph why) s h = absurd h
-value_is_due limit file g pair before now evaluated.TooLong s h = absurd h
-value_is_due limit file g pair before now evaluated.ReadFault s h = absurd h
-value_is_due limit file g pair before now evaluated.Memory s h = tt
+pub value_is_due : (limit : ℕ) (file : Option (List ℕ)) (g : Aig) (point : Point) (before now : ℕ) (v : Evaluated) →
+    IfSome file (λ bytes. SpellsWithin (profile_at point.addend) limit bytes g) → IsValueOf g point v → IsEvaluatedFrom limit file point before now v
+value_is_due limit file g point before now (evaluated.Value value) s h = some_more file _ _ (λ bytes spells. (g, spells, h)) s
+value_is_due limit file g point before now evaluated.TooGreat s h = some_more file _ _ (λ bytes spells. (g, spells, h)) s
+value_is_due limit file g point before now (evaluated.Graph why) s h = absurd h
+value_is_due limit file g point before now evaluated.TooLong s h = absurd h
+value_is_due limit file g point before now evaluated.ReadFault s h = absurd h
+value_is_due limit file g point before now evaluated.Memory s h = tt
 
 -- where no graph was read
-pub unread_is_due : (limit : ℕ) (file : Option (List ℕ)) (pair : Pair) (before now : ℕ) (why : ReadFail) →
-    IfSome file (λ bytes. Refuses limit bytes why) → (why ≡ fail.Fault → Rose before now) → IsEvaluatedFrom limit file pair before now (answer_of_graph why)
-unread_is_due limit file pair before now (fail.Text p) h rose = h
-unread_is_due limit file pair before now (fail.Header f) h rose = h
-unread_is_due limit file pair before now (fail.Graph f) h rose = h
-unread_is_due limit file pair before now fail.Fault h rose = rose refl
-unread_is_due limit file pair before now fail.TooLong h rose = h
-unread_is_due limit file pair before now fail.Memory h rose = tt
+pub unread_is_due : (limit : ℕ) (file : Option (List ℕ)) (point : Point) (before now : ℕ) (why : ReadFail) →
+    IfSome file (λ bytes. Refuses (profile_at point.addend) limit bytes why) → (why ≡ fail.Fault → Rose before now) → IsEvaluatedFrom limit file point before now (answer_of_graph why)
+unread_is_due limit file point before now (fail.Text p) h rose = h
+unread_is_due limit file point before now (fail.Header f) h rose = h
+unread_is_due limit file point before now (fail.Graph f) h rose = h
+unread_is_due limit file point before now fail.Fault h rose = rose refl
+unread_is_due limit file point before now fail.TooLong h rose = h
+unread_is_due limit file point before now fail.Memory h rose = tt
 
 -- the report isn't touched
 pub opens_inspects : {T E : Type 0} (a b : View) (result : Result T E) → OpensOnly slot.Graph a b result → Inspects a b

@@ -3,13 +3,14 @@ use Rattle.std.proofs.Common.{◌≡◌, ℕ, List, Some, None}
 use Rattle.std.specs.Prelude.{[], Bool, ⊤, IsSome, Option, option_map, unwrap_or}
 use Rattle.command_line.specs.declared.command.Command.{Command}
 use Rattle.command_line.specs.declared.command.Command.TheVariants.{Check, CheckSame, Eval, Make, Same, Trial, Verify}
-use Rattle.graph_maker.specs.Made.{made}
+use Rattle.graph_core.specs.Graph.Operands.{profile_of}
+use Rattle.graph_maker.specs.Designed.{designed}
 use Rattle.joint_checker.specs.Files.{HasGraph}
 use Rattle.joint_prover.specs.declared.rewriting.Rewriting.{Rewriting}
 use Rattle.joint_prover.specs.declared.verdict.Tried.{Tried}
 use Rattle.joint_prover.specs.Notes.{IsNote, cut_of}
 use Rattle.joint_prover.specs.Tries.{AreTried}
-use Rattle.joint_prover.specs.Verdicts.{HaveManyOnes, HoldsPair, IsFirstAbove, IsWrong}
+use Rattle.joint_prover.specs.Verdicts.{HaveManyOnes, HoldsPair, IsFirstAbove}
 use Rattle.mv_desk.specs.View.{View, Rose, bytes_under}
 use Rattle.same_core.specs.Deciding.{HoldsEqual, IsDifference}
 use Rattle.same_core.specs.Files as pair
@@ -17,37 +18,39 @@ use Rattle.verdict_program.specs.declared.answer.Answer.{Answer}
 use Rattle.verdict_program.specs.declared.evaluated.Evaluated.TheVariants.{TooGreat}
 use Rattle.verdict_program.specs.Answer.{status_of}
 use Rattle.verdict_program.specs.Evaluation.{IsValueDue}
-use Rattle.verdict_program.specs.Headline.{AreTheSame, IsMultiplier}
+use Rattle.verdict_program.specs.Headline.{AreTheSame, IsAsClaimed}
 use Rattle.verdict_program.specs.Making.{text_for}
 use Rattle.verdict_program.specs.Trial.{IsAcceptedWith, IsUndecidedWith, OfMade, plan_of}
-use Rattle.verdict_program.specs.Runs.{EndsAsDue, HasSpentPair, IsDueOf, IsTold, TellsNames, files_of, pair_of, standard}
+use Rattle.verdict_program.specs.Runs.{DiffersSomewhere, EndsAsDue, HasSpentPair, IsDueOf, IsTold, TellsNames, files_of, pair_of, standard, task_of}
 use Rattle.verdict_program.proofs.Told.{none_told}
 
 -- what status 0 means
 abbrev pub Succeeds : Command → View → View → Type 0
-Succeeds (Check files order) a b = IsMultiplier a files.graph order
-Succeeds (Verify files order budget conflicts) a b = IsTold a → TellsNames a → (noted : Option Rewriting) × HoldsPair order budget conflicts (files_of files) b standard.graph noted
-Succeeds (Eval graph x y order) a b = ⊤
-Succeeds (Make kind bits adder out) a b = IsTold a → TellsNames a → b.held out ≡ Some (Some (text_for out (made kind bits adder)))
+Succeeds (Check files claim) a b = IsAsClaimed a files.graph claim
+Succeeds (Verify files claim budget conflicts) a b =
+    IsTold a → TellsNames a → (noted : Option Rewriting) × HoldsPair (task_of claim budget conflicts) (files_of files) b standard.graph noted
+Succeeds (Eval graph x y order addend) a b = ⊤
+Succeeds (Make design bits adder out) a b = IsTold a → TellsNames a → b.held out ≡ Some (Some (text_for out (designed design bits adder)))
 Succeeds (Trial number) a b = (n : Rewriting) × OfMade (plan_of number) (IsAcceptedWith n)
 Succeeds (Same files conflicts) a b = AreTheSame a files.graph files.other × (IsTold a → TellsNames a → HoldsEqual standard.graph conflicts (pair_of files) b)
 Succeeds (CheckSame files) a b = AreTheSame a files.graph files.other
 
 -- where statuses 1, 2 and 5 come
 abbrev pub IsWrongFor : Command → View → Type 0
-IsWrongFor (Verify files order budget conflicts) a =
-    HasGraph standard.graph (bytes_under a files.graph) (λ g. (x : ℕ) × (y : ℕ) × (value : ℕ) × (product : ℕ) × IsWrong g order x y value product × ((n : Rewriting) × IsNote g order conflicts n))
+IsWrongFor (Verify files claim budget conflicts) a =
+    HasGraph (profile_of claim.add) standard.graph (bytes_under a files.graph) (λ g. DiffersSomewhere g claim × ((n : Rewriting) × IsNote g claim conflicts n))
 IsWrongFor (Same files conflicts) a =
     pair.HasPair standard.graph (pair.texts_of a (pair_of files)) (λ g h. (inputs : List Bool) × IsDifference g h inputs)
 IsWrongFor command a = ⊥
 
 abbrev pub IsTooGreatFor : Command → View → Type 0
-IsTooGreatFor (Eval graph x y order) a = IsValueDue standard.graph (bytes_under a graph) (record { a = x; b = y; order = order }) TooGreat
+IsTooGreatFor (Eval graph x y order addend) a = IsValueDue standard.graph (bytes_under a graph) (record { a = x; b = y; order = order; addend = addend }) TooGreat
 IsTooGreatFor command a = ⊥
 
 abbrev pub IsUndecidedFor : Command → View → Type 0
-IsUndecidedFor (Verify files order budget conflicts) a =
-    HasGraph standard.graph (bytes_under a files.graph) (λ g. (step : ℕ) × (size : ℕ) × IsFirstAbove g order budget step size × ((n : Rewriting) × IsNote g order conflicts n × (tried : List Tried) × AreTried g order budget (cut_of n) tried) × HaveManyOnes g order)
+IsUndecidedFor (Verify files claim budget conflicts) a =
+    HasGraph (profile_of claim.add) standard.graph (bytes_under a files.graph) (λ g. (step : ℕ) × (size : ℕ) × IsFirstAbove g claim budget step size ×
+    ((n : Rewriting) × IsNote g claim conflicts n × (tried : List Tried) × AreTried g claim budget (cut_of n) tried) × HaveManyOnes g claim)
 IsUndecidedFor (Trial number) a = (step : ℕ) × (size : ℕ) × (n : Rewriting) × OfMade (plan_of number) (IsUndecidedWith step size n)
 IsUndecidedFor (Same files conflicts) a = HasSpentPair conflicts a files
 IsUndecidedFor command a = ⊥

@@ -5,19 +5,21 @@ use Rattle.mv_desk.specs.View.{View, Rose}
 use Rattle.verdict_program.specs.declared.answer.Answer.TheVariants as answer
 use Rattle.verdict_program.specs.declared.made.Made.{Made}
 use Rattle.verdict_program.specs.declared.made.Made.TheVariants as made
-use Rattle.verdict_program.specs.declared.plan.Plan.{Plan}
+use Rattle.graph_maker.specs.Designed.{designed}
+use Rattle.graph_maker.specs.declared.adder.Adder.{Adder}
+use Rattle.graph_maker.specs.declared.design.Design.{Design}
 use Rattle.verdict_program.specs.Answer.{status_of, status_of_make}
-use Rattle.verdict_program.specs.Making.{IsMade, graph_of, text_for}
+use Rattle.verdict_program.specs.Making.{IsMade, text_for}
 use Rattle.verdict_program.specs.Runs.{EndsAsDue, IsTold, TellsNames}
 use Rattle.verdict_program.proofs.Facts.{Facts}
 use Rattle.verdict_program.proofs.MakingLemmas.{written_is_held}
 
-module _ (plan : Plan) (out : List ℕ) (a b : View) where
+module _ (design : Design) (bits : ℕ) (adder : Adder) (out : List ℕ) (a b : View) where
   abbrev Is : Made → Type 0
-  Is outcome = IsMade (text_for out (graph_of plan)) out a b outcome
+  Is outcome = IsMade (text_for out (designed design bits adder)) out a b outcome
 
-  zero : (outcome : Made) → Is outcome → status_of_make outcome ≡ 0 → IsTold a → TellsNames a → b.held out ≡ Some (Some (text_for out (graph_of plan)))
-  zero made.Written h e told names = written_is_held out (text_for out (graph_of plan)) a b told names h
+  zero : (outcome : Made) → Is outcome → status_of_make outcome ≡ 0 → IsTold a → TellsNames a → b.held out ≡ Some (Some (text_for out (designed design bits adder)))
+  zero made.Written h e told names = written_is_held out (text_for out (designed design bits adder)) a b told names h
   zero made.WriteFault h e told names = absurd (omega arith)
   zero made.Memory h e told names = absurd (omega arith)
 
@@ -37,7 +39,7 @@ module _ (plan : Plan) (out : List ℕ) (a b : View) where
   given_as_due made.WriteFault = inr (inr (inl refl))
   given_as_due made.Memory = inr (inr (inr refl))
 
-  pub make_facts : (outcome : Made) → Is outcome → Facts (Make plan.kind plan.bits plan.adder out) a b (answer.Made outcome)
+  pub make_facts : (outcome : Made) → Is outcome → Facts (Make design bits adder out) a b (answer.Made outcome)
   make_facts outcome h = let none = others outcome in record {
     zero = λ e. zero outcome h e;
     one = λ e. absurd (none.0 e);

@@ -4,6 +4,7 @@ use Rattle.std.specs.Prelude.{IfSome}
 use Rattle.aiger_reader.specs.Refusals.{SpellsWithin}
 use Rattle.command_line.specs.declared.files.PairFiles.{PairFiles}
 use Rattle.graph_core.specs.Graph.{Aig}
+use Rattle.graph_core.specs.declared.profile.Profile.TheVariants.{Any}
 use Rattle.mv_desk.specs.View.{View, bytes_under}
 use Rattle.mv_desk.specs.declared.limits.Limits.{Limits}
 use Rattle.mv_desk.specs.declared.slot.Slot.TheVariants as slot
@@ -19,11 +20,11 @@ use Rattle.verdict_program.specs.Runs.{ReportStays, standard}
 use Rattle.verdict_program.proofs.CreatingLemmas.{leaves_both, no_clauses, reads_leave, same_leaves, slot_leaves}
 use Rattle.verdict_program.proofs.Told.{some_more}
 
-pub are_the_same : (a : View) (files : PairFiles) (g h : Aig) → IfSome (bytes_under a files.graph) (λ bytes. SpellsWithin standard.graph bytes g) →
-    IfSome (bytes_under a files.other) (λ bytes. SpellsWithin standard.graph bytes h) → AreOfOneShape g h → AgreeOnInputs g h → AreTheSame a files.graph files.other
+pub are_the_same : (a : View) (files : PairFiles) (g h : Aig) → IfSome (bytes_under a files.graph) (λ bytes. SpellsWithin Any standard.graph bytes g) →
+    IfSome (bytes_under a files.other) (λ bytes. SpellsWithin Any standard.graph bytes h) → AreOfOneShape g h → AgreeOnInputs g h → AreTheSame a files.graph files.other
 are_the_same a files g h spelled other_spelled shape agree =
-    some_more (bytes_under a files.graph) (λ bytes. SpellsWithin standard.graph bytes g) _
-    (λ bytes s. some_more (bytes_under a files.other) (λ more. SpellsWithin standard.graph more h) _ (λ more t. (g, h, s.spells, t.spells, shape, agree)) other_spelled) spelled
+    some_more (bytes_under a files.graph) (λ bytes. SpellsWithin Any standard.graph bytes g) _
+    (λ bytes s. some_more (bytes_under a files.other) (λ more. SpellsWithin Any standard.graph more h) _ (λ more t. (g, h, s.spells, t.spells, shape, agree)) other_spelled) spelled
 
 module _ (limits : Limits) (conflicts : ℕ) (files : Files) (a c : View) where
   stopped_leaves : (lines : List ClauseLine) (b : View) → StopsAt files.clauses lines b c → ReportStays b c

@@ -5,7 +5,7 @@ use Rattle.joint_prover.specs.declared.rewriting.Rewriting.{Rewriting}
 use Rattle.mv_desk.specs.View.{View}
 use Rattle.joint_prover.specs.Verdicts.{IsFirstAbove, IsWithinBudget}
 use Rattle.graph_core.specs.Aiger.Writing.{ascii_text}
-use Rattle.graph_core.specs.declared.order.Order.TheVariants.{Separate}
+use Rattle.graph_core.specs.declared.profile.Profile.TheVariants.{Multiplier as TwoOperands}
 use Rattle.graph_core.proofs.OfTexts.CallerLemmas.{one_graph}
 use Rattle.verdict_program.specs.declared.answer.Answer.TheVariants as answer
 use Rattle.verdict_program.specs.declared.plan.Plan.{Plan}
@@ -14,15 +14,15 @@ use Rattle.verdict_program.specs.declared.tested.Tested.TheVariants as tested
 use Rattle.verdict_program.specs.Answer.{status_of, status_of_trial}
 use Rattle.verdict_program.specs.Making.{graph_of}
 use Rattle.verdict_program.specs.Runs.{EndsAsDue}
-use Rattle.verdict_program.specs.Trial.{IsAcceptedWith, IsTestDue, IsTested, IsUndecidedWith, OfMade, default_budget, multiplier_of, plan_of}
+use Rattle.verdict_program.specs.Trial.{IsAcceptedWith, IsTestDue, IsTested, IsUndecidedWith, OfMade, multiplier_of, plan_of, trial_task}
 use Rattle.verdict_program.proofs.Facts.{Facts}
 
 -- a frontier above the budget, and none
 undecided_not_due : (plan : Plan) (step size : ℕ) (n : Rewriting) → OfMade plan (IsUndecidedWith step size n) →
-    OfMade plan (λ g. IsWithinBudget g Separate default_budget) → ⊥
+    OfMade plan (λ g. IsWithinBudget g trial_task.claim trial_task.budget) → ⊥
 undecided_not_due plan step size n h k =
-    let first : IsFirstAbove h.0 Separate default_budget step size = h.2.first in
-    let within = subst (λ g. IsWithinBudget g Separate default_budget) (one_graph (ascii_text (graph_of plan)) k.0 h.0 k.1 h.1) k.2 in
+    let first : IsFirstAbove h.0 trial_task.claim trial_task.budget step size = h.2.first in
+    let within = subst (λ g. IsWithinBudget g trial_task.claim trial_task.budget) (one_graph TwoOperands (ascii_text (graph_of plan)) k.0 h.0 k.1 h.1) k.2 in
     let low = within step size first.size in
     let high = first.above in
     omega arith

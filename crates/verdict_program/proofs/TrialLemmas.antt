@@ -1,5 +1,5 @@
 -- What `verify` and `check` answer over a made graph that is held in memory.
-use Rattle.std.proofs.Common.{◌≡◌, ◌≢◌, ℕ, ◌-◌, ◌^◌, ◌≤◌, List, length, Option, Some, refl, sym, ap, subst, ◌∙◌, arith, inl, inr}
+use Rattle.std.proofs.Common.{◌≡◌, ◌≢◌, ℕ, ◌-◌, ◌^◌, ◌≤◌, List, length, Option, Some, refl, sym, ap, subst, ◌∙◌, arith, inl, inr, true≢false}
 use Rattle.std.specs.Prelude.{IfSome, IsSome, IsSomeAnd, ⊤, [], option_map, unwrap_or}
 use Rattle.aiger_reader.specs.Refusals as reading
 use Rattle.aiger_reader.specs.Refusals.{SpellsWithin}
@@ -9,8 +9,10 @@ use Rattle.graph_core.specs.Aiger.Writing.{ascii_text}
 use Rattle.graph_core.specs.Certificates.{IsLawfulAlgebra}
 use Rattle.graph_core.specs.Graph.{Aig}
 use Rattle.graph_core.specs.Graph.Extended.{Extended}
-use Rattle.graph_core.specs.Graph.Operands.{Multiplies, sides_of}
+use Rattle.graph_core.specs.Graph.Operands.{Multiplies, product_under, sides_of}
 use Rattle.graph_core.specs.declared.order.Order.TheVariants.{Separate}
+use Rattle.graph_core.specs.declared.profile.Profile.TheVariants.{Multiplier as TwoOperands}
+use Rattle.graph_maker.specs.declared.design.Design.TheVariants.{Multiplier}
 use Rattle.graph_core.proofs.OfTexts.CallerLemmas.{one_graph}
 use Rattle.joint_checker.specs.Certificates.{IsLawfulPair}
 use Rattle.joint_checker.specs.ClauseFiles.{GivesExtended, IsExtendedOf}
@@ -22,7 +24,7 @@ use Rattle.joint_checker.specs.declared.checked.Checked.TheVariants as checked
 use Rattle.joint_checker.proofs.CallerLemmas.{spelled_not_long, spelled_not_refused}
 use Rattle.joint_prover.specs.Notes.{IsNote, cut_of}
 use Rattle.joint_prover.specs.Pairs.{IsPairFor}
-use Rattle.joint_prover.specs.Verdicts.{HasNote, IsVerdict, IsWrong}
+use Rattle.joint_prover.specs.Verdicts.{HasNote, IsVerdict, IsWrong, IsWrongSum}
 use Rattle.joint_prover.specs.Written.{ReadsGraph, WritesFile, WritesPair}
 use Rattle.joint_prover.specs.declared.rewriting.Rewriting.{Rewriting}
 use Rattle.joint_prover.specs.declared.verdict.Tried.{Tried}
@@ -40,9 +42,9 @@ use Rattle.std.specs.Global.{Global}
 use Rattle.verdict_program.specs.declared.plan.Plan.{Plan}
 use Rattle.verdict_program.specs.Making as making
 use Rattle.verdict_program.specs.Making.{graph_of, text_for}
-use Rattle.verdict_program.specs.Runs.{SpellsMultiplier}
-use Rattle.verdict_program.specs.Trial.{HoldsGraph, HoldsTrial, IsAcceptedWith, OfMade, default_budget, default_conflicts, no_limits, trial_files}
-use Rattle.verdict_program.proofs.MakingLemmas.{made_spells}
+use Rattle.verdict_program.specs.Runs.{SpellsAsClaimed}
+use Rattle.verdict_program.specs.Trial.{HoldsGraph, HoldsTrial, IsAcceptedWith, OfMade, no_limits, trial_files, trial_task}
+use Rattle.verdict_program.proofs.MakingLemmas.{design_spells}
 use Rattle.verdict_program.proofs.MemoryFiles.{TellsFiles, algebra_is_held, clauses_are_held, file_is_held, graph_stays, honest_tells, is_written_to, within_no_limits}
 
 -- no count of read faults rose
@@ -50,9 +52,9 @@ not_rose : (before now : ℕ) → now ≡ 0 → Rose before now → ⊥
 not_rose before now none rose = omega (arith, none, rose)
 
 -- the note, with what else holds of its cut
-note_of_some : (g : Aig) (n : Rewriting) (noted : Option Rewriting) (P : Option Cut → Type 0) → noted ≡ Some n → HasNote g Separate default_conflicts noted P →
-    IsNote g Separate default_conflicts n × P (cut_of n)
-note_of_some g n noted P same h = subst (λ o. IsSomeAnd o (λ m. IsNote g Separate default_conflicts m × P (cut_of m))) same h
+note_of_some : (g : Aig) (n : Rewriting) (noted : Option Rewriting) (P : Option Cut → Type 0) → noted ≡ Some n → HasNote g trial_task noted P →
+    IsNote g trial_task.claim trial_task.conflicts n × P (cut_of n)
+note_of_some g n noted P same h = subst (λ o. IsSomeAnd o (λ m. IsNote g trial_task.claim trial_task.conflicts m × P (cut_of m))) same h
 
 -- ---- the graph file
 
@@ -76,32 +78,32 @@ module _ (plan : Plan) (some : 1 ≤ plan.bits) (narrow : plan.bits ≤ 64) (a b
   text = ascii_text (graph_of plan)
 
   abbrev Is : Verdict → Type 0
-  Is v = IsVerdict no_limits.graph Separate default_budget default_conflicts trial_files a b v noted
+  Is v = IsVerdict no_limits.graph trial_task trial_files a b v noted
 
-  made : SpellsMultiplier plan.bits text
-  made = made_spells plan trial_files.graph some narrow
+  made : SpellsAsClaimed (product_under Separate) plan.bits text
+  made = design_spells (Multiplier plan.kind) plan.bits plan.adder trial_files.graph some narrow
 
-  within : SpellsWithin no_limits.graph text made.0
+  within : SpellsWithin TwoOperands no_limits.graph text made.0
   within = record { short = short; spells = made.1 }
 
   -- of the graph that the file spells
-  of_file : (P : Aig → Type 0) → HasGraph no_limits.graph (bytes_under a trial_files.graph) P → OfMade plan P
+  of_file : (P : Aig → Type 0) → HasGraph TwoOperands no_limits.graph (bytes_under a trial_files.graph) P → OfMade plan P
   of_file P h =
-      let spelled = subst (λ o. IfSome o (λ bytes. SpellsWithin no_limits.graph bytes h.0)) held h.1 in
+      let spelled = subst (λ o. IfSome o (λ bytes. SpellsWithin TwoOperands no_limits.graph bytes h.0)) held h.1 in
       (h.0, spelled.spells, h.2)
 
   never_wrong : (x y value product : ℕ) → Is (verdict.Wrong x y value product) → ⊥
   never_wrong x y value product h =
-      let s = of_file (λ g. IsWrong g Separate x y value product × HasNote g Separate default_conflicts noted (λ used. ⊤)) h.0 in
-      let multiplies = subst (λ g. Multiplies g Separate) (one_graph text made.0 s.0 made.1 s.1) made.3 in
+      let s = of_file (λ g. IsWrong g trial_task.claim x y value product × HasNote g trial_task noted (λ used. ⊤)) h.0 in
+      let multiplies = subst (λ g. Multiplies g Separate) (one_graph TwoOperands text made.0 s.0 made.1 s.1) made.3 in
       let far = s.2.0.least.difference in
       far.differs (multiplies x y far.a_below far.b_below)
 
   never_refused : (why : ReadFail) → Is (verdict.Graph why) → ⊥
-  never_refused why h = spelled_not_refused no_limits.graph text made.0 why within (subst (λ o. IfSome o (λ bytes. IsGraphRefusal no_limits.graph bytes why)) held h.0)
+  never_refused why h = spelled_not_refused TwoOperands no_limits.graph text made.0 why within (subst (λ o. IfSome o (λ bytes. IsGraphRefusal TwoOperands no_limits.graph bytes why)) held h.0)
 
   never_long : Is verdict.TooLong → ⊥
-  never_long h = spelled_not_long no_limits.graph text made.0 within (subst (λ o. IfSome o (reading.IsTooLong no_limits.graph)) held h.0)
+  never_long h = spelled_not_long TwoOperands no_limits.graph text made.0 within (subst (λ o. IfSome o (reading.IsTooLong TwoOperands no_limits.graph)) held h.0)
 
   -- no other verdict comes
   pub never_other : b.read_faults ≡ 0 → (v : Verdict) → Is v → (v ≢ verdict.Proved) → ((tried : Vec Tried Global) (step size : ℕ) → v ≢ verdict.Undecided tried step size) →
@@ -111,6 +113,7 @@ module _ (plan : Plan) (some : 1 ≤ plan.bits) (narrow : plan.bits ≤ 64) (a b
   never_other none verdict.WriteFault h p u w m = w refl
   never_other none verdict.Memory h p u w m = m refl
   never_other none (verdict.Wrong x y value product) h p u w m = never_wrong x y value product h
+  never_other none (verdict.WrongSum x y z value sum) h p u w m = let s = of_file (λ g. IsWrongSum g trial_task.claim x y z value sum × HasNote g trial_task noted (λ used. ⊤)) h.0 in absurd (true≢false (sym s.2.0.added))
   never_other none (verdict.Graph why) h p u w m = never_refused why h
   never_other none verdict.ReadFault h p u w m = not_rose a.read_faults b.read_faults none h.0
   never_other none verdict.TooLong h p u w m = never_long h
@@ -118,7 +121,7 @@ module _ (plan : Plan) (some : 1 ≤ plan.bits) (narrow : plan.bits ≤ 64) (a b
   module _ (told : (name : List ℕ) → IsSome (a.held name)) (tells : TellsFiles b) (h : Is verdict.Proved) where
     abbrev Wrote : Option Cut → Type 0
     Wrote used = (read : View) × ReadsGraph a read ×
-        ((clauses : List ℕ) × (algebra : List ℕ) × IsPairFor h.0 Separate default_budget default_conflicts used clauses algebra × WritesPair trial_files clauses algebra read b)
+        ((clauses : List ℕ) × (algebra : List ℕ) × IsPairFor h.0 trial_task used clauses algebra × WritesPair trial_files clauses algebra read b)
 
     abbrev bytes : Option (Option (List ℕ)) → Option (List ℕ)
     bytes = option_map (λ x. unwrap_or x [])
@@ -140,9 +143,9 @@ module _ (plan : Plan) (some : 1 ≤ plan.bits) (narrow : plan.bits ≤ 64) (a b
             clauses_held = ap bytes (clauses_are_held clauses algebra a wrote.0 b told tells wrote.1 wrote.2.3);
             algebra_held = ap bytes (algebra_is_held clauses algebra a wrote.0 b told tells wrote.1 wrote.2.3);
             graph = h.0;
-            spells = subst (λ o. IfSome o (λ b. SpellsWithin no_limits.graph b h.0)) held h.1;
-            pair = pair_is_lawful h.0 Separate default_conflicts pair.0 clauses algebra pair.2;
-            multiplies = h.2.0;
+            spells = subst (λ o. IfSome o (λ b. SpellsWithin TwoOperands no_limits.graph b h.0)) held h.1;
+            pair = pair_is_lawful h.0 trial_task.claim trial_task.conflicts pair.0 clauses algebra pair.2;
+            does = h.2.0;
             note = (note.0, pair);
           },
         )
@@ -151,16 +154,16 @@ module _ (plan : Plan) (some : 1 ≤ plan.bits) (narrow : plan.bits ≤ 64) (a b
 
 module _ (plan : Plan) (v : View) (n : Rewriting) (held : HoldsGraph v plan) (h : HoldsTrial v n)
     (clauses_short : length h.clause_file ≤ 2 ^ 64 - 1) (algebra_short : length h.algebra_file ≤ 2 ^ 64 - 1) where
-  lawful : IsLawfulPair (lengths_of no_limits) h.graph Separate h.clause_file h.algebra_file
+  lawful : IsLawfulPair (lengths_of no_limits) h.graph (product_under Separate) h.clause_file h.algebra_file
   lawful = h.pair (lengths_of no_limits) (within_no_limits h.clause_file clauses_short) (within_no_limits h.algebra_file algebra_short)
 
   extended_of : (g : Aig) (bytes : List ℕ) (e : Extended) → GivesExtended (lengths_of no_limits) g bytes e → IsExtendedOf g e
   extended_of g bytes e k = record { cut = k.cut; takes = k.lawful.takes; itself = k.itself }
 
-  acceptance_is_due : IsDue no_limits Separate (texts_of v trial_files) checked.Accepted
+  acceptance_is_due : IsDue no_limits (product_under Separate) (texts_of v trial_files) checked.Accepted
   acceptance_is_due = (
     h.graph,
-    subst (λ o. IfSome o (λ bytes. SpellsWithin no_limits.graph bytes h.graph)) (sym h.graph_held) h.spells,
+    subst (λ o. IfSome o (λ bytes. SpellsWithin TwoOperands no_limits.graph bytes h.graph)) (sym h.graph_held) h.spells,
     (
       lawful.extended,
       extended_of h.graph h.clause_file lawful.extended lawful.gives,
@@ -170,7 +173,7 @@ module _ (plan : Plan) (v : View) (n : Rewriting) (held : HoldsGraph v plan) (h 
   )
 
   -- no other answer comes
-  pub never_unaccepted : (w : View) (given : Checked) → w.read_faults ≡ 0 → ((due : Checked) → IsDue no_limits Separate (texts_of v trial_files) due → Gives v w due given) →
+  pub never_unaccepted : (w : View) (given : Checked) → w.read_faults ≡ 0 → ((due : Checked) → IsDue no_limits (product_under Separate) (texts_of v trial_files) due → Gives v w due given) →
       (given ≢ checked.Accepted) → (given ≢ checked.Memory) → ⊥
   never_unaccepted w given none exact not_accepted not_memory = go (exact checked.Accepted acceptance_is_due)
     where
@@ -183,9 +186,9 @@ module _ (plan : Plan) (v : View) (n : Rewriting) (held : HoldsGraph v plan) (h 
   accepted_of_made =
       let same : h.graph_file ≡ ascii_text (graph_of plan) = ap (λ o. unwrap_or o []) (sym h.graph_held ∙ held) in (
         h.graph,
-        subst (λ bytes. Spells bytes h.graph) same h.spells.spells,
+        subst (λ bytes. Spells TwoOperands bytes h.graph) same h.spells.spells,
         record {
-          multiplies = h.multiplies;
+          multiplies = h.does;
           noted = h.note.0;
           clauses = h.clause_file;
           algebra = h.algebra_file;

@@ -4,7 +4,8 @@ use Rattle.std.specs.Prelude.{⊤}
 use Rattle.command_line.specs.Asked.{AreApart}
 use Rattle.command_line.specs.declared.command.Command.TheVariants.{Verify}
 use Rattle.command_line.specs.declared.files.Files as named
-use Rattle.graph_core.specs.declared.order.Order.{Order}
+use Rattle.graph_core.specs.Graph.Operands.{profile_of}
+use Rattle.graph_core.specs.declared.claim.Claim.{Claim}
 use Rattle.joint_checker.specs.Files.{HasGraph}
 use Rattle.joint_prover.specs.declared.rewriting.Rewriting.{Rewriting}
 use Rattle.joint_prover.specs.declared.verdict.Tried.{Tried}
@@ -12,32 +13,33 @@ use Rattle.joint_prover.specs.Notes.{IsNote, cut_of}
 use Rattle.joint_prover.specs.Tries.{AreTried}
 use Rattle.graph_core.specs.Graph.{Aig}
 use Rattle.ripple_graft.specs.declared.cut.Cut.{Cut}
-use Rattle.joint_prover.specs.Verdicts.{GivesDue, HasNote, HaveManyOnes, HoldsPair, IsFirstAbove, IsVerdict, IsWrong}
+use Rattle.joint_prover.specs.Verdicts.{GivesDue, HasNote, HaveManyOnes, HoldsPair, IsFirstAbove, IsVerdict}
 use Rattle.joint_prover.specs.declared.verdict.Verdict.{Verdict}
 use Rattle.joint_prover.specs.declared.verdict.Verdict.TheVariants as verdict
 use Rattle.joint_prover.proofs.CallerLemmas.{proved_pairs_are_held, verdicts_are_exact}
 use Rattle.mv_desk.specs.View.{View, Rose, bytes_under}
 use Rattle.verdict_program.specs.declared.answer.Answer.TheVariants as answer
 use Rattle.verdict_program.specs.Answer.{status_of, status_of_verify}
-use Rattle.verdict_program.specs.Runs.{EndsAsDue, IsTold, TellsNames, files_of, standard}
+use Rattle.verdict_program.specs.Runs.{DiffersSomewhere, EndsAsDue, IsTold, TellsNames, files_of, standard, task_of}
 use Rattle.verdict_program.proofs.Facts.{Facts}
 
-module _ (files : named.Files) (order : Order) (budget conflicts : ℕ) (a b : View) (apart : AreApart files) (noted : Option Rewriting) where
+module _ (files : named.Files) (claim : Claim) (budget conflicts : ℕ) (a b : View) (apart : AreApart files) (noted : Option Rewriting) where
   abbrev Is : Verdict → Type 0
-  Is outcome = IsVerdict standard.graph order budget conflicts (files_of files) a b outcome noted
+  Is outcome = IsVerdict standard.graph (task_of claim budget conflicts) (files_of files) a b outcome noted
 
-  note_there : (g : Aig) (P : Option Cut → Type 0) → HasNote g order conflicts noted P → (n : Rewriting) × IsNote g order conflicts n × P (cut_of n)
+  note_there : (g : Aig) (P : Option Cut → Type 0) → HasNote g (task_of claim budget conflicts) noted P → (n : Rewriting) × IsNote g claim conflicts n × P (cut_of n)
   note_there g P h = go noted h
     where
-      go : (told : Option Rewriting) → HasNote g order conflicts told P → (n : Rewriting) × IsNote g order conflicts n × P (cut_of n)
+      go : (told : Option Rewriting) → HasNote g (task_of claim budget conflicts) told P → (n : Rewriting) × IsNote g claim conflicts n × P (cut_of n)
       go None k = absurd k
       go (Some n) k = (n, k.0, k.1)
 
-  zero : (outcome : Verdict) → Is outcome → status_of_verify outcome ≡ 0 → IsTold a → TellsNames a → HoldsPair order budget conflicts (files_of files) b standard.graph noted
+  zero : (outcome : Verdict) → Is outcome → status_of_verify outcome ≡ 0 → IsTold a → TellsNames a → HoldsPair (task_of claim budget conflicts) (files_of files) b standard.graph noted
   zero verdict.Proved h e told names =
-      proved_pairs_are_held standard.graph order budget conflicts (files_of files) a b noted (record { held = told; names = names })
+      proved_pairs_are_held standard.graph (task_of claim budget conflicts) (files_of files) a b noted (record { held = told; names = names })
       (record { clauses = apart.clauses; algebra = apart.algebra; certificates = apart.certificates }) h
   zero (verdict.Wrong x y value product) h e told names = absurd (omega arith)
+  zero (verdict.WrongSum x y z value sum) h e told names = absurd (omega arith)
   zero (verdict.Undecided tried step size) h e told names = absurd (omega arith)
   zero (verdict.Graph why) h e told names = absurd (omega arith)
   zero verdict.ReadFault h e told names = absurd (omega arith)
@@ -46,9 +48,10 @@ module _ (files : named.Files) (order : Order) (budget conflicts : ℕ) (a b : V
   zero verdict.Memory h e told names = absurd (omega arith)
 
   one : (outcome : Verdict) → Is outcome → status_of_verify outcome ≡ 1 →
-      HasGraph standard.graph (bytes_under a files.graph) (λ g. (x : ℕ) × (y : ℕ) × (value : ℕ) × (product : ℕ) × IsWrong g order x y value product × ((n : Rewriting) × IsNote g order conflicts n))
+      HasGraph (profile_of claim.add) standard.graph (bytes_under a files.graph) (λ g. DiffersSomewhere g claim × ((n : Rewriting) × IsNote g claim conflicts n))
   one verdict.Proved h e = absurd (omega arith)
-  one (verdict.Wrong x y value product) h e = let r = h.0 in let n = note_there r.0 (λ used. ⊤) r.2.1 in (r.0, r.1, (x, y, value, product, r.2.0, (n.0, n.1)))
+  one (verdict.Wrong x y value product) h e = let r = h.0 in let n = note_there r.0 (λ used. ⊤) r.2.1 in (r.0, r.1, (inl (x, y, value, product, r.2.0), (n.0, n.1)))
+  one (verdict.WrongSum x y z value sum) h e = let r = h.0 in let n = note_there r.0 (λ used. ⊤) r.2.1 in (r.0, r.1, (inr (x, y, z, value, sum, r.2.0), (n.0, n.1)))
   one (verdict.Undecided tried step size) h e = absurd (omega arith)
   one (verdict.Graph why) h e = absurd (omega arith)
   one verdict.ReadFault h e = absurd (omega arith)
@@ -57,10 +60,11 @@ module _ (files : named.Files) (order : Order) (budget conflicts : ℕ) (a b : V
   one verdict.Memory h e = absurd (omega arith)
 
   five : (outcome : Verdict) → Is outcome → status_of_verify outcome ≡ 5 →
-      HasGraph standard.graph (bytes_under a files.graph) (λ g. (step : ℕ) × (size : ℕ) × IsFirstAbove g order budget step size × ((n : Rewriting) × IsNote g order conflicts n × (tried : List Tried) × AreTried g order budget (cut_of n) tried) × HaveManyOnes g order)
+      HasGraph (profile_of claim.add) standard.graph (bytes_under a files.graph) (λ g. (step : ℕ) × (size : ℕ) × IsFirstAbove g claim budget step size × ((n : Rewriting) × IsNote g claim conflicts n × (tried : List Tried) × AreTried g claim budget (cut_of n) tried) × HaveManyOnes g claim)
   five verdict.Proved h e = absurd (omega arith)
   five (verdict.Wrong x y value product) h e = absurd (omega arith)
-  five (verdict.Undecided tried step size) h e = let r = h.0 in let n = note_there r.0 (λ used. AreTried r.0 order budget used tried.items) r.2.1 in (r.0, r.1, (step, size, r.2.0, (n.0, n.1, tried.items, n.2), r.2.2))
+  five (verdict.WrongSum x y z value sum) h e = absurd (omega arith)
+  five (verdict.Undecided tried step size) h e = let r = h.0 in let n = note_there r.0 (λ used. AreTried r.0 claim budget used tried.items) r.2.1 in (r.0, r.1, (step, size, r.2.0, (n.0, n.1, tried.items, n.2), r.2.2))
   five (verdict.Graph why) h e = absurd (omega arith)
   five verdict.ReadFault h e = absurd (omega arith)
   five verdict.WriteFault h e = absurd (omega arith)
@@ -70,6 +74,7 @@ module _ (files : named.Files) (order : Order) (budget conflicts : ℕ) (a b : V
   six : (outcome : Verdict) → Is outcome → status_of_verify outcome ≡ 6 → Rose a.read_faults b.read_faults
   six verdict.Proved h e = absurd (omega arith)
   six (verdict.Wrong x y value product) h e = absurd (omega arith)
+  six (verdict.WrongSum x y z value sum) h e = absurd (omega arith)
   six (verdict.Undecided tried step size) h e = absurd (omega arith)
   six (verdict.Graph why) h e = absurd (omega arith)
   six verdict.ReadFault h e = h.0
@@ -80,6 +85,7 @@ module _ (files : named.Files) (order : Order) (budget conflicts : ℕ) (a b : V
   seven : (outcome : Verdict) → Is outcome → status_of_verify outcome ≡ 7 → Rose a.write_faults b.write_faults
   seven verdict.Proved h e = absurd (omega arith)
   seven (verdict.Wrong x y value product) h e = absurd (omega arith)
+  seven (verdict.WrongSum x y z value sum) h e = absurd (omega arith)
   seven (verdict.Undecided tried step size) h e = absurd (omega arith)
   seven (verdict.Graph why) h e = absurd (omega arith)
   seven verdict.ReadFault h e = absurd (omega arith)
@@ -90,6 +96,7 @@ module _ (files : named.Files) (order : Order) (budget conflicts : ℕ) (a b : V
   two : (outcome : Verdict) → status_of_verify outcome ≡ 2 → ⊥
   two verdict.Proved e = absurd (omega arith)
   two (verdict.Wrong x y value product) e = absurd (omega arith)
+  two (verdict.WrongSum x y z value sum) e = absurd (omega arith)
   two (verdict.Undecided tried step size) e = absurd (omega arith)
   two (verdict.Graph why) e = absurd (omega arith)
   two verdict.ReadFault e = absurd (omega arith)
@@ -103,7 +110,7 @@ module _ (files : named.Files) (order : Order) (budget conflicts : ℕ) (a b : V
   as_due due given (inr (inr (inl fault))) = inr (inr (inl (ap status_of_verify fault)))
   as_due due given (inr (inr (inr none))) = inr (inr (inr (ap status_of_verify none)))
 
-  pub verify_facts : (outcome : Verdict) → Is outcome → Facts (Verify files order budget conflicts) a b (answer.Verified outcome noted)
+  pub verify_facts : (outcome : Verdict) → Is outcome → Facts (Verify files claim budget conflicts) a b (answer.Verified outcome noted)
   verify_facts outcome h = record {
     zero = λ e told names. (noted, zero outcome h e told names);
     one = λ e. one outcome h e;
@@ -112,5 +119,5 @@ module _ (files : named.Files) (order : Order) (budget conflicts : ℕ) (a b : V
     six = λ e. six outcome h e;
     seven = λ e. seven outcome h e;
     due = λ told due k. subst (λ d. EndsAsDue (status_of d) (status_of_verify outcome)) (sym k.2)
-        (let file = k.3 in as_due k.0 outcome (verdicts_are_exact standard.graph order budget conflicts (files_of files) a b file.0 k.0 outcome noted file.1 file.2 h));
+        (let file = k.3 in as_due k.0 outcome (verdicts_are_exact standard.graph (task_of claim budget conflicts) (files_of files) a b file.0 k.0 outcome noted file.1 file.2 h));
   }

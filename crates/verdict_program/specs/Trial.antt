@@ -1,10 +1,12 @@
 -- Which multiplier a number names, what `trial` says of it, and when.
 use Rattle.std.specs.Prelude.{◌≡◌, ℕ, ◌+◌, ◌-◌, ◌/◌, ◌%◌, ◌^◌, ◌==◌, List, Some, codes, length, if◌then◌else◌, ⊤}
+use Rattle.command_line.specs.Asked.{default_budget, default_conflicts}
 use Rattle.graph_core.specs.Aiger.{Spells}
 use Rattle.graph_core.specs.Aiger.Writing.{ascii_text}
 use Rattle.graph_core.specs.Graph.{Aig}
-use Rattle.graph_core.specs.Graph.Operands.{Multiplies}
+use Rattle.graph_core.specs.Graph.Operands.{Multiplies, product_under}
 use Rattle.graph_core.specs.declared.order.Order.TheVariants.{Separate}
+use Rattle.graph_core.specs.declared.profile.Profile.TheVariants.{Multiplier as TwoOperands}
 use Rattle.graph_maker.specs.declared.adder.Adder.{Adder}
 use Rattle.graph_maker.specs.declared.adder.Adder.TheVariants.{Ripple, Kogge, Sklansky}
 use Rattle.graph_maker.specs.declared.kind.Kind.{Kind}
@@ -16,6 +18,7 @@ use Rattle.joint_prover.specs.Pairs.{IsPairFor}
 use Rattle.joint_prover.specs.Tries.{AreTried}
 use Rattle.joint_prover.specs.Verdicts.{HoldsPair, IsFirstAbove, IsWithinBudget}
 use Rattle.joint_prover.specs.declared.rewriting.Rewriting.{Rewriting}
+use Rattle.joint_prover.specs.declared.task.Task.{Task}
 use Rattle.joint_prover.specs.declared.verdict.Tried.{Tried}
 use Rattle.mv_desk.specs.View.{View, bytes_under}
 use Rattle.mv_desk.specs.declared.limits.Limits.{Limits}
@@ -44,12 +47,9 @@ multiplier_of number = record { plan = plan_of number; gates = length (graph_of 
 
 -- ---- what is said of it
 
--- the most monomials that a remainder may have, and the most conflicts
-abbrev pub default_budget : ℕ
-default_budget = 1000000
-
-abbrev pub default_conflicts : ℕ
-default_conflicts = 100000
+-- what is asked: the product under the order `separate`, within the default budgets
+abbrev pub trial_task : Task
+trial_task = record { claim = product_under Separate; budget = default_budget; conflicts = default_conflicts }
 
 -- the lengths that files in memory may have
 abbrev pub no_limits : Limits
@@ -57,24 +57,24 @@ no_limits = record { graph = 2 ^ 64 - 1; certificate = 2 ^ 64 - 1; line = 2 ^ 64
 
 -- Something holds of the graph that the made graph's ascii text spells.
 abbrev pub OfMade : Plan → (Aig → Type 0) → Type 0
-OfMade plan P = (g : Aig) × Spells (ascii_text (graph_of plan)) g × P g
+OfMade plan P = (g : Aig) × Spells TwoOperands (ascii_text (graph_of plan)) g × P g
 
 -- The graph multiplies, the note has its cause, and there is a lawful pair of certificates: the pair that is written with the note's cut.
 pub record IsAcceptedWith (note : Rewriting) (g : Aig) : Type 0 where
   pub multiplies : Multiplies g Separate
-  pub noted : IsNote g Separate default_conflicts note
+  pub noted : IsNote g trial_task.claim trial_task.conflicts note
   pub clauses : List ℕ
   pub algebra : List ℕ
-  pub written : IsPairFor g Separate default_budget default_conflicts (cut_of note) clauses algebra
-  pub lawful : IsLawfulPair (lengths_of no_limits) g Separate clauses algebra
+  pub written : IsPairFor g trial_task (cut_of note) clauses algebra
+  pub lawful : IsLawfulPair (lengths_of no_limits) g (product_under Separate) clauses algebra
 
 -- This is the plain order's first frontier above the budget, the note has its cause, and each plan that was tried before has a frontier
 -- above the budget.
 pub record IsUndecidedWith (step size : ℕ) (note : Rewriting) (g : Aig) : Type 0 where
-  pub first : IsFirstAbove g Separate default_budget step size
-  pub noted : IsNote g Separate default_conflicts note
+  pub first : IsFirstAbove g trial_task.claim trial_task.budget step size
+  pub noted : IsNote g trial_task.claim trial_task.conflicts note
   pub tried : List Tried
-  pub above : AreTried g Separate default_budget (cut_of note) tried
+  pub above : AreTried g trial_task.claim trial_task.budget (cut_of note) tried
 
 -- Where each answer comes, and of which multiplier.
 abbrev pub IsTested : Multiplier → Tested → Type 0
@@ -84,7 +84,7 @@ IsTested asked Memory = ⊤
 
 -- The answer that is due: acceptance, where no frontier of the plain order is above the budget.
 abbrev pub IsTestDue : Plan → Tested → Type 0
-IsTestDue plan (Accepted m n) = OfMade plan (λ g. IsWithinBudget g Separate default_budget)
+IsTestDue plan (Accepted m n) = OfMade plan (λ g. IsWithinBudget g trial_task.claim trial_task.budget)
 IsTestDue plan _ = ⊥
 
 -- ---- private clauses alone cite what follows
@@ -99,4 +99,4 @@ HoldsGraph view plan = bytes_under view trial_files.graph ≡ Some (ascii_text (
 
 -- and a lawful pair of certificates for what it spells
 abbrev pub HoldsTrial : View → Rewriting → Type 0
-HoldsTrial view note = HoldsPair Separate default_budget default_conflicts trial_files view no_limits.graph (Some note)
+HoldsTrial view note = HoldsPair trial_task trial_files view no_limits.graph (Some note)

@@ -5,18 +5,20 @@ ghost use Rattle.graph_core.specs.Aiger.Writing.{written};
 ghost use Rattle.joint_checker.specs.Files.{files_of};
 ghost use Rattle.mv_desk.specs.HonestDesk.{held_of};
 ghost use Rattle.verdict_program.specs.Making.{graph_of};
+ghost use Rattle.graph_core.specs.Graph.Operands.{product_under};
 ghost use Rattle.graph_core.specs.declared.order.Order.TheVariants.{Separate};
 ghost use Rattle.joint_prover.specs.Verdicts.{IsVerdict};
-ghost use Rattle.verdict_program.specs.Trial.{HoldsGraph, HoldsTrial, IsTested, default_budget, default_conflicts, multiplier_of, no_limits, trial_files};
+ghost use Rattle.verdict_program.specs.Trial.{HoldsGraph, HoldsTrial, IsTested, multiplier_of, no_limits, trial_files, trial_task};
 
 use crate::made::Made;
 use crate::make_file::create_file;
 use crate::plan::plan_of;
 use crate::tested::{Multiplier, Tested};
-use graph_core::{Graph, Order};
+use command_line::{BUDGET, CONFLICTS};
+use graph_core::{Claim, Graph, Order, Sign};
 use graph_maker::make;
 use joint_checker::{Checked, check};
-use joint_prover::{Rewriting, Verdict, verify};
+use joint_prover::{Rewriting, Task, Verdict, verify};
 use mv_desk::{Desk, HonestDesk, Limits, Names};
 use std::alloc::Global;
 
@@ -25,6 +27,13 @@ const NO_LIMITS: Limits = Limits {
     graph: u64::MAX,
     certificate: u64::MAX,
     line: u64::MAX,
+};
+
+// What is claimed of a made multiplier.
+const PRODUCT: Claim = Claim {
+    order: Order::Separate,
+    sign: Sign::Unsigned,
+    add: false,
 };
 
 /// Makes the multiplier that a number names, gives a verdict on it within the default budgets, and where it is proved
@@ -90,18 +99,15 @@ fn verdict_on(
     desk: &mut HonestDesk,
     names: &Names<'_>,
 ) -> (Verdict, Option<Rewriting>)
-    ensures { IsVerdict no_limits.graph Separate default_budget default_conflicts (files_of names.now)
+    ensures { IsVerdict no_limits.graph trial_task (files_of names.now)
         (⟦<HonestDesk as Desk>⟧.seen desk.old) (⟦<HonestDesk as Desk>⟧.seen desk.new) result.0 result.1 }
 {
-    verify(
-        alloc,
-        desk,
-        Order::Separate,
-        1000000,
-        100000,
-        &NO_LIMITS,
-        names,
-    )
+    let task = Task {
+        claim: PRODUCT,
+        budget: BUDGET,
+        conflicts: CONFLICTS,
+    };
+    verify(alloc, desk, &task, &NO_LIMITS, names)
 }
 
 // The check of the certificates that a desk holds.
@@ -118,7 +124,7 @@ fn check_pair(
     let names = names();
     measure(desk, names.clauses);
     measure(desk, names.algebra);
-    match check(alloc, desk, Order::Separate, &NO_LIMITS, &names) {
+    match check(alloc, desk, PRODUCT, &NO_LIMITS, &names) {
         Checked::Accepted => Tested::Accepted { multiplier, note },
         Checked::Memory => Tested::Memory,
         _ => unreachable!(),

@@ -1,6 +1,6 @@
 use Rattle.command_line.proofs.AnyNames.{names_are_checked}
 use Rattle.command_line.proofs.Numerals.{numbers_are_numerals}
-use Rattle.command_line.proofs.PlainWords.{interleaved, made, too_few, tried}
+use Rattle.command_line.proofs.PlainWords.{added, corrected, interleaved, made, no_sum, signed_sum, sum, too_few, tried}
 use Rattle.command_line.proofs.examples.plain_words.Goals as goal
 
 pub returns : goal.returns
@@ -8,7 +8,12 @@ returns c = record {
   names = names_are_checked;
   numbers = numbers_are_numerals;
   interleaved = interleaved;
+  signed_sum = signed_sum;
   made = made;
+  corrected = corrected;
+  sum = sum;
+  no_sum = no_sum;
+  added = added;
   tried = tried;
   too_few = too_few;
 }

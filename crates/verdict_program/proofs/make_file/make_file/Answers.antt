@@ -4,8 +4,8 @@ use Rattle.verdict_program.specs.Making.{IsMade, text_for}
 use Rattle.verdict_program.proofs.CreatingLemmas.{IsSame-refl, no_fault, same_leaves}
 use Rattle.verdict_program.proofs.make_file.make_file.Goals as goal
 
-pub make-requires : goal.make-requires
-make-requires g c = record { some = c.requires.some; few = c.requires.narrow }
+pub make_design-requires : goal.make_design-requires
+make_design-requires g c = record { some = c.requires.some; few = c.requires.narrow }
 
 pub create_file-requires : goal.create_file-requires
 create_file-requires g c = record { packed = c.in-Ok.ensures.packed }

@@ -1,5 +1,6 @@
 use Rattle.std.proofs.Common.{ap, refl, subst}
 use Rattle.std.specs.Prelude.{is_some}
+use Rattle.graph_core.specs.Graph.Operands.{product_under}
 use Rattle.graph_core.specs.declared.order.Order.TheVariants.{Separate}
 use Rattle.joint_checker.specs.Files.{AreTold, Files, texts_of}
 use Rattle.joint_checker.specs.Outcome.{IsExactAnswer}
@@ -21,7 +22,7 @@ unreachable-requires c =
     pair.clauses_held c.measure.ensures.count c.measure.ensures.short in
     let algebra = honest_length c.args.desk.now names.algebra.now trial_files.algebra pair.algebra_file c.measure-2.result (ap (λ (f : Files). f.algebra) same)
     pair.algebra_held c.measure-2.ensures.count c.measure-2.ensures.short in
-    let exact = subst (λ f. IsExactAnswer no_limits Separate f before after c.check.result) same c.check.ensures.exact in
+    let exact = subst (λ f. IsExactAnswer no_limits (product_under Separate) f before after c.check.result) same c.check.ensures.exact in
     let told : AreTold (texts_of before trial_files) = record { graph_told = ap is_some pair.graph_held; clauses_told = ap is_some pair.clauses_held; algebra_told = ap is_some pair.algebra_held } in
     never_unaccepted c.args.multiplier.plan before c.args.note c.requires.made pair clauses algebra after c.check.result
     (never_failed c.check.new.desk) (exact told) c.in_default.not-Accepted c.in_default.not-Memory

@@ -1,12 +1,11 @@
 use Rattle.std.proofs.Common.{ap, subst}
 use Rattle.graph_core.specs.Aiger.Writing.{ascii_text}
-use Rattle.graph_core.specs.declared.order.Order.TheVariants.{Separate}
 use Rattle.joint_checker.specs.Files.{Files}
 use Rattle.joint_prover.specs.Verdicts.{IsVerdict}
 use Rattle.mv_desk.specs.HonestDesk.{view_of}
 use Rattle.mv_desk.proofs.CallerLemmas.{never_failed}
 use Rattle.verdict_program.specs.Making.{graph_of}
-use Rattle.verdict_program.specs.Trial.{default_budget, default_conflicts, no_limits, trial_files}
+use Rattle.verdict_program.specs.Trial.{no_limits, trial_files, trial_task}
 use Rattle.verdict_program.proofs.MemoryFiles.{honest_length, honest_tells}
 use Rattle.verdict_program.proofs.TrialLemmas.{held_trial, never_other}
 use Rattle.verdict_program.proofs.trial.judge.Goals as goal
@@ -20,8 +19,8 @@ check_pair-requires-clause-made c =
     let same = c.names-names.ensures in
     let short = honest_length c.args.desk.now c.names-names.result.graph.now trial_files.graph (ascii_text (graph_of plan)) c.measure.result
     (ap (λ (f : Files). f.graph) same) c.requires.held c.measure.ensures.count c.measure.ensures.short in
-    let said = subst (λ f. IsVerdict no_limits.graph Separate default_budget default_conflicts f a b c.verdict_on-verdict.result.0 noted) same c.verdict_on-verdict.ensures in
-    let proved = subst (λ v. IsVerdict no_limits.graph Separate default_budget default_conflicts trial_files a b v noted) c.in-Proved.is said in
+    let said = subst (λ f. IsVerdict no_limits.graph trial_task f a b c.verdict_on-verdict.result.0 noted) same c.verdict_on-verdict.ensures in
+    let proved = subst (λ v. IsVerdict no_limits.graph trial_task trial_files a b v noted) c.in-Proved.is said in
     (held_trial plan c.requires.some c.requires.narrow a b noted c.requires.held short (honest_tells c.args.desk.now).held (honest_tells c.verdict_on-verdict.new.desk) proved
     c.unwrap.result c.unwrap.ensures).0
 
@@ -34,8 +33,8 @@ check_pair-requires-clause-pair c =
     let same = c.names-names.ensures in
     let short = honest_length c.args.desk.now c.names-names.result.graph.now trial_files.graph (ascii_text (graph_of plan)) c.measure.result
     (ap (λ (f : Files). f.graph) same) c.requires.held c.measure.ensures.count c.measure.ensures.short in
-    let said = subst (λ f. IsVerdict no_limits.graph Separate default_budget default_conflicts f a b c.verdict_on-verdict.result.0 noted) same c.verdict_on-verdict.ensures in
-    let proved = subst (λ v. IsVerdict no_limits.graph Separate default_budget default_conflicts trial_files a b v noted) c.in-Proved.is said in
+    let said = subst (λ f. IsVerdict no_limits.graph trial_task f a b c.verdict_on-verdict.result.0 noted) same c.verdict_on-verdict.ensures in
+    let proved = subst (λ v. IsVerdict no_limits.graph trial_task trial_files a b v noted) c.in-Proved.is said in
     (held_trial plan c.requires.some c.requires.narrow a b noted c.requires.held short (honest_tells c.args.desk.now).held (honest_tells c.verdict_on-verdict.new.desk) proved
     c.unwrap.result c.unwrap.ensures).1
 
@@ -48,6 +47,6 @@ unreachable-requires c =
     let same = c.names-names.ensures in
     let short = honest_length c.args.desk.now c.names-names.result.graph.now trial_files.graph (ascii_text (graph_of plan)) c.measure.result
     (ap (λ (f : Files). f.graph) same) c.requires.held c.measure.ensures.count c.measure.ensures.short in
-    let said = subst (λ f. IsVerdict no_limits.graph Separate default_budget default_conflicts f a b c.verdict_on-verdict.result.0 noted) same c.verdict_on-verdict.ensures in
+    let said = subst (λ f. IsVerdict no_limits.graph trial_task f a b c.verdict_on-verdict.result.0 noted) same c.verdict_on-verdict.ensures in
     never_other plan c.requires.some c.requires.narrow a b noted c.requires.held short (never_failed c.verdict_on-verdict.new.desk) c.verdict_on-verdict.result.0 said
     c.in_default.not-Proved c.in_default.not-Undecided c.in_default.not-WriteFault c.in_default.not-Memory
