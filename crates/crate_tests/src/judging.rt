@@ -1,6 +1,6 @@
 // joint_checker: lengths, over files in memory.
 use aiger_reader::ReadFail;
-use graph_core::{Field, Order};
+use graph_core::{Claim, Field, Order, Sign};
 use joint_checker::{AlgebraWhy, Checked, Refusal, check};
 use mv_desk::{Limits, MemoryDesk, Names, Slot};
 use std::alloc::{AllocError, Global};
@@ -173,7 +173,12 @@ fn is_said(
         line,
     };
     let mut desk = desk_of(alloc, texts)?;
-    Ok(check(alloc, &mut desk, Order::Separate, &limits, &NAMES) == *said)
+    let claim = Claim {
+        order: Order::Separate,
+        sign: Sign::Unsigned,
+        add: false,
+    };
+    Ok(check(alloc, &mut desk, claim, &limits, &NAMES) == *said)
 }
 
 #[test]

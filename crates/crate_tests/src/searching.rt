@@ -2,53 +2,107 @@
 ghost use Rattle.std.specs.Prelude.{◌≤◌};
 
 use aiger_reader::graph_of_text;
-use graph_core::{Operands, Order};
+use graph_core::{Claim, Numbers, Operands, Order, Sign};
 use graph_maker::{Adder, Kind, make};
 use operand_search::{least_seen, least_within, most_ones_within};
 use stage_guesser::candidate;
 use std::alloc::Global;
 use std::test::Fail;
 
+const PRODUCT: Claim = Claim {
+    order: Order::Separate,
+    sign: Sign::Unsigned,
+    add: false,
+};
+
+const SIGNED: Claim = Claim {
+    order: Order::Separate,
+    sign: Sign::Signed,
+    add: false,
+};
+
+const SUM: Claim = Claim {
+    order: Order::Separate,
+    sign: Sign::Unsigned,
+    add: true,
+};
+
 // The least difference of the graph of a text, with at most so many ones, by both searches; None where one fails.
 fn least(
     alloc: Global,
     text: &[u8],
+    claim: Claim,
     most_ones: u32,
-) -> Option<(Option<(u64, u64)>, Option<(u64, u64)>)> {
-    let graph = graph_of_text(alloc, text).ok()?;
-    let operands = Operands::of(alloc, &graph, Order::Separate).ok()?;
+) -> Option<(Option<Numbers>, Option<Numbers>)> {
+    let graph = graph_of_text(alloc, claim.profile(), text).ok()?;
+    let operands = Operands::under(alloc, &graph, claim).ok()?;
     let within = least_within(alloc, &graph, &operands, most_ones).ok()?;
     let seen = least_seen(alloc, &graph, &operands, most_ones).ok()?;
     Some((within, seen))
 }
 
-const DIFFERENCES: [(&str, &[u8], u32, Option<(u64, u64)>); 4] = [
+// An array of two bits.
+const TWO_BITS: &[u8] =
+    b"aag 14 4 0 4 10\n2\n4\n6\n8\n10\n22\n28\n24\n10 6 2\n12 6 4\n14 8 2\n16 8 4\n18 14 12\n20 15 13\n22 21 19\n24 18 16\n26 19 17\n28 27 25\n";
+
+const DIFFERENCES: [(&str, &[u8], Claim, u32, Option<Numbers>); 8] = [
     (
         "a multiplier of one bit",
         b"aag 3 2 0 1 1\n2\n4\n6\n6 4 2\n",
+        PRODUCT,
         2,
         None,
     ),
     (
         "an output that is 0",
         b"aag 3 2 0 1 1\n2\n4\n0\n6 4 2\n",
+        PRODUCT,
         2,
-        Some((1, 1)),
+        Some(Numbers { a: 1, b: 1, c: 0 }),
     ),
     (
         "one bit is allowed",
         b"aag 3 2 0 1 1\n2\n4\n0\n6 4 2\n",
+        PRODUCT,
         1,
         None,
     ),
-    ("an or", b"aag 3 2 0 1 1\n2\n4\n7\n6 5 3\n", 2, Some((1, 0))),
+    (
+        "an or",
+        b"aag 3 2 0 1 1\n2\n4\n7\n6 5 3\n",
+        PRODUCT,
+        2,
+        Some(Numbers { a: 1, b: 0, c: 0 }),
+    ),
+    ("operands without a sign", TWO_BITS, PRODUCT, 4, None),
+    (
+        "signed ones",
+        TWO_BITS,
+        SIGNED,
+        4,
+        Some(Numbers { a: 1, b: 2, c: 0 }),
+    ),
+    (
+        "an addend that is left out",
+        b"aag 5 4 0 1 1\n2\n4\n6\n8\n10\n10 4 2\n",
+        SUM,
+        4,
+        Some(Numbers { a: 0, b: 0, c: 1 }),
+    ),
+    (
+        "a lowest bit with its addend",
+        b"aag 8 4 0 1 4\n2\n4\n6\n8\n16\n10 4 2\n12 10 6\n14 11 7\n16 15 13\n",
+        SUM,
+        4,
+        None,
+    ),
 ];
 
 #[test]
 fn differences_are_found(rt: HostRuntime) {
-    for &(shows, text, most_ones, due) in &DIFFERENCES {
+    for &(shows, text, claim, most_ones, due) in &DIFFERENCES {
         assert!(rt;
-            least(rt.alloc(), text, most_ones) == Some((due, due)),
+            least(rt.alloc(), text, claim, most_ones) == Some((due, due)),
             "{shows}"
         );
     }
