@@ -1,8 +1,10 @@
 // operand_search and stage_guesser: what is found by evaluating a graph.
 ghost use Rattle.std.specs.Prelude.{◌≤◌};
+ghost use Rattle.graph_core.specs.Aiger.Soundness.{IsSizedAs};
+ghost use Rattle.graph_core.specs.Graph.Operands.{profile_of};
 
 use aiger_reader::graph_of_text;
-use graph_core::{Claim, Numbers, Operands, Order, Sign};
+use graph_core::{Claim, Graph, Numbers, Operands, Order, Sign};
 use graph_maker::{Adder, Kind, make};
 use operand_search::{least_seen, least_within, most_ones_within};
 use stage_guesser::candidate;
@@ -34,10 +36,23 @@ fn least(
     claim: Claim,
     most_ones: u32,
 ) -> Option<(Option<Numbers>, Option<Numbers>)> {
-    let graph = graph_of_text(alloc, claim.profile(), text).ok()?;
-    let operands = Operands::under(alloc, &graph, claim).ok()?;
-    let within = least_within(alloc, &graph, &operands, most_ones).ok()?;
-    let seen = least_seen(alloc, &graph, &operands, most_ones).ok()?;
+    match graph_of_text(alloc, claim.profile(), text) {
+        Ok(graph) => least_of(alloc, &graph, claim, most_ones),
+        Err(_) => None,
+    }
+}
+
+fn least_of(
+    alloc: Global,
+    graph: &Graph,
+    claim: Claim,
+    most_ones: u32,
+) -> Option<(Option<Numbers>, Option<Numbers>)>
+    requires { IsSizedAs (profile_of claim.add) graph.now }
+{
+    let operands = Operands::under(alloc, graph, claim).ok()?;
+    let within = least_within(alloc, graph, &operands, most_ones).ok()?;
+    let seen = least_seen(alloc, graph, &operands, most_ones).ok()?;
     Some((within, seen))
 }
 
