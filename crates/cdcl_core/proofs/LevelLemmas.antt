@@ -1,5 +1,5 @@
 -- The moments to which a search goes back.
-use Rattle.std.specs.Prelude.{◌≡◌, ◌≢◌, ℕ, zero, suc, ◌+◌, ◌-◌, ◌<◌, ◌≤◌, ◌⊎◌, List, [], ◌∷◌, ◌++◌, length, take, ℤ, pos, neg_ℤ, slice_index_or}
+use Rattle.std.specs.Prelude.{◌≡◌, ◌≢◌, ℕ, zero, suc, ◌-◌, ◌<◌, ◌≤◌, ◌⊎◌, List, [], ◌∷◌, ◌++◌, length, take, ℤ, pos, neg_ℤ, slice_index_or}
 use Rattle.std.specs.declared.option.Option.{Option}
 use Rattle.std.specs.declared.option.Option.TheVariants.{None, Some}
 use Rattle.std.specs.List.{Contains}
@@ -7,11 +7,11 @@ use Rattle.std.proofs.Common.{refl, sym, ap, subst, ◌∙◌, arith, inl, inr, 
 use Rattle.std.proofs.lemmas.List.{take-append-le, get_or-take, length-take-le}
 use Rattle.std.proofs.lemmas.List.Elements.{Contains-push_cases}
 use Rattle.clause_core.specs.Clause.{Clause, IsSubset}
-use Rattle.clause_core.specs.UnitPropagation.{IsFixpoint, IsUnit}
+use Rattle.clause_core.specs.UnitPropagation.{IsFixpoint}
 use Rattle.clause_core.proofs.Decided.{contains_nil}
 use Rattle.clause_core.proofs.RupSoundness.{contains_cases}
 use Rattle.clause_core.proofs.Places.{below_suc}
-use Rattle.unit_prop.specs.Standing.{Standing, AreUnits, IsMark, IsSettled, StandsAlone, at, back_at, clause_at, live_of, reason_at, standing_more}
+use Rattle.unit_prop.specs.Standing.{Standing, AreUnits, IsMark, IsSettled, StandsAlone, at, back_at, clause_at, live_of, standing_more}
 use Rattle.cdcl_core.specs.Levels.{IsStage, IsLast, Keeps, AreTwoOpen, mark_at}
 use Rattle.cdcl_core.specs.Search.{Grows}
 use Rattle.cdcl_core.proofs.Standings.{front, behind}

@@ -7,3 +7,4 @@ pub mod LevelLemmas
 pub mod SolveLemmas
 pub mod AnalysisLemmas
 pub mod SolverLemmas
+pub mod ShowLemmas

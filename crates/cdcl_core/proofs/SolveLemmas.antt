@@ -1,9 +1,8 @@
 -- Answers of a solver.
-use Rattle.std.specs.Prelude.{◌≡◌, ℕ, ◌<◌, Bool, true, List, [], ◌∷◌, ◌++◌, map, length, ℤ, pos, neg_ℤ, slice_index_or}
+use Rattle.std.specs.Prelude.{◌≡◌, ℕ, ◌<◌, Bool, true, List, ◌++◌, map, length, ℤ, pos, neg_ℤ, slice_index_or}
 use Rattle.std.specs.declared.option.Option.{Option}
-use Rattle.std.specs.declared.option.Option.TheVariants.{Some}
 use Rattle.std.specs.List.{All, Contains}
-use Rattle.std.proofs.Common.{sym, ap, subst, ◌∙◌, ⊎_elim}
+use Rattle.std.proofs.Common.{sym, subst, ◌∙◌, ⊎_elim}
 use Rattle.std.proofs.lemmas.List.Elements.{All-contains, Contains-append_right}
 use Rattle.clause_core.specs.Clause.{Clause, IsSubset, Satisfies, signed, holds}
 use Rattle.clause_core.specs.UnitPropagation.{IsRup, IsRefuted, IsTautology}
@@ -11,7 +10,6 @@ use Rattle.clause_core.specs.Clause.{IsClauseInRange}
 use Rattle.clause_core.specs.Log.{IsLemma}
 use Rattle.clause_core.proofs.Places.{same_at}
 use Rattle.unit_prop.specs.Standing.{Standing, live_of, IsSettled}
-use Rattle.unit_prop.specs.Trail.{IsWithin}
 use Rattle.cdcl_core.proofs.Trails.{trail_of, clause_within, literal_positive}
 use Rattle.cdcl_core.proofs.Trails.{consistent}
 use Rattle.cdcl_core.proofs.Standings.{not_refuted}

@@ -2,6 +2,7 @@
 use Rattle.std.specs.Prelude.{◌≡◌, ◌≢◌, ℕ, zero, suc, ◌+◌, ◌<◌, ◌≤◌, ◌⊎◌, Bool, true, false, List, length, ℤ, pos, negsuc, neg_ℤ, nat_abs}
 use Rattle.std.specs.declared.option.Option.{Option}
 use Rattle.std.specs.declared.option.Option.TheVariants.{None, Some}
+use Rattle.std.specs.Option.{unwrap_or}
 use Rattle.std.specs.List.{Contains}
 use Rattle.std.proofs.Common.{refl, sym, ap, subst, ◌∙◌, arith, ⊎_elim}
 use Rattle.std.proofs.lemmas.Bool.{cases_lt}
@@ -94,6 +95,17 @@ pub value_told : (s : Standing) (l : ℤ) (o : Option Bool) → IsSound s → Ha
 value_told s l None h v = v
 value_told s l (Some true) h v = (v, λ n. consistent s.trail (trail_of s h) l v n)
 value_told s l (Some false) h v = (v, λ n. consistent s.trail (trail_of s h) l n v)
+
+-- whether a literal is known to stand
+pub told_true : (lits : List ℤ) (l : ℤ) (o : Option Bool) → HasValue lits l o → unwrap_or o false ≡ true → Contains lits l
+told_true lits l None v e = absurd (cc)
+told_true lits l (Some true) v e = v
+told_true lits l (Some false) v e = absurd (cc)
+
+pub told_false : (s : Standing) (l : ℤ) (o : Option Bool) → IsSound s → HasValue s.trail.literals l o → unwrap_or o false ≡ false → Contains s.trail.literals l → ⊥
+told_false s l None h v e has = v.0 has
+told_false s l (Some true) h v e has = absurd (cc)
+told_false s l (Some false) h v e has = consistent s.trail (trail_of s h) l has v
 
 -- there are no more literals than variables
 pub trail_fits : (t : TrailView) → IsTrail t → length t.literals ≤ t.greatest + 1

@@ -1,6 +1,5 @@
 -- The analysis of a conflict.
 use Rattle.std.specs.Prelude.{◌≡◌, ◌≢◌, ℕ, suc, ◌<◌, ◌≤◌, ◌⊎◌, min, Bool, true, false, List, [], ◌∷◌, ◌++◌, length, take, ℤ, neg_ℤ, slice_index_or, slice_set}
-use Rattle.std.specs.declared.option.Option.{Option}
 use Rattle.std.specs.declared.option.Option.TheVariants.{None, Some}
 use Rattle.std.specs.List.{Contains}
 use Rattle.clause_core.specs.Clause.{Clause}

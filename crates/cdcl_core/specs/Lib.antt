@@ -1,4 +1,4 @@
--- To be read by whoever trusts the contracts: Logs, Additions, Solving, Solvers and Loading. The others serve private clauses and
+-- To be read by whoever trusts the contracts: Logs, Additions, Solving, Solvers, Loading and Shows. The others serve private clauses and
 -- the invariants alone.
 pub mod Logs
 pub mod Additions
@@ -11,4 +11,5 @@ pub mod Loading
 pub mod Analyses
 pub mod Orders
 pub mod Solvers
+pub mod Shows
 pub mod Finding

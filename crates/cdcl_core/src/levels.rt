@@ -1,5 +1,5 @@
 // The moments of a search to which it goes back.
-ghost use Rattle.std.specs.Prelude.{◌≡◌, ◌≢◌, ◌<◌, ◌^◌, ◌++◌, ◌∷◌, [], ℤ, neg_ℤ, Some, OnOk, OnErr, IfSome, IsTrue};
+ghost use Rattle.std.specs.Prelude.{◌≡◌, ◌≢◌, ◌<◌, ◌^◌, ◌++◌, ◌∷◌, [], ℤ, neg_ℤ, Some, OnOk, OnErr, IfSome, IsFalse, IsTrue};
 ghost use Rattle.std.specs.List.{Contains};
 ghost use Rattle.clause_core.specs.Clause.{IsSubset};
 ghost use Rattle.unit_prop.specs.Trail.{IsWithin};
@@ -173,12 +173,13 @@ fn all_stand(propagator: &Propagator, lits: &[i32]) -> bool
     true
 }
 
-fn stands(propagator: &Propagator, lit: i32) -> bool
+/// Whether a literal stands.
+pub(crate) fn stands(propagator: &Propagator, lit: i32) -> bool
     requires { IsWithin propagator.now.trail.greatest lit }
-    ensures { IsTrue result → Contains propagator.now.trail.literals lit }
+    ensures there { IsTrue result → Contains propagator.now.trail.literals lit }
+    ensures absent { IsFalse result → Contains propagator.now.trail.literals lit → ⊥ }
 {
-    match propagator.value(lit) {
-        Some(true) => true,
-        _ => false,
-    }
+    // no literal stands beside its negation
+    let _sound = propagator.mark();
+    propagator.value(lit).unwrap_or(false)
 }

@@ -1,7 +1,8 @@
 //! A solver by conflict-driven clause learning whose log is lawful.
 //!
 //! `solve` refutes assumptions, finds a model, or spends its budget of lemmas; whatever it answers, each line that it
-//! logged is lawful. A `Solver` keeps its clauses and the order of decisions from goal to goal.
+//! logged is lawful. A `Solver` keeps its clauses and the order of decisions from goal to goal, and shows clauses of two
+//! literals as lemmas of their own.
 //!
 //! *Lemma*: it follows from the live clauses by unit propagation, is no tautology, and has no live clause within it;
 //! *lawful* lines: `specs/Log.antt` of `clause_core`. What the lines of a log leave live, and how a log goes on:

@@ -1,14 +1,17 @@
 // One search: an answer, or a lemma.
-ghost use Rattle.std.specs.Prelude.{◌≡◌, ◌<◌, ◌^◌, IfOk, MatchBool, map, neg_ℤ};
+ghost use Rattle.std.specs.Prelude.{◌≡◌, ◌<◌, ◌^◌, [], ◌∷◌, IfOk, IsFalse, IsTrue, MatchBool, map, neg_ℤ};
 ghost use Rattle.clause_core.specs.Clause.{IsClauseInRange};
 ghost use Rattle.clause_core.specs.UnitPropagation.{IsRup};
+ghost use Rattle.cdcl_core.specs.Shows.{HasNoneWithin};
 ghost use Rattle.unit_prop.specs.Standing.{Standing, StandsAlone, live_of};
+ghost use Rattle.cdcl_core.specs.Search.{Grows};
 ghost use Rattle.cdcl_core.specs.Solvers.{IsReady};
 ghost use Rattle.cdcl_core.specs.Finding.{Finds};
 
 use crate::conflict::learn;
 use crate::descent::{begin, descend, settle};
-use crate::levels::Levels;
+use crate::levels::{Levels, stands};
+use crate::literal::negation;
 use crate::model::values;
 use crate::order::Order;
 use crate::solved::Solved;
@@ -69,4 +72,51 @@ pub(crate) fn is_settled(max: u32, propagator: &mut Propagator, assumptions: &[i
     let settled = begin(propagator, assumptions);
     propagator.back_to(base);
     settled
+}
+
+/// Whether propagation derives each of two literals from the other's negation, or a conflict. Where it doesn't, no live
+/// clause is within the clause of both.
+pub(crate) fn derive_each_other(max: u32, propagator: &mut Propagator, one: i32, other: i32) -> bool
+    requires alone { StandsAlone propagator.old }
+    requires max { propagator.old.trail.greatest ≡ max }
+    requires signed { max < 2 ^ 31 }
+    requires range { IsClauseInRange max (one ∷ other ∷ []) }
+    ensures same { propagator.new ≡ propagator.old }
+    ensures none { IsFalse result → HasNoneWithin (live_of propagator.old.clauses) (one ∷ other ∷ []) }
+{
+    let first = leads_to(max, propagator, one, other);
+    let second = leads_to(max, propagator, other, one);
+    first && second
+}
+
+// Whether propagation from the negation of one literal derives another one, or a conflict.
+fn leads_to(max: u32, propagator: &mut Propagator, one: i32, other: i32) -> bool
+    requires alone { StandsAlone propagator.old }
+    requires max { propagator.old.trail.greatest ≡ max }
+    requires signed { max < 2 ^ 31 }
+    requires range { IsClauseInRange max (one ∷ other ∷ []) }
+    ensures same { propagator.new ≡ propagator.old }
+    ensures none { IsFalse result → HasNoneWithin (live_of propagator.old.clauses) (one ∷ other ∷ []) }
+{
+    let base = propagator.mark();
+    let apart = stand_apart(max, propagator, one, other);
+    propagator.back_to(base);
+    !apart
+}
+
+// Lets the negation of a literal stand with its consequences; whether another one isn't among them, and there is no
+// conflict.
+fn stand_apart(max: u32, propagator: &mut Propagator, one: i32, other: i32) -> bool
+    requires alone { StandsAlone propagator.old }
+    requires max { propagator.old.trail.greatest ≡ max }
+    requires signed { max < 2 ^ 31 }
+    requires range { IsClauseInRange max (one ∷ other ∷ []) }
+    ensures grows { Grows propagator.old propagator.new }
+    ensures none { IsTrue result → HasNoneWithin (live_of propagator.old.clauses) (one ∷ other ∷ []) }
+{
+    let assumed = [negation(one)];
+    if !begin(propagator, &assumed) {
+        return false;
+    }
+    !stands(propagator, other)
 }

@@ -1,16 +1,20 @@
 // A solver that is kept between goals.
-ghost use Rattle.std.specs.Prelude.{◌≡◌, ◌<◌, ◌^◌, [], ◌++◌, IfOk, OnOk, OnErr};
+ghost use Rattle.std.specs.Prelude.{◌≡◌, ◌≢◌, ◌↔◌, ◌<◌, ◌≤◌, ◌^◌, [], ◌∷◌, ◌++◌, IfOk, IsFalse, IsTrue, OnOk, OnErr};
 ghost use Rattle.std.specs.List.{All, Contains};
 ghost use Rattle.clause_core.specs.Clause.{Clause as Literals, IsClauseInRange};
+ghost use Rattle.clause_core.specs.UnitPropagation.{IsRup};
+ghost use Rattle.unit_prop.specs.Trail.{variable as variable_of};
 ghost use Rattle.cdcl_core.specs.Loading.{SameLive};
 ghost use Rattle.cdcl_core.specs.Logs.{LogView, Continues};
+ghost use Rattle.cdcl_core.specs.Shows.{HasNoneWithin, IsKept, IsShown};
 ghost use Rattle.cdcl_core.specs.Solvers.{SolverView, IsEnd, Turns, with_clause};
 ghost use Rattle.cdcl_core.specs.Solving.{IsAnswer};
 
 use crate::levels::Levels;
+use crate::literal::{negation, variable};
 use crate::log::Log;
 use crate::order::Order;
-use crate::search::{Found, explore, is_settled};
+use crate::search::{Found, derive_each_other, explore, is_settled};
 use crate::solved::Solved;
 use clause_core::Clause;
 use graph_core::Memory;
@@ -107,6 +111,69 @@ impl Solver {
         Ok(self.close(assumptions))
     }
 
+    /// Shows a clause of two literals within so many lemmas, of which it is the last one; whether it follows now by
+    /// propagation. It is logged and live but where propagation derives each literal from the other's negation already.
+    /// False of literals that aren't of two variables.
+    ///
+    /// What the log left has to be live here. After an `Err` the log may have lemmas more, each lawful, and nothing is
+    /// known of the solver.
+    pub fn show(
+        &mut self,
+        one: i32,
+        other: i32,
+        conflicts: u64,
+        log: &mut Log,
+    ) -> Result<bool, Memory>
+        requires known { (c : Literals) → Contains log.old.left c → Contains self.old.live c }
+        requires log { All (IsClauseInRange self.old.max) log.old.left }
+        ensures max { self.new.max ≡ self.old.max }
+        ensures log { Continues self.old.max self.old.live conflicts log.old log.new }
+        ensures in_range { All (IsClauseInRange self.old.max) log.new.left }
+        ensures live { OnOk result (SameLive self.new.live (log.new.left ++ self.old.live)) }
+        ensures shown { IfOk result (IsShown self.old.live (one ∷ other ∷ []) log.new) }
+    {
+        if conflicts == 0 {
+            return Ok(false);
+        }
+        if !are_apart(self.max, one, other) {
+            return Ok(false);
+        }
+        let negated = [negation(one), negation(other)];
+        match self.solve(&negated, conflicts - 1, log)? {
+            Solved::Refuted => self.keep(one, other, log)?,
+            _ => return Ok(false),
+        }
+        Ok(true)
+    }
+
+    // Logs and adds a clause of two literals that follows, but where propagation derives each from the other's negation.
+    fn keep(&mut self, one: i32, other: i32, log: &mut Log) -> Result<(), Memory>
+        requires range { IsClauseInRange self.old.max (one ∷ other ∷ []) }
+        requires apart { variable_of one ≢ variable_of other }
+        requires follows { IsRup self.old.live (one ∷ other ∷ []) }
+        ensures max { self.new.max ≡ self.old.max }
+        ensures kept { OnOk result (IsKept self.old log.old self.new log.new) }
+        ensures err { OnErr result (log.new ≡ log.old) }
+    {
+        if self.derives(one, other) {
+            return Ok(());
+        }
+        let clause = Clause::new(self.alloc, &[one, other])?;
+        self.add(&clause)?;
+        log.push(clause)?;
+        Ok(())
+    }
+
+    // Whether propagation derives each of two literals from the other's negation.
+    fn derives(&mut self, one: i32, other: i32) -> bool
+        requires { IsClauseInRange self.old.max (one ∷ other ∷ []) }
+        ensures same { self.new ≡ self.old }
+        ensures none { IsFalse result → HasNoneWithin self.old.live (one ∷ other ∷ []) }
+    {
+        self.levels.restart(&mut self.propagator);
+        derive_each_other(self.max, &mut self.propagator, one, other)
+    }
+
     // An answer, or one lemma more.
     fn turn(
         &mut self,
@@ -151,4 +218,19 @@ impl Solver {
         }
         Solved::Refuted
     }
+}
+
+// Whether two literals are of two variables up to the greatest one.
+fn are_apart(max: u32, one: i32, other: i32) -> bool
+    ensures { IsTrue result → IsClauseInRange max (one ∷ other ∷ []) × (variable_of one ≢ variable_of other) }
+{
+    let first = variable(one);
+    let second = variable(other);
+    is_variable(max, first) && is_variable(max, second) && first != second
+}
+
+fn is_variable(max: u32, number: u32) -> bool
+    ensures { IsTrue result ↔ (0 < number) × (number ≤ max) }
+{
+    0 < number && number <= max
 }

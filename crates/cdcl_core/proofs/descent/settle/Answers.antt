@@ -2,8 +2,7 @@ use Rattle.std.proofs.Common.{◌∙◌, List, Option, map, neg_ℤ, sym, subst,
 use Rattle.clause_core.specs.Clause.{Clause, IsClauseInRange}
 use Rattle.unit_prop.specs.Standing.{live_of}
 use Rattle.clause_core.specs.UnitPropagation.{IsRup}
-use Rattle.cdcl_core.proofs.LevelLemmas.{keeps_grown, keeps_more, stage_grown}
-use Rattle.cdcl_core.proofs.SearchLemmas.{begins_grows}
+use Rattle.cdcl_core.proofs.LevelLemmas.{stage_grown}
 use Rattle.cdcl_core.proofs.Trails.{clause_within}
 use Rattle.cdcl_core.proofs.descent.settle.Goals as goal
 

@@ -6,7 +6,7 @@ use Rattle.cdcl_core.specs.Descent.{Descends}
 use Rattle.cdcl_core.specs.Levels.{Settles}
 use Rattle.cdcl_core.specs.declared.conflict.Conflict.{Conflict}
 use Rattle.cdcl_core.proofs.SolveLemmas.{model_answer}
-use Rattle.cdcl_core.proofs.SolverLemmas.{loads_of, lemma_back, ready_kept}
+use Rattle.cdcl_core.proofs.SolverLemmas.{loads_of, ready_kept}
 use Rattle.cdcl_core.proofs.search.explore.Goals as goal
 
 pub settle-requires : goal.settle-requires

@@ -1,4 +1,4 @@
-use Rattle.std.proofs.Common.{◌-◌, length, sym, subst, arith}
+use Rattle.std.proofs.Common.{◌-◌, sym, subst, arith}
 use Rattle.unit_prop.specs.Standing.{Standing}
 use Rattle.cdcl_core.specs.Levels.{IsStage}
 use Rattle.cdcl_core.proofs.LevelLemmas.{last_back, stage_take, keeps_back, keeps_more}

@@ -1,7 +1,7 @@
 use Rattle.std.proofs.Common.{sym, subst}
 use Rattle.unit_prop.specs.Standing.{Standing, IsSettled}
 use Rattle.cdcl_core.specs.Levels.{IsStage}
-use Rattle.cdcl_core.proofs.LevelLemmas.{last_back, keeps_back}
+use Rattle.cdcl_core.proofs.LevelLemmas.{last_back}
 use Rattle.cdcl_core.proofs.levels.Levels.resume.Goals as goal
 
 pub returns-in-Some-clause-stage : goal.returns-in-Some-clause-stage

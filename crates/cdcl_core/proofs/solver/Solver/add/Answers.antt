@@ -1,7 +1,7 @@
-use Rattle.std.proofs.Common.{ap, ◌∙◌, sym, subst}
+use Rattle.std.proofs.Common.{sym, subst}
 use Rattle.clause_core.specs.Clause.{IsClauseInRange}
 use Rattle.unit_prop.specs.Trail.{IsWithin}
-use Rattle.cdcl_core.specs.Solvers.{SolverView, with_clause}
+use Rattle.cdcl_core.specs.Solvers.{SolverView}
 use Rattle.cdcl_core.proofs.Trails.{clause_within}
 use Rattle.cdcl_core.proofs.SolverLemmas.{ready_added, view_added}
 use Rattle.cdcl_core.proofs.solver.Solver.add.Goals as goal

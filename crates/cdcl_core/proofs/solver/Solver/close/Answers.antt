@@ -1,7 +1,6 @@
-use Rattle.std.proofs.Common.{◌∙◌, sym, subst, map, neg_ℤ}
-use Rattle.clause_core.specs.Clause.{IsClauseInRange}
+use Rattle.std.proofs.Common.{◌∙◌, subst, map, neg_ℤ}
 use Rattle.clause_core.specs.UnitPropagation.{IsRup}
-use Rattle.cdcl_core.specs.Solvers.{SolverView, IsReady}
+use Rattle.cdcl_core.specs.Solvers.{SolverView}
 use Rattle.cdcl_core.proofs.SolverLemmas.{ready_settled, view_kept}
 use Rattle.cdcl_core.proofs.solver.Solver.close.Goals as goal
 

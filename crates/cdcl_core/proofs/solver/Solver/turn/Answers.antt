@@ -1,7 +1,6 @@
 use Rattle.std.proofs.Common.{ap, ◌∙◌, sym, subst, refl}
 use Rattle.clause_core.specs.Clause.{IsClauseInRange}
 use Rattle.clause_core.specs.Log.{IsLemma}
-use Rattle.unit_prop.specs.Standing.{Standing}
 use Rattle.unit_prop.specs.Trail.{IsWithin}
 use Rattle.cdcl_core.specs.Solvers.{SolverView, with_clause}
 use Rattle.cdcl_core.specs.Finding.{Finds, solver_of}
