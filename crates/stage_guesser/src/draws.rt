@@ -2,17 +2,18 @@
 
 /// The numbers of a mixing rule, the same in each run.
 #[derive(Clone, Copy, Debug)]
-pub(crate) struct Draws {
+pub struct Draws {
     seed: u64,
 }
 
 impl Draws {
-    pub(crate) fn new() -> Draws {
+    /// Before the first number.
+    pub fn new() -> Draws {
         Draws { seed: 7 }
     }
 
     /// The next number.
-    pub(crate) fn next(&mut self) -> u64 {
+    pub fn next(&mut self) -> u64 {
         self.seed = self.seed.wrapping_add(0x9e37_79b9_7f4a_7c15);
         mixed(self.seed)
     }

@@ -4,8 +4,10 @@
 //! first column on are those of a ripple-carry adder over its pairs; whether they are on all operands is to be shown by
 //! whoever uses the cut. Operands on which a cut was wrong can be handed in, and the next one is right on them.
 //!
-//! *Cut*: `specs/Blocks.antt` of `ripple_graft`. *Signature*: the values of a literal on all patterns, which are pairs
-//! of operands. Only that the answer is a cut is proved: which one it is, is advice.
+//! A `Signature` is the values of a literal on all patterns, and `Draws` are numbers to draw patterns by.
+//!
+//! *Cut*: `specs/Blocks.antt` of `ripple_graft`. *Value* on a pattern: `specs/Values.antt`. Of `candidate` only that the
+//! answer is a cut is proved: which one it is, is advice. Which numbers are drawn, and which key a signature has, is too.
 #![tactic(auto)]
 
 mod chain;
@@ -18,4 +20,6 @@ mod raised;
 mod signature;
 mod table;
 
+pub use draws::Draws;
 pub use guess::candidate;
+pub use signature::{Signature, WORDS};

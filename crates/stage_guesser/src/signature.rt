@@ -1,30 +1,42 @@
 // The values of a literal on all patterns.
+ghost use Rattle.std.specs.Prelude.{◌≡◌, ◌≢◌, ◌↔◌, ℕ, ◌-◌, ◌*◌, ◌^◌, ◌<◌, min, IsTrue, if◌then◌else◌};
+ghost use Rattle.stage_guesser.specs.Values.{value_on};
+
 /// How many words a signature has, with 64 patterns in each.
-pub(crate) const WORDS: usize = 24;
+pub const WORDS: usize = 24;
 
 /// The values of a literal, pattern by pattern.
 #[derive(Clone, Copy, Debug)]
-pub(crate) struct Signature {
+pub struct Signature {
     words: [u64; 24],
 }
 
 impl Signature {
     /// The signature of the constant false.
-    pub(crate) fn zero() -> Signature {
+    pub fn zero() -> Signature
+        ensures { (p : ℕ) → p < WORDS * 64 → value_on result p ≡ 0 }
+    {
         Signature { words: [0; 24] }
     }
 
     /// The signature of the negation, where it is asked for.
-    pub(crate) fn negated_if(&self, negated: bool) -> Signature {
-        let mask = if negated { u64::MAX } else { 0 };
+    pub fn negated_if(&self, negated: bool) -> Signature
+        ensures { (p : ℕ) → p < WORDS * 64 → value_on result p
+            ≡ (if negated then 1 - value_on self.now p else value_on self.now p) }
+    {
+        let mask = mask_of(negated);
         let mut words = self.words;
-        for word in words.iter_mut() {
-            *word ^= mask;
+        for i in 0..WORDS {
+            words[i] ^= mask;
         }
         Signature { words }
     }
 
-    pub(crate) fn and(&self, other: &Signature) -> Signature {
+    /// The signature of the conjunction.
+    pub fn and(&self, other: &Signature) -> Signature
+        ensures { (p : ℕ) → p < WORDS * 64 → value_on result p
+            ≡ min (value_on self.now p) (value_on other.now p) }
+    {
         let mut words = self.words;
         for i in 0..WORDS {
             words[i] &= other.words[i];
@@ -50,7 +62,10 @@ impl Signature {
         Signature { words }
     }
 
-    pub(crate) fn is(&self, other: &Signature) -> bool {
+    /// Whether two signatures are equal.
+    pub fn is(&self, other: &Signature) -> bool
+        ensures { IsTrue result ↔ (self.now ≡ other.now) }
+    {
         for i in 0..WORDS {
             if self.words[i] != other.words[i] {
                 return false;
@@ -60,7 +75,7 @@ impl Signature {
     }
 
     /// A number whose exclusive or with that of another signature is that of their exclusive or.
-    pub(crate) fn key(&self) -> u64 {
+    pub fn key(&self) -> u64 {
         let mut key = 0;
         for word in self.words {
             key = shifted(key ^ word);
@@ -69,12 +84,22 @@ impl Signature {
     }
 
     /// Makes the value on a pattern true.
-    pub(crate) fn set(&mut self, pattern: usize) {
+    pub fn set(&mut self, pattern: usize)
+        ensures here { pattern < WORDS * 64 → value_on self.new pattern ≡ 1 }
+        ensures others { (p : ℕ) → p ≢ pattern → value_on self.new p ≡ value_on self.old p }
+    {
         let place = pattern / 64;
         if place < WORDS {
             self.words[place] |= 1u64 << (pattern % 64) as u32;
         }
     }
+}
+
+// The word that changes each bit, or none.
+fn mask_of(negated: bool) -> u64
+    ensures { result ≡ (if negated then 2 ^ 64 - 1 else 0) }
+{
+    if negated { u64::MAX } else { 0 }
 }
 
 // Mixes a number by shifts, so that no two numbers meet.

@@ -1,0 +1,2 @@
+-- To be read by whoever trusts the contracts: `Values`.
+pub mod Values

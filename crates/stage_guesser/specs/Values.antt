@@ -1,0 +1,8 @@
+-- The values of a literal, pattern by pattern.
+use Rattle.std.specs.Prelude.{ℕ, ◌/◌, ◌%◌, slice_index}
+use Rattle.std.specs.Int.{bit_at}
+use Rattle.stage_guesser.specs.declared.signature.Signature.{Signature}
+
+-- the value on a pattern, of which a word has 64
+abbrev pub value_on : Signature → ℕ → ℕ
+value_on s p = bit_at (slice_index s.words (p / 64)) (p % 64)
