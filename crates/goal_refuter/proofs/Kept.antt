@@ -22,7 +22,7 @@ use Rattle.cdcl_core.specs.declared.solved.Solved.TheVariants.{Refuted, Model, S
 abbrev pub Within : List Clause → List Clause → Type 0
 Within xs ys = (c : Clause) → Contains xs c → Contains ys c
 
-rup_within : (xs ys : List Clause) (c : Clause) → Within xs ys → IsRup xs c → IsRup ys c
+pub rup_within : (xs ys : List Clause) (c : Clause) → Within xs ys → IsRup xs c → IsRup ys c
 rup_within xs ys c sub h = rup_by_sets xs ys c (λ d i. let j = sub d i in (j.0, d, j.1, j.2, same_self d)) h
 
 -- The live clauses are the given ones and those that the log had left.

@@ -5,3 +5,4 @@ pub mod Answering
 pub mod Kept
 pub mod Outcomes
 pub mod Lawful
+pub mod Beginning

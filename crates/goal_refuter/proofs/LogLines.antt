@@ -46,7 +46,7 @@ log_over given other goals own (Delete c ∷ lines) left same h = (h.0, h.1, log
 
 -- ---- lines behind lines
 
-log_joins : (given goals own : List Clause) (xs : List ClauseLine) (mid : List Clause) (ys : List ClauseLine) (left : List Clause) → AreLogLines given goals own xs mid → AreLogLines given goals mid ys left → AreLogLines given goals own (xs ++ ys) left
+pub log_joins : (given goals own : List Clause) (xs : List ClauseLine) (mid : List Clause) (ys : List ClauseLine) (left : List Clause) → AreLogLines given goals own xs mid → AreLogLines given goals mid ys left → AreLogLines given goals own (xs ++ ys) left
 log_joins given goals own [] mid ys left h k = subst (λ z. AreLogLines given goals z ys left) h k
 log_joins given goals own (x ∷ xs) mid ys left h k = (h.0, h.1, log_joins given goals h.0 xs mid ys left h.2 k)
 

@@ -2,20 +2,23 @@
 //!
 //! `refute_goals` has the negation of each goal refuted, one after the other, and answers one of three: the log, whose lines
 //! are a lawful clause certificate that shows each goal; an evaluation of the gates at which some goal fails; or a spent
-//! budget with the log that spent it. `refute` is one goal.
+//! budget with the log that spent it. `refute` is one goal. `refute_behind` does the same behind a log of lemmas, such as
+//! those by which `show_equal` shows two literals to be equal.
 //!
-//! *Log of refutations*, *spent*: `specs/Refutations.antt`. *Outcome*: `specs/Refuting.antt`. *Lemma*, *lawful lines*: `Log` and
-//! `ClauseLines` in `specs/` of `clause_core`.
+//! *Log of refutations*, *spent*: `specs/Refutations.antt`. *Outcome*: `specs/Refuting.antt`. *Begun*:
+//! `specs/Beginnings.antt`. *Lemma*, *lawful lines*: `Log` and `ClauseLines` in `specs/` of `clause_core`.
 #![tactic(auto)]
 
 mod goals;
 mod laws;
 mod refutation;
 mod refuting;
+mod showing;
 mod solver;
 
 pub use goals::{pair_goals, push_goals};
 pub use laws::refuted_is_lawful;
 pub use refutation::refute;
-pub use refuting::{Outcome, refute_goals};
+pub use refuting::{Outcome, refute_behind, refute_goals};
+pub use showing::show_equal;
 pub use solver::solver_of;

@@ -1,13 +1,14 @@
 // All goals, one after the other.
-ghost use Rattle.std.specs.Prelude.{◌≡◌, ◌<◌, ◌^◌, IfOk};
+ghost use Rattle.std.specs.Prelude.{◌≡◌, ◌<◌, ◌^◌, List, IfOk};
 ghost use Rattle.std.specs.List.{All};
 ghost use Rattle.graph_core.specs.Graph.Extended.{Extended};
-ghost use Rattle.clause_core.specs.Clause.{IsClauseInRange};
+ghost use Rattle.clause_core.specs.Clause.{Clause, IsClauseInRange};
+ghost use Rattle.goal_refuter.specs.Beginnings.{IsBegun, IsOutcomeBehind};
 ghost use Rattle.goal_refuter.specs.Refuting.{AreOver, IsOutcomeOver};
 
 use crate::refutation::refute;
 use crate::solver::solver_of;
-use cdcl_core::{Log, Solved};
+use cdcl_core::{Log, Solved, Solver};
 use clause_core::ClauseList;
 use graph_core::Memory;
 use std::alloc::Global;
@@ -38,12 +39,29 @@ pub fn refute_goals(
     ensures { IfOk result (IsOutcomeOver max clauses.now goals.now conflicts) }
 {
     let mut solver = solver_of(alloc, max, clauses)?;
-    let mut log = Log::new(alloc);
+    refute_behind(alloc, goals, conflicts, &mut solver, Log::new(alloc))
+}
+
+/// The same behind a log of lemmas, which count among the conflicts, by a solver over the clauses of the gates and what
+/// the log left.
+pub fn refute_behind(
+    alloc: Global,
+    goals: &ClauseList,
+    conflicts: u64,
+    solver: &mut Solver,
+    begun: Log,
+) -> Result<Outcome, Memory>
+    requires goals { All (IsClauseInRange solver.old.max) goals.now }
+    requires over { (e : Extended) × (given : List Clause) × AreOver e solver.old.max given goals.now
+        × IsBegun solver.old.max given conflicts solver.old begun }
+    ensures { IfOk result (IsOutcomeBehind solver.old begun goals.now conflicts) }
+{
+    let mut log = begun;
     for goal in 0..goals.len() {
         // the goals so far are among the added clauses beside the lemmas
         let spent = log.added() - goal as u64;
         let left = conflicts - spent;
-        match refute(alloc, &mut solver, goals.get(goal), left, &mut log)? {
+        match refute(alloc, solver, goals.get(goal), left, &mut log)? {
             Solved::Refuted => {}
             Solved::Model(values) => return Ok(Outcome::Model(values)),
             Solved::Spent => return Ok(Outcome::Spent(goal as u64, log)),
