@@ -7,7 +7,9 @@
 //! met before any refusal. A failed read is answered where it was counted, and want of memory at any time.
 //!
 //! `same` lets a solver refute that some output differs, within a number of conflicts: where each goal is refuted it writes the
-//! certificate, which `check_same` accepts; where an evaluation differs it gives its inputs.
+//! certificate, which `check_same` accepts; where an evaluation differs it gives its inputs. Before the goals, gates of both
+//! graphs that look equal are shown to be, from the inputs upward (SAT sweeping): which ones, is advice, and what shows it
+//! are lemmas, which count among the conflicts.
 //!
 //! *Merged gates*, *agree*: `specs/Merged.antt`. *Lawful*, *first refusal*: `specs/Certificates.antt`. *Told*:
 //! `specs/Files.antt`. *Due*, *outcome*: `specs/Outcome.antt`. *Answer*: `specs/Deciding.antt`.
@@ -18,12 +20,16 @@ mod certificate;
 mod checked;
 mod checking;
 mod clauses;
+mod cones;
 mod deciding;
 mod graphs;
 mod laws;
+mod levels;
 mod merged;
 mod pairs;
 mod solving;
+mod sweeping;
+mod twins;
 mod verdict;
 
 pub use checked::{SameChecked, SameRefusal};

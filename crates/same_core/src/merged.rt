@@ -33,6 +33,8 @@ impl From<Memory> for MergeFail {
 /// first one's greatest and whose inputs are the first one's.
 #[derive(Debug, Drop)]
 pub struct Merged {
+    /// The greatest variable of the first graph.
+    first: u32,
     max: u32,
     gates: Vec<Gate>,
     pairs: Vec<(Lit, Lit)>,
@@ -60,6 +62,11 @@ impl Merged {
         ensures { result.now ≡ self.now.gates }
     {
         self.gates.as_slice()
+    }
+
+    /// Whether a gate is one of the first graph.
+    pub(crate) fn is_first(&self, gate: &Gate) -> bool {
+        gate.v <= self.first
     }
 
     /// Of each output that of the first graph and that of the second one.
@@ -98,7 +105,12 @@ fn merge_lists(alloc: Global, graph: &Graph, other: &Graph) -> Result<Merged, Me
     let max = graph.max() + other.max();
     let gates = merge_gates(alloc, graph, other)?;
     let pairs = merge_outputs(alloc, graph, other)?;
-    Ok(Merged { max, gates, pairs })
+    Ok(Merged {
+        first: graph.max(),
+        max,
+        gates,
+        pairs,
+    })
 }
 
 fn merge_gates(alloc: Global, graph: &Graph, other: &Graph) -> Result<Vec<Gate>, Memory>

@@ -7,7 +7,9 @@ ghost use Rattle.same_core.specs.Merged.{over};
 ghost use Rattle.same_core.specs.Places.{IsMerged};
 
 use crate::merged::Merged;
-use goal_refuter::{Outcome, pair_goals, refute_goals};
+use crate::sweeping::sweep;
+use cdcl_core::Log;
+use goal_refuter::{Outcome, pair_goals, refute_behind, solver_of};
 use graph_core::{Graph, Memory};
 use miter_encoder::gate_clauses_of;
 use std::alloc::Global;
@@ -21,7 +23,10 @@ pub(crate) fn decide(alloc: Global, merged: &Merged, conflicts: u64) -> Result<O
     let merged_gates = merged.gates();
     let clauses = gate_clauses_of(alloc, merged_gates)?;
     let goals = pair_goals(alloc, merged.pairs())?;
-    refute_goals(alloc, greatest, &clauses, &goals, conflicts)
+    let mut solver = solver_of(alloc, greatest, &clauses)?;
+    let mut log = Log::new(alloc);
+    sweep(alloc, merged, conflicts, &mut solver, &mut log)?;
+    refute_behind(alloc, &goals, conflicts, &mut solver, log)
 }
 
 // The inputs of a graph where its variables have these values.

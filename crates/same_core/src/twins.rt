@@ -1,0 +1,157 @@
+// Literals of the first graph that those of the second one may equal.
+use crate::cones::Cones;
+use graph_core::{Gate, Lit, Memory};
+use indexmap::IndexMap;
+use stage_guesser::{Draws, Signature, WORDS};
+use std::alloc::Global;
+
+/// By variable its values on some patterns of the inputs and the literal that it was seen to equal, else its own; and by
+/// operands and by values the gates of the first graph. All of it is advice.
+#[derive(Drop)]
+pub(crate) struct Twins {
+    signatures: Vec<Signature>,
+    twins: Vec<Lit>,
+    by_operands: IndexMap<u64, u32>,
+    by_values: IndexMap<u64, u32>,
+    /// The key of the constant true.
+    ones: u64,
+    cones: Cones,
+    /// How many lemmas showed nothing.
+    spent: u64,
+}
+
+impl Twins {
+    /// No twins, over the variables up to the greatest one.
+    pub(crate) fn new(alloc: Global, max: u32, gates: &[Gate]) -> Result<Twins, Memory> {
+        let size = max as usize + 1;
+        let mut twins = Vec::with_capacity(alloc, size)?;
+        for variable in 0..size {
+            twins.push(Lit((variable as u32).wrapping_mul(2)))?;
+        }
+        Ok(Twins {
+            signatures: vec![in alloc; Signature::zero(); size]?,
+            twins,
+            by_operands: IndexMap::new(alloc),
+            by_values: IndexMap::new(alloc),
+            ones: Signature::zero().negated_if(true).key(),
+            cones: Cones::new(alloc, max, gates)?,
+            spent: 0,
+        })
+    }
+
+    /// Draws the values of an input, unless it has some.
+    pub(crate) fn draw(&mut self, variable: u32, draws: &mut Draws) {
+        if let Some(signature) = self.signatures.get_mut(variable as usize) {
+            if !signature.is(&Signature::zero()) {
+                return;
+            }
+            for pattern in 0..WORDS * 64 {
+                if draws.next() % 16 < share(pattern / 64) {
+                    signature.set(pattern);
+                }
+            }
+        }
+    }
+
+    /// Sets the values of a gate by those of its operands.
+    pub(crate) fn set(&mut self, gate: &Gate) {
+        let values = self.values(gate.left).and(&self.values(gate.right));
+        if let Some(signature) = self.signatures.get_mut(gate.v as usize) {
+            *signature = values;
+        }
+    }
+
+    /// Enters a gate of the first graph.
+    pub(crate) fn enter(&mut self, gate: &Gate) -> Result<(), Memory> {
+        let key = operands(gate.left, gate.right);
+        if self.by_operands.get(&key).is_none() {
+            self.by_operands.insert(key, gate.v)?;
+        }
+        let key = self.class_of(&self.values(plain(gate.v)));
+        if self.by_values.get(&key).is_none() {
+            self.by_values.insert(key, gate.v)?;
+        }
+        Ok(())
+    }
+
+    /// A literal of the first graph that a gate of the second one may equal: one of a gate with equal operands, else one
+    /// with the same values.
+    pub(crate) fn candidate(&self, gate: &Gate) -> Option<Lit> {
+        let key = operands(self.twin(gate.left), self.twin(gate.right));
+        if let Some(v) = self.by_operands.get(&key) {
+            return Some(plain(*v));
+        }
+        let values = self.values(plain(gate.v));
+        let lit = plain(*self.by_values.get(&self.class_of(&values))?);
+        if self.values(lit).is(&values) {
+            Some(lit)
+        } else if self.values(lit.not()).is(&values) {
+            Some(lit.not())
+        } else {
+            None
+        }
+    }
+
+    /// The variables near two gates, the nearest last.
+    pub(crate) fn near(&mut self, gates: &[Gate], one: u32, other: u32) -> Result<&[u32], Memory> {
+        self.cones.near(gates, one, other)
+    }
+
+    /// Keeps a literal that a variable was shown to equal.
+    pub(crate) fn join(&mut self, variable: u32, lit: Lit) {
+        if let Some(twin) = self.twins.get_mut(variable as usize) {
+            *twin = lit;
+        }
+    }
+
+    /// Counts lemmas that showed nothing.
+    pub(crate) fn spend(&mut self, lemmas: u64) {
+        self.spent = self.spent.saturating_add(lemmas);
+    }
+
+    pub(crate) fn spent(&self) -> u64 {
+        self.spent
+    }
+
+    // The literal that a literal was shown to equal.
+    fn twin(&self, lit: Lit) -> Lit {
+        match self.twins.get(lit.var() as usize) {
+            Some(twin) if lit.negated() => twin.not(),
+            Some(twin) => *twin,
+            None => lit,
+        }
+    }
+
+    fn values(&self, lit: Lit) -> Signature {
+        match self.signatures.get(lit.var() as usize) {
+            Some(signature) => signature.negated_if(lit.negated()),
+            None => Signature::zero(),
+        }
+    }
+
+    // The lesser one of the keys of some values and their negation.
+    fn class_of(&self, values: &Signature) -> u64 {
+        let key = values.key();
+        key.min(key ^ self.ones)
+    }
+}
+
+fn plain(variable: u32) -> Lit {
+    Lit(variable.wrapping_mul(2))
+}
+
+// Both operands of a gate in one number, the lesser one first.
+fn operands(left: Lit, right: Lit) -> u64 {
+    ((left.0.min(right.0) as u64) << 32) | left.0.max(right.0) as u64
+}
+
+// How many of sixteen values are true: of most words half, of some few or nearly all.
+fn share(word: usize) -> u64 {
+    match word % 8 {
+        0 => 4,
+        1 => 12,
+        2 => 14,
+        3 => 15,
+        _ => 8,
+    }
+}
