@@ -1,5 +1,5 @@
 // Lists of clauses.
-ghost use Rattle.std.specs.Prelude.{◌≡◌, ◌<◌, [], ◌∷◌, ◌++◌, length, slice_index_or, OnOk, OnErr};
+ghost use Rattle.std.specs.Prelude.{◌≡◌, ◌<◌, [], ◌∷◌, ◌++◌, length, slice_index_or, take, OnOk, OnErr};
 
 use crate::Clause;
 use graph_core::Memory;
@@ -37,6 +37,13 @@ impl ClauseList {
             Ok(()) => Ok(()),
             Err(_) => Err(Memory),
         }
+    }
+
+    /// Only the first clauses are left.
+    pub fn truncate(&mut self, len: usize)
+        ensures { self.new ≡ take len self.old }
+    {
+        self.clauses.truncate(len);
     }
 
     pub fn get(&self, i: usize) -> &Clause

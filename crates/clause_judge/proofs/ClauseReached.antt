@@ -14,9 +14,9 @@ use Rattle.clause_core.specs.Likeness.{AreAlike}
 use Rattle.clause_core.specs.declared.line.Line.TheVariants.{Add, Delete}
 use Rattle.clause_core.proofs.CallerLemmas.{same_flip}
 use Rattle.drup_checker.specs.Checking.{Checking, IsLeastUnshown}
-use Rattle.drup_checker.specs.Steps.{HasShown}
+use Rattle.drup_checker.specs.Steps.{HasAdded, HasShown}
 use Rattle.drup_checker.proofs.JudgedGoals.{goals_are_judged}
-use Rattle.drup_checker.proofs.StepLaws.{marks_are_right, steps_are_lawful}
+use Rattle.drup_checker.proofs.StepLaws.{added_are_right, marks_are_right, steps_are_lawful}
 use Rattle.drup_text.specs.ClauseTexts.{IsClauseLine}
 use Rattle.drup_text.specs.FileStates.{BeginsOutOfRange, BeginsWithNone, FileState, IsAtEnd, IsNextRefusal, TakesText}
 use Rattle.drup_text.specs.HeaderRefusal.{LineCause, NoSuchClause, NotImplied, Range, Text, TooLong}
@@ -29,7 +29,7 @@ use Rattle.mv_desk.specs.declared.faults.LineFail.TheVariants as text
 use Rattle.mv_text.specs.LineReading.{IsLongAhead, Lines}
 use Rattle.clause_judge.specs.declared.fail.ClauseFail.{ClauseFail}
 use Rattle.clause_judge.specs.declared.fail.ClauseFail.TheVariants as fail
-use Rattle.clause_judge.specs.ClauseBody.{Ends, HasPassed, IsLongIn, IsRestFail, IsShownBody}
+use Rattle.clause_judge.specs.ClauseBody.{Ends, HasPassed, IsLongIn, IsRestFail, IsShownWith}
 use Rattle.clause_judge.specs.ClauseLines.{answer_of_line, IsGoalFail, IsRuleFail, IsTextFail, NextLine, ReadsNext, Takes}
 use Rattle.clause_judge.specs.LineRefusals.{IsClauseStep, IsRefusedClause, IsRefusedLines, IsRefusedNext}
 use Rattle.clause_judge.specs.Taking.{HasTaken, TakeClauses}
@@ -169,18 +169,18 @@ module _ (e : Extended) (start : FileState) (body : Option (List ℕ)) where
     module _ (k : Checking) (taken : HasTaken e xs live k) (new : FileState) (behind : Option (List ℕ)) (line : ClauseLine) (next : NextLine e.max file new left behind line) where
       -- what the checker does is a step of the definitions
       abbrev Steps : ClauseLine → Checking → Type 0
-      Steps x k' = (last : List Clause) × IsClauseStep e live x last × AreAlike k'.live last × HasShown k' (xs ++ x ∷ [])
+      Steps x k' = (last : List Clause) × IsClauseStep e live x last × AreAlike k'.live last × HasShown k' (xs ++ x ∷ []) × HasAdded k' (xs ++ x ∷ [])
 
       step_of : (x y : ClauseLine) → IsLineOf x y → IsLineInRange e.max x → (k' : Checking) → Takes y k k' → Steps x k'
       step_of (Add d) (Add c) same range k' h =
           let flip = same_flip d c same in
           let r = steps_are_lawful.adds c d k k' live taken.alike flip h in
-          (d ∷ live, (range, (r.0, refl)), r.1, marks_are_right.adds c d k k' xs taken.shown flip h)
+          (d ∷ live, (range, (r.0, refl)), r.1, marks_are_right.adds c d k k' xs taken.shown flip h, added_are_right.adds c d k k' xs taken.added flip h)
       step_of (Add d) (Delete c) same range k' h = absurd same
       step_of (Delete d) (Add c) same range k' h = absurd same
       step_of (Delete d) (Delete c) same range k' h =
           let r = steps_are_lawful.deletes c d k k' live taken.alike (same_flip d c same) h in
-          (r.0, (range, r.1), r.2, marks_are_right.deletes c d k k' xs taken.shown h)
+          (r.0, (range, r.1), r.2, marks_are_right.deletes c d k k' xs taken.shown h, added_are_right.deletes c d k k' xs taken.added h)
 
       -- the checker took it
       pub step : (k' : Checking) → Takes line k k' → new.lines.lengths ≡ file.lines.lengths →
@@ -189,7 +189,7 @@ module _ (e : Extended) (start : FileState) (body : Option (List ℕ)) where
           let s = step_of next.text line next.same next.in_range k' h in
           let more : length (xs ++ next.text ∷ []) ≡ length xs + 1 = length-append xs (next.text ∷ []) in (
             s.0,
-            record { lawful = take_more e (gate_clauses e.gates) xs live next.text s.0 taken.lawful s.1; alike = s.2; shown = s.3 },
+            record { lawful = take_more e (gate_clauses e.gates) xs live next.text s.0 taken.lawful s.1; alike = s.2; shown = s.3; added = s.4 },
             record {
               lengths = lengths ∙ stands.lengths;
               number = omega (arith, next.number, stands.number, more);
@@ -236,8 +236,8 @@ module _ (e : Extended) (start : FileState) (body : Option (List ℕ)) where
     -- ---- all lines were taken
 
     module _ (k : Checking) (taken : HasTaken e xs live k) (goals : AreGoalsOf e k.goals) (end : IfSome left (IsAtEnd file.lines)) where
-      pub goals_shown : IsLeastUnshown k.goals k.shown None → IfSome body (IsShownBody e start.lines)
-      goals_shown none = told_more body (HasPassed e start.lines xs) (IsShownBody e start.lines) (λ bytes passed. (xs, passed, goals_are_judged.shown e k xs goals taken.shown none)) (ends end)
+      pub goals_shown : IsLeastUnshown k.goals k.shown None → IfSome body (IsShownWith e start.lines k.version k.added)
+      goals_shown none = told_more body (HasPassed e start.lines xs) (IsShownWith e start.lines k.version k.added) (λ bytes passed. (xs, passed, goals_are_judged.shown e k xs goals taken.shown none, taken.added)) (ends end)
 
       pub goals_fail : (first now : View) (answer : ClauseFail) → IsGoalFail k answer → Fails first now answer
       goals_fail first now answer h = subst (λ (a : ClauseFail). Fails first now a) (sym h.2)

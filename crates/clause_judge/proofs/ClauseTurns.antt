@@ -20,15 +20,16 @@ use Rattle.miter_encoder.specs.declared.goal.Goal.{Goal}
 use Rattle.mv_desk.specs.View.{View}
 use Rattle.clause_judge.specs.declared.fail.ClauseFail.{ClauseFail}
 use Rattle.clause_judge.specs.declared.fail.ClauseFail.TheVariants as fail
-use Rattle.clause_judge.specs.ClauseBody.{Begins, HasPassed, IsRestFail, IsShownBody}
+use Rattle.clause_judge.specs.ClauseBody.{Begins, HasPassed, IsRestFail, IsShownWith}
 use Rattle.clause_judge.specs.ClauseLines.{IsGoalFail, IsRuleFail, IsTextFail, NextLine, ReadsNext, Takes}
 use Rattle.clause_judge.specs.Taking.{HasTaken, HasTakenNone}
+use Rattle.clause_judge.proofs.CheckerBegins.{none_imported}
 use Rattle.clause_judge.proofs.ClauseReached as reached
 use Rattle.clause_judge.proofs.ClauseReached.{IsReached, begins}
 use Rattle.clause_judge.proofs.Joins.{goals_join_columns, lines_join_columns}
 use Rattle.clause_judge.proofs.Told.{told_more}
 
--- the checker keeps its goals and its greatest variable
+-- the checker keeps its goals, its greatest variable, its gates and its version
 pub takes_goals : (x : ClauseLine) (k k' : Checking) → Takes x k k' → k'.goals ≡ k.goals
 takes_goals (Add c) k k' h = h.goals
 takes_goals (Delete c) k k' h = h.goals
@@ -36,6 +37,14 @@ takes_goals (Delete c) k k' h = h.goals
 pub takes_max : (x : ClauseLine) (k k' : Checking) → Takes x k k' → k'.max ≡ k.max
 takes_max (Add c) k k' h = h.max
 takes_max (Delete c) k k' h = h.max
+
+pub takes_gates : (x : ClauseLine) (k k' : Checking) → Takes x k k' → k'.gates ≡ k.gates
+takes_gates (Add c) k k' h = h.gates
+takes_gates (Delete c) k k' h = h.gates
+
+pub takes_version : (x : ClauseLine) (k k' : Checking) → Takes x k k' → k'.version ≡ k.version
+takes_version (Add c) k k' h = h.version
+takes_version (Delete c) k k' h = h.version
 
 -- there is no replaced column without goals
 no_columns : (columns : List Column) (P : Column → Type 0) → All (HasGoals []) columns → All P columns
@@ -92,8 +101,8 @@ module _ (e : Extended) (start : FileState) (body : Option (List ℕ)) where
     pub nothing_joined : Always e.gates (AgreeOnColumns e)
     nothing_joined = lines_join_columns e [] (gate_clauses e.gates) refl nothing_shown
 
-    pub nothing_passed : (file : FileState) (left : Option (List ℕ)) → ReadsNext e.max start file body left None → IfSome body (IsShownBody e start.lines)
-    nothing_passed file left read = told_more body (HasPassed e start.lines []) (IsShownBody e start.lines) (λ bytes passed. ([], passed, nothing_shown))
+    pub nothing_passed : (version : ℕ) (file : FileState) (left : Option (List ℕ)) → ReadsNext e.max start file body left None → IfSome body (IsShownWith e start.lines version [])
+    nothing_passed version file left read = told_more body (HasPassed e start.lines []) (IsShownWith e start.lines version []) (λ bytes passed. ([], passed, nothing_shown, none_imported version))
         (reached.ends e start body [] (gate_clauses e.gates) start body (begins e start body) read)
 
   -- ---- each next line
@@ -140,8 +149,8 @@ module _ (e : Extended) (start : FileState) (body : Option (List ℕ)) where
   -- ---- the end
 
   module _ (k : Checking) (turn : ℕ) (file : FileState) (left : Option (List ℕ)) (r : IsReached e start body k turn None file left) (goals : AreGoalsOf e k.goals) where
-    pub all_shown : IsLeastUnshown k.goals k.shown None → IfSome body (IsShownBody e start.lines)
-    all_shown none = reached.goals_shown e start body r.xs r.live r.before r.ahead r.stands k r.taken goals r.read none
+    pub all_shown : (version : ℕ) → k.version ≡ version → IsLeastUnshown k.goals k.shown None → IfSome body (IsShownWith e start.lines version k.added)
+    all_shown version is none = subst (λ v. IfSome body (IsShownWith e start.lines v k.added)) is (reached.goals_shown e start body r.xs r.live r.before r.ahead r.stands k r.taken goals r.read none)
 
     pub all_joined : IsLeastUnshown k.goals k.shown None → Always e.gates (AgreeOnColumns e)
     all_joined none = goals_join_columns e r.xs r.live k r.taken goals none

@@ -10,7 +10,7 @@ use Rattle.clause_core.specs.ClauseLines.{ClauseLine}
 use Rattle.clause_core.specs.GateClauses.{gate_clauses}
 use Rattle.clause_core.specs.Likeness.{AreAlike}
 use Rattle.drup_checker.specs.Checking.{Checking, IsLeastUnshown}
-use Rattle.drup_checker.specs.Steps.{HasShown}
+use Rattle.drup_checker.specs.Steps.{HasAdded, HasShown}
 use Rattle.miter_encoder.specs.ColumnGoals.{AreGoalsOf}
 use Rattle.clause_judge.specs.LineRefusals.{IsClauseStep}
 
@@ -20,11 +20,12 @@ TakeClauses e live [] last = last ≡ live
 TakeClauses e live (x ∷ xs) last = (next : List Clause) × IsClauseStep e live x next × TakeClauses e next xs last
 
 -- A checker has taken these lines: they are lawful from the gates' clauses on, the clauses that are live then are the checker's, up to
--- likeness, and its marks are of the goals that these lines show.
+-- likeness, its marks are of the goals that these lines show, and it keeps the clauses that they add for imports.
 pub record HasTaken (e : Extended) (lines : List ClauseLine) (live : List Clause) (k : Checking) : Type 0 where
   pub lawful : TakeClauses e (gate_clauses e.gates) lines live
   pub alike : AreAlike k.live live
   pub shown : HasShown k lines
+  pub added : HasAdded k lines
 
 -- A checker of these gates has taken no line.
 abbrev pub HasTakenNone : List Gate → Checking → Type 0

@@ -1,5 +1,5 @@
 // The checker of a clause file: what it begins with, one line, and the goals.
-ghost use Rattle.std.specs.Prelude.{◌≡◌, ◌<◌, ◌^◌, [], None, IfErr, IfOk, OnOk};
+ghost use Rattle.std.specs.Prelude.{◌≡◌, ◌<◌, ◌^◌, [], None, IfErr, IfOk, OnErr, OnOk};
 ghost use Rattle.std.specs.List.{All};
 ghost use Rattle.graph_core.specs.Graph.Extended.{Extended};
 ghost use Rattle.clause_core.specs.Clause.{IsClauseInRange};
@@ -18,22 +18,25 @@ use graph_core::{Gate, Memory};
 use miter_encoder::Goals;
 use std::alloc::Global;
 
-/// A checker of the clauses of gates, for some goals. It has taken no line.
+/// A checker of the clauses of gates, for some goals, in a certificate of this version. It has taken no line.
 pub fn checker_of<'a>(
     alloc: Global,
     max: u32,
     gates: &'a [Gate],
     clauses: &ClauseList,
     goals: &'a Goals,
+    version: u8,
 ) -> Result<Checker<'a>, Memory>
     requires small { max < 2 ^ 31 }
     requires in_range { All (IsClauseInRange max) clauses.now }
     requires of_gates { AreSameSets clauses.now (gate_clauses gates.now) }
     ensures taken { IfOk result (HasTakenNone gates.entry.now) }
     ensures max { IfOk result (λ k. k.max ≡ max) }
+    ensures gates { IfOk result (λ k. k.gates ≡ gates.entry.now) }
     ensures goals { IfOk result (λ k. k.goals ≡ goals.entry.now) }
+    ensures version { IfOk result (λ k. k.version ≡ version) }
 {
-    Checker::new(alloc, max, gates, clauses, goals)
+    Checker::new(alloc, max, gates, clauses, goals, version)
 }
 
 /// The checker takes a line, which has this number.
@@ -45,6 +48,7 @@ pub(crate) fn take_line(
     requires { IsClauseInRange checker.old.max (clause_in line.now) }
     ensures taken { OnOk result (Takes line.now checker.old checker.new) }
     ensures refused { IfErr result (IsRuleFail number line.now checker.old) }
+    ensures unchanged { OnErr result (checker.new ≡ checker.old) }
 {
     match line {
         Line::Add(clause) => match checker.add(clause) {

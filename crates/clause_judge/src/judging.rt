@@ -27,8 +27,9 @@ pub fn judge_from<D: Desk>(
     requires small { max < 2 ^ 31 }
     requires greatest { checker.old.max ≡ max }
     requires begins { BeginsSomewhere checker.old first file.old (left_for file.old (D.seen desk.old)) }
-    ensures lawful { OnOk result (IsShownFrom checker.old first file.old
+    ensures lawful { OnOk result (IsShownFrom checker.old checker.new.added first file.old
         (left_for file.old (D.seen desk.old))) }
+    ensures gates { checker.new.gates ≡ checker.old.gates }
     ensures columns { OnOk result (JoinsFrom checker.old first file.old
         (left_for file.old (D.seen desk.old))) }
     ensures refused { IfErr result (IsFailFrom checker.old first file.old

@@ -10,7 +10,7 @@ use Rattle.std.proofs.lemmas.List.Kept.{AllPairs-cons}
 use Rattle.graph_core.specs.Graph.Assignments.{Assignment}
 use Rattle.graph_core.specs.Graph.Operands.{Sides}
 use Rattle.graph_core.specs.Graph.Extended.{Extended}
-use Rattle.graph_core.specs.Algebra.{LiveLine, Part, Combination, IsEqual, IsLive, axioms, combined, line_of, value_of, value_or_zero, introduce}
+use Rattle.graph_core.specs.Algebra.{LiveLine, Part, IsCombined, IsLive, axioms, combined, line_of, value_of, value_or_zero, introduce}
 use Rattle.graph_core.specs.Algebra as algebra
 use Rattle.graph_core.specs.Algebra.Polynomials.{value}
 use Rattle.ripple_graft.specs.Extension.{IsExtension}
@@ -72,12 +72,12 @@ group_spare e s t total gs g ones l h =
     (spare_moves (algebra.modulus e) (axioms e).live (ledger_of l).live (parts_in t g.parts.items) (part_lines e t (ledger_of l).live g.parts.items h.made h.axioms group.parts) group.spare))
 
 pub group_equal : (e : Extended) (s : Sides) (t : Table) (total : Sum) (gs : List Group) (g : Group) (ones : List (ℕ × Sum)) (l : Made) → AreWritten e s t total (gs ++ g ∷ []) ones l →
-    IsEqual (algebra.modulus l.extended) (ledger_of l).live (combination_of l.table 0 g.parts.items g.poly)
+    IsCombined (algebra.modulus l.extended) (ledger_of l).live (parts_in l.table g.parts.items) (monomials_in l.table g.poly)
 group_equal e s t total gs g ones l h =
     let m = algebra.modulus e in
     let group = last_group e s t total gs g ones l h in
-    subst (λ x. IsEqual (algebra.modulus x) (ledger_of l).live (combination_of l.table 0 g.parts.items g.poly)) (sym h.graph.extended)
-    (subst (λ u. IsEqual m (ledger_of l).live (combination_of u 0 g.parts.items g.poly)) (sym h.graph.table)
+    subst (λ x. IsCombined (algebra.modulus x) (ledger_of l).live (parts_in l.table g.parts.items) (monomials_in l.table g.poly)) (sym h.graph.extended)
+    (subst (λ u. IsCombined m (ledger_of l).live (parts_in u g.parts.items) (monomials_in u g.poly)) (sym h.graph.table)
     (λ σ. ap (λ k. value k (monomials_in t g.poly) σ) (sym h.same_modulus) ∙ group.states σ ∙
     ap (λ z. z % m) (sym (combined_moves m (axioms e).live (ledger_of l).live (parts_in t g.parts.items) σ
     (recursion_from_All (λ p. line_of (ledger_of l).live p.id ≡ line_of (axioms e).live p.id) (parts_in t g.parts.items) (part_lines e t (ledger_of l).live g.parts.items h.made h.axioms group.parts))))))
@@ -149,7 +149,7 @@ no_items [] h = refl
 no_items (x ∷ xs) h = absurd (omega arith)
 
 pub sum_is_equal : (s : Sides) (total : Sum) (ones : List (ℕ × Sum)) (l : Made) → AreWritten l.extended s l.table total [] ones l →
-    AreSpare (algebra.modulus l.extended) (ledger_of l).live (parts_in l.table ones) × IsEqual (algebra.modulus l.extended) (ledger_of l).live (combination_of l.table 0 ones total)
+    AreSpare (algebra.modulus l.extended) (ledger_of l).live (parts_in l.table ones) × IsCombined (algebra.modulus l.extended) (ledger_of l).live (parts_in l.table ones) (monomials_in l.table total)
 sum_is_equal s total ones l h =
     let m = algebra.modulus l.extended in
     let t = l.table in (

@@ -1,5 +1,5 @@
 -- What is asked for has its numbers in range, and names that differ where they must.
-use Rattle.std.proofs.Common.{◌≡◌, ◌≢◌, ◌<◌, ◌≤◌, ◌^◌, ◌&&◌, ◌||◌, ℕ, Bool, true, false, List, [], ◌∷◌, Option, Some, None, nat_le, nat_lt, refl, sym, ◌∙◌, true≢false, subst, codes, arith}
+use Rattle.std.proofs.Common.{◌≡◌, ◌≢◌, ◌<◌, ◌≤◌, ◌⊎◌, ◌^◌, ◌==◌, ◌&&◌, ◌||◌, inl, inr, ℕ, Bool, true, false, List, [], ◌∷◌, Option, Some, None, nat_le, nat_lt, refl, sym, ◌∙◌, true≢false, subst, codes, arith}
 use Rattle.std.specs.Prelude.{IfSome, if◌then◌else◌, option_and_then}
 use Rattle.std.specs.Option.{option_map_or}
 use Rattle.std.specs.Str.{bytes_eq}
@@ -14,7 +14,7 @@ use Rattle.command_line.specs.declared.command.Command.{Command}
 use Rattle.command_line.specs.declared.command.Command.TheVariants.{Check, CheckSame, Eval, Make, Same, Trial, Verify}
 use Rattle.command_line.specs.declared.files.Files.{Files}
 use Rattle.command_line.specs.declared.files.PairFiles.{PairFiles}
-use Rattle.command_line.specs.Asked.{AreApart, AreBits, IsInRange, LeavesGraphs, addend_at, adder_named, are_shared, asked, bits_of, check_of, check_same_of, check_same_with, check_with, claim_at, design_named, is_overwriting, is_set, pair_at, same_of, same_with, files_at, verify_of, verify_with, word_at, word_from, eval_of, eval_with, make_of, make_with, met, named, number_of, order_at, read_at, trial_of, trial_with, where_taken}
+use Rattle.command_line.specs.Asked.{AreApart, AreBits, IsInRange, LeavesGraphs, addend_at, adder_named, are_shared, asked, bits_of, check_of, check_same_of, check_same_with, check_with, claim_at, design_named, is_overwriting, is_set, pair_at, same_of, same_with, files_at, verify_of, verify_with, version_at, version_from, word_at, word_from, eval_of, eval_with, make_of, make_with, met, named, number_of, order_at, read_at, trial_of, trial_with, where_taken}
 use Rattle.command_line.specs.FixedCommand.{mulver}
 
 -- ---- the number
@@ -77,18 +77,32 @@ apart files test =
     let two = or_none (bytes_eq files.graph files.algebra) (bytes_eq files.clauses files.algebra) one.1 in
     record { clauses = differ files.graph files.clauses one.0; algebra = differ files.graph files.algebra two.0; certificates = differ files.clauses files.algebra two.1 }
 
-verify_one : (files : Files) (claim : Claim) (budget conflicts : ℕ) (command : Command) → (1 ≤ budget) × (budget < 2 ^ 32) → conflicts < 2 ^ 32
-    → (shared : Bool) → are_shared files ≡ shared → (if shared then None else Some (Verify files claim budget conflicts)) ≡ Some command → IsInRange command
-verify_one files claim budget conflicts command b c true test e = cc
-verify_one files claim budget conflicts command b c false test e = same_range command (Verify files claim budget conflicts) (apart files test, b.0, b.1, c) e
+-- a version is 1 or 2
+abbrev IsVersion : ℕ → Type 0
+IsVersion v = (v ≡ 1) ⊎ (v ≡ 2)
 
-verify_range : (files : Option Files) (claim : Option Claim) (budget conflicts : Option ℕ) (command : Command)
-    → IfSome budget (AreFrom 1) → IfSome conflicts (AreFrom 0) → verify_with files claim budget conflicts ≡ Some command → IsInRange command
-verify_range (Some f) (Some k) (Some b) (Some c) command b_range c_range e = verify_one f k b c command b_range c_range.1 (are_shared f) refl e
-verify_range None claim budget conflicts command b_range c_range e = cc
-verify_range (Some f) None budget conflicts command b_range c_range e = cc
-verify_range (Some f) (Some k) None conflicts command b_range c_range e = cc
-verify_range (Some f) (Some k) (Some b) None command b_range c_range e = cc
+version_in : (o : Option ℕ) → IfSome (option_and_then version_from o) IsVersion
+version_in None = tt
+version_in (Some n) = go (n == 1) (n == 2)
+  where
+    go : (t u : Bool) → IfSome (if t then Some 1 else (if u then Some 2 else None)) IsVersion
+    go true u = inl refl
+    go false true = inr refl
+    go false false = tt
+
+verify_one : (files : Files) (claim : Claim) (budget conflicts version : ℕ) (command : Command) → (1 ≤ budget) × (budget < 2 ^ 32) → conflicts < 2 ^ 32 → IsVersion version
+    → (shared : Bool) → are_shared files ≡ shared → (if shared then None else Some (Verify files claim budget conflicts version)) ≡ Some command → IsInRange command
+verify_one files claim budget conflicts version command b c v true test e = cc
+verify_one files claim budget conflicts version command b c v false test e = same_range command (Verify files claim budget conflicts version) (apart files test, b.0, b.1, c, v) e
+
+verify_range : (files : Option Files) (claim : Option Claim) (budget conflicts version : Option ℕ) (command : Command)
+    → IfSome budget (AreFrom 1) → IfSome conflicts (AreFrom 0) → IfSome version IsVersion → verify_with files claim budget conflicts version ≡ Some command → IsInRange command
+verify_range (Some f) (Some k) (Some b) (Some c) (Some v) command b_range c_range v_range e = verify_one f k b c v command b_range c_range.1 v_range (are_shared f) refl e
+verify_range None claim budget conflicts version command b_range c_range v_range e = cc
+verify_range (Some f) None budget conflicts version command b_range c_range v_range e = cc
+verify_range (Some f) (Some k) None conflicts version command b_range c_range v_range e = cc
+verify_range (Some f) (Some k) (Some b) None version command b_range c_range v_range e = cc
+verify_range (Some f) (Some k) (Some b) (Some c) None command b_range c_range v_range e = cc
 
 eval_range : (graph : Option Text) (a b : Option ℕ) (order : Option Order) (addend : Option (Option ℕ)) (command : Command)
     → eval_with graph a b order addend ≡ Some command → IsInRange command
@@ -143,8 +157,8 @@ named_range name rows command =
         else (if s then same_of rows else (if t then check_same_of rows else None))))))) ≡ Some command
         → IsInRange command
     pick true w x y z s t e = check_range (files_at rows) (claim_at rows) command e
-    pick false true x y z s t e = verify_range (files_at rows) (claim_at rows) (word_at 1 1000000 (codes "budget") rows) (word_at 0 100000 (codes "conflicts") rows) command
-        (word_in 1 1000000 (first_of (codes "budget") rows) (omega arith, omega arith)) (word_in 0 100000 (first_of (codes "conflicts") rows) (omega arith, omega arith)) e
+    pick false true x y z s t e = verify_range (files_at rows) (claim_at rows) (word_at 1 1000000 (codes "budget") rows) (word_at 0 100000 (codes "conflicts") rows) (version_at rows) command
+        (word_in 1 1000000 (first_of (codes "budget") rows) (omega arith, omega arith)) (word_in 0 100000 (first_of (codes "conflicts") rows) (omega arith, omega arith)) (version_in (word_at 1 1 (codes "format") rows)) e
     pick false false true y z s t e = eval_range (first_of (codes "graph") rows) (read_at number_of (codes "a") rows) (read_at number_of (codes "b") rows) (order_at rows) (addend_at rows) command e
     pick false false false true z s t e = make_range (read_at (design_named (is_set (codes "add") rows)) (codes "kind") rows) (read_at bits_of (codes "bits") rows)
         (read_at adder_named (codes "adder") rows) (first_of (codes "out") rows) command (bits_in (first_of (codes "bits") rows)) e

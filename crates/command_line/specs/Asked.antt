@@ -1,5 +1,5 @@
 -- What the words of a command line ask for.
-use Rattle.std.specs.Prelude.{◌≡◌, ◌≢◌, ◌<◌, ◌≤◌, ⊤, ℕ, ◌^◌, ◌&&◌, ◌||◌, Bool, false, nat_le, nat_lt, List, [], ◌∷◌, map, Option, Some, None, if◌then◌else◌, codes, string_bytes, option_and_then, option_map}
+use Rattle.std.specs.Prelude.{◌≡◌, ◌≢◌, ◌<◌, ◌≤◌, ◌⊎◌, ⊤, ℕ, ◌^◌, ◌==◌, ◌&&◌, ◌||◌, Bool, false, nat_le, nat_lt, List, [], ◌∷◌, map, Option, Some, None, if◌then◌else◌, codes, string_bytes, option_and_then, option_map}
 use Rattle.std.specs.Global.{Global}
 use Rattle.std.specs.Option.{option_map_or}
 use Rattle.std.specs.Str.{all_ascii_digits, bytes_eq}
@@ -146,11 +146,18 @@ default_budget = 1000000
 abbrev pub default_conflicts : ℕ
 default_conflicts = 100000
 
--- `verify`: the names of three files, no two of which are equal, a claim, a budget and a number of conflicts
-abbrev pub verify_with : Option Files → Option Claim → Option ℕ → Option ℕ → Option Command
-verify_with (Some files) (Some claim) (Some budget) (Some conflicts) =
-    if are_shared files then None else Some (Verify files claim budget conflicts)
-verify_with _ _ _ _ = None
+-- the version of certificates: 1, the default, or 2
+abbrev pub version_from : ℕ → Option ℕ
+version_from n = if n == 1 then Some 1 else (if n == 2 then Some 2 else None)
+
+abbrev pub version_at : List Row → Option ℕ
+version_at rows = option_and_then version_from (word_at 1 1 (codes "format") rows)
+
+-- `verify`: the names of three files, no two of which are equal, a claim, a budget, a number of conflicts, and a version
+abbrev pub verify_with : Option Files → Option Claim → Option ℕ → Option ℕ → Option ℕ → Option Command
+verify_with (Some files) (Some claim) (Some budget) (Some conflicts) (Some version) =
+    if are_shared files then None else Some (Verify files claim budget conflicts version)
+verify_with _ _ _ _ _ = None
 
 abbrev pub verify_of : List Row → Option Command
 verify_of rows = verify_with
@@ -158,6 +165,7 @@ verify_of rows = verify_with
     (claim_at rows)
     (word_at 1 default_budget (codes "budget") rows)
     (word_at 0 default_conflicts (codes "conflicts") rows)
+    (version_at rows)
 
 -- the addend that is given, or none
 abbrev pub addend_at : List Row → Option (Option ℕ)
@@ -260,9 +268,9 @@ asked words = where_taken (fault_of mulver words) (met (subcommand_of mulver wor
 abbrev pub IsUsage : List Text → Type 0
 IsUsage words = asked words ≡ None
 
--- The words ask for `verify` of these files and this claim, with this budget and so many conflicts.
-abbrev pub IsVerify : List Text → Files → Claim → ℕ → ℕ → Type 0
-IsVerify words files claim budget conflicts = asked words ≡ Some (Verify files claim budget conflicts)
+-- The words ask for `verify` of these files and this claim, with this budget and so many conflicts, by certificates of this version.
+abbrev pub IsVerify : List Text → Files → Claim → ℕ → ℕ → ℕ → Type 0
+IsVerify words files claim budget conflicts version = asked words ≡ Some (Verify files claim budget conflicts version)
 
 -- The words ask for `check` of these files and this claim.
 abbrev pub IsCheck : List Text → Files → Claim → Type 0
@@ -295,7 +303,8 @@ pub record LeavesGraphs (files : PairFiles) : Type 0 where
 -- graph.
 abbrev pub IsInRange : Command → Type 0
 IsInRange (Make design bits adder out) = AreBits bits
-IsInRange (Verify files claim budget conflicts) = AreApart files × (1 ≤ budget) × (budget < 2 ^ 32) × (conflicts < 2 ^ 32)
+IsInRange (Verify files claim budget conflicts version) =
+    AreApart files × (1 ≤ budget) × (budget < 2 ^ 32) × (conflicts < 2 ^ 32) × ((version ≡ 1) ⊎ (version ≡ 2))
 IsInRange (Trial number) = number < 2 ^ 32
 IsInRange (Same files conflicts) = LeavesGraphs files × (conflicts < 2 ^ 32)
 IsInRange _ = ⊤

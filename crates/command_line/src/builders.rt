@@ -45,6 +45,7 @@ const SUBCOMMANDS: [(&str, &[(Form, &str)]); 7] = [
             (Form::Choice, "conflicts"),
             (Form::Choice, "operands"),
             (Form::Flag, "add"),
+            (Form::Choice, "format"),
         ],
     ),
     (

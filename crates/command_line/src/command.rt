@@ -20,6 +20,8 @@ pub enum Command {
         budget: u64,
         /// the most conflicts of the solver, below 2^32
         conflicts: u64,
+        /// the version of the certificates, 1 or 2
+        version: u8,
     },
     /// To evaluate a graph at two operands and perhaps an addend, each below 2^128.
     Eval {

@@ -10,8 +10,8 @@ use crate::defaults::{BUDGET, CONFLICTS};
 use crate::fail::WordsFail;
 use crate::files::{Files, PairFiles};
 use crate::texts::{
-    addend_at, adder_at, bits_at, claim_at, design_at, file_at, number_at, order_at, word_at,
-    word_of,
+    addend_at, adder_at, bits_at, claim_at, design_at, file_at, number_at, order_at, version_at,
+    word_at, word_of,
 };
 use clap::ArgMatches;
 use clap::error::ErrorKind;
@@ -82,6 +82,7 @@ fn verify(alloc: Global, matches: &ArgMatches<'_>) -> Result<Command, WordsFail>
     let claim = claim_at(matches).ok_or(WordsFail::Usage)?;
     let budget = word_at(matches, "budget", 1, BUDGET).ok_or(WordsFail::Usage)?;
     let conflicts = word_at(matches, "conflicts", 0, CONFLICTS).ok_or(WordsFail::Usage)?;
+    let version = version_at(matches).ok_or(WordsFail::Usage)?;
     if files.are_shared() {
         return Err(WordsFail::Usage);
     }
@@ -90,6 +91,7 @@ fn verify(alloc: Global, matches: &ArgMatches<'_>) -> Result<Command, WordsFail>
         claim,
         budget,
         conflicts,
+        version,
     })
 }
 

@@ -1,7 +1,7 @@
 // The texts of a subcommand, each under its name.
 ghost use Rattle.std.specs.Prelude.{◌≡◌, codes, option_map};
 ghost use Rattle.clap.specs.Words.{first_of, found_of, rows_of};
-ghost use Rattle.command_line.specs.Asked.{addend_at, adder_named, bits_of, claim_at, design_named, is_set, number_of, order_at, read_at, sign_at, word_at, word_from};
+ghost use Rattle.command_line.specs.Asked.{addend_at, adder_named, bits_of, claim_at, design_named, is_set, number_of, order_at, read_at, sign_at, version_at, word_at, word_from};
 ghost use Rattle.command_line.specs.Reading.{Reads};
 
 use crate::fail::WordsFail;
@@ -76,6 +76,17 @@ pub fn word_at(matches: &ArgMatches<'_>, name: &str, least: u64, default: u64) -
     match text_at(matches, name) {
         Some(text) => word_from(least, text),
         None => Some(default),
+    }
+}
+
+/// The version of certificates that is asked for: 1, which is the default, or 2.
+pub fn version_at(matches: &ArgMatches<'_>) -> Option<u8>
+    ensures { result ≡ version_at (rows_of (found_of matches.now)) }
+{
+    match word_at(matches, "format", 1, 1)? {
+        1 => Some(1),
+        2 => Some(2),
+        _ => None,
     }
 }
 

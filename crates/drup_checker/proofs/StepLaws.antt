@@ -1,16 +1,16 @@
 -- A checker's steps are lawful lines, and its marks are right.
-use Rattle.std.specs.Prelude.{◌≡◌, ◌↔◌, ◌<◌, ◌⊎◌, true, List, [], ◌∷◌, ◌++◌, length}
+use Rattle.std.specs.Prelude.{◌≡◌, ◌↔◌, ◌<◌, ◌⊎◌, ℕ, Bool, true, false, cond, List, [], ◌∷◌, ◌++◌, length, ◌==◌}
 use Rattle.std.specs.List.{Any}
 use Rattle.std.proofs.Common.{refl, sym, ap, subst, ◌∙◌, arith, inl, inr, ⊎_elim}
 use Rattle.std.proofs.lemmas.List.Quantifiers.{Any-push}
 use Rattle.graph_core.proofs.OfGraphs.CallerLemmas.{any_cases, any_front, any_here, any_nil, any_there}
 use Rattle.clause_core.specs.Clause.{Clause, IsSubset, SameSet}
 use Rattle.clause_core.specs.ClauseLines.{ClauseLine, added}
-use Rattle.clause_core.specs.Likeness.{AreAlike}
+use Rattle.clause_core.specs.Likeness.{AreAlike, AreSameSets}
 use Rattle.clause_core.specs.declared.line.Line.TheVariants.{Add, Delete}
 use Rattle.clause_core.proofs.CallerLemmas.{alike_adds, alike_any, alike_flip, alike_joins, alike_removes, alike_rup, removes_any, removes_some, same_alike, same_flip}
-use Rattle.drup_checker.specs.Checking.{Adds, Checking, Deletes, goal_at, shown_at}
-use Rattle.drup_checker.specs.Steps.{HasShown, MarksAreRight, StepsAreLawful}
+use Rattle.drup_checker.specs.Checking.{Adds, Checking, Deletes, goal_at, imported, shown_at}
+use Rattle.drup_checker.specs.Steps.{AddedAreRight, HasAdded, HasShown, MarksAreRight, StepsAreLawful}
 
 -- a clause at the end, or at the front
 alike_end : (live : List Clause) (c : Clause) → AreAlike (live ++ c ∷ []) (c ∷ live)
@@ -68,3 +68,38 @@ marks_kept c d old new lines h r i below =
 
 pub marks_are_right : MarksAreRight
 marks_are_right = record { adds = marks_added; deletes = marks_kept }
+
+-- ---- clauses that may be imported
+
+same_append : (cs ds es fs : List Clause) → AreSameSets cs ds → AreSameSets es fs → AreSameSets (cs ++ es) (ds ++ fs)
+same_append [] [] es fs h k = k
+same_append [] (d ∷ ds) es fs h k = absurd h
+same_append (c ∷ cs) [] es fs h k = absurd h
+same_append (c ∷ cs) (d ∷ ds) es fs h k = (h.0, same_append cs ds es fs h.1 k)
+
+one_imported : (t : Bool) (c d : Clause) → SameSet c d → AreSameSets (cond t (c ∷ []) []) (cond t (d ∷ []) [])
+one_imported true c d same = (same, tt)
+one_imported false c d same = tt
+
+imported_more : (version : ℕ) (cs : List Clause) (d : Clause) → imported version (cs ++ d ∷ []) ≡ imported version cs ++ imported version (d ∷ [])
+imported_more version cs d = go (version == 2)
+  where
+    go : (t : Bool) → cond t (cs ++ d ∷ []) [] ≡ cond t cs [] ++ cond t (d ∷ []) []
+    go true = refl
+    go false = refl
+
+more_added : (c d : Clause) (old new : Checking) (lines : List ClauseLine) → HasAdded old lines → SameSet c d → Adds c old new → HasAdded new (lines ++ Add d ∷ [])
+more_added c d old new lines h same a =
+    let all : imported old.version (added lines) ++ imported old.version (d ∷ []) ≡ imported new.version (added (lines ++ Add d ∷ [])) =
+    sym (imported_more old.version (added lines) d) ∙ ap (imported old.version) (sym (added_more lines d)) ∙ ap (λ v. imported v (added (lines ++ Add d ∷ []))) (sym a.version) in
+    subst (λ xs. AreSameSets xs (imported new.version (added (lines ++ Add d ∷ [])))) (sym a.added)
+    (subst (AreSameSets (old.added ++ imported old.version (c ∷ []))) all
+    (same_append old.added (imported old.version (added lines)) (imported old.version (c ∷ [])) (imported old.version (d ∷ [])) h (one_imported (old.version == 2) c d same)))
+
+same_added : (c d : Clause) (old new : Checking) (lines : List ClauseLine) → HasAdded old lines → Deletes c old new → HasAdded new (lines ++ Delete d ∷ [])
+same_added c d old new lines h r =
+    subst (λ xs. AreSameSets xs (imported new.version (added (lines ++ Delete d ∷ [])))) (sym r.added)
+    (subst (AreSameSets old.added) (ap (imported old.version) (sym (added_same lines d)) ∙ ap (λ v. imported v (added (lines ++ Delete d ∷ []))) (sym r.version)) h)
+
+pub added_are_right : AddedAreRight
+added_are_right = record { adds = more_added; deletes = same_added }

@@ -1,5 +1,5 @@
 -- A checker's clauses and goals, and how they change.
-use Rattle.std.specs.Prelude.{◌≡◌, ◌↔◌, ◌≤◌, ◌<◌, ◌⊎◌, ℕ, Bool, true, false, List, [], ◌∷◌, ◌++◌, length, slice_index_or}
+use Rattle.std.specs.Prelude.{◌≡◌, ◌↔◌, ◌≤◌, ◌<◌, ◌⊎◌, ℕ, Bool, true, false, List, [], ◌∷◌, ◌++◌, length, slice_index_or, if◌then◌else◌, ◌==◌}
 use Rattle.std.specs.declared.option.Option.{Option}
 use Rattle.std.specs.declared.option.Option.TheVariants.{None, Some}
 use Rattle.std.specs.List.{All, Any}
@@ -19,19 +19,29 @@ pub record Held : Type 0 where
 abbrev pub held : Standing → Held
 held s = record { max = s.trail.greatest; live = live_of s.clauses }
 
--- The gates, the greatest variable, the live clauses, the goals, and which of them some added clause has shown.
+-- of added clauses those that an algebra certificate of this version may import
+abbrev pub imported : ℕ → List Clause → List Clause
+imported version cs = if version == 2 then cs else []
+
+-- The gates, the greatest variable, the live clauses, the goals, which of them some added clause has shown, the certificate's version,
+-- and the added clauses that may be imported.
 pub record Checking : Type 0 where
   pub gates : List Gate
   pub max : ℕ
   pub live : List Clause
   pub goals : List Goal
   pub shown : List Bool
+  pub version : ℕ
+  pub added : List Clause
 
-abbrev pub checking : List Gate → Held → List Goal → List Bool → Checking
-checking gates h goals shown = record { gates = gates; max = h.max; live = h.live; goals = goals; shown = shown }
+abbrev pub checking : List Gate → Held → List Goal → List Bool → ℕ → List Clause → Checking
+checking gates h goals shown version added =
+    record { gates = gates; max = h.max; live = h.live; goals = goals; shown = shown; version = version; added = added }
 
--- the gates and the goals, and the clauses of a list
-pub record Starts (gates : List Gate) (max : ℕ) (clauses : List Clause) (goals : List Goal) (c : Checking) : Type 0 where
+-- the gates and the goals, and the clauses of a list; nothing is added yet
+pub record Starts (gates : List Gate) (max : ℕ) (clauses : List Clause) (goals : List Goal) (version : ℕ) (c : Checking) : Type 0 where
+  pub version_is : c.version ≡ version
+  pub added_is : c.added ≡ []
   pub gates_are : c.gates ≡ gates
   pub max_is : c.max ≡ max
   pub live_is : c.live ≡ clauses
@@ -41,10 +51,12 @@ pub record Starts (gates : List Gate) (max : ℕ) (clauses : List Clause) (goals
 abbrev pub shown_at : List Bool → ℕ → Bool
 shown_at shown i = slice_index_or shown i false
 
--- Each live clause holds on every evaluation of the gates, and there is a place for each goal.
-pub record IsKept (gates : List Gate) (h : Held) (goals : List Goal) (shown : List Bool) : Type 0 where
+-- Each live clause holds on every evaluation of the gates, and so does each that was added; there is a place for each goal.
+pub record IsKept (gates : List Gate) (h : Held) (goals : List Goal) (shown : List Bool) (version : ℕ) (added : List Clause) : Type 0 where
   pub facts : All (IsClauseFact gates) h.live
   pub places : length shown ≡ length goals
+  pub added_facts : All (IsClauseFact gates) added
+  pub none_added : (version ≡ 2 → ⊥) → added ≡ []
 
 -- the clause shows each goal that has all its literals; what was shown stays so
 abbrev pub ShowsBy : Clause → List Goal → List Bool → List Bool → Type 0
@@ -65,6 +77,8 @@ pub record Adds (c : Clause) (old new : Checking) : Type 0 where
   pub gates : new.gates ≡ old.gates
   pub max : new.max ≡ old.max
   pub goals : new.goals ≡ old.goals
+  pub version : new.version ≡ old.version
+  pub added : new.added ≡ old.added ++ imported old.version (c ∷ [])
 
 -- One live clause with the set is removed.
 pub record Deletes (c : Clause) (old new : Checking) : Type 0 where
@@ -73,6 +87,8 @@ pub record Deletes (c : Clause) (old new : Checking) : Type 0 where
   pub gates : new.gates ≡ old.gates
   pub max : new.max ≡ old.max
   pub goals : new.goals ≡ old.goals
+  pub version : new.version ≡ old.version
+  pub added : new.added ≡ old.added
 
 -- no live clause has the set
 abbrev pub IsNowhere : Clause → Checking → Type 0

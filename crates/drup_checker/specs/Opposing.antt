@@ -1,10 +1,9 @@
 -- A clause whose literals are opposed: the negation of each stands. Private clauses alone cite it.
-use Rattle.std.specs.Prelude.{◌≡◌, ◌≢◌, ℕ, ◌<◌, ◌≤◌, List, ◌++◌, [], ◌∷◌, length, map, ℤ, pos, neg_ℤ, nat_abs, slice_index_or}
+use Rattle.std.specs.Prelude.{◌≡◌, ◌≢◌, ℕ, ◌<◌, ◌≤◌, List, ◌++◌, length, map, ℤ, pos, neg_ℤ, nat_abs, slice_index_or}
 use Rattle.std.specs.declared.option.Option.{Option}
-use Rattle.std.specs.declared.option.Option.TheVariants.{Some}
 use Rattle.std.specs.List.{Contains}
 use Rattle.clause_core.specs.Clause.{Clause, IsSubset}
-use Rattle.unit_prop.specs.Standing.{IsFree, Standing, assumed_of}
+use Rattle.unit_prop.specs.Standing.{Standing, assumed_of}
 
 -- a literal of a variable from 1 to the greatest one
 abbrev pub IsLiteralOf : ℕ → ℤ → Type 0

@@ -1,80 +1,118 @@
 -- What a caller that judges a clause file may cite: its header, and refusals of the whole file.
 pub use Rattle.mv_text.proofs.CallerLemmas.{long_of, short_of}
-pub use Rattle.drup_text.proofs.ClauseReading.{clause_item, cut_item, none_clause_line, none_cut, none_pair, pair_item}
-use Rattle.std.specs.Prelude.{◌≡◌, ℕ, zero, suc, ◌+◌, List, [], ◌∷◌, length}
+pub use Rattle.drup_text.proofs.ClauseReading.{block_item, clause_item, count_item, cut_item, none_block, none_clause_line, none_count, none_cut, none_pair, pair_item}
+use Rattle.std.specs.Prelude.{◌≡◌, ℕ, ◌+◌, List, [], ◌∷◌, length}
 use Rattle.std.specs.declared.option.Option.{Option}
 use Rattle.std.specs.declared.option.Option.TheVariants.{None, Some}
 use Rattle.std.proofs.Common.{sym, subst, arith, ⊎_elim, inl, inr}
 use Rattle.graph_core.specs.declared.literal.Lit.{Lit}
+use Rattle.graph_core.specs.Graph.Extended.{Extended, without_cut}
 use Rattle.graph_core.specs.Graph.{Aig}
 use Rattle.graph_core.specs.Text.JudgedLines.{Behind, IsTooLong, Lengths}
-use Rattle.graph_core.proofs.OfTexts.CallerLemmas.{behind_map}
+use Rattle.ripple_graft.specs.declared.block.Block.{Block}
 use Rattle.ripple_graft.specs.declared.cut.Cut.{Cut}
+use Rattle.ripple_graft.specs.Blocks.{graft_all, graft_block, with_blocks}
+use Rattle.ripple_graft.specs.HeaderBlocks.{cut_blocks}
+use Rattle.drup_text.specs.declared.head.Header.{Header}
 use Rattle.drup_text.specs.ClauseTexts.{AreLinesOf, IsPairLine}
-use Rattle.drup_text.specs.FileStates.{PassesCut, PassesHeader, header_lines}
-use Rattle.drup_text.specs.HeaderRefusal.{LineCause, IsFirstRefusal, IsHeaderRefusal, IsPairStep, IsRefusedBehindCut, IsRefusedBehindPairs, IsRefusedCut, IsRefusedPairs, Later, nothing_later}
-use Rattle.drup_text.specs.Headers.{IsCutText, IsHeaderText, extended_by}
+use Rattle.drup_text.specs.FileStates.{PassBlocks, PassesAnyHeader, PassesCount, PassesCut, block_lines, lines_in}
+use Rattle.drup_text.specs.HeaderRefusal.{LineCause, IsFirstRefusal, IsHeaderRefusal, IsPairStep, IsRefusedBehindCut, IsRefusedBlocks, IsRefusedCount, IsRefusedCut, Later, cut_at, nothing_later}
+use Rattle.drup_text.specs.Headers.{AreBlockTexts, IsAnyHeaderText, IsBlocksText, IsCutText, extended_with}
+use Rattle.drup_text.proofs.BlockSteps.{block_passes_on, blocks_whatever, pairs_pass_on, pairs_whatever}
 
 -- ---- what a header says
 
-pairs_said : (g : Aig) (IsLong : List ℕ → Type 0) (body : List ℕ) (pairs : List (Lit × Lit)) (count : ℕ) (bytes : List ℕ) → Behind IsPairLine (IsPairStep g) IsLong (λ n left. (n ≡ 0) × (left ≡ body)) pairs count bytes → AreLinesOf IsPairLine bytes pairs body
-pairs_said g IsLong body [] count bytes h = h.1
-pairs_said g IsLong body (p ∷ pairs) count bytes h = (h.0, h.3, pairs_said g IsLong body pairs h.1 h.0 h.5)
+module _ (IsLong : List ℕ → Type 0) where
+  pairs_said : (e : Extended) (body : List ℕ) (pairs : List (Lit × Lit)) (count : ℕ) (bytes : List ℕ) → Behind IsPairLine (IsPairStep e) IsLong (λ n left. (n ≡ 0) × (left ≡ body)) pairs count bytes → AreLinesOf IsPairLine bytes pairs body
+  pairs_said e body [] count bytes h = h.1
+  pairs_said e body (p ∷ pairs) count bytes h = (h.0, h.3, pairs_said e body pairs h.1 h.0 h.5)
 
-cut_said : (g : Aig) (IsLong : List ℕ → Type 0) (bytes : List ℕ) (cut : Option Cut) (body : List ℕ) → PassesCut g IsLong bytes cut body → IsCutText bytes cut body
-cut_said g IsLong bytes None body h = h.1
-cut_said g IsLong bytes (Some cut) body h = (h.0, h.2, pairs_said g IsLong body cut.pairs (length cut.pairs) h.0 h.4)
+  cut_said : (g : Aig) (bytes : List ℕ) (cut : Option Cut) (body : List ℕ) → PassesCut g IsLong bytes cut body → IsCutText bytes cut body
+  cut_said g bytes None body h = h.1
+  cut_said g bytes (Some cut) body h = (h.0, h.2, pairs_said (without_cut g) body cut.pairs (length cut.pairs) h.0 h.4)
 
--- the text of a header that passes is that of its cut
-pub header_said : (g : Aig) (lengths : Lengths) (bytes : List ℕ) (cut : Option Cut) (body : List ℕ) → PassesHeader g lengths bytes cut body → IsHeaderText bytes cut body
-header_said g lengths bytes cut body h = (h.rest, cut_said g (IsTooLong lengths (length bytes)) h.rest cut body h.cut_passes, h.version)
+  blocks_said : (e : Extended) (bytes : List ℕ) (blocks : List Block) (body : List ℕ) → PassBlocks IsLong e bytes blocks body → AreBlockTexts bytes blocks body
+  blocks_said e bytes [] body h = h
+  blocks_said e bytes (b ∷ blocks) body h = (h.1.0, h.0, h.1.2, pairs_said e h.0 b.cut.pairs (length b.cut.pairs) h.1.0 h.1.4, blocks_said (graft_block e b) h.0 blocks body h.2)
+
+  count_said : (g : Aig) (bytes : List ℕ) (blocks : List Block) (body : List ℕ) → PassesCount g IsLong bytes blocks body → IsBlocksText bytes blocks body
+  count_said g bytes blocks body h = (h.0, h.2, blocks_said (without_cut g) h.0 blocks body h.4)
+
+-- the text of a header that passes is that of its blocks
+pub header_said : (g : Aig) (lengths : Lengths) (bytes : List ℕ) (h : Header) (body : List ℕ) → PassesAnyHeader g lengths bytes h body → IsAnyHeaderText (length g.outputs) bytes h body
+header_said g lengths bytes h body passes =
+    let IsLong = IsTooLong lengths (length bytes) in
+    ⊎_elim (λ a. let t = a.1.2 in inl (a.0, (a.1.0, a.1.1, (t.rest, cut_said IsLong g t.rest a.1.0 body t.cut_passes, t.version))))
+    (λ b. let t = b.1 in inr (b.0, (t.rest, count_said IsLong g t.rest h.blocks body t.blocks_pass, t.version))) passes
 
 -- ---- what is refused within a header is so whatever is behind it
 
 module _ (later : Later) (g : Aig) where
-  pairs_anyhow : (IsLong : List ℕ → Type 0) (n : ℕ × ℕ) (bytes : List ℕ) (p : ℕ × LineCause) → IsRefusedPairs nothing_later g IsLong n bytes p → IsRefusedPairs later g IsLong n bytes p
-  pairs_anyhow IsLong n bytes p h = (
-    h.0,
-    behind_map IsPairLine (IsPairStep g) IsLong (λ left rest. IsRefusedBehindPairs nothing_later g IsLong n.0 h.0 left rest p) (λ left rest. IsRefusedBehindPairs later g IsLong n.0 h.0 left rest p) (λ left rest. step left rest) h.0 n.1 bytes h.1,
-  )
-    where
-      step : (left : ℕ) (rest : List ℕ) → IsRefusedBehindPairs nothing_later g IsLong n.0 h.0 left rest p → IsRefusedBehindPairs later g IsLong n.0 h.0 left rest p
-      step zero rest k = absurd k
-      step (suc left) rest k = k
-
   behind_anyhow : (IsLong : List ℕ → Type 0) (c : Option (ℕ × ℕ)) (bytes : List ℕ) (p : ℕ × LineCause) → IsRefusedBehindCut nothing_later g IsLong c bytes p → IsRefusedBehindCut later g IsLong c bytes p
   behind_anyhow IsLong None bytes p h = absurd h
-  behind_anyhow IsLong (Some n) bytes p h = ⊎_elim (λ f. inl f) (λ l. inr (l.0, pairs_anyhow IsLong n bytes p l.1)) h
+  behind_anyhow IsLong (Some n) bytes p h = ⊎_elim (λ f. inl f) (λ l. inr (l.0, pairs_whatever later (cut_at g n.0) (without_cut g) IsLong 3 n.1 bytes p l.1)) h
 
   cut_anyhow : (IsLong : List ℕ → Type 0) (bytes : List ℕ) (p : ℕ × LineCause) → IsRefusedCut nothing_later g IsLong bytes p → IsRefusedCut later g IsLong bytes p
   cut_anyhow IsLong bytes p h =
       ⊎_elim (λ f. inl f) (λ l. inr (l.0, ⊎_elim (λ none. inl none) (λ c. inr (c.0, c.1, c.2, behind_anyhow IsLong c.0 c.1 p c.3)) l.1)) h
 
+  count_anyhow : (IsLong : List ℕ → Type 0) (bytes : List ℕ) (p : ℕ × LineCause) → IsRefusedCount nothing_later g IsLong bytes p → IsRefusedCount later g IsLong bytes p
+  count_anyhow IsLong bytes p h =
+      ⊎_elim (λ f. inl f)
+      (λ l. inr (
+        l.0,
+        ⊎_elim (λ none. inl none)
+            (λ c. inr (c.0, c.1, c.2, ⊎_elim (λ f. inl f) (λ r. inr (r.0, blocks_whatever later IsLong c.0 (without_cut g) 3 c.1 p r.1)) c.3)) l.1,
+      )) h
+
   pub header_anyhow : (lengths : Lengths) (bytes : List ℕ) (p : ℕ × LineCause) → IsHeaderRefusal g lengths bytes p → IsFirstRefusal later g lengths bytes p
   header_anyhow lengths bytes p h =
-      ⊎_elim (λ f. inl f) (λ l. inr (l.0, ⊎_elim (λ none. inl none) (λ c. inr (c.0, c.1, cut_anyhow (IsTooLong lengths (length bytes)) c.0 p c.2)) l.1)) h
+      let IsLong = IsTooLong lengths (length bytes) in
+      ⊎_elim (λ f. inl f)
+      (λ l. inr (
+        l.0,
+        ⊎_elim (λ none. inl none)
+            (λ v. inr (⊎_elim (λ c. inl (c.0, c.1, cut_anyhow IsLong c.0 p c.2)) (λ c. inr (c.0, c.1, count_anyhow IsLong c.0 p c.2)) v)) l.1,
+      )) h
 
   -- ---- what is refused behind a header that passes
 
-  pairs_behind : (IsLong : List ℕ → Type 0) (cut : Cut) (bytes body : List ℕ) (p : ℕ × LineCause) → Behind IsPairLine (IsPairStep g) IsLong (λ n left. (n ≡ 0) × (left ≡ body)) cut.pairs (length cut.pairs) bytes →
-      later (extended_by g (Some cut)) (3 + length cut.pairs) body p → IsRefusedPairs later g IsLong (cut.lo, length cut.pairs) bytes p
-  pairs_behind IsLong cut bytes body p h refused = (
-    cut.pairs,
-    behind_map IsPairLine (IsPairStep g) IsLong (λ n left. (n ≡ 0) × (left ≡ body)) (λ left rest. IsRefusedBehindPairs later g IsLong cut.lo cut.pairs left rest p) (λ n left f. step n left f.0 f.1) cut.pairs (length cut.pairs) bytes h,
-  )
-    where
-      step : (n : ℕ) (left : List ℕ) → n ≡ 0 → left ≡ body → IsRefusedBehindPairs later g IsLong cut.lo cut.pairs n left p
-      step zero left e same = subst (λ z. later (extended_by g (Some cut)) (3 + length cut.pairs) z p) (sym same) refused
-      step (suc n) left e same = absurd (cc)
-
-  cut_behind : (IsLong : List ℕ → Type 0) (bytes : List ℕ) (cut : Option Cut) (body : List ℕ) (p : ℕ × LineCause) → PassesCut g IsLong bytes cut body → later (extended_by g cut) (header_lines cut + 1) body p → IsRefusedCut later g IsLong bytes p
+  cut_behind : (IsLong : List ℕ → Type 0) (bytes : List ℕ) (cut : Option Cut) (body : List ℕ) (p : ℕ × LineCause) → PassesCut g IsLong bytes cut body →
+      later (with_blocks g (cut_blocks (length g.outputs) cut)) (lines_in 1 (cut_blocks (length g.outputs) cut) + 1) body p → IsRefusedCut later g IsLong bytes p
   cut_behind IsLong bytes None body p h refused = inr (h.0, inr (None, body, h.1, refused))
   cut_behind IsLong bytes (Some cut) body p h refused =
-      let next : later (extended_by g (Some cut)) (3 + length cut.pairs) body p = subst (λ n. later (extended_by g (Some cut)) n body p) (count (length cut.pairs)) refused in
-      inr (h.1, inr (Some (cut.lo, length cut.pairs), h.0, h.2, inr (h.3, pairs_behind IsLong cut h.0 body p h.4 next)))
+      let next = subst (λ n. later (cut_at g cut.lo cut.pairs) n body p) (number (length cut.pairs)) refused in
+      inr (h.1, inr (Some (cut.lo, length cut.pairs), h.0, h.2, inr (h.3, pairs_pass_on later (cut_at g cut.lo) (without_cut g) IsLong 3 cut.pairs h.0 body p h.4 next)))
     where
-      count : (n : ℕ) → 2 + n + 1 ≡ 3 + n
-      count n = omega arith
+      number : (n : ℕ) → 2 + (0 + n + 0) + 1 ≡ 3 + n
+      number n = omega arith
 
-  pub behind_header : (lengths : Lengths) (bytes : List ℕ) (cut : Option Cut) (body : List ℕ) (p : ℕ × LineCause) → PassesHeader g lengths bytes cut body → later (extended_by g cut) (header_lines cut + 1) body p → IsFirstRefusal later g lengths bytes p
-  behind_header lengths bytes cut body p h refused = inr (h.short, inr (h.rest, h.version, cut_behind (IsTooLong lengths (length bytes)) h.rest cut body p h.cut_passes refused))
+  blocks_behind : (IsLong : List ℕ → Type 0) (e : Extended) (number : ℕ) (blocks : List Block) (bytes body : List ℕ) (p : ℕ × LineCause) → PassBlocks IsLong e bytes blocks body →
+      later (graft_all e blocks) (number + block_lines 1 blocks) body p → IsRefusedBlocks later IsLong (length blocks) e number bytes p
+  blocks_behind IsLong e number [] bytes body p h refused = subst (λ z. later e number z p) (sym h) (subst (λ n. later e n body p) (plus number) refused)
+    where
+      plus : (n : ℕ) → n + 0 ≡ n
+      plus n = omega arith
+  blocks_behind IsLong e number (b ∷ blocks) bytes body p h refused =
+      block_passes_on (IsRefusedBlocks later IsLong (length blocks)) IsLong e number bytes b h.0 p h.1
+      (blocks_behind IsLong (graft_block e b) (number + 1 + length b.cut.pairs) blocks h.0 body p h.2
+      (subst (λ n. later (graft_all (graft_block e b) blocks) n body p) (further (length b.cut.pairs) (block_lines 1 blocks)) refused))
+    where
+      further : (n k : ℕ) → number + (1 + n + k) ≡ number + 1 + n + k
+      further n k = omega arith
+
+  count_behind : (IsLong : List ℕ → Type 0) (bytes : List ℕ) (blocks : List Block) (body : List ℕ) (p : ℕ × LineCause) → PassesCount g IsLong bytes blocks body →
+      later (with_blocks g blocks) (lines_in 2 blocks + 1) body p → IsRefusedCount later g IsLong bytes p
+  count_behind IsLong bytes blocks body p h refused =
+      inr (h.1, inr (length blocks, h.0, h.2, inr (h.3, blocks_behind IsLong (without_cut g) 3 blocks h.0 body p h.4 (subst (λ n. later (with_blocks g blocks) n body p) (number (block_lines 1 blocks)) refused))))
+    where
+      number : (n : ℕ) → 2 + n + 1 ≡ 3 + n
+      number n = omega arith
+
+  pub behind_header : (lengths : Lengths) (bytes : List ℕ) (h : Header) (body : List ℕ) (p : ℕ × LineCause) → PassesAnyHeader g lengths bytes h body → later (extended_with g h) (lines_in h.version h.blocks + 1) body p → IsFirstRefusal later g lengths bytes p
+  behind_header lengths bytes h body p passes refused =
+      let IsLong = IsTooLong lengths (length bytes) in
+      let of : (version : ℕ) → h.version ≡ version → later (with_blocks g h.blocks) (lines_in version h.blocks + 1) body p = λ version is. subst (λ v. later (with_blocks g h.blocks) (lines_in v h.blocks + 1) body p) is refused in
+      ⊎_elim
+      (λ a. let t = a.1.2 in inr (t.short, inr (inl (t.rest, t.version, cut_behind IsLong t.rest a.1.0 body p t.cut_passes (subst (λ bs. later (with_blocks g bs) (lines_in 1 bs + 1) body p) a.1.1 (of 1 a.0))))))
+      (λ b. let t = b.1 in inr (t.short, inr (inr (t.rest, t.version, count_behind IsLong t.rest h.blocks body p t.blocks_pass (of 2 b.0))))) passes

@@ -1,21 +1,21 @@
 -- What is read of a line of a clause certificate is what its text says.
-use Rattle.std.specs.Prelude.{◌≡◌, ◌≢◌, ℕ, zero, suc, ◌+◌, ◌*◌, ◌-◌, ◌<◌, ◌≤◌, ◌⊎◌, Bool, true, false, not, cond, List, [], ◌∷◌, ◌++◌, length, codes, ℤ, pos, negsuc, ◌==◌, slice_index}
+use Rattle.std.specs.Prelude.{◌≡◌, ◌≢◌, ℕ, zero, suc, ◌+◌, ◌*◌, ◌-◌, ◌<◌, ◌≤◌, ◌⊎◌, ◌||◌, Bool, true, false, not, cond, List, [], ◌∷◌, ◌++◌, length, codes, ℤ, pos, negsuc, ◌==◌, slice_index}
 use Rattle.std.specs.declared.option.Option.{Option}
 use Rattle.std.specs.declared.option.Option.TheVariants.{None, Some}
 use Rattle.std.specs.List.{fold}
-use Rattle.std.proofs.Common.{refl, sym, ap, subst, ◌∙◌, arith, append_assoc, length-append, inl, inr, ⊎_elim, eqb-true, eq-eqb}
+use Rattle.std.proofs.Common.{refl, sym, ap, ap₂, subst, ◌∙◌, arith, append_assoc, length-append, inl, inr, ⊎_elim, eqb-true, eq-eqb}
 use Rattle.std.proofs.lemmas.List.Elements.{recursion_from_All}
 use Rattle.graph_core.specs.declared.literal.Lit.{Lit}
 use Rattle.graph_core.specs.Text.{newline, space, IsNumeral, IsDigit}
 use Rattle.graph_core.specs.Text.Numerals.{number_at, is_digit, ◌>>=◌}
-use Rattle.graph_core.specs.Text.Readers.{Reads, map_at, behind_at, ended_at, Ended, BehindText, AreMany, NoneOf, OneOf, Anything, put_before}
+use Rattle.graph_core.specs.Text.Readers.{Reads, map_at, behind_at, ended_at, text_at, Ended, BehindText, AreMany, NoneOf, OneOf, Anything, Then, put_before}
 use Rattle.graph_core.proofs.OfTexts.CallerLemmas.{HasNoNewline, OtherOf, many_next, none_append, none_in, none_numeral, one_longer, reads_as, reads_before, reads_behind, reads_choice, reads_ended, reads_many, reads_map, reads_number, reads_text, reads_then}
 use Rattle.graph_core.proofs.OfAlgebra.CallerLemmas.{numeral_first}
 use Rattle.clause_core.specs.Clause.{Clause}
 use Rattle.clause_core.specs.ClauseLines.{ClauseLine}
 use Rattle.clause_core.specs.declared.line.Line.TheVariants.{Add, Delete}
-use Rattle.drup_text.specs.ClauseTexts.{IsVariableText, IsLiteralText, IsClauseText, IsClauseLine, IsCutLine, IsPairLine}
-use Rattle.drup_text.specs.ClauseReading.{is_no_zero, nonzero_at, minus_number, literal_at, literals_at, clause_at, clause_line_at, two_at, some_cut, cut_line_at, lits, pair_line_at}
+use Rattle.drup_text.specs.ClauseTexts.{IsBlockLine, IsVariableText, IsLiteralText, IsClauseText, IsClauseLine, IsCountLine, IsCutLine, IsPairLine, carry_text}
+use Rattle.drup_text.specs.ClauseReading.{is_no_zero, nonzero_at, minus_number, literal_at, literals_at, clause_at, clause_line_at, two_at, some_cut, cut_line_at, lits, pair_line_at, count_line_at, carry_at, head_from, block_line_at}
 
 -- a number whose first digit isn't 0
 nonzero_takes : (bytes : List ℕ) (v : ℕ) (rest : List ℕ) → nonzero_at bytes ≡ Some (v, rest) → (front : List ℕ) × IsVariableText front v × (bytes ≡ front ++ rest)
@@ -215,6 +215,79 @@ pub literals_next : (b : ℕ) (bytes : List ℕ) → literals_at (b ∷ bytes) �
 literals_next = many_next is_no_zero (ended_at literal_at (codes " ")) IsEndedLiteral Anything (reads_ended (codes " ") reads_literal (λ rest. refl))
     (λ front l h. subst (OneOf is_no_zero) (sym h.2) (one_longer is_no_zero h.0 (codes " ") (literal_first h.0 l h.1))) (λ rest h. tt)
 
+-- ---- the lines of version 2
+
+pub reads_count_line : Reads count_line_at IsCountLine (NoneOf is_digit)
+unfolding count_line_at
+reads_count_line = reads_as IsCountLine (reads_behind (codes "cuts ") (reads_number 10)) (λ bytes n h. h) (λ bytes n h. h)
+
+-- neither a digit nor a space
+abbrev ends_head : ℕ → Bool
+ends_head b = is_digit b || (b == space)
+
+abbrev IsCarry : List ℕ → Bool → Type 0
+IsCarry bytes c = bytes ≡ carry_text c
+
+or_false : (a b : Bool) → (a || b) ≡ false → (a ≡ false) × (b ≡ false)
+or_false true b h = absurd (cc)
+or_false false b h = (refl, h)
+
+no_digit : (bytes : List ℕ) → NoneOf ends_head bytes → NoneOf is_digit bytes
+no_digit [] h = tt
+no_digit (b ∷ bytes) h = (or_false (is_digit b) (b == space) h).0
+
+reads_carry : Reads carry_at IsCarry (NoneOf ends_head)
+reads_carry = record { takes = takes; again = again }
+  where
+    word : Reads (text_at (codes " carry") true) (λ bytes y. (y ≡ true) × (bytes ≡ codes " carry")) (λ rest. Unit {0})
+    word = reads_text (codes " carry") true
+
+    takes : (bytes : List ℕ) (c : Bool) (rest : List ℕ) → carry_at bytes ≡ Some (c, rest) → (front : List ℕ) × IsCarry front c × (bytes ≡ front ++ rest)
+    takes [] c rest h = ([], ap carry_text (ap (λ p. p.0) (same ([], refl))), ap (λ p. p.1) (same ([], refl)))
+      where
+        same : (x : List ℕ) × (x ≡ []) → ◌≡◌ {A = Bool × List ℕ} (false, []) (c, rest)
+        same x = cc
+    takes (b ∷ bytes) c rest h = go (b == space) h
+      where
+        go : (t : Bool) → cond t (text_at (codes " carry") true (b ∷ bytes)) (Some (false, b ∷ bytes)) ≡ Some (c, rest) → (front : List ℕ) × IsCarry front c × (b ∷ bytes ≡ front ++ rest)
+        go true k = let t = word.takes (b ∷ bytes) c rest k in (t.0, t.1.1 ∙ ap carry_text (sym t.1.0), t.2)
+        go false k = let same : ◌≡◌ {A = Bool × List ℕ} (false, b ∷ bytes) (c, rest) = cc in ([], ap carry_text (ap (λ p. p.0) same), ap (λ p. p.1) same)
+
+    again : (front : List ℕ) (c : Bool) (rest : List ℕ) → IsCarry front c → NoneOf ends_head rest → carry_at (front ++ rest) ≡ Some (c, rest)
+    again front true rest is stop = ap (λ z. carry_at (z ++ rest)) is ∙ word.again (codes " carry") true rest (refl, refl) tt
+    again front false rest is stop = ap (λ z. carry_at (z ++ rest)) is ∙ plain rest stop
+      where
+        plain : (bytes : List ℕ) → NoneOf ends_head bytes → carry_at bytes ≡ Some (false, bytes)
+        plain [] k = refl
+        plain (b ∷ bytes) k = ap (λ t. cond t (text_at (codes " carry") true (b ∷ bytes)) (Some (false, b ∷ bytes))) (or_false (is_digit b) (b == space) k).1
+
+carry_first : (front : List ℕ) (c : Bool) (rest : List ℕ) → IsCarry front c → NoneOf ends_head rest → NoneOf is_digit (front ++ rest)
+carry_first front true rest is stop = subst (λ z. NoneOf is_digit (z ++ rest)) (sym is) refl
+carry_first front false rest is stop = subst (λ z. NoneOf is_digit (z ++ rest)) (sym is) (no_digit rest stop)
+
+abbrev IsReplaceHead : List ℕ → (ℕ × ℕ) × Bool → Type 0
+IsReplaceHead = BehindText (codes "replace ") (Then AreTwo IsCarry)
+
+four_parts : (low count carry : List ℕ) → codes "replace " ++ ((low ++ space ∷ count) ++ carry) ≡ codes "replace " ++ low ++ space ∷ (count ++ carry)
+four_parts low count carry = simp append_assoc
+
+head_there : (bytes : List ℕ) (x : (ℕ × ℕ) × Bool) → IsReplaceHead bytes x → IsBlockLine bytes (head_from x)
+head_there bytes x h =
+    let two = h.1.2 in
+    (two.0, two.1, two.2, two.3, h.2 ∙ ap (λ z. codes "replace " ++ z) (h.1.4 ∙ ap₂ (λ y z. y ++ z) two.4 h.1.3) ∙ four_parts two.0 two.1 (carry_text x.1))
+
+head_back : (bytes : List ℕ) (h : ℕ × ℕ × Bool) → IsBlockLine bytes h → (x : (ℕ × ℕ) × Bool) × IsReplaceHead bytes x × (head_from x ≡ h)
+head_back bytes h line = (
+  ((h.0, h.1), h.2),
+  ((line.0 ++ space ∷ line.1) ++ carry_text h.2, (line.0 ++ space ∷ line.1, carry_text h.2, (line.0, line.1, line.2, line.3, refl), refl, refl), line.4 ∙ sym (four_parts line.0 line.1 (carry_text h.2))),
+  refl,
+)
+
+pub reads_block_line : Reads block_line_at IsBlockLine (NoneOf ends_head)
+unfolding block_line_at
+reads_block_line =
+    reads_map head_from IsBlockLine (reads_behind (codes "replace ") (reads_then reads_two reads_carry (λ front c rest h f. carry_first front c rest h f))) head_there head_back
+
 -- ---- with their line feeds
 
 pub clause_item : Reads (ended_at clause_line_at (newline ∷ [])) (Ended IsClauseLine (newline ∷ [])) Anything
@@ -225,6 +298,12 @@ pair_item = reads_ended (newline ∷ []) reads_pair_line (λ rest. refl)
 
 pub cut_item : Reads (ended_at cut_line_at (newline ∷ [])) (Ended IsCutLine (newline ∷ [])) Anything
 cut_item = reads_ended (newline ∷ []) reads_cut_line (λ rest. refl)
+
+pub count_item : Reads (ended_at count_line_at (newline ∷ [])) (Ended IsCountLine (newline ∷ [])) Anything
+count_item = reads_ended (newline ∷ []) reads_count_line (λ rest. refl)
+
+pub block_item : Reads (ended_at block_line_at (newline ∷ [])) (Ended IsBlockLine (newline ∷ [])) Anything
+block_item = reads_ended (newline ∷ []) reads_block_line (λ rest. refl)
 
 -- ---- no line has a line feed in it
 
@@ -253,6 +332,19 @@ pub none_cut : (line : List ℕ) (c : Option (ℕ × ℕ)) → IsCutLine line c 
 none_cut line None h = none_same line _ h (none_in (codes "none") refl)
 none_cut line (Some n) h =
     none_same line _ (h.4 ∙ append_assoc (codes "replace ") h.0 (space ∷ h.1)) (none_append (codes "replace ") (h.0 ++ space ∷ h.1) (none_in (codes "replace ") refl) (none_two h.0 h.1 n.0 n.1 h.2 h.3))
+
+pub none_count : (line : List ℕ) (n : ℕ) → IsCountLine line n → HasNoNewline line
+none_count line n h = none_same line _ h.2 (none_append (codes "cuts ") h.0 (none_in (codes "cuts ") refl) (none_numeral 10 h.0 n h.1))
+
+none_carry : (c : Bool) → HasNoNewline (carry_text c)
+none_carry true = none_in (codes " carry") refl
+none_carry false = tt
+
+pub none_block : (line : List ℕ) (h : ℕ × ℕ × Bool) → IsBlockLine line h → HasNoNewline line
+none_block line h b =
+    none_same line _ (b.4 ∙ sym (four_parts b.0 b.1 (carry_text h.2)))
+    (none_append (codes "replace ") ((b.0 ++ space ∷ b.1) ++ carry_text h.2) (none_in (codes "replace ") refl)
+    (none_append (b.0 ++ space ∷ b.1) (carry_text h.2) (none_two b.0 b.1 h.0 h.1 b.2 b.3) (none_carry h.2)))
 
 -- ---- a literal and a space take some bytes
 

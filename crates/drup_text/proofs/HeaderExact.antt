@@ -1,117 +1,236 @@
--- A header within the lengths passes over a graph that takes its cut, and one that passes has no refusal.
-use Rattle.std.specs.Prelude.{◌≡◌, ℕ, zero, suc, List, [], ◌∷◌, ◌++◌, codes, length}
+-- A header within the lengths passes over a graph that takes its blocks, and one that passes has no refusal.
+use Rattle.std.specs.Prelude.{◌≡◌, ◌≤◌, ℕ, zero, suc, ◌+◌, Bool, List, [], ◌∷◌, ◌++◌, codes, length}
 use Rattle.std.specs.List.{All}
 use Rattle.std.specs.declared.option.Option.{Option}
 use Rattle.std.specs.declared.option.Option.TheVariants.{None, Some}
-use Rattle.std.proofs.Common.{refl, sym, subst, ◌∙◌, arith, append_assoc, ⊎_elim}
+use Rattle.std.proofs.Common.{refl, sym, ap, ap₂, subst, ◌∙◌, arith, inl, inr, ⊎_elim}
 use Rattle.std.proofs.lemmas.List.Elements.{All-head, All-tail}
 use Rattle.graph_core.specs.declared.literal.Lit.{Lit}
+use Rattle.graph_core.specs.Graph.Extended.{Extended, without_cut}
 use Rattle.graph_core.specs.Graph.{Aig}
-use Rattle.graph_core.specs.Text.JudgedLines.{BeginsWith, Behind, IsTooLong}
+use Rattle.graph_core.specs.Text.JudgedLines.{BeginsWith, Behind, IsTooLong, Lengths}
 use Rattle.graph_core.proofs.OfTexts.CallerLemmas.{ShortFrom, short_rest, start_here, within_short}
+use Rattle.ripple_graft.specs.declared.block.Block.{Block}
 use Rattle.ripple_graft.specs.declared.cut.Cut.{Cut}
+use Rattle.ripple_graft.specs.Blocks.{AreBlocks, graft_all, graft_block, with_blocks}
+use Rattle.ripple_graft.specs.HeaderBlocks.{IsCutOf, cut_blocks}
+use Rattle.drup_text.specs.declared.head.Header.{Header}
 use Rattle.drup_text.specs.ClauseTexts.{AreLinesOf, IsPairLine}
-use Rattle.drup_text.specs.FileStates.{PassesCut}
-use Rattle.drup_text.specs.HeaderRefusal.{LineCause, IsPairStep, IsRefusedBehindCut, IsRefusedBehindPairs, IsRefusedCut, IsRefusedPair, nothing_later}
-use Rattle.drup_text.specs.Headers.{IsCutText, IsHeaderOf, version_line}
-use Rattle.drup_text.specs.LineTexts.{IsCutSize, IsPairOf}
+use Rattle.drup_text.specs.FileStates.{PassBlocks, PassesAnyHeader, PassesBlock, PassesBlocks, PassesCount, PassesCut, PassesHeader}
+use Rattle.drup_text.specs.HeaderRefusal.{Later, LineCause, IsHeaderRefusal, IsPairStep, IsRefusedBehindCut, IsRefusedBehindPairs, IsRefusedBlock, IsRefusedBlocks, IsRefusedCount, IsRefusedCut, IsRefusedPair, IsRefusedPairs, cut_at, block_at, nothing_later}
+use Rattle.drup_text.specs.Headers.{AreBlockTexts, IsAnyHeaderText, IsBlocksText, IsCutText, IsHeaderOf, IsHeaderText, head_of, second_line}
+use Rattle.drup_text.specs.LineTexts.{IsCountInRange, IsCutSize, IsHeadOf, IsPairOf}
 use Rattle.drup_text.specs.WrittenLaws.{PassingHeadersAreNotRefused, WrittenHeadersPass}
-use Rattle.drup_text.specs.WrittenTexts.{cut_text, file_text, lines_text}
-use Rattle.drup_text.proofs.OneFile.{same_body, same_pair, same_size}
-use Rattle.drup_text.proofs.WrittenAgain.{cut_written}
+use Rattle.drup_text.specs.WrittenTexts.{any_file_text, lines_text}
+use Rattle.drup_text.proofs.OneFile.{other_version, same_body, same_count, same_head, same_pair, same_size, second_body}
+use Rattle.drup_text.proofs.WrittenAgain.{header_written}
 
 -- ---- what passes
 
-module _ (g : Aig) (IsLong : List ℕ → Type 0) (body : List ℕ) where
-  pairs_pass : (pairs : List (Lit × Lit)) (bytes : List ℕ) → ShortFrom IsLong bytes → AreLinesOf IsPairLine bytes pairs body → All (IsPairOf g) pairs →
-      Behind IsPairLine (IsPairStep g) IsLong (λ n left. (n ≡ 0) × (left ≡ body)) pairs (length pairs) bytes
-  pairs_pass [] bytes short h known = (refl, h)
-  pairs_pass (p ∷ pairs) bytes short h known = (
+module _ (IsLong : List ℕ → Type 0) where
+  pairs_pass : (e : Extended) (body : List ℕ) (pairs : List (Lit × Lit)) (bytes : List ℕ) → ShortFrom IsLong bytes → AreLinesOf IsPairLine bytes pairs body → All (IsPairOf e) pairs →
+      Behind IsPairLine (IsPairStep e) IsLong (λ n left. (n ≡ 0) × (left ≡ body)) pairs (length pairs) bytes
+  pairs_pass e body [] bytes short h known = (refl, h)
+  pairs_pass e body (p ∷ pairs) bytes short h known = (
     h.0,
     length pairs,
     short bytes (start_here bytes),
     h.1,
-    (All-head (IsPairOf g) p pairs known, refl),
-    pairs_pass pairs h.0 (short_rest IsLong bytes h.1.0 h.0 h.1.2 short) h.2 (All-tail (IsPairOf g) p pairs known),
+    (All-head (IsPairOf e) p pairs known, refl),
+    pairs_pass e body pairs h.0 (short_rest IsLong bytes h.1.0 h.0 h.1.2 short) h.2 (All-tail (IsPairOf e) p pairs known),
   )
 
-  cut_passes : (cut : Option Cut) (bytes : List ℕ) → ShortFrom IsLong bytes → IsCutText bytes cut body → IsHeaderOf g cut → PassesCut g IsLong bytes cut body
-  cut_passes None bytes short h takes = (short bytes (start_here bytes), h)
-  cut_passes (Some cut) bytes short h takes =
-      (h.0, short bytes (start_here bytes), h.1, (takes.some, takes.columns), pairs_pass cut.pairs h.0 (short_rest IsLong bytes h.1.0 h.0 h.1.2 short) h.2 takes.known)
+  -- what is short is so behind lines
+  behind_short : (pairs : List (Lit × Lit)) (bytes after : List ℕ) → ShortFrom IsLong bytes → AreLinesOf IsPairLine bytes pairs after → ShortFrom IsLong after
+  behind_short [] bytes after short h = subst (ShortFrom IsLong) h short
+  behind_short (p ∷ pairs) bytes after short h = behind_short pairs h.0 after (short_rest IsLong bytes h.1.0 h.0 h.1.2 short) h.2
 
-pub written_headers_pass : WrittenHeadersPass
-written_headers_pass g lengths cut lines writable takes within =
-    let bytes = file_text cut lines in
-    let rest = cut_text cut ++ lines_text lines in
-    let version : bytes ≡ version_line ++ rest = append_assoc version_line (cut_text cut) (lines_text lines) in
-    let short = within_short lengths bytes within in
-    let behind = short_rest (IsTooLong lengths (length bytes)) bytes (codes "joined 1") rest version short in
-    record {
+  cut_passes : (g : Aig) (cut : Option Cut) (bytes body : List ℕ) → ShortFrom IsLong bytes → IsCutText bytes cut body → IsCutOf g cut → PassesCut g IsLong bytes cut body
+  cut_passes g None bytes body short h takes = (short bytes (start_here bytes), h)
+  cut_passes g (Some cut) bytes body short h takes =
+      (h.0, short bytes (start_here bytes), h.1, (takes.some, takes.columns), pairs_pass (without_cut g) body cut.pairs h.0 (short_rest IsLong bytes h.1.0 h.0 h.1.2 short) h.2 takes.known)
+
+  blocks_pass : (e : Extended) (blocks : List Block) (bytes body : List ℕ) → ShortFrom IsLong bytes → AreBlockTexts bytes blocks body → AreBlocks e blocks → PassBlocks IsLong e bytes blocks body
+  blocks_pass e [] bytes body short h fit = h
+  blocks_pass e (b ∷ blocks) bytes body short h fit =
+      let rest = short_rest IsLong bytes h.2.0 h.0 h.2.2 short in
+      let room : IsHeadOf e (head_of b) = record { some = fit.0.some; within = fit.0.within; apart = fit.0.apart } in (
+        h.1,
+        (h.0, short bytes (start_here bytes), h.2, room, pairs_pass e h.1 b.cut.pairs h.0 rest h.3 fit.0.known),
+        blocks_pass (graft_block e b) blocks h.1 body (behind_short b.cut.pairs h.0 h.1 rest h.3) h.4 fit.1,
+      )
+
+  count_passes : (g : Aig) (blocks : List Block) (bytes body : List ℕ) → ShortFrom IsLong bytes → IsBlocksText bytes blocks body → length blocks ≤ length g.outputs → AreBlocks (without_cut g) blocks → PassesCount g IsLong bytes blocks body
+  count_passes g blocks bytes body short h few fit =
+      (h.0, short bytes (start_here bytes), h.1, few, blocks_pass (without_cut g) blocks h.0 body (short_rest IsLong bytes h.1.0 h.0 h.1.2 short) h.2 fit)
+
+-- no blocks are those of two cuts
+one_cut : (outputs : ℕ) (c d : Option Cut) → cut_blocks outputs c ≡ cut_blocks outputs d → c ≡ d
+one_cut outputs None None e = refl
+one_cut outputs None (Some d) e = absurd (cc)
+one_cut outputs (Some c) None e = absurd (cc)
+one_cut outputs (Some c) (Some d) e = ap cut_in e
+  where
+    cut_in : List Block → Option Cut
+    cut_in [] = None
+    cut_in (b ∷ blocks) = Some b.cut
+
+pub header_passes : (g : Aig) (lengths : Lengths) (bytes : List ℕ) (h : Header) (body : List ℕ) → IsHeaderOf g h → IsAnyHeaderText (length g.outputs) bytes h body → ShortFrom (IsTooLong lengths (length bytes)) bytes → PassesAnyHeader g lengths bytes h body
+header_passes g lengths bytes h body takes text short =
+    ⊎_elim (λ t. ⊎_elim (λ a. inl (t.0, (t.1.0, t.1.1, first t.1.0 t.1.2 (subst (IsCutOf g) (one_cut (length g.outputs) a.1.0 t.1.0 (sym a.1.1 ∙ t.1.1)) a.1.2)))) (λ b. absurd (differ t.0 b.0)) takes)
+    (λ t. ⊎_elim (λ a. absurd (differ a.0 t.0)) (λ b. inr (t.0, second t.1.0 t.1.1 t.1.2 b.1 b.2)) takes) text
+  where
+    differ : h.version ≡ 1 → h.version ≡ 2 → ⊥
+    differ e f = omega arith
+
+    first : (cut : Option Cut) → IsHeaderText bytes cut body → IsCutOf g cut → PassesHeader g lengths bytes cut body
+    first cut t fits = record {
+      rest = t.0;
+      short = short bytes (start_here bytes);
+      version = t.2;
+      cut_passes = cut_passes (IsTooLong lengths (length bytes)) g cut t.0 body (short_rest (IsTooLong lengths (length bytes)) bytes (codes "joined 1") t.0 t.2 short) t.1 fits;
+    }
+
+    second : (rest : List ℕ) → IsBlocksText rest h.blocks body → bytes ≡ second_line ++ rest → length h.blocks ≤ length g.outputs → AreBlocks (without_cut g) h.blocks → PassesBlocks g lengths bytes h.blocks body
+    second rest t is few fit = record {
       rest = rest;
       short = short bytes (start_here bytes);
-      version = version;
-      cut_passes = cut_passes g (IsTooLong lengths (length bytes)) (lines_text lines) cut rest behind (cut_written cut (lines_text lines) writable) takes;
+      version = is;
+      blocks_pass = count_passes (IsTooLong lengths (length bytes)) g h.blocks rest body (short_rest (IsTooLong lengths (length bytes)) bytes (codes "joined 2") rest is short) t few fit;
     }
+
+pub written_headers_pass : WrittenHeadersPass
+written_headers_pass g lengths h lines built takes within =
+    header_passes g lengths (any_file_text h lines) h (lines_text lines) takes (header_written g h (lines_text lines) built takes) (within_short lengths (any_file_text h lines) within)
 
 -- ---- what passes isn't refused
 
-module _ (g : Aig) (IsLong : List ℕ → Type 0) (body : List ℕ) (p : ℕ × LineCause) where
-  abbrev Ends : ℕ → List ℕ → Type 0
-  Ends n left = (n ≡ 0) × (left ≡ body)
+-- something is refused later
+abbrev IsLater : Later → Extended → List ℕ → ℕ × LineCause → Type 0
+IsLater later e body p = (n : ℕ) × later e n body p
 
-  pair_not_refused : (bytes rest : List ℕ) (x : Lit × Lit) (c : LineCause) → ¬ (IsLong bytes) → BeginsWith IsPairLine bytes x rest → IsPairOf g x → IsRefusedPair g IsLong bytes c → ⊥
-  pair_not_refused bytes rest x c short begins known refused =
+module _ (IsLong : List ℕ → Type 0) (p : ℕ × LineCause) where
+  pair_not_refused : (e : Extended) (bytes rest : List ℕ) (x : Lit × Lit) (c : LineCause) → ¬ (IsLong bytes) → BeginsWith IsPairLine bytes x rest → IsPairOf e x → IsRefusedPair e IsLong bytes c → ⊥
+  pair_not_refused e bytes rest x c short begins known refused =
       ⊎_elim (λ l. short l.0)
       (λ t. ⊎_elim (λ none. none.0 x rest begins)
-      (λ q. ⊎_elim (λ out. out.0 (subst (IsPairOf g) (same_pair bytes x q.0 rest q.1 begins q.2).0 known)) (λ never. never.1) q.3) t.1) refused
+      (λ q. ⊎_elim (λ out. out.0 (subst (IsPairOf e) (same_pair bytes x q.0 rest q.1 begins q.2).0 known)) (λ never. never.1) q.3) t.1) refused
 
-  here_refused : (lo : ℕ) (all : List (Lit × Lit)) (n left : ℕ) (bytes rest : List ℕ) (x : Lit × Lit) → left ≡ suc n → ¬ (IsLong bytes) → BeginsWith IsPairLine bytes x rest → IsPairOf g x → IsRefusedBehindPairs nothing_later g IsLong lo all left bytes p → ⊥
-  here_refused lo all n zero bytes rest x e short begins known refused = refused
-  here_refused lo all n (suc left) bytes rest x e short begins known refused = pair_not_refused bytes rest x refused.0 short begins known refused.1
+  module _ (later : Later) (made : List (Lit × Lit) → Extended) (e : Extended) (number : ℕ) (body : List ℕ) where
+    abbrev Ends : ℕ → List ℕ → Type 0
+    Ends n left = (n ≡ 0) × (left ≡ body)
 
-  end_not_refused : (lo : ℕ) (all : List (Lit × Lit)) (left : ℕ) (bytes : List ℕ) → left ≡ 0 → IsRefusedBehindPairs nothing_later g IsLong lo all left bytes p → ⊥
-  end_not_refused lo all zero bytes e refused = refused
-  end_not_refused lo all (suc left) bytes e refused = absurd (omega (arith, e))
+    abbrev Refused : List (Lit × Lit) → ℕ → List ℕ → Type 0
+    Refused all left rest = IsRefusedBehindPairs later made e IsLong number all left rest p
 
-  pairs_not_refused : (lo : ℕ) (all xs ys : List (Lit × Lit)) (count : ℕ) (bytes : List ℕ) → Behind IsPairLine (IsPairStep g) IsLong Ends xs count bytes →
-      Behind IsPairLine (IsPairStep g) IsLong (λ left rest. IsRefusedBehindPairs nothing_later g IsLong lo all left rest p) ys count bytes → ⊥
-  pairs_not_refused lo all [] [] count bytes h i = end_not_refused lo all count bytes h.0 i
-  pairs_not_refused lo all [] (y ∷ ys) count bytes h i = let none = h.0 in let some = i.4.1 in absurd (omega arith)
-  pairs_not_refused lo all (x ∷ xs) [] count bytes h i = here_refused lo all h.1 count bytes h.0 x h.4.1 h.2 h.3 h.4.0 i
-  pairs_not_refused lo all (x ∷ xs) (y ∷ ys) count bytes h i =
-      let rest = (same_pair bytes x y h.0 i.0 h.3 i.3).1 in
-      let one = h.4.1 in
-      let two = i.4.1 in
-      let next : h.1 ≡ i.1 = omega arith in
-      pairs_not_refused lo all xs ys i.1 i.0 (subst (λ z. Behind IsPairLine (IsPairStep g) IsLong Ends xs i.1 z) rest (subst (λ n. Behind IsPairLine (IsPairStep g) IsLong Ends xs n h.0) next h.5)) i.5
+    here_refused : (all : List (Lit × Lit)) (n left : ℕ) (bytes rest : List ℕ) (x : Lit × Lit) → left ≡ suc n → ¬ (IsLong bytes) → BeginsWith IsPairLine bytes x rest → IsPairOf e x → Refused all left bytes → ⊥
+    here_refused all n zero bytes rest x is short begins known refused = absurd (omega (arith, is))
+    here_refused all n (suc left) bytes rest x is short begins known refused = pair_not_refused e bytes rest x refused.0 short begins known refused.1
 
-  behind_none : (c : Option (ℕ × ℕ)) (rest : List ℕ) → None ≡ c → IsRefusedBehindCut nothing_later g IsLong c rest p → ⊥
-  behind_none None rest e refused = refused
-  behind_none (Some n) rest e refused = absurd (cc)
+    end_refused : (all : List (Lit × Lit)) (left : ℕ) (bytes : List ℕ) → left ≡ 0 → bytes ≡ body → Refused all left bytes → IsLater later (made all) body p
+    end_refused all zero bytes is same refused = (number + length all, subst (λ z. later (made all) (number + length all) z p) same refused)
+    end_refused all (suc left) bytes is same refused = absurd (omega (arith, is))
 
-  behind_some : (n : ℕ × ℕ) (c : Option (ℕ × ℕ)) (rest : List ℕ) → Some n ≡ c → IsCutSize (length g.outputs) n → ((pairs : List (Lit × Lit)) → Behind IsPairLine (IsPairStep g) IsLong (λ left after. IsRefusedBehindPairs nothing_later g IsLong n.0 pairs left after p) pairs n.1 rest → ⊥) →
-      IsRefusedBehindCut nothing_later g IsLong c rest p → ⊥
-  behind_some n c rest e size pairs refused = ⊎_elim (λ out. out.0 size) (λ r. pairs r.1.0 r.1.1) (subst (λ o. IsRefusedBehindCut nothing_later g IsLong o rest p) (sym e) refused)
+    pairs_passed : (all xs ys : List (Lit × Lit)) (count : ℕ) (bytes : List ℕ) → Behind IsPairLine (IsPairStep e) IsLong Ends xs count bytes → Behind IsPairLine (IsPairStep e) IsLong (Refused all) ys count bytes →
+        (ys ≡ xs) × IsLater later (made all) body p
+    pairs_passed all [] [] count bytes h i = (refl, end_refused all count bytes h.0 h.1 i)
+    pairs_passed all [] (y ∷ ys) count bytes h i = let none = h.0 in let some = i.4.1 in absurd (omega arith)
+    pairs_passed all (x ∷ xs) [] count bytes h i = absurd (here_refused all h.1 count bytes h.0 x h.4.1 h.2 h.3 h.4.0 i)
+    pairs_passed all (x ∷ xs) (y ∷ ys) count bytes h i =
+        let same = same_pair bytes x y h.0 i.0 h.3 i.3 in
+        let one = h.4.1 in
+        let two = i.4.1 in
+        let next : h.1 ≡ i.1 = omega arith in
+        let more = pairs_passed all xs ys i.1 i.0 (subst (λ z. Behind IsPairLine (IsPairStep e) IsLong Ends xs i.1 z) same.1 (subst (λ n. Behind IsPairLine (IsPairStep e) IsLong Ends xs n h.0) next h.5)) i.5 in
+        (ap₂ ◌∷◌ (sym same.0) more.0, more.1)
 
-  cut_not_refused : (cut : Option Cut) (bytes : List ℕ) → PassesCut g IsLong bytes cut body → IsRefusedCut nothing_later g IsLong bytes p → ⊥
-  cut_not_refused None bytes h refused =
-      ⊎_elim (λ l. h.0 l.0) (λ t. ⊎_elim (λ none. none.0 None body h.1) (λ c. behind_none c.0 c.1 (same_size bytes None c.0 body c.1 h.1 c.2).0 c.3) t.1) refused
-  cut_not_refused (Some cut) bytes h refused =
-      let n : ℕ × ℕ = (cut.lo, length cut.pairs) in
-      ⊎_elim (λ l. h.1 l.0)
-      (λ t. ⊎_elim (λ none. none.0 (Some n) h.0 h.2)
+    -- so many pairs pass, and what is refused is so behind them
+    pub behind_pairs : (pairs : List (Lit × Lit)) (count : ℕ) (bytes rest : List ℕ) → bytes ≡ rest → Behind IsPairLine (IsPairStep e) IsLong Ends pairs count bytes → IsRefusedPairs later made e IsLong number count rest p → IsLater later (made pairs) body p
+    behind_pairs pairs count bytes rest same h refused =
+        let t = pairs_passed refused.0 pairs refused.0 count rest (subst (λ z. Behind IsPairLine (IsPairStep e) IsLong Ends pairs count z) same h) refused.1 in
+        subst (λ ps. IsLater later (made ps) body p) t.0 t.1
+
+  -- ---- a cut, and blocks
+
+  module _ (later : Later) (g : Aig) (body : List ℕ) where
+    behind_none : (c : Option (ℕ × ℕ)) (rest : List ℕ) → None ≡ c → body ≡ rest → IsRefusedBehindCut later g IsLong c rest p → IsLater later (without_cut g) body p
+    behind_none None rest is same refused = (3, subst (λ z. later (without_cut g) 3 z p) (sym same) refused)
+    behind_none (Some n) rest is same refused = absurd (cc)
+
+    behind_some : (n : ℕ × ℕ) (c : Option (ℕ × ℕ)) (rest : List ℕ) → Some n ≡ c → IsCutSize (length g.outputs) n → IsRefusedBehindCut later g IsLong c rest p → IsRefusedPairs later (cut_at g n.0) (without_cut g) IsLong 3 n.1 rest p
+    behind_some n c rest is size refused = ⊎_elim (λ out. absurd (out.0 size)) (λ r. r.1) (subst (λ o. IsRefusedBehindCut later g IsLong o rest p) (sym is) refused)
+
+    pub behind_cut : (cut : Option Cut) (bytes : List ℕ) → PassesCut g IsLong bytes cut body → IsRefusedCut later g IsLong bytes p → IsLater later (with_blocks g (cut_blocks (length g.outputs) cut)) body p
+    behind_cut None bytes h refused =
+        ⊎_elim (λ l. absurd (h.0 l.0)) (λ t. ⊎_elim (λ none. absurd (none.0 None body h.1)) (λ c. let same = same_size bytes None c.0 body c.1 h.1 c.2 in behind_none c.0 c.1 same.0 same.1 c.3) t.1) refused
+    behind_cut (Some cut) bytes h refused =
+        let n : ℕ × ℕ = (cut.lo, length cut.pairs) in
+        ⊎_elim (λ l. absurd (h.1 l.0))
+        (λ t. ⊎_elim (λ none. absurd (none.0 (Some n) h.0 h.2))
+        (λ c.
+        let same = same_size bytes (Some n) c.0 h.0 c.1 h.2 c.2 in
+        behind_pairs later (cut_at g cut.lo) (without_cut g) 3 body cut.pairs (length cut.pairs) h.0 c.1 same.1 h.4 (behind_some n c.0 c.1 same.0 h.3 c.3))
+        t.1)
+        refused
+
+  module _ (later : Later) (e : Extended) (number : ℕ) (b : Block) (bytes body : List ℕ) (h : PassesBlock IsLong e bytes b body) where
+    behind_head : (d : ℕ × ℕ × Bool) (rest : List ℕ) → head_of b ≡ d → h.0 ≡ rest → IsRefusedPairs later (block_at e d) e IsLong (number + 1) d.1 rest p → IsLater later (graft_block e b) body p
+    behind_head d rest is same refused =
+        behind_pairs later (block_at e (head_of b)) e (number + 1) body b.cut.pairs (length b.cut.pairs) h.0 rest same h.4
+        (subst (λ (k : ℕ × ℕ × Bool). IsRefusedPairs later (block_at e k) e IsLong (number + 1) k.1 rest p) (sym is) refused)
+
+    pub behind_block : IsRefusedBlock later IsLong e number bytes p → IsLater later (graft_block e b) body p
+    behind_block refused =
+        ⊎_elim (λ l. absurd (h.1 l.0))
+        (λ t. ⊎_elim (λ none. absurd (none.0 (head_of b) h.0 h.2))
+        (λ c.
+        let same = same_head bytes (head_of b) c.0 h.0 c.1 h.2 c.2 in
+        ⊎_elim (λ out. absurd (out.0 (subst (IsHeadOf e) same.0 h.3))) (λ r. behind_head c.0 c.1 same.0 same.1 r.1) c.3)
+        t.1)
+        refused
+
+  pub behind_blocks : (later : Later) (e : Extended) (number : ℕ) (blocks : List Block) (bytes body : List ℕ) → PassBlocks IsLong e bytes blocks body → IsRefusedBlocks later IsLong (length blocks) e number bytes p → IsLater later (graft_all e blocks) body p
+  behind_blocks later e number [] bytes body h refused = (number, subst (λ z. later e number z p) h refused)
+  behind_blocks later e number (b ∷ blocks) bytes body h refused =
+      let more = behind_block (IsRefusedBlocks later IsLong (length blocks)) e number b bytes h.0 h.1 refused in
+      behind_blocks later (graft_block e b) more.0 blocks h.0 body h.2 more.1
+
+  pub behind_count : (later : Later) (g : Aig) (blocks : List Block) (bytes body : List ℕ) → PassesCount g IsLong bytes blocks body → IsRefusedCount later g IsLong bytes p → IsLater later (with_blocks g blocks) body p
+  behind_count later g blocks bytes body h refused =
+      ⊎_elim (λ l. absurd (h.1 l.0))
+      (λ t. ⊎_elim (λ none. absurd (none.0 (length blocks) h.0 h.2))
       (λ c.
-      let same = same_size bytes (Some n) c.0 h.0 c.1 h.2 c.2 in
-      behind_some n c.0 c.1 same.0 h.3 (λ pairs r. pairs_not_refused cut.lo pairs cut.pairs pairs (length cut.pairs) h.0 h.4 (subst (λ z. Behind IsPairLine (IsPairStep g) IsLong (λ left after. IsRefusedBehindPairs nothing_later g IsLong cut.lo pairs left after p) pairs (length cut.pairs) z) (sym same.1) r)) c.3)
+      let same = same_count bytes (length blocks) c.0 h.0 c.1 h.2 c.2 in
+      ⊎_elim (λ out. absurd (out.0 (subst (IsCountInRange (length g.outputs)) same.0 h.3)))
+      (λ r. behind_blocks later (without_cut g) 3 blocks h.0 body h.4
+      (subst (λ z. IsRefusedBlocks later IsLong (length blocks) (without_cut g) 3 z p) (sym same.1) (subst (λ n. IsRefusedBlocks later IsLong n (without_cut g) 3 c.1 p) (sym same.0) r.1))) c.3)
       t.1)
       refused
 
+-- ---- the whole header
+
+module _ (g : Aig) (lengths : Lengths) (bytes : List ℕ) (p : ℕ × LineCause) where
+  abbrev IsLong : List ℕ → Type 0
+  IsLong = IsTooLong lengths (length bytes)
+
+  first_not_refused : (cut : Option Cut) (body : List ℕ) → PassesHeader g lengths bytes cut body → IsHeaderRefusal g lengths bytes p → ⊥
+  first_not_refused cut body h refused =
+      ⊎_elim (λ l. h.short l.0)
+      (λ t. ⊎_elim (λ none. none.0.0 h.rest h.version)
+      (λ v. ⊎_elim
+      (λ c. (behind_cut IsLong p nothing_later g body cut h.rest h.cut_passes (subst (λ z. IsRefusedCut nothing_later g IsLong z p) (same_body c.0 h.rest (sym c.1 ∙ h.version)) c.2)).1)
+      (λ c. other_version h.rest c.0 (sym h.version ∙ c.1)) v) t.1)
+      refused
+
+  second_not_refused : (blocks : List Block) (body : List ℕ) → PassesBlocks g lengths bytes blocks body → IsHeaderRefusal g lengths bytes p → ⊥
+  second_not_refused blocks body h refused =
+      ⊎_elim (λ l. h.short l.0)
+      (λ t. ⊎_elim (λ none. none.0.1 h.rest h.version)
+      (λ v. ⊎_elim
+      (λ c. other_version c.0 h.rest (sym c.1 ∙ h.version))
+      (λ c. (behind_count IsLong p nothing_later g blocks h.rest body h.blocks_pass (subst (λ z. IsRefusedCount nothing_later g IsLong z p) (second_body c.0 h.rest (sym c.1 ∙ h.version)) c.2)).1) v) t.1)
+      refused
+
 pub passing_headers_are_not_refused : PassingHeadersAreNotRefused
-passing_headers_are_not_refused g lengths bytes cut body p h refused =
-    ⊎_elim (λ l. h.short l.0)
-    (λ t. ⊎_elim (λ none. none.0 h.rest h.version)
-    (λ c.
-    let same : c.0 ≡ h.rest = same_body c.0 h.rest (sym c.1 ∙ h.version) in
-    cut_not_refused g (IsTooLong lengths (length bytes)) body p cut h.rest h.cut_passes (subst (λ z. IsRefusedCut nothing_later g (IsTooLong lengths (length bytes)) z p) same c.2)) t.1)
-    refused
+passing_headers_are_not_refused g lengths bytes h body p passes refused =
+    ⊎_elim (λ a. first_not_refused g lengths bytes p a.1.0 body a.1.2 refused) (λ b. second_not_refused g lengths bytes p h.blocks body b.1 refused) passes

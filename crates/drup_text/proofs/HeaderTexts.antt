@@ -5,15 +5,14 @@ use Rattle.std.specs.declared.option.Option.TheVariants.{None, Some}
 use Rattle.std.specs.Option.{option_zip}
 use Rattle.std.proofs.Common.{refl, sym, ap, subst, ◌∙◌, arith, ⊎_elim}
 use Rattle.graph_core.specs.declared.literal.Lit.{Lit}
-use Rattle.graph_core.specs.Graph.Extended.{without_cut}
+use Rattle.graph_core.specs.Graph.Extended.{Extended}
 use Rattle.graph_core.specs.Graph.Literals.{variable_of}
-use Rattle.graph_core.specs.Graph.{Aig, IsBuilt}
 use Rattle.graph_core.specs.Text.Numerals.{◌>>=◌, number_at, front_at}
 use Rattle.graph_core.specs.Text.Readers.{Reader, behind_at, ended_at, map_at, text_at}
 use Rattle.graph_core.proofs.OfGraphs.CallerLemmas.{input_in_range}
 use Rattle.mv_desk.specs.declared.faults.LineFail.{LineFail}
 use Rattle.mv_text.specs.Steps.{Gives, IsMisfit, Takes, begins}
-use Rattle.ripple_graft.specs.Extension.{IsKnown}
+use Rattle.ripple_graft.specs.Extension.{IsExtension, IsKnown, whole}
 use Rattle.ripple_graft.proofs.KnownLiterals.{defined_is}
 use Rattle.drup_text.specs.ClauseReading.{cut_line_at, lits, pair_line_at, some_cut, two_at}
 use Rattle.drup_text.specs.ClauseTexts.{IsCutLine, IsPairLine}
@@ -102,14 +101,14 @@ size_none outputs old mid new at e h = record {
 
 -- ---- the line of a pair
 
--- a literal of the graph is at most the greatest one
-known_low : (g : Aig) (l : Lit) → IsBuilt g → IsKnown (without_cut g) l → l.0 ≤ 2 * g.max + 1
-known_low g l built known =
+-- a literal that is known is at most the greatest one
+pub known_low : (e : Extended) (l : Lit) → IsExtension e → IsKnown e l → l.0 ≤ 2 * e.max + 1
+known_low e l made known =
     ⊎_elim (λ none. omega (arith, none))
     (λ c. ⊎_elim
-    (λ a. let low = (input_in_range g built.well_formed a.1 (a.0, a.2, a.3)).0 in let same : variable_of a.1 ≡ variable_of l = a.4 in omega arith)
-    (λ b. let low = built.well_formed.gates_in_range b.0 b.1 b.2 in let same = ap (λ y. y.v) b.3 ∙ b.4 in omega arith)
-    ((defined_is g (variable_of l)).0 c))
+    (λ a. let low = (input_in_range e.graph made.graph a.1 (a.0, a.2, a.3)).0 in let room = made.room in let same : variable_of a.1 ≡ variable_of l = a.4 in omega arith)
+    (λ b. let low = made.gates_in_range b.0 b.1 b.2 in let same = ap (λ y. y.v) b.3 ∙ b.4 in omega arith)
+    ((defined_is (whole e) (variable_of l)).0 c))
     known
 
 pub pair_fails : (bytes : List ℕ) → two_at bytes ≡ None → pair_line_at bytes ≡ None
@@ -120,25 +119,25 @@ pair_read : (old new : List ℕ) (n : ℕ × ℕ) → two_at old ≡ Some (n, ne
 unfolding pair_line_at
 pair_read old new n h = taken_map lits two_at old new n h
 
-pub pair_some : (g : Aig) (most : ℕ) (old new : List ℕ) (n : ℕ × ℕ) → Takes two_at (AreUpTo most) IsSame old new (Some n) → IsPairOf g (lits n) → Takes pair_line_at (IsPairOf g) IsSame old new (Some (lits n))
-pair_some g most old new n h is = record {
+pub pair_some : (e : Extended) (most : ℕ) (old new : List ℕ) (n : ℕ × ℕ) → Takes two_at (AreUpTo most) IsSame old new (Some n) → IsPairOf e (lits n) → Takes pair_line_at (IsPairOf e) IsSame old new (Some (lits n))
+pair_some e most old new n h is = record {
   read = lits h.read;
   taken = pair_read old new h.read h.taken;
   gives = (rw h.gives.1 is, ap lits h.gives.1);
 }
 
-pub pair_other : (g : Aig) (most : ℕ) (old new : List ℕ) (n : ℕ × ℕ) → Takes two_at (AreUpTo most) IsSame old new (Some n) → ¬ (IsPairOf g (lits n)) → Takes pair_line_at (IsPairOf g) IsSame old new None
-pair_other g most old new n h other = record {
+pub pair_other : (e : Extended) (most : ℕ) (old new : List ℕ) (n : ℕ × ℕ) → Takes two_at (AreUpTo most) IsSame old new (Some n) → ¬ (IsPairOf e (lits n)) → Takes pair_line_at (IsPairOf e) IsSame old new None
+pair_other e most old new n h other = record {
   read = lits h.read;
   taken = pair_read old new h.read h.taken;
   gives = λ is. other (rw (sym h.gives.1) is);
 }
 
-pub pair_none : (g : Aig) (old new : List ℕ) → IsBuilt g → Takes two_at (AreUpTo (2 * g.max + 1)) IsSame old new None → Takes pair_line_at (IsPairOf g) IsSame old new None
-pair_none g old new built h = record {
+pub pair_none : (e : Extended) (old new : List ℕ) → IsExtension e → Takes two_at (AreUpTo (2 * e.max + 1)) IsSame old new None → Takes pair_line_at (IsPairOf e) IsSame old new None
+pair_none e old new made h = record {
   read = lits h.read;
   taken = pair_read old new h.read h.taken;
-  gives = λ is. h.gives (known_low g (lits h.read).0 built is.0, known_low g (lits h.read).1 built is.1);
+  gives = λ is. h.gives (known_low e (lits h.read).0 made is.0, known_low e (lits h.read).1 made is.1);
 }
 
 -- ---- whole texts
@@ -157,16 +156,16 @@ size_out outputs bytes rest given e f h = out_of_range reads_cut_line tt (IsSize
 pub size_misfit : (outputs : ℕ) (bytes : List ℕ) (f : LineFail) → IsMisfit (cut_line_at bytes ≡ None) f → IsRefusedText IsCutLine (IsSizeInRange outputs) bytes f
 size_misfit outputs bytes f h = misfit_refused {T = Option (ℕ × ℕ)} reads_cut_line tt (IsSizeInRange outputs) IsSame bytes f h
 
-pub pair_said : (g : Aig) (bytes rest : List ℕ) (given : Option (Lit × Lit)) (p : Lit × Lit) → rest ≡ [] → given ≡ Some p → Takes pair_line_at (IsPairOf g) IsSame bytes rest given → IsPairTextOf g bytes p
-pair_said g bytes rest given p e f h =
-    let s = said reads_pair_line tt (IsPairOf g) IsSame bytes rest given p e f h in
-    subst (IsPairTextOf g bytes) s.3 (s.1, s.2)
+pub pair_said : (x : Extended) (bytes rest : List ℕ) (given : Option (Lit × Lit)) (p : Lit × Lit) → rest ≡ [] → given ≡ Some p → Takes pair_line_at (IsPairOf x) IsSame bytes rest given → IsPairTextOf x bytes p
+pair_said x bytes rest given p e f h =
+    let s = said reads_pair_line tt (IsPairOf x) IsSame bytes rest given p e f h in
+    subst (IsPairTextOf x bytes) s.3 (s.1, s.2)
 
-pub pair_over : (g : Aig) (bytes rest : List ℕ) (given : Option (Lit × Lit)) → rest ≢ [] → Takes pair_line_at (IsPairOf g) IsSame bytes rest given → (p : Lit × Lit) → IsPairLine bytes p → ⊥
-pair_over g bytes rest given some h = left_over reads_pair_line tt (IsPairOf g) IsSame bytes rest given some h
+pub pair_over : (x : Extended) (bytes rest : List ℕ) (given : Option (Lit × Lit)) → rest ≢ [] → Takes pair_line_at (IsPairOf x) IsSame bytes rest given → (p : Lit × Lit) → IsPairLine bytes p → ⊥
+pair_over x bytes rest given some h = left_over reads_pair_line tt (IsPairOf x) IsSame bytes rest given some h
 
-pub pair_out : (g : Aig) (bytes rest : List ℕ) (given : Option (Lit × Lit)) → rest ≡ [] → given ≡ None → Takes pair_line_at (IsPairOf g) IsSame bytes rest given → (p : Lit × Lit) × IsPairLine bytes p × ¬ (IsPairOf g p)
-pair_out g bytes rest given e f h = out_of_range reads_pair_line tt (IsPairOf g) IsSame bytes rest given e f h
+pub pair_out : (x : Extended) (bytes rest : List ℕ) (given : Option (Lit × Lit)) → rest ≡ [] → given ≡ None → Takes pair_line_at (IsPairOf x) IsSame bytes rest given → (p : Lit × Lit) × IsPairLine bytes p × ¬ (IsPairOf x p)
+pair_out x bytes rest given e f h = out_of_range reads_pair_line tt (IsPairOf x) IsSame bytes rest given e f h
 
-pub pair_misfit : (g : Aig) (bytes : List ℕ) (f : LineFail) → IsMisfit (pair_line_at bytes ≡ None) f → IsRefusedText IsPairLine (IsPairOf g) bytes f
-pair_misfit g bytes f h = misfit_refused {T = Lit × Lit} reads_pair_line tt (IsPairOf g) IsSame bytes f h
+pub pair_misfit : (x : Extended) (bytes : List ℕ) (f : LineFail) → IsMisfit (pair_line_at bytes ≡ None) f → IsRefusedText IsPairLine (IsPairOf x) bytes f
+pair_misfit x bytes f h = misfit_refused {T = Lit × Lit} reads_pair_line tt (IsPairOf x) IsSame bytes f h

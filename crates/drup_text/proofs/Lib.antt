@@ -4,6 +4,9 @@ pub mod LineSteps
 pub mod HeaderTexts
 pub mod FileSteps
 pub mod HeaderSteps
+pub mod BlockTexts
+pub mod BlockSteps
+pub mod VersionSteps
 pub mod CallerLemmas
 pub mod WrittenLoops
 pub mod WrittenAgain

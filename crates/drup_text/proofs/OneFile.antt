@@ -1,21 +1,24 @@
 -- No text is two clause certificates.
-use Rattle.std.specs.Prelude.{◌≡◌, ℕ, List, [], ◌∷◌, ◌++◌, length}
+use Rattle.std.specs.Prelude.{◌≡◌, ℕ, Bool, List, [], ◌∷◌, ◌++◌, length}
 use Rattle.std.specs.declared.option.Option.{Option}
 use Rattle.std.specs.declared.option.Option.TheVariants.{None, Some}
-use Rattle.std.proofs.Common.{refl, sym, ap, ap₂, subst, ◌∙◌, arith}
+use Rattle.std.proofs.Common.{refl, sym, ap, ap₂, subst, ◌∙◌, arith, get_or, ⊎_elim}
 use Rattle.std.proofs.lemmas.Option.{same_Some}
 use Rattle.graph_core.specs.declared.literal.Lit.{Lit}
 use Rattle.graph_core.specs.Text.{newline}
 use Rattle.graph_core.specs.Text.JudgedLines.{BeginsWith}
 use Rattle.graph_core.specs.Text.Readers.{Anything, Ended, Reader, Reads, ended_at}
 use Rattle.graph_core.proofs.OfTexts.CallerLemmas.{one_line}
+use Rattle.ripple_graft.specs.declared.block.Block.{Block}
 use Rattle.ripple_graft.specs.declared.cut.Cut.{Cut}
+use Rattle.ripple_graft.specs.HeaderBlocks.{cut_blocks}
 use Rattle.clause_core.specs.ClauseLines.{ClauseLine}
-use Rattle.drup_text.specs.ClauseReading.{clause_line_at, cut_line_at, pair_line_at}
-use Rattle.drup_text.specs.ClauseTexts.{AreLinesOf, IsClauseLine, IsCutLine, IsPairLine}
-use Rattle.drup_text.specs.Headers.{IsCutText, version_line}
+use Rattle.drup_text.specs.ClauseReading.{block_line_at, clause_line_at, count_line_at, cut_line_at, pair_line_at}
+use Rattle.drup_text.specs.ClauseTexts.{AreLinesOf, IsBlockLine, IsClauseLine, IsCountLine, IsCutLine, IsPairLine}
+use Rattle.drup_text.specs.declared.head.Header.{Header}
+use Rattle.drup_text.specs.Headers.{AreBlockTexts, IsAnyHeaderText, IsBlocksText, IsCutText, IsHeaderText, head_of, second_line, version_line}
 use Rattle.drup_text.specs.WrittenLaws.{OneTextIsOneFile}
-use Rattle.drup_text.proofs.ClauseReading.{clause_item, cut_item, pair_item}
+use Rattle.drup_text.proofs.ClauseReading.{block_item, clause_item, count_item, cut_item, pair_item}
 use Rattle.drup_text.proofs.FileSteps.{some_left}
 
 abbrev NoStep : {Line : Type 0} → ℕ → Line → ℕ → Type 0
@@ -26,6 +29,12 @@ same_line IsText item r bytes x y rest more h i = one_line IsText NoStep (λ z. 
 
 pub same_size : (bytes : List ℕ) (x y : Option (ℕ × ℕ)) (rest more : List ℕ) → BeginsWith IsCutLine bytes x rest → BeginsWith IsCutLine bytes y more → (x ≡ y) × (rest ≡ more)
 same_size = same_line IsCutLine (ended_at cut_line_at (newline ∷ [])) cut_item
+
+pub same_count : (bytes : List ℕ) (x y : ℕ) (rest more : List ℕ) → BeginsWith IsCountLine bytes x rest → BeginsWith IsCountLine bytes y more → (x ≡ y) × (rest ≡ more)
+same_count = same_line IsCountLine (ended_at count_line_at (newline ∷ [])) count_item
+
+pub same_head : (bytes : List ℕ) (x y : ℕ × ℕ × Bool) (rest more : List ℕ) → BeginsWith IsBlockLine bytes x rest → BeginsWith IsBlockLine bytes y more → (x ≡ y) × (rest ≡ more)
+same_head = same_line IsBlockLine (ended_at block_line_at (newline ∷ [])) block_item
 
 pub same_pair : (bytes : List ℕ) (x y : Lit × Lit) (rest more : List ℕ) → BeginsWith IsPairLine bytes x rest → BeginsWith IsPairLine bytes y more → (x ≡ y) × (rest ≡ more)
 same_pair = same_line IsPairLine (ended_at pair_line_at (newline ∷ [])) pair_item
@@ -69,11 +78,59 @@ cut_one bytes (Some c) (Some d) a b h i =
     made : ℕ → List (Lit × Lit) → Cut
     made n ps = record { lo = n; pairs = ps }
 
+-- ---- blocks
+
+same_block : (x y : Block) → x.cut.lo ≡ y.cut.lo → x.cut.pairs ≡ y.cut.pairs → x.carry ≡ y.carry → x ≡ y
+same_block x y lo pairs carry = ap (λ n. made n x.cut.pairs x.carry) lo ∙ ap (λ ps. made y.cut.lo ps x.carry) pairs ∙ ap (made y.cut.lo y.cut.pairs) carry
+  where
+    made : ℕ → List (Lit × Lit) → Bool → Block
+    made n ps c = record { cut = record { lo = n; pairs = ps }; carry = c }
+
+blocks_one : (bytes : List ℕ) (xs ys : List Block) (a b : List ℕ) → length xs ≡ length ys → AreBlockTexts bytes xs a → AreBlockTexts bytes ys b → (xs ≡ ys) × (a ≡ b)
+blocks_one bytes [] [] a b e h i = (refl, sym h ∙ i)
+blocks_one bytes [] (y ∷ ys) a b e h i = absurd (omega arith)
+blocks_one bytes (x ∷ xs) [] a b e h i = absurd (omega arith)
+blocks_one bytes (x ∷ xs) (y ∷ ys) a b e h i =
+    let head = same_head bytes (head_of x) (head_of y) h.0 i.0 h.2 i.2 in
+    let pairs = pairs_one i.0 x.cut.pairs y.cut.pairs h.1 i.1 (ap (λ z. z.1) head.0) (subst (λ z. AreLinesOf IsPairLine z x.cut.pairs h.1) head.1 h.3) i.3 in
+    let more = blocks_one i.1 xs ys a b (omega arith) (subst (λ z. AreBlockTexts z xs a) pairs.1 h.4) i.4 in
+    (ap₂ ◌∷◌ (same_block x y (ap (λ z. z.0) head.0) pairs.0 (ap (λ z. z.2) head.0)) more.0, more.1)
+
+count_one : (bytes : List ℕ) (xs ys : List Block) (a b : List ℕ) → IsBlocksText bytes xs a → IsBlocksText bytes ys b → (xs ≡ ys) × (a ≡ b)
+count_one bytes xs ys a b h i =
+    let count = same_count bytes (length xs) (length ys) h.0 i.0 h.1 i.1 in
+    blocks_one i.0 xs ys a b count.0 (subst (λ z. AreBlockTexts z xs a) count.1 h.2) i.2
+
+-- ---- whole files
+
 pub same_body : (x y : List ℕ) → version_line ++ x ≡ version_line ++ y → x ≡ y
 same_body x y e = cc
 
+pub second_body : (x y : List ℕ) → second_line ++ x ≡ second_line ++ y → x ≡ y
+second_body x y e = cc
+
+pub other_version : (x y : List ℕ) → version_line ++ x ≡ second_line ++ y → ⊥
+other_version x y e = let other : ◌≡◌ {A = ℕ} 49 50 = ap (λ (z : List ℕ). get_or z 7 0) e in absurd (omega arith)
+
+abbrev header : ℕ → List Block → Header
+header version blocks = record { version = version; blocks = blocks }
+
+header_one : (outputs : ℕ) (bytes : List ℕ) (h k : Header) (a b : List ℕ) → IsAnyHeaderText outputs bytes h a → IsAnyHeaderText outputs bytes k b → (h ≡ k) × (a ≡ b)
+header_one outputs bytes h k a b i j =
+    ⊎_elim (λ p. ⊎_elim (λ q. firsts p.0 q.0 p.1.0 q.1.0 p.1.1 q.1.1 p.1.2 q.1.2) (λ q. absurd (other_version p.1.2.0 q.1.0 (sym p.1.2.2 ∙ q.1.2))) j)
+    (λ p. ⊎_elim (λ q. absurd (other_version q.1.2.0 p.1.0 (sym q.1.2.2 ∙ p.1.2))) (λ q. seconds p.0 q.0 p.1.0 q.1.0 p.1.1 q.1.1 p.1.2 q.1.2) j) i
+  where
+    firsts : h.version ≡ 1 → k.version ≡ 1 → (c d : Option Cut) → h.blocks ≡ cut_blocks outputs c → k.blocks ≡ cut_blocks outputs d → IsHeaderText bytes c a → IsHeaderText bytes d b → (h ≡ k) × (a ≡ b)
+    firsts one first c d cs ds p q =
+        let same = cut_one q.0 c d a b (subst (λ z. IsCutText z c a) (same_body p.0 q.0 (sym p.2 ∙ q.2)) p.1) q.1 in
+        (ap₂ header (one ∙ sym first) (cs ∙ ap (cut_blocks outputs) same.0 ∙ sym ds), same.1)
+
+    seconds : h.version ≡ 2 → k.version ≡ 2 → (x y : List ℕ) → IsBlocksText x h.blocks a → IsBlocksText y k.blocks b → bytes ≡ second_line ++ x → bytes ≡ second_line ++ y → (h ≡ k) × (a ≡ b)
+    seconds two second x y p q e f =
+        let same = count_one y h.blocks k.blocks a b (subst (λ z. IsBlocksText z h.blocks a) (second_body x y (sym e ∙ f)) p) q in
+        (ap₂ header (two ∙ sym second) same.0, same.1)
+
 pub one_text_is_one_file : OneTextIsOneFile
-one_text_is_one_file bytes c d xs ys h i =
-    let header = same_body h.1.0 i.1.0 (sym h.1.2 ∙ i.1.2) in
-    let cut = cut_one i.1.0 c d h.0 i.0 (subst (λ z. IsCutText z c h.0) header h.1.1) i.1.1 in
-    (cut.0, lines_one i.0 xs ys (subst (λ z. AreLinesOf IsClauseLine z xs []) cut.1 h.2) i.2)
+one_text_is_one_file outputs bytes h k xs ys i j =
+    let same = header_one outputs bytes h k i.0 j.0 i.1 j.1 in
+    (same.0, lines_one j.0 xs ys (subst (λ z. AreLinesOf IsClauseLine z xs []) same.1 i.2) j.2)

@@ -1,24 +1,34 @@
 -- What is written is read as the same.
-use Rattle.std.specs.Prelude.{◌≡◌, ◌<◌, ◌^◌, ℕ, zero, suc, ℤ, pos, negsuc, List, [], ◌∷◌, ◌++◌, codes, decimal, length, get_or}
+use Rattle.std.specs.Prelude.{◌≡◌, ◌==◌, ◌<◌, ◌^◌, ℕ, zero, suc, ℤ, pos, negsuc, cond, List, [], ◌∷◌, ◌++◌, codes, decimal, length, get_or}
 use Rattle.std.specs.Fmt.{signed_decimal}
 use Rattle.std.specs.List.{All}
 use Rattle.std.specs.declared.option.Option.{Option}
 use Rattle.std.specs.declared.option.Option.TheVariants.{None, Some}
-use Rattle.std.proofs.Common.{refl, arith, append_assoc}
+use Rattle.std.proofs.Common.{refl, ap, ◌∙◌, arith, append_assoc, inl, inr, ⊎_elim}
 use Rattle.std.proofs.lemmas.Fmt.{first_decimal, length-decimal-le_wide}
 use Rattle.std.proofs.lemmas.List.Elements.{All-head, All-tail}
 use Rattle.mv_nums.proofs.Decimal.{shown_is_numeral}
 use Rattle.graph_core.specs.declared.literal.Lit.{Lit}
 use Rattle.graph_core.specs.Text.{IsNumeral, newline}
+use Rattle.graph_core.specs.Graph.Extended.{Extended, without_cut}
+use Rattle.graph_core.specs.Graph.{Aig, IsBuilt}
+use Rattle.ripple_graft.specs.declared.block.Block.{Block}
 use Rattle.ripple_graft.specs.declared.cut.Cut.{Cut}
+use Rattle.ripple_graft.specs.Blocks.{AreBlocks, block_of, graft_block}
+use Rattle.ripple_graft.specs.Grafts.{IsGrafted}
+use Rattle.ripple_graft.specs.HeaderBlocks.{IsCutOf, cut_blocks}
+use Rattle.ripple_graft.proofs.BlockLists.{cut_is_block}
+use Rattle.ripple_graft.proofs.GraftedGraphs.{blocks_few, grafted_more, grafted_none}
 use Rattle.clause_core.specs.Clause.{Clause, IsLiteral}
 use Rattle.clause_core.specs.ClauseLines.{ClauseLine}
 use Rattle.clause_core.specs.declared.line.Line.TheVariants.{Add, Delete}
 use Rattle.drup_text.specs.ClauseTexts.{AreLinesOf, IsClauseLine, IsClauseText, IsLiteralText, IsPairLine, IsVariableText}
-use Rattle.drup_text.specs.Headers.{IsCutText, version_line}
+use Rattle.drup_text.specs.declared.head.Header.{Header}
+use Rattle.drup_text.specs.Headers.{AreBlockTexts, IsAnyHeaderText, IsBlocksText, IsCutText, IsHeaderOf, second_line, version_line}
 use Rattle.drup_text.specs.LineTexts.{IsLineOf}
-use Rattle.drup_text.specs.WrittenLaws.{IsWritable, IsWritableLine, WrittenFilesAreRead, WrittenLinesAreRead}
-use Rattle.drup_text.specs.WrittenTexts.{clause_text, cut_text, line_text, lines_text, pairs_text, two_text}
+use Rattle.drup_text.specs.WrittenLaws.{IsWritableLine, WrittenFilesAreRead, WrittenLinesAreRead}
+use Rattle.drup_text.specs.WrittenTexts.{block_text, blocks_text, clause_text, count_text, cut_text, first_cut, head_text, header_text, line_text, lines_text, pairs_text, two_text}
+use Rattle.drup_text.proofs.Writable.{IsWord, block_is_writable}
 
 -- ---- numbers
 
@@ -58,10 +68,7 @@ lines_written (x ∷ xs) h = (lines_text xs, (line_text x, line_written x (All-h
 
 -- ---- headers
 
-abbrev IsWord : Lit × Lit → Type 0
-IsWord p = (p.0.0 < 2 ^ 32) × (p.1.0 < 2 ^ 32)
-
-pub pairs_written : (pairs : List (Lit × Lit)) (after : List ℕ) → All IsWord pairs → AreLinesOf IsPairLine (pairs_text pairs ++ after) pairs after
+pairs_written : (pairs : List (Lit × Lit)) (after : List ℕ) → All IsWord pairs → AreLinesOf IsPairLine (pairs_text pairs ++ after) pairs after
 pairs_written [] after h = refl
 pairs_written (p ∷ pairs) after h =
     let here = All-head IsWord p pairs h in (
@@ -70,21 +77,61 @@ pairs_written (p ∷ pairs) after h =
       pairs_written pairs after (All-tail IsWord p pairs h),
     )
 
-pub cut_written : (cut : Option Cut) (after : List ℕ) → IsWritable cut → IsCutText (cut_text cut ++ after) cut after
-cut_written None after h = (codes "none", refl, refl)
-cut_written (Some cut) after h = (
-  pairs_text cut.pairs ++ after,
-  (
-    codes "replace " ++ two_text cut.lo (length cut.pairs),
-    (decimal cut.lo, decimal (length cut.pairs), numeral cut.lo h.0, numeral (length cut.pairs) h.1, refl),
-    append_assoc (codes "replace " ++ two_text cut.lo (length cut.pairs)) (newline ∷ pairs_text cut.pairs) after,
-  ),
-  pairs_written cut.pairs after h.2,
-)
+cut_written : (g : Aig) (cut : Option Cut) (after : List ℕ) → IsBuilt g → IsCutOf g cut → IsCutText (cut_text cut ++ after) cut after
+cut_written g None after built takes = (codes "none", refl, refl)
+cut_written g (Some cut) after built takes =
+    let w = block_is_writable g (without_cut g) (block_of (length g.outputs) cut) built (grafted_none g) (cut_is_block g cut takes) in (
+      pairs_text cut.pairs ++ after,
+      (
+        codes "replace " ++ two_text cut.lo (length cut.pairs),
+        (decimal cut.lo, decimal (length cut.pairs), numeral cut.lo w.lo, numeral (length cut.pairs) w.count, refl),
+        append_assoc (codes "replace " ++ two_text cut.lo (length cut.pairs)) (newline ∷ pairs_text cut.pairs) after,
+      ),
+      pairs_written cut.pairs after w.pairs,
+    )
+
+blocks_written : (g : Aig) (e : Extended) (blocks : List Block) (after : List ℕ) → IsBuilt g → IsGrafted g e → AreBlocks e blocks → AreBlockTexts (blocks_text blocks ++ after) blocks after
+blocks_written g e [] after built made fit = refl
+blocks_written g e (b ∷ blocks) after built made fit =
+    let w = block_is_writable g e b built made fit.0 in (
+      pairs_text b.cut.pairs ++ (blocks_text blocks ++ after),
+      blocks_text blocks ++ after,
+      (
+        head_text b,
+        (decimal b.cut.lo, decimal (length b.cut.pairs), numeral b.cut.lo w.lo, numeral (length b.cut.pairs) w.count, refl),
+        append_assoc (block_text b) (blocks_text blocks) after ∙ append_assoc (head_text b) (newline ∷ pairs_text b.cut.pairs) (blocks_text blocks ++ after),
+      ),
+      pairs_written b.cut.pairs (blocks_text blocks ++ after) w.pairs,
+      blocks_written g (graft_block e b) blocks after built (grafted_more g e b made fit.0) fit.1,
+    )
+
+count_written : (g : Aig) (blocks : List Block) (after : List ℕ) → IsBuilt g → AreBlocks (without_cut g) blocks → IsBlocksText (count_text blocks ++ after) blocks after
+count_written g blocks after built fit =
+    let few = blocks_few g blocks built fit in (
+      blocks_text blocks ++ after,
+      (codes "cuts " ++ decimal (length blocks), (decimal (length blocks), numeral (length blocks) (omega arith), refl), append_assoc (codes "cuts " ++ decimal (length blocks)) (newline ∷ blocks_text blocks) after),
+      blocks_written g (without_cut g) blocks after built (grafted_none g) fit,
+    )
+
+first_of : (outputs : ℕ) (cut : Option Cut) → first_cut (cut_blocks outputs cut) ≡ cut
+first_of outputs None = refl
+first_of outputs (Some cut) = refl
+
+pub header_written : (g : Aig) (h : Header) (after : List ℕ) → IsBuilt g → IsHeaderOf g h → IsAnyHeaderText (length g.outputs) (header_text h ++ after) h after
+header_written g h after built takes = ⊎_elim (λ a. one a.0 a.1.0 a.1.1 a.1.2) (λ b. two b.0 b.2) takes
+  where
+    text : (version : ℕ) → h.version ≡ version → header_text h ≡ cond (version == 2) (second_line ++ count_text h.blocks) (version_line ++ cut_text (first_cut h.blocks))
+    text version is = ap (λ v. cond (v == 2) (second_line ++ count_text h.blocks) (version_line ++ cut_text (first_cut h.blocks))) is
+
+    one : h.version ≡ 1 → (cut : Option Cut) → h.blocks ≡ cut_blocks (length g.outputs) cut → IsCutOf g cut → IsAnyHeaderText (length g.outputs) (header_text h ++ after) h after
+    one is cut blocks fits =
+        let whole : header_text h ≡ version_line ++ cut_text cut =
+        text 1 is ∙ ap (λ bs. version_line ++ cut_text (first_cut bs)) blocks ∙ ap (λ c. version_line ++ cut_text c) (first_of (length g.outputs) cut) in
+        inl (is, (cut, blocks, (cut_text cut ++ after, cut_written g cut after built fits, ap (λ z. z ++ after) whole ∙ append_assoc version_line (cut_text cut) after)))
+
+    two : h.version ≡ 2 → AreBlocks (without_cut g) h.blocks → IsAnyHeaderText (length g.outputs) (header_text h ++ after) h after
+    two is fit =
+        inr (is, (count_text h.blocks ++ after, count_written g h.blocks after built fit, ap (λ z. z ++ after) (text 2 is) ∙ append_assoc second_line (count_text h.blocks) after))
 
 pub written_files_are_read : WrittenFilesAreRead
-written_files_are_read cut lines writable all = (
-  lines_text lines,
-  (cut_text cut ++ lines_text lines, cut_written cut (lines_text lines) writable, append_assoc version_line (cut_text cut) (lines_text lines)),
-  lines_written lines all,
-)
+written_files_are_read g h lines built takes all = (lines_text lines, header_written g h (lines_text lines) built takes, lines_written lines all)

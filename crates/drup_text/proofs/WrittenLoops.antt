@@ -4,10 +4,13 @@ use Rattle.std.specs.Fmt.{signed_decimal}
 use Rattle.std.proofs.Common.{refl, sym, ap, ◌∙◌, arith, drop-cons, append_assoc}
 use Rattle.graph_core.specs.declared.literal.Lit.{Lit}
 use Rattle.graph_core.specs.Text.{newline, space}
+use Rattle.std.specs.declared.option.Option.TheVariants.{None, Some}
+use Rattle.ripple_graft.specs.declared.block.Block.{Block}
 use Rattle.clause_core.specs.ClauseLines.{ClauseLine}
-use Rattle.drup_text.specs.WrittenTexts.{clause_text, line_text, lines_text, literals_text, pairs_text, two_text}
+use Rattle.drup_text.specs.Headers.{second_line}
+use Rattle.drup_text.specs.WrittenTexts.{block_text, blocks_text, clause_text, first_cut, line_text, lines_text, literals_text, pairs_text, two_text}
 
-next_item : {A : Type 0} (xs : List A) (i : ℕ) (d : A) → i < length xs → drop i xs ≡ get_or xs i d ∷ drop (i + 1) xs
+pub next_item : {A : Type 0} (xs : List A) (i : ℕ) (d : A) → i < length xs → drop i xs ≡ get_or xs i d ∷ drop (i + 1) xs
 next_item xs i d early = let one : suc i ≡ i + 1 = omega arith in drop-cons xs i d early ∙ ap (λ n. get_or xs i d ∷ drop n xs) one
 
 pub next_pair : (pairs : List (Lit × Lit)) (i : ℕ) (d : Lit × Lit) → i < length pairs →
@@ -19,6 +22,28 @@ next_pair pairs i d early =
 pub next_line : (lines : List ClauseLine) (i : ℕ) (d : ClauseLine) → i < length lines → lines_text (drop i lines) ≡ (line_text (get_or lines i d) ++ newline ∷ []) ++ lines_text (drop (i + 1) lines)
 next_line lines i d early =
     ap lines_text (next_item lines i d early) ∙ sym (append_assoc (line_text (get_or lines i d)) (newline ∷ []) (lines_text (drop (i + 1) lines)))
+
+pub next_block : (blocks : List Block) (i : ℕ) (d : Block) → i < length blocks → blocks_text (drop i blocks) ≡ block_text (get_or blocks i d) ++ blocks_text (drop (i + 1) blocks)
+next_block blocks i d early = ap blocks_text (next_item blocks i d early)
+
+pub head_end : (lo count carry : List ℕ) →
+    ((((codes "replace " ++ lo) ++ codes " ") ++ count) ++ carry) ++ newline ∷ [] ≡ (codes "replace " ++ lo ++ space ∷ (count ++ carry)) ++ newline ∷ []
+head_end lo count carry = simp append_assoc
+
+pub block_end : (head pairs : List ℕ) → (head ++ newline ∷ []) ++ pairs ≡ head ++ newline ∷ pairs
+block_end head pairs = append_assoc head (newline ∷ []) pairs
+
+pub count_end : (count blocks : List ℕ) → (((codes "joined 2\ncuts ") ++ count) ++ newline ∷ []) ++ blocks ≡ second_line ++ (codes "cuts " ++ count ++ newline ∷ blocks)
+count_end count blocks = ap (λ z. codes "joined 2\ncuts " ++ z) (append_assoc count (newline ∷ []) blocks)
+
+-- the cut of the first block
+pub first_there : (blocks : List Block) (d : Block) → 0 < length blocks → first_cut blocks ≡ Some (get_or blocks 0 d).cut
+first_there [] d some = absurd (omega arith)
+first_there (c ∷ blocks) d some = refl
+
+pub first_missing : (blocks : List Block) → length blocks ≡ 0 → first_cut blocks ≡ None
+first_missing [] none = refl
+first_missing (c ∷ blocks) none = absurd (omega arith)
 
 pub next_literal : (ls : List ℤ) (i : ℕ) (d : ℤ) → i < length ls → literals_text (drop i ls) [] ≡ (signed_decimal (get_or ls i d) ++ space ∷ []) ++ literals_text (drop (i + 1) ls) []
 next_literal ls i d early =

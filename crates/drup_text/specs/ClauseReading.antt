@@ -1,8 +1,9 @@
 -- Reading the lines of a clause certificate from the front.
-use Rattle.std.specs.Prelude.{ℕ, Bool, not, List, codes, ℤ, pos, neg_ℤ, ◌==◌}
+use Rattle.std.specs.Prelude.{ℕ, Bool, true, false, not, List, [], ◌∷◌, codes, ℤ, pos, neg_ℤ, ◌==◌, if◌then◌else◌}
 use Rattle.std.specs.declared.option.Option.{Option}
 use Rattle.std.specs.declared.option.Option.TheVariants.{None, Some}
 use Rattle.graph_core.specs.declared.literal.Lit.{Lit}
+use Rattle.graph_core.specs.Text.{space}
 use Rattle.graph_core.specs.Text.Numerals.{number_at}
 use Rattle.graph_core.specs.Text.Readers.{Reader, behind_at, choose_at, ended_at, many_at, map_at, text_at, then_at}
 use Rattle.clause_core.specs.Clause.{Clause}
@@ -58,3 +59,19 @@ some_cut n = Some n
 
 unfoldable pub cut_line_at : Reader (Option (ℕ × ℕ))
 cut_line_at = choose_at (λ b. b == 110) (text_at (codes "none") None) (map_at some_cut (behind_at (codes "replace ") two_at))
+
+-- ---- version 2
+
+unfoldable pub count_line_at : Reader ℕ
+count_line_at = behind_at (codes "cuts ") (number_at 10)
+
+-- the word carry, if there is a space
+abbrev pub carry_at : Reader Bool
+carry_at [] = Some (false, [])
+carry_at (b ∷ bytes) = if b == space then text_at (codes " carry") true (b ∷ bytes) else Some (false, b ∷ bytes)
+
+abbrev pub head_from : (ℕ × ℕ) × Bool → ℕ × ℕ × Bool
+head_from x = (x.0.0, x.0.1, x.1)
+
+unfoldable pub block_line_at : Reader (ℕ × ℕ × Bool)
+block_line_at = map_at head_from (behind_at (codes "replace ") (then_at two_at carry_at))

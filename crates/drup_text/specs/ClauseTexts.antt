@@ -1,5 +1,5 @@
 -- The lines of a clause certificate, each without its line feed.
-use Rattle.std.specs.Prelude.{◌≡◌, ◌≢◌, ℕ, suc, List, [], ◌∷◌, ◌++◌, codes, ℤ, pos, negsuc, slice_index}
+use Rattle.std.specs.Prelude.{◌≡◌, ◌≢◌, ℕ, suc, Bool, true, false, List, [], ◌∷◌, ◌++◌, codes, ℤ, pos, negsuc, slice_index}
 use Rattle.std.specs.declared.option.Option.{Option}
 use Rattle.std.specs.declared.option.Option.TheVariants.{None, Some}
 use Rattle.graph_core.specs.declared.literal.Lit.{Lit}
@@ -33,10 +33,23 @@ IsClauseLine bytes (Delete c) = (rest : List ℕ) × IsClauseText rest c × (byt
 abbrev pub IsPairLine : List ℕ → Lit × Lit → Type 0
 IsPairLine bytes p = (one two : List ℕ) × IsNumeral 10 one p.0.0 × IsNumeral 10 two p.1.0 × (bytes ≡ one ++ space ∷ two)
 
--- no cut, or its first column and the number of its pairs
+-- of version 1: no cut, or its first column and the number of its pairs
 abbrev pub IsCutLine : List ℕ → Option (ℕ × ℕ) → Type 0
 IsCutLine bytes None = bytes ≡ codes "none"
 IsCutLine bytes (Some n) = (low count : List ℕ) × IsNumeral 10 low n.0 × IsNumeral 10 count n.1 × (bytes ≡ codes "replace " ++ low ++ space ∷ count)
+
+-- of version 2: the number of blocks
+abbrev pub IsCountLine : List ℕ → ℕ → Type 0
+IsCountLine bytes n = (count : List ℕ) × IsNumeral 10 count n × (bytes ≡ codes "cuts " ++ count)
+
+abbrev pub carry_text : Bool → List ℕ
+carry_text true = codes " carry"
+carry_text false = []
+
+-- a block's first column, the number of its pairs, and whether its last carry replaces a column too
+abbrev pub IsBlockLine : List ℕ → ℕ × ℕ × Bool → Type 0
+IsBlockLine bytes h = (low count : List ℕ) × IsNumeral 10 low h.0 × IsNumeral 10 count h.1 ×
+    (bytes ≡ codes "replace " ++ low ++ space ∷ (count ++ carry_text h.2))
 
 -- ---- lines one behind the other, each with its line feed, and the bytes after them
 

@@ -1,5 +1,5 @@
 -- What is left of a clause certificate that is read line by line, and what its next line says.
-use Rattle.std.specs.Prelude.{◌≡◌, ◌≢◌, ◌+◌, ◌<◌, ◌≤◌, ◌^◌, ℕ, Bool, false, List, [], ◌++◌, length, IfSome}
+use Rattle.std.specs.Prelude.{◌≡◌, ◌≢◌, ◌+◌, ◌<◌, ◌≤◌, ◌^◌, ◌⊎◌, ◌==◌, ℕ, Bool, false, List, [], ◌∷◌, ◌++◌, length, IfSome, if◌then◌else◌}
 use Rattle.std.specs.declared.option.Option.{Option}
 use Rattle.std.specs.declared.option.Option.TheVariants.{None, Some}
 use Rattle.mv_desk.specs.View.{Rose}
@@ -8,11 +8,16 @@ use Rattle.mv_desk.specs.declared.faults.LineFail.TheVariants as fail
 use Rattle.graph_core.specs.Graph.{Aig}
 use Rattle.graph_core.specs.Text.JudgedLines.{BeginsWith, Behind, IsTooLong, Lengths}
 use Rattle.mv_text.specs.LineReading.{EndsIn, FitsPiece, IsLongAhead, Lines, known_from}
+use Rattle.graph_core.specs.Graph.Extended.{Extended, without_cut}
+use Rattle.ripple_graft.specs.declared.block.Block.{Block}
+use Rattle.ripple_graft.specs.Blocks.{graft_block}
 use Rattle.ripple_graft.specs.declared.cut.Cut.{Cut}
-use Rattle.drup_text.specs.ClauseTexts.{IsCutLine, IsPairLine}
+use Rattle.drup_text.specs.declared.head.Header.{Header}
+use Rattle.drup_text.specs.ClauseTexts.{IsBlockLine, IsCountLine, IsCutLine, IsPairLine}
 use Rattle.drup_text.specs.HeaderRefusal.{LineCause, IsHeaderRefusal, IsPairStep, Range, Text, TooLong}
-use Rattle.drup_text.specs.Headers.{version_line}
-use Rattle.drup_text.specs.LineTexts.{IsCutSize}
+use Rattle.drup_text.specs.Headers.{head_of, second_line, version_line}
+use Rattle.ripple_graft.specs.HeaderBlocks.{cut_blocks}
+use Rattle.drup_text.specs.LineTexts.{IsCountInRange, IsCutSize, IsHeadOf}
 use Rattle.drup_text.specs.declared.fault.StartFail.{StartFail}
 
 -- A file: its lines, how many of them were read or refused, whether its end was met, and the answer that it gives from its first
@@ -88,7 +93,24 @@ PassesCut g IsLong bytes None body = ¬ (IsLong bytes) × BeginsWith IsCutLine b
 PassesCut g IsLong bytes (Some cut) body =
     (rest : List ℕ) × ¬ (IsLong bytes) × BeginsWith IsCutLine bytes (Some (cut.lo, length cut.pairs)) rest ×
     IsCutSize (length g.outputs) (cut.lo, length cut.pairs) ×
-    Behind IsPairLine (IsPairStep g) IsLong (λ left after. (left ≡ 0) × (after ≡ body)) cut.pairs (length cut.pairs) rest
+    Behind IsPairLine (IsPairStep (without_cut g)) IsLong (λ left after. (left ≡ 0) × (after ≡ body)) cut.pairs (length cut.pairs) rest
+
+-- The same of a block's line and its pairs, which fit behind the blocks so far; and of blocks one behind the other.
+abbrev pub PassesBlock : (List ℕ → Type 0) → Extended → List ℕ → Block → List ℕ → Type 0
+PassesBlock IsLong e bytes b body =
+    (rest : List ℕ) × ¬ (IsLong bytes) × BeginsWith IsBlockLine bytes (head_of b) rest × IsHeadOf e (head_of b) ×
+    Behind IsPairLine (IsPairStep e) IsLong (λ left after. (left ≡ 0) × (after ≡ body)) b.cut.pairs (length b.cut.pairs) rest
+
+abbrev pub PassBlocks : (List ℕ → Type 0) → Extended → List ℕ → List Block → List ℕ → Type 0
+PassBlocks IsLong e bytes [] body = bytes ≡ body
+PassBlocks IsLong e bytes (b ∷ blocks) body =
+    (middle : List ℕ) × PassesBlock IsLong e bytes b middle × PassBlocks IsLong (graft_block e b) middle blocks body
+
+-- the line with their number, and they
+abbrev pub PassesCount : Aig → (List ℕ → Type 0) → List ℕ → List Block → List ℕ → Type 0
+PassesCount g IsLong bytes blocks body =
+    (rest : List ℕ) × ¬ (IsLong bytes) × BeginsWith IsCountLine bytes (length blocks) rest ×
+    IsCountInRange (length g.outputs) (length blocks) × PassBlocks IsLong (without_cut g) rest blocks body
 
 -- A file begins with the header of a cut, or of none, which the graph takes and no line of which is too long.
 pub record PassesHeader (g : Aig) (lengths : Lengths) (bytes : List ℕ) (cut : Option Cut) (body : List ℕ) : Type 0 where
@@ -97,17 +119,38 @@ pub record PassesHeader (g : Aig) (lengths : Lengths) (bytes : List ℕ) (cut : 
   pub version : bytes ≡ version_line ++ rest
   pub cut_passes : PassesCut g (IsTooLong lengths (length bytes)) rest cut body
 
+-- A file begins with the header of some blocks, likewise.
+pub record PassesBlocks (g : Aig) (lengths : Lengths) (bytes : List ℕ) (blocks : List Block) (body : List ℕ) : Type 0 where
+  pub rest : List ℕ
+  pub short : ¬ (IsTooLong lengths (length bytes) bytes)
+  pub version : bytes ≡ second_line ++ rest
+  pub blocks_pass : PassesCount g (IsTooLong lengths (length bytes)) rest blocks body
+
+-- a header of either version
+abbrev pub PassesAnyHeader : Aig → Lengths → List ℕ → Header → List ℕ → Type 0
+PassesAnyHeader g lengths bytes h body =
+    ((h.version ≡ 1) × ((cut : Option Cut) × (h.blocks ≡ cut_blocks (length g.outputs) cut) × PassesHeader g lengths bytes cut body)) ⊎
+    ((h.version ≡ 2) × PassesBlocks g lengths bytes h.blocks body)
+
 -- So it does, and these bytes are left behind it.
-pub record HasHeader (g : Aig) (new : FileState) (bytes : List ℕ) (after : Option (List ℕ)) (cut : Option Cut) : Type 0 where
+pub record HasHeader (g : Aig) (new : FileState) (bytes : List ℕ) (after : Option (List ℕ)) (h : Header) : Type 0 where
   pub body : List ℕ
-  pub passes : PassesHeader g new.lines.lengths bytes cut body
+  pub passes : PassesAnyHeader g new.lines.lengths bytes h body
   pub left : after ≡ Some body
   pub taken : new.lines.taken + length body ≡ length bytes
 
--- how many lines a header has
-abbrev pub header_lines : Option Cut → ℕ
-header_lines None = 2
-header_lines (Some cut) = 2 + length cut.pairs
+-- how many lines some blocks have, where each has so many beside those of its pairs
+abbrev pub block_lines : ℕ → List Block → ℕ
+block_lines own [] = 0
+block_lines own (b ∷ blocks) = own + length b.cut.pairs + block_lines own blocks
+
+-- a block's own line: in version 1 that is the second one of the header
+abbrev pub own_line : ℕ → ℕ
+own_line version = if version == 2 then 1 else 0
+
+-- how many lines a header of either version has
+abbrev pub lines_in : ℕ → List Block → ℕ
+lines_in version blocks = 2 + block_lines (own_line version) blocks
 
 -- Why some of the lines of a header aren't had, where what is left has such first refusals: this one, a failed read, or want of memory.
 abbrev pub IsCause : (List ℕ → ℕ × LineCause → Type 0) → Option (List ℕ) → ℕ → ℕ → ℕ → LineFail → Type 0

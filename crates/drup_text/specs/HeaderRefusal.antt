@@ -1,15 +1,15 @@
 -- The first refusal in the header of a clause certificate, given what is refused behind a header.
-use Rattle.std.specs.Prelude.{◌≡◌, ◌≢◌, ◌⊎◌, ℕ, zero, suc, ◌+◌, List, ◌++◌, length}
+use Rattle.std.specs.Prelude.{◌≡◌, ◌≢◌, ◌⊎◌, ℕ, zero, suc, ◌+◌, Bool, List, ◌++◌, length}
 use Rattle.std.specs.declared.option.Option.{Option}
 use Rattle.std.specs.declared.option.Option.TheVariants.{None, Some}
 use Rattle.graph_core.specs.declared.literal.Lit.{Lit}
 use Rattle.graph_core.specs.Graph.Extended.{Extended, without_cut}
 use Rattle.graph_core.specs.Graph.{Aig}
 use Rattle.graph_core.specs.Text.JudgedLines.{BeginsWith, Behind, IsTooLong, Lengths, Never, Unless}
-use Rattle.ripple_graft.specs.Blocks.{with_cut}
-use Rattle.drup_text.specs.ClauseTexts.{IsCutLine, IsPairLine}
-use Rattle.drup_text.specs.Headers.{version_line}
-use Rattle.drup_text.specs.LineTexts.{IsCutSize, IsPairOf}
+use Rattle.ripple_graft.specs.Blocks.{block, graft_block, with_cut}
+use Rattle.drup_text.specs.ClauseTexts.{IsBlockLine, IsCountLine, IsCutLine, IsPairLine}
+use Rattle.drup_text.specs.Headers.{second_line, version_line}
+use Rattle.drup_text.specs.LineTexts.{IsCountInRange, IsCutSize, IsHeadOf, IsPairOf}
 
 -- why a line of a clause certificate is refused
 pub data LineCause : Type 0 where
@@ -27,35 +27,42 @@ Later = Extended → ℕ → List ℕ → ℕ × LineCause → Type 0
 -- ---- pairs
 
 -- where so many pairs are still to come, one comes
-abbrev pub IsPairStep : Aig → ℕ → Lit × Lit → ℕ → Type 0
-IsPairStep g left p next = IsPairOf g p × (left ≡ suc next)
+abbrev pub IsPairStep : Extended → ℕ → Lit × Lit → ℕ → Type 0
+IsPairStep e left p next = IsPairOf e p × (left ≡ suc next)
 
 -- what is wrong where a pair is to come
-abbrev pub IsRefusedPairText : Aig → List ℕ → LineCause → Type 0
-IsRefusedPairText g bytes cause =
+abbrev pub IsRefusedPairText : Extended → List ℕ → LineCause → Type 0
+IsRefusedPairText e bytes cause =
     (((p : Lit × Lit) (rest : List ℕ) → BeginsWith IsPairLine bytes p rest → ⊥) × (cause ≡ Text)) ⊎
-    ((p : Lit × Lit) × (rest : List ℕ) × BeginsWith IsPairLine bytes p rest × Unless (IsPairOf g p) (¬ (IsPairOf g p)) Range Never cause)
+    ((p : Lit × Lit) × (rest : List ℕ) × BeginsWith IsPairLine bytes p rest × Unless (IsPairOf e p) (¬ (IsPairOf e p)) Range Never cause)
 
-abbrev pub IsRefusedPair : Aig → (List ℕ → Type 0) → List ℕ → LineCause → Type 0
-IsRefusedPair g IsLong bytes = Unless (¬ (IsLong bytes)) (IsLong bytes) TooLong (IsRefusedPairText g bytes)
+abbrev pub IsRefusedPair : Extended → (List ℕ → Type 0) → List ℕ → LineCause → Type 0
+IsRefusedPair e IsLong bytes = Unless (¬ (IsLong bytes)) (IsLong bytes) TooLong (IsRefusedPairText e bytes)
 
--- Behind some pairs: one of those to come is refused, or all are there and something behind the header is refused.
-abbrev pub IsRefusedBehindPairs : Later → Aig → (List ℕ → Type 0) → ℕ → List (Lit × Lit) → ℕ → List ℕ → ℕ × LineCause → Type 0
-IsRefusedBehindPairs later g IsLong lo pairs zero bytes p = later (with_cut g (record { lo = lo; pairs = pairs })) (3 + length pairs) bytes p
-IsRefusedBehindPairs later g IsLong lo pairs (suc left) bytes p = (cause : LineCause) × IsRefusedPair g IsLong bytes cause × (p ≡ (3 + length pairs, cause))
+-- Behind some pairs, the first of them in the line of this number: one of those to come is refused, or all are there and something behind
+-- them is refused, over the graph that they make.
+abbrev pub IsRefusedBehindPairs : Later → (List (Lit × Lit) → Extended) → Extended → (List ℕ → Type 0) → ℕ → List (Lit × Lit) → ℕ → List ℕ → ℕ × LineCause → Type 0
+IsRefusedBehindPairs later made e IsLong number pairs zero bytes p = later (made pairs) (number + length pairs) bytes p
+IsRefusedBehindPairs later made e IsLong number pairs (suc left) bytes p =
+    (cause : LineCause) × IsRefusedPair e IsLong bytes cause × (p ≡ (number + length pairs, cause))
 
--- the pairs of a cut, the first of them in line 3
-abbrev pub IsRefusedPairs : Later → Aig → (List ℕ → Type 0) → ℕ × ℕ → List ℕ → ℕ × LineCause → Type 0
-IsRefusedPairs later g IsLong n bytes p =
+-- so many pairs
+abbrev pub IsRefusedPairs : Later → (List (Lit × Lit) → Extended) → Extended → (List ℕ → Type 0) → ℕ → ℕ → List ℕ → ℕ × LineCause → Type 0
+IsRefusedPairs later made e IsLong number count bytes p =
     (pairs : List (Lit × Lit)) ×
-    Behind IsPairLine (IsPairStep g) IsLong (λ left rest. IsRefusedBehindPairs later g IsLong n.0 pairs left rest p) pairs n.1 bytes
+    Behind IsPairLine (IsPairStep e) IsLong (λ left rest. IsRefusedBehindPairs later made e IsLong number pairs left rest p) pairs count bytes
 
--- ---- the line before them
+-- ---- version 1: the line before them
+
+-- the graph with a cut at this column
+abbrev pub cut_at : Aig → ℕ → List (Lit × Lit) → Extended
+cut_at g lo pairs = with_cut g (record { lo = lo; pairs = pairs })
 
 abbrev pub IsRefusedBehindCut : Later → Aig → (List ℕ → Type 0) → Option (ℕ × ℕ) → List ℕ → ℕ × LineCause → Type 0
 IsRefusedBehindCut later g IsLong None bytes = later (without_cut g) 3 bytes
 IsRefusedBehindCut later g IsLong (Some n) bytes =
-    Unless (IsCutSize (length g.outputs) n) (¬ (IsCutSize (length g.outputs) n)) (2, Range) (IsRefusedPairs later g IsLong n bytes)
+    Unless (IsCutSize (length g.outputs) n) (¬ (IsCutSize (length g.outputs) n)) (2, Range)
+    (IsRefusedPairs later (cut_at g n.0) (without_cut g) IsLong 3 n.1 bytes)
 
 -- behind the first line
 abbrev pub IsRefusedCut : Later → Aig → (List ℕ → Type 0) → List ℕ → ℕ × LineCause → Type 0
@@ -63,14 +70,45 @@ IsRefusedCut later g IsLong bytes = Unless (¬ (IsLong bytes)) (IsLong bytes) (2
     (λ p. (((c : Option (ℕ × ℕ)) (rest : List ℕ) → BeginsWith IsCutLine bytes c rest → ⊥) × (p ≡ (2, Text))) ⊎
     ((c : Option (ℕ × ℕ)) × (rest : List ℕ) × BeginsWith IsCutLine bytes c rest × IsRefusedBehindCut later g IsLong c rest p))
 
+-- ---- version 2: a block's line and its pairs, for each block
+
+-- the graph with the blocks so far and one more
+abbrev pub block_at : Extended → ℕ × ℕ × Bool → List (Lit × Lit) → Extended
+block_at e h pairs = graft_block e (block (record { lo = h.0; pairs = pairs }) h.2)
+
+-- one block, from the line of this number on, and what comes behind it
+abbrev pub IsRefusedBlock : Later → (List ℕ → Type 0) → Later
+IsRefusedBlock later IsLong e number bytes = Unless (¬ (IsLong bytes)) (IsLong bytes) (number, TooLong)
+    (λ q. (((h : ℕ × ℕ × Bool) (rest : List ℕ) → BeginsWith IsBlockLine bytes h rest → ⊥) × (q ≡ (number, Text))) ⊎
+    ((h : ℕ × ℕ × Bool) × (rest : List ℕ) × BeginsWith IsBlockLine bytes h rest ×
+    Unless (IsHeadOf e h) (¬ (IsHeadOf e h)) (number, Range) (IsRefusedPairs later (block_at e h) e IsLong (number + 1) h.1 rest) q))
+
+-- so many blocks
+abbrev pub IsRefusedBlocks : Later → (List ℕ → Type 0) → ℕ → Later
+IsRefusedBlocks later IsLong zero = later
+IsRefusedBlocks later IsLong (suc n) = IsRefusedBlock (IsRefusedBlocks later IsLong n) IsLong
+
+-- behind the first line
+abbrev pub IsRefusedCount : Later → Aig → (List ℕ → Type 0) → List ℕ → ℕ × LineCause → Type 0
+IsRefusedCount later g IsLong bytes = Unless (¬ (IsLong bytes)) (IsLong bytes) (2, TooLong)
+    (λ p. (((n : ℕ) (rest : List ℕ) → BeginsWith IsCountLine bytes n rest → ⊥) × (p ≡ (2, Text))) ⊎
+    ((n : ℕ) × (rest : List ℕ) × BeginsWith IsCountLine bytes n rest ×
+    Unless (IsCountInRange (length g.outputs) n) (¬ (IsCountInRange (length g.outputs) n)) (2, Range)
+    (IsRefusedBlocks later IsLong n (without_cut g) 3 rest) p))
+
 -- ---- the whole
+
+-- the first line is one of neither version
+abbrev pub HasNoVersion : List ℕ → Type 0
+HasNoVersion bytes = ((body : List ℕ) → bytes ≢ version_line ++ body) × ((body : List ℕ) → bytes ≢ second_line ++ body)
 
 -- The first refusal of a file: its line, from 1, and its cause.
 abbrev pub IsFirstRefusal : Later → Aig → Lengths → List ℕ → ℕ × LineCause → Type 0
 IsFirstRefusal later g lengths bytes =
     Unless (¬ (IsTooLong lengths (length bytes) bytes)) (IsTooLong lengths (length bytes) bytes) (1, TooLong)
-    (λ p. (((body : List ℕ) → bytes ≢ version_line ++ body) × (p ≡ (1, Text))) ⊎
-    ((body : List ℕ) × (bytes ≡ version_line ++ body) × IsRefusedCut later g (IsTooLong lengths (length bytes)) body p))
+    (λ p. (HasNoVersion bytes × (p ≡ (1, Text))) ⊎
+    (((body : List ℕ) × (bytes ≡ version_line ++ body) × IsRefusedCut later g (IsTooLong lengths (length bytes)) body p) ⊎
+    ((body : List ℕ) × (bytes ≡ second_line ++ body) × IsRefusedCount later g (IsTooLong lengths (length bytes)) body p)))
 
 -- nothing is refused behind a header
 abbrev pub nothing_later : Later

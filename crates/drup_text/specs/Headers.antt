@@ -1,34 +1,26 @@
--- The header of a clause certificate: the cut that it names, if any, and its text.
-use Rattle.std.specs.Prelude.{◌≡◌, ℕ, List, [], ◌∷◌, ◌++◌, length, codes}
+-- The header of a clause certificate: its version, the blocks that it names, and its text.
+use Rattle.std.specs.Prelude.{◌≡◌, ◌⊎◌, ℕ, Bool, List, [], ◌∷◌, ◌++◌, length, codes}
 use Rattle.std.specs.declared.option.Option.{Option}
 use Rattle.std.specs.declared.option.Option.TheVariants.{None, Some}
-use Rattle.graph_core.specs.Graph.Extended.{Extended, without_cut}
+use Rattle.graph_core.specs.Graph.Extended.{Extended}
 use Rattle.graph_core.specs.Graph.{Aig}
 use Rattle.graph_core.specs.Text.JudgedLines.{BeginsWith}
 use Rattle.graph_core.specs.Text.{newline}
-use Rattle.ripple_graft.specs.Blocks.{IsCut, with_cut}
+use Rattle.ripple_graft.specs.declared.block.Block.{Block}
+use Rattle.ripple_graft.specs.Blocks.{with_blocks}
+use Rattle.ripple_graft.specs.HeaderBlocks.{AreHeaderBlocks, cut_blocks}
 use Rattle.ripple_graft.specs.declared.cut.Cut.{Cut}
 use Rattle.clause_core.specs.ClauseLines.{ClauseLine}
-use Rattle.drup_text.specs.ClauseTexts.{AreLinesOf, IsClauseLine, IsCutLine, IsPairLine}
+use Rattle.drup_text.specs.declared.head.Header.{Header}
+use Rattle.drup_text.specs.ClauseTexts.{AreLinesOf, IsBlockLine, IsClauseLine, IsCountLine, IsCutLine, IsPairLine}
 
--- the graph with the cut, if there is one
-abbrev pub extended_by : Aig → Option Cut → Extended
-extended_by g None = without_cut g
-extended_by g (Some cut) = with_cut g cut
-
--- The graph takes it.
-abbrev pub IsHeaderOf : Aig → Option Cut → Type 0
-IsHeaderOf g None = Unit {0}
-IsHeaderOf g (Some cut) = IsCut g cut
+-- ---- version 1: a cut, or none
 
 -- a line that is this text
 abbrev pub IsThis : List ℕ → List ℕ → Unit {0} → Type 0
 IsThis text bytes x = bytes ≡ text
 
 -- the first line
-abbrev pub IsVersionLine : List ℕ → Unit {0} → Type 0
-IsVersionLine bytes x = bytes ≡ codes "joined 1"
-
 abbrev pub version_line : List ℕ
 version_line = codes "joined 1" ++ newline ∷ []
 
@@ -38,10 +30,48 @@ IsCutText bytes None after = BeginsWith IsCutLine bytes None after
 IsCutText bytes (Some cut) after =
     (rest : List ℕ) × BeginsWith IsCutLine bytes (Some (cut.lo, length cut.pairs)) rest × AreLinesOf IsPairLine rest cut.pairs after
 
--- the whole header, and the bytes after it
+-- the whole header of version 1, and the bytes after it
 abbrev pub IsHeaderText : List ℕ → Option Cut → List ℕ → Type 0
 IsHeaderText bytes cut after = (rest : List ℕ) × IsCutText rest cut after × (bytes ≡ version_line ++ rest)
 
+-- ---- version 2: blocks in order
+
+abbrev pub second_line : List ℕ
+second_line = codes "joined 2" ++ newline ∷ []
+
+-- the first line, of either version
+abbrev pub IsVersionLine : List ℕ → ℕ → Type 0
+IsVersionLine bytes version = ((version ≡ 1) × (bytes ≡ codes "joined 1")) ⊎ ((version ≡ 2) × (bytes ≡ codes "joined 2"))
+
+abbrev pub head_of : Block → ℕ × ℕ × Bool
+head_of b = (b.cut.lo, length b.cut.pairs, b.carry)
+
+-- blocks one behind the other: a line for each, and a line for each of its pairs
+abbrev pub AreBlockTexts : List ℕ → List Block → List ℕ → Type 0
+AreBlockTexts bytes [] after = bytes ≡ after
+AreBlockTexts bytes (b ∷ blocks) after =
+    (rest middle : List ℕ) × BeginsWith IsBlockLine bytes (head_of b) rest × AreLinesOf IsPairLine rest b.cut.pairs middle × AreBlockTexts middle blocks after
+
+-- behind the first line: the number of blocks, and the blocks
+abbrev pub IsBlocksText : List ℕ → List Block → List ℕ → Type 0
+IsBlocksText bytes blocks after = (rest : List ℕ) × BeginsWith IsCountLine bytes (length blocks) rest × AreBlockTexts rest blocks after
+
+-- ---- both
+
+-- The whole header over a graph with so many outputs, and the bytes after it.
+abbrev pub IsAnyHeaderText : ℕ → List ℕ → Header → List ℕ → Type 0
+IsAnyHeaderText outputs bytes h after =
+    ((h.version ≡ 1) × ((cut : Option Cut) × (h.blocks ≡ cut_blocks outputs cut) × IsHeaderText bytes cut after)) ⊎
+    ((h.version ≡ 2) × ((rest : List ℕ) × IsBlocksText rest h.blocks after × (bytes ≡ second_line ++ rest)))
+
+-- The graph takes its blocks.
+abbrev pub IsHeaderOf : Aig → Header → Type 0
+IsHeaderOf g h = AreHeaderBlocks g h.version h.blocks
+
+-- the graph with its blocks
+abbrev pub extended_with : Aig → Header → Extended
+extended_with g h = with_blocks g h.blocks
+
 -- the whole file: a header, lines, and nothing after them
-abbrev pub IsClauseFile : List ℕ → Option Cut → List ClauseLine → Type 0
-IsClauseFile bytes cut lines = (body : List ℕ) × IsHeaderText bytes cut body × AreLinesOf IsClauseLine body lines []
+abbrev pub IsAnyClauseFile : ℕ → List ℕ → Header → List ClauseLine → Type 0
+IsAnyClauseFile outputs bytes h lines = (body : List ℕ) × IsAnyHeaderText outputs bytes h body × AreLinesOf IsClauseLine body lines []

@@ -1,16 +1,16 @@
 -- What a text says, and why it says nothing.
-use Rattle.std.specs.Prelude.{◌≡◌, ◌⊎◌, ℕ, ◌+◌, ◌<◌, List, IfSome}
+use Rattle.std.specs.Prelude.{◌≡◌, ◌⊎◌, ℕ, ◌+◌, ◌<◌, ◌≤◌, Bool, List, IfSome}
 use Rattle.std.specs.declared.option.Option.{Option}
 use Rattle.graph_core.specs.declared.literal.Lit.{Lit}
-use Rattle.graph_core.specs.Graph.Extended.{without_cut}
-use Rattle.graph_core.specs.Graph.{Aig}
+use Rattle.graph_core.specs.Graph.Extended.{Extended}
 use Rattle.ripple_graft.specs.Extension.{IsKnown}
+use Rattle.ripple_graft.specs.Grafts.{HasRoom}
 use Rattle.clause_core.specs.Clause.{IsClauseInRange, SameSet}
 use Rattle.clause_core.specs.ClauseLines.{ClauseLine, clause_in}
 use Rattle.clause_core.specs.declared.line.Line.TheVariants.{Add, Delete}
 use Rattle.mv_desk.specs.declared.faults.LineFail.{LineFail}
 use Rattle.mv_desk.specs.declared.faults.LineFail.TheVariants as fail
-use Rattle.drup_text.specs.ClauseTexts.{IsClauseLine, IsCutLine, IsPairLine}
+use Rattle.drup_text.specs.ClauseTexts.{IsBlockLine, IsClauseLine, IsCountLine, IsCutLine, IsPairLine}
 
 -- ---- what is in range
 
@@ -26,9 +26,17 @@ IsCutSize outputs n = (0 < n.1) × ((n.0 + n.1 + 1 ≡ outputs) ⊎ (n.0 + n.1 �
 abbrev pub IsSizeInRange : ℕ → Option (ℕ × ℕ) → Type 0
 IsSizeInRange outputs size = IfSome size (IsCutSize outputs)
 
--- both literals are the constant, inputs or gates of the graph
-abbrev pub IsPairOf : Aig → Lit × Lit → Type 0
-IsPairOf g p = IsKnown (without_cut g) p.0 × IsKnown (without_cut g) p.1
+-- no more blocks than columns
+abbrev pub IsCountInRange : ℕ → ℕ → Type 0
+IsCountInRange outputs n = n ≤ outputs
+
+-- the block has its columns behind the blocks before it
+abbrev pub IsHeadOf : Extended → ℕ × ℕ × Bool → Type 0
+IsHeadOf e h = HasRoom e h.0 h.1 h.2
+
+-- both literals are the constant, inputs or gates, of the graph or of the blocks so far
+abbrev pub IsPairOf : Extended → Lit × Lit → Type 0
+IsPairOf e p = IsKnown e p.0 × IsKnown e p.1
 
 -- ---- what code has
 
@@ -47,8 +55,15 @@ IsTextOf max bytes line = (x : ClauseLine) × IsClauseLine bytes x × IsLineInRa
 abbrev pub IsCutTextOf : ℕ → List ℕ → Option (ℕ × ℕ) → Type 0
 IsCutTextOf outputs bytes size = IsCutLine bytes size × IsSizeInRange outputs size
 
-abbrev pub IsPairTextOf : Aig → List ℕ → Lit × Lit → Type 0
-IsPairTextOf g bytes p = IsPairLine bytes p × IsPairOf g p
+abbrev pub IsPairTextOf : Extended → List ℕ → Lit × Lit → Type 0
+IsPairTextOf e bytes p = IsPairLine bytes p × IsPairOf e p
+
+-- The text is one of this number of blocks in range, or of this block.
+abbrev pub IsCountTextOf : ℕ → List ℕ → ℕ → Type 0
+IsCountTextOf outputs bytes n = IsCountLine bytes n × IsCountInRange outputs n
+
+abbrev pub IsBlockTextOf : Extended → List ℕ → ℕ × ℕ × Bool → Type 0
+IsBlockTextOf e bytes h = IsBlockLine bytes h × IsHeadOf e h
 
 -- Why a text says nothing: none has it, or one out of range does; or want of memory.
 abbrev pub IsRefusedText : {X : Type 0} → (List ℕ → X → Type 0) → (X → Type 0) → List ℕ → LineFail → Type 0

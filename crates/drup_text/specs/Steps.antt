@@ -1,17 +1,18 @@
 -- What the steps of reading a line of a clause certificate take.
-use Rattle.std.specs.Prelude.{◌≡◌, ◌≢◌, ◌<◌, ◌≤◌, ℕ, ℤ, List, pos, nat_abs}
+use Rattle.std.specs.Prelude.{◌≡◌, ◌≢◌, ◌<◌, ◌≤◌, ℕ, ℤ, Bool, List, pos, nat_abs}
 use Rattle.std.specs.Global.{Global}
 use Rattle.std.specs.List.{All}
 use Rattle.std.specs.declared.option.Option.{Option}
+use Rattle.std.specs.declared.option.Option.TheVariants.{Some}
 use Rattle.std.specs.declared.vec.Vec.{Vec}
 use Rattle.graph_core.specs.declared.literal.Lit.{Lit}
-use Rattle.graph_core.specs.Graph.{Aig}
+use Rattle.graph_core.specs.Graph.Extended.{Extended}
 use Rattle.graph_core.specs.Text.Readers.{Reader}
 use Rattle.clause_core.specs.Clause.{Clause, IsClauseInRange, SameSet}
 use Rattle.clause_core.specs.ClauseLines.{ClauseLine}
 use Rattle.mv_text.specs.Steps.{Takes}
-use Rattle.drup_text.specs.ClauseReading.{clause_at, cut_line_at, literals_at, pair_line_at, two_at}
-use Rattle.drup_text.specs.LineTexts.{IsLineInRange, IsLineOf, IsPairOf, IsSizeInRange}
+use Rattle.drup_text.specs.ClauseReading.{block_line_at, carry_at, clause_at, count_line_at, cut_line_at, literals_at, pair_line_at, two_at}
+use Rattle.drup_text.specs.LineTexts.{IsCountInRange, IsHeadOf, IsLineInRange, IsLineOf, IsPairOf, IsSizeInRange}
 
 -- a variable from 1 to the greatest one
 abbrev pub IsVariable : ℕ → ℕ → Type 0
@@ -47,5 +48,15 @@ TakesTwo most = Takes two_at (AreUpTo most) (λ n k. n ≡ k)
 abbrev pub TakesSize : ℕ → List ℕ → List ℕ → Option (Option (ℕ × ℕ)) → Type 0
 TakesSize outputs = Takes cut_line_at (IsSizeInRange outputs) (λ n k. n ≡ k)
 
-abbrev pub TakesPair : Aig → List ℕ → List ℕ → Option (Lit × Lit) → Type 0
-TakesPair g = Takes pair_line_at (IsPairOf g) (λ p q. p ≡ q)
+abbrev pub TakesPair : Extended → List ℕ → List ℕ → Option (Lit × Lit) → Type 0
+TakesPair e = Takes pair_line_at (IsPairOf e) (λ p q. p ≡ q)
+
+abbrev pub TakesCountLine : ℕ → List ℕ → List ℕ → Option ℕ → Type 0
+TakesCountLine outputs = Takes count_line_at (IsCountInRange outputs) (λ n k. n ≡ k)
+
+-- a word, or nothing
+abbrev pub TakesCarry : List ℕ → List ℕ → Bool → Type 0
+TakesCarry old new carry = carry_at old ≡ Some (carry, new)
+
+abbrev pub TakesHead : Extended → List ℕ → List ℕ → Option (ℕ × ℕ × Bool) → Type 0
+TakesHead e = Takes block_line_at (IsHeadOf e) (λ h k. h ≡ k)

@@ -1,15 +1,18 @@
--- The text that is written for a cut and for lines: no number has a leading zero.
-use Rattle.std.specs.Prelude.{ℕ, ℤ, pos, negsuc, List, [], ◌∷◌, ◌++◌, length, codes, decimal}
+-- The text that is written for a header and for lines: no number has a leading zero.
+use Rattle.std.specs.Prelude.{ℕ, ℤ, pos, negsuc, List, [], ◌∷◌, ◌++◌, length, codes, decimal, if◌then◌else◌, ◌==◌}
 use Rattle.std.specs.Fmt.{signed_decimal}
 use Rattle.std.specs.declared.option.Option.{Option}
 use Rattle.std.specs.declared.option.Option.TheVariants.{None, Some}
 use Rattle.graph_core.specs.declared.literal.Lit.{Lit}
 use Rattle.graph_core.specs.Text.{newline, space}
+use Rattle.ripple_graft.specs.declared.block.Block.{Block}
 use Rattle.ripple_graft.specs.declared.cut.Cut.{Cut}
 use Rattle.clause_core.specs.Clause.{Clause}
 use Rattle.clause_core.specs.ClauseLines.{ClauseLine}
 use Rattle.clause_core.specs.declared.line.Line.TheVariants.{Add, Delete}
-use Rattle.drup_text.specs.Headers.{version_line}
+use Rattle.drup_text.specs.declared.head.Header.{Header}
+use Rattle.drup_text.specs.ClauseTexts.{carry_text}
+use Rattle.drup_text.specs.Headers.{second_line, version_line}
 
 -- ---- clauses
 
@@ -52,7 +55,33 @@ abbrev pub cut_text : Option Cut → List ℕ
 cut_text None = codes "none" ++ newline ∷ []
 cut_text (Some cut) = codes "replace " ++ two_text cut.lo (length cut.pairs) ++ newline ∷ pairs_text cut.pairs
 
+-- ---- version 2
+
+-- a block's own line
+abbrev pub head_text : Block → List ℕ
+head_text b = codes "replace " ++ decimal b.cut.lo ++ space ∷ (decimal (length b.cut.pairs) ++ carry_text b.carry)
+
+abbrev pub block_text : Block → List ℕ
+block_text b = head_text b ++ newline ∷ pairs_text b.cut.pairs
+
+abbrev pub blocks_text : List Block → List ℕ
+blocks_text [] = []
+blocks_text (b ∷ blocks) = block_text b ++ blocks_text blocks
+
+-- behind the first line
+abbrev pub count_text : List Block → List ℕ
+count_text blocks = codes "cuts " ++ decimal (length blocks) ++ newline ∷ blocks_text blocks
+
 -- ---- the whole
 
-abbrev pub file_text : Option Cut → List ClauseLine → List ℕ
-file_text cut lines = version_line ++ cut_text cut ++ lines_text lines
+-- the cut of the first block, if there is one
+abbrev pub first_cut : List Block → Option Cut
+first_cut [] = None
+first_cut (b ∷ blocks) = Some b.cut
+
+-- a header of either version; in version 1 the first block's cut says all
+abbrev pub header_text : Header → List ℕ
+header_text h = if h.version == 2 then second_line ++ count_text h.blocks else version_line ++ cut_text (first_cut h.blocks)
+
+abbrev pub any_file_text : Header → List ClauseLine → List ℕ
+any_file_text h lines = header_text h ++ lines_text lines

@@ -1,23 +1,28 @@
 // A certificate read line by line.
-ghost use Rattle.std.specs.Prelude.{◌≡◌, ◌+◌, ◌<◌, ◌^◌, true, false, List, ℕ, [], Some, None, IfOk, IfErr, IfSome, IfNone, OnErr, length, option_to_list};
+ghost use Rattle.std.specs.Prelude.{◌≡◌, ◌+◌, ◌<◌, ◌≤◌, ◌^◌, ◌⊎◌, ◌∷◌, true, false, List, ℕ, [], Some, None, IfOk, IfErr, IfSome, IfNone, OnErr, OnOk, length, option_to_list};
 ghost use Rattle.std.specs.Result.{result_err};
 ghost use Rattle.mv_desk.specs.Calls.{Reads};
 ghost use Rattle.mv_desk.specs.declared.slot.Slot.TheVariants.{Clauses};
 ghost use Rattle.mv_text.specs.LineReading.{FitsPiece, known_from, lengths_of};
+ghost use Rattle.ripple_graft.specs.Blocks.{IsCut, block_of};
 ghost use Rattle.drup_text.specs.ClauseTexts.{IsClauseLine};
-ghost use Rattle.drup_text.specs.FileStates.{GoesOn, HasHeader, IsAtEnd, IsNextRefusal, IsStartRefusal, TakesSome, TakesText, header_lines, left_ahead};
+ghost use Rattle.drup_text.specs.FileStates.{GoesOn, HasHeader, IsAtEnd, IsNextRefusal, IsStartRefusal, TakesSome, TakesText, block_lines, left_ahead, lines_in, own_line};
+ghost use Rattle.drup_text.specs.HeaderSteps.{IsVersionRefusal, TakesVersion};
 ghost use Rattle.drup_text.specs.Headers.{IsHeaderOf};
+ghost use Rattle.ripple_graft.specs.HeaderBlocks.{AreHeaderBlocks};
 ghost use Rattle.drup_text.specs.LineTexts.{IsLineInRange, IsTextOf};
 ghost use Rattle.drup_text.specs.SameFiles.{HasSameLine, IsSameStartRefusal};
 
+use crate::blocks::listed_blocks;
 use crate::fault::StartFail;
+use crate::head::Header;
 use crate::header::{cut, first_line, version};
 use crate::line_reading::read_line;
 use clause_core::Line;
 use graph_core::Graph;
 use mv_desk::{Desk, Limits, LineFail, Slot};
 use mv_text::LineReader;
-use ripple_graft::Cut;
+use ripple_graft::{Block, BlockList, Cut};
 use std::alloc::Global;
 use std::marker::Model;
 
@@ -46,25 +51,27 @@ impl Model for ClauseFile {
 }
 
 impl ClauseFile {
-    /// Reads the header, and answers the cut that it names, if any; the graph takes it.
+    /// Reads the header, and answers it: its version, and the blocks that it names; the graph takes them.
     ///
-    /// `Text` comes where a line of the header isn't there as it has to be, `Range` on line 2 where there is no pair or
-    /// the cut ends neither at the last column nor at the one before it, and on a pair's line where the variable of a
-    /// literal is neither 0, an input nor a gate. `TooLong` comes where the line is too long or holds the first byte
-    /// past the limit of the file.
+    /// `Text` comes where a line of the header isn't there as it has to be. `Range` comes in version 1 on line 2 where
+    /// there is no pair or the cut ends neither at the last column nor at the one before it; in version 2 on line 2 where
+    /// there are more blocks than columns, and on a block's line where there is no pair or a column isn't there or is
+    /// replaced by a block before; and on a pair's line where the variable of a literal is neither 0, an input nor a gate
+    /// of the graph or of a block before. `TooLong` comes where the line is too long or holds the first byte past the
+    /// limit of the file.
     pub fn start<D: Desk>(
         alloc: Global,
         desk: &mut D,
         graph: &Graph,
         limits: &Limits,
-    ) -> Result<(ClauseFile, Option<Cut>), StartFail>
+    ) -> Result<(ClauseFile, Header), StartFail>
         requires { (D.seen desk.old).reads Clauses ≡ true }
         ensures header { IfOk result (λ r. IfSome ((D.seen desk.old).left Clauses)
             (λ bytes. HasHeader graph.now r.0 bytes (left_ahead r.0 ((D.seen desk.new).left Clauses)) r.1)) }
-        ensures cut { IfOk result (λ r. IsHeaderOf graph.now r.1) }
+        ensures fits { IfOk result (λ r. IsHeaderOf graph.now r.1) }
         ensures refused { IfErr result (IsStartRefusal graph.now (lengths_of limits.now)
             ((D.seen desk.old).left Clauses) (D.seen desk.old).read_faults (D.seen desk.new).read_faults) }
-        ensures number { IfOk result (λ r. r.0.number ≡ header_lines r.1) }
+        ensures number { IfOk result (λ r. r.0.number ≡ lines_in r.1.version r.1.blocks) }
         ensures goes_on { IfOk result (λ r. GoesOn r.0) }
         ensures lengths { IfOk result (λ r. r.0.lines.lengths ≡ lengths_of limits.now) }
         ensures piece { IfOk result (λ r. FitsPiece r.0.lines) }
@@ -72,9 +79,13 @@ impl ClauseFile {
     {
         let mut lines = LineReader::new(limits);
         match version(alloc, &mut lines, desk) {
-            Ok(()) => match cut(alloc, &mut lines, desk, graph) {
-                Ok(cut) => {
-                    let number = header_lines(&cut);
+            Ok(version) => match any_blocks(alloc, &mut lines, desk, graph, version) {
+                Ok(blocks) => {
+                    let header = Header {
+                        version,
+                        blocks: BlockList::from_vec(blocks),
+                    };
+                    let number = header_lines(&header);
                     let file = ClauseFile {
                         alloc,
                         lines,
@@ -82,7 +93,7 @@ impl ClauseFile {
                         ended: false,
                         failed: None,
                     };
-                    Ok((file, cut))
+                    Ok((file, header))
                 }
                 Err(fail) => Err(fail),
             },
@@ -187,14 +198,85 @@ impl ClauseFile {
     }
 }
 
-// How many lines a header has.
-fn header_lines(cut: &Option<Cut>) -> u64
-    ensures { result ≡ header_lines cut.now }
+// The lines of a header behind the first one, by the version.
+fn any_blocks<D: Desk>(
+    alloc: Global,
+    lines: &mut LineReader,
+    desk: &mut D,
+    graph: &Graph,
+    version: u8,
+) -> Result<Vec<Block>, StartFail>
+    requires open { (D.seen desk.old).reads Clauses ≡ true }
+    requires version { (version ≡ 1) ⊎ (version ≡ 2) }
+    requires two { 2 ≤ lines.old.taken }
+    requires small { lines.old.lengths.file < 2 ^ 64 }
+    ensures blocks { IfOk result (λ blocks. IfSome (known_from lines.old.ahead ((D.seen desk.old).left Clauses))
+        (λ left. TakesVersion graph.now version lines.old lines.new left
+        (known_from lines.new.ahead ((D.seen desk.new).left Clauses)) blocks.items)) }
+    ensures refused { IfErr result (IsVersionRefusal graph.now version lines.old
+        (known_from lines.old.ahead ((D.seen desk.old).left Clauses))
+        (D.seen desk.old).read_faults (D.seen desk.new).read_faults) }
+    ensures fits { IfOk result (λ blocks. AreHeaderBlocks graph.now version blocks.items) }
+    ensures counted { IfOk result
+        (λ blocks. lines.old.taken + lines_in version blocks.items ≤ lines.new.taken + 1) }
+    ensures within { OnOk result (lines.new.taken ≤ lines.new.lengths.file) }
+    ensures lengths { lines.new.lengths ≡ lines.old.lengths }
+    ensures piece { FitsPiece lines.new }
+    ensures reads { Reads Clauses (D.seen desk.old) (D.seen desk.new) result }
 {
-    match cut {
-        None => 2,
-        Some(cut) => 2 + cut.pairs.as_slice().len() as u64,
+    if version == 2 {
+        return listed_blocks(alloc, lines, desk, graph);
     }
+    match cut(alloc, lines, desk, graph) {
+        Ok(None) => Ok(Vec::new(alloc)),
+        Ok(Some(cut)) => one_block(alloc, graph, cut),
+        Err(fail) => Err(fail),
+    }
+}
+
+// The block of a cut of version 1: the last carry is replaced too where it is that of the last column.
+fn one_block(alloc: Global, graph: &Graph, cut: Cut) -> Result<Vec<Block>, StartFail>
+    requires { IsCut graph.now cut }
+    ensures ok { IfOk result (λ blocks. blocks.items ≡ block_of (length graph.now.outputs) cut ∷ []) }
+    ensures err { IfErr result (λ fail. fail.why ≡ LineFail.Memory) }
+{
+    let end = cut.lo as usize + cut.pairs.as_slice().len();
+    let carry = end + 1 == graph.output_literals().len();
+    let mut blocks = Vec::new(alloc);
+    match blocks.push(Block { cut, carry }) {
+        Ok(()) => Ok(blocks),
+        Err(_) => Err(StartFail {
+            line: 2,
+            why: LineFail::Memory,
+        }),
+    }
+}
+
+// How many lines a header has.
+fn header_lines(header: &Header) -> u64
+    requires { lines_in header.now.version header.now.blocks < 2 ^ 64 }
+    ensures { result ≡ lines_in header.now.version header.now.blocks }
+{
+    2 + block_lines(own_line(header.version), header.blocks.as_slice())
+}
+
+// How many lines some blocks have, where each has so many beside those of its pairs.
+fn block_lines(own: u64, blocks: &[Block]) -> u64
+    requires { block_lines own blocks.now < 2 ^ 64 }
+    ensures { result ≡ block_lines own blocks.now }
+{
+    let mut lines: u64 = 0;
+    for block in blocks {
+        lines += own + block.cut.pairs.as_slice().len() as u64;
+    }
+    lines
+}
+
+// A block's own line, which in version 1 is the second one.
+fn own_line(version: u8) -> u64
+    ensures { result ≡ own_line version }
+{
+    if version == 2 { 1 } else { 0 }
 }
 
 // The next line of the file, or none at its end.

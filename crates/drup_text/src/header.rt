@@ -1,14 +1,15 @@
-// The header of a certificate, line by line.
-ghost use Rattle.std.specs.Prelude.{◌≡◌, ◌≢◌, ◌+◌, ◌<◌, ◌≤◌, ◌++◌, ◌∷◌, [], ℕ, true, All, IfOk, IfErr, IfSome, OnOk, length, ⊤};
+// The header of a certificate, line by line: its version, and in version 1 its cut.
+ghost use Rattle.std.specs.Prelude.{◌≡◌, ◌≢◌, ◌+◌, ◌≤◌, ◌<◌, ◌^◌, ◌⊎◌, ◌++◌, ◌∷◌, [], ℕ, true, All, IfOk, IfErr, IfSome, OnOk, length, ⊤};
 ghost use Rattle.std.specs.List.{AllByRecursion};
 ghost use Rattle.graph_core.specs.Text.{newline};
 ghost use Rattle.mv_desk.specs.Calls.{Reads};
 ghost use Rattle.mv_desk.specs.declared.slot.Slot.TheVariants.{Clauses};
 ghost use Rattle.mv_text.specs.LineReading.{FitsPiece, known_from};
 ghost use Rattle.drup_text.specs.ClauseTexts.{IsCutLine, IsPairLine};
-ghost use Rattle.drup_text.specs.FileStates.{IsLineRefusal, TakesSome, TakesText, header_lines};
+ghost use Rattle.drup_text.specs.FileStates.{IsLineRefusal, TakesSome, TakesText, lines_in};
 ghost use Rattle.drup_text.specs.HeaderSteps.{IsCutRefusal, IsPairsRefusal, TakesCut, TakesPairs};
-ghost use Rattle.drup_text.specs.Headers.{IsHeaderOf, IsThis, IsVersionLine};
+ghost use Rattle.drup_text.specs.Headers.{IsThis, IsVersionLine};
+ghost use Rattle.ripple_graft.specs.HeaderBlocks.{IsCutOf, cut_blocks};
 ghost use Rattle.drup_text.specs.LineTexts.{IsCutTextOf, IsPairOf, IsPairTextOf, IsSizeInRange};
 
 use crate::fault::StartFail;
@@ -17,7 +18,7 @@ use crate::needed::needed_line;
 use graph_core::{Graph, Lit};
 use mv_desk::{Desk, LineFail};
 use mv_text::LineReader;
-use ripple_graft::{Cut, Pairs};
+use ripple_graft::{Cut, Extended, Pairs};
 use std::alloc::Global;
 
 // The first line, which has to be this text.
@@ -53,16 +54,17 @@ pub(crate) fn first_line<D: Desk>(
     }
 }
 
-// The first line of a certificate with a header.
+// The first line: the version.
 pub(crate) fn version<D: Desk>(
     alloc: Global,
     lines: &mut LineReader,
     desk: &mut D,
-) -> Result<(), LineFail>
+) -> Result<u8, LineFail>
     requires { (D.seen desk.old).reads Clauses ≡ true }
-    ensures line { OnOk result (IfSome (known_from lines.old.ahead ((D.seen desk.old).left Clauses))
+    ensures line { IfOk result (λ version. IfSome (known_from lines.old.ahead ((D.seen desk.old).left Clauses))
         (λ left. TakesText IsVersionLine lines.old lines.new left
-        (known_from lines.new.ahead ((D.seen desk.new).left Clauses)) tt)) }
+        (known_from lines.new.ahead ((D.seen desk.new).left Clauses)) version)) }
+    ensures one_of { IfOk result (λ version. (version ≡ 1) ⊎ (version ≡ 2)) }
     ensures refused { IfErr result (IsLineRefusal IsVersionLine (λ x. ⊤) lines.old
         (known_from lines.old.ahead ((D.seen desk.old).left Clauses))
         (D.seen desk.old).read_faults (D.seen desk.new).read_faults) }
@@ -72,26 +74,39 @@ pub(crate) fn version<D: Desk>(
     ensures piece { FitsPiece lines.new }
     ensures reads { Reads Clauses (D.seen desk.old) (D.seen desk.new) result }
 {
-    first_line(alloc, lines, desk, b"joined 1".as_slice())
+    match needed_line(alloc, lines, desk) {
+        Ok(line) => {
+            if line.as_slice() == b"joined 1".as_slice() {
+                return Ok(1);
+            }
+            if line.as_slice() == b"joined 2".as_slice() {
+                return Ok(2);
+            }
+            Err(LineFail::Text)
+        }
+        Err(fail) => Err(fail),
+    }
 }
 
-// The lines behind the first one: the cut's, and one for each pair.
+// The lines behind the first one in version 1: the cut's, and one for each pair.
 pub(crate) fn cut<D: Desk>(
     alloc: Global,
     lines: &mut LineReader,
     desk: &mut D,
     graph: &Graph,
 ) -> Result<Option<Cut>, StartFail>
-    requires { (D.seen desk.old).reads Clauses ≡ true }
+    requires open { (D.seen desk.old).reads Clauses ≡ true }
+    requires two { 2 ≤ lines.old.taken }
+    requires small { lines.old.lengths.file < 2 ^ 64 }
     ensures cut { IfOk result (λ cut. IfSome (known_from lines.old.ahead ((D.seen desk.old).left Clauses))
         (λ left. TakesCut graph.now lines.old lines.new left
         (known_from lines.new.ahead ((D.seen desk.new).left Clauses)) cut)) }
     ensures refused { IfErr result (IsCutRefusal graph.now lines.old
         (known_from lines.old.ahead ((D.seen desk.old).left Clauses))
         (D.seen desk.old).read_faults (D.seen desk.new).read_faults) }
-    ensures fits { IfOk result (IsHeaderOf graph.now) }
+    ensures fits { IfOk result (IsCutOf graph.now) }
     ensures counted { IfOk result
-        (λ cut. lines.old.taken + header_lines cut ≤ lines.new.taken + 1) }
+        (λ cut. lines.old.taken + lines_in 1 (cut_blocks (length graph.now.outputs) cut) ≤ lines.new.taken + 1) }
     ensures within { OnOk result (lines.new.taken ≤ lines.new.lengths.file) }
     ensures lengths { lines.new.lengths ≡ lines.old.lengths }
     ensures piece { FitsPiece lines.new }
@@ -99,7 +114,14 @@ pub(crate) fn cut<D: Desk>(
 {
     match next_size(alloc, lines, desk, graph) {
         Ok(None) => Ok(None),
-        Ok(Some((lo, count))) => match pairs(alloc, lines, desk, graph, count) {
+        Ok(Some((lo, count))) => match pairs(
+            alloc,
+            lines,
+            desk,
+            &Extended::without_cut(graph),
+            3,
+            count,
+        ) {
             Ok(pairs) => {
                 let pairs = Pairs::from_vec(pairs);
                 Ok(Some(Cut { lo, pairs }))
@@ -136,24 +158,27 @@ fn next_size<D: Desk>(
     }
 }
 
-// So many pairs, the first of them in line 3.
-fn pairs<D: Desk>(
+// So many pairs, the first of them in the line of this number.
+pub(crate) fn pairs<D: Desk>(
     alloc: Global,
     lines: &mut LineReader,
     desk: &mut D,
-    graph: &Graph,
+    extended: &Extended<'_>,
+    first: u64,
     count: u32,
 ) -> Result<Vec<(Lit, Lit)>, StartFail>
     requires open { (D.seen desk.old).reads Clauses ≡ true }
+    requires first { first ≤ lines.old.taken }
+    requires small { lines.old.lengths.file < 2 ^ 64 }
     requires within { lines.old.taken ≤ lines.old.lengths.file }
     requires piece { FitsPiece lines.old }
     ensures pairs { IfOk result (λ pairs. IfSome (known_from lines.old.ahead ((D.seen desk.old).left Clauses))
-        (λ left. TakesPairs graph.now count lines.old lines.new left
+        (λ left. TakesPairs extended.now count lines.old lines.new left
         (known_from lines.new.ahead ((D.seen desk.new).left Clauses)) pairs.items)) }
-    ensures refused { (lo : ℕ) → IfErr result (IsPairsRefusal graph.now (lo, count) lines.old
+    ensures refused { IfErr result (IsPairsRefusal extended.now first count lines.old
         (known_from lines.old.ahead ((D.seen desk.old).left Clauses))
         (D.seen desk.old).read_faults (D.seen desk.new).read_faults) }
-    ensures known { IfOk result (λ pairs. All (IsPairOf graph.now) pairs.items) }
+    ensures known { IfOk result (λ pairs. All (IsPairOf extended.now) pairs.items) }
     ensures count { IfOk result (λ pairs. length pairs.items ≡ count) }
     ensures counted { OnOk result (lines.old.taken + count ≤ lines.new.taken) }
     ensures within { OnOk result (lines.new.taken ≤ lines.new.lengths.file) }
@@ -163,8 +188,8 @@ fn pairs<D: Desk>(
 {
     let mut pairs = Vec::new(alloc);
     for i in 0..count {
-        let line = 3 + u64::from(i);
-        match next_pair(alloc, lines, desk, graph) {
+        let line = first + u64::from(i);
+        match next_pair(alloc, lines, desk, extended) {
             Ok(pair) => match append(&mut pairs, pair) {
                 Ok(()) => {}
                 Err(why) => return Err(StartFail { line, why }),
@@ -180,23 +205,23 @@ fn next_pair<D: Desk>(
     alloc: Global,
     lines: &mut LineReader,
     desk: &mut D,
-    graph: &Graph,
+    extended: &Extended<'_>,
 ) -> Result<(Lit, Lit), LineFail>
     requires { (D.seen desk.old).reads Clauses ≡ true }
     ensures line { IfOk result (λ pair. IfSome (known_from lines.old.ahead ((D.seen desk.old).left Clauses))
-        (λ left. TakesText (IsPairTextOf graph.now) lines.old lines.new left
+        (λ left. TakesText (IsPairTextOf extended.now) lines.old lines.new left
         (known_from lines.new.ahead ((D.seen desk.new).left Clauses)) pair)) }
-    ensures refused { IfErr result (IsLineRefusal IsPairLine (IsPairOf graph.now) lines.old
+    ensures refused { IfErr result (IsLineRefusal IsPairLine (IsPairOf extended.now) lines.old
         (known_from lines.old.ahead ((D.seen desk.old).left Clauses))
         (D.seen desk.old).read_faults (D.seen desk.new).read_faults) }
-    ensures known { IfOk result (IsPairOf graph.now) }
+    ensures known { IfOk result (IsPairOf extended.now) }
     ensures some { OnOk result (TakesSome lines.old lines.new) }
     ensures lengths { lines.new.lengths ≡ lines.old.lengths }
     ensures piece { FitsPiece lines.new }
     ensures reads { Reads Clauses (D.seen desk.old) (D.seen desk.new) result }
 {
     match needed_line(alloc, lines, desk) {
-        Ok(line) => read_pair(&line, graph),
+        Ok(line) => read_pair(&line, extended),
         Err(fail) => Err(fail),
     }
 }

@@ -1,16 +1,16 @@
 // The lines of a header, as they are read.
 ghost use Rattle.std.specs.Prelude.{◌≡◌, ◌↔◌, None, IsTrue, IfOk, IfErr, length};
 ghost use Rattle.mv_text.specs.Steps.{IsMisfit, Takes};
-ghost use Rattle.drup_text.specs.ClauseReading.{cut_line_at, pair_line_at, two_at};
-ghost use Rattle.drup_text.specs.ClauseTexts.{IsCutLine, IsPairLine};
-ghost use Rattle.drup_text.specs.LineTexts.{IsCutSize, IsCutTextOf, IsPairOf, IsPairTextOf, IsRefusedText, IsSizeInRange};
-ghost use Rattle.drup_text.specs.Steps.{TakesPair, TakesSize, TakesTwo};
+ghost use Rattle.drup_text.specs.ClauseReading.{block_line_at, carry_at, count_line_at, cut_line_at, pair_line_at, two_at};
+ghost use Rattle.drup_text.specs.ClauseTexts.{IsBlockLine, IsCountLine, IsCutLine, IsPairLine};
+ghost use Rattle.drup_text.specs.LineTexts.{IsBlockTextOf, IsCountInRange, IsCountTextOf, IsCutSize, IsCutTextOf, IsHeadOf, IsPairOf, IsPairTextOf, IsRefusedText, IsSizeInRange};
+ghost use Rattle.drup_text.specs.Steps.{TakesCarry, TakesCountLine, TakesHead, TakesPair, TakesSize, TakesTwo};
 
 use crate::numbers::{number, spaced_number};
-use graph_core::{Graph, Lit};
+use graph_core::Lit;
 use mv_desk::LineFail;
 use mv_text::Scanner;
-use ripple_graft::is_known;
+use ripple_graft::Extended;
 
 // The first column of a cut and the number of its pairs, or that there is no cut.
 //
@@ -30,18 +30,51 @@ pub(crate) fn read_size(bytes: &[u8], outputs: u32) -> Result<Option<(u32, u32)>
     }
 }
 
-// The two literals of a position. `Range` comes exactly where the graph doesn't have both.
-pub(crate) fn read_pair(bytes: &[u8], graph: &Graph) -> Result<(Lit, Lit), LineFail>
-    ensures ok { IfOk result (IsPairTextOf graph.now bytes.now) }
-    ensures err { IfErr result (IsRefusedText IsPairLine (IsPairOf graph.now) bytes.now) }
+// The two literals of a position. `Range` comes exactly where the graph with the blocks so far doesn't have both.
+pub(crate) fn read_pair(bytes: &[u8], extended: &Extended<'_>) -> Result<(Lit, Lit), LineFail>
+    ensures ok { IfOk result (IsPairTextOf extended.now bytes.now) }
+    ensures err { IfErr result (IsRefusedText IsPairLine (IsPairOf extended.now) bytes.now) }
 {
     let mut scanner = Scanner::new(bytes);
-    let pair = pair(&mut scanner, graph)?;
+    let pair = pair(&mut scanner, extended)?;
     if !scanner.is_empty() {
         return Err(LineFail::Text);
     }
     match pair {
         Some(pair) => Ok(pair),
+        None => Err(LineFail::Range),
+    }
+}
+
+// The number of blocks. `Range` comes exactly where there are more of them than columns.
+pub(crate) fn read_count(bytes: &[u8], outputs: u32) -> Result<u32, LineFail>
+    ensures ok { IfOk result (IsCountTextOf outputs bytes.now) }
+    ensures err { IfErr result (IsRefusedText IsCountLine (IsCountInRange outputs) bytes.now) }
+{
+    let mut scanner = Scanner::new(bytes);
+    let count = count(&mut scanner, outputs)?;
+    if !scanner.is_empty() {
+        return Err(LineFail::Text);
+    }
+    match count {
+        Some(count) => Ok(count),
+        None => Err(LineFail::Range),
+    }
+}
+
+// The first column of a block, the number of its pairs, and whether its last carry replaces a column too. `Range` comes exactly
+// where there is no pair, or one of its columns isn't there or is replaced by a block before.
+pub(crate) fn read_head(bytes: &[u8], extended: &Extended<'_>) -> Result<(u32, u32, bool), LineFail>
+    ensures ok { IfOk result (IsBlockTextOf extended.now bytes.now) }
+    ensures err { IfErr result (IsRefusedText IsBlockLine (IsHeadOf extended.now) bytes.now) }
+{
+    let mut scanner = Scanner::new(bytes);
+    let head = head(&mut scanner, extended)?;
+    if !scanner.is_empty() {
+        return Err(LineFail::Text);
+    }
+    match head {
+        Some(head) => Ok(head),
         None => Err(LineFail::Range),
     }
 }
@@ -72,24 +105,64 @@ fn is_cut_size(lo: u32, count: u32, outputs: u32) -> bool
     count > 0 && (end == u64::from(outputs) || end + 1 == u64::from(outputs))
 }
 
-fn pair(scanner: &mut Scanner<'_>, graph: &Graph) -> Result<Option<(Lit, Lit)>, LineFail>
-    ensures ok { IfOk result (TakesPair graph.now scanner.old scanner.new) }
+fn pair(scanner: &mut Scanner<'_>, extended: &Extended<'_>) -> Result<Option<(Lit, Lit)>, LineFail>
+    ensures ok { IfOk result (TakesPair extended.now scanner.old scanner.new) }
     ensures err { IfErr result (IsMisfit (pair_line_at scanner.old ≡ None)) }
 {
-    let Some((x, y)) = two(scanner, 2 * graph.max() + 1)? else {
+    let Some((x, y)) = two(scanner, 2 * extended.max() + 1)? else {
         return Ok(None);
     };
-    if has_pair(graph, Lit(x), Lit(y)) {
+    if has_pair(extended, Lit(x), Lit(y)) {
         Ok(Some((Lit(x), Lit(y))))
     } else {
         Ok(None)
     }
 }
 
-fn has_pair(graph: &Graph, x: Lit, y: Lit) -> bool
-    ensures { IsTrue result ↔ IsPairOf graph.now (x, y) }
+fn has_pair(extended: &Extended<'_>, x: Lit, y: Lit) -> bool
+    ensures { IsTrue result ↔ IsPairOf extended.now (x, y) }
 {
-    is_known(graph, x) && is_known(graph, y)
+    extended.is_known(x) && extended.is_known(y)
+}
+
+fn count(scanner: &mut Scanner<'_>, outputs: u32) -> Result<Option<u32>, LineFail>
+    ensures ok { IfOk result (TakesCountLine outputs scanner.old scanner.new) }
+    ensures err { IfErr result (IsMisfit (count_line_at scanner.old ≡ None)) }
+{
+    scanner.text(b"cuts ")?;
+    number(scanner, outputs)
+}
+
+fn head(
+    scanner: &mut Scanner<'_>,
+    extended: &Extended<'_>,
+) -> Result<Option<(u32, u32, bool)>, LineFail>
+    ensures ok { IfOk result (TakesHead extended.now scanner.old scanner.new) }
+    ensures err { IfErr result (IsMisfit (block_line_at scanner.old ≡ None)) }
+{
+    scanner.text(b"replace ")?;
+    let size = two(scanner, extended.graph().outputs())?;
+    let carry = carry(scanner)?;
+    let Some((lo, count)) = size else {
+        return Ok(None);
+    };
+    if extended.has_room(lo, count as usize, carry) {
+        Ok(Some((lo, count, carry)))
+    } else {
+        Ok(None)
+    }
+}
+
+// The word carry, if a space stands here.
+fn carry(scanner: &mut Scanner<'_>) -> Result<bool, LineFail>
+    ensures ok { IfOk result (TakesCarry scanner.old scanner.new) }
+    ensures err { IfErr result (IsMisfit (carry_at scanner.old ≡ None)) }
+{
+    if !scanner.is_at(b' ') {
+        return Ok(false);
+    }
+    scanner.text(b" carry")?;
+    Ok(true)
 }
 
 // Two numbers with a space between them, or nothing where one is above the greatest one.

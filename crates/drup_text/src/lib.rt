@@ -1,20 +1,24 @@
-//! The text of clause certificates: a header that names a cut, and lines of clauses, read from bytes and written.
+//! The text of clause certificates of version 1 and 2: a header that names blocks, and lines of clauses, read from bytes and
+//! written.
 //!
-//! `ClauseFile::start` reads the header of a certificate from a desk and answers its cut, which the graph takes, or the
-//! first refusal within the header. `next` gives the lines behind it, one by one; only the line in hand is held.
+//! `ClauseFile::start` reads the header of a certificate from a desk and answers its version and its blocks, which the
+//! graph takes, or the first refusal within the header. `next` gives the lines behind it, one by one; only the line in hand is held.
 //! `write_clauses` appends a whole certificate and takes no memory. By the laws of `specs/WrittenLaws.antt` what it
 //! writes is read as the same. `start_same` and `write_same` are for the certificate of two graphs, which has one line of its
 //! own before those of clauses (`specs/SameFiles.antt`).
 //!
-//! *Cut*: where a ripple-carry adder replaces columns (`ripple_graft`). *Text of*: the text says this line, up to the
+//! *Cut*, *block*: where a ripple-carry adder replaces columns (`ripple_graft`); version 1 names one cut at most, version 2
+//! blocks in order. *Text of*: the text says this line, up to the
 //! order and the repeats of its literals (`specs/ClauseTexts.antt`, `specs/LineTexts.antt`). *First refusal*:
 //! `specs/HeaderRefusal.antt`. *Ahead*: read into the piece in hand, and not yet taken; what is *left* of a file is
 //! what is ahead and then what the desk has left (`specs/FileStates.antt`, and `specs/LineReading.antt` of `mv_text`).
 #![tactic(auto)]
 
+mod blocks;
 mod clause_file;
 mod clause_reading;
 mod fault;
+mod head;
 mod header;
 mod header_reading;
 mod laws;
@@ -25,6 +29,7 @@ mod writing;
 
 pub use clause_file::ClauseFile;
 pub use fault::StartFail;
+pub use head::Header;
 pub use laws::{
     one_text_is_one_file, passing_headers_are_not_refused, written_files_are_read,
     written_headers_pass, written_lines_are_read, written_same_is_read,

@@ -1,33 +1,36 @@
 // Whole certificates, as they are written.
-ghost use Rattle.std.specs.Prelude.{◌≡◌, ◌≤◌, ◌++◌, ◌∷◌, [], true, length, option_map};
+ghost use Rattle.std.specs.Prelude.{◌≡◌, ◌⊎◌, ◌≤◌, ◌++◌, ◌∷◌, [], true, Some, length};
 ghost use Rattle.std.specs.Fmt.{signed_decimal};
 ghost use Rattle.graph_core.specs.Text.{newline, space};
 ghost use Rattle.mv_desk.specs.Calls.{Writes};
 ghost use Rattle.mv_desk.specs.declared.slot.Slot.TheVariants.{Clauses};
 ghost use Rattle.mv_text.specs.Puts.{Puts};
+ghost use Rattle.drup_text.specs.ClauseTexts.{carry_text};
+ghost use Rattle.drup_text.specs.Headers.{second_line, version_line};
 ghost use Rattle.drup_text.specs.SameFiles.{same_text};
-ghost use Rattle.drup_text.specs.WrittenTexts.{clause_text, cut_text, file_text, line_text, lines_text, literals_text, pairs_text, sign_text, two_text};
+ghost use Rattle.drup_text.specs.WrittenTexts.{any_file_text, blocks_text, clause_text, count_text, cut_text, first_cut, head_text, header_text, line_text, lines_text, literals_text, pairs_text, sign_text, two_text};
 
+use crate::head::Header;
 use clause_core::{Clause, Line};
 use graph_core::Lit;
 use mv_desk::{Desk, Slot, WriteFault};
 use mv_text::Output;
-use ripple_graft::Cut;
+use ripple_graft::{Block, Cut};
 
-/// Appends a certificate to the slot `Clauses`: the header of a cut, or of none, and lines. After an error a front part
-/// was written.
+/// Appends a certificate to the slot `Clauses`: a header, and lines. In version 1 there is one block at most, and only its
+/// cut is written. After an error a front part was written.
 pub fn write_clauses<D: Desk>(
     desk: &mut D,
-    cut: Option<&Cut>,
+    header: &Header,
     lines: &[Line],
 ) -> Result<(), WriteFault>
-    requires { (D.seen desk.old).writes Clauses ≡ true }
-    ensures { Writes Clauses (file_text (option_map (λ c. c.now) cut.entry) lines.now)
+    requires open { (D.seen desk.old).writes Clauses ≡ true }
+    requires one { header.now.version ≡ 2 ⊎ (length header.now.blocks ≤ 1) }
+    ensures { Writes Clauses (any_file_text header.now lines.now)
         (D.seen desk.old) (D.seen desk.new) result }
 {
     let mut output = Output::new(Slot::Clauses);
-    output.put(desk, b"joined 1\n");
-    put_cut(&mut output, desk, cut);
+    put_header(&mut output, desk, header);
     put_lines(&mut output, desk, lines);
     output.flush(desk)
 }
@@ -44,22 +47,96 @@ pub fn write_same<D: Desk>(desk: &mut D, lines: &[Line]) -> Result<(), WriteFaul
     output.flush(desk)
 }
 
-// The lines of a header behind the first one.
-fn put_cut<D: Desk>(output: &mut Output, desk: &mut D, cut: Option<&Cut>)
+// The lines of a header.
+fn put_header<D: Desk>(output: &mut Output, desk: &mut D, header: &Header)
     requires { (D.seen desk.old).writes output.old.slot ≡ true }
     ensures open { (D.seen desk.new).writes output.new.slot ≡ true }
-    ensures puts { Puts (cut_text (option_map (λ c. c.now) cut.entry))
+    ensures puts { Puts (header_text header.now)
         output.old output.new (D.seen desk.old) (D.seen desk.new) }
 {
-    match cut {
-        None => output.put(desk, b"none\n"),
-        Some(cut) => {
-            let pairs = cut.pairs.as_slice();
-            output.put(desk, b"replace ");
-            put_two(output, desk, u128::from(cut.lo), pairs.len() as u128);
-            put_pairs(output, desk, pairs);
-        }
+    let blocks = header.blocks.as_slice();
+    if header.version == 2 {
+        put_count(output, desk, blocks);
+    } else {
+        put_first(output, desk, blocks);
     }
+}
+
+// The header of version 1: the cut of the first block, or that there is none.
+fn put_first<D: Desk>(output: &mut Output, desk: &mut D, blocks: &[Block])
+    requires { (D.seen desk.old).writes output.old.slot ≡ true }
+    ensures open { (D.seen desk.new).writes output.new.slot ≡ true }
+    ensures puts { Puts (version_line ++ cut_text (first_cut blocks.now))
+        output.old output.new (D.seen desk.old) (D.seen desk.new) }
+{
+    output.put(desk, b"joined 1\n");
+    if blocks.is_empty() {
+        output.put(desk, b"none\n");
+    } else {
+        put_cut(output, desk, &blocks[0].cut);
+    }
+}
+
+// The header of version 2: the number of blocks, and the blocks.
+fn put_count<D: Desk>(output: &mut Output, desk: &mut D, blocks: &[Block])
+    requires { (D.seen desk.old).writes output.old.slot ≡ true }
+    ensures open { (D.seen desk.new).writes output.new.slot ≡ true }
+    ensures puts { Puts (second_line ++ count_text blocks.now)
+        output.old output.new (D.seen desk.old) (D.seen desk.new) }
+{
+    output.put(desk, b"joined 2\ncuts ");
+    output.put_number(desk, blocks.len() as u128);
+    output.put(desk, b"\n");
+    put_blocks(output, desk, blocks);
+}
+
+// Blocks, each with its line and those of its pairs.
+fn put_blocks<D: Desk>(output: &mut Output, desk: &mut D, blocks: &[Block])
+    requires { (D.seen desk.old).writes output.old.slot ≡ true }
+    ensures open { (D.seen desk.new).writes output.new.slot ≡ true }
+    ensures puts { Puts (blocks_text blocks.now)
+        output.old output.new (D.seen desk.old) (D.seen desk.new) }
+{
+    for block in blocks {
+        put_head(output, desk, block);
+        put_pairs(output, desk, block.cut.pairs.as_slice());
+    }
+}
+
+// The line of a block.
+fn put_head<D: Desk>(output: &mut Output, desk: &mut D, block: &Block)
+    requires { (D.seen desk.old).writes output.old.slot ≡ true }
+    ensures open { (D.seen desk.new).writes output.new.slot ≡ true }
+    ensures puts { Puts (head_text block.now ++ newline ∷ [])
+        output.old output.new (D.seen desk.old) (D.seen desk.new) }
+{
+    output.put(desk, b"replace ");
+    output.put_number(desk, u128::from(block.cut.lo));
+    output.put(desk, b" ");
+    output.put_number(desk, block.cut.pairs.as_slice().len() as u128);
+    output.put(desk, carry(block.carry));
+    output.put(desk, b"\n");
+}
+
+// What stands behind the numbers of a block whose last carry replaces a column too.
+fn carry(carry: bool) -> &'static [u8]
+    ensures text { result.now ≡ carry_text carry }
+    ensures few { length result.now ≤ 6 }
+{
+    if carry { b" carry" } else { b"" }
+}
+
+// The line of a cut, and those of its pairs.
+fn put_cut<D: Desk>(output: &mut Output, desk: &mut D, cut: &Cut)
+    requires { (D.seen desk.old).writes output.old.slot ≡ true }
+    ensures open { (D.seen desk.new).writes output.new.slot ≡ true }
+    ensures puts { Puts (cut_text (Some cut.now))
+        output.old output.new (D.seen desk.old) (D.seen desk.new) }
+{
+    let pairs = cut.pairs.as_slice();
+    output.put(desk, b"replace ");
+    put_two(output, desk, u128::from(cut.lo), pairs.len() as u128);
+    put_pairs(output, desk, pairs);
 }
 
 // Pairs, each in a line.

@@ -9,7 +9,7 @@ use Rattle.std.proofs.lemmas.List.Quantifiers.{all_pairs_push}
 use Rattle.std.specs.Prelude.{IsSome, slice_index_or}
 use Rattle.graph_core.specs.Graph.Assignments.{Assignment}
 use Rattle.graph_core.specs.Algebra.Polynomials.{Polynomial, difference, value}
-use Rattle.graph_core.specs.Algebra.{LiveLine, Part, IsLive, line_of, value_of, value_or_zero, combined, modulus, Combination, IsEqual}
+use Rattle.graph_core.specs.Algebra.{LiveLine, Part, IsLive, line_of, value_of, value_or_zero, combined, modulus, IsCombined}
 use Rattle.graph_core.proofs.OfGraphs.CallerLemmas.{difference_plus, Apart, apart_from_pairs}
 use Rattle.frontier_core.proofs.Everywhere.{all_of_map}
 use Rattle.frontier_core.proofs.RestLines.{rest_line_starts, rest_line_ends, zero_rest_closes}
@@ -56,9 +56,9 @@ once_ones (p ∷ parts) h =
 not_zero : (m : ℕ) (p : Polynomial) → ((σ : Assignment) → value m p σ ≡ 1) → IsNotZero m p
 not_zero m p one none = let a = one (λ v. true) in let b = none (λ v. true) in absurd (omega arith)
 
-total_from : (m : ℕ) (live : List LiveLine) (parts : List Part) (f : Assignment → ℕ) (new : ℕ) (p : Polynomial) → AreGroupLines m live (map (λ q. q.id) parts) f →
-    All (λ q. (σ : Assignment) → value m q.factor σ ≡ 1) parts → ((σ : Assignment) → value m p σ ≡ f σ) → AreSpare m live parts × IsEqual m live (Combination new parts p)
-total_from m live parts f new p h ones is = (
+total_from : (m : ℕ) (live : List LiveLine) (parts : List Part) (f : Assignment → ℕ) (p : Polynomial) → AreGroupLines m live (map (λ q. q.id) parts) f →
+    All (λ q. (σ : Assignment) → value m q.factor σ ≡ 1) parts → ((σ : Assignment) → value m p σ ≡ f σ) → AreSpare m live parts × IsCombined m live parts p
+total_from m live parts f p h ones is = (
   record {
     live = All-from_recursion (λ q. IsLive live q.id) parts (all_of_map (IsLive live) (λ q. q.id) parts (recursion_from_All (IsLive live) (map (λ q. q.id) parts) h.live));
     once = once_ones parts (apart_from_pairs (map (λ q. q.id) parts) h.once);
@@ -68,8 +68,8 @@ total_from m live parts f new p h ones is = (
 )
 
 pub total_is_equal : TotalIsEqual
-total_is_equal m live ids f parts new p h ones is =
-    total_from m live parts f new p (subst (λ is'. AreGroupLines m live is' f) (sym ones.lines) h) ones.ones is
+total_is_equal m live ids f parts p h ones is =
+    total_from m live parts f p (subst (λ is'. AreGroupLines m live is' f) (sym ones.lines) h) ones.ones is
 
 pub total_ends : TotalEnds
 total_ends e s added rest all = (

@@ -136,7 +136,7 @@ pending_eliminates e s live start rest next f parts x h above low new replaced =
 -- ---- the combination
 
 pub group_is_equal : GroupIsEqual
-group_is_equal e s live start rest f parts new p h is σ =
+group_is_equal e s live start rest f parts p h is σ =
     let m = modulus e in
     let c = combined m live parts σ in
     is σ ∙ difference_is m (gap e s f.added rest σ) (start σ) c (modulus_pos e) (ap (λ z. z % m) (omega arith) ∙ h.sum σ ∙ sym (gap_small e s f.added rest σ))
@@ -146,6 +146,7 @@ spare_is_lawful m l parts new p spare above equal = record {
   new_id = above;
   live_operands = All-from_recursion (IsLive l.live) (map (λ part. part.id) parts)
       (all_from_map (IsLive l.live) (λ part. part.id) parts (recursion_from_All (λ part. IsLive l.live part.id) parts spare.live));
+  there = tt;
   equal = equal;
 }
 

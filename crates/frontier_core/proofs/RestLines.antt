@@ -121,7 +121,7 @@ eliminating_keeps_rest_line e s added x line rest next is_line above replaced = 
         (ap (λ z. (gate_axiom m x).value σ * z) c ∙ omega arith) ∙ sym (equation σ)
 
 pub combines_two : CombinesTwo
-combines_two m live new id other one c d is_one sum σ =
+combines_two m live id other one c d is_one sum σ =
     let a = value_of live id σ in
     let b = value_of live other σ * value m c σ in
     let first : (a * value m one σ) % m ≡ a % m = ap (λ z. (a * z) % m) (is_one σ) ∙ mul-mod_second a 1 m ∙ ap (λ z. z % m) (omega arith) in
@@ -129,7 +129,7 @@ combines_two m live new id other one c d is_one sum σ =
     sum σ ∙ sym (sum_same m (a * value m one σ) a (b + 0) b first second)
 
 pub combines_one : CombinesOne
-combines_one m live new other c d sum σ = sum σ ∙ ap (λ z. z % m) (omega arith)
+combines_one m live other c d sum σ = sum σ ∙ ap (λ z. z % m) (omega arith)
 
 pub rest_line_ends : RestLineEnds
 rest_line_ends e s added line rest all is_line σ = is_line σ ∙ ap (λ x. difference (modulus e) x (rest σ)) (columns_make_claim s e.graph.outputs added σ all)

@@ -6,7 +6,7 @@ use Rattle.graph_core.specs.declared.gate.Gate.{Gate}
 use Rattle.graph_core.specs.Graph.Assignments.{Assignment}
 use Rattle.graph_core.specs.Algebra.Polynomials.{Polynomial, value}
 use Rattle.graph_core.specs.Graph.Extended.{Extended, Column}
-use Rattle.graph_core.specs.Algebra.{LiveLine, Line, Combination, Delete, Ledger, IsEqual, IsLive, IsLawfulLine, AreLawfulLines, axioms, column_axiom, gate_axiom, line_of, introduce, after, after_all, modulus, value_of}
+use Rattle.graph_core.specs.Algebra.{LiveLine, Line, Combination, Delete, Ledger, IsCombined, IsLive, IsLawfulLine, AreLawfulLines, axioms, column_axiom, gate_axiom, line_of, introduce, after, after_all, modulus, value_of}
 use Rattle.ripple_graft.specs.Extension.{IsExtension}
 
 -- The axioms are live under their ids.
@@ -35,12 +35,12 @@ LinesGrow = (m : ℕ) (l : Ledger) (xs : List Line) (x : Line) → AreLawfulLine
 
 -- A line times a polynomial, as a combination.
 abbrev pub CombinesOne : Type 0
-CombinesOne = (m : ℕ) (live : List LiveLine) (new other : ℕ) (c d : Polynomial) →
+CombinesOne = (m : ℕ) (live : List LiveLine) (other : ℕ) (c d : Polynomial) →
     ((σ : Assignment) → value m d σ ≡ (value_of live other σ * value m c σ) % m) →
-    IsEqual m live (Combination new (record { id = other; factor = c } ∷ []) d)
+    IsCombined m live (record { id = other; factor = c } ∷ []) d
 
 -- A line and another one times a polynomial.
 abbrev pub CombinesTwo : Type 0
-CombinesTwo = (m : ℕ) (live : List LiveLine) (new id other : ℕ) (one c d : Polynomial) → ((σ : Assignment) → value m one σ ≡ 1 % m) →
+CombinesTwo = (m : ℕ) (live : List LiveLine) (id other : ℕ) (one c d : Polynomial) → ((σ : Assignment) → value m one σ ≡ 1 % m) →
     ((σ : Assignment) → value m d σ ≡ (value_of live id σ + value_of live other σ * value m c σ) % m) →
-    IsEqual m live (Combination new (record { id = id; factor = one } ∷ record { id = other; factor = c } ∷ []) d)
+    IsCombined m live (record { id = id; factor = one } ∷ record { id = other; factor = c } ∷ []) d

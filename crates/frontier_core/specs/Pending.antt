@@ -8,7 +8,7 @@ use Rattle.graph_core.specs.Graph.Assignments.{Assignment, literal, bit}
 use Rattle.graph_core.specs.Graph.Operands.{Sides}
 use Rattle.graph_core.specs.Algebra.Polynomials.{Polynomial, difference, value}
 use Rattle.graph_core.specs.Graph.Extended.{Extended}
-use Rattle.graph_core.specs.Algebra.{LiveLine, Ledger, Part, Combination, IsEqual, IsLawfulLine, IsLive, value_of, combined, modulus, gate_axiom}
+use Rattle.graph_core.specs.Algebra.{LiveLine, Ledger, Part, Combination, IsCombined, IsLawfulLine, IsLive, value_of, combined, modulus, gate_axiom}
 use Rattle.ripple_graft.specs.Extension.{new_outputs}
 use Rattle.frontier_core.specs.declared.step.Step.TheVariants.{Add, Eliminate}
 use Rattle.frontier_core.specs.Sets.{has}
@@ -71,14 +71,14 @@ PendingEliminates = (e : Extended) (s : Sides) (live : List LiveLine) (start res
 
 -- The combination of a group's parts, which states the gap now minus the gap at the start.
 abbrev pub GroupIsEqual : Type 0
-GroupIsEqual = (e : Extended) (s : Sides) (live : List LiveLine) (start rest : Assignment → ℕ) (f : Taken) (parts : List Part) (new : ℕ) (p : Polynomial) →
+GroupIsEqual = (e : Extended) (s : Sides) (live : List LiveLine) (start rest : Assignment → ℕ) (f : Taken) (parts : List Part) (p : Polynomial) →
     IsPending e s live start f rest parts → ((σ : Assignment) → value (modulus e) p σ ≡ difference (modulus e) (gap e s f.added rest σ) (start σ)) →
-    IsEqual (modulus e) live (Combination new parts p)
+    IsCombined (modulus e) live parts p
 
 -- A combination of spare parts with a new id is lawful.
 abbrev pub SpareIsLawful : Type 0
 SpareIsLawful = (m : ℕ) (l : Ledger) (parts : List Part) (new : ℕ) (p : Polynomial) → AreSpare m l.live parts → l.last < new →
-    IsEqual m l.live (Combination new parts p) → IsLawfulLine m l (Combination new parts p)
+    IsCombined m l.live parts p → IsLawfulLine m l (Combination new parts p)
 
 -- ---- what a group states, without the specification's part
 

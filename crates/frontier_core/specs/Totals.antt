@@ -5,7 +5,7 @@ use Rattle.graph_core.specs.Graph.Assignments.{Assignment}
 use Rattle.graph_core.specs.Graph.Operands.{Sides}
 use Rattle.graph_core.specs.Algebra.Polynomials.{Polynomial, difference, value}
 use Rattle.graph_core.specs.Graph.Extended.{Extended}
-use Rattle.graph_core.specs.Algebra.{LiveLine, Part, Combination, IsEqual, IsLive, line_of, value_of, modulus, specification}
+use Rattle.graph_core.specs.Algebra.{LiveLine, Part, IsCombined, IsLive, line_of, value_of, modulus, specification}
 use Rattle.frontier_core.specs.Sets.{has}
 use Rattle.frontier_core.specs.Pending.{gap, AreSpare}
 
@@ -39,8 +39,8 @@ pub record AreOnes (m : ℕ) (ids : List ℕ) (parts : List Part) : Type 0 where
 
 -- The last line adds them up.
 abbrev pub TotalIsEqual : Type 0
-TotalIsEqual = (m : ℕ) (live : List LiveLine) (ids : List ℕ) (f : Assignment → ℕ) (parts : List Part) (new : ℕ) (p : Polynomial) → AreGroupLines m live ids f →
-    AreOnes m ids parts → ((σ : Assignment) → value m p σ ≡ f σ) → AreSpare m live parts × IsEqual m live (Combination new parts p)
+TotalIsEqual = (m : ℕ) (live : List LiveLine) (ids : List ℕ) (f : Assignment → ℕ) (parts : List Part) (p : Polynomial) → AreGroupLines m live ids f →
+    AreOnes m ids parts → ((σ : Assignment) → value m p σ ≡ f σ) → AreSpare m live parts × IsCombined m live parts p
 
 -- Once all columns were added the gap is the specification minus the rest.
 abbrev pub TotalEnds : Type 0

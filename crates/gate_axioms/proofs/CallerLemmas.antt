@@ -1,5 +1,7 @@
--- What crates above may cite of live polynomials as lines, and of the axioms' ids.
+-- What crates above may cite of live polynomials as lines, of the axioms' ids, and of the values of clauses.
 pub use Rattle.gate_axioms.proofs.Entries.{line_at, line_of-entries}
 pub use Rattle.gate_axioms.proofs.Growth.{keeps_itself, keeps_lines}
 pub use Rattle.gate_axioms.proofs.FirstLines.{fresh_above}
 pub use Rattle.gate_axioms.proofs.ColumnLines.{axioms_within}
+pub use Rattle.gate_axioms.proofs.ClauseProducts.{clause_values, value_is}
+pub use Rattle.gate_axioms.proofs.ImportedClauses.{facts_vanish, imports_bounded, imports_vanish, same_imports}

@@ -147,7 +147,7 @@ fn sum_with_product(terms: &mut Terms, sum: Form, left: Form, right: Form) -> Re
     Ok(poly)
 }
 
-fn one(terms: &Terms) -> Residue
+pub(crate) fn one(terms: &Terms) -> Residue
     ensures width { result.width ≡ terms.now.exponent }
     ensures value { result.value ≡ 1 }
 {

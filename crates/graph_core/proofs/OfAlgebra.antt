@@ -9,5 +9,6 @@ mod LineRows
 pub mod NormalFormSizes
 pub mod NormalForms
 pub mod Reading
+pub mod SamePremises
 pub mod Sound
 pub mod Unlawful

@@ -8,7 +8,7 @@ pub mod Likeness
 pub mod Text
 pub mod Reading
 pub mod Refusal
-use Rattle.std.specs.Prelude.{◌≡◌, ℕ, ◌+◌, ◌*◌, ◌%◌, ◌<◌, not, List, [], ◌∷◌, ◌++◌, map, length, IsSome, ◌==◌}
+use Rattle.std.specs.Prelude.{◌≡◌, ℕ, zero, suc, ◌+◌, ◌*◌, ◌%◌, ◌<◌, not, List, [], ◌∷◌, ◌++◌, map, length, slice_get, IsSome, ◌==◌}
 use Rattle.std.specs.declared.option.Option.{Option}
 use Rattle.std.specs.declared.option.Option.TheVariants.{None, Some}
 use Rattle.std.specs.List.{All, find, filter}
@@ -30,17 +30,26 @@ pub record Part : Type 0 where
   pub id : ℕ
   pub factor : Polynomial
 
--- The lines: each but Delete introduces an id, and states a polynomial last.
+-- The lines: each but Delete introduces an id, and states a polynomial last. An import names a value by its number; it stands in
+-- version 2 alone.
 pub data Line : Type 0 where
   Sum : ℕ → ℕ → ℕ → Polynomial → Line
   Product : ℕ → ℕ → Polynomial → Polynomial → Line
   Combination : ℕ → List Part → Polynomial → Line
+  Import : ℕ → ℕ → Polynomial → Line
   Delete : ℕ → Line
 
--- The live lines, and the greatest id in use so far, also of lines that were deleted.
+-- The live lines, the greatest id in use so far, also of lines that were deleted, and the values that lines may import.
 pub record Ledger : Type 0 where
   pub live : List LiveLine
   pub last : ℕ
+  pub imports : List (Assignment → ℕ)
+
+-- What an algebra certificate stands on: its version, an extended graph, and the values that its lines may import.
+pub record Premises : Type 0 where
+  pub version : ℕ
+  pub extended : Extended
+  pub imports : List (Assignment → ℕ)
 
 -- coefficients count modulo 2 ^ m, m the number of outputs
 abbrev pub modulus : Extended → ℕ
@@ -59,7 +68,12 @@ abbrev pub axioms : Extended → Ledger
 axioms e = record {
   live = map (gate_axiom (modulus e)) e.gates ++ map (column_axiom e) e.replaced;
   last = e.max + length e.graph.outputs;
+  imports = [];
 }
+
+-- with values that may be imported
+abbrev pub beginning : Premises → Ledger
+beginning p = record { live = (axioms p.extended).live; last = (axioms p.extended).last; imports = p.imports }
 
 -- the live line of an id, if there is one
 abbrev pub line_of : List LiveLine → ℕ → Option LiveLine
@@ -81,11 +95,36 @@ abbrev pub combined : ℕ → List LiveLine → List Part → Assignment → ℕ
 combined m live [] σ = 0
 combined m live (p ∷ ps) σ = value_of live p.id σ * value m p.factor σ + combined m live ps σ
 
+-- the value with a number, from 1
+abbrev pub import_of : List (Assignment → ℕ) → ℕ → Option (Assignment → ℕ)
+import_of imports zero = None
+import_of imports (suc i) = slice_get imports i
+
+abbrev pub import_or_zero : Option (Assignment → ℕ) → Assignment → ℕ
+import_or_zero None σ = 0
+import_or_zero (Some f) σ = f σ
+
+-- the number that an import names, and that there is a value with it
+abbrev pub imported : Line → ℕ
+imported (Sum id i j p) = 0
+imported (Product id i q p) = 0
+imported (Combination id parts p) = 0
+imported (Import id number p) = number
+imported (Delete id) = 0
+
+abbrev pub IsThere : List (Assignment → ℕ) → Line → Type 0
+IsThere imports (Sum id i j p) = Unit {0}
+IsThere imports (Product id i q p) = Unit {0}
+IsThere imports (Combination id parts p) = Unit {0}
+IsThere imports (Import id number p) = IsSome (import_of imports number)
+IsThere imports (Delete id) = Unit {0}
+
 -- the ids that a line names, from left to right
 abbrev pub operands : Line → List ℕ
 operands (Sum id i j p) = i ∷ j ∷ []
 operands (Product id i q p) = i ∷ []
 operands (Combination id parts p) = map (λ part. part.id) parts
+operands (Import id number p) = []
 operands (Delete id) = id ∷ []
 
 -- the id that a line introduces is above all before it
@@ -93,6 +132,7 @@ abbrev pub IsNewId : ℕ → Line → Type 0
 IsNewId last (Sum id i j p) = last < id
 IsNewId last (Product id i q p) = last < id
 IsNewId last (Combination id parts p) = last < id
+IsNewId last (Import id number p) = last < id
 IsNewId last (Delete id) = Unit {0}
 
 -- the polynomial that a line states
@@ -100,35 +140,43 @@ abbrev pub stated : Line → Polynomial
 stated (Sum id i j p) = p
 stated (Product id i q p) = p
 stated (Combination id parts p) = p
+stated (Import id number p) = p
 stated (Delete id) = []
 
 -- the value that the line's rule names, up to multiples of m
-abbrev pub named : ℕ → List LiveLine → Line → Assignment → ℕ
-named m live (Sum id i j p) σ = value_of live i σ + value_of live j σ
-named m live (Product id i q p) σ = value_of live i σ * value m q σ
-named m live (Combination id parts p) σ = combined m live parts σ
-named m live (Delete id) σ = 0
+abbrev pub named : ℕ → Ledger → Line → Assignment → ℕ
+named m l (Sum id i j p) σ = value_of l.live i σ + value_of l.live j σ
+named m l (Product id i q p) σ = value_of l.live i σ * value m q σ
+named m l (Combination id parts p) σ = combined m l.live parts σ
+named m l (Import id number p) σ = import_or_zero (import_of l.imports number) σ
+named m l (Delete id) σ = 0
 
 -- At every assignment, an evaluation or not, the stated polynomial has the value that the rule names.
-abbrev pub IsEqual : ℕ → List LiveLine → Line → Type 0
-IsEqual m live x = (σ : Assignment) → value m (stated x) σ ≡ named m live x σ % m
+abbrev pub IsEqual : ℕ → Ledger → Line → Type 0
+IsEqual m l x = (σ : Assignment) → value m (stated x) σ ≡ named m l x σ % m
 
--- A lawful line: its id is new, its operands are live, and its polynomial has the value that the rule names.
+-- the same of a combination, over live lines alone
+abbrev pub IsCombined : ℕ → List LiveLine → List Part → Polynomial → Type 0
+IsCombined m live parts p = (σ : Assignment) → value m p σ ≡ combined m live parts σ % m
+
+-- A lawful line: its id is new, its operands are live, what it imports is there, and its polynomial has the value that the rule names.
 pub record IsLawfulLine (m : ℕ) (l : Ledger) (x : Line) : Type 0 where
   pub new_id : IsNewId l.last x
   pub live_operands : All (IsLive l.live) (operands x)
-  pub equal : IsEqual m l.live x
+  pub there : IsThere l.imports x
+  pub equal : IsEqual m l x
 
 -- the lines that are live after a new one
 abbrev pub introduce : ℕ → Ledger → ℕ → Polynomial → Ledger
-introduce m l id p = record { live = record { id = id; value = value m p } ∷ l.live; last = id }
+introduce m l id p = record { live = record { id = id; value = value m p } ∷ l.live; last = id; imports = l.imports }
 
 -- the lines that are live after this one
 abbrev pub after : ℕ → Ledger → Line → Ledger
 after m l (Sum id i j p) = introduce m l id p
 after m l (Product id i q p) = introduce m l id p
 after m l (Combination id parts p) = introduce m l id p
-after m l (Delete id) = record { live = filter (λ x. not (x.id == id)) l.live; last = l.last }
+after m l (Import id number p) = introduce m l id p
+after m l (Delete id) = record { live = filter (λ x. not (x.id == id)) l.live; last = l.last; imports = l.imports }
 
 -- the specification: the outputs' word minus what it is claimed to be
 abbrev pub specification : Extended → Sides → Assignment → ℕ
@@ -148,18 +196,25 @@ abbrev pub after_all : ℕ → Ledger → List Line → Ledger
 after_all m l [] = l
 after_all m l (x ∷ xs) = after_all m (after m l x) xs
 
--- Lawful lines from the axioms on, and a closing line.
-abbrev pub AreLawful : Extended → Sides → List Line → ℕ → Type 0
-AreLawful e s lines closing = AreLawfulLines (modulus e) (axioms e) lines × Closes e s (after_all (modulus e) (axioms e) lines).live closing
+-- Lawful lines from the beginning on, and a closing line.
+abbrev pub AreLawful : Premises → Sides → List Line → ℕ → Type 0
+AreLawful p s lines closing =
+    AreLawfulLines (modulus p.extended) (beginning p) lines × Closes p.extended s (after_all (modulus p.extended) (beginning p) lines).live closing
 
 -- the old and the new output of each replaced column are equal
 abbrev pub AgreeOnColumns : Extended → Assignment → Type 0
 AgreeOnColumns e σ = All (λ c. literal σ c.old ≡ literal σ c.new) e.replaced
 
--- Where the lines are lawful, the outputs' word is what it is claimed to be on every evaluation on which the replaced columns agree.
+-- the replaced columns agree, and what may be imported is 0
+pub record AreMet (p : Premises) (σ : Assignment) : Type 0 where
+  pub columns : AgreeOnColumns p.extended σ
+  pub imports : All (λ f. f σ ≡ 0) p.imports
+
+-- Where the lines are lawful, the outputs' word is what it is claimed to be on every evaluation that meets the premises.
 abbrev pub AlgebraIsSound : Type 0
-AlgebraIsSound = (e : Extended) (s : Sides) (lines : List Line) (closing : ℕ) (σ : Assignment) →
-    AreLawful e s lines closing → IsEvaluation e.gates σ → AgreeOnColumns e σ → word σ e.graph.outputs ≡ claimed (modulus e) s σ % modulus e
+AlgebraIsSound = (p : Premises) (s : Sides) (lines : List Line) (closing : ℕ) (σ : Assignment) →
+    AreLawful p s lines closing → IsEvaluation p.extended.gates σ → AreMet p σ →
+    word σ p.extended.graph.outputs ≡ claimed (modulus p.extended) s σ % modulus p.extended
 
 -- Where the specification vanishes, the outputs' word is what it is claimed to be.
 abbrev pub VanishingMeansClaim : Type 0

@@ -2,7 +2,7 @@
 -- certificate within the lengths.
 use Rattle.std.specs.Prelude.{ℕ, List, [], ◌∷◌, ◌++◌, codes}
 use Rattle.graph_core.specs.Algebra.Text.{IsLawfulAlgebraFile}
-use Rattle.graph_core.specs.Graph.Extended.{Extended}
+use Rattle.graph_core.specs.Algebra.{Premises}
 use Rattle.graph_core.specs.Graph.Operands.{Sides}
 use Rattle.graph_core.specs.Text.JudgedLines.{Lengths, IsWithin}
 use Rattle.graph_core.specs.Text.{newline}
@@ -11,6 +11,6 @@ use Rattle.graph_core.specs.Text.{newline}
 abbrev pub no_cut : List ℕ
 no_cut = (codes "joined 1" ++ newline ∷ []) ++ (codes "none" ++ newline ∷ [])
 
--- the bytes are a lawful algebra file for an extended graph with these operands, within the lengths
-abbrev pub IsLawfulAlgebra : Lengths → Extended → Sides → List ℕ → Type 0
-IsLawfulAlgebra lengths e sides bytes = IsLawfulAlgebraFile e sides bytes × IsWithin lengths bytes
+-- the bytes are a lawful algebra file over these premises, for these operands, within the lengths
+abbrev pub IsLawfulAlgebra : Lengths → Premises → Sides → List ℕ → Type 0
+IsLawfulAlgebra lengths p sides bytes = IsLawfulAlgebraFile p sides bytes × IsWithin lengths bytes

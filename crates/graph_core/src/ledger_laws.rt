@@ -1,5 +1,5 @@
 // Laws of the ledger of an algebra certificate: which ledgers and which lines say the same.
-ghost use Rattle.graph_core.specs.Algebra.Agreement.{AgreementIsEquivalence, AgreementIsKept, RefusedIsUnlawful};
+ghost use Rattle.graph_core.specs.Algebra.Agreement.{AgreementIsEquivalence, AgreementIsKept, PremisesAreKept, RefusedIsUnlawful};
 ghost use Rattle.graph_core.specs.Algebra.InRange.{RefusedInRange};
 ghost use Rattle.graph_core.specs.Algebra.Ledgers.{LedgerIsMap, LinesKeepZero, LiveLinesVanish};
 ghost use Rattle.graph_core.specs.Algebra.Likeness.{LikenessIsKept};
@@ -9,12 +9,12 @@ pub fn ledger_is_map()
     ensures { LedgerIsMap }
 {}
 
-/// A lawful line keeps that every live line is 0 at an assignment.
+/// A lawful line keeps that every live line is 0 at an assignment, where what may be imported is.
 pub fn lines_keep_zero()
     ensures { LinesKeepZero }
 {}
 
-/// Every live line is 0 on each evaluation on which the replaced columns agree.
+/// Every live line is 0 on each evaluation that meets the premises.
 pub fn live_lines_vanish()
     ensures { LiveLinesVanish }
 {}
@@ -32,6 +32,11 @@ pub fn agreement_is_kept()
 /// Lines that are alike name the same operands, are lawful or refused together, and the same ledger follows.
 pub fn likeness_is_kept()
     ensures { LikenessIsKept }
+{}
+
+/// Over premises that say the same the same files are lawful, and refused for the same causes.
+pub fn premises_are_kept()
+    ensures { PremisesAreKept }
 {}
 
 /// A line that is refused isn't lawful.

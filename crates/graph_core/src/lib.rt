@@ -50,7 +50,7 @@ pub use gate::Gate;
 pub use graph::Graph;
 pub use ledger_laws::{
     agreement_is_equivalence, agreement_is_kept, ledger_is_map, likeness_is_kept, lines_keep_zero,
-    live_lines_vanish, refused_in_range, refused_is_unlawful,
+    live_lines_vanish, premises_are_kept, refused_in_range, refused_is_unlawful,
 };
 pub use literal::Lit;
 pub use memory::Memory;

@@ -1,13 +1,14 @@
 -- The header of an algebra file, and the whole file by what stands behind it.
-use Rattle.std.proofs.Common.{◌≡◌, ℕ, ◌≤◌, List, [], ◌∷◌, ◌++◌, length, Option, IfSome, refl, sym, ap, subst, ◌∙◌, inl, inr}
-use Rattle.std.specs.Prelude.{codes}
+use Rattle.std.proofs.Common.{◌≡◌, ℕ, ◌≤◌, List, [], ◌∷◌, ◌++◌, length, Option, IfSome, refl, sym, ap, subst, ◌∙◌, append_assoc, inl, inr}
+use Rattle.std.specs.Prelude.{Bool, true, false, cond, codes, ◌==◌}
 use Rattle.graph_core.specs.Algebra.Refusal as cause
 use Rattle.graph_core.specs.Graph.Operands.{Sides}
 use Rattle.graph_core.specs.Algebra.Refusal.{AlgebraCause, IsAlgebraRefusal, IsRefusedBody}
-use Rattle.graph_core.specs.Graph.Extended.{Extended}
+use Rattle.graph_core.specs.Algebra.{Premises}
+use Rattle.graph_core.specs.Algebra.Text.{algebra_header, first_line}
 use Rattle.graph_core.specs.Text.JudgedLines.{IsTooLong, Lengths}
 use Rattle.graph_core.specs.Text.{newline}
-use Rattle.graph_core.proofs.OfTexts.CallerLemmas.{ShortFrom, short_next, short_within, start_later, none_in}
+use Rattle.graph_core.proofs.OfTexts.CallerLemmas.{HasNoNewline, ShortFrom, short_next, short_within, start_later, none_in}
 use Rattle.mv_desk.specs.View.{View}
 use Rattle.mv_desk.specs.declared.faults.LineFail.{LineFail}
 use Rattle.mv_desk.specs.declared.faults.LineFail.TheVariants as fail
@@ -24,65 +25,76 @@ use Rattle.joint_checker.specs.Fails.{IsAlgebraFail}
 use Rattle.joint_checker.specs.Outcome.{cause_of}
 use Rattle.clause_judge.proofs.Told.{rose_before, told_more, told_of}
 
-module _ (lengths : Lengths) (e : Extended) (sides : Sides) where
+none_first : (version : ℕ) → HasNoNewline (first_line version)
+none_first version = go (version == 2)
+  where
+    go : (t : Bool) → HasNoNewline (cond t (codes "pac 2") (codes "pac 1"))
+    go true = none_in (codes "pac 2") refl
+    go false = none_in (codes "pac 1") refl
+
+module _ (lengths : Lengths) (given : Premises) (sides : Sides) where
   -- the first line isn't the header
-  pub header_fails : (text : Option (List ℕ)) (before now : View) (given : LineFail) → IsHeaderRefusal lengths text before.read_faults now.read_faults given → IsAlgebraFail lengths e sides text before now (answer_of_line 1 given)
+  pub header_fails : (text : Option (List ℕ)) (before now : View) (why : LineFail) → IsHeaderRefusal given.version lengths text before.read_faults now.read_faults why → IsAlgebraFail lengths given sides text before now (answer_of_line 1 why)
   header_fails text before now fail.Text h =
-      told_more text _ (λ bytes. IsAlgebraRefusal e sides lengths bytes (1, cause.Text)) (λ bytes k. inr (k.0, inl (k.1, refl))) h
+      told_more text _ (λ bytes. IsAlgebraRefusal given sides lengths bytes (1, cause.Text)) (λ bytes k. inr (k.0, inl (k.1, refl))) h
   header_fails text before now fail.Range h = absurd h
   header_fails text before now fail.Fault h = h
   header_fails text before now fail.TooLong h =
-      told_more text (λ bytes. IsTooLong lengths (length bytes) bytes) (λ bytes. (line : ℕ) × IsAlgebraRefusal e sides lengths bytes (line, cause.TooLong)) (λ bytes k. (1, inl (k, refl))) h
+      told_more text (λ bytes. IsTooLong lengths (length bytes) bytes) (λ bytes. (line : ℕ) × IsAlgebraRefusal given sides lengths bytes (line, cause.TooLong)) (λ bytes k. (1, inl (k, refl))) h
   header_fails text before now fail.Memory h = tt
 
-  module _ (file : FileState) (same : file.lines.lengths ≡ lengths) (bytes : List ℕ) (behind : Option (List ℕ)) (header : HasHeader file bytes behind) where
+  module _ (file : FileState) (of : file.version ≡ given.version) (same : file.lines.lengths ≡ lengths) (bytes : List ℕ) (behind : Option (List ℕ)) (header : HasHeader file bytes behind) where
     whole : (P : (List ℕ → Type 0) → Type 0) → P (IsLongIn file.lines header.body) → P (IsTooLong lengths (length bytes))
     whole P h = subst (λ (k : Lengths). P (IsTooLong k (length bytes))) same (subst (λ (n : ℕ). P (IsTooLong file.lines.lengths n)) header.taken h)
 
     short : ¬ (IsTooLong lengths (length bytes) bytes)
     short = subst (λ (k : Lengths). ¬ (IsTooLong k (length bytes) bytes)) same header.short
 
-    pub file_is_lawful : IsLawfulBody e sides file.lines header.body → IsLawfulAlgebra lengths e sides bytes
+    begins : bytes ≡ algebra_header given.version ++ header.body
+    begins = subst (λ v. bytes ≡ algebra_header v ++ header.body) of header.begins
+
+    pub file_is_lawful : IsLawfulBody given sides file.lines header.body → IsLawfulAlgebra lengths given sides bytes
     file_is_lawful h =
-        let is : bytes ≡ codes "pac 1" ++ newline ∷ header.body = header.begins in
+        let first = first_line given.version in
+        let is : bytes ≡ first ++ newline ∷ header.body = begins ∙ append_assoc first (newline ∷ []) header.body in
         let later : ShortFrom (IsTooLong lengths (length bytes)) header.body = whole (λ IsLong. ShortFrom IsLong header.body) h.short in
         let all : ShortFrom (IsTooLong lengths (length bytes)) bytes =
         subst (ShortFrom (IsTooLong lengths (length bytes))) (sym is)
-        (short_next (IsTooLong lengths (length bytes)) (codes "pac 1") header.body (none_in (codes "pac 1") refl) (subst (λ (l : List ℕ). ¬ (IsTooLong lengths (length bytes) l)) is short) later) in (
+        (short_next (IsTooLong lengths (length bytes)) first header.body (none_first given.version) (subst (λ (l : List ℕ). ¬ (IsTooLong lengths (length bytes) l)) is short) later) in (
           record {
             lines = h.lines;
             closing = h.closing;
-            text = (header.body, h.last, h.close.1.0, h.close.1.1, h.texts, h.close.2 ∙ ap (λ (l : List ℕ). l ++ newline ∷ []) h.close.1.2, header.begins);
+            text = (header.body, h.last, h.close.1.0, h.close.1.1, h.texts, h.close.2 ∙ ap (λ (l : List ℕ). l ++ newline ∷ []) h.close.1.2, is);
             in_range = h.in_range;
             closing_in_range = h.closing_in_range;
             lawful = (h.lawful, h.closes);
           },
-          short_within lengths bytes all (start_later bytes header.body [] (inr (codes "pac 1", is)) h.ends),
+          short_within lengths bytes all (start_later bytes header.body [] (inr (first, is)) h.ends),
         )
 
-    pub file_is_refused : (line : ℕ) (c : AlgebraCause) → IsRefusedBody e sides (IsLongIn file.lines header.body) header.body (line, c) → IsAlgebraRefusal e sides lengths bytes (line, c)
-    file_is_refused line c h = inr (short, inr (header.body, header.begins, whole (λ IsLong. IsRefusedBody e sides IsLong header.body (line, c)) h))
+    pub file_is_refused : (line : ℕ) (c : AlgebraCause) → IsRefusedBody given sides (IsLongIn file.lines header.body) header.body (line, c) → IsAlgebraRefusal given sides lengths bytes (line, c)
+    file_is_refused line c h = inr (short, inr (header.body, begins, whole (λ IsLong. IsRefusedBody given sides IsLong header.body (line, c)) h))
 
   -- ---- where the file is told
 
-  module _ (file : FileState) (same : file.lines.lengths ≡ lengths) (text : Option (List ℕ)) (behind : Option (List ℕ)) (header : IfSome text (λ bytes. HasHeader file bytes behind)) where
-    pub text_is_lawful : IfSome behind (IsLawfulBody e sides file.lines) → IfSome text (IsLawfulAlgebra lengths e sides)
-    text_is_lawful h = told_more text (λ bytes. HasHeader file bytes behind) (IsLawfulAlgebra lengths e sides)
-        (λ bytes k. file_is_lawful file same bytes behind k (told_of behind k.body (IsLawfulBody e sides file.lines) k.left h)) header
+  module _ (file : FileState) (of : file.version ≡ given.version) (same : file.lines.lengths ≡ lengths) (text : Option (List ℕ)) (behind : Option (List ℕ)) (header : IfSome text (λ bytes. HasHeader file bytes behind)) where
+    pub text_is_lawful : IfSome behind (IsLawfulBody given sides file.lines) → IfSome text (IsLawfulAlgebra lengths given sides)
+    text_is_lawful h = told_more text (λ bytes. HasHeader file bytes behind) (IsLawfulAlgebra lengths given sides)
+        (λ bytes k. file_is_lawful file of same bytes behind k (told_of behind k.body (IsLawfulBody given sides file.lines) k.left h)) header
 
-    refused_text : (line : ℕ) (c : AlgebraCause) → IfSome behind (λ body. IsRefusedBody e sides (IsLongIn file.lines body) body (line, c)) →
-        IfSome text (λ bytes. IsAlgebraRefusal e sides lengths bytes (line, c))
-    refused_text line c h = told_more text (λ bytes. HasHeader file bytes behind) (λ bytes. IsAlgebraRefusal e sides lengths bytes (line, c))
-        (λ bytes k. file_is_refused file same bytes behind k line c (told_of behind k.body (λ body. IsRefusedBody e sides (IsLongIn file.lines body) body (line, c)) k.left h)) header
+    refused_text : (line : ℕ) (c : AlgebraCause) → IfSome behind (λ body. IsRefusedBody given sides (IsLongIn file.lines body) body (line, c)) →
+        IfSome text (λ bytes. IsAlgebraRefusal given sides lengths bytes (line, c))
+    refused_text line c h = told_more text (λ bytes. HasHeader file bytes behind) (λ bytes. IsAlgebraRefusal given sides lengths bytes (line, c))
+        (λ bytes k. file_is_refused file of same bytes behind k line c (told_of behind k.body (λ body. IsRefusedBody given sides (IsLongIn file.lines body) body (line, c)) k.left h)) header
 
-    long_text : IfSome behind (λ body. (line : ℕ) × IsRefusedBody e sides (IsLongIn file.lines body) body (line, cause.TooLong)) →
-        IfSome text (λ bytes. (line : ℕ) × IsAlgebraRefusal e sides lengths bytes (line, cause.TooLong))
-    long_text h = told_more text (λ bytes. HasHeader file bytes behind) (λ bytes. (line : ℕ) × IsAlgebraRefusal e sides lengths bytes (line, cause.TooLong))
-        (λ bytes k. let there = told_of behind k.body (λ body. (line : ℕ) × IsRefusedBody e sides (IsLongIn file.lines body) body (line, cause.TooLong)) k.left h in
-        (there.0, file_is_refused file same bytes behind k there.0 cause.TooLong there.1)) header
+    long_text : IfSome behind (λ body. (line : ℕ) × IsRefusedBody given sides (IsLongIn file.lines body) body (line, cause.TooLong)) →
+        IfSome text (λ bytes. (line : ℕ) × IsAlgebraRefusal given sides lengths bytes (line, cause.TooLong))
+    long_text h = told_more text (λ bytes. HasHeader file bytes behind) (λ bytes. (line : ℕ) × IsAlgebraRefusal given sides lengths bytes (line, cause.TooLong))
+        (λ bytes k. let there = told_of behind k.body (λ body. (line : ℕ) × IsRefusedBody given sides (IsLongIn file.lines body) body (line, cause.TooLong)) k.left h in
+        (there.0, file_is_refused file of same bytes behind k there.0 cause.TooLong there.1)) header
 
     -- what is behind the header isn't lawful
-    pub body_fails : (first before now : View) (answer : Checked) → first.read_faults ≤ before.read_faults → IsBodyFail e sides file.lines behind before now answer → IsAlgebraFail lengths e sides text first now answer
+    pub body_fails : (first before now : View) (answer : Checked) → first.read_faults ≤ before.read_faults → IsBodyFail given sides file.lines behind before now answer → IsAlgebraFail lengths given sides text first now answer
     body_fails first before now checked.Accepted later h = absurd h
     body_fails first before now (checked.Graph why) later h = absurd h
     body_fails first before now (checked.Refused (refusal.Clauses n why)) later h = absurd h

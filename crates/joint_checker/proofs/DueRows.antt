@@ -8,10 +8,10 @@ use Rattle.graph_core.specs.Algebra.Refusal as cause
 use Rattle.graph_core.specs.declared.claim.Claim.{Claim}
 use Rattle.graph_core.specs.Graph.Operands.{profile_of, sides_for}
 use Rattle.graph_core.specs.Algebra.Refusal.{AlgebraCause, IsAlgebraRefusal}
-use Rattle.graph_core.specs.Graph.Extended.{Extended}
+use Rattle.graph_core.specs.Algebra.{Premises}
 use Rattle.graph_core.specs.Graph.{Aig}
 use Rattle.graph_core.specs.Text.JudgedLines.{IsExact}
-use Rattle.graph_core.proofs.OfAlgebra.CallerLemmas.{algebra_is_exact}
+use Rattle.graph_core.proofs.OfAlgebra.CallerLemmas.{algebra_is_exact, premises_are_kept}
 use Rattle.graph_core.proofs.OfTexts.CallerLemmas.{one_graph, exact_map}
 use Rattle.mv_desk.specs.View.{View}
 use Rattle.mv_desk.specs.declared.limits.Limits.{Limits}
@@ -28,14 +28,14 @@ use Rattle.graph_core.specs.Certificates.{IsLawfulAlgebra}
 use Rattle.drup_text.specs.HeaderRefusal as clausal
 use Rattle.drup_text.specs.HeaderRefusal.{LineCause}
 use Rattle.joint_checker.specs.Certificates.{IsLawfulPair}
-use Rattle.joint_checker.specs.ClauseFiles.{GivesExtended}
+use Rattle.joint_checker.specs.ClauseFiles.{GivesPremises}
 use Rattle.joint_checker.specs.ClauseRefusals.{ClauseFault, Goals, IsFileRefusal, Line}
 use Rattle.joint_checker.specs.Files.{Files, Texts, texts_of}
 use Rattle.joint_checker.specs.Outcome.{IsDue, IsExactAnswer, IsOutcome, OneAnswerIsDue, OutcomesAreExact, cause_of}
 use Rattle.clause_judge.specs.LineRefusals.{line_cause}
 use Rattle.clause_judge.proofs.Causes.{next_exact}
 use Rattle.joint_checker.proofs.ClauseWholes.{clauses_are_exact}
-use Rattle.joint_checker.proofs.Joined.{gives_of}
+use Rattle.joint_checker.proofs.Joined.{gives_bounds, gives_of}
 use Rattle.aiger_reader.proofs.GraphFiles.{answer_of, one_graph_refusal, refused, refused_not_long, spelled_not_long, spelled_not_refused}
 
 -- ---- the answers by their causes
@@ -63,6 +63,7 @@ algebra_answer (line, cause.Text) = checked.Refused (refusal.Algebra line why.Te
 algebra_answer (line, cause.Range) = checked.Refused (refusal.Algebra line why.Range)
 algebra_answer (line, cause.Id) = checked.Refused (refusal.Algebra line why.Id)
 algebra_answer (line, (cause.NoSuchLine id)) = checked.Refused (refusal.Algebra line (why.NoSuchLine id))
+algebra_answer (line, (cause.NoSuchClause number)) = checked.Refused (refusal.Algebra line (why.NoSuchClause number))
 algebra_answer (line, cause.NotEqual) = checked.Refused (refusal.Algebra line why.NotEqual)
 algebra_answer (line, cause.NotSpecification) = checked.Refused (refusal.Algebra line why.NotSpec)
 
@@ -71,6 +72,7 @@ answer_is line why.Text = refl
 answer_is line why.Range = refl
 answer_is line why.Id = refl
 answer_is line (why.NoSuchLine id) = refl
+answer_is line (why.NoSuchClause number) = refl
 answer_is line why.NotEqual = refl
 answer_is line why.NotSpec = refl
 
@@ -93,20 +95,20 @@ module _ (limits : Limits) (claim : Claim) (file clauses algebra : List ℕ) whe
         (λ long. ⊎_elim (λ g. absurd (refused_not_long (profile_of claim.add) limits.graph file g.0 g.1 long.0)) (λ other. long.1 ∙ sym other.1) s) r;
   }
 
-  -- why the clause file gives no extended graph for a graph
+  -- why the clause file gives no premises for a graph
   abbrev IsRefusedFor : Aig → Checked → Type 0
   IsRefusedFor g c = (f : ClauseFault) × IsFileRefusal (lengths_of limits) g clauses f × (c ≡ clause_answer f)
 
   abbrev AreClausesRefused : Checked → Type 0
   AreClausesRefused c = (g : Aig) × SpellsWithin (profile_of claim.add) limits.graph file g × IsRefusedFor g c
 
-  abbrev Gives : Aig → Extended → Type 0
-  Gives g e = GivesExtended (lengths_of limits) g clauses e
+  abbrev Gives : Aig → Premises → Type 0
+  Gives g base = GivesPremises (lengths_of limits) g clauses base
 
   abbrev HasGiven : Type 0
-  HasGiven = (g : Aig) × SpellsWithin (profile_of claim.add) limits.graph file g × ((e : Extended) × Gives g e)
+  HasGiven = (g : Aig) × SpellsWithin (profile_of claim.add) limits.graph file g × ((base : Premises) × Gives g base)
 
-  of_clauses : (g : Aig) → IsExact ((e : Extended) × Gives g e) (IsRefusedFor g)
+  of_clauses : (g : Aig) → IsExact ((base : Premises) × Gives g base) (IsRefusedFor g)
   of_clauses g = exact_map clause_answer (clauses_are_exact.exact (lengths_of limits) g clauses)
 
   -- a refusal is one for the graph that is there
@@ -115,37 +117,38 @@ module _ (limits : Limits) (claim : Claim) (file clauses algebra : List ℕ) whe
 
   clauses_exact : Spelled → IsExact HasGiven AreClausesRefused
   clauses_exact s = record {
-    decided = ⊎_elim (λ e. inl (s.0, s.1, e)) (λ r. inr (r.0, (s.0, s.1, r.1))) (of_clauses s.0).decided;
+    decided = ⊎_elim (λ base. inl (s.0, s.1, base)) (λ r. inr (r.0, (s.0, s.1, r.1))) (of_clauses s.0).decided;
     not_both = λ c h r. (of_clauses h.0).not_both c h.2 (refused_for c h.0 h.1 r);
     one = λ a b r t. (of_clauses s.0).one a b (refused_for a s.0 s.1 r) (refused_for b s.0 s.1 t);
   }
 
-  abbrev Refused : Aig → Extended → Checked → Type 0
-  Refused g e c = (p : ℕ × AlgebraCause) × IsAlgebraRefusal e (sides_for claim g) (lengths_of limits) algebra p × (c ≡ algebra_answer p)
+  abbrev Refused : Aig → Premises → Checked → Type 0
+  Refused g base c = (p : ℕ × AlgebraCause) × IsAlgebraRefusal base (sides_for claim g) (lengths_of limits) algebra p × (c ≡ algebra_answer p)
 
-  abbrev IsLawful : Aig → Extended → Type 0
-  IsLawful g e = IsLawfulAlgebra (lengths_of limits) e (sides_for claim g) algebra
+  abbrev IsLawful : Aig → Premises → Type 0
+  IsLawful g base = IsLawfulAlgebra (lengths_of limits) base (sides_for claim g) algebra
 
   abbrev Lawful : Type 0
   Lawful = (g : Aig) × SpellsWithin (profile_of claim.add) limits.graph file g × IsLawfulPair (lengths_of limits) g claim clauses algebra
 
   abbrev IsAlgebraRefused : Checked → Type 0
-  IsAlgebraRefused c = (g : Aig) × SpellsWithin (profile_of claim.add) limits.graph file g × ((e : Extended) × Gives g e × Refused g e c)
+  IsAlgebraRefused c = (g : Aig) × SpellsWithin (profile_of claim.add) limits.graph file g × ((base : Premises) × Gives g base × Refused g base c)
 
-  of_extended : (g : Aig) (e : Extended) → IsExact (IsLawful g e) (Refused g e)
-  of_extended g e = exact_map algebra_answer (algebra_is_exact e (sides_for claim g) (lengths_of limits) algebra)
+  of_given : (g : Aig) (base : Premises) → Gives g base → IsExact (IsLawful g base) (Refused g base)
+  of_given g base gives = exact_map algebra_answer (algebra_is_exact base (sides_for claim g) (lengths_of limits) algebra (gives_bounds (lengths_of limits) g clauses base gives))
 
-  -- a refusal is one for the graph and the extended one that are there
-  refused_there : (c : Checked) (g : Aig) (e : Extended) → SpellsWithin (profile_of claim.add) limits.graph file g → Gives g e → IsAlgebraRefused c → Refused g e c
-  refused_there c g e s gives r =
-      let here : (f : Extended) × Gives g f × Refused g f c = subst (λ (x : Aig). (f : Extended) × Gives x f × Refused x f c) (one_graph (profile_of claim.add) file r.0 g r.1.spells s.spells) r.2 in
-      subst (λ (f : Extended). Refused g f c) (clauses_are_exact.one (lengths_of limits) g clauses here.0 e here.1 gives) here.2
+  -- a refusal is one for the graph and the premises that are there
+  refused_there : (c : Checked) (g : Aig) (base : Premises) → SpellsWithin (profile_of claim.add) limits.graph file g → Gives g base → IsAlgebraRefused c → Refused g base c
+  refused_there c g base s gives r =
+      let here : (other : Premises) × Gives g other × Refused g other c = subst (λ (x : Aig). (other : Premises) × Gives x other × Refused x other c) (one_graph (profile_of claim.add) file r.0 g r.1.spells s.spells) r.2 in
+      let same = clauses_are_exact.one (lengths_of limits) g clauses here.0 base here.1 gives in
+      (here.2.0, premises_are_kept.refused here.0 base same (sides_for claim g) (lengths_of limits) algebra here.2.0 here.2.1, here.2.2)
 
   algebra_exact : HasGiven → IsExact Lawful IsAlgebraRefused
-  algebra_exact (g, s, (e, gives)) = record {
-    decided = ⊎_elim (λ l. inl (g, s, record { extended = e; gives = gives; lawful = l })) (λ r. inr (r.0, (g, s, (e, gives, r.1)))) (of_extended g e).decided;
-    not_both = λ c l r. (of_extended l.0 l.2.extended).not_both c l.2.lawful (refused_there c l.0 l.2.extended l.1 l.2.gives r);
-    one = λ a b r t. (of_extended g e).one a b (refused_there a g e s gives r) (refused_there b g e s gives t);
+  algebra_exact (g, s, (base, gives)) = record {
+    decided = ⊎_elim (λ l. inl (g, s, record { premises = base; gives = gives; lawful = l })) (λ r. inr (r.0, (g, s, (base, gives, r.1)))) (of_given g base gives).decided;
+    not_both = λ c l r. (of_given l.0 l.2.premises l.2.gives).not_both c l.2.lawful (refused_there c l.0 l.2.premises l.1 l.2.gives r);
+    one = λ a b r t. (of_given g base gives).one a b (refused_there a g base s gives r) (refused_there b g base s gives t);
   }
 
   abbrev All : Type 0
@@ -160,7 +163,7 @@ module _ (limits : Limits) (claim : Claim) (file clauses algebra : List ℕ) whe
   -- ---- what is due, by its causes
 
   due_is : (c : Checked) → IsDue limits claim told c → ((c ≡ checked.Accepted) × All) ⊎ IsRefused c
-  due_is checked.Accepted h = inl (refl, ((h.0, h.1), ((h.0, h.1, (h.2.0, h.2.2)), (h.0, h.1, record { extended = h.2.0; gives = h.2.2; lawful = h.2.3.0 }))))
+  due_is checked.Accepted h = inl (refl, ((h.0, h.1), ((h.0, h.1, (h.2.0, h.2.2)), (h.0, h.1, record { premises = h.2.0; gives = h.2.2; lawful = h.2.3.0 }))))
   due_is (checked.Graph given) h = inr (inl (inl (given, h, refl)))
   due_is (checked.Refused (refusal.Clauses line given)) h = inr (inr ((h.0, h.1), inl (h.0, h.1, (Line (line, line_cause given), h.2, clause_is line given))))
   due_is (checked.Refused (refusal.Goals column)) h = inr (inr ((h.0, h.1), inl (h.0, h.1, (Goals column, h.2, refl))))
@@ -188,18 +191,19 @@ module _ (limits : Limits) (claim : Claim) (file clauses algebra : List ℕ) whe
   clause_due g s (Line (line, clausal.NoSuchClause)) h = (checked.Refused (refusal.Clauses line clause.NoSuchClause), (g, s, h))
   clause_due g s (Goals column) h = (checked.Refused (refusal.Goals column), (g, s, h))
 
-  module _ (g : Aig) (s : SpellsWithin (profile_of claim.add) limits.graph file g) (e : Extended) (gives : Gives g e) where
-    algebra_due : (p : ℕ × AlgebraCause) → IsAlgebraRefusal e (sides_for claim g) (lengths_of limits) algebra p → IsSomeDue
-    algebra_due (line, cause.TooLong) h = (checked.TooLong slot.Algebra, (g, s, (e, gives_of (lengths_of limits) g clauses e gives, gives, (line, h))))
-    algebra_due (line, cause.Text) h = (checked.Refused (refusal.Algebra line why.Text), (g, s, (e, gives_of (lengths_of limits) g clauses e gives, gives, h)))
-    algebra_due (line, cause.Range) h = (checked.Refused (refusal.Algebra line why.Range), (g, s, (e, gives_of (lengths_of limits) g clauses e gives, gives, h)))
-    algebra_due (line, cause.Id) h = (checked.Refused (refusal.Algebra line why.Id), (g, s, (e, gives_of (lengths_of limits) g clauses e gives, gives, h)))
-    algebra_due (line, (cause.NoSuchLine id)) h = (checked.Refused (refusal.Algebra line (why.NoSuchLine id)), (g, s, (e, gives_of (lengths_of limits) g clauses e gives, gives, h)))
-    algebra_due (line, cause.NotEqual) h = (checked.Refused (refusal.Algebra line why.NotEqual), (g, s, (e, gives_of (lengths_of limits) g clauses e gives, gives, h)))
-    algebra_due (line, cause.NotSpecification) h = (checked.Refused (refusal.Algebra line why.NotSpec), (g, s, (e, gives_of (lengths_of limits) g clauses e gives, gives, h)))
+  module _ (g : Aig) (s : SpellsWithin (profile_of claim.add) limits.graph file g) (base : Premises) (gives : Gives g base) where
+    algebra_due : (p : ℕ × AlgebraCause) → IsAlgebraRefusal base (sides_for claim g) (lengths_of limits) algebra p → IsSomeDue
+    algebra_due (line, cause.TooLong) h = (checked.TooLong slot.Algebra, (g, s, (base, gives_of (lengths_of limits) g clauses base gives, gives, (line, h))))
+    algebra_due (line, cause.Text) h = (checked.Refused (refusal.Algebra line why.Text), (g, s, (base, gives_of (lengths_of limits) g clauses base gives, gives, h)))
+    algebra_due (line, cause.Range) h = (checked.Refused (refusal.Algebra line why.Range), (g, s, (base, gives_of (lengths_of limits) g clauses base gives, gives, h)))
+    algebra_due (line, cause.Id) h = (checked.Refused (refusal.Algebra line why.Id), (g, s, (base, gives_of (lengths_of limits) g clauses base gives, gives, h)))
+    algebra_due (line, (cause.NoSuchLine id)) h = (checked.Refused (refusal.Algebra line (why.NoSuchLine id)), (g, s, (base, gives_of (lengths_of limits) g clauses base gives, gives, h)))
+    algebra_due (line, (cause.NoSuchClause number)) h = (checked.Refused (refusal.Algebra line (why.NoSuchClause number)), (g, s, (base, gives_of (lengths_of limits) g clauses base gives, gives, h)))
+    algebra_due (line, cause.NotEqual) h = (checked.Refused (refusal.Algebra line why.NotEqual), (g, s, (base, gives_of (lengths_of limits) g clauses base gives, gives, h)))
+    algebra_due (line, cause.NotSpecification) h = (checked.Refused (refusal.Algebra line why.NotSpec), (g, s, (base, gives_of (lengths_of limits) g clauses base gives, gives, h)))
 
   lawful_due : (g : Aig) → SpellsWithin (profile_of claim.add) limits.graph file g → IsLawfulPair (lengths_of limits) g claim clauses algebra → IsSomeDue
-  lawful_due g s pair = (checked.Accepted, (g, s, (pair.extended, gives_of (lengths_of limits) g clauses pair.extended pair.gives, pair.gives, (pair.lawful, tt))))
+  lawful_due g s pair = (checked.Accepted, (g, s, (pair.premises, gives_of (lengths_of limits) g clauses pair.premises pair.gives, pair.gives, (pair.lawful, tt))))
 
   some_due : IsSomeDue
   some_due = ⊎_elim (λ l. lawful_due l.1.1.0 l.1.1.1 l.1.1.2)

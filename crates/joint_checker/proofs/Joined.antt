@@ -1,13 +1,13 @@
 -- The join, and what it means for a graph: goals shown make replaced columns agree, and so a specification that vanishes makes the graph
 -- multiply.
-use Rattle.std.specs.Prelude.{◌≡◌, ℕ, ◌+◌, ◌*◌, ◌%◌, ◌≤◌, List, [], ◌∷◌, ◌++◌, length, codes}
+use Rattle.std.specs.Prelude.{◌≡◌, ℕ, ◌+◌, ◌*◌, ◌%◌, ◌≤◌, ◌==◌, Bool, true, false, cond, List, [], ◌∷◌, ◌++◌, length, map, codes}
 use Rattle.std.specs.declared.option.Option.{Option}
 use Rattle.std.specs.declared.option.Option.TheVariants.{None, Some}
 use Rattle.std.specs.List.{All, AllByRecursion, Contains, flat_map}
-use Rattle.std.proofs.Common.{refl, sym, ap, ap₂, subst, ◌∙◌, arith}
+use Rattle.std.proofs.Common.{refl, sym, ap, ap₂, subst, ◌∙◌, arith, inl, ⊎_elim}
 use Rattle.std.proofs.lemmas.List.Elements.{All-nil, All-contains, All-from_recursion, All-weaker, recursion_from_All}
-use Rattle.graph_core.specs.Algebra.{AgreeOnColumns, specification}
-use Rattle.graph_core.specs.Graph.Assignments.{Assignment, bit, literal, word}
+use Rattle.graph_core.specs.Algebra.{AgreeOnColumns, AreMet, Premises, specification}
+use Rattle.graph_core.specs.Graph.Assignments.{Assignment, HasBound, bit, literal, word}
 use Rattle.graph_core.specs.Graph.Extended.{Extended, without_cut}
 use Rattle.graph_core.specs.Graph.Literals.{variable_of}
 use Rattle.graph_core.specs.declared.claim.Claim.{Claim}
@@ -18,41 +18,38 @@ use Rattle.graph_core.proofs.OfAiger.CallerLemmas.{shape_for, spelled_shape, wel
 use Rattle.graph_core.proofs.OfAlgebra.CallerLemmas.{axioms-vanish, specification-zero, vanishing_means_claim}
 use Rattle.graph_core.proofs.OfGraphs.CallerLemmas.{all_split, all_weaker, claim_is_done, claim_same, evaluations_suffice, literal_same, sides_read_inputs}
 use Rattle.mv_fact.specs.Always.{Always}
-use Rattle.ripple_graft.specs.Blocks.{AreBlocks, Block, SameUpTo, block_of, with_blocks}
+use Rattle.ripple_graft.specs.Blocks.{AreBlocks, SameUpTo}
+use Rattle.ripple_graft.specs.HeaderBlocks.{IsCutOf, cut_blocks}
 use Rattle.ripple_graft.specs.declared.cut.Cut.{Cut}
 use Rattle.ripple_graft.proofs.BlockLists.{cut_is_block, evaluations_extend}
-use Rattle.clause_core.specs.Clause.{Clause, IsClauseInRange}
-use Rattle.clause_core.specs.ClauseLines.{AreGoalsShown, AreLawfulClauses, ClauseLine, IsShown, clause_in}
-use Rattle.clause_core.specs.GateClauses.{gate_clauses, goals_of}
-use Rattle.clause_core.specs.declared.line.Line.TheVariants.{Add, Delete}
-use Rattle.clause_core.proofs.AddedClauses.{columns_agree}
-use Rattle.drup_text.specs.Headers.{IsHeaderOf, extended_by}
+use Rattle.ripple_graft.proofs.GraftedGraphs.{grafted_graph}
+use Rattle.clause_core.specs.Clause.{Clause, IsClauseInRange, holds}
+use Rattle.clause_core.specs.ClauseLines.{IsShown, added, clause_in}
+use Rattle.clause_core.specs.GateClauses.{goals_of}
+use Rattle.clause_core.proofs.AddedClauses.{added_are_facts, columns_agree}
+use Rattle.drup_checker.specs.Checking.{imported}
+use Rattle.drup_text.specs.declared.head.Header.{Header}
+use Rattle.drup_text.specs.Headers.{IsHeaderOf, extended_with}
+use Rattle.gate_axioms.specs.ClauseValues.{clause_value}
+use Rattle.gate_axioms.proofs.CallerLemmas.{imports_bounded, imports_vanish}
 use Rattle.graph_core.specs.Certificates.{no_cut}
 use Rattle.graph_core.specs.Text.JudgedLines.{IsWithin, Lengths}
 use Rattle.graph_core.specs.Text.{newline}
 use Rattle.joint_checker.specs.Certificates.{LawfulPairsAreSound}
-use Rattle.joint_checker.specs.ClauseFiles.{GivesExtended, IsExtendedOf}
+use Rattle.joint_checker.specs.ClauseFiles.{ArePremisesOf, GivesPremises, premises}
+use Rattle.joint_checker.proofs.SamePremises.{same_all, same_self}
 
 -- ---- the graph below an extended one
 
-abbrev blocks_of : Aig → Option Cut → List Block
-blocks_of g None = []
-blocks_of g (Some cut) = block_of (length g.outputs) cut ∷ []
-
-header_fits : (g : Aig) (cut : Option Cut) → IsHeaderOf g cut → AreBlocks (without_cut g) (blocks_of g cut)
-header_fits g None fits = tt
-header_fits g (Some cut) fits = (cut_is_block g cut fits, tt)
-
-with_blocks_is : (g : Aig) (cut : Option Cut) → with_blocks g (blocks_of g cut) ≡ extended_by g cut
-with_blocks_is g None = refl
-with_blocks_is g (Some cut) = refl
-
-pub graph_is : (g : Aig) (e : Extended) → IsExtendedOf g e → e.graph ≡ g
-graph_is g e of = ap (λ (x : Extended). x.graph) of.itself ∙ same of.cut
+pub blocks_fit : (g : Aig) (h : Header) → IsHeaderOf g h → AreBlocks (without_cut g) h.blocks
+blocks_fit g h takes = ⊎_elim (λ a. subst (AreBlocks (without_cut g)) (sym a.1.1) (cut_fits a.1.0 a.1.2)) (λ b. b.2) takes
   where
-    same : (cut : Option Cut) → (extended_by g cut).graph ≡ g
-    same None = refl
-    same (Some cut) = refl
+    cut_fits : (cut : Option Cut) → IsCutOf g cut → AreBlocks (without_cut g) (cut_blocks (length g.outputs) cut)
+    cut_fits None fits = tt
+    cut_fits (Some cut) fits = (cut_is_block g cut fits, tt)
+
+pub graph_is : (g : Aig) (p : Premises) → ArePremisesOf g p → p.extended.graph ≡ g
+graph_is g p of = grafted_graph g p.extended (record { blocks = of.header.blocks; fit = blocks_fit g of.header of.takes; is = of.extended })
 
 -- words of low literals are as they were
 word_same : (σ τ : Assignment) (low : ℕ) (ls : List Lit) → SameUpTo low σ τ → AllByRecursion (λ l. variable_of l ≤ low) ls → word σ ls ≡ word τ ls
@@ -94,52 +91,81 @@ module _ (g : Aig) (well : IsWellFormed g) where
         lits ls h = all_weaker IsLow (λ l. literal σ l ≡ literal τ l) ls (λ l low. literal_same σ τ l (same (variable_of l) low)) h
 
     -- Where the outputs' word is what is claimed on the evaluations of an extended graph, it is on those of the graph.
-    claimed_below : (e : Extended) → IsExtendedOf g e → ((σ : Assignment) → IsEvaluation e.gates σ → IsClaimed σ) → MeetsClaimOnEvaluations g s
-    claimed_below e of on τ evaluates =
-        let longer = evaluations_extend g (blocks_of g of.cut) τ well (header_fits g of.cut of.takes) evaluates in
-        let gates : IsEvaluation e.gates longer.0 = subst (λ (x : Extended). IsEvaluation x.gates longer.0) (with_blocks_is g of.cut ∙ sym of.itself) longer.1 in
+    claimed_below : (p : Premises) → ArePremisesOf g p → ((σ : Assignment) → IsEvaluation p.extended.gates σ → IsClaimed σ) → MeetsClaimOnEvaluations g s
+    claimed_below p of on τ evaluates =
+        let longer = evaluations_extend g of.header.blocks τ well (blocks_fit g of.header of.takes) evaluates in
+        let gates : IsEvaluation p.extended.gates longer.0 = subst (λ (x : Extended). IsEvaluation x.gates longer.0) (sym of.extended) longer.1 in
         claim_back longer.0 τ longer.2 (on longer.0 gates)
 
 -- Where the specification vanishes on every evaluation of an extended graph, a graph without faults does what is claimed.
-pub vanishing_does : (g : Aig) (claim : Claim) (e : Extended) → IsWellFormed g → HasShapeFor claim.add g → IsExtendedOf g e → Always e.gates (λ σ. specification e (sides_for claim g) σ ≡ 0) → Does claim g
-vanishing_does g claim e well shape of vanishes =
+pub vanishing_does : (g : Aig) (claim : Claim) (p : Premises) → IsWellFormed g → HasShapeFor claim.add g → ArePremisesOf g p → Always p.extended.gates (λ σ. specification p.extended (sides_for claim g) σ ≡ 0) → Does claim g
+vanishing_does g claim p well shape of vanishes =
     let sides = sides_for claim g in
     (claim_is_done g claim shape well.defined_once).0
     (evaluations_suffice g sides well.defined_once well.acyclic
-    (claimed_below g well sides (sides_read_inputs g claim) e of
-    (λ σ evaluates. subst (λ (h : Aig). word σ h.outputs ≡ claimed (output_modulus h) sides σ % output_modulus h) (graph_is g e of) (vanishing_means_claim e sides σ (vanishes σ evaluates)))))
+    (claimed_below g well sides (sides_read_inputs g claim) p of
+    (λ σ evaluates. subst (λ (h : Aig). word σ h.outputs ≡ claimed (output_modulus h) sides σ % output_modulus h) (graph_is g p of) (vanishing_means_claim p.extended sides σ (vanishes σ evaluates)))))
 
 -- ---- lawful pairs
 
-pub gives_of : (lengths : Lengths) (g : Aig) (bytes : List ℕ) (e : Extended) → GivesExtended lengths g bytes e → IsExtendedOf g e
-gives_of lengths g bytes e gives = record { cut = gives.cut; takes = gives.lawful.takes; itself = gives.itself }
+all_imported : (P : Clause → Type 0) (version : ℕ) (cs : List Clause) → All P cs → All P (imported version cs)
+all_imported P version cs h = go (version == 2)
+  where
+    go : (t : Bool) → All P (cond t cs [])
+    go true = h
+    go false = All-nil P
 
-gives_columns : (lengths : Lengths) (g : Aig) (bytes : List ℕ) (e : Extended) → GivesExtended lengths g bytes e → Always e.gates (AgreeOnColumns e)
-gives_columns lengths g bytes e gives =
-    let h = gives.lawful in
-    subst (λ (x : Extended). Always x.gates (AgreeOnColumns x)) (sym gives.itself)
-    (columns_agree (extended_by g gives.cut) gives.lines (record { in_range = h.in_range; lawful = h.lawful; goals = gives.shown }))
+module _ (lengths : Lengths) (g : Aig) (bytes : List ℕ) (p : Premises) (gives : GivesPremises lengths g bytes p) where
+  abbrev e : Extended
+  e = extended_with g gives.header
+
+  pub gives_of : ArePremisesOf g p
+  gives_of = record { header = gives.header; takes = gives.lawful.takes; version = gives.same.version; extended = gives.same.extended }
+
+  -- the clauses that are added hold on every evaluation, and the replaced columns agree
+  met_there : (σ : Assignment) → IsEvaluation e.gates σ → AgreeOnColumns e σ × All (λ f. f σ ≡ 0) p.imports
+  met_there σ evaluates =
+      let h = gives.lawful in
+      let cs = imported gives.header.version (added gives.lines) in
+      let facts = All-weaker (λ c. Always e.gates (λ τ. holds τ c ≡ true)) (λ c. holds σ c ≡ true) (λ c always. always σ evaluates) (added gives.lines) (added_are_facts e gives.lines h.in_range h.lawful) in (
+        columns_agree e gives.lines (record { in_range = h.in_range; lawful = h.lawful; goals = gives.shown }) σ evaluates,
+        same_all (λ (f : Assignment → ℕ). f σ ≡ 0) (λ f k same zero_there. same σ ∙ zero_there) p.imports (map clause_value cs) gives.same.imports
+            (imports_vanish cs σ (all_imported (λ c. holds σ c ≡ true) gives.header.version (added gives.lines) facts)),
+      )
+
+  -- what may be imported depends on finitely many variables
+  pub gives_bounds : All HasBound p.imports
+  gives_bounds =
+      let cs = imported gives.header.version (added gives.lines) in
+      same_all HasBound (λ f k same b. (b.0, λ σ τ agree. same σ ∙ b.1 σ τ agree ∙ sym (same τ))) p.imports (map clause_value cs) gives.same.imports (imports_bounded cs)
+
+  pub gives_met : Always p.extended.gates (AreMet p)
+  gives_met σ evaluates =
+      let t = met_there σ (subst (λ (x : Extended). IsEvaluation x.gates σ) gives.same.extended evaluates) in
+      record { columns = subst (λ (x : Extended). AgreeOnColumns x σ) (sym gives.same.extended) t.0; imports = t.1 }
 
 pub lawful_pairs_are_sound : LawfulPairsAreSound
 lawful_pairs_are_sound file lengths g claim clauses algebra spells pair =
-    let e = pair.extended in
+    let p = pair.premises in
     let sides = sides_for claim g in
     let lawful = pair.lawful.0 in
-    vanishing_does g claim e (well_formed (profile_of claim.add) file g spells) (shape_for claim.add g (spelled_shape (profile_of claim.add) file g spells)) (gives_of lengths g clauses e pair.gives)
-    (λ σ evaluates. specification-zero e sides σ lawful.lines lawful.closing lawful.lawful (axioms-vanish e σ evaluates (gives_columns lengths g clauses e pair.gives σ evaluates)))
+    vanishing_does g claim p (well_formed (profile_of claim.add) file g spells) (shape_for claim.add g (spelled_shape (profile_of claim.add) file g spells)) (gives_of lengths g clauses p pair.gives)
+    (λ σ evaluates.
+    let met = gives_met lengths g clauses p pair.gives σ evaluates in
+    specification-zero p sides σ lawful.lines lawful.closing lawful.lawful (recursion_from_All (λ (f : Assignment → ℕ). f σ ≡ 0) p.imports met.imports) (axioms-vanish p.extended σ evaluates met.columns))
 
 -- the certificate that replaces nothing gives the graph itself
-pub no_cut_gives : (lengths : Lengths) (g : Aig) → IsWithin lengths no_cut → GivesExtended lengths g no_cut (without_cut g)
+pub no_cut_gives : (lengths : Lengths) (g : Aig) → IsWithin lengths no_cut → GivesPremises lengths g no_cut (premises 1 (without_cut g) [])
 no_cut_gives lengths g within = record {
-  cut = None;
+  header = record { version = 1; blocks = [] };
   lines = [];
   lawful = record {
-    text = ([], (codes "none" ++ newline ∷ [], (codes "none", refl, refl), refl), refl);
-    takes = tt;
+    text = ([], inl (refl, (None, refl, (codes "none" ++ newline ∷ [], (codes "none", refl, refl), refl))), refl);
+    takes = inl (refl, (None, refl, tt));
     in_range = All-nil (λ x. IsClauseInRange g.max (clause_in x));
     lawful = tt;
     within = within;
   };
   shown = All-nil (λ c. All (IsShown []) (goals_of c));
-  itself = refl;
+  same = same_self (premises 1 (without_cut g) []);
 }

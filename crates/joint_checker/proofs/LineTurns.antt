@@ -43,6 +43,7 @@ pub some_is_told : (t : Table) (line : PacLine) → ((id : ℕ) → line ≡ pac
 some_is_told t (pac.Sum id i j poly) other = refl
 some_is_told t (pac.Product id i factor poly) other = refl
 some_is_told t (pac.Combination id parts poly) other = refl
+some_is_told t (pac.Import id number poly) other = refl
 some_is_told t (pac.Drop id) other = refl
 some_is_told t (pac.Close id) other = absurd (other id refl)
 
@@ -63,36 +64,36 @@ refused_text c line n fault answer is other h =
     inl (y.0, fault, y.1, subst (λ (o : Option Line). IfSome o (λ z. IsFault c.extended (ledger_of c) z fault)) y.1 h, is)
 
 -- no line is read
-pub text_fails : (n : ℕ) (e : Extended) (sides : Sides) (l : Ledger) (max : ℕ) (lines : Lines) (left : Option (List ℕ)) (before now : View) (given : LineFail) → max ≡ e.max →
-    IsNextRefusal max lines left before.read_faults now.read_faults given → IsLineFail n e sides l lines left before now (answer_of_line n given)
-text_fails n e sides l max lines left before now text.Text same h = (
+pub text_fails : (n version : ℕ) (e : Extended) (sides : Sides) (l : Ledger) (max : ℕ) (lines : Lines) (left : Option (List ℕ)) (before now : View) (given : LineFail) → max ≡ e.max →
+    IsNextRefusal version max lines left before.read_faults now.read_faults given → IsLineFail n version e sides l lines left before now (answer_of_line n given)
+text_fails n version e sides l max lines left before now text.Text same h = (
   refl,
-  told_more left (λ bytes. ¬ (IsLongAhead lines bytes) × BeginsWithNone bytes) (λ bytes. IsRefusedNext e sides (IsLongIn lines bytes) l bytes (0, cause.Text))
-      (λ bytes k. no_line_is_refused e sides (IsLongIn lines bytes) l bytes k.0 k.1) h,
+  told_more left (λ bytes. ¬ (IsLongAhead lines bytes) × BeginsWithNone version bytes) (λ bytes. IsRefusedNext version e sides (IsLongIn lines bytes) l bytes (0, cause.Text))
+      (λ bytes k. no_line_is_refused version e sides (IsLongIn lines bytes) l bytes k.0 k.1) h,
 )
-text_fails n e sides l max lines left before now text.Range same h = (
+text_fails n version e sides l max lines left before now text.Range same h = (
   refl,
-  told_more left (λ bytes. ¬ (IsLongAhead lines bytes) × BeginsOutOfRange max bytes) (λ bytes. IsRefusedNext e sides (IsLongIn lines bytes) l bytes (0, cause.Range))
-      (λ bytes k. out_of_range_is_refused e sides (IsLongIn lines bytes) l bytes k.0 (subst (λ (m : ℕ). BeginsOutOfRange m bytes) same k.1)) h,
+  told_more left (λ bytes. ¬ (IsLongAhead lines bytes) × BeginsOutOfRange version max bytes) (λ bytes. IsRefusedNext version e sides (IsLongIn lines bytes) l bytes (0, cause.Range))
+      (λ bytes k. out_of_range_is_refused version e sides (IsLongIn lines bytes) l bytes k.0 (subst (λ (m : ℕ). BeginsOutOfRange version m bytes) same k.1)) h,
 )
-text_fails n e sides l max lines left before now text.Fault same h = h
-text_fails n e sides l max lines left before now text.TooLong same h = h
-text_fails n e sides l max lines left before now text.Memory same h = tt
+text_fails n version e sides l max lines left before now text.Fault same h = h
+text_fails n version e sides l max lines left before now text.TooLong same h = h
+text_fails n version e sides l max lines left before now text.Memory same h = tt
 
 -- A checker that was lent to a reader: its table has grown, and its ledger agrees with the one before.
-module _ (grown : Checking) (l : Ledger) (agrees : Agree (ledger_of grown) l) (same_modulus : modulus grown.table ≡ algebra.modulus grown.extended) (max : ℕ) (same_max : max ≡ grown.extended.max)
+module _ (grown : Checking) (l : Ledger) (agrees : Agree (ledger_of grown) l) (same_modulus : modulus grown.table ≡ algebra.modulus grown.extended) (version max : ℕ) (same_max : max ≡ grown.extended.max)
     (old new : Lines) (left behind : Option (List ℕ)) where
   -- a line that is no closing line
-  module _ (line : PacLine) (given : IfSome left (λ bytes. TakesText grown.table max old new bytes behind line)) where
+  module _ (line : PacLine) (given : IfSome left (λ bytes. TakesText grown.table version max old new bytes behind line)) where
     record IsThere (y : Line) (bytes rest : List ℕ) : Type 0 where
       x : Line
-      begins : BeginsWith IsLineText bytes x rest
+      begins : BeginsWith (IsLineText version) bytes x rest
       in_range : IsLineInRange grown.extended.max x
       alike : AreAlike (algebra.modulus grown.extended) x y
 
-    there : (y : Line) → line_in grown.table line ≡ Some y → (bytes : List ℕ) (h : TakesText grown.table max old new bytes behind line) → IsThere y bytes h.rest
+    there : (y : Line) → line_in grown.table line ≡ Some y → (bytes : List ℕ) (h : TakesText grown.table version max old new bytes behind line) → IsThere y bytes h.rest
     there y is bytes h =
-        let t = line_there grown.table max bytes h.rest line y is h.begins in
+        let t = line_there grown.table version max bytes h.rest line y is h.begins in
         record {
           x = t.0;
           begins = t.1;
@@ -101,8 +102,8 @@ module _ (grown : Checking) (l : Ledger) (agrees : Agree (ledger_of grown) l) (s
         }
 
     -- it was lawful
-    pub line_is_taken : (next : Checking) (y : Line) → line_in grown.table line ≡ Some y → Takes y grown next → IfSome left (λ bytes. TakesLawful grown.extended l (ledger_of next) old new bytes behind)
-    line_is_taken next y is takes = told_more left (λ bytes. TakesText grown.table max old new bytes behind line) (λ bytes. TakesLawful grown.extended l (ledger_of next) old new bytes behind) (λ bytes h.
+    pub line_is_taken : (next : Checking) (y : Line) → line_in grown.table line ≡ Some y → Takes y grown next → IfSome left (λ bytes. TakesLawful version grown.extended l (ledger_of next) old new bytes behind)
+    line_is_taken next y is takes = told_more left (λ bytes. TakesText grown.table version max old new bytes behind line) (λ bytes. TakesLawful version grown.extended l (ledger_of next) old new bytes behind) (λ bytes h.
         let t = there y is bytes h in
         let m = algebra.modulus grown.extended in
         let known = ledger_of grown in
@@ -119,24 +120,25 @@ module _ (grown : Checking) (l : Ledger) (agrees : Agree (ledger_of grown) l) (s
 
     module _ (sides : Sides) (n : ℕ) (before now : View) where
       refused_of : (c : AlgebraCause) (y : Line) → line_in grown.table line ≡ Some y → IsRefusedInRange grown.extended (ledger_of grown) y c →
-          IfSome left (λ bytes. IsRefusedNext grown.extended sides (IsLongIn old bytes) l bytes (0, c))
-      refused_of c y is refused = told_more left (λ bytes. TakesText grown.table max old new bytes behind line) (λ bytes. IsRefusedNext grown.extended sides (IsLongIn old bytes) l bytes (0, c)) (λ bytes h.
+          IfSome left (λ bytes. IsRefusedNext version grown.extended sides (IsLongIn old bytes) l bytes (0, c))
+      refused_of c y is refused = told_more left (λ bytes. TakesText grown.table version max old new bytes behind line) (λ bytes. IsRefusedNext version grown.extended sides (IsLongIn old bytes) l bytes (0, c)) (λ bytes h.
           let t = there y is bytes h in
           let here : IsRefusedInRange grown.extended l t.x c = refused_in_range_agrees grown.extended (ledger_of grown) l agrees t.x c (likeness_is_kept.refused grown.extended (ledger_of grown) t.x y c t.alike refused) in
           inr (h.short, inr (inl (t.x, h.rest, t.begins, (c, inr (t.in_range, here), refl))))) given
 
       -- it breaks its rule
-      pub rule_fails : (y : Line) (fault : LineFault) → line_in grown.table line ≡ Some y → IsFault grown.extended (ledger_of grown) y fault → IsLineFail n grown.extended sides l old left before now (answer_of_rule n fault)
+      pub rule_fails : (y : Line) (fault : LineFault) → line_in grown.table line ≡ Some y → IsFault grown.extended (ledger_of grown) y fault → IsLineFail n version grown.extended sides l old left before now (answer_of_rule n fault)
       rule_fails y rule.Id is h = (refl, refused_of cause.Id y is h)
       rule_fails y (rule.NoSuchLine id) is h = (refl, refused_of (cause.NoSuchLine id) y is h)
+      rule_fails y (rule.NoSuchClause number) is h = (refl, refused_of (cause.NoSuchClause number) y is h)
       rule_fails y rule.NotEqual is h = (refl, refused_of cause.NotEqual y is h)
       rule_fails y rule.Memory is h = tt
 
   -- a closing line
-  module _ (sides : Sides) (id : ℕ) (given : IfSome left (λ bytes. TakesText grown.table max old new bytes behind (pac.Close id))) where
+  module _ (sides : Sides) (id : ℕ) (given : IfSome left (λ bytes. TakesText grown.table version max old new bytes behind (pac.Close id))) where
     pub line_is_closing : Closes grown.extended sides (ledger_of grown).live id → IfSome left (λ bytes. TakesClosing grown.extended sides l old new bytes behind)
-    line_is_closing closes = told_more left (λ bytes. TakesText grown.table max old new bytes behind (pac.Close id)) (λ bytes. TakesClosing grown.extended sides l old new bytes behind) (λ bytes h.
-        let t = close_there grown.table max bytes h.rest id h.begins in
+    line_is_closing closes = told_more left (λ bytes. TakesText grown.table version max old new bytes behind (pac.Close id)) (λ bytes. TakesClosing grown.extended sides l old new bytes behind) (λ bytes h.
+        let t = close_there grown.table version max bytes h.rest id h.begins in
         record {
           id = id;
           rest = h.rest;
@@ -146,50 +148,52 @@ module _ (grown : Checking) (l : Ledger) (agrees : Agree (ledger_of grown) l) (s
           passes = record { short = h.short; left_is = h.left_is; taken = h.taken };
         }) given
 
-    refused_close : (c : AlgebraCause) → IsRefusedCloseInRange grown.extended sides (ledger_of grown) id c → IfSome left (λ bytes. IsRefusedNext grown.extended sides (IsLongIn old bytes) l bytes (0, c))
-    refused_close c refused = told_more left (λ bytes. TakesText grown.table max old new bytes behind (pac.Close id)) (λ bytes. IsRefusedNext grown.extended sides (IsLongIn old bytes) l bytes (0, c)) (λ bytes h.
-        let t = close_there grown.table max bytes h.rest id h.begins in
+    refused_close : (c : AlgebraCause) → IsRefusedCloseInRange grown.extended sides (ledger_of grown) id c → IfSome left (λ bytes. IsRefusedNext version grown.extended sides (IsLongIn old bytes) l bytes (0, c))
+    refused_close c refused = told_more left (λ bytes. TakesText grown.table version max old new bytes behind (pac.Close id)) (λ bytes. IsRefusedNext version grown.extended sides (IsLongIn old bytes) l bytes (0, c)) (λ bytes h.
+        let t = close_there grown.table version max bytes h.rest id h.begins in
         inr (h.short, inr (inr (id, h.rest, t.0, inl (c, inr (t.1, refused_close_in_range_agrees grown.extended sides (ledger_of grown) l agrees id c refused), refl))))) given
 
     -- it doesn't close
-    pub close_fails : (n : ℕ) (before now : View) (fault : CloseFault) → IsCloseFault grown.extended sides (ledger_of grown) id fault → IsLineFail n grown.extended sides l old left before now (answer_of_close n fault)
+    pub close_fails : (n : ℕ) (before now : View) (fault : CloseFault) → IsCloseFault grown.extended sides (ledger_of grown) id fault → IsLineFail n version grown.extended sides l old left before now (answer_of_close n fault)
     close_fails n before now (close.NoSuchLine missing) h = (refl, refused_close (cause.NoSuchLine missing) h)
     close_fails n before now close.NotSpec h = (refl, refused_close cause.NotSpecification h)
     close_fails n before now close.Memory h = tt
 
 -- ---- a line that was read and judged
 
-module _ (grown : Checking) (l : Ledger) (agrees : Agree (ledger_of grown) l) (same_modulus : modulus grown.table ≡ algebra.modulus grown.extended) (max : ℕ) (same_max : max ≡ grown.extended.max)
-    (old new : Lines) (left behind : Option (List ℕ)) (line : PacLine) (given : IfSome left (λ bytes. TakesText grown.table max old new bytes behind line)) where
-  given_close : (id : ℕ) → line ≡ pac.Close id → IfSome left (λ bytes. TakesText grown.table max old new bytes behind (pac.Close id))
-  given_close id is = subst (λ (x : PacLine). IfSome left (λ bytes. TakesText grown.table max old new bytes behind x)) is given
+module _ (grown : Checking) (l : Ledger) (agrees : Agree (ledger_of grown) l) (same_modulus : modulus grown.table ≡ algebra.modulus grown.extended) (version max : ℕ) (same_max : max ≡ grown.extended.max)
+    (old new : Lines) (left behind : Option (List ℕ)) (line : PacLine) (given : IfSome left (λ bytes. TakesText grown.table version max old new bytes behind line)) where
+  given_close : (id : ℕ) → line ≡ pac.Close id → IfSome left (λ bytes. TakesText grown.table version max old new bytes behind (pac.Close id))
+  given_close id is = subst (λ (x : PacLine). IfSome left (λ bytes. TakesText grown.table version max old new bytes behind x)) is given
 
-  pub turn_is : (next : Checking) (given_turn : Turn) → IsJudged line grown next given_turn → Turns grown.extended grown.sides l (ledger_of next) old new left behind given_turn
-  turn_is next turn.Taken h = line_is_taken grown l agrees same_modulus max same_max old new left behind line given next h.0 h.1 h.2
-  turn_is next turn.Closed h = (line_is_closing grown l agrees same_modulus max same_max old new left behind grown.sides h.0 (given_close h.0 h.1) h.2, h.3)
+  pub turn_is : (next : Checking) (given_turn : Turn) → IsJudged line grown next given_turn → Turns version grown.extended grown.sides l (ledger_of next) old new left behind given_turn
+  turn_is next turn.Taken h = line_is_taken grown l agrees same_modulus version max same_max old new left behind line given next h.0 h.1 h.2
+  turn_is next turn.Closed h = (line_is_closing grown l agrees same_modulus version max same_max old new left behind grown.sides h.0 (given_close h.0 h.1) h.2, h.3)
 
-  pub turn_fails : (n : ℕ) (before now : View) (answer : Checked) → IsUnlawful n line grown answer → IsLineFail n grown.extended grown.sides l old left before now answer
+  pub turn_fails : (n : ℕ) (before now : View) (answer : Checked) → IsUnlawful n line grown answer → IsLineFail n version grown.extended grown.sides l old left before now answer
   turn_fails n before now answer (inl h) =
-      subst (IsLineFail n grown.extended grown.sides l old left before now) (sym h.4) (rule_fails grown l agrees same_modulus max same_max old new left behind line given grown.sides n before now h.0 h.1 h.2 h.3)
+      subst (IsLineFail n version grown.extended grown.sides l old left before now) (sym h.4) (rule_fails grown l agrees same_modulus version max same_max old new left behind line given grown.sides n before now h.0 h.1 h.2 h.3)
   turn_fails n before now answer (inr h) =
-      subst (IsLineFail n grown.extended grown.sides l old left before now) (sym h.4) (close_fails grown l agrees same_modulus max same_max old new left behind grown.sides h.0 (given_close h.0 h.2) n before now h.1 h.3)
+      subst (IsLineFail n version grown.extended grown.sides l old left before now) (sym h.4) (close_fails grown l agrees same_modulus version max same_max old new left behind grown.sides h.0 (given_close h.0 h.2) n before now h.1 h.3)
 
--- ---- the answers over a graph and operands that are equal
+-- ---- the answers over a version, a graph and operands that are equal
 
-module _ (e f : Extended) (sides p : Sides) (known next : Ledger) (old new : Lines) (left behind : Option (List ℕ)) (given : Turn) where
-  turns_at : f ≡ e → p ≡ sides → Turns f p known next old new left behind given → Turns e sides known next old new left behind given
-  turns_at same same_order h =
-      subst (λ (o : Sides). Turns e o known next old new left behind given) same_order (subst (λ (x : Extended). Turns x p known next old new left behind given) same h)
+module _ (version other : ℕ) (e f : Extended) (sides p : Sides) (known next : Ledger) (old new : Lines) (left behind : Option (List ℕ)) (given : Turn) where
+  turns_at : other ≡ version → f ≡ e → p ≡ sides → Turns other f p known next old new left behind given → Turns version e sides known next old new left behind given
+  turns_at same_version same same_order h =
+      subst (λ (v : ℕ). Turns v e sides known next old new left behind given) same_version
+      (subst (λ (o : Sides). Turns other e o known next old new left behind given) same_order (subst (λ (x : Extended). Turns other x p known next old new left behind given) same h))
 
-  pub taken_is : given ≡ turn.Taken → f ≡ e → p ≡ sides → Turns f p known next old new left behind given → IfSome left (λ bytes. TakesLawful e known next old new bytes behind)
-  taken_is is same same_order h =
-      let at : Turns e sides known next old new left behind turn.Taken = subst (Turns e sides known next old new left behind) is (turns_at same same_order h) in at
+  pub taken_is : given ≡ turn.Taken → other ≡ version → f ≡ e → p ≡ sides → Turns other f p known next old new left behind given → IfSome left (λ bytes. TakesLawful version e known next old new bytes behind)
+  taken_is is same_version same same_order h =
+      let at : Turns version e sides known next old new left behind turn.Taken = subst (Turns version e sides known next old new left behind) is (turns_at same_version same same_order h) in at
 
-  pub closed_is : given ≡ turn.Closed → f ≡ e → p ≡ sides → Turns f p known next old new left behind given → IfSome left (λ bytes. TakesClosing e sides known old new bytes behind)
-  closed_is is same same_order h =
-      let at : Turns e sides known next old new left behind turn.Closed = subst (Turns e sides known next old new left behind) is (turns_at same same_order h) in at.0
+  pub closed_is : given ≡ turn.Closed → other ≡ version → f ≡ e → p ≡ sides → Turns other f p known next old new left behind given → IfSome left (λ bytes. TakesClosing e sides known old new bytes behind)
+  closed_is is same_version same same_order h =
+      let at : Turns version e sides known next old new left behind turn.Closed = subst (Turns version e sides known next old new left behind) is (turns_at same_version same same_order h) in at.0
 
-pub fail_is : (n : ℕ) (e f : Extended) (sides p : Sides) (known : Ledger) (lines : Lines) (left : Option (List ℕ)) (before now : View) (answer : Checked) → f ≡ e → p ≡ sides →
-    IsLineFail n f p known lines left before now answer → IsLineFail n e sides known lines left before now answer
-fail_is n e f sides p known lines left before now answer same same_order h =
-    subst (λ (o : Sides). IsLineFail n e o known lines left before now answer) same_order (subst (λ (x : Extended). IsLineFail n x p known lines left before now answer) same h)
+pub fail_is : (n version other : ℕ) (e f : Extended) (sides p : Sides) (known : Ledger) (lines : Lines) (left : Option (List ℕ)) (before now : View) (answer : Checked) → other ≡ version → f ≡ e → p ≡ sides →
+    IsLineFail n other f p known lines left before now answer → IsLineFail n version e sides known lines left before now answer
+fail_is n version other e f sides p known lines left before now answer same_version same same_order h =
+    subst (λ (v : ℕ). IsLineFail n v e sides known lines left before now answer) same_version
+    (subst (λ (o : Sides). IsLineFail n other e o known lines left before now answer) same_order (subst (λ (x : Extended). IsLineFail n other x p known lines left before now answer) same h))

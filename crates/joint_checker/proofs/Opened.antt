@@ -1,7 +1,7 @@
 -- How many files were opened for each answer.
 use Rattle.std.proofs.Common.{ℕ, List, Option, arith}
 use Rattle.graph_core.specs.Graph.{Aig}
-use Rattle.graph_core.specs.Graph.Extended.{Extended}
+use Rattle.graph_core.specs.Algebra.{Premises}
 use Rattle.graph_core.specs.Graph.Operands.{Sides}
 use Rattle.graph_core.specs.Text.JudgedLines.{Lengths}
 use Rattle.mv_desk.specs.View.{OpensFiles, View}
@@ -41,16 +41,16 @@ module _ (first before now : View) where
   clauses_opened lengths g text checked.ReadFault h opened = (2, omega arith, opened)
   clauses_opened lengths g text checked.Memory h opened = (2, omega arith, opened)
 
-  pub algebra_opened : (lengths : Lengths) (e : Extended) (sides : Sides) (text : Option (List ℕ)) (answer : Checked) → IsAlgebraFail lengths e sides text before now answer → OpensFiles 3 first now → OpensFor answer first now
-  algebra_opened lengths e sides text checked.Accepted h opened = absurd h
-  algebra_opened lengths e sides text (checked.Graph why) h opened = absurd h
-  algebra_opened lengths e sides text (checked.Refused (refusal.Clauses line why)) h opened = absurd h
-  algebra_opened lengths e sides text (checked.Refused (refusal.Goals column)) h opened = absurd h
-  algebra_opened lengths e sides text (checked.Refused (refusal.Algebra line why)) h opened = opened
-  algebra_opened lengths e sides text (checked.TooLong slot.Graph) h opened = absurd h
-  algebra_opened lengths e sides text (checked.TooLong slot.Other) h opened = absurd h
-  algebra_opened lengths e sides text (checked.TooLong slot.Clauses) h opened = absurd h
-  algebra_opened lengths e sides text (checked.TooLong slot.Algebra) h opened = opened
-  algebra_opened lengths e sides text (checked.TooLong slot.Report) h opened = absurd h
-  algebra_opened lengths e sides text checked.ReadFault h opened = (3, omega arith, opened)
-  algebra_opened lengths e sides text checked.Memory h opened = (3, omega arith, opened)
+  pub algebra_opened : (lengths : Lengths) (p : Premises) (sides : Sides) (text : Option (List ℕ)) (answer : Checked) → IsAlgebraFail lengths p sides text before now answer → OpensFiles 3 first now → OpensFor answer first now
+  algebra_opened lengths p sides text checked.Accepted h opened = absurd h
+  algebra_opened lengths p sides text (checked.Graph why) h opened = absurd h
+  algebra_opened lengths p sides text (checked.Refused (refusal.Clauses line why)) h opened = absurd h
+  algebra_opened lengths p sides text (checked.Refused (refusal.Goals column)) h opened = absurd h
+  algebra_opened lengths p sides text (checked.Refused (refusal.Algebra line why)) h opened = opened
+  algebra_opened lengths p sides text (checked.TooLong slot.Graph) h opened = absurd h
+  algebra_opened lengths p sides text (checked.TooLong slot.Other) h opened = absurd h
+  algebra_opened lengths p sides text (checked.TooLong slot.Clauses) h opened = absurd h
+  algebra_opened lengths p sides text (checked.TooLong slot.Algebra) h opened = opened
+  algebra_opened lengths p sides text (checked.TooLong slot.Report) h opened = absurd h
+  algebra_opened lengths p sides text checked.ReadFault h opened = (3, omega arith, opened)
+  algebra_opened lengths p sides text checked.Memory h opened = (3, omega arith, opened)

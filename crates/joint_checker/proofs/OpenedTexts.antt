@@ -4,7 +4,7 @@ use Rattle.std.specs.Io.KnownBytes.{Keeps}
 use Rattle.graph_core.specs.Algebra.Refusal as cause
 use Rattle.graph_core.specs.Algebra.Refusal.{IsAlgebraRefusal}
 use Rattle.graph_core.specs.Graph.{Aig}
-use Rattle.graph_core.specs.Graph.Extended.{Extended}
+use Rattle.graph_core.specs.Algebra.{Premises}
 use Rattle.graph_core.specs.Graph.Operands.{Sides}
 use Rattle.graph_core.specs.Text.JudgedLines.{Lengths}
 use Rattle.drup_text.specs.HeaderRefusal.{TooLong}
@@ -36,16 +36,16 @@ module _ (text left : Option (List ℕ)) (kept : Keeps text left) (first before 
   clauses_fail g checked.ReadFault h = rose_before first.read_faults before.read_faults now.read_faults later h
   clauses_fail g checked.Memory h = tt
 
-  pub algebra_fails : (e : Extended) (sides : Sides) (answer : Checked) → IsAlgebraFail lengths e sides left before now answer → IsAlgebraFail lengths e sides text first now answer
-  algebra_fails e sides checked.Accepted h = absurd h
-  algebra_fails e sides (checked.Graph why) h = absurd h
-  algebra_fails e sides (checked.Refused (refusal.Clauses line why)) h = absurd h
-  algebra_fails e sides (checked.Refused (refusal.Goals column)) h = absurd h
-  algebra_fails e sides (checked.Refused (refusal.Algebra line why)) h = IfSome-Keeps text left (λ bytes. IsAlgebraRefusal e sides lengths bytes (line, cause_of why)) kept h
-  algebra_fails e sides (checked.TooLong slot.Graph) h = absurd h
-  algebra_fails e sides (checked.TooLong slot.Other) h = absurd h
-  algebra_fails e sides (checked.TooLong slot.Clauses) h = absurd h
-  algebra_fails e sides (checked.TooLong slot.Algebra) h = IfSome-Keeps text left (λ bytes. (line : ℕ) × IsAlgebraRefusal e sides lengths bytes (line, cause.TooLong)) kept h
-  algebra_fails e sides (checked.TooLong slot.Report) h = absurd h
-  algebra_fails e sides checked.ReadFault h = rose_before first.read_faults before.read_faults now.read_faults later h
-  algebra_fails e sides checked.Memory h = tt
+  pub algebra_fails : (p : Premises) (sides : Sides) (answer : Checked) → IsAlgebraFail lengths p sides left before now answer → IsAlgebraFail lengths p sides text first now answer
+  algebra_fails p sides checked.Accepted h = absurd h
+  algebra_fails p sides (checked.Graph why) h = absurd h
+  algebra_fails p sides (checked.Refused (refusal.Clauses line why)) h = absurd h
+  algebra_fails p sides (checked.Refused (refusal.Goals column)) h = absurd h
+  algebra_fails p sides (checked.Refused (refusal.Algebra line why)) h = IfSome-Keeps text left (λ bytes. IsAlgebraRefusal p sides lengths bytes (line, cause_of why)) kept h
+  algebra_fails p sides (checked.TooLong slot.Graph) h = absurd h
+  algebra_fails p sides (checked.TooLong slot.Other) h = absurd h
+  algebra_fails p sides (checked.TooLong slot.Clauses) h = absurd h
+  algebra_fails p sides (checked.TooLong slot.Algebra) h = IfSome-Keeps text left (λ bytes. (line : ℕ) × IsAlgebraRefusal p sides lengths bytes (line, cause.TooLong)) kept h
+  algebra_fails p sides (checked.TooLong slot.Report) h = absurd h
+  algebra_fails p sides checked.ReadFault h = rose_before first.read_faults before.read_faults now.read_faults later h
+  algebra_fails p sides checked.Memory h = tt

@@ -3,10 +3,9 @@ use Rattle.std.proofs.Common.{◌≡◌, ℕ, List, Option, IfSome, refl, subst}
 use Rattle.aiger_reader.specs.Refusals.{Refuses, SpellsWithin}
 use Rattle.aiger_reader.specs.declared.fail.ReadFail.{ReadFail}
 use Rattle.aiger_reader.specs.declared.fail.ReadFail.TheVariants as fail
-use Rattle.graph_core.specs.Algebra.{specification}
 use Rattle.graph_core.specs.Algebra.Refusal as cause
 use Rattle.graph_core.specs.Algebra.Refusal.{IsAlgebraRefusal}
-use Rattle.graph_core.specs.Graph.Extended.{Extended}
+use Rattle.graph_core.specs.Algebra.{Premises, specification}
 use Rattle.graph_core.specs.Graph.{Aig, IsWellFormed}
 use Rattle.graph_core.specs.declared.claim.Claim.{Claim}
 use Rattle.graph_core.specs.declared.profile.Profile.{Profile}
@@ -24,10 +23,10 @@ use Rattle.joint_checker.specs.declared.checked.Refusal.TheVariants as refusal
 use Rattle.joint_checker.specs.Answers.{answer_of_graph}
 use Rattle.graph_core.specs.Certificates.{IsLawfulAlgebra}
 use Rattle.drup_text.specs.HeaderRefusal.{TooLong}
-use Rattle.joint_checker.specs.ClauseFiles.{GivesExtended, IsExtendedOf}
+use Rattle.joint_checker.specs.ClauseFiles.{GivesPremises, ArePremisesOf}
 use Rattle.joint_checker.specs.ClauseRefusals.{IsClauseRefusal, IsColumnRefusal}
 use Rattle.joint_checker.specs.Fails.{IsAlgebraFail, IsClauseFail, IsGraphFail}
-use Rattle.joint_checker.specs.Files.{Files, HasExtended, texts_of}
+use Rattle.joint_checker.specs.Files.{Files, HasPremises, texts_of}
 use Rattle.joint_checker.specs.Outcome.{IsOutcome, MeetsAlgebra, cause_of}
 use Rattle.clause_judge.specs.LineRefusals.{line_cause}
 use Rattle.joint_checker.proofs.Joined.{graph_is, vanishing_does}
@@ -65,7 +64,7 @@ module _ (limits : Limits) (claim : Claim) (files : Files) where
   earlier a b name P inspects h = subst (λ (o : Option (List ℕ)). IfSome o P) (bytes_under-held a b name (inspects.held name)) h
 
   module _ (a b c : View) (first : Inspects a b) (g : Aig) (spelled : IfSome (bytes_under a files.graph) (λ bytes. SpellsWithin (profile_of claim.add) limits.graph bytes g)) where
-    -- the clause file gives no extended graph
+    -- the clause file gives no premises
     pub clauses_answer : (answer : Checked) → IsClauseFail (lengths_of limits) g (bytes_under b files.clauses) b c answer →
         IsOutcome limits claim files a c answer
     clauses_answer checked.Accepted h = absurd h
@@ -82,22 +81,22 @@ module _ (limits : Limits) (claim : Claim) (files : Files) where
     clauses_answer checked.ReadFault h = rose_before a.read_faults b.read_faults c.read_faults first.later h
     clauses_answer checked.Memory h = tt
 
-  -- an extended graph, of which something holds
-  pub extended_there : (a b : View) (g : Aig) (e : Extended) (P : Aig → Extended → Type 0) → Inspects a b → IsExtendedOf g e → IfSome (bytes_under a files.graph) (λ bytes. SpellsWithin (profile_of claim.add) limits.graph bytes g) →
-      IfSome (bytes_under b files.clauses) (λ bytes. GivesExtended (lengths_of limits) g bytes e) → P g e → HasExtended (profile_of claim.add) limits (texts_of a files) P
-  extended_there a b g e P inspects itself spelled gives holds =
-      (g, spelled, (e, itself, earlier a b files.clauses (λ bytes. GivesExtended (lengths_of limits) g bytes e) inspects gives, holds))
+  -- premises, of which something holds
+  pub premises_there : (a b : View) (g : Aig) (p : Premises) (P : Aig → Premises → Type 0) → Inspects a b → ArePremisesOf g p → IfSome (bytes_under a files.graph) (λ bytes. SpellsWithin (profile_of claim.add) limits.graph bytes g) →
+      IfSome (bytes_under b files.clauses) (λ bytes. GivesPremises (lengths_of limits) g bytes p) → P g p → HasPremises (profile_of claim.add) limits (texts_of a files) P
+  premises_there a b g p P inspects of spelled gives holds =
+      (g, spelled, (p, of, earlier a b files.clauses (λ bytes. GivesPremises (lengths_of limits) g bytes p) inspects gives, holds))
 
-  module _ (a b c d : View) (first : Inspects a b) (second : Inspects b c) (g : Aig) (e : Extended) (itself : IsExtendedOf g e)
+  module _ (a b c d : View) (first : Inspects a b) (second : Inspects b c) (g : Aig) (p : Premises) (of : ArePremisesOf g p)
       (spelled : IfSome (bytes_under a files.graph) (λ bytes. SpellsWithin (profile_of claim.add) limits.graph bytes g))
-      (gives : IfSome (bytes_under b files.clauses) (λ bytes. GivesExtended (lengths_of limits) g bytes e)) where
+      (gives : IfSome (bytes_under b files.clauses) (λ bytes. GivesPremises (lengths_of limits) g bytes p)) where
     there : (P : List ℕ → Type 0) → IfSome (bytes_under c files.algebra) P → IfSome (bytes_under a files.algebra) P
     there P h = earlier a c files.algebra P (Inspects-trans a b c first second) h
 
-    meets : (P : Aig → Extended → List ℕ → Type 0) → IfSome (bytes_under c files.algebra) (P g e) → MeetsAlgebra (profile_of claim.add) limits (texts_of a files) P
-    meets P h = extended_there a b g e (λ x f. IfSome (bytes_under a files.algebra) (P x f)) first itself spelled gives (there (P g e) h)
+    meets : (P : Aig → Premises → List ℕ → Type 0) → IfSome (bytes_under c files.algebra) (P g p) → MeetsAlgebra (profile_of claim.add) limits (texts_of a files) P
+    meets P h = premises_there a b g p (λ x f. IfSome (bytes_under a files.algebra) (P x f)) first of spelled gives (there (P g p) h)
 
-    answers : (answer : Checked) → IsAlgebraFail (lengths_of limits) e (sides_for claim g) (bytes_under c files.algebra) c d answer → IsOutcome limits claim files a d answer
+    answers : (answer : Checked) → IsAlgebraFail (lengths_of limits) p (sides_for claim g) (bytes_under c files.algebra) c d answer → IsOutcome limits claim files a d answer
     answers checked.Accepted h = absurd h
     answers (checked.Graph why) h = absurd h
     answers (checked.Refused (refusal.Clauses line why)) h = absurd h
@@ -112,15 +111,15 @@ module _ (limits : Limits) (claim : Claim) (files : Files) where
     answers checked.Memory h = tt
 
     -- the algebra file isn't lawful
-    pub algebra_answers : (answer : Checked) → IsAlgebraFail (lengths_of limits) e (sides_for claim e.graph) (bytes_under c files.algebra) c d answer → IsOutcome limits claim files a d answer
-    algebra_answers answer h = answers answer (subst (λ (x : Aig). IsAlgebraFail (lengths_of limits) e (sides_for claim x) (bytes_under c files.algebra) c d answer) (graph_is g e itself) h)
+    pub algebra_answers : (answer : Checked) → IsAlgebraFail (lengths_of limits) p (sides_for claim p.extended.graph) (bytes_under c files.algebra) c d answer → IsOutcome limits claim files a d answer
+    algebra_answers answer h = answers answer (subst (λ (x : Aig). IsAlgebraFail (lengths_of limits) p (sides_for claim x) (bytes_under c files.algebra) c d answer) (graph_is g p of) h)
 
     -- It is lawful, and the specification vanishes on every evaluation.
-    pub accepts : IsWellFormed g → HasShapeFor claim.add g → IfSome (bytes_under c files.algebra) (IsLawfulAlgebra (lengths_of limits) e (sides_for claim e.graph)) →
-        Always e.gates (λ σ. specification e (sides_for claim e.graph) σ ≡ 0) → IsOutcome limits claim files a d checked.Accepted
+    pub accepts : IsWellFormed g → HasShapeFor claim.add g → IfSome (bytes_under c files.algebra) (IsLawfulAlgebra (lengths_of limits) p (sides_for claim p.extended.graph)) →
+        Always p.extended.gates (λ σ. specification p.extended (sides_for claim p.extended.graph) σ ≡ 0) → IsOutcome limits claim files a d checked.Accepted
     accepts well shape lawful vanishes =
-        extended_there a b g e (λ x f. IfSome (bytes_under a files.algebra) (IsLawfulAlgebra (lengths_of limits) f (sides_for claim x)) × Does claim x) first itself spelled gives (
-          there (IsLawfulAlgebra (lengths_of limits) e (sides_for claim g))
-              (subst (λ (x : Aig). IfSome (bytes_under c files.algebra) (IsLawfulAlgebra (lengths_of limits) e (sides_for claim x))) (graph_is g e itself) lawful),
-          vanishing_does g claim e well shape itself (subst (λ (x : Aig). Always e.gates (λ σ. specification e (sides_for claim x) σ ≡ 0)) (graph_is g e itself) vanishes),
+        premises_there a b g p (λ x f. IfSome (bytes_under a files.algebra) (IsLawfulAlgebra (lengths_of limits) f (sides_for claim x)) × Does claim x) first of spelled gives (
+          there (IsLawfulAlgebra (lengths_of limits) p (sides_for claim g))
+              (subst (λ (x : Aig). IfSome (bytes_under c files.algebra) (IsLawfulAlgebra (lengths_of limits) p (sides_for claim x))) (graph_is g p of) lawful),
+          vanishing_does g claim p well shape of (subst (λ (x : Aig). Always p.extended.gates (λ σ. specification p.extended (sides_for claim x) σ ≡ 0)) (graph_is g p of) vanishes),
         )

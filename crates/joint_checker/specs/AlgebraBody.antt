@@ -2,7 +2,7 @@
 use Rattle.std.specs.Prelude.{ℕ, List, [], IfSome, ⊤}
 use Rattle.std.specs.List.{All}
 use Rattle.std.specs.declared.option.Option.{Option}
-use Rattle.graph_core.specs.Algebra.{Line, Ledger, AreLawfulLines, Closes, after_all, axioms, modulus}
+use Rattle.graph_core.specs.Algebra.{Line, Ledger, Premises, AreLawfulLines, Closes, after_all, beginning, modulus}
 use Rattle.graph_core.specs.Algebra.Refusal as cause
 use Rattle.graph_core.specs.Algebra.Refusal.{IsRefusedBody}
 use Rattle.graph_core.specs.Algebra.Text.{AreLineTexts, IsCloseText, IsId, IsLineInRange}
@@ -19,11 +19,11 @@ use Rattle.clause_judge.specs.ClauseBody.{IsLongIn}
 use Rattle.joint_checker.specs.Outcome.{cause_of}
 
 -- Lawful lines over the ledger, a closing line, and nothing behind it. No line is too long.
-pub record IsLawfulRest (e : Extended) (sides : Sides) (IsLong : List ℕ → Type 0) (l : Ledger) (left : List ℕ) : Type 0 where
+pub record IsLawfulRest (version : ℕ) (e : Extended) (sides : Sides) (IsLong : List ℕ → Type 0) (l : Ledger) (left : List ℕ) : Type 0 where
   pub lines : List Line
   pub closing : ℕ
   pub last : List ℕ
-  pub texts : AreLineTexts left lines last
+  pub texts : AreLineTexts version left lines last
   pub close : BeginsWith IsCloseText last closing []
   pub in_range : All (IsLineInRange e.max) lines
   pub closing_in_range : IsId closing
@@ -32,16 +32,16 @@ pub record IsLawfulRest (e : Extended) (sides : Sides) (IsLong : List ℕ → Ty
   pub short : (more : List ℕ) → IsLineStart left more → ¬ (IsLong more)
   pub ends : IsLineStart left []
 
--- the lines behind the header, over the axioms, where this reader has them before it
-abbrev pub IsLawfulBody : Extended → Sides → Lines → List ℕ → Type 0
-IsLawfulBody e sides lines body = IsLawfulRest e sides (IsLongIn lines body) (axioms e) body
+-- the lines behind the header, over the first ledger, where this reader has them before it
+abbrev pub IsLawfulBody : Premises → Sides → Lines → List ℕ → Type 0
+IsLawfulBody p sides lines body = IsLawfulRest p.version p.extended sides (IsLongIn lines body) (beginning p) body
 
 -- Why they aren't lawful.
-abbrev pub IsBodyFail : Extended → Sides → Lines → Option (List ℕ) → View → View → Checked → Type 0
-IsBodyFail e sides lines left before now (checked.Refused (refusal.Algebra line why)) =
-    IfSome left (λ body. IsRefusedBody e sides (IsLongIn lines body) body (line, cause_of why))
-IsBodyFail e sides lines left before now (checked.TooLong slot.Algebra) =
-    IfSome left (λ body. (line : ℕ) × IsRefusedBody e sides (IsLongIn lines body) body (line, cause.TooLong))
-IsBodyFail e sides lines left before now checked.ReadFault = Rose before.read_faults now.read_faults
-IsBodyFail e sides lines left before now checked.Memory = ⊤
-IsBodyFail e sides lines left before now _ = ⊥
+abbrev pub IsBodyFail : Premises → Sides → Lines → Option (List ℕ) → View → View → Checked → Type 0
+IsBodyFail p sides lines left before now (checked.Refused (refusal.Algebra line why)) =
+    IfSome left (λ body. IsRefusedBody p sides (IsLongIn lines body) body (line, cause_of why))
+IsBodyFail p sides lines left before now (checked.TooLong slot.Algebra) =
+    IfSome left (λ body. (line : ℕ) × IsRefusedBody p sides (IsLongIn lines body) body (line, cause.TooLong))
+IsBodyFail p sides lines left before now checked.ReadFault = Rose before.read_faults now.read_faults
+IsBodyFail p sides lines left before now checked.Memory = ⊤
+IsBodyFail p sides lines left before now _ = ⊥

@@ -1,5 +1,5 @@
 -- One line of an algebra file, over what is left of it and over the checker's ledger.
-use Rattle.std.specs.Prelude.{◌≡◌, ◌≢◌, ◌+◌, ◌⊎◌, ℕ, List, [], IfOk, IfErr, IfSome, ⊤}
+use Rattle.std.specs.Prelude.{◌≡◌, ◌≢◌, ◌⊎◌, ℕ, List, [], IfOk, IfErr, IfSome, ⊤}
 use Rattle.std.specs.Result.{result_err}
 use Rattle.std.specs.declared.option.Option.{Option}
 use Rattle.std.specs.declared.option.Option.TheVariants.{Some}
@@ -44,10 +44,11 @@ left_in file view = left_ahead file (view.left slot.Algebra)
 
 -- What the work of reading the next line does: the clauses of the file's reader, before its first failure.
 pub record ReadsNext (max : ℕ) (old : FileState) (before : View) (out : Result PacLine LineFail) (new : FileState) (now : View) (t : Table) : Type 0 where
-  pub text : IfOk out (λ line. (text : List ℕ) × IsTextOf t max text line)
-  pub line : IfOk out (λ line. IfSome (left_in old before) (λ left. TakesText t max old.lines new.lines left (left_in new now) line))
-  pub refused : IfErr out (IsNextRefusal max old.lines (left_in old before) before.read_faults now.read_faults)
+  pub text : IfOk out (λ line. (text : List ℕ) × IsTextOf t old.version max text line)
+  pub line : IfOk out (λ line. IfSome (left_in old before) (λ left. TakesText t old.version max old.lines new.lines left (left_in new now) line))
+  pub refused : IfErr out (IsNextRefusal old.version max old.lines (left_in old before) before.read_faults now.read_faults)
   pub failed : new.failed ≡ result_err out
+  pub version : new.version ≡ old.version
   pub lengths : new.lines.lengths ≡ old.lines.lengths
   pub only : ReadsOnly slot.Algebra before now
   pub tells : KeepsTelling before now
@@ -67,10 +68,10 @@ IsUnlawful n text c answer =
     ((id : ℕ) × (fault : CloseFault) × (text ≡ pac.Close id) × IsCloseFault c.extended c.sides (ledger_of c) id fault × (answer ≡ answer_of_close n fault))
 
 -- A lawful line stands there, and the ledger next is the one behind it.
-pub record TakesLawful (e : Extended) (l next : Ledger) (old new : Lines) (left : List ℕ) (behind : Option (List ℕ)) : Type 0 where
+pub record TakesLawful (version : ℕ) (e : Extended) (l next : Ledger) (old new : Lines) (left : List ℕ) (behind : Option (List ℕ)) : Type 0 where
   pub line : Line
   pub rest : List ℕ
-  pub begins : BeginsWith IsLineText left line rest
+  pub begins : BeginsWith (IsLineText version) left line rest
   pub in_range : IsLineInRange e.max line
   pub lawful : IsLawfulLine (modulus e) l line
   pub ledger : Agree next (after (modulus e) l line)
@@ -86,19 +87,19 @@ pub record TakesClosing (e : Extended) (sides : Sides) (l : Ledger) (old new : L
   pub passes : PassesLine old new left rest behind
 
 -- What a line was. That the specification vanishes is known whether or not the desk tells the file.
-abbrev pub Turns : Extended → Sides → Ledger → Ledger → Lines → Lines → Option (List ℕ) → Option (List ℕ) → Turn → Type 0
-Turns e sides l next old new left behind turn.Taken = IfSome left (λ bytes. TakesLawful e l next old new bytes behind)
-Turns e sides l next old new left behind turn.Closed =
+abbrev pub Turns : ℕ → Extended → Sides → Ledger → Ledger → Lines → Lines → Option (List ℕ) → Option (List ℕ) → Turn → Type 0
+Turns version e sides l next old new left behind turn.Taken = IfSome left (λ bytes. TakesLawful version e l next old new bytes behind)
+Turns version e sides l next old new left behind turn.Closed =
     IfSome left (λ bytes. TakesClosing e sides l old new bytes behind) × Always e.gates (λ σ. specification e sides σ ≡ 0)
 
 -- Why the line with this number isn't taken: the first cause over the ledger, or a length that is met there.
-abbrev pub IsLineFail : ℕ → Extended → Sides → Ledger → Lines → Option (List ℕ) → View → View → Checked → Type 0
-IsLineFail n e sides l lines left before now (checked.Refused (refusal.Algebra line why)) =
-    (line ≡ n) × IfSome left (λ bytes. IsRefusedNext e sides (IsLongIn lines bytes) l bytes (0, cause_of why))
-IsLineFail n e sides l lines left before now (checked.TooLong slot.Algebra) = IfSome left (IsLongAhead lines)
-IsLineFail n e sides l lines left before now checked.ReadFault = Rose before.read_faults now.read_faults
-IsLineFail n e sides l lines left before now checked.Memory = ⊤
-IsLineFail n e sides l lines left before now _ = ⊥
+abbrev pub IsLineFail : ℕ → ℕ → Extended → Sides → Ledger → Lines → Option (List ℕ) → View → View → Checked → Type 0
+IsLineFail n version e sides l lines left before now (checked.Refused (refusal.Algebra line why)) =
+    (line ≡ n) × IfSome left (λ bytes. IsRefusedNext version e sides (IsLongIn lines bytes) l bytes (0, cause_of why))
+IsLineFail n version e sides l lines left before now (checked.TooLong slot.Algebra) = IfSome left (IsLongAhead lines)
+IsLineFail n version e sides l lines left before now checked.ReadFault = Rose before.read_faults now.read_faults
+IsLineFail n version e sides l lines left before now checked.Memory = ⊤
+IsLineFail n version e sides l lines left before now _ = ⊥
 
 -- Why the file doesn't end before the line with this number.
 abbrev pub IsEndFail : ℕ → Lines → Option (List ℕ) → View → View → Checked → Type 0

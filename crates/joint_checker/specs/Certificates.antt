@@ -2,18 +2,18 @@
 use Rattle.std.specs.Prelude.{ℕ, List}
 use Rattle.graph_core.specs.Aiger.{Spells}
 use Rattle.graph_core.specs.Certificates.{IsLawfulAlgebra}
-use Rattle.graph_core.specs.Graph.Extended.{Extended}
+use Rattle.graph_core.specs.Algebra.{Premises}
 use Rattle.graph_core.specs.Graph.Operands.{Does, profile_of, sides_for}
 use Rattle.graph_core.specs.declared.claim.Claim.{Claim}
 use Rattle.graph_core.specs.Graph.{Aig}
 use Rattle.graph_core.specs.Text.JudgedLines.{Lengths}
-use Rattle.joint_checker.specs.ClauseFiles.{GivesExtended}
+use Rattle.joint_checker.specs.ClauseFiles.{GivesPremises}
 
--- The clause file gives an extended graph, for which the algebra file is lawful. No file and no line is longer than it may be.
+-- The clause file gives premises, over which the algebra file is lawful. No file and no line is longer than it may be.
 pub record IsLawfulPair (lengths : Lengths) (g : Aig) (claim : Claim) (clauses algebra : List ℕ) : Type 0 where
-  pub extended : Extended
-  pub gives : GivesExtended lengths g clauses extended
-  pub lawful : IsLawfulAlgebra lengths extended (sides_for claim g) algebra
+  pub premises : Premises
+  pub gives : GivesPremises lengths g clauses premises
+  pub lawful : IsLawfulAlgebra lengths premises (sides_for claim g) algebra
 
 -- The graph of a lawful pair does what is claimed.
 abbrev pub LawfulPairsAreSound : Type 0

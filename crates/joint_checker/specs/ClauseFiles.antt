@@ -1,36 +1,44 @@
--- Clause certificates that are lawful for a graph, and the extended graph that each gives for it.
-use Rattle.std.specs.Prelude.{◌≡◌, ℕ, List}
+-- Clause certificates that are lawful for a graph, and the premises that each gives for the algebra.
+use Rattle.std.specs.Prelude.{◌≡◌, ℕ, List, length, map}
 use Rattle.std.specs.List.{All}
-use Rattle.std.specs.declared.option.Option.{Option}
+use Rattle.graph_core.specs.Algebra.{Premises}
+use Rattle.graph_core.specs.Algebra.Agreement.{AreSamePremises}
 use Rattle.graph_core.specs.Graph.Extended.{Extended}
 use Rattle.graph_core.specs.Graph.{Aig}
 use Rattle.graph_core.specs.Text.JudgedLines.{IsWithin, Lengths}
-use Rattle.ripple_graft.specs.declared.cut.Cut.{Cut}
-use Rattle.clause_core.specs.Clause.{IsClauseInRange}
-use Rattle.clause_core.specs.ClauseLines.{AreGoalsShown, AreLawfulClauses, ClauseLine, clause_in}
+use Rattle.clause_core.specs.Clause.{Clause, IsClauseInRange}
+use Rattle.clause_core.specs.ClauseLines.{AreGoalsShown, AreLawfulClauses, ClauseLine, added, clause_in}
 use Rattle.clause_core.specs.GateClauses.{gate_clauses}
-use Rattle.drup_text.specs.Headers.{IsClauseFile, IsHeaderOf, extended_by}
+use Rattle.drup_checker.specs.Checking.{imported}
+use Rattle.drup_text.specs.declared.head.Header.{Header}
+use Rattle.drup_text.specs.Headers.{IsAnyClauseFile, IsHeaderOf, extended_with}
+use Rattle.gate_axioms.specs.ClauseValues.{clause_value}
 
--- The graph with a cut that it takes, or without one.
-pub record IsExtendedOf (g : Aig) (e : Extended) : Type 0 where
-  pub cut : Option Cut
-  pub takes : IsHeaderOf g cut
-  pub itself : e ≡ extended_by g cut
+-- the premises of a version over an extended graph, with the values of these clauses to import
+abbrev pub premises : ℕ → Extended → List Clause → Premises
+premises version e clauses = record { version = version; extended = e; imports = map clause_value clauses }
 
--- A file within the lengths with this cut, which the graph takes, and these lines, each of which is lawful behind those before it,
--- whatever the goals.
-pub record HasLawfulLines (lengths : Lengths) (g : Aig) (bytes : List ℕ) (cut : Option Cut) (lines : List ClauseLine) : Type 0 where
-  pub text : IsClauseFile bytes cut lines
-  pub takes : IsHeaderOf g cut
-  pub in_range : All (λ x. IsClauseInRange (extended_by g cut).max (clause_in x)) lines
-  pub lawful : AreLawfulClauses (gate_clauses (extended_by g cut).gates) lines
+-- Those of a header that the graph takes.
+pub record ArePremisesOf (g : Aig) (p : Premises) : Type 0 where
+  pub header : Header
+  pub takes : IsHeaderOf g header
+  pub version : p.version ≡ header.version
+  pub extended : p.extended ≡ extended_with g header
+
+-- A file within the lengths with this header, whose blocks the graph takes, and these lines, each of which is lawful behind those before
+-- it, whatever the goals.
+pub record HasLawfulLines (lengths : Lengths) (g : Aig) (bytes : List ℕ) (header : Header) (lines : List ClauseLine) : Type 0 where
+  pub text : IsAnyClauseFile (length g.outputs) bytes header lines
+  pub takes : IsHeaderOf g header
+  pub in_range : All (λ x. IsClauseInRange (extended_with g header).max (clause_in x)) lines
+  pub lawful : AreLawfulClauses (gate_clauses (extended_with g header).gates) lines
   pub within : IsWithin lengths bytes
 
--- Which extended graph a clause file within the lengths gives for a graph: that of its cut, where its lines are lawful and every goal
--- of a replaced column is met or shown by an added clause.
-pub record GivesExtended (lengths : Lengths) (g : Aig) (bytes : List ℕ) (e : Extended) : Type 0 where
-  pub cut : Option Cut
+-- Which premises a clause file within the lengths gives for a graph, where its lines are lawful and every goal of a replaced column is met
+-- or shown by an added clause: its version, the graph with its blocks, and the values of its added clauses, in version 2.
+pub record GivesPremises (lengths : Lengths) (g : Aig) (bytes : List ℕ) (p : Premises) : Type 0 where
+  pub header : Header
   pub lines : List ClauseLine
-  pub lawful : HasLawfulLines lengths g bytes cut lines
-  pub shown : AreGoalsShown lines (extended_by g cut)
-  pub itself : e ≡ extended_by g cut
+  pub lawful : HasLawfulLines lengths g bytes header lines
+  pub shown : AreGoalsShown lines (extended_with g header)
+  pub same : AreSamePremises p (premises header.version (extended_with g header) (imported header.version (added lines)))

@@ -1,15 +1,15 @@
 -- The first refusal of a clause certificate: a line and its cause, or else a column whose goals aren't shown.
-use Rattle.std.specs.Prelude.{◌≡◌, ℕ, List, length}
-use Rattle.std.specs.declared.option.Option.{Option}
-use Rattle.graph_core.specs.Graph.Extended.{Extended}
+use Rattle.std.specs.Prelude.{ℕ, List, length}
+use Rattle.graph_core.specs.Algebra.{Premises}
+use Rattle.graph_core.specs.Algebra.Agreement.{AreSamePremises}
 use Rattle.graph_core.specs.Graph.{Aig}
 use Rattle.graph_core.specs.Text.JudgedLines.{IsExact, IsTooLong, Lengths}
-use Rattle.ripple_graft.specs.declared.cut.Cut.{Cut}
 use Rattle.clause_core.specs.ClauseLines.{ClauseLine, IsGoalRefusal}
 use Rattle.clause_judge.specs.LineRefusals.{IsRefusedLines}
 use Rattle.drup_text.specs.HeaderRefusal.{IsFirstRefusal, LineCause}
-use Rattle.drup_text.specs.Headers.{extended_by}
-use Rattle.joint_checker.specs.ClauseFiles.{GivesExtended, HasLawfulLines}
+use Rattle.drup_text.specs.declared.head.Header.{Header}
+use Rattle.drup_text.specs.Headers.{extended_with}
+use Rattle.joint_checker.specs.ClauseFiles.{GivesPremises, HasLawfulLines}
 
 -- The first line that is refused, from 1, and its cause.
 abbrev pub IsClauseRefusal : Lengths → Aig → List ℕ → ℕ × LineCause → Type 0
@@ -18,9 +18,9 @@ IsClauseRefusal lengths g bytes = IsFirstRefusal (IsRefusedLines (IsTooLong leng
 -- Every line is lawful, and this is the least replaced column with a goal that isn't shown.
 abbrev pub IsColumnRefusal : Lengths → Aig → List ℕ → ℕ → Type 0
 IsColumnRefusal lengths g bytes column =
-    (cut : Option Cut) × (lines : List ClauseLine) × HasLawfulLines lengths g bytes cut lines × IsGoalRefusal (extended_by g cut) lines column
+    (header : Header) × (lines : List ClauseLine) × HasLawfulLines lengths g bytes header lines × IsGoalRefusal (extended_with g header) lines column
 
--- why a clause file gives no extended graph: a line and its cause, or a column
+-- why a clause file gives no premises: a line and its cause, or a column
 pub data ClauseFault : Type 0 where
   Line : ℕ × LineCause → ClauseFault
   Goals : ℕ → ClauseFault
@@ -30,7 +30,8 @@ abbrev pub IsFileRefusal : Lengths → Aig → List ℕ → ClauseFault → Type
 IsFileRefusal lengths g bytes (Line p) = IsClauseRefusal lengths g bytes p
 IsFileRefusal lengths g bytes (Goals column) = IsColumnRefusal lengths g bytes column
 
--- A clause file gives one extended graph for a graph, or it has one first refusal, and never both.
+-- A clause file gives premises for a graph, or it has one first refusal, and never both; all premises that it gives say the same.
 pub record ClausesAreExact : Type 0 where
-  pub exact : (lengths : Lengths) (g : Aig) (bytes : List ℕ) → IsExact ((e : Extended) × GivesExtended lengths g bytes e) (IsFileRefusal lengths g bytes)
-  pub one : (lengths : Lengths) (g : Aig) (bytes : List ℕ) (e f : Extended) → GivesExtended lengths g bytes e → GivesExtended lengths g bytes f → e ≡ f
+  pub exact : (lengths : Lengths) (g : Aig) (bytes : List ℕ) → IsExact ((p : Premises) × GivesPremises lengths g bytes p) (IsFileRefusal lengths g bytes)
+  pub one : (lengths : Lengths) (g : Aig) (bytes : List ℕ) (p q : Premises) →
+      GivesPremises lengths g bytes p → GivesPremises lengths g bytes q → AreSamePremises p q

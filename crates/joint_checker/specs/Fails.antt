@@ -7,7 +7,7 @@ use Rattle.graph_core.specs.Algebra.Refusal as cause
 use Rattle.graph_core.specs.Graph.Operands.{Sides}
 use Rattle.graph_core.specs.declared.profile.Profile.{Profile}
 use Rattle.graph_core.specs.Algebra.Refusal.{IsAlgebraRefusal}
-use Rattle.graph_core.specs.Graph.Extended.{Extended}
+use Rattle.graph_core.specs.Algebra.{Premises}
 use Rattle.graph_core.specs.Text.JudgedLines.{Lengths}
 use Rattle.mv_desk.specs.View.{Rose, View}
 use Rattle.mv_desk.specs.declared.slot.Slot.TheVariants as slot
@@ -38,12 +38,12 @@ IsClauseFail lengths g text before now checked.ReadFault = Rose before.read_faul
 IsClauseFail lengths g text before now checked.Memory = ⊤
 IsClauseFail lengths g text before now _ = ⊥
 
--- of the algebra file, for an extended graph and operands
-abbrev pub IsAlgebraFail : Lengths → Extended → Sides → Option (List ℕ) → View → View → Checked → Type 0
-IsAlgebraFail lengths e sides text before now (checked.Refused (refusal.Algebra line why)) =
-    IfSome text (λ bytes. IsAlgebraRefusal e sides lengths bytes (line, cause_of why))
-IsAlgebraFail lengths e sides text before now (checked.TooLong slot.Algebra) =
-    IfSome text (λ bytes. (line : ℕ) × IsAlgebraRefusal e sides lengths bytes (line, cause.TooLong))
-IsAlgebraFail lengths e sides text before now checked.ReadFault = Rose before.read_faults now.read_faults
-IsAlgebraFail lengths e sides text before now checked.Memory = ⊤
-IsAlgebraFail lengths e sides text before now _ = ⊥
+-- of the algebra file, over premises and operands
+abbrev pub IsAlgebraFail : Lengths → Premises → Sides → Option (List ℕ) → View → View → Checked → Type 0
+IsAlgebraFail lengths p sides text before now (checked.Refused (refusal.Algebra line why)) =
+    IfSome text (λ bytes. IsAlgebraRefusal p sides lengths bytes (line, cause_of why))
+IsAlgebraFail lengths p sides text before now (checked.TooLong slot.Algebra) =
+    IfSome text (λ bytes. (line : ℕ) × IsAlgebraRefusal p sides lengths bytes (line, cause.TooLong))
+IsAlgebraFail lengths p sides text before now checked.ReadFault = Rose before.read_faults now.read_faults
+IsAlgebraFail lengths p sides text before now checked.Memory = ⊤
+IsAlgebraFail lengths p sides text before now _ = ⊥

@@ -4,7 +4,7 @@ use Rattle.aiger_reader.specs.Refusals as reading
 use Rattle.aiger_reader.specs.Refusals.{IsGraphRefusal}
 use Rattle.graph_core.specs.Algebra.Refusal as cause
 use Rattle.graph_core.specs.Algebra.Refusal.{AlgebraCause, IsAlgebraRefusal}
-use Rattle.graph_core.specs.Graph.Extended.{Extended}
+use Rattle.graph_core.specs.Algebra.{Premises}
 use Rattle.graph_core.specs.Graph.{Aig}
 use Rattle.graph_core.specs.Graph.Operands.{Does, profile_of, sides_for}
 use Rattle.graph_core.specs.declared.claim.Claim.{Claim}
@@ -21,7 +21,7 @@ use Rattle.joint_checker.specs.declared.checked.Refusal.TheVariants as refusal
 use Rattle.drup_text.specs.HeaderRefusal as clausal
 use Rattle.clause_judge.specs.LineRefusals.{line_cause}
 use Rattle.joint_checker.specs.ClauseRefusals.{IsClauseRefusal, IsColumnRefusal}
-use Rattle.joint_checker.specs.Files.{AreTold, Files, HasExtended, HasGraph, HasLawfulPair, Texts, texts_of}
+use Rattle.joint_checker.specs.Files.{AreTold, Files, HasPremises, HasGraph, HasLawfulPair, Texts, texts_of}
 
 -- ---- what the three files come to
 
@@ -31,6 +31,7 @@ cause_of why.Text = cause.Text
 cause_of why.Range = cause.Range
 cause_of why.Id = cause.Id
 cause_of (why.NoSuchLine id) = cause.NoSuchLine id
+cause_of (why.NoSuchClause number) = cause.NoSuchClause number
 cause_of why.NotEqual = cause.NotEqual
 cause_of why.NotSpec = cause.NotSpecification
 
@@ -38,9 +39,9 @@ cause_of why.NotSpec = cause.NotSpecification
 abbrev pub MeetsClauses : Profile → Limits → Texts → (Aig → List ℕ → Type 0) → Type 0
 MeetsClauses profile limits texts P = HasGraph profile limits.graph texts.graph (λ g. IfSome texts.clauses (P g))
 
--- The graph is spelled, the clause file gives an extended one, and something holds of both and of the algebra file.
-abbrev pub MeetsAlgebra : Profile → Limits → Texts → (Aig → Extended → List ℕ → Type 0) → Type 0
-MeetsAlgebra profile limits texts P = HasExtended profile limits texts (λ g e. IfSome texts.algebra (P g e))
+-- The graph is spelled, the clause file gives premises, and something holds of both and of the algebra file.
+abbrev pub MeetsAlgebra : Profile → Limits → Texts → (Aig → Premises → List ℕ → Type 0) → Type 0
+MeetsAlgebra profile limits texts P = HasPremises profile limits texts (λ g p. IfSome texts.algebra (P g p))
 
 -- The answer that is due: the pair is lawful, or the first refusal, or a length that is met before any refusal.
 abbrev pub IsDue : Limits → Claim → Texts → Checked → Type 0
@@ -54,11 +55,11 @@ IsDue limits claim texts (checked.TooLong slot.Clauses) =
 IsDue limits claim texts (checked.Refused (refusal.Goals column)) =
     MeetsClauses (profile_of claim.add) limits texts (λ g bytes. IsColumnRefusal (lengths_of limits) g bytes column)
 IsDue limits claim texts (checked.Refused (refusal.Algebra line why)) =
-    MeetsAlgebra (profile_of claim.add) limits texts (λ g e bytes.
-    IsAlgebraRefusal e (sides_for claim g) (lengths_of limits) bytes (line, cause_of why))
+    MeetsAlgebra (profile_of claim.add) limits texts (λ g p bytes.
+    IsAlgebraRefusal p (sides_for claim g) (lengths_of limits) bytes (line, cause_of why))
 IsDue limits claim texts (checked.TooLong slot.Algebra) =
-    MeetsAlgebra (profile_of claim.add) limits texts (λ g e bytes. (line : ℕ) ×
-    IsAlgebraRefusal e (sides_for claim g) (lengths_of limits) bytes (line, cause.TooLong))
+    MeetsAlgebra (profile_of claim.add) limits texts (λ g p bytes. (line : ℕ) ×
+    IsAlgebraRefusal p (sides_for claim g) (lengths_of limits) bytes (line, cause.TooLong))
 IsDue limits claim texts _ = ⊥
 
 -- ---- what `check` answers
@@ -89,10 +90,10 @@ IsOfClauses _ = ⊥
 abbrev pub NeedsClauses : Profile → Limits → Texts → Checked → Type 0
 NeedsClauses profile limits texts answer = HasGraph profile limits.graph texts.graph (λ g. ⊤) × ¬ (IsOfGraph answer)
 
--- The algebra file is needed: moreover the clause file gives an extended graph, and the answer isn't one of it.
+-- The algebra file is needed: moreover the clause file gives premises, and the answer isn't one of it.
 abbrev pub NeedsAlgebra : Profile → Limits → Texts → Checked → Type 0
 NeedsAlgebra profile limits texts answer =
-    NeedsClauses profile limits texts answer × HasExtended profile limits texts (λ g e. ⊤) × ¬ (IsOfClauses answer)
+    NeedsClauses profile limits texts answer × HasPremises profile limits texts (λ g p. ⊤) × ¬ (IsOfClauses answer)
 
 -- Each certificate is opened only when it is needed: else its slot is as it was. The slot `Other` always is.
 pub record OpensNeeded (profile : Profile) (limits : Limits) (texts : Texts) (before after : View) (answer : Checked) : Type 0 where

@@ -1,7 +1,8 @@
 // The algebra certificate, line by line.
+ghost use Rattle.std.specs.List.{All};
 ghost use Rattle.std.specs.Prelude.{◌≡◌, ◌≢◌, ◌<◌, ◌^◌, true, None, IfErr, IfSome, OnOk};
 ghost use Rattle.graph_core.specs.Graph.Operands.{profile_of, sides_for};
-ghost use Rattle.graph_core.specs.Algebra.{AgreeOnColumns, axioms, specification};
+ghost use Rattle.graph_core.specs.Algebra.{AgreeOnColumns, beginning, specification};
 ghost use Rattle.graph_core.specs.Aiger.Soundness.{IsSizedAs};
 ghost use Rattle.mv_desk.specs.Calls.{Inspects, ReadsOnly};
 ghost use Rattle.mv_desk.specs.View.{KeepsTelling, OpensFiles, SlotStays, bytes_under};
@@ -14,36 +15,42 @@ ghost use Rattle.mv_text.specs.LineReading.{lengths_of};
 ghost use Rattle.joint_checker.specs.AlgebraBody.{IsBodyFail, IsLawfulBody};
 ghost use Rattle.joint_checker.specs.AlgebraLines.{left_in};
 ghost use Rattle.graph_core.specs.Certificates.{IsLawfulAlgebra};
+ghost use Rattle.clause_core.specs.Facts.{IsClauseFact};
+ghost use Rattle.joint_checker.specs.ClauseFiles.{premises};
 ghost use Rattle.joint_checker.specs.Fails.{IsAlgebraFail};
 
 use crate::algebra_line::{Turn, judge_end, judge_line, line_refused};
 use crate::checked::Checked;
+use crate::clause_file::Shown;
 use crate::read_line::ReadLine;
 use graph_core::{Claim, Operands};
 use mv_desk::{Desk, Limits, Slot};
 use pac_checker::PacChecker;
 use poly_text::AlgebraFile;
-use ripple_graft::Extended;
 use std::alloc::Global;
 use std::marker::PhantomData;
 
-/// Whether a file is a lawful algebra certificate for an extended graph.
+/// Whether a file is a lawful algebra certificate over what a clause file gives.
 pub(crate) fn check_algebra<D: Desk>(
     alloc: Global,
     desk: &mut D,
     limits: &Limits,
     name: &str,
-    extended: &Extended<'_>,
+    shown: &Shown<'_>,
     claim: Claim,
 ) -> Result<(), Checked>
-    requires sized { IsSizedAs (profile_of claim.add) extended.now.graph }
-    requires columns { Always extended.now.gates (AgreeOnColumns extended.now) }
+    requires sized { IsSizedAs (profile_of claim.add) shown.now.extended.graph }
+    requires columns { Always shown.now.extended.gates (AgreeOnColumns shown.now.extended) }
+    requires facts { All (IsClauseFact shown.now.extended.gates) shown.now.added }
     ensures lawful { OnOk result (IfSome (bytes_under (D.seen desk.old) name.now)
-        (IsLawfulAlgebra (lengths_of limits.now) extended.now (sides_for claim extended.now.graph))) }
-    ensures vanishes { OnOk result (Always extended.now.gates
-        (λ σ. specification extended.now (sides_for claim extended.now.graph) σ ≡ 0)) }
+        (IsLawfulAlgebra (lengths_of limits.now)
+        (premises shown.now.version shown.now.extended shown.now.added)
+        (sides_for claim shown.now.extended.graph))) }
+    ensures vanishes { OnOk result (Always shown.now.extended.gates
+        (λ σ. specification shown.now.extended (sides_for claim shown.now.extended.graph) σ ≡ 0)) }
     ensures refused { IfErr result (IsAlgebraFail (lengths_of limits.now)
-        extended.now (sides_for claim extended.now.graph)
+        (premises shown.now.version shown.now.extended shown.now.added)
+        (sides_for claim shown.now.extended.graph)
         (bytes_under (D.seen desk.old) name.now) (D.seen desk.old) (D.seen desk.new)) }
     ensures others { (other : Slot) → other ≢ slot.Algebra →
         SlotStays other (D.seen desk.old) (D.seen desk.new) }
@@ -52,7 +59,7 @@ pub(crate) fn check_algebra<D: Desk>(
     ensures tells { KeepsTelling (D.seen desk.old) (D.seen desk.new) }
 {
     match desk.open_file(Slot::Algebra, name) {
-        Ok(()) => judge_algebra(alloc, desk, limits, extended, claim),
+        Ok(()) => judge_algebra(alloc, desk, limits, shown, claim),
         Err(_) => Err(Checked::ReadFault),
     }
 }
@@ -62,31 +69,35 @@ fn judge_algebra<D: Desk>(
     alloc: Global,
     desk: &mut D,
     limits: &Limits,
-    extended: &Extended<'_>,
+    shown: &Shown<'_>,
     claim: Claim,
 ) -> Result<(), Checked>
     requires reads { (D.seen desk.old).reads slot.Algebra ≡ true }
-    requires sized { IsSizedAs (profile_of claim.add) extended.now.graph }
-    requires columns { Always extended.now.gates (AgreeOnColumns extended.now) }
+    requires sized { IsSizedAs (profile_of claim.add) shown.now.extended.graph }
+    requires columns { Always shown.now.extended.gates (AgreeOnColumns shown.now.extended) }
+    requires facts { All (IsClauseFact shown.now.extended.gates) shown.now.added }
     ensures lawful { OnOk result (IfSome ((D.seen desk.old).left slot.Algebra)
-        (IsLawfulAlgebra (lengths_of limits.now) extended.now (sides_for claim extended.now.graph))) }
-    ensures vanishes { OnOk result (Always extended.now.gates
-        (λ σ. specification extended.now (sides_for claim extended.now.graph) σ ≡ 0)) }
+        (IsLawfulAlgebra (lengths_of limits.now)
+        (premises shown.now.version shown.now.extended shown.now.added)
+        (sides_for claim shown.now.extended.graph))) }
+    ensures vanishes { OnOk result (Always shown.now.extended.gates
+        (λ σ. specification shown.now.extended (sides_for claim shown.now.extended.graph) σ ≡ 0)) }
     ensures refused { IfErr result (IsAlgebraFail (lengths_of limits.now)
-        extended.now (sides_for claim extended.now.graph)
+        (premises shown.now.version shown.now.extended shown.now.added)
+        (sides_for claim shown.now.extended.graph)
         ((D.seen desk.old).left slot.Algebra) (D.seen desk.old) (D.seen desk.new)) }
     ensures only { ReadsOnly slot.Algebra (D.seen desk.old) (D.seen desk.new) }
     ensures tells { KeepsTelling (D.seen desk.old) (D.seen desk.new) }
 {
-    let file = match AlgebraFile::start(alloc, desk, limits) {
+    let file = match AlgebraFile::start(alloc, desk, shown.version, limits) {
         Ok(file) => file,
         Err(fail) => return Err(line_refused(1, fail)),
     };
-    let operands = Operands::under(alloc, extended.graph(), claim)?;
-    let mut checker = PacChecker::new(alloc, extended, &operands)?;
+    let operands = Operands::under(alloc, shown.extended.graph(), claim)?;
+    let mut checker = PacChecker::new(alloc, &shown.extended, &operands, &shown.added)?;
     let mut work = ReadLine {
         file,
-        max: extended.max(),
+        max: shown.extended.max(),
         desk: PhantomData,
     };
     judge_lines(desk, &mut checker, &mut work)
@@ -102,13 +113,16 @@ fn judge_lines<D: Desk>(
     requires going { work.old.file.failed ≡ None }
     requires limit { work.old.file.lines.lengths.file < 2 ^ 64 }
     requires max { work.old.max ≡ checker.old.extended.max }
-    requires axioms { Agree (ledger_of checker.old) (axioms checker.old.extended) }
+    requires begins { Agree (ledger_of checker.old)
+        (beginning (premises work.old.file.version checker.old.extended checker.old.added)) }
     ensures lawful { OnOk result (IfSome (left_in work.old.file (D.seen desk.old))
-        (IsLawfulBody checker.old.extended checker.old.sides work.old.file.lines)) }
+        (IsLawfulBody (premises work.old.file.version checker.old.extended checker.old.added)
+        checker.old.sides work.old.file.lines)) }
     ensures vanishes { OnOk result (Always checker.old.extended.gates
         (λ σ. specification checker.old.extended checker.old.sides σ ≡ 0)) }
-    ensures refused { IfErr result (IsBodyFail checker.old.extended checker.old.sides
-        work.old.file.lines (left_in work.old.file (D.seen desk.old))
+    ensures refused { IfErr result
+        (IsBodyFail (premises work.old.file.version checker.old.extended checker.old.added)
+        checker.old.sides work.old.file.lines (left_in work.old.file (D.seen desk.old))
         (D.seen desk.old) (D.seen desk.new)) }
     ensures only { ReadsOnly slot.Algebra (D.seen desk.old) (D.seen desk.new) }
     ensures tells { KeepsTelling (D.seen desk.old) (D.seen desk.new) }

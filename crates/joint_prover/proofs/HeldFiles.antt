@@ -122,7 +122,7 @@ proved_pairs_are_held limit task files a c noted told apart h =
       algebra_held = ap bytes (algebra_is_held files clauses text a state.0 c told apart state.1 written.3);
       graph = g;
       spells = subst (λ o. IfSome o (λ b. SpellsWithin (profile_of task.claim.add) limit b g)) file.1 h.1;
-      pair = pair_is_lawful g task.claim task.conflicts pair.0 clauses text pair.2;
+      pair = pair_is_lawful g task pair.0 clauses text pair.2;
       does = h.2.0;
       note = subst (λ o. IsSomeAnd o (λ m. IsNote g task.claim task.conflicts m × IsPairFor g task (cut_of m) clauses text)) (sym n.1) (n.2, pair);
     }

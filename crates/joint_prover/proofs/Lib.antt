@@ -4,7 +4,7 @@ mod Starting
 mod WrongNumbers
 pub mod TakenLists
 pub mod Remainders
-pub mod Clauses
+pub mod WrittenClauses
 pub mod Telling
 pub mod Noting
 pub mod Joining

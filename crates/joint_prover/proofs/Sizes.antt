@@ -20,6 +20,10 @@ pub few_outputs : (add : Bool) (g : Aig) → IsSizedAs (profile_of add) g → le
 few_outputs false g sized = let n = sized.narrow in let few = sized.shape.outputs in omega arith
 few_outputs true g sized = let n = sized.narrow in let few = sized.shape.outputs in omega arith
 
+pub few_inputs : (add : Bool) (g : Aig) → IsSizedAs (profile_of add) g → length g.inputs ≤ 256
+few_inputs false g sized = let n = sized.narrow in let all = sized.shape.inputs in omega arith
+few_inputs true g sized = let n = sized.narrow in let all = sized.shape.inputs in omega arith
+
 pub few_variables : (add : Bool) (g : Aig) → IsSizedAs (profile_of add) g → g.max ≤ 4194303
 few_variables false g sized = sized.small
 few_variables true g sized = sized.small

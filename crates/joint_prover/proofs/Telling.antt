@@ -1,31 +1,34 @@
 -- What is told of a graph, from what was written and tried.
-use Rattle.std.proofs.Common.{◌≡◌, List, [], ◌∷◌, ◌++◌, ℕ, refl, sym, ap, subst, ◌∙◌, inl, inr}
+use Rattle.std.proofs.Common.{◌≡◌, List, [], ◌∷◌, ◌++◌, ℕ, length, refl, sym, ap, subst, ◌∙◌, inl, inr}
 use Rattle.std.specs.Prelude.{IfOk, IfSome, OnErr, Result}
 use Rattle.std.specs.declared.result.Result.TheVariants.{Err, Ok}
 use Rattle.std.proofs.lemmas.Result.{IfOk-weaker}
 use Rattle.std.specs.declared.option.Option.{Option}
 use Rattle.std.specs.declared.option.Option.TheVariants.{None, Some}
 use Rattle.std.proofs.lemmas.Option.{none-some}
-use Rattle.clause_core.specs.ClauseLines.{ClauseLine}
-use Rattle.drup_text.specs.Headers.{extended_by}
-use Rattle.drup_text.specs.WrittenTexts.{file_text}
+use Rattle.drup_text.specs.WrittenTexts.{any_file_text}
 use Rattle.graph_core.specs.Aiger.Soundness.{IsSizedAs}
 use Rattle.graph_core.specs.Algebra.Text.{IsLawfulAlgebraFile}
 use Rattle.graph_core.specs.Graph.{Aig, IsWellFormed}
-use Rattle.graph_core.specs.Graph.Extended.{Extended, without_cut}
+use Rattle.graph_core.specs.Graph.Extended.{Extended}
 use Rattle.graph_core.specs.Graph.Operands.{AreOperandsOf, Does, Sides, profile_of, sides_for}
+use Rattle.graph_core.proofs.OfAlgebra.SamePremises.{premises_are_kept}
 use Rattle.graph_core.specs.declared.claim.Claim.{Claim}
 use Rattle.graph_core.specs.declared.numbers.Numbers.{Numbers}
 use Rattle.mv_desk.specs.View.{View}
 use Rattle.mv_desk.specs.declared.slot.Slot.{Slot}
-use Rattle.mv_desk.specs.declared.slot.Slot.TheVariants.{Algebra, Clauses}
+use Rattle.mv_desk.specs.declared.slot.Slot.TheVariants as slot
 use Rattle.pac_writer.specs.Certificates.{certificate_text}
 use Rattle.pac_writer.specs.Writing.{Made}
+use Rattle.ripple_graft.specs.Blocks.{with_cut}
+use Rattle.ripple_graft.specs.HeaderBlocks.{cut_blocks}
 use Rattle.ripple_graft.specs.declared.cut.Cut.{Cut}
 use Rattle.stage_rewriter.specs.Rewriting.{IsShown}
+use Rattle.joint_checker.specs.ClauseFiles.{premises}
 use Rattle.joint_checker.specs.Files.{Files}
 use Rattle.joint_prover.specs.declared.attempts.Attempt.{Attempt}
 use Rattle.joint_prover.specs.declared.attempts.Attempt.TheVariants as attempt
+use Rattle.joint_prover.specs.declared.clauses.Clauses.{Clauses}
 use Rattle.joint_prover.specs.declared.ending.Ending.{Ending}
 use Rattle.joint_prover.specs.declared.ending.Ending.TheVariants.{Differs}
 use Rattle.joint_prover.specs.declared.task.Task.{Task}
@@ -33,20 +36,29 @@ use Rattle.joint_prover.specs.declared.verdict.Tried.{Tried}
 use Rattle.joint_prover.specs.declared.verdict.Verdict.{Verdict}
 use Rattle.joint_prover.specs.declared.verdict.Verdict.TheVariants.{Proved, Wrong, WrongSum, Undecided, Graph, ReadFault, WriteFault, TooLong, Memory}
 use Rattle.joint_prover.specs.Endings.{AreLeast, IsEnded}
-use Rattle.joint_prover.specs.Pairs.{AreClausesFor, AreClausesOver, IsPairFor, IsPairOver}
-use Rattle.joint_prover.specs.Parts.{AreTriedBefore, IsAttempt, IsOfGraph, IsToldOver, IsToldWrong, IsWritten, MayTell, MayTellOver, verdict_in}
-use Rattle.joint_prover.specs.Tries.{AreTried, EndsOver, IsTried}
+use Rattle.joint_prover.specs.Pairs.{AreClausesFor, AreClausesOver, IsPairFor, IsPairOver, IsVersion}
+use Rattle.joint_prover.specs.Parts.{AreTriedBefore, IsAttempt, IsFileOf, IsOfGraph, IsToldOver, IsToldWrong, IsWritten, MayTell, MayTellOver, cut_named, header_of, verdict_in}
+use Rattle.joint_prover.specs.Tries.{AreTried, EndsOver, IsTried, extended_by}
 use Rattle.joint_prover.specs.Verdicts.{IsPair}
 use Rattle.joint_prover.specs.Written.{StopsAt, StopsWriting}
-use Rattle.joint_prover.proofs.Clauses.{no_clauses, used_clauses}
+use Rattle.joint_prover.proofs.WrittenClauses.{AreSaid, said_clauses, said_with}
 
--- a pair over a graph is lawful
-pub pair_is_lawful : (g : Aig) (claim : Claim) (conflicts : ℕ) (cut : Option Cut) (clauses algebra : List ℕ) → IsPairOver g claim conflicts cut clauses algebra → IsPair g claim clauses algebra
-pair_is_lawful g claim conflicts cut clauses algebra h lengths clauses_within algebra_within = record {
-  extended = extended_by g cut;
-  gives = h.clause_file.gives lengths clauses_within;
-  lawful = (h.algebra_file, algebra_within);
-}
+-- a pair over a graph is lawful: what imports nothing is lawful whatever the added clauses are
+pub pair_is_lawful : (g : Aig) (task : Task) (cut : Option Cut) (clauses algebra : List ℕ) → IsPairOver g task cut clauses algebra → IsPair g task.claim clauses algebra
+pair_is_lawful g task cut clauses algebra h lengths clauses_within algebra_within =
+    let given = h.clause_file.gives lengths clauses_within in
+    let p = given.0 in
+    let s = sides_for task.claim g in
+    let over = premises_are_kept.without_imports task.version (extended_by g cut) p.imports s algebra h.algebra_file in
+    record {
+      premises = p;
+      gives = given.1;
+      lawful = (
+        subst (λ x. IsLawfulAlgebraFile (record { version = p.version; extended = x; imports = p.imports }) s algebra) (sym given.2.extended)
+            (subst (λ v. IsLawfulAlgebraFile (record { version = v; extended = extended_by g cut; imports = p.imports }) s algebra) (sym given.2.version_is) over),
+        algebra_within,
+      );
+    }
 
 -- ---- what stops, of which more is known
 
@@ -57,42 +69,42 @@ module _ (files : Files) (a b : View) where
 
   stops : (P Q : List ℕ → Type 0) (R S : List ℕ → List ℕ → Type 0) → ((text : List ℕ) → P text → Q text) → ((clauses text : List ℕ) → P clauses → R clauses text → S clauses text) →
       StopsWriting files P R a b → StopsWriting files Q S a b
-  stops P Q R S more both (inl h) = inl (stops_at Clauses files.clauses P Q a b more h)
+  stops P Q R S more both (inl h) = inl (stops_at slot.Clauses files.clauses P Q a b more h)
   stops P Q R S more both (inr h) =
-      inr (h.0, h.1, more h.0 h.2, h.3, stops_at Algebra files.algebra (R h.0) (S h.0) h.1 b (λ text k. both h.0 text h.2 k) h.4)
+      inr (h.0, h.1, more h.0 h.2, h.3, stops_at slot.Algebra files.algebra (R h.0) (S h.0) h.1 b (λ text k. both h.0 text h.2 k) h.4)
 
   -- ---- the end of a plan
 
-  module _ (e : Extended) (claim : Claim) (conflicts : ℕ) (cut : Option Cut) (clauses : List ℕ) (itself : e ≡ extended_by e.graph cut) (given : AreClausesOver e.graph conflicts cut clauses) where
-    lawful_over : (l : Made) → l.extended ≡ e → l.sides ≡ sides_for claim e.graph → (text : List ℕ) → IsLawfulAlgebraFile l.extended l.sides text →
-        IsLawfulAlgebraFile (extended_by e.graph cut) (sides_for claim e.graph) text
-    lawful_over l extended sides text h =
-        subst (λ x. IsLawfulAlgebraFile x (sides_for claim e.graph) text) itself (subst (λ x. IsLawfulAlgebraFile e x text) sides (subst (λ x. IsLawfulAlgebraFile x l.sides text) extended h))
+  module _ (e : Extended) (task : Task) (cut : Option Cut) (clauses : List ℕ) (itself : e ≡ extended_by e.graph cut) (given : AreClausesOver e.graph task cut clauses) where
+    module _ (l : Made) (version : ℕ) (same : task.version ≡ version) (extended : l.extended ≡ e) (sides : l.sides ≡ sides_for task.claim e.graph) where
+      pair_of : (text : List ℕ) → IsFileOf l version text → IsPairOver e.graph task cut clauses text
+      pair_of text h = record {
+        clause_file = given;
+        algebra_file = subst (λ x. IsLawfulAlgebraFile (premises task.version x []) (sides_for task.claim e.graph) text) itself
+            (subst (λ x. IsLawfulAlgebraFile (premises task.version e []) x text) sides
+            (subst (λ x. IsLawfulAlgebraFile (premises task.version x []) l.sides text) extended (subst (λ v. IsFileOf l v text) (sym same) h)));
+      }
 
-    pair_of : (l : Made) → l.extended ≡ e → l.sides ≡ sides_for claim e.graph → (text : List ℕ) → IsLawfulAlgebraFile l.extended l.sides text → IsPairOver e.graph claim conflicts cut clauses text
-    pair_of l extended sides text h = record { clause_file = given; algebra_file = lawful_over l extended sides text h }
-
-    pub written_told : (l : Made) (v : Verdict) → l.extended ≡ e → l.sides ≡ sides_for claim e.graph → Does claim e.graph → IsWritten l clauses files a b v →
-        IsToldOver e.graph claim conflicts cut files a b v
-    written_told l Proved extended sides does h = (does, (clauses, certificate_text l, pair_of l extended sides (certificate_text l) h.0, h.1))
-    written_told l WriteFault extended sides does h = (
-      h.0,
-      does,
-      stops (λ text. text ≡ clauses) (AreClausesOver e.graph conflicts cut) (λ beside. IsLawfulAlgebraFile l.extended l.sides) (IsPairOver e.graph claim conflicts cut)
-          (λ text same. subst (AreClausesOver e.graph conflicts cut) (sym same) given)
-          (λ beside text same k. subst (λ c. IsPairOver e.graph claim conflicts cut c text) (sym same) (pair_of l extended sides text k)) h.1,
-    )
-    written_told l (Wrong x y value product) extended sides does h = absurd h
-    written_told l (WrongSum p q c value sum) extended sides does h = absurd h
-    written_told l (Undecided tried t n) extended sides does h = absurd h
-    written_told l (Graph why) extended sides does h = absurd h
-    written_told l ReadFault extended sides does h = absurd h
-    written_told l TooLong extended sides does h = absurd h
-    written_told l Memory extended sides does h = absurd h
+      pub written_told : (v : Verdict) → Does task.claim e.graph → IsWritten l version clauses files a b v → IsToldOver e.graph task cut files a b v
+      written_told Proved does h = (does, (clauses, certificate_text version l, pair_of (certificate_text version l) h.0, h.1))
+      written_told WriteFault does h = (
+        h.0,
+        does,
+        stops (λ text. text ≡ clauses) (AreClausesOver e.graph task cut) (λ beside. IsFileOf l version) (IsPairOver e.graph task cut)
+            (λ text is. subst (AreClausesOver e.graph task cut) (sym is) given)
+            (λ beside text is k. subst (λ c. IsPairOver e.graph task cut c text) (sym is) (pair_of text k)) h.1,
+      )
+      written_told (Wrong x y value product) does h = absurd h
+      written_told (WrongSum p q c value sum) does h = absurd h
+      written_told (Undecided tried t n) does h = absurd h
+      written_told (Graph why) does h = absurd h
+      written_told ReadFault does h = absurd h
+      written_told TooLong does h = absurd h
+      written_told Memory does h = absurd h
 
   -- ---- and so of a graph
 
-  pub told_of : (g : Aig) (task : Task) (used cut : Option Cut) (v : Verdict) → EndsOver g task.claim task.budget used cut → IsToldOver g task.claim task.conflicts cut files a b v →
+  pub told_of : (g : Aig) (task : Task) (used cut : Option Cut) (v : Verdict) → EndsOver g task.claim task.budget used cut → IsToldOver g task cut files a b v →
       IsOfGraph g task used files a b v
   told_of g task used cut Proved over h = let w = h.1 in (h.0, (w.0, w.1, (cut, over, w.2), w.3))
   told_of g task used cut (Wrong x y value product) over h = h
@@ -100,7 +112,7 @@ module _ (files : Files) (a b : View) where
   told_of g task used cut WriteFault over h = (
     h.0,
     h.1,
-    stops (AreClausesOver g task.conflicts cut) (AreClausesFor g task used) (IsPairOver g task.claim task.conflicts cut) (IsPairFor g task used)
+    stops (AreClausesOver g task cut) (AreClausesFor g task used) (IsPairOver g task cut) (IsPairFor g task used)
         (λ text k. (cut, over, k)) (λ clauses text c k. (cut, over, k)) h.2,
   )
   told_of g task used cut (Undecided tried t n) over h = absurd h
@@ -110,16 +122,16 @@ module _ (files : Files) (a b : View) where
   told_of g task used cut Memory over h = absurd h
 
 -- what is told of a graph that is wrong, whatever cut is in use
-pub wrong_told : (g : Aig) (claim : Claim) (conflicts : ℕ) (cut : Option Cut) (files : Files) (a : View) (v : Verdict) → IsToldWrong g claim v → IsToldOver g claim conflicts cut files a a v
-wrong_told g claim conflicts cut files a (Wrong p q value product) h = (h, refl)
-wrong_told g claim conflicts cut files a (WrongSum p q c value sum) h = (h, refl)
-wrong_told g claim conflicts cut files a Memory h = absurd h
-wrong_told g claim conflicts cut files a Proved h = absurd h
-wrong_told g claim conflicts cut files a (Undecided tried t n) h = absurd h
-wrong_told g claim conflicts cut files a (Graph why) h = absurd h
-wrong_told g claim conflicts cut files a ReadFault h = absurd h
-wrong_told g claim conflicts cut files a WriteFault h = absurd h
-wrong_told g claim conflicts cut files a TooLong h = absurd h
+pub wrong_told : (g : Aig) (task : Task) (cut : Option Cut) (files : Files) (a : View) (v : Verdict) → IsToldWrong g task.claim v → IsToldOver g task cut files a a v
+wrong_told g task cut files a (Wrong p q value product) h = (h, refl)
+wrong_told g task cut files a (WrongSum p q c value sum) h = (h, refl)
+wrong_told g task cut files a Memory h = absurd h
+wrong_told g task cut files a Proved h = absurd h
+wrong_told g task cut files a (Undecided tried t n) h = absurd h
+wrong_told g task cut files a (Graph why) h = absurd h
+wrong_told g task cut files a ReadFault h = absurd h
+wrong_told g task cut files a WriteFault h = absurd h
+wrong_told g task cut files a TooLong h = absurd h
 
 pub wrong_of : (g : Aig) (task : Task) (used : Option Cut) (files : Files) (a : View) (v : Verdict) → IsToldWrong g task.claim v → IsOfGraph g task used files a a v
 wrong_of g task used files a (Wrong p q value product) h = (h, refl)
@@ -176,17 +188,37 @@ module _ (g : Aig) (claim : Claim) (budget : ℕ) where
 -- ---- whatever comes of a plan's end
 
 -- what the verdict at the end of a plan tells
-abbrev pub Tells : Option Cut → List ClauseLine → Made → Ending → Files → View → View → Verdict → Type 0
-Tells cut log l ending files a b v = (e : Extended) (claim : Claim) (conflicts : ℕ) → IsEnded e claim l ending → e ≡ extended_by e.graph cut →
-    AreClausesOver e.graph conflicts cut (file_text cut log) → IsToldOver e.graph claim conflicts cut files a b v
+abbrev pub Tells : Clauses → Made → Ending → Files → View → View → Verdict → Type 0
+Tells c l ending files a b v = (e : Extended) (task : Task) → IsEnded e task.claim l ending → task.version ≡ c.version → e ≡ extended_by e.graph (cut_named c) →
+    AreClausesOver e.graph task (cut_named c) (any_file_text (header_of e.graph c) c.log.now) → IsToldOver e.graph task (cut_named c) files a b v
 
-module _ {E : Type 0} (files : Files) (a b : View) (l : Made) (ending : Ending) (result : Result Verdict E) (e : Extended) (task : Task) (ended : IsEnded e task.claim l ending) where
-  pub tells_last : (tried : List Tried) → e ≡ without_cut e.graph → IfOk result (Tells None [] l ending files a b) →
-      IfOk result (λ v. (used : Option Cut) → AreTried e.graph task.claim task.budget used tried → IsOfGraph e.graph task used files a b v)
-  tells_last tried alone h = IfOk-weaker result (Tells None [] l ending files a b)
-      (λ v. (used : Option Cut) → AreTried e.graph task.claim task.budget used tried → IsOfGraph e.graph task used files a b v)
-      (λ v told used are. told_of files a b e.graph task used None v (ends_last e.graph task.claim task.budget used tried are)
-      (told e task.claim task.conflicts ended alone (no_clauses e.graph task.conflicts))) h
+-- over the graph of which it is said
+pub told_over : (files : Files) (a b : View) (l : Made) (ending : Ending) (v : Verdict) (e : Extended) (task : Task) (cut : Option Cut) (c : Clauses) → Tells c l ending files a b v →
+    IsEnded e task.claim l ending → IsSizedAs (profile_of task.claim.add) e.graph → IsWellFormed e.graph → AreSaid e task cut c → IsToldOver e.graph task cut files a b v
+told_over files a b l ending v e task cut c told ended sized well said =
+    let is = sym said.named in
+    subst (λ o. IsToldOver e.graph task o files a b v) said.named
+    (told e task ended said.version (subst (λ o. e ≡ extended_by e.graph o) is said.itself)
+    (subst (λ o. AreClausesOver e.graph task o (any_file_text (record { version = c.version; blocks = cut_blocks (length e.graph.outputs) o }) c.log.now)) is
+    (said_clauses e task cut c sized well said)))
+
+-- over the graph with the adder of a cut that is shown
+pub told_shown : (files : Files) (a b : View) (l : Made) (ending : Ending) (v : Verdict) (g : Aig) (e : Extended) (task : Task) (cut : Cut) (c : Clauses) → Tells c l ending files a b v →
+    IsEnded e task.claim l ending → IsSizedAs (profile_of task.claim.add) g → IsWellFormed e.graph → IsVersion task.version → task.version ≡ c.version → cut_named c ≡ Some cut →
+    IsShown g task.conflicts cut e c.log.now → IsToldOver g task (Some cut) files a b v
+told_shown files a b l ending v g e task cut c told ended sized well known version named shown =
+    let is = shown.extended_is in
+    told_over files a b l ending v (with_cut g cut) task (Some cut) c told (subst (λ x. IsEnded x task.claim l ending) is ended) sized
+    (subst IsWellFormed (ap (λ (x : Extended). x.graph) is) well) (said_with g e task cut c known version named shown)
+
+-- at last, over the graph of which it is said
+pub told_last : {E : Type 0} (files : Files) (a b : View) (l : Made) (ending : Ending) (result : Result Verdict E) (e : Extended) (task : Task) (c : Clauses) (tried : List Tried) →
+    IfOk result (Tells c l ending files a b) → IsEnded e task.claim l ending → IsSizedAs (profile_of task.claim.add) e.graph → IsWellFormed e.graph → AreSaid e task None c →
+    IfOk result (λ v. (used : Option Cut) → AreTried e.graph task.claim task.budget used tried → IsOfGraph e.graph task used files a b v)
+told_last files a b l ending result e task c tried told ended sized well said = IfOk-weaker result (Tells c l ending files a b)
+    (λ v. (used : Option Cut) → AreTried e.graph task.claim task.budget used tried → IsOfGraph e.graph task used files a b v)
+    (λ v tells used are. told_of files a b e.graph task used None v (ends_last e.graph task.claim task.budget used tried are)
+    (told_over files a b l ending v e task None c tells ended sized well said)) told
 
 -- one plan more was tried
 pub tried_more : {E : Type 0} (files : Files) (a b : View) (result : Result Verdict E) (g : Aig) (task : Task) (tried all : List Tried) (last : Tried) → all ≡ tried ++ last ∷ [] →
@@ -198,27 +230,15 @@ tried_more files a b result g task tried all last is above h =
     (λ v. (used : Option Cut) → AreTriedBefore g task.claim task.budget used tried → IsOfGraph g task used files a b v)
     (λ v told used are. told used (subst (AreTried g task.claim task.budget used) (sym is) (one_more g task.claim task.budget used tried last are above))) h
 
--- over the graph with the adder of a cut
-pub told_over : (files : Files) (a b : View) (l : Made) (ending : Ending) (v : Verdict) (e : Extended) (claim : Claim) → IsEnded e claim l ending → (cut : Cut) (lines : List ClauseLine) →
-    IsSizedAs (profile_of claim.add) e.graph → IsWellFormed e.graph → Tells (Some cut) lines l ending files a b v → (conflicts : ℕ) → IsShown e.graph conflicts cut e lines →
-    IsToldOver e.graph claim conflicts (Some cut) files a b v
-told_over files a b l ending v e claim ended cut lines sized well told conflicts shown =
-    told e claim conflicts ended shown.extended_is (used_clauses e.graph claim.add sized well conflicts cut e lines shown)
-
--- over the graph alone
-pub told_alone : (files : Files) (a b : View) (l : Made) (ending : Ending) (v : Verdict) (e : Extended) (claim : Claim) → IsEnded e claim l ending → e ≡ without_cut e.graph →
-    Tells None [] l ending files a b v → (conflicts : ℕ) → IsToldOver e.graph claim conflicts None files a b v
-told_alone files a b l ending v e claim ended alone told conflicts = told e claim conflicts ended alone (no_clauses e.graph conflicts)
-
 -- ---- what may be told
 
-pub attempt_tells : (g : Aig) (claim : Claim) (budget conflicts : ℕ) (cut : Option Cut) (files : Files) (a b : View) (x : Attempt) → IsAttempt g claim budget conflicts cut files a b x →
-    MayTellOver g claim conflicts cut files a b (verdict_in x)
-attempt_tells g claim budget conflicts cut files a b (attempt.Told v) h = h
-attempt_tells g claim budget conflicts cut files a b (attempt.Passed tried) h = h.1
+pub attempt_tells : (g : Aig) (task : Task) (budget : ℕ) (cut : Option Cut) (files : Files) (a b : View) (x : Attempt) → IsAttempt g task budget cut files a b x →
+    MayTellOver g task cut files a b (verdict_in x)
+attempt_tells g task budget cut files a b (attempt.Told v) h = h
+attempt_tells g task budget cut files a b (attempt.Passed tried) h = h.1
 
 -- over the cut in use, or over the graph alone where none is
-pub may_tell : (g : Aig) (task : Task) (used : Option Cut) (files : Files) (a b : View) (v : Option Verdict) → MayTellOver g task.claim task.conflicts used files a b v →
+pub may_tell : (g : Aig) (task : Task) (used : Option Cut) (files : Files) (a b : View) (v : Option Verdict) → MayTellOver g task used files a b v →
     MayTell g task used files a b v
 may_tell g task (Some cut) files a b (Some v) h = told_of files a b g task (Some cut) (Some cut) v refl h
 may_tell g task None files a b (Some v) h = told_of files a b g task None None v (λ cut same. absurd (none-some cut same)) h

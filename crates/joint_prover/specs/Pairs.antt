@@ -1,41 +1,50 @@
 -- The certificates that are written: over the graph with the cut in use, or over the graph alone.
-use Rattle.std.specs.Prelude.{◌≡◌, ℕ, ◌+◌, ◌*◌, ◌≤◌, List, length}
+use Rattle.std.specs.Prelude.{◌≡◌, ◌⊎◌, ℕ, ◌+◌, ◌*◌, ◌≤◌, List, [], length}
 use Rattle.std.specs.declared.option.Option.{Option}
-use Rattle.std.specs.declared.option.Option.TheVariants.{None, Some}
-use Rattle.clause_core.specs.ClauseLines.{ClauseLine}
-use Rattle.drup_text.specs.Headers.{extended_by}
-use Rattle.drup_text.specs.WrittenTexts.{file_text}
+use Rattle.std.specs.declared.option.Option.TheVariants.{None}
+use Rattle.graph_core.specs.Algebra.{Premises}
 use Rattle.graph_core.specs.Algebra.Text.{IsLawfulAlgebraFile}
-use Rattle.graph_core.specs.Certificates.{no_cut}
-use Rattle.graph_core.specs.Graph.{Aig}
 use Rattle.graph_core.specs.Graph.Operands.{sides_for}
+use Rattle.graph_core.specs.Graph.{Aig}
 use Rattle.graph_core.specs.Text.JudgedLines.{IsWithin, Lengths}
-use Rattle.graph_core.specs.declared.claim.Claim.{Claim}
+use Rattle.ripple_graft.specs.HeaderBlocks.{cut_blocks}
 use Rattle.ripple_graft.specs.declared.cut.Cut.{Cut}
-use Rattle.joint_checker.specs.ClauseFiles.{GivesExtended}
+use Rattle.clause_core.specs.ClauseLines.{ClauseLine}
+use Rattle.drup_text.specs.WrittenTexts.{any_file_text}
+use Rattle.joint_checker.specs.ClauseFiles.{GivesPremises, premises}
 use Rattle.joint_prover.specs.declared.task.Task.{Task}
-use Rattle.joint_prover.specs.Tries.{EndsOver}
+use Rattle.joint_prover.specs.Tries.{EndsOver, extended_by}
 
--- The header names the cut, and there are at most so many lines; or it is the certificate that replaces nothing.
-abbrev pub NamesCut : ℕ → Option Cut → List ℕ → Type 0
-NamesCut most (Some cut) text = (lines : List ClauseLine) × (length lines ≤ most) × (text ≡ file_text (Some cut) lines)
-NamesCut most None text = text ≡ no_cut
+-- a version of certificates
+abbrev pub IsVersion : ℕ → Type 0
+IsVersion version = (version ≡ 1) ⊎ (version ≡ 2)
 
--- A clause file with few lines that gives the graph with this cut, under all lengths that it is within.
-pub record AreClausesOver (g : Aig) (conflicts : ℕ) (cut : Option Cut) (clauses : List ℕ) : Type 0 where
-  pub names : NamesCut (2 * (conflicts + 2 * length g.outputs)) cut clauses
-  pub gives : (lengths : Lengths) → IsWithin lengths clauses → GivesExtended lengths g clauses (extended_by g cut)
+-- The header of this version with the cut's block, or with none; its lines, of which there are none where there is no cut.
+pub record NamesCut (most version : ℕ) (g : Aig) (cut : Option Cut) (text : List ℕ) : Type 0 where
+  pub lines : List ClauseLine
+  pub few : length lines ≤ most
+  pub none : cut ≡ None → lines ≡ []
+  pub text_is : text ≡ any_file_text (record { version = version; blocks = cut_blocks (length g.outputs) cut }) lines
 
--- And an algebra file that is lawful over that graph.
-pub record IsPairOver (g : Aig) (claim : Claim) (conflicts : ℕ) (cut : Option Cut) (clauses algebra : List ℕ) : Type 0 where
-  pub clause_file : AreClausesOver g conflicts cut clauses
-  pub algebra_file : IsLawfulAlgebraFile (extended_by g cut) (sides_for claim g) algebra
+-- Premises of this version over the graph with this cut.
+pub record ArePremisesOver (g : Aig) (version : ℕ) (cut : Option Cut) (p : Premises) : Type 0 where
+  pub version_is : p.version ≡ version
+  pub extended : p.extended ≡ extended_by g cut
+
+-- A clause file with few lines that gives such premises, under all lengths that it is within.
+pub record AreClausesOver (g : Aig) (task : Task) (cut : Option Cut) (clauses : List ℕ) : Type 0 where
+  pub names : NamesCut (2 * (task.conflicts + 2 * length g.outputs)) task.version g cut clauses
+  pub gives : (lengths : Lengths) → IsWithin lengths clauses → (p : Premises) × GivesPremises lengths g clauses p × ArePremisesOver g task.version cut p
+
+-- And an algebra file that is lawful over that graph and imports nothing.
+pub record IsPairOver (g : Aig) (task : Task) (cut : Option Cut) (clauses algebra : List ℕ) : Type 0 where
+  pub clause_file : AreClausesOver g task cut clauses
+  pub algebra_file : IsLawfulAlgebraFile (premises task.version (extended_by g cut) []) (sides_for task.claim g) algebra
 
 -- ---- what is written where a graph does what is claimed, with this cut in use or none
 
 abbrev pub AreClausesFor : Aig → Task → Option Cut → List ℕ → Type 0
-AreClausesFor g task used clauses = (cut : Option Cut) × EndsOver g task.claim task.budget used cut × AreClausesOver g task.conflicts cut clauses
+AreClausesFor g task used clauses = (cut : Option Cut) × EndsOver g task.claim task.budget used cut × AreClausesOver g task cut clauses
 
 abbrev pub IsPairFor : Aig → Task → Option Cut → List ℕ → List ℕ → Type 0
-IsPairFor g task used clauses algebra =
-    (cut : Option Cut) × EndsOver g task.claim task.budget used cut × IsPairOver g task.claim task.conflicts cut clauses algebra
+IsPairFor g task used clauses algebra = (cut : Option Cut) × EndsOver g task.claim task.budget used cut × IsPairOver g task cut clauses algebra

@@ -1,8 +1,7 @@
 -- The plans that were tried before the plain one.
-use Rattle.std.specs.Prelude.{◌≡◌, ℕ, ◌<◌, List, [], ◌∷◌, take, is_some}
+use Rattle.std.specs.Prelude.{◌≡◌, ℕ, ◌<◌, List, [], ◌∷◌, length, take, is_some}
 use Rattle.std.specs.declared.option.Option.{Option}
 use Rattle.std.specs.declared.option.Option.TheVariants.{None, Some}
-use Rattle.drup_text.specs.Headers.{extended_by}
 use Rattle.frontier_core.specs.Frontier.{IsFrontier, frontier_value}
 use Rattle.frontier_core.specs.Plan.{nothing, taken}
 use Rattle.frontier_core.specs.declared.step.Step.{Step}
@@ -12,6 +11,8 @@ use Rattle.graph_core.specs.Graph.{Aig}
 use Rattle.graph_core.specs.Graph.Extended.{Extended}
 use Rattle.graph_core.specs.Graph.Operands.{Sides, sides_for}
 use Rattle.graph_core.specs.declared.claim.Claim.{Claim}
+use Rattle.ripple_graft.specs.Blocks.{with_blocks}
+use Rattle.ripple_graft.specs.HeaderBlocks.{cut_blocks}
 use Rattle.ripple_graft.specs.declared.cut.Cut.{Cut}
 use Rattle.slice_planner.specs.Slices.{IsSlicePlan}
 use Rattle.joint_prover.specs.declared.verdict.Tried.{Tried}
@@ -31,7 +32,11 @@ pub record IsAbove (e : Extended) (s : Sides) (budget : ℕ) (tried : Tried) : T
   pub size : HasSize (modulus e) (frontier_value e s tried.columns.items tried.gates.items) tried.size
   pub above : budget < tried.size
 
--- over the graph with this cut, or without one
+-- the graph with this cut, or without one
+abbrev pub extended_by : Aig → Option Cut → Extended
+extended_by g cut = with_blocks g (cut_blocks (length g.outputs) cut)
+
+-- over that graph
 pub record IsTried (g : Aig) (claim : Claim) (budget : ℕ) (cut : Option Cut) (tried : Tried) : Type 0 where
   pub rewritten : tried.rewritten ≡ is_some cut
   pub above : IsAbove (extended_by g cut) (sides_for claim g) budget tried

@@ -5,8 +5,9 @@ ghost use Rattle.mv_desk.specs.View.{KeepsTelling};
 ghost use Rattle.mv_fact.specs.Always.{Always};
 ghost use Rattle.stage_rewriter.specs.Rewriting.{IsShown};
 ghost use Rattle.joint_checker.specs.Files.{files_of};
-ghost use Rattle.joint_prover.specs.Parts.{IsAttempt, IsJob, MayTellOver, verdict_in};
+ghost use Rattle.joint_prover.specs.Parts.{IsAttempt, IsJob, MayTellOver, task_of, verdict_in};
 
+use crate::clauses::Clauses;
 use crate::conclusion::{new_lines, told};
 use crate::ending::Sliced;
 use crate::job::Job;
@@ -51,7 +52,7 @@ pub(crate) fn over_cut<D: Desk>(
     requires job { IsJob job.now }
     requires shown { IsShown job.now.graph.now job.now.conflicts cut.now extended.now log.now.lines }
     requires agree { Always extended.now.gates (AgreeOnColumns extended.now) }
-    ensures over { IfOk result (IsAttempt job.now.graph.now job.now.operands.now.claim budget job.now.conflicts
+    ensures over { IfOk result (IsAttempt job.now.graph.now (task_of job.now) budget
         (Some cut.now) (files_of job.now.names.now) (D.seen desk.old) (D.seen desk.new)) }
     ensures memory { OnErr result (D.seen desk.new ≡ D.seen desk.old) }
     ensures opened { (D.seen desk.new).opened ≡ (D.seen desk.old).opened }
@@ -61,15 +62,8 @@ pub(crate) fn over_cut<D: Desk>(
     let mut lines = new_lines(alloc, extended, job.operands)?;
     match reduced_by_slices(alloc, budget, true, &mut lines)? {
         Sliced::Ended(ending) => {
-            let verdict = told(
-                alloc,
-                desk,
-                ending,
-                &lines,
-                Some(cut),
-                log.lines(),
-                job.names,
-            )?;
+            let clauses = Clauses::with_cut(job.version, cut, log);
+            let verdict = told(alloc, desk, ending, &lines, clauses, job.names)?;
             Ok(Attempt::Told(verdict))
         }
         Sliced::Passed(tried) => Ok(Attempt::Passed(tried)),
@@ -90,7 +84,7 @@ pub(crate) fn by_layers<D: Desk>(
     requires job { IsJob job.now }
     requires shown { IsShown job.now.graph.now job.now.conflicts cut.now extended.now log.now.lines }
     requires agree { Always extended.now.gates (AgreeOnColumns extended.now) }
-    ensures told { IfOk result (MayTellOver job.now.graph.now job.now.operands.now.claim job.now.conflicts
+    ensures told { IfOk result (MayTellOver job.now.graph.now (task_of job.now)
         (Some cut.now) (files_of job.now.names.now) (D.seen desk.old) (D.seen desk.new)) }
     ensures memory { OnErr result (D.seen desk.new ≡ D.seen desk.old) }
     ensures opened { (D.seen desk.new).opened ≡ (D.seen desk.old).opened }
@@ -100,15 +94,8 @@ pub(crate) fn by_layers<D: Desk>(
     let mut lines = new_lines(alloc, extended, job.operands)?;
     match reduced_by_layers(alloc, budget, layers, &mut lines)? {
         Some(ending) => {
-            let verdict = told(
-                alloc,
-                desk,
-                ending,
-                &lines,
-                Some(cut),
-                log.lines(),
-                job.names,
-            )?;
+            let clauses = Clauses::with_cut(job.version, cut, log);
+            let verdict = told(alloc, desk, ending, &lines, clauses, job.names)?;
             Ok(Some(verdict))
         }
         None => Ok(None),
@@ -123,7 +110,7 @@ pub(crate) fn over_alone<D: Desk>(
     job: &Job<'_>,
 ) -> Result<Attempt, Memory>
     requires { IsJob job.now }
-    ensures over { IfOk result (IsAttempt job.now.graph.now job.now.operands.now.claim budget job.now.conflicts
+    ensures over { IfOk result (IsAttempt job.now.graph.now (task_of job.now) budget
         None (files_of job.now.names.now) (D.seen desk.old) (D.seen desk.new)) }
     ensures memory { OnErr result (D.seen desk.new ≡ D.seen desk.old) }
     ensures opened { (D.seen desk.new).opened ≡ (D.seen desk.old).opened }
@@ -134,7 +121,8 @@ pub(crate) fn over_alone<D: Desk>(
     let mut lines = new_lines(alloc, &extended, job.operands)?;
     match reduced_by_slices(alloc, budget, false, &mut lines)? {
         Sliced::Ended(ending) => {
-            let verdict = told(alloc, desk, ending, &lines, None, &[], job.names)?;
+            let clauses = Clauses::without_cut(job.version);
+            let verdict = told(alloc, desk, ending, &lines, clauses, job.names)?;
             Ok(Attempt::Told(verdict))
         }
         Sliced::Passed(tried) => Ok(Attempt::Passed(tried)),

@@ -1,7 +1,6 @@
 // What the end of a plan tells, and the lines that a plan begins with.
-ghost use Rattle.std.specs.Prelude.{◌≡◌, ◌≤◌, ℕ, IfOk, OnErr, false, option_map, true};
-ghost use Rattle.drup_text.specs.Headers.{extended_by};
-ghost use Rattle.drup_text.specs.WrittenTexts.{file_text};
+ghost use Rattle.std.specs.Prelude.{◌≡◌, ◌≤◌, ℕ, IfOk, OnErr, false, true};
+ghost use Rattle.drup_text.specs.WrittenTexts.{any_file_text};
 ghost use Rattle.graph_core.specs.Aiger.Soundness.{IsMultiplierSized, IsSizedAs, IsSumSized};
 ghost use Rattle.graph_core.specs.Graph.Extended.{Extended as ExtendedGraph};
 ghost use Rattle.graph_core.specs.Graph.Operands.{AreOperandsOf, profile_of};
@@ -12,17 +11,19 @@ ghost use Rattle.ripple_graft.specs.Extension.{IsExtension};
 ghost use Rattle.joint_checker.specs.Files.{files_of};
 ghost use Rattle.joint_prover.specs.Endings.{AreLeast, IsEnded};
 ghost use Rattle.joint_prover.specs.Pairs.{AreClausesOver};
-ghost use Rattle.joint_prover.specs.Parts.{IsToldOver, IsToldWrong};
+ghost use Rattle.joint_prover.specs.Parts.{IsToldOver, IsToldWrong, cut_named, header_of};
+ghost use Rattle.joint_prover.specs.Tries.{extended_by};
+ghost use Rattle.joint_prover.specs.declared.task.Task.{Task};
 
+use crate::clauses::{Clauses, header};
 use crate::ending::Ending;
 use crate::verdict::Verdict;
 use crate::writing::written;
-use clause_core::Line;
 use graph_core::{Graph, Memory, Numbers, Operands};
 use mv_desk::{Desk, Names};
 use operand_search::claimed_value;
 use pac_writer::Lines;
-use ripple_graft::{Cut, Extended};
+use ripple_graft::Extended;
 use std::alloc::Global;
 
 /// No line, over an extended graph whose faults are none.
@@ -39,37 +40,37 @@ pub(crate) fn new_lines<'a>(
     Lines::new(alloc, extended, operands)
 }
 
-/// The verdict at the end of a plan: lines that are closed are written beside the clause certificate of a cut, or of
-/// none.
+/// The verdict at the end of a plan: lines that are closed are written beside the clause certificate that is given.
 pub(crate) fn told<D: Desk>(
     alloc: Global,
     desk: &mut D,
     ending: Ending,
     lines: &Lines<'_>,
-    cut: Option<&Cut>,
-    log: &[Line],
+    clauses: Clauses<'_>,
     names: &Names<'_>,
 ) -> Result<Verdict, Memory>
     requires ended { (e : ExtendedGraph) × (claim : Claim) × IsSizedAs (profile_of claim.add) e.graph ×
         IsEnded e claim lines.now ending }
-    ensures verdict { IfOk result (λ v. (e : ExtendedGraph) (claim : Claim) (conflicts : ℕ) →
-        IsEnded e claim lines.now ending →
-        e ≡ extended_by e.graph (option_map (λ c. c.now) cut.entry) →
-        AreClausesOver e.graph conflicts (option_map (λ c. c.now) cut.entry)
-        (file_text (option_map (λ c. c.now) cut.entry) log.now) →
-        IsToldOver e.graph claim conflicts (option_map (λ c. c.now) cut.entry) (files_of names.now)
+    ensures verdict { IfOk result (λ v. (e : ExtendedGraph) (task : Task) →
+        IsEnded e task.claim lines.now ending →
+        task.version ≡ clauses.entry.version →
+        e ≡ extended_by e.graph (cut_named clauses.entry) →
+        AreClausesOver e.graph task (cut_named clauses.entry)
+        (any_file_text (header_of e.graph clauses.entry) clauses.entry.log.now) →
+        IsToldOver e.graph task (cut_named clauses.entry) (files_of names.now)
         (D.seen desk.old) (D.seen desk.new) v) }
     ensures memory { OnErr result (D.seen desk.new ≡ D.seen desk.old) }
     ensures opened { (D.seen desk.new).opened ≡ (D.seen desk.old).opened }
     ensures later { (D.seen desk.old).write_faults ≤ (D.seen desk.new).write_faults }
     ensures tells { KeepsTelling (D.seen desk.old) (D.seen desk.new) }
 {
+    let graph = lines.extended().graph();
     match ending {
-        Ending::Closed => Ok(written(desk, lines, cut, log, names)),
-        Ending::Differs(numbers) => {
-            let graph = lines.extended().graph();
-            wrong(alloc, graph, lines.operands(), numbers)
+        Ending::Closed => {
+            let header = header(alloc, graph, &clauses)?;
+            Ok(written(desk, lines, &header, clauses.log, names))
         }
+        Ending::Differs(numbers) => wrong(alloc, graph, lines.operands(), numbers),
     }
 }
 

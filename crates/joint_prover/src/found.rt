@@ -3,7 +3,7 @@ ghost use Rattle.std.specs.Prelude.{◌≡◌, ◌≤◌, IfOk, IfSome, OnErr, S
 ghost use Rattle.graph_core.specs.Graph.Operands.{AreOperandsOf, HasShapeFor};
 ghost use Rattle.mv_desk.specs.View.{KeepsTelling};
 ghost use Rattle.joint_checker.specs.Files.{files_of};
-ghost use Rattle.joint_prover.specs.Parts.{IsJob, IsShownCut, MayTellFound, MayTellOver};
+ghost use Rattle.joint_prover.specs.Parts.{IsJob, IsShownCut, MayTellFound, MayTellOver, task_of};
 
 use crate::attempts::{by_layers, over_cut};
 use crate::job::Job;
@@ -33,7 +33,7 @@ pub(crate) fn over_found<D: Desk>(
     job: &Job<'_>,
 ) -> Result<Option<(Verdict, Cut)>, Memory>
     requires { IsJob job.now }
-    ensures told { IfOk result (MayTellFound job.now.graph.now job.now.operands.now.claim job.now.conflicts
+    ensures told { IfOk result (MayTellFound job.now.graph.now (task_of job.now)
         (files_of job.now.names.now) (D.seen desk.old) (D.seen desk.new)) }
     ensures memory { OnErr result (D.seen desk.new ≡ D.seen desk.old) }
     ensures opened { (D.seen desk.new).opened ≡ (D.seen desk.old).opened }
@@ -69,7 +69,7 @@ fn over_shown<D: Desk>(
 ) -> Result<Option<Verdict>, Memory>
     requires job { IsJob job.now }
     requires shown { IsShownCut job.now.graph.now job.now.conflicts shown.now }
-    ensures told { IfOk result (MayTellOver job.now.graph.now job.now.operands.now.claim job.now.conflicts
+    ensures told { IfOk result (MayTellOver job.now.graph.now (task_of job.now)
         (Some shown.now.cut) (files_of job.now.names.now) (D.seen desk.old) (D.seen desk.new)) }
     ensures memory { OnErr result (D.seen desk.new ≡ D.seen desk.old) }
     ensures opened { (D.seen desk.new).opened ≡ (D.seen desk.old).opened }
@@ -94,7 +94,7 @@ fn in_layers<D: Desk>(
 ) -> Result<Option<Verdict>, Memory>
     requires job { IsJob job.now }
     requires shown { IsShownCut job.now.graph.now job.now.conflicts shown.now }
-    ensures told { IfOk result (MayTellOver job.now.graph.now job.now.operands.now.claim job.now.conflicts
+    ensures told { IfOk result (MayTellOver job.now.graph.now (task_of job.now)
         (Some shown.now.cut) (files_of job.now.names.now) (D.seen desk.old) (D.seen desk.new)) }
     ensures memory { OnErr result (D.seen desk.new ≡ D.seen desk.old) }
     ensures opened { (D.seen desk.new).opened ≡ (D.seen desk.old).opened }
@@ -123,7 +123,7 @@ fn by_slices<D: Desk>(
 ) -> Result<Option<Verdict>, Memory>
     requires job { IsJob job.now }
     requires shown { IsShownCut job.now.graph.now job.now.conflicts shown.now }
-    ensures told { IfOk result (MayTellOver job.now.graph.now job.now.operands.now.claim job.now.conflicts
+    ensures told { IfOk result (MayTellOver job.now.graph.now (task_of job.now)
         (Some shown.now.cut) (files_of job.now.names.now) (D.seen desk.old) (D.seen desk.new)) }
     ensures memory { OnErr result (D.seen desk.new ≡ D.seen desk.old) }
     ensures opened { (D.seen desk.new).opened ≡ (D.seen desk.old).opened }

@@ -10,6 +10,8 @@ pub(crate) struct Job<'a> {
     pub(crate) operands: &'a Operands,
     pub(crate) budget: u64,
     pub(crate) conflicts: u64,
+    /// Of the certificates.
+    pub(crate) version: u8,
     /// Where the certificates go.
     pub(crate) names: &'a Names<'a>,
 }

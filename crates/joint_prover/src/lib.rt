@@ -1,6 +1,7 @@
 //! Gives a verdict on a graph, and writes both certificates where it does what is claimed.
 //!
-//! What is asked is a `Task`: the claim, a product of two operands or such a product plus an addend, and two bounds.
+//! What is asked is a `Task`: the claim, a product of two operands or such a product plus an addend, two bounds, and the
+//! version of the certificates.
 //! `verify` opens and reads the graph file alone, and looks whether a ripple-carry adder may stand in place of the
 //! graph's final stage: the *note* says what became of that. Then it reduces the columns of the multiplier along plans.
 //! With a small budget the slice plan comes first, over the graph with the adder, where that is used, or over the graph.
@@ -20,6 +21,7 @@
 #![tactic(auto)]
 
 mod attempts;
+mod clauses;
 mod conclusion;
 mod ending;
 mod few_ones;

@@ -12,6 +12,7 @@ ghost use Rattle.joint_prover.specs.Tries.{AreTried};
 ghost use Rattle.joint_prover.specs.Verdicts.{HaveManyOnes};
 
 use crate::attempts::{Attempt, over_alone, over_cut};
+use crate::clauses::Clauses;
 use crate::conclusion::{new_lines, told};
 use crate::ending::Plain;
 use crate::few_ones::{LATE, wrong_on_few};
@@ -140,7 +141,10 @@ fn in_order<D: Desk>(
     let extended = Extended::without_cut(job.graph);
     let mut lines = new_lines(alloc, &extended, job.operands)?;
     match reduced_plainly(alloc, job.budget, &mut lines)? {
-        Plain::Ended(ending) => told(alloc, desk, ending, &lines, None, &[], job.names),
+        Plain::Ended(ending) => {
+            let clauses = Clauses::without_cut(job.version);
+            told(alloc, desk, ending, &lines, clauses, job.names)
+        }
         Plain::Passed { step, size } => Ok(Verdict::Undecided {
             tried,
             plain_step: step,

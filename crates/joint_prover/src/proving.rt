@@ -8,6 +8,7 @@ ghost use Rattle.joint_checker.specs.Files.{files_of};
 ghost use Rattle.mv_desk.specs.View.{KeepsTelling, OpensFiles, bytes_under};
 ghost use Rattle.joint_prover.specs.Budgets.{ProvesEnough};
 ghost use Rattle.joint_prover.specs.Notes.{IsNote, cut_of};
+ghost use Rattle.joint_prover.specs.Pairs.{IsVersion};
 ghost use Rattle.joint_prover.specs.Parts.{IsJob, IsJudged, IsOfGraph, note_with, task_of};
 ghost use Rattle.joint_prover.specs.Verdicts.{IsVerdict, answer_of_graph};
 ghost use Rattle.joint_prover.specs.Written.{ReportStays};
@@ -34,6 +35,7 @@ pub fn verify<D: Desk>(
     limits: &Limits,
     names: &Names<'_>,
 ) -> (Verdict, Option<Rewriting>)
+    requires { IsVersion task.now.version }
     ensures verdict { IsVerdict limits.now.graph task.now (files_of names.now)
         (D.seen desk.old) (D.seen desk.new) result.0 result.1 }
     // With enough budget a made multiplier with a ripple-carry adder is proved, but for a fault or want of memory.
@@ -60,7 +62,8 @@ fn judge<D: Desk>(
     graph: &Graph,
     names: &Names<'_>,
 ) -> (Verdict, Option<Rewriting>)
-    requires { IsSizedAs (profile_of task.now.claim.add) graph.now }
+    requires sized { IsSizedAs (profile_of task.now.claim.add) graph.now }
+    requires version { IsVersion task.now.version }
     ensures verdict { IsJudged graph.now task.now (files_of names.now)
         (D.seen desk.old) (D.seen desk.new) result.0 result.1 }
     ensures opened { (D.seen desk.new).opened ≡ (D.seen desk.old).opened }
@@ -81,7 +84,8 @@ fn judge_noted<D: Desk>(
     graph: &Graph,
     names: &Names<'_>,
 ) -> Result<(Verdict, Rewriting), Memory>
-    requires { IsSizedAs (profile_of task.now.claim.add) graph.now }
+    requires sized { IsSizedAs (profile_of task.now.claim.add) graph.now }
+    requires version { IsVersion task.now.version }
     ensures note { IfOk result (λ r. IsNote graph.now task.now.claim task.now.conflicts r.1) }
     ensures verdict { IfOk result (λ r. IsOfGraph graph.now task.now (cut_of r.1) (files_of names.now)
         (D.seen desk.old) (D.seen desk.new) r.0) }
@@ -96,6 +100,7 @@ fn judge_noted<D: Desk>(
         operands: &operands,
         budget: task.budget,
         conflicts: task.conflicts,
+        version: task.version,
         names,
     };
     let rewritten = rewrite(alloc, graph, &operands, task.conflicts)?;

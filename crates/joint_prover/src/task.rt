@@ -10,4 +10,6 @@ pub struct Task {
     pub budget: u64,
     /// How many conflicts the solver may have before a rewriting is given up.
     pub conflicts: u64,
+    /// The version of the certificates that are written, 1 or 2.
+    pub version: u8,
 }

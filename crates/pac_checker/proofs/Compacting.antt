@@ -5,6 +5,7 @@ use Rattle.std.specs.declared.option.Option.{Option}
 use Rattle.std.specs.declared.option.Option.TheVariants.{None, Some}
 use Rattle.std.proofs.lemmas.List.{take_all, take_more, map-append}
 use Rattle.std.proofs.lemmas.Option.{get_or_from_slice_get}
+use Rattle.clause_core.specs.Clause.{Clause}
 use Rattle.graph_core.specs.declared.Gate.{Gate}
 use Rattle.graph_core.specs.Graph.{IsEvaluation}
 use Rattle.graph_core.specs.Graph.Extended.{Extended}
@@ -67,8 +68,9 @@ carried_all old new i high gates exponent lines = record {
 
 -- ---- the checker over them
 
-pub sound_carried : (e : Extended) (s : Sides) (old new : Facts Sum Table) (last : ℕ) → Carries old new → IsSound e s old last → IsSound e s new last
-sound_carried e s old new last k h = record {
+pub sound_carried : (added : List Clause) (e : Extended) (s : Sides) (old new : Facts Sum Table) (last : ℕ) → Carries old new → IsSound added e s old last → IsSound added e s new last
+sound_carried added e s old new last k h = record {
+  importable = h.importable;
   same_gates = k.gates ∙ h.same_gates;
   same_modulus = ap (λ w. 2 ^ w) k.exponent ∙ h.same_modulus;
   fresh = λ id above. no_entry new.table new.entries id

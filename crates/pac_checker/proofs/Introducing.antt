@@ -1,8 +1,9 @@
 -- New entries and entries that are gone, as live lines.
-use Rattle.std.specs.Prelude.{cond, ◌==◌}
+use Rattle.std.specs.Prelude.{cond, map, List, ◌==◌}
 use Rattle.std.proofs.Common.{inr, inl, ◌≡◌, ℕ, Bool, true, false, [], refl, sym, ap, subst, ◌∙◌}
 use Rattle.std.specs.declared.option.Option.TheVariants.{None, Some}
 use Rattle.std.proofs.lemmas.Bool.{eqb-true, eq-eqb, true≢false}
+use Rattle.clause_core.specs.Clause.{Clause}
 use Rattle.graph_core.specs.Graph.Operands.{Sides}
 use Rattle.graph_core.specs.Graph.Extended.{Extended}
 use Rattle.graph_core.specs.Algebra.Polynomials.{value}
@@ -12,11 +13,12 @@ use Rattle.poly_terms.specs.Tables.{Table, Sum, Extends, modulus, monomials_in}
 use Rattle.poly_terms.specs.Laws.{extends_itself}
 use Rattle.pac_checker.specs.declared.fault.LineFault.TheVariants as line
 use Rattle.graph_core.specs.Algebra.Agreement.{AreSame}
+use Rattle.gate_axioms.specs.ClauseValues.{clause_value}
 use Rattle.gate_axioms.specs.Lines.{lines_in}
 use Rattle.pac_checker.specs.Checking.{checking_of, ledger_of, Takes}
 use Rattle.pac_checker.specs.Faults.{IsFault}
 use Rattle.pac_checker.specs.Rules.{AreEqual, Introduces}
-use Rattle.graph_core.proofs.OfAlgebra.CallerLemmas.{same_of, line_of-deleted}
+use Rattle.graph_core.proofs.OfAlgebra.CallerLemmas.{imports_refl, same_of, line_of-deleted}
 use Rattle.gate_axioms.proofs.CallerLemmas.{line_at, line_of-entries}
 use Rattle.pac_checker.proofs.Entries.{missing_first, live_first}
 use Rattle.pac_checker.proofs.Lawful.{all_live}
@@ -25,13 +27,14 @@ abbrev new_line : ℕ → Table → Sum → LiveLine
 new_line id t q = record { id = id; value = value (modulus t) (monomials_in t q) }
 
 -- a new entry whose polynomial has the stated one's values introduces its line
-pub introduces : (e : Extended) (sides : Sides) (old new : Facts Sum Table) (last id : ℕ) (p q : Sum) → ChangesAt id (Some p) old new → AreEqual old.table p q →
-    Introduces id (monomials_in old.table q) (checking_of e sides old last) (checking_of e sides new id)
-introduces e sides old new last id p q change same = record {
+pub introduces : (added : List Clause) (e : Extended) (sides : Sides) (old new : Facts Sum Table) (last id : ℕ) (p q : Sum) → ChangesAt id (Some p) old new → AreEqual old.table p q →
+    Introduces id (monomials_in old.table q) (checking_of added e sides old last) (checking_of added e sides new id)
+introduces added e sides old new last id p q change same = record {
+  added = refl;
   extended = refl;
   sides = refl;
   table = change.table;
-  ledger = record { last = refl; lines = λ other. subst (λ t. AreSame (line_of (lines_in t new.entries) other) (cond (id == other) (Some (new_line id old.table q)) (line_of (lines_in old.table old.entries) other))) (sym change.table) (go other (id == other) refl) };
+  ledger = record { last = refl; imports = imports_refl (map clause_value added); lines = λ other. subst (λ t. AreSame (line_of (lines_in t new.entries) other) (cond (id == other) (Some (new_line id old.table q)) (line_of (lines_in old.table old.entries) other))) (sym change.table) (go other (id == other) refl) };
 }
   where
     go : (other : ℕ) (b : Bool) → (id == other) ≡ b → AreSame (line_of (lines_in old.table new.entries) other) (cond b (Some (new_line id old.table q)) (line_of (lines_in old.table old.entries) other))
@@ -43,18 +46,20 @@ introduces e sides old new last id p q change same = record {
 
 -- ---- deleted lines
 
-pub delete_missing : (e : Extended) (sides : Sides) (old : Facts Sum Table) (last id : ℕ) → fact_at old.entries id ≡ None → IsFault e (ledger_of (checking_of e sides old last)) (Delete id) (line.NoSuchLine id)
-delete_missing e sides old last id none = inr (tt, inl (id, missing_first old.table old.entries id [] none, refl))
+pub delete_missing : (added : List Clause) (e : Extended) (sides : Sides) (old : Facts Sum Table) (last id : ℕ) → fact_at old.entries id ≡ None → IsFault e (ledger_of (checking_of added e sides old last)) (Delete id) (line.NoSuchLine id)
+delete_missing added e sides old last id none = inr (tt, inl (id, missing_first old.table old.entries id [] none, refl))
 
-pub deletes : (e : Extended) (sides : Sides) (old new : Facts Sum Table) (last id : ℕ) (p : Sum) → fact_at old.entries id ≡ Some p → ChangesAt id None old new →
-    Takes (Delete id) (checking_of e sides old last) (checking_of e sides new last)
-deletes e sides old new last id p found change = record {
+pub deletes : (added : List Clause) (e : Extended) (sides : Sides) (old new : Facts Sum Table) (last id : ℕ) (p : Sum) → fact_at old.entries id ≡ Some p → ChangesAt id None old new →
+    Takes (Delete id) (checking_of added e sides old last) (checking_of added e sides new last)
+deletes added e sides old new last id p found change = record {
+  added = refl;
   extended = refl;
   sides = refl;
   table = subst (Extends old.table) (sym change.table) (extends_itself old.table);
-  lawful = record { new_id = tt; live_operands = all_live (lines_in old.table old.entries) (operands (Delete id)) (live_first old.table old.entries id p [] found); equal = λ σ. refl };
+  lawful = record { new_id = tt; there = tt; live_operands = all_live (lines_in old.table old.entries) (operands (Delete id)) (live_first old.table old.entries id p [] found); equal = λ σ. refl };
   ledger = record {
     last = refl;
+    imports = imports_refl (map clause_value added);
     lines = λ other. same_of _ _
         (ap (λ t. line_of (lines_in t new.entries) other) change.table ∙ line_of-entries old.table new.entries other ∙ go other (other == id) refl ∙ sym (line_of-deleted (lines_in old.table old.entries) id other));
   };

@@ -1,10 +1,11 @@
 -- What a checker has found makes a line lawful, or refuses it.
-use Rattle.std.specs.Prelude.{IsSome, is_some, not, cond, ◌==◌}
-use Rattle.std.proofs.Common.{inl, inr, refl, Result, Ok, Err, IfErr, OnOk, ◌≡◌, ℕ, ◌%◌, ◌<◌, ◌≤◌, Bool, true, false, List, [], ◌∷◌, sym, ap, subst, ◌∙◌}
+use Rattle.std.specs.Prelude.{IsSome, is_some, not, cond, map, ◌==◌}
+use Rattle.std.proofs.Common.{inl, inr, refl, Result, Ok, Err, IfErr, OnErr, OnOk, ◌≡◌, ℕ, ◌%◌, ◌<◌, ◌≤◌, Bool, true, false, List, [], ◌∷◌, sym, ap, subst, ◌∙◌}
 use Rattle.std.specs.declared.option.Option.TheVariants.{None, Some}
 use Rattle.std.specs.List.{All, AllByRecursion}
 use Rattle.std.proofs.lemmas.Bool.{true≢false}
 use Rattle.std.proofs.lemmas.List.Elements.{All-from_recursion}
+use Rattle.clause_core.specs.Clause.{Clause}
 use Rattle.graph_core.specs.Graph.Assignments.{Assignment}
 use Rattle.graph_core.specs.Graph.Extended.{Extended}
 use Rattle.graph_core.specs.Graph.Operands.{Sides}
@@ -16,29 +17,47 @@ use Rattle.mv_fact.specs.Facts.{Facts, fact_at}
 use Rattle.poly_terms.specs.Tables.{Table, Sum, IsOf, Extends, modulus, value_in, monomials_in}
 use Rattle.poly_terms.specs.Laws.{modulus_stays, value_stays, extends_itself}
 use Rattle.pac_checker.specs.declared.fault.LineFault.{LineFault}
-use Rattle.pac_checker.specs.declared.fault.LineFault.TheVariants.{Id, NoSuchLine, NotEqual, Memory}
+use Rattle.pac_checker.specs.declared.fault.LineFault.TheVariants.{Id, NoSuchLine, NoSuchClause, NotEqual, Memory}
 use Rattle.graph_core.specs.Algebra.Agreement.{AreSame, Agree}
+use Rattle.gate_axioms.specs.ClauseValues.{clause_value}
 use Rattle.gate_axioms.specs.Lines.{lines_of}
 use Rattle.gate_axioms.specs.Steps.{KeepsLines}
-use Rattle.pac_checker.specs.Checking.{Checking, checking_of, ledger_of, Grows}
+use Rattle.pac_checker.specs.Checking.{Checking, checking_of, ledger_of, Grows, KeepsLedger}
 use Rattle.pac_checker.specs.Rules.{AreEqual, AreRefused, Introduces, IsLineOf, IsNamed, IsNamingFault, IsSound, IsStatingFault, TakesLinesOf, ids_of, parts_in}
-use Rattle.graph_core.proofs.OfAlgebra.CallerLemmas.{agree_trans, agree_refl}
+use Rattle.graph_core.proofs.OfAlgebra.CallerLemmas.{agree_trans, agree_refl, imports_refl}
 
 -- ---- the table has grown
 
 -- the type's facts are kept
-pub sound_grown : (e : Extended) (s : Sides) (old new : Facts Sum Table) (last : ℕ) → KeepsLines old new → IsSound e s old last → IsSound e s new last
-sound_grown e s old new last k h = record {
+pub sound_grown : (added : List Clause) (e : Extended) (s : Sides) (old new : Facts Sum Table) (last : ℕ) → KeepsLines old new → IsSound added e s old last → IsSound added e s new last
+sound_grown added e s old new last k h = record {
+  importable = h.importable;
   same_gates = k.gates ∙ h.same_gates;
   same_modulus = modulus_stays old.table new.table k.table ∙ h.same_modulus;
   fresh = λ id above. ap (λ es. fact_at es id) k.entries ∙ h.fresh id above;
 }
 
-pub grows : (e : Extended) (sides : Sides) (old new : Facts Sum Table) (last : ℕ) → KeepsLines old new → Grows (checking_of e sides old last) (checking_of e sides new last)
-grows e sides old new last k = record { extended = refl; sides = refl; table = k.table; entries = k.entries; last = refl; ledger = record { last = refl; lines = k.lines } }
+pub grows : (added : List Clause) (e : Extended) (sides : Sides) (old new : Facts Sum Table) (last : ℕ) → KeepsLines old new → Grows (checking_of added e sides old last) (checking_of added e sides new last)
+grows added e sides old new last k = record {
+  added = refl;
+  extended = refl;
+  sides = refl;
+  table = k.table;
+  entries = k.entries;
+  last = refl;
+  ledger = record { last = refl; lines = k.lines; imports = imports_refl (map clause_value added) };
+}
 
 pub grows_itself : (c : Checking) → Grows c c
-grows_itself c = record { extended = refl; sides = refl; table = extends_itself c.table; entries = refl; last = refl; ledger = agree_refl (ledger_of c) }
+grows_itself c = record { added = refl; extended = refl; sides = refl; table = extends_itself c.table; entries = refl; last = refl; ledger = agree_refl (ledger_of c) }
+
+pub keeps_ledger_itself : (c : Checking) → KeepsLedger c c
+keeps_ledger_itself c = record { added = refl; extended = refl; sides = refl; ledger = agree_refl (ledger_of c) }
+
+-- what holds anyway holds where a call failed
+pub on_err : {T E : Type 0} (r : Result T E) (P : Type 0) → P → OnErr r P
+on_err (Ok t) P h = tt
+on_err (Err e) P h = h
 
 -- ---- lawful lines
 
@@ -55,78 +74,81 @@ pub all_live : (live : List LiveLine) (ids : List ℕ) → first_missing live id
 all_live live ids h = All-from_recursion (IsLive live) ids (none_missing live ids h)
 
 -- ledgers that agree do so with a new line of the same values
-introduce_same : (l k : Ledger) (id m n : ℕ) (p q : Polynomial) → Agree l k → ((σ : Assignment) → value m p σ ≡ value n q σ) → Agree (introduce m l id p) (introduce n k id q)
-introduce_same l k id m n p q a same = record { last = refl; lines = λ other. go other (id == other) }
+pub introduce_same : (l k : Ledger) (id m n : ℕ) (p q : Polynomial) → Agree l k → ((σ : Assignment) → value m p σ ≡ value n q σ) → Agree (introduce m l id p) (introduce n k id q)
+introduce_same l k id m n p q a same = record { last = refl; imports = a.imports; lines = λ other. go other (id == other) }
   where
     go : (other : ℕ) (b : Bool) → AreSame (cond b (Some (record { id = id; value = value m p })) (line_of l.live other)) (cond b (Some (record { id = id; value = value n q })) (line_of k.live other))
     go other true = same
     go other false = a.lines other
 
 -- the stated polynomial has the value that the rule names, modulo the modulus of the graph
-equal_named : (e : Extended) (s : Sides) (old mid : Facts Sum Table) (last id : ℕ) (parts : List (ℕ × Sum)) (p q : Sum) (x : Line) → IsSound e s old last → KeepsLines old mid → IsOf old.table q → IsNamed old mid (parts_in old.table parts) p →
-    IsLineOf (checking_of e s old last) id parts q x → (σ : Assignment) → value_in mid.table p σ ≡ value_in mid.table q σ →
-    value (algebra.modulus e) (stated x) σ ≡ named (algebra.modulus e) (lines_of old) x σ % algebra.modulus e
-equal_named e s old mid last id parts p q x sound k of found line σ same =
-    subst (λ m. value m (stated x) σ ≡ named m (lines_of old) x σ % m) sound.same_modulus
+equal_named : (added : List Clause) (e : Extended) (s : Sides) (old mid : Facts Sum Table) (last id : ℕ) (parts : List (ℕ × Sum)) (p q : Sum) (x : Line) → IsSound added e s old last → KeepsLines old mid → IsOf old.table q → IsNamed old mid (parts_in old.table parts) p →
+    IsLineOf (checking_of added e s old last) id parts q x → (σ : Assignment) → value_in mid.table p σ ≡ value_in mid.table q σ →
+    value (algebra.modulus e) (stated x) σ ≡ named (algebra.modulus e) (ledger_of (checking_of added e s old last)) x σ % algebra.modulus e
+equal_named added e s old mid last id parts p q x sound k of found line σ same =
+    subst (λ m. value m (stated x) σ ≡ named m (ledger_of (checking_of added e s old last)) x σ % m) sound.same_modulus
     (ap (λ r. value (modulus old.table) r σ) line.states ∙ sym (value_stays old.table mid.table q σ k.table of) ∙ sym same ∙ found.same σ ∙ sym (line.names σ))
 
 -- its operands are live
-live_named : (e : Extended) (s : Sides) (old mid : Facts Sum Table) (last id : ℕ) (parts : List (ℕ × Sum)) (p q : Sum) (x : Line) → IsNamed old mid (parts_in old.table parts) p →
-    IsLineOf (checking_of e s old last) id parts q x → All (IsLive (lines_of old)) (operands x)
-live_named e s old mid last id parts p q x found line = all_live (lines_of old) (operands x) (ap (first_missing (lines_of old)) line.lines ∙ found.live)
+live_named : (added : List Clause) (e : Extended) (s : Sides) (old mid : Facts Sum Table) (last id : ℕ) (parts : List (ℕ × Sum)) (p q : Sum) (x : Line) → IsNamed old mid (parts_in old.table parts) p →
+    IsLineOf (checking_of added e s old last) id parts q x → All (IsLive (lines_of old)) (operands x)
+live_named added e s old mid last id parts p q x found line = all_live (lines_of old) (operands x) (ap (first_missing (lines_of old)) line.lines ∙ found.live)
 
 -- a line whose named polynomial is found equal, and put under the new id, is taken
-pub takes_named : (e : Extended) (s : Sides) (old mid : Facts Sum Table) (last id : ℕ) (parts : List (ℕ × Sum)) (p q : Sum) (new : Checking) → IsSound e s old last → KeepsLines old mid → last < id → IsOf old.table q →
-    IsNamed old mid (parts_in old.table parts) p → AreEqual mid.table p q → Introduces id (monomials_in mid.table q) (checking_of e s mid last) new → TakesLinesOf id parts q (checking_of e s old last) new
-takes_named e s old mid last id parts p q new sound k above of found same i = λ x line.
-    let before : Ledger = ledger_of (checking_of e s old last) in
-    let between : Ledger = ledger_of (checking_of e s mid last) in
+pub takes_named : (added : List Clause) (e : Extended) (s : Sides) (old mid : Facts Sum Table) (last id : ℕ) (parts : List (ℕ × Sum)) (p q : Sum) (new : Checking) → IsSound added e s old last → KeepsLines old mid → last < id → IsOf old.table q →
+    IsNamed old mid (parts_in old.table parts) p → AreEqual mid.table p q → Introduces id (monomials_in mid.table q) (checking_of added e s mid last) new → TakesLinesOf id parts q (checking_of added e s old last) new
+takes_named added e s old mid last id parts p q new sound k above of found same i = λ x line.
+    let before : Ledger = ledger_of (checking_of added e s old last) in
+    let between : Ledger = ledger_of (checking_of added e s mid last) in
     record {
+      added = i.added;
       extended = i.extended;
       sides = i.sides;
       table = subst (Extends old.table) (sym i.table) k.table;
-      lawful = record { new_id = line.is_new last above; live_operands = live_named e s old mid last id parts p q x found line; equal = λ σ. equal_named e s old mid last id parts p q x sound k of found line σ (same σ) };
+      lawful = record { new_id = line.is_new last above; live_operands = live_named added e s old mid last id parts p q x found line; there = line.there before.imports; equal = λ σ. equal_named added e s old mid last id parts p q x sound k of found line σ (same σ) };
       ledger = subst (Agree (ledger_of new)) (sym (line.next (algebra.modulus e) before))
           (agree_trans (ledger_of new) (introduce (modulus mid.table) between id (monomials_in mid.table q)) (introduce (algebra.modulus e) before id (monomials_in old.table q)) i.ledger
-          (introduce_same between before id (modulus mid.table) (algebra.modulus e) (monomials_in mid.table q) (monomials_in old.table q) (record { last = refl; lines = k.lines })
+          (introduce_same between before id (modulus mid.table) (algebra.modulus e) (monomials_in mid.table q) (monomials_in old.table q) (record { last = refl; lines = k.lines; imports = imports_refl (map clause_value added) })
           (λ σ. value_stays old.table mid.table q σ k.table of ∙ ap (λ m. value m (monomials_in old.table q) σ) sound.same_modulus)));
     }
 
-pub takes_stated : {T : Type 0} (r : Result T LineFault) (e : Extended) (s : Sides) (old mid : Facts Sum Table) (last id : ℕ) (parts : List (ℕ × Sum)) (p q : Sum) (new : Checking) → IsSound e s old last → KeepsLines old mid → last < id → IsOf old.table q →
-    IsNamed old mid (parts_in old.table parts) p → OnOk r (AreEqual mid.table p q) → OnOk r (Introduces id (monomials_in mid.table q) (checking_of e s mid last) new) → OnOk r (TakesLinesOf id parts q (checking_of e s old last) new)
-takes_stated (Ok t) e s old mid last id parts p q new sound k above of found same i = takes_named e s old mid last id parts p q new sound k above of found same i
-takes_stated (Err fault) e s old mid last id parts p q new sound k above of found same i = same
+pub takes_stated : {T : Type 0} (r : Result T LineFault) (added : List Clause) (e : Extended) (s : Sides) (old mid : Facts Sum Table) (last id : ℕ) (parts : List (ℕ × Sum)) (p q : Sum) (new : Checking) → IsSound added e s old last → KeepsLines old mid → last < id → IsOf old.table q →
+    IsNamed old mid (parts_in old.table parts) p → OnOk r (AreEqual mid.table p q) → OnOk r (Introduces id (monomials_in mid.table q) (checking_of added e s mid last) new) → OnOk r (TakesLinesOf id parts q (checking_of added e s old last) new)
+takes_stated (Ok t) added e s old mid last id parts p q new sound k above of found same i = takes_named added e s old mid last id parts p q new sound k above of found same i
+takes_stated (Err fault) added e s old mid last id parts p q new sound k above of found same i = same
 
 -- ---- refused lines
 
 -- an id that isn't new refuses the line
-pub id_refused : (e : Extended) (s : Sides) (old : Facts Sum Table) (last id : ℕ) (parts : List (ℕ × Sum)) (q : Sum) (fault : LineFault) → (fault ≡ Id) × (id ≤ last) → AreRefused (checking_of e s old last) id parts q fault
-id_refused e s old last id parts q fault h = subst (AreRefused (checking_of e s old last) id parts q) (sym h.0) (λ x line. inl (line.is_old last h.1, refl))
+pub id_refused : (added : List Clause) (e : Extended) (s : Sides) (old : Facts Sum Table) (last id : ℕ) (parts : List (ℕ × Sum)) (q : Sum) (fault : LineFault) → (fault ≡ Id) × (id ≤ last) → AreRefused (checking_of added e s old last) id parts q fault
+id_refused added e s old last id parts q fault h = subst (AreRefused (checking_of added e s old last) id parts q) (sym h.0) (λ x line. inl (line.is_old last h.1, refl))
 
 -- an operand that isn't live does
-pub naming_refused : (e : Extended) (s : Sides) (old : Facts Sum Table) (last id : ℕ) (parts : List (ℕ × Sum)) (q : Sum) (fault : LineFault) → last < id → IsNamingFault old (ids_of (parts_in old.table parts)) fault →
-    AreRefused (checking_of e s old last) id parts q fault
-naming_refused e s old last id parts q Id above h = absurd h
-naming_refused e s old last id parts q (NoSuchLine missing) above h = λ x line. inr (line.is_new last above, inl (missing, ap (first_missing (lines_of old)) line.lines ∙ h, refl))
-naming_refused e s old last id parts q NotEqual above h = absurd h
-naming_refused e s old last id parts q Memory above h = λ x line. tt
+pub naming_refused : (added : List Clause) (e : Extended) (s : Sides) (old : Facts Sum Table) (last id : ℕ) (parts : List (ℕ × Sum)) (q : Sum) (fault : LineFault) → last < id → IsNamingFault old (ids_of (parts_in old.table parts)) fault →
+    AreRefused (checking_of added e s old last) id parts q fault
+naming_refused added e s old last id parts q Id above h = absurd h
+naming_refused added e s old last id parts q (NoSuchLine missing) above h = λ x line. inr (line.is_new last above, inl (missing, ap (first_missing (lines_of old)) line.lines ∙ h, refl))
+naming_refused added e s old last id parts q (NoSuchClause number) above h = absurd h
+naming_refused added e s old last id parts q NotEqual above h = absurd h
+naming_refused added e s old last id parts q Memory above h = λ x line. tt
 
 -- a polynomial that differs from the named one does
-stating_refused : (e : Extended) (s : Sides) (old mid : Facts Sum Table) (last id : ℕ) (parts : List (ℕ × Sum)) (p q : Sum) (fault : LineFault) → IsSound e s old last → KeepsLines old mid → last < id → IsOf old.table q →
-    IsNamed old mid (parts_in old.table parts) p → IsStatingFault mid.table p q fault → AreRefused (checking_of e s old last) id parts q fault
-stating_refused e s old mid last id parts p q Id sound k above of found h = absurd h
-stating_refused e s old mid last id parts p q (NoSuchLine missing) sound k above of found h = absurd h
-stating_refused e s old mid last id parts p q NotEqual sound k above of found h = λ x line.
-    inr (line.is_new last above, inr (live_named e s old mid last id parts p q x found line, inl ((h.0, λ same. h.1 (differ x line same)), refl)))
+stating_refused : (added : List Clause) (e : Extended) (s : Sides) (old mid : Facts Sum Table) (last id : ℕ) (parts : List (ℕ × Sum)) (p q : Sum) (fault : LineFault) → IsSound added e s old last → KeepsLines old mid → last < id → IsOf old.table q →
+    IsNamed old mid (parts_in old.table parts) p → IsStatingFault mid.table p q fault → AreRefused (checking_of added e s old last) id parts q fault
+stating_refused added e s old mid last id parts p q Id sound k above of found h = absurd h
+stating_refused added e s old mid last id parts p q (NoSuchLine missing) sound k above of found h = absurd h
+stating_refused added e s old mid last id parts p q (NoSuchClause number) sound k above of found h = absurd h
+stating_refused added e s old mid last id parts p q NotEqual sound k above of found h = λ x line.
+    inr (line.is_new last above, inr (live_named added e s old mid last id parts p q x found line, inr (line.there (map clause_value added), inl ((h.0, λ same. h.1 (differ x line same)), refl))))
   where
-    differ : (x : Line) → IsLineOf (checking_of e s old last) id parts q x → value (algebra.modulus e) (stated x) h.0 ≡ named (algebra.modulus e) (lines_of old) x h.0 % algebra.modulus e →
+    differ : (x : Line) → IsLineOf (checking_of added e s old last) id parts q x → value (algebra.modulus e) (stated x) h.0 ≡ named (algebra.modulus e) (ledger_of (checking_of added e s old last)) x h.0 % algebra.modulus e →
         value_in mid.table p h.0 ≡ value_in mid.table q h.0
     differ x line same =
-        found.same h.0 ∙ sym (line.names h.0) ∙ subst (λ m. named m (lines_of old) x h.0 % m ≡ value m (stated x) h.0) (sym sound.same_modulus) (sym same) ∙
+        found.same h.0 ∙ sym (line.names h.0) ∙ subst (λ m. named m (ledger_of (checking_of added e s old last)) x h.0 % m ≡ value m (stated x) h.0) (sym sound.same_modulus) (sym same) ∙
         ap (λ r. value (modulus old.table) r h.0) line.states ∙ sym (value_stays old.table mid.table q h.0 k.table of)
-stating_refused e s old mid last id parts p q Memory sound k above of found h = λ x line. tt
+stating_refused added e s old mid last id parts p q Memory sound k above of found h = λ x line. tt
 
-pub stating_faults : {T : Type 0} (r : Result T LineFault) (e : Extended) (s : Sides) (old mid : Facts Sum Table) (last id : ℕ) (parts : List (ℕ × Sum)) (p q : Sum) → IsSound e s old last → KeepsLines old mid → last < id → IsOf old.table q →
-    IsNamed old mid (parts_in old.table parts) p → IfErr r (IsStatingFault mid.table p q) → IfErr r (AreRefused (checking_of e s old last) id parts q)
-stating_faults (Ok t) e s old mid last id parts p q sound k above of found h = h
-stating_faults (Err fault) e s old mid last id parts p q sound k above of found h = stating_refused e s old mid last id parts p q fault sound k above of found h
+pub stating_faults : {T : Type 0} (r : Result T LineFault) (added : List Clause) (e : Extended) (s : Sides) (old mid : Facts Sum Table) (last id : ℕ) (parts : List (ℕ × Sum)) (p q : Sum) → IsSound added e s old last → KeepsLines old mid → last < id → IsOf old.table q →
+    IsNamed old mid (parts_in old.table parts) p → IfErr r (IsStatingFault mid.table p q) → IfErr r (AreRefused (checking_of added e s old last) id parts q)
+stating_faults (Ok t) added e s old mid last id parts p q sound k above of found h = h
+stating_faults (Err fault) added e s old mid last id parts p q sound k above of found h = stating_refused added e s old mid last id parts p q fault sound k above of found h

@@ -9,7 +9,7 @@ use Rattle.graph_core.proofs.OfAlgebra.CallerLemmas.{after_agrees, agree_trans, 
 use Rattle.poly_terms.specs.Tables.{Sum, IsOf, modulus, monomials_in}
 use Rattle.poly_terms.specs.Laws.{extends_on, modulus_stays, monomials_stay}
 use Rattle.pac_checker.specs.declared.fault.LineFault.{LineFault}
-use Rattle.pac_checker.specs.declared.fault.LineFault.TheVariants.{Id, NoSuchLine, NotEqual, Memory}
+use Rattle.pac_checker.specs.declared.fault.LineFault.TheVariants.{Id, NoSuchLine, NoSuchClause, NotEqual, Memory}
 use Rattle.pac_checker.specs.Checking.{Checking, ledger_of, Grows, Takes}
 use Rattle.pac_checker.specs.Rules.{IsLineOf, IsRefused, combination_line, product_line, sum_line}
 use Rattle.pac_checker.specs.Works.{IsMade}
@@ -27,6 +27,7 @@ sum_is_combination old mid id i j one p grown made of =
       is_new = λ last above. above;
       is_old = λ last below above. absurd (omega (arith, below, above));
       lines = refl;
+      there = λ imports. tt;
       states = sym same;
       names = λ σ. two_ones (modulus mid.table) (modulus old.table) (value_of (ledger_of mid).live i σ) (value_of (ledger_of mid).live j σ) _ (made.value σ) (modulus_stays old.table mid.table grown.table);
       next = λ m l. ap (introduce m l id) (sym same);
@@ -37,6 +38,7 @@ product_is_combination c id i factor p = record {
   is_new = λ last above. above;
   is_old = λ last below above. absurd (omega (arith, below, above));
   lines = refl;
+  there = λ imports. tt;
   states = refl;
   names = λ σ. ap (λ n. n % modulus c.table) (omega arith);
   next = λ m l. refl;
@@ -47,6 +49,7 @@ combination_is_combination c id parts p = record {
   is_new = λ last above. above;
   is_old = λ last below above. absurd (omega (arith, below, above));
   lines = refl;
+  there = λ imports. tt;
   states = refl;
   names = λ σ. refl;
   next = λ m l. refl;
@@ -56,6 +59,7 @@ combination_is_combination c id parts p = record {
 
 pub takes_grown : (old mid new : Checking) (x : Line) → Grows old mid → Takes x mid new → Takes x old new
 takes_grown old mid new x g t = record {
+  added = t.added ∙ g.added;
   extended = t.extended ∙ g.extended;
   sides = t.sides ∙ g.sides;
   table = extends_on old.table mid.table new.table g.table t.table;
@@ -67,11 +71,13 @@ takes_grown old mid new x g t = record {
 pub refused_grown : (old mid : Checking) (x : Line) (fault : LineFault) → Grows old mid → IsRefused mid x fault → IsRefused old x fault
 refused_grown old mid x Id g r = refused_in_range_agrees old.extended (ledger_of mid) (ledger_of old) g.ledger x cause.Id (rw g.extended at r)
 refused_grown old mid x (NoSuchLine id) g r = refused_in_range_agrees old.extended (ledger_of mid) (ledger_of old) g.ledger x (cause.NoSuchLine id) (rw g.extended at r)
+refused_grown old mid x (NoSuchClause number) g r = refused_in_range_agrees old.extended (ledger_of mid) (ledger_of old) g.ledger x (cause.NoSuchClause number) (rw g.extended at r)
 refused_grown old mid x NotEqual g r = refused_in_range_agrees old.extended (ledger_of mid) (ledger_of old) g.ledger x cause.NotEqual (rw g.extended at r)
 refused_grown old mid x Memory g r = tt
 
 pub grows_grown : (a b c : Checking) → Grows a b → Grows b c → Grows a c
 grows_grown a b c g h = record {
+  added = h.added ∙ g.added;
   extended = h.extended ∙ g.extended;
   sides = h.sides ∙ g.sides;
   table = extends_on a.table b.table c.table g.table h.table;

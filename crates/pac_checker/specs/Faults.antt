@@ -9,7 +9,7 @@ use Rattle.poly_text.specs.Lines.{line_in}
 use Rattle.pac_checker.specs.Checking.{Checking, ledger_of}
 use Rattle.graph_core.specs.Algebra.InRange.{IsRefusedInRange, IsRefusedCloseInRange}
 use Rattle.pac_checker.specs.declared.fault.LineFault.{LineFault}
-use Rattle.pac_checker.specs.declared.fault.LineFault.TheVariants.{Id, NoSuchLine, NotEqual, Memory}
+use Rattle.pac_checker.specs.declared.fault.LineFault.TheVariants.{Id, NoSuchLine, NoSuchClause, NotEqual, Memory}
 use Rattle.pac_checker.specs.declared.fault.CloseFault.{CloseFault}
 use Rattle.pac_checker.specs.declared.fault.CloseFault.TheVariants as close
 
@@ -17,6 +17,7 @@ use Rattle.pac_checker.specs.declared.fault.CloseFault.TheVariants as close
 abbrev pub IsFault : Extended → Ledger → Line → LineFault → Type 0
 IsFault e l x Id = IsRefusedInRange e l x cause.Id
 IsFault e l x (NoSuchLine id) = IsRefusedInRange e l x (cause.NoSuchLine id)
+IsFault e l x (NoSuchClause number) = IsRefusedInRange e l x (cause.NoSuchClause number)
 IsFault e l x NotEqual = IsRefusedInRange e l x cause.NotEqual
 IsFault e l x Memory = Unit {0}
 

@@ -1,12 +1,16 @@
 -- What the steps of a line find. These words serve private clauses.
-use Rattle.std.specs.Prelude.{◌≡◌, ◌≢◌, ◌<◌, ◌≤◌, ℕ, ◌*◌, ◌%◌, List, map}
+use Rattle.std.specs.Prelude.{◌≡◌, ◌≢◌, ◌<◌, ◌≤◌, ℕ, zero, suc, ◌*◌, ◌%◌, List, map, slice_get}
 use denote.Ref.{Bor}
+use Rattle.std.specs.declared.option.Option.{Option}
 use Rattle.std.specs.declared.option.Option.TheVariants.{None, Some}
+use Rattle.std.specs.List.{All}
+use Rattle.clause_core.specs.Clause.{Clause}
+use Rattle.clause_core.specs.Facts.{IsClauseFact}
 use Rattle.graph_core.specs.Graph.Assignments.{Assignment}
 use Rattle.graph_core.specs.Graph.Extended.{Extended}
 use Rattle.graph_core.specs.Graph.Operands.{Sides}
 use Rattle.graph_core.specs.Algebra.Polynomials.{Polynomial}
-use Rattle.graph_core.specs.Algebra.{Line, Ledger, Part, IsNewId, value_of, introduce, combined, operands, stated, named, after}
+use Rattle.graph_core.specs.Algebra.{Line, Ledger, Part, IsNewId, IsThere, value_of, introduce, combined, operands, stated, named, after}
 use Rattle.graph_core.specs.Algebra as algebra
 use Rattle.graph_core.specs.Algebra.Agreement.{Agree, AreSameLines}
 use Rattle.graph_core.specs.Algebra.Refusal.{first_missing}
@@ -16,7 +20,7 @@ use Rattle.poly_text.specs.Lines.{part_in}
 use Rattle.gate_axioms.specs.Lines.{lines_of}
 use Rattle.gate_axioms.specs.Steps.{Vanishes}
 use Rattle.pac_checker.specs.declared.fault.LineFault.{LineFault}
-use Rattle.pac_checker.specs.declared.fault.LineFault.TheVariants.{Id, NoSuchLine, NotEqual, Memory}
+use Rattle.pac_checker.specs.declared.fault.LineFault.TheVariants.{Id, NoSuchLine, NoSuchClause, NotEqual, Memory}
 use Rattle.pac_checker.specs.Checking.{Checking, ledger_of, Takes}
 use Rattle.pac_checker.specs.Faults.{IsFault}
 
@@ -48,6 +52,7 @@ pub record IsNamed (old new : Facts Sum Table) (parts : List Part) (p : Sum) : T
 abbrev pub IsNamingFault : Facts Sum Table → List ℕ → LineFault → Type 0
 IsNamingFault facts ids Id = ⊥
 IsNamingFault facts ids (NoSuchLine id) = first_missing (lines_of facts) ids ≡ Some id
+IsNamingFault facts ids (NoSuchClause number) = ⊥
 IsNamingFault facts ids NotEqual = ⊥
 IsNamingFault facts ids Memory = Unit {0}
 
@@ -56,8 +61,9 @@ pub record IsLineOf (c : Checking) (id : ℕ) (parts : List (ℕ × Sum)) (p : S
   pub is_new : (last : ℕ) → last < id → IsNewId last x
   pub is_old : (last : ℕ) → id ≤ last → IsNewId last x → ⊥
   pub lines : operands x ≡ ids_of (parts_in c.table parts)
+  pub there : (imports : List (Assignment → ℕ)) → IsThere imports x
   pub states : stated x ≡ monomials_in c.table p
-  pub names : (σ : Assignment) → named (modulus c.table) (ledger_of c).live x σ % modulus c.table ≡
+  pub names : (σ : Assignment) → named (modulus c.table) (ledger_of c) x σ % modulus c.table ≡
       combined (modulus c.table) (ledger_of c).live (parts_in c.table parts) σ % modulus c.table
   pub next : (m : ℕ) (l : Ledger) → after m l x ≡ introduce m l id (monomials_in c.table p)
 
@@ -82,6 +88,14 @@ product_line t id i factor p = algebra.Product id i (monomials_in t factor) (mon
 abbrev pub combination_line : Table → ℕ → List (ℕ × Sum) → Sum → Line
 combination_line t id parts p = algebra.Combination id (map (part_in t) parts) (monomials_in t p)
 
+abbrev pub import_line : Table → ℕ → ℕ → Sum → Line
+import_line t id number p = algebra.Import id number (monomials_in t p)
+
+-- the clause of a number, from 1 on
+abbrev pub clause_at : List Clause → ℕ → Option Clause
+clause_at cs zero = None
+clause_at cs (suc i) = slice_get cs i
+
 -- the same value at every assignment
 abbrev pub AreEqual : Table → Sum → Sum → Type 0
 AreEqual t p q = (σ : Assignment) → value_in t p σ ≡ value_in t q σ
@@ -94,11 +108,13 @@ Differ t p q = (σ : Assignment) × (value_in t p σ ≢ value_in t q σ)
 abbrev pub IsStatingFault : Table → Sum → Sum → LineFault → Type 0
 IsStatingFault t named stated Id = ⊥
 IsStatingFault t named stated (NoSuchLine id) = ⊥
+IsStatingFault t named stated (NoSuchClause number) = ⊥
 IsStatingFault t named stated NotEqual = Differ t named stated
 IsStatingFault t named stated Memory = Unit {0}
 
 -- A polynomial of the same table was put under a new id.
 pub record Introduces (id : ℕ) (p : Polynomial) (old new : Checking) : Type 0 where
+  pub added : new.added ≡ old.added
   pub extended : new.extended ≡ old.extended
   pub sides : new.sides ≡ old.sides
   pub table : new.table ≡ old.table
@@ -111,7 +127,8 @@ pub record Carries (old new : Facts Sum Table) : Type 0 where
   pub lines : AreSameLines (lines_of new) (lines_of old)
 
 -- What the type of a checker keeps besides that each live polynomial vanishes.
-pub record IsSound (e : Extended) (s : Sides) (facts : Facts Sum Table) (last : ℕ) : Type 0 where
+pub record IsSound (added : List Clause) (e : Extended) (s : Sides) (facts : Facts Sum Table) (last : ℕ) : Type 0 where
   pub same_gates : facts.gates ≡ e.gates
   pub same_modulus : modulus facts.table ≡ algebra.modulus e
   pub fresh : (id : ℕ) → last < id → fact_at facts.entries id ≡ None
+  pub importable : All (IsClauseFact e.gates) added

@@ -1,25 +1,28 @@
 // The checker: live polynomials, line by line.
 #![tactic(auto, using(crate::proofs::Lawful::sound_grown, crate::proofs::Lawful::grows, crate::proofs::Lawful::grows_itself, crate::proofs::LineKinds::grows_grown, gate_axioms::proofs::CallerLemmas::keeps_lines, poly_terms::specs::Laws::stays))]
 
-ghost use Rattle.std.specs.Prelude.{◌≡◌, ◌%◌, ◌<◌, ◌≤◌, length, IfErr, IfOk, IsSome, OnErr, OnOk};
+ghost use Rattle.std.specs.Prelude.{◌≡◌, ◌%◌, ◌<◌, ◌≤◌, ℕ, None, Some, length, map, IfErr, IfOk, IsSome, OnErr, OnOk};
 ghost use Rattle.std.specs.List.{All};
-ghost use Rattle.graph_core.specs.Algebra.{Delete, axioms, AgreeOnColumns};
+ghost use Rattle.graph_core.specs.Algebra.{Delete, beginning, AgreeOnColumns};
 ghost use Rattle.graph_core.specs.Algebra as algebra;
 ghost use Rattle.mv_fact.specs.Always.{Always};
 ghost use Rattle.poly_terms.specs.Tables.{IsOf, modulus, monomials_in};
 ghost use Rattle.poly_text.specs.Lines.{line_in, AreOf};
+ghost use Rattle.clause_core.specs.Facts.{IsClauseFact};
 ghost use Rattle.gate_axioms.specs.Axioms.{IsSpecification};
+ghost use Rattle.gate_axioms.specs.ClauseValues.{clause_value};
 ghost use Rattle.graph_core.specs.Algebra.Agreement.{Agree};
 ghost use Rattle.pac_checker.specs.Checking.{ledger_of, Takes, TakesLine, Grows, KeepsLedger, IsClosedBy, SpecificationVanishes};
 ghost use Rattle.pac_checker.specs.Faults.{IsLineFault, IsClosingFault};
 ghost use Rattle.gate_axioms.specs.Steps.{Vanishes};
-ghost use Rattle.pac_checker.specs.Rules.{AreEqual, AreRefused, Introduces, IsRefused, IsStatingFault, TakesLinesOf, combination_line, lent, product_line, sum_line};
+ghost use Rattle.pac_checker.specs.Rules.{AreEqual, AreRefused, Introduces, IsRefused, IsStatingFault, TakesLinesOf, clause_at, combination_line, import_line, lent, product_line, sum_line};
 ghost use Rattle.pac_checker.specs.Works.{IsMade};
 
 use crate::compaction::{compacted, most_monomials};
 use crate::rules::combine;
-use crate::works::{MakeOne, MakeSpecification};
+use crate::works::{MakeClause, MakeOne, MakeSpecification};
 use crate::{CloseFault, LineFault};
+use clause_core::{Clause, ClauseList};
 use gate_axioms::add_axioms;
 use graph_core::{Memory, Operands};
 use mv_fact::{Grow, Live};
@@ -29,10 +32,11 @@ use ripple_graft::Extended;
 use std::alloc::Global;
 use std::marker::Model;
 
-/// The live polynomials of an algebra certificate over an extended graph.
+/// The live polynomials of an algebra certificate over an extended graph, and the clauses that its lines may import.
 #[derive(Drop)]
 pub struct PacChecker<'a> {
     alloc: Global,
+    added: &'a ClauseList,
     extended: &'a Extended<'a>,
     operands: &'a Operands,
     live: Live<'a, Poly>,
@@ -50,25 +54,30 @@ impl<'a> Model for PacChecker<'a> {
 
     ghost Value = { Checking };
 
-    ghost view = { λ c. checking_of c.extended.now c.operands.now c.live c.last };
+    ghost view = { λ c. checking_of c.added.now c.extended.now c.operands.now c.live c.last };
 
-    ghost invariant = { λ c. IsSound c.extended.now c.operands.now c.live c.last };
+    ghost invariant = { λ c. IsSound c.added.now c.extended.now c.operands.now c.live c.last };
 }
 
 impl<'a> PacChecker<'a> {
-    /// The axioms of an extended graph: those of its gates, and of each replaced column.
+    /// The axioms of an extended graph: those of its gates, and of each replaced column. Lines may import the
+    /// clauses that were added.
     pub fn new(
         alloc: Global,
         extended: &'a Extended<'a>,
         operands: &'a Operands,
+        added: &'a ClauseList,
     ) -> Result<PacChecker<'a>, Memory>
         requires some { 1 ≤ length extended.now.graph.outputs }
         requires few { length extended.now.graph.outputs ≤ 128 }
         requires columns { Always extended.now.gates (AgreeOnColumns extended.now) }
+        requires facts { All (IsClauseFact extended.now.gates) added.now }
         ensures extended { IfOk result (λ c. c.extended ≡ extended.entry.now) }
         ensures sides { IfOk result (λ c. c.sides ≡ operands.entry.now) }
+        ensures added { IfOk result (λ c. c.added ≡ added.entry.now) }
         ensures modulus { IfOk result (λ c. modulus c.table ≡ algebra.modulus c.extended) }
-        ensures axioms { IfOk result (λ c. Agree (ledger_of c) (axioms extended.entry.now)) }
+        ensures axioms { IfOk result (λ c. (version : ℕ) → Agree (ledger_of c)
+            (beginning (record { version = version; extended = extended.entry.now; imports = map clause_value added.entry.now }))) }
     {
         let outputs = extended.graph().outputs();
         let gates = extended.gates();
@@ -78,6 +87,7 @@ impl<'a> PacChecker<'a> {
         let most_monomials = most_monomials(&live);
         Ok(PacChecker {
             alloc,
+            added,
             extended,
             operands,
             live,
@@ -147,6 +157,7 @@ impl<'a> PacChecker<'a> {
             PacLine::Combination { id, parts, poly } => {
                 self.combination(*id, parts.as_slice(), poly)
             }
+            PacLine::Import { id, clause, poly } => self.import(*id, *clause, poly),
             PacLine::Drop { id } => self.delete(*id),
             PacLine::Close { .. } => unreachable!(),
         }
@@ -237,7 +248,26 @@ impl<'a> PacChecker<'a> {
         self.introduce(id, &parts, poly)
     }
 
-    // The rule of every line that introduces an id: it states the sum of live lines, each times a factor.
+    // An import states the value of an added clause.
+    fn import(&mut self, id: u64, number: u64, stated: &Poly) -> Result<(), LineFault>
+        requires { IsOf self.old.table stated.now }
+        ensures taken { OnOk result
+            (Takes (import_line self.old.table id number stated.now) self.old self.new) }
+        ensures refused { IfErr result
+            (IsRefused self.old (import_line self.old.table id number stated.now)) }
+        ensures unchanged { OnErr result (Grows self.old self.new) }
+    {
+        judge_id(self.last, id)?;
+        let clause = clause_at(self.added, number)?;
+        let mut work = MakeClause {
+            alloc: self.alloc,
+            clause,
+        };
+        let named = self.live.grow(&mut work, &mut ())?;
+        self.state(id, named, stated)
+    }
+
+    // The rule of every line that introduces an id but an import: it states the sum of live lines, each times a factor.
     fn introduce(&mut self, id: u64, parts: &[(u64, &Poly)], stated: &Poly) -> Result<(), LineFault>
         requires parts_of_table { All (λ part. IsOf self.old.table part.1.now) parts.now }
         requires of_table { IsOf self.old.table stated.now }
@@ -304,6 +334,21 @@ fn judge_id(last: u64, id: u64) -> Result<(), LineFault>
         return Err(LineFault::Id);
     }
     Ok(())
+}
+
+// The added clause of a number, from 1 on.
+fn clause_at(added: &ClauseList, number: u64) -> Result<&Clause, LineFault>
+    ensures some { IfOk result (λ c. clause_at added.now number ≡ Some c.now) }
+    ensures none { IfErr result (λ fault. (fault ≡ LineFault.NoSuchClause number) ×
+        (clause_at added.now number ≡ None)) }
+{
+    if number == 0 {
+        return Err(LineFault::NoSuchClause(number));
+    }
+    if number > added.len() as u64 {
+        return Err(LineFault::NoSuchClause(number));
+    }
+    Ok(added.get((number - 1) as usize))
 }
 
 // Parts whose factors are lent.

@@ -1,7 +1,8 @@
 // Works on the table of the live polynomials.
 ghost use Rattle.std.specs.Prelude.{IfOk};
 
-use gate_axioms::spec_poly;
+use clause_core::Clause;
+use gate_axioms::{clause_poly, spec_poly};
 use graph_core::{Graph, Memory, Operands};
 use mv_fact::{Grow, GrowFrom};
 use poly_terms::{Poly, PolySum, Terms};
@@ -78,6 +79,30 @@ impl Grow<Poly> for MakeOne {
 
     fn grow(&mut self, _on: &mut (), table: &mut Terms) -> Result<Poly, Memory> {
         table.make(&[(1, Vec::new(self.alloc))])
+    }
+}
+
+/// Makes the polynomial of a clause.
+#[derive(Drop)]
+pub(crate) struct MakeClause<'a> {
+    pub(crate) alloc: Global,
+    pub(crate) clause: &'a Clause,
+}
+
+impl<'a> Grow<Poly> for MakeClause<'a> {
+    ghost use Rattle.std.specs.Prelude.{IfOk};
+    ghost use Rattle.gate_axioms.specs.ClauseValues.{IsClausePoly};
+    ghost use Rattle.poly_terms.specs.Tables.{IsOf};
+
+    type Out = Result<Poly, Memory>;
+
+    type On = ();
+
+    ghost did = { λ work _ _ out _ _ table'. IfOk out (λ p. IsOf table' p ×
+        IsClausePoly table' p work.clause.now) };
+
+    fn grow(&mut self, _on: &mut (), table: &mut Terms) -> Result<Poly, Memory> {
+        clause_poly(self.alloc, table, self.clause)
     }
 }
 

@@ -1,8 +1,6 @@
 -- Lines that are alike are lawful together, one after the other.
 use Rattle.std.specs.Prelude.{◌≡◌, ℕ, List, [], ◌∷◌}
-use Rattle.std.specs.declared.option.Option.{Option}
-use Rattle.std.specs.declared.option.Option.TheVariants.{None, Some}
-use Rattle.graph_core.specs.Algebra.{LiveLine, Ledger, Line, AreLawfulLines, after, after_all, line_of}
+use Rattle.graph_core.specs.Algebra.{Ledger, Line, AreLawfulLines, after, after_all}
 use Rattle.graph_core.specs.Algebra.Agreement.{Agree}
 use Rattle.graph_core.proofs.OfAlgebra.CallerLemmas.{after_agrees, agree_trans, lawful_agrees, likeness_is_kept}
 use Rattle.graph_core.specs.Algebra.Likeness.{AreAlike}

@@ -6,7 +6,7 @@ use Rattle.std.proofs.Common.{refl, subst, arith, ⊎_elim, eqb-true}
 use Rattle.std.proofs.lemmas.Bool.{cases_Bool}
 use Rattle.std.proofs.lemmas.List.Elements.{All-from_recursion, All-map, recursion_from_All}
 use Rattle.graph_core.specs.Algebra.NormalForm.{IsNormalForm}
-use Rattle.graph_core.specs.Algebra.{LiveLine, Closes, Delete, IsEqual, IsLive, Part, line_of, modulus}
+use Rattle.graph_core.specs.Algebra.{LiveLine, Closes, Delete, IsCombined, IsLive, Part, line_of, modulus}
 use Rattle.graph_core.specs.Algebra.Text.{IsId}
 use Rattle.frontier_core.specs.Pending.{AreSpare}
 use Rattle.frontier_core.proofs.Gathered.{spare_is_lawful}
@@ -65,7 +65,7 @@ combination_is_kept old parts poly id h is room over spare = record {
 
 pub combination_can_follow : (old : Made) (parts : List (ℕ × Sum)) (poly : Sum) (id : ℕ) → AreLawfulSoFar old → id ≡ old.last + 1 → id < 2 ^ 48 →
     AreOver old.extended.max old.table parts poly → AreSpare (modulus old.extended) (ledger_of old).live (parts_in old.table parts) →
-    IsEqual (modulus old.extended) (ledger_of old).live (combination_of old.table 0 parts poly) → CanFollow old id (combination_of old.table id parts poly)
+    IsCombined (modulus old.extended) (ledger_of old).live (parts_in old.table parts) (monomials_in old.table poly) → CanFollow old id (combination_of old.table id parts poly)
 combination_can_follow old parts poly id h is room over spare equal = record {
   lawful = spare_is_lawful (modulus old.extended) (ledger_of old) (parts_in old.table parts) id (monomials_in old.table poly) spare (let last = h.greatest in omega arith) equal;
   spare = record {
@@ -83,7 +83,7 @@ deletion_is_kept old id h live = record { goes_on = tt; «of» = tt; writable = 
 
 pub deletion_can_follow : (old : Made) (id : ℕ) → AreLawfulSoFar old → IsLive (ledger_of old).live id → CanFollow old old.last (Delete id)
 deletion_can_follow old id h live = record {
-  lawful = record { new_id = tt; live_operands = All-from_recursion (IsLive (ledger_of old).live) (id ∷ []) (live, tt); equal = λ σ. refl };
+  lawful = record { new_id = tt; there = tt; live_operands = All-from_recursion (IsLive (ledger_of old).live) (id ∷ []) (live, tt); equal = λ σ. refl };
   spare = tt;
   greatest = h.greatest;
   room = h.room;

@@ -8,7 +8,7 @@ use Rattle.std.proofs.lemmas.List.Elements.{All-cons, All-filter, All-push, filt
 use Rattle.graph_core.specs.Graph.Operands.{Sides}
 use Rattle.graph_core.specs.Graph.Extended.{Extended}
 use Rattle.graph_core.specs.Algebra.Polynomials.{Polynomial, value}
-use Rattle.graph_core.specs.Algebra.{LiveLine, Line, Ledger, Sum, Product, Combination, Delete, AreLawfulLines, Closes, IsNewId, after, after_all, axioms, modulus}
+use Rattle.graph_core.specs.Algebra.{LiveLine, Line, Ledger, Sum, Product, Combination, Import, Delete, AreLawfulLines, Closes, IsNewId, after, after_all, axioms, modulus}
 use Rattle.frontier_core.proofs.LineLemmas.{lines_grow}
 use Rattle.poly_terms.specs.Tables.{Table}
 use Rattle.poly_text.specs.declared.line.PacLine.{PacLine}
@@ -32,6 +32,7 @@ ids_after : (m : ℕ) (l : Ledger) (x : Line) → IsNewId l.last x → All (λ l
 ids_after m l (Sum id i j p) new h = new_id m l.last id p l.live new h
 ids_after m l (Product id i q p) new h = new_id m l.last id p l.live new h
 ids_after m l (Combination id parts p) new h = new_id m l.last id p l.live new h
+ids_after m l (Import id number p) new h = new_id m l.last id p l.live new h
 ids_after m l (Delete id) new h = All-filter (λ x. not (x.id == id)) (λ line. (0 < line.id) × (line.id ≤ l.last)) l.live h
 
 -- ---- the lines that are kept

@@ -14,7 +14,7 @@ use Rattle.poly_terms.specs.Tables.{Table, Extends, IsOf, monomials_in}
 use Rattle.poly_terms.specs.Tables as table
 use Rattle.poly_terms.specs.Laws.{modulus_stays, monomials_stay, stays}
 use Rattle.poly_text.specs.declared.line.PacLine.{PacLine}
-use Rattle.poly_text.specs.declared.line.PacLine.TheVariants.{Sum, Product, Combination, Drop, Close}
+use Rattle.poly_text.specs.declared.line.PacLine.TheVariants.{Sum, Product, Combination, Import, Drop, Close}
 use Rattle.poly_text.specs.Lines.{AreOf, line_in, part_in}
 use Rattle.poly_text.specs.WrittenLaws.{AreUpTo, IsUpTo}
 use Rattle.pac_writer.specs.Writing.{Grows, lines_in, made_of}
@@ -32,6 +32,7 @@ told_stays old new (Sum id i j poly) e h = ap (λ p. Some (algebra.Sum id i j p)
 told_stays old new (Product id i factor poly) e h = ap₂ (λ q p. Some (algebra.Product id i q p)) (monomials_stay old new factor e h.0) (monomials_stay old new poly e h.1)
 told_stays old new (Combination id parts poly) e h =
     ap₂ (λ ps p. Some (algebra.Combination id ps p)) (parts_stay old new parts e (recursion_from_All (λ part. IsOf old part.1) parts h.0)) (monomials_stay old new poly e h.1)
+told_stays old new (Import id number poly) e h = ap (λ p. Some (algebra.Import id number p)) (monomials_stay old new poly e h)
 told_stays old new (Drop id) e h = refl
 told_stays old new (Close id) e h = refl
 
@@ -39,6 +40,7 @@ of_stays : (old new : Table) (x : PacLine) → Extends old new → AreOf old x �
 of_stays old new (Sum id i j poly) e h = stays old new poly e h
 of_stays old new (Product id i factor poly) e h = (stays old new factor e h.0, stays old new poly e h.1)
 of_stays old new (Combination id parts poly) e h = ((λ k d low. stays old new _ e (h.0 k d low)), stays old new poly e h.1)
+of_stays old new (Import id number poly) e h = stays old new poly e h
 of_stays old new (Drop id) e h = tt
 of_stays old new (Close id) e h = tt
 
@@ -49,6 +51,7 @@ up_to_stays : (max : ℕ) (old new : Table) (x : PacLine) → Extends old new �
 up_to_stays max old new (Sum id i j poly) e h up = poly_up_to max old new poly e h up
 up_to_stays max old new (Product id i factor poly) e h up = (poly_up_to max old new factor e h.0 up.0, poly_up_to max old new poly e h.1 up.1)
 up_to_stays max old new (Combination id parts poly) e h up = ((λ k d low. poly_up_to max old new _ e (h.0 k d low) (up.0 k d low)), poly_up_to max old new poly e h.1 up.1)
+up_to_stays max old new (Import id number poly) e h up = poly_up_to max old new poly e h up
 up_to_stays max old new (Drop id) e h up = tt
 up_to_stays max old new (Close id) e h up = tt
 

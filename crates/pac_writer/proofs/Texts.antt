@@ -12,7 +12,7 @@ use Rattle.graph_core.specs.Algebra as algebra
 use Rattle.poly_terms.specs.Tables.{Table, modulus}
 use Rattle.poly_terms.specs.Tables as table
 use Rattle.poly_text.specs.declared.line.PacLine.{PacLine}
-use Rattle.poly_text.specs.declared.line.PacLine.TheVariants.{Sum, Product, Combination, Drop, Close}
+use Rattle.poly_text.specs.declared.line.PacLine.TheVariants.{Sum, Product, Combination, Import, Drop, Close}
 use Rattle.poly_text.specs.Lines.{part_in}
 use Rattle.poly_text.specs.WrittenLines.{joint_text, poly_text, written_text}
 use Rattle.poly_text.specs.WrittenLines as written
@@ -37,6 +37,7 @@ same_line t (Sum id i j poly) xs h = refl
 same_line t (Product id i factor poly) xs h = refl
 same_line t (Combination id parts poly) xs h =
     ap (λ sum. ((decimal id ++ codes " % " ++ sum ++ codes ", " ++ poly_text t poly ++ codes ";") ++ newline ∷ []) ++ lines_text (modulus t) (lines_in t xs)) (same_parts t true parts)
+same_line t (Import id number poly) xs h = absurd h
 same_line t (Drop id) xs h = refl
 same_line t (Close id) xs h = absurd h
 

@@ -1,9 +1,10 @@
--- The text of a certificate, whose numbers are decimal numerals without leading zeros.
+-- The text of a certificate of a version, whose numbers are decimal numerals without leading zeros.
 use Rattle.std.specs.Prelude.{ℕ, Bool, true, false, List, [], ◌∷◌, ◌++◌, codes, decimal}
 use Rattle.std.specs.declared.option.Option.{Option}
 use Rattle.std.specs.declared.option.Option.TheVariants.{None, Some}
 use Rattle.graph_core.specs.Text.{newline}
-use Rattle.graph_core.specs.Algebra.{Line, Sum, Product, Combination, Delete, Part, modulus}
+use Rattle.graph_core.specs.Algebra.{Line, Sum, Product, Combination, Import, Delete, Part, modulus}
+use Rattle.graph_core.specs.Algebra.Text.{algebra_header}
 use Rattle.poly_text.specs.WrittenLines.{joint_text, sum_text}
 use Rattle.pac_writer.specs.Writing.{Made}
 
@@ -21,6 +22,7 @@ abbrev pub line_text : ℕ → Line → List ℕ
 line_text m (Sum id i j p) = decimal id ++ codes " + " ++ decimal i ++ codes ", " ++ decimal j ++ codes ", " ++ sum_text m p ++ codes ";"
 line_text m (Product id i q p) = decimal id ++ codes " * " ++ decimal i ++ codes ", " ++ sum_text m q ++ codes ", " ++ sum_text m p ++ codes ";"
 line_text m (Combination id parts p) = decimal id ++ codes " % " ++ parts_text m true parts ++ codes ", " ++ sum_text m p ++ codes ";"
+line_text m (Import id number p) = decimal id ++ codes " c " ++ decimal number ++ codes ", " ++ sum_text m p ++ codes ";"
 line_text m (Delete id) = decimal id ++ codes " d;"
 
 -- lines, each with its line feed
@@ -34,5 +36,5 @@ closing_text None = []
 closing_text (Some id) = (codes "q " ++ decimal id ++ codes ";") ++ newline ∷ []
 
 -- the header, the lines, and the closing line
-abbrev pub certificate_text : Made → List ℕ
-certificate_text l = (codes "pac 1" ++ newline ∷ []) ++ lines_text (modulus l.extended) l.lines ++ closing_text l.closing
+abbrev pub certificate_text : ℕ → Made → List ℕ
+certificate_text version l = algebra_header version ++ (lines_text (modulus l.extended) l.lines ++ closing_text l.closing)

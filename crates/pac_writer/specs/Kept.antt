@@ -8,18 +8,19 @@ use Rattle.graph_core.specs.Algebra.{Line, IsLawfulLine, after, modulus}
 use Rattle.mv_nums.specs.Residue.{IsWidth}
 use Rattle.poly_terms.specs.Tables.{Table}
 use Rattle.poly_text.specs.declared.line.PacLine.{PacLine}
-use Rattle.poly_text.specs.declared.line.PacLine.TheVariants.{Sum, Product, Combination, Drop, Close}
+use Rattle.poly_text.specs.declared.line.PacLine.TheVariants.{Sum, Product, Combination, Import, Drop, Close}
 use Rattle.poly_text.specs.Lines.{AreOf}
 use Rattle.poly_text.specs.WrittenLaws.{AreUpTo}
 use Rattle.poly_text.specs.WrittenLines.{IsWritable}
 use Rattle.pac_writer.specs.Spare.{IsSpareLine}
 use Rattle.pac_writer.specs.Writing.{Made, AreLawfulSoFar, ledger_of, made_of}
 
--- no closing line
+-- no closing line, and nothing is imported
 abbrev pub GoesOn : PacLine → Type 0
 GoesOn (Sum id i j poly) = Unit {0}
 GoesOn (Product id i factor poly) = Unit {0}
 GoesOn (Combination id parts poly) = Unit {0}
+GoesOn (Import id number poly) = ⊥
 GoesOn (Drop id) = Unit {0}
 GoesOn (Close id) = ⊥
 

@@ -3,7 +3,7 @@ use Rattle.std.specs.Prelude.{◌≢◌, ℕ, List}
 use Rattle.std.specs.List.{All, AllPairs}
 use Rattle.graph_core.specs.Algebra.Polynomials.{Polynomial}
 use Rattle.graph_core.specs.Algebra.NormalForm.{IsNormalForm}
-use Rattle.graph_core.specs.Algebra.{Line, Sum, Product, Combination, Delete, Part}
+use Rattle.graph_core.specs.Algebra.{Line, Sum, Product, Combination, Import, Delete, Part}
 use Rattle.frontier_core.specs.Pending.{IsNotZero}
 
 -- A combination has no line twice and none times 0, and each of its polynomials is a normal form.
@@ -18,4 +18,5 @@ abbrev pub IsSpareLine : ℕ → Line → Type 0
 IsSpareLine m (Sum id i j p) = ⊥
 IsSpareLine m (Product id i q p) = ⊥
 IsSpareLine m (Combination id parts p) = IsSpareCombination m parts p
+IsSpareLine m (Import id number p) = ⊥
 IsSpareLine m (Delete id) = Unit {0}

@@ -5,7 +5,7 @@ use Rattle.std.specs.declared.option.Option.{Option}
 use Rattle.std.specs.declared.option.Option.TheVariants.{None, Some}
 use Rattle.graph_core.specs.Graph.Operands.{Sides}
 use Rattle.graph_core.specs.Graph.Extended.{Extended}
-use Rattle.graph_core.specs.Algebra.{Line, Combination, Part, Ledger, AreLawfulLines, Closes, after, after_all, axioms, modulus}
+use Rattle.graph_core.specs.Algebra.{Line, Combination, Part, Ledger, Premises, AreLawfulLines, Closes, after, after_all, axioms, modulus}
 use Rattle.poly_terms.specs.Tables.{Table, Sum, IsOf, Extends, monomials_in}
 use Rattle.poly_terms.specs.Tables as table
 use Rattle.poly_text.specs.declared.line.PacLine.{PacLine}
@@ -94,3 +94,7 @@ pub record Grows (old new : Made) : Type 0 where
   pub lines : new.lines ≡ old.lines
   pub last : new.last ≡ old.last
   pub closing : new.closing ≡ old.closing
+
+-- what a certificate of a version stands on that imports nothing
+abbrev pub without_imports : ℕ → Extended → Premises
+without_imports version e = record { version = version; extended = e; imports = [] }

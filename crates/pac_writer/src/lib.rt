@@ -2,8 +2,8 @@
 //!
 //! `Lines` starts with the axioms of an extended graph. `combine` puts the sum of live lines times polynomials
 //! behind the others, `drop_line` deletes a live line, and `close` ends the certificate with a line of the
-//! specification's value; each asks its caller for just what makes the line lawful. `emit` writes the whole text,
-//! which is a lawful algebra file, and takes no memory.
+//! specification's value; each asks its caller for just what makes the line lawful. `emit` writes the whole text of a
+//! version, which is a lawful algebra file that imports nothing, and takes no memory.
 //!
 //! *Ledger*: the live lines after all that were made (`ledger_of` in `specs/Writing.antt`). *Puts*: one line more
 //! stands behind the others. *Spare*: no line twice in a combination, none times 0, each polynomial in its normal

@@ -1,10 +1,10 @@
 // The lines of a certificate, each lawful as it is put.
 ghost use Rattle.std.specs.Prelude.{◌≡◌, ◌+◌, ◌<◌, ◌≤◌, ◌^◌, [], All, None, IfOk, OnOk, OnErr, IsSomeAnd, length};
-ghost use Rattle.graph_core.specs.Algebra.{Closes, Delete, IsEqual, IsLive, axioms};
+ghost use Rattle.graph_core.specs.Algebra.{Closes, Delete, IsCombined, IsLive, axioms};
 ghost use Rattle.graph_core.specs.Algebra as algebra;
 ghost use Rattle.frontier_core.specs.Pending.{AreSpare};
 ghost use Rattle.mv_nums.specs.Residue.{IsWidth};
-ghost use Rattle.poly_terms.specs.Tables.{modulus};
+ghost use Rattle.poly_terms.specs.Tables.{modulus, monomials_in};
 ghost use Rattle.poly_text.specs.Lines.{line_in};
 ghost use Rattle.pac_writer.specs.Writing.{AreLawfulSoFar, AreOver, Grows, IsFresh, PutsLine, closed, combination_of, ledger_of, parts_in};
 ghost use Rattle.pac_writer.specs.Kept.{CanFollow, IsKept};
@@ -69,8 +69,8 @@ impl<'a> Lines<'a> {
         requires over { AreOver self.old.extended.max self.old.table parts.items poly }
         requires spare { AreSpare (algebra.modulus self.old.extended) (ledger_of self.old).live
             (parts_in self.old.table parts.items) }
-        requires equal { IsEqual (algebra.modulus self.old.extended) (ledger_of self.old).live
-            (combination_of self.old.table 0 parts.items poly) }
+        requires equal { IsCombined (algebra.modulus self.old.extended) (ledger_of self.old).live
+            (parts_in self.old.table parts.items) (monomials_in self.old.table poly) }
         ensures id { IfOk result (λ id. id ≡ self.old.last + 1) }
         ensures writes { IfOk result
             (λ id. PutsLine (combination_of self.old.table id parts.items poly) id self.old self.new) }

@@ -19,26 +19,27 @@ use Rattle.poly_text.specs.declared.line.PacLine.TheVariants as line
 
 -- ---- refusals of the next line, over any ledger
 
-pub no_line_is_refused : (e : Extended) (s : Sides) (IsLong : List ℕ → Type 0) (l : Ledger) (left : List ℕ) → ¬ (IsLong left) → BeginsWithNone left → IsRefusedNext e s IsLong l left (0, cause.Text)
-no_line_is_refused e s IsLong l left short none = inr (short, inl (none.0, none.1, refl))
+pub no_line_is_refused : (version : ℕ) (e : Extended) (s : Sides) (IsLong : List ℕ → Type 0) (l : Ledger) (left : List ℕ) → ¬ (IsLong left) → BeginsWithNone version left → IsRefusedNext version e s IsLong l left (0, cause.Text)
+no_line_is_refused version e s IsLong l left short none = inr (short, inl (none.0, none.1, refl))
 
-pub out_of_range_is_refused : (e : Extended) (s : Sides) (IsLong : List ℕ → Type 0) (l : Ledger) (left : List ℕ) → ¬ (IsLong left) → BeginsOutOfRange e.max left → IsRefusedNext e s IsLong l left (0, cause.Range)
-out_of_range_is_refused e s IsLong l left short out =
+pub out_of_range_is_refused : (version : ℕ) (e : Extended) (s : Sides) (IsLong : List ℕ → Type 0) (l : Ledger) (left : List ℕ) → ¬ (IsLong left) → BeginsOutOfRange version e.max left → IsRefusedNext version e s IsLong l left (0, cause.Range)
+out_of_range_is_refused version e s IsLong l left short out =
     inr (short, inr (⊎_elim (λ x. inl (x.0, x.1, x.2, (cause.Range, inl (x.3, refl), refl))) (λ q. inr (q.0, q.1, q.2, inl (cause.Range, inl (q.3, refl), refl))) out))
 
-pub long_is_refused : (e : Extended) (s : Sides) (IsLong : List ℕ → Type 0) (l : Ledger) (left : List ℕ) → IsLong left → IsRefusedNext e s IsLong l left (0, cause.TooLong)
-long_is_refused e s IsLong l left long = inl (long, refl)
+pub long_is_refused : (version : ℕ) (e : Extended) (s : Sides) (IsLong : List ℕ → Type 0) (l : Ledger) (left : List ℕ) → IsLong left → IsRefusedNext version e s IsLong l left (0, cause.TooLong)
+long_is_refused version e s IsLong l left long = inl (long, refl)
 
 -- ---- the next line
 
 -- a line that is no closing line
-pub line_there : (t : Table) (max : ℕ) (left rest : List ℕ) (given : PacLine) (y : Line) → line_in t given ≡ Some y → BeginsWith (IsTextOf t max) left given rest →
-    (x : Line) × BeginsWith IsLineText left x rest × IsLineInRange max x × IsLineOf t x given
-line_there t max left rest (line.Sum id i j poly) y e b = (b.1.0, (b.0, b.1.1, b.2), b.1.2, b.1.3)
-line_there t max left rest (line.Product id i factor poly) y e b = (b.1.0, (b.0, b.1.1, b.2), b.1.2, b.1.3)
-line_there t max left rest (line.Combination id parts poly) y e b = (b.1.0, (b.0, b.1.1, b.2), b.1.2, b.1.3)
-line_there t max left rest (line.Drop id) y e b = (b.1.0, (b.0, b.1.1, b.2), b.1.2, b.1.3)
-line_there t max left rest (line.Close id) y e b = absurd (cc)
+pub line_there : (t : Table) (version max : ℕ) (left rest : List ℕ) (given : PacLine) (y : Line) → line_in t given ≡ Some y → BeginsWith (IsTextOf t version max) left given rest →
+    (x : Line) × BeginsWith (IsLineText version) left x rest × IsLineInRange max x × IsLineOf t x given
+line_there t version max left rest (line.Sum id i j poly) y e b = (b.1.0, (b.0, b.1.1, b.2), b.1.2, b.1.3)
+line_there t version max left rest (line.Product id i factor poly) y e b = (b.1.0, (b.0, b.1.1, b.2), b.1.2, b.1.3)
+line_there t version max left rest (line.Combination id parts poly) y e b = (b.1.0, (b.0, b.1.1, b.2), b.1.2, b.1.3)
+line_there t version max left rest (line.Import id number poly) y e b = (b.1.0, (b.0, b.1.1, b.2), b.1.2, b.1.3)
+line_there t version max left rest (line.Drop id) y e b = (b.1.0, (b.0, b.1.1, b.2), b.1.2, b.1.3)
+line_there t version max left rest (line.Close id) y e b = absurd (cc)
 
-pub close_there : (t : Table) (max : ℕ) (left rest : List ℕ) (id : ℕ) → BeginsWith (IsTextOf t max) left (line.Close id) rest → BeginsWith IsCloseText left id rest × IsId id
-close_there t max left rest id b = ((b.0, b.1.0, b.2), b.1.1)
+pub close_there : (t : Table) (version max : ℕ) (left rest : List ℕ) (id : ℕ) → BeginsWith (IsTextOf t version max) left (line.Close id) rest → BeginsWith IsCloseText left id rest × IsId id
+close_there t version max left rest id b = ((b.0, b.1.0, b.2), b.1.1)

@@ -1,18 +1,20 @@
--- What is tested of a cut before its adder is made.
+-- What is tested of a cut, and of a block, before its adder is made.
 use Rattle.std.specs.Prelude.{◌≡◌, ◌↔◌, ℕ, ◌+◌, ◌<◌, ◌≤◌, ◌⊎◌, Bool, false, List, length, ◌==◌, Ok, Err}
 use Rattle.std.specs.declared.result.Result.{Result}
 use Rattle.std.specs.Bool.{IsTrue}
 use Rattle.std.specs.List.{All, AllWithin, HoldsAt}
-use Rattle.std.proofs.Common.{sym, ap, subst, arith, get_or, below_more, eqb-true, eq-eqb, inl, inr, ⊎_elim, Fits, w32}
+use Rattle.std.proofs.Common.{sym, ap, ap₂, subst, ◌∙◌, arith, get_or, below_more, eqb-true, eq-eqb, inl, inr, ⊎_elim, Fits, w32}
 use Rattle.std.proofs.lemmas.List.{get_or_default}
 use Rattle.graph_core.specs.declared.literal.Lit.{Lit}
 use Rattle.graph_core.specs.Graph.{Aig, IsBuilt}
-use Rattle.graph_core.specs.Graph.Extended.{without_cut}
+use Rattle.graph_core.specs.Graph.Extended.{Extended, without_cut}
 use Rattle.ripple_graft.specs.declared.fault.GraftFail.{GraftFail}
 use Rattle.ripple_graft.specs.declared.fault.GraftFail.TheVariants.{Columns, Literal, Memory}
-use Rattle.ripple_graft.specs.Blocks.{Cut, IsCut}
+use Rattle.ripple_graft.specs.Blocks.{Block, Cut, IsBlock, IsCut, block, graft_block, with_cut}
 use Rattle.ripple_graft.specs.Extension.{IsKnown}
-use Rattle.ripple_graft.specs.Grafts.{HasColumns, IsFirstUnknown, IsKnownPair}
+use Rattle.ripple_graft.specs.Grafts.{HasColumns, HasRoom, IsFirstUnknown, IsKnownPair}
+use Rattle.ripple_graft.proofs.BlockLists.{cut_is_block}
+use Rattle.ripple_graft.proofs.GraftedGraphs.{reach_is}
 
 -- ---- columns
 
@@ -50,27 +52,27 @@ few_pairs g cut built h =
 
 -- ---- pairs of known literals
 
-pub none_before : (g : Aig) (pairs : List (Lit × Lit)) → AllWithin (IsKnownPair g) pairs 0 0
-none_before g pairs k d low below = absurd (omega arith)
+pub none_before : (e : Extended) (pairs : List (Lit × Lit)) → AllWithin (IsKnownPair e) pairs 0 0
+none_before e pairs k d low below = absurd (omega arith)
 
-pub known_so_far : (g : Aig) (pairs : List (Lit × Lit)) (i : ℕ) (d e : Lit) → i < length pairs → IsKnown (without_cut g) (get_or pairs i (d, e)).0 → IsKnown (without_cut g) (get_or pairs i (d, e)).1 →
-    AllWithin (IsKnownPair g) pairs 0 i → AllWithin (IsKnownPair g) pairs 0 (i + 1)
-known_so_far g pairs i d e below left right h k x low k_below =
-    below_more (λ n. (y : Lit × Lit) → IsKnownPair g (get_or pairs n y)) i (λ n n_below y. h n y (omega arith) n_below)
-    (λ y. subst (IsKnownPair g) (get_or_default pairs i (d, e) y below) (left, right)) k k_below x
+pub known_so_far : (e : Extended) (pairs : List (Lit × Lit)) (i : ℕ) (l m : Lit) → i < length pairs → IsKnown e (get_or pairs i (l, m)).0 → IsKnown e (get_or pairs i (l, m)).1 →
+    AllWithin (IsKnownPair e) pairs 0 i → AllWithin (IsKnownPair e) pairs 0 (i + 1)
+known_so_far e pairs i l m below left right h k x low k_below =
+    below_more (λ n. (y : Lit × Lit) → IsKnownPair e (get_or pairs n y)) i (λ n n_below y. h n y (omega arith) n_below)
+    (λ y. subst (IsKnownPair e) (get_or_default pairs i (l, m) y below) (left, right)) k k_below x
 
-pub known_all : (g : Aig) (pairs : List (Lit × Lit)) (i : ℕ) → length pairs ≤ i → AllWithin (IsKnownPair g) pairs 0 i → All (IsKnownPair g) pairs
-known_all g pairs i far h k d below = h k d (omega arith) (omega (arith, below, far))
+pub known_all : (e : Extended) (pairs : List (Lit × Lit)) (i : ℕ) → length pairs ≤ i → AllWithin (IsKnownPair e) pairs 0 i → All (IsKnownPair e) pairs
+known_all e pairs i far h k d below = h k d (omega arith) (omega (arith, below, far))
 
-pub left_unknown : (g : Aig) (pairs : List (Lit × Lit)) (i : ℕ) (d e : Lit) (known : Bool) → i < length pairs → known ≡ false → IsTrue known ↔ IsKnown (without_cut g) (get_or pairs i (d, e)).0 →
-    HoldsAt (λ p. ¬ (IsKnownPair g p)) pairs i
-left_unknown g pairs i d e known below not is x h =
-    let t = is.1 (subst (λ p. IsKnown (without_cut g) p.0) (get_or_default pairs i x (d, e) below) h.0) in absurd (cc)
+pub left_unknown : (e : Extended) (pairs : List (Lit × Lit)) (i : ℕ) (l m : Lit) (known : Bool) → i < length pairs → known ≡ false → IsTrue known ↔ IsKnown e (get_or pairs i (l, m)).0 →
+    HoldsAt (λ p. ¬ (IsKnownPair e p)) pairs i
+left_unknown e pairs i l m known below not is x h =
+    let t = is.1 (subst (λ p. IsKnown e p.0) (get_or_default pairs i x (l, m) below) h.0) in absurd (cc)
 
-pub right_unknown : (g : Aig) (pairs : List (Lit × Lit)) (i : ℕ) (d e : Lit) (known : Bool) → i < length pairs → known ≡ false → IsTrue known ↔ IsKnown (without_cut g) (get_or pairs i (d, e)).1 →
-    HoldsAt (λ p. ¬ (IsKnownPair g p)) pairs i
-right_unknown g pairs i d e known below not is x h =
-    let t = is.1 (subst (λ p. IsKnown (without_cut g) p.1) (get_or_default pairs i x (d, e) below) h.1) in absurd (cc)
+pub right_unknown : (e : Extended) (pairs : List (Lit × Lit)) (i : ℕ) (l m : Lit) (known : Bool) → i < length pairs → known ≡ false → IsTrue known ↔ IsKnown e (get_or pairs i (l, m)).1 →
+    HoldsAt (λ p. ¬ (IsKnownPair e p)) pairs i
+right_unknown e pairs i l m known below not is x h =
+    let t = is.1 (subst (λ p. IsKnown e p.1) (get_or_default pairs i x (l, m) below) h.1) in absurd (cc)
 
 pub index_fits : (i few : ℕ) → i < few → few ≤ 256 → Fits w32 i
 index_fits i few below h = omega (arith, below, h)
@@ -80,8 +82,15 @@ index_fits i few below h = omega (arith, below, h)
 pub few_given : (g : Aig) (cut : Cut) (pairs : List (Lit × Lit)) → pairs ≡ cut.pairs → (HasColumns g cut → length cut.pairs ≤ 256) → HasColumns g cut → length pairs ≤ 256
 few_given g cut pairs is few h = subst (λ ps. length ps ≤ 256) (sym is) (few h)
 
-pub cut_is : (g : Aig) (cut : Cut) (pairs : List (Lit × Lit)) → pairs ≡ cut.pairs → HasColumns g cut → All (IsKnownPair g) pairs → IsCut g cut
-cut_is g cut pairs is h known = record { some = h.some; columns = h.columns; known = subst (All (IsKnownPair g)) is known }
+pub cut_is : (g : Aig) (cut : Cut) (pairs : List (Lit × Lit)) (alone : Extended) → pairs ≡ cut.pairs → alone ≡ without_cut g → HasColumns g cut → All (IsKnownPair alone) pairs → IsCut g cut
+cut_is g cut pairs alone is plain h known = record { some = h.some; columns = h.columns; known = subst (λ (e : Extended). All (IsKnownPair e) cut.pairs) plain (subst (All (IsKnownPair alone)) is known) }
+
+-- the cut is a block of the graph alone, with this carry
+pub cut_fits : (g : Aig) (cut : Cut) (alone : Extended) (carry : Bool) → IsCut g cut → alone ≡ without_cut g → carry ≡ (cut.lo + length cut.pairs + 1 == length g.outputs) → IsBlock alone (block cut carry)
+cut_fits g cut alone carry h plain is = subst (λ (e : Extended). IsBlock e (block cut carry)) (sym plain) (subst (λ t. IsBlock (without_cut g) (block cut t)) (sym is) (cut_is_block g cut h))
+
+pub cut_grafted : (g : Aig) (cut : Cut) (alone made : Extended) (carry : Bool) → alone ≡ without_cut g → carry ≡ (cut.lo + length cut.pairs + 1 == length g.outputs) → made ≡ graft_block alone (block cut carry) → made ≡ with_cut g cut
+cut_grafted g cut alone made carry plain is made_is = made_is ∙ ap₂ (λ (e : Extended) t. graft_block e (block cut t)) plain is
 
 -- no two answers of a graft are one
 pub columns_no_literal : {X : Type 0} (r : Result X GraftFail) (i : ℕ) → r ≡ Err Columns → r ≡ Err (Literal i) → ⊥
@@ -99,8 +108,25 @@ made_no_fault r x fault a b = absurd (cc)
 pub no_columns_told : (g : Aig) (cut : Cut) → IsTrue false ↔ HasColumns g cut → HasColumns g cut → ⊥
 no_columns_told g cut is h = let t = is.1 h in absurd (cc)
 
-pub literal_told : {X : Type 0} (g : Aig) (cut : Cut) (pairs : List (Lit × Lit)) (i j : ℕ) (r : Result X GraftFail) → pairs ≡ cut.pairs → HasColumns g cut → IsFirstUnknown g pairs i → r ≡ Err (Literal i) → r ≡ Err (Literal j) →
-    HasColumns g cut × IsFirstUnknown g cut.pairs j
-literal_told g cut pairs i j r is h first a b =
+pub literal_told : {X : Type 0} (g : Aig) (cut : Cut) (pairs : List (Lit × Lit)) (alone : Extended) (i j : ℕ) (r : Result X GraftFail) → pairs ≡ cut.pairs → alone ≡ without_cut g → HasColumns g cut → IsFirstUnknown alone pairs i → r ≡ Err (Literal i) → r ≡ Err (Literal j) →
+    HasColumns g cut × IsFirstUnknown (without_cut g) cut.pairs j
+literal_told g cut pairs alone i j r is plain h first a b =
     let same : i ≡ j = cc in
-    (h, subst (λ k. IsFirstUnknown g cut.pairs k) same (subst (λ ps. IsFirstUnknown g ps i) is first))
+    (h, subst (λ k. IsFirstUnknown (without_cut g) cut.pairs k) same (subst (λ (e : Extended). IsFirstUnknown e cut.pairs i) plain (subst (λ ps. IsFirstUnknown alone ps i) is first)))
+
+-- ---- a block
+
+pub no_room : (e : Extended) (lo pairs : ℕ) (carry : Bool) → (pairs ≡ 0) ⊎ ((pairs ≡ 0 → ⊥) × (length e.graph.outputs < pairs)) → HasRoom e lo pairs carry → ⊥
+no_room e lo pairs carry fault h =
+    let some = h.some in
+    let within = h.within in
+    let wide = (reach_is pairs carry).0 in
+    ⊎_elim (λ (a : pairs ≡ 0). omega arith) (λ (b : (pairs ≡ 0 → ⊥) × (length e.graph.outputs < pairs)). let long = b.1 in omega arith) fault
+
+pub room_few : (e : Extended) (lo pairs : ℕ) (carry : Bool) → length e.graph.outputs ≤ 256 → HasRoom e lo pairs carry → pairs ≤ 256
+room_few e lo pairs carry few h = let within = h.within in let wide = (reach_is pairs carry).0 in omega arith
+
+pub block_is : (e : Extended) (b : Block) (pairs : List (Lit × Lit)) → pairs ≡ b.cut.pairs → HasRoom e b.cut.lo (length pairs) b.carry → All (IsKnownPair e) pairs → IsBlock e b
+block_is e b pairs is room known =
+    let h : HasRoom e b.cut.lo (length b.cut.pairs) b.carry = subst (λ ps. HasRoom e b.cut.lo (length ps) b.carry) is room in
+    record { some = h.some; within = h.within; apart = h.apart; known = subst (All (IsKnownPair e)) is known }

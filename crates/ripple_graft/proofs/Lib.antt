@@ -6,7 +6,8 @@ pub mod OneBlock
 pub mod BlockLists
 pub mod NewOutputs
 pub mod Adders
-pub mod SeenGraphs
+pub mod ReplacedColumns
+pub mod GraftedGraphs
 pub mod KnownLiterals
 pub mod CutTests
 pub mod CallerLemmas

@@ -20,7 +20,7 @@ use Rattle.ripple_graft.proofs.BlockLists.{blocks_extend, length-ripple_outputs}
 
 -- ---- one output
 
-get_from : (cs : List Column) (k : ℕ) (ls : List Lit) (i : ℕ) → slice_get (outputs_from cs k ls) i ≡ option_map (new_or_old cs (k + i)) (slice_get ls i)
+pub get_from : (cs : List Column) (k : ℕ) (ls : List Lit) (i : ℕ) → slice_get (outputs_from cs k ls) i ≡ option_map (new_or_old cs (k + i)) (slice_get ls i)
 get_from cs k [] i = refl
 get_from cs k (l ∷ ls) zero = ap (λ n. Some (new_or_old cs n l)) (omega arith)
 get_from cs k (l ∷ ls) (suc i) = get_from cs (suc k) ls i ∙ ap (λ n. option_map (new_or_old cs n) (slice_get ls i)) (omega arith)

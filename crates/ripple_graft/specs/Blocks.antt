@@ -10,11 +10,11 @@ use Rattle.graph_core.specs.Graph.Literals.{constant_false}
 use Rattle.ripple_graft.specs.Ripple.{ripple_gates, ripple_outputs}
 use Rattle.ripple_graft.specs.Extension.{IsExtension, IsKnown, new_outputs}
 pub use Rattle.ripple_graft.specs.declared.cut.Cut.{Cut}
+pub use Rattle.ripple_graft.specs.declared.block.Block.{Block}
 
--- A cut, and whether the last carry replaces the column behind its sums.
-pub record Block : Type 0 where
-  pub cut : Cut
-  pub carry : Bool
+-- a cut, and whether the last carry replaces the column behind its sums
+abbrev pub block : Cut → Bool → Block
+block cut carry = record { cut = cut; carry = carry }
 
 -- the columns from k on, with their old and new outputs, as far as there are both
 abbrev pub columns : ℕ → List Lit → List Lit → List Column
@@ -22,9 +22,13 @@ columns k [] new = []
 columns k (o ∷ old) [] = []
 columns k (o ∷ old) (r ∷ new) = record { number = k; old = o; new = r } ∷ columns (suc k) old new
 
+-- how many columns so many pairs replace, with the last carry's or without
+abbrev pub reach : ℕ → Bool → ℕ
+reach pairs carry = if carry then pairs + 1 else pairs
+
 -- how many columns a block replaces
 abbrev pub span : Block → ℕ
-span b = if b.carry then length b.cut.pairs + 1 else length b.cut.pairs
+span b = reach (length b.cut.pairs) b.carry
 
 -- Their new outputs, where the adder is in the variables after v; the carry into its first position is the constant 0.
 abbrev pub block_outputs : ℕ → Block → List Lit

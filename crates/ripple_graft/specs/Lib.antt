@@ -2,4 +2,5 @@
 pub mod Ripple
 pub mod Extension
 pub mod Blocks
+pub mod HeaderBlocks
 pub mod Grafts

@@ -1,15 +1,21 @@
-// What stands beside a graph: gates of an adder, and the columns that they replace.
+// What stands beside a graph: gates of adders, and the columns that they replace.
 use graph_core::{Gate, Lit};
 
-// An adder behind a graph's gates.
+// A column with the graph's output and the new one.
+#[derive(Clone, Copy, Debug, Drop)]
+pub struct Replaced {
+    pub number: u32,
+    pub old: Lit,
+    pub new: Lit,
+}
+
+// Adders behind a graph's gates.
 #[derive(Debug, Drop)]
 pub struct Added {
     // the greatest variable
     pub max: u32,
-    // the graph's gates, and then those of the adder
+    // the graph's gates, and then those of the adders
     pub gates: Vec<Gate>,
-    // the first column that is replaced; all above it are
-    pub lo: u32,
-    // the sums and the last carry, for which there may be no column
-    pub outputs: Vec<Lit>,
+    // the columns of each block behind those of the blocks before
+    pub columns: Vec<Replaced>,
 }

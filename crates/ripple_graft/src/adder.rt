@@ -1,26 +1,36 @@
-// The gates and the outputs of a ripple-carry adder behind a graph's gates.
-ghost use Rattle.std.specs.Prelude.{◌≡◌, ◌+◌, ◌<◌, ◌^◌, ◌≤◌, IfOk, length};
-ghost use Rattle.graph_core.specs.Graph.{IsBuilt};
+// The gates and the outputs of a ripple-carry adder behind other gates.
+ghost use Rattle.std.specs.Prelude.{◌≡◌, ◌+◌, ◌*◌, ◌<◌, ◌^◌, IfOk, length};
 ghost use Rattle.graph_core.specs.Graph.Literals.{and_gate, inverted, plain};
-ghost use Rattle.ripple_graft.specs.Blocks.{IsCut};
-ghost use Rattle.ripple_graft.specs.Grafts.{IsAdderOf};
 ghost use Rattle.graph_core.specs.Graph.Positions.{carry_after, position, sum_after};
+ghost use Rattle.ripple_graft.specs.Grafts.{IsAdderBehind};
 
-use crate::added::Added;
-use crate::cut::Cut;
-use graph_core::{Gate, Graph, Lit};
+use graph_core::{Gate, Lit};
 use std::alloc::{AllocError, Global};
 
-// The adder of a cut: seven gates for each pair, numbered on, with the constant 0 as the first carry.
-pub fn adder_of(alloc: Global, graph: &Graph, cut: &Cut) -> Result<Added, AllocError>
-    requires { length cut.now.pairs ≤ 256 }
-    ensures { IfOk result (IsAdderOf graph.now cut.now) }
+// Gates, the last of which are an adder's.
+#[derive(Debug, Drop)]
+pub struct Adder {
+    // the greatest variable
+    pub max: u32,
+    pub gates: Vec<Gate>,
+    // the sums, and the last carry
+    pub outputs: Vec<Lit>,
+}
+
+// The adder of some pairs behind gates: seven gates for each pair, numbered on, with the constant 0 as the first carry.
+pub fn adder_behind(
+    alloc: Global,
+    from: u32,
+    before: Vec<Gate>,
+    pairs: &[(Lit, Lit)],
+) -> Result<Adder, AllocError>
+    requires { from + 7 * length pairs.now < 2 ^ 31 }
+    ensures { IfOk result (IsAdderBehind from before.items pairs.now) }
 {
-    let mut max = graph.max();
+    let mut max = from;
     let mut carry = Lit(0);
-    let mut gates = Vec::from_slice(alloc, graph.gates())?;
+    let mut gates = before;
     let mut outputs = Vec::new(alloc);
-    let pairs = cut.pairs.as_slice();
     for (x, y) in pairs {
         gates.extend_from_slice(&position(max, *x, *y, carry))?;
         outputs.push(sum_after(max))?;
@@ -28,10 +38,9 @@ pub fn adder_of(alloc: Global, graph: &Graph, cut: &Cut) -> Result<Added, AllocE
         max += 7;
     }
     outputs.push(carry)?;
-    Ok(Added {
+    Ok(Adder {
         max,
         gates,
-        lo: cut.lo,
         outputs,
     })
 }

@@ -1,4 +1,4 @@
-// Why a cut is refused.
+// Why a cut is refused, or why blocks are.
 use std::alloc::AllocError;
 use thiserror::Error;
 
@@ -25,4 +25,19 @@ impl From<AllocError> for GraftFail {
     fn from(_error: AllocError) -> GraftFail {
         GraftFail::Memory
     }
+}
+
+/// Why blocks aren't grafted onto a graph.
+#[derive(Clone, Copy, Debug, PartialEq, Eq, Error)]
+pub enum BlocksFail {
+    /// The first block at fault, from 0: it has no pair, or one of its columns isn't there or is replaced by a block before.
+    #[error("columns of block {0}")]
+    Columns(u32),
+    /// The first block at fault and in it the first pair, both from 0, with a literal whose variable is neither 0, an input
+    /// nor a gate of the graph or of a block before.
+    #[error("pair {1} of block {0}")]
+    Literal(u32, u32),
+    /// Want of memory.
+    #[error("want of memory")]
+    Memory,
 }

@@ -1,7 +1,8 @@
 //! Extended graphs: a graph, gates that are added to it, and the output columns that those gates replace.
 //!
 //! A certificate speaks of an extended graph. `Extended::without_cut` is the graph alone; `graft` puts a ripple-carry
-//! adder in place of its last outputs, or tells the first fault of the cut. Only `graft` takes memory.
+//! adder in place of its last outputs, or tells the first fault of the cut, and `graft_blocks` puts several of them in
+//! place of any outputs. Only these, and `with_block`, take memory.
 //!
 //! *Extended graph*, *column*: the records `Extended` and `Column` of `graph_core`, which contracts see. *New
 //! outputs*: those of the graph, but for the replaced columns (`specs/Extension.antt`). *Cut*, `with_cut`: the adder
@@ -10,16 +11,20 @@
 
 mod added;
 mod adder;
+mod block;
+mod columns;
 mod cut;
 mod extended;
 mod fault;
 mod grafting;
 mod laws;
+mod replacing;
 
+pub use block::{Block, BlockList};
 pub use cut::{Cut, Pairs};
 pub use extended::Extended;
-pub use fault::GraftFail;
-pub use grafting::{graft, is_known};
+pub use fault::{BlocksFail, GraftFail};
+pub use grafting::{graft, graft_blocks, is_known};
 pub use laws::{
     block_outputs_are, blocks_add, blocks_are_joined, blocks_extend, cut_is_block, cut_replaces,
     evaluation_goes_on, evaluations_extend, front_evaluates, graft_extends, outputs_are_new,

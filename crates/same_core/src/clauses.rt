@@ -93,7 +93,7 @@ fn judge_lines<D: Desk>(
     let merged_gates = merged.gates();
     let clauses = gate_clauses_of(alloc, merged_gates)?;
     let goals = goals_of(alloc, merged.pairs())?;
-    let mut checker = checker_of(alloc, greatest, merged_gates, &clauses, &goals)?;
+    let mut checker = checker_of(alloc, greatest, merged_gates, &clauses, &goals, 1)?;
     let first = read_line(desk, file, greatest)?;
     judge_from(desk, file, greatest, &mut checker, first)
 }

@@ -22,18 +22,18 @@ proved_ends given (inr (inr (inr memory))) = inr (inr (inr (ap status_of_verify 
 
 module _ (words : List (List ℕ)) (a b c : View) (given : Answer) (status : ℕ) (right : IsRight words a b given) (ends : EndsWith given b c status) (h : HasEnoughBudget words a) where
   abbrev asks : Command
-  asks = Verify h.0 h.1 h.2 h.3
+  asks = Verify h.0 h.1 h.2 h.3 h.4
 
   verify_ends : IsRightOf asks a b given → EndsAsDue 0 (status_of given)
   verify_ends r =
-      let told = enough_is_proved standard.graph (task_of h.1 h.2 h.3) (files_of h.0) a b r.0 r.1 r.3.0 in
+      let told = enough_is_proved standard.graph (task_of h.1 h.2 h.3 h.4) (files_of h.0) a b r.0 r.1 r.3.0 in
       subst (λ x. EndsAsDue 0 (status_of x)) (sym r.2)
-      (proved_ends r.0 (subst (λ file. ProvesEnough standard.graph (task_of h.1 h.2 h.3) file r.0) h.6 told h.7))
+      (proved_ends r.0 (subst (λ file. ProvesEnough standard.graph (task_of h.1 h.2 h.3 h.4) file r.0) h.7 told h.8))
 
   answer_ends : IsRight words a b given → EndsAsDue 0 (status_of given)
-  answer_ends (inl none) = absurd (no_command words asks h.4 none.1)
+  answer_ends (inl none) = absurd (no_command words asks h.5 none.1)
   answer_ends (inr (inl memory)) = inr (inr (inr (ap status_of memory.0)))
-  answer_ends (inr (inr r)) = verify_ends (subst (λ command. IsRightOf command a b given) (one_command words r.0 asks r.1 h.4) r.2)
+  answer_ends (inr (inr r)) = verify_ends (subst (λ command. IsRightOf command a b given) (one_command words r.0 asks r.1 h.5) r.2)
 
   pub run_has_enough : EndsAsDue 0 status
   run_has_enough = go ends

@@ -27,8 +27,8 @@ use Rattle.verdict_program.proofs.Told.{none_told}
 -- what status 0 means
 abbrev pub Succeeds : Command → View → View → Type 0
 Succeeds (Check files claim) a b = IsAsClaimed a files.graph claim
-Succeeds (Verify files claim budget conflicts) a b =
-    IsTold a → TellsNames a → (noted : Option Rewriting) × HoldsPair (task_of claim budget conflicts) (files_of files) b standard.graph noted
+Succeeds (Verify files claim budget conflicts version) a b =
+    IsTold a → TellsNames a → (noted : Option Rewriting) × HoldsPair (task_of claim budget conflicts version) (files_of files) b standard.graph noted
 Succeeds (Eval graph x y order addend) a b = ⊤
 Succeeds (Make design bits adder out) a b = IsTold a → TellsNames a → b.held out ≡ Some (Some (text_for out (designed design bits adder)))
 Succeeds (Trial number) a b = (n : Rewriting) × OfMade (plan_of number) (IsAcceptedWith n)
@@ -37,7 +37,7 @@ Succeeds (CheckSame files) a b = AreTheSame a files.graph files.other
 
 -- where statuses 1, 2 and 5 come
 abbrev pub IsWrongFor : Command → View → Type 0
-IsWrongFor (Verify files claim budget conflicts) a =
+IsWrongFor (Verify files claim budget conflicts version) a =
     HasGraph (profile_of claim.add) standard.graph (bytes_under a files.graph) (λ g. DiffersSomewhere g claim × ((n : Rewriting) × IsNote g claim conflicts n))
 IsWrongFor (Same files conflicts) a =
     pair.HasPair standard.graph (pair.texts_of a (pair_of files)) (λ g h. (inputs : List Bool) × IsDifference g h inputs)
@@ -48,7 +48,7 @@ IsTooGreatFor (Eval graph x y order addend) a = IsValueDue standard.graph (bytes
 IsTooGreatFor command a = ⊥
 
 abbrev pub IsUndecidedFor : Command → View → Type 0
-IsUndecidedFor (Verify files claim budget conflicts) a =
+IsUndecidedFor (Verify files claim budget conflicts version) a =
     HasGraph (profile_of claim.add) standard.graph (bytes_under a files.graph) (λ g. (step : ℕ) × (size : ℕ) × IsFirstAbove g claim budget step size ×
     ((n : Rewriting) × IsNote g claim conflicts n × (tried : List Tried) × AreTried g claim budget (cut_of n) tried) × HaveManyOnes g claim)
 IsUndecidedFor (Trial number) a = (step : ℕ) × (size : ℕ) × (n : Rewriting) × OfMade (plan_of number) (IsUndecidedWith step size n)

@@ -6,16 +6,16 @@ use Rattle.aiger_reader.specs.Refusals.{SpellsWithin}
 use Rattle.aiger_reader.specs.declared.fail.ReadFail.{ReadFail}
 use Rattle.graph_core.specs.Aiger.{Spells}
 use Rattle.graph_core.specs.Aiger.Writing.{ascii_text}
+use Rattle.graph_core.specs.Algebra.{Premises}
 use Rattle.graph_core.specs.Certificates.{IsLawfulAlgebra}
 use Rattle.graph_core.specs.Graph.{Aig}
-use Rattle.graph_core.specs.Graph.Extended.{Extended}
 use Rattle.graph_core.specs.Graph.Operands.{Multiplies, product_under, sides_of}
 use Rattle.graph_core.specs.declared.order.Order.TheVariants.{Separate}
 use Rattle.graph_core.specs.declared.profile.Profile.TheVariants.{Multiplier as TwoOperands}
 use Rattle.graph_maker.specs.declared.design.Design.TheVariants.{Multiplier}
 use Rattle.graph_core.proofs.OfTexts.CallerLemmas.{one_graph}
 use Rattle.joint_checker.specs.Certificates.{IsLawfulPair}
-use Rattle.joint_checker.specs.ClauseFiles.{GivesExtended, IsExtendedOf}
+use Rattle.joint_checker.specs.ClauseFiles.{ArePremisesOf, GivesPremises}
 use Rattle.joint_checker.specs.Files.{HasGraph, texts_of}
 use Rattle.aiger_reader.specs.Refusals.{IsGraphRefusal}
 use Rattle.joint_checker.specs.Outcome.{Gives, IsDue}
@@ -144,7 +144,7 @@ module _ (plan : Plan) (some : 1 ≤ plan.bits) (narrow : plan.bits ≤ 64) (a b
             algebra_held = ap bytes (algebra_is_held clauses algebra a wrote.0 b told tells wrote.1 wrote.2.3);
             graph = h.0;
             spells = subst (λ o. IfSome o (λ b. SpellsWithin TwoOperands no_limits.graph b h.0)) held h.1;
-            pair = pair_is_lawful h.0 trial_task.claim trial_task.conflicts pair.0 clauses algebra pair.2;
+            pair = pair_is_lawful h.0 trial_task pair.0 clauses algebra pair.2;
             does = h.2.0;
             note = (note.0, pair);
           },
@@ -157,18 +157,18 @@ module _ (plan : Plan) (v : View) (n : Rewriting) (held : HoldsGraph v plan) (h 
   lawful : IsLawfulPair (lengths_of no_limits) h.graph (product_under Separate) h.clause_file h.algebra_file
   lawful = h.pair (lengths_of no_limits) (within_no_limits h.clause_file clauses_short) (within_no_limits h.algebra_file algebra_short)
 
-  extended_of : (g : Aig) (bytes : List ℕ) (e : Extended) → GivesExtended (lengths_of no_limits) g bytes e → IsExtendedOf g e
-  extended_of g bytes e k = record { cut = k.cut; takes = k.lawful.takes; itself = k.itself }
+  given_of : (g : Aig) (bytes : List ℕ) (p : Premises) → GivesPremises (lengths_of no_limits) g bytes p → ArePremisesOf g p
+  given_of g bytes p k = record { header = k.header; takes = k.lawful.takes; version = k.same.version; extended = k.same.extended }
 
   acceptance_is_due : IsDue no_limits (product_under Separate) (texts_of v trial_files) checked.Accepted
   acceptance_is_due = (
     h.graph,
     subst (λ o. IfSome o (λ bytes. SpellsWithin TwoOperands no_limits.graph bytes h.graph)) (sym h.graph_held) h.spells,
     (
-      lawful.extended,
-      extended_of h.graph h.clause_file lawful.extended lawful.gives,
-      subst (λ o. IfSome o (λ bytes. GivesExtended (lengths_of no_limits) h.graph bytes lawful.extended)) (sym h.clauses_held) lawful.gives,
-      (subst (λ o. IfSome o (IsLawfulAlgebra (lengths_of no_limits) lawful.extended (sides_of Separate h.graph))) (sym h.algebra_held) lawful.lawful, tt),
+      lawful.premises,
+      given_of h.graph h.clause_file lawful.premises lawful.gives,
+      subst (λ o. IfSome o (λ bytes. GivesPremises (lengths_of no_limits) h.graph bytes lawful.premises)) (sym h.clauses_held) lawful.gives,
+      (subst (λ o. IfSome o (IsLawfulAlgebra (lengths_of no_limits) lawful.premises (sides_of Separate h.graph))) (sym h.algebra_held) lawful.lawful, tt),
     ),
   )
 

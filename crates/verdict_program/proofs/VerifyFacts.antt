@@ -23,20 +23,20 @@ use Rattle.verdict_program.specs.Answer.{status_of, status_of_verify}
 use Rattle.verdict_program.specs.Runs.{DiffersSomewhere, EndsAsDue, IsTold, TellsNames, files_of, standard, task_of}
 use Rattle.verdict_program.proofs.Facts.{Facts}
 
-module _ (files : named.Files) (claim : Claim) (budget conflicts : ℕ) (a b : View) (apart : AreApart files) (noted : Option Rewriting) where
+module _ (files : named.Files) (claim : Claim) (budget conflicts version : ℕ) (a b : View) (apart : AreApart files) (noted : Option Rewriting) where
   abbrev Is : Verdict → Type 0
-  Is outcome = IsVerdict standard.graph (task_of claim budget conflicts) (files_of files) a b outcome noted
+  Is outcome = IsVerdict standard.graph (task_of claim budget conflicts version) (files_of files) a b outcome noted
 
-  note_there : (g : Aig) (P : Option Cut → Type 0) → HasNote g (task_of claim budget conflicts) noted P → (n : Rewriting) × IsNote g claim conflicts n × P (cut_of n)
+  note_there : (g : Aig) (P : Option Cut → Type 0) → HasNote g (task_of claim budget conflicts version) noted P → (n : Rewriting) × IsNote g claim conflicts n × P (cut_of n)
   note_there g P h = go noted h
     where
-      go : (told : Option Rewriting) → HasNote g (task_of claim budget conflicts) told P → (n : Rewriting) × IsNote g claim conflicts n × P (cut_of n)
+      go : (told : Option Rewriting) → HasNote g (task_of claim budget conflicts version) told P → (n : Rewriting) × IsNote g claim conflicts n × P (cut_of n)
       go None k = absurd k
       go (Some n) k = (n, k.0, k.1)
 
-  zero : (outcome : Verdict) → Is outcome → status_of_verify outcome ≡ 0 → IsTold a → TellsNames a → HoldsPair (task_of claim budget conflicts) (files_of files) b standard.graph noted
+  zero : (outcome : Verdict) → Is outcome → status_of_verify outcome ≡ 0 → IsTold a → TellsNames a → HoldsPair (task_of claim budget conflicts version) (files_of files) b standard.graph noted
   zero verdict.Proved h e told names =
-      proved_pairs_are_held standard.graph (task_of claim budget conflicts) (files_of files) a b noted (record { held = told; names = names })
+      proved_pairs_are_held standard.graph (task_of claim budget conflicts version) (files_of files) a b noted (record { held = told; names = names })
       (record { clauses = apart.clauses; algebra = apart.algebra; certificates = apart.certificates }) h
   zero (verdict.Wrong x y value product) h e told names = absurd (omega arith)
   zero (verdict.WrongSum x y z value sum) h e told names = absurd (omega arith)
@@ -110,7 +110,7 @@ module _ (files : named.Files) (claim : Claim) (budget conflicts : ℕ) (a b : V
   as_due due given (inr (inr (inl fault))) = inr (inr (inl (ap status_of_verify fault)))
   as_due due given (inr (inr (inr none))) = inr (inr (inr (ap status_of_verify none)))
 
-  pub verify_facts : (outcome : Verdict) → Is outcome → Facts (Verify files claim budget conflicts) a b (answer.Verified outcome noted)
+  pub verify_facts : (outcome : Verdict) → Is outcome → Facts (Verify files claim budget conflicts version) a b (answer.Verified outcome noted)
   verify_facts outcome h = record {
     zero = λ e told names. (noted, zero outcome h e told names);
     one = λ e. one outcome h e;
@@ -119,5 +119,5 @@ module _ (files : named.Files) (claim : Claim) (budget conflicts : ℕ) (a b : V
     six = λ e. six outcome h e;
     seven = λ e. seven outcome h e;
     due = λ told due k. subst (λ d. EndsAsDue (status_of d) (status_of_verify outcome)) (sym k.2)
-        (let file = k.3 in as_due k.0 outcome (verdicts_are_exact standard.graph (task_of claim budget conflicts) (files_of files) a b file.0 k.0 outcome noted file.1 file.2 h));
+        (let file = k.3 in as_due k.0 outcome (verdicts_are_exact standard.graph (task_of claim budget conflicts version) (files_of files) a b file.0 k.0 outcome noted file.1 file.2 h));
   }

@@ -47,9 +47,9 @@ multiplier_of number = record { plan = plan_of number; gates = length (graph_of 
 
 -- ---- what is said of it
 
--- what is asked: the product under the order `separate`, within the default budgets
+-- what is asked: the product under the order `separate`, within the default budgets, by certificates of version 1
 abbrev pub trial_task : Task
-trial_task = record { claim = product_under Separate; budget = default_budget; conflicts = default_conflicts }
+trial_task = record { claim = product_under Separate; budget = default_budget; conflicts = default_conflicts; version = 1 }
 
 -- the lengths that files in memory may have
 abbrev pub no_limits : Limits

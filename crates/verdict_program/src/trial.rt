@@ -106,6 +106,7 @@ fn verdict_on(
         claim: PRODUCT,
         budget: BUDGET,
         conflicts: CONFLICTS,
+        version: 1,
     };
     verify(alloc, desk, &task, &NO_LIMITS, names)
 }

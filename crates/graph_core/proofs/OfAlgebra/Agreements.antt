@@ -1,6 +1,6 @@
 -- Ledgers that agree take the same lines, refuse the same for the same causes, and agree afterwards.
 use Rattle.std.specs.Prelude.{IsSome, is_some, not, cond, ◌==◌}
-use Rattle.std.proofs.Common.{inl, inr, ◌≡◌, ℕ, ◌+◌, ◌*◌, ◌%◌, Bool, true, false, List, [], ◌∷◌, refl, sym, ap, ap₂, subst, ◌∙◌}
+use Rattle.std.proofs.Common.{inl, inr, ◌≡◌, ℕ, zero, suc, ◌+◌, ◌*◌, ◌%◌, Bool, true, false, List, [], ◌∷◌, refl, sym, ap, ap₂, subst, ◌∙◌}
 use Rattle.std.specs.declared.option.Option.{Option}
 use Rattle.std.specs.declared.option.Option.TheVariants.{None, Some}
 use Rattle.std.specs.List.{filter}
@@ -9,10 +9,10 @@ use Rattle.graph_core.specs.Graph.Operands.{Sides}
 use Rattle.graph_core.specs.Graph.Assignments.{Assignment}
 use Rattle.graph_core.specs.Algebra.Polynomials.{Polynomial, value}
 use Rattle.graph_core.specs.Graph.Extended.{Extended}
-use Rattle.graph_core.specs.Algebra.{LiveLine, Line, Part, Sum, Product, Combination, Delete, Ledger, IsLive, line_of, value_of, value_or_zero, combined, named, operands, IsNewId, IsLawfulLine, introduce, after, Closes, modulus}
+use Rattle.graph_core.specs.Algebra.{LiveLine, Line, Part, Sum, Product, Combination, Import, Delete, Ledger, IsLive, IsThere, import_of, import_or_zero, line_of, value_of, value_or_zero, combined, named, operands, IsNewId, IsLawfulLine, introduce, after, Closes, modulus}
 use Rattle.graph_core.specs.Algebra.Refusal.{AlgebraCause, first_missing, IsRefusedLine, IsRefusedClose}
 use Rattle.graph_core.specs.Algebra.InRange.{IsRefusedInRange, IsRefusedCloseInRange}
-use Rattle.graph_core.specs.Algebra.Agreement.{AreSame, AreSameLines, Agree}
+use Rattle.graph_core.specs.Algebra.Agreement.{AreSame, AreSameImports, AreSameLines, Agree}
 
 pub same_refl : (x : Option LiveLine) → AreSame x x
 same_refl None = tt
@@ -52,14 +52,62 @@ same_live None (Some y) h s = absurd h
 same_live (Some x) None h s = absurd h
 same_live (Some x) (Some y) h s = refl
 
+-- ---- what may be imported
+
+pub imports_refl : (fs : List (Assignment → ℕ)) → AreSameImports fs fs
+imports_refl [] = tt
+imports_refl (f ∷ fs) = ((λ σ. refl), imports_refl fs)
+
+imports_sym : (fs gs : List (Assignment → ℕ)) → AreSameImports fs gs → AreSameImports gs fs
+imports_sym [] [] h = tt
+imports_sym [] (g ∷ gs) h = absurd h
+imports_sym (f ∷ fs) [] h = absurd h
+imports_sym (f ∷ fs) (g ∷ gs) h = ((λ σ. sym (h.0 σ)), imports_sym fs gs h.1)
+
+imports_trans : (fs gs hs : List (Assignment → ℕ)) → AreSameImports fs gs → AreSameImports gs hs → AreSameImports fs hs
+imports_trans [] [] hs h j = j
+imports_trans [] (g ∷ gs) hs h j = absurd h
+imports_trans (f ∷ fs) [] hs h j = absurd h
+imports_trans (f ∷ fs) (g ∷ gs) [] h j = absurd j
+imports_trans (f ∷ fs) (g ∷ gs) (k ∷ hs) h j = ((λ σ. h.0 σ ∙ j.0 σ), imports_trans fs gs hs h.1 j.1)
+
+import_same : (fs gs : List (Assignment → ℕ)) → AreSameImports fs gs → (number : ℕ) (σ : Assignment) → import_or_zero (import_of fs number) σ ≡ import_or_zero (import_of gs number) σ
+import_same fs gs h zero σ = refl
+import_same [] [] h (suc i) σ = refl
+import_same [] (g ∷ gs) h (suc i) σ = absurd h
+import_same (f ∷ fs) [] h (suc i) σ = absurd h
+import_same (f ∷ fs) (g ∷ gs) h (suc zero) σ = h.0 σ
+import_same (f ∷ fs) (g ∷ gs) h (suc (suc i)) σ = import_same fs gs h.1 (suc i) σ
+
+import_there : (fs gs : List (Assignment → ℕ)) → AreSameImports fs gs → (number : ℕ) → IsSome (import_of fs number) → IsSome (import_of gs number)
+import_there fs gs h zero s = absurd (cc)
+import_there [] [] h (suc i) s = s
+import_there [] (g ∷ gs) h (suc i) s = absurd h
+import_there (f ∷ fs) [] h (suc i) s = absurd h
+import_there (f ∷ fs) (g ∷ gs) h (suc zero) s = refl
+import_there (f ∷ fs) (g ∷ gs) h (suc (suc i)) s = import_there fs gs h.1 (suc i) s
+
+there_same : (fs gs : List (Assignment → ℕ)) → AreSameImports fs gs → (x : Line) → IsThere fs x → IsThere gs x
+there_same fs gs h (Sum id i j p) t = t
+there_same fs gs h (Product id i q p) t = t
+there_same fs gs h (Combination id parts p) t = t
+there_same fs gs h (Import id number p) t = import_there fs gs h number t
+there_same fs gs h (Delete id) t = t
+
+-- ---- ledgers
+
 pub agree_refl : (l : Ledger) → Agree l l
-agree_refl l = record { last = refl; lines = λ id. same_refl (line_of l.live id) }
+agree_refl l = record { last = refl; lines = λ id. same_refl (line_of l.live id); imports = imports_refl l.imports }
 
 pub agree_sym : (l k : Ledger) → Agree l k → Agree k l
-agree_sym l k a = record { last = sym a.last; lines = λ id. same_sym (line_of l.live id) (line_of k.live id) (a.lines id) }
+agree_sym l k a = record { last = sym a.last; lines = λ id. same_sym (line_of l.live id) (line_of k.live id) (a.lines id); imports = imports_sym l.imports k.imports a.imports }
 
 pub agree_trans : (l k j : Ledger) → Agree l k → Agree k j → Agree l j
-agree_trans l k j a b = record { last = a.last ∙ b.last; lines = λ id. same_trans (line_of l.live id) (line_of k.live id) (line_of j.live id) (a.lines id) (b.lines id) }
+agree_trans l k j a b = record {
+  last = a.last ∙ b.last;
+  lines = λ id. same_trans (line_of l.live id) (line_of k.live id) (line_of j.live id) (a.lines id) (b.lines id);
+  imports = imports_trans l.imports k.imports j.imports a.imports b.imports;
+}
 
 pub lines_trans : (xs ys zs : List LiveLine) → AreSameLines xs ys → AreSameLines ys zs → AreSameLines xs zs
 lines_trans xs ys zs a b = λ id. same_trans (line_of xs id) (line_of ys id) (line_of zs id) (a id) (b id)
@@ -79,10 +127,11 @@ combined_agrees : (m : ℕ) (l k : Ledger) → Agree l k → (parts : List Part)
 combined_agrees m l k a [] σ = refl
 combined_agrees m l k a (p ∷ ps) σ = ap₂ (λ x y. x * value m p.factor σ + y) (value_agrees l k a p.id σ) (combined_agrees m l k a ps σ)
 
-named_agrees : (m : ℕ) (l k : Ledger) → Agree l k → (x : Line) (σ : Assignment) → named m l.live x σ ≡ named m k.live x σ
+named_agrees : (m : ℕ) (l k : Ledger) → Agree l k → (x : Line) (σ : Assignment) → named m l x σ ≡ named m k x σ
 named_agrees m l k a (Sum id i j p) σ = ap₂ (λ x y. x + y) (value_agrees l k a i σ) (value_agrees l k a j σ)
 named_agrees m l k a (Product id i q p) σ = ap (λ x. x * value m q σ) (value_agrees l k a i σ)
 named_agrees m l k a (Combination id parts p) σ = combined_agrees m l k a parts σ
+named_agrees m l k a (Import id number p) σ = import_same l.imports k.imports a.imports number σ
 named_agrees m l k a (Delete id) σ = refl
 
 -- the same lines are lawful
@@ -90,6 +139,7 @@ pub lawful_agrees : (m : ℕ) (l k : Ledger) → Agree l k → (x : Line) → Is
 lawful_agrees m l k a x h = record {
   new_id = subst (λ n. IsNewId n x) a.last h.new_id;
   live_operands = λ i d low. live_agrees l k a _ (h.live_operands i d low);
+  there = there_same l.imports k.imports a.imports x h.there;
   equal = λ σ. h.equal σ ∙ ap (λ n. n % m) (named_agrees m l k a x σ);
 }
 
@@ -102,15 +152,26 @@ pub refused_in_range_agrees : (e : Extended) (l k : Ledger) → Agree l k → (x
 refused_in_range_agrees e l k a x cause (inl (bad, same)) = inl ((λ new. bad (subst (λ n. IsNewId n x) (sym a.last) new)), same)
 refused_in_range_agrees e l k a x cause (inr (new, inl (id, missing, same))) =
     inr (subst (λ n. IsNewId n x) a.last new, inl (id, sym (missing_same l.live k.live a.lines (operands x)) ∙ missing, same))
-refused_in_range_agrees e l k a x cause (inr (new, inr (live, inl (apart, same)))) =
+refused_in_range_agrees e l k a x cause (inr (new, inr (live, inl (absent, same)))) =
     inr (
       subst (λ n. IsNewId n x) a.last new,
       inr (
         (λ i d low. live_agrees l k a _ (live i d low)),
-        inl ((apart.0, λ is. apart.1 (is ∙ ap (λ n. n % modulus e) (sym (named_agrees (modulus e) l k a x apart.0)))), same),
+        inl ((λ there. absent (there_same k.imports l.imports (imports_sym l.imports k.imports a.imports) x there)), same),
       ),
     )
-refused_in_range_agrees e l k a x cause (inr (new, inr (live, inr (equal, never)))) = absurd never
+refused_in_range_agrees e l k a x cause (inr (new, inr (live, inr (there, inl (apart, same))))) =
+    inr (
+      subst (λ n. IsNewId n x) a.last new,
+      inr (
+        (λ i d low. live_agrees l k a _ (live i d low)),
+        inr (
+          there_same l.imports k.imports a.imports x there,
+          inl ((apart.0, λ is. apart.1 (is ∙ ap (λ n. n % modulus e) (sym (named_agrees (modulus e) l k a x apart.0)))), same),
+        ),
+      ),
+    )
+refused_in_range_agrees e l k a x cause (inr (new, inr (live, inr (there, inr (equal, never))))) = absurd never
 
 pub refused_agrees : (e : Extended) (l k : Ledger) → Agree l k → (x : Line) (cause : AlgebraCause) → IsRefusedLine e l x cause → IsRefusedLine e k x cause
 refused_agrees e l k a x cause (inl w) = inl w
@@ -133,7 +194,7 @@ refused_close_agrees e sides l k a id cause (inr (range, refused)) = inr (range,
 -- ---- afterwards
 
 pub introduce_agrees : (m : ℕ) (l k : Ledger) → Agree l k → (id : ℕ) (p : Polynomial) → Agree (introduce m l id p) (introduce m k id p)
-introduce_agrees m l k a id p = record { last = refl; lines = λ other. go other (id == other) }
+introduce_agrees m l k a id p = record { last = refl; lines = λ other. go other (id == other); imports = a.imports }
   where
     go : (other : ℕ) (b : Bool) → AreSame (cond b (Some (record { id = id; value = value m p })) (line_of l.live other)) (cond b (Some (record { id = id; value = value m p })) (line_of k.live other))
     go other true = λ σ. refl
@@ -156,7 +217,7 @@ line_of-deleted (x ∷ live) id other = go (x.id == id) refl (x.id == other) ref
     go false f false g rest = ap (λ b. cond b (Some x) (line_of (filter (λ x. not (x.id == id)) live) other)) g ∙ rest
 
 delete_agrees : (m : ℕ) (l k : Ledger) → Agree l k → (id : ℕ) → Agree (after m l (Delete id)) (after m k (Delete id))
-delete_agrees m l k a id = record { last = a.last; lines = λ other. subst₂ (sym (line_of-deleted l.live id other)) (sym (line_of-deleted k.live id other)) (go other (other == id)) }
+delete_agrees m l k a id = record { last = a.last; imports = a.imports; lines = λ other. subst₂ (sym (line_of-deleted l.live id other)) (sym (line_of-deleted k.live id other)) (go other (other == id)) }
   where
     subst₂ : {x y z w : Option LiveLine} → x ≡ y → z ≡ w → AreSame x z → AreSame y w
     subst₂ {x} {y} {z} {w} e f h = subst (λ t. AreSame t w) e (subst (AreSame x) f h)
@@ -170,4 +231,5 @@ pub after_agrees : (m : ℕ) (l k : Ledger) → Agree l k → (x : Line) → Agr
 after_agrees m l k a (Sum id i j p) = introduce_agrees m l k a id p
 after_agrees m l k a (Product id i q p) = introduce_agrees m l k a id p
 after_agrees m l k a (Combination id parts p) = introduce_agrees m l k a id p
+after_agrees m l k a (Import id number p) = introduce_agrees m l k a id p
 after_agrees m l k a (Delete id) = delete_agrees m l k a id

@@ -21,7 +21,7 @@ use Rattle.graph_core.proofs.OfAlgebra.Sound.{specification-zero, axioms-vanish}
 use Rattle.graph_core.proofs.OfGraphs.Multiplies.{whole_products}
 use Rattle.graph_core.proofs.OfAiger.Soundness.{vanishing_multiplies}
 use Rattle.graph_core.proofs.OfAiger.Rows.{one_bit, one_bit_text, one_bit_is_spelled}
-use Rattle.graph_core.proofs.OfAlgebra.LineRows.{plus, minus, single, sides, spec_text, negated_gate, certificate_is_lawful, axiom_does_not_close}
+use Rattle.graph_core.proofs.OfAlgebra.LineRows.{plus, minus, premises, single, sides, spec_text, negated_gate, certificate_is_lawful, axiom_does_not_close}
 
 -- a numeral of one digit
 digit : (d b : ℕ) → 1 ≤ d → 48 ≤ b → b < 58 → IsNumeral d (b ∷ []) (decimal (b ∷ []))
@@ -45,7 +45,7 @@ stated_text = (
 abbrev the_part : Part
 the_part = record { id = 3; factor = minus 1 [] ∷ [] }
 
-the_line : IsLineText (codes "6 % 3 * (-1), x3-x1*x2;") (Combination 6 (the_part ∷ []) spec_text)
+the_line : IsLineText 1 (codes "6 % 3 * (-1), x3-x1*x2;") (Combination 6 (the_part ∷ []) spec_text)
 the_line = (
   codes "6",
   codes "3 * (-1)",
@@ -60,7 +60,7 @@ the_line = (
 abbrev algebra_text : List ℕ
 algebra_text = codes "pac 1" ++ newline ∷ (codes "6 % 3 * (-1), x3-x1*x2;" ++ newline ∷ (codes "q 6;" ++ newline ∷ []))
 
-the_text : IsAlgebraText algebra_text negated_gate 6
+the_text : IsAlgebraText 1 algebra_text negated_gate 6
 the_text = (
   codes "6 % 3 * (-1), x3-x1*x2;" ++ newline ∷ (codes "q 6;" ++ newline ∷ []),
   codes "q 6;" ++ newline ∷ [],
@@ -95,7 +95,7 @@ line_in_range = (
   stated_in_range,
 )
 
-algebra_file_is_lawful : IsLawfulAlgebraFile single sides algebra_text
+algebra_file_is_lawful : IsLawfulAlgebraFile premises sides algebra_text
 algebra_file_is_lawful = record {
   lines = negated_gate;
   closing = 6;
@@ -110,20 +110,20 @@ one_bit_multiplies : MultipliesWhole one_bit Separate
 one_bit_multiplies =
     (whole_products one_bit Separate refl).0
     (vanishing_multiplies one_bit_text one_bit Separate one_bit_is_spelled (λ σ evaluates.
-    specification-zero single sides σ algebra_file_is_lawful.lines algebra_file_is_lawful.closing algebra_file_is_lawful.lawful
+    specification-zero premises sides σ algebra_file_is_lawful.lines algebra_file_is_lawful.closing algebra_file_is_lawful.lawful tt
     (axioms-vanish single σ evaluates (All-from_recursion (λ (c : Column). literal σ c.old ≡ literal σ c.new) [] tt))))
 
 -- pac 1, and q 3;
 abbrev negative_text : List ℕ
 negative_text = codes "pac 1" ++ newline ∷ (codes "q 3;" ++ newline ∷ [])
 
-negative_is_read : algebra_at negative_text ≡ Some ([], 3)
+negative_is_read : algebra_at 1 negative_text ≡ Some ([], 3)
 unfolding algebra_line_at many_at
 negative_is_read = refl
 
 -- The axiom of the gate is the negative of the specification.
-negative_is_not_lawful : IsLawfulAlgebraFile single sides negative_text → ⊥
+negative_is_not_lawful : IsLawfulAlgebraFile premises sides negative_text → ⊥
 negative_is_not_lawful h =
-    let read = (algebra_is_read negative_text h.lines h.closing).1 h.text in
+    let read = (algebra_is_read 1 negative_text h.lines h.closing).1 h.text in
     let same : (h.lines, h.closing) ≡ ([], 3) = same_Some (h.lines, h.closing) ([], 3) (sym read ∙ negative_is_read) in
-    axiom_does_not_close (subst (λ r. AreLawful single sides r.0 r.1) same h.lawful)
+    axiom_does_not_close (subst (λ r. AreLawful premises sides r.0 r.1) same h.lawful)

@@ -5,9 +5,9 @@ use Rattle.std.specs.declared.option.Option.TheVariants.{None, Some}
 use Rattle.std.specs.List.{filter}
 use Rattle.std.proofs.Common.{refl, sym, ap, ◌∙◌, arith, eq-eqb, eqb-true}
 use Rattle.std.proofs.lemmas.List.Elements.{All-from_recursion, recursion_from_All}
-use Rattle.graph_core.specs.Algebra.{LiveLine, line_of, after, after_all, axioms, modulus}
+use Rattle.graph_core.specs.Algebra.{LiveLine, line_of, after, after_all, beginning, modulus}
 use Rattle.graph_core.specs.Algebra.Ledgers.{LedgerIsMap, LinesKeepZero, LiveLinesVanish}
-use Rattle.graph_core.proofs.OfAlgebra.Sound.{after-vanish, after_all-vanish, axioms-vanish}
+use Rattle.graph_core.proofs.OfAlgebra.Sound.{after-vanish, after_all-vanish, axioms-vanish, met-zero}
 
 dropped : (id : ℕ) (live : List LiveLine) (k : ℕ) → line_of (filter (λ x. not (x.id == id)) live) k ≡ cond (id == k) None (line_of live k)
 dropped id [] k = nothing (id == k)
@@ -30,7 +30,9 @@ pub ledger_is_map : LedgerIsMap
 ledger_is_map = (λ m l id p k. refl, λ m l id k. dropped id l.live k)
 
 pub lines_keep_zero : LinesKeepZero
-lines_keep_zero m l x σ w h = All-from_recursion (λ y. y.value σ ≡ 0) (after m l x).live (after-vanish m σ l x w (recursion_from_All (λ y. y.value σ ≡ 0) l.live h))
+lines_keep_zero m l x σ w z h = All-from_recursion (λ y. y.value σ ≡ 0) (after m l x).live (after-vanish m σ l x w (recursion_from_All (λ f. f σ ≡ 0) l.imports z) (recursion_from_All (λ y. y.value σ ≡ 0) l.live h))
 
 pub live_lines_vanish : LiveLinesVanish
-live_lines_vanish e lines σ w h a = All-from_recursion (λ l. l.value σ ≡ 0) (after_all (modulus e) (axioms e) lines).live (after_all-vanish (modulus e) σ (axioms e) lines w (axioms-vanish e σ h a))
+live_lines_vanish p lines σ w h met =
+    All-from_recursion (λ l. l.value σ ≡ 0) (after_all (modulus p.extended) (beginning p) lines).live
+    (after_all-vanish (modulus p.extended) σ (beginning p) lines w (met-zero p σ met) (axioms-vanish p.extended σ h met.columns))

@@ -8,7 +8,7 @@ use Rattle.graph_core.specs.Graph.Assignments.{Assignment}
 use Rattle.graph_core.specs.Graph.Operands.{Sides, sides_of}
 use Rattle.graph_core.specs.Algebra.Polynomials.{Term, Polynomial, value}
 use Rattle.graph_core.specs.Graph.Extended.{Extended, without_cut}
-use Rattle.graph_core.specs.Algebra.{Part, Line, Combination, axioms, combined, AreLawful, IsLive, specification}
+use Rattle.graph_core.specs.Algebra.{Part, Line, Combination, Premises, axioms, combined, AreLawful, IsLive, specification}
 use Rattle.graph_core.proofs.OfAiger.Rows.{one_bit}
 
 abbrev pub plus : ℕ → List ℕ → Term
@@ -23,6 +23,10 @@ three x y z v = if v == 1 then x else (if v == 2 then y else z)
 
 abbrev pub single : Extended
 single = without_cut one_bit
+
+-- of version 1, with nothing to import
+abbrev pub premises : Premises
+premises = record { version = 1; extended = single; imports = [] }
 
 abbrev pub sides : Sides
 sides = sides_of Separate one_bit
@@ -61,8 +65,8 @@ closes false true false = refl
 closes false false true = refl
 closes false false false = refl
 
-pub certificate_is_lawful : AreLawful single sides negated_gate 6
-certificate_is_lawful = ((record { new_id = omega arith; live_operands = three_is_live; equal = λ σ. states (σ 1) (σ 2) (σ 3) }, tt), (refl, λ σ. closes (σ 1) (σ 2) (σ 3)))
+pub certificate_is_lawful : AreLawful premises sides negated_gate 6
+certificate_is_lawful = ((record { new_id = omega arith; live_operands = three_is_live; there = tt; equal = λ σ. states (σ 1) (σ 2) (σ 3) }, tt), (refl, λ σ. closes (σ 1) (σ 2) (σ 3)))
 
 -- 6 % 3 * (3), x3-x1*x2;  coefficients count modulo 4
 tripled : (x y z : Bool) → value 4 spec_text (three x y z) ≡ combined 4 (axioms single).live (parts_of (plus 3 [] ∷ [])) (three x y z) % 4
@@ -75,8 +79,8 @@ tripled false true false = refl
 tripled false false true = refl
 tripled false false false = refl
 
-pub tripled_is_lawful : AreLawful single sides (Combination 6 (parts_of (plus 3 [] ∷ [])) spec_text ∷ []) 6
-tripled_is_lawful = ((record { new_id = omega arith; live_operands = three_is_live; equal = λ σ. tripled (σ 1) (σ 2) (σ 3) }, tt), (refl, λ σ. closes (σ 1) (σ 2) (σ 3)))
+pub tripled_is_lawful : AreLawful premises sides (Combination 6 (parts_of (plus 3 [] ∷ [])) spec_text ∷ []) 6
+tripled_is_lawful = ((record { new_id = omega arith; live_operands = three_is_live; there = tt; equal = λ σ. tripled (σ 1) (σ 2) (σ 3) }, tt), (refl, λ σ. closes (σ 1) (σ 2) (σ 3)))
 
 -- x3-x1*x2*x1: a variable times itself is that variable
 abbrev pub repeated_text : Polynomial
@@ -92,16 +96,16 @@ same_values false true false = refl
 same_values false false true = refl
 same_values false false false = refl
 
-pub repeated_is_lawful : AreLawful single sides (Combination 6 (parts_of (minus 1 [] ∷ [])) repeated_text ∷ []) 6
+pub repeated_is_lawful : AreLawful premises sides (Combination 6 (parts_of (minus 1 [] ∷ [])) repeated_text ∷ []) 6
 repeated_is_lawful = (
-  (record { new_id = omega arith; live_operands = three_is_live; equal = λ σ. same_values (σ 1) (σ 2) (σ 3) ∙ states (σ 1) (σ 2) (σ 3) }, tt),
+  (record { new_id = omega arith; live_operands = three_is_live; there = tt; equal = λ σ. same_values (σ 1) (σ 2) (σ 3) ∙ states (σ 1) (σ 2) (σ 3) }, tt),
   (refl, λ σ. same_values (σ 1) (σ 2) (σ 3) ∙ closes (σ 1) (σ 2) (σ 3)),
 )
 
 -- q 3; the axiom is the negative of the specification
-pub axiom_does_not_close : AreLawful single sides [] 3 → ⊥
+pub axiom_does_not_close : AreLawful premises sides [] 3 → ⊥
 axiom_does_not_close h = let e : ◌≡◌ {A = ℕ} 3 1 = h.1.1 (three false false true) in absurd (omega arith)
 
 -- 5 % 3 * (-1), x3-x1*x2; q 5;  new ids are above 5
-pub id_is_used : AreLawful single sides (Combination 5 (parts_of (minus 1 [] ∷ [])) spec_text ∷ []) 5 → ⊥
+pub id_is_used : AreLawful premises sides (Combination 5 (parts_of (minus 1 [] ∷ [])) spec_text ∷ []) 5 → ⊥
 id_is_used h = let above : 5 < 5 = h.0.0.new_id in absurd (omega arith)

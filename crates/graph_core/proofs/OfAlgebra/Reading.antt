@@ -10,9 +10,9 @@ use Rattle.graph_core.specs.Text.{newline, IsNumeral, IsDigit}
 use Rattle.graph_core.specs.Text.Numerals.{number_at, is_digit, ◌>>=◌}
 use Rattle.graph_core.specs.Text.Readers.{Reader, Reads, behind_at, ended_at, then_at, choose_at, many_at, put_before, Ended, BehindText, Then, Bind, AreMany, NoneOf, OneOf, Anything}
 use Rattle.graph_core.specs.Algebra.Polynomials.{Term, Polynomial}
-use Rattle.graph_core.specs.Algebra.{Line, Sum, Product, Combination, Delete, Part}
-use Rattle.graph_core.specs.Algebra.Text.{AreFactors, IsTerm, AreTerms, IsPolynomial, IsPart, AreParts, IsLineText, IsCloseText, AreLineTexts, IsAlgebraText, sign_of}
-use Rattle.graph_core.specs.Algebra.Reading.{is_star, is_minus, is_sign, is_space, factors_at, coefficient_at, product_at, term_at, first_term_at, signed_term_at, poly_at, part_at, parts_at, sum_at, multiple_at, combination_at, drop_at, algebra_line_at, close_at, at_end, algebra_at, EndsPolynomial, PolynomialIsRead, AlgebraLineIsRead, CloseIsRead, AlgebraIsRead}
+use Rattle.graph_core.specs.Algebra.{Line, Sum, Product, Combination, Import, Delete, Part}
+use Rattle.graph_core.specs.Algebra.Text.{AreFactors, IsTerm, AreTerms, IsPolynomial, IsPart, AreParts, IsLineText, IsCloseText, AreLineTexts, IsAlgebraText, algebra_header, first_line, sign_of}
+use Rattle.graph_core.specs.Algebra.Reading.{is_star, is_minus, is_sign, is_space, factors_at, coefficient_at, product_at, term_at, first_term_at, signed_term_at, poly_at, part_at, parts_at, sum_at, multiple_at, combination_at, import_at, drop_at, second_at, algebra_line_at, close_at, at_end, algebra_at, EndsPolynomial, PolynomialIsRead, AlgebraLineIsRead, CloseIsRead, AlgebraIsRead}
 use Rattle.graph_core.proofs.OfTexts.NumeralReading.{is_digit_of}
 use Rattle.graph_core.proofs.OfTexts.TextReaders.{reads_number, reads_as, reads_map, reads_behind, reads_ended, reads_then, reads_text, reads_bind, reads_choice, reads_many, many_next, OtherOf, one_longer}
 
@@ -382,14 +382,53 @@ reads_combination id =
       ),
     )
 
+abbrev IsImport : ℕ → List ℕ → Line → Type 0
+IsImport id bytes x = (number : ℕ) × (p : Polynomial) × (x ≡ Import id number p) × ((digits poly : List ℕ) × IsNumeral 15 digits number × IsPolynomial poly p ×
+    (bytes ≡ codes "c " ++ digits ++ codes ", " ++ poly ++ codes ";"))
+
+reads_import : (id : ℕ) → Reads (import_at id) (IsImport id) Anything
+reads_import id =
+    reads_map (λ x. Import id x.0 x.1) (IsImport id)
+    (reads_behind (codes "c ") (reads_then (reads_ended (codes ", ") (reads_number 15) (λ rest. refl)) (reads_ended (codes ";") reads_poly ends_semicolon) (λ front y rest is f. tt)))
+    (λ bytes x h. there bytes x.0 x.1 h)
+    (λ bytes y h. ((h.0, h.1), (_, (h.3.0 ++ codes ", ", h.3.1 ++ codes ";", (h.3.0, h.3.2, refl), (h.3.1, h.3.3, refl), refl), h.3.4 ∙ sym (two_fields (codes "c ") h.3.0 (codes ", ") h.3.1 (codes ";"))), sym h.2))
+  where
+    there : (bytes : List ℕ) (number : ℕ) (p : Polynomial) → BehindText (codes "c ") (Then (Field (codes ", ")) (Ended IsPolynomial (codes ";"))) bytes (number, p) → IsImport id bytes (Import id number p)
+    there bytes number p h = (
+      number,
+      p,
+      refl,
+      (
+        h.1.2.0,
+        h.1.3.0,
+        h.1.2.1,
+        h.1.3.1,
+        h.2 ∙ ap (λ z. codes "c " ++ z) (h.1.4 ∙ ap₂ ◌++◌ h.1.2.2 h.1.3.2) ∙ two_fields (codes "c ") h.1.2.0 (codes ", ") h.1.3.0 (codes ";"),
+      ),
+    )
+
+-- what only version 2 has
+abbrev InSecond : {A : Type 0} → ℕ → (List ℕ → A → Type 0) → List ℕ → A → Type 0
+InSecond version Is bytes x = (version ≡ 2) × Is bytes x
+
+reads_second : {A : Type 0} {item : Reader A} {Is : List ℕ → A → Type 0} (version : ℕ) → Reads item Is Anything → Reads (second_at version item) (InSecond version Is) Anything
+reads_second {A} {item} {Is} version r = record { takes = λ bytes x rest h. takes bytes x rest (version == 2) refl h; again = again }
+  where
+    takes : (bytes : List ℕ) (x : A) (rest : List ℕ) (b : Bool) → (version == 2) ≡ b → cond b (item bytes) None ≡ Some (x, rest) → (front : List ℕ) × InSecond version Is front x × (bytes ≡ front ++ rest)
+    takes bytes x rest true e h = let t = r.takes bytes x rest h in (t.0, (eqb-true version 2 e, t.1), t.2)
+    takes bytes x rest false e h = absurd (cc)
+
+    again : (front : List ℕ) (x : A) (rest : List ℕ) → InSecond version Is front x → Anything rest → second_at version item (front ++ rest) ≡ Some (x, rest)
+    again front x rest h any = ap (λ v. second_at v item (front ++ rest)) h.0 ∙ r.again front x rest h.1 any
+
 abbrev IsDrop : ℕ → List ℕ → Line → Type 0
 IsDrop id bytes x = (x ≡ Delete id) × (bytes ≡ codes "d;")
 
 reads_drop : (id : ℕ) → Reads (drop_at id) (IsDrop id) Anything
 reads_drop id = reads_text (codes "d;") (Delete id)
 
-abbrev IsKind : ℕ → List ℕ → Line → Type 0
-IsKind id bytes x = IsSum id bytes x ⊎ (IsMultiple id bytes x ⊎ (IsCombination id bytes x ⊎ IsDrop id bytes x))
+abbrev IsKind : ℕ → ℕ → List ℕ → Line → Type 0
+IsKind version id bytes x = IsSum id bytes x ⊎ (IsMultiple id bytes x ⊎ (IsCombination id bytes x ⊎ (InSecond version (IsImport id) bytes x ⊎ IsDrop id bytes x)))
 
 -- a text that begins with a byte
 first_of_text : (test : ℕ → Bool) (b : ℕ) (more bytes : List ℕ) → test b ≡ true → bytes ≡ b ∷ more → OneOf test bytes
@@ -398,27 +437,34 @@ first_of_text test b more bytes h e = subst (OneOf test) (sym e) h
 other_of_text : (test : ℕ → Bool) (b : ℕ) (more bytes : List ℕ) → test b ≡ false → bytes ≡ b ∷ more → OtherOf test bytes
 other_of_text test b more bytes h e = subst (OtherOf test) (sym e) h
 
-reads_kind : (id : ℕ) → Reads (choose_at (λ b. b == 43) (sum_at id) (choose_at (λ b. b == 42) (multiple_at id) (choose_at (λ b. b == 37) (combination_at id) (drop_at id)))) (IsKind id) Anything
-reads_kind id =
+reads_kind : (version id : ℕ) → Reads (choose_at (λ b. b == 43) (sum_at id) (choose_at (λ b. b == 42) (multiple_at id) (choose_at (λ b. b == 37) (combination_at id)
+    (choose_at (λ b. b == 99) (second_at version (import_at id)) (drop_at id))))) (IsKind version id) Anything
+reads_kind version id =
     reads_choice (λ b. b == 43) (reads_sum id)
     (reads_choice (λ b. b == 42) (reads_multiple id)
-    (reads_choice (λ b. b == 37) (reads_combination id) (reads_drop id) (λ front x h. first_of_text (λ b. b == 37) 37 _ front refl h.3.4) (λ front x h. other_of_text (λ b. b == 37) 100 _ front refl h.1))
+    (reads_choice (λ b. b == 37) (reads_combination id)
+    (reads_choice (λ b. b == 99) (reads_second version (reads_import id)) (reads_drop id) (λ front x h. first_of_text (λ b. b == 99) 99 _ front refl h.1.3.4) (λ front x h. other_of_text (λ b. b == 99) 100 _ front refl h.1))
+    (λ front x h. first_of_text (λ b. b == 37) 37 _ front refl h.3.4) (λ front x h. import_or_drop (λ b. b == 37) refl refl front x h))
     (λ front x h. first_of_text (λ b. b == 42) 42 _ front refl h.4.6)
-    (λ front x h. ⊎_elim (λ c. other_of_text (λ b. b == 42) 37 _ front refl c.3.4) (λ d. other_of_text (λ b. b == 42) 100 _ front refl d.1) h))
+    (λ front x h. ⊎_elim (λ c. other_of_text (λ b. b == 42) 37 _ front refl c.3.4) (λ d. import_or_drop (λ b. b == 42) refl refl front x d) h))
     (λ front x h. first_of_text (λ b. b == 43) 43 _ front refl h.4.6)
     (λ front x h. ⊎_elim (λ m. other_of_text (λ b. b == 43) 42 _ front refl m.4.6)
-    (λ r. ⊎_elim (λ c. other_of_text (λ b. b == 43) 37 _ front refl c.3.4) (λ d. other_of_text (λ b. b == 43) 100 _ front refl d.1) r) h)
+    (λ r. ⊎_elim (λ c. other_of_text (λ b. b == 43) 37 _ front refl c.3.4) (λ d. import_or_drop (λ b. b == 43) refl refl front x d) r) h)
+  where
+    import_or_drop : (test : ℕ → Bool) → test 99 ≡ false → test 100 ≡ false → (front : List ℕ) (x : Line) → InSecond version (IsImport id) front x ⊎ IsDrop id front x → OtherOf test front
+    import_or_drop test c d front x h = ⊎_elim (λ i. other_of_text test 99 _ front c i.1.3.4) (λ z. other_of_text test 100 _ front d z.1) h
 
 -- the new id with a space, and the rest by its kind
-abbrev IsIdAndKind : List ℕ → Line → Type 0
-IsIdAndKind = Bind (Field (codes " ")) IsKind
+abbrev IsIdAndKind : ℕ → List ℕ → Line → Type 0
+IsIdAndKind version = Bind (Field (codes " ")) (IsKind version)
 
-line_there : (bytes : List ℕ) (x : Line) → IsIdAndKind bytes x → IsLineText bytes x
-line_there bytes x h =
-    ⊎_elim (λ s. subst (IsLineText bytes) (sym s.3) (h.1.2.0, s.4.0, s.4.1, s.4.2, h.1.2.1, s.4.3, s.4.4, s.4.5, join s.4.6 ∙ sum_text h.1.2.0 s.4.0 s.4.1 s.4.2))
-    (λ r. ⊎_elim (λ m. subst (IsLineText bytes) (sym m.3) (h.1.2.0, m.4.0, m.4.1, m.4.2, h.1.2.1, m.4.3, m.4.4, m.4.5, join m.4.6 ∙ multiple_text h.1.2.0 m.4.0 m.4.1 m.4.2))
-    (λ q. ⊎_elim (λ c. subst (IsLineText bytes) (sym c.2) (h.1.2.0, c.3.0, c.3.1, h.1.2.1, c.3.2, c.3.3, join c.3.4 ∙ combination_text h.1.2.0 c.3.0 c.3.1))
-    (λ d. subst (IsLineText bytes) (sym d.0) (h.1.2.0, h.1.2.1, join d.1 ∙ append_assoc h.1.2.0 (codes " ") (codes "d;"))) q) r) h.1.3
+line_there : (version : ℕ) (bytes : List ℕ) (x : Line) → IsIdAndKind version bytes x → IsLineText version bytes x
+line_there version bytes x h =
+    ⊎_elim (λ s. subst (IsLineText version bytes) (sym s.3) (h.1.2.0, s.4.0, s.4.1, s.4.2, h.1.2.1, s.4.3, s.4.4, s.4.5, join s.4.6 ∙ sum_text h.1.2.0 s.4.0 s.4.1 s.4.2))
+    (λ r. ⊎_elim (λ m. subst (IsLineText version bytes) (sym m.3) (h.1.2.0, m.4.0, m.4.1, m.4.2, h.1.2.1, m.4.3, m.4.4, m.4.5, join m.4.6 ∙ multiple_text h.1.2.0 m.4.0 m.4.1 m.4.2))
+    (λ q. ⊎_elim (λ c. subst (IsLineText version bytes) (sym c.2) (h.1.2.0, c.3.0, c.3.1, h.1.2.1, c.3.2, c.3.3, join c.3.4 ∙ combination_text h.1.2.0 c.3.0 c.3.1))
+    (λ t. ⊎_elim (λ i. subst (IsLineText version bytes) (sym i.1.2) (i.0, (h.1.2.0, i.1.3.0, i.1.3.1, h.1.2.1, i.1.3.2, i.1.3.3, join i.1.3.4 ∙ import_text h.1.2.0 i.1.3.0 i.1.3.1)))
+    (λ d. subst (IsLineText version bytes) (sym d.0) (h.1.2.0, h.1.2.1, join d.1 ∙ append_assoc h.1.2.0 (codes " ") (codes "d;"))) t) q) r) h.1.3
   where
     join : {text : List ℕ} → h.1.1 ≡ text → bytes ≡ h.1.2.0 ++ codes " " ++ text
     join e = h.1.4 ∙ ap₂ ◌++◌ h.1.2.2 e
@@ -432,18 +478,23 @@ line_there bytes x h =
     combination_text : (new sum poly : List ℕ) → new ++ codes " " ++ (codes "% " ++ sum ++ codes ", " ++ poly ++ codes ";") ≡ new ++ codes " % " ++ sum ++ codes ", " ++ poly ++ codes ";"
     combination_text new sum poly = simp append_assoc
 
-line_back : (bytes : List ℕ) (x : Line) → IsLineText bytes x → IsIdAndKind bytes x
-line_back bytes (Sum id i j p) h =
-    (id, (h.0 ++ codes " ", codes "+ " ++ h.1 ++ codes ", " ++ h.2 ++ codes ", " ++ h.3 ++ codes ";", (h.0, h.4, refl), inl (i, j, p, refl, (h.1, h.2, h.3, h.5, h.6, h.7, refl)), h.8 ∙ simp append_assoc))
-line_back bytes (Product id i q p) h =
-    (id, (h.0 ++ codes " ", codes "* " ++ h.1 ++ codes ", " ++ h.2 ++ codes ", " ++ h.3 ++ codes ";", (h.0, h.4, refl), inr (inl (i, q, p, refl, (h.1, h.2, h.3, h.5, h.6, h.7, refl))), h.8 ∙ simp append_assoc))
-line_back bytes (Combination id parts p) h =
-    (id, (h.0 ++ codes " ", codes "% " ++ h.1 ++ codes ", " ++ h.2 ++ codes ";", (h.0, h.3, refl), inr (inr (inl (parts, p, refl, (h.1, h.2, h.4, h.5, refl)))), h.6 ∙ simp append_assoc))
-line_back bytes (Delete id) h = (id, (h.0 ++ codes " ", codes "d;", (h.0, h.1, refl), inr (inr (inr (refl, refl))), h.2 ∙ sym (append_assoc h.0 (codes " ") (codes "d;"))))
+    import_text : (new digits poly : List ℕ) → new ++ codes " " ++ (codes "c " ++ digits ++ codes ", " ++ poly ++ codes ";") ≡ new ++ codes " c " ++ digits ++ codes ", " ++ poly ++ codes ";"
+    import_text new digits poly = simp append_assoc
 
-pub reads_line : Reads algebra_line_at IsLineText Anything
+line_back : (version : ℕ) (bytes : List ℕ) (x : Line) → IsLineText version bytes x → IsIdAndKind version bytes x
+line_back version bytes (Sum id i j p) h =
+    (id, (h.0 ++ codes " ", codes "+ " ++ h.1 ++ codes ", " ++ h.2 ++ codes ", " ++ h.3 ++ codes ";", (h.0, h.4, refl), inl (i, j, p, refl, (h.1, h.2, h.3, h.5, h.6, h.7, refl)), h.8 ∙ simp append_assoc))
+line_back version bytes (Product id i q p) h =
+    (id, (h.0 ++ codes " ", codes "* " ++ h.1 ++ codes ", " ++ h.2 ++ codes ", " ++ h.3 ++ codes ";", (h.0, h.4, refl), inr (inl (i, q, p, refl, (h.1, h.2, h.3, h.5, h.6, h.7, refl))), h.8 ∙ simp append_assoc))
+line_back version bytes (Combination id parts p) h =
+    (id, (h.0 ++ codes " ", codes "% " ++ h.1 ++ codes ", " ++ h.2 ++ codes ";", (h.0, h.3, refl), inr (inr (inl (parts, p, refl, (h.1, h.2, h.4, h.5, refl)))), h.6 ∙ simp append_assoc))
+line_back version bytes (Import id number p) h =
+    (id, (h.1.0 ++ codes " ", codes "c " ++ h.1.1 ++ codes ", " ++ h.1.2 ++ codes ";", (h.1.0, h.1.3, refl), inr (inr (inr (inl (h.0, (number, p, refl, (h.1.1, h.1.2, h.1.4, h.1.5, refl)))))), h.1.6 ∙ simp append_assoc))
+line_back version bytes (Delete id) h = (id, (h.0 ++ codes " ", codes "d;", (h.0, h.1, refl), inr (inr (inr (inr (refl, refl)))), h.2 ∙ sym (append_assoc h.0 (codes " ") (codes "d;"))))
+
+pub reads_line : (version : ℕ) → Reads (algebra_line_at version) (IsLineText version) Anything
 unfolding algebra_line_at
-reads_line = reads_as IsLineText (reads_bind (reads_ended (codes " ") (reads_number 15) (λ rest. refl)) reads_kind) line_there line_back
+reads_line version = reads_as (IsLineText version) (reads_bind (reads_ended (codes " ") (reads_number 15) (λ rest. refl)) (reads_kind version)) (line_there version) (line_back version)
 
 pub reads_close : Reads close_at IsCloseText Anything
 reads_close =
@@ -456,48 +507,49 @@ exactly : {A : Type 0} {item : Reader A} {Is : List ℕ → A → Type 0} → Re
 exactly {A} {item} r bytes x rest h = ap item h.2 ∙ r.again h.0 x rest h.1 tt
 
 pub algebra_line_is_read : AlgebraLineIsRead
-algebra_line_is_read bytes x rest = (reads_line.takes bytes x rest, exactly reads_line bytes x rest)
+algebra_line_is_read version bytes x rest = ((reads_line version).takes bytes x rest, exactly (reads_line version) bytes x rest)
 
 pub close_is_read : CloseIsRead
 close_is_read bytes id rest = (reads_close.takes bytes id rest, exactly reads_close bytes id rest)
 
 -- ---- the whole text
 
-abbrev IsEndedLine : List ℕ → Line → Type 0
-IsEndedLine = Ended IsLineText (newline ∷ [])
+abbrev IsEndedLine : ℕ → List ℕ → Line → Type 0
+IsEndedLine version = Ended (IsLineText version) (newline ∷ [])
 
 -- a line begins with a digit
-pub line_first : (front : List ℕ) (x : Line) → IsLineText front x → OneOf is_digit front
-line_first front (Sum id i j p) h = subst (OneOf is_digit) (sym h.8) (one_longer is_digit _ _ (one_longer is_digit _ _ (one_longer is_digit _ _ (one_longer is_digit _ _ (one_longer is_digit _ _ (one_longer is_digit _ _ (one_longer is_digit _ _ (numeral_first 15 h.0 id h.4))))))))
-line_first front (Product id i q p) h = subst (OneOf is_digit) (sym h.8) (one_longer is_digit _ _ (one_longer is_digit _ _ (one_longer is_digit _ _ (one_longer is_digit _ _ (one_longer is_digit _ _ (one_longer is_digit _ _ (one_longer is_digit _ _ (numeral_first 15 h.0 id h.4))))))))
-line_first front (Combination id parts p) h = subst (OneOf is_digit) (sym h.6) (one_longer is_digit _ _ (one_longer is_digit _ _ (one_longer is_digit _ _ (one_longer is_digit _ _ (one_longer is_digit _ _ (numeral_first 15 h.0 id h.3))))))
-line_first front (Delete id) h = subst (OneOf is_digit) (sym h.2) (one_longer is_digit _ _ (numeral_first 15 h.0 id h.1))
+pub line_first : (version : ℕ) (front : List ℕ) (x : Line) → IsLineText version front x → OneOf is_digit front
+line_first version front (Sum id i j p) h = subst (OneOf is_digit) (sym h.8) (one_longer is_digit _ _ (one_longer is_digit _ _ (one_longer is_digit _ _ (one_longer is_digit _ _ (one_longer is_digit _ _ (one_longer is_digit _ _ (one_longer is_digit _ _ (numeral_first 15 h.0 id h.4))))))))
+line_first version front (Product id i q p) h = subst (OneOf is_digit) (sym h.8) (one_longer is_digit _ _ (one_longer is_digit _ _ (one_longer is_digit _ _ (one_longer is_digit _ _ (one_longer is_digit _ _ (one_longer is_digit _ _ (one_longer is_digit _ _ (numeral_first 15 h.0 id h.4))))))))
+line_first version front (Combination id parts p) h = subst (OneOf is_digit) (sym h.6) (one_longer is_digit _ _ (one_longer is_digit _ _ (one_longer is_digit _ _ (one_longer is_digit _ _ (one_longer is_digit _ _ (numeral_first 15 h.0 id h.3))))))
+line_first version front (Import id number p) h = subst (OneOf is_digit) (sym h.1.6) (one_longer is_digit _ _ (one_longer is_digit _ _ (one_longer is_digit _ _ (one_longer is_digit _ _ (one_longer is_digit _ _ (numeral_first 15 h.1.0 id h.1.3))))))
+line_first version front (Delete id) h = subst (OneOf is_digit) (sym h.2) (one_longer is_digit _ _ (numeral_first 15 h.0 id h.1))
 
-pub reads_lines : Reads (many_at is_digit (ended_at algebra_line_at (newline ∷ []))) (AreMany IsEndedLine) (λ rest. NoneOf is_digit rest × Anything rest)
-reads_lines =
-    reads_many is_digit (ended_at algebra_line_at (newline ∷ [])) IsEndedLine Anything (reads_ended (newline ∷ []) reads_line (λ rest. tt))
-    (λ front x h. subst (OneOf is_digit) (sym h.2) (one_longer is_digit h.0 (newline ∷ []) (line_first h.0 x h.1))) (λ rest h. tt)
+pub reads_lines : (version : ℕ) → Reads (many_at is_digit (ended_at (algebra_line_at version) (newline ∷ []))) (AreMany (IsEndedLine version)) (λ rest. NoneOf is_digit rest × Anything rest)
+reads_lines version =
+    reads_many is_digit (ended_at (algebra_line_at version) (newline ∷ [])) (IsEndedLine version) Anything (reads_ended (newline ∷ []) (reads_line version) (λ rest. tt))
+    (λ front x h. subst (OneOf is_digit) (sym h.2) (one_longer is_digit h.0 (newline ∷ []) (line_first version h.0 x h.1))) (λ rest h. tt)
 
-lines_there : (bytes after : List ℕ) (xs : List Line) (front : List ℕ) → AreMany IsEndedLine front xs → bytes ≡ front ++ after → AreLineTexts bytes xs after
-lines_there bytes after [] front h e = e ∙ ap (λ z. z ++ after) h
-lines_there bytes after (x ∷ xs) front h e =
-    (h.2.0, h.1 ++ after, h.2.1, lines_there (h.1 ++ after) after xs h.1 h.3 refl, e ∙ ap (λ z. z ++ after) (h.4 ∙ ap (λ z. z ++ h.1) h.2.2) ∙ append_assoc (h.2.0 ++ newline ∷ []) h.1 after ∙ append_assoc h.2.0 (newline ∷ []) (h.1 ++ after))
+lines_there : (version : ℕ) (bytes after : List ℕ) (xs : List Line) (front : List ℕ) → AreMany (IsEndedLine version) front xs → bytes ≡ front ++ after → AreLineTexts version bytes xs after
+lines_there version bytes after [] front h e = e ∙ ap (λ z. z ++ after) h
+lines_there version bytes after (x ∷ xs) front h e =
+    (h.2.0, h.1 ++ after, h.2.1, lines_there version (h.1 ++ after) after xs h.1 h.3 refl, e ∙ ap (λ z. z ++ after) (h.4 ∙ ap (λ z. z ++ h.1) h.2.2) ∙ append_assoc (h.2.0 ++ newline ∷ []) h.1 after ∙ append_assoc h.2.0 (newline ∷ []) (h.1 ++ after))
 
-lines_back : (bytes after : List ℕ) (xs : List Line) → AreLineTexts bytes xs after → (front : List ℕ) × AreMany IsEndedLine front xs × (bytes ≡ front ++ after)
-lines_back bytes after [] h = ([], refl, h)
-lines_back bytes after (x ∷ xs) h =
-    let more = lines_back h.1 after xs h.3 in (
+lines_back : (version : ℕ) (bytes after : List ℕ) (xs : List Line) → AreLineTexts version bytes xs after → (front : List ℕ) × AreMany (IsEndedLine version) front xs × (bytes ≡ front ++ after)
+lines_back version bytes after [] h = ([], refl, h)
+lines_back version bytes after (x ∷ xs) h =
+    let more = lines_back version h.1 after xs h.3 in (
       (h.0 ++ newline ∷ []) ++ more.0,
       (h.0 ++ newline ∷ [], more.0, (h.0, h.2, refl), more.1, refl),
       h.4 ∙ ap (λ z. h.0 ++ newline ∷ z) more.2 ∙ sym (append_assoc h.0 (newline ∷ []) (more.0 ++ after)) ∙ sym (append_assoc (h.0 ++ newline ∷ []) more.0 after),
     )
 
-abbrev IsText : List ℕ → List Line × ℕ → Type 0
-IsText = BehindText (codes "pac 1" ++ newline ∷ []) (Then (AreMany IsEndedLine) (Ended IsCloseText (newline ∷ [])))
+abbrev IsText : ℕ → List ℕ → List Line × ℕ → Type 0
+IsText version = BehindText (algebra_header version) (Then (AreMany (IsEndedLine version)) (Ended IsCloseText (newline ∷ [])))
 
-reads_text_all : Reads (behind_at (codes "pac 1" ++ newline ∷ []) (then_at (many_at is_digit (ended_at algebra_line_at (newline ∷ []))) (ended_at close_at (newline ∷ [])))) IsText Anything
-reads_text_all =
-    reads_behind (codes "pac 1" ++ newline ∷ []) (reads_then reads_lines (reads_ended (newline ∷ []) reads_close (λ rest. tt)) (λ front y rest h any.
+reads_text_all : (version : ℕ) → Reads (behind_at (algebra_header version) (then_at (many_at is_digit (ended_at (algebra_line_at version) (newline ∷ []))) (ended_at close_at (newline ∷ [])))) (IsText version) Anything
+reads_text_all version =
+    reads_behind (algebra_header version) (reads_then (reads_lines version) (reads_ended (newline ∷ []) reads_close (λ rest. tt)) (λ front y rest h any.
     (subst (λ z. NoneOf is_digit (z ++ rest)) (sym (h.2 ∙ ap (λ z. z ++ newline ∷ []) h.1.2)) refl, tt)))
 
 pub end_takes : {A : Type 0} (o : Option (A × List ℕ)) (x : A) → at_end o ≡ Some x → o ≡ Some (x, [])
@@ -506,23 +558,24 @@ end_takes (Some (y, [])) x h = ap (λ z. Some (z, [])) (same_Some y x h)
 end_takes (Some (y, b ∷ bytes)) x h = absurd (cc)
 
 pub algebra_is_read : AlgebraIsRead
-algebra_is_read bytes lines closing = (there, back)
+algebra_is_read version bytes lines closing = (there, back)
   where
-    there : algebra_at bytes ≡ Some (lines, closing) → IsAlgebraText bytes lines closing
+    there : algebra_at version bytes ≡ Some (lines, closing) → IsAlgebraText version bytes lines closing
     there h =
-        let t = reads_text_all.takes bytes (lines, closing) [] (end_takes _ (lines, closing) h) in
+        let t = (reads_text_all version).takes bytes (lines, closing) [] (end_takes _ (lines, closing) h) in
         let s = t.1 in
         let e = bytes_are t.0 s.0 t.2 s.2 in
-        (s.0, s.1.1, s.1.3.1.0, s.1.3.1.1, lines_there s.0 s.1.1 lines s.1.0 s.1.2 s.1.4, s.1.3.2 ∙ ap (λ z. z ++ newline ∷ []) s.1.3.1.2, e)
+        (s.0, s.1.1, s.1.3.1.0, s.1.3.1.1, lines_there version s.0 s.1.1 lines s.1.0 s.1.2 s.1.4, s.1.3.2 ∙ ap (λ z. z ++ newline ∷ []) s.1.3.1.2, e)
       where
-        bytes_are : (front rest : List ℕ) → bytes ≡ front ++ [] → front ≡ (codes "pac 1" ++ newline ∷ []) ++ rest → bytes ≡ codes "pac 1" ++ newline ∷ rest
-        bytes_are front rest e f = e ∙ append-nil front ∙ f
+        bytes_are : (front rest : List ℕ) → bytes ≡ front ++ [] → front ≡ (first_line version ++ newline ∷ []) ++ rest → bytes ≡ first_line version ++ newline ∷ rest
+        bytes_are front rest e f = e ∙ append-nil front ∙ f ∙ append_assoc (first_line version) (newline ∷ []) rest
 
-    back : IsAlgebraText bytes lines closing → algebra_at bytes ≡ Some (lines, closing)
+    back : IsAlgebraText version bytes lines closing → algebra_at version bytes ≡ Some (lines, closing)
     back h =
-        let body = lines_back h.0 h.1 lines h.4 in
-        let is : IsText bytes (lines, closing) = (h.0, (body.0, h.1, body.1, (codes "q " ++ h.2 ++ codes ";", (h.2, h.3, refl), h.5), body.2), h.6) in
-        ap at_end (exactly reads_text_all bytes (lines, closing) [] (bytes, is, sym (append-nil bytes)))
+        let body = lines_back version h.0 h.1 lines h.4 in
+        let is : IsText version bytes (lines, closing) =
+        (h.0, (body.0, h.1, body.1, (codes "q " ++ h.2 ++ codes ";", (h.2, h.3, refl), h.5), body.2), h.6 ∙ sym (append_assoc (first_line version) (newline ∷ []) h.0)) in
+        ap at_end (exactly (reads_text_all version) bytes (lines, closing) [] (bytes, is, sym (append-nil bytes)))
 
 -- ---- one turn of each loop that reads
 

@@ -1,5 +1,5 @@
 -- Each line of a lawful algebra certificate vanishes on every evaluation.
-use Rattle.std.specs.Prelude.{◌≡◌, ℕ, ◌+◌, ◌*◌, ◌%◌, ◌^◌, ◌<◌, Bool, true, false, not, cond, ◌&&◌, List, [], ◌∷◌, ◌++◌, map, length, ◌==◌}
+use Rattle.std.specs.Prelude.{◌≡◌, ℕ, zero, suc, ◌+◌, ◌*◌, ◌%◌, ◌^◌, ◌<◌, Bool, true, false, not, cond, ◌&&◌, List, [], ◌∷◌, ◌++◌, map, length, ◌==◌}
 use Rattle.std.specs.declared.option.Option.TheVariants.{Some}
 use Rattle.std.specs.List.{AllByRecursion, filter}
 use Rattle.std.proofs.Common.{refl, sym, ap, ◌∙◌, arith, mod-eq_of_lt}
@@ -11,7 +11,7 @@ use Rattle.graph_core.specs.Graph.Assignments.{Assignment, variable, literal, bi
 use Rattle.graph_core.specs.Graph.{IsEvaluation}
 use Rattle.graph_core.specs.Algebra.Polynomials.{value, difference}
 use Rattle.graph_core.specs.Graph.Extended.{Extended, Column}
-use Rattle.graph_core.specs.Algebra.{LiveLine, Part, Line, Sum, Product, Combination, Delete, Ledger, value_of, value_or_zero, line_of, combined, IsLawfulLine, AreLawfulLines, after, after_all, gate_axiom, AreLawful, modulus, axioms, column_axiom, specification}
+use Rattle.graph_core.specs.Algebra.{LiveLine, Part, Line, Sum, Product, Combination, Import, Delete, Ledger, Premises, import_of, import_or_zero, value_of, value_or_zero, line_of, combined, IsLawfulLine, AreLawfulLines, after, after_all, gate_axiom, AreLawful, AreMet, modulus, axioms, beginning, column_axiom, specification}
 use Rattle.std.proofs.Common.{take, drop, subst, take-append-drop, length-append}
 use Rattle.std.proofs.lemmas.Nat.{pow_pos, mul-lt, pow-add}
 use Rattle.graph_core.specs.declared.order.Order.TheVariants.{Separate, Interleaved}
@@ -41,12 +41,30 @@ filter-vanish σ p [] v = v
 filter-vanish σ p (l ∷ live) v =
     elim (p l) as (λ b. Vanish σ (cond b (l ∷ filter p live) (filter p live))) [ true ↦ (v.0, filter-vanish σ p live v.1) | false ↦ filter-vanish σ p live v.1 ]
 
--- a lawful line keeps that every live line vanishes
-pub after-vanish : (m : ℕ) (σ : Assignment) (l : Ledger) (x : Line) → IsLawfulLine m l x → Vanish σ l.live → Vanish σ (after m l x).live
-after-vanish m σ l (Sum id i j p) h v = (h.equal σ ∙ ap (λ z. z % m) (omega (arith, value_of-zero σ l.live i v, value_of-zero σ l.live j v)) ∙ zero-mod m, v)
-after-vanish m σ l (Product id i q p) h v = (h.equal σ ∙ ap (λ z. z * value m q σ % m) (value_of-zero σ l.live i v) ∙ ap (λ z. z % m) (zero-mul (value m q σ)) ∙ zero-mod m, v)
-after-vanish m σ l (Combination id parts p) h v = (h.equal σ ∙ ap (λ z. z % m) (combined-zero m σ l.live parts v) ∙ zero-mod m, v)
-after-vanish m σ l (Delete id) h v = filter-vanish σ (λ x. not (x.id == id)) l.live v
+import-zero : (σ : Assignment) (imports : List (Assignment → ℕ)) (number : ℕ) → AllByRecursion (λ f. f σ ≡ 0) imports → import_or_zero (import_of imports number) σ ≡ 0
+import-zero σ imports zero h = refl
+import-zero σ [] (suc i) h = refl
+import-zero σ (f ∷ imports) (suc zero) h = h.0
+import-zero σ (f ∷ imports) (suc (suc i)) h = import-zero σ imports (suc i) h.1
+
+-- what may be imported is 0
+abbrev pub AreZero : Assignment → Ledger → Type 0
+AreZero σ l = AllByRecursion (λ f. f σ ≡ 0) l.imports
+
+-- a lawful line keeps that every live line vanishes, and that what may be imported does
+pub after-vanish : (m : ℕ) (σ : Assignment) (l : Ledger) (x : Line) → IsLawfulLine m l x → AreZero σ l → Vanish σ l.live → Vanish σ (after m l x).live
+after-vanish m σ l (Sum id i j p) h zs v = (h.equal σ ∙ ap (λ z. z % m) (omega (arith, value_of-zero σ l.live i v, value_of-zero σ l.live j v)) ∙ zero-mod m, v)
+after-vanish m σ l (Product id i q p) h zs v = (h.equal σ ∙ ap (λ z. z * value m q σ % m) (value_of-zero σ l.live i v) ∙ ap (λ z. z % m) (zero-mul (value m q σ)) ∙ zero-mod m, v)
+after-vanish m σ l (Combination id parts p) h zs v = (h.equal σ ∙ ap (λ z. z % m) (combined-zero m σ l.live parts v) ∙ zero-mod m, v)
+after-vanish m σ l (Import id number p) h zs v = (h.equal σ ∙ ap (λ z. z % m) (import-zero σ l.imports number zs) ∙ zero-mod m, v)
+after-vanish m σ l (Delete id) h zs v = filter-vanish σ (λ x. not (x.id == id)) l.live v
+
+after-zero : (m : ℕ) (σ : Assignment) (l : Ledger) (x : Line) → AreZero σ l → AreZero σ (after m l x)
+after-zero m σ l (Sum id i j p) z = z
+after-zero m σ l (Product id i q p) z = z
+after-zero m σ l (Combination id parts p) z = z
+after-zero m σ l (Import id number p) z = z
+after-zero m σ l (Delete id) z = z
 
 -- the axiom of a gate vanishes where its variable has the AND of its operands
 pub gate_axiom-zero : (m : ℕ) (σ : Assignment) (g : Gate) → 0 < m → variable σ g.v ≡ (literal σ g.left && literal σ g.right) → (gate_axiom m g).value σ ≡ 0
@@ -83,15 +101,18 @@ axioms-vanish e σ h c =
     (columns-vanish e σ e.replaced (modulus_pos e) (recursion_from_All _ e.replaced c))
 
 -- lawful lines keep that every live line vanishes
-pub after_all-vanish : (m : ℕ) (σ : Assignment) (l : Ledger) (lines : List Line) → AreLawfulLines m l lines → Vanish σ l.live → Vanish σ (after_all m l lines).live
-after_all-vanish m σ l [] h v = v
-after_all-vanish m σ l (x ∷ xs) h v = after_all-vanish m σ (after m l x) xs h.1 (after-vanish m σ l x h.0 v)
+pub after_all-vanish : (m : ℕ) (σ : Assignment) (l : Ledger) (lines : List Line) → AreLawfulLines m l lines → AreZero σ l → Vanish σ l.live → Vanish σ (after_all m l lines).live
+after_all-vanish m σ l [] h z v = v
+after_all-vanish m σ l (x ∷ xs) h z v = after_all-vanish m σ (after m l x) xs h.1 (after-zero m σ l x z) (after-vanish m σ l x h.0 z v)
 
--- the specification vanishes wherever the axioms do
-pub specification-zero : (e : Extended) (s : Sides) (σ : Assignment) (lines : List Line) (closing : ℕ) →
-    AreLawful e s lines closing → Vanish σ (axioms e).live → specification e s σ ≡ 0
-specification-zero e s σ lines closing h v =
-    sym (h.1.1 σ) ∙ value_of-zero σ (after_all (modulus e) (axioms e) lines).live closing (after_all-vanish (modulus e) σ (axioms e) lines h.0 v)
+pub met-zero : (p : Premises) (σ : Assignment) → AreMet p σ → AreZero σ (beginning p)
+met-zero p σ met = recursion_from_All (λ f. f σ ≡ 0) p.imports met.imports
+
+-- the specification vanishes wherever the axioms do and what may be imported does
+pub specification-zero : (p : Premises) (s : Sides) (σ : Assignment) (lines : List Line) (closing : ℕ) →
+    AreLawful p s lines closing → AreZero σ (beginning p) → Vanish σ (axioms p.extended).live → specification p.extended s σ ≡ 0
+specification-zero p s σ lines closing h z v =
+    sym (h.1.1 σ) ∙ value_of-zero σ (after_all (modulus p.extended) (beginning p) lines).live closing (after_all-vanish (modulus p.extended) σ (beginning p) lines h.0 z v)
 
 operands_below : (order : Order) (e : Extended) (σ : Assignment) → HasMultiplierShape e.graph → word σ (a_bits order e.graph) * word σ (b_bits order e.graph) < 2 ^ (2 * width e.graph)
 operands_below order e σ shape =
@@ -116,5 +137,5 @@ pub axioms_vanish : AxiomsVanish
 axioms_vanish e σ evaluates agree = All-from_recursion (λ l. l.value σ ≡ 0) (axioms e).live (axioms-vanish e σ evaluates agree)
 
 pub algebra_is_sound : AlgebraIsSound
-algebra_is_sound e s lines closing σ lawful evaluates agree =
-    vanishing_means_claim e s σ (specification-zero e s σ lines closing lawful (axioms-vanish e σ evaluates agree))
+algebra_is_sound p s lines closing σ lawful evaluates met =
+    vanishing_means_claim p.extended s σ (specification-zero p s σ lines closing lawful (met-zero p σ met) (axioms-vanish p.extended σ evaluates met.columns))

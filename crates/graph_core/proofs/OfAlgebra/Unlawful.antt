@@ -18,5 +18,6 @@ refused_is_unlawful e l x cause range (inl w) lawful = w.0 range
 refused_is_unlawful e l x cause range (inr (in_range, inl (bad, same))) lawful = bad lawful.new_id
 refused_is_unlawful e l x cause range (inr (in_range, inr (new, inl (id, missing, same)))) lawful =
     true≢false (ap is_some (sym missing ∙ none_first l.live (operands x) (recursion_from_All (IsLive l.live) (operands x) lawful.live_operands)))
-refused_is_unlawful e l x cause range (inr (in_range, inr (new, inr (live, inl (apart, same))))) lawful = apart.1 (lawful.equal apart.0)
-refused_is_unlawful e l x cause range (inr (in_range, inr (new, inr (live, inr (equal, never))))) lawful = never
+refused_is_unlawful e l x cause range (inr (in_range, inr (new, inr (live, inl (absent, same))))) lawful = absent lawful.there
+refused_is_unlawful e l x cause range (inr (in_range, inr (new, inr (live, inr (there, inl (apart, same)))))) lawful = apart.1 (lawful.equal apart.0)
+refused_is_unlawful e l x cause range (inr (in_range, inr (new, inr (live, inr (there, inr (equal, never)))))) lawful = never

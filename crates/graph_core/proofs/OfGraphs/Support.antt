@@ -6,22 +6,14 @@ use Rattle.std.proofs.Common.{refl, sym, ap, ap₂, ◌∙◌, arith, inl, inr, 
 use Rattle.graph_core.specs.declared.literal.Lit.{Lit}
 use Rattle.graph_core.specs.declared.gate.Gate.{Gate}
 use Rattle.graph_core.specs.Graph.Literals.{variable_of}
-use Rattle.graph_core.specs.Graph.Assignments.{Assignment, variable, literal, bit, word}
+use Rattle.graph_core.specs.Graph.Assignments.{Assignment, AgreeUpTo, HasBound, variable, literal, bit, word}
 use Rattle.graph_core.specs.declared.sign.Sign.{Sign}
 use Rattle.graph_core.specs.declared.sign.Sign.TheVariants.{Unsigned, Signed}
 use Rattle.graph_core.specs.Graph.Operands.{Sides, claimed, signed_word, operand_word, plus_word}
 use Rattle.graph_core.specs.Algebra.Polynomials.{Term, Polynomial, product, term_value, sum_of, value, difference}
 use Rattle.graph_core.specs.Graph.Extended.{Extended, Column}
-use Rattle.graph_core.specs.Algebra.{LiveLine, Part, Line, Sum, Product, Combination, Delete, Ledger, value_of, value_or_zero, line_of, combined, named, after, axioms, gate_axiom, column_axiom, modulus, specification}
+use Rattle.graph_core.specs.Algebra.{LiveLine, Part, Line, Sum, Product, Combination, Import, Delete, Ledger, Premises, value_of, value_or_zero, line_of, combined, named, import_of, import_or_zero, after, beginning, axioms, gate_axiom, column_axiom, modulus, specification}
 use Rattle.graph_core.proofs.OfGraphs.Decided.{decided_eq}
-
--- two assignments agree on the variables up to n
-abbrev pub AgreeUpTo : ℕ → Assignment → Assignment → Type 0
-AgreeUpTo n σ τ = (v : ℕ) → v ≤ n → σ v ≡ τ v
-
--- what is computed depends on finitely many variables
-abbrev pub HasBound : {A : Type 0} → (Assignment → A) → Type 0
-HasBound {A} f = (n : ℕ) × ((σ τ : Assignment) → AgreeUpTo n σ τ → f σ ≡ f τ)
 
 -- ---- search
 
@@ -123,21 +115,33 @@ bound_combined m live (p ∷ ps) b =
     bound_of_two (λ x y. x + y) (λ σ. value_of live p.id σ * value m p.factor σ) (combined m live ps)
     (bound_of_two (λ x y. x * y) (value_of live p.id) (value m p.factor) (bound_value_of live p.id b) (bound_value m p.factor)) (bound_combined m live ps b)
 
-pub bound_named : (m : ℕ) (live : List LiveLine) (x : Line) → AreBounded live → HasBound (named m live x)
-bound_named m live (Sum id i j p) b = bound_of_two (λ x y. x + y) (value_of live i) (value_of live j) (bound_value_of live i b) (bound_value_of live j b)
-bound_named m live (Product id i q p) b = bound_of_two (λ x y. x * y) (value_of live i) (value m q) (bound_value_of live i b) (bound_value m q)
-bound_named m live (Combination id parts p) b = bound_combined m live parts b
-bound_named m live (Delete id) b = bound_constant 0
+bound_import : (imports : List (Assignment → ℕ)) (number : ℕ) → AllByRecursion HasBound imports → HasBound (import_or_zero (import_of imports number))
+bound_import imports zero b = bound_constant 0
+bound_import [] (suc i) b = bound_constant 0
+bound_import (f ∷ imports) (suc zero) b = b.0
+bound_import (f ∷ imports) (suc (suc i)) b = bound_import imports (suc i) b.1
+
+-- every live line, and every value that may be imported
+abbrev pub IsBounded : Ledger → Type 0
+IsBounded l = AreBounded l.live × AllByRecursion HasBound l.imports
+
+pub bound_named : (m : ℕ) (l : Ledger) (x : Line) → IsBounded l → HasBound (named m l x)
+bound_named m l (Sum id i j p) b = bound_of_two (λ x y. x + y) (value_of l.live i) (value_of l.live j) (bound_value_of l.live i b.0) (bound_value_of l.live j b.0)
+bound_named m l (Product id i q p) b = bound_of_two (λ x y. x * y) (value_of l.live i) (value m q) (bound_value_of l.live i b.0) (bound_value m q)
+bound_named m l (Combination id parts p) b = bound_combined m l.live parts b.0
+bound_named m l (Import id number p) b = bound_import l.imports number b.1
+bound_named m l (Delete id) b = bound_constant 0
 
 filter-bounded : (p : LiveLine → Bool) (live : List LiveLine) → AreBounded live → AreBounded (filter p live)
 filter-bounded p [] b = b
 filter-bounded p (l ∷ live) b = elim (p l) as (λ c. AreBounded (cond c (l ∷ filter p live) (filter p live))) [ true ↦ (b.0, filter-bounded p live b.1) | false ↦ filter-bounded p live b.1 ]
 
-pub after-bounded : (m : ℕ) (l : Ledger) (x : Line) → AreBounded l.live → AreBounded (after m l x).live
-after-bounded m l (Sum id i j p) b = (bound_value m p, b)
-after-bounded m l (Product id i q p) b = (bound_value m p, b)
-after-bounded m l (Combination id parts p) b = (bound_value m p, b)
-after-bounded m l (Delete id) b = filter-bounded (λ x. not (x.id == id)) l.live b
+pub after-bounded : (m : ℕ) (l : Ledger) (x : Line) → IsBounded l → IsBounded (after m l x)
+after-bounded m l (Sum id i j p) b = ((bound_value m p, b.0), b.1)
+after-bounded m l (Product id i q p) b = ((bound_value m p, b.0), b.1)
+after-bounded m l (Combination id parts p) b = ((bound_value m p, b.0), b.1)
+after-bounded m l (Import id number p) b = ((bound_value m p, b.0), b.1)
+after-bounded m l (Delete id) b = (filter-bounded (λ x. not (x.id == id)) l.live b.0, b.1)
 
 append-bounded : (xs ys : List LiveLine) → AreBounded xs → AreBounded ys → AreBounded (xs ++ ys)
 append-bounded [] ys b c = c
@@ -155,8 +159,11 @@ columns-bounded : (e : Extended) (cs : List Column) → AreBounded (map (column_
 columns-bounded e [] = tt
 columns-bounded e (c ∷ cs) = (bound_of_two (λ x y. difference (modulus e) (bit x) (bit y)) (λ σ. literal σ c.old) (λ σ. literal σ c.new) (bound_literal c.old) (bound_literal c.new), columns-bounded e cs)
 
-pub axioms-bounded : (e : Extended) → AreBounded (axioms e).live
+axioms-bounded : (e : Extended) → AreBounded (axioms e).live
 axioms-bounded e = append-bounded (map (gate_axiom (modulus e)) e.gates) (map (column_axiom e) e.replaced) (gates-bounded (modulus e) e.gates) (columns-bounded e e.replaced)
+
+pub beginning-bounded : (p : Premises) → AllByRecursion HasBound p.imports → IsBounded (beginning p)
+beginning-bounded p b = (axioms-bounded p.extended, b)
 
 bound_signed : (m : ℕ) (ls : List Lit) → HasBound (λ σ. signed_word m σ ls)
 bound_signed m [] = bound_constant 0

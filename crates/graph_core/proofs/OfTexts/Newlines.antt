@@ -6,8 +6,8 @@ use Rattle.std.proofs.lemmas.Bool.{and_parts}
 use Rattle.std.proofs.lemmas.List.Elements.{recursion_from_All}
 use Rattle.graph_core.specs.Text.{newline, IsNumeral, IsDigit}
 use Rattle.graph_core.specs.Algebra.Polynomials.{Term, Polynomial}
-use Rattle.graph_core.specs.Algebra.{Line, Sum, Product, Combination, Delete, Part}
-use Rattle.graph_core.specs.Algebra.Text.{AreFactors, IsTerm, AreTerms, IsPolynomial, IsPart, AreParts, IsLineText, IsCloseText, sign_of}
+use Rattle.graph_core.specs.Algebra.{Line, Sum, Product, Combination, Import, Delete, Part}
+use Rattle.graph_core.specs.Algebra.Text.{AreFactors, IsTerm, AreTerms, IsPolynomial, IsPart, AreParts, IsLineText, IsCloseText, first_line, sign_of}
 use Rattle.graph_core.proofs.OfTexts.JudgedLines.{HasNoNewline}
 
 pub none_in : (text : List ℕ) → list_all (λ b. not (b == newline)) text ≡ true → HasNoNewline text
@@ -79,14 +79,20 @@ comma = none_in (codes ", ") refl
 semicolon : HasNoNewline (codes ";")
 semicolon = none_in (codes ";") refl
 
-pub none_line : (bytes : List ℕ) (x : Line) → IsLineText bytes x → HasNoNewline bytes
-none_line bytes (Sum id i j p) h =
+-- the first line
+pub none_first : (version : ℕ) → HasNoNewline (first_line version)
+none_first version = elim (version == 2) as (λ b. HasNoNewline (cond b (codes "pac 2") (codes "pac 1"))) [ true ↦ none_in (codes "pac 2") refl | false ↦ none_in (codes "pac 1") refl ]
+
+pub none_line : (version : ℕ) (bytes : List ℕ) (x : Line) → IsLineText version bytes x → HasNoNewline bytes
+none_line version bytes (Sum id i j p) h =
     none_same bytes _ h.8 (none_four h.0 (codes " + ") h.1 (codes ", ") h.2 (codes ", ") h.3 (codes ";") (none_numeral 15 h.0 id h.4) (none_in (codes " + ") refl) (none_numeral 15 h.1 i h.5) comma (none_numeral 15 h.2 j h.6) comma (none_poly h.3 p h.7) semicolon)
-none_line bytes (Product id i q p) h =
+none_line version bytes (Product id i q p) h =
     none_same bytes _ h.8 (none_four h.0 (codes " * ") h.1 (codes ", ") h.2 (codes ", ") h.3 (codes ";") (none_numeral 15 h.0 id h.4) (none_in (codes " * ") refl) (none_numeral 15 h.1 i h.5) comma (none_poly h.2 q h.6) comma (none_poly h.3 p h.7) semicolon)
-none_line bytes (Combination id parts p) h =
+none_line version bytes (Combination id parts p) h =
     none_same bytes _ h.6 (none_append (h.0 ++ codes " % " ++ h.1 ++ codes ", " ++ h.2) (codes ";") (none_append (h.0 ++ codes " % " ++ h.1 ++ codes ", ") h.2 (none_two h.0 (codes " % ") h.1 (codes ", ") (none_numeral 15 h.0 id h.3) (none_in (codes " % ") refl) (none_parts h.1 parts h.4) comma) (none_poly h.2 p h.5)) semicolon)
-none_line bytes (Delete id) h = none_same bytes _ h.2 (none_append h.0 (codes " d;") (none_numeral 15 h.0 id h.1) (none_in (codes " d;") refl))
+none_line version bytes (Import id number p) h =
+    none_same bytes _ h.1.6 (none_append (h.1.0 ++ codes " c " ++ h.1.1 ++ codes ", " ++ h.1.2) (codes ";") (none_append (h.1.0 ++ codes " c " ++ h.1.1 ++ codes ", ") h.1.2 (none_two h.1.0 (codes " c ") h.1.1 (codes ", ") (none_numeral 15 h.1.0 id h.1.3) (none_in (codes " c ") refl) (none_numeral 15 h.1.1 number h.1.4) comma) (none_poly h.1.2 p h.1.5)) semicolon)
+none_line version bytes (Delete id) h = none_same bytes _ h.2 (none_append h.0 (codes " d;") (none_numeral 15 h.0 id h.1) (none_in (codes " d;") refl))
 
 pub none_close : (bytes : List ℕ) (id : ℕ) → IsCloseText bytes id → HasNoNewline bytes
 none_close bytes id h = none_same bytes _ h.2 (none_append (codes "q " ++ h.0) (codes ";") (none_append (codes "q ") h.0 (none_in (codes "q ") refl) (none_numeral 15 h.0 id h.1)) semicolon)

@@ -1,13 +1,14 @@
 -- When two ledgers say the same: the definitions of lawful lines look live lines up by their ids and use them by their values.
-use Rattle.std.specs.Prelude.{◌≡◌, ℕ, List}
+use Rattle.std.specs.Prelude.{◌≡◌, ℕ, List, [], ◌∷◌}
 use Rattle.std.specs.declared.option.Option.{Option}
 use Rattle.std.specs.declared.option.Option.TheVariants.{None, Some}
 use Rattle.graph_core.specs.Graph.Assignments.{Assignment}
 use Rattle.graph_core.specs.Graph.Operands.{Sides}
 use Rattle.graph_core.specs.Graph.Extended.{Extended}
-use Rattle.graph_core.specs.Algebra.{LiveLine, Line, Ledger, line_of, IsLawfulLine, after, Closes, modulus}
-use Rattle.graph_core.specs.Algebra.Text.{IsLineInRange}
-use Rattle.graph_core.specs.Algebra.Refusal.{AlgebraCause, IsRefusedLine, IsRefusedClose}
+use Rattle.graph_core.specs.Algebra.{LiveLine, Line, Ledger, Premises, line_of, IsLawfulLine, after, Closes, modulus}
+use Rattle.graph_core.specs.Algebra.Text.{IsLawfulAlgebraFile, IsLineInRange}
+use Rattle.graph_core.specs.Algebra.Refusal.{AlgebraCause, IsAlgebraRefusal, IsRefusedLine, IsRefusedClose}
+use Rattle.graph_core.specs.Text.JudgedLines.{Lengths}
 use Rattle.graph_core.specs.Algebra.InRange.{IsRefusedInRange, IsRefusedCloseInRange}
 
 -- both are there with the same value at every assignment, or neither is
@@ -21,10 +22,18 @@ AreSame (Some x) (Some y) = (σ : Assignment) → x.value σ ≡ y.value σ
 abbrev pub AreSameLines : List LiveLine → List LiveLine → Type 0
 AreSameLines xs ys = (id : ℕ) → AreSame (line_of xs id) (line_of ys id)
 
--- Two ledgers agree where they have the same last id and the same lines.
+-- the same values in the same order, at every assignment
+abbrev pub AreSameImports : List (Assignment → ℕ) → List (Assignment → ℕ) → Type 0
+AreSameImports [] [] = Unit {0}
+AreSameImports [] (g ∷ gs) = ⊥
+AreSameImports (f ∷ fs) [] = ⊥
+AreSameImports (f ∷ fs) (g ∷ gs) = ((σ : Assignment) → f σ ≡ g σ) × AreSameImports fs gs
+
+-- Two ledgers agree where they have the same last id, the same lines, and the same values to import.
 pub record Agree (l k : Ledger) : Type 0 where
   pub last : l.last ≡ k.last
   pub lines : AreSameLines l.live k.live
+  pub imports : AreSameImports l.imports k.imports
 
 -- Agreeing is an equivalence.
 pub record AgreementIsEquivalence : Type 0 where
@@ -45,6 +54,22 @@ pub record AgreementIsKept : Type 0 where
   pub refused_close_in_range : (e : Extended) (sides : Sides) (l k : Ledger) → Agree l k →
       (id : ℕ) (cause : AlgebraCause) → IsRefusedCloseInRange e sides l id cause →
       IsRefusedCloseInRange e sides k id cause
+
+-- Premises that say the same: of one version, over one extended graph, with the same values to import.
+pub record AreSamePremises (p q : Premises) : Type 0 where
+  pub version : p.version ≡ q.version
+  pub extended : p.extended ≡ q.extended
+  pub imports : AreSameImports p.imports q.imports
+
+-- Over premises that say the same the same files are lawful, and refused for the same causes. What is lawful with nothing to import is
+-- lawful whatever there is.
+pub record PremisesAreKept : Type 0 where
+  pub lawful : (p q : Premises) → AreSamePremises p q → (s : Sides) (bytes : List ℕ) → IsLawfulAlgebraFile p s bytes → IsLawfulAlgebraFile q s bytes
+  pub refused : (p q : Premises) → AreSamePremises p q → (s : Sides) (lengths : Lengths) (bytes : List ℕ) (c : ℕ × AlgebraCause) →
+      IsAlgebraRefusal p s lengths bytes c → IsAlgebraRefusal q s lengths bytes c
+  pub without_imports : (version : ℕ) (e : Extended) (imports : List (Assignment → ℕ)) (s : Sides) (bytes : List ℕ) →
+      IsLawfulAlgebraFile (record { version = version; extended = e; imports = [] }) s bytes →
+      IsLawfulAlgebraFile (record { version = version; extended = e; imports = imports }) s bytes
 
 -- A line in range is refused only where it isn't lawful.
 abbrev pub RefusedIsUnlawful : Type 0

@@ -6,7 +6,7 @@ use Rattle.graph_core.specs.Algebra.Agreement.{Agree}
 use Rattle.graph_core.specs.Algebra.InRange.{IsRefusedInRange}
 use Rattle.graph_core.specs.Algebra.Polynomials.{Polynomial, value}
 use Rattle.graph_core.specs.Algebra.Refusal.{AlgebraCause}
-use Rattle.graph_core.specs.Algebra.{Line, Sum, Product, Combination, Delete, Part, Ledger, IsLawfulLine, operands, after, modulus}
+use Rattle.graph_core.specs.Algebra.{Line, Sum, Product, Combination, Import, Delete, Part, Ledger, IsLawfulLine, operands, after, modulus}
 
 -- the same value modulo m at every assignment
 abbrev pub HaveSameValue : ℕ → Polynomial → Polynomial → Type 0
@@ -24,6 +24,7 @@ AreAlike m (Sum id i j p) other = (q : Polynomial) × (other ≡ Sum id i j q) �
 AreAlike m (Product id i f p) other = (g q : Polynomial) × (other ≡ Product id i g q) × HaveSameValue m f g × HaveSameValue m p q
 AreAlike m (Combination id parts p) other = (others : List Part) × (q : Polynomial) ×
     (other ≡ Combination id others q) × ArePartsAlike m parts others × HaveSameValue m p q
+AreAlike m (Import id number p) other = (q : Polynomial) × (other ≡ Import id number q) × HaveSameValue m p q
 AreAlike m (Delete id) other = other ≡ Delete id
 
 -- Where lines are alike, they name the same operands, one is lawful or refused where the other one is, and the same ledger follows.

@@ -1,13 +1,13 @@
 -- Reading an algebra certificate from the front.
-use Rattle.std.specs.Prelude.{◌≡◌, ℕ, Bool, true, false, ◌||◌, List, [], ◌∷◌, ◌++◌, codes, ◌==◌, ◌↔◌}
+use Rattle.std.specs.Prelude.{◌≡◌, ℕ, Bool, true, false, ◌||◌, List, [], ◌∷◌, ◌++◌, codes, ◌==◌, ◌↔◌, if◌then◌else◌}
 use Rattle.std.specs.declared.option.Option.{Option}
 use Rattle.std.specs.declared.option.Option.TheVariants.{None, Some}
 use Rattle.graph_core.specs.Text.{newline}
 use Rattle.graph_core.specs.Text.Numerals.{number_at, is_digit}
 use Rattle.graph_core.specs.Text.Readers.{Reader, map_at, behind_at, ended_at, then_at, text_at, bind_at, choose_at, many_at, NoneOf}
 use Rattle.graph_core.specs.Algebra.Polynomials.{Term, Polynomial}
-use Rattle.graph_core.specs.Algebra.{Line, Sum, Product, Combination, Delete, Part}
-use Rattle.graph_core.specs.Algebra.Text.{IsPolynomial, IsLineText, IsCloseText, IsAlgebraText}
+use Rattle.graph_core.specs.Algebra.{Line, Sum, Product, Combination, Import, Delete, Part}
+use Rattle.graph_core.specs.Algebra.Text.{IsPolynomial, IsLineText, IsCloseText, IsAlgebraText, algebra_header}
 
 abbrev pub is_star : ℕ → Bool
 is_star b = b == 42
@@ -66,13 +66,21 @@ multiple_at id = map_at (λ x. Product id x.0 x.1.0 x.1.1)
 abbrev pub combination_at : ℕ → Reader Line
 combination_at id = map_at (λ x. Combination id x.0 x.1) (behind_at (codes "% ") (then_at (ended_at parts_at (codes ", ")) (ended_at poly_at (codes ";"))))
 
+abbrev pub import_at : ℕ → Reader Line
+import_at id = map_at (λ x. Import id x.0 x.1) (behind_at (codes "c ") (then_at (ended_at (number_at 15) (codes ", ")) (ended_at poly_at (codes ";"))))
+
 abbrev pub drop_at : ℕ → Reader Line
 drop_at id = text_at (codes "d;") (Delete id)
 
+-- what only version 2 has
+abbrev pub second_at : {A : Type 0} → ℕ → Reader A → Reader A
+second_at version item bytes = if version == 2 then item bytes else None
+
 -- a line, by the byte behind its id
-unfoldable pub algebra_line_at : Reader Line
-algebra_line_at = bind_at (ended_at (number_at 15) (codes " ")) (λ id.
-    choose_at (λ b. b == 43) (sum_at id) (choose_at (λ b. b == 42) (multiple_at id) (choose_at (λ b. b == 37) (combination_at id) (drop_at id))))
+unfoldable pub algebra_line_at : ℕ → Reader Line
+algebra_line_at version = bind_at (ended_at (number_at 15) (codes " ")) (λ id.
+    choose_at (λ b. b == 43) (sum_at id) (choose_at (λ b. b == 42) (multiple_at id) (choose_at (λ b. b == 37) (combination_at id)
+    (choose_at (λ b. b == 99) (second_at version (import_at id)) (drop_at id)))))
 
 -- the closing line
 abbrev pub close_at : Reader ℕ
@@ -85,9 +93,9 @@ at_end (Some (x, [])) = Some x
 at_end (Some (x, b ∷ bytes)) = None
 
 -- the lines of a whole text, and the id that it closes with
-abbrev pub algebra_at : List ℕ → Option (List Line × ℕ)
-algebra_at bytes = at_end (behind_at (codes "pac 1" ++ newline ∷ [])
-    (then_at (many_at is_digit (ended_at algebra_line_at (newline ∷ []))) (ended_at close_at (newline ∷ []))) bytes)
+abbrev pub algebra_at : ℕ → List ℕ → Option (List Line × ℕ)
+algebra_at version bytes = at_end (behind_at (algebra_header version)
+    (then_at (many_at is_digit (ended_at (algebra_line_at version) (newline ∷ []))) (ended_at close_at (newline ∷ []))) bytes)
 
 -- ---- the laws
 
@@ -103,12 +111,13 @@ PolynomialIsRead = ((bytes : List ℕ) (p : Polynomial) (rest : List ℕ) → po
 
 -- Reading a line of an algebra certificate gives the line whose text it takes, and nothing else does.
 abbrev pub AlgebraLineIsRead : Type 0
-AlgebraLineIsRead = (bytes : List ℕ) (x : Line) (rest : List ℕ) → (algebra_line_at bytes ≡ Some (x, rest)) ↔
-    ((line : List ℕ) × IsLineText line x × (bytes ≡ line ++ rest))
+AlgebraLineIsRead = (version : ℕ) (bytes : List ℕ) (x : Line) (rest : List ℕ) → (algebra_line_at version bytes ≡ Some (x, rest)) ↔
+    ((line : List ℕ) × IsLineText version line x × (bytes ≡ line ++ rest))
 
 abbrev pub CloseIsRead : Type 0
 CloseIsRead = (bytes : List ℕ) (id : ℕ) (rest : List ℕ) → (close_at bytes ≡ Some (id, rest)) ↔ ((line : List ℕ) × IsCloseText line id × (bytes ≡ line ++ rest))
 
 -- Reading an algebra certificate gives its lines and its closing id, and nothing else does.
 abbrev pub AlgebraIsRead : Type 0
-AlgebraIsRead = (bytes : List ℕ) (lines : List Line) (closing : ℕ) → (algebra_at bytes ≡ Some (lines, closing)) ↔ IsAlgebraText bytes lines closing
+AlgebraIsRead = (version : ℕ) (bytes : List ℕ) (lines : List Line) (closing : ℕ) →
+    (algebra_at version bytes ≡ Some (lines, closing)) ↔ IsAlgebraText version bytes lines closing

@@ -1,11 +1,10 @@
 -- The text of an algebra certificate.
-use Rattle.std.specs.Prelude.{◌≡◌, ℕ, ◌^◌, ◌<◌, ◌≤◌, ◌⊎◌, Bool, true, false, List, [], ◌∷◌, ◌++◌, codes, if◌then◌else◌}
+use Rattle.std.specs.Prelude.{◌≡◌, ℕ, ◌^◌, ◌<◌, ◌≤◌, ◌⊎◌, Bool, true, false, List, [], ◌∷◌, ◌++◌, codes, if◌then◌else◌, ◌==◌}
 use Rattle.std.specs.List.{All}
 use Rattle.graph_core.specs.Text.{newline, IsNumeral}
 use Rattle.graph_core.specs.Algebra.Polynomials.{Term, Polynomial}
 use Rattle.graph_core.specs.Graph.Operands.{Sides}
-use Rattle.graph_core.specs.Graph.Extended.{Extended}
-use Rattle.graph_core.specs.Algebra.{Line, Sum, Product, Combination, Delete, Part, AreLawful}
+use Rattle.graph_core.specs.Algebra.{Line, Sum, Product, Combination, Import, Delete, Part, AreLawful, Premises}
 
 -- each variable behind a star, as in *x3*x1
 abbrev pub AreFactors : List ℕ → List ℕ → Type 0
@@ -40,30 +39,40 @@ AreParts bytes [] = ⊥
 AreParts bytes (part ∷ []) = IsPart bytes part
 AreParts bytes (part ∷ next ∷ parts) = (front rest : List ℕ) × IsPart front part × AreParts rest (next ∷ parts) × (bytes ≡ front ++ codes " + " ++ rest)
 
--- a line without its line feed
-abbrev pub IsLineText : List ℕ → Line → Type 0
-IsLineText bytes (Sum id i j p) = (new left right poly : List ℕ) × IsNumeral 15 new id × IsNumeral 15 left i × IsNumeral 15 right j × IsPolynomial poly p ×
+-- a line of a version, without its line feed; only version 2 has imports
+abbrev pub IsLineText : ℕ → List ℕ → Line → Type 0
+IsLineText version bytes (Sum id i j p) = (new left right poly : List ℕ) × IsNumeral 15 new id × IsNumeral 15 left i × IsNumeral 15 right j × IsPolynomial poly p ×
     (bytes ≡ new ++ codes " + " ++ left ++ codes ", " ++ right ++ codes ", " ++ poly ++ codes ";")
-IsLineText bytes (Product id i q p) = (new left factor poly : List ℕ) × IsNumeral 15 new id × IsNumeral 15 left i ×
+IsLineText version bytes (Product id i q p) = (new left factor poly : List ℕ) × IsNumeral 15 new id × IsNumeral 15 left i ×
     IsPolynomial factor q × IsPolynomial poly p ×
     (bytes ≡ new ++ codes " * " ++ left ++ codes ", " ++ factor ++ codes ", " ++ poly ++ codes ";")
-IsLineText bytes (Combination id parts p) = (new sum poly : List ℕ) × IsNumeral 15 new id × AreParts sum parts × IsPolynomial poly p ×
+IsLineText version bytes (Combination id parts p) = (new sum poly : List ℕ) × IsNumeral 15 new id × AreParts sum parts × IsPolynomial poly p ×
     (bytes ≡ new ++ codes " % " ++ sum ++ codes ", " ++ poly ++ codes ";")
-IsLineText bytes (Delete id) = (old : List ℕ) × IsNumeral 15 old id × (bytes ≡ old ++ codes " d;")
+IsLineText version bytes (Import id number p) = (version ≡ 2) × ((new digits poly : List ℕ) × IsNumeral 15 new id × IsNumeral 15 digits number ×
+    IsPolynomial poly p × (bytes ≡ new ++ codes " c " ++ digits ++ codes ", " ++ poly ++ codes ";"))
+IsLineText version bytes (Delete id) = (old : List ℕ) × IsNumeral 15 old id × (bytes ≡ old ++ codes " d;")
 
 -- a closing line without its line feed
 abbrev pub IsCloseText : List ℕ → ℕ → Type 0
 IsCloseText bytes id = (digits : List ℕ) × IsNumeral 15 digits id × (bytes ≡ codes "q " ++ digits ++ codes ";")
 
 -- lines, and the bytes after them
-abbrev pub AreLineTexts : List ℕ → List Line → List ℕ → Type 0
-AreLineTexts bytes [] after = bytes ≡ after
-AreLineTexts bytes (x ∷ xs) after = (line rest : List ℕ) × IsLineText line x × AreLineTexts rest xs after × (bytes ≡ line ++ newline ∷ rest)
+abbrev pub AreLineTexts : ℕ → List ℕ → List Line → List ℕ → Type 0
+AreLineTexts version bytes [] after = bytes ≡ after
+AreLineTexts version bytes (x ∷ xs) after =
+    (line rest : List ℕ) × IsLineText version line x × AreLineTexts version rest xs after × (bytes ≡ line ++ newline ∷ rest)
+
+-- the first line: `pac 1` in version 1, and `pac 2`
+abbrev pub first_line : ℕ → List ℕ
+first_line version = if version == 2 then codes "pac 2" else codes "pac 1"
+
+abbrev pub algebra_header : ℕ → List ℕ
+algebra_header version = first_line version ++ newline ∷ []
 
 -- The whole text: the header, the lines, the closing line, and nothing after it.
-abbrev pub IsAlgebraText : List ℕ → List Line → ℕ → Type 0
-IsAlgebraText bytes lines closing = (body after id : List ℕ) × IsNumeral 15 id closing × AreLineTexts body lines after ×
-    (after ≡ codes "q " ++ id ++ codes ";" ++ newline ∷ []) × (bytes ≡ codes "pac 1" ++ newline ∷ body)
+abbrev pub IsAlgebraText : ℕ → List ℕ → List Line → ℕ → Type 0
+IsAlgebraText version bytes lines closing = (body after id : List ℕ) × IsNumeral 15 id closing × AreLineTexts version body lines after ×
+    (after ≡ codes "q " ++ id ++ codes ";" ++ newline ∷ []) × (bytes ≡ first_line version ++ newline ∷ body)
 
 -- An id is from 1 to 2 ^ 48 - 1.
 abbrev pub IsId : ℕ → Type 0
@@ -77,13 +86,14 @@ abbrev pub IsLineInRange : ℕ → Line → Type 0
 IsLineInRange max (Sum id i j p) = IsId id × IsId i × IsId j × IsInRange max p
 IsLineInRange max (Product id i q p) = IsId id × IsId i × IsInRange max q × IsInRange max p
 IsLineInRange max (Combination id parts p) = IsId id × All (λ part. IsId part.id × IsInRange max part.factor) parts × IsInRange max p
+IsLineInRange max (Import id number p) = IsId id × IsId number × IsInRange max p
 IsLineInRange max (Delete id) = IsId id
 
 -- An algebra file that proves the specification of the extended graph with these operands.
-pub record IsLawfulAlgebraFile (e : Extended) (s : Sides) (bytes : List ℕ) : Type 0 where
+pub record IsLawfulAlgebraFile (p : Premises) (s : Sides) (bytes : List ℕ) : Type 0 where
   pub lines : List Line
   pub closing : ℕ
-  pub text : IsAlgebraText bytes lines closing
-  pub in_range : All (IsLineInRange e.max) lines
+  pub text : IsAlgebraText p.version bytes lines closing
+  pub in_range : All (IsLineInRange p.extended.max) lines
   pub closing_in_range : IsId closing
-  pub lawful : AreLawful e s lines closing
+  pub lawful : AreLawful p s lines closing

@@ -1,5 +1,5 @@
 -- Truth values of variables, of literals and of words of literals.
-use Rattle.std.specs.Prelude.{ℕ, zero, suc, ◌+◌, ◌*◌, ◌%◌, Bool, true, false, not, List, [], ◌∷◌, if◌then◌else◌, ◌==◌, slice_index_or}
+use Rattle.std.specs.Prelude.{◌≡◌, ℕ, zero, suc, ◌+◌, ◌*◌, ◌%◌, ◌≤◌, Bool, true, false, not, List, [], ◌∷◌, if◌then◌else◌, ◌==◌, slice_index_or}
 use Rattle.graph_core.specs.declared.literal.Lit.{Lit}
 use Rattle.graph_core.specs.Graph.Literals.{variable_of}
 
@@ -29,3 +29,11 @@ word σ (l ∷ ls) = bit (literal σ l) + 2 * word σ ls
 -- the assignment of a list that gives the value of variable v at place v; a variable past its end is false
 abbrev pub listed : List Bool → Assignment
 listed values v = slice_index_or values v false
+
+-- two assignments agree on the variables up to n
+abbrev pub AgreeUpTo : ℕ → Assignment → Assignment → Type 0
+AgreeUpTo n σ τ = (v : ℕ) → v ≤ n → σ v ≡ τ v
+
+-- what is computed depends on finitely many variables
+abbrev pub HasBound : {A : Type 0} → (Assignment → A) → Type 0
+HasBound {A} f = (n : ℕ) × ((σ τ : Assignment) → AgreeUpTo n σ τ → f σ ≡ f τ)

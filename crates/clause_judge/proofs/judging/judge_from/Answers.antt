@@ -1,4 +1,4 @@
-use Rattle.std.proofs.Common.{◌≡◌, ◌+◌, ℕ, List, Option, sym, subst, ◌∙◌, arith}
+use Rattle.std.proofs.Common.{◌≡◌, ◌+◌, ℕ, List, Option, refl, sym, subst, ◌∙◌, arith}
 use Rattle.std.proofs.Math.Nat.{le_trans}
 use Rattle.std.proofs.lemmas.Result.{IfErr-weaker, err_from_is_err_and, on_ok_weaker}
 use Rattle.graph_core.specs.Graph.Extended.{Extended}
@@ -13,7 +13,7 @@ use Rattle.clause_judge.specs.ClauseBody.{Begins, IsFailFrom}
 use Rattle.clause_judge.specs.ClauseLines.{IsGoalFail, IsRuleFail, IsTextFail, ReadsNext, left_for}
 use Rattle.clause_judge.proofs.CheckerBegins.{range_of}
 use Rattle.clause_judge.proofs.ClauseReached.{IsReached}
-use Rattle.clause_judge.proofs.ClauseTurns.{all_joined, all_shown, going, goals_fail, next_reached, reached_first, rule_fails, takes_goals, takes_max, text_fails, too_many}
+use Rattle.clause_judge.proofs.ClauseTurns.{all_joined, all_shown, going, goals_fail, next_reached, reached_first, rule_fails, takes_gates, takes_goals, takes_max, takes_version, text_fails, too_many}
 use Rattle.clause_judge.proofs.judging.judge_from.Goals as goal
 
 -- the same of the next line, whatever that is
@@ -29,6 +29,8 @@ loop-init g c =
       only = ReadsOnly-refl slot.Clauses first;
       tells = KeepsTelling-refl first;
       max = c.requires.greatest;
+      gates = refl;
+      version = refl;
       goals = λ e start body begins. begins.goals;
       reached = λ e start body begins. reached_first e start body c.args.checker.now c.args.first c.args.file.now (left_for c.args.file.now first) begins;
     }
@@ -98,6 +100,8 @@ loop-preserved g c =
       only = ReadsOnly-trans slot.Clauses first middle now c.loop.invariant.only c.in_ok-next.ensures.only;
       tells = KeepsTelling-trans first middle now c.loop.invariant.tells c.in_ok-next.ensures.tells;
       max = takes_max line k k' takes ∙ c.loop.invariant.max;
+      gates = takes_gates line k k' takes ∙ c.loop.invariant.gates;
+      version = takes_version line k k' takes ∙ c.loop.invariant.version;
       goals = λ e start body b. subst (AreGoalsOf e) (sym (takes_goals line k k' takes)) (c.loop.invariant.goals e start body b);
       reached = λ e start body b. next_reached e start body k c.loop.counter line file left (r e start body b) k' takes c.in_ok-next.next new behind c.in_ok-next.ensures.lengths
           (subst (λ (m : ℕ). ReadsNext m file new left behind c.in_ok-next.next) (sym c.requires.greatest ∙ b.max) c.in_ok-next.ensures.next);
@@ -110,7 +114,7 @@ returns-in-None-clause-lawful g c =
     let left = left_for c.loop.file (g.D.Desk.seen c.loop.desk) in
     let k = c.loop.checker in
     let r = reached_by c.in-None.is c.loop.invariant.reached in
-    on_ok_weaker c.judge_goals.result (λ none e start body b. all_shown e start body k c.loop.counter c.loop.file left (r e start body b) (c.loop.invariant.goals e start body b) none) c.judge_goals.ensures.shown
+    on_ok_weaker c.judge_goals.result (λ none e start body b. all_shown e start body k c.loop.counter c.loop.file left (r e start body b) (c.loop.invariant.goals e start body b) c.args.checker.now.version c.loop.invariant.version none) c.judge_goals.ensures.shown
 
 pub returns-in-None-clause-columns : goal.returns-in-None-clause-columns
 returns-in-None-clause-columns g c =

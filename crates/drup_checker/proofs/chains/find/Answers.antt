@@ -1,4 +1,4 @@
-use Rattle.std.proofs.Common.{◌≡◌, ◌-◌, ◌+◌, ℕ, sym, subst, ◌∙◌, arith}
+use Rattle.std.proofs.Common.{◌≡◌, ◌-◌, ℕ, sym, subst, ◌∙◌, arith}
 use Rattle.unit_prop.specs.Standing.{HasSetAt}
 use Rattle.drup_checker.specs.Chains.{Leads}
 use Rattle.drup_checker.proofs.Leading.{leads_behind, leads_nowhere}

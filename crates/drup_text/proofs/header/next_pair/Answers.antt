@@ -12,18 +12,18 @@ pub returns-in-Ok-clause-line : goal.returns-in-Ok-clause-line
 returns-in-Ok-clause-line g c =
     let before = known_from c.args.lines.now.ahead ((g.D.Desk.seen c.args.desk.now).left Clauses) in
     let after = known_from c.needed_line.new.lines.ahead ((g.D.Desk.seen c.needed_line.new.desk).left Clauses) in
-    text_ok (IsPairTextOf c.args.graph.now) c.args.lines.now c.needed_line.new.lines before after c.in-Ok.line.items c.read_pair.result c.in-Ok.ensures.line
-    (subst (λ z. IfOk c.read_pair.result (IsPairTextOf c.args.graph.now z)) c.deref.ensures.value c.read_pair.ensures.ok)
+    text_ok (IsPairTextOf c.args.extended.now) c.args.lines.now c.needed_line.new.lines before after c.in-Ok.line.items c.read_pair.result c.in-Ok.ensures.line
+    (subst (λ z. IfOk c.read_pair.result (IsPairTextOf c.args.extended.now z)) c.deref.ensures.value c.read_pair.ensures.ok)
 
 pub returns-in-Ok-clause-refused : goal.returns-in-Ok-clause-refused
 returns-in-Ok-clause-refused g c =
     let before = known_from c.args.lines.now.ahead ((g.D.Desk.seen c.args.desk.now).left Clauses) in
     let after = known_from c.needed_line.new.lines.ahead ((g.D.Desk.seen c.needed_line.new.desk).left Clauses) in
-    text_err IsPairLine (IsPairOf c.args.graph.now) none_pair c.args.lines.now c.needed_line.new.lines before after c.in-Ok.line.items
+    text_err IsPairLine (IsPairOf c.args.extended.now) none_pair c.args.lines.now c.needed_line.new.lines before after c.in-Ok.line.items
     (g.D.Desk.seen c.args.desk.now).read_faults (g.D.Desk.seen c.needed_line.new.desk).read_faults c.read_pair.result c.in-Ok.ensures.line
-    (subst (λ z. IfErr c.read_pair.result (IsRefusedText IsPairLine (IsPairOf c.args.graph.now) z)) c.deref.ensures.value c.read_pair.ensures.err)
+    (subst (λ z. IfErr c.read_pair.result (IsRefusedText IsPairLine (IsPairOf c.args.extended.now) z)) c.deref.ensures.value c.read_pair.ensures.err)
 
 pub returns-in-Err-clause-refused : goal.returns-in-Err-clause-refused
 returns-in-Err-clause-refused g c =
-    needed_refused IsPairLine (IsPairOf c.args.graph.now) none_pair c.args.lines.now (known_from c.args.lines.now.ahead ((g.D.Desk.seen c.args.desk.now).left Clauses))
+    needed_refused IsPairLine (IsPairOf c.args.extended.now) none_pair c.args.lines.now (known_from c.args.lines.now.ahead ((g.D.Desk.seen c.args.desk.now).left Clauses))
     (g.D.Desk.seen c.args.desk.now).read_faults (g.D.Desk.seen c.needed_line.new.desk).read_faults c.in-Err.fail c.in-Err.ensures.fault

@@ -8,12 +8,12 @@ use Rattle.drup_text.proofs.HeaderSteps.{pairs_end, pairs_on, pairs_refused}
 use Rattle.drup_text.proofs.header.pairs.Goals as goal
 
 pub returns-in-Err-clause-refused : goal.returns-in-Err-clause-refused
-returns-in-Err-clause-refused g c lo =
+returns-in-Err-clause-refused g c made =
     let before = known_from c.args.lines.now.ahead ((g.D.Desk.seen c.args.desk.now).left Clauses) in
     let left = known_from c.loop-i.lines.ahead ((g.D.Desk.seen c.loop-i.desk).left Clauses) in
-    pairs_refused c.args.graph.now lo c.args.count c.loop-i.i (3 + c.from-line.result) c.args.lines.now c.loop-i.lines before left c.loop-i.pairs.items
+    pairs_refused c.args.extended.now made c.args.first c.args.count c.loop-i.i (c.args.first + c.from.result) c.args.lines.now c.loop-i.lines before left c.loop-i.pairs.items
     (g.D.Desk.seen c.args.desk.now).read_faults (g.D.Desk.seen c.loop-i.desk).read_faults (g.D.Desk.seen c.next_pair.new.desk).read_faults c.in-Err.why
-    c.loop-i-test.true (ap (λ n. 3 + n) c.from-line.ensures) c.loop-i.invariant.many c.loop-i.invariant.lengths c.loop-i.invariant.stands c.loop-i.invariant.told c.in-Err.ensures.refused
+    c.loop-i-test.true (ap (λ n. c.args.first + n) c.from.ensures) c.loop-i.invariant.many c.loop-i.invariant.lengths c.loop-i.invariant.stands c.loop-i.invariant.told c.in-Err.ensures.refused
 
 pub returns-clause-pairs : goal.returns-clause-pairs
 returns-clause-pairs g c =
@@ -21,7 +21,7 @@ returns-clause-pairs g c =
     let after = known_from c.loop-i.lines.ahead ((g.D.Desk.seen c.loop-i.desk).left Clauses) in
     let last = c.loop-i.auto.i-end in
     let stop = c.loop-i-test.false in
-    pairs_end c.args.graph.now c.args.count c.loop-i.i c.args.lines.now c.loop-i.lines before after c.loop-i.pairs.items (omega arith) c.loop-i.invariant.told
+    pairs_end c.args.extended.now c.args.count c.loop-i.i c.args.lines.now c.loop-i.lines before after c.loop-i.pairs.items (omega arith) c.loop-i.invariant.told
 
 pub loop-i-preserved : goal.loop-i-preserved
 loop-i-preserved g c =
@@ -38,11 +38,11 @@ loop-i-preserved g c =
     let one = ap length made ∙ length-append pairs (c.in-Ok.pair ∷ []) in
     record {
       «open» = reads.only.mode.reads ∙ c.loop-i.invariant.open;
-      told = pairs_on c.args.graph.now c.args.count c.loop-i.i c.args.lines.now c.loop-i.lines c.next_pair.new.lines before left after pairs longer c.in-Ok.pair c.loop-i-test.true c.loop-i.invariant.lengths made
+      told = pairs_on c.args.extended.now c.args.count c.loop-i.i c.args.lines.now c.loop-i.lines c.next_pair.new.lines before left after pairs longer c.in-Ok.pair c.loop-i-test.true c.loop-i.invariant.lengths made
           c.loop-i.invariant.told c.in-Ok.ensures.line;
       lengths = c.in-Ok.ensures.lengths ∙ c.loop-i.invariant.lengths;
       many = omega arith;
-      known = subst (All (IsPairOf c.args.graph.now)) (sym made) (All-push (IsPairOf c.args.graph.now) pairs c.in-Ok.pair c.loop-i.invariant.known c.in-Ok.ensures.known);
+      known = subst (All (IsPairOf c.args.extended.now)) (sym made) (All-push (IsPairOf c.args.extended.now) pairs c.in-Ok.pair c.loop-i.invariant.known c.in-Ok.ensures.known);
       counted = omega arith;
       within = c.in-Ok.ensures.some.within;
       piece = c.in-Ok.ensures.piece;

@@ -12,10 +12,10 @@ abbrev pub invariant-loop-i : goal.invariant-loop-i
 invariant-loop-i g l = record {
   «open» : (g.D.Desk.seen l.desk).reads Clauses ≡ true;
   told : IfSome (known_from l.initial.lines.ahead ((g.D.Desk.seen l.initial.desk).left Clauses))
-      (λ bytes. PairsSoFar l.graph l.count l.i l.initial.lines l.lines bytes (known_from l.lines.ahead ((g.D.Desk.seen l.desk).left Clauses)) l.pairs.items);
+      (λ bytes. PairsSoFar l.extended l.count l.i l.initial.lines l.lines bytes (known_from l.lines.ahead ((g.D.Desk.seen l.desk).left Clauses)) l.pairs.items);
   lengths : l.lines.lengths ≡ l.initial.lines.lengths;
   many : length l.pairs.items ≡ l.i;
-  known : All (IsPairOf l.graph) l.pairs.items;
+  known : All (IsPairOf l.extended) l.pairs.items;
   counted : l.initial.lines.taken + l.i ≤ l.lines.taken;
   within : l.lines.taken ≤ l.lines.lengths.file;
   piece : FitsPiece l.lines;

@@ -14,17 +14,17 @@ returns-in_err-x-clause-err c =
 
 pub returns-in_default-clause-ok : goal.returns-in_default-clause-ok
 returns-in_default-clause-ok c =
-    pair_none c.args.graph.now c.args.scanner.now c.two.new.scanner c.max.ensures.built
+    pair_none c.args.extended.now c.args.scanner.now c.two.new.scanner c.max.ensures.extension
     (subst (λ m. TakesTwo (2 * m + 1) c.args.scanner.now c.two.new.scanner None) c.max.ensures.value
     (subst (TakesTwo (2 * c.max.result + 1) c.args.scanner.now c.two.new.scanner) c.in_default.is c.in_ok-x.ensures.ok))
 
 pub returns-then-has_pair-clause-ok : goal.returns-then-has_pair-clause-ok
 returns-then-has_pair-clause-ok c =
-    pair_some c.args.graph.now (2 * c.max.result + 1) c.args.scanner.now c.two.new.scanner (c.in-Some.x, c.in-Some.y)
+    pair_some c.args.extended.now (2 * c.max.result + 1) c.args.scanner.now c.two.new.scanner (c.in-Some.x, c.in-Some.y)
     (subst (TakesTwo (2 * c.max.result + 1) c.args.scanner.now c.two.new.scanner) c.in-Some.is c.in_ok-x.ensures.ok) (c.has_pair.ensures.0 c.if-has_pair.true)
 
 pub returns-else-has_pair-clause-ok : goal.returns-else-has_pair-clause-ok
 returns-else-has_pair-clause-ok c =
-    pair_other c.args.graph.now (2 * c.max.result + 1) c.args.scanner.now c.two.new.scanner (c.in-Some.x, c.in-Some.y)
+    pair_other c.args.extended.now (2 * c.max.result + 1) c.args.scanner.now c.two.new.scanner (c.in-Some.x, c.in-Some.y)
     (subst (TakesTwo (2 * c.max.result + 1) c.args.scanner.now c.two.new.scanner) c.in-Some.is c.in_ok-x.ensures.ok)
     (λ has. let f : false ≡ true = sym c.if-has_pair.false ∙ c.has_pair.ensures.1 has in absurd (cc))

@@ -1,34 +1,39 @@
 use Rattle.std.proofs.lemmas.Result.{IfErr-weaker, on_ok_weaker}
 use Rattle.graph_core.specs.Certificates.{IsLawfulAlgebra}
-use Rattle.graph_core.specs.Graph.Operands.{profile_of, sides_for}
+use Rattle.graph_core.specs.Graph.Operands.{sides_for}
 use Rattle.mv_desk.specs.View.{bytes_under}
 use Rattle.mv_desk.specs.declared.slot.Slot.TheVariants as slot
 use Rattle.mv_desk.proofs.CallerLemmas.{IfSome-Keeps, Inspects-Opens, Inspects-ReadsOnly, Inspects-trans, KeepsTelling-trans, OpensFiles-still, SlotStays-trans}
 use Rattle.mv_text.specs.LineReading.{lengths_of}
+use Rattle.joint_checker.specs.ClauseFiles.{premises}
 use Rattle.joint_checker.specs.Fails.{IsAlgebraFail}
 use Rattle.joint_checker.proofs.OpenedTexts.{algebra_fails}
 use Rattle.joint_checker.proofs.algebra_file.check_algebra.Goals as goal
 
 pub returns-in-Ok-clause-lawful : goal.returns-in-Ok-clause-lawful
 returns-in-Ok-clause-lawful g c =
-    let e = c.args.extended.now in
+    let shown = c.args.shown.now in
+    let e = shown.extended in
+    let p = premises shown.version e shown.added in
     on_ok_weaker c.judge_algebra.result
     (IfSome-Keeps (bytes_under (g.D.Desk.seen c.args.desk.now) c.args.name.now) ((g.D.Desk.seen c.open_file.new.self).left slot.Algebra)
-    (IsLawfulAlgebra (lengths_of c.args.limits.now) e (sides_for c.args.claim e.graph)) c.in-Ok.ensures.opens.left)
+    (IsLawfulAlgebra (lengths_of c.args.limits.now) p (sides_for c.args.claim e.graph)) c.in-Ok.ensures.opens.left)
     c.judge_algebra.ensures.lawful
 
 pub returns-in-Ok-clause-refused : goal.returns-in-Ok-clause-refused
 returns-in-Ok-clause-refused g c =
     let lengths = lengths_of c.args.limits.now in
-    let e = c.args.extended.now in
+    let shown = c.args.shown.now in
+    let e = shown.extended in
+    let p = premises shown.version e shown.added in
     let sides = sides_for c.args.claim e.graph in
     let first = g.D.Desk.seen c.args.desk.now in
     let before = g.D.Desk.seen c.open_file.new.self in
     let now = g.D.Desk.seen c.judge_algebra.new.desk in
     let text = bytes_under first c.args.name.now in
     let left = before.left slot.Algebra in
-    IfErr-weaker c.judge_algebra.result (IsAlgebraFail lengths e sides left before now) (IsAlgebraFail lengths e sides text first now)
-    (algebra_fails text left c.in-Ok.ensures.opens.left first before now c.in-Ok.ensures.cause.later lengths e sides) c.judge_algebra.ensures.refused
+    IfErr-weaker c.judge_algebra.result (IsAlgebraFail lengths p sides left before now) (IsAlgebraFail lengths p sides text first now)
+    (algebra_fails text left c.in-Ok.ensures.opens.left first before now c.in-Ok.ensures.cause.later lengths p sides) c.judge_algebra.ensures.refused
 
 pub returns-in-Ok-clause-others : goal.returns-in-Ok-clause-others
 returns-in-Ok-clause-others g c =

@@ -13,7 +13,7 @@ returns-in-Err-clause-refused g c =
     let file = c.args.work.now.file in
     let before = g.D.Desk.seen c.args.desk.now in
     rw c.line_refused.ensures
-    (text_fails c.args.line checker.extended checker.sides (ledger_of checker) c.args.work.now.max file.lines (left_in file before) before (g.D.Desk.seen c.grow.new.on) c.in-Err.fail c.requires.max
+    (text_fails c.args.line file.version checker.extended checker.sides (ledger_of checker) c.args.work.now.max file.lines (left_in file before) before (g.D.Desk.seen c.grow.new.on) c.in-Err.fail c.requires.max
     c.in-Err.ensures.did.0.refused)
 
 pub returns-in-Ok-clause-turns : goal.returns-in-Ok-clause-turns
@@ -27,10 +27,10 @@ returns-in-Ok-clause-turns g c =
     let behind = left_in c.grow.new.work.file (g.D.Desk.seen c.grow.new.on) in
     let grows = c.grow.ensures.grows in
     let same_max = c.requires.max ∙ ap (λ e. e.max) (sym grows.extended) in
-    IfOk-weaker c.judge_text.result (IsJudged c.in-Ok.text grown c.judge_text.new.checker) (Turns old.extended old.sides (ledger_of old) next lines then left behind) (λ turn h.
-    subst (λ (e : Extended). Turns e old.sides (ledger_of old) next lines then left behind turn) grows.extended
-    (subst (λ (sides : Sides). Turns grown.extended sides (ledger_of old) next lines then left behind turn) grows.sides
-    (turn_is grown (ledger_of old) grows.ledger c.grow.ensures.modulus c.args.work.now.max same_max lines then left behind c.in-Ok.text c.in-Ok.ensures.did.0.line c.judge_text.new.checker turn h)))
+    IfOk-weaker c.judge_text.result (IsJudged c.in-Ok.text grown c.judge_text.new.checker) (Turns c.args.work.now.file.version old.extended old.sides (ledger_of old) next lines then left behind) (λ turn h.
+    subst (λ (e : Extended). Turns c.args.work.now.file.version e old.sides (ledger_of old) next lines then left behind turn) grows.extended
+    (subst (λ (sides : Sides). Turns c.args.work.now.file.version grown.extended sides (ledger_of old) next lines then left behind turn) grows.sides
+    (turn_is grown (ledger_of old) grows.ledger c.grow.ensures.modulus c.args.work.now.file.version c.args.work.now.max same_max lines then left behind c.in-Ok.text c.in-Ok.ensures.did.0.line c.judge_text.new.checker turn h)))
     c.judge_text.ensures.judged
 
 pub returns-in-Ok-clause-refused : goal.returns-in-Ok-clause-refused
@@ -45,8 +45,8 @@ returns-in-Ok-clause-refused g c =
     let behind = left_in c.grow.new.work.file after in
     let grows = c.grow.ensures.grows in
     let same_max = c.requires.max ∙ ap (λ e. e.max) (sym grows.extended) in
-    IfErr-weaker c.judge_text.result (IsUnlawful c.args.line c.in-Ok.text grown) (IsLineFail c.args.line old.extended old.sides (ledger_of old) lines left before after) (λ answer h.
-    subst (λ (e : Extended). IsLineFail c.args.line e old.sides (ledger_of old) lines left before after answer) grows.extended
-    (subst (λ (sides : Sides). IsLineFail c.args.line grown.extended sides (ledger_of old) lines left before after answer) grows.sides
-    (turn_fails grown (ledger_of old) grows.ledger c.grow.ensures.modulus c.args.work.now.max same_max lines then left behind c.in-Ok.text c.in-Ok.ensures.did.0.line c.args.line before after answer h)))
+    IfErr-weaker c.judge_text.result (IsUnlawful c.args.line c.in-Ok.text grown) (IsLineFail c.args.line c.args.work.now.file.version old.extended old.sides (ledger_of old) lines left before after) (λ answer h.
+    subst (λ (e : Extended). IsLineFail c.args.line c.args.work.now.file.version e old.sides (ledger_of old) lines left before after answer) grows.extended
+    (subst (λ (sides : Sides). IsLineFail c.args.line c.args.work.now.file.version grown.extended sides (ledger_of old) lines left before after answer) grows.sides
+    (turn_fails grown (ledger_of old) grows.ledger c.grow.ensures.modulus c.args.work.now.file.version c.args.work.now.max same_max lines then left behind c.in-Ok.text c.in-Ok.ensures.did.0.line c.args.line before after answer h)))
     c.judge_text.ensures.refused

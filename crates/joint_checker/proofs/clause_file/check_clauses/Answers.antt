@@ -4,7 +4,7 @@ use Rattle.mv_desk.specs.View.{bytes_under}
 use Rattle.mv_desk.specs.declared.slot.Slot.TheVariants as slot
 use Rattle.mv_desk.proofs.CallerLemmas.{IfSome-Keeps, Inspects-Opens, Inspects-ReadsOnly, Inspects-trans, KeepsTelling-trans, OpensFiles-still, SlotStays-trans}
 use Rattle.mv_text.specs.LineReading.{lengths_of}
-use Rattle.joint_checker.specs.ClauseFiles.{GivesExtended}
+use Rattle.joint_checker.specs.ClauseFiles.{GivesPremises, premises}
 use Rattle.joint_checker.specs.Fails.{IsClauseFail}
 use Rattle.joint_checker.proofs.OpenedTexts.{clauses_fail}
 use Rattle.joint_checker.proofs.clause_file.check_clauses.Goals as goal
@@ -15,8 +15,9 @@ returns-in-Ok-clause-gives g c =
     let graph = c.args.graph.now in
     let text = bytes_under (g.D.Desk.seen c.args.desk.now) c.args.name.now in
     let left = (g.D.Desk.seen c.open_file.new.self).left slot.Clauses in
-    IfOk-weaker c.judge_clauses.result (λ e. IfSome left (λ bytes. GivesExtended lengths graph bytes e)) (λ e. IfSome text (λ bytes. GivesExtended lengths graph bytes e))
-    (λ e. IfSome-Keeps text left (λ bytes. GivesExtended lengths graph bytes e) c.in-Ok.ensures.opens.left) c.judge_clauses.ensures.gives
+    IfOk-weaker c.judge_clauses.result (λ s. IfSome left (λ bytes. GivesPremises lengths graph bytes (premises s.version s.extended s.added)))
+    (λ s. IfSome text (λ bytes. GivesPremises lengths graph bytes (premises s.version s.extended s.added)))
+    (λ s. IfSome-Keeps text left (λ bytes. GivesPremises lengths graph bytes (premises s.version s.extended s.added)) c.in-Ok.ensures.opens.left) c.judge_clauses.ensures.gives
 
 pub returns-in-Ok-clause-refused : goal.returns-in-Ok-clause-refused
 returns-in-Ok-clause-refused g c =

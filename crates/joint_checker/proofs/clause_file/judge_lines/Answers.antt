@@ -1,14 +1,15 @@
-use Rattle.std.proofs.Common.{◌+◌, ℕ, List, Option, sym, subst}
+use Rattle.std.proofs.Common.{◌+◌, ℕ, List, Option, IfSome, sym, subst, ◌∙◌}
 use Rattle.std.specs.List.{All}
 use Rattle.graph_core.specs.declared.gate.Gate.{Gate}
-use Rattle.clause_core.specs.Clause.{IsClauseInRange}
-use Rattle.std.proofs.lemmas.Result.{IfErr-weaker, err_from_is_err_and, on_ok_weaker}
+use Rattle.clause_core.specs.Clause.{Clause, IsClauseInRange}
+use Rattle.clause_core.specs.Facts.{IsClauseFact}
+use Rattle.std.proofs.lemmas.Result.{err_from_is_err_and}
 use Rattle.clause_core.specs.ClauseLines.{ClauseLine}
 use Rattle.mv_desk.specs.declared.slot.Slot.TheVariants as slot
 use Rattle.mv_desk.proofs.CallerLemmas.{KeepsTelling-trans, ReadsOnly-trans}
 use Rattle.clause_core.specs.GateClauses.{gate_clauses}
 use Rattle.clause_core.specs.Likeness.{AreSameSets}
-use Rattle.clause_judge.specs.ClauseBody.{IsFailFrom, IsRestFail}
+use Rattle.clause_judge.specs.ClauseBody.{IsShownWith}
 use Rattle.clause_judge.specs.ClauseLines.{IsTextFail, ReadsNext, left_for}
 use Rattle.clause_judge.proofs.ClauseTurns.{begins_with, first_fails, nothing_joined, nothing_passed}
 use Rattle.joint_checker.proofs.clause_file.judge_lines.Goals as goal
@@ -36,9 +37,10 @@ returns-then-is_nothing-clause-lawful g c =
     let body = left_for start (g.D.Desk.seen c.args.desk.now) in
     let left = left_for file (g.D.Desk.seen c.read_line.new.desk) in
     let none = c.is_nothing.ensures c.if-is_nothing.true in
-    nothing_passed e start body c.in_ok-goals.goals c.in_ok-goals.ensures.sets none.1 file left
+    subst (λ (cs : List Clause). IfSome body (IsShownWith e start.lines c.args.version cs)) (sym c.new.ensures)
+    (nothing_passed e start body c.in_ok-goals.goals c.in_ok-goals.ensures.sets none.1 c.args.version file left
     (subst (λ (next : Option ClauseLine). ReadsNext e.max start file body left next) none.0
-    (subst (λ (m : ℕ). ReadsNext m start file body left c.in_ok-first.first) c.max-max.ensures.value c.in_ok-first.ensures.next))
+    (subst (λ (m : ℕ). ReadsNext m start file body left c.in_ok-first.first) c.max-max.ensures.value c.in_ok-first.ensures.next)))
 
 pub returns-then-is_nothing-clause-columns : goal.returns-then-is_nothing-clause-columns
 returns-then-is_nothing-clause-columns g c =
@@ -80,7 +82,8 @@ returns-clause-lawful g c =
     begins_with e start body c.in_ok-checker.checker c.gates.result.now c.in_ok-goals.goals c.max-max.result c.in_ok-first.first file (left_for file middle)
     c.in_ok-checker.ensures.taken (sym c.gates.ensures.value) c.in_ok-checker.ensures.max c.max-max.ensures.value c.in_ok-checker.ensures.goals c.in_ok-goals.ensures.sets c.in_ok-first.ensures.lengths c.requires.limit
     c.in_ok-first.ensures.next in
-    on_ok_weaker c.judge_from.result (λ shown. shown e start body begins) c.judge_from.ensures.lawful
+    subst (λ (cs : List Clause). IfSome body (IsShownWith e start.lines c.args.version cs)) (sym c.into_added.ensures.value)
+    (subst (λ (v : ℕ). IfSome body (IsShownWith e start.lines v c.judge_from.new.checker.added)) c.in_ok-checker.ensures.version (c.in_ok-judge_from.ensures.lawful e start body begins))
 
 pub returns-clause-columns : goal.returns-clause-columns
 returns-clause-columns g c =
@@ -93,23 +96,36 @@ returns-clause-columns g c =
     begins_with e start body c.in_ok-checker.checker c.gates.result.now c.in_ok-goals.goals c.max-max.result c.in_ok-first.first file (left_for file middle)
     c.in_ok-checker.ensures.taken (sym c.gates.ensures.value) c.in_ok-checker.ensures.max c.max-max.ensures.value c.in_ok-checker.ensures.goals c.in_ok-goals.ensures.sets c.in_ok-first.ensures.lengths c.requires.limit
     c.in_ok-first.ensures.next in
-    on_ok_weaker c.judge_from.result (λ joins. joins e start body begins) c.judge_from.ensures.columns
+    c.in_ok-judge_from.ensures.columns e start body begins
 
-pub returns-clause-refused : goal.returns-clause-refused
-returns-clause-refused g c =
+pub returns-clause-facts : goal.returns-clause-facts
+returns-clause-facts g c =
+    let same = c.judge_from.ensures.gates ∙ c.in_ok-checker.ensures.gates ∙ c.gates.ensures.value in
+    subst (All (IsClauseFact c.args.extended.now.gates)) (sym c.into_added.ensures.value)
+    (subst (λ (gates : List Gate). All (IsClauseFact gates) c.judge_from.new.checker.added) same c.into_added.ensures.facts)
+
+pub returns-in_err-judge_from-clause-refused : goal.returns-in_err-judge_from-clause-refused
+returns-in_err-judge_from-clause-refused g c =
     let e = c.args.extended.now in
     let start = c.args.file.now in
     let first = g.D.Desk.seen c.args.desk.now in
     let middle = g.D.Desk.seen c.read_line.new.desk in
-    let now = g.D.Desk.seen c.judge_from.new.desk in
     let file = c.read_line.new.file in
     let body = left_for start first in
     let begins =
     begins_with e start body c.in_ok-checker.checker c.gates.result.now c.in_ok-goals.goals c.max-max.result c.in_ok-first.first file (left_for file middle)
     c.in_ok-checker.ensures.taken (sym c.gates.ensures.value) c.in_ok-checker.ensures.max c.max-max.ensures.value c.in_ok-checker.ensures.goals c.in_ok-goals.ensures.sets c.in_ok-first.ensures.lengths c.requires.limit
     c.in_ok-first.ensures.next in
-    IfErr-weaker c.judge_from.result (IsFailFrom c.in_ok-checker.checker c.in_ok-first.first file (left_for file middle) middle now) (IsRestFail (start.number + 1) e start.lines body first now)
-    (λ answer fails. fails e start body begins first c.in_ok-first.ensures.only.later) c.judge_from.ensures.refused
+    let p = err_from_is_err_and c.from_residual-in_err-judge_from.result c.from_residual-in_err-judge_from.ensures.1 in
+    rw (p.1, p.2) (c.in_err-judge_from.ensures.refused e start body begins first c.in_ok-first.ensures.only.later)
+
+pub returns-in_err-judge_from-clause-only : goal.returns-in_err-judge_from-clause-only
+returns-in_err-judge_from-clause-only g c =
+    ReadsOnly-trans slot.Clauses (g.D.Desk.seen c.args.desk.now) (g.D.Desk.seen c.read_line.new.desk) (g.D.Desk.seen c.judge_from.new.desk) c.in_ok-first.ensures.only c.judge_from.ensures.only
+
+pub returns-in_err-judge_from-clause-tells : goal.returns-in_err-judge_from-clause-tells
+returns-in_err-judge_from-clause-tells g c =
+    KeepsTelling-trans (g.D.Desk.seen c.args.desk.now) (g.D.Desk.seen c.read_line.new.desk) (g.D.Desk.seen c.judge_from.new.desk) c.in_ok-first.ensures.tells c.judge_from.ensures.tells
 
 pub returns-clause-only : goal.returns-clause-only
 returns-clause-only g c =

@@ -1,15 +1,14 @@
 use Rattle.std.proofs.Common.{ap, sym, subst}
-use Rattle.std.specs.Prelude.{IfSome, Some}
+use Rattle.std.specs.Prelude.{IfSome}
 use Rattle.graph_core.specs.Aiger.Soundness.{IsSizedAs}
-use Rattle.graph_core.specs.Graph.{Aig}
 use Rattle.graph_core.specs.Graph.Extended.{Extended}
 use Rattle.graph_core.specs.Graph.Operands.{AreOperandsOf, profile_of}
 use Rattle.stage_rewriter.specs.Rewriting.{IsShown}
 use Rattle.joint_checker.specs.Files.{files_of}
 use Rattle.joint_prover.specs.Endings.{IsEnded}
-use Rattle.joint_prover.specs.Parts.{IsToldOver}
+use Rattle.joint_prover.specs.Parts.{task_of}
 use Rattle.joint_prover.proofs.Starting.{starts}
-use Rattle.joint_prover.proofs.Telling.{Tells, told_over}
+use Rattle.joint_prover.proofs.Telling.{told_shown}
 use Rattle.joint_prover.proofs.attempts.by_layers.Goals as goal
 
 pub new_lines-requires : goal.new_lines-requires
@@ -50,22 +49,19 @@ pub returns-in-Some-clause-told : goal.returns-in-Some-clause-told
 returns-in-Some-clause-told g c =
     let job = c.args.job.now in
     let e = c.args.extended.now in
-    let claim = job.operands.now.claim in
+    let task = task_of job in
     let start = c.in_ok-lines.lines in
     let fresh = c.in_ok-lines.ensures.fresh in
     let l = c.reduced_by_layers.new.lines in
     let end = c.in-Some.ending in
-    let below = ap (λ (x : Extended). x.graph) c.requires.shown.extended_is in
     let ended = subst (λ o. IfSome o (IsEnded start.extended start.sides.claim l)) c.in-Some.is c.in_ok-ending.ensures in
     let files = files_of job.names.now in
     let a = g.D.Desk.seen c.args.desk.now in
     let b = g.D.Desk.seen c.told.new.desk in
     let v = c.in_ok-verdict-in-Some.verdict in
-    let cut = c.args.cut.now in
-    let log = c.args.log.now.lines in
-    subst (λ (h : Aig). IsShown h job.conflicts cut e log → IsToldOver h claim job.conflicts (Some cut) files a b v) below
-    (told_over files a b l end v e claim
+    let said = c.with_cut-clauses.result in
+    let is = c.with_cut-clauses.ensures in
+    told_shown files a b l end v job.graph.now e task c.args.cut.now said c.in_ok-verdict-in-Some.ensures.verdict
     (subst (λ s. IsEnded e s.claim l end) fresh.sides (subst (λ x. IsEnded x start.sides.claim l end) fresh.extended ended))
-    cut log (subst (IsSizedAs (profile_of claim.add)) (sym below) c.requires.job.sized) c.new_lines.ensures.extension.graph
-    (subst (λ ls. Tells (Some cut) ls l end files a b v) c.lines-in-Some.ensures.lines c.in_ok-verdict-in-Some.ensures.verdict) job.conflicts)
-    c.requires.shown
+    c.requires.job.sized c.new_lines.ensures.extension.graph c.requires.job.version (sym is.version) is.named
+    (subst (IsShown job.graph.now job.conflicts c.args.cut.now e) (sym is.lines) c.requires.shown)

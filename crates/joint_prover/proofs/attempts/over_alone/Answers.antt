@@ -1,4 +1,5 @@
 use Rattle.std.proofs.Common.{false, refl, sym, subst, ◌∙◌}
+use Rattle.std.specs.Prelude.{None}
 use Rattle.graph_core.specs.Aiger.Soundness.{IsSizedAs}
 use Rattle.graph_core.specs.Graph.Extended.{Extended, without_cut}
 use Rattle.graph_core.specs.Graph.Operands.{profile_of}
@@ -6,9 +7,11 @@ use Rattle.pac_writer.specs.Writing.{IsFresh}
 use Rattle.ripple_graft.specs.Extension.{IsExtension}
 use Rattle.joint_checker.specs.Files.{files_of}
 use Rattle.joint_prover.specs.Endings.{IsEnded, IsSliced}
+use Rattle.joint_prover.specs.Parts.{task_of}
 use Rattle.joint_prover.specs.Tries.{IsAbove}
+use Rattle.joint_prover.proofs.WrittenClauses.{said_alone}
 use Rattle.joint_prover.proofs.Starting.{starts_alone}
-use Rattle.joint_prover.proofs.Telling.{told_alone}
+use Rattle.joint_prover.proofs.Telling.{told_over}
 use Rattle.joint_prover.proofs.attempts.over_alone.Goals as goal
 
 pub new_lines-requires : goal.new_lines-requires
@@ -48,13 +51,16 @@ returns-in-Ended-clause-over g c =
     let e = without_cut job.graph.now in
     let start = c.in_ok-lines.lines in
     let fresh = c.in_ok-lines.ensures.fresh in
-    let same = fresh.extended ∙ c.without_cut-extended.ensures in
+    let lone = c.without_cut-extended.ensures in
     let l = c.reduced_by_slices.new.lines in
     let end = c.in-Ended.ending in
     let ended = subst (IsSliced start c.args.budget false l) c.in-Ended.is c.in_ok-ending.ensures in
-    told_alone (files_of job.names.now) (g.D.Desk.seen c.args.desk.now) (g.D.Desk.seen c.told.new.desk) l end c.in_ok-verdict-in-Ended.verdict e job.operands.now.claim
-    (subst (λ s. IsEnded e s.claim l end) fresh.sides (subst (λ x. IsEnded x start.sides.claim l end) same ended))
-    refl c.in_ok-verdict-in-Ended.ensures.verdict job.conflicts
+    let said = c.without_cut-clauses.result in
+    let is = c.without_cut-clauses.ensures in
+    told_over (files_of job.names.now) (g.D.Desk.seen c.args.desk.now) (g.D.Desk.seen c.told.new.desk) l end c.in_ok-verdict-in-Ended.verdict e (task_of job) None said
+    c.in_ok-verdict-in-Ended.ensures.verdict
+    (subst (λ s. IsEnded e s.claim l end) fresh.sides (subst (λ x. IsEnded x start.sides.claim l end) (fresh.extended ∙ lone) ended))
+    c.requires.sized (subst IsExtension lone c.new_lines.ensures.extension).graph (said_alone job.graph.now (task_of job) said c.requires.version (sym is.version) is.named is.lines)
 
 pub returns-clause-over : goal.returns-clause-over
 returns-clause-over g c =

@@ -1,15 +1,13 @@
-use Rattle.std.proofs.Common.{◌≡◌, subst}
+use Rattle.std.proofs.Common.{◌≡◌, ap, inr, subst, ◌∙◌}
 use Rattle.std.proofs.lemmas.Result.{IfOk-weaker}
-use Rattle.std.specs.Prelude.{option_map, ℕ}
-use Rattle.drup_text.specs.Headers.{extended_by}
-use Rattle.drup_text.specs.WrittenTexts.{file_text}
+use Rattle.drup_text.specs.declared.head.Header.{Header}
+use Rattle.drup_text.specs.WrittenTexts.{any_file_text}
 use Rattle.graph_core.specs.Graph.Extended.{Extended}
-use Rattle.graph_core.specs.declared.claim.Claim.{Claim}
 use Rattle.joint_checker.specs.Files.{files_of}
 use Rattle.joint_prover.specs.Endings.{Decides, IsEnded}
-use Rattle.joint_prover.specs.Pairs.{AreClausesOver}
-use Rattle.joint_prover.specs.Parts.{IsToldOver, IsToldWrong}
-use Rattle.joint_prover.proofs.Telling.{differs_least, differs_operands, differs_sized, differs_told, written_told, wrong_told}
+use Rattle.joint_prover.specs.Parts.{IsToldWrong, IsWritten, cut_named, header_of}
+use Rattle.joint_prover.proofs.WrittenClauses.{header_has_one}
+use Rattle.joint_prover.proofs.Telling.{Tells, differs_least, differs_operands, differs_sized, differs_told, written_told, wrong_told}
 use Rattle.joint_prover.proofs.conclusion.told.Goals as goal
 
 pub wrong-requires-clause-sized : goal.wrong-requires-clause-sized
@@ -33,26 +31,34 @@ wrong-requires-clause-least g c =
     differs_least c.args.lines.now c.graph-graph.result.now c.operands.result.now (subst (λ (x : Extended). c.graph-graph.result.now ≡ x.graph) c.extended.ensures c.graph-graph.ensures) c.operands.ensures e claim c.in-Differs.numbers
     (subst (IsEnded e claim c.args.lines.now) c.in-Differs.is c.requires.ended.3)
 
-pub returns-in-Closed-clause-verdict : goal.returns-in-Closed-clause-verdict
-returns-in-Closed-clause-verdict g c = λ e claim conflicts ended itself given.
-    let cut = option_map (λ x. x.now) c.args.cut in
-    let closed = subst (Decides e.graph claim c.args.lines.now) c.in-Closed.is ended.decides in
-    written_told (files_of c.args.names.now) (g.D.Desk.seen c.args.desk.now) (g.D.Desk.seen c.written.new.desk) e claim conflicts cut (file_text cut c.args.log.now) itself given
-    c.args.lines.now c.written.result ended.extended ended.sides closed.1 c.written.ensures.verdict
+pub written-requires-clause-one : goal.written-requires-clause-one
+written-requires-clause-one g c = inr (header_has_one c.graph-graph.result.now c.args.clauses _ c.in_ok-header-in-Closed.ensures)
+
+pub returns-in_ok-header-in-Closed-clause-verdict : goal.returns-in_ok-header-in-Closed-clause-verdict
+returns-in_ok-header-in-Closed-clause-verdict g c = λ e task ended version itself given.
+    let l = c.args.lines.now in
+    let clauses = c.args.clauses in
+    let closed = subst (Decides e.graph task.claim l) c.in-Closed.is ended.decides in
+    let files = files_of c.args.names.now in
+    let a = g.D.Desk.seen c.args.desk.now in
+    let b = g.D.Desk.seen c.written.new.desk in
+    let v = c.written.result in
+    let below : c.graph-graph.result.now ≡ e.graph = c.graph-graph.ensures ∙ ap (λ (x : Extended). x.graph) (c.extended.ensures ∙ ended.extended) in
+    let is = c.in_ok-header-in-Closed.ensures ∙ ap (λ h. header_of h clauses) below in
+    written_told files a b e task (cut_named clauses) (any_file_text (header_of e.graph clauses) clauses.log.now) itself given l clauses.version version ended.extended ended.sides v closed.1
+    (subst (λ (h : Header). IsWritten l h.version (any_file_text h clauses.log.now) files a b v) is c.written.ensures.verdict)
 
 pub returns-in-Differs-clause-verdict : goal.returns-in-Differs-clause-verdict
 returns-in-Differs-clause-verdict g c =
     let l = c.args.lines.now in
-    let cut = option_map (λ x. x.now) c.args.cut in
+    let clauses = c.args.clauses in
     let files = files_of c.args.names.now in
     let a = g.D.Desk.seen c.args.desk.now in
     let graph = c.graph-graph.result.now in
     let s = c.operands.result.now in
-    IfOk-weaker c.wrong.result (IsToldWrong graph s.claim)
-    (λ v. (e : Extended) (claim : Claim) (conflicts : ℕ) → IsEnded e claim l c.args.ending → e ≡ extended_by e.graph cut → AreClausesOver e.graph conflicts cut (file_text cut c.args.log.now) →
-    IsToldOver e.graph claim conflicts cut files a a v)
-    (λ v told e claim conflicts ended itself given.
-    wrong_told e.graph claim conflicts cut files a v
-    (differs_told l graph s (subst (λ (x : Extended). graph ≡ x.graph) c.extended.ensures c.graph-graph.ensures) c.operands.ensures e claim c.in-Differs.numbers
-    (subst (IsEnded e claim l) c.in-Differs.is ended) v told))
+    IfOk-weaker c.wrong.result (IsToldWrong graph s.claim) (Tells clauses l c.args.ending files a a)
+    (λ v told e task ended version itself given.
+    wrong_told e.graph task (cut_named clauses) files a v
+    (differs_told l graph s (subst (λ (x : Extended). graph ≡ x.graph) c.extended.ensures c.graph-graph.ensures) c.operands.ensures e task.claim c.in-Differs.numbers
+    (subst (IsEnded e task.claim l) c.in-Differs.is ended) v told))
     c.wrong.ensures

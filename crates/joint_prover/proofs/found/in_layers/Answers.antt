@@ -1,7 +1,7 @@
 use Rattle.std.proofs.Common.{◌≡◌, subst}
 use Rattle.std.specs.Prelude.{IfOk, OnErr, Some}
 use Rattle.joint_checker.specs.Files.{files_of}
-use Rattle.joint_prover.specs.Parts.{MayTellOver}
+use Rattle.joint_prover.specs.Parts.{MayTellOver, task_of}
 use Rattle.joint_prover.proofs.found.in_layers.Goals as goal
 
 pub returns-in-Some-clause-told : goal.returns-in-Some-clause-told
@@ -9,34 +9,31 @@ returns-in-Some-clause-told g c =
     let job = c.args.job.now in
     let cut = Some c.args.shown.now.cut in
     let graph = job.graph.now in
-    let claim = job.operands.now.claim in
     let files = files_of job.names.now in
     let a = g.D.Desk.seen c.args.desk.now in
     let b = g.D.Desk.seen c.by_layers.new.desk in
-    subst (MayTellOver graph claim job.conflicts cut files a b) c.in-Some.is c.in_ok-verdict.ensures.told
+    subst (MayTellOver graph (task_of job) cut files a b) c.in-Some.is c.in_ok-verdict.ensures.told
 
 pub returns-clause-told : goal.returns-clause-told
 returns-clause-told g c =
     let job = c.args.job.now in
     let cut = Some c.args.shown.now.cut in
     let graph = job.graph.now in
-    let claim = job.operands.now.claim in
     let files = files_of job.names.now in
     let a = g.D.Desk.seen c.args.desk.now in
     let m = g.D.Desk.seen c.by_layers.new.desk in
     let b = g.D.Desk.seen c.by_layers-2.new.desk in
-    let same : m ≡ a = subst (MayTellOver graph claim job.conflicts cut files a m) c.in_default.is c.in_ok-verdict.ensures.told in
-    subst (λ x. IfOk c.by_layers-2.result (MayTellOver graph claim job.conflicts cut files x b)) same c.by_layers-2.ensures.told
+    let same : m ≡ a = subst (MayTellOver graph (task_of job) cut files a m) c.in_default.is c.in_ok-verdict.ensures.told in
+    subst (λ x. IfOk c.by_layers-2.result (MayTellOver graph (task_of job) cut files x b)) same c.by_layers-2.ensures.told
 
 pub returns-clause-memory : goal.returns-clause-memory
 returns-clause-memory g c =
     let job = c.args.job.now in
     let cut = Some c.args.shown.now.cut in
     let graph = job.graph.now in
-    let claim = job.operands.now.claim in
     let files = files_of job.names.now in
     let a = g.D.Desk.seen c.args.desk.now in
     let m = g.D.Desk.seen c.by_layers.new.desk in
     let b = g.D.Desk.seen c.by_layers-2.new.desk in
-    let same : m ≡ a = subst (MayTellOver graph claim job.conflicts cut files a m) c.in_default.is c.in_ok-verdict.ensures.told in
+    let same : m ≡ a = subst (MayTellOver graph (task_of job) cut files a m) c.in_default.is c.in_ok-verdict.ensures.told in
     subst (λ x. OnErr c.by_layers-2.result (b ≡ x)) same c.by_layers-2.ensures.memory

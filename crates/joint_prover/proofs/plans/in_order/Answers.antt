@@ -1,4 +1,4 @@
-use Rattle.std.proofs.Common.{refl, sym, subst, ◌∙◌}
+use Rattle.std.proofs.Common.{sym, subst, ◌∙◌}
 use Rattle.graph_core.specs.Aiger.Soundness.{IsSizedAs}
 use Rattle.graph_core.specs.Graph.Extended.{Extended, without_cut}
 use Rattle.graph_core.specs.Graph.Operands.{profile_of}
@@ -7,8 +7,9 @@ use Rattle.ripple_graft.specs.Extension.{IsExtension}
 use Rattle.joint_checker.specs.Files.{files_of}
 use Rattle.joint_prover.specs.Endings.{IsEnded, IsPlain}
 use Rattle.joint_prover.specs.Parts.{task_of}
+use Rattle.joint_prover.proofs.WrittenClauses.{said_alone}
 use Rattle.joint_prover.proofs.Starting.{starts_alone}
-use Rattle.joint_prover.proofs.Telling.{tells_last}
+use Rattle.joint_prover.proofs.Telling.{told_last}
 use Rattle.joint_prover.proofs.plans.in_order.Goals as goal
 
 pub new_lines-requires : goal.new_lines-requires
@@ -48,10 +49,12 @@ returns-in-Ended-clause-verdict g c =
     let e = without_cut job.graph.now in
     let start = c.in_ok-lines.lines in
     let fresh = c.in_ok-lines.ensures.fresh in
-    let same = fresh.extended ∙ c.without_cut-extended.ensures in
+    let lone = c.without_cut-extended.ensures in
     let l = c.reduced_plainly.new.lines in
     let end = c.in-Ended.ending in
     let ended = subst (IsPlain start job.budget l) c.in-Ended.is c.in_ok-ending.ensures in
-    tells_last (files_of job.names.now) (g.D.Desk.seen c.args.desk.now) (g.D.Desk.seen c.told.new.desk) l end c.told.result e (task_of job)
-    (subst (λ s. IsEnded e s.claim l end) fresh.sides (subst (λ x. IsEnded x start.sides.claim l end) same ended))
-    c.args.tried.items refl c.told.ensures.verdict
+    let said = c.without_cut-clauses.result in
+    let is = c.without_cut-clauses.ensures in
+    told_last (files_of job.names.now) (g.D.Desk.seen c.args.desk.now) (g.D.Desk.seen c.told.new.desk) l end c.told.result e (task_of job) said c.args.tried.items c.told.ensures.verdict
+    (subst (λ s. IsEnded e s.claim l end) fresh.sides (subst (λ x. IsEnded x start.sides.claim l end) (fresh.extended ∙ lone) ended))
+    c.requires.job.sized (subst IsExtension lone c.new_lines.ensures.extension).graph (said_alone job.graph.now (task_of job) said c.requires.job.version (sym is.version) is.named is.lines)

@@ -17,7 +17,7 @@ returns-in-Told-clause-verdict g c =
     let b = g.D.Desk.seen c.over_alone.new.desk in
     λ used tried.
     told_of files a b graph (task_of job) used None c.in-Told.verdict (ends_behind graph claim job.budget used c.args.tried.items tried)
-    (subst (IsAttempt graph claim job.budget job.conflicts None files a b) c.in-Told.is c.in_ok-verdict.ensures.over)
+    (subst (IsAttempt graph (task_of job) job.budget None files a b) c.in-Told.is c.in_ok-verdict.ensures.over)
 
 pub returns-in_ok-push-in-Passed-clause-verdict : goal.returns-in_ok-push-in-Passed-clause-verdict
 returns-in_ok-push-in-Passed-clause-verdict g c =
@@ -29,7 +29,7 @@ returns-in_ok-push-in-Passed-clause-verdict g c =
     let m = g.D.Desk.seen c.over_alone.new.desk in
     let b = g.D.Desk.seen c.in_order.new.desk in
     let last = c.in-Passed.last in
-    let passed = subst (IsAttempt graph claim job.budget job.conflicts None files a m) c.in-Passed.is c.in_ok-verdict.ensures.over in
+    let passed = subst (IsAttempt graph (task_of job) job.budget None files a m) c.in-Passed.is c.in_ok-verdict.ensures.over in
     tried_more files a b c.in_order.result graph (task_of job) c.args.tried.items c.push.new.self.items last c.in_ok-push-in-Passed.ensures.items passed.0
     (subst (λ x. IfOk c.in_order.result (λ v. (used : Option Cut) → AreTried graph claim job.budget used c.push.new.self.items → IsOfGraph graph (task_of job) used files x b v)) passed.1
     c.in_order.ensures.verdict)
@@ -38,21 +38,19 @@ pub returns-in_err-push-in-Passed-clause-memory : goal.returns-in_err-push-in-Pa
 returns-in_err-push-in-Passed-clause-memory g c =
     let job = c.args.job.now in
     let graph = job.graph.now in
-    let claim = job.operands.now.claim in
     let files = files_of job.names.now in
     let a = g.D.Desk.seen c.args.desk.now in
     let m = g.D.Desk.seen c.over_alone.new.desk in
-    let passed = subst (IsAttempt graph claim job.budget job.conflicts None files a m) c.in-Passed.is c.in_ok-verdict.ensures.over in
+    let passed = subst (IsAttempt graph (task_of job) job.budget None files a m) c.in-Passed.is c.in_ok-verdict.ensures.over in
     on_err _ (m ≡ a) passed.1
 
 pub returns-in_ok-push-in-Passed-clause-memory : goal.returns-in_ok-push-in-Passed-clause-memory
 returns-in_ok-push-in-Passed-clause-memory g c =
     let job = c.args.job.now in
     let graph = job.graph.now in
-    let claim = job.operands.now.claim in
     let files = files_of job.names.now in
     let a = g.D.Desk.seen c.args.desk.now in
     let m = g.D.Desk.seen c.over_alone.new.desk in
     let b = g.D.Desk.seen c.in_order.new.desk in
-    let passed = subst (IsAttempt graph claim job.budget job.conflicts None files a m) c.in-Passed.is c.in_ok-verdict.ensures.over in
+    let passed = subst (IsAttempt graph (task_of job) job.budget None files a m) c.in-Passed.is c.in_ok-verdict.ensures.over in
     subst (λ x. OnErr c.in_order.result (b ≡ x)) passed.1 c.in_order.ensures.memory

@@ -24,25 +24,23 @@ returns-in-Told-clause-first g c =
     let u = c.in-Used in
     let job = c.args.job.now in
     let graph = job.graph.now in
-    let claim = job.operands.now.claim in
     let files = files_of job.names.now in
     let a = g.D.Desk.seen c.args.desk.now in
     let b = g.D.Desk.seen c.over_cut.new.desk in
     let v = c.in-Told.verdict in
     subst (λ r. IsFirst graph (task_of job) (cut_in r) files a b (kind.Told v)) (sym u.is)
     (told_of files a b graph (task_of job) (Some u.cut) (Some u.cut) v refl
-    (subst (IsAttempt graph claim job.budget job.conflicts (Some u.cut) files a b) c.in-Told.is c.in_ok-verdict-in-Used.ensures.over))
+    (subst (IsAttempt graph (task_of job) job.budget (Some u.cut) files a b) c.in-Told.is c.in_ok-verdict-in-Used.ensures.over))
 
 pub returns-in_ok-tried-in-Passed-clause-first : goal.returns-in_ok-tried-in-Passed-clause-first
 returns-in_ok-tried-in-Passed-clause-first g c =
     let u = c.in-Used in
     let job = c.args.job.now in
     let graph = job.graph.now in
-    let claim = job.operands.now.claim in
     let files = files_of job.names.now in
     let a = g.D.Desk.seen c.args.desk.now in
     let b = g.D.Desk.seen c.over_cut.new.desk in
-    let over = subst (IsAttempt graph claim job.budget job.conflicts (Some u.cut) files a b) c.in-Passed.is c.in_ok-verdict-in-Used.ensures.over in
+    let over = subst (IsAttempt graph (task_of job) job.budget (Some u.cut) files a b) c.in-Passed.is c.in_ok-verdict-in-Used.ensures.over in
     subst (λ r. IsFirst graph (task_of job) (cut_in r) files a b (kind.Left c.in_ok-tried-in-Passed.tried)) (sym u.is)
     ((c.in-Passed.tried, c.in_ok-tried-in-Passed.ensures.items, over.0), over.1)
 
@@ -51,9 +49,8 @@ returns-in_err-tried-in-Passed-clause-memory g c =
     let u = c.in-Used in
     let job = c.args.job.now in
     let graph = job.graph.now in
-    let claim = job.operands.now.claim in
     let files = files_of job.names.now in
     let a = g.D.Desk.seen c.args.desk.now in
     let b = g.D.Desk.seen c.over_cut.new.desk in
-    let over = subst (IsAttempt graph claim job.budget job.conflicts (Some u.cut) files a b) c.in-Passed.is c.in_ok-verdict-in-Used.ensures.over in
+    let over = subst (IsAttempt graph (task_of job) job.budget (Some u.cut) files a b) c.in-Passed.is c.in_ok-verdict-in-Used.ensures.over in
     on_err _ (b ≡ a) over.1

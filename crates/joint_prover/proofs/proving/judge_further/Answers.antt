@@ -11,22 +11,20 @@ pub returns-in-Some-clause-note : goal.returns-in-Some-clause-note
 returns-in-Some-clause-note g c =
     let job = c.args.job.now in
     let graph = job.graph.now in
-    let claim = job.operands.now.claim in
     let files = files_of job.names.now in
     let a = g.D.Desk.seen c.args.desk.now in
     let b = g.D.Desk.seen c.over_found.new.desk in
-    let told = subst (MayTellFound graph claim job.conflicts files a b) c.in-Some.is c.in_ok-verdict.ensures.told in
+    let told = subst (MayTellFound graph (task_of job) files a b) c.in-Some.is c.in_ok-verdict.ensures.told in
     told.found
 
 pub returns-in-Some-clause-verdict : goal.returns-in-Some-clause-verdict
 returns-in-Some-clause-verdict g c =
     let job = c.args.job.now in
     let graph = job.graph.now in
-    let claim = job.operands.now.claim in
     let files = files_of job.names.now in
     let a = g.D.Desk.seen c.args.desk.now in
     let b = g.D.Desk.seen c.over_found.new.desk in
-    let told = subst (MayTellFound graph claim job.conflicts files a b) c.in-Some.is c.in_ok-verdict.ensures.told in
+    let told = subst (MayTellFound graph (task_of job) files a b) c.in-Some.is c.in_ok-verdict.ensures.told in
     let cut = c.in-Some.cut in
     told_of files a b graph (task_of job) (Some cut) (Some cut) c.in-Some.verdict refl told.verdict
 
@@ -42,13 +40,12 @@ pub returns-in_ok-verdict-in-None-clause-verdict : goal.returns-in_ok-verdict-in
 returns-in_ok-verdict-in-None-clause-verdict g c =
     let job = c.args.job.now in
     let graph = job.graph.now in
-    let claim = job.operands.now.claim in
     let files = files_of job.names.now in
     let a = g.D.Desk.seen c.args.desk.now in
     let m = g.D.Desk.seen c.over_found.new.desk in
     let b = g.D.Desk.seen c.with_whole_budget.new.desk in
     let v = c.in_ok-verdict-in-None.verdict in
-    let same : m ≡ a = subst (MayTellFound graph claim job.conflicts files a m) c.in-None.is c.in_ok-verdict.ensures.told in
+    let same : m ≡ a = subst (MayTellFound graph (task_of job) files a m) c.in-None.is c.in_ok-verdict.ensures.told in
     subst (λ n. IsOfGraph graph (task_of job) (cut_of n) files a b v) (sym c.note.ensures)
     (subst (λ used. IsOfGraph graph (task_of job) used files a b v) (sym (cut_of_note _ c.args.rewritten))
     (subst (λ x. IsOfGraph graph (task_of job) (cut_in c.args.rewritten) files x b v) same c.in_ok-verdict-in-None.ensures.verdict))
@@ -57,10 +54,9 @@ pub returns-in_err-verdict-in-None-clause-memory : goal.returns-in_err-verdict-i
 returns-in_err-verdict-in-None-clause-memory g c =
     let job = c.args.job.now in
     let graph = job.graph.now in
-    let claim = job.operands.now.claim in
     let files = files_of job.names.now in
     let a = g.D.Desk.seen c.args.desk.now in
     let m = g.D.Desk.seen c.over_found.new.desk in
     let b = g.D.Desk.seen c.with_whole_budget.new.desk in
-    let same : m ≡ a = subst (MayTellFound graph claim job.conflicts files a m) c.in-None.is c.in_ok-verdict.ensures.told in
+    let same : m ≡ a = subst (MayTellFound graph (task_of job) files a m) c.in-None.is c.in_ok-verdict.ensures.told in
     on_err _ (b ≡ a) (c.in_err-verdict-in-None.ensures.memory ∙ same)

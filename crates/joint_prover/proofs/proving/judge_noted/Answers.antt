@@ -11,14 +11,14 @@ use Rattle.joint_prover.proofs.Sizes.{few_bits}
 use Rattle.joint_prover.proofs.proving.judge_noted.Goals as goal
 
 pub under-requires-clause-shape : goal.under-requires-clause-shape
-under-requires-clause-shape g c = shape_for c.args.task.now.claim.add c.args.graph.now c.requires
+under-requires-clause-shape g c = shape_for c.args.task.now.claim.add c.args.graph.now c.requires.sized
 
 pub under-requires-clause-narrow : goal.under-requires-clause-narrow
-under-requires-clause-narrow g c = few_bits c.args.task.now.claim.add c.args.graph.now c.requires
+under-requires-clause-narrow g c = few_bits c.args.task.now.claim.add c.args.graph.now c.requires.sized
 
 pub rewrite-requires-clause-shape : goal.rewrite-requires-clause-shape
 rewrite-requires-clause-shape g c =
-    subst (λ (s : Sides). HasShapeFor s.claim.add c.args.graph.now) (sym c.in_ok-operands.ensures) (shape_for c.args.task.now.claim.add c.args.graph.now c.requires)
+    subst (λ (s : Sides). HasShapeFor s.claim.add c.args.graph.now) (sym c.in_ok-operands.ensures) (shape_for c.args.task.now.claim.add c.args.graph.now c.requires.sized)
 
 pub rewrite-requires-clause-operands : goal.rewrite-requires-clause-operands
 rewrite-requires-clause-operands g c = subst (AreOperandsOf c.args.graph.now) (sym c.in_ok-operands.ensures) refl
@@ -26,7 +26,8 @@ rewrite-requires-clause-operands g c = subst (AreOperandsOf c.args.graph.now) (s
 pub judge_rewritten-requires-clause-job : goal.judge_rewritten-requires-clause-job
 judge_rewritten-requires-clause-job g c = record {
   operands = subst (AreOperandsOf c.args.graph.now) (sym c.in_ok-operands.ensures) refl;
-  sized = subst (λ (s : Sides). IsSizedAs (profile_of s.claim.add) c.args.graph.now) (sym c.in_ok-operands.ensures) c.requires;
+  sized = subst (λ (s : Sides). IsSizedAs (profile_of s.claim.add) c.args.graph.now) (sym c.in_ok-operands.ensures) c.requires.sized;
+  version = c.requires.version;
 }
 
 pub returns-clause-note : goal.returns-clause-note
@@ -39,5 +40,5 @@ returns-clause-verdict g c =
     let files = files_of c.args.names.now in
     let a = g.D.Desk.seen c.args.desk.now in
     let b = g.D.Desk.seen c.judge_rewritten.new.desk in
-    let under : Sides → Task = λ s. record { claim = s.claim; budget = task.budget; conflicts = task.conflicts } in
+    let under : Sides → Task = λ s. record { claim = s.claim; budget = task.budget; conflicts = task.conflicts; version = task.version } in
     subst (λ (s : Sides). IfOk c.judge_rewritten.result (λ r. IsOfGraph c.args.graph.now (under s) (cut_of r.1) files a b r.0)) c.in_ok-operands.ensures c.judge_rewritten.ensures.verdict

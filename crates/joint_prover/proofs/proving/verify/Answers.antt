@@ -9,8 +9,8 @@ use Rattle.joint_prover.proofs.EnoughBudgets.{enough_is_proved}
 use Rattle.joint_prover.proofs.Joining.{graph_is_read, joined, reading_leaves, refused, report_is_left, stays_on}
 use Rattle.joint_prover.proofs.proving.verify.Goals as goal
 
-pub judge-requires : goal.judge-requires
-judge-requires g c = subst (λ p. IsSizedAs p c.in-Ok.graph) c.profile-profile.ensures c.in-Ok.ensures.sized
+pub judge-requires-clause-sized : goal.judge-requires-clause-sized
+judge-requires-clause-sized g c = subst (λ p. IsSizedAs p c.in-Ok.graph) c.profile-profile.ensures c.in-Ok.ensures.sized
 
 pub returns-in-Ok-clause-verdict : goal.returns-in-Ok-clause-verdict
 returns-in-Ok-clause-verdict g c =

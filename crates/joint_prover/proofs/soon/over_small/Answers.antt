@@ -23,24 +23,22 @@ returns-in_ok-attempt-in-Used-clause-told g c =
     let u = c.in-Used in
     let job = c.args.job.now in
     let graph = job.graph.now in
-    let claim = job.operands.now.claim in
     let files = files_of job.names.now in
     let a = g.D.Desk.seen c.args.desk.now in
     let b = g.D.Desk.seen c.over_cut.new.desk in
     subst (λ r. MayTell graph (task_of job) (cut_in r) files a b c.verdict.result) (sym u.is)
     (may_tell graph (task_of job) (Some u.cut) files a b c.verdict.result
-    (subst (MayTellOver graph claim job.conflicts (Some u.cut) files a b) (sym c.verdict.ensures)
-    (attempt_tells graph claim _ job.conflicts (Some u.cut) files a b c.in_ok-attempt-in-Used.attempt c.in_ok-attempt-in-Used.ensures.over)))
+    (subst (MayTellOver graph (task_of job) (Some u.cut) files a b) (sym c.verdict.ensures)
+    (attempt_tells graph (task_of job) _ (Some u.cut) files a b c.in_ok-attempt-in-Used.attempt c.in_ok-attempt-in-Used.ensures.over)))
 
 pub returns-in_ok-attempt-in_default-clause-told : goal.returns-in_ok-attempt-in_default-clause-told
 returns-in_ok-attempt-in_default-clause-told g c =
     let job = c.args.job.now in
     let graph = job.graph.now in
-    let claim = job.operands.now.claim in
     let files = files_of job.names.now in
     let a = g.D.Desk.seen c.args.desk.now in
     let b = g.D.Desk.seen c.over_alone.new.desk in
     subst (λ used. MayTell graph (task_of job) used files a b c.verdict-in_default.result) (sym (without_adder c.args.rewritten.now c.in_default.not-Used))
     (may_tell graph (task_of job) None files a b c.verdict-in_default.result
-    (subst (MayTellOver graph claim job.conflicts None files a b) (sym c.verdict-in_default.ensures)
-    (attempt_tells graph claim _ job.conflicts None files a b c.in_ok-attempt-in_default.attempt c.in_ok-attempt-in_default.ensures.over)))
+    (subst (MayTellOver graph (task_of job) None files a b) (sym c.verdict-in_default.ensures)
+    (attempt_tells graph (task_of job) _ None files a b c.in_ok-attempt-in_default.attempt c.in_ok-attempt-in_default.ensures.over)))

@@ -115,6 +115,33 @@ returns-in-Combination-clause-puts g c =
     let front = Puts-then (Puts-then c.put_id-in-Combination.ensures.puts parts) c.put-in-Combination.ensures.puts in
     Puts-is (sym (ap (line_text t) c.in-Combination.is)) (Puts-more (poly_text t c.in-Combination.poly) (codes ";") front c.put_stated-in-Combination.ensures.puts)
 
+pub put_id-requires-in-Import-clause-open : goal.put_id-requires-in-Import-clause-open
+put_id-requires-in-Import-clause-open g c = c.requires.open
+
+pub put_id-requires-in-Import-clause-fits : goal.put_id-requires-in-Import-clause-fits
+put_id-requires-in-Import-clause-fits g c = lit≤ tt
+
+pub put_id-requires-in-Import-2-clause-open : goal.put_id-requires-in-Import-2-clause-open
+put_id-requires-in-Import-2-clause-open g c = c.put_id-in-Import.ensures.open
+
+pub put_id-requires-in-Import-2-clause-fits : goal.put_id-requires-in-Import-2-clause-fits
+put_id-requires-in-Import-2-clause-fits g c = lit≤ tt
+
+pub put_stated-requires-in-Import-clause-open : goal.put_stated-requires-in-Import-clause-open
+put_stated-requires-in-Import-clause-open g c = c.put_id-in-Import-2.ensures.open
+
+pub put_stated-requires-in-Import-clause-of : goal.put_stated-requires-in-Import-clause-of
+put_stated-requires-in-Import-clause-of g c = subst (AreOf c.args.terms.now) c.in-Import.is c.requires.of
+
+pub returns-in-Import-clause-open : goal.returns-in-Import-clause-open
+returns-in-Import-clause-open g c = c.put_stated-in-Import.ensures.open
+
+pub returns-in-Import-clause-puts : goal.returns-in-Import-clause-puts
+returns-in-Import-clause-puts g c =
+    let t = c.args.terms.now in
+    let ids = Puts-more (decimal c.in-Import.clause) (codes ", ") c.put_id-in-Import.ensures.puts c.put_id-in-Import-2.ensures.puts in
+    Puts-is (sym (ap (line_text t) c.in-Import.is)) (Puts-more (poly_text t c.in-Import.poly) (codes ";") ids c.put_stated-in-Import.ensures.puts)
+
 pub put_id-requires-in-Drop-clause-open : goal.put_id-requires-in-Drop-clause-open
 put_id-requires-in-Drop-clause-open g c = c.requires.open
 

@@ -3,4 +3,4 @@ use Rattle.ripple_graft.specs.Grafts.{IsKnownPair}
 use Rattle.ripple_graft.proofs.grafting.first_unknown.Given as goal
 
 abbrev pub invariant-loop-i : goal.invariant-loop-i
-invariant-loop-i l = AllWithin (IsKnownPair l.graph) l.pairs 0 l.i
+invariant-loop-i l = AllWithin (IsKnownPair l.extended) l.pairs 0 l.i

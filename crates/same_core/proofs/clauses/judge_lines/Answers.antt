@@ -10,9 +10,10 @@ use Rattle.clause_core.specs.GateClauses.{gate_clauses}
 use Rattle.clause_core.specs.Likeness.{AreSameSets}
 use Rattle.miter_encoder.specs.ColumnGoals.{AreGoalsOfColumns, columns_from}
 use Rattle.miter_encoder.proofs.GateRanges.{within_range}
-use Rattle.clause_judge.specs.ClauseBody.{IsFailFrom, IsRestFail}
+use Rattle.clause_judge.specs.ClauseBody.{IsFailFrom, IsRestFail, IsShownBody, IsShownWith}
 use Rattle.clause_judge.specs.ClauseLines.{IsTextFail, left_for}
 use Rattle.clause_judge.proofs.ClauseTurns.{begins_with, first_fails}
+use Rattle.clause_judge.proofs.Told.{told_more}
 use Rattle.same_core.specs.Merged.{over}
 use Rattle.same_core.proofs.clauses.judge_lines.Goals as goal
 
@@ -79,7 +80,10 @@ returns-clause-lawful g c =
     begins_with e start body c.in_ok-checker.checker c.gates-merged_gates.result.now c.in_ok-goals.goals c.max-greatest.result c.in_ok-first.first file (left_for file middle)
     c.in_ok-checker.ensures.taken (sym c.gates-merged_gates.ensures) c.in_ok-checker.ensures.max c.max-greatest.ensures c.in_ok-checker.ensures.goals shown_goals c.in_ok-first.ensures.lengths c.requires.limit
     c.in_ok-first.ensures.next in
-    on_ok_weaker c.judge_from.result (λ shown. shown e start body begins) c.judge_from.ensures.lawful
+    let imports = c.judge_from.new.checker.added in
+    on_ok_weaker c.judge_from.result (λ shown.
+    told_more body (IsShownWith e start.lines c.in_ok-checker.checker.version imports) (IsShownBody e start.lines) (λ bytes there. (there.0, there.1, there.2)) (shown e start body begins))
+    c.judge_from.ensures.lawful
 
 pub returns-clause-agree : goal.returns-clause-agree
 returns-clause-agree g c =

@@ -10,5 +10,5 @@ returns-in-Verify-clause-right g c =
     let b = g.D.Desk.seen c.verify-verdict.new.desk in
     let verdict = c.verify-verdict.result.0 in
     let noted = c.verify-verdict.result.1 in
-    let said = subst (λ f. IsVerdict standard.graph (task_of c.in-Verify.claim c.in-Verify.budget c.in-Verify.conflicts) (files_of f) a b verdict noted) c.names-names.ensures c.verify-verdict.ensures.verdict in
+    let said = subst (λ f. IsVerdict standard.graph (task_of c.in-Verify.claim c.in-Verify.budget c.in-Verify.conflicts c.in-Verify.version) (files_of f) a b verdict noted) c.names-names.ensures c.verify-verdict.ensures.verdict in
     subst (λ command. IsRightOf command a b (answer.Verified verdict noted)) (sym c.in-Verify.is) (verdict, noted, refl, (said, c.verify-verdict.ensures.opened))

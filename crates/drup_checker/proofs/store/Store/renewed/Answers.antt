@@ -1,4 +1,4 @@
-use Rattle.std.proofs.Common.{◌≡◌, ◌<◌, ℕ, length, ap, sym, subst, ◌∙◌, arith}
+use Rattle.std.proofs.Common.{◌<◌, ℕ, length, ap, sym, subst, ◌∙◌, arith}
 use Rattle.clause_core.specs.Clause.{IsClauseInRange}
 use Rattle.drup_checker.specs.Checking.{Held}
 use Rattle.drup_checker.proofs.Stores.{renew_none, renew_some}

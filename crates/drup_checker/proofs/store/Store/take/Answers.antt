@@ -3,7 +3,7 @@ use Rattle.std.specs.List.{Any}
 use Rattle.std.proofs.lemmas.List.{get_or_default}
 use Rattle.clause_core.specs.Clause.{SameSet}
 use Rattle.unit_prop.specs.Standing.{HasSetAt}
-use Rattle.drup_checker.specs.Chains.{AreFalling, IsStore, Leads, number_of}
+use Rattle.drup_checker.specs.Chains.{IsStore, Leads, number_of}
 use Rattle.drup_checker.specs.Checking.{Held}
 use Rattle.drup_checker.proofs.LiveClauses.{written}
 use Rattle.drup_checker.proofs.Stores.{held_fewer, nowhere, store_fewer}

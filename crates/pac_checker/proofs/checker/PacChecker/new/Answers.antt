@@ -1,7 +1,9 @@
-use Rattle.std.proofs.Common.{◌≡◌, ℕ, ◌^◌, ◌+◌, ◌<◌, length, ap, ap₂, subst, ◌∙◌}
+use Rattle.std.proofs.Common.{◌≡◌, ℕ, ◌^◌, ◌+◌, ◌<◌, length, map, ap, ap₂, subst, ◌∙◌}
 use Rattle.graph_core.specs.Graph.Extended.{Extended}
 use Rattle.graph_core.specs.Algebra.{axioms}
 use Rattle.graph_core.specs.Algebra as algebra
+use Rattle.graph_core.proofs.OfAlgebra.CallerLemmas.{imports_refl}
+use Rattle.gate_axioms.specs.ClauseValues.{clause_value}
 use Rattle.poly_terms.specs.Tables.{Table, modulus}
 use Rattle.poly_terms.specs.Laws.{modulus_stays}
 use Rattle.gate_axioms.proofs.CallerLemmas.{axioms_within, fresh_above}
@@ -28,9 +30,10 @@ returns-clause-modulus c =
     table_modulus c.new-live.result.table c.in_ok-terms.terms c.args.extended.now (c.outputs-outputs.result) c.new-live.ensures.table c.in_ok-terms.ensures (c.outputs-outputs.ensures.value ∙ ap (λ g. length g.outputs) c.graph.ensures)
 
 pub returns-clause-axioms : goal.returns-clause-axioms
-returns-clause-axioms c = record {
+returns-clause-axioms c version = record {
   last = last_is c.args.extended.now c.from.result c.from-2.result c.max.result (c.outputs-outputs.result) c.from.ensures c.max.ensures.value c.from-2.ensures (c.outputs-outputs.ensures.value ∙ ap (λ g. length g.outputs) c.graph.ensures);
   lines = c.in_ok-add_axioms.ensures.lines;
+  imports = imports_refl (map clause_value c.args.added.now);
 }
 
 pub invariant_of-result : goal.invariant_of-result
@@ -39,6 +42,7 @@ invariant_of-result c =
     let last : c.from.result + c.from-2.result ≡ (axioms e).last =
     last_is e c.from.result c.from-2.result c.max.result (c.outputs-outputs.result) c.from.ensures c.max.ensures.value c.from-2.ensures (c.outputs-outputs.ensures.value ∙ ap (λ g. length g.outputs) c.graph.ensures) in
     record {
+      importable = c.requires.facts;
       same_gates = c.in_ok-add_axioms.ensures.gates ∙ c.new-live.ensures.gates ∙ c.gates-gates.ensures.value;
       same_modulus = returns-clause-modulus c;
       fresh = λ id above. fresh_above c.add_axioms.new.live (axioms e).live (axioms e).last id c.in_ok-add_axioms.ensures.lines

@@ -1,0 +1,136 @@
+-- The lines of a header of version 2, as they are read.
+use Rattle.std.specs.Prelude.{◌≡◌, ◌≢◌, ◌==◌, ◌≤◌, ℕ, Bool, true, false, cond, List, [], ◌∷◌, codes}
+use Rattle.std.specs.Result.{IfErr, IfOk}
+use Rattle.std.specs.declared.result.Result.{Result}
+use Rattle.std.specs.declared.result.Result.TheVariants.{Err, Ok}
+use Rattle.std.specs.declared.option.Option.{Option}
+use Rattle.std.specs.declared.option.Option.TheVariants.{None, Some}
+use Rattle.std.proofs.Common.{refl, sym, ap, subst, ◌∙◌, arith, length}
+use Rattle.graph_core.specs.Graph.Extended.{Extended}
+use Rattle.graph_core.specs.Text.Numerals.{◌>>=◌, number_at, front_at}
+use Rattle.graph_core.specs.Text.Readers.{text_at, then_at}
+use Rattle.mv_desk.specs.declared.faults.LineFail.{LineFail}
+use Rattle.mv_text.proofs.CallerLemmas.{misfit_from}
+use Rattle.mv_text.specs.Steps.{IsMisfit, Takes, begins}
+use Rattle.ripple_graft.proofs.GraftedGraphs.{reach_is}
+use Rattle.drup_text.specs.ClauseReading.{block_line_at, carry_at, count_line_at, head_from, two_at}
+use Rattle.drup_text.specs.ClauseTexts.{IsBlockLine, IsCountLine}
+use Rattle.drup_text.specs.LineTexts.{IsBlockTextOf, IsCountInRange, IsCountTextOf, IsHeadOf, IsRefusedText}
+use Rattle.drup_text.specs.Steps.{AreUpTo}
+use Rattle.drup_text.proofs.ClauseReading.{reads_block_line, reads_count_line}
+use Rattle.drup_text.proofs.WholeTexts.{left_over, misfit_refused, out_of_range, said}
+
+abbrev IsSame : {A : Type 0} → A → A → Type 0
+IsSame x y = x ≡ y
+
+-- ---- the number of blocks
+
+pub count_front_fails : (bytes : List ℕ) → front_at (codes "cuts ") bytes ≡ None → count_line_at bytes ≡ None
+unfolding count_line_at
+count_front_fails bytes e = ap (λ o. o >>= number_at 10) e
+
+pub count_fails : (bytes mid : List ℕ) → front_at (codes "cuts ") bytes ≡ Some mid → number_at 10 mid ≡ None → count_line_at bytes ≡ None
+unfolding count_line_at
+count_fails bytes mid e h = ap (λ o. o >>= number_at 10) e ∙ h
+
+pub count_taken : (outputs : ℕ) (old mid new : List ℕ) (given : Option ℕ) → front_at (codes "cuts ") old ≡ Some mid → Takes (number_at 10) (λ n. n ≤ outputs) IsSame mid new given → Takes count_line_at (IsCountInRange outputs) IsSame old new given
+unfolding count_line_at
+count_taken outputs old mid new given e h = record { read = h.read; taken = ap (λ o. o >>= number_at 10) e ∙ h.taken; gives = h.gives }
+
+-- what reads the number reads the line
+pub count_ok : (outputs : ℕ) (old mid new : List ℕ) (r : Result (Option ℕ) LineFail) → front_at (codes "cuts ") old ≡ Some mid → IfOk r (Takes (number_at 10) (λ n. n ≤ outputs) IsSame mid new) → IfOk r (Takes count_line_at (IsCountInRange outputs) IsSame old new)
+count_ok outputs old mid new (Ok given) e h = count_taken outputs old mid new given e h
+count_ok outputs old mid new (Err f) e h = h
+
+pub count_err : (old mid : List ℕ) (r : Result (Option ℕ) LineFail) → front_at (codes "cuts ") old ≡ Some mid → IfErr r (IsMisfit (number_at 10 mid ≡ None)) → IfErr r (IsMisfit (count_line_at old ≡ None))
+count_err old mid (Ok given) e h = h
+count_err old mid (Err f) e h = misfit_from f (count_fails old mid e) h
+
+-- ---- the word carry
+
+pub no_carry : (bytes : List ℕ) → begins (λ b. b == 32) bytes ≡ false → carry_at bytes ≡ Some (false, bytes)
+no_carry [] h = refl
+no_carry (b ∷ bytes) h = ap (λ t. cond t (text_at (codes " carry") true (b ∷ bytes)) (Some (false, b ∷ bytes))) h
+
+carry_there : (bytes : List ℕ) → begins (λ b. b == 32) bytes ≡ true → carry_at bytes ≡ text_at (codes " carry") true bytes
+carry_there [] h = absurd (cc)
+carry_there (b ∷ bytes) h = ap (λ t. cond t (text_at (codes " carry") true (b ∷ bytes)) (Some (false, b ∷ bytes))) h
+
+pub carry_taken : (old new : List ℕ) → begins (λ b. b == 32) old ≡ true → front_at (codes " carry") old ≡ Some new → carry_at old ≡ Some (true, new)
+carry_taken old new at e = carry_there old at ∙ ap (λ o. o >>= λ rest. Some (true, rest)) e
+
+pub carry_fails : (bytes : List ℕ) → begins (λ b. b == 32) bytes ≡ true → front_at (codes " carry") bytes ≡ None → carry_at bytes ≡ None
+carry_fails bytes at e = carry_there bytes at ∙ ap (λ o. o >>= λ rest. Some (true, rest)) e
+
+-- ---- a block
+
+pub head_front_fails : (bytes : List ℕ) → front_at (codes "replace ") bytes ≡ None → block_line_at bytes ≡ None
+unfolding block_line_at
+head_front_fails bytes e = ap (λ o. o >>= then_at two_at carry_at >>= λ y. Some (head_from y.0, y.1)) e
+
+pub head_size_fails : (bytes mid : List ℕ) → front_at (codes "replace ") bytes ≡ Some mid → two_at mid ≡ None → block_line_at bytes ≡ None
+unfolding block_line_at
+head_size_fails bytes mid e h = rw (e, h) refl
+
+pub head_carry_fails : (bytes mid rest : List ℕ) (n : ℕ × ℕ) → front_at (codes "replace ") bytes ≡ Some mid → two_at mid ≡ Some (n, rest) → carry_at rest ≡ None → block_line_at bytes ≡ None
+unfolding block_line_at
+head_carry_fails bytes mid rest n e h k = rw (e, h, k) refl
+
+head_read : (bytes mid rest new : List ℕ) (n : ℕ × ℕ) (c : Bool) → front_at (codes "replace ") bytes ≡ Some mid → two_at mid ≡ Some (n, rest) → carry_at rest ≡ Some (c, new) → block_line_at bytes ≡ Some ((n.0, n.1, c), new)
+unfolding block_line_at
+head_read bytes mid rest new n c e h k = rw (e, h, k) refl
+
+pub head_some : (x : Extended) (outputs : ℕ) (old mid rest new : List ℕ) (n : ℕ × ℕ) (c : Bool) → front_at (codes "replace ") old ≡ Some mid → Takes two_at (AreUpTo outputs) IsSame mid rest (Some n) → carry_at rest ≡ Some (c, new) →
+    IsHeadOf x (n.0, n.1, c) → Takes block_line_at (IsHeadOf x) IsSame old new (Some (n.0, n.1, c))
+head_some x outputs old mid rest new n c e h k is = record {
+  read = (h.read.0, h.read.1, c);
+  taken = head_read old mid rest new h.read c e h.taken k;
+  gives = (subst (λ (m : ℕ × ℕ). IsHeadOf x (m.0, m.1, c)) (sym h.gives.1) is, ap (λ (m : ℕ × ℕ). (m.0, m.1, c)) h.gives.1);
+}
+
+pub head_other : (x : Extended) (outputs : ℕ) (old mid rest new : List ℕ) (n : ℕ × ℕ) (c : Bool) → front_at (codes "replace ") old ≡ Some mid → Takes two_at (AreUpTo outputs) IsSame mid rest (Some n) → carry_at rest ≡ Some (c, new) →
+    ¬ (IsHeadOf x (n.0, n.1, c)) → Takes block_line_at (IsHeadOf x) IsSame old new None
+head_other x outputs old mid rest new n c e h k other = record {
+  read = (h.read.0, h.read.1, c);
+  taken = head_read old mid rest new h.read c e h.taken k;
+  gives = λ is. other (subst (λ (m : ℕ × ℕ). IsHeadOf x (m.0, m.1, c)) h.gives.1 is);
+}
+
+-- numbers above that of the outputs
+pub head_none : (x : Extended) (outputs : ℕ) (old mid rest new : List ℕ) (c : Bool) → outputs ≡ length x.graph.outputs → front_at (codes "replace ") old ≡ Some mid → Takes two_at (AreUpTo outputs) IsSame mid rest None → carry_at rest ≡ Some (c, new) →
+    Takes block_line_at (IsHeadOf x) IsSame old new None
+head_none x outputs old mid rest new c all e h k = record {
+  read = (h.read.0, h.read.1, c);
+  taken = head_read old mid rest new h.read c e h.taken k;
+  gives = λ is. let within = is.within in let wide = (reach_is h.read.1 c).0 in h.gives (omega arith, omega arith);
+}
+
+-- ---- whole texts
+
+pub count_said : (outputs : ℕ) (bytes rest : List ℕ) (given : Option ℕ) (n : ℕ) → rest ≡ [] → given ≡ Some n → Takes count_line_at (IsCountInRange outputs) IsSame bytes rest given → IsCountTextOf outputs bytes n
+count_said outputs bytes rest given n e f h =
+    let s = said reads_count_line tt (IsCountInRange outputs) IsSame bytes rest given n e f h in
+    subst (IsCountTextOf outputs bytes) s.3 (s.1, s.2)
+
+pub count_over : (outputs : ℕ) (bytes rest : List ℕ) (given : Option ℕ) → rest ≢ [] → Takes count_line_at (IsCountInRange outputs) IsSame bytes rest given → (n : ℕ) → IsCountLine bytes n → ⊥
+count_over outputs bytes rest given some h = left_over reads_count_line tt (IsCountInRange outputs) IsSame bytes rest given some h
+
+pub count_out : (outputs : ℕ) (bytes rest : List ℕ) (given : Option ℕ) → rest ≡ [] → given ≡ None → Takes count_line_at (IsCountInRange outputs) IsSame bytes rest given → (n : ℕ) × IsCountLine bytes n × ¬ (IsCountInRange outputs n)
+count_out outputs bytes rest given e f h = out_of_range reads_count_line tt (IsCountInRange outputs) IsSame bytes rest given e f h
+
+pub count_misfit : (outputs : ℕ) (bytes : List ℕ) (f : LineFail) → IsMisfit (count_line_at bytes ≡ None) f → IsRefusedText IsCountLine (IsCountInRange outputs) bytes f
+count_misfit outputs bytes f h = misfit_refused {T = ℕ} reads_count_line tt (IsCountInRange outputs) IsSame bytes f h
+
+pub head_said : (x : Extended) (bytes rest : List ℕ) (given : Option (ℕ × ℕ × Bool)) (d : ℕ × ℕ × Bool) → rest ≡ [] → given ≡ Some d → Takes block_line_at (IsHeadOf x) IsSame bytes rest given → IsBlockTextOf x bytes d
+head_said x bytes rest given d e f h =
+    let s = said reads_block_line tt (IsHeadOf x) IsSame bytes rest given d e f h in
+    subst (IsBlockTextOf x bytes) s.3 (s.1, s.2)
+
+pub head_over : (x : Extended) (bytes rest : List ℕ) (given : Option (ℕ × ℕ × Bool)) → rest ≢ [] → Takes block_line_at (IsHeadOf x) IsSame bytes rest given → (d : ℕ × ℕ × Bool) → IsBlockLine bytes d → ⊥
+head_over x bytes rest given some h = left_over reads_block_line tt (IsHeadOf x) IsSame bytes rest given some h
+
+pub head_out : (x : Extended) (bytes rest : List ℕ) (given : Option (ℕ × ℕ × Bool)) → rest ≡ [] → given ≡ None → Takes block_line_at (IsHeadOf x) IsSame bytes rest given → (d : ℕ × ℕ × Bool) × IsBlockLine bytes d × ¬ (IsHeadOf x d)
+head_out x bytes rest given e f h = out_of_range reads_block_line tt (IsHeadOf x) IsSame bytes rest given e f h
+
+pub head_misfit : (x : Extended) (bytes : List ℕ) (f : LineFail) → IsMisfit (block_line_at bytes ≡ None) f → IsRefusedText IsBlockLine (IsHeadOf x) bytes f
+head_misfit x bytes f h = misfit_refused {T = ℕ × ℕ × Bool} reads_block_line tt (IsHeadOf x) IsSame bytes f h
