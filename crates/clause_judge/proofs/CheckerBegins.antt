@@ -1,5 +1,5 @@
 -- A checker that begins with the clauses of an extended graph's gates, and clauses in range.
-use Rattle.std.specs.Prelude.{◌≡◌, ◌==◌, ℕ, zero, suc, Bool, true, false, cond, List, [], ◌∷◌, slice_index_or}
+use Rattle.std.specs.Prelude.{◌≡◌, ℕ, zero, suc, Bool, true, false, List, [], ◌∷◌, slice_index_or}
 use Rattle.std.specs.List.{All, AllByRecursion}
 use Rattle.std.proofs.Common.{refl, sym, subst, ◌∙◌}
 use Rattle.std.proofs.lemmas.List.Elements.{recursion_from_All}
@@ -11,7 +11,9 @@ use Rattle.clause_core.specs.Likeness.{AreSameSets}
 use Rattle.clause_core.specs.declared.line.Line.TheVariants.{Add, Delete}
 use Rattle.clause_core.proofs.CallerLemmas.{any_nil}
 use Rattle.miter_encoder.proofs.GateRanges.{range_subset}
-use Rattle.drup_checker.specs.Checking.{Checking, imported, shown_at}
+use Rattle.drup_checker.specs.Checking.{Checking, kept, shown_at}
+use Rattle.drup_checker.specs.declared.keeps.Keeps.{Keeps}
+use Rattle.drup_checker.specs.declared.keeps.Keeps.TheVariants as keep
 use Rattle.drup_checker.proofs.StepLaws.{steps_are_lawful}
 use Rattle.drup_text.specs.LineTexts.{IsLineInRange, IsLineOf}
 use Rattle.clause_judge.specs.Taking.{HasTaken}
@@ -32,13 +34,11 @@ none_shown [] i h = refl
 none_shown (b ∷ shown) zero h = h.0
 none_shown (b ∷ shown) (suc i) h = none_shown shown i h.1
 
--- no clause is imported of none
-pub none_imported : (version : ℕ) → AreSameSets [] (imported version [])
-none_imported version = go (version == 2)
-  where
-    go : (t : Bool) → AreSameSets [] (cond t [] [])
-    go true = tt
-    go false = tt
+-- no clause is kept of none
+pub none_kept : (keeps : Keeps) → AreSameSets [] (kept keeps [])
+none_kept keep.Nothing = tt
+none_kept keep.Clauses = tt
+none_kept keep.Chains = tt
 
 pub begins : (e : Extended) (cs : List Clause) (k : Checking) → AreSameSets cs (gate_clauses e.gates) → k.live ≡ cs → k.added ≡ [] → All (λ b. b ≡ false) k.shown → HasTaken e [] (gate_clauses e.gates) k
 begins e cs k same starts nothing none = record {
@@ -47,5 +47,5 @@ begins e cs k same starts nothing none = record {
   shown = λ i below.
       let no' : shown_at k.shown i ≡ false = none_shown k.shown i (recursion_from_All (λ b. b ≡ false) k.shown none) in
       ((λ h. let e : false ≡ true = sym no' ∙ h in absurd (cc)), λ h. absurd (any_nil _ h));
-  added = subst (λ (xs : List Clause). AreSameSets xs (imported k.version [])) (sym nothing) (none_imported k.version);
+  added = subst (λ (xs : List Clause). AreSameSets xs (kept k.keeps [])) (sym nothing) (none_kept k.keeps);
 }

@@ -236,8 +236,8 @@ module _ (e : Extended) (start : FileState) (body : Option (List ℕ)) where
     -- ---- all lines were taken
 
     module _ (k : Checking) (taken : HasTaken e xs live k) (goals : AreGoalsOf e k.goals) (end : IfSome left (IsAtEnd file.lines)) where
-      pub goals_shown : IsLeastUnshown k.goals k.shown None → IfSome body (IsShownWith e start.lines k.version k.added)
-      goals_shown none = told_more body (HasPassed e start.lines xs) (IsShownWith e start.lines k.version k.added) (λ bytes passed. (xs, passed, goals_are_judged.shown e k xs goals taken.shown none, taken.added)) (ends end)
+      pub goals_shown : IsLeastUnshown k.goals k.shown None → IfSome body (IsShownWith e start.lines k.keeps k.added (length xs))
+      goals_shown none = told_more body (HasPassed e start.lines xs) (IsShownWith e start.lines k.keeps k.added (length xs)) (λ bytes passed. (xs, passed, goals_are_judged.shown e k xs goals taken.shown none, taken.added, refl)) (ends end)
 
       pub goals_fail : (first now : View) (answer : ClauseFail) → IsGoalFail k answer → Fails first now answer
       goals_fail first now answer h = subst (λ (a : ClauseFail). Fails first now a) (sym h.2)

@@ -14,6 +14,7 @@ use Rattle.clause_core.specs.GateClauses.{gate_clauses, goals_of}
 use Rattle.clause_core.specs.declared.line.Line.TheVariants.{Add, Delete}
 use Rattle.clause_core.proofs.CallerLemmas.{any_nil}
 use Rattle.drup_checker.specs.Checking.{Checking, IsLeastUnshown}
+use Rattle.drup_checker.specs.declared.keeps.Keeps.{Keeps}
 use Rattle.drup_text.specs.FileStates.{FileState, GoesOn}
 use Rattle.miter_encoder.specs.ColumnGoals.{AreGoalsOf, HasGoals, IsGoalOf}
 use Rattle.miter_encoder.specs.declared.goal.Goal.{Goal}
@@ -23,13 +24,13 @@ use Rattle.clause_judge.specs.declared.fail.ClauseFail.TheVariants as fail
 use Rattle.clause_judge.specs.ClauseBody.{Begins, HasPassed, IsRestFail, IsShownWith}
 use Rattle.clause_judge.specs.ClauseLines.{IsGoalFail, IsRuleFail, IsTextFail, NextLine, ReadsNext, Takes}
 use Rattle.clause_judge.specs.Taking.{HasTaken, HasTakenNone}
-use Rattle.clause_judge.proofs.CheckerBegins.{none_imported}
+use Rattle.clause_judge.proofs.CheckerBegins.{none_kept}
 use Rattle.clause_judge.proofs.ClauseReached as reached
 use Rattle.clause_judge.proofs.ClauseReached.{IsReached, begins}
 use Rattle.clause_judge.proofs.Joins.{goals_join_columns, lines_join_columns}
 use Rattle.clause_judge.proofs.Told.{told_more}
 
--- the checker keeps its goals, its greatest variable, its gates and its version
+-- the checker keeps its goals, its greatest variable, its gates and what it keeps
 pub takes_goals : (x : ClauseLine) (k k' : Checking) → Takes x k k' → k'.goals ≡ k.goals
 takes_goals (Add c) k k' h = h.goals
 takes_goals (Delete c) k k' h = h.goals
@@ -42,9 +43,9 @@ pub takes_gates : (x : ClauseLine) (k k' : Checking) → Takes x k k' → k'.gat
 takes_gates (Add c) k k' h = h.gates
 takes_gates (Delete c) k k' h = h.gates
 
-pub takes_version : (x : ClauseLine) (k k' : Checking) → Takes x k k' → k'.version ≡ k.version
-takes_version (Add c) k k' h = h.version
-takes_version (Delete c) k k' h = h.version
+pub takes_keeps : (x : ClauseLine) (k k' : Checking) → Takes x k k' → k'.keeps ≡ k.keeps
+takes_keeps (Add c) k k' h = h.keeps
+takes_keeps (Delete c) k k' h = h.keeps
 
 -- there is no replaced column without goals
 no_columns : (columns : List Column) (P : Column → Type 0) → All (HasGoals []) columns → All P columns
@@ -101,8 +102,8 @@ module _ (e : Extended) (start : FileState) (body : Option (List ℕ)) where
     pub nothing_joined : Always e.gates (AgreeOnColumns e)
     nothing_joined = lines_join_columns e [] (gate_clauses e.gates) refl nothing_shown
 
-    pub nothing_passed : (version : ℕ) (file : FileState) (left : Option (List ℕ)) → ReadsNext e.max start file body left None → IfSome body (IsShownWith e start.lines version [])
-    nothing_passed version file left read = told_more body (HasPassed e start.lines []) (IsShownWith e start.lines version []) (λ bytes passed. ([], passed, nothing_shown, none_imported version))
+    pub nothing_passed : (keeps : Keeps) (file : FileState) (left : Option (List ℕ)) → ReadsNext e.max start file body left None → IfSome body (IsShownWith e start.lines keeps [] 0)
+    nothing_passed keeps file left read = told_more body (HasPassed e start.lines []) (IsShownWith e start.lines keeps [] 0) (λ bytes passed. ([], passed, nothing_shown, none_kept keeps, refl))
         (reached.ends e start body [] (gate_clauses e.gates) start body (begins e start body) read)
 
   -- ---- each next line
@@ -149,8 +150,9 @@ module _ (e : Extended) (start : FileState) (body : Option (List ℕ)) where
   -- ---- the end
 
   module _ (k : Checking) (turn : ℕ) (file : FileState) (left : Option (List ℕ)) (r : IsReached e start body k turn None file left) (goals : AreGoalsOf e k.goals) where
-    pub all_shown : (version : ℕ) → k.version ≡ version → IsLeastUnshown k.goals k.shown None → IfSome body (IsShownWith e start.lines version k.added)
-    all_shown version is none = subst (λ v. IfSome body (IsShownWith e start.lines v k.added)) is (reached.goals_shown e start body r.xs r.live r.before r.ahead r.stands k r.taken goals r.read none)
+    pub all_shown : (keeps : Keeps) → k.keeps ≡ keeps → IsLeastUnshown k.goals k.shown None → IfSome body (IsShownWith e start.lines keeps k.added turn)
+    all_shown keeps is none = subst (λ (v : Keeps). IfSome body (IsShownWith e start.lines v k.added turn)) is
+        (subst (λ (n : ℕ). IfSome body (IsShownWith e start.lines k.keeps k.added n)) r.turns (reached.goals_shown e start body r.xs r.live r.before r.ahead r.stands k r.taken goals r.read none))
 
     pub all_joined : IsLeastUnshown k.goals k.shown None → Always e.gates (AgreeOnColumns e)
     all_joined none = goals_join_columns e r.xs r.live k r.taken goals none

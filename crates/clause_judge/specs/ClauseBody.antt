@@ -9,7 +9,8 @@ use Rattle.clause_core.specs.Clause.{Clause}
 use Rattle.clause_core.specs.ClauseLines.{AreGoalsShown, ClauseLine, IsGoalRefusal, added}
 use Rattle.clause_core.specs.GateClauses.{gate_clauses}
 use Rattle.clause_core.specs.Likeness.{AreSameSets}
-use Rattle.drup_checker.specs.Checking.{Checking, imported}
+use Rattle.drup_checker.specs.Checking.{Checking, kept}
+use Rattle.drup_checker.specs.declared.keeps.Keeps.{Keeps}
 use Rattle.drup_text.specs.ClauseTexts.{IsClauseLine}
 use Rattle.drup_text.specs.FileStates.{FileState}
 use Rattle.drup_text.specs.HeaderRefusal.{TooLong}
@@ -41,10 +42,10 @@ HasPassed e lines xs body = Pass e (IsLongIn lines body) xs (gate_clauses e.gate
 abbrev pub IsShownBody : Extended → Lines → List ℕ → Type 0
 IsShownBody e lines body = (xs : List ClauseLine) × HasPassed e lines xs body × AreGoalsShown xs e
 
--- and these clauses are those that they add for imports of this version, as sets
-abbrev pub IsShownWith : Extended → Lines → ℕ → List Clause → List ℕ → Type 0
-IsShownWith e lines version imports body = (xs : List ClauseLine) × HasPassed e lines xs body × AreGoalsShown xs e ×
-    AreSameSets imports (imported version (added xs))
+-- and these clauses are those that they add, where so much of them is kept, as sets; and there are so many lines
+abbrev pub IsShownWith : Extended → Lines → Keeps → List Clause → ℕ → List ℕ → Type 0
+IsShownWith e lines keeps clauses count body = (xs : List ClauseLine) × HasPassed e lines xs body × AreGoalsShown xs e ×
+    AreSameSets clauses (kept keeps (added xs)) × (count ≡ length xs)
 
 -- Why that isn't so, the first line having this number.
 abbrev pub IsRestFail : ℕ → Extended → Lines → Option (List ℕ) → View → View → ClauseFail → Type 0
@@ -71,10 +72,11 @@ pub record Begins (e : Extended) (k : Checking) (start file : FileState) (body l
 abbrev pub BeginsSomewhere : Checking → Option ClauseLine → FileState → Option (List ℕ) → Type 0
 BeginsSomewhere k first file left = (e : Extended) × (start : FileState) × (body : Option (List ℕ)) × Begins e k start file body left first
 
--- Wherever it begins, the lines are lawful and show each goal, and these clauses are those that they add for imports.
-abbrev pub IsShownFrom : Checking → List Clause → Option ClauseLine → FileState → Option (List ℕ) → Type 0
-IsShownFrom k imports first file left =
-    (e : Extended) (start : FileState) (body : Option (List ℕ)) → Begins e k start file body left first → IfSome body (IsShownWith e start.lines k.version imports)
+-- Wherever it begins, the lines are lawful and show each goal, these clauses are those that they add, as far as they are kept, and there
+-- are so many lines.
+abbrev pub IsShownFrom : Checking → List Clause → ℕ → Option ClauseLine → FileState → Option (List ℕ) → Type 0
+IsShownFrom k clauses count first file left =
+    (e : Extended) (start : FileState) (body : Option (List ℕ)) → Begins e k start file body left first → IfSome body (IsShownWith e start.lines k.keeps clauses count)
 
 -- Wherever it begins, the old and the new output of each replaced column are equal on every evaluation.
 abbrev pub JoinsFrom : Checking → Option ClauseLine → FileState → Option (List ℕ) → Type 0

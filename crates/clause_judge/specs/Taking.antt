@@ -20,7 +20,7 @@ TakeClauses e live [] last = last ≡ live
 TakeClauses e live (x ∷ xs) last = (next : List Clause) × IsClauseStep e live x next × TakeClauses e next xs last
 
 -- A checker has taken these lines: they are lawful from the gates' clauses on, the clauses that are live then are the checker's, up to
--- likeness, its marks are of the goals that these lines show, and it keeps the clauses that they add for imports.
+-- likeness, its marks are of the goals that these lines show, and what it keeps are the clauses that they add.
 pub record HasTaken (e : Extended) (lines : List ClauseLine) (live : List Clause) (k : Checking) : Type 0 where
   pub lawful : TakeClauses e (gate_clauses e.gates) lines live
   pub alike : AreAlike k.live live

@@ -13,19 +13,19 @@ ghost use Rattle.clause_judge.specs.Taking.{HasTakenNone};
 use crate::clause_line::refused;
 use crate::fail::{ClauseFail, ClauseWhy};
 use clause_core::{ClauseList, Line};
-use drup_checker::{AddFail, Checker, NoSuchClause};
+use drup_checker::{AddFail, Checker, Keeps, NoSuchClause};
 use graph_core::{Gate, Memory};
 use miter_encoder::Goals;
 use std::alloc::Global;
 
-/// A checker of the clauses of gates, for some goals, in a certificate of this version. It has taken no line.
+/// A checker of the clauses of gates, for some goals, which keeps so much of added clauses. It has taken no line.
 pub fn checker_of<'a>(
     alloc: Global,
     max: u32,
     gates: &'a [Gate],
     clauses: &ClauseList,
     goals: &'a Goals,
-    version: u8,
+    keeps: Keeps,
 ) -> Result<Checker<'a>, Memory>
     requires small { max < 2 ^ 31 }
     requires in_range { All (IsClauseInRange max) clauses.now }
@@ -34,9 +34,9 @@ pub fn checker_of<'a>(
     ensures max { IfOk result (λ k. k.max ≡ max) }
     ensures gates { IfOk result (λ k. k.gates ≡ gates.entry.now) }
     ensures goals { IfOk result (λ k. k.goals ≡ goals.entry.now) }
-    ensures version { IfOk result (λ k. k.version ≡ version) }
+    ensures keeps { IfOk result (λ k. k.keeps ≡ keeps) }
 {
-    Checker::new(alloc, max, gates, clauses, goals, version)
+    Checker::new(alloc, max, gates, clauses, goals, keeps)
 }
 
 /// The checker takes a line, which has this number.

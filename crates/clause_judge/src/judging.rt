@@ -1,5 +1,5 @@
 // The lines of a clause file and then the goals, by a checker.
-ghost use Rattle.std.specs.Prelude.{◌≡◌, ◌<◌, ◌^◌, true, None, IfErr, OnOk};
+ghost use Rattle.std.specs.Prelude.{◌≡◌, ◌<◌, ◌^◌, true, None, IfErr, IfOk, OnOk};
 ghost use Rattle.mv_desk.specs.Calls.{ReadsOnly};
 ghost use Rattle.mv_desk.specs.View.{KeepsTelling};
 ghost use Rattle.mv_desk.specs.declared.slot.Slot.TheVariants as slot;
@@ -15,21 +15,22 @@ use drup_text::ClauseFile;
 use mv_desk::Desk;
 
 /// Judges a line that was read and those behind it, up to the end of the file, and then the goals, by a checker that has
-/// taken no line. The greatest variable is the checker's.
+/// taken no line; the answer is how many lines these are. The greatest variable is the checker's.
 pub fn judge_from<D: Desk>(
     desk: &mut D,
     file: &mut ClauseFile,
     max: u32,
     checker: &mut Checker<'_>,
     first: Option<Line>,
-) -> Result<(), ClauseFail>
+) -> Result<u64, ClauseFail>
     requires reads { (D.seen desk.old).reads slot.Clauses ≡ true }
     requires small { max < 2 ^ 31 }
     requires greatest { checker.old.max ≡ max }
     requires begins { BeginsSomewhere checker.old first file.old (left_for file.old (D.seen desk.old)) }
-    ensures lawful { OnOk result (IsShownFrom checker.old checker.new.added first file.old
+    ensures lawful { IfOk result (λ count. IsShownFrom checker.old checker.new.added count first file.old
         (left_for file.old (D.seen desk.old))) }
     ensures gates { checker.new.gates ≡ checker.old.gates }
+    ensures keeps { checker.new.keeps ≡ checker.old.keeps }
     ensures columns { OnOk result (JoinsFrom checker.old first file.old
         (left_for file.old (D.seen desk.old))) }
     ensures refused { IfErr result (IsFailFrom checker.old first file.old
@@ -38,10 +39,13 @@ pub fn judge_from<D: Desk>(
     ensures tells { KeepsTelling (D.seen desk.old) (D.seen desk.new) }
 {
     let mut next = first;
-    for _ in 0..u64::MAX {
+    for count in 0..u64::MAX {
         match next {
             Some(line) => take_line(checker, &line, file.line_no())?,
-            None => return judge_goals(checker),
+            None => {
+                judge_goals(checker)?;
+                return Ok(count);
+            }
         }
         next = read_line(desk, file, max)?;
     }

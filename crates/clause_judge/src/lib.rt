@@ -2,7 +2,7 @@
 //!
 //! `checker_of` begins a checker with the clauses of gates, for goals; `read_line` reads the next line of a file; `judge_from`
 //! takes a line that was read and those behind it, up to the end of the file, and then asks for the goals. It says that the
-//! lines are lawful and show each goal, and which clauses they add for imports, and then the old and the new output of each
+//! lines are lawful and show each goal, and which clauses they add, where these are kept, and then the old and the new output of each
 //! column with goals are equal on every evaluation of the gates; or the first refusal, or a length that is met before any. A
 //! failed read is answered where it was counted, and want of memory at any time.
 //!

@@ -10,6 +10,8 @@ const NAMES: Names<'static> = Names {
     other: "",
     clauses: "c",
     algebra: "a",
+    to_clauses: "",
+    to_algebra: "",
 };
 
 // A file under a name.

@@ -8,7 +8,7 @@ use Rattle.std.proofs.lemmas.List.Elements.{Contains-append_left, Contains-appen
 use Rattle.clause_core.specs.Clause.{Clause, IsClause, IsClauseInRange, IsLiteral as IsClauseLiteral}
 use Rattle.clause_core.specs.UnitPropagation.{IsRefuted, IsRup, IsTautology}
 use Rattle.clause_core.proofs.CallerLemmas.{at, at_contained, below_suc, contains_at, contains_cases, contains_here, contains_map, contains_nil, contains_there, fixpoint_leaves_no_chain, refuted_more}
-use Rattle.drup_checker.specs.Opposing.{Begins, IsLiteralOf, Opposes, OpposesFirst}
+use Rattle.drup_checker.specs.Opposing.{Begins, IsLiteralOf, IsMet, Opposes, OpposesFirst}
 use Rattle.unit_prop.specs.Trail.{IsWithin}
 use Rattle.unit_prop.specs.Standing.{Assumes, IsFound, IsFree, IsMark, IsSound, Propagates, Standing, assumed_of, back_at, live_of, standing_with}
 use Rattle.unit_prop.specs.declared.assumed.Assumed.{Assumed}
@@ -34,12 +34,12 @@ pub all_within : (max : ℕ) (c : Clause) → IsClause c → IsClauseInRange max
 all_within max c is in_range l has = within_one max l (All-contains IsClauseLiteral c l is.literals has) (All-contains (λ k. (k ≢ pos 0) × (nat_abs k ≤ max)) c l in_range has).1
 
 -- an image has its origin
-origin : (c : List ℤ) (y : ℤ) → Contains (map neg_ℤ c) y → (x : ℤ) × Contains c x × (neg_ℤ x ≡ y)
+pub origin : (c : List ℤ) (y : ℤ) → Contains (map neg_ℤ c) y → (x : ℤ) × Contains c x × (neg_ℤ x ≡ y)
 origin [] y h = absurd (contains_nil y h)
 origin (x ∷ c) y h = ⊎_elim (λ e. (x, contains_here x c, e)) (λ r. let o = origin c y r in (o.0, contains_there x c o.0 o.1, o.2)) (contains_cases (neg_ℤ x) (map neg_ℤ c) y h)
 
 -- a literal and its negation make a tautology
-tautology : (c : Clause) (l : ℤ) → l ≢ pos 0 → Contains c l → Contains c (neg_ℤ l) → IsTautology c
+pub tautology : (c : Clause) (l : ℤ) → l ≢ pos 0 → Contains c l → Contains c (neg_ℤ l) → IsTautology c
 tautology c (pos zero) n h k = absurd (n refl)
 tautology c (pos (suc v)) n h k = (suc v, omega arith, h, k)
 tautology c (negsuc v) n h k = (suc v, omega arith, k, h)
@@ -152,26 +152,37 @@ opposes_more old now next c n Fresh h sound below other a = fresh old now next c
 opposes_more old now next c n Known h sound below other a = known old now next c n h sound below a
 opposes_more old now next c n Opposed h sound below other a = absurd (other refl)
 
+-- one that stands is met
+pub opposed_met : (old now next : Standing) (c : Clause) (n : ℕ) → OpposesFirst old now c n → IsSound now → n < length c → Assumes now (neg_ℤ (at c n)) Opposed next → IsMet next c (at c n)
+opposed_met old now next c n h sound below a = subst (λ (s : Standing). IsMet s c (at c n)) (sym a.0) (record {
+  sound = sound;
+  assumed = h.assumed;
+  has = contains_at c n below;
+  stands = subst (Contains now.trail.literals) (neg_neg (at c n)) a.1;
+})
+
 -- ---- behind propagation
 
 negated_stand : (old now : Standing) (c : Clause) → Opposes old now c → (l : ℤ) → Contains c l → Contains now.trail.literals (neg_ℤ l)
 negated_stand old now c h l has = let p = at_contained c l has in subst (λ k. Contains now.trail.literals (neg_ℤ k)) p.2 (h.standing p.0 p.1)
+
+stand_then : (old now next : Standing) (c : Clause) → Opposes old now c → Propagates now next → (l : ℤ) → Contains c l → Contains next.trail.literals (neg_ℤ l)
+stand_then old now next c h p l has = subst (λ ls. Contains ls (neg_ℤ l)) (sym p.trail) (Contains-append_left now.trail.literals p.literals (neg_ℤ l) (negated_stand old now c h l has))
+
+-- all literals of a tautology can't be opposed
+pub opposed_proper : (old now next : Standing) (c : Clause) → Opposes old now c → Propagates now next → IsSound next → IsTautology c → ⊥
+opposed_proper old now next c h p sound t =
+    consistent next sound (neg_ℤ (pos t.0)) (stand_then old now next c h p (pos t.0) t.2) (stand_then old now next c h p (neg_ℤ (pos t.0)) t.3)
 
 pub found_rup : (old now next : Standing) (c : Clause) (found : Option ℕ) → Opposes old now c → Propagates now next → IsFound now next found → IsSound next → (is_some found ≡ true) ↔ IsRup (live_of old.clauses) c
 found_rup old now next c (Some r) h p f sound = (
   λ t. inl (subst (λ z. IsRefuted (live_of z) (map neg_ℤ c)) h.begins.clauses (refuted_more (live_of now.clauses) (assumed_of now) (map neg_ℤ c) h.assumed f.1)),
   λ rup. refl,
 )
-found_rup old now next c None h p f sound = (λ t. absurd (cc), λ rup. absurd (⊎_elim no_chain no_tautology rup))
+found_rup old now next c None h p f sound = (λ t. absurd (cc), λ rup. absurd (⊎_elim no_chain (opposed_proper old now next c h p sound) rup))
   where
-    stand : (l : ℤ) → Contains c l → Contains next.trail.literals (neg_ℤ l)
-    stand l has = subst (λ ls. Contains ls (neg_ℤ l)) (sym p.trail) (Contains-append_left now.trail.literals p.literals (neg_ℤ l) (negated_stand old now c h l has))
-
     no_chain : IsRefuted (live_of old.clauses) (map neg_ℤ c) → ⊥
     no_chain r =
         fixpoint_leaves_no_chain (live_of next.clauses) next.trail.literals (map neg_ℤ c) r.0 f.0
-        (λ y k. let o = origin c y k in subst (Contains next.trail.literals) o.2 (stand o.0 o.1))
+        (λ y k. let o = origin c y k in subst (Contains next.trail.literals) o.2 (stand_then old now next c h p o.0 o.1))
         (subst (λ z. All (Contains (live_of z)) r.0) (sym (p.clauses ∙ h.begins.clauses)) r.1) r.2
-
-    no_tautology : IsTautology c → ⊥
-    no_tautology t = consistent next sound (neg_ℤ (pos t.0)) (stand (pos t.0) t.2) (stand (neg_ℤ (pos t.0)) t.3)

@@ -1,5 +1,5 @@
 -- A checker's steps are lawful lines, and its marks are right.
-use Rattle.std.specs.Prelude.{◌≡◌, ◌↔◌, ◌<◌, ◌⊎◌, ℕ, Bool, true, false, cond, List, [], ◌∷◌, ◌++◌, length, ◌==◌}
+use Rattle.std.specs.Prelude.{◌≡◌, ◌↔◌, ◌<◌, ◌⊎◌, true, List, [], ◌∷◌, ◌++◌, length}
 use Rattle.std.specs.List.{Any}
 use Rattle.std.proofs.Common.{refl, sym, ap, subst, ◌∙◌, arith, inl, inr, ⊎_elim}
 use Rattle.std.proofs.lemmas.List.Quantifiers.{Any-push}
@@ -9,7 +9,9 @@ use Rattle.clause_core.specs.ClauseLines.{ClauseLine, added}
 use Rattle.clause_core.specs.Likeness.{AreAlike, AreSameSets}
 use Rattle.clause_core.specs.declared.line.Line.TheVariants.{Add, Delete}
 use Rattle.clause_core.proofs.CallerLemmas.{alike_adds, alike_any, alike_flip, alike_joins, alike_removes, alike_rup, removes_any, removes_some, same_alike, same_flip}
-use Rattle.drup_checker.specs.Checking.{Adds, Checking, Deletes, goal_at, imported, shown_at}
+use Rattle.drup_checker.specs.Checking.{Adds, Checking, Deletes, goal_at, kept, shown_at}
+use Rattle.drup_checker.specs.declared.keeps.Keeps.{Keeps}
+use Rattle.drup_checker.specs.declared.keeps.Keeps.TheVariants as keep
 use Rattle.drup_checker.specs.Steps.{AddedAreRight, HasAdded, HasShown, MarksAreRight, StepsAreLawful}
 
 -- a clause at the end, or at the front
@@ -69,7 +71,7 @@ marks_kept c d old new lines h r i below =
 pub marks_are_right : MarksAreRight
 marks_are_right = record { adds = marks_added; deletes = marks_kept }
 
--- ---- clauses that may be imported
+-- ---- clauses that are kept
 
 same_append : (cs ds es fs : List Clause) → AreSameSets cs ds → AreSameSets es fs → AreSameSets (cs ++ es) (ds ++ fs)
 same_append [] [] es fs h k = k
@@ -77,29 +79,28 @@ same_append [] (d ∷ ds) es fs h k = absurd h
 same_append (c ∷ cs) [] es fs h k = absurd h
 same_append (c ∷ cs) (d ∷ ds) es fs h k = (h.0, same_append cs ds es fs h.1 k)
 
-one_imported : (t : Bool) (c d : Clause) → SameSet c d → AreSameSets (cond t (c ∷ []) []) (cond t (d ∷ []) [])
-one_imported true c d same = (same, tt)
-one_imported false c d same = tt
+one_kept : (keeps : Keeps) (c d : Clause) → SameSet c d → AreSameSets (kept keeps (c ∷ [])) (kept keeps (d ∷ []))
+one_kept keep.Nothing c d same = tt
+one_kept keep.Clauses c d same = (same, tt)
+one_kept keep.Chains c d same = (same, tt)
 
-imported_more : (version : ℕ) (cs : List Clause) (d : Clause) → imported version (cs ++ d ∷ []) ≡ imported version cs ++ imported version (d ∷ [])
-imported_more version cs d = go (version == 2)
-  where
-    go : (t : Bool) → cond t (cs ++ d ∷ []) [] ≡ cond t cs [] ++ cond t (d ∷ []) []
-    go true = refl
-    go false = refl
+kept_more : (keeps : Keeps) (cs : List Clause) (d : Clause) → kept keeps (cs ++ d ∷ []) ≡ kept keeps cs ++ kept keeps (d ∷ [])
+kept_more keep.Nothing cs d = refl
+kept_more keep.Clauses cs d = refl
+kept_more keep.Chains cs d = refl
 
 more_added : (c d : Clause) (old new : Checking) (lines : List ClauseLine) → HasAdded old lines → SameSet c d → Adds c old new → HasAdded new (lines ++ Add d ∷ [])
 more_added c d old new lines h same a =
-    let all : imported old.version (added lines) ++ imported old.version (d ∷ []) ≡ imported new.version (added (lines ++ Add d ∷ [])) =
-    sym (imported_more old.version (added lines) d) ∙ ap (imported old.version) (sym (added_more lines d)) ∙ ap (λ v. imported v (added (lines ++ Add d ∷ []))) (sym a.version) in
-    subst (λ xs. AreSameSets xs (imported new.version (added (lines ++ Add d ∷ [])))) (sym a.added)
-    (subst (AreSameSets (old.added ++ imported old.version (c ∷ []))) all
-    (same_append old.added (imported old.version (added lines)) (imported old.version (c ∷ [])) (imported old.version (d ∷ [])) h (one_imported (old.version == 2) c d same)))
+    let all : kept old.keeps (added lines) ++ kept old.keeps (d ∷ []) ≡ kept new.keeps (added (lines ++ Add d ∷ [])) =
+    sym (kept_more old.keeps (added lines) d) ∙ ap (kept old.keeps) (sym (added_more lines d)) ∙ ap (λ (k : Keeps). kept k (added (lines ++ Add d ∷ []))) (sym a.keeps) in
+    subst (λ xs. AreSameSets xs (kept new.keeps (added (lines ++ Add d ∷ [])))) (sym a.added)
+    (subst (AreSameSets (old.added ++ kept old.keeps (c ∷ []))) all
+    (same_append old.added (kept old.keeps (added lines)) (kept old.keeps (c ∷ [])) (kept old.keeps (d ∷ [])) h (one_kept old.keeps c d same)))
 
 same_added : (c d : Clause) (old new : Checking) (lines : List ClauseLine) → HasAdded old lines → Deletes c old new → HasAdded new (lines ++ Delete d ∷ [])
 same_added c d old new lines h r =
-    subst (λ xs. AreSameSets xs (imported new.version (added (lines ++ Delete d ∷ [])))) (sym r.added)
-    (subst (AreSameSets old.added) (ap (imported old.version) (sym (added_same lines d)) ∙ ap (λ v. imported v (added (lines ++ Delete d ∷ []))) (sym r.version)) h)
+    subst (λ xs. AreSameSets xs (kept new.keeps (added (lines ++ Delete d ∷ [])))) (sym r.added)
+    (subst (AreSameSets old.added) (ap (kept old.keeps) (sym (added_same lines d)) ∙ ap (λ (k : Keeps). kept k (added (lines ++ Delete d ∷ []))) (sym r.keeps)) h)
 
 pub added_are_right : AddedAreRight
 added_are_right = record { adds = more_added; deletes = same_added }

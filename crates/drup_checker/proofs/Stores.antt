@@ -1,11 +1,12 @@
 -- What a store keeps, as one clause more is live and as one is taken out.
-use Rattle.std.specs.Prelude.{◌≡◌, ◌≢◌, ℕ, suc, ◌+◌, ◌%◌, ◌<◌, ◌≤◌, List, [], ◌∷◌, ◌++◌, length, slice_index, slice_set, take}
+use Rattle.std.specs.Prelude.{◌≡◌, ◌≢◌, ℕ, suc, ◌+◌, ◌%◌, ◌<◌, ◌≤◌, List, [], ◌∷◌, ◌++◌, length, map, slice_index, slice_index_or, slice_set, take, IsSome}
 use Rattle.std.specs.declared.option.Option.{Option}
 use Rattle.std.specs.declared.option.Option.TheVariants.{None, Some}
-use Rattle.std.specs.List.{Any}
+use Rattle.std.specs.List.{All, Any, Contains}
 use Rattle.std.proofs.Common.{refl, sym, ap, subst, ◌∙◌, add-one, arith, ⊎_elim}
 use Rattle.std.proofs.lemmas.Bool.{cases_eq}
-use Rattle.std.proofs.lemmas.List.{get_or-set_other, get_or-set_same, length_push, length-set}
+use Rattle.std.proofs.lemmas.List.{get_or-set_other, get_or-set_same, length_push, length-set, map-append, take_more}
+use Rattle.std.proofs.lemmas.List.Elements.{All-map}
 use Rattle.clause_core.specs.Clause.{Clause, IsClause, IsClauseInRange, SameSet}
 use Rattle.clause_core.proofs.CallerLemmas.{sets_are_lists}
 use Rattle.unit_prop.specs.Standing.{Adds, HasSetAt, Removes, Standing, clause_at, live_of}
@@ -13,9 +14,11 @@ use Rattle.unit_prop.proofs.CallerLemmas.{alone_is_free, none_live}
 use Rattle.unit_prop.proofs.Grounds.{clause_cases}
 use Rattle.unit_prop.proofs.VisitSteps.{live_below}
 use Rattle.clause_core.specs.ClauseLines.{Removes as RemovesOne}
-use Rattle.drup_checker.specs.Checking.{Held, held}
+use Rattle.trim_core.specs.TightChains.{IsTightChain}
+use Rattle.drup_checker.specs.Checking.{Held, IsTightChainOf, LosesOne, Numbered, added_numbers, held, held_with, numbered_of, unnumbered}
+use Rattle.drup_checker.specs.Tightness.{AreTightAt, clause_in, clauses_at}
 use Rattle.drup_checker.specs.Chains.{AreFalling, IsStore, Leads, number_of}
-use Rattle.drup_checker.proofs.LiveClauses.{live_more, live_of-append, removes_at}
+use Rattle.drup_checker.proofs.LiveClauses.{live_more, live_of-append, loses_at, numbered_has, numbered_more, numbered_of-append, removes_at}
 use Rattle.drup_checker.proofs.Leading.{falls_longer, leads_new, leads_on, leads_still}
 
 -- one clause more
@@ -119,33 +122,85 @@ nowhere max s heads next store c is chain head its begins none = none_live c s.c
 
 -- ---- what is seen of it
 
-pub held_more : (s new : Standing) (h : Held) → held s ≡ h → (c : Clause) (place : ℕ) → Adds s c place new → held new ≡ record { max = h.max; live = h.live ++ c ∷ [] }
-held_more s new h view c place adds =
+pub held_more : (s new : Standing) (numbers : List ℕ) (h : Held) → held s numbers ≡ h → length numbers ≡ length s.clauses → (c : Clause) (number place : ℕ) → Adds s c place new → held new (numbers ++ number ∷ []) ≡ held_with h c number
+held_more s new numbers h view even c number place adds =
     let max : new.trail.greatest ≡ h.max = adds.greatest ∙ ap (λ (k : Held). k.max) view in
     let live : live_of new.clauses ≡ h.live ++ c ∷ [] = ap live_of adds.clauses ∙ (live_of-append s.clauses c ∙ ap (λ (k : Held). k.live ++ c ∷ []) view) in
-    λ i. record { max = max i; live = live i }
+    let one : Numbered = record { clause = c; number = number } in
+    let numbered : numbered_of new.clauses (numbers ++ number ∷ []) ≡ h.numbered ++ one ∷ [] =
+    ap (λ (cs : List (Option Clause)). numbered_of cs (numbers ++ number ∷ [])) adds.clauses ∙ (numbered_of-append s.clauses numbers c number even ∙ ap (λ (k : Held). k.numbered ++ one ∷ []) view) in
+    λ i. record { max = max i; live = live i; numbered = numbered i }
 
-pub held_fewer : (s new : Standing) (h : Held) → held s ≡ h → (c : Clause) (place : ℕ) → HasSetAt s.clauses c place → Removes s place new → RemovesOne h.live c (live_of new.clauses) × (new.trail.greatest ≡ h.max)
-held_fewer s new h view c place has removes = (
+pub held_fewer : (s new : Standing) (numbers : List ℕ) (h : Held) → held s numbers ≡ h → length numbers ≡ length s.clauses → (c : Clause) (place : ℕ) → HasSetAt s.clauses c place → Removes s place new →
+    RemovesOne h.live c (live_of new.clauses) × LosesOne c h.numbered (numbered_of new.clauses numbers) × (new.trail.greatest ≡ h.max)
+held_fewer s new numbers h view even c place has removes = (
   subst (λ (k : Held). RemovesOne k.live c (live_of new.clauses)) view (subst (λ (cs : List (Option Clause)). RemovesOne (live_of s.clauses) c (live_of cs)) (sym removes.clauses) (removes_at s.clauses place has.0 c has.1 has.2)),
+  subst (λ (k : Held). LosesOne c k.numbered (numbered_of new.clauses numbers)) view
+      (subst (λ (cs : List (Option Clause)). LosesOne c (numbered_of s.clauses numbers) (numbered_of cs numbers)) (sym removes.clauses) (loses_at s.clauses numbers place has.0 c even has.1 has.2)),
   removes.greatest ∙ ap (λ (k : Held). k.max) view,
 )
 
--- the clauses of one place more
-renew_one : (s : Standing) (h now next : Held) (n : ℕ) (o : Option Clause) → n < length s.clauses → clause_at s.clauses n ≡ o → now ≡ record { max = h.max; live = live_of (take n s.clauses) }
-    → next ≡ record { max = now.max; live = now.live ++ live_of (o ∷ []) } → next ≡ record { max = h.max; live = live_of (take (n + 1) s.clauses) }
-renew_one s h now next n o below e was is =
-    let live : now.live ++ live_of (o ∷ []) ≡ live_of (take (n + 1) s.clauses) = ap (λ (k : Held). k.live ++ live_of (o ∷ [])) was ∙ (sym (live_more s.clauses n o below e) ∙ ap (λ (m : ℕ). live_of (take m s.clauses)) (sym (add-one n))) in
-    is ∙ (λ i. record { max = ap (λ (k : Held). k.max) was i; live = live i })
+-- the clauses of the first places
+abbrev pub held_first : Standing → List ℕ → ℕ → ℕ → Held
+held_first s numbers max n = record { max = max; live = live_of (take n s.clauses); numbered = numbered_of (take n s.clauses) (take n numbers) }
 
-pub renew_some : (s : Standing) (h now next : Held) (n : ℕ) (c : Clause) → n < length s.clauses → clause_at s.clauses n ≡ Some c → now ≡ record { max = h.max; live = live_of (take n s.clauses) }
-    → next ≡ record { max = now.max; live = now.live ++ c ∷ [] } → next ≡ record { max = h.max; live = live_of (take (n + 1) s.clauses) }
-renew_some s h now next n c below e was is = renew_one s h now next n (Some c) below e was is
+-- the clauses of one place more
+renew_one : (s : Standing) (numbers : List ℕ) (h now next : Held) (n m : ℕ) (o : Option Clause) → length numbers ≡ length s.clauses → n < length s.clauses → clause_at s.clauses n ≡ o → slice_index numbers n ≡ m → now ≡ held_first s numbers h.max n
+    → next ≡ record { max = now.max; live = now.live ++ live_of (o ∷ []); numbered = now.numbered ++ numbered_of (o ∷ []) (m ∷ []) } → next ≡ held_first s numbers h.max (n + 1)
+renew_one s numbers h now next n m o even below e f was is =
+    let live : now.live ++ live_of (o ∷ []) ≡ live_of (take (n + 1) s.clauses) = ap (λ (k : Held). k.live ++ live_of (o ∷ [])) was ∙ (sym (live_more s.clauses n o below e) ∙ ap (λ (q : ℕ). live_of (take q s.clauses)) (sym (add-one n))) in
+    let numbered : now.numbered ++ numbered_of (o ∷ []) (m ∷ []) ≡ numbered_of (take (n + 1) s.clauses) (take (n + 1) numbers) =
+    ap (λ (k : Held). k.numbered ++ numbered_of (o ∷ []) (m ∷ [])) was ∙ (sym (numbered_more s.clauses numbers n o m even below e f) ∙ ap (λ (q : ℕ). numbered_of (take q s.clauses) (take q numbers)) (sym (add-one n))) in
+    is ∙ (λ i. record { max = ap (λ (k : Held). k.max) was i; live = live i; numbered = numbered i })
+
+pub renew_some : (s : Standing) (numbers : List ℕ) (h now next : Held) (n m : ℕ) (c : Clause) → length numbers ≡ length s.clauses → n < length s.clauses → clause_at s.clauses n ≡ Some c → slice_index numbers n ≡ m → now ≡ held_first s numbers h.max n
+    → next ≡ held_with now c m → next ≡ held_first s numbers h.max (n + 1)
+renew_some s numbers h now next n m c even below e f was is = renew_one s numbers h now next n m (Some c) even below e f was is
 
 append_nothing : {X : Type 0} (xs : List X) → xs ++ [] ≡ xs
 append_nothing [] = refl
 append_nothing (x ∷ xs) = ap (λ ys. x ∷ ys) (append_nothing xs)
 
-pub renew_none : (s : Standing) (h now : Held) (n : ℕ) → n < length s.clauses → clause_at s.clauses n ≡ None → now ≡ record { max = h.max; live = live_of (take n s.clauses) }
-    → now ≡ record { max = h.max; live = live_of (take (n + 1) s.clauses) }
-renew_none s h now n below e was = renew_one s h now now n None below e was (λ i. record { max = now.max; live = sym (append_nothing now.live) i })
+pub renew_none : (s : Standing) (numbers : List ℕ) (h now : Held) (n : ℕ) → length numbers ≡ length s.clauses → n < length s.clauses → clause_at s.clauses n ≡ None → now ≡ held_first s numbers h.max n
+    → now ≡ held_first s numbers h.max (n + 1)
+renew_none s numbers h now n even below e was =
+    renew_one s numbers h now now n (slice_index numbers n) None even below e refl was (λ i. record { max = now.max; live = sym (append_nothing now.live) i; numbered = sym (append_nothing now.numbered) i })
+
+-- a list's clauses, one after the other
+pub begun_more : (now next : Held) (max n : ℕ) (cs : List Clause) (c : Clause) → n < length cs → c ≡ slice_index_or cs n c → now ≡ record { max = max; live = take n cs; numbered = unnumbered (take n cs) } → next ≡ held_with now c 0 →
+    next ≡ record { max = max; live = take (n + 1) cs; numbered = unnumbered (take (n + 1) cs) }
+begun_more now next max n cs c below read was is =
+    let more : take (n + 1) cs ≡ take n cs ++ c ∷ [] = take_more cs n c below ∙ ap (λ (d : Clause). take n cs ++ d ∷ []) (sym read) in
+    let live : now.live ++ c ∷ [] ≡ take (n + 1) cs = ap (λ (k : Held). k.live ++ c ∷ []) was ∙ sym more in
+    let one : Numbered = record { clause = c; number = 0 } in
+    let numbered : now.numbered ++ one ∷ [] ≡ unnumbered (take (n + 1) cs) = ap (λ (k : Held). k.numbered ++ one ∷ []) was ∙ (sym (map-append (λ (d : Clause). record { clause = d; number = 0 }) (take n cs) (c ∷ [])) ∙ ap unnumbered (sym more)) in
+    is ∙ (λ i. record { max = ap (λ (k : Held). k.max) was i; live = live i; numbered = numbered i })
+
+-- ---- chains
+
+clause_some : (o : Option Clause) → IsSome o → o ≡ Some (clause_in o)
+clause_some None h = absurd (cc)
+clause_some (Some c) h = refl
+
+module _ (xs : List (Option Clause)) (numbers : List ℕ) (even : length numbers ≡ length xs) where
+  abbrev one : ℕ → Numbered
+  one r = record { clause = clause_in (clause_at xs r); number = slice_index numbers r }
+
+  all_live : (places : List ℕ) → All (λ r. IsSome (clause_at xs r)) places → All (Contains (numbered_of xs numbers)) (map one places)
+  all_live places h = All-map (Contains (numbered_of xs numbers)) one places (λ k d low. numbered_has xs numbers (slice_index_or places k d) (clause_in (clause_at xs (slice_index_or places k d))) even (clause_some (clause_at xs (slice_index_or places k d)) (h k d low)))
+
+  clauses_same : (places : List ℕ) → map (λ (x : Numbered). x.clause) (map one places) ≡ clauses_at xs places
+  clauses_same [] = refl
+  clauses_same (r ∷ places) = ap (λ (cs : List Clause). clause_in (clause_at xs r) ∷ cs) (clauses_same places)
+
+  numbers_same : (places : List ℕ) → map (λ (x : Numbered). x.number) (map one places) ≡ map (λ r. slice_index numbers r) places
+  numbers_same [] = refl
+  numbers_same (r ∷ places) = ap (λ (ns : List ℕ). slice_index numbers r ∷ ns) (numbers_same places)
+
+  pub chain_of_places : (c : Clause) (places out : List ℕ) → AreTightAt xs c places → out ≡ added_numbers (map (λ r. slice_index numbers r) places) → IsTightChainOf (numbered_of xs numbers) c out
+  chain_of_places c places out h is = record {
+    chain = map one places;
+    are_live = all_live places h.live;
+    tight = subst (IsTightChain c) (sym (clauses_same places)) h.tight;
+    numbers_are = is ∙ ap added_numbers (sym (numbers_same places));
+  }

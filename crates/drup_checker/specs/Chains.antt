@@ -45,3 +45,8 @@ pub record IsStore (max : ℕ) (s : Standing) (heads next : List ℕ) : Type 0 w
   pub free : IsFree s
   pub kept : (r : ℕ) (c : Clause) → clause_at s.clauses r ≡ Some c → IsClause c × IsClauseInRange max c
   pub indexed : AreIndexed heads next s.clauses
+
+-- and each place has a number
+pub record IsNumberedStore (max : ℕ) (s : Standing) (heads next numbers : List ℕ) : Type 0 where
+  pub store : IsStore max s heads next
+  pub counted : length numbers ≡ length next

@@ -2,5 +2,6 @@
 pub mod Opposing
 pub mod Chains
 pub mod Checking
+pub mod Tightness
 pub mod Steps
 pub mod Judging

@@ -3,7 +3,7 @@ use Rattle.std.specs.Prelude.{◌≡◌, ◌≢◌, ℕ, ◌<◌, ◌≤◌, Lis
 use Rattle.std.specs.declared.option.Option.{Option}
 use Rattle.std.specs.List.{Contains}
 use Rattle.clause_core.specs.Clause.{Clause, IsSubset}
-use Rattle.unit_prop.specs.Standing.{Standing, assumed_of}
+use Rattle.unit_prop.specs.Standing.{IsSound, Standing, assumed_of}
 
 -- a literal of a variable from 1 to the greatest one
 abbrev pub IsLiteralOf : ℕ → ℤ → Type 0
@@ -27,3 +27,10 @@ pub record OpposesFirst (old now : Standing) (c : Clause) (n : ℕ) : Type 0 whe
 
 abbrev pub Opposes : Standing → Standing → Clause → Type 0
 Opposes old now c = OpposesFirst old now c (length c)
+
+-- A literal of the clause stands, and nothing but negations of the clause's literals was assumed.
+pub record IsMet (now : Standing) (c : Clause) (l : ℤ) : Type 0 where
+  pub sound : IsSound now
+  pub assumed : IsSubset (assumed_of now) (map neg_ℤ c)
+  pub has : Contains c l
+  pub stands : Contains now.trail.literals l

@@ -1,15 +1,18 @@
 // The checker of a clause certificate.
-ghost use Rattle.std.specs.Prelude.{◌≡◌, ◌↔◌, ◌<◌, ◌^◌, ◌++◌, ◌∷◌, [], Some, None, false, IfOk, IfErr, IfSome, IsNone, IsErrOf, OnOk, OnErr, IsTrue, map, length};
-ghost use Rattle.std.specs.List.{All, Any};
-ghost use Rattle.clause_core.specs.Clause.{IsClauseInRange, SameSet};
+ghost use Rattle.std.specs.Prelude.{◌≡◌, ◌↔◌, ◌<◌, ◌^◌, [], false, IfOk, IfSome, IsErrOf, IsNone, IsSome, OnErr, OnOk};
+ghost use Rattle.std.specs.List.{All};
+ghost use Rattle.clause_core.specs.Clause.{IsClauseInRange};
 ghost use Rattle.clause_core.specs.Facts.{IsClauseFact};
 ghost use Rattle.clause_core.specs.GateClauses.{gate_clauses};
 ghost use Rattle.clause_core.specs.Likeness.{AreSameSets};
 ghost use Rattle.clause_core.specs.UnitPropagation.{IsRup};
-ghost use Rattle.drup_checker.specs.Checking.{Adds, Deletes, IsLeastUnshown, IsNowhere, Starts, imported};
+ghost use Rattle.drup_checker.specs.Checking.{Adds, Deletes, IsLeastUnshown, IsNowhere, IsTightChainOf, Starts};
+ghost use Rattle.trim_core.specs.KeptClauses.{AreEarlier, HaveTightChains};
 
 use crate::fault::{AddFail, NoSuchClause};
+use crate::keeps::Keeps;
 use crate::least::least_unshown;
+use crate::record::{Record, keep};
 use crate::showing::show;
 use crate::store::Store;
 use clause_core::{Clause, ClauseList};
@@ -18,7 +21,7 @@ use miter_encoder::Goals;
 use std::alloc::Global;
 use std::marker::Model;
 
-/// The live clauses of a clause certificate over some gates, which goals its added clauses have shown, and in version 2
+/// The live clauses of a clause certificate over some gates, which goals its added clauses have shown, and what is kept of
 /// those clauses.
 #[derive(Drop)]
 pub struct Checker<'a> {
@@ -28,9 +31,10 @@ pub struct Checker<'a> {
     store: Store,
     /// for each goal
     shown: Vec<bool>,
-    version: u8,
-    /// none but in version 2
-    added: ClauseList,
+    keeps: Keeps,
+    recorded: Record,
+    /// how many clauses were added
+    count: u64,
 }
 
 impl<'a> Model for Checker<'a> {
@@ -38,9 +42,9 @@ impl<'a> Model for Checker<'a> {
 
     ghost Value = { Checking };
 
-    ghost view = { λ c. checking c.gates.now c.store c.goals.now c.shown.items c.version c.added };
+    ghost view = { λ c. checking c.gates.now c.store c.goals.now c.shown.items c.keeps c.recorded.added c.recorded.uses.items c.count };
 
-    ghost invariant = { λ c. IsKept c.gates.now c.store c.goals.now c.shown.items c.version c.added };
+    ghost invariant = { λ c. IsKept c.gates.now c.store c.goals.now c.shown.items c.keeps c.recorded.added c.recorded.uses.items c.count };
 }
 
 impl<'a> Checker<'a> {
@@ -51,12 +55,12 @@ impl<'a> Checker<'a> {
         gates: &'a [Gate],
         clauses: &ClauseList,
         goals: &'a Goals,
-        version: u8,
+        keeps: Keeps,
     ) -> Result<Checker<'a>, Memory>
         requires small { max < 2 ^ 31 }
         requires in_range { All (IsClauseInRange max) clauses.now }
         requires of_gates { AreSameSets clauses.now (gate_clauses gates.now) }
-        ensures starts { IfOk result (Starts gates.entry.now max clauses.now goals.entry.now version) }
+        ensures starts { IfOk result (Starts gates.entry.now max clauses.now goals.entry.now keeps) }
         ensures shown { IfOk result (λ c. All (λ b. b ≡ false) c.shown) }
     {
         let store = Store::new(alloc, max, clauses)?;
@@ -67,8 +71,12 @@ impl<'a> Checker<'a> {
             goals,
             store,
             shown,
-            version,
-            added: ClauseList::new(alloc),
+            keeps,
+            recorded: Record {
+                added: ClauseList::new(alloc),
+                uses: Vec::new(alloc),
+            },
+            count: 0,
         })
     }
 
@@ -79,21 +87,23 @@ impl<'a> Checker<'a> {
         ensures not_implied { IsErrOf result AddFail.NotImplied ↔ ¬ (IsRup self.old.live clause.now) }
         ensures unchanged { OnErr result (self.new ≡ self.old) }
     {
-        if !self.store.implies(clause) {
+        let found = uses_of(self.alloc, self.keeps, &mut self.store, clause)?;
+        let Some(uses) = found else {
             return Err(AddFail::NotImplied);
-        }
-        let before = self.added.len();
-        match keep(self.alloc, self.version, &mut self.added, clause) {
-            Ok(()) => {}
-            Err(_) => return Err(AddFail::Memory),
-        }
-        match self.store.put(clause) {
+        };
+        let added = self.recorded.added.len();
+        let used = self.recorded.uses.len();
+        keep(self.alloc, self.keeps, &mut self.recorded, clause, uses)?;
+        let number = self.count.saturating_add(1);
+        match self.store.put(clause, number) {
             Ok(()) => {}
             Err(_) => {
-                self.added.truncate(before);
+                self.recorded.added.truncate(added);
+                self.recorded.uses.truncate(used);
                 return Err(AddFail::Memory);
             }
         }
+        self.count = number;
         show(self.goals, clause, &mut self.shown);
         Ok(())
     }
@@ -110,21 +120,37 @@ impl<'a> Checker<'a> {
         Ok(())
     }
 
-    /// In version 2 the clauses that were added, in their order, also those that were deleted later; else none. Each holds on
-    /// every evaluation of the gates.
+    /// The added clauses in a tight chain for the clause, by their numbers from 1 in the order in which they were added;
+    /// None exactly where it doesn't follow from the live ones. Nothing changes.
+    pub fn chain(&mut self, clause: &Clause) -> Result<Option<Vec<u64>>, Memory>
+        requires in_range { IsClauseInRange self.old.max clause.now }
+        ensures some { IfOk result (λ numbers. IfSome numbers (λ n. IsTightChainOf self.old.numbered clause.now n.items)) }
+        ensures none { IfOk result (λ numbers. IsNone numbers ↔ ¬ (IsRup self.old.live clause.now)) }
+        ensures unchanged { self.new ≡ self.old }
+    {
+        self.store.chain(clause)
+    }
+
+    /// Where clauses are kept those that were added, in their order, also those that were deleted later; else none. Each holds
+    /// on every evaluation of the gates.
     pub fn added(&self) -> &ClauseList
         ensures value { result.now ≡ self.now.added }
         ensures facts { All (IsClauseFact self.now.gates) self.now.added }
     {
-        &self.added
+        &self.recorded.added
     }
 
-    /// The same, where the checker isn't needed any more.
-    pub fn into_added(self) -> ClauseList
-        ensures value { result ≡ self.entry.added }
+    /// The same, where the checker isn't needed any more, and where chains are kept what they use: each added clause has a
+    /// tight chain of the gates' clauses and of earlier ones that its numbers name.
+    pub fn into_record(self) -> Record
+        ensures added { result.added ≡ self.entry.added }
+        ensures uses { result.uses.items ≡ self.entry.uses }
         ensures facts { All (IsClauseFact self.entry.gates) self.entry.added }
+        ensures chains { self.entry.keeps ≡ Keeps.Chains →
+            HaveTightChains (gate_clauses self.entry.gates) [] self.entry.added self.entry.uses }
+        ensures earlier { AreEarlier self.entry.uses }
     {
-        self.added
+        self.recorded
     }
 
     /// The least column with a goal that is neither met nor shown.
@@ -135,14 +161,29 @@ impl<'a> Checker<'a> {
     }
 }
 
-// Puts a clause behind those that are kept, in version 2.
-fn keep(alloc: Global, version: u8, added: &mut ClauseList, clause: &Clause) -> Result<(), Memory>
-    ensures ok { OnOk result (added.new ≡ added.old ++ imported version (clause.now ∷ [])) }
-    ensures err { OnErr result (added.new ≡ added.old) }
+// The numbers of a tight chain for a clause that follows from the live ones, where they are kept, and none where they
+// aren't; None where it doesn't follow.
+fn uses_of(
+    alloc: Global,
+    keeps: Keeps,
+    store: &mut Store,
+    clause: &Clause,
+) -> Result<Option<Vec<u64>>, Memory>
+    requires { IsClauseInRange store.old.max clause.now }
+    ensures some { IfOk result (λ numbers. IfSome numbers (λ n. keeps ≡ Keeps.Chains →
+        IsTightChainOf store.old.numbered clause.now n.items)) }
+    ensures follows { IfOk result (λ numbers. IsSome numbers ↔ IsRup store.old.live clause.now) }
+    ensures err { OnErr result (IsRup store.old.live clause.now) }
+    ensures kept { store.new ≡ store.old }
 {
-    if version != 2 {
-        return Ok(());
+    match keeps {
+        Keeps::Chains => store.chain(clause),
+        Keeps::Nothing | Keeps::Clauses => {
+            if store.implies(clause) {
+                Ok(Some(Vec::new(alloc)))
+            } else {
+                Ok(None)
+            }
+        }
     }
-    let copy = clause.copy(alloc)?;
-    added.push(copy)
 }

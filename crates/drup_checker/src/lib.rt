@@ -2,21 +2,31 @@
 //!
 //! A `Checker` begins with the clauses of some gates. `add` takes a clause exactly where it follows by reverse unit
 //! propagation, `delete` one exactly where a live clause has its set, and `unshown` is the least column with a goal
-//! that is neither met nor shown. Each live clause holds on every evaluation of the gates, and so do those of `added`, which an
-//! algebra certificate of version 2 may import. Only `new` and `add` take memory.
+//! that is neither met nor shown. `chain` gives a tight chain for a clause that follows. Each live clause holds on every
+//! evaluation of the gates, and so do those of `added`, which are the added ones where a checker `Keeps` them. With them it
+//! may keep what their tight chains use (`into_record`). Only `new`, `add` and `chain` take memory.
 //!
-//! *Follows*, *chain*, *live*, *shown*: by `specs/UnitPropagation.antt` and `specs/ClauseLines.antt` of `clause_core`.
+//! *Tight*: by `specs/TightChains.antt` of `trim_core`. *Follows*, *chain*, *live*, *shown*: by
+//! `specs/UnitPropagation.antt` and `specs/ClauseLines.antt` of `clause_core`.
 #![tactic(auto)]
 
 mod chains;
 mod checker;
 mod fault;
+mod keeps;
 mod laws;
 mod least;
+mod numbers;
+mod record;
 mod rup;
 mod showing;
 mod store;
+mod tautology;
+mod tight;
 
 pub use checker::Checker;
 pub use fault::{AddFail, NoSuchClause};
+pub use keeps::Keeps;
 pub use laws::{added_are_right, goals_are_judged, marks_are_right, steps_are_lawful};
+pub use numbers::Numbers;
+pub use record::Record;

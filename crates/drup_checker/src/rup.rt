@@ -1,8 +1,8 @@
 // Whether a clause follows by reverse unit propagation.
-ghost use Rattle.std.specs.Prelude.{◌≡◌, ◌↔◌, ◌<◌, ◌^◌, false, nat_abs, neg_ℤ, IsTrue};
+ghost use Rattle.std.specs.Prelude.{◌≡◌, ◌↔◌, ◌<◌, ◌^◌, nat_abs, neg_ℤ, IfSome, IsNone, IsSome, IsTrue};
 ghost use Rattle.clause_core.specs.Clause.{IsClauseInRange};
 ghost use Rattle.clause_core.specs.UnitPropagation.{IsRup};
-ghost use Rattle.drup_checker.specs.Opposing.{Begins, IsLiteralOf, Opposes};
+ghost use Rattle.drup_checker.specs.Opposing.{Begins, IsLiteralOf, IsMet, Opposes};
 ghost use Rattle.unit_prop.specs.Standing.{Assumes, IsFree, IsSound, live_of};
 
 use clause_core::Clause;
@@ -28,26 +28,27 @@ fn refutes(propagator: &mut Propagator, clause: &Clause) -> bool
     ensures rup { IsTrue result ↔ IsRup (live_of propagator.old.clauses) clause.now }
     ensures begins { Begins propagator.old propagator.new }
 {
-    if oppose_all(propagator, clause) {
+    if oppose_all(propagator, clause).is_some() {
         return true;
     }
     propagator.propagate().is_some()
 }
 
-// assumes the negation of each literal, up to one that stands
-fn oppose_all(propagator: &mut Propagator, clause: &Clause) -> bool
+/// Assumes the negation of each literal, up to one that stands.
+pub fn oppose_all(propagator: &mut Propagator, clause: &Clause) -> Option<i32>
     requires free { IsFree propagator.old }
     requires in_range { IsClauseInRange propagator.old.trail.greatest clause.now }
-    ensures opposed { IsTrue result → IsRup (live_of propagator.old.clauses) clause.now }
-    ensures all { result ≡ false → Opposes propagator.old propagator.new clause.now }
+    ensures opposed { IfSome result (IsMet propagator.new clause.now) }
+    ensures follows { IsSome result → IsRup (live_of propagator.old.clauses) clause.now }
+    ensures all { IsNone result → Opposes propagator.old propagator.new clause.now }
     ensures begins { Begins propagator.old propagator.new }
 {
     for &lit in clause.lits() {
         if let Assumed::Opposed = oppose(propagator, lit) {
-            return true;
+            return Some(lit);
         }
     }
-    false
+    None
 }
 
 // assumes the negation of a literal
@@ -61,7 +62,8 @@ fn oppose(propagator: &mut Propagator, lit: i32) -> Assumed
     propagator.assume(opposite)
 }
 
-fn negation(lit: i32) -> i32
+/// The opposite literal.
+pub fn negation(lit: i32) -> i32
     requires { nat_abs lit < 2 ^ 31 }
     ensures { result ≡ neg_ℤ lit }
 {

@@ -1,13 +1,14 @@
 // The live clauses, each of which is found by a look into one chain.
-ghost use Rattle.std.specs.Prelude.{◌≡◌, ◌↔◌, ◌+◌, ◌<◌, ◌^◌, ◌++◌, ◌∷◌, [], false, length, IfOk, IsTrue, OnErr, OnOk, vec_capacity, vec_len};
+ghost use Rattle.std.specs.Prelude.{◌≡◌, ◌↔◌, ◌+◌, ◌<◌, ◌^◌, ◌++◌, ◌∷◌, [], false, length, map, slice_index, IfOk, IfSome, IsNone, IsTrue, OnErr, OnOk, vec_capacity, vec_len};
 ghost use Rattle.std.specs.List.{All, Any};
 ghost use Rattle.clause_core.specs.Clause.{IsClauseInRange, SameSet};
 ghost use Rattle.clause_core.specs.ClauseLines.{Removes};
 ghost use Rattle.clause_core.specs.UnitPropagation.{IsRup};
-ghost use Rattle.drup_checker.specs.Checking.{Held};
+ghost use Rattle.drup_checker.specs.Checking.{Held, IsTightChainOf, LosesOne, added_numbers, held_with, unnumbered};
 
 use crate::chains::{chain_of, find, unlink};
 use crate::rup::is_rup;
+use crate::tight::tight_chain;
 use clause_core::{Clause, ClauseList};
 use graph_core::Memory;
 use std::alloc::Global;
@@ -25,29 +26,31 @@ pub struct Store {
     heads: Vec<u32>,
     /// for each place of the propagator where it leads
     next: Vec<u32>,
+    /// for each place the number of its clause, 0 for one that wasn't added
+    numbers: Vec<u64>,
 }
 
 impl Model for Store {
     ghost use Rattle.drup_checker.specs.Checking.{Held, held};
-    ghost use Rattle.drup_checker.specs.Chains.{IsStore};
+    ghost use Rattle.drup_checker.specs.Chains.{IsNumberedStore};
 
     ghost Value = { Held };
 
-    ghost view = { λ s. held s.propagator };
+    ghost view = { λ s. held s.propagator s.numbers.items };
 
-    ghost invariant = { λ s. IsStore s.max s.propagator s.heads.items s.next.items };
+    ghost invariant = { λ s. IsNumberedStore s.max s.propagator s.heads.items s.next.items s.numbers.items };
 }
 
 impl Store {
-    /// The clauses of a list.
+    /// The clauses of a list, which have no numbers.
     pub fn new(alloc: Global, max: u32, clauses: &ClauseList) -> Result<Store, Memory>
         requires small { max < 2 ^ 31 }
         requires in_range { All (IsClauseInRange max) clauses.now }
-        ensures { IfOk result (λ s. s ≡ record { max = max; live = clauses.now }) }
+        ensures { IfOk result (λ s. s ≡ record { max = max; live = clauses.now; numbered = unnumbered clauses.now }) }
     {
         let mut store = Store::empty(alloc, max, clauses.len())?;
         for place in 0..clauses.len() {
-            store.append(clauses.get(place))?;
+            store.append(clauses.get(place), 0)?;
         }
         Ok(store)
     }
@@ -55,7 +58,7 @@ impl Store {
     // No clauses, and chains for so many and as many again.
     fn empty(alloc: Global, max: u32, clauses: usize) -> Result<Store, Memory>
         requires { max < 2 ^ 31 }
-        ensures { IfOk result (λ s. s ≡ record { max = max; live = [] }) }
+        ensures { IfOk result (λ s. s ≡ record { max = max; live = []; numbered = [] }) }
     {
         let chains = clauses
             .saturating_mul(2)
@@ -66,19 +69,20 @@ impl Store {
             propagator: Propagator::new(alloc, max)?,
             heads: vec![in alloc; 0; chains]?,
             next: Vec::new(alloc),
+            numbers: Vec::new(alloc),
         })
     }
 
-    /// One clause more.
-    pub fn put(&mut self, clause: &Clause) -> Result<(), Memory>
+    /// One clause more, with its number.
+    pub fn put(&mut self, clause: &Clause, number: u64) -> Result<(), Memory>
         requires { IsClauseInRange self.old.max clause.now }
-        ensures ok { OnOk result (self.new ≡ record { max = self.old.max; live = self.old.live ++ clause.now ∷ [] }) }
+        ensures ok { OnOk result (self.new ≡ held_with self.old clause.now number) }
         ensures err { OnErr result (self.new ≡ self.old) }
     {
         if self.next.len() >= self.heads.len() {
             *self = self.renewed()?;
         }
-        self.append(clause)
+        self.append(clause, number)
     }
 
     // The same clauses, without the places of those that were taken out.
@@ -89,7 +93,7 @@ impl Store {
         for place in 0..self.next.len() {
             match self.propagator.get(place as u32) {
                 Some(clause) => {
-                    new.append(clause)?;
+                    new.append(clause, self.numbers[place])?;
                 }
                 None => {}
             }
@@ -108,24 +112,27 @@ impl Store {
         count
     }
 
-    fn append(&mut self, clause: &Clause) -> Result<(), Memory>
+    fn append(&mut self, clause: &Clause, number: u64) -> Result<(), Memory>
         requires { IsClauseInRange self.old.max clause.now }
-        ensures ok { OnOk result (self.new ≡ record { max = self.old.max; live = self.old.live ++ clause.now ∷ [] }) }
+        ensures ok { OnOk result (self.new ≡ held_with self.old clause.now number) }
         ensures err { OnErr result (self.new ≡ self.old) }
     {
         // none of its literals is past 31 bits
         let _lits = clause.lits();
         reserve(&mut self.next)?;
+        reserve(&mut self.numbers)?;
         let chain = chain_of(clause, self.heads.len());
         let reference = self.propagator.add(clause)?;
         push(&mut self.next, self.heads[chain]);
+        push(&mut self.numbers, number);
         self.heads[chain] = reference.place() + 1;
         Ok(())
     }
 
     /// Takes out a clause with this set, if there is one.
     pub fn take(&mut self, clause: &Clause) -> bool
-        ensures some { IsTrue result → Removes self.old.live clause.now self.new.live × (self.new.max ≡ self.old.max) }
+        ensures some { IsTrue result → Removes self.old.live clause.now self.new.live ×
+            LosesOne clause.now self.old.numbered self.new.numbered × (self.new.max ≡ self.old.max) }
         ensures none { result ≡ false → (self.new ≡ self.old) × ¬ (Any (λ d. SameSet d clause.now) self.old.live) }
     {
         // a live clause of its set is the same list, and so in the same chain
@@ -149,19 +156,50 @@ impl Store {
     {
         is_rup(&mut self.propagator, clause)
     }
+
+    /// The numbers of the added clauses in a tight chain of live ones, in the chain's order; None where the clause
+    /// doesn't follow.
+    pub fn chain(&mut self, clause: &Clause) -> Result<Option<Vec<u64>>, Memory>
+        requires { IsClauseInRange self.old.max clause.now }
+        ensures some { IfOk result (λ numbers. IfSome numbers (λ n. IsTightChainOf self.old.numbered clause.now n.items)) }
+        ensures none { IfOk result (λ numbers. IsNone numbers ↔ ¬ (IsRup self.old.live clause.now)) }
+        ensures err { OnErr result (IsRup self.old.live clause.now) }
+        ensures kept { self.new ≡ self.old }
+    {
+        let Some(places) = tight_chain(self.alloc, self.max, &mut self.propagator, clause)? else {
+            return Ok(None);
+        };
+        let added = added_at(self.alloc, &self.numbers, &places)?;
+        Ok(Some(added))
+    }
 }
 
-fn reserve(next: &mut Vec<u32>) -> Result<(), Memory>
-    ensures items { next.new.items ≡ next.old.items }
-    ensures room { OnOk result (vec_len next.new < vec_capacity next.new) }
+// The numbers at some places, but for those that are 0.
+fn added_at(alloc: Global, numbers: &[u64], places: &[u32]) -> Result<Vec<u64>, Memory>
+    requires { All (λ r. r < length numbers.now) places.now }
+    ensures { IfOk result (λ out. out.items ≡ added_numbers (map (λ r. slice_index numbers.now r) places.now)) }
 {
-    next.try_reserve(1)?;
+    let mut added = Vec::new(alloc);
+    for &place in places {
+        let number = numbers[place as usize];
+        if number > 0 {
+            added.push(number)?;
+        }
+    }
+    Ok(added)
+}
+
+fn reserve<T>(items: &mut Vec<T>) -> Result<(), Memory>
+    ensures items { items.new.items ≡ items.old.items }
+    ensures room { OnOk result (vec_len items.new < vec_capacity items.new) }
+{
+    items.try_reserve(1)?;
     Ok(())
 }
 
-fn push(next: &mut Vec<u32>, from: u32)
-    requires { vec_len next.old < vec_capacity next.old }
-    ensures { next.new.items ≡ next.old.items ++ from ∷ [] }
+fn push<T: Drop>(items: &mut Vec<T>, item: T)
+    requires { vec_len items.old < vec_capacity items.old }
+    ensures { items.new.items ≡ items.old.items ++ item ∷ [] }
 {
-    let _ = next.push(from);
+    let _ = items.push(item);
 }

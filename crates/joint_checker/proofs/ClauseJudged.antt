@@ -1,5 +1,5 @@
 -- The header of a clause file, and the whole file by what stands behind it.
-use Rattle.std.specs.Prelude.{◌≡◌, ℕ, ◌+◌, ◌≤◌, List, length, IfSome}
+use Rattle.std.specs.Prelude.{◌≡◌, ℕ, ◌+◌, ◌≤◌, Bool, List, length, IfSome}
 use Rattle.std.specs.declared.option.Option.{Option}
 use Rattle.std.proofs.Common.{refl, subst}
 use Rattle.graph_core.specs.Graph.Extended.{Extended}
@@ -8,7 +8,7 @@ use Rattle.graph_core.specs.Text.JudgedLines.{IsTooLong, Lengths}
 use Rattle.clause_core.specs.Clause.{Clause}
 use Rattle.clause_core.specs.ClauseLines.{ClauseLine, IsGoalRefusal, added}
 use Rattle.clause_core.specs.GateClauses.{gate_clauses}
-use Rattle.drup_checker.specs.Checking.{imported}
+use Rattle.drup_checker.specs.declared.keeps.Keeps.TheVariants as keep
 use Rattle.drup_text.specs.declared.head.Header.{Header}
 use Rattle.drup_text.specs.FileStates.{FileState, HasHeader, IsCause, PassesAnyHeader, lines_in}
 use Rattle.drup_text.specs.HeaderRefusal.{IsHeaderRefusal, LineCause, Range, Text, TooLong}
@@ -22,11 +22,13 @@ use Rattle.clause_judge.specs.ClauseLines.{answer_of_line}
 use Rattle.clause_judge.specs.declared.fail.ClauseFail.{ClauseFail}
 use Rattle.clause_judge.specs.declared.fail.ClauseFail.TheVariants as clauses
 use Rattle.clause_judge.specs.ClauseBody.{HasPassed, IsLongIn, IsRestFail, IsShownWith, Pass}
-use Rattle.joint_checker.specs.ClauseFiles.{GivesPremises, HasLawfulLines, premises}
+use Rattle.joint_checker.specs.ClauseFiles.{AddsClauses, GivesPremises, HasLawfulLines, imported, premises}
 use Rattle.joint_checker.specs.ClauseRefusals.{IsClauseRefusal, IsColumnRefusal}
 use Rattle.clause_judge.specs.LineRefusals.{IsRefusedLines, line_cause}
 use Rattle.joint_checker.specs.Fails.{IsClauseFail}
+use Rattle.joint_checker.specs.Shown.{keeps_of}
 use Rattle.joint_checker.proofs.ClauseWholes.{lawful_lines}
+use Rattle.joint_checker.proofs.KeptRecords.{imported_of_kept}
 use Rattle.gate_axioms.proofs.CallerLemmas.{same_imports}
 use Rattle.clause_judge.proofs.Told.{rose_before, told_more, told_of}
 
@@ -65,15 +67,31 @@ module _ (lengths : Lengths) (g : Aig) where
       refused p k = behind_header (IsRefusedLines (IsTooLong lengths (length bytes))) g lengths bytes h there.body p passes
           (subst (λ (n : ℕ). IsRefusedLines (IsTooLong lengths (length bytes)) e (n + 1) there.body p) count (whole (λ IsLong. IsRefusedLines IsLong e (file.number + 1) there.body p) k))
 
-    pub text_gives : (cs : List Clause) → IfSome behind (IsShownWith e file.lines h.version cs) → IfSome text (λ bytes. GivesPremises lengths g bytes (premises h.version e cs))
-    text_gives cs k = told_more text (λ bytes. HasHeader g file bytes behind h) (λ bytes. GivesPremises lengths g bytes (premises h.version e cs)) (λ bytes t.
-        let shown = told_of behind t.body (IsShownWith e file.lines h.version cs) t.left k in
+    pub text_gives : (chains : Bool) (cs : List Clause) (count : ℕ) → IfSome behind (IsShownWith e file.lines (keeps_of chains h.version) cs count) →
+        IfSome text (λ bytes. GivesPremises lengths g bytes (premises h.version e (imported h.version cs)))
+    text_gives chains cs count k = told_more text (λ bytes. HasHeader g file bytes behind h) (λ bytes. GivesPremises lengths g bytes (premises h.version e (imported h.version cs))) (λ bytes t.
+        let shown = told_of behind t.body (IsShownWith e file.lines (keeps_of chains h.version) cs count) t.left k in
         record {
           header = h;
           lines = shown.0;
           lawful = good bytes t shown.0 shown.1;
           shown = shown.2;
-          same = record { version = refl; extended = refl; imports = same_imports cs (imported h.version (added shown.0)) shown.3 };
+          same = record {
+            version = refl;
+            extended = refl;
+            imports = same_imports (imported h.version cs) (imported h.version (added shown.0)) (imported_of_kept chains h.version cs (added shown.0) shown.3);
+          };
+        }) header
+
+    pub text_adds : (cs : List Clause) (count : ℕ) → IfSome behind (IsShownWith e file.lines keep.Chains cs count) → IfSome text (λ bytes. AddsClauses lengths g bytes h cs count)
+    text_adds cs count k = told_more text (λ bytes. HasHeader g file bytes behind h) (λ bytes. AddsClauses lengths g bytes h cs count) (λ bytes t.
+        let shown = told_of behind t.body (IsShownWith e file.lines keep.Chains cs count) t.left k in
+        record {
+          lines = shown.0;
+          lawful = good bytes t shown.0 shown.1;
+          shown = shown.2;
+          same = shown.3;
+          count_is = shown.4;
         }) header
 
     told_refusal : (p : ℕ × LineCause) → IfSome behind (λ body. IsRefusedLines (IsLongIn file.lines body) e (file.number + 1) body p) → IfSome text (λ bytes. IsClauseRefusal lengths g bytes p)

@@ -20,7 +20,6 @@ use Rattle.clause_core.specs.Clause.{IsClauseInRange}
 use Rattle.clause_core.specs.ClauseLines.{ClauseLine, IsGoalRefusal, added, clause_in}
 use Rattle.clause_core.specs.GateClauses.{gate_clauses}
 use Rattle.clause_core.proofs.Goals.{goals_are_exact}
-use Rattle.drup_checker.specs.Checking.{imported}
 use Rattle.drup_text.specs.declared.head.Header.{Header}
 use Rattle.drup_text.specs.ClauseTexts.{IsBlockLine, IsCountLine, IsCutLine, IsPairLine}
 use Rattle.drup_text.specs.FileStates.{PassBlocks, PassesAnyHeader, PassesBlocks, PassesCount, PassesCut, PassesHeader}
@@ -29,7 +28,7 @@ use Rattle.drup_text.specs.Headers.{extended_with}
 use Rattle.drup_text.proofs.CallerLemmas.{header_said, none_block, none_count, none_cut, none_pair}
 use Rattle.drup_text.proofs.HeaderExact.{header_passes}
 use Rattle.drup_text.proofs.OneFile.{one_text_is_one_file}
-use Rattle.joint_checker.specs.ClauseFiles.{GivesPremises, HasLawfulLines, premises}
+use Rattle.joint_checker.specs.ClauseFiles.{GivesPremises, HasLawfulLines, imported, premises}
 use Rattle.joint_checker.specs.ClauseRefusals.{ClauseFault, ClausesAreExact, Goals, IsClauseRefusal, IsFileRefusal, Line}
 use Rattle.clause_judge.specs.LineRefusals.{IsRefusedLines}
 use Rattle.joint_checker.proofs.ClauseHeaders.{HasPassed, Reaches, header_exact, header_takes}

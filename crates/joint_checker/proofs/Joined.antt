@@ -27,7 +27,6 @@ use Rattle.clause_core.specs.Clause.{Clause, IsClauseInRange, holds}
 use Rattle.clause_core.specs.ClauseLines.{IsShown, added, clause_in}
 use Rattle.clause_core.specs.GateClauses.{goals_of}
 use Rattle.clause_core.proofs.AddedClauses.{added_are_facts, columns_agree}
-use Rattle.drup_checker.specs.Checking.{imported}
 use Rattle.drup_text.specs.declared.head.Header.{Header}
 use Rattle.drup_text.specs.Headers.{IsHeaderOf, extended_with}
 use Rattle.gate_axioms.specs.ClauseValues.{clause_value}
@@ -36,7 +35,9 @@ use Rattle.graph_core.specs.Certificates.{no_cut}
 use Rattle.graph_core.specs.Text.JudgedLines.{IsWithin, Lengths}
 use Rattle.graph_core.specs.Text.{newline}
 use Rattle.joint_checker.specs.Certificates.{LawfulPairsAreSound}
-use Rattle.joint_checker.specs.ClauseFiles.{ArePremisesOf, GivesPremises, premises}
+use Rattle.joint_checker.specs.ClauseFiles.{ArePremisesOf, GivesPremises, imported, premises}
+use Rattle.joint_checker.specs.Shown.{IsShownOf, premises_of}
+use Rattle.joint_checker.specs.declared.clause_file.Shown.{Shown}
 use Rattle.joint_checker.proofs.SamePremises.{same_all, same_self}
 
 -- ---- the graph below an extended one
@@ -106,9 +107,14 @@ vanishing_does g claim p well shape of vanishes =
     (claimed_below g well sides (sides_read_inputs g claim) p of
     (λ σ evaluates. subst (λ (h : Aig). word σ h.outputs ≡ claimed (output_modulus h) sides σ % output_modulus h) (graph_is g p of) (vanishing_means_claim p.extended sides σ (vanishes σ evaluates)))))
 
+-- ---- what a clause file that was read gives
+
+pub shown_fits : (g : Aig) (s : Shown) → IsShownOf g s → ArePremisesOf g (premises_of s)
+shown_fits g s of = record { header = s.header; takes = of.takes; version = refl; extended = of.extended }
+
 -- ---- lawful pairs
 
-all_imported : (P : Clause → Type 0) (version : ℕ) (cs : List Clause) → All P cs → All P (imported version cs)
+pub all_imported : (P : Clause → Type 0) (version : ℕ) (cs : List Clause) → All P cs → All P (imported version cs)
 all_imported P version cs h = go (version == 2)
   where
     go : (t : Bool) → All P (cond t cs [])

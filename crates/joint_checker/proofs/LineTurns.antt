@@ -168,7 +168,7 @@ module _ (grown : Checking) (l : Ledger) (agrees : Agree (ledger_of grown) l) (s
 
   pub turn_is : (next : Checking) (given_turn : Turn) → IsJudged line grown next given_turn → Turns version grown.extended grown.sides l (ledger_of next) old new left behind given_turn
   turn_is next turn.Taken h = line_is_taken grown l agrees same_modulus version max same_max old new left behind line given next h.0 h.1 h.2
-  turn_is next turn.Closed h = (line_is_closing grown l agrees same_modulus version max same_max old new left behind grown.sides h.0 (given_close h.0 h.1) h.2, h.3)
+  turn_is next (turn.Closed id) h = (line_is_closing grown l agrees same_modulus version max same_max old new left behind grown.sides id (given_close id h.0) h.1, h.2)
 
   pub turn_fails : (n : ℕ) (before now : View) (answer : Checked) → IsUnlawful n line grown answer → IsLineFail n version grown.extended grown.sides l old left before now answer
   turn_fails n before now answer (inl h) =
@@ -188,9 +188,9 @@ module _ (version other : ℕ) (e f : Extended) (sides p : Sides) (known next : 
   taken_is is same_version same same_order h =
       let at : Turns version e sides known next old new left behind turn.Taken = subst (Turns version e sides known next old new left behind) is (turns_at same_version same same_order h) in at
 
-  pub closed_is : given ≡ turn.Closed → other ≡ version → f ≡ e → p ≡ sides → Turns other f p known next old new left behind given → IfSome left (λ bytes. TakesClosing e sides known old new bytes behind)
-  closed_is is same_version same same_order h =
-      let at : Turns version e sides known next old new left behind turn.Closed = subst (Turns version e sides known next old new left behind) is (turns_at same_version same same_order h) in at.0
+  pub closed_is : (id : ℕ) → given ≡ turn.Closed id → other ≡ version → f ≡ e → p ≡ sides → Turns other f p known next old new left behind given → IfSome left (λ bytes. TakesClosing e sides known old new bytes behind)
+  closed_is id is same_version same same_order h =
+      let at : Turns version e sides known next old new left behind (turn.Closed id) = subst (Turns version e sides known next old new left behind) is (turns_at same_version same same_order h) in at.0
 
 pub fail_is : (n version other : ℕ) (e f : Extended) (sides p : Sides) (known : Ledger) (lines : Lines) (left : Option (List ℕ)) (before now : View) (answer : Checked) → other ≡ version → f ≡ e → p ≡ sides →
     IsLineFail n other f p known lines left before now answer → IsLineFail n version e sides known lines left before now answer

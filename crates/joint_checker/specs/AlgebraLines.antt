@@ -56,8 +56,8 @@ pub record ReadsNext (max : ℕ) (old : FileState) (before : View) (out : Result
 -- What a line that was read is for a checker: lawful, or closing. Then the specification vanishes.
 abbrev pub IsJudged : PacLine → Checking → Checking → Turn → Type 0
 IsJudged text old new turn.Taken = (line : Line) × (line_in old.table text ≡ Some line) × Takes line old new
-IsJudged text old new turn.Closed =
-    (id : ℕ) × (text ≡ pac.Close id) × Closes old.extended old.sides (ledger_of old).live id ×
+IsJudged text old new (turn.Closed id) =
+    (text ≡ pac.Close id) × Closes old.extended old.sides (ledger_of old).live id ×
     Always old.extended.gates (λ σ. specification old.extended old.sides σ ≡ 0)
 
 -- Why it is refused, at this number.
@@ -89,7 +89,7 @@ pub record TakesClosing (e : Extended) (sides : Sides) (l : Ledger) (old new : L
 -- What a line was. That the specification vanishes is known whether or not the desk tells the file.
 abbrev pub Turns : ℕ → Extended → Sides → Ledger → Ledger → Lines → Lines → Option (List ℕ) → Option (List ℕ) → Turn → Type 0
 Turns version e sides l next old new left behind turn.Taken = IfSome left (λ bytes. TakesLawful version e l next old new bytes behind)
-Turns version e sides l next old new left behind turn.Closed =
+Turns version e sides l next old new left behind (turn.Closed id) =
     IfSome left (λ bytes. TakesClosing e sides l old new bytes behind) × Always e.gates (λ σ. specification e sides σ ≡ 0)
 
 -- Why the line with this number isn't taken: the first cause over the ledger, or a length that is met there.

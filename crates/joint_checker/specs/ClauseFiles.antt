@@ -1,5 +1,5 @@
 -- Clause certificates that are lawful for a graph, and the premises that each gives for the algebra.
-use Rattle.std.specs.Prelude.{◌≡◌, ℕ, List, length, map}
+use Rattle.std.specs.Prelude.{◌≡◌, ◌==◌, ℕ, List, [], length, map, if◌then◌else◌}
 use Rattle.std.specs.List.{All}
 use Rattle.graph_core.specs.Algebra.{Premises}
 use Rattle.graph_core.specs.Algebra.Agreement.{AreSamePremises}
@@ -9,10 +9,14 @@ use Rattle.graph_core.specs.Text.JudgedLines.{IsWithin, Lengths}
 use Rattle.clause_core.specs.Clause.{Clause, IsClauseInRange}
 use Rattle.clause_core.specs.ClauseLines.{AreGoalsShown, AreLawfulClauses, ClauseLine, added, clause_in}
 use Rattle.clause_core.specs.GateClauses.{gate_clauses}
-use Rattle.drup_checker.specs.Checking.{imported}
+use Rattle.clause_core.specs.Likeness.{AreSameSets}
 use Rattle.drup_text.specs.declared.head.Header.{Header}
 use Rattle.drup_text.specs.Headers.{IsAnyClauseFile, IsHeaderOf, extended_with}
 use Rattle.gate_axioms.specs.ClauseValues.{clause_value}
+
+-- of added clauses those that an algebra certificate of the version may import
+abbrev pub imported : ℕ → List Clause → List Clause
+imported version cs = if version == 2 then cs else []
 
 -- the premises of a version over an extended graph, with the values of these clauses to import
 abbrev pub premises : ℕ → Extended → List Clause → Premises
@@ -42,3 +46,11 @@ pub record GivesPremises (lengths : Lengths) (g : Aig) (bytes : List ℕ) (p : P
   pub lawful : HasLawfulLines lengths g bytes header lines
   pub shown : AreGoalsShown lines (extended_with g header)
   pub same : AreSamePremises p (premises header.version (extended_with g header) (imported header.version (added lines)))
+
+-- The lines behind this header are lawful, show each goal and add these clauses, as sets, and there are so many lines.
+pub record AddsClauses (lengths : Lengths) (g : Aig) (bytes : List ℕ) (header : Header) (clauses : List Clause) (count : ℕ) : Type 0 where
+  pub lines : List ClauseLine
+  pub lawful : HasLawfulLines lengths g bytes header lines
+  pub shown : AreGoalsShown lines (extended_with g header)
+  pub same : AreSameSets clauses (added lines)
+  pub count_is : count ≡ length lines

@@ -1,8 +1,8 @@
 // The algebra certificate, line by line.
 ghost use Rattle.std.specs.List.{All};
-ghost use Rattle.std.specs.Prelude.{◌≡◌, ◌≢◌, ◌<◌, ◌^◌, true, None, IfErr, IfSome, OnOk};
+ghost use Rattle.std.specs.Prelude.{◌≡◌, ◌≢◌, ◌<◌, ◌≤◌, ◌^◌, [], length, true, None, IfErr, IfOk, IfSome, OnOk};
 ghost use Rattle.graph_core.specs.Graph.Operands.{profile_of, sides_for};
-ghost use Rattle.graph_core.specs.Algebra.{AgreeOnColumns, beginning, specification};
+ghost use Rattle.graph_core.specs.Algebra.{AgreeOnColumns, AreLawful, beginning, modulus, specification};
 ghost use Rattle.graph_core.specs.Aiger.Soundness.{IsSizedAs};
 ghost use Rattle.mv_desk.specs.Calls.{Inspects, ReadsOnly};
 ghost use Rattle.mv_desk.specs.View.{KeepsTelling, OpensFiles, SlotStays, bytes_under};
@@ -11,26 +11,50 @@ ghost use Rattle.mv_desk.specs.declared.slot.Slot.TheVariants as slot;
 ghost use Rattle.mv_fact.specs.Always.{Always};
 ghost use Rattle.graph_core.specs.Algebra.Agreement.{Agree};
 ghost use Rattle.pac_checker.specs.Checking.{ledger_of};
+ghost use Rattle.poly_text.specs.Recorded.{lines_in};
 ghost use Rattle.mv_text.specs.LineReading.{lengths_of};
 ghost use Rattle.joint_checker.specs.AlgebraBody.{IsBodyFail, IsLawfulBody};
 ghost use Rattle.joint_checker.specs.AlgebraLines.{left_in};
 ghost use Rattle.graph_core.specs.Certificates.{IsLawfulAlgebra};
 ghost use Rattle.clause_core.specs.Facts.{IsClauseFact};
-ghost use Rattle.joint_checker.specs.ClauseFiles.{premises};
+ghost use Rattle.joint_checker.specs.ClauseFiles.{imported, premises};
 ghost use Rattle.joint_checker.specs.Fails.{IsAlgebraFail};
+ghost use Rattle.joint_checker.specs.Files.{NameIsTold};
+ghost use Rattle.joint_checker.specs.Judged.{IsLawfulRecord};
+ghost use Rattle.joint_checker.specs.Records.{ClosesAt, IsRecordOf, IsRecordedBody};
+ghost use Rattle.joint_checker.specs.Shown.{premises_of};
 
 use crate::algebra_line::{Turn, judge_end, judge_line, line_refused};
 use crate::checked::Checked;
 use crate::clause_file::Shown;
 use crate::read_line::ReadLine;
+use clause_core::ClauseList;
 use graph_core::{Claim, Operands};
 use mv_desk::{Desk, Limits, Slot};
-use pac_checker::PacChecker;
+use pac_checker::{PacChecker, Record};
 use poly_text::AlgebraFile;
 use std::alloc::Global;
 use std::marker::PhantomData;
 
-/// Whether a file is a lawful algebra certificate over what a clause file gives.
+/// What is recorded of an algebra certificate that is lawful.
+#[derive(Drop)]
+pub struct Closed {
+    /// the lines that introduce ids, where lines are recorded, and the table of their polynomials
+    pub record: Record,
+    /// the id that the closing line names
+    pub id: u64,
+    /// how many lines stand before the closing one
+    pub lines: u64,
+}
+
+// The closing line: the id that it names, and how many lines stand before it.
+#[derive(Clone, Copy)]
+struct Closing {
+    id: u64,
+    lines: u64,
+}
+
+/// Whether a file is a lawful algebra certificate over what a clause file gives, and what is recorded of it.
 pub(crate) fn check_algebra<D: Desk>(
     alloc: Global,
     desk: &mut D,
@@ -38,28 +62,33 @@ pub(crate) fn check_algebra<D: Desk>(
     name: &str,
     shown: &Shown<'_>,
     claim: Claim,
-) -> Result<(), Checked>
+    records: bool,
+) -> Result<Closed, Checked>
     requires sized { IsSizedAs (profile_of claim.add) shown.now.extended.graph }
     requires columns { Always shown.now.extended.gates (AgreeOnColumns shown.now.extended) }
-    requires facts { All (IsClauseFact shown.now.extended.gates) shown.now.added }
+    requires facts { All (IsClauseFact shown.now.extended.gates) shown.now.recorded.added }
     ensures lawful { OnOk result (IfSome (bytes_under (D.seen desk.old) name.now)
-        (IsLawfulAlgebra (lengths_of limits.now)
-        (premises shown.now.version shown.now.extended shown.now.added)
+        (IsLawfulAlgebra (lengths_of limits.now) (premises_of shown.now)
         (sides_for claim shown.now.extended.graph))) }
     ensures vanishes { OnOk result (Always shown.now.extended.gates
         (λ σ. specification shown.now.extended (sides_for claim shown.now.extended.graph) σ ≡ 0)) }
-    ensures refused { IfErr result (IsAlgebraFail (lengths_of limits.now)
-        (premises shown.now.version shown.now.extended shown.now.added)
+    ensures recorded { records ≡ true → IfOk result
+        (IsLawfulRecord (premises_of shown.now) (sides_for claim shown.now.extended.graph)) }
+    ensures told { IfOk result (λ c. IfSome (bytes_under (D.seen desk.old) name.now)
+        (λ bytes. IsRecordOf records shown.now.header.version (modulus shown.now.extended) bytes
+        (lines_in c.record.terms c.record.lines.items) c.id c.lines)) }
+    ensures refused { IfErr result (IsAlgebraFail (lengths_of limits.now) (premises_of shown.now)
         (sides_for claim shown.now.extended.graph)
         (bytes_under (D.seen desk.old) name.now) (D.seen desk.old) (D.seen desk.new)) }
     ensures others { (other : Slot) → other ≢ slot.Algebra →
         SlotStays other (D.seen desk.old) (D.seen desk.new) }
+    ensures named { NameIsTold slot.Algebra name.now (D.seen desk.old) (D.seen desk.new) }
     ensures opened { OpensFiles 1 (D.seen desk.old) (D.seen desk.new) }
     ensures inspects { Inspects (D.seen desk.old) (D.seen desk.new) }
     ensures tells { KeepsTelling (D.seen desk.old) (D.seen desk.new) }
 {
     match desk.open_file(Slot::Algebra, name) {
-        Ok(()) => judge_algebra(alloc, desk, limits, shown, claim),
+        Ok(()) => judge_algebra(alloc, desk, limits, shown, claim, records),
         Err(_) => Err(Checked::ReadFault),
     }
 }
@@ -71,36 +100,59 @@ fn judge_algebra<D: Desk>(
     limits: &Limits,
     shown: &Shown<'_>,
     claim: Claim,
-) -> Result<(), Checked>
+    records: bool,
+) -> Result<Closed, Checked>
     requires reads { (D.seen desk.old).reads slot.Algebra ≡ true }
     requires sized { IsSizedAs (profile_of claim.add) shown.now.extended.graph }
     requires columns { Always shown.now.extended.gates (AgreeOnColumns shown.now.extended) }
-    requires facts { All (IsClauseFact shown.now.extended.gates) shown.now.added }
+    requires facts { All (IsClauseFact shown.now.extended.gates) shown.now.recorded.added }
     ensures lawful { OnOk result (IfSome ((D.seen desk.old).left slot.Algebra)
-        (IsLawfulAlgebra (lengths_of limits.now)
-        (premises shown.now.version shown.now.extended shown.now.added)
+        (IsLawfulAlgebra (lengths_of limits.now) (premises_of shown.now)
         (sides_for claim shown.now.extended.graph))) }
     ensures vanishes { OnOk result (Always shown.now.extended.gates
         (λ σ. specification shown.now.extended (sides_for claim shown.now.extended.graph) σ ≡ 0)) }
-    ensures refused { IfErr result (IsAlgebraFail (lengths_of limits.now)
-        (premises shown.now.version shown.now.extended shown.now.added)
+    ensures recorded { records ≡ true → IfOk result
+        (IsLawfulRecord (premises_of shown.now) (sides_for claim shown.now.extended.graph)) }
+    ensures told { IfOk result (λ c. IfSome ((D.seen desk.old).left slot.Algebra)
+        (λ bytes. IsRecordOf records shown.now.header.version (modulus shown.now.extended) bytes
+        (lines_in c.record.terms c.record.lines.items) c.id c.lines)) }
+    ensures refused { IfErr result (IsAlgebraFail (lengths_of limits.now) (premises_of shown.now)
         (sides_for claim shown.now.extended.graph)
         ((D.seen desk.old).left slot.Algebra) (D.seen desk.old) (D.seen desk.new)) }
     ensures only { ReadsOnly slot.Algebra (D.seen desk.old) (D.seen desk.new) }
     ensures tells { KeepsTelling (D.seen desk.old) (D.seen desk.new) }
 {
-    let file = match AlgebraFile::start(alloc, desk, shown.version, limits) {
+    let file = match AlgebraFile::start(alloc, desk, shown.header.version, limits) {
         Ok(file) => file,
         Err(fail) => return Err(line_refused(1, fail)),
     };
     let operands = Operands::under(alloc, shown.extended.graph(), claim)?;
-    let mut checker = PacChecker::new(alloc, &shown.extended, &operands, &shown.added)?;
+    let none = ClauseList::new(alloc);
+    let added = imports(shown, &none);
+    let mut checker = PacChecker::new(alloc, &shown.extended, &operands, added, records)?;
     let mut work = ReadLine {
         file,
         max: shown.extended.max(),
         desk: PhantomData,
     };
-    judge_lines(desk, &mut checker, &mut work)
+    let closing = judge_lines(desk, &mut checker, &mut work)?;
+    Ok(Closed {
+        record: checker.into_record(),
+        id: closing.id,
+        lines: closing.lines,
+    })
+}
+
+// The clauses that the algebra may import.
+fn imports<'s>(shown: &'s Shown<'_>, none: &'s ClauseList) -> &'s ClauseList
+    requires { none.now ≡ [] }
+    ensures { result.now ≡ imported shown.now.header.version shown.now.recorded.added }
+{
+    if shown.header.version == 2 {
+        &shown.recorded.added
+    } else {
+        none
+    }
 }
 
 // The lines behind the header, up to the end of the file.
@@ -108,18 +160,25 @@ fn judge_lines<D: Desk>(
     desk: &mut D,
     checker: &mut PacChecker<'_>,
     work: &mut ReadLine<D>,
-) -> Result<(), Checked>
+) -> Result<Closing, Checked>
     requires reads { (D.seen desk.old).reads slot.Algebra ≡ true }
     requires going { work.old.file.failed ≡ None }
     requires limit { work.old.file.lines.lengths.file < 2 ^ 64 }
     requires max { work.old.max ≡ checker.old.extended.max }
     requires begins { Agree (ledger_of checker.old)
         (beginning (premises work.old.file.version checker.old.extended checker.old.added)) }
+    requires few { length checker.old.extended.graph.outputs ≤ 128 }
+    requires none_recorded { checker.old.recorded ≡ [] }
     ensures lawful { OnOk result (IfSome (left_in work.old.file (D.seen desk.old))
         (IsLawfulBody (premises work.old.file.version checker.old.extended checker.old.added)
         checker.old.sides work.old.file.lines)) }
     ensures vanishes { OnOk result (Always checker.old.extended.gates
         (λ σ. specification checker.old.extended checker.old.sides σ ≡ 0)) }
+    ensures recorded { IfOk result (λ c. IfSome (left_in work.old.file (D.seen desk.old))
+        (IsRecordedBody checker.old.records work.old.file.version (modulus checker.old.extended)
+        checker.new.recorded c.id c.lines)) }
+    ensures closes { IfOk result (λ c. ClosesAt checker.old checker.new c.id) }
+    ensures extended { OnOk result (checker.new.extended ≡ checker.old.extended) }
     ensures refused { IfErr result
         (IsBodyFail (premises work.old.file.version checker.old.extended checker.old.added)
         checker.old.sides work.old.file.lines (left_in work.old.file (D.seen desk.old))
@@ -130,7 +189,13 @@ fn judge_lines<D: Desk>(
     for line in 2..u64::MAX {
         match judge_line(desk, checker, work, line)? {
             Turn::Taken => checker.compact()?,
-            Turn::Closed => return judge_end(desk, &mut work.file, line + 1),
+            Turn::Closed { id } => {
+                judge_end(desk, &mut work.file, line + 1)?;
+                return Ok(Closing {
+                    id,
+                    lines: line - 2,
+                });
+            }
         }
     }
     // So many lines have more bytes than a file may have.

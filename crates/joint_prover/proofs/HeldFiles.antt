@@ -8,7 +8,8 @@ use Rattle.mv_desk.specs.View.{View}
 use Rattle.mv_desk.specs.declared.slot.Slot.{Slot}
 use Rattle.mv_desk.specs.declared.slot.Slot.TheVariants as slot
 use Rattle.joint_checker.specs.Files.{Files}
-use Rattle.joint_prover.specs.Written.{ReadsGraph, WritesFile, WritesPair}
+use Rattle.joint_checker.proofs.HeldFiles.{file_is_held, other_names, others_are_held, same_told, told_file}
+use Rattle.joint_checker.specs.Written.{ReadsGraph, WritesFile, WritesPair}
 use Rattle.joint_prover.specs.Verdicts as verdicts
 use Rattle.joint_prover.specs.Verdicts.{HasNote, HoldsPair, IsTold, ProvedPairsAreHeld}
 use Rattle.graph_core.specs.Graph.{Aig}
@@ -19,35 +20,6 @@ use Rattle.joint_prover.specs.declared.task.Task.{Task}
 use Rattle.joint_prover.specs.Notes.{IsNote, cut_of}
 use Rattle.joint_prover.specs.Pairs.{IsPairFor}
 use Rattle.joint_prover.proofs.Telling.{pair_is_lawful}
-
-none_told : (A : Type 0) → IsSome {T = A} None → ⊥
-none_told A h = cc
-
-becomes : {A : Type 0} (old new : Option A) (value : A) → IsSome old → Becomes old new value → new ≡ Some value
-becomes {A = A} None new value told h = absurd (none_told A told)
-becomes (Some before) new value told h = h
-
-same_told : {A : Type 0} (old new : Option A) → new ≡ old → IsSome old → IsSome new
-same_told old new same told = subst IsSome (sym same) told
-
--- ---- one file
-
-module _ (at : Slot) (name text : List ℕ) (a b : View) (w : WritesFile at name text a b) (named : IsSome (a.name at)) where
-  created_name : w.created.name at ≡ Some (Some name)
-  created_name = becomes (a.name at) (w.created.name at) (Some name) named w.creates.name
-
-  file_is_held : IsSome (a.held name) → b.held name ≡ Some (Some text)
-  file_is_held told =
-      let empty = becomes (a.held name) (w.created.held name) (Some []) told w.creates.bytes in
-      let grows : HeldGrows (w.created.held name) (b.held name) text = subst (λ n. BytesGrow n w.created b text) created_name w.writes.bytes in
-      subst (λ old. HeldGrows old (b.held name) text) empty grows
-
-  others_are_held : (other : List ℕ) → name ≢ other → b.held other ≡ a.held other
-  others_are_held other apart =
-      w.writes.held other (subst (λ n. AreApart n (Some (Some other))) (sym created_name) apart) ∙ w.creates.held other (λ same. apart (sym same))
-
-  other_names : (other : Slot) → other ≢ at → b.name other ≡ a.name other
-  other_names other apart = (w.writes.others other apart).mode.name ∙ (w.creates.others other apart).mode.name
 
 -- ---- all of them
 
@@ -90,11 +62,6 @@ module _ (files : Files) (clauses text : List ℕ) (a r c : View) (told : IsTold
   algebra_is_held =
       file_is_held slot.Algebra files.algebra text w.between c w.algebra_file algebra_slot
       (same_told (a.held files.algebra) (w.between.held files.algebra) (between_held files.algebra apart.certificates) (told.held files.algebra))
-
--- the bytes that are told
-told_file : (file : Option (Option (List ℕ))) → IsSome file → (bytes : List ℕ) × (option_map (λ b. unwrap_or b []) file ≡ Some bytes)
-told_file None told = absurd (none_told (Option (List ℕ)) told)
-told_file (Some bytes) told = (unwrap_or bytes [], refl)
 
 -- the note, with what else holds of its cut
 note_there : (g : Aig) (task : Task) (noted : Option Rewriting) (P : Option Cut → Type 0) → HasNote g task noted P → (n : Rewriting) × (noted ≡ Some n) × IsNote g task.claim task.conflicts n × P (cut_of n)

@@ -24,7 +24,7 @@ use Rattle.joint_prover.specs.Notes.{IsNote, cut_of}
 use Rattle.joint_prover.specs.Pairs.{AreClausesFor, IsPairFor}
 use Rattle.joint_prover.specs.Parts.{IsJudged, IsOfGraph, note_with}
 use Rattle.joint_prover.specs.Verdicts.{IsVerdict, answer_of_graph}
-use Rattle.joint_prover.specs.Written.{ReadsGraph, ReportStays, StopsAt, StopsWriting, WritesFile, WritesFront}
+use Rattle.joint_checker.specs.Written.{ReadsGraph, ReportStays, StopsAt, StopsWriting, WritesFile, WritesFront}
 
 pub graph_is_read : {T E : Type 0} (a r : View) (result : Result T E) → OpensOnly slot.Graph a r result → ReadsGraph a r
 graph_is_read a r result opens = record {

@@ -39,8 +39,8 @@ use Rattle.joint_prover.specs.Endings.{AreLeast, IsEnded}
 use Rattle.joint_prover.specs.Pairs.{AreClausesFor, AreClausesOver, IsPairFor, IsPairOver, IsVersion}
 use Rattle.joint_prover.specs.Parts.{AreTriedBefore, IsAttempt, IsFileOf, IsOfGraph, IsToldOver, IsToldWrong, IsWritten, MayTell, MayTellOver, cut_named, header_of, verdict_in}
 use Rattle.joint_prover.specs.Tries.{AreTried, EndsOver, IsTried, extended_by}
-use Rattle.joint_prover.specs.Verdicts.{IsPair}
-use Rattle.joint_prover.specs.Written.{StopsAt, StopsWriting}
+use Rattle.joint_checker.specs.Certificates.{IsPair}
+use Rattle.joint_checker.specs.Written.{StopsAt, StopsWriting}
 use Rattle.joint_prover.proofs.WrittenClauses.{AreSaid, said_clauses, said_with}
 
 -- a pair over a graph is lawful: what imports nothing is lawful whatever the added clauses are

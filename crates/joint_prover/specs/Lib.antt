@@ -1,8 +1,7 @@
 -- To be trusted by whoever reads the contracts: `Verdicts`, `Notes` for the note on a rewriting, `Tries` for the plans that were tried,
--- `Pairs` for the certificates, `Written` for what is done to the files, `Budgets` for those that are enough, and `Files`, `ClauseFiles`
+-- `Pairs` for the certificates, `Budgets` for those that are enough, and `Files`, `ClauseFiles`, `Written`
 -- and `Certificates` of joint_checker.
 -- `Endings` and `Parts` serve private clauses alone.
-pub mod Written
 pub mod Notes
 pub mod Tries
 pub mod Pairs

@@ -34,7 +34,7 @@ use Rattle.joint_prover.specs.Notes.{IsFoundCut, IsNote, cut_of}
 use Rattle.joint_prover.specs.Pairs.{AreClausesFor, AreClausesOver, IsPairFor, IsPairOver, IsVersion}
 use Rattle.joint_prover.specs.Tries.{AreTried, IsTried}
 use Rattle.joint_prover.specs.Verdicts.{HaveManyOnes, IsFirstAbove, IsWrong, IsWrongSum}
-use Rattle.joint_prover.specs.Written.{StopsWriting, WritesPair}
+use Rattle.joint_checker.specs.Written.{StopsWriting, WritesPair}
 
 -- The operands are those that their claim names in the graph, which is of a size for it; and the version of certificates is one.
 pub record IsJob (job : Job) : Type 0 where

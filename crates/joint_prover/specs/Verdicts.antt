@@ -11,12 +11,11 @@ use Rattle.frontier_core.specs.PlainOrder.{HasPlainSize}
 use Rattle.graph_core.specs.Graph.{Aig}
 use Rattle.graph_core.specs.Graph.Extended.{without_cut}
 use Rattle.graph_core.specs.Graph.Operands.{Does, bits_of, inputs_of, output_modulus, product_as, profile_of, sides_for, sum_on, sum_width, value_on, width}
-use Rattle.graph_core.specs.Text.JudgedLines.{Lengths, IsWithin}
 use Rattle.graph_core.specs.declared.claim.Claim.{Claim}
 use Rattle.mv_desk.specs.View.{View, Rose, bytes_under}
 use Rattle.mv_desk.specs.declared.slot.Slot.{Slot}
 use Rattle.ripple_graft.specs.declared.cut.Cut.{Cut}
-use Rattle.joint_checker.specs.Certificates.{IsLawfulPair}
+use Rattle.joint_checker.specs.Certificates.{IsPair}
 use Rattle.joint_checker.specs.Files.{Files, HasGraph}
 use Rattle.joint_prover.specs.declared.rewriting.Rewriting.{Rewriting}
 use Rattle.joint_prover.specs.declared.task.Task.{Task}
@@ -25,13 +24,9 @@ use Rattle.joint_prover.specs.declared.verdict.Verdict.TheVariants.{Proved, Wron
 use Rattle.joint_prover.specs.Notes.{IsNote, cut_of}
 use Rattle.joint_prover.specs.Pairs.{AreClausesFor, IsPairFor}
 use Rattle.joint_prover.specs.Tries.{AreTried}
-use Rattle.joint_prover.specs.Written.{ReadsGraph, StopsWriting, WritesPair}
+use Rattle.joint_checker.specs.Written.{ReadsGraph, StopsWriting, WritesPair}
 
 -- ---- proved
-
--- The certificates are a lawful pair for the graph, under all lengths that they are within.
-abbrev pub IsPair : Aig → Claim → List ℕ → List ℕ → Type 0
-IsPair g claim clauses algebra = (lengths : Lengths) → IsWithin lengths clauses → IsWithin lengths algebra → IsLawfulPair lengths g claim clauses algebra
 
 -- The files that a desk holds: a graph that does what is claimed, a pair of certificates for it, which is the pair that is written with
 -- the cut of this note, and the note's cause.

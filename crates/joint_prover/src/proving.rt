@@ -11,7 +11,7 @@ ghost use Rattle.joint_prover.specs.Notes.{IsNote, cut_of};
 ghost use Rattle.joint_prover.specs.Pairs.{IsVersion};
 ghost use Rattle.joint_prover.specs.Parts.{IsJob, IsJudged, IsOfGraph, note_with, task_of};
 ghost use Rattle.joint_prover.specs.Verdicts.{IsVerdict, answer_of_graph};
-ghost use Rattle.joint_prover.specs.Written.{ReportStays};
+ghost use Rattle.joint_checker.specs.Written.{ReportStays};
 
 use crate::found::over_found;
 use crate::job::Job;

@@ -7,7 +7,7 @@ ghost use Rattle.mv_desk.specs.declared.slot.Slot.TheVariants as slot;
 ghost use Rattle.pac_writer.specs.Certificates.{certificate_text};
 ghost use Rattle.joint_checker.specs.Files.{files_of};
 ghost use Rattle.joint_prover.specs.Parts.{IsFileOf, IsWritten};
-ghost use Rattle.joint_prover.specs.Written.{StopsAt, StopsWriting, WritesFile, WritesPair};
+ghost use Rattle.joint_checker.specs.Written.{StopsAt, StopsWriting, WritesFile, WritesPair};
 
 use crate::verdict::Verdict;
 use clause_core::Line;

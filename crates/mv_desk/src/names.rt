@@ -9,6 +9,9 @@ pub struct Names<'a> {
     pub other: &'a str,
     pub clauses: &'a str,
     pub algebra: &'a str,
+    /// the certificates that are written from those that were read
+    pub to_clauses: &'a str,
+    pub to_algebra: &'a str,
 }
 
 impl Names<'_> {

@@ -106,6 +106,13 @@ impl<'a, F: Fact> Live<'a, F> {
         self.facts.swap_remove(&id).ok_or(NoSuchId)
     }
 
+    /// Gives up the facts, and hands out the table.
+    pub fn into_table(self) -> F::Table
+        ensures { result ≡ self.entry.table }
+    {
+        self.table
+    }
+
     /// Lends the table to a work. All that is live stays.
     pub fn grow<G: Grow<F>>(&mut self, work: &mut G, on: &mut G::On) -> G::Out
         requires { G.can_grow work.old on.old self.old.table }

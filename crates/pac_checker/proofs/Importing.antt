@@ -94,6 +94,8 @@ module _ (added : List Clause) (e : Extended) (s : Sides) (old mid : Facts Sum T
         added = i.added;
         extended = i.extended;
         sides = i.sides;
+        records = i.records;
+        recorded = i.recorded;
         table = subst (Extends old.table) (sym i.table) h.keeps.table;
         lawful = record { new_id = h.above; live_operands = All-nil (IsLive (lines_of old)); there = is_there; equal = λ σ. sym (stated_is σ) ∙ sym (same σ) ∙ named_is σ };
         ledger = agree_trans (ledger_of new) (introduce (modulus mid.table) between id (monomials_in mid.table q)) (introduce (algebra.modulus e) first id (monomials_in old.table q)) i.ledger

@@ -34,6 +34,8 @@ introduces added e sides old new last id p q change same = record {
   extended = refl;
   sides = refl;
   table = change.table;
+  records = refl;
+  recorded = refl;
   ledger = record { last = refl; imports = imports_refl (map clause_value added); lines = λ other. subst (λ t. AreSame (line_of (lines_in t new.entries) other) (cond (id == other) (Some (new_line id old.table q)) (line_of (lines_in old.table old.entries) other))) (sym change.table) (go other (id == other) refl) };
 }
   where
@@ -55,6 +57,8 @@ deletes added e sides old new last id p found change = record {
   added = refl;
   extended = refl;
   sides = refl;
+  records = refl;
+  recorded = refl;
   table = subst (Extends old.table) (sym change.table) (extends_itself old.table);
   lawful = record { new_id = tt; there = tt; live_operands = all_live (lines_in old.table old.entries) (operands (Delete id)) (live_first old.table old.entries id p [] found); equal = λ σ. refl };
   ledger = record {

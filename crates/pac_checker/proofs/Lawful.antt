@@ -45,14 +45,16 @@ grows added e sides old new last k = record {
   table = k.table;
   entries = k.entries;
   last = refl;
+  records = refl;
+  recorded = refl;
   ledger = record { last = refl; lines = k.lines; imports = imports_refl (map clause_value added) };
 }
 
 pub grows_itself : (c : Checking) → Grows c c
-grows_itself c = record { added = refl; extended = refl; sides = refl; table = extends_itself c.table; entries = refl; last = refl; ledger = agree_refl (ledger_of c) }
+grows_itself c = record { added = refl; extended = refl; sides = refl; table = extends_itself c.table; entries = refl; last = refl; records = refl; recorded = refl; ledger = agree_refl (ledger_of c) }
 
 pub keeps_ledger_itself : (c : Checking) → KeepsLedger c c
-keeps_ledger_itself c = record { added = refl; extended = refl; sides = refl; ledger = agree_refl (ledger_of c) }
+keeps_ledger_itself c = record { added = refl; extended = refl; sides = refl; records = refl; recorded = refl; ledger = agree_refl (ledger_of c) }
 
 -- what holds anyway holds where a call failed
 pub on_err : {T E : Type 0} (r : Result T E) (P : Type 0) → P → OnErr r P
@@ -104,6 +106,8 @@ takes_named added e s old mid last id parts p q new sound k above of found same 
       added = i.added;
       extended = i.extended;
       sides = i.sides;
+      records = i.records;
+      recorded = i.recorded;
       table = subst (Extends old.table) (sym i.table) k.table;
       lawful = record { new_id = line.is_new last above; live_operands = live_named added e s old mid last id parts p q x found line; there = line.there before.imports; equal = λ σ. equal_named added e s old mid last id parts p q x sound k of found line σ (same σ) };
       ledger = subst (Agree (ledger_of new)) (sym (line.next (algebra.modulus e) before))

@@ -1,5 +1,5 @@
 -- Each kind of line that introduces an id states the sum of some lines, each times a factor.
-use Rattle.std.proofs.Common.{◌≡◌, ℕ, ◌+◌, ◌*◌, ◌%◌, List, [], ◌∷◌, refl, sym, ap, ◌∙◌, arith}
+use Rattle.std.proofs.Common.{◌≡◌, ℕ, ◌+◌, ◌*◌, ◌%◌, List, [], ◌∷◌, ◌++◌, refl, sym, ap, ap₂, ◌∙◌, arith}
 use Rattle.std.proofs.Math.Nat.{add-mul}
 use Rattle.std.proofs.lemmas.Nat.{mul-mod_second}
 use Rattle.graph_core.specs.Algebra.{Line, introduce, value_of}
@@ -10,7 +10,7 @@ use Rattle.poly_terms.specs.Tables.{Sum, IsOf, modulus, monomials_in}
 use Rattle.poly_terms.specs.Laws.{extends_on, modulus_stays, monomials_stay}
 use Rattle.pac_checker.specs.declared.fault.LineFault.{LineFault}
 use Rattle.pac_checker.specs.declared.fault.LineFault.TheVariants.{Id, NoSuchLine, NoSuchClause, NotEqual, Memory}
-use Rattle.pac_checker.specs.Checking.{Checking, ledger_of, Grows, Takes}
+use Rattle.pac_checker.specs.Checking.{Checking, ledger_of, recorded_of, Grows, Takes}
 use Rattle.pac_checker.specs.Rules.{IsLineOf, IsRefused, combination_line, product_line, sum_line}
 use Rattle.pac_checker.specs.Works.{IsMade}
 
@@ -62,6 +62,8 @@ takes_grown old mid new x g t = record {
   added = t.added ∙ g.added;
   extended = t.extended ∙ g.extended;
   sides = t.sides ∙ g.sides;
+  records = t.records ∙ g.records;
+  recorded = t.recorded ∙ ap₂ (λ lines records. lines ++ recorded_of records x) g.recorded g.records;
   table = extends_on old.table mid.table new.table g.table t.table;
   lawful = lawful_agrees (algebra.modulus old.extended) (ledger_of mid) (ledger_of old) g.ledger x (rw g.extended at t.lawful);
   ledger = agree_trans (ledger_of new) (algebra.after (algebra.modulus old.extended) (ledger_of mid) x) (algebra.after (algebra.modulus old.extended) (ledger_of old) x) (rw g.extended at t.ledger)
@@ -83,5 +85,7 @@ grows_grown a b c g h = record {
   table = extends_on a.table b.table c.table g.table h.table;
   entries = h.entries ∙ g.entries;
   last = h.last ∙ g.last;
+  records = h.records ∙ g.records;
+  recorded = h.recorded ∙ g.recorded;
   ledger = agree_trans (ledger_of c) (ledger_of b) (ledger_of a) h.ledger g.ledger;
 }

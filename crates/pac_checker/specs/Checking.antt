@@ -1,34 +1,76 @@
--- What contracts see of a checker of algebra lines: live polynomials of a table that grows, as the ledger of the definitions.
-use Rattle.std.specs.Prelude.{◌≡◌, ℕ, List, IfSome, map}
+-- What contracts see of a checker of algebra lines: live polynomials of a table that grows, as the ledger of the definitions, and the
+-- lines that it recorded.
+use Rattle.std.specs.Prelude.{◌≡◌, ℕ, Bool, true, false, List, [], ◌∷◌, ◌++◌, IfSome, map}
 use Rattle.clause_core.specs.Clause.{Clause}
 use Rattle.graph_core.specs.Graph.Operands.{Sides}
 use Rattle.graph_core.specs.Graph.Extended.{Extended}
-use Rattle.graph_core.specs.Algebra.{Ledger, Line, modulus, after, IsLawfulLine, Closes, specification}
-use Rattle.poly_terms.specs.Tables.{Table, Sum, Extends}
+use Rattle.graph_core.specs.Algebra.{Ledger, Line, Premises, Sum, Product, Combination, Import, Delete, modulus, after, IsLawfulLine, Closes, specification}
+use Rattle.graph_core.specs.Algebra.Text.{IsLineInRange}
+use Rattle.poly_terms.specs.Tables.{Table, Extends}
+use Rattle.poly_terms.specs.Tables as tables
 use Rattle.mv_fact.specs.Always.{Always}
 use Rattle.mv_fact.specs.Facts.{Facts}
 use Rattle.poly_text.specs.declared.PacLine.{PacLine}
 use Rattle.poly_text.specs.Lines.{line_in}
+use Rattle.poly_text.specs.WrittenLines.{IsWritable}
 use Rattle.graph_core.specs.Algebra.Agreement.{Agree}
 use Rattle.gate_axioms.specs.ClauseValues.{clause_value}
 use Rattle.gate_axioms.specs.Lines.{lines_in}
 
--- The clauses that lines may import, the extended graph, its operands, the table of polynomials, the live ones by id, and the last id in use.
+-- The clauses that lines may import, the extended graph, its operands, the table of polynomials, the live ones by id, the last id in use,
+-- whether lines are recorded, and the recorded ones.
 pub record Checking : Type 0 where
   pub added : List Clause
   pub extended : Extended
   pub sides : Sides
   pub table : Table
-  pub entries : List (ℕ × Sum)
+  pub entries : List (ℕ × tables.Sum)
   pub last : ℕ
+  pub records : Bool
+  pub recorded : List Line
 
--- the checker of an extended graph and its operands with these clauses and these live polynomials
-abbrev pub checking_of : List Clause → Extended → Sides → Facts Sum Table → ℕ → Checking
-checking_of added e sides facts last = record { added = added; extended = e; sides = sides; table = facts.table; entries = facts.entries; last = last }
+-- the checker of an extended graph and its operands with these clauses and these live polynomials, which records nothing
+abbrev pub checking_of : List Clause → Extended → Sides → Facts tables.Sum Table → ℕ → Checking
+checking_of added e sides facts last = record {
+  added = added;
+  extended = e;
+  sides = sides;
+  table = facts.table;
+  entries = facts.entries;
+  last = last;
+  records = false;
+  recorded = [];
+}
+
+-- the same one, where it records lines or doesn't, with these recorded ones
+abbrev pub recording : Checking → Bool → List Line → Checking
+recording c records lines = record {
+  added = c.added;
+  extended = c.extended;
+  sides = c.sides;
+  table = c.table;
+  entries = c.entries;
+  last = c.last;
+  records = records;
+  recorded = lines;
+}
 
 -- the ledger that the checker stands for: its lines may import the values of its clauses
 abbrev pub ledger_of : Checking → Ledger
 ledger_of c = record { live = lines_in c.table c.entries; last = c.last; imports = map clause_value c.added }
+
+-- what it stands on in a certificate of a version
+abbrev pub premises_of : ℕ → Checking → Premises
+premises_of version c = record { version = version; extended = c.extended; imports = map clause_value c.added }
+
+-- what is recorded of a line that is taken: the line, but no deletion
+abbrev pub recorded_of : Bool → Line → List Line
+recorded_of false x = []
+recorded_of true (Sum id i j p) = Sum id i j p ∷ []
+recorded_of true (Product id i q p) = Product id i q p ∷ []
+recorded_of true (Combination id parts p) = Combination id parts p ∷ []
+recorded_of true (Import id number p) = Import id number p ∷ []
+recorded_of true (Delete id) = []
 
 -- The line is lawful over the ledger so far, and the ledger afterwards is the one after the line.
 pub record Takes (line : Line) (old new : Checking) : Type 0 where
@@ -36,6 +78,8 @@ pub record Takes (line : Line) (old new : Checking) : Type 0 where
   pub extended : new.extended ≡ old.extended
   pub sides : new.sides ≡ old.sides
   pub table : Extends old.table new.table
+  pub records : new.records ≡ old.records
+  pub recorded : new.recorded ≡ old.recorded ++ recorded_of old.records line
   pub lawful : IsLawfulLine (modulus old.extended) (ledger_of old) line
   pub ledger : Agree (ledger_of new) (after (modulus old.extended) (ledger_of old) line)
 
@@ -47,6 +91,8 @@ pub record Grows (old new : Checking) : Type 0 where
   pub table : Extends old.table new.table
   pub entries : new.entries ≡ old.entries
   pub last : new.last ≡ old.last
+  pub records : new.records ≡ old.records
+  pub recorded : new.recorded ≡ old.recorded
   pub ledger : Agree (ledger_of new) (ledger_of old)
 
 -- Nothing has changed but the table and the polynomials in it, which have their values; so the ledger says the same.
@@ -54,11 +100,18 @@ pub record KeepsLedger (old new : Checking) : Type 0 where
   pub added : new.added ≡ old.added
   pub extended : new.extended ≡ old.extended
   pub sides : new.sides ≡ old.sides
+  pub records : new.records ≡ old.records
+  pub recorded : new.recorded ≡ old.recorded
   pub ledger : Agree (ledger_of new) (ledger_of old)
 
 -- A line of code is taken: what it says in the table is.
 abbrev pub TakesLine : PacLine → Checking → Checking → Type 0
 TakesLine line old new = IfSome (line_in old.table line) (λ x. Takes x old new)
+
+-- A line that may be recorded: it can be written, and its numbers are in range, variables up to a greatest one.
+pub record IsRecordable (max : ℕ) (t : Table) (line : PacLine) : Type 0 where
+  pub writable : IsWritable line
+  pub in_range : IfSome (line_in t line) (IsLineInRange max)
 
 -- the line has the specification's value
 abbrev pub IsClosedBy : Checking → ℕ → Type 0

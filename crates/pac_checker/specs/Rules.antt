@@ -118,6 +118,8 @@ pub record Introduces (id : ℕ) (p : Polynomial) (old new : Checking) : Type 0 
   pub extended : new.extended ≡ old.extended
   pub sides : new.sides ≡ old.sides
   pub table : new.table ≡ old.table
+  pub records : new.records ≡ old.records
+  pub recorded : new.recorded ≡ old.recorded
   pub ledger : Agree (ledger_of new) (introduce (modulus old.table) (ledger_of old) id p)
 
 -- The same live lines, over another table of the same modulus.

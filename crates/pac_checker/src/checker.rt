@@ -1,72 +1,62 @@
-// The checker: live polynomials, line by line.
-#![tactic(auto, using(crate::proofs::Lawful::sound_grown, crate::proofs::Lawful::grows, crate::proofs::Lawful::grows_itself, crate::proofs::LineKinds::grows_grown, gate_axioms::proofs::CallerLemmas::keeps_lines, poly_terms::specs::Laws::stays))]
+// The checker: a judge of lines, and the lines that it took.
+#![tactic(auto)]
 
-ghost use Rattle.std.specs.Prelude.{◌≡◌, ◌%◌, ◌<◌, ◌≤◌, ℕ, None, Some, length, map, IfErr, IfOk, IsSome, OnErr, OnOk};
+ghost use Rattle.std.specs.Prelude.{◌≡◌, ◌≤◌, ℕ, [], true, length, map, IfErr, IfOk, IsSome, OnErr, OnOk};
 ghost use Rattle.std.specs.List.{All};
-ghost use Rattle.graph_core.specs.Algebra.{Delete, beginning, AgreeOnColumns};
+ghost use Rattle.graph_core.specs.Algebra.{AgreeOnColumns, AreLawful, beginning};
 ghost use Rattle.graph_core.specs.Algebra as algebra;
-ghost use Rattle.mv_fact.specs.Always.{Always};
-ghost use Rattle.poly_terms.specs.Tables.{IsOf, modulus, monomials_in};
-ghost use Rattle.poly_text.specs.Lines.{line_in, AreOf};
-ghost use Rattle.clause_core.specs.Facts.{IsClauseFact};
-ghost use Rattle.gate_axioms.specs.Axioms.{IsSpecification};
-ghost use Rattle.gate_axioms.specs.ClauseValues.{clause_value};
 ghost use Rattle.graph_core.specs.Algebra.Agreement.{Agree};
-ghost use Rattle.pac_checker.specs.Checking.{ledger_of, Takes, TakesLine, Grows, KeepsLedger, IsClosedBy, SpecificationVanishes};
+ghost use Rattle.mv_fact.specs.Always.{Always};
+ghost use Rattle.poly_terms.specs.Tables.{modulus};
+ghost use Rattle.poly_text.specs.Lines.{line_in, AreOf};
+ghost use Rattle.poly_text.specs.Recorded.{AreMadeOfEarlier, AreRising, HasNewId, ids_in, lines_in};
+ghost use Rattle.clause_core.specs.Facts.{IsClauseFact};
+ghost use Rattle.gate_axioms.specs.ClauseValues.{clause_value};
+ghost use Rattle.pac_checker.specs.Checking.{ledger_of, premises_of, TakesLine, Grows, KeepsLedger, IsClosedBy, IsRecordable, SpecificationVanishes};
 ghost use Rattle.pac_checker.specs.Faults.{IsLineFault, IsClosingFault};
-ghost use Rattle.gate_axioms.specs.Steps.{Vanishes};
-ghost use Rattle.pac_checker.specs.Rules.{AreEqual, AreRefused, Introduces, IsRefused, IsStatingFault, TakesLinesOf, clause_at, combination_line, import_line, lent, product_line, sum_line};
-ghost use Rattle.pac_checker.specs.Works.{IsMade};
 
-use crate::compaction::{compacted, most_monomials};
-use crate::rules::combine;
-use crate::works::{MakeClause, MakeOne, MakeSpecification};
+use crate::judge::Judge;
+use crate::record::{Record, keep};
 use crate::{CloseFault, LineFault};
-use clause_core::{Clause, ClauseList};
-use gate_axioms::add_axioms;
+use clause_core::ClauseList;
 use graph_core::{Memory, Operands};
-use mv_fact::{Grow, Live};
-use poly_terms::{Poly, PolySum, Terms};
+use mv_fact::Grow;
+use poly_terms::{Poly, Terms};
 use poly_text::PacLine;
 use ripple_graft::Extended;
 use std::alloc::Global;
 use std::marker::Model;
 
-/// The live polynomials of an algebra certificate over an extended graph, and the clauses that its lines may import.
+/// The live polynomials of an algebra certificate over an extended graph, the clauses that its lines may import, and the
+/// lines that were taken, where they are recorded.
 #[derive(Drop)]
 pub struct PacChecker<'a> {
-    alloc: Global,
-    added: &'a ClauseList,
-    extended: &'a Extended<'a>,
-    operands: &'a Operands,
-    live: Live<'a, Poly>,
-    /// the greatest id in use so far, also of lines that were dropped
-    last: u64,
-    /// what the latest line names, as far as it was added up: each line takes its room over
-    products: PolySum,
-    /// with more monomials the table is made anew
-    most_monomials: u64,
+    judge: Judge<'a>,
+    records: bool,
+    recorded: Vec<PacLine>,
 }
 
 impl<'a> Model for PacChecker<'a> {
-    ghost use Rattle.pac_checker.specs.Checking.{Checking, checking_of};
-    ghost use Rattle.pac_checker.specs.Rules.{IsSound};
+    ghost use Rattle.poly_text.specs.Recorded.{lines_in};
+    ghost use Rattle.pac_checker.specs.Checking.{Checking, ledger_of, recording};
+    ghost use Rattle.pac_checker.specs.Recording.{HasRecorded};
 
     ghost Value = { Checking };
 
-    ghost view = { λ c. checking_of c.added.now c.extended.now c.operands.now c.live c.last };
+    ghost view = { λ c. recording c.judge c.records (lines_in c.judge.table c.recorded.items) };
 
-    ghost invariant = { λ c. IsSound c.added.now c.extended.now c.operands.now c.live c.last };
+    ghost invariant = { λ c. HasRecorded c.judge.extended c.judge.added c.judge.table (ledger_of c.judge) c.records c.recorded.items };
 }
 
 impl<'a> PacChecker<'a> {
     /// The axioms of an extended graph: those of its gates, and of each replaced column. Lines may import the
-    /// clauses that were added.
+    /// clauses that were added. Where the checker records, the lines that it takes are kept, but for deletions.
     pub fn new(
         alloc: Global,
         extended: &'a Extended<'a>,
         operands: &'a Operands,
         added: &'a ClauseList,
+        records: bool,
     ) -> Result<PacChecker<'a>, Memory>
         requires some { 1 ≤ length extended.now.graph.outputs }
         requires few { length extended.now.graph.outputs ≤ 128 }
@@ -75,25 +65,17 @@ impl<'a> PacChecker<'a> {
         ensures extended { IfOk result (λ c. c.extended ≡ extended.entry.now) }
         ensures sides { IfOk result (λ c. c.sides ≡ operands.entry.now) }
         ensures added { IfOk result (λ c. c.added ≡ added.entry.now) }
+        ensures records { IfOk result (λ c. c.records ≡ records) }
+        ensures recorded { IfOk result (λ c. c.recorded ≡ []) }
         ensures modulus { IfOk result (λ c. modulus c.table ≡ algebra.modulus c.extended) }
         ensures axioms { IfOk result (λ c. (version : ℕ) → Agree (ledger_of c)
             (beginning (record { version = version; extended = extended.entry.now; imports = map clause_value added.entry.now }))) }
     {
-        let outputs = extended.graph().outputs();
-        let gates = extended.gates();
-        let terms = Terms::for_gates(alloc, outputs, gates.len())?;
-        let mut live = Live::new(alloc, gates, terms);
-        add_axioms(alloc, &mut live, extended)?;
-        let most_monomials = most_monomials(&live);
+        let judge = Judge::new(alloc, extended, operands, added)?;
         Ok(PacChecker {
-            alloc,
-            added,
-            extended,
-            operands,
-            live,
-            last: u64::from(extended.max()) + u64::from(outputs),
-            products: PolySum::new(alloc),
-            most_monomials,
+            judge,
+            records,
+            recorded: Vec::new(alloc),
         })
     }
 
@@ -101,15 +83,15 @@ impl<'a> PacChecker<'a> {
     pub fn last(&self) -> u64
         ensures { result ≡ self.now.last }
     {
-        self.last
+        self.judge.last()
     }
 
-    /// The table of the live polynomials.
+    /// The table of the live polynomials, and of those of recorded lines.
     pub fn terms(&self) -> &Terms
         ensures table { result.now ≡ self.now.table }
         ensures modulus { modulus self.now.table ≡ algebra.modulus self.now.extended }
     {
-        self.live.table()
+        self.judge.terms()
     }
 
     /// Lends the table to a work, as to the reader of the next line.
@@ -119,245 +101,73 @@ impl<'a> PacChecker<'a> {
         ensures grows { Grows self.old self.new }
         ensures modulus { modulus self.new.table ≡ algebra.modulus self.new.extended }
     {
-        self.live.grow(work, on)
+        self.judge.grow(work, on)
     }
 
     /// Makes the table anew over the live polynomials, where it has more than twice as many monomials as there were
     /// live lines and terms when it was last made: so its size is in proportion to what is live. No other polynomial of
-    /// the old table is one of the new table.
+    /// the old table is one of the new table. Where lines are recorded nothing changes, since their polynomials are of
+    /// the table.
     pub fn compact(&mut self) -> Result<(), Memory>
         ensures keeps { KeepsLedger self.old self.new }
         ensures unchanged { OnErr result (self.new ≡ self.old) }
     {
-        if self.live.table().count() <= self.most_monomials {
+        if self.records {
             return Ok(());
         }
-        self.live = compacted(self.alloc, self.extended.gates(), &self.live)?;
-        self.products = PolySum::new(self.alloc);
-        self.most_monomials = most_monomials(&self.live);
-        Ok(())
+        self.judge.compact()
     }
 
     /// Judges a line. Where it is lawful it is taken, and else the answer is its first fault.
-    pub fn line(&mut self, line: &PacLine) -> Result<(), LineFault>
-        requires goes_on { IsSome (line_in self.old.table line.now) }
-        requires of_table { AreOf self.old.table line.now }
-        ensures taken { OnOk result (TakesLine line.now self.old self.new) }
-        ensures refused { IfErr result (IsLineFault self.old line.now) }
+    pub fn line(&mut self, line: PacLine) -> Result<(), LineFault>
+        requires goes_on { IsSome (line_in self.old.table line) }
+        requires of_table { AreOf self.old.table line }
+        requires recordable { self.old.records ≡ true →
+            IsRecordable self.old.extended.max self.old.table line }
+        ensures taken { OnOk result (TakesLine line self.old self.new) }
+        ensures refused { IfErr result (IsLineFault self.old line) }
         ensures unchanged { OnErr result (Grows self.old self.new) }
     {
-        match line {
-            PacLine::Sum { id, i, j, poly } => self.sum(*id, *i, *j, poly),
-            PacLine::Product {
-                id,
-                i,
-                factor,
-                poly,
-            } => self.product(*id, *i, factor, poly),
-            PacLine::Combination { id, parts, poly } => {
-                self.combination(*id, parts.as_slice(), poly)
-            }
-            PacLine::Import { id, clause, poly } => self.import(*id, *clause, poly),
-            PacLine::Drop { id } => self.delete(*id),
-            PacLine::Close { .. } => unreachable!(),
+        if !self.records {
+            return self.judge.line(&line);
         }
+        match self.recorded.try_reserve(1) {
+            Ok(()) => {}
+            Err(_) => return Err(LineFault::Memory),
+        }
+        self.judge.line(&line)?;
+        keep(&mut self.recorded, line);
+        Ok(())
     }
 
-    /// Judges a closing line: that the line has the value of the specification. Then that vanishes on every evaluation.
+    /// Judges a closing line: that the line has the value of the specification. Then that vanishes on every evaluation,
+    /// and recorded lines are lawful and close too.
     pub fn close(&mut self, id: u64) -> Result<(), CloseFault>
         ensures closes { OnOk result (IsClosedBy self.old id) }
         ensures vanishes { OnOk result (SpecificationVanishes self.old) }
+        ensures recorded { self.old.records ≡ true → OnOk result ((version : ℕ) →
+            AreLawful (premises_of version self.old) self.old.sides self.old.recorded id) }
         ensures refused { IfErr result (IsClosingFault self.old id) }
         ensures unchanged { Grows self.old self.new }
     {
-        let wanted = self.specification()?;
-        self.compare(id, &wanted)
+        self.judge.close(id)
     }
 
-    fn specification(&mut self) -> Result<Poly, Memory>
-        ensures grows { Grows self.old self.new }
-        ensures of_table { IfOk result (IsOf self.new.table) }
-        ensures value { IfOk result
-            (λ p. IsSpecification self.new.table p self.old.extended self.old.sides) }
+    /// The recorded lines and the table of their polynomials, where the checker isn't needed any more. Their ids rise, each
+    /// is made of lines with lesser ids, and each can be written.
+    pub fn into_record(self) -> Record
+        ensures lines { lines_in result.terms result.lines.items ≡ self.entry.recorded }
+        ensures terms { result.terms ≡ self.entry.table }
+        ensures modulus { modulus result.terms ≡ algebra.modulus self.entry.extended }
+        ensures of_table { All (AreOf result.terms) result.lines.items }
+        ensures recordable { All (IsRecordable self.entry.extended.max result.terms) result.lines.items }
+        ensures new_ids { All HasNewId result.lines.items }
+        ensures rising { AreRising (ids_in result.lines.items) }
+        ensures earlier { AreMadeOfEarlier result.lines.items }
     {
-        let mut work = MakeSpecification {
-            alloc: self.alloc,
-            graph: self.extended.graph(),
-            operands: self.operands,
-        };
-        self.live.grow(&mut work, &mut ())
-    }
-
-    // Whether a line has the value that is wanted.
-    fn compare(&self, id: u64, wanted: &Poly) -> Result<(), CloseFault>
-        requires wanted { IsOf self.now.table wanted.now }
-        requires value { IsSpecification self.now.table wanted.now self.now.extended
-            self.now.sides }
-        ensures closes { OnOk result (IsClosedBy self.now id) }
-        ensures vanishes { OnOk result (SpecificationVanishes self.now) }
-        ensures refused { IfErr result (IsClosingFault self.now id) }
-    {
-        match self.live.get(id) {
-            None => Err(CloseFault::NoSuchLine(id)),
-            Some(poly) => {
-                if self.live.table().equals(poly, wanted) {
-                    Ok(())
-                } else {
-                    Err(CloseFault::NotSpec)
-                }
-            }
+        Record {
+            lines: self.recorded,
+            terms: self.judge.into_terms(),
         }
     }
-
-    // A sum is a combination of two lines, each times 1.
-    fn sum(&mut self, id: u64, i: u64, j: u64, poly: &Poly) -> Result<(), LineFault>
-        requires { IsOf self.old.table poly.now }
-        ensures taken { OnOk result
-            (Takes (sum_line self.old.table id i j poly.now) self.old self.new) }
-        ensures refused { IfErr result
-            (IsRefused self.old (sum_line self.old.table id i j poly.now)) }
-        ensures unchanged { OnErr result (Grows self.old self.new) }
-    {
-        let one = self.one()?;
-        self.introduce(id, &[(i, &one), (j, &one)], poly)
-    }
-
-    // A product is a combination of one line.
-    fn product(&mut self, id: u64, i: u64, factor: &Poly, poly: &Poly) -> Result<(), LineFault>
-        requires factor_of_table { IsOf self.old.table factor.now }
-        requires of_table { IsOf self.old.table poly.now }
-        ensures taken { OnOk result
-            (Takes (product_line self.old.table id i factor.now poly.now) self.old self.new) }
-        ensures refused { IfErr result
-            (IsRefused self.old (product_line self.old.table id i factor.now poly.now)) }
-        ensures unchanged { OnErr result (Grows self.old self.new) }
-    {
-        self.introduce(id, &[(i, factor)], poly)
-    }
-
-    fn combination(&mut self, id: u64, parts: &[(u64, Poly)], poly: &Poly) -> Result<(), LineFault>
-        requires parts_of_table { All (λ part. IsOf self.old.table part.1) parts.now }
-        requires of_table { IsOf self.old.table poly.now }
-        ensures taken { OnOk result
-            (Takes (combination_line self.old.table id parts.now poly.now) self.old self.new) }
-        ensures refused { IfErr result
-            (IsRefused self.old (combination_line self.old.table id parts.now poly.now)) }
-        ensures unchanged { OnErr result (Grows self.old self.new) }
-    {
-        let parts = lend(self.alloc, parts)?;
-        self.introduce(id, &parts, poly)
-    }
-
-    // An import states the value of an added clause.
-    fn import(&mut self, id: u64, number: u64, stated: &Poly) -> Result<(), LineFault>
-        requires { IsOf self.old.table stated.now }
-        ensures taken { OnOk result
-            (Takes (import_line self.old.table id number stated.now) self.old self.new) }
-        ensures refused { IfErr result
-            (IsRefused self.old (import_line self.old.table id number stated.now)) }
-        ensures unchanged { OnErr result (Grows self.old self.new) }
-    {
-        judge_id(self.last, id)?;
-        let clause = clause_at(self.added, number)?;
-        let mut work = MakeClause {
-            alloc: self.alloc,
-            clause,
-        };
-        let named = self.live.grow(&mut work, &mut ())?;
-        self.state(id, named, stated)
-    }
-
-    // The rule of every line that introduces an id but an import: it states the sum of live lines, each times a factor.
-    fn introduce(&mut self, id: u64, parts: &[(u64, &Poly)], stated: &Poly) -> Result<(), LineFault>
-        requires parts_of_table { All (λ part. IsOf self.old.table part.1.now) parts.now }
-        requires of_table { IsOf self.old.table stated.now }
-        ensures taken { OnOk result
-            (TakesLinesOf id (lent parts.now) stated.now self.old self.new) }
-        ensures refused { IfErr result (AreRefused self.old id (lent parts.now) stated.now) }
-        ensures unchanged { OnErr result (Grows self.old self.new) }
-    {
-        judge_id(self.last, id)?;
-        let named = combine(&mut self.products, &mut self.live, parts)?;
-        self.state(id, named, stated)
-    }
-
-    // Compares the polynomial that a rule names with the stated one, and makes it live under a new id.
-    fn state(&mut self, id: u64, named: Poly, stated: &Poly) -> Result<(), LineFault>
-        requires new_id { self.old.last < id }
-        requires named { Vanishes self.old.extended.gates self.old.table named }
-        requires stated { IsOf self.old.table stated.now }
-        ensures equal { OnOk result (AreEqual self.old.table named stated.now) }
-        ensures introduced { OnOk result
-            (Introduces id (monomials_in self.old.table stated.now) self.old self.new) }
-        ensures refused { IfErr result (IsStatingFault self.old.table named stated.now) }
-        ensures unchanged { OnErr result (self.new ≡ self.old) }
-    {
-        if !self.live.table().equals(&named, stated) {
-            return Err(LineFault::NotEqual);
-        }
-        match self.live.insert(id, named) {
-            Ok(()) => {
-                self.last = id;
-                Ok(())
-            }
-            Err(_) => Err(LineFault::Memory),
-        }
-    }
-
-    // The polynomial 1.
-    fn one(&mut self) -> Result<Poly, Memory>
-        ensures grows { Grows self.old self.new }
-        ensures one { IfOk result (IsMade self.new.table (λ σ. 1 % modulus self.old.table)) }
-    {
-        self.live.grow(&mut MakeOne { alloc: self.alloc }, &mut ())
-    }
-
-    fn delete(&mut self, id: u64) -> Result<(), LineFault>
-        ensures taken { OnOk result (Takes (Delete id) self.old self.new) }
-        ensures refused { IfErr result (IsRefused self.old (Delete id)) }
-        ensures unchanged { OnErr result (Grows self.old self.new) }
-    {
-        match self.live.remove(id) {
-            Ok(_) => {}
-            Err(_) => return Err(LineFault::NoSuchLine(id)),
-        }
-        Ok(())
-    }
-}
-
-// A new id is above the last one.
-fn judge_id(last: u64, id: u64) -> Result<(), LineFault>
-    ensures new { OnOk result (last < id) }
-    ensures used { IfErr result (λ fault. (fault ≡ LineFault.Id) × (id ≤ last)) }
-{
-    if id <= last {
-        return Err(LineFault::Id);
-    }
-    Ok(())
-}
-
-// The added clause of a number, from 1 on.
-fn clause_at(added: &ClauseList, number: u64) -> Result<&Clause, LineFault>
-    ensures some { IfOk result (λ c. clause_at added.now number ≡ Some c.now) }
-    ensures none { IfErr result (λ fault. (fault ≡ LineFault.NoSuchClause number) ×
-        (clause_at added.now number ≡ None)) }
-{
-    if number == 0 {
-        return Err(LineFault::NoSuchClause(number));
-    }
-    if number > added.len() as u64 {
-        return Err(LineFault::NoSuchClause(number));
-    }
-    Ok(added.get((number - 1) as usize))
-}
-
-// Parts whose factors are lent.
-fn lend<'a>(alloc: Global, parts: &'a [(u64, Poly)]) -> Result<Vec<(u64, &'a Poly)>, Memory>
-    ensures { IfOk result (λ out. lent out.items ≡ parts.entry.now) }
-{
-    let mut out = Vec::with_capacity(alloc, parts.len())?;
-    for (id, factor) in parts {
-        out.push((*id, factor))?;
-    }
-    Ok(out)
 }

@@ -1,15 +1,9 @@
 -- Lines that are alike are lawful together, one after the other.
-use Rattle.std.specs.Prelude.{◌≡◌, ℕ, List, [], ◌∷◌}
+use Rattle.std.specs.Prelude.{ℕ, List, [], ◌∷◌}
 use Rattle.graph_core.specs.Algebra.{Ledger, Line, AreLawfulLines, after, after_all}
 use Rattle.graph_core.specs.Algebra.Agreement.{Agree}
 use Rattle.graph_core.proofs.OfAlgebra.CallerLemmas.{after_agrees, agree_trans, lawful_agrees, likeness_is_kept}
-use Rattle.graph_core.specs.Algebra.Likeness.{AreAlike}
-
--- each line of one list is alike one of the other
-abbrev pub AreAllAlike : ℕ → List Line → List Line → Type 0
-AreAllAlike m [] ys = ys ≡ []
-AreAllAlike m (x ∷ xs) [] = ⊥
-AreAllAlike m (x ∷ xs) (y ∷ ys) = AreAlike m x y × AreAllAlike m xs ys
+use Rattle.poly_text.specs.Recorded.{AreAllAlike}
 
 -- over ledgers that agree
 pub alike_lawful : (m : ℕ) (l k : Ledger) (xs ys : List Line) → Agree l k → AreAllAlike m xs ys → AreLawfulLines m l ys → AreLawfulLines m k xs × Agree (after_all m l ys) (after_all m k xs)

@@ -1,4 +1,5 @@
--- What a caller may cite to show that a polynomial has no variable above the greatest one.
+-- What a caller may cite of certificates that are written, and to show that a polynomial has no variable above the greatest one.
+pub use Rattle.pac_writer.proofs.LawfulFile.{written_certificates_are_lawful}
 use Rattle.std.specs.Prelude.{◌≡◌, ℕ, zero, suc, ◌<◌, ◌||◌, ◌==◌, Bool, true, false, List, [], ◌∷◌, length, slice_index_or}
 use Rattle.std.proofs.Common.{refl, sym, ap, ◌∙◌, arith, ⊎_elim, eq-eqb}
 use Rattle.std.proofs.lemmas.Bool.{cases_lt, true≢false}

@@ -14,7 +14,8 @@ use Rattle.poly_terms.specs.Tables.{Table}
 use Rattle.poly_text.specs.declared.line.PacLine.{PacLine}
 use Rattle.poly_text.specs.Lines.{line_in}
 use Rattle.pac_writer.specs.Spare.{IsSpareLine}
-use Rattle.pac_writer.specs.Writing.{Made, AreLawfulSoFar, PutsLine, ledger_of, lines_in, made_of}
+use Rattle.pac_writer.specs.Writing.{Made, AreLawfulSoFar, PutsLine, ledger_of, made_of}
+use Rattle.poly_text.specs.Recorded.{lines_in}
 use Rattle.pac_writer.specs.Kept.{AreKept, CanFollow, IsKept}
 
 -- ---- ids

@@ -17,7 +17,8 @@ use Rattle.poly_text.specs.declared.line.PacLine.{PacLine}
 use Rattle.poly_text.specs.declared.line.PacLine.TheVariants.{Sum, Product, Combination, Import, Drop, Close}
 use Rattle.poly_text.specs.Lines.{AreOf, line_in, part_in}
 use Rattle.poly_text.specs.WrittenLaws.{AreUpTo, IsUpTo}
-use Rattle.pac_writer.specs.Writing.{Grows, lines_in, made_of}
+use Rattle.pac_writer.specs.Writing.{Grows, made_of}
+use Rattle.poly_text.specs.Recorded.{lines_in}
 use Rattle.pac_writer.specs.Kept.{AreKept, IsKept}
 
 -- ---- a line

@@ -5,5 +5,7 @@ pub mod Combining
 pub mod Wrote
 pub mod Texts
 pub mod Alike
+pub mod Readable
+pub mod ReadBack
 pub mod LawfulFile
 pub mod CallerLemmas

@@ -35,6 +35,10 @@ abbrev pub closing_text : Option ℕ → List ℕ
 closing_text None = []
 closing_text (Some id) = (codes "q " ++ decimal id ++ codes ";") ++ newline ∷ []
 
--- the header, the lines, and the closing line
+-- the header, lines, and a closing line with this id, of a version and modulo m
+abbrev pub written_certificate : ℕ → ℕ → List Line → ℕ → List ℕ
+written_certificate version m lines closing = algebra_header version ++ (lines_text m lines ++ closing_text (Some closing))
+
+-- the header, the lines that are made, and the closing line
 abbrev pub certificate_text : ℕ → Made → List ℕ
 certificate_text version l = algebra_header version ++ (lines_text (modulus l.extended) l.lines ++ closing_text l.closing)

@@ -9,7 +9,8 @@ use Rattle.graph_core.specs.Algebra.{Line, Combination, Part, Ledger, Premises, 
 use Rattle.poly_terms.specs.Tables.{Table, Sum, IsOf, Extends, monomials_in}
 use Rattle.poly_terms.specs.Tables as table
 use Rattle.poly_text.specs.declared.line.PacLine.{PacLine}
-use Rattle.poly_text.specs.Lines.{line_in, part_in}
+use Rattle.poly_text.specs.Lines.{part_in}
+use Rattle.poly_text.specs.Recorded.{lines_in}
 use Rattle.poly_text.specs.WrittenLaws.{IsUpTo}
 use Rattle.pac_writer.specs.Spare.{IsSpareLine}
 
@@ -22,10 +23,6 @@ pub record Made : Type 0 where
   pub lines : List Line
   pub last : ℕ
   pub closing : Option ℕ
-
--- the lines that code keeps, in the words of the definitions
-abbrev pub lines_in : Table → List PacLine → List Line
-lines_in t lines = filter_map (line_in t) lines
 
 abbrev pub made_of : Extended → Sides → Table → List PacLine → ℕ → Option ℕ → Made
 made_of e s t lines last closing = record { extended = e; sides = s; table = t; lines = lines_in t lines; last = last; closing = closing }

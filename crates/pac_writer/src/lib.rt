@@ -1,16 +1,23 @@
-//! Lines of an algebra certificate that is made, in a type that keeps that each of them is lawful.
+//! Algebra certificates that are written: any lines, and lines that are made in a type that keeps that each is lawful.
+//!
+//! `write_certificate` writes the whole text of a version of lines that are given, and takes no memory. By the law of
+//! `specs/LawfulTexts.antt` it is a lawful algebra file with these lines where they are lawful and in range.
 //!
 //! `Lines` starts with the axioms of an extended graph. `combine` puts the sum of live lines times polynomials
 //! behind the others, `drop_line` deletes a live line, and `close` ends the certificate with a line of the
-//! specification's value; each asks its caller for just what makes the line lawful. `emit` writes the whole text of a
-//! version, which is a lawful algebra file that imports nothing, and takes no memory.
+//! specification's value; each asks its caller for just what makes the line lawful. `emit` writes their text, which
+//! is a lawful algebra file that imports nothing.
 //!
 //! *Ledger*: the live lines after all that were made (`ledger_of` in `specs/Writing.antt`). *Puts*: one line more
 //! stands behind the others. *Spare*: no line twice in a combination, none times 0, each polynomial in its normal
 //! form (`specs/Spare.antt`). *Text*: that of `specs/Certificates.antt`.
 #![tactic(auto)]
 
+mod certificate;
+mod laws;
 mod lines;
 mod writing;
 
+pub use certificate::write_certificate;
+pub use laws::written_certificates_are_lawful;
 pub use lines::Lines;

@@ -1,5 +1,6 @@
--- What a caller that judges a file line by line may cite: the next line in the words of the definitions of refusals.
+-- What a caller that judges a file line by line may cite: the next line in the words of the definitions of refusals, and that it may be written again.
 pub use Rattle.mv_text.proofs.CallerLemmas.{long_of, short_of}
+pub use Rattle.poly_text.proofs.ReadAgain.{close_read_again, outputs_fit, read_again, width_fits}
 use Rattle.std.specs.Prelude.{◌≡◌, ℕ, List}
 use Rattle.std.specs.declared.option.Option.TheVariants.{Some}
 use Rattle.std.proofs.Common.{refl, inl, inr, ⊎_elim}

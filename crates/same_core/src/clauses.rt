@@ -17,6 +17,7 @@ ghost use Rattle.same_core.specs.Places.{IsMerged};
 
 use crate::merged::Merged;
 use clause_judge::{ClauseFail, checker_of, judge_from, line_refused, read_line};
+use drup_checker::Keeps;
 use drup_text::ClauseFile;
 use miter_encoder::{gate_clauses_of, goals_of};
 use mv_desk::{Desk, Limits, Slot};
@@ -93,7 +94,9 @@ fn judge_lines<D: Desk>(
     let merged_gates = merged.gates();
     let clauses = gate_clauses_of(alloc, merged_gates)?;
     let goals = goals_of(alloc, merged.pairs())?;
-    let mut checker = checker_of(alloc, greatest, merged_gates, &clauses, &goals, 1)?;
+    let nothing = Keeps::Nothing;
+    let mut checker = checker_of(alloc, greatest, merged_gates, &clauses, &goals, nothing)?;
     let first = read_line(desk, file, greatest)?;
-    judge_from(desk, file, greatest, &mut checker, first)
+    judge_from(desk, file, greatest, &mut checker, first)?;
+    Ok(())
 }

@@ -12,5 +12,5 @@ use Rattle.clause_judge.proofs.clause_checker.checker_of.Goals as goal
 pub returns-clause-taken : goal.returns-clause-taken
 returns-clause-taken c =
     let cs = c.args.clauses.now in
-    both_of c.new.result (Starts c.args.gates.now c.args.max cs c.args.goals.now c.args.version) (λ k. All (λ b. b ≡ false) k.shown) (HasTakenNone c.args.gates.now)
+    both_of c.new.result (Starts c.args.gates.now c.args.max cs c.args.goals.now c.args.keeps) (λ k. All (λ b. b ≡ false) k.shown) (HasTakenNone c.args.gates.now)
     (λ k starts none e same. begins e cs k (subst (λ (gates : List Gate). AreSameSets cs (gate_clauses gates)) (sym same) c.requires.of_gates) starts.live_is starts.added_is none) c.new.ensures.starts c.new.ensures.shown

@@ -10,14 +10,14 @@ use Rattle.clause_judge.specs.ClauseLines.{left_for}
 use Rattle.clause_judge.proofs.ClauseReached.{IsReached}
 use Rattle.clause_judge.proofs.judging.judge_from.Given as goal
 
-abbrev pub invariant-loop : goal.invariant-loop
-invariant-loop g l = record {
+abbrev pub invariant-loop-count : goal.invariant-loop-count
+invariant-loop-count g l = record {
   only : ReadsOnly slot.Clauses (g.D.Desk.seen l.fn.desk) (g.D.Desk.seen l.desk);
   tells : KeepsTelling (g.D.Desk.seen l.fn.desk) (g.D.Desk.seen l.desk);
   max : l.checker.max ≡ l.fn.max;
   gates : l.checker.gates ≡ l.fn.checker.gates;
-  version : l.checker.version ≡ l.fn.checker.version;
+  keeps : l.checker.keeps ≡ l.fn.checker.keeps;
   goals : (e : Extended) (start : FileState) (body : Option (List ℕ)) → Begins e l.fn.checker start l.fn.file body (left_for l.fn.file (g.D.Desk.seen l.fn.desk)) l.fn.first → AreGoalsOf e l.checker.goals;
   reached : (e : Extended) (start : FileState) (body : Option (List ℕ)) → Begins e l.fn.checker start l.fn.file body (left_for l.fn.file (g.D.Desk.seen l.fn.desk)) l.fn.first →
-      IsReached e start body l.checker l.counter l.next l.file (left_for l.file (g.D.Desk.seen l.desk));
+      IsReached e start body l.checker l.count l.next l.file (left_for l.file (g.D.Desk.seen l.desk));
 }

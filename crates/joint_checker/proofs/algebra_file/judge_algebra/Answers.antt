@@ -1,28 +1,28 @@
-use Rattle.std.proofs.Common.{◌≡◌, ◌≤◌, ℕ, List, Bool, true, false, length, arith, ap, sym, subst, ◌∙◌}
-use Rattle.graph_core.specs.Aiger.Soundness.{IsSizedAs}
-use Rattle.graph_core.specs.Graph.{Aig}
+use Rattle.std.proofs.Common.{◌≡◌, ℕ, List, ap, refl, sym, subst, ◌∙◌}
 use Rattle.std.specs.Option.{IfSome}
-use Rattle.std.proofs.lemmas.Result.{IfErr-weaker, on_ok_weaker}
-use Rattle.graph_core.specs.Algebra.{Premises, beginning, specification}
+use Rattle.std.proofs.lemmas.Result.{err_from_is_err_and}
+use Rattle.graph_core.specs.Algebra.{AreLawful, Line, Premises, beginning, modulus, specification}
 use Rattle.graph_core.specs.Algebra.Agreement.{Agree}
 use Rattle.graph_core.specs.Graph.Extended.{Extended}
-use Rattle.graph_core.specs.Graph.Operands.{Sides, profile_of, sides_for}
+use Rattle.graph_core.specs.Graph.Operands.{Sides, sides_for}
 use Rattle.mv_desk.specs.declared.slot.Slot.TheVariants as slot
 use Rattle.mv_desk.proofs.CallerLemmas.{KeepsTelling-trans, ReadsOnly-trans}
 use Rattle.mv_fact.specs.Always.{Always}
 use Rattle.clause_core.specs.Clause.{Clause}
+use Rattle.clause_core.specs.Facts.{IsClauseFact}
+use Rattle.std.specs.List.{All}
 use Rattle.mv_text.specs.LineReading.{lengths_of}
-use Rattle.pac_checker.specs.Checking.{ledger_of}
+use Rattle.pac_checker.specs.Checking.{IsRecordable, ledger_of}
+use Rattle.poly_text.specs.Recorded.{lines_in}
 use Rattle.joint_checker.specs.AlgebraBody.{IsBodyFail, IsLawfulBody}
 use Rattle.joint_checker.specs.AlgebraLines.{left_in}
-use Rattle.joint_checker.specs.ClauseFiles.{premises}
-use Rattle.joint_checker.specs.Fails.{IsAlgebraFail}
+use Rattle.joint_checker.specs.ClauseFiles.{imported, premises}
+use Rattle.joint_checker.specs.Shown.{premises_of}
 use Rattle.joint_checker.proofs.AlgebraFiles.{body_fails, header_fails, text_is_lawful}
+use Rattle.joint_checker.proofs.Joined.{all_imported}
+use Rattle.joint_checker.proofs.Recording.{body_at, text_is_recorded}
+use Rattle.joint_checker.proofs.Sizes.{outputs_of}
 use Rattle.joint_checker.proofs.algebra_file.judge_algebra.Goals as goal
-
-outputs_of : (add : Bool) (g : Aig) → IsSizedAs (profile_of add) g → (1 ≤ length g.outputs) × (length g.outputs ≤ 128)
-outputs_of false g sized = (sized.shape.some_outputs, (let narrow = sized.narrow in let few = sized.shape.outputs in omega arith))
-outputs_of true g sized = (sized.shape.some_outputs, (let narrow = sized.narrow in let few = sized.shape.outputs in omega arith))
 
 -- the premises that a file and a checker have
 made : (v w : ℕ) (e f : Extended) (cs ds : List Clause) → v ≡ w → e ≡ f → cs ≡ ds → premises v e cs ≡ premises w f ds
@@ -41,12 +41,17 @@ judge_lines-requires-clause-begins g c =
     subst (λ (e : Extended). Agree known (beginning (premises version e c.in_ok-checker.checker.added))) (sym c.in_ok-checker.ensures.extended)
     (subst (λ (cs : List Clause). Agree known (beginning (premises version c.args.shown.now.extended cs))) (sym c.in_ok-checker.ensures.added) (c.in_ok-checker.ensures.axioms version))
 
+pub new-requires-clause-facts : goal.new-requires-clause-facts
+new-requires-clause-facts g c =
+    let shown = c.args.shown.now in
+    subst (All (IsClauseFact shown.extended.gates)) (sym c.imports-added.ensures) (all_imported (IsClauseFact shown.extended.gates) shown.header.version shown.recorded.added c.requires.facts)
+
 pub returns-in-Err-clause-refused : goal.returns-in-Err-clause-refused
 returns-in-Err-clause-refused g c =
     let before = g.D.Desk.seen c.args.desk.now in
     let shown = c.args.shown.now in
     let e = shown.extended in
-    let p = premises shown.version e shown.added in
+    let p = premises_of shown in
     rw c.line_refused.ensures
     (header_fails (lengths_of c.args.limits.now) p (sides_for c.args.claim e.graph) (before.left slot.Algebra) before (g.D.Desk.seen c.start.new.desk) c.in-Err.fail c.in-Err.ensures.refused)
 
@@ -65,18 +70,17 @@ returns-clause-lawful g c =
     let before = g.D.Desk.seen c.args.desk.now in
     let shown = c.args.shown.now in
     let e = shown.extended in
-    let p = premises shown.version e shown.added in
+    let p = premises_of shown in
     let sides = sides_for c.args.claim e.graph in
     let file = c.in-Ok.file in
     let behind = left_in file (g.D.Desk.seen c.start.new.desk) in
     let checker = c.in_ok-checker.checker in
     let same_sides : checker.sides ≡ sides =
     c.in_ok-checker.ensures.sides ∙ c.in_ok-operands.ensures ∙ ap (λ x. sides_for c.args.claim x) c.graph.ensures in
-    let same_premises = made file.version shown.version checker.extended e checker.added shown.added c.in-Ok.ensures.version c.in_ok-checker.ensures.extended c.in_ok-checker.ensures.added in
-    on_ok_weaker c.judge_lines.result (λ h.
+    let same_premises = made file.version shown.header.version checker.extended e checker.added (imported shown.header.version shown.recorded.added) c.in-Ok.ensures.version c.in_ok-checker.ensures.extended
+    (c.in_ok-checker.ensures.added ∙ c.imports-added.ensures) in
     text_is_lawful (lengths_of c.args.limits.now) p sides file c.in-Ok.ensures.version c.in-Ok.ensures.lengths (before.left slot.Algebra) behind c.in-Ok.ensures.header
-    (subst (λ (s : Sides). IfSome behind (IsLawfulBody p s file.lines)) same_sides (subst (λ (x : Premises). IfSome behind (IsLawfulBody x checker.sides file.lines)) same_premises h)))
-    c.judge_lines.ensures.lawful
+    (subst (λ (s : Sides). IfSome behind (IsLawfulBody p s file.lines)) same_sides (subst (λ (x : Premises). IfSome behind (IsLawfulBody x checker.sides file.lines)) same_premises c.in_ok-closing.ensures.lawful))
 
 pub returns-clause-vanishes : goal.returns-clause-vanishes
 returns-clause-vanishes g c =
@@ -84,28 +88,71 @@ returns-clause-vanishes g c =
     let checker = c.in_ok-checker.checker in
     let same_sides : checker.sides ≡ sides_for c.args.claim e.graph =
     c.in_ok-checker.ensures.sides ∙ c.in_ok-operands.ensures ∙ ap (λ x. sides_for c.args.claim x) c.graph.ensures in
-    on_ok_weaker c.judge_lines.result (λ h.
-    subst (λ (s : Sides). Always e.gates (λ σ. specification e s σ ≡ 0)) same_sides (subst (λ (x : Extended). Always x.gates (λ σ. specification x checker.sides σ ≡ 0)) c.in_ok-checker.ensures.extended h))
-    c.judge_lines.ensures.vanishes
+    subst (λ (s : Sides). Always e.gates (λ σ. specification e s σ ≡ 0)) same_sides
+    (subst (λ (x : Extended). Always x.gates (λ σ. specification x checker.sides σ ≡ 0)) c.in_ok-checker.ensures.extended c.in_ok-closing.ensures.vanishes)
 
-pub returns-clause-refused : goal.returns-clause-refused
-returns-clause-refused g c =
+pub returns-in_err-closing-clause-refused : goal.returns-in_err-closing-clause-refused
+returns-in_err-closing-clause-refused g c =
     let before = g.D.Desk.seen c.args.desk.now in
     let middle = g.D.Desk.seen c.start.new.desk in
     let now = g.D.Desk.seen c.judge_lines.new.desk in
     let shown = c.args.shown.now in
     let e = shown.extended in
-    let p = premises shown.version e shown.added in
+    let p = premises_of shown in
     let sides = sides_for c.args.claim e.graph in
     let file = c.in-Ok.file in
     let behind = left_in file middle in
     let checker = c.in_ok-checker.checker in
     let same_sides : checker.sides ≡ sides =
     c.in_ok-checker.ensures.sides ∙ c.in_ok-operands.ensures ∙ ap (λ x. sides_for c.args.claim x) c.graph.ensures in
-    let same_premises = made file.version shown.version checker.extended e checker.added shown.added c.in-Ok.ensures.version c.in_ok-checker.ensures.extended c.in_ok-checker.ensures.added in
-    IfErr-weaker c.judge_lines.result (IsBodyFail (premises file.version checker.extended checker.added) checker.sides file.lines behind middle now)
-    (IsAlgebraFail (lengths_of c.args.limits.now) p sides (before.left slot.Algebra) before now) (λ answer h.
-    body_fails (lengths_of c.args.limits.now) p sides file c.in-Ok.ensures.version c.in-Ok.ensures.lengths (before.left slot.Algebra) behind c.in-Ok.ensures.header before middle now answer c.in-Ok.ensures.reads.only.later
+    let same_premises = made file.version shown.header.version checker.extended e checker.added (imported shown.header.version shown.recorded.added) c.in-Ok.ensures.version c.in_ok-checker.ensures.extended
+    (c.in_ok-checker.ensures.added ∙ c.imports-added.ensures) in
+    let answer = c.in_err-closing.field-0.0 in
+    let same = err_from_is_err_and c.from_residual-in_err-closing.result c.from_residual-in_err-closing.ensures.1 in
+    rw (same.1, same.2)
+    (body_fails (lengths_of c.args.limits.now) p sides file c.in-Ok.ensures.version c.in-Ok.ensures.lengths (before.left slot.Algebra) behind c.in-Ok.ensures.header before middle now answer c.in-Ok.ensures.reads.only.later
     (subst (λ (s : Sides). IsBodyFail p s file.lines behind middle now answer) same_sides
-    (subst (λ (x : Premises). IsBodyFail x checker.sides file.lines behind middle now answer) same_premises h)))
-    c.judge_lines.ensures.refused
+    (subst (λ (x : Premises). IsBodyFail x checker.sides file.lines behind middle now answer) same_premises c.in_err-closing.ensures.refused)))
+
+pub returns-clause-recorded : goal.returns-clause-recorded
+returns-clause-recorded g c = λ yes.
+    let shown = c.args.shown.now in
+    let e = shown.extended in
+    let p = premises_of shown in
+    let sides = sides_for c.args.claim e.graph in
+    let checker = c.in_ok-checker.checker in
+    let end = c.judge_lines.new.checker in
+    let record_of = c.into_record.result in
+    let id = c.in_ok-closing.closing.id in
+    let same_sides : checker.sides ≡ sides =
+    c.in_ok-checker.ensures.sides ∙ c.in_ok-operands.ensures ∙ ap (λ x. sides_for c.args.claim x) c.graph.ensures in
+    let same_premises = made shown.header.version shown.header.version checker.extended e checker.added (imported shown.header.version shown.recorded.added) refl c.in_ok-checker.ensures.extended
+    (c.in_ok-checker.ensures.added ∙ c.imports-added.ensures) in
+    let same_extended = c.in_ok-closing.ensures.extended ∙ c.in_ok-checker.ensures.extended in
+    let closes = c.in_ok-closing.ensures.closes in
+    record {
+      lawful = subst (λ (ls : List Line). AreLawful p sides ls id) (sym c.into_record.ensures.lines)
+          (subst (λ (s : Sides). AreLawful p s end.recorded id) same_sides
+          (subst (λ (x : Premises). AreLawful x checker.sides end.recorded id) same_premises (closes.lawful (c.in_ok-checker.ensures.records ∙ yes) shown.header.version)));
+      closing = closes.is_id;
+      modulus_is = c.into_record.ensures.modulus ∙ ap modulus same_extended;
+      of_table = c.into_record.ensures.of_table;
+      recordable = subst (λ (x : Extended). All (IsRecordable x.max record_of.terms) record_of.lines.items) same_extended c.into_record.ensures.recordable;
+      new_ids = c.into_record.ensures.new_ids;
+      rising = c.into_record.ensures.rising;
+      earlier = c.into_record.ensures.earlier;
+    }
+
+pub returns-clause-told : goal.returns-clause-told
+returns-clause-told g c =
+    let before = g.D.Desk.seen c.args.desk.now in
+    let shown = c.args.shown.now in
+    let file = c.in-Ok.file in
+    let behind = left_in file (g.D.Desk.seen c.start.new.desk) in
+    let checker = c.in_ok-checker.checker in
+    let record_of = c.into_record.result in
+    let closing = c.in_ok-closing.closing in
+    let lines = lines_in record_of.terms record_of.lines.items in
+    text_is_recorded c.args.records shown.header.version (modulus shown.extended) lines closing.id closing.lines file c.in-Ok.ensures.version (before.left slot.Algebra) behind c.in-Ok.ensures.header
+    (body_at c.args.records checker.records shown.header.version file.version shown.extended checker.extended lines c.judge_lines.new.checker.recorded closing.id closing.lines behind c.in_ok-checker.ensures.records
+    c.in-Ok.ensures.version c.in_ok-checker.ensures.extended (sym c.into_record.ensures.lines) c.in_ok-closing.ensures.recorded)

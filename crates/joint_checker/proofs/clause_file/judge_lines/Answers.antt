@@ -1,4 +1,4 @@
-use Rattle.std.proofs.Common.{◌+◌, ℕ, List, Option, IfSome, sym, subst, ◌∙◌}
+use Rattle.std.proofs.Common.{◌+◌, ℕ, List, Option, IfSome, sym, ap, subst, ◌∙◌}
 use Rattle.std.specs.List.{All}
 use Rattle.graph_core.specs.declared.gate.Gate.{Gate}
 use Rattle.clause_core.specs.Clause.{Clause, IsClauseInRange}
@@ -12,6 +12,9 @@ use Rattle.clause_core.specs.Likeness.{AreSameSets}
 use Rattle.clause_judge.specs.ClauseBody.{IsShownWith}
 use Rattle.clause_judge.specs.ClauseLines.{IsTextFail, ReadsNext, left_for}
 use Rattle.clause_judge.proofs.ClauseTurns.{begins_with, first_fails, nothing_joined, nothing_passed}
+use Rattle.drup_checker.specs.declared.keeps.Keeps.{Keeps}
+use Rattle.trim_core.specs.KeptClauses.{AreEarlier}
+use Rattle.joint_checker.proofs.KeptRecords.{none_earlier, none_tight, tight_moved}
 use Rattle.joint_checker.proofs.clause_file.judge_lines.Goals as goal
 
 -- ---- the first line
@@ -37,8 +40,8 @@ returns-then-is_nothing-clause-lawful g c =
     let body = left_for start (g.D.Desk.seen c.args.desk.now) in
     let left = left_for file (g.D.Desk.seen c.read_line.new.desk) in
     let none = c.is_nothing.ensures c.if-is_nothing.true in
-    subst (λ (cs : List Clause). IfSome body (IsShownWith e start.lines c.args.version cs)) (sym c.new.ensures)
-    (nothing_passed e start body c.in_ok-goals.goals c.in_ok-goals.ensures.sets none.1 c.args.version file left
+    subst (λ (cs : List Clause). IfSome body (IsShownWith e start.lines c.args.keeps cs 0)) (sym c.nothing_kept.ensures.added)
+    (nothing_passed e start body c.in_ok-goals.goals c.in_ok-goals.ensures.sets none.1 c.args.keeps file left
     (subst (λ (next : Option ClauseLine). ReadsNext e.max start file body left next) none.0
     (subst (λ (m : ℕ). ReadsNext m start file body left c.in_ok-first.first) c.max-max.ensures.value c.in_ok-first.ensures.next)))
 
@@ -47,6 +50,14 @@ returns-then-is_nothing-clause-columns g c =
     let start = c.args.file.now in
     let none = c.is_nothing.ensures c.if-is_nothing.true in
     nothing_joined c.args.extended.now start (left_for start (g.D.Desk.seen c.args.desk.now)) c.in_ok-goals.goals c.in_ok-goals.ensures.sets none.1
+
+pub returns-then-is_nothing-clause-chains : goal.returns-then-is_nothing-clause-chains
+returns-then-is_nothing-clause-chains g c given =
+    let r = c.nothing_kept.result in
+    none_tight (gate_clauses c.args.extended.now.gates) r.added r.uses.items c.nothing_kept.ensures.added c.nothing_kept.ensures.uses
+
+pub returns-then-is_nothing-clause-earlier : goal.returns-then-is_nothing-clause-earlier
+returns-then-is_nothing-clause-earlier g c = none_earlier c.nothing_kept.result.uses.items c.nothing_kept.ensures.uses
 
 -- ---- all lines
 
@@ -82,8 +93,9 @@ returns-clause-lawful g c =
     begins_with e start body c.in_ok-checker.checker c.gates.result.now c.in_ok-goals.goals c.max-max.result c.in_ok-first.first file (left_for file middle)
     c.in_ok-checker.ensures.taken (sym c.gates.ensures.value) c.in_ok-checker.ensures.max c.max-max.ensures.value c.in_ok-checker.ensures.goals c.in_ok-goals.ensures.sets c.in_ok-first.ensures.lengths c.requires.limit
     c.in_ok-first.ensures.next in
-    subst (λ (cs : List Clause). IfSome body (IsShownWith e start.lines c.args.version cs)) (sym c.into_added.ensures.value)
-    (subst (λ (v : ℕ). IfSome body (IsShownWith e start.lines v c.judge_from.new.checker.added)) c.in_ok-checker.ensures.version (c.in_ok-judge_from.ensures.lawful e start body begins))
+    let count = c.in_ok-lines.lines in
+    subst (λ (cs : List Clause). IfSome body (IsShownWith e start.lines c.args.keeps cs count)) (sym c.into_record.ensures.added)
+    (subst (λ (v : Keeps). IfSome body (IsShownWith e start.lines v c.judge_from.new.checker.added count)) c.in_ok-checker.ensures.keeps (c.in_ok-lines.ensures.lawful e start body begins))
 
 pub returns-clause-columns : goal.returns-clause-columns
 returns-clause-columns g c =
@@ -96,16 +108,27 @@ returns-clause-columns g c =
     begins_with e start body c.in_ok-checker.checker c.gates.result.now c.in_ok-goals.goals c.max-max.result c.in_ok-first.first file (left_for file middle)
     c.in_ok-checker.ensures.taken (sym c.gates.ensures.value) c.in_ok-checker.ensures.max c.max-max.ensures.value c.in_ok-checker.ensures.goals c.in_ok-goals.ensures.sets c.in_ok-first.ensures.lengths c.requires.limit
     c.in_ok-first.ensures.next in
-    c.in_ok-judge_from.ensures.columns e start body begins
+    c.in_ok-lines.ensures.columns e start body begins
 
 pub returns-clause-facts : goal.returns-clause-facts
 returns-clause-facts g c =
     let same = c.judge_from.ensures.gates ∙ c.in_ok-checker.ensures.gates ∙ c.gates.ensures.value in
-    subst (All (IsClauseFact c.args.extended.now.gates)) (sym c.into_added.ensures.value)
-    (subst (λ (gates : List Gate). All (IsClauseFact gates) c.judge_from.new.checker.added) same c.into_added.ensures.facts)
+    subst (All (IsClauseFact c.args.extended.now.gates)) (sym c.into_record.ensures.added)
+    (subst (λ (gates : List Gate). All (IsClauseFact gates) c.judge_from.new.checker.added) same c.into_record.ensures.facts)
 
-pub returns-in_err-judge_from-clause-refused : goal.returns-in_err-judge_from-clause-refused
-returns-in_err-judge_from-clause-refused g c =
+pub returns-clause-chains : goal.returns-clause-chains
+returns-clause-chains g c given =
+    let k = c.judge_from.new.checker in
+    let r = c.into_record.result in
+    let same = c.judge_from.ensures.gates ∙ c.in_ok-checker.ensures.gates ∙ c.gates.ensures.value in
+    tight_moved (gate_clauses k.gates) (gate_clauses c.args.extended.now.gates) k.added r.added k.uses r.uses.items (ap gate_clauses same) (sym c.into_record.ensures.added) (sym c.into_record.ensures.uses)
+    (c.into_record.ensures.chains (c.judge_from.ensures.keeps ∙ c.in_ok-checker.ensures.keeps ∙ given))
+
+pub returns-clause-earlier : goal.returns-clause-earlier
+returns-clause-earlier g c = subst AreEarlier (sym c.into_record.ensures.uses) c.into_record.ensures.earlier
+
+pub returns-in_err-lines-clause-refused : goal.returns-in_err-lines-clause-refused
+returns-in_err-lines-clause-refused g c =
     let e = c.args.extended.now in
     let start = c.args.file.now in
     let first = g.D.Desk.seen c.args.desk.now in
@@ -116,15 +139,15 @@ returns-in_err-judge_from-clause-refused g c =
     begins_with e start body c.in_ok-checker.checker c.gates.result.now c.in_ok-goals.goals c.max-max.result c.in_ok-first.first file (left_for file middle)
     c.in_ok-checker.ensures.taken (sym c.gates.ensures.value) c.in_ok-checker.ensures.max c.max-max.ensures.value c.in_ok-checker.ensures.goals c.in_ok-goals.ensures.sets c.in_ok-first.ensures.lengths c.requires.limit
     c.in_ok-first.ensures.next in
-    let p = err_from_is_err_and c.from_residual-in_err-judge_from.result c.from_residual-in_err-judge_from.ensures.1 in
-    rw (p.1, p.2) (c.in_err-judge_from.ensures.refused e start body begins first c.in_ok-first.ensures.only.later)
+    let p = err_from_is_err_and c.from_residual-in_err-lines.result c.from_residual-in_err-lines.ensures.1 in
+    rw (p.1, p.2) (c.in_err-lines.ensures.refused e start body begins first c.in_ok-first.ensures.only.later)
 
-pub returns-in_err-judge_from-clause-only : goal.returns-in_err-judge_from-clause-only
-returns-in_err-judge_from-clause-only g c =
+pub returns-in_err-lines-clause-only : goal.returns-in_err-lines-clause-only
+returns-in_err-lines-clause-only g c =
     ReadsOnly-trans slot.Clauses (g.D.Desk.seen c.args.desk.now) (g.D.Desk.seen c.read_line.new.desk) (g.D.Desk.seen c.judge_from.new.desk) c.in_ok-first.ensures.only c.judge_from.ensures.only
 
-pub returns-in_err-judge_from-clause-tells : goal.returns-in_err-judge_from-clause-tells
-returns-in_err-judge_from-clause-tells g c =
+pub returns-in_err-lines-clause-tells : goal.returns-in_err-lines-clause-tells
+returns-in_err-lines-clause-tells g c =
     KeepsTelling-trans (g.D.Desk.seen c.args.desk.now) (g.D.Desk.seen c.read_line.new.desk) (g.D.Desk.seen c.judge_from.new.desk) c.in_ok-first.ensures.tells c.judge_from.ensures.tells
 
 pub returns-clause-only : goal.returns-clause-only

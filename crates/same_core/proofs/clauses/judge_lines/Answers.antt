@@ -1,6 +1,6 @@
 use Rattle.std.proofs.Common.{◌+◌, ◌≤◌, ◌<◌, ◌^◌, ℕ, List, length, sym, subst, arith}
 use Rattle.std.specs.List.{All}
-use Rattle.std.proofs.lemmas.Result.{IfErr-weaker, err_from_is_err_and, on_ok_weaker}
+use Rattle.std.proofs.lemmas.Result.{err_from_is_err_and}
 use Rattle.graph_core.specs.declared.gate.Gate.{Gate}
 use Rattle.graph_core.specs.declared.literal.Lit.{Lit}
 use Rattle.mv_desk.specs.declared.slot.Slot.TheVariants as slot
@@ -10,7 +10,7 @@ use Rattle.clause_core.specs.GateClauses.{gate_clauses}
 use Rattle.clause_core.specs.Likeness.{AreSameSets}
 use Rattle.miter_encoder.specs.ColumnGoals.{AreGoalsOfColumns, columns_from}
 use Rattle.miter_encoder.proofs.GateRanges.{within_range}
-use Rattle.clause_judge.specs.ClauseBody.{IsFailFrom, IsRestFail, IsShownBody, IsShownWith}
+use Rattle.clause_judge.specs.ClauseBody.{IsShownBody, IsShownWith}
 use Rattle.clause_judge.specs.ClauseLines.{IsTextFail, left_for}
 use Rattle.clause_judge.proofs.ClauseTurns.{begins_with, first_fails}
 use Rattle.clause_judge.proofs.Told.{told_more}
@@ -80,10 +80,8 @@ returns-clause-lawful g c =
     begins_with e start body c.in_ok-checker.checker c.gates-merged_gates.result.now c.in_ok-goals.goals c.max-greatest.result c.in_ok-first.first file (left_for file middle)
     c.in_ok-checker.ensures.taken (sym c.gates-merged_gates.ensures) c.in_ok-checker.ensures.max c.max-greatest.ensures c.in_ok-checker.ensures.goals shown_goals c.in_ok-first.ensures.lengths c.requires.limit
     c.in_ok-first.ensures.next in
-    let imports = c.judge_from.new.checker.added in
-    on_ok_weaker c.judge_from.result (λ shown.
-    told_more body (IsShownWith e start.lines c.in_ok-checker.checker.version imports) (IsShownBody e start.lines) (λ bytes there. (there.0, there.1, there.2)) (shown e start body begins))
-    c.judge_from.ensures.lawful
+    told_more body (IsShownWith e start.lines c.in_ok-checker.checker.keeps c.judge_from.new.checker.added c.in_ok-judge_from.field-0) (IsShownBody e start.lines) (λ bytes there. (there.0, there.1, there.2))
+    (c.in_ok-judge_from.ensures.lawful e start body begins)
 
 pub returns-clause-agree : goal.returns-clause-agree
 returns-clause-agree g c =
@@ -97,15 +95,14 @@ returns-clause-agree g c =
     begins_with e start body c.in_ok-checker.checker c.gates-merged_gates.result.now c.in_ok-goals.goals c.max-greatest.result c.in_ok-first.first file (left_for file middle)
     c.in_ok-checker.ensures.taken (sym c.gates-merged_gates.ensures) c.in_ok-checker.ensures.max c.max-greatest.ensures c.in_ok-checker.ensures.goals shown_goals c.in_ok-first.ensures.lengths c.requires.limit
     c.in_ok-first.ensures.next in
-    on_ok_weaker c.judge_from.result (λ joins. joins e start body begins) c.judge_from.ensures.columns
+    c.in_ok-judge_from.ensures.columns e start body begins
 
-pub returns-clause-refused : goal.returns-clause-refused
-returns-clause-refused g c =
+pub returns-in_err-judge_from-clause-refused : goal.returns-in_err-judge_from-clause-refused
+returns-in_err-judge_from-clause-refused g c =
     let e = over c.args.merged.now in
     let start = c.args.file.now in
     let first = g.D.Desk.seen c.args.desk.now in
     let middle = g.D.Desk.seen c.read_line.new.desk in
-    let now = g.D.Desk.seen c.judge_from.new.desk in
     let file = c.read_line.new.file in
     let body = left_for start first in
     let shown_goals = subst (λ (pairs : List (Lit × Lit)). AreGoalsOfColumns (columns_from 0 pairs) c.in_ok-goals.goals) c.pairs.ensures c.in_ok-goals.ensures.sets in
@@ -113,8 +110,8 @@ returns-clause-refused g c =
     begins_with e start body c.in_ok-checker.checker c.gates-merged_gates.result.now c.in_ok-goals.goals c.max-greatest.result c.in_ok-first.first file (left_for file middle)
     c.in_ok-checker.ensures.taken (sym c.gates-merged_gates.ensures) c.in_ok-checker.ensures.max c.max-greatest.ensures c.in_ok-checker.ensures.goals shown_goals c.in_ok-first.ensures.lengths c.requires.limit
     c.in_ok-first.ensures.next in
-    IfErr-weaker c.judge_from.result (IsFailFrom c.in_ok-checker.checker c.in_ok-first.first file (left_for file middle) middle now) (IsRestFail (start.number + 1) e start.lines body first now)
-    (λ answer fails. fails e start body begins first c.in_ok-first.ensures.only.later) c.judge_from.ensures.refused
+    let p = err_from_is_err_and c.from_residual-in_err-judge_from.result c.from_residual-in_err-judge_from.ensures.1 in
+    rw (p.1, p.2) (c.in_err-judge_from.ensures.refused e start body begins first c.in_ok-first.ensures.only.later)
 
 pub returns-clause-only : goal.returns-clause-only
 returns-clause-only g c =
@@ -122,4 +119,12 @@ returns-clause-only g c =
 
 pub returns-clause-tells : goal.returns-clause-tells
 returns-clause-tells g c =
+    KeepsTelling-trans (g.D.Desk.seen c.args.desk.now) (g.D.Desk.seen c.read_line.new.desk) (g.D.Desk.seen c.judge_from.new.desk) c.in_ok-first.ensures.tells c.judge_from.ensures.tells
+
+pub returns-in_err-judge_from-clause-only : goal.returns-in_err-judge_from-clause-only
+returns-in_err-judge_from-clause-only g c =
+    ReadsOnly-trans slot.Clauses (g.D.Desk.seen c.args.desk.now) (g.D.Desk.seen c.read_line.new.desk) (g.D.Desk.seen c.judge_from.new.desk) c.in_ok-first.ensures.only c.judge_from.ensures.only
+
+pub returns-in_err-judge_from-clause-tells : goal.returns-in_err-judge_from-clause-tells
+returns-in_err-judge_from-clause-tells g c =
     KeepsTelling-trans (g.D.Desk.seen c.args.desk.now) (g.D.Desk.seen c.read_line.new.desk) (g.D.Desk.seen c.judge_from.new.desk) c.in_ok-first.ensures.tells c.judge_from.ensures.tells

@@ -1,4 +1,5 @@
-use Rattle.std.proofs.Common.{◌<◌, ℕ, length, ap, sym, subst, ◌∙◌, arith}
+use Rattle.std.proofs.Common.{◌≡◌, ◌<◌, ℕ, length, ap, sym, subst, ◌∙◌, arith}
+use Rattle.std.proofs.lemmas.List.{get_or_default}
 use Rattle.clause_core.specs.Clause.{IsClauseInRange}
 use Rattle.drup_checker.specs.Checking.{Held}
 use Rattle.drup_checker.proofs.Stores.{renew_none, renew_some}
@@ -7,13 +8,16 @@ use Rattle.drup_checker.proofs.store.Store.renewed.Goals as goal
 
 pub append-requires : goal.append-requires
 append-requires c =
-    subst (λ (m : ℕ). IsClauseInRange m c.in-Some.clause.now) (sym (ap (λ (h : Held). h.max) c.loop-place.invariant ∙ (sym (ap (λ (h : Held). h.max) c.self.view_is) ∙ c.self.invariant.greatest)))
-    (c.self.invariant.kept c.loop-place.place c.in-Some.clause.now c.in-Some.ensures).1
+    subst (λ (m : ℕ). IsClauseInRange m c.in-Some.clause.now) (sym (ap (λ (h : Held). h.max) c.loop-place.invariant ∙ (sym (ap (λ (h : Held). h.max) c.self.view_is) ∙ c.self.invariant.store.greatest)))
+    (c.self.invariant.store.kept c.loop-place.place c.in-Some.clause.now c.in-Some.ensures).1
 
 pub loop-place-preserved : goal.loop-place-preserved
 loop-place-preserved c =
-    let below : c.loop-place.place < length c.self.inside.propagator.clauses = omega (arith, c.self.invariant.indexed.places, c.len-place-end.ensures, c.self.inside.next.ok) in
+    let below : c.loop-place.place < length c.self.inside.propagator.clauses = omega (arith, c.self.invariant.store.indexed.places, c.len-place-end.ensures, c.self.inside.next.ok) in
+    let even : length c.self.inside.numbers.items ≡ length c.self.inside.propagator.clauses = c.self.invariant.counted ∙ c.self.invariant.store.indexed.places in
+    let room : c.loop-place.place < length c.self.inside.numbers.items = omega arith in
     elim c.match-get.branch [
-      | in-Some+in_ok-append-in-Some w ↦ rw w.new-is (renew_some c.self.inside.propagator c.args.self.now c.loop-place.new w.append.new.self c.loop-place.place w.in-Some.clause.now below w.in-Some.ensures c.loop-place.invariant w.in_ok-append-in-Some.ensures.ok)
-      | in-None w ↦ rw w.new-is (renew_none c.self.inside.propagator c.args.self.now c.loop-place.new c.loop-place.place below w.in-None.ensures c.loop-place.invariant)
+      | in-Some+in_ok-append-in-Some w ↦ rw w.new-is (renew_some c.self.inside.propagator c.self.inside.numbers.items c.args.self.now c.loop-place.new w.append.new.self c.loop-place.place w.index.result.now w.in-Some.clause.now even below w.in-Some.ensures
+          (sym (w.index.ensures ∙ sym (get_or_default c.self.inside.numbers.items c.loop-place.place 0 w.index.result.now room))) c.loop-place.invariant w.in_ok-append-in-Some.ensures.ok)
+      | in-None w ↦ rw w.new-is (renew_none c.self.inside.propagator c.self.inside.numbers.items c.args.self.now c.loop-place.new c.loop-place.place even below w.in-None.ensures c.loop-place.invariant)
     ]

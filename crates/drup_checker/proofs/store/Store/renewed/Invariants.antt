@@ -1,6 +1,6 @@
-use Rattle.std.proofs.Common.{◌≡◌, take}
-use Rattle.unit_prop.specs.Standing.{live_of}
+use Rattle.std.proofs.Common.{◌≡◌}
+use Rattle.drup_checker.proofs.Stores.{held_first}
 use Rattle.drup_checker.proofs.store.Store.renewed.Given as goal
 
 abbrev pub invariant-loop-place : goal.invariant-loop-place
-invariant-loop-place l = l.new ≡ record { max = l.self.max; live = live_of (take l.place l.self-inside.propagator.clauses) }
+invariant-loop-place l = l.new ≡ held_first l.self-inside.propagator l.self-inside.numbers.items l.self.max l.place

@@ -18,15 +18,18 @@ invariant_of-self c =
     let ns = c.deref_mut-in-Some.ensures.value in
     let heads_len : length c.unlink.new.heads ≡ length i.heads.items = c.unlink.ensures.heads ∙ ap length hs in
     let next_len : length c.unlink.new.next ≡ length i.next.items = c.unlink.ensures.places ∙ ap length ns in
-    let store = store_fewer i.max i.propagator c.remove.new.self i.heads.items i.next.items c.self.invariant r has.0 has.1 c.remove.ensures c.unlink.new.heads c.unlink.new.next heads_len next_len
+    let store = store_fewer i.max i.propagator c.remove.new.self i.heads.items i.next.items c.self.invariant.store r has.0 has.1 c.remove.ensures c.unlink.new.heads c.unlink.new.next heads_len next_len
     (subst (λ (xs : List ℕ). (k : ℕ) → slice_index xs k ≤ length i.next.items → slice_index c.unlink.new.heads k ≤ length c.unlink.new.next) hs
     (subst (λ (ys : List ℕ). (k : ℕ) → slice_index c.deref_mut.result.now k ≤ length ys → slice_index c.unlink.new.heads k ≤ length c.unlink.new.next) ns c.unlink.ensures.first))
     c.unlink.ensures.falls
     (subst (λ (p : ℕ). (k q : ℕ) → q ≢ p → Leads i.next.items (slice_index i.heads.items k) q → Leads c.unlink.new.next (slice_index c.unlink.new.heads k) q) c.place.ensures
     (subst (λ (xs : List ℕ). (k q : ℕ) → q ≢ c.place.result → Leads i.next.items (slice_index xs k) q → Leads c.unlink.new.next (slice_index c.unlink.new.heads k) q) hs
     (subst (λ (ys : List ℕ). (k q : ℕ) → q ≢ c.place.result → Leads ys (slice_index c.deref_mut.result.now k) q → Leads c.unlink.new.next (slice_index c.unlink.new.heads k) q) ns c.unlink.ensures.others))) in
-    subst (λ (xs : List ℕ). IsStore i.max c.remove.new.self xs (take i.next.len (c.unlink.new.next ++ drop (length c.unlink.new.next) i.next.items))) (sym (written i.heads.len c.unlink.new.heads i.heads.items (omega (arith, i.heads.ok)) heads_len))
-    (subst (λ (ys : List ℕ). IsStore i.max c.remove.new.self c.unlink.new.heads ys) (sym (written i.next.len c.unlink.new.next i.next.items (omega (arith, i.next.ok)) next_len)) store)
+    record {
+      counted = c.self.invariant.counted ∙ sym (ap length (written i.next.len c.unlink.new.next i.next.items (omega (arith, i.next.ok)) next_len) ∙ next_len);
+      store = subst (λ (xs : List ℕ). IsStore i.max c.remove.new.self xs (take i.next.len (c.unlink.new.next ++ drop (length c.unlink.new.next) i.next.items))) (sym (written i.heads.len c.unlink.new.heads i.heads.items (omega (arith, i.heads.ok)) heads_len))
+          (subst (λ (ys : List ℕ). IsStore i.max c.remove.new.self c.unlink.new.heads ys) (sym (written i.next.len c.unlink.new.next i.next.items (omega (arith, i.next.ok)) next_len)) store);
+    }
 
 pub returns-in-None-clause-none : goal.returns-in-None-clause-none
 returns-in-None-clause-none c e =
@@ -39,9 +42,9 @@ returns-in-None-clause-none c e =
     let none = subst (λ (xs : List ℕ). (r : ℕ) → HasSetAt i.propagator.clauses c.args.clause.now r → Leads xs c.index.result.now r → ⊥) c.deref.ensures.value (c.in-None.ensures.none refl) in (
       refl,
       subst (λ (h : Held). Any (λ d. SameSet d c.args.clause.now) h.live → ⊥) c.self.view_is
-          (nowhere i.max i.propagator i.heads.items i.next.items c.self.invariant c.args.clause.now c.lits-lits.ensures.clause chain c.index.result.now its begins none),
+          (nowhere i.max i.propagator i.heads.items i.next.items c.self.invariant.store c.args.clause.now c.lits-lits.ensures.clause chain c.index.result.now its begins none),
     )
 
 pub returns-in-Some-clause-some : goal.returns-in-Some-clause-some
 returns-in-Some-clause-some c t =
-    held_fewer c.self.inside.propagator c.remove.new.self c.args.self.now c.self.view_is c.args.clause.now c.in-Some.reference c.in-Some.ensures.some.1 c.remove.ensures
+    held_fewer c.self.inside.propagator c.remove.new.self c.self.inside.numbers.items c.args.self.now c.self.view_is (c.self.invariant.counted ∙ c.self.invariant.store.indexed.places) c.args.clause.now c.in-Some.reference c.in-Some.ensures.some.1 c.remove.ensures

@@ -1,15 +1,12 @@
-use Rattle.std.proofs.lemmas.Result.{IfErr-weaker, on_ok_weaker}
-use Rattle.pac_checker.specs.Faults.{IsClosingFault}
-use Rattle.pac_checker.proofs.Closing.{closes_grown, fault_grown, vanishes_grown}
+use Rattle.std.proofs.lemmas.Result.{on_ok_weaker}
+use Rattle.pac_checker.proofs.Recordings.{keeps_grown, record_closes, seen_grows}
 use Rattle.pac_checker.proofs.checker.PacChecker.close.Goals as goal
 
-pub returns-clause-closes : goal.returns-clause-closes
-returns-clause-closes c = on_ok_weaker c.compare.result (closes_grown c.args.self.now c.specification.new.self c.specification.ensures.grows c.args.id) c.compare.ensures.closes
+pub invariant_of-self : goal.invariant_of-self
+invariant_of-self c = keeps_grown c.self.inside.judge c.close.new.self c.self.inside.records c.self.inside.recorded.items c.close.ensures.unchanged c.self.invariant
 
-pub returns-clause-vanishes : goal.returns-clause-vanishes
-returns-clause-vanishes c = on_ok_weaker c.compare.result (vanishes_grown c.args.self.now c.specification.new.self c.specification.ensures.grows) c.compare.ensures.vanishes
+pub returns-clause-recorded : goal.returns-clause-recorded
+returns-clause-recorded c = rw (← c.self.view_is) (λ on. on_ok_weaker c.close.result (record_closes c.self.inside.judge c.self.inside.records c.self.inside.recorded.items c.args.id on c.self.invariant) c.close.ensures.closes)
 
-pub returns-clause-refused : goal.returns-clause-refused
-returns-clause-refused c =
-    IfErr-weaker c.compare.result (IsClosingFault c.specification.new.self c.args.id) (IsClosingFault c.args.self.now c.args.id)
-    (fault_grown c.args.self.now c.specification.new.self c.specification.ensures.grows c.args.id) c.compare.ensures.refused
+pub returns-clause-unchanged : goal.returns-clause-unchanged
+returns-clause-unchanged c = rw (← c.self.view_is) (seen_grows c.self.inside.judge c.close.new.self c.self.inside.records c.self.inside.recorded.items c.close.ensures.unchanged c.self.invariant)

@@ -1,0 +1,48 @@
+-- How a tight chain is found from the reasons of what stands, from the last literal down. Private clauses alone cite it.
+use Rattle.std.specs.Prelude.{◌≡◌, ◌≢◌, ◌⊎◌, ◌<◌, ℕ, suc, Bool, true, false, List, [], map, length, take, reverse, ℤ, neg_ℤ, slice_index_or, IsSome}
+use Rattle.std.specs.declared.option.Option.{Option}
+use Rattle.std.specs.declared.option.Option.TheVariants.{None, Some}
+use Rattle.std.specs.List.{All, Any, Contains}
+use Rattle.clause_core.specs.Clause.{Clause, IsSubset}
+use Rattle.trim_core.specs.TightChains.{IsTight, IsTightChain}
+use Rattle.unit_prop.specs.Standing.{Standing, at, clause_at}
+use Rattle.unit_prop.specs.Trail.{variable}
+
+-- the clause of a place, if it is live
+abbrev pub clause_in : Option Clause → Clause
+clause_in None = []
+clause_in (Some c) = c
+
+abbrev pub clauses_at : List (Option Clause) → List ℕ → List Clause
+clauses_at clauses places = map (λ r. clause_in (clause_at clauses r)) places
+
+-- a variable was marked
+abbrev pub IsSeen : List Bool → ℕ → Type 0
+IsSeen seen v = slice_index_or seen v false ≡ true
+
+-- The variables of some literals are marked beside those that were.
+pub record Marks (lits : List ℤ) (old new : List Bool) : Type 0 where
+  pub places : length new ≡ length old
+  pub now : (k : ℤ) → Contains lits k → IsSeen new (variable k)
+  pub still : (v : ℕ) → IsSeen old v → IsSeen new v
+  pub only : (v : ℕ) → IsSeen new v → IsSeen old v ⊎ ((k : ℤ) × Contains lits k × (variable k ≡ v))
+
+-- Each literal of the clause is false by the first literals that stand; or it is false by what is opposed, and none of these is of its variable.
+abbrev pub IsOpposedBefore : Standing → ℕ → List ℤ → Clause → Type 0
+IsOpposedBefore s n opposed c = (k : ℤ) → Contains c k → Contains (take n s.trail.literals) (neg_ℤ k) ⊎
+    (Contains opposed (neg_ℤ k) × ((j : ℕ) → j < n → variable (at s.trail.literals j) ≢ variable k))
+
+-- Whatever has what is opposed and the marked ones of the first n literals is refuted by a tight chain, that of the places from the last one
+-- on; and it needs each of them.
+pub record IsReached (s : Standing) (opposed : List ℤ) (seen : List Bool) (places : List ℕ) (n : ℕ) : Type 0 where
+  pub size : length seen ≡ suc s.trail.greatest
+  pub live : All (λ r. IsSome (clause_at s.clauses r)) (reverse places)
+  pub tight : (acc : List ℤ) → IsSubset opposed acc → ((j : ℕ) → j < n → IsSeen seen (variable (at s.trail.literals j)) → Contains acc (at s.trail.literals j)) →
+      IsTight acc (clauses_at s.clauses (reverse places))
+  pub needed : (j : ℕ) → j < n → j < length s.trail.literals → IsSeen seen (variable (at s.trail.literals j)) →
+      Any (λ e. Contains e (neg_ℤ (at s.trail.literals j))) (clauses_at s.clauses (reverse places))
+
+-- live clauses that are a tight chain for a clause
+pub record AreTightAt (clauses : List (Option Clause)) (c : Clause) (places : List ℕ) : Type 0 where
+  pub live : All (λ r. IsSome (clause_at clauses r)) places
+  pub tight : IsTightChain c (clauses_at clauses places)

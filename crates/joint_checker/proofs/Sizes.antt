@@ -1,0 +1,16 @@
+-- How many outputs graphs of multipliers have, and that the graph with a header's blocks is of that graph.
+use Rattle.std.proofs.Common.{◌≡◌, refl, ◌≤◌, Bool, true, false, length, arith}
+use Rattle.graph_core.specs.Aiger.Soundness.{IsSizedAs}
+use Rattle.graph_core.specs.Graph.Operands.{profile_of}
+use Rattle.graph_core.specs.Graph.{Aig}
+use Rattle.drup_text.specs.Headers.{IsHeaderOf, extended_with}
+use Rattle.drup_text.specs.declared.head.Header.{Header}
+use Rattle.ripple_graft.proofs.GraftedGraphs.{grafted_graph}
+use Rattle.joint_checker.proofs.Joined.{blocks_fit}
+
+pub outputs_of : (add : Bool) (g : Aig) → IsSizedAs (profile_of add) g → (1 ≤ length g.outputs) × (length g.outputs ≤ 128)
+outputs_of false g sized = (sized.shape.some_outputs, (let narrow = sized.narrow in let few = sized.shape.outputs in omega arith))
+outputs_of true g sized = (sized.shape.some_outputs, (let narrow = sized.narrow in let few = sized.shape.outputs in omega arith))
+
+pub extended_graph : (g : Aig) (h : Header) → IsHeaderOf g h → (extended_with g h).graph ≡ g
+extended_graph g h takes = grafted_graph g (extended_with g h) (record { blocks = h.blocks; fit = blocks_fit g h takes; is = refl })

@@ -1,0 +1,64 @@
+-- What is recorded of a pair of certificates that was judged and accepted.
+use Rattle.std.specs.Prelude.{◌≡◌, true, [], IfSome}
+use Rattle.std.specs.List.{All}
+use Rattle.aiger_reader.specs.Refusals.{SpellsWithin}
+use Rattle.graph_core.specs.Algebra.{AreLawful, Premises, modulus}
+use Rattle.graph_core.specs.Algebra.Text.{IsId}
+use Rattle.graph_core.specs.Aiger.Soundness.{IsSizedAs}
+use Rattle.graph_core.specs.Graph.{IsBuilt}
+use Rattle.graph_core.specs.Graph.Extended.{Extended}
+use Rattle.graph_core.specs.Graph.Operands.{Does, Sides, profile_of, sides_for}
+use Rattle.graph_core.specs.declared.claim.Claim.{Claim}
+use Rattle.clause_core.specs.GateClauses.{gate_clauses}
+use Rattle.drup_text.specs.Headers.{IsHeaderOf, extended_with}
+use Rattle.mv_desk.specs.declared.limits.Limits.{Limits}
+use Rattle.mv_text.specs.LineReading.{lengths_of}
+use Rattle.pac_checker.specs.Checking.{IsRecordable}
+use Rattle.poly_terms.specs.Tables as table
+use Rattle.poly_text.specs.Lines.{AreOf}
+use Rattle.poly_text.specs.Recorded.{AreMadeOfEarlier, AreRising, HasNewId, ids_in, lines_in}
+use Rattle.trim_core.specs.KeptClauses.{AreEarlier, HaveTightChains}
+use Rattle.joint_checker.specs.ClauseFiles.{AddsClauses, imported, premises}
+use Rattle.joint_checker.specs.Files.{Texts}
+use Rattle.joint_checker.specs.Records.{IsRecordOf}
+use Rattle.joint_checker.specs.declared.algebra_file.Closed.{Closed}
+use Rattle.joint_checker.specs.declared.checking.Judged.{Judged}
+
+-- the graph with the blocks of the header, and the premises that the clause file gives
+abbrev pub extended_of : Judged → Extended
+extended_of j = extended_with j.graph j.header
+
+abbrev pub premises_for : Judged → Premises
+premises_for j = premises j.header.version (extended_of j) (imported j.header.version j.recorded.added)
+
+-- Each added clause has a tight chain.
+pub record HasChains (j : Judged) : Type 0 where
+  pub chains : HaveTightChains (gate_clauses (extended_of j).gates) [] j.recorded.added j.recorded.uses.items
+  pub earlier : AreEarlier j.recorded.uses.items
+
+-- The recorded lines are lawful over these premises, and close. Each introduces an id, is made of earlier ones, and can be written.
+pub record IsLawfulRecord (p : Premises) (sides : Sides) (c : Closed) : Type 0 where
+  pub lawful : AreLawful p sides (lines_in c.record.terms c.record.lines.items) c.id
+  pub closing : IsId c.id
+  pub modulus_is : table.modulus c.record.terms ≡ modulus p.extended
+  pub of_table : All (AreOf c.record.terms) c.record.lines.items
+  pub recordable : All (IsRecordable p.extended.max c.record.terms) c.record.lines.items
+  pub new_ids : All HasNewId c.record.lines.items
+  pub rising : AreRising (ids_in c.record.lines.items)
+  pub earlier : AreMadeOfEarlier c.record.lines.items
+
+-- What was judged, whether or not files are told.
+pub record IsJudgedPair (claim : Claim) (j : Judged) : Type 0 where
+  pub sized : IsSizedAs (profile_of claim.add) j.graph
+  pub built : IsBuilt j.graph
+  pub does : Does claim j.graph
+  pub takes : IsHeaderOf j.graph j.header
+  pub clauses : HasChains j
+  pub lines : IsLawfulRecord (premises_for j) (sides_for claim j.graph) j.closed
+
+-- It is what the files have, as far as they are told.
+pub record IsToldPair (limits : Limits) (claim : Claim) (texts : Texts) (j : Judged) : Type 0 where
+  pub graph : IfSome texts.graph (λ bytes. SpellsWithin (profile_of claim.add) limits.graph bytes j.graph)
+  pub clauses : IfSome texts.clauses (λ bytes. AddsClauses (lengths_of limits) j.graph bytes j.header j.recorded.added j.of_clauses)
+  pub algebra : IfSome texts.algebra (λ bytes. IsRecordOf true j.header.version (modulus (extended_of j)) bytes
+      (lines_in j.closed.record.terms j.closed.record.lines.items) j.closed.id j.closed.lines)

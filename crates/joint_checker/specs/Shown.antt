@@ -1,0 +1,23 @@
+-- What a clause file that was read gives, and what is kept of the clauses that it adds.
+use Rattle.std.specs.Prelude.{◌≡◌, ◌==◌, ℕ, Bool, true, false, if◌then◌else◌}
+use Rattle.graph_core.specs.Algebra.{Premises}
+use Rattle.graph_core.specs.Graph.{Aig}
+use Rattle.drup_checker.specs.declared.keeps.Keeps.{Keeps}
+use Rattle.drup_checker.specs.declared.keeps.Keeps.TheVariants as keep
+use Rattle.drup_text.specs.Headers.{IsHeaderOf, extended_with}
+use Rattle.joint_checker.specs.declared.clause_file.Shown.{Shown}
+use Rattle.joint_checker.specs.ClauseFiles.{imported, premises}
+
+-- the premises that it gives
+abbrev pub premises_of : Shown → Premises
+premises_of s = premises s.header.version s.extended (imported s.header.version s.recorded.added)
+
+-- The graph takes its header, and with the header's blocks it is the extended graph.
+pub record IsShownOf (g : Aig) (s : Shown) : Type 0 where
+  pub takes : IsHeaderOf g s.header
+  pub extended : s.extended ≡ extended_with g s.header
+
+-- what is kept: with the chains each clause, else those that may be imported
+abbrev pub keeps_of : Bool → ℕ → Keeps
+keeps_of true version = keep.Chains
+keeps_of false version = if version == 2 then keep.Clauses else keep.Nothing

@@ -1,6 +1,0 @@
-use Rattle.std.proofs.Common.{◌≡◌, take}
-use Rattle.pac_checker.specs.Rules.{lent}
-use Rattle.pac_checker.proofs.checker.lend.Given as goal
-
-abbrev pub invariant-loop-id : goal.invariant-loop-id
-invariant-loop-id l = lent l.out.items ≡ take l.id-index l.parts

@@ -1,0 +1,5 @@
+pub mod Parts
+pub mod Choices
+pub mod NewPair
+pub mod Trims
+pub mod HeldPairs

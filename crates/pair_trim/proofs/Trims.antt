@@ -1,0 +1,60 @@
+-- What `trim` answers, of an accepted pair and of what is chosen of it.
+use Rattle.std.proofs.Common.{List, ℕ, None, Some, refl, sym, subst, ◌∙◌}
+use Rattle.std.specs.Prelude.{IfSome, true}
+use Rattle.std.specs.declared.option.Option.{Option}
+use Rattle.graph_core.specs.Algebra.{modulus}
+use Rattle.graph_core.specs.declared.claim.Claim.{Claim}
+use Rattle.drup_text.specs.Headers.{extended_with}
+use Rattle.drup_text.specs.declared.head.Header.{Header}
+use Rattle.mv_desk.specs.declared.limits.Limits.{Limits}
+use Rattle.mv_text.specs.LineReading.{lengths_of}
+use Rattle.poly_terms.specs.Tables.{Table}
+use Rattle.poly_text.specs.Recorded.{lines_in}
+use Rattle.joint_checker.specs.ClauseFiles.{AddsClauses, HasLawfulLines}
+use Rattle.joint_checker.specs.Files.{Texts}
+use Rattle.joint_checker.specs.Judged.{IsJudgedPair, IsToldPair, extended_of}
+use Rattle.joint_checker.specs.Records.{IsRecordOf}
+use Rattle.joint_checker.specs.declared.checking.Judged.{Judged}
+use Rattle.pair_trim.specs.Choosing.{HasChosen, IsChosen}
+use Rattle.pair_trim.specs.NewPairs.{IsTrimOf, algebra_text, clauses_text}
+use Rattle.pair_trim.specs.declared.answer.Trimmed.{Trimmed}
+use Rattle.pair_trim.proofs.NewPair.{clauses_kept, lines_trimmed, pair}
+
+module _ (limits : Limits) (claim : Claim) (j : Judged) (t : Trimmed) (judged : IsJudgedPair claim j) (chosen : IsChosen j t) where
+  trim_is : (clauses algebra : List ℕ) → AddsClauses (lengths_of limits) j.graph clauses j.header j.recorded.added j.of_clauses →
+      IsRecordOf true j.header.version (modulus (extended_of j)) algebra (lines_in j.closed.record.terms j.closed.record.lines.items) j.closed.id j.closed.lines →
+      IsTrimOf (lengths_of limits) j.graph claim clauses algebra t (clauses_text t) (algebra_text t)
+  trim_is clauses algebra adds recorded = record {
+    clause_lines = adds.lines;
+    clause_file = subst (λ (h : Header). HasLawfulLines (lengths_of limits) j.graph clauses h adds.lines) (sym chosen.header) adds.lawful;
+    of_clauses = chosen.of_clauses ∙ adds.count_is;
+    recorded = j.closed.record.lines.items;
+    algebra_file = record_is;
+    old = j.recorded.added;
+    same = adds.same;
+    clauses_kept = clauses_kept claim j t judged chosen;
+    lines_kept = lines_trimmed claim j t judged chosen;
+    to_clauses_is = refl;
+    to_algebra_is = refl;
+    pair = pair claim j t judged chosen (lengths_of limits) clauses adds;
+  }
+    where
+      record_is : IsRecordOf true t.header.version (modulus (extended_with j.graph t.header)) algebra (lines_in t.terms j.closed.record.lines.items) t.closing t.of_algebra
+      record_is =
+          subst (λ (h : Header). IsRecordOf true h.version (modulus (extended_with j.graph h)) algebra (lines_in t.terms j.closed.record.lines.items) t.closing t.of_algebra) (sym chosen.header)
+          (subst (λ (s : Table). IsRecordOf true j.header.version (modulus (extended_of j)) algebra (lines_in s j.closed.record.lines.items) t.closing t.of_algebra) (sym chosen.terms)
+          (subst (λ (n : ℕ). IsRecordOf true j.header.version (modulus (extended_of j)) algebra (lines_in j.closed.record.terms j.closed.record.lines.items) n t.of_algebra) (sym chosen.closing)
+          (subst (IsRecordOf true j.header.version (modulus (extended_of j)) algebra (lines_in j.closed.record.terms j.closed.record.lines.items) j.closed.id) (sym chosen.of_algebra) recorded)))
+
+  -- both files where they are told
+  both_told : (one other : Option (List ℕ)) (P Q : List ℕ → Type 0) (R : List ℕ → List ℕ → Type 0) → ((x y : List ℕ) → P x → Q y → R x y) → IfSome one P → IfSome other Q → IfSome one (λ x. IfSome other (R x))
+  both_told None other P Q R f p q = tt
+  both_told (Some x) None P Q R f p q = tt
+  both_told (Some x) (Some y) P Q R f p q = f x y p q
+
+  pub has_chosen : (texts : Texts) → IsToldPair limits claim texts j → HasChosen limits claim texts t
+  has_chosen texts told = (
+    j.graph,
+    told.graph,
+    (judged.does, both_told texts.clauses texts.algebra _ _ (λ clauses algebra. IsTrimOf (lengths_of limits) j.graph claim clauses algebra t (clauses_text t) (algebra_text t)) trim_is told.clauses told.algebra),
+  )

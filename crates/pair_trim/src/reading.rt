@@ -1,0 +1,45 @@
+// The three files, and what is used of them.
+ghost use Rattle.std.specs.Prelude.{◌≡◌, ◌≢◌, IfErr, IfOk, OnOk};
+ghost use Rattle.graph_core.specs.Graph.Operands.{profile_of};
+ghost use Rattle.mv_desk.specs.View.{KeepsTelling, OpensFiles};
+ghost use Rattle.joint_checker.specs.Files.{files_of, texts_of};
+ghost use Rattle.joint_checker.specs.Outcome.{IsOutcome, OpensFor, OpensNeeded};
+ghost use Rattle.pair_trim.specs.Choosing.{CanBeWritten, HasChosen};
+ghost use Rattle.pair_trim.specs.Trimming.{ReadsOld};
+ghost use Rattle.pair_trim.specs.Trimming as trimming;
+
+use crate::answer::Trimmed;
+use crate::choosing::choose;
+use graph_core::Claim;
+use joint_checker::{Checked, judge_pair};
+use mv_desk::{Desk, Limits, Names};
+use std::alloc::Global;
+
+/// What is used of an accepted pair; else what `check` says of it. Want of memory comes at any time.
+pub(crate) fn read_trimmed<D: Desk>(
+    alloc: Global,
+    desk: &mut D,
+    claim: Claim,
+    limits: &Limits,
+    names: &Names<'_>,
+) -> Result<Trimmed, Checked>
+    ensures trims { IfOk result (HasChosen limits.now claim (texts_of (D.seen desk.old) (files_of names.now))) }
+    ensures writes { IfOk result CanBeWritten }
+    ensures accepted { OnOk result (IsOutcome limits.now claim (files_of names.now)
+        (D.seen desk.old) (D.seen desk.new) Checked.Accepted) }
+    ensures refused { IfErr result (IsOutcome limits.now claim (files_of names.now)
+        (D.seen desk.old) (D.seen desk.new)) }
+    ensures not_accepted { IfErr result (λ answer. answer ≢ Checked.Accepted) }
+    ensures opens { IfErr result (λ answer. answer ≢ Checked.Memory → OpensNeeded (profile_of claim.add) limits.now
+        (texts_of (D.seen desk.old) (files_of names.now)) (D.seen desk.old) (D.seen desk.new) answer) }
+    ensures opened_all { OnOk result (OpensFiles 3 (D.seen desk.old) (D.seen desk.new)) }
+    ensures opened { IfErr result (λ answer. OpensFor answer (D.seen desk.old) (D.seen desk.new)) }
+    ensures reads { ReadsOld (trimming.files_of names.now) (D.seen desk.old) (D.seen desk.new) }
+    ensures tells { KeepsTelling (D.seen desk.old) (D.seen desk.new) }
+{
+    let judged = judge_pair(alloc, desk, claim, limits, names, true)?;
+    match choose(alloc, claim, judged) {
+        Ok(kept) => Ok(kept),
+        Err(memory) => Err(Checked::from(memory)),
+    }
+}

@@ -1,0 +1,47 @@
+// `trim`: a pair is read and judged, and what is used of it is written.
+ghost use Rattle.std.specs.Prelude.{◌≡◌, ◌≤◌};
+ghost use Rattle.mv_desk.specs.View.{KeepsTelling};
+ghost use Rattle.pair_trim.specs.Choosing.{answer_of};
+ghost use Rattle.pair_trim.specs.Trimming.{IsAnswer, OpensForAnswer, files_of};
+
+use crate::answer::TrimAnswer;
+use crate::reading::read_trimmed;
+use crate::writing::write_pair;
+use graph_core::Claim;
+use joint_checker::Checked;
+use mv_desk::{Desk, Limits, Names};
+use std::alloc::Global;
+
+/// Judges a pair of certificates for what is claimed of a graph, and writes what is used of it under the new names.
+/// Files are created only where the pair is accepted, the clause certificate first; after a write fault a front part of each
+/// created file was written.
+pub fn trim<D: Desk>(
+    alloc: Global,
+    desk: &mut D,
+    claim: Claim,
+    limits: &Limits,
+    names: &Names<'_>,
+) -> TrimAnswer
+    ensures answer { IsAnswer limits.now claim (files_of names.now) (D.seen desk.old) (D.seen desk.new) result }
+    ensures opened { OpensForAnswer result (D.seen desk.old) (D.seen desk.new) }
+    ensures later { (D.seen desk.old).write_faults ≤ (D.seen desk.new).write_faults }
+    ensures tells { KeepsTelling (D.seen desk.old) (D.seen desk.new) }
+{
+    match read_trimmed(alloc, desk, claim, limits, names) {
+        Ok(kept) => match write_pair(desk, &kept, names) {
+            Ok(()) => TrimAnswer::Trimmed(kept),
+            Err(_) => TrimAnswer::WriteFault,
+        },
+        Err(checked) => not_accepted(checked),
+    }
+}
+
+// What is answered where nothing is written.
+fn not_accepted(checked: Checked) -> TrimAnswer
+    ensures { result ≡ answer_of checked }
+{
+    match checked {
+        Checked::Memory => TrimAnswer::Memory,
+        other => TrimAnswer::Not(other),
+    }
+}
