@@ -8,8 +8,8 @@ use Rattle.graph_maker.specs.declared.adder.Adder.TheVariants.{Kogge, Ripple}
 use Rattle.graph_maker.specs.declared.design.Design.TheVariants.{Corrected, Multiplier, MultiplyAdd}
 use Rattle.graph_maker.specs.declared.kind.Kind.TheVariants.{Array, Dadda}
 use Rattle.command_line.specs.declared.command.Command.TheVariants.{Eval, Make, Trial}
-use Rattle.command_line.specs.Asked.{IsCheck, asked}
-use Rattle.command_line.specs.Examples.{g_c_a, check_interleaved, check_signed_sum, check_g, make_array, make_corrected, make_dadda_add, make_corrected_add, eval_addend, trial_of_21}
+use Rattle.command_line.specs.Asked.{AsksTrim, IsCheck, asked}
+use Rattle.command_line.specs.Examples.{g_c_a, g_c_a_x_y, check_interleaved, check_signed_sum, check_g, make_array, make_corrected, make_dadda_add, make_corrected_add, eval_addend, trial_of_21, trim_interleaved, trim_to}
 
 pub interleaved : IsCheck check_interleaved g_c_a (multiplying Interleaved Unsigned)
 unfolding asked clap_on_literals
@@ -46,3 +46,19 @@ no_sum = refl
 pub added : asked eval_addend ≡ Some (Eval (codes "g") 1 2 Separate (Some 3))
 unfolding asked clap_on_literals
 added = refl
+
+pub trimmed : AsksTrim trim_interleaved g_c_a_x_y (multiplying Interleaved Unsigned)
+unfolding asked clap_on_literals
+trimmed = refl
+
+pub over_graph : asked (trim_to (codes "g") (codes "y")) ≡ None
+unfolding asked clap_on_literals
+over_graph = refl
+
+pub over_clauses : asked (trim_to (codes "x") (codes "c")) ≡ None
+unfolding asked clap_on_literals
+over_clauses = refl
+
+pub twice : asked (trim_to (codes "x") (codes "x")) ≡ None
+unfolding asked clap_on_literals
+twice = refl

@@ -11,10 +11,11 @@ use Rattle.graph_core.specs.declared.order.Order.{Order}
 use Rattle.graph_maker.specs.declared.adder.Adder.{Adder}
 use Rattle.graph_maker.specs.declared.design.Design.{Design}
 use Rattle.command_line.specs.declared.command.Command.{Command}
-use Rattle.command_line.specs.declared.command.Command.TheVariants.{Check, CheckSame, Eval, Make, Same, Trial, Verify}
+use Rattle.command_line.specs.declared.command.Command.TheVariants.{Check, CheckSame, Eval, Make, Same, Trial, Trim, Verify}
 use Rattle.command_line.specs.declared.files.Files.{Files}
 use Rattle.command_line.specs.declared.files.PairFiles.{PairFiles}
-use Rattle.command_line.specs.Asked.{AreApart, AreBits, IsInRange, LeavesGraphs, addend_at, adder_named, are_shared, asked, bits_of, check_of, check_same_of, check_same_with, check_with, claim_at, design_named, is_overwriting, is_set, pair_at, same_of, same_with, files_at, verify_of, verify_with, version_at, version_from, word_at, word_from, eval_of, eval_with, make_of, make_with, met, named, number_of, order_at, read_at, trial_of, trial_with, where_taken}
+use Rattle.command_line.specs.declared.files.TrimFiles.{TrimFiles}
+use Rattle.command_line.specs.Asked.{AreApart, AreBits, IsInRange, IsUnread, LeavesFiles, LeavesGraphs, addend_at, adder_named, are_reused, are_shared, asked, bits_of, check_of, check_same_of, check_same_with, check_with, claim_at, design_named, is_overwriting, is_read, is_set, pair_at, same_of, same_with, files_at, verify_of, verify_with, version_at, version_from, word_at, word_from, eval_of, eval_with, make_of, make_with, met, named, number_of, order_at, read_at, trial_of, trial_with, trim_files_at, trim_of, trim_with, where_taken}
 use Rattle.command_line.specs.FixedCommand.{mulver}
 
 -- ---- the number
@@ -145,28 +146,55 @@ check_same_range : (files : Option PairFiles) (command : Command) → check_same
 check_same_range (Some f) command e = same_range command (CheckSame f) tt e
 check_same_range None command e = cc
 
+unread : (files : TrimFiles) (name : Text) → is_read files name ≡ false → IsUnread files name
+unread files name test =
+    let one = or_none (bytes_eq name files.graph) (bytes_eq name files.clauses || bytes_eq name files.algebra) test in
+    let two = or_none (bytes_eq name files.clauses) (bytes_eq name files.algebra) one.1 in
+    record { graph = differ name files.graph one.0; clauses = differ name files.clauses two.0; algebra = differ name files.algebra two.1 }
+
+leaves_files : (files : TrimFiles) → are_reused files ≡ false → LeavesFiles files
+leaves_files files test =
+    let one = or_none (is_read files files.to_clauses) (is_read files files.to_algebra || bytes_eq files.to_clauses files.to_algebra) test in
+    let two = or_none (is_read files files.to_algebra) (bytes_eq files.to_clauses files.to_algebra) one.1 in
+    record {
+      clauses = unread files files.to_clauses one.0;
+      algebra = unread files files.to_algebra two.0;
+      apart = differ files.to_clauses files.to_algebra two.1;
+    }
+
+trim_one : (files : TrimFiles) (claim : Claim) (command : Command)
+    → (reused : Bool) → are_reused files ≡ reused → (if reused then None else Some (Trim files claim)) ≡ Some command → IsInRange command
+trim_one files claim command true test e = cc
+trim_one files claim command false test e = same_range command (Trim files claim) (leaves_files files test) e
+
+trim_range : (files : Option TrimFiles) (claim : Option Claim) (command : Command) → trim_with files claim ≡ Some command → IsInRange command
+trim_range (Some f) (Some k) command e = trim_one f k command (are_reused f) refl e
+trim_range None claim command e = cc
+trim_range (Some f) None command e = cc
+
 -- ---- the words
 
 named_range : (name : Text) (rows : List Row) (command : Command) → named name rows ≡ Some command → IsInRange command
 named_range name rows command =
     pick (bytes_eq name (codes "check")) (bytes_eq name (codes "verify")) (bytes_eq name (codes "eval")) (bytes_eq name (codes "make")) (bytes_eq name (codes "trial"))
-    (bytes_eq name (codes "same")) (bytes_eq name (codes "check-same"))
+    (bytes_eq name (codes "same")) (bytes_eq name (codes "check-same")) (bytes_eq name (codes "trim"))
   where
-    pick : (v w x y z s t : Bool)
+    pick : (v w x y z s t r : Bool)
         → (if v then check_of rows else (if w then verify_of rows else (if x then eval_of rows else (if y then make_of rows else (if z then trial_of rows
-        else (if s then same_of rows else (if t then check_same_of rows else None))))))) ≡ Some command
+        else (if s then same_of rows else (if t then check_same_of rows else (if r then trim_of rows else None)))))))) ≡ Some command
         → IsInRange command
-    pick true w x y z s t e = check_range (files_at rows) (claim_at rows) command e
-    pick false true x y z s t e = verify_range (files_at rows) (claim_at rows) (word_at 1 1000000 (codes "budget") rows) (word_at 0 100000 (codes "conflicts") rows) (version_at rows) command
+    pick true w x y z s t r e = check_range (files_at rows) (claim_at rows) command e
+    pick false true x y z s t r e = verify_range (files_at rows) (claim_at rows) (word_at 1 1000000 (codes "budget") rows) (word_at 0 100000 (codes "conflicts") rows) (version_at rows) command
         (word_in 1 1000000 (first_of (codes "budget") rows) (omega arith, omega arith)) (word_in 0 100000 (first_of (codes "conflicts") rows) (omega arith, omega arith)) (version_in (word_at 1 1 (codes "format") rows)) e
-    pick false false true y z s t e = eval_range (first_of (codes "graph") rows) (read_at number_of (codes "a") rows) (read_at number_of (codes "b") rows) (order_at rows) (addend_at rows) command e
-    pick false false false true z s t e = make_range (read_at (design_named (is_set (codes "add") rows)) (codes "kind") rows) (read_at bits_of (codes "bits") rows)
+    pick false false true y z s t r e = eval_range (first_of (codes "graph") rows) (read_at number_of (codes "a") rows) (read_at number_of (codes "b") rows) (order_at rows) (addend_at rows) command e
+    pick false false false true z s t r e = make_range (read_at (design_named (is_set (codes "add") rows)) (codes "kind") rows) (read_at bits_of (codes "bits") rows)
         (read_at adder_named (codes "adder") rows) (first_of (codes "out") rows) command (bits_in (first_of (codes "bits") rows)) e
-    pick false false false false true s t e = trial_range (read_at (word_from 0) (codes "number") rows) command (word_of_in (first_of (codes "number") rows)) e
-    pick false false false false false true t e = pair_range (pair_at rows) (word_at 0 100000 (codes "conflicts") rows) command
+    pick false false false false true s t r e = trial_range (read_at (word_from 0) (codes "number") rows) command (word_of_in (first_of (codes "number") rows)) e
+    pick false false false false false true t r e = pair_range (pair_at rows) (word_at 0 100000 (codes "conflicts") rows) command
         (word_in 0 100000 (first_of (codes "conflicts") rows) (omega arith, omega arith)) e
-    pick false false false false false false true e = check_same_range (pair_at rows) command e
-    pick false false false false false false false e = cc
+    pick false false false false false false true r e = check_same_range (pair_at rows) command e
+    pick false false false false false false false true e = trim_range (trim_files_at rows) (claim_at rows) command e
+    pick false false false false false false false false e = cc
 
 met_range : (subcommand : Option (Text × List Row)) (command : Command) → met subcommand ≡ Some command → IsInRange command
 met_range None command e = cc

@@ -19,9 +19,10 @@ use Rattle.graph_maker.specs.declared.kind.Kind.TheVariants.{Array, Dadda}
 use Rattle.mv_desk.specs.declared.names.Names.{Names}
 use Rattle.mv_nums.specs.Numeral.{decimal_value}
 use Rattle.command_line.specs.declared.command.Command.{Command}
-use Rattle.command_line.specs.declared.command.Command.TheVariants.{Check, CheckSame, Eval, Make, Same, Trial, Verify}
+use Rattle.command_line.specs.declared.command.Command.TheVariants.{Check, CheckSame, Eval, Make, Same, Trial, Trim, Verify}
 use Rattle.command_line.specs.declared.files.Files.{Files}
 use Rattle.command_line.specs.declared.files.PairFiles.{PairFiles}
+use Rattle.command_line.specs.declared.files.TrimFiles.{TrimFiles}
 use Rattle.command_line.specs.FixedCommand.{mulver}
 
 -- the words as texts
@@ -34,6 +35,15 @@ files_of names = record { graph = names.graph.now; clauses = names.clauses.now; 
 
 abbrev pub pair_files_of : Names → PairFiles
 pair_files_of names = record { graph = names.graph.now; other = names.other.now; clauses = names.clauses.now }
+
+abbrev pub trim_files_of : Names → TrimFiles
+trim_files_of names = record {
+  graph = names.graph.now;
+  clauses = names.clauses.now;
+  algebra = names.algebra.now;
+  to_clauses = names.to_clauses.now;
+  to_algebra = names.to_algebra.now;
+}
 
 -- ---- single texts
 
@@ -236,6 +246,40 @@ check_same_with None = None
 abbrev pub check_same_of : List Row → Option Command
 check_same_of rows = check_same_with (pair_at rows)
 
+-- the names of three files and of the two that are written; nothing where one is missing
+abbrev pub trim_files_with : Option Files → Option Text → Option Text → Option TrimFiles
+trim_files_with (Some files) (Some to_clauses) (Some to_algebra) = Some (record {
+  graph = files.graph;
+  clauses = files.clauses;
+  algebra = files.algebra;
+  to_clauses = to_clauses;
+  to_algebra = to_algebra;
+})
+trim_files_with _ _ _ = None
+
+abbrev pub trim_files_at : List Row → Option TrimFiles
+trim_files_at rows = trim_files_with
+    (files_at rows)
+    (first_of (codes "to-clauses") rows)
+    (first_of (codes "to-algebra") rows)
+
+-- the name is that of a file that is read
+abbrev pub is_read : TrimFiles → Text → Bool
+is_read files name = bytes_eq name files.graph || (bytes_eq name files.clauses || bytes_eq name files.algebra)
+
+-- the name of a file that is written is that of another file
+abbrev pub are_reused : TrimFiles → Bool
+are_reused files =
+    is_read files files.to_clauses || (is_read files files.to_algebra || bytes_eq files.to_clauses files.to_algebra)
+
+-- `trim`: the names of five files, of which each of the last two is none of the others, and a claim
+abbrev pub trim_with : Option TrimFiles → Option Claim → Option Command
+trim_with (Some files) (Some claim) = if are_reused files then None else Some (Trim files claim)
+trim_with _ _ = None
+
+abbrev pub trim_of : List Row → Option Command
+trim_of rows = trim_with (trim_files_at rows) (claim_at rows)
+
 -- ---- the words
 
 -- the subcommand of this name, with these texts
@@ -247,7 +291,8 @@ named name rows =
     else (if bytes_eq name (codes "make") then make_of rows
     else (if bytes_eq name (codes "trial") then trial_of rows
     else (if bytes_eq name (codes "same") then same_of rows
-    else (if bytes_eq name (codes "check-same") then check_same_of rows else None))))))
+    else (if bytes_eq name (codes "check-same") then check_same_of rows
+    else (if bytes_eq name (codes "trim") then trim_of rows else None)))))))
 
 -- the subcommand that was met
 abbrev pub met : Option (Text × List Row) → Option Command
@@ -259,8 +304,8 @@ where_taken [] there = there
 where_taken (kind ∷ kinds) there = None
 
 -- What the words ask for: nothing where `clap` refuses them for the fixed command, where a text isn't one of
--- those that are named, where it is no number in its range, where two of the names of `verify` are equal, and where the
--- certificate of `same` has the name of a graph.
+-- those that are named, where it is no number in its range, where two of the names of `verify` are equal, where the
+-- certificate of `same` has the name of a graph, and where a certificate that `trim` writes has the name of another file.
 unfoldable pub asked : List Text → Option Command
 asked words = where_taken (fault_of mulver words) (met (subcommand_of mulver words))
 
@@ -284,6 +329,10 @@ AsksSame words files conflicts = asked words ≡ Some (Same files conflicts)
 abbrev pub AsksCheckSame : List Text → PairFiles → Type 0
 AsksCheckSame words files = asked words ≡ Some (CheckSame files)
 
+-- The words ask for `trim` of these files and this claim.
+abbrev pub AsksTrim : List Text → TrimFiles → Claim → Type 0
+AsksTrim words files claim = asked words ≡ Some (Trim files claim)
+
 -- the widths of multipliers
 abbrev pub AreBits : ℕ → Type 0
 AreBits bits = (1 ≤ bits) × (bits ≤ 64)
@@ -299,12 +348,25 @@ pub record LeavesGraphs (files : PairFiles) : Type 0 where
   pub graph : files.clauses ≢ files.graph
   pub other : files.clauses ≢ files.other
 
--- The numbers of `make`, `verify`, `trial` and `same` are in their ranges, no two names of `verify` are equal, and `same` writes over no
--- graph.
+-- the name is none of those of the files that are read
+pub record IsUnread (files : TrimFiles) (name : Text) : Type 0 where
+  pub graph : name ≢ files.graph
+  pub clauses : name ≢ files.clauses
+  pub algebra : name ≢ files.algebra
+
+-- two files are written, neither of them over one that is read
+pub record LeavesFiles (files : TrimFiles) : Type 0 where
+  pub clauses : IsUnread files files.to_clauses
+  pub algebra : IsUnread files files.to_algebra
+  pub apart : files.to_clauses ≢ files.to_algebra
+
+-- The numbers of `make`, `verify`, `trial` and `same` are in their ranges, no two names of `verify` are equal, `same` writes over no
+-- graph, and `trim` writes two files over none that it reads.
 abbrev pub IsInRange : Command → Type 0
 IsInRange (Make design bits adder out) = AreBits bits
 IsInRange (Verify files claim budget conflicts version) =
     AreApart files × (1 ≤ budget) × (budget < 2 ^ 32) × (conflicts < 2 ^ 32) × ((version ≡ 1) ⊎ (version ≡ 2))
 IsInRange (Trial number) = number < 2 ^ 32
 IsInRange (Same files conflicts) = LeavesGraphs files × (conflicts < 2 ^ 32)
+IsInRange (Trim files claim) = LeavesFiles files
 IsInRange _ = ⊤

@@ -5,6 +5,7 @@ use Rattle.graph_core.specs.declared.order.Order.TheVariants.{Separate}
 use Rattle.graph_core.specs.Graph.Operands.{product_under}
 use Rattle.mv_nums.specs.Numeral.{Spells}
 use Rattle.command_line.specs.declared.files.Files.{Files}
+use Rattle.command_line.specs.declared.files.TrimFiles.{TrimFiles}
 use Rattle.command_line.specs.Asked.{IsCheck, number_of}
 
 -- the text doesn't begin with a hyphen (45)
@@ -60,3 +61,16 @@ eval_addend =
 
 abbrev pub trial_of_21 : List Text
 trial_of_21 = codes "mulver" ∷ codes "trial" ∷ codes "21" ∷ []
+
+abbrev pub g_c_a_x_y : TrimFiles
+g_c_a_x_y = record { graph = codes "g"; clauses = codes "c"; algebra = codes "a"; to_clauses = codes "x"; to_algebra = codes "y" }
+
+abbrev pub trim_interleaved : List Text
+trim_interleaved =
+    codes "mulver" ∷ codes "trim" ∷ codes "g" ∷ codes "c" ∷ codes "a" ∷ codes "x" ∷ codes "y" ∷
+    codes "--inputs" ∷ codes "interleaved" ∷ []
+
+-- of three files that are read, and of two that are written
+abbrev pub trim_to : Text → Text → List Text
+trim_to to_clauses to_algebra =
+    codes "mulver" ∷ codes "trim" ∷ codes "g" ∷ codes "c" ∷ codes "a" ∷ to_clauses ∷ to_algebra ∷ []

@@ -75,6 +75,19 @@ check_same_app = with_rule (with_rule (with_rule (new_app (codes "check-same"))
 abbrev pub of_one_graph : App
 of_one_graph = with_subcommand (with_subcommand (with_subcommand judging eval_app.top) make_app.top) trial_app.top
 
+-- the command with those for two graphs besides
+abbrev pub of_graphs : App
+of_graphs = with_subcommand (with_subcommand of_one_graph same_app.top) check_same_app.top
+
+-- `trim GRAPH CLAUSES ALGEBRA TO-CLAUSES TO-ALGEBRA [--inputs ORDER] [--operands KIND] [--add]`
+abbrev pub trim_files : App
+trim_files = with_rule (with_rule (with_rule (with_rule (with_rule (new_app (codes "trim"))
+    (word (codes "graph"))) (word (codes "clauses"))) (word (codes "algebra"))) (word (codes "to-clauses"))) (word (codes "to-algebra"))
+
+abbrev pub trim_app : App
+trim_app = with_rule (with_rule (with_rule trim_files
+    (choice (codes "inputs"))) (choice (codes "operands"))) (flag (codes "add"))
+
 -- the whole command
 abbrev pub mulver : App
-mulver = with_subcommand (with_subcommand of_one_graph same_app.top) check_same_app.top
+mulver = with_subcommand of_graphs trim_app.top

@@ -22,7 +22,7 @@ enum Form {
 }
 
 // The subcommands, each with its arguments.
-const SUBCOMMANDS: [(&str, &[(Form, &str)]); 7] = [
+const SUBCOMMANDS: [(&str, &[(Form, &str)]); 8] = [
     (
         "check",
         &[
@@ -84,6 +84,19 @@ const SUBCOMMANDS: [(&str, &[(Form, &str)]); 7] = [
             (Form::Word, "graph"),
             (Form::Word, "other"),
             (Form::Word, "clauses"),
+        ],
+    ),
+    (
+        "trim",
+        &[
+            (Form::Word, "graph"),
+            (Form::Word, "clauses"),
+            (Form::Word, "algebra"),
+            (Form::Word, "to-clauses"),
+            (Form::Word, "to-algebra"),
+            (Form::Choice, "inputs"),
+            (Form::Choice, "operands"),
+            (Form::Flag, "add"),
         ],
     ),
 ];

@@ -1,5 +1,5 @@
 // The commands, each with what its words say.
-use crate::files::{FileName, Files, PairFiles};
+use crate::files::{FileName, Files, PairFiles, TrimFiles};
 use graph_core::{Claim, Order};
 use graph_maker::{Adder, Design};
 
@@ -52,5 +52,11 @@ pub enum Command {
     /// To judge a certificate for two graphs.
     CheckSame {
         files: PairFiles,
+    },
+    /// To judge a pair of certificates as `check` does, and where it is accepted to write it without the lines that nothing
+    /// uses. Neither of the two names that are written to is another of the five.
+    Trim {
+        files: TrimFiles,
+        claim: Claim,
     },
 }

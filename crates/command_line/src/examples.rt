@@ -7,12 +7,13 @@ ghost use Rattle.graph_maker.specs.declared.adder.Adder.TheVariants.{Kogge, Ripp
 ghost use Rattle.graph_maker.specs.declared.design.Design.TheVariants.{Corrected, Multiplier, MultiplyAdd};
 ghost use Rattle.graph_maker.specs.declared.kind.Kind.TheVariants.{Array, Dadda};
 ghost use Rattle.command_line.specs.declared.command.Command.TheVariants.{Eval, Make, Trial};
-ghost use Rattle.command_line.specs.Asked.{IsCheck, asked};
-ghost use Rattle.command_line.specs.Examples.{NamesAreChecked, NumbersAreNumerals, g_c_a, check_interleaved, check_signed_sum, check_g, make_array, make_corrected, make_dadda_add, make_corrected_add, eval_addend, trial_of_21};
+ghost use Rattle.command_line.specs.Asked.{AsksTrim, IsCheck, asked};
+ghost use Rattle.command_line.specs.Examples.{NamesAreChecked, NumbersAreNumerals, g_c_a, g_c_a_x_y, check_interleaved, check_signed_sum, check_g, make_array, make_corrected, make_dadda_add, make_corrected_add, eval_addend, trial_of_21, trim_interleaved, trim_to};
 
 /// `mulver check` with any three names asks for `check` of these files: that the graph multiplies unsigned operands
 /// under `separate`. With an order, a kind of operands or `--add` behind them it asks for that claim, and with one name
-/// for nothing. `make corrected` takes no `--add`.
+/// for nothing. `make corrected` takes no `--add`. `trim` is asked for like `check`, with two names more, neither of
+/// which may be another of the five.
 pub fn plain_words()
     ensures names { NamesAreChecked }
     ensures numbers { NumbersAreNumerals }
@@ -25,4 +26,8 @@ pub fn plain_words()
     ensures added { asked eval_addend ≡ Some (Eval (codes "g") 1 2 Separate (Some 3)) }
     ensures tried { asked trial_of_21 ≡ Some (Trial 21) }
     ensures too_few { asked check_g ≡ None }
+    ensures trimmed { AsksTrim trim_interleaved g_c_a_x_y (multiplying Interleaved Unsigned) }
+    ensures over_graph { asked (trim_to (codes "g") (codes "y")) ≡ None }
+    ensures over_clauses { asked (trim_to (codes "x") (codes "c")) ≡ None }
+    ensures twice { asked (trim_to (codes "x") (codes "x")) ≡ None }
 {}

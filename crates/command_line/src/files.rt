@@ -65,6 +65,8 @@ impl Files {
             other: "",
             clauses: self.clauses.as_str(),
             algebra: self.algebra.as_str(),
+            to_clauses: "",
+            to_algebra: "",
         }
     }
 }
@@ -97,6 +99,54 @@ impl PairFiles {
             other: self.other.as_str(),
             clauses: self.clauses.as_str(),
             algebra: "",
+            to_clauses: "",
+            to_algebra: "",
+        }
+    }
+}
+
+/// The names of the five files of `trim`: of those that it reads, and of the certificates that it writes.
+#[derive(Debug, Drop)]
+pub struct TrimFiles {
+    pub graph: FileName,
+    pub clauses: FileName,
+    pub algebra: FileName,
+    pub to_clauses: FileName,
+    pub to_algebra: FileName,
+}
+
+impl TrimFiles {
+    ghost use Rattle.command_line.specs.Asked.{are_reused, is_read, trim_files_of};
+
+    /// Whether a certificate that is written has the name of another file.
+    pub(crate) fn are_reused(&self) -> bool
+        ensures { result ≡ are_reused self.now }
+    {
+        let to_clauses = self.to_clauses.as_str();
+        let to_algebra = self.to_algebra.as_str();
+        self.is_read(to_clauses) || self.is_read(to_algebra) || to_clauses == to_algebra
+    }
+
+    // Whether a file of this name is read.
+    fn is_read(&self, name: &str) -> bool
+        ensures { result ≡ is_read self.now name.now }
+    {
+        name == self.graph.as_str()
+            || name == self.clauses.as_str()
+            || name == self.algebra.as_str()
+    }
+
+    /// The names, lent.
+    pub fn names(&self) -> Names<'_>
+        ensures { trim_files_of result ≡ self.now }
+    {
+        Names {
+            graph: self.graph.as_str(),
+            other: "",
+            clauses: self.clauses.as_str(),
+            algebra: self.algebra.as_str(),
+            to_clauses: self.to_clauses.as_str(),
+            to_algebra: self.to_algebra.as_str(),
         }
     }
 }

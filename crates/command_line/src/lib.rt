@@ -22,5 +22,5 @@ pub use command::Command;
 pub use defaults::{BUDGET, CONFLICTS};
 pub use examples::plain_words;
 pub use fail::WordsFail;
-pub use files::{FileName, Files, PairFiles};
+pub use files::{FileName, Files, PairFiles, TrimFiles};
 pub use reading::read_words;

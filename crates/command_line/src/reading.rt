@@ -1,14 +1,14 @@
 // What the words ask for.
 ghost use Rattle.std.specs.Prelude.{◌≡◌, None, Some, IfOk, IsErrOf};
 ghost use Rattle.clap.specs.Words.{found_of, rows_of, subcommand_rows_of};
-ghost use Rattle.command_line.specs.Asked.{IsInRange, IsUsage, asked, check_of, check_same_of, eval_of, make_of, met, named, pair_at, same_of, texts, trial_of, files_at, verify_of};
+ghost use Rattle.command_line.specs.Asked.{IsInRange, IsUsage, asked, check_of, check_same_of, eval_of, make_of, met, named, pair_at, same_of, texts, trial_of, trim_files_at, trim_of, files_at, verify_of};
 ghost use Rattle.command_line.specs.Reading.{Reads, TakesAs};
 
 use crate::builders::mulver;
 use crate::command::Command;
 use crate::defaults::{BUDGET, CONFLICTS};
 use crate::fail::WordsFail;
-use crate::files::{Files, PairFiles};
+use crate::files::{Files, PairFiles, TrimFiles};
 use crate::texts::{
     addend_at, adder_at, bits_at, claim_at, design_at, file_at, number_at, order_at, version_at,
     word_at, word_of,
@@ -63,6 +63,7 @@ fn named(alloc: Global, name: &str, matches: &ArgMatches<'_>) -> Result<Command,
         "trial" => trial(matches),
         "same" => same(alloc, matches),
         "check-same" => check_same(alloc, matches),
+        "trim" => trim(alloc, matches),
         _ => Err(WordsFail::Usage),
     }
 }
@@ -175,5 +176,31 @@ fn pair_at(alloc: Global, matches: &ArgMatches<'_>) -> Result<PairFiles, WordsFa
         graph,
         other,
         clauses,
+    })
+}
+
+fn trim(alloc: Global, matches: &ArgMatches<'_>) -> Result<Command, WordsFail>
+    ensures { Reads (trim_of (rows_of (found_of matches.now))) result }
+{
+    let files = trim_files_at(alloc, matches)?;
+    let claim = claim_at(matches).ok_or(WordsFail::Usage)?;
+    if files.are_reused() {
+        return Err(WordsFail::Usage);
+    }
+    Ok(Command::Trim { files, claim })
+}
+
+fn trim_files_at(alloc: Global, matches: &ArgMatches<'_>) -> Result<TrimFiles, WordsFail>
+    ensures { Reads (trim_files_at (rows_of (found_of matches.now))) result }
+{
+    let files = files_at(alloc, matches)?;
+    let to_clauses = file_at(alloc, matches, "to-clauses")?;
+    let to_algebra = file_at(alloc, matches, "to-algebra")?;
+    Ok(TrimFiles {
+        graph: files.graph,
+        clauses: files.clauses,
+        algebra: files.algebra,
+        to_clauses,
+        to_algebra,
     })
 }

@@ -2,7 +2,7 @@
 use Rattle.std.proofs.Common.{◌≡◌, ℕ, List, Some, None}
 use Rattle.std.specs.Prelude.{[], Bool, ⊤, IsSome, Option, option_map, unwrap_or}
 use Rattle.command_line.specs.declared.command.Command.{Command}
-use Rattle.command_line.specs.declared.command.Command.TheVariants.{Check, CheckSame, Eval, Make, Same, Trial, Verify}
+use Rattle.command_line.specs.declared.command.Command.TheVariants.{Check, CheckSame, Eval, Make, Same, Trial, Trim, Verify}
 use Rattle.graph_core.specs.Graph.Operands.{profile_of}
 use Rattle.graph_maker.specs.Designed.{designed}
 use Rattle.joint_checker.specs.Files.{HasGraph}
@@ -12,6 +12,7 @@ use Rattle.joint_prover.specs.Notes.{IsNote, cut_of}
 use Rattle.joint_prover.specs.Tries.{AreTried}
 use Rattle.joint_prover.specs.Verdicts.{HaveManyOnes, HoldsPair, IsFirstAbove}
 use Rattle.mv_desk.specs.View.{View, Rose, bytes_under}
+use Rattle.pair_trim.specs.Trimming.{HoldsTrimmed}
 use Rattle.same_core.specs.Deciding.{HoldsEqual, IsDifference}
 use Rattle.same_core.specs.Files as pair
 use Rattle.verdict_program.specs.declared.answer.Answer.{Answer}
@@ -21,7 +22,7 @@ use Rattle.verdict_program.specs.Evaluation.{IsValueDue}
 use Rattle.verdict_program.specs.Headline.{AreTheSame, IsAsClaimed}
 use Rattle.verdict_program.specs.Making.{text_for}
 use Rattle.verdict_program.specs.Trial.{IsAcceptedWith, IsUndecidedWith, OfMade, plan_of}
-use Rattle.verdict_program.specs.Runs.{DiffersSomewhere, EndsAsDue, HasSpentPair, IsDueOf, IsTold, TellsNames, files_of, pair_of, standard, task_of}
+use Rattle.verdict_program.specs.Runs.{DiffersSomewhere, EndsAsDue, HasSpentPair, IsDueOf, IsTold, TellsNames, files_of, pair_of, standard, task_of, trim_of}
 use Rattle.verdict_program.proofs.Told.{none_told}
 
 -- what status 0 means
@@ -34,6 +35,7 @@ Succeeds (Make design bits adder out) a b = IsTold a → TellsNames a → b.held
 Succeeds (Trial number) a b = (n : Rewriting) × OfMade (plan_of number) (IsAcceptedWith n)
 Succeeds (Same files conflicts) a b = AreTheSame a files.graph files.other × (IsTold a → TellsNames a → HoldsEqual standard.graph conflicts (pair_of files) b)
 Succeeds (CheckSame files) a b = AreTheSame a files.graph files.other
+Succeeds (Trim files claim) a b = IsAsClaimed a files.graph claim × (IsTold a → TellsNames a → HoldsTrimmed standard claim (trim_of files) b)
 
 -- where statuses 1, 2 and 5 come
 abbrev pub IsWrongFor : Command → View → Type 0

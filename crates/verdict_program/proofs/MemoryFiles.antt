@@ -4,7 +4,7 @@ use Rattle.std.specs.Prelude.{IsSome, get_or, unwrap_or}
 use Rattle.std.proofs.lemmas.List.{length-append}
 use Rattle.graph_core.specs.Text.{newline}
 use Rattle.graph_core.specs.Text.JudgedLines.{IsLineStart, IsWithin, front_line}
-use Rattle.joint_prover.specs.Written.{ReadsGraph, WritesFile, WritesPair}
+use Rattle.joint_checker.specs.Written.{ReadsGraph, WritesFile, WritesPair}
 use Rattle.mv_desk.specs.Calls.{AreApart, Becomes, BytesGrow, HeldGrows}
 use Rattle.mv_desk.specs.Files.{File}
 use Rattle.mv_desk.specs.HonestDesk.{held_of, view_of}

@@ -25,7 +25,7 @@ use Rattle.joint_checker.proofs.CallerLemmas.{spelled_not_long, spelled_not_refu
 use Rattle.joint_prover.specs.Notes.{IsNote, cut_of}
 use Rattle.joint_prover.specs.Pairs.{IsPairFor}
 use Rattle.joint_prover.specs.Verdicts.{HasNote, IsVerdict, IsWrong, IsWrongSum}
-use Rattle.joint_prover.specs.Written.{ReadsGraph, WritesFile, WritesPair}
+use Rattle.joint_checker.specs.Written.{ReadsGraph, WritesFile, WritesPair}
 use Rattle.joint_prover.specs.declared.rewriting.Rewriting.{Rewriting}
 use Rattle.joint_prover.specs.declared.verdict.Tried.{Tried}
 use Rattle.joint_prover.specs.declared.verdict.Verdict.{Verdict}

@@ -152,5 +152,7 @@ fn names() -> Names<'static>
         other: "",
         clauses: "clauses",
         algebra: "algebra",
+        to_clauses: "",
+        to_algebra: "",
     }
 }

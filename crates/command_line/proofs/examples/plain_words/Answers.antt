@@ -1,6 +1,6 @@
 use Rattle.command_line.proofs.AnyNames.{names_are_checked}
 use Rattle.command_line.proofs.Numerals.{numbers_are_numerals}
-use Rattle.command_line.proofs.PlainWords.{added, corrected, interleaved, made, no_sum, signed_sum, sum, too_few, tried}
+use Rattle.command_line.proofs.PlainWords.{added, corrected, interleaved, made, no_sum, over_clauses, over_graph, signed_sum, sum, too_few, tried, trimmed, twice}
 use Rattle.command_line.proofs.examples.plain_words.Goals as goal
 
 pub returns : goal.returns
@@ -16,4 +16,8 @@ returns c = record {
   added = added;
   tried = tried;
   too_few = too_few;
+  trimmed = trimmed;
+  over_graph = over_graph;
+  over_clauses = over_clauses;
+  twice = twice;
 }
