@@ -4,6 +4,7 @@ Each function says what it gives; nothing here is run by itself.
 """
 import contextlib
 import os
+import re
 import resource
 import subprocess
 import sys
@@ -111,6 +112,19 @@ def timed(words, limits=()):
     done = subprocess.run(timing, stdout=subprocess.PIPE, stderr=subprocess.PIPE, text=True, preexec_fn=limit if limits else None)
     user, system, peak = done.stderr.split()[-3:]
     return done.stdout, float(user) + float(system), int(peak) / 1024
+
+
+def instructions(words):
+    """The instructions of a run, and its report."""
+    with tempfile.TemporaryDirectory() as folder:
+        log = os.path.join(folder, "log")
+        counting = ["valgrind", "--tool=callgrind", "--callgrind-out-file=" + os.devnull, "--log-file=" + log]
+        run = subprocess.run(counting + words, stdout=subprocess.PIPE, stderr=subprocess.DEVNULL, text=True)
+        with open(log) as lines:
+            found = re.search(r"Collected\s*:\s*(\d+)", lines.read())
+    if not found:
+        sys.exit("valgrind counted nothing: " + " ".join(words))
+    return int(found.group(1)), " / ".join(run.stdout.split("\n")).strip(" /")
 
 
 # Both commands on a graph, each run by a function that gives lines, seconds and MB.
