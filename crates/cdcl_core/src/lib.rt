@@ -1,8 +1,12 @@
 //! A solver by conflict-driven clause learning whose log is lawful.
 //!
-//! `solve` refutes assumptions, finds a model, or spends its budget of lemmas; whatever it answers, each line that it
-//! logged is lawful. A `Solver` keeps its clauses and the order of decisions from goal to goal, and shows clauses of two
-//! literals as lemmas of their own.
+//! `solve` refutes assumptions, finds a model, or spends its budget of lemmas. *Refuted* comes only where propagation
+//! over the clauses and the log refutes the assumptions; a model meets all clauses and assumptions; *spent* comes only
+//! where exactly as many lemmas were logged as were allowed, and propagation doesn't refute them. Whatever the answer,
+//! want of memory among them, the lines before stay, at most that many lemmas come, each over the variables, and each
+//! line that was logged is lawful. A `Solver` keeps its clauses and the order of decisions from goal to goal, and shows
+//! clauses of two literals as lemmas of their own: only such as follow by propagation over the clauses and the log
+//! (`shown`). Which variable is decided next, and where a search goes on, is advice.
 //!
 //! *Lemma*: it follows from the live clauses by unit propagation, is no tautology, and has no live clause within it;
 //! *lawful* lines: `specs/Log.antt` of `clause_core`. What the lines of a log leave live, and how a log goes on:

@@ -6,7 +6,8 @@
 //! takes the steps of a plan: a column is added, or a gate's variable is replaced by the product of its operands. After
 //! each step the polynomial that is kept is the next frontier's function. It ends at the first frontier with more
 //! monomials than the budget, or with the last one, and then the lines have one whose value is the specification minus
-//! it.
+//! it (`reduced`), at most two lines more than there are gates (`few`). `Passed` comes exactly at the first step that
+//! leaves a frontier above the budget, with its size.
 //!
 //! *Frontier*, *plan*, *size*: those of `frontier_core`. *Counts*: a plan may have steps before the first frontier that
 //! counts, which is that of step 0 (`Planned` in `specs/Reducing.antt`). *Part*: an axiom times a polynomial. Each gate

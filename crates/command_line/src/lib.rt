@@ -1,7 +1,12 @@
 //! The words of a command line, by `clap`.
 //!
-//! `read_words` answers with what the words ask for, and `Usage` exactly where they ask for nothing; memory may be
-//! wanting. What plain words ask for is a law, the contract of `plain_words`.
+//! `read_words` answers with what the words ask for (`ok`), and `Usage` exactly where they ask for nothing (`usage`);
+//! memory may be wanting. Numbers are in their ranges, and names apart where writing would harm a file (`range`). The
+//! names that `Files::names` lends are those of the command. This is the one crate that loads `clap`.
+//!
+//! What plain words ask for is a law, the contract of `plain_words`: any three names that begin with no hyphen, after
+//! `check`, are the files that are asked for; a number is what decimal digits spell below 2^128; the options, the
+//! designs, `trial` and too few words by example.
 //!
 //! *Asked*: what words ask for, by what `clap` says of the fixed command, the texts that are named, and numbers in
 //! their range (`specs/Asked.antt`). *Fixed command*: `mulver` with its subcommands, as `clap` is given it

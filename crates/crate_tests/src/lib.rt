@@ -1,4 +1,5 @@
-//! Tests of the crates below the program: what no contract and no test of the program says.
+//! Tests of the crates below the program: what no contract and no test of the program says. There is no other code: so
+//! each of those crates is proved for itself alone, without its tests.
 #![tactic(auto)]
 
 #[cfg(test)]

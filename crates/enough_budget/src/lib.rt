@@ -4,7 +4,8 @@
 //! Over a made graph of n bits, its gates' operands in either order, each frontier of steps that go by the groups of
 //! its gates has at most 8 * n * n + 64 monomials (`specs/MadeSlices.antt`), and the last frontier of every plan is 0.
 //! The groups are its adders and single products, and its gates are listed each after those that it reads
-//! (`MadeGroups`). So no slice plan over it passes a budget of that many monomials (`Budgets`).
+//! (`MadeGroups`). So no slice plan over it passes a budget of that many monomials (`Budgets`,
+//! `made_budget_is_enough`).
 //!
 //! There is no code. A law is the contract of a public function with an empty body.
 #![tactic(auto)]

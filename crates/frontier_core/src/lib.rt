@@ -4,9 +4,10 @@
 //! A *frontier* is a set of columns that were added and a set of gates that were eliminated. Its function is the sum of
 //! 2^k times (output k minus what column k is claimed to be) over the added columns, modulo 2 ^ the number of outputs,
 //! in which the eliminated gates are computed from the other variables (`specs/Frontier.antt`). A *plan* is a list of
-//! steps of which each leaves a frontier (`Plan`); the *plain order* eliminates gates by level (`PlainOrder`). At the
-//! end the function is the graph's value minus what it is claimed to be (`LastFrontier`), and it is 0 everywhere
-//! exactly where the graph meets the claim; else its least term gives the least difference (`LeastDifference`).
+//! steps of which each leaves a frontier (`Plan`); the *plain order* eliminates gates by level (`PlainOrder`). There is
+//! one plain order, each front of it is a frontier, and each frontier has a size. At the end the function is the
+//! graph's value minus what it is claimed to be (`LastFrontier`), and it is 0 everywhere exactly where the graph meets
+//! the claim; else its least term gives the least difference (`LeastDifference`).
 //!
 //! The *gap* is the part of the specification that the added columns make up, minus the frontier's function. Each step
 //! changes it by an axiom times a polynomial: one line may state what a group of steps added (`Pending`), and a last

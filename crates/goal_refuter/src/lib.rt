@@ -1,9 +1,10 @@
 //! Refutes the negations of goals over the clauses of gates, by a solver and within a budget of conflicts.
 //!
-//! `refute_goals` has the negation of each goal refuted, one after the other, and answers one of three: the log, whose lines
-//! are a lawful clause certificate that shows each goal; an evaluation of the gates at which some goal fails; or a spent
-//! budget with the log that spent it. `refute` is one goal. `refute_behind` does the same behind a log of lemmas, such as
-//! those by which `show_equal` shows two literals to be equal.
+//! `refute_goals` has the negation of each goal refuted, one after the other, and answers one of three: the log, whose
+//! lines are a lawful clause certificate that shows each goal; an evaluation of the gates at which some goal fails; or
+//! a spent budget with the log that spent it. `refute` is one goal. `refute_behind` does the same behind a log of
+//! lemmas, such as those by which `show_equal` shows two literals to be equal: these count among the conflicts
+//! (`begun`), and it is true only where each literal implies the other by unit propagation (`shown`).
 //!
 //! *Log of refutations*, *spent*: `specs/Refutations.antt`. *Outcome*: `specs/Refuting.antt`. *Begun*:
 //! `specs/Beginnings.antt`. *Lemma*, *lawful lines*: `Log` and `ClauseLines` in `specs/` of `clause_core`.

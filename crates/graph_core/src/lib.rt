@@ -1,16 +1,18 @@
 //! And-inverter graphs, and the definitions of a multiplier verifier with their laws.
 //!
-//! `Graph::build` gives the graph of some lists exactly where they have no fault, and else their first fault. A graph
-//! tells of each variable its gate, its level and how often it is read, and writes the values of all variables.
-//! A `Claim` is what is claimed of a graph: how its inputs make two operands, whether these are signed, and whether there
-//! is an addend. `Operands` tells which input is then which bit;
-//! `Graph::value_on` gives the value on two operands, `Graph::sum_on` that with an addend. Only these two, `Graph::build`
-//! and the makers of `Operands` take memory.
+//! `Graph::build` gives the graph of some lists exactly where they have no fault, and else their first fault. What is
+//! built is acyclic. A graph tells of each variable its gate, its level and how often it is read, and writes the values
+//! of all variables, which are its evaluation (`value_into`). A `Claim` is what is claimed of a graph: how its inputs
+//! make two operands, whether these are signed, and whether there is an addend. `Operands` tells which input is then
+//! which bit; `Graph::value_on` gives the value on two operands, `Graph::sum_on` that with an addend. Only these two,
+//! `Graph::build` and the makers of `Operands` take memory.
 //!
 //! The contracts of all crates above cite the words of `specs/`: graphs, their evaluation, operands and the product
 //! (`Graph` and its files), what bytes spell and how a text is refused (`Text`, `Aiger`), lawful algebra certificates
 //! by the values of their polynomials (`Algebra`, `Certificates`). A law is the contract of a public function with an
-//! empty body.
+//! empty body. Laws here: no bytes spell two graphs, and bytes that spell none have one first refusal; where the
+//! specification is 0 on every evaluation the graph does what is claimed; an algebra file is lawful or has one first
+//! refusal; what ledgers that agree and lines that are alike have in common.
 #![tactic(auto)]
 
 mod certificate_laws;

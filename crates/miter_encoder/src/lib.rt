@@ -1,7 +1,8 @@
 //! The clauses of gates, and the two goals of each column or pair of outputs.
 //!
 //! An assignment meets all gate clauses exactly where it is an evaluation, and all goals exactly where the old and the
-//! new output of each replaced column, or the two outputs of each pair, are equal. Each call takes memory for what it answers.
+//! new output of each replaced column, or the two outputs of each pair, are equal (`meaning`). Clauses and goals name
+//! the graph's variables alone (`in_range`). Each call takes memory for what it answers.
 //!
 //! *Gate clauses*, *goals*: by `specs/GateClauses.antt` of `clause_core`, where constants are dropped. A goal that a
 //! constant makes true is *met* (`specs/ColumnGoals.antt`).

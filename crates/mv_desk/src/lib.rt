@@ -4,6 +4,10 @@
 //! read is what was left, what is written comes behind what was written before, and nothing else changes, as far as
 //! the desk tells its contents at all.
 //!
+//! `read_front` gives a file's bytes, of a file that is longer than a limit a front up to a byte past it at least; or
+//! why not. `write_all` appends all bytes, or a front part with a fault. That calls on real files succeed, and what
+//! they read, no clause says.
+//!
 //! *View*: what a desk tells (`specs/View.antt`); contents and names are optional in it. What each call does to a
 //! view is a word of `specs/Calls.antt`: *opens*, *reads only*, *creates*, *writes to*. *Rose*: a count of faults
 //! grew, or stands at its type's end.

@@ -5,6 +5,9 @@
 //! `Output` writes a text put piece by piece: the file grows by exactly the text, or by a front part where a write
 //! failed. Nothing here takes memory but a line and the list that `push` fills.
 //!
+//! Less than a piece of 4,096 bytes is read past a line that `LineReader` gives. After a write that failed `Output`
+//! writes nothing more, and tells that first fault at the end.
+//!
 //! *Ahead*: read into the piece in hand, and not yet taken; what is *left* of a file is what is ahead and then what
 //! the desk has left (`specs/LineReading.antt`). *Takes*: a reader gave a value, and left these bytes
 //! (`specs/Steps.antt`). *Puts*: a text waits behind what was put before, or is written (`specs/Puts.antt`).

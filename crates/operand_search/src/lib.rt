@@ -1,11 +1,12 @@
 //! The least operands and addend on which a graph differs from what is claimed, by trying those with few ones.
 //!
-//! `least_within` answers the least difference exactly where it has at most so many ones, else None: then every difference
-//! has more. It goes through the values of the inputs in the order of differences (fewer ones first, as many by the
-//! lexicographically least list of positions), and evaluates the graph on 64 of them at a time, in the bits of one word a
-//! variable. With k ones among n inputs there are n! / (k! (n - k)!) values: of 128 inputs 8,257 with at most two ones, and
-//! 349,633 with at most three. `most_ones_within` says how many ones some work is enough for, and `least_seen` looks only
-//! where a few hundred fixed values of the inputs already show that the graph differs.
+//! `least_within` answers the least difference exactly where it has at most so many ones, else None: then every
+//! difference has more. It goes through the values of the inputs in the order of differences (fewer ones first, as many
+//! by the lexicographically least list of positions), and evaluates the graph on 64 of them at a time, in the bits of
+//! one word a variable. With k ones among n inputs there are n! / (k! (n - k)!) values: of 128 inputs 8,257 with at
+//! most two ones, and 349,633 with at most three. `most_ones_within` says how many ones some work is enough for, two at
+//! least. `least_seen` looks only where a few hundred fixed values of the inputs already show that the graph differs:
+//! its None says nothing.
 //!
 //! *Difference*, *least difference*: `LeastDifference` of `frontier_core`.
 #![tactic(auto)]

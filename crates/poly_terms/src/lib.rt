@@ -1,10 +1,13 @@
 //! Polynomials over truth values, with coefficients modulo a power of two.
 //!
-//! Each call that makes a polynomial says its value at every assignment; `equals` is true exactly where two
-//! polynomials agree at every assignment, and `size` counts the monomials of the one normal form. A table only
-//! grows: an older polynomial keeps its values. `Indexed` is a polynomial that changes in place, and from which the
-//! terms with a variable are taken out in their own number's time, `PolySum` a sum of many. Nothing but the calls that
-//! make or change a polynomial takes memory.
+//! Each call that makes a polynomial says its value at every assignment; `equals` is true exactly where two polynomials
+//! agree at every assignment, and `size`, `coefficient` and `vars` are those of the one normal form. A table only
+//! grows: each monomial is kept once, and an older polynomial keeps its values. `Indexed` is a polynomial that changes
+//! in place, and from which the terms with a variable are taken out in their own number's time, `PolySum` a sum of
+//! many, which is taken whole and leaves 0. Nothing but the calls that make or change a polynomial takes memory.
+//!
+//! What `Indexed::take` leaves has the variable in no term. That its index is complete is a clause of each call, also
+//! where the table grows; after an error nothing is known of it.
 //!
 //! *Value*: that of the monomials in the table, modulo its modulus. *Of the table*: in normal form there, as each
 //! polynomial is that a call of this table made. *Extends*: gives each polynomial of the old table its value

@@ -1,8 +1,12 @@
 //! Extended graphs: a graph, gates that are added to it, and the output columns that those gates replace.
 //!
 //! A certificate speaks of an extended graph. `Extended::without_cut` is the graph alone; `graft` puts a ripple-carry
-//! adder in place of its last outputs, or tells the first fault of the cut, and `graft_blocks` puts several of them in
-//! place of any outputs. Only these, and `with_block`, take memory.
+//! adder in place of its last outputs, or tells the first fault of the cut; `graft_blocks` puts several of them in
+//! place of any outputs, or tells the first block at fault and its first fault. Each fault is told exactly where it is.
+//! Only these, and `with_block`, take memory. `is_known` says which literals a graph has.
+//!
+//! Laws: each block adds on every evaluation; each evaluation of a graph goes on to one with the blocks; blocks one
+//! after the other keep a graph without faults.
 //!
 //! *Extended graph*, *column*: the records `Extended` and `Column` of `graph_core`, which contracts see. *New
 //! outputs*: those of the graph, but for the replaced columns (`specs/Extension.antt`). *Cut*, `with_cut`: the adder

@@ -4,10 +4,12 @@
 //! first column on are those of a ripple-carry adder over its pairs; whether they are on all operands is to be shown by
 //! whoever uses the cut. Operands on which a cut was wrong can be handed in, and the next one is right on them.
 //!
-//! A `Signature` is the values of a literal on all patterns, and `Draws` are numbers to draw patterns by.
+//! A `Signature` is the values of a literal on all patterns: of the constant, a negation, a conjunction, or what is set
+//! (`value_on`). `is` is true exactly where two are equal. `Draws` are numbers to draw patterns by.
 //!
-//! *Cut*: `specs/Blocks.antt` of `ripple_graft`. *Value* on a pattern: `specs/Values.antt`. Of `candidate` only that the
-//! answer is a cut is proved: which one it is, is advice. Which numbers are drawn, and which key a signature has, is too.
+//! *Cut*: `specs/Blocks.antt` of `ripple_graft`. *Value* on a pattern: `specs/Values.antt`. Of `candidate` only that
+//! the answer is a cut is proved: which one it is, is advice. Which numbers are drawn, and which key a signature has,
+//! is too.
 #![tactic(auto)]
 
 mod chain;

@@ -6,8 +6,8 @@
 //! spent it. `rewrite_at` does the same with any cut in place of the final stage.
 //!
 //! *Final stage*: `specs/FinalStage.antt` of `slice_finder`. *Goals*, *lawful lines*, *lemma*: `GateClauses`,
-//! `ClauseLines` and `Log` in `specs/` of `clause_core`. *Spent*: `specs/Refutations.antt` of `goal_refuter`. *Rewriting*:
-//! `specs/Rewriting.antt`.
+//! `ClauseLines` and `Log` in `specs/` of `clause_core`. *Spent*: `specs/Refutations.antt` of `goal_refuter`.
+//! *Rewriting*: `specs/Rewriting.antt`.
 #![tactic(auto)]
 
 mod cone;
