@@ -5,7 +5,8 @@
 //! of all variables, which are its evaluation (`value_into`). A `Claim` is what is claimed of a graph: how its inputs
 //! make two operands, whether these are signed, and whether there is an addend. `Operands` tells which input is then
 //! which bit; `Graph::value_on` gives the value on two operands, `Graph::sum_on` that with an addend. Only these two,
-//! `Graph::build` and the makers of `Operands` take memory.
+//! `Graph::build` and the makers of `Operands` take memory. `Graph::input` and `Operands::of` are promised calls of the
+//! library that no command needs.
 //!
 //! The contracts of all crates above cite the words of `specs/`: graphs, their evaluation, operands and the product
 //! (`Graph` and its files), what bytes spell and how a text is refused (`Text`, `Aiger`), lawful algebra certificates

@@ -1,8 +1,9 @@
 //! The outside of the program: files by slots, a report, and counts of opened files and of faults.
 //!
-//! A call on a desk fails only where the count of faults of its kind rose, and then nothing else changed. What is
-//! read is what was left, what is written comes behind what was written before, and nothing else changes, as far as
-//! the desk tells its contents at all.
+//! A call on a desk fails only where the count of faults of its kind rose, and then nothing else changed. What is read
+//! is what was left, what is written comes behind what was written before, and nothing else changes, as far as the desk
+//! tells its contents at all. `MemoryDesk` is a promised type of the library that no command needs: its calls fail and
+//! are cut as a test asks for.
 //!
 //! `read_front` gives a file's bytes, of a file that is longer than a limit a front up to a byte past it at least; or
 //! why not. `write_all` appends all bytes, or a front part with a fault. That calls on real files succeed, and what

@@ -3,9 +3,9 @@
 //! `xor_of` gives the shape of a gate exactly where it is an exclusive or over two gates (`some`, `none`);
 //! `final_stage` the fit cut with the least low column, or none exactly where no cut is fit; `blocks` half and full
 //! adders among the gates of an extended graph: each adds on every evaluation, none is missing of those that the rule
-//! names (`complete`), each is of seven gates or of a gate of XOR shape (`named`), and no two have one sum (`once`). No
-//! command needs `blocks`: it is a call of the library. `xor_of` takes no memory, and the only other answer of the
-//! others is want of it.
+//! names (`complete`), each is of seven gates or of a gate of XOR shape (`named`), and no two have one sum (`once`).
+//! `blocks` is a promised call of the library that no command needs. `xor_of` takes no memory, and the only other
+//! answer of the others is want of it.
 //!
 //! A gate of *XOR shape* is the exclusive or of its two *sides*, over two gates of which one *generates*; that one's
 //! operands are its *pair* (`specs/XorShape.antt`). A cut is *fit* by what the outputs from its low column on are,
