@@ -73,8 +73,6 @@ two_not_one lits c two h l e = h.1.1 (sym (one two.1 h.1.0) ∙ one two.0 h.0.0)
     one k has = ⊎_elim (λ s. s) (λ n. absurd (contains_nil k n)) (contains_cases l [] k (subst (λ (xs : List ℤ). Contains xs k) e has))
 
 -- ---- stages
-pub stage_alone : (s : Standing) (m : ℕ) → StandsAlone s → m ≡ length s.trail.literals → IsStage s m []
-stage_alone s m h e = record { units = h.0; bottom = omega (arith, h.1, e); marked = λ i b. absurd (omega arith); rising = λ i j a b. absurd (omega arith); settled = λ i b. absurd (omega arith) }
 
 pub stage_back : (s : Standing) (base : ℕ) (marks : List ℕ) (m : ℕ) → IsStage s base marks → IsMark s m → ((i : ℕ) → i < length marks → mark_at marks i ≤ m) → IsStage (back_at s m) base marks
 stage_back s base marks m h is low = record {
@@ -188,14 +186,9 @@ stage_open s base marks c two open' h = record {
 }
 
 -- ---- what is kept
-pub keeps_none : (s : Standing) → Keeps s s
-keeps_none s = record { clauses = refl; greatest = refl }
 
 pub keeps_more : (a b c : Standing) → Keeps a b → Keeps b c → Keeps a c
 keeps_more a b c p q = record { clauses = q.clauses ∙ p.clauses; greatest = q.greatest ∙ p.greatest }
 
 pub keeps_back : (s t : Standing) (m : ℕ) → t ≡ back_at s m → Keeps s t
 keeps_back s t m e = subst (Keeps s) (sym e) (record { clauses = refl; greatest = refl })
-
-pub keeps_grown : (s t : Standing) → Grows s t → Keeps s t
-keeps_grown s t g = record { clauses = g.clauses; greatest = g.greatest }

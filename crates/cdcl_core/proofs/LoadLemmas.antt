@@ -17,7 +17,7 @@ use Rattle.clause_core.proofs.RupSoundness.{contains_cases}
 use Rattle.clause_core.proofs.Places.{below_suc}
 use Rattle.cdcl_core.proofs.Trails.{IsValue, literal_positive}
 use Rattle.unit_prop.specs.Trail.{IsWithin}
-use Rattle.unit_prop.specs.Standing.{Standing, live_of, Adds, IsSettled}
+use Rattle.unit_prop.specs.Standing.{Standing, live_of, IsSettled}
 use Rattle.cdcl_core.proofs.Standings.{front, behind}
 use Rattle.cdcl_core.specs.Loading.{SameLive, Loads}
 use Rattle.cdcl_core.specs.Additions.{AreAdditions, left_by}
@@ -37,19 +37,6 @@ loads_none s max e = subst (λ (t : Standing). Loads t max []) (sym e) (record {
   live = record { there = λ c has. has; back = λ c has. has };
   within = λ c has. absurd (contains_nil c has);
 })
-
--- one more clause, wherever it stands in the list
-pub loads_more : (s new : Standing) (max r : ℕ) (c : Clause) (clauses more : List Clause) → Loads s max clauses → Adds s c r new → ((l : ℤ) → Contains c l → IsWithin max l) → SameLive (clauses ++ c ∷ []) more → Loads new max more
-loads_more s new max r c clauses more h a within same = record {
-  greatest = a.greatest ∙ h.greatest;
-  live = record {
-    there = λ d has. same.there d (⊎_elim (λ m. Contains-append_left clauses (c ∷ []) d (h.live.there d m)) (λ e. subst (Contains (clauses ++ c ∷ [])) e (Contains-push clauses c))
-        (Contains-push_cases (live_of s.clauses) c d (subst (λ (cs : List Clause). Contains cs d) (ap live_of a.clauses ∙ live_push s.clauses c) has)));
-    back = λ d has. subst (λ (cs : List Clause). Contains cs d) (sym (ap live_of a.clauses ∙ live_push s.clauses c))
-        (⊎_elim (λ m. Contains-append_left (live_of s.clauses) (c ∷ []) d (h.live.back d m)) (λ e. subst (Contains (live_of s.clauses ++ c ∷ [])) e (Contains-push (live_of s.clauses) c)) (Contains-push_cases clauses c d (same.back d has)));
-  };
-  within = λ d has l in'. ⊎_elim (λ m. h.within d m l in') (λ e. within l (subst (λ (x : Clause). Contains x l) (sym e) in')) (Contains-push_cases clauses c d (same.back d has));
-}
 
 pub same_live_self : (a b : List Clause) → a ≡ b → SameLive a b
 same_live_self a b e = record { there = λ c has. subst (λ (cs : List Clause). Contains cs c) e has; back = λ c has. subst (λ (cs : List Clause). Contains cs c) (sym e) has }
@@ -99,9 +86,6 @@ pub record AreValuesBelow (standing : List ℤ) (var : ℕ) (values : List Bool)
   pub yes : (v : ℕ) → 0 < v → v < var → Contains standing (pos v) → slice_index_or values (v - 1) false ≡ true
   pub no : (v : ℕ) → 0 < v → v < var → Contains standing (neg_ℤ (pos v)) → slice_index_or values (v - 1) false ≡ false
 
-pub values_none : (standing : List ℤ) → AreValuesBelow standing 1 []
-values_none standing = record { count = refl; yes = λ v s b. absurd (omega arith); no = λ v s b. absurd (omega arith) }
-
 pub values_more : (standing : List ℤ) (var : ℕ) (values : List Bool) (o : Option Bool) → IsValue standing (pos var) o → AreValuesBelow standing var values → AreValuesBelow standing (var + 1) (values ++ unwrap_or o false ∷ [])
 values_more standing var values o told h = record {
   count = omega (arith, h.count, length-append values (unwrap_or o false ∷ []));
@@ -120,9 +104,6 @@ values_more standing var values o told h = record {
     is_false None v has = refl
     is_false (Some true) v has = absurd (v.1 has)
     is_false (Some false) v has = refl
-
-pub values_whole : (standing : List ℤ) (max var : ℕ) (values : List Bool) → max + 1 ≤ var → var ≤ max + 1 → AreValuesBelow standing var values → AreValues standing max values
-values_whole standing max var values a b h = record { count = omega (arith, h.count); yes = λ v s k. h.yes v s (omega arith); no = λ v s k. h.no v s (omega arith) }
 
 -- what stands is true in the values
 pub true_by_values : (standing : List ℤ) (max : ℕ) (values : List Bool) (l : ℤ) → AreValues standing max values → 0 < variable l → variable l ≤ max → Contains standing l → signed (assignment_of values) l ≡ true

@@ -15,12 +15,11 @@ use Rattle.clause_core.specs.Log.{IsLemma}
 use Rattle.clause_core.proofs.Decided.{decided_int, decided_contains, contains_here, contains_there, contains_nil}
 use Rattle.clause_core.proofs.RupSoundness.{contains_cases}
 use Rattle.clause_core.proofs.Places.{below_suc, contains_at, at_contained, same_at}
-use Rattle.std.specs.Option.{is_some}
 use Rattle.unit_prop.specs.declared.assumed.Assumed.{Assumed}
 use Rattle.unit_prop.specs.declared.assumed.Assumed.TheVariants.{Fresh, Known, Opposed}
 use Rattle.unit_prop.specs.Standing.{at, reason_at}
 use Rattle.cdcl_core.proofs.Trails.{trail_of}
-use Rattle.unit_prop.specs.Trail.{IsOpen, HasValue, IsWithin}
+use Rattle.unit_prop.specs.Trail.{IsOpen, IsWithin}
 use Rattle.unit_prop.specs.Standing.{Standing, live_of, standing_with, back_at, IsMark, Propagates, IsConflict, IsFound, IsSettled, IsSound, StandsAlone}
 use Rattle.unit_prop.specs.Standing.{Assumes}
 use Rattle.cdcl_core.proofs.Trails.{neg-neg, variable-neg}
@@ -239,14 +238,6 @@ pub extends_more : (a b c : Standing) → Extends a b → Extends b c → Extend
 extends_more a b c p q = (same_more a b c p.0 q.0, λ l has. q.1 l (p.1 l has), q.2)
 
 -- ---- choosing
-pub stands_by_value : (s : Standing) (l : ℤ) (o : Option Bool) → HasValue s.trail.literals l o → is_some o ≡ true → Contains s.trail.literals l ⊎ Contains s.trail.literals (neg_ℤ l)
-stands_by_value s l None v e = absurd (cc)
-stands_by_value s l (Some true) v e = inl v
-stands_by_value s l (Some false) v e = inr v
-
-pub open_by_value : (s : Standing) (l : ℤ) (o : Option Bool) → HasValue s.trail.literals l o → is_some o ≡ false → IsOpen s.trail.literals l
-open_by_value s l None v e = v
-open_by_value s l (Some b) v e = absurd (cc)
 
 pub open_neg : (lits : List ℤ) (l : ℤ) → IsOpen lits l → IsOpen lits (neg_ℤ l)
 open_neg lits l h = (h.1, λ c. h.0 (subst (Contains lits) (neg-neg l) c))

@@ -8,7 +8,7 @@ use Rattle.std.specs.List.{All, Contains}
 use Rattle.std.proofs.Common.{refl, sym, ap, subst, ◌∙◌, arith, inl, inr, ⊎_elim}
 use Rattle.std.proofs.lemmas.List.Elements.{All-cons, All-contains, Contains-append_left, Contains-append_right, Contains-append_cases, Contains-push, Contains-push_cases}
 use Rattle.clause_core.specs.Clause.{Clause, IsClauseInRange, Satisfies, holds}
-use Rattle.clause_core.specs.Log.{IsLemma, AreLogLines}
+use Rattle.clause_core.specs.Log.{AreLogLines}
 use Rattle.clause_core.specs.UnitPropagation.{IsRup}
 use Rattle.clause_core.specs.declared.line.Line.{Line}
 use Rattle.clause_core.specs.declared.line.Line.TheVariants.{Add, Delete}
@@ -74,10 +74,6 @@ pub ready_added : {A E : Type 0} (max : ℕ) (s new : Standing) (order base late
     → OnOk r (new.clauses ≡ s.clauses ++ Some c ∷ []) → OnErr r (new.clauses ≡ s.clauses) → IsReady max new order later more
 ready_added max s new order base later marks more c (Ok u) h range greatest stage ok err = ready_more max s new order base later marks more c h range ok greatest stage
 ready_added max s new order base later marks more c (Err e) h range greatest stage ok err = ready_kept max s new order order base later marks more h err greatest refl stage
-
--- a lemma over the same clauses
-pub lemma_back : (s t : Standing) (c : Clause) → t.clauses ≡ s.clauses → IsLemma (live_of t.clauses) c → IsLemma (live_of s.clauses) c
-lemma_back s t c e h = subst (λ (cs : List (Option Clause)). IsLemma (live_of cs) c) e h
 
 pub settled_answer : (s t : Standing) (assumptions : List ℤ) (b : Bool) → Begins s t assumptions b → MatchBool b (IsRup (live_of s.clauses) (map neg_ℤ assumptions) → ⊥) (IsRup (live_of s.clauses) (map neg_ℤ assumptions))
 settled_answer s t assumptions true h = not_refuted_answer s t (live_of s.clauses) assumptions (same_live_self (live_of s.clauses) (live_of s.clauses) refl) h.0.clauses h.1

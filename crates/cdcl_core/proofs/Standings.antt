@@ -31,9 +31,6 @@ behind (x ∷ xs) y d (suc i) e = behind xs y d i (omega arith)
 pub live_has : (clauses : List (Option Clause)) (r : ℕ) (c : Clause) → clause_at clauses r ≡ Some c → Contains (live_of clauses) c
 live_has = findings.live_has
 
-pub live_at : (clauses : List (Option Clause)) (c : Clause) → Contains (live_of clauses) c → (r : ℕ) × (clause_at clauses r ≡ Some c)
-live_at = findings.live_is
-
 pub wider : (a b : List ℤ) (c : Clause) (l : ℤ) → IsSubset a b → IsUnit a c l → IsUnit b c l
 wider a b c l sub u = (u.0, λ k has. ⊎_elim inl (λ n. inr (sub (neg_ℤ k) n)) (u.1 k has))
 

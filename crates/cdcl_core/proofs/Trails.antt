@@ -1,5 +1,5 @@
 -- Trails: literals and their variables, none of them twice.
-use Rattle.std.specs.Prelude.{◌≡◌, ◌≢◌, ℕ, zero, suc, ◌+◌, ◌<◌, ◌≤◌, ◌⊎◌, Bool, true, false, List, length, ℤ, pos, negsuc, neg_ℤ, nat_abs}
+use Rattle.std.specs.Prelude.{◌≡◌, ◌≢◌, ℕ, zero, suc, ◌+◌, ◌<◌, ◌≤◌, Bool, true, false, List, length, ℤ, pos, negsuc, neg_ℤ, nat_abs}
 use Rattle.std.specs.declared.option.Option.{Option}
 use Rattle.std.specs.declared.option.Option.TheVariants.{None, Some}
 use Rattle.std.specs.Option.{unwrap_or}
@@ -19,9 +19,6 @@ neg-neg = steps.neg-neg
 
 pub variable-neg : (l : ℤ) → variable (neg_ℤ l) ≡ variable l
 variable-neg = steps.variable-neg
-
-pub same_variable : (l m : ℤ) → variable l ≡ variable m → (l ≡ m) ⊎ (l ≡ neg_ℤ m)
-same_variable = steps.same_variable
 
 pub neg_differs : (l : ℤ) → 0 < variable l → l ≢ neg_ℤ l
 neg_differs (pos zero) h e = omega arith
@@ -43,10 +40,6 @@ variable-abs (negsuc v) = refl
 pub literal_positive : (l : ℤ) → IsLiteral l → 0 < variable l
 literal_positive (pos v) h = h.0
 literal_positive (negsuc v) h = omega arith
-
-pub literal_small : (l : ℤ) → IsLiteral l → nat_abs l < 2147483648
-literal_small (pos v) h = h.1
-literal_small (negsuc v) h = omega arith
 
 pub is_within : (max : ℕ) (l : ℤ) → max < 2147483648 → 0 < variable l → variable l ≤ max → IsWithin max l
 is_within max (pos v) m s b = ((s, omega arith), b)

@@ -18,7 +18,7 @@ use unit_prop::{Propagator, Ref};
 
 /// What is known of a conflict while its reasons are resolved from the last one down.
 #[derive(Debug, Drop)]
-pub struct Analysis {
+pub(crate) struct Analysis {
     /// how many literals stood before the last decision
     level: usize,
     /// whether each variable's literal is in the clause resolved so far, or was resolved away
@@ -47,7 +47,7 @@ impl Model for Analysis {
 
 impl Analysis {
     /// The analysis of a conflict, resolved until one literal of the last level is left.
-    pub fn of(
+    pub(crate) fn of(
         alloc: Global,
         propagator: &Propagator,
         max: u32,
@@ -66,7 +66,7 @@ impl Analysis {
     }
 
     /// Moves the variables that were seen to the front of an order, the latest first.
-    pub fn bump(&self, propagator: &Propagator, order: &mut Order)
+    pub(crate) fn bump(&self, propagator: &Propagator, order: &mut Order)
         requires analysis { IsAnalysis propagator.now self.now }
         requires sound { IsSound propagator.now }
         requires order { order.old ≡ propagator.now.trail.greatest }
@@ -81,7 +81,7 @@ impl Analysis {
     }
 
     /// The literals of the lemma. The room is given back.
-    pub fn into_lits(
+    pub(crate) fn into_lits(
         self,
         propagator: &Propagator,
         room: &mut Vec<usize>,

@@ -14,14 +14,14 @@ use unit_prop::{Propagator, Ref};
 
 /// A clause that is false, and what stood before the last decision.
 #[derive(Clone, Copy, Debug)]
-pub struct Conflict {
+pub(crate) struct Conflict {
     pub clause: Ref,
     pub level: usize,
 }
 
 /// The lemma of the first literal of the last level through which all its reasons pass. What was resolved moves to the
 /// front of the order. The room is memory that is used again, whatever is in it.
-pub fn learn(
+pub(crate) fn learn(
     alloc: Global,
     propagator: &Propagator,
     max: u32,

@@ -16,7 +16,7 @@ use graph_core::Memory;
 use unit_prop::{Assumed, Propagator};
 
 /// Lets the assumptions stand with their consequences; false where they are refuted.
-pub fn begin(propagator: &mut Propagator, assumptions: &[i32]) -> bool
+pub(crate) fn begin(propagator: &mut Propagator, assumptions: &[i32]) -> bool
     requires alone { StandsAlone propagator.old }
     requires signed { propagator.old.trail.greatest < 2 ^ 31 }
     requires in_range { IsClauseInRange propagator.old.trail.greatest assumptions.now }
@@ -36,7 +36,7 @@ pub fn begin(propagator: &mut Propagator, assumptions: &[i32]) -> bool
 
 /// Lets the assumptions stand with their consequences: as at the last moment, if they stood then and the search does
 /// not go on anew. False where they are refuted.
-pub fn settle(
+pub(crate) fn settle(
     propagator: &mut Propagator,
     levels: &mut Levels,
     assumptions: &[i32],
@@ -61,7 +61,7 @@ pub fn settle(
 }
 
 /// Decides until each variable has a value or a clause is false.
-pub fn descend(
+pub(crate) fn descend(
     propagator: &mut Propagator,
     order: &Order,
     levels: &mut Levels,

@@ -14,14 +14,14 @@ use unit_prop::{Mark, Propagator};
 /// The moment at which only the literals of unit clauses stood, and those since at which every consequence did: behind
 /// the assumptions, and behind each decision.
 #[derive(Debug, Drop)]
-pub struct Levels {
+pub(crate) struct Levels {
     base: Mark,
     marks: Vec<Mark>,
 }
 
 impl Levels {
     /// Those of a propagator in which only the literals of unit clauses stand.
-    pub fn new(alloc: Global, propagator: &Propagator) -> Levels
+    pub(crate) fn new(alloc: Global, propagator: &Propagator) -> Levels
         requires { StandsAlone propagator.now }
         ensures { IsStage propagator.now result.base result.marks.items }
     {
@@ -32,7 +32,7 @@ impl Levels {
     }
 
     /// One more moment, which is now.
-    pub fn push(&mut self, propagator: &Propagator) -> Result<(), Memory>
+    pub(crate) fn push(&mut self, propagator: &Propagator) -> Result<(), Memory>
         requires stage { IsStage propagator.now self.old.base self.old.marks.items }
         requires settled { IsSettled propagator.now }
         ensures { IsStage propagator.now self.new.base self.new.marks.items }
@@ -42,7 +42,7 @@ impl Levels {
     }
 
     /// Back to where only the literals of unit clauses stand.
-    pub fn restart(&mut self, propagator: &mut Propagator)
+    pub(crate) fn restart(&mut self, propagator: &mut Propagator)
         requires { IsStage propagator.old self.old.base self.old.marks.items }
         ensures keeps { Keeps propagator.old propagator.new }
         ensures alone { StandsAlone propagator.new }
@@ -53,7 +53,12 @@ impl Levels {
     }
 
     /// Back to the last moment, if there is one and the search does not go on anew; whether the assumptions stood then.
-    pub fn resume(&mut self, propagator: &mut Propagator, assumptions: &[i32], anew: bool) -> bool
+    pub(crate) fn resume(
+        &mut self,
+        propagator: &mut Propagator,
+        assumptions: &[i32],
+        anew: bool,
+    ) -> bool
         requires stage { IsStage propagator.old self.old.base self.old.marks.items }
         requires within { (l : ℤ) → Contains assumptions.now l → IsWithin propagator.old.trail.greatest l }
         ensures keeps { Keeps propagator.old propagator.new }
@@ -76,7 +81,7 @@ impl Levels {
 
     /// One more clause: at the last moment at which two of its literals are open, or where only the literals of unit
     /// clauses stand.
-    pub fn add(&mut self, propagator: &mut Propagator, clause: &Clause) -> Result<(), Memory>
+    pub(crate) fn add(&mut self, propagator: &mut Propagator, clause: &Clause) -> Result<(), Memory>
         requires stage { IsStage propagator.old self.old.base self.old.marks.items }
         requires within { (l : ℤ) → Contains clause.now l → IsWithin propagator.old.trail.greatest l }
         ensures greatest { propagator.new.trail.greatest ≡ propagator.old.trail.greatest }
@@ -92,7 +97,11 @@ impl Levels {
     }
 
     /// One more clause, where only the literals of unit clauses stand.
-    pub fn add_anew(&mut self, propagator: &mut Propagator, clause: &Clause) -> Result<(), Memory>
+    pub(crate) fn add_anew(
+        &mut self,
+        propagator: &mut Propagator,
+        clause: &Clause,
+    ) -> Result<(), Memory>
         requires stage { IsStage propagator.old self.old.base self.old.marks.items }
         requires within { (l : ℤ) → Contains clause.now l → IsWithin propagator.old.trail.greatest l }
         ensures greatest { propagator.new.trail.greatest ≡ propagator.old.trail.greatest }
@@ -135,6 +144,17 @@ impl Levels {
     }
 }
 
+/// Whether a literal stands.
+pub(crate) fn stands(propagator: &Propagator, lit: i32) -> bool
+    requires { IsWithin propagator.now.trail.greatest lit }
+    ensures there { IsTrue result → Contains propagator.now.trail.literals lit }
+    ensures absent { IsFalse result → Contains propagator.now.trail.literals lit → ⊥ }
+{
+    // no literal stands beside its negation
+    let _sound = propagator.mark();
+    propagator.value(lit).unwrap_or(false)
+}
+
 // Two literals that are open.
 fn two_open(propagator: &Propagator, lits: &[i32]) -> Option<(i32, i32)>
     requires within { (l : ℤ) → Contains lits.now l → IsWithin propagator.now.trail.greatest l }
@@ -171,15 +191,4 @@ fn all_stand(propagator: &Propagator, lits: &[i32]) -> bool
         }
     }
     true
-}
-
-/// Whether a literal stands.
-pub(crate) fn stands(propagator: &Propagator, lit: i32) -> bool
-    requires { IsWithin propagator.now.trail.greatest lit }
-    ensures there { IsTrue result → Contains propagator.now.trail.literals lit }
-    ensures absent { IsFalse result → Contains propagator.now.trail.literals lit → ⊥ }
-{
-    // no literal stands beside its negation
-    let _sound = propagator.mark();
-    propagator.value(lit).unwrap_or(false)
 }

@@ -3,7 +3,7 @@ ghost use Rattle.std.specs.Prelude.{◌≡◌, ◌<◌, ◌^◌, neg_ℤ, pos};
 ghost use Rattle.unit_prop.specs.Trail.{variable};
 
 /// The negation of a literal.
-pub fn negation(lit: i32) -> i32
+pub(crate) fn negation(lit: i32) -> i32
     requires { variable lit < 2 ^ 31 }
     ensures { result ≡ neg_ℤ lit }
 {
@@ -11,14 +11,14 @@ pub fn negation(lit: i32) -> i32
 }
 
 /// A literal's variable.
-pub fn variable(lit: i32) -> u32
+pub(crate) fn variable(lit: i32) -> u32
     ensures { result ≡ variable lit }
 {
     lit.unsigned_abs()
 }
 
 /// The literal that says a variable is true.
-pub fn positive(var: u32) -> i32
+pub(crate) fn positive(var: u32) -> i32
     requires { var < 2 ^ 31 }
     ensures { result ≡ pos var }
 {

@@ -9,7 +9,7 @@ use std::alloc::Global;
 use unit_prop::Propagator;
 
 /// The values of all variables.
-pub fn values(alloc: Global, propagator: &Propagator, max: u32) -> Result<Vec<bool>, Memory>
+pub(crate) fn values(alloc: Global, propagator: &Propagator, max: u32) -> Result<Vec<bool>, Memory>
     requires max { propagator.now.trail.greatest ≡ max }
     requires signed { max < 2 ^ 31 }
     requires sound { IsSound propagator.now }

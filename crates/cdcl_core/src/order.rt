@@ -15,7 +15,7 @@ use unit_prop::Propagator;
 /// A variable that took part in a conflict moves to the front. The order is a ring of links through 0; that it has
 /// every variable is not relied on.
 #[derive(Debug, Drop)]
-pub struct Order {
+pub(crate) struct Order {
     greatest: u32,
     next: Vec<u32>,
     prev: Vec<u32>,
@@ -35,7 +35,7 @@ impl Model for Order {
 
 impl Order {
     /// The variables from the greatest one down, each false at first.
-    pub fn new(alloc: Global, max: u32) -> Result<Order, Memory>
+    pub(crate) fn new(alloc: Global, max: u32) -> Result<Order, Memory>
         requires { max < 2 ^ 31 }
         ensures { IfOk result (λ order. order ≡ max) }
     {
@@ -53,7 +53,7 @@ impl Order {
     }
 
     /// Moves a variable to the front.
-    pub fn bump(&mut self, var: u32)
+    pub(crate) fn bump(&mut self, var: u32)
         requires { var ≤ self.old }
         ensures { self.new ≡ self.old }
     {
@@ -87,7 +87,7 @@ impl Order {
     }
 
     /// Keeps the values that stand.
-    pub fn save(&mut self, trail: &[i32])
+    pub(crate) fn save(&mut self, trail: &[i32])
         ensures { self.new ≡ self.old }
     {
         for &lit in trail {
@@ -100,7 +100,7 @@ impl Order {
 
     /// The first open variable from the cursor on, with the value that it had last; None where every variable has a
     /// value.
-    pub fn choose(&self, propagator: &Propagator, cursor: &mut u32) -> Option<i32>
+    pub(crate) fn choose(&self, propagator: &Propagator, cursor: &mut u32) -> Option<i32>
         requires max { propagator.now.trail.greatest ≡ self.now }
         requires signed { self.now < 2 ^ 31 }
         requires cursor { cursor.old ≤ self.now }
@@ -120,7 +120,7 @@ impl Order {
         first_open(propagator, self.greatest)
     }
 
-    pub fn first(&self) -> u32
+    pub(crate) fn first(&self) -> u32
         ensures { result ≤ self.now }
     {
         self.next[0]

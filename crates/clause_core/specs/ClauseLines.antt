@@ -65,11 +65,6 @@ pub record IsGoalRefusal (e : Extended) (lines : List ClauseLine) (column : ℕ)
 
 -- ---- laws
 
--- Whichever one of several clauses with one set is removed, the same clauses follow.
-abbrev pub RemovalIsFree : Type 0
-RemovalIsFree = (live : List Clause) (c : Clause) (one other : List Clause) → Removes live c one →
-    Removes live c other → (d : Clause) → IsRup one d → IsRup other d
-
 -- Where each clause holds at an assignment, each that lawful lines add does.
 abbrev pub AddedHold : Type 0
 AddedHold = (live : List Clause) (lines : List ClauseLine) (σ : Assignment) →

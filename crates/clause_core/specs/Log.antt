@@ -1,10 +1,9 @@
 -- The lawful log of a solver.
 use Rattle.std.specs.Prelude.{◌≡◌, ℕ, suc, ◌*◌, ◌≤◌, ◌⊎◌, Bool, true, false, List, [], ◌∷◌, ◌++◌, if◌then◌else◌}
 use Rattle.std.specs.List.{All, Contains, fold}
-use Rattle.graph_core.specs.Graph.Assignments.{Assignment}
-use Rattle.clause_core.specs.Clause.{Clause, HasSigns, Satisfies, IsSubset}
+use Rattle.clause_core.specs.Clause.{Clause, IsSubset}
 use Rattle.clause_core.specs.UnitPropagation.{IsRup, IsTautology}
-use Rattle.clause_core.specs.ClauseLines.{ClauseLine, Removes, AreLawfulClauses, added, clause_in}
+use Rattle.clause_core.specs.ClauseLines.{ClauseLine, Removes, AreLawfulClauses}
 use Rattle.clause_core.specs.declared.line.Line.TheVariants.{Add, Delete}
 
 -- A lemma follows from the live clauses, is no tautology, and no live clause is a subset of it.
@@ -55,27 +54,6 @@ pub record IsLawfulLog (given goals : List Clause) (lines : List ClauseLine) (le
   pub spaced : AreRunsSpaced first_spacing lines
 
 -- ---- the laws
-
--- The empty log is lawful, a lemma keeps a log lawful, a goal that follows does, and so does a deletion that the spacing allows.
-pub record LogGoesOn : Type 0 where
-  pub begins : (given goals : List Clause) → IsLawfulLog given goals [] []
-  pub lemma : (given goals : List Clause) (lines : List ClauseLine) (left : List Clause) (c : Clause) →
-      IsLawfulLog given goals lines left → IsLemma (left ++ given) c →
-      IsLawfulLog given goals (lines ++ Add c ∷ []) (c ∷ left)
-  pub goal : (given goals : List Clause) (lines : List ClauseLine) (left : List Clause) (c : Clause) →
-      IsLawfulLog given goals lines left → Contains goals c → IsRup (left ++ given) c →
-      IsLawfulLog given goals (lines ++ Add c ∷ []) (c ∷ left)
-  pub deletion : (given goals : List Clause) (lines : List ClauseLine) (left : List Clause) (c : Clause)
-      (next : List Clause) → IsLawfulLog given goals lines left → Removes left c next →
-      IsSpacedLine (spacing_of lines) (Delete c) → IsLawfulLog given goals (lines ++ Delete c ∷ []) next
-  pub spacing : (lines : List ClauseLine) (x : ClauseLine) → spacing_of (lines ++ x ∷ []) ≡ spacing_after (spacing_of lines) x
-  pub free : (lines : List ClauseLine) (c d : Clause) → IsSpacedLine (spacing_of (lines ++ Delete c ∷ [])) (Delete d)
-
--- Where the list holds, each clause that a lawful log adds holds, and so does each that it leaves live.
-abbrev pub LogIsSound : Type 0
-LogIsSound = (given goals : List Clause) (lines : List ClauseLine) (left : List Clause) (σ : Assignment) →
-    IsLawfulLog given goals lines left → All HasSigns given →
-    All (λ x. HasSigns (clause_in x)) lines → Satisfies σ given → Satisfies σ (added lines) × Satisfies σ left
 
 -- A lawful log's lines are lawful lines of a clause certificate.
 abbrev pub LogIsCertificate : Type 0

@@ -1,8 +1,8 @@
 -- Unit propagation, as chains of clauses, and reverse unit propagation (RUP).
 use Rattle.std.specs.Prelude.{◌≡◌, ℕ, ◌<◌, ◌⊎◌, true, List, [], ◌∷◌, map, ℤ, pos, neg_ℤ}
-use Rattle.std.specs.List.{All, Any, Contains}
+use Rattle.std.specs.List.{All, Contains}
 use Rattle.graph_core.specs.Graph.Assignments.{Assignment}
-use Rattle.clause_core.specs.Clause.{Clause, HasSigns, IsSubset, SameSet, Satisfies, holds}
+use Rattle.clause_core.specs.Clause.{Clause, HasSigns, IsSubset, Satisfies, holds}
 
 -- the literals but one are false under what is assumed
 abbrev pub IsUnit : List ℤ → Clause → ℤ → Type 0
@@ -55,9 +55,3 @@ PropagationEnds = (live : List Clause) (assumed : List ℤ) → IsRefuted live a
 -- A clause follows by reverse unit propagation, or it doesn't.
 abbrev pub RupIsDecided : Type 0
 RupIsDecided = (live : List Clause) (c : Clause) → IsRup live c ⊎ ¬ (IsRup live c)
-
--- Whether a clause follows depends on its set alone, and on the sets of the live clauses: others beside them do no harm.
-pub record RupIsBySets : Type 0 where
-  pub live : (live more : List Clause) (c : Clause) → ((d : Clause) → Contains live d → Any (λ e. SameSet e d) more) → IsRup live c → IsRup more c
-  pub clause : (live : List Clause) (c d : Clause) → SameSet c d → IsRup live c → IsRup live d
-  pub refuted : (live : List Clause) (assumed more : List ℤ) → IsSubset assumed more → IsRefuted live assumed → IsRefuted live more

@@ -7,7 +7,7 @@ use Rattle.std.proofs.lemmas.List.Elements.{recursion_from_All}
 use Rattle.graph_core.specs.Graph.Assignments.{Assignment}
 use Rattle.graph_core.specs.Graph.Operands.{Sides}
 use Rattle.graph_core.specs.Graph.Extended.{Extended}
-use Rattle.graph_core.specs.Algebra.{Part, axioms, combined}
+use Rattle.graph_core.specs.Algebra.{axioms, combined}
 use Rattle.graph_core.specs.Algebra as algebra
 use Rattle.poly_terms.specs.Tables.{Table, Sum, Extends, IsOf, monomials_in, value_in}
 use Rattle.poly_terms.specs.Monomials.{AreIn, Grows}

@@ -1,22 +1,17 @@
 -- The values of what a step makes.
-use Rattle.std.specs.Prelude.{◌≡◌, ℕ, ◌+◌, ◌*◌, ◌%◌, ◌^◌, ◌<◌, ◌≤◌, Bool, true, false, List, [], ◌∷◌}
+use Rattle.std.specs.Prelude.{◌≡◌, ℕ, ◌+◌, ◌*◌, ◌%◌, ◌^◌, ◌<◌, ◌≤◌, Bool, true, false}
 use Rattle.std.proofs.Common.{refl, ap, ◌∙◌, arith}
 use Rattle.std.proofs.Math.Nat.{mod-eq_of_lt, zero-mod}
 use Rattle.std.proofs.Math.Pow.{pow-lt}
 use Rattle.std.proofs.lemmas.Nat.{one_shl, pow_pos}
 use Rattle.graph_core.specs.Graph.Assignments.{Assignment, bit}
-use Rattle.graph_core.specs.Algebra.Polynomials.{Polynomial, difference, value}
+use Rattle.graph_core.specs.Algebra.Polynomials.{difference}
 use Rattle.gate_axioms.proofs.Opposites.{opposite_difference, one_reduced}
 use Rattle.poly_terms.specs.Tables.{Table, Sum, modulus, value_in}
-use Rattle.column_reducer.specs.Gathering.{term_of}
 
 pub bit_reduced : (b : Bool) (w : ℕ) → 1 ≤ w → bit b % 2 ^ w ≡ bit b
 bit_reduced true w h = one_reduced w h
 bit_reduced false w h = zero-mod (2 ^ w)
-
--- the value of one term
-pub term_has : (m c : ℕ) (vs : List ℕ) (σ : Assignment) (p : Polynomial) → p ≡ term_of c vs ∷ [] → value m p σ ≡ value m (term_of c vs ∷ []) σ
-term_has m c vs σ p e = ap (λ q. value m q σ) e
 
 -- a polynomial times an opposite of 1
 pub opposite_has : (t : Table) (p r : Sum) (o : ℕ) (σ : Assignment) → (o + 1) % modulus t ≡ 0 → value_in t r σ ≡ (o * value_in t p σ) % modulus t → value_in t r σ ≡ difference (modulus t) 0 (value_in t p σ)

@@ -377,9 +377,6 @@ power_set t0 t g mid more k h groups columns total parts stated power low = reco
   power = power;
 }
 
-pub power_itself : (t : Table) (g : Gathered) (k : ℕ) → k ≡ g.power → HasPower t t k g g
-power_itself t g k is = record { settles = settled_itself t g; power = sym is }
-
 pub taken_none : (t : Table) (x : Gate) (g : Gathered) → HasTaken t t x None g g
 taken_none t x g = record { gathered = λ e s f rest next same is fixed gap_is next_is turned h. none_taken e s t f rest next g x is next_is turned h; count = omega arith }
 

@@ -22,7 +22,7 @@ use Rattle.frontier_core.proofs.Gathered.{combined_push}
 use Rattle.frontier_core.proofs.Everywhere.{all_from_map, all_has}
 use Rattle.frontier_core.proofs.LineLemmas.{new_line_is_live}
 use Rattle.column_reducer.specs.declared.gathered.Group.{Group}
-use Rattle.column_reducer.specs.Gathering.{AreGroups, AreParts, AreWritten, IsGroup, groups_sum}
+use Rattle.column_reducer.specs.Gathering.{AreParts, AreWritten, IsGroup}
 use Rattle.column_reducer.specs.Reducing.{IsOfGraph}
 use Rattle.column_reducer.proofs.Fixed.{all_left, all_right}
 use Rattle.column_reducer.proofs.Taken.{part_pushed, sum_more}
@@ -181,26 +181,3 @@ pub sum_has : (s : Sides) (total : Sum) (ones : List (ℕ × Sum)) (id : ℕ) (l
 sum_has s total ones id l new σ puts h =
     ap (λ k. value_of k.live id σ) puts.ledger ∙ (new_line_is_live (algebra.modulus l.extended) (ledger_of l) id (monomials_in l.table total)).1 σ ∙
     ap (λ m. value m (monomials_in l.table total) σ) (sym h.same_modulus)
-
--- ---- before the first line
-
-pub none_written : (s : Sides) (total : Sum) (gs : List Group) (columns : List (ℕ × Sum)) (l : Made) → IsExtension l.extended → AreLawfulSoFar l → l.lines ≡ [] → l.closing ≡ None →
-    AreGroups l.extended l.table gs columns total → AreWritten l.extended l.sides l.table total gs columns l
-none_written s total gs columns l made lawful fresh unclosed h =
-    let e = l.extended in
-    let ledger : ledger_of l ≡ axioms e = ap (algebra.after_all (algebra.modulus e) (axioms e)) fresh in
-    let greatest : e.max + length e.graph.outputs ≡ l.last = sym (ap (λ k. k.last) ledger) ∙ lawful.greatest in
-    record {
-      made = made;
-      same_modulus = lawful.same_modulus;
-      graph = record { extended = refl; sides = refl; table = refl; unclosed = unclosed };
-      axioms = λ i small. ap (λ k. line_of k.live i) ledger;
-      groups = h.groups;
-      sum = λ σ. ap (λ k. (groups_sum l.table gs σ + combined (algebra.modulus e) k.live (parts_in l.table columns) σ) % algebra.modulus e) ledger ∙ h.sum σ;
-      over = h.of_columns.over;
-      nonzero = h.of_columns.nonzero;
-      live = subst (λ k. All (λ p. IsLive k.live p.0) columns) (sym ledger) h.of_columns.live;
-      once = h.of_columns.once;
-      ids = subst (λ n. All (λ p. (e.max < p.0) × (p.0 ≤ n)) columns) greatest h.of_columns.ids;
-      low = omega arith;
-    }

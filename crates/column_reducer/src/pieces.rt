@@ -12,40 +12,6 @@ use mv_nums::Residue;
 use poly_terms::{Poly, Terms};
 use std::alloc::{AllocError, Global};
 
-// A coefficient times variables, as the only part.
-fn part_of(
-    alloc: Global,
-    number: u128,
-    variables: Vec<u32>,
-) -> Result<Vec<(u128, Vec<u32>)>, AllocError>
-    ensures { IfOk result (λ parts. given parts.items ≡ term_of number variables.items ∷ []) }
-{
-    let mut parts = Vec::new(alloc);
-    parts.push((number, variables))?;
-    Ok(parts)
-}
-
-// A number, modulo the table's modulus.
-fn constant(alloc: Global, terms: &mut Terms, number: u128) -> Result<Poly, Memory>
-    ensures extends { Extends terms.old terms.new }
-    ensures of { IfOk result (IsOf terms.new) }
-    ensures value { IfOk result (λ p. (σ : Assignment) → value_in terms.new p σ ≡ number % modulus terms.old) }
-{
-    let parts = part_of(alloc, number, Vec::new(alloc))?;
-    let poly = terms.make(&parts)?;
-    Ok(poly)
-}
-
-// The number 1 for true and 0 for false.
-fn bit_poly(alloc: Global, terms: &mut Terms, value: bool) -> Result<Poly, Memory>
-    ensures extends { Extends terms.old terms.new }
-    ensures of { IfOk result (IsOf terms.new) }
-    ensures value { IfOk result (λ p. (σ : Assignment) → value_in terms.new p σ ≡ bit value) }
-{
-    let _exponent = terms.exponent();
-    constant(alloc, terms, u128::from(value))
-}
-
 // The number 2^k, for k below the exponent of the modulus.
 pub(crate) fn power_poly(alloc: Global, terms: &mut Terms, k: u32) -> Result<Poly, Memory>
     requires { k < terms.old.exponent }
@@ -84,6 +50,40 @@ pub(crate) fn minus_power(terms: &Terms, k: u32) -> u128
 {
     let exponent = terms.exponent();
     Residue::new(exponent, 1 << k).neg().value()
+}
+
+// A coefficient times variables, as the only part.
+fn part_of(
+    alloc: Global,
+    number: u128,
+    variables: Vec<u32>,
+) -> Result<Vec<(u128, Vec<u32>)>, AllocError>
+    ensures { IfOk result (λ parts. given parts.items ≡ term_of number variables.items ∷ []) }
+{
+    let mut parts = Vec::new(alloc);
+    parts.push((number, variables))?;
+    Ok(parts)
+}
+
+// A number, modulo the table's modulus.
+fn constant(alloc: Global, terms: &mut Terms, number: u128) -> Result<Poly, Memory>
+    ensures extends { Extends terms.old terms.new }
+    ensures of { IfOk result (IsOf terms.new) }
+    ensures value { IfOk result (λ p. (σ : Assignment) → value_in terms.new p σ ≡ number % modulus terms.old) }
+{
+    let parts = part_of(alloc, number, Vec::new(alloc))?;
+    let poly = terms.make(&parts)?;
+    Ok(poly)
+}
+
+// The number 1 for true and 0 for false.
+fn bit_poly(alloc: Global, terms: &mut Terms, value: bool) -> Result<Poly, Memory>
+    ensures extends { Extends terms.old terms.new }
+    ensures of { IfOk result (IsOf terms.new) }
+    ensures value { IfOk result (λ p. (σ : Assignment) → value_in terms.new p σ ≡ bit value) }
+{
+    let _exponent = terms.exponent();
+    constant(alloc, terms, u128::from(value))
 }
 
 fn minus_one(terms: &Terms) -> Residue

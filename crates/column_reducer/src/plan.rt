@@ -43,7 +43,7 @@ impl<'a> Plan<'a> {
     }
 
     /// How many steps come before the first frontier that counts: that one counts as step 0.
-    pub fn uncounted(&self) -> usize
+    pub(crate) fn uncounted(&self) -> usize
         ensures { result ≡ self.now.uncounted }
     {
         self.uncounted

@@ -1,8 +1,9 @@
 // Reductions along a plan.
-ghost use Rattle.std.specs.Prelude.{◌≡◌, ◌≤◌, ◌+◌, [], None, IfOk, length};
+ghost use Rattle.std.specs.Prelude.{◌≡◌, ◌≤◌, ◌+◌, [], None, IfOk, length, IsTrue, ℕ};
 ghost use Rattle.graph_core.specs.Graph.Operands.{ReadInputs};
 ghost use Rattle.column_reducer.specs.Gathering.{IsKept, IsOutcome};
-ghost use Rattle.column_reducer.specs.Reducing.{GoesOn, IsReduced};
+ghost use Rattle.column_reducer.specs.Reducing.{GoesOn, IsReduced, Planned};
+ghost use Rattle.ripple_graft.specs.Extension.{IsExtension};
 
 use crate::frontier_walk::first_passed;
 use crate::group_lines::write_groups;
@@ -103,8 +104,6 @@ impl<'a> Grow<Poly> for TakeSteps<'a> {
     }
 }
 
-ghost use Rattle.std.specs.Prelude.{IsTrue};
-
 // Whether nothing was let go that a line needs.
 fn is_kept(outcome: &Outcome) -> bool
     ensures { IsTrue result → IsKept outcome.now }
@@ -152,7 +151,3 @@ fn write_outcome(lines: &mut Lines<'_>, outcome: Outcome) -> Result<Reduced, Mem
         }
     }
 }
-
-ghost use Rattle.std.specs.Prelude.{ℕ};
-ghost use Rattle.ripple_graft.specs.Extension.{IsExtension};
-ghost use Rattle.column_reducer.specs.Reducing.{Planned};

@@ -14,7 +14,8 @@ ghost use Rattle.poly_terms.specs.Tables.{Extends, IsOf, modulus, value_in};
 ghost use Rattle.frontier_core.specs.Plan.{CanFollow, IsFrontierOf, Taken, nothing, step};
 ghost use Rattle.frontier_core.specs.Sets.{has};
 ghost use Rattle.frontier_core.specs.declared.step.Step.TheVariants as steps;
-ghost use Rattle.column_reducer.specs.Gathering.{HasColumnIn, HasTakenIn, IsGathered, IsOutcome, IsPartOf, IsWalked};
+ghost use Rattle.column_reducer.specs.Gathering.{HasColumnIn, HasTakenIn, IsGathered, IsOutcome, IsPartOf, IsWalked, IsKept, HasEnded};
+ghost use Rattle.column_reducer.specs.Reducing.{HasSizeAt};
 
 use crate::elimination::eliminate;
 use crate::gate_part::GatePart;
@@ -91,9 +92,6 @@ pub(crate) fn take_steps(
     let ended = walk.ended(alloc, terms)?;
     Ok(Outcome::Ended(ended))
 }
-
-ghost use Rattle.column_reducer.specs.Gathering.{IsKept};
-ghost use Rattle.column_reducer.specs.Reducing.{HasSizeAt};
 
 /// The step that a frontier counts as and its size, where that is above the budget.
 pub(crate) fn passed(
@@ -283,8 +281,6 @@ impl Walk {
         }
     }
 }
-
-ghost use Rattle.column_reducer.specs.Gathering.{HasEnded};
 
 // The power of two by which parts of the open group are divided: none where nothing is gathered.
 fn open_power(gathered: &Option<Gathered>) -> u32

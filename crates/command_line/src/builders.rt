@@ -102,7 +102,7 @@ const SUBCOMMANDS: [(&str, &[(Form, &str)]); 8] = [
 ];
 
 /// The whole command.
-pub fn mulver<'a>(alloc: Global) -> Result<Command<'a>, AllocError>
+pub(crate) fn mulver<'a>(alloc: Global) -> Result<Command<'a>, AllocError>
     ensures { IfOk result (IsCommand mulver) }
 {
     let command = Command::new(alloc, "mulver").subcommand_required(true);

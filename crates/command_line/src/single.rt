@@ -6,7 +6,7 @@ use graph_core::{Order, Sign};
 use graph_maker::{Adder, Design, Kind};
 use mv_nums::read_decimal;
 
-pub fn order_named(text: &str) -> Option<Order>
+pub(crate) fn order_named(text: &str) -> Option<Order>
     ensures { result ≡ order_named text.now }
 {
     match text {
@@ -16,7 +16,7 @@ pub fn order_named(text: &str) -> Option<Order>
     }
 }
 
-pub fn sign_named(text: &str) -> Option<Sign>
+pub(crate) fn sign_named(text: &str) -> Option<Sign>
     ensures { result ≡ sign_named text.now }
 {
     match text {
@@ -27,7 +27,7 @@ pub fn sign_named(text: &str) -> Option<Sign>
 }
 
 /// `corrected` is made without an addend alone, and the other kinds without one and with one.
-pub fn design_named(add: bool, text: &str) -> Option<Design>
+pub(crate) fn design_named(add: bool, text: &str) -> Option<Design>
     ensures { result ≡ design_named add text.now }
 {
     if text == "corrected" {
@@ -41,17 +41,7 @@ pub fn design_named(add: bool, text: &str) -> Option<Design>
     })
 }
 
-fn kind_named(text: &str) -> Option<Kind>
-    ensures { result ≡ kind_named text.now }
-{
-    match text {
-        "array" => Some(Kind::Array),
-        "dadda" => Some(Kind::Dadda),
-        _ => None,
-    }
-}
-
-pub fn adder_named(text: &str) -> Option<Adder>
+pub(crate) fn adder_named(text: &str) -> Option<Adder>
     ensures { result ≡ adder_named text.now }
 {
     match text {
@@ -63,14 +53,14 @@ pub fn adder_named(text: &str) -> Option<Adder>
 }
 
 /// The number below 2^128 that decimal digits spell.
-pub fn number_of(text: &str) -> Option<u128>
+pub(crate) fn number_of(text: &str) -> Option<u128>
     ensures { result ≡ number_of text.now }
 {
     read_decimal(text.as_bytes()).ok()
 }
 
 /// A number of bits, from 1 to 64.
-pub fn bits_of(text: &str) -> Option<u32>
+pub(crate) fn bits_of(text: &str) -> Option<u32>
     ensures { result ≡ bits_of text.now }
 {
     let bits = number_of(text)?;
@@ -82,7 +72,7 @@ pub fn bits_of(text: &str) -> Option<u32>
 }
 
 /// A number below 2^32, from a least one on.
-pub fn word_from(least: u64, text: &str) -> Option<u64>
+pub(crate) fn word_from(least: u64, text: &str) -> Option<u64>
     ensures { result ≡ word_from least text.now }
 {
     let number = number_of(text)?;
@@ -90,5 +80,15 @@ pub fn word_from(least: u64, text: &str) -> Option<u64>
         Some(number as u64)
     } else {
         None
+    }
+}
+
+fn kind_named(text: &str) -> Option<Kind>
+    ensures { result ≡ kind_named text.now }
+{
+    match text {
+        "array" => Some(Kind::Array),
+        "dadda" => Some(Kind::Dadda),
+        _ => None,
     }
 }

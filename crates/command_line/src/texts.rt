@@ -14,7 +14,11 @@ use graph_core::{Claim, Order, Sign};
 use graph_maker::{Adder, Design};
 use std::alloc::Global;
 
-pub fn file_at(alloc: Global, matches: &ArgMatches<'_>, name: &str) -> Result<FileName, WordsFail>
+pub(crate) fn file_at(
+    alloc: Global,
+    matches: &ArgMatches<'_>,
+    name: &str,
+) -> Result<FileName, WordsFail>
     ensures { Reads (first_of name.now (rows_of (found_of matches.now))) result }
 {
     match text_at(matches, name) {
@@ -24,7 +28,7 @@ pub fn file_at(alloc: Global, matches: &ArgMatches<'_>, name: &str) -> Result<Fi
 }
 
 /// The order that is named, or `separate` where none is.
-pub fn order_at(matches: &ArgMatches<'_>) -> Option<Order>
+pub(crate) fn order_at(matches: &ArgMatches<'_>) -> Option<Order>
     ensures { result ≡ order_at (rows_of (found_of matches.now)) }
 {
     match text_at(matches, "inputs") {
@@ -34,7 +38,7 @@ pub fn order_at(matches: &ArgMatches<'_>) -> Option<Order>
 }
 
 /// What is claimed, by an order, a kind of operands and the flag `add`.
-pub fn claim_at(matches: &ArgMatches<'_>) -> Option<Claim>
+pub(crate) fn claim_at(matches: &ArgMatches<'_>) -> Option<Claim>
     ensures { result ≡ claim_at (rows_of (found_of matches.now)) }
 {
     let order = order_at(matches)?;
@@ -43,18 +47,8 @@ pub fn claim_at(matches: &ArgMatches<'_>) -> Option<Claim>
     Some(Claim { order, sign, add })
 }
 
-/// The kind of operands that is named, or `unsigned` where none is.
-fn sign_at(matches: &ArgMatches<'_>) -> Option<Sign>
-    ensures { result ≡ sign_at (rows_of (found_of matches.now)) }
-{
-    match text_at(matches, "operands") {
-        Some(text) => sign_named(text),
-        None => Some(Sign::Unsigned),
-    }
-}
-
 /// The addend that is given, or none.
-pub fn addend_at(matches: &ArgMatches<'_>) -> Option<Option<u128>>
+pub(crate) fn addend_at(matches: &ArgMatches<'_>) -> Option<Option<u128>>
     ensures { result ≡ addend_at (rows_of (found_of matches.now)) }
 {
     match text_at(matches, "addend") {
@@ -63,14 +57,14 @@ pub fn addend_at(matches: &ArgMatches<'_>) -> Option<Option<u128>>
     }
 }
 
-pub fn number_at(matches: &ArgMatches<'_>, name: &str) -> Option<u128>
+pub(crate) fn number_at(matches: &ArgMatches<'_>, name: &str) -> Option<u128>
     ensures { result ≡ read_at number_of name.now (rows_of (found_of matches.now)) }
 {
     number_of(text_at(matches, name)?)
 }
 
 /// A number below 2^32, from a least one on, or a default where none is named.
-pub fn word_at(matches: &ArgMatches<'_>, name: &str, least: u64, default: u64) -> Option<u64>
+pub(crate) fn word_at(matches: &ArgMatches<'_>, name: &str, least: u64, default: u64) -> Option<u64>
     ensures { result ≡ word_at least default name.now (rows_of (found_of matches.now)) }
 {
     match text_at(matches, name) {
@@ -80,7 +74,7 @@ pub fn word_at(matches: &ArgMatches<'_>, name: &str, least: u64, default: u64) -
 }
 
 /// The version of certificates that is asked for: 1, which is the default, or 2.
-pub fn version_at(matches: &ArgMatches<'_>) -> Option<u8>
+pub(crate) fn version_at(matches: &ArgMatches<'_>) -> Option<u8>
     ensures { result ≡ version_at (rows_of (found_of matches.now)) }
 {
     match word_at(matches, "format", 1, 1)? {
@@ -91,30 +85,40 @@ pub fn version_at(matches: &ArgMatches<'_>) -> Option<u8>
 }
 
 /// A number below 2^32.
-pub fn word_of(matches: &ArgMatches<'_>, name: &str) -> Option<u64>
+pub(crate) fn word_of(matches: &ArgMatches<'_>, name: &str) -> Option<u64>
     ensures { result ≡ read_at (word_from 0) name.now (rows_of (found_of matches.now)) }
 {
     word_from(0, text_at(matches, name)?)
 }
 
 /// The design of the kind that is named, with the flag `add` or without it.
-pub fn design_at(matches: &ArgMatches<'_>) -> Option<Design>
+pub(crate) fn design_at(matches: &ArgMatches<'_>) -> Option<Design>
     ensures { result ≡ read_at (design_named (is_set (codes "add") (rows_of (found_of matches.now))))
         (codes "kind") (rows_of (found_of matches.now)) }
 {
     design_named(is_set(matches, "add"), text_at(matches, "kind")?)
 }
 
-pub fn bits_at(matches: &ArgMatches<'_>, name: &str) -> Option<u32>
+pub(crate) fn bits_at(matches: &ArgMatches<'_>, name: &str) -> Option<u32>
     ensures { result ≡ read_at bits_of name.now (rows_of (found_of matches.now)) }
 {
     bits_of(text_at(matches, name)?)
 }
 
-pub fn adder_at(matches: &ArgMatches<'_>, name: &str) -> Option<Adder>
+pub(crate) fn adder_at(matches: &ArgMatches<'_>, name: &str) -> Option<Adder>
     ensures { result ≡ read_at adder_named name.now (rows_of (found_of matches.now)) }
 {
     adder_named(text_at(matches, name)?)
+}
+
+// The kind of operands that is named, or `unsigned` where none is.
+fn sign_at(matches: &ArgMatches<'_>) -> Option<Sign>
+    ensures { result ≡ sign_at (rows_of (found_of matches.now)) }
+{
+    match text_at(matches, "operands") {
+        Some(text) => sign_named(text),
+        None => Some(Sign::Unsigned),
+    }
 }
 
 // The flag of this name is given.

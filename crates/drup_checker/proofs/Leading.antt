@@ -36,10 +36,6 @@ module _ (next : List ℕ) (place q : ℕ) (falls : AreFalling next) (there : q 
   abbrev without : List ℕ
   without = slice_set next q (slice_index next place)
 
-  pub falls_without : AreFalling without
-  falls_without p = ⊎_elim (λ same. let e = ap (slice_index without) same ∙ get_or-set_same next q (slice_index next place) 0 there in let f = falls place in let g = falls q in omega (arith, e, f, g, leads, same))
-      (λ n. let e = get_or-set_other next q p (slice_index next place) 0 n in let f = falls p in omega (arith, e, f)) (cases_eq p q)
-
   skip : (p r : ℕ) → r ≢ place → p ≡ q → (k : ℕ) → LeadsIn k next (slice_index next p) r → ((j : ℕ) → j < k → LeadsIn j next (slice_index next place) r → Leads without (slice_index next place) r) → Leads without (suc p) r
   skip p r n e k h again = go k (subst (λ (from : ℕ). LeadsIn k next from r) (ap (slice_index next) e ∙ (leads ∙ add-one place)) h) again
     where

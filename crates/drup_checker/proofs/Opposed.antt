@@ -1,11 +1,11 @@
 -- Where the negations of a clause's literals are assumed, a conflict shows that it follows, and a fixpoint that it doesn't.
-use Rattle.std.specs.Prelude.{◌≡◌, ◌≢◌, ◌↔◌, ℕ, zero, suc, ◌+◌, ◌<◌, ◌≤◌, ◌^◌, true, List, [], ◌∷◌, ◌++◌, map, length, take, ℤ, pos, negsuc, neg_ℤ, nat_abs, is_some}
+use Rattle.std.specs.Prelude.{◌≡◌, ◌≢◌, ◌↔◌, ℕ, zero, suc, ◌+◌, ◌<◌, ◌^◌, true, List, [], ◌∷◌, ◌++◌, map, length, take, ℤ, pos, negsuc, neg_ℤ, nat_abs, is_some}
 use Rattle.std.specs.declared.option.Option.{Option}
 use Rattle.std.specs.declared.option.Option.TheVariants.{None, Some}
 use Rattle.std.specs.List.{All, Contains}
 use Rattle.std.proofs.Common.{refl, sym, ap, subst, ◌∙◌, arith, inl, inr, ⊎_elim, append_assoc, length-append}
-use Rattle.std.proofs.lemmas.List.Elements.{Contains-append_left, Contains-append_right, All-contains}
-use Rattle.clause_core.specs.Clause.{Clause, IsClause, IsClauseInRange, IsLiteral as IsClauseLiteral}
+use Rattle.std.proofs.lemmas.List.Elements.{Contains-append_left, Contains-append_right}
+use Rattle.clause_core.specs.Clause.{Clause}
 use Rattle.clause_core.specs.UnitPropagation.{IsRefuted, IsRup, IsTautology}
 use Rattle.clause_core.proofs.CallerLemmas.{at, at_contained, below_suc, contains_at, contains_cases, contains_here, contains_map, contains_nil, contains_there, fixpoint_leaves_no_chain, refuted_more}
 use Rattle.drup_checker.specs.Opposing.{Begins, IsLiteralOf, IsMet, Opposes, OpposesFirst}
@@ -24,14 +24,6 @@ pub within_neg : (max : ℕ) (l : ℤ) → nat_abs l < 2 ^ 31 → IsLiteralOf ma
 within_neg max (pos zero) small h = absurd (h.0 refl)
 within_neg max (pos (suc v)) small h = let most = h.1 in (omega arith, omega arith)
 within_neg max (negsuc v) small h = let most = h.1 in ((omega arith, omega arith), omega arith)
-
-within_one : (max : ℕ) (l : ℤ) → IsClauseLiteral l → nat_abs l ≤ max → IsWithin max l
-within_one max (pos zero) real most = absurd (real.0 refl)
-within_one max (pos (suc v)) real most = let small = real.1 in ((omega arith, omega arith), omega arith)
-within_one max (negsuc v) real most = let small = real.1 in (omega arith, omega arith)
-
-pub all_within : (max : ℕ) (c : Clause) → IsClause c → IsClauseInRange max c → (l : ℤ) → Contains c l → IsWithin max l
-all_within max c is in_range l has = within_one max l (All-contains IsClauseLiteral c l is.literals has) (All-contains (λ k. (k ≢ pos 0) × (nat_abs k ≤ max)) c l in_range has).1
 
 -- an image has its origin
 pub origin : (c : List ℤ) (y : ℤ) → Contains (map neg_ℤ c) y → (x : ℤ) × Contains c x × (neg_ℤ x ≡ y)

@@ -5,7 +5,7 @@ use Rattle.std.specs.declared.option.Option.TheVariants.{None, Some}
 use Rattle.std.specs.List.{All, Any, Contains}
 use Rattle.std.proofs.Common.{refl, sym, ap, subst, ◌∙◌, add-one, arith, ⊎_elim}
 use Rattle.std.proofs.lemmas.Bool.{cases_eq}
-use Rattle.std.proofs.lemmas.List.{get_or-set_other, get_or-set_same, length_push, length-set, map-append, take_more}
+use Rattle.std.proofs.lemmas.List.{get_or-set_other, get_or-set_same, length_push, length-set}
 use Rattle.std.proofs.lemmas.List.Elements.{All-map}
 use Rattle.clause_core.specs.Clause.{Clause, IsClause, IsClauseInRange, SameSet}
 use Rattle.clause_core.proofs.CallerLemmas.{sets_are_lists}
@@ -15,7 +15,7 @@ use Rattle.unit_prop.proofs.Grounds.{clause_cases}
 use Rattle.unit_prop.proofs.VisitSteps.{live_below}
 use Rattle.clause_core.specs.ClauseLines.{Removes as RemovesOne}
 use Rattle.trim_core.specs.TightChains.{IsTightChain}
-use Rattle.drup_checker.specs.Checking.{Held, IsTightChainOf, LosesOne, Numbered, added_numbers, held, held_with, numbered_of, unnumbered}
+use Rattle.drup_checker.specs.Checking.{Held, IsTightChainOf, LosesOne, Numbered, added_numbers, held, held_with, numbered_of}
 use Rattle.drup_checker.specs.Tightness.{AreTightAt, clause_in, clauses_at}
 use Rattle.drup_checker.specs.Chains.{AreFalling, IsStore, Leads, number_of}
 use Rattle.drup_checker.proofs.LiveClauses.{live_more, live_of-append, loses_at, numbered_has, numbered_more, numbered_of-append, removes_at}
@@ -165,16 +165,6 @@ pub renew_none : (s : Standing) (numbers : List ℕ) (h now : Held) (n : ℕ) �
     → now ≡ held_first s numbers h.max (n + 1)
 renew_none s numbers h now n even below e was =
     renew_one s numbers h now now n (slice_index numbers n) None even below e refl was (λ i. record { max = now.max; live = sym (append_nothing now.live) i; numbered = sym (append_nothing now.numbered) i })
-
--- a list's clauses, one after the other
-pub begun_more : (now next : Held) (max n : ℕ) (cs : List Clause) (c : Clause) → n < length cs → c ≡ slice_index_or cs n c → now ≡ record { max = max; live = take n cs; numbered = unnumbered (take n cs) } → next ≡ held_with now c 0 →
-    next ≡ record { max = max; live = take (n + 1) cs; numbered = unnumbered (take (n + 1) cs) }
-begun_more now next max n cs c below read was is =
-    let more : take (n + 1) cs ≡ take n cs ++ c ∷ [] = take_more cs n c below ∙ ap (λ (d : Clause). take n cs ++ d ∷ []) (sym read) in
-    let live : now.live ++ c ∷ [] ≡ take (n + 1) cs = ap (λ (k : Held). k.live ++ c ∷ []) was ∙ sym more in
-    let one : Numbered = record { clause = c; number = 0 } in
-    let numbered : now.numbered ++ one ∷ [] ≡ unnumbered (take (n + 1) cs) = ap (λ (k : Held). k.numbered ++ one ∷ []) was ∙ (sym (map-append (λ (d : Clause). record { clause = d; number = 0 }) (take n cs) (c ∷ [])) ∙ ap unnumbered (sym more)) in
-    is ∙ (λ i. record { max = ap (λ (k : Held). k.max) was i; live = live i; numbered = numbered i })
 
 -- ---- chains
 

@@ -1,14 +1,12 @@
 -- Pairs of opposite literals, from both ends of rising ones.
 use Rattle.std.specs.Prelude.{◌≡◌, ℕ, true, false, ◌+◌, ◌<◌, ◌≤◌, ◌<ℤ◌, List, length, ℤ, pos, neg_ℤ}
-use Rattle.std.specs.List.{Contains}
-use Rattle.std.proofs.Common.{sym, ap, subst, ◌∙◌, arith, ⊎_elim}
+use Rattle.std.proofs.Common.{sym, ap, ◌∙◌, arith, ⊎_elim}
 use Rattle.std.proofs.lemmas.Bool.{cases_eq, cases_lt}
 use lib.Signed.{lt_z}
 use Rattle.std.proofs.lemmas.Int.{by_lt_z, ints}
 use Rattle.clause_core.specs.Clause.{Clause, IsClause, IsRising}
 use Rattle.clause_core.specs.UnitPropagation.{IsTautology}
-use Rattle.clause_core.proofs.CallerLemmas.{at, at_contained, contains_at}
-use Rattle.drup_checker.proofs.Opposed.{tautology}
+use Rattle.clause_core.proofs.CallerLemmas.{at, at_contained}
 
 -- ---- tests
 
@@ -55,8 +53,3 @@ no_pair c front back is over h t =
     (λ high. ⊎_elim (λ same. let e : at c q.0 ≡ at c p.0 = ap (at c) same in let f = p.2 in let g = q.2 in let positive = t.1 in omega (arith, ints))
     (λ other. let up = is.rising p.0 q.0 (omega arith) q.1 in let f = p.2 in let g = q.2 in let positive = t.1 in omega (arith, ints)) (cases_eq q.0 p.0))
     (cases_lt q.0 p.0)
-
--- a pair makes one
-pub one_pair : (c : Clause) (i j : ℕ) → IsClause c → i < length c → j < length c → at c i ≡ neg_ℤ (at c j) → IsTautology c
-one_pair c i j is inside within opposite =
-    tautology c (at c j) (is.literals j (pos 0) within).0 (contains_at c j within) (subst (Contains c) opposite (contains_at c i inside))

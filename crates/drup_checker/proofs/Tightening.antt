@@ -19,7 +19,7 @@ use Rattle.unit_prop.specs.Trail.{variable}
 use Rattle.unit_prop.proofs.Findings.{assumed_at, assumed_grown}
 use Rattle.unit_prop.proofs.TrailSteps as steps
 use Rattle.drup_checker.specs.Opposing.{Opposes}
-use Rattle.drup_checker.specs.Tightness.{AreTightAt, IsOpposedBefore, IsReached, IsSeen, Marks, clause_in, clauses_at}
+use Rattle.drup_checker.specs.Tightness.{IsOpposedBefore, IsReached, IsSeen, Marks, clause_in, clauses_at}
 use Rattle.drup_checker.proofs.Opposed.{origin, tautology}
 
 variable-abs : (l : ℤ) → nat_abs l ≡ variable l
@@ -206,13 +206,6 @@ reason_range s p r c sound b reason live k has =
 
 -- ---- the ends
 
-pub tight_at : (s : Standing) (c : Clause) (seen : List Bool) (places : List ℕ) → ¬ (IsTautology c) → IsReached s (map neg_ℤ c) seen places 0 → AreTightAt s.clauses c (reverse places)
-tight_at s c seen places proper h = record { live = h.live; tight = inr (proper, h.tight (map neg_ℤ c) (λ l k. k) (λ j low was. absurd (omega arith))) }
-
--- that of a tautology
-pub tight_none : (clauses : List (Option Clause)) (c : Clause) → IsTautology c → AreTightAt clauses c []
-tight_none clauses c t = record { live = All-nil (λ q. IsSome (clause_at clauses q)); tight = inl (t, refl) }
-
 -- where a literal of the clause stands by assumption, the clause has its negation
 pub met_assumed : (s : Standing) (c : Clause) (l : ℤ) → IsSound s → IsSubset (assumed_of s) (map neg_ℤ c) → l ≢ pos 0 → Contains c l → Contains s.trail.literals l → IsReasonOf s.trail (variable l) None → IsTautology c
 met_assumed s c l sound assumed sign has stands why =
@@ -223,9 +216,6 @@ met_assumed s c l sound assumed sign has stands why =
 
 pub reason_place : (s : Standing) (p r : ℕ) → IsSound s → p < length s.trail.literals → IsReasonOf s.trail (variable (at s.trail.literals p)) (Some r) → reason_at s.trail.reasons p ≡ Some r
 reason_place s p r h b is = ap (reason_at s.trail.reasons) (sym (one_place s h is.0 p is.1 b is.2)) ∙ is.3
-
-pub reason_live : (s : Standing) (p r : ℕ) → IsSound s → p < length s.trail.literals → reason_at s.trail.reasons p ≡ Some r → IsSome (clause_at s.clauses r)
-reason_live s p r h b e = let why = h.forced p r b e in some_live s.clauses r why.0 why.1
 
 -- the literals of a clause that forced one are opposed: by those before it, and it by what is opposed
 pub opposed_reason : (s : Standing) (opposed : List ℤ) (p r : ℕ) (c : Clause) → IsSound s → p < length s.trail.literals → reason_at s.trail.reasons p ≡ Some r → clause_at s.clauses r ≡ Some c →
@@ -243,9 +233,6 @@ pub opposed_conflict : (s : Standing) (opposed : List ℤ) (n r : ℕ) (c : Clau
 opposed_conflict s opposed n r c all conflict live k has =
     let same : conflict.0 ≡ c = let f : Some conflict.0 ≡ Some c = sym conflict.1 ∙ live in cc in
     inl (subst (λ (xs : List ℤ). Contains xs (neg_ℤ k)) (sym (take_all n s.trail.literals (omega arith))) (subst (IsFalsified s.trail.literals) same conflict.2 k has))
-
-pub conflict_live : (s : Standing) (r : ℕ) → IsConflict s r → IsSome (clause_at s.clauses r)
-conflict_live s r h = some_live s.clauses r h.0 h.1
 
 pub assumed_then : (old now next : Standing) (c : Clause) → Opposes old now c → IsSound now → Propagates now next → IsSubset (assumed_of next) (map neg_ℤ c)
 assumed_then old now next c h sound p l has =

@@ -115,7 +115,8 @@ pub record AreChained (gates : List Gate) (numbered : List Numbered) (added : Li
   pub counted : count ≡ length added
 
 -- Each live clause holds on every evaluation of the gates, and so does each that was added; there is a place for each goal.
-pub record IsKept (gates : List Gate) (h : Held) (goals : List Goal) (shown : List Bool) (keeps : Keeps) (added : List Clause) (uses : List (List ℕ)) (count : ℕ) : Type 0 where
+pub record IsKept (gates : List Gate) (h : Held) (goals : List Goal) (shown : List Bool) (keeps : Keeps) (added : List Clause)
+    (uses : List (List ℕ)) (count : ℕ) : Type 0 where
   pub facts : All (IsClauseFact gates) h.live
   pub places : length shown ≡ length goals
   pub added_facts : All (IsClauseFact gates) added

@@ -37,7 +37,8 @@ IsOpposedBefore s n opposed c = (k : ℤ) → Contains c k → Contains (take n 
 pub record IsReached (s : Standing) (opposed : List ℤ) (seen : List Bool) (places : List ℕ) (n : ℕ) : Type 0 where
   pub size : length seen ≡ suc s.trail.greatest
   pub live : All (λ r. IsSome (clause_at s.clauses r)) (reverse places)
-  pub tight : (acc : List ℤ) → IsSubset opposed acc → ((j : ℕ) → j < n → IsSeen seen (variable (at s.trail.literals j)) → Contains acc (at s.trail.literals j)) →
+  pub tight : (acc : List ℤ) → IsSubset opposed acc →
+      ((j : ℕ) → j < n → IsSeen seen (variable (at s.trail.literals j)) → Contains acc (at s.trail.literals j)) →
       IsTight acc (clauses_at s.clauses (reverse places))
   pub needed : (j : ℕ) → j < n → j < length s.trail.literals → IsSeen seen (variable (at s.trail.literals j)) →
       Any (λ e. Contains e (neg_ℤ (at s.trail.literals j))) (clauses_at s.clauses (reverse places))

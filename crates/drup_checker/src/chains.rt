@@ -10,7 +10,7 @@ use unit_prop::{Propagator, Ref};
 const NUMBERS: u64 = 4294967291;
 
 /// The chain of a clause among so many.
-pub fn chain_of(clause: &Clause, chains: usize) -> usize
+pub(crate) fn chain_of(clause: &Clause, chains: usize) -> usize
     requires { 0 < chains }
     ensures value { result ≡ number_of clause.now % chains }
     ensures bound { result < chains }
@@ -24,7 +24,7 @@ pub fn chain_of(clause: &Clause, chains: usize) -> usize
 
 /// The live clause with the set that a chain leads to, if there is one. A place is given as its successor, and 0 is the
 /// end.
-pub fn find(head: u32, next: &[u32], propagator: &Propagator, clause: &Clause) -> Option<Ref>
+pub(crate) fn find(head: u32, next: &[u32], propagator: &Propagator, clause: &Clause) -> Option<Ref>
     requires falls { AreFalling next.now }
     requires first { head ≤ length next.now }
     ensures some { IfSome result (λ r. (r < length next.now) × HasSetAt propagator.now.clauses clause.now r) }
@@ -43,7 +43,7 @@ pub fn find(head: u32, next: &[u32], propagator: &Propagator, clause: &Clause) -
 }
 
 /// Takes a place out of a chain.
-pub fn unlink(heads: &mut [u32], next: &mut [u32], chain: usize, place: u32)
+pub(crate) fn unlink(heads: &mut [u32], next: &mut [u32], chain: usize, place: u32)
     requires falls { AreFalling next.old }
     requires first { slice_index heads.old chain ≤ length next.old }
     requires chain { chain < length heads.old }

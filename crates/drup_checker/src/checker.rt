@@ -131,15 +131,6 @@ impl<'a> Checker<'a> {
         self.store.chain(clause)
     }
 
-    /// Where clauses are kept those that were added, in their order, also those that were deleted later; else none. Each holds
-    /// on every evaluation of the gates.
-    pub fn added(&self) -> &ClauseList
-        ensures value { result.now ≡ self.now.added }
-        ensures facts { All (IsClauseFact self.now.gates) self.now.added }
-    {
-        &self.recorded.added
-    }
-
     /// The same, where the checker isn't needed any more, and where chains are kept what they use: each added clause has a
     /// tight chain of the gates' clauses and of earlier ones that its numbers name.
     pub fn into_record(self) -> Record

@@ -5,7 +5,7 @@ ghost use Rattle.drup_checker.specs.Checking.{IsLeastUnshown, IsLesser};
 use miter_encoder::Goal;
 
 /// The least column with a goal that is neither met nor shown.
-pub fn least_unshown(goals: &[Goal], shown: &[bool]) -> Option<u32>
+pub(crate) fn least_unshown(goals: &[Goal], shown: &[bool]) -> Option<u32>
     requires { length shown.now ≡ length goals.now }
     ensures { IsLeastUnshown goals.now shown.now result }
 {

@@ -9,7 +9,7 @@ use clause_core::Clause;
 use unit_prop::{Assumed, Propagator};
 
 // Whether the clause follows from the live ones; nothing stays assumed.
-pub fn is_rup(propagator: &mut Propagator, clause: &Clause) -> bool
+pub(crate) fn is_rup(propagator: &mut Propagator, clause: &Clause) -> bool
     requires free { IsFree propagator.old }
     requires in_range { IsClauseInRange propagator.old.trail.greatest clause.now }
     ensures rup { IsTrue result ↔ IsRup (live_of propagator.old.clauses) clause.now }
@@ -21,21 +21,8 @@ pub fn is_rup(propagator: &mut Propagator, clause: &Clause) -> bool
     refuted
 }
 
-// whether propagation from the negation of each literal meets a conflict
-fn refutes(propagator: &mut Propagator, clause: &Clause) -> bool
-    requires free { IsFree propagator.old }
-    requires in_range { IsClauseInRange propagator.old.trail.greatest clause.now }
-    ensures rup { IsTrue result ↔ IsRup (live_of propagator.old.clauses) clause.now }
-    ensures begins { Begins propagator.old propagator.new }
-{
-    if oppose_all(propagator, clause).is_some() {
-        return true;
-    }
-    propagator.propagate().is_some()
-}
-
 /// Assumes the negation of each literal, up to one that stands.
-pub fn oppose_all(propagator: &mut Propagator, clause: &Clause) -> Option<i32>
+pub(crate) fn oppose_all(propagator: &mut Propagator, clause: &Clause) -> Option<i32>
     requires free { IsFree propagator.old }
     requires in_range { IsClauseInRange propagator.old.trail.greatest clause.now }
     ensures opposed { IfSome result (IsMet propagator.new clause.now) }
@@ -51,6 +38,27 @@ pub fn oppose_all(propagator: &mut Propagator, clause: &Clause) -> Option<i32>
     None
 }
 
+/// The opposite literal.
+pub(crate) fn negation(lit: i32) -> i32
+    requires { nat_abs lit < 2 ^ 31 }
+    ensures { result ≡ neg_ℤ lit }
+{
+    -lit
+}
+
+// whether propagation from the negation of each literal meets a conflict
+fn refutes(propagator: &mut Propagator, clause: &Clause) -> bool
+    requires free { IsFree propagator.old }
+    requires in_range { IsClauseInRange propagator.old.trail.greatest clause.now }
+    ensures rup { IsTrue result ↔ IsRup (live_of propagator.old.clauses) clause.now }
+    ensures begins { Begins propagator.old propagator.new }
+{
+    if oppose_all(propagator, clause).is_some() {
+        return true;
+    }
+    propagator.propagate().is_some()
+}
+
 // assumes the negation of a literal
 fn oppose(propagator: &mut Propagator, lit: i32) -> Assumed
     requires small { nat_abs lit < 2 ^ 31 }
@@ -60,12 +68,4 @@ fn oppose(propagator: &mut Propagator, lit: i32) -> Assumed
 {
     let opposite = negation(lit);
     propagator.assume(opposite)
-}
-
-/// The opposite literal.
-pub fn negation(lit: i32) -> i32
-    requires { nat_abs lit < 2 ^ 31 }
-    ensures { result ≡ neg_ℤ lit }
-{
-    -lit
 }

@@ -6,7 +6,7 @@ use clause_core::Clause;
 use miter_encoder::Goals;
 
 /// Marks each goal that the clause shows.
-pub fn show(goals: &Goals, clause: &Clause, shown: &mut [bool])
+pub(crate) fn show(goals: &Goals, clause: &Clause, shown: &mut [bool])
     requires { length shown.old ≡ length goals.now }
     ensures places { length shown.new ≡ length shown.old }
     ensures shown { ShowsBy clause.now goals.now shown.old shown.new }

@@ -18,7 +18,7 @@ use unit_prop::Propagator;
 /// The live clauses. Once more places were given out than there are chains, all is made anew over those that are live,
 /// so that memory is in proportion to them and to the variables.
 #[derive(Drop)]
-pub struct Store {
+pub(crate) struct Store {
     alloc: Global,
     max: u32,
     propagator: Propagator,
@@ -43,7 +43,7 @@ impl Model for Store {
 
 impl Store {
     /// The clauses of a list, which have no numbers.
-    pub fn new(alloc: Global, max: u32, clauses: &ClauseList) -> Result<Store, Memory>
+    pub(crate) fn new(alloc: Global, max: u32, clauses: &ClauseList) -> Result<Store, Memory>
         requires small { max < 2 ^ 31 }
         requires in_range { All (IsClauseInRange max) clauses.now }
         ensures { IfOk result (λ s. s ≡ record { max = max; live = clauses.now; numbered = unnumbered clauses.now }) }
@@ -74,7 +74,7 @@ impl Store {
     }
 
     /// One clause more, with its number.
-    pub fn put(&mut self, clause: &Clause, number: u64) -> Result<(), Memory>
+    pub(crate) fn put(&mut self, clause: &Clause, number: u64) -> Result<(), Memory>
         requires { IsClauseInRange self.old.max clause.now }
         ensures ok { OnOk result (self.new ≡ held_with self.old clause.now number) }
         ensures err { OnErr result (self.new ≡ self.old) }
@@ -130,7 +130,7 @@ impl Store {
     }
 
     /// Takes out a clause with this set, if there is one.
-    pub fn take(&mut self, clause: &Clause) -> bool
+    pub(crate) fn take(&mut self, clause: &Clause) -> bool
         ensures some { IsTrue result → Removes self.old.live clause.now self.new.live ×
             LosesOne clause.now self.old.numbered self.new.numbered × (self.new.max ≡ self.old.max) }
         ensures none { result ≡ false → (self.new ≡ self.old) × ¬ (Any (λ d. SameSet d clause.now) self.old.live) }
@@ -149,7 +149,7 @@ impl Store {
     }
 
     /// Whether the clause follows from those that are live.
-    pub fn implies(&mut self, clause: &Clause) -> bool
+    pub(crate) fn implies(&mut self, clause: &Clause) -> bool
         requires { IsClauseInRange self.old.max clause.now }
         ensures rup { IsTrue result ↔ IsRup self.old.live clause.now }
         ensures kept { self.new ≡ self.old }
@@ -159,7 +159,7 @@ impl Store {
 
     /// The numbers of the added clauses in a tight chain of live ones, in the chain's order; None where the clause
     /// doesn't follow.
-    pub fn chain(&mut self, clause: &Clause) -> Result<Option<Vec<u64>>, Memory>
+    pub(crate) fn chain(&mut self, clause: &Clause) -> Result<Option<Vec<u64>>, Memory>
         requires { IsClauseInRange self.old.max clause.now }
         ensures some { IfOk result (λ numbers. IfSome numbers (λ n. IsTightChainOf self.old.numbered clause.now n.items)) }
         ensures none { IfOk result (λ numbers. IsNone numbers ↔ ¬ (IsRup self.old.live clause.now)) }

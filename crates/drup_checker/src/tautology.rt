@@ -6,7 +6,7 @@ use crate::rup::negation;
 use clause_core::Clause;
 
 /// Whether the clause has a variable and its negation.
-pub fn is_tautology(clause: &Clause) -> bool
+pub(crate) fn is_tautology(clause: &Clause) -> bool
     ensures { IsTrue result ↔ IsTautology clause.now }
 {
     let lits = clause.lits();

@@ -17,7 +17,7 @@ use unit_prop::{Propagator, Ref};
 
 /// The places of the clauses of a tight chain for the clause, or None where it doesn't follow. Nothing stays assumed, and
 /// memory is wanted only where it follows.
-pub fn tight_chain(
+pub(crate) fn tight_chain(
     alloc: Global,
     max: u32,
     propagator: &mut Propagator,

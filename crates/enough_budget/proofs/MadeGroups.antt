@@ -1,7 +1,7 @@
 -- The groups of a made graph's gates are its adders and single products.
 use Rattle.std.specs.declared.option.Option.{Option}
 use Rattle.std.specs.declared.option.Option.TheVariants.{None, Some}
-use Rattle.std.specs.Prelude.{◌≡◌, ◌≢◌, ℕ, zero, suc, ◌+◌, ◌*◌, ◌%◌, ◌<◌, ◌≤◌, Bool, true, false, cond, ◌&&◌, ◌||◌, List, [], ◌∷◌, ◌++◌, map, length, take, drop, reverse, ◌==◌}
+use Rattle.std.specs.Prelude.{◌≡◌, ◌≢◌, ℕ, ◌+◌, ◌*◌, ◌%◌, ◌≤◌, Bool, true, false, cond, ◌&&◌, ◌||◌, List, [], ◌∷◌, ◌++◌, map, reverse, ◌==◌}
 use Rattle.std.specs.List.{AllByRecursion}
 use Rattle.std.proofs.Common.{refl, sym, ap, ap₂, subst, ◌∙◌, arith, eq-eqb, ne_eqb}
 use Rattle.std.proofs.lemmas.List.{reverse-append}
@@ -12,7 +12,7 @@ use Rattle.graph_core.specs.Graph.Literals.{plain, inverted, and_gate}
 use Rattle.graph_core.specs.Graph.Positions.{position}
 use Rattle.graph_maker.specs.Cells.{half_gates}
 use Rattle.slice_finder.specs.Positions.{reads, is_half, is_carried, is_full}
-use Rattle.slice_core.specs.Groups.{ends_full, ends_half, group_size, groups_of}
+use Rattle.slice_core.specs.Groups.{ends_full, ends_half}
 use Rattle.slice_core.proofs.ListedGroups.{all_groups, first_group}
 use Rattle.enough_budget.proofs.Network.{Cell, gates_at, size_of, adder_gates}
 

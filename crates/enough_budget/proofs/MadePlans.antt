@@ -2,15 +2,10 @@
 use Rattle.std.specs.Prelude.{ℕ, zero, suc, List, [], ◌∷◌, take}
 use Rattle.std.proofs.Common.{arith}
 use Rattle.graph_core.specs.Graph.Extended.{Extended, without_cut}
-use Rattle.ripple_graft.proofs.Plain.{graph_extends}
 use Rattle.frontier_core.specs.declared.step.Step.{Step}
 use Rattle.frontier_core.specs.Plan.{Taken, nothing, step, AreSteps}
-use Rattle.slice_core.specs.Groups.{groups}
-use Rattle.slice_core.specs.SlicePlan.{slice_steps}
-use Rattle.slice_core.proofs.ListedGroups.{listed_groups_serve}
-use Rattle.slice_core.proofs.SlicePlans.{slice_plan_serves}
 use Rattle.enough_budget.specs.Budgets.{MadeBudgetIsEnough}
-use Rattle.enough_budget.specs.MadeSlices.{MadeSlicePlanIsSmall, SlicePlansAreSmall}
+use Rattle.enough_budget.specs.MadeSlices.{SlicePlansAreSmall}
 use Rattle.enough_budget.proofs.MadeOrder.{made_gates_are_in_order}
 use Rattle.enough_budget.proofs.Singles.{made_groups_are_adders}
 use Rattle.enough_budget.proofs.Swapped.{made_slices_are_small}
@@ -19,14 +14,6 @@ front_steps : (e : Extended) (f : Taken) (t : ℕ) (steps : List Step) → AreSt
 front_steps e f zero steps h = tt
 front_steps e f (suc t) [] h = tt
 front_steps e f (suc t) (s ∷ steps) h = (h.0, front_steps e (step f s) t steps h.1)
-
-pub made_slice_plan_is_small : MadeSlicePlanIsSmall
-made_slice_plan_is_small kind n g due t size pos same well among =
-    let e = without_cut g in
-    let gs = groups g.gates in
-    let are = listed_groups_serve e (graph_extends g well) (made_gates_are_in_order kind n g pos same) in
-    let plan = slice_plan_serves e gs due are among in
-    (plan.0, λ has_size. made_slices_are_small kind n g (take t (slice_steps e gs due)) size pos same (front_steps e nothing t (slice_steps e gs due) plan.0.follow) (plan.1 t) has_size)
 
 pub slice_plans_are_small : SlicePlansAreSmall
 slice_plans_are_small kind n g steps t size pos same slices has_size =

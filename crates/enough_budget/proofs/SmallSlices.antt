@@ -12,8 +12,7 @@ use Rattle.graph_core.specs.declared.literal.Lit.{Lit}
 use Rattle.graph_core.specs.declared.gate.Gate.{Gate}
 use Rattle.graph_core.specs.declared.order.Order.TheVariants.{Separate}
 use Rattle.graph_core.specs.Graph.Assignments.{Assignment}
-use Rattle.graph_core.specs.Graph.Extended.{Extended, without_cut}
-use Rattle.graph_core.specs.Algebra.{modulus}
+use Rattle.graph_core.specs.Graph.Extended.{Extended}
 use Rattle.graph_core.specs.Algebra.NormalForm.{HasSize}
 use Rattle.graph_core.specs.Graph.Operands.{sides_of}
 use Rattle.graph_core.proofs.OfGraphs.CallerLemmas.{all_join, any_cases, any_nil}
@@ -31,7 +30,6 @@ use Rattle.graph_maker.specs.declared.kind.Kind.{Kind}
 use Rattle.graph_maker.specs.declared.adder.Adder.TheVariants.{Ripple}
 use Rattle.graph_maker.specs.Builder.{Builder, with_gates, literals_from}
 use Rattle.graph_maker.specs.Products.{product_gates, products}
-use Rattle.graph_maker.specs.Made.{made}
 use Rattle.graph_maker.proofs.MadeMultiplies.{a_literals, b_literals, all_products, placed}
 use Rattle.graph_maker.proofs.MadeMultiplies.{no_gates}
 use Rattle.slice_core.specs.Groups.{groups, groups_of, IsWhole, AreByGroups}
@@ -228,9 +226,3 @@ module _ (kind : Kind) (n : ℕ) (pos : 0 < n) (K : List ℕ) where
       adder part whole f fw unsplit u x y (Some c) at h size has_size =
           full_small kind n pos K part whole f fw unsplit u x y c at
           (λ w t. full_bounds u w c (all_has (λ v. has (group_at u (Some c)) v ≡ true) part w (recursion_from_All (λ v. has (group_at u (Some c)) v ≡ true) part h) t)) size has_size
-
--- the made graph itself
-pub made_small : (kind : Kind) (n : ℕ) (steps : List Step) (size : ℕ) (pos : 0 < n) → AreSteps (without_cut (made kind n Ripple)) nothing steps → AreByGroups (groups (made kind n Ripple).gates) (taken nothing steps).eliminated →
-    HasSize (modulus (without_cut (made kind n Ripple))) (frontier_value (without_cut (made kind n Ripple)) (sides_of Separate (made kind n Ripple)) (taken nothing steps).added (taken nothing steps).eliminated) size → size ≤ 8 * n * n + 64
-made_small kind n steps size pos can by has_size =
-    by_groups_small kind n pos (taken nothing steps).added (taken nothing steps).eliminated (fronts_all (e kind n pos) nothing steps (fronts_first (e kind n pos)) can) by size has_size

@@ -1,10 +1,6 @@
 -- A made graph's gates, and their groups.
-use Rattle.std.specs.Prelude.{◌≡◌, ℕ, ◌<◌, false, List, [], ◌∷◌, map}
-use Rattle.std.specs.List.{All, Any}
-use Rattle.graph_core.specs.declared.gate.Gate.{Gate}
-use Rattle.graph_core.specs.Graph.Literals.{variable_of}
+use Rattle.std.specs.Prelude.{ℕ, ◌<◌}
 use Rattle.graph_core.specs.Graph.{Aig, SameUpToOperands}
-use Rattle.frontier_core.specs.Sets.{has}
 use Rattle.graph_maker.specs.declared.kind.Kind.{Kind}
 use Rattle.graph_maker.specs.declared.adder.Adder.TheVariants.{Ripple}
 use Rattle.graph_maker.specs.Made.{made}

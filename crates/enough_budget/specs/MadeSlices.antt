@@ -1,6 +1,5 @@
 -- Plans over made graphs with a ripple-carry adder: every frontier is small, and the last one is 0.
 use Rattle.std.specs.Prelude.{◌≡◌, ℕ, ◌+◌, ◌*◌, ◌<◌, ◌≤◌, List, take}
-use Rattle.std.specs.List.{All, Contains}
 use Rattle.graph_core.specs.declared.order.Order.TheVariants.{Separate}
 use Rattle.graph_core.specs.Graph.{Aig, SameUpToOperands, IsWellFormed}
 use Rattle.graph_core.specs.Graph.Extended.{without_cut}
@@ -15,7 +14,6 @@ use Rattle.graph_maker.specs.declared.kind.Kind.{Kind}
 use Rattle.graph_maker.specs.declared.adder.Adder.TheVariants.{Ripple}
 use Rattle.graph_maker.specs.Made.{made}
 use Rattle.slice_core.specs.Groups.{groups, AreByGroups}
-use Rattle.slice_core.specs.SlicePlan.{slice_steps}
 use Rattle.slice_planner.specs.Slices.{IsSlicePlan}
 
 -- While steps over a made graph with a ripple-carry adder go by its groups, each frontier has few monomials.
@@ -30,15 +28,6 @@ abbrev pub SlicePlansAreSmall : Type 0
 SlicePlansAreSmall = (kind : Kind) (n : ℕ) (g : Aig) (steps : List Step) (t size : ℕ) → 0 < n →
     SameUpToOperands (made kind n Ripple) g → IsSlicePlan (without_cut g) steps →
     HasSize (modulus (without_cut g)) (value_of_taken (without_cut g) (sides_of Separate g) (taken nothing (take t steps))) size → size ≤ 8 * n * n + 64
-
--- So there are plans over each made graph with a ripple-carry adder, with every frontier small.
-abbrev pub MadeSlicePlanIsSmall : Type 0
-MadeSlicePlanIsSmall = (kind : Kind) (n : ℕ) (g : Aig) (due : ℕ → List (List ℕ)) (t size : ℕ) → 0 < n →
-    SameUpToOperands (made kind n Ripple) g → IsWellFormed g → ((k : ℕ) → All (Contains (groups g.gates)) (due k)) →
-    let e = without_cut g in
-    let steps = slice_steps e (groups g.gates) due in
-    let f = taken nothing (take t steps) in
-    IsPlan e steps × (HasSize (modulus e) (frontier_value e (sides_of Separate g) f.added f.eliminated) size → size ≤ 8 * n * n + 64)
 
 -- And the last frontier of every plan over such a graph is 0 at every assignment.
 abbrev pub MadeRestIsZero : Type 0

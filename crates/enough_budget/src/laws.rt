@@ -2,7 +2,7 @@
 ghost use Rattle.enough_budget.specs.Budgets.{MadeBudgetIsEnough};
 ghost use Rattle.enough_budget.specs.FewVariables.{FewVariablesAreSmall};
 ghost use Rattle.enough_budget.specs.MadeGroups.{MadeGatesAreInOrder, MadeGroupsAreAdders};
-ghost use Rattle.enough_budget.specs.MadeSlices.{MadeRestIsZero, MadeSlicePlanIsSmall, MadeSlicesAreSmall, SlicePlansAreSmall};
+ghost use Rattle.enough_budget.specs.MadeSlices.{MadeRestIsZero, MadeSlicesAreSmall, SlicePlansAreSmall};
 
 /// A function of so many variables has at most two to that power monomials.
 pub fn few_variables_are_small()
@@ -33,11 +33,6 @@ pub fn slice_plans_are_small()
 /// So a budget of that many monomials is enough.
 pub fn made_budget_is_enough()
     ensures { MadeBudgetIsEnough }
-{}
-
-/// Over a made graph with a ripple-carry adder each of its frontiers is small.
-pub fn made_slice_plan_is_small()
-    ensures { MadeSlicePlanIsSmall }
 {}
 
 /// Over a made graph with a ripple-carry adder the last frontier of every plan is 0.

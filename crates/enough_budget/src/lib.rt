@@ -14,6 +14,5 @@ mod laws;
 
 pub use laws::{
     few_variables_are_small, made_budget_is_enough, made_gates_are_in_order,
-    made_groups_are_adders, made_rest_is_zero, made_slice_plan_is_small, made_slices_are_small,
-    slice_plans_are_small,
+    made_groups_are_adders, made_rest_is_zero, made_slices_are_small, slice_plans_are_small,
 };

@@ -10,17 +10,13 @@ use Rattle.graph_core.specs.declared.literal.Lit.{Lit}
 use Rattle.graph_core.specs.Graph.Assignments.{Assignment, literal, bit, word}
 use Rattle.graph_core.specs.declared.sign.Sign.{Sign}
 use Rattle.graph_core.specs.declared.sign.Sign.TheVariants.{Unsigned, Signed}
-use Rattle.graph_core.specs.Graph.Operands.{Sides, signed_word, operand_word, plus_word, claimed}
+use Rattle.graph_core.specs.Graph.Operands.{Sides, signed_word, operand_word, claimed}
 use Rattle.graph_core.specs.Algebra.Polynomials.{difference}
 use Rattle.graph_core.proofs.OfGraphs.CallerLemmas.{sum_same, product_same, difference_plus, difference_is, all_split, claim_same, plus_word_is}
 use Rattle.frontier_core.specs.Sets.{has}
 use Rattle.frontier_core.specs.Columns.{bit_at, partial_products, signed_digits, digit_at, digit_products, product_column, plus_bit, column_claim, column_of, columns_sum, ClaimsAreOfOperands, ColumnsMakeClaim}
 
 -- ---- the claims are about the operands alone
-
-pub word_same : (σ τ : Assignment) (ls : List Lit) → AllByRecursion (λ l. literal τ l ≡ literal σ l) ls → word τ ls ≡ word σ ls
-word_same σ τ [] h = refl
-word_same σ τ (l ∷ ls) h = ap₂ (λ b n. bit b + 2 * n) h.0 (word_same σ τ ls h.1)
 
 bit_at_same : (σ τ : Assignment) (ls : List Lit) (k : ℕ) → AllByRecursion (λ l. literal τ l ≡ literal σ l) ls → bit_at τ ls k ≡ bit_at σ ls k
 bit_at_same σ τ [] k h = refl

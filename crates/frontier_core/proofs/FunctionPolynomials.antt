@@ -12,7 +12,7 @@ use Rattle.graph_core.specs.Graph.Literals.{variable_of}
 use Rattle.graph_core.specs.Graph.Assignments.{Assignment, variable, literal, bit}
 use Rattle.graph_core.specs.Graph.{computed, rounds, evaluation}
 use Rattle.graph_core.specs.Graph.Operands.{Sides, operand_literals}
-use Rattle.graph_core.specs.Algebra.Polynomials.{Term, Polynomial, product, term_value, sum_of, value, difference}
+use Rattle.graph_core.specs.Algebra.Polynomials.{Term, Polynomial, product, term_value, sum_of, difference}
 use Rattle.graph_core.specs.Algebra.{modulus}
 use Rattle.ripple_graft.specs.Extension.{new_outputs}
 use Rattle.graph_core.proofs.OfAlgebra.CallerLemmas.{modulus_pos, sum_of-append, normal_form_exists}
@@ -51,9 +51,6 @@ timed_sum m v [] σ h = omega arith
 timed_sum m v (t ∷ p) σ h = omega (arith, timed_term m v t σ h, timed_sum m v p σ h)
 
 -- ---- functions of finitely many variables
-
-abbrev pub HasPolynomial : ℕ → (Assignment → ℕ) → Type 0
-HasPolynomial m f = (p : Polynomial) × ((σ : Assignment) → value m p σ ≡ f σ % m)
 
 -- with one variable set, the others count
 agree_set : (n : ℕ) (b : Bool) (σ τ : Assignment) → AgreeOnVariables n σ τ → AgreeOnVariables (suc n) (set_to (suc n) b σ) (set_to (suc n) b τ)

@@ -1,28 +1,24 @@
 -- Parts that are gathered, and what their combination states.
-use Rattle.std.specs.Prelude.{◌≡◌, ◌≢◌, ℕ, ◌+◌, ◌*◌, ◌%◌, ◌^◌, ◌<◌, ◌≤◌, Bool, true, false, ◌||◌, ◌==◌, List, [], ◌∷◌, ◌++◌, map, slice_get, slice_index_or}
-use Rattle.std.specs.declared.option.Option.TheVariants.{Some}
+use Rattle.std.specs.Prelude.{◌≡◌, ◌≢◌, ℕ, ◌+◌, ◌*◌, ◌%◌, ◌^◌, ◌≤◌, Bool, true, false, ◌||◌, ◌==◌, List, [], ◌∷◌, ◌++◌, map, slice_index_or}
 use Rattle.std.proofs.Common.{refl, sym, ap, ap₂, subst, ◌∙◌, arith, inl, inr, ⊎_elim, eq-eqb}
-use Rattle.std.proofs.Math.Nat.{mod-mod, mod-add-mod, add-mod-mod}
+use Rattle.std.proofs.Math.Nat.{mod-mod, mod-add-mod}
 use Rattle.std.proofs.lemmas.List.Elements.{All-from_recursion, recursion_from_All, All-push}
 use Rattle.std.proofs.lemmas.List.Quantifiers.{all_pairs_push}
-use Rattle.graph_core.specs.declared.literal.Lit.{Lit}
 use Rattle.graph_core.specs.Graph.Assignments.{Assignment, literal, bit}
 use Rattle.graph_core.specs.Graph.Operands.{Sides}
 use Rattle.graph_core.specs.Algebra.Polynomials.{difference, value}
 use Rattle.graph_core.specs.Graph.Extended.{Extended}
 use Rattle.graph_core.specs.Algebra.{LiveLine, Part, IsLive, value_of, combined, modulus, gate_axiom}
 use Rattle.graph_core.proofs.OfAlgebra.CallerLemmas.{modulus_pos}
-use Rattle.graph_core.proofs.OfGraphs.CallerLemmas.{sum_same, product_same, difference_plus, difference_is}
+use Rattle.graph_core.proofs.OfGraphs.CallerLemmas.{sum_same, product_same}
 use Rattle.frontier_core.specs.declared.step.Step.TheVariants.{Add, Eliminate}
 use Rattle.frontier_core.specs.Sets.{has}
-use Rattle.frontier_core.specs.Columns.{column_of, columns_sum}
 use Rattle.frontier_core.specs.Substitution.{quotient}
 use Rattle.frontier_core.specs.Plan.{Taken, step}
 use Rattle.frontier_core.specs.RestLine.{partial_specification}
 use Rattle.frontier_core.proofs.Everywhere.{all_from_map}
-use Rattle.frontier_core.proofs.FrontierSteps.{more_columns}
 use Rattle.frontier_core.proofs.RestLines.{difference_small, adding_keeps_rest_line, eliminating_keeps_rest_line}
-use Rattle.frontier_core.specs.Pending.{gap, IsNotZero, IsTaken, IsPending, PendingStarts, PendingAddsColumn, PendingEliminates, GroupIsEqual, SpareIsLawful, GainStarts, GainGrows, GroupStates}
+use Rattle.frontier_core.specs.Pending.{gap, IsNotZero, IsTaken, IsPending, PendingStarts, PendingAddsColumn, PendingEliminates, SpareIsLawful}
 
 pub gap_small : (e : Extended) (s : Sides) (added : List ℕ) (rest : Assignment → ℕ) (σ : Assignment) → gap e s added rest σ % modulus e ≡ gap e s added rest σ
 gap_small e s added rest σ = difference_small (modulus e) (partial_specification e s added σ) (rest σ) (modulus_pos e)
@@ -135,12 +131,6 @@ pending_eliminates e s live start rest next f parts x h above low new replaced =
 
 -- ---- the combination
 
-pub group_is_equal : GroupIsEqual
-group_is_equal e s live start rest f parts p h is σ =
-    let m = modulus e in
-    let c = combined m live parts σ in
-    is σ ∙ difference_is m (gap e s f.added rest σ) (start σ) c (modulus_pos e) (ap (λ z. z % m) (omega arith) ∙ h.sum σ ∙ sym (gap_small e s f.added rest σ))
-
 pub spare_is_lawful : SpareIsLawful
 spare_is_lawful m l parts new p spare above equal = record {
   new_id = above;
@@ -151,44 +141,3 @@ spare_is_lawful m l parts new p spare above equal = record {
 }
 
 -- ---- what a group states
-
-pub gain_starts : GainStarts
-gain_starts e s added gained none σ =
-    let m = modulus e in
-    let x = columns_sum m s added 0 e.graph.outputs σ in
-    sym (ap (λ g. (x % m + g) % m) (none σ) ∙ ap (λ z. z % m) (omega arith) ∙ mod-mod x m)
-
-part_more : (e : Extended) (s : Sides) (added : List ℕ) (k : ℕ) (o : Lit) (σ : Assignment) → slice_get e.graph.outputs k ≡ Some o → has added k ≡ false →
-    partial_specification e s (k ∷ added) σ ≡ (partial_specification e s added σ + column_of (modulus e) s k o σ) % modulus e
-part_more e s added k o σ is new =
-    let m = modulus e in
-    let os = e.graph.outputs in
-    let more : columns_sum m s (k ∷ added) 0 os σ ≡ columns_sum m s added 0 os σ + column_of m s k o σ =
-    subst (λ j. columns_sum m s (j ∷ added) 0 os σ ≡ columns_sum m s added 0 os σ + column_of m s j o σ) (omega arith)
-    (more_columns m s added 0 k os o σ is (ap (has added) (omega arith) ∙ new)) in
-    ap (λ z. z % m) more ∙ sym (mod-add-mod (columns_sum m s added 0 os σ) m (column_of m s k o σ))
-
-pub gain_grows : GainGrows
-gain_grows e s before added k o gained more h is new sum σ =
-    let m = modulus e in
-    let b = partial_specification e s before σ in
-    let g = gained σ in
-    let c = column_of m s k o σ in
-    part_more e s added k o σ is new ∙ ap (λ z. (z + c) % m) (h σ) ∙ mod-add-mod (b + g) m c ∙ ap (λ z. z % m) (omega arith) ∙
-    sym (add-mod-mod b (g + c) m) ∙ ap (λ z. (b + z) % m) (sym (sum σ))
-
-group_identity : (m p q g a r : ℕ) → 0 < m → q ≡ (p + g) % m → (g + difference m a r) % m ≡ difference m (difference m q r) (difference m p a)
-group_identity m p q g a r h is =
-    let d = difference m a r in
-    let b = difference m p a in
-    let rest : (d + r) % m ≡ a % m = difference_plus m a r h in
-    let whole : (b + a) % m ≡ p % m = difference_plus m p a h in
-    let moved : ((g + d + b) + r) % m ≡ ((g + b) + a) % m = ap (λ z. z % m) (omega arith) ∙ sum_same m (g + b) (g + b) (d + r) a refl rest in
-    let back : ((g + b) + a) % m ≡ (g + p) % m = ap (λ z. z % m) (omega arith) ∙ sum_same m g g (b + a) p refl whole in
-    let all : ((g + d + b) + r) % m ≡ q % m = moved ∙ back ∙ ap (λ z. z % m) (omega arith) ∙ sym (mod-mod (p + g) m) ∙ ap (λ z. z % m) (sym is) in
-    let now : difference m q r ≡ (g + d + b) % m = difference_is m q r (g + d + b) h all in
-    sym (difference_is m (difference m q r) b (g + d) h (sym (mod-mod (g + d + b) m) ∙ ap (λ z. z % m) (sym now)))
-
-pub group_states : GroupStates
-group_states e s before added gained first rest h σ =
-    group_identity (modulus e) (partial_specification e s before σ) (partial_specification e s added σ) (gained σ) (first σ) (rest σ) (modulus_pos e) (h σ)

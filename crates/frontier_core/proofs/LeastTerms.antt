@@ -4,18 +4,18 @@ use Rattle.std.specs.List.{All, AllByRecursion, Contains, list_all}
 use Rattle.std.proofs.Common.{refl, sym, ap, ap₂, subst, ◌∙◌, arith, inl, inr, ⊎_elim, eqb-true, eq-eqb, true≢false, mod-eq_of_lt}
 use Rattle.std.proofs.Math.Nat.{zero-mod}
 use Rattle.std.proofs.lemmas.Bool.{cases_Bool, cases_lt, or_cases, or_right, and_parts}
-use Rattle.std.proofs.lemmas.List.Elements.{All-from_recursion, recursion_from_All, All-contains}
+use Rattle.std.proofs.lemmas.List.Elements.{recursion_from_All, All-contains}
 use Rattle.graph_core.specs.declared.literal.Lit.{Lit}
 use Rattle.graph_core.specs.Graph.Literals.{variable_of}
 use Rattle.graph_core.specs.Graph.Assignments.{Assignment, literal}
 use Rattle.graph_core.specs.Algebra.Polynomials.{Term, Polynomial, term_value, sum_of, value}
 use Rattle.graph_core.specs.Algebra.NormalForm.{IsNormalTerm, IsNormalForm}
-use Rattle.graph_core.proofs.OfGraphs.CallerLemmas.{all_split, all_weaker, IsInput, literal-input}
+use Rattle.graph_core.proofs.OfGraphs.CallerLemmas.{all_split, IsInput, literal-input}
 use Rattle.graph_core.proofs.OfAlgebra.CallerLemmas.{part_length, part_whole, all_mem, sum_of-append, Once, once_from_pairs, once_around, term_none, term_full, true_term}
 use Rattle.frontier_core.specs.Sets.{has}
 use Rattle.frontier_core.specs.LastFrontier.{IsOverInputs}
-use Rattle.frontier_core.specs.LeastDifference.{LeastTermExists, ones_from, IsLexicographicallyBelow, Precedes, ones_of, IsLeastTerm, LeastTermIsLeast}
-use Rattle.frontier_core.proofs.Positions.{Implies, implies_fewer, implies_same, lexicographic_irreflexive, precedes_fewer, precedes_total, precedes_transitive, same_length}
+use Rattle.frontier_core.specs.LeastDifference.{ones_from, IsLexicographicallyBelow, Precedes, ones_of, IsLeastTerm, LeastTermIsLeast}
+use Rattle.frontier_core.proofs.Positions.{Implies, implies_fewer, implies_same, lexicographic_irreflexive, precedes_fewer, same_length}
 
 -- inputs at two assignments
 implies_inputs : (σ τ : Assignment) (ls : List Lit) → AllByRecursion IsInput ls → ((v : ℕ) → σ v ≡ true → τ v ≡ true) → Implies (map (literal σ) ls) (map (literal τ) ls)
@@ -136,35 +136,3 @@ module _ (m : ℕ) (ls : List Lit) (p : Polynomial) (t : Term) (normal : IsNorma
 
 pub least_term_is_least : LeastTermIsLeast
 least_term_is_least m ls p t normal over inputs least = (value_there m ls p t normal over inputs least, after_it m ls p t normal over inputs least)
-
-abbrev NotBefore : List ℕ → List ℕ → Type 0
-NotBefore xs ys = (xs ≡ ys) ⊎ Precedes xs ys
-
-not_before : (xs ys zs : List ℕ) → NotBefore xs ys → NotBefore ys zs → NotBefore xs zs
-not_before xs ys zs h k =
-    ⊎_elim (λ e. subst (λ us. NotBefore us zs) (sym e) k) (λ p. ⊎_elim (λ e. inr (subst (Precedes xs) e p)) (λ q. inr (precedes_transitive xs ys zs p q)) k) h
-
-all_after : (ls : List Lit) (s t : Term) (ts : List Term) → NotBefore (ones_of (has s.variables) ls) (ones_of (has t.variables) ls) →
-    AllByRecursion (λ u. NotBefore (ones_of (has t.variables) ls) (ones_of (has u.variables) ls)) ts → AllByRecursion (λ u. NotBefore (ones_of (has s.variables) ls) (ones_of (has u.variables) ls)) ts
-all_after ls s t ts h a =
-    all_weaker (λ u. NotBefore (ones_of (has t.variables) ls) (ones_of (has u.variables) ls)) (λ u. NotBefore (ones_of (has s.variables) ls) (ones_of (has u.variables) ls)) ts
-    (λ u k. not_before (ones_of (has s.variables) ls) (ones_of (has t.variables) ls) (ones_of (has u.variables) ls) h k) a
-
-least_of : (ls : List Lit) (s : Term) (ts : List Term) → (t : Term) × Contains (s ∷ ts) t × AllByRecursion (λ u. NotBefore (ones_of (has t.variables) ls) (ones_of (has u.variables) ls)) (s ∷ ts)
-least_of ls s [] = (s, (0, omega arith, refl), (inl refl, tt))
-least_of ls s (r ∷ ts) =
-    let rest = least_of ls r ts in
-    let t = rest.0 in
-    let first = λ (h : NotBefore (ones_of (has s.variables) ls) (ones_of (has t.variables) ls)). all_after ls s t (r ∷ ts) h rest.2 in
-    let place = rest.1 in
-    let there : Contains (s ∷ r ∷ ts) t = (suc place.0, omega (arith, place.1), place.2) in
-    ⊎_elim
-    (λ e. (s, (0, omega arith, refl), (inl refl, first (inl e))))
-    (λ o. ⊎_elim (λ p. (s, (0, omega arith, refl), (inl refl, first (inr p)))) (λ q. (t, there, (inr q, rest.2))) o)
-    (precedes_total (ones_of (has s.variables) ls) (ones_of (has t.variables) ls))
-
-pub least_term_exists : LeastTermExists
-least_term_exists ls [] h = absurd (omega arith)
-least_term_exists ls (s ∷ ts) h =
-    let is = least_of ls s ts in
-    (is.0, record { member = is.1; least = All-from_recursion (λ u. NotBefore (ones_of (has is.0.variables) ls) (ones_of (has u.variables) ls)) (s ∷ ts) is.2 })

@@ -10,7 +10,6 @@ pub mod SizeBounds
 pub mod FunctionPolynomials
 pub mod PlainOrders
 pub mod OrderMade
-pub mod PlainSizes
 pub mod Plans
 pub mod RestLines
 pub mod NotZero

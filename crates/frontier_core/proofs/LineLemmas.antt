@@ -1,16 +1,15 @@
 -- Which lines are live under which ids.
-use Rattle.std.specs.Prelude.{◌≡◌, ◌≢◌, ℕ, zero, suc, ◌+◌, not, cond, List, [], ◌∷◌, ◌++◌, map, IsSome, ◌==◌}
-use Rattle.std.specs.declared.option.Option.TheVariants.{None, Some}
-use Rattle.std.specs.List.{AllByRecursion, Contains, filter}
-use Rattle.std.proofs.Common.{refl, sym, ap, subst, ◌∙◌, arith, ⊎_elim, eqb-true, eq-eqb, ne_eqb}
-use Rattle.std.proofs.lemmas.Bool.{cases_Bool, eqb-false}
+use Rattle.std.specs.Prelude.{◌≡◌, ◌≢◌, ℕ, zero, suc, ◌+◌, cond, List, [], ◌∷◌, ◌++◌, map, IsSome}
+use Rattle.std.specs.declared.option.Option.TheVariants.{Some}
+use Rattle.std.specs.List.{AllByRecursion, Contains}
+use Rattle.std.proofs.Common.{refl, sym, ap, subst, ◌∙◌, arith, eq-eqb, ne_eqb}
 use Rattle.std.proofs.lemmas.List.Elements.{All-from_recursion, recursion_from_All}
 use Rattle.graph_core.specs.declared.gate.Gate.{Gate}
 use Rattle.graph_core.specs.Algebra.Polynomials.{value}
 use Rattle.graph_core.specs.Graph.Extended.{Extended, Column}
 use Rattle.graph_core.specs.Algebra.{LiveLine, modulus, gate_axiom, column_axiom, line_of, value_or_zero, after}
 use Rattle.graph_core.proofs.OfGraphs.CallerLemmas.{Distinct, Apart, apart_from_pairs}
-use Rattle.frontier_core.specs.LiveLines.{AxiomsAreLive, NewLineIsLive, DroppedLineIsGone, LinesGrow}
+use Rattle.frontier_core.specs.LiveLines.{AxiomsAreLive, NewLineIsLive, LinesGrow}
 use Rattle.frontier_core.proofs.Everywhere.{all_of_map, all_from_map}
 use Rattle.frontier_core.proofs.Computed.{all_distinct}
 
@@ -59,28 +58,6 @@ new_line_is_live m l id p =
       (λ σ. ap (λ o. value_or_zero o σ) here),
       (λ i ne. later_line new l.live i (λ e. ne (sym e))),
     )
-
-gone_line : (id : ℕ) (live : List LiveLine) → line_of (filter (λ x. not (x.id == id)) live) id ≡ None
-gone_line id [] = refl
-gone_line id (l ∷ live) =
-    ⊎_elim
-    (λ e. ap (λ b. line_of (cond (not b) (l ∷ filter (λ x. not (x.id == id)) live) (filter (λ x. not (x.id == id)) live)) id) e ∙ gone_line id live)
-    (λ f. ap (λ b. line_of (cond (not b) (l ∷ filter (λ x. not (x.id == id)) live) (filter (λ x. not (x.id == id)) live)) id) f ∙
-    later_line l (filter (λ x. not (x.id == id)) live) id (eqb-false l.id id f) ∙ gone_line id live)
-    (cases_Bool (l.id == id))
-
-kept_line : (id i : ℕ) (live : List LiveLine) → i ≢ id → line_of (filter (λ x. not (x.id == id)) live) i ≡ line_of live i
-kept_line id i [] ne = refl
-kept_line id i (l ∷ live) ne =
-    ⊎_elim
-    (λ e. ap (λ b. line_of (cond (not b) (l ∷ filter (λ x. not (x.id == id)) live) (filter (λ x. not (x.id == id)) live)) i) e ∙ kept_line id i live ne ∙
-    sym (later_line l live i (λ s. ne (sym s ∙ eqb-true l.id id e))))
-    (λ f. ap (λ b. line_of (cond (not b) (l ∷ filter (λ x. not (x.id == id)) live) (filter (λ x. not (x.id == id)) live)) i) f ∙
-    ap (λ o. cond (l.id == i) (Some l) o) (kept_line id i live ne))
-    (cases_Bool (l.id == id))
-
-pub dropped_line_is_gone : DroppedLineIsGone
-dropped_line_is_gone m l id = (gone_line id l.live, λ i ne. kept_line id i l.live ne)
 
 pub lines_grow : LinesGrow
 lines_grow m l [] x h k = ((k, tt), refl)

@@ -1,9 +1,9 @@
--- Each step of a plan leaves a frontier, the plain plan is one, and steps are finished in the plain order.
-use Rattle.std.specs.Prelude.{◌≡◌, ℕ, zero, suc, ◌+◌, ◌<◌, ◌≤◌, ◌⊎◌, not, cond, Bool, true, false, ◌||◌, List, [], ◌∷◌, ◌++◌, map, length, take, slice_get, slice_index_or, ◌==◌}
+-- Each step of a plan leaves a frontier, and the plain plan is one.
+use Rattle.std.specs.Prelude.{◌≡◌, ℕ, zero, suc, ◌+◌, ◌<◌, ◌≤◌, Bool, true, false, ◌||◌, List, [], ◌∷◌, ◌++◌, map, length, take, slice_get, slice_index_or, ◌==◌}
 use Rattle.std.specs.declared.option.Option.TheVariants.{Some}
-use Rattle.std.specs.List.{All, AllByRecursion, filter}
-use Rattle.std.proofs.Common.{refl, sym, ap, subst, ◌∙◌, arith, ⊎_elim, ne_eqb, eq-eqb, eqb-true, true≢false, append_assoc}
-use Rattle.std.proofs.lemmas.Bool.{cases_Bool, or_cases, or_left, or_right}
+use Rattle.std.specs.List.{All, AllByRecursion}
+use Rattle.std.proofs.Common.{refl, sym, ap, subst, ◌∙◌, arith, ⊎_elim, ne_eqb, eq-eqb, append_assoc}
+use Rattle.std.proofs.lemmas.Bool.{cases_Bool, or_left, or_right}
 use Rattle.std.proofs.lemmas.List.Folds.{list_any-append}
 use Rattle.std.proofs.lemmas.List.Sorted.{list_any-IsPermutation}
 use Rattle.std.proofs.lemmas.Option.{slice_get_within}
@@ -16,7 +16,7 @@ use Rattle.frontier_core.specs.Sets.{has, count_from}
 use Rattle.frontier_core.specs.Columns.{all_columns}
 use Rattle.frontier_core.specs.Frontier.{IsLastFrontier}
 use Rattle.frontier_core.specs.PlainOrder.{ComesBefore, IsPlainOrder}
-use Rattle.frontier_core.specs.Plan.{Taken, nothing, step, taken, IsFrontierOf, left_of, value_of_taken, CanEliminate, CanFollow, AreSteps, PlanLeavesFrontiers, StepIsPushed, plain_steps, PlainPlanIsPlan, PlanIsFinished}
+use Rattle.frontier_core.specs.Plan.{Taken, nothing, step, taken, IsFrontierOf, value_of_taken, CanEliminate, CanFollow, AreSteps, PlanLeavesFrontiers, StepIsPushed, plain_steps, PlainPlanIsPlan}
 use Rattle.frontier_core.proofs.Everywhere.{all_has, all_had}
 use Rattle.frontier_core.proofs.FrontierSets.{frontier_is_set}
 use Rattle.frontier_core.proofs.FrontierSteps.{first_frontier, adding_leaves_frontier, eliminating_leaves_frontier}
@@ -138,45 +138,6 @@ module _ (e : Extended) (vs : List ℕ) (made : IsExtension e) (plain : IsPlainO
       turned false true = refl
       turned false false = refl
 
-  -- the gates that aren't eliminated yet, from some on
-  left_follow : (f g : Taken) (done rest : List ℕ) → vs ≡ done ++ rest → ((k : ℕ) → k < length e.graph.outputs → has g.added k ≡ true) → ((w : ℕ) → has g.eliminated w ≡ (has f.eliminated w || has done w)) →
-      AreSteps e g (map Eliminate (left_of rest f))
-  left_follow f g done [] is all same = tt
-  left_follow f g done (v ∷ rest) is all same =
-      at (has f.eliminated v) refl (λ next h. left_follow f next (done ++ v ∷ []) rest (is ∙ sym (append_assoc done (v ∷ []) rest)) h)
-    where
-      more : (w : ℕ) → has (done ++ v ∷ []) w ≡ (has done w || (v == w || false))
-      more w = list_any-append (λ u. u == w) done (v ∷ [])
-
-      at : (b : Bool) → has f.eliminated v ≡ b →
-          ((next : Taken) → ((k : ℕ) → k < length e.graph.outputs → has next.added k ≡ true) → ((w : ℕ) → has next.eliminated w ≡ (has f.eliminated w || has (done ++ v ∷ []) w)) → AreSteps e next (map Eliminate (left_of rest f))) →
-          AreSteps e g (map Eliminate (cond (not b) (v ∷ left_of rest f) (left_of rest f)))
-      at true h on = on g all (λ w. same w ∙ skipped w (v == w) refl ∙ ap (λ c. has f.eliminated w || c) (sym (more w)))
-        where
-          or_true : (x y : Bool) → x ≡ true → (x || y) ≡ (x || (y || true))
-          or_true x y e = ap (λ z. z || y) e ∙ sym (ap (λ z. z || (y || true)) e)
-
-          or_more : (x y : Bool) → (x || y) ≡ (x || (y || false))
-          or_more true y = refl
-          or_more false true = refl
-          or_more false false = refl
-
-          skipped : (w : ℕ) (c : Bool) → (v == w) ≡ c → (has f.eliminated w || has done w) ≡ (has f.eliminated w || (has done w || (c || false)))
-          skipped w true e = or_true (has f.eliminated w) (has done w) (ap (has f.eliminated) (sym (eqb-true v w e)) ∙ h)
-          skipped w false e = or_more (has f.eliminated w) (has done w)
-      at false h on = (
-        gate_follows g done v rest is all (λ w d. same w ∙ or_right (has f.eliminated w) (has done w) d) (same v ∙ ap (λ z. z || has done v) h ∙ not_done done v rest is),
-        on (step g (Eliminate v)) all (λ w. ap (λ b. (v == w) || b) (same w) ∙ turned (v == w) (has f.eliminated w) (has done w) ∙ ap (λ c. has f.eliminated w || c) (sym (more w))),
-      )
-        where
-          turned : (a b c : Bool) → (a || (b || c)) ≡ (b || (c || (a || false)))
-          turned true true c = refl
-          turned true false true = refl
-          turned true false false = refl
-          turned false true c = refl
-          turned false false true = refl
-          turned false false false = refl
-
   abbrev columns : List ℕ
   columns = all_columns e
 
@@ -196,37 +157,6 @@ module _ (e : Extended) (vs : List ℕ) (made : IsExtension e) (plain : IsPlainO
     all_columns = λ k h. pushed_has [] columns k ∙ all_columns_have e k h;
     all_gates = λ k d h. pushed_has [] vs (slice_index_or e.gates k d).v ∙ same_have (slice_index_or e.gates k d).v ∙ gates_had e.gates k d h;
   })
-
--- a number of a list is kept by a filter that passes it
-kept_by : (test : ℕ → Bool) (vs : List ℕ) (w : ℕ) → has vs w ≡ true → test w ≡ true → has (filter test vs) w ≡ true
-kept_by test [] w h t = absurd (true≢false (sym h))
-kept_by test (v ∷ vs) w h t = at (test v) refl (or_cases (v == w) (has vs w) h) (λ k. kept_by test vs w k t)
-  where
-    at : (b : Bool) → test v ≡ b → ((v == w) ≡ true) ⊎ (has vs w ≡ true) → (has vs w ≡ true → has (filter test vs) w ≡ true) → has (cond b (v ∷ filter test vs) (filter test vs)) w ≡ true
-    at true e c on = ⊎_elim (λ s. or_left (v == w) (has (filter test vs) w) s) (λ k. or_right (v == w) (has (filter test vs) w) (on k)) c
-    at false e c on = ⊎_elim (λ s. absurd (true≢false (sym t ∙ sym (ap test (eqb-true v w s)) ∙ e))) (λ k. on k) c
-
-pub plan_is_finished : PlanIsFinished
-plan_is_finished e vs steps made plain follow all =
-    let f = taken nothing steps in
-    let left = left_of vs f in
-    let is : taken nothing (steps ++ map Eliminate left) ≡ record { added = f.added; eliminated = pushed f.eliminated left } = taken_append nothing steps (map Eliminate left) ∙ eliminated_all f left in
-    record {
-      follow = steps_append e nothing steps (map Eliminate left) follow (left_follow e vs made plain f f [] vs refl all (λ w. or_none (has f.eliminated w)));
-      last = subst (λ g. IsLastFrontier e g.added g.eliminated) (sym is) (record {
-        all_columns = all;
-        all_gates = λ k d h.
-            let v = (slice_index_or e.gates k d).v in
-            pushed_has f.eliminated left v ∙
-            ⊎_elim (λ t. or_left (has f.eliminated v) (has left v) t)
-            (λ n. or_right (has f.eliminated v) (has left v) (kept_by (λ w. not (has f.eliminated w)) vs v (same_have e vs made plain v ∙ gates_had e.gates k d h) (ap not n)))
-            (cases_Bool (has f.eliminated v));
-      });
-    }
-  where
-    or_none : (b : Bool) → b ≡ (b || false)
-    or_none true = refl
-    or_none false = refl
 
 pub plain_plan_is_plan : PlainPlanIsPlan
 plain_plan_is_plan e vs made plain = (

@@ -4,7 +4,7 @@ use Rattle.std.specs.List.{AllByRecursion}
 use Rattle.std.proofs.Common.{refl, sym, ap, ap₂, subst, ◌∙◌, arith, inl, inr, ⊎_elim, true≢false}
 use Rattle.std.proofs.lemmas.Bool.{cases_order}
 use Rattle.graph_core.proofs.OfGraphs.CallerLemmas.{all_weaker}
-use Rattle.frontier_core.specs.LeastDifference.{PrecedesIsAnOrder, FirstDifferencePrecedes, ones_from, IsLexicographicallyBelow, Precedes}
+use Rattle.frontier_core.specs.LeastDifference.{FirstDifferencePrecedes, ones_from, IsLexicographicallyBelow, Precedes}
 
 -- each position of the list is the first one or later
 pub ones_above : (k : ℕ) (xs : List Bool) → AllByRecursion (λ j. k ≤ j) (ones_from k xs)
@@ -113,6 +113,3 @@ pub precedes_transitive : (xs ys zs : List ℕ) → Precedes xs ys → Precedes 
 precedes_transitive xs ys zs h k =
     ⊎_elim (λ a. ⊎_elim (λ b. inl (omega arith)) (λ b. let same = b.0 in inl (omega arith)) k)
     (λ a. let here = a.0 in ⊎_elim (λ b. inl (omega arith)) (λ b. inr (a.0 ∙ b.0, lexicographic_transitive xs ys zs a.1 b.1)) k) h
-
-pub precedes_is_an_order : PrecedesIsAnOrder
-precedes_is_an_order = (precedes_total, precedes_transitive)

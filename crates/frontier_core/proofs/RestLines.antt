@@ -3,13 +3,12 @@ use Rattle.std.specs.Prelude.{◌≡◌, ℕ, ◌+◌, ◌*◌, ◌-◌, ◌%◌
 use Rattle.std.specs.declared.option.Option.TheVariants.{Some}
 use Rattle.std.proofs.Common.{refl, sym, ap, ap₂, subst, ◌∙◌, arith}
 use Rattle.std.proofs.Math.Nat.{zero-mod, mod-mod, mod-add-mod, add-mod-mod}
-use Rattle.std.proofs.lemmas.Nat.{mul-mod_second}
 use Rattle.graph_core.specs.declared.literal.Lit.{Lit}
 use Rattle.graph_core.specs.Graph.Assignments.{Assignment, variable, literal, bit, word}
 use Rattle.graph_core.specs.Graph.Operands.{Sides, claimed}
-use Rattle.graph_core.specs.Algebra.Polynomials.{difference, value}
+use Rattle.graph_core.specs.Algebra.Polynomials.{difference}
 use Rattle.graph_core.specs.Graph.Extended.{Extended}
-use Rattle.graph_core.specs.Algebra.{modulus, value_of, gate_axiom, specification}
+use Rattle.graph_core.specs.Algebra.{modulus, gate_axiom, specification}
 use Rattle.graph_core.proofs.OfAlgebra.CallerLemmas.{modulus_pos}
 use Rattle.graph_core.proofs.OfGraphs.CallerLemmas.{sum_same, product_same, difference_plus, difference_is, difference_same}
 use Rattle.frontier_core.specs.Sets.{has}
@@ -17,7 +16,6 @@ use Rattle.frontier_core.specs.Columns.{column_claim, column_of, columns_sum}
 use Rattle.frontier_core.specs.Frontier.{set_to}
 use Rattle.frontier_core.specs.Substitution.{gate_value, quotient, substituted}
 use Rattle.frontier_core.specs.RestLine.{partial_specification, IsRestLine, RestLineStarts, AddingKeepsRestLine, EliminatingKeepsRestLine, RestLineEnds, ZeroRestCloses}
-use Rattle.frontier_core.specs.LiveLines.{CombinesOne, CombinesTwo}
 use Rattle.frontier_core.proofs.ColumnClaims.{columns_make_claim}
 use Rattle.frontier_core.proofs.FrontierSteps.{no_columns, more_columns}
 use Rattle.frontier_core.proofs.Substituting.{quotient_splits}
@@ -119,17 +117,6 @@ eliminating_keeps_rest_line e s added x line rest next is_line above replaced = 
         let c : difference m 0 (quotient m x.v rest σ) ≡ 0 = ap (difference m 0) (none σ) ∙ difference_same m 0 (modulus_pos e) in
         line_stays m (line σ) ((gate_axiom m x).value σ * difference m 0 (quotient m x.v rest σ)) (partial_specification e s added σ) (rest σ) (modulus_pos e) (is_line σ)
         (ap (λ z. (gate_axiom m x).value σ * z) c ∙ omega arith) ∙ sym (equation σ)
-
-pub combines_two : CombinesTwo
-combines_two m live id other one c d is_one sum σ =
-    let a = value_of live id σ in
-    let b = value_of live other σ * value m c σ in
-    let first : (a * value m one σ) % m ≡ a % m = ap (λ z. (a * z) % m) (is_one σ) ∙ mul-mod_second a 1 m ∙ ap (λ z. z % m) (omega arith) in
-    let second : (b + 0) % m ≡ b % m = ap (λ z. z % m) (omega arith) in
-    sum σ ∙ sym (sum_same m (a * value m one σ) a (b + 0) b first second)
-
-pub combines_one : CombinesOne
-combines_one m live other c d sum σ = sum σ ∙ ap (λ z. z % m) (omega arith)
 
 pub rest_line_ends : RestLineEnds
 rest_line_ends e s added line rest all is_line σ = is_line σ ∙ ap (λ x. difference (modulus e) x (rest σ)) (columns_make_claim s e.graph.outputs added σ all)

@@ -10,10 +10,10 @@ use Rattle.graph_core.specs.Graph.{evaluation}
 use Rattle.graph_core.specs.Algebra.{modulus}
 use Rattle.ripple_graft.specs.Extension.{new_outputs}
 use Rattle.graph_core.proofs.OfAlgebra.CallerLemmas.{modulus_pos}
-use Rattle.graph_core.proofs.OfGraphs.CallerLemmas.{difference_plus, sum_same, product_same, variable-pos}
+use Rattle.graph_core.proofs.OfGraphs.CallerLemmas.{difference_plus, variable-pos}
 use Rattle.frontier_core.specs.Columns.{columns_sum}
 use Rattle.frontier_core.specs.Frontier.{gates_among, set_to}
-use Rattle.frontier_core.specs.Substitution.{gate_value, quotient, SubstitutingSets, SubstitutingIsModular, QuotientSplits, EliminatingSubstitutes, EliminatingReplaces}
+use Rattle.frontier_core.specs.Substitution.{gate_value, quotient, SubstitutingSets, QuotientSplits, EliminatingSubstitutes, EliminatingReplaces}
 use Rattle.frontier_core.proofs.FrontierSteps.{eliminating_computes_gate}
 
 pub substituting_sets : SubstitutingSets
@@ -23,10 +23,6 @@ substituting_sets m v g f σ true h e =
 substituting_sets m v g f σ false h e =
     let none : (f (set_to v false σ) + g σ * quotient m v f σ) ≡ f (set_to v false σ) = ap (λ z. f (set_to v false σ) + z * quotient m v f σ) e ∙ omega arith in
     ap (λ z. z % m) none
-
-pub substituting_is_modular : SubstitutingIsModular
-substituting_is_modular m v g h f σ e =
-    sum_same m (f (set_to v false σ)) (f (set_to v false σ)) (g σ * quotient m v f σ) (h σ * quotient m v f σ) refl (product_same m (g σ) (h σ) (quotient m v f σ) (quotient m v f σ) e refl)
 
 -- a variable set to its own value
 pub set_to-is : (v : ℕ) (σ : Assignment) → set_to v (σ v) σ ≡ σ

@@ -8,11 +8,11 @@ use Rattle.std.proofs.lemmas.List.Elements.{All-from_recursion, recursion_from_A
 use Rattle.graph_core.specs.Graph.Assignments.{Assignment, variable, bit}
 use Rattle.graph_core.specs.Algebra.Polynomials.{Term, product, term_value, sum_of, value, difference}
 use Rattle.graph_core.specs.Algebra.NormalForm.{AreRising, IsNormalTerm, IsNormalForm}
-use Rattle.graph_core.proofs.OfGraphs.CallerLemmas.{difference_same, difference_plus, sum_same, product_same}
+use Rattle.graph_core.proofs.OfGraphs.CallerLemmas.{difference_same, sum_same, product_same}
 use Rattle.graph_core.proofs.OfAlgebra.CallerLemmas.{rising_from, part_length, part_whole, all_mem, Once, once_from_pairs, normal_forms_differ, normal_form, plain_value}
 use Rattle.frontier_core.specs.Sets.{has, without}
 use Rattle.frontier_core.specs.Frontier.{set_to}
-use Rattle.frontier_core.specs.Substitution.{UnusedVariableIsAbsent, UsedVariableHasQuotient}
+use Rattle.frontier_core.specs.Substitution.{UnusedVariableIsAbsent}
 use Rattle.frontier_core.proofs.Splitting.{splitting_substitutes, variable_is_taken_out, kept_or_not}
 
 -- the terms with a variable, without it, and the terms in which it doesn't occur
@@ -140,9 +140,3 @@ unused_variable_is_absent m v p above normal same =
         let b = first.2 in
         let some = normal_forms_differ m (with_variable v p) form (subst (λ q. 0 < length q) (sym e) (omega arith)) in
         absurd (some.1 (quotient_none (omega arith) some.0))
-
-pub used_variable_has_quotient : UsedVariableHasQuotient
-used_variable_has_quotient m v p h above normal none =
-    unused_variable_is_absent m v p above normal
-    (λ σ. sym (mod-mod (sum_of m p (set_to v true σ)) m) ∙ sym (difference_plus m (value m p (set_to v true σ)) (value m p (set_to v false σ)) h) ∙
-    ap (λ z. (z + value m p (set_to v false σ)) % m) (none σ) ∙ ap (λ z. z % m) (omega arith) ∙ mod-mod (sum_of m p (set_to v false σ)) m)

@@ -138,15 +138,6 @@ abbrev pub LeastTermGivesInputs : Type 0
 LeastTermGivesInputs = (m : ℕ) (ls : List Lit) (p : Polynomial) (t : Term) → AreInputs ls → IsNormalForm m p → IsOverInputs ls p → IsLeastTerm ls p t →
     IsLeastNonzero (value m p) ls (map (literal (has t.variables)) ls)
 
--- A polynomial with a term has a least one.
-abbrev pub LeastTermExists : Type 0
-LeastTermExists = (ls : List Lit) (p : Polynomial) → 0 < length p → (t : Term) × IsLeastTerm ls p t
-
--- The order of positions is total and transitive.
-abbrev pub PrecedesIsAnOrder : Type 0
-PrecedesIsAnOrder = ((xs ys : List ℕ) → (xs ≡ ys) ⊎ (Precedes xs ys ⊎ Precedes ys xs)) ×
-    ((xs ys zs : List ℕ) → Precedes xs ys → Precedes ys zs → Precedes xs zs)
-
 -- Of two lists of truth values with as many ones, the one that is true at their first difference has the lesser positions.
 abbrev pub FirstDifferencePrecedes : Type 0
 FirstDifferencePrecedes = (k : ℕ) (front xs ys : List Bool) → length (ones_from k (front ++ true ∷ xs)) ≡ length (ones_from k (front ++ false ∷ ys)) →

@@ -1,12 +1,11 @@
 -- Which lines are live under which ids, and lines that are put together from live ones.
-use Rattle.std.specs.Prelude.{◌≡◌, ◌≢◌, ℕ, ◌+◌, ◌*◌, ◌%◌, List, [], ◌∷◌, ◌++◌}
-use Rattle.std.specs.declared.option.Option.TheVariants.{None}
+use Rattle.std.specs.Prelude.{◌≡◌, ◌≢◌, ℕ, ◌+◌, List, [], ◌∷◌, ◌++◌}
 use Rattle.std.specs.List.{Contains}
 use Rattle.graph_core.specs.declared.gate.Gate.{Gate}
 use Rattle.graph_core.specs.Graph.Assignments.{Assignment}
 use Rattle.graph_core.specs.Algebra.Polynomials.{Polynomial, value}
 use Rattle.graph_core.specs.Graph.Extended.{Extended, Column}
-use Rattle.graph_core.specs.Algebra.{LiveLine, Line, Combination, Delete, Ledger, IsCombined, IsLive, IsLawfulLine, AreLawfulLines, axioms, column_axiom, gate_axiom, line_of, introduce, after, after_all, modulus, value_of}
+use Rattle.graph_core.specs.Algebra.{Line, Ledger, IsLive, IsLawfulLine, AreLawfulLines, axioms, column_axiom, gate_axiom, line_of, introduce, after, after_all, modulus, value_of}
 use Rattle.ripple_graft.specs.Extension.{IsExtension}
 
 -- The axioms are live under their ids.
@@ -22,25 +21,7 @@ NewLineIsLive = (m : ℕ) (l : Ledger) (id : ℕ) (p : Polynomial) →
     IsLive (introduce m l id p).live id × ((σ : Assignment) → value_of (introduce m l id p).live id σ ≡ value m p σ) ×
     ((i : ℕ) → i ≢ id → line_of (introduce m l id p).live i ≡ line_of l.live i)
 
--- A dropped line isn't live, and each line of another id is as it was.
-abbrev pub DroppedLineIsGone : Type 0
-DroppedLineIsGone = (m : ℕ) (l : Ledger) (id : ℕ) →
-    (line_of (after m l (Delete id)).live id ≡ None) ×
-    ((i : ℕ) → i ≢ id → line_of (after m l (Delete id)).live i ≡ line_of l.live i)
-
 -- One more lawful line.
 abbrev pub LinesGrow : Type 0
 LinesGrow = (m : ℕ) (l : Ledger) (xs : List Line) (x : Line) → AreLawfulLines m l xs → IsLawfulLine m (after_all m l xs) x →
     AreLawfulLines m l (xs ++ x ∷ []) × (after_all m l (xs ++ x ∷ []) ≡ after m (after_all m l xs) x)
-
--- A line times a polynomial, as a combination.
-abbrev pub CombinesOne : Type 0
-CombinesOne = (m : ℕ) (live : List LiveLine) (other : ℕ) (c d : Polynomial) →
-    ((σ : Assignment) → value m d σ ≡ (value_of live other σ * value m c σ) % m) →
-    IsCombined m live (record { id = other; factor = c } ∷ []) d
-
--- A line and another one times a polynomial.
-abbrev pub CombinesTwo : Type 0
-CombinesTwo = (m : ℕ) (live : List LiveLine) (id other : ℕ) (one c d : Polynomial) → ((σ : Assignment) → value m one σ ≡ 1 % m) →
-    ((σ : Assignment) → value m d σ ≡ (value_of live id σ + value_of live other σ * value m c σ) % m) →
-    IsCombined m live (record { id = id; factor = one } ∷ record { id = other; factor = c } ∷ []) d

@@ -69,35 +69,9 @@ PendingEliminates = (e : Extended) (s : Sides) (live : List LiveLine) (start res
     ((σ : Assignment) → value (modulus e) p.factor σ ≡ difference (modulus e) 0 (quotient (modulus e) x.v rest σ)) → IsNotZero (modulus e) p.factor →
     IsPending e s live start (step f (Eliminate x.v)) next (parts ++ p ∷ []))
 
--- The combination of a group's parts, which states the gap now minus the gap at the start.
-abbrev pub GroupIsEqual : Type 0
-GroupIsEqual = (e : Extended) (s : Sides) (live : List LiveLine) (start rest : Assignment → ℕ) (f : Taken) (parts : List Part) (p : Polynomial) →
-    IsPending e s live start f rest parts → ((σ : Assignment) → value (modulus e) p σ ≡ difference (modulus e) (gap e s f.added rest σ) (start σ)) →
-    IsCombined (modulus e) live parts p
-
 -- A combination of spare parts with a new id is lawful.
 abbrev pub SpareIsLawful : Type 0
 SpareIsLawful = (m : ℕ) (l : Ledger) (parts : List Part) (new : ℕ) (p : Polynomial) → AreSpare m l.live parts → l.last < new →
     IsCombined m l.live parts p → IsLawfulLine m l (Combination new parts p)
 
 -- ---- what a group states, without the specification's part
-
--- The columns that were added since the start, with the graph's own outputs, make up the difference of the parts.
-abbrev pub IsGained : Extended → Sides → List ℕ → List ℕ → (Assignment → ℕ) → Type 0
-IsGained e s before added gained = (σ : Assignment) → partial_specification e s added σ ≡ (partial_specification e s before σ + gained σ) % modulus e
-
--- None at first.
-abbrev pub GainStarts : Type 0
-GainStarts = (e : Extended) (s : Sides) (added : List ℕ) (gained : Assignment → ℕ) → ((σ : Assignment) → gained σ ≡ 0) → IsGained e s added added gained
-
--- One more column.
-abbrev pub GainGrows : Type 0
-GainGrows = (e : Extended) (s : Sides) (before added : List ℕ) (k : ℕ) (o : Lit) (gained more : Assignment → ℕ) → IsGained e s before added gained →
-    slice_get e.graph.outputs k ≡ Some o → has added k ≡ false →
-    ((σ : Assignment) → more σ ≡ (gained σ + column_value e s k o σ) % modulus e) → IsGained e s before (k ∷ added) more
-
--- So the columns of a group, plus the rest before, minus the rest now are the gap now minus the gap before.
-abbrev pub GroupStates : Type 0
-GroupStates = (e : Extended) (s : Sides) (before added : List ℕ) (gained first rest : Assignment → ℕ) → IsGained e s before added gained →
-    (σ : Assignment) → (gained σ + difference (modulus e) (first σ) (rest σ)) % modulus e ≡
-    difference (modulus e) (gap e s added rest σ) (gap e s before first σ)

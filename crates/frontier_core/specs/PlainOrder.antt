@@ -45,10 +45,3 @@ abbrev pub PlainOrderFinishes : Type 0
 PlainOrderFinishes = (e : Extended) (eliminated vs : List ℕ) (t v : ℕ) → IsAcyclic e.gates → IsPlainOrder e.gates vs →
     All (λ w. has eliminated w ≡ true) (take t vs) →
     slice_get vs t ≡ Some v → All (λ x. (variable_of x.left ≡ v) ⊎ (variable_of x.right ≡ v) → has eliminated x.v ≡ true) e.gates
-
--- Each frontier of the plain order has one size.
-abbrev pub PlainSizeExists : Type 0
-PlainSizeExists = (e : Extended) (s : Sides) (t : ℕ) → IsExtension e → (n : ℕ) × HasPlainSize e s t n
-
-abbrev pub PlainSizeIsOne : Type 0
-PlainSizeIsOne = (e : Extended) (s : Sides) (t j k : ℕ) → IsAcyclic e.gates → HasPlainSize e s t j → HasPlainSize e s t k → j ≡ k

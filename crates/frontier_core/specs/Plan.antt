@@ -1,7 +1,7 @@
 -- Plans: the order in which columns are added and gates eliminated.
-use Rattle.std.specs.Prelude.{◌≡◌, ℕ, ◌<◌, ◌≤◌, ◌⊎◌, not, true, false, List, [], ◌∷◌, ◌++◌, map, length, take, slice_get}
+use Rattle.std.specs.Prelude.{◌≡◌, ℕ, ◌<◌, ◌≤◌, ◌⊎◌, true, false, List, [], ◌∷◌, ◌++◌, map, length, take, slice_get}
 use Rattle.std.specs.declared.option.Option.TheVariants.{Some}
-use Rattle.std.specs.List.{All, filter}
+use Rattle.std.specs.List.{All}
 use Rattle.graph_core.specs.declared.literal.Lit.{Lit}
 use Rattle.graph_core.specs.Graph.Literals.{variable_of}
 use Rattle.graph_core.specs.Graph.Assignments.{Assignment}
@@ -76,12 +76,3 @@ abbrev pub PlainPlanIsPlan : Type 0
 PlainPlanIsPlan = (e : Extended) (vs : List ℕ) → IsExtension e → IsPlainOrder e.gates vs → IsPlan e (plain_steps e vs) ×
     ((s : Sides) (t : ℕ) → t ≤ length vs → (σ : Assignment) →
     value_of_taken e s (taken nothing (map Add (all_columns e) ++ map Eliminate (take t vs))) σ ≡ frontier_value e s (all_columns e) (take t vs) σ)
-
--- the gates of the plain order that aren't eliminated yet
-abbrev pub left_of : List ℕ → Taken → List ℕ
-left_of vs f = filter (λ v. not (has f.eliminated v)) vs
-
--- Steps that added all columns are finished by the gates that are left, in the plain order.
-abbrev pub PlanIsFinished : Type 0
-PlanIsFinished = (e : Extended) (vs : List ℕ) (steps : List Step) → IsExtension e → IsPlainOrder e.gates vs → AreSteps e nothing steps →
-    ((k : ℕ) → k < length e.graph.outputs → has (taken nothing steps).added k ≡ true) → IsPlan e (steps ++ map Eliminate (left_of vs (taken nothing steps)))

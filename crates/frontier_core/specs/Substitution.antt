@@ -33,10 +33,6 @@ IsFreeOf v p = All (λ t. has t.variables v ≡ false) p
 abbrev pub SubstitutingSets : Type 0
 SubstitutingSets = (m v : ℕ) (g f : Assignment → ℕ) (σ : Assignment) (b : Bool) → 0 < m → g σ ≡ bit b → substituted m v g f σ ≡ f (set_to v b σ) % m
 
--- What is put in counts modulo m.
-abbrev pub SubstitutingIsModular : Type 0
-SubstitutingIsModular = (m v : ℕ) (g h f : Assignment → ℕ) (σ : Assignment) → g σ % m ≡ h σ % m → substituted m v g f σ ≡ substituted m v h f σ
-
 -- The variable times the quotient, plus the value where the variable is false, is the function.
 abbrev pub QuotientSplits : Type 0
 QuotientSplits = (m v : ℕ) (f : Assignment → ℕ) (σ : Assignment) → 0 < m → 0 < v → (bit (variable σ v) * quotient m v f σ + f (set_to v false σ)) % m ≡ f σ % m
@@ -76,7 +72,3 @@ VariableIsTakenOut = (v : ℕ) (vs : List ℕ) → (has (without v vs) v ≡ fal
 abbrev pub UnusedVariableIsAbsent : Type 0
 UnusedVariableIsAbsent = (m v : ℕ) (p : Polynomial) → 0 < v → IsNormalForm m p →
     ((σ : Assignment) → value m p (set_to v true σ) ≡ value m p (set_to v false σ)) → IsFreeOf v p
-
--- So where it has the variable, its quotient isn't 0 everywhere.
-abbrev pub UsedVariableHasQuotient : Type 0
-UsedVariableHasQuotient = (m v : ℕ) (p : Polynomial) → 0 < m → 0 < v → IsNormalForm m p → ((σ : Assignment) → quotient m v (value m p) σ ≡ 0) → IsFreeOf v p

@@ -32,30 +32,27 @@ pub use end_laws::{
     difference_is_of_operands, difference_is_of_sum, first_difference_precedes,
     last_frontier_at_inputs, last_frontier_decides, last_frontier_gives_least,
     last_frontier_is_error, last_frontier_is_over_inputs, least_difference_is_one,
-    least_term_exists, least_term_gives_inputs, least_term_is_least, precedes_is_an_order,
+    least_term_gives_inputs, least_term_is_least,
 };
 pub use frontier_laws::{
     adding_adds_column, adding_leaves_frontier, claims_are_of_operands, columns_make_claim,
     eliminating_computes_gate, eliminating_leaves_frontier, first_frontier, frontier_is_set,
 };
 pub use gathering_laws::{
-    gain_grows, gain_starts, group_is_equal, group_states, pending_adds_column, pending_eliminates,
-    pending_starts, spare_is_lawful, total_ends, total_grows, total_is_equal, total_starts,
+    pending_adds_column, pending_eliminates, pending_starts, spare_is_lawful, total_ends,
 };
 pub use line_laws::{
-    adding_keeps_rest_line, axioms_are_live, combines_one, combines_two, dropped_line_is_gone,
-    eliminating_keeps_rest_line, lines_grow, new_line_is_live, rest_line_ends, rest_line_starts,
-    specification_is_not_zero, zero_rest_closes,
+    adding_keeps_rest_line, axioms_are_live, eliminating_keeps_rest_line, lines_grow,
+    new_line_is_live, rest_line_ends, rest_line_starts, specification_is_not_zero,
+    zero_rest_closes,
 };
 pub use order_laws::{
     plain_order_exists, plain_order_finishes, plain_order_is_one, plain_order_leaves_frontiers,
-    plain_size_exists, plain_size_is_one,
 };
-pub use plan_laws::{plain_plan_is_plan, plan_is_finished, plan_leaves_frontiers, step_is_pushed};
+pub use plan_laws::{plain_plan_is_plan, plan_leaves_frontiers, step_is_pushed};
 pub use size_laws::{frontier_has_size, function_has_polynomial, linear_is_small, size_is_at_most};
 pub use step::Step;
 pub use substitution_laws::{
     eliminating_replaces, eliminating_substitutes, quotient_splits, splitting_substitutes,
-    substituting_is_modular, substituting_sets, unused_variable_is_absent,
-    used_variable_has_quotient, variable_is_taken_out,
+    substituting_sets, unused_variable_is_absent, variable_is_taken_out,
 };

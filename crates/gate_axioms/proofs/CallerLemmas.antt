@@ -4,4 +4,4 @@ pub use Rattle.gate_axioms.proofs.Growth.{keeps_itself, keeps_lines}
 pub use Rattle.gate_axioms.proofs.FirstLines.{fresh_above}
 pub use Rattle.gate_axioms.proofs.ColumnLines.{axioms_within}
 pub use Rattle.gate_axioms.proofs.ClauseProducts.{clause_values, value_is}
-pub use Rattle.gate_axioms.proofs.ImportedClauses.{facts_vanish, imports_bounded, imports_vanish, same_imports}
+pub use Rattle.gate_axioms.proofs.ImportedClauses.{imports_bounded, imports_vanish, same_imports}

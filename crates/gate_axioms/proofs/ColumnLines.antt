@@ -71,21 +71,6 @@ columns_none e facts xs are within = record {
 below_last : (j k : ℕ) → j < k + 1 → (j ≡ k → ⊥) → j < k
 below_last j k low apart = omega (arith, low, apart)
 
-pub columns_skip : (e : Extended) (k : ℕ) (old mid : Facts Sum Table) → None ≡ column_of e k → HasColumns e k old mid → HasColumns e (k + 1) old mid
-columns_skip e k old mid none h = record {
-  gates = h.gates;
-  table = h.table;
-  below = h.below;
-  done = λ j low. go j (j == k) refl low;
-  free = λ j low. h.free j (omega (arith, low));
-}
-  where
-    go : (j : ℕ) (b : Bool) → (j == k) ≡ b → j < k + 1 → AreSame (line_of (lines_in mid.table mid.entries) (e.max + 1 + j)) (column_line e j)
-    go j true f low =
-        subst (λ n. AreSame (line_of (lines_in mid.table mid.entries) (e.max + 1 + n)) (column_line e n)) (sym (eqb-true j k f))
-        (subst (λ x. AreSame (line_of (lines_in mid.table mid.entries) (e.max + 1 + k)) (option_map (column_axiom e) x)) none (h.free k (omega arith)))
-    go j false f low = h.done j (below_last j k low (λ same. true≢false (sym (eq-eqb j k same) ∙ f)))
-
 pub columns_step : (e : Extended) (k : ℕ) (old mid new : Facts Sum Table) (left right : Lit) → modulus mid.table ≡ algebra.modulus e → Some (record { number = k; old = left; new = right }) ≡ column_of e k → HasColumns e k old mid →
     PutsLine (difference_line (modulus mid.table) (e.max + 1 + k) left right) mid new → HasColumns e (k + 1) old new
 columns_step e k old mid new left right m here h puts = record {

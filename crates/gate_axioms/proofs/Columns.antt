@@ -21,10 +21,6 @@ use Rattle.gate_axioms.specs.Form.{Adds, CountsAs, HasValue, counts_as, digits, 
 
 -- ---- what literals count
 
--- what a place makes of a coefficient
-pub counts_plain : (w n i c : ℕ) → CountsAs w Unsigned n i c c
-counts_plain w n i c = record { times = λ x. ap (λ z. (c * z) % 2 ^ w) (omega arith) }
-
 last_counts : (m n i : ℕ) → i + 1 ≡ n → counts_as m Signed n i ≡ m - 1
 last_counts m zero i e = absurd (omega arith)
 last_counts m (suc zero) zero e = refl

@@ -1,12 +1,9 @@
 -- The values of clauses, as what the lines of an algebra certificate may import.
-use Rattle.std.specs.Prelude.{◌≡◌, ℕ, true, List, [], ◌∷◌, map, slice_index_or}
+use Rattle.std.specs.Prelude.{◌≡◌, ℕ, List, [], ◌∷◌, map, slice_index_or}
 use Rattle.std.specs.List.{All}
 use Rattle.std.proofs.lemmas.List.Elements.{All-map}
-use Rattle.clause_core.specs.Clause.{Clause, Satisfies, holds}
-use Rattle.clause_core.specs.Facts.{IsClauseFact}
+use Rattle.clause_core.specs.Clause.{Clause, Satisfies}
 use Rattle.clause_core.specs.Likeness.{AreSameSets}
-use Rattle.graph_core.specs.declared.gate.Gate.{Gate}
-use Rattle.graph_core.specs.Graph.{IsEvaluation}
 use Rattle.graph_core.specs.Graph.Assignments.{Assignment, HasBound}
 use Rattle.graph_core.specs.Algebra.Agreement.{AreSameImports}
 use Rattle.gate_axioms.specs.ClauseValues.{clause_value}
@@ -26,7 +23,3 @@ same_imports (c ∷ cs) (d ∷ ds) h = ((λ σ. clause_values.by_set c d σ h.0)
 -- where the clauses hold, each value is 0
 pub imports_vanish : (cs : List Clause) (σ : Assignment) → Satisfies σ cs → All (λ (f : Assignment → ℕ). f σ ≡ 0) (map clause_value cs)
 imports_vanish cs σ h = All-map (λ (f : Assignment → ℕ). f σ ≡ 0) clause_value cs (λ k d below. clause_values.vanish (slice_index_or cs k d) σ (h k d below))
-
--- on every evaluation of gates of which they are facts
-pub facts_vanish : (gates : List Gate) (cs : List Clause) (σ : Assignment) → All (IsClauseFact gates) cs → IsEvaluation gates σ → All (λ (f : Assignment → ℕ). f σ ≡ 0) (map clause_value cs)
-facts_vanish gates cs σ h evaluates = imports_vanish cs σ (λ k d below. (h k d below).always σ evaluates)

@@ -1,5 +1,5 @@
 -- What the literals of a signed operand add to a form.
-use Rattle.std.proofs.Common.{◌≡◌, ℕ, zero, suc, ◌+◌, ◌-◌, ◌*◌, ◌%◌, ◌^◌, ◌<◌, ◌≤◌, List, [], ◌∷◌, length, get_or, refl, sym, ap, ◌∙◌, arith}
+use Rattle.std.proofs.Common.{◌≡◌, ℕ, suc, ◌+◌, ◌-◌, ◌*◌, ◌%◌, ◌^◌, ◌<◌, List, [], ◌∷◌, length, get_or, refl, sym, ap, ◌∙◌, arith}
 use Rattle.std.proofs.Math.Nat.{add-mul-mod_self_left, mod-mod, zero-mod}
 use Rattle.std.proofs.lemmas.Nat.{pow_pos}
 use Rattle.graph_core.specs.declared.literal.Lit.{Lit}
@@ -8,7 +8,7 @@ use Rattle.graph_core.specs.Graph.Operands.{signed_word}
 use Rattle.graph_core.specs.Algebra.Polynomials.{Polynomial}
 use Rattle.graph_core.proofs.OfGraphs.CallerLemmas.{product_same, signed_is, sum_same, top}
 use Rattle.gate_axioms.specs.Form.{Adds}
-use Rattle.gate_axioms.proofs.Adding.{adds_on, adds_same}
+use Rattle.gate_axioms.proofs.Adding.{adds_on}
 
 top_is : (σ : Assignment) (ls : List Lit) (d : Lit) → 0 < length ls → top σ ls ≡ bit (literal σ (get_or ls (length ls - 1) d))
 top_is σ [] d some = absurd (omega arith)
@@ -45,8 +45,3 @@ signed_adds w f s o ls d old mid new some is opposite whole top' =
     let none : (o + f * 2 ^ length ls) % 2 ^ w ≡ 0 =
     sum_same (2 ^ w) o o (f * 2 ^ length ls) s refl (sym (ap (λ z. z % 2 ^ w) is ∙ mod-mod (f * 2 ^ length ls) (2 ^ w))) ∙ opposite in
     adds_on w old mid new _ _ _ whole top' (λ σ. signed_at w f o σ ls d some none)
-
--- no literals
-pub signed_none : (w f : ℕ) (ls : List Lit) (old new : Polynomial) → length ls ≤ 0 → Adds w old new (λ σ. f * word σ ls) → Adds w old new (λ σ. f * signed_word (2 ^ w) σ ls)
-signed_none w f [] old new none adds = adds
-signed_none w f (l ∷ ls) old new none adds = absurd (omega arith)

@@ -1,12 +1,10 @@
 -- Polynomials of a table with the values of axioms and of the specification, and where they are 0.
-use Rattle.std.specs.Prelude.{◌≡◌, List}
-use Rattle.std.specs.List.{Contains}
+use Rattle.std.specs.Prelude.{◌≡◌}
 use Rattle.graph_core.specs.declared.literal.Lit.{Lit}
 use Rattle.graph_core.specs.declared.gate.Gate.{Gate}
 use Rattle.graph_core.specs.Algebra.{gate_axiom, specification}
 use Rattle.graph_core.specs.Graph.Assignments.{Assignment, bit, literal}
 use Rattle.graph_core.specs.Graph.Extended.{Extended}
-use Rattle.graph_core.specs.Graph.{IsEvaluation}
 use Rattle.graph_core.specs.Graph.Operands.{Sides}
 use Rattle.graph_core.specs.Algebra.Polynomials.{difference}
 use Rattle.poly_terms.specs.Tables.{Table, Sum, modulus, value_in}
@@ -22,11 +20,6 @@ IsDifference t p left right = (σ : Assignment) → value_in t p σ ≡ differen
 -- at every assignment it has the value of the specification
 abbrev pub IsSpecification : Table → Sum → Extended → Sides → Type 0
 IsSpecification t p e s = (σ : Assignment) → value_in t p σ ≡ specification e s σ
-
--- A gate's axiom is 0 on every evaluation of gates that have the gate among them.
-abbrev pub GateAxiomsVanish : Type 0
-GateAxiomsVanish = (t : Table) (p : Sum) (gates : List Gate) (gate : Gate) (σ : Assignment) →
-    IsGateAxiom t p gate → Contains gates gate → IsEvaluation gates σ → value_in t p σ ≡ 0
 
 -- The difference of two literals is 0 wherever they are equal.
 abbrev pub EqualLiteralsVanish : Type 0

@@ -132,6 +132,13 @@ pub fn column_poly(
     Ok(poly)
 }
 
+pub(crate) fn one(terms: &Terms) -> Residue
+    ensures width { result.width ≡ terms.now.exponent }
+    ensures value { result.value ≡ 1 }
+{
+    Residue::new(terms.exponent(), 1)
+}
+
 // a form plus the product of two
 fn sum_with_product(terms: &mut Terms, sum: Form, left: Form, right: Form) -> Result<Poly, Memory>
     ensures extends { Extends terms.old terms.new }
@@ -145,13 +152,6 @@ fn sum_with_product(terms: &mut Terms, sum: Form, left: Form, right: Form) -> Re
     let right = right.poly_in(terms)?;
     let poly = terms.combine(&sum, &left, &right)?;
     Ok(poly)
-}
-
-pub(crate) fn one(terms: &Terms) -> Residue
-    ensures width { result.width ≡ terms.now.exponent }
-    ensures value { result.value ≡ 1 }
-{
-    Residue::new(terms.exponent(), 1)
 }
 
 fn minus_one(terms: &Terms) -> Residue

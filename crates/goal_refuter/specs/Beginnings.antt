@@ -22,8 +22,10 @@ StaysBegun conflicts solver log after next = (max : ℕ) (given : List Clause) �
 
 -- that each of two literals implies the other follows by unit propagation from the live clauses
 abbrev pub AreShownEqual : List Clause → Lit → Lit → Type 0
-AreShownEqual live one other = IsRup live (signed_of (negation_of one) ∷ signed_of other ∷ []) × IsRup live (signed_of one ∷ signed_of (negation_of other) ∷ [])
+AreShownEqual live one other =
+    IsRup live (signed_of (negation_of one) ∷ signed_of other ∷ []) × IsRup live (signed_of one ∷ signed_of (negation_of other) ∷ [])
 
 -- Whichever clauses, gates and columns they are of, this comes of all goals behind the log.
 abbrev pub IsOutcomeBehind : SolverView → LogView → List Clause → ℕ → Outcome → Type 0
-IsOutcomeBehind solver log goals conflicts outcome = (e : Extended) (given : List Clause) → AreOver e solver.max given goals → IsBegun solver.max given conflicts solver log → IsOutcome e conflicts outcome
+IsOutcomeBehind solver log goals conflicts outcome = (e : Extended) (given : List Clause) →
+    AreOver e solver.max given goals → IsBegun solver.max given conflicts solver log → IsOutcome e conflicts outcome

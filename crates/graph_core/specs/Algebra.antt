@@ -13,10 +13,9 @@ use Rattle.std.specs.declared.option.Option.{Option}
 use Rattle.std.specs.declared.option.Option.TheVariants.{None, Some}
 use Rattle.std.specs.List.{All, find, filter}
 use Rattle.graph_core.specs.declared.gate.Gate.{Gate}
-use Rattle.graph_core.specs.declared.order.Order.{Order}
 use Rattle.graph_core.specs.Graph.Assignments.{Assignment, variable, literal, bit, word}
 use Rattle.graph_core.specs.Graph.{IsEvaluation}
-use Rattle.graph_core.specs.Graph.Operands.{HasMultiplierShape, Sides, sides_of, claimed, output_modulus, width, a_bits, b_bits}
+use Rattle.graph_core.specs.Graph.Operands.{Sides, claimed, output_modulus}
 use Rattle.graph_core.specs.Graph.Extended.{Extended, Column}
 use Rattle.graph_core.specs.Algebra.Polynomials.{Polynomial, value, difference}
 
@@ -219,11 +218,6 @@ AlgebraIsSound = (p : Premises) (s : Sides) (lines : List Line) (closing : ℕ) 
 -- Where the specification vanishes, the outputs' word is what it is claimed to be.
 abbrev pub VanishingMeansClaim : Type 0
 VanishingMeansClaim = (e : Extended) (s : Sides) (σ : Assignment) → specification e s σ ≡ 0 → word σ e.graph.outputs ≡ claimed (modulus e) s σ % modulus e
-
--- With an output for each bit of the product, it is the product as whole numbers.
-abbrev pub VanishingMeansProduct : Type 0
-VanishingMeansProduct = (e : Extended) (order : Order) (σ : Assignment) → HasMultiplierShape e.graph → length e.graph.outputs ≡ 2 * width e.graph →
-    specification e (sides_of order e.graph) σ ≡ 0 → word σ e.graph.outputs ≡ word σ (a_bits order e.graph) * word σ (b_bits order e.graph)
 
 -- The axioms vanish on each evaluation on which the replaced columns agree.
 abbrev pub AxiomsVanish : Type 0

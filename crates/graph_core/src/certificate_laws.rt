@@ -1,6 +1,6 @@
 // Laws of certificates: a lawful algebra certificate vanishes, and a file is lawful or has one first refusal.
-ghost use Rattle.graph_core.specs.Algebra.{AlgebraIsSound, AxiomsVanish, VanishingMeansClaim, VanishingMeansProduct};
-ghost use Rattle.graph_core.specs.Algebra.Reading.{AlgebraIsRead, AlgebraLineIsRead, CloseIsRead, PolynomialIsRead};
+ghost use Rattle.graph_core.specs.Algebra.{AlgebraIsSound, AxiomsVanish, VanishingMeansClaim};
+ghost use Rattle.graph_core.specs.Algebra.Reading.{AlgebraIsRead, AlgebraLineIsRead, CloseIsRead};
 ghost use Rattle.graph_core.specs.Algebra.Refusal.{AlgebraIsExact};
 
 /// On every evaluation the value that a lawful algebra certificate closes with is 0, so the outputs
@@ -17,12 +17,6 @@ pub fn axioms_vanish()
 /// Where the specification vanishes, the outputs are what is claimed.
 pub fn vanishing_means_claim()
     ensures { VanishingMeansClaim }
-{}
-
-/// Where there is an output for each bit of the product, a specification that vanishes means that the
-/// outputs are the product of the operands as whole numbers.
-pub fn vanishing_means_product()
-    ensures { VanishingMeansProduct }
 {}
 
 /// An algebra certificate is lawful and within the lengths, or there is one first refusal.
@@ -43,9 +37,4 @@ pub fn algebra_line_is_read()
 /// Reading a closing line gives its id, and nothing else does.
 pub fn close_is_read()
     ensures { CloseIsRead }
-{}
-
-/// Reading a polynomial gives one whose text it takes, and each polynomial's text that ends is read as it.
-pub fn polynomial_is_read()
-    ensures { PolynomialIsRead }
 {}

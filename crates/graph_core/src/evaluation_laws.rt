@@ -1,6 +1,6 @@
 // Laws of evaluation: what holds on every evaluation of a graph holds for all values of its inputs.
 ghost use Rattle.graph_core.specs.Graph.{EvaluationIsOne};
-ghost use Rattle.graph_core.specs.Aiger.Refusal.{LevelsMeanAcyclic, OneLevel};
+ghost use Rattle.graph_core.specs.Aiger.Refusal.{OneLevel};
 ghost use Rattle.graph_core.specs.Graph.Operands.{ClaimIsDone, ClaimIsProduct, EvaluationsSuffice, SidesAreInputs, SidesReadInputs, WholeProducts};
 ghost use Rattle.graph_core.specs.Aiger.Soundness.{SpelledShape, VanishingMeetsClaim, VanishingMultiplies};
 
@@ -37,11 +37,6 @@ pub fn whole_products()
 /// An evaluation that keeps the free variables is the evaluation.
 pub fn evaluation_is_one()
     ensures { EvaluationIsOne }
-{}
-
-/// Gates of different variables have an order exactly where every variable has a level.
-pub fn levels_mean_acyclic()
-    ensures { LevelsMeanAcyclic }
 {}
 
 /// Where gates have different variables, a variable has at most one level.

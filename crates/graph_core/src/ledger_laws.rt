@@ -1,17 +1,11 @@
 // Laws of the ledger of an algebra certificate: which ledgers and which lines say the same.
-ghost use Rattle.graph_core.specs.Algebra.Agreement.{AgreementIsEquivalence, AgreementIsKept, PremisesAreKept, RefusedIsUnlawful};
-ghost use Rattle.graph_core.specs.Algebra.InRange.{RefusedInRange};
-ghost use Rattle.graph_core.specs.Algebra.Ledgers.{LedgerIsMap, LinesKeepZero, LiveLinesVanish};
+ghost use Rattle.graph_core.specs.Algebra.Agreement.{AgreementIsEquivalence, AgreementIsKept, PremisesAreKept};
+ghost use Rattle.graph_core.specs.Algebra.Ledgers.{LedgerIsMap, LiveLinesVanish};
 ghost use Rattle.graph_core.specs.Algebra.Likeness.{LikenessIsKept};
 
 /// Live lines are a map from ids.
 pub fn ledger_is_map()
     ensures { LedgerIsMap }
-{}
-
-/// A lawful line keeps that every live line is 0 at an assignment, where what may be imported is.
-pub fn lines_keep_zero()
-    ensures { LinesKeepZero }
 {}
 
 /// Every live line is 0 on each evaluation that meets the premises.
@@ -37,14 +31,4 @@ pub fn likeness_is_kept()
 /// Over premises that say the same the same files are lawful, and refused for the same causes.
 pub fn premises_are_kept()
     ensures { PremisesAreKept }
-{}
-
-/// A line that is refused isn't lawful.
-pub fn refused_is_unlawful()
-    ensures { RefusedIsUnlawful }
-{}
-
-/// A refusal of a line whose numbers are in range is the one of the definitions.
-pub fn refused_in_range()
-    ensures { RefusedInRange }
 {}

@@ -35,12 +35,12 @@ mod sign;
 
 pub use certificate_laws::{
     algebra_is_exact, algebra_is_read, algebra_is_sound, algebra_line_is_read, axioms_vanish,
-    close_is_read, polynomial_is_read, vanishing_means_claim, vanishing_means_product,
+    close_is_read, vanishing_means_claim,
 };
 pub use claim::Claim;
 pub use evaluation_laws::{
-    claim_is_done, claim_is_product, evaluation_is_one, evaluations_suffice, levels_mean_acyclic,
-    one_level, sides_are_inputs, sides_read_inputs, spelled_shape, vanishing_meets_claim,
+    claim_is_done, claim_is_product, evaluation_is_one, evaluations_suffice, one_level,
+    sides_are_inputs, sides_read_inputs, spelled_shape, vanishing_meets_claim,
     vanishing_multiplies, whole_products,
 };
 pub use fault::{BuildFail, Field, GraphFault};
@@ -52,8 +52,8 @@ pub use file_laws::{
 pub use gate::Gate;
 pub use graph::Graph;
 pub use ledger_laws::{
-    agreement_is_equivalence, agreement_is_kept, ledger_is_map, likeness_is_kept, lines_keep_zero,
-    live_lines_vanish, premises_are_kept, refused_in_range, refused_is_unlawful,
+    agreement_is_equivalence, agreement_is_kept, ledger_is_map, likeness_is_kept,
+    live_lines_vanish, premises_are_kept,
 };
 pub use literal::Lit;
 pub use memory::Memory;

@@ -1,3 +1,4 @@
+// Which graph is made.
 use crate::kind::Kind;
 
 /// Which graph is made, of operands of n bits.

@@ -5,7 +5,7 @@ use Rattle.std.specs.declared.option.Option.TheVariants.{None, Some}
 use Rattle.std.specs.Option.{option_map}
 use Rattle.std.proofs.Common.{refl, sym, ap, ◌∙◌, arith, append_assoc, eq-eqb, ne_eqb}
 use Rattle.std.proofs.lemmas.List.{append-nil}
-use Rattle.std.proofs.lemmas.List.Elements.{All-nil, All-push}
+use Rattle.std.proofs.lemmas.List.Elements.{All-push}
 use Rattle.graph_core.specs.declared.literal.Lit.{Lit}
 use Rattle.graph_core.specs.Graph.Literals.{variable_of}
 use Rattle.clause_core.specs.Clause.{Clause, IsLiteral}
@@ -38,9 +38,6 @@ clause_of-other l ls e f =
     ap (λ b. cond b None (cond (l.0 == 0) (clause_of ls) (option_map (λ c. signed_of l ∷ c) (clause_of ls)))) (ne_eqb l.0 1 e) ∙
     ap (λ b. cond b (clause_of ls) (option_map (λ c. signed_of l ∷ c) (clause_of ls))) (ne_eqb l.0 0 f)
 
-map_none : (items : List ℤ) (o : Option Clause) → o ≡ None → option_map (λ c. items ++ c) o ≡ None
-map_none items o e = ap (option_map (λ c. items ++ c)) e
-
 map_twice : (items : List ℤ) (x : ℤ) (o : Option Clause) → option_map (λ c. items ++ c) (option_map (λ c. x ∷ c) o) ≡ option_map (λ c. (items ++ x ∷ []) ++ c) o
 map_twice items x None = refl
 map_twice items x (Some c) = ap Some (sym (append_assoc items (x ∷ []) c))
@@ -59,19 +56,9 @@ signed_small l small some = go (l.0 % 2 == 0)
     go true = plus (variable_of l) some (omega arith)
     go false = minus (variable_of l) some (omega arith)
 
-pub collects_none : (lits : List Lit) → Collects [] lits 0
-collects_none lits = record { literals = All-nil IsLiteral; whole = same (clause_of lits) }
-  where
-    same : (o : Option Clause) → o ≡ option_map (λ c. [] ++ c) o
-    same None = refl
-    same (Some c) = refl
-
 module _ (items : List ℤ) (lits : List Lit) (n : ℕ) (d : Lit) (h : Collects items lits n) (below : n < length lits) where
   abbrev here : Lit
   here = slice_index_or lits n d
-
-  pub one_none : here.0 ≡ 1 → clause_of lits ≡ None
-  one_none e = h.whole ∙ map_none items (clause_of (drop n lits)) (ap clause_of (drop_here lits n d below) ∙ clause_of-one here (drop (n + 1) lits) e)
 
   pub collects_zero : here.0 ≡ 0 → Collects items lits (n + 1)
   collects_zero e = record { literals = h.literals; whole = h.whole ∙ ap (option_map (λ c. items ++ c)) (ap clause_of (drop_here lits n d below) ∙ clause_of-zero here (drop (n + 1) lits) e) }

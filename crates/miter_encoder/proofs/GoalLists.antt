@@ -4,7 +4,7 @@ use Rattle.std.specs.declared.option.Option.{Option}
 use Rattle.std.specs.declared.option.Option.TheVariants.{Some}
 use Rattle.std.specs.List.{All, Any}
 use Rattle.std.proofs.Common.{refl, sym, ap, ap₂, subst, ◌∙◌, arith, inl, inr, ⊎_elim}
-use Rattle.std.proofs.lemmas.List.Elements.{All-append, All-nil, All-from_recursion}
+use Rattle.std.proofs.lemmas.List.Elements.{All-append, All-from_recursion}
 use Rattle.std.proofs.lemmas.Option.{same_Some, slice_get_within}
 use Rattle.graph_core.specs.declared.literal.Lit.{Lit}
 use Rattle.graph_core.specs.Graph.Extended.{Column, Extended}
@@ -25,9 +25,6 @@ again (x ∷ xs) (suc i) y below = again xs i y (omega arith)
 
 below_or : (i n : ℕ) → i < n + 1 → (i < n) ⊎ (i ≡ n)
 below_or i n h = search (arith, inl, inr)
-
-pub goals_none : (e : Extended) → AreGoalsBelow e [] 0
-goals_none e = record { each = All-nil (IsOfColumns e.replaced); all = λ i d h b. absurd (omega arith) }
 
 pub goals_all : (e : Extended) (goals : List Goal) (k : ℕ) → IsExtension e → AreGoalsBelow e goals k → length e.graph.outputs ≤ k → AreGoalsOf e goals
 goals_all e goals k made h end = record {

@@ -2,9 +2,6 @@
 use Rattle.std.specs.Prelude.{◌≡◌, ◌↔◌, ℕ, true, List, [], ◌∷◌, slice_index_or}
 use Rattle.std.specs.declared.option.Option.{Option}
 use Rattle.std.specs.declared.option.Option.TheVariants.{None, Some}
-use Rattle.std.specs.declared.result.Result.{Result}
-use Rattle.std.specs.declared.result.Result.TheVariants.{Ok, Err}
-use Rattle.std.specs.Result.{IfOk}
 use Rattle.std.specs.List.{All, AllByRecursion}
 use Rattle.std.proofs.Common.{sym, ◌∙◌, arith, inl, inr, ⊎_elim, true≢false}
 use Rattle.std.proofs.lemmas.List.Elements.{All-contains, All-from_recursion, recursion_from_All}
@@ -73,8 +70,3 @@ goals_mean e goals are σ = (
       let o : Option Clause = one.1 in
       goal_met σ c.number o g one.4 (All-contains (IsMet σ) (goals_of c) o ((goals_mean_equality c σ).1 equal) (one.0, one.2, one.3)),
 )
-
-pub clauses_mean_ok : {E : Type 0} (gates : List Gate) (r : Result (List Clause) E) → IfOk r (λ clauses. AreSameSets clauses (gate_clauses gates)) →
-    IfOk r (λ clauses. (σ : Assignment) → Satisfies σ clauses ↔ IsEvaluation gates σ)
-clauses_mean_ok gates (Ok clauses) same = clauses_mean gates clauses same
-clauses_mean_ok gates (Err e) same = same

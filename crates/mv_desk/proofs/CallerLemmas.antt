@@ -5,50 +5,12 @@ use Rattle.std.specs.Io.KnownBytes.{Keeps}
 use Rattle.std.specs.Prelude.{IfSome, OnOk, Result, Ok, Err, option_map, unwrap_or}
 use Rattle.std.proofs.KnownBytes.{Appends-nil, Appends-trans, starts_with_rest}
 use Rattle.std.proofs.Transfers.{starts_with_of_append}
-use Rattle.mv_desk.specs.Calls.{AreApart, BytesGrow, Creates, HasReadCause, HasWriteCause, HeldGrows, Inspects, Opens, OtherStays, Reads, ReadsOnly, WritesPart, WritesTo}
-use Rattle.mv_desk.specs.View.{HasReport, IsSame, KeepsTelling, ModeStays, OpensFiles, SlotStays, View, bytes_under, raised, raised_by}
+use Rattle.mv_desk.specs.Calls.{AreApart, BytesGrow, HasReadCause, HasWriteCause, HeldGrows, Inspects, Opens, OtherStays, Reads, ReadsOnly, WritesPart, WritesTo}
+use Rattle.mv_desk.specs.View.{IsSame, KeepsTelling, ModeStays, OpensFiles, SlotStays, View, bytes_under, raised, raised_by}
 use Rattle.mv_desk.specs.HonestDesk.{view_of}
 use Rattle.mv_desk.specs.declared.memory.honest_desk.HonestDesk.{HonestDesk}
 use Rattle.mv_desk.specs.declared.slot.Slot.{Slot}
-use Rattle.mv_desk.specs.declared.slot.Slot.TheVariants.{Algebra, Clauses, Graph, Other, Report}
-
--- a fact of one slot, and of each other one
-pub each_slot : (P : Slot → Type 0) (slot : Slot) → P slot → ((other : Slot) → other ≢ slot → P other) → (each : Slot) → P each
-each_slot P Graph here others = λ each. elim each as P [
-  | Graph ↦ here
-  | Other ↦ others Other (λ e. cc)
-  | Clauses ↦ others Clauses (λ e. cc)
-  | Algebra ↦ others Algebra (λ e. cc)
-  | Report ↦ others Report (λ e. cc)
-]
-each_slot P Other here others = λ each. elim each as P [
-  | Graph ↦ others Graph (λ e. cc)
-  | Other ↦ here
-  | Clauses ↦ others Clauses (λ e. cc)
-  | Algebra ↦ others Algebra (λ e. cc)
-  | Report ↦ others Report (λ e. cc)
-]
-each_slot P Clauses here others = λ each. elim each as P [
-  | Graph ↦ others Graph (λ e. cc)
-  | Other ↦ others Other (λ e. cc)
-  | Clauses ↦ here
-  | Algebra ↦ others Algebra (λ e. cc)
-  | Report ↦ others Report (λ e. cc)
-]
-each_slot P Algebra here others = λ each. elim each as P [
-  | Graph ↦ others Graph (λ e. cc)
-  | Other ↦ others Other (λ e. cc)
-  | Clauses ↦ others Clauses (λ e. cc)
-  | Algebra ↦ here
-  | Report ↦ others Report (λ e. cc)
-]
-each_slot P Report here others = λ each. elim each as P [
-  | Graph ↦ others Graph (λ e. cc)
-  | Other ↦ others Other (λ e. cc)
-  | Clauses ↦ others Clauses (λ e. cc)
-  | Algebra ↦ others Algebra (λ e. cc)
-  | Report ↦ here
-]
+use Rattle.mv_desk.specs.declared.slot.Slot.TheVariants.{Report}
 
 pub ModeStays-refl : (slot : Slot) (a : View) → ModeStays slot a a
 ModeStays-refl slot a = record { reads = refl; writes = refl; name = refl }
@@ -97,38 +59,9 @@ ReadsOnly-trans slot a b c p q =
       opened = q.opened ∙ p.opened;
     }
 
--- how each slot is open stays, while one is read or written
-pub ReadsOnly-modes : (slot : Slot) (a b : View) → ReadsOnly slot a b → (each : Slot) → ModeStays each a b
-ReadsOnly-modes slot a b only = each_slot (λ each. ModeStays each a b) slot only.mode (λ other apart. (only.others other apart).mode)
-
-pub WritesTo-modes : (slot : Slot) (piece : List ℕ) (a b : View) → WritesTo slot piece a b → (each : Slot) → ModeStays each a b
-WritesTo-modes slot piece a b writes = each_slot (λ each. ModeStays each a b) slot writes.mode (λ other apart. (writes.others other apart).mode)
-
 -- ---- the report
 
--- it is open for writing still, where it was not opened or created again
-pub HasReport-stays : (a b : View) → ModeStays Report a b → HasReport a → HasReport b
-HasReport-stays a b stays has = record {
-  writes = stays.writes ∙ has.writes;
-  unnamed = rw stays.name has.unnamed;
-}
-
-pub HasReport-Opens : (slot : Slot) (given : List ℕ) (a b : View) → Report ≢ slot → Opens slot given a b → HasReport a → HasReport b
-HasReport-Opens slot given a b apart opens = HasReport-stays a b (opens.others Report apart).mode
-
-pub HasReport-ReadsOnly : (slot : Slot) (a b : View) → ReadsOnly slot a b → HasReport a → HasReport b
-HasReport-ReadsOnly slot a b only = HasReport-stays a b (ReadsOnly-modes slot a b only Report)
-
-pub HasReport-Creates : (slot : Slot) (given : List ℕ) (a b : View) → Report ≢ slot → Creates slot given a b → HasReport a → HasReport b
-HasReport-Creates slot given a b apart creates = HasReport-stays a b (creates.others Report apart).mode
-
-pub HasReport-WritesTo : (slot : Slot) (piece : List ℕ) (a b : View) → WritesTo slot piece a b → HasReport a → HasReport b
-HasReport-WritesTo slot piece a b writes = HasReport-stays a b (WritesTo-modes slot piece a b writes Report)
-
 -- ---- commands that only look
-
-pub Inspects-refl : (a : View) → Inspects a a
-Inspects-refl a = record { report = SlotStays-refl Report a; held = λ _. refl; later = omega arith; write_faults = refl }
 
 pub Inspects-trans : (a b c : View) → Inspects a b → Inspects b c → Inspects a c
 Inspects-trans a b c p q =
@@ -151,15 +84,6 @@ Inspects-Opens slot given a b result apart opens cause = record {
   write_faults = cause.write_faults;
 }
 
--- a call that failed and changed nothing else
-pub Inspects-IsSame : {T E : Type 0} (a b : View) (result : Result T E) → IsSame a b → HasReadCause a b result → Inspects a b
-Inspects-IsSame a b result same cause = record {
-  report = same.slots Report;
-  held = same.held;
-  later = cause.later;
-  write_faults = cause.write_faults;
-}
-
 -- reading from a slot but the report
 pub Inspects-ReadsOnly : (slot : Slot) (a b : View) → Report ≢ slot → ReadsOnly slot a b → Inspects a b
 Inspects-ReadsOnly slot a b apart only = record {
@@ -174,9 +98,6 @@ Inspects-ReadsOnly slot a b apart only = record {
 raised_by-raised_by : (first second count : ℕ) → raised_by second (raised_by first count) ≡ raised_by (first + second) count
 raised_by-raised_by first zero count = rw (add-zero first) refl
 raised_by-raised_by first (suc second) count = rw (add-suc first second) (ap raised (raised_by-raised_by first second count))
-
-pub OpensFiles-refl : (a : View) → OpensFiles 0 a a
-OpensFiles-refl a = refl
 
 pub OpensFiles-trans : (first second : ℕ) (a b c : View) → OpensFiles first a b → OpensFiles second b c → OpensFiles (first + second) a c
 OpensFiles-trans first second a b c p q = q ∙ ap (raised_by second) p ∙ raised_by-raised_by first second a.opened

@@ -1,6 +1,6 @@
 -- Slots and their places.
-use Rattle.std.proofs.Common.{◌≡◌, ◌≢◌, ℕ, ◌+◌, ◌<◌, List, [], ◌∷◌, ◌++◌, length, min, add-zero, set, drop, Some, None, refl, subst, sym, ap, ◌∙◌}
-use Rattle.std.proofs.lemmas.List.{drop_min, get_or-set_other}
+use Rattle.std.proofs.Common.{◌≡◌, ◌≢◌, ℕ, ◌<◌, List, [], ◌∷◌, ◌++◌, length, set, drop, Some, None, refl, subst, ap}
+use Rattle.std.proofs.lemmas.List.{get_or-set_other}
 use Rattle.std.specs.List.{position}
 use Rattle.mv_desk.proofs.FilesLemmas.{file_push, first_new, first_push, first_set, set_names}
 use Rattle.mv_desk.specs.Calls.{AreApart}
@@ -62,10 +62,6 @@ put_back p Other = refl
 put_back p Clauses = refl
 put_back p Algebra = refl
 put_back p Report = refl
-
--- a place that is taken out and put again as it was
-pub put_again : (p : Places) (s : Slot) (q : Place) → q ≡ place_at p s → with_place (with_place p s place.Closed) s q ≡ p
-put_again p s q e = put_twice p s place.Closed q ∙ rw e (put_back p s)
 
 pub fit_put : (fs : List File) (p : Places) (s : Slot) (q : Place) → AllFit fs p → Fits fs q → AllFit fs (with_place p s q)
 fit_put fs p Graph q all one = λ t. elim t as (λ k. Fits fs (place_at (with_place p Graph q) k)) [
@@ -146,17 +142,3 @@ pub all_fit_push : (fs : List File) (p : Places) (s : Slot) (written : Bytes) (g
     → AllFit (fs ++ g ∷ []) (with_place p s (place.Writing (length fs) written))
 all_fit_push fs p s written g all none = fit_put (fs ++ g ∷ []) p s (place.Writing (length fs) written) (λ t. fits_push fs g (place_at p t) (all t))
     (first_new fs g none)
-
--- what is left behind what was given, where it is put as the place
-pub left_after : (fs : List File) (p : Places) (s : Slot) (i at start n : ℕ) (front : List ℕ) → place_at p s ≡ place.Reading i at
-    → start ≡ min at (length (file_at fs i).1) → drop start (file_at fs i).1 ≡ front ++ drop (start + n) (file_at fs i).1
-    → left_of fs (place_at p s) ≡ front ++ left_of fs (place_at (with_place p s (place.Reading i (start + n))) s)
-left_after fs p s i at start n front was start_is given_is =
-    rw (was, put_same p s (place.Reading i (start + n))) (from_min ∙ given_is)
-  where
-    from_min : drop at (file_at fs i).1 ≡ drop start (file_at fs i).1
-    from_min = rw start_is (sym (drop_min at (file_at fs i).1))
-
-pub none_after : (fs : List File) (p : Places) (s : Slot) (i start n : ℕ) → n ≡ 0 → drop start (file_at fs i).1 ≡ []
-    → left_of fs (place_at (with_place p s (place.Reading i (start + n))) s) ≡ []
-none_after fs p s i start n zero none = rw (put_same p s (place.Reading i (start + n)), zero, add-zero) none

@@ -1,12 +1,12 @@
 -- What the calls on files in memory do to what a desk tells.
-use Rattle.std.proofs.Common.{◌≡◌, ◌≢◌, ℕ, ◌<◌, true, false, List, [], ◌∷◌, ◌++◌, length, set, Some, None, Option, refl, subst, sym, ap, ◌∙◌, arith}
+use Rattle.std.proofs.Common.{◌≡◌, ◌≢◌, ℕ, ◌<◌, true, false, List, [], ◌∷◌, ◌++◌, length, set, Some, None, Option, refl, subst, sym, ap, ◌∙◌}
 use Rattle.std.proofs.lemmas.Bool.{false≢true}
 use Rattle.std.proofs.Math.Seq.{get_or-append_seam}
 use Rattle.std.specs.List.{position}
 use Rattle.std.specs.Prelude.{Result, Ok, Err, OnOk, OnErr, is_some}
 use Rattle.mv_desk.proofs.FilesLemmas.{first_found, held_first, held_new, held_push_other, held_set_other, held_set_same, set_names}
 use Rattle.mv_desk.proofs.PlacesLemmas.{all_fit_set, fit_at, fit_put, left_push, left_set, name_push, name_set, put_back, put_other, put_same}
-use Rattle.mv_desk.specs.Calls.{Becomes, Creates, Opens, OtherStays, ReadsOnly, WritesTo}
+use Rattle.mv_desk.specs.Calls.{Becomes, Creates, Opens, OtherStays, WritesTo}
 use Rattle.mv_desk.specs.Files.{File, IsFirst, file_at, held_at, is_named}
 use Rattle.mv_desk.specs.Memory.{AllFit, WritesInto, is_read, is_written, left_of, memory_view, name_of, place_at, with_place, written_of}
 use Rattle.mv_desk.specs.View.{SlotStays}
@@ -50,20 +50,6 @@ opens fs p s name i counts counts' found =
       named = λ _ _. rw here refl;
       others = λ t other. stays fs p s t (place.Reading i 0) counts counts' other;
       held = λ n. refl;
-    }
-
-pub reads_only : (fs : List File) (p : Places) (s : Slot) (i at at' : ℕ) (counts : Counts) → place_at p s ≡ place.Reading i at
-    → ReadsOnly s (memory_view fs p counts) (memory_view fs (with_place p s (place.Reading i at')) counts)
-reads_only fs p s i at at' counts was =
-    let here = put_same p s (place.Reading i at') in
-    record {
-      mode = record { reads = rw (here, was) refl; writes = rw (here, was) refl; name = rw (here, was) refl };
-      written = rw (here, was) refl;
-      others = λ t other. stays fs p s t (place.Reading i at') counts counts other;
-      held = λ n. refl;
-      later = omega arith;
-      write_faults = refl;
-      opened = refl;
     }
 
 -- another slot, where one file was changed under its name

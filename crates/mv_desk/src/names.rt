@@ -1,5 +1,4 @@
 // The names of the files of a command.
-ghost use Rattle.std.specs.Prelude.{◌↔◌, IsTrue};
 
 /// The names of the files of a command, empty for those that it hasn't.
 #[derive(Clone, Copy, Debug)]
@@ -12,15 +11,4 @@ pub struct Names<'a> {
     /// the certificates that are written from those that were read
     pub to_clauses: &'a str,
     pub to_algebra: &'a str,
-}
-
-impl Names<'_> {
-    ghost use Rattle.mv_desk.specs.Names.{AreDistinct};
-
-    /// No two of the names of the graph and of both certificates are equal as texts.
-    pub fn are_distinct(&self) -> bool
-        ensures { IsTrue result ↔ AreDistinct self.now }
-    {
-        self.graph != self.clauses && self.graph != self.algebra && self.clauses != self.algebra
-    }
 }

@@ -1,3 +1,4 @@
+// Decimal numerals: the number that digits spell, and the digits of a number.
 ghost use Rattle.std.specs.Prelude.{◌≡◌, ◌≤◌, ◌<◌, ◌^◌, ◌↔◌, [], All, Any, decimal, IfNone, IfOk, IfSome, IsErrOf, drop, length, take};
 ghost use Rattle.std.specs.Bool.{MatchBool};
 ghost use Rattle.std.specs.Option.{SomeIff};

@@ -1,3 +1,4 @@
+// A number modulo a power of two.
 ghost use Rattle.std.specs.Prelude.{◌≡◌, ◌<◌, ◌+◌, ◌*◌, ◌%◌, ◌^◌, ◌↔◌, IsTrue};
 ghost use Rattle.mv_nums.specs.Residue.{IsWidth};
 
@@ -22,19 +23,6 @@ impl Model for Residue {
     ghost invariant = { λ r. IsWidth r.width × (r.value < 2 ^ r.width) };
 
     ghost inverse = { λ c. record { width = c.width; value = c.value } };
-}
-
-// What is left of a number modulo 2^width.
-#[tactic(auto, using(crate::proofs::Powers::masked))]
-fn reduced(width: u32, value: u128) -> u128
-    requires { IsWidth width }
-    ensures { result ≡ value % 2 ^ width }
-{
-    if width == 128 {
-        value
-    } else {
-        value & ((1 << width) - 1)
-    }
 }
 
 impl Residue {
@@ -113,12 +101,17 @@ impl Residue {
     {
         self.value
     }
+}
 
-    /// The exponent of the modulus, from 1 to 128.
-    pub fn width(self) -> u32
-        ensures width { result ≡ self.width }
-        ensures in_range { IsWidth result }
-    {
-        self.width
+// What is left of a number modulo 2^width.
+#[tactic(auto, using(crate::proofs::Powers::masked))]
+fn reduced(width: u32, value: u128) -> u128
+    requires { IsWidth width }
+    ensures { result ≡ value % 2 ^ width }
+{
+    if width == 128 {
+        value
+    } else {
+        value & ((1 << width) - 1)
     }
 }

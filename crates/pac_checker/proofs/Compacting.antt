@@ -46,10 +46,6 @@ line_there old mid new from id p k same there = adds_again (line_in from (id, p)
 
 -- ---- all of them
 
--- no line yet
-pub carried_none : (t : Table) (es : List (ℕ × Sum)) (a : Facts Sum Table) → a.entries ≡ [] → AreSameLines (lines_of a) (lines_in t (take 0 es))
-carried_none t es a none = subst (λ xs. AreSameLines (lines_in a.table xs) []) (sym none) (λ id. tt)
-
 -- the lines before a place, and the one there
 pub carried_more : (t : Table) (es : List (ℕ × Sum)) (i id : ℕ) (p : Sum) (a b : Facts Sum Table) → i < length es → slice_get es i ≡ Some (id, p) → AreSameLines (lines_of a) (lines_in t (take i es)) →
     AddsLine (line_in t (id, p)) a b → AreSameLines (lines_of b) (lines_in t (take (i + 1) es))

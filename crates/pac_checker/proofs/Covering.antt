@@ -12,7 +12,7 @@ use Rattle.graph_core.specs.Graph.Operands.{Sides}
 use Rattle.graph_core.specs.Algebra.Polynomials.{Polynomial, value}
 use Rattle.graph_core.specs.Algebra.{LiveLine, Line, Part, Sum, Product, Combination, Import, Delete, Ledger, IsLive, IsNewId, IsLawfulLine, AreLawfulLines, Closes, line_of, value_of, value_or_zero, combined, named, operands, introduce, after, after_all}
 use Rattle.graph_core.specs.Algebra.Agreement.{Agree, AreSame, AreSameImports}
-use Rattle.graph_core.proofs.OfAlgebra.CallerLemmas.{agree_sym, agree_trans, imports_refl, lawful_agrees, line_of-deleted, live_agrees, same_refl, same_sym, same_trans}
+use Rattle.graph_core.proofs.OfAlgebra.CallerLemmas.{agree_sym, agree_trans, lawful_agrees, line_of-deleted, live_agrees, same_refl, same_sym, same_trans}
 use Rattle.pac_checker.specs.Recording.{AreWithin, Covers}
 
 -- ---- a line behind others
@@ -34,9 +34,6 @@ imports_join : (fs gs hs : List (Assignment → ℕ)) → AreSameImports fs gs �
 imports_join fs gs hs a b = (agree_trans (importing fs) (importing gs) (importing hs) (alike fs gs a) (agree_sym (importing hs) (importing gs) (alike hs gs b))).imports
 
 -- ---- what covers what
-
-pub covers_itself : (l : Ledger) → Covers l l
-covers_itself l = record { last = refl; lines = λ id live. same_refl (line_of l.live id); imports = imports_refl l.imports }
 
 pub covers_agreeing : (l k j : Ledger) → Covers l k → Agree j k → Covers l j
 covers_agreeing l k j c a = record {

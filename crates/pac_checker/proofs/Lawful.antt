@@ -1,6 +1,6 @@
 -- What a checker has found makes a line lawful, or refuses it.
 use Rattle.std.specs.Prelude.{IsSome, is_some, not, cond, map, ◌==◌}
-use Rattle.std.proofs.Common.{inl, inr, refl, Result, Ok, Err, IfErr, OnErr, OnOk, ◌≡◌, ℕ, ◌%◌, ◌<◌, ◌≤◌, Bool, true, false, List, [], ◌∷◌, sym, ap, subst, ◌∙◌}
+use Rattle.std.proofs.Common.{inl, inr, refl, Result, Ok, Err, IfErr, OnErr, OnOk, ◌≡◌, ℕ, ◌%◌, ◌<◌, Bool, true, false, List, [], ◌∷◌, sym, ap, subst, ◌∙◌}
 use Rattle.std.specs.declared.option.Option.TheVariants.{None, Some}
 use Rattle.std.specs.List.{All, AllByRecursion}
 use Rattle.std.proofs.lemmas.Bool.{true≢false}
@@ -23,7 +23,7 @@ use Rattle.gate_axioms.specs.ClauseValues.{clause_value}
 use Rattle.gate_axioms.specs.Lines.{lines_of}
 use Rattle.gate_axioms.specs.Steps.{KeepsLines}
 use Rattle.pac_checker.specs.Checking.{Checking, checking_of, ledger_of, Grows, KeepsLedger}
-use Rattle.pac_checker.specs.Rules.{AreEqual, AreRefused, Introduces, IsLineOf, IsNamed, IsNamingFault, IsSound, IsStatingFault, TakesLinesOf, ids_of, parts_in}
+use Rattle.pac_checker.specs.Rules.{AreEqual, AreRefused, Introduces, IsLineOf, IsNamed, IsSound, IsStatingFault, TakesLinesOf, parts_in}
 use Rattle.graph_core.proofs.OfAlgebra.CallerLemmas.{agree_trans, agree_refl, imports_refl}
 
 -- ---- the table has grown
@@ -122,19 +122,6 @@ takes_stated (Ok t) added e s old mid last id parts p q new sound k above of fou
 takes_stated (Err fault) added e s old mid last id parts p q new sound k above of found same i = same
 
 -- ---- refused lines
-
--- an id that isn't new refuses the line
-pub id_refused : (added : List Clause) (e : Extended) (s : Sides) (old : Facts Sum Table) (last id : ℕ) (parts : List (ℕ × Sum)) (q : Sum) (fault : LineFault) → (fault ≡ Id) × (id ≤ last) → AreRefused (checking_of added e s old last) id parts q fault
-id_refused added e s old last id parts q fault h = subst (AreRefused (checking_of added e s old last) id parts q) (sym h.0) (λ x line. inl (line.is_old last h.1, refl))
-
--- an operand that isn't live does
-pub naming_refused : (added : List Clause) (e : Extended) (s : Sides) (old : Facts Sum Table) (last id : ℕ) (parts : List (ℕ × Sum)) (q : Sum) (fault : LineFault) → last < id → IsNamingFault old (ids_of (parts_in old.table parts)) fault →
-    AreRefused (checking_of added e s old last) id parts q fault
-naming_refused added e s old last id parts q Id above h = absurd h
-naming_refused added e s old last id parts q (NoSuchLine missing) above h = λ x line. inr (line.is_new last above, inl (missing, ap (first_missing (lines_of old)) line.lines ∙ h, refl))
-naming_refused added e s old last id parts q (NoSuchClause number) above h = absurd h
-naming_refused added e s old last id parts q NotEqual above h = absurd h
-naming_refused added e s old last id parts q Memory above h = λ x line. tt
 
 -- a polynomial that differs from the named one does
 stating_refused : (added : List Clause) (e : Extended) (s : Sides) (old mid : Facts Sum Table) (last id : ℕ) (parts : List (ℕ × Sum)) (p q : Sum) (fault : LineFault) → IsSound added e s old last → KeepsLines old mid → last < id → IsOf old.table q →

@@ -17,7 +17,7 @@ use Rattle.poly_text.specs.Lines.{AreOf, line_in}
 use Rattle.poly_text.specs.Recorded.{AreRising, HasNewId, id_in, ids_in, lines_in, operands_in}
 use Rattle.pac_checker.specs.Checking.{IsRecordable, recorded_of}
 use Rattle.pac_checker.specs.Recording.{AreLines, AreWithin, Covers, HasRecorded, first_ledger, kept_of}
-use Rattle.pac_checker.proofs.Covering.{covers_agreeing, covers_fewer, covers_itself, lawful_covered, lines_more, within_after, within_agreeing}
+use Rattle.pac_checker.proofs.Covering.{covers_agreeing, covers_fewer, lawful_covered, lines_more, within_after, within_agreeing}
 use Rattle.pac_checker.proofs.Telling.{IsTold, lines_stay, of_stays, recordable_stays, some_same, told}
 
 -- ---- ids that rise
@@ -79,16 +79,6 @@ line_added max t last xs line h above has ok new made =
 module _ (e : Extended) (added : List Clause) where
   abbrev behind : List Line → Ledger
   behind xs = after_all (modulus e) (first_ledger e added) xs
-
-  -- nothing is recorded yet, or ever
-  pub has_begun : (t : Table) (l : Ledger) (records : Bool) → AreWithin l → Agree l (first_ledger e added) → HasRecorded e added t l records []
-  has_begun t l records within a = record {
-    within = within;
-    lines_are = no_lines e.max t l.last;
-    lawful = tt;
-    covers = λ on. covers_agreeing (first_ledger e added) (first_ledger e added) l (covers_itself (first_ledger e added)) a;
-    none = λ off. refl;
-  }
 
   pub has_none : (t : Table) (l : Ledger) (xs : List PacLine) → xs ≡ [] → AreWithin l → HasRecorded e added t l false xs
   has_none t l xs none within = subst (HasRecorded e added t l false) (sym none)

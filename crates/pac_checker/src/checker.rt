@@ -21,7 +21,7 @@ use crate::{CloseFault, LineFault};
 use clause_core::ClauseList;
 use graph_core::{Memory, Operands};
 use mv_fact::Grow;
-use poly_terms::{Poly, Terms};
+use poly_terms::Poly;
 use poly_text::PacLine;
 use ripple_graft::Extended;
 use std::alloc::Global;
@@ -77,21 +77,6 @@ impl<'a> PacChecker<'a> {
             records,
             recorded: Vec::new(alloc),
         })
-    }
-
-    /// The greatest id in use so far, which each new one must exceed.
-    pub fn last(&self) -> u64
-        ensures { result ≡ self.now.last }
-    {
-        self.judge.last()
-    }
-
-    /// The table of the live polynomials, and of those of recorded lines.
-    pub fn terms(&self) -> &Terms
-        ensures table { result.now ≡ self.now.table }
-        ensures modulus { modulus self.now.table ≡ algebra.modulus self.now.extended }
-    {
-        self.judge.terms()
     }
 
     /// Lends the table to a work, as to the reader of the next line.

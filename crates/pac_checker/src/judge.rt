@@ -98,21 +98,6 @@ impl<'a> Judge<'a> {
         })
     }
 
-    /// The greatest id in use so far, which each new one must exceed.
-    pub(crate) fn last(&self) -> u64
-        ensures { result ≡ self.now.last }
-    {
-        self.last
-    }
-
-    /// The table of the live polynomials.
-    pub(crate) fn terms(&self) -> &Terms
-        ensures table { result.now ≡ self.now.table }
-        ensures modulus { modulus self.now.table ≡ algebra.modulus self.now.extended }
-    {
-        self.live.table()
-    }
-
     /// Gives up the lines, and hands out the table.
     pub(crate) fn into_terms(self) -> Terms
         ensures table { result ≡ self.entry.table }

@@ -6,7 +6,7 @@ use Rattle.std.proofs.lemmas.List.Elements.{Contains-append_left, Contains-push}
 use Rattle.std.specs.Global.{Global}
 use Rattle.std.specs.List.{Contains}
 use Rattle.std.specs.declared.vec.Vec.{Vec}
-use Rattle.poly_terms.specs.Indexed.{Enters, EntersNew}
+use Rattle.poly_terms.specs.Indexed.{Enters}
 use Rattle.poly_terms.specs.Monomials.{has_variable}
 
 pub enters_none : (number : ℕ) (places : List (List ℕ)) → Enters number [] places places
@@ -56,12 +56,6 @@ enters_one number v old mid new same low is = record {
         go : (b : Bool) → (v == u) ≡ b → (b || false) ≡ true → v ≡ u
         go true e h = eqb-true v u e
         go false e h = absurd (true≢false (sym h))
-
-pub enters_new : (before number : ℕ) (vs : List ℕ) (old new : List (List ℕ)) → Enters number vs old new → EntersNew before number vs old new
-enters_new before number vs old new e = record { kept = e.kept; entered = λ _. e.entered }
-
-pub enters_not : (before number : ℕ) (vs : List ℕ) (places : List (List ℕ)) → before ≢ 0 → EntersNew before number vs places places
-enters_not before number vs places some = record { kept = λ v n h. h; entered = λ none. absurd (some none) }
 
 -- ---- as they are kept
 

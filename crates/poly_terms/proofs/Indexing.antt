@@ -78,10 +78,6 @@ module _ (m : ℕ) (ms : List (List ℕ)) (old mid new : List ℕ) (places more 
   pub added_one : HasAdded m ms old new more (e ∷ [])
   added_one = record { indexed = added-indexed; sums = added-total }
 
--- none yet
-pub added_none : (m : ℕ) (ms : List (List ℕ)) (cs : List ℕ) (places : List (List ℕ)) → AreIndexed m ms cs places → HasAdded m ms cs cs places []
-added_none m ms cs places h = record { indexed = h; sums = λ f. ap (λ k. k % m) (let e : total f (terms_from 0 cs) ≡ total f (terms_from 0 cs) + 0 = omega arith in e) }
-
 -- the step of a loop that adds each term
 pub added_more : (m : ℕ) (ms : List (List ℕ)) (old mid new : List ℕ) (places more : List (List ℕ)) (es : Sum) (i : ℕ) (e : Entry) → i < length es → e ≡ get_or es i e →
     HasAdded m ms old mid places (take i es) → HasAdded m ms mid new more (e ∷ []) → HasAdded m ms old new more (take (i + 1) es)
@@ -99,17 +95,6 @@ added_more m ms old mid new places more es i e low at p q = record {
 
 -- ---- terms taken out
 
-pub takes_none : (ms : List (List ℕ)) (v : ℕ) (cs : List ℕ) (es : Sum) → TakesOut ms v cs cs es es
-takes_none ms v cs es = record { sums = λ f. refl; less = λ n. inl refl; taken = λ h. h }
-
-pub takes_then : (ms : List (List ℕ)) (v : ℕ) (a b c : List ℕ) (xs ys zs : Sum) → TakesOut ms v a b xs ys → TakesOut ms v b c ys zs → TakesOut ms v a c xs zs
-takes_then ms v a b c xs ys zs p q = record {
-  sums = λ f. omega (arith, p.sums f, q.sums f);
-  less = λ n.
-      ⊎_elim (λ same. ⊎_elim (λ e. inl (same ∙ e)) (λ none. inr (same ∙ none)) (p.less n)) (λ none. inr none) (q.less n);
-  taken = λ h. q.taken (p.taken h);
-}
-
 pub takes_one : (ms : List (List ℕ)) (v : ℕ) (old new : List ℕ) (before after : Sum) (n c : ℕ) → c ≡ get_or old n 0 → n < length old → n < length ms →
     has_variable v (get_or ms n []) ≡ true → after ≡ before ++ (n, c) ∷ [] → new ≡ set old n 0 → TakesOut ms v old new before after
 takes_one ms v old new before after n c is within low has to put = record {
@@ -121,12 +106,6 @@ takes_one ms v old new before after n c is within low has to put = record {
       subst (AllByRecursion (λ e. (e.0 < length ms) × (has_in ms v e ≡ true))) (sym to)
       (all_joined (λ e. (e.0 < length ms) × (has_in ms v e ≡ true)) before ((n, c) ∷ []) h ((low, has), tt));
 }
-
-pub gone_one : (ms : List (List ℕ)) (v : ℕ) (old new : List ℕ) (n : ℕ) → n < length old → new ≡ set old n 0 → IsGone ms v new n
-gone_one ms v old new n within put has = ap (λ cs. get_or cs n 0) put ∙ get_or-set_same old n 0 0 within
-
-pub gone_still : (ms : List (List ℕ)) (v : ℕ) (old new : List ℕ) (xs ys : Sum) (n : ℕ) → TakesOut ms v old new xs ys → IsGone ms v old n → IsGone ms v new n
-gone_still ms v old new xs ys n p h has = ⊎_elim (λ same. same ∙ h has) (λ none. none) (p.less n)
 
 -- what has a coefficient still has the one that it had
 still : (ms : List (List ℕ)) (v : ℕ) (old new : List ℕ) (xs ys : Sum) (n : ℕ) → TakesOut ms v old new xs ys → 0 < get_or new n 0 → get_or new n 0 ≡ get_or old n 0

@@ -6,7 +6,6 @@ pub mod Totals
 pub mod Orders
 pub mod Values
 pub mod Keys
-pub mod Products
 pub mod Gathering
 pub mod Equality
 pub mod Assigned

@@ -42,13 +42,6 @@ added_one m old mid new n c e some at longer within is put = record {
       (put_cases old mid new n c longer within put j);
 }
 
-pub added_none : (m : ℕ) (cs : List ℕ) → IsAdded m cs cs []
-added_none m cs = record {
-  sums = λ f. ap (λ k. k % m) (let e : total f (terms_from 0 cs) ≡ total f (terms_from 0 cs) + 0 = omega arith in e);
-  below = λ h. h;
-  within = λ k low h. h;
-}
-
 -- the step of a loop that adds each term
 pub added_more : (m : ℕ) (old mid new : List ℕ) (es : Sum) (i : ℕ) (e : Entry) → i < length es → e ≡ get_or es i e → IsAdded m old mid (take i es) → IsAdded m mid new (e ∷ []) → IsAdded m old new (take (i + 1) es)
 added_more m old mid new es i e low at p q =
@@ -69,9 +62,6 @@ added_more m old mid new es i e low at p q =
 
 -- ---- terms taken out
 
-pub less_itself : (cs : List ℕ) → IsLess cs cs
-less_itself cs n = inl refl
-
 pub less_then : (a b c : List ℕ) → IsLess a b → IsLess b c → IsLess a c
 less_then a b c p q n = ⊎_elim (λ same. ⊎_elim (λ e. inl (same ∙ e)) (λ none. inr (same ∙ none)) (p n)) (λ none. inr none) (q n)
 
@@ -81,9 +71,6 @@ zero_still a b n p none = ⊎_elim (λ same. same ∙ none) (λ zero. zero) (p n
 
 pub some_before : (a b : List ℕ) (n : ℕ) → IsLess a b → 0 < get_or b n 0 → 0 < get_or a n 0
 some_before a b n p some = ⊎_elim (λ same. omega (arith, same)) (λ none. absurd (omega (arith, none))) (p n)
-
-pub taken_none : (cs : List ℕ) (es : Sum) → AreTaken cs cs es es
-taken_none cs es = record { sums = λ f. refl; within = λ k h all. all }
 
 pub taken_then : (a b c : List ℕ) (xs ys zs : Sum) → IsLess a b → AreTaken a b xs ys → AreTaken b c ys zs → AreTaken a c xs zs
 taken_then a b c xs ys zs less p q = record {

@@ -168,7 +168,3 @@ order_of t p p' e h = subst (AreAfter entry_order None) (sym e) h.order
 pub places_along : (w v : ℕ) (ms : List (List ℕ)) (t : Table) (p p' : Sum) (places : List ℕ) → table_of w ms ≡ t → p' ≡ p → ArePlaces t p v places → places ≡ places_of ms v p'
 unfolding ArePlaces
 places_along w v ms t p p' places e f h = h ∙ sym (ap (λ (u : Table). places_of u.monomials v p) e) ∙ sym (ap (places_of ms v) f)
-
-pub places_from : (w v : ℕ) (ms : List (List ℕ)) (t : Table) (p p' : Sum) (places : List ℕ) → table_of w ms ≡ t → p' ≡ p → places ≡ places_of ms v p' → ArePlaces t p v places
-unfolding ArePlaces
-places_from w v ms t p p' places e f h = h ∙ ap (places_of ms v) f ∙ ap (λ (u : Table). places_of u.monomials v p) e

@@ -178,10 +178,6 @@ coefficients_below w ms t p p' e f h =
     let low : All (λ e. e.1 < modulus t) p = λ i x in_list. (All-from_recursion (λ e. (0 < e.1) × (e.1 < modulus t)) p h.coefficients i x in_list).1 in
     subst (λ (u : Table). All (λ e. e.1 < modulus u) p') (sym e) (subst (All (λ e. e.1 < modulus t)) (sym f) low)
 
--- what holds of each doesn't fail of any
-pub fails_of_none : {X : Type 0} (P : X → Type 0) (xs : List X) → All P xs → Any (λ x. P x → ⊥) xs → ⊥
-fails_of_none P xs all some = some.4 (subst P some.3 (all some.0 some.1 some.2))
-
 -- a fact of some entry's coefficient is one of some monomial's
 coefficient_of_some : (P : ℕ → Type 0) (t : Table) (p : Sum) → Any (λ e. P e.1) p ↔ Any (λ x. P x.coefficient) (monomials_in t p)
 unfolding monomials_in

@@ -1,5 +1,5 @@
 -- What the sum of two lists of entries totals.
-use Rattle.std.proofs.Common.{◌≡◌, ℕ, ◌+◌, ◌*◌, ◌%◌, ◌<◌, Bool, true, false, cond, ◌==◌, length, get_or, drop, [], ◌∷◌, ◌++◌, refl, sym, ap, ◌∙◌, arith, eqb-true}
+use Rattle.std.proofs.Common.{◌≡◌, ℕ, ◌+◌, ◌*◌, ◌%◌, ◌<◌, Bool, true, false, cond, ◌==◌, length, get_or, drop, [], ◌∷◌, refl, sym, ap, ◌∙◌, arith, eqb-true}
 use Rattle.std.proofs.lemmas.Map.Lookups.{exact_unsigned}
 use Rattle.std.specs.declared.cmp.Ordering.{Ordering}
 use Rattle.std.specs.declared.cmp.Ordering.TheVariants.{Less, Equal, Greater}
@@ -8,14 +8,6 @@ use Rattle.poly_terms.specs.Entries.{entry_order, add_entries, plus, total, Sum,
 use Rattle.std.proofs.Math.Nat.{mod-add-mod}
 use Rattle.poly_terms.proofs.Merging.{begins}
 use Rattle.poly_terms.proofs.Residues.{plus_same, factor_reduced}
-
--- what stands before nothing stands before a list
-pub add_entries-append : (m : ℕ) (x y : Entry) (rest : Sum) → add_entries m x y [] ++ rest ≡ add_entries m x y rest
-add_entries-append m x y rest = go ((x.1 + y.1) % m == 0)
-  where
-    go : (b : Bool) → cond b [] ((x.0, (x.1 + y.1) % m) ∷ []) ++ rest ≡ cond b rest ((x.0, (x.1 + y.1) % m) ∷ rest)
-    go true = refl
-    go false = refl
 
 pub total-add_entries : (m : ℕ) (f : ℕ → ℕ) (x y : Entry) (rest : Sum) (s : ℕ) → x.0 ≡ y.0 → total f rest % m ≡ s % m →
     total f (add_entries m x y rest) % m ≡ (x.1 * f x.0 + (y.1 * f y.0 + s)) % m

@@ -1,6 +1,6 @@
 -- What holds of a polynomial in a table holds in each table that extends it.
-use Rattle.std.specs.Prelude.{ℕ, false, true, ◌≡◌, ◌^◌, ◌<◌, ◌++◌, List, [], ◌∷◌, get_or, length, slice_index_or, refl}
-use Rattle.std.specs.List.{All, AllByRecursion}
+use Rattle.std.specs.Prelude.{ℕ, false, true, ◌≡◌, ◌^◌, ◌<◌, ◌++◌, List, [], ◌∷◌, get_or, length, refl}
+use Rattle.std.specs.List.{AllByRecursion}
 use Rattle.std.proofs.Common.{sym, ap, ap₂, subst, ◌∙◌, arith, append-nil, append_assoc, length-append}
 use Rattle.std.proofs.lemmas.List.{get_or_append_left}
 use Rattle.graph_core.specs.Algebra.Polynomials.{value}
@@ -80,9 +80,6 @@ value_stays old new p σ e h = (values_stay old new p e h).1 σ
 pub monomials_stay : (old new : Table) (p : Sum) → Extends old new → IsOf old p → monomials_in new p ≡ monomials_in old p
 unfolding Extends IsOf
 monomials_stay old new p e h = same_monomials old new p e.1 h.numbers
-
-pub all_stay : (old new : Table) (ps : List Sum) → Extends old new → All (IsOf old) ps → All (IsOf new) ps
-all_stay old new ps e h = λ k d l. stays old new (slice_index_or ps k d) e (h k d l)
 
 all_indexed : (old new places : List (List ℕ)) (es : Sum) → Grows old new → AreIn old es →
     AllByRecursion (λ e. (v : ℕ) → has_in old v e ≡ true → IsAtPlace places v e.0) es →

@@ -5,7 +5,6 @@ use Rattle.std.specs.declared.vec.Vec.{Vec}
 use Rattle.std.specs.List.{AllByRecursion}
 use Rattle.graph_core.specs.Graph.Assignments.{Assignment}
 use Rattle.graph_core.specs.Algebra.Polynomials.{Polynomial, Term, value, difference}
-use Rattle.graph_core.specs.Algebra.NormalForm.{IsNormalForm}
 use Rattle.poly_terms.specs.Merges.{AreAfter}
 use Rattle.poly_terms.specs.Entries.{Entry, entry_order}
 use Rattle.poly_terms.specs.Monomials.{AreIn, AreMonomials, Grows, places_of}
@@ -83,10 +82,6 @@ ModulusStays = (old new : Table) → Extends old new → modulus new ≡ modulus
 -- A table extends itself, and what extends an extension extends the table.
 abbrev pub TablesExtend : Type 0
 TablesExtend = ((t : Table) → Extends t t) × ((a b c : Table) → Extends a b → Extends b c → Extends a c)
-
--- The monomials of a polynomial of a table are a normal form.
-abbrev pub MonomialsAreNormal : Type 0
-MonomialsAreNormal = (t : Table) (p : Sum) → IsOf t p → IsNormalForm (modulus t) (monomials_in t p)
 
 -- an assignment with another value of one variable
 abbrev pub assigned : Assignment → ℕ → Bool → Assignment

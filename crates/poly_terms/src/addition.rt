@@ -46,6 +46,27 @@ pub(crate) fn add_sorted(
     Ok(out)
 }
 
+/// The sum of entries in any order: sorted, and those of one monomial added up.
+pub(crate) fn gather(alloc: Global, exponent: u32, raw: Vec<Term>) -> Result<Vec<Term>, AllocError>
+    requires { IsWidth exponent }
+    ensures { IfOk result (λ out. IsGathered (2 ^ exponent) raw.items out.items) }
+{
+    if is_orderly(exponent, &raw) {
+        return Ok(raw);
+    }
+    let mut sorted = raw;
+    sorted.sort_unstable_by(|x, y| x.compare(y));
+    if is_orderly(exponent, &sorted) {
+        return Ok(sorted);
+    }
+    let mut out = Vec::with_capacity(alloc, sorted.len())?;
+    for entry in sorted {
+        put_behind(exponent, entry, &mut out)?;
+    }
+    out.shrink_to_fit();
+    Ok(out)
+}
+
 fn push_sum(exponent: u32, x: &Term, y: &Term, out: &mut Vec<Term>) -> Result<(), AllocError>
     requires { IsWidth exponent }
     ensures { OnOk result
@@ -67,27 +88,6 @@ fn copy_behind(entries: &[Term], out: &mut Vec<Term>) -> Result<(), AllocError>
         out.push(entry.copy())?;
     }
     Ok(())
-}
-
-/// The sum of entries in any order: sorted, and those of one monomial added up.
-pub(crate) fn gather(alloc: Global, exponent: u32, raw: Vec<Term>) -> Result<Vec<Term>, AllocError>
-    requires { IsWidth exponent }
-    ensures { IfOk result (λ out. IsGathered (2 ^ exponent) raw.items out.items) }
-{
-    if is_orderly(exponent, &raw) {
-        return Ok(raw);
-    }
-    let mut sorted = raw;
-    sorted.sort_unstable_by(|x, y| x.compare(y));
-    if is_orderly(exponent, &sorted) {
-        return Ok(sorted);
-    }
-    let mut out = Vec::with_capacity(alloc, sorted.len())?;
-    for entry in sorted {
-        put_behind(exponent, entry, &mut out)?;
-    }
-    out.shrink_to_fit();
-    Ok(out)
 }
 
 // Whether entries are a sorted list as they stand. Most are, as they come or once they are sorted.

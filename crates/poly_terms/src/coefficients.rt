@@ -1,5 +1,5 @@
 // Coefficients by the numbers of monomials, with a count of those that aren't 0.
-ghost use Rattle.std.specs.Prelude.{◌≡◌, ◌≢◌, ◌+◌, ◌<◌, [], IfOk, OnOk, get_or, length, set};
+ghost use Rattle.std.specs.Prelude.{◌≡◌, ◌≢◌, ◌+◌, ◌<◌, ◌^◌, ◌++◌, ◌∷◌, [], IfOk, OnOk, get_or, length, set};
 ghost use Rattle.poly_terms.specs.Indexed.{IsLonger, counted, terms_from};
 
 use crate::term::Term;
@@ -104,8 +104,6 @@ fn recount(count: u64, before: u128, after: u128) -> u64
     }
 }
 
-ghost use Rattle.std.specs.Prelude.{◌^◌};
-
 fn terms_of(alloc: Global, by_number: &[u128]) -> Result<Vec<Term>, AllocError>
     ensures { IfOk result (λ out. out.items ≡ terms_from 0 by_number.now) }
 {
@@ -125,5 +123,3 @@ fn push_term(number: u64, coefficient: u128, out: &mut Vec<Term>) -> Result<(), 
     }
     Ok(())
 }
-
-ghost use Rattle.std.specs.Prelude.{◌++◌, ◌∷◌};

@@ -1,10 +1,10 @@
 // A polynomial that changes, with an index from variables to its terms.
-ghost use Rattle.std.specs.Prelude.{◌≡◌, ◌<◌, ◌+◌, ◌%◌, ◌^◌, ℕ, false, [], IfOk, OnOk, length, get_or};
+ghost use Rattle.std.specs.Prelude.{◌≡◌, ◌<◌, ◌+◌, ◌%◌, ◌^◌, ◌∷◌, ℕ, false, [], IfOk, OnOk, length, get_or};
 ghost use Rattle.std.specs.List.{AllByRecursion};
 ghost use Rattle.graph_core.specs.Graph.Assignments.{Assignment};
 ghost use Rattle.graph_core.specs.Algebra.NormalForm.{HasSize};
 ghost use Rattle.mv_nums.specs.Residue.{IsWidth};
-ghost use Rattle.poly_terms.specs.Indexed.{AreIndexed, HasAdded, IsGone, IsIndexed, TakesOut, Enters};
+ghost use Rattle.poly_terms.specs.Indexed.{AreIndexed, HasAdded, IsGone, IsIndexed, TakesOut, Enters, EntersNew};
 ghost use Rattle.poly_terms.specs.Monomials.{AreIn};
 ghost use Rattle.poly_terms.specs.Tables.{ArePlaces, IsOf, Table, assigned, modulus, quotient_value, value_in};
 
@@ -155,9 +155,6 @@ fn add_term(
     coefficients.put(number, coefficient::sum(width, before, term.coefficient()));
     Ok(())
 }
-
-ghost use Rattle.std.specs.Prelude.{◌∷◌};
-ghost use Rattle.poly_terms.specs.Indexed.{EntersNew};
 
 // Puts a number at the places of its variables, where it had the coefficient 0.
 fn enter_new(

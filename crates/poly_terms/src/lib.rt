@@ -48,8 +48,6 @@ mod variables;
 pub use indexed::Indexed;
 pub use poly::Poly;
 pub use poly_sum::PolySum;
-pub use table_laws::{
-    indexes_stay, modulus_stays, monomials_are_normal, tables_extend, values_stay,
-};
+pub use table_laws::{indexes_stay, modulus_stays, tables_extend, values_stay};
 pub use terms::Terms;
 pub use variables::Variables;

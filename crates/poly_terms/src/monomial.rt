@@ -41,17 +41,6 @@ pub(crate) fn join(alloc: Global, left: &[u32], right: &[u32]) -> Result<Monomia
     Ok(out)
 }
 
-// one by one: most often there is none, or one
-fn push_all(variables: &[u32], out: &mut Monomial)
-    requires { HasRoomFor out.old (length variables.now) }
-    ensures items { out.new.items ≡ out.old.items ++ variables.now }
-    ensures capacity { out.new.capacity ≡ out.old.capacity }
-{
-    for v in variables {
-        out.push_reserved(*v);
-    }
-}
-
 /// The monomial of variables in any order, of which some may be repeated and none is the constant.
 pub(crate) fn from_variables(alloc: Global, variables: &[u32]) -> Result<Monomial, AllocError>
     requires { has_variable 0 variables.now ≡ false }
@@ -123,4 +112,15 @@ pub(crate) fn without(alloc: Global, variables: &[u32], v: u32) -> Result<Monomi
         }
     }
     Ok(rest)
+}
+
+// one by one: most often there is none, or one
+fn push_all(variables: &[u32], out: &mut Monomial)
+    requires { HasRoomFor out.old (length variables.now) }
+    ensures items { out.new.items ≡ out.old.items ++ variables.now }
+    ensures capacity { out.new.capacity ≡ out.old.capacity }
+{
+    for v in variables {
+        out.push_reserved(*v);
+    }
 }

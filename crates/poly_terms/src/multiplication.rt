@@ -34,6 +34,46 @@ pub(crate) fn products_of(
     Ok(out)
 }
 
+/// A monomial with its coefficient times each term, behind others.
+pub(crate) fn multiply_behind(
+    table: &mut Numbering,
+    exponent: u32,
+    monomial: &[u32],
+    coefficient: u128,
+    entries: &[Term],
+    out: &mut Vec<Term>,
+) -> Result<(), AllocError>
+    requires exponent { IsWidth exponent }
+    requires monomial { AreRising 0 monomial.now }
+    requires entries { AreIn table.old entries.now }
+    ensures grows { Grows table.old table.new }
+    ensures adds { OnOk result (Adds (2 ^ exponent) table.old table.new out.old.items out.new.items
+        (λ σ. coefficient * product σ monomial.now * total_in table.old σ entries.now)) }
+{
+    out.reserve(entries.len())?;
+    for entry in entries {
+        push_product(table, exponent, monomial, coefficient, entry, out)?;
+    }
+    Ok(())
+}
+
+/// A monomial with its coefficient, behind others.
+pub(crate) fn push_term(
+    table: &mut Numbering,
+    monomial: Monomial,
+    coefficient: u128,
+    out: &mut Vec<Term>,
+) -> Result<(), AllocError>
+    requires { AreRising 0 monomial.items }
+    ensures grows { Grows table.old table.new }
+    ensures adds { OnOk result ((m : ℕ) → Adds m table.old table.new out.old.items out.new.items
+        (λ σ. coefficient * product σ monomial.items)) }
+{
+    let number = table.intern(monomial)?;
+    out.push(Term::new(number, coefficient))?;
+    Ok(())
+}
+
 fn multiply_by(
     alloc: Global,
     table: &mut Numbering,
@@ -60,29 +100,6 @@ fn multiply_by(
     )
 }
 
-/// A monomial with its coefficient times each term, behind others.
-pub(crate) fn multiply_behind(
-    table: &mut Numbering,
-    exponent: u32,
-    monomial: &[u32],
-    coefficient: u128,
-    entries: &[Term],
-    out: &mut Vec<Term>,
-) -> Result<(), AllocError>
-    requires exponent { IsWidth exponent }
-    requires monomial { AreRising 0 monomial.now }
-    requires entries { AreIn table.old entries.now }
-    ensures grows { Grows table.old table.new }
-    ensures adds { OnOk result (Adds (2 ^ exponent) table.old table.new out.old.items out.new.items
-        (λ σ. coefficient * product σ monomial.now * total_in table.old σ entries.now)) }
-{
-    out.reserve(entries.len())?;
-    for entry in entries {
-        push_product(table, exponent, monomial, coefficient, entry, out)?;
-    }
-    Ok(())
-}
-
 fn push_product(
     table: &mut Numbering,
     exponent: u32,
@@ -101,23 +118,6 @@ fn push_product(
 {
     let number = table.multiple(monomial, entry.number())?;
     let coefficient = coefficient::product(exponent, coefficient, entry.coefficient());
-    out.push(Term::new(number, coefficient))?;
-    Ok(())
-}
-
-/// A monomial with its coefficient, behind others.
-pub(crate) fn push_term(
-    table: &mut Numbering,
-    monomial: Monomial,
-    coefficient: u128,
-    out: &mut Vec<Term>,
-) -> Result<(), AllocError>
-    requires { AreRising 0 monomial.items }
-    ensures grows { Grows table.old table.new }
-    ensures adds { OnOk result ((m : ℕ) → Adds m table.old table.new out.old.items out.new.items
-        (λ σ. coefficient * product σ monomial.items)) }
-{
-    let number = table.intern(monomial)?;
     out.push(Term::new(number, coefficient))?;
     Ok(())
 }

@@ -42,27 +42,6 @@ pub(crate) fn entries_of(
     Ok(out)
 }
 
-// Puts the term of a part behind others. A part over the constant 0 has none.
-fn push_part(
-    alloc: Global,
-    table: &mut Numbering,
-    coefficient: u128,
-    variables: Variables,
-    out: &mut Vec<Term>,
-) -> Result<(), AllocError>
-    ensures grows { Grows table.old table.new }
-    ensures adds { OnOk result ((m : ℕ) → Adds m table.old table.new out.old.items out.new.items
-        (λ σ. coefficient * product σ variables)) }
-{
-    match variables.into_monomial(alloc)? {
-        Some(monomial) => {
-            multiplication::push_term(table, monomial, coefficient, out)?;
-            Ok(())
-        }
-        None => Ok(()),
-    }
-}
-
 /// The products of each term with each part, over a table that takes their monomials.
 pub(crate) fn products_of(
     alloc: Global,
@@ -91,6 +70,27 @@ pub(crate) fn products_of(
         )?;
     }
     Ok(out)
+}
+
+// Puts the term of a part behind others. A part over the constant 0 has none.
+fn push_part(
+    alloc: Global,
+    table: &mut Numbering,
+    coefficient: u128,
+    variables: Variables,
+    out: &mut Vec<Term>,
+) -> Result<(), AllocError>
+    ensures grows { Grows table.old table.new }
+    ensures adds { OnOk result ((m : ℕ) → Adds m table.old table.new out.old.items out.new.items
+        (λ σ. coefficient * product σ variables)) }
+{
+    match variables.into_monomial(alloc)? {
+        Some(monomial) => {
+            multiplication::push_term(table, monomial, coefficient, out)?;
+            Ok(())
+        }
+        None => Ok(()),
+    }
 }
 
 // Puts the products of a part with each term behind others. A part over the constant 0 has none.

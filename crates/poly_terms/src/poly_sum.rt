@@ -117,24 +117,6 @@ impl PolySum {
     }
 }
 
-// Adds terms.
-fn add_all(
-    width: u32,
-    coefficients: &mut Coefficients,
-    numbers: &mut Vec<u64>,
-    entries: &[Term],
-) -> Result<(), AllocError>
-    requires width { IsWidth width }
-    requires listed { AreListed coefficients.old numbers.old.items }
-    ensures listed { AreListed coefficients.new numbers.new.items }
-    ensures added { OnOk result (IsAdded (2 ^ width) coefficients.old coefficients.new entries.now) }
-{
-    for entry in entries {
-        add_term(width, coefficients, numbers, entry)?;
-    }
-    Ok(())
-}
-
 /// Adds a term.
 pub(crate) fn add_term(
     width: u32,
@@ -153,6 +135,24 @@ pub(crate) fn add_term(
     let before = coefficients.at(number);
     list_new(numbers, number, before)?;
     coefficients.put(number, coefficient::sum(width, before, term.coefficient()));
+    Ok(())
+}
+
+// Adds terms.
+fn add_all(
+    width: u32,
+    coefficients: &mut Coefficients,
+    numbers: &mut Vec<u64>,
+    entries: &[Term],
+) -> Result<(), AllocError>
+    requires width { IsWidth width }
+    requires listed { AreListed coefficients.old numbers.old.items }
+    ensures listed { AreListed coefficients.new numbers.new.items }
+    ensures added { OnOk result (IsAdded (2 ^ width) coefficients.old coefficients.new entries.now) }
+{
+    for entry in entries {
+        add_term(width, coefficients, numbers, entry)?;
+    }
     Ok(())
 }
 

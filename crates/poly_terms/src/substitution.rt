@@ -83,6 +83,16 @@ pub(crate) fn replacements(
     Ok(out)
 }
 
+/// Whether a term's number is the one at a place of the list.
+pub(crate) fn is_place(places: &[u64], j: usize, entry: &Term) -> bool
+    ensures { IsTrue result ↔ (slice_get places.now j ≡ Some entry.now.0) }
+{
+    match places.get(j) {
+        Some(number) => *number == entry.number(),
+        None => false,
+    }
+}
+
 // The same for one term, behind others.
 fn replace_behind(
     table: &mut Numbering,
@@ -108,14 +118,4 @@ fn replace_behind(
         by,
         out,
     )
-}
-
-/// Whether a term's number is the one at a place of the list.
-pub(crate) fn is_place(places: &[u64], j: usize, entry: &Term) -> bool
-    ensures { IsTrue result ↔ (slice_get places.now j ≡ Some entry.now.0) }
-{
-    match places.get(j) {
-        Some(number) => *number == entry.number(),
-        None => false,
-    }
 }

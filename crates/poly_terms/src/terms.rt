@@ -207,7 +207,7 @@ impl Terms {
 
     /// The same where the numbers of the terms that have the variable are known: `places` has them, rising.
     #[tactic(auto, using(crate::specs::Laws::extends_itself, crate::proofs::Made::extends_grown))]
-    pub fn substitute_at(
+    pub(crate) fn substitute_at(
         &mut self,
         p: &Poly,
         v: u32,
@@ -412,15 +412,5 @@ impl Terms {
     {
         let entry = &p.entries()[i as usize];
         self.monomials.variables(entry.number())
-    }
-
-    /// The number in the table of a monomial, by its place from 0. The numbers of a polynomial rise.
-    #[tactic(auto, unfolding(crate::specs::Tables::monomials_in))]
-    pub fn number(&self, p: &Poly, i: u64) -> u64
-        requires { i < length (monomials_in self.now p.now) }
-        ensures { option_map (λ e. e.0) (slice_get p.now i) ≡ Some result }
-    {
-        let entry = &p.entries()[i as usize];
-        entry.number()
     }
 }

@@ -16,9 +16,6 @@ pub record IsAdding (max : ℕ) (before : List Gate) (pairs : List (Lit × Lit))
   pub gates_are : gates ++ ripple_gates top carry (drop i pairs) ≡ before ++ ripple_gates max constant_false pairs
   pub outputs_are : outputs ++ ripple_outputs top carry (drop i pairs) ≡ ripple_outputs max constant_false pairs
 
-pub adding_starts : (max : ℕ) (before : List Gate) (pairs : List (Lit × Lit)) → IsAdding max before pairs 0 max constant_false before []
-adding_starts max before pairs = record { top_is = omega arith; gates_are = refl; outputs_are = refl }
-
 pub adding_goes_on : (max : ℕ) (before : List Gate) (pairs : List (Lit × Lit)) (i top : ℕ) (carry : Lit) (gates : List Gate) (outputs : List Lit) (p : Lit × Lit) → i < length pairs → get_or pairs i p ≡ p →
     IsAdding max before pairs i top carry gates outputs → IsAdding max before pairs (i + 1) (top + 7) (carry_after top) (gates ++ position top p.0 p.1 carry) (outputs ++ sum_after top ∷ [])
 adding_goes_on max before pairs i top carry gates outputs p below is h =

@@ -4,7 +4,7 @@ use Rattle.std.specs.List.{All, AllByRecursion, Contains, flat_map}
 use Rattle.std.proofs.Common.{refl, sym, ap, ap₂, subst, ◌∙◌, arith, append_assoc, inl, inr, ⊎_elim, eqb-true}
 use Rattle.std.proofs.lemmas.Bool.{eqb-false}
 use Rattle.std.proofs.lemmas.List.{append-nil}
-use Rattle.std.proofs.lemmas.List.Elements.{All-from_recursion, recursion_from_All, All-append, All-contains}
+use Rattle.std.proofs.lemmas.List.Elements.{All-from_recursion, recursion_from_All, All-append}
 use Rattle.graph_core.specs.declared.literal.Lit.{Lit}
 use Rattle.graph_core.specs.declared.gate.Gate.{Gate}
 use Rattle.graph_core.specs.Graph.Assignments.{Assignment, variable, literal}
@@ -14,7 +14,7 @@ use Rattle.graph_core.specs.Graph.Literals.{variable_of, constant_false}
 use Rattle.graph_core.proofs.OfGraphs.CallerLemmas.{all_split}
 use Rattle.graph_core.specs.Graph.Positions.{carry_after}
 use Rattle.ripple_graft.specs.Ripple.{ripple_gates, ripple_outputs}
-use Rattle.ripple_graft.specs.Extension.{FrontEvaluates, IsExtension, IsReadable, WholeIsWellFormed, new_or_old, new_outputs, outputs_from, whole}
+use Rattle.ripple_graft.specs.Extension.{IsExtension, IsReadable, WholeIsWellFormed, new_or_old, new_outputs, outputs_from, whole}
 use Rattle.ripple_graft.specs.Blocks.{AreBlocks, Block, BlockAdds, BlocksAdd, BlocksAreJoined, BlocksExtend, Cut, CutIsBlock, CutReplaces, EvaluationsExtend, IsBlock, IsCut, SameUpTo, block_columns, block_of, columns, graft_all, graft_block, pair_count, placed, with_cut}
 use Rattle.ripple_graft.proofs.OneBlock.{evaluation_goes_on, graft_extends}
 use Rattle.ripple_graft.proofs.Plain.{graph_extends}
@@ -41,10 +41,6 @@ all_go_on e (b ∷ blocks) τ made fit evaluates =
 
 pub evaluations_extend : EvaluationsExtend
 evaluations_extend g blocks τ well fit evaluates = all_go_on (without_cut g) blocks τ (graph_extends g well) fit evaluates
-
-pub front_evaluates : FrontEvaluates
-front_evaluates e σ made evaluates k d h =
-    All-contains (λ x. variable σ x.v ≡ (literal σ x.left && literal σ x.right)) e.gates (slice_index_or e.graph.gates k d) evaluates (made.kept k d h)
 
 -- ---- all gates with the new outputs
 

@@ -219,26 +219,12 @@ pub record IsSoFar (g : Aig) (blocks : List Block) (i : ℕ) (e : Extended) : Ty
   pub fit : AreBlocks (without_cut g) (take i blocks)
   pub is : e ≡ with_blocks g (take i blocks)
 
-pub so_far_starts : (g : Aig) (blocks : List Block) → IsSoFar g blocks 0 (without_cut g)
-so_far_starts g blocks = record { fit = tt; is = refl }
-
 pub so_far_more : (g : Aig) (blocks : List Block) (i : ℕ) (e next : Extended) (b : Block) → i < length blocks → b ≡ get_or blocks i b → IsBlock e b → next ≡ graft_block e b → IsSoFar g blocks i e → IsSoFar g blocks (i + 1) next
 so_far_more g blocks i e next b below is one next_is h =
     let longer : take (i + 1) blocks ≡ take i blocks ++ b ∷ [] = take_more blocks i b below ∙ ap (λ c. take i blocks ++ c ∷ []) (sym is) in record {
       fit = subst (AreBlocks (without_cut g)) (sym longer) (blocks_more (without_cut g) (take i blocks) b h.fit (subst (λ (x : Extended). IsBlock x b) h.is one));
       is = next_is ∙ ap (λ (x : Extended). graft_block x b) h.is ∙ sym (ap (graft_all (without_cut g)) longer ∙ graft_more (without_cut g) (take i blocks) b);
     }
-
-take_enough : {X : Type 0} (n : ℕ) (xs : List X) → length xs ≤ n → take n xs ≡ xs
-take_enough zero [] h = refl
-take_enough zero (x ∷ xs) h = absurd (omega arith)
-take_enough (suc n) [] h = refl
-take_enough (suc n) (x ∷ xs) h = ap (λ ys. x ∷ ys) (take_enough n xs (omega arith))
-
-pub so_far_all : (g : Aig) (blocks : List Block) (i : ℕ) (e : Extended) → length blocks ≤ i → IsSoFar g blocks i e → AreBlocks (without_cut g) blocks × (e ≡ with_blocks g blocks)
-so_far_all g blocks i e far h =
-    let whole = take_enough i blocks far in
-    (subst (AreBlocks (without_cut g)) whole h.fit, h.is ∙ ap (with_blocks g) whole)
 
 first_fault : (e : Extended) (blocks : List Block) (i : ℕ) (d : Block) (why : GraftFail) → i < length blocks → AreBlocks e (take i blocks) → IsBlockFault (graft_all e (take i blocks)) (get_or blocks i d) why → IsFirstFault e blocks i why
 first_fault e [] i d why below fit fault = absurd (omega arith)

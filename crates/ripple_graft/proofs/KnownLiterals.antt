@@ -1,16 +1,11 @@
 -- Which variables are defined: those of inputs, and those of gates.
 use Rattle.std.specs.Prelude.{◌≡◌, ◌↔◌, ℕ, ◌<◌, ◌⊎◌, List, map, length}
-use Rattle.std.specs.declared.option.Option.{Option}
-use Rattle.std.specs.declared.option.Option.TheVariants.{None, Some}
-use Rattle.std.specs.Bool.{IsTrue}
-use Rattle.std.specs.Option.{IfSome, IsNone, is_some}
 use Rattle.std.specs.List.{Any, Contains}
-use Rattle.std.proofs.Common.{refl, ap, sym, ◌∙◌, arith, get_or, inl, inr, ⊎_elim}
+use Rattle.std.proofs.Common.{ap, sym, ◌∙◌, arith, get_or, inl, inr, ⊎_elim}
 use Rattle.std.proofs.lemmas.List.{get_or-map, get_or_default, length-map}
 use Rattle.std.proofs.lemmas.List.Elements.{Contains-append_left, Contains-append_right, Contains-append_cases}
-use Rattle.graph_core.specs.declared.gate.Gate.{Gate}
 use Rattle.graph_core.specs.Graph.Literals.{variable_of}
-use Rattle.graph_core.specs.Graph.{Aig, IsFree, IsGateOf, IsWellFormed, defined}
+use Rattle.graph_core.specs.Graph.{Aig, defined}
 
 -- an element with an image, and the image among the images
 image : {X : Type 0} (f : X → ℕ) (xs : List X) (v : ℕ) → Any (λ x. f x ≡ v) xs → Contains (map f xs) v
@@ -28,12 +23,3 @@ defined_is g v = (
   λ some. ⊎_elim (λ a. Contains-append_left (map variable_of g.inputs) (map (λ x. x.v) g.gates) v (image variable_of g.inputs v a))
       (λ b. Contains-append_right (map variable_of g.inputs) (map (λ x. x.v) g.gates) v (image (λ x. x.v) g.gates v b)) some,
 )
-
--- the table of gates tells whether a variable is one's
-pub gate_there : (gates : List Gate) (v : ℕ) (r : Option Gate) → IfSome r (IsGateOf gates v) → (IsNone r ↔ IsFree gates v) → IsTrue (is_some r) ↔ Any (λ x. x.v ≡ v) gates
-gate_there gates v None some none = (λ t. absurd (cc), λ a. absurd (none.0 refl a.0 a.1 a.2 (ap (λ y. y.v) a.3 ∙ a.4)))
-gate_there gates v (Some x) some none = (λ t. (some.0.0, x, some.0.1, some.0.2, some.1), λ a. refl)
-
--- and a variable above all is none's
-pub no_gate_there : (g : Aig) (v : ℕ) → IsWellFormed g → g.max < v → Any (λ x. x.v ≡ v) g.gates → ⊥
-no_gate_there g v well above a = let low = well.gates_in_range a.0 a.1 a.2 in let same = ap (λ y. y.v) a.3 ∙ a.4 in omega arith

@@ -1,5 +1,5 @@
 -- The outputs of an extended graph: the new ones of replaced columns, and the graph's.
-use Rattle.std.specs.Prelude.{◌≡◌, ◌≢◌, ℕ, zero, suc, ◌+◌, ◌*◌, ◌<◌, ◌≤◌, Bool, true, false, cond, List, [], ◌∷◌, ◌++◌, map, length, take, drop, slice_get, slice_index_or, ◌==◌}
+use Rattle.std.specs.Prelude.{◌≡◌, ◌≢◌, ℕ, zero, suc, ◌+◌, ◌*◌, ◌<◌, Bool, true, false, cond, List, [], ◌∷◌, map, length, slice_get, slice_index_or, ◌==◌}
 use Rattle.std.specs.declared.option.Option.{Option}
 use Rattle.std.specs.declared.option.Option.TheVariants.{None, Some}
 use Rattle.std.specs.Option.{option_map}
@@ -10,13 +10,9 @@ use Rattle.std.proofs.lemmas.Option.{same_Some}
 use Rattle.graph_core.specs.declared.literal.Lit.{Lit}
 use Rattle.graph_core.specs.Algebra.{AgreeOnColumns}
 use Rattle.graph_core.specs.Graph.Assignments.{Assignment, bit, literal, word}
-use Rattle.graph_core.specs.Graph.Extended.{Column, Extended, without_cut}
+use Rattle.graph_core.specs.Graph.Extended.{Column, Extended}
 use Rattle.graph_core.proofs.OfGraphs.CallerLemmas.{Apart, apart_from_pairs}
-use Rattle.graph_core.specs.Graph.Literals.{constant_false}
-use Rattle.ripple_graft.specs.Ripple.{ripple_outputs}
 use Rattle.ripple_graft.specs.Extension.{IsExtension, IsReplaced, OutputsAreNew, new_or_old, new_outputs, outputs_from}
-use Rattle.ripple_graft.specs.Blocks.{AreBlocks, Block, BlockOutputsAre, block_columns, block_outputs, columns, graft_all, graft_block, placed, span, with_blocks}
-use Rattle.ripple_graft.proofs.BlockLists.{blocks_extend, length-ripple_outputs}
 
 -- ---- one output
 
@@ -106,77 +102,3 @@ pub outputs_are_new : OutputsAreNew
 outputs_are_new = record { replaced = replaced_are; kept = kept_are; agreeing = agreeing_are }
 
 -- ---- blocks
-
--- the columns of a block: the i-th has the i-th new output
-column_at : (k : ℕ) (old new : List Lit) (i : ℕ) → i < length old → i < length new → (c : Column) × Contains (columns k old new) c × (c.number ≡ k + i) × (Some c.new ≡ slice_get new i)
-column_at k [] new i a b = absurd (omega arith)
-column_at k (o ∷ old) [] i a b = absurd (omega arith)
-column_at k (o ∷ old) (r ∷ new) zero a b = (record { number = k; old = o; new = r }, (0, omega arith, refl), omega arith, refl)
-column_at k (o ∷ old) (r ∷ new) (suc i) a b =
-    let more = column_at (suc k) old new i (omega arith) (omega arith) in
-    let number = more.2 in
-    let below : more.1.0 < length (columns (suc k) old new) = more.1.1 in
-    (more.0, (suc more.1.0, omega arith, more.1.2), omega arith, more.3)
-
-length-take_enough : {X : Type 0} → (n : ℕ) (xs : List X) → n ≤ length xs → length (take n xs) ≡ n
-length-take_enough zero xs h = refl
-length-take_enough (suc n) [] h = absurd (omega arith)
-length-take_enough (suc n) (x ∷ xs) h = ap suc (length-take_enough n xs (omega arith))
-
-length-drop_more : {X : Type 0} → (n : ℕ) (xs : List X) → n ≤ length xs → n + length (drop n xs) ≡ length xs
-length-drop_more zero xs h = omega arith
-length-drop_more (suc n) [] h = absurd (omega arith)
-length-drop_more (suc n) (x ∷ xs) h = let more = length-drop_more n xs (omega arith) in omega arith
-
-span_within : (b : Block) → span b ≤ length b.cut.pairs + 1
-span_within b = go b.carry
-  where
-    go : (c : Bool) → cond c (length b.cut.pairs + 1) (length b.cut.pairs) ≤ length b.cut.pairs + 1
-    go true = omega arith
-    go false = omega arith
-
-contains_later : (xs ys : List Column) (y : Column) → Contains ys y → Contains (xs ++ ys) y
-contains_later [] ys y h = h
-contains_later (x ∷ xs) ys y h = let more = contains_later xs ys y h in let below : more.0 < length (xs ++ ys) = more.1 in (suc more.0, omega arith, more.2)
-
-contains_sooner : (xs ys : List Column) (y : Column) → Contains xs y → Contains (xs ++ ys) y
-contains_sooner [] ys y h = absurd (let below : h.0 < 0 = h.1 in omega arith)
-contains_sooner (x ∷ xs) ys y (zero, below, is) = (0, omega arith, is)
-contains_sooner (x ∷ xs) ys y (suc i, below, is) = let more = contains_sooner xs ys y (i, omega arith, is) in let low : more.0 < length (xs ++ ys) = more.1 in (suc more.0, omega arith, more.2)
-
--- what is replaced stays so as further blocks come
-stays : (e : Extended) (blocks : List Block) (c : Column) → Contains e.replaced c → Contains (graft_all e blocks).replaced c
-stays e [] c h = h
-stays e (b ∷ blocks) c h = stays (graft_block e b) blocks c (contains_sooner e.replaced (block_columns e.graph e.max b) c h)
-
--- each block's columns are among those replaced by all
-abbrev HasColumns : Extended → ℕ × Block → Type 0
-HasColumns all p = (i : ℕ) → i < span p.1 → (c : Column) × Contains all.replaced c × (c.number ≡ p.1.cut.lo + i) × (Some c.new ≡ slice_get (block_outputs p.0 p.1) i)
-
-all_have : (e : Extended) (blocks : List Block) → AreBlocks e blocks → AllByRecursion (HasColumns (graft_all e blocks)) (placed e.max blocks)
-all_have e [] fit = tt
-all_have e (b ∷ blocks) fit = (own, all_have (graft_block e b) blocks fit.1)
-  where
-    own : HasColumns (graft_all e (b ∷ blocks)) (e.max, b)
-    own i below =
-        let within = fit.0.within in
-        let wide = span_within b in
-        let outs = length-ripple_outputs e.max constant_false b.cut.pairs in
-        let new = length-take_enough (span b) (ripple_outputs e.max constant_false b.cut.pairs) (omega arith) in
-        let old = length-drop_more b.cut.lo e.graph.outputs (omega arith) in
-        let c = column_at b.cut.lo (drop b.cut.lo e.graph.outputs) (block_outputs e.max b) i (omega arith) (omega arith) in
-        (c.0, stays (graft_block e b) blocks c.0 (contains_later e.replaced (block_columns e.graph e.max b) c.0 c.1), c.2, c.3)
-
-outputs_at : (all : Extended) → IsExtension all → (ps : List (ℕ × Block)) → AllByRecursion (HasColumns all) ps → AllByRecursion (λ p. (i : ℕ) → i < span p.1 → slice_get (new_outputs all) (p.1.cut.lo + i) ≡ slice_get (block_outputs p.0 p.1) i) ps
-outputs_at all made [] h = tt
-outputs_at all made (p ∷ ps) h = (
-  λ i below.
-      let c = h.0 i below in
-      ap (slice_get (new_outputs all)) (sym c.2) ∙ All-contains (λ d. slice_get (new_outputs all) d.number ≡ Some d.new) all.replaced c.0 (replaced_are all made) c.1 ∙ c.3,
-  outputs_at all made ps h.1,
-)
-
-pub block_outputs_are : BlockOutputsAre
-block_outputs_are g blocks well fit =
-    All-from_recursion (λ p. (i : ℕ) → i < span p.1 → slice_get (new_outputs (with_blocks g blocks)) (p.1.cut.lo + i) ≡ slice_get (block_outputs p.0 p.1) i) (placed g.max blocks)
-    (outputs_at (with_blocks g blocks) (blocks_extend g blocks well fit) (placed g.max blocks) (all_have (without_cut g) blocks fit))

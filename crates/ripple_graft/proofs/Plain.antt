@@ -1,20 +1,15 @@
 -- The graph alone is an extended graph without faults, and its outputs are the graph's.
-use Rattle.std.specs.Prelude.{◌≡◌, ℕ, suc, ◌+◌, ◌*◌, ◌≤◌, ◌⊎◌, List, [], ◌∷◌, ◌++◌}
+use Rattle.std.specs.Prelude.{◌≡◌, ◌+◌, ◌*◌, ◌≤◌, ◌⊎◌, List, [], ◌∷◌, ◌++◌}
 use Rattle.std.specs.List.{AllByRecursion, Contains, flat_map}
-use Rattle.std.proofs.Common.{refl, ap, arith}
+use Rattle.std.proofs.Common.{arith}
 use Rattle.std.proofs.lemmas.List.Elements.{All-from_recursion, recursion_from_All, All-contains_itself}
 use Rattle.graph_core.specs.declared.literal.Lit.{Lit}
 use Rattle.graph_core.specs.declared.gate.Gate.{Gate}
 use Rattle.graph_core.specs.Graph.Literals.{variable_of}
-use Rattle.graph_core.specs.Graph.{Aig, IsBuilt, IsWellFormed, defined, read_literals}
+use Rattle.graph_core.specs.Graph.{Aig, IsWellFormed, defined, read_literals}
 use Rattle.graph_core.specs.Graph.Extended.{without_cut}
 use Rattle.graph_core.proofs.OfGraphs.CallerLemmas.{all_split}
-use Rattle.ripple_graft.specs.Extension.{IsExtension, IsReadable, outputs_from}
-
--- where no column is replaced, the outputs stay
-pub outputs_from-none : (k : ℕ) (ls : List Lit) → outputs_from [] k ls ≡ ls
-outputs_from-none k [] = refl
-outputs_from-none k (l ∷ ls) = ap (λ xs. l ∷ xs) (outputs_from-none (suc k) ls)
+use Rattle.ripple_graft.specs.Extension.{IsExtension, IsReadable}
 
 module _ (g : Aig) (well : IsWellFormed g) where
   abbrev Readable : Lit → Type 0
@@ -48,6 +43,3 @@ module _ (g : Aig) (well : IsWellFormed g) where
     gates_in_range = well.gates_in_range;
     numbers_once = λ i j d lt within e. absurd (omega arith);
   }
-
-pub without_cut_extends : (g : Aig) → IsBuilt g → IsExtension (without_cut g)
-without_cut_extends g built = graph_extends g built.well_formed

@@ -1,9 +1,9 @@
 -- Columns that are replaced: as they are kept, and as the definitions know them.
-use Rattle.std.specs.Prelude.{◌≡◌, ℕ, suc, ◌+◌, ◌<◌, ◌≤◌, ◌⊎◌, ◌↔◌, cond, List, [], ◌∷◌, ◌++◌, length, drop, slice_get, slice_index_or}
+use Rattle.std.specs.Prelude.{◌≡◌, ℕ, ◌+◌, ◌<◌, ◌≤◌, ◌⊎◌, ◌↔◌, List, [], ◌∷◌, ◌++◌, length, drop, slice_get, slice_index_or}
 use Rattle.std.specs.declared.option.Option.TheVariants.{Some}
 use Rattle.std.specs.Option.{option_map}
 use Rattle.std.specs.List.{All, Any}
-use Rattle.std.proofs.Common.{refl, sym, ap, ap₂, ◌∙◌, subst, arith, append_assoc, append-nil, get_or, drop-cons, drop_of_length-le, ne_eqb, eq-eqb}
+use Rattle.std.proofs.Common.{refl, sym, ap, ◌∙◌, subst, arith, append-nil, get_or, drop_of_length-le}
 use Rattle.std.proofs.lemmas.List.{get_or-map, get_or_default, length-map}
 use Rattle.std.proofs.lemmas.Option.{slice_get-get_or}
 use Rattle.graph_core.specs.declared.literal.Lit.{Lit}
@@ -16,35 +16,10 @@ use Rattle.ripple_graft.proofs.NewOutputs.{get_from}
 
 -- ---- made one by one
 
-columns_append : (cs : List Replaced) (c : Replaced) → columns_in (cs ++ c ∷ []) ≡ columns_in cs ++ column_in c ∷ []
-columns_append [] c = refl
-columns_append (d ∷ cs) c = ap (λ xs. column_in d ∷ xs) (columns_append cs c)
-
 -- so many are made; what is left comes behind
 pub record IsReplacing (before : List Column) (lo : ℕ) (old new : List Lit) (i number : ℕ) (all : List Replaced) : Type 0 where
   pub number_is : number ≡ lo + i
   pub columns_are : columns_in all ++ columns number (drop number old) (drop i new) ≡ before ++ columns lo (drop lo old) new
-
-pub replacing_starts : (before : List Replaced) (lo : ℕ) (old new : List Lit) → IsReplacing (columns_in before) lo old new 0 lo before
-replacing_starts before lo old new = record { number_is = omega arith; columns_are = refl }
-
-pub replacing_goes_on : (before : List Column) (lo : ℕ) (old new : List Lit) (i number : ℕ) (d e : Lit) (all more : List Replaced) → i < length new → lo + length new ≤ length old →
-    more ≡ all ++ (record { number = number; old = get_or old number e; new = get_or new i d }) ∷ [] → IsReplacing before lo old new i number all → IsReplacing before lo old new (i + 1) (number + 1) more
-replacing_goes_on before lo old new i number d e all more below room more_is h =
-    let at = h.number_is in
-    let next : suc i ≡ i + 1 = omega arith in
-    let up : suc number ≡ number + 1 = omega arith in
-    let one : Column = record { number = number; old = get_or old number e; new = get_or new i d } in
-    let olds : drop number old ≡ get_or old number e ∷ drop (number + 1) old = drop-cons old number e (omega arith) ∙ ap (λ n. get_or old number e ∷ drop n old) up in
-    let news : drop i new ≡ get_or new i d ∷ drop (i + 1) new = drop-cons new i d below ∙ ap (λ n. get_or new i d ∷ drop n new) next in
-    let rest = columns (number + 1) (drop (number + 1) old) (drop (i + 1) new) in
-    let split : columns number (drop number old) (drop i new) ≡ one ∷ rest =
-    ap₂ (columns number) olds news ∙ ap (λ n. one ∷ columns n (drop (number + 1) old) (drop (i + 1) new)) up in
-    record {
-      number_is = omega arith;
-      columns_are = ap (λ xs. columns_in xs ++ rest) more_is ∙ ap (λ xs. xs ++ rest) (columns_append all (record { number = number; old = get_or old number e; new = get_or new i d })) ∙
-          append_assoc (columns_in all) (one ∷ []) rest ∙ ap (λ xs. columns_in all ++ xs) (sym split) ∙ h.columns_are;
-    }
 
 columns_none : (k : ℕ) (old : List Lit) → columns k old [] ≡ []
 columns_none k [] = refl
@@ -81,22 +56,6 @@ all_in cs lo end = (
 -- the column that is looked for isn't among the first ones
 pub record IsBehind (cs : List Replaced) (k : ℕ) (old : Lit) (i : ℕ) : Type 0 where
   pub same : new_or_old (columns_in cs) k old ≡ new_or_old (columns_in (drop i cs)) k old
-
-pub behind_more : (cs : List Replaced) (k : ℕ) (old : Lit) (i : ℕ) (d : Replaced) → i < length cs → ((get_or cs i d).number ≡ k → ⊥) → IsBehind cs k old i → IsBehind cs k old (i + 1)
-behind_more cs k old i d below other h =
-    let c = get_or cs i d in
-    let next : suc i ≡ i + 1 = omega arith in record {
-      same = h.same ∙ ap (λ xs. new_or_old (columns_in xs) k old) (drop-cons cs i d below) ∙
-          ap (λ b. cond b c.new (new_or_old (columns_in (drop (suc i) cs)) k old)) (ne_eqb c.number k other) ∙ ap (λ n. new_or_old (columns_in (drop n cs)) k old) next;
-    }
-
-pub behind_here : (cs : List Replaced) (k : ℕ) (old : Lit) (i : ℕ) (d : Replaced) → i < length cs → (get_or cs i d).number ≡ k → IsBehind cs k old i → (get_or cs i d).new ≡ new_or_old (columns_in cs) k old
-behind_here cs k old i d below here h =
-    let c = get_or cs i d in
-    sym (h.same ∙ ap (λ xs. new_or_old (columns_in xs) k old) (drop-cons cs i d below) ∙ ap (λ b. cond b c.new (new_or_old (columns_in (drop (suc i) cs)) k old)) (eq-eqb c.number k here))
-
-pub behind_all : (cs : List Replaced) (k : ℕ) (old : Lit) (i : ℕ) → length cs ≤ i → IsBehind cs k old i → old ≡ new_or_old (columns_in cs) k old
-behind_all cs k old i far h = sym (h.same ∙ ap (λ xs. new_or_old (columns_in xs) k old) (drop_of_length-le cs {i = i} far))
 
 -- the output of a column, old or new
 pub output_told : (e : Extended) (k : ℕ) (d new : Lit) → k < length e.graph.outputs → new ≡ new_or_old e.replaced k (slice_index_or e.graph.outputs k d) → slice_get (new_outputs e) k ≡ Some new

@@ -1,6 +1,6 @@
 -- A graph together with blocks of ripple-carry adders, which are added one after the other: the sums of each replace some columns,
 -- and where it is said so, its last carry replaces the column behind them.
-use Rattle.std.specs.Prelude.{◌≡◌, ℕ, ◌+◌, ◌*◌, ◌<◌, ◌≤◌, ◌⊎◌, Bool, List, [], ◌∷◌, ◌++◌, map, length, take, drop, if◌then◌else◌, ◌==◌, suc, slice_get}
+use Rattle.std.specs.Prelude.{◌≡◌, ℕ, ◌+◌, ◌*◌, ◌<◌, ◌≤◌, ◌⊎◌, Bool, List, [], ◌∷◌, ◌++◌, map, length, take, drop, if◌then◌else◌, ◌==◌, suc}
 use Rattle.std.specs.List.{All, flat_map, fold}
 use Rattle.graph_core.specs.declared.literal.Lit.{Lit}
 use Rattle.graph_core.specs.Graph.Assignments.{Assignment, word}
@@ -8,7 +8,7 @@ use Rattle.graph_core.specs.Graph.{Aig, IsEvaluation, IsWellFormed}
 use Rattle.graph_core.specs.Graph.Extended.{Column, Extended, without_cut}
 use Rattle.graph_core.specs.Graph.Literals.{constant_false}
 use Rattle.ripple_graft.specs.Ripple.{ripple_gates, ripple_outputs}
-use Rattle.ripple_graft.specs.Extension.{IsExtension, IsKnown, new_outputs}
+use Rattle.ripple_graft.specs.Extension.{IsExtension, IsKnown}
 pub use Rattle.ripple_graft.specs.declared.cut.Cut.{Cut}
 pub use Rattle.ripple_graft.specs.declared.block.Block.{Block}
 
@@ -144,9 +144,3 @@ BlockAdds σ p = word σ (ripple_outputs p.0 constant_false p.1.cut.pairs) ≡ w
 -- On every evaluation each block adds.
 abbrev pub BlocksAdd : Type 0
 BlocksAdd = (g : Aig) (blocks : List Block) (σ : Assignment) → IsEvaluation (with_blocks g blocks).gates σ → All (BlockAdds σ) (placed g.max blocks)
-
--- The output of a block's i-th column is its i-th new output: the sum there, or the last carry behind the sums.
-abbrev pub BlockOutputsAre : Type 0
-BlockOutputsAre = (g : Aig) (blocks : List Block) → IsWellFormed g → AreBlocks (without_cut g) blocks →
-    All (λ p. (i : ℕ) → i < span p.1 → slice_get (new_outputs (with_blocks g blocks)) (p.1.cut.lo + i) ≡
-    slice_get (block_outputs p.0 p.1) i) (placed g.max blocks)

@@ -5,7 +5,7 @@ use Rattle.graph_core.specs.declared.literal.Lit.{Lit}
 use Rattle.graph_core.specs.Graph.Literals.{variable_of}
 use Rattle.graph_core.specs.Algebra.{AgreeOnColumns}
 use Rattle.graph_core.specs.Graph.Assignments.{Assignment, word}
-use Rattle.graph_core.specs.Graph.{Aig, IsDefinedOnce, IsAcyclic, IsEvaluation, IsWellFormed, defined}
+use Rattle.graph_core.specs.Graph.{Aig, IsDefinedOnce, IsAcyclic, IsWellFormed, defined}
 use Rattle.graph_core.specs.Graph.Extended.{Extended, Column}
 
 -- some column of this number is replaced
@@ -55,10 +55,6 @@ pub record IsExtension (e : Extended) : Type 0 where
 -- So all gates with the new outputs are a graph without faults.
 abbrev pub WholeIsWellFormed : Type 0
 WholeIsWellFormed = (e : Extended) → IsExtension e → IsWellFormed (whole e)
-
--- An evaluation of all gates is one of the graph's.
-abbrev pub FrontEvaluates : Type 0
-FrontEvaluates = (e : Extended) (σ : Assignment) → IsExtension e → IsEvaluation e.gates σ → IsEvaluation e.graph.gates σ
 
 -- The output of a replaced column is the new one; where the old and the new outputs are equal, the outputs' word is the old one.
 pub record OutputsAreNew : Type 0 where

@@ -45,12 +45,6 @@ pub fn are_apart(columns: &[Replaced], lo: usize, end: usize) -> bool
         .all(|column| is_outside(column.number, lo, end))
 }
 
-fn is_outside(number: u32, lo: usize, end: usize) -> bool
-    ensures { IsTrue result ↔ ((number < lo) ⊎ (end ≤ number)) }
-{
-    (number as usize) < lo || end <= number as usize
-}
-
 // Columns from the given one on, with their outputs of the graph and new ones, behind other columns.
 pub fn columns_behind(
     before: Vec<Replaced>,
@@ -74,4 +68,10 @@ pub fn columns_behind(
         number += 1;
     }
     Ok(all)
+}
+
+fn is_outside(number: u32, lo: usize, end: usize) -> bool
+    ensures { IsTrue result ↔ ((number < lo) ⊎ (end ≤ number)) }
+{
+    (number as usize) < lo || end <= number as usize
 }

@@ -59,6 +59,13 @@ pub fn graft_blocks<'a>(
     Ok(extended)
 }
 
+/// Whether a literal is a constant, or one of an input or a gate.
+pub fn is_known(graph: &Graph, lit: Lit) -> bool
+    ensures { IsTrue result ↔ IsKnown (without_cut graph.now) lit }
+{
+    Extended::without_cut(graph).is_known(lit)
+}
+
 // One block more, or the first fault of the block.
 fn graft_next<'a>(
     alloc: Global,
@@ -80,13 +87,6 @@ fn graft_next<'a>(
         Ok(next) => Ok(next),
         Err(_) => Err(GraftFail::Memory),
     }
-}
-
-/// Whether a literal is a constant, or one of an input or a gate.
-pub fn is_known(graph: &Graph, lit: Lit) -> bool
-    ensures { IsTrue result ↔ IsKnown (without_cut graph.now) lit }
-{
-    Extended::without_cut(graph).is_known(lit)
 }
 
 fn has_columns(graph: &Graph, cut: &Cut) -> bool

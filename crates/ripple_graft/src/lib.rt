@@ -30,7 +30,6 @@ pub use extended::Extended;
 pub use fault::{BlocksFail, GraftFail};
 pub use grafting::{graft, graft_blocks, is_known};
 pub use laws::{
-    block_outputs_are, blocks_add, blocks_are_joined, blocks_extend, cut_is_block, cut_replaces,
-    evaluation_goes_on, evaluations_extend, front_evaluates, graft_extends, outputs_are_new,
-    ripple_adds, whole_is_well_formed,
+    blocks_add, blocks_are_joined, blocks_extend, cut_is_block, cut_replaces, evaluation_goes_on,
+    evaluations_extend, graft_extends, outputs_are_new, ripple_adds, whole_is_well_formed,
 };

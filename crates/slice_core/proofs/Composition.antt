@@ -24,10 +24,6 @@ use Rattle.frontier_core.proofs.Computed.{filter_order, computed_is, computed_ke
 pub has_append : (us vs : List ℕ) (v : ℕ) → has (us ++ vs) v ≡ (has us v || has vs v)
 has_append us vs v = list_any-append (λ u. u == v) us vs
 
-all_both : {X : Type 0} (P Q : X → Type 0) (xs : List X) → AllByRecursion P xs → AllByRecursion Q xs → AllByRecursion (λ x. P x × Q x) xs
-all_both P Q [] h k = tt
-all_both P Q (x ∷ xs) h k = ((h.0, k.0), all_both P Q xs h.1 k.1)
-
 module _ (e : Extended) (made : IsExtension e) (added part whole : List ℕ) (f : IsFrontier e added whole) (σ : Assignment) where
   abbrev both : List ℕ
   both = part ++ whole

@@ -142,10 +142,6 @@ pub apart_not : (v : ℕ) (us : List ℕ) → AllByRecursion (λ w. v ≢ w) us 
 apart_not v [] h = refl
 apart_not v (w ∷ us) h = ap₂ ◌||◌ (ne_eqb w v (λ e. h.0 (sym e))) (apart_not v us h.1)
 
-apart_first : (xs ys : List ℕ) → Apart (xs ++ ys) → AllByRecursion (λ x. has ys x ≡ false) xs
-apart_first [] ys h = tt
-apart_first (x ∷ xs) ys h = (apart_not x ys (all_split (λ w. x ≢ w) xs ys h.0).1, apart_first xs ys h.1)
-
 apart_left : (xs ys : List ℕ) → Apart (xs ++ ys) → Apart xs
 apart_left [] ys h = tt
 apart_left (x ∷ xs) ys h = ((all_split (λ w. x ≢ w) xs ys h.0).0, apart_left xs ys h.1)

@@ -65,10 +65,6 @@ module _ (g : Aig) (well : IsWellFormed g) (o : Lit) (v : ℕ) (top : Xor) (is :
   pub none_neither : ¬ (IsXorGate g x) → ¬ (IsXorGate g y) → (n : Next) → IsNextShape g o n → ⊥
   none_neither p q n s = let has = pair_has_shape g (variable_of s.2) n.pair s.5 in ⊎_elim (λ e. p (subst (IsXorGate g) (sym e.0) has)) (λ e. q (subst (IsXorGate g) (sym e.1) has)) (sides n s)
 
--- the gate has no XOR shape at all
-pub none_top : (g : Aig) (o : Lit) (v : ℕ) → v ≡ variable_of o → ¬ (IsXorGate g v) → (n : Next) → IsNextShape g o n → ⊥
-none_top g o v is not n s = not (subst (IsXorGate g) (sym is) (s.0, s.1, s.2, s.3, s.4))
-
 -- the other side is in range
 pub side_low : (g : Aig) → IsWellFormed g → (o : Lit) (n : Next) → IsNextShape g o n → n.side ≤ g.max
 side_low g well o n s = subst (λ k. k ≤ g.max) (sym s.7) (sides_low g well (variable_of o) s.0 s.1 s.2 s.3 s.4).1

@@ -1,12 +1,10 @@
 -- What is covered, from a gate to its first operand.
-use Rattle.std.specs.Prelude.{◌≡◌, ◌≢◌, ℕ, zero, suc, ◌<◌, List, [], ◌∷◌, slice_index_or}
+use Rattle.std.specs.Prelude.{◌≡◌, ◌≢◌, ℕ, zero, suc, ◌<◌, [], ◌∷◌, slice_index_or}
 use Rattle.std.specs.List.{Contains}
 use Rattle.std.proofs.Common.{refl, sym, subst, arith}
-use Rattle.std.proofs.lemmas.List.Elements.{All-contains}
-use Rattle.graph_core.specs.declared.literal.Lit.{Lit}
 use Rattle.graph_core.specs.declared.gate.Gate.{Gate}
 use Rattle.graph_core.specs.Graph.Literals.{variable_of}
-use Rattle.graph_core.specs.Graph.{Aig, IsFree, IsGateOf, IsWellFormed}
+use Rattle.graph_core.specs.Graph.{Aig, IsGateOf, IsWellFormed}
 use Rattle.graph_core.proofs.OfGraphs.CallerLemmas.{one_gate}
 use Rattle.slice_finder.specs.FinalStage.{IsCovered, constant, member, gate as gate_covered}
 
@@ -27,13 +25,5 @@ module _ (g : Aig) (well : IsWellFormed g) (x y : ℕ) where
   first_covered (member v has) z at some out = absurd (out has)
   first_covered (gate_covered o has l r) z at some out = subst (λ (a : Gate). Covered (variable_of a.left)) (one_gate g o.v z o well at (has, refl)) l
 
-  none_covered : {w : ℕ} → Covered w → IsFree g.gates w → w ≢ 0 → (Contains (x ∷ y ∷ []) w → ⊥) → ⊥
-  none_covered constant f some out = some refl
-  none_covered (member v has) f some out = out has
-  none_covered (gate_covered o has l r) f some out = All-contains (λ z. z.v ≢ o.v) g.gates o f has refl
-
   pub walk_down : (w : ℕ) (z : Gate) → IsGateOf g.gates w z → w ≢ 0 → w ≢ x → w ≢ y → Covered w → Covered (variable_of z.left)
   walk_down w z at some a b c = first_covered c z at some (not_of_two x y w a b)
-
-  pub walk_ends : (w : ℕ) → IsFree g.gates w → w ≢ 0 → w ≢ x → w ≢ y → Covered w → ⊥
-  walk_ends w f some a b c = none_covered c f some (not_of_two x y w a b)

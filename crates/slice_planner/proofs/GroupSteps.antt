@@ -6,7 +6,7 @@ use Rattle.std.specs.declared.result.Result.TheVariants.{Ok, Err}
 use Rattle.std.specs.declared.option.Option.{Option}
 use Rattle.std.specs.declared.option.Option.TheVariants.{None, Some}
 use Rattle.std.specs.List.{All, AllByRecursion, Contains, between, concat}
-use Rattle.std.proofs.Common.{refl, sym, ap, subst, ◌∙◌, arith, inl, inr, ⊎_elim, eqb-true, eq-eqb, ne_eqb, true≢false, append_assoc}
+use Rattle.std.proofs.Common.{refl, sym, ap, subst, ◌∙◌, arith, inl, inr, ⊎_elim, eqb-true, eq-eqb, true≢false, append_assoc}
 use Rattle.std.proofs.lemmas.Bool.{cases_Bool, cases_lt, or_left, or_right}
 use Rattle.std.proofs.lemmas.List.Elements.{recursion_from_All, All-contains_itself, All-from_recursion}
 use Rattle.std.proofs.lemmas.List.{reverse-append}
@@ -135,12 +135,6 @@ steps_at e f [] i d low can = absurd (omega arith)
 steps_at e f (x ∷ group) zero d low can = can.0
 steps_at e f (x ∷ group) (suc i) d low can = steps_at e (step f (Eliminate x.v)) group i d (omega arith) can.1
 
-pub take_all : {X : Type 0} (xs : List X) (i : ℕ) → length xs ≤ i → take i xs ≡ xs
-take_all [] zero h = refl
-take_all [] (suc i) h = refl
-take_all (x ∷ xs) zero h = absurd (omega arith)
-take_all (x ∷ xs) (suc i) h = ap (λ ys. x ∷ ys) (take_all xs i (omega arith))
-
 -- the steps of one more gate
 pub pushed_more : (before now next : List Step) (group : List Gate) (i : ℕ) (d : Gate) → i < length group → now ≡ before ++ map Eliminate (variables (take i group)) → next ≡ now ++ Eliminate (slice_index_or group i d).v ∷ [] →
     next ≡ before ++ map Eliminate (variables (take (i + 1) group))
@@ -153,15 +147,6 @@ pushed_more before now next group i d low so_far is =
     more (x ∷ xs) (suc i) low =
         let up : suc i + 1 ≡ suc (i + 1) = omega arith in
         ap (λ ss. Eliminate x.v ∷ ss) (more xs i (omega arith)) ∙ ap (λ n. map Eliminate (variables (take n (x ∷ xs)))) (sym up)
-
--- one more gate's variable
-pub variables_more : (gates : List Gate) (i v : ℕ) (d : Gate) → i < length gates → has (variables (take i gates)) v ≡ false → (slice_index_or gates i d).v ≢ v → has (variables (take (i + 1) gates)) v ≡ false
-variables_more [] i v d low none other = absurd (omega arith)
-variables_more (x ∷ gates) zero v d low none other = ap (λ b. b || false) (ne_eqb x.v v other)
-variables_more (x ∷ gates) (suc i) v d low none other =
-    let up : suc i + 1 ≡ suc (i + 1) = omega arith in
-    subst (λ n. has (variables (take n (x ∷ gates))) v ≡ false) (sym up)
-    (⊎_elim (λ yes. absurd (true≢false (sym (or_left (x.v == v) (has (variables (take i gates)) v) yes) ∙ none))) (λ no. ap (λ b. b || has (variables (take (i + 1) gates)) v) no ∙ variables_more gates i v d (omega arith) (ap (λ b. b || has (variables (take i gates)) v) (sym no) ∙ none) other) (cases_Bool (x.v == v)))
 
 pub variables_have : (gates : List Gate) (i v : ℕ) (d : Gate) → i < length gates → (slice_index_or gates i d).v ≡ v → has (variables gates) v ≡ true
 variables_have [] i v d low is = absurd (omega arith)
@@ -203,12 +188,6 @@ dropped f (y ∷ xs) zero x is = ap (λ z. f z ∷ map f xs) (same is)
 dropped f (y ∷ xs) (suc k) x is =
     let up : suc k + 1 ≡ suc (k + 1) = omega arith in
     dropped f xs k x is ∙ ap (λ n. f x ∷ drop n (f y ∷ map f xs)) (sym up)
-
-pub dropped_all : {X : Type 0} (xs : List X) (k : ℕ) → length xs ≤ k → drop k xs ≡ []
-dropped_all [] zero h = refl
-dropped_all [] (suc k) h = refl
-dropped_all (x ∷ xs) zero h = absurd (omega arith)
-dropped_all (x ∷ xs) (suc k) h = dropped_all xs k (omega arith)
 
 -- ---- what the calls find
 

@@ -28,6 +28,23 @@ pub(crate) fn arranged(alloc: Global, extended: &Extended<'_>) -> Result<Arrange
     }
 }
 
+/// The gates alone, by greater level, ties by greater variable.
+pub(crate) fn by_levels(alloc: Global, extended: &Extended<'_>) -> Result<Arrangement, Memory>
+    ensures { IfOk result (λ a. All (Contains extended.now.gates) a.gates) }
+{
+    let mut keys = keys_of(alloc, extended)?;
+    keys.sort()?;
+    let all = extended.gates();
+    let mut gates = Vec::new(alloc);
+    for (_level, _v, place) in keys.iter().rev() {
+        if *place < all.len() {
+            gates.push(all[*place])?;
+        }
+    }
+    let parts = singles(alloc, &gates)?;
+    Ok(Arrangement { gates, parts })
+}
+
 // Whether each gate that is alone in its group reads no gate.
 fn are_adders(extended: &Extended<'_>, arrangement: &Arrangement) -> bool
     requires { All (Contains extended.now.gates) arrangement.now.gates }
@@ -86,23 +103,6 @@ fn is_gate(extended: &Extended<'_>, lit: Lit) -> bool
     ensures { IsTrue result → has (variables extended.now.gates) (variable_of lit) ≡ true }
 {
     lit.var() <= extended.max() && extended.gate(lit.var()).is_some()
-}
-
-/// The gates alone, by greater level, ties by greater variable.
-pub(crate) fn by_levels(alloc: Global, extended: &Extended<'_>) -> Result<Arrangement, Memory>
-    ensures { IfOk result (λ a. All (Contains extended.now.gates) a.gates) }
-{
-    let mut keys = keys_of(alloc, extended)?;
-    keys.sort()?;
-    let all = extended.gates();
-    let mut gates = Vec::new(alloc);
-    for (_level, _v, place) in keys.iter().rev() {
-        if *place < all.len() {
-            gates.push(all[*place])?;
-        }
-    }
-    let parts = singles(alloc, &gates)?;
-    Ok(Arrangement { gates, parts })
 }
 
 // Each gate alone.

@@ -27,6 +27,17 @@ pub(crate) fn grouped(
     Ok(Arrangement { gates, parts })
 }
 
+/// The gate of a variable, if it is one's.
+pub(crate) fn gate_of(extended: &Extended<'_>, v: u32) -> Option<Gate>
+    ensures { IfSome result (Contains extended.now.gates) }
+{
+    if v <= extended.max() {
+        extended.gate(v)
+    } else {
+        None
+    }
+}
+
 // The gates of the group at a place behind others, if there is one.
 fn push_group(
     gates: &mut Vec<Gate>,
@@ -67,15 +78,4 @@ fn push_gate(gates: &mut Vec<Gate>, extended: &Extended<'_>, v: u32) -> Result<(
         return Ok(());
     }
     Ok(())
-}
-
-/// The gate of a variable, if it is one's.
-pub(crate) fn gate_of(extended: &Extended<'_>, v: u32) -> Option<Gate>
-    ensures { IfSome result (Contains extended.now.gates) }
-{
-    if v <= extended.max() {
-        extended.gate(v)
-    } else {
-        None
-    }
 }

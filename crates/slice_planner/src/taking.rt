@@ -78,22 +78,6 @@ impl<'a> Taking<'a> {
         Ok(Some(column))
     }
 
-    // Adds the column below those that were added.
-    fn push_column(&mut self, column: usize) -> Result<(), Memory>
-        requires next { self.old.below ≡ column + 1 }
-        ensures extended { self.new.extended ≡ self.old.extended }
-        ensures below { OnOk result (self.new.below ≡ column) }
-        ensures groups { OnOk result (StaysAtGroups self.old self.new) }
-    {
-        let _gates = self.extended.gates();
-        let _outputs = self.extended.graph().outputs();
-        let output = self.extended.new_output(column as u32);
-        self.steps.push(Step::Add(column as u32))?;
-        self.below = column;
-        one_less(&mut self.readers, output.var());
-        Ok(())
-    }
-
     /// Eliminates those of the groups at these places that can go, one after the other.
     pub(crate) fn try_due(
         &mut self,
@@ -110,6 +94,42 @@ impl<'a> Taking<'a> {
         for place in places {
             self.try_place(arrangement, *place)?;
         }
+        Ok(())
+    }
+
+    /// Eliminates the groups that are left, and then whatever gates are.
+    pub(crate) fn finish(self, arrangement: &Arrangement) -> Result<Vec<Step>, Memory>
+        requires below { self.below ≡ 0 }
+        requires gates { All (Contains self.extended.gates) arrangement.now.gates }
+        ensures plan { IfOk result (λ steps. IsPlan self.entry.extended steps.items) }
+        ensures columns { IfOk result (λ steps.
+            columns_added steps.items ≡ count_down (length self.entry.extended.graph.outputs)) }
+        ensures groups { IfOk result (λ steps. (gs : List (List ℕ)) → lists_in arrangement.now ≡ gs →
+            AreGroups self.entry.extended gs → AreAtGroups self.entry.extended gs self.entry.steps →
+            GoesByGroups gs steps.items) }
+    {
+        let mut taking = self;
+        let _gates = taking.extended.gates();
+        taking.try_all(arrangement)?;
+        while let Some(gate) = taking.first_ready() {
+            taking.eliminate(gate)?;
+        }
+        Ok(taking.steps)
+    }
+
+    // Adds the column below those that were added.
+    fn push_column(&mut self, column: usize) -> Result<(), Memory>
+        requires next { self.old.below ≡ column + 1 }
+        ensures extended { self.new.extended ≡ self.old.extended }
+        ensures below { OnOk result (self.new.below ≡ column) }
+        ensures groups { OnOk result (StaysAtGroups self.old self.new) }
+    {
+        let _gates = self.extended.gates();
+        let _outputs = self.extended.graph().outputs();
+        let output = self.extended.new_output(column as u32);
+        self.steps.push(Step::Add(column as u32))?;
+        self.below = column;
+        one_less(&mut self.readers, output.var());
         Ok(())
     }
 
@@ -260,26 +280,6 @@ impl<'a> Taking<'a> {
             }
         }
         None
-    }
-
-    /// Eliminates the groups that are left, and then whatever gates are.
-    pub(crate) fn finish(self, arrangement: &Arrangement) -> Result<Vec<Step>, Memory>
-        requires below { self.below ≡ 0 }
-        requires gates { All (Contains self.extended.gates) arrangement.now.gates }
-        ensures plan { IfOk result (λ steps. IsPlan self.entry.extended steps.items) }
-        ensures columns { IfOk result (λ steps.
-            columns_added steps.items ≡ count_down (length self.entry.extended.graph.outputs)) }
-        ensures groups { IfOk result (λ steps. (gs : List (List ℕ)) → lists_in arrangement.now ≡ gs →
-            AreGroups self.entry.extended gs → AreAtGroups self.entry.extended gs self.entry.steps →
-            GoesByGroups gs steps.items) }
-    {
-        let mut taking = self;
-        let _gates = taking.extended.gates();
-        taking.try_all(arrangement)?;
-        while let Some(gate) = taking.first_ready() {
-            taking.eliminate(gate)?;
-        }
-        Ok(taking.steps)
     }
 }
 

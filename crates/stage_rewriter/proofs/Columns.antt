@@ -52,9 +52,6 @@ module _ (e : Extended) (cut : Cut) (is_cut : IsCut e.graph cut) (is : e ≡ wit
   pub replaced_long : length e.replaced ≡ length e.graph.outputs - cut.lo
   replaced_long = ap length replaced_are ∙ columns_long cut.lo old new enough ∙ length-drop cut.lo e.graph.outputs
 
-  pub lo_within : cut.lo ≤ length e.graph.outputs
-  lo_within = ⊎_elim (λ carry. omega arith) (λ sums. omega arith) is_cut.columns
-
   number_at : (i : ℕ) (d : Column) → i < length e.replaced → (slice_index_or e.replaced i d).number ≡ cut.lo + i
   number_at i d below =
       let long : length e.replaced ≡ length old = ap length replaced_are ∙ columns_long cut.lo old new enough in

@@ -9,7 +9,7 @@ use graph_core::{Graph, Lit, Memory, Numbers, Operands};
 use std::alloc::Global;
 
 /// The operands and the addend that the values have at the inputs, that of variable v at place v - 1.
-pub fn numbers_of(
+pub(crate) fn numbers_of(
     alloc: Global,
     graph: &Graph,
     operands: &Operands,

@@ -12,7 +12,11 @@ use std::alloc::Global;
 
 /// The goals that aren't met, column by column upward: that the old output implies the new one, and the other way
 /// round.
-pub fn unmet_goals(alloc: Global, extended: &Extended<'_>, cut: &Cut) -> Result<ClauseList, Memory>
+pub(crate) fn unmet_goals(
+    alloc: Global,
+    extended: &Extended<'_>,
+    cut: &Cut,
+) -> Result<ClauseList, Memory>
     requires cut { IsCut extended.now.graph cut.now }
     requires graph { extended.now ≡ with_cut extended.now.graph cut.now }
     ensures { IfOk result (λ goals. AreSameSets goals (unmet_goals extended.now)) }

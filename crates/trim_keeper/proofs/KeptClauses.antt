@@ -14,12 +14,6 @@ use Rattle.trim_keeper.proofs.Marking.{marked_number}
 
 -- ---- lists by marks
 
-pub chosen_map : {X Y : Type 0} (f : X → Y) (marks : List Bool) (xs : List X) → chosen marks (map f xs) ≡ map f (chosen marks xs)
-chosen_map f [] xs = refl
-chosen_map f (b ∷ marks) [] = refl
-chosen_map f (true ∷ marks) (x ∷ xs) = ap (λ ys. f x ∷ ys) (chosen_map f marks xs)
-chosen_map f (false ∷ marks) (x ∷ xs) = chosen_map f marks xs
-
 pub chosen_none : {X : Type 0} (marks : List Bool) → chosen {X = X} marks [] ≡ []
 chosen_none [] = refl
 chosen_none (b ∷ marks) = refl
@@ -67,13 +61,6 @@ pub record AreFirstRanks (marks : List Bool) (n : ℕ) (ranks : List ℕ) (last 
   pub last_is : last ≡ rank marks n
   pub low : last ≤ n
 
-pub first_ranks : (marks : List Bool) → AreFirstRanks marks 0 (0 ∷ []) 0
-first_ranks marks = record { many = refl; told = told; last_is = refl; low = omega arith }
-  where
-    told : (k : ℕ) → k ≤ 0 → slice_index (0 ∷ []) k ≡ rank marks k
-    told zero low = refl
-    told (suc k) low = absurd (omega arith)
-
 more_ranks : (marks : List Bool) (n : ℕ) (ranks : List ℕ) (last next : ℕ) → AreFirstRanks marks n ranks last → next ≡ last + cond (slice_index_or marks n false) 1 0 → next ≤ n + 1 → AreFirstRanks marks (n + 1) (ranks ++ next ∷ []) next
 more_ranks marks n ranks last next h is low = record {
   many = length_push ranks next ∙ ap (λ (k : ℕ). k + 1) h.many;
@@ -94,9 +81,6 @@ ranks_set marks n ranks last h e = more_ranks marks n ranks last (last + 1) h (a
 
 pub ranks_unset : (marks : List Bool) (n : ℕ) (ranks : List ℕ) (last : ℕ) → AreFirstRanks marks n ranks last → slice_index_or marks n false ≡ false → AreFirstRanks marks (n + 1) (ranks ++ last ∷ []) last
 ranks_unset marks n ranks last h e = more_ranks marks n ranks last last h (sym (ap (λ (b : Bool). last + cond b 1 0) e ∙ omega arith)) (let l = h.low in omega arith)
-
-pub ranks_all : (marks : List Bool) (n : ℕ) (ranks : List ℕ) (last : ℕ) → n ≡ length marks → AreFirstRanks marks n ranks last → AreRanks marks ranks
-ranks_all marks n ranks last end h = record { many = h.many ∙ ap (λ (k : ℕ). k + 1) end; told = λ k low. h.told k (omega arith) }
 
 -- ---- all together
 

@@ -1,10 +1,9 @@
 -- The first clauses that show goals are marked.
-use Rattle.std.specs.Prelude.{◌≡◌, ℕ, ◌<◌, ◌≤◌, Bool, true, false, not, cond, List, [], ◌∷◌, ◌++◌, length, map, slice_index_or, slice_set}
+use Rattle.std.specs.Prelude.{◌≡◌, ℕ, ◌<◌, ◌≤◌, Bool, true, false, not, cond, List, [], ◌∷◌, ◌++◌, length, map, slice_index_or}
 use Rattle.std.specs.List.{filter}
-use Rattle.std.proofs.Common.{refl, sym, ap, subst, ◌∙◌, arith, inl, inr, ⊎_elim}
-use Rattle.std.proofs.lemmas.Bool.{cases_eq}
-use Rattle.std.proofs.lemmas.List.{append-nil, get_or_default, get_or-set_other, get_or-set_same, length-set, map-append}
-use Rattle.std.proofs.lemmas.List.Elements.{All-nil, All-push, filter-append}
+use Rattle.std.proofs.Common.{sym, ap, subst, ◌∙◌, arith, inl, inr, ⊎_elim}
+use Rattle.std.proofs.lemmas.List.{append-nil, get_or_default, map-append}
+use Rattle.std.proofs.lemmas.List.Elements.{All-push, filter-append}
 use Rattle.std.proofs.lemmas.List.Quantifiers.{Any-push}
 use Rattle.graph_core.proofs.OfGraphs.CallerLemmas.{any_front}
 use Rattle.clause_core.specs.Clause.{Clause, IsSubset}
@@ -20,29 +19,7 @@ pub none_found : (clauses : List Clause) (goal : Clause) (n : ℕ) → NoneShows
 none_found clauses goal n none end (j, c, low, is, sub) =
     none j (omega arith) (subst (λ (d : Clause). IsSubset d goal) (sym (get_or_default clauses j [] c low ∙ is)) sub)
 
-pub marks_one : (goal : Clause) (clauses : List Clause) (marks : List Bool) (n : ℕ) → n < length marks → IsFirstShowing clauses n goal → MarksFirst goal clauses marks (slice_set marks n true)
-marks_one goal clauses marks n low first = record {
-  places = length-set marks n true;
-  still = λ i s. ⊎_elim (λ e. subst (IsSet (slice_set marks n true)) (sym e) here) (λ other. get_or-set_other marks n i true false other ∙ s) (cases_eq i n);
-  marked = λ shown. (n, here, first);
-  only = λ i s. ⊎_elim (λ e. inr (subst (λ (j : ℕ). IsFirstShowing clauses j goal) (sym e) first)) (λ other. inl (sym (get_or-set_other marks n i true false other) ∙ s)) (cases_eq i n);
-}
-  where
-    here : IsSet (slice_set marks n true) n
-    here = get_or-set_same marks n true false low
-
-pub marks_nothing : (goal : Clause) (clauses : List Clause) (marks : List Bool) → (IsShownIn clauses goal → ⊥) → MarksFirst goal clauses marks marks
-marks_nothing goal clauses marks none = record { places = refl; still = λ i s. s; marked = λ shown. absurd (none shown); only = λ i s. inl s }
-
 -- ---- all goals
-
-pub roots_none : (clauses : List Clause) (marks : List Bool) → MarksRoots [] clauses marks marks
-roots_none clauses marks = record {
-  places = refl;
-  still = λ i s. s;
-  each = All-nil (λ g. IsShownIn clauses g → (i : ℕ) × IsSet marks i × IsFirstShowing clauses i g);
-  only = λ i s. inl s;
-}
 
 pub roots_more : (goals clauses : List Clause) (g : Clause) (old mid new : List Bool) → MarksRoots goals clauses old mid → MarksFirst g clauses mid new → MarksRoots (goals ++ g ∷ []) clauses old new
 roots_more goals clauses g old mid new h m = record {

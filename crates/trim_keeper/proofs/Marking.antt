@@ -1,35 +1,12 @@
 -- Marks that are set one after the other.
-use Rattle.std.specs.Prelude.{◌≡◌, ℕ, zero, suc, ◌+◌, ◌-◌, ◌<◌, ◌≤◌, ◌⊎◌, Bool, true, false, List, [], ◌∷◌, ◌++◌, length, slice_get, slice_index_or, slice_set}
+use Rattle.std.specs.Prelude.{◌≡◌, ℕ, zero, suc, ◌+◌, ◌-◌, ◌<◌, ◌≤◌, Bool, true, List, [], ◌∷◌, length, slice_get, slice_index_or}
 use Rattle.std.specs.declared.option.Option.TheVariants.{Some}
 use Rattle.std.specs.List.{All, Contains}
-use Rattle.std.proofs.Common.{refl, sym, ap, subst, ◌∙◌, arith, inl, inr, ⊎_elim, true≢false}
+use Rattle.std.proofs.Common.{sym, ap, subst, ◌∙◌, arith, inl, inr, ⊎_elim, true≢false}
 use Rattle.std.proofs.lemmas.Bool.{cases_eq}
-use Rattle.std.proofs.lemmas.List.{get_or-set_other, get_or-set_same, length-set}
-use Rattle.std.proofs.lemmas.List.Elements.{All-contains, Contains-append_left, Contains-get_or, Contains-push, Contains-push_cases}
-use Rattle.clause_core.proofs.CallerLemmas.{contains_nil}
+use Rattle.std.proofs.lemmas.List.Elements.{All-contains, Contains-get_or}
 use Rattle.trim_core.specs.KeptClauses.{AreBelow, IsMarked, IsUsedBehind}
 use Rattle.trim_keeper.specs.Marking.{IsClosedFrom, IsSet, SetsMarks}
-
-pub sets_none : (marks : List Bool) → SetsMarks [] marks marks
-sets_none marks = record { places = refl; told = λ i. (inl, λ h. ⊎_elim (λ s. s) (λ c. absurd (contains_nil (i + 1) c)) h) }
-
-pub sets_more : (numbers : List ℕ) (n : ℕ) (old mid : List Bool) → SetsMarks numbers old mid → 0 < n → n ≤ length old → SetsMarks (numbers ++ n ∷ []) old (slice_set mid (n - 1) true)
-sets_more numbers n old mid h some low = record { places = length-set mid (n - 1) true ∙ h.places; told = λ i. (there i, back i) }
-  where
-    there : (i : ℕ) → IsSet (slice_set mid (n - 1) true) i → IsSet old i ⊎ Contains (numbers ++ n ∷ []) (i + 1)
-    there i s = ⊎_elim
-        (λ e. inr (let same : n ≡ i + 1 = omega arith in subst (Contains (numbers ++ n ∷ [])) same (Contains-push numbers n)))
-        (λ other. ⊎_elim inl (λ c. inr (Contains-append_left numbers (n ∷ []) (i + 1) c)) ((h.told i).0 (sym (get_or-set_other mid (n - 1) i true false other) ∙ s)))
-        (cases_eq i (n - 1))
-
-    here : IsSet (slice_set mid (n - 1) true) (n - 1)
-    here = get_or-set_same mid (n - 1) true false (let p = h.places in omega arith)
-
-    still : (i : ℕ) → IsSet mid i → IsSet (slice_set mid (n - 1) true) i
-    still i s = ⊎_elim (λ e. subst (IsSet (slice_set mid (n - 1) true)) (sym e) here) (λ other. get_or-set_other mid (n - 1) i true false other ∙ s) (cases_eq i (n - 1))
-
-    back : (i : ℕ) → IsSet old i ⊎ Contains (numbers ++ n ∷ []) (i + 1) → IsSet (slice_set mid (n - 1) true) i
-    back i h' = ⊎_elim (λ s. still i ((h.told i).1 (inl s))) (λ c. ⊎_elim (λ d. still i ((h.told i).1 (inr d))) (λ e. let same : n - 1 ≡ i = omega arith in subst (IsSet (slice_set mid (n - 1) true)) same here) (Contains-push_cases numbers n (i + 1) c)) h'
 
 -- a mark by its number
 pub marked_at : (marks : List Bool) (i : ℕ) → IsSet marks i → slice_get marks i ≡ Some true
@@ -50,19 +27,7 @@ pub marked_number : (marks : List Bool) (n : ℕ) → 0 < n → IsSet marks (n -
 marked_number marks zero some s = absurd (omega arith)
 marked_number marks (suc i) some s = marked_at marks i (subst (IsSet marks) (omega arith) s)
 
-pub closed_none : (n : ℕ) (uses : List (List ℕ)) (marks : List Bool) → length uses ≤ n → IsClosedFrom n uses marks marks
-closed_none n uses marks end = record { places = refl; still = λ i s. s; closed = λ i high low s. absurd (omega arith); used = λ i s. inl s }
-
 module _ (p : ℕ) (uses : List (List ℕ)) (old mid : List Bool) (h : IsClosedFrom (p + 1) uses old mid) (low : p < length uses) where
-  -- a clause that isn't marked
-  pub closed_unset : slice_index_or mid p false ≡ false → IsClosedFrom p uses old mid
-  closed_unset unset = record {
-    places = h.places;
-    still = h.still;
-    closed = λ i high below s. ⊎_elim (λ e. absurd (true≢false (sym s ∙ (ap (λ (j : ℕ). slice_index_or mid j false) e ∙ unset)))) (λ other. h.closed i (omega arith) below s) (cases_eq i p);
-    used = h.used;
-  }
-
   -- one that is, once what it uses is marked
   pub closed_set : (new : List Bool) → IsSet mid p → AreBelow p (slice_index_or uses p []) → SetsMarks (slice_index_or uses p []) mid new → IsClosedFrom p uses old new
   closed_set new set below sets = record {

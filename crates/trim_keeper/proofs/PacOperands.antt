@@ -1,23 +1,19 @@
 -- What lines are made of, by numbers.
-use Rattle.std.specs.Prelude.{◌≡◌, ◌≢◌, ℕ, zero, suc, ◌+◌, ◌-◌, ◌<◌, ◌≤◌, ◌⊎◌, Bool, true, false, List, [], ◌∷◌, ◌++◌, length, map, slice_index, slice_index_or, slice_set}
+use Rattle.std.specs.Prelude.{◌≡◌, ◌≢◌, ℕ, zero, suc, ◌+◌, ◌-◌, ◌<◌, ◌≤◌, ◌⊎◌, Bool, false, List, [], ◌∷◌, ◌++◌, length, map, slice_index, slice_index_or}
 use Rattle.std.specs.List.{All, Contains}
-use Rattle.std.proofs.Common.{refl, sym, ap, subst, ◌∙◌, add-one, arith, inl, inr, ⊎_elim, replicate, true≢false}
+use Rattle.std.proofs.Common.{sym, ap, subst, ◌∙◌, add-one, arith, inl, inr, ⊎_elim, replicate, true≢false}
 use Rattle.std.proofs.lemmas.Bool.{cases_eq, cases_lt}
-use Rattle.std.proofs.lemmas.List.{get_or_append_left, get_or-map, get_or_push, get_or-set_other, get_or-set_same, length_push, length-map, length-set}
-use Rattle.std.proofs.lemmas.List.Elements.{All-contains, All-get_or, All-nil, All-push, Contains-append_left, Contains-push, Contains-push_cases}
-use Rattle.clause_core.proofs.CallerLemmas.{contains_nil}
+use Rattle.std.proofs.lemmas.List.{get_or_append_left, get_or-map, get_or_push, length_push, length-map}
+use Rattle.std.proofs.lemmas.List.Elements.{All-contains, All-get_or, All-push, Contains-append_left, Contains-push, Contains-push_cases}
 use Rattle.poly_text.specs.declared.line.PacLine.{PacLine}
 use Rattle.poly_text.specs.declared.line.PacLine.TheVariants as pac
 use Rattle.poly_text.specs.Recorded.{AreMadeOfEarlier, AreRising, id_in, ids_in, operands_in}
 use Rattle.trim_core.specs.KeptClauses.{AreEarlier, IsMarked, chosen}
-use Rattle.trim_keeper.specs.Lines.{AreAllUses, AreLinesKept, AreUsesOf, MarksClosing, SetsClosing, id_at, operands_at}
+use Rattle.trim_keeper.specs.Lines.{AreAllUses, AreLinesKept, AreUsesOf, MarksClosing, id_at, operands_at}
 use Rattle.trim_keeper.specs.Marking.{IsSet}
 use Rattle.trim_keeper.proofs.Marking.{set_at}
 
 -- ---- the numbers of operands
-
-pub uses_none : (ids : List ℕ) → AreUsesOf ids [] []
-uses_none ids = record { own = All-nil (λ n. (0 < n) × (n ≤ length ids) × Contains [] (slice_index ids (n - 1))); all = λ p low has. absurd (contains_nil (slice_index ids p) has) }
 
 module _ (ids operands numbers : List ℕ) (o : ℕ) (h : AreUsesOf ids operands numbers) where
   abbrev Own : ℕ → Type 0
@@ -53,9 +49,6 @@ rising_weak ids up i j low inside = ⊎_elim (λ e. let same = ap (slice_index i
 
 -- ---- of all lines
 
-pub all_none : (ids : List ℕ) → AreAllUses ids [] []
-all_none ids = record { many = refl; each = λ p low. absurd (omega arith) }
-
 pub all_more : (ids : List ℕ) (operands uses : List (List ℕ)) (o u : List ℕ) → AreAllUses ids operands uses → AreUsesOf ids o u → AreAllUses ids (operands ++ o ∷ []) (uses ++ u ∷ [])
 all_more ids operands uses o u h new = record {
   many = length_push uses u ∙ (ap (λ (n : ℕ). n + 1) h.many ∙ sym (length_push operands o));
@@ -74,18 +67,6 @@ all_more ids operands uses o u h new = record {
     last p e =
         subst (λ (us : List ℕ). AreUsesOf ids (slice_index_or (operands ++ o ∷ []) p []) us) (sym (get_or_push uses u [] p (h.many ∙ sym e)))
         (subst (λ (os : List ℕ). AreUsesOf ids os u) (sym (get_or_push operands o [] p (sym e))) new)
-
--- ---- the closing line
-
-pub closing_none : (ids : List ℕ) (closing : ℕ) (marks : List Bool) → ((p : ℕ) → p < length ids → slice_index ids p ≢ closing) → SetsClosing ids closing marks marks
-closing_none ids closing marks other = record { places = refl; set = λ q low e. absurd (other q low e); only = λ q s. inl s }
-
-pub closing_set : (ids : List ℕ) (closing : ℕ) (marks : List Bool) (p : ℕ) → AreRising ids → p < length ids → length marks ≡ length ids → slice_index ids p ≡ closing → SetsClosing ids closing marks (slice_set marks p true)
-closing_set ids closing marks p up low even is = record {
-  places = length-set marks p true;
-  set = λ q inside e. let same : p ≡ q = rising_once ids up p q low inside (is ∙ sym e) in subst (IsSet (slice_set marks p true)) same (get_or-set_same marks p true false (omega arith));
-  only = λ q s. ⊎_elim (λ e. inr (ap (slice_index ids) e ∙ is)) (λ other. inl (sym (get_or-set_other marks p q true false other) ∙ s)) (cases_eq q p);
-}
 
 -- ---- all together
 

@@ -12,7 +12,7 @@ use poly_text::PacLine;
 use std::alloc::Global;
 
 /// Lines that add the clauses whose marks are set.
-pub fn choose_lines(
+pub(crate) fn choose_lines(
     alloc: Global,
     marks: &[bool],
     clauses: &ClauseList,
@@ -30,7 +30,7 @@ pub fn choose_lines(
 }
 
 /// The lines of an algebra certificate whose marks are set.
-pub fn choose_pac(
+pub(crate) fn choose_pac(
     alloc: Global,
     marks: &[bool],
     lines: Vec<PacLine>,
@@ -48,17 +48,8 @@ pub fn choose_pac(
     Ok(kept)
 }
 
-fn push_pac_if(kept: &mut Vec<PacLine>, line: PacLine, is_kept: bool) -> Result<(), Memory>
-    ensures { OnOk result (kept.new.items ≡ kept.old.items ++ (if is_kept then line ∷ [] else [])) }
-{
-    if is_kept {
-        kept.push(line)?;
-    }
-    Ok(())
-}
-
 /// The numbers whose marks are set, each of which becomes its rank.
-pub fn choose_uses(
+pub(crate) fn choose_uses(
     alloc: Global,
     marks: &[bool],
     uses: &[Numbers],
@@ -78,7 +69,7 @@ pub fn choose_uses(
 }
 
 /// How many of the first marks are set, for each number from 0 on.
-pub fn ranks_of(alloc: Global, marks: &[bool]) -> Result<Vec<u64>, Memory>
+pub(crate) fn ranks_of(alloc: Global, marks: &[bool]) -> Result<Vec<u64>, Memory>
     ensures { IfOk result (λ ranks. AreRanks marks.now ranks.items) }
 {
     let mut ranks = Vec::new(alloc);
@@ -91,4 +82,13 @@ pub fn ranks_of(alloc: Global, marks: &[bool]) -> Result<Vec<u64>, Memory>
         ranks.push(rank)?;
     }
     Ok(ranks)
+}
+
+fn push_pac_if(kept: &mut Vec<PacLine>, line: PacLine, is_kept: bool) -> Result<(), Memory>
+    ensures { OnOk result (kept.new.items ≡ kept.old.items ++ (if is_kept then line ∷ [] else [])) }
+{
+    if is_kept {
+        kept.push(line)?;
+    }
+    Ok(())
 }

@@ -20,15 +20,6 @@ pub fn imported_numbers(alloc: Global, lines: &[PacLine]) -> Result<Vec<u64>, Me
     Ok(numbers)
 }
 
-fn import_of(line: &PacLine) -> Option<u64>
-    ensures { result ≡ import_in line.now }
-{
-    match line {
-        PacLine::Import { clause, .. } => Some(*clause),
-        _ => None,
-    }
-}
-
 /// Each line imports the clause with the new number of the one that it imported, which the ranks have.
 pub fn renumber(lines: &mut [PacLine], ranks: &[u64])
     requires { All (λ n. n < length ranks.now) (imports_in lines.old) }
@@ -36,6 +27,15 @@ pub fn renumber(lines: &mut [PacLine], ranks: &[u64])
 {
     for place in 0..lines.len() {
         renumber_line(&mut lines[place], ranks);
+    }
+}
+
+fn import_of(line: &PacLine) -> Option<u64>
+    ensures { result ≡ import_in line.now }
+{
+    match line {
+        PacLine::Import { clause, .. } => Some(*clause),
+        _ => None,
     }
 }
 

@@ -6,7 +6,7 @@ ghost use Rattle.trim_keeper.specs.Marking.{Closes, SetsMarks};
 use drup_checker::Numbers;
 
 /// Marks whatever the marked clauses use.
-pub fn close(marks: &mut [bool], uses: &[Numbers])
+pub(crate) fn close(marks: &mut [bool], uses: &[Numbers])
     requires long { length marks.old ≡ length uses.now }
     requires earlier { AreEarlier uses.now }
     ensures { Closes uses.now marks.old marks.new }
@@ -21,7 +21,7 @@ pub fn close(marks: &mut [bool], uses: &[Numbers])
 }
 
 /// Sets the marks of some numbers.
-pub fn set_all(marks: &mut [bool], numbers: &[u64])
+pub(crate) fn set_all(marks: &mut [bool], numbers: &[u64])
     requires { AreBelow (length marks.old) numbers.now }
     ensures { SetsMarks numbers.now marks.old marks.new }
 {

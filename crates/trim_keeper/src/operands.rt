@@ -9,7 +9,7 @@ use poly_text::PacLine;
 use std::alloc::Global;
 
 /// The ids of lines, in their order.
-pub fn ids_of(alloc: Global, lines: &[PacLine]) -> Result<Vec<u64>, Memory>
+pub(crate) fn ids_of(alloc: Global, lines: &[PacLine]) -> Result<Vec<u64>, Memory>
     ensures { IfOk result (λ ids. ids.items ≡ ids_in lines.now) }
 {
     let mut ids = Vec::new(alloc);
@@ -17,6 +17,34 @@ pub fn ids_of(alloc: Global, lines: &[PacLine]) -> Result<Vec<u64>, Memory>
         ids.push(id_of(line))?;
     }
     Ok(ids)
+}
+
+/// For each line the numbers, from 1, of those that it is made of.
+pub(crate) fn all_uses(
+    alloc: Global,
+    ids: &[u64],
+    lines: &[PacLine],
+) -> Result<Vec<Numbers>, Memory>
+    requires { AreRising ids.now }
+    ensures { IfOk result (λ uses. AreAllUses ids.now (map operands_in lines.now) uses.items) }
+{
+    let mut uses = Vec::new(alloc);
+    for line in lines {
+        uses.push(uses_of(alloc, ids, line)?)?;
+    }
+    Ok(uses)
+}
+
+/// The place of an id, if it is there.
+pub(crate) fn place_in(ids: &[u64], id: u64) -> Option<usize>
+    requires { AreRising ids.now }
+    ensures { MatchOption result ((p : ℕ) → p < length ids.now → slice_index ids.now p ≢ id)
+        (λ p. (p < length ids.now) × (slice_index ids.now p ≡ id)) }
+{
+    match ids.binary_search(&id) {
+        Ok(place) => Some(place),
+        Err(_) => None,
+    }
 }
 
 fn id_of(line: &PacLine) -> u64
@@ -30,18 +58,6 @@ fn id_of(line: &PacLine) -> u64
         PacLine::Drop { .. } => 0,
         PacLine::Close { .. } => 0,
     }
-}
-
-/// For each line the numbers, from 1, of those that it is made of.
-pub fn all_uses(alloc: Global, ids: &[u64], lines: &[PacLine]) -> Result<Vec<Numbers>, Memory>
-    requires { AreRising ids.now }
-    ensures { IfOk result (λ uses. AreAllUses ids.now (map operands_in lines.now) uses.items) }
-{
-    let mut uses = Vec::new(alloc);
-    for line in lines {
-        uses.push(uses_of(alloc, ids, line)?)?;
-    }
-    Ok(uses)
 }
 
 fn uses_of(alloc: Global, ids: &[u64], line: &PacLine) -> Result<Numbers, Memory>
@@ -83,16 +99,4 @@ fn uses_among(alloc: Global, ids: &[u64], operands: &[u64]) -> Result<Numbers, M
         }
     }
     Ok(Numbers::of(uses))
-}
-
-/// The place of an id, if it is there.
-pub fn place_in(ids: &[u64], id: u64) -> Option<usize>
-    requires { AreRising ids.now }
-    ensures { MatchOption result ((p : ℕ) → p < length ids.now → slice_index ids.now p ≢ id)
-        (λ p. (p < length ids.now) × (slice_index ids.now p ≡ id)) }
-{
-    match ids.binary_search(&id) {
-        Ok(place) => Some(place),
-        Err(_) => None,
-    }
 }

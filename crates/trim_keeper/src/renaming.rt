@@ -7,7 +7,7 @@ use graph_core::Memory;
 use std::alloc::Global;
 
 /// For each number the one that stands at it in a list.
-pub fn renamed(alloc: Global, numbers: &Numbers, ranks: &[u64]) -> Result<Numbers, Memory>
+pub(crate) fn renamed(alloc: Global, numbers: &Numbers, ranks: &[u64]) -> Result<Numbers, Memory>
     requires { All (λ n. n < length ranks.now) numbers.now }
     ensures { IfOk result (λ r. r ≡ map (slice_index ranks.now) numbers.now) }
 {

@@ -7,7 +7,7 @@ use clause_core::{Clause, ClauseList};
 use miter_encoder::Goal;
 
 /// Marks for each goal that isn't met the first clause that shows it.
-pub fn mark_roots(marks: &mut [bool], goals: &[Goal], clauses: &ClauseList)
+pub(crate) fn mark_roots(marks: &mut [bool], goals: &[Goal], clauses: &ClauseList)
     requires { length marks.old ≡ length clauses.now }
     ensures { MarksRoots (unmet goals.now) clauses.now marks.old marks.new }
 {

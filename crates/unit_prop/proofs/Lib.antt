@@ -14,4 +14,3 @@ pub mod Removing
 pub mod FoundSets
 pub mod Chains
 pub mod CallerLemmas
-pub mod RowLemmas

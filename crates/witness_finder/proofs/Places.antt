@@ -1,17 +1,14 @@
 -- Which literal stands at a position of the inputs.
-use Rattle.std.specs.Prelude.{◌≡◌, ◌≢◌, ℕ, zero, suc, ◌+◌, ◌-◌, ◌*◌, ◌/◌, ◌%◌, ◌<◌, ◌≤◌, Some, false, List, [], ◌∷◌, ◌++◌, length, get_or, slice_get}
+use Rattle.std.specs.Prelude.{◌≡◌, ◌≢◌, ℕ, zero, suc, ◌+◌, ◌-◌, ◌*◌, ◌/◌, ◌%◌, ◌≤◌, Some, List, [], ◌∷◌, ◌++◌, length, slice_get}
 use Rattle.std.proofs.Common.{ap, subst, ◌∙◌, arith, length-append}
-use Rattle.std.proofs.lemmas.List.{get_or-map, length-map}
-use Rattle.std.proofs.lemmas.Option.{none-some, get_or_from_slice_get, slice_get_within}
+use Rattle.std.proofs.lemmas.List.{length-map}
+use Rattle.std.proofs.lemmas.Option.{none-some}
 use Rattle.graph_core.specs.declared.Lit.{Lit}
 use Rattle.graph_core.specs.declared.Order.{Order}
 use Rattle.graph_core.specs.declared.order.Order.TheVariants.{Separate, Interleaved}
-use Rattle.graph_core.specs.Graph.Literals.{variable_of}
 use Rattle.graph_core.specs.Graph.Assignments.{literal}
 use Rattle.graph_core.specs.Graph.Operands.{Sides, AreSides, alternate, in_order, inputs_in}
-use Rattle.graph_core.proofs.OfGraphs.CallerLemmas.{literal-input}
 use Rattle.frontier_core.specs.Sets.{has}
-use Rattle.frontier_core.specs.LeastDifference.{AreInputs}
 use Rattle.frontier_core.proofs.CallerLemmas.{length-in_order}
 use Rattle.witness_finder.specs.Positions.{bits_at}
 
@@ -69,15 +66,6 @@ module _ (s : Sides) (i : ℕ) (l : Lit) where
   addend_at k sides place h =
       let same = sides.equal in
       at_back (in_order s.claim.order s.a s.b) s.c i k l (omega (arith, length-in_order s.claim.order s.a s.b)) h
-
--- The input at a position is true exactly if its variable is among the true ones.
-pub bit_is : (s : Sides) (vs : List ℕ) (i : ℕ) (l : Lit) → AreInputs (inputs_in s) → slice_get (inputs_in s) i ≡ Some l → get_or (bits_at s vs) i false ≡ has vs (variable_of l)
-bit_is s vs i l inputs is =
-    let ls = inputs_in s in
-    let low = slice_get_within ls i l is in
-    let here = get_or_from_slice_get ls i l l is in
-    get_or-map (literal (has vs)) ls i l false low ∙ ap (literal (has vs)) here ∙
-    literal-input (has vs) l (subst (λ x. (x.0 % 2 ≡ 0) × (0 < variable_of x)) here (inputs.even i l low))
 
 pub length-bits_at : (s : Sides) (vs : List ℕ) → length (bits_at s vs) ≡ length (inputs_in s)
 length-bits_at s vs = length-map (inputs_in s) (literal (has vs))

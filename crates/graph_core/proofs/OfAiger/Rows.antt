@@ -1,3 +1,4 @@
+-- Small graphs and their texts: what they spell, and what they are refused for.
 use Rattle.std.specs.Prelude.{◌≡◌, ℕ, ◌/◌, List, [], ◌∷◌, map}
 use Rattle.std.proofs.Common.{refl, arith}
 use Rattle.std.specs.Prelude.{◌++◌, ◌≤◌, length, codes}

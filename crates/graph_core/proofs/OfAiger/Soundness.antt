@@ -1,10 +1,10 @@
 -- A graph on whose evaluations the specification vanishes meets the claim.
-use Rattle.std.specs.Prelude.{ℕ, ◌≤◌, Bool, true, false, List}
+use Rattle.std.specs.Prelude.{ℕ, Bool, true, false, List}
 use Rattle.std.proofs.Common.{sym, subst, arith}
 use Rattle.graph_core.specs.declared.profile.Profile.{Profile}
 use Rattle.graph_core.specs.declared.profile.Profile.TheVariants.{Multiplier, MultiplyAdd, Any}
 use Rattle.graph_core.specs.Graph.{Aig, IsWellFormed}
-use Rattle.graph_core.specs.Graph.Operands.{HasMultiplierShape, HasSumShape, HasShapeFor, profile_of, sides_of, width_for}
+use Rattle.graph_core.specs.Graph.Operands.{HasMultiplierShape, HasSumShape, HasShapeFor, profile_of, sides_of}
 use Rattle.graph_core.specs.Graph.Extended.{without_cut}
 use Rattle.graph_core.specs.Aiger.{Listing, HasCounts, Spells, graph_of}
 use Rattle.graph_core.specs.Aiger.Soundness.{IsSizedAs, SpelledShape, VanishingMeetsClaim, VanishingMultiplies}
@@ -50,16 +50,3 @@ spelled_shape p bytes g spells = subst (IsSizedAs p) (sym spells.3) (sized p spe
 pub shape_for : (add : Bool) (g : Aig) → IsSizedAs (profile_of add) g → HasShapeFor add g
 shape_for false g sized = sized.shape
 shape_for true g sized = sized.shape
-
--- and so is the width
-pub narrow_for : (add : Bool) (g : Aig) → IsSizedAs (profile_of add) g → width_for add g ≤ 64
-narrow_for false g sized = sized.narrow
-narrow_for true g sized = sized.narrow
-
-pub some_for : (add : Bool) (g : Aig) → IsSizedAs (profile_of add) g → 1 ≤ width_for add g
-some_for false g sized = sized.some
-some_for true g sized = sized.some
-
-pub small_for : (add : Bool) (g : Aig) → IsSizedAs (profile_of add) g → g.max ≤ 4194303
-small_for false g sized = sized.small
-small_for true g sized = sized.small

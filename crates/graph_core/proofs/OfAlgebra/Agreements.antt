@@ -109,9 +109,6 @@ agree_trans l k j a b = record {
   imports = imports_trans l.imports k.imports j.imports a.imports b.imports;
 }
 
-pub lines_trans : (xs ys zs : List LiveLine) → AreSameLines xs ys → AreSameLines ys zs → AreSameLines xs zs
-lines_trans xs ys zs a b = λ id. same_trans (line_of xs id) (line_of ys id) (line_of zs id) (a id) (b id)
-
 -- ---- what a line says of them
 
 pub value_same : (xs ys : List LiveLine) → AreSameLines xs ys → (id : ℕ) (σ : Assignment) → value_of xs id σ ≡ value_of ys id σ

@@ -1,5 +1,5 @@
 -- What crates above may cite of polynomials, of ledgers and of algebra certificates.
-pub use Rattle.graph_core.proofs.OfAlgebra.Agreements.{after_agrees, agree_refl, agree_sym, agree_trans, closes_agrees, imports_refl, introduce_agrees, lawful_agrees, line_of-deleted, lines_trans, live_agrees, missing_same, refused_agrees, refused_close_agrees, refused_close_in_range_agrees, refused_in_range_agrees, same_of, same_refl, same_sym, same_trans, value_same}
+pub use Rattle.graph_core.proofs.OfAlgebra.Agreements.{after_agrees, agree_refl, agree_sym, agree_trans, closes_agrees, imports_refl, introduce_agrees, lawful_agrees, line_of-deleted, live_agrees, missing_same, refused_agrees, refused_close_agrees, refused_close_in_range_agrees, refused_in_range_agrees, same_of, same_refl, same_sym, same_trans, value_same}
 pub use Rattle.graph_core.proofs.OfAlgebra.FirstRefusals.{algebra_is_exact}
 pub use Rattle.graph_core.proofs.OfAlgebra.LikeLines.{likeness_is_kept, same_ids}
 pub use Rattle.graph_core.proofs.OfAlgebra.NormalFormSizes.{normal_form, normal_form_exists, plain_value, size_is_one}

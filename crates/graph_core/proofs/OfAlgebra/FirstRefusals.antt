@@ -1,5 +1,5 @@
 -- An algebra certificate is lawful, or it has one first refusal.
-use Rattle.std.specs.Prelude.{◌≡◌, ◌≢◌, ℕ, zero, suc, ◌+◌, ◌%◌, ◌^◌, ◌⊎◌, true, not, cond, is_some, List, [], ◌∷◌, ◌++◌, length, codes, IsSome}
+use Rattle.std.specs.Prelude.{◌≡◌, ◌≢◌, ℕ, ◌+◌, ◌%◌, ◌^◌, ◌⊎◌, true, not, cond, is_some, List, [], ◌∷◌, ◌++◌, length, codes, IsSome}
 use Rattle.std.specs.declared.option.Option.{Option}
 use Rattle.std.specs.declared.option.Option.TheVariants.{None, Some}
 use Rattle.std.specs.List.{All, AllByRecursion}
@@ -17,7 +17,7 @@ use Rattle.graph_core.specs.Graph.Extended.{Extended}
 use Rattle.graph_core.specs.Algebra.Polynomials.{Polynomial, value}
 use Rattle.graph_core.specs.Algebra.{Line, Sum, Product, Combination, Import, Delete, LiveLine, Ledger, Premises, IsNewId, IsLive, IsThere, IsEqual, IsLawfulLine, AreLawfulLines, stated, named, imported, import_of, line_of, operands, after, after_all, beginning, modulus, value_of, specification, Closes}
 use Rattle.graph_core.specs.Algebra.Text.{IsLineText, IsCloseText, AreLineTexts, IsLineInRange, IsInRange, IsId, IsLawfulAlgebraFile, algebra_header, first_line}
-use Rattle.graph_core.specs.Algebra.Refusal.{AlgebraCause, TooLong, Text, Range, Id, NoSuchLine, NoSuchClause, NotEqual, NotSpecification, first_missing, IsUnequal, IsRefusedValue, IsRefusedRule, IsRefusedLine, IsRefusedClose, IsAlgebraStep, IsRefusedEnd, IsRefusedText, IsRefusedNext, IsRefusedBody, AlgebraIsExact}
+use Rattle.graph_core.specs.Algebra.Refusal.{AlgebraCause, TooLong, Text, Range, Id, NoSuchLine, NoSuchClause, NotEqual, NotSpecification, first_missing, IsUnequal, IsRefusedValue, IsRefusedRule, IsRefusedLine, IsRefusedClose, IsAlgebraStep, IsRefusedEnd, IsRefusedText, IsRefusedNext, AlgebraIsExact}
 use Rattle.graph_core.proofs.OfGraphs.Decided.{Decided, decided_and, decided_lt, decided_le, decided_all}
 use Rattle.graph_core.proofs.OfGraphs.Support.{IsBounded, same_or_apart, bound_value, bound_named, bound_of, bound_value_of, bound_specification, after-bounded, beginning-bounded}
 use Rattle.graph_core.proofs.OfTexts.TextReaders.{reads_ended, one_longer}

@@ -4,10 +4,10 @@ use Rattle.std.specs.declared.option.Option.{Option}
 use Rattle.std.specs.declared.option.Option.TheVariants.{None, Some}
 use Rattle.std.specs.List.{filter}
 use Rattle.std.proofs.Common.{refl, sym, ap, ◌∙◌, arith, eq-eqb, eqb-true}
-use Rattle.std.proofs.lemmas.List.Elements.{All-from_recursion, recursion_from_All}
-use Rattle.graph_core.specs.Algebra.{LiveLine, line_of, after, after_all, beginning, modulus}
-use Rattle.graph_core.specs.Algebra.Ledgers.{LedgerIsMap, LinesKeepZero, LiveLinesVanish}
-use Rattle.graph_core.proofs.OfAlgebra.Sound.{after-vanish, after_all-vanish, axioms-vanish, met-zero}
+use Rattle.std.proofs.lemmas.List.Elements.{All-from_recursion}
+use Rattle.graph_core.specs.Algebra.{LiveLine, line_of, after_all, beginning, modulus}
+use Rattle.graph_core.specs.Algebra.Ledgers.{LedgerIsMap, LiveLinesVanish}
+use Rattle.graph_core.proofs.OfAlgebra.Sound.{after_all-vanish, axioms-vanish, met-zero}
 
 dropped : (id : ℕ) (live : List LiveLine) (k : ℕ) → line_of (filter (λ x. not (x.id == id)) live) k ≡ cond (id == k) None (line_of live k)
 dropped id [] k = nothing (id == k)
@@ -28,9 +28,6 @@ dropped id (l ∷ live) k = go (l.id == id) refl (l.id == k) refl (id == k) refl
 
 pub ledger_is_map : LedgerIsMap
 ledger_is_map = (λ m l id p k. refl, λ m l id k. dropped id l.live k)
-
-pub lines_keep_zero : LinesKeepZero
-lines_keep_zero m l x σ w z h = All-from_recursion (λ y. y.value σ ≡ 0) (after m l x).live (after-vanish m σ l x w (recursion_from_All (λ f. f σ ≡ 0) l.imports z) (recursion_from_All (λ y. y.value σ ≡ 0) l.live h))
 
 pub live_lines_vanish : LiveLinesVanish
 live_lines_vanish p lines σ w h met =

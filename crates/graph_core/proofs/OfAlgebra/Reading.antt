@@ -12,7 +12,7 @@ use Rattle.graph_core.specs.Text.Readers.{Reader, Reads, behind_at, ended_at, th
 use Rattle.graph_core.specs.Algebra.Polynomials.{Term, Polynomial}
 use Rattle.graph_core.specs.Algebra.{Line, Sum, Product, Combination, Import, Delete, Part}
 use Rattle.graph_core.specs.Algebra.Text.{AreFactors, IsTerm, AreTerms, IsPolynomial, IsPart, AreParts, IsLineText, IsCloseText, AreLineTexts, IsAlgebraText, algebra_header, first_line, sign_of}
-use Rattle.graph_core.specs.Algebra.Reading.{is_star, is_minus, is_sign, is_space, factors_at, coefficient_at, product_at, term_at, first_term_at, signed_term_at, poly_at, part_at, parts_at, sum_at, multiple_at, combination_at, import_at, drop_at, second_at, algebra_line_at, close_at, at_end, algebra_at, EndsPolynomial, PolynomialIsRead, AlgebraLineIsRead, CloseIsRead, AlgebraIsRead}
+use Rattle.graph_core.specs.Algebra.Reading.{is_star, is_minus, is_sign, is_space, factors_at, coefficient_at, product_at, term_at, first_term_at, signed_term_at, poly_at, part_at, parts_at, sum_at, multiple_at, combination_at, import_at, drop_at, second_at, algebra_line_at, close_at, at_end, algebra_at, EndsPolynomial, AlgebraLineIsRead, CloseIsRead, AlgebraIsRead}
 use Rattle.graph_core.proofs.OfTexts.NumeralReading.{is_digit_of}
 use Rattle.graph_core.proofs.OfTexts.TextReaders.{reads_number, reads_as, reads_map, reads_behind, reads_ended, reads_then, reads_text, reads_bind, reads_choice, reads_many, many_next, OtherOf, one_longer}
 
@@ -181,10 +181,6 @@ terms_back : (bytes : List ℕ) (ts : List Term) → AreTerms bytes ts → AreMa
 terms_back bytes [] h = h
 terms_back bytes (t ∷ ts) h = (sign_of t.negative ++ h.0, h.1, (h.0, h.2, refl), terms_back h.1 ts h.3, h.4)
 
-abbrev IsFirstAndMore : List ℕ → Polynomial → Type 0
-IsFirstAndMore bytes [] = ⊥
-IsFirstAndMore bytes (t ∷ ts) = Then IsFirst (AreMany HasSign) bytes (t, ts)
-
 poly_there : (bytes : List ℕ) (t : Term) (ts : List Term) → Then IsFirst (AreMany HasSign) bytes (t, ts) → IsPolynomial bytes (t ∷ ts)
 poly_there bytes t ts h = ⊎_elim minus plus h.2
   where
@@ -220,9 +216,6 @@ reads_poly =
     back : (bytes : List ℕ) (p : Polynomial) → IsPolynomial bytes p → (x : Term × List Term) × Then IsFirst (AreMany HasSign) bytes x × (x.0 ∷ x.1 ≡ p)
     back bytes [] h = absurd h
     back bytes (t ∷ ts) h = ((t, ts), poly_back bytes t ts h, refl)
-
-pub polynomial_is_read : PolynomialIsRead
-polynomial_is_read = (reads_poly.takes, reads_poly.again)
 
 -- ---- lines
 

@@ -1,13 +1,13 @@
 -- Premises that say the same have the same lawful files and the same refusals.
-use Rattle.std.proofs.Common.{◌≡◌, ℕ, zero, suc, ◌+◌, List, [], ◌∷◌, length, refl, sym, ap, subst, ◌∙◌, inl, inr}
+use Rattle.std.proofs.Common.{◌≡◌, ℕ, zero, suc, List, [], ◌∷◌, refl, sym, ap, subst, ◌∙◌, inl, inr}
 use Rattle.std.specs.Prelude.{IsSome}
 use Rattle.graph_core.specs.Graph.Assignments.{Assignment}
 use Rattle.graph_core.specs.Graph.Extended.{Extended}
 use Rattle.graph_core.specs.Graph.Operands.{Sides}
 use Rattle.graph_core.specs.Text.JudgedLines.{Behind, Lengths}
-use Rattle.graph_core.specs.Algebra.{Line, Sum, Product, Combination, Import, Delete, Ledger, Premises, AreLawfulLines, Closes, IsLawfulLine, IsThere, after, after_all, beginning, import_of, modulus}
+use Rattle.graph_core.specs.Algebra.{Line, Sum, Product, Combination, Import, Delete, Ledger, Premises, AreLawfulLines, Closes, IsLawfulLine, after, after_all, beginning, import_of, modulus}
 use Rattle.graph_core.specs.Algebra.Text.{IsLawfulAlgebraFile, IsLineText}
-use Rattle.graph_core.specs.Algebra.Refusal.{AlgebraCause, IsAlgebraRefusal, IsAlgebraStep, IsRefusedBody, IsRefusedNext, IsRefusedText}
+use Rattle.graph_core.specs.Algebra.Refusal.{AlgebraCause, IsAlgebraRefusal, IsAlgebraStep, IsRefusedNext, IsRefusedText}
 use Rattle.graph_core.specs.Algebra.Agreement.{Agree, AreSameImports, AreSamePremises, PremisesAreKept}
 use Rattle.graph_core.proofs.OfAlgebra.Agreements.{after_agrees, agree_refl, closes_agrees, lawful_agrees, refused_agrees, refused_close_agrees}
 

@@ -1,24 +1,21 @@
 -- Each line of a lawful algebra certificate vanishes on every evaluation.
-use Rattle.std.specs.Prelude.{◌≡◌, ℕ, zero, suc, ◌+◌, ◌*◌, ◌%◌, ◌^◌, ◌<◌, Bool, true, false, not, cond, ◌&&◌, List, [], ◌∷◌, ◌++◌, map, length, ◌==◌}
+use Rattle.std.specs.Prelude.{◌≡◌, ℕ, zero, suc, ◌*◌, ◌%◌, ◌<◌, Bool, true, false, not, cond, ◌&&◌, List, [], ◌∷◌, ◌++◌, map, length, ◌==◌}
 use Rattle.std.specs.declared.option.Option.TheVariants.{Some}
 use Rattle.std.specs.List.{AllByRecursion, filter}
-use Rattle.std.proofs.Common.{refl, sym, ap, ◌∙◌, arith, mod-eq_of_lt}
+use Rattle.std.proofs.Common.{refl, sym, ap, ◌∙◌, arith}
 use Rattle.std.proofs.Math.Nat.{zero-mod, zero-mul}
 use Rattle.std.proofs.lemmas.List.Elements.{All-from_recursion, recursion_from_All}
 use Rattle.graph_core.specs.declared.gate.Gate.{Gate}
-use Rattle.graph_core.specs.declared.order.Order.{Order}
 use Rattle.graph_core.specs.Graph.Assignments.{Assignment, variable, literal, bit}
 use Rattle.graph_core.specs.Graph.{IsEvaluation}
 use Rattle.graph_core.specs.Algebra.Polynomials.{value, difference}
 use Rattle.graph_core.specs.Graph.Extended.{Extended, Column}
 use Rattle.graph_core.specs.Algebra.{LiveLine, Part, Line, Sum, Product, Combination, Import, Delete, Ledger, Premises, import_of, import_or_zero, value_of, value_or_zero, line_of, combined, IsLawfulLine, AreLawfulLines, after, after_all, gate_axiom, AreLawful, AreMet, modulus, axioms, beginning, column_axiom, specification}
-use Rattle.std.proofs.Common.{take, drop, subst, take-append-drop, length-append}
-use Rattle.std.proofs.lemmas.Nat.{pow_pos, mul-lt, pow-add}
-use Rattle.graph_core.specs.declared.order.Order.TheVariants.{Separate, Interleaved}
+use Rattle.std.proofs.lemmas.Nat.{pow_pos}
 use Rattle.graph_core.specs.Graph.Assignments.{word}
-use Rattle.graph_core.specs.Graph.Operands.{HasMultiplierShape, Sides, sides_of, claimed, width, a_bits, b_bits}
-use Rattle.graph_core.specs.Algebra.{AgreeOnColumns, AlgebraIsSound, AxiomsVanish, VanishingMeansClaim, VanishingMeansProduct}
-use Rattle.graph_core.proofs.OfGraphs.Words.{word_below, length-evens-odds}
+use Rattle.graph_core.specs.Graph.Operands.{Sides, claimed}
+use Rattle.graph_core.specs.Algebra.{AgreeOnColumns, AlgebraIsSound, AxiomsVanish, VanishingMeansClaim}
+use Rattle.graph_core.proofs.OfGraphs.Words.{word_below}
 use Rattle.graph_core.proofs.OfGraphs.Residues.{claim_from_difference, difference_same}
 
 -- every live line is 0 at the assignment
@@ -114,24 +111,8 @@ pub specification-zero : (p : Premises) (s : Sides) (σ : Assignment) (lines : L
 specification-zero p s σ lines closing h z v =
     sym (h.1.1 σ) ∙ value_of-zero σ (after_all (modulus p.extended) (beginning p) lines).live closing (after_all-vanish (modulus p.extended) σ (beginning p) lines h.0 z v)
 
-operands_below : (order : Order) (e : Extended) (σ : Assignment) → HasMultiplierShape e.graph → word σ (a_bits order e.graph) * word σ (b_bits order e.graph) < 2 ^ (2 * width e.graph)
-operands_below order e σ shape =
-    let a = word_below σ (a_bits order e.graph) in
-    let b = word_below σ (b_bits order e.graph) in
-    let ab : word σ (a_bits order e.graph) * word σ (b_bits order e.graph) < 2 ^ length (a_bits order e.graph) * 2 ^ length (b_bits order e.graph) = mul-lt _ _ _ _ a b in
-    subst (λ z. word σ (a_bits order e.graph) * word σ (b_bits order e.graph) < z) (sym (pow-add 2 (length (a_bits order e.graph)) (length (b_bits order e.graph))) ∙ ap (λ k. 2 ^ k) (lengths order)) ab
-  where
-    lengths : (o : Order) → length (a_bits o e.graph) + length (b_bits o e.graph) ≡ 2 * width e.graph
-    lengths Separate = sym (length-append (take (width e.graph) e.graph.inputs) (drop (width e.graph) e.graph.inputs)) ∙ ap length (take-append-drop (width e.graph) e.graph.inputs) ∙ shape.inputs
-    lengths Interleaved = length-evens-odds e.graph.inputs ∙ shape.inputs
-
 pub vanishing_means_claim : VanishingMeansClaim
 vanishing_means_claim e s σ zero_there = claim_from_difference (modulus e) (word σ e.graph.outputs) (claimed (modulus e) s σ) (word_below σ e.graph.outputs) zero_there
-
-pub vanishing_means_product : VanishingMeansProduct
-vanishing_means_product e order σ shape full zero_there =
-    vanishing_means_claim e (sides_of order e.graph) σ zero_there ∙
-    mod-eq_of_lt (subst (λ k. word σ (a_bits order e.graph) * word σ (b_bits order e.graph) < 2 ^ k) (sym full) (operands_below order e σ shape))
 
 pub axioms_vanish : AxiomsVanish
 axioms_vanish e σ evaluates agree = All-from_recursion (λ l. l.value σ ≡ 0) (axioms e).live (axioms-vanish e σ evaluates agree)

@@ -9,7 +9,7 @@ pub use Rattle.graph_core.proofs.OfGraphs.FullAdders.{full_adder}
 pub use Rattle.graph_core.proofs.OfGraphs.Gates.{never_wrong}
 pub use Rattle.graph_core.proofs.OfGraphs.Levels.{acyclic_levels, level_inverted, one_level}
 pub use Rattle.graph_core.proofs.OfGraphs.Lists.{all_join, all_split, all_weaker, any_back, any_cases, any_front, any_here, any_nil, any_there}
-pub use Rattle.graph_core.proofs.OfGraphs.LiteralValues.{literal-even, literal-false, literal-inverted, literal-negated, literal-odd, literal-plain, literal-true, variable_of-negated}
+pub use Rattle.graph_core.proofs.OfGraphs.LiteralValues.{literal-even, literal-inverted, literal-negated, literal-odd, literal-plain, variable_of-negated}
 pub use Rattle.graph_core.proofs.OfGraphs.Multiplies.{Apart, a_is, apart_from_pairs, b_is, claim_is, claim_is_product, evaluations_suffice, gates_distinct, inputs_have, length-inputs_of, lits_apart, rest_apart, sides_are_inputs, sides_read_inputs, take-length-append, whole_products}
 pub use Rattle.graph_core.proofs.OfGraphs.OperandBits.{DistinctLits, IsInput, evens-alternate, inputs_are, length-alternate, length-bits_of, literal-input, number_of, number_of-bits_of, odds-alternate, word_is}
 pub use Rattle.graph_core.proofs.OfGraphs.OperandPlaces.{a_bits_are, a_part_at, a_place_low, b_bits_are, b_part_at, b_place_low, bit_low, bits_of-number_of, byte_is_bit, length-a_part, length-b_part, number_of-low, parts_are}
@@ -20,8 +20,8 @@ pub use Rattle.graph_core.proofs.OfGraphs.WellFormedGates.{distinct_gates, gate_
 pub use Rattle.graph_core.proofs.OfGraphs.ValueSteps.{outputs_below, word_fits, word_step}
 pub use Rattle.graph_core.proofs.OfGraphs.Words.{word_below}
 pub use Rattle.graph_core.proofs.OfGraphs.WrittenValues.{all_gates_written, all_inputs_written, constant_written, input_written, inputs_apart, inputs_written, next_written}
-use Rattle.std.specs.Prelude.{◌≡◌, ℕ, ◌+◌, ◌*◌, ◌&&◌, slice_index_or, Bool, true, false, List, [], ◌∷◌, map, length}
-use Rattle.std.proofs.Common.{refl, sym, ap, ap₂, ◌∙◌, subst, arith, take}
+use Rattle.std.specs.Prelude.{◌≡◌, ℕ, ◌+◌, ◌*◌, Bool, true, false, List, [], ◌∷◌, length}
+use Rattle.std.proofs.Common.{refl, sym, ap, ap₂, ◌∙◌, arith, take}
 use Rattle.std.proofs.lemmas.List.{length-take}
 use Rattle.graph_core.specs.declared.literal.Lit.{Lit}
 use Rattle.graph_core.specs.declared.gate.Gate.{Gate}
@@ -29,10 +29,10 @@ use Rattle.graph_core.specs.declared.order.Order.{Order}
 use Rattle.graph_core.specs.Graph.Literals.{variable_of}
 use Rattle.graph_core.specs.Graph.Assignments.{literal, bit, word, listed, Assignment}
 use Rattle.graph_core.specs.Graph.{Aig, IsWellFormed, IsEvaluation, IsLevel, IsGateOf, AreValues, evaluated, IsDefinedOnce, IsAcyclic}
-use Rattle.graph_core.specs.Graph.Operands.{Sides, AreOperandsOf, HasMultiplierShape, HasShapeFor, width, sum_width, width_for, inputs_of, value_on, sides_for, ReadInputs, a_bits, b_bits, a_literals, b_literals, MultipliesWhole}
-use Rattle.graph_core.proofs.OfGraphs.Evaluation.{literal_same, variable_same}
+use Rattle.graph_core.specs.Graph.Operands.{Sides, AreOperandsOf, HasMultiplierShape, HasShapeFor, width, sum_width, width_for, inputs_of, a_bits, b_bits, a_literals, b_literals, MultipliesWhole}
+use Rattle.graph_core.proofs.OfGraphs.Evaluation.{literal_same}
 use Rattle.graph_core.proofs.OfGraphs.Levels.{contains_in, distinct_from, distinct_same, one_level}
-use Rattle.graph_core.proofs.OfGraphs.Multiplies.{evaluated_is, inputs_have, sides_read_inputs, claim_is}
+use Rattle.graph_core.proofs.OfGraphs.Multiplies.{evaluated_is, claim_is}
 use Rattle.graph_core.proofs.OfGraphs.OperandPlaces.{a_bits_are, b_bits_are, length-a_part, length-b_part}
 
 -- ---- values
@@ -43,25 +43,6 @@ literal_is g bits values h l = literal_same (listed values) (evaluated g bits) l
 pub word_is_evaluated : (g : Aig) (bits values : List Bool) → AreValues g bits values → (ls : List Lit) → word (listed values) ls ≡ word (evaluated g bits) ls
 word_is_evaluated g bits values h [] = refl
 word_is_evaluated g bits values h (l ∷ ls) = ap₂ (λ b n. bit b + 2 * n) (literal_is g bits values h l) (word_is_evaluated g bits values h ls)
-
--- Written values are an evaluation.
-pub values_evaluate : (g : Aig) (bits values : List Bool) → IsWellFormed g → AreValues g bits values → IsEvaluation g.gates (listed values)
-values_evaluate g bits values well h k d below =
-    let x : Gate = slice_index_or g.gates k d in
-    variable_same (listed values) (evaluated g bits) x.v (h x.v) ∙ evaluated_is g bits well.defined_once well.acyclic k d below ∙
-    ap₂ ◌&&◌ (sym (literal_is g bits values h x.left)) (sym (literal_is g bits values h x.right))
-
--- The inputs have the values that were given.
-pub inputs_are_given : (g : Aig) (bits values : List Bool) → IsWellFormed g → length bits ≡ length g.inputs → AreValues g bits values → map (literal (listed values)) g.inputs ≡ bits
-inputs_are_given g bits values well same h = each g.inputs ∙ inputs_have g bits well.defined_once (sym same)
-  where
-    each : (ls : List Lit) → map (literal (listed values)) ls ≡ map (literal (evaluated g bits)) ls
-    each [] = refl
-    each (l ∷ ls) = ap₂ ◌∷◌ (literal_is g bits values h l) (each ls)
-
--- The outputs' word is the graph's value on the pair whose bits the inputs are.
-pub outputs_are_value : (g : Aig) (order : Order) (bits values : List Bool) (a b : ℕ) → AreValues g bits values → bits ≡ inputs_of order (width g) a b → word (listed values) g.outputs ≡ value_on g order a b
-outputs_are_value g order bits values a b h pair = word_is_evaluated g bits values h g.outputs ∙ ap (λ inputs. word (evaluated g inputs) g.outputs) pair
 
 -- ---- gates and levels
 
@@ -89,10 +70,6 @@ length-operands g s shape h = (ap (λ z. length z.a) h ∙ (go s.claim.add s.cla
         let front : length (take (2 * sum_width g) g.inputs) ≡ 2 * sum_width g =
         let h = shape.inputs in omega (arith, length-take (2 * sum_width g) g.inputs) in
         (length-a_part order (sum_width g) (take (2 * sum_width g) g.inputs) front, length-b_part order (sum_width g) (take (2 * sum_width g) g.inputs) front)
-
--- Each literal of operands is an input.
-pub operands_read_inputs : (g : Aig) (s : Sides) → AreOperandsOf g s → ReadInputs g s
-operands_read_inputs g s h = subst (ReadInputs g) (sym h) (sides_read_inputs g s.claim)
 
 -- A product on each evaluation is the product of all operands, as whole numbers.
 pub whole_from_evaluations : (g : Aig) (order : Order) → HasMultiplierShape g → IsDefinedOnce g → IsAcyclic g.gates →

@@ -1,6 +1,6 @@
 -- A graph meets any claim exactly where it does what is claimed on all numbers.
-use Rattle.std.specs.Prelude.{◌≡◌, ℕ, ◌+◌, ◌*◌, ◌/◌, ◌%◌, ◌^◌, ◌<◌, Bool, true, false, List, [], ◌∷◌, ◌++◌, map, length, take, drop}
-use Rattle.std.proofs.Common.{refl, sym, ap, ap₂, subst, ◌∙◌, arith, length-append, length-drop, take-append-drop}
+use Rattle.std.specs.Prelude.{◌≡◌, ℕ, ◌+◌, ◌*◌, ◌%◌, ◌^◌, ◌<◌, Bool, true, false, List, ◌++◌, map, length, take, drop}
+use Rattle.std.proofs.Common.{sym, ap, ap₂, subst, ◌∙◌, arith, length-append, length-drop, take-append-drop}
 use Rattle.std.proofs.lemmas.List.{length-take}
 use Rattle.std.proofs.lemmas.Nat.{pow_pos}
 use Rattle.graph_core.specs.declared.literal.Lit.{Lit}
@@ -9,7 +9,7 @@ use Rattle.graph_core.specs.declared.order.Order.TheVariants.{Separate, Interlea
 use Rattle.graph_core.specs.declared.sign.Sign.{Sign}
 use Rattle.graph_core.specs.Graph.Assignments.{Assignment, literal, word}
 use Rattle.graph_core.specs.Graph.{Aig, IsDefinedOnce, evaluated}
-use Rattle.graph_core.specs.Graph.Operands.{Sides, HasMultiplierShape, HasSumShape, width, sum_width, a_bits, b_bits, a_part, b_part, bits_of, inputs_of, sides_for, multiplying, adding, claimed, operand_word, plus_word, output_modulus, value_at_inputs, MeetsClaim, number_as, product_as, MultipliesAs, MultipliesAndAdds, HasShapeFor, DoesAs, ClaimIsDone}
+use Rattle.graph_core.specs.Graph.Operands.{HasMultiplierShape, HasSumShape, width, sum_width, a_bits, b_bits, a_part, b_part, bits_of, inputs_of, sides_for, multiplying, adding, claimed, operand_word, output_modulus, value_at_inputs, MeetsClaim, number_as, product_as, MultipliesAs, MultipliesAndAdds, HasShapeFor, DoesAs, ClaimIsDone}
 use Rattle.graph_core.proofs.OfGraphs.Congruence.{sum_same, product_same}
 use Rattle.graph_core.proofs.OfGraphs.Multiplies.{inputs_have, length-inputs_of, take-length-append, drop-length-append, a_is, b_is}
 use Rattle.graph_core.proofs.OfGraphs.OperandBits.{number_of, number_of-bits_of, word_is, length-bits_of, evens-alternate, odds-alternate, map-evens, map-odds, map-take, map-drop}

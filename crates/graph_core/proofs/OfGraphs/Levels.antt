@@ -7,7 +7,7 @@ use Rattle.std.proofs.lemmas.List.Elements.{All-from_recursion, recursion_from_A
 use Rattle.graph_core.specs.declared.gate.Gate.{Gate}
 use Rattle.graph_core.specs.Graph.Literals.{variable_of}
 use Rattle.graph_core.specs.Graph.{IsFree, IsLevel, free, above, IsOrder, IsAcyclic}
-use Rattle.graph_core.specs.Aiger.Refusal.{is_free, levelled, HasLevel, LevelsMeanAcyclic, OneLevel}
+use Rattle.graph_core.specs.Aiger.Refusal.{is_free, levelled, HasLevel, OneLevel}
 use Rattle.graph_core.proofs.OfGraphs.Evaluation.{Distinct}
 
 -- ---- tests
@@ -340,9 +340,6 @@ module _ (gates : List Gate) (number : ℕ → ℕ) (order : IsOrder gates numbe
 
 pub acyclic_levels : (gates : List Gate) → IsAcyclic gates → (v : ℕ) → HasLevel gates v
 acyclic_levels gates h v = order_levels gates h.0 h.1 (suc (h.0 v)) v (omega arith)
-
-pub levels_mean_acyclic : LevelsMeanAcyclic
-levels_mean_acyclic gates apart = (levels_order gates (distinct_from gates apart), acyclic_levels gates)
 
 -- ---- one level
 

@@ -4,7 +4,7 @@ use Rattle.std.proofs.Common.{refl, sym, ap, ◌∙◌, arith, eqb-true, eq-eqb,
 use Rattle.std.proofs.lemmas.Bool.{eqb-false}
 use Rattle.std.proofs.Math.Bool.{not-not}
 use Rattle.graph_core.specs.declared.literal.Lit.{Lit}
-use Rattle.graph_core.specs.Graph.Literals.{variable_of, negation_of, plain, inverted, constant_false, constant_true}
+use Rattle.graph_core.specs.Graph.Literals.{variable_of, negation_of, plain, inverted}
 use Rattle.graph_core.specs.Graph.Assignments.{Assignment, variable, literal}
 
 pub literal-even : (σ : Assignment) (l : Lit) (v : ℕ) → l.0 ≡ 2 * v → literal σ l ≡ variable σ v
@@ -25,12 +25,6 @@ literal-plain σ v = literal-even σ (plain v) v refl
 
 pub literal-inverted : (σ : Assignment) (v : ℕ) → literal σ (inverted v) ≡ not (variable σ v)
 literal-inverted σ v = literal-odd σ (inverted v) v refl
-
-pub literal-false : (σ : Assignment) → literal σ constant_false ≡ false
-literal-false σ = refl
-
-pub literal-true : (σ : Assignment) → literal σ constant_true ≡ true
-literal-true σ = refl
 
 pub literal-negated : (σ : Assignment) (l : Lit) → literal σ (negation_of l) ≡ not (literal σ l)
 literal-negated σ l = go (l.0 % 2 == 0) refl

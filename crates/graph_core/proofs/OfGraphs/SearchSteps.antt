@@ -3,7 +3,7 @@ use Rattle.std.specs.Prelude.{◌≡◌, ℕ, ◌+◌, ◌*◌, ◌<◌, ◌≤�
 use Rattle.std.specs.List.{All, find, flat_map, list_any}
 use Rattle.std.proofs.Common.{refl, sym, ap, ap₂, subst, ◌∙◌, arith, ⊎_elim, eq-eqb, ne_eqb}
 use Rattle.std.proofs.lemmas.Bool.{cases_eq, ltb-false}
-use Rattle.std.proofs.lemmas.List.{take_more, drop_more, take_all, drop_all}
+use Rattle.std.proofs.lemmas.List.{take_more, drop_more, drop_all}
 use Rattle.std.proofs.lemmas.List.Elements.{All-from_recursion}
 use Rattle.std.proofs.lemmas.List.Folds.{find-append, list_any-append}
 use Rattle.std.specs.Option.{option_or}
@@ -33,9 +33,6 @@ module _ (p : Lit → Bool) (f : Lit × Lit × Lit → List Lit) (ts : List (Lit
   pub find_in_block : (l : Lit) → find p (f (get_or ts i d)) ≡ Some l → find p (flat_map f (drop i ts)) ≡ Some l
   find_in_block l e = ap (find p) split ∙ find_front p (f (get_or ts i d)) (flat_map f (drop (i + 1) ts)) l e
 
-  pub find_behind_block : find p (f (get_or ts i d)) ≡ None → find p (flat_map f (drop i ts)) ≡ find p (flat_map f (drop (i + 1) ts))
-  find_behind_block e = ap (find p) split ∙ find_behind p (f (get_or ts i d)) (flat_map f (drop (i + 1) ts)) e
-
 pub find_no_block : (p : Lit → Bool) (f : Lit × Lit × Lit → List Lit) (ts : List (Lit × Lit × Lit)) (i : ℕ) → length ts ≤ i → find p (flat_map f (drop i ts)) ≡ None
 find_no_block p f ts i all = ap (λ xs. find p (flat_map f xs)) (drop_all i ts all)
 
@@ -47,9 +44,6 @@ pub record Looked (vs : List ℕ) (i : ℕ) (marks : List Bool) : Type 0 where
   pub marked : AreMarks seen marks
   pub same : (v : ℕ) → list_any (λ w. w == v) seen ≡ list_any (λ w. w == v) (take i vs)
   pub rest : first_repeated seen (drop i vs) ≡ first_repeated [] vs
-
-pub not_looked : (vs : List ℕ) (marks : List Bool) → ((v : ℕ) → listed marks v ≡ false) → Looked vs 0 marks
-not_looked vs marks none = record { seen = []; marked = none; same = λ v. refl; rest = refl }
 
 module _ (vs : List ℕ) (i : ℕ) (marks : List Bool) (looked : Looked vs i marks) (below : i < length vs) where
   abbrev v : ℕ
@@ -82,12 +76,6 @@ module _ (vs : List ℕ) (i : ℕ) (marks : List Bool) (looked : Looked vs i mar
         sym (list_any-append (λ w. w == u) (take i vs) (v ∷ [])) ∙ ap (list_any (λ w. w == u)) (sym (take_more vs i 0 below));
     rest = sym (here ∙ ap (λ b. cond b (Some v) (first_repeated (v ∷ looked.seen) (drop (i + 1) vs))) (sym (looked.marked v) ∙ e)) ∙ looked.rest;
   }
-
-pub all_looked : (vs : List ℕ) (i : ℕ) (marks : List Bool) → length vs ≤ i → Looked vs i marks → (None ≡ first_repeated [] vs) × AreMarks vs marks
-all_looked vs i marks all looked = (
-  sym (ap (first_repeated looked.seen) (drop_all i vs all)) ∙ looked.rest,
-  λ v. looked.marked v ∙ looked.same v ∙ ap (list_any (λ w. w == v)) (take_all i vs all),
-)
 
 -- ---- from the searches to the faults
 

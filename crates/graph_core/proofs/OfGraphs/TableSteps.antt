@@ -1,11 +1,11 @@
 -- One more gate or literal in the tables of a graph.
-use Rattle.std.specs.Prelude.{◌≡◌, ◌≢◌, ℕ, zero, suc, ◌+◌, ◌*◌, ◌<◌, ◌≤◌, max, cond, Bool, ◌==◌, List, [], ◌∷◌, ◌++◌, map, take, length, slice_index, slice_index_or, slice_set, get_or, replicate}
-use Rattle.std.specs.List.{Contains, count_by}
-use Rattle.std.proofs.Common.{refl, sym, ap, subst, ◌∙◌, arith, inl, inr, ⊎_elim, eq-eqb, ne_eqb, length-set, get_or-set_same, get_or-set_other, append_assoc, add-zero}
+use Rattle.std.specs.Prelude.{◌≡◌, ◌≢◌, ℕ, zero, suc, ◌+◌, ◌*◌, ◌<◌, ◌≤◌, max, Bool, ◌==◌, List, [], ◌∷◌, ◌++◌, map, take, length, slice_index, slice_index_or, slice_set, get_or, replicate}
+use Rattle.std.specs.List.{Contains}
+use Rattle.std.proofs.Common.{refl, sym, ap, subst, ◌∙◌, arith, inl, inr, ⊎_elim, length-set, get_or-set_same, get_or-set_other, append_assoc}
 use Rattle.std.proofs.lemmas.Bool.{cases_eq}
 use Rattle.std.proofs.lemmas.List.{take_more, take_all, length-take, length-map, get_or-map, get_or-take, get_or_default, length-replicate, map_push, flat_map_more}
 use Rattle.std.proofs.lemmas.List.Elements.{All-more, Contains-get_or, Contains-push_cases}
-use Rattle.std.proofs.lemmas.List.Sums.{sum_by_push, count_by-le-length}
+use Rattle.std.proofs.lemmas.List.Sums.{count_by-le-length}
 use Rattle.graph_core.specs.declared.literal.Lit.{Lit}
 use Rattle.graph_core.specs.declared.gate.Gate.{Gate}
 use Rattle.graph_core.specs.Graph.Literals.{variable_of}
@@ -19,12 +19,6 @@ zero_at : (n v : ℕ) → slice_index (replicate n 0) v ≡ 0
 zero_at zero v = refl
 zero_at (suc n) zero = refl
 zero_at (suc n) (suc v) = zero_at n v
-
-no_place : (v n : ℕ) → n ≡ 0 → IsPlace [] v n
-no_place v n zeros = record { none = λ e k d l. absurd (omega arith); some = λ k e. absurd (omega arith) }
-
-pub no_places : (m : ℕ) → IsTable m (IsPlace []) (replicate (m + 1) 0)
-no_places m = (length-replicate (m + 1) 0, λ v low. no_place v (slice_index (replicate (m + 1) 0) v) (zero_at (m + 1) v))
 
 module _ (gates : List Gate) (k : ℕ) (d : Gate) (below : k < length gates) where
   abbrev x : Gate
@@ -64,9 +58,6 @@ module _ (gates : List Gate) (k : ℕ) (d : Gate) (below : k < length gates) whe
             (λ ne. subst (IsPlace (take next gates) v) (sym (get_or-set_other table x.v v next 0 ne)) (place_other v (slice_index table v) ne (t.1 v l)))
             (cases_eq v x.v),
       )
-
-pub all_places : (gates : List Gate) (k m : ℕ) (table : List ℕ) → length gates ≤ k → IsTable m (IsPlace (take k gates)) table → IsTable m (IsPlace gates) table
-all_places gates k m table all t = subst (λ gs. IsTable m (IsPlace gs) table) (take_all k gates all) t
 
 -- ---- levels
 
@@ -128,20 +119,6 @@ all_levels m gates i table all w = (w.size, λ v low. w.settled v low (⊎_elim 
 
 abbrev is_read : ℕ → Lit → Bool
 is_read v l = variable_of l == v
-
-pub no_counts : (n : ℕ) → AreCounts [] (replicate n 0)
-no_counts n v l = zero_at n v
-
--- one more literal is read
-pub count_written : (read : List Lit) (l : Lit) (table : List ℕ) → variable_of l < length table → AreCounts read table → AreCounts (read ++ l ∷ []) (slice_set table (variable_of l) (slice_index table (variable_of l) + 1))
-count_written read l table low c v within =
-    let known = c v (omega (arith, length-set table (variable_of l) (slice_index table (variable_of l) + 1))) in
-    ⊎_elim
-    (λ e. ap (slice_index (slice_set table (variable_of l) (slice_index table (variable_of l) + 1))) e ∙ get_or-set_same table (variable_of l) (slice_index table (variable_of l) + 1) 0 low ∙
-    ap (λ u. slice_index table u + 1) (sym e) ∙ ap (λ n. n + 1) known ∙ ap (λ b. count_by (is_read v) read + cond b 1 0) (sym (eq-eqb (variable_of l) v (sym e))) ∙ sym (sum_by_push (λ z. cond (is_read v z) 1 0) read l))
-    (λ n. get_or-set_other table (variable_of l) v (slice_index table (variable_of l) + 1) 0 n ∙ known ∙ sym (add-zero (count_by (is_read v) read)) ∙
-    ap (λ b. count_by (is_read v) read + cond b 1 0) (sym (ne_eqb (variable_of l) v (λ e. n (sym e)))) ∙ sym (sum_by_push (λ z. cond (is_read v z) 1 0) read l))
-    (cases_eq v (variable_of l))
 
 -- a count is at most the number of literals
 pub count_low : (read : List Lit) (table : List ℕ) (v : ℕ) → v < length table → AreCounts read table → slice_index table v ≤ length read

@@ -2,7 +2,7 @@
 use Rattle.std.specs.Prelude.{◌≡◌, ℕ, zero, suc, ◌+◌, ◌-◌, ◌*◌, ◌/◌, ◌%◌, ◌^◌, ◌<◌, ◌≤◌, Bool, List, [], ◌∷◌, ◌++◌, drop, length, get_or, slice_index_or, ◌==◌}
 use Rattle.std.proofs.Common.{sym, ap, subst, ◌∙◌, arith, pow-suc, length-drop, append_assoc}
 use Rattle.std.proofs.Math.Nat.{pow-le-pow_right}
-use Rattle.std.proofs.lemmas.List.{drop_more, drop_all}
+use Rattle.std.proofs.lemmas.List.{drop_more}
 use Rattle.std.proofs.lemmas.List.Elements.{Contains-get_or}
 use Rattle.std.specs.List.{All}
 use Rattle.graph_core.specs.declared.literal.Lit.{Lit}
@@ -55,9 +55,6 @@ word_step σ ls (suc k) d some h =
     let there : word σ (drop (suc k - 1) ls) ≡ word σ (drop k ls) = ap (λ j. word σ (drop j ls)) here in
     let same : bit (literal σ (get_or ls (suc k - 1) d)) ≡ bit (literal σ (get_or ls k d)) = ap (λ j. bit (literal σ (get_or ls j d))) here in
     omega arith
-
-pub no_word : (σ : Assignment) (ls : List Lit) → 0 ≡ word σ (drop (length ls) ls)
-no_word σ ls = sym (ap (word σ) (drop_all (length ls) ls (omega arith)))
 
 -- the outputs of a built graph are in range
 pub outputs_below : (g : Aig) → IsBuilt g → (ls : List Lit) → ls ≡ g.outputs → All (λ l. variable_of l ≤ g.max) ls

@@ -1,9 +1,8 @@
 -- Bounds on words.
-use Rattle.std.specs.Prelude.{◌≡◌, ◌+◌, ◌^◌, ◌<◌, ◌≤◌, Bool, true, false, List, [], ◌∷◌, length}
-use Rattle.std.proofs.Common.{refl, arith, pow-suc}
+use Rattle.std.specs.Prelude.{◌^◌, ◌<◌, ◌≤◌, Bool, true, false, List, [], ◌∷◌, length}
+use Rattle.std.proofs.Common.{arith, pow-suc}
 use Rattle.graph_core.specs.declared.literal.Lit.{Lit}
 use Rattle.graph_core.specs.Graph.Assignments.{Assignment, literal, bit, word}
-use Rattle.graph_core.specs.Graph.Operands.{evens, odds}
 
 pub bit_le : (b : Bool) → bit b ≤ 1
 bit_le true = omega arith
@@ -13,8 +12,3 @@ bit_le false = omega arith
 pub word_below : (σ : Assignment) (ls : List Lit) → word σ ls < 2 ^ length ls
 word_below σ [] = omega arith
 word_below σ (l ∷ ls) = omega (arith, bit_le (literal σ l), word_below σ ls, pow-suc 2 (length ls))
-
-pub length-evens-odds : {X : Type 0} → (xs : List X) → length (evens xs) + length (odds xs) ≡ length xs
-length-evens-odds [] = refl
-length-evens-odds (x ∷ []) = refl
-length-evens-odds (x ∷ y ∷ xs) = omega (arith, length-evens-odds xs)

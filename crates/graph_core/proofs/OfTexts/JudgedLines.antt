@@ -158,9 +158,6 @@ last_exact cause d apart = record {
   one = λ a b r s. ⊎_elim (λ f. ⊎_elim (λ g. f.1 ∙ sym g.1) (λ l. absurd l.1) s) (λ k. absurd k.1) r;
 }
 
-pub never_exact : {C Good : Type 0} → Good → IsExact {C = C} Good Never
-never_exact g = record { decided = inl g; not_both = λ c h r. r; one = λ a b r s. absurd r }
-
 pub exact_as : {C Good Other : Type 0} {Refused Others : C → Type 0} → (Good → Other) → (Other → Good) → ((c : C) → Refused c → Others c) → ((c : C) → Others c → Refused c) → IsExact Good Refused → IsExact Other Others
 exact_as there back those these e = record {
   decided = ⊎_elim (λ g. inl (there g)) (λ r. inr (r.0, those r.0 r.1)) e.decided;

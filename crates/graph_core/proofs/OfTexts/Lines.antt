@@ -1,7 +1,7 @@
 -- Lines of numbers and the header: what is read is one, and one is read.
 use Rattle.std.specs.Prelude.{◌≡◌, ℕ, zero, suc, ◌<◌, ◌≤◌, Bool, true, false, cond, ◌||◌, List, [], ◌∷◌, ◌++◌, length, ◌==◌, Option, Some, None, Result, Ok, Err}
 use Rattle.std.specs.List.{AllByRecursion}
-use Rattle.std.proofs.Common.{refl, sym, ap, ap₂, subst, ◌∙◌, arith, append_assoc, eq-eqb, eqb-true, ⊎_elim}
+use Rattle.std.proofs.Common.{refl, sym, ap, ap₂, subst, ◌∙◌, arith, append_assoc, eqb-true, ⊎_elim}
 use Rattle.std.proofs.lemmas.Option.{same_Some}
 use Rattle.graph_core.specs.Text.{IsNumeral, IsLine, AreLines, space, newline}
 use Rattle.graph_core.specs.Aiger.{Form, Ascii, Binary}
@@ -237,9 +237,6 @@ byte_takes x bytes u rest h = let t = where_takes (the_byte x) bytes u rest h in
     is : (b : ℕ) (c : Bool) → (b == x) ≡ c → cond c (Some tt) None ≡ Some u → b ≡ x
     is b true e f = eqb-true b x e
     is b false e f = absurd (cc)
-
-byte_again : (x : ℕ) (rest : List ℕ) → byte_at x (x ∷ rest) ≡ Ok (tt, rest)
-byte_again x rest = where_again (the_byte x) x tt rest (ap (λ c. cond c (Some tt) None) (eq-eqb x x refl))
 
 form_letters : (form : Form) (b : ℕ) → form_of b ≡ Some form → 97 ∷ b ∷ 103 ∷ 32 ∷ [] ≡ letters form
 form_letters form b h = go (b == 97) refl (b == 105) refl h

@@ -1,49 +1,15 @@
 -- Reading byte by byte, for loops of code: what one byte does, and where nothing is left.
-use Rattle.std.specs.Prelude.{◌≡◌, ℕ, zero, suc, ◌+◌, ◌*◌, ◌-◌, ◌<◌, ◌≤◌, Bool, true, false, cond, List, [], ◌∷◌, ◌++◌, map, drop, length, get_or, Result, Ok, Err}
-use Rattle.std.proofs.Common.{refl, sym, ap, subst, lit<, ◌∙◌, arith, drop-cons, append_assoc, append-nil, lt-ltb}
-use Rattle.graph_core.specs.Aiger.Reading.{Stop, Stops, ◌>>=◌, Go, Done, No, advance, scan, is_digit, Digits, Before, Behind, ended, digit_step, line_at, lines_at, difference_at, lit, lit_of, gate_of, gates_at, field_at, literals_at, triple_at, triples_at, Groups, group_goes, group_step, ascii_at}
+use Rattle.std.specs.Prelude.{◌≡◌, ℕ, zero, suc, ◌+◌, ◌*◌, ◌-◌, ◌<◌, ◌≤◌, List, [], ◌∷◌, ◌++◌, map, drop, length, get_or, Result, Ok, Err}
+use Rattle.std.proofs.Common.{refl, sym, ap, subst, ◌∙◌, arith, drop-cons, append_assoc}
+use Rattle.graph_core.specs.Aiger.Reading.{Stop, ◌>>=◌, line_at, lines_at, lit, lit_of, gate_of, field_at, literals_at, triple_at, triples_at, ascii_at}
 use Rattle.graph_core.specs.Aiger.{Counts, Listing}
 use Rattle.graph_core.specs.Aiger.Refusal.{shown, shown_gate, shown_lists}
 use Rattle.graph_core.specs.Text.{space, newline}
 use Rattle.graph_core.specs.declared.literal.Lit.{Lit}
-use Rattle.graph_core.specs.declared.gate.Gate.{Gate}
-use Rattle.graph_core.specs.Graph.Literals.{variable_of}
-use Rattle.graph_core.specs.Graph.{IsFree, IsLevel, free, above}
-use Rattle.std.specs.List.{Contains}
-use Rattle.graph_core.proofs.OfTexts.Numerals.{with_digit, not_below}
 
 -- the byte at a place, and the bytes behind it
 pub next_byte : (bytes : List ℕ) (at : ℕ) → at < length bytes → drop at bytes ≡ get_or bytes at 0 ∷ drop (at + 1) bytes
 next_byte bytes at h = let e : suc at ≡ at + 1 = omega arith in drop-cons bytes at 0 h ∙ ap (λ n. get_or bytes at 0 ∷ drop n bytes) e
-
-module _ (ends : ℕ → Bool) where
-  abbrev reads : Digits → List ℕ → Result ((ℕ × ℕ) × List ℕ) Stop
-  reads s bytes = scan (digit_step ends (λ n. true)) s bytes
-
-  pub first_digit : (b : ℕ) (rest : List ℕ) → is_digit b ≡ true → reads Before (b ∷ rest) ≡ reads (Behind 9 (with_digit 0 b)) rest
-  first_digit b rest d = ap (λ c. advance (λ t. reads t rest) b rest (cond c (Go (Behind 9 (with_digit 0 b))) No)) d
-
-  pub no_digit : (b : ℕ) (rest : List ℕ) → is_digit b ≡ false → reads Before (b ∷ rest) ≡ Err (Stops (b ∷ rest))
-  no_digit b rest d = ap (λ c. advance (λ t. reads t rest) b rest (cond c (Go (Behind 9 (with_digit 0 b))) No)) d
-
-  pub next_digit : (k n b : ℕ) (rest : List ℕ) → 0 < k → is_digit b ≡ true → reads (Behind k n) (b ∷ rest) ≡ reads (Behind (k - 1) (with_digit n b)) rest
-  next_digit zero n b rest some d = absurd (omega arith)
-  next_digit (suc k) n b rest some d =
-      ap (λ c. advance (λ t. reads t rest) b rest (cond c (Go (Behind k (with_digit n b))) (ended ends n b))) d ∙ ap (λ j. reads (Behind j (with_digit n b)) rest) (omega arith)
-
-  -- a byte that is no digit, or one too many
-  behind_last : (k n b : ℕ) (rest : List ℕ) → (0 < k → is_digit b ≡ false) → reads (Behind k n) (b ∷ rest) ≡ advance (λ t. reads t rest) b rest (ended ends n b)
-  behind_last zero n b rest d = refl
-  behind_last (suc k) n b rest d = ap (λ c. advance (λ t. reads t rest) b rest (cond c (Go (Behind k (with_digit n b))) (ended ends n b))) (d (omega arith))
-
-  pub number_ends : (k n b : ℕ) (rest : List ℕ) → (0 < k → is_digit b ≡ false) → ends b ≡ true → reads (Behind k n) (b ∷ rest) ≡ Ok ((n, b), rest)
-  number_ends k n b rest d e = behind_last k n b rest d ∙ ap (λ c. advance (λ t. reads t rest) b rest (cond c (Done (n, b)) No)) e
-
-  pub number_stops : (k n b : ℕ) (rest : List ℕ) → (0 < k → is_digit b ≡ false) → ends b ≡ false → reads (Behind k n) (b ∷ rest) ≡ Err (Stops (b ∷ rest))
-  number_stops k n b rest d e = behind_last k n b rest d ∙ ap (λ c. advance (λ t. reads t rest) b rest (cond c (Done (n, b)) No)) e
-
-  pub number_cut : (s : Digits) → reads s [] ≡ Err (Stops [])
-  number_cut s = refl
 
 -- ---- a numeral's number stays below 10 ^ 10
 
@@ -66,9 +32,6 @@ room_digit (suc k) v d some l h =
     let e : k ≡ suc k - 1 = omega arith in
     subst (λ j. IsRoom j (10 * v + d)) e (room_less k (10 * v + d) (10 * v + 9) (omega arith) h)
 
-pub room_first : (d : ℕ) → d ≤ 9 → IsRoom 9 d
-room_first d l = room_less 9 d 9 l (lit< tt)
-
 -- ---- lines and gates one after the other, where those that are read are pushed behind the others
 
 abbrev pub with_front : {A : Type 0} → List A → List A × List ℕ → Result (List A × List ℕ) Stop
@@ -82,30 +45,7 @@ pub front_nil : {A : Type 0} (o : Result (List A × List ℕ) Stop) → o ≡ (o
 front_nil (Ok r) = refl
 front_nil (Err e) = refl
 
-pub lines_done : (k : ℕ) (bytes : List ℕ) (done : List (List ℕ)) → (lines_at k 0 bytes >>= with_front done) ≡ Ok (done, bytes)
-lines_done k bytes done = ap (λ xs. Ok (xs, bytes)) (append-nil done)
-
-pub lines_push : (k n : ℕ) (bytes : List ℕ) (done : List (List ℕ)) (line rest : List ℕ) → line_at k bytes ≡ Ok (line, rest) → (lines_at k (suc n) bytes >>= with_front done) ≡ (lines_at k n rest >>= with_front (done ++ line ∷ []))
-lines_push k n bytes done line rest e =
-    ap (λ o. (o >>= λ l. (lines_at k n l.1 >>= λ ls. Ok (l.0 ∷ ls.0, ls.1))) >>= with_front done) e ∙ pushed done line (lines_at k n rest)
-
-pub lines_fail : (k n : ℕ) (bytes : List ℕ) (done : List (List ℕ)) (e : Stop) → line_at k bytes ≡ Err e → (lines_at k (suc n) bytes >>= with_front done) ≡ Err e
-lines_fail k n bytes done e f = ap (λ o. (o >>= λ l. (lines_at k n l.1 >>= λ ls. Ok (l.0 ∷ ls.0, ls.1))) >>= with_front done) f
-
-pub gates_push : (left k : ℕ) (bytes : List ℕ) (done : List (Lit × Lit × Lit)) (x y : ℕ) (middle rest : List ℕ) → difference_at 1 left bytes ≡ Ok (x, middle) → difference_at 0 (left - x) middle ≡ Ok (y, rest) →
-    (gates_at left (suc k) bytes >>= with_front done) ≡ (gates_at (left + 2) k rest >>= with_front (done ++ (lit left, lit (left - x), lit (left - x - y)) ∷ []))
-gates_push left k bytes done x y middle rest e f =
-    ap (λ o. (o >>= λ a. (difference_at 0 (left - a.0) a.1 >>= λ b. (gates_at (left + 2) k b.1 >>= λ ts. Ok ((lit left, lit (left - a.0), lit (left - a.0 - b.0)) ∷ ts.0, ts.1)))) >>= with_front done) e ∙
-    ap (λ o. (o >>= λ b. (gates_at (left + 2) k b.1 >>= λ ts. Ok ((lit left, lit (left - x), lit (left - x - b.0)) ∷ ts.0, ts.1))) >>= with_front done) f ∙
-    pushed done (lit left, lit (left - x), lit (left - x - y)) (gates_at (left + 2) k rest)
-
 -- ---- levels for code that finds them in any order
-
--- A set of variables with every free one, and with each gate's where it has both operands', has each variable that has a level.
-pub levels_only : (gates : List Gate) (has : ℕ → Bool) → ((v : ℕ) → IsFree gates v → has v ≡ true) →
-    ((x : Gate) → Contains gates x → has (variable_of x.left) ≡ true → has (variable_of x.right) ≡ true → has x.v ≡ true) → (v k : ℕ) → IsLevel gates v k → has v ≡ true
-levels_only gates has frees closed _ _ (free v f) = frees v f
-levels_only gates has frees closed _ _ (above x i j c l r) = closed x c (levels_only gates has frees closed (variable_of x.left) i l) (levels_only gates has frees closed (variable_of x.right) j r)
 
 -- ---- literals of 32 bits
 
@@ -127,9 +67,6 @@ literals_are (suc n) bytes =
     sym (same_rest (lines_at 0 n x.1) (λ ls. Ok ((x.0 ∷ []) ∷ ls.0, ls.1)) (λ r. Ok (map shown (map lit_of r.0), r.1)))) ∙
     sym (same_rest (field_at newline bytes) (λ x. lines_at 0 n x.1 >>= λ ls. Ok ((x.0 ∷ []) ∷ ls.0, ls.1)) (λ r. Ok (map shown (map lit_of r.0), r.1))) ∙
     ap (λ o. o >>= λ r. Ok (map shown (map lit_of r.0), r.1)) (sym (same_rest (field_at newline bytes) (λ x. Ok (x.0 ∷ [], x.1)) (λ l. lines_at 0 n l.1 >>= λ ls. Ok (l.0 ∷ ls.0, ls.1))))
-
-pub literals_done : (bytes : List ℕ) (done : List Lit) → (literals_at 0 bytes >>= with_front done) ≡ Ok (done, bytes)
-literals_done bytes done = ap (λ xs. Ok (xs, bytes)) (append-nil done)
 
 pub literals_push : (n : ℕ) (bytes : List ℕ) (done : List Lit) (x : ℕ) (rest : List ℕ) → field_at newline bytes ≡ Ok (x, rest) → (literals_at (suc n) bytes >>= with_front done) ≡ (literals_at n rest >>= with_front (done ++ shown (lit x) ∷ []))
 literals_push n bytes done x rest e = ap (λ o. (o >>= λ y. (literals_at n y.1 >>= λ ls. Ok (shown (lit y.0) ∷ ls.0, ls.1))) >>= with_front done) e ∙ pushed done (shown (lit x)) (literals_at n rest)
@@ -241,21 +178,3 @@ module _ (c : Counts) where
       first (lines_at 0 c.inputs bytes) ∙ ap (λ o. o >>= λ i. (literals_at c.outputs i.1 >>= λ p. (triples_at c.gates p.1 >>= shown_listing c i.0 p.0))) (sym (literals_are c.inputs bytes))
 
 -- ---- one byte of a number in groups of seven bits
-
-abbrev at_group : ℕ → ℕ → ℕ → Groups
-at_group k w v = record { left = k; weight = w; value = v }
-
-pub last_group : (k w v b : ℕ) (rest : List ℕ) → b < 128 → scan group_step (at_group k w v) (b ∷ rest) ≡ Ok (v + w * b, rest)
-last_group k w v b rest h = ap (λ c. advance (λ t. scan group_step t rest) b rest (cond c (Done (v + w * b)) (group_goes k w v b))) (lt-ltb b 128 h)
-
-pub next_group : (k w v b : ℕ) (rest : List ℕ) → 0 < k → 128 ≤ b → b < 256 → scan group_step (at_group k w v) (b ∷ rest) ≡ scan group_step (at_group (k - 1) (128 * w) (v + w * (b - 128))) rest
-next_group zero w v b rest some low high = absurd (omega arith)
-next_group (suc k) w v b rest some low high =
-    let less : k ≡ suc k - 1 = omega arith in
-    ap (λ c. advance (λ t. scan group_step t rest) b rest (cond c (Done (v + w * b)) (group_goes (suc k) w v b))) (not_below b 128 low) ∙
-    ap (λ d. advance (λ t. scan group_step t rest) b rest (cond d (Go (at_group k (128 * w) (v + w * (b - 128)))) No)) (lt-ltb b 256 high) ∙
-    ap (λ j. scan group_step (at_group j (128 * w) (v + w * (b - 128))) rest) less
-
--- a fifth byte with its top bit
-pub no_group : (w v b : ℕ) (rest : List ℕ) → 128 ≤ b → scan group_step (at_group 0 w v) (b ∷ rest) ≡ Err (Stops (b ∷ rest))
-no_group w v b rest low = ap (λ c. advance (λ t. scan group_step t rest) b rest (cond c (Done (v + w * b)) (group_goes 0 w v b))) (not_below b 128 low)

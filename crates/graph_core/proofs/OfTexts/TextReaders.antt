@@ -128,10 +128,6 @@ pub one_longer : (test : ℕ → Bool) (bytes rest : List ℕ) → OneOf test by
 one_longer test [] rest h = absurd h
 one_longer test (b ∷ bytes) rest h = h
 
-pub none_longer : (test : ℕ → Bool) (bytes rest : List ℕ) (b : ℕ) (more : List ℕ) → bytes ≡ b ∷ more → NoneOf test bytes → NoneOf test (bytes ++ rest)
-none_longer test [] rest b more e h = absurd (cc)
-none_longer test (c ∷ bytes) rest b more e h = h
-
 -- a text that isn't empty, whose first byte isn't of the test
 abbrev pub OtherOf : (ℕ → Bool) → List ℕ → Type 0
 OtherOf test [] = ⊥

@@ -9,7 +9,7 @@ use Rattle.graph_core.specs.declared.fault.Field.TheVariants as field
 use Rattle.graph_core.specs.declared.fault.GraphFault.{GraphFault}
 use Rattle.graph_core.specs.declared.fault.GraphFault.TheVariants.{Range, Left, Twice, Undefined, Cycle}
 use Rattle.graph_core.specs.Graph.Literals.{variable_of}
-use Rattle.graph_core.specs.Graph.{Aig, IsLevel, IsAcyclic, defined, read_literals}
+use Rattle.graph_core.specs.Graph.{Aig, IsLevel, defined, read_literals}
 use Rattle.graph_core.specs.Text.{IsNumeral, IsLine, AreLines}
 use Rattle.graph_core.specs.Aiger.{Form, Ascii, Binary, Counts, counts, Listing, graph_of, input_step, least_inputs, most_inputs, most_outputs, body, IsTail, IsSymbolLine, symbol_bound, IsGroups, AreBinaryGates, AreConsecutive, Lists, Spells, IsFaultless}
 
@@ -233,10 +233,6 @@ FaultIsFound = (g : Listing) (f : GraphFault) → (fault_of g ≡ Some f) ↔ Is
 
 abbrev pub NoFaultIsFound : Type 0
 NoFaultIsFound = (g : Listing) → (fault_of g ≡ None) ↔ IsFaultless g
-
--- Gates of different variables have an order exactly where every variable has a level.
-abbrev pub LevelsMeanAcyclic : Type 0
-LevelsMeanAcyclic = (gates : List Gate) → AllPairs ◌≢◌ (map (λ x. x.v) gates) → ((v : ℕ) → HasLevel gates v) ↔ IsAcyclic gates
 
 -- There a variable has one level, and it is at most the number of gates.
 abbrev pub OneLevel : Type 0

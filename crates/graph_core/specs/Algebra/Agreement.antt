@@ -5,8 +5,8 @@ use Rattle.std.specs.declared.option.Option.TheVariants.{None, Some}
 use Rattle.graph_core.specs.Graph.Assignments.{Assignment}
 use Rattle.graph_core.specs.Graph.Operands.{Sides}
 use Rattle.graph_core.specs.Graph.Extended.{Extended}
-use Rattle.graph_core.specs.Algebra.{LiveLine, Line, Ledger, Premises, line_of, IsLawfulLine, after, Closes, modulus}
-use Rattle.graph_core.specs.Algebra.Text.{IsLawfulAlgebraFile, IsLineInRange}
+use Rattle.graph_core.specs.Algebra.{LiveLine, Line, Ledger, Premises, line_of, IsLawfulLine, after, Closes}
+use Rattle.graph_core.specs.Algebra.Text.{IsLawfulAlgebraFile}
 use Rattle.graph_core.specs.Algebra.Refusal.{AlgebraCause, IsAlgebraRefusal, IsRefusedLine, IsRefusedClose}
 use Rattle.graph_core.specs.Text.JudgedLines.{Lengths}
 use Rattle.graph_core.specs.Algebra.InRange.{IsRefusedInRange, IsRefusedCloseInRange}
@@ -70,8 +70,3 @@ pub record PremisesAreKept : Type 0 where
   pub without_imports : (version : ℕ) (e : Extended) (imports : List (Assignment → ℕ)) (s : Sides) (bytes : List ℕ) →
       IsLawfulAlgebraFile (record { version = version; extended = e; imports = [] }) s bytes →
       IsLawfulAlgebraFile (record { version = version; extended = e; imports = imports }) s bytes
-
--- A line in range is refused only where it isn't lawful.
-abbrev pub RefusedIsUnlawful : Type 0
-RefusedIsUnlawful = (e : Extended) (l : Ledger) (x : Line) (cause : AlgebraCause) → IsLineInRange e.max x →
-    IsRefusedLine e l x cause → IsLawfulLine (modulus e) l x → ⊥

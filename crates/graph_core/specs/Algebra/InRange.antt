@@ -3,9 +3,8 @@ use Rattle.std.specs.Prelude.{ℕ}
 use Rattle.graph_core.specs.Graph.Operands.{Sides}
 use Rattle.graph_core.specs.Graph.Extended.{Extended}
 use Rattle.graph_core.specs.Algebra.{Ledger, Line, IsNewId, IsLive}
-use Rattle.graph_core.specs.Algebra.Text.{IsLineInRange, IsId}
 use Rattle.graph_core.specs.Text.JudgedLines.{Unless, Never}
-use Rattle.graph_core.specs.Algebra.Refusal.{AlgebraCause, IsRefusedRule, IsRefusedLine, IsSpecification, IsNoSpecification, IsRefusedClose}
+use Rattle.graph_core.specs.Algebra.Refusal.{AlgebraCause, IsRefusedRule, IsSpecification, IsNoSpecification}
 use Rattle.graph_core.specs.Algebra.Refusal as cause
 
 -- the first cause of a line, but for numbers out of range: an id that isn't new, an operand that isn't live, a value that differs
@@ -17,9 +16,3 @@ abbrev pub IsRefusedCloseInRange : Extended → Sides → Ledger → ℕ → Alg
 IsRefusedCloseInRange e sides l id =
     Unless (IsLive l.live id) (¬ (IsLive l.live id)) (cause.NoSuchLine id)
     (Unless (IsSpecification e sides l id) (IsNoSpecification e sides l id) cause.NotSpecification Never)
-
--- Where the numbers are in range, such a refusal is that of the definitions.
-pub record RefusedInRange : Type 0 where
-  pub line : (e : Extended) (l : Ledger) (x : Line) (cause : AlgebraCause) → IsLineInRange e.max x → IsRefusedInRange e l x cause → IsRefusedLine e l x cause
-  pub close : (e : Extended) (sides : Sides) (l : Ledger) (id : ℕ) (cause : AlgebraCause) → IsId id →
-      IsRefusedCloseInRange e sides l id cause → IsRefusedClose e sides l id cause

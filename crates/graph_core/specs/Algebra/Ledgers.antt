@@ -5,7 +5,7 @@ use Rattle.std.specs.List.{All}
 use Rattle.graph_core.specs.Graph.Assignments.{Assignment}
 use Rattle.graph_core.specs.Graph.{IsEvaluation}
 use Rattle.graph_core.specs.Algebra.Polynomials.{Polynomial, value}
-use Rattle.graph_core.specs.Algebra.{Line, Delete, Ledger, IsLawfulLine, AreLawfulLines, line_of, introduce, after, after_all, beginning, modulus, AreMet, Premises}
+use Rattle.graph_core.specs.Algebra.{Line, Delete, Ledger, AreLawfulLines, line_of, introduce, after, after_all, beginning, modulus, AreMet, Premises}
 
 -- Live lines are a map from ids: a new line is put there under its id, and deleting takes its id away.
 abbrev pub LedgerIsMap : Type 0
@@ -13,11 +13,6 @@ LedgerIsMap = ((m : ℕ) (l : Ledger) (id : ℕ) (p : Polynomial) (k : ℕ) →
     line_of (introduce m l id p).live k ≡
     (if id == k then Some (record { id = id; value = value m p }) else line_of l.live k)) ×
     ((m : ℕ) (l : Ledger) (id k : ℕ) → line_of (after m l (Delete id)).live k ≡ (if id == k then None else line_of l.live k))
-
--- A lawful line keeps that every live line is 0 at an assignment, where what may be imported is.
-abbrev pub LinesKeepZero : Type 0
-LinesKeepZero = (m : ℕ) (l : Ledger) (x : Line) (σ : Assignment) → IsLawfulLine m l x →
-    All (λ f. f σ ≡ 0) l.imports → All (λ y. y.value σ ≡ 0) l.live → All (λ y. y.value σ ≡ 0) (after m l x).live
 
 -- Every line that is live behind lawful lines is 0 on each evaluation that meets the premises.
 abbrev pub LiveLinesVanish : Type 0

@@ -7,7 +7,7 @@ use Rattle.graph_core.specs.Text.Numerals.{number_at, is_digit}
 use Rattle.graph_core.specs.Text.Readers.{Reader, map_at, behind_at, ended_at, then_at, text_at, bind_at, choose_at, many_at, NoneOf}
 use Rattle.graph_core.specs.Algebra.Polynomials.{Term, Polynomial}
 use Rattle.graph_core.specs.Algebra.{Line, Sum, Product, Combination, Import, Delete, Part}
-use Rattle.graph_core.specs.Algebra.Text.{IsPolynomial, IsLineText, IsCloseText, IsAlgebraText, algebra_header}
+use Rattle.graph_core.specs.Algebra.Text.{IsLineText, IsCloseText, IsAlgebraText, algebra_header}
 
 abbrev pub is_star : ℕ → Bool
 is_star b = b == 42
@@ -102,12 +102,6 @@ algebra_at version bytes = at_end (behind_at (algebra_header version)
 -- A polynomial ends where no digit, star or sign follows.
 abbrev pub EndsPolynomial : List ℕ → Type 0
 EndsPolynomial rest = NoneOf is_sign rest × (NoneOf is_star rest × NoneOf is_digit rest)
-
--- Reading a polynomial gives one whose text it takes; and each polynomial's text that ends is read as it.
-abbrev pub PolynomialIsRead : Type 0
-PolynomialIsRead = ((bytes : List ℕ) (p : Polynomial) (rest : List ℕ) → poly_at bytes ≡ Some (p, rest) →
-    (front : List ℕ) × IsPolynomial front p × (bytes ≡ front ++ rest)) ×
-    ((front : List ℕ) (p : Polynomial) (rest : List ℕ) → IsPolynomial front p → EndsPolynomial rest → poly_at (front ++ rest) ≡ Some (p, rest))
 
 -- Reading a line of an algebra certificate gives the line whose text it takes, and nothing else does.
 abbrev pub AlgebraLineIsRead : Type 0

@@ -41,7 +41,8 @@ AreParts bytes (part ∷ next ∷ parts) = (front rest : List ℕ) × IsPart fro
 
 -- a line of a version, without its line feed; only version 2 has imports
 abbrev pub IsLineText : ℕ → List ℕ → Line → Type 0
-IsLineText version bytes (Sum id i j p) = (new left right poly : List ℕ) × IsNumeral 15 new id × IsNumeral 15 left i × IsNumeral 15 right j × IsPolynomial poly p ×
+IsLineText version bytes (Sum id i j p) = (new left right poly : List ℕ) × IsNumeral 15 new id × IsNumeral 15 left i ×
+    IsNumeral 15 right j × IsPolynomial poly p ×
     (bytes ≡ new ++ codes " + " ++ left ++ codes ", " ++ right ++ codes ", " ++ poly ++ codes ";")
 IsLineText version bytes (Product id i q p) = (new left factor poly : List ℕ) × IsNumeral 15 new id × IsNumeral 15 left i ×
     IsPolynomial factor q × IsPolynomial poly p ×

@@ -1,5 +1,4 @@
 use Rattle.std.proofs.Common.{◌≡◌, ℕ, Bool, List, refl, ◌-◌, false, length, get_or, arith, ap, ◌∙◌, drop}
-use Rattle.graph_core.specs.Graph.Assignments.{bit}
 use Rattle.graph_core.specs.Graph.Operands.{bits_of}
 use Rattle.graph_core.proofs.OfGraphs.OperandBits.{number_of}
 use Rattle.graph_core.proofs.OfGraphs.OperandPlaces.{number_step, number_fits, number_of-low, bits_of-number_of, byte_is_bit, bit_low, no_number}

@@ -1,4 +1,4 @@
-use Rattle.std.proofs.Common.{◌∙◌, [], take, refl, subst, sym, append-nil, Ok, Err}
+use Rattle.std.proofs.Common.{◌∙◌, [], take, refl, subst, append-nil, Ok, Err}
 use Rattle.std.proofs.KnownBytes.{Consumes-nil, Consumes-trans}
 use Rattle.mv_desk.proofs.CallerLemmas.{KeepsTelling-refl, KeepsTelling-trans, ReadsOnly-refl, ReadsOnly-trans, reads_on}
 use Rattle.std.specs.Io.KnownBytes.{Consumes}

@@ -1,5 +1,5 @@
 use Rattle.std.specs.Prelude.{List}
-use Rattle.std.proofs.Common.{◌≡◌, ap, arith, length, map, take, ◌∙◌}
+use Rattle.std.proofs.Common.{◌≡◌, ap, arith, map, take, ◌∙◌}
 use Rattle.std.proofs.lemmas.List.{take_all}
 use Rattle.graph_core.specs.declared.gate.Gate.{Gate}
 use Rattle.slice_finder.proofs.Orders.{keys_are}

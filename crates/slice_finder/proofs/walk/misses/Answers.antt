@@ -1,4 +1,4 @@
-use Rattle.std.proofs.Common.{◌≤◌, ◌≢◌, [], ◌∷◌, sym, subst, arith}
+use Rattle.std.proofs.Common.{◌≢◌, [], ◌∷◌, sym, subst, arith}
 use Rattle.slice_finder.specs.FinalStage.{IsCovered}
 use Rattle.slice_finder.proofs.XorSearch.{operands_low}
 use Rattle.slice_finder.proofs.Walks.{walk_down}

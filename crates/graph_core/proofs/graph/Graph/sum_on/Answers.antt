@@ -1,4 +1,4 @@
-use Rattle.std.proofs.Common.{◌≡◌, ◌/◌, ◌*◌, length, arith, ap, ◌∙◌, length-append}
+use Rattle.std.proofs.Common.{◌/◌, ◌*◌, length, arith, ap, length-append}
 use Rattle.graph_core.specs.Graph.Operands.{bits_of}
 use Rattle.graph_core.proofs.OfGraphs.Multiplies.{length-inputs_of}
 use Rattle.graph_core.proofs.OfGraphs.OperandBits.{length-bits_of}
