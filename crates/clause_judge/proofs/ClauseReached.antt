@@ -18,7 +18,7 @@ use Rattle.drup_checker.specs.Steps.{HasAdded, HasShown}
 use Rattle.drup_checker.proofs.JudgedGoals.{goals_are_judged}
 use Rattle.drup_checker.proofs.StepLaws.{added_are_right, marks_are_right, steps_are_lawful}
 use Rattle.drup_text.specs.ClauseTexts.{IsClauseLine}
-use Rattle.drup_text.specs.FileStates.{BeginsOutOfRange, BeginsWithNone, FileState, IsAtEnd, IsNextRefusal, TakesText}
+use Rattle.mv_text.specs.CertificateFiles.{BeginsOutOfRange, BeginsWithNone, FileState, IsAtEnd, IsNextRefusal, TakesText}
 use Rattle.drup_text.specs.HeaderRefusal.{LineCause, NoSuchClause, NotImplied, Range, Text, TooLong}
 use Rattle.drup_text.specs.LineTexts.{IsLineInRange, IsLineOf}
 use Rattle.drup_text.proofs.CallerLemmas.{long_of, none_clause_line, short_of}

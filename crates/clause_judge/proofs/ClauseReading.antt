@@ -1,10 +1,13 @@
 -- What the reader of a clause file answers of the next line.
-use Rattle.std.specs.Prelude.{◌≡◌, ◌+◌, ℕ, List, length, IfSome, IfNone, option_to_list}
+use Rattle.std.specs.Prelude.{◌≡◌, ◌+◌, ℕ, List, IfSome, Ok}
 use Rattle.std.specs.declared.option.Option.{Option}
 use Rattle.std.specs.declared.option.Option.TheVariants.{None, Some}
 use Rattle.clause_core.specs.ClauseLines.{ClauseLine}
-use Rattle.drup_text.specs.FileStates.{FileState, GoesOn, IsAtEnd, TakesText}
-use Rattle.drup_text.specs.LineTexts.{IsTextOf}
+use Rattle.mv_text.specs.CertificateFiles.{FileState, GoesOn, KeepsFile, ReadsLine, TakesText, left_of}
+use Rattle.drup_text.specs.ClauseTexts.{IsClauseLine}
+use Rattle.drup_text.specs.LineTexts.{IsLineInRange, IsTextOf}
+use Rattle.mv_desk.specs.View.{View}
+use Rattle.mv_desk.specs.declared.slot.Slot.TheVariants as slot
 use Rattle.clause_judge.specs.ClauseLines.{NextLine, ReadsNext}
 
 module _ (max : ℕ) (old new : FileState) where
@@ -22,8 +25,7 @@ module _ (max : ℕ) (old new : FileState) where
         going = going;
       }
 
-  pub next_read : (left behind : Option (List ℕ)) (next : Option ClauseLine) → IfSome next (λ line. (text : List ℕ) × IsTextOf max text line) →
-      IfSome next (λ line. IfSome left (λ bytes. TakesText (IsTextOf max) old.lines new.lines bytes behind line)) → IfNone next (IfSome left (IsAtEnd old.lines)) → new.number ≡ old.number + length (option_to_list next) →
-      IfSome next (λ line. GoesOn new) → ReadsNext max old new left behind next
-  next_read left behind None text line end number going = end
-  next_read left behind (Some x) text line end number going = line_read left behind x text line number going
+  pub next_read : (before now : View) (next : Option ClauseLine) → ReadsLine IsClauseLine (IsLineInRange max) (IsTextOf max) slot.Clauses old new before now (Ok next) → KeepsFile {X = Option ClauseLine} old new (Ok next) →
+      ReadsNext max old new (left_of slot.Clauses old before) (left_of slot.Clauses new now) next
+  next_read before now None h keeps = h.end
+  next_read before now (Some x) h keeps = line_read (left_of slot.Clauses old before) (left_of slot.Clauses new now) x h.text h.line h.number (record { ended = h.ended; failed = keeps.failed })

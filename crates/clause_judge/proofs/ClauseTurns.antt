@@ -15,7 +15,7 @@ use Rattle.clause_core.specs.declared.line.Line.TheVariants.{Add, Delete}
 use Rattle.clause_core.proofs.CallerLemmas.{any_nil}
 use Rattle.drup_checker.specs.Checking.{Checking, IsLeastUnshown}
 use Rattle.drup_checker.specs.declared.keeps.Keeps.{Keeps}
-use Rattle.drup_text.specs.FileStates.{FileState, GoesOn}
+use Rattle.mv_text.specs.CertificateFiles.{FileState, GoesOn}
 use Rattle.miter_encoder.specs.ColumnGoals.{AreGoalsOf, HasGoals, IsGoalOf}
 use Rattle.miter_encoder.specs.declared.goal.Goal.{Goal}
 use Rattle.mv_desk.specs.View.{View}

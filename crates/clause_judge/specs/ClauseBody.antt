@@ -12,7 +12,7 @@ use Rattle.clause_core.specs.Likeness.{AreSameSets}
 use Rattle.drup_checker.specs.Checking.{Checking, kept}
 use Rattle.drup_checker.specs.declared.keeps.Keeps.{Keeps}
 use Rattle.drup_text.specs.ClauseTexts.{IsClauseLine}
-use Rattle.drup_text.specs.FileStates.{FileState}
+use Rattle.mv_text.specs.CertificateFiles.{FileState}
 use Rattle.drup_text.specs.HeaderRefusal.{TooLong}
 use Rattle.miter_encoder.specs.ColumnGoals.{AreGoalsOf}
 use Rattle.mv_desk.specs.View.{Rose, View}

@@ -7,7 +7,7 @@ use Rattle.clause_core.specs.UnitPropagation.{IsRup}
 use Rattle.clause_core.specs.declared.line.Line.TheVariants.{Add, Delete}
 use Rattle.drup_checker.specs.Checking.{Adds, Checking, Deletes, IsLeastUnshown, IsNowhere}
 use Rattle.drup_text.specs.ClauseTexts.{IsClauseLine}
-use Rattle.drup_text.specs.FileStates.{FileState, GoesOn, IsAtEnd, IsNextRefusal, TakesText, left_ahead}
+use Rattle.mv_text.specs.CertificateFiles.{FileState, GoesOn, IsAtEnd, IsNextRefusal, TakesText}
 use Rattle.drup_text.specs.LineTexts.{IsLineInRange, IsLineOf}
 use Rattle.mv_desk.specs.View.{View}
 use Rattle.mv_desk.specs.declared.faults.LineFail.{LineFail}
@@ -17,10 +17,6 @@ use Rattle.mv_desk.specs.declared.faults.LineFail.TheVariants as text
 use Rattle.clause_judge.specs.declared.fail.ClauseFail.{ClauseFail}
 use Rattle.clause_judge.specs.declared.fail.ClauseFail.TheVariants as fail
 use Rattle.clause_judge.specs.declared.fail.ClauseWhy.TheVariants as why
-
--- what is left of a file that a desk tells, for a reader of its lines
-abbrev pub left_for : FileState → View → Option (List ℕ)
-left_for file view = left_ahead file (view.left slot.Clauses)
 
 -- ---- reading
 

@@ -3,8 +3,8 @@ ghost use Rattle.std.specs.Prelude.{◌≡◌, ◌+◌, ◌<◌, ◌^◌, true, 
 ghost use Rattle.mv_desk.specs.Calls.{ReadsOnly};
 ghost use Rattle.mv_desk.specs.View.{KeepsTelling};
 ghost use Rattle.mv_desk.specs.declared.slot.Slot.TheVariants as slot;
-ghost use Rattle.drup_text.specs.FileStates.{GoesOn};
-ghost use Rattle.clause_judge.specs.ClauseLines.{IsTextFail, ReadsNext, answer_of_line, left_for};
+ghost use Rattle.mv_text.specs.CertificateFiles.{GoesOn, left_of};
+ghost use Rattle.clause_judge.specs.ClauseLines.{IsTextFail, ReadsNext, answer_of_line};
 
 use crate::fail::{ClauseFail, ClauseWhy};
 use clause_core::Line;
@@ -21,9 +21,9 @@ pub fn read_line<D: Desk>(
     requires going { GoesOn file.old }
     requires small { max < 2 ^ 31 }
     ensures next { IfOk result (ReadsNext max file.old file.new
-        (left_for file.old (D.seen desk.old)) (left_for file.new (D.seen desk.new))) }
+        (left_of slot.Clauses file.old (D.seen desk.old)) (left_of slot.Clauses file.new (D.seen desk.new))) }
     ensures refused { IfErr result (IsTextFail (file.old.number + 1) max file.old.lines
-        (left_for file.old (D.seen desk.old)) (D.seen desk.old) (D.seen desk.new)) }
+        (left_of slot.Clauses file.old (D.seen desk.old)) (D.seen desk.old) (D.seen desk.new)) }
     ensures lengths { file.new.lines.lengths ≡ file.old.lines.lengths }
     ensures only { ReadsOnly slot.Clauses (D.seen desk.old) (D.seen desk.new) }
     ensures tells { KeepsTelling (D.seen desk.old) (D.seen desk.new) }

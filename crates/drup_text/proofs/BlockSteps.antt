@@ -14,12 +14,13 @@ use Rattle.mv_text.specs.LineReading.{Lines}
 use Rattle.ripple_graft.specs.declared.block.Block.{Block}
 use Rattle.ripple_graft.specs.Blocks.{AreBlocks, IsBlock, graft_all, graft_block}
 use Rattle.drup_text.specs.ClauseTexts.{IsBlockLine, IsCountLine, IsPairLine}
-use Rattle.drup_text.specs.FileStates.{IsCause, IsLineRefusal, PassBlocks, PassesBlock, TakesText, block_lines}
+use Rattle.mv_text.specs.CertificateFiles.{IsLineRefusal, TakesText}
+use Rattle.drup_text.specs.PassingHeaders.{IsCause, PassBlocks, PassesBlock, block_lines}
 use Rattle.drup_text.specs.HeaderRefusal.{Later, LineCause, IsPairStep, IsRefusedBehindPairs, IsRefusedBlock, IsRefusedBlocks, IsRefusedCount, IsRefusedPairs, block_at, nothing_later}
 use Rattle.drup_text.specs.HeaderSteps.{IsLongIn, Leaves, TakesBlock, TakesBlocks, TakesCount, TakesPairs}
 use Rattle.drup_text.specs.Headers.{head_of}
 use Rattle.drup_text.specs.LineTexts.{IsBlockTextOf, IsCountInRange, IsCountTextOf, IsHeadOf, IsPairOf}
-use Rattle.drup_text.proofs.FileSteps.{told_from}
+use Rattle.mv_text.proofs.CallerLemmas.{told_from}
 use Rattle.drup_text.proofs.HeaderSteps.{cause_behind, line_cause, over_all}
 
 -- ---- more is refused behind a block where more is refused later

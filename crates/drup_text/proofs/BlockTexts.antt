@@ -15,7 +15,8 @@ use Rattle.mv_text.specs.Steps.{IsMisfit, Takes, begins}
 use Rattle.ripple_graft.proofs.GraftedGraphs.{reach_is}
 use Rattle.drup_text.specs.ClauseReading.{block_line_at, carry_at, count_line_at, head_from, two_at}
 use Rattle.drup_text.specs.ClauseTexts.{IsBlockLine, IsCountLine}
-use Rattle.drup_text.specs.LineTexts.{IsBlockTextOf, IsCountInRange, IsCountTextOf, IsHeadOf, IsRefusedText}
+use Rattle.mv_text.specs.CertificateFiles.{IsRefusedText}
+use Rattle.drup_text.specs.LineTexts.{IsBlockTextOf, IsCountInRange, IsCountTextOf, IsHeadOf}
 use Rattle.drup_text.specs.Steps.{AreUpTo}
 use Rattle.drup_text.proofs.ClauseReading.{reads_block_line, reads_count_line}
 use Rattle.drup_text.proofs.WholeTexts.{left_over, misfit_refused, out_of_range, said}

@@ -15,7 +15,7 @@ use Rattle.ripple_graft.specs.Blocks.{graft_all, graft_block, with_blocks}
 use Rattle.ripple_graft.specs.HeaderBlocks.{cut_blocks}
 use Rattle.drup_text.specs.declared.head.Header.{Header}
 use Rattle.drup_text.specs.ClauseTexts.{AreLinesOf, IsPairLine}
-use Rattle.drup_text.specs.FileStates.{PassBlocks, PassesAnyHeader, PassesCount, PassesCut, block_lines, lines_in}
+use Rattle.drup_text.specs.PassingHeaders.{PassBlocks, PassesAnyHeader, PassesCount, PassesCut, block_lines, lines_in}
 use Rattle.drup_text.specs.HeaderRefusal.{LineCause, IsFirstRefusal, IsHeaderRefusal, IsPairStep, IsRefusedBehindCut, IsRefusedBlocks, IsRefusedCount, IsRefusedCut, Later, cut_at, nothing_later}
 use Rattle.drup_text.specs.Headers.{AreBlockTexts, IsAnyHeaderText, IsBlocksText, IsCutText, extended_with}
 use Rattle.drup_text.proofs.BlockSteps.{block_passes_on, blocks_whatever, pairs_pass_on, pairs_whatever}

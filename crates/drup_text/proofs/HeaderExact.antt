@@ -16,7 +16,7 @@ use Rattle.ripple_graft.specs.Blocks.{AreBlocks, graft_all, graft_block, with_bl
 use Rattle.ripple_graft.specs.HeaderBlocks.{IsCutOf, cut_blocks}
 use Rattle.drup_text.specs.declared.head.Header.{Header}
 use Rattle.drup_text.specs.ClauseTexts.{AreLinesOf, IsPairLine}
-use Rattle.drup_text.specs.FileStates.{PassBlocks, PassesAnyHeader, PassesBlock, PassesBlocks, PassesCount, PassesCut, PassesHeader}
+use Rattle.drup_text.specs.PassingHeaders.{PassBlocks, PassesAnyHeader, PassesBlock, PassesBlocks, PassesCount, PassesCut, PassesHeader}
 use Rattle.drup_text.specs.HeaderRefusal.{Later, LineCause, IsHeaderRefusal, IsPairStep, IsRefusedBehindCut, IsRefusedBehindPairs, IsRefusedBlock, IsRefusedBlocks, IsRefusedCount, IsRefusedCut, IsRefusedPair, IsRefusedPairs, cut_at, block_at, nothing_later}
 use Rattle.drup_text.specs.Headers.{AreBlockTexts, IsAnyHeaderText, IsBlocksText, IsCutText, IsHeaderOf, IsHeaderText, head_of, second_line}
 use Rattle.drup_text.specs.LineTexts.{IsCountInRange, IsCutSize, IsHeadOf, IsPairOf}

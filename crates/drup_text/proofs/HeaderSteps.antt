@@ -12,18 +12,15 @@ use Rattle.graph_core.specs.Text.{newline}
 use Rattle.graph_core.specs.Text.JudgedLines.{BeginsWith, Behind, IsTooLong, Lengths}
 use Rattle.graph_core.proofs.OfTexts.CallerLemmas.{HasNoNewline, behind_map, none_in}
 use Rattle.mv_text.specs.LineReading.{IsLongAhead, Lines}
-use Rattle.mv_text.proofs.CallerLemmas.{long_of, short_of}
+use Rattle.mv_text.proofs.CallerLemmas.{IsNew, long_of, short_of, told_from}
 use Rattle.drup_text.specs.ClauseTexts.{IsPairLine}
-use Rattle.drup_text.specs.FileStates.{BeginsOutOfRange, BeginsWithNone, IsCause, IsLineRefusal, TakesText}
+use Rattle.mv_text.specs.CertificateFiles.{BeginsOutOfRange, BeginsWithNone, IsLineRefusal, TakesText}
+use Rattle.drup_text.specs.PassingHeaders.{IsCause}
 use Rattle.drup_text.specs.HeaderRefusal.{LineCause, IsHeaderRefusal, IsPairStep, IsRefusedBehindPairs, IsRefusedCount, IsRefusedCut, IsRefusedPair, IsRefusedPairs, cut_at, nothing_later}
 use Rattle.drup_text.specs.HeaderRefusal as cause
 use Rattle.drup_text.specs.HeaderSteps.{IsLongIn, Leaves, TakesPairs}
-use Rattle.drup_text.specs.Headers.{IsThis, IsVersionLine}
+use Rattle.drup_text.specs.Headers.{IsVersionLine}
 use Rattle.drup_text.specs.LineTexts.{IsCutTextOf, IsPairOf, IsPairTextOf}
-use Rattle.drup_text.proofs.FileSteps.{told_from}
-
-pub none_this : (text : List ℕ) → HasNoNewline text → (line : List ℕ) (x : Unit {0}) → IsThis text line x → HasNoNewline line
-none_this text none line x e = subst HasNoNewline (sym e) none
 
 pub none_version : (line : List ℕ) (version : ℕ) → IsVersionLine line version → HasNoNewline line
 none_version line version h = ⊎_elim (λ a. subst HasNoNewline (sym a.1) (none_in (codes "joined 1") refl)) (λ b. subst HasNoNewline (sym b.1) (none_in (codes "joined 2") refl)) h
@@ -186,11 +183,6 @@ cut_refused g old mid before left lo count first then last line f lengths same h
     refused
 
 -- ---- the whole header
-
--- a reader of lines that took nothing yet
-pub record IsNew (lengths : Lengths) (lines : Lines) : Type 0 where
-  pub taken : lines.taken ≡ 0
-  pub lengths_are : lines.lengths ≡ lengths
 
 -- what holds of the lengths of a whole file
 pub over_file : (P : (List ℕ → Type 0) → Type 0) (lengths : Lengths) (lines now : Lines) (bytes rest : List ℕ) → IsNew lengths lines → now.lengths ≡ lines.lengths → now.taken + length rest ≡ lines.taken + length bytes →

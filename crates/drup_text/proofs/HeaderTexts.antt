@@ -16,7 +16,8 @@ use Rattle.ripple_graft.specs.Extension.{IsExtension, IsKnown, whole}
 use Rattle.ripple_graft.proofs.KnownLiterals.{defined_is}
 use Rattle.drup_text.specs.ClauseReading.{cut_line_at, lits, pair_line_at, some_cut, two_at}
 use Rattle.drup_text.specs.ClauseTexts.{IsCutLine, IsPairLine}
-use Rattle.drup_text.specs.LineTexts.{IsCutSize, IsCutTextOf, IsPairOf, IsPairTextOf, IsRefusedText, IsSizeInRange}
+use Rattle.mv_text.specs.CertificateFiles.{IsRefusedText}
+use Rattle.drup_text.specs.LineTexts.{IsCutSize, IsCutTextOf, IsPairOf, IsPairTextOf, IsSizeInRange}
 use Rattle.drup_text.specs.Steps.{AreUpTo}
 use Rattle.drup_text.proofs.ClauseReading.{reads_cut_line, reads_pair_line}
 use Rattle.drup_text.proofs.WholeTexts.{left_over, misfit_refused, out_of_range, said}

@@ -17,7 +17,8 @@ use Rattle.mv_desk.specs.declared.faults.LineFail.{LineFail}
 use Rattle.mv_text.specs.Steps.{Gives, IsMisfit, Pushes, Takes, begins}
 use Rattle.drup_text.specs.ClauseReading.{clause_at, clause_line_at, is_no_zero, literal_at, literals_at, minus_number, nonzero_at}
 use Rattle.drup_text.specs.ClauseTexts.{IsClauseLine}
-use Rattle.drup_text.specs.LineTexts.{IsLineInRange, IsLineOf, IsRefusedText, IsTextOf}
+use Rattle.mv_text.specs.CertificateFiles.{IsRefusedText}
+use Rattle.drup_text.specs.LineTexts.{IsLineInRange, IsLineOf, IsTextOf}
 use Rattle.drup_text.specs.Steps.{HasItems, IsLiteralInRange, IsVariable}
 use Rattle.drup_text.proofs.ClauseReading.{literals_next, reads_clause_line}
 use Rattle.drup_text.proofs.WholeTexts.{left_over, misfit_refused, out_of_range, said}

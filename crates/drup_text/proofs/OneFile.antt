@@ -19,7 +19,7 @@ use Rattle.drup_text.specs.declared.head.Header.{Header}
 use Rattle.drup_text.specs.Headers.{AreBlockTexts, IsAnyHeaderText, IsBlocksText, IsCutText, IsHeaderText, head_of, second_line, version_line}
 use Rattle.drup_text.specs.WrittenLaws.{OneTextIsOneFile}
 use Rattle.drup_text.proofs.ClauseReading.{block_item, clause_item, count_item, cut_item, pair_item}
-use Rattle.drup_text.proofs.FileSteps.{some_left}
+use Rattle.mv_text.proofs.CallerLemmas.{some_left}
 
 abbrev NoStep : {Line : Type 0} → ℕ → Line → ℕ → Type 0
 NoStep s x t = ⊥

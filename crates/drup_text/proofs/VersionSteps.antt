@@ -15,21 +15,21 @@ use Rattle.graph_core.specs.Graph.Extended.{without_cut}
 use Rattle.graph_core.specs.Text.{newline}
 use Rattle.graph_core.specs.Text.JudgedLines.{IsTooLong, Lengths}
 use Rattle.mv_text.specs.LineReading.{Lines}
-use Rattle.mv_text.proofs.CallerLemmas.{short_of}
+use Rattle.mv_text.proofs.CallerLemmas.{IsNew, short_of, told_from}
 use Rattle.ripple_graft.specs.declared.block.Block.{Block}
 use Rattle.ripple_graft.specs.declared.cut.Cut.{Cut}
 use Rattle.ripple_graft.specs.Blocks.{AreBlocks}
 use Rattle.ripple_graft.specs.HeaderBlocks.{AreHeaderBlocks, IsCutOf, cut_blocks}
 use Rattle.drup_text.specs.declared.fault.StartFail.{StartFail}
 use Rattle.drup_text.specs.declared.head.Header.{Header}
-use Rattle.drup_text.specs.FileStates.{FileState, HasHeader, IsCause, PassesAnyHeader, PassesBlocks, PassesCount, PassesCut, PassesHeader, TakesText, block_lines, lines_in}
+use Rattle.mv_text.specs.CertificateFiles.{FileState, TakesText}
+use Rattle.drup_text.specs.PassingHeaders.{HasHeader, IsCause, PassesAnyHeader, PassesBlocks, PassesCount, PassesCut, PassesHeader, block_lines, lines_in}
 use Rattle.drup_text.specs.HeaderRefusal.{IsRefusedCut, nothing_later}
 use Rattle.drup_text.specs.HeaderSteps.{IsBlocksRefusal, IsCountRefusal, IsLongIn, IsVersionRefusal, Leaves, TakesBlocks, TakesCount, TakesCut, TakesVersion}
 use Rattle.drup_text.specs.Headers.{IsVersionLine}
 use Rattle.drup_text.specs.LineTexts.{IsCountTextOf}
 use Rattle.drup_text.proofs.BlockSteps.{counted_refused, counted_taken}
-use Rattle.drup_text.proofs.FileSteps.{told_from}
-use Rattle.drup_text.proofs.HeaderSteps.{IsNew, first_is, over_file, second_is}
+use Rattle.drup_text.proofs.HeaderSteps.{first_is, over_file, second_is}
 
 abbrev Blocks : Type 0
 Blocks = Vec Block Global

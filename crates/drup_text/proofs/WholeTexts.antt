@@ -9,7 +9,7 @@ use Rattle.graph_core.specs.Text.Readers.{Reader, Reads}
 use Rattle.mv_desk.specs.declared.faults.LineFail.{LineFail}
 use Rattle.mv_desk.specs.declared.faults.LineFail.TheVariants as fail
 use Rattle.mv_text.specs.Steps.{IsMisfit, Takes}
-use Rattle.drup_text.specs.LineTexts.{IsRefusedText}
+use Rattle.mv_text.specs.CertificateFiles.{IsRefusedText}
 
 nothing : {A : Type 0} (o : Option A) (x : A) → o ≡ None → o ≡ Some x → ⊥
 nothing o x e f = let g : None ≡ Some x = sym e ∙ f in absurd (cc)

@@ -10,7 +10,7 @@ use Rattle.mv_text.specs.LineReading.{Lines}
 use Rattle.ripple_graft.specs.declared.block.Block.{Block}
 use Rattle.ripple_graft.specs.declared.cut.Cut.{Cut}
 use Rattle.drup_text.specs.ClauseTexts.{IsPairLine}
-use Rattle.drup_text.specs.FileStates.{IsCause, PassBlocks, PassesBlock, PassesCount, PassesCut}
+use Rattle.drup_text.specs.PassingHeaders.{IsCause, PassBlocks, PassesBlock, PassesCount, PassesCut}
 use Rattle.drup_text.specs.HeaderRefusal.{IsPairStep, IsRefusedBlock, IsRefusedBlocks, IsRefusedCount, IsRefusedCut, IsRefusedPairs, nothing_later}
 use Rattle.ripple_graft.specs.HeaderBlocks.{cut_blocks}
 use Rattle.drup_text.specs.declared.fault.StartFail.{StartFail}

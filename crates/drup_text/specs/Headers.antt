@@ -16,10 +16,6 @@ use Rattle.drup_text.specs.ClauseTexts.{AreLinesOf, IsBlockLine, IsClauseLine, I
 
 -- ---- version 1: a cut, or none
 
--- a line that is this text
-abbrev pub IsThis : List ℕ → List ℕ → Unit {0} → Type 0
-IsThis text bytes x = bytes ≡ text
-
 -- the first line
 abbrev pub version_line : List ℕ
 version_line = codes "joined 1" ++ newline ∷ []

@@ -1,11 +1,11 @@
--- To be trusted by whoever reads the contracts: `ClauseTexts`, `Headers`, `LineTexts`, `HeaderRefusal`, `FileStates` and
--- `WrittenTexts`, and for the certificate of two graphs `SameFiles`; `WrittenLaws` says what is read of a text that was written. `ClauseReading`, `Steps` and `HeaderSteps` serve private
--- clauses alone.
+-- To be trusted by whoever reads the contracts: `ClauseTexts`, `Headers`, `LineTexts`, `HeaderRefusal`, `PassingHeaders` and
+-- `WrittenTexts`, and for the certificate of two graphs `SameFiles`; `WrittenLaws` says what is read of a text that was written.
+-- `ClauseReading`, `Steps` and `HeaderSteps` serve private clauses alone.
 pub mod ClauseTexts
 pub mod Headers
 pub mod LineTexts
 pub mod HeaderRefusal
-pub mod FileStates
+pub mod PassingHeaders
 pub mod ClauseReading
 pub mod Steps
 pub mod HeaderSteps

@@ -1,4 +1,4 @@
--- What a text says, and why it says nothing.
+-- What a text says.
 use Rattle.std.specs.Prelude.{◌≡◌, ◌⊎◌, ℕ, ◌+◌, ◌<◌, ◌≤◌, Bool, List, IfSome}
 use Rattle.std.specs.declared.option.Option.{Option}
 use Rattle.graph_core.specs.declared.literal.Lit.{Lit}
@@ -8,8 +8,6 @@ use Rattle.ripple_graft.specs.Grafts.{HasRoom}
 use Rattle.clause_core.specs.Clause.{IsClauseInRange, SameSet}
 use Rattle.clause_core.specs.ClauseLines.{ClauseLine, clause_in}
 use Rattle.clause_core.specs.declared.line.Line.TheVariants.{Add, Delete}
-use Rattle.mv_desk.specs.declared.faults.LineFail.{LineFail}
-use Rattle.mv_desk.specs.declared.faults.LineFail.TheVariants as fail
 use Rattle.drup_text.specs.ClauseTexts.{IsBlockLine, IsClauseLine, IsCountLine, IsCutLine, IsPairLine}
 
 -- ---- what is in range
@@ -64,11 +62,3 @@ IsCountTextOf outputs bytes n = IsCountLine bytes n × IsCountInRange outputs n
 
 abbrev pub IsBlockTextOf : Extended → List ℕ → ℕ × ℕ × Bool → Type 0
 IsBlockTextOf e bytes h = IsBlockLine bytes h × IsHeadOf e h
-
--- Why a text says nothing: none has it, or one out of range does; or want of memory.
-abbrev pub IsRefusedText : {X : Type 0} → (List ℕ → X → Type 0) → (X → Type 0) → List ℕ → LineFail → Type 0
-IsRefusedText {X} IsText InRange bytes fail.Text = (x : X) → IsText bytes x → ⊥
-IsRefusedText {X} IsText InRange bytes fail.Range = (x : X) × IsText bytes x × ¬ (InRange x)
-IsRefusedText IsText InRange bytes fail.Fault = ⊥
-IsRefusedText IsText InRange bytes fail.TooLong = ⊥
-IsRefusedText IsText InRange bytes fail.Memory = Unit {0}

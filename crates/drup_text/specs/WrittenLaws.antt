@@ -6,7 +6,7 @@ use Rattle.graph_core.specs.Text.JudgedLines.{IsWithin, Lengths}
 use Rattle.clause_core.specs.Clause.{IsLiteral}
 use Rattle.clause_core.specs.ClauseLines.{ClauseLine, clause_in}
 use Rattle.drup_text.specs.declared.head.Header.{Header}
-use Rattle.drup_text.specs.FileStates.{PassesAnyHeader}
+use Rattle.drup_text.specs.PassingHeaders.{PassesAnyHeader}
 use Rattle.drup_text.specs.HeaderRefusal.{LineCause, IsHeaderRefusal}
 use Rattle.drup_text.specs.Headers.{IsAnyClauseFile, IsHeaderOf}
 use Rattle.drup_text.specs.LineTexts.{IsLineInRange, IsTextOf}

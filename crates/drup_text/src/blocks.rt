@@ -6,16 +6,16 @@ ghost use Rattle.mv_desk.specs.declared.slot.Slot.TheVariants.{Clauses};
 ghost use Rattle.mv_text.specs.LineReading.{FitsPiece, known_from};
 ghost use Rattle.ripple_graft.specs.Blocks.{AreBlocks, IsBlock, graft_block};
 ghost use Rattle.drup_text.specs.ClauseTexts.{IsBlockLine, IsCountLine};
-ghost use Rattle.drup_text.specs.FileStates.{IsLineRefusal, TakesSome, TakesText, block_lines};
+ghost use Rattle.mv_text.specs.CertificateFiles.{IsLineRefusal, TakesSome, TakesText};
+ghost use Rattle.drup_text.specs.PassingHeaders.{block_lines};
 ghost use Rattle.drup_text.specs.HeaderSteps.{IsBlockRefusal, IsBlocksRefusal, IsCountRefusal, TakesBlock, TakesBlocks, TakesCount};
 ghost use Rattle.drup_text.specs.LineTexts.{IsBlockTextOf, IsCountInRange, IsCountTextOf, IsHeadOf};
 
 use crate::fault::StartFail;
 use crate::header::pairs;
 use crate::header_reading::{read_count, read_head};
-use crate::needed::needed_line;
 use graph_core::Graph;
-use mv_desk::{Desk, LineFail};
+use mv_desk::{Desk, LineFail, Slot};
 use mv_text::LineReader;
 use ripple_graft::{Block, Cut, Extended, Pairs};
 use std::alloc::Global;
@@ -71,7 +71,7 @@ fn next_count<D: Desk>(
     ensures piece { FitsPiece lines.new }
     ensures reads { Reads Clauses (D.seen desk.old) (D.seen desk.new) result }
 {
-    match needed_line(alloc, lines, desk) {
+    match lines.needed_line(alloc, desk, Slot::Clauses) {
         Ok(line) => read_count(&line, graph.outputs()),
         Err(fail) => Err(fail),
     }
@@ -185,7 +185,7 @@ fn next_head<D: Desk>(
     ensures piece { FitsPiece lines.new }
     ensures reads { Reads Clauses (D.seen desk.old) (D.seen desk.new) result }
 {
-    match needed_line(alloc, lines, desk) {
+    match lines.needed_line(alloc, desk, Slot::Clauses) {
         Ok(line) => read_head(&line, extended),
         Err(fail) => Err(fail),
     }

@@ -6,48 +6,43 @@ ghost use Rattle.mv_desk.specs.declared.slot.Slot.TheVariants.{Clauses};
 ghost use Rattle.mv_text.specs.LineReading.{FitsPiece, known_from, lengths_of};
 ghost use Rattle.ripple_graft.specs.Blocks.{IsCut, block_of};
 ghost use Rattle.drup_text.specs.ClauseTexts.{IsClauseLine};
-ghost use Rattle.drup_text.specs.FileStates.{GoesOn, HasHeader, IsAtEnd, IsNextRefusal, IsStartRefusal, TakesSome, TakesText, block_lines, left_ahead, lines_in, own_line};
+ghost use Rattle.mv_text.specs.CertificateFiles.{AnswersAgain, GoesOn, HasFirstLine, IsStarted, KeepsFile, ReadsLine, left_of};
+ghost use Rattle.drup_text.specs.PassingHeaders.{HasHeader, IsStartRefusal, block_lines, lines_in, own_line};
 ghost use Rattle.drup_text.specs.HeaderSteps.{IsVersionRefusal, TakesVersion};
 ghost use Rattle.drup_text.specs.Headers.{IsHeaderOf};
 ghost use Rattle.ripple_graft.specs.HeaderBlocks.{AreHeaderBlocks};
 ghost use Rattle.drup_text.specs.LineTexts.{IsLineInRange, IsTextOf};
-ghost use Rattle.drup_text.specs.SameFiles.{HasSameLine, IsSameStartRefusal};
+ghost use Rattle.drup_text.specs.SameFiles.{IsSameStartRefusal, same_line};
 
 use crate::blocks::listed_blocks;
 use crate::fault::StartFail;
 use crate::head::Header;
-use crate::header::{cut, first_line, version};
+use crate::header::{cut, version};
 use crate::line_reading::read_line;
 use clause_core::Line;
 use graph_core::Graph;
 use mv_desk::{Desk, Limits, LineFail, Slot};
-use mv_text::LineReader;
+use mv_text::{CertificateFile, LineReader};
 use ripple_graft::{Block, BlockList, Cut};
 use std::alloc::Global;
 use std::marker::Model;
 
 /// A clause certificate that is read line by line from the slot `Clauses` of a desk.
 ///
-/// Contracts see the bytes of the piece in hand, how many bytes were taken before them, the lengths that are allowed,
-/// how many lines were read or refused, whether the end was met, and the answer from the first failure on.
+/// Contracts see its version, the bytes of the piece in hand, how many bytes were taken before them, the lengths that are
+/// allowed, how many lines were read or refused, whether the end was met, and the answer from the first failure on.
 #[derive(Drop)]
 pub struct ClauseFile {
     alloc: Global,
-    lines: LineReader,
-    number: u64,
-    ended: bool,
-    failed: Option<LineFail>,
+    file: CertificateFile,
 }
 
 impl Model for ClauseFile {
-    ghost use Rattle.drup_text.specs.FileStates.{FileState, IsCounted};
+    ghost use Rattle.mv_text.specs.CertificateFiles.{FileState};
 
     ghost Value = { FileState };
 
-    ghost view = { λ f. record { lines = f.lines; number = f.number; ended = f.ended; failed = f.failed } };
-
-    ghost invariant = { λ f. IsCounted
-        (record { lines = f.lines; number = f.number; ended = f.ended; failed = f.failed }) };
+    ghost view = { λ f. f.file };
 }
 
 impl ClauseFile {
@@ -67,14 +62,11 @@ impl ClauseFile {
     ) -> Result<(ClauseFile, Header), StartFail>
         requires { (D.seen desk.old).reads Clauses ≡ true }
         ensures header { IfOk result (λ r. IfSome ((D.seen desk.old).left Clauses)
-            (λ bytes. HasHeader graph.now r.0 bytes (left_ahead r.0 ((D.seen desk.new).left Clauses)) r.1)) }
+            (λ bytes. HasHeader graph.now r.0 bytes (left_of Clauses r.0 (D.seen desk.new)) r.1)) }
         ensures fits { IfOk result (λ r. IsHeaderOf graph.now r.1) }
         ensures refused { IfErr result (IsStartRefusal graph.now (lengths_of limits.now)
             ((D.seen desk.old).left Clauses) (D.seen desk.old).read_faults (D.seen desk.new).read_faults) }
-        ensures number { IfOk result (λ r. r.0.number ≡ lines_in r.1.version r.1.blocks) }
-        ensures goes_on { IfOk result (λ r. GoesOn r.0) }
-        ensures lengths { IfOk result (λ r. r.0.lines.lengths ≡ lengths_of limits.now) }
-        ensures piece { IfOk result (λ r. FitsPiece r.0.lines) }
+        ensures file { IfOk result (λ r. IsStarted r.1.version (lines_in r.1.version r.1.blocks) limits.now r.0) }
         ensures reads { Reads Clauses (D.seen desk.old) (D.seen desk.new) result }
     {
         let mut lines = LineReader::new(limits);
@@ -85,15 +77,8 @@ impl ClauseFile {
                         version,
                         blocks: BlockList::from_vec(blocks),
                     };
-                    let number = header_lines(&header);
-                    let file = ClauseFile {
-                        alloc,
-                        lines,
-                        number,
-                        ended: false,
-                        failed: None,
-                    };
-                    Ok((file, header))
+                    let file = CertificateFile::behind(lines, version, header_lines(&header));
+                    Ok((ClauseFile { alloc, file }, header))
                 }
                 Err(fail) => Err(fail),
             },
@@ -113,24 +98,15 @@ impl ClauseFile {
     ) -> Result<ClauseFile, StartFail>
         requires { (D.seen desk.old).reads Clauses ≡ true }
         ensures header { IfOk result (λ file. IfSome ((D.seen desk.old).left Clauses)
-            (λ bytes. HasSameLine file bytes (left_ahead file ((D.seen desk.new).left Clauses)))) }
+            (λ bytes. HasFirstLine same_line file.lines bytes (left_of Clauses file (D.seen desk.new)))) }
         ensures refused { IfErr result (IsSameStartRefusal (lengths_of limits.now)
             ((D.seen desk.old).left Clauses) (D.seen desk.old).read_faults (D.seen desk.new).read_faults) }
-        ensures number { IfOk result (λ file. file.number ≡ 1) }
-        ensures goes_on { IfOk result GoesOn }
-        ensures lengths { IfOk result (λ file. file.lines.lengths ≡ lengths_of limits.now) }
-        ensures piece { IfOk result (λ file. FitsPiece file.lines) }
+        ensures file { IfOk result (IsStarted 1 1 limits.now) }
         ensures reads { Reads Clauses (D.seen desk.old) (D.seen desk.new) result }
     {
-        let mut lines = LineReader::new(limits);
-        match first_line(alloc, &mut lines, desk, b"same 1".as_slice()) {
-            Ok(()) => Ok(ClauseFile {
-                alloc,
-                lines,
-                number: 1,
-                ended: false,
-                failed: None,
-            }),
+        let first = b"same 1".as_slice();
+        match CertificateFile::start(alloc, desk, Slot::Clauses, 1, first, limits) {
+            Ok(file) => Ok(ClauseFile { alloc, file }),
             Err(why) => Err(StartFail { line: 1, why }),
         }
     }
@@ -142,51 +118,19 @@ impl ClauseFile {
     pub fn next<D: Desk>(&mut self, desk: &mut D, max: u32) -> Result<Option<Line>, LineFail>
         requires open { (D.seen desk.old).reads Clauses ≡ true }
         requires small { max < 2 ^ 31 }
-        ensures text { IfOk result (λ r. IfSome r
-            (λ line. (text : List ℕ) × IsTextOf max text line)) }
-        ensures line { IfOk result (λ r. IfSome r (λ line.
-            IfSome (left_ahead self.old ((D.seen desk.old).left Clauses))
-            (λ left. TakesText (IsTextOf max) self.old.lines self.new.lines left
-            (left_ahead self.new ((D.seen desk.new).left Clauses)) line))) }
-        ensures end { GoesOn self.old → IfOk result (λ r. IfNone r
-            (IfSome (left_ahead self.old ((D.seen desk.old).left Clauses)) (IsAtEnd self.old.lines))) }
-        ensures refused { GoesOn self.old → IfErr result (IsNextRefusal IsClauseLine (IsLineInRange max) self.old.lines
-            (left_ahead self.old ((D.seen desk.old).left Clauses))
-            (D.seen desk.old).read_faults (D.seen desk.new).read_faults) }
-        ensures number { IfOk result
-            (λ r. self.new.number ≡ self.old.number + length (option_to_list r)) }
-        ensures refused_number { GoesOn self.old → OnErr result
-            (self.new.number ≡ self.old.number + 1) }
-        ensures goes_on { GoesOn self.old → IfOk result (λ r. IfSome r (λ line. GoesOn self.new)) }
-        ensures ended { IfOk result (λ r. IfNone r (self.new.ended ≡ true)) }
-        ensures ended_again { self.old.failed ≡ None → self.old.ended ≡ true → result ≡ Ok None }
-        ensures failed { self.new.failed ≡ result_err result }
-        ensures failed_again { IfSome self.old.failed (λ fail.
-            (result ≡ Err fail) × (self.new.number ≡ self.old.number)) }
-        ensures lengths { self.new.lines.lengths ≡ self.old.lines.lengths }
-        ensures piece { FitsPiece self.new.lines }
+        ensures next { GoesOn self.old → ReadsLine IsClauseLine (IsLineInRange max) (IsTextOf max)
+            Clauses self.old self.new (D.seen desk.old) (D.seen desk.new) result }
+        ensures again { AnswersAgain (Ok None) self.old self.new result }
+        ensures keeps { KeepsFile self.old self.new result }
         ensures reads { Reads Clauses (D.seen desk.old) (D.seen desk.new) result }
     {
-        if let Some(fail) = self.failed {
-            return Err(fail);
-        }
-        if self.ended {
-            return Ok(None);
-        }
-        match next_line(self.alloc, &mut self.lines, desk, max) {
-            Ok(Some(line)) => {
-                self.number += 1;
-                Ok(Some(line))
-            }
-            Ok(None) => {
-                self.ended = true;
-                Ok(None)
-            }
-            Err(fail) => {
-                self.number += 1;
-                self.failed = Some(fail);
-                Err(fail)
-            }
+        match self.file.next_line(self.alloc, desk, Slot::Clauses) {
+            Ok(Some(line)) => match self.file.settle(read_line(self.alloc, &line, max)) {
+                Ok(line) => Ok(Some(line)),
+                Err(fail) => Err(fail),
+            },
+            Ok(None) => Ok(None),
+            Err(fail) => Err(fail),
         }
     }
 
@@ -194,7 +138,7 @@ impl ClauseFile {
     pub fn line_no(&self) -> u64
         ensures { result ≡ self.now.number }
     {
-        self.number
+        self.file.line_no()
     }
 }
 
@@ -277,39 +221,4 @@ fn own_line(version: u8) -> u64
     ensures { result ≡ own_line version }
 {
     if version == 2 { 1 } else { 0 }
-}
-
-// The next line of the file, or none at its end.
-fn next_line<D: Desk>(
-    alloc: Global,
-    lines: &mut LineReader,
-    desk: &mut D,
-    max: u32,
-) -> Result<Option<Line>, LineFail>
-    requires open { (D.seen desk.old).reads Clauses ≡ true }
-    requires small { max < 2 ^ 31 }
-    ensures text { IfOk result (λ r. IfSome r
-        (λ line. (text : List ℕ) × IsTextOf max text line)) }
-    ensures line { IfOk result (λ r. IfSome r (λ line.
-        IfSome (known_from lines.old.ahead ((D.seen desk.old).left Clauses))
-        (λ left. TakesText (IsTextOf max) lines.old lines.new left
-        (known_from lines.new.ahead ((D.seen desk.new).left Clauses)) line))) }
-    ensures end { IfOk result (λ r. IfNone r
-        (IfSome (known_from lines.old.ahead ((D.seen desk.old).left Clauses)) (IsAtEnd lines.old))) }
-    ensures refused { IfErr result (IsNextRefusal IsClauseLine (IsLineInRange max) lines.old
-        (known_from lines.old.ahead ((D.seen desk.old).left Clauses))
-        (D.seen desk.old).read_faults (D.seen desk.new).read_faults) }
-    ensures some { IfOk result (λ r. IfSome r (λ line. TakesSome lines.old lines.new)) }
-    ensures lengths { lines.new.lengths ≡ lines.old.lengths }
-    ensures piece { FitsPiece lines.new }
-    ensures reads { Reads Clauses (D.seen desk.old) (D.seen desk.new) result }
-{
-    match lines.next_line(alloc, desk, Slot::Clauses) {
-        Ok(Some(line)) => match read_line(alloc, &line, max) {
-            Ok(line) => Ok(Some(line)),
-            Err(fail) => Err(fail),
-        },
-        Ok(None) => Ok(None),
-        Err(fail) => Err(fail),
-    }
 }

@@ -1,58 +1,23 @@
 // The header of a certificate, line by line: its version, and in version 1 its cut.
 ghost use Rattle.std.specs.Prelude.{◌≡◌, ◌≢◌, ◌+◌, ◌≤◌, ◌<◌, ◌^◌, ◌⊎◌, ◌++◌, ◌∷◌, [], ℕ, true, All, IfOk, IfErr, IfSome, OnOk, length, ⊤};
-ghost use Rattle.std.specs.List.{AllByRecursion};
-ghost use Rattle.graph_core.specs.Text.{newline};
 ghost use Rattle.mv_desk.specs.Calls.{Reads};
 ghost use Rattle.mv_desk.specs.declared.slot.Slot.TheVariants.{Clauses};
 ghost use Rattle.mv_text.specs.LineReading.{FitsPiece, known_from};
 ghost use Rattle.drup_text.specs.ClauseTexts.{IsCutLine, IsPairLine};
-ghost use Rattle.drup_text.specs.FileStates.{IsLineRefusal, TakesSome, TakesText, lines_in};
+ghost use Rattle.mv_text.specs.CertificateFiles.{IsLineRefusal, TakesSome, TakesText};
+ghost use Rattle.drup_text.specs.PassingHeaders.{lines_in};
 ghost use Rattle.drup_text.specs.HeaderSteps.{IsCutRefusal, IsPairsRefusal, TakesCut, TakesPairs};
-ghost use Rattle.drup_text.specs.Headers.{IsThis, IsVersionLine};
+ghost use Rattle.drup_text.specs.Headers.{IsVersionLine};
 ghost use Rattle.ripple_graft.specs.HeaderBlocks.{IsCutOf, cut_blocks};
 ghost use Rattle.drup_text.specs.LineTexts.{IsCutTextOf, IsPairOf, IsPairTextOf, IsSizeInRange};
 
 use crate::fault::StartFail;
 use crate::header_reading::{read_pair, read_size};
-use crate::needed::needed_line;
 use graph_core::{Graph, Lit};
-use mv_desk::{Desk, LineFail};
+use mv_desk::{Desk, LineFail, Slot};
 use mv_text::LineReader;
 use ripple_graft::{Cut, Extended, Pairs};
 use std::alloc::Global;
-
-// The first line, which has to be this text.
-pub(crate) fn first_line<D: Desk>(
-    alloc: Global,
-    lines: &mut LineReader,
-    desk: &mut D,
-    text: &[u8],
-) -> Result<(), LineFail>
-    requires reads { (D.seen desk.old).reads Clauses ≡ true }
-    requires plain { AllByRecursion (λ b. b ≢ newline) text.now }
-    requires some { 0 < length text.now }
-    ensures line { OnOk result (IfSome (known_from lines.old.ahead ((D.seen desk.old).left Clauses))
-        (λ left. TakesText (IsThis text.now) lines.old lines.new left
-        (known_from lines.new.ahead ((D.seen desk.new).left Clauses)) tt)) }
-    ensures refused { IfErr result (IsLineRefusal (IsThis text.now) (λ x. ⊤) lines.old
-        (known_from lines.old.ahead ((D.seen desk.old).left Clauses))
-        (D.seen desk.old).read_faults (D.seen desk.new).read_faults) }
-    ensures some { OnOk result (TakesSome lines.old lines.new) }
-    ensures two { OnOk result (lines.old.taken + 2 ≤ lines.new.taken) }
-    ensures lengths { lines.new.lengths ≡ lines.old.lengths }
-    ensures piece { FitsPiece lines.new }
-    ensures reads { Reads Clauses (D.seen desk.old) (D.seen desk.new) result }
-{
-    match needed_line(alloc, lines, desk) {
-        Ok(line) => {
-            if line.as_slice() == text {
-                return Ok(());
-            }
-            Err(LineFail::Text)
-        }
-        Err(fail) => Err(fail),
-    }
-}
 
 // The first line: the version.
 pub(crate) fn version<D: Desk>(
@@ -74,7 +39,7 @@ pub(crate) fn version<D: Desk>(
     ensures piece { FitsPiece lines.new }
     ensures reads { Reads Clauses (D.seen desk.old) (D.seen desk.new) result }
 {
-    match needed_line(alloc, lines, desk) {
+    match lines.needed_line(alloc, desk, Slot::Clauses) {
         Ok(line) => {
             if line.as_slice() == b"joined 1".as_slice() {
                 return Ok(1);
@@ -152,7 +117,7 @@ fn next_size<D: Desk>(
     ensures piece { FitsPiece lines.new }
     ensures reads { Reads Clauses (D.seen desk.old) (D.seen desk.new) result }
 {
-    match needed_line(alloc, lines, desk) {
+    match lines.needed_line(alloc, desk, Slot::Clauses) {
         Ok(line) => read_size(&line, graph.outputs()),
         Err(fail) => Err(fail),
     }
@@ -220,7 +185,7 @@ fn next_pair<D: Desk>(
     ensures piece { FitsPiece lines.new }
     ensures reads { Reads Clauses (D.seen desk.old) (D.seen desk.new) result }
 {
-    match needed_line(alloc, lines, desk) {
+    match lines.needed_line(alloc, desk, Slot::Clauses) {
         Ok(line) => read_pair(&line, extended),
         Err(fail) => Err(fail),
     }

@@ -3,7 +3,8 @@ ghost use Rattle.std.specs.Prelude.{◌≡◌, ◌↔◌, None, IsTrue, IfOk, If
 ghost use Rattle.mv_text.specs.Steps.{IsMisfit, Takes};
 ghost use Rattle.drup_text.specs.ClauseReading.{block_line_at, carry_at, count_line_at, cut_line_at, pair_line_at, two_at};
 ghost use Rattle.drup_text.specs.ClauseTexts.{IsBlockLine, IsCountLine, IsCutLine, IsPairLine};
-ghost use Rattle.drup_text.specs.LineTexts.{IsBlockTextOf, IsCountInRange, IsCountTextOf, IsCutSize, IsCutTextOf, IsHeadOf, IsPairOf, IsPairTextOf, IsRefusedText, IsSizeInRange};
+ghost use Rattle.mv_text.specs.CertificateFiles.{IsRefusedText};
+ghost use Rattle.drup_text.specs.LineTexts.{IsBlockTextOf, IsCountInRange, IsCountTextOf, IsCutSize, IsCutTextOf, IsHeadOf, IsPairOf, IsPairTextOf, IsSizeInRange};
 ghost use Rattle.drup_text.specs.Steps.{TakesCarry, TakesCountLine, TakesHead, TakesPair, TakesSize, TakesTwo};
 
 use crate::numbers::{number, spaced_number};

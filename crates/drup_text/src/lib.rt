@@ -25,7 +25,6 @@ mod header;
 mod header_reading;
 mod laws;
 mod line_reading;
-mod needed;
 mod numbers;
 mod writing;
 

@@ -3,7 +3,8 @@ ghost use Rattle.std.specs.Prelude.{◌≡◌, ◌<◌, ◌^◌, None, IfOk, IfE
 ghost use Rattle.mv_text.specs.Steps.{IsMisfit};
 ghost use Rattle.drup_text.specs.ClauseReading.{clause_line_at};
 ghost use Rattle.drup_text.specs.ClauseTexts.{IsClauseLine};
-ghost use Rattle.drup_text.specs.LineTexts.{IsLineInRange, IsRefusedText, IsTextOf};
+ghost use Rattle.mv_text.specs.CertificateFiles.{IsRefusedText};
+ghost use Rattle.drup_text.specs.LineTexts.{IsLineInRange, IsTextOf};
 ghost use Rattle.drup_text.specs.Steps.{TakesLine};
 
 use crate::clause_reading::clause;

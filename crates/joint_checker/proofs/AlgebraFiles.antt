@@ -13,7 +13,7 @@ use Rattle.mv_desk.specs.View.{View}
 use Rattle.mv_desk.specs.declared.faults.LineFail.{LineFail}
 use Rattle.mv_desk.specs.declared.faults.LineFail.TheVariants as fail
 use Rattle.mv_desk.specs.declared.slot.Slot.TheVariants as slot
-use Rattle.poly_text.specs.AlgebraFiles.{FileState, HasHeader, IsHeaderRefusal}
+use Rattle.mv_text.specs.CertificateFiles.{FileState, HasFirstLine, IsFirstRefusal}
 use Rattle.joint_checker.specs.declared.checked.Checked.{Checked}
 use Rattle.joint_checker.specs.declared.checked.Checked.TheVariants as checked
 use Rattle.joint_checker.specs.declared.checked.Refusal.TheVariants as refusal
@@ -34,7 +34,7 @@ none_first version = go (version == 2)
 
 module _ (lengths : Lengths) (given : Premises) (sides : Sides) where
   -- the first line isn't the header
-  pub header_fails : (text : Option (List ℕ)) (before now : View) (why : LineFail) → IsHeaderRefusal given.version lengths text before.read_faults now.read_faults why → IsAlgebraFail lengths given sides text before now (answer_of_line 1 why)
+  pub header_fails : (text : Option (List ℕ)) (before now : View) (why : LineFail) → IsFirstRefusal (algebra_header given.version) lengths text before.read_faults now.read_faults why → IsAlgebraFail lengths given sides text before now (answer_of_line 1 why)
   header_fails text before now fail.Text h =
       told_more text _ (λ bytes. IsAlgebraRefusal given sides lengths bytes (1, cause.Text)) (λ bytes k. inr (k.0, inl (k.1, refl))) h
   header_fails text before now fail.Range h = absurd h
@@ -43,20 +43,17 @@ module _ (lengths : Lengths) (given : Premises) (sides : Sides) where
       told_more text (λ bytes. IsTooLong lengths (length bytes) bytes) (λ bytes. (line : ℕ) × IsAlgebraRefusal given sides lengths bytes (line, cause.TooLong)) (λ bytes k. (1, inl (k, refl))) h
   header_fails text before now fail.Memory h = tt
 
-  module _ (file : FileState) (of : file.version ≡ given.version) (same : file.lines.lengths ≡ lengths) (bytes : List ℕ) (behind : Option (List ℕ)) (header : HasHeader file bytes behind) where
+  module _ (file : FileState) (same : file.lines.lengths ≡ lengths) (bytes : List ℕ) (behind : Option (List ℕ)) (header : HasFirstLine (algebra_header given.version) file.lines bytes behind) where
     whole : (P : (List ℕ → Type 0) → Type 0) → P (IsLongIn file.lines header.body) → P (IsTooLong lengths (length bytes))
     whole P h = subst (λ (k : Lengths). P (IsTooLong k (length bytes))) same (subst (λ (n : ℕ). P (IsTooLong file.lines.lengths n)) header.taken h)
 
     short : ¬ (IsTooLong lengths (length bytes) bytes)
     short = subst (λ (k : Lengths). ¬ (IsTooLong k (length bytes) bytes)) same header.short
 
-    begins : bytes ≡ algebra_header given.version ++ header.body
-    begins = subst (λ v. bytes ≡ algebra_header v ++ header.body) of header.begins
-
     pub file_is_lawful : IsLawfulBody given sides file.lines header.body → IsLawfulAlgebra lengths given sides bytes
     file_is_lawful h =
         let first = first_line given.version in
-        let is : bytes ≡ first ++ newline ∷ header.body = begins ∙ append_assoc first (newline ∷ []) header.body in
+        let is : bytes ≡ first ++ newline ∷ header.body = header.begins ∙ append_assoc first (newline ∷ []) header.body in
         let later : ShortFrom (IsTooLong lengths (length bytes)) header.body = whole (λ IsLong. ShortFrom IsLong header.body) h.short in
         let all : ShortFrom (IsTooLong lengths (length bytes)) bytes =
         subst (ShortFrom (IsTooLong lengths (length bytes))) (sym is)
@@ -73,25 +70,25 @@ module _ (lengths : Lengths) (given : Premises) (sides : Sides) where
         )
 
     pub file_is_refused : (line : ℕ) (c : AlgebraCause) → IsRefusedBody given sides (IsLongIn file.lines header.body) header.body (line, c) → IsAlgebraRefusal given sides lengths bytes (line, c)
-    file_is_refused line c h = inr (short, inr (header.body, begins, whole (λ IsLong. IsRefusedBody given sides IsLong header.body (line, c)) h))
+    file_is_refused line c h = inr (short, inr (header.body, header.begins, whole (λ IsLong. IsRefusedBody given sides IsLong header.body (line, c)) h))
 
   -- ---- where the file is told
 
-  module _ (file : FileState) (of : file.version ≡ given.version) (same : file.lines.lengths ≡ lengths) (text : Option (List ℕ)) (behind : Option (List ℕ)) (header : IfSome text (λ bytes. HasHeader file bytes behind)) where
+  module _ (file : FileState) (same : file.lines.lengths ≡ lengths) (text : Option (List ℕ)) (behind : Option (List ℕ)) (header : IfSome text (λ bytes. HasFirstLine (algebra_header given.version) file.lines bytes behind)) where
     pub text_is_lawful : IfSome behind (IsLawfulBody given sides file.lines) → IfSome text (IsLawfulAlgebra lengths given sides)
-    text_is_lawful h = told_more text (λ bytes. HasHeader file bytes behind) (IsLawfulAlgebra lengths given sides)
-        (λ bytes k. file_is_lawful file of same bytes behind k (told_of behind k.body (IsLawfulBody given sides file.lines) k.left h)) header
+    text_is_lawful h = told_more text (λ bytes. HasFirstLine (algebra_header given.version) file.lines bytes behind) (IsLawfulAlgebra lengths given sides)
+        (λ bytes k. file_is_lawful file same bytes behind k (told_of behind k.body (IsLawfulBody given sides file.lines) k.left h)) header
 
     refused_text : (line : ℕ) (c : AlgebraCause) → IfSome behind (λ body. IsRefusedBody given sides (IsLongIn file.lines body) body (line, c)) →
         IfSome text (λ bytes. IsAlgebraRefusal given sides lengths bytes (line, c))
-    refused_text line c h = told_more text (λ bytes. HasHeader file bytes behind) (λ bytes. IsAlgebraRefusal given sides lengths bytes (line, c))
-        (λ bytes k. file_is_refused file of same bytes behind k line c (told_of behind k.body (λ body. IsRefusedBody given sides (IsLongIn file.lines body) body (line, c)) k.left h)) header
+    refused_text line c h = told_more text (λ bytes. HasFirstLine (algebra_header given.version) file.lines bytes behind) (λ bytes. IsAlgebraRefusal given sides lengths bytes (line, c))
+        (λ bytes k. file_is_refused file same bytes behind k line c (told_of behind k.body (λ body. IsRefusedBody given sides (IsLongIn file.lines body) body (line, c)) k.left h)) header
 
     long_text : IfSome behind (λ body. (line : ℕ) × IsRefusedBody given sides (IsLongIn file.lines body) body (line, cause.TooLong)) →
         IfSome text (λ bytes. (line : ℕ) × IsAlgebraRefusal given sides lengths bytes (line, cause.TooLong))
-    long_text h = told_more text (λ bytes. HasHeader file bytes behind) (λ bytes. (line : ℕ) × IsAlgebraRefusal given sides lengths bytes (line, cause.TooLong))
+    long_text h = told_more text (λ bytes. HasFirstLine (algebra_header given.version) file.lines bytes behind) (λ bytes. (line : ℕ) × IsAlgebraRefusal given sides lengths bytes (line, cause.TooLong))
         (λ bytes k. let there = told_of behind k.body (λ body. (line : ℕ) × IsRefusedBody given sides (IsLongIn file.lines body) body (line, cause.TooLong)) k.left h in
-        (there.0, file_is_refused file of same bytes behind k there.0 cause.TooLong there.1)) header
+        (there.0, file_is_refused file same bytes behind k there.0 cause.TooLong there.1)) header
 
     -- what is behind the header isn't lawful
     pub body_fails : (first before now : View) (answer : Checked) → first.read_faults ≤ before.read_faults → IsBodyFail given sides file.lines behind before now answer → IsAlgebraFail lengths given sides text first now answer

@@ -23,7 +23,7 @@ use Rattle.clause_core.proofs.Decided.{decided_contains}
 use Rattle.drup_text.specs.declared.head.Header.{Header}
 use Rattle.drup_text.specs.ClauseTexts.{IsBlockLine, IsCountLine, IsCutLine, IsPairLine}
 use Rattle.drup_text.specs.ClauseReading.{block_line_at, count_line_at, cut_line_at, pair_line_at}
-use Rattle.drup_text.specs.FileStates.{PassBlocks, PassesAnyHeader, PassesCount, PassesCut}
+use Rattle.drup_text.specs.PassingHeaders.{PassBlocks, PassesAnyHeader, PassesCount, PassesCut}
 use Rattle.drup_text.specs.HeaderRefusal.{HasNoVersion, IsFirstRefusal, IsPairStep, IsRefusedBehindCut, IsRefusedBehindPairs, IsRefusedBlocks, IsRefusedCount, IsRefusedCut, IsRefusedPair, IsRefusedPairs, Later, LineCause, Range, Text, TooLong, block_at, cut_at}
 use Rattle.drup_text.specs.Headers.{IsHeaderOf, extended_with, head_of, second_line, version_line}
 use Rattle.drup_text.specs.LineTexts.{IsCountInRange, IsCutSize, IsHeadOf, IsPairOf}

@@ -10,7 +10,8 @@ use Rattle.clause_core.specs.ClauseLines.{ClauseLine, IsGoalRefusal, added}
 use Rattle.clause_core.specs.GateClauses.{gate_clauses}
 use Rattle.drup_checker.specs.declared.keeps.Keeps.TheVariants as keep
 use Rattle.drup_text.specs.declared.head.Header.{Header}
-use Rattle.drup_text.specs.FileStates.{FileState, HasHeader, IsCause, PassesAnyHeader, lines_in}
+use Rattle.mv_text.specs.CertificateFiles.{FileState}
+use Rattle.drup_text.specs.PassingHeaders.{HasHeader, IsCause, PassesAnyHeader, lines_in}
 use Rattle.drup_text.specs.HeaderRefusal.{IsHeaderRefusal, LineCause, Range, Text, TooLong}
 use Rattle.drup_text.specs.Headers.{extended_with}
 use Rattle.drup_text.proofs.CallerLemmas.{behind_header, header_anyhow}

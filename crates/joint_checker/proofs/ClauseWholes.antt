@@ -22,7 +22,7 @@ use Rattle.clause_core.specs.GateClauses.{gate_clauses}
 use Rattle.clause_core.proofs.Goals.{goals_are_exact}
 use Rattle.drup_text.specs.declared.head.Header.{Header}
 use Rattle.drup_text.specs.ClauseTexts.{IsBlockLine, IsCountLine, IsCutLine, IsPairLine}
-use Rattle.drup_text.specs.FileStates.{PassBlocks, PassesAnyHeader, PassesBlocks, PassesCount, PassesCut, PassesHeader}
+use Rattle.drup_text.specs.PassingHeaders.{PassBlocks, PassesAnyHeader, PassesBlocks, PassesCount, PassesCut, PassesHeader}
 use Rattle.drup_text.specs.HeaderRefusal.{IsPairStep}
 use Rattle.drup_text.specs.Headers.{extended_with}
 use Rattle.drup_text.proofs.CallerLemmas.{header_said, none_block, none_count, none_cut, none_pair}

@@ -23,7 +23,8 @@ use Rattle.pac_checker.specs.declared.fault.CloseFault.{CloseFault}
 use Rattle.pac_checker.specs.declared.fault.CloseFault.TheVariants as close
 use Rattle.graph_core.proofs.OfAlgebra.CallerLemmas.{after_agrees, agree_trans, closes_agrees, lawful_agrees, refused_close_in_range_agrees, refused_in_range_agrees, likeness_is_kept}
 use Rattle.poly_terms.specs.Tables.{Table, modulus}
-use Rattle.poly_text.specs.AlgebraFiles.{BeginsOutOfRange, BeginsWithNone, IsNextRefusal, TakesText}
+use Rattle.mv_text.specs.CertificateFiles.{BeginsOutOfRange, BeginsWithNone, IsLineRefusal, TakesText}
+use Rattle.poly_text.specs.LineTexts.{IsAnyInRange, IsAnyText, IsTextOf}
 use Rattle.graph_core.specs.Algebra.Likeness.{AreAlike}
 use Rattle.poly_text.specs.Lines.{line_in}
 use Rattle.mv_text.specs.LineReading.{IsLongAhead, Lines}
@@ -65,16 +66,16 @@ refused_text c line n fault answer is other h =
 
 -- no line is read
 pub text_fails : (n version : ℕ) (e : Extended) (sides : Sides) (l : Ledger) (max : ℕ) (lines : Lines) (left : Option (List ℕ)) (before now : View) (given : LineFail) → max ≡ e.max →
-    IsNextRefusal version max lines left before.read_faults now.read_faults given → IsLineFail n version e sides l lines left before now (answer_of_line n given)
+    IsLineRefusal (IsAnyText version) (IsAnyInRange max) lines left before.read_faults now.read_faults given → IsLineFail n version e sides l lines left before now (answer_of_line n given)
 text_fails n version e sides l max lines left before now text.Text same h = (
   refl,
-  told_more left (λ bytes. ¬ (IsLongAhead lines bytes) × BeginsWithNone version bytes) (λ bytes. IsRefusedNext version e sides (IsLongIn lines bytes) l bytes (0, cause.Text))
+  told_more left (λ bytes. ¬ (IsLongAhead lines bytes) × BeginsWithNone (IsAnyText version) bytes) (λ bytes. IsRefusedNext version e sides (IsLongIn lines bytes) l bytes (0, cause.Text))
       (λ bytes k. no_line_is_refused version e sides (IsLongIn lines bytes) l bytes k.0 k.1) h,
 )
 text_fails n version e sides l max lines left before now text.Range same h = (
   refl,
-  told_more left (λ bytes. ¬ (IsLongAhead lines bytes) × BeginsOutOfRange version max bytes) (λ bytes. IsRefusedNext version e sides (IsLongIn lines bytes) l bytes (0, cause.Range))
-      (λ bytes k. out_of_range_is_refused version e sides (IsLongIn lines bytes) l bytes k.0 (subst (λ (m : ℕ). BeginsOutOfRange version m bytes) same k.1)) h,
+  told_more left (λ bytes. ¬ (IsLongAhead lines bytes) × BeginsOutOfRange (IsAnyText version) (IsAnyInRange max) bytes) (λ bytes. IsRefusedNext version e sides (IsLongIn lines bytes) l bytes (0, cause.Range))
+      (λ bytes k. out_of_range_is_refused version e sides (IsLongIn lines bytes) l bytes k.0 (subst (λ (m : ℕ). BeginsOutOfRange (IsAnyText version) (IsAnyInRange m) bytes) same k.1)) h,
 )
 text_fails n version e sides l max lines left before now text.Fault same h = h
 text_fails n version e sides l max lines left before now text.TooLong same h = h
@@ -84,14 +85,14 @@ text_fails n version e sides l max lines left before now text.Memory same h = tt
 module _ (grown : Checking) (l : Ledger) (agrees : Agree (ledger_of grown) l) (same_modulus : modulus grown.table ≡ algebra.modulus grown.extended) (version max : ℕ) (same_max : max ≡ grown.extended.max)
     (old new : Lines) (left behind : Option (List ℕ)) where
   -- a line that is no closing line
-  module _ (line : PacLine) (given : IfSome left (λ bytes. TakesText grown.table version max old new bytes behind line)) where
+  module _ (line : PacLine) (given : IfSome left (λ bytes. TakesText (IsTextOf grown.table version max) old new bytes behind line)) where
     record IsThere (y : Line) (bytes rest : List ℕ) : Type 0 where
       x : Line
       begins : BeginsWith (IsLineText version) bytes x rest
       in_range : IsLineInRange grown.extended.max x
       alike : AreAlike (algebra.modulus grown.extended) x y
 
-    there : (y : Line) → line_in grown.table line ≡ Some y → (bytes : List ℕ) (h : TakesText grown.table version max old new bytes behind line) → IsThere y bytes h.rest
+    there : (y : Line) → line_in grown.table line ≡ Some y → (bytes : List ℕ) (h : TakesText (IsTextOf grown.table version max) old new bytes behind line) → IsThere y bytes h.rest
     there y is bytes h =
         let t = line_there grown.table version max bytes h.rest line y is h.begins in
         record {
@@ -103,7 +104,7 @@ module _ (grown : Checking) (l : Ledger) (agrees : Agree (ledger_of grown) l) (s
 
     -- it was lawful
     pub line_is_taken : (next : Checking) (y : Line) → line_in grown.table line ≡ Some y → Takes y grown next → IfSome left (λ bytes. TakesLawful version grown.extended l (ledger_of next) old new bytes behind)
-    line_is_taken next y is takes = told_more left (λ bytes. TakesText grown.table version max old new bytes behind line) (λ bytes. TakesLawful version grown.extended l (ledger_of next) old new bytes behind) (λ bytes h.
+    line_is_taken next y is takes = told_more left (λ bytes. TakesText (IsTextOf grown.table version max) old new bytes behind line) (λ bytes. TakesLawful version grown.extended l (ledger_of next) old new bytes behind) (λ bytes h.
         let t = there y is bytes h in
         let m = algebra.modulus grown.extended in
         let known = ledger_of grown in
@@ -121,7 +122,7 @@ module _ (grown : Checking) (l : Ledger) (agrees : Agree (ledger_of grown) l) (s
     module _ (sides : Sides) (n : ℕ) (before now : View) where
       refused_of : (c : AlgebraCause) (y : Line) → line_in grown.table line ≡ Some y → IsRefusedInRange grown.extended (ledger_of grown) y c →
           IfSome left (λ bytes. IsRefusedNext version grown.extended sides (IsLongIn old bytes) l bytes (0, c))
-      refused_of c y is refused = told_more left (λ bytes. TakesText grown.table version max old new bytes behind line) (λ bytes. IsRefusedNext version grown.extended sides (IsLongIn old bytes) l bytes (0, c)) (λ bytes h.
+      refused_of c y is refused = told_more left (λ bytes. TakesText (IsTextOf grown.table version max) old new bytes behind line) (λ bytes. IsRefusedNext version grown.extended sides (IsLongIn old bytes) l bytes (0, c)) (λ bytes h.
           let t = there y is bytes h in
           let here : IsRefusedInRange grown.extended l t.x c = refused_in_range_agrees grown.extended (ledger_of grown) l agrees t.x c (likeness_is_kept.refused grown.extended (ledger_of grown) t.x y c t.alike refused) in
           inr (h.short, inr (inl (t.x, h.rest, t.begins, (c, inr (t.in_range, here), refl))))) given
@@ -135,9 +136,9 @@ module _ (grown : Checking) (l : Ledger) (agrees : Agree (ledger_of grown) l) (s
       rule_fails y rule.Memory is h = tt
 
   -- a closing line
-  module _ (sides : Sides) (id : ℕ) (given : IfSome left (λ bytes. TakesText grown.table version max old new bytes behind (pac.Close id))) where
+  module _ (sides : Sides) (id : ℕ) (given : IfSome left (λ bytes. TakesText (IsTextOf grown.table version max) old new bytes behind (pac.Close id))) where
     pub line_is_closing : Closes grown.extended sides (ledger_of grown).live id → IfSome left (λ bytes. TakesClosing grown.extended sides l old new bytes behind)
-    line_is_closing closes = told_more left (λ bytes. TakesText grown.table version max old new bytes behind (pac.Close id)) (λ bytes. TakesClosing grown.extended sides l old new bytes behind) (λ bytes h.
+    line_is_closing closes = told_more left (λ bytes. TakesText (IsTextOf grown.table version max) old new bytes behind (pac.Close id)) (λ bytes. TakesClosing grown.extended sides l old new bytes behind) (λ bytes h.
         let t = close_there grown.table version max bytes h.rest id h.begins in
         record {
           id = id;
@@ -149,7 +150,7 @@ module _ (grown : Checking) (l : Ledger) (agrees : Agree (ledger_of grown) l) (s
         }) given
 
     refused_close : (c : AlgebraCause) → IsRefusedCloseInRange grown.extended sides (ledger_of grown) id c → IfSome left (λ bytes. IsRefusedNext version grown.extended sides (IsLongIn old bytes) l bytes (0, c))
-    refused_close c refused = told_more left (λ bytes. TakesText grown.table version max old new bytes behind (pac.Close id)) (λ bytes. IsRefusedNext version grown.extended sides (IsLongIn old bytes) l bytes (0, c)) (λ bytes h.
+    refused_close c refused = told_more left (λ bytes. TakesText (IsTextOf grown.table version max) old new bytes behind (pac.Close id)) (λ bytes. IsRefusedNext version grown.extended sides (IsLongIn old bytes) l bytes (0, c)) (λ bytes h.
         let t = close_there grown.table version max bytes h.rest id h.begins in
         inr (h.short, inr (inr (id, h.rest, t.0, inl (c, inr (t.1, refused_close_in_range_agrees grown.extended sides (ledger_of grown) l agrees id c refused), refl))))) given
 
@@ -162,9 +163,9 @@ module _ (grown : Checking) (l : Ledger) (agrees : Agree (ledger_of grown) l) (s
 -- ---- a line that was read and judged
 
 module _ (grown : Checking) (l : Ledger) (agrees : Agree (ledger_of grown) l) (same_modulus : modulus grown.table ≡ algebra.modulus grown.extended) (version max : ℕ) (same_max : max ≡ grown.extended.max)
-    (old new : Lines) (left behind : Option (List ℕ)) (line : PacLine) (given : IfSome left (λ bytes. TakesText grown.table version max old new bytes behind line)) where
-  given_close : (id : ℕ) → line ≡ pac.Close id → IfSome left (λ bytes. TakesText grown.table version max old new bytes behind (pac.Close id))
-  given_close id is = subst (λ (x : PacLine). IfSome left (λ bytes. TakesText grown.table version max old new bytes behind x)) is given
+    (old new : Lines) (left behind : Option (List ℕ)) (line : PacLine) (given : IfSome left (λ bytes. TakesText (IsTextOf grown.table version max) old new bytes behind line)) where
+  given_close : (id : ℕ) → line ≡ pac.Close id → IfSome left (λ bytes. TakesText (IsTextOf grown.table version max) old new bytes behind (pac.Close id))
+  given_close id is = subst (λ (x : PacLine). IfSome left (λ bytes. TakesText (IsTextOf grown.table version max) old new bytes behind x)) is given
 
   pub turn_is : (next : Checking) (given_turn : Turn) → IsJudged line grown next given_turn → Turns version grown.extended grown.sides l (ledger_of next) old new left behind given_turn
   turn_is next turn.Taken h = line_is_taken grown l agrees same_modulus version max same_max old new left behind line given next h.0 h.1 h.2

@@ -7,13 +7,13 @@ use Rattle.graph_core.specs.Graph.Operands.{Sides}
 use Rattle.clause_core.specs.Clause.{Clause}
 use Rattle.graph_core.specs.Algebra as algebra
 use Rattle.graph_core.specs.Algebra.Likeness.{AreAlike}
-use Rattle.graph_core.specs.Algebra.Text.{AreLineTexts, IsCloseText, IsLineInRange, IsLineText, first_line}
+use Rattle.graph_core.specs.Algebra.Text.{AreLineTexts, IsCloseText, IsLineInRange, IsLineText, algebra_header, first_line}
 use Rattle.graph_core.specs.Text.{newline}
 use Rattle.graph_core.specs.Text.JudgedLines.{BeginsWith}
 use Rattle.mv_text.specs.LineReading.{Lines}
 use Rattle.pac_checker.specs.Checking.{Checking, Grows, IsRecordable, recorded_of}
 use Rattle.poly_terms.specs.Tables.{Table, modulus}
-use Rattle.poly_text.specs.AlgebraFiles.{FileState, HasHeader, TakesText}
+use Rattle.mv_text.specs.CertificateFiles.{FileState, HasFirstLine, TakesText}
 use Rattle.poly_text.specs.Lines.{line_in}
 use Rattle.poly_text.specs.Recorded.{AreAllAlike}
 use Rattle.poly_text.specs.declared.line.PacLine.{PacLine}
@@ -58,10 +58,10 @@ texts_behind version bytes (y ∷ xs) left x rest h begins = (h.0, h.1, h.2, tex
 module _ (records : Bool) (version m : ℕ) (old recorded : List Line) where
   -- a line that was read and judged
   pub turn_records : (max : ℕ) (grown next : Checking) (lines then : Lines) (left behind : Option (List ℕ)) (text : PacLine) (given : Turn) → modulus grown.table ≡ m → grown.records ≡ records → grown.recorded ≡ old →
-      next.recorded ≡ recorded → ClosesRecord grown next given → IfSome left (λ bytes. TakesText grown.table version max lines then bytes behind text) → IsJudged text grown next given →
+      next.recorded ≡ recorded → ClosesRecord grown next given → IfSome left (λ bytes. TakesText (IsTextOf grown.table version max) lines then bytes behind text) → IsJudged text grown next given →
       RecordsTurn records version m old recorded left behind given
   turn_records max grown next lines then left behind text turn.Taken same_modulus same_records same_old same_next closes read h =
-      told_more left (λ bytes. TakesText grown.table version max lines then bytes behind text) (λ bytes. RecordsText records version m old recorded bytes behind) (λ bytes t.
+      told_more left (λ bytes. TakesText (IsTextOf grown.table version max) lines then bytes behind text) (λ bytes. RecordsText records version m old recorded bytes behind) (λ bytes t.
       let x = line_there grown.table version max bytes t.rest text h.0 h.1 t.begins in
       let alike : AreAlike (modulus grown.table) x.0 h.0 = subst (λ o. IsSomeAnd o (AreAlike (modulus grown.table) x.0)) h.1 x.3.alike in
       record {
@@ -75,9 +75,9 @@ module _ (records : Bool) (version m : ℕ) (old recorded : List Line) where
       }) read
   turn_records max grown next lines then left behind text (turn.Closed id) same_modulus same_records same_old same_next closes read h = (
     sym same_next ∙ closes.0 ∙ same_old,
-    told_more left (λ bytes. TakesText grown.table version max lines then bytes behind (pac.Close id)) (λ bytes. ClosesText id bytes behind) (λ bytes t.
+    told_more left (λ bytes. TakesText (IsTextOf grown.table version max) lines then bytes behind (pac.Close id)) (λ bytes. ClosesText id bytes behind) (λ bytes t.
         record { rest = t.rest; begins = (close_there grown.table version max bytes t.rest id t.begins).0; left_is = t.left_is })
-        (subst (λ (x : PacLine). IfSome left (λ bytes. TakesText grown.table version max lines then bytes behind x)) h.0 read),
+        (subst (λ (x : PacLine). IfSome left (λ bytes. TakesText (IsTextOf grown.table version max) lines then bytes behind x)) h.0 read),
   )
 
 -- the same over a version, a graph and a choice that are equal
@@ -165,9 +165,9 @@ body_at records other version w e f rs recorded closing count behind same_record
 
 -- ---- the whole file
 
-module _ (records : Bool) (version m : ℕ) (recorded : List Line) (closing count : ℕ) (file : FileState) (of : file.version ≡ version) (text behind : Option (List ℕ)) (header : IfSome text (λ bytes. HasHeader file bytes behind)) where
+module _ (records : Bool) (version m : ℕ) (recorded : List Line) (closing count : ℕ) (file : FileState) (text behind : Option (List ℕ)) (header : IfSome text (λ bytes. HasFirstLine (algebra_header version) file.lines bytes behind)) where
   pub text_is_recorded : IfSome behind (IsRecordedBody records version m recorded closing count) → IfSome text (λ bytes. IsRecordOf records version m bytes recorded closing count)
-  text_is_recorded h = told_more text (λ bytes. HasHeader file bytes behind) (λ bytes. IsRecordOf records version m bytes recorded closing count) (λ bytes k.
+  text_is_recorded h = told_more text (λ bytes. HasFirstLine (algebra_header version) file.lines bytes behind) (λ bytes. IsRecordOf records version m bytes recorded closing count) (λ bytes k.
       let b = told_of behind k.body (IsRecordedBody records version m recorded closing count) k.left h in
       record {
         lines = b.lines;
@@ -178,7 +178,7 @@ module _ (records : Bool) (version m : ℕ) (recorded : List Line) (closing coun
           b.close.1.1,
           b.texts,
           b.close.2 ∙ ap (λ (l : List ℕ). l ++ newline ∷ []) b.close.1.2,
-          subst (λ v. bytes ≡ first_line v ++ newline ∷ k.body) of (k.begins ∙ append_assoc (first_line file.version) (newline ∷ []) k.body),
+          k.begins ∙ append_assoc (first_line version) (newline ∷ []) k.body,
         );
         alike = b.alike;
         counted = b.counted;

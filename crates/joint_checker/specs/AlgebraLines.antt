@@ -1,6 +1,5 @@
 -- One line of an algebra file, over what is left of it and over the checker's ledger.
-use Rattle.std.specs.Prelude.{◌≡◌, ◌≢◌, ◌⊎◌, ℕ, List, [], IfOk, IfErr, IfSome, ⊤}
-use Rattle.std.specs.Result.{result_err}
+use Rattle.std.specs.Prelude.{◌≡◌, ◌≢◌, ◌⊎◌, ℕ, List, [], IfSome, ⊤}
 use Rattle.std.specs.declared.option.Option.{Option}
 use Rattle.std.specs.declared.option.Option.TheVariants.{Some}
 use Rattle.std.specs.declared.result.Result.{Result}
@@ -21,9 +20,9 @@ use Rattle.pac_checker.specs.Faults.{IsCloseFault, IsFault}
 use Rattle.pac_checker.specs.declared.fault.CloseFault.{CloseFault}
 use Rattle.pac_checker.specs.declared.fault.LineFault.{LineFault}
 use Rattle.poly_terms.specs.Tables.{Table}
-use Rattle.poly_text.specs.AlgebraFiles.{FileState, IsNextRefusal, TakesText, left_ahead}
+use Rattle.mv_text.specs.CertificateFiles.{FileState, KeepsFile, ReadsNeeded}
 use Rattle.mv_text.specs.LineReading.{IsLongAhead, Lines}
-use Rattle.poly_text.specs.LineTexts.{IsTextOf}
+use Rattle.poly_text.specs.LineTexts.{IsAnyInRange, IsAnyText, IsTextOf}
 use Rattle.poly_text.specs.Lines.{line_in}
 use Rattle.poly_text.specs.declared.line.PacLine.{PacLine}
 use Rattle.poly_text.specs.declared.line.PacLine.TheVariants as pac
@@ -38,18 +37,10 @@ use Rattle.joint_checker.specs.Answers.{answer_of_close, answer_of_rule}
 use Rattle.joint_checker.specs.Outcome.{cause_of}
 use Rattle.joint_checker.specs.Passing.{PassesLine}
 
--- what is left of a file that a desk tells, for a reader of its lines
-abbrev pub left_in : FileState → View → Option (List ℕ)
-left_in file view = left_ahead file (view.left slot.Algebra)
-
 -- What the work of reading the next line does: the clauses of the file's reader, before its first failure.
 pub record ReadsNext (max : ℕ) (old : FileState) (before : View) (out : Result PacLine LineFail) (new : FileState) (now : View) (t : Table) : Type 0 where
-  pub text : IfOk out (λ line. (text : List ℕ) × IsTextOf t old.version max text line)
-  pub line : IfOk out (λ line. IfSome (left_in old before) (λ left. TakesText t old.version max old.lines new.lines left (left_in new now) line))
-  pub refused : IfErr out (IsNextRefusal old.version max old.lines (left_in old before) before.read_faults now.read_faults)
-  pub failed : new.failed ≡ result_err out
-  pub version : new.version ≡ old.version
-  pub lengths : new.lines.lengths ≡ old.lines.lengths
+  pub says : ReadsNeeded (IsAnyText old.version) (IsAnyInRange max) (IsTextOf t old.version max) slot.Algebra old new before now out
+  pub keeps : KeepsFile old new out
   pub only : ReadsOnly slot.Algebra before now
   pub tells : KeepsTelling before now
 

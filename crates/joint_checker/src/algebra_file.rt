@@ -1,6 +1,6 @@
 // The algebra certificate, line by line.
 ghost use Rattle.std.specs.List.{All};
-ghost use Rattle.std.specs.Prelude.{◌≡◌, ◌≢◌, ◌<◌, ◌≤◌, ◌^◌, [], length, true, None, IfErr, IfOk, IfSome, OnOk};
+ghost use Rattle.std.specs.Prelude.{◌≡◌, ◌≢◌, ◌<◌, ◌≤◌, ◌^◌, [], length, true, IfErr, IfOk, IfSome, OnOk};
 ghost use Rattle.graph_core.specs.Graph.Operands.{profile_of, sides_for};
 ghost use Rattle.graph_core.specs.Algebra.{AgreeOnColumns, AreLawful, beginning, modulus, specification};
 ghost use Rattle.graph_core.specs.Aiger.Soundness.{IsSizedAs};
@@ -12,9 +12,9 @@ ghost use Rattle.mv_fact.specs.Always.{Always};
 ghost use Rattle.graph_core.specs.Algebra.Agreement.{Agree};
 ghost use Rattle.pac_checker.specs.Checking.{ledger_of};
 ghost use Rattle.poly_text.specs.Recorded.{lines_in};
+ghost use Rattle.mv_text.specs.CertificateFiles.{GoesOn, left_of};
 ghost use Rattle.mv_text.specs.LineReading.{lengths_of};
 ghost use Rattle.joint_checker.specs.AlgebraBody.{IsBodyFail, IsLawfulBody};
-ghost use Rattle.joint_checker.specs.AlgebraLines.{left_in};
 ghost use Rattle.graph_core.specs.Certificates.{IsLawfulAlgebra};
 ghost use Rattle.clause_core.specs.Facts.{IsClauseFact};
 ghost use Rattle.joint_checker.specs.ClauseFiles.{imported, premises};
@@ -162,26 +162,26 @@ fn judge_lines<D: Desk>(
     work: &mut ReadLine<D>,
 ) -> Result<Closing, Checked>
     requires reads { (D.seen desk.old).reads slot.Algebra ≡ true }
-    requires going { work.old.file.failed ≡ None }
+    requires going { GoesOn work.old.file }
     requires limit { work.old.file.lines.lengths.file < 2 ^ 64 }
     requires max { work.old.max ≡ checker.old.extended.max }
     requires begins { Agree (ledger_of checker.old)
         (beginning (premises work.old.file.version checker.old.extended checker.old.added)) }
     requires few { length checker.old.extended.graph.outputs ≤ 128 }
     requires none_recorded { checker.old.recorded ≡ [] }
-    ensures lawful { OnOk result (IfSome (left_in work.old.file (D.seen desk.old))
+    ensures lawful { OnOk result (IfSome (left_of slot.Algebra work.old.file (D.seen desk.old))
         (IsLawfulBody (premises work.old.file.version checker.old.extended checker.old.added)
         checker.old.sides work.old.file.lines)) }
     ensures vanishes { OnOk result (Always checker.old.extended.gates
         (λ σ. specification checker.old.extended checker.old.sides σ ≡ 0)) }
-    ensures recorded { IfOk result (λ c. IfSome (left_in work.old.file (D.seen desk.old))
+    ensures recorded { IfOk result (λ c. IfSome (left_of slot.Algebra work.old.file (D.seen desk.old))
         (IsRecordedBody checker.old.records work.old.file.version (modulus checker.old.extended)
         checker.new.recorded c.id c.lines)) }
     ensures closes { IfOk result (λ c. ClosesAt checker.old checker.new c.id) }
     ensures extended { OnOk result (checker.new.extended ≡ checker.old.extended) }
     ensures refused { IfErr result
         (IsBodyFail (premises work.old.file.version checker.old.extended checker.old.added)
-        checker.old.sides work.old.file.lines (left_in work.old.file (D.seen desk.old))
+        checker.old.sides work.old.file.lines (left_of slot.Algebra work.old.file (D.seen desk.old))
         (D.seen desk.old) (D.seen desk.new)) }
     ensures only { ReadsOnly slot.Algebra (D.seen desk.old) (D.seen desk.new) }
     ensures tells { KeepsTelling (D.seen desk.old) (D.seen desk.new) }

@@ -2,6 +2,7 @@
 ghost use Rattle.std.specs.Prelude.{◌≡◌, ◌<◌, ◌≤◌, ◌+◌, [], length, true, IfOk, IfErr, OnOk, OnErr, IfSome, IfNone, option_to_list};
 ghost use Rattle.std.specs.Io.KnownBytes.{Consumes, IsAtEnd};
 ghost use Rattle.mv_desk.specs.Calls.{Reads};
+ghost use Rattle.mv_text.specs.CertificateFiles.{IsNeededFault};
 ghost use Rattle.mv_text.specs.LineReading.{FitsPiece, TakesPlain, known_from, lengths_of, TakesLine, EndsIn, IsByteFault, IsLineFault};
 
 use crate::byte_reader::ByteReader;
@@ -89,6 +90,30 @@ impl LineReader {
                 }
                 Err(fail) => return Err(fail),
             }
+        }
+    }
+
+    /// The next line, which has to be there: `Text` comes also at the end of the file.
+    pub fn needed_line<D: Desk>(
+        &mut self,
+        alloc: Global,
+        desk: &mut D,
+        slot: Slot,
+    ) -> Result<Vec<u8>, LineFail>
+        requires { (D.seen desk.old).reads slot ≡ true }
+        ensures line { IfOk result (λ line. TakesLine self.old self.new
+            (known_from self.old.ahead ((D.seen desk.old).left slot))
+            (known_from self.new.ahead ((D.seen desk.new).left slot)) line.items) }
+        ensures fault { IfErr result (IsNeededFault self.old (known_from self.old.ahead ((D.seen desk.old).left slot))
+            (D.seen desk.old).read_faults (D.seen desk.new).read_faults) }
+        ensures piece { FitsPiece self.new }
+        ensures lengths { self.new.lengths ≡ self.old.lengths }
+        ensures reads { Reads slot (D.seen desk.old) (D.seen desk.new) result }
+    {
+        match self.next_line(alloc, desk, slot) {
+            Ok(Some(line)) => Ok(line),
+            Ok(None) => Err(LineFail::Text),
+            Err(fail) => Err(fail),
         }
     }
 

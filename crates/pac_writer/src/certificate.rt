@@ -2,16 +2,16 @@
 ghost use Rattle.std.specs.Prelude.{◌≡◌, true, All, IsSome};
 ghost use Rattle.mv_desk.specs.Calls.{Writes};
 ghost use Rattle.mv_desk.specs.declared.slot.Slot.TheVariants.{Algebra};
-ghost use Rattle.graph_core.specs.Algebra.Text.{IsId, algebra_header};
+ghost use Rattle.graph_core.specs.Algebra.Text.{IsId};
 ghost use Rattle.poly_terms.specs.Tables.{modulus};
 ghost use Rattle.poly_text.specs.Lines.{AreOf, line_in};
 ghost use Rattle.poly_text.specs.WrittenLines.{IsWritable};
 ghost use Rattle.pac_writer.specs.Certificates.{lines_text, written_certificate};
 ghost use Rattle.poly_text.specs.Recorded.{lines_in};
 
-use mv_desk::{Desk, Slot, WriteFault, write_all};
+use mv_desk::{Desk, WriteFault};
 use poly_terms::Terms;
-use poly_text::{PacLine, write_line};
+use poly_text::{PacLine, write_header, write_line};
 
 /// Appends a whole certificate of a version to the slot `Algebra`: the header, lines of a table, none of which is a
 /// closing line, and a closing line. It takes no memory. After an error a front part of it was written.
@@ -31,7 +31,7 @@ pub fn write_certificate<D: Desk>(
         (written_certificate version (modulus terms.now) (lines_in terms.now lines.now) closing)
         (D.seen desk.old) (D.seen desk.new) result }
 {
-    write_all(desk, Slot::Algebra, header(version))?;
+    write_header(desk, version)?;
     write_lines(desk, terms, lines)?;
     write_line(desk, terms, &PacLine::Close { id: closing })
 }
@@ -50,11 +50,4 @@ fn write_lines<D: Desk>(desk: &mut D, terms: &Terms, lines: &[PacLine]) -> Resul
         write_line(desk, terms, line)?;
     }
     Ok(())
-}
-
-// The first line of a version, with its line feed.
-fn header(version: u8) -> &'static [u8]
-    ensures { result.now ≡ algebra_header version }
-{
-    if version == 2 { b"pac 2\n" } else { b"pac 1\n" }
 }

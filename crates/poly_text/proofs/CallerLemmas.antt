@@ -3,7 +3,7 @@ pub use Rattle.mv_text.proofs.CallerLemmas.{long_of, short_of}
 pub use Rattle.poly_text.proofs.ReadAgain.{close_read_again, outputs_fit, read_again, width_fits}
 use Rattle.std.specs.Prelude.{◌≡◌, ℕ, List}
 use Rattle.std.specs.declared.option.Option.TheVariants.{Some}
-use Rattle.std.proofs.Common.{refl, inl, inr, ⊎_elim}
+use Rattle.std.proofs.Common.{refl, inl, inr}
 use Rattle.graph_core.specs.Graph.Operands.{Sides}
 use Rattle.graph_core.specs.Algebra.{Line, Ledger}
 use Rattle.graph_core.specs.Algebra.Text.{IsLineText, IsCloseText, IsLineInRange, IsId}
@@ -12,20 +12,24 @@ use Rattle.graph_core.specs.Algebra.Refusal as cause
 use Rattle.graph_core.specs.Graph.Extended.{Extended}
 use Rattle.graph_core.specs.Text.JudgedLines.{BeginsWith}
 use Rattle.poly_terms.specs.Tables.{Table}
-use Rattle.poly_text.specs.AlgebraFiles.{BeginsWithNone, BeginsOutOfRange}
-use Rattle.poly_text.specs.LineTexts.{IsLineOf, IsTextOf}
+use Rattle.mv_text.specs.CertificateFiles.{BeginsOutOfRange, BeginsWithNone}
+use Rattle.poly_text.specs.LineTexts.{AnyLine, Closing, IsAnyInRange, IsAnyText, IsLineOf, IsTextOf, Stated}
 use Rattle.poly_text.specs.Lines.{line_in}
 use Rattle.poly_text.specs.declared.line.PacLine.{PacLine}
 use Rattle.poly_text.specs.declared.line.PacLine.TheVariants as line
 
 -- ---- refusals of the next line, over any ledger
 
-pub no_line_is_refused : (version : ℕ) (e : Extended) (s : Sides) (IsLong : List ℕ → Type 0) (l : Ledger) (left : List ℕ) → ¬ (IsLong left) → BeginsWithNone version left → IsRefusedNext version e s IsLong l left (0, cause.Text)
-no_line_is_refused version e s IsLong l left short none = inr (short, inl (none.0, none.1, refl))
+pub no_line_is_refused : (version : ℕ) (e : Extended) (s : Sides) (IsLong : List ℕ → Type 0) (l : Ledger) (left : List ℕ) → ¬ (IsLong left) → BeginsWithNone (IsAnyText version) left → IsRefusedNext version e s IsLong l left (0, cause.Text)
+no_line_is_refused version e s IsLong l left short none = inr (short, inl (λ x rest b. none (Stated x) rest b, λ id rest b. none (Closing id) rest b, refl))
 
-pub out_of_range_is_refused : (version : ℕ) (e : Extended) (s : Sides) (IsLong : List ℕ → Type 0) (l : Ledger) (left : List ℕ) → ¬ (IsLong left) → BeginsOutOfRange version e.max left → IsRefusedNext version e s IsLong l left (0, cause.Range)
-out_of_range_is_refused version e s IsLong l left short out =
-    inr (short, inr (⊎_elim (λ x. inl (x.0, x.1, x.2, (cause.Range, inl (x.3, refl), refl))) (λ q. inr (q.0, q.1, q.2, inl (cause.Range, inl (q.3, refl), refl))) out))
+pub out_of_range_is_refused : (version : ℕ) (e : Extended) (s : Sides) (IsLong : List ℕ → Type 0) (l : Ledger) (left : List ℕ) → ¬ (IsLong left) → BeginsOutOfRange (IsAnyText version) (IsAnyInRange e.max) left →
+    IsRefusedNext version e s IsLong l left (0, cause.Range)
+out_of_range_is_refused version e s IsLong l left short out = inr (short, go out.0 out.1 out.2 out.3)
+  where
+    go : (x : AnyLine) (rest : List ℕ) → BeginsWith (IsAnyText version) left x rest → ¬ (IsAnyInRange e.max x) → IsRefusedText version e s IsLong l left (0, cause.Range)
+    go (Stated x) rest b other = inr (inl (x, rest, b, (cause.Range, inl (other, refl), refl)))
+    go (Closing id) rest b other = inr (inr (id, rest, b, inl (cause.Range, inl (other, refl), refl)))
 
 pub long_is_refused : (version : ℕ) (e : Extended) (s : Sides) (IsLong : List ℕ → Type 0) (l : Ledger) (left : List ℕ) → IsLong left → IsRefusedNext version e s IsLong l left (0, cause.TooLong)
 long_is_refused version e s IsLong l left long = inl (long, refl)

@@ -13,9 +13,9 @@ use Rattle.clause_judge.specs.LineRefusals.{IsRefusedLines, line_cause}
 use Rattle.clause_judge.specs.declared.fail.ClauseFail.{ClauseFail}
 use Rattle.clause_judge.specs.declared.fail.ClauseFail.TheVariants as clauses
 use Rattle.clause_judge.proofs.Told.{rose_before, told_more, told_of}
-use Rattle.drup_text.specs.FileStates.{FileState}
+use Rattle.mv_text.specs.CertificateFiles.{FileState, HasFirstLine, IsFirstRefusal}
 use Rattle.drup_text.specs.HeaderRefusal.{LineCause, Range, Text, TooLong}
-use Rattle.drup_text.specs.SameFiles.{HasSameLine, IsSameRefusal, same_line}
+use Rattle.drup_text.specs.SameFiles.{same_line}
 use Rattle.mv_desk.specs.View.{View}
 use Rattle.mv_desk.specs.declared.faults.LineFail.{LineFail}
 use Rattle.mv_desk.specs.declared.faults.LineFail.TheVariants as fail
@@ -29,10 +29,10 @@ at_first line cause first = let at : ℕ → ℕ × LineCause = λ n. (n, cause)
 
 module _ (lengths : Lengths) (e : Extended) where
   -- the first line is refused
-  pub start_fails : (text : Option (List ℕ)) (before now : View) (line : ℕ) (why : LineFail) → line ≡ 1 → IsSameRefusal lengths text before.read_faults now.read_faults why → IsClauseFail lengths e text before now (answer_of_line line why)
+  pub start_fails : (text : Option (List ℕ)) (before now : View) (line : ℕ) (why : LineFail) → line ≡ 1 → IsFirstRefusal same_line lengths text before.read_faults now.read_faults why → IsClauseFail lengths e text before now (answer_of_line line why)
   start_fails text before now line fail.Text first h =
       told_more text (λ bytes. ¬ (IsTooLong lengths (length bytes) bytes) × ((body : List ℕ) → bytes ≢ same_line ++ body)) (λ bytes. IsLineRefusal lengths e bytes (line, Text)) (λ bytes k. inr (k.0, inl (k.1, at_first line Text first))) h
-  start_fails text before now line fail.Range first h = told_more text (λ bytes. ⊥) (λ bytes. IsLineRefusal lengths e bytes (line, Range)) (λ bytes k. absurd k) h
+  start_fails text before now line fail.Range first h = absurd h
   start_fails text before now line fail.Fault first h = h
   start_fails text before now line fail.TooLong first h =
       told_more text (λ bytes. IsTooLong lengths (length bytes) bytes) (λ bytes. (n : ℕ) × IsLineRefusal lengths e bytes (n, TooLong)) (λ bytes k. (1, inl (k, refl))) h
@@ -40,8 +40,8 @@ module _ (lengths : Lengths) (e : Extended) where
 
   -- ---- what stands behind it
 
-  module _ (file : FileState) (same : file.lines.lengths ≡ lengths) (number : file.number ≡ 1) (text behind : Option (List ℕ)) (header : IfSome text (λ bytes. HasSameLine file bytes behind)) where
-    module _ (bytes : List ℕ) (h : HasSameLine file bytes behind) where
+  module _ (file : FileState) (same : file.lines.lengths ≡ lengths) (number : file.number ≡ 1) (text behind : Option (List ℕ)) (header : IfSome text (λ bytes. HasFirstLine same_line file.lines bytes behind)) where
+    module _ (bytes : List ℕ) (h : HasFirstLine same_line file.lines bytes behind) where
       whole : (P : (List ℕ → Type 0) → Type 0) → P (IsLongIn file.lines h.body) → P (IsTooLong lengths (length bytes))
       whole P k = subst (λ (z : Lengths). P (IsTooLong z (length bytes))) same (subst (λ (n : ℕ). P (IsTooLong file.lines.lengths n)) h.taken k)
 
@@ -55,21 +55,21 @@ module _ (lengths : Lengths) (e : Extended) where
       refused p k = inr (short, inr (h.body, h.begins, subst (λ (n : ℕ). IsRefusedLines (IsTooLong lengths (length bytes)) e (n + 1) h.body p) number (whole (λ IsLong. IsRefusedLines IsLong e (file.number + 1) h.body p) k)))
 
     pub text_is_lawful : IfSome behind (IsShownBody e file.lines) → IfSome text (IsLawful lengths e)
-    text_is_lawful k = told_more text (λ bytes. HasSameLine file bytes behind) (IsLawful lengths e) (λ bytes h.
+    text_is_lawful k = told_more text (λ bytes. HasFirstLine same_line file.lines bytes behind) (IsLawful lengths e) (λ bytes h.
         let there = told_of behind h.body (IsShownBody e file.lines) h.left k in
         record { lines = there.0; lawful = good bytes h there.0 there.1; shown = there.2 }) header
 
     told_refusal : (p : ℕ × LineCause) → IfSome behind (λ body. IsRefusedLines (IsLongIn file.lines body) e (file.number + 1) body p) → IfSome text (λ bytes. IsLineRefusal lengths e bytes p)
-    told_refusal p k = told_more text (λ bytes. HasSameLine file bytes behind) (λ bytes. IsLineRefusal lengths e bytes p)
+    told_refusal p k = told_more text (λ bytes. HasFirstLine same_line file.lines bytes behind) (λ bytes. IsLineRefusal lengths e bytes p)
         (λ bytes h. refused bytes h p (told_of behind h.body (λ body. IsRefusedLines (IsLongIn file.lines body) e (file.number + 1) body p) h.left k)) header
 
     long_refusal : IfSome behind (λ body. (n : ℕ) × IsRefusedLines (IsLongIn file.lines body) e (file.number + 1) body (n, TooLong)) → IfSome text (λ bytes. (n : ℕ) × IsLineRefusal lengths e bytes (n, TooLong))
-    long_refusal k = told_more text (λ bytes. HasSameLine file bytes behind) (λ bytes. (n : ℕ) × IsLineRefusal lengths e bytes (n, TooLong)) (λ bytes h.
+    long_refusal k = told_more text (λ bytes. HasFirstLine same_line file.lines bytes behind) (λ bytes. (n : ℕ) × IsLineRefusal lengths e bytes (n, TooLong)) (λ bytes h.
         let there = told_of behind h.body (λ body. (n : ℕ) × IsRefusedLines (IsLongIn file.lines body) e (file.number + 1) body (n, TooLong)) h.left k in
         (there.0, refused bytes h (there.0, TooLong) there.1)) header
 
     output_refusal : (output : ℕ) → IfSome behind (λ body. (xs : List ClauseLine) × HasPassed e file.lines xs body × IsGoalRefusal e xs output) → IfSome text (λ bytes. IsOutputRefusal lengths e bytes output)
-    output_refusal output k = told_more text (λ bytes. HasSameLine file bytes behind) (λ bytes. IsOutputRefusal lengths e bytes output) (λ bytes h.
+    output_refusal output k = told_more text (λ bytes. HasFirstLine same_line file.lines bytes behind) (λ bytes. IsOutputRefusal lengths e bytes output) (λ bytes h.
         let there = told_of behind h.body (λ body. (xs : List ClauseLine) × HasPassed e file.lines xs body × IsGoalRefusal e xs output) h.left k in
         (there.0, good bytes h there.0 there.1, there.2)) header
 

@@ -2,8 +2,7 @@
 ghost use Rattle.std.specs.Prelude.{◌≡◌, ◌+◌, ◌<◌, ◌≤◌, ◌^◌, true, length, IfErr, IfSome, OnOk};
 ghost use Rattle.clause_core.specs.GateClauses.{AreGatesWithin};
 ghost use Rattle.clause_judge.specs.ClauseBody.{IsRestFail, IsShownBody};
-ghost use Rattle.clause_judge.specs.ClauseLines.{left_for};
-ghost use Rattle.drup_text.specs.FileStates.{GoesOn};
+ghost use Rattle.mv_text.specs.CertificateFiles.{GoesOn, left_of};
 ghost use Rattle.graph_core.specs.Algebra.{AgreeOnColumns};
 ghost use Rattle.mv_desk.specs.Calls.{Inspects, ReadsOnly};
 ghost use Rattle.mv_desk.specs.View.{KeepsTelling, OpensFiles, bytes_under};
@@ -82,11 +81,11 @@ fn judge_lines<D: Desk>(
     requires going { GoesOn file.old }
     requires limit { file.old.lines.lengths.file < 2 ^ 64 }
     requires merged { IsMerged merged.now }
-    ensures lawful { OnOk result (IfSome (left_for file.old (D.seen desk.old))
+    ensures lawful { OnOk result (IfSome (left_of slot.Clauses file.old (D.seen desk.old))
         (IsShownBody (over merged.now) file.old.lines)) }
     ensures agree { OnOk result (Always merged.now.gates (AgreeOnColumns (over merged.now))) }
     ensures refused { IfErr result (IsRestFail (file.old.number + 1) (over merged.now) file.old.lines
-        (left_for file.old (D.seen desk.old)) (D.seen desk.old) (D.seen desk.new)) }
+        (left_of slot.Clauses file.old (D.seen desk.old)) (D.seen desk.old) (D.seen desk.new)) }
     ensures only { ReadsOnly slot.Clauses (D.seen desk.old) (D.seen desk.new) }
     ensures tells { KeepsTelling (D.seen desk.old) (D.seen desk.new) }
 {

@@ -4,7 +4,7 @@ use Rattle.mv_desk.proofs.CallerLemmas.{KeepsTelling-refl, KeepsTelling-trans, R
 use Rattle.mv_desk.specs.declared.slot.Slot.TheVariants.{Clauses}
 use Rattle.mv_text.specs.LineReading.{known_from}
 use Rattle.ripple_graft.specs.Blocks.{AreBlocks, graft_all}
-use Rattle.drup_text.specs.FileStates.{block_lines}
+use Rattle.drup_text.specs.PassingHeaders.{block_lines}
 use Rattle.drup_text.proofs.BlockSteps.{blocks_begin, blocks_end, blocks_more_fit, blocks_more_made, blocks_on, blocks_refused, lines_more}
 use Rattle.drup_text.proofs.blocks.counted_blocks.Goals as goal
 

@@ -6,7 +6,7 @@ use Rattle.mv_desk.specs.View.{KeepsTelling}
 use Rattle.mv_desk.specs.declared.slot.Slot.TheVariants.{Clauses}
 use Rattle.mv_text.specs.LineReading.{FitsPiece, known_from}
 use Rattle.ripple_graft.specs.Blocks.{AreBlocks, graft_all}
-use Rattle.drup_text.specs.FileStates.{block_lines}
+use Rattle.drup_text.specs.PassingHeaders.{block_lines}
 use Rattle.drup_text.proofs.BlockSteps.{BlocksSoFar}
 use Rattle.drup_text.proofs.blocks.counted_blocks.Given as goal
 

@@ -3,7 +3,7 @@ use Rattle.std.specs.Option.{IfSome}
 use Rattle.mv_desk.specs.declared.slot.Slot.TheVariants.{Clauses}
 use Rattle.mv_text.specs.LineReading.{known_from}
 use Rattle.ripple_graft.specs.HeaderBlocks.{IsCutOf, cut_blocks}
-use Rattle.drup_text.specs.FileStates.{lines_in}
+use Rattle.drup_text.specs.PassingHeaders.{lines_in}
 use Rattle.drup_text.specs.HeaderSteps.{TakesCut}
 use Rattle.drup_text.proofs.VersionSteps.{fit_cut, fit_two, lines_cut, lines_one, lines_two, refused_memory, refused_two, version_cut, version_one, version_two}
 use Rattle.drup_text.proofs.clause_file.any_blocks.Goals as goal

@@ -1,6 +1,6 @@
 use Rattle.std.proofs.Common.{◌≡◌, ◌+◌, ap, arith, drop, get_or, length}
 use Rattle.ripple_graft.specs.declared.block.Block.{Block}
-use Rattle.drup_text.specs.FileStates.{block_lines}
+use Rattle.drup_text.specs.PassingHeaders.{block_lines}
 use Rattle.drup_text.proofs.WrittenLoops.{next_item}
 use Rattle.drup_text.proofs.clause_file.block_lines.Goals as goal
 

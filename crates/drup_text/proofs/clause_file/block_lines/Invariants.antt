@@ -1,5 +1,5 @@
 use Rattle.std.proofs.Common.{◌≡◌, ◌+◌, drop}
-use Rattle.drup_text.specs.FileStates.{block_lines}
+use Rattle.drup_text.specs.PassingHeaders.{block_lines}
 use Rattle.drup_text.proofs.clause_file.block_lines.Given as goal
 
 abbrev pub invariant-loop-block : goal.invariant-loop-block

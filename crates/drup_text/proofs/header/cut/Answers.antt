@@ -3,7 +3,7 @@ use Rattle.std.specs.Option.{IfSome}
 use Rattle.graph_core.specs.Graph.Extended.{Extended}
 use Rattle.mv_desk.specs.declared.slot.Slot.TheVariants.{Clauses}
 use Rattle.mv_text.specs.LineReading.{known_from}
-use Rattle.drup_text.specs.FileStates.{TakesText}
+use Rattle.mv_text.specs.CertificateFiles.{TakesText}
 use Rattle.drup_text.specs.HeaderRefusal.{cut_at}
 use Rattle.drup_text.specs.HeaderSteps.{IsPairsRefusal}
 use Rattle.drup_text.specs.LineTexts.{IsCutTextOf}

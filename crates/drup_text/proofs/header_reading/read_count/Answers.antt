@@ -3,7 +3,8 @@ use Rattle.std.proofs.lemmas.Bool.{false≢true}
 use Rattle.mv_text.specs.Steps.{IsMisfit}
 use Rattle.drup_text.specs.ClauseReading.{count_line_at}
 use Rattle.drup_text.specs.ClauseTexts.{IsCountLine}
-use Rattle.drup_text.specs.LineTexts.{IsCountInRange, IsRefusedText}
+use Rattle.mv_text.specs.CertificateFiles.{IsRefusedText}
+use Rattle.drup_text.specs.LineTexts.{IsCountInRange}
 use Rattle.drup_text.specs.Steps.{TakesCountLine}
 use Rattle.drup_text.proofs.BlockTexts.{count_misfit, count_out, count_over, count_said}
 use Rattle.drup_text.proofs.header_reading.read_count.Goals as goal

@@ -3,7 +3,8 @@ use Rattle.std.proofs.lemmas.Bool.{false≢true}
 use Rattle.mv_text.specs.Steps.{IsMisfit}
 use Rattle.drup_text.specs.ClauseReading.{block_line_at}
 use Rattle.drup_text.specs.ClauseTexts.{IsBlockLine}
-use Rattle.drup_text.specs.LineTexts.{IsHeadOf, IsRefusedText}
+use Rattle.mv_text.specs.CertificateFiles.{IsRefusedText}
+use Rattle.drup_text.specs.LineTexts.{IsHeadOf}
 use Rattle.drup_text.specs.Steps.{TakesHead}
 use Rattle.drup_text.proofs.BlockTexts.{head_misfit, head_out, head_over, head_said}
 use Rattle.drup_text.proofs.header_reading.read_head.Goals as goal

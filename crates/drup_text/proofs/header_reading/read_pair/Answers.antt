@@ -3,7 +3,8 @@ use Rattle.std.proofs.lemmas.Bool.{false≢true}
 use Rattle.mv_text.specs.Steps.{IsMisfit}
 use Rattle.drup_text.specs.ClauseReading.{pair_line_at}
 use Rattle.drup_text.specs.ClauseTexts.{IsPairLine}
-use Rattle.drup_text.specs.LineTexts.{IsPairOf, IsRefusedText}
+use Rattle.mv_text.specs.CertificateFiles.{IsRefusedText}
+use Rattle.drup_text.specs.LineTexts.{IsPairOf}
 use Rattle.drup_text.specs.Steps.{TakesPair}
 use Rattle.drup_text.proofs.HeaderTexts.{pair_misfit, pair_out, pair_over, pair_said}
 use Rattle.drup_text.proofs.header_reading.read_pair.Goals as goal

@@ -3,7 +3,8 @@ use Rattle.std.proofs.lemmas.Bool.{false≢true}
 use Rattle.mv_text.specs.Steps.{IsMisfit}
 use Rattle.drup_text.specs.ClauseReading.{cut_line_at}
 use Rattle.drup_text.specs.ClauseTexts.{IsCutLine}
-use Rattle.drup_text.specs.LineTexts.{IsSizeInRange, IsRefusedText}
+use Rattle.mv_text.specs.CertificateFiles.{IsRefusedText}
+use Rattle.drup_text.specs.LineTexts.{IsSizeInRange}
 use Rattle.drup_text.specs.Steps.{TakesSize}
 use Rattle.drup_text.proofs.HeaderTexts.{size_misfit, size_out, size_over, size_said}
 use Rattle.drup_text.proofs.header_reading.read_size.Goals as goal

@@ -3,7 +3,8 @@ use Rattle.std.proofs.lemmas.Bool.{false≢true}
 use Rattle.mv_text.specs.Steps.{IsMisfit}
 use Rattle.drup_text.specs.ClauseReading.{clause_line_at}
 use Rattle.drup_text.specs.ClauseTexts.{IsClauseLine}
-use Rattle.drup_text.specs.LineTexts.{IsLineInRange, IsRefusedText}
+use Rattle.mv_text.specs.CertificateFiles.{IsRefusedText}
+use Rattle.drup_text.specs.LineTexts.{IsLineInRange}
 use Rattle.drup_text.specs.Steps.{TakesLine}
 use Rattle.drup_text.proofs.LineSteps.{line_misfit, line_out, line_over, line_said}
 use Rattle.drup_text.proofs.line_reading.read_line.Goals as goal

@@ -15,7 +15,7 @@ use Rattle.mv_text.specs.LineReading.{lengths_of}
 use Rattle.pac_checker.specs.Checking.{IsRecordable, ledger_of}
 use Rattle.poly_text.specs.Recorded.{lines_in}
 use Rattle.joint_checker.specs.AlgebraBody.{IsBodyFail, IsLawfulBody}
-use Rattle.joint_checker.specs.AlgebraLines.{left_in}
+use Rattle.mv_text.specs.CertificateFiles.{left_of}
 use Rattle.joint_checker.specs.ClauseFiles.{imported, premises}
 use Rattle.joint_checker.specs.Shown.{premises_of}
 use Rattle.joint_checker.proofs.AlgebraFiles.{body_fails, header_fails, text_is_lawful}
@@ -73,13 +73,13 @@ returns-clause-lawful g c =
     let p = premises_of shown in
     let sides = sides_for c.args.claim e.graph in
     let file = c.in-Ok.file in
-    let behind = left_in file (g.D.Desk.seen c.start.new.desk) in
+    let behind = left_of slot.Algebra file (g.D.Desk.seen c.start.new.desk) in
     let checker = c.in_ok-checker.checker in
     let same_sides : checker.sides ≡ sides =
     c.in_ok-checker.ensures.sides ∙ c.in_ok-operands.ensures ∙ ap (λ x. sides_for c.args.claim x) c.graph.ensures in
-    let same_premises = made file.version shown.header.version checker.extended e checker.added (imported shown.header.version shown.recorded.added) c.in-Ok.ensures.version c.in_ok-checker.ensures.extended
+    let same_premises = made file.version shown.header.version checker.extended e checker.added (imported shown.header.version shown.recorded.added) c.in-Ok.ensures.file.version_is c.in_ok-checker.ensures.extended
     (c.in_ok-checker.ensures.added ∙ c.imports-added.ensures) in
-    text_is_lawful (lengths_of c.args.limits.now) p sides file c.in-Ok.ensures.version c.in-Ok.ensures.lengths (before.left slot.Algebra) behind c.in-Ok.ensures.header
+    text_is_lawful (lengths_of c.args.limits.now) p sides file c.in-Ok.ensures.file.lengths (before.left slot.Algebra) behind c.in-Ok.ensures.header
     (subst (λ (s : Sides). IfSome behind (IsLawfulBody p s file.lines)) same_sides (subst (λ (x : Premises). IfSome behind (IsLawfulBody x checker.sides file.lines)) same_premises c.in_ok-closing.ensures.lawful))
 
 pub returns-clause-vanishes : goal.returns-clause-vanishes
@@ -101,16 +101,16 @@ returns-in_err-closing-clause-refused g c =
     let p = premises_of shown in
     let sides = sides_for c.args.claim e.graph in
     let file = c.in-Ok.file in
-    let behind = left_in file middle in
+    let behind = left_of slot.Algebra file middle in
     let checker = c.in_ok-checker.checker in
     let same_sides : checker.sides ≡ sides =
     c.in_ok-checker.ensures.sides ∙ c.in_ok-operands.ensures ∙ ap (λ x. sides_for c.args.claim x) c.graph.ensures in
-    let same_premises = made file.version shown.header.version checker.extended e checker.added (imported shown.header.version shown.recorded.added) c.in-Ok.ensures.version c.in_ok-checker.ensures.extended
+    let same_premises = made file.version shown.header.version checker.extended e checker.added (imported shown.header.version shown.recorded.added) c.in-Ok.ensures.file.version_is c.in_ok-checker.ensures.extended
     (c.in_ok-checker.ensures.added ∙ c.imports-added.ensures) in
     let answer = c.in_err-closing.field-0.0 in
     let same = err_from_is_err_and c.from_residual-in_err-closing.result c.from_residual-in_err-closing.ensures.1 in
     rw (same.1, same.2)
-    (body_fails (lengths_of c.args.limits.now) p sides file c.in-Ok.ensures.version c.in-Ok.ensures.lengths (before.left slot.Algebra) behind c.in-Ok.ensures.header before middle now answer c.in-Ok.ensures.reads.only.later
+    (body_fails (lengths_of c.args.limits.now) p sides file c.in-Ok.ensures.file.lengths (before.left slot.Algebra) behind c.in-Ok.ensures.header before middle now answer c.in-Ok.ensures.reads.only.later
     (subst (λ (s : Sides). IsBodyFail p s file.lines behind middle now answer) same_sides
     (subst (λ (x : Premises). IsBodyFail x checker.sides file.lines behind middle now answer) same_premises c.in_err-closing.ensures.refused)))
 
@@ -148,11 +148,11 @@ returns-clause-told g c =
     let before = g.D.Desk.seen c.args.desk.now in
     let shown = c.args.shown.now in
     let file = c.in-Ok.file in
-    let behind = left_in file (g.D.Desk.seen c.start.new.desk) in
+    let behind = left_of slot.Algebra file (g.D.Desk.seen c.start.new.desk) in
     let checker = c.in_ok-checker.checker in
     let record_of = c.into_record.result in
     let closing = c.in_ok-closing.closing in
     let lines = lines_in record_of.terms record_of.lines.items in
-    text_is_recorded c.args.records shown.header.version (modulus shown.extended) lines closing.id closing.lines file c.in-Ok.ensures.version (before.left slot.Algebra) behind c.in-Ok.ensures.header
+    text_is_recorded c.args.records shown.header.version (modulus shown.extended) lines closing.id closing.lines file (before.left slot.Algebra) behind c.in-Ok.ensures.header
     (body_at c.args.records checker.records shown.header.version file.version shown.extended checker.extended lines c.judge_lines.new.checker.recorded closing.id closing.lines behind c.in_ok-checker.ensures.records
-    c.in-Ok.ensures.version c.in_ok-checker.ensures.extended (sym c.into_record.ensures.lines) c.in_ok-closing.ensures.recorded)
+    c.in-Ok.ensures.file.version_is c.in_ok-checker.ensures.extended (sym c.into_record.ensures.lines) c.in_ok-closing.ensures.recorded)

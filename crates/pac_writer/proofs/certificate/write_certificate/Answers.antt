@@ -6,12 +6,12 @@ use Rattle.poly_text.specs.Recorded.{lines_in}
 use Rattle.pac_writer.proofs.Wrote.{WritesText, failed_before, returned, writes_then}
 use Rattle.pac_writer.proofs.certificate.write_certificate.Goals as goal
 
-pub returns-in_err-write_all : goal.returns-in_err-write_all
-returns-in_err-write_all g c =
-    let e = c.in_err-write_all.field-0.0 in
+pub returns-in_err-write_header : goal.returns-in_err-write_header
+returns-in_err-write_header g c =
+    let e = c.in_err-write_header.field-0.0 in
     let u = g.D.Desk.seen c.args.desk.now in
-    let v = g.D.Desk.seen c.write_all.new.desk in
-    let here = subst (λ text. WritesText text u v (Err e)) c.header.ensures c.in_err-write_all.ensures in
+    let v = g.D.Desk.seen c.write_header.new.desk in
+    let here = c.in_err-write_header.ensures in
     let lines = lines_text (modulus c.args.terms.now) (lines_in c.args.terms.now c.args.lines.now) in
     let close = closing_text (Some c.args.closing) in
     returned (algebra_header c.args.version ++ (lines ++ close)) c.from_residual.result e u v c.from_residual.ensures.0
@@ -21,9 +21,9 @@ pub returns-in_err-write_lines : goal.returns-in_err-write_lines
 returns-in_err-write_lines g c =
     let e = c.in_err-write_lines.field-0.0 in
     let u = g.D.Desk.seen c.args.desk.now in
-    let v = g.D.Desk.seen c.write_all.new.desk in
+    let v = g.D.Desk.seen c.write_header.new.desk in
     let w = g.D.Desk.seen c.write_lines.new.desk in
-    let begun = subst (λ text. WritesText text u v (Ok tt)) c.header.ensures c.in_ok-write_all.ensures in
+    let begun = c.in_ok-write_header.ensures in
     let lines = lines_text (modulus c.args.terms.now) (lines_in c.args.terms.now c.args.lines.now) in
     let close = closing_text (Some c.args.closing) in
     returned (algebra_header c.args.version ++ (lines ++ close)) c.from_residual-in_err-write_lines.result e u w c.from_residual-in_err-write_lines.ensures.0
@@ -34,10 +34,10 @@ pub returns : goal.returns
 returns g c =
     let r = c.write_line.result in
     let u = g.D.Desk.seen c.args.desk.now in
-    let v = g.D.Desk.seen c.write_all.new.desk in
+    let v = g.D.Desk.seen c.write_header.new.desk in
     let w = g.D.Desk.seen c.write_lines.new.desk in
     let x = g.D.Desk.seen c.write_line.new.desk in
-    let begun = subst (λ text. WritesText text u v (Ok tt)) c.header.ensures c.in_ok-write_all.ensures in
+    let begun = c.in_ok-write_header.ensures in
     let lines = lines_text (modulus c.args.terms.now) (lines_in c.args.terms.now c.args.lines.now) in
     let close = closing_text (Some c.args.closing) in
     writes_then (algebra_header c.args.version) (lines ++ close) r u v x begun

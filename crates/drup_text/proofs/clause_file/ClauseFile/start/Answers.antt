@@ -1,14 +1,17 @@
-use Rattle.std.proofs.Common.{◌∙◌, None, ap, false, refl, subst, sym}
+use Rattle.std.proofs.Common.{◌∙◌, ap, refl, subst, sym}
 use Rattle.std.proofs.KnownBytes.{prepend_known-nil}
 use Rattle.std.specs.Option.{IfSome}
 use Rattle.std.specs.Prelude.{⊤}
 use Rattle.mv_desk.proofs.CallerLemmas.{KeepsTelling-trans, ReadsOnly-trans}
 use Rattle.mv_desk.specs.declared.slot.Slot.TheVariants.{Clauses}
-use Rattle.mv_text.specs.LineReading.{known_from, lengths_of}
+use Rattle.mv_text.specs.LineReading.{Lines, known_from, lengths_of}
 use Rattle.ripple_graft.specs.HeaderBlocks.{AreHeaderBlocks}
-use Rattle.drup_text.specs.FileStates.{IsLineRefusal, TakesText}
+use Rattle.mv_text.specs.CertificateFiles.{IsLineRefusal, TakesText}
 use Rattle.drup_text.specs.Headers.{IsVersionLine}
-use Rattle.drup_text.proofs.HeaderSteps.{IsNew, header_refused, version_refused}
+use Rattle.drup_text.specs.PassingHeaders.{HasHeader}
+use Rattle.drup_text.specs.declared.head.Header.{Header}
+use Rattle.mv_text.proofs.CallerLemmas.{IsNew}
+use Rattle.drup_text.proofs.HeaderSteps.{header_refused, version_refused}
 use Rattle.drup_text.proofs.VersionSteps.{header_there}
 use Rattle.drup_text.proofs.clause_file.ClauseFile.start.Goals as goal
 
@@ -19,12 +22,14 @@ returns-in-Ok-any_blocks-clause-header g c =
     let after = known_from c.any_blocks.new.lines.ahead ((g.D.Desk.seen c.any_blocks.new.desk).left Clauses) in
     let new : IsNew (lengths_of c.args.limits.now) c.new-lines.result = record { taken = c.new-lines.ensures.taken; lengths_are = c.new-lines.ensures.lengths } in
     let told = ap (λ z. known_from z before) c.new-lines.ensures.ahead ∙ prepend_known-nil before in
-    header_there c.args.graph.now (lengths_of c.args.limits.now) c.new-lines.result c.version.new.lines c.any_blocks.new.lines c.in-Ok.version
-    (record { version = c.in-Ok.version; blocks = c.from_vec.result }) new c.in-Ok.ensures.lengths refl
-    (record { lines = c.any_blocks.new.lines; number = c.header_lines-number.result; ended = false; failed = None }) c.in-Ok-any_blocks.blocks.items before left after
-    refl (c.in-Ok-any_blocks.ensures.lengths ∙ c.in-Ok.ensures.lengths) c.from_vec.ensures
+    let header : Header = record { version = c.in-Ok.version; blocks = c.from_vec.result } in
+    subst (λ (l : Lines). IfSome before (λ bytes. HasHeader c.args.graph.now c.behind-file.result bytes (known_from l.ahead ((g.D.Desk.seen c.any_blocks.new.desk).left Clauses)) header)) (sym c.behind-file.ensures.lines)
+    (header_there c.args.graph.now (lengths_of c.args.limits.now) c.new-lines.result c.version.new.lines c.any_blocks.new.lines c.in-Ok.version
+    header new c.in-Ok.ensures.lengths refl
+    c.behind-file.result c.in-Ok-any_blocks.blocks.items before left after
+    c.behind-file.ensures.lines (c.in-Ok-any_blocks.ensures.lengths ∙ c.in-Ok.ensures.lengths) c.from_vec.ensures
     (subst (λ z. IfSome z (λ bytes. TakesText IsVersionLine c.new-lines.result c.version.new.lines bytes left c.in-Ok.version)) told c.in-Ok.ensures.line)
-    c.in-Ok-any_blocks.ensures.blocks
+    c.in-Ok-any_blocks.ensures.blocks)
 
 pub returns-in-Ok-any_blocks-clause-fits : goal.returns-in-Ok-any_blocks-clause-fits
 returns-in-Ok-any_blocks-clause-fits g c = subst (AreHeaderBlocks c.args.graph.now c.in-Ok.version) (sym c.from_vec.ensures) c.in-Ok-any_blocks.ensures.fits

@@ -1,5 +1,5 @@
--- What is left of a clause certificate that is read line by line, and what its next line says.
-use Rattle.std.specs.Prelude.{◌≡◌, ◌≢◌, ◌+◌, ◌<◌, ◌≤◌, ◌^◌, ◌⊎◌, ◌==◌, ℕ, Bool, false, List, [], ◌∷◌, ◌++◌, length, IfSome, if◌then◌else◌}
+-- The header of a clause certificate that is read line by line: what passes, and why there is none.
+use Rattle.std.specs.Prelude.{◌≡◌, ◌+◌, ◌⊎◌, ◌==◌, ℕ, List, [], ◌∷◌, ◌++◌, length, IfSome, if◌then◌else◌}
 use Rattle.std.specs.declared.option.Option.{Option}
 use Rattle.std.specs.declared.option.Option.TheVariants.{None, Some}
 use Rattle.mv_desk.specs.View.{Rose}
@@ -7,7 +7,7 @@ use Rattle.mv_desk.specs.declared.faults.LineFail.{LineFail}
 use Rattle.mv_desk.specs.declared.faults.LineFail.TheVariants as fail
 use Rattle.graph_core.specs.Graph.{Aig}
 use Rattle.graph_core.specs.Text.JudgedLines.{BeginsWith, Behind, IsTooLong, Lengths}
-use Rattle.mv_text.specs.LineReading.{EndsIn, FitsPiece, IsLongAhead, Lines, known_from}
+use Rattle.mv_text.specs.CertificateFiles.{FileState}
 use Rattle.graph_core.specs.Graph.Extended.{Extended, without_cut}
 use Rattle.ripple_graft.specs.declared.block.Block.{Block}
 use Rattle.ripple_graft.specs.Blocks.{graft_block}
@@ -19,73 +19,6 @@ use Rattle.drup_text.specs.Headers.{head_of, second_line, version_line}
 use Rattle.ripple_graft.specs.HeaderBlocks.{cut_blocks}
 use Rattle.drup_text.specs.LineTexts.{IsCountInRange, IsCutSize, IsHeadOf}
 use Rattle.drup_text.specs.declared.fault.StartFail.{StartFail}
-
--- A file: its lines, how many of them were read or refused, whether its end was met, and the answer that it gives from its first
--- failure on.
-pub record FileState : Type 0 where
-  pub lines : Lines
-  pub number : ℕ
-  pub ended : Bool
-  pub failed : Option LineFail
-
--- the end wasn't met, and nothing failed
-pub record GoesOn (file : FileState) : Type 0 where
-  pub ended : file.ended ≡ false
-  pub failed : file.failed ≡ None
-
--- what is left of the file, where the desk tells it
-abbrev pub left_ahead : FileState → Option (List ℕ) → Option (List ℕ)
-left_ahead file left = known_from file.lines.ahead left
-
--- ---- one line
-
--- What is left begins with a line of the text, which isn't too long, and these bytes are behind it.
-pub record TakesText {X : Type 0} (IsText : List ℕ → X → Type 0) (old new : Lines) (left : List ℕ) (after : Option (List ℕ)) (x : X) : Type 0 where
-  pub rest : List ℕ
-  pub begins : BeginsWith IsText left x rest
-  pub short : ¬ (IsLongAhead old left)
-  pub left_is : after ≡ Some rest
-  pub taken : new.taken + length rest ≡ old.taken + length left
-
--- no line of the text stands there
-abbrev pub BeginsWithNone : {X : Type 0} → (List ℕ → X → Type 0) → List ℕ → Type 0
-BeginsWithNone {X} IsText left = (x : X) (rest : List ℕ) → BeginsWith IsText left x rest → ⊥
-
--- a line of the text stands there, and is out of range
-abbrev pub BeginsOutOfRange : {X : Type 0} → (List ℕ → X → Type 0) → (X → Type 0) → List ℕ → Type 0
-BeginsOutOfRange {X} IsText InRange left = (x : X) × (rest : List ℕ) × BeginsWith IsText left x rest × ¬ (InRange x)
-
--- Why a line that has to be there isn't given, by what is left: it is too long, no line of the text stands there, one out of range
--- does, a read failed, or want of memory.
-abbrev pub IsLineRefusal : {X : Type 0} → (List ℕ → X → Type 0) → (X → Type 0) → Lines → Option (List ℕ) → ℕ → ℕ → LineFail → Type 0
-IsLineRefusal IsText InRange lines left before now fail.Text = IfSome left (λ bytes. ¬ (IsLongAhead lines bytes) × BeginsWithNone IsText bytes)
-IsLineRefusal IsText InRange lines left before now fail.Range = IfSome left (λ bytes. ¬ (IsLongAhead lines bytes) × BeginsOutOfRange IsText InRange bytes)
-IsLineRefusal IsText InRange lines left before now fail.Fault = Rose before now
-IsLineRefusal IsText InRange lines left before now fail.TooLong = IfSome left (IsLongAhead lines)
-IsLineRefusal IsText InRange lines left before now fail.Memory = Unit {0}
-
--- The same of a line that needn't be there: something is left where its text is refused.
-abbrev pub IsNextRefusal : {X : Type 0} → (List ℕ → X → Type 0) → (X → Type 0) → Lines → Option (List ℕ) → ℕ → ℕ → LineFail → Type 0
-IsNextRefusal IsText InRange lines left before now fail.Text = IfSome left (λ bytes. ¬ (IsLongAhead lines bytes) × (bytes ≢ []) × BeginsWithNone IsText bytes)
-IsNextRefusal IsText InRange lines left before now fail.Range = IfSome left (λ bytes. ¬ (IsLongAhead lines bytes) × BeginsOutOfRange IsText InRange bytes)
-IsNextRefusal IsText InRange lines left before now fail.Fault = Rose before now
-IsNextRefusal IsText InRange lines left before now fail.TooLong = IfSome left (IsLongAhead lines)
-IsNextRefusal IsText InRange lines left before now fail.Memory = Unit {0}
-
--- Nothing is left, and the file isn't too long.
-pub record IsAtEnd (lines : Lines) (left : List ℕ) : Type 0 where
-  pub none : left ≡ []
-  pub short : ¬ (IsLongAhead lines left)
-
--- Why a line that has to be there isn't had: the file ends before its line feed, it is too long, a read failed, or want of memory.
-abbrev pub IsNeededFault : Lines → Option (List ℕ) → ℕ → ℕ → LineFail → Type 0
-IsNeededFault lines left before now fail.Text = IfSome left (EndsIn lines)
-IsNeededFault lines left before now fail.Range = ⊥
-IsNeededFault lines left before now fail.Fault = Rose before now
-IsNeededFault lines left before now fail.TooLong = IfSome left (IsLongAhead lines)
-IsNeededFault lines left before now fail.Memory = Unit {0}
-
--- ---- the header
 
 -- Of lines none of which is long: the cut's line and its pairs, which the graph takes, and the bytes behind them.
 abbrev pub PassesCut : Aig → (List ℕ → Type 0) → List ℕ → Option Cut → List ℕ → Type 0
@@ -163,17 +96,3 @@ IsCause Refused left before now line fail.Memory = Unit {0}
 -- Why a file has no header that the graph takes.
 abbrev pub IsStartRefusal : Aig → Lengths → Option (List ℕ) → ℕ → ℕ → StartFail → Type 0
 IsStartRefusal g lengths left before now f = IsCause (IsHeaderRefusal g lengths) left before now f.line f.why
-
--- ---- what is kept
-
--- A byte at least was taken, and no more than the file may have.
-pub record TakesSome (old new : Lines) : Type 0 where
-  pub more : old.taken < new.taken
-  pub within : new.taken ≤ new.lengths.file
-
--- While the file goes on, more bytes were taken than lines were read; so lines can be counted.
-pub record IsCounted (file : FileState) : Type 0 where
-  pub piece : FitsPiece file.lines
-  pub small : file.lines.lengths.file < 2 ^ 64
-  pub within : GoesOn file → file.lines.taken ≤ file.lines.lengths.file
-  pub counted : GoesOn file → file.number < file.lines.taken

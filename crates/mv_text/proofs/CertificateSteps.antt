@@ -1,22 +1,21 @@
--- What the next line of a file says, and why there is none.
-use Rattle.std.specs.Prelude.{⊤, ◌≡◌, ◌≢◌, ℕ, List, [], ◌∷◌, ◌++◌, IfSome}
+-- What the next line of a certificate says, why there is none, and what its first line is.
+use Rattle.std.specs.Prelude.{⊤, ◌≡◌, ◌≢◌, ◌+◌, ℕ, List, [], ◌∷◌, ◌++◌, length, IfSome}
 use Rattle.std.specs.List.{All}
 use Rattle.std.specs.Result.{IfOk, IfErr}
 use Rattle.std.specs.declared.option.Option.{Option}
 use Rattle.std.specs.declared.option.Option.TheVariants.{None, Some}
 use Rattle.std.specs.declared.result.Result.{Result}
 use Rattle.std.specs.declared.result.Result.TheVariants.{Ok, Err}
-use Rattle.std.proofs.Common.{refl, sym, subst, ◌∙◌}
+use Rattle.std.proofs.Common.{refl, sym, ap, subst, ◌∙◌, append_assoc, arith}
 use Rattle.std.proofs.lemmas.List.Elements.{recursion_from_All}
 use Rattle.mv_desk.specs.declared.faults.LineFail.{LineFail}
 use Rattle.mv_desk.specs.declared.faults.LineFail.TheVariants as fail
 use Rattle.graph_core.specs.Text.{newline}
-use Rattle.graph_core.specs.Text.JudgedLines.{BeginsWith}
+use Rattle.graph_core.specs.Text.JudgedLines.{BeginsWith, IsTooLong, Lengths}
 use Rattle.graph_core.proofs.OfTexts.CallerLemmas.{HasNoNewline, begins_front}
 use Rattle.mv_text.specs.LineReading.{EndsIn, IsLineFault, IsLongAhead, Lines, TakesLine}
-use Rattle.mv_text.proofs.CallerLemmas.{end_is_short, line_is_taken}
-use Rattle.drup_text.specs.FileStates.{BeginsOutOfRange, BeginsWithNone, IsLineRefusal, IsNeededFault, IsNextRefusal, TakesText}
-use Rattle.drup_text.specs.LineTexts.{IsRefusedText}
+use Rattle.mv_text.specs.CertificateFiles.{BeginsOutOfRange, BeginsWithNone, HasFirstLine, IsEndRefusal, IsFirstRefusal, IsLineRefusal, IsNeededFault, IsNextRefusal, IsRefusedText, TakesText}
+use Rattle.mv_text.proofs.LineLengths.{end_is_short, line_is_taken, long_of, short_of}
 
 -- whatever bytes begin with is said by the line in front of their first line feed
 one_front : {X : Type 0} (IsText : List ℕ → X → Type 0) → ((line : List ℕ) (x : X) → IsText line x → HasNoNewline line) →
@@ -110,3 +109,63 @@ module _ {X : Type 0} (IsText : List ℕ → X → Type 0) (InRange : X → Type
   next_fault lines left first then fail.Fault h = h
   next_fault lines left first then fail.TooLong h = h
   next_fault lines left first then fail.Memory h = h
+
+-- ---- the end
+
+pub line_is_no_end : (old new : Lines) (before after : Option (List ℕ)) (line : List ℕ) → TakesLine old new before after line → IfSome before (λ bytes. ¬ (IsLongAhead old bytes) × (bytes ≢ []))
+line_is_no_end old new before after line takes = told before (λ bytes. ¬ (IsLongAhead old bytes) × (bytes ≢ [])) (λ left e.
+    let l = line_is_taken old new before after line left takes e in (l.3, λ n. some_left line l.0 (sym l.2 ∙ n)))
+
+pub fault_is_no_end : (lines : Lines) (left : Option (List ℕ)) (first then : ℕ) (f : LineFail) → IsLineFault lines left first then f → IsEndRefusal lines left first then f
+fault_is_no_end lines left first then fail.Text h = told_from left (λ bytes. (bytes ≢ []) × EndsIn lines bytes) (λ bytes. ¬ (IsLongAhead lines bytes) × (bytes ≢ [])) (λ bytes e cut. (end_is_short lines bytes cut.1, cut.0)) h
+fault_is_no_end lines left first then fail.Range h = h
+fault_is_no_end lines left first then fail.Fault h = h
+fault_is_no_end lines left first then fail.TooLong h = h
+fault_is_no_end lines left first then fail.Memory h = h
+
+-- ---- the first line
+
+-- a reader of lines that took nothing yet
+pub record IsNew (lengths : Lengths) (lines : Lines) : Type 0 where
+  pub taken : lines.taken ≡ 0
+  pub lengths_are : lines.lengths ≡ lengths
+
+module _ (lengths : Lengths) (lines : Lines) (fresh : IsNew lengths lines) (line : List ℕ) where
+  pub total_new : (bytes : List ℕ) → lines.taken + length bytes ≡ length bytes
+  total_new bytes = let none = fresh.taken in omega arith
+
+  long : (bytes : List ℕ) → IsLongAhead lines bytes → IsTooLong lengths (length bytes) bytes
+  long bytes = long_of lengths (length bytes) lines bytes fresh.lengths_are (total_new bytes)
+
+  short : (bytes : List ℕ) → ¬ (IsLongAhead lines bytes) → ¬ (IsTooLong lengths (length bytes) bytes)
+  short bytes = short_of lengths (length bytes) lines bytes fresh.lengths_are (total_new bytes)
+
+  -- the line is another one, or the file ends before its line feed
+  pub other_first : (new : Lines) (left after : Option (List ℕ)) (bytes : List ℕ) → HasNoNewline line → TakesLine lines new left after bytes → bytes ≢ line →
+      IfSome left (λ text. ¬ (IsTooLong lengths (length text) text) × ((body : List ℕ) → text ≢ (line ++ newline ∷ []) ++ body))
+  other_first new left after bytes none takes other = told left (λ text. ¬ (IsTooLong lengths (length text) text) × ((body : List ℕ) → text ≢ (line ++ newline ∷ []) ++ body)) (λ text e.
+      let l = line_is_taken lines new left after bytes text takes e in (
+        short text l.3,
+        λ body is. other (one_front (λ z (t : ⊤). z ≡ line) (λ z t same. subst HasNoNewline (sym same) none) text bytes l.0 (no_end bytes takes.no_end) l.2 tt body (line, refl, is ∙ append_assoc line (newline ∷ []) body)),
+      ))
+
+  pub first_fault : (left : Option (List ℕ)) (first then : ℕ) (f : LineFail) → IsNeededFault lines left first then f → IsFirstRefusal (line ++ newline ∷ []) lengths left first then f
+  first_fault left first then fail.Text h =
+      told_from left (EndsIn lines) (λ bytes. ¬ (IsTooLong lengths (length bytes) bytes) × ((body : List ℕ) → bytes ≢ (line ++ newline ∷ []) ++ body))
+      (λ bytes e ends. (short bytes (end_is_short lines bytes ends), λ body is. no_line_there bytes line body (no_end bytes ends.no_end) (is ∙ append_assoc line (newline ∷ []) body))) h
+  first_fault left first then fail.Range h = h
+  first_fault left first then fail.Fault h = h
+  first_fault left first then fail.TooLong h = told_from left (IsLongAhead lines) (λ bytes. IsTooLong lengths (length bytes) bytes) (λ bytes e t. long bytes t) h
+  first_fault left first then fail.Memory h = h
+
+  -- it is there
+  pub first_there : (new : Lines) (left after : Option (List ℕ)) (bytes : List ℕ) → TakesLine lines new left after bytes → bytes ≡ line → IfSome left (λ text. HasFirstLine (line ++ newline ∷ []) new text after)
+  first_there new left after bytes takes is = told left (λ text. HasFirstLine (line ++ newline ∷ []) new text after) (λ text e.
+      let l = line_is_taken lines new left after bytes text takes e in
+      record {
+        body = l.0;
+        begins = l.2 ∙ ap (λ z. z ++ newline ∷ l.0) is ∙ sym (append_assoc line (newline ∷ []) l.0);
+        short = subst (λ k. ¬ (IsTooLong k (length text) text)) (sym (takes.lengths ∙ fresh.lengths_are)) (short text l.3);
+        left = l.1;
+        taken = l.4 ∙ total_new text;
+      })
