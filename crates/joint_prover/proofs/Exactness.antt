@@ -17,7 +17,8 @@ use Rattle.joint_checker.proofs.CallerLemmas.{one_graph_refusal, refused_not_lon
 use Rattle.joint_prover.specs.declared.task.Task.{Task}
 use Rattle.joint_prover.specs.declared.verdict.Verdict.{Verdict}
 use Rattle.joint_prover.specs.declared.verdict.Verdict.TheVariants.{Proved, Wrong, WrongSum, Undecided, Graph, ReadFault, WriteFault, TooLong, Memory}
-use Rattle.joint_prover.specs.Verdicts.{GivesDue, HasFewOnes, HaveManyOnes, IsFirstAbove, IsVerdict, IsVerdictDue, IsWithinBudget, IsWrong, IsWrongSum, VerdictsAreExact}
+use Rattle.joint_prover.specs.Tries.{IsWithinBudget}
+use Rattle.joint_prover.specs.Verdicts.{GivesDue, HasFewOnes, HaveManyOnes, IsFirstAbove, IsVerdict, IsVerdictDue, IsWrong, IsWrongSum, VerdictsAreExact}
 
 wrong_same : (a c b d v w p q : ℕ) → a ≡ c → b ≡ d → v ≡ w → p ≡ q → Wrong a b v p ≡ Wrong c d w q
 wrong_same a c b d v w p q e f g h = cc

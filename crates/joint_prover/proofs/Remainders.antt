@@ -3,10 +3,11 @@ use Rattle.std.proofs.Common.{◌≡◌, ◌≢◌, ℕ, ◌+◌, ◌%◌, ◌<�
 use Rattle.std.specs.Prelude.{None, Some, IsSome}
 use Rattle.std.specs.List.{AllByRecursion}
 use Rattle.std.proofs.Math.Seq.{take-append-add, take-length}
-use Rattle.std.proofs.lemmas.List.{length-map}
+use Rattle.std.proofs.lemmas.Bool.{cases_lt}
+use Rattle.std.proofs.lemmas.List.{length-map, take_all}
 use Rattle.std.proofs.lemmas.List.Sorted.{length_permutation}
 use Rattle.std.proofs.lemmas.List.Elements.{recursion_from_All}
-use Rattle.column_reducer.specs.Reducing.{GoesOn, IsPassed, IsRest, Planned, planned, value_after}
+use Rattle.column_reducer.specs.Reducing.{GoesOn, IsPassed, IsRest, IsWithin, Planned, planned, value_after}
 use Rattle.column_reducer.specs.declared.reduced.Reduced.TheVariants as answer
 use Rattle.column_reducer.specs.declared.reduced.Reduced.TheVariants.{Rest}
 use Rattle.frontier_core.specs.declared.step.Step.{Step}
@@ -37,14 +38,15 @@ use Rattle.poly_terms.specs.Tables.{Table, Sum, monomials_in, value_in}
 use Rattle.poly_terms.specs.Tables as table
 use Rattle.poly_terms.proofs.Values.{normal}
 use Rattle.ripple_graft.specs.Extension.{IsExtension}
+use Rattle.slice_planner.specs.ColumnPlans.{IsColumnPlan}
 use Rattle.slice_planner.specs.Slices.{IsSlicePlan}
 use Rattle.joint_prover.proofs.PlanLists.{length-count_from, take-map}
 use Rattle.joint_prover.proofs.Sizes.{some_bits, some_outputs}
 use Rattle.joint_prover.specs.declared.ending.Ending.{Ending}
 use Rattle.joint_prover.specs.declared.ending.Ending.TheVariants.{Closed, Differs}
 use Rattle.joint_prover.specs.declared.verdict.Tried.{Tried}
-use Rattle.joint_prover.specs.Endings.{AreLeast, IsEnded, IsPlainlyReduced, IsRemainder, IsStart, IsTriedAt, IsWitness, IsWitnessOf, plain_of}
-use Rattle.joint_prover.specs.Tries.{IsAbove}
+use Rattle.joint_prover.specs.Endings.{AreFew, AreLeast, IsEnded, IsPlainlyReduced, IsRemainder, IsStart, IsTriedAt, IsWitness, IsWitnessOf, plain_of}
+use Rattle.joint_prover.specs.Tries.{EndsWithin, IsAbove, IsWithinBudget}
 use Rattle.joint_prover.specs.Verdicts.{IsFirstAbove}
 
 -- ---- the plain plan
@@ -89,6 +91,22 @@ module _ (e : Extended) (s : Sides) (vs : List ℕ) (extension : IsExtension e) 
             (λ σ. ap (λ ws. frontier_value e s (all_columns e) (take i ws) σ) (plain_order_is_one e.gates size_i.0 vs extension.acyclic size_i.1 order) ∙ sym (value_plain i σ (omega arith))) size_i.2),
       )
 
+  -- where none is above it
+
+  of_order : (t n : ℕ) → HasPlainSize e s t n → HasSize (modulus e) (frontier_value e s (all_columns e) (take t vs)) n
+  of_order t n size = size_same (modulus e) n (frontier_value e s (all_columns e) (take t size.0)) (frontier_value e s (all_columns e) (take t vs))
+      (λ σ. ap (λ ws. frontier_value e s (all_columns e) (take t ws) σ) (plain_order_is_one e.gates size.0 vs extension.acyclic size.1 order)) size.2
+
+  within_there : (budget : ℕ) → IsWithin (plain_of e vs) s budget → (t n : ℕ) → t ≤ length vs → HasSize (modulus e) (frontier_value e s (all_columns e) (take t vs)) n → n ≤ budget
+  within_there budget h t n low size = h t n (omega (arith, length-plain_steps))
+      (size_same (modulus e) n (frontier_value e s (all_columns e) (take t vs)) (value_after (plain_of e vs) s (length e.graph.outputs + t)) (λ σ. sym (value_plain t σ low)) size)
+
+  pub within_always : (budget : ℕ) → IsWithin (plain_of e vs) s budget → (t n : ℕ) → HasPlainSize e s t n → n ≤ budget
+  within_always budget h t n size = ⊎_elim
+      (λ high. within_there budget h (length vs) n (omega arith)
+      (subst (λ ws. HasSize (modulus e) (frontier_value e s (all_columns e) ws) n) (take_all t vs (omega arith) ∙ sym (take-length vs)) (of_order t n size)))
+      (λ low. within_there budget h t n low (of_order t n size)) (cases_lt (length vs) t)
+
 -- what a reduction asks for
 pub reads_inputs : (l : Made) → IsStart l → ReadInputs l.extended.graph l.sides
 reads_inputs l start = subst (ReadInputs l.extended.graph) (sym start.sides) (sides_read_inputs l.extended.graph l.sides.claim)
@@ -116,21 +134,44 @@ module _ (l : Made) (start : IsStart l) (steps : List Step) (slices : IsSlicePla
     above = subst (λ n. budget < n) (sym at.size_is) h.above;
   }
 
+-- ---- a plan that ended
+
+pub ends_within : (l : Made) (p : Planned) (budget : ℕ) → p.extended ≡ l.extended → p.uncounted ≡ 0 → IsColumnPlan l.extended p.steps → IsWithin p l.sides budget → EndsWithin l.extended l.sides budget
+ends_within l p budget same counted columns h = record {
+  steps = p.steps;
+  columns = columns;
+  within = subst (λ x. IsWithin (planned x p.steps 0) l.sides budget) same (subst (λ n. IsWithin (planned p.extended p.steps n) l.sides budget) counted h);
+}
+
+-- and so within more, over the same graph
+pub ends_at : (l : Made) (e : Extended) (s : Sides) (budget most : ℕ) → l.extended ≡ e → l.sides ≡ s → budget ≤ most → EndsWithin l.extended l.sides budget → EndsWithin e s most
+ends_at l e s budget most extended sides low h = subst (λ x. EndsWithin x s most) extended (subst (λ t. EndsWithin l.extended t most) sides
+    (record { steps = h.steps; columns = h.columns; within = λ i n there size. let few = h.within i n there size in omega arith }))
+
 -- ---- the remainder
 
-pub remainder_of : (l after : Made) (p : Planned) (poly : Sum) (id : ℕ) → p.extended ≡ l.extended → IsPlan l.extended p.steps → GoesOn l after → IsRest p l.sides after.table (ledger_of after).live poly id →
-    IsRemainder l after poly id
-remainder_of l after p poly id same plan goes rest = record {
+-- at most two lines more than an extended graph has gates
+abbrev pub IsFewOver : Extended → Made → Type 0
+IsFewOver e l = length l.lines ≤ length e.gates + 2
+
+pub few_over : (e : Extended) (l after : Made) → e ≡ l.extended → GoesOn l after → IsFewOver e after → AreFew after
+few_over e l after same goes few = subst (λ x. IsFewOver x after) (same ∙ sym goes.extended) few
+
+pub remainder_of : (l after : Made) (p : Planned) (poly : Sum) (id : ℕ) → p.extended ≡ l.extended → IsPlan l.extended p.steps → GoesOn l after → IsFewOver p.extended after →
+    IsRest p l.sides after.table (ledger_of after).live poly id → IsRemainder l after poly id
+remainder_of l after p poly id same plan goes few rest = record {
   steps = p.steps;
   uncounted = p.uncounted;
   plan = plan;
   goes_on = goes;
   rest = subst (λ x. IsRest (planned x p.steps p.uncounted) l.sides after.table (ledger_of after).live poly id) same rest;
+  few = few_over p.extended l after same goes few;
 }
 
 pub plain_remainder : (l : Made) → IsStart l → (budget : ℕ) (after : Made) (poly : Sum) (id : ℕ) → IsPlainlyReduced budget l after (Rest poly id) → IsRemainder l after poly id
 plain_remainder l start budget after poly id h =
-    remainder_of l after (plain_of l.extended h.order) poly id refl (plain_plan_is_plan l.extended h.order start.extension h.plain).0 h.goes_on h.reduced.0
+    remainder_of l after (plain_of l.extended h.order) poly id refl (plain_plan_is_plan l.extended h.order start.extension h.plain).0 h.goes_on
+    (subst (λ x. IsFewOver x after) h.goes_on.extended h.few) h.reduced.0
 
 module _ (l : Made) (start : IsStart l) (after : Made) (poly : Sum) (id : ℕ) (left : IsRemainder l after poly id) where
   goes : GoesOn l after
@@ -242,15 +283,21 @@ module _ (l : Made) (start : IsStart l) (after : Made) (poly : Sum) (id : ℕ) (
   ended_of new Closed h = record {
     extended = ap (λ (x : Made). x.extended) h.1 ∙ goes.extended;
     sides = ap (λ (x : Made). x.sides) h.1 ∙ goes.sides ∙ start.sides;
+    few = subst AreFew (sym h.1) left.few;
     decides = (subst (λ (x : Made). IsSome x.closing) (sym h.1) refl, zero_does h.0);
   }
   ended_of new (Differs x) h = record {
     extended = ap (λ (x : Made). x.extended) h.1 ∙ goes.extended;
     sides = ap (λ (x : Made). x.sides) h.1 ∙ goes.sides ∙ start.sides;
+    few = subst AreFew (sym h.1) left.few;
     decides = witness_is_least x h.0;
   }
 
 module _ (l : Made) (start : IsStart l) (alone : l.extended ≡ without_cut l.extended.graph) where
+  pub always_within : (budget : ℕ) (after : Made) (poly : Sum) (id : ℕ) → IsPlainlyReduced budget l after (Rest poly id) → IsWithinBudget l.extended.graph l.sides.claim budget
+  always_within budget after poly id h = λ t n is. within_always l.extended l.sides h.order start.extension h.plain budget h.reduced.1 t n
+      (subst (λ x. HasPlainSize x l.sides t n) (sym alone) (subst (λ x. HasPlainSize (without_cut l.extended.graph) x t n) (sym start.sides) is))
+
   pub first_above : (budget step size : ℕ) (after : Made) → IsPlainlyReduced budget l after (answer.Passed step size) → IsFirstAbove l.extended.graph l.sides.claim budget step size
   first_above budget step size after h =
       let r = passed_is_first l.extended l.sides h.order start.extension h.plain budget step size h.reduced in

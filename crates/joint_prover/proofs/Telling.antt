@@ -3,9 +3,12 @@ use Rattle.std.proofs.Common.{◌≡◌, List, [], ◌∷◌, ◌++◌, ℕ, len
 use Rattle.std.specs.Prelude.{IfOk, IfSome, OnErr, Result}
 use Rattle.std.specs.declared.result.Result.TheVariants.{Err, Ok}
 use Rattle.std.proofs.lemmas.Result.{IfOk-weaker}
+use Rattle.std.specs.List.{All}
 use Rattle.std.specs.declared.option.Option.{Option}
 use Rattle.std.specs.declared.option.Option.TheVariants.{None, Some}
 use Rattle.std.proofs.lemmas.Option.{none-some}
+use Rattle.clause_core.specs.Clause.{IsClause}
+use Rattle.clause_core.specs.ClauseLines.{clause_in}
 use Rattle.drup_text.specs.WrittenTexts.{any_file_text}
 use Rattle.graph_core.specs.Aiger.Soundness.{IsSizedAs}
 use Rattle.graph_core.specs.Algebra.Text.{IsLawfulAlgebraFile}
@@ -36,9 +39,9 @@ use Rattle.joint_prover.specs.declared.verdict.Tried.{Tried}
 use Rattle.joint_prover.specs.declared.verdict.Verdict.{Verdict}
 use Rattle.joint_prover.specs.declared.verdict.Verdict.TheVariants.{Proved, Wrong, WrongSum, Undecided, Graph, ReadFault, WriteFault, TooLong, Memory}
 use Rattle.joint_prover.specs.Endings.{AreLeast, IsEnded}
-use Rattle.joint_prover.specs.Pairs.{AreClausesFor, AreClausesOver, IsPairFor, IsPairOver, IsVersion}
+use Rattle.joint_prover.specs.Pairs.{AreClausesFor, AreClausesOver, IsPairFor, IsPairOver, IsSpareFile, IsVersion}
 use Rattle.joint_prover.specs.Parts.{AreTriedBefore, IsAttempt, IsFileOf, IsOfGraph, IsToldOver, IsToldWrong, IsWritten, MayTell, MayTellOver, cut_named, header_of, verdict_in}
-use Rattle.joint_prover.specs.Tries.{AreTried, EndsOver, IsTried, extended_by}
+use Rattle.joint_prover.specs.Tries.{AreTried, EndsOver, HasPassed, IsTried, IsWithinBudget, extended_by}
 use Rattle.joint_checker.specs.Certificates.{IsPair}
 use Rattle.joint_checker.specs.Written.{StopsAt, StopsWriting}
 use Rattle.joint_prover.proofs.WrittenClauses.{AreSaid, said_clauses, said_with}
@@ -78,12 +81,15 @@ module _ (files : Files) (a b : View) where
   module _ (e : Extended) (task : Task) (cut : Option Cut) (clauses : List ℕ) (itself : e ≡ extended_by e.graph cut) (given : AreClausesOver e.graph task cut clauses) where
     module _ (l : Made) (version : ℕ) (same : task.version ≡ version) (extended : l.extended ≡ e) (sides : l.sides ≡ sides_for task.claim e.graph) where
       pair_of : (text : List ℕ) → IsFileOf l version text → IsPairOver e.graph task cut clauses text
-      pair_of text h = record {
-        clause_file = given;
-        algebra_file = subst (λ x. IsLawfulAlgebraFile (premises task.version x []) (sides_for task.claim e.graph) text) itself
-            (subst (λ x. IsLawfulAlgebraFile (premises task.version e []) x text) sides
-            (subst (λ x. IsLawfulAlgebraFile (premises task.version x []) l.sides text) extended (subst (λ v. IsFileOf l v text) (sym same) h)));
-      }
+      pair_of text h =
+          let file = subst (λ v. IsFileOf l v text) (sym same) h in
+          record {
+            clause_file = given;
+            algebra_file = subst (λ x. IsLawfulAlgebraFile (premises task.version x []) (sides_for task.claim e.graph) text) itself
+                (subst (λ x. IsLawfulAlgebraFile (premises task.version e []) x text) sides
+                (subst (λ x. IsLawfulAlgebraFile (premises task.version x []) l.sides text) extended file.lawful));
+            spare = subst (λ x. IsSpareFile task.version x text) (extended ∙ itself) file.spare;
+          }
 
       pub written_told : (v : Verdict) → Does task.claim e.graph → IsWritten l version clauses files a b v → IsToldOver e.graph task cut files a b v
       written_told Proved does h = (does, (clauses, certificate_text version l, pair_of (certificate_text version l) h.0, h.1))
@@ -173,13 +179,9 @@ module _ (l : Made) (graph : Aig) (s : Sides) (of_graph : graph ≡ l.extended.g
 
 module _ (g : Aig) (claim : Claim) (budget : ℕ) where
   -- with a cut in use a plan over the graph alone comes second
-  pub ends_behind : (used : Option Cut) (tried : List Tried) → AreTriedBefore g claim budget used tried → EndsOver g claim budget used None
-  ends_behind None tried h = λ cut same. absurd (none-some cut same)
-  ends_behind (Some used) tried h = λ cut same. (h.0, subst (λ c. IsTried g claim budget c h.0) same h.2)
-
-  pub ends_last : (used : Option Cut) (tried : List Tried) → AreTried g claim budget used tried → EndsOver g claim budget used None
-  ends_last None tried h = λ cut same. absurd (none-some cut same)
-  ends_last (Some used) tried h = λ cut same. (h.0, subst (λ c. IsTried g claim budget c h.0) same h.3)
+  pub has_passed : (used : Option Cut) (tried : List Tried) → AreTriedBefore g claim budget used tried → HasPassed g claim budget used
+  has_passed None tried h = λ cut same. absurd (none-some cut same)
+  has_passed (Some used) tried h = λ cut same. (h.0, subst (λ c. IsTried g claim budget c h.0) same h.2)
 
   pub one_more : (used : Option Cut) (tried : List Tried) (last : Tried) → AreTriedBefore g claim budget used tried → IsTried g claim budget None last → AreTried g claim budget used (tried ++ last ∷ [])
   one_more None tried last h k = (last, subst (λ ts. ts ++ last ∷ [] ≡ last ∷ []) (sym h) refl, k)
@@ -205,19 +207,20 @@ told_over files a b l ending v e task cut c told ended sized well said =
 -- over the graph with the adder of a cut that is shown
 pub told_shown : (files : Files) (a b : View) (l : Made) (ending : Ending) (v : Verdict) (g : Aig) (e : Extended) (task : Task) (cut : Cut) (c : Clauses) → Tells c l ending files a b v →
     IsEnded e task.claim l ending → IsSizedAs (profile_of task.claim.add) g → IsWellFormed e.graph → IsVersion task.version → task.version ≡ c.version → cut_named c ≡ Some cut →
-    IsShown g task.conflicts cut e c.log.now → IsToldOver g task (Some cut) files a b v
-told_shown files a b l ending v g e task cut c told ended sized well known version named shown =
+    All (λ line. IsClause (clause_in line)) c.log.now → IsShown g task.conflicts cut e c.log.now → IsToldOver g task (Some cut) files a b v
+told_shown files a b l ending v g e task cut c told ended sized well known version named once shown =
     let is = shown.extended_is in
     told_over files a b l ending v (with_cut g cut) task (Some cut) c told (subst (λ x. IsEnded x task.claim l ending) is ended) sized
-    (subst IsWellFormed (ap (λ (x : Extended). x.graph) is) well) (said_with g e task cut c known version named shown)
+    (subst IsWellFormed (ap (λ (x : Extended). x.graph) is) well) (said_with g e task cut c known version named once shown)
 
 -- at last, over the graph of which it is said
 pub told_last : {E : Type 0} (files : Files) (a b : View) (l : Made) (ending : Ending) (result : Result Verdict E) (e : Extended) (task : Task) (c : Clauses) (tried : List Tried) →
-    IfOk result (Tells c l ending files a b) → IsEnded e task.claim l ending → IsSizedAs (profile_of task.claim.add) e.graph → IsWellFormed e.graph → AreSaid e task None c →
+    IfOk result (Tells c l ending files a b) → IsEnded e task.claim l ending → IsWithinBudget e.graph task.claim task.budget → IsSizedAs (profile_of task.claim.add) e.graph →
+    IsWellFormed e.graph → AreSaid e task None c →
     IfOk result (λ v. (used : Option Cut) → AreTried e.graph task.claim task.budget used tried → IsOfGraph e.graph task used files a b v)
-told_last files a b l ending result e task c tried told ended sized well said = IfOk-weaker result (Tells c l ending files a b)
+told_last files a b l ending result e task c tried told ended within sized well said = IfOk-weaker result (Tells c l ending files a b)
     (λ v. (used : Option Cut) → AreTried e.graph task.claim task.budget used tried → IsOfGraph e.graph task used files a b v)
-    (λ v tells used are. told_of files a b e.graph task used None v (ends_last e.graph task.claim task.budget used tried are)
+    (λ v tells used are. told_of files a b e.graph task used None v (inr ((tried, are), within))
     (told_over files a b l ending v e task None c tells ended sized well said)) told
 
 -- one plan more was tried
@@ -240,8 +243,8 @@ attempt_tells g task budget cut files a b (attempt.Passed tried) h = h.1
 -- over the cut in use, or over the graph alone where none is
 pub may_tell : (g : Aig) (task : Task) (used : Option Cut) (files : Files) (a b : View) (v : Option Verdict) → MayTellOver g task used files a b v →
     MayTell g task used files a b v
-may_tell g task (Some cut) files a b (Some v) h = told_of files a b g task (Some cut) (Some cut) v refl h
-may_tell g task None files a b (Some v) h = told_of files a b g task None None v (λ cut same. absurd (none-some cut same)) h
+may_tell g task (Some cut) files a b (Some v) h = told_of files a b g task (Some cut) (Some cut) v (refl, h.1) h.0
+may_tell g task None files a b (Some v) h = told_of files a b g task None None v (inl ((λ cut same. absurd (none-some cut same)), h.1)) h.0
 may_tell g task used files a b None h = h
 
 -- whatever the error

@@ -4,7 +4,7 @@ use Rattle.std.specs.List.{All}
 use Rattle.std.specs.declared.option.Option.{Option}
 use Rattle.std.specs.declared.option.Option.TheVariants.{None, Some}
 use Rattle.std.proofs.lemmas.List.Elements.{All-nil}
-use Rattle.clause_core.specs.Clause.{IsClauseInRange}
+use Rattle.clause_core.specs.Clause.{IsClause, IsClauseInRange}
 use Rattle.clause_core.specs.ClauseLines as goals
 use Rattle.clause_core.specs.ClauseLines.{AreLawfulClauseLines, ClauseLine, clause_in}
 use Rattle.clause_core.specs.GateClauses.{goals_of}
@@ -32,8 +32,8 @@ use Rattle.joint_prover.specs.Parts.{cut_named, header_of}
 use Rattle.joint_prover.specs.Tries.{extended_by}
 use Rattle.joint_prover.proofs.Sizes.{few_inputs, few_outputs, few_variables, some_outputs}
 
--- What is said of an extended graph: it is the graph with the cut that is named, or with none, and the lines, of which there are few,
--- show its new outputs.
+-- What is said of an extended graph: it is the graph with the cut that is named, or with none, and the lines, of which there are few
+-- and each of which has a literal once, show its new outputs.
 pub record AreSaid (e : Extended) (task : Task) (cut : Option Cut) (c : Clauses) : Type 0 where
   pub known : IsVersion task.version
   pub version : task.version ≡ c.version
@@ -41,19 +41,21 @@ pub record AreSaid (e : Extended) (task : Task) (cut : Option Cut) (c : Clauses)
   pub itself : e ≡ extended_by e.graph cut
   pub fits : IsCutOf e.graph cut
   pub few : length c.log.now ≤ 2 * (task.conflicts + 2 * length e.graph.outputs)
+  pub once : All (λ line. IsClause (clause_in line)) c.log.now
   pub none : cut ≡ None → c.log.now ≡ []
   pub lawful : AreLawfulClauseLines (extended_by e.graph cut) c.log.now
 
 -- of the graph with the adder of a cut that is shown
 pub said_with : (g : Aig) (e : Extended) (task : Task) (cut : Cut) (c : Clauses) → IsVersion task.version → task.version ≡ c.version → cut_named c ≡ Some cut →
-    IsShown g task.conflicts cut e c.log.now → AreSaid (with_cut g cut) task (Some cut) c
-said_with g e task cut c known version named shown = record {
+    All (λ line. IsClause (clause_in line)) c.log.now → IsShown g task.conflicts cut e c.log.now → AreSaid (with_cut g cut) task (Some cut) c
+said_with g e task cut c known version named once shown = record {
   known = known;
   version = version;
   named = named;
   itself = refl;
   fits = shown.fits;
   few = shown.few;
+  once = once;
   none = λ same. absurd (cc);
   lawful = subst (λ x. AreLawfulClauseLines x c.log.now) shown.extended_is shown.lawful;
 }
@@ -67,6 +69,7 @@ said_alone g task c known version named empty = record {
   itself = refl;
   fits = tt;
   few = subst (λ (ls : List ClauseLine). length ls ≤ 2 * (task.conflicts + 2 * length g.outputs)) (sym empty) (omega arith);
+  once = subst (All (λ line. IsClause (clause_in line))) (sym empty) (All-nil (λ line. IsClause (clause_in line)));
   none = λ same. empty;
   lawful = subst (AreLawfulClauseLines (without_cut g)) (sym empty)
       (record { in_range = All-nil (λ x. IsClauseInRange g.max (clause_in x)); lawful = tt; goals = All-nil (λ x. All (goals.IsShown []) (goals_of x)) });
@@ -109,10 +112,10 @@ module _ (g : Aig) (add : Bool) (sized : IsSizedAs (profile_of add) g) (well : I
     grafted : IsGrafted g (extended_by g cut)
     grafted = record { blocks = cut_blocks (length g.outputs) cut; fit = blocks_fit g cut fits; is = refl }
 
-    clauses_over : (lines : List ClauseLine) → length lines ≤ 2 * (task.conflicts + 2 * length g.outputs) → (cut ≡ None → lines ≡ []) → AreLawfulClauseLines (extended_by g cut) lines →
+    clauses_over : (lines : List ClauseLine) → length lines ≤ 2 * (task.conflicts + 2 * length g.outputs) → All (λ line. IsClause (clause_in line)) lines → (cut ≡ None → lines ≡ []) → AreLawfulClauseLines (extended_by g cut) lines →
         AreClausesOver g task cut (any_file_text header lines)
-    clauses_over lines few none lawful = record {
-      names = record { lines = lines; few = few; none = none; text_is = refl };
+    clauses_over lines few once none lawful = record {
+      names = record { lines = lines; few = few; once = once; none = none; text_is = refl };
       gives = λ lengths within. (
         _,
         record {
@@ -138,4 +141,4 @@ pub said_clauses : (e : Extended) (task : Task) (cut : Option Cut) (c : Clauses)
     AreClausesOver e.graph task cut (any_file_text (record { version = c.version; blocks = cut_blocks (length e.graph.outputs) cut }) c.log.now)
 said_clauses e task cut c sized well said =
     subst (λ v. AreClausesOver e.graph task cut (any_file_text (record { version = v; blocks = cut_blocks (length e.graph.outputs) cut }) c.log.now)) said.version
-    (clauses_over e.graph task.claim.add sized well task said.known cut said.fits c.log.now said.few said.none said.lawful)
+    (clauses_over e.graph task.claim.add sized well task said.known cut said.fits c.log.now said.few said.once said.none said.lawful)

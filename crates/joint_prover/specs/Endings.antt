@@ -1,5 +1,5 @@
 -- What plans come to. Private clauses alone cite this file.
-use Rattle.std.specs.Prelude.{◌≡◌, ℕ, Bool, List, [], ◌∷◌, length, take, None, IsSome}
+use Rattle.std.specs.Prelude.{◌≡◌, ℕ, ◌+◌, ◌≤◌, Bool, List, [], ◌∷◌, length, take, None, IsSome}
 use Rattle.column_reducer.specs.Reducing.{GoesOn, IsReduced, IsRest, Planned, planned}
 use Rattle.column_reducer.specs.declared.reduced.Reduced.{Reduced}
 use Rattle.frontier_core.specs.LastFrontier.{AgreeEverywhere}
@@ -26,7 +26,7 @@ use Rattle.joint_prover.specs.declared.ending.Plain.TheVariants as plain
 use Rattle.joint_prover.specs.declared.ending.Sliced.{Sliced}
 use Rattle.joint_prover.specs.declared.ending.Sliced.TheVariants as sliced
 use Rattle.joint_prover.specs.declared.verdict.Tried.{Tried}
-use Rattle.joint_prover.specs.Tries.{IsAbove}
+use Rattle.joint_prover.specs.Tries.{EndsWithin, IsAbove, IsWithinBudget}
 use Rattle.joint_prover.specs.Verdicts.{IsFirstAbove}
 
 -- Lines over a graph with or without an adder, of which none was written.
@@ -43,20 +43,26 @@ pub record IsStart (l : Made) : Type 0 where
 abbrev pub plain_of : Extended → List ℕ → Planned
 plain_of e order = planned e (plain_steps e order) (length e.graph.outputs)
 
--- The reduction of the plain order has this answer, and the lines go on.
+-- There are at most two lines more than gates.
+abbrev pub AreFew : Made → Type 0
+AreFew l = length l.lines ≤ length l.extended.gates + 2
+
+-- The reduction of the plain order has this answer, and the lines go on; they are few.
 pub record IsPlainlyReduced (budget : ℕ) (old new : Made) (answer : Reduced) : Type 0 where
   pub order : List ℕ
   pub plain : IsPlainOrder old.extended.gates order
   pub goes_on : GoesOn old new
   pub reduced : IsReduced (plain_of old.extended order) old.sides budget new answer
+  pub few : AreFew new
 
--- A plan was reduced to its end and left this remainder, and the lines go on.
+-- A plan was reduced to its end and left this remainder, and the lines go on; they are few.
 pub record IsRemainder (old new : Made) (poly : Sum) (id : ℕ) : Type 0 where
   pub steps : List Step
   pub uncounted : ℕ
   pub plan : IsPlan old.extended steps
   pub goes_on : GoesOn old new
   pub rest : IsRest (planned old.extended steps uncounted) old.sides new.table (ledger_of new).live poly id
+  pub few : AreFew new
 
 -- The numbers stand for the least values of the inputs at which the graph isn't what is claimed.
 pub record AreLeast (g : Aig) (s : Sides) (x : Numbers) : Type 0 where
@@ -68,18 +74,23 @@ abbrev pub Decides : Aig → Claim → Made → Ending → Type 0
 Decides g claim l Closed = IsSome l.closing × Does claim g
 Decides g claim l (Differs x) = AreLeast g (sides_for claim g) x
 
--- The lines are over this graph, and the end of a plan decides.
+-- The lines are over this graph and few, and the end of a plan decides.
 pub record IsEnded (e : Extended) (claim : Claim) (l : Made) (ending : Ending) : Type 0 where
   pub extended : l.extended ≡ e
   pub sides : l.sides ≡ sides_for claim e.graph
+  pub few : AreFew l
   pub decides : Decides e.graph claim l ending
 
+-- lines over the graph of others, and the plan kept to this budget
+abbrev pub IsEndedWithin : Made → ℕ → Made → Ending → Type 0
+IsEndedWithin old budget l ending = IsEnded old.extended old.sides.claim l ending × EndsWithin old.extended old.sides budget
+
 abbrev pub IsSliced : Made → ℕ → Bool → Made → Sliced → Type 0
-IsSliced old budget rewritten l (sliced.Ended ending) = IsEnded old.extended old.sides.claim l ending
+IsSliced old budget rewritten l (sliced.Ended ending) = IsEndedWithin old budget l ending
 IsSliced old budget rewritten l (sliced.Passed tried) = (tried.rewritten ≡ rewritten) × IsAbove old.extended old.sides budget tried
 
 abbrev pub IsPlain : Made → ℕ → Made → Plain → Type 0
-IsPlain old budget l (plain.Ended ending) = IsEnded old.extended old.sides.claim l ending
+IsPlain old budget l (plain.Ended ending) = IsEnded old.extended old.sides.claim l ending × IsWithinBudget old.extended.graph old.sides.claim budget
 IsPlain old budget l (plain.Passed step size) = IsFirstAbove old.extended.graph old.sides.claim budget step size
 
 -- what one step takes

@@ -31,8 +31,8 @@ use Rattle.joint_prover.specs.declared.found.Shown.{Shown}
 use Rattle.joint_prover.specs.declared.plans.First.{First}
 use Rattle.joint_prover.specs.declared.plans.First.TheVariants as first
 use Rattle.joint_prover.specs.Notes.{IsFoundCut, IsNote, cut_of}
-use Rattle.joint_prover.specs.Pairs.{AreClausesFor, AreClausesOver, IsPairFor, IsPairOver, IsVersion}
-use Rattle.joint_prover.specs.Tries.{AreTried, IsTried}
+use Rattle.joint_prover.specs.Pairs.{AreClausesFor, AreClausesOver, IsPairFor, IsPairOver, IsSpareFile, IsVersion}
+use Rattle.joint_prover.specs.Tries.{AreTried, EndsWithCut, IsTried}
 use Rattle.joint_prover.specs.Verdicts.{HaveManyOnes, IsFirstAbove, IsWrong, IsWrongSum}
 use Rattle.joint_checker.specs.Written.{StopsWriting, WritesPair}
 
@@ -46,9 +46,10 @@ pub record IsJob (job : Job) : Type 0 where
 abbrev pub task_of : Job → Task
 task_of job = record { claim = job.operands.now.claim; budget = job.budget; conflicts = job.conflicts; version = job.version }
 
--- a lawful algebra file of a version over the lines' graph, which imports nothing
-abbrev pub IsFileOf : Made → ℕ → List ℕ → Type 0
-IsFileOf l version = IsLawfulAlgebraFile (premises version l.extended []) l.sides
+-- A lawful and spare algebra file of a version over the lines' graph, which imports nothing.
+pub record IsFileOf (l : Made) (version : ℕ) (text : List ℕ) : Type 0 where
+  pub lawful : IsLawfulAlgebraFile (premises version l.extended []) l.sides text
+  pub spare : IsSpareFile version l.extended text
 
 -- lines that are closed were written in this version beside this clause file
 abbrev pub IsWritten : Made → ℕ → List ℕ → Files → View → View → Verdict → Type 0
@@ -102,9 +103,13 @@ abbrev pub AreTriedBefore : Aig → Claim → ℕ → Option Cut → List Tried 
 AreTriedBefore g claim budget None tried = tried ≡ []
 AreTriedBefore g claim budget (Some cut) tried = (first : Tried) × (tried ≡ first ∷ []) × IsTried g claim budget (Some cut) first
 
+-- the same, and the plan kept to the budget
+abbrev pub IsToldWithin : Aig → Task → Option Cut → Files → View → View → Verdict → Type 0
+IsToldWithin g task cut files before after v = IsToldOver g task cut files before after v × EndsWithCut g task.claim task.budget cut
+
 -- what the slice plan over the graph with this cut, or without one, comes to: a verdict, or a frontier above the budget
 abbrev pub IsAttempt : Aig → Task → ℕ → Option Cut → Files → View → View → Attempt → Type 0
-IsAttempt g task budget cut files before after (attempt.Told v) = IsToldOver g task cut files before after v
+IsAttempt g task budget cut files before after (attempt.Told v) = IsToldWithin g task cut files before after v
 IsAttempt g task budget cut files before after (attempt.Passed tried) = IsTried g task.claim budget cut tried × (after ≡ before)
 
 abbrev pub verdict_in : Attempt → Option Verdict
@@ -113,7 +118,7 @@ verdict_in (attempt.Passed tried) = None
 
 -- a verdict of a plan over the graph with this cut; or none, and nothing was done
 abbrev pub MayTellOver : Aig → Task → Option Cut → Files → View → View → Option Verdict → Type 0
-MayTellOver g task cut files before after (Some v) = IsToldOver g task cut files before after v
+MayTellOver g task cut files before after (Some v) = IsToldWithin g task cut files before after v
 MayTellOver g task cut files before after None = after ≡ before
 
 -- the verdict on a graph, with this cut in use or none; or none yet, and nothing was done
@@ -129,7 +134,7 @@ IsFirst g task used files before after (first.Left tried) = AreTriedBefore g tas
 -- a verdict over the graph with a cut that was found, with that cut
 pub record IsToldFound (g : Aig) (task : Task) (files : Files) (before after : View) (told : Verdict × Cut) : Type 0 where
   pub found : IsFoundCut g told.1
-  pub verdict : IsToldOver g task (Some told.1) files before after told.0
+  pub verdict : IsToldWithin g task (Some told.1) files before after told.0
 
 -- such a verdict; or none, and nothing was done
 abbrev pub MayTellFound : Aig → Task → Files → View → View → Option (Verdict × Cut) → Type 0

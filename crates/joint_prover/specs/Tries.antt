@@ -1,20 +1,23 @@
--- The plans that were tried before the plain one.
-use Rattle.std.specs.Prelude.{◌≡◌, ℕ, ◌<◌, List, [], ◌∷◌, length, take, is_some}
+-- The plans that were tried, and the one that ended.
+use Rattle.std.specs.Prelude.{◌≡◌, ◌⊎◌, ℕ, ◌<◌, ◌≤◌, List, [], ◌∷◌, length, take, is_some}
 use Rattle.std.specs.declared.option.Option.{Option}
 use Rattle.std.specs.declared.option.Option.TheVariants.{None, Some}
 use Rattle.frontier_core.specs.Frontier.{IsFrontier, frontier_value}
 use Rattle.frontier_core.specs.Plan.{nothing, taken}
+use Rattle.frontier_core.specs.PlainOrder.{HasPlainSize}
 use Rattle.frontier_core.specs.declared.step.Step.{Step}
 use Rattle.graph_core.specs.Algebra.{modulus}
 use Rattle.graph_core.specs.Algebra.NormalForm.{HasSize}
 use Rattle.graph_core.specs.Graph.{Aig}
-use Rattle.graph_core.specs.Graph.Extended.{Extended}
+use Rattle.graph_core.specs.Graph.Extended.{Extended, without_cut}
 use Rattle.graph_core.specs.Graph.Operands.{Sides, sides_for}
 use Rattle.graph_core.specs.declared.claim.Claim.{Claim}
 use Rattle.ripple_graft.specs.Blocks.{with_blocks}
 use Rattle.ripple_graft.specs.HeaderBlocks.{cut_blocks}
 use Rattle.ripple_graft.specs.declared.cut.Cut.{Cut}
+use Rattle.slice_planner.specs.ColumnPlans.{IsColumnPlan}
 use Rattle.slice_planner.specs.Slices.{IsSlicePlan}
+use Rattle.column_reducer.specs.Reducing.{IsWithin, planned}
 use Rattle.joint_prover.specs.declared.verdict.Tried.{Tried}
 
 -- The columns and gates are those that the first steps of a slice plan take.
@@ -47,8 +50,30 @@ AreTried g claim budget None tried = (only : Tried) × (tried ≡ only ∷ []) �
 AreTried g claim budget (Some cut) tried =
     (first : Tried) × (second : Tried) × (tried ≡ first ∷ second ∷ []) × IsTried g claim budget (Some cut) first × IsTried g claim budget None second
 
--- The plan that ended is over this graph: that with the cut in use; or the graph alone, where no cut is in use, or the plan over the
--- graph with it has passed the budget.
+-- ---- the plan that ended
+
+-- No frontier of the plain order has more monomials than the budget.
+abbrev pub IsWithinBudget : Aig → Claim → ℕ → Type 0
+IsWithinBudget g claim budget = (t n : ℕ) → HasPlainSize (without_cut g) (sides_for claim g) t n → n ≤ budget
+
+-- A plan that adds the columns from the last down, and no frontier of it has more monomials than the budget.
+pub record EndsWithin (e : Extended) (s : Sides) (budget : ℕ) : Type 0 where
+  pub steps : List Step
+  pub columns : IsColumnPlan e steps
+  pub within : IsWithin (planned e steps 0) s budget
+
+-- And it is over this graph.
+abbrev pub EndsWithCut : Aig → Claim → ℕ → Option Cut → Type 0
+EndsWithCut g claim budget cut = EndsWithin (extended_by g cut) (sides_for claim g) budget
+
+-- Where a cut is in use, the plan over the graph with it has passed the budget.
+abbrev pub HasPassed : Aig → Claim → ℕ → Option Cut → Type 0
+HasPassed g claim budget used = (cut : Cut) → used ≡ Some cut → (tried : Tried) × IsTried g claim budget (Some cut) tried
+
+-- The plan that ended kept to the budget. It is over the graph with the cut in use; or over the graph alone, and a plan with a cut came
+-- before it; or it is the plain one, and the slice plans came before it.
 abbrev pub EndsOver : Aig → Claim → ℕ → Option Cut → Option Cut → Type 0
-EndsOver g claim budget used (Some cut) = used ≡ Some cut
-EndsOver g claim budget used None = (cut : Cut) → used ≡ Some cut → (tried : Tried) × IsTried g claim budget (Some cut) tried
+EndsOver g claim budget used (Some cut) = (used ≡ Some cut) × EndsWithCut g claim budget (Some cut)
+EndsOver g claim budget used None =
+    (HasPassed g claim budget used × EndsWithCut g claim budget None) ⊎
+    (((tried : List Tried) × AreTried g claim budget used tried) × IsWithinBudget g claim budget)

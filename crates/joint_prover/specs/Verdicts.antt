@@ -23,7 +23,7 @@ use Rattle.joint_prover.specs.declared.verdict.Verdict.{Verdict}
 use Rattle.joint_prover.specs.declared.verdict.Verdict.TheVariants.{Proved, Wrong, WrongSum, Undecided, Graph, ReadFault, WriteFault, TooLong, Memory}
 use Rattle.joint_prover.specs.Notes.{IsNote, cut_of}
 use Rattle.joint_prover.specs.Pairs.{AreClausesFor, IsPairFor}
-use Rattle.joint_prover.specs.Tries.{AreTried}
+use Rattle.joint_prover.specs.Tries.{AreTried, IsWithinBudget}
 use Rattle.joint_checker.specs.Written.{ReadsGraph, StopsWriting, WritesPair}
 
 -- ---- proved
@@ -51,10 +51,6 @@ pub record IsFirstAbove (g : Aig) (claim : Claim) (budget t n : ℕ) : Type 0 wh
   pub above : budget < n
   pub size : HasPlainSize (without_cut g) (sides_for claim g) t n
   pub first : (i k : ℕ) → i < t → HasPlainSize (without_cut g) (sides_for claim g) i k → k ≤ budget
-
--- No frontier of the plain order has more monomials than the budget.
-abbrev pub IsWithinBudget : Aig → Claim → ℕ → Type 0
-IsWithinBudget g claim budget = (t n : ℕ) → HasPlainSize (without_cut g) (sides_for claim g) t n → n ≤ budget
 
 -- ---- few ones
 

@@ -50,6 +50,7 @@ pub(crate) fn over_cut<D: Desk>(
     log: &Log,
 ) -> Result<Attempt, Memory>
     requires job { IsJob job.now }
+    requires within { budget ≤ job.now.budget }
     requires shown { IsShown job.now.graph.now job.now.conflicts cut.now extended.now log.now.lines }
     requires agree { Always extended.now.gates (AgreeOnColumns extended.now) }
     ensures over { IfOk result (IsAttempt job.now.graph.now (task_of job.now) budget
@@ -82,6 +83,7 @@ pub(crate) fn by_layers<D: Desk>(
     log: &Log,
 ) -> Result<Option<Verdict>, Memory>
     requires job { IsJob job.now }
+    requires within { budget ≤ job.now.budget }
     requires shown { IsShown job.now.graph.now job.now.conflicts cut.now extended.now log.now.lines }
     requires agree { Always extended.now.gates (AgreeOnColumns extended.now) }
     ensures told { IfOk result (MayTellOver job.now.graph.now (task_of job.now)
@@ -109,7 +111,8 @@ pub(crate) fn over_alone<D: Desk>(
     budget: u64,
     job: &Job<'_>,
 ) -> Result<Attempt, Memory>
-    requires { IsJob job.now }
+    requires job { IsJob job.now }
+    requires within { budget ≤ job.now.budget }
     ensures over { IfOk result (IsAttempt job.now.graph.now (task_of job.now) budget
         None (files_of job.now.names.now) (D.seen desk.old) (D.seen desk.new)) }
     ensures memory { OnErr result (D.seen desk.new ≡ D.seen desk.old) }

@@ -1,5 +1,7 @@
 // What a clause certificate has to say.
-ghost use Rattle.std.specs.Prelude.{◌≡◌, IfOk, None, Some, [], length};
+ghost use Rattle.std.specs.Prelude.{◌≡◌, All, IfOk, None, Some, [], length};
+ghost use Rattle.clause_core.specs.Clause.{IsClause};
+ghost use Rattle.clause_core.specs.ClauseLines.{clause_in};
 ghost use Rattle.joint_prover.specs.Parts.{cut_named, header_of};
 ghost use Rattle.ripple_graft.specs.Blocks.{block_of};
 
@@ -32,16 +34,38 @@ impl<'a> Clauses<'a> {
         }
     }
 
-    /// This cut, and the lines of this log.
+    /// This cut, and the lines of this log, each of which has a literal once.
     pub(crate) fn with_cut(version: u8, cut: &'a Cut, log: &'a Log) -> Clauses<'a>
         ensures version { result.version ≡ version }
         ensures named { cut_named result ≡ Some cut.now }
         ensures lines { result.log.now ≡ log.now.lines }
+        ensures once { All (λ line. IsClause (clause_in line)) result.log.now }
     {
+        let log = log.lines();
+        are_clauses(log);
         Clauses {
             version,
             cut: Some(cut),
-            log: log.lines(),
+            log,
+        }
+    }
+}
+
+// Each clause has a literal once: a clause says so where it is asked for its literals.
+fn are_clauses(log: &[Line])
+    ensures { All (λ line. IsClause (clause_in line)) log.now }
+{
+    for line in log {
+        is_clause(line);
+    }
+}
+
+fn is_clause(line: &Line)
+    ensures { IsClause (clause_in line.now) }
+{
+    match line {
+        Line::Add(clause) | Line::Delete(clause) => {
+            let _literals = clause.lits();
         }
     }
 }

@@ -53,7 +53,9 @@ pub(crate) fn over_found<D: Desk>(
 }
 
 /// The budget of a plan that is tried before it is known whether it ends soon: that of made multipliers.
-pub(crate) fn small_budget(job: &Job<'_>) -> u64 {
+pub(crate) fn small_budget(job: &Job<'_>) -> u64
+    ensures { result ≤ job.now.budget }
+{
     let bits = u64::from(job.operands.bits());
     let square = bits.saturating_mul(bits);
     job.budget.min(square.saturating_mul(8).saturating_add(64))
@@ -122,6 +124,7 @@ fn by_slices<D: Desk>(
     shown: &Shown<'_>,
 ) -> Result<Option<Verdict>, Memory>
     requires job { IsJob job.now }
+    requires within { budget ≤ job.now.budget }
     requires shown { IsShownCut job.now.graph.now job.now.conflicts shown.now }
     ensures told { IfOk result (MayTellOver job.now.graph.now (task_of job.now)
         (Some shown.now.cut) (files_of job.now.names.now) (D.seen desk.old) (D.seen desk.new)) }

@@ -15,14 +15,15 @@
 //! which the graph differs, or with an addend `WrongSum`. Where all plans pass the budget it is `Undecided`. No
 //! certificate file is created before the verdict, and writing them takes no memory.
 //!
-//! Each verdict and each note has its cause (`verdict`). One file is opened, whatever is answered (`opened`). A made
-//! graph with a ripple-carry adder is proved with a budget of 8 n^2 + 64 (`enough`). Laws: whichever verdict is due
-//! comes (`verdicts_are_exact`), the pair is held under its names (`proved_pairs_are_held`), and enough budget proves
-//! (`enough_is_proved`).
+//! Each verdict and each note has its cause, what is written is spare, and the plan that ended kept to the budget
+//! (`verdict`). One file is opened, whatever is answered (`opened`). A made graph with a ripple-carry adder is proved
+//! with a budget of 8 n^2 + 64 (`enough`). Laws: whichever verdict is due comes (`verdicts_are_exact`), the pair is held
+//! under its names (`proved_pairs_are_held`), and enough budget proves (`enough_is_proved`).
 //!
-//! *Pair*: certificates that are lawful for a graph. *Above*, *within the budget*: the sizes of frontiers. Where each
-//! verdict comes is told in `specs/Verdicts.antt`, where each note comes in `specs/Notes.antt`, and which budgets are
-//! enough for multipliers that `graph_maker` makes in `specs/Budgets.antt`.
+//! *Pair*: certificates that are lawful for a graph. *Spare*: no line or literal is there twice, and no term has value 0
+//! (`specs/Pairs.antt`). *Above*, *within the budget*: the sizes of frontiers (`specs/Tries.antt`). Where each verdict
+//! comes is told in `specs/Verdicts.antt`, where each note comes in `specs/Notes.antt`, and which budgets are enough for
+//! multipliers that `graph_maker` makes in `specs/Budgets.antt`.
 #![tactic(auto)]
 
 mod attempts;

@@ -9,7 +9,7 @@ ghost use Rattle.frontier_core.specs.LeastDifference.{AreInputs};
 ghost use Rattle.slice_planner.specs.ColumnPlans.{IsColumnPlan};
 ghost use Rattle.poly_terms.specs.Tables.{IsOf, monomials_in, value_in};
 ghost use Rattle.pac_writer.specs.Writing.{AreLawfulSoFar, Made, ledger_of};
-ghost use Rattle.joint_prover.specs.Endings.{IsEnded, IsPlain, IsPlainlyReduced, IsRemainder, IsSliced, IsStart, IsWitness};
+ghost use Rattle.joint_prover.specs.Endings.{IsEnded, IsEndedWithin, IsPlain, IsPlainlyReduced, IsRemainder, IsSliced, IsStart, IsWitness};
 
 use crate::ending::{Ending, Plain, Sliced};
 use crate::tried::frontier_after;
@@ -62,8 +62,7 @@ pub(crate) fn reduced_by_layers(
     lines: &mut Lines<'_>,
 ) -> Result<Option<Ending>, Memory>
     requires { IsStart lines.old }
-    ensures { IfOk result (λ ending. IfSome ending
-        (IsEnded lines.old.extended lines.old.sides.claim lines.new)) }
+    ensures { IfOk result (λ ending. IfSome ending (IsEndedWithin lines.old budget lines.new)) }
 {
     let extended = lines.extended();
     let plan = plan_by_layers(alloc, layers, extended)?;
@@ -80,6 +79,7 @@ fn plan_by_layers<'a>(
     extended: &'a Extended<'a>,
 ) -> Result<Plan<'a>, Memory>
     ensures extended { IfOk result (λ p. p.extended ≡ extended.now) }
+    ensures uncounted { IfOk result (λ p. p.uncounted ≡ 0) }
     ensures columns { IfOk result (λ p. IsColumnPlan extended.now p.steps) }
 {
     match layers {

@@ -6,6 +6,7 @@ ghost use Rattle.mv_desk.specs.View.{KeepsTelling};
 ghost use Rattle.mv_desk.specs.declared.slot.Slot.TheVariants as slot;
 ghost use Rattle.pac_writer.specs.Certificates.{certificate_text};
 ghost use Rattle.joint_checker.specs.Files.{files_of};
+ghost use Rattle.joint_prover.specs.Endings.{AreFew};
 ghost use Rattle.joint_prover.specs.Parts.{IsFileOf, IsWritten};
 ghost use Rattle.joint_checker.specs.Written.{StopsAt, StopsWriting, WritesFile, WritesPair};
 
@@ -24,6 +25,7 @@ pub(crate) fn written<D: Desk>(
     names: &Names<'_>,
 ) -> Verdict
     requires closed { IsSome lines.now.closing }
+    requires few { AreFew lines.now }
     requires one { (header.now.version ≡ 2) ⊎ (length header.now.blocks ≤ 1) }
     ensures verdict { IsWritten lines.now header.now.version (any_file_text header.now log.now)
         (files_of names.now) (D.seen desk.old) (D.seen desk.new) result }
@@ -46,6 +48,7 @@ fn write_pair<D: Desk>(
     names: &Names<'_>,
 ) -> Result<(), WriteFault>
     requires closed { IsSome lines.now.closing }
+    requires few { AreFew lines.now }
     requires one { (header.now.version ≡ 2) ⊎ (length header.now.blocks ≤ 1) }
     ensures lawful { OnOk result
         (IsFileOf lines.now header.now.version (certificate_text header.now.version lines.now)) }
@@ -94,6 +97,7 @@ fn write_algebra_file<D: Desk>(
     name: &str,
 ) -> Result<(), WriteFault>
     requires closed { IsSome lines.now.closing }
+    requires few { AreFew lines.now }
     ensures lawful { OnOk result
         (IsFileOf lines.now version (certificate_text version lines.now)) }
     ensures whole { OnOk result (WritesFile slot.Algebra name.now (certificate_text version lines.now)

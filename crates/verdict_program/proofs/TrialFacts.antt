@@ -3,7 +3,8 @@ use Rattle.std.proofs.Common.{◌≡◌, ℕ, refl, subst, sym, arith, inl, inr}
 use Rattle.command_line.specs.declared.command.Command.TheVariants.{Trial}
 use Rattle.joint_prover.specs.declared.rewriting.Rewriting.{Rewriting}
 use Rattle.mv_desk.specs.View.{View}
-use Rattle.joint_prover.specs.Verdicts.{IsFirstAbove, IsWithinBudget}
+use Rattle.joint_prover.specs.Tries.{IsWithinBudget}
+use Rattle.joint_prover.specs.Verdicts.{IsFirstAbove}
 use Rattle.graph_core.specs.Aiger.Writing.{ascii_text}
 use Rattle.graph_core.specs.declared.profile.Profile.TheVariants.{Multiplier as TwoOperands}
 use Rattle.graph_core.proofs.OfTexts.CallerLemmas.{one_graph}

@@ -15,8 +15,8 @@ use Rattle.joint_checker.specs.Certificates.{IsLawfulPair}
 use Rattle.joint_checker.specs.Files.{Files}
 use Rattle.joint_prover.specs.Notes.{IsNote, cut_of}
 use Rattle.joint_prover.specs.Pairs.{IsPairFor}
-use Rattle.joint_prover.specs.Tries.{AreTried}
-use Rattle.joint_prover.specs.Verdicts.{HoldsPair, IsFirstAbove, IsWithinBudget}
+use Rattle.joint_prover.specs.Tries.{AreTried, IsWithinBudget}
+use Rattle.joint_prover.specs.Verdicts.{HoldsPair, IsFirstAbove}
 use Rattle.joint_prover.specs.declared.rewriting.Rewriting.{Rewriting}
 use Rattle.joint_prover.specs.declared.task.Task.{Task}
 use Rattle.joint_prover.specs.declared.verdict.Tried.{Tried}

@@ -7,6 +7,8 @@ use Rattle.joint_checker.specs.Files.{files_of}
 use Rattle.joint_prover.specs.Endings.{IsEnded, IsSliced}
 use Rattle.joint_prover.specs.Parts.{task_of}
 use Rattle.joint_prover.specs.Tries.{IsAbove}
+use Rattle.ripple_graft.specs.Blocks.{with_cut}
+use Rattle.joint_prover.proofs.Remainders.{ends_at}
 use Rattle.joint_prover.proofs.Starting.{starts}
 use Rattle.joint_prover.proofs.Telling.{told_shown}
 use Rattle.joint_prover.proofs.attempts.over_cut.Goals as goal
@@ -35,7 +37,7 @@ told-requires g c =
     let l = c.reduced_by_slices.new.lines in
     let end = c.in-Ended.ending in
     let below = ap (λ (x : Extended). x.graph) c.requires.shown.extended_is in
-    let ended = subst (IsSliced start c.args.budget true l) c.in-Ended.is c.in_ok-ending.ensures in
+    let ended = (subst (IsSliced start c.args.budget true l) c.in-Ended.is c.in_ok-ending.ensures).0 in
     record {
       ended = (
         e,
@@ -60,11 +62,14 @@ returns-in-Ended-clause-over g c =
     let b = g.D.Desk.seen c.told.new.desk in
     let v = c.in_ok-verdict-in-Ended.verdict in
     let said = c.with_cut-clauses.result in
-    let is = c.with_cut-clauses.ensures in
-    told_shown files a b l end v job.graph.now e task c.args.cut.now said c.in_ok-verdict-in-Ended.ensures.verdict
-    (subst (λ s. IsEnded e s.claim l end) fresh.sides (subst (λ x. IsEnded x start.sides.claim l end) fresh.extended ended))
-    c.requires.job.sized c.new_lines.ensures.extension.graph c.requires.job.version (sym is.version) is.named
-    (subst (IsShown job.graph.now job.conflicts c.args.cut.now e) (sym is.lines) c.requires.shown)
+    let is = c.with_cut-clauses.ensures in (
+      told_shown files a b l end v job.graph.now e task c.args.cut.now said c.in_ok-verdict-in-Ended.ensures.verdict
+          (subst (λ s. IsEnded e s.claim l end) fresh.sides (subst (λ x. IsEnded x start.sides.claim l end) fresh.extended ended.0))
+          c.requires.job.sized c.new_lines.ensures.extension.graph c.requires.job.version (sym is.version) is.named is.once
+          (subst (IsShown job.graph.now job.conflicts c.args.cut.now e) (sym is.lines) c.requires.shown),
+      ends_at start (with_cut job.graph.now c.args.cut.now) (sides_for job.operands.now.claim job.graph.now) c.args.budget job.budget
+          (fresh.extended ∙ c.requires.shown.extended_is) (fresh.sides ∙ c.requires.job.operands) c.requires.within ended.1,
+    )
 
 pub returns-clause-over : goal.returns-clause-over
 returns-clause-over g c =

@@ -34,6 +34,9 @@ wrong-requires-clause-least g c =
 pub written-requires-clause-one : goal.written-requires-clause-one
 written-requires-clause-one g c = inr (header_has_one c.graph-graph.result.now c.args.clauses _ c.in_ok-header-in-Closed.ensures)
 
+pub written-requires-clause-few : goal.written-requires-clause-few
+written-requires-clause-few g c = c.requires.ended.3.few
+
 pub returns-in_ok-header-in-Closed-clause-verdict : goal.returns-in_ok-header-in-Closed-clause-verdict
 returns-in_ok-header-in-Closed-clause-verdict g c = λ e task ended version itself given.
     let l = c.args.lines.now in

@@ -1,7 +1,7 @@
 use Rattle.std.proofs.Common.{◌≡◌, ◌∙◌, subst}
 use Rattle.std.specs.Prelude.{IfOk, OnErr, Some}
 use Rattle.joint_checker.specs.Files.{files_of}
-use Rattle.joint_prover.specs.Parts.{IsToldOver, MayTellOver, task_of}
+use Rattle.joint_prover.specs.Parts.{IsToldWithin, MayTellOver, task_of}
 use Rattle.joint_prover.proofs.Telling.{on_err}
 use Rattle.joint_prover.proofs.found.over_shown.Goals as goal
 
@@ -25,7 +25,7 @@ returns-in-Some-2-clause-told g c =
     let m = g.D.Desk.seen c.by_slices.new.desk in
     let b = g.D.Desk.seen c.in_layers.new.desk in
     let same : m ≡ a = subst (MayTellOver graph (task_of job) cut files a m) c.in_default.is c.in_ok-verdict.ensures.told in
-    subst (λ x. IsToldOver graph (task_of job) cut files x b c.in-Some-2.verdict) same
+    subst (λ x. IsToldWithin graph (task_of job) cut files x b c.in-Some-2.verdict) same
     (subst (MayTellOver graph (task_of job) cut files m b) c.in-Some-2.is c.in_ok-verdict-2.ensures.told)
 
 pub returns-in_err-verdict-2-clause-memory : goal.returns-in_err-verdict-2-clause-memory

@@ -1,12 +1,13 @@
 use Rattle.std.proofs.Common.{sym, subst, ◌∙◌}
 use Rattle.graph_core.specs.Aiger.Soundness.{IsSizedAs}
 use Rattle.graph_core.specs.Graph.Extended.{Extended, without_cut}
-use Rattle.graph_core.specs.Graph.Operands.{profile_of}
+use Rattle.graph_core.specs.Graph.Operands.{Sides, profile_of}
 use Rattle.pac_writer.specs.Writing.{IsFresh}
 use Rattle.ripple_graft.specs.Extension.{IsExtension}
 use Rattle.joint_checker.specs.Files.{files_of}
 use Rattle.joint_prover.specs.Endings.{IsEnded, IsPlain}
 use Rattle.joint_prover.specs.Parts.{task_of}
+use Rattle.joint_prover.specs.Tries.{IsWithinBudget}
 use Rattle.joint_prover.proofs.WrittenClauses.{said_alone}
 use Rattle.joint_prover.proofs.Starting.{starts_alone}
 use Rattle.joint_prover.proofs.Telling.{told_last}
@@ -33,7 +34,7 @@ told-requires g c =
     let same = fresh.extended ∙ c.without_cut-extended.ensures in
     let l = c.reduced_plainly.new.lines in
     let end = c.in-Ended.ending in
-    let ended = subst (IsPlain start job.budget l) c.in-Ended.is c.in_ok-ending.ensures in
+    let ended = (subst (IsPlain start job.budget l) c.in-Ended.is c.in_ok-ending.ensures).0 in
     record {
       ended = (
         e,
@@ -56,5 +57,7 @@ returns-in-Ended-clause-verdict g c =
     let said = c.without_cut-clauses.result in
     let is = c.without_cut-clauses.ensures in
     told_last (files_of job.names.now) (g.D.Desk.seen c.args.desk.now) (g.D.Desk.seen c.told.new.desk) l end c.told.result e (task_of job) said c.args.tried.items c.told.ensures.verdict
-    (subst (λ s. IsEnded e s.claim l end) fresh.sides (subst (λ x. IsEnded x start.sides.claim l end) (fresh.extended ∙ lone) ended))
+    (subst (λ s. IsEnded e s.claim l end) fresh.sides (subst (λ x. IsEnded x start.sides.claim l end) (fresh.extended ∙ lone) ended.0))
+    (subst (λ (s : Sides). IsWithinBudget job.graph.now s.claim job.budget) fresh.sides
+    (subst (λ (x : Extended). IsWithinBudget x.graph start.sides.claim job.budget) (fresh.extended ∙ lone) ended.1))
     c.requires.job.sized (subst IsExtension lone c.new_lines.ensures.extension).graph (said_alone job.graph.now (task_of job) said c.requires.job.version (sym is.version) is.named is.lines)

@@ -1,10 +1,10 @@
-use Rattle.std.proofs.Common.{◌≡◌, subst}
+use Rattle.std.proofs.Common.{◌≡◌, inl, subst}
 use Rattle.std.specs.Prelude.{IfOk, None, OnErr, Option}
 use Rattle.joint_checker.specs.Files.{files_of}
 use Rattle.ripple_graft.specs.declared.cut.Cut.{Cut}
 use Rattle.joint_prover.specs.Parts.{IsAttempt, IsOfGraph, task_of}
 use Rattle.joint_prover.specs.Tries.{AreTried}
-use Rattle.joint_prover.proofs.Telling.{ends_behind, on_err, told_of, tried_more}
+use Rattle.joint_prover.proofs.Telling.{has_passed, on_err, told_of, tried_more}
 use Rattle.joint_prover.proofs.plans.over_graph.Goals as goal
 
 pub returns-in-Told-clause-verdict : goal.returns-in-Told-clause-verdict
@@ -15,9 +15,8 @@ returns-in-Told-clause-verdict g c =
     let files = files_of job.names.now in
     let a = g.D.Desk.seen c.args.desk.now in
     let b = g.D.Desk.seen c.over_alone.new.desk in
-    λ used tried.
-    told_of files a b graph (task_of job) used None c.in-Told.verdict (ends_behind graph claim job.budget used c.args.tried.items tried)
-    (subst (IsAttempt graph (task_of job) job.budget None files a b) c.in-Told.is c.in_ok-verdict.ensures.over)
+    let told = subst (IsAttempt graph (task_of job) job.budget None files a b) c.in-Told.is c.in_ok-verdict.ensures.over in
+    λ used tried. told_of files a b graph (task_of job) used None c.in-Told.verdict (inl (has_passed graph claim job.budget used c.args.tried.items tried, told.1)) told.0
 
 pub returns-in_ok-push-in-Passed-clause-verdict : goal.returns-in_ok-push-in-Passed-clause-verdict
 returns-in_ok-push-in-Passed-clause-verdict g c =

@@ -28,9 +28,8 @@ returns-in-Told-clause-first g c =
     let a = g.D.Desk.seen c.args.desk.now in
     let b = g.D.Desk.seen c.over_cut.new.desk in
     let v = c.in-Told.verdict in
-    subst (λ r. IsFirst graph (task_of job) (cut_in r) files a b (kind.Told v)) (sym u.is)
-    (told_of files a b graph (task_of job) (Some u.cut) (Some u.cut) v refl
-    (subst (IsAttempt graph (task_of job) job.budget (Some u.cut) files a b) c.in-Told.is c.in_ok-verdict-in-Used.ensures.over))
+    let told = subst (IsAttempt graph (task_of job) job.budget (Some u.cut) files a b) c.in-Told.is c.in_ok-verdict-in-Used.ensures.over in
+    subst (λ r. IsFirst graph (task_of job) (cut_in r) files a b (kind.Told v)) (sym u.is) (told_of files a b graph (task_of job) (Some u.cut) (Some u.cut) v (refl, told.1) told.0)
 
 pub returns-in_ok-tried-in-Passed-clause-first : goal.returns-in_ok-tried-in-Passed-clause-first
 returns-in_ok-tried-in-Passed-clause-first g c =

@@ -26,7 +26,7 @@ returns-in-Some-clause-verdict g c =
     let b = g.D.Desk.seen c.over_found.new.desk in
     let told = subst (MayTellFound graph (task_of job) files a b) c.in-Some.is c.in_ok-verdict.ensures.told in
     let cut = c.in-Some.cut in
-    told_of files a b graph (task_of job) (Some cut) (Some cut) c.in-Some.verdict refl told.verdict
+    told_of files a b graph (task_of job) (Some cut) (Some cut) c.in-Some.verdict (refl, told.verdict.1) told.verdict.0
 
 pub returns-in_ok-verdict-in-None-clause-note : goal.returns-in_ok-verdict-in-None-clause-note
 returns-in_ok-verdict-in-None-clause-note g c =

@@ -3,7 +3,8 @@ use Rattle.column_reducer.specs.Reducing.{IsReduced}
 use Rattle.frontier_core.specs.Plan.{IsPlan}
 use Rattle.graph_core.specs.Graph.Extended.{Extended}
 use Rattle.graph_core.specs.Graph.Operands.{ReadInputs}
-use Rattle.joint_prover.proofs.Remainders.{reads_inputs, remainder_of}
+use Rattle.slice_planner.specs.ColumnPlans.{IsColumnPlan}
+use Rattle.joint_prover.proofs.Remainders.{ends_within, reads_inputs, remainder_of}
 use Rattle.joint_prover.proofs.reduction.reduced_by_layers.Goals as goal
 
 pub reduce-requires-clause-inputs : goal.reduce-requires-clause-inputs
@@ -18,7 +19,7 @@ concluded-requires c =
     let plan = c.in_ok-plan.ensures in
     let same = c.extended-extended.ensures in
     let reduced = subst (IsReduced p l.sides c.args.budget after) c.in-Rest.is c.in_ok-poly.ensures.reduced in
-    (l, c.requires, remainder_of l after p c.in-Rest.poly c.in-Rest.id (plan.extended ∙ same) (subst (λ x. IsPlan x p.steps) same plan.columns.plan) c.reduce.ensures.goes_on reduced.0)
+    (l, c.requires, remainder_of l after p c.in-Rest.poly c.in-Rest.id (plan.extended ∙ same) (subst (λ x. IsPlan x p.steps) same plan.columns.plan) c.reduce.ensures.goes_on c.reduce.ensures.few reduced.0)
 
 pub returns-in-Rest : goal.returns-in-Rest
 returns-in-Rest c =
@@ -27,6 +28,8 @@ returns-in-Rest c =
     let p = c.in_ok-plan.plan in
     let plan = c.in_ok-plan.ensures in
     let same = c.extended-extended.ensures in
-    let reduced = subst (IsReduced p l.sides c.args.budget after) c.in-Rest.is c.in_ok-poly.ensures.reduced in
-    c.concluded.ensures l c.requires
-    (remainder_of l after p c.in-Rest.poly c.in-Rest.id (plan.extended ∙ same) (subst (λ x. IsPlan x p.steps) same plan.columns.plan) c.reduce.ensures.goes_on reduced.0)
+    let reduced = subst (IsReduced p l.sides c.args.budget after) c.in-Rest.is c.in_ok-poly.ensures.reduced in (
+      c.concluded.ensures l c.requires
+          (remainder_of l after p c.in-Rest.poly c.in-Rest.id (plan.extended ∙ same) (subst (λ x. IsPlan x p.steps) same plan.columns.plan) c.reduce.ensures.goes_on c.reduce.ensures.few reduced.0),
+      ends_within l p c.args.budget (plan.extended ∙ same) plan.uncounted (subst (λ x. IsColumnPlan x p.steps) same plan.columns) reduced.1,
+    )

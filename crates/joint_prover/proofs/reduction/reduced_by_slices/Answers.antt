@@ -1,10 +1,9 @@
 use Rattle.std.proofs.Common.{sym, subst, ◌∙◌}
 use Rattle.column_reducer.specs.Reducing.{IsPassed, IsReduced, planned}
-use Rattle.frontier_core.specs.Plan.{IsPlan}
 use Rattle.graph_core.specs.Graph.Extended.{Extended}
 use Rattle.graph_core.specs.Graph.Operands.{ReadInputs}
 use Rattle.slice_planner.specs.Slices.{IsSlicePlan}
-use Rattle.joint_prover.proofs.Remainders.{above_of, reads_inputs, remainder_of}
+use Rattle.joint_prover.proofs.Remainders.{above_of, ends_within, reads_inputs, remainder_of}
 use Rattle.joint_prover.proofs.reduction.reduced_by_slices.Goals as goal
 
 pub reduce-requires-clause-inputs : goal.reduce-requires-clause-inputs
@@ -19,8 +18,11 @@ returns-in-Rest c =
     let plan = c.in_ok-plan.ensures in
     let same = c.extended-extended.ensures in
     let reduced = subst (IsReduced p l.sides c.args.budget after) c.in-Rest.is c.in_ok-poly.ensures.reduced in
-    c.concluded.ensures l c.requires
-    (remainder_of l after p c.in-Rest.poly c.in-Rest.id (plan.extended ∙ same) (subst (λ x. IsPlan x p.steps) same plan.slice.plan) c.reduce.ensures.goes_on reduced.0)
+    let slice = subst (λ x. IsSlicePlan x p.steps) same plan.slice in (
+      c.concluded.ensures l c.requires
+          (remainder_of l after p c.in-Rest.poly c.in-Rest.id (plan.extended ∙ same) slice.plan c.reduce.ensures.goes_on c.reduce.ensures.few reduced.0),
+      ends_within l p c.args.budget (plan.extended ∙ same) plan.uncounted (record { plan = slice.plan; columns = slice.columns }) reduced.1,
+    )
 
 pub returns : goal.returns
 returns c =

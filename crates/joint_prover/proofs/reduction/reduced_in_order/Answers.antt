@@ -5,7 +5,7 @@ use Rattle.frontier_core.specs.PlainOrder.{IsPlainOrder}
 use Rattle.graph_core.specs.Graph.Extended.{Extended, without_cut}
 use Rattle.graph_core.specs.Graph.Operands.{ReadInputs}
 use Rattle.joint_prover.specs.Endings.{IsPlainlyReduced}
-use Rattle.joint_prover.proofs.Remainders.{plan_is_plain, reads_inputs}
+use Rattle.joint_prover.proofs.Remainders.{few_over, plan_is_plain, reads_inputs}
 use Rattle.joint_prover.proofs.reduction.reduced_in_order.Goals as goal
 
 pub plain_plan-requires : goal.plain_plan-requires
@@ -29,4 +29,5 @@ returns c =
       goes_on = c.reduce.ensures.goes_on;
       reduced = subst (λ q. IsReduced q l.sides c.args.budget after answer)
           (plan_is_plain p l.extended c.extended-extended.result.now plan.plain.0 (plan.extended ∙ same) same plan.plain.2 plan.uncounted) h;
+      few = few_over p.extended l after (plan.extended ∙ same) c.reduce.ensures.goes_on c.reduce.ensures.few;
     }) c.reduce.ensures.reduced

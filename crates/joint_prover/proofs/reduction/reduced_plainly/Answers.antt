@@ -1,6 +1,6 @@
 use Rattle.std.proofs.Common.{subst}
 use Rattle.joint_prover.specs.Endings.{IsPlainlyReduced}
-use Rattle.joint_prover.proofs.Remainders.{first_above, plain_remainder}
+use Rattle.joint_prover.proofs.Remainders.{always_within, first_above, plain_remainder}
 use Rattle.joint_prover.proofs.reduction.reduced_plainly.Goals as goal
 
 pub concluded-requires : goal.concluded-requires
@@ -13,8 +13,10 @@ pub returns-in-Rest : goal.returns-in-Rest
 returns-in-Rest c =
     let l = c.args.lines.now in
     let after = c.reduced_in_order.new.lines in
-    c.concluded.ensures l c.requires.start
-    (plain_remainder l c.requires.start c.args.budget after c.in-Rest.poly c.in-Rest.id (subst (IsPlainlyReduced c.args.budget l after) c.in-Rest.is c.in_ok-poly.ensures))
+    let reduced = subst (IsPlainlyReduced c.args.budget l after) c.in-Rest.is c.in_ok-poly.ensures in (
+      c.concluded.ensures l c.requires.start (plain_remainder l c.requires.start c.args.budget after c.in-Rest.poly c.in-Rest.id reduced),
+      always_within l c.requires.start c.requires.alone c.args.budget after c.in-Rest.poly c.in-Rest.id reduced,
+    )
 
 pub returns-in-Passed : goal.returns-in-Passed
 returns-in-Passed c =
