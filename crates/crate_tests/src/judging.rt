@@ -1,5 +1,5 @@
 // joint_checker: lengths, over files in memory.
-use aiger_reader::ReadFail;
+use aiger_reader::{ReadFail, Stop};
 use graph_core::{Claim, Field, Order, Sign};
 use joint_checker::{AlgebraWhy, Checked, Refusal, check};
 use mv_desk::{Limits, MemoryDesk, Names, Slot};
@@ -61,6 +61,16 @@ const REFUSED_3: Checked = Checked::Refused(Refusal::Algebra {
     why: AlgebraWhy::Text,
 });
 
+const BAD_BYTE: Checked = Checked::Stopped(Stop::Graph {
+    slot: Slot::Graph,
+    why: ReadFail::Text(18),
+});
+
+const BAD_FIELD: Checked = Checked::Stopped(Stop::Graph {
+    slot: Slot::Graph,
+    why: ReadFail::Header(Field::L),
+});
+
 // What a row shows, the files, the greatest lengths of a graph, a certificate and a line, and what is said.
 const LENGTHS: &[(&str, (&str, &str, &str), (u64, u64, u64), Checked)] = &[
     (
@@ -73,44 +83,44 @@ const LENGTHS: &[(&str, (&str, &str, &str), (u64, u64, u64), Checked)] = &[
         "a line of the algebra",
         ONE_BIT,
         (28, 35, 22),
-        Checked::TooLong(Slot::Algebra),
+        Checked::Stopped(Stop::TooLong(Slot::Algebra)),
     ),
     (
         "the graph",
         ONE_BIT,
         (27, 35, 23),
-        Checked::TooLong(Slot::Graph),
+        Checked::Stopped(Stop::TooLong(Slot::Graph)),
     ),
     (
         "the algebra",
         ONE_BIT,
         (28, 34, 23),
-        Checked::TooLong(Slot::Algebra),
+        Checked::Stopped(Stop::TooLong(Slot::Algebra)),
     ),
     (
         "the clauses",
         ONE_BIT,
         (28, 13, 23),
-        Checked::TooLong(Slot::Clauses),
+        Checked::Stopped(Stop::TooLong(Slot::Clauses)),
     ),
     (
         "a line of the clauses' header",
         ONE_BIT,
         (28, 35, 7),
-        Checked::TooLong(Slot::Clauses),
+        Checked::Stopped(Stop::TooLong(Slot::Clauses)),
     ),
     ("a clause is enough", WITH_CLAUSE, (28, 26, 11), REFUSED_2),
     (
         "clauses with a clause",
         WITH_CLAUSE,
         (28, 25, 11),
-        Checked::TooLong(Slot::Clauses),
+        Checked::Stopped(Stop::TooLong(Slot::Clauses)),
     ),
     (
         "a clause",
         WITH_CLAUSE,
         (28, 26, 10),
-        Checked::TooLong(Slot::Clauses),
+        Checked::Stopped(Stop::TooLong(Slot::Clauses)),
     ),
     (
         "the limit behind a bad line",
@@ -122,13 +132,13 @@ const LENGTHS: &[(&str, (&str, &str, &str), (u64, u64, u64), Checked)] = &[
         "the limit before a bad line",
         (GRAPH, NO_CUT, BAD_THIRD_LINE),
         (28, 29, 23),
-        Checked::TooLong(Slot::Algebra),
+        Checked::Stopped(Stop::TooLong(Slot::Algebra)),
     ),
     (
         "the limit within a bad line",
         (GRAPH, NO_CUT, BAD_THIRD_LINE),
         (28, 31, 23),
-        Checked::TooLong(Slot::Algebra),
+        Checked::Stopped(Stop::TooLong(Slot::Algebra)),
     ),
     (
         "the limit at the end of a bad line",
@@ -140,25 +150,25 @@ const LENGTHS: &[(&str, (&str, &str, &str), (u64, u64, u64), Checked)] = &[
         "a bad byte before the limit",
         ("aag 3 2 0 2 1\n2\n4\nx", "", ""),
         (19, 99, 99),
-        Checked::Graph(ReadFail::Text(18)),
+        BAD_BYTE,
     ),
     (
         "a bad byte behind the limit",
         ("aag 3 2 0 2 1\n2\n4\nx", "", ""),
         (18, 99, 99),
-        Checked::TooLong(Slot::Graph),
+        Checked::Stopped(Stop::TooLong(Slot::Graph)),
     ),
     (
         "a field before the limit",
         ("aag 3 2 1 2 1\n2\n", "", ""),
         (14, 99, 99),
-        Checked::Graph(ReadFail::Header(Field::L)),
+        BAD_FIELD,
     ),
     (
         "a fault of meaning in a graph that is too long",
         ("aag 3 2 0 2 1\n2\n2\n6\n0\n6 4 2\nc", "", ""),
         (28, 99, 99),
-        Checked::TooLong(Slot::Graph),
+        Checked::Stopped(Stop::TooLong(Slot::Graph)),
     ),
 ];
 

@@ -13,6 +13,7 @@ use Rattle.mv_desk.specs.View.{View}
 use Rattle.mv_desk.specs.declared.faults.LineFail.{LineFail}
 use Rattle.mv_desk.specs.declared.faults.LineFail.TheVariants as fail
 use Rattle.mv_desk.specs.declared.slot.Slot.TheVariants as slot
+use Rattle.aiger_reader.specs.declared.stop.Stop.TheVariants as stop
 use Rattle.mv_text.specs.CertificateFiles.{FileState, HasFirstLine, IsFirstRefusal}
 use Rattle.joint_checker.specs.declared.checked.Checked.{Checked}
 use Rattle.joint_checker.specs.declared.checked.Checked.TheVariants as checked
@@ -40,7 +41,7 @@ module _ (lengths : Lengths) (given : Premises) (sides : Sides) where
   header_fails text before now fail.Range h = absurd h
   header_fails text before now fail.Fault h = h
   header_fails text before now fail.TooLong h =
-      told_more text (λ bytes. IsTooLong lengths (length bytes) bytes) (λ bytes. (line : ℕ) × IsAlgebraRefusal given sides lengths bytes (line, cause.TooLong)) (λ bytes k. (1, inl (k, refl))) h
+      (refl, told_more text (λ bytes. IsTooLong lengths (length bytes) bytes) (λ bytes. (line : ℕ) × IsAlgebraRefusal given sides lengths bytes (line, cause.TooLong)) (λ bytes k. (1, inl (k, refl))) h)
   header_fails text before now fail.Memory h = tt
 
   module _ (file : FileState) (same : file.lines.lengths ≡ lengths) (bytes : List ℕ) (behind : Option (List ℕ)) (header : HasFirstLine (algebra_header given.version) file.lines bytes behind) where
@@ -93,14 +94,15 @@ module _ (lengths : Lengths) (given : Premises) (sides : Sides) where
     -- what is behind the header isn't lawful
     pub body_fails : (first before now : View) (answer : Checked) → first.read_faults ≤ before.read_faults → IsBodyFail given sides file.lines behind before now answer → IsAlgebraFail lengths given sides text first now answer
     body_fails first before now checked.Accepted later h = absurd h
-    body_fails first before now (checked.Graph why) later h = absurd h
+    body_fails first before now (checked.Stopped (stop.Graph at why)) later h = absurd h
     body_fails first before now (checked.Refused (refusal.Clauses n why)) later h = absurd h
     body_fails first before now (checked.Refused (refusal.Goals column)) later h = absurd h
     body_fails first before now (checked.Refused (refusal.Algebra n why)) later h = refused_text n (cause_of why) h
-    body_fails first before now (checked.TooLong slot.Graph) later h = absurd h
-    body_fails first before now (checked.TooLong slot.Other) later h = absurd h
-    body_fails first before now (checked.TooLong slot.Clauses) later h = absurd h
-    body_fails first before now (checked.TooLong slot.Algebra) later h = long_text h
-    body_fails first before now (checked.TooLong slot.Report) later h = absurd h
-    body_fails first before now checked.ReadFault later h = rose_before first.read_faults before.read_faults now.read_faults later h
-    body_fails first before now checked.Memory later h = tt
+    body_fails first before now (checked.Stopped (stop.TooLong slot.Graph)) later h = absurd h
+    body_fails first before now (checked.Stopped (stop.TooLong slot.Other)) later h = absurd h
+    body_fails first before now (checked.Stopped (stop.TooLong slot.Clauses)) later h = absurd h
+    body_fails first before now (checked.Stopped (stop.TooLong slot.Algebra)) later h = (refl, long_text h)
+    body_fails first before now (checked.Stopped (stop.TooLong slot.Report)) later h = absurd h
+    body_fails first before now (checked.Stopped stop.ReadFault) later h = rose_before first.read_faults before.read_faults now.read_faults later h
+    body_fails first before now (checked.Stopped stop.WriteFault) later h = absurd h
+    body_fails first before now (checked.Stopped stop.Memory) later h = tt

@@ -15,6 +15,7 @@ use Rattle.graph_core.proofs.OfAlgebra.CallerLemmas.{after_agrees, agree_trans, 
 use Rattle.mv_text.specs.LineReading.{IsLongAhead, Lines}
 use Rattle.poly_text.proofs.CallerLemmas.{long_of, short_of}
 use Rattle.joint_checker.specs.declared.checked.AlgebraWhy.TheVariants as why
+use Rattle.aiger_reader.specs.declared.stop.Stop.TheVariants as stop
 use Rattle.joint_checker.specs.declared.checked.Checked.{Checked}
 use Rattle.joint_checker.specs.declared.checked.Checked.TheVariants as checked
 use Rattle.joint_checker.specs.declared.checked.Refusal.TheVariants as refusal
@@ -178,17 +179,18 @@ module _ (given : Premises) (sides : Sides) (start : Lines) (body : Option (List
   -- a line isn't taken
   pub line_fails : (first before now : View) (answer : Checked) → first.read_faults ≤ before.read_faults → IsLineFail line given.version given.extended sides known lines left before now answer → IsBodyFail given sides start body first now answer
   line_fails first before now checked.Accepted later h = absurd h
-  line_fails first before now (checked.Graph why) later h = absurd h
+  line_fails first before now (checked.Stopped (stop.Graph at why)) later h = absurd h
   line_fails first before now (checked.Refused (refusal.Clauses n why)) later h = absurd h
   line_fails first before now (checked.Refused (refusal.Goals column)) later h = absurd h
   line_fails first before now (checked.Refused (refusal.Algebra n why)) later h = text_fails n (cause_of why) h.0 h.1
-  line_fails first before now (checked.TooLong slot.Graph) later h = absurd h
-  line_fails first before now (checked.TooLong slot.Other) later h = absurd h
-  line_fails first before now (checked.TooLong slot.Clauses) later h = absurd h
-  line_fails first before now (checked.TooLong slot.Algebra) later h = long_fails h
-  line_fails first before now (checked.TooLong slot.Report) later h = absurd h
-  line_fails first before now checked.ReadFault later h = rose_before first.read_faults before.read_faults now.read_faults later h
-  line_fails first before now checked.Memory later h = tt
+  line_fails first before now (checked.Stopped (stop.TooLong slot.Graph)) later h = absurd h
+  line_fails first before now (checked.Stopped (stop.TooLong slot.Other)) later h = absurd h
+  line_fails first before now (checked.Stopped (stop.TooLong slot.Clauses)) later h = absurd h
+  line_fails first before now (checked.Stopped (stop.TooLong slot.Algebra)) later h = long_fails h
+  line_fails first before now (checked.Stopped (stop.TooLong slot.Report)) later h = absurd h
+  line_fails first before now (checked.Stopped stop.ReadFault) later h = rose_before first.read_faults before.read_faults now.read_faults later h
+  line_fails first before now (checked.Stopped stop.WriteFault) later h = absurd h
+  line_fails first before now (checked.Stopped stop.Memory) later h = tt
 
   -- so many lines have more bytes than a file may have
   pub too_many : 2 ^ 64 - 1 ≤ line → start.lengths.file ≤ 2 ^ 64 - 1 → IfSome body (λ bytes. (n : ℕ) × IsRefusedBody given sides (IsLongIn start bytes) bytes (n, cause.TooLong))
@@ -217,7 +219,7 @@ module _ (given : Premises) (sides : Sides) (start : Lines) (body : Option (List
     -- the file doesn't end there
     pub end_fails : (first before now : View) (answer : Checked) → new.lengths ≡ lines.lengths → first.read_faults ≤ before.read_faults → IsEndFail (line + 1) new behind before now answer → IsBodyFail given sides start body first now answer
     end_fails first before now checked.Accepted keeps later h = absurd h
-    end_fails first before now (checked.Graph why) keeps later h = absurd h
+    end_fails first before now (checked.Stopped (stop.Graph at why)) keeps later h = absurd h
     end_fails first before now (checked.Refused (refusal.Clauses n why)) keeps later h = absurd h
     end_fails first before now (checked.Refused (refusal.Goals column)) keeps later h = absurd h
     end_fails first before now (checked.Refused (refusal.Algebra n why.Text)) keeps later h = more_fails keeps n h.0 h.1
@@ -227,10 +229,11 @@ module _ (given : Premises) (sides : Sides) (start : Lines) (body : Option (List
     end_fails first before now (checked.Refused (refusal.Algebra n (why.NoSuchClause number))) keeps later h = absurd h
     end_fails first before now (checked.Refused (refusal.Algebra n why.NotEqual)) keeps later h = absurd h
     end_fails first before now (checked.Refused (refusal.Algebra n why.NotSpec)) keeps later h = absurd h
-    end_fails first before now (checked.TooLong slot.Graph) keeps later h = absurd h
-    end_fails first before now (checked.TooLong slot.Other) keeps later h = absurd h
-    end_fails first before now (checked.TooLong slot.Clauses) keeps later h = absurd h
-    end_fails first before now (checked.TooLong slot.Algebra) keeps later h = long_behind keeps h
-    end_fails first before now (checked.TooLong slot.Report) keeps later h = absurd h
-    end_fails first before now checked.ReadFault keeps later h = rose_before first.read_faults before.read_faults now.read_faults later h
-    end_fails first before now checked.Memory keeps later h = tt
+    end_fails first before now (checked.Stopped (stop.TooLong slot.Graph)) keeps later h = absurd h
+    end_fails first before now (checked.Stopped (stop.TooLong slot.Other)) keeps later h = absurd h
+    end_fails first before now (checked.Stopped (stop.TooLong slot.Clauses)) keeps later h = absurd h
+    end_fails first before now (checked.Stopped (stop.TooLong slot.Algebra)) keeps later h = long_behind keeps h
+    end_fails first before now (checked.Stopped (stop.TooLong slot.Report)) keeps later h = absurd h
+    end_fails first before now (checked.Stopped stop.ReadFault) keeps later h = rose_before first.read_faults before.read_faults now.read_faults later h
+    end_fails first before now (checked.Stopped stop.WriteFault) keeps later h = absurd h
+    end_fails first before now (checked.Stopped stop.Memory) keeps later h = tt

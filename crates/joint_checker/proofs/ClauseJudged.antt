@@ -44,7 +44,7 @@ module _ (lengths : Lengths) (g : Aig) where
   header_fails text before now line fail.Range h = told_more text (λ bytes. IsHeaderRefusal g lengths bytes (line, Range)) (λ bytes. IsClauseRefusal lengths g bytes (line, Range)) (λ bytes k. started bytes (line, Range) k) h
   header_fails text before now line fail.Fault h = h
   header_fails text before now line fail.TooLong h =
-      told_more text (λ bytes. IsHeaderRefusal g lengths bytes (line, TooLong)) (λ bytes. (n : ℕ) × IsClauseRefusal lengths g bytes (n, TooLong)) (λ bytes k. (line, started bytes (line, TooLong) k)) h
+      (refl, told_more text (λ bytes. IsHeaderRefusal g lengths bytes (line, TooLong)) (λ bytes. (n : ℕ) × IsClauseRefusal lengths g bytes (n, TooLong)) (λ bytes k. (line, started bytes (line, TooLong) k)) h)
   header_fails text before now line fail.Memory h = tt
 
   -- ---- what stands behind it
@@ -112,6 +112,6 @@ module _ (lengths : Lengths) (g : Aig) where
     pub rest_fails : (first before now : View) (given : ClauseFail) → first.read_faults ≤ before.read_faults → IsRestFail (file.number + 1) e file.lines behind before now given → IsClauseFail lengths g text first now (answer_of_clauses given)
     rest_fails first before now (clauses.Line n why) later k = told_refusal (n, line_cause why) k
     rest_fails first before now (clauses.Goals column) later k = column_refusal column k
-    rest_fails first before now clauses.TooLong later k = long_refusal k
+    rest_fails first before now clauses.TooLong later k = (refl, long_refusal k)
     rest_fails first before now clauses.ReadFault later k = rose_before first.read_faults before.read_faults now.read_faults later k
     rest_fails first before now clauses.Memory later k = tt

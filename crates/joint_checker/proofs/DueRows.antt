@@ -1,9 +1,11 @@
 -- Of three files that are told just one answer is due: the graph's refusals, then those of the clause file, then those of the algebra file.
 use Rattle.std.proofs.Common.{◌≡◌, ℕ, List, Option, Some, None, refl, sym, ap, subst, ◌∙◌, inl, inr, ⊎_elim}
 use Rattle.std.specs.Prelude.{◌⊎◌, IsSome}
-use Rattle.aiger_reader.specs.Refusals.{IsGraphRefusal, IsTooLong, SpellsWithin}
-use Rattle.aiger_reader.specs.declared.fail.ReadFail.{ReadFail}
-use Rattle.aiger_reader.proofs.LimitLaws.{spelled_found_or_long}
+use Rattle.aiger_reader.specs.Refusals.{SpellsWithin}
+use Rattle.aiger_reader.specs.Stopping.{IsGraphStop}
+use Rattle.aiger_reader.specs.declared.stop.Stop.{Stop}
+use Rattle.aiger_reader.specs.declared.stop.Stop.TheVariants as stop
+use Rattle.aiger_reader.proofs.CallerLemmas.{IsLong-is, graph_exact, stop_gives}
 use Rattle.graph_core.specs.Algebra.Refusal as cause
 use Rattle.graph_core.specs.declared.claim.Claim.{Claim}
 use Rattle.graph_core.specs.Graph.Operands.{profile_of, sides_for}
@@ -29,19 +31,18 @@ use Rattle.drup_text.specs.HeaderRefusal as clausal
 use Rattle.drup_text.specs.HeaderRefusal.{LineCause}
 use Rattle.joint_checker.specs.Certificates.{IsLawfulPair}
 use Rattle.joint_checker.specs.ClauseFiles.{GivesPremises}
-use Rattle.joint_checker.specs.ClauseRefusals.{ClauseFault, Goals, IsFileRefusal, Line}
+use Rattle.joint_checker.specs.ClauseRefusals.{ClauseFault, Goals, IsClauseRefusal, IsFileRefusal, Line}
 use Rattle.joint_checker.specs.Files.{Files, Texts, texts_of}
-use Rattle.joint_checker.specs.Outcome.{IsDue, IsExactAnswer, IsOutcome, OneAnswerIsDue, OutcomesAreExact, cause_of}
+use Rattle.joint_checker.specs.Outcome.{IsDue, IsExactAnswer, IsOutcome, IsStopDue, MeetsAlgebra, MeetsClauses, OneAnswerIsDue, OutcomesAreExact, cause_of}
 use Rattle.clause_judge.specs.LineRefusals.{line_cause}
 use Rattle.clause_judge.proofs.Causes.{next_exact}
 use Rattle.joint_checker.proofs.ClauseWholes.{clauses_are_exact}
 use Rattle.joint_checker.proofs.Joined.{gives_bounds, gives_of}
-use Rattle.aiger_reader.proofs.GraphFiles.{answer_of, one_graph_refusal, refused, refused_not_long, spelled_not_long, spelled_not_refused}
 
 -- ---- the answers by their causes
 
 abbrev line_answer : ℕ × LineCause → Checked
-line_answer (line, clausal.TooLong) = checked.TooLong slot.Clauses
+line_answer (line, clausal.TooLong) = checked.Stopped (stop.TooLong slot.Clauses)
 line_answer (line, clausal.Text) = checked.Refused (refusal.Clauses line clause.Text)
 line_answer (line, clausal.Range) = checked.Refused (refusal.Clauses line clause.Range)
 line_answer (line, clausal.NotImplied) = checked.Refused (refusal.Clauses line clause.NotImplied)
@@ -58,7 +59,7 @@ clause_is line clause.NotImplied = refl
 clause_is line clause.NoSuchClause = refl
 
 abbrev algebra_answer : ℕ × AlgebraCause → Checked
-algebra_answer (line, cause.TooLong) = checked.TooLong slot.Algebra
+algebra_answer (line, cause.TooLong) = checked.Stopped (stop.TooLong slot.Algebra)
 algebra_answer (line, cause.Text) = checked.Refused (refusal.Algebra line why.Text)
 algebra_answer (line, cause.Range) = checked.Refused (refusal.Algebra line why.Range)
 algebra_answer (line, cause.Id) = checked.Refused (refusal.Algebra line why.Id)
@@ -83,17 +84,12 @@ module _ (limits : Limits) (claim : Claim) (file clauses algebra : List ℕ) whe
   abbrev Spelled : Type 0
   Spelled = (g : Aig) × SpellsWithin (profile_of claim.add) limits.graph file g
 
+  -- why the file spells no graph
   abbrev IsGraphRefused : Checked → Type 0
-  IsGraphRefused c = ((given : ReadFail) × IsGraphRefusal (profile_of claim.add) limits.graph file given × (c ≡ checked.Graph given)) ⊎ (IsTooLong (profile_of claim.add) limits.graph file × (c ≡ checked.TooLong slot.Graph))
+  IsGraphRefused c = (why : Stop) × IsGraphStop slot.Graph (profile_of claim.add) limits.graph (Some file) why × (c ≡ checked.Stopped why)
 
-  graph_exact : IsExact Spelled IsGraphRefused
-  graph_exact = record {
-    decided = ⊎_elim inl (λ h. inr (⊎_elim (λ r. (checked.Graph (answer_of r.0), inl (answer_of r.0, refused (profile_of claim.add) limits.graph file r.0 r.1, refl))) (λ long. (checked.TooLong slot.Graph, inr (long, refl))) h)) (spelled_found_or_long (profile_of claim.add) limits.graph file);
-    not_both = λ c s r. ⊎_elim (λ f. spelled_not_refused (profile_of claim.add) limits.graph file s.0 f.0 s.1 f.1) (λ long. spelled_not_long (profile_of claim.add) limits.graph file s.0 s.1 long.0) r;
-    one = λ a b r s. ⊎_elim
-        (λ f. ⊎_elim (λ g. f.2 ∙ ap checked.Graph (one_graph_refusal (profile_of claim.add) limits.graph file f.0 g.0 f.1 g.1) ∙ sym g.2) (λ long. absurd (refused_not_long (profile_of claim.add) limits.graph file f.0 f.1 long.0)) s)
-        (λ long. ⊎_elim (λ g. absurd (refused_not_long (profile_of claim.add) limits.graph file g.0 g.1 long.0)) (λ other. long.1 ∙ sym other.1) s) r;
-  }
+  graph_refused : IsExact Spelled IsGraphRefused
+  graph_refused = exact_map checked.Stopped (graph_exact (profile_of claim.add) limits.graph file slot.Graph)
 
   -- why the clause file gives no premises for a graph
   abbrev IsRefusedFor : Aig → Checked → Type 0
@@ -158,23 +154,24 @@ module _ (limits : Limits) (claim : Claim) (file clauses algebra : List ℕ) whe
   IsRefused c = IsGraphRefused c ⊎ (Spelled × (AreClausesRefused c ⊎ (HasGiven × IsAlgebraRefused c)))
 
   all_exact : IsExact All IsRefused
-  all_exact = next_exact graph_exact (λ s. next_exact (clauses_exact s) algebra_exact)
+  all_exact = next_exact graph_refused (λ s. next_exact (clauses_exact s) algebra_exact)
 
   -- ---- what is due, by its causes
 
   due_is : (c : Checked) → IsDue limits claim told c → ((c ≡ checked.Accepted) × All) ⊎ IsRefused c
   due_is checked.Accepted h = inl (refl, ((h.0, h.1), ((h.0, h.1, (h.2.0, h.2.2)), (h.0, h.1, record { premises = h.2.0; gives = h.2.2; lawful = h.2.3.0 }))))
-  due_is (checked.Graph given) h = inr (inl (inl (given, h, refl)))
   due_is (checked.Refused (refusal.Clauses line given)) h = inr (inr ((h.0, h.1), inl (h.0, h.1, (Line (line, line_cause given), h.2, clause_is line given))))
   due_is (checked.Refused (refusal.Goals column)) h = inr (inr ((h.0, h.1), inl (h.0, h.1, (Goals column, h.2, refl))))
   due_is (checked.Refused (refusal.Algebra line given)) h = inr (inr ((h.0, h.1), inr ((h.0, h.1, (h.2.0, h.2.2)), (h.0, h.1, (h.2.0, h.2.2, ((line, cause_of given), h.2.3, answer_is line given))))))
-  due_is (checked.TooLong slot.Graph) h = inr (inl (inr (h, refl)))
-  due_is (checked.TooLong slot.Other) h = absurd h
-  due_is (checked.TooLong slot.Clauses) h = inr (inr ((h.0, h.1), inl (h.0, h.1, (Line (h.2.0, clausal.TooLong), h.2.1, refl))))
-  due_is (checked.TooLong slot.Algebra) h = inr (inr ((h.0, h.1), inr ((h.0, h.1, (h.2.0, h.2.2)), (h.0, h.1, (h.2.0, h.2.2, ((h.2.3.0, cause.TooLong), h.2.3.1, refl))))))
-  due_is (checked.TooLong slot.Report) h = absurd h
-  due_is checked.ReadFault h = absurd h
-  due_is checked.Memory h = absurd h
+  due_is (checked.Stopped given) (inl h) = inr (inl (given, h, refl))
+  due_is (checked.Stopped given) (inr (inl h)) =
+      let long = IsLong-is slot.Clauses (MeetsClauses (profile_of claim.add) limits told (λ g bytes. (n : ℕ) × IsClauseRefusal (lengths_of limits) g bytes (n, clausal.TooLong))) given h in
+      let l = long.1 in
+      inr (inr ((l.0, l.1), inl (l.0, l.1, (Line (l.2.0, clausal.TooLong), l.2.1, ap checked.Stopped long.0))))
+  due_is (checked.Stopped given) (inr (inr h)) =
+      let long = IsLong-is slot.Algebra (MeetsAlgebra (profile_of claim.add) limits told (λ g p bytes. (line : ℕ) × IsAlgebraRefusal p (sides_for claim g) (lengths_of limits) bytes (line, cause.TooLong))) given h in
+      let l = long.1 in
+      inr (inr ((l.0, l.1), inr ((l.0, l.1, (l.2.0, l.2.2)), (l.0, l.1, (l.2.0, l.2.2, ((l.2.3.0, cause.TooLong), l.2.3.1, ap checked.Stopped long.0))))))
 
   one_due : (a b : Checked) → IsDue limits claim told a → IsDue limits claim told b → a ≡ b
   one_due a b h k =
@@ -184,7 +181,7 @@ module _ (limits : Limits) (claim : Claim) (file clauses algebra : List ℕ) whe
   IsSomeDue = (c : Checked) × IsDue limits claim told c
 
   clause_due : (g : Aig) → SpellsWithin (profile_of claim.add) limits.graph file g → (f : ClauseFault) → IsFileRefusal (lengths_of limits) g clauses f → IsSomeDue
-  clause_due g s (Line (line, clausal.TooLong)) h = (checked.TooLong slot.Clauses, (g, s, (line, h)))
+  clause_due g s (Line (line, clausal.TooLong)) h = (checked.Stopped (stop.TooLong slot.Clauses), inr (inl (refl, (g, s, (line, h)))))
   clause_due g s (Line (line, clausal.Text)) h = (checked.Refused (refusal.Clauses line clause.Text), (g, s, h))
   clause_due g s (Line (line, clausal.Range)) h = (checked.Refused (refusal.Clauses line clause.Range), (g, s, h))
   clause_due g s (Line (line, clausal.NotImplied)) h = (checked.Refused (refusal.Clauses line clause.NotImplied), (g, s, h))
@@ -193,7 +190,7 @@ module _ (limits : Limits) (claim : Claim) (file clauses algebra : List ℕ) whe
 
   module _ (g : Aig) (s : SpellsWithin (profile_of claim.add) limits.graph file g) (base : Premises) (gives : Gives g base) where
     algebra_due : (p : ℕ × AlgebraCause) → IsAlgebraRefusal base (sides_for claim g) (lengths_of limits) algebra p → IsSomeDue
-    algebra_due (line, cause.TooLong) h = (checked.TooLong slot.Algebra, (g, s, (base, gives_of (lengths_of limits) g clauses base gives, gives, (line, h))))
+    algebra_due (line, cause.TooLong) h = (checked.Stopped (stop.TooLong slot.Algebra), inr (inr (refl, (g, s, (base, gives_of (lengths_of limits) g clauses base gives, gives, (line, h))))))
     algebra_due (line, cause.Text) h = (checked.Refused (refusal.Algebra line why.Text), (g, s, (base, gives_of (lengths_of limits) g clauses base gives, gives, h)))
     algebra_due (line, cause.Range) h = (checked.Refused (refusal.Algebra line why.Range), (g, s, (base, gives_of (lengths_of limits) g clauses base gives, gives, h)))
     algebra_due (line, cause.Id) h = (checked.Refused (refusal.Algebra line why.Id), (g, s, (base, gives_of (lengths_of limits) g clauses base gives, gives, h)))
@@ -207,7 +204,7 @@ module _ (limits : Limits) (claim : Claim) (file clauses algebra : List ℕ) whe
 
   some_due : IsSomeDue
   some_due = ⊎_elim (λ l. lawful_due l.1.1.0 l.1.1.1 l.1.1.2)
-      (λ r. ⊎_elim (λ x. ⊎_elim (λ f. (checked.Graph f.0, f.1)) (λ long. (checked.TooLong slot.Graph, long.0)) x)
+      (λ r. ⊎_elim (λ x. (checked.Stopped x.0, inl x.1))
       (λ x. ⊎_elim (λ y. clause_due y.0 y.1 y.2.0 y.2.1) (λ y. algebra_due y.1.0 y.1.1 y.1.2.0 y.1.2.1 y.1.2.2.0 y.1.2.2.1) x.1) r.1) all_exact.decided
 
 -- ---- three files that are told
@@ -239,11 +236,9 @@ module _ (limits : Limits) (claim : Claim) (files : Files) (before after : View)
 
   exact : (given : Checked) → IsOutcome limits claim files before after given → IsExactAnswer limits claim files before after given
   exact checked.Accepted h = due_of checked.Accepted (h.0, h.1, (h.2.0, h.2.1, h.2.2, (h.2.3.0, tt)))
-  exact (checked.Graph why) h = due_of (checked.Graph why) h
   exact (checked.Refused why) h = due_of (checked.Refused why) h
-  exact (checked.TooLong at) h = due_of (checked.TooLong at) h
-  exact checked.ReadFault h = λ told due k. inr (inl (refl, h))
-  exact checked.Memory h = λ told due k. inr (inr refl)
+  exact (checked.Stopped why) h = λ told due k. stop_gives (IsStopDue limits claim (texts_of before files)) before after checked.Stopped due why
+      (λ p. one_answer_is_due.one limits claim (texts_of before files) told (checked.Stopped why) due p k) h
 
 pub outcomes_are_exact : OutcomesAreExact
 outcomes_are_exact limits claim files before after given h = exact limits claim files before after given h

@@ -1,7 +1,13 @@
 -- How many files were opened for each answer.
-use Rattle.std.proofs.Common.{ℕ, List, Option, arith}
+use Rattle.std.proofs.Common.{ℕ, List, Option, IfSome, arith}
+use Rattle.aiger_reader.specs.Stopping.{IsGraphStop, IsLong, IsStop}
+use Rattle.aiger_reader.specs.declared.stop.Stop.{Stop}
+use Rattle.aiger_reader.proofs.CallerLemmas.{IsGraphStop-about, IsLong-about, opens_up_to}
+use Rattle.drup_text.specs.HeaderRefusal.{TooLong}
 use Rattle.graph_core.specs.Graph.{Aig}
 use Rattle.graph_core.specs.Algebra.{Premises}
+use Rattle.graph_core.specs.Algebra.Refusal as cause
+use Rattle.graph_core.specs.Algebra.Refusal.{IsAlgebraRefusal}
 use Rattle.graph_core.specs.Graph.Operands.{Sides}
 use Rattle.graph_core.specs.Text.JudgedLines.{Lengths}
 use Rattle.mv_desk.specs.View.{OpensFiles, View}
@@ -10,47 +16,30 @@ use Rattle.graph_core.specs.declared.profile.Profile.{Profile}
 use Rattle.joint_checker.specs.declared.checked.Checked.{Checked}
 use Rattle.joint_checker.specs.declared.checked.Checked.TheVariants as checked
 use Rattle.joint_checker.specs.declared.checked.Refusal.TheVariants as refusal
-use Rattle.joint_checker.specs.Fails.{IsAlgebraFail, IsClauseFail, IsGraphFail}
-use Rattle.joint_checker.specs.Outcome.{OpensFor}
+use Rattle.joint_checker.specs.ClauseRefusals.{IsClauseRefusal}
+use Rattle.joint_checker.specs.Fails.{IsAlgebraFail, IsClauseFail}
+use Rattle.joint_checker.specs.Outcome.{OpensFor, check_place}
 
 -- the desk before the first file is opened, before this one is, and at the end
 module _ (first before now : View) where
-  pub graph_opened : (profile : Profile) (limit : ℕ) (text : Option (List ℕ)) (answer : Checked) → IsGraphFail profile limit text before now answer → OpensFiles 1 first now → OpensFor answer first now
-  graph_opened profile limit text checked.Accepted h opened = absurd h
-  graph_opened profile limit text (checked.Graph why) h opened = opened
-  graph_opened profile limit text (checked.Refused why) h opened = absurd h
-  graph_opened profile limit text (checked.TooLong slot.Graph) h opened = opened
-  graph_opened profile limit text (checked.TooLong slot.Other) h opened = absurd h
-  graph_opened profile limit text (checked.TooLong slot.Clauses) h opened = absurd h
-  graph_opened profile limit text (checked.TooLong slot.Algebra) h opened = absurd h
-  graph_opened profile limit text (checked.TooLong slot.Report) h opened = absurd h
-  graph_opened profile limit text checked.ReadFault h opened = (1, omega arith, opened)
-  graph_opened profile limit text checked.Memory h opened = (1, omega arith, opened)
+  pub graph_opened : (profile : Profile) (limit : ℕ) (text : Option (List ℕ)) (why : Stop) → IsStop (IsGraphStop slot.Graph profile limit text) before now why → OpensFiles 1 first now → OpensFor (checked.Stopped why) first now
+  graph_opened profile limit text why h opened =
+      opens_up_to (IsGraphStop slot.Graph profile limit text) before now check_place 3 slot.Graph (IsGraphStop-about slot.Graph profile limit text) (omega arith) first opened why h
 
   pub clauses_opened : (lengths : Lengths) (g : Aig) (text : Option (List ℕ)) (answer : Checked) → IsClauseFail lengths g text before now answer → OpensFiles 2 first now → OpensFor answer first now
   clauses_opened lengths g text checked.Accepted h opened = absurd h
-  clauses_opened lengths g text (checked.Graph why) h opened = absurd h
   clauses_opened lengths g text (checked.Refused (refusal.Clauses line why)) h opened = opened
   clauses_opened lengths g text (checked.Refused (refusal.Goals column)) h opened = opened
   clauses_opened lengths g text (checked.Refused (refusal.Algebra line why)) h opened = absurd h
-  clauses_opened lengths g text (checked.TooLong slot.Graph) h opened = absurd h
-  clauses_opened lengths g text (checked.TooLong slot.Other) h opened = absurd h
-  clauses_opened lengths g text (checked.TooLong slot.Clauses) h opened = opened
-  clauses_opened lengths g text (checked.TooLong slot.Algebra) h opened = absurd h
-  clauses_opened lengths g text (checked.TooLong slot.Report) h opened = absurd h
-  clauses_opened lengths g text checked.ReadFault h opened = (2, omega arith, opened)
-  clauses_opened lengths g text checked.Memory h opened = (2, omega arith, opened)
+  clauses_opened lengths g text (checked.Stopped why) h opened =
+      let P = IfSome text (λ bytes. (line : ℕ) × IsClauseRefusal lengths g bytes (line, TooLong)) in
+      opens_up_to (IsLong slot.Clauses P) before now check_place 3 slot.Clauses (IsLong-about slot.Clauses P) (omega arith) first opened why h
 
   pub algebra_opened : (lengths : Lengths) (p : Premises) (sides : Sides) (text : Option (List ℕ)) (answer : Checked) → IsAlgebraFail lengths p sides text before now answer → OpensFiles 3 first now → OpensFor answer first now
   algebra_opened lengths p sides text checked.Accepted h opened = absurd h
-  algebra_opened lengths p sides text (checked.Graph why) h opened = absurd h
   algebra_opened lengths p sides text (checked.Refused (refusal.Clauses line why)) h opened = absurd h
   algebra_opened lengths p sides text (checked.Refused (refusal.Goals column)) h opened = absurd h
   algebra_opened lengths p sides text (checked.Refused (refusal.Algebra line why)) h opened = opened
-  algebra_opened lengths p sides text (checked.TooLong slot.Graph) h opened = absurd h
-  algebra_opened lengths p sides text (checked.TooLong slot.Other) h opened = absurd h
-  algebra_opened lengths p sides text (checked.TooLong slot.Clauses) h opened = absurd h
-  algebra_opened lengths p sides text (checked.TooLong slot.Algebra) h opened = opened
-  algebra_opened lengths p sides text (checked.TooLong slot.Report) h opened = absurd h
-  algebra_opened lengths p sides text checked.ReadFault h opened = (3, omega arith, opened)
-  algebra_opened lengths p sides text checked.Memory h opened = (3, omega arith, opened)
+  algebra_opened lengths p sides text (checked.Stopped why) h opened =
+      let P = IfSome text (λ bytes. (line : ℕ) × IsAlgebraRefusal p sides lengths bytes (line, cause.TooLong)) in
+      opens_up_to (IsLong slot.Algebra P) before now check_place 3 slot.Algebra (IsLong-about slot.Algebra P) (omega arith) first opened why h

@@ -12,6 +12,7 @@ use Rattle.graph_core.specs.Graph.Operands.{Sides}
 use Rattle.mv_desk.specs.View.{Rose, View}
 use Rattle.mv_desk.specs.declared.slot.Slot.TheVariants as slot
 use Rattle.mv_text.specs.LineReading.{Lines}
+use Rattle.aiger_reader.specs.declared.stop.Stop.TheVariants as stop
 use Rattle.joint_checker.specs.declared.checked.Checked.{Checked}
 use Rattle.joint_checker.specs.declared.checked.Checked.TheVariants as checked
 use Rattle.joint_checker.specs.declared.checked.Refusal.TheVariants as refusal
@@ -40,8 +41,8 @@ IsLawfulBody p sides lines body = IsLawfulRest p.version p.extended sides (IsLon
 abbrev pub IsBodyFail : Premises → Sides → Lines → Option (List ℕ) → View → View → Checked → Type 0
 IsBodyFail p sides lines left before now (checked.Refused (refusal.Algebra line why)) =
     IfSome left (λ body. IsRefusedBody p sides (IsLongIn lines body) body (line, cause_of why))
-IsBodyFail p sides lines left before now (checked.TooLong slot.Algebra) =
+IsBodyFail p sides lines left before now (checked.Stopped (stop.TooLong slot.Algebra)) =
     IfSome left (λ body. (line : ℕ) × IsRefusedBody p sides (IsLongIn lines body) body (line, cause.TooLong))
-IsBodyFail p sides lines left before now checked.ReadFault = Rose before.read_faults now.read_faults
-IsBodyFail p sides lines left before now checked.Memory = ⊤
+IsBodyFail p sides lines left before now (checked.Stopped stop.ReadFault) = Rose before.read_faults now.read_faults
+IsBodyFail p sides lines left before now (checked.Stopped stop.Memory) = ⊤
 IsBodyFail p sides lines left before now _ = ⊥

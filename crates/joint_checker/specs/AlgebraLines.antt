@@ -30,6 +30,7 @@ use Rattle.clause_judge.specs.ClauseBody.{IsLongIn}
 use Rattle.joint_checker.specs.declared.algebra_line.Turn.{Turn}
 use Rattle.joint_checker.specs.declared.algebra_line.Turn.TheVariants as turn
 use Rattle.joint_checker.specs.declared.checked.AlgebraWhy.TheVariants as why
+use Rattle.aiger_reader.specs.declared.stop.Stop.TheVariants as stop
 use Rattle.joint_checker.specs.declared.checked.Checked.{Checked}
 use Rattle.joint_checker.specs.declared.checked.Checked.TheVariants as checked
 use Rattle.joint_checker.specs.declared.checked.Refusal.TheVariants as refusal
@@ -87,16 +88,16 @@ Turns version e sides l next old new left behind (turn.Closed id) =
 abbrev pub IsLineFail : ℕ → ℕ → Extended → Sides → Ledger → Lines → Option (List ℕ) → View → View → Checked → Type 0
 IsLineFail n version e sides l lines left before now (checked.Refused (refusal.Algebra line why)) =
     (line ≡ n) × IfSome left (λ bytes. IsRefusedNext version e sides (IsLongIn lines bytes) l bytes (0, cause_of why))
-IsLineFail n version e sides l lines left before now (checked.TooLong slot.Algebra) = IfSome left (IsLongAhead lines)
-IsLineFail n version e sides l lines left before now checked.ReadFault = Rose before.read_faults now.read_faults
-IsLineFail n version e sides l lines left before now checked.Memory = ⊤
+IsLineFail n version e sides l lines left before now (checked.Stopped (stop.TooLong slot.Algebra)) = IfSome left (IsLongAhead lines)
+IsLineFail n version e sides l lines left before now (checked.Stopped stop.ReadFault) = Rose before.read_faults now.read_faults
+IsLineFail n version e sides l lines left before now (checked.Stopped stop.Memory) = ⊤
 IsLineFail n version e sides l lines left before now _ = ⊥
 
 -- Why the file doesn't end before the line with this number.
 abbrev pub IsEndFail : ℕ → Lines → Option (List ℕ) → View → View → Checked → Type 0
 IsEndFail n lines left before now (checked.Refused (refusal.Algebra line why.Text)) = (line ≡ n) ×
     IfSome left (λ bytes. ¬ (IsLongAhead lines bytes) × (bytes ≢ []))
-IsEndFail n lines left before now (checked.TooLong slot.Algebra) = IfSome left (IsLongAhead lines)
-IsEndFail n lines left before now checked.ReadFault = Rose before.read_faults now.read_faults
-IsEndFail n lines left before now checked.Memory = ⊤
+IsEndFail n lines left before now (checked.Stopped (stop.TooLong slot.Algebra)) = IfSome left (IsLongAhead lines)
+IsEndFail n lines left before now (checked.Stopped stop.ReadFault) = Rose before.read_faults now.read_faults
+IsEndFail n lines left before now (checked.Stopped stop.Memory) = ⊤
 IsEndFail n lines left before now _ = ⊥

@@ -28,6 +28,7 @@ use crate::algebra_line::{Turn, judge_end, judge_line, line_refused};
 use crate::checked::Checked;
 use crate::clause_file::Shown;
 use crate::read_line::ReadLine;
+use aiger_reader::Stop;
 use clause_core::ClauseList;
 use graph_core::{Claim, Operands};
 use mv_desk::{Desk, Limits, Slot};
@@ -89,7 +90,7 @@ pub(crate) fn check_algebra<D: Desk>(
 {
     match desk.open_file(Slot::Algebra, name) {
         Ok(()) => judge_algebra(alloc, desk, limits, shown, claim, records),
-        Err(_) => Err(Checked::ReadFault),
+        Err(_) => Err(Checked::Stopped(Stop::ReadFault)),
     }
 }
 
@@ -199,5 +200,5 @@ fn judge_lines<D: Desk>(
         }
     }
     // So many lines have more bytes than a file may have.
-    Err(Checked::TooLong(Slot::Algebra))
+    Err(Checked::Stopped(Stop::TooLong(Slot::Algebra)))
 }

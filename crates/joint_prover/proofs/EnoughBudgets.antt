@@ -3,7 +3,6 @@ use Rattle.std.proofs.Common.{◌≡◌, ℕ, List, take, refl, sym, subst, inl,
 use Rattle.std.specs.Prelude.{IfSome}
 use Rattle.std.specs.declared.option.Option.{Option}
 use Rattle.std.specs.declared.option.Option.TheVariants.{None, Some}
-use Rattle.aiger_reader.specs.Refusals as reading
 use Rattle.enough_budget.specs.Budgets.{PassesBySlices}
 use Rattle.enough_budget.proofs.MadePlans.{made_budget_is_enough}
 use Rattle.graph_maker.proofs.OperandOrder.{order_of_operands_is_free}
@@ -19,8 +18,12 @@ use Rattle.graph_core.proofs.OfTexts.CallerLemmas.{one_graph}
 use Rattle.graph_maker.specs.Made.{made}
 use Rattle.graph_maker.specs.declared.adder.Adder.TheVariants.{Ripple}
 use Rattle.graph_maker.proofs.MadeMultiplies.{made_multiplies}
-use Rattle.aiger_reader.specs.Refusals.{IsGraphRefusal, SpellsWithin}
-use Rattle.joint_checker.proofs.CallerLemmas.{spelled_not_long, spelled_not_refused}
+use Rattle.aiger_reader.specs.Refusals.{SpellsWithin}
+use Rattle.aiger_reader.specs.Stopping.{GivesDue, IsGraphStop, IsStop}
+use Rattle.aiger_reader.specs.declared.stop.Stop.{Stop}
+use Rattle.aiger_reader.specs.declared.stop.Stop.TheVariants as stop
+use Rattle.aiger_reader.proofs.CallerLemmas.{graph_exact, stop_gives}
+use Rattle.mv_desk.specs.declared.slot.Slot.TheVariants as slot
 use Rattle.mv_desk.specs.View.{View, bytes_under}
 use Rattle.joint_checker.specs.Files.{Files}
 use Rattle.ripple_graft.specs.declared.cut.Cut.{Cut}
@@ -28,11 +31,11 @@ use Rattle.joint_prover.specs.declared.rewriting.Rewriting.{Rewriting}
 use Rattle.joint_prover.specs.declared.task.Task.{Task}
 use Rattle.joint_prover.specs.declared.verdict.Tried.{Tried}
 use Rattle.joint_prover.specs.declared.verdict.Verdict.{Verdict}
-use Rattle.joint_prover.specs.declared.verdict.Verdict.TheVariants.{Proved, Wrong, WrongSum, Undecided, Graph, ReadFault, WriteFault, TooLong, Memory}
-use Rattle.joint_prover.specs.Budgets.{EnoughIsProved, IsEnough, ProvesEnough}
+use Rattle.joint_prover.specs.declared.verdict.Verdict.TheVariants.{Proved, Wrong, WrongSum, Undecided, Stopped}
+use Rattle.joint_prover.specs.Budgets.{EnoughIsProved, IsEnough}
 use Rattle.joint_prover.specs.Notes.{cut_of}
 use Rattle.joint_prover.specs.Tries.{AreTried, IsAbove}
-use Rattle.joint_prover.specs.Verdicts.{GivesDue, HasNote, IsVerdict}
+use Rattle.joint_prover.specs.Verdicts.{HasNote, IsVerdict}
 use Rattle.joint_prover.proofs.Exactness.{right_or_wrong, right_or_wrong_sum, spelled}
 
 -- ---- a slice plan over the graph alone was tried
@@ -75,29 +78,33 @@ module _ (limit : ℕ) (task : Task) (file : List ℕ) (h : IsEnough limit task 
   never_tried tried None k = absurd k
   never_tried tried (Some n) k = never_passes (tried_passes h.graph task.claim task.budget (cut_of n) tried k.1)
 
-  pub proved_or_not : (files : Files) (a b : View) (given : Verdict) (noted : Option Rewriting) → bytes_under a files.graph ≡ Some file → IsVerdict limit task files a b given noted → GivesDue Proved given
-  proved_or_not files a b Proved noted told k = inl refl
-  proved_or_not files a b (Wrong x y value product) noted told k =
-      let s = spelled limit task file _ _ told k.0 in
-      absurd (right_or_wrong limit task file x y value product (h.graph, spells, does) (s.0, s.1, s.2.0))
-  proved_or_not files a b (WrongSum x y z value sum) noted told k =
-      let s = spelled limit task file _ _ told k.0 in
-      absurd (right_or_wrong_sum limit task file x y z value sum (h.graph, spells, does) (s.0, s.1, s.2.0))
-  proved_or_not files a b (Undecided tried t n) noted told k =
-      let s = spelled limit task file _ _ told k.0 in
-      let same = one_graph (profile_of task.claim.add) file s.0 h.graph s.1.spells spells.spells in
-      absurd (never_tried tried.items noted (subst (λ g. HasNote g task noted (λ used. AreTried g task.claim task.budget used tried.items)) same s.2.1))
-  proved_or_not files a b (Graph why) noted told k =
-      absurd (spelled_not_refused (profile_of task.claim.add) limit file h.graph why spells (subst (λ o. IfSome o (λ bytes. IsGraphRefusal (profile_of task.claim.add) limit bytes why)) told k.0))
-  proved_or_not files a b TooLong noted told k =
-      absurd (spelled_not_long (profile_of task.claim.add) limit file h.graph spells (subst (λ o. IfSome o (reading.IsTooLong (profile_of task.claim.add) limit)) told k.0))
-  proved_or_not files a b ReadFault noted told k = inr (inl refl)
-  proved_or_not files a b WriteFault noted told k = inr (inr (inl refl))
-  proved_or_not files a b Memory noted told k = inr (inr (inr refl))
+  module _ (files : Files) (a b : View) (told : bytes_under a files.graph ≡ Some file) where
+    stops_or_not : (why : Stop) → IsStop (IsGraphStop slot.Graph (profile_of task.claim.add) limit (bytes_under a files.graph)) a b why → GivesDue Stopped a b Proved (Stopped why)
+    stops_or_not why k = stop_gives (IsGraphStop slot.Graph (profile_of task.claim.add) limit (Some file)) a b Stopped Proved why
+        (λ due. absurd ((graph_exact (profile_of task.claim.add) limit file slot.Graph).not_both why (h.graph, spells) due))
+        (subst (λ o. IsStop (IsGraphStop slot.Graph (profile_of task.claim.add) limit o) a b why) told k)
+
+    pub proved_or_not : (given : Verdict) (noted : Option Rewriting) → IsVerdict limit task files a b given noted → GivesDue Stopped a b Proved given
+    proved_or_not Proved noted k = inl refl
+    proved_or_not (Wrong x y value product) noted k =
+        let s = spelled limit task file _ _ told k.0 in
+        absurd (right_or_wrong limit task file x y value product (h.graph, spells, does) (s.0, s.1, s.2.0))
+    proved_or_not (WrongSum x y z value sum) noted k =
+        let s = spelled limit task file _ _ told k.0 in
+        absurd (right_or_wrong_sum limit task file x y z value sum (h.graph, spells, does) (s.0, s.1, s.2.0))
+    proved_or_not (Undecided tried t n) noted k =
+        let s = spelled limit task file _ _ told k.0 in
+        let same = one_graph (profile_of task.claim.add) file s.0 h.graph s.1.spells spells.spells in
+        absurd (never_tried tried.items noted (subst (λ g. HasNote g task noted (λ used. AreTried g task.claim task.budget used tried.items)) same s.2.1))
+    proved_or_not (Stopped stop.WriteFault) noted k = inr (stop.WriteFault, refl, k.0)
+    proved_or_not (Stopped (stop.Graph at why)) noted k = stops_or_not (stop.Graph at why) k.0
+    proved_or_not (Stopped (stop.TooLong at)) noted k = stops_or_not (stop.TooLong at) k.0
+    proved_or_not (Stopped stop.ReadFault) noted k = stops_or_not stop.ReadFault k.0
+    proved_or_not (Stopped stop.Memory) noted k = stops_or_not stop.Memory k.0
 
 pub enough_is_proved : EnoughIsProved
 enough_is_proved limit task files before after given noted h = go (bytes_under before files.graph) refl
   where
-    go : (told : Option (List ℕ)) → bytes_under before files.graph ≡ told → ProvesEnough limit task told given
+    go : (told : Option (List ℕ)) → bytes_under before files.graph ≡ told → IfSome told (λ file. IsEnough limit task file → GivesDue Stopped before after Proved given)
     go None same = tt
-    go (Some file) same = λ enough. proved_or_not limit task file enough files before after given noted same h
+    go (Some file) same = λ enough. proved_or_not limit task file enough files before after same given noted h

@@ -1,9 +1,12 @@
 -- The verdict that is due is given, but for a fault or want of memory.
 use Rattle.std.proofs.Common.{◌≡◌, ℕ, ◌+◌, ◌*◌, ◌%◌, Bool, true, false, List, ◌++◌, refl, sym, ap, ap₂, subst, ◌∙◌, arith, inl, inr, ⊎_elim}
-use Rattle.std.specs.Prelude.{Some, IfSome}
+use Rattle.std.specs.Prelude.{◌⊎◌, Some, IfSome}
 use Rattle.std.specs.declared.option.Option.{Option}
-use Rattle.aiger_reader.specs.Refusals as reading
-use Rattle.aiger_reader.specs.Refusals.{IsGraphRefusal, SpellsWithin}
+use Rattle.aiger_reader.specs.Refusals.{SpellsWithin}
+use Rattle.aiger_reader.specs.Stopping.{GivesDue, Interrupts, IsGraphStop, IsStop}
+use Rattle.aiger_reader.specs.declared.stop.Stop.{Stop}
+use Rattle.aiger_reader.specs.declared.stop.Stop.TheVariants as stop
+use Rattle.aiger_reader.proofs.CallerLemmas.{due_or_interrupts, graph_exact}
 use Rattle.frontier_core.proofs.CallerLemmas.{difference_is_of_operands, difference_is_of_sum, least_difference_is_one}
 use Rattle.frontier_core.specs.LeastDifference.{IsDifferenceAt}
 use Rattle.graph_core.specs.Graph.{Aig, IsDefinedOnce}
@@ -13,12 +16,13 @@ use Rattle.graph_core.specs.declared.profile.Profile.{Profile}
 use Rattle.graph_core.proofs.OfAiger.CallerLemmas.{shape_for, spelled_shape, well_formed}
 use Rattle.graph_core.proofs.OfTexts.CallerLemmas.{one_graph}
 use Rattle.joint_checker.specs.Files.{HasGraph}
-use Rattle.joint_checker.proofs.CallerLemmas.{one_graph_refusal, refused_not_long, spelled_not_long, spelled_not_refused}
+use Rattle.mv_desk.specs.View.{View, bytes_under}
+use Rattle.mv_desk.specs.declared.slot.Slot.TheVariants as slot
 use Rattle.joint_prover.specs.declared.task.Task.{Task}
 use Rattle.joint_prover.specs.declared.verdict.Verdict.{Verdict}
-use Rattle.joint_prover.specs.declared.verdict.Verdict.TheVariants.{Proved, Wrong, WrongSum, Undecided, Graph, ReadFault, WriteFault, TooLong, Memory}
+use Rattle.joint_prover.specs.declared.verdict.Verdict.TheVariants.{Proved, Wrong, WrongSum, Undecided, Stopped}
 use Rattle.joint_prover.specs.Tries.{IsWithinBudget}
-use Rattle.joint_prover.specs.Verdicts.{GivesDue, HasFewOnes, HaveManyOnes, IsFirstAbove, IsVerdict, IsVerdictDue, IsWrong, IsWrongSum, VerdictsAreExact}
+use Rattle.joint_prover.specs.Verdicts.{HasFewOnes, HaveManyOnes, IsFirstAbove, IsVerdict, IsVerdictDue, IsWrong, IsWrongSum, VerdictsAreExact}
 
 wrong_same : (a c b d v w p q : ℕ) → a ≡ c → b ≡ d → v ≡ w → p ≡ q → Wrong a b v p ≡ Wrong c d w q
 wrong_same a c b d v w p q e f g h = cc
@@ -146,90 +150,62 @@ module _ (limit : ℕ) (task : Task) (file : List ℕ) where
       (two.sum_is ∙ ap₂ (λ x y. (product_as claim.sign m n x y + f) % m) same.0 same.1 ∙ ap (λ z. (product_as claim.sign m n a b + z) % m) same.2 ∙ sym one.sum_is)
 
   -- what the verdict says of the file
-  abbrev Says : Verdict → Type 0
-  Says Proved = Spelled (Does claim)
-  Says (Wrong a b v p) = Spelled (λ g. IsWrong g claim a b v p)
-  Says (WrongSum a b c v p) = Spelled (λ g. IsWrongSum g claim a b c v p)
-  Says (Undecided tried t n) = Spelled (λ g. IsFirstAbove g claim task.budget t n × HaveManyOnes g claim)
-  Says (Graph why) = IsGraphRefusal profile limit file why
-  Says TooLong = reading.IsTooLong profile limit file
-  Says _ = Unit {0}
+  module _ (before after : View) where
+    abbrev Says : Verdict → Type 0
+    Says Proved = Spelled (Does claim)
+    Says (Wrong a b v p) = Spelled (λ g. IsWrong g claim a b v p)
+    Says (WrongSum a b c v p) = Spelled (λ g. IsWrongSum g claim a b c v p)
+    Says (Undecided tried t n) = Spelled (λ g. IsFirstAbove g claim task.budget t n × HaveManyOnes g claim)
+    Says (Stopped why) = IsGraphStop slot.Graph profile limit (Some file) why ⊎ Interrupts before after why
 
-  exact : (given due : Verdict) → Says given → IsVerdictDue limit task file due → GivesDue due given
-  exact ReadFault due h d = inr (inl refl)
-  exact WriteFault due h d = inr (inr (inl refl))
-  exact Memory due h d = inr (inr (inr refl))
-  exact Proved Proved h d = inl refl
-  exact Proved (Wrong x y w q) h d = absurd (right_or_wrong x y w q h (d.0, d.1, d.3))
-  exact Proved (WrongSum x y z w q) h d = absurd (right_or_wrong_sum x y z w q h (d.0, d.1, d.3))
-  exact Proved (Graph other) h d = absurd (spelled_not_refused profile limit file h.0 other h.1 d)
-  exact Proved TooLong h d = absurd (spelled_not_long profile limit file h.0 h.1 d)
-  exact Proved (Undecided others u m) h d = absurd d
-  exact Proved ReadFault h d = absurd d
-  exact Proved WriteFault h d = absurd d
-  exact Proved Memory h d = absurd d
-  exact (Wrong a b v p) Proved h d = absurd (right_or_wrong a b v p (d.0, d.1, d.3) h)
-  exact (Wrong a b v p) (Wrong x y w q) h d = inl (one_wrong x y w q a b v p (d.0, d.1, d.3) h)
-  exact (Wrong a b v p) (WrongSum x y z w q) h d = absurd (product_or_sum a b v p x y z w q h (d.0, d.1, d.3))
-  exact (Wrong a b v p) (Graph other) h d = absurd (spelled_not_refused profile limit file h.0 other h.1 d)
-  exact (Wrong a b v p) TooLong h d = absurd (spelled_not_long profile limit file h.0 h.1 d)
-  exact (Wrong a b v p) (Undecided others u m) h d = absurd d
-  exact (Wrong a b v p) ReadFault h d = absurd d
-  exact (Wrong a b v p) WriteFault h d = absurd d
-  exact (Wrong a b v p) Memory h d = absurd d
-  exact (WrongSum a b c v p) Proved h d = absurd (right_or_wrong_sum a b c v p (d.0, d.1, d.3) h)
-  exact (WrongSum a b c v p) (Wrong x y w q) h d = absurd (product_or_sum x y w q a b c v p (d.0, d.1, d.3) h)
-  exact (WrongSum a b c v p) (WrongSum x y z w q) h d = inl (one_wrong_sum x y z w q a b c v p (d.0, d.1, d.3) h)
-  exact (WrongSum a b c v p) (Graph other) h d = absurd (spelled_not_refused profile limit file h.0 other h.1 d)
-  exact (WrongSum a b c v p) TooLong h d = absurd (spelled_not_long profile limit file h.0 h.1 d)
-  exact (WrongSum a b c v p) (Undecided others u m) h d = absurd d
-  exact (WrongSum a b c v p) ReadFault h d = absurd d
-  exact (WrongSum a b c v p) WriteFault h d = absurd d
-  exact (WrongSum a b c v p) Memory h d = absurd d
-  exact (Undecided tried t n) Proved h d = absurd (within_or_above t n (d.0, d.1, d.2) (h.0, h.1, h.2.0))
-  exact (Undecided tried t n) (Wrong x y w q) h d =
-      absurd (⊎_elim (λ within. within_or_above t n (d.0, d.1, within) (h.0, h.1, h.2.0)) (λ few. few_or_many x y w q (d.0, d.1, (few, d.3)) (h.0, h.1, h.2.1)) d.2)
-  exact (Undecided tried t n) (WrongSum x y z w q) h d =
-      absurd (⊎_elim (λ within. within_or_above t n (d.0, d.1, within) (h.0, h.1, h.2.0)) (λ few. few_or_many_sum x y z w q (d.0, d.1, (few, d.3)) (h.0, h.1, h.2.1)) d.2)
-  exact (Undecided tried t n) (Graph other) h d = absurd (spelled_not_refused profile limit file h.0 other h.1 d)
-  exact (Undecided tried t n) TooLong h d = absurd (spelled_not_long profile limit file h.0 h.1 d)
-  exact (Undecided tried t n) (Undecided others u m) h d = absurd d
-  exact (Undecided tried t n) ReadFault h d = absurd d
-  exact (Undecided tried t n) WriteFault h d = absurd d
-  exact (Undecided tried t n) Memory h d = absurd d
-  exact (Graph why) Proved h d = absurd (spelled_not_refused profile limit file d.0 why d.1 h)
-  exact (Graph why) (Wrong x y w q) h d = absurd (spelled_not_refused profile limit file d.0 why d.1 h)
-  exact (Graph why) (WrongSum x y z w q) h d = absurd (spelled_not_refused profile limit file d.0 why d.1 h)
-  exact (Graph why) (Graph other) h d = inl (ap Graph (one_graph_refusal profile limit file why other h d))
-  exact (Graph why) TooLong h d = absurd (refused_not_long profile limit file why h d)
-  exact (Graph why) (Undecided others u m) h d = absurd d
-  exact (Graph why) ReadFault h d = absurd d
-  exact (Graph why) WriteFault h d = absurd d
-  exact (Graph why) Memory h d = absurd d
-  exact TooLong Proved h d = absurd (spelled_not_long profile limit file d.0 d.1 h)
-  exact TooLong (Wrong x y w q) h d = absurd (spelled_not_long profile limit file d.0 d.1 h)
-  exact TooLong (WrongSum x y z w q) h d = absurd (spelled_not_long profile limit file d.0 d.1 h)
-  exact TooLong (Graph other) h d = absurd (refused_not_long profile limit file other d h)
-  exact TooLong TooLong h d = inl refl
-  exact TooLong (Undecided others u m) h d = absurd d
-  exact TooLong ReadFault h d = absurd d
-  exact TooLong WriteFault h d = absurd d
-  exact TooLong Memory h d = absurd d
+    never_stopped : (g : Aig) (why : Stop) → SpellsWithin profile limit file g → IsGraphStop slot.Graph profile limit (Some file) why → ⊥
+    never_stopped g why s d = (graph_exact profile limit file slot.Graph).not_both why (g, s) d
+
+    exact : (given due : Verdict) → Says given → IsVerdictDue limit task file due → GivesDue Stopped before after due given
+    exact given (Undecided others u m) h d = absurd d
+    exact Proved Proved h d = inl refl
+    exact Proved (Wrong x y w q) h d = absurd (right_or_wrong x y w q h (d.0, d.1, d.3))
+    exact Proved (WrongSum x y z w q) h d = absurd (right_or_wrong_sum x y z w q h (d.0, d.1, d.3))
+    exact Proved (Stopped other) h d = absurd (never_stopped h.0 other h.1 d)
+    exact (Wrong a b v p) Proved h d = absurd (right_or_wrong a b v p (d.0, d.1, d.3) h)
+    exact (Wrong a b v p) (Wrong x y w q) h d = inl (one_wrong x y w q a b v p (d.0, d.1, d.3) h)
+    exact (Wrong a b v p) (WrongSum x y z w q) h d = absurd (product_or_sum a b v p x y z w q h (d.0, d.1, d.3))
+    exact (Wrong a b v p) (Stopped other) h d = absurd (never_stopped h.0 other h.1 d)
+    exact (WrongSum a b c v p) Proved h d = absurd (right_or_wrong_sum a b c v p (d.0, d.1, d.3) h)
+    exact (WrongSum a b c v p) (Wrong x y w q) h d = absurd (product_or_sum x y w q a b c v p (d.0, d.1, d.3) h)
+    exact (WrongSum a b c v p) (WrongSum x y z w q) h d = inl (one_wrong_sum x y z w q a b c v p (d.0, d.1, d.3) h)
+    exact (WrongSum a b c v p) (Stopped other) h d = absurd (never_stopped h.0 other h.1 d)
+    exact (Undecided tried t n) Proved h d = absurd (within_or_above t n (d.0, d.1, d.2) (h.0, h.1, h.2.0))
+    exact (Undecided tried t n) (Wrong x y w q) h d =
+        absurd (⊎_elim (λ within. within_or_above t n (d.0, d.1, within) (h.0, h.1, h.2.0)) (λ few. few_or_many x y w q (d.0, d.1, (few, d.3)) (h.0, h.1, h.2.1)) d.2)
+    exact (Undecided tried t n) (WrongSum x y z w q) h d =
+        absurd (⊎_elim (λ within. within_or_above t n (d.0, d.1, within) (h.0, h.1, h.2.0)) (λ few. few_or_many_sum x y z w q (d.0, d.1, (few, d.3)) (h.0, h.1, h.2.1)) d.2)
+    exact (Undecided tried t n) (Stopped other) h d = absurd (never_stopped h.0 other h.1 d)
+    exact (Stopped why) due (inr interrupts) d = inr (why, refl, interrupts)
+    exact (Stopped why) Proved (inl h) d = absurd (never_stopped d.0 why d.1 h)
+    exact (Stopped why) (Wrong x y w q) (inl h) d = absurd (never_stopped d.0 why d.1 h)
+    exact (Stopped why) (WrongSum x y z w q) (inl h) d = absurd (never_stopped d.0 why d.1 h)
+    exact (Stopped why) (Stopped other) (inl h) d = inl (ap Stopped ((graph_exact profile limit file slot.Graph).one why other h d))
 
   -- where the file is told
   pub spelled : (given : Option (List ℕ)) (P : Aig → Type 0) → given ≡ Some file → HasGraph profile limit given P → Spelled P
   spelled given P told h = (h.0, subst (λ o. IfSome o (λ bytes. SpellsWithin profile limit bytes h.0)) told h.1, h.2)
 
 pub verdicts_are_exact : VerdictsAreExact
-verdicts_are_exact limit task files before after file due given noted told d h = exact limit task file given due (says given h) d
+verdicts_are_exact limit task files before after file due given noted told d h = exact limit task file before after given due (says given h) d
   where
-    says : (v : Verdict) → IsVerdict limit task files before after v noted → Says limit task file v
+    of_stop : (why : Stop) → IsStop (IsGraphStop slot.Graph (profile_of task.claim.add) limit (bytes_under before files.graph)) before after why →
+        Says limit task file before after (Stopped why)
+    of_stop why h = due_or_interrupts (IsGraphStop slot.Graph (profile_of task.claim.add) limit (Some file)) before after why
+        (subst (λ o. IsStop (IsGraphStop slot.Graph (profile_of task.claim.add) limit o) before after why) told h)
+
+    says : (v : Verdict) → IsVerdict limit task files before after v noted → Says limit task file before after v
     says Proved h = let s = spelled limit task file _ _ told h in (s.0, s.1, s.2.0)
     says (Wrong a b value product) h = let s = spelled limit task file _ _ told h.0 in (s.0, s.1, s.2.0)
     says (WrongSum a b c value sum) h = let s = spelled limit task file _ _ told h.0 in (s.0, s.1, s.2.0)
     says (Undecided tried t n) h = let s = spelled limit task file _ _ told h.0 in (s.0, s.1, (s.2.0, s.2.2))
-    says (Graph why) h = subst (λ o. IfSome o (λ bytes. IsGraphRefusal (profile_of task.claim.add) limit bytes why)) told h.0
-    says TooLong h = subst (λ o. IfSome o (reading.IsTooLong (profile_of task.claim.add) limit)) told h.0
-    says ReadFault h = tt
-    says WriteFault h = tt
-    says Memory h = tt
+    says (Stopped stop.WriteFault) h = inr h.0
+    says (Stopped (stop.Graph at why)) h = of_stop (stop.Graph at why) h.0
+    says (Stopped (stop.TooLong at)) h = of_stop (stop.TooLong at) h.0
+    says (Stopped stop.ReadFault) h = of_stop stop.ReadFault h.0
+    says (Stopped stop.Memory) h = of_stop stop.Memory h.0

@@ -4,9 +4,10 @@ use Rattle.std.specs.Prelude.{IfSome, Result}
 use Rattle.std.specs.declared.option.Option.{Option}
 use Rattle.std.specs.declared.option.Option.TheVariants.{None}
 use Rattle.aiger_reader.specs.Opening.{OpensOnly}
-use Rattle.aiger_reader.specs.Refusals.{Refuses, SpellsWithin}
-use Rattle.aiger_reader.specs.declared.fail.ReadFail.{ReadFail}
-use Rattle.aiger_reader.specs.declared.fail.ReadFail.TheVariants as fail
+use Rattle.aiger_reader.specs.Refusals.{SpellsWithin}
+use Rattle.aiger_reader.specs.Stopping.{IsGraphStop, IsStop}
+use Rattle.aiger_reader.specs.declared.stop.Stop.{Stop}
+use Rattle.aiger_reader.specs.declared.stop.Stop.TheVariants as stop
 use Rattle.aiger_reader.proofs.CallerLemmas.{Inspects-OpensOnly}
 use Rattle.graph_core.specs.Graph.{Aig}
 use Rattle.graph_core.specs.Graph.Operands.{profile_of}
@@ -17,13 +18,13 @@ use Rattle.mv_desk.proofs.CallerLemmas.{ModeStays-refl, ModeStays-trans}
 use Rattle.joint_checker.specs.Files.{Files}
 use Rattle.joint_prover.specs.declared.task.Task.{Task}
 use Rattle.joint_prover.specs.declared.verdict.Verdict.{Verdict}
-use Rattle.joint_prover.specs.declared.verdict.Verdict.TheVariants.{Proved, Wrong, WrongSum, Undecided, Graph, ReadFault, WriteFault, TooLong, Memory}
+use Rattle.joint_prover.specs.declared.verdict.Verdict.TheVariants.{Proved, Wrong, WrongSum, Undecided, Stopped}
 use Rattle.ripple_graft.specs.declared.cut.Cut.{Cut}
 use Rattle.joint_prover.specs.declared.rewriting.Rewriting.{Rewriting}
 use Rattle.joint_prover.specs.Notes.{IsNote, cut_of}
 use Rattle.joint_prover.specs.Pairs.{AreClausesFor, IsPairFor}
 use Rattle.joint_prover.specs.Parts.{IsJudged, IsOfGraph, note_with}
-use Rattle.joint_prover.specs.Verdicts.{IsVerdict, answer_of_graph}
+use Rattle.joint_prover.specs.Verdicts.{IsVerdict}
 use Rattle.joint_checker.specs.Written.{ReadsGraph, ReportStays, StopsAt, StopsWriting, WritesFile, WritesFront}
 
 pub graph_is_read : {T E : Type 0} (a r : View) (result : Result T E) → OpensOnly slot.Graph a r result → ReadsGraph a r
@@ -39,26 +40,21 @@ module _ (limit : ℕ) (task : Task) (files : Files) (a r : View) (reads : Reads
   of_graph c g (Wrong x y value product) n spelled same noted h = ((g, spelled, (h.0, (noted, tt))), subst (ReadsGraph a) (sym h.1) reads)
   of_graph c g (WrongSum x y z value sum) n spelled same noted h = ((g, spelled, (h.0, (noted, tt))), subst (ReadsGraph a) (sym h.1) reads)
   of_graph c g (Undecided tried t k) n spelled same noted h = ((g, spelled, (h.0, (noted, h.1), h.3)), subst (ReadsGraph a) (sym h.2) reads)
-  of_graph c g (Graph why) n spelled same noted h = absurd h
-  of_graph c g ReadFault n spelled same noted h = absurd h
-  of_graph c g WriteFault n spelled same noted h = (subst (λ k. Rose k c.write_faults) same h.0, (g, spelled, (h.1, (n, noted, r, reads, h.2))), refl)
-  of_graph c g TooLong n spelled same noted h = absurd h
-  of_graph c g Memory n spelled same noted h = absurd h
+  of_graph c g (Stopped why) n spelled same noted h = subst (λ x. IsVerdict limit task files a c (Stopped x) None) (sym h.0)
+      (subst (λ k. Rose k c.write_faults) same h.1, (g, spelled, (h.2, (n, noted, r, reads, h.3))), refl)
 
   pub joined : (c : View) (g : Aig) (v : Verdict) (noted : Option Rewriting) → IfSome (bytes_under a files.graph) (λ bytes. SpellsWithin (profile_of task.claim.add) limit bytes g) → r.write_faults ≡ a.write_faults →
       IsJudged g task files r c v noted → IsVerdict limit task files a c v noted
   joined c g v noted spelled same (inl h) = subst (IsVerdict limit task files a c v) (sym h.3) (of_graph c g v h.0 spelled same h.1 h.2)
   joined c g v noted spelled same (inr h) =
-      subst (λ x. IsVerdict limit task files a c x noted) (sym h.0) (subst (ReadsGraph a) (sym h.2) reads, h.1)
+      subst (λ x. IsVerdict limit task files a c x noted) (sym h.0) (tt, subst (ReadsGraph a) (sym h.2) reads, h.1)
 
-  pub refused : (why : ReadFail) → IfSome (bytes_under a files.graph) (λ file. Refuses (profile_of task.claim.add) limit file why) → (why ≡ fail.Fault → Rose a.read_faults r.read_faults) →
-      IsVerdict limit task files a r (answer_of_graph why) None
-  refused (fail.Text p) h rose = (h, reads, refl)
-  refused (fail.Header f) h rose = (h, reads, refl)
-  refused (fail.Graph f) h rose = (h, reads, refl)
-  refused fail.Fault h rose = (rose refl, reads, refl)
-  refused fail.TooLong h rose = (h, reads, refl)
-  refused fail.Memory h rose = (reads, refl)
+  pub stopped : (why : Stop) → IsStop (IsGraphStop slot.Graph (profile_of task.claim.add) limit (bytes_under a files.graph)) a r why → IsVerdict limit task files a r (Stopped why) None
+  stopped (stop.Graph at why) h = (h, reads, refl)
+  stopped (stop.TooLong at) h = (h, reads, refl)
+  stopped stop.ReadFault h = (h, reads, refl)
+  stopped stop.WriteFault h = absurd h
+  stopped stop.Memory h = (h, reads, refl)
 
 -- ---- the report
 
@@ -106,12 +102,7 @@ of_graph_leaves g task used files a b Proved h =
 of_graph_leaves g task used files a b (Wrong x y value product) h = subst (ReportStays a) (sym h.1) (stays a)
 of_graph_leaves g task used files a b (WrongSum x y z value sum) h = subst (ReportStays a) (sym h.1) (stays a)
 of_graph_leaves g task used files a b (Undecided tried t n) h = subst (ReportStays a) (sym h.2) (stays a)
-of_graph_leaves g task used files a b (Graph why) h = absurd h
-of_graph_leaves g task used files a b ReadFault h = absurd h
-of_graph_leaves g task used files a b WriteFault h =
-    stopping_leaves files (AreClausesFor g task used) (IsPairFor g task used) a b h.2
-of_graph_leaves g task used files a b TooLong h = absurd h
-of_graph_leaves g task used files a b Memory h = absurd h
+of_graph_leaves g task used files a b (Stopped why) h = stopping_leaves files (AreClausesFor g task used) (IsPairFor g task used) a b h.3
 
 pub report_is_left : (g : Aig) (task : Task) (files : Files) (a b : View) (v : Verdict) (noted : Option Rewriting) → IsJudged g task files a b v noted → ReportStays a b
 report_is_left g task files a b v noted (inl h) = of_graph_leaves g task (cut_of h.0) files a b v h.2

@@ -37,7 +37,7 @@ use Rattle.joint_prover.specs.declared.ending.Ending.TheVariants.{Differs}
 use Rattle.joint_prover.specs.declared.task.Task.{Task}
 use Rattle.joint_prover.specs.declared.verdict.Tried.{Tried}
 use Rattle.joint_prover.specs.declared.verdict.Verdict.{Verdict}
-use Rattle.joint_prover.specs.declared.verdict.Verdict.TheVariants.{Proved, Wrong, WrongSum, Undecided, Graph, ReadFault, WriteFault, TooLong, Memory}
+use Rattle.joint_prover.specs.declared.verdict.Verdict.TheVariants.{Proved, Wrong, WrongSum, Undecided, Stopped}
 use Rattle.joint_prover.specs.Endings.{AreLeast, IsEnded}
 use Rattle.joint_prover.specs.Pairs.{AreClausesFor, AreClausesOver, IsPairFor, IsPairOver, IsSpareFile, IsVersion}
 use Rattle.joint_prover.specs.Parts.{AreTriedBefore, IsAttempt, IsFileOf, IsOfGraph, IsToldOver, IsToldWrong, IsWritten, MayTell, MayTellOver, cut_named, header_of, verdict_in}
@@ -93,20 +93,17 @@ module _ (files : Files) (a b : View) where
 
       pub written_told : (v : Verdict) → Does task.claim e.graph → IsWritten l version clauses files a b v → IsToldOver e.graph task cut files a b v
       written_told Proved does h = (does, (clauses, certificate_text version l, pair_of (certificate_text version l) h.0, h.1))
-      written_told WriteFault does h = (
+      written_told (Stopped why) does h = (
         h.0,
+        h.1,
         does,
         stops (λ text. text ≡ clauses) (AreClausesOver e.graph task cut) (λ beside. IsFileOf l version) (IsPairOver e.graph task cut)
             (λ text is. subst (AreClausesOver e.graph task cut) (sym is) given)
-            (λ beside text is k. subst (λ c. IsPairOver e.graph task cut c text) (sym is) (pair_of text k)) h.1,
+            (λ beside text is k. subst (λ c. IsPairOver e.graph task cut c text) (sym is) (pair_of text k)) h.2,
       )
       written_told (Wrong x y value product) does h = absurd h
       written_told (WrongSum p q c value sum) does h = absurd h
       written_told (Undecided tried t n) does h = absurd h
-      written_told (Graph why) does h = absurd h
-      written_told ReadFault does h = absurd h
-      written_told TooLong does h = absurd h
-      written_told Memory does h = absurd h
 
   -- ---- and so of a graph
 
@@ -115,40 +112,29 @@ module _ (files : Files) (a b : View) where
   told_of g task used cut Proved over h = let w = h.1 in (h.0, (w.0, w.1, (cut, over, w.2), w.3))
   told_of g task used cut (Wrong x y value product) over h = h
   told_of g task used cut (WrongSum p q c value sum) over h = h
-  told_of g task used cut WriteFault over h = (
+  told_of g task used cut (Stopped why) over h = (
     h.0,
     h.1,
+    h.2,
     stops (AreClausesOver g task cut) (AreClausesFor g task used) (IsPairOver g task cut) (IsPairFor g task used)
-        (λ text k. (cut, over, k)) (λ clauses text c k. (cut, over, k)) h.2,
+        (λ text k. (cut, over, k)) (λ clauses text c k. (cut, over, k)) h.3,
   )
   told_of g task used cut (Undecided tried t n) over h = absurd h
-  told_of g task used cut (Graph why) over h = absurd h
-  told_of g task used cut ReadFault over h = absurd h
-  told_of g task used cut TooLong over h = absurd h
-  told_of g task used cut Memory over h = absurd h
 
 -- what is told of a graph that is wrong, whatever cut is in use
 pub wrong_told : (g : Aig) (task : Task) (cut : Option Cut) (files : Files) (a : View) (v : Verdict) → IsToldWrong g task.claim v → IsToldOver g task cut files a a v
 wrong_told g task cut files a (Wrong p q value product) h = (h, refl)
 wrong_told g task cut files a (WrongSum p q c value sum) h = (h, refl)
-wrong_told g task cut files a Memory h = absurd h
+wrong_told g task cut files a (Stopped why) h = absurd h
 wrong_told g task cut files a Proved h = absurd h
 wrong_told g task cut files a (Undecided tried t n) h = absurd h
-wrong_told g task cut files a (Graph why) h = absurd h
-wrong_told g task cut files a ReadFault h = absurd h
-wrong_told g task cut files a WriteFault h = absurd h
-wrong_told g task cut files a TooLong h = absurd h
 
 pub wrong_of : (g : Aig) (task : Task) (used : Option Cut) (files : Files) (a : View) (v : Verdict) → IsToldWrong g task.claim v → IsOfGraph g task used files a a v
 wrong_of g task used files a (Wrong p q value product) h = (h, refl)
 wrong_of g task used files a (WrongSum p q c value sum) h = (h, refl)
-wrong_of g task used files a Memory h = absurd h
+wrong_of g task used files a (Stopped why) h = absurd h
 wrong_of g task used files a Proved h = absurd h
 wrong_of g task used files a (Undecided tried t n) h = absurd h
-wrong_of g task used files a (Graph why) h = absurd h
-wrong_of g task used files a ReadFault h = absurd h
-wrong_of g task used files a WriteFault h = absurd h
-wrong_of g task used files a TooLong h = absurd h
 
 pub wrong_may_tell : (g : Aig) (task : Task) (used : Option Cut) (files : Files) (a b : View) (v : Option Verdict) → b ≡ a → IfSome v (IsToldWrong g task.claim) →
     MayTell g task used files a b v

@@ -2,6 +2,7 @@
 use Rattle.std.specs.Prelude.{◌≡◌, ℕ, ◌+◌, ◌*◌, ◌<◌, ◌≤◌, List, IfSome}
 use Rattle.std.specs.declared.option.Option.{Option}
 use Rattle.aiger_reader.specs.Refusals.{SpellsWithin}
+use Rattle.aiger_reader.specs.Stopping.{GivesDue}
 use Rattle.graph_core.specs.Graph.{Aig, SameUpToOperands}
 use Rattle.graph_core.specs.Graph.Operands.{product_under}
 use Rattle.graph_core.specs.declared.order.Order.TheVariants.{Separate}
@@ -14,8 +15,8 @@ use Rattle.joint_checker.specs.Files.{Files}
 use Rattle.joint_prover.specs.declared.rewriting.Rewriting.{Rewriting}
 use Rattle.joint_prover.specs.declared.task.Task.{Task}
 use Rattle.joint_prover.specs.declared.verdict.Verdict.{Verdict}
-use Rattle.joint_prover.specs.declared.verdict.Verdict.TheVariants.{Proved}
-use Rattle.joint_prover.specs.Verdicts.{GivesDue, IsVerdict}
+use Rattle.joint_prover.specs.declared.verdict.Verdict.TheVariants.{Proved, Stopped}
+use Rattle.joint_prover.specs.Verdicts.{IsVerdict}
 
 -- The file is at most that long and spells, up to the order of each gate's operands, a made multiplier of n bits with a ripple-carry
 -- adder, whose inputs are all bits of a and then all bits of b; the product of these is claimed, both unsigned; and the budget is at
@@ -32,9 +33,10 @@ pub record IsEnough (limit : ℕ) (task : Task) (file : List ℕ) : Type 0 where
 
 -- Where the file is told and the budget is enough for it, the verdict is `Proved`; or in its place a fault, which was counted, or want of
 -- memory.
-abbrev pub ProvesEnough : ℕ → Task → Option (List ℕ) → Verdict → Type 0
-ProvesEnough limit task told given = IfSome told (λ file. IsEnough limit task file → GivesDue Proved given)
+abbrev pub ProvesEnough : ℕ → Task → Files → View → View → Verdict → Type 0
+ProvesEnough limit task files before after given =
+    IfSome (bytes_under before files.graph) (λ file. IsEnough limit task file → GivesDue Stopped before after Proved given)
 
 abbrev pub EnoughIsProved : Type 0
 EnoughIsProved = (limit : ℕ) (task : Task) (files : Files) (before after : View) (given : Verdict) (noted : Option Rewriting) →
-    IsVerdict limit task files before after given noted → ProvesEnough limit task (bytes_under before files.graph) given
+    IsVerdict limit task files before after given noted → ProvesEnough limit task files before after given

@@ -2,6 +2,7 @@
 use Rattle.std.specs.Prelude.{◌≡◌, ◌⊎◌, ℕ, List, [], ◌∷◌, length, option_map}
 use Rattle.std.specs.declared.option.Option.{Option}
 use Rattle.std.specs.declared.option.Option.TheVariants.{None, Some}
+use Rattle.aiger_reader.specs.declared.stop.Stop.TheVariants as stop
 use Rattle.graph_core.specs.Algebra.{AgreeOnColumns}
 use Rattle.graph_core.specs.Algebra.Text.{IsLawfulAlgebraFile}
 use Rattle.graph_core.specs.Graph.{Aig}
@@ -23,7 +24,7 @@ use Rattle.joint_prover.specs.declared.rewriting.Rewriting.{Rewriting}
 use Rattle.joint_prover.specs.declared.task.Task.{Task}
 use Rattle.joint_prover.specs.declared.verdict.Tried.{Tried}
 use Rattle.joint_prover.specs.declared.verdict.Verdict.{Verdict}
-use Rattle.joint_prover.specs.declared.verdict.Verdict.TheVariants.{Proved, Wrong, WrongSum, Undecided, Graph, ReadFault, WriteFault, TooLong, Memory}
+use Rattle.joint_prover.specs.declared.verdict.Verdict.TheVariants.{Proved, Wrong, WrongSum, Undecided, Stopped}
 use Rattle.joint_prover.specs.declared.attempts.Attempt.{Attempt}
 use Rattle.joint_prover.specs.declared.attempts.Attempt.TheVariants as attempt
 use Rattle.joint_prover.specs.declared.clauses.Clauses.{Clauses}
@@ -55,8 +56,8 @@ pub record IsFileOf (l : Made) (version : ℕ) (text : List ℕ) : Type 0 where
 abbrev pub IsWritten : Made → ℕ → List ℕ → Files → View → View → Verdict → Type 0
 IsWritten l version clauses files before after Proved =
     IsFileOf l version (certificate_text version l) × WritesPair files clauses (certificate_text version l) before after
-IsWritten l version clauses files before after WriteFault =
-    Rose before.write_faults after.write_faults × StopsWriting files (λ text. text ≡ clauses) (λ beside. IsFileOf l version) before after
+IsWritten l version clauses files before after (Stopped why) =
+    (why ≡ stop.WriteFault) × Rose before.write_faults after.write_faults × StopsWriting files (λ text. text ≡ clauses) (λ beside. IsFileOf l version) before after
 IsWritten l version clauses files before after _ = ⊥
 
 -- the least numbers on which the graph differs are told
@@ -79,8 +80,8 @@ IsToldOver g task cut files before after Proved =
     WritesPair files clauses algebra before after)
 IsToldOver g task cut files before after (Wrong a b value product) = IsWrong g task.claim a b value product × (after ≡ before)
 IsToldOver g task cut files before after (WrongSum a b c value sum) = IsWrongSum g task.claim a b c value sum × (after ≡ before)
-IsToldOver g task cut files before after WriteFault =
-    Rose before.write_faults after.write_faults × Does task.claim g ×
+IsToldOver g task cut files before after (Stopped why) =
+    (why ≡ stop.WriteFault) × Rose before.write_faults after.write_faults × Does task.claim g ×
     StopsWriting files (AreClausesOver g task cut) (IsPairOver g task cut) before after
 IsToldOver g task cut files before after _ = ⊥
 
@@ -93,10 +94,9 @@ IsOfGraph g task used files before after (Wrong a b value product) = IsWrong g t
 IsOfGraph g task used files before after (WrongSum a b c value sum) = IsWrongSum g task.claim a b c value sum × (after ≡ before)
 IsOfGraph g task used files before after (Undecided tried step size) =
     IsFirstAbove g task.claim task.budget step size × AreTried g task.claim task.budget used tried.items × (after ≡ before) × HaveManyOnes g task.claim
-IsOfGraph g task used files before after WriteFault =
-    Rose before.write_faults after.write_faults × Does task.claim g ×
+IsOfGraph g task used files before after (Stopped why) =
+    (why ≡ stop.WriteFault) × Rose before.write_faults after.write_faults × Does task.claim g ×
     StopsWriting files (AreClausesFor g task used) (IsPairFor g task used) before after
-IsOfGraph g task used files before after _ = ⊥
 
 -- what was tried before the plan over the graph alone, with this cut in use or none
 abbrev pub AreTriedBefore : Aig → Claim → ℕ → Option Cut → List Tried → Type 0
@@ -146,20 +146,16 @@ pub record IsShownCut (g : Aig) (conflicts : ℕ) (s : Shown) : Type 0 where
   pub shown : IsShown g conflicts s.cut s.extended s.log.lines
   pub agree : Always s.extended.gates (AgreeOnColumns s.extended)
 
--- the note is told with these verdicts
+-- the note is told with each verdict but a stop
 abbrev pub note_with : Verdict → Rewriting → Option Rewriting
 note_with Proved n = Some n
 note_with (Wrong a b value product) n = Some n
 note_with (WrongSum a b c value sum) n = Some n
 note_with (Undecided tried step size) n = Some n
-note_with (Graph why) n = None
-note_with ReadFault n = None
-note_with WriteFault n = None
-note_with TooLong n = None
-note_with Memory n = None
+note_with (Stopped why) n = None
 
 -- a verdict on a graph with the note; or there is no memory
 abbrev pub IsJudged : Aig → Task → Files → View → View → Verdict → Option Rewriting → Type 0
 IsJudged g task files before after verdict noted =
     ((n : Rewriting) × IsNote g task.claim task.conflicts n × IsOfGraph g task (cut_of n) files before after verdict × (noted ≡ note_with verdict n)) ⊎
-    ((verdict ≡ Memory) × (noted ≡ None) × (after ≡ before))
+    ((verdict ≡ Stopped stop.Memory) × (noted ≡ None) × (after ≡ before))

@@ -1,11 +1,10 @@
 -- What `verify` says of a graph file, and where each verdict comes.
-use Rattle.std.specs.Prelude.{◌≡◌, ◌≢◌, ◌⊎◌, ℕ, ◌+◌, ◌*◌, ◌%◌, ◌<◌, ◌≤◌, Bool, true, false, List, ◌++◌, length, IfSome, IsSome, IsSomeAnd, ⊤}
+use Rattle.std.specs.Prelude.{◌≡◌, ◌≢◌, ◌⊎◌, ℕ, ◌+◌, ◌*◌, ◌%◌, ◌<◌, ◌≤◌, Bool, true, false, List, ◌++◌, length, IsSome, IsSomeAnd, ⊤}
 use Rattle.std.specs.declared.option.Option.{Option}
 use Rattle.std.specs.declared.option.Option.TheVariants.{None, Some}
-use Rattle.aiger_reader.specs.Refusals as reading
-use Rattle.aiger_reader.specs.Refusals.{IsGraphRefusal, SpellsWithin}
-use Rattle.aiger_reader.specs.declared.fail.ReadFail.{ReadFail}
-use Rattle.aiger_reader.specs.declared.fail.ReadFail.TheVariants as fail
+use Rattle.aiger_reader.specs.Refusals.{SpellsWithin}
+use Rattle.aiger_reader.specs.Stopping.{GivesDue, IsGraphStop, IsStop}
+use Rattle.aiger_reader.specs.declared.stop.Stop.TheVariants as stop
 use Rattle.frontier_core.specs.LeastDifference.{IsDifferenceAt, IsLeastDifference, IsLeastSumDifference, ones_from}
 use Rattle.frontier_core.specs.PlainOrder.{HasPlainSize}
 use Rattle.graph_core.specs.Graph.{Aig}
@@ -14,13 +13,14 @@ use Rattle.graph_core.specs.Graph.Operands.{Does, bits_of, inputs_of, output_mod
 use Rattle.graph_core.specs.declared.claim.Claim.{Claim}
 use Rattle.mv_desk.specs.View.{View, Rose, bytes_under}
 use Rattle.mv_desk.specs.declared.slot.Slot.{Slot}
+use Rattle.mv_desk.specs.declared.slot.Slot.TheVariants as slot
 use Rattle.ripple_graft.specs.declared.cut.Cut.{Cut}
 use Rattle.joint_checker.specs.Certificates.{IsPair}
 use Rattle.joint_checker.specs.Files.{Files, HasGraph}
 use Rattle.joint_prover.specs.declared.rewriting.Rewriting.{Rewriting}
 use Rattle.joint_prover.specs.declared.task.Task.{Task}
 use Rattle.joint_prover.specs.declared.verdict.Verdict.{Verdict}
-use Rattle.joint_prover.specs.declared.verdict.Verdict.TheVariants.{Proved, Wrong, WrongSum, Undecided, Graph, ReadFault, WriteFault, TooLong, Memory}
+use Rattle.joint_prover.specs.declared.verdict.Verdict.TheVariants.{Proved, Wrong, WrongSum, Undecided, Stopped}
 use Rattle.joint_prover.specs.Notes.{IsNote, cut_of}
 use Rattle.joint_prover.specs.Pairs.{AreClausesFor, IsPairFor}
 use Rattle.joint_prover.specs.Tries.{AreTried, IsWithinBudget}
@@ -86,8 +86,8 @@ HasNote g task noted P = IsSomeAnd noted (λ n. IsNote g task.claim task.conflic
 abbrev pub IsOfFile : ℕ → Task → Files → View → (Aig → Type 0) → Type 0
 IsOfFile limit task files before P = HasGraph (profile_of task.claim.add) limit (bytes_under before files.graph) P
 
--- Where each verdict comes, and what was done to the files. With each but the first and `WriteFault` nothing was created. There is a
--- note with the first four, and with no other.
+-- Where each verdict comes, and what was done to the files. With each but the first and a write fault nothing was created. There is a
+-- note with each but a stop.
 abbrev pub IsVerdict : ℕ → Task → Files → View → View → Verdict → Option Rewriting → Type 0
 IsVerdict limit task files before after Proved noted =
     IsOfFile limit task files before (λ g. Does task.claim g × HasNote g task noted (λ used.
@@ -103,28 +103,14 @@ IsVerdict limit task files before after (Undecided tried step size) noted =
     IsOfFile limit task files before (λ g. IsFirstAbove g task.claim task.budget step size ×
     HasNote g task noted (λ used. AreTried g task.claim task.budget used tried.items) × HaveManyOnes g task.claim) ×
     ReadsGraph before after
-IsVerdict limit task files before after (Graph why) noted =
-    IfSome (bytes_under before files.graph) (λ bytes. IsGraphRefusal (profile_of task.claim.add) limit bytes why) ×
-    ReadsGraph before after × (noted ≡ None)
-IsVerdict limit task files before after ReadFault noted =
-    Rose before.read_faults after.read_faults × ReadsGraph before after × (noted ≡ None)
-IsVerdict limit task files before after WriteFault noted =
+IsVerdict limit task files before after (Stopped stop.WriteFault) noted =
     Rose before.write_faults after.write_faults ×
     IsOfFile limit task files before (λ g. Does task.claim g ×
     ((n : Rewriting) × IsNote g task.claim task.conflicts n × (read : View) × ReadsGraph before read ×
     StopsWriting files (AreClausesFor g task (cut_of n)) (IsPairFor g task (cut_of n)) read after)) × (noted ≡ None)
-IsVerdict limit task files before after TooLong noted =
-    IfSome (bytes_under before files.graph) (reading.IsTooLong (profile_of task.claim.add) limit) × ReadsGraph before after × (noted ≡ None)
-IsVerdict limit task files before after Memory noted = ReadsGraph before after × (noted ≡ None)
-
--- no graph was read
-abbrev pub answer_of_graph : ReadFail → Verdict
-answer_of_graph (fail.Text p) = Graph (fail.Text p)
-answer_of_graph (fail.Header f) = Graph (fail.Header f)
-answer_of_graph (fail.Graph f) = Graph (fail.Graph f)
-answer_of_graph fail.Fault = ReadFault
-answer_of_graph fail.TooLong = TooLong
-answer_of_graph fail.Memory = Memory
+IsVerdict limit task files before after (Stopped why) noted =
+    IsStop (IsGraphStop slot.Graph (profile_of task.claim.add) limit (bytes_under before files.graph)) before after why ×
+    ReadsGraph before after × (noted ≡ None)
 
 -- ---- what users rest on
 
@@ -157,16 +143,12 @@ IsVerdictDue limit task file (WrongSum a b c value sum) =
     (g : Aig) × SpellsWithin (profile_of task.claim.add) limit file g ×
     (IsWithinBudget g task.claim task.budget ⊎ HasFewOnes (inputs_of task.claim.order (sum_width g) a b ++ bits_of (2 * sum_width g) c)) ×
     IsWrongSum g task.claim a b c value sum
-IsVerdictDue limit task file (Graph why) = IsGraphRefusal (profile_of task.claim.add) limit file why
-IsVerdictDue limit task file TooLong = reading.IsTooLong (profile_of task.claim.add) limit file
+IsVerdictDue limit task file (Stopped why) = IsGraphStop slot.Graph (profile_of task.claim.add) limit (Some file) why
 IsVerdictDue limit task file _ = ⊥
 
--- The verdict that is due is given; or in its place a fault, which was counted, or want of memory.
-abbrev pub GivesDue : Verdict → Verdict → Type 0
-GivesDue due given = (given ≡ due) ⊎ (given ≡ ReadFault) ⊎ (given ≡ WriteFault) ⊎ (given ≡ Memory)
-
+-- It is given; or in its place a fault, which was counted, or want of memory.
 abbrev pub VerdictsAreExact : Type 0
 VerdictsAreExact = (limit : ℕ) (task : Task) (files : Files) (before after : View) (file : List ℕ)
     (due given : Verdict) (noted : Option Rewriting) →
     bytes_under before files.graph ≡ Some file → IsVerdictDue limit task file due →
-    IsVerdict limit task files before after given noted → GivesDue due given
+    IsVerdict limit task files before after given noted → GivesDue Stopped before after due given

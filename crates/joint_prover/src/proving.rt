@@ -5,12 +5,12 @@ ghost use Rattle.graph_core.specs.Graph.{IsWellFormed};
 ghost use Rattle.graph_core.specs.Graph.Operands.{profile_of};
 ghost use Rattle.stage_rewriter.specs.Rewriting.{Agrees, IsRewriting};
 ghost use Rattle.joint_checker.specs.Files.{files_of};
-ghost use Rattle.mv_desk.specs.View.{KeepsTelling, OpensFiles, bytes_under};
+ghost use Rattle.mv_desk.specs.View.{KeepsTelling, OpensFiles};
 ghost use Rattle.joint_prover.specs.Budgets.{ProvesEnough};
 ghost use Rattle.joint_prover.specs.Notes.{IsNote, cut_of};
 ghost use Rattle.joint_prover.specs.Pairs.{IsVersion};
 ghost use Rattle.joint_prover.specs.Parts.{IsJob, IsJudged, IsOfGraph, note_with, task_of};
-ghost use Rattle.joint_prover.specs.Verdicts.{IsVerdict, answer_of_graph};
+ghost use Rattle.joint_prover.specs.Verdicts.{IsVerdict};
 ghost use Rattle.joint_checker.specs.Written.{ReportStays};
 
 use crate::found::over_found;
@@ -20,7 +20,7 @@ use crate::rewriting::{Rewriting, note};
 use crate::soon::told_soon;
 use crate::task::Task;
 use crate::verdict::Verdict;
-use aiger_reader::{ReadFail, read_file};
+use aiger_reader::{Stop, read_graph};
 use graph_core::{Graph, Memory, Operands};
 use mv_desk::{Desk, Limits, Names, Slot};
 use stage_rewriter::{Rewritten, rewrite};
@@ -39,8 +39,8 @@ pub fn verify<D: Desk>(
     ensures verdict { IsVerdict limits.now.graph task.now (files_of names.now)
         (D.seen desk.old) (D.seen desk.new) result.0 result.1 }
     // With enough budget a made multiplier with a ripple-carry adder is proved, but for a fault or want of memory.
-    ensures enough { ProvesEnough limits.now.graph task.now
-        (bytes_under (D.seen desk.old) (files_of names.now).graph) result.0 }
+    ensures enough { ProvesEnough limits.now.graph task.now (files_of names.now)
+        (D.seen desk.old) (D.seen desk.new) result.0 }
     ensures report { ReportStays (D.seen desk.old) (D.seen desk.new) }
     // The graph file, failed or not; files that are created don't count.
     ensures opened { OpensFiles 1 (D.seen desk.old) (D.seen desk.new) }
@@ -48,9 +48,9 @@ pub fn verify<D: Desk>(
     ensures tells { KeepsTelling (D.seen desk.old) (D.seen desk.new) }
 {
     let profile = task.claim.profile();
-    match read_file(alloc, desk, Slot::Graph, names.graph, profile, limits) {
+    match read_graph(alloc, desk, Slot::Graph, names.graph, profile, limits) {
         Ok(graph) => judge(alloc, desk, task, &graph, names),
-        Err(fail) => (unread(fail), None),
+        Err(why) => (Verdict::Stopped(why), None),
     }
 }
 
@@ -72,7 +72,7 @@ fn judge<D: Desk>(
 {
     match judge_noted(alloc, desk, task, graph, names) {
         Ok((verdict, note)) => with_note(verdict, note),
-        Err(_) => (Verdict::Memory, None),
+        Err(_) => (Verdict::Stopped(Stop::Memory), None),
     }
 }
 
@@ -162,29 +162,14 @@ fn judge_further<D: Desk>(
     }
 }
 
-// A note is told with four of the verdicts.
+// A note is told with each verdict but a stop.
 fn with_note(verdict: Verdict, note: Rewriting) -> (Verdict, Option<Rewriting>)
     ensures verdict { result.0 ≡ verdict }
     ensures note { result.1 ≡ note_with verdict note }
 {
     let told = match verdict {
-        Verdict::Proved
-        | Verdict::Wrong { .. }
-        | Verdict::WrongSum { .. }
-        | Verdict::Undecided { .. } => Some(note),
-        _ => None,
+        Verdict::Stopped(_) => None,
+        _ => Some(note),
     };
     (verdict, told)
-}
-
-// What is answered where no graph is read.
-fn unread(fail: ReadFail) -> Verdict
-    ensures { result ≡ answer_of_graph fail }
-{
-    match fail {
-        ReadFail::Fault => Verdict::ReadFault,
-        ReadFail::TooLong => Verdict::TooLong,
-        ReadFail::Memory => Verdict::Memory,
-        refusal => Verdict::Graph(refusal),
-    }
 }

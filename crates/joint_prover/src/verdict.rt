@@ -1,5 +1,5 @@
 // The ends of a verification.
-use aiger_reader::ReadFail;
+use aiger_reader::Stop;
 
 /// What `verify` says of a graph.
 #[derive(Debug, Drop)]
@@ -28,15 +28,8 @@ pub enum Verdict {
         plain_step: u64,
         plain_size: u64,
     },
-    /// The graph file spells no graph: its first refusal, a `Text`, `Header` or `Graph`.
-    Graph(ReadFail),
-    /// Opening or reading the graph file failed.
-    ReadFault,
-    /// Creating or writing a certificate failed: what is there is a front part.
-    WriteFault,
-    /// The graph file is longer than its limit, and no refusal comes before that.
-    TooLong,
-    Memory,
+    /// There is no such answer. With a write fault what is there is a front part of a certificate.
+    Stopped(Stop),
 }
 
 /// A plan that passed the budget: a frontier of it above the budget, and how many monomials that has.

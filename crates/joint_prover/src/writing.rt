@@ -11,6 +11,7 @@ ghost use Rattle.joint_prover.specs.Parts.{IsFileOf, IsWritten};
 ghost use Rattle.joint_checker.specs.Written.{StopsAt, StopsWriting, WritesFile, WritesPair};
 
 use crate::verdict::Verdict;
+use aiger_reader::Stop;
 use clause_core::Line;
 use drup_text::{Header, write_clauses};
 use mv_desk::{Desk, Failed, Names, Slot, WriteFault};
@@ -35,7 +36,7 @@ pub(crate) fn written<D: Desk>(
 {
     match write_pair(desk, lines, header, log, names) {
         Ok(()) => Verdict::Proved,
-        Err(_) => Verdict::WriteFault,
+        Err(_) => Verdict::Stopped(Stop::WriteFault),
     }
 }
 

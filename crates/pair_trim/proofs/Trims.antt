@@ -1,5 +1,8 @@
 -- What `trim` answers, of an accepted pair and of what is chosen of it.
-use Rattle.std.proofs.Common.{List, ℕ, None, Some, refl, sym, subst, ◌∙◌}
+use Rattle.std.proofs.Common.{◌≢◌, List, ℕ, None, Some, refl, sym, subst, ◌∙◌, inl, inr, ⊎_elim}
+use Rattle.aiger_reader.specs.declared.stop.Stop.TheVariants as stop
+use Rattle.graph_core.specs.declared.profile.Profile.{Profile}
+use Rattle.mv_desk.specs.View.{View}
 use Rattle.std.specs.Prelude.{IfSome, true}
 use Rattle.std.specs.declared.option.Option.{Option}
 use Rattle.graph_core.specs.Algebra.{modulus}
@@ -12,11 +15,16 @@ use Rattle.poly_terms.specs.Tables.{Table}
 use Rattle.poly_text.specs.Recorded.{lines_in}
 use Rattle.joint_checker.specs.ClauseFiles.{AddsClauses, HasLawfulLines}
 use Rattle.joint_checker.specs.Files.{Texts}
+use Rattle.joint_checker.specs.Outcome.{OpensNeeded}
+use Rattle.joint_checker.specs.declared.checked.Checked.TheVariants as checked
 use Rattle.joint_checker.specs.Judged.{IsJudgedPair, IsToldPair, extended_of}
 use Rattle.joint_checker.specs.Records.{IsRecordOf}
 use Rattle.joint_checker.specs.declared.checking.Judged.{Judged}
 use Rattle.pair_trim.specs.Choosing.{HasChosen, IsChosen}
 use Rattle.pair_trim.specs.NewPairs.{IsTrimOf, algebra_text, clauses_text}
+use Rattle.pair_trim.specs.Trimming.{Files, IsAnswer, IsNotAccepted, checked_of}
+use Rattle.pair_trim.specs.declared.answer.TrimAnswer.{TrimAnswer}
+use Rattle.pair_trim.specs.declared.answer.TrimAnswer.TheVariants as trim
 use Rattle.pair_trim.specs.declared.answer.Trimmed.{Trimmed}
 use Rattle.pair_trim.proofs.NewPair.{clauses_kept, lines_trimmed, pair}
 
@@ -58,3 +66,23 @@ module _ (limits : Limits) (claim : Claim) (j : Judged) (t : Trimmed) (judged : 
     told.graph,
     (judged.does, both_told texts.clauses texts.algebra _ _ (λ clauses algebra. IsTrimOf (lengths_of limits) j.graph claim clauses algebra t (clauses_text t) (algebra_text t)) trim_is told.clauses told.algebra),
   )
+
+-- ---- a pair that isn't accepted
+
+-- no memory for what is kept of one that is
+pub needed_without_memory : (profile : Profile) (limits : Limits) (texts : Texts) (a b : View) → OpensNeeded profile limits texts a b checked.Accepted → OpensNeeded profile limits texts a b (checked.Stopped stop.Memory)
+needed_without_memory profile limits texts a b o = record {
+  clauses = ⊎_elim inl (λ n. inr (n.0, λ k. k)) o.clauses;
+  algebra = ⊎_elim inl (λ n. inr ((n.0.0, λ k. k), n.1, λ k. k)) o.algebra;
+  other = o.other;
+}
+
+pub not_accepted_answers : (limits : Limits) (claim : Claim) (files : Files) (a b : View) (answer : TrimAnswer) → checked_of answer ≢ checked.Accepted → IsNotAccepted limits claim files a b (checked_of answer) →
+    IsAnswer limits claim files a b answer
+not_accepted_answers limits claim files a b (trim.Trimmed t) other h = absurd (other refl)
+not_accepted_answers limits claim files a b (trim.Refused why) other h = h
+not_accepted_answers limits claim files a b (trim.Stopped (stop.Graph at why)) other h = h
+not_accepted_answers limits claim files a b (trim.Stopped (stop.TooLong at)) other h = h
+not_accepted_answers limits claim files a b (trim.Stopped stop.ReadFault) other h = h
+not_accepted_answers limits claim files a b (trim.Stopped stop.WriteFault) other h = absurd h.outcome_is
+not_accepted_answers limits claim files a b (trim.Stopped stop.Memory) other h = h

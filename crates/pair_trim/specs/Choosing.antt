@@ -13,13 +13,9 @@ use Rattle.poly_text.specs.WrittenLines.{IsWritable}
 use Rattle.poly_text.specs.declared.line.PacLine.{PacLine}
 use Rattle.joint_checker.specs.Files.{HasGraph, Texts}
 use Rattle.joint_checker.specs.Judged.{extended_of}
-use Rattle.joint_checker.specs.declared.checked.Checked.{Checked}
-use Rattle.joint_checker.specs.declared.checked.Checked.TheVariants as checked
 use Rattle.joint_checker.specs.declared.checking.Judged.{Judged}
 use Rattle.trim_keeper.specs.Lines.{AreLinesKept, all_renumbered, imports_in}
 use Rattle.trim_keeper.specs.Marking.{IsKeptOf}
-use Rattle.pair_trim.specs.declared.answer.TrimAnswer.{TrimAnswer}
-use Rattle.pair_trim.specs.declared.answer.TrimAnswer.TheVariants as trim
 use Rattle.pair_trim.specs.declared.answer.Trimmed.{Trimmed}
 use Rattle.pair_trim.specs.NewPairs.{IsTrimOf, algebra_text, clauses_text}
 
@@ -50,12 +46,3 @@ pub record CanBeWritten (t : Trimmed) : Type 0 where
 abbrev pub HasChosen : Limits → Claim → Texts → Trimmed → Type 0
 HasChosen limits claim texts t = HasGraph (profile_of claim.add) limits.graph texts.graph (λ g. Does claim g ×
     IfSome texts.clauses (λ clauses. IfSome texts.algebra (λ algebra. IsTrimOf (lengths_of limits) g claim clauses algebra t (clauses_text t) (algebra_text t))))
-
--- what is answered where `check` doesn't accept
-abbrev pub answer_of : Checked → TrimAnswer
-answer_of checked.Memory = trim.Memory
-answer_of checked.Accepted = trim.Not checked.Accepted
-answer_of (checked.Refused why) = trim.Not (checked.Refused why)
-answer_of (checked.Graph why) = trim.Not (checked.Graph why)
-answer_of checked.ReadFault = trim.Not checked.ReadFault
-answer_of (checked.TooLong at) = trim.Not (checked.TooLong at)

@@ -1,11 +1,12 @@
 -- What `trim` says of five files, where each answer comes, and what is done to the files.
 use Rattle.std.specs.Prelude.{◌≡◌, ◌≢◌, ℕ, List, IfSome, IsSome, Some}
 use Rattle.aiger_reader.specs.Refusals.{SpellsWithin}
+use Rattle.aiger_reader.specs.declared.stop.Stop.TheVariants as stop
 use Rattle.graph_core.specs.Graph.{Aig}
 use Rattle.graph_core.specs.Graph.Operands.{Does, profile_of}
 use Rattle.graph_core.specs.declared.claim.Claim.{Claim}
 use Rattle.mv_desk.specs.Calls.{Inspects}
-use Rattle.mv_desk.specs.View.{View, IsHeld, OpensAtMost, OpensFiles, Rose, bytes_under}
+use Rattle.mv_desk.specs.View.{View, IsHeld, Rose, bytes_under}
 use Rattle.mv_desk.specs.declared.limits.Limits.{Limits}
 use Rattle.mv_desk.specs.declared.names.Names.{Names}
 use Rattle.mv_desk.specs.declared.slot.Slot.{Slot}
@@ -13,8 +14,9 @@ use Rattle.mv_desk.specs.declared.slot.Slot.TheVariants as slot
 use Rattle.mv_text.specs.LineReading.{lengths_of}
 use Rattle.joint_checker.specs.Files as checking
 use Rattle.joint_checker.specs.Files.{HasGraph, Texts, texts_of}
-use Rattle.joint_checker.specs.Outcome.{IsDue, IsOutcome, OpensFor, OpensNeeded}
+use Rattle.joint_checker.specs.Outcome.{IsDue, IsOutcome, OpensNeeded}
 use Rattle.joint_checker.specs.Written.{StopsWriting, WritesPair}
+use Rattle.joint_checker.specs.declared.checked.Checked.{Checked}
 use Rattle.joint_checker.specs.declared.checked.Checked.TheVariants as checked
 use Rattle.pair_trim.specs.declared.answer.TrimAnswer.{TrimAnswer}
 use Rattle.pair_trim.specs.declared.answer.TrimAnswer.TheVariants as trim
@@ -58,31 +60,32 @@ HasTrim limits claim files before t P = HasGraph (profile_of claim.add) limits.g
     IfSome (bytes_under before files.clauses) (λ old. IfSome (bytes_under before files.algebra) (λ other.
     IsTrimOf (lengths_of limits) g claim old other t clauses algebra)) × P clauses algebra))
 
--- Where each answer comes, as far as the desk tells the files. With `Not` and `Memory` nothing was created.
+-- what `check` says of the pair
+abbrev pub checked_of : TrimAnswer → Checked
+checked_of (trim.Trimmed t) = checked.Accepted
+checked_of (trim.Refused why) = checked.Refused why
+checked_of (trim.Stopped why) = checked.Stopped why
+
+-- The pair isn't accepted, and nothing was created.
+pub record IsNotAccepted (limits : Limits) (claim : Claim) (files : Files) (before after : View) (outcome : Checked) : Type 0 where
+  pub outcome_is : IsOutcome limits claim (old_files files) before after outcome
+  pub opens : OpensNeeded (profile_of claim.add) limits (texts_of before (old_files files)) before after outcome
+  pub inspects : Inspects before after
+
+-- Where each answer comes, as far as the desk tells the files.
 abbrev pub IsAnswer : Limits → Claim → Files → View → View → TrimAnswer → Type 0
 IsAnswer limits claim files before after (trim.Trimmed t) =
     IsOutcome limits claim (old_files files) before after checked.Accepted ×
     HasTrim limits claim files before t (λ clauses algebra. (read : View) × ReadsOld files before read × WritesPair (new_files files) clauses algebra read after)
-IsAnswer limits claim files before after (trim.Not outcome) =
-    (outcome ≢ checked.Accepted) × (outcome ≢ checked.Memory) × IsOutcome limits claim (old_files files) before after outcome ×
-    OpensNeeded (profile_of claim.add) limits (texts_of before (old_files files)) before after outcome × Inspects before after
-IsAnswer limits claim files before after trim.WriteFault =
+IsAnswer limits claim files before after (trim.Stopped stop.WriteFault) =
     Rose before.write_faults after.write_faults × IsOutcome limits claim (old_files files) before after checked.Accepted ×
     ((t : Trimmed) × HasTrim limits claim files before t (λ clauses algebra. (read : View) × ReadsOld files before read ×
     StopsWriting (new_files files) (λ text. text ≡ clauses) (λ beside text. text ≡ algebra) read after))
-IsAnswer limits claim files before after trim.Memory = Inspects before after
-
--- how many files were opened
-abbrev pub OpensForAnswer : TrimAnswer → View → View → Type 0
-OpensForAnswer (trim.Not outcome) before after = OpensFor outcome before after
-OpensForAnswer trim.Memory before after = OpensAtMost 3 before after
-OpensForAnswer _ before after = OpensFiles 3 before after
+IsAnswer limits claim files before after given = IsNotAccepted limits claim files before after (checked_of given)
 
 -- The answer that is due: where `check` accepts, something is kept; else that of `check`.
 abbrev pub IsTrimDue : Limits → Claim → Texts → TrimAnswer → Type 0
-IsTrimDue limits claim texts (trim.Trimmed t) = IsDue limits claim texts checked.Accepted
-IsTrimDue limits claim texts (trim.Not outcome) = (outcome ≢ checked.Accepted) × IsDue limits claim texts outcome
-IsTrimDue limits claim texts _ = ⊥
+IsTrimDue limits claim texts given = IsDue limits claim texts (checked_of given)
 
 -- ---- what users rest on
 

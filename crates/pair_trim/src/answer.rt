@@ -1,8 +1,9 @@
 // What trimming ends with.
+use aiger_reader::Stop;
 use clause_core::Line;
 use drup_checker::Numbers;
 use drup_text::Header;
-use joint_checker::Checked;
+use joint_checker::Refusal;
 use poly_terms::Terms;
 use poly_text::PacLine;
 
@@ -27,15 +28,13 @@ pub struct Trimmed {
     pub of_algebra: u64,
 }
 
-/// What `trim` says of a graph and its certificates.
+/// What `trim` says of a graph and its certificates. Files are created only with `Trimmed` and a `WriteFault`.
 #[derive(Drop)]
 pub enum TrimAnswer {
     /// The pair is accepted, and what is kept of it was written.
     Trimmed(Trimmed),
-    /// It isn't accepted, and nothing was created: what `check` says.
-    Not(Checked),
-    /// Creating or writing a file failed.
-    WriteFault,
-    /// Nothing was created.
-    Memory,
+    /// A certificate is refused, as `check` says.
+    Refused(Refusal),
+    /// There is no such answer.
+    Stopped(Stop),
 }

@@ -1,5 +1,5 @@
 // The three files, and what is used of them.
-ghost use Rattle.std.specs.Prelude.{◌≡◌, ◌≢◌, IfErr, IfOk, OnOk};
+ghost use Rattle.std.specs.Prelude.{◌≢◌, IfErr, IfOk, OnOk};
 ghost use Rattle.graph_core.specs.Graph.Operands.{profile_of};
 ghost use Rattle.mv_desk.specs.View.{KeepsTelling, OpensFiles};
 ghost use Rattle.joint_checker.specs.Files.{files_of, texts_of};
@@ -30,16 +30,13 @@ pub(crate) fn read_trimmed<D: Desk>(
     ensures refused { IfErr result (IsOutcome limits.now claim (files_of names.now)
         (D.seen desk.old) (D.seen desk.new)) }
     ensures not_accepted { IfErr result (λ answer. answer ≢ Checked.Accepted) }
-    ensures opens { IfErr result (λ answer. answer ≢ Checked.Memory → OpensNeeded (profile_of claim.add) limits.now
-        (texts_of (D.seen desk.old) (files_of names.now)) (D.seen desk.old) (D.seen desk.new) answer) }
+    ensures opens { IfErr result (OpensNeeded (profile_of claim.add) limits.now
+        (texts_of (D.seen desk.old) (files_of names.now)) (D.seen desk.old) (D.seen desk.new)) }
     ensures opened_all { OnOk result (OpensFiles 3 (D.seen desk.old) (D.seen desk.new)) }
     ensures opened { IfErr result (λ answer. OpensFor answer (D.seen desk.old) (D.seen desk.new)) }
     ensures reads { ReadsOld (trimming.files_of names.now) (D.seen desk.old) (D.seen desk.new) }
     ensures tells { KeepsTelling (D.seen desk.old) (D.seen desk.new) }
 {
     let judged = judge_pair(alloc, desk, claim, limits, names, true)?;
-    match choose(alloc, claim, judged) {
-        Ok(kept) => Ok(kept),
-        Err(memory) => Err(Checked::from(memory)),
-    }
+    Ok(choose(alloc, claim, judged)?)
 }

@@ -1,12 +1,13 @@
 // `trim`: a pair is read and judged, and what is used of it is written.
-ghost use Rattle.std.specs.Prelude.{◌≡◌, ◌≤◌};
+ghost use Rattle.std.specs.Prelude.{◌≡◌, ◌≢◌, ◌≤◌};
 ghost use Rattle.mv_desk.specs.View.{KeepsTelling};
-ghost use Rattle.pair_trim.specs.Choosing.{answer_of};
-ghost use Rattle.pair_trim.specs.Trimming.{IsAnswer, OpensForAnswer, files_of};
+ghost use Rattle.joint_checker.specs.Outcome.{OpensFor};
+ghost use Rattle.pair_trim.specs.Trimming.{IsAnswer, checked_of, files_of};
 
 use crate::answer::TrimAnswer;
 use crate::reading::read_trimmed;
 use crate::writing::write_pair;
+use aiger_reader::Stop;
 use graph_core::Claim;
 use joint_checker::Checked;
 use mv_desk::{Desk, Limits, Names};
@@ -23,14 +24,14 @@ pub fn trim<D: Desk>(
     names: &Names<'_>,
 ) -> TrimAnswer
     ensures answer { IsAnswer limits.now claim (files_of names.now) (D.seen desk.old) (D.seen desk.new) result }
-    ensures opened { OpensForAnswer result (D.seen desk.old) (D.seen desk.new) }
+    ensures opened { OpensFor (checked_of result) (D.seen desk.old) (D.seen desk.new) }
     ensures later { (D.seen desk.old).write_faults ≤ (D.seen desk.new).write_faults }
     ensures tells { KeepsTelling (D.seen desk.old) (D.seen desk.new) }
 {
     match read_trimmed(alloc, desk, claim, limits, names) {
         Ok(kept) => match write_pair(desk, &kept, names) {
             Ok(()) => TrimAnswer::Trimmed(kept),
-            Err(_) => TrimAnswer::WriteFault,
+            Err(_) => TrimAnswer::Stopped(Stop::WriteFault),
         },
         Err(checked) => not_accepted(checked),
     }
@@ -38,10 +39,12 @@ pub fn trim<D: Desk>(
 
 // What is answered where nothing is written.
 fn not_accepted(checked: Checked) -> TrimAnswer
-    ensures { result ≡ answer_of checked }
+    requires { checked ≢ Checked.Accepted }
+    ensures { checked_of result ≡ checked }
 {
     match checked {
-        Checked::Memory => TrimAnswer::Memory,
-        other => TrimAnswer::Not(other),
+        Checked::Accepted => unreachable!(),
+        Checked::Refused(why) => TrimAnswer::Refused(why),
+        Checked::Stopped(why) => TrimAnswer::Stopped(why),
     }
 }

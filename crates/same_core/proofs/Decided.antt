@@ -1,6 +1,6 @@
 -- The answers of `same`, by what the solver and the desk come to.
 use Rattle.std.specs.Prelude.{◌≡◌, ℕ, Bool, List, length, map}
-use Rattle.std.proofs.Common.{ap, arith, subst}
+use Rattle.std.proofs.Common.{arith, subst}
 use Rattle.std.specs.Global.{Global}
 use Rattle.std.specs.declared.vec.Vec.{Vec}
 use Rattle.cdcl_core.specs.Logs.{LogView}
@@ -18,6 +18,7 @@ use Rattle.mv_desk.specs.View.{Rose, View}
 use Rattle.mv_desk.specs.declared.limits.Limits.{Limits}
 use Rattle.same_core.specs.declared.pairs.PairFail.{PairFail}
 use Rattle.same_core.specs.declared.pairs.PairFail.TheVariants as pair
+use Rattle.aiger_reader.specs.declared.stop.Stop.TheVariants as stop
 use Rattle.same_core.specs.declared.verdict.Same.TheVariants as same
 use Rattle.same_core.specs.Answers.{same_of_pair}
 use Rattle.same_core.specs.Deciding.{AreWritten, IsAnswer, ReadsGraphs, StopsAt, WritesFile}
@@ -32,14 +33,15 @@ use Rattle.same_core.proofs.Ranges.{both_merged}
 
 module _ (limits : Limits) (conflicts : ℕ) (files : Files) (a b : View) (inspects : Inspects a b) where
   pub pair_fails : (given : PairFail) → IsPairFail limits files a b given → IsAnswer limits conflicts files a b (same_of_pair given)
-  pair_fails (pair.Graph at why) h = (h.0, inspects)
-  pair_fails pair.ReadFault h = (h.0, inspects)
-  pair_fails pair.Memory h = inspects
-  pair_fails (pair.TooLong at) h = ((λ e. h.1 (ap (λ s. pair.TooLong s) e)), h.0, inspects)
-  pair_fails pair.Shapes h = (h.0, inspects)
+  pair_fails pair.Shapes h = (h, inspects)
+  pair_fails (pair.Stopped (stop.Graph at why)) h = (h, inspects)
+  pair_fails (pair.Stopped (stop.TooLong at)) h = (h, inspects)
+  pair_fails (pair.Stopped stop.ReadFault) h = (h, inspects)
+  pair_fails (pair.Stopped stop.WriteFault) h = absurd h
+  pair_fails (pair.Stopped stop.Memory) h = (tt, inspects)
 
   -- writing stopped
-  pub stopped : (lines : List ClauseLine) (c : View) → StopsAt files.clauses lines b c → Rose b.write_faults c.write_faults → IsAnswer limits conflicts files a c same.WriteFault
+  pub stopped : (lines : List ClauseLine) (c : View) → StopsAt files.clauses lines b c → Rose b.write_faults c.write_faults → IsAnswer limits conflicts files a c (same.Stopped stop.WriteFault)
   stopped lines c stops rose = (subst (λ (n : ℕ). Rose n c.write_faults) inspects.write_faults rose, (lines, b, inspects, stops))
 
   module _ (g : Aig) (m : Both) (p : IsPairOf limits.graph (texts_of a files) g m) where

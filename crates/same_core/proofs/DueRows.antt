@@ -2,10 +2,11 @@
 -- the clause file.
 use Rattle.std.proofs.Common.{◌≡◌, ℕ, List, Option, Some, None, refl, sym, ap, subst, ◌∙◌, inl, inr, ⊎_elim}
 use Rattle.std.specs.Prelude.{◌⊎◌, IsSome, length}
-use Rattle.aiger_reader.specs.Refusals.{IsGraphRefusal, IsTooLong, SpellsWithin}
-use Rattle.aiger_reader.specs.declared.fail.ReadFail.{ReadFail}
-use Rattle.aiger_reader.proofs.GraphFiles.{answer_of, one_graph_refusal, refused, refused_not_long, spelled_not_long, spelled_not_refused}
-use Rattle.aiger_reader.proofs.LimitLaws.{spelled_found_or_long}
+use Rattle.aiger_reader.specs.Refusals.{SpellsWithin}
+use Rattle.aiger_reader.specs.Stopping.{IsGraphStop}
+use Rattle.aiger_reader.specs.declared.stop.Stop.{Stop}
+use Rattle.aiger_reader.specs.declared.stop.Stop.TheVariants as stop
+use Rattle.aiger_reader.proofs.CallerLemmas.{IsLong-is, graph_exact, stop_gives}
 use Rattle.clause_judge.specs.LineRefusals.{line_cause}
 use Rattle.clause_judge.proofs.Causes.{next_exact}
 use Rattle.clause_judge.specs.declared.fail.ClauseWhy.{ClauseWhy}
@@ -25,16 +26,16 @@ use Rattle.mv_text.specs.LineReading.{lengths_of}
 use Rattle.same_core.specs.declared.checked.SameChecked.{SameChecked}
 use Rattle.same_core.specs.declared.checked.SameChecked.TheVariants as checked
 use Rattle.same_core.specs.declared.checked.SameRefusal.TheVariants as refusal
-use Rattle.same_core.specs.Certificates.{Goals, IsFileRefusal, IsLawful, Line, SameFault}
+use Rattle.same_core.specs.Certificates.{Goals, IsFileRefusal, IsLawful, IsLineRefusal, Line, SameFault}
 use Rattle.same_core.specs.Files.{Files, Texts, texts_of}
 use Rattle.same_core.specs.Merged.{AreOfOneShape, merged}
-use Rattle.same_core.specs.Outcome.{IsDue, IsExactAnswer, IsOutcome, OneAnswerIsDue, OutcomesAreExact}
+use Rattle.same_core.specs.Outcome.{IsDue, IsExactAnswer, IsOutcome, IsPairStopDue, MeetsClauses, OneAnswerIsDue, OutcomesAreExact}
 use Rattle.same_core.proofs.Wholes.{certificates_are_exact}
 
 -- ---- the answers by their causes
 
 abbrev line_answer : ℕ × LineCause → SameChecked
-line_answer (line, clausal.TooLong) = checked.TooLong slot.Clauses
+line_answer (line, clausal.TooLong) = checked.Stopped (stop.TooLong slot.Clauses)
 line_answer (line, clausal.Text) = checked.Refused (refusal.Clauses line why.Text)
 line_answer (line, clausal.Range) = checked.Refused (refusal.Clauses line why.Range)
 line_answer (line, clausal.NotImplied) = checked.Refused (refusal.Clauses line why.NotImplied)
@@ -57,16 +58,10 @@ module _ (limit : ℕ) (file : List ℕ) (at : Slot) where
   Spelled = (g : Aig) × SpellsWithin Any limit file g
 
   abbrev IsGraphRefused : SameChecked → Type 0
-  IsGraphRefused c = ((given : ReadFail) × IsGraphRefusal Any limit file given × (c ≡ checked.Graph at given)) ⊎ (IsTooLong Any limit file × (c ≡ checked.TooLong at))
+  IsGraphRefused c = (why : Stop) × IsGraphStop at Any limit (Some file) why × (c ≡ checked.Stopped why)
 
-  graph_exact : IsExact Spelled IsGraphRefused
-  graph_exact = record {
-    decided = ⊎_elim inl (λ h. inr (⊎_elim (λ r. (checked.Graph at (answer_of r.0), inl (answer_of r.0, refused Any limit file r.0 r.1, refl))) (λ long. (checked.TooLong at, inr (long, refl))) h)) (spelled_found_or_long Any limit file);
-    not_both = λ c s r. ⊎_elim (λ f. spelled_not_refused Any limit file s.0 f.0 s.1 f.1) (λ long. spelled_not_long Any limit file s.0 s.1 long.0) r;
-    one = λ a b r s. ⊎_elim
-        (λ f. ⊎_elim (λ g. f.2 ∙ ap (checked.Graph at) (one_graph_refusal Any limit file f.0 g.0 f.1 g.1) ∙ sym g.2) (λ long. absurd (refused_not_long Any limit file f.0 f.1 long.0)) s)
-        (λ long. ⊎_elim (λ g. absurd (refused_not_long Any limit file g.0 g.1 long.0)) (λ other. long.1 ∙ sym other.1) s) r;
-  }
+  graph_refused : IsExact Spelled IsGraphRefused
+  graph_refused = exact_map checked.Stopped (graph_exact Any limit file at)
 
   same_graph : (g h : Aig) → SpellsWithin Any limit file g → SpellsWithin Any limit file h → g ≡ h
   same_graph g h s t = one_graph Any file g h s.spells t.spells
@@ -141,7 +136,7 @@ module _ (limits : Limits) (file other clauses : List ℕ) where
   IsRefused c = IsGraphRefused limit file slot.Graph c ⊎ (First × (IsGraphRefused limit other slot.Other c ⊎ (Second × (AreShapesRefused c ⊎ (Shaped × AreClausesRefused c)))))
 
   all_exact : IsExact All IsRefused
-  all_exact = next_exact (graph_exact limit file slot.Graph) (λ s. next_exact (graph_exact limit other slot.Other) (λ t. next_exact (shapes_exact s t) clauses_exact))
+  all_exact = next_exact (graph_refused limit file slot.Graph) (λ s. next_exact (graph_refused limit other slot.Other) (λ t. next_exact (shapes_exact s t) clauses_exact))
 
   -- ---- what is due, by its causes
 
@@ -150,22 +145,16 @@ module _ (limits : Limits) (file other clauses : List ℕ) where
 
   due_is : (c : SameChecked) → IsDue limits told c → ((c ≡ checked.Accepted) × All) ⊎ IsRefused c
   due_is checked.Accepted (g, a, (h, b, (shape, lawful))) = inl (refl, ((g, a), ((h, b), ((g, h, a, b, shape), (g, h, a, b, lawful)))))
-  due_is (checked.Graph slot.Graph given) k = inr (inl (inl (given, k, refl)))
-  due_is (checked.Graph slot.Other given) (g, a, k) = inr (inr ((g, a), inl (inl (given, k, refl))))
-  due_is (checked.Graph slot.Clauses given) k = absurd k
-  due_is (checked.Graph slot.Algebra given) k = absurd k
-  due_is (checked.Graph slot.Report given) k = absurd k
-  due_is (checked.TooLong slot.Graph) k = inr (inl (inr (k, refl)))
-  due_is (checked.TooLong slot.Other) (g, a, k) = inr (inr ((g, a), inl (inr (k, refl))))
-  due_is (checked.TooLong slot.Clauses) (g, a, (h, b, (shape, (line, k)))) = inr (clause_fault g h a b shape (checked.TooLong slot.Clauses) (Line (line, clausal.TooLong), k, refl))
-  due_is (checked.TooLong slot.Algebra) k = absurd k
-  due_is (checked.TooLong slot.Report) k = absurd k
+  due_is (checked.Stopped given) (inl (inl k)) = inr (inl (given, k, refl))
+  due_is (checked.Stopped given) (inl (inr (g, a, k))) = inr (inr ((g, a), inl (given, k, refl)))
+  due_is (checked.Stopped given) (inr k) =
+      let long = IsLong-is slot.Clauses (MeetsClauses limits told (λ g h bytes. (line : ℕ) × IsLineRefusal (lengths_of limits) (merged g h) bytes (line, clausal.TooLong))) given k in
+      let l = long.1 in
+      inr (clause_fault l.0 l.2.0 l.1 l.2.1 l.2.2.0 (checked.Stopped given) (Line (l.2.2.1.0, clausal.TooLong), l.2.2.1.1, ap checked.Stopped long.0))
   due_is checked.Shapes (g, a, (h, b, differ)) = inr (inr ((g, a), inr ((h, b), inl (g, h, a, b, differ, refl))))
   due_is (checked.Refused (refusal.Clauses line given)) (g, a, (h, b, (shape, k))) =
       inr (clause_fault g h a b shape (checked.Refused (refusal.Clauses line given)) (Line (line, line_cause given), k, clause_is line given))
   due_is (checked.Refused (refusal.Goals output)) (g, a, (h, b, (shape, k))) = inr (clause_fault g h a b shape (checked.Refused (refusal.Goals output)) (Goals output, k, refl))
-  due_is checked.ReadFault k = absurd k
-  due_is checked.Memory k = absurd k
 
   one_due : (a b : SameChecked) → IsDue limits told a → IsDue limits told b → a ≡ b
   one_due a b h k =
@@ -175,7 +164,7 @@ module _ (limits : Limits) (file other clauses : List ℕ) where
   IsSomeDue = (c : SameChecked) × IsDue limits told c
 
   clause_due : (g h : Aig) → SpellsWithin Any limit file g → SpellsWithin Any limit other h → AreOfOneShape g h → (f : SameFault) → IsFileRefusal (lengths_of limits) (merged g h) clauses f → IsSomeDue
-  clause_due g h a b shape (Line (line, clausal.TooLong)) k = (checked.TooLong slot.Clauses, (g, a, (h, b, (shape, (line, k)))))
+  clause_due g h a b shape (Line (line, clausal.TooLong)) k = (checked.Stopped (stop.TooLong slot.Clauses), inr (refl, (g, a, (h, b, (shape, (line, k))))))
   clause_due g h a b shape (Line (line, clausal.Text)) k = (checked.Refused (refusal.Clauses line why.Text), (g, a, (h, b, (shape, k))))
   clause_due g h a b shape (Line (line, clausal.Range)) k = (checked.Refused (refusal.Clauses line why.Range), (g, a, (h, b, (shape, k))))
   clause_due g h a b shape (Line (line, clausal.NotImplied)) k = (checked.Refused (refusal.Clauses line why.NotImplied), (g, a, (h, b, (shape, k))))
@@ -192,8 +181,8 @@ module _ (limits : Limits) (file other clauses : List ℕ) where
   some_due = ⊎_elim (λ l. lawful_due l.1.1.0 l.1.1.1) (λ r. one_of r.0 r.1) all_exact.decided
     where
       one_of : (c : SameChecked) → IsRefused c → IsSomeDue
-      one_of c r = ⊎_elim (λ x. ⊎_elim (λ f. (checked.Graph slot.Graph f.0, f.1)) (λ long. (checked.TooLong slot.Graph, long.0)) x)
-          (λ x. ⊎_elim (λ y. ⊎_elim (λ f. (checked.Graph slot.Other f.0, (x.0.0, x.0.1, f.1))) (λ long. (checked.TooLong slot.Other, (x.0.0, x.0.1, long.0))) y)
+      one_of c r = ⊎_elim (λ x. (checked.Stopped x.0, inl (inl x.1)))
+          (λ x. ⊎_elim (λ y. (checked.Stopped y.0, inl (inr (x.0.0, x.0.1, y.1))))
           (λ y. ⊎_elim (λ z. (checked.Shapes, (z.0, z.2, (z.1, z.3, z.4)))) (λ z. refused_due z.0 c z.1) y.1) x.1) r
 
 -- ---- three files that are told
@@ -226,11 +215,9 @@ module _ (limits : Limits) (files : Files) (before after : View) where
   exact : (given : SameChecked) → IsOutcome limits files before after given → IsExactAnswer limits files before after given
   exact checked.Accepted (g, a, (h, b, (shape, (lawful, agree)))) = due_of checked.Accepted (g, a, (h, b, (shape, lawful)))
   exact (checked.Refused given) h = due_of (checked.Refused given) h
-  exact (checked.Graph at given) h = due_of (checked.Graph at given) h
-  exact (checked.TooLong at) h = due_of (checked.TooLong at) h
   exact checked.Shapes h = due_of checked.Shapes h
-  exact checked.ReadFault h = λ told due k. inr (inl (refl, h))
-  exact checked.Memory h = λ told due k. inr (inr refl)
+  exact (checked.Stopped given) h = λ told due k. stop_gives (IsPairStopDue limits (texts_of before files)) before after checked.Stopped due given
+      (λ p. one_answer_is_due.one limits (texts_of before files) told (checked.Stopped given) due p k) h
 
 pub outcomes_are_exact : OutcomesAreExact
 outcomes_are_exact limits files before after given h = exact limits files before after given h

@@ -12,4 +12,3 @@ pub mod Decided
 pub mod Inputs
 pub mod OnPairs
 pub mod HeldEqual
-pub mod Openings

@@ -10,7 +10,7 @@ use Rattle.graph_core.specs.declared.profile.Profile.TheVariants.{Any}
 use Rattle.graph_core.specs.Graph.{Aig, evaluated}
 use Rattle.graph_core.specs.Text.JudgedLines.{IsWithin, Lengths}
 use Rattle.mv_desk.specs.Calls.{Creates, Inspects, WritesPart, WritesTo}
-use Rattle.mv_desk.specs.View.{IsSame, OpensAtMost, OpensFiles, Rose, SlotStays, View, bytes_under}
+use Rattle.mv_desk.specs.View.{IsSame, OpensFiles, Rose, SlotStays, View, bytes_under}
 use Rattle.mv_desk.specs.declared.limits.Limits.{Limits}
 use Rattle.mv_desk.specs.declared.slot.Slot.{Slot}
 use Rattle.mv_desk.specs.declared.slot.Slot.TheVariants as slot
@@ -19,9 +19,11 @@ use Rattle.same_core.specs.declared.verdict.Same.{Same}
 use Rattle.same_core.specs.declared.verdict.Same.TheVariants as same
 use Rattle.same_core.specs.Certificates.{IsLawful}
 use Rattle.aiger_reader.specs.Refusals.{SpellsWithin}
+use Rattle.aiger_reader.specs.Stopping.{GivesDue, IsStop, OpensUpTo}
+use Rattle.aiger_reader.specs.declared.stop.Stop.TheVariants as stop
 use Rattle.same_core.specs.Files.{Files, HasPair, Texts, texts_of}
 use Rattle.same_core.specs.Merged.{AgreeOnInputs, AreOfOneShape, merged}
-use Rattle.same_core.specs.Outcome.{IsDue, IsOutcome}
+use Rattle.same_core.specs.Outcome.{IsDue, IsPairStop, pair_place}
 
 -- Inputs on which some output of the two graphs differs.
 pub record IsDifference (g h : Aig) (inputs : List Bool) : Type 0 where
@@ -64,28 +66,20 @@ IsAnswer limits conflicts files before after same.Equal =
 IsAnswer limits conflicts files before after (same.Differs inputs) = HasPair limits.graph (texts_of before files) (λ g h. IsDifference g h inputs.items) × Inspects before after
 IsAnswer limits conflicts files before after (same.Spent lemmas goal log) =
     HasPair limits.graph (texts_of before files) (λ g h. IsSpent (merged g h) conflicts lemmas goal log) × Inspects before after
-IsAnswer limits conflicts files before after same.WriteFault =
+IsAnswer limits conflicts files before after same.Shapes = IsDue limits (texts_of before files) checked.Shapes × Inspects before after
+IsAnswer limits conflicts files before after (same.Stopped stop.WriteFault) =
     Rose before.write_faults after.write_faults × ((lines : List ClauseLine) × (between : View) × Inspects before between × StopsAt files.clauses lines between after)
-IsAnswer limits conflicts files before after (same.Graph at why) = IsOutcome limits files before after (checked.Graph at why) × Inspects before after
-IsAnswer limits conflicts files before after (same.TooLong at) = (at ≢ slot.Clauses) × IsOutcome limits files before after (checked.TooLong at) × Inspects before after
-IsAnswer limits conflicts files before after same.Shapes = IsOutcome limits files before after checked.Shapes × Inspects before after
-IsAnswer limits conflicts files before after same.ReadFault = Rose before.read_faults after.read_faults × Inspects before after
-IsAnswer limits conflicts files before after same.Memory = Inspects before after
+IsAnswer limits conflicts files before after (same.Stopped why) = IsStop (IsPairStop limits.graph (texts_of before files)) before after why × Inspects before after
 
--- How many files were opened: both graphs, or the first one alone where the answer is of it. Where a read failed or memory was wanted, at
--- most both.
+-- How many files were opened: both graphs, or the first one alone where the answer is of it.
 abbrev pub OpensForAnswer : Same → View → View → Type 0
-OpensForAnswer (same.Graph slot.Graph why) before after = OpensFiles 1 before after
-OpensForAnswer (same.TooLong slot.Graph) before after = OpensFiles 1 before after
-OpensForAnswer same.ReadFault before after = OpensAtMost 2 before after
-OpensForAnswer same.Memory before after = OpensAtMost 2 before after
+OpensForAnswer (same.Stopped why) before after = OpensUpTo pair_place 2 why before after
 OpensForAnswer _ before after = OpensFiles 2 before after
 
 -- The answer that is due where no pair of graphs is spelled: that of a check.
 abbrev pub IsPairDue : Limits → Texts → Same → Type 0
-IsPairDue limits texts (same.Graph at why) = IsDue limits texts (checked.Graph at why)
-IsPairDue limits texts (same.TooLong at) = (at ≢ slot.Clauses) × IsDue limits texts (checked.TooLong at)
 IsPairDue limits texts same.Shapes = IsDue limits texts checked.Shapes
+IsPairDue limits texts (same.Stopped why) = IsPairStop limits.graph texts why
 IsPairDue limits texts _ = ⊥
 
 -- ---- laws
@@ -102,9 +96,9 @@ HasToldPair limit texts = (file : List ℕ) × (other : List ℕ) × (texts.grap
 
 -- the answer is on two graphs, or none is on the files: a fault, or want of memory
 abbrev pub IsOnPair : Same → Type 0
-IsOnPair (same.Graph at why) = ⊥
-IsOnPair (same.TooLong at) = ⊥
 IsOnPair same.Shapes = ⊥
+IsOnPair (same.Stopped (stop.Graph at why)) = ⊥
+IsOnPair (same.Stopped (stop.TooLong at)) = ⊥
 IsOnPair _ = ⊤
 
 -- Two graphs of one shape are called equal, or differ, or the conflicts are spent; but for a fault or want of memory.
@@ -112,15 +106,11 @@ abbrev pub PairsAreDecided : Type 0
 PairsAreDecided = (limits : Limits) (conflicts : ℕ) (files : Files) (before after : View) (given : Same) → HasToldPair limits.graph (texts_of before files) →
     IsAnswer limits conflicts files before after given → IsOnPair given
 
--- the answer that is due, or a fault, or want of memory
-abbrev pub GivesPair : Same → Same → Type 0
-GivesPair due given = (given ≡ due) ⊎ (given ≡ same.ReadFault) ⊎ (given ≡ same.WriteFault) ⊎ (given ≡ same.Memory)
-
 -- Where two graph files are told, whichever such answer is due is given.
 abbrev pub PairAnswersAreExact : Type 0
 PairAnswersAreExact = (limits : Limits) (conflicts : ℕ) (files : Files) (before after : View) (given : Same) →
     IsSome (bytes_under before files.graph) → IsSome (bytes_under before files.other) → IsAnswer limits conflicts files before after given →
-    (due : Same) → IsPairDue limits (texts_of before files) due → GivesPair due given
+    (due : Same) → IsPairDue limits (texts_of before files) due → GivesDue same.Stopped before after due given
 
 -- the desk tells every name and which name each slot is open under
 pub record IsTold (view : View) : Type 0 where

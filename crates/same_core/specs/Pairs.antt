@@ -1,15 +1,15 @@
 -- Two files that spell a pair of graphs, and where they don't. Private clauses alone cite it.
-use Rattle.std.specs.Prelude.{◌≡◌, ◌≢◌, ℕ}
+use Rattle.std.specs.Prelude.{◌≡◌, ℕ}
+use Rattle.aiger_reader.specs.Stopping.{IsStop}
 use Rattle.graph_core.specs.Graph.{Aig, IsBuilt}
 use Rattle.mv_desk.specs.View.{View}
 use Rattle.mv_desk.specs.declared.limits.Limits.{Limits}
-use Rattle.mv_desk.specs.declared.slot.Slot.TheVariants as slot
+use Rattle.same_core.specs.declared.checked.SameChecked.TheVariants as checked
 use Rattle.same_core.specs.declared.pairs.PairFail.{PairFail}
 use Rattle.same_core.specs.declared.pairs.PairFail.TheVariants as pair
-use Rattle.same_core.specs.Answers.{answer_of_pair}
-use Rattle.same_core.specs.Files.{Files, IsSpelled, Texts}
+use Rattle.same_core.specs.Files.{Files, IsSpelled, Texts, texts_of}
 use Rattle.same_core.specs.Merged.{AreOfOneShape, Both, both}
-use Rattle.same_core.specs.Outcome.{IsOutcome}
+use Rattle.same_core.specs.Outcome.{IsDue, IsPairStop}
 
 -- The first graph, and the merged gates of both.
 pub record IsPairOf (limit : ℕ) (texts : Texts) (g : Aig) (m : Both) : Type 0 where
@@ -21,6 +21,7 @@ pub record IsPairOf (limit : ℕ) (texts : Texts) (g : Aig) (m : Both) : Type 0 
   pub shape : AreOfOneShape g other
   pub merged_is : m ≡ both g other
 
--- an answer of a check in which the clause file has no part
+-- why there is no pair
 abbrev pub IsPairFail : Limits → Files → View → View → PairFail → Type 0
-IsPairFail limits files before after given = IsOutcome limits files before after (answer_of_pair given) × (given ≢ pair.TooLong slot.Clauses)
+IsPairFail limits files before after pair.Shapes = IsDue limits (texts_of before files) checked.Shapes
+IsPairFail limits files before after (pair.Stopped why) = IsStop (IsPairStop limits.graph (texts_of before files)) before after why

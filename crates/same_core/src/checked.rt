@@ -1,6 +1,7 @@
 // What a check of two graphs ends with.
-use aiger_reader::ReadFail;
-use clause_judge::ClauseWhy;
+use crate::pairs::PairFail;
+use aiger_reader::Stop;
+use clause_judge::{ClauseFail, ClauseWhy};
 use mv_desk::Slot;
 
 /// Why a clause certificate is refused: at which of its lines (from 1) and why, or at which output (from 0) for its goals.
@@ -18,13 +19,44 @@ pub enum SameChecked {
     Accepted,
     /// The certificate is refused.
     Refused(SameRefusal),
-    /// The file of this slot spells no graph: its first refusal, a `Text`, `Header` or `Graph`.
-    Graph { slot: Slot, why: ReadFail },
-    /// Opening or reading a file failed.
-    ReadFault,
-    Memory,
-    /// The file of this slot, or a line of it, is longer than its limit, and no refusal comes before that.
-    TooLong(Slot),
     /// The graphs haven't as many inputs, or not as many outputs.
     Shapes,
+    /// There is no such answer. A `WriteFault` never comes.
+    Stopped(Stop),
+}
+
+impl From<PairFail> for SameChecked {
+    ghost use Rattle.std.specs.Prelude.{◌≡◌};
+    ghost use Rattle.same_core.specs.Answers.{answer_of_pair};
+
+    ghost from_gives = { λ fail answer. answer ≡ answer_of_pair fail };
+
+    fn from(fail: PairFail) -> Self {
+        match fail {
+            PairFail::Shapes => SameChecked::Shapes,
+            PairFail::Stopped(why) => SameChecked::Stopped(why),
+        }
+    }
+}
+
+impl From<ClauseFail> for SameChecked {
+    ghost use Rattle.std.specs.Prelude.{◌≡◌};
+    ghost use Rattle.same_core.specs.Answers.{answer_of_clauses};
+
+    ghost from_gives = { λ fail answer. answer ≡ answer_of_clauses fail };
+
+    fn from(fail: ClauseFail) -> Self {
+        match fail {
+            ClauseFail::Line { line, why } => SameChecked::Refused(SameRefusal::Clauses {
+                line,
+                why,
+            }),
+            ClauseFail::Goals { column } => SameChecked::Refused(SameRefusal::Goals {
+                output: column,
+            }),
+            ClauseFail::ReadFault => SameChecked::Stopped(Stop::ReadFault),
+            ClauseFail::TooLong => SameChecked::Stopped(Stop::TooLong(Slot::Clauses)),
+            ClauseFail::Memory => SameChecked::Stopped(Stop::Memory),
+        }
+    }
 }

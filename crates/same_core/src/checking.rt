@@ -5,7 +5,6 @@ ghost use Rattle.mv_desk.specs.View.{KeepsTelling, OpensFiles};
 ghost use Rattle.same_core.specs.Files.{files_of};
 ghost use Rattle.same_core.specs.Outcome.{IsExactAnswer, IsOutcome, OpensFor};
 
-use crate::answers::{clauses_answer, pair_answer};
 use crate::checked::SameChecked;
 use crate::clauses::check_clauses;
 use crate::pairs::read_pair;
@@ -48,12 +47,7 @@ fn check_files<D: Desk>(
     ensures inspects { Inspects (D.seen desk.old) (D.seen desk.new) }
     ensures tells { KeepsTelling (D.seen desk.old) (D.seen desk.new) }
 {
-    let pair = match read_pair(alloc, desk, limits, names) {
-        Ok(pair) => pair,
-        Err(fail) => return Err(pair_answer(fail)),
-    };
-    match check_clauses(alloc, desk, limits, names.clauses, &pair.1) {
-        Ok(()) => Ok(()),
-        Err(fail) => Err(clauses_answer(fail)),
-    }
+    let pair = read_pair(alloc, desk, limits, names)?;
+    check_clauses(alloc, desk, limits, names.clauses, &pair.1)?;
+    Ok(())
 }

@@ -4,11 +4,11 @@ ghost use Rattle.mv_desk.specs.View.{KeepsTelling};
 ghost use Rattle.same_core.specs.Deciding.{IsAnswer, OpensForAnswer};
 ghost use Rattle.same_core.specs.Files.{files_of};
 
-use crate::answers::pair_failed;
 use crate::certificate::write_certificate;
 use crate::pairs::read_pair;
 use crate::solving::{decide, inputs_at};
 use crate::verdict::Same;
+use aiger_reader::Stop;
 use goal_refuter::Outcome;
 use mv_desk::{Desk, Limits, Names};
 use std::alloc::Global;
@@ -29,22 +29,22 @@ pub fn same<D: Desk>(
 {
     let pair = match read_pair(alloc, desk, limits, names) {
         Ok(pair) => pair,
-        Err(fail) => return pair_failed(fail),
+        Err(fail) => return Same::from(fail),
     };
     match decide(alloc, &pair.1, conflicts) {
         Ok(Outcome::Refuted(log)) => match write_certificate(desk, log.lines(), names.clauses) {
             Ok(()) => Same::Equal,
-            Err(_) => Same::WriteFault,
+            Err(_) => Same::Stopped(Stop::WriteFault),
         },
         Ok(Outcome::Model(values)) => match inputs_at(alloc, &pair.0, &values) {
             Ok(inputs) => Same::Differs { inputs },
-            Err(_) => Same::Memory,
+            Err(_) => Same::Stopped(Stop::Memory),
         },
         Ok(Outcome::Spent(goal, log)) => Same::Spent {
             lemmas: conflicts,
             goal,
             log,
         },
-        Err(_) => Same::Memory,
+        Err(_) => Same::Stopped(Stop::Memory),
     }
 }

@@ -19,14 +19,12 @@
 //! `specs/Files.antt`. *Due*, *outcome*: `specs/Outcome.antt`. *Answer*: `specs/Deciding.antt`.
 #![tactic(auto)]
 
-mod answers;
 mod certificate;
 mod checked;
 mod checking;
 mod clauses;
 mod cones;
 mod deciding;
-mod graphs;
 mod laws;
 mod levels;
 mod merged;

@@ -1,7 +1,7 @@
 // What `same` ends with.
-use aiger_reader::ReadFail;
+use crate::pairs::PairFail;
+use aiger_reader::Stop;
 use cdcl_core::Log;
-use mv_desk::Slot;
 
 /// What `same` says of two graphs.
 #[derive(Debug, Drop)]
@@ -10,17 +10,24 @@ pub enum Same {
     Equal,
     /// Inputs, the first one first, on which some output differs.
     Differs { inputs: Vec<bool> },
-    /// The file of this slot spells no graph: its first refusal, a `Text`, `Header` or `Graph`.
-    Graph { slot: Slot, why: ReadFail },
     /// As many lemmas as there may be conflicts, and beside them the goals that were refuted before the one in hand.
     Spent { lemmas: u64, goal: u64, log: Log },
-    /// Opening or reading a file failed.
-    ReadFault,
-    /// Creating or writing the certificate failed.
-    WriteFault,
-    Memory,
-    /// The file of this slot is longer than its limit, and no refusal comes before that.
-    TooLong(Slot),
     /// The graphs haven't as many inputs, or not as many outputs.
     Shapes,
+    /// There is no such answer.
+    Stopped(Stop),
+}
+
+impl From<PairFail> for Same {
+    ghost use Rattle.std.specs.Prelude.{◌≡◌};
+    ghost use Rattle.same_core.specs.Answers.{same_of_pair};
+
+    ghost from_gives = { λ fail answer. answer ≡ same_of_pair fail };
+
+    fn from(fail: PairFail) -> Self {
+        match fail {
+            PairFail::Shapes => Same::Shapes,
+            PairFail::Stopped(why) => Same::Stopped(why),
+        }
+    }
 }

@@ -1,12 +1,12 @@
 -- What follows from an answer of `check`.
-use Rattle.std.proofs.Common.{◌≡◌, ap, subst, sym, arith, inl, inr}
+use Rattle.std.proofs.Common.{◌≡◌, refl, subst, sym, arith}
 use Rattle.aiger_reader.specs.Refusals.{SpellsWithin}
 use Rattle.command_line.specs.declared.command.Command.TheVariants.{Check}
 use Rattle.command_line.specs.declared.files.Files as named
 use Rattle.graph_core.specs.Graph.Operands.{profile_of}
 use Rattle.graph_core.specs.declared.claim.Claim.{Claim}
 use Rattle.joint_checker.specs.Files.{texts_of}
-use Rattle.joint_checker.specs.Outcome.{Gives, IsDue, IsOutcome}
+use Rattle.joint_checker.specs.Outcome.{IsDue, IsOutcome, IsStopDue}
 use Rattle.joint_checker.proofs.DueRows.{outcomes_are_exact}
 use Rattle.joint_checker.specs.declared.checked.Checked.{Checked}
 use Rattle.joint_checker.specs.declared.checked.Checked.TheVariants as checked
@@ -15,6 +15,7 @@ use Rattle.verdict_program.specs.declared.answer.Answer.TheVariants as answer
 use Rattle.verdict_program.specs.Answer.{status_of, status_of_check}
 use Rattle.verdict_program.specs.Headline.{IsAsClaimed}
 use Rattle.verdict_program.specs.Runs.{EndsAsDue, IsTold, files_of, standard}
+use Rattle.verdict_program.proofs.StopFacts.{gives_as_due, no_write_failed, read_failed, stop_is_apart}
 use Rattle.verdict_program.proofs.Facts.{Facts, told_bytes}
 use Rattle.verdict_program.proofs.Told.{some_more}
 
@@ -25,41 +26,27 @@ module _ (files : named.Files) (claim : Claim) (a b : View) where
   zero : (outcome : Checked) → Is outcome → status_of_check outcome ≡ 0 → IsAsClaimed a files.graph claim
   zero checked.Accepted h e =
       some_more (bytes_under a files.graph) (λ bytes. SpellsWithin (profile_of claim.add) standard.graph bytes h.0) _ (λ bytes spelled. (h.0, spelled.spells, h.2.3.1)) h.1
-  zero (checked.Graph why) h e = absurd (omega arith)
   zero (checked.Refused why) h e = absurd (omega arith)
-  zero (checked.TooLong at) h e = absurd (omega arith)
-  zero checked.ReadFault h e = absurd (omega arith)
-  zero checked.Memory h e = absurd (omega arith)
+  zero (checked.Stopped why) h e = absurd ((stop_is_apart why).zero e)
 
   six : (outcome : Checked) → Is outcome → status_of_check outcome ≡ 6 → Rose a.read_faults b.read_faults
   six checked.Accepted h e = absurd (omega arith)
-  six (checked.Graph why) h e = absurd (omega arith)
   six (checked.Refused why) h e = absurd (omega arith)
-  six (checked.TooLong at) h e = absurd (omega arith)
-  six checked.ReadFault h e = h
-  six checked.Memory h e = absurd (omega arith)
+  six (checked.Stopped why) h e = read_failed a b (IsStopDue standard claim (texts_of a (files_of files))) why h e
 
   -- no other status has a cause to be told
-  others : (outcome : Checked) → (status_of_check outcome ≡ 1 → ⊥) × (status_of_check outcome ≡ 2 → ⊥) × (status_of_check outcome ≡ 5 → ⊥) × (status_of_check outcome ≡ 7 → ⊥)
-  others checked.Accepted = ((λ e. absurd (omega arith)), (λ e. absurd (omega arith)), (λ e. absurd (omega arith)), (λ e. absurd (omega arith)))
-  others (checked.Graph why) = ((λ e. absurd (omega arith)), (λ e. absurd (omega arith)), (λ e. absurd (omega arith)), (λ e. absurd (omega arith)))
-  others (checked.Refused why) = ((λ e. absurd (omega arith)), (λ e. absurd (omega arith)), (λ e. absurd (omega arith)), (λ e. absurd (omega arith)))
-  others (checked.TooLong at) = ((λ e. absurd (omega arith)), (λ e. absurd (omega arith)), (λ e. absurd (omega arith)), (λ e. absurd (omega arith)))
-  others checked.ReadFault = ((λ e. absurd (omega arith)), (λ e. absurd (omega arith)), (λ e. absurd (omega arith)), (λ e. absurd (omega arith)))
-  others checked.Memory = ((λ e. absurd (omega arith)), (λ e. absurd (omega arith)), (λ e. absurd (omega arith)), (λ e. absurd (omega arith)))
-
-  as_due : (due given : Checked) → Gives a b due given → EndsAsDue (status_of_check due) (status_of_check given)
-  as_due due given (inl same) = inl (ap status_of_check same)
-  as_due due given (inr (inl fault)) = inr (inl (ap status_of_check fault.0))
-  as_due due given (inr (inr none)) = inr (inr (inr (ap status_of_check none)))
+  others : (outcome : Checked) → Is outcome → (status_of_check outcome ≡ 1 → ⊥) × (status_of_check outcome ≡ 2 → ⊥) × (status_of_check outcome ≡ 5 → ⊥) × (status_of_check outcome ≡ 7 → ⊥)
+  others checked.Accepted h = ((λ e. absurd (omega arith)), (λ e. absurd (omega arith)), (λ e. absurd (omega arith)), (λ e. absurd (omega arith)))
+  others (checked.Refused why) h = ((λ e. absurd (omega arith)), (λ e. absurd (omega arith)), (λ e. absurd (omega arith)), (λ e. absurd (omega arith)))
+  others (checked.Stopped why) h = let apart = stop_is_apart why in (apart.one, apart.two, apart.five, no_write_failed a b (IsStopDue standard claim (texts_of a (files_of files))) why h)
 
   given_as_due : (outcome : Checked) → Is outcome → IsTold a → (due : Checked) → IsDue standard claim (texts_of a (files_of files)) due → EndsAsDue (status_of_check due) (status_of_check outcome)
   given_as_due outcome h told due k =
-      as_due due outcome (outcomes_are_exact standard claim (files_of files) a b outcome h
+      gives_as_due a b checked.Stopped status_of_check (λ why. refl) due outcome (outcomes_are_exact standard claim (files_of files) a b outcome h
       (record { graph_told = told_bytes a told files.graph; clauses_told = told_bytes a told files.clauses; algebra_told = told_bytes a told files.algebra }) due k)
 
   pub check_facts : (outcome : Checked) → Is outcome → Facts (Check files claim) a b (answer.Checked outcome)
-  check_facts outcome h = let none = others outcome in record {
+  check_facts outcome h = let none = others outcome h in record {
     zero = λ e. zero outcome h e;
     one = λ e. absurd (none.0 e);
     two = λ e. absurd (none.1 e);

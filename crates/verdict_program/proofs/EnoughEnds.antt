@@ -1,10 +1,10 @@
 -- A run that has enough budget ends with status 0, but for a fault or want of memory.
-use Rattle.std.proofs.Common.{ℕ, List, ap, sym, subst, inl, inr}
+use Rattle.std.proofs.Common.{ℕ, List, ap, refl, sym, subst, inl, inr}
+use Rattle.std.specs.Prelude.{IfSome}
+use Rattle.aiger_reader.specs.Stopping.{GivesDue}
 use Rattle.command_line.specs.declared.command.Command.{Command}
 use Rattle.command_line.specs.declared.command.Command.TheVariants.{Verify}
-use Rattle.joint_prover.specs.Budgets.{ProvesEnough}
-use Rattle.joint_prover.specs.Verdicts.{GivesDue}
-use Rattle.joint_prover.specs.declared.verdict.Verdict.{Verdict}
+use Rattle.joint_prover.specs.Budgets.{IsEnough}
 use Rattle.joint_prover.specs.declared.verdict.Verdict.TheVariants as verdict
 use Rattle.joint_prover.proofs.CallerLemmas.{enough_is_proved}
 use Rattle.mv_desk.specs.View.{View}
@@ -13,12 +13,7 @@ use Rattle.verdict_program.specs.Answer.{status_of, status_of_verify}
 use Rattle.verdict_program.specs.EnoughBudget.{HasEnoughBudget}
 use Rattle.verdict_program.specs.Runs.{EndsAsDue, EndsWith, IsRight, IsRightOf, files_of, standard, task_of}
 use Rattle.verdict_program.proofs.Asking.{no_command, one_command}
-
-proved_ends : (given : Verdict) → GivesDue verdict.Proved given → EndsAsDue 0 (status_of_verify given)
-proved_ends given (inl proved) = inl (ap status_of_verify proved)
-proved_ends given (inr (inl fault)) = inr (inl (ap status_of_verify fault))
-proved_ends given (inr (inr (inl fault))) = inr (inr (inl (ap status_of_verify fault)))
-proved_ends given (inr (inr (inr memory))) = inr (inr (inr (ap status_of_verify memory)))
+use Rattle.verdict_program.proofs.StopFacts.{gives_as_due}
 
 module _ (words : List (List ℕ)) (a b c : View) (given : Answer) (status : ℕ) (right : IsRight words a b given) (ends : EndsWith given b c status) (h : HasEnoughBudget words a) where
   abbrev asks : Command
@@ -28,7 +23,8 @@ module _ (words : List (List ℕ)) (a b c : View) (given : Answer) (status : ℕ
   verify_ends r =
       let told = enough_is_proved standard.graph (task_of h.1 h.2 h.3 h.4) (files_of h.0) a b r.0 r.1 r.3.0 in
       subst (λ x. EndsAsDue 0 (status_of x)) (sym r.2)
-      (proved_ends r.0 (subst (λ file. ProvesEnough standard.graph (task_of h.1 h.2 h.3 h.4) file r.0) h.7 told h.8))
+      (gives_as_due a b verdict.Stopped status_of_verify (λ why. refl) verdict.Proved r.0
+      (subst (λ o. IfSome o (λ file. IsEnough standard.graph (task_of h.1 h.2 h.3 h.4) file → GivesDue verdict.Stopped a b verdict.Proved r.0)) h.7 told h.8))
 
   answer_ends : IsRight words a b given → EndsAsDue 0 (status_of given)
   answer_ends (inl none) = absurd (no_command words asks h.5 none.1)

@@ -1,6 +1,9 @@
 -- What follows from an answer of `eval`.
-use Rattle.std.proofs.Common.{◌≡◌, ℕ, List, Option, Some, None, refl, ap, subst, sym, arith, inl, inr}
+use Rattle.mv_desk.specs.declared.slot.Slot.TheVariants as slot
+use Rattle.std.proofs.Common.{◌≡◌, ℕ, List, Option, Some, None, refl, subst, sym, arith, inl}
 use Rattle.std.specs.Prelude.{IsSome}
+use Rattle.aiger_reader.specs.Stopping.{GivesDue, IsGraphStop}
+use Rattle.aiger_reader.proofs.CallerLemmas.{stop_gives}
 use Rattle.command_line.specs.declared.command.Command.TheVariants.{Eval}
 use Rattle.mv_desk.specs.View.{View, Rose, bytes_under}
 use Rattle.verdict_program.specs.declared.answer.Answer.TheVariants as answer
@@ -8,9 +11,10 @@ use Rattle.verdict_program.specs.declared.evaluated.Evaluated.{Evaluated}
 use Rattle.verdict_program.specs.declared.evaluated.Evaluated.TheVariants as evaluated
 use Rattle.verdict_program.specs.declared.point.Point.{Point}
 use Rattle.verdict_program.specs.Answer.{status_of, status_of_eval}
-use Rattle.verdict_program.specs.Evaluation.{IsEvaluated, IsValueDue}
+use Rattle.verdict_program.specs.Evaluation.{IsEvaluated, IsValueDue, profile_at}
 use Rattle.verdict_program.specs.Runs.{EndsAsDue, standard}
 use Rattle.verdict_program.proofs.Facts.{Facts, told_bytes}
+use Rattle.verdict_program.proofs.StopFacts.{gives_as_due, no_write_failed, read_failed, stop_is_apart}
 use Rattle.verdict_program.proofs.Told.{none_told}
 use Rattle.verdict_program.proofs.ValueDue.{one_value_due}
 
@@ -21,47 +25,38 @@ module _ (graph : List ℕ) (point : Point) (a b : View) where
   two : (outcome : Evaluated) → Is outcome → status_of_eval outcome ≡ 2 → IsValueDue standard.graph (bytes_under a graph) point evaluated.TooGreat
   two (evaluated.Value value) h e = absurd (omega arith)
   two evaluated.TooGreat h e = h
-  two (evaluated.Graph why) h e = absurd (omega arith)
-  two evaluated.ReadFault h e = absurd (omega arith)
-  two evaluated.TooLong h e = absurd (omega arith)
-  two evaluated.Memory h e = absurd (omega arith)
+  two (evaluated.Stopped why) h e = absurd ((stop_is_apart why).two e)
 
   six : (outcome : Evaluated) → Is outcome → status_of_eval outcome ≡ 6 → Rose a.read_faults b.read_faults
   six (evaluated.Value value) h e = absurd (omega arith)
   six evaluated.TooGreat h e = absurd (omega arith)
-  six (evaluated.Graph why) h e = absurd (omega arith)
-  six evaluated.ReadFault h e = h
-  six evaluated.TooLong h e = absurd (omega arith)
-  six evaluated.Memory h e = absurd (omega arith)
+  six (evaluated.Stopped why) h e = read_failed a b (IsGraphStop slot.Graph (profile_at point.addend) standard.graph (bytes_under a graph)) why h e
 
   -- no other status has a cause to be told
-  others : (outcome : Evaluated) → (status_of_eval outcome ≡ 1 → ⊥) × (status_of_eval outcome ≡ 5 → ⊥) × (status_of_eval outcome ≡ 7 → ⊥)
-  others (evaluated.Value value) = ((λ e. absurd (omega arith)), (λ e. absurd (omega arith)), (λ e. absurd (omega arith)))
-  others evaluated.TooGreat = ((λ e. absurd (omega arith)), (λ e. absurd (omega arith)), (λ e. absurd (omega arith)))
-  others (evaluated.Graph why) = ((λ e. absurd (omega arith)), (λ e. absurd (omega arith)), (λ e. absurd (omega arith)))
-  others evaluated.ReadFault = ((λ e. absurd (omega arith)), (λ e. absurd (omega arith)), (λ e. absurd (omega arith)))
-  others evaluated.TooLong = ((λ e. absurd (omega arith)), (λ e. absurd (omega arith)), (λ e. absurd (omega arith)))
-  others evaluated.Memory = ((λ e. absurd (omega arith)), (λ e. absurd (omega arith)), (λ e. absurd (omega arith)))
+  others : (outcome : Evaluated) → Is outcome → (status_of_eval outcome ≡ 1 → ⊥) × (status_of_eval outcome ≡ 5 → ⊥) × (status_of_eval outcome ≡ 7 → ⊥)
+  others (evaluated.Value value) h = ((λ e. absurd (omega arith)), (λ e. absurd (omega arith)), (λ e. absurd (omega arith)))
+  others evaluated.TooGreat h = ((λ e. absurd (omega arith)), (λ e. absurd (omega arith)), (λ e. absurd (omega arith)))
+  others (evaluated.Stopped why) h = let apart = stop_is_apart why in (apart.one, apart.five, no_write_failed a b (IsGraphStop slot.Graph (profile_at point.addend) standard.graph (bytes_under a graph)) why h)
 
-  value_as_due : (file : Option (List ℕ)) (due given : Evaluated) → IsSome file → IsValueDue standard.graph file point due → IsValueDue standard.graph file point given → EndsAsDue (status_of_eval due) (status_of_eval given)
-  value_as_due None due given told h k = absurd (none_told (List ℕ) told)
-  value_as_due (Some bytes) due given told h k = inl (ap status_of_eval (one_value_due standard.graph bytes point given due k h))
+  -- of a file that is told one answer is due
+  one_due : (file : Option (List ℕ)) (given due : Evaluated) → IsSome file → IsValueDue standard.graph file point given → IsValueDue standard.graph file point due → given ≡ due
+  one_due None given due told h k = absurd (none_told (List ℕ) told)
+  one_due (Some bytes) given due told h k = one_value_due standard.graph bytes point given due h k
 
-  given_as_due : (due given : Evaluated) → IsSome (bytes_under a graph) → IsValueDue standard.graph (bytes_under a graph) point due → Is given → EndsAsDue (status_of_eval due) (status_of_eval given)
-  given_as_due due (evaluated.Value value) told h k = value_as_due (bytes_under a graph) due (evaluated.Value value) told h k
-  given_as_due due evaluated.TooGreat told h k = value_as_due (bytes_under a graph) due evaluated.TooGreat told h k
-  given_as_due due (evaluated.Graph why) told h k = value_as_due (bytes_under a graph) due (evaluated.Graph why) told h k
-  given_as_due due evaluated.TooLong told h k = value_as_due (bytes_under a graph) due evaluated.TooLong told h k
-  given_as_due due evaluated.ReadFault told h k = inr (inl refl)
-  given_as_due due evaluated.Memory told h k = inr (inr (inr refl))
+  -- it is given, or what interrupts
+  gives : (outcome : Evaluated) → Is outcome → (due : Evaluated) → IsSome (bytes_under a graph) → IsValueDue standard.graph (bytes_under a graph) point due → GivesDue evaluated.Stopped a b due outcome
+  gives (evaluated.Value value) h due told k = inl (one_due (bytes_under a graph) (evaluated.Value value) due told h k)
+  gives evaluated.TooGreat h due told k = inl (one_due (bytes_under a graph) evaluated.TooGreat due told h k)
+  gives (evaluated.Stopped why) h due told k = stop_gives (IsGraphStop slot.Graph (profile_at point.addend) standard.graph (bytes_under a graph)) a b evaluated.Stopped due why (λ stops. one_due (bytes_under a graph) (evaluated.Stopped why) due told stops k) h
 
   pub eval_facts : (outcome : Evaluated) → Is outcome → Facts (Eval graph point.a point.b point.order point.addend) a b (answer.Evaluated outcome)
-  eval_facts outcome h = let none = others outcome in record {
+  eval_facts outcome h = let none = others outcome h in record {
     zero = λ e. tt;
     one = λ e. absurd (none.0 e);
     two = λ e. two outcome h e;
     five = λ e. absurd (none.1 e);
     six = λ e. six outcome h e;
     seven = λ e. absurd (none.2 e);
-    due = λ told due k. subst (λ d. EndsAsDue (status_of d) (status_of_eval outcome)) (sym k.1) (given_as_due k.0 outcome (told_bytes a told graph) k.2 h);
+    due = λ told due k. subst (λ d. EndsAsDue (status_of d) (status_of_eval outcome)) (sym k.1)
+        (gives_as_due a b evaluated.Stopped status_of_eval (λ why. refl) k.0 outcome (gives outcome h k.0 (told_bytes a told graph) k.2));
   }

@@ -1,5 +1,6 @@
 -- A run of `same` over two graphs of one shape.
 use Rattle.std.proofs.Common.{ℕ, List, refl, ap, sym, subst, inl, inr}
+use Rattle.aiger_reader.specs.declared.stop.Stop.TheVariants as stop
 use Rattle.command_line.specs.declared.command.Command.{Command}
 use Rattle.command_line.specs.declared.command.Command.TheVariants.{Same}
 use Rattle.mv_desk.specs.View.{View}
@@ -16,12 +17,12 @@ on_pair : (outcome : compared.Same) → IsOnPair outcome → EndsOnPair (status_
 on_pair same.Equal h = inl refl
 on_pair (same.Differs inputs) h = inr (inl refl)
 on_pair (same.Spent lemmas goal log) h = inr (inr (inl refl))
-on_pair same.ReadFault h = inr (inr (inr (inl refl)))
-on_pair same.WriteFault h = inr (inr (inr (inr (inl refl))))
-on_pair same.Memory h = inr (inr (inr (inr (inr refl))))
-on_pair (same.Graph at why) h = absurd h
-on_pair (same.TooLong at) h = absurd h
 on_pair same.Shapes h = absurd h
+on_pair (same.Stopped stop.ReadFault) h = inr (inr (inr (inl refl)))
+on_pair (same.Stopped stop.WriteFault) h = inr (inr (inr (inr (inl refl))))
+on_pair (same.Stopped stop.Memory) h = inr (inr (inr (inr (inr refl))))
+on_pair (same.Stopped (stop.Graph at why)) h = absurd h
+on_pair (same.Stopped (stop.TooLong at)) h = absurd h
 
 module _ (words : List (List ℕ)) (a b c : View) (given : Answer) (status : ℕ) (right : IsRight words a b given) (ends : EndsWith given b c status) (h : HasPairAsked words a) where
   abbrev asks : Command

@@ -2,6 +2,7 @@
 use Rattle.std.proofs.Common.{ℕ, List, inl, inr}
 use Rattle.std.specs.Prelude.{IfSome}
 use Rattle.aiger_reader.specs.Refusals.{SpellsWithin}
+use Rattle.aiger_reader.specs.declared.stop.Stop.TheVariants as stop
 use Rattle.command_line.specs.declared.files.PairFiles.{PairFiles}
 use Rattle.graph_core.specs.Graph.{Aig}
 use Rattle.graph_core.specs.declared.profile.Profile.TheVariants.{Any}
@@ -37,9 +38,9 @@ module _ (limits : Limits) (conflicts : ℕ) (files : Files) (a c : View) where
       leaves_both a b c (reads_leave a b reads.inspects) (slot_leaves slot.Clauses no_clauses files.clauses (same_text lines) b w.created c w.creates w.writes)
   report_stays (same.Differs inputs) h = reads_leave a c h.1
   report_stays (same.Spent lemmas goal log) h = reads_leave a c h.1
-  report_stays same.WriteFault (rose, (lines, b, inspects, stops)) = leaves_both a b c (reads_leave a b inspects) (stopped_leaves lines b stops)
-  report_stays (same.Graph at why) h = reads_leave a c h.1
-  report_stays (same.TooLong at) h = reads_leave a c h.2
   report_stays same.Shapes h = reads_leave a c h.1
-  report_stays same.ReadFault h = reads_leave a c h.1
-  report_stays same.Memory h = reads_leave a c h
+  report_stays (same.Stopped stop.WriteFault) (rose, (lines, b, inspects, stops)) = leaves_both a b c (reads_leave a b inspects) (stopped_leaves lines b stops)
+  report_stays (same.Stopped (stop.Graph at why)) h = reads_leave a c h.1
+  report_stays (same.Stopped (stop.TooLong at)) h = reads_leave a c h.1
+  report_stays (same.Stopped stop.ReadFault) h = reads_leave a c h.1
+  report_stays (same.Stopped stop.Memory) h = reads_leave a c h.1

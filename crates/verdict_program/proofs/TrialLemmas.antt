@@ -1,9 +1,11 @@
 -- What `verify` and `check` answer over a made graph that is held in memory.
-use Rattle.std.proofs.Common.{◌≡◌, ◌≢◌, ℕ, ◌-◌, ◌^◌, ◌≤◌, List, length, Option, Some, refl, sym, ap, subst, ◌∙◌, arith, inl, inr, true≢false}
+use Rattle.std.proofs.Common.{◌≡◌, ◌≢◌, ℕ, ◌-◌, ◌^◌, ◌≤◌, List, length, Option, Some, refl, sym, ap, subst, ◌∙◌, arith, inl, inr, ⊎_elim, true≢false}
 use Rattle.std.specs.Prelude.{IfSome, IsSome, IsSomeAnd, ⊤, [], option_map, unwrap_or}
-use Rattle.aiger_reader.specs.Refusals as reading
 use Rattle.aiger_reader.specs.Refusals.{SpellsWithin}
-use Rattle.aiger_reader.specs.declared.fail.ReadFail.{ReadFail}
+use Rattle.aiger_reader.specs.Stopping.{GivesDue, Interrupts, IsGraphStop, IsStop}
+use Rattle.aiger_reader.specs.declared.stop.Stop.{Stop}
+use Rattle.aiger_reader.specs.declared.stop.Stop.TheVariants as stop
+use Rattle.aiger_reader.proofs.CallerLemmas.{due_or_interrupts, graph_exact}
 use Rattle.graph_core.specs.Aiger.{Spells}
 use Rattle.graph_core.specs.Aiger.Writing.{ascii_text}
 use Rattle.graph_core.specs.Algebra.{Premises}
@@ -17,11 +19,10 @@ use Rattle.graph_core.proofs.OfTexts.CallerLemmas.{one_graph}
 use Rattle.joint_checker.specs.Certificates.{IsLawfulPair}
 use Rattle.joint_checker.specs.ClauseFiles.{ArePremisesOf, GivesPremises}
 use Rattle.joint_checker.specs.Files.{HasGraph, texts_of}
-use Rattle.aiger_reader.specs.Refusals.{IsGraphRefusal}
-use Rattle.joint_checker.specs.Outcome.{Gives, IsDue}
+use Rattle.joint_checker.specs.Outcome.{IsDue}
 use Rattle.joint_checker.specs.declared.checked.Checked.{Checked}
 use Rattle.joint_checker.specs.declared.checked.Checked.TheVariants as checked
-use Rattle.joint_checker.proofs.CallerLemmas.{spelled_not_long, spelled_not_refused}
+use Rattle.joint_checker.specs.declared.checked.Refusal.{Refusal}
 use Rattle.joint_prover.specs.Notes.{IsNote, cut_of}
 use Rattle.joint_prover.specs.Pairs.{IsPairFor}
 use Rattle.joint_prover.specs.Verdicts.{HasNote, IsVerdict, IsWrong, IsWrongSum}
@@ -39,17 +40,26 @@ use Rattle.mv_text.specs.LineReading.{lengths_of}
 use Rattle.ripple_graft.specs.declared.cut.Cut.{Cut}
 use Rattle.std.specs.declared.vec.Vec.{Vec}
 use Rattle.std.specs.Global.{Global}
+use Rattle.verdict_program.specs.declared.made.Made.TheVariants as answered
 use Rattle.verdict_program.specs.declared.plan.Plan.{Plan}
 use Rattle.verdict_program.specs.Making as making
 use Rattle.verdict_program.specs.Making.{graph_of, text_for}
 use Rattle.verdict_program.specs.Runs.{SpellsAsClaimed}
-use Rattle.verdict_program.specs.Trial.{HoldsGraph, HoldsTrial, IsAcceptedWith, OfMade, no_limits, trial_files, trial_task}
+use Rattle.verdict_program.specs.Trial.{HoldsGraph, HoldsTrial, IsAcceptedWith, IsOfMemory, OfMade, no_limits, trial_files, trial_task}
 use Rattle.verdict_program.proofs.MakingLemmas.{design_spells}
 use Rattle.verdict_program.proofs.MemoryFiles.{TellsFiles, algebra_is_held, clauses_are_held, file_is_held, graph_stays, honest_tells, is_written_to, within_no_limits}
 
 -- no count of read faults rose
 not_rose : (before now : ℕ) → now ≡ 0 → Rose before now → ⊥
 not_rose before now none rose = omega (arith, none, rose)
+
+-- so what interrupts is of memory
+interrupts_in_memory : (a b : View) → b.read_faults ≡ 0 → (why : Stop) → Interrupts a b why → IsOfMemory why
+interrupts_in_memory a b none (stop.Graph at fail) h = absurd h
+interrupts_in_memory a b none stop.ReadFault h = absurd (not_rose a.read_faults b.read_faults none h)
+interrupts_in_memory a b none stop.WriteFault h = tt
+interrupts_in_memory a b none (stop.TooLong at) h = absurd h
+interrupts_in_memory a b none stop.Memory h = tt
 
 -- the note, with what else holds of its cut
 note_of_some : (g : Aig) (n : Rewriting) (noted : Option Rewriting) (P : Option Cut → Type 0) → noted ≡ Some n → HasNote g trial_task noted P →
@@ -69,6 +79,14 @@ made_is_held d e plan g name same_name same_graph w =
     let opened = is_written_to slot.Graph trial_files.graph (ascii_text (graph_of plan)) (view_of d) (view_of e) file in
     ap (option_map (λ x. unwrap_or x []))
     (file_is_held slot.Graph trial_files.graph (ascii_text (graph_of plan)) (view_of d) (view_of e) file ((honest_tells e).named slot.Graph opened) ((honest_tells d).held trial_files.graph))
+
+-- else memory was wanted
+pub write_refused : (name text : List ℕ) (a b : View) (why : Stop) → making.IsMade text name a b (answered.Stopped why) → IsOfMemory why
+write_refused name text a b stop.WriteFault h = tt
+write_refused name text a b stop.Memory h = tt
+write_refused name text a b stop.ReadFault h = absurd h
+write_refused name text a b (stop.Graph at why) h = absurd h
+write_refused name text a b (stop.TooLong at) h = absurd h
 
 -- ---- the verdict
 
@@ -99,24 +117,34 @@ module _ (plan : Plan) (some : 1 ≤ plan.bits) (narrow : plan.bits ≤ 64) (a b
       let far = s.2.0.least.difference in
       far.differs (multiplies x y far.a_below far.b_below)
 
-  never_refused : (why : ReadFail) → Is (verdict.Graph why) → ⊥
-  never_refused why h = spelled_not_refused TwoOperands no_limits.graph text made.0 why within (subst (λ o. IfSome o (λ bytes. IsGraphRefusal TwoOperands no_limits.graph bytes why)) held h.0)
-
-  never_long : Is verdict.TooLong → ⊥
-  never_long h = spelled_not_long TwoOperands no_limits.graph text made.0 within (subst (λ o. IfSome o (reading.IsTooLong TwoOperands no_limits.graph)) held h.0)
+  never_wrong_sum : (x y z value sum : ℕ) → Is (verdict.WrongSum x y z value sum) → ⊥
+  never_wrong_sum x y z value sum h =
+      let s = of_file (λ g. IsWrongSum g trial_task.claim x y z value sum × HasNote g trial_task noted (λ used. ⊤)) h.0 in
+      absurd (true≢false (sym s.2.0.added))
 
   -- no other verdict comes
-  pub never_other : b.read_faults ≡ 0 → (v : Verdict) → Is v → (v ≢ verdict.Proved) → ((tried : Vec Tried Global) (step size : ℕ) → v ≢ verdict.Undecided tried step size) →
-      (v ≢ verdict.WriteFault) → (v ≢ verdict.Memory) → ⊥
-  never_other none verdict.Proved h p u w m = p refl
-  never_other none (verdict.Undecided tried step size) h p u w m = u tried step size refl
-  never_other none verdict.WriteFault h p u w m = w refl
-  never_other none verdict.Memory h p u w m = m refl
-  never_other none (verdict.Wrong x y value product) h p u w m = never_wrong x y value product h
-  never_other none (verdict.WrongSum x y z value sum) h p u w m = let s = of_file (λ g. IsWrongSum g trial_task.claim x y z value sum × HasNote g trial_task noted (λ used. ⊤)) h.0 in absurd (true≢false (sym s.2.0.added))
-  never_other none (verdict.Graph why) h p u w m = never_refused why h
-  never_other none verdict.ReadFault h p u w m = not_rose a.read_faults b.read_faults none h.0
-  never_other none verdict.TooLong h p u w m = never_long h
+  pub never_other : (v : Verdict) → Is v → (v ≢ verdict.Proved) → ((tried : Vec Tried Global) (step size : ℕ) → v ≢ verdict.Undecided tried step size) →
+      ((why : Stop) → v ≢ verdict.Stopped why) → ⊥
+  never_other verdict.Proved h p u s = p refl
+  never_other (verdict.Undecided tried step size) h p u s = u tried step size refl
+  never_other (verdict.Stopped why) h p u s = s why refl
+  never_other (verdict.Wrong x y value product) h p u s = never_wrong x y value product h
+  never_other (verdict.WrongSum x y z value sum) h p u s = never_wrong_sum x y z value sum h
+
+  -- and no other stop
+  stop_refused : b.read_faults ≡ 0 → (why : Stop) → IsStop (IsGraphStop slot.Graph TwoOperands no_limits.graph (bytes_under a trial_files.graph)) a b why → IsOfMemory why
+  stop_refused none why h = ⊎_elim
+      (λ due. absurd ((graph_exact TwoOperands no_limits.graph text slot.Graph).not_both why (made.0, within)
+      (subst (λ o. IsGraphStop slot.Graph TwoOperands no_limits.graph o why) held due)))
+      (interrupts_in_memory a b none why)
+      (due_or_interrupts (IsGraphStop slot.Graph TwoOperands no_limits.graph (bytes_under a trial_files.graph)) a b why h)
+
+  pub refused_alone : b.read_faults ≡ 0 → (why : Stop) → Is (verdict.Stopped why) → IsOfMemory why
+  refused_alone none stop.WriteFault h = tt
+  refused_alone none (stop.Graph at why) h = stop_refused none (stop.Graph at why) h.0
+  refused_alone none (stop.TooLong at) h = stop_refused none (stop.TooLong at) h.0
+  refused_alone none stop.ReadFault h = stop_refused none stop.ReadFault h.0
+  refused_alone none stop.Memory h = tt
 
   module _ (told : (name : List ℕ) → IsSome (a.held name)) (tells : TellsFiles b) (h : Is verdict.Proved) where
     abbrev Wrote : Option Cut → Type 0
@@ -172,15 +200,22 @@ module _ (plan : Plan) (v : View) (n : Rewriting) (held : HoldsGraph v plan) (h 
     ),
   )
 
-  -- no other answer comes
-  pub never_unaccepted : (w : View) (given : Checked) → w.read_faults ≡ 0 → ((due : Checked) → IsDue no_limits (product_under Separate) (texts_of v trial_files) due → Gives v w due given) →
-      (given ≢ checked.Accepted) → (given ≢ checked.Memory) → ⊥
-  never_unaccepted w given none exact not_accepted not_memory = go (exact checked.Accepted acceptance_is_due)
-    where
-      go : Gives v w checked.Accepted given → ⊥
-      go (inl same) = not_accepted same
-      go (inr (inl fault)) = not_rose v.read_faults w.read_faults none fault.1
-      go (inr (inr memory)) = not_memory memory
+  module _ (w : View) (none : w.read_faults ≡ 0) (given : Checked) (exact : (due : Checked) → IsDue no_limits (product_under Separate) (texts_of v trial_files) due → GivesDue checked.Stopped v w due given) where
+    -- what comes in its place
+    pub check_refused : (why : Stop) → given ≡ checked.Stopped why → IsOfMemory why
+    check_refused why is = go (exact checked.Accepted acceptance_is_due)
+      where
+        go : GivesDue checked.Stopped v w checked.Accepted given → IsOfMemory why
+        go (inl same) = absurd (cc)
+        go (inr h) = let other = h.1 in let one : h.0 ≡ why = cc in subst IsOfMemory one (interrupts_in_memory v w none h.0 h.2)
+
+    -- no other answer comes
+    pub never_refused : (why : Refusal) → given ≡ checked.Refused why → ⊥
+    never_refused why is = go (exact checked.Accepted acceptance_is_due)
+      where
+        go : GivesDue checked.Stopped v w checked.Accepted given → ⊥
+        go (inl same) = cc
+        go (inr h) = let other = h.1 in cc
 
   pub accepted_of_made : OfMade plan (IsAcceptedWith n)
   accepted_of_made =

@@ -1,5 +1,6 @@
 -- What follows from an answer of `trim`.
 use Rattle.std.proofs.Common.{◌≡◌, refl, subst, sym, arith, inl, inr}
+use Rattle.aiger_reader.specs.declared.stop.Stop.TheVariants as stop
 use Rattle.command_line.specs.Asked.{LeavesFiles}
 use Rattle.command_line.specs.declared.command.Command.TheVariants.{Check, Trim}
 use Rattle.command_line.specs.declared.files.Files as named
@@ -10,7 +11,7 @@ use Rattle.joint_checker.specs.Outcome.{IsOutcome}
 use Rattle.joint_checker.specs.declared.checked.Checked.{Checked}
 use Rattle.joint_checker.specs.declared.checked.Checked.TheVariants as checked
 use Rattle.mv_desk.specs.View.{View, Rose}
-use Rattle.pair_trim.specs.Trimming.{HoldsTrimmed, IsAnswer, IsTrimDue, LeavesOld, old_files}
+use Rattle.pair_trim.specs.Trimming.{HoldsTrimmed, IsAnswer, IsTrimDue, LeavesOld, checked_of, old_files}
 use Rattle.pair_trim.specs.declared.answer.TrimAnswer.{TrimAnswer}
 use Rattle.pair_trim.specs.declared.answer.TrimAnswer.TheVariants as trim
 use Rattle.pair_trim.proofs.HeldPairs.{trimmed_pairs_are_held}
@@ -20,6 +21,7 @@ use Rattle.verdict_program.specs.Headline.{IsAsClaimed}
 use Rattle.verdict_program.specs.Runs.{EndsAsDue, IsTold, TellsNames, files_of, standard, trim_of}
 use Rattle.verdict_program.proofs.CheckFacts.{check_facts}
 use Rattle.verdict_program.proofs.Facts.{Facts}
+use Rattle.verdict_program.proofs.StopFacts.{is_read_fault, is_write_fault, stop_is_apart}
 
 module _ (files : TrimFiles) (claim : Claim) (a b : View) (leaves : LeavesFiles files) where
   abbrev Is : TrimAnswer → Type 0
@@ -33,19 +35,10 @@ module _ (files : TrimFiles) (claim : Claim) (a b : View) (leaves : LeavesFiles 
   checks : (outcome : Checked) → IsOutcome standard claim (files_of old) a b outcome → Facts (Check old claim) a b (answer.Checked outcome)
   checks outcome h = check_facts old claim a b outcome h
 
-  no_zero : (outcome : Checked) → (outcome ≡ checked.Accepted → ⊥) → status_of_check outcome ≡ 0 → ⊥
-  no_zero checked.Accepted other e = other refl
-  no_zero (checked.Graph why) other e = absurd (omega arith)
-  no_zero (checked.Refused why) other e = absurd (omega arith)
-  no_zero (checked.TooLong at) other e = absurd (omega arith)
-  no_zero checked.ReadFault other e = absurd (omega arith)
-  no_zero checked.Memory other e = absurd (omega arith)
-
   zero : (outcome : TrimAnswer) → Is outcome → status_of_trim outcome ≡ 0 → IsAsClaimed a files.graph claim
   zero (trim.Trimmed pair) h e = (checks checked.Accepted h.0).zero refl
-  zero (trim.Not outcome) h e = absurd (no_zero outcome h.0 e)
-  zero trim.WriteFault h e = absurd (omega arith)
-  zero trim.Memory h e = absurd (omega arith)
+  zero (trim.Refused why) h e = absurd (omega arith)
+  zero (trim.Stopped why) h e = absurd ((stop_is_apart why).zero e)
 
   leaves_old : LeavesOld (trim_of files)
   leaves_old = record {
@@ -60,46 +53,48 @@ module _ (files : TrimFiles) (claim : Claim) (a b : View) (leaves : LeavesFiles 
 
   held : (outcome : TrimAnswer) → Is outcome → status_of_trim outcome ≡ 0 → IsTold a → TellsNames a → HoldsTrimmed standard claim (trim_of files) b
   held (trim.Trimmed pair) h e told names = trimmed_pairs_are_held standard claim (trim_of files) a b pair (record { held = told; names = names }) leaves_old h
-  held (trim.Not outcome) h e told names = absurd (no_zero outcome h.0 e)
-  held trim.WriteFault h e told names = absurd (omega arith)
-  held trim.Memory h e told names = absurd (omega arith)
+  held (trim.Refused why) h e told names = absurd (omega arith)
+  held (trim.Stopped why) h e told names = absurd ((stop_is_apart why).zero e)
 
   six : (outcome : TrimAnswer) → Is outcome → status_of_trim outcome ≡ 6 → Rose a.read_faults b.read_faults
   six (trim.Trimmed pair) h e = absurd (omega arith)
-  six (trim.Not outcome) h e = (checks outcome h.2).six e
-  six trim.WriteFault h e = absurd (omega arith)
-  six trim.Memory h e = absurd (omega arith)
+  six (trim.Refused why) h e = absurd (omega arith)
+  six (trim.Stopped why) h e = (subst (λ x. Is (trim.Stopped x)) (is_read_fault why e) h).outcome_is
 
   seven : (outcome : TrimAnswer) → Is outcome → status_of_trim outcome ≡ 7 → Rose a.write_faults b.write_faults
   seven (trim.Trimmed pair) h e = absurd (omega arith)
-  seven (trim.Not outcome) h e = (checks outcome h.2).seven e
-  seven trim.WriteFault h e = h.0
-  seven trim.Memory h e = absurd (omega arith)
+  seven (trim.Refused why) h e = absurd (omega arith)
+  seven (trim.Stopped why) h e = (subst (λ x. Is (trim.Stopped x)) (is_write_fault why e) h).0
 
   -- no other status has a cause to be told
-  others : (outcome : TrimAnswer) → Is outcome → (status_of_trim outcome ≡ 1 → ⊥) × (status_of_trim outcome ≡ 2 → ⊥) × (status_of_trim outcome ≡ 5 → ⊥)
-  others (trim.Trimmed pair) h = ((λ e. absurd (omega arith)), (λ e. absurd (omega arith)), (λ e. absurd (omega arith)))
-  others (trim.Not outcome) h = let f = checks outcome h.2 in ((λ e. f.one e), (λ e. f.two e), (λ e. f.five e))
-  others trim.WriteFault h = ((λ e. absurd (omega arith)), (λ e. absurd (omega arith)), (λ e. absurd (omega arith)))
-  others trim.Memory h = ((λ e. absurd (omega arith)), (λ e. absurd (omega arith)), (λ e. absurd (omega arith)))
+  others : (outcome : TrimAnswer) → (status_of_trim outcome ≡ 1 → ⊥) × (status_of_trim outcome ≡ 2 → ⊥) × (status_of_trim outcome ≡ 5 → ⊥)
+  others (trim.Trimmed pair) = ((λ e. absurd (omega arith)), (λ e. absurd (omega arith)), (λ e. absurd (omega arith)))
+  others (trim.Refused why) = ((λ e. absurd (omega arith)), (λ e. absurd (omega arith)), (λ e. absurd (omega arith)))
+  others (trim.Stopped why) = let apart = stop_is_apart why in (apart.one, apart.two, apart.five)
 
-  -- an answer of `check` ends as another one that is due
-  checked_as_due : (outcome : Checked) → IsOutcome standard claim (files_of old) a b outcome → IsTold a →
-      (due : TrimAnswer) → IsTrimDue standard claim (texts_of a (old_files (trim_of files))) due → EndsAsDue (status_of_trim due) (status_of_check outcome)
-  checked_as_due outcome h told (trim.Trimmed pair) k = (checks outcome h).due told (answer.Checked checked.Accepted) (checked.Accepted, refl, k)
-  checked_as_due outcome h told (trim.Not due) k = (checks outcome h).due told (answer.Checked due) (due, refl, k.1)
-  checked_as_due outcome h told trim.WriteFault k = absurd k
-  checked_as_due outcome h told trim.Memory k = absurd k
+  -- what `check` says has the same status
+  same_status : (outcome : TrimAnswer) → status_of_trim outcome ≡ status_of_check (checked_of outcome)
+  same_status (trim.Trimmed pair) = refl
+  same_status (trim.Refused why) = refl
+  same_status (trim.Stopped why) = refl
+
+  ends : (outcome : TrimAnswer) → IsOutcome standard claim (files_of old) a b (checked_of outcome) → IsTold a →
+      (due : TrimAnswer) → IsTrimDue standard claim (texts_of a (old_files (trim_of files))) due → EndsAsDue (status_of_trim due) (status_of_trim outcome)
+  ends outcome h told due k = subst (λ n. EndsAsDue n (status_of_trim outcome)) (sym (same_status due))
+      (subst (EndsAsDue (status_of_check (checked_of due))) (sym (same_status outcome)) ((checks (checked_of outcome) h).due told (answer.Checked (checked_of due)) (checked_of due, refl, k)))
 
   given_as_due : (outcome : TrimAnswer) → Is outcome → IsTold a →
       (due : TrimAnswer) → IsTrimDue standard claim (texts_of a (old_files (trim_of files))) due → EndsAsDue (status_of_trim due) (status_of_trim outcome)
-  given_as_due (trim.Trimmed pair) h told due k = checked_as_due checked.Accepted h.0 told due k
-  given_as_due (trim.Not outcome) h told due k = checked_as_due outcome h.2 told due k
-  given_as_due trim.WriteFault h told due k = inr (inr (inl refl))
-  given_as_due trim.Memory h told due k = inr (inr (inr refl))
+  given_as_due (trim.Trimmed pair) h told due k = ends (trim.Trimmed pair) h.0 told due k
+  given_as_due (trim.Refused why) h told due k = ends (trim.Refused why) h.outcome_is told due k
+  given_as_due (trim.Stopped (stop.Graph at why)) h told due k = ends (trim.Stopped (stop.Graph at why)) h.outcome_is told due k
+  given_as_due (trim.Stopped (stop.TooLong at)) h told due k = ends (trim.Stopped (stop.TooLong at)) h.outcome_is told due k
+  given_as_due (trim.Stopped stop.ReadFault) h told due k = inr (inl refl)
+  given_as_due (trim.Stopped stop.WriteFault) h told due k = inr (inr (inl refl))
+  given_as_due (trim.Stopped stop.Memory) h told due k = inr (inr (inr refl))
 
   pub trim_facts : (outcome : TrimAnswer) → Is outcome → Facts (Trim files claim) a b (answer.Trimmed outcome)
-  trim_facts outcome h = let none = others outcome h in record {
+  trim_facts outcome h = let none = others outcome in record {
     zero = λ e. (zero outcome h e, λ told names. held outcome h e told names);
     one = λ e. absurd (none.0 e);
     two = λ e. absurd (none.1 e);

@@ -1,5 +1,6 @@
 -- What `trim` does to the report.
 use Rattle.std.proofs.Common.{◌≡◌, ◌≢◌, ℕ, List, inl, inr}
+use Rattle.aiger_reader.specs.declared.stop.Stop.TheVariants as stop
 use Rattle.graph_core.specs.declared.claim.Claim.{Claim}
 use Rattle.joint_checker.specs.Written.{StopsAt, StopsWriting, WritesFile}
 use Rattle.mv_desk.specs.View.{View}
@@ -36,7 +37,10 @@ module _ (limits : Limits) (claim : Claim) (files : Files) (a c : View) where
       leaves_both a b c (reads_leave a b reads.inspects) (leaves_both b w.between c
       (whole_leaves slot.Clauses no_clauses files.to_clauses clauses b w.between w.clause_file)
       (whole_leaves slot.Algebra no_algebra files.to_algebra algebra w.between c w.algebra_file))
-  trim_leaves_report (trim.Not outcome) h = reads_leave a c h.4
-  trim_leaves_report trim.WriteFault (rose, accepted, (pair, (g, spelled, (does, (clauses, algebra, trims, (b, reads, stops)))))) =
+  trim_leaves_report (trim.Refused why) h = reads_leave a c h.inspects
+  trim_leaves_report (trim.Stopped stop.WriteFault) (rose, accepted, (pair, (g, spelled, (does, (clauses, algebra, trims, (b, reads, stops)))))) =
       leaves_both a b c (reads_leave a b reads.inspects) (pair_stopped (λ text. text ≡ clauses) (λ beside text. text ≡ algebra) b stops)
-  trim_leaves_report trim.Memory h = reads_leave a c h
+  trim_leaves_report (trim.Stopped (stop.Graph at why)) h = reads_leave a c h.inspects
+  trim_leaves_report (trim.Stopped (stop.TooLong at)) h = reads_leave a c h.inspects
+  trim_leaves_report (trim.Stopped stop.ReadFault) h = reads_leave a c h.inspects
+  trim_leaves_report (trim.Stopped stop.Memory) h = reads_leave a c h.inspects

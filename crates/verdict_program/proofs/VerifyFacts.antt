@@ -1,5 +1,5 @@
 -- What follows from an answer of `verify`.
-use Rattle.std.proofs.Common.{◌≡◌, ℕ, List, Option, Some, None, ap, subst, sym, arith, inl, inr}
+use Rattle.std.proofs.Common.{◌≡◌, ℕ, List, Option, Some, None, refl, subst, sym, arith, inl, inr}
 use Rattle.std.specs.Prelude.{⊤}
 use Rattle.command_line.specs.Asked.{AreApart}
 use Rattle.command_line.specs.declared.command.Command.TheVariants.{Verify}
@@ -13,7 +13,7 @@ use Rattle.joint_prover.specs.Notes.{IsNote, cut_of}
 use Rattle.joint_prover.specs.Tries.{AreTried}
 use Rattle.graph_core.specs.Graph.{Aig}
 use Rattle.ripple_graft.specs.declared.cut.Cut.{Cut}
-use Rattle.joint_prover.specs.Verdicts.{GivesDue, HasNote, HaveManyOnes, HoldsPair, IsFirstAbove, IsVerdict}
+use Rattle.joint_prover.specs.Verdicts.{HasNote, HaveManyOnes, HoldsPair, IsFirstAbove, IsVerdict}
 use Rattle.joint_prover.specs.declared.verdict.Verdict.{Verdict}
 use Rattle.joint_prover.specs.declared.verdict.Verdict.TheVariants as verdict
 use Rattle.joint_prover.proofs.CallerLemmas.{proved_pairs_are_held, verdicts_are_exact}
@@ -22,6 +22,7 @@ use Rattle.verdict_program.specs.declared.answer.Answer.TheVariants as answer
 use Rattle.verdict_program.specs.Answer.{status_of, status_of_verify}
 use Rattle.verdict_program.specs.Runs.{DiffersSomewhere, EndsAsDue, IsTold, TellsNames, files_of, standard, task_of}
 use Rattle.verdict_program.proofs.Facts.{Facts}
+use Rattle.verdict_program.proofs.StopFacts.{gives_as_due, is_read_fault, is_write_fault, stop_is_apart}
 
 module _ (files : named.Files) (claim : Claim) (budget conflicts version : ℕ) (a b : View) (apart : AreApart files) (noted : Option Rewriting) where
   abbrev Is : Verdict → Type 0
@@ -41,11 +42,7 @@ module _ (files : named.Files) (claim : Claim) (budget conflicts version : ℕ) 
   zero (verdict.Wrong x y value product) h e told names = absurd (omega arith)
   zero (verdict.WrongSum x y z value sum) h e told names = absurd (omega arith)
   zero (verdict.Undecided tried step size) h e told names = absurd (omega arith)
-  zero (verdict.Graph why) h e told names = absurd (omega arith)
-  zero verdict.ReadFault h e told names = absurd (omega arith)
-  zero verdict.WriteFault h e told names = absurd (omega arith)
-  zero verdict.TooLong h e told names = absurd (omega arith)
-  zero verdict.Memory h e told names = absurd (omega arith)
+  zero (verdict.Stopped why) h e told names = absurd ((stop_is_apart why).zero e)
 
   one : (outcome : Verdict) → Is outcome → status_of_verify outcome ≡ 1 →
       HasGraph (profile_of claim.add) standard.graph (bytes_under a files.graph) (λ g. DiffersSomewhere g claim × ((n : Rewriting) × IsNote g claim conflicts n))
@@ -53,11 +50,7 @@ module _ (files : named.Files) (claim : Claim) (budget conflicts version : ℕ) 
   one (verdict.Wrong x y value product) h e = let r = h.0 in let n = note_there r.0 (λ used. ⊤) r.2.1 in (r.0, r.1, (inl (x, y, value, product, r.2.0), (n.0, n.1)))
   one (verdict.WrongSum x y z value sum) h e = let r = h.0 in let n = note_there r.0 (λ used. ⊤) r.2.1 in (r.0, r.1, (inr (x, y, z, value, sum, r.2.0), (n.0, n.1)))
   one (verdict.Undecided tried step size) h e = absurd (omega arith)
-  one (verdict.Graph why) h e = absurd (omega arith)
-  one verdict.ReadFault h e = absurd (omega arith)
-  one verdict.WriteFault h e = absurd (omega arith)
-  one verdict.TooLong h e = absurd (omega arith)
-  one verdict.Memory h e = absurd (omega arith)
+  one (verdict.Stopped why) h e = absurd ((stop_is_apart why).one e)
 
   five : (outcome : Verdict) → Is outcome → status_of_verify outcome ≡ 5 →
       HasGraph (profile_of claim.add) standard.graph (bytes_under a files.graph) (λ g. (step : ℕ) × (size : ℕ) × IsFirstAbove g claim budget step size × ((n : Rewriting) × IsNote g claim conflicts n × (tried : List Tried) × AreTried g claim budget (cut_of n) tried) × HaveManyOnes g claim)
@@ -65,50 +58,28 @@ module _ (files : named.Files) (claim : Claim) (budget conflicts version : ℕ) 
   five (verdict.Wrong x y value product) h e = absurd (omega arith)
   five (verdict.WrongSum x y z value sum) h e = absurd (omega arith)
   five (verdict.Undecided tried step size) h e = let r = h.0 in let n = note_there r.0 (λ used. AreTried r.0 claim budget used tried.items) r.2.1 in (r.0, r.1, (step, size, r.2.0, (n.0, n.1, tried.items, n.2), r.2.2))
-  five (verdict.Graph why) h e = absurd (omega arith)
-  five verdict.ReadFault h e = absurd (omega arith)
-  five verdict.WriteFault h e = absurd (omega arith)
-  five verdict.TooLong h e = absurd (omega arith)
-  five verdict.Memory h e = absurd (omega arith)
+  five (verdict.Stopped why) h e = absurd ((stop_is_apart why).five e)
 
   six : (outcome : Verdict) → Is outcome → status_of_verify outcome ≡ 6 → Rose a.read_faults b.read_faults
   six verdict.Proved h e = absurd (omega arith)
   six (verdict.Wrong x y value product) h e = absurd (omega arith)
   six (verdict.WrongSum x y z value sum) h e = absurd (omega arith)
   six (verdict.Undecided tried step size) h e = absurd (omega arith)
-  six (verdict.Graph why) h e = absurd (omega arith)
-  six verdict.ReadFault h e = h.0
-  six verdict.WriteFault h e = absurd (omega arith)
-  six verdict.TooLong h e = absurd (omega arith)
-  six verdict.Memory h e = absurd (omega arith)
+  six (verdict.Stopped why) h e = (subst (λ x. Is (verdict.Stopped x)) (is_read_fault why e) h).0
 
   seven : (outcome : Verdict) → Is outcome → status_of_verify outcome ≡ 7 → Rose a.write_faults b.write_faults
   seven verdict.Proved h e = absurd (omega arith)
   seven (verdict.Wrong x y value product) h e = absurd (omega arith)
   seven (verdict.WrongSum x y z value sum) h e = absurd (omega arith)
   seven (verdict.Undecided tried step size) h e = absurd (omega arith)
-  seven (verdict.Graph why) h e = absurd (omega arith)
-  seven verdict.ReadFault h e = absurd (omega arith)
-  seven verdict.WriteFault h e = h.0
-  seven verdict.TooLong h e = absurd (omega arith)
-  seven verdict.Memory h e = absurd (omega arith)
+  seven (verdict.Stopped why) h e = (subst (λ x. Is (verdict.Stopped x)) (is_write_fault why e) h).0
 
   two : (outcome : Verdict) → status_of_verify outcome ≡ 2 → ⊥
   two verdict.Proved e = absurd (omega arith)
   two (verdict.Wrong x y value product) e = absurd (omega arith)
   two (verdict.WrongSum x y z value sum) e = absurd (omega arith)
   two (verdict.Undecided tried step size) e = absurd (omega arith)
-  two (verdict.Graph why) e = absurd (omega arith)
-  two verdict.ReadFault e = absurd (omega arith)
-  two verdict.WriteFault e = absurd (omega arith)
-  two verdict.TooLong e = absurd (omega arith)
-  two verdict.Memory e = absurd (omega arith)
-
-  as_due : (due given : Verdict) → GivesDue due given → EndsAsDue (status_of_verify due) (status_of_verify given)
-  as_due due given (inl same) = inl (ap status_of_verify same)
-  as_due due given (inr (inl fault)) = inr (inl (ap status_of_verify fault))
-  as_due due given (inr (inr (inl fault))) = inr (inr (inl (ap status_of_verify fault)))
-  as_due due given (inr (inr (inr none))) = inr (inr (inr (ap status_of_verify none)))
+  two (verdict.Stopped why) e = (stop_is_apart why).two e
 
   pub verify_facts : (outcome : Verdict) → Is outcome → Facts (Verify files claim budget conflicts version) a b (answer.Verified outcome noted)
   verify_facts outcome h = record {
@@ -119,5 +90,5 @@ module _ (files : named.Files) (claim : Claim) (budget conflicts version : ℕ) 
     six = λ e. six outcome h e;
     seven = λ e. seven outcome h e;
     due = λ told due k. subst (λ d. EndsAsDue (status_of d) (status_of_verify outcome)) (sym k.2)
-        (let file = k.3 in as_due k.0 outcome (verdicts_are_exact standard.graph (task_of claim budget conflicts version) (files_of files) a b file.0 k.0 outcome noted file.1 file.2 h));
+        (let file = k.3 in gives_as_due a b verdict.Stopped status_of_verify (λ why. refl) k.0 outcome (verdicts_are_exact standard.graph (task_of claim budget conflicts version) (files_of files) a b file.0 k.0 outcome noted file.1 file.2 h));
   }

@@ -1,4 +1,4 @@
--- The answers that commands have in common, which come where a command has none of its own: what is reported of each, and its status.
+-- What is reported of each stop, and its status.
 use Rattle.std.specs.Prelude.{ℕ, List, [], ◌∷◌, ◌++◌, codes, decimal}
 use Rattle.graph_core.specs.Text.{newline}
 use Rattle.aiger_reader.specs.declared.fail.ReadFail.{ReadFail}
@@ -10,8 +10,8 @@ use Rattle.graph_core.specs.declared.fault.GraphFault.TheVariants as fault
 use Rattle.graph_core.specs.declared.literal.Lit.{Lit}
 use Rattle.mv_desk.specs.declared.slot.Slot.{Slot}
 use Rattle.mv_desk.specs.declared.slot.Slot.TheVariants as slot
-use Rattle.verdict_program.specs.declared.stop.Stop.{Stop}
-use Rattle.verdict_program.specs.declared.stop.Stop.TheVariants as stop
+use Rattle.aiger_reader.specs.declared.stop.Stop.{Stop}
+use Rattle.aiger_reader.specs.declared.stop.Stop.TheVariants as stop
 
 abbrev pub line : List ℕ → List ℕ
 line text = text ++ newline ∷ []

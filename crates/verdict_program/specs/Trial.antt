@@ -1,5 +1,7 @@
 -- Which multiplier a number names, what `trial` says of it, and when.
 use Rattle.std.specs.Prelude.{◌≡◌, ℕ, ◌+◌, ◌-◌, ◌/◌, ◌%◌, ◌^◌, ◌==◌, List, Some, codes, length, if◌then◌else◌, ⊤}
+use Rattle.aiger_reader.specs.declared.stop.Stop.{Stop}
+use Rattle.aiger_reader.specs.declared.stop.Stop.TheVariants as stop
 use Rattle.command_line.specs.Asked.{default_budget, default_conflicts}
 use Rattle.graph_core.specs.Aiger.{Spells}
 use Rattle.graph_core.specs.Aiger.Writing.{ascii_text}
@@ -88,6 +90,12 @@ IsTestDue plan (Accepted m n) = OfMade plan (λ g. IsWithinBudget g trial_task.c
 IsTestDue plan _ = ⊥
 
 -- ---- private clauses alone cite what follows
+
+-- what a desk in memory refuses: to write, or memory
+abbrev pub IsOfMemory : Stop → Type 0
+IsOfMemory stop.WriteFault = ⊤
+IsOfMemory stop.Memory = ⊤
+IsOfMemory _ = ⊥
 
 -- the names of the files in memory
 abbrev pub trial_files : Files

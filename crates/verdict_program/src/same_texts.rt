@@ -5,7 +5,7 @@ ghost use Rattle.verdict_program.specs.Stops.{line};
 
 use crate::report::Report;
 use crate::report_texts::clauses_report;
-use crate::stop::Stop;
+use crate::stop::stop_report;
 use same_core::{Same, SameChecked, SameRefusal};
 
 /// The line that reports what `same` says.
@@ -21,15 +21,7 @@ pub fn same_report(outcome: &Same) -> Report
             "\n",
         ),
         Same::Shapes => shapes_report(),
-        Same::Graph { slot, why } => Stop::Graph {
-            slot: *slot,
-            why: *why,
-        }
-        .report(),
-        Same::ReadFault => Stop::ReadFault.report(),
-        Same::WriteFault => Stop::WriteFault.report(),
-        Same::Memory => Stop::Memory.report(),
-        Same::TooLong(slot) => Stop::TooLong(*slot).report(),
+        Same::Stopped(why) => stop_report(*why),
     }
 }
 
@@ -46,10 +38,7 @@ pub fn judged_report(outcome: SameChecked) -> Report
             "\n",
         ),
         SameChecked::Shapes => shapes_report(),
-        SameChecked::Graph { slot, why } => Stop::Graph { slot, why }.report(),
-        SameChecked::ReadFault => Stop::ReadFault.report(),
-        SameChecked::Memory => Stop::Memory.report(),
-        SameChecked::TooLong(slot) => Stop::TooLong(slot).report(),
+        SameChecked::Stopped(why) => stop_report(why),
     }
 }
 

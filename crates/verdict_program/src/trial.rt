@@ -4,16 +4,18 @@ ghost use Rattle.graph_core.specs.Aiger.{IsPacked};
 ghost use Rattle.graph_core.specs.Aiger.Writing.{written};
 ghost use Rattle.joint_checker.specs.Files.{files_of};
 ghost use Rattle.mv_desk.specs.HonestDesk.{held_of};
+ghost use Rattle.verdict_program.specs.declared.tested.Tested.TheVariants.{Memory};
 ghost use Rattle.verdict_program.specs.Making.{graph_of};
 ghost use Rattle.graph_core.specs.Graph.Operands.{product_under};
 ghost use Rattle.graph_core.specs.declared.order.Order.TheVariants.{Separate};
 ghost use Rattle.joint_prover.specs.Verdicts.{IsVerdict};
-ghost use Rattle.verdict_program.specs.Trial.{HoldsGraph, HoldsTrial, IsTested, multiplier_of, no_limits, trial_files, trial_task};
+ghost use Rattle.verdict_program.specs.Trial.{HoldsGraph, HoldsTrial, IsOfMemory, IsTested, multiplier_of, no_limits, trial_files, trial_task};
 
 use crate::made::Made;
 use crate::make_file::create_file;
 use crate::plan::plan_of;
 use crate::tested::{Multiplier, Tested};
+use aiger_reader::Stop;
 use command_line::{BUDGET, CONFLICTS};
 use graph_core::{Claim, Graph, Order, Sign};
 use graph_maker::make;
@@ -62,7 +64,7 @@ fn test(alloc: Global, multiplier: Multiplier, graph: &Graph) -> Tested
     let mut desk = HonestDesk::new(alloc);
     match create_file(&mut desk, graph, names().graph) {
         Made::Written => judge(alloc, &mut desk, multiplier),
-        Made::WriteFault | Made::Memory => Tested::Memory,
+        Made::Stopped(why) => refused(why),
     }
 }
 
@@ -88,7 +90,7 @@ fn judge(alloc: Global, desk: &mut HonestDesk, multiplier: Multiplier) -> Tested
             size: plain_size,
             note: note.unwrap(),
         },
-        Verdict::WriteFault | Verdict::Memory => Tested::Memory,
+        Verdict::Stopped(why) => refused(why),
         _ => unreachable!(),
     }
 }
@@ -127,7 +129,18 @@ fn check_pair(
     measure(desk, names.algebra);
     match check(alloc, desk, PRODUCT, &NO_LIMITS, &names) {
         Checked::Accepted => Tested::Accepted { multiplier, note },
-        Checked::Memory => Tested::Memory,
+        Checked::Stopped(why) => refused(why),
+        Checked::Refused(_) => unreachable!(),
+    }
+}
+
+// What is refused in memory is want of memory, also to write: no read fails there, and the files are as they should be.
+fn refused(why: Stop) -> Tested
+    requires { IsOfMemory why }
+    ensures { result ≡ Memory }
+{
+    match why {
+        Stop::WriteFault | Stop::Memory => Tested::Memory,
         _ => unreachable!(),
     }
 }

@@ -3,8 +3,8 @@ ghost use Rattle.std.specs.Prelude.{◌≡◌};
 ghost use Rattle.verdict_program.specs.Answer.{report_of_trim, trimmed_line};
 
 use crate::report::Report;
-use crate::report_texts::check_report;
-use crate::stop::Stop;
+use crate::report_texts::refusal_report;
+use crate::stop::stop_report;
 use pair_trim::TrimAnswer;
 
 /// The line that reports what `trim` says.
@@ -18,9 +18,8 @@ pub fn trim_report(outcome: &TrimAnswer) -> Report
             pair.algebra.len(),
             pair.of_algebra,
         ),
-        TrimAnswer::Not(outcome) => check_report(*outcome),
-        TrimAnswer::WriteFault => Stop::WriteFault.report(),
-        TrimAnswer::Memory => Stop::Memory.report(),
+        TrimAnswer::Refused(why) => refusal_report(*why),
+        TrimAnswer::Stopped(why) => stop_report(*why),
     }
 }
 

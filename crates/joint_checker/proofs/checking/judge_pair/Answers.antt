@@ -1,4 +1,8 @@
-use Rattle.std.proofs.Common.{◌≡◌, Bool, sym, subst}
+use Rattle.std.proofs.Common.{◌≡◌, ℕ, Bool, List, Option, sym, subst}
+use Rattle.aiger_reader.specs.Refusals.{SpellsWithin}
+use Rattle.aiger_reader.specs.Stopping.{IsGraphStop, IsStop}
+use Rattle.aiger_reader.specs.declared.stop.Stop.{Stop}
+use Rattle.graph_core.specs.declared.profile.Profile.{Profile}
 use Rattle.std.specs.Option.{IfSome}
 use Rattle.graph_core.specs.Algebra.{modulus, specification}
 use Rattle.graph_core.specs.Graph.{Aig}
@@ -10,11 +14,12 @@ use Rattle.std.proofs.lemmas.Result.{err_from_is_err_and}
 use Rattle.graph_core.specs.Aiger.Soundness.{IsSizedAs}
 use Rattle.graph_core.specs.Graph.Operands.{profile_of, sides_for}
 use Rattle.graph_core.proofs.OfAiger.CallerLemmas.{shape_for}
-use Rattle.mv_desk.specs.View.{bytes_under}
+use Rattle.mv_desk.specs.View.{View, bytes_under}
 use Rattle.mv_desk.proofs.CallerLemmas.{Inspects-trans, KeepsTelling-trans, OpensFiles-trans}
 use Rattle.mv_text.specs.LineReading.{lengths_of}
-use Rattle.joint_checker.specs.Fails.{IsAlgebraFail, IsClauseFail, IsGraphFail}
+use Rattle.joint_checker.specs.Fails.{IsAlgebraFail, IsClauseFail}
 use Rattle.joint_checker.specs.Files.{files_of}
+use Rattle.joint_checker.specs.declared.checked.Checked.TheVariants as checked
 use Rattle.joint_checker.specs.Shown.{premises_of}
 use Rattle.joint_checker.proofs.Joined.{graph_is, shown_fits, vanishing_does}
 use Rattle.joint_checker.proofs.Needs.{accepted_needed, algebra_needed, clauses_needed, graph_needed}
@@ -24,19 +29,30 @@ use Rattle.joint_checker.proofs.JudgedPairs.{is_judged, is_told}
 use Rattle.joint_checker.proofs.NamesTold.{told_earlier, told_later}
 use Rattle.joint_checker.proofs.checking.judge_pair.Goals as goal
 
+-- ---- the profile that a claim asks for
+
+spelled_for : (p q : Profile) (limit : ℕ) (text : Option (List ℕ)) (g : Aig) → p ≡ q → IfSome text (λ bytes. SpellsWithin p limit bytes g) → IfSome text (λ bytes. SpellsWithin q limit bytes g)
+spelled_for p q limit text g same h = subst (λ p. IfSome text (λ bytes. SpellsWithin p limit bytes g)) same h
+
+sized_for : (p q : Profile) (g : Aig) → p ≡ q → IsSizedAs p g → IsSizedAs q g
+sized_for p q g same h = subst (λ p. IsSizedAs p g) same h
+
+stopped_for : (p q : Profile) (limit : ℕ) (text : Option (List ℕ)) (before now : View) (why : Stop) → p ≡ q → IsStop (IsGraphStop slot.Graph p limit text) before now why → IsStop (IsGraphStop slot.Graph q limit text) before now why
+stopped_for p q limit text before now why same h = subst (λ p. IsStop (IsGraphStop slot.Graph p limit text) before now why) same h
+
 -- ---- the graph file
 
 pub returns-in_err-graph-clause-refused : goal.returns-in_err-graph-clause-refused
 returns-in_err-graph-clause-refused g c =
     let p = err_from_is_err_and c.from_residual.result c.from_residual.ensures.1 in
     rw (p.1, p.2)
-    (graph_answers c.args.limits.now c.args.claim (files_of c.args.names.now) (g.D.Desk.seen c.args.desk.now) (g.D.Desk.seen c.read_graph.new.desk) c.in_err-graph.field-0.0 c.in_err-graph.ensures.refused)
+    (graph_answers c.args.limits.now c.args.claim (files_of c.args.names.now) (g.D.Desk.seen c.args.desk.now) (g.D.Desk.seen c.read_graph.new.desk) c.in_err-graph.field-0.0 (stopped_for _ _ _ _ (g.D.Desk.seen c.args.desk.now) (g.D.Desk.seen c.read_graph.new.desk) _ c.profile.ensures c.in_err-graph.ensures.refused))
 
 pub returns-in_err-graph-clause-opens : goal.returns-in_err-graph-clause-opens
 returns-in_err-graph-clause-opens g c =
     let p = err_from_is_err_and c.from_residual.result c.from_residual.ensures.1 in
     rw (p.1, p.2)
-    (graph_needed c.args.limits.now c.args.claim (files_of c.args.names.now) (g.D.Desk.seen c.args.desk.now) (g.D.Desk.seen c.read_graph.new.desk) c.in_err-graph.field-0.0 c.read_graph.ensures.others)
+    (graph_needed c.args.limits.now c.args.claim (files_of c.args.names.now) (g.D.Desk.seen c.args.desk.now) (g.D.Desk.seen c.read_graph.new.desk) (checked.Stopped c.in_err-graph.field-0.0) c.read_graph.ensures.opens.others)
 
 pub returns-in_err-graph-clause-opened : goal.returns-in_err-graph-clause-opened
 returns-in_err-graph-clause-opened g c =
@@ -45,7 +61,7 @@ returns-in_err-graph-clause-opened g c =
     let limits = c.args.limits.now in
     let p = err_from_is_err_and c.from_residual.result c.from_residual.ensures.1 in
     rw (p.1, p.2)
-    (graph_opened first first second (profile_of c.args.claim.add) limits.graph (bytes_under first (files_of c.args.names.now).graph) c.in_err-graph.field-0.0 c.in_err-graph.ensures.refused c.read_graph.ensures.opened)
+    (graph_opened first first second (profile_of c.args.claim.add) limits.graph (bytes_under first (files_of c.args.names.now).graph) c.in_err-graph.field-0.0 (stopped_for _ _ _ _ (g.D.Desk.seen c.args.desk.now) (g.D.Desk.seen c.read_graph.new.desk) _ c.profile.ensures c.in_err-graph.ensures.refused) c.read_graph.ensures.opens.opened)
 
 -- ---- the clause file
 
@@ -54,14 +70,14 @@ returns-in_err-shown-clause-refused g c =
     let p = err_from_is_err_and c.from_residual-in_err-shown.result c.from_residual-in_err-shown.ensures.1 in
     rw (p.1, p.2)
     (clauses_answer c.args.limits.now c.args.claim (files_of c.args.names.now) (g.D.Desk.seen c.args.desk.now) (g.D.Desk.seen c.read_graph.new.desk) (g.D.Desk.seen c.check_clauses.new.desk) c.read_graph.ensures.inspects c.in_ok-graph.graph
-    c.in_ok-graph.ensures.spelled c.in_err-shown.field-0.0 c.in_err-shown.ensures.refused)
+    (spelled_for _ _ _ _ _ c.profile.ensures c.in_ok-graph.ensures.spelled) c.in_err-shown.field-0.0 c.in_err-shown.ensures.refused)
 
 pub returns-in_err-shown-clause-opens : goal.returns-in_err-shown-clause-opens
 returns-in_err-shown-clause-opens g c =
     let p = err_from_is_err_and c.from_residual-in_err-shown.result c.from_residual-in_err-shown.ensures.1 in
     rw (p.1, p.2)
-    (clauses_needed c.args.limits.now c.args.claim (files_of c.args.names.now) (g.D.Desk.seen c.args.desk.now) (g.D.Desk.seen c.read_graph.new.desk) (g.D.Desk.seen c.check_clauses.new.desk) c.read_graph.ensures.others
-    c.check_clauses.ensures.others c.in_ok-graph.graph c.in_ok-graph.ensures.spelled c.in_err-shown.field-0.0 c.in_err-shown.ensures.refused)
+    (clauses_needed c.args.limits.now c.args.claim (files_of c.args.names.now) (g.D.Desk.seen c.args.desk.now) (g.D.Desk.seen c.read_graph.new.desk) (g.D.Desk.seen c.check_clauses.new.desk) c.read_graph.ensures.opens.others
+    c.check_clauses.ensures.others c.in_ok-graph.graph (spelled_for _ _ _ _ _ c.profile.ensures c.in_ok-graph.ensures.spelled) c.in_err-shown.field-0.0 c.in_err-shown.ensures.refused)
 
 pub returns-in_err-shown-clause-opened : goal.returns-in_err-shown-clause-opened
 returns-in_err-shown-clause-opened g c =
@@ -71,13 +87,13 @@ returns-in_err-shown-clause-opened g c =
     let p = err_from_is_err_and c.from_residual-in_err-shown.result c.from_residual-in_err-shown.ensures.1 in
     rw (p.1, p.2)
     (clauses_opened first second third (lengths_of c.args.limits.now) c.in_ok-graph.graph (bytes_under second (files_of c.args.names.now).clauses) c.in_err-shown.field-0.0 c.in_err-shown.ensures.refused
-    (OpensFiles-trans 1 1 first second third c.read_graph.ensures.opened c.check_clauses.ensures.opened))
+    (OpensFiles-trans 1 1 first second third c.read_graph.ensures.opens.opened c.check_clauses.ensures.opened))
 
 -- ---- the algebra file
 
 pub check_algebra-requires-clause-sized : goal.check_algebra-requires-clause-sized
 check_algebra-requires-clause-sized g c =
-    subst (IsSizedAs (profile_of c.args.claim.add)) (sym (graph_is c.in_ok-graph.graph (premises_of c.in_ok-shown.shown) (shown_fits c.in_ok-graph.graph c.in_ok-shown.shown c.in_ok-shown.ensures.of_graph))) c.in_ok-graph.ensures.sized
+    subst (IsSizedAs (profile_of c.args.claim.add)) (sym (graph_is c.in_ok-graph.graph (premises_of c.in_ok-shown.shown) (shown_fits c.in_ok-graph.graph c.in_ok-shown.shown c.in_ok-shown.ensures.of_graph))) (sized_for _ _ _ c.profile.ensures c.in_ok-graph.ensures.sized)
 
 pub returns-in_err-closed-clause-refused : goal.returns-in_err-closed-clause-refused
 returns-in_err-closed-clause-refused g c =
@@ -90,7 +106,7 @@ returns-in_err-closed-clause-refused g c =
     let same = err_from_is_err_and c.from_residual-in_err-closed.result c.from_residual-in_err-closed.ensures.1 in
     rw (same.1, same.2)
     (algebra_answers c.args.limits.now c.args.claim (files_of c.args.names.now) first second third last c.read_graph.ensures.inspects c.check_clauses.ensures.inspects graph (premises_of shown) (shown_fits graph shown c.in_ok-shown.ensures.of_graph)
-    c.in_ok-graph.ensures.spelled c.in_ok-shown.ensures.gives c.in_err-closed.field-0.0 c.in_err-closed.ensures.refused)
+    (spelled_for _ _ _ _ _ c.profile.ensures c.in_ok-graph.ensures.spelled) c.in_ok-shown.ensures.gives c.in_err-closed.field-0.0 c.in_err-closed.ensures.refused)
 
 pub returns-clause-accepted : goal.returns-clause-accepted
 returns-clause-accepted g c =
@@ -101,7 +117,7 @@ returns-clause-accepted g c =
     let graph = c.in_ok-graph.graph in
     let shown = c.in_ok-shown.shown in
     accepts c.args.limits.now c.args.claim (files_of c.args.names.now) first second third last c.read_graph.ensures.inspects c.check_clauses.ensures.inspects graph (premises_of shown) (shown_fits graph shown c.in_ok-shown.ensures.of_graph)
-    c.in_ok-graph.ensures.spelled c.in_ok-shown.ensures.gives c.in_ok-graph.ensures.built.well_formed (shape_for c.args.claim.add graph c.in_ok-graph.ensures.sized) c.in_ok-closed.ensures.lawful c.in_ok-closed.ensures.vanishes
+    (spelled_for _ _ _ _ _ c.profile.ensures c.in_ok-graph.ensures.spelled) c.in_ok-shown.ensures.gives c.in_ok-graph.ensures.built.well_formed (shape_for c.args.claim.add graph (sized_for _ _ _ c.profile.ensures c.in_ok-graph.ensures.sized)) c.in_ok-closed.ensures.lawful c.in_ok-closed.ensures.vanishes
 
 pub returns-clause-opens_all : goal.returns-clause-opens_all
 returns-clause-opens_all g c =
@@ -109,7 +125,7 @@ returns-clause-opens_all g c =
     let second = g.D.Desk.seen c.read_graph.new.desk in
     let third = g.D.Desk.seen c.check_clauses.new.desk in
     let last = g.D.Desk.seen c.check_algebra.new.desk in
-    accepted_needed c.args.limits.now c.args.claim (files_of c.args.names.now) first second third c.read_graph.ensures.others c.check_clauses.ensures.others c.in_ok-graph.graph c.in_ok-graph.ensures.spelled
+    accepted_needed c.args.limits.now c.args.claim (files_of c.args.names.now) first second third c.read_graph.ensures.opens.others c.check_clauses.ensures.others c.in_ok-graph.graph (spelled_for _ _ _ _ _ c.profile.ensures c.in_ok-graph.ensures.spelled)
     last c.check_algebra.ensures.others c.read_graph.ensures.inspects (premises_of c.in_ok-shown.shown) (shown_fits c.in_ok-graph.graph c.in_ok-shown.shown c.in_ok-shown.ensures.of_graph) c.in_ok-shown.ensures.gives
 
 pub returns-in_err-closed-clause-opens : goal.returns-in_err-closed-clause-opens
@@ -122,7 +138,7 @@ returns-in_err-closed-clause-opens g c =
     let p = premises_of shown in
     let same = err_from_is_err_and c.from_residual-in_err-closed.result c.from_residual-in_err-closed.ensures.1 in
     rw (same.1, same.2)
-    (algebra_needed c.args.limits.now c.args.claim (files_of c.args.names.now) first second third c.read_graph.ensures.others c.check_clauses.ensures.others c.in_ok-graph.graph c.in_ok-graph.ensures.spelled last c.check_algebra.ensures.others
+    (algebra_needed c.args.limits.now c.args.claim (files_of c.args.names.now) first second third c.read_graph.ensures.opens.others c.check_clauses.ensures.others c.in_ok-graph.graph (spelled_for _ _ _ _ _ c.profile.ensures c.in_ok-graph.ensures.spelled) last c.check_algebra.ensures.others
     c.read_graph.ensures.inspects p (shown_fits c.in_ok-graph.graph shown c.in_ok-shown.ensures.of_graph) c.in_ok-shown.ensures.gives (sides_for c.args.claim p.extended.graph) c.in_err-closed.field-0.0 c.in_err-closed.ensures.refused)
 
 pub returns-clause-opened_all : goal.returns-clause-opened_all
@@ -130,7 +146,7 @@ returns-clause-opened_all g c =
     let first = g.D.Desk.seen c.args.desk.now in
     let second = g.D.Desk.seen c.read_graph.new.desk in
     let third = g.D.Desk.seen c.check_clauses.new.desk in
-    OpensFiles-trans 2 1 first third (g.D.Desk.seen c.check_algebra.new.desk) (OpensFiles-trans 1 1 first second third c.read_graph.ensures.opened c.check_clauses.ensures.opened) c.check_algebra.ensures.opened
+    OpensFiles-trans 2 1 first third (g.D.Desk.seen c.check_algebra.new.desk) (OpensFiles-trans 1 1 first second third c.read_graph.ensures.opens.opened c.check_clauses.ensures.opened) c.check_algebra.ensures.opened
 
 pub returns-in_err-closed-clause-opened : goal.returns-in_err-closed-clause-opened
 returns-in_err-closed-clause-opened g c =
@@ -139,7 +155,7 @@ returns-in_err-closed-clause-opened g c =
     let third = g.D.Desk.seen c.check_clauses.new.desk in
     let last = g.D.Desk.seen c.check_algebra.new.desk in
     let p = premises_of c.in_ok-shown.shown in
-    let opened = OpensFiles-trans 2 1 first third last (OpensFiles-trans 1 1 first second third c.read_graph.ensures.opened c.check_clauses.ensures.opened) c.check_algebra.ensures.opened in
+    let opened = OpensFiles-trans 2 1 first third last (OpensFiles-trans 1 1 first second third c.read_graph.ensures.opens.opened c.check_clauses.ensures.opened) c.check_algebra.ensures.opened in
     let same = err_from_is_err_and c.from_residual-in_err-closed.result c.from_residual-in_err-closed.ensures.1 in
     rw (same.1, same.2)
     (algebra_opened first third last (lengths_of c.args.limits.now) p (sides_for c.args.claim p.extended.graph) (bytes_under third (files_of c.args.names.now).algebra) c.in_err-closed.field-0.0 c.in_err-closed.ensures.refused opened)
@@ -151,8 +167,8 @@ returns-clause-judged g c = λ yes.
     let graph = c.in_ok-graph.graph in
     let shown = c.in_ok-shown.shown in
     let fits = c.in_ok-shown.ensures.of_graph in
-    is_judged c.args.claim graph shown fits c.in_ok-graph.ensures.sized c.in_ok-graph.ensures.built
-    (vanishing_does graph c.args.claim (premises_of shown) c.in_ok-graph.ensures.built.well_formed (shape_for c.args.claim.add graph c.in_ok-graph.ensures.sized) (shown_fits graph shown fits)
+    is_judged c.args.claim graph shown fits (sized_for _ _ _ c.profile.ensures c.in_ok-graph.ensures.sized) c.in_ok-graph.ensures.built
+    (vanishing_does graph c.args.claim (premises_of shown) c.in_ok-graph.ensures.built.well_formed (shape_for c.args.claim.add graph (sized_for _ _ _ c.profile.ensures c.in_ok-graph.ensures.sized)) (shown_fits graph shown fits)
     (subst (λ (x : Aig). Always shown.extended.gates (λ σ. specification shown.extended (sides_for c.args.claim x) σ ≡ 0)) (graph_is graph (premises_of shown) (shown_fits graph shown fits)) c.in_ok-closed.ensures.vanishes))
     (c.in_ok-shown.ensures.chains yes) c.in_ok-shown.ensures.earlier c.in_ok-closed.closed (c.in_ok-closed.ensures.recorded yes)
     (c.parts_of-header.result.0) (c.parts_of-header.result.1) c.parts_of-header.ensures.header c.parts_of-header.ensures.recorded c.parts_of-header.result.2
@@ -163,7 +179,7 @@ returns-clause-told g c = λ yes.
     let second = g.D.Desk.seen c.read_graph.new.desk in
     let third = g.D.Desk.seen c.check_clauses.new.desk in
     is_told c.args.claim c.in_ok-graph.graph c.in_ok-shown.shown c.in_ok-shown.ensures.of_graph c.args.limits.now (files_of c.args.names.now) first second third c.read_graph.ensures.inspects c.check_clauses.ensures.inspects
-    c.in_ok-graph.ensures.spelled (c.in_ok-shown.ensures.adds yes) c.in_ok-closed.closed
+    (spelled_for _ _ _ _ _ c.profile.ensures c.in_ok-graph.ensures.spelled) (c.in_ok-shown.ensures.adds yes) c.in_ok-closed.closed
     (subst (λ (b : Bool). IfSome (bytes_under third (files_of c.args.names.now).algebra) (λ bytes. IsRecordOf b c.in_ok-shown.shown.header.version (modulus c.in_ok-shown.shown.extended) bytes
     (lines_in c.in_ok-closed.closed.record.terms c.in_ok-closed.closed.record.lines.items) c.in_ok-closed.closed.id c.in_ok-closed.closed.lines)) yes c.in_ok-closed.ensures.told)
     c.parts_of-header.result.0 c.parts_of-header.result.1 c.parts_of-header.result.2 c.parts_of-header.ensures.header c.parts_of-header.ensures.recorded c.parts_of-header.ensures.lines
@@ -183,14 +199,14 @@ returns-clause-inspects g c =
 
 pub returns-in_err-shown-clause-tells : goal.returns-in_err-shown-clause-tells
 returns-in_err-shown-clause-tells g c =
-    KeepsTelling-trans (g.D.Desk.seen c.args.desk.now) (g.D.Desk.seen c.read_graph.new.desk) (g.D.Desk.seen c.check_clauses.new.desk) c.read_graph.ensures.tells c.check_clauses.ensures.tells
+    KeepsTelling-trans (g.D.Desk.seen c.args.desk.now) (g.D.Desk.seen c.read_graph.new.desk) (g.D.Desk.seen c.check_clauses.new.desk) c.read_graph.ensures.opens.tells c.check_clauses.ensures.tells
 
 pub returns-clause-tells : goal.returns-clause-tells
 returns-clause-tells g c =
     let first = g.D.Desk.seen c.args.desk.now in
     let third = g.D.Desk.seen c.check_clauses.new.desk in
     KeepsTelling-trans first third (g.D.Desk.seen c.check_algebra.new.desk)
-    (KeepsTelling-trans first (g.D.Desk.seen c.read_graph.new.desk) third c.read_graph.ensures.tells c.check_clauses.ensures.tells) c.check_algebra.ensures.tells
+    (KeepsTelling-trans first (g.D.Desk.seen c.read_graph.new.desk) third c.read_graph.ensures.opens.tells c.check_clauses.ensures.tells) c.check_algebra.ensures.tells
 
 pub returns-clause-clauses_named : goal.returns-clause-clauses_named
 returns-clause-clauses_named g c =
@@ -199,7 +215,7 @@ returns-clause-clauses_named g c =
     let third = g.D.Desk.seen c.check_clauses.new.desk in
     let name = c.args.names.now.clauses.now in
     told_later slot.Clauses name first third (g.D.Desk.seen c.check_algebra.new.desk)
-    (told_earlier slot.Clauses name first second third (c.read_graph.ensures.others slot.Clauses (λ e. cc)) (c.read_graph.ensures.inspects.held name) c.check_clauses.ensures.named) (c.check_algebra.ensures.others slot.Clauses (λ e. cc))
+    (told_earlier slot.Clauses name first second third (c.read_graph.ensures.opens.others slot.Clauses (λ e. cc)) (c.read_graph.ensures.inspects.held name) c.check_clauses.ensures.named) (c.check_algebra.ensures.others slot.Clauses (λ e. cc))
 
 pub returns-clause-algebra_named : goal.returns-clause-algebra_named
 returns-clause-algebra_named g c =
@@ -208,17 +224,15 @@ returns-clause-algebra_named g c =
     let third = g.D.Desk.seen c.check_clauses.new.desk in
     let last = g.D.Desk.seen c.check_algebra.new.desk in
     let name = c.args.names.now.algebra.now in
-    told_earlier slot.Algebra name first second last (c.read_graph.ensures.others slot.Algebra (λ e. cc)) (c.read_graph.ensures.inspects.held name)
+    told_earlier slot.Algebra name first second last (c.read_graph.ensures.opens.others slot.Algebra (λ e. cc)) (c.read_graph.ensures.inspects.held name)
     (told_earlier slot.Algebra name second third last (c.check_clauses.ensures.others slot.Algebra (λ e. cc)) (c.check_clauses.ensures.inspects.held name) c.check_algebra.ensures.named)
 
 -- ---- no refusal accepts
 
 pub returns-in_err-graph-clause-not_accepted : goal.returns-in_err-graph-clause-not_accepted
 returns-in_err-graph-clause-not_accepted g c =
-    let first = g.D.Desk.seen c.args.desk.now in
     let same = err_from_is_err_and c.from_residual.result c.from_residual.ensures.1 in
-    rw (same.1, same.2)
-    (λ e. subst (IsGraphFail (profile_of c.args.claim.add) c.args.limits.now.graph (bytes_under first c.args.names.now.graph.now) first (g.D.Desk.seen c.read_graph.new.desk)) e c.in_err-graph.ensures.refused)
+    rw (same.1, same.2) (λ e. cc)
 
 pub returns-in_err-shown-clause-not_accepted : goal.returns-in_err-shown-clause-not_accepted
 returns-in_err-shown-clause-not_accepted g c =

@@ -7,8 +7,7 @@ use Rattle.same_core.specs.Deciding.{WritesFile}
 use Rattle.same_core.specs.Files.{files_of}
 use Rattle.same_core.specs.Merged.{over}
 use Rattle.same_core.specs.Places.{IsMerged}
-use Rattle.same_core.proofs.Decided.{differs, equal, of_merged}
-use Rattle.same_core.proofs.Openings.{pair_opened}
+use Rattle.same_core.proofs.Decided.{differs, equal, of_merged, pair_fails}
 use Rattle.same_core.proofs.Ranges.{both_merged}
 use Rattle.same_core.proofs.deciding.same.Goals as goal
 
@@ -45,5 +44,9 @@ returns-in-Ok-inputs_at-clause-answer g c =
 
 pub returns-in-Err-clause-opened : goal.returns-in-Err-clause-opened
 returns-in-Err-clause-opened g c =
-    rw c.pair_failed.ensures
-    (pair_opened c.args.limits.now (files_of c.args.names.now) (g.D.Desk.seen c.args.desk.now) (g.D.Desk.seen c.read_pair.new.desk) c.in-Err.fail c.in-Err.ensures.refused c.in-Err.ensures.opened c.read_pair.ensures.few)
+    rw c.from.ensures c.in-Err.ensures.opened
+
+pub returns-in-Err-clause-answer : goal.returns-in-Err-clause-answer
+returns-in-Err-clause-answer g c =
+    rw c.from.ensures
+    (pair_fails c.args.limits.now c.args.conflicts (files_of c.args.names.now) (g.D.Desk.seen c.args.desk.now) (g.D.Desk.seen c.read_pair.new.desk) c.read_pair.ensures.inspects c.in-Err.fail c.in-Err.ensures.refused)

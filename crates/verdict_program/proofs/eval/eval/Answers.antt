@@ -1,10 +1,11 @@
-use Rattle.std.proofs.Common.{Err, ap, subst, sym}
+use Rattle.std.proofs.Common.{subst}
 use Rattle.std.specs.Option.{IfSome}
-use Rattle.aiger_reader.specs.Refusals.{Refuses, SpellsWithin}
+use Rattle.aiger_reader.specs.Refusals.{SpellsWithin}
+use Rattle.aiger_reader.specs.Stopping.{IsGraphStop, IsStop}
 use Rattle.graph_core.specs.Aiger.Soundness.{IsSizedAs}
 use Rattle.mv_desk.specs.View.{bytes_under}
-use Rattle.verdict_program.specs.Evaluation.{IsEvaluated}
-use Rattle.verdict_program.proofs.EvalLemmas.{opens_inspects, unread_is_due, value_is_due}
+use Rattle.mv_desk.specs.declared.slot.Slot.TheVariants as slot
+use Rattle.verdict_program.proofs.EvalLemmas.{value_is_due}
 use Rattle.verdict_program.proofs.eval.eval.Goals as goal
 
 pub value_at-requires : goal.value_at-requires
@@ -13,29 +14,25 @@ value_at-requires g c = subst (λ p. IsSizedAs p c.in-Ok.graph) c.profile.ensure
 pub returns-in-Ok : goal.returns-in-Ok
 returns-in-Ok g c =
     let a = g.D.Desk.seen c.args.desk.now in
-    let b = g.D.Desk.seen c.read_file.new.desk in
+    let b = g.D.Desk.seen c.read_graph.new.desk in
     let limit = c.args.limits.now.graph in
     let read = c.in-Ok.ensures in
-    let told = subst (λ p. IfSome (bytes_under a c.args.name.now) (λ bytes. SpellsWithin p limit bytes c.in-Ok.graph)) c.profile.ensures read.ok in
+    let told = subst (λ p. IfSome (bytes_under a c.args.name.now) (λ bytes. SpellsWithin p limit bytes c.in-Ok.graph)) c.profile.ensures read.spelled in
     record {
-      outcome = value_is_due limit (bytes_under a c.args.name.now) c.in-Ok.graph c.args.point a.read_faults b.read_faults c.value_at.result told c.value_at.ensures;
+      outcome = value_is_due limit c.args.name.now c.in-Ok.graph c.args.point a b c.value_at.result told c.value_at.ensures;
       opens = record { opened = read.opens.opened; others = read.opens.others };
-      inspects = opens_inspects a b _ read.opens;
+      inspects = read.inspects;
       tells = read.opens.tells;
     }
 
 pub returns-in-Err : goal.returns-in-Err
 returns-in-Err g c =
     let a = g.D.Desk.seen c.args.desk.now in
-    let b = g.D.Desk.seen c.read_file.new.desk in
-    let limit = c.args.limits.now.graph in
-    let name = c.args.name.now in
+    let b = g.D.Desk.seen c.read_graph.new.desk in
     let read = c.in-Err.ensures in
-    let told = subst (λ p. IfSome (bytes_under a name) (λ bytes. Refuses p limit bytes c.in-Err.fail)) c.profile.ensures read.err in
     record {
-      outcome = subst (IsEvaluated limit name c.args.point a b) (sym c.unread.ensures)
-          (unread_is_due limit (bytes_under a name) c.args.point a.read_faults b.read_faults c.in-Err.fail told (λ e. read.fault (ap Err e)));
+      outcome = subst (λ p. IsStop (IsGraphStop slot.Graph p c.args.limits.now.graph (bytes_under a c.args.name.now)) a b c.in-Err.why) c.profile.ensures read.refused;
       opens = record { opened = read.opens.opened; others = read.opens.others };
-      inspects = opens_inspects a b _ read.opens;
+      inspects = read.inspects;
       tells = read.opens.tells;
     }

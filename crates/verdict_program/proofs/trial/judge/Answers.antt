@@ -7,7 +7,7 @@ use Rattle.mv_desk.proofs.CallerLemmas.{never_failed}
 use Rattle.verdict_program.specs.Making.{graph_of}
 use Rattle.verdict_program.specs.Trial.{no_limits, trial_files, trial_task}
 use Rattle.verdict_program.proofs.MemoryFiles.{honest_length, honest_tells}
-use Rattle.verdict_program.proofs.TrialLemmas.{held_trial, never_other}
+use Rattle.verdict_program.proofs.TrialLemmas.{held_trial, never_other, refused_alone}
 use Rattle.verdict_program.proofs.trial.judge.Goals as goal
 
 pub check_pair-requires-clause-made : goal.check_pair-requires-clause-made
@@ -48,5 +48,18 @@ unreachable-requires c =
     let short = honest_length c.args.desk.now c.names-names.result.graph.now trial_files.graph (ascii_text (graph_of plan)) c.measure.result
     (ap (λ (f : Files). f.graph) same) c.requires.held c.measure.ensures.count c.measure.ensures.short in
     let said = subst (λ f. IsVerdict no_limits.graph trial_task f a b c.verdict_on-verdict.result.0 noted) same c.verdict_on-verdict.ensures in
-    never_other plan c.requires.some c.requires.narrow a b noted c.requires.held short (never_failed c.verdict_on-verdict.new.desk) c.verdict_on-verdict.result.0 said
-    c.in_default.not-Proved c.in_default.not-Undecided c.in_default.not-WriteFault c.in_default.not-Memory
+    never_other plan c.requires.some c.requires.narrow a b noted c.requires.held short c.verdict_on-verdict.result.0 said
+    c.in_default.not-Proved c.in_default.not-Undecided c.in_default.not-Stopped
+
+pub refused-requires : goal.refused-requires
+refused-requires c =
+    let a = view_of c.args.desk.now in
+    let b = view_of c.verdict_on-verdict.new.desk in
+    let plan = c.args.multiplier.plan in
+    let noted = c.verdict_on-verdict.result.1 in
+    let same = c.names-names.ensures in
+    let short = honest_length c.args.desk.now c.names-names.result.graph.now trial_files.graph (ascii_text (graph_of plan)) c.measure.result
+    (ap (λ (f : Files). f.graph) same) c.requires.held c.measure.ensures.count c.measure.ensures.short in
+    let said = subst (λ f. IsVerdict no_limits.graph trial_task f a b c.verdict_on-verdict.result.0 noted) same c.verdict_on-verdict.ensures in
+    refused_alone plan c.requires.some c.requires.narrow a b noted c.requires.held short (never_failed c.verdict_on-verdict.new.desk) c.in-Stopped.why
+    (subst (λ v. IsVerdict no_limits.graph trial_task trial_files a b v noted) c.in-Stopped.is said)
