@@ -1,7 +1,7 @@
 -- Of a graph file just one thing is told: a graph that it spells within its limit, its first refusal, or that it is too long.
 use Rattle.std.proofs.Common.{◌≡◌, ℕ, List, Some, refl, sym, ap, ◌∙◌, arith, inl, inr, ⊎_elim}
 use Rattle.mv_desk.specs.declared.slot.Slot.{Slot}
-use Rattle.aiger_reader.specs.Refusals.{IsFoundWithin, IsGraphRefusal, IsTooLong, SpellsWithin}
+use Rattle.aiger_reader.specs.Refusals.{IsFoundWithin, IsGraphRefusal, IsGraphTooLong, SpellsWithin}
 use Rattle.aiger_reader.specs.Stopping.{IsGraphStop}
 use Rattle.aiger_reader.specs.declared.fail.ReadFail.{ReadFail}
 use Rattle.aiger_reader.specs.declared.fail.ReadFail.TheVariants as fail
@@ -43,10 +43,10 @@ module _ (profile : Profile) (limit : ℕ) (file : List ℕ) where
   pub spelled_not_refused : (g : Aig) (why : ReadFail) → SpellsWithin profile limit file g → IsGraphRefusal profile limit file why → ⊥
   spelled_not_refused g why s h = let one = found why h in not_spelled_and_refused profile file g one.0 s.spells (found_is_first profile limit file one.0 one.1)
 
-  pub spelled_not_long : (g : Aig) → SpellsWithin profile limit file g → IsTooLong profile limit file → ⊥
+  pub spelled_not_long : (g : Aig) → SpellsWithin profile limit file g → IsGraphTooLong profile limit file → ⊥
   spelled_not_long g s long = let short = s.short in let far = long.long in omega arith
 
-  pub refused_not_long : (why : ReadFail) → IsGraphRefusal profile limit file why → IsTooLong profile limit file → ⊥
+  pub refused_not_long : (why : ReadFail) → IsGraphRefusal profile limit file why → IsGraphTooLong profile limit file → ⊥
   refused_not_long why h long = let one = found why h in go one.0 one.1
     where
       go : (r : Refusal) → IsFoundWithin profile limit file r → ⊥

@@ -8,7 +8,7 @@ use Rattle.aiger_reader.specs.declared.fail.ReadFail.{ReadFail}
 use Rattle.aiger_reader.specs.declared.fail.ReadFail.TheVariants as fail
 use Rattle.aiger_reader.specs.declared.stop.Stop.{Stop}
 use Rattle.aiger_reader.specs.declared.stop.Stop.TheVariants as stop
-use Rattle.aiger_reader.specs.Refusals.{IsGraphRefusal, IsTooLong}
+use Rattle.aiger_reader.specs.Refusals.{IsGraphRefusal, IsGraphTooLong}
 
 -- no graph was read in this slot
 abbrev pub stop_of_read : Slot → ReadFail → Stop
@@ -29,7 +29,7 @@ IsLong at P _ = ⊥
 -- The file of this slot spells no graph of the profile within the limit, where it is told: it is refused, or too long.
 abbrev pub IsGraphStop : Slot → Profile → ℕ → Option (List ℕ) → Stop → Type 0
 IsGraphStop at profile limit file (stop.Graph slot why) = (slot ≡ at) × IfSome file (λ bytes. IsGraphRefusal profile limit bytes why)
-IsGraphStop at profile limit file why = IsLong at (IfSome file (IsTooLong profile limit)) why
+IsGraphStop at profile limit file why = IsLong at (IfSome file (IsGraphTooLong profile limit)) why
 
 -- the file of this slot has the cause
 abbrev pub IsAbout : Slot → Stop → Type 0

@@ -15,13 +15,13 @@ use Rattle.drup_checker.specs.Checking.{Checking, kept, shown_at}
 use Rattle.drup_checker.specs.declared.keeps.Keeps.{Keeps}
 use Rattle.drup_checker.specs.declared.keeps.Keeps.TheVariants as keep
 use Rattle.drup_checker.proofs.StepLaws.{steps_are_lawful}
-use Rattle.drup_text.specs.LineTexts.{IsLineInRange, IsLineOf}
+use Rattle.drup_text.specs.LineTexts.{IsClauseLineInRange, IsSameClauseLine}
 use Rattle.clause_judge.specs.Taking.{HasTaken}
 
 -- ---- ranges
 
 -- the line at hand is in range where that of the text is
-pub range_of : (max : ℕ) (x y : ClauseLine) → IsLineOf x y → IsLineInRange max x → IsClauseInRange max (clause_in y)
+pub range_of : (max : ℕ) (x y : ClauseLine) → IsSameClauseLine x y → IsClauseLineInRange max x → IsClauseInRange max (clause_in y)
 range_of max (Add c) (Add d) same h = range_subset max c d same.1 h
 range_of max (Add c) (Delete d) same h = absurd same
 range_of max (Delete c) (Add d) same h = absurd same

@@ -10,7 +10,7 @@ use Rattle.graph_core.proofs.OfTexts.CallerLemmas.{behind_map}
 use Rattle.clause_core.specs.Clause.{Clause}
 use Rattle.clause_core.specs.ClauseLines.{ClauseLine, IsGoalRefusal}
 use Rattle.clause_core.specs.GateClauses.{gate_clauses}
-use Rattle.clause_core.specs.Likeness.{AreAlike}
+use Rattle.clause_core.specs.Likeness.{HaveSameCopies}
 use Rattle.clause_core.specs.declared.line.Line.TheVariants.{Add, Delete}
 use Rattle.clause_core.proofs.CallerLemmas.{same_flip}
 use Rattle.drup_checker.specs.Checking.{Checking, IsLeastUnshown}
@@ -20,18 +20,19 @@ use Rattle.drup_checker.proofs.StepLaws.{added_are_right, marks_are_right, steps
 use Rattle.drup_text.specs.ClauseTexts.{IsClauseLine}
 use Rattle.mv_text.specs.CertificateFiles.{BeginsOutOfRange, BeginsWithNone, FileState, IsAtEnd, IsNextRefusal, TakesText}
 use Rattle.drup_text.specs.HeaderRefusal.{LineCause, NoSuchClause, NotImplied, Range, Text, TooLong}
-use Rattle.drup_text.specs.LineTexts.{IsLineInRange, IsLineOf}
+use Rattle.drup_text.specs.LineTexts.{IsClauseLineInRange, IsSameClauseLine}
 use Rattle.drup_text.proofs.CallerLemmas.{long_of, none_clause_line, short_of}
+use Rattle.drup_text.specs.HeaderSteps.{IsLongIn}
 use Rattle.miter_encoder.specs.ColumnGoals.{AreGoalsOf}
 use Rattle.mv_desk.specs.View.{View}
-use Rattle.mv_desk.specs.declared.faults.LineFail.{LineFail}
-use Rattle.mv_desk.specs.declared.faults.LineFail.TheVariants as text
+use Rattle.mv_text.specs.declared.line_fail.LineFail.{LineFail}
+use Rattle.mv_text.specs.declared.line_fail.LineFail.TheVariants as text
 use Rattle.mv_text.specs.LineReading.{IsLongAhead, Lines}
 use Rattle.clause_judge.specs.declared.fail.ClauseFail.{ClauseFail}
 use Rattle.clause_judge.specs.declared.fail.ClauseFail.TheVariants as fail
-use Rattle.clause_judge.specs.ClauseBody.{Ends, HasPassed, IsLongIn, IsRestFail, IsShownWith}
-use Rattle.clause_judge.specs.ClauseLines.{answer_of_line, IsGoalFail, IsRuleFail, IsTextFail, NextLine, ReadsNext, Takes}
-use Rattle.clause_judge.specs.LineRefusals.{IsClauseStep, IsRefusedClause, IsRefusedLines, IsRefusedNext}
+use Rattle.clause_judge.specs.ClauseBody.{Ends, HasPassed, IsRestFail, IsShownWith}
+use Rattle.clause_judge.specs.ClauseLines.{answer_of_line, IsGoalFail, IsRuleFail, IsTextFail, NextLine, ReadsNext, TakesClauseLine}
+use Rattle.clause_judge.specs.LineRefusals.{IsClauseStep, IsRefusedClause, IsRefusedLines, IsRefusedNextClause}
 use Rattle.clause_judge.specs.Taking.{HasTaken, TakeClauses}
 use Rattle.clause_judge.proofs.LineEnds.{within_behind}
 use Rattle.clause_judge.proofs.Told.{rose_before, told_more, told_of}
@@ -118,12 +119,12 @@ module _ (e : Extended) (start : FileState) (body : Option (List ℕ)) where
   module _ (xs : List ClauseLine) (live : List Clause) (file : FileState) (left : Option (List ℕ)) (stands : StandsAt e start body xs live file left) where
     -- what is shown where a line stands is so of the body
     refused_lines : (n : ℕ) (c : LineCause) (P : List ℕ → Type 0) → n ≡ start.number + 1 + length xs → IfSome left P →
-        ((bytes : List ℕ) (p : IsPassed e start.lines xs live file.lines left bytes) → P p.rest → IsRefusedNext e (IsLongIn start.lines bytes) live p.rest c) →
+        ((bytes : List ℕ) (p : IsPassed e start.lines xs live file.lines left bytes) → P p.rest → IsRefusedNextClause e (IsLongIn start.lines bytes) live p.rest c) →
         IfSome body (λ bytes. IsRefusedLines (IsLongIn start.lines bytes) e (start.number + 1) bytes (n, c))
     refused_lines n c P same h there = told_more body (IsPassed e start.lines xs live file.lines left) (λ bytes. IsRefusedLines (IsLongIn start.lines bytes) e (start.number + 1) bytes (n, c)) (λ bytes p. (
       xs,
       c,
-      pass_map e (IsLongIn start.lines bytes) (λ s rest. IsRefusedNext e (IsLongIn start.lines bytes) s rest c) xs live p.rest (gate_clauses e.gates) bytes p.passed (there bytes p (told_of left p.rest P p.left_is h)),
+      pass_map e (IsLongIn start.lines bytes) (λ s rest. IsRefusedNextClause e (IsLongIn start.lines bytes) s rest c) xs live p.rest (gate_clauses e.gates) bytes p.passed (there bytes p (told_of left p.rest P p.left_is h)),
       ap (λ (m : ℕ). (m, c)) same,
     )) stands.passed
 
@@ -141,11 +142,11 @@ module _ (e : Extended) (start : FileState) (body : Option (List ℕ)) where
     pub text_fails : (n : ℕ) (first before now : View) (answer : ClauseFail) → n ≡ start.number + 1 + length xs → first.read_faults ≤ before.read_faults → IsTextFail n e.max file.lines left before now answer → Fails first now answer
     text_fails n first before now answer same later h = subst (λ (a : ClauseFail). Fails first now a) (sym h.2) (go h.0 h.1)
       where
-        go : (why : LineFail) → IsNextRefusal IsClauseLine (IsLineInRange e.max) file.lines left before.read_faults now.read_faults why → Fails first now (answer_of_line n why)
+        go : (why : LineFail) → IsNextRefusal IsClauseLine (IsClauseLineInRange e.max) file.lines left before.read_faults now.read_faults why → Fails first now (answer_of_line n why)
         go text.Text k =
             refused_lines n Text (λ bytes. ¬ (IsLongAhead file.lines bytes) × (bytes ≢ []) × BeginsWithNone IsClauseLine bytes) same k (λ bytes p r. inr (short_here bytes p r.0, inl (r.2, r.1, refl)))
         go text.Range k =
-            refused_lines n Range (λ bytes. ¬ (IsLongAhead file.lines bytes) × BeginsOutOfRange IsClauseLine (IsLineInRange e.max) bytes) same k
+            refused_lines n Range (λ bytes. ¬ (IsLongAhead file.lines bytes) × BeginsOutOfRange IsClauseLine (IsClauseLineInRange e.max) bytes) same k
             (λ bytes p r. inr (short_here bytes p r.0, inr (r.1.0, r.1.1, r.1.2, inl (r.1.3, refl))))
         go text.Fault k = rose_before first.read_faults before.read_faults now.read_faults later k
         go text.TooLong k = told_more body (λ bytes. IsRefusedLines (IsLongIn start.lines bytes) e (start.number + 1) bytes (n, TooLong)) (λ bytes. (m : ℕ) × IsRefusedLines (IsLongIn start.lines bytes) e (start.number + 1) bytes (m, TooLong))
@@ -169,9 +170,9 @@ module _ (e : Extended) (start : FileState) (body : Option (List ℕ)) where
     module _ (k : Checking) (taken : HasTaken e xs live k) (new : FileState) (behind : Option (List ℕ)) (line : ClauseLine) (next : NextLine e.max file new left behind line) where
       -- what the checker does is a step of the definitions
       abbrev Steps : ClauseLine → Checking → Type 0
-      Steps x k' = (last : List Clause) × IsClauseStep e live x last × AreAlike k'.live last × HasShown k' (xs ++ x ∷ []) × HasAdded k' (xs ++ x ∷ [])
+      Steps x k' = (last : List Clause) × IsClauseStep e live x last × HaveSameCopies k'.live last × HasShown k' (xs ++ x ∷ []) × HasAdded k' (xs ++ x ∷ [])
 
-      step_of : (x y : ClauseLine) → IsLineOf x y → IsLineInRange e.max x → (k' : Checking) → Takes y k k' → Steps x k'
+      step_of : (x y : ClauseLine) → IsSameClauseLine x y → IsClauseLineInRange e.max x → (k' : Checking) → TakesClauseLine y k k' → Steps x k'
       step_of (Add d) (Add c) same range k' h =
           let flip = same_flip d c same in
           let r = steps_are_lawful.adds c d k k' live taken.alike flip h in
@@ -183,7 +184,7 @@ module _ (e : Extended) (start : FileState) (body : Option (List ℕ)) where
           (r.0, (range, r.1), r.2, marks_are_right.deletes c d k k' xs taken.shown h, added_are_right.deletes c d k k' xs taken.added h)
 
       -- the checker took it
-      pub step : (k' : Checking) → Takes line k k' → new.lines.lengths ≡ file.lines.lengths →
+      pub step : (k' : Checking) → TakesClauseLine line k k' → new.lines.lengths ≡ file.lines.lengths →
           (last : List Clause) × HasTaken e (xs ++ next.text ∷ []) last k' × StandsAt e start body (xs ++ next.text ∷ []) last new behind
       step k' h lengths =
           let s = step_of next.text line next.same next.in_range k' h in
@@ -224,7 +225,7 @@ module _ (e : Extended) (start : FileState) (body : Option (List ℕ)) where
       pub rule_fails : (n : ℕ) (first now : View) (answer : ClauseFail) → n ≡ start.number + 1 + length xs → IsRuleFail n line k answer → Fails first now answer
       rule_fails n first now answer same h = go next.text line next.same (λ c rule. refused_here n c same rule) h
         where
-          go : (x y : ClauseLine) → IsLineOf x y → ((c : LineCause) → IsRefusedClause live x c → IfSome body (λ bytes. IsRefusedLines (IsLongIn start.lines bytes) e (start.number + 1) bytes (n, c))) → IsRuleFail n y k answer → Fails first now answer
+          go : (x y : ClauseLine) → IsSameClauseLine x y → ((c : LineCause) → IsRefusedClause live x c → IfSome body (λ bytes. IsRefusedLines (IsLongIn start.lines bytes) e (start.number + 1) bytes (n, c))) → IsRuleFail n y k answer → Fails first now answer
           go (Add d) (Add c) alike there r =
               ⊎_elim (λ no. subst (λ (a : ClauseFail). Fails first now a) (sym no.0) (there NotImplied (inl (steps_are_lawful.not_implied c d k live taken.alike (same_flip d c alike) no.1, refl))))
               (λ memory. subst (λ (a : ClauseFail). Fails first now a) (sym memory) tt) r

@@ -21,8 +21,8 @@ use Rattle.miter_encoder.specs.declared.goal.Goal.{Goal}
 use Rattle.mv_desk.specs.View.{View}
 use Rattle.clause_judge.specs.declared.fail.ClauseFail.{ClauseFail}
 use Rattle.clause_judge.specs.declared.fail.ClauseFail.TheVariants as fail
-use Rattle.clause_judge.specs.ClauseBody.{Begins, HasPassed, IsRestFail, IsShownWith}
-use Rattle.clause_judge.specs.ClauseLines.{IsGoalFail, IsRuleFail, IsTextFail, NextLine, ReadsNext, Takes}
+use Rattle.clause_judge.specs.ClauseBody.{BeginsBody, HasPassed, IsRestFail, IsShownWith}
+use Rattle.clause_judge.specs.ClauseLines.{IsGoalFail, IsRuleFail, IsTextFail, NextLine, ReadsNext, TakesClauseLine}
 use Rattle.clause_judge.specs.Taking.{HasTaken, HasTakenNone}
 use Rattle.clause_judge.proofs.CheckerBegins.{none_kept}
 use Rattle.clause_judge.proofs.ClauseReached as reached
@@ -31,19 +31,19 @@ use Rattle.clause_judge.proofs.Joins.{goals_join_columns, lines_join_columns}
 use Rattle.clause_judge.proofs.Told.{told_more}
 
 -- the checker keeps its goals, its greatest variable, its gates and what it keeps
-pub takes_goals : (x : ClauseLine) (k k' : Checking) → Takes x k k' → k'.goals ≡ k.goals
+pub takes_goals : (x : ClauseLine) (k k' : Checking) → TakesClauseLine x k k' → k'.goals ≡ k.goals
 takes_goals (Add c) k k' h = h.goals
 takes_goals (Delete c) k k' h = h.goals
 
-pub takes_max : (x : ClauseLine) (k k' : Checking) → Takes x k k' → k'.max ≡ k.max
+pub takes_max : (x : ClauseLine) (k k' : Checking) → TakesClauseLine x k k' → k'.max ≡ k.max
 takes_max (Add c) k k' h = h.max
 takes_max (Delete c) k k' h = h.max
 
-pub takes_gates : (x : ClauseLine) (k k' : Checking) → Takes x k k' → k'.gates ≡ k.gates
+pub takes_gates : (x : ClauseLine) (k k' : Checking) → TakesClauseLine x k k' → k'.gates ≡ k.gates
 takes_gates (Add c) k k' h = h.gates
 takes_gates (Delete c) k k' h = h.gates
 
-pub takes_keeps : (x : ClauseLine) (k k' : Checking) → Takes x k k' → k'.keeps ≡ k.keeps
+pub takes_keeps : (x : ClauseLine) (k k' : Checking) → TakesClauseLine x k k' → k'.keeps ≡ k.keeps
 takes_keeps (Add c) k k' h = h.keeps
 takes_keeps (Delete c) k k' h = h.keeps
 
@@ -81,7 +81,7 @@ module _ (e : Extended) (start : FileState) (body : Option (List ℕ)) where
 
   -- a new checker over these gates and goals, where the first line was read with the greatest variable of the gates
   pub begins_with : (k : Checking) (gates : List Gate) (goals : List Goal) (m : ℕ) (next : Option ClauseLine) (file : FileState) (left : Option (List ℕ)) → HasTakenNone gates k → e.gates ≡ gates → k.max ≡ m → m ≡ e.max →
-      k.goals ≡ goals → AreGoalsOf e goals → file.lines.lengths ≡ start.lines.lengths → start.lines.lengths.file < 2 ^ 64 → ReadsNext m start file body left next → Begins e k start file body left next
+      k.goals ≡ goals → AreGoalsOf e goals → file.lines.lengths ≡ start.lines.lengths → start.lines.lengths.file < 2 ^ 64 → ReadsNext m start file body left next → BeginsBody e k start file body left next
   begins_with k gates goals m next file left taken own max is same of lengths limit read = record {
     taken = taken e own;
     max = max ∙ is;
@@ -91,7 +91,7 @@ module _ (e : Extended) (start : FileState) (body : Option (List ℕ)) where
     read = subst (λ (n : ℕ). ReadsNext n start file body left next) is read;
   }
 
-  pub reached_first : (k : Checking) (next : Option ClauseLine) (file : FileState) (left : Option (List ℕ)) → Begins e k start file body left next → IsReached e start body k 0 next file left
+  pub reached_first : (k : Checking) (next : Option ClauseLine) (file : FileState) (left : Option (List ℕ)) → BeginsBody e k start file body left next → IsReached e start body k 0 next file left
   reached_first k next file left b = first_reached k next file left b.taken b.lengths b.read
 
   -- there is no line and no goal
@@ -119,7 +119,7 @@ module _ (e : Extended) (start : FileState) (body : Option (List ℕ)) where
     rule_fails first now answer h =
         reached.rule_fails e start body r.xs r.live r.before r.ahead r.stands k r.taken file left line next file.number first now answer number_is h
 
-    module _ (k' : Checking) (takes : Takes line k k') where
+    module _ (k' : Checking) (takes : TakesClauseLine line k k') where
       more : length (r.xs ++ next.text ∷ []) ≡ length r.xs + 1
       more = length-append r.xs (next.text ∷ [])
 

@@ -2,7 +2,7 @@
 use Rattle.std.specs.Prelude.{◌≡◌, ◌+◌, ◌<◌, ◌≤◌, ◌^◌, ℕ, List, [], length, IfSome, ⊤}
 use Rattle.std.specs.declared.option.Option.{Option}
 use Rattle.graph_core.specs.Graph.Extended.{Extended}
-use Rattle.graph_core.specs.Text.JudgedLines.{Behind, IsTooLong}
+use Rattle.graph_core.specs.Text.JudgedLines.{Behind}
 use Rattle.graph_core.specs.Algebra.{AgreeOnColumns}
 use Rattle.mv_fact.specs.Always.{Always}
 use Rattle.clause_core.specs.Clause.{Clause}
@@ -14,6 +14,7 @@ use Rattle.drup_checker.specs.declared.keeps.Keeps.{Keeps}
 use Rattle.drup_text.specs.ClauseTexts.{IsClauseLine}
 use Rattle.mv_text.specs.CertificateFiles.{FileState}
 use Rattle.drup_text.specs.HeaderRefusal.{TooLong}
+use Rattle.drup_text.specs.HeaderSteps.{IsLongIn}
 use Rattle.miter_encoder.specs.ColumnGoals.{AreGoalsOf}
 use Rattle.mv_desk.specs.View.{Rose, View}
 use Rattle.mv_text.specs.LineReading.{Lines}
@@ -22,10 +23,6 @@ use Rattle.clause_judge.specs.declared.fail.ClauseFail.TheVariants as fail
 use Rattle.clause_judge.specs.ClauseLines.{ReadsNext}
 use Rattle.clause_judge.specs.LineRefusals.{IsClauseStep, IsRefusedLines, line_cause}
 use Rattle.clause_judge.specs.Taking.{HasTaken}
-
--- Where these bytes are left to a reader of lines: a line of them is too long for the whole file.
-abbrev pub IsLongIn : Lines → List ℕ → List ℕ → Type 0
-IsLongIn lines body left = IsTooLong lines.lengths (lines.taken + length body) left
 
 -- the file ends there
 abbrev pub Ends : (List ℕ → Type 0) → List Clause → List ℕ → Type 0
@@ -61,7 +58,7 @@ IsRestFail number e lines left before now fail.Memory = ⊤
 -- ---- from the first line on
 
 -- Of a body that a reader had before it the first line was read, or its end, and a checker has taken no line.
-pub record Begins (e : Extended) (k : Checking) (start file : FileState) (body left : Option (List ℕ)) (first : Option ClauseLine) : Type 0 where
+pub record BeginsBody (e : Extended) (k : Checking) (start file : FileState) (body left : Option (List ℕ)) (first : Option ClauseLine) : Type 0 where
   pub taken : HasTaken e [] (gate_clauses e.gates) k
   pub max : k.max ≡ e.max
   pub goals : AreGoalsOf e k.goals
@@ -70,21 +67,21 @@ pub record Begins (e : Extended) (k : Checking) (start file : FileState) (body l
   pub read : ReadsNext e.max start file body left first
 
 abbrev pub BeginsSomewhere : Checking → Option ClauseLine → FileState → Option (List ℕ) → Type 0
-BeginsSomewhere k first file left = (e : Extended) × (start : FileState) × (body : Option (List ℕ)) × Begins e k start file body left first
+BeginsSomewhere k first file left = (e : Extended) × (start : FileState) × (body : Option (List ℕ)) × BeginsBody e k start file body left first
 
 -- Wherever it begins, the lines are lawful and show each goal, these clauses are those that they add, as far as they are kept, and there
 -- are so many lines.
 abbrev pub IsShownFrom : Checking → List Clause → ℕ → Option ClauseLine → FileState → Option (List ℕ) → Type 0
 IsShownFrom k clauses count first file left =
-    (e : Extended) (start : FileState) (body : Option (List ℕ)) → Begins e k start file body left first → IfSome body (IsShownWith e start.lines k.keeps clauses count)
+    (e : Extended) (start : FileState) (body : Option (List ℕ)) → BeginsBody e k start file body left first → IfSome body (IsShownWith e start.lines k.keeps clauses count)
 
 -- Wherever it begins, the old and the new output of each replaced column are equal on every evaluation.
 abbrev pub JoinsFrom : Checking → Option ClauseLine → FileState → Option (List ℕ) → Type 0
 JoinsFrom k first file left =
-    (e : Extended) (start : FileState) (body : Option (List ℕ)) → Begins e k start file body left first → Always e.gates (AgreeOnColumns e)
+    (e : Extended) (start : FileState) (body : Option (List ℕ)) → BeginsBody e k start file body left first → Always e.gates (AgreeOnColumns e)
 
 -- Wherever it begins, why the lines aren't lawful or don't show each goal.
 abbrev pub IsFailFrom : Checking → Option ClauseLine → FileState → Option (List ℕ) → View → View → ClauseFail → Type 0
 IsFailFrom k first file left entry now answer =
-    (e : Extended) (start : FileState) (body : Option (List ℕ)) → Begins e k start file body left first → (before : View) → before.read_faults ≤ entry.read_faults →
+    (e : Extended) (start : FileState) (body : Option (List ℕ)) → BeginsBody e k start file body left first → (before : View) → before.read_faults ≤ entry.read_faults →
     IsRestFail (start.number + 1) e start.lines body before now answer

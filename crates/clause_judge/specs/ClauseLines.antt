@@ -5,15 +5,15 @@ use Rattle.std.specs.declared.option.Option.TheVariants.{None, Some}
 use Rattle.clause_core.specs.ClauseLines.{ClauseLine}
 use Rattle.clause_core.specs.UnitPropagation.{IsRup}
 use Rattle.clause_core.specs.declared.line.Line.TheVariants.{Add, Delete}
-use Rattle.drup_checker.specs.Checking.{Adds, Checking, Deletes, IsLeastUnshown, IsNowhere}
+use Rattle.drup_checker.specs.Checking.{AddsRup, Checking, Deletes, IsLeastUnshown, IsNowhere}
 use Rattle.drup_text.specs.ClauseTexts.{IsClauseLine}
 use Rattle.mv_text.specs.CertificateFiles.{FileState, GoesOn, IsAtEnd, IsNextRefusal, TakesText}
-use Rattle.drup_text.specs.LineTexts.{IsLineInRange, IsLineOf}
+use Rattle.drup_text.specs.LineTexts.{IsClauseLineInRange, IsSameClauseLine}
 use Rattle.mv_desk.specs.View.{View}
-use Rattle.mv_desk.specs.declared.faults.LineFail.{LineFail}
+use Rattle.mv_text.specs.declared.line_fail.LineFail.{LineFail}
 use Rattle.mv_desk.specs.declared.slot.Slot.TheVariants as slot
 use Rattle.mv_text.specs.LineReading.{Lines}
-use Rattle.mv_desk.specs.declared.faults.LineFail.TheVariants as text
+use Rattle.mv_text.specs.declared.line_fail.LineFail.TheVariants as text
 use Rattle.clause_judge.specs.declared.fail.ClauseFail.{ClauseFail}
 use Rattle.clause_judge.specs.declared.fail.ClauseFail.TheVariants as fail
 use Rattle.clause_judge.specs.declared.fail.ClauseWhy.TheVariants as why
@@ -23,8 +23,8 @@ use Rattle.clause_judge.specs.declared.fail.ClauseWhy.TheVariants as why
 -- The next line as its text has it, and as it is at hand, of the same set. Where the desk tells the file, it stands there.
 pub record NextLine (max : ℕ) (old new : FileState) (left behind : Option (List ℕ)) (line : ClauseLine) : Type 0 where
   pub text : ClauseLine
-  pub in_range : IsLineInRange max text
-  pub same : IsLineOf text line
+  pub in_range : IsClauseLineInRange max text
+  pub same : IsSameClauseLine text line
   pub takes : IfSome left (λ bytes. TakesText IsClauseLine old.lines new.lines bytes behind text)
   pub number : new.number ≡ old.number + 1
   pub going : GoesOn new
@@ -45,14 +45,14 @@ answer_of_line line text.Memory = fail.Memory
 -- Why the line with this number isn't read.
 abbrev pub IsTextFail : ℕ → ℕ → Lines → Option (List ℕ) → View → View → ClauseFail → Type 0
 IsTextFail n max lines left before now answer =
-    (given : LineFail) × IsNextRefusal IsClauseLine (IsLineInRange max) lines left before.read_faults now.read_faults given × (answer ≡ answer_of_line n given)
+    (given : LineFail) × IsNextRefusal IsClauseLine (IsClauseLineInRange max) lines left before.read_faults now.read_faults given × (answer ≡ answer_of_line n given)
 
 -- ---- checking
 
 -- The checker takes the line.
-abbrev pub Takes : ClauseLine → Checking → Checking → Type 0
-Takes (Add c) old new = Adds c old new
-Takes (Delete c) old new = Deletes c old new
+abbrev pub TakesClauseLine : ClauseLine → Checking → Checking → Type 0
+TakesClauseLine (Add c) old new = AddsRup c old new
+TakesClauseLine (Delete c) old new = Deletes c old new
 
 -- Why it doesn't take the line with this number.
 abbrev pub IsRuleFail : ℕ → ClauseLine → Checking → ClauseFail → Type 0

@@ -37,23 +37,23 @@ IsRefusedClause live (Add c) = Unless (IsRup live c) (¬ (IsRup live c)) NotImpl
 IsRefusedClause live (Delete c) = Unless (Any (λ d. SameSet d c) live) (¬ (Any (λ d. SameSet d c) live)) NoSuchClause Never
 
 -- its first cause over the live clauses: its range, and then its rule
-abbrev pub IsRefusedLine : Extended → List Clause → ClauseLine → LineCause → Type 0
-IsRefusedLine e live x = Unless (IsClauseInRange e.max (clause_in x)) (¬ (IsClauseInRange e.max (clause_in x))) Range (IsRefusedClause live x)
+abbrev pub IsRefusedClauseLine : Extended → List Clause → ClauseLine → LineCause → Type 0
+IsRefusedClauseLine e live x = Unless (IsClauseInRange e.max (clause_in x)) (¬ (IsClauseInRange e.max (clause_in x))) Range (IsRefusedClause live x)
 
 -- ---- the lines behind a header
 
 -- what is wrong where bytes are left behind lawful lines
-abbrev pub IsRefusedText : Extended → List Clause → List ℕ → LineCause → Type 0
-IsRefusedText e live bytes cause =
+abbrev pub IsRefusedClauseText : Extended → List Clause → List ℕ → LineCause → Type 0
+IsRefusedClauseText e live bytes cause =
     (((x : ClauseLine) (rest : List ℕ) → BeginsWith IsClauseLine bytes x rest → ⊥) × (bytes ≢ []) × (cause ≡ Text)) ⊎
-    ((x : ClauseLine) × (rest : List ℕ) × BeginsWith IsClauseLine bytes x rest × IsRefusedLine e live x cause)
+    ((x : ClauseLine) × (rest : List ℕ) × BeginsWith IsClauseLine bytes x rest × IsRefusedClauseLine e live x cause)
 
-abbrev pub IsRefusedNext : Extended → (List ℕ → Type 0) → List Clause → List ℕ → LineCause → Type 0
-IsRefusedNext e IsLong live bytes = Unless (¬ (IsLong bytes)) (IsLong bytes) TooLong (IsRefusedText e live bytes)
+abbrev pub IsRefusedNextClause : Extended → (List ℕ → Type 0) → List Clause → List ℕ → LineCause → Type 0
+IsRefusedNextClause e IsLong live bytes = Unless (¬ (IsLong bytes)) (IsLong bytes) TooLong (IsRefusedClauseText e live bytes)
 
 -- the first refusal of the lines from this number on
 abbrev pub IsRefusedLines : (List ℕ → Type 0) → Extended → ℕ → List ℕ → ℕ × LineCause → Type 0
 IsRefusedLines IsLong e number bytes p =
     (lines : List ClauseLine) × (cause : LineCause) ×
-    Behind IsClauseLine (IsClauseStep e) IsLong (λ live left. IsRefusedNext e IsLong live left cause) lines (gate_clauses e.gates) bytes ×
+    Behind IsClauseLine (IsClauseStep e) IsLong (λ live left. IsRefusedNextClause e IsLong live left cause) lines (gate_clauses e.gates) bytes ×
     (p ≡ (number + length lines, cause))

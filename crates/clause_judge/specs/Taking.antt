@@ -8,7 +8,7 @@ use Rattle.mv_fact.specs.Always.{Always}
 use Rattle.clause_core.specs.Clause.{Clause}
 use Rattle.clause_core.specs.ClauseLines.{ClauseLine}
 use Rattle.clause_core.specs.GateClauses.{gate_clauses}
-use Rattle.clause_core.specs.Likeness.{AreAlike}
+use Rattle.clause_core.specs.Likeness.{HaveSameCopies}
 use Rattle.drup_checker.specs.Checking.{Checking, IsLeastUnshown}
 use Rattle.drup_checker.specs.Steps.{HasAdded, HasShown}
 use Rattle.miter_encoder.specs.ColumnGoals.{AreGoalsOf}
@@ -23,7 +23,7 @@ TakeClauses e live (x ∷ xs) last = (next : List Clause) × IsClauseStep e live
 -- likeness, its marks are of the goals that these lines show, and what it keeps are the clauses that they add.
 pub record HasTaken (e : Extended) (lines : List ClauseLine) (live : List Clause) (k : Checking) : Type 0 where
   pub lawful : TakeClauses e (gate_clauses e.gates) lines live
-  pub alike : AreAlike k.live live
+  pub alike : HaveSameCopies k.live live
   pub shown : HasShown k lines
   pub added : HasAdded k lines
 

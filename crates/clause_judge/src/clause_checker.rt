@@ -7,7 +7,7 @@ ghost use Rattle.clause_core.specs.ClauseLines.{clause_in};
 ghost use Rattle.clause_core.specs.GateClauses.{gate_clauses};
 ghost use Rattle.clause_core.specs.Likeness.{AreSameSets};
 ghost use Rattle.drup_checker.specs.Checking.{IsLeastUnshown};
-ghost use Rattle.clause_judge.specs.ClauseLines.{IsGoalFail, IsRuleFail, Takes};
+ghost use Rattle.clause_judge.specs.ClauseLines.{IsGoalFail, IsRuleFail, TakesClauseLine};
 ghost use Rattle.clause_judge.specs.Taking.{HasTakenNone};
 
 use crate::clause_line::refused;
@@ -46,7 +46,7 @@ pub(crate) fn take_line(
     number: u64,
 ) -> Result<(), ClauseFail>
     requires { IsClauseInRange checker.old.max (clause_in line.now) }
-    ensures taken { OnOk result (Takes line.now checker.old checker.new) }
+    ensures taken { OnOk result (TakesClauseLine line.now checker.old checker.new) }
     ensures refused { IfErr result (IsRuleFail number line.now checker.old) }
     ensures unchanged { OnErr result (checker.new ≡ checker.old) }
 {

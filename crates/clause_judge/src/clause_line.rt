@@ -3,13 +3,14 @@ ghost use Rattle.std.specs.Prelude.{◌≡◌, ◌+◌, ◌<◌, ◌^◌, true, 
 ghost use Rattle.mv_desk.specs.Calls.{ReadsOnly};
 ghost use Rattle.mv_desk.specs.View.{KeepsTelling};
 ghost use Rattle.mv_desk.specs.declared.slot.Slot.TheVariants as slot;
-ghost use Rattle.mv_text.specs.CertificateFiles.{GoesOn, left_of};
+ghost use Rattle.mv_text.specs.CertificateFiles.{GoesOn, left_of_file};
 ghost use Rattle.clause_judge.specs.ClauseLines.{IsTextFail, ReadsNext, answer_of_line};
 
 use crate::fail::{ClauseFail, ClauseWhy};
 use clause_core::Line;
 use drup_text::ClauseFile;
-use mv_desk::{Desk, LineFail};
+use mv_desk::Desk;
+use mv_text::LineFail;
 
 /// The next line, or none at the end of the file.
 pub fn read_line<D: Desk>(
@@ -21,9 +22,9 @@ pub fn read_line<D: Desk>(
     requires going { GoesOn file.old }
     requires small { max < 2 ^ 31 }
     ensures next { IfOk result (ReadsNext max file.old file.new
-        (left_of slot.Clauses file.old (D.seen desk.old)) (left_of slot.Clauses file.new (D.seen desk.new))) }
+        (left_of_file slot.Clauses file.old (D.seen desk.old)) (left_of_file slot.Clauses file.new (D.seen desk.new))) }
     ensures refused { IfErr result (IsTextFail (file.old.number + 1) max file.old.lines
-        (left_of slot.Clauses file.old (D.seen desk.old)) (D.seen desk.old) (D.seen desk.new)) }
+        (left_of_file slot.Clauses file.old (D.seen desk.old)) (D.seen desk.old) (D.seen desk.new)) }
     ensures lengths { file.new.lines.lengths ≡ file.old.lines.lengths }
     ensures only { ReadsOnly slot.Clauses (D.seen desk.old) (D.seen desk.new) }
     ensures tells { KeepsTelling (D.seen desk.old) (D.seen desk.new) }

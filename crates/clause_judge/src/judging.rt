@@ -4,7 +4,7 @@ ghost use Rattle.mv_desk.specs.Calls.{ReadsOnly};
 ghost use Rattle.mv_desk.specs.View.{KeepsTelling};
 ghost use Rattle.mv_desk.specs.declared.slot.Slot.TheVariants as slot;
 ghost use Rattle.clause_judge.specs.ClauseBody.{BeginsSomewhere, IsFailFrom, IsShownFrom, JoinsFrom};
-ghost use Rattle.mv_text.specs.CertificateFiles.{left_of};
+ghost use Rattle.mv_text.specs.CertificateFiles.{left_of_file};
 
 use crate::clause_checker::{judge_goals, take_line};
 use crate::clause_line::read_line;
@@ -26,15 +26,15 @@ pub fn judge_from<D: Desk>(
     requires reads { (D.seen desk.old).reads slot.Clauses ≡ true }
     requires small { max < 2 ^ 31 }
     requires greatest { checker.old.max ≡ max }
-    requires begins { BeginsSomewhere checker.old first file.old (left_of slot.Clauses file.old (D.seen desk.old)) }
+    requires begins { BeginsSomewhere checker.old first file.old (left_of_file slot.Clauses file.old (D.seen desk.old)) }
     ensures lawful { IfOk result (λ count. IsShownFrom checker.old checker.new.added count first file.old
-        (left_of slot.Clauses file.old (D.seen desk.old))) }
+        (left_of_file slot.Clauses file.old (D.seen desk.old))) }
     ensures gates { checker.new.gates ≡ checker.old.gates }
     ensures keeps { checker.new.keeps ≡ checker.old.keeps }
     ensures columns { OnOk result (JoinsFrom checker.old first file.old
-        (left_of slot.Clauses file.old (D.seen desk.old))) }
+        (left_of_file slot.Clauses file.old (D.seen desk.old))) }
     ensures refused { IfErr result (IsFailFrom checker.old first file.old
-        (left_of slot.Clauses file.old (D.seen desk.old)) (D.seen desk.old) (D.seen desk.new)) }
+        (left_of_file slot.Clauses file.old (D.seen desk.old)) (D.seen desk.old) (D.seen desk.new)) }
     ensures only { ReadsOnly slot.Clauses (D.seen desk.old) (D.seen desk.new) }
     ensures tells { KeepsTelling (D.seen desk.old) (D.seen desk.new) }
 {

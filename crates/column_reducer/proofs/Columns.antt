@@ -17,12 +17,12 @@ use Rattle.graph_core.specs.Graph.Extended.{Column, Extended}
 use Rattle.graph_core.specs.Algebra.{IsLive, axioms, combined, value_of}
 use Rattle.graph_core.specs.Algebra as algebra
 use Rattle.graph_core.specs.Algebra.Polynomials.{difference, value}
-use Rattle.gate_axioms.specs.Axioms.{IsDifference}
+use Rattle.gate_axioms.specs.Axioms.{IsLiteralDifference}
 use Rattle.ripple_graft.specs.Extension.{IsExtension, IsReplaced, new_outputs}
 use Rattle.ripple_graft.proofs.NewOutputs.{outputs_are_new}
-use Rattle.poly_terms.specs.Tables.{Table, Sum, Extends, IsOf, modulus, monomials_in, value_in}
+use Rattle.poly_terms.specs.Tables.{Table, Sum, Extends, IsOf, modulus_in, monomials_in, value_in}
 use Rattle.poly_terms.specs.Laws.{extends_on, modulus_stays, stays, value_stays}
-use Rattle.pac_writer.specs.Writing.{IsOver, parts_in}
+use Rattle.pac_writer.specs.Writing.{IsOver}
 use Rattle.frontier_core.specs.Sets.{has}
 use Rattle.frontier_core.specs.Columns.{column_value}
 use Rattle.frontier_core.specs.Frontier.{set_to}
@@ -33,15 +33,16 @@ use Rattle.frontier_core.proofs.Gathered.{combined_push, has_first, has_more, pe
 use Rattle.frontier_core.proofs.LineLemmas.{axioms_are_live}
 use Rattle.frontier_core.proofs.RestLines.{adding_keeps_rest_line}
 use Rattle.column_reducer.specs.declared.gathered.Gathered.{Gathered}
-use Rattle.column_reducer.specs.Gathering.{AreColumns, AreGroups, AreOfAdded, AreParts, HasColumn, HasColumnIn, IsFixedAbove, IsGathered, group_count, groups_sum, one_if_some, whole}
+use Rattle.column_reducer.specs.Gathering.{AreColumns, AreGateParts, AreOfAdded, AreSumGroups, HasColumn, HasColumnIn, IsFixedAbove, IsGathered, group_count, groups_sum, one_if_some, scaled_parts}
 use Rattle.column_reducer.proofs.Fixed.{literal_fixed, new_outputs_low, output_low, outputs_low, over_fixed, same_fixed}
 use Rattle.column_reducer.proofs.Grown.{gathered_grown}
 use Rattle.column_reducer.proofs.Taken.{part_pushed}
+use Rattle.poly_text.specs.Lines.{parts_in}
 
 -- ---- a column's number
 
 -- it is below the exponent
-pub below_exponent : (e : Extended) (t : Table) (k : ℕ) → modulus t ≡ algebra.modulus e → k < length e.graph.outputs → k < t.exponent
+pub below_exponent : (e : Extended) (t : Table) (k : ℕ) → modulus_in t ≡ algebra.modulus e → k < length e.graph.outputs → k < t.exponent
 below_exponent e t k same low =
     lt_of_not-le (λ (h : t.exponent ≤ k).
     let small : 2 ^ t.exponent ≤ 2 ^ k = pow_mono h in let great : 2 ^ k < 2 ^ length e.graph.outputs = pow-lt low in absurd (omega (arith, same)))
@@ -83,7 +84,7 @@ column_kept t e k g kept = record {
         parts = h.parts;
         fixed = h.fixed;
         low = h.low;
-        pending = (pending_adds_column e s (axioms e).live (value_in t g.total) rest next f (whole t g.power g.parts.items) k o o h.pending old out new (sum o out)).0 refl;
+        pending = (pending_adds_column e s (axioms e).live (value_in t g.total) rest next f (scaled_parts t g.power g.parts.items) k o o h.pending old out new (sum o out)).0 refl;
         of = h.of;
         sum = h.sum;
       };
@@ -111,7 +112,7 @@ pending_more e s f start more rest next parts k o r old out new sum more_is h =
       taken = λ i d low. taken_adding e f k (slice_index_or parts i d).id (h.taken i d low);
     }
 
-columns_pushed : (e : Extended) (t : Table) (added : List ℕ) (k : ℕ) (weight : Sum) (columns : List (ℕ × Sum)) → modulus t ≡ algebra.modulus e → k < length e.graph.outputs → has added k ≡ false → IsLive (axioms e).live (e.max + 1 + k) →
+columns_pushed : (e : Extended) (t : Table) (added : List ℕ) (k : ℕ) (weight : Sum) (columns : List (ℕ × Sum)) → modulus_in t ≡ algebra.modulus e → k < length e.graph.outputs → has added k ≡ false → IsLive (axioms e).live (e.max + 1 + k) →
     IsOf t weight → ((σ : Assignment) → value_in t weight σ ≡ 2 ^ k) → AreOfAdded e added columns → AreColumns e t columns → AreColumns e t (columns ++ (e.max + 1 + k, weight) ∷ [])
 columns_pushed e t added k weight columns same low new live of weight_is are h =
     let m = algebra.modulus e in
@@ -131,8 +132,8 @@ columns_pushed e t added k weight columns same low new live of weight_is are h =
     }
 
 pub column_taken : (t0 t1 t2 t : Table) (e : Extended) (k : ℕ) (o r : Lit) (equal weight : Sum) (g more : Gathered) → Extends t0 t1 → Extends t1 t2 → Extends t2 t → IsReplaced e k →
-    slice_get e.graph.outputs k ≡ Some o → slice_get (new_outputs e) k ≡ Some r → IsOf t1 equal → IsDifference t1 equal o r → IsOf t2 weight → ((σ : Assignment) → value_in t2 weight σ ≡ 2 ^ k) → IsOf t more.total →
-    ((σ : Assignment) → value_in t more.total σ ≡ (value_in t2 g.total σ + value_in t2 equal σ * value_in t2 weight σ) % modulus t2) →
+    slice_get e.graph.outputs k ≡ Some o → slice_get (new_outputs e) k ≡ Some r → IsOf t1 equal → IsLiteralDifference t1 equal o r → IsOf t2 weight → ((σ : Assignment) → value_in t2 weight σ ≡ 2 ^ k) → IsOf t more.total →
+    ((σ : Assignment) → value_in t more.total σ ≡ (value_in t2 g.total σ + value_in t2 equal σ * value_in t2 weight σ) % modulus_in t2) →
     more.groups ≡ g.groups → more.columns.items ≡ g.columns.items ++ (e.max + 1 + k, weight) ∷ [] → more.parts ≡ g.parts → more.stated ≡ g.stated → more.power ≡ g.power → HasColumn t0 t e k g more
 column_taken t0 t1 t2 t e k o r equal weight g more first second third replaced old out of_axiom axiom_is of_weight weight_is of_total total_is groups columns parts stated power = record {
   gathered = λ s f rest next same made low new sum h0.
@@ -142,8 +143,8 @@ column_taken t0 t1 t2 t e k o r equal weight g more first second third replaced 
       let to2 = extends_on t0 t1 t2 first second in
       let all = extends_on t0 t2 t to2 third in
       let h = gathered_grown e s t0 t f rest g all h0 in
-      let here : modulus t ≡ m = modulus_stays t0 t all ∙ same in
-      let there : modulus t2 ≡ m = modulus_stays t0 t2 to2 ∙ same in
+      let here : modulus_in t ≡ m = modulus_stays t0 t all ∙ same in
+      let there : modulus_in t2 ≡ m = modulus_stays t0 t2 to2 ∙ same in
       let d : Assignment → ℕ = λ σ. difference m (bit (literal σ o)) (bit (literal σ r)) in
       let column = live_column e k o r made replaced old out in
       let weight_now : (σ : Assignment) → value_in t weight σ ≡ 2 ^ k = λ σ. value_stays t2 t weight σ third of_weight ∙ weight_is σ in
@@ -154,7 +155,7 @@ column_taken t0 t1 t2 t e k o r equal weight g more first second third replaced 
       ap₂ (λ x y. (value_in t g.total σ + x * y) % m) (axiom_now σ) (weight_is σ) in
       let pushed : AreColumns e t (g.columns.items ++ (id, weight) ∷ []) =
       columns_pushed e t f.added k weight g.columns.items here low new column.live (stays t2 t weight third of_weight) weight_now h.added h.groups.of_columns in
-      let all_groups : AreGroups e t g.groups.items (g.columns.items ++ (id, weight) ∷ []) more.total = record {
+      let all_groups : AreSumGroups e t g.groups.items (g.columns.items ++ (id, weight) ∷ []) more.total = record {
         groups = h.groups.groups;
         of_columns = pushed;
         of = of_total;
@@ -173,15 +174,15 @@ column_taken t0 t1 t2 t e k o r equal weight g more first second third replaced 
             ap (λ n. n % m) sum_is ∙ sym (mod-add-mod (own + c) m (d σ * 2 ^ k)) ∙ ap (λ n. (n + d σ * 2 ^ k) % m) (h.groups.sum σ) ∙ sym (total_now σ);
       } in
       record {
-        groups = subst (λ gs. AreGroups e t gs.items more.columns.items more.total) (sym groups) (subst (λ cs. AreGroups e t g.groups.items cs more.total) (sym columns) all_groups);
+        groups = subst (λ gs. AreSumGroups e t gs.items more.columns.items more.total) (sym groups) (subst (λ cs. AreSumGroups e t g.groups.items cs more.total) (sym columns) all_groups);
         added = subst (AreOfAdded e (k ∷ f.added)) (sym columns)
             (All-push (λ p. (j : ℕ) × (has (k ∷ f.added) j ≡ true) × (p.0 ≡ e.max + 1 + j)) g.columns.items (id, weight) (added_more e f.added k g.columns.items h.added) (k, has_first k f.added, refl));
-        parts = subst (λ ps. AreParts e t ps.items) (sym parts) h.parts;
+        parts = subst (λ ps. AreGateParts e t ps.items) (sym parts) h.parts;
         fixed = subst (λ ps. IsFixedAbove e.max (combined m live (parts_in t ps.items))) (sym parts) h.fixed;
         low = subst (λ n. n < t.exponent) (sym power) h.low;
-        pending = subst (λ ps. IsPending e s live (value_in t more.total) (step f (Add k)) next (whole t more.power ps.items)) (sym parts)
-            (subst (λ n. IsPending e s live (value_in t more.total) (step f (Add k)) next (whole t n g.parts.items)) (sym power)
-            (pending_more e s f (value_in t g.total) (value_in t more.total) rest next (whole t g.power g.parts.items) k o r old out new (sum r out) total_now h.pending));
+        pending = subst (λ ps. IsPending e s live (value_in t more.total) (step f (Add k)) next (scaled_parts t more.power ps.items)) (sym parts)
+            (subst (λ n. IsPending e s live (value_in t more.total) (step f (Add k)) next (scaled_parts t n g.parts.items)) (sym power)
+            (pending_more e s f (value_in t g.total) (value_in t more.total) rest next (scaled_parts t g.power g.parts.items) k o r old out new (sum r out) total_now h.pending));
         of = subst (IsOf t) (sym stated) h.of;
         sum = λ σ. ap (λ p. value_in t p σ) stated ∙ h.sum σ ∙ sym (ap (λ ps. combined m live (parts_in t ps.items) σ % m) parts);
       };
@@ -190,7 +191,7 @@ column_taken t0 t1 t2 t e k o r equal weight g more first second third replaced 
 
 -- ---- in what may be kept
 
-pub column_in : (e : Extended) (s : Sides) (t0 t1 t : Table) (f : Taken) (p : Sum) (next : Assignment → ℕ) (k : ℕ) (g more : Option Gathered) → IsExtension e → modulus t0 ≡ algebra.modulus e → Extends t0 t1 → IsOf t0 p →
+pub column_in : (e : Extended) (s : Sides) (t0 t1 t : Table) (f : Taken) (p : Sum) (next : Assignment → ℕ) (k : ℕ) (g more : Option Gathered) → IsExtension e → modulus_in t0 ≡ algebra.modulus e → Extends t0 t1 → IsOf t0 p →
     k < length e.graph.outputs → has f.added k ≡ false → ((r : Lit) → slice_get (new_outputs e) k ≡ Some r → (σ : Assignment) → next σ ≡ (value_in t0 p σ + column_value e s k r σ) % algebra.modulus e) →
     HasColumnIn t1 t e k g more → IfSome g (IsGathered e s t0 f (value_in t0 p)) → IfSome more (IsGathered e s t (step f (Add k)) next)
 column_in e s t0 t1 t f p next k None None made same first of low new sum takes h = tt

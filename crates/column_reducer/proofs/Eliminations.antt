@@ -10,11 +10,11 @@ use Rattle.graph_core.specs.Graph.Assignments.{Assignment}
 use Rattle.graph_core.specs.Algebra.Polynomials.{difference, sum_of}
 use Rattle.graph_core.proofs.OfGraphs.CallerLemmas.{difference_is, difference_same, product_same, sum_same}
 use Rattle.poly_terms.specs.Indexed.{IndexedSum, IsIndexed}
-use Rattle.poly_terms.specs.Tables.{Table, Sum, Extends, IsOf, assigned, modulus, monomials_in, quotient_value, value_in}
+use Rattle.poly_terms.specs.Tables.{Table, Sum, Extends, IsOf, assigned, modulus_in, monomials_in, quotient_value, value_in}
 use Rattle.poly_terms.specs.Laws.{modulus_stays, value_stays}
 use Rattle.frontier_core.specs.Substitution.{gate_value, quotient}
 use Rattle.column_reducer.specs.declared.gate_part.GatePart.{GatePart}
-use Rattle.column_reducer.specs.Gathering.{IsEliminated, IsPart}
+use Rattle.column_reducer.specs.Gathering.{IsEliminated, IsGatePart}
 use Rattle.column_reducer.proofs.GateParts.{none_with, opposite_sum}
 
 -- ---- what is taken out
@@ -28,9 +28,9 @@ false_twice v σ = fun_ext (λ u. go (u == v) (σ u))
 
 -- what is taken is 0 where the variable is false
 pub taken_false : (t : Table) (v : ℕ) (p taken left : Sum) → ((σ : Assignment) → value_in t left σ ≡ value_in t p (assigned σ v false)) →
-    ((σ : Assignment) → value_in t p σ ≡ (value_in t left σ + value_in t taken σ) % modulus t) → (σ : Assignment) → value_in t taken (assigned σ v false) ≡ 0
+    ((σ : Assignment) → value_in t p σ ≡ (value_in t left σ + value_in t taken σ) % modulus_in t) → (σ : Assignment) → value_in t taken (assigned σ v false) ≡ 0
 taken_false t v p taken left left_is sum σ =
-    let m = modulus t in
+    let m = modulus_in t in
     let τ : Assignment = assigned σ v false in
     let a = value_in t p τ in
     let x = value_in t taken τ in
@@ -53,17 +53,17 @@ turned_product m w c f q g o pos opposite minus is =
     ap (λ n. n % m) (let e : g * 0 ≡ 0 = omega arith in e) ∙ zero-mod m in
     product_same m c c o (g * f) refl is ∙ sym (opposite_sum m (c * (g * f)) y pos first) ∙ opposite_sum m (g * q) y pos second
 
-part_same : (m : ℕ) (t : Table) (x : Gate) (f g : Assignment → ℕ) (p : GatePart) → ((σ : Assignment) → f σ ≡ g σ) → IsPart m t x f p → IsPart m t x g p
-part_same m t x f g p is h = subst (λ (k : Assignment → ℕ). IsPart m t x k p) (fun_ext is) h
+part_same : (m : ℕ) (t : Table) (x : Gate) (f g : Assignment → ℕ) (p : GatePart) → ((σ : Assignment) → f σ ≡ g σ) → IsGatePart m t x f p → IsGatePart m t x g p
+part_same m t x f g p is h = subst (λ (k : Assignment → ℕ). IsGatePart m t x k p) (fun_ext is) h
 
 -- the terms with the variable, taken out and put back with the product in its place
 pub eliminated_of : (t0 t1 : Table) (x : Gate) (p taken more : Sum) (left next : IndexedSum) (part : GatePart) (c : ℕ) → Extends t0 t1 → IsOf t0 left.sum → IsOf t1 next.sum → IsIndexed t1 next →
     ((σ : Assignment) → value_in t0 left.sum σ ≡ value_in t0 p (assigned σ x.v false)) → ((σ : Assignment) → quotient_value t0 taken x.v σ ≡ quotient_value t0 p x.v σ) →
-    IsPart (modulus t0) t1 x (quotient_value t0 taken x.v) part → (c + 2 ^ part.power) % modulus t1 ≡ 0 → ((σ : Assignment) → value_in t1 more σ ≡ (c * value_in t1 part.operands σ) % modulus t1) →
-    ((σ : Assignment) → value_in t1 next.sum σ ≡ (value_in t1 left.sum σ + value_in t1 more σ) % modulus t1) → IsEliminated t0 t1 x p (record { rest = next; part = Some part })
+    IsGatePart (modulus_in t0) t1 x (quotient_value t0 taken x.v) part → (c + 2 ^ part.power) % modulus_in t1 ≡ 0 → ((σ : Assignment) → value_in t1 more σ ≡ (c * value_in t1 part.operands σ) % modulus_in t1) →
+    ((σ : Assignment) → value_in t1 next.sum σ ≡ (value_in t1 left.sum σ + value_in t1 more σ) % modulus_in t1) → IsEliminated t0 t1 x p (record { rest = next; part = Some part })
 eliminated_of t0 t1 x p taken more left next part c grown of_left of_next indexed left_is same is_part opposite more_is next_is =
-    let m = modulus t0 in
-    let m1 : modulus t1 ≡ m = modulus_stays t0 t1 grown in
+    let m = modulus_in t0 in
+    let m1 : modulus_in t1 ≡ m = modulus_stays t0 t1 grown in
     record {
       of = of_next;
       indexed = indexed;
@@ -85,7 +85,7 @@ eliminated_of t0 t1 x p taken more left next part c grown of_left of_next indexe
 pub eliminated_none : (t : Table) (x : Gate) (p taken : Sum) (left : IndexedSum) → IsOf t left.sum → IsIndexed t left → ((σ : Assignment) → value_in t left.sum σ ≡ value_in t p (assigned σ x.v false)) →
     ((σ : Assignment) → quotient_value t taken x.v σ ≡ quotient_value t p x.v σ) → ((σ : Assignment) → value_in t taken σ ≡ 0) → IsEliminated t t x p (record { rest = left; part = None })
 eliminated_none t x p taken left of indexed left_is same none =
-    let m = modulus t in
+    let m = modulus_in t in
     let zero : (σ : Assignment) → quotient_value t p x.v σ ≡ 0 = λ σ.
     sym (same σ) ∙ ap₂ (difference m) (none (assigned σ x.v true)) (none (assigned σ x.v false)) ∙ difference_same m 0 (pow_pos t.exponent) in
     record {

@@ -15,18 +15,18 @@ use Rattle.graph_core.specs.Algebra as algebra
 use Rattle.ripple_graft.specs.Extension.{IsExtension}
 use Rattle.poly_terms.specs.Tables.{Extends}
 use Rattle.poly_terms.specs.Laws.{extends_itself, extends_on}
-use Rattle.pac_writer.specs.Writing.{AreLawfulSoFar, Grows, Made}
+use Rattle.pac_writer.specs.Writing.{AreLawfulSoFar, GrowsWrittenTable, Made}
 use Rattle.frontier_core.proofs.Everywhere.{all_from_map}
 use Rattle.frontier_core.proofs.OrderMade.{gates_of_defined}
-use Rattle.column_reducer.specs.Reducing.{GoesOn, IsOfGraph}
+use Rattle.column_reducer.specs.Reducing.{AreLinesOver, ContinuesLines}
 
-pub goes_on : (old new : Made) → IsOfGraph old.extended old.sides old.table new → GoesOn old new
+pub goes_on : (old new : Made) → AreLinesOver old.extended old.sides old.table new → ContinuesLines old new
 goes_on old new h = record { extended = h.extended; sides = h.sides; table = subst (Extends old.table) (sym h.table) (extends_itself old.table); unclosed = h.unclosed }
 
-pub goes_itself : (l : Made) → l.closing ≡ None → GoesOn l l
+pub goes_itself : (l : Made) → l.closing ≡ None → ContinuesLines l l
 goes_itself l unclosed = record { extended = refl; sides = refl; table = extends_itself l.table; unclosed = unclosed }
 
-pub goes_after : (old mid new : Made) → Grows old mid → GoesOn mid new → GoesOn old new
+pub goes_after : (old mid new : Made) → GrowsWrittenTable old mid → ContinuesLines mid new → ContinuesLines old new
 goes_after old mid new g h = record {
   extended = h.extended ∙ g.extended;
   sides = h.sides ∙ g.sides;

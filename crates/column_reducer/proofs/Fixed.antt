@@ -134,7 +134,7 @@ sum_fixed max m v b σ (x ∷ p) above h =
 -- a polynomial over variables up to the greatest one
 pub fixed_over : (max : ℕ) (t : Table) (p : Sum) → IsOver max t p → IsFixedAbove max (value_in t p)
 fixed_over max t p h v b σ above =
-    ap (λ n. n % table.modulus t) (sum_fixed max (table.modulus t) v b σ (monomials_in t p) above (recursion_from_All (λ x. All (λ u. u ≤ max) x.variables) (monomials_in t p) h.1))
+    ap (λ n. n % table.modulus_in t) (sum_fixed max (table.modulus_in t) v b σ (monomials_in t p) above (recursion_from_All (λ x. All (λ u. u ≤ max) x.variables) (monomials_in t p) h.1))
 
 over_along : (max : ℕ) (ps qs : Polynomial) → map (λ x. x.variables) qs ≡ map (λ x. x.variables) ps → AllByRecursion (λ x. All (λ u. u ≤ max) x.variables) ps →
     AllByRecursion (λ x. All (λ u. u ≤ max) x.variables) qs

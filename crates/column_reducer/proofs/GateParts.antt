@@ -15,12 +15,12 @@ use Rattle.frontier_core.proofs.Substituting.{quotient_splits}
 use Rattle.poly_terms.specs.Entries.{total}
 use Rattle.poly_terms.specs.Laws.{extends_itself, extends_on, modulus_stays, stays, value_stays}
 use Rattle.poly_terms.specs.Monomials.{free_of, has_in, has_variable}
-use Rattle.poly_terms.specs.Tables.{Table, Sum, Extends, IsOf, assigned, modulus, monomial_in, monomials_in, quotient_value, value_in, variables_in}
+use Rattle.poly_terms.specs.Tables.{Table, Sum, Extends, IsOf, assigned, modulus_in, monomial_in, monomials_in, quotient_value, value_in, variables_in}
 use Rattle.poly_terms.proofs.Assigned.{product-false}
 use Rattle.poly_terms.proofs.Dividing.{rest-value}
 use Rattle.poly_terms.proofs.Replacing.{free_of-IsOf}
 use Rattle.poly_terms.proofs.Values.{normal, value-total}
-use Rattle.column_reducer.specs.Gathering.{IsFixedAbove, IsPart}
+use Rattle.column_reducer.specs.Gathering.{IsFixedAbove, IsGatePart}
 use Rattle.column_reducer.proofs.Fixed.{fixed_over, over_fixed, over_same, quotient_fixed, same_fixed, variable_fixed}
 
 -- ---- terms that all have a variable
@@ -29,7 +29,7 @@ use Rattle.column_reducer.proofs.Fixed.{fixed_over, over_fixed, over_same, quoti
 no_terms : (t : Table) (es : Sum) → IsOf t es → ((σ : Assignment) → value_in t es σ ≡ 0) → es ≡ []
 unfolding monomials_in
 no_terms t [] of none = refl
-no_terms t (e ∷ es) of none = let some = normal_forms_differ (modulus t) (monomials_in t (e ∷ es)) (normal t (e ∷ es) of) (omega arith) in absurd (some.1 (none some.0))
+no_terms t (e ∷ es) of none = let some = normal_forms_differ (modulus_in t) (monomials_in t (e ∷ es)) (normal t (e ∷ es) of) (omega arith) in absurd (some.1 (none some.0))
 
 all_have : (ms : List (List ℕ)) (v : ℕ) (es : Sum) → free_of ms v es ≡ [] → AllByRecursion (λ e. has_in ms v e ≡ true) es
 all_have ms v [] none = tt
@@ -67,7 +67,7 @@ false_too t v p q some of none same σ =
     let free = free_of t.monomials v p in
     let zero : (τ : Assignment) → value_in t free τ ≡ 0 = λ τ. rest-value t.exponent v t.monomials t t p p free free τ refl refl of refl refl (extends_itself t) some ∙ none τ in
     let all : AllByRecursion (λ e. has_in t.monomials v e ≡ true) p = all_have t.monomials v p (no_terms t free (free_of-IsOf t v p of) zero) in
-    value-total t q (assigned σ v false) ∙ ap (λ n. n % modulus t) (total_zero t v σ q some (have_too t v p q same all)) ∙ zero-mod (modulus t)
+    value-total t q (assigned σ v false) ∙ ap (λ n. n % modulus_in t) (total_zero t v σ q some (have_too t v p q same all)) ∙ zero-mod (modulus_in t)
 
 -- ---- numbers modulo m
 
@@ -100,61 +100,61 @@ axiom_times m g c f b o d pos none is_o is_d =
 module _ (t0 t1 t : Table) (x : Gate) (taken variables by factor operands : Sum) (power : ℕ) (first : Extends t0 t1) (second : Extends t1 t) (above : 0 < x.v)
     (of_taken : IsOf t0 taken) (of_variables : IsOf t0 variables) (of_by : IsOf t1 by) (of_factor : IsOf t1 factor) (of_operands : IsOf t operands)
     (all : (σ : Assignment) → value_in t0 taken (assigned σ x.v false) ≡ 0) (some : ((σ : Assignment) → value_in t0 taken σ ≡ 0) → ⊥)
-    (divided : (σ : Assignment) → (2 ^ power * value_in t0 variables σ) % modulus t0 ≡ value_in t0 taken σ)
+    (divided : (σ : Assignment) → (2 ^ power * value_in t0 variables σ) % modulus_in t0 ≡ value_in t0 taken σ)
     (same : map (λ y. y.variables) (monomials_in t0 variables) ≡ map (λ y. y.variables) (monomials_in t0 taken))
     (by_is : (σ : Assignment) → value_in t1 by σ ≡ quotient_value t0 variables x.v σ)
-    (factor_is : (σ : Assignment) → value_in t1 factor σ ≡ difference (modulus t1) 0 (value_in t1 by σ))
-    (operands_are : (σ : Assignment) → value_in t operands σ ≡ (gate_value x σ * value_in t1 factor σ) % modulus t1) where
-  pos : 0 < modulus t0
+    (factor_is : (σ : Assignment) → value_in t1 factor σ ≡ difference (modulus_in t1) 0 (value_in t1 by σ))
+    (operands_are : (σ : Assignment) → value_in t operands σ ≡ (gate_value x σ * value_in t1 factor σ) % modulus_in t1) where
+  pos : 0 < modulus_in t0
   pos = pow_pos t0.exponent
 
-  small : (p : Sum) (σ : Assignment) → value_in t0 p σ % modulus t0 ≡ value_in t0 p σ
-  small p σ = mod-mod (sum_of (modulus t0) (monomials_in t0 p) σ) (modulus t0)
+  small : (p : Sum) (σ : Assignment) → value_in t0 p σ % modulus_in t0 ≡ value_in t0 p σ
+  small p σ = mod-mod (sum_of (modulus_in t0) (monomials_in t0 p) σ) (modulus_in t0)
 
   -- minus 0
   less_none : (p : Sum) (σ : Assignment) → value_in t0 p (assigned σ x.v false) ≡ 0 → quotient_value t0 p x.v σ ≡ value_in t0 p (assigned σ x.v true)
   less_none p σ none =
-      let m = modulus t0 in
+      let m = modulus_in t0 in
       let n = value_in t0 p (assigned σ x.v true) in
       ap (difference m n) none ∙ difference_is m n 0 n pos (ap (λ k. k % m) (let e : n + 0 ≡ n = omega arith in e)) ∙ small p (assigned σ x.v true)
 
   -- the variable times the quotient is the polynomial
-  splits : (p : Sum) (σ : Assignment) → value_in t0 p (assigned σ x.v false) ≡ 0 → (bit (variable σ x.v) * quotient_value t0 p x.v σ) % modulus t0 ≡ value_in t0 p σ
+  splits : (p : Sum) (σ : Assignment) → value_in t0 p (assigned σ x.v false) ≡ 0 → (bit (variable σ x.v) * quotient_value t0 p x.v σ) % modulus_in t0 ≡ value_in t0 p σ
   splits p σ none =
-      let m = modulus t0 in
+      let m = modulus_in t0 in
       let n = bit (variable σ x.v) * quotient_value t0 p x.v σ in
       ap (λ k. k % m) (let e : n ≡ n + 0 = omega arith in e) ∙ ap (λ k. (n + k) % m) (sym none) ∙ quotient_splits m x.v (value_in t0 p) σ pos above ∙ small p σ
 
   all_variables : (σ : Assignment) → value_in t0 variables (assigned σ x.v false) ≡ 0
   all_variables = false_too t0 x.v taken variables above of_taken all same
 
-  same1 : modulus t1 ≡ modulus t0
+  same1 : modulus_in t1 ≡ modulus_in t0
   same1 = modulus_stays t0 t1 first
 
   -- the factor is minus the quotient
-  none_left : (σ : Assignment) → (value_in t1 factor σ + quotient_value t0 variables x.v σ) % modulus t0 ≡ 0
+  none_left : (σ : Assignment) → (value_in t1 factor σ + quotient_value t0 variables x.v σ) % modulus_in t0 ≡ 0
   none_left σ =
-      let m = modulus t0 in
+      let m = modulus_in t0 in
       let q = quotient_value t0 variables x.v σ in
       ap (λ n. (n + q) % m) (factor_is σ ∙ ap₂ (λ k n. difference k 0 n) same1 (by_is σ)) ∙ none_with m q pos
 
   factor_now : (σ : Assignment) → value_in t factor σ ≡ value_in t1 factor σ
   factor_now σ = value_stays t1 t factor σ second of_factor
 
-  minus_of : (σ : Assignment) → (2 ^ power * value_in t factor σ) % modulus t0 ≡ difference (modulus t0) 0 (quotient_value t0 taken x.v σ)
+  minus_of : (σ : Assignment) → (2 ^ power * value_in t factor σ) % modulus_in t0 ≡ difference (modulus_in t0) 0 (quotient_value t0 taken x.v σ)
   minus_of σ =
-      let m = modulus t0 in
+      let m = modulus_in t0 in
       let w = 2 ^ power in
       let one : (w * quotient_value t0 variables x.v σ) % m ≡ quotient_value t0 taken x.v σ % m =
       ap (λ n. (w * n) % m) (less_none variables σ (all_variables σ)) ∙ divided (assigned σ x.v true) ∙ sym (small taken (assigned σ x.v true)) ∙ ap (λ n. n % m) (sym (less_none taken σ (all σ))) in
       ap (λ n. (w * n) % m) (factor_now σ) ∙ minus_times m w (value_in t1 factor σ) (quotient_value t0 variables x.v σ) (quotient_value t0 taken x.v σ) pos (none_left σ) one
 
-  operands_of : (σ : Assignment) → value_in t operands σ ≡ (gate_value x σ * value_in t factor σ) % modulus t0
+  operands_of : (σ : Assignment) → value_in t operands σ ≡ (gate_value x σ * value_in t factor σ) % modulus_in t0
   operands_of σ = operands_are σ ∙ ap₂ (λ n k. (gate_value x σ * n) % k) (sym (factor_now σ)) same1
 
-  product_of : (σ : Assignment) → (value_in t operands σ + value_in t variables σ) % modulus t0 ≡ ((gate_axiom (modulus t0) x).value σ * value_in t factor σ) % modulus t0
+  product_of : (σ : Assignment) → (value_in t operands σ + value_in t variables σ) % modulus_in t0 ≡ ((gate_axiom (modulus_in t0) x).value σ * value_in t factor σ) % modulus_in t0
   product_of σ =
-      let m = modulus t0 in
+      let m = modulus_in t0 in
       let f = value_in t factor σ in
       let c = bit (variable σ x.v) in
       let q = quotient_value t0 variables x.v σ in
@@ -166,12 +166,12 @@ module _ (t0 t1 t : Table) (x : Gate) (taken variables by factor operands : Sum)
 
   some_quotient : ((σ : Assignment) → quotient_value t0 taken x.v σ ≡ 0) → ⊥
   some_quotient none =
-      some (λ σ. sym (splits taken σ (all σ)) ∙ ap (λ n. (bit (variable σ x.v) * n) % modulus t0) (none σ) ∙
-      ap (λ n. n % modulus t0) (let e : bit (variable σ x.v) * 0 ≡ 0 = omega arith in e) ∙ zero-mod (modulus t0))
+      some (λ σ. sym (splits taken σ (all σ)) ∙ ap (λ n. (bit (variable σ x.v) * n) % modulus_in t0) (none σ) ∙
+      ap (λ n. n % modulus_in t0) (let e : bit (variable σ x.v) * 0 ≡ 0 = omega arith in e) ∙ zero-mod (modulus_in t0))
 
   fixed_of : (max : ℕ) → x.v ≤ max → IsFixedAbove max (quotient_value t0 taken x.v) → IsFixedAbove max (value_in t factor)
   fixed_of max low fixed =
-      let m = modulus t0 in
+      let m = modulus_in t0 in
       let taken_fixed : IsFixedAbove max (value_in t0 taken) =
       same_fixed max (value_in t0 taken) (λ σ. (bit (variable σ x.v) * quotient_value t0 taken x.v σ) % m) (λ σ. sym (splits taken σ (all σ)))
       (λ v b σ over. ap₂ (λ c n. (bit c * n) % m) (variable_fixed max x.v v b σ over low) (fixed v b σ over)) in
@@ -180,7 +180,7 @@ module _ (t0 t1 t : Table) (x : Gate) (taken variables by factor operands : Sum)
       (λ σ. factor_now σ ∙ factor_is σ ∙ ap₂ (λ k n. difference k 0 n) same1 (by_is σ))
       (λ v b σ over. ap (difference m 0) (quotient_fixed max m x.v (value_in t0 variables) low variables_fixed v b σ over))
 
-  pub part_made : IsPart (modulus t0) t x (quotient_value t0 taken x.v) (record { power = power; factor = factor; operands = operands; variable = variables })
+  pub part_made : IsGatePart (modulus_in t0) t x (quotient_value t0 taken x.v) (record { power = power; factor = factor; operands = operands; variable = variables })
   part_made = record {
     of = record {
       factor = stays t1 t factor second of_factor;

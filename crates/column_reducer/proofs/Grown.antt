@@ -12,12 +12,13 @@ use Rattle.graph_core.specs.Algebra as algebra
 use Rattle.poly_terms.specs.Tables.{Table, Sum, Extends, IsOf, monomials_in, value_in}
 use Rattle.poly_terms.specs.Monomials.{AreIn, Grows}
 use Rattle.poly_terms.specs.Laws.{monomials_stay, stands_in_grown, stays, value_stays}
-use Rattle.pac_writer.specs.Writing.{IsOver, parts_in}
+use Rattle.pac_writer.specs.Writing.{IsOver}
 use Rattle.frontier_core.specs.Plan.{Taken}
 use Rattle.frontier_core.specs.Pending.{AreSpare, IsNotZero, IsPending}
 use Rattle.column_reducer.specs.declared.gathered.Gathered.{Gathered}
 use Rattle.column_reducer.specs.declared.gathered.Group.{Group}
-use Rattle.column_reducer.specs.Gathering.{AreColumns, AreGroups, AreParts, IsFixedAbove, IsGathered, IsGroup, groups_sum, times, whole}
+use Rattle.column_reducer.specs.Gathering.{AreColumns, AreGateParts, AreSumGroups, IsFixedAbove, IsGathered, IsGroup, groups_sum, scaled_parts, times}
+use Rattle.poly_text.specs.Lines.{parts_in}
 
 -- a polynomial keeps its function
 pub function_stays : (t0 t1 : Table) (p : Sum) → Extends t0 t1 → IsOf t0 p → value_in t1 p ≡ value_in t0 p
@@ -28,14 +29,14 @@ part_stays max t0 t1 [] grown h = refl
 part_stays max t0 t1 (p ∷ parts) grown h =
     ap₂ (λ q qs. record { id = p.0; factor = q } ∷ qs) (monomials_stay t0 t1 p.1 grown h.0.0) (part_stays max t0 t1 parts grown h.1)
 
-pub parts_stay : (e : Extended) (t0 t1 : Table) (parts : List (ℕ × Sum)) → Extends t0 t1 → AreParts e t0 parts → parts_in t1 parts ≡ parts_in t0 parts
+pub parts_stay : (e : Extended) (t0 t1 : Table) (parts : List (ℕ × Sum)) → Extends t0 t1 → AreGateParts e t0 parts → parts_in t1 parts ≡ parts_in t0 parts
 parts_stay e t0 t1 parts grown h = part_stays e.max t0 t1 parts grown (recursion_from_All (λ p. IsOver e.max t0 p.1) parts h.of)
 
 pub over_grown : (max : ℕ) (t0 t1 : Table) (p : Sum) → Extends t0 t1 → IsOver max t0 p → IsOver max t1 p
 over_grown max t0 t1 p grown h =
     (stays t0 t1 p grown h.0, subst (All (λ term. All (λ v. v ≤ max) term.variables)) (sym (monomials_stay t0 t1 p grown h.0)) h.1)
 
-pub parts_grown : (e : Extended) (t0 t1 : Table) (parts : List (ℕ × Sum)) → Extends t0 t1 → AreParts e t0 parts → AreParts e t1 parts
+pub parts_grown : (e : Extended) (t0 t1 : Table) (parts : List (ℕ × Sum)) → Extends t0 t1 → AreGateParts e t0 parts → AreGateParts e t1 parts
 parts_grown e t0 t1 parts grown h = record {
   of = λ k d low. over_grown e.max t0 t1 (slice_index_or parts k d).1 grown (h.of k d low);
   gates = h.gates;
@@ -70,7 +71,7 @@ columns_grown e t0 t1 columns grown h = record {
   ids = h.ids;
 }
 
-pub groups_grown : (e : Extended) (t0 t1 : Table) (gs : List Group) (columns : List (ℕ × Sum)) (total : Sum) → Extends t0 t1 → AreGroups e t0 gs columns total → AreGroups e t1 gs columns total
+pub groups_grown : (e : Extended) (t0 t1 : Table) (gs : List Group) (columns : List (ℕ × Sum)) (total : Sum) → Extends t0 t1 → AreSumGroups e t0 gs columns total → AreSumGroups e t1 gs columns total
 groups_grown e t0 t1 gs columns total grown h = record {
   groups = λ k d low. group_grown e t0 t1 (slice_index_or gs k d) grown (h.groups k d low);
   of_columns = columns_grown e t0 t1 columns grown h.of_columns;
@@ -94,12 +95,12 @@ variables_stay : (t0 t1 : Table) (p : Sum) → Extends t0 t1 → IsOf t0 p → A
 unfolding Extends IsOf
 variables_stay t0 t1 p grown of = stands t0.monomials t1.monomials p grown.1 of.numbers
 
-whole_parts : (max : ℕ) (t0 t1 : Table) (k : ℕ) (parts : List (ℕ × Sum)) → Extends t0 t1 → AllByRecursion (λ p. IsOver max t0 p.1) parts → whole t1 k parts ≡ whole t0 k parts
+whole_parts : (max : ℕ) (t0 t1 : Table) (k : ℕ) (parts : List (ℕ × Sum)) → Extends t0 t1 → AllByRecursion (λ p. IsOver max t0 p.1) parts → scaled_parts t1 k parts ≡ scaled_parts t0 k parts
 whole_parts max t0 t1 k [] grown h = refl
 whole_parts max t0 t1 k (p ∷ parts) grown h =
     ap₂ (λ q qs. record { id = p.0; factor = q } ∷ qs) (times_in t0 t1 (2 ^ k) p.1 (variables_stay t0 t1 p.1 grown h.0.0)) (whole_parts max t0 t1 k parts grown h.1)
 
-pub whole_stays : (e : Extended) (t0 t1 : Table) (k : ℕ) (parts : List (ℕ × Sum)) → Extends t0 t1 → AreParts e t0 parts → whole t1 k parts ≡ whole t0 k parts
+pub whole_stays : (e : Extended) (t0 t1 : Table) (k : ℕ) (parts : List (ℕ × Sum)) → Extends t0 t1 → AreGateParts e t0 parts → scaled_parts t1 k parts ≡ scaled_parts t0 k parts
 whole_stays e t0 t1 k parts grown h = whole_parts e.max t0 t1 k parts grown (recursion_from_All (λ p. IsOver e.max t0 p.1) parts h.of)
 
 pub exponent_stays : (t0 t1 : Table) → Extends t0 t1 → t1.exponent ≡ t0.exponent
@@ -117,7 +118,7 @@ gathered_grown e s t0 t1 f rest g grown h =
       parts = parts_grown e t0 t1 g.parts.items grown h.parts;
       fixed = subst (λ ps. IsFixedAbove e.max (combined m live ps)) (sym told) h.fixed;
       low = subst (λ k. g.power < k) (sym (exponent_stays t0 t1 grown)) h.low;
-      pending = subst (λ start. IsPending e s live start f rest (whole t1 g.power g.parts.items)) (sym (function_stays t0 t1 g.total grown h.groups.of))
+      pending = subst (λ start. IsPending e s live start f rest (scaled_parts t1 g.power g.parts.items)) (sym (function_stays t0 t1 g.total grown h.groups.of))
           (subst (IsPending e s live (value_in t0 g.total) f rest) (sym (whole_stays e t0 t1 g.power g.parts.items grown h.parts)) h.pending);
       of = stays t0 t1 g.stated grown h.of;
       sum = λ σ. value_stays t0 t1 g.stated σ grown h.of ∙ h.sum σ ∙ ap (λ ps. combined m live ps σ % m) (sym told);

@@ -7,16 +7,16 @@ use Rattle.std.proofs.lemmas.Nat.{one_shl, pow_pos}
 use Rattle.graph_core.specs.Graph.Assignments.{Assignment, bit}
 use Rattle.graph_core.specs.Algebra.Polynomials.{difference}
 use Rattle.gate_axioms.proofs.Opposites.{opposite_difference, one_reduced}
-use Rattle.poly_terms.specs.Tables.{Table, Sum, modulus, value_in}
+use Rattle.poly_terms.specs.Tables.{Table, Sum, modulus_in, value_in}
 
 pub bit_reduced : (b : Bool) (w : ℕ) → 1 ≤ w → bit b % 2 ^ w ≡ bit b
 bit_reduced true w h = one_reduced w h
 bit_reduced false w h = zero-mod (2 ^ w)
 
 -- a polynomial times an opposite of 1
-pub opposite_has : (t : Table) (p r : Sum) (o : ℕ) (σ : Assignment) → (o + 1) % modulus t ≡ 0 → value_in t r σ ≡ (o * value_in t p σ) % modulus t → value_in t r σ ≡ difference (modulus t) 0 (value_in t p σ)
+pub opposite_has : (t : Table) (p r : Sum) (o : ℕ) (σ : Assignment) → (o + 1) % modulus_in t ≡ 0 → value_in t r σ ≡ (o * value_in t p σ) % modulus_in t → value_in t r σ ≡ difference (modulus_in t) 0 (value_in t p σ)
 opposite_has t p r o σ opposite r_is =
-    let m = modulus t in
+    let m = modulus_in t in
     let y = value_in t p σ in
     r_is ∙ ap (λ z. z % m) (let e : o * y ≡ 0 + o * y = omega arith in e) ∙ opposite_difference m 0 y (0 + o * y) o (pow_pos t.exponent) opposite refl
 

@@ -26,7 +26,7 @@ use Rattle.frontier_core.specs.Plan.{IsPlan, plain_steps}
 use Rattle.frontier_core.proofs.OrderMade.{gates_of_defined}
 use Rattle.frontier_core.proofs.Plans.{plain_plan_is_plan}
 use Rattle.column_reducer.specs.Reducing.{IsPlanned, planned}
-use Rattle.column_reducer.specs.Keys.{AreKeys, AreRisingKeys, Rises}
+use Rattle.column_reducer.specs.Keys.{AreGateKeys, AreRisingKeys, Rises}
 
 -- ---- columns
 
@@ -99,7 +99,7 @@ module _ (gates : List Gate) (apart : AllPairs ◌≢◌ (map (λ x. x.v) gates)
       (All-from_recursion (λ v. ComesBefore gates v a.1) vs (all_before a xs ps.0 ps.1 hs.0 ns.0))))
 
 pub keys_are : (gates : List Gate) (keys sorted : List (ℕ × ℕ)) → IsPermutation keys sorted → All (λ key. IsLevel gates key.1 key.0) keys → map (λ key. key.1) keys ≡ map (λ x. x.v) gates → NextRise sorted →
-    AreKeys gates sorted
+    AreGateKeys gates sorted
 keys_are gates keys sorted p levels variables rise = record {
   levels = All-permutation (λ key. IsLevel gates key.1 key.0) keys sorted p levels;
   variables = subst (λ vs. IsPermutation vs (map (λ key. key.1) sorted)) variables (IsPermutation-map (λ (key : ℕ × ℕ). key.1) keys sorted p);
@@ -112,7 +112,7 @@ flips x y = ⊎_elim (λ e. ap₂ eqb e (sym e)) (λ ne. ne_eqb x y ne ∙ sym (
 still_apart : (xs ys : List ℕ) → IsPermutation xs ys → AllPairs ◌≢◌ xs → AllPairs ◌≢◌ ys
 still_apart xs ys p h = AllPairs-from_IsDistinct Decides-eqb ys (IsDistinct-IsPermutation eqb flips xs ys p (IsDistinct-from_AllPairs Decides-eqb xs h))
 
-pub plain_order_of : (gates : List Gate) (keys : List (ℕ × ℕ)) → AllPairs ◌≢◌ (map (λ x. x.v) gates) → AreKeys gates keys → IsPlainOrder gates (reverse (map (λ key. key.1) keys))
+pub plain_order_of : (gates : List Gate) (keys : List (ℕ × ℕ)) → AllPairs ◌≢◌ (map (λ x. x.v) gates) → AreGateKeys gates keys → IsPlainOrder gates (reverse (map (λ key. key.1) keys))
 plain_order_of gates keys apart h =
     let vs = map (λ (key : ℕ × ℕ). key.1) keys in
     let ws = map (λ (x : Gate). x.v) gates in (
@@ -133,7 +133,7 @@ plan_made e vs steps n made order is outputs = record {
 }
 
 -- the gates of a graph alone are the graph's
-pub alone_order : (e : Extended) (gates : List Gate) (keys : List (ℕ × ℕ)) → IsExtension e → e ≡ without_cut e.graph → gates ≡ e.graph.gates → AreKeys gates keys → IsPlainOrder e.gates (reverse (map (λ key. key.1) keys))
+pub alone_order : (e : Extended) (gates : List Gate) (keys : List (ℕ × ℕ)) → IsExtension e → e ≡ without_cut e.graph → gates ≡ e.graph.gates → AreGateKeys gates keys → IsPlainOrder e.gates (reverse (map (λ key. key.1) keys))
 alone_order e gates keys made alone same h =
     let all : gates ≡ e.gates = same ∙ sym (ap (λ x. x.gates) alone) in
-    plain_order_of e.gates keys (gates_of_defined e made) (subst (λ gs. AreKeys gs keys) all h)
+    plain_order_of e.gates keys (gates_of_defined e made) (subst (λ gs. AreGateKeys gs keys) all h)

@@ -20,12 +20,12 @@ use Rattle.graph_core.specs.Algebra.Polynomials.{difference, product, value}
 use Rattle.graph_core.proofs.OfAlgebra.CallerLemmas.{modulus_pos}
 use Rattle.graph_core.proofs.OfGraphs.CallerLemmas.{product_same, sum_same}
 use Rattle.frontier_core.specs.Frontier.{set_to}
-use Rattle.pac_writer.specs.Writing.{IsOver, parts_in}
-use Rattle.poly_terms.specs.Tables.{Table, Sum, Extends, IsOf, modulus, monomials_in, value_in, variables_in}
+use Rattle.pac_writer.specs.Writing.{IsOver}
+use Rattle.poly_terms.specs.Tables.{Table, Sum, Extends, IsOf, modulus_in, monomials_in, value_in, variables_in}
 use Rattle.poly_terms.specs.Entries.{total}
 use Rattle.poly_terms.proofs.Indexing.{table_once, zero_of, zero-value}
 use Rattle.poly_terms.proofs.Values.{value-total}
-use Rattle.poly_text.specs.Lines.{part_in}
+use Rattle.poly_text.specs.Lines.{part_in, parts_in}
 use Rattle.poly_terms.specs.Laws.{extends_on, modulus_stays, stays, value_stays}
 use Rattle.frontier_core.specs.Sets.{has}
 use Rattle.frontier_core.specs.declared.step.Step.TheVariants.{Eliminate}
@@ -41,7 +41,7 @@ use Rattle.frontier_core.proofs.RestLines.{difference_small, rest_line_starts}
 use Rattle.column_reducer.specs.declared.gate_part.GatePart.{GatePart}
 use Rattle.column_reducer.specs.declared.gathered.Gathered.{Gathered}
 use Rattle.column_reducer.specs.declared.gathered.Group.{Group}
-use Rattle.column_reducer.specs.Gathering.{AreColumns, AreGroups, AreOfAdded, AreParts, HasPart, HasPower, HasTaken, IsEndedGroup, IsFixedAbove, IsGathered, IsGroup, IsLeft, IsNext, IsPart, IsPartOf, Settles, groups_sum, one_if_some, times, whole}
+use Rattle.column_reducer.specs.Gathering.{AreColumns, AreGateParts, AreOfAdded, AreSumGroups, HasPart, HasPower, HasTakenGate, IsEndedGroup, IsFixedAbove, IsGatePart, IsGatePartOf, IsGathered, IsGroup, IsLeft, IsNext, KeepsGathered, groups_sum, one_if_some, scaled_parts, times}
 use Rattle.column_reducer.proofs.Fixed.{axiom_fixed, fixed_over, over_fixed, quotient_fixed, same_fixed}
 use Rattle.column_reducer.proofs.Grown.{gathered_grown, over_grown}
 use Rattle.column_reducer.proofs.Sizes.{opposite_zero}
@@ -52,65 +52,65 @@ total_times : (F : ℕ → ℕ) (w : ℕ) (p : Sum) → total F (times w p) ≡ 
 total_times F w [] = omega arith
 total_times F w (e ∷ es) = ap (λ n. w * e.1 * F e.0 + n) (total_times F w es) ∙ omega arith
 
-pub times_value : (t : Table) (w : ℕ) (p : Sum) (σ : Assignment) → value_in t (times w p) σ ≡ (w * value_in t p σ) % modulus t
+pub times_value : (t : Table) (w : ℕ) (p : Sum) (σ : Assignment) → value_in t (times w p) σ ≡ (w * value_in t p σ) % modulus_in t
 times_value t w p σ =
-    let m = modulus t in
+    let m = modulus_in t in
     let F : ℕ → ℕ = λ k. product σ (variables_in t k) in
     value-total t (times w p) σ ∙ ap (λ n. n % m) (total_times F w p) ∙ sym (product_same m w w (total F p % m) (total F p) refl (mod-mod (total F p) m)) ∙
     ap (λ n. (w * n) % m) (sym (value-total t p σ))
 
 whole_sum : (t : Table) (live : List LiveLine) (k : ℕ) (parts : List (ℕ × Sum)) (σ : Assignment) →
-    combined (modulus t) live (whole t k parts) σ % modulus t ≡ (2 ^ k * combined (modulus t) live (parts_in t parts) σ) % modulus t
-whole_sum t live k [] σ = ap (λ n. n % modulus t) (omega arith)
+    combined (modulus_in t) live (scaled_parts t k parts) σ % modulus_in t ≡ (2 ^ k * combined (modulus_in t) live (parts_in t parts) σ) % modulus_in t
+whole_sum t live k [] σ = ap (λ n. n % modulus_in t) (omega arith)
 whole_sum t live k (p ∷ parts) σ =
-    let m = modulus t in
+    let m = modulus_in t in
     let w = 2 ^ k in
     let l = value_of live p.0 σ in
     let v = value_in t p.1 σ in
     let c = combined m live (parts_in t parts) σ in
     let one : (l * value_in t (times w p.1) σ) % m ≡ (w * (l * v)) % m =
     ap (λ x. (l * x) % m) (times_value t w p.1 σ) ∙ product_same m l l ((w * v) % m) (w * v) refl (mod-mod (w * v) m) ∙ ap (λ n. n % m) (omega arith) in
-    sum_same m (l * value_in t (times w p.1) σ) (w * (l * v)) (combined m live (whole t k parts) σ) (w * c) one (whole_sum t live k parts σ) ∙
+    sum_same m (l * value_in t (times w p.1) σ) (w * (l * v)) (combined m live (scaled_parts t k parts) σ) (w * c) one (whole_sum t live k parts σ) ∙
     ap (λ n. n % m) (let e : w * (l * v) + w * c ≡ w * (l * v + c) = omega arith in e)
 
 -- the same where the modulus is the graph's
-pub whole_is : (e : Extended) (t : Table) (live : List LiveLine) (k : ℕ) (parts : List (ℕ × Sum)) (σ : Assignment) → modulus t ≡ algebra.modulus e →
-    combined (algebra.modulus e) live (whole t k parts) σ % algebra.modulus e ≡ (2 ^ k * combined (algebra.modulus e) live (parts_in t parts) σ) % algebra.modulus e
-whole_is e t live k parts σ same = subst (λ m. combined m live (whole t k parts) σ % m ≡ (2 ^ k * combined m live (parts_in t parts) σ) % m) same (whole_sum t live k parts σ)
+pub whole_is : (e : Extended) (t : Table) (live : List LiveLine) (k : ℕ) (parts : List (ℕ × Sum)) (σ : Assignment) → modulus_in t ≡ algebra.modulus e →
+    combined (algebra.modulus e) live (scaled_parts t k parts) σ % algebra.modulus e ≡ (2 ^ k * combined (algebra.modulus e) live (parts_in t parts) σ) % algebra.modulus e
+whole_is e t live k parts σ same = subst (λ m. combined m live (scaled_parts t k parts) σ % m ≡ (2 ^ k * combined m live (parts_in t parts) σ) % m) same (whole_sum t live k parts σ)
 
 -- parts are spare where they are so 2^k times as great
-spare_parts : (t : Table) (lines : List LiveLine) (k : ℕ) (parts : List (ℕ × Sum)) → AreSpare (modulus t) lines (whole t k parts) → AreSpare (modulus t) lines (parts_in t parts)
+spare_parts : (t : Table) (lines : List LiveLine) (k : ℕ) (parts : List (ℕ × Sum)) → AreSpare (modulus_in t) lines (scaled_parts t k parts) → AreSpare (modulus_in t) lines (parts_in t parts)
 spare_parts t lines k parts h = record {
-  live = All-from_recursion (λ p. IsLive lines p.id) (parts_in t parts) (live_along parts (recursion_from_All (λ p. IsLive lines p.id) (whole t k parts) h.live));
+  live = All-from_recursion (λ p. IsLive lines p.id) (parts_in t parts) (live_along parts (recursion_from_All (λ p. IsLive lines p.id) (scaled_parts t k parts) h.live));
   once = once_along parts h.once;
-  nonzero = All-from_recursion (λ p. IsNotZero (modulus t) p.factor) (parts_in t parts) (nonzero_along parts (recursion_from_All (λ p. IsNotZero (modulus t) p.factor) (whole t k parts) h.nonzero));
+  nonzero = All-from_recursion (λ p. IsNotZero (modulus_in t) p.factor) (parts_in t parts) (nonzero_along parts (recursion_from_All (λ p. IsNotZero (modulus_in t) p.factor) (scaled_parts t k parts) h.nonzero));
 }
   where
-    live_along : (ps : List (ℕ × Sum)) → AllByRecursion (λ p. IsLive lines p.id) (whole t k ps) → AllByRecursion (λ p. IsLive lines p.id) (parts_in t ps)
+    live_along : (ps : List (ℕ × Sum)) → AllByRecursion (λ p. IsLive lines p.id) (scaled_parts t k ps) → AllByRecursion (λ p. IsLive lines p.id) (parts_in t ps)
     live_along [] h = tt
     live_along (p ∷ ps) h = (h.0, live_along ps h.1)
 
-    nonzero_along : (ps : List (ℕ × Sum)) → AllByRecursion (λ p. IsNotZero (modulus t) p.factor) (whole t k ps) → AllByRecursion (λ p. IsNotZero (modulus t) p.factor) (parts_in t ps)
+    nonzero_along : (ps : List (ℕ × Sum)) → AllByRecursion (λ p. IsNotZero (modulus_in t) p.factor) (scaled_parts t k ps) → AllByRecursion (λ p. IsNotZero (modulus_in t) p.factor) (parts_in t ps)
     nonzero_along [] h = tt
     nonzero_along (p ∷ ps) h = (
-      (λ none. h.0 (λ σ. times_value t (2 ^ k) p.1 σ ∙ ap (λ n. (2 ^ k * n) % modulus t) (none σ) ∙ ap (λ n. n % modulus t) (let e : 2 ^ k * 0 ≡ 0 = omega arith in e) ∙ zero-mod (modulus t))),
+      (λ none. h.0 (λ σ. times_value t (2 ^ k) p.1 σ ∙ ap (λ n. (2 ^ k * n) % modulus_in t) (none σ) ∙ ap (λ n. n % modulus_in t) (let e : 2 ^ k * 0 ≡ 0 = omega arith in e) ∙ zero-mod (modulus_in t))),
       nonzero_along ps h.1,
     )
 
-    apart_along : (i : ℕ) (ps : List (ℕ × Sum)) → AllByRecursion (λ q. i ≢ q.id) (whole t k ps) → AllByRecursion (λ q. i ≢ q.id) (parts_in t ps)
+    apart_along : (i : ℕ) (ps : List (ℕ × Sum)) → AllByRecursion (λ q. i ≢ q.id) (scaled_parts t k ps) → AllByRecursion (λ q. i ≢ q.id) (parts_in t ps)
     apart_along i [] h = tt
     apart_along i (p ∷ ps) h = (h.0, apart_along i ps h.1)
 
-    once_along : (ps : List (ℕ × Sum)) → AllPairs (λ p q. p.id ≢ q.id) (whole t k ps) → AllPairs (λ p q. p.id ≢ q.id) (parts_in t ps)
+    once_along : (ps : List (ℕ × Sum)) → AllPairs (λ p q. p.id ≢ q.id) (scaled_parts t k ps) → AllPairs (λ p q. p.id ≢ q.id) (parts_in t ps)
     once_along [] h = λ i j d lt within. absurd (omega arith)
     once_along (p ∷ ps) h =
         AllPairs-cons (λ (q : Part) (r : Part). q.id ≢ r.id) (part_in t p) (parts_in t ps)
-        (All-from_recursion (λ q. p.0 ≢ q.id) (parts_in t ps) (apart_along p.0 ps (recursion_from_All (λ q. p.0 ≢ q.id) (whole t k ps) (λ j d low. h 0 (suc j) d (omega arith) (omega arith)))))
+        (All-from_recursion (λ q. p.0 ≢ q.id) (parts_in t ps) (apart_along p.0 ps (recursion_from_All (λ q. p.0 ≢ q.id) (scaled_parts t k ps) (λ j d low. h 0 (suc j) d (omega arith) (omega arith)))))
         (once_along ps (λ i j d lt within. h (suc i) (suc j) d (omega arith) (omega arith)))
 
 -- ---- before the first step
 
-no_parts : (e : Extended) (t : Table) → AreParts e t []
+no_parts : (e : Extended) (t : Table) → AreGateParts e t []
 no_parts e t = record { of = λ k d low. absurd (omega arith); gates = λ k d low. absurd (omega arith) }
 
 no_columns : (e : Extended) (t : Table) → AreColumns e t []
@@ -122,7 +122,7 @@ no_columns e t = record {
   ids = λ k d low. absurd (omega arith);
 }
 
-no_groups : (e : Extended) (t : Table) (total : Sum) → IsOf t total → ((σ : Assignment) → value_in t total σ ≡ 0) → AreGroups e t [] [] total
+no_groups : (e : Extended) (t : Table) (total : Sum) → IsOf t total → ((σ : Assignment) → value_in t total σ ≡ 0) → AreSumGroups e t [] [] total
 no_groups e t total of none = record {
   groups = λ k d low. absurd (omega arith);
   of_columns = no_columns e t;
@@ -132,7 +132,7 @@ no_groups e t total of none = record {
 }
 
 -- no part is open, and the ended groups state the gap
-nothing_open : (e : Extended) (s : Sides) (t : Table) (f : Taken) (rest : Assignment → ℕ) (g : Gathered) → AreGroups e t g.groups.items g.columns.items g.total → AreOfAdded e f.added g.columns.items →
+nothing_open : (e : Extended) (s : Sides) (t : Table) (f : Taken) (rest : Assignment → ℕ) (g : Gathered) → AreSumGroups e t g.groups.items g.columns.items g.total → AreOfAdded e f.added g.columns.items →
     ((σ : Assignment) → value_in t g.total σ ≡ gap e s f.added rest σ) → g.power < t.exponent → g.parts.items ≡ [] → g.stated ≡ [] → IsGathered e s t f rest g
 nothing_open e s t f rest g groups added is low parts stated =
     let m = algebra.modulus e in
@@ -140,10 +140,10 @@ nothing_open e s t f rest g groups added is low parts stated =
     record {
       groups = groups;
       added = added;
-      parts = subst (AreParts e t) (sym parts) (no_parts e t);
+      parts = subst (AreGateParts e t) (sym parts) (no_parts e t);
       fixed = subst (λ ps. IsFixedAbove e.max (combined m live (parts_in t ps))) (sym parts) (λ v b σ above. refl);
       low = low;
-      pending = subst (λ ps. IsPending e s live (value_in t g.total) f rest (whole t g.power ps)) (sym parts)
+      pending = subst (λ ps. IsPending e s live (value_in t g.total) f rest (scaled_parts t g.power ps)) (sym parts)
           (subst (λ (h : Assignment → ℕ). IsPending e s live h f rest []) (sym (fun_ext is)) (pending_starts e s live f rest));
       of = subst (IsOf t) (sym stated) (zero_of t (table_once t g.total groups.of));
       sum = λ σ. ap (λ p. value_in t p σ) stated ∙ zero-value t σ ∙ sym (ap (λ ps. combined m live (parts_in t ps) σ % m) parts ∙ zero-mod m);
@@ -152,16 +152,16 @@ nothing_open e s t f rest g groups added is low parts stated =
 pub gathered_first : (e : Extended) (s : Sides) (t : Table) (rest : Assignment → ℕ) (g : Gathered) → g.groups.items ≡ [] → g.columns.items ≡ [] → g.parts.items ≡ [] → g.stated ≡ [] → g.power < t.exponent → IsOf t g.total →
     ((σ : Assignment) → value_in t g.total σ ≡ 0) → ((σ : Assignment) → rest σ ≡ 0) → IsGathered e s t nothing rest g
 gathered_first e s t rest g groups columns parts stated low of none rest_none =
-    nothing_open e s t nothing rest g (subst (λ gs. AreGroups e t gs g.columns.items g.total) (sym groups) (subst (λ cs. AreGroups e t [] cs g.total) (sym columns) (no_groups e t g.total of none)))
+    nothing_open e s t nothing rest g (subst (λ gs. AreSumGroups e t gs g.columns.items g.total) (sym groups) (subst (λ cs. AreSumGroups e t [] cs g.total) (sym columns) (no_groups e t g.total of none)))
     (subst (AreOfAdded e []) (sym columns) (λ k d low'. absurd (omega arith)))
     (λ σ. none σ ∙ rest_line_starts e s (λ τ. 0) rest (λ τ. refl) rest_none σ) low parts stated
 
 -- the same groups and columns' parts
-pub groups_moved : (e : Extended) (t : Table) (g more : Gathered) → more.groups ≡ g.groups → more.columns ≡ g.columns → more.total ≡ g.total → AreGroups e t g.groups.items g.columns.items g.total →
-    AreGroups e t more.groups.items more.columns.items more.total
+pub groups_moved : (e : Extended) (t : Table) (g more : Gathered) → more.groups ≡ g.groups → more.columns ≡ g.columns → more.total ≡ g.total → AreSumGroups e t g.groups.items g.columns.items g.total →
+    AreSumGroups e t more.groups.items more.columns.items more.total
 groups_moved e t g more groups columns total h =
-    subst (λ gs. AreGroups e t gs.items more.columns.items more.total) (sym groups)
-    (subst (λ cs. AreGroups e t g.groups.items cs.items more.total) (sym columns) (subst (AreGroups e t g.groups.items g.columns.items) (sym total) h))
+    subst (λ gs. AreSumGroups e t gs.items more.columns.items more.total) (sym groups)
+    (subst (λ cs. AreSumGroups e t g.groups.items cs.items more.total) (sym columns) (subst (AreSumGroups e t g.groups.items g.columns.items) (sym total) h))
 
 -- ---- a part more
 
@@ -169,11 +169,11 @@ pub part_pushed : (t : Table) (xs : List (ℕ × Sum)) (x : ℕ × Sum) → part
 part_pushed t [] x = refl
 part_pushed t (y ∷ xs) x = ap (λ ps. record { id = y.0; factor = monomials_in t y.1 } ∷ ps) (part_pushed t xs x)
 
-whole_pushed : (t : Table) (k : ℕ) (xs : List (ℕ × Sum)) (x : ℕ × Sum) → whole t k (xs ++ x ∷ []) ≡ whole t k xs ++ record { id = x.0; factor = monomials_in t (times (2 ^ k) x.1) } ∷ []
+whole_pushed : (t : Table) (k : ℕ) (xs : List (ℕ × Sum)) (x : ℕ × Sum) → scaled_parts t k (xs ++ x ∷ []) ≡ scaled_parts t k xs ++ record { id = x.0; factor = monomials_in t (times (2 ^ k) x.1) } ∷ []
 whole_pushed t k [] x = refl
 whole_pushed t k (y ∷ xs) x = ap (λ ps. record { id = y.0; factor = monomials_in t (times (2 ^ k) y.1) } ∷ ps) (whole_pushed t k xs x)
 
-parts_pushed : (e : Extended) (t : Table) (parts : List (ℕ × Sum)) (x : Gate) (factor : Sum) → Contains e.gates x → IsOver e.max t factor → AreParts e t parts → AreParts e t (parts ++ (x.v, factor) ∷ [])
+parts_pushed : (e : Extended) (t : Table) (parts : List (ℕ × Sum)) (x : Gate) (factor : Sum) → Contains e.gates x → IsOver e.max t factor → AreGateParts e t parts → AreGateParts e t (parts ++ (x.v, factor) ∷ [])
 parts_pushed e t parts x factor c of h = record {
   of = All-push (λ p. IsOver e.max t p.1) parts (x.v, factor) h.of of;
   gates = All-push (λ p. has (map (λ y. y.v) e.gates) p.0 ≡ true) parts (x.v, factor) h.gates
@@ -191,12 +191,12 @@ pub none_taken : (e : Extended) (s : Sides) (t : Table) (f : Taken) (rest next :
     ((σ : Assignment) → next σ ≡ substituted (algebra.modulus e) x.v (gate_value x) rest σ) → ((σ : Assignment) → quotient (algebra.modulus e) x.v rest σ ≡ 0) →
     IsGathered e s t f rest g → IsGathered e s t (step f (Eliminate x.v)) next g
 none_taken e s t f rest next g x is next_is none h =
-    let law = pending_eliminates e s (axioms e).live (value_in t g.total) rest next f (whole t g.power g.parts.items) x h.pending (above_zero e f x is) (within e f x is) is.new next_is in
+    let law = pending_eliminates e s (axioms e).live (value_in t g.total) rest next f (scaled_parts t g.power g.parts.items) x h.pending (above_zero e f x is) (within e f x is) is.new next_is in
     record { groups = h.groups; added = h.added; parts = h.parts; fixed = h.fixed; low = h.low; pending = law.0 none; of = h.of; sum = h.sum }
 
 -- a part that is divided by the open group's power
-pub part_taken : (e : Extended) (s : Sides) (t0 t : Table) (f : Taken) (rest next : Assignment → ℕ) (g more : Gathered) (x : Gate) (p : GatePart) → IsNext e f x → modulus t0 ≡ algebra.modulus e → Extends t0 t →
-    IsFixedAbove e.max rest → ((σ : Assignment) → next σ ≡ substituted (algebra.modulus e) x.v (gate_value x) rest σ) → IsPart (algebra.modulus e) t0 x (quotient (algebra.modulus e) x.v rest) p → g.power ≡ p.power →
+pub part_taken : (e : Extended) (s : Sides) (t0 t : Table) (f : Taken) (rest next : Assignment → ℕ) (g more : Gathered) (x : Gate) (p : GatePart) → IsNext e f x → modulus_in t0 ≡ algebra.modulus e → Extends t0 t →
+    IsFixedAbove e.max rest → ((σ : Assignment) → next σ ≡ substituted (algebra.modulus e) x.v (gate_value x) rest σ) → IsGatePart (algebra.modulus e) t0 x (quotient (algebra.modulus e) x.v rest) p → g.power ≡ p.power →
     HasPart t x p g more → IsGathered e s t f rest g → IsGathered e s t (step f (Eliminate x.v)) next more
 part_taken e s t0 t f rest next g more x p is same grown fixed next_is is_part power has h =
     let m = algebra.modulus e in
@@ -204,12 +204,12 @@ part_taken e s t0 t f rest next g more x p is same grown fixed next_is is_part p
     let k = g.power in
     let factor = p.factor in
     let low = within e f x is in
-    let here : modulus t ≡ m = modulus_stays t0 t grown ∙ same in
+    let here : modulus_in t ≡ m = modulus_stays t0 t grown ∙ same in
     let over : IsOver e.max t0 factor = over_fixed e.max t0 factor is_part.of.factor (is_part.fixed e.max low (quotient_fixed e.max m x.v rest low fixed)) in
     let over_now : IsOver e.max t factor = over_grown e.max t0 t factor grown over in
     let part : Part = record { id = x.v; factor = monomials_in t (times (2 ^ k) factor) } in
     let axiom_live = (axioms_are_live e is.made).0 x is.gate in
-    let law = pending_eliminates e s live (value_in t g.total) rest next f (whole t k g.parts.items) x h.pending (above_zero e f x is) low is.new next_is in
+    let law = pending_eliminates e s live (value_in t g.total) rest next f (scaled_parts t k g.parts.items) x h.pending (above_zero e f x is) low is.new next_is in
     let part_is : (σ : Assignment) → value m (monomials_in t (times (2 ^ k) factor)) σ ≡ difference m 0 (quotient m x.v rest σ) = λ σ.
     ap (λ n. value n (monomials_in t (times (2 ^ k) factor)) σ) (sym here) ∙ times_value t (2 ^ k) factor σ ∙
     ap₂ (λ n v. (2 ^ k * v) % n) here (value_stays t0 t factor σ grown over.0) ∙ ap (λ j. (2 ^ j * value_in t0 factor σ) % m) power ∙ is_part.minus σ in
@@ -226,15 +226,15 @@ part_taken e s t0 t f rest next g more x p is same grown fixed next_is is_part p
     record {
       groups = groups_moved e t g more has.groups has.columns has.total h.groups;
       added = subst (AreOfAdded e f.added) (sym (ap (λ v. v.items) has.columns)) h.added;
-      parts = subst (AreParts e t) (sym has.parts) (parts_pushed e t g.parts.items x factor is.gate over_now h.parts);
+      parts = subst (AreGateParts e t) (sym has.parts) (parts_pushed e t g.parts.items x factor is.gate over_now h.parts);
       fixed = same_fixed e.max (combined m live (parts_in t more.parts.items)) (λ σ. combined m live (parts_in t g.parts.items) σ + value_of live x.v σ * value m (monomials_in t factor) σ) line
           (λ v b σ above. ap₂ ◌+◌ (h.fixed v b σ above)
           (ap₂ ◌*◌ (same_fixed e.max (value_of live x.v) (gate_axiom m x).value axiom_live.1 (axiom_fixed e m x is.made is.gate) v b σ above)
           (same_fixed e.max (value m (monomials_in t factor)) (value_in t factor) factor_is (fixed_over e.max t factor over_now) v b σ above)));
       low = subst (λ n. n < t.exponent) (sym has.power) h.low;
-      pending = subst (λ n. IsPending e s live (value_in t more.total) (step f (Eliminate x.v)) next (whole t n more.parts.items)) (sym has.power)
-          (subst (λ total. IsPending e s live (value_in t total) (step f (Eliminate x.v)) next (whole t k more.parts.items)) (sym has.total)
-          (subst (IsPending e s live (value_in t g.total) (step f (Eliminate x.v)) next) (sym (ap (whole t k) has.parts ∙ whole_pushed t k g.parts.items (x.v, factor))) pending));
+      pending = subst (λ n. IsPending e s live (value_in t more.total) (step f (Eliminate x.v)) next (scaled_parts t n more.parts.items)) (sym has.power)
+          (subst (λ total. IsPending e s live (value_in t total) (step f (Eliminate x.v)) next (scaled_parts t k more.parts.items)) (sym has.total)
+          (subst (IsPending e s live (value_in t g.total) (step f (Eliminate x.v)) next) (sym (ap (scaled_parts t k) has.parts ∙ whole_pushed t k g.parts.items (x.v, factor))) pending));
       of = has.of;
       sum = λ σ.
           let old = value_in t g.stated σ in
@@ -251,10 +251,10 @@ pub sum_more : (t : Table) (gs : List Group) (g : Group) (σ : Assignment) → g
 sum_more t [] g σ = omega arith
 sum_more t (h ∷ gs) g σ = omega (arith, sum_more t gs g σ)
 
-pub ended : (e : Extended) (s : Sides) (t : Table) (f : Taken) (rest : Assignment → ℕ) (g more : Gathered) (poly weight : Sum) → modulus t ≡ algebra.modulus e →
+pub ended : (e : Extended) (s : Sides) (t : Table) (f : Taken) (rest : Assignment → ℕ) (g more : Gathered) (poly weight : Sum) → modulus_in t ≡ algebra.modulus e →
     IsFixedAbove e.max (gap e s f.added rest) → 0 < length g.parts.items → IsOf t poly → IsOf t weight → IsOf t more.total → ((σ : Assignment) → value_in t weight σ ≡ 2 ^ g.power) →
     ((σ : Assignment) → value_in t poly σ ≡ value_in t g.stated σ) →
-    ((σ : Assignment) → value_in t more.total σ ≡ (value_in t g.total σ + value_in t poly σ * value_in t weight σ) % modulus t) →
+    ((σ : Assignment) → value_in t more.total σ ≡ (value_in t g.total σ + value_in t poly σ * value_in t weight σ) % modulus_in t) →
     more.groups.items ≡ g.groups.items ++ record { parts = g.parts; poly = poly; weight = weight } ∷ [] → more.columns ≡ g.columns → more.parts.items ≡ [] → more.stated ≡ [] →
     more.power ≡ g.power → IsGathered e s t f rest g → IsGathered e s t f rest more
 ended e s t f rest g more poly weight same fixed some of_poly of_weight of_total weight_is poly_is total_is groups columns parts stated power h =
@@ -266,19 +266,19 @@ ended e s t f rest g more poly weight same fixed some of_poly of_weight of_total
     let states : (σ : Assignment) → value_in t poly σ ≡ c σ % m = λ σ. poly_is σ ∙ h.sum σ in
     let adds : (σ : Assignment) → value_in t more.total σ ≡ (value_in t g.total σ + value_in t poly σ * value_in t weight σ) % m = λ σ.
     total_is σ ∙ ap (λ n. (value_in t g.total σ + value_in t poly σ * value_in t weight σ) % n) same in
-    let weighs : (σ : Assignment) → (value_in t poly σ * value_in t weight σ) % m ≡ combined m live (whole t g.power g.parts.items) σ % m = λ σ.
+    let weighs : (σ : Assignment) → (value_in t poly σ * value_in t weight σ) % m ≡ combined m live (scaled_parts t g.power g.parts.items) σ % m = λ σ.
     ap₂ (λ a b. (a * b) % m) (states σ) (weight_is σ) ∙ product_same m (c σ % m) (c σ) w w (mod-mod (c σ) m) refl ∙ ap (λ n. n % m) (omega arith) ∙ sym (whole_is e t live g.power g.parts.items σ same) in
     let now : (σ : Assignment) → value_in t more.total σ ≡ gap e s f.added rest σ = λ σ.
-    adds σ ∙ sum_same m (value_in t g.total σ) (value_in t g.total σ) (value_in t poly σ * value_in t weight σ) (combined m live (whole t g.power g.parts.items) σ) refl (weighs σ) ∙ h.pending.sum σ in
+    adds σ ∙ sum_same m (value_in t g.total σ) (value_in t g.total σ) (value_in t poly σ * value_in t weight σ) (combined m live (scaled_parts t g.power g.parts.items) σ) refl (weighs σ) ∙ h.pending.sum σ in
     let poly_over = over_fixed e.max t poly of_poly
     (same_fixed e.max (value_in t poly) (λ σ. c σ % m) states (λ v b σ above. ap (λ n. n % m) (h.fixed v b σ above))) in
     let weight_over = over_fixed e.max t weight of_weight (λ v b σ above. weight_is (set_to v b σ) ∙ sym (weight_is σ)) in
-    let spare = subst (λ n. AreSpare n live (parts_in t g.parts.items)) same (spare_parts t live g.power g.parts.items (subst (λ n. AreSpare n live (whole t g.power g.parts.items)) (sym same) h.pending.spare)) in
+    let spare = subst (λ n. AreSpare n live (parts_in t g.parts.items)) same (spare_parts t live g.power g.parts.items (subst (λ n. AreSpare n live (scaled_parts t g.power g.parts.items)) (sym same) h.pending.spare)) in
     let nonzero : IsNotZero m (monomials_in t weight) = λ none.
     let at : Assignment = λ v. false in
     let zero : w ≡ 0 = sym (weight_is at) ∙ ap (λ n. value n (monomials_in t weight) at) same ∙ none at in
     let some' = pow_pos g.power in absurd (omega arith) in
-    let all : AreGroups e t (g.groups.items ++ group ∷ []) g.columns.items more.total = record {
+    let all : AreSumGroups e t (g.groups.items ++ group ∷ []) g.columns.items more.total = record {
       groups = All-push (IsGroup e t) g.groups.items group h.groups.groups
           (record { some = some; parts = h.parts; of = poly_over; of_weight = weight_over; spare = spare; states = states; nonzero = nonzero });
       of_columns = h.groups.of_columns;
@@ -291,7 +291,7 @@ ended e s t f rest g more poly weight same fixed some of_poly of_weight of_total
           ap (λ z. z % m) more_is ∙ sym (mod-add-mod (own + of_columns) m (value_in t poly σ * value_in t weight σ)) ∙
           ap (λ z. (z + value_in t poly σ * value_in t weight σ) % m) (h.groups.sum σ) ∙ sym (adds σ);
     } in
-    nothing_open e s t f rest more (subst (λ gs. AreGroups e t gs more.columns.items more.total) (sym groups) (subst (λ cs. AreGroups e t (g.groups.items ++ group ∷ []) cs.items more.total) (sym columns) all))
+    nothing_open e s t f rest more (subst (λ gs. AreSumGroups e t gs more.columns.items more.total) (sym groups) (subst (λ cs. AreSumGroups e t (g.groups.items ++ group ∷ []) cs.items more.total) (sym columns) all))
     (subst (λ cs. AreOfAdded e f.added cs.items) (sym columns) h.added) now (subst (λ n. n < t.exponent) (sym power) h.low) parts stated
 
 -- another power, where no group is open
@@ -304,11 +304,11 @@ repowered e s t f rest g more k groups columns total parts stated power low none
     record {
       groups = groups_moved e t g more groups columns total h.groups;
       added = subst (λ cs. AreOfAdded e f.added cs.items) (sym columns) h.added;
-      parts = subst (AreParts e t) (sym (ap (λ v. v.items) parts)) h.parts;
+      parts = subst (AreGateParts e t) (sym (ap (λ v. v.items) parts)) h.parts;
       fixed = subst (λ ps. IsFixedAbove e.max (combined (algebra.modulus e) live (parts_in t ps))) (sym (ap (λ v. v.items) parts)) h.fixed;
       low = omega arith;
-      pending = subst (λ ps. IsPending e s live (value_in t more.total) f rest (whole t more.power ps)) (sym is)
-          (subst (λ u. IsPending e s live (value_in t u) f rest []) (sym total) (subst (λ ps. IsPending e s live (value_in t g.total) f rest (whole t g.power ps)) none h.pending));
+      pending = subst (λ ps. IsPending e s live (value_in t more.total) f rest (scaled_parts t more.power ps)) (sym is)
+          (subst (λ u. IsPending e s live (value_in t u) f rest []) (sym total) (subst (λ ps. IsPending e s live (value_in t g.total) f rest (scaled_parts t g.power ps)) none h.pending));
       of = subst (IsOf t) (sym stated) h.of;
       sum = λ σ. ap (λ p. value_in t p σ) stated ∙ h.sum σ ∙
           sym (ap (λ v. combined (algebra.modulus e) live (parts_in t v.items) σ % algebra.modulus e) parts);
@@ -324,7 +324,7 @@ none_known e s σ = ap (λ z. z % algebra.modulus e) (none_added (algebra.modulu
 
 -- ---- what calls answer
 
-pub settled_itself : (t : Table) (g : Gathered) → Settles t t g g
+pub settled_itself : (t : Table) (g : Gathered) → KeepsGathered t t g g
 settled_itself t g = record { gathered = λ e s f rest same fixed h. h; of = λ h. h; count = omega arith }
 
 pub ended_itself : (t : Table) (g : Gathered) → g.parts.items ≡ [] → IsEndedGroup t t g g
@@ -332,7 +332,7 @@ ended_itself t g none = record { settles = settled_itself t g; none = none; powe
 
 pub group_ended : (t0 t1 t2 t3 : Table) (g more : Gathered) (poly weight : Sum) → Extends t0 t1 → Extends t1 t2 → Extends t2 t3 → 0 < length g.parts.items → IsOf t1 poly → IsOf t2 weight → IsOf t3 more.total →
     ((σ : Assignment) → value_in t1 poly σ ≡ value_in t0 g.stated σ) → ((σ : Assignment) → value_in t2 weight σ ≡ 2 ^ g.power) →
-    ((σ : Assignment) → value_in t3 more.total σ ≡ (value_in t2 g.total σ + value_in t2 poly σ * value_in t2 weight σ) % modulus t2) →
+    ((σ : Assignment) → value_in t3 more.total σ ≡ (value_in t2 g.total σ + value_in t2 poly σ * value_in t2 weight σ) % modulus_in t2) →
     more.groups.items ≡ g.groups.items ++ record { parts = g.parts; poly = poly; weight = weight } ∷ [] → more.columns ≡ g.columns → more.parts.items ≡ [] → more.stated ≡ [] →
     more.power ≡ g.power → IsEndedGroup t0 t3 g more
 group_ended t0 t1 t2 t3 g more poly weight first second third some of_poly of_weight of_total poly_is weight_is total_is groups columns parts stated power = record {
@@ -377,11 +377,11 @@ power_set t0 t g mid more k h groups columns total parts stated power low = reco
   power = power;
 }
 
-pub taken_none : (t : Table) (x : Gate) (g : Gathered) → HasTaken t t x None g g
+pub taken_none : (t : Table) (x : Gate) (g : Gathered) → HasTakenGate t t x None g g
 taken_none t x g = record { gathered = λ e s f rest next same is fixed gap_is next_is turned h. none_taken e s t f rest next g x is next_is turned h; count = omega arith }
 
 -- a part, where the open group has its power
-pub taken_part : (t0 t : Table) (x : Gate) (p : GatePart) (g mid more : Gathered) → Extends t0 t → HasPower t0 t p.power g mid → HasPart t x p mid more → HasTaken t0 t x (Some p) g more
+pub taken_part : (t0 t : Table) (x : Gate) (p : GatePart) (g mid more : Gathered) → Extends t0 t → HasPower t0 t p.power g mid → HasPart t x p mid more → HasTakenGate t0 t x (Some p) g more
 taken_part t0 t x p g mid more grown has part = record {
   gathered = λ e s f rest next same is fixed gap_is next_is left h.
       part_taken e s t0 t f rest next mid more x p is same grown fixed next_is left has.power part (has.settles.gathered e s f rest same gap_is h);
@@ -396,7 +396,7 @@ taken_part t0 t x p g mid more grown has part = record {
     at_most_one [] = omega arith
     at_most_one (p ∷ ps) = omega arith
 
-pub settled_ended : (t0 t : Table) (g r : Gathered) → IsEndedGroup t0 t g r → Settles t0 t g r
+pub settled_ended : (t0 t : Table) (g r : Gathered) → IsEndedGroup t0 t g r → KeepsGathered t0 t g r
 settled_ended t0 t g r h = h.settles
 
 -- ---- what calls ask for
@@ -406,7 +406,7 @@ pub gathered_somewhere : (e : Extended) (s : Sides) (t0 t : Table) (f : Taken) (
 gathered_somewhere e s t0 t f rest None grown h = tt
 gathered_somewhere e s t0 t f rest (Some g) grown h = (e, s, f, rest, gathered_grown e s t0 t f rest g grown h)
 
-pub left_of : (m : ℕ) (t : Table) (x : Gate) (by : Assignment → ℕ) (q : Option GatePart) → IsLeft m t x by q → IfSome q (IsPartOf t)
+pub left_of : (m : ℕ) (t : Table) (x : Gate) (by : Assignment → ℕ) (q : Option GatePart) → IsLeft m t x by q → IfSome q (IsGatePartOf t)
 left_of m t x by None h = tt
 left_of m t x by (Some q) h = h.of
 
@@ -421,5 +421,5 @@ most_below e s t f rest most None some none is h = omega (arith, none refl, some
 most_below e s t f rest most (Some g) some none is h = omega (arith, is, h.low)
 
 -- a part in a table that has grown
-pub part_grown : (t0 t : Table) (p : GatePart) → Extends t0 t → IsPartOf t0 p → IsPartOf t p
+pub part_grown : (t0 t : Table) (p : GatePart) → Extends t0 t → IsGatePartOf t0 p → IsGatePartOf t p
 part_grown t0 t p grown h = record { factor = stays t0 t p.factor grown h.factor; operands = stays t0 t p.operands grown h.operands; variable = stays t0 t p.variable grown h.variable }

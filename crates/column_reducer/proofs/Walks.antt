@@ -16,7 +16,7 @@ use Rattle.graph_core.proofs.OfGraphs.CallerLemmas.{sum_same}
 use Rattle.ripple_graft.specs.Extension.{IsExtension, new_outputs}
 use Rattle.poly_terms.specs.Indexed.{IndexedSum, IsIndexed}
 use Rattle.graph_core.specs.Algebra.Polynomials.{sum_of}
-use Rattle.poly_terms.specs.Tables.{Table, Sum, Extends, IsOf, modulus, monomials_in, value_in}
+use Rattle.poly_terms.specs.Tables.{Table, Sum, Extends, IsOf, modulus_in, monomials_in, value_in}
 use Rattle.poly_terms.specs.Laws.{indexed_stays, modulus_stays, stays, value_stays}
 use Rattle.frontier_core.specs.Sets.{has}
 use Rattle.frontier_core.specs.Columns.{column_value}
@@ -32,7 +32,7 @@ use Rattle.column_reducer.specs.declared.elimination.Elimination.{Elimination}
 use Rattle.column_reducer.specs.declared.gate_part.GatePart.{GatePart}
 use Rattle.column_reducer.specs.declared.gathered.Gathered.{Gathered}
 use Rattle.column_reducer.specs.declared.walk.Walk.{Walk}
-use Rattle.column_reducer.specs.Gathering.{HasColumnIn, HasEnded, HasTakenIn, IsEliminated, IsEndedGroup, IsFixedAbove, IsGathered, IsLeft, IsNext, IsWalked, Settles, group_count}
+use Rattle.column_reducer.specs.Gathering.{HasColumnIn, HasEnded, HasTakenIn, IsEliminated, IsEndedGroup, IsFixedAbove, IsGathered, IsLeft, IsNext, IsWalked, KeepsGathered, group_count}
 use Rattle.column_reducer.proofs.Columns.{column_in, few_columns}
 use Rattle.column_reducer.proofs.Fixed.{column_fixed, gap_fixed, partial_fixed, same_fixed, substituted_fixed}
 use Rattle.column_reducer.proofs.Grown.{function_stays, gathered_grown}
@@ -58,7 +58,7 @@ walk_grown e s t0 t f w g grown h gathered few = record {
 
 -- ---- before the first step
 
-pub walk_bare : (e : Extended) (s : Sides) (t : Table) (rest : IndexedSum) → modulus t ≡ algebra.modulus e → IsOf t rest.sum → IsIndexed t rest → ((σ : Assignment) → value_in t rest.sum σ ≡ 0) →
+pub walk_bare : (e : Extended) (s : Sides) (t : Table) (rest : IndexedSum) → modulus_in t ≡ algebra.modulus e → IsOf t rest.sum → IsIndexed t rest → ((σ : Assignment) → value_in t rest.sum σ ≡ 0) →
     IsWalked e s t nothing (walk_of rest None)
 walk_bare e s t rest same of indexed none = record {
   same_modulus = same;
@@ -71,7 +71,7 @@ walk_bare e s t rest same of indexed none = record {
   few = tt;
 }
 
-pub walk_started : (e : Extended) (s : Sides) (t0 t : Table) (rest : IndexedSum) (g : Gathered) → modulus t0 ≡ algebra.modulus e → Extends t0 t → IsOf t0 rest.sum → IsIndexed t0 rest →
+pub walk_started : (e : Extended) (s : Sides) (t0 t : Table) (rest : IndexedSum) (g : Gathered) → modulus_in t0 ≡ algebra.modulus e → Extends t0 t → IsOf t0 rest.sum → IsIndexed t0 rest →
     ((σ : Assignment) → value_in t0 rest.sum σ ≡ 0) → group_count g ≡ 0 →
     ((k : Assignment → ℕ) → ((σ : Assignment) → k σ ≡ 0) → IsGathered e s t nothing k g) → IsWalked e s t nothing (walk_of rest (Some g))
 walk_started e s t0 t rest g same grown of indexed none groups gathered =
@@ -81,18 +81,18 @@ walk_started e s t0 t rest g same grown of indexed none groups gathered =
 
 pub walk_added : (e : Extended) (s : Sides) (t0 t1 t : Table) (f : Taken) (w : Walk) (k : ℕ) (column : Sum) (rest : IndexedSum) (more : Option Gathered) → IsExtension e → ReadInputs e.graph s → k < length e.graph.outputs →
     Extends t0 t1 → Extends t1 t → IsOf t1 rest.sum → IsIndexed t1 rest →
-    ((o : Lit) → slice_get (new_outputs e) k ≡ Some o → (σ : Assignment) → value_in t1 column σ ≡ column_value e s k o σ % modulus t0) →
-    ((σ : Assignment) → value_in t1 rest.sum σ ≡ (value_in t1 w.rest.sum σ + value_in t1 column σ) % modulus t1) → HasColumnIn t1 t e k w.gathered more →
+    ((o : Lit) → slice_get (new_outputs e) k ≡ Some o → (σ : Assignment) → value_in t1 column σ ≡ column_value e s k o σ % modulus_in t0) →
+    ((σ : Assignment) → value_in t1 rest.sum σ ≡ (value_in t1 w.rest.sum σ + value_in t1 column σ) % modulus_in t1) → HasColumnIn t1 t e k w.gathered more →
     IsFrontierOf e f → has f.added k ≡ false → IsWalked e s t0 f w → IsWalked e s t (step f (Add k)) (walk_of rest more)
 walk_added e s t0 t1 t f w k column rest more made read low first second of indexed column_is rest_is takes frontier new h =
     let m = algebra.modulus e in
     let none : Lit = record { 0 = 0 } in
     let r : Lit = get_or (new_outputs e) k none in
     let out : slice_get (new_outputs e) k ≡ Some r = slice_get-get_or (new_outputs e) k none (subst (λ n. k < n) (sym (length-outputs_from e.replaced 0 e.graph.outputs)) low) in
-    let same : modulus t1 ≡ m = modulus_stays t0 t1 first ∙ h.same_modulus in
+    let same : modulus_in t1 ≡ m = modulus_stays t0 t1 first ∙ h.same_modulus in
     let sum : (x : Lit) → slice_get (new_outputs e) k ≡ Some x → (σ : Assignment) → value_in t rest.sum σ ≡ (value_in t0 w.rest.sum σ + column_value e s k x σ) % m = λ x is σ.
     value_stays t1 t rest.sum σ second of ∙ rest_is σ ∙
-    ap₂ (λ a b. (a + b) % modulus t1) (value_stays t0 t1 w.rest.sum σ first h.of) (column_is x is σ ∙ ap (λ n. column_value e s k x σ % n) h.same_modulus) ∙
+    ap₂ (λ a b. (a + b) % modulus_in t1) (value_stays t0 t1 w.rest.sum σ first h.of) (column_is x is σ ∙ ap (λ n. column_value e s k x σ % n) h.same_modulus) ∙
     ap (λ n. (value_in t0 w.rest.sum σ + column_value e s k x σ % m) % n) same ∙
     sum_same m (value_in t0 w.rest.sum σ) (value_in t0 w.rest.sum σ) (column_value e s k x σ % m) (column_value e s k x σ) refl (mod-mod (column_value e s k x σ) m) in
     record {
@@ -109,9 +109,9 @@ walk_added e s t0 t1 t f w k column rest more made read low first second of inde
 
 -- ---- a gate
 
-taken_in : (e : Extended) (s : Sides) (t0 t1 t : Table) (f : Taken) (p next : Sum) (g more : Option Gathered) (x : Gate) (q : Option GatePart) → IsNext e f x → modulus t0 ≡ algebra.modulus e → Extends t0 t1 → Extends t1 t → IsOf t0 p →
-    IsOf t1 next → IsFixedAbove e.max (value_in t0 p) → IsFixedAbove e.max (gap e s f.added (value_in t0 p)) → ((σ : Assignment) → value_in t1 next σ ≡ substituted (modulus t0) x.v (gate_value x) (value_in t0 p) σ) →
-    IsLeft (modulus t0) t1 x (quotient (modulus t0) x.v (value_in t0 p)) q →
+taken_in : (e : Extended) (s : Sides) (t0 t1 t : Table) (f : Taken) (p next : Sum) (g more : Option Gathered) (x : Gate) (q : Option GatePart) → IsNext e f x → modulus_in t0 ≡ algebra.modulus e → Extends t0 t1 → Extends t1 t → IsOf t0 p →
+    IsOf t1 next → IsFixedAbove e.max (value_in t0 p) → IsFixedAbove e.max (gap e s f.added (value_in t0 p)) → ((σ : Assignment) → value_in t1 next σ ≡ substituted (modulus_in t0) x.v (gate_value x) (value_in t0 p) σ) →
+    IsLeft (modulus_in t0) t1 x (quotient (modulus_in t0) x.v (value_in t0 p)) q →
     HasTakenIn t1 t x q g more → IfSome g (IsGathered e s t0 f (value_in t0 p)) → IfSome more (IsGathered e s t (step f (Eliminate x.v)) (value_in t next))
 taken_in e s t0 t1 t f p next None None x q is same first second of_p of_next fixed gap_is next_is left takes h = tt
 taken_in e s t0 t1 t f p next None (Some more) x q is same first second of_p of_next fixed gap_is next_is left takes h = cc
@@ -139,8 +139,8 @@ walk_eliminated e s t0 t1 t f w more x r made is first second by takes frontier 
       indexed = indexed_stays t1 t r.rest second by.of by.indexed;
       value = λ σ. eliminating_substitutes e s f.added f.eliminated x (value_in t0 w.rest.sum) (value_in t r.rest.sum) made frontier is new h.value
           (λ τ. there τ ∙ by.value τ ∙ ap (λ n. substituted n x.v (gate_value x) (value_in t0 w.rest.sum) τ) h.same_modulus) σ;
-      fixed = same_fixed e.max (value_in t r.rest.sum) (substituted (modulus t0) x.v (gate_value x) (value_in t0 w.rest.sum)) (λ σ. there σ ∙ by.value σ)
-          (substituted_fixed e (modulus t0) x (value_in t0 w.rest.sum) made is h.fixed);
+      fixed = same_fixed e.max (value_in t r.rest.sum) (substituted (modulus_in t0) x.v (gate_value x) (value_in t0 w.rest.sum)) (λ σ. there σ ∙ by.value σ)
+          (substituted_fixed e (modulus_in t0) x (value_in t0 w.rest.sum) made is h.fixed);
       known = h.known;
       gathered = taken_in e s t0 t1 t f w.rest.sum r.rest.sum w.gathered more x r.part next h.same_modulus first second h.of by.of h.fixed
           (gap_fixed e s f.added (value_in t0 w.rest.sum) h.known h.fixed) by.value by.part takes h.gathered;
@@ -149,7 +149,7 @@ walk_eliminated e s t0 t1 t f w more x r made is first second by takes frontier 
 
 -- ---- between steps
 
-pub walk_settled : (e : Extended) (s : Sides) (t0 t : Table) (f : Taken) (rest : IndexedSum) (g r : Gathered) → Extends t0 t → Settles t0 t g r →
+pub walk_settled : (e : Extended) (s : Sides) (t0 t : Table) (f : Taken) (rest : IndexedSum) (g r : Gathered) → Extends t0 t → KeepsGathered t0 t g r →
     IsWalked e s t0 f (walk_of rest (Some g)) → IsWalked e s t f (walk_of rest (Some r))
 walk_settled e s t0 t f rest g r grown settles h =
     let low : group_count g ≤ length f.eliminated = h.few in
@@ -158,14 +158,14 @@ walk_settled e s t0 t f rest g r grown settles h =
     (settles.gathered e s f (value_in t0 rest.sum) h.same_modulus (gap_fixed e s f.added (value_in t0 rest.sum) h.known h.fixed) h.gathered) (omega arith)
 
 -- what is added to 0
-pub added_to_none : (t : Table) (before p after : Sum) (σ : Assignment) → value_in t before σ ≡ 0 → value_in t after σ ≡ (value_in t before σ + value_in t p σ) % modulus t →
+pub added_to_none : (t : Table) (before p after : Sum) (σ : Assignment) → value_in t before σ ≡ 0 → value_in t after σ ≡ (value_in t before σ + value_in t p σ) % modulus_in t →
     value_in t after σ ≡ value_in t p σ
 added_to_none t before p after σ none is =
-    let m = modulus t in
+    let m = modulus_in t in
     is ∙ ap (λ z. (z + value_in t p σ) % m) none ∙ ap (λ z. z % m) (omega arith) ∙ mod-mod (sum_of m (monomials_in t p) σ) m
 
 -- the frontier alone, in another table
-pub walk_renewed : (e : Extended) (s : Sides) (t0 t : Table) (f : Taken) (w : Walk) (rest : IndexedSum) → modulus t ≡ modulus t0 → IsOf t rest.sum → IsIndexed t rest →
+pub walk_renewed : (e : Extended) (s : Sides) (t0 t : Table) (f : Taken) (w : Walk) (rest : IndexedSum) → modulus_in t ≡ modulus_in t0 → IsOf t rest.sum → IsIndexed t rest →
     ((σ : Assignment) → value_in t rest.sum σ ≡ value_in t0 w.rest.sum σ) → IsWalked e s t0 f w → IsWalked e s t f (walk_of rest None)
 walk_renewed e s t0 t f w rest same of indexed is h = record {
   same_modulus = same ∙ h.same_modulus;

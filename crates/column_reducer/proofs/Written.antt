@@ -15,17 +15,18 @@ use Rattle.graph_core.specs.Algebra as algebra
 use Rattle.graph_core.specs.Algebra.Polynomials.{value}
 use Rattle.ripple_graft.specs.Extension.{IsExtension}
 use Rattle.poly_terms.specs.Tables.{Table, Sum, monomials_in, value_in}
-use Rattle.pac_writer.specs.Writing.{AreOver, IsOver, Made, PutsLine, AreLawfulSoFar, combination_of, ledger_of, parts_in}
+use Rattle.pac_writer.specs.Writing.{ArePartsOver, IsOver, Made, PutsLine, AreLawfulSoFar, combination_of, written_ledger}
 use Rattle.frontier_core.specs.Sets.{has}
 use Rattle.frontier_core.specs.Pending.{AreSpare, IsNotZero}
 use Rattle.frontier_core.proofs.Gathered.{combined_push}
 use Rattle.frontier_core.proofs.Everywhere.{all_from_map, all_has}
 use Rattle.frontier_core.proofs.LineLemmas.{new_line_is_live}
 use Rattle.column_reducer.specs.declared.gathered.Group.{Group}
-use Rattle.column_reducer.specs.Gathering.{AreParts, AreWritten, IsGroup}
-use Rattle.column_reducer.specs.Reducing.{IsOfGraph}
+use Rattle.column_reducer.specs.Gathering.{AreGateParts, AreGroupsWritten, IsGroup}
+use Rattle.column_reducer.specs.Reducing.{AreLinesOver}
 use Rattle.column_reducer.proofs.Fixed.{all_left, all_right}
 use Rattle.column_reducer.proofs.Taken.{part_pushed, sum_more}
+use Rattle.poly_text.specs.Lines.{parts_in}
 
 -- ---- where the lines of parts are as they were
 
@@ -44,7 +45,7 @@ spare_moves m old new parts same h = record {
 gates_low : (e : Extended) (v : ℕ) → IsExtension e → has (map (λ x. x.v) e.gates) v ≡ true → v ≤ e.max
 gates_low e v made h = all_has (λ w. w ≤ e.max) (map (λ x. x.v) e.gates) v (all_from_map (λ w. w ≤ e.max) (λ x. x.v) e.gates (recursion_from_All (λ x. x.v ≤ e.max) e.gates made.gates_in_range)) h
 
-part_lines : (e : Extended) (t : Table) (live : List LiveLine) (parts : List (ℕ × Sum)) → IsExtension e → ((id : ℕ) → id ≤ e.max → line_of live id ≡ line_of (axioms e).live id) → AreParts e t parts →
+part_lines : (e : Extended) (t : Table) (live : List LiveLine) (parts : List (ℕ × Sum)) → IsExtension e → ((id : ℕ) → id ≤ e.max → line_of live id ≡ line_of (axioms e).live id) → AreGateParts e t parts →
     All (λ p. line_of live p.id ≡ line_of (axioms e).live p.id) (parts_in t parts)
 part_lines e t live parts made same h =
     All-from_recursion (λ p. line_of live p.id ≡ line_of (axioms e).live p.id) (parts_in t parts)
@@ -53,36 +54,36 @@ part_lines e t live parts made same h =
 
 -- ---- one group
 
-last_group : (e : Extended) (s : Sides) (t : Table) (total : Sum) (gs : List Group) (g : Group) (ones : List (ℕ × Sum)) (l : Made) → AreWritten e s t total (gs ++ g ∷ []) ones l → IsGroup e t g
+last_group : (e : Extended) (s : Sides) (t : Table) (total : Sum) (gs : List Group) (g : Group) (ones : List (ℕ × Sum)) (l : Made) → AreGroupsWritten e s t total (gs ++ g ∷ []) ones l → IsGroup e t g
 last_group e s t total gs g ones l h = all_right (IsGroup e t) gs (g ∷ []) h.groups 0 g (omega arith)
 
-pub group_over : (e : Extended) (s : Sides) (t : Table) (total : Sum) (gs : List Group) (g : Group) (ones : List (ℕ × Sum)) (l : Made) → AreWritten e s t total (gs ++ g ∷ []) ones l →
-    AreOver l.extended.max l.table g.parts.items g.poly
+pub group_over : (e : Extended) (s : Sides) (t : Table) (total : Sum) (gs : List Group) (g : Group) (ones : List (ℕ × Sum)) (l : Made) → AreGroupsWritten e s t total (gs ++ g ∷ []) ones l →
+    ArePartsOver l.extended.max l.table g.parts.items g.poly
 group_over e s t total gs g ones l h =
     let group = last_group e s t total gs g ones l h in
-    subst (λ x. AreOver x.max l.table g.parts.items g.poly) (sym h.graph.extended)
-    (subst (λ u. AreOver e.max u g.parts.items g.poly) (sym h.graph.table) (record { some = group.some; factors = group.parts.of; stated = group.of }))
+    subst (λ x. ArePartsOver x.max l.table g.parts.items g.poly) (sym h.graph.extended)
+    (subst (λ u. ArePartsOver e.max u g.parts.items g.poly) (sym h.graph.table) (record { some = group.some; factors = group.parts.of; stated = group.of }))
 
-pub group_spare : (e : Extended) (s : Sides) (t : Table) (total : Sum) (gs : List Group) (g : Group) (ones : List (ℕ × Sum)) (l : Made) → AreWritten e s t total (gs ++ g ∷ []) ones l →
-    AreSpare (algebra.modulus l.extended) (ledger_of l).live (parts_in l.table g.parts.items)
+pub group_spare : (e : Extended) (s : Sides) (t : Table) (total : Sum) (gs : List Group) (g : Group) (ones : List (ℕ × Sum)) (l : Made) → AreGroupsWritten e s t total (gs ++ g ∷ []) ones l →
+    AreSpare (algebra.modulus l.extended) (written_ledger l).live (parts_in l.table g.parts.items)
 group_spare e s t total gs g ones l h =
     let group = last_group e s t total gs g ones l h in
-    subst (λ x. AreSpare (algebra.modulus x) (ledger_of l).live (parts_in l.table g.parts.items)) (sym h.graph.extended)
-    (subst (λ u. AreSpare (algebra.modulus e) (ledger_of l).live (parts_in u g.parts.items)) (sym h.graph.table)
-    (spare_moves (algebra.modulus e) (axioms e).live (ledger_of l).live (parts_in t g.parts.items) (part_lines e t (ledger_of l).live g.parts.items h.made h.axioms group.parts) group.spare))
+    subst (λ x. AreSpare (algebra.modulus x) (written_ledger l).live (parts_in l.table g.parts.items)) (sym h.graph.extended)
+    (subst (λ u. AreSpare (algebra.modulus e) (written_ledger l).live (parts_in u g.parts.items)) (sym h.graph.table)
+    (spare_moves (algebra.modulus e) (axioms e).live (written_ledger l).live (parts_in t g.parts.items) (part_lines e t (written_ledger l).live g.parts.items h.made h.axioms group.parts) group.spare))
 
-pub group_equal : (e : Extended) (s : Sides) (t : Table) (total : Sum) (gs : List Group) (g : Group) (ones : List (ℕ × Sum)) (l : Made) → AreWritten e s t total (gs ++ g ∷ []) ones l →
-    IsCombined (algebra.modulus l.extended) (ledger_of l).live (parts_in l.table g.parts.items) (monomials_in l.table g.poly)
+pub group_equal : (e : Extended) (s : Sides) (t : Table) (total : Sum) (gs : List Group) (g : Group) (ones : List (ℕ × Sum)) (l : Made) → AreGroupsWritten e s t total (gs ++ g ∷ []) ones l →
+    IsCombined (algebra.modulus l.extended) (written_ledger l).live (parts_in l.table g.parts.items) (monomials_in l.table g.poly)
 group_equal e s t total gs g ones l h =
     let m = algebra.modulus e in
     let group = last_group e s t total gs g ones l h in
-    subst (λ x. IsCombined (algebra.modulus x) (ledger_of l).live (parts_in l.table g.parts.items) (monomials_in l.table g.poly)) (sym h.graph.extended)
-    (subst (λ u. IsCombined m (ledger_of l).live (parts_in u g.parts.items) (monomials_in u g.poly)) (sym h.graph.table)
+    subst (λ x. IsCombined (algebra.modulus x) (written_ledger l).live (parts_in l.table g.parts.items) (monomials_in l.table g.poly)) (sym h.graph.extended)
+    (subst (λ u. IsCombined m (written_ledger l).live (parts_in u g.parts.items) (monomials_in u g.poly)) (sym h.graph.table)
     (λ σ. ap (λ k. value k (monomials_in t g.poly) σ) (sym h.same_modulus) ∙ group.states σ ∙
-    ap (λ z. z % m) (sym (combined_moves m (axioms e).live (ledger_of l).live (parts_in t g.parts.items) σ
-    (recursion_from_All (λ p. line_of (ledger_of l).live p.id ≡ line_of (axioms e).live p.id) (parts_in t g.parts.items) (part_lines e t (ledger_of l).live g.parts.items h.made h.axioms group.parts))))))
+    ap (λ z. z % m) (sym (combined_moves m (axioms e).live (written_ledger l).live (parts_in t g.parts.items) σ
+    (recursion_from_All (λ p. line_of (written_ledger l).live p.id ≡ line_of (axioms e).live p.id) (parts_in t g.parts.items) (part_lines e t (written_ledger l).live g.parts.items h.made h.axioms group.parts))))))
 
-graph_on : (e : Extended) (s : Sides) (t : Table) (line : algebra.Line) (id : ℕ) (l new : Made) → PutsLine line id l new → IsOfGraph e s t l → IsOfGraph e s t new
+graph_on : (e : Extended) (s : Sides) (t : Table) (line : algebra.Line) (id : ℕ) (l new : Made) → PutsLine line id l new → AreLinesOver e s t l → AreLinesOver e s t new
 graph_on e s t line id l new puts h = record {
   extended = puts.extended ∙ h.extended;
   sides = puts.sides ∙ h.sides;
@@ -91,21 +92,21 @@ graph_on e s t line id l new puts h = record {
 }
 
 pub group_written : (e : Extended) (s : Sides) (t : Table) (total : Sum) (gs : List Group) (g : Group) (ones more : List (ℕ × Sum)) (id : ℕ) (l new : Made) → id ≡ l.last + 1 →
-    PutsLine (combination_of l.table id g.parts.items g.poly) id l new → more ≡ ones ++ (id, g.weight) ∷ [] → AreWritten e s t total (gs ++ g ∷ []) ones l → AreWritten e s t total gs more new
+    PutsLine (combination_of l.table id g.parts.items g.poly) id l new → more ≡ ones ++ (id, g.weight) ∷ [] → AreGroupsWritten e s t total (gs ++ g ∷ []) ones l → AreGroupsWritten e s t total gs more new
 group_written e s t total gs g ones more id l new is puts pushed h =
     let m = algebra.modulus e in
-    let old = (ledger_of l).live in
-    let live = (ledger_of new).live in
+    let old = (written_ledger l).live in
+    let live = (written_ledger new).live in
     let group = last_group e s t total gs g ones l h in
     let p = monomials_in t g.poly in
-    let ledger : ledger_of new ≡ introduce m (ledger_of l) id p = puts.ledger ∙ ap₂ (λ x u. introduce (algebra.modulus x) (ledger_of l) id (monomials_in u g.poly)) h.graph.extended h.graph.table in
-    let law = new_line_is_live m (ledger_of l) id p in
+    let ledger : written_ledger new ≡ introduce m (written_ledger l) id p = puts.ledger ∙ ap₂ (λ x u. introduce (algebra.modulus x) (written_ledger l) id (monomials_in u g.poly)) h.graph.extended h.graph.table in
+    let law = new_line_is_live m (written_ledger l) id p in
     let others : (i : ℕ) → i ≢ id → line_of live i ≡ line_of old i = λ i ne. ap (λ k. line_of k.live i) ledger ∙ law.2 i ne in
     let here : (σ : Assignment) → value_of live id σ ≡ value m p σ = λ σ. ap (λ k. value_of k.live id σ) ledger ∙ law.1 σ in
     let low = h.low in
     let apart : All (λ q. q.0 ≢ id) ones = λ k d within. let ids = h.ids k d within in λ same. absurd (omega (arith, ids.1)) in
     let greatest = puts.last in
-    subst (λ os. AreWritten e s t total gs os new) (sym pushed)
+    subst (λ os. AreGroupsWritten e s t total gs os new) (sym pushed)
     (record {
       made = h.made;
       same_modulus = h.same_modulus;
@@ -148,14 +149,14 @@ pub no_items : {X : Type 0} (xs : List X) → length xs ≡ 0 → xs ≡ []
 no_items [] h = refl
 no_items (x ∷ xs) h = absurd (omega arith)
 
-pub sum_is_equal : (s : Sides) (total : Sum) (ones : List (ℕ × Sum)) (l : Made) → AreWritten l.extended s l.table total [] ones l →
-    AreSpare (algebra.modulus l.extended) (ledger_of l).live (parts_in l.table ones) × IsCombined (algebra.modulus l.extended) (ledger_of l).live (parts_in l.table ones) (monomials_in l.table total)
+pub sum_is_equal : (s : Sides) (total : Sum) (ones : List (ℕ × Sum)) (l : Made) → AreGroupsWritten l.extended s l.table total [] ones l →
+    AreSpare (algebra.modulus l.extended) (written_ledger l).live (parts_in l.table ones) × IsCombined (algebra.modulus l.extended) (written_ledger l).live (parts_in l.table ones) (monomials_in l.table total)
 sum_is_equal s total ones l h =
     let m = algebra.modulus l.extended in
     let t = l.table in (
       record {
-        live = All-from_recursion (λ p. IsLive (ledger_of l).live p.id) (parts_in t ones)
-            (all_from_map (λ p. IsLive (ledger_of l).live p.id) (λ p. record { id = p.0; factor = monomials_in t p.1 }) ones (recursion_from_All (λ p. IsLive (ledger_of l).live p.0) ones h.live));
+        live = All-from_recursion (λ p. IsLive (written_ledger l).live p.id) (parts_in t ones)
+            (all_from_map (λ p. IsLive (written_ledger l).live p.id) (λ p. record { id = p.0; factor = monomials_in t p.1 }) ones (recursion_from_All (λ p. IsLive (written_ledger l).live p.0) ones h.live));
         once = once_parts t ones h.once;
         nonzero = All-from_recursion (λ p. IsNotZero m p.factor) (parts_in t ones)
             (all_from_map (λ p. IsNotZero m p.factor) (λ p. record { id = p.0; factor = monomials_in t p.1 }) ones (recursion_from_All (λ p. IsNotZero m (monomials_in t p.1)) ones h.nonzero));
@@ -171,13 +172,13 @@ no_line (x ∷ live) h =
     let other : x.id ≢ 0 = λ same. absurd (omega arith) in
     ap (λ b. cond b (Some x) (line_of live 0)) (ne_eqb x.id 0 other) ∙ no_line live h.1
 
-pub none_is_zero : (s : Sides) (total : Sum) (l : Made) (σ : Assignment) → AreLawfulSoFar l → AreWritten l.extended s l.table total [] [] l → value_of (ledger_of l).live 0 σ ≡ value_in l.table total σ
+pub none_is_zero : (s : Sides) (total : Sum) (l : Made) (σ : Assignment) → AreLawfulSoFar l → AreGroupsWritten l.extended s l.table total [] [] l → value_of (written_ledger l).live 0 σ ≡ value_in l.table total σ
 none_is_zero s total l σ lawful h =
-    ap (λ o. value_or_zero o σ) (no_line (ledger_of l).live (recursion_from_All (λ x. 0 < x.id) (ledger_of l).live (λ k d low. (lawful.ids k d low).0))) ∙
+    ap (λ o. value_or_zero o σ) (no_line (written_ledger l).live (recursion_from_All (λ x. 0 < x.id) (written_ledger l).live (λ k d low. (lawful.ids k d low).0))) ∙
     sym (zero-mod (algebra.modulus l.extended)) ∙ ap (λ z. z % algebra.modulus l.extended) (omega arith) ∙ h.sum σ
 
-pub sum_has : (s : Sides) (total : Sum) (ones : List (ℕ × Sum)) (id : ℕ) (l new : Made) (σ : Assignment) → PutsLine (combination_of l.table id ones total) id l new → AreWritten l.extended s l.table total [] ones l →
-    value_of (ledger_of new).live id σ ≡ value_in l.table total σ
+pub sum_has : (s : Sides) (total : Sum) (ones : List (ℕ × Sum)) (id : ℕ) (l new : Made) (σ : Assignment) → PutsLine (combination_of l.table id ones total) id l new → AreGroupsWritten l.extended s l.table total [] ones l →
+    value_of (written_ledger new).live id σ ≡ value_in l.table total σ
 sum_has s total ones id l new σ puts h =
-    ap (λ k. value_of k.live id σ) puts.ledger ∙ (new_line_is_live (algebra.modulus l.extended) (ledger_of l) id (monomials_in l.table total)).1 σ ∙
+    ap (λ k. value_of k.live id σ) puts.ledger ∙ (new_line_is_live (algebra.modulus l.extended) (written_ledger l) id (monomials_in l.table total)).1 σ ∙
     ap (λ m. value m (monomials_in l.table total) σ) (sym h.same_modulus)

@@ -13,7 +13,7 @@ use Rattle.graph_core.specs.Algebra as algebra
 use Rattle.graph_core.specs.Algebra.Polynomials.{Term, difference}
 use Rattle.ripple_graft.specs.Extension.{IsExtension, new_outputs}
 use Rattle.poly_terms.specs.Indexed.{IsIndexed}
-use Rattle.poly_terms.specs.Tables.{Table, Sum, IsOf, modulus, monomials_in, value_in}
+use Rattle.poly_terms.specs.Tables.{Table, Sum, IsOf, modulus_in, monomials_in, value_in}
 use Rattle.frontier_core.specs.Columns.{column_value}
 use Rattle.frontier_core.specs.Frontier.{set_to}
 use Rattle.frontier_core.specs.Sets.{has}
@@ -21,7 +21,7 @@ use Rattle.frontier_core.specs.declared.step.Step.TheVariants.{Add, Eliminate}
 use Rattle.frontier_core.specs.Plan.{Taken, step, value_of_taken}
 use Rattle.frontier_core.specs.Pending.{AreSpare, IsNotZero, IsPending, gap}
 use Rattle.frontier_core.specs.RestLine.{partial_specification}
-use Rattle.pac_writer.specs.Writing.{IsOver, Made, ledger_of, parts_in}
+use Rattle.pac_writer.specs.Writing.{IsOver, Made, written_ledger}
 use Rattle.frontier_core.specs.Substitution.{gate_value, quotient, substituted}
 use Rattle.column_reducer.specs.declared.elimination.Elimination.{Elimination}
 use Rattle.column_reducer.specs.declared.gate_part.GatePart.{GatePart}
@@ -31,7 +31,8 @@ use Rattle.column_reducer.specs.declared.walk.Walk.{Walk}
 use Rattle.column_reducer.specs.declared.walk.Ended.{Ended}
 use Rattle.column_reducer.specs.declared.walk.Outcome.{Outcome}
 use Rattle.column_reducer.specs.declared.walk.Outcome.TheVariants as outcome
-use Rattle.column_reducer.specs.Reducing.{IsOfGraph, Planned, IsPassed, IsWithin, value_after}
+use Rattle.column_reducer.specs.Reducing.{AreLinesOver, Planned, IsPassed, KeepsBudget, value_after}
+use Rattle.poly_text.specs.Lines.{parts_in}
 
 -- a coefficient times variables
 abbrev pub term_of : ℕ → List ℕ → Term
@@ -44,15 +45,15 @@ IsFixedAbove max f = (v : ℕ) (b : Bool) (σ : Assignment) → max < v → f (s
 -- ---- one gate
 
 -- A part whose polynomials are of the table.
-pub record IsPartOf (t : Table) (p : GatePart) : Type 0 where
+pub record IsGatePartOf (t : Table) (p : GatePart) : Type 0 where
   pub factor : IsOf t p.factor
   pub operands : IsOf t p.operands
   pub variable : IsOf t p.variable
 
 -- What is left of a gate's terms: 2^power times the factor is minus a function that isn't 0 everywhere, and what the operands and the variable make of
 -- the factor adds up to the gate's axiom times it.
-pub record IsPart (m : ℕ) (t : Table) (x : Gate) (by : Assignment → ℕ) (p : GatePart) : Type 0 where
-  pub of : IsPartOf t p
+pub record IsGatePart (m : ℕ) (t : Table) (x : Gate) (by : Assignment → ℕ) (p : GatePart) : Type 0 where
+  pub of : IsGatePartOf t p
   pub minus : (σ : Assignment) → (2 ^ p.power * value_in t p.factor σ) % m ≡ difference m 0 (by σ)
   pub nonzero : ((σ : Assignment) → by σ ≡ 0) → ⊥
   pub operands : (σ : Assignment) → value_in t p.operands σ ≡ (gate_value x σ * value_in t p.factor σ) % m
@@ -62,14 +63,14 @@ pub record IsPart (m : ℕ) (t : Table) (x : Gate) (by : Assignment → ℕ) (p 
 -- none where the function is 0 everywhere
 abbrev pub IsLeft : ℕ → Table → Gate → (Assignment → ℕ) → Option GatePart → Type 0
 IsLeft m t x by None = (σ : Assignment) → by σ ≡ 0
-IsLeft m t x by (Some p) = IsPart m t x by p
+IsLeft m t x by (Some p) = IsGatePart m t x by p
 
 -- A polynomial with the product of a gate's operands in place of its variable, with its index, and what is left of the terms that had it.
 pub record IsEliminated (t0 t1 : Table) (x : Gate) (p : Sum) (r : Elimination) : Type 0 where
   pub of : IsOf t1 r.rest.sum
   pub indexed : IsIndexed t1 r.rest
-  pub value : (σ : Assignment) → value_in t1 r.rest.sum σ ≡ substituted (modulus t0) x.v (gate_value x) (value_in t0 p) σ
-  pub part : IsLeft (modulus t0) t1 x (quotient (modulus t0) x.v (value_in t0 p)) r.part
+  pub value : (σ : Assignment) → value_in t1 r.rest.sum σ ≡ substituted (modulus_in t0) x.v (gate_value x) (value_in t0 p) σ
+  pub part : IsLeft (modulus_in t0) t1 x (quotient (modulus_in t0) x.v (value_in t0 p)) r.part
 
 -- ---- groups
 
@@ -78,18 +79,18 @@ abbrev pub times : ℕ → Sum → Sum
 times w p = map (λ e. (e.0, w * e.1)) p
 
 -- parts, each factor 2^k times as great
-abbrev pub whole : Table → ℕ → List (ℕ × Sum) → List Part
-whole t k parts = parts_in t (map (λ p. (p.0, times (2 ^ k) p.1)) parts)
+abbrev pub scaled_parts : Table → ℕ → List (ℕ × Sum) → List Part
+scaled_parts t k parts = parts_in t (map (λ p. (p.0, times (2 ^ k) p.1)) parts)
 
 -- Parts of the table's polynomials, over the axioms of gates.
-pub record AreParts (e : Extended) (t : Table) (parts : List (ℕ × Sum)) : Type 0 where
+pub record AreGateParts (e : Extended) (t : Table) (parts : List (ℕ × Sum)) : Type 0 where
   pub of : All (λ p. IsOver e.max t p.1) parts
   pub gates : All (λ p. has (map (λ x. x.v) e.gates) p.0 ≡ true) parts
 
 -- A group of parts that can be a line over the axioms, the polynomial that they add up to, and a weight that isn't 0.
 pub record IsGroup (e : Extended) (t : Table) (g : Group) : Type 0 where
   pub some : 0 < length g.parts.items
-  pub parts : AreParts e t g.parts.items
+  pub parts : AreGateParts e t g.parts.items
   pub of : IsOver e.max t g.poly
   pub of_weight : IsOver e.max t g.weight
   pub spare : AreSpare (algebra.modulus e) (axioms e).live (parts_in t g.parts.items)
@@ -114,7 +115,7 @@ abbrev pub AreOfAdded : Extended → List ℕ → List (ℕ × Sum) → Type 0
 AreOfAdded e added columns = All (λ p. (k : ℕ) × (has added k ≡ true) × (p.0 ≡ e.max + 1 + k)) columns
 
 -- Groups and the parts of replaced columns, and the sum of what the groups state and of these parts.
-pub record AreGroups (e : Extended) (t : Table) (gs : List Group) (columns : List (ℕ × Sum)) (total : Sum) : Type 0 where
+pub record AreSumGroups (e : Extended) (t : Table) (gs : List Group) (columns : List (ℕ × Sum)) (total : Sum) : Type 0 where
   pub groups : All (IsGroup e t) gs
   pub of_columns : AreColumns e t columns
   pub of : IsOf t total
@@ -125,12 +126,12 @@ pub record AreGroups (e : Extended) (t : Table) (gs : List Group) (columns : Lis
 -- The sum of the ended groups and the columns' parts, and 2^k times the open one's parts are the gap at the frontier with this function; the open group states
 -- the sum of the parts' axioms times their factors.
 pub record IsGathered (e : Extended) (s : Sides) (t : Table) (f : Taken) (rest : Assignment → ℕ) (g : Gathered) : Type 0 where
-  pub groups : AreGroups e t g.groups.items g.columns.items g.total
+  pub groups : AreSumGroups e t g.groups.items g.columns.items g.total
   pub added : AreOfAdded e f.added g.columns.items
-  pub parts : AreParts e t g.parts.items
+  pub parts : AreGateParts e t g.parts.items
   pub fixed : IsFixedAbove e.max (combined (algebra.modulus e) (axioms e).live (parts_in t g.parts.items))
   pub low : g.power < t.exponent
-  pub pending : IsPending e s (axioms e).live (value_in t g.total) f rest (whole t g.power g.parts.items)
+  pub pending : IsPending e s (axioms e).live (value_in t g.total) f rest (scaled_parts t g.power g.parts.items)
   pub of : IsOf t g.stated
   pub sum : (σ : Assignment) → value_in t g.stated σ ≡ combined (algebra.modulus e) (axioms e).live (parts_in t g.parts.items) σ % algebra.modulus e
 
@@ -144,21 +145,21 @@ abbrev pub group_count : Gathered → ℕ
 group_count g = length g.groups.items + one_if_some g.parts.items
 
 -- What was gathered is so still, and there are as many groups.
-pub record Settles (t0 t1 : Table) (old new : Gathered) : Type 0 where
-  pub gathered : (e : Extended) (s : Sides) (f : Taken) (rest : Assignment → ℕ) → modulus t0 ≡ algebra.modulus e → IsFixedAbove e.max (gap e s f.added rest) →
+pub record KeepsGathered (t0 t1 : Table) (old new : Gathered) : Type 0 where
+  pub gathered : (e : Extended) (s : Sides) (f : Taken) (rest : Assignment → ℕ) → modulus_in t0 ≡ algebra.modulus e → IsFixedAbove e.max (gap e s f.added rest) →
       IsGathered e s t0 f rest old → IsGathered e s t1 f rest new
   pub of : IsOf t0 old.stated → IsOf t1 new.stated
   pub count : group_count new ≤ group_count old
 
 -- No group is open any more.
 pub record IsEndedGroup (t0 t1 : Table) (old new : Gathered) : Type 0 where
-  pub settles : Settles t0 t1 old new
+  pub settles : KeepsGathered t0 t1 old new
   pub none : new.parts.items ≡ []
   pub power : new.power ≡ old.power
 
 -- Parts that are taken now are divided by this power of two.
 pub record HasPower (t0 t1 : Table) (k : ℕ) (old new : Gathered) : Type 0 where
-  pub settles : Settles t0 t1 old new
+  pub settles : KeepsGathered t0 t1 old new
   pub power : new.power ≡ k
 
 -- The open group takes a part over the axiom of a gate.
@@ -170,7 +171,7 @@ pub record HasPart (t : Table) (x : Gate) (p : GatePart) (old new : Gathered) : 
   pub parts : new.parts.items ≡ old.parts.items ++ (x.v, p.factor) ∷ []
   pub of : IsOf t new.stated
   pub stated : (σ : Assignment) → value_in t new.stated σ ≡
-      ((value_in t old.stated σ + value_in t p.operands σ) % modulus t + value_in t p.variable σ) % modulus t
+      ((value_in t old.stated σ + value_in t p.operands σ) % modulus_in t + value_in t p.variable σ) % modulus_in t
 
 -- A gate that may be eliminated next.
 pub record IsNext (e : Extended) (f : Taken) (x : Gate) : Type 0 where
@@ -179,8 +180,8 @@ pub record IsNext (e : Extended) (f : Taken) (x : Gate) : Type 0 where
   pub new : has f.eliminated x.v ≡ false
 
 -- The gate's part is taken, if its variable's quotient isn't 0.
-pub record HasTaken (t0 t1 : Table) (x : Gate) (q : Option GatePart) (old new : Gathered) : Type 0 where
-  pub gathered : (e : Extended) (s : Sides) (f : Taken) (rest next : Assignment → ℕ) → modulus t0 ≡ algebra.modulus e → IsNext e f x →
+pub record HasTakenGate (t0 t1 : Table) (x : Gate) (q : Option GatePart) (old new : Gathered) : Type 0 where
+  pub gathered : (e : Extended) (s : Sides) (f : Taken) (rest next : Assignment → ℕ) → modulus_in t0 ≡ algebra.modulus e → IsNext e f x →
       IsFixedAbove e.max rest → IsFixedAbove e.max (gap e s f.added rest) →
       ((σ : Assignment) → next σ ≡ substituted (algebra.modulus e) x.v (gate_value x) rest σ) →
       IsLeft (algebra.modulus e) t0 x (quotient (algebra.modulus e) x.v rest) q →
@@ -189,7 +190,7 @@ pub record HasTaken (t0 t1 : Table) (x : Gate) (q : Option GatePart) (old new : 
 
 -- The column's part is taken, where it is replaced.
 pub record HasColumn (t0 t1 : Table) (e : Extended) (k : ℕ) (old new : Gathered) : Type 0 where
-  pub gathered : (s : Sides) (f : Taken) (rest next : Assignment → ℕ) → modulus t0 ≡ algebra.modulus e →
+  pub gathered : (s : Sides) (f : Taken) (rest next : Assignment → ℕ) → modulus_in t0 ≡ algebra.modulus e →
       IsExtension e → k < length e.graph.outputs → has f.added k ≡ false →
       ((r : Lit) → slice_get (new_outputs e) k ≡ Some r → (σ : Assignment) → next σ ≡ (rest σ + column_value e s k r σ) % algebra.modulus e) →
       IsGathered e s t0 f rest old → IsGathered e s t1 (step f (Add k)) next new
@@ -199,7 +200,7 @@ pub record HasColumn (t0 t1 : Table) (e : Extended) (k : ℕ) (old new : Gathere
 
 -- What there is after some steps: the frontier's function, and what is gathered, if it is kept.
 pub record IsWalked (e : Extended) (s : Sides) (t : Table) (f : Taken) (w : Walk) : Type 0 where
-  pub same_modulus : modulus t ≡ algebra.modulus e
+  pub same_modulus : modulus_in t ≡ algebra.modulus e
   pub of : IsOf t w.rest.sum
   pub indexed : IsIndexed t w.rest
   pub value : (σ : Assignment) → value_in t w.rest.sum σ ≡ value_of_taken e s f σ
@@ -212,7 +213,7 @@ pub record IsWalked (e : Extended) (s : Sides) (t : Table) (f : Taken) (w : Walk
 abbrev pub HasTakenIn : Table → Table → Gate → Option GatePart → Option Gathered → Option Gathered → Type 0
 HasTakenIn t0 t1 x q None r = r ≡ None
 HasTakenIn t0 t1 x q (Some g) None = ⊥
-HasTakenIn t0 t1 x q (Some g) (Some more) = HasTaken t0 t1 x q g more
+HasTakenIn t0 t1 x q (Some g) (Some more) = HasTakenGate t0 t1 x q g more
 
 -- the same, if what is gathered is kept
 abbrev pub HasColumnIn : Table → Table → Extended → ℕ → Option Gathered → Option Gathered → Type 0
@@ -222,33 +223,33 @@ HasColumnIn t0 t1 e k (Some g) (Some more) = HasColumn t0 t1 e k g more
 
 -- The groups' lines and the columns' parts state the specification minus the last frontier's function.
 pub record AreTotal (e : Extended) (s : Sides) (t : Table) (rest : Sum) (g : Gathered) : Type 0 where
-  pub groups : AreGroups e t g.groups.items g.columns.items g.total
+  pub groups : AreSumGroups e t g.groups.items g.columns.items g.total
   pub few : length g.groups.items ≤ length e.gates + 1
   pub total : (σ : Assignment) → value_in t g.total σ ≡ difference (algebra.modulus e) (specification e s σ) (value_in t rest σ)
 
 -- All steps were taken within the budget.
-pub record IsEnded (p : Planned) (s : Sides) (t : Table) (budget : ℕ) (w : Ended) : Type 0 where
+pub record IsEndedWalk (p : Planned) (s : Sides) (t : Table) (budget : ℕ) (w : Ended) : Type 0 where
   pub of : IsOf t w.rest
   pub last : (σ : Assignment) → value_in t w.rest σ ≡ value_after p s (length p.steps) σ
-  pub within : IsWithin p s budget
+  pub within : KeepsBudget p s budget
   pub total : IfSome w.gathered (AreTotal p.extended s t w.rest)
 
 -- what a walk answers
-abbrev pub IsOutcome : Planned → Sides → Table → ℕ → Outcome → Type 0
-IsOutcome p s t budget (outcome.Ended w) = IsEnded p s t budget w
-IsOutcome p s t budget (outcome.Passed step size) = IsPassed p s budget step size
-IsOutcome p s t budget outcome.Stopped = Unit {0}
+abbrev pub IsWalkOutcome : Planned → Sides → Table → ℕ → Outcome → Type 0
+IsWalkOutcome p s t budget (outcome.Ended w) = IsEndedWalk p s t budget w
+IsWalkOutcome p s t budget (outcome.Passed step size) = IsPassed p s budget step size
+IsWalkOutcome p s t budget outcome.Stopped = Unit {0}
 
 -- What a walk asks for: the operands are inputs, and the table has the graph's modulus.
 pub record CanTake (p : Planned) (s : Sides) (t : Table) : Type 0 where
   pub inputs : ReadInputs p.extended.graph s
-  pub same_modulus : modulus t ≡ algebra.modulus p.extended
+  pub same_modulus : modulus_in t ≡ algebra.modulus p.extended
 
 -- the walk ended, and what was gathered is kept if all steps were taken
-abbrev pub IsKept : Outcome → Type 0
-IsKept (outcome.Ended w) = IsSome w.gathered
-IsKept (outcome.Passed step size) = Unit {0}
-IsKept outcome.Stopped = ⊥
+abbrev pub HasGathered : Outcome → Type 0
+HasGathered (outcome.Ended w) = IsSome w.gathered
+HasGathered (outcome.Passed step size) = Unit {0}
+HasGathered outcome.Stopped = ⊥
 
 -- No group is open.
 pub record HasEnded (e : Extended) (s : Sides) (t : Table) (f : Taken) (rest : Sum) (g : Gathered) : Type 0 where
@@ -260,17 +261,17 @@ pub record HasEnded (e : Extended) (s : Sides) (t : Table) (f : Taken) (rest : S
 
 -- Some groups' lines are written, and each is to be taken by the last line, times its weight; with the groups that are left they add up
 -- to the total.
-pub record AreWritten (e : Extended) (s : Sides) (t : Table) (total : Sum) (gs : List Group) (weighted : List (ℕ × Sum)) (l : Made) : Type 0 where
+pub record AreGroupsWritten (e : Extended) (s : Sides) (t : Table) (total : Sum) (gs : List Group) (weighted : List (ℕ × Sum)) (l : Made) : Type 0 where
   pub made : IsExtension e
-  pub same_modulus : modulus t ≡ algebra.modulus e
-  pub graph : IsOfGraph e s t l
-  pub axioms : (id : ℕ) → id ≤ e.max → line_of (ledger_of l).live id ≡ line_of (axioms e).live id
+  pub same_modulus : modulus_in t ≡ algebra.modulus e
+  pub graph : AreLinesOver e s t l
+  pub axioms : (id : ℕ) → id ≤ e.max → line_of (written_ledger l).live id ≡ line_of (axioms e).live id
   pub groups : All (IsGroup e t) gs
   pub sum : (σ : Assignment) →
-      (groups_sum t gs σ + combined (algebra.modulus e) (ledger_of l).live (parts_in t weighted) σ) % algebra.modulus e ≡ value_in t total σ
+      (groups_sum t gs σ + combined (algebra.modulus e) (written_ledger l).live (parts_in t weighted) σ) % algebra.modulus e ≡ value_in t total σ
   pub over : All (λ p. IsOver e.max t p.1) weighted
   pub nonzero : All (λ p. IsNotZero (algebra.modulus e) (monomials_in t p.1)) weighted
-  pub live : All (λ p. IsLive (ledger_of l).live p.0) weighted
+  pub live : All (λ p. IsLive (written_ledger l).live p.0) weighted
   pub once : AllPairs (λ p q. p.0 ≢ q.0) weighted
   pub ids : All (λ p. (e.max < p.0) × (p.0 ≤ l.last)) weighted
   pub low : e.max ≤ l.last

@@ -15,7 +15,7 @@ AreRisingKeys [] = Unit {0}
 AreRisingKeys (x ∷ xs) = AllByRecursion (Rises x) xs × AreRisingKeys xs
 
 -- The levels and variables of the gates, rising.
-pub record AreKeys (gates : List Gate) (keys : List (ℕ × ℕ)) : Type 0 where
+pub record AreGateKeys (gates : List Gate) (keys : List (ℕ × ℕ)) : Type 0 where
   pub levels : All (λ key. IsLevel gates key.1 key.0) keys
   pub variables : IsPermutation (map (λ x. x.v) gates) (map (λ key. key.1) keys)
   pub rising : AreRisingKeys keys

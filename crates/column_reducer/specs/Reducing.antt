@@ -7,7 +7,7 @@ use Rattle.graph_core.specs.Algebra.{LiveLine, IsLive, modulus, specification, v
 use Rattle.graph_core.specs.Algebra.NormalForm.{HasSize}
 use Rattle.graph_core.specs.Algebra.Polynomials.{difference}
 use Rattle.poly_terms.specs.Tables.{Table, Sum, Extends, IsOf, value_in}
-use Rattle.pac_writer.specs.Writing.{Made, ledger_of}
+use Rattle.pac_writer.specs.Writing.{Made, written_ledger}
 use Rattle.column_reducer.specs.declared.reduced.Reduced.{Reduced}
 use Rattle.column_reducer.specs.declared.reduced.Reduced.TheVariants as answer
 use Rattle.std.specs.declared.option.Option.TheVariants.{None}
@@ -44,25 +44,25 @@ pub record IsPassed (p : Planned) (s : Sides) (budget step size : ℕ) : Type 0 
   pub first : (i n : ℕ) → i < step → HasSizeAt p s i n → n ≤ budget
 
 -- No frontier that counts has more monomials than the budget.
-abbrev pub IsWithin : Planned → Sides → ℕ → Type 0
-IsWithin p s budget = (i n : ℕ) → p.uncounted + i ≤ length p.steps → HasSizeAt p s i n → n ≤ budget
+abbrev pub KeepsBudget : Planned → Sides → ℕ → Type 0
+KeepsBudget p s budget = (i n : ℕ) → p.uncounted + i ≤ length p.steps → HasSizeAt p s i n → n ≤ budget
 
 -- A polynomial has the last frontier's function, and a line is the specification minus it; id 0 counts as a line of value 0.
-pub record IsRest (p : Planned) (s : Sides) (t : Table) (lines : List LiveLine) (poly : Sum) (id : ℕ) : Type 0 where
+pub record IsLastRest (p : Planned) (s : Sides) (t : Table) (lines : List LiveLine) (poly : Sum) (id : ℕ) : Type 0 where
   pub of : IsOf t poly
   pub last : (σ : Assignment) → value_in t poly σ ≡ value_after p s (length p.steps) σ
   pub line : (id ≡ 0) ⊎ IsLive lines id
   pub differs : (σ : Assignment) → value_of lines id σ ≡ difference (modulus p.extended) (specification p.extended s σ) (value_in t poly σ)
 
 -- Lines over this graph, these operands and this table, which aren't closed.
-pub record IsOfGraph (e : Extended) (s : Sides) (t : Table) (l : Made) : Type 0 where
+pub record AreLinesOver (e : Extended) (s : Sides) (t : Table) (l : Made) : Type 0 where
   pub extended : l.extended ≡ e
   pub sides : l.sides ≡ s
   pub table : l.table ≡ t
   pub unclosed : l.closing ≡ None
 
 -- Lines go on: they are over the same graph and operands, the table has grown at most, and they aren't closed.
-pub record GoesOn (old new : Made) : Type 0 where
+pub record ContinuesLines (old new : Made) : Type 0 where
   pub extended : new.extended ≡ old.extended
   pub sides : new.sides ≡ old.sides
   pub table : Extends old.table new.table
@@ -70,5 +70,5 @@ pub record GoesOn (old new : Made) : Type 0 where
 
 -- what a reduction answers
 abbrev pub IsReduced : Planned → Sides → ℕ → Made → Reduced → Type 0
-IsReduced p s budget l (answer.Rest poly id) = IsRest p s l.table (ledger_of l).live poly id × IsWithin p s budget
+IsReduced p s budget l (answer.Rest poly id) = IsLastRest p s l.table (written_ledger l).live poly id × KeepsBudget p s budget
 IsReduced p s budget l (answer.Passed step size) = IsPassed p s budget step size

@@ -4,10 +4,10 @@ ghost use Rattle.mv_nums.specs.Residue.{IsWidth};
 ghost use Rattle.graph_core.specs.Algebra as algebra;
 ghost use Rattle.graph_core.specs.Graph.Extended.{Extended};
 ghost use Rattle.graph_core.specs.Graph.Operands.{ReadInputs, Sides};
-ghost use Rattle.poly_terms.specs.Tables.{modulus};
+ghost use Rattle.poly_terms.specs.Tables.{modulus_in};
 ghost use Rattle.frontier_core.specs.Plan.{Taken, nothing};
 ghost use Rattle.column_reducer.specs.Gathering.{IsWalked};
-ghost use Rattle.column_reducer.specs.Reducing.{IsPassed, IsWithin};
+ghost use Rattle.column_reducer.specs.Reducing.{IsPassed, KeepsBudget};
 
 use crate::plan::Plan;
 use crate::walk::{Walk, passed};
@@ -31,7 +31,7 @@ pub(crate) fn first_passed(
     requires inputs { ReadInputs plan.now.extended.graph operands.now }
     requires same_modulus { 2 ^ w ≡ algebra.modulus plan.now.extended }
     ensures passed { IfOk result (λ r. IfSome r (λ at. IsPassed plan.now operands.now budget at.0 at.1)) }
-    ensures within { IfOk result (λ r. r ≡ None → IsWithin plan.now operands.now budget) }
+    ensures within { IfOk result (λ r. r ≡ None → KeepsBudget plan.now operands.now budget) }
 {
     let extended = plan.extended();
     let steps = plan.steps();
@@ -42,14 +42,14 @@ pub(crate) fn first_passed(
             return Ok(Some(at));
         }
         walk = walk.take_step(alloc, &mut terms, extended, operands, steps[count])?;
-        walk = renewed(alloc, &mut terms, walk)?;
+        walk = renew(alloc, &mut terms, walk)?;
     }
     Ok(passed(&terms, plan, &walk.rest, steps.len(), budget))
 }
 
 // Before the first step: nothing is gathered.
 fn start(alloc: Global, terms: &Terms) -> Walk
-    ensures { (e : Extended) (s : Sides) → modulus terms.now ≡ algebra.modulus e →
+    ensures { (e : Extended) (s : Sides) → modulus_in terms.now ≡ algebra.modulus e →
         IsWalked e s terms.now nothing result }
 {
     Walk {
@@ -59,7 +59,7 @@ fn start(alloc: Global, terms: &Terms) -> Walk
 }
 
 // The frontier, in a new table where most monomials of this one aren't the frontier's any more.
-fn renewed(alloc: Global, terms: &mut Terms, walk: Walk) -> Result<Walk, Memory>
+fn renew(alloc: Global, terms: &mut Terms, walk: Walk) -> Result<Walk, Memory>
     requires walked { (e : Extended) × (s : Sides) × (f : Taken) × IsWalked e s terms.old f walk }
     ensures walked { IfOk result (λ w. (e : Extended) (s : Sides) (f : Taken) →
         IsWalked e s terms.old f walk → IsWalked e s terms.new f w) }

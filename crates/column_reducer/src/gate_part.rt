@@ -3,8 +3,8 @@
 
 ghost use Rattle.std.specs.Prelude.{false, ◌≡◌, ◌<◌, ◌≤◌, ◌*◌, ◌%◌, ◌^◌, IfOk, map};
 ghost use Rattle.graph_core.specs.Graph.Assignments.{Assignment};
-ghost use Rattle.poly_terms.specs.Tables.{Extends, IsOf, assigned, modulus, monomials_in, quotient_value, value_in};
-ghost use Rattle.column_reducer.specs.Gathering.{IsPart};
+ghost use Rattle.poly_terms.specs.Tables.{Extends, IsOf, assigned, modulus_in, monomials_in, quotient_value, value_in};
+ghost use Rattle.column_reducer.specs.Gathering.{IsGatePart};
 
 use crate::pieces::opposite;
 use gate_axioms::times_operands;
@@ -45,7 +45,7 @@ impl GatePart {
         ensures extends { Extends terms.old terms.new }
         ensures low { IfOk result (λ p. p.power ≤ most) }
         ensures part { IfOk result
-            (IsPart (modulus terms.old) terms.new gate.now (quotient_value terms.old taken gate.now.v)) }
+            (IsGatePart (modulus_in terms.old) terms.new gate.now (quotient_value terms.old taken gate.now.v)) }
     {
         let (power, variable) = divided(terms, taken, most)?;
         let by = terms.quotient(&variable, gate.v)?;
@@ -67,7 +67,7 @@ fn divided(terms: &Terms, p: Poly, most: u32) -> Result<(u32, Poly), Memory>
     ensures low { IfOk result (λ r. r.0 ≤ most) }
     ensures of { IfOk result (λ r. IsOf terms.now r.1) }
     ensures value { IfOk result (λ r. (σ : Assignment) →
-        (2 ^ r.0 * value_in terms.now r.1 σ) % modulus terms.now ≡ value_in terms.now p σ) }
+        (2 ^ r.0 * value_in terms.now r.1 σ) % modulus_in terms.now ≡ value_in terms.now p σ) }
     ensures variables { IfOk result (λ r.
         map (λ x. x.variables) (monomials_in terms.now r.1) ≡ map (λ x. x.variables) (monomials_in terms.now p)) }
 {

@@ -6,10 +6,10 @@ ghost use Rattle.graph_core.specs.Algebra as algebra;
 ghost use Rattle.graph_core.specs.Graph.Assignments.{Assignment};
 ghost use Rattle.graph_core.specs.Graph.Extended.{Extended};
 ghost use Rattle.graph_core.specs.Graph.Operands.{Sides};
-ghost use Rattle.poly_terms.specs.Tables.{Extends, IsOf, modulus, value_in};
+ghost use Rattle.poly_terms.specs.Tables.{Extends, IsOf, modulus_in, value_in};
 ghost use Rattle.frontier_core.specs.Plan.{Taken, nothing};
-ghost use Rattle.column_reducer.specs.Gathering.{HasColumn, HasPart, HasPower, HasTaken, IsEndedGroup};
-ghost use Rattle.column_reducer.specs.Gathering.{IsGathered, IsPartOf, group_count};
+ghost use Rattle.column_reducer.specs.Gathering.{HasColumn, HasPart, HasPower, HasTakenGate, IsEndedGroup};
+ghost use Rattle.column_reducer.specs.Gathering.{IsGatePartOf, IsGathered, group_count};
 
 use crate::gate_part::GatePart;
 use crate::pieces::{power_poly, zero_poly};
@@ -52,7 +52,7 @@ impl Gathered {
         ensures extends { Extends terms.old terms.new }
         ensures none { IfOk result (λ g. group_count g ≡ 0) }
         ensures gathered { IfOk result (λ g. (e : Extended) (s : Sides) (rest : Assignment → ℕ) →
-            modulus terms.old ≡ algebra.modulus e → ((σ : Assignment) → rest σ ≡ 0) →
+            modulus_in terms.old ≡ algebra.modulus e → ((σ : Assignment) → rest σ ≡ 0) →
             IsGathered e s terms.new nothing rest g) }
     {
         let total = zero_poly(alloc, terms)?;
@@ -78,12 +78,12 @@ impl Gathered {
         gate: &Gate,
         part: Option<GatePart>,
     ) -> Result<Gathered, Memory>
-        requires of { IfSome part (IsPartOf terms.old) }
+        requires of { IfSome part (IsGatePartOf terms.old) }
         requires low { IfSome part (λ p. p.power ≤ self.power) }
         requires gathered { (e : Extended) × (s : Sides) × (f : Taken) × (rest : Assignment → ℕ) ×
             IsGathered e s terms.old f rest self }
         ensures extends { Extends terms.old terms.new }
-        ensures taken { IfOk result (HasTaken terms.old terms.new gate.now part self) }
+        ensures taken { IfOk result (HasTakenGate terms.old terms.new gate.now part self) }
     {
         match part {
             None => Ok(self),
@@ -112,7 +112,7 @@ impl Gathered {
 
     // Takes a part that is divided by the open group's power.
     fn push(self, terms: &Terms, gate: &Gate, part: GatePart) -> Result<Gathered, Memory>
-        requires of { IsPartOf terms.now part }
+        requires of { IsGatePartOf terms.now part }
         requires stated { IsOf terms.now self.stated }
         ensures { IfOk result (HasPart terms.now gate.now part self) }
     {

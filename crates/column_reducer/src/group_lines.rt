@@ -6,10 +6,10 @@ ghost use Rattle.graph_core.specs.Graph.Extended.{Extended};
 ghost use Rattle.graph_core.specs.Graph.Operands.{Sides};
 ghost use Rattle.ripple_graft.specs.Extension.{IsExtension};
 ghost use Rattle.poly_terms.specs.Tables.{Sum, Table, value_in};
-ghost use Rattle.pac_writer.specs.Writing.{IsOver, ledger_of};
+ghost use Rattle.pac_writer.specs.Writing.{IsOver, written_ledger};
 ghost use Rattle.column_reducer.specs.declared.gathered.Group.{Group as OneGroup};
-ghost use Rattle.column_reducer.specs.Gathering.{AreGroups, AreWritten};
-ghost use Rattle.column_reducer.specs.Reducing.{IsOfGraph};
+ghost use Rattle.column_reducer.specs.Gathering.{AreGroupsWritten, AreSumGroups};
+ghost use Rattle.column_reducer.specs.Reducing.{AreLinesOver};
 
 use crate::gathered::Group;
 use graph_core::Memory;
@@ -27,12 +27,12 @@ pub(crate) fn write_groups(
     requires fresh { lines.old.lines ≡ [] }
     requires unclosed { lines.old.closing ≡ None }
     requires extension { IsExtension lines.old.extended }
-    requires groups { AreGroups lines.old.extended lines.old.table groups.items columns.items total }
+    requires groups { AreSumGroups lines.old.extended lines.old.table groups.items columns.items total }
     requires room { lines.old.last + length groups.items + 1 < 2 ^ 48 }
-    ensures graph { IsOfGraph lines.old.extended lines.old.sides lines.old.table lines.new }
-    ensures line { IfOk result (λ id. (id ≡ 0) ⊎ IsLive (ledger_of lines.new).live id) }
+    ensures graph { AreLinesOver lines.old.extended lines.old.sides lines.old.table lines.new }
+    ensures line { IfOk result (λ id. (id ≡ 0) ⊎ IsLive (written_ledger lines.new).live id) }
     ensures value { IfOk result (λ id. (σ : Assignment) →
-        value_of (ledger_of lines.new).live id σ ≡ value_in lines.old.table total σ) }
+        value_of (written_ledger lines.new).live id σ ≡ value_in lines.old.table total σ) }
     ensures few { length lines.new.lines ≤ length groups.items + 1 }
 {
     let _last = lines.last();
@@ -51,14 +51,14 @@ fn write_group(
     weighted: &mut Vec<(u64, Poly)>,
 ) -> Result<(), Memory>
     requires written { (e : Extended) × (s : Sides) × (t : Table) × (total : Sum) × (gs : List OneGroup) ×
-        AreWritten e s t total (gs ++ group ∷ []) weighted.old.items lines.old }
+        AreGroupsWritten e s t total (gs ++ group ∷ []) weighted.old.items lines.old }
     requires room { lines.old.last + 1 < 2 ^ 48 }
-    ensures graph { (e : Extended) (s : Sides) (t : Table) → IsOfGraph e s t lines.old → IsOfGraph e s t lines.new }
+    ensures graph { (e : Extended) (s : Sides) (t : Table) → AreLinesOver e s t lines.old → AreLinesOver e s t lines.new }
     ensures few { length lines.new.lines ≤ length lines.old.lines + 1 }
     ensures last { OnOk result (lines.new.last ≡ lines.old.last + 1) }
     ensures written { OnOk result ((e : Extended) (s : Sides) (t : Table) (total : Sum) (gs : List OneGroup) →
-        AreWritten e s t total (gs ++ group ∷ []) weighted.old.items lines.old →
-        AreWritten e s t total gs weighted.new.items lines.new) }
+        AreGroupsWritten e s t total (gs ++ group ∷ []) weighted.old.items lines.old →
+        AreGroupsWritten e s t total gs weighted.new.items lines.new) }
 {
     let Group {
         parts,
@@ -72,13 +72,13 @@ fn write_group(
 
 // Writes the sum of lines, each times its weight, if there is one.
 fn write_sum(lines: &mut Lines<'_>, weighted: Vec<(u64, Poly)>, total: Poly) -> Result<u64, Memory>
-    requires written { AreWritten lines.old.extended lines.old.sides lines.old.table total [] weighted.items lines.old }
+    requires written { AreGroupsWritten lines.old.extended lines.old.sides lines.old.table total [] weighted.items lines.old }
     requires over { IsOver lines.old.extended.max lines.old.table total }
     requires room { lines.old.last + 1 < 2 ^ 48 }
-    ensures graph { IsOfGraph lines.old.extended lines.old.sides lines.old.table lines.new }
-    ensures line { IfOk result (λ id. (id ≡ 0) ⊎ IsLive (ledger_of lines.new).live id) }
+    ensures graph { AreLinesOver lines.old.extended lines.old.sides lines.old.table lines.new }
+    ensures line { IfOk result (λ id. (id ≡ 0) ⊎ IsLive (written_ledger lines.new).live id) }
     ensures value { IfOk result (λ id. (σ : Assignment) →
-        value_of (ledger_of lines.new).live id σ ≡ value_in lines.old.table total σ) }
+        value_of (written_ledger lines.new).live id σ ≡ value_in lines.old.table total σ) }
     ensures few { length lines.new.lines ≤ length lines.old.lines + 1 }
 {
     let _last = lines.last();

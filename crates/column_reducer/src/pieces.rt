@@ -4,7 +4,7 @@
 ghost use Rattle.std.specs.Prelude.{◌≡◌, ◌<◌, ◌%◌, ◌+◌, ◌*◌, ◌^◌, ◌∷◌, [], IfOk};
 ghost use Rattle.graph_core.specs.Graph.Assignments.{Assignment, bit};
 ghost use Rattle.graph_core.specs.Algebra.Polynomials.{difference};
-ghost use Rattle.poly_terms.specs.Tables.{IsOf, Extends, given, modulus, value_in};
+ghost use Rattle.poly_terms.specs.Tables.{IsOf, Extends, given, modulus_in, value_in};
 ghost use Rattle.column_reducer.specs.Gathering.{term_of};
 
 use graph_core::Memory;
@@ -37,7 +37,7 @@ pub(crate) fn opposite(terms: &Terms, p: &Poly) -> Result<Poly, Memory>
     requires { IsOf terms.now p.now }
     ensures of { IfOk result (IsOf terms.now) }
     ensures value { IfOk result (λ r. (σ : Assignment) → value_in terms.now r σ ≡
-        difference (modulus terms.now) 0 (value_in terms.now p.now σ)) }
+        difference (modulus_in terms.now) 0 (value_in terms.now p.now σ)) }
 {
     let less = minus_one(terms);
     terms.multiple(p, less.value())
@@ -46,7 +46,7 @@ pub(crate) fn opposite(terms: &Terms, p: &Poly) -> Result<Poly, Memory>
 // Minus 2^k, for k below the exponent of the modulus.
 pub(crate) fn minus_power(terms: &Terms, k: u32) -> u128
     requires { k < terms.now.exponent }
-    ensures { (result + 2 ^ k) % modulus terms.now ≡ 0 }
+    ensures { (result + 2 ^ k) % modulus_in terms.now ≡ 0 }
 {
     let exponent = terms.exponent();
     Residue::new(exponent, 1 << k).neg().value()
@@ -69,7 +69,7 @@ fn part_of(
 fn constant(alloc: Global, terms: &mut Terms, number: u128) -> Result<Poly, Memory>
     ensures extends { Extends terms.old terms.new }
     ensures of { IfOk result (IsOf terms.new) }
-    ensures value { IfOk result (λ p. (σ : Assignment) → value_in terms.new p σ ≡ number % modulus terms.old) }
+    ensures value { IfOk result (λ p. (σ : Assignment) → value_in terms.new p σ ≡ number % modulus_in terms.old) }
 {
     let parts = part_of(alloc, number, Vec::new(alloc))?;
     let poly = terms.make(&parts)?;
@@ -88,7 +88,7 @@ fn bit_poly(alloc: Global, terms: &mut Terms, value: bool) -> Result<Poly, Memor
 
 fn minus_one(terms: &Terms) -> Residue
     ensures width { result.width ≡ terms.now.exponent }
-    ensures value { (result.value + 1) % modulus terms.now ≡ 0 }
+    ensures value { (result.value + 1) % modulus_in terms.now ≡ 0 }
 {
     Residue::new(terms.exponent(), 1).neg()
 }

@@ -4,7 +4,7 @@ ghost use Rattle.std.specs.List.{All};
 ghost use Rattle.graph_core.specs.Graph.{IsLevel};
 ghost use Rattle.frontier_core.specs.Sets.{count_from};
 ghost use Rattle.frontier_core.specs.declared.step.Step.TheVariants.{Add, Eliminate};
-ghost use Rattle.column_reducer.specs.Keys.{AreKeys};
+ghost use Rattle.column_reducer.specs.Keys.{AreGateKeys};
 ghost use Rattle.graph_core.specs.Graph.Extended.{without_cut};
 ghost use Rattle.frontier_core.specs.Plan.{plain_steps};
 ghost use Rattle.frontier_core.specs.PlainOrder.{IsPlainOrder};
@@ -62,7 +62,7 @@ fn columns(alloc: Global, outputs: usize) -> Result<Vec<Step>, Memory>
 
 // The levels and variables of a graph's gates, rising.
 fn levels(alloc: Global, graph: &Graph) -> Result<Vec<(u32, u32)>, Memory>
-    ensures { IfOk result (λ keys. AreKeys graph.now.gates keys.items) }
+    ensures { IfOk result (λ keys. AreGateKeys graph.now.gates keys.items) }
 {
     let mut keys = keys_of(alloc, graph)?;
     keys.sort()?;

@@ -1,8 +1,8 @@
 // Reductions along a plan.
 ghost use Rattle.std.specs.Prelude.{◌≡◌, ◌≤◌, ◌+◌, [], None, IfOk, length, IsTrue, ℕ};
 ghost use Rattle.graph_core.specs.Graph.Operands.{ReadInputs};
-ghost use Rattle.column_reducer.specs.Gathering.{IsKept, IsOutcome};
-ghost use Rattle.column_reducer.specs.Reducing.{GoesOn, IsReduced, Planned};
+ghost use Rattle.column_reducer.specs.Gathering.{HasGathered, IsWalkOutcome};
+ghost use Rattle.column_reducer.specs.Reducing.{ContinuesLines, IsReduced, Planned};
 ghost use Rattle.ripple_graft.specs.Extension.{IsExtension};
 
 use crate::frontier_walk::first_passed;
@@ -34,7 +34,7 @@ pub fn reduce(
     requires new { lines.old.lines ≡ [] }
     requires unclosed { lines.old.closing ≡ None }
     requires inputs { ReadInputs plan.now.extended.graph lines.old.sides }
-    ensures goes_on { GoesOn lines.old lines.new }
+    ensures goes_on { ContinuesLines lines.old lines.new }
     ensures reduced { IfOk result (IsReduced plan.now lines.old.sides budget lines.new) }
     ensures few { length lines.new.lines ≤ length plan.now.extended.gates + 2 }
 {
@@ -61,7 +61,7 @@ struct TakeSteps<'a> {
 
 impl<'a> Grow<Poly> for TakeSteps<'a> {
     ghost use Rattle.std.specs.Prelude.{IfOk};
-    ghost use Rattle.column_reducer.specs.Gathering.{CanTake, IsOutcome, IsKept};
+    ghost use Rattle.column_reducer.specs.Gathering.{CanTake, IsWalkOutcome, HasGathered};
 
     type Out = Result<Outcome, Memory>;
 
@@ -70,7 +70,7 @@ impl<'a> Grow<Poly> for TakeSteps<'a> {
     ghost can_grow = { λ work _ table. CanTake work.plan.now work.operands.now table };
 
     ghost did = { λ work _ _ out _ _ table.
-        IfOk out (λ o. IsOutcome work.plan.now work.operands.now table work.budget o × IsKept o) };
+        IfOk out (λ o. IsWalkOutcome work.plan.now work.operands.now table work.budget o × HasGathered o) };
 
     fn grow(&mut self, on: &mut (), table: &mut Terms) -> Result<Outcome, Memory> {
         let bounded = take_steps(
@@ -106,7 +106,7 @@ impl<'a> Grow<Poly> for TakeSteps<'a> {
 
 // Whether nothing was let go that a line needs.
 fn is_kept(outcome: &Outcome) -> bool
-    ensures { IsTrue result → IsKept outcome.now }
+    ensures { IsTrue result → HasGathered outcome.now }
 {
     match outcome {
         Outcome::Ended(ended) => ended.gathered.is_some(),
@@ -120,12 +120,12 @@ fn write_outcome(lines: &mut Lines<'_>, outcome: Outcome) -> Result<Reduced, Mem
     requires new { lines.old.lines ≡ [] }
     requires unclosed { lines.old.closing ≡ None }
     requires extension { IsExtension lines.old.extended }
-    requires kept { IsKept outcome }
+    requires kept { HasGathered outcome }
     requires outcome { (p : Planned) × (budget : ℕ) × (p.extended ≡ lines.old.extended) ×
-        IsOutcome p lines.old.sides lines.old.table budget outcome }
-    ensures goes_on { GoesOn lines.old lines.new }
+        IsWalkOutcome p lines.old.sides lines.old.table budget outcome }
+    ensures goes_on { ContinuesLines lines.old lines.new }
     ensures reduced { IfOk result (λ r. (p : Planned) (budget : ℕ) → p.extended ≡ lines.old.extended →
-        IsOutcome p lines.old.sides lines.old.table budget outcome → IsReduced p lines.old.sides budget lines.new r) }
+        IsWalkOutcome p lines.old.sides lines.old.table budget outcome → IsReduced p lines.old.sides budget lines.new r) }
     ensures few { length lines.new.lines ≤ length lines.old.extended.gates + 2 }
 {
     let _last = lines.last();

@@ -6,9 +6,9 @@ ghost use Rattle.graph_core.specs.Algebra as algebra;
 ghost use Rattle.graph_core.specs.Graph.Assignments.{Assignment};
 ghost use Rattle.graph_core.specs.Graph.Extended.{Extended};
 ghost use Rattle.graph_core.specs.Graph.Operands.{Sides};
-ghost use Rattle.poly_terms.specs.Tables.{Extends, IsOf, modulus, value_in};
+ghost use Rattle.poly_terms.specs.Tables.{Extends, IsOf, modulus_in, value_in};
 ghost use Rattle.frontier_core.specs.Plan.{Taken};
-ghost use Rattle.column_reducer.specs.Gathering.{IsGathered, Settles};
+ghost use Rattle.column_reducer.specs.Gathering.{IsGathered, KeepsGathered};
 
 use crate::gathered::Gathered;
 use graph_core::Memory;
@@ -28,7 +28,7 @@ pub(crate) fn settle(
     requires gathered { (e : Extended) × (s : Sides) × (f : Taken) × (rest : Assignment → ℕ) ×
         IsGathered e s terms.old f rest gathered }
     ensures extends { Extends terms.old terms.new }
-    ensures gathered { IfOk result (Settles terms.old terms.new gathered) }
+    ensures gathered { IfOk result (KeepsGathered terms.old terms.new gathered) }
 {
     if gathered.pending <= LARGE_GROUP {
         return Ok(gathered);

@@ -10,11 +10,11 @@ ghost use Rattle.graph_core.specs.Graph.Assignments.{Assignment};
 ghost use Rattle.graph_core.specs.Graph.Operands.{ReadInputs, Sides};
 ghost use Rattle.graph_core.specs.Graph.Extended.{Extended as ExtendedGraph};
 ghost use Rattle.ripple_graft.specs.Extension.{IsExtension};
-ghost use Rattle.poly_terms.specs.Tables.{Extends, IsOf, modulus, value_in};
+ghost use Rattle.poly_terms.specs.Tables.{Extends, IsOf, modulus_in, value_in};
 ghost use Rattle.frontier_core.specs.Plan.{CanFollow, IsFrontierOf, Taken, nothing, step};
 ghost use Rattle.frontier_core.specs.Sets.{has};
 ghost use Rattle.frontier_core.specs.declared.step.Step.TheVariants as steps;
-ghost use Rattle.column_reducer.specs.Gathering.{HasColumnIn, HasTakenIn, IsGathered, IsOutcome, IsPartOf, IsWalked, IsKept, HasEnded};
+ghost use Rattle.column_reducer.specs.Gathering.{HasColumnIn, HasTakenIn, IsGathered, IsWalkOutcome, IsGatePartOf, IsWalked, HasGathered, HasEnded};
 ghost use Rattle.column_reducer.specs.Reducing.{HasSizeAt};
 
 use crate::elimination::eliminate;
@@ -67,10 +67,10 @@ pub(crate) fn take_steps(
     bound: Option<u64>,
 ) -> Result<Outcome, Memory>
     requires inputs { ReadInputs plan.now.extended.graph operands.now }
-    requires same_modulus { modulus terms.old ≡ algebra.modulus plan.now.extended }
+    requires same_modulus { modulus_in terms.old ≡ algebra.modulus plan.now.extended }
     ensures extends { Extends terms.old terms.new }
-    ensures outcome { IfOk result (IsOutcome plan.now operands.now terms.new budget) }
-    ensures kept { IfOk result (λ o. bound ≡ None → IsKept o) }
+    ensures outcome { IfOk result (IsWalkOutcome plan.now operands.now terms.new budget) }
+    ensures kept { IfOk result (λ o. bound ≡ None → HasGathered o) }
 {
     let extended = plan.extended();
     let steps = plan.steps();
@@ -84,12 +84,12 @@ pub(crate) fn take_steps(
             return Ok(Outcome::Stopped);
         }
         walk = walk.take_step(alloc, terms, extended, operands, steps[count])?;
-        walk = walk.settled(alloc, terms)?;
+        walk = walk.settle(alloc, terms)?;
     }
     if let Some((step, size)) = passed(terms, plan, &walk.rest, steps.len(), budget) {
         return Ok(Outcome::Passed { step, size });
     }
-    let ended = walk.ended(alloc, terms)?;
+    let ended = walk.end(alloc, terms)?;
     Ok(Outcome::Ended(ended))
 }
 
@@ -104,9 +104,9 @@ pub(crate) fn passed(
     requires of { IsOf terms.now rest.now.sum }
     ensures step { IfSome result (λ r. plan.now.uncounted + r.0 ≡ count) }
     ensures above { IfSome result (λ r. budget < r.1) }
-    ensures size { IfSome result (λ r. HasSize (modulus terms.now) (value_in terms.now rest.now.sum) r.1) }
+    ensures size { IfSome result (λ r. HasSize (modulus_in terms.now) (value_in terms.now rest.now.sum) r.1) }
     ensures within { result ≡ None → plan.now.uncounted ≤ count → (n : ℕ) →
-        HasSize (modulus terms.now) (value_in terms.now rest.now.sum) n → n ≤ budget }
+        HasSize (modulus_in terms.now) (value_in terms.now rest.now.sum) n → n ≤ budget }
 {
     if count < plan.uncounted() {
         return None;
@@ -124,7 +124,7 @@ impl Walk {
         ensures extends { Extends terms.old terms.new }
         ensures kept { IfOk result (λ w. IsSome w.gathered) }
         ensures walked { IfOk result (λ w. (e : ExtendedGraph) (s : Sides) →
-            modulus terms.old ≡ algebra.modulus e → IsWalked e s terms.new nothing w) }
+            modulus_in terms.old ≡ algebra.modulus e → IsWalked e s terms.new nothing w) }
     {
         let rest = Indexed::new(alloc, terms);
         let gathered = Gathered::new(alloc, terms)?;
@@ -232,7 +232,7 @@ impl Walk {
     }
 
     // Ends a large group.
-    fn settled(self, alloc: Global, terms: &mut Terms) -> Result<Walk, Memory>
+    fn settle(self, alloc: Global, terms: &mut Terms) -> Result<Walk, Memory>
         requires walked { (e : ExtendedGraph) × (s : Sides) × (f : Taken) × IsWalked e s terms.old f self }
         ensures extends { Extends terms.old terms.new }
         ensures kept { IfOk result (λ w. IsSome self.gathered → IsSome w.gathered) }
@@ -256,7 +256,7 @@ impl Walk {
     }
 
     // Ends the last group.
-    fn ended(self, alloc: Global, terms: &mut Terms) -> Result<Ended, Memory>
+    fn end(self, alloc: Global, terms: &mut Terms) -> Result<Ended, Memory>
         requires walked { (e : ExtendedGraph) × (s : Sides) × (f : Taken) × IsWalked e s terms.old f self }
         ensures extends { Extends terms.old terms.new }
         ensures kept { IfOk result (λ w. IsSome self.gathered → IsSome w.gathered) }
@@ -301,7 +301,7 @@ fn gather(
     gate: &Gate,
     part: Option<GatePart>,
 ) -> Result<Option<Gathered>, Memory>
-    requires of { IfSome part (IsPartOf terms.old) }
+    requires of { IfSome part (IsGatePartOf terms.old) }
     requires low { IfSome gathered (λ g. IfSome part (λ p. p.power ≤ g.power)) }
     requires gathered { IfSome gathered (λ g. (e : ExtendedGraph) × (s : Sides) × (f : Taken) ×
         (rest : Assignment → ℕ) × IsGathered e s terms.old f rest g) }

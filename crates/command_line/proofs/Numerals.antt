@@ -8,7 +8,7 @@ use Rattle.std.specs.Str.{all_ascii_digits}
 use Rattle.std.proofs.lemmas.Bool.Decides.{Decides-by_and, nat_tests}
 use Rattle.mv_nums.specs.declared.number_fault.NumberFault.{NumberFault}
 use Rattle.mv_nums.specs.declared.number_fault.NumberFault.TheVariants as fault
-use Rattle.mv_nums.specs.Numeral.{IsDigit, Spells, SpellsAtLeast, decimal_value}
+use Rattle.mv_nums.specs.Numeral.{IsDigit, SpellsAtLeast, SpellsNumber, decimal_value}
 use Rattle.command_line.specs.Asked.{is_numeral, number_of}
 use Rattle.command_line.specs.Examples.{NumbersAreNumerals}
 
@@ -44,14 +44,14 @@ too_big text big =
     let test : nat_lt (decimal_value text) (2 ^ 128) ≡ false = grind (arith, nat_tests) in
     rw (numeral_of_digits text big.some big.digits, test) refl
 
-not_big : (text : List ℕ) (n : ℕ) → Spells text n → (IsErrOf {T = ℕ} (Ok n) fault.TooBig ↔ SpellsAtLeast (2 ^ 128) text) → decimal_value text < 2 ^ 128
+not_big : (text : List ℕ) (n : ℕ) → SpellsNumber text n → (IsErrOf {T = ℕ} (Ok n) fault.TooBig ↔ SpellsAtLeast (2 ^ 128) text) → decimal_value text < 2 ^ 128
 not_big text n spells big =
     let small : 2 ^ 128 ≤ decimal_value text → ⊥ = λ h. (
     let e : Ok n ≡ Err fault.TooBig = big.1 (record { some = spells.some; digits = spells.digits; at_least = h }) in cc) in
     omega arith
 
 -- what a reader of numerals answers is the number of the definition
-pub number_read : (text : List ℕ) (r : Result ℕ NumberFault) → IfOk r (Spells text) → (IsErrOf r fault.Empty ↔ (text ≡ []))
+pub number_read : (text : List ℕ) (r : Result ℕ NumberFault) → IfOk r (SpellsNumber text) → (IsErrOf r fault.Empty ↔ (text ≡ []))
     → (IsErrOf r fault.Digit ↔ Any (λ byte. ¬ IsDigit byte) text) → (IsErrOf r fault.TooBig ↔ SpellsAtLeast (2 ^ 128) text)
     → result_ok r ≡ number_of text
 number_read text (Ok n) ok empty digit big = rw ok.spelled (sym (spelled text (numeral_of_digits text ok.some ok.digits) (not_big text n ok big)))
@@ -65,11 +65,11 @@ numeral_spells : (text : List ℕ) → is_numeral text ≡ true → (0 < length 
 numeral_spells [] e = cc
 numeral_spells (c ∷ cs) e = (omega arith, (digits_decide (c ∷ cs)).0 e)
 
-number_spelled : (text : List ℕ) (number : ℕ) → number_of text ≡ Some number → Spells text number × (number < 2 ^ 128)
+number_spelled : (text : List ℕ) (number : ℕ) → number_of text ≡ Some number → SpellsNumber text number × (number < 2 ^ 128)
 number_spelled text number = go (is_numeral text) (nat_lt (decimal_value text) (2 ^ 128)) refl refl
   where
     go : (t u : Bool) → is_numeral text ≡ t → nat_lt (decimal_value text) (2 ^ 128) ≡ u
-        → (if t && u then Some (decimal_value text) else None) ≡ Some number → Spells text number × (number < 2 ^ 128)
+        → (if t && u then Some (decimal_value text) else None) ≡ Some number → SpellsNumber text number × (number < 2 ^ 128)
     go true true e f same =
         let is : number ≡ decimal_value text = cc in
         let below : decimal_value text < 2 ^ 128 = grind (arith, nat_tests) in
@@ -78,7 +78,7 @@ number_spelled text number = go (is_numeral text) (nat_lt (decimal_value text) (
     go true false e f same = cc
     go false u e f same = cc
 
-number_there : (text : List ℕ) (number : ℕ) → Spells text number × (number < 2 ^ 128) → number_of text ≡ Some number
+number_there : (text : List ℕ) (number : ℕ) → SpellsNumber text number × (number < 2 ^ 128) → number_of text ≡ Some number
 number_there text number (spells, below) =
     spelled text (numeral_of_digits text spells.some spells.digits) (rw spells.spelled at below) ∙ ap (λ n. Some n) (sym spells.spelled)
 

@@ -15,7 +15,7 @@ use Rattle.command_line.specs.declared.command.Command.TheVariants.{Check, Check
 use Rattle.command_line.specs.declared.files.Files.{Files}
 use Rattle.command_line.specs.declared.files.PairFiles.{PairFiles}
 use Rattle.command_line.specs.declared.files.TrimFiles.{TrimFiles}
-use Rattle.command_line.specs.Asked.{AreApart, AreBits, IsInRange, IsUnread, LeavesFiles, LeavesGraphs, addend_at, adder_named, are_reused, are_shared, asked, bits_of, check_of, check_same_of, check_same_with, check_with, claim_at, design_named, is_overwriting, is_read, is_set, pair_at, same_of, same_with, files_at, verify_of, verify_with, version_at, version_from, word_at, word_from, eval_of, eval_with, make_of, make_with, met, named, number_of, order_at, read_at, trial_of, trial_with, trim_files_at, trim_of, trim_with, where_taken}
+use Rattle.command_line.specs.Asked.{HaveDistinctNames, AreBits, IsCommandInRange, IsUnread, LeavesFiles, LeavesGraphs, addend_at, adder_named, are_reused, are_shared, asked, bits_asked, check_of, check_same_of, check_same_with, check_with, claim_at, design_named, is_overwriting, is_file_read, is_set, pair_at, same_of, same_with, files_at, verify_of, verify_with, version_at, version_from, word_at, word_from, eval_of, eval_with, make_of, make_with, met, command_named, number_of, order_at, read_at, trial_of, trial_with, trim_files_at, trim_asked, trim_with, where_taken}
 use Rattle.command_line.specs.FixedCommand.{mulver}
 
 -- ---- the number
@@ -29,7 +29,7 @@ in_bits : (o : Option ℕ) → IfSome (option_and_then (λ n. if nat_le 1 n && n
 in_bits None = tt
 in_bits (Some n) = if_in_range (nat_le 1 n) (nat_le n 64) n refl refl
 
-bits_in : (o : Option Text) → IfSome (option_and_then bits_of o) AreBits
+bits_in : (o : Option Text) → IfSome (option_and_then bits_asked o) AreBits
 bits_in None = tt
 bits_in (Some text) = in_bits (number_of text)
 
@@ -56,10 +56,10 @@ word_of_in (Some text) = in_word 0 (number_of text)
 
 -- ---- the commands
 
-same_range : (asked there : Command) → IsInRange there → Some there ≡ Some asked → IsInRange asked
-same_range asked there h e = let same : there ≡ asked = cc in subst IsInRange same h
+same_range : (asked there : Command) → IsCommandInRange there → Some there ≡ Some asked → IsCommandInRange asked
+same_range asked there h e = let same : there ≡ asked = cc in subst IsCommandInRange same h
 
-check_range : (files : Option Files) (claim : Option Claim) (command : Command) → check_with files claim ≡ Some command → IsInRange command
+check_range : (files : Option Files) (claim : Option Claim) (command : Command) → check_with files claim ≡ Some command → IsCommandInRange command
 check_range (Some f) (Some k) command e = same_range command (Check f k) tt e
 check_range None claim command e = cc
 check_range (Some f) None command e = cc
@@ -72,7 +72,7 @@ or_none : (t u : Bool) → (t || u) ≡ false → (t ≡ false) × (u ≡ false)
 or_none true u e = absurd (true≢false e)
 or_none false u e = (refl, e)
 
-apart : (files : Files) → are_shared files ≡ false → AreApart files
+apart : (files : Files) → are_shared files ≡ false → HaveDistinctNames files
 apart files test =
     let one = or_none (bytes_eq files.graph files.clauses) (bytes_eq files.graph files.algebra || bytes_eq files.clauses files.algebra) test in
     let two = or_none (bytes_eq files.graph files.algebra) (bytes_eq files.clauses files.algebra) one.1 in
@@ -92,12 +92,12 @@ version_in (Some n) = go (n == 1) (n == 2)
     go false false = tt
 
 verify_one : (files : Files) (claim : Claim) (budget conflicts version : ℕ) (command : Command) → (1 ≤ budget) × (budget < 2 ^ 32) → conflicts < 2 ^ 32 → IsVersion version
-    → (shared : Bool) → are_shared files ≡ shared → (if shared then None else Some (Verify files claim budget conflicts version)) ≡ Some command → IsInRange command
+    → (shared : Bool) → are_shared files ≡ shared → (if shared then None else Some (Verify files claim budget conflicts version)) ≡ Some command → IsCommandInRange command
 verify_one files claim budget conflicts version command b c v true test e = cc
 verify_one files claim budget conflicts version command b c v false test e = same_range command (Verify files claim budget conflicts version) (apart files test, b.0, b.1, c, v) e
 
 verify_range : (files : Option Files) (claim : Option Claim) (budget conflicts version : Option ℕ) (command : Command)
-    → IfSome budget (AreFrom 1) → IfSome conflicts (AreFrom 0) → IfSome version IsVersion → verify_with files claim budget conflicts version ≡ Some command → IsInRange command
+    → IfSome budget (AreFrom 1) → IfSome conflicts (AreFrom 0) → IfSome version IsVersion → verify_with files claim budget conflicts version ≡ Some command → IsCommandInRange command
 verify_range (Some f) (Some k) (Some b) (Some c) (Some v) command b_range c_range v_range e = verify_one f k b c v command b_range c_range.1 v_range (are_shared f) refl e
 verify_range None claim budget conflicts version command b_range c_range v_range e = cc
 verify_range (Some f) None budget conflicts version command b_range c_range v_range e = cc
@@ -106,7 +106,7 @@ verify_range (Some f) (Some k) (Some b) None version command b_range c_range v_r
 verify_range (Some f) (Some k) (Some b) (Some c) None command b_range c_range v_range e = cc
 
 eval_range : (graph : Option Text) (a b : Option ℕ) (order : Option Order) (addend : Option (Option ℕ)) (command : Command)
-    → eval_with graph a b order addend ≡ Some command → IsInRange command
+    → eval_with graph a b order addend ≡ Some command → IsCommandInRange command
 eval_range (Some g) (Some a) (Some b) (Some o) (Some c) command e = same_range command (Eval g a b o c) tt e
 eval_range None a b order addend command e = cc
 eval_range (Some g) None b order addend command e = cc
@@ -115,14 +115,14 @@ eval_range (Some g) (Some a) (Some b) None addend command e = cc
 eval_range (Some g) (Some a) (Some b) (Some o) None command e = cc
 
 make_range : (design : Option Design) (bits : Option ℕ) (adder : Option Adder) (out : Option Text) (command : Command)
-    → IfSome bits AreBits → make_with design bits adder out ≡ Some command → IsInRange command
+    → IfSome bits AreBits → make_with design bits adder out ≡ Some command → IsCommandInRange command
 make_range (Some d) (Some n) (Some a) (Some o) command in_range e = same_range command (Make d n a o) in_range e
 make_range None bits adder out command in_range e = cc
 make_range (Some d) None adder out command in_range e = cc
 make_range (Some d) (Some n) None out command in_range e = cc
 make_range (Some d) (Some n) (Some a) None command in_range e = cc
 
-trial_range : (number : Option ℕ) (command : Command) → IfSome number (AreFrom 0) → trial_with number ≡ Some command → IsInRange command
+trial_range : (number : Option ℕ) (command : Command) → IfSome number (AreFrom 0) → trial_with number ≡ Some command → IsCommandInRange command
 trial_range (Some n) command in_range e = same_range command (Trial n) in_range.1 e
 trial_range None command in_range e = cc
 
@@ -132,21 +132,21 @@ leaves_graphs files test =
     record { graph = differ files.clauses files.graph two.0; other = differ files.clauses files.other two.1 }
 
 same_one : (files : PairFiles) (conflicts : ℕ) (command : Command) → conflicts < 2 ^ 32
-    → (over : Bool) → is_overwriting files ≡ over → (if over then None else Some (Same files conflicts)) ≡ Some command → IsInRange command
+    → (over : Bool) → is_overwriting files ≡ over → (if over then None else Some (Same files conflicts)) ≡ Some command → IsCommandInRange command
 same_one files conflicts command c true test e = cc
 same_one files conflicts command c false test e = same_range command (Same files conflicts) (leaves_graphs files test, c) e
 
 pair_range : (files : Option PairFiles) (conflicts : Option ℕ) (command : Command)
-    → IfSome conflicts (AreFrom 0) → same_with files conflicts ≡ Some command → IsInRange command
+    → IfSome conflicts (AreFrom 0) → same_with files conflicts ≡ Some command → IsCommandInRange command
 pair_range (Some f) (Some c) command c_range e = same_one f c command c_range.1 (is_overwriting f) refl e
 pair_range None conflicts command c_range e = cc
 pair_range (Some f) None command c_range e = cc
 
-check_same_range : (files : Option PairFiles) (command : Command) → check_same_with files ≡ Some command → IsInRange command
+check_same_range : (files : Option PairFiles) (command : Command) → check_same_with files ≡ Some command → IsCommandInRange command
 check_same_range (Some f) command e = same_range command (CheckSame f) tt e
 check_same_range None command e = cc
 
-unread : (files : TrimFiles) (name : Text) → is_read files name ≡ false → IsUnread files name
+unread : (files : TrimFiles) (name : Text) → is_file_read files name ≡ false → IsUnread files name
 unread files name test =
     let one = or_none (bytes_eq name files.graph) (bytes_eq name files.clauses || bytes_eq name files.algebra) test in
     let two = or_none (bytes_eq name files.clauses) (bytes_eq name files.algebra) one.1 in
@@ -154,8 +154,8 @@ unread files name test =
 
 leaves_files : (files : TrimFiles) → are_reused files ≡ false → LeavesFiles files
 leaves_files files test =
-    let one = or_none (is_read files files.to_clauses) (is_read files files.to_algebra || bytes_eq files.to_clauses files.to_algebra) test in
-    let two = or_none (is_read files files.to_algebra) (bytes_eq files.to_clauses files.to_algebra) one.1 in
+    let one = or_none (is_file_read files files.to_clauses) (is_file_read files files.to_algebra || bytes_eq files.to_clauses files.to_algebra) test in
+    let two = or_none (is_file_read files files.to_algebra) (bytes_eq files.to_clauses files.to_algebra) one.1 in
     record {
       clauses = unread files files.to_clauses one.0;
       algebra = unread files files.to_algebra two.0;
@@ -163,31 +163,31 @@ leaves_files files test =
     }
 
 trim_one : (files : TrimFiles) (claim : Claim) (command : Command)
-    → (reused : Bool) → are_reused files ≡ reused → (if reused then None else Some (Trim files claim)) ≡ Some command → IsInRange command
+    → (reused : Bool) → are_reused files ≡ reused → (if reused then None else Some (Trim files claim)) ≡ Some command → IsCommandInRange command
 trim_one files claim command true test e = cc
 trim_one files claim command false test e = same_range command (Trim files claim) (leaves_files files test) e
 
-trim_range : (files : Option TrimFiles) (claim : Option Claim) (command : Command) → trim_with files claim ≡ Some command → IsInRange command
+trim_range : (files : Option TrimFiles) (claim : Option Claim) (command : Command) → trim_with files claim ≡ Some command → IsCommandInRange command
 trim_range (Some f) (Some k) command e = trim_one f k command (are_reused f) refl e
 trim_range None claim command e = cc
 trim_range (Some f) None command e = cc
 
 -- ---- the words
 
-named_range : (name : Text) (rows : List Row) (command : Command) → named name rows ≡ Some command → IsInRange command
+named_range : (name : Text) (rows : List Row) (command : Command) → command_named name rows ≡ Some command → IsCommandInRange command
 named_range name rows command =
     pick (bytes_eq name (codes "check")) (bytes_eq name (codes "verify")) (bytes_eq name (codes "eval")) (bytes_eq name (codes "make")) (bytes_eq name (codes "trial"))
     (bytes_eq name (codes "same")) (bytes_eq name (codes "check-same")) (bytes_eq name (codes "trim"))
   where
     pick : (v w x y z s t r : Bool)
         → (if v then check_of rows else (if w then verify_of rows else (if x then eval_of rows else (if y then make_of rows else (if z then trial_of rows
-        else (if s then same_of rows else (if t then check_same_of rows else (if r then trim_of rows else None)))))))) ≡ Some command
-        → IsInRange command
+        else (if s then same_of rows else (if t then check_same_of rows else (if r then trim_asked rows else None)))))))) ≡ Some command
+        → IsCommandInRange command
     pick true w x y z s t r e = check_range (files_at rows) (claim_at rows) command e
     pick false true x y z s t r e = verify_range (files_at rows) (claim_at rows) (word_at 1 1000000 (codes "budget") rows) (word_at 0 100000 (codes "conflicts") rows) (version_at rows) command
         (word_in 1 1000000 (first_of (codes "budget") rows) (omega arith, omega arith)) (word_in 0 100000 (first_of (codes "conflicts") rows) (omega arith, omega arith)) (version_in (word_at 1 1 (codes "format") rows)) e
     pick false false true y z s t r e = eval_range (first_of (codes "graph") rows) (read_at number_of (codes "a") rows) (read_at number_of (codes "b") rows) (order_at rows) (addend_at rows) command e
-    pick false false false true z s t r e = make_range (read_at (design_named (is_set (codes "add") rows)) (codes "kind") rows) (read_at bits_of (codes "bits") rows)
+    pick false false false true z s t r e = make_range (read_at (design_named (is_set (codes "add") rows)) (codes "kind") rows) (read_at bits_asked (codes "bits") rows)
         (read_at adder_named (codes "adder") rows) (first_of (codes "out") rows) command (bits_in (first_of (codes "bits") rows)) e
     pick false false false false true s t r e = trial_range (read_at (word_from 0) (codes "number") rows) command (word_of_in (first_of (codes "number") rows)) e
     pick false false false false false true t r e = pair_range (pair_at rows) (word_at 0 100000 (codes "conflicts") rows) command
@@ -196,15 +196,15 @@ named_range name rows command =
     pick false false false false false false false true e = trim_range (trim_files_at rows) (claim_at rows) command e
     pick false false false false false false false false e = cc
 
-met_range : (subcommand : Option (Text × List Row)) (command : Command) → met subcommand ≡ Some command → IsInRange command
+met_range : (subcommand : Option (Text × List Row)) (command : Command) → met subcommand ≡ Some command → IsCommandInRange command
 met_range None command e = cc
 met_range (Some s) command e = named_range s.0 s.1 command e
 
-taken_range : (kinds : Kinds) (there : Option Command) (command : Command) → ((c : Command) → there ≡ Some c → IsInRange c)
-    → where_taken kinds there ≡ Some command → IsInRange command
+taken_range : (kinds : Kinds) (there : Option Command) (command : Command) → ((c : Command) → there ≡ Some c → IsCommandInRange c)
+    → where_taken kinds there ≡ Some command → IsCommandInRange command
 taken_range [] there command range e = range command e
 taken_range (kind ∷ kinds) there command range e = cc
 
-pub asked_range : (words : List Text) (command : Command) → asked words ≡ Some command → IsInRange command
+pub asked_range : (words : List Text) (command : Command) → asked words ≡ Some command → IsCommandInRange command
 unfolding asked
 asked_range words command e = taken_range (fault_of mulver words) (met (subcommand_of mulver words)) command (met_range (subcommand_of mulver words)) e

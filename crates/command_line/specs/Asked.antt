@@ -30,8 +30,8 @@ abbrev pub texts : List (String Global) → List Text
 texts words = map string_bytes words
 
 -- the names of three files, as texts
-abbrev pub files_of : Names → Files
-files_of names = record { graph = names.graph.now; clauses = names.clauses.now; algebra = names.algebra.now }
+abbrev pub named_files_of : Names → Files
+named_files_of names = record { graph = names.graph.now; clauses = names.clauses.now; algebra = names.algebra.now }
 
 abbrev pub pair_files_of : Names → PairFiles
 pair_files_of names = record { graph = names.graph.now; other = names.other.now; clauses = names.clauses.now }
@@ -85,8 +85,8 @@ number_of text =
     if is_numeral text && nat_lt (decimal_value text) (2 ^ 128) then Some (decimal_value text) else None
 
 -- a number from 1 to 64
-abbrev pub bits_of : Text → Option ℕ
-bits_of text =
+abbrev pub bits_asked : Text → Option ℕ
+bits_asked text =
     option_and_then (λ bits. if nat_le 1 bits && nat_le bits 64 then Some bits else None) (number_of text)
 
 -- a number below 2^32, from a least one on
@@ -202,7 +202,7 @@ make_with _ _ _ _ = None
 abbrev pub make_of : List Row → Option Command
 make_of rows = make_with
     (read_at (design_named (is_set (codes "add") rows)) (codes "kind") rows)
-    (read_at bits_of (codes "bits") rows)
+    (read_at bits_asked (codes "bits") rows)
     (read_at adder_named (codes "adder") rows)
     (first_of (codes "out") rows)
 
@@ -264,27 +264,27 @@ trim_files_at rows = trim_files_with
     (first_of (codes "to-algebra") rows)
 
 -- the name is that of a file that is read
-abbrev pub is_read : TrimFiles → Text → Bool
-is_read files name = bytes_eq name files.graph || (bytes_eq name files.clauses || bytes_eq name files.algebra)
+abbrev pub is_file_read : TrimFiles → Text → Bool
+is_file_read files name = bytes_eq name files.graph || (bytes_eq name files.clauses || bytes_eq name files.algebra)
 
 -- the name of a file that is written is that of another file
 abbrev pub are_reused : TrimFiles → Bool
 are_reused files =
-    is_read files files.to_clauses || (is_read files files.to_algebra || bytes_eq files.to_clauses files.to_algebra)
+    is_file_read files files.to_clauses || (is_file_read files files.to_algebra || bytes_eq files.to_clauses files.to_algebra)
 
 -- `trim`: the names of five files, of which each of the last two is none of the others, and a claim
 abbrev pub trim_with : Option TrimFiles → Option Claim → Option Command
 trim_with (Some files) (Some claim) = if are_reused files then None else Some (Trim files claim)
 trim_with _ _ = None
 
-abbrev pub trim_of : List Row → Option Command
-trim_of rows = trim_with (trim_files_at rows) (claim_at rows)
+abbrev pub trim_asked : List Row → Option Command
+trim_asked rows = trim_with (trim_files_at rows) (claim_at rows)
 
 -- ---- the words
 
 -- the subcommand of this name, with these texts
-abbrev pub named : Text → List Row → Option Command
-named name rows =
+abbrev pub command_named : Text → List Row → Option Command
+command_named name rows =
     if bytes_eq name (codes "check") then check_of rows
     else (if bytes_eq name (codes "verify") then verify_of rows
     else (if bytes_eq name (codes "eval") then eval_of rows
@@ -292,11 +292,11 @@ named name rows =
     else (if bytes_eq name (codes "trial") then trial_of rows
     else (if bytes_eq name (codes "same") then same_of rows
     else (if bytes_eq name (codes "check-same") then check_same_of rows
-    else (if bytes_eq name (codes "trim") then trim_of rows else None)))))))
+    else (if bytes_eq name (codes "trim") then trim_asked rows else None)))))))
 
 -- the subcommand that was met
 abbrev pub met : Option (Text × List Row) → Option Command
-met subcommand = option_and_then (λ s. named s.0 s.1) subcommand
+met subcommand = option_and_then (λ s. command_named s.0 s.1) subcommand
 
 -- what is there where nothing refuses it
 abbrev pub where_taken : Kinds → Option Command → Option Command
@@ -338,7 +338,7 @@ abbrev pub AreBits : ℕ → Type 0
 AreBits bits = (1 ≤ bits) × (bits ≤ 64)
 
 -- no two of the names are equal
-pub record AreApart (files : Files) : Type 0 where
+pub record HaveDistinctNames (files : Files) : Type 0 where
   pub clauses : files.graph ≢ files.clauses
   pub algebra : files.graph ≢ files.algebra
   pub certificates : files.clauses ≢ files.algebra
@@ -362,11 +362,11 @@ pub record LeavesFiles (files : TrimFiles) : Type 0 where
 
 -- The numbers of `make`, `verify`, `trial` and `same` are in their ranges, no two names of `verify` are equal, `same` writes over no
 -- graph, and `trim` writes two files over none that it reads.
-abbrev pub IsInRange : Command → Type 0
-IsInRange (Make design bits adder out) = AreBits bits
-IsInRange (Verify files claim budget conflicts version) =
-    AreApart files × (1 ≤ budget) × (budget < 2 ^ 32) × (conflicts < 2 ^ 32) × ((version ≡ 1) ⊎ (version ≡ 2))
-IsInRange (Trial number) = number < 2 ^ 32
-IsInRange (Same files conflicts) = LeavesGraphs files × (conflicts < 2 ^ 32)
-IsInRange (Trim files claim) = LeavesFiles files
-IsInRange _ = ⊤
+abbrev pub IsCommandInRange : Command → Type 0
+IsCommandInRange (Make design bits adder out) = AreBits bits
+IsCommandInRange (Verify files claim budget conflicts version) =
+    HaveDistinctNames files × (1 ≤ budget) × (budget < 2 ^ 32) × (conflicts < 2 ^ 32) × ((version ≡ 1) ⊎ (version ≡ 2))
+IsCommandInRange (Trial number) = number < 2 ^ 32
+IsCommandInRange (Same files conflicts) = LeavesGraphs files × (conflicts < 2 ^ 32)
+IsCommandInRange (Trim files claim) = LeavesFiles files
+IsCommandInRange _ = ⊤

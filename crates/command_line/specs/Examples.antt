@@ -3,7 +3,7 @@ use Rattle.std.specs.Prelude.{◌≡◌, ◌≢◌, ◌<◌, ◌^◌, ◌↔◌,
 use Rattle.clap.specs.Words.{Text}
 use Rattle.graph_core.specs.declared.order.Order.TheVariants.{Separate}
 use Rattle.graph_core.specs.Graph.Operands.{product_under}
-use Rattle.mv_nums.specs.Numeral.{Spells}
+use Rattle.mv_nums.specs.Numeral.{SpellsNumber}
 use Rattle.command_line.specs.declared.files.Files.{Files}
 use Rattle.command_line.specs.declared.files.TrimFiles.{TrimFiles}
 use Rattle.command_line.specs.Asked.{IsCheck, number_of}
@@ -21,7 +21,7 @@ NamesAreChecked = (program : Text) (files : Files)
 -- The number that a text says is the one that it spells in decimal digits, below 2^128.
 abbrev pub NumbersAreNumerals : Type 0
 NumbersAreNumerals = (text : Text) (number : ℕ)
-    → (number_of text ≡ Some number) ↔ (Spells text number × (number < 2 ^ 128))
+    → (number_of text ≡ Some number) ↔ (SpellsNumber text number × (number < 2 ^ 128))
 
 abbrev pub g_c_a : Files
 g_c_a = record { graph = codes "g"; clauses = codes "c"; algebra = codes "a" }

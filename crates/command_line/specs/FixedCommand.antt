@@ -5,8 +5,8 @@ use Rattle.clap.specs.declared.builder.ArgAction.TheVariants.{Set, SetTrue}
 use Rattle.clap.specs.Words.{App, Rule, Text, new_app, new_rule, with_rule, with_subcommand}
 
 -- a required word in its place
-abbrev pub word : Text → Rule
-word id = record (new_rule id) { action = Some Set; required = true }
+abbrev pub word_rule : Text → Rule
+word_rule id = record (new_rule id) { action = Some Set; required = true }
 
 -- an option of this long name, with one text
 abbrev pub choice : Text → Rule
@@ -23,7 +23,7 @@ flag id = record (new_rule id) { long = Some id; action = Some SetTrue }
 -- `check GRAPH CLAUSES ALGEBRA [--inputs ORDER] [--operands KIND] [--add]`
 abbrev pub check_files : App
 check_files = with_rule (with_rule (with_rule (new_app (codes "check"))
-    (word (codes "graph"))) (word (codes "clauses"))) (word (codes "algebra"))
+    (word_rule (codes "graph"))) (word_rule (codes "clauses"))) (word_rule (codes "algebra"))
 
 abbrev pub check_app : App
 check_app = with_rule (with_rule (with_rule check_files
@@ -32,7 +32,7 @@ check_app = with_rule (with_rule (with_rule check_files
 -- `verify GRAPH --clauses FILE --algebra FILE [--inputs ORDER] [--budget N] [--conflicts N] [--operands KIND] [--add] [--format N]`
 abbrev pub verify_files : App
 verify_files = with_rule (with_rule (with_rule (new_app (codes "verify"))
-    (word (codes "graph"))) (needed (codes "clauses"))) (needed (codes "algebra"))
+    (word_rule (codes "graph"))) (needed (codes "clauses"))) (needed (codes "algebra"))
 
 abbrev pub verify_app : App
 verify_app = with_rule (with_rule (with_rule (with_rule (with_rule (with_rule verify_files
@@ -42,16 +42,16 @@ verify_app = with_rule (with_rule (with_rule (with_rule (with_rule (with_rule ve
 -- `eval GRAPH A B [--inputs ORDER] [--addend C]`
 abbrev pub eval_app : App
 eval_app = with_rule (with_rule (with_rule (with_rule (with_rule (new_app (codes "eval"))
-    (word (codes "graph"))) (word (codes "a"))) (word (codes "b"))) (choice (codes "inputs"))) (choice (codes "addend"))
+    (word_rule (codes "graph"))) (word_rule (codes "a"))) (word_rule (codes "b"))) (choice (codes "inputs"))) (choice (codes "addend"))
 
 -- `make KIND BITS ADDER OUT [--add]`
 abbrev pub make_app : App
 make_app = with_rule (with_rule (with_rule (with_rule (with_rule (new_app (codes "make"))
-    (word (codes "kind"))) (word (codes "bits"))) (word (codes "adder"))) (word (codes "out"))) (flag (codes "add"))
+    (word_rule (codes "kind"))) (word_rule (codes "bits"))) (word_rule (codes "adder"))) (word_rule (codes "out"))) (flag (codes "add"))
 
 -- `trial N`
 abbrev pub trial_app : App
-trial_app = with_rule (new_app (codes "trial")) (word (codes "number"))
+trial_app = with_rule (new_app (codes "trial")) (word_rule (codes "number"))
 
 -- a command that asks for a subcommand
 abbrev pub must_choose : App → App
@@ -64,12 +64,12 @@ judging = with_subcommand (with_subcommand (must_choose (new_app (codes "mulver"
 -- `same G H CLAUSES [--conflicts N]`, with the names `graph`, `other` and `clauses`
 abbrev pub same_app : App
 same_app = with_rule (with_rule (with_rule (with_rule (new_app (codes "same"))
-    (word (codes "graph"))) (word (codes "other"))) (word (codes "clauses"))) (choice (codes "conflicts"))
+    (word_rule (codes "graph"))) (word_rule (codes "other"))) (word_rule (codes "clauses"))) (choice (codes "conflicts"))
 
 -- `check-same G H CLAUSES`, likewise
 abbrev pub check_same_app : App
 check_same_app = with_rule (with_rule (with_rule (new_app (codes "check-same"))
-    (word (codes "graph"))) (word (codes "other"))) (word (codes "clauses"))
+    (word_rule (codes "graph"))) (word_rule (codes "other"))) (word_rule (codes "clauses"))
 
 -- the command with those for one graph
 abbrev pub of_one_graph : App
@@ -82,7 +82,7 @@ of_graphs = with_subcommand (with_subcommand of_one_graph same_app.top) check_sa
 -- `trim GRAPH CLAUSES ALGEBRA TO-CLAUSES TO-ALGEBRA [--inputs ORDER] [--operands KIND] [--add]`
 abbrev pub trim_files : App
 trim_files = with_rule (with_rule (with_rule (with_rule (with_rule (new_app (codes "trim"))
-    (word (codes "graph"))) (word (codes "clauses"))) (word (codes "algebra"))) (word (codes "to-clauses"))) (word (codes "to-algebra"))
+    (word_rule (codes "graph"))) (word_rule (codes "clauses"))) (word_rule (codes "algebra"))) (word_rule (codes "to-clauses"))) (word_rule (codes "to-algebra"))
 
 abbrev pub trim_app : App
 trim_app = with_rule (with_rule (with_rule trim_files

@@ -9,11 +9,11 @@ use Rattle.command_line.specs.declared.builders.Form.{Form}
 use Rattle.command_line.specs.declared.builders.Form.TheVariants.{Word, Choice, Needed, Flag}
 use Rattle.command_line.specs.declared.fail.WordsFail.{WordsFail}
 use Rattle.command_line.specs.declared.fail.WordsFail.TheVariants.{Usage}
-use Rattle.command_line.specs.FixedCommand.{choice, flag, mulver, needed, word}
+use Rattle.command_line.specs.FixedCommand.{choice, flag, mulver, needed, word_rule}
 
 -- the rule of an argument of this form
 abbrev pub rule_for : Form → Text → Rule
-rule_for Word id = word id
+rule_for Word id = word_rule id
 rule_for Choice id = choice id
 rule_for Needed id = needed id
 rule_for Flag id = flag id
@@ -40,6 +40,6 @@ pub record TakesAs (words : List Text) (m : ArgMatches) : Type 0 where
   pub rows : subcommand_rows_of m ≡ subcommand_of mulver words
 
 -- What there is to read is read, and where there is nothing, that is usage; memory may be wanting.
-pub record Reads {A : Type 0} (there : Option A) (result : Result A WordsFail) : Type 0 where
+pub record ReadsAsked {A : Type 0} (there : Option A) (result : Result A WordsFail) : Type 0 where
   pub ok : IfOk result (λ read. there ≡ Some read)
   pub usage : IsErrOf result Usage → there ≡ None

@@ -44,7 +44,7 @@ pub struct Files {
 }
 
 impl Files {
-    ghost use Rattle.command_line.specs.Asked.{are_shared, files_of};
+    ghost use Rattle.command_line.specs.Asked.{are_shared, named_files_of};
 
     /// Whether two of the names are equal.
     pub(crate) fn are_shared(&self) -> bool
@@ -58,7 +58,7 @@ impl Files {
 
     /// The names, lent.
     pub fn names(&self) -> Names<'_>
-        ensures { files_of result ≡ self.now }
+        ensures { named_files_of result ≡ self.now }
     {
         Names {
             graph: self.graph.as_str(),
@@ -116,7 +116,7 @@ pub struct TrimFiles {
 }
 
 impl TrimFiles {
-    ghost use Rattle.command_line.specs.Asked.{are_reused, is_read, trim_files_of};
+    ghost use Rattle.command_line.specs.Asked.{are_reused, is_file_read, trim_files_of};
 
     /// Whether a certificate that is written has the name of another file.
     pub(crate) fn are_reused(&self) -> bool
@@ -129,7 +129,7 @@ impl TrimFiles {
 
     // Whether a file of this name is read.
     fn is_read(&self, name: &str) -> bool
-        ensures { result ≡ is_read self.now name.now }
+        ensures { result ≡ is_file_read self.now name.now }
     {
         name == self.graph.as_str()
             || name == self.clauses.as_str()

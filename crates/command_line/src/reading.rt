@@ -1,8 +1,8 @@
 // What the words ask for.
 ghost use Rattle.std.specs.Prelude.{◌≡◌, None, Some, IfOk, IsErrOf};
 ghost use Rattle.clap.specs.Words.{found_of, rows_of, subcommand_rows_of};
-ghost use Rattle.command_line.specs.Asked.{IsInRange, IsUsage, asked, check_of, check_same_of, eval_of, make_of, met, named, pair_at, same_of, texts, trial_of, trim_files_at, trim_of, files_at, verify_of};
-ghost use Rattle.command_line.specs.Reading.{Reads, TakesAs};
+ghost use Rattle.command_line.specs.Asked.{IsCommandInRange, IsUsage, asked, check_of, check_same_of, eval_of, make_of, met, command_named, pair_at, same_of, texts, trial_of, trim_files_at, trim_asked, files_at, verify_of};
+ghost use Rattle.command_line.specs.Reading.{ReadsAsked, TakesAs};
 
 use crate::builders::mulver;
 use crate::command::Command;
@@ -21,7 +21,7 @@ use std::alloc::Global;
 pub fn read_words(alloc: Global, words: &[String]) -> Result<Command, WordsFail>
     ensures ok { IfOk result (λ command. asked (texts words.now) ≡ Some command) }
     ensures usage { IsErrOf result WordsFail.Usage → IsUsage (texts words.now) }
-    ensures range { IfOk result IsInRange }
+    ensures range { IfOk result IsCommandInRange }
 {
     let found = matches(alloc, words)?;
     met(alloc, &found)
@@ -44,7 +44,7 @@ fn matches<'a>(alloc: Global, words: &'a [String]) -> Result<ArgMatches<'a>, Wor
 
 // The subcommand that was met.
 fn met(alloc: Global, matches: &ArgMatches<'_>) -> Result<Command, WordsFail>
-    ensures { Reads (met (subcommand_rows_of matches.now)) result }
+    ensures { ReadsAsked (met (subcommand_rows_of matches.now)) result }
 {
     match matches.subcommand() {
         Some((name, inner)) => named(alloc, name, inner),
@@ -53,7 +53,7 @@ fn met(alloc: Global, matches: &ArgMatches<'_>) -> Result<Command, WordsFail>
 }
 
 fn named(alloc: Global, name: &str, matches: &ArgMatches<'_>) -> Result<Command, WordsFail>
-    ensures { Reads (named name.now (rows_of (found_of matches.now))) result }
+    ensures { ReadsAsked (command_named name.now (rows_of (found_of matches.now))) result }
 {
     match name {
         "check" => check(alloc, matches),
@@ -69,7 +69,7 @@ fn named(alloc: Global, name: &str, matches: &ArgMatches<'_>) -> Result<Command,
 }
 
 fn check(alloc: Global, matches: &ArgMatches<'_>) -> Result<Command, WordsFail>
-    ensures { Reads (check_of (rows_of (found_of matches.now))) result }
+    ensures { ReadsAsked (check_of (rows_of (found_of matches.now))) result }
 {
     let files = files_at(alloc, matches)?;
     let claim = claim_at(matches).ok_or(WordsFail::Usage)?;
@@ -77,7 +77,7 @@ fn check(alloc: Global, matches: &ArgMatches<'_>) -> Result<Command, WordsFail>
 }
 
 fn verify(alloc: Global, matches: &ArgMatches<'_>) -> Result<Command, WordsFail>
-    ensures { Reads (verify_of (rows_of (found_of matches.now))) result }
+    ensures { ReadsAsked (verify_of (rows_of (found_of matches.now))) result }
 {
     let files = files_at(alloc, matches)?;
     let claim = claim_at(matches).ok_or(WordsFail::Usage)?;
@@ -97,7 +97,7 @@ fn verify(alloc: Global, matches: &ArgMatches<'_>) -> Result<Command, WordsFail>
 }
 
 fn files_at(alloc: Global, matches: &ArgMatches<'_>) -> Result<Files, WordsFail>
-    ensures { Reads (files_at (rows_of (found_of matches.now))) result }
+    ensures { ReadsAsked (files_at (rows_of (found_of matches.now))) result }
 {
     let graph = file_at(alloc, matches, "graph")?;
     let clauses = file_at(alloc, matches, "clauses")?;
@@ -110,7 +110,7 @@ fn files_at(alloc: Global, matches: &ArgMatches<'_>) -> Result<Files, WordsFail>
 }
 
 fn eval(alloc: Global, matches: &ArgMatches<'_>) -> Result<Command, WordsFail>
-    ensures { Reads (eval_of (rows_of (found_of matches.now))) result }
+    ensures { ReadsAsked (eval_of (rows_of (found_of matches.now))) result }
 {
     let graph = file_at(alloc, matches, "graph")?;
     let a = number_at(matches, "a").ok_or(WordsFail::Usage)?;
@@ -127,7 +127,7 @@ fn eval(alloc: Global, matches: &ArgMatches<'_>) -> Result<Command, WordsFail>
 }
 
 fn make(alloc: Global, matches: &ArgMatches<'_>) -> Result<Command, WordsFail>
-    ensures { Reads (make_of (rows_of (found_of matches.now))) result }
+    ensures { ReadsAsked (make_of (rows_of (found_of matches.now))) result }
 {
     let design = design_at(matches).ok_or(WordsFail::Usage)?;
     let bits = bits_at(matches, "bits").ok_or(WordsFail::Usage)?;
@@ -142,14 +142,14 @@ fn make(alloc: Global, matches: &ArgMatches<'_>) -> Result<Command, WordsFail>
 }
 
 fn trial(matches: &ArgMatches<'_>) -> Result<Command, WordsFail>
-    ensures { Reads (trial_of (rows_of (found_of matches.now))) result }
+    ensures { ReadsAsked (trial_of (rows_of (found_of matches.now))) result }
 {
     let number = word_of(matches, "number").ok_or(WordsFail::Usage)?;
     Ok(Command::Trial { number })
 }
 
 fn same(alloc: Global, matches: &ArgMatches<'_>) -> Result<Command, WordsFail>
-    ensures { Reads (same_of (rows_of (found_of matches.now))) result }
+    ensures { ReadsAsked (same_of (rows_of (found_of matches.now))) result }
 {
     let files = pair_at(alloc, matches)?;
     let conflicts = word_at(matches, "conflicts", 0, CONFLICTS).ok_or(WordsFail::Usage)?;
@@ -160,14 +160,14 @@ fn same(alloc: Global, matches: &ArgMatches<'_>) -> Result<Command, WordsFail>
 }
 
 fn check_same(alloc: Global, matches: &ArgMatches<'_>) -> Result<Command, WordsFail>
-    ensures { Reads (check_same_of (rows_of (found_of matches.now))) result }
+    ensures { ReadsAsked (check_same_of (rows_of (found_of matches.now))) result }
 {
     let files = pair_at(alloc, matches)?;
     Ok(Command::CheckSame { files })
 }
 
 fn pair_at(alloc: Global, matches: &ArgMatches<'_>) -> Result<PairFiles, WordsFail>
-    ensures { Reads (pair_at (rows_of (found_of matches.now))) result }
+    ensures { ReadsAsked (pair_at (rows_of (found_of matches.now))) result }
 {
     let graph = file_at(alloc, matches, "graph")?;
     let other = file_at(alloc, matches, "other")?;
@@ -180,7 +180,7 @@ fn pair_at(alloc: Global, matches: &ArgMatches<'_>) -> Result<PairFiles, WordsFa
 }
 
 fn trim(alloc: Global, matches: &ArgMatches<'_>) -> Result<Command, WordsFail>
-    ensures { Reads (trim_of (rows_of (found_of matches.now))) result }
+    ensures { ReadsAsked (trim_asked (rows_of (found_of matches.now))) result }
 {
     let files = trim_files_at(alloc, matches)?;
     let claim = claim_at(matches).ok_or(WordsFail::Usage)?;
@@ -191,7 +191,7 @@ fn trim(alloc: Global, matches: &ArgMatches<'_>) -> Result<Command, WordsFail>
 }
 
 fn trim_files_at(alloc: Global, matches: &ArgMatches<'_>) -> Result<TrimFiles, WordsFail>
-    ensures { Reads (trim_files_at (rows_of (found_of matches.now))) result }
+    ensures { ReadsAsked (trim_files_at (rows_of (found_of matches.now))) result }
 {
     let files = files_at(alloc, matches)?;
     let to_clauses = file_at(alloc, matches, "to-clauses")?;

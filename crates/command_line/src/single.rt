@@ -1,6 +1,6 @@
 // What a single text says.
 ghost use Rattle.std.specs.Prelude.{◌≡◌};
-ghost use Rattle.command_line.specs.Asked.{adder_named, bits_of, design_named, kind_named, number_of, order_named, sign_named, word_from};
+ghost use Rattle.command_line.specs.Asked.{adder_named, bits_asked, design_named, kind_named, number_of, order_named, sign_named, word_from};
 
 use graph_core::{Order, Sign};
 use graph_maker::{Adder, Design, Kind};
@@ -61,7 +61,7 @@ pub(crate) fn number_of(text: &str) -> Option<u128>
 
 /// A number of bits, from 1 to 64.
 pub(crate) fn bits_of(text: &str) -> Option<u32>
-    ensures { result ≡ bits_of text.now }
+    ensures { result ≡ bits_asked text.now }
 {
     let bits = number_of(text)?;
     if 1 <= bits && bits <= 64 {

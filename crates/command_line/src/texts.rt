@@ -1,8 +1,8 @@
 // The texts of a subcommand, each under its name.
 ghost use Rattle.std.specs.Prelude.{◌≡◌, codes, option_map};
 ghost use Rattle.clap.specs.Words.{first_of, found_of, rows_of};
-ghost use Rattle.command_line.specs.Asked.{addend_at, adder_named, bits_of, claim_at, design_named, is_set, number_of, order_at, read_at, sign_at, version_at, word_at, word_from};
-ghost use Rattle.command_line.specs.Reading.{Reads};
+ghost use Rattle.command_line.specs.Asked.{addend_at, adder_named, bits_asked, claim_at, design_named, is_set, number_of, order_at, read_at, sign_at, version_at, word_at, word_from};
+ghost use Rattle.command_line.specs.Reading.{ReadsAsked};
 
 use crate::fail::WordsFail;
 use crate::files::FileName;
@@ -19,7 +19,7 @@ pub(crate) fn file_at(
     matches: &ArgMatches<'_>,
     name: &str,
 ) -> Result<FileName, WordsFail>
-    ensures { Reads (first_of name.now (rows_of (found_of matches.now))) result }
+    ensures { ReadsAsked (first_of name.now (rows_of (found_of matches.now))) result }
 {
     match text_at(matches, name) {
         Some(text) => Ok(FileName::new(alloc, text)?),
@@ -100,7 +100,7 @@ pub(crate) fn design_at(matches: &ArgMatches<'_>) -> Option<Design>
 }
 
 pub(crate) fn bits_at(matches: &ArgMatches<'_>, name: &str) -> Option<u32>
-    ensures { result ≡ read_at bits_of name.now (rows_of (found_of matches.now)) }
+    ensures { result ≡ read_at bits_asked name.now (rows_of (found_of matches.now)) }
 {
     bits_of(text_at(matches, name)?)
 }

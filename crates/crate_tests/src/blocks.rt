@@ -1,8 +1,8 @@
-// slice_finder: the blocks of a two-bit array with a cut, and those of a full adder.
+// adder_finder: the blocks of a two-bit array with a cut, and those of a full adder.
+use adder_finder::{Adds, blocks};
 use graph_core::{Graph, Lit};
 use graph_maker::{Adder, Kind, make};
 use ripple_graft::{Cut, Extended, Pairs, graft};
-use slice_finder::{Adds, blocks};
 use std::alloc::Global;
 use std::test::Fail;
 

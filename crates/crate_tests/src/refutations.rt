@@ -1,6 +1,6 @@
-// cdcl_core: small formulas, and what is found of them.
+// cdcl_solver: small formulas, and what is found of them.
 use crate::clause_lists::{clause_of, listed};
-use cdcl_core::{Log, Solved, solve};
+use cdcl_solver::{Log, Solved, solve};
 use graph_core::Memory;
 use std::alloc::Global;
 use std::test::Fail;

@@ -1,7 +1,7 @@
-// slice_finder: the final stages of made multipliers.
+// adder_finder: the final stages of made multipliers.
+use adder_finder::final_stage;
 use graph_maker::{Adder, Kind, make};
 use ripple_graft::Cut;
-use slice_finder::final_stage;
 use std::test::Fail;
 
 // The low column and the number of pairs.

@@ -15,7 +15,7 @@ use Rattle.clause_core.specs.UnitPropagation.{IsRup}
 use Rattle.clause_core.proofs.CallerLemmas.{facts_stay, same_flip}
 use Rattle.trim_core.specs.KeptClauses.{AreBelow, AreEarlier}
 use Rattle.trim_core.proofs.Chains.{as_many, tight_chains_go_on}
-use Rattle.drup_checker.specs.Checking.{Adds, AreChained, Deletes, Held, IsKept, IsTightChainOf, LosesOne, Numbered, ShowsBy, Starts, checking, held_with, kept, kept_uses, more, unnumbered}
+use Rattle.drup_checker.specs.Checking.{AddsRup, AreChained, Deletes, Held, IsTightChainOf, KeepsClauses, LosesOne, Numbered, ShowsBy, Starts, checking, held_with, kept, kept_uses, more, unnumbered}
 use Rattle.drup_checker.specs.declared.keeps.Keeps.{Keeps}
 use Rattle.drup_checker.specs.declared.keeps.Keeps.TheVariants as keep
 use Rattle.drup_checker.proofs.Tags.{AreTagged, chain_of_tagged, numbers_below, tagged_fewer, tagged_first, tagged_more}
@@ -58,7 +58,7 @@ module _ (gates : List Gate) (numbered : List Numbered) (added : List Clause) (u
       record { chains = h.chains; earlier = h.earlier; tagged = tagged_fewer (gate_clauses gates) added c numbered new loses h.tagged; counted = h.counted }
 
 -- whatever is used comes before, where nothing is kept too
-pub are_earlier : (gates : List Gate) (h : Held) (goals : List Goal) (shown : List Bool) (keeps : Keeps) (added : List Clause) (uses : List (List ℕ)) (count : ℕ) → IsKept gates h goals shown keeps added uses count → AreEarlier uses
+pub are_earlier : (gates : List Gate) (h : Held) (goals : List Goal) (shown : List Bool) (keeps : Keeps) (added : List Clause) (uses : List (List ℕ)) (count : ℕ) → KeepsClauses gates h goals shown keeps added uses count → AreEarlier uses
 are_earlier gates h goals shown keep.Nothing added uses count k = subst AreEarlier (sym (k.none_used (λ e. absurd (cc)))) (λ i low. absurd (omega arith))
 are_earlier gates h goals shown keep.Clauses added uses count k = subst AreEarlier (sym (k.none_used (λ e. absurd (cc)))) (λ i low. absurd (omega arith))
 are_earlier gates h goals shown keep.Chains added uses count k = (k.chained refl).earlier
@@ -66,7 +66,7 @@ are_earlier gates h goals shown keep.Chains added uses count k = (k.chained refl
 -- ---- one line
 
 module _ (gates : List Gate) (s u : Held) (goals : List Goal) (shown : List Bool) (keeps : Keeps) (added : List Clause) (uses : List (List ℕ)) (count : ℕ) (c : Clause)
-    (before : IsKept gates s goals shown keeps added uses count) where
+    (before : KeepsClauses gates s goals shown keeps added uses count) where
   module _ (new : List Bool) (named : List ℕ) (number : ℕ) (adds : u ≡ held_with s c number) (rup : IsRup s.live c) where
     abbrev more_added : List Clause
     more_added = added ++ kept keeps (c ∷ [])
@@ -82,7 +82,7 @@ module _ (gates : List Gate) (s u : Held) (goals : List Goal) (shown : List Bool
 
     -- a clause that follows is a fact beside the others
     pub kept_added : (max : ℕ) → IsClauseInRange max c → length new ≡ length shown → (keeps ≡ keep.Chains → IsTightChainOf s.numbered c named) → (keeps ≡ keep.Chains → number ≡ suc count) →
-        IsKept gates u goals new keeps more_added more_uses number
+        KeepsClauses gates u goals new keeps more_added more_uses number
     kept_added max in_range same tight next = record {
       facts = subst (λ (h : Held). All (IsClauseFact gates) h.live) (sym adds) (All-append (IsClauseFact gates) s.live (c ∷ []) before.facts (All-cons (IsClauseFact gates) c [] fact (All-nil (IsClauseFact gates))));
       places = same ∙ before.places;
@@ -98,7 +98,7 @@ module _ (gates : List Gate) (s u : Held) (goals : List Goal) (shown : List Bool
         fact : IsClauseFact gates c
         fact = facts_stay.added gates s.live c before.facts signs rup
 
-    pub is_added : number ≡ more count → ShowsBy c goals shown new → Adds c (checking gates s goals shown keeps added uses count) (checking gates u goals new keeps more_added more_uses number)
+    pub is_added : number ≡ more count → ShowsBy c goals shown new → AddsRup c (checking gates s goals shown keeps added uses count) (checking gates u goals new keeps more_added more_uses number)
     is_added next shows = record {
       follows = rup;
       live = ap (λ (h : Held). h.live) adds;
@@ -113,7 +113,7 @@ module _ (gates : List Gate) (s u : Held) (goals : List Goal) (shown : List Bool
       count = next;
     }
 
-  pub kept_removed : Removes s.live c u.live → LosesOne c s.numbered u.numbered → IsKept gates u goals shown keeps added uses count
+  pub kept_removed : Removes s.live c u.live → LosesOne c s.numbered u.numbered → KeepsClauses gates u goals shown keeps added uses count
   kept_removed removes loses = record {
     facts = facts_stay.removed gates s.live c u.live before.facts removes;
     places = before.places;
@@ -137,7 +137,7 @@ facts_same gates (c ∷ cs) (d ∷ ds) same h = (facts_stay.same gates d c (same
 abbrev pub held_first_of : ℕ → List Clause → Held
 held_first_of max cs = record { max = max; live = cs; numbered = unnumbered cs }
 
-pub kept_first : (gates : List Gate) (max : ℕ) (new : Held) (cs : List Clause) (goals : List Goal) (shown : List Bool) → new ≡ held_first_of max cs → AreSameSets cs (gate_clauses gates) → length shown ≡ length goals → (keeps : Keeps) → IsKept gates new goals shown keeps [] [] 0
+pub kept_first : (gates : List Gate) (max : ℕ) (new : Held) (cs : List Clause) (goals : List Goal) (shown : List Bool) → new ≡ held_first_of max cs → AreSameSets cs (gate_clauses gates) → length shown ≡ length goals → (keeps : Keeps) → KeepsClauses gates new goals shown keeps [] [] 0
 kept_first gates max new cs goals shown is same places keeps = record {
   facts = subst (λ (h : Held). All (IsClauseFact gates) h.live) (sym is)
       (All-from_recursion (IsClauseFact gates) cs (facts_same gates cs (gate_clauses gates) same (recursion_from_All (IsClauseFact gates) (gate_clauses gates) (facts_stay.gates_are gates))));

@@ -8,9 +8,9 @@ use Rattle.std.proofs.lemmas.List.Elements.{Contains-append_left, Contains-appen
 use Rattle.clause_core.specs.Clause.{Clause}
 use Rattle.clause_core.specs.UnitPropagation.{IsRefuted, IsRup, IsTautology}
 use Rattle.clause_core.proofs.CallerLemmas.{at, at_contained, below_suc, contains_at, contains_cases, contains_here, contains_map, contains_nil, contains_there, fixpoint_leaves_no_chain, refuted_more}
-use Rattle.drup_checker.specs.Opposing.{Begins, IsLiteralOf, IsMet, Opposes, OpposesFirst}
-use Rattle.unit_prop.specs.Trail.{IsWithin}
-use Rattle.unit_prop.specs.Standing.{Assumes, IsFound, IsFree, IsMark, IsSound, Propagates, Standing, assumed_of, back_at, live_of, standing_with}
+use Rattle.drup_checker.specs.Opposing.{IsClauseMet, IsLiteralOf, Opposes, OpposesFirst, StandsMore}
+use Rattle.unit_prop.specs.Trail.{IsLiteralUpTo}
+use Rattle.unit_prop.specs.Standing.{Assumes, HasNoAssumption, IsFound, IsMark, IsSound, Propagates, Standing, assumed_of, back_at, live_of, standing_with}
 use Rattle.unit_prop.specs.declared.assumed.Assumed.{Assumed}
 use Rattle.unit_prop.specs.declared.assumed.Assumed.TheVariants.{Fresh, Known, Opposed}
 use Rattle.unit_prop.proofs.CallerLemmas.{assumed_with, consistent, follows, free_assumes_none}
@@ -20,7 +20,7 @@ neg_neg (pos zero) = refl
 neg_neg (pos (suc v)) = refl
 neg_neg (negsuc v) = refl
 
-pub within_neg : (max : ℕ) (l : ℤ) → nat_abs l < 2 ^ 31 → IsLiteralOf max (neg_ℤ l) → IsWithin max (neg_ℤ l)
+pub within_neg : (max : ℕ) (l : ℤ) → nat_abs l < 2 ^ 31 → IsLiteralOf max (neg_ℤ l) → IsLiteralUpTo max (neg_ℤ l)
 within_neg max (pos zero) small h = absurd (h.0 refl)
 within_neg max (pos (suc v)) small h = let most = h.1 in (omega arith, omega arith)
 within_neg max (negsuc v) small h = let most = h.1 in ((omega arith, omega arith), omega arith)
@@ -42,13 +42,13 @@ append_none : {X : Type 0} (xs : List X) → xs ++ [] ≡ xs
 append_none [] = refl
 append_none (x ∷ xs) = ap (λ ys. x ∷ ys) (append_none xs)
 
-pub begins_now : (s : Standing) → Begins s s
+pub begins_now : (s : Standing) → StandsMore s s
 begins_now s = record { literals = []; causes = []; clauses = refl; greatest = refl; units = refl; trail = sym (append_none s.trail.literals); reasons = sym (append_none s.trail.reasons) }
 
-pub begins_same : (old now next : Standing) → next ≡ now → Begins old now → Begins old next
-begins_same old now next e h = subst (Begins old) (sym e) h
+pub begins_same : (old now next : Standing) → next ≡ now → StandsMore old now → StandsMore old next
+begins_same old now next e h = subst (StandsMore old) (sym e) h
 
-begins_with : (old now : Standing) (l : ℤ) → Begins old now → Begins old (standing_with now l None)
+begins_with : (old now : Standing) (l : ℤ) → StandsMore old now → StandsMore old (standing_with now l None)
 begins_with old now l h = record {
   literals = h.literals ++ l ∷ [];
   causes = h.causes ++ None ∷ [];
@@ -59,7 +59,7 @@ begins_with old now l h = record {
   reasons = ap (λ rs. rs ++ None ∷ []) h.reasons ∙ append_assoc old.trail.reasons h.causes (None ∷ []);
 }
 
-pub begins_more : (old now next : Standing) → Begins old now → Propagates now next → Begins old next
+pub begins_more : (old now next : Standing) → StandsMore old now → Propagates now next → StandsMore old next
 begins_more old now next h p = record {
   literals = h.literals ++ p.literals;
   causes = h.causes ++ map Some p.causes;
@@ -77,13 +77,13 @@ take_front (x ∷ xs) ys zero e = absurd (omega arith)
 take_front (x ∷ xs) ys (suc n) e = ap (λ zs. x ∷ zs) (take_front xs ys n (omega arith))
 
 -- so going back to it gives it
-pub back_is : (old now : Standing) (mark : ℕ) → IsSound old → mark ≡ length old.trail.literals → Begins old now → back_at now mark ≡ old
+pub back_is : (old now : Standing) (mark : ℕ) → IsSound old → mark ≡ length old.trail.literals → StandsMore old now → back_at now mark ≡ old
 back_is old now mark sound count h =
     let lits : take mark now.trail.literals ≡ old.trail.literals = ap (take mark) h.trail ∙ take_front old.trail.literals h.literals mark count in
     let reasons : take mark now.trail.reasons ≡ old.trail.reasons = ap (take mark) h.reasons ∙ take_front old.trail.reasons h.causes mark (count ∙ sym sound.paired) in
     λ i. record { clauses = h.clauses i; trail = record { greatest = h.greatest i; literals = lits i; reasons = reasons i }; units = h.units i }
 
-pub still_mark : (old now : Standing) (mark : ℕ) → IsMark old mark → Begins old now → IsMark now mark
+pub still_mark : (old now : Standing) (mark : ℕ) → IsMark old mark → StandsMore old now → IsMark now mark
 still_mark old now mark is h =
     let low = is.0 in
     let high = is.1 in
@@ -93,7 +93,7 @@ still_mark old now mark is h =
 
 -- ---- one literal after the other
 
-pub opposes_none : (s : Standing) (c : Clause) → IsFree s → OpposesFirst s s c 0
+pub opposes_none : (s : Standing) (c : Clause) → HasNoAssumption s → OpposesFirst s s c 0
 opposes_none s c free = record {
   begins = begins_now s;
   assumed = λ l h. absurd (contains_nil l (subst (λ (xs : List ℤ). Contains xs l) (free_assumes_none s free) h));
@@ -145,8 +145,8 @@ opposes_more old now next c n Known h sound below other a = known old now next c
 opposes_more old now next c n Opposed h sound below other a = absurd (other refl)
 
 -- one that stands is met
-pub opposed_met : (old now next : Standing) (c : Clause) (n : ℕ) → OpposesFirst old now c n → IsSound now → n < length c → Assumes now (neg_ℤ (at c n)) Opposed next → IsMet next c (at c n)
-opposed_met old now next c n h sound below a = subst (λ (s : Standing). IsMet s c (at c n)) (sym a.0) (record {
+pub opposed_met : (old now next : Standing) (c : Clause) (n : ℕ) → OpposesFirst old now c n → IsSound now → n < length c → Assumes now (neg_ℤ (at c n)) Opposed next → IsClauseMet next c (at c n)
+opposed_met old now next c n h sound below a = subst (λ (s : Standing). IsClauseMet s c (at c n)) (sym a.0) (record {
   sound = sound;
   assumed = h.assumed;
   has = contains_at c n below;

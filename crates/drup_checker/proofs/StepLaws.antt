@@ -6,25 +6,25 @@ use Rattle.std.proofs.lemmas.List.Quantifiers.{Any-push}
 use Rattle.graph_core.proofs.OfGraphs.CallerLemmas.{any_cases, any_front, any_here, any_nil, any_there}
 use Rattle.clause_core.specs.Clause.{Clause, IsSubset, SameSet}
 use Rattle.clause_core.specs.ClauseLines.{ClauseLine, added}
-use Rattle.clause_core.specs.Likeness.{AreAlike, AreSameSets}
+use Rattle.clause_core.specs.Likeness.{AreSameSets, HaveSameCopies}
 use Rattle.clause_core.specs.declared.line.Line.TheVariants.{Add, Delete}
 use Rattle.clause_core.proofs.CallerLemmas.{alike_adds, alike_any, alike_flip, alike_joins, alike_removes, alike_rup, removes_any, removes_some, same_alike, same_flip}
-use Rattle.drup_checker.specs.Checking.{Adds, Checking, Deletes, goal_at, kept, shown_at}
+use Rattle.drup_checker.specs.Checking.{AddsRup, Checking, Deletes, goal_at, kept, shown_at}
 use Rattle.drup_checker.specs.declared.keeps.Keeps.{Keeps}
 use Rattle.drup_checker.specs.declared.keeps.Keeps.TheVariants as keep
 use Rattle.drup_checker.specs.Steps.{AddedAreRight, HasAdded, HasShown, MarksAreRight, StepsAreLawful}
 
 -- a clause at the end, or at the front
-alike_end : (live : List Clause) (c : Clause) → AreAlike (live ++ c ∷ []) (c ∷ live)
+alike_end : (live : List Clause) (c : Clause) → HaveSameCopies (live ++ c ∷ []) (c ∷ live)
 alike_end [] c k = refl
 alike_end (d ∷ live) c k = let more = alike_end live c k in omega (arith, more)
 
 pub steps_are_lawful : StepsAreLawful
 steps_are_lawful = record {
-  begins = λ k cs given is same. subst (λ xs. AreAlike xs given) (sym is) (same_alike cs given same);
+  begins = λ k cs given is same. subst (λ xs. HaveSameCopies xs given) (sym is) (same_alike cs given same);
   adds = λ c d old new live alike same a. (
     alike_rup old.live live c d alike same a.follows,
-    subst (λ xs. AreAlike xs (d ∷ live)) (sym a.live) (alike_joins (old.live ++ c ∷ []) (c ∷ old.live) (d ∷ live) (alike_end old.live c) (alike_adds old.live live c d alike same)),
+    subst (λ xs. HaveSameCopies xs (d ∷ live)) (sym a.live) (alike_joins (old.live ++ c ∷ []) (c ∷ old.live) (d ∷ live) (alike_end old.live c) (alike_adds old.live live c d alike same)),
   );
   not_implied = λ c d old live alike same n rup. n (alike_rup live old.live d c (alike_flip old.live live alike) (same_flip c d same) rup);
   deletes = λ c d old new live alike same r.
@@ -49,7 +49,7 @@ any_end : (P : Clause → Type 0) (xs : List Clause) (c : Clause) → Any P (xs 
 any_end P [] c h = ⊎_elim inr (λ n. absurd (any_nil P n)) (any_cases P c [] h)
 any_end P (x ∷ xs) c h = ⊎_elim (λ p. inl (any_here P x xs p)) (λ r. ⊎_elim (λ a. inl (any_there P x xs a)) inr (any_end P xs c r)) (any_cases P x (xs ++ c ∷ []) h)
 
-marks_added : (c d : Clause) (old new : Checking) (lines : List ClauseLine) → HasShown old lines → SameSet c d → Adds c old new → HasShown new (lines ++ Add d ∷ [])
+marks_added : (c d : Clause) (old new : Checking) (lines : List ClauseLine) → HasShown old lines → SameSet c d → AddsRup c old new → HasShown new (lines ++ Add d ∷ [])
 marks_added c d old new lines h same a i below =
     let low : i < length old.goals = subst (λ gs. i < length gs) a.goals below in
     let before = h i low in
@@ -89,7 +89,7 @@ kept_more keep.Nothing cs d = refl
 kept_more keep.Clauses cs d = refl
 kept_more keep.Chains cs d = refl
 
-more_added : (c d : Clause) (old new : Checking) (lines : List ClauseLine) → HasAdded old lines → SameSet c d → Adds c old new → HasAdded new (lines ++ Add d ∷ [])
+more_added : (c d : Clause) (old new : Checking) (lines : List ClauseLine) → HasAdded old lines → SameSet c d → AddsRup c old new → HasAdded new (lines ++ Add d ∷ [])
 more_added c d old new lines h same a =
     let all : kept old.keeps (added lines) ++ kept old.keeps (d ∷ []) ≡ kept new.keeps (added (lines ++ Add d ∷ [])) =
     sym (kept_more old.keeps (added lines) d) ∙ ap (kept old.keeps) (sym (added_more lines d)) ∙ ap (λ (k : Keeps). kept k (added (lines ++ Add d ∷ []))) (sym a.keeps) in

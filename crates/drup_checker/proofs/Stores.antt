@@ -9,21 +9,21 @@ use Rattle.std.proofs.lemmas.List.{get_or-set_other, get_or-set_same, length_pus
 use Rattle.std.proofs.lemmas.List.Elements.{All-map}
 use Rattle.clause_core.specs.Clause.{Clause, IsClause, IsClauseInRange, SameSet}
 use Rattle.clause_core.proofs.CallerLemmas.{sets_are_lists}
-use Rattle.unit_prop.specs.Standing.{Adds, HasSetAt, Removes, Standing, clause_at, live_of}
+use Rattle.unit_prop.specs.Standing.{AddsClause, HasSetAt, RemovesClause, Standing, clause_at, live_of}
 use Rattle.unit_prop.proofs.CallerLemmas.{alone_is_free, none_live}
 use Rattle.unit_prop.proofs.Grounds.{clause_cases}
 use Rattle.unit_prop.proofs.VisitSteps.{live_below}
 use Rattle.clause_core.specs.ClauseLines.{Removes as RemovesOne}
 use Rattle.trim_core.specs.TightChains.{IsTightChain}
 use Rattle.drup_checker.specs.Checking.{Held, IsTightChainOf, LosesOne, Numbered, added_numbers, held, held_with, numbered_of}
-use Rattle.drup_checker.specs.Tightness.{AreTightAt, clause_in, clauses_at}
-use Rattle.drup_checker.specs.Chains.{AreFalling, IsStore, Leads, number_of}
+use Rattle.drup_checker.specs.Tightness.{AreTightAt, clause_or_empty, clauses_at}
+use Rattle.drup_checker.specs.Chains.{AreFalling, IsStore, Leads, clause_hash}
 use Rattle.drup_checker.proofs.LiveClauses.{live_more, live_of-append, loses_at, numbered_has, numbered_more, numbered_of-append, removes_at}
 use Rattle.drup_checker.proofs.Leading.{falls_longer, leads_new, leads_on, leads_still}
 
 -- one clause more
 module _ (max : ℕ) (s new : Standing) (heads next : List ℕ) (store : IsStore max s heads next) (c : Clause) (is : IsClause c) (range : IsClauseInRange max c)
-    (place : ℕ) (adds : Adds s c place new) (few : place < 2147483648) (chain : ℕ) (its : chain ≡ number_of c % length heads) (there : chain < length heads) where
+    (place : ℕ) (adds : AddsClause s c place new) (few : place < 2147483648) (chain : ℕ) (its : chain ≡ clause_hash c % length heads) (there : chain < length heads) where
   abbrev heads' : List ℕ
   heads' = slice_set heads chain (place + 1)
 
@@ -47,15 +47,15 @@ module _ (max : ℕ) (s new : Standing) (heads next : List ℕ) (store : IsStore
       (λ n. subst (λ (from : ℕ). Leads next' from r) (sym (others i n)) (leads_still next (slice_index heads chain) store.indexed.falls (store.indexed.first chain) (slice_index heads i) r (store.indexed.first i) h))
       (cases_eq i chain)
 
-  found_new : (r : ℕ) (d : Clause) → clause_at new.clauses r ≡ Some d → Leads next' (slice_index heads' (number_of d % length heads)) r
-  found_new r d e = ⊎_elim (λ old. still (number_of d % length heads) r (store.indexed.found r d old)) (λ f. newest f.0 f.1)
+  found_new : (r : ℕ) (d : Clause) → clause_at new.clauses r ≡ Some d → Leads next' (slice_index heads' (clause_hash d % length heads)) r
+  found_new r d e = ⊎_elim (λ old. still (clause_hash d % length heads) r (store.indexed.found r d old)) (λ f. newest f.0 f.1)
       (clause_cases s.clauses (Some c) r d (subst (λ (cs : List (Option Clause)). clause_at cs r ≡ Some d) adds.clauses e))
     where
-      newest : r ≡ length s.clauses → ◌≡◌ {A = Option Clause} (Some c) (Some d) → Leads next' (slice_index heads' (number_of d % length heads)) r
+      newest : r ≡ length s.clauses → ◌≡◌ {A = Option Clause} (Some c) (Some d) → Leads next' (slice_index heads' (clause_hash d % length heads)) r
       newest f g =
           let same : c ≡ d = cc in
           let at_r : r ≡ length next = f ∙ sym store.indexed.places in
-          let at_it : slice_index heads' (number_of d % length heads) ≡ suc (length next) = ap (λ (x : Clause). slice_index heads' (number_of x % length heads)) (sym same) ∙ (ap (slice_index heads') (sym its) ∙ at_chain) in
+          let at_it : slice_index heads' (clause_hash d % length heads) ≡ suc (length next) = ap (λ (x : Clause). slice_index heads' (clause_hash x % length heads)) (sym same) ∙ (ap (slice_index heads') (sym its) ∙ at_chain) in
           subst (λ (from : ℕ). Leads next' from r) (sym at_it) (subst (λ (q : ℕ). Leads next' (suc (length next)) q) (sym at_r) (leads_new next (slice_index heads chain) store.indexed.falls (store.indexed.first chain)))
 
   kept_new : (r : ℕ) (d : Clause) → clause_at new.clauses r ≡ Some d → IsClause d × IsClauseInRange max d
@@ -75,12 +75,12 @@ module _ (max : ℕ) (s new : Standing) (heads next : List ℕ) (store : IsStore
       first = λ i. ⊎_elim (λ e. let f = ap (slice_index heads') e ∙ at_chain in omega (arith, f, length_push next (slice_index heads chain)))
           (λ n. let f = others i n in let b = store.indexed.first i in omega (arith, f, b, length_push next (slice_index heads chain))) (cases_eq i chain);
       falls = falls_longer next (slice_index heads chain) store.indexed.falls (store.indexed.first chain);
-      found = λ r d e. subst (λ (n : ℕ). Leads next' (slice_index heads' (number_of d % n)) r) (sym (length-set heads chain (place + 1))) (found_new r d e);
+      found = λ r d e. subst (λ (n : ℕ). Leads next' (slice_index heads' (clause_hash d % n)) r) (sym (length-set heads chain (place + 1))) (found_new r d e);
     };
   }
 
 -- one clause less
-module _ (max : ℕ) (s new : Standing) (heads next : List ℕ) (store : IsStore max s heads next) (place : ℕ) (d : Clause) (live : clause_at s.clauses place ≡ Some d) (removes : Removes s place new)
+module _ (max : ℕ) (s new : Standing) (heads next : List ℕ) (store : IsStore max s heads next) (place : ℕ) (d : Clause) (live : clause_at s.clauses place ≡ Some d) (removes : RemovesClause s place new)
     (heads' next' : List ℕ) (chains : length heads' ≡ length heads) (places : length next' ≡ length next) (first : (i : ℕ) → slice_index heads i ≤ length next → slice_index heads' i ≤ length next')
     (falls : AreFalling next') (others : (i r : ℕ) → r ≢ place → Leads next (slice_index heads i) r → Leads next' (slice_index heads' i) r) where
   was_live : (r : ℕ) (e : Clause) → clause_at new.clauses r ≡ Some e → (r ≢ place) × (clause_at s.clauses r ≡ Some e)
@@ -108,21 +108,21 @@ module _ (max : ℕ) (s new : Standing) (heads next : List ℕ) (store : IsStore
       first = λ i. first i (store.indexed.first i);
       falls = falls;
       found = λ r e h. let w = was_live r e h in
-          subst (λ (n : ℕ). Leads next' (slice_index heads' (number_of e % n)) r) (sym chains) (others (number_of e % length heads) r w.0 (store.indexed.found r e w.1));
+          subst (λ (n : ℕ). Leads next' (slice_index heads' (clause_hash e % n)) r) (sym chains) (others (clause_hash e % length heads) r w.0 (store.indexed.found r e w.1));
     };
   }
 
 -- where the chain of a clause leads to none of its set, no live clause has it
-pub nowhere : (max : ℕ) (s : Standing) (heads next : List ℕ) → IsStore max s heads next → (c : Clause) → IsClause c → (chain head : ℕ) → chain ≡ number_of c % length heads → head ≡ slice_index heads chain
+pub nowhere : (max : ℕ) (s : Standing) (heads next : List ℕ) → IsStore max s heads next → (c : Clause) → IsClause c → (chain head : ℕ) → chain ≡ clause_hash c % length heads → head ≡ slice_index heads chain
     → ((r : ℕ) → HasSetAt s.clauses c r → Leads next head r → ⊥) → Any (λ d. SameSet d c) (live_of s.clauses) → ⊥
 nowhere max s heads next store c is chain head its begins none = none_live c s.clauses (λ r below has.
     let same : has.0 ≡ c = sets_are_lists has.0 c (store.kept r has.0 has.1).0 is has.2 in
-    let leads = subst (λ (x : Clause). Leads next (slice_index heads (number_of x % length heads)) r) same (store.indexed.found r has.0 has.1) in
+    let leads = subst (λ (x : Clause). Leads next (slice_index heads (clause_hash x % length heads)) r) same (store.indexed.found r has.0 has.1) in
     none r has (subst (λ (from : ℕ). Leads next from r) (ap (slice_index heads) (sym its) ∙ sym begins) leads))
 
 -- ---- what is seen of it
 
-pub held_more : (s new : Standing) (numbers : List ℕ) (h : Held) → held s numbers ≡ h → length numbers ≡ length s.clauses → (c : Clause) (number place : ℕ) → Adds s c place new → held new (numbers ++ number ∷ []) ≡ held_with h c number
+pub held_more : (s new : Standing) (numbers : List ℕ) (h : Held) → held s numbers ≡ h → length numbers ≡ length s.clauses → (c : Clause) (number place : ℕ) → AddsClause s c place new → held new (numbers ++ number ∷ []) ≡ held_with h c number
 held_more s new numbers h view even c number place adds =
     let max : new.trail.greatest ≡ h.max = adds.greatest ∙ ap (λ (k : Held). k.max) view in
     let live : live_of new.clauses ≡ h.live ++ c ∷ [] = ap live_of adds.clauses ∙ (live_of-append s.clauses c ∙ ap (λ (k : Held). k.live ++ c ∷ []) view) in
@@ -131,7 +131,7 @@ held_more s new numbers h view even c number place adds =
     ap (λ (cs : List (Option Clause)). numbered_of cs (numbers ++ number ∷ [])) adds.clauses ∙ (numbered_of-append s.clauses numbers c number even ∙ ap (λ (k : Held). k.numbered ++ one ∷ []) view) in
     λ i. record { max = max i; live = live i; numbered = numbered i }
 
-pub held_fewer : (s new : Standing) (numbers : List ℕ) (h : Held) → held s numbers ≡ h → length numbers ≡ length s.clauses → (c : Clause) (place : ℕ) → HasSetAt s.clauses c place → Removes s place new →
+pub held_fewer : (s new : Standing) (numbers : List ℕ) (h : Held) → held s numbers ≡ h → length numbers ≡ length s.clauses → (c : Clause) (place : ℕ) → HasSetAt s.clauses c place → RemovesClause s place new →
     RemovesOne h.live c (live_of new.clauses) × LosesOne c h.numbered (numbered_of new.clauses numbers) × (new.trail.greatest ≡ h.max)
 held_fewer s new numbers h view even c place has removes = (
   subst (λ (k : Held). RemovesOne k.live c (live_of new.clauses)) view (subst (λ (cs : List (Option Clause)). RemovesOne (live_of s.clauses) c (live_of cs)) (sym removes.clauses) (removes_at s.clauses place has.0 c has.1 has.2)),
@@ -168,20 +168,20 @@ renew_none s numbers h now n even below e was =
 
 -- ---- chains
 
-clause_some : (o : Option Clause) → IsSome o → o ≡ Some (clause_in o)
+clause_some : (o : Option Clause) → IsSome o → o ≡ Some (clause_or_empty o)
 clause_some None h = absurd (cc)
 clause_some (Some c) h = refl
 
 module _ (xs : List (Option Clause)) (numbers : List ℕ) (even : length numbers ≡ length xs) where
   abbrev one : ℕ → Numbered
-  one r = record { clause = clause_in (clause_at xs r); number = slice_index numbers r }
+  one r = record { clause = clause_or_empty (clause_at xs r); number = slice_index numbers r }
 
   all_live : (places : List ℕ) → All (λ r. IsSome (clause_at xs r)) places → All (Contains (numbered_of xs numbers)) (map one places)
-  all_live places h = All-map (Contains (numbered_of xs numbers)) one places (λ k d low. numbered_has xs numbers (slice_index_or places k d) (clause_in (clause_at xs (slice_index_or places k d))) even (clause_some (clause_at xs (slice_index_or places k d)) (h k d low)))
+  all_live places h = All-map (Contains (numbered_of xs numbers)) one places (λ k d low. numbered_has xs numbers (slice_index_or places k d) (clause_or_empty (clause_at xs (slice_index_or places k d))) even (clause_some (clause_at xs (slice_index_or places k d)) (h k d low)))
 
   clauses_same : (places : List ℕ) → map (λ (x : Numbered). x.clause) (map one places) ≡ clauses_at xs places
   clauses_same [] = refl
-  clauses_same (r ∷ places) = ap (λ (cs : List Clause). clause_in (clause_at xs r) ∷ cs) (clauses_same places)
+  clauses_same (r ∷ places) = ap (λ (cs : List Clause). clause_or_empty (clause_at xs r) ∷ cs) (clauses_same places)
 
   numbers_same : (places : List ℕ) → map (λ (x : Numbered). x.number) (map one places) ≡ map (λ r. slice_index numbers r) places
   numbers_same [] = refl

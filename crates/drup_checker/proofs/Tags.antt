@@ -11,7 +11,7 @@ use Rattle.graph_core.proofs.OfGraphs.CallerLemmas.{all_split}
 use Rattle.clause_core.specs.Clause.{Clause, SameSet}
 use Rattle.clause_core.specs.Likeness.{AreSameSets}
 use Rattle.clause_core.proofs.CallerLemmas.{any_here, any_there, contains_cases, contains_here, contains_nil, contains_there, same_flip}
-use Rattle.trim_core.specs.KeptClauses.{AreBelow, HasTightChain, IsNamed, IsNumbered}
+use Rattle.trim_core.specs.KeptClauses.{AreBelow, HasTightChain, IsGivenOrUsed, IsNumbered}
 use Rattle.drup_checker.specs.Checking.{IsTagged, IsTightChainOf, LosesOne, Numbered, unnumbered}
 
 -- ---- lists
@@ -92,14 +92,14 @@ module _ (given added : List Clause) where
           (All-from_recursion Tagged d.0 r.0, All-from_recursion Tagged (d.2 ∷ d.1) r.1)
 
   module _ (numbered : List Numbered) (tagged : AreTagged given added numbered) (c : Clause) (numbers : List ℕ) (t : IsTightChainOf numbered c numbers) where
-    by_number : (x : Numbered) (n : ℕ) → x.number ≡ n → Contains t.chain x → IsTagged given added x.clause n → IsNamed given added numbers x.clause
+    by_number : (x : Numbered) (n : ℕ) → x.number ≡ n → Contains t.chain x → IsTagged given added x.clause n → IsGivenOrUsed given added numbers x.clause
     by_number x zero e has tag = inl tag
     by_number x (suc i) e has tag =
         let in' : Contains numbers (suc i) = subst (λ (ns : List ℕ). Contains ns (suc i)) (sym t.numbers_are)
         (filter_has (λ n. nat_lt 0 n) (map (λ (y : Numbered). y.number) t.chain) (suc i) (lt-ltb 0 (suc i) (omega arith)) (subst (Contains (map (λ (y : Numbered). y.number) t.chain)) e (image_of (λ (y : Numbered). y.number) t.chain x has))) in
         inr (in'.0, suc i, in'.1, in'.2, (x.clause, tag, (λ l h. h, λ l h. h)))
 
-    named : (x : Numbered) → Contains t.chain x → Contains numbered x → IsNamed given added numbers x.clause
+    named : (x : Numbered) → Contains t.chain x → Contains numbered x → IsGivenOrUsed given added numbers x.clause
     named x has live = by_number x x.number refl has (All-contains (λ (y : Numbered). IsTagged given added y.clause y.number) numbered x tagged live)
 
     -- a number is that of a clause of the chain
@@ -120,7 +120,7 @@ module _ (given added : List Clause) where
     chain_of_tagged = record {
       chain = map (λ (x : Numbered). x.clause) t.chain;
       tight = t.tight;
-      named = All-map (IsNamed given added numbers) (λ (x : Numbered). x.clause) t.chain (λ i d low. named (slice_index_or t.chain i d) (Contains-get_or t.chain i d low) (t.are_live i d low));
+      named = All-map (IsGivenOrUsed given added numbers) (λ (x : Numbered). x.clause) t.chain (λ i d low. named (slice_index_or t.chain i d) (Contains-get_or t.chain i d low) (t.are_live i d low));
       only = λ i d low.
           let o = numbered_one (slice_index_or numbers i d) (Contains-get_or numbers i d low) in
           let has = image_of (λ (x : Numbered). x.clause) t.chain o.0 o.1 in

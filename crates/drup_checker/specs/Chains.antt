@@ -5,7 +5,7 @@ use Rattle.std.specs.declared.option.Option.{Option}
 use Rattle.std.specs.declared.option.Option.TheVariants.{Some}
 use Rattle.std.specs.List.{fold}
 use Rattle.clause_core.specs.Clause.{Clause, IsClause, IsClauseInRange}
-use Rattle.unit_prop.specs.Standing.{IsFree, Standing, clause_at}
+use Rattle.unit_prop.specs.Standing.{HasNoAssumption, Standing, clause_at}
 
 -- a number and a literal make a number
 abbrev pub mix : ℕ → ℤ → ℕ
@@ -13,8 +13,8 @@ mix h (pos v) = (h * 1000003 + 2 * v) % 4294967291
 mix h (negsuc v) = (h * 1000003 + (2 * v + 3)) % 4294967291
 
 -- the number of a clause
-abbrev pub number_of : Clause → ℕ
-number_of c = fold mix 0 c
+abbrev pub clause_hash : Clause → ℕ
+clause_hash c = fold mix 0 c
 
 -- in so many steps a chain leads from here to the place
 abbrev pub LeadsIn : ℕ → List ℕ → ℕ → ℕ → Type 0
@@ -30,21 +30,21 @@ abbrev pub AreFalling : List ℕ → Type 0
 AreFalling next = (p : ℕ) → slice_index next p ≤ p
 
 -- each live clause is found in the chain of its number
-pub record AreIndexed (heads next : List ℕ) (clauses : List (Option Clause)) : Type 0 where
+pub record AreInChains (heads next : List ℕ) (clauses : List (Option Clause)) : Type 0 where
   pub some : 0 < length heads
   pub places : length next ≡ length clauses
   pub first : (i : ℕ) → slice_index heads i ≤ length next
   pub falls : AreFalling next
-  pub found : (r : ℕ) (c : Clause) → clause_at clauses r ≡ Some c → Leads next (slice_index heads (number_of c % length heads)) r
+  pub found : (r : ℕ) (c : Clause) → clause_at clauses r ≡ Some c → Leads next (slice_index heads (clause_hash c % length heads)) r
 
 -- What a store keeps: nothing is assumed, and each live clause is as it is kept, in range, and found.
 pub record IsStore (max : ℕ) (s : Standing) (heads next : List ℕ) : Type 0 where
   pub greatest : s.trail.greatest ≡ max
   pub small : max < 2147483648
   pub few : length next ≤ 2147483648
-  pub free : IsFree s
+  pub free : HasNoAssumption s
   pub kept : (r : ℕ) (c : Clause) → clause_at s.clauses r ≡ Some c → IsClause c × IsClauseInRange max c
-  pub indexed : AreIndexed heads next s.clauses
+  pub indexed : AreInChains heads next s.clauses
 
 -- and each place has a number
 pub record IsNumberedStore (max : ℕ) (s : Standing) (heads next numbers : List ℕ) : Type 0 where

@@ -115,7 +115,7 @@ pub record AreChained (gates : List Gate) (numbered : List Numbered) (added : Li
   pub counted : count ≡ length added
 
 -- Each live clause holds on every evaluation of the gates, and so does each that was added; there is a place for each goal.
-pub record IsKept (gates : List Gate) (h : Held) (goals : List Goal) (shown : List Bool) (keeps : Keeps) (added : List Clause)
+pub record KeepsClauses (gates : List Gate) (h : Held) (goals : List Goal) (shown : List Bool) (keeps : Keeps) (added : List Clause)
     (uses : List (List ℕ)) (count : ℕ) : Type 0 where
   pub facts : All (IsClauseFact gates) h.live
   pub places : length shown ≡ length goals
@@ -140,7 +140,7 @@ abbrev pub more : ℕ → ℕ
 more n = min (n + 1) (2 ^ 64 - 1)
 
 -- A clause that follows is added: it is live under the next number, and it may show goals.
-pub record Adds (c : Clause) (old new : Checking) : Type 0 where
+pub record AddsRup (c : Clause) (old new : Checking) : Type 0 where
   pub follows : IsRup old.live c
   pub live : new.live ≡ old.live ++ c ∷ []
   pub shown : ShowsBy c old.goals old.shown new.shown

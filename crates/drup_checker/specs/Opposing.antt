@@ -10,7 +10,7 @@ abbrev pub IsLiteralOf : ℕ → ℤ → Type 0
 IsLiteralOf max l = (l ≢ pos 0) × (nat_abs l ≤ max)
 
 -- More stands, by assumption or by clauses; nothing else changed.
-pub record Begins (old now : Standing) : Type 0 where
+pub record StandsMore (old now : Standing) : Type 0 where
   pub literals : List ℤ
   pub causes : List (Option ℕ)
   pub clauses : now.clauses ≡ old.clauses
@@ -21,7 +21,7 @@ pub record Begins (old now : Standing) : Type 0 where
 
 -- The negations of the first n literals stand, and nothing but negations of the clause's literals was assumed.
 pub record OpposesFirst (old now : Standing) (c : Clause) (n : ℕ) : Type 0 where
-  pub begins : Begins old now
+  pub begins : StandsMore old now
   pub assumed : IsSubset (assumed_of now) (map neg_ℤ c)
   pub standing : (i : ℕ) → i < n → Contains now.trail.literals (neg_ℤ (slice_index_or c i (pos 0)))
 
@@ -29,7 +29,7 @@ abbrev pub Opposes : Standing → Standing → Clause → Type 0
 Opposes old now c = OpposesFirst old now c (length c)
 
 -- A literal of the clause stands, and nothing but negations of the clause's literals was assumed.
-pub record IsMet (now : Standing) (c : Clause) (l : ℤ) : Type 0 where
+pub record IsClauseMet (now : Standing) (c : Clause) (l : ℤ) : Type 0 where
   pub sound : IsSound now
   pub assumed : IsSubset (assumed_of now) (map neg_ℤ c)
   pub has : Contains c l

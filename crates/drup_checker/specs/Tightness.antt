@@ -6,31 +6,31 @@ use Rattle.std.specs.List.{All, Any, Contains}
 use Rattle.clause_core.specs.Clause.{Clause, IsSubset}
 use Rattle.trim_core.specs.TightChains.{IsTight, IsTightChain}
 use Rattle.unit_prop.specs.Standing.{Standing, at, clause_at}
-use Rattle.unit_prop.specs.Trail.{variable}
+use Rattle.unit_prop.specs.Trail.{signed_variable}
 
 -- the clause of a place, if it is live
-abbrev pub clause_in : Option Clause → Clause
-clause_in None = []
-clause_in (Some c) = c
+abbrev pub clause_or_empty : Option Clause → Clause
+clause_or_empty None = []
+clause_or_empty (Some c) = c
 
 abbrev pub clauses_at : List (Option Clause) → List ℕ → List Clause
-clauses_at clauses places = map (λ r. clause_in (clause_at clauses r)) places
+clauses_at clauses places = map (λ r. clause_or_empty (clause_at clauses r)) places
 
 -- a variable was marked
-abbrev pub IsSeen : List Bool → ℕ → Type 0
-IsSeen seen v = slice_index_or seen v false ≡ true
+abbrev pub IsVariableSeen : List Bool → ℕ → Type 0
+IsVariableSeen seen v = slice_index_or seen v false ≡ true
 
 -- The variables of some literals are marked beside those that were.
 pub record Marks (lits : List ℤ) (old new : List Bool) : Type 0 where
   pub places : length new ≡ length old
-  pub now : (k : ℤ) → Contains lits k → IsSeen new (variable k)
-  pub still : (v : ℕ) → IsSeen old v → IsSeen new v
-  pub only : (v : ℕ) → IsSeen new v → IsSeen old v ⊎ ((k : ℤ) × Contains lits k × (variable k ≡ v))
+  pub now : (k : ℤ) → Contains lits k → IsVariableSeen new (signed_variable k)
+  pub still : (v : ℕ) → IsVariableSeen old v → IsVariableSeen new v
+  pub only : (v : ℕ) → IsVariableSeen new v → IsVariableSeen old v ⊎ ((k : ℤ) × Contains lits k × (signed_variable k ≡ v))
 
 -- Each literal of the clause is false by the first literals that stand; or it is false by what is opposed, and none of these is of its variable.
 abbrev pub IsOpposedBefore : Standing → ℕ → List ℤ → Clause → Type 0
 IsOpposedBefore s n opposed c = (k : ℤ) → Contains c k → Contains (take n s.trail.literals) (neg_ℤ k) ⊎
-    (Contains opposed (neg_ℤ k) × ((j : ℕ) → j < n → variable (at s.trail.literals j) ≢ variable k))
+    (Contains opposed (neg_ℤ k) × ((j : ℕ) → j < n → signed_variable (at s.trail.literals j) ≢ signed_variable k))
 
 -- Whatever has what is opposed and the marked ones of the first n literals is refuted by a tight chain, that of the places from the last one
 -- on; and it needs each of them.
@@ -38,9 +38,9 @@ pub record IsReached (s : Standing) (opposed : List ℤ) (seen : List Bool) (pla
   pub size : length seen ≡ suc s.trail.greatest
   pub live : All (λ r. IsSome (clause_at s.clauses r)) (reverse places)
   pub tight : (acc : List ℤ) → IsSubset opposed acc →
-      ((j : ℕ) → j < n → IsSeen seen (variable (at s.trail.literals j)) → Contains acc (at s.trail.literals j)) →
+      ((j : ℕ) → j < n → IsVariableSeen seen (signed_variable (at s.trail.literals j)) → Contains acc (at s.trail.literals j)) →
       IsTight acc (clauses_at s.clauses (reverse places))
-  pub needed : (j : ℕ) → j < n → j < length s.trail.literals → IsSeen seen (variable (at s.trail.literals j)) →
+  pub needed : (j : ℕ) → j < n → j < length s.trail.literals → IsVariableSeen seen (signed_variable (at s.trail.literals j)) →
       Any (λ e. Contains e (neg_ℤ (at s.trail.literals j))) (clauses_at s.clauses (reverse places))
 
 -- live clauses that are a tight chain for a clause

@@ -1,6 +1,6 @@
 // Chains by which the place of a clause is found.
 ghost use Rattle.std.specs.Prelude.{◌≡◌, ◌≢◌, ◌+◌, ◌%◌, ◌<◌, ◌≤◌, ℕ, length, slice_index, IfSome, IsNone};
-ghost use Rattle.drup_checker.specs.Chains.{AreFalling, Leads, mix, number_of};
+ghost use Rattle.drup_checker.specs.Chains.{AreFalling, Leads, clause_hash, mix};
 ghost use Rattle.unit_prop.specs.Standing.{HasSetAt};
 
 use clause_core::Clause;
@@ -12,7 +12,7 @@ const NUMBERS: u64 = 4294967291;
 /// The chain of a clause among so many.
 pub(crate) fn chain_of(clause: &Clause, chains: usize) -> usize
     requires { 0 < chains }
-    ensures value { result ≡ number_of clause.now % chains }
+    ensures value { result ≡ clause_hash clause.now % chains }
     ensures bound { result < chains }
 {
     let mut number = 0;

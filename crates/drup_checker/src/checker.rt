@@ -6,7 +6,7 @@ ghost use Rattle.clause_core.specs.Facts.{IsClauseFact};
 ghost use Rattle.clause_core.specs.GateClauses.{gate_clauses};
 ghost use Rattle.clause_core.specs.Likeness.{AreSameSets};
 ghost use Rattle.clause_core.specs.UnitPropagation.{IsRup};
-ghost use Rattle.drup_checker.specs.Checking.{Adds, Deletes, IsLeastUnshown, IsNowhere, IsTightChainOf, Starts};
+ghost use Rattle.drup_checker.specs.Checking.{AddsRup, Deletes, IsLeastUnshown, IsNowhere, IsTightChainOf, Starts};
 ghost use Rattle.trim_core.specs.KeptClauses.{AreEarlier, HaveTightChains};
 
 use crate::fault::{AddFail, NoSuchClause};
@@ -38,13 +38,13 @@ pub struct Checker<'a> {
 }
 
 impl<'a> Model for Checker<'a> {
-    ghost use Rattle.drup_checker.specs.Checking.{Checking, IsKept, checking};
+    ghost use Rattle.drup_checker.specs.Checking.{Checking, KeepsClauses, checking};
 
     ghost Value = { Checking };
 
     ghost view = { λ c. checking c.gates.now c.store c.goals.now c.shown.items c.keeps c.recorded.added c.recorded.uses.items c.count };
 
-    ghost invariant = { λ c. IsKept c.gates.now c.store c.goals.now c.shown.items c.keeps c.recorded.added c.recorded.uses.items c.count };
+    ghost invariant = { λ c. KeepsClauses c.gates.now c.store c.goals.now c.shown.items c.keeps c.recorded.added c.recorded.uses.items c.count };
 }
 
 impl<'a> Checker<'a> {
@@ -83,7 +83,7 @@ impl<'a> Checker<'a> {
     /// A line that adds the clause: it has to follow from the live ones.
     pub fn add(&mut self, clause: &Clause) -> Result<(), AddFail>
         requires in_range { IsClauseInRange self.old.max clause.now }
-        ensures ok { OnOk result (Adds clause.now self.old self.new) }
+        ensures ok { OnOk result (AddsRup clause.now self.old self.new) }
         ensures not_implied { IsErrOf result AddFail.NotImplied ↔ ¬ (IsRup self.old.live clause.now) }
         ensures unchanged { OnErr result (self.new ≡ self.old) }
     {

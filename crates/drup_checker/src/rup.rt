@@ -2,15 +2,15 @@
 ghost use Rattle.std.specs.Prelude.{◌≡◌, ◌↔◌, ◌<◌, ◌^◌, nat_abs, neg_ℤ, IfSome, IsNone, IsSome, IsTrue};
 ghost use Rattle.clause_core.specs.Clause.{IsClauseInRange};
 ghost use Rattle.clause_core.specs.UnitPropagation.{IsRup};
-ghost use Rattle.drup_checker.specs.Opposing.{Begins, IsLiteralOf, IsMet, Opposes};
-ghost use Rattle.unit_prop.specs.Standing.{Assumes, IsFree, IsSound, live_of};
+ghost use Rattle.drup_checker.specs.Opposing.{IsClauseMet, IsLiteralOf, Opposes, StandsMore};
+ghost use Rattle.unit_prop.specs.Standing.{Assumes, HasNoAssumption, IsSound, live_of};
 
 use clause_core::Clause;
 use unit_prop::{Assumed, Propagator};
 
 // Whether the clause follows from the live ones; nothing stays assumed.
 pub(crate) fn is_rup(propagator: &mut Propagator, clause: &Clause) -> bool
-    requires free { IsFree propagator.old }
+    requires free { HasNoAssumption propagator.old }
     requires in_range { IsClauseInRange propagator.old.trail.greatest clause.now }
     ensures rup { IsTrue result ↔ IsRup (live_of propagator.old.clauses) clause.now }
     ensures kept { propagator.new ≡ propagator.old }
@@ -23,12 +23,12 @@ pub(crate) fn is_rup(propagator: &mut Propagator, clause: &Clause) -> bool
 
 /// Assumes the negation of each literal, up to one that stands.
 pub(crate) fn oppose_all(propagator: &mut Propagator, clause: &Clause) -> Option<i32>
-    requires free { IsFree propagator.old }
+    requires free { HasNoAssumption propagator.old }
     requires in_range { IsClauseInRange propagator.old.trail.greatest clause.now }
-    ensures opposed { IfSome result (IsMet propagator.new clause.now) }
+    ensures opposed { IfSome result (IsClauseMet propagator.new clause.now) }
     ensures follows { IsSome result → IsRup (live_of propagator.old.clauses) clause.now }
     ensures all { IsNone result → Opposes propagator.old propagator.new clause.now }
-    ensures begins { Begins propagator.old propagator.new }
+    ensures begins { StandsMore propagator.old propagator.new }
 {
     for &lit in clause.lits() {
         if let Assumed::Opposed = oppose(propagator, lit) {
@@ -48,10 +48,10 @@ pub(crate) fn negation(lit: i32) -> i32
 
 // whether propagation from the negation of each literal meets a conflict
 fn refutes(propagator: &mut Propagator, clause: &Clause) -> bool
-    requires free { IsFree propagator.old }
+    requires free { HasNoAssumption propagator.old }
     requires in_range { IsClauseInRange propagator.old.trail.greatest clause.now }
     ensures rup { IsTrue result ↔ IsRup (live_of propagator.old.clauses) clause.now }
-    ensures begins { Begins propagator.old propagator.new }
+    ensures begins { StandsMore propagator.old propagator.new }
 {
     if oppose_all(propagator, clause).is_some() {
         return true;

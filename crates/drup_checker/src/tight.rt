@@ -3,10 +3,10 @@ ghost use Rattle.std.specs.Prelude.{◌≡◌, ◌↔◌, ◌<◌, ◌≤◌, ma
 ghost use Rattle.std.specs.List.{All, Contains};
 ghost use Rattle.clause_core.specs.Clause.{Clause as Literals, IsClauseInRange, IsSubset};
 ghost use Rattle.clause_core.specs.UnitPropagation.{IsRup, IsTautology};
-ghost use Rattle.drup_checker.specs.Opposing.{Begins};
+ghost use Rattle.drup_checker.specs.Opposing.{StandsMore};
 ghost use Rattle.drup_checker.specs.Tightness.{AreTightAt, IsOpposedBefore, IsReached, Marks};
-ghost use Rattle.unit_prop.specs.Standing.{IsFree, IsSound, assumed_of, at, clause_at, live_of};
-ghost use Rattle.unit_prop.specs.Trail.{variable};
+ghost use Rattle.unit_prop.specs.Standing.{HasNoAssumption, IsSound, assumed_of, at, clause_at, live_of};
+ghost use Rattle.unit_prop.specs.Trail.{signed_variable};
 
 use crate::rup::oppose_all;
 use crate::tautology::is_tautology;
@@ -23,7 +23,7 @@ pub(crate) fn tight_chain(
     propagator: &mut Propagator,
     clause: &Clause,
 ) -> Result<Option<Vec<u32>>, Memory>
-    requires free { IsFree propagator.old }
+    requires free { HasNoAssumption propagator.old }
     requires max { propagator.old.trail.greatest ≡ max }
     requires in_range { IsClauseInRange max clause.now }
     ensures some { IfOk result (λ places. IfSome places (λ p. AreTightAt propagator.old.clauses clause.now p.items)) }
@@ -32,25 +32,25 @@ pub(crate) fn tight_chain(
     ensures kept { propagator.new ≡ propagator.old }
 {
     let mark = propagator.mark();
-    let places = refuting(alloc, max, propagator, clause);
+    let places = find_chain(alloc, max, propagator, clause);
     propagator.back_to(mark);
     places
 }
 
 // The chain that refutes the negation of each literal.
-fn refuting(
+fn find_chain(
     alloc: Global,
     max: u32,
     propagator: &mut Propagator,
     clause: &Clause,
 ) -> Result<Option<Vec<u32>>, Memory>
-    requires free { IsFree propagator.old }
+    requires free { HasNoAssumption propagator.old }
     requires max { propagator.old.trail.greatest ≡ max }
     requires in_range { IsClauseInRange max clause.now }
     ensures some { IfOk result (λ places. IfSome places (λ p. AreTightAt propagator.old.clauses clause.now p.items)) }
     ensures none { IfOk result (λ places. IsNone places ↔ ¬ (IsRup (live_of propagator.old.clauses) clause.now)) }
     ensures err { OnErr result (IsRup (live_of propagator.old.clauses) clause.now) }
-    ensures begins { Begins propagator.old propagator.new }
+    ensures begins { StandsMore propagator.old propagator.new }
 {
     if let Some(lit) = oppose_all(propagator, clause) {
         return Ok(Some(chain_to(alloc, max, propagator, clause, lit)?));
@@ -149,7 +149,7 @@ fn explain(
 
 // Marks the variables of a clause.
 fn mark(seen: &mut [bool], clause: &Clause)
-    requires { All (λ l. variable l < length seen.old) clause.now }
+    requires { All (λ l. signed_variable l < length seen.old) clause.now }
     ensures { Marks clause.now seen.old seen.new }
 {
     for &lit in clause.lits() {
@@ -159,7 +159,7 @@ fn mark(seen: &mut [bool], clause: &Clause)
 
 // The variable of a literal.
 fn variable_of(lit: i32) -> u32
-    ensures { result ≡ variable lit }
+    ensures { result ≡ signed_variable lit }
 {
     lit.unsigned_abs()
 }

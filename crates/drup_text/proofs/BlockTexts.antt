@@ -9,15 +9,15 @@ use Rattle.std.proofs.Common.{refl, sym, ap, subst, ◌∙◌, arith, length}
 use Rattle.graph_core.specs.Graph.Extended.{Extended}
 use Rattle.graph_core.specs.Text.Numerals.{◌>>=◌, number_at, front_at}
 use Rattle.graph_core.specs.Text.Readers.{text_at, then_at}
-use Rattle.mv_desk.specs.declared.faults.LineFail.{LineFail}
+use Rattle.mv_text.specs.declared.line_fail.LineFail.{LineFail}
 use Rattle.mv_text.proofs.CallerLemmas.{misfit_from}
 use Rattle.mv_text.specs.Steps.{IsMisfit, Takes, begins}
 use Rattle.ripple_graft.proofs.GraftedGraphs.{reach_is}
 use Rattle.drup_text.specs.ClauseReading.{block_line_at, carry_at, count_line_at, head_from, two_at}
 use Rattle.drup_text.specs.ClauseTexts.{IsBlockLine, IsCountLine}
-use Rattle.mv_text.specs.CertificateFiles.{IsRefusedText}
+use Rattle.mv_text.specs.CertificateFiles.{SaysNothing}
 use Rattle.drup_text.specs.LineTexts.{IsBlockTextOf, IsCountInRange, IsCountTextOf, IsHeadOf}
-use Rattle.drup_text.specs.Steps.{AreUpTo}
+use Rattle.drup_text.specs.Steps.{AreBothUpTo}
 use Rattle.drup_text.proofs.ClauseReading.{reads_block_line, reads_count_line}
 use Rattle.drup_text.proofs.WholeTexts.{left_over, misfit_refused, out_of_range, said}
 
@@ -81,7 +81,7 @@ head_read : (bytes mid rest new : List ℕ) (n : ℕ × ℕ) (c : Bool) → fron
 unfolding block_line_at
 head_read bytes mid rest new n c e h k = rw (e, h, k) refl
 
-pub head_some : (x : Extended) (outputs : ℕ) (old mid rest new : List ℕ) (n : ℕ × ℕ) (c : Bool) → front_at (codes "replace ") old ≡ Some mid → Takes two_at (AreUpTo outputs) IsSame mid rest (Some n) → carry_at rest ≡ Some (c, new) →
+pub head_some : (x : Extended) (outputs : ℕ) (old mid rest new : List ℕ) (n : ℕ × ℕ) (c : Bool) → front_at (codes "replace ") old ≡ Some mid → Takes two_at (AreBothUpTo outputs) IsSame mid rest (Some n) → carry_at rest ≡ Some (c, new) →
     IsHeadOf x (n.0, n.1, c) → Takes block_line_at (IsHeadOf x) IsSame old new (Some (n.0, n.1, c))
 head_some x outputs old mid rest new n c e h k is = record {
   read = (h.read.0, h.read.1, c);
@@ -89,7 +89,7 @@ head_some x outputs old mid rest new n c e h k is = record {
   gives = (subst (λ (m : ℕ × ℕ). IsHeadOf x (m.0, m.1, c)) (sym h.gives.1) is, ap (λ (m : ℕ × ℕ). (m.0, m.1, c)) h.gives.1);
 }
 
-pub head_other : (x : Extended) (outputs : ℕ) (old mid rest new : List ℕ) (n : ℕ × ℕ) (c : Bool) → front_at (codes "replace ") old ≡ Some mid → Takes two_at (AreUpTo outputs) IsSame mid rest (Some n) → carry_at rest ≡ Some (c, new) →
+pub head_other : (x : Extended) (outputs : ℕ) (old mid rest new : List ℕ) (n : ℕ × ℕ) (c : Bool) → front_at (codes "replace ") old ≡ Some mid → Takes two_at (AreBothUpTo outputs) IsSame mid rest (Some n) → carry_at rest ≡ Some (c, new) →
     ¬ (IsHeadOf x (n.0, n.1, c)) → Takes block_line_at (IsHeadOf x) IsSame old new None
 head_other x outputs old mid rest new n c e h k other = record {
   read = (h.read.0, h.read.1, c);
@@ -98,7 +98,7 @@ head_other x outputs old mid rest new n c e h k other = record {
 }
 
 -- numbers above that of the outputs
-pub head_none : (x : Extended) (outputs : ℕ) (old mid rest new : List ℕ) (c : Bool) → outputs ≡ length x.graph.outputs → front_at (codes "replace ") old ≡ Some mid → Takes two_at (AreUpTo outputs) IsSame mid rest None → carry_at rest ≡ Some (c, new) →
+pub head_none : (x : Extended) (outputs : ℕ) (old mid rest new : List ℕ) (c : Bool) → outputs ≡ length x.graph.outputs → front_at (codes "replace ") old ≡ Some mid → Takes two_at (AreBothUpTo outputs) IsSame mid rest None → carry_at rest ≡ Some (c, new) →
     Takes block_line_at (IsHeadOf x) IsSame old new None
 head_none x outputs old mid rest new c all e h k = record {
   read = (h.read.0, h.read.1, c);
@@ -119,7 +119,7 @@ count_over outputs bytes rest given some h = left_over reads_count_line tt (IsCo
 pub count_out : (outputs : ℕ) (bytes rest : List ℕ) (given : Option ℕ) → rest ≡ [] → given ≡ None → Takes count_line_at (IsCountInRange outputs) IsSame bytes rest given → (n : ℕ) × IsCountLine bytes n × ¬ (IsCountInRange outputs n)
 count_out outputs bytes rest given e f h = out_of_range reads_count_line tt (IsCountInRange outputs) IsSame bytes rest given e f h
 
-pub count_misfit : (outputs : ℕ) (bytes : List ℕ) (f : LineFail) → IsMisfit (count_line_at bytes ≡ None) f → IsRefusedText IsCountLine (IsCountInRange outputs) bytes f
+pub count_misfit : (outputs : ℕ) (bytes : List ℕ) (f : LineFail) → IsMisfit (count_line_at bytes ≡ None) f → SaysNothing IsCountLine (IsCountInRange outputs) bytes f
 count_misfit outputs bytes f h = misfit_refused {T = ℕ} reads_count_line tt (IsCountInRange outputs) IsSame bytes f h
 
 pub head_said : (x : Extended) (bytes rest : List ℕ) (given : Option (ℕ × ℕ × Bool)) (d : ℕ × ℕ × Bool) → rest ≡ [] → given ≡ Some d → Takes block_line_at (IsHeadOf x) IsSame bytes rest given → IsBlockTextOf x bytes d
@@ -133,5 +133,5 @@ head_over x bytes rest given some h = left_over reads_block_line tt (IsHeadOf x)
 pub head_out : (x : Extended) (bytes rest : List ℕ) (given : Option (ℕ × ℕ × Bool)) → rest ≡ [] → given ≡ None → Takes block_line_at (IsHeadOf x) IsSame bytes rest given → (d : ℕ × ℕ × Bool) × IsBlockLine bytes d × ¬ (IsHeadOf x d)
 head_out x bytes rest given e f h = out_of_range reads_block_line tt (IsHeadOf x) IsSame bytes rest given e f h
 
-pub head_misfit : (x : Extended) (bytes : List ℕ) (f : LineFail) → IsMisfit (block_line_at bytes ≡ None) f → IsRefusedText IsBlockLine (IsHeadOf x) bytes f
+pub head_misfit : (x : Extended) (bytes : List ℕ) (f : LineFail) → IsMisfit (block_line_at bytes ≡ None) f → SaysNothing IsBlockLine (IsHeadOf x) bytes f
 head_misfit x bytes f h = misfit_refused {T = ℕ × ℕ × Bool} reads_block_line tt (IsHeadOf x) IsSame bytes f h

@@ -15,8 +15,8 @@ use Rattle.ripple_graft.specs.Blocks.{graft_all, graft_block, with_blocks}
 use Rattle.ripple_graft.specs.HeaderBlocks.{cut_blocks}
 use Rattle.drup_text.specs.declared.head.Header.{Header}
 use Rattle.drup_text.specs.ClauseTexts.{AreLinesOf, IsPairLine}
-use Rattle.drup_text.specs.PassingHeaders.{PassBlocks, PassesAnyHeader, PassesCount, PassesCut, block_lines, lines_in}
-use Rattle.drup_text.specs.HeaderRefusal.{LineCause, IsFirstRefusal, IsHeaderRefusal, IsPairStep, IsRefusedBehindCut, IsRefusedBlocks, IsRefusedCount, IsRefusedCut, Later, cut_at, nothing_later}
+use Rattle.drup_text.specs.PassingHeaders.{PassBlocks, PassesAnyHeader, PassesCount, PassesCut, block_lines, header_line_count}
+use Rattle.drup_text.specs.HeaderRefusal.{LineCause, IsFirstHeaderRefusal, IsClauseHeaderRefusal, IsPairStep, IsRefusedBehindCut, IsRefusedBlocks, IsRefusedCount, IsRefusedCut, Later, cut_at, nothing_later}
 use Rattle.drup_text.specs.Headers.{AreBlockTexts, IsAnyHeaderText, IsBlocksText, IsCutText, extended_with}
 use Rattle.drup_text.proofs.BlockSteps.{block_passes_on, blocks_whatever, pairs_pass_on, pairs_whatever}
 
@@ -65,7 +65,7 @@ module _ (later : Later) (g : Aig) where
             (λ c. inr (c.0, c.1, c.2, ⊎_elim (λ f. inl f) (λ r. inr (r.0, blocks_whatever later IsLong c.0 (without_cut g) 3 c.1 p r.1)) c.3)) l.1,
       )) h
 
-  pub header_anyhow : (lengths : Lengths) (bytes : List ℕ) (p : ℕ × LineCause) → IsHeaderRefusal g lengths bytes p → IsFirstRefusal later g lengths bytes p
+  pub header_anyhow : (lengths : Lengths) (bytes : List ℕ) (p : ℕ × LineCause) → IsClauseHeaderRefusal g lengths bytes p → IsFirstHeaderRefusal later g lengths bytes p
   header_anyhow lengths bytes p h =
       let IsLong = IsTooLong lengths (length bytes) in
       ⊎_elim (λ f. inl f)
@@ -78,7 +78,7 @@ module _ (later : Later) (g : Aig) where
   -- ---- what is refused behind a header that passes
 
   cut_behind : (IsLong : List ℕ → Type 0) (bytes : List ℕ) (cut : Option Cut) (body : List ℕ) (p : ℕ × LineCause) → PassesCut g IsLong bytes cut body →
-      later (with_blocks g (cut_blocks (length g.outputs) cut)) (lines_in 1 (cut_blocks (length g.outputs) cut) + 1) body p → IsRefusedCut later g IsLong bytes p
+      later (with_blocks g (cut_blocks (length g.outputs) cut)) (header_line_count 1 (cut_blocks (length g.outputs) cut) + 1) body p → IsRefusedCut later g IsLong bytes p
   cut_behind IsLong bytes None body p h refused = inr (h.0, inr (None, body, h.1, refused))
   cut_behind IsLong bytes (Some cut) body p h refused =
       let next = subst (λ n. later (cut_at g cut.lo cut.pairs) n body p) (number (length cut.pairs)) refused in
@@ -102,17 +102,17 @@ module _ (later : Later) (g : Aig) where
       further n k = omega arith
 
   count_behind : (IsLong : List ℕ → Type 0) (bytes : List ℕ) (blocks : List Block) (body : List ℕ) (p : ℕ × LineCause) → PassesCount g IsLong bytes blocks body →
-      later (with_blocks g blocks) (lines_in 2 blocks + 1) body p → IsRefusedCount later g IsLong bytes p
+      later (with_blocks g blocks) (header_line_count 2 blocks + 1) body p → IsRefusedCount later g IsLong bytes p
   count_behind IsLong bytes blocks body p h refused =
       inr (h.1, inr (length blocks, h.0, h.2, inr (h.3, blocks_behind IsLong (without_cut g) 3 blocks h.0 body p h.4 (subst (λ n. later (with_blocks g blocks) n body p) (number (block_lines 1 blocks)) refused))))
     where
       number : (n : ℕ) → 2 + n + 1 ≡ 3 + n
       number n = omega arith
 
-  pub behind_header : (lengths : Lengths) (bytes : List ℕ) (h : Header) (body : List ℕ) (p : ℕ × LineCause) → PassesAnyHeader g lengths bytes h body → later (extended_with g h) (lines_in h.version h.blocks + 1) body p → IsFirstRefusal later g lengths bytes p
+  pub behind_header : (lengths : Lengths) (bytes : List ℕ) (h : Header) (body : List ℕ) (p : ℕ × LineCause) → PassesAnyHeader g lengths bytes h body → later (extended_with g h) (header_line_count h.version h.blocks + 1) body p → IsFirstHeaderRefusal later g lengths bytes p
   behind_header lengths bytes h body p passes refused =
       let IsLong = IsTooLong lengths (length bytes) in
-      let of : (version : ℕ) → h.version ≡ version → later (with_blocks g h.blocks) (lines_in version h.blocks + 1) body p = λ version is. subst (λ v. later (with_blocks g h.blocks) (lines_in v h.blocks + 1) body p) is refused in
+      let of : (version : ℕ) → h.version ≡ version → later (with_blocks g h.blocks) (header_line_count version h.blocks + 1) body p = λ version is. subst (λ v. later (with_blocks g h.blocks) (header_line_count v h.blocks + 1) body p) is refused in
       ⊎_elim
-      (λ a. let t = a.1.2 in inr (t.short, inr (inl (t.rest, t.version, cut_behind IsLong t.rest a.1.0 body p t.cut_passes (subst (λ bs. later (with_blocks g bs) (lines_in 1 bs + 1) body p) a.1.1 (of 1 a.0))))))
+      (λ a. let t = a.1.2 in inr (t.short, inr (inl (t.rest, t.version, cut_behind IsLong t.rest a.1.0 body p t.cut_passes (subst (λ bs. later (with_blocks g bs) (header_line_count 1 bs + 1) body p) a.1.1 (of 1 a.0))))))
       (λ b. let t = b.1 in inr (t.short, inr (inr (t.rest, t.version, count_behind IsLong t.rest h.blocks body p t.blocks_pass (of 2 b.0))))) passes

@@ -8,14 +8,14 @@ use Rattle.std.proofs.lemmas.List.Elements.{recursion_from_All}
 use Rattle.graph_core.specs.declared.literal.Lit.{Lit}
 use Rattle.graph_core.specs.Text.{newline, space, IsNumeral, IsDigit}
 use Rattle.graph_core.specs.Text.Numerals.{number_at, is_digit, ◌>>=◌}
-use Rattle.graph_core.specs.Text.Readers.{Reads, map_at, behind_at, ended_at, text_at, Ended, BehindText, AreMany, NoneOf, OneOf, Anything, Then, put_before}
+use Rattle.graph_core.specs.Text.Readers.{IsReaderOf, map_at, behind_at, ended_at, text_at, Ended, BehindText, AreMany, NoneOf, OneOf, Anything, Then, put_before}
 use Rattle.graph_core.proofs.OfTexts.CallerLemmas.{HasNoNewline, OtherOf, many_next, none_append, none_in, none_numeral, one_longer, reads_as, reads_before, reads_behind, reads_choice, reads_ended, reads_many, reads_map, reads_number, reads_text, reads_then}
 use Rattle.graph_core.proofs.OfAlgebra.CallerLemmas.{numeral_first}
 use Rattle.clause_core.specs.Clause.{Clause}
 use Rattle.clause_core.specs.ClauseLines.{ClauseLine}
 use Rattle.clause_core.specs.declared.line.Line.TheVariants.{Add, Delete}
 use Rattle.drup_text.specs.ClauseTexts.{IsBlockLine, IsVariableText, IsLiteralText, IsClauseText, IsClauseLine, IsCountLine, IsCutLine, IsPairLine, carry_text}
-use Rattle.drup_text.specs.ClauseReading.{is_no_zero, nonzero_at, minus_number, literal_at, literals_at, clause_at, clause_line_at, two_at, some_cut, cut_line_at, lits, pair_line_at, count_line_at, carry_at, head_from, block_line_at}
+use Rattle.drup_text.specs.ClauseReading.{is_no_zero, nonzero_at, minus_number, literal_at, clause_literals_at, clause_read_at, clause_line_at, two_at, some_cut, cut_line_at, lits, pair_line_at, count_line_at, carry_at, head_from, block_line_at}
 
 -- a number whose first digit isn't 0
 nonzero_takes : (bytes : List ℕ) (v : ℕ) (rest : List ℕ) → nonzero_at bytes ≡ Some (v, rest) → (front : List ℕ) × IsVariableText front v × (bytes ≡ front ++ rest)
@@ -40,7 +40,7 @@ nonzero_again (b ∷ front) v rest is stop = go (b == 48) refl
     go true e = absurd (is.1 (eqb-true b 48 e))
     go false e = (reads_number 10).again (b ∷ front) v rest is.0 stop
 
-reads_nonzero : Reads nonzero_at IsVariableText (NoneOf is_digit)
+reads_nonzero : IsReaderOf nonzero_at IsVariableText (NoneOf is_digit)
 reads_nonzero = record { takes = nonzero_takes; again = nonzero_again }
 
 -- such a number isn't 0
@@ -68,10 +68,10 @@ IsMinus bytes l = (v : ℕ) × (minus_number v ≡ l) × BehindText (codes "-") 
 abbrev IsPlus : List ℕ → ℤ → Type 0
 IsPlus bytes l = (v : ℕ) × (pos v ≡ l) × IsVariableText bytes v
 
-reads_minus : Reads (map_at minus_number (behind_at (codes "-") nonzero_at)) IsMinus (NoneOf is_digit)
+reads_minus : IsReaderOf (map_at minus_number (behind_at (codes "-") nonzero_at)) IsMinus (NoneOf is_digit)
 reads_minus = reads_map minus_number IsMinus (reads_behind (codes "-") reads_nonzero) (λ bytes v h. (v, refl, h)) (λ bytes l h. (h.0, h.2, h.1))
 
-reads_plus : Reads (map_at pos nonzero_at) IsPlus (NoneOf is_digit)
+reads_plus : IsReaderOf (map_at pos nonzero_at) IsPlus (NoneOf is_digit)
 reads_plus = reads_map pos IsPlus reads_nonzero (λ bytes v h. (v, refl, h)) (λ bytes l h. (h.0, h.2, h.1))
 
 digit_other : (test : ℕ → Bool) (k : ℕ) → is_digit k ≡ false → ((b : ℕ) → test b ≡ true → b ≡ k) → (bytes : List ℕ) → OneOf is_digit bytes → OtherOf test bytes
@@ -93,7 +93,7 @@ literal_back : (bytes : List ℕ) (l : ℤ) → IsLiteralText bytes l → IsMinu
 literal_back bytes (pos v) h = inr (v, refl, h)
 literal_back bytes (negsuc v) h = inl (suc v, refl, h)
 
-reads_literal : Reads literal_at IsLiteralText (NoneOf is_digit)
+reads_literal : IsReaderOf literal_at IsLiteralText (NoneOf is_digit)
 reads_literal =
     reads_as IsLiteralText
     (reads_choice (λ b. b == 45) reads_minus reads_plus (λ front l h. subst (OneOf (λ b. b == 45)) (sym h.2.2) refl) (λ front l h. digit_other (λ b. b == 45) 45 refl (λ b e. eqb-true b 45 e) front (variable_first front h.0 h.2)))
@@ -131,7 +131,7 @@ clause_back bytes (l ∷ ls) h =
       h.4 ∙ ap (λ z. h.0 ++ space ∷ z) more.2 ∙ sym (append_assoc h.0 (codes " ") (more.0 ++ codes "0")) ∙ sym (append_assoc (h.0 ++ codes " ") more.0 (codes "0")),
     )
 
-pub reads_clause : Reads clause_at IsClauseText Anything
+pub reads_clause : IsReaderOf clause_read_at IsClauseText Anything
 reads_clause =
     reads_as IsClauseText
     (reads_ended (codes "0") (reads_many is_no_zero (ended_at literal_at (codes " ")) IsEndedLiteral Anything (reads_ended (codes " ") reads_literal (λ rest. refl))
@@ -157,7 +157,7 @@ clause_first front (l ∷ ls) h = subst (OtherOf (λ b. b == 100)) (sym h.4) (lo
     go bytes (pos v) k = digit_other (λ b. b == 100) 100 refl (λ b e. eqb-true b 100 e) bytes (variable_first bytes v k)
     go bytes (negsuc v) k = subst (OtherOf (λ b. b == 100)) (sym k.2) refl
 
-pub reads_clause_line : Reads clause_line_at IsClauseLine Anything
+pub reads_clause_line : IsReaderOf clause_line_at IsClauseLine Anything
 unfolding clause_line_at
 reads_clause_line =
     reads_as IsClauseLine
@@ -176,7 +176,7 @@ reads_clause_line =
 abbrev AreTwo : List ℕ → ℕ × ℕ → Type 0
 AreTwo bytes n = (one two : List ℕ) × IsNumeral 10 one n.0 × IsNumeral 10 two n.1 × (bytes ≡ one ++ space ∷ two)
 
-reads_two : Reads two_at AreTwo (NoneOf is_digit)
+reads_two : IsReaderOf two_at AreTwo (NoneOf is_digit)
 reads_two =
     reads_as AreTwo (reads_then (reads_ended (codes " ") (reads_number 10) (λ rest. refl)) (reads_number 10) (λ front y rest h f. tt))
     (λ bytes n h. (h.2.0, h.1, h.2.1, h.3, h.4 ∙ ap (λ z. z ++ h.1) h.2.2 ∙ append_assoc h.2.0 (codes " ") h.1))
@@ -188,7 +188,7 @@ IsNone bytes c = (c ≡ None) × (bytes ≡ codes "none")
 abbrev IsReplace : List ℕ → Option (ℕ × ℕ) → Type 0
 IsReplace bytes c = (n : ℕ × ℕ) × (some_cut n ≡ c) × BehindText (codes "replace ") AreTwo bytes n
 
-pub reads_cut_line : Reads cut_line_at IsCutLine (NoneOf is_digit)
+pub reads_cut_line : IsReaderOf cut_line_at IsCutLine (NoneOf is_digit)
 unfolding cut_line_at
 reads_cut_line =
     reads_as IsCutLine
@@ -206,18 +206,18 @@ reads_cut_line =
     back bytes None h = inl (refl, h)
     back bytes (Some n) h = inr (n, refl, (h.0 ++ space ∷ h.1, (h.0, h.1, h.2, h.3, refl), h.4 ∙ append_assoc (codes "replace ") h.0 (space ∷ h.1)))
 
-pub reads_pair_line : Reads pair_line_at IsPairLine (NoneOf is_digit)
+pub reads_pair_line : IsReaderOf pair_line_at IsPairLine (NoneOf is_digit)
 unfolding pair_line_at
 reads_pair_line = reads_map lits IsPairLine reads_two (λ bytes n h. h) (λ bytes p h. ((p.0.0, p.1.0), h, refl))
 
 -- one turn of the loop that reads a clause's literals
-pub literals_next : (b : ℕ) (bytes : List ℕ) → literals_at (b ∷ bytes) ≡ cond (is_no_zero b) (ended_at literal_at (codes " ") (b ∷ bytes) >>= (λ x. put_before x.0 (literals_at x.1))) (Some ([], b ∷ bytes))
+pub literals_next : (b : ℕ) (bytes : List ℕ) → clause_literals_at (b ∷ bytes) ≡ cond (is_no_zero b) (ended_at literal_at (codes " ") (b ∷ bytes) >>= (λ x. put_before x.0 (clause_literals_at x.1))) (Some ([], b ∷ bytes))
 literals_next = many_next is_no_zero (ended_at literal_at (codes " ")) IsEndedLiteral Anything (reads_ended (codes " ") reads_literal (λ rest. refl))
     (λ front l h. subst (OneOf is_no_zero) (sym h.2) (one_longer is_no_zero h.0 (codes " ") (literal_first h.0 l h.1))) (λ rest h. tt)
 
 -- ---- the lines of version 2
 
-pub reads_count_line : Reads count_line_at IsCountLine (NoneOf is_digit)
+pub reads_count_line : IsReaderOf count_line_at IsCountLine (NoneOf is_digit)
 unfolding count_line_at
 reads_count_line = reads_as IsCountLine (reads_behind (codes "cuts ") (reads_number 10)) (λ bytes n h. h) (λ bytes n h. h)
 
@@ -236,10 +236,10 @@ no_digit : (bytes : List ℕ) → NoneOf ends_head bytes → NoneOf is_digit byt
 no_digit [] h = tt
 no_digit (b ∷ bytes) h = (or_false (is_digit b) (b == space) h).0
 
-reads_carry : Reads carry_at IsCarry (NoneOf ends_head)
+reads_carry : IsReaderOf carry_at IsCarry (NoneOf ends_head)
 reads_carry = record { takes = takes; again = again }
   where
-    word : Reads (text_at (codes " carry") true) (λ bytes y. (y ≡ true) × (bytes ≡ codes " carry")) (λ rest. Unit {0})
+    word : IsReaderOf (text_at (codes " carry") true) (λ bytes y. (y ≡ true) × (bytes ≡ codes " carry")) (λ rest. Unit {0})
     word = reads_text (codes " carry") true
 
     takes : (bytes : List ℕ) (c : Bool) (rest : List ℕ) → carry_at bytes ≡ Some (c, rest) → (front : List ℕ) × IsCarry front c × (bytes ≡ front ++ rest)
@@ -283,26 +283,26 @@ head_back bytes h line = (
   refl,
 )
 
-pub reads_block_line : Reads block_line_at IsBlockLine (NoneOf ends_head)
+pub reads_block_line : IsReaderOf block_line_at IsBlockLine (NoneOf ends_head)
 unfolding block_line_at
 reads_block_line =
     reads_map head_from IsBlockLine (reads_behind (codes "replace ") (reads_then reads_two reads_carry (λ front c rest h f. carry_first front c rest h f))) head_there head_back
 
 -- ---- with their line feeds
 
-pub clause_item : Reads (ended_at clause_line_at (newline ∷ [])) (Ended IsClauseLine (newline ∷ [])) Anything
+pub clause_item : IsReaderOf (ended_at clause_line_at (newline ∷ [])) (Ended IsClauseLine (newline ∷ [])) Anything
 clause_item = reads_ended (newline ∷ []) reads_clause_line (λ rest. tt)
 
-pub pair_item : Reads (ended_at pair_line_at (newline ∷ [])) (Ended IsPairLine (newline ∷ [])) Anything
+pub pair_item : IsReaderOf (ended_at pair_line_at (newline ∷ [])) (Ended IsPairLine (newline ∷ [])) Anything
 pair_item = reads_ended (newline ∷ []) reads_pair_line (λ rest. refl)
 
-pub cut_item : Reads (ended_at cut_line_at (newline ∷ [])) (Ended IsCutLine (newline ∷ [])) Anything
+pub cut_item : IsReaderOf (ended_at cut_line_at (newline ∷ [])) (Ended IsCutLine (newline ∷ [])) Anything
 cut_item = reads_ended (newline ∷ []) reads_cut_line (λ rest. refl)
 
-pub count_item : Reads (ended_at count_line_at (newline ∷ [])) (Ended IsCountLine (newline ∷ [])) Anything
+pub count_item : IsReaderOf (ended_at count_line_at (newline ∷ [])) (Ended IsCountLine (newline ∷ [])) Anything
 count_item = reads_ended (newline ∷ []) reads_count_line (λ rest. refl)
 
-pub block_item : Reads (ended_at block_line_at (newline ∷ [])) (Ended IsBlockLine (newline ∷ [])) Anything
+pub block_item : IsReaderOf (ended_at block_line_at (newline ∷ [])) (Ended IsBlockLine (newline ∷ [])) Anything
 block_item = reads_ended (newline ∷ []) reads_block_line (λ rest. refl)
 
 -- ---- no line has a line feed in it

@@ -17,11 +17,11 @@ use Rattle.ripple_graft.specs.HeaderBlocks.{IsCutOf, cut_blocks}
 use Rattle.drup_text.specs.declared.head.Header.{Header}
 use Rattle.drup_text.specs.ClauseTexts.{AreLinesOf, IsPairLine}
 use Rattle.drup_text.specs.PassingHeaders.{PassBlocks, PassesAnyHeader, PassesBlock, PassesBlocks, PassesCount, PassesCut, PassesHeader}
-use Rattle.drup_text.specs.HeaderRefusal.{Later, LineCause, IsHeaderRefusal, IsPairStep, IsRefusedBehindCut, IsRefusedBehindPairs, IsRefusedBlock, IsRefusedBlocks, IsRefusedCount, IsRefusedCut, IsRefusedPair, IsRefusedPairs, cut_at, block_at, nothing_later}
-use Rattle.drup_text.specs.Headers.{AreBlockTexts, IsAnyHeaderText, IsBlocksText, IsCutText, IsHeaderOf, IsHeaderText, head_of, second_line}
+use Rattle.drup_text.specs.HeaderRefusal.{Later, LineCause, IsClauseHeaderRefusal, IsPairStep, IsRefusedBehindCut, IsRefusedBehindPairs, IsRefusedBlock, IsRefusedBlocks, IsRefusedCount, IsRefusedCut, IsRefusedPair, IsRefusedPairs, cut_at, block_at, nothing_later}
+use Rattle.drup_text.specs.Headers.{AreBlockTexts, IsAnyHeaderText, IsBlocksText, IsClauseHeaderText, IsCutText, IsHeaderOf, head_of, second_line}
 use Rattle.drup_text.specs.LineTexts.{IsCountInRange, IsCutSize, IsHeadOf, IsPairOf}
 use Rattle.drup_text.specs.WrittenLaws.{PassingHeadersAreNotRefused, WrittenHeadersPass}
-use Rattle.drup_text.specs.WrittenTexts.{any_file_text, lines_text}
+use Rattle.drup_text.specs.WrittenTexts.{any_file_text, clause_lines_text}
 use Rattle.drup_text.proofs.OneFile.{other_version, same_body, same_count, same_head, same_pair, same_size, second_body}
 use Rattle.drup_text.proofs.WrittenAgain.{header_written}
 
@@ -83,7 +83,7 @@ header_passes g lengths bytes h body takes text short =
     differ : h.version ≡ 1 → h.version ≡ 2 → ⊥
     differ e f = omega arith
 
-    first : (cut : Option Cut) → IsHeaderText bytes cut body → IsCutOf g cut → PassesHeader g lengths bytes cut body
+    first : (cut : Option Cut) → IsClauseHeaderText bytes cut body → IsCutOf g cut → PassesHeader g lengths bytes cut body
     first cut t fits = record {
       rest = t.0;
       short = short bytes (start_here bytes);
@@ -101,7 +101,7 @@ header_passes g lengths bytes h body takes text short =
 
 pub written_headers_pass : WrittenHeadersPass
 written_headers_pass g lengths h lines built takes within =
-    header_passes g lengths (any_file_text h lines) h (lines_text lines) takes (header_written g h (lines_text lines) built takes) (within_short lengths (any_file_text h lines) within)
+    header_passes g lengths (any_file_text h lines) h (clause_lines_text lines) takes (header_written g h (clause_lines_text lines) built takes) (within_short lengths (any_file_text h lines) within)
 
 -- ---- what passes isn't refused
 
@@ -213,7 +213,7 @@ module _ (g : Aig) (lengths : Lengths) (bytes : List ℕ) (p : ℕ × LineCause)
   abbrev IsLong : List ℕ → Type 0
   IsLong = IsTooLong lengths (length bytes)
 
-  first_not_refused : (cut : Option Cut) (body : List ℕ) → PassesHeader g lengths bytes cut body → IsHeaderRefusal g lengths bytes p → ⊥
+  first_not_refused : (cut : Option Cut) (body : List ℕ) → PassesHeader g lengths bytes cut body → IsClauseHeaderRefusal g lengths bytes p → ⊥
   first_not_refused cut body h refused =
       ⊎_elim (λ l. h.short l.0)
       (λ t. ⊎_elim (λ none. none.0.0 h.rest h.version)
@@ -222,7 +222,7 @@ module _ (g : Aig) (lengths : Lengths) (bytes : List ℕ) (p : ℕ × LineCause)
       (λ c. other_version h.rest c.0 (sym h.version ∙ c.1)) v) t.1)
       refused
 
-  second_not_refused : (blocks : List Block) (body : List ℕ) → PassesBlocks g lengths bytes blocks body → IsHeaderRefusal g lengths bytes p → ⊥
+  second_not_refused : (blocks : List Block) (body : List ℕ) → PassesBlocks g lengths bytes blocks body → IsClauseHeaderRefusal g lengths bytes p → ⊥
   second_not_refused blocks body h refused =
       ⊎_elim (λ l. h.short l.0)
       (λ t. ⊎_elim (λ none. none.0.1 h.rest h.version)

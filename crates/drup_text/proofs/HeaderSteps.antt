@@ -3,8 +3,8 @@ use Rattle.std.specs.Prelude.{◌≡◌, ◌⊎◌, ◌+◌, ◌<◌, ℕ, zero,
 use Rattle.std.specs.declared.option.Option.{Option}
 use Rattle.std.specs.declared.option.Option.TheVariants.{Some}
 use Rattle.std.proofs.Common.{refl, sym, ap, subst, ◌∙◌, arith, inl, inr, ⊎_elim}
-use Rattle.mv_desk.specs.declared.faults.LineFail.{LineFail}
-use Rattle.mv_desk.specs.declared.faults.LineFail.TheVariants as fail
+use Rattle.mv_text.specs.declared.line_fail.LineFail.{LineFail}
+use Rattle.mv_text.specs.declared.line_fail.LineFail.TheVariants as fail
 use Rattle.graph_core.specs.declared.literal.Lit.{Lit}
 use Rattle.graph_core.specs.Graph.{Aig}
 use Rattle.graph_core.specs.Graph.Extended.{Extended, without_cut}
@@ -16,7 +16,7 @@ use Rattle.mv_text.proofs.CallerLemmas.{IsNew, long_of, short_of, told_from}
 use Rattle.drup_text.specs.ClauseTexts.{IsPairLine}
 use Rattle.mv_text.specs.CertificateFiles.{BeginsOutOfRange, BeginsWithNone, IsLineRefusal, TakesText}
 use Rattle.drup_text.specs.PassingHeaders.{IsCause}
-use Rattle.drup_text.specs.HeaderRefusal.{LineCause, IsHeaderRefusal, IsPairStep, IsRefusedBehindPairs, IsRefusedCount, IsRefusedCut, IsRefusedPair, IsRefusedPairs, cut_at, nothing_later}
+use Rattle.drup_text.specs.HeaderRefusal.{LineCause, IsClauseHeaderRefusal, IsPairStep, IsRefusedBehindPairs, IsRefusedCount, IsRefusedCut, IsRefusedPair, IsRefusedPairs, cut_at, nothing_later}
 use Rattle.drup_text.specs.HeaderRefusal as cause
 use Rattle.drup_text.specs.HeaderSteps.{IsLongIn, Leaves, TakesPairs}
 use Rattle.drup_text.specs.Headers.{IsVersionLine}
@@ -194,9 +194,9 @@ over_file P lengths lines now bytes rest fresh same taken h =
 
 -- the first line is refused
 pub version_refused : (g : Aig) (lengths : Lengths) (lines : Lines) (left : Option (List ℕ)) (first last : ℕ) (f : LineFail) → IsNew lengths lines → IsLineRefusal IsVersionLine (λ x. ⊤) lines left first last f →
-    IsCause (IsHeaderRefusal g lengths) left first last 1 f
+    IsCause (IsClauseHeaderRefusal g lengths) left first last 1 f
 version_refused g lengths lines left first last f fresh h =
-    line_cause IsVersionLine (λ x. ⊤) (IsHeaderRefusal g lengths) lines left first last 1 f
+    line_cause IsVersionLine (λ x. ⊤) (IsClauseHeaderRefusal g lengths) lines left first last 1 f
     (λ bytes long. inl (long_of lengths (length bytes) lines bytes fresh.lengths_are (total bytes) long, refl))
     (λ bytes short none. inr (
       short_of lengths (length bytes) lines bytes fresh.lengths_are (total bytes) short,
@@ -218,12 +218,12 @@ second_is version text two is = ⊎_elim (λ a. let other = a.0 in absurd (omega
 pub header_refused : (g : Aig) (lengths : Lengths) (lines now : Lines) (before left : Option (List ℕ)) (version first mid last line : ℕ) (f : LineFail) → IsNew lengths lines → now.lengths ≡ lines.lengths → mid ≡ first →
     IfSome before (λ bytes. TakesText IsVersionLine lines now bytes left version) →
     ((version ≡ 1) × IsCause (λ bytes. IsRefusedCut nothing_later g (IsLongIn now bytes) bytes) left mid last line f) ⊎ ((version ≡ 2) × IsCause (λ bytes. IsRefusedCount nothing_later g (IsLongIn now bytes) bytes) left mid last line f) →
-    IsCause (IsHeaderRefusal g lengths) before first last line f
+    IsCause (IsClauseHeaderRefusal g lengths) before first last line f
 header_refused g lengths lines now before left version first mid last line f fresh same_now same h refused =
     ⊎_elim
-    (λ one. cause_behind (IsHeaderRefusal g lengths) (λ bytes. IsRefusedCut nothing_later g (IsLongIn now bytes) bytes) before left first mid last line f same
+    (λ one. cause_behind (IsClauseHeaderRefusal g lengths) (λ bytes. IsRefusedCut nothing_later g (IsLongIn now bytes) bytes) before left first mid last line f same
     (told_from before (λ bytes. TakesText IsVersionLine lines now bytes left version)
-    (λ bytes. (rest : List ℕ) × (left ≡ Some rest) × ((p : ℕ × LineCause) → IsRefusedCut nothing_later g (IsLongIn now rest) rest p → IsHeaderRefusal g lengths bytes p))
+    (λ bytes. (rest : List ℕ) × (left ≡ Some rest) × ((p : ℕ × LineCause) → IsRefusedCut nothing_later g (IsLongIn now rest) rest p → IsClauseHeaderRefusal g lengths bytes p))
     (λ bytes e t. (
       t.rest,
       t.left_is,
@@ -233,9 +233,9 @@ header_refused g lengths lines now before left version first mid last line f fre
       ),
     )) h)
     one.1)
-    (λ two. cause_behind (IsHeaderRefusal g lengths) (λ bytes. IsRefusedCount nothing_later g (IsLongIn now bytes) bytes) before left first mid last line f same
+    (λ two. cause_behind (IsClauseHeaderRefusal g lengths) (λ bytes. IsRefusedCount nothing_later g (IsLongIn now bytes) bytes) before left first mid last line f same
     (told_from before (λ bytes. TakesText IsVersionLine lines now bytes left version)
-    (λ bytes. (rest : List ℕ) × (left ≡ Some rest) × ((p : ℕ × LineCause) → IsRefusedCount nothing_later g (IsLongIn now rest) rest p → IsHeaderRefusal g lengths bytes p))
+    (λ bytes. (rest : List ℕ) × (left ≡ Some rest) × ((p : ℕ × LineCause) → IsRefusedCount nothing_later g (IsLongIn now rest) rest p → IsClauseHeaderRefusal g lengths bytes p))
     (λ bytes e t. (
       t.rest,
       t.left_is,

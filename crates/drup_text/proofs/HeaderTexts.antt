@@ -10,15 +10,15 @@ use Rattle.graph_core.specs.Graph.Literals.{variable_of}
 use Rattle.graph_core.specs.Text.Numerals.{◌>>=◌, number_at, front_at}
 use Rattle.graph_core.specs.Text.Readers.{Reader, behind_at, ended_at, map_at, text_at}
 use Rattle.graph_core.proofs.OfGraphs.CallerLemmas.{input_in_range}
-use Rattle.mv_desk.specs.declared.faults.LineFail.{LineFail}
+use Rattle.mv_text.specs.declared.line_fail.LineFail.{LineFail}
 use Rattle.mv_text.specs.Steps.{Gives, IsMisfit, Takes, begins}
 use Rattle.ripple_graft.specs.Extension.{IsExtension, IsKnown, whole}
 use Rattle.ripple_graft.proofs.KnownLiterals.{defined_is}
 use Rattle.drup_text.specs.ClauseReading.{cut_line_at, lits, pair_line_at, some_cut, two_at}
 use Rattle.drup_text.specs.ClauseTexts.{IsCutLine, IsPairLine}
-use Rattle.mv_text.specs.CertificateFiles.{IsRefusedText}
+use Rattle.mv_text.specs.CertificateFiles.{SaysNothing}
 use Rattle.drup_text.specs.LineTexts.{IsCutSize, IsCutTextOf, IsPairOf, IsPairTextOf, IsSizeInRange}
-use Rattle.drup_text.specs.Steps.{AreUpTo}
+use Rattle.drup_text.specs.Steps.{AreBothUpTo}
 use Rattle.drup_text.proofs.ClauseReading.{reads_cut_line, reads_pair_line}
 use Rattle.drup_text.proofs.WholeTexts.{left_over, misfit_refused, out_of_range, said}
 use Rattle.drup_text.proofs.LineSteps.{chosen_one, chosen_other, fails_behind, fails_front, fails_map, taken_behind, taken_map}
@@ -28,13 +28,13 @@ IsSame x y = x ≡ y
 
 -- ---- two numbers
 
-both_give : (most : ℕ) (n k : ℕ) (one two : Option ℕ) → Gives (λ m. m ≤ most) IsSame n one → Gives (λ m. m ≤ most) IsSame k two → Gives (AreUpTo most) IsSame (n, k) (option_zip one two)
+both_give : (most : ℕ) (n k : ℕ) (one two : Option ℕ) → Gives (λ m. m ≤ most) IsSame n one → Gives (λ m. m ≤ most) IsSame k two → Gives (AreBothUpTo most) IsSame (n, k) (option_zip one two)
 both_give most n k (Some a) (Some b) g h = ((g.0, h.0), ap (λ z. (z, k)) g.1 ∙ ap (λ z. (a, z)) h.1)
 both_give most n k (Some a) None g h = λ all. h all.1
 both_give most n k None two g h = λ all. g all.0
 
 pub two_taken : (most : ℕ) (old mid new : List ℕ) (one two : Option ℕ) → Takes (ended_at (number_at 10) (codes " ")) (λ m. m ≤ most) IsSame old mid one → Takes (number_at 10) (λ m. m ≤ most) IsSame mid new two →
-    Takes two_at (AreUpTo most) IsSame old new (option_zip one two)
+    Takes two_at (AreBothUpTo most) IsSame old new (option_zip one two)
 two_taken most old mid new one two g h = record {
   read = (g.read, h.read);
   taken = ap (λ o. o >>= λ x. number_at 10 x.1 >>= λ y. Some ((x.0, y.0), y.1)) g.taken ∙ ap (λ o. o >>= λ y. Some ((g.read, y.0), y.1)) h.taken;
@@ -73,7 +73,7 @@ replace_fails bytes at e = replace_there bytes at ∙ fails_front some_cut (code
 pub size_fails : (bytes mid : List ℕ) → begins (λ b. b == 110) bytes ≡ false → front_at (codes "replace ") bytes ≡ Some mid → two_at mid ≡ None → cut_line_at bytes ≡ None
 size_fails bytes mid at e h = replace_there bytes at ∙ fails_behind some_cut (codes "replace ") two_at bytes mid e h
 
-pub size_some : (outputs : ℕ) (old mid new : List ℕ) (n : ℕ × ℕ) → begins (λ b. b == 110) old ≡ false → front_at (codes "replace ") old ≡ Some mid → Takes two_at (AreUpTo outputs) IsSame mid new (Some n) → IsCutSize outputs n →
+pub size_some : (outputs : ℕ) (old mid new : List ℕ) (n : ℕ × ℕ) → begins (λ b. b == 110) old ≡ false → front_at (codes "replace ") old ≡ Some mid → Takes two_at (AreBothUpTo outputs) IsSame mid new (Some n) → IsCutSize outputs n →
     Takes cut_line_at (IsSizeInRange outputs) IsSame old new (Some (Some n))
 size_some outputs old mid new n at e h size = record {
   read = Some h.read;
@@ -82,7 +82,7 @@ size_some outputs old mid new n at e h size = record {
 }
 
 -- another size, or numbers that are too great for one
-pub size_other : (outputs : ℕ) (old mid new : List ℕ) (n : ℕ × ℕ) → begins (λ b. b == 110) old ≡ false → front_at (codes "replace ") old ≡ Some mid → Takes two_at (AreUpTo outputs) IsSame mid new (Some n) → ¬ (IsCutSize outputs n) →
+pub size_other : (outputs : ℕ) (old mid new : List ℕ) (n : ℕ × ℕ) → begins (λ b. b == 110) old ≡ false → front_at (codes "replace ") old ≡ Some mid → Takes two_at (AreBothUpTo outputs) IsSame mid new (Some n) → ¬ (IsCutSize outputs n) →
     Takes cut_line_at (IsSizeInRange outputs) IsSame old new None
 size_other outputs old mid new n at e h other = record {
   read = Some h.read;
@@ -90,14 +90,14 @@ size_other outputs old mid new n at e h other = record {
   gives = λ size. other (rw (sym h.gives.1) size);
 }
 
-pub size_none : (outputs : ℕ) (old mid new : List ℕ) → begins (λ b. b == 110) old ≡ false → front_at (codes "replace ") old ≡ Some mid → Takes two_at (AreUpTo outputs) IsSame mid new None → Takes cut_line_at (IsSizeInRange outputs) IsSame old new None
+pub size_none : (outputs : ℕ) (old mid new : List ℕ) → begins (λ b. b == 110) old ≡ false → front_at (codes "replace ") old ≡ Some mid → Takes two_at (AreBothUpTo outputs) IsSame mid new None → Takes cut_line_at (IsSizeInRange outputs) IsSame old new None
 size_none outputs old mid new at e h = record {
   read = Some h.read;
   taken = replace_there old at ∙ taken_behind some_cut (codes "replace ") two_at old mid new h.read e h.taken;
   gives = λ size. h.gives (low h.read size);
 }
   where
-    low : (n : ℕ × ℕ) → IsCutSize outputs n → AreUpTo outputs n
+    low : (n : ℕ × ℕ) → IsCutSize outputs n → AreBothUpTo outputs n
     low n size = ⊎_elim (λ a. (omega (arith, a), omega (arith, a))) (λ b. (omega (arith, b), omega (arith, b))) size.1
 
 -- ---- the line of a pair
@@ -120,21 +120,21 @@ pair_read : (old new : List ℕ) (n : ℕ × ℕ) → two_at old ≡ Some (n, ne
 unfolding pair_line_at
 pair_read old new n h = taken_map lits two_at old new n h
 
-pub pair_some : (e : Extended) (most : ℕ) (old new : List ℕ) (n : ℕ × ℕ) → Takes two_at (AreUpTo most) IsSame old new (Some n) → IsPairOf e (lits n) → Takes pair_line_at (IsPairOf e) IsSame old new (Some (lits n))
+pub pair_some : (e : Extended) (most : ℕ) (old new : List ℕ) (n : ℕ × ℕ) → Takes two_at (AreBothUpTo most) IsSame old new (Some n) → IsPairOf e (lits n) → Takes pair_line_at (IsPairOf e) IsSame old new (Some (lits n))
 pair_some e most old new n h is = record {
   read = lits h.read;
   taken = pair_read old new h.read h.taken;
   gives = (rw h.gives.1 is, ap lits h.gives.1);
 }
 
-pub pair_other : (e : Extended) (most : ℕ) (old new : List ℕ) (n : ℕ × ℕ) → Takes two_at (AreUpTo most) IsSame old new (Some n) → ¬ (IsPairOf e (lits n)) → Takes pair_line_at (IsPairOf e) IsSame old new None
+pub pair_other : (e : Extended) (most : ℕ) (old new : List ℕ) (n : ℕ × ℕ) → Takes two_at (AreBothUpTo most) IsSame old new (Some n) → ¬ (IsPairOf e (lits n)) → Takes pair_line_at (IsPairOf e) IsSame old new None
 pair_other e most old new n h other = record {
   read = lits h.read;
   taken = pair_read old new h.read h.taken;
   gives = λ is. other (rw (sym h.gives.1) is);
 }
 
-pub pair_none : (e : Extended) (old new : List ℕ) → IsExtension e → Takes two_at (AreUpTo (2 * e.max + 1)) IsSame old new None → Takes pair_line_at (IsPairOf e) IsSame old new None
+pub pair_none : (e : Extended) (old new : List ℕ) → IsExtension e → Takes two_at (AreBothUpTo (2 * e.max + 1)) IsSame old new None → Takes pair_line_at (IsPairOf e) IsSame old new None
 pair_none e old new made h = record {
   read = lits h.read;
   taken = pair_read old new h.read h.taken;
@@ -154,7 +154,7 @@ size_over outputs bytes rest given some h = left_over reads_cut_line tt (IsSizeI
 pub size_out : (outputs : ℕ) (bytes rest : List ℕ) (given : Option (Option (ℕ × ℕ))) → rest ≡ [] → given ≡ None → Takes cut_line_at (IsSizeInRange outputs) IsSame bytes rest given → (c : Option (ℕ × ℕ)) × IsCutLine bytes c × ¬ (IsSizeInRange outputs c)
 size_out outputs bytes rest given e f h = out_of_range reads_cut_line tt (IsSizeInRange outputs) IsSame bytes rest given e f h
 
-pub size_misfit : (outputs : ℕ) (bytes : List ℕ) (f : LineFail) → IsMisfit (cut_line_at bytes ≡ None) f → IsRefusedText IsCutLine (IsSizeInRange outputs) bytes f
+pub size_misfit : (outputs : ℕ) (bytes : List ℕ) (f : LineFail) → IsMisfit (cut_line_at bytes ≡ None) f → SaysNothing IsCutLine (IsSizeInRange outputs) bytes f
 size_misfit outputs bytes f h = misfit_refused {T = Option (ℕ × ℕ)} reads_cut_line tt (IsSizeInRange outputs) IsSame bytes f h
 
 pub pair_said : (x : Extended) (bytes rest : List ℕ) (given : Option (Lit × Lit)) (p : Lit × Lit) → rest ≡ [] → given ≡ Some p → Takes pair_line_at (IsPairOf x) IsSame bytes rest given → IsPairTextOf x bytes p
@@ -168,5 +168,5 @@ pair_over x bytes rest given some h = left_over reads_pair_line tt (IsPairOf x) 
 pub pair_out : (x : Extended) (bytes rest : List ℕ) (given : Option (Lit × Lit)) → rest ≡ [] → given ≡ None → Takes pair_line_at (IsPairOf x) IsSame bytes rest given → (p : Lit × Lit) × IsPairLine bytes p × ¬ (IsPairOf x p)
 pair_out x bytes rest given e f h = out_of_range reads_pair_line tt (IsPairOf x) IsSame bytes rest given e f h
 
-pub pair_misfit : (x : Extended) (bytes : List ℕ) (f : LineFail) → IsMisfit (pair_line_at bytes ≡ None) f → IsRefusedText IsPairLine (IsPairOf x) bytes f
+pub pair_misfit : (x : Extended) (bytes : List ℕ) (f : LineFail) → IsMisfit (pair_line_at bytes ≡ None) f → SaysNothing IsPairLine (IsPairOf x) bytes f
 pair_misfit x bytes f h = misfit_refused {T = Lit × Lit} reads_pair_line tt (IsPairOf x) IsSame bytes f h

@@ -13,13 +13,13 @@ use Rattle.clause_core.specs.Clause.{Clause, IsClauseInRange, SameSet}
 use Rattle.clause_core.specs.ClauseLines.{ClauseLine}
 use Rattle.clause_core.specs.declared.line.Line.TheVariants.{Add, Delete}
 use Rattle.mv_text.proofs.CallerLemmas.{Gathers, gathers_more, gathers_none}
-use Rattle.mv_desk.specs.declared.faults.LineFail.{LineFail}
-use Rattle.mv_text.specs.Steps.{Gives, IsMisfit, Pushes, Takes, begins}
-use Rattle.drup_text.specs.ClauseReading.{clause_at, clause_line_at, is_no_zero, literal_at, literals_at, minus_number, nonzero_at}
+use Rattle.mv_text.specs.declared.line_fail.LineFail.{LineFail}
+use Rattle.mv_text.specs.Steps.{Gives, IsMisfit, IsVariable, Pushes, Takes, begins}
+use Rattle.drup_text.specs.ClauseReading.{clause_line_at, clause_literals_at, clause_read_at, is_no_zero, literal_at, minus_number, nonzero_at}
 use Rattle.drup_text.specs.ClauseTexts.{IsClauseLine}
-use Rattle.mv_text.specs.CertificateFiles.{IsRefusedText}
-use Rattle.drup_text.specs.LineTexts.{IsLineInRange, IsLineOf, IsTextOf}
-use Rattle.drup_text.specs.Steps.{HasItems, IsLiteralInRange, IsVariable}
+use Rattle.mv_text.specs.CertificateFiles.{SaysNothing}
+use Rattle.drup_text.specs.LineTexts.{IsClauseLineInRange, IsClauseTextOf, IsSameClauseLine}
+use Rattle.drup_text.specs.Steps.{HasItems, IsLiteralInRange}
 use Rattle.drup_text.proofs.ClauseReading.{literals_next, reads_clause_line}
 use Rattle.drup_text.proofs.WholeTexts.{left_over, misfit_refused, out_of_range, said}
 
@@ -82,15 +82,15 @@ plus_none max old new at h = record {
 -- ---- the loop over literals
 
 abbrev pub AreLiteralsSoFar : ℕ → List ℕ → List ℕ → Option (Vec ℤ Global) → Type 0
-AreLiteralsSoFar max = Gathers literals_at (All (IsLiteralInRange max)) HasItems
+AreLiteralsSoFar max = Gathers clause_literals_at (All (IsLiteralInRange max)) HasItems
 
 pub literals_begin : (max : ℕ) (bytes : List ℕ) (empty : Vec ℤ Global) → empty.items ≡ [] → AreLiteralsSoFar max bytes bytes (Some empty)
-literals_begin max bytes empty none = gathers_none literals_at (All (IsLiteralInRange max)) HasItems bytes (Some empty) (All-nil (IsLiteralInRange max), none)
+literals_begin max bytes empty none = gathers_none clause_literals_at (All (IsLiteralInRange max)) HasItems bytes (Some empty) (All-nil (IsLiteralInRange max), none)
 
 -- one turn of the reader
-pub literals_turn : (bytes : List ℕ) → begins is_no_zero bytes ≡ true → literals_at bytes ≡ (ended_at literal_at (codes " ") bytes >>= λ x. put_before x.0 (literals_at x.1))
+pub literals_turn : (bytes : List ℕ) → begins is_no_zero bytes ≡ true → clause_literals_at bytes ≡ (ended_at literal_at (codes " ") bytes >>= λ x. put_before x.0 (clause_literals_at x.1))
 literals_turn [] h = absurd (cc)
-literals_turn (b ∷ bytes) h = literals_next b bytes ∙ ap (λ c. cond c (ended_at literal_at (codes " ") (b ∷ bytes) >>= λ x. put_before x.0 (literals_at x.1)) (Some ([], b ∷ bytes))) h
+literals_turn (b ∷ bytes) h = literals_next b bytes ∙ ap (λ c. cond c (ended_at literal_at (codes " ") (b ∷ bytes) >>= λ x. put_before x.0 (clause_literals_at x.1)) (Some ([], b ∷ bytes))) h
 
 more_give : (max : ℕ) (read : List ℤ) (x : ℤ) (given : Option (Vec ℤ Global)) (one : Option ℤ) (given' : Option (Vec ℤ Global)) →
     Gives (All (IsLiteralInRange max)) HasItems read given → Gives (IsLiteralInRange max) (λ l k. l ≡ k) x one → Pushes given one given' → Gives (All (IsLiteralInRange max)) HasItems (read ++ x ∷ []) given'
@@ -112,17 +112,17 @@ literals_more max old now new given one given' at so_far next pushes =
 taken_ended : {A : Type 0} (item : Reader A) (text : List ℕ) (old mid new : List ℕ) (x : A) → item old ≡ Some (x, mid) → front_at text mid ≡ Some new → ended_at item text old ≡ Some (x, new)
 taken_ended item text old mid new x h e = ap (λ o. o >>= λ y. front_at text y.1 >>= λ rest. Some (y.0, rest)) h ∙ ap (λ o. o >>= λ rest. Some (x, rest)) e
 
-pub clause_some : (max : ℕ) (old mid new : List ℕ) (all : Vec ℤ Global) (c : Clause) → Takes literals_at (All (IsLiteralInRange max)) HasItems old mid (Some all) → front_at (codes "0") mid ≡ Some new → SameSet c all.items →
-    Takes clause_at (IsClauseInRange max) SameSet old new (Some c)
+pub clause_some : (max : ℕ) (old mid new : List ℕ) (all : Vec ℤ Global) (c : Clause) → Takes clause_literals_at (All (IsLiteralInRange max)) HasItems old mid (Some all) → front_at (codes "0") mid ≡ Some new → SameSet c all.items →
+    Takes clause_read_at (IsClauseInRange max) SameSet old new (Some c)
 clause_some max old mid new all c h e same =
     let k : SameSet c h.read = subst (SameSet c) h.gives.1 same in
-    record { read = h.read; taken = taken_ended literals_at (codes "0") old mid new h.read h.taken e; gives = (h.gives.0, (k.1, k.0)) }
+    record { read = h.read; taken = taken_ended clause_literals_at (codes "0") old mid new h.read h.taken e; gives = (h.gives.0, (k.1, k.0)) }
 
 abbrev delete_at : Reader ClauseLine
-delete_at = map_at Delete (behind_at (codes "d ") clause_at)
+delete_at = map_at Delete (behind_at (codes "d ") clause_read_at)
 
 abbrev add_at : Reader ClauseLine
-add_at = map_at Add clause_at
+add_at = map_at Add clause_read_at
 
 pub delete_there : (bytes : List ℕ) → begins (λ b. b == 100) bytes ≡ true → clause_line_at bytes ≡ delete_at bytes
 unfolding clause_line_at
@@ -132,17 +132,17 @@ pub add_there : (bytes : List ℕ) → begins (λ b. b == 100) bytes ≡ false �
 unfolding clause_line_at many_at
 add_there bytes h = chosen_other (λ b. b == 100) delete_at add_at bytes refl h
 
-pub delete_some : (max : ℕ) (old mid new : List ℕ) (c : Clause) → begins (λ b. b == 100) old ≡ true → front_at (codes "d ") old ≡ Some mid → Takes clause_at (IsClauseInRange max) SameSet mid new (Some c) → Takes clause_line_at (IsLineInRange max) IsLineOf old new (Some (Delete c))
-delete_some max old mid new c at e h = record { read = Delete h.read; taken = delete_there old at ∙ taken_behind Delete (codes "d ") clause_at old mid new h.read e h.taken; gives = h.gives }
+pub delete_some : (max : ℕ) (old mid new : List ℕ) (c : Clause) → begins (λ b. b == 100) old ≡ true → front_at (codes "d ") old ≡ Some mid → Takes clause_read_at (IsClauseInRange max) SameSet mid new (Some c) → Takes clause_line_at (IsClauseLineInRange max) IsSameClauseLine old new (Some (Delete c))
+delete_some max old mid new c at e h = record { read = Delete h.read; taken = delete_there old at ∙ taken_behind Delete (codes "d ") clause_read_at old mid new h.read e h.taken; gives = h.gives }
 
-pub delete_none : (max : ℕ) (old mid new : List ℕ) → begins (λ b. b == 100) old ≡ true → front_at (codes "d ") old ≡ Some mid → Takes clause_at (IsClauseInRange max) SameSet mid new None → Takes clause_line_at (IsLineInRange max) IsLineOf old new None
-delete_none max old mid new at e h = record { read = Delete h.read; taken = delete_there old at ∙ taken_behind Delete (codes "d ") clause_at old mid new h.read e h.taken; gives = h.gives }
+pub delete_none : (max : ℕ) (old mid new : List ℕ) → begins (λ b. b == 100) old ≡ true → front_at (codes "d ") old ≡ Some mid → Takes clause_read_at (IsClauseInRange max) SameSet mid new None → Takes clause_line_at (IsClauseLineInRange max) IsSameClauseLine old new None
+delete_none max old mid new at e h = record { read = Delete h.read; taken = delete_there old at ∙ taken_behind Delete (codes "d ") clause_read_at old mid new h.read e h.taken; gives = h.gives }
 
-pub add_some : (max : ℕ) (old new : List ℕ) (c : Clause) → begins (λ b. b == 100) old ≡ false → Takes clause_at (IsClauseInRange max) SameSet old new (Some c) → Takes clause_line_at (IsLineInRange max) IsLineOf old new (Some (Add c))
-add_some max old new c at h = record { read = Add h.read; taken = add_there old at ∙ taken_map Add clause_at old new h.read h.taken; gives = h.gives }
+pub add_some : (max : ℕ) (old new : List ℕ) (c : Clause) → begins (λ b. b == 100) old ≡ false → Takes clause_read_at (IsClauseInRange max) SameSet old new (Some c) → Takes clause_line_at (IsClauseLineInRange max) IsSameClauseLine old new (Some (Add c))
+add_some max old new c at h = record { read = Add h.read; taken = add_there old at ∙ taken_map Add clause_read_at old new h.read h.taken; gives = h.gives }
 
-pub add_none : (max : ℕ) (old new : List ℕ) → begins (λ b. b == 100) old ≡ false → Takes clause_at (IsClauseInRange max) SameSet old new None → Takes clause_line_at (IsLineInRange max) IsLineOf old new None
-add_none max old new at h = record { read = Add h.read; taken = add_there old at ∙ taken_map Add clause_at old new h.read h.taken; gives = h.gives }
+pub add_none : (max : ℕ) (old new : List ℕ) → begins (λ b. b == 100) old ≡ false → Takes clause_read_at (IsClauseInRange max) SameSet old new None → Takes clause_line_at (IsClauseLineInRange max) IsSameClauseLine old new None
+add_none max old new at h = record { read = Add h.read; taken = add_there old at ∙ taken_map Add clause_read_at old new h.read h.taken; gives = h.gives }
 
 -- a text that fails behind a choice
 pub fails_behind : {A B : Type 0} (f : A → B) (text : List ℕ) (item : Reader A) (old mid : List ℕ) → front_at text old ≡ Some mid → item mid ≡ None → map_at f (behind_at text item) old ≡ None
@@ -156,14 +156,14 @@ fails_map f item old h = ap (λ o. o >>= λ y. Some (f y.0, y.1)) h
 
 -- ---- whole lines
 
-pub line_said : (max : ℕ) (bytes rest : List ℕ) (given : Option ClauseLine) (line : ClauseLine) → rest ≡ [] → given ≡ Some line → Takes clause_line_at (IsLineInRange max) IsLineOf bytes rest given → IsTextOf max bytes line
-line_said max bytes rest given line e f h = said reads_clause_line tt (IsLineInRange max) IsLineOf bytes rest given line e f h
+pub line_said : (max : ℕ) (bytes rest : List ℕ) (given : Option ClauseLine) (line : ClauseLine) → rest ≡ [] → given ≡ Some line → Takes clause_line_at (IsClauseLineInRange max) IsSameClauseLine bytes rest given → IsClauseTextOf max bytes line
+line_said max bytes rest given line e f h = said reads_clause_line tt (IsClauseLineInRange max) IsSameClauseLine bytes rest given line e f h
 
-pub line_over : (max : ℕ) (bytes rest : List ℕ) (given : Option ClauseLine) → rest ≢ [] → Takes clause_line_at (IsLineInRange max) IsLineOf bytes rest given → (x : ClauseLine) → IsClauseLine bytes x → ⊥
-line_over max bytes rest given some h = left_over reads_clause_line tt (IsLineInRange max) IsLineOf bytes rest given some h
+pub line_over : (max : ℕ) (bytes rest : List ℕ) (given : Option ClauseLine) → rest ≢ [] → Takes clause_line_at (IsClauseLineInRange max) IsSameClauseLine bytes rest given → (x : ClauseLine) → IsClauseLine bytes x → ⊥
+line_over max bytes rest given some h = left_over reads_clause_line tt (IsClauseLineInRange max) IsSameClauseLine bytes rest given some h
 
-pub line_out : (max : ℕ) (bytes rest : List ℕ) (given : Option ClauseLine) → rest ≡ [] → given ≡ None → Takes clause_line_at (IsLineInRange max) IsLineOf bytes rest given → (x : ClauseLine) × IsClauseLine bytes x × ¬ (IsLineInRange max x)
-line_out max bytes rest given e f h = out_of_range reads_clause_line tt (IsLineInRange max) IsLineOf bytes rest given e f h
+pub line_out : (max : ℕ) (bytes rest : List ℕ) (given : Option ClauseLine) → rest ≡ [] → given ≡ None → Takes clause_line_at (IsClauseLineInRange max) IsSameClauseLine bytes rest given → (x : ClauseLine) × IsClauseLine bytes x × ¬ (IsClauseLineInRange max x)
+line_out max bytes rest given e f h = out_of_range reads_clause_line tt (IsClauseLineInRange max) IsSameClauseLine bytes rest given e f h
 
-pub line_misfit : (max : ℕ) (bytes : List ℕ) (f : LineFail) → IsMisfit (clause_line_at bytes ≡ None) f → IsRefusedText IsClauseLine (IsLineInRange max) bytes f
-line_misfit max bytes f h = misfit_refused {T = ClauseLine} reads_clause_line tt (IsLineInRange max) IsLineOf bytes f h
+pub line_misfit : (max : ℕ) (bytes : List ℕ) (f : LineFail) → IsMisfit (clause_line_at bytes ≡ None) f → SaysNothing IsClauseLine (IsClauseLineInRange max) bytes f
+line_misfit max bytes f h = misfit_refused {T = ClauseLine} reads_clause_line tt (IsClauseLineInRange max) IsSameClauseLine bytes f h

@@ -7,7 +7,7 @@ use Rattle.std.proofs.lemmas.Option.{same_Some}
 use Rattle.graph_core.specs.declared.literal.Lit.{Lit}
 use Rattle.graph_core.specs.Text.{newline}
 use Rattle.graph_core.specs.Text.JudgedLines.{BeginsWith}
-use Rattle.graph_core.specs.Text.Readers.{Anything, Ended, Reader, Reads, ended_at}
+use Rattle.graph_core.specs.Text.Readers.{Anything, Ended, IsReaderOf, Reader, ended_at}
 use Rattle.graph_core.proofs.OfTexts.CallerLemmas.{one_line}
 use Rattle.ripple_graft.specs.declared.block.Block.{Block}
 use Rattle.ripple_graft.specs.declared.cut.Cut.{Cut}
@@ -16,7 +16,7 @@ use Rattle.clause_core.specs.ClauseLines.{ClauseLine}
 use Rattle.drup_text.specs.ClauseReading.{block_line_at, clause_line_at, count_line_at, cut_line_at, pair_line_at}
 use Rattle.drup_text.specs.ClauseTexts.{AreLinesOf, IsBlockLine, IsClauseLine, IsCountLine, IsCutLine, IsPairLine}
 use Rattle.drup_text.specs.declared.head.Header.{Header}
-use Rattle.drup_text.specs.Headers.{AreBlockTexts, IsAnyHeaderText, IsBlocksText, IsCutText, IsHeaderText, head_of, second_line, version_line}
+use Rattle.drup_text.specs.Headers.{AreBlockTexts, IsAnyHeaderText, IsBlocksText, IsClauseHeaderText, IsCutText, head_of, second_line, version_line}
 use Rattle.drup_text.specs.WrittenLaws.{OneTextIsOneFile}
 use Rattle.drup_text.proofs.ClauseReading.{block_item, clause_item, count_item, cut_item, pair_item}
 use Rattle.mv_text.proofs.CallerLemmas.{some_left}
@@ -24,7 +24,7 @@ use Rattle.mv_text.proofs.CallerLemmas.{some_left}
 abbrev NoStep : {Line : Type 0} → ℕ → Line → ℕ → Type 0
 NoStep s x t = ⊥
 
-same_line : {Line : Type 0} (IsText : List ℕ → Line → Type 0) (item : Reader Line) → Reads item (Ended IsText (newline ∷ [])) Anything → (bytes : List ℕ) (x y : Line) (rest more : List ℕ) → BeginsWith IsText bytes x rest → BeginsWith IsText bytes y more → (x ≡ y) × (rest ≡ more)
+same_line : {Line : Type 0} (IsText : List ℕ → Line → Type 0) (item : Reader Line) → IsReaderOf item (Ended IsText (newline ∷ [])) Anything → (bytes : List ℕ) (x y : Line) (rest more : List ℕ) → BeginsWith IsText bytes x rest → BeginsWith IsText bytes y more → (x ≡ y) × (rest ≡ more)
 same_line IsText item r bytes x y rest more h i = one_line IsText NoStep (λ z. ⊥) item r bytes x y rest more h i
 
 pub same_size : (bytes : List ℕ) (x y : Option (ℕ × ℕ)) (rest more : List ℕ) → BeginsWith IsCutLine bytes x rest → BeginsWith IsCutLine bytes y more → (x ≡ y) × (rest ≡ more)
@@ -120,7 +120,7 @@ header_one outputs bytes h k a b i j =
     ⊎_elim (λ p. ⊎_elim (λ q. firsts p.0 q.0 p.1.0 q.1.0 p.1.1 q.1.1 p.1.2 q.1.2) (λ q. absurd (other_version p.1.2.0 q.1.0 (sym p.1.2.2 ∙ q.1.2))) j)
     (λ p. ⊎_elim (λ q. absurd (other_version q.1.2.0 p.1.0 (sym q.1.2.2 ∙ p.1.2))) (λ q. seconds p.0 q.0 p.1.0 q.1.0 p.1.1 q.1.1 p.1.2 q.1.2) j) i
   where
-    firsts : h.version ≡ 1 → k.version ≡ 1 → (c d : Option Cut) → h.blocks ≡ cut_blocks outputs c → k.blocks ≡ cut_blocks outputs d → IsHeaderText bytes c a → IsHeaderText bytes d b → (h ≡ k) × (a ≡ b)
+    firsts : h.version ≡ 1 → k.version ≡ 1 → (c d : Option Cut) → h.blocks ≡ cut_blocks outputs c → k.blocks ≡ cut_blocks outputs d → IsClauseHeaderText bytes c a → IsClauseHeaderText bytes d b → (h ≡ k) × (a ≡ b)
     firsts one first c d cs ds p q =
         let same = cut_one q.0 c d a b (subst (λ z. IsCutText z c a) (same_body p.0 q.0 (sym p.2 ∙ q.2)) p.1) q.1 in
         (ap₂ header (one ∙ sym first) (cs ∙ ap (cut_blocks outputs) same.0 ∙ sym ds), same.1)

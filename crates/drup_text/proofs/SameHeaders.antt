@@ -4,7 +4,7 @@ use Rattle.std.proofs.Common.{refl, sym, subst, ◌∙◌}
 use Rattle.clause_core.specs.ClauseLines.{ClauseLine}
 use Rattle.drup_text.specs.ClauseTexts.{AreLinesOf, IsClauseLine}
 use Rattle.drup_text.specs.SameFiles.{IsSameFile, WrittenSameIsRead, same_line}
-use Rattle.drup_text.specs.WrittenTexts.{lines_text}
+use Rattle.drup_text.specs.WrittenTexts.{clause_lines_text}
 use Rattle.drup_text.proofs.OneFile.{lines_one}
 use Rattle.drup_text.proofs.WrittenAgain.{lines_written}
 
@@ -16,4 +16,4 @@ one_same_file bytes xs ys h i = lines_one i.0 xs ys (subst (λ z. AreLinesOf IsC
     same_body x y e = cc
 
 pub written_same_is_read : WrittenSameIsRead
-written_same_is_read lines all = (lines_text lines, lines_written lines all, refl)
+written_same_is_read lines all = (clause_lines_text lines, lines_written lines all, refl)

@@ -10,7 +10,7 @@ use Rattle.clause_core.specs.declared.line.Line.TheVariants.{Add, Delete}
 use Rattle.ripple_graft.specs.Blocks.{block}
 use Rattle.drup_text.specs.declared.head.Header.{Header}
 use Rattle.drup_text.specs.ClauseReading.{block_line_at, clause_line_at, count_line_at, cut_line_at, pair_line_at}
-use Rattle.drup_text.specs.WrittenTexts.{any_file_text, line_text}
+use Rattle.drup_text.specs.WrittenTexts.{any_file_text, clause_line_text}
 
 the_cut : Cut
 the_cut = record { lo = 2; pairs = (record { 0 = 16 }, record { 0 = 18 }) ∷ [] }
@@ -44,7 +44,7 @@ no_block_file : any_file_text (record { version = 2; blocks = [] }) [] ≡ codes
 unfolding digits
 no_block_file = refl
 
-deleted : line_text (Delete (pos 12 ∷ pos 21 ∷ [])) ≡ codes "d 12 21 0"
+deleted : clause_line_text (Delete (pos 12 ∷ pos 21 ∷ [])) ≡ codes "d 12 21 0"
 unfolding digits
 deleted = refl
 

@@ -9,7 +9,7 @@ use Rattle.std.specs.declared.result.Result.TheVariants.{Err, Ok}
 use Rattle.std.specs.declared.vec.Vec.{Vec}
 use Rattle.std.proofs.Common.{sym, ap, subst, ◌∙◌, arith, inl, inr, ⊎_elim}
 use Rattle.std.proofs.lemmas.Result.{IfOk-weaker}
-use Rattle.mv_desk.specs.declared.faults.LineFail.TheVariants as fail
+use Rattle.mv_text.specs.declared.line_fail.LineFail.TheVariants as fail
 use Rattle.graph_core.specs.Graph.{Aig}
 use Rattle.graph_core.specs.Graph.Extended.{without_cut}
 use Rattle.graph_core.specs.Text.{newline}
@@ -23,7 +23,7 @@ use Rattle.ripple_graft.specs.HeaderBlocks.{AreHeaderBlocks, IsCutOf, cut_blocks
 use Rattle.drup_text.specs.declared.fault.StartFail.{StartFail}
 use Rattle.drup_text.specs.declared.head.Header.{Header}
 use Rattle.mv_text.specs.CertificateFiles.{FileState, TakesText}
-use Rattle.drup_text.specs.PassingHeaders.{HasHeader, IsCause, PassesAnyHeader, PassesBlocks, PassesCount, PassesCut, PassesHeader, block_lines, lines_in}
+use Rattle.drup_text.specs.PassingHeaders.{HasClauseHeader, IsCause, PassesAnyHeader, PassesBlocks, PassesCount, PassesCut, PassesHeader, block_lines, header_line_count}
 use Rattle.drup_text.specs.HeaderRefusal.{IsRefusedCut, nothing_later}
 use Rattle.drup_text.specs.HeaderSteps.{IsBlocksRefusal, IsCountRefusal, IsLongIn, IsVersionRefusal, Leaves, TakesBlocks, TakesCount, TakesCut, TakesVersion}
 use Rattle.drup_text.specs.Headers.{IsVersionLine}
@@ -95,15 +95,15 @@ pub fit_cut : (g : Aig) (version : ℕ) (r : Answer) (cut : Cut) → version ≡
 fit_cut g version r cut one fits is = IfOk-weaker r (λ bs. bs.items ≡ cut_blocks (length g.outputs) (Some cut)) (λ bs. AreHeaderBlocks g version bs.items) (λ bs k. inl (one, (Some cut, k, fits))) is
 
 -- how many lines there are, in bytes
-pub lines_two : (version one n : ℕ) (r : Answer) → version ≡ 2 → IfOk r (λ bs. one + 2 + block_lines 1 bs.items ≤ n + 1) → IfOk r (λ bs. one + lines_in version bs.items ≤ n + 1)
-lines_two version one n r two h = IfOk-weaker r (λ bs. one + 2 + block_lines 1 bs.items ≤ n + 1) (λ bs. one + lines_in version bs.items ≤ n + 1)
-    (λ bs k. subst (λ v. one + lines_in v bs.items ≤ n + 1) (sym two) (omega (arith, k))) h
+pub lines_two : (version one n : ℕ) (r : Answer) → version ≡ 2 → IfOk r (λ bs. one + 2 + block_lines 1 bs.items ≤ n + 1) → IfOk r (λ bs. one + header_line_count version bs.items ≤ n + 1)
+lines_two version one n r two h = IfOk-weaker r (λ bs. one + 2 + block_lines 1 bs.items ≤ n + 1) (λ bs. one + header_line_count version bs.items ≤ n + 1)
+    (λ bs k. subst (λ v. one + header_line_count v bs.items ≤ n + 1) (sym two) (omega (arith, k))) h
 
-pub lines_one : (version one n : ℕ) (blocks some : List Block) → version ≡ 1 → blocks ≡ some → one + lines_in 1 some ≤ n + 1 → one + lines_in version blocks ≤ n + 1
-lines_one version one n blocks some first is h = subst (λ v. one + lines_in v blocks ≤ n + 1) (sym first) (subst (λ bs. one + lines_in 1 bs ≤ n + 1) (sym is) h)
+pub lines_one : (version one n : ℕ) (blocks some : List Block) → version ≡ 1 → blocks ≡ some → one + header_line_count 1 some ≤ n + 1 → one + header_line_count version blocks ≤ n + 1
+lines_one version one n blocks some first is h = subst (λ v. one + header_line_count v blocks ≤ n + 1) (sym first) (subst (λ bs. one + header_line_count 1 bs ≤ n + 1) (sym is) h)
 
-pub lines_cut : (version one n : ℕ) (r : Answer) (some : List Block) → version ≡ 1 → IfOk r (λ bs. bs.items ≡ some) → one + lines_in 1 some ≤ n + 1 → IfOk r (λ bs. one + lines_in version bs.items ≤ n + 1)
-lines_cut version one n r some first is h = IfOk-weaker r (λ bs. bs.items ≡ some) (λ bs. one + lines_in version bs.items ≤ n + 1) (λ bs k. lines_one version one n bs.items some first k h) is
+pub lines_cut : (version one n : ℕ) (r : Answer) (some : List Block) → version ≡ 1 → IfOk r (λ bs. bs.items ≡ some) → one + header_line_count 1 some ≤ n + 1 → IfOk r (λ bs. one + header_line_count version bs.items ≤ n + 1)
+lines_cut version one n r some first is h = IfOk-weaker r (λ bs. bs.items ≡ some) (λ bs. one + header_line_count version bs.items ≤ n + 1) (λ bs k. lines_one version one n bs.items some first k h) is
 
 -- ---- the whole header
 
@@ -131,7 +131,7 @@ module _ (g : Aig) (lengths : Lengths) (lines now new : Lines) (version : ℕ) (
   }
 
   has : (file : FileState) (bytes rest body : List ℕ) (after : Option (List ℕ)) → file.lines ≡ new → new.lengths ≡ lines.lengths → now.taken + length rest ≡ lines.taken + length bytes → Leaves now new rest after body →
-      PassesAnyHeader g lengths bytes h body → HasHeader g file bytes after h
+      PassesAnyHeader g lengths bytes h body → HasClauseHeader g file bytes after h
   has file bytes rest body after lines_are new_lengths taken leaves passes =
       let none = fresh.taken in
       let behind = leaves.taken in
@@ -145,9 +145,9 @@ module _ (g : Aig) (lengths : Lengths) (lines now new : Lines) (version : ℕ) (
       }
 
   pub header_there : (file : FileState) (blocks : List Block) (before left after : Option (List ℕ)) → file.lines ≡ new → new.lengths ≡ lines.lengths → h.blocks ≡ blocks → IfSome before (λ bytes. TakesText IsVersionLine lines now bytes left version) →
-      IfSome left (λ bytes. TakesVersion g version now new bytes after blocks) → IfSome before (λ bytes. HasHeader g file bytes after h)
+      IfSome left (λ bytes. TakesVersion g version now new bytes after blocks) → IfSome before (λ bytes. HasClauseHeader g file bytes after h)
   header_there file blocks before left after lines_are new_lengths blocks_are first behind =
-      told_from before (λ bytes. TakesText IsVersionLine lines now bytes left version) (λ bytes. HasHeader g file bytes after h) (λ bytes e t.
+      told_from before (λ bytes. TakesText IsVersionLine lines now bytes left version) (λ bytes. HasClauseHeader g file bytes after h) (λ bytes e t.
       ⊎_elim
       (λ a. has file bytes t.rest a.1.2.0 after lines_are new_lengths t.taken a.1.2.2 (inl (is ∙ a.0, (a.1.0, blocks_are ∙ a.1.1, passes_one bytes left after t a.1.0 a.0 a.1.2))))
       (λ b. has file bytes t.rest b.1.0 after lines_are new_lengths t.taken b.1.2 (inr (is ∙ b.0, subst (λ bs. PassesBlocks g lengths bytes bs b.1.0) (sym blocks_are) (passes_two bytes left after t blocks b.0 b.1))))

@@ -5,16 +5,16 @@ use Rattle.std.specs.declared.option.Option.TheVariants.{None, Some}
 use Rattle.std.proofs.Common.{sym, ap, subst, ◌∙◌}
 use Rattle.std.proofs.lemmas.Option.{same_Some}
 use Rattle.std.proofs.lemmas.List.{append-nil}
-use Rattle.graph_core.specs.Text.Readers.{Reader, Reads}
-use Rattle.mv_desk.specs.declared.faults.LineFail.{LineFail}
-use Rattle.mv_desk.specs.declared.faults.LineFail.TheVariants as fail
+use Rattle.graph_core.specs.Text.Readers.{IsReaderOf, Reader}
+use Rattle.mv_text.specs.declared.line_fail.LineFail.{LineFail}
+use Rattle.mv_text.specs.declared.line_fail.LineFail.TheVariants as fail
 use Rattle.mv_text.specs.Steps.{IsMisfit, Takes}
-use Rattle.mv_text.specs.CertificateFiles.{IsRefusedText}
+use Rattle.mv_text.specs.CertificateFiles.{SaysNothing}
 
 nothing : {A : Type 0} (o : Option A) (x : A) → o ≡ None → o ≡ Some x → ⊥
 nothing o x e f = let g : None ≡ Some x = sym e ∙ f in absurd (cc)
 
-module _ {X T : Type 0} {item : Reader X} {IsText : List ℕ → X → Type 0} {Follows : List ℕ → Type 0} (r : Reads item IsText Follows) (stop : Follows []) (InRange : X → Type 0) (Is : X → T → Type 0) where
+module _ {X T : Type 0} {item : Reader X} {IsText : List ℕ → X → Type 0} {Follows : List ℕ → Type 0} (r : IsReaderOf item IsText Follows) (stop : Follows []) (InRange : X → Type 0) (Is : X → T → Type 0) where
   whole : (bytes : List ℕ) (x : X) → item bytes ≡ Some (x, []) → IsText bytes x
   whole bytes x h = let t = r.takes bytes x [] h in subst (λ z. IsText z x) (sym (t.2 ∙ append-nil t.0)) t.1
 
@@ -37,7 +37,7 @@ module _ {X T : Type 0} {item : Reader X} {IsText : List ℕ → X → Type 0} {
       let k = subst (λ o. Takes item InRange Is bytes [] o) f (subst (λ z. Takes item InRange Is bytes z given) e h) in
       (k.read, whole bytes k.read k.taken, k.gives)
 
-  pub misfit_refused : (bytes : List ℕ) (f : LineFail) → IsMisfit (item bytes ≡ None) f → IsRefusedText IsText InRange bytes f
+  pub misfit_refused : (bytes : List ℕ) (f : LineFail) → IsMisfit (item bytes ≡ None) f → SaysNothing IsText InRange bytes f
   misfit_refused bytes fail.Text h = λ x is. nothing (item bytes) (x, []) h (again bytes x is)
   misfit_refused bytes fail.Range h = absurd h
   misfit_refused bytes fail.Fault h = h

@@ -25,9 +25,9 @@ use Rattle.clause_core.specs.declared.line.Line.TheVariants.{Add, Delete}
 use Rattle.drup_text.specs.ClauseTexts.{AreLinesOf, IsClauseLine, IsClauseText, IsLiteralText, IsPairLine, IsVariableText}
 use Rattle.drup_text.specs.declared.head.Header.{Header}
 use Rattle.drup_text.specs.Headers.{AreBlockTexts, IsAnyHeaderText, IsBlocksText, IsCutText, IsHeaderOf, second_line, version_line}
-use Rattle.drup_text.specs.LineTexts.{IsLineOf}
-use Rattle.drup_text.specs.WrittenLaws.{IsWritableLine, WrittenFilesAreRead, WrittenLinesAreRead}
-use Rattle.drup_text.specs.WrittenTexts.{block_text, blocks_text, clause_text, count_text, cut_text, first_cut, head_text, header_text, line_text, lines_text, pairs_text, two_text}
+use Rattle.drup_text.specs.LineTexts.{IsSameClauseLine}
+use Rattle.drup_text.specs.WrittenLaws.{IsWritableLine, WrittenClausesAreRead, WrittenFilesAreRead}
+use Rattle.drup_text.specs.WrittenTexts.{block_head_text, block_text, blocks_text, clause_line_text, clause_lines_text, clause_text, count_text, cut_text, first_cut, header_text, pairs_text, two_text}
 use Rattle.drup_text.proofs.Writable.{IsWord, block_is_writable}
 
 -- ---- numbers
@@ -51,20 +51,20 @@ clause_written : (c : Clause) → All IsLiteral c → IsClauseText (clause_text 
 clause_written [] h = refl
 clause_written (l ∷ ls) h = (signed_decimal l, clause_text ls, literal_written l (All-head IsLiteral l ls h), clause_written ls (All-tail IsLiteral l ls h), refl)
 
-line_written : (x : ClauseLine) → IsWritableLine x → IsClauseLine (line_text x) x
+line_written : (x : ClauseLine) → IsWritableLine x → IsClauseLine (clause_line_text x) x
 line_written (Add c) h = clause_written c h
 line_written (Delete c) h = (clause_text c, clause_written c h, refl)
 
-line_same : (x : ClauseLine) → IsLineOf x x
+line_same : (x : ClauseLine) → IsSameClauseLine x x
 line_same (Add c) = (λ l h. h, λ l h. h)
 line_same (Delete c) = (λ l h. h, λ l h. h)
 
-pub written_lines_are_read : WrittenLinesAreRead
+pub written_lines_are_read : WrittenClausesAreRead
 written_lines_are_read max line writable range = (line, line_written line writable, range, line_same line)
 
-pub lines_written : (lines : List ClauseLine) → All IsWritableLine lines → AreLinesOf IsClauseLine (lines_text lines) lines []
+pub lines_written : (lines : List ClauseLine) → All IsWritableLine lines → AreLinesOf IsClauseLine (clause_lines_text lines) lines []
 lines_written [] h = refl
-lines_written (x ∷ xs) h = (lines_text xs, (line_text x, line_written x (All-head IsWritableLine x xs h), refl), lines_written xs (All-tail IsWritableLine x xs h))
+lines_written (x ∷ xs) h = (clause_lines_text xs, (clause_line_text x, line_written x (All-head IsWritableLine x xs h), refl), lines_written xs (All-tail IsWritableLine x xs h))
 
 -- ---- headers
 
@@ -97,9 +97,9 @@ blocks_written g e (b ∷ blocks) after built made fit =
       pairs_text b.cut.pairs ++ (blocks_text blocks ++ after),
       blocks_text blocks ++ after,
       (
-        head_text b,
+        block_head_text b,
         (decimal b.cut.lo, decimal (length b.cut.pairs), numeral b.cut.lo w.lo, numeral (length b.cut.pairs) w.count, refl),
-        append_assoc (block_text b) (blocks_text blocks) after ∙ append_assoc (head_text b) (newline ∷ pairs_text b.cut.pairs) (blocks_text blocks ++ after),
+        append_assoc (block_text b) (blocks_text blocks) after ∙ append_assoc (block_head_text b) (newline ∷ pairs_text b.cut.pairs) (blocks_text blocks ++ after),
       ),
       pairs_written b.cut.pairs (blocks_text blocks ++ after) w.pairs,
       blocks_written g (graft_block e b) blocks after built (grafted_more g e b made fit.0) fit.1,
@@ -134,4 +134,4 @@ header_written g h after built takes = ⊎_elim (λ a. one a.0 a.1.0 a.1.1 a.1.2
         inr (is, (count_text h.blocks ++ after, count_written g h.blocks after built fit, ap (λ z. z ++ after) (text 2 is) ∙ append_assoc second_line (count_text h.blocks) after))
 
 pub written_files_are_read : WrittenFilesAreRead
-written_files_are_read g h lines built takes all = (lines_text lines, header_written g h (lines_text lines) built takes, lines_written lines all)
+written_files_are_read g h lines built takes all = (clause_lines_text lines, header_written g h (clause_lines_text lines) built takes, lines_written lines all)

@@ -8,7 +8,7 @@ use Rattle.std.specs.declared.option.Option.TheVariants.{None, Some}
 use Rattle.ripple_graft.specs.declared.block.Block.{Block}
 use Rattle.clause_core.specs.ClauseLines.{ClauseLine}
 use Rattle.drup_text.specs.Headers.{second_line}
-use Rattle.drup_text.specs.WrittenTexts.{block_text, blocks_text, clause_text, first_cut, line_text, lines_text, literals_text, pairs_text, two_text}
+use Rattle.drup_text.specs.WrittenTexts.{block_text, blocks_text, clause_line_text, clause_lines_text, clause_text, first_cut, literals_text, pairs_text, two_text}
 
 pub next_item : {A : Type 0} (xs : List A) (i : ℕ) (d : A) → i < length xs → drop i xs ≡ get_or xs i d ∷ drop (i + 1) xs
 next_item xs i d early = let one : suc i ≡ i + 1 = omega arith in drop-cons xs i d early ∙ ap (λ n. get_or xs i d ∷ drop n xs) one
@@ -19,9 +19,9 @@ next_pair pairs i d early =
     let p = get_or pairs i d in
     ap pairs_text (next_item pairs i d early) ∙ sym (append_assoc (two_text p.0.0 p.1.0) (newline ∷ []) (pairs_text (drop (i + 1) pairs)))
 
-pub next_line : (lines : List ClauseLine) (i : ℕ) (d : ClauseLine) → i < length lines → lines_text (drop i lines) ≡ (line_text (get_or lines i d) ++ newline ∷ []) ++ lines_text (drop (i + 1) lines)
+pub next_line : (lines : List ClauseLine) (i : ℕ) (d : ClauseLine) → i < length lines → clause_lines_text (drop i lines) ≡ (clause_line_text (get_or lines i d) ++ newline ∷ []) ++ clause_lines_text (drop (i + 1) lines)
 next_line lines i d early =
-    ap lines_text (next_item lines i d early) ∙ sym (append_assoc (line_text (get_or lines i d)) (newline ∷ []) (lines_text (drop (i + 1) lines)))
+    ap clause_lines_text (next_item lines i d early) ∙ sym (append_assoc (clause_line_text (get_or lines i d)) (newline ∷ []) (clause_lines_text (drop (i + 1) lines)))
 
 pub next_block : (blocks : List Block) (i : ℕ) (d : Block) → i < length blocks → blocks_text (drop i blocks) ≡ block_text (get_or blocks i d) ++ blocks_text (drop (i + 1) blocks)
 next_block blocks i d early = ap blocks_text (next_item blocks i d early)

@@ -33,16 +33,16 @@ abbrev pub literal_at : Reader ℤ
 literal_at = choose_at (λ b. b == 45) (map_at minus_number (behind_at (codes "-") nonzero_at)) (map_at pos nonzero_at)
 
 -- literals, each with a space behind it
-abbrev pub literals_at : Reader (List ℤ)
-literals_at = many_at is_no_zero (ended_at literal_at (codes " "))
+abbrev pub clause_literals_at : Reader (List ℤ)
+clause_literals_at = many_at is_no_zero (ended_at literal_at (codes " "))
 
 -- and a 0
-abbrev pub clause_at : Reader Clause
-clause_at = ended_at literals_at (codes "0")
+abbrev pub clause_read_at : Reader Clause
+clause_read_at = ended_at clause_literals_at (codes "0")
 
 -- a line without its line feed
 unfoldable pub clause_line_at : Reader ClauseLine
-clause_line_at = choose_at (λ b. b == 100) (map_at Delete (behind_at (codes "d ") clause_at)) (map_at Add clause_at)
+clause_line_at = choose_at (λ b. b == 100) (map_at Delete (behind_at (codes "d ") clause_read_at)) (map_at Add clause_read_at)
 
 -- two numbers with a space between them
 abbrev pub two_at : Reader (ℕ × ℕ)

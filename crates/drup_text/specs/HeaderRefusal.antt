@@ -103,8 +103,8 @@ abbrev pub HasNoVersion : List ℕ → Type 0
 HasNoVersion bytes = ((body : List ℕ) → bytes ≢ version_line ++ body) × ((body : List ℕ) → bytes ≢ second_line ++ body)
 
 -- The first refusal of a file: its line, from 1, and its cause.
-abbrev pub IsFirstRefusal : Later → Aig → Lengths → List ℕ → ℕ × LineCause → Type 0
-IsFirstRefusal later g lengths bytes =
+abbrev pub IsFirstHeaderRefusal : Later → Aig → Lengths → List ℕ → ℕ × LineCause → Type 0
+IsFirstHeaderRefusal later g lengths bytes =
     Unless (¬ (IsTooLong lengths (length bytes) bytes)) (IsTooLong lengths (length bytes) bytes) (1, TooLong)
     (λ p. (HasNoVersion bytes × (p ≡ (1, Text))) ⊎
     (((body : List ℕ) × (bytes ≡ version_line ++ body) × IsRefusedCut later g (IsTooLong lengths (length bytes)) body p) ⊎
@@ -115,5 +115,5 @@ abbrev pub nothing_later : Later
 nothing_later e number bytes p = ⊥
 
 -- The first refusal within the header.
-abbrev pub IsHeaderRefusal : Aig → Lengths → List ℕ → ℕ × LineCause → Type 0
-IsHeaderRefusal = IsFirstRefusal nothing_later
+abbrev pub IsClauseHeaderRefusal : Aig → Lengths → List ℕ → ℕ × LineCause → Type 0
+IsClauseHeaderRefusal = IsFirstHeaderRefusal nothing_later

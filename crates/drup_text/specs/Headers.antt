@@ -27,8 +27,8 @@ IsCutText bytes (Some cut) after =
     (rest : List ℕ) × BeginsWith IsCutLine bytes (Some (cut.lo, length cut.pairs)) rest × AreLinesOf IsPairLine rest cut.pairs after
 
 -- the whole header of version 1, and the bytes after it
-abbrev pub IsHeaderText : List ℕ → Option Cut → List ℕ → Type 0
-IsHeaderText bytes cut after = (rest : List ℕ) × IsCutText rest cut after × (bytes ≡ version_line ++ rest)
+abbrev pub IsClauseHeaderText : List ℕ → Option Cut → List ℕ → Type 0
+IsClauseHeaderText bytes cut after = (rest : List ℕ) × IsCutText rest cut after × (bytes ≡ version_line ++ rest)
 
 -- ---- version 2: blocks in order
 
@@ -57,7 +57,7 @@ IsBlocksText bytes blocks after = (rest : List ℕ) × BeginsWith IsCountLine by
 -- The whole header over a graph with so many outputs, and the bytes after it.
 abbrev pub IsAnyHeaderText : ℕ → List ℕ → Header → List ℕ → Type 0
 IsAnyHeaderText outputs bytes h after =
-    ((h.version ≡ 1) × ((cut : Option Cut) × (h.blocks ≡ cut_blocks outputs cut) × IsHeaderText bytes cut after)) ⊎
+    ((h.version ≡ 1) × ((cut : Option Cut) × (h.blocks ≡ cut_blocks outputs cut) × IsClauseHeaderText bytes cut after)) ⊎
     ((h.version ≡ 2) × ((rest : List ℕ) × IsBlocksText rest h.blocks after × (bytes ≡ second_line ++ rest)))
 
 -- The graph takes its blocks.

@@ -4,7 +4,7 @@ use Rattle.std.specs.declared.option.Option.{Option}
 use Rattle.graph_core.specs.declared.literal.Lit.{Lit}
 use Rattle.graph_core.specs.Graph.Extended.{Extended}
 use Rattle.ripple_graft.specs.Extension.{IsKnown}
-use Rattle.ripple_graft.specs.Grafts.{HasRoom}
+use Rattle.ripple_graft.specs.Grafts.{HasColumnRoom}
 use Rattle.clause_core.specs.Clause.{IsClauseInRange, SameSet}
 use Rattle.clause_core.specs.ClauseLines.{ClauseLine, clause_in}
 use Rattle.clause_core.specs.declared.line.Line.TheVariants.{Add, Delete}
@@ -13,8 +13,8 @@ use Rattle.drup_text.specs.ClauseTexts.{IsBlockLine, IsClauseLine, IsCountLine, 
 -- ---- what is in range
 
 -- each variable of the line's clause is from 1 to the greatest one
-abbrev pub IsLineInRange : ℕ → ClauseLine → Type 0
-IsLineInRange max x = IsClauseInRange max (clause_in x)
+abbrev pub IsClauseLineInRange : ℕ → ClauseLine → Type 0
+IsClauseLineInRange max x = IsClauseInRange max (clause_in x)
 
 -- Of a graph with so many outputs a cut at this column with so many pairs ends at the last column or the one before it.
 abbrev pub IsCutSize : ℕ → ℕ × ℕ → Type 0
@@ -30,7 +30,7 @@ IsCountInRange outputs n = n ≤ outputs
 
 -- the block has its columns behind the blocks before it
 abbrev pub IsHeadOf : Extended → ℕ × ℕ × Bool → Type 0
-IsHeadOf e h = HasRoom e h.0 h.1 h.2
+IsHeadOf e h = HasColumnRoom e h.0 h.1 h.2
 
 -- both literals are the constant, inputs or gates, of the graph or of the blocks so far
 abbrev pub IsPairOf : Extended → Lit × Lit → Type 0
@@ -39,15 +39,15 @@ IsPairOf e p = IsKnown e p.0 × IsKnown e p.1
 -- ---- what code has
 
 -- Both add a clause or both delete one, of the same literals.
-abbrev pub IsLineOf : ClauseLine → ClauseLine → Type 0
-IsLineOf (Add c) (Add d) = SameSet c d
-IsLineOf (Add c) (Delete d) = ⊥
-IsLineOf (Delete c) (Add d) = ⊥
-IsLineOf (Delete c) (Delete d) = SameSet c d
+abbrev pub IsSameClauseLine : ClauseLine → ClauseLine → Type 0
+IsSameClauseLine (Add c) (Add d) = SameSet c d
+IsSameClauseLine (Add c) (Delete d) = ⊥
+IsSameClauseLine (Delete c) (Add d) = ⊥
+IsSameClauseLine (Delete c) (Delete d) = SameSet c d
 
 -- The text is one of a line in range, of which code has this.
-abbrev pub IsTextOf : ℕ → List ℕ → ClauseLine → Type 0
-IsTextOf max bytes line = (x : ClauseLine) × IsClauseLine bytes x × IsLineInRange max x × IsLineOf x line
+abbrev pub IsClauseTextOf : ℕ → List ℕ → ClauseLine → Type 0
+IsClauseTextOf max bytes line = (x : ClauseLine) × IsClauseLine bytes x × IsClauseLineInRange max x × IsSameClauseLine x line
 
 -- The text is one of this cut in range, or of this pair.
 abbrev pub IsCutTextOf : ℕ → List ℕ → Option (ℕ × ℕ) → Type 0

@@ -3,8 +3,8 @@ use Rattle.std.specs.Prelude.{◌≡◌, ◌+◌, ◌⊎◌, ◌==◌, ℕ, List
 use Rattle.std.specs.declared.option.Option.{Option}
 use Rattle.std.specs.declared.option.Option.TheVariants.{None, Some}
 use Rattle.mv_desk.specs.View.{Rose}
-use Rattle.mv_desk.specs.declared.faults.LineFail.{LineFail}
-use Rattle.mv_desk.specs.declared.faults.LineFail.TheVariants as fail
+use Rattle.mv_text.specs.declared.line_fail.LineFail.{LineFail}
+use Rattle.mv_text.specs.declared.line_fail.LineFail.TheVariants as fail
 use Rattle.graph_core.specs.Graph.{Aig}
 use Rattle.graph_core.specs.Text.JudgedLines.{BeginsWith, Behind, IsTooLong, Lengths}
 use Rattle.mv_text.specs.CertificateFiles.{FileState}
@@ -14,7 +14,7 @@ use Rattle.ripple_graft.specs.Blocks.{graft_block}
 use Rattle.ripple_graft.specs.declared.cut.Cut.{Cut}
 use Rattle.drup_text.specs.declared.head.Header.{Header}
 use Rattle.drup_text.specs.ClauseTexts.{IsBlockLine, IsCountLine, IsCutLine, IsPairLine}
-use Rattle.drup_text.specs.HeaderRefusal.{LineCause, IsHeaderRefusal, IsPairStep, Range, Text, TooLong}
+use Rattle.drup_text.specs.HeaderRefusal.{LineCause, IsClauseHeaderRefusal, IsPairStep, Range, Text, TooLong}
 use Rattle.drup_text.specs.Headers.{head_of, second_line, version_line}
 use Rattle.ripple_graft.specs.HeaderBlocks.{cut_blocks}
 use Rattle.drup_text.specs.LineTexts.{IsCountInRange, IsCutSize, IsHeadOf}
@@ -66,7 +66,7 @@ PassesAnyHeader g lengths bytes h body =
     ((h.version ≡ 2) × PassesBlocks g lengths bytes h.blocks body)
 
 -- So it does, and these bytes are left behind it.
-pub record HasHeader (g : Aig) (new : FileState) (bytes : List ℕ) (after : Option (List ℕ)) (h : Header) : Type 0 where
+pub record HasClauseHeader (g : Aig) (new : FileState) (bytes : List ℕ) (after : Option (List ℕ)) (h : Header) : Type 0 where
   pub body : List ℕ
   pub passes : PassesAnyHeader g new.lines.lengths bytes h body
   pub left : after ≡ Some body
@@ -82,8 +82,8 @@ abbrev pub own_line : ℕ → ℕ
 own_line version = if version == 2 then 1 else 0
 
 -- how many lines a header of either version has
-abbrev pub lines_in : ℕ → List Block → ℕ
-lines_in version blocks = 2 + block_lines (own_line version) blocks
+abbrev pub header_line_count : ℕ → List Block → ℕ
+header_line_count version blocks = 2 + block_lines (own_line version) blocks
 
 -- Why some of the lines of a header aren't had, where what is left has such first refusals: this one, a failed read, or want of memory.
 abbrev pub IsCause : (List ℕ → ℕ × LineCause → Type 0) → Option (List ℕ) → ℕ → ℕ → ℕ → LineFail → Type 0
@@ -95,4 +95,4 @@ IsCause Refused left before now line fail.Memory = Unit {0}
 
 -- Why a file has no header that the graph takes.
 abbrev pub IsStartRefusal : Aig → Lengths → Option (List ℕ) → ℕ → ℕ → StartFail → Type 0
-IsStartRefusal g lengths left before now f = IsCause (IsHeaderRefusal g lengths) left before now f.line f.why
+IsStartRefusal g lengths left before now f = IsCause (IsClauseHeaderRefusal g lengths) left before now f.line f.why

@@ -8,7 +8,7 @@ use Rattle.clause_core.specs.ClauseLines.{ClauseLine}
 use Rattle.drup_text.specs.ClauseTexts.{AreLinesOf, IsClauseLine}
 use Rattle.mv_text.specs.CertificateFiles.{IsFirstRefusal}
 use Rattle.drup_text.specs.WrittenLaws.{IsWritableLine}
-use Rattle.drup_text.specs.WrittenTexts.{lines_text}
+use Rattle.drup_text.specs.WrittenTexts.{clause_lines_text}
 use Rattle.drup_text.specs.declared.fault.StartFail.{StartFail}
 
 abbrev pub same_line : List ℕ
@@ -26,7 +26,7 @@ pub record IsSameStartRefusal (lengths : Lengths) (left : Option (List ℕ)) (be
 -- ---- what is written
 
 abbrev pub same_text : List ClauseLine → List ℕ
-same_text lines = same_line ++ lines_text lines
+same_text lines = same_line ++ clause_lines_text lines
 
 -- A whole text that is written is the file of these lines.
 abbrev pub WrittenSameIsRead : Type 0

@@ -1,5 +1,5 @@
 -- What the steps of reading a line of a clause certificate take.
-use Rattle.std.specs.Prelude.{◌≡◌, ◌≢◌, ◌<◌, ◌≤◌, ℕ, ℤ, Bool, List, pos, nat_abs}
+use Rattle.std.specs.Prelude.{◌≡◌, ◌≢◌, ◌≤◌, ℕ, ℤ, Bool, List, pos, nat_abs}
 use Rattle.std.specs.Global.{Global}
 use Rattle.std.specs.List.{All}
 use Rattle.std.specs.declared.option.Option.{Option}
@@ -11,20 +11,16 @@ use Rattle.graph_core.specs.Text.Readers.{Reader}
 use Rattle.clause_core.specs.Clause.{Clause, IsClauseInRange, SameSet}
 use Rattle.clause_core.specs.ClauseLines.{ClauseLine}
 use Rattle.mv_text.specs.Steps.{Takes}
-use Rattle.drup_text.specs.ClauseReading.{block_line_at, carry_at, clause_at, count_line_at, cut_line_at, literals_at, pair_line_at, two_at}
-use Rattle.drup_text.specs.LineTexts.{IsCountInRange, IsHeadOf, IsLineInRange, IsLineOf, IsPairOf, IsSizeInRange}
+use Rattle.drup_text.specs.ClauseReading.{block_line_at, carry_at, clause_literals_at, clause_read_at, count_line_at, cut_line_at, pair_line_at, two_at}
+use Rattle.drup_text.specs.LineTexts.{IsClauseLineInRange, IsCountInRange, IsHeadOf, IsPairOf, IsSameClauseLine, IsSizeInRange}
 
--- a variable from 1 to the greatest one
-abbrev pub IsVariable : ℕ → ℕ → Type 0
-IsVariable max v = (0 < v) × (v ≤ max)
-
--- or its negation
+-- a variable from 1 to the greatest one, or its negation
 abbrev pub IsLiteralInRange : ℕ → ℤ → Type 0
 IsLiteralInRange max l = (l ≢ pos 0) × (nat_abs l ≤ max)
 
 -- both are at most so great
-abbrev pub AreUpTo : ℕ → ℕ × ℕ → Type 0
-AreUpTo most n = (n.0 ≤ most) × (n.1 ≤ most)
+abbrev pub AreBothUpTo : ℕ → ℕ × ℕ → Type 0
+AreBothUpTo most n = (n.0 ≤ most) × (n.1 ≤ most)
 
 abbrev pub TakesLiteral : Reader ℤ → ℕ → List ℕ → List ℕ → Option ℤ → Type 0
 TakesLiteral item max = Takes item (IsLiteralInRange max) (λ l k. l ≡ k)
@@ -33,17 +29,17 @@ abbrev pub HasItems : List ℤ → Vec ℤ Global → Type 0
 HasItems ls all = all.items ≡ ls
 
 abbrev pub TakesLiterals : ℕ → List ℕ → List ℕ → Option (Vec ℤ Global) → Type 0
-TakesLiterals max = Takes literals_at (All (IsLiteralInRange max)) HasItems
+TakesLiterals max = Takes clause_literals_at (All (IsLiteralInRange max)) HasItems
 
 -- a clause, as a set
 abbrev pub TakesClause : ℕ → List ℕ → List ℕ → Option Clause → Type 0
-TakesClause max = Takes clause_at (IsClauseInRange max) SameSet
+TakesClause max = Takes clause_read_at (IsClauseInRange max) SameSet
 
-abbrev pub TakesLine : Reader ClauseLine → ℕ → List ℕ → List ℕ → Option ClauseLine → Type 0
-TakesLine item max = Takes item (IsLineInRange max) IsLineOf
+abbrev pub ReadsClauseLine : Reader ClauseLine → ℕ → List ℕ → List ℕ → Option ClauseLine → Type 0
+ReadsClauseLine item max = Takes item (IsClauseLineInRange max) IsSameClauseLine
 
 abbrev pub TakesTwo : ℕ → List ℕ → List ℕ → Option (ℕ × ℕ) → Type 0
-TakesTwo most = Takes two_at (AreUpTo most) (λ n k. n ≡ k)
+TakesTwo most = Takes two_at (AreBothUpTo most) (λ n k. n ≡ k)
 
 abbrev pub TakesSize : ℕ → List ℕ → List ℕ → Option (Option (ℕ × ℕ)) → Type 0
 TakesSize outputs = Takes cut_line_at (IsSizeInRange outputs) (λ n k. n ≡ k)

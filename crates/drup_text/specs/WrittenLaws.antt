@@ -7,18 +7,18 @@ use Rattle.clause_core.specs.Clause.{IsLiteral}
 use Rattle.clause_core.specs.ClauseLines.{ClauseLine, clause_in}
 use Rattle.drup_text.specs.declared.head.Header.{Header}
 use Rattle.drup_text.specs.PassingHeaders.{PassesAnyHeader}
-use Rattle.drup_text.specs.HeaderRefusal.{LineCause, IsHeaderRefusal}
+use Rattle.drup_text.specs.HeaderRefusal.{LineCause, IsClauseHeaderRefusal}
 use Rattle.drup_text.specs.Headers.{IsAnyClauseFile, IsHeaderOf}
-use Rattle.drup_text.specs.LineTexts.{IsLineInRange, IsTextOf}
-use Rattle.drup_text.specs.WrittenTexts.{any_file_text, line_text, lines_text}
+use Rattle.drup_text.specs.LineTexts.{IsClauseLineInRange, IsClauseTextOf}
+use Rattle.drup_text.specs.WrittenTexts.{any_file_text, clause_line_text, clause_lines_text}
 
 -- Its literals have 32 bits.
 abbrev pub IsWritableLine : ClauseLine → Type 0
 IsWritableLine x = All IsLiteral (clause_in x)
 
 -- The text that is written for a line is a text of this line, where its variables are in range.
-abbrev pub WrittenLinesAreRead : Type 0
-WrittenLinesAreRead = (max : ℕ) (line : ClauseLine) → IsWritableLine line → IsLineInRange max line → IsTextOf max (line_text line) line
+abbrev pub WrittenClausesAreRead : Type 0
+WrittenClausesAreRead = (max : ℕ) (line : ClauseLine) → IsWritableLine line → IsClauseLineInRange max line → IsClauseTextOf max (clause_line_text line) line
 
 -- A whole text that is written for a header whose blocks the graph takes is the file of this header and of these lines.
 abbrev pub WrittenFilesAreRead : Type 0
@@ -32,9 +32,9 @@ OneTextIsOneFile = (outputs : ℕ) (bytes : List ℕ) (h k : Header) (lines othe
 -- Within the lengths the header that is written passes over each graph that takes its blocks, and the lines are left behind it.
 abbrev pub WrittenHeadersPass : Type 0
 WrittenHeadersPass = (g : Aig) (lengths : Lengths) (h : Header) (lines : List ClauseLine) → IsBuilt g → IsHeaderOf g h →
-    IsWithin lengths (any_file_text h lines) → PassesAnyHeader g lengths (any_file_text h lines) h (lines_text lines)
+    IsWithin lengths (any_file_text h lines) → PassesAnyHeader g lengths (any_file_text h lines) h (clause_lines_text lines)
 
 -- A header that passes has no refusal.
 abbrev pub PassingHeadersAreNotRefused : Type 0
 PassingHeadersAreNotRefused = (g : Aig) (lengths : Lengths) (bytes : List ℕ) (h : Header) (body : List ℕ) (p : ℕ × LineCause) →
-    PassesAnyHeader g lengths bytes h body → IsHeaderRefusal g lengths bytes p → ⊥
+    PassesAnyHeader g lengths bytes h body → IsClauseHeaderRefusal g lengths bytes p → ⊥

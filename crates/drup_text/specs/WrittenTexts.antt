@@ -17,9 +17,9 @@ use Rattle.drup_text.specs.Headers.{second_line, version_line}
 -- ---- clauses
 
 -- what stands before a literal's variable
-abbrev pub sign_text : ℤ → List ℕ
-sign_text (pos v) = []
-sign_text (negsuc v) = codes "-"
+abbrev pub literal_sign : ℤ → List ℕ
+literal_sign (pos v) = []
+literal_sign (negsuc v) = codes "-"
 
 -- literals, each with a space behind it, and then a text
 abbrev pub literals_text : List ℤ → List ℕ → List ℕ
@@ -30,14 +30,14 @@ abbrev pub clause_text : Clause → List ℕ
 clause_text c = literals_text c (codes "0")
 
 -- a line without its line feed
-abbrev pub line_text : ClauseLine → List ℕ
-line_text (Add c) = clause_text c
-line_text (Delete c) = codes "d " ++ clause_text c
+abbrev pub clause_line_text : ClauseLine → List ℕ
+clause_line_text (Add c) = clause_text c
+clause_line_text (Delete c) = codes "d " ++ clause_text c
 
 -- lines, each with its line feed
-abbrev pub lines_text : List ClauseLine → List ℕ
-lines_text [] = []
-lines_text (x ∷ xs) = line_text x ++ newline ∷ lines_text xs
+abbrev pub clause_lines_text : List ClauseLine → List ℕ
+clause_lines_text [] = []
+clause_lines_text (x ∷ xs) = clause_line_text x ++ newline ∷ clause_lines_text xs
 
 -- ---- the header
 
@@ -58,11 +58,11 @@ cut_text (Some cut) = codes "replace " ++ two_text cut.lo (length cut.pairs) ++ 
 -- ---- version 2
 
 -- a block's own line
-abbrev pub head_text : Block → List ℕ
-head_text b = codes "replace " ++ decimal b.cut.lo ++ space ∷ (decimal (length b.cut.pairs) ++ carry_text b.carry)
+abbrev pub block_head_text : Block → List ℕ
+block_head_text b = codes "replace " ++ decimal b.cut.lo ++ space ∷ (decimal (length b.cut.pairs) ++ carry_text b.carry)
 
 abbrev pub block_text : Block → List ℕ
-block_text b = head_text b ++ newline ∷ pairs_text b.cut.pairs
+block_text b = block_head_text b ++ newline ∷ pairs_text b.cut.pairs
 
 abbrev pub blocks_text : List Block → List ℕ
 blocks_text [] = []
@@ -84,4 +84,4 @@ abbrev pub header_text : Header → List ℕ
 header_text h = if h.version == 2 then second_line ++ count_text h.blocks else version_line ++ cut_text (first_cut h.blocks)
 
 abbrev pub any_file_text : Header → List ClauseLine → List ℕ
-any_file_text h lines = header_text h ++ lines_text lines
+any_file_text h lines = header_text h ++ clause_lines_text lines

@@ -6,7 +6,7 @@ ghost use Rattle.mv_desk.specs.declared.slot.Slot.TheVariants.{Clauses};
 ghost use Rattle.mv_text.specs.LineReading.{FitsPiece, known_from};
 ghost use Rattle.ripple_graft.specs.Blocks.{AreBlocks, IsBlock, graft_block};
 ghost use Rattle.drup_text.specs.ClauseTexts.{IsBlockLine, IsCountLine};
-ghost use Rattle.mv_text.specs.CertificateFiles.{IsLineRefusal, TakesSome, TakesText};
+ghost use Rattle.mv_text.specs.CertificateFiles.{IsLineRefusal, TakesSomeBytes, TakesText};
 ghost use Rattle.drup_text.specs.PassingHeaders.{block_lines};
 ghost use Rattle.drup_text.specs.HeaderSteps.{IsBlockRefusal, IsBlocksRefusal, IsCountRefusal, TakesBlock, TakesBlocks, TakesCount};
 ghost use Rattle.drup_text.specs.LineTexts.{IsBlockTextOf, IsCountInRange, IsCountTextOf, IsHeadOf};
@@ -15,8 +15,8 @@ use crate::fault::StartFail;
 use crate::header::pairs;
 use crate::header_reading::{read_count, read_head};
 use graph_core::Graph;
-use mv_desk::{Desk, LineFail, Slot};
-use mv_text::LineReader;
+use mv_desk::{Desk, Slot};
+use mv_text::{LineFail, LineReader};
 use ripple_graft::{Block, Cut, Extended, Pairs};
 use std::alloc::Global;
 
@@ -66,7 +66,7 @@ fn next_count<D: Desk>(
         (known_from lines.old.ahead ((D.seen desk.old).left Clauses))
         (D.seen desk.old).read_faults (D.seen desk.new).read_faults) }
     ensures count { IfOk result (IsCountInRange (length graph.now.outputs)) }
-    ensures some { OnOk result (TakesSome lines.old lines.new) }
+    ensures some { OnOk result (TakesSomeBytes lines.old lines.new) }
     ensures lengths { lines.new.lengths ≡ lines.old.lengths }
     ensures piece { FitsPiece lines.new }
     ensures reads { Reads Clauses (D.seen desk.old) (D.seen desk.new) result }
@@ -180,7 +180,7 @@ fn next_head<D: Desk>(
         (known_from lines.old.ahead ((D.seen desk.old).left Clauses))
         (D.seen desk.old).read_faults (D.seen desk.new).read_faults) }
     ensures head { IfOk result (IsHeadOf extended.now) }
-    ensures some { OnOk result (TakesSome lines.old lines.new) }
+    ensures some { OnOk result (TakesSomeBytes lines.old lines.new) }
     ensures lengths { lines.new.lengths ≡ lines.old.lengths }
     ensures piece { FitsPiece lines.new }
     ensures reads { Reads Clauses (D.seen desk.old) (D.seen desk.new) result }

@@ -6,12 +6,12 @@ ghost use Rattle.mv_desk.specs.declared.slot.Slot.TheVariants.{Clauses};
 ghost use Rattle.mv_text.specs.LineReading.{FitsPiece, known_from, lengths_of};
 ghost use Rattle.ripple_graft.specs.Blocks.{IsCut, block_of};
 ghost use Rattle.drup_text.specs.ClauseTexts.{IsClauseLine};
-ghost use Rattle.mv_text.specs.CertificateFiles.{AnswersAgain, GoesOn, HasFirstLine, IsStarted, KeepsFile, ReadsLine, left_of};
-ghost use Rattle.drup_text.specs.PassingHeaders.{HasHeader, IsStartRefusal, block_lines, lines_in, own_line};
+ghost use Rattle.mv_text.specs.CertificateFiles.{AnswersAgain, GoesOn, HasFirstLine, IsStarted, KeepsFile, ReadsLine, left_of_file};
+ghost use Rattle.drup_text.specs.PassingHeaders.{HasClauseHeader, IsStartRefusal, block_lines, header_line_count, own_line};
 ghost use Rattle.drup_text.specs.HeaderSteps.{IsVersionRefusal, TakesVersion};
 ghost use Rattle.drup_text.specs.Headers.{IsHeaderOf};
 ghost use Rattle.ripple_graft.specs.HeaderBlocks.{AreHeaderBlocks};
-ghost use Rattle.drup_text.specs.LineTexts.{IsLineInRange, IsTextOf};
+ghost use Rattle.drup_text.specs.LineTexts.{IsClauseLineInRange, IsClauseTextOf};
 ghost use Rattle.drup_text.specs.SameFiles.{IsSameStartRefusal, same_line};
 
 use crate::blocks::listed_blocks;
@@ -21,8 +21,8 @@ use crate::header::{cut, version};
 use crate::line_reading::read_line;
 use clause_core::Line;
 use graph_core::Graph;
-use mv_desk::{Desk, Limits, LineFail, Slot};
-use mv_text::{CertificateFile, LineReader};
+use mv_desk::{Desk, Limits, Slot};
+use mv_text::{CertificateFile, LineFail, LineReader};
 use ripple_graft::{Block, BlockList, Cut};
 use std::alloc::Global;
 use std::marker::Model;
@@ -62,11 +62,11 @@ impl ClauseFile {
     ) -> Result<(ClauseFile, Header), StartFail>
         requires { (D.seen desk.old).reads Clauses ≡ true }
         ensures header { IfOk result (λ r. IfSome ((D.seen desk.old).left Clauses)
-            (λ bytes. HasHeader graph.now r.0 bytes (left_of Clauses r.0 (D.seen desk.new)) r.1)) }
+            (λ bytes. HasClauseHeader graph.now r.0 bytes (left_of_file Clauses r.0 (D.seen desk.new)) r.1)) }
         ensures fits { IfOk result (λ r. IsHeaderOf graph.now r.1) }
         ensures refused { IfErr result (IsStartRefusal graph.now (lengths_of limits.now)
             ((D.seen desk.old).left Clauses) (D.seen desk.old).read_faults (D.seen desk.new).read_faults) }
-        ensures file { IfOk result (λ r. IsStarted r.1.version (lines_in r.1.version r.1.blocks) limits.now r.0) }
+        ensures file { IfOk result (λ r. IsStarted r.1.version (header_line_count r.1.version r.1.blocks) limits.now r.0) }
         ensures reads { Reads Clauses (D.seen desk.old) (D.seen desk.new) result }
     {
         let mut lines = LineReader::new(limits);
@@ -98,7 +98,7 @@ impl ClauseFile {
     ) -> Result<ClauseFile, StartFail>
         requires { (D.seen desk.old).reads Clauses ≡ true }
         ensures header { IfOk result (λ file. IfSome ((D.seen desk.old).left Clauses)
-            (λ bytes. HasFirstLine same_line file.lines bytes (left_of Clauses file (D.seen desk.new)))) }
+            (λ bytes. HasFirstLine same_line file.lines bytes (left_of_file Clauses file (D.seen desk.new)))) }
         ensures refused { IfErr result (IsSameStartRefusal (lengths_of limits.now)
             ((D.seen desk.old).left Clauses) (D.seen desk.old).read_faults (D.seen desk.new).read_faults) }
         ensures file { IfOk result (IsStarted 1 1 limits.now) }
@@ -118,7 +118,7 @@ impl ClauseFile {
     pub fn next<D: Desk>(&mut self, desk: &mut D, max: u32) -> Result<Option<Line>, LineFail>
         requires open { (D.seen desk.old).reads Clauses ≡ true }
         requires small { max < 2 ^ 31 }
-        ensures next { GoesOn self.old → ReadsLine IsClauseLine (IsLineInRange max) (IsTextOf max)
+        ensures next { GoesOn self.old → ReadsLine IsClauseLine (IsClauseLineInRange max) (IsClauseTextOf max)
             Clauses self.old self.new (D.seen desk.old) (D.seen desk.new) result }
         ensures again { AnswersAgain (Ok None) self.old self.new result }
         ensures keeps { KeepsFile self.old self.new result }
@@ -162,7 +162,7 @@ fn any_blocks<D: Desk>(
         (D.seen desk.old).read_faults (D.seen desk.new).read_faults) }
     ensures fits { IfOk result (λ blocks. AreHeaderBlocks graph.now version blocks.items) }
     ensures counted { IfOk result
-        (λ blocks. lines.old.taken + lines_in version blocks.items ≤ lines.new.taken + 1) }
+        (λ blocks. lines.old.taken + header_line_count version blocks.items ≤ lines.new.taken + 1) }
     ensures within { OnOk result (lines.new.taken ≤ lines.new.lengths.file) }
     ensures lengths { lines.new.lengths ≡ lines.old.lengths }
     ensures piece { FitsPiece lines.new }
@@ -198,8 +198,8 @@ fn one_block(alloc: Global, graph: &Graph, cut: Cut) -> Result<Vec<Block>, Start
 
 // How many lines a header has.
 fn header_lines(header: &Header) -> u64
-    requires { lines_in header.now.version header.now.blocks < 2 ^ 64 }
-    ensures { result ≡ lines_in header.now.version header.now.blocks }
+    requires { header_line_count header.now.version header.now.blocks < 2 ^ 64 }
+    ensures { result ≡ header_line_count header.now.version header.now.blocks }
 {
     2 + block_lines(own_line(header.version), header.blocks.as_slice())
 }

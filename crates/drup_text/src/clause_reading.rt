@@ -2,13 +2,12 @@
 ghost use Rattle.std.specs.Prelude.{◌≡◌, ◌<◌, ◌≤◌, ◌^◌, ℤ, pos, None, IfOk, IfErr, codes, neg_ℤ, option_map};
 ghost use Rattle.graph_core.specs.Text.Readers.{ended_at};
 ghost use Rattle.mv_text.specs.Steps.{IsMisfit, Takes, begins};
-ghost use Rattle.drup_text.specs.ClauseReading.{clause_at, is_no_zero, literal_at, literals_at, minus_number};
+ghost use Rattle.drup_text.specs.ClauseReading.{clause_literals_at, clause_read_at, is_no_zero, literal_at, minus_number};
 ghost use Rattle.drup_text.specs.Steps.{TakesClause, TakesLiteral, TakesLiterals};
 
 use crate::numbers::variable;
 use clause_core::Clause;
-use mv_desk::LineFail;
-use mv_text::{Scanner, push};
+use mv_text::{LineFail, Scanner, push};
 use std::alloc::Global;
 
 // A clause, or nothing where a variable of it is above the greatest one.
@@ -19,7 +18,7 @@ pub(crate) fn clause(
 ) -> Result<Option<Clause>, LineFail>
     requires { max < 2 ^ 31 }
     ensures ok { IfOk result (TakesClause max scanner.old scanner.new) }
-    ensures err { IfErr result (IsMisfit (clause_at scanner.old ≡ None)) }
+    ensures err { IfErr result (IsMisfit (clause_read_at scanner.old ≡ None)) }
 {
     let literals = literals(alloc, scanner, max)?;
     scanner.text(b"0")?;
@@ -40,7 +39,7 @@ fn literals(
 ) -> Result<Option<Vec<i32>>, LineFail>
     requires { max < 2 ^ 31 }
     ensures ok { IfOk result (TakesLiterals max scanner.old scanner.new) }
-    ensures err { IfErr result (IsMisfit (literals_at scanner.old ≡ None)) }
+    ensures err { IfErr result (IsMisfit (clause_literals_at scanner.old ≡ None)) }
 {
     let mut literals = Some(Vec::new(alloc));
     while is_at_literal(scanner) {

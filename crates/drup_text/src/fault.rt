@@ -1,5 +1,5 @@
 // Why a certificate isn't begun.
-use mv_desk::LineFail;
+use mv_text::LineFail;
 use thiserror::Error;
 
 /// Why the header of a clause certificate isn't read.

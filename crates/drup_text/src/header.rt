@@ -4,8 +4,8 @@ ghost use Rattle.mv_desk.specs.Calls.{Reads};
 ghost use Rattle.mv_desk.specs.declared.slot.Slot.TheVariants.{Clauses};
 ghost use Rattle.mv_text.specs.LineReading.{FitsPiece, known_from};
 ghost use Rattle.drup_text.specs.ClauseTexts.{IsCutLine, IsPairLine};
-ghost use Rattle.mv_text.specs.CertificateFiles.{IsLineRefusal, TakesSome, TakesText};
-ghost use Rattle.drup_text.specs.PassingHeaders.{lines_in};
+ghost use Rattle.mv_text.specs.CertificateFiles.{IsLineRefusal, TakesSomeBytes, TakesText};
+ghost use Rattle.drup_text.specs.PassingHeaders.{header_line_count};
 ghost use Rattle.drup_text.specs.HeaderSteps.{IsCutRefusal, IsPairsRefusal, TakesCut, TakesPairs};
 ghost use Rattle.drup_text.specs.Headers.{IsVersionLine};
 ghost use Rattle.ripple_graft.specs.HeaderBlocks.{IsCutOf, cut_blocks};
@@ -14,8 +14,8 @@ ghost use Rattle.drup_text.specs.LineTexts.{IsCutTextOf, IsPairOf, IsPairTextOf,
 use crate::fault::StartFail;
 use crate::header_reading::{read_pair, read_size};
 use graph_core::{Graph, Lit};
-use mv_desk::{Desk, LineFail, Slot};
-use mv_text::LineReader;
+use mv_desk::{Desk, Slot};
+use mv_text::{LineFail, LineReader};
 use ripple_graft::{Cut, Extended, Pairs};
 use std::alloc::Global;
 
@@ -33,7 +33,7 @@ pub(crate) fn version<D: Desk>(
     ensures refused { IfErr result (IsLineRefusal IsVersionLine (λ x. ⊤) lines.old
         (known_from lines.old.ahead ((D.seen desk.old).left Clauses))
         (D.seen desk.old).read_faults (D.seen desk.new).read_faults) }
-    ensures some { OnOk result (TakesSome lines.old lines.new) }
+    ensures some { OnOk result (TakesSomeBytes lines.old lines.new) }
     ensures two { OnOk result (lines.old.taken + 2 ≤ lines.new.taken) }
     ensures lengths { lines.new.lengths ≡ lines.old.lengths }
     ensures piece { FitsPiece lines.new }
@@ -71,7 +71,7 @@ pub(crate) fn cut<D: Desk>(
         (D.seen desk.old).read_faults (D.seen desk.new).read_faults) }
     ensures fits { IfOk result (IsCutOf graph.now) }
     ensures counted { IfOk result
-        (λ cut. lines.old.taken + lines_in 1 (cut_blocks (length graph.now.outputs) cut) ≤ lines.new.taken + 1) }
+        (λ cut. lines.old.taken + header_line_count 1 (cut_blocks (length graph.now.outputs) cut) ≤ lines.new.taken + 1) }
     ensures within { OnOk result (lines.new.taken ≤ lines.new.lengths.file) }
     ensures lengths { lines.new.lengths ≡ lines.old.lengths }
     ensures piece { FitsPiece lines.new }
@@ -112,7 +112,7 @@ fn next_size<D: Desk>(
         (known_from lines.old.ahead ((D.seen desk.old).left Clauses))
         (D.seen desk.old).read_faults (D.seen desk.new).read_faults) }
     ensures size { IfOk result (IsSizeInRange (length graph.now.outputs)) }
-    ensures some { OnOk result (TakesSome lines.old lines.new) }
+    ensures some { OnOk result (TakesSomeBytes lines.old lines.new) }
     ensures lengths { lines.new.lengths ≡ lines.old.lengths }
     ensures piece { FitsPiece lines.new }
     ensures reads { Reads Clauses (D.seen desk.old) (D.seen desk.new) result }
@@ -180,7 +180,7 @@ fn next_pair<D: Desk>(
         (known_from lines.old.ahead ((D.seen desk.old).left Clauses))
         (D.seen desk.old).read_faults (D.seen desk.new).read_faults) }
     ensures known { IfOk result (IsPairOf extended.now) }
-    ensures some { OnOk result (TakesSome lines.old lines.new) }
+    ensures some { OnOk result (TakesSomeBytes lines.old lines.new) }
     ensures lengths { lines.new.lengths ≡ lines.old.lengths }
     ensures piece { FitsPiece lines.new }
     ensures reads { Reads Clauses (D.seen desk.old) (D.seen desk.new) result }

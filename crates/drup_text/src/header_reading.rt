@@ -3,14 +3,13 @@ ghost use Rattle.std.specs.Prelude.{◌≡◌, ◌↔◌, None, IsTrue, IfOk, If
 ghost use Rattle.mv_text.specs.Steps.{IsMisfit, Takes};
 ghost use Rattle.drup_text.specs.ClauseReading.{block_line_at, carry_at, count_line_at, cut_line_at, pair_line_at, two_at};
 ghost use Rattle.drup_text.specs.ClauseTexts.{IsBlockLine, IsCountLine, IsCutLine, IsPairLine};
-ghost use Rattle.mv_text.specs.CertificateFiles.{IsRefusedText};
+ghost use Rattle.mv_text.specs.CertificateFiles.{SaysNothing};
 ghost use Rattle.drup_text.specs.LineTexts.{IsBlockTextOf, IsCountInRange, IsCountTextOf, IsCutSize, IsCutTextOf, IsHeadOf, IsPairOf, IsPairTextOf, IsSizeInRange};
 ghost use Rattle.drup_text.specs.Steps.{TakesCarry, TakesCountLine, TakesHead, TakesPair, TakesSize, TakesTwo};
 
 use crate::numbers::{number, spaced_number};
 use graph_core::Lit;
-use mv_desk::LineFail;
-use mv_text::Scanner;
+use mv_text::{LineFail, Scanner};
 use ripple_graft::Extended;
 
 // The first column of a cut and the number of its pairs, or that there is no cut.
@@ -18,7 +17,7 @@ use ripple_graft::Extended;
 // `Range` comes exactly where the cut doesn't end at the last of so many columns or the one before it.
 pub(crate) fn read_size(bytes: &[u8], outputs: u32) -> Result<Option<(u32, u32)>, LineFail>
     ensures ok { IfOk result (IsCutTextOf outputs bytes.now) }
-    ensures err { IfErr result (IsRefusedText IsCutLine (IsSizeInRange outputs) bytes.now) }
+    ensures err { IfErr result (SaysNothing IsCutLine (IsSizeInRange outputs) bytes.now) }
 {
     let mut scanner = Scanner::new(bytes);
     let size = size(&mut scanner, outputs)?;
@@ -34,7 +33,7 @@ pub(crate) fn read_size(bytes: &[u8], outputs: u32) -> Result<Option<(u32, u32)>
 // The two literals of a position. `Range` comes exactly where the graph with the blocks so far doesn't have both.
 pub(crate) fn read_pair(bytes: &[u8], extended: &Extended<'_>) -> Result<(Lit, Lit), LineFail>
     ensures ok { IfOk result (IsPairTextOf extended.now bytes.now) }
-    ensures err { IfErr result (IsRefusedText IsPairLine (IsPairOf extended.now) bytes.now) }
+    ensures err { IfErr result (SaysNothing IsPairLine (IsPairOf extended.now) bytes.now) }
 {
     let mut scanner = Scanner::new(bytes);
     let pair = pair(&mut scanner, extended)?;
@@ -50,7 +49,7 @@ pub(crate) fn read_pair(bytes: &[u8], extended: &Extended<'_>) -> Result<(Lit, L
 // The number of blocks. `Range` comes exactly where there are more of them than columns.
 pub(crate) fn read_count(bytes: &[u8], outputs: u32) -> Result<u32, LineFail>
     ensures ok { IfOk result (IsCountTextOf outputs bytes.now) }
-    ensures err { IfErr result (IsRefusedText IsCountLine (IsCountInRange outputs) bytes.now) }
+    ensures err { IfErr result (SaysNothing IsCountLine (IsCountInRange outputs) bytes.now) }
 {
     let mut scanner = Scanner::new(bytes);
     let count = count(&mut scanner, outputs)?;
@@ -67,7 +66,7 @@ pub(crate) fn read_count(bytes: &[u8], outputs: u32) -> Result<u32, LineFail>
 // where there is no pair, or one of its columns isn't there or is replaced by a block before.
 pub(crate) fn read_head(bytes: &[u8], extended: &Extended<'_>) -> Result<(u32, u32, bool), LineFail>
     ensures ok { IfOk result (IsBlockTextOf extended.now bytes.now) }
-    ensures err { IfErr result (IsRefusedText IsBlockLine (IsHeadOf extended.now) bytes.now) }
+    ensures err { IfErr result (SaysNothing IsBlockLine (IsHeadOf extended.now) bytes.now) }
 {
     let mut scanner = Scanner::new(bytes);
     let head = head(&mut scanner, extended)?;

@@ -1,10 +1,10 @@
 // The laws of what is written and read.
 ghost use Rattle.drup_text.specs.SameFiles.{WrittenSameIsRead};
-ghost use Rattle.drup_text.specs.WrittenLaws.{OneTextIsOneFile, PassingHeadersAreNotRefused, WrittenFilesAreRead, WrittenHeadersPass, WrittenLinesAreRead};
+ghost use Rattle.drup_text.specs.WrittenLaws.{OneTextIsOneFile, PassingHeadersAreNotRefused, WrittenClausesAreRead, WrittenFilesAreRead, WrittenHeadersPass};
 
 /// What is written for a line is read as the same line, where `max` is at least each of its variables.
 pub fn written_lines_are_read()
-    ensures { WrittenLinesAreRead }
+    ensures { WrittenClausesAreRead }
 {}
 
 /// What `write_clauses` writes for a header whose blocks the graph takes is the text of the same header and lines.

@@ -2,12 +2,10 @@
 ghost use Rattle.std.specs.Prelude.{◌≡◌, ◌≤◌, IfOk, IfErr, None, codes};
 ghost use Rattle.graph_core.specs.Text.Numerals.{number_at};
 ghost use Rattle.graph_core.specs.Text.Readers.{ended_at};
-ghost use Rattle.mv_text.specs.Steps.{IsMisfit, TakesNumber};
+ghost use Rattle.mv_text.specs.Steps.{IsMisfit, IsVariable, TakesNumber};
 ghost use Rattle.drup_text.specs.ClauseReading.{nonzero_at};
-ghost use Rattle.drup_text.specs.Steps.{IsVariable};
 
-use mv_desk::LineFail;
-use mv_text::Scanner;
+use mv_text::{LineFail, Scanner};
 
 // A variable, which doesn't begin with 0, or nothing where it is above the greatest one.
 pub(crate) fn variable(scanner: &mut Scanner<'_>, max: u32) -> Result<Option<u32>, LineFail>

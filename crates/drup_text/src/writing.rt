@@ -8,7 +8,7 @@ ghost use Rattle.mv_text.specs.Puts.{Puts};
 ghost use Rattle.drup_text.specs.ClauseTexts.{carry_text};
 ghost use Rattle.drup_text.specs.Headers.{second_line, version_line};
 ghost use Rattle.drup_text.specs.SameFiles.{same_text};
-ghost use Rattle.drup_text.specs.WrittenTexts.{any_file_text, blocks_text, clause_text, count_text, cut_text, first_cut, head_text, header_text, line_text, lines_text, literals_text, pairs_text, sign_text, two_text};
+ghost use Rattle.drup_text.specs.WrittenTexts.{any_file_text, block_head_text, blocks_text, clause_line_text, clause_lines_text, clause_text, count_text, cut_text, first_cut, header_text, literal_sign, literals_text, pairs_text, two_text};
 
 use crate::head::Header;
 use clause_core::{Clause, Line};
@@ -107,7 +107,7 @@ fn put_blocks<D: Desk>(output: &mut Output, desk: &mut D, blocks: &[Block])
 fn put_head<D: Desk>(output: &mut Output, desk: &mut D, block: &Block)
     requires { (D.seen desk.old).writes output.old.slot ≡ true }
     ensures open { (D.seen desk.new).writes output.new.slot ≡ true }
-    ensures puts { Puts (head_text block.now ++ newline ∷ [])
+    ensures puts { Puts (block_head_text block.now ++ newline ∷ [])
         output.old output.new (D.seen desk.old) (D.seen desk.new) }
 {
     output.put(desk, b"replace ");
@@ -168,7 +168,7 @@ fn put_two<D: Desk>(output: &mut Output, desk: &mut D, one: u128, two: u128)
 fn put_lines<D: Desk>(output: &mut Output, desk: &mut D, lines: &[Line])
     requires { (D.seen desk.old).writes output.old.slot ≡ true }
     ensures open { (D.seen desk.new).writes output.new.slot ≡ true }
-    ensures puts { Puts (lines_text lines.now)
+    ensures puts { Puts (clause_lines_text lines.now)
         output.old output.new (D.seen desk.old) (D.seen desk.new) }
 {
     for line in lines {
@@ -180,7 +180,7 @@ fn put_lines<D: Desk>(output: &mut Output, desk: &mut D, lines: &[Line])
 fn put_line<D: Desk>(output: &mut Output, desk: &mut D, line: &Line)
     requires { (D.seen desk.old).writes output.old.slot ≡ true }
     ensures open { (D.seen desk.new).writes output.new.slot ≡ true }
-    ensures puts { Puts (line_text line.now ++ newline ∷ [])
+    ensures puts { Puts (clause_line_text line.now ++ newline ∷ [])
         output.old output.new (D.seen desk.old) (D.seen desk.new) }
 {
     match line {
@@ -229,7 +229,7 @@ fn put_literal<D: Desk>(output: &mut Output, desk: &mut D, literal: i32)
 
 // What stands before a literal's variable.
 fn sign(literal: i32) -> &'static [u8]
-    ensures text { result.now ≡ sign_text literal }
+    ensures text { result.now ≡ literal_sign literal }
     ensures few { length result.now ≤ 1 }
 {
     if literal < 0 { b"-" } else { b"" }

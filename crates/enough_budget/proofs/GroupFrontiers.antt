@@ -28,7 +28,7 @@ use Rattle.frontier_core.proofs.SizeBounds.{linear_is_small}
 use Rattle.graph_maker.specs.declared.kind.Kind.{Kind}
 use Rattle.graph_maker.specs.declared.adder.Adder.TheVariants.{Ripple}
 use Rattle.graph_maker.proofs.MadeMultiplies.{all_products, numbered}
-use Rattle.slice_finder.proofs.Cases.{by_cases}
+use Rattle.adder_finder.proofs.Cases.{by_cases}
 use Rattle.slice_core.proofs.Composition.{has_append, eliminating_part}
 use Rattle.enough_budget.proofs.Linear.{IsLinear, AreInputs}
 use Rattle.enough_budget.proofs.FewVariables.{few_variables_are_small}

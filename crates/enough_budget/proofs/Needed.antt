@@ -14,7 +14,7 @@ use Rattle.graph_core.proofs.OfGraphs.CallerLemmas.{all_split, literal-even}
 use Rattle.frontier_core.specs.Sets.{has}
 use Rattle.graph_core.specs.Graph.Literals.{plain, inverted, constant_false}
 use Rattle.graph_maker.proofs.CellFacts.{Computes, half_adds, position_adds}
-use Rattle.slice_finder.proofs.Cases.{by_cases}
+use Rattle.adder_finder.proofs.Cases.{by_cases}
 use Rattle.enough_budget.proofs.Network.{Cell, gates_at, size_of, sum_at, carry_at, adder_gates, Valuation, IsZero, ins, outs, all_ins, all_outs, full, fulls, word_at, rows_at}
 
 -- 1 at one literal

@@ -28,8 +28,8 @@ use Rattle.graph_maker.specs.declared.adder.Adder.TheVariants.{Ripple}
 use Rattle.graph_core.specs.Graph.Literals.{plain, inverted}
 use Rattle.graph_core.proofs.OfGraphs.CallerLemmas.{all_join}
 use Rattle.graph_maker.specs.Made.{made}
-use Rattle.slice_finder.specs.Positions.{reads, is_half, is_carried}
-use Rattle.slice_finder.proofs.Cases.{by_cases}
+use Rattle.adder_finder.specs.Positions.{reads, is_half, is_carried}
+use Rattle.adder_finder.proofs.Cases.{by_cases}
 use Rattle.slice_core.specs.Groups.{ends_full, ends_half, group_size, groups_of, groups, AreByGroups}
 use Rattle.slice_core.proofs.ListedGroups.{map_reverse}
 use Rattle.enough_budget.specs.MadeSlices.{MadeSlicesAreSmall}

@@ -9,10 +9,10 @@ use Rattle.graph_core.specs.declared.literal.Lit.{Lit}
 use Rattle.graph_core.specs.Graph.Assignments.{Assignment, HasBound, bit, literal, variable}
 use Rattle.graph_core.proofs.OfGraphs.CallerLemmas.{literal-inverted, literal-plain, product_same}
 use Rattle.graph_core.proofs.OfGraphs.Support.{bound_constant, bound_of, bound_of_two, bound_variable}
-use Rattle.poly_terms.specs.Tables.{Table, Sum, IsOf, Extends, modulus, value_in}
+use Rattle.poly_terms.specs.Tables.{Table, Sum, IsOf, Extends, modulus_in, value_in}
 use Rattle.poly_terms.specs.Laws.{modulus_stays, value_stays}
 use Rattle.gate_axioms.specs.ClauseValues.{ClauseValues, IsClausePoly, clause_value, opposite}
-use Rattle.gate_axioms.specs.Form.{HasValue}
+use Rattle.gate_axioms.specs.Form.{HasPolyValue}
 
 -- ---- the value by whether the clause holds
 
@@ -47,7 +47,7 @@ clause_values = record {
   vanish = vanishing;
   by_set = λ c d σ same. value_is c σ ∙ ap (λ b. bit (not b)) (same_bools (holds σ c) (holds σ d) (subset_holds c d σ same.0) (subset_holds d c σ same.1)) ∙ sym (value_is d σ);
   bounded = bound_clause;
-  polys_vanish = λ t p c σ is h. is σ ∙ ap (λ n. n % modulus t) (vanishing c σ h) ∙ zero-mod (modulus t);
+  polys_vanish = λ t p c σ is h. is σ ∙ ap (λ n. n % modulus_in t) (vanishing c σ h) ∙ zero-mod (modulus_in t);
 }
 
 -- ---- one literal
@@ -60,16 +60,16 @@ opposite_is (negsuc v) σ = literal-plain σ (suc v) ∙ twice (variable σ (suc
     twice true = refl
     twice false = refl
 
-pub literal_has : (t : Table) (p : Sum) (n : ℕ) (lit : Lit) → n ≡ 1 → HasValue t p (λ σ. n * bit (literal σ lit)) → HasValue t p (λ σ. bit (literal σ lit))
-literal_has t p n lit one has = record { value = λ σ. has.value σ ∙ ap (λ x. x % modulus t) (ap (λ k. k * bit (literal σ lit)) one ∙ one-mul (bit (literal σ lit))) }
+pub literal_has : (t : Table) (p : Sum) (n : ℕ) (lit : Lit) → n ≡ 1 → HasPolyValue t p (λ σ. n * bit (literal σ lit)) → HasPolyValue t p (λ σ. bit (literal σ lit))
+literal_has t p n lit one has = record { value = λ σ. has.value σ ∙ ap (λ x. x % modulus_in t) (ap (λ k. k * bit (literal σ lit)) one ∙ one-mul (bit (literal σ lit))) }
 
 -- a product with the opposite of one literal
-pub literal_joins : (t u : Table) (p q : Sum) (l : ℤ) (lit : Lit) (n : ℕ) (σ : Assignment) → Extends t u → IsOf t p → lit ≡ opposite l → HasValue u q (λ τ. bit (literal τ lit)) →
-    n ≡ (value_in u p σ * value_in u q σ) % modulus u → n ≡ (value_in t p σ * bit (not (signed σ l))) % modulus t
+pub literal_joins : (t u : Table) (p q : Sum) (l : ℤ) (lit : Lit) (n : ℕ) (σ : Assignment) → Extends t u → IsOf t p → lit ≡ opposite l → HasPolyValue u q (λ τ. bit (literal τ lit)) →
+    n ≡ (value_in u p σ * value_in u q σ) % modulus_in u → n ≡ (value_in t p σ * bit (not (signed σ l))) % modulus_in t
 literal_joins t u p q l lit n σ grown of lit_is has is =
     let b = bit (not (signed σ l)) in
-    let factor : value_in u q σ ≡ b % modulus u = has.value σ ∙ ap (λ k. bit (literal σ k) % modulus u) lit_is ∙ ap (λ t. bit t % modulus u) (opposite_is l σ) in
-    is ∙ ap₂ (λ x y. (x * y) % modulus u) (value_stays t u p σ grown of) factor ∙ mul-mod_second (value_in t p σ) b (modulus u) ∙ ap (λ m. (value_in t p σ * b) % m) (modulus_stays t u grown)
+    let factor : value_in u q σ ≡ b % modulus_in u = has.value σ ∙ ap (λ k. bit (literal σ k) % modulus_in u) lit_is ∙ ap (λ t. bit t % modulus_in u) (opposite_is l σ) in
+    is ∙ ap₂ (λ x y. (x * y) % modulus_in u) (value_stays t u p σ grown of) factor ∙ mul-mod_second (value_in t p σ) b (modulus_in u) ∙ ap (λ m. (value_in t p σ * b) % m) (modulus_stays t u grown)
 
 -- ---- the loop
 
@@ -77,17 +77,17 @@ literal_joins t u p q l lit n σ grown of lit_is has is =
 pub record IsProductSoFar (start t : Table) (p : Sum) (c : Clause) (i : ℕ) : Type 0 where
   pub of_table : IsOf t p
   pub grown : Extends start t
-  pub value : (σ : Assignment) → (value_in t p σ * clause_value (drop i c) σ) % modulus t ≡ clause_value c σ % modulus t
+  pub value : (σ : Assignment) → (value_in t p σ * clause_value (drop i c) σ) % modulus_in t ≡ clause_value c σ % modulus_in t
 
-pub product_starts : (start t : Table) (p : Sum) (c : Clause) → Extends start t → IsOf t p → HasValue t p (λ σ. bit (literal σ (record { 0 = 1 }))) → IsProductSoFar start t p c 0
+pub product_starts : (start t : Table) (p : Sum) (c : Clause) → Extends start t → IsOf t p → HasPolyValue t p (λ σ. bit (literal σ (record { 0 = 1 }))) → IsProductSoFar start t p c 0
 product_starts start t p c grown of has = record {
   of_table = of;
   grown = grown;
-  value = λ σ. product_same (modulus t) (value_in t p σ) 1 (clause_value c σ) (clause_value c σ) (ap (λ n. n % modulus t) (has.value σ) ∙ mod-mod 1 (modulus t)) refl ∙ ap (λ n. n % modulus t) (one-mul (clause_value c σ));
+  value = λ σ. product_same (modulus_in t) (value_in t p σ) 1 (clause_value c σ) (clause_value c σ) (ap (λ n. n % modulus_in t) (has.value σ) ∙ mod-mod 1 (modulus_in t)) refl ∙ ap (λ n. n % modulus_in t) (one-mul (clause_value c σ));
 }
 
 pub product_goes_on : (start t u : Table) (p r : Sum) (c : Clause) (i : ℕ) (d : ℤ) → i < length c → Extends start u → Extends t u → IsOf u r →
-    ((σ : Assignment) → value_in u r σ ≡ (value_in t p σ * bit (not (signed σ (get_or c i d)))) % modulus t) → IsProductSoFar start t p c i → IsProductSoFar start u r c (i + 1)
+    ((σ : Assignment) → value_in u r σ ≡ (value_in t p σ * bit (not (signed σ (get_or c i d)))) % modulus_in t) → IsProductSoFar start t p c i → IsProductSoFar start u r c (i + 1)
 product_goes_on start t u p r c i d below grown on of is h = record {
   of_table = of;
   grown = grown;
@@ -98,7 +98,7 @@ product_goes_on start t u p r c i d below grown on of is h = record {
       let x = value_in t p σ in
       let b = bit (not (signed σ l)) in
       let rest = clause_value (drop (i + 1) c) σ in
-      let m = modulus t in
+      let m = modulus_in t in
       let step : ((x * b) % m * rest) % m ≡ (x * (b * rest)) % m = mul-mod_first (x * b) rest m ∙ ap (λ n. n % m) (mul_assoc x b rest) in
       let same = modulus_stays t u on in
       ap (λ n. (value_in u r σ * rest) % n) same ∙ ap (λ n. (n * rest) % m) (is σ) ∙ step ∙ ap (λ ls. (x * clause_value ls σ) % m) (sym first) ∙ h.value σ ∙ ap (λ n. clause_value c σ % n) (sym same);
@@ -106,7 +106,7 @@ product_goes_on start t u p r c i d below grown on of is h = record {
 
 pub product_ends : (start t : Table) (p : Sum) (c : Clause) (i : ℕ) → length c ≤ i → IsProductSoFar start t p c i → IsClausePoly t p c
 product_ends start t p c i far h σ =
-    reduced ∙ ap (λ n. n % modulus t) (sym (mul-one (value_in t p σ))) ∙ ap (λ ls. (value_in t p σ * clause_value ls σ) % modulus t) (sym (drop_of_length-le c {i = i} far)) ∙ h.value σ
+    reduced ∙ ap (λ n. n % modulus_in t) (sym (mul-one (value_in t p σ))) ∙ ap (λ ls. (value_in t p σ * clause_value ls σ) % modulus_in t) (sym (drop_of_length-le c {i = i} far)) ∙ h.value σ
   where
-    reduced : value_in t p σ ≡ value_in t p σ % modulus t
-    reduced = sym (mod-mod _ (modulus t))
+    reduced : value_in t p σ ≡ value_in t p σ % modulus_in t
+    reduced = sym (mod-mod _ (modulus_in t))

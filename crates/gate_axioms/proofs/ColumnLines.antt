@@ -18,14 +18,14 @@ use Rattle.graph_core.specs.Algebra.{LiveLine, line_of, gate_axiom, column_axiom
 use Rattle.graph_core.specs.Algebra as algebra
 use Rattle.mv_fact.specs.Always.{Always}
 use Rattle.mv_fact.specs.Facts.{Facts, ChangesAt}
-use Rattle.poly_terms.specs.Tables.{Table, Sum, IsOf, Extends, modulus}
+use Rattle.poly_terms.specs.Tables.{Table, Sum, IsOf, Extends, modulus_in}
 use Rattle.poly_terms.specs.Laws.{extends_itself, extends_on, modulus_stays}
-use Rattle.gate_axioms.specs.Axioms.{IsDifference}
+use Rattle.gate_axioms.specs.Axioms.{IsLiteralDifference}
 use Rattle.gate_axioms.specs.Laws.{equal_literals_vanish}
 use Rattle.ripple_graft.specs.Extension.{IsExtension}
 use Rattle.graph_core.specs.Algebra.Agreement.{AreSame, AreSameLines}
-use Rattle.gate_axioms.specs.Lines.{lines_in}
-use Rattle.gate_axioms.specs.ReplacedColumns.{column_of, column_line, difference_line, PutsLine, HasColumns}
+use Rattle.gate_axioms.specs.Lines.{live_lines_in}
+use Rattle.gate_axioms.specs.ReplacedColumns.{replaced_column, column_line, difference_line, PutsLiveLine, HasColumnLines}
 use Rattle.gate_axioms.specs.Steps.{Vanishes, KeepsLines}
 use Rattle.graph_core.proofs.OfAlgebra.CallerLemmas.{same_of, same_refl, same_trans}
 use Rattle.gate_axioms.proofs.ReplacedColumns.{found_all, found_number}
@@ -34,64 +34,64 @@ use Rattle.gate_axioms.proofs.FirstLines.{none_above, or_none, gates_within}
 
 -- ---- one difference
 
-pub difference_vanishes : (old mid : Facts Sum Table) (left right : Lit) (p : Sum) → IsOf mid.table p → IsDifference mid.table p left right → mid.gates ≡ old.gates →
+pub difference_vanishes : (old mid : Facts Sum Table) (left right : Lit) (p : Sum) → IsOf mid.table p → IsLiteralDifference mid.table p left right → mid.gates ≡ old.gates →
     Always old.gates (λ σ. literal σ left ≡ literal σ right) → Vanishes mid.gates mid.table p
 difference_vanishes old mid left right p of is e equal = record {
   of_table = of;
   always = λ σ ev. equal_literals_vanish mid.table p left right σ is (equal σ (subst (λ gates. IsEvaluation gates σ) e ev));
 }
 
-pub difference_put : (old mid new : Facts Sum Table) (id : ℕ) (left right : Lit) (p : Sum) → KeepsLines old mid → IsDifference mid.table p left right → ChangesAt id (Some p) mid new →
-    PutsLine (difference_line (modulus old.table) id left right) old new
+pub difference_put : (old mid new : Facts Sum Table) (id : ℕ) (left right : Lit) (p : Sum) → KeepsLines old mid → IsLiteralDifference mid.table p left right → ChangesAt id (Some p) mid new →
+    PutsLiveLine (difference_line (modulus_in old.table) id left right) old new
 difference_put old mid new id left right p k is change = record {
   gates = change.gates ∙ k.gates;
   table = subst (Extends old.table) (sym change.table) k.table;
-  at = subst (λ t. AreSame (line_of (lines_in t new.entries) id) (Some line)) (sym change.table)
+  at = subst (λ t. AreSame (line_of (live_lines_in t new.entries) id) (Some line)) (sym change.table)
       (subst (λ x. AreSame x (Some line)) (sym (line_of-entries mid.table new.entries id ∙ ap (line_at mid.table id) change.at))
       (λ σ. is σ ∙ ap (λ m. difference m (bit (literal σ left)) (bit (literal σ right))) (modulus_stays old.table mid.table k.table)));
-  others = λ other apart. subst (λ t. AreSame (line_of (lines_in t new.entries) other) (line_of (lines_in old.table old.entries) other)) (sym change.table)
-      (same_trans (line_of (lines_in mid.table new.entries) other) (line_of (lines_in mid.table mid.entries) other) (line_of (lines_in old.table old.entries) other)
+  others = λ other apart. subst (λ t. AreSame (line_of (live_lines_in t new.entries) other) (line_of (live_lines_in old.table old.entries) other)) (sym change.table)
+      (same_trans (line_of (live_lines_in mid.table new.entries) other) (line_of (live_lines_in mid.table mid.entries) other) (line_of (live_lines_in old.table old.entries) other)
       (same_of _ _ (line_of-entries mid.table new.entries other ∙ ap (line_at mid.table other) (change.others other apart) ∙ sym (line_of-entries mid.table mid.entries other))) (k.lines other));
 }
   where
     line : LiveLine
-    line = difference_line (modulus old.table) id left right
+    line = difference_line (modulus_in old.table) id left right
 
 -- ---- column by column
 
-pub columns_none : (e : Extended) (facts : Facts Sum Table) (xs : List LiveLine) → AreSameLines (lines_in facts.table facts.entries) xs → AllByRecursion (λ l. l.id ≤ e.max) xs → HasColumns e 0 facts facts
+pub columns_none : (e : Extended) (facts : Facts Sum Table) (xs : List LiveLine) → AreSameLines (live_lines_in facts.table facts.entries) xs → AllByRecursion (λ l. l.id ≤ e.max) xs → HasColumnLines e 0 facts facts
 columns_none e facts xs are within = record {
   gates = refl;
   table = extends_itself facts.table;
-  below = λ id low. same_refl (line_of (lines_in facts.table facts.entries) id);
+  below = λ id low. same_refl (line_of (live_lines_in facts.table facts.entries) id);
   done = λ j low. absurd (omega (arith, low));
-  free = λ j low. subst (AreSame (line_of (lines_in facts.table facts.entries) (e.max + 1 + j))) (none_above xs e.max (e.max + 1 + j) within (omega arith)) (are (e.max + 1 + j));
+  free = λ j low. subst (AreSame (line_of (live_lines_in facts.table facts.entries) (e.max + 1 + j))) (none_above xs e.max (e.max + 1 + j) within (omega arith)) (are (e.max + 1 + j));
 }
 
 below_last : (j k : ℕ) → j < k + 1 → (j ≡ k → ⊥) → j < k
 below_last j k low apart = omega (arith, low, apart)
 
-pub columns_step : (e : Extended) (k : ℕ) (old mid new : Facts Sum Table) (left right : Lit) → modulus mid.table ≡ algebra.modulus e → Some (record { number = k; old = left; new = right }) ≡ column_of e k → HasColumns e k old mid →
-    PutsLine (difference_line (modulus mid.table) (e.max + 1 + k) left right) mid new → HasColumns e (k + 1) old new
+pub columns_step : (e : Extended) (k : ℕ) (old mid new : Facts Sum Table) (left right : Lit) → modulus_in mid.table ≡ algebra.modulus e → Some (record { number = k; old = left; new = right }) ≡ replaced_column e k → HasColumnLines e k old mid →
+    PutsLiveLine (difference_line (modulus_in mid.table) (e.max + 1 + k) left right) mid new → HasColumnLines e (k + 1) old new
 columns_step e k old mid new left right m here h puts = record {
   gates = puts.gates ∙ h.gates;
   table = extends_on old.table mid.table new.table h.table puts.table;
-  below = λ id low. same_trans (line_of (lines_in new.table new.entries) id) (line_of (lines_in mid.table mid.entries) id) (line_of (lines_in old.table old.entries) id) (puts.others id (λ same. absurd (omega (arith, low, same)))) (h.below id low);
+  below = λ id low. same_trans (line_of (live_lines_in new.table new.entries) id) (line_of (live_lines_in mid.table mid.entries) id) (line_of (live_lines_in old.table old.entries) id) (puts.others id (λ same. absurd (omega (arith, low, same)))) (h.below id low);
   done = λ j low. go j (j == k) refl low;
-  free = λ j low. same_trans (line_of (lines_in new.table new.entries) (e.max + 1 + j)) (line_of (lines_in mid.table mid.entries) (e.max + 1 + j)) None (puts.others (e.max + 1 + j) (λ same. absurd (omega (arith, low, same)))) (h.free j (omega (arith, low)));
+  free = λ j low. same_trans (line_of (live_lines_in new.table new.entries) (e.max + 1 + j)) (line_of (live_lines_in mid.table mid.entries) (e.max + 1 + j)) None (puts.others (e.max + 1 + j) (λ same. absurd (omega (arith, low, same)))) (h.free j (omega (arith, low)));
 }
   where
-    go : (j : ℕ) (b : Bool) → (j == k) ≡ b → j < k + 1 → AreSame (line_of (lines_in new.table new.entries) (e.max + 1 + j)) (column_line e j)
+    go : (j : ℕ) (b : Bool) → (j == k) ≡ b → j < k + 1 → AreSame (line_of (live_lines_in new.table new.entries) (e.max + 1 + j)) (column_line e j)
     go j true f low =
-        subst (λ n. AreSame (line_of (lines_in new.table new.entries) (e.max + 1 + n)) (column_line e n)) (sym (eqb-true j k f))
-        (subst (λ x. AreSame (line_of (lines_in new.table new.entries) (e.max + 1 + k)) (option_map (column_axiom e) x)) here
-        (subst (λ n. AreSame (line_of (lines_in new.table new.entries) (e.max + 1 + k)) (Some (difference_line n (e.max + 1 + k) left right))) m puts.at))
+        subst (λ n. AreSame (line_of (live_lines_in new.table new.entries) (e.max + 1 + n)) (column_line e n)) (sym (eqb-true j k f))
+        (subst (λ x. AreSame (line_of (live_lines_in new.table new.entries) (e.max + 1 + k)) (option_map (column_axiom e) x)) here
+        (subst (λ n. AreSame (line_of (live_lines_in new.table new.entries) (e.max + 1 + k)) (Some (difference_line n (e.max + 1 + k) left right))) m puts.at))
     go j false f low =
-        same_trans (line_of (lines_in new.table new.entries) (e.max + 1 + j)) (line_of (lines_in mid.table mid.entries) (e.max + 1 + j)) (column_line e j)
+        same_trans (line_of (live_lines_in new.table new.entries) (e.max + 1 + j)) (line_of (live_lines_in mid.table mid.entries) (e.max + 1 + j)) (column_line e j)
         (puts.others (e.max + 1 + j) (λ same. true≢false (sym (eq-eqb j k (omega (arith, same))) ∙ f))) (h.done j (below_last j k low (λ same. true≢false (sym (eq-eqb j k same) ∙ f))))
 
 -- the outputs of a replaced column are equal where columns agree
-pub column_equal : (e : Extended) (k : ℕ) (left right : Lit) (σ : Assignment) → Some (record { number = k; old = left; new = right }) ≡ column_of e k → AgreeOnColumns e σ → literal σ left ≡ literal σ right
+pub column_equal : (e : Extended) (k : ℕ) (left right : Lit) (σ : Assignment) → Some (record { number = k; old = left; new = right }) ≡ replaced_column e k → AgreeOnColumns e σ → literal σ left ≡ literal σ right
 column_equal e k left right σ here agree = found_all (λ c. literal σ c.old ≡ literal σ c.new) (λ c. c.number == k) e.replaced _ (recursion_from_All (λ c. literal σ c.old ≡ literal σ c.new) e.replaced agree) (sym here)
 
 -- ---- all of them
@@ -128,40 +128,40 @@ number_within e extension = go e.replaced (recursion_from_All _ e.replaced exten
     go [] h = tt
     go (c ∷ cs) h = (slice_get_within e.graph.outputs c.number c.old h.0, go cs h.1)
 
-none_past : (e : Extended) (n j : ℕ) → AllByRecursion (λ c. c.number < n) e.replaced → n ≤ j → column_of e j ≡ None
-none_past e n j within high = go (column_of e j) refl
+none_past : (e : Extended) (n j : ℕ) → AllByRecursion (λ c. c.number < n) e.replaced → n ≤ j → replaced_column e j ≡ None
+none_past e n j within high = go (replaced_column e j) refl
   where
-    go : (x : Option Column) → column_of e j ≡ x → x ≡ None
+    go : (x : Option Column) → replaced_column e j ≡ x → x ≡ None
     go None f = refl
     go (Some c) f = absurd (omega (arith, found_all (λ c. c.number < n) (λ c. c.number == j) e.replaced c within f, found_number e.replaced j c f, high))
 
 -- behind the lines xs of gates
-columns_from : (e : Extended) (n j : ℕ) (old new : Facts Sum Table) → AllByRecursion (λ c. c.number < n) e.replaced → HasColumns e n old new →
-    AreSame (line_of (lines_in new.table new.entries) (e.max + 1 + j)) (column_line e j)
+columns_from : (e : Extended) (n j : ℕ) (old new : Facts Sum Table) → AllByRecursion (λ c. c.number < n) e.replaced → HasColumnLines e n old new →
+    AreSame (line_of (live_lines_in new.table new.entries) (e.max + 1 + j)) (column_line e j)
 columns_from e n j old new numbers h = go (cases_lt j n)
   where
-    go : (j < n) ⊎ (n ≤ j) → AreSame (line_of (lines_in new.table new.entries) (e.max + 1 + j)) (column_line e j)
+    go : (j < n) ⊎ (n ≤ j) → AreSame (line_of (live_lines_in new.table new.entries) (e.max + 1 + j)) (column_line e j)
     go (inl low) = h.done j low
-    go (inr high) = subst (λ x. AreSame (line_of (lines_in new.table new.entries) (e.max + 1 + j)) (option_map (column_axiom e) x)) (sym (none_past e n j numbers high)) (h.free j high)
+    go (inr high) = subst (λ x. AreSame (line_of (live_lines_in new.table new.entries) (e.max + 1 + j)) (option_map (column_axiom e) x)) (sym (none_past e n j numbers high)) (h.free j high)
 
-columns_above : (e : Extended) (n j : ℕ) (old new : Facts Sum Table) (xs : List LiveLine) → AllByRecursion (λ c. c.number < n) e.replaced → AllByRecursion (λ l. l.id ≤ e.max) xs → HasColumns e n old new →
-    AreSame (line_of (lines_in new.table new.entries) (e.max + 1 + j)) (option_or (line_of xs (e.max + 1 + j)) (line_of (map (column_axiom e) e.replaced) (e.max + 1 + j)))
+columns_above : (e : Extended) (n j : ℕ) (old new : Facts Sum Table) (xs : List LiveLine) → AllByRecursion (λ c. c.number < n) e.replaced → AllByRecursion (λ l. l.id ≤ e.max) xs → HasColumnLines e n old new →
+    AreSame (line_of (live_lines_in new.table new.entries) (e.max + 1 + j)) (option_or (line_of xs (e.max + 1 + j)) (line_of (map (column_axiom e) e.replaced) (e.max + 1 + j)))
 columns_above e n j old new xs numbers within h =
-    subst (λ x. AreSame (line_of (lines_in new.table new.entries) (e.max + 1 + j)) (option_or x (line_of (map (column_axiom e) e.replaced) (e.max + 1 + j)))) (sym (none_above xs e.max (e.max + 1 + j) within (omega arith)))
-    (subst (AreSame (line_of (lines_in new.table new.entries) (e.max + 1 + j))) (sym (line_of-columns e e.replaced j)) (columns_from e n j old new numbers h))
+    subst (λ x. AreSame (line_of (live_lines_in new.table new.entries) (e.max + 1 + j)) (option_or x (line_of (map (column_axiom e) e.replaced) (e.max + 1 + j)))) (sym (none_above xs e.max (e.max + 1 + j) within (omega arith)))
+    (subst (AreSame (line_of (live_lines_in new.table new.entries) (e.max + 1 + j))) (sym (line_of-columns e e.replaced j)) (columns_from e n j old new numbers h))
 
-pub columns_end : (e : Extended) (n : ℕ) (old new : Facts Sum Table) (xs : List LiveLine) → AllByRecursion (λ c. c.number < n) e.replaced → AllByRecursion (λ l. l.id ≤ e.max) xs → AreSameLines (lines_in old.table old.entries) xs → HasColumns e n old new →
-    AreSameLines (lines_in new.table new.entries) (xs ++ map (column_axiom e) e.replaced)
+pub columns_end : (e : Extended) (n : ℕ) (old new : Facts Sum Table) (xs : List LiveLine) → AllByRecursion (λ c. c.number < n) e.replaced → AllByRecursion (λ l. l.id ≤ e.max) xs → AreSameLines (live_lines_in old.table old.entries) xs → HasColumnLines e n old new →
+    AreSameLines (live_lines_in new.table new.entries) (xs ++ map (column_axiom e) e.replaced)
 columns_end e n old new xs numbers within are h id =
-    subst (AreSame (line_of (lines_in new.table new.entries) id)) (sym (find-append (λ l. l.id == id) xs (map (column_axiom e) e.replaced))) (go (cases_lt id (e.max + 1)))
+    subst (AreSame (line_of (live_lines_in new.table new.entries) id)) (sym (find-append (λ l. l.id == id) xs (map (column_axiom e) e.replaced))) (go (cases_lt id (e.max + 1)))
   where
-    go : (id < e.max + 1) ⊎ (e.max + 1 ≤ id) → AreSame (line_of (lines_in new.table new.entries) id) (option_or (line_of xs id) (line_of (map (column_axiom e) e.replaced) id))
+    go : (id < e.max + 1) ⊎ (e.max + 1 ≤ id) → AreSame (line_of (live_lines_in new.table new.entries) id) (option_or (line_of xs id) (line_of (map (column_axiom e) e.replaced) id))
     go (inl low) =
-        subst (λ x. AreSame (line_of (lines_in new.table new.entries) id) (option_or (line_of xs id) x)) (sym (none_below e e.replaced id low))
-        (subst (AreSame (line_of (lines_in new.table new.entries) id)) (sym (or_none (line_of xs id)))
-        (same_trans (line_of (lines_in new.table new.entries) id) (line_of (lines_in old.table old.entries) id) (line_of xs id) (h.below id low) (are id)))
+        subst (λ x. AreSame (line_of (live_lines_in new.table new.entries) id) (option_or (line_of xs id) x)) (sym (none_below e e.replaced id low))
+        (subst (AreSame (line_of (live_lines_in new.table new.entries) id)) (sym (or_none (line_of xs id)))
+        (same_trans (line_of (live_lines_in new.table new.entries) id) (line_of (live_lines_in old.table old.entries) id) (line_of xs id) (h.below id low) (are id)))
     go (inr high) =
-        subst (λ n. AreSame (line_of (lines_in new.table new.entries) n) (option_or (line_of xs n) (line_of (map (column_axiom e) e.replaced) n))) (omega (arith, high)) (columns_above e n (id - (e.max + 1)) old new xs numbers within h)
+        subst (λ n. AreSame (line_of (live_lines_in new.table new.entries) n) (option_or (line_of xs n) (line_of (map (column_axiom e) e.replaced) n))) (omega (arith, high)) (columns_above e n (id - (e.max + 1)) old new xs numbers within h)
 
 columns_within : (e : Extended) (n : ℕ) (cs : List Column) → AllByRecursion (λ c. c.number < n) cs → AllByRecursion (λ l. l.id ≤ e.max + n) (map (column_axiom e) cs)
 columns_within e n [] h = tt

@@ -15,9 +15,9 @@ use Rattle.graph_core.specs.Algebra.{modulus as modulus_of}
 use Rattle.graph_core.specs.Algebra.Polynomials.{Polynomial, value, sum_of, difference}
 use Rattle.graph_core.proofs.OfGraphs.CallerLemmas.{sum_same, product_same, difference_is, difference_plus}
 use Rattle.frontier_core.specs.Columns.{bit_at, partial_products, digit_at, digit_products, product_column, plus_bit, column_claim, column_value}
-use Rattle.poly_terms.specs.Tables.{Table, Sum, Extends, modulus, value_in}
+use Rattle.poly_terms.specs.Tables.{Table, Sum, Extends, modulus_in, value_in}
 use Rattle.poly_terms.specs.Laws.{modulus_stays}
-use Rattle.gate_axioms.specs.Form.{Adds, CountsAs, HasValue, counts_as, digits, optional_bit, partner_digit}
+use Rattle.gate_axioms.specs.Form.{AddsNumber, CountsAs, HasPolyValue, counts_as, digits, optional_bit, partner_digit}
 
 -- ---- what literals count
 
@@ -96,7 +96,7 @@ pub partner_none : (m : ℕ) (sign : Sign) (σ : Assignment) (bs : List Lit) (k 
 partner_none m sign σ bs k i h = partner-before (digits m sign σ bs) k i h
 
 -- what isn't there adds nothing
-pub nothing_adds : (w n : ℕ) (l : Lit) (form : Polynomial) (f : Assignment → ℕ) → ((σ : Assignment) → f σ ≡ 0) → Adds w form form (λ σ. n * (bit (literal σ l) * f σ))
+pub nothing_adds : (w n : ℕ) (l : Lit) (form : Polynomial) (f : Assignment → ℕ) → ((σ : Assignment) → f σ ≡ 0) → AddsNumber w form form (λ σ. n * (bit (literal σ l) * f σ))
 nothing_adds w n l form f none = record {
   sum = λ σ.
       let m = 2 ^ w in
@@ -105,12 +105,12 @@ nothing_adds w n l form f none = record {
 }
 
 -- what is the same up to multiples adds the same
-adds_mod : (w : ℕ) (old new : Polynomial) (f g : Assignment → ℕ) → Adds w old new f → ((σ : Assignment) → f σ % 2 ^ w ≡ g σ % 2 ^ w) → Adds w old new g
+adds_mod : (w : ℕ) (old new : Polynomial) (f g : Assignment → ℕ) → AddsNumber w old new f → ((σ : Assignment) → f σ % 2 ^ w ≡ g σ % 2 ^ w) → AddsNumber w old new g
 adds_mod w old new f g adds same = record { sum = λ σ. adds.sum σ ∙ sum_same (2 ^ w) (value (2 ^ w) old σ) (value (2 ^ w) old σ) (f σ) (g σ) refl (same σ) }
 
 -- a partner that is there
 pub partner_adds : (w n c : ℕ) (sign : Sign) (l d : Lit) (bs : List Lit) (k i : ℕ) (old new : Polynomial) → i ≤ k → k - i < length bs → CountsAs w sign (length bs) (k - i) n c →
-    Adds w old new (λ σ. c * (bit (literal σ l) * bit (literal σ (get_or bs (k - i) d)))) → Adds w old new (λ σ. n * (bit (literal σ l) * partner_digit (digits (2 ^ w) sign σ bs) k i))
+    AddsNumber w old new (λ σ. c * (bit (literal σ l) * bit (literal σ (get_or bs (k - i) d)))) → AddsNumber w old new (λ σ. n * (bit (literal σ l) * partner_digit (digits (2 ^ w) sign σ bs) k i))
 partner_adds w n c sign l d bs k i old new low within counts adds =
     adds_mod w old new _ _ adds (λ σ.
     let m = 2 ^ w in
@@ -174,7 +174,7 @@ column_starts w n sign as' bs k old = record {
 }
 
 pub column_goes_on : (w n c : ℕ) (sign : Sign) (as' bs : List Lit) (k i : ℕ) (d : Lit) (old mid new : Polynomial) → i < length as' → CountsAs w sign (length as') i n c →
-    IsColumnLeft w n sign as' bs k i old mid → Adds w mid new (λ σ. c * (bit (literal σ (get_or as' i d)) * partner_digit (digits (2 ^ w) sign σ bs) k i)) →
+    IsColumnLeft w n sign as' bs k i old mid → AddsNumber w mid new (λ σ. c * (bit (literal σ (get_or as' i d)) * partner_digit (digits (2 ^ w) sign σ bs) k i)) →
     IsColumnLeft w n sign as' bs k (i + 1) old new
 column_goes_on w n c sign as' bs k i d old mid new within counts left adds = record {
   sum = λ σ.
@@ -201,7 +201,7 @@ column_goes_on w n c sign as' bs k i d old mid new within counts left adds = rec
     gathered v n y z = omega arith
 
 pub column_ends : (w n : ℕ) (sign : Sign) (as' bs : List Lit) (k i : ℕ) (old new : Polynomial) → length as' ≤ i → IsColumnLeft w n sign as' bs k i old new →
-    Adds w old new (λ σ. n * product_column (2 ^ w) sign σ as' bs k)
+    AddsNumber w old new (λ σ. n * product_column (2 ^ w) sign σ as' bs k)
 column_ends w n sign as' bs k i old new past left = record {
   sum = λ σ.
       let m = 2 ^ w in
@@ -238,11 +238,11 @@ weighted_difference m k n o x y pos weight opposite =
     sum_same m (n * d) (n * d) ((o + n) * y) (0 * y) refl none ∙ ap (λ z. z % m) (omega arith) ∙
     product_same m n (2 ^ k) d d weight refl
 
-pub column_has : (old new : Table) (p : Sum) (e : Extended) (s : Sides) (k : ℕ) (l : Lit) (one n o : ℕ) → Extends old new → modulus old ≡ modulus_of e → one ≡ 1 →
-    n ≡ (one * 2 ^ k) % modulus old → (o + n) % modulus old ≡ 0 →
-    HasValue new p (λ σ. n * bit (literal σ l) + o * column_claim (modulus old) s k σ) → (σ : Assignment) → value_in new p σ ≡ column_value e s k l σ % modulus old
+pub column_has : (old new : Table) (p : Sum) (e : Extended) (s : Sides) (k : ℕ) (l : Lit) (one n o : ℕ) → Extends old new → modulus_in old ≡ modulus_of e → one ≡ 1 →
+    n ≡ (one * 2 ^ k) % modulus_in old → (o + n) % modulus_in old ≡ 0 →
+    HasPolyValue new p (λ σ. n * bit (literal σ l) + o * column_claim (modulus_in old) s k σ) → (σ : Assignment) → value_in new p σ ≡ column_value e s k l σ % modulus_in old
 column_has old new p e s k l one n o grown same is_one weight opposite has σ =
-    let m = modulus old in
+    let m = modulus_in old in
     let x = bit (literal σ l) in
     let y = column_claim m s k σ in
     let power : n % m ≡ 2 ^ k % m = ap (λ z. z % m) weight ∙ mod-mod (one * 2 ^ k) m ∙ ap (λ z. (z * 2 ^ k) % m) is_one ∙ ap (λ z. z % m) (omega arith) in

@@ -16,12 +16,12 @@ use Rattle.graph_core.proofs.OfAlgebra.CallerLemmas.{gate_axiom-zero, same_of, s
 use Rattle.graph_core.specs.Algebra.{LiveLine, line_of, gate_axiom}
 use Rattle.mv_fact.specs.Facts.{Facts, fact_at, ChangesAt}
 use Rattle.mv_fact.specs.Always.{Always}
-use Rattle.poly_terms.specs.Tables.{Table, Sum, IsOf, Extends, modulus, value_in}
+use Rattle.poly_terms.specs.Tables.{Table, Sum, IsOf, Extends, modulus_in, value_in}
 use Rattle.poly_terms.specs.Laws.{extends_itself, extends_on, modulus_stays}
 use Rattle.gate_axioms.specs.Axioms.{IsGateAxiom}
 use Rattle.graph_core.specs.Algebra.Agreement.{AreSame, AreSameLines}
-use Rattle.gate_axioms.specs.Lines.{lines_in}
-use Rattle.gate_axioms.specs.Steps.{Vanishes, KeepsLines, AddsLine, Computes}
+use Rattle.gate_axioms.specs.Lines.{live_lines_in}
+use Rattle.gate_axioms.specs.Steps.{Vanishes, KeepsLines, AddsLine, ComputesGate}
 use Rattle.gate_axioms.proofs.Entries.{line_at, line_of-entries}
 
 or_same : (x y z : Option LiveLine) → AreSame x y → AreSame (option_or x z) (option_or y z)
@@ -37,23 +37,23 @@ or_none (Some x) = refl
 -- a line whose id had none
 lines_new : (t : Table) (line : LiveLine) (old new : List (ℕ × Sum)) (p : Sum) → fact_at old line.id ≡ None → fact_at new line.id ≡ Some p →
     ((other : ℕ) → (other ≡ line.id → ⊥) → fact_at new other ≡ fact_at old other) → ((σ : Assignment) → value_in t p σ ≡ line.value σ) →
-    (id : ℕ) → AreSame (line_of (lines_in t new) id) (option_or (line_of (lines_in t old) id) (line_of (line ∷ []) id))
+    (id : ℕ) → AreSame (line_of (live_lines_in t new) id) (option_or (line_of (live_lines_in t old) id) (line_of (line ∷ []) id))
 lines_new t line old new p none at others is id = go (line.id == id) refl
   where
-    go : (b : Bool) → (line.id == id) ≡ b → AreSame (line_of (lines_in t new) id) (option_or (line_of (lines_in t old) id) (cond b (Some line) None))
+    go : (b : Bool) → (line.id == id) ≡ b → AreSame (line_of (live_lines_in t new) id) (option_or (line_of (live_lines_in t old) id) (cond b (Some line) None))
     go true f =
         let here : line.id ≡ id = eqb-true line.id id f in
-        let left : line_of (lines_in t new) id ≡ line_at t line.id (Some p) = line_of-entries t new id ∙ ap (λ n. line_at t n (fact_at new n)) (sym here) ∙ ap (line_at t line.id) at in
-        let right : line_of (lines_in t old) id ≡ None = line_of-entries t old id ∙ ap (λ n. line_at t n (fact_at old n)) (sym here) ∙ ap (line_at t line.id) none in
-        subst (λ x. AreSame x (option_or (line_of (lines_in t old) id) (Some line))) (sym left) (subst (λ y. AreSame (line_at t line.id (Some p)) (option_or y (Some line))) (sym right) is)
+        let left : line_of (live_lines_in t new) id ≡ line_at t line.id (Some p) = line_of-entries t new id ∙ ap (λ n. line_at t n (fact_at new n)) (sym here) ∙ ap (line_at t line.id) at in
+        let right : line_of (live_lines_in t old) id ≡ None = line_of-entries t old id ∙ ap (λ n. line_at t n (fact_at old n)) (sym here) ∙ ap (line_at t line.id) none in
+        subst (λ x. AreSame x (option_or (line_of (live_lines_in t old) id) (Some line))) (sym left) (subst (λ y. AreSame (line_at t line.id (Some p)) (option_or y (Some line))) (sym right) is)
     go false f =
-        same_of _ _ (line_of-entries t new id ∙ ap (line_at t id) (others id (λ s. true≢false (sym (eq-eqb line.id id (sym s)) ∙ f))) ∙ sym (line_of-entries t old id) ∙ sym (or_none (line_of (lines_in t old) id)))
+        same_of _ _ (line_of-entries t new id ∙ ap (line_at t id) (others id (λ s. true≢false (sym (eq-eqb line.id id (sym s)) ∙ f))) ∙ sym (line_of-entries t old id) ∙ sym (or_none (line_of (live_lines_in t old) id)))
 
 -- and one whose id has one
-lines_again : (t : Table) (line : LiveLine) (es : List (ℕ × Sum)) → IsSome (fact_at es line.id) → (id : ℕ) → AreSame (line_of (lines_in t es) id) (option_or (line_of (lines_in t es) id) (line_of (line ∷ []) id))
-lines_again t line es there id = go (line.id == id) refl (line_of (lines_in t es) id) refl
+lines_again : (t : Table) (line : LiveLine) (es : List (ℕ × Sum)) → IsSome (fact_at es line.id) → (id : ℕ) → AreSame (line_of (live_lines_in t es) id) (option_or (line_of (live_lines_in t es) id) (line_of (line ∷ []) id))
+lines_again t line es there id = go (line.id == id) refl (line_of (live_lines_in t es) id) refl
   where
-    go : (b : Bool) → (line.id == id) ≡ b → (x : Option LiveLine) → line_of (lines_in t es) id ≡ x → AreSame x (option_or x (cond b (Some line) None))
+    go : (b : Bool) → (line.id == id) ≡ b → (x : Option LiveLine) → line_of (live_lines_in t es) id ≡ x → AreSame x (option_or x (cond b (Some line) None))
     go b f (Some x) h = same_refl (Some x)
     go false f None h = tt
     go true f None h =
@@ -66,12 +66,12 @@ lines_again t line es there id = go (line.id == id) refl (line_of (lines_in t es
 
 -- the same behind growth of the table
 adds_grown : (line : LiveLine) (a b c : Facts Sum Table) → KeepsLines a b → c.gates ≡ b.gates → Extends b.table c.table →
-    ((id : ℕ) → AreSame (line_of (lines_in c.table c.entries) id) (option_or (line_of (lines_in b.table b.entries) id) (line_of (line ∷ []) id))) → AddsLine line a c
+    ((id : ℕ) → AreSame (line_of (live_lines_in c.table c.entries) id) (option_or (line_of (live_lines_in b.table b.entries) id) (line_of (line ∷ []) id))) → AddsLine line a c
 adds_grown line a b c k gates table lines = record {
   gates = gates ∙ k.gates;
   table = extends_on a.table b.table c.table k.table table;
-  lines = λ id. same_trans (line_of (lines_in c.table c.entries) id) (option_or (line_of (lines_in b.table b.entries) id) (line_of (line ∷ []) id)) (option_or (line_of (lines_in a.table a.entries) id) (line_of (line ∷ []) id)) (lines id)
-      (or_same (line_of (lines_in b.table b.entries) id) (line_of (lines_in a.table a.entries) id) (line_of (line ∷ []) id) (k.lines id));
+  lines = λ id. same_trans (line_of (live_lines_in c.table c.entries) id) (option_or (line_of (live_lines_in b.table b.entries) id) (line_of (line ∷ []) id)) (option_or (line_of (live_lines_in a.table a.entries) id) (line_of (line ∷ []) id)) (lines id)
+      (or_same (line_of (live_lines_in b.table b.entries) id) (line_of (live_lines_in a.table a.entries) id) (line_of (line ∷ []) id) (k.lines id));
 }
 
 not_there : (x : Option Sum) → (IsSome x → ⊥) → x ≡ None
@@ -82,7 +82,7 @@ pub adds_new : (line : LiveLine) (a b c : Facts Sum Table) (p : Sum) → KeepsLi
     AddsLine line a c
 adds_new line a b c p k none change is =
     adds_grown line a b c k change.gates (subst (Extends b.table) (sym change.table) (extends_itself b.table))
-    (λ id. subst (λ t. AreSame (line_of (lines_in t c.entries) id) (option_or (line_of (lines_in b.table b.entries) id) (line_of (line ∷ []) id))) (sym change.table)
+    (λ id. subst (λ t. AreSame (line_of (live_lines_in t c.entries) id) (option_or (line_of (live_lines_in b.table b.entries) id) (line_of (line ∷ []) id))) (sym change.table)
     (lines_new b.table line b.entries c.entries p none change.at change.others is id))
 
 pub adds_again : (line : LiveLine) (a b c : Facts Sum Table) → KeepsLines a b → c ≡ b → IsSome (fact_at b.entries line.id) → AddsLine line a c
@@ -91,16 +91,16 @@ adds_again line a b c k e there = subst (AddsLine line a) (sym e) (adds_grown li
 -- ---- one after the other
 
 -- the lines so far, and one more
-pub lines_more : (a b : Facts Sum Table) (xs : List LiveLine) (line : LiveLine) → AreSameLines (lines_in a.table a.entries) xs → AddsLine line a b → AreSameLines (lines_in b.table b.entries) (xs ++ line ∷ [])
+pub lines_more : (a b : Facts Sum Table) (xs : List LiveLine) (line : LiveLine) → AreSameLines (live_lines_in a.table a.entries) xs → AddsLine line a b → AreSameLines (live_lines_in b.table b.entries) (xs ++ line ∷ [])
 lines_more a b xs line before adds id =
-    subst (AreSame (line_of (lines_in b.table b.entries) id)) (sym (find-append (λ l. l.id == id) xs (line ∷ [])))
-    (same_trans (line_of (lines_in b.table b.entries) id) (option_or (line_of (lines_in a.table a.entries) id) (line_of (line ∷ []) id)) (option_or (line_of xs id) (line_of (line ∷ []) id)) (adds.lines id)
-    (or_same (line_of (lines_in a.table a.entries) id) (line_of xs id) (line_of (line ∷ []) id) (before id)))
+    subst (AreSame (line_of (live_lines_in b.table b.entries) id)) (sym (find-append (λ l. l.id == id) xs (line ∷ [])))
+    (same_trans (line_of (live_lines_in b.table b.entries) id) (option_or (line_of (live_lines_in a.table a.entries) id) (line_of (line ∷ []) id)) (option_or (line_of xs id) (line_of (line ∷ []) id)) (adds.lines id)
+    (or_same (line_of (live_lines_in a.table a.entries) id) (line_of xs id) (line_of (line ∷ []) id) (before id)))
 
-pub gates_more : (m : ℕ) (gates : List Gate) (i : ℕ) (d : Gate) (a b : Facts Sum Table) → i < length gates → AreSameLines (lines_in a.table a.entries) (map (gate_axiom m) (take i gates)) → AddsLine (gate_axiom m (get_or gates i d)) a b →
-    AreSameLines (lines_in b.table b.entries) (map (gate_axiom m) (take (i + 1) gates))
+pub gates_more : (m : ℕ) (gates : List Gate) (i : ℕ) (d : Gate) (a b : Facts Sum Table) → i < length gates → AreSameLines (live_lines_in a.table a.entries) (map (gate_axiom m) (take i gates)) → AddsLine (gate_axiom m (get_or gates i d)) a b →
+    AreSameLines (live_lines_in b.table b.entries) (map (gate_axiom m) (take (i + 1) gates))
 gates_more m gates i d a b low before adds =
-    subst (AreSameLines (lines_in b.table b.entries)) (sym (ap (map (gate_axiom m)) (take_more gates i d low) ∙ map-append (gate_axiom m) (take i gates) (get_or gates i d ∷ [])))
+    subst (AreSameLines (live_lines_in b.table b.entries)) (sym (ap (map (gate_axiom m)) (take_more gates i d low) ∙ map-append (gate_axiom m) (take i gates) (get_or gates i d ∷ [])))
     (lines_more a b (map (gate_axiom m) (take i gates)) (gate_axiom m (get_or gates i d)) before adds)
 
 -- ---- ids that none of them has
@@ -111,16 +111,16 @@ none_above (x ∷ xs) last id h above =
     ap (λ b. cond b (Some x) (line_of xs id)) (false_from_ne_true (x.id == id) (λ e. let s : x.id ≡ id = eqb-true x.id id e in omega (arith, h.0))) ∙ none_above xs last id h.1 above
 
 -- an id without a line has no entry
-pub no_entry : (t : Table) (es : List (ℕ × Sum)) (id : ℕ) → AreSame (line_of (lines_in t es) id) None → fact_at es id ≡ None
+pub no_entry : (t : Table) (es : List (ℕ × Sum)) (id : ℕ) → AreSame (line_of (live_lines_in t es) id) None → fact_at es id ≡ None
 no_entry t es id h = go (fact_at es id) (subst (λ x. AreSame x None) (line_of-entries t es id) h)
   where
     go : (x : Option Sum) → AreSame (line_at t id x) None → x ≡ None
     go None h = refl
     go (Some p) h = absurd h
 
-pub fresh_above : (facts : Facts Sum Table) (xs : List LiveLine) (last id : ℕ) → AreSameLines (lines_in facts.table facts.entries) xs → AllByRecursion (λ l. l.id ≤ last) xs → last < id → fact_at facts.entries id ≡ None
+pub fresh_above : (facts : Facts Sum Table) (xs : List LiveLine) (last id : ℕ) → AreSameLines (live_lines_in facts.table facts.entries) xs → AllByRecursion (λ l. l.id ≤ last) xs → last < id → fact_at facts.entries id ≡ None
 fresh_above facts xs last id are within above =
-    no_entry facts.table facts.entries id (subst (AreSame (line_of (lines_in facts.table facts.entries) id)) (none_above xs last id within above) (are id))
+    no_entry facts.table facts.entries id (subst (AreSame (line_of (live_lines_in facts.table facts.entries) id)) (none_above xs last id within above) (are id))
 
 pub gates_within : (m last : ℕ) (gates : List Gate) → AllByRecursion (λ g. g.v ≤ last) gates → AllByRecursion (λ l. l.id ≤ last) (map (gate_axiom m) gates)
 gates_within m last [] h = tt
@@ -128,14 +128,14 @@ gates_within m last (g ∷ gates) h = (h.0, gates_within m last gates h.1)
 
 -- ---- the axiom of a gate
 
-pub gate_vanishes : (old mid : Facts Sum Table) (g : Gate) (p : Sum) → IsOf mid.table p → IsGateAxiom mid.table p g → mid.gates ≡ old.gates → Always old.gates (Computes g) → Vanishes mid.gates mid.table p
+pub gate_vanishes : (old mid : Facts Sum Table) (g : Gate) (p : Sum) → IsOf mid.table p → IsGateAxiom mid.table p g → mid.gates ≡ old.gates → Always old.gates (ComputesGate g) → Vanishes mid.gates mid.table p
 gate_vanishes old mid g p of is e computes = record {
   of_table = of;
-  always = λ σ ev. is σ ∙ gate_axiom-zero (modulus mid.table) σ g (pow_pos mid.table.exponent) (computes σ (subst (λ gates. IsEvaluation gates σ) e ev));
+  always = λ σ ev. is σ ∙ gate_axiom-zero (modulus_in mid.table) σ g (pow_pos mid.table.exponent) (computes σ (subst (λ gates. IsEvaluation gates σ) e ev));
 }
 
 pub gate_added : (old mid new : Facts Sum Table) (g : Gate) (id : ℕ) (p : Sum) → id ≡ g.v → KeepsLines old mid → IsGateAxiom mid.table p g → (IsSome (fact_at mid.entries id) → ⊥) → ChangesAt id (Some p) mid new →
-    AddsLine (gate_axiom (modulus old.table) g) old new
+    AddsLine (gate_axiom (modulus_in old.table) g) old new
 gate_added old mid new g id p e k is none change =
-    adds_new (gate_axiom (modulus old.table) g) old mid new p k (subst (λ n. fact_at mid.entries n ≡ None) e (not_there (fact_at mid.entries id) none)) (subst (λ n. ChangesAt n (Some p) mid new) e change)
+    adds_new (gate_axiom (modulus_in old.table) g) old mid new p k (subst (λ n. fact_at mid.entries n ≡ None) e (not_there (fact_at mid.entries id) none)) (subst (λ n. ChangesAt n (Some p) mid new) e change)
     (λ σ. is σ ∙ ap (λ m. (gate_axiom m g).value σ) (modulus_stays old.table mid.table k.table))

@@ -10,7 +10,7 @@ use Rattle.std.proofs.lemmas.Option.{slice_get_within, get_or_from_slice_get}
 use Rattle.graph_core.specs.declared.Lit.{Lit}
 use Rattle.graph_core.specs.Graph.Extended.{Extended, Column}
 use Rattle.ripple_graft.specs.Extension.{IsReplaced, IsExtension, new_or_old, outputs_from, new_outputs}
-use Rattle.gate_axioms.specs.ReplacedColumns.{column_of}
+use Rattle.gate_axioms.specs.ReplacedColumns.{replaced_column}
 
 -- ---- what `find` finds
 
@@ -77,18 +77,18 @@ outputs_at cs j (l ∷ ls) (suc i) d low = outputs_at cs (suc j) ls i d (omega (
 
 -- ---- a column by its outputs
 
-pub column_none : (e : Extended) (k : ℕ) → (IsReplaced e k → ⊥) → None ≡ column_of e k
-column_none e k h = go (column_of e k) refl
+pub column_none : (e : Extended) (k : ℕ) → (IsReplaced e k → ⊥) → None ≡ replaced_column e k
+column_none e k h = go (replaced_column e k) refl
   where
-    go : (x : Option Column) → column_of e k ≡ x → None ≡ x
+    go : (x : Option Column) → replaced_column e k ≡ x → None ≡ x
     go None f = refl
     go (Some c) f = absurd (h (found_any e.replaced k c f))
 
 pub column_some : (e : Extended) (k : ℕ) (left right : Lit) → IsExtension e → IsReplaced e k → slice_get e.graph.outputs k ≡ Some left → slice_get (new_outputs e) k ≡ Some right →
-    Some (record { number = k; old = left; new = right }) ≡ column_of e k
-column_some e k left right extension there at_left at_right = go (column_of e k) refl (any_found e.replaced k there.0 there.1 there.2 there.3 there.4)
+    Some (record { number = k; old = left; new = right }) ≡ replaced_column e k
+column_some e k left right extension there at_left at_right = go (replaced_column e k) refl (any_found e.replaced k there.0 there.1 there.2 there.3 there.4)
   where
-    go : (x : Option Column) → column_of e k ≡ x → IsSome x → Some (record { number = k; old = left; new = right }) ≡ x
+    go : (x : Option Column) → replaced_column e k ≡ x → IsSome x → Some (record { number = k; old = left; new = right }) ≡ x
     go None f s = absurd (true≢false (sym s))
     go (Some c) f s =
         let number : c.number ≡ k = found_number e.replaced k c f in

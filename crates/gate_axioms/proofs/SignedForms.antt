@@ -7,7 +7,7 @@ use Rattle.graph_core.specs.Graph.Assignments.{Assignment, bit, literal, word}
 use Rattle.graph_core.specs.Graph.Operands.{signed_word}
 use Rattle.graph_core.specs.Algebra.Polynomials.{Polynomial}
 use Rattle.graph_core.proofs.OfGraphs.CallerLemmas.{product_same, signed_is, sum_same, top}
-use Rattle.gate_axioms.specs.Form.{Adds}
+use Rattle.gate_axioms.specs.Form.{AddsNumber}
 use Rattle.gate_axioms.proofs.Adding.{adds_on}
 
 top_is : (σ : Assignment) (ls : List Lit) (d : Lit) → 0 < length ls → top σ ls ≡ bit (literal σ (get_or ls (length ls - 1) d))
@@ -40,7 +40,7 @@ signed_at w f o σ (l ∷ ls) d some opposite =
 
 -- the word, and minus 2 ^ n times the last literal
 pub signed_adds : (w f s o : ℕ) (ls : List Lit) (d : Lit) (old mid new : Polynomial) → 0 < length ls → s ≡ (f * 2 ^ length ls) % 2 ^ w → (o + s) % 2 ^ w ≡ 0 →
-    Adds w old mid (λ σ. f * word σ ls) → Adds w mid new (λ σ. o * bit (literal σ (get_or ls (length ls - 1) d))) → Adds w old new (λ σ. f * signed_word (2 ^ w) σ ls)
+    AddsNumber w old mid (λ σ. f * word σ ls) → AddsNumber w mid new (λ σ. o * bit (literal σ (get_or ls (length ls - 1) d))) → AddsNumber w old new (λ σ. f * signed_word (2 ^ w) σ ls)
 signed_adds w f s o ls d old mid new some is opposite whole top' =
     let none : (o + f * 2 ^ length ls) % 2 ^ w ≡ 0 =
     sum_same (2 ^ w) o o (f * 2 ^ length ls) s refl (sym (ap (λ z. z % 2 ^ w) is ∙ mod-mod (f * 2 ^ length ls) (2 ^ w))) ∙ opposite in

@@ -4,7 +4,7 @@ use Rattle.clause_core.specs.Clause.{Clause, SameSet, holds, signed}
 use Rattle.graph_core.specs.declared.literal.Lit.{Lit}
 use Rattle.graph_core.specs.Graph.Assignments.{Assignment, HasBound, bit}
 use Rattle.graph_core.specs.Graph.Literals.{inverted, plain}
-use Rattle.poly_terms.specs.Tables.{Table, Sum, modulus, value_in}
+use Rattle.poly_terms.specs.Tables.{Table, Sum, modulus_in, value_in}
 
 -- The product, over the literals, of 1 minus the literal: a literal that is repeated doesn't count twice, since it is 0 or 1.
 abbrev pub clause_value : Clause → Assignment → ℕ
@@ -13,7 +13,7 @@ clause_value (l ∷ ls) σ = bit (not (signed σ l)) * clause_value ls σ
 
 -- a polynomial of a table with this value at every assignment
 abbrev pub IsClausePoly : Table → Sum → Clause → Type 0
-IsClausePoly t p c = (σ : Assignment) → value_in t p σ ≡ clause_value c σ % modulus t
+IsClausePoly t p c = (σ : Assignment) → value_in t p σ ≡ clause_value c σ % modulus_in t
 
 -- the literal of a graph that is 1 minus this one
 abbrev pub opposite : ℤ → Lit

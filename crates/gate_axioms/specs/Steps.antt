@@ -7,7 +7,7 @@ use Rattle.graph_core.specs.Algebra.{LiveLine, line_of}
 use Rattle.graph_core.specs.Algebra.Agreement.{AreSame, AreSameLines}
 use Rattle.mv_fact.specs.Facts.{Facts, IsKept}
 use Rattle.poly_terms.specs.Tables.{Table, Sum, IsOf, Extends, value_in}
-use Rattle.gate_axioms.specs.Lines.{lines_in}
+use Rattle.gate_axioms.specs.Lines.{live_lines_in}
 
 -- A polynomial of the table that vanishes on every evaluation of the gates.
 abbrev pub Vanishes : List Gate → Table → Sum → Type 0
@@ -18,15 +18,15 @@ pub record KeepsLines (old new : Facts Sum Table) : Type 0 where
   pub gates : new.gates ≡ old.gates
   pub table : Extends old.table new.table
   pub entries : new.entries ≡ old.entries
-  pub lines : AreSameLines (lines_in new.table new.entries) (lines_in old.table old.entries)
+  pub lines : AreSameLines (live_lines_in new.table new.entries) (live_lines_in old.table old.entries)
 
 -- what a gate says of an assignment
-abbrev pub Computes : Gate → Assignment → Type 0
-Computes g σ = variable σ g.v ≡ (literal σ g.left && literal σ g.right)
+abbrev pub ComputesGate : Gate → Assignment → Type 0
+ComputesGate g σ = variable σ g.v ≡ (literal σ g.left && literal σ g.right)
 
 -- One more line is live, unless its id was; the table has grown.
 pub record AddsLine (line : LiveLine) (old new : Facts Sum Table) : Type 0 where
   pub gates : new.gates ≡ old.gates
   pub table : Extends old.table new.table
-  pub lines : (id : ℕ) → AreSame (line_of (lines_in new.table new.entries) id)
-      (option_or (line_of (lines_in old.table old.entries) id) (line_of (line ∷ []) id))
+  pub lines : (id : ℕ) → AreSame (line_of (live_lines_in new.table new.entries) id)
+      (option_or (line_of (live_lines_in old.table old.entries) id) (line_of (line ∷ []) id))

@@ -9,10 +9,10 @@ ghost use Rattle.graph_core.specs.Algebra.{modulus as modulus_of};
 ghost use Rattle.graph_core.specs.Graph.Extended.{without_cut};
 ghost use Rattle.graph_core.specs.Graph.Assignments.{Assignment};
 ghost use Rattle.graph_core.specs.Algebra.Polynomials.{value};
-ghost use Rattle.poly_terms.specs.Tables.{IsOf, Extends, modulus, value_in};
+ghost use Rattle.poly_terms.specs.Tables.{IsOf, Extends, modulus_in, value_in};
 ghost use Rattle.ripple_graft.specs.Extension.{new_outputs};
-ghost use Rattle.gate_axioms.specs.Form.{HasValue};
-ghost use Rattle.gate_axioms.specs.Axioms.{IsDifference, IsGateAxiom, IsSpecification};
+ghost use Rattle.gate_axioms.specs.Form.{HasPolyValue};
+ghost use Rattle.gate_axioms.specs.Axioms.{HasSpecificationValue, IsGateAxiom, IsLiteralDifference};
 
 use crate::form::Form;
 use graph_core::{Gate, Graph, Lit, Memory, Operands};
@@ -52,7 +52,7 @@ pub fn times_operands(
     ensures extends { Extends terms.old terms.new }
     ensures of { IfOk result (λ r. IsOf terms.new r) }
     ensures value { IfOk result (λ r. (σ : Assignment) → value_in terms.new r σ ≡
-        (gate_value gate.now σ * value_in terms.old p.now σ) % modulus terms.old) }
+        (gate_value gate.now σ * value_in terms.old p.now σ) % modulus_in terms.old) }
 {
     let mut form = Form::with_room(alloc, MAX_PRODUCT_PARTS)?;
     form.add_product(one(terms), gate.left, gate.right)?;
@@ -64,7 +64,7 @@ pub fn times_operands(
 pub fn equal_poly(alloc: Global, terms: &mut Terms, left: Lit, right: Lit) -> Result<Poly, Memory>
     ensures extends { Extends terms.old terms.new }
     ensures of { IfOk result (λ p. IsOf terms.new p) }
-    ensures value { IfOk result (λ p. IsDifference terms.new p left right) }
+    ensures value { IfOk result (λ p. IsLiteralDifference terms.new p left right) }
 {
     let mut form = Form::new(alloc);
     form.add_literal(one(terms), left)?;
@@ -81,11 +81,11 @@ pub fn spec_poly(
     graph: &Graph,
     operands: &Operands,
 ) -> Result<Poly, Memory>
-    requires same_modulus { modulus terms.old ≡ modulus_of (without_cut graph.now) }
+    requires same_modulus { modulus_in terms.old ≡ modulus_of (without_cut graph.now) }
     ensures extends { Extends terms.old terms.new }
     ensures of { IfOk result (λ p. IsOf terms.new p) }
     ensures value { IfOk result (λ p.
-        IsSpecification terms.new p (without_cut graph.now) operands.now) }
+        HasSpecificationValue terms.new p (without_cut graph.now) operands.now) }
 {
     let one = one(terms);
     let minus = minus_one(terms);
@@ -108,12 +108,12 @@ pub fn column_poly(
     k: u32,
 ) -> Result<Poly, Memory>
     requires in_range { k < length extended.now.graph.outputs }
-    requires same_modulus { modulus terms.old ≡ modulus_of extended.now }
+    requires same_modulus { modulus_in terms.old ≡ modulus_of extended.now }
     ensures extends { Extends terms.old terms.new }
     ensures of { IfOk result (λ p. IsOf terms.new p) }
     ensures value { IfOk result (λ p. (o : Lit) → slice_get (new_outputs extended.now) k ≡ Some o →
         (σ : Assignment) →
-        value_in terms.new p σ ≡ column_value extended.now operands.now k o σ % modulus terms.old) }
+        value_in terms.new p σ ≡ column_value extended.now operands.now k o σ % modulus_in terms.old) }
 {
     let weight = one(terms).shift(k);
     let output = extended.new_output(k);
@@ -143,9 +143,9 @@ pub(crate) fn one(terms: &Terms) -> Residue
 fn sum_with_product(terms: &mut Terms, sum: Form, left: Form, right: Form) -> Result<Poly, Memory>
     ensures extends { Extends terms.old terms.new }
     ensures of { IfOk result (λ p. IsOf terms.new p) }
-    ensures value { IfOk result (λ p. HasValue terms.new p
-        (λ σ. value (modulus terms.old) sum σ
-        + value (modulus terms.old) left σ * value (modulus terms.old) right σ)) }
+    ensures value { IfOk result (λ p. HasPolyValue terms.new p
+        (λ σ. value (modulus_in terms.old) sum σ
+        + value (modulus_in terms.old) left σ * value (modulus_in terms.old) right σ)) }
 {
     let sum = sum.poly_in(terms)?;
     let left = left.poly_in(terms)?;
@@ -156,7 +156,7 @@ fn sum_with_product(terms: &mut Terms, sum: Form, left: Form, right: Form) -> Re
 
 fn minus_one(terms: &Terms) -> Residue
     ensures width { result.width ≡ terms.now.exponent }
-    ensures value { (result.value + 1) % modulus terms.now ≡ 0 }
+    ensures value { (result.value + 1) % modulus_in terms.now ≡ 0 }
 {
     one(terms).neg()
 }

@@ -4,9 +4,9 @@
 ghost use Rattle.std.specs.Prelude.{◌≡◌, ◌*◌, ◌%◌, IfOk, not};
 ghost use Rattle.clause_core.specs.Clause.{IsLiteral, signed};
 ghost use Rattle.graph_core.specs.Graph.Assignments.{Assignment, bit, literal};
-ghost use Rattle.poly_terms.specs.Tables.{IsOf, Extends, modulus, value_in};
+ghost use Rattle.poly_terms.specs.Tables.{IsOf, Extends, modulus_in, value_in};
 ghost use Rattle.gate_axioms.specs.ClauseValues.{IsClausePoly, opposite};
-ghost use Rattle.gate_axioms.specs.Form.{HasValue};
+ghost use Rattle.gate_axioms.specs.Form.{HasPolyValue};
 
 use crate::axioms::one;
 use crate::form::Form;
@@ -35,7 +35,7 @@ fn with_literal(alloc: Global, terms: &mut Terms, product: &Poly, lit: i32) -> R
     ensures extends { Extends terms.old terms.new }
     ensures of { IfOk result (λ p. IsOf terms.new p) }
     ensures value { IfOk result (λ p. (σ : Assignment) → value_in terms.new p σ ≡
-        (value_in terms.old product.now σ * bit (not (signed σ lit))) % modulus terms.old) }
+        (value_in terms.old product.now σ * bit (not (signed σ lit))) % modulus_in terms.old) }
 {
     let factor = literal_poly(alloc, terms, opposite(lit))?;
     let poly = terms.mul(product, &factor)?;
@@ -46,7 +46,7 @@ fn with_literal(alloc: Global, terms: &mut Terms, product: &Poly, lit: i32) -> R
 fn literal_poly(alloc: Global, terms: &mut Terms, lit: Lit) -> Result<Poly, Memory>
     ensures extends { Extends terms.old terms.new }
     ensures of { IfOk result (λ p. IsOf terms.new p) }
-    ensures value { IfOk result (λ p. HasValue terms.new p (λ σ. bit (literal σ lit))) }
+    ensures value { IfOk result (λ p. HasPolyValue terms.new p (λ σ. bit (literal σ lit))) }
 {
     let mut form = Form::new(alloc);
     form.add_literal(one(terms), lit)?;

@@ -5,11 +5,11 @@ ghost use Rattle.graph_core.specs.Algebra as algebra;
 ghost use Rattle.graph_core.specs.Graph.Assignments.{literal};
 ghost use Rattle.ripple_graft.specs.Extension.{IsExtension};
 ghost use Rattle.mv_fact.specs.Always.{Always};
-ghost use Rattle.poly_terms.specs.Tables.{Extends, modulus};
+ghost use Rattle.poly_terms.specs.Tables.{Extends, modulus_in};
 ghost use Rattle.graph_core.specs.Algebra.Agreement.{AreSameLines};
 ghost use Rattle.gate_axioms.specs.Lines.{lines_of};
-ghost use Rattle.gate_axioms.specs.ReplacedColumns.{column_of, column_by, difference_line, PutsLine, HasColumns, AddsColumn};
-ghost use Rattle.gate_axioms.specs.Steps.{AddsLine, Computes};
+ghost use Rattle.gate_axioms.specs.ReplacedColumns.{replaced_column, column_by, difference_line, PutsLiveLine, HasColumnLines, AddsColumn};
+ghost use Rattle.gate_axioms.specs.Steps.{AddsLine, ComputesGate};
 
 use crate::works::{MakeAxiom, MakeDifference};
 use graph_core::{Gate, Lit, Memory};
@@ -27,7 +27,7 @@ pub fn add_axioms(
 ) -> Result<(), Memory>
     requires gates { live.old.gates ≡ extended.now.gates }
     requires empty { live.old.entries ≡ [] }
-    requires modulus { modulus live.old.table ≡ algebra.modulus extended.now }
+    requires modulus { modulus_in live.old.table ≡ algebra.modulus extended.now }
     requires columns { Always extended.now.gates (AgreeOnColumns extended.now) }
     ensures gates { OnOk result (live.new.gates ≡ live.old.gates) }
     ensures table { OnOk result (Extends live.old.table live.new.table) }
@@ -39,9 +39,9 @@ pub fn add_axioms(
 
 // Makes the axiom of a gate live, unless its variable has one.
 fn add_axiom(alloc: Global, live: &mut Live<'_, Poly>, gate: &Gate) -> Result<(), Memory>
-    requires { Always live.old.gates (Computes gate.now) }
+    requires { Always live.old.gates (ComputesGate gate.now) }
     ensures { OnOk result
-        (AddsLine (gate_axiom (modulus live.old.table) gate.now) live.old live.new) }
+        (AddsLine (gate_axiom (modulus_in live.old.table) gate.now) live.old live.new) }
 {
     let axiom = live.grow(&mut MakeAxiom { alloc, gate }, &mut ())?;
     match live.insert(u64::from(gate.v), axiom) {
@@ -58,7 +58,7 @@ fn add_gates(alloc: Global, live: &mut Live<'_, Poly>, gates: &[Gate]) -> Result
     ensures gates { OnOk result (live.new.gates ≡ live.old.gates) }
     ensures table { OnOk result (Extends live.old.table live.new.table) }
     ensures lines { OnOk result
-        (AreSameLines (lines_of live.new) (map (gate_axiom (modulus live.old.table)) gates.now)) }
+        (AreSameLines (lines_of live.new) (map (gate_axiom (modulus_in live.old.table)) gates.now)) }
 {
     for gate in gates {
         add_axiom(alloc, live, gate)?;
@@ -70,7 +70,7 @@ fn add_gates(alloc: Global, live: &mut Live<'_, Poly>, gates: &[Gate]) -> Result
 fn column_at(extended: &Extended<'_>, k: u32) -> Option<(Lit, Lit)>
     requires in_range { k < length extended.now.graph.outputs }
     requires extension { IsExtension extended.now }
-    ensures { column_by k result ≡ column_of extended.now k }
+    ensures { column_by k result ≡ replaced_column extended.now k }
 {
     if !extended.replaced(k) {
         return None;
@@ -90,7 +90,7 @@ fn add_difference(
 ) -> Result<(), Memory>
     requires { Always live.old.gates (λ σ. literal σ left ≡ literal σ right) }
     ensures { OnOk result
-        (PutsLine (difference_line (modulus live.old.table) id left right) live.old live.new) }
+        (PutsLiveLine (difference_line (modulus_in live.old.table) id left right) live.old live.new) }
 {
     let mut work = MakeDifference { alloc, left, right };
     let axiom = live.grow(&mut work, &mut ())?;
@@ -108,7 +108,7 @@ fn add_column(
     k: u32,
 ) -> Result<(), Memory>
     requires gates { live.old.gates ≡ extended.now.gates }
-    requires modulus { modulus live.old.table ≡ algebra.modulus extended.now }
+    requires modulus { modulus_in live.old.table ≡ algebra.modulus extended.now }
     requires in_range { k < length extended.now.graph.outputs }
     requires few { length extended.now.graph.outputs ≤ 256 }
     requires extension { IsExtension extended.now }
@@ -131,12 +131,12 @@ fn add_columns(
     extended: &Extended<'_>,
 ) -> Result<(), Memory>
     requires gates { live.old.gates ≡ extended.now.gates }
-    requires modulus { modulus live.old.table ≡ algebra.modulus extended.now }
+    requires modulus { modulus_in live.old.table ≡ algebra.modulus extended.now }
     requires extension { IsExtension extended.now }
     requires columns { Always extended.now.gates (AgreeOnColumns extended.now) }
-    requires none { HasColumns extended.now 0 live.old live.old }
+    requires none { HasColumnLines extended.now 0 live.old live.old }
     ensures { OnOk result
-        (HasColumns extended.now (length extended.now.graph.outputs) live.old live.new) }
+        (HasColumnLines extended.now (length extended.now.graph.outputs) live.old live.new) }
 {
     let columns = extended.graph().outputs();
     for k in 0..columns {

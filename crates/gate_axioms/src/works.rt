@@ -41,14 +41,14 @@ pub(crate) struct MakeDifference {
 impl Grow<Poly> for MakeDifference {
     ghost use Rattle.std.specs.Prelude.{IfOk};
     ghost use Rattle.poly_terms.specs.Tables.{IsOf};
-    ghost use Rattle.gate_axioms.specs.Axioms.{IsDifference};
+    ghost use Rattle.gate_axioms.specs.Axioms.{IsLiteralDifference};
 
     type Out = Result<Poly, Memory>;
 
     type On = ();
 
     ghost did = { λ work _ _ out _ _ table'.
-        IfOk out (λ p. IsOf table' p × IsDifference table' p work.left work.right) };
+        IfOk out (λ p. IsOf table' p × IsLiteralDifference table' p work.left work.right) };
 
     fn grow(&mut self, _on: &mut (), table: &mut Terms) -> Result<Poly, Memory> {
         equal_poly(self.alloc, table, self.left, self.right)

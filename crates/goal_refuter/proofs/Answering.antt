@@ -6,10 +6,10 @@ use Rattle.std.proofs.lemmas.List.Elements.{All-map, recursion_from_All}
 use Rattle.graph_core.specs.Graph.Assignments.{Assignment}
 use Rattle.clause_core.specs.Clause.{Clause, IsClauseInRange, holds, signed}
 use Rattle.clause_core.specs.UnitPropagation.{IsRup}
-use Rattle.cdcl_core.specs.Logs.{Continues, LogView, with_added}
-use Rattle.cdcl_core.specs.Solving.{IsAnswer, assignment_of}
-use Rattle.cdcl_core.specs.declared.solved.Solved.{Solved}
-use Rattle.cdcl_core.specs.declared.solved.Solved.TheVariants.{Refuted, Model, Spent}
+use Rattle.cdcl_solver.specs.Logs.{Continues, LogView, with_added}
+use Rattle.cdcl_solver.specs.Solving.{IsAnswer, assignment_of}
+use Rattle.cdcl_solver.specs.declared.solved.Solved.{Solved}
+use Rattle.cdcl_solver.specs.declared.solved.Solved.TheVariants.{Refuted, Model, Spent}
 use Rattle.goal_refuter.specs.Refuting.{IsRefutation, IsShownNext}
 
 neg_neg : (l : ℤ) → neg_ℤ (neg_ℤ l) ≡ l

@@ -12,11 +12,11 @@ use Rattle.clause_core.specs.ClauseLines.{ClauseLine}
 use Rattle.clause_core.specs.GateClauses.{gate_clauses}
 use Rattle.clause_core.specs.Log.{AreLogLines, AreRunsSpaced, Spacing, first_spacing, spacing_after, spacing_of}
 use Rattle.clause_core.specs.UnitPropagation.{IsRup}
-use Rattle.cdcl_core.specs.Additions.{AreAdditions}
-use Rattle.cdcl_core.specs.Loading.{SameLive}
-use Rattle.cdcl_core.specs.Logs.{Continues, LogView, lemmas}
-use Rattle.cdcl_core.specs.Shows.{IsShown}
-use Rattle.cdcl_core.specs.Solvers.{SolverView}
+use Rattle.cdcl_solver.specs.Additions.{AreAdditions}
+use Rattle.cdcl_solver.specs.Loading.{SameLive}
+use Rattle.cdcl_solver.specs.Logs.{Continues, LogView, lemmas}
+use Rattle.cdcl_solver.specs.Shows.{IsShownByLog}
+use Rattle.cdcl_solver.specs.Solvers.{SolverView}
 use Rattle.goal_refuter.specs.Beginnings.{IsBegun}
 use Rattle.goal_refuter.specs.Refuting.{AreOver, IsSoFar}
 use Rattle.goal_refuter.specs.Refutations.{AreRefuted, unmet_goals}
@@ -76,7 +76,7 @@ begun_few max given conflicts solver log h = let few : lemmas log ≤ 0 + confli
 pub live_stays : (old new : List Clause) (log : LogView) → SameLive new (log.left ++ old) → Within old new
 live_stays old new log same c i = same.back c (Contains-append_right log.left old c i)
 
-pub shown_now : (old new : List Clause) (log : LogView) (x y a b : ℤ) (shown : Bool) → SameLive new (log.left ++ old) → x ≡ a → y ≡ b → IsShown old (x ∷ y ∷ []) log shown → IsTrue shown → IsRup new (a ∷ b ∷ [])
+pub shown_now : (old new : List Clause) (log : LogView) (x y a b : ℤ) (shown : Bool) → SameLive new (log.left ++ old) → x ≡ a → y ≡ b → IsShownByLog old (x ∷ y ∷ []) log shown → IsTrue shown → IsRup new (a ∷ b ∷ [])
 shown_now old new log x y a b true same first second r holds =
     let live : List Clause = log.left ++ old in
     rup_within live new (a ∷ b ∷ []) same.back (subst (λ (l : ℤ). IsRup live (l ∷ b ∷ [])) first (subst (λ (l : ℤ). IsRup live (x ∷ l ∷ [])) second r))

@@ -11,12 +11,12 @@ use Rattle.clause_core.specs.declared.line.Line.TheVariants.{Add, Delete}
 use Rattle.clause_core.proofs.CallerLemmas.{contains_cases, contains_here, contains_nil, contains_there}
 use Rattle.clause_core.proofs.Copies.{same_self}
 use Rattle.clause_core.proofs.Sets.{rup_by_sets}
-use Rattle.cdcl_core.specs.Additions.{AreAdditions}
-use Rattle.cdcl_core.specs.Loading.{SameLive}
-use Rattle.cdcl_core.specs.Logs.{Continues, LogView}
-use Rattle.cdcl_core.specs.Solving.{IsAnswer, assignment_of}
-use Rattle.cdcl_core.specs.declared.solved.Solved.{Solved}
-use Rattle.cdcl_core.specs.declared.solved.Solved.TheVariants.{Refuted, Model, Spent}
+use Rattle.cdcl_solver.specs.Additions.{AreAdditions}
+use Rattle.cdcl_solver.specs.Loading.{SameLive}
+use Rattle.cdcl_solver.specs.Logs.{Continues, LogView}
+use Rattle.cdcl_solver.specs.Solving.{IsAnswer, assignment_of}
+use Rattle.cdcl_solver.specs.declared.solved.Solved.{Solved}
+use Rattle.cdcl_solver.specs.declared.solved.Solved.TheVariants.{Refuted, Model, Spent}
 
 -- each of the first is one of the second
 abbrev pub Within : List Clause → List Clause → Type 0

@@ -10,7 +10,7 @@ use Rattle.clause_core.specs.ClauseLines.{AreLawfulClauseLines}
 use Rattle.clause_core.specs.GateClauses.{gate_clauses}
 use Rattle.clause_core.proofs.AddedClauses.{columns_agree}
 use Rattle.clause_core.proofs.Log.{log_is_certificate}
-use Rattle.cdcl_core.specs.Logs.{LogView}
+use Rattle.cdcl_solver.specs.Logs.{LogView}
 use Rattle.goal_refuter.specs.Refutations.{AreRefuted, unmet_goals}
 use Rattle.goal_refuter.specs.Refuting.{IsSoFar}
 use Rattle.goal_refuter.proofs.GoalClauses.{few_goals, goals_shown}

@@ -19,10 +19,10 @@ use Rattle.clause_core.proofs.CallerLemmas.{subset_holds}
 use Rattle.clause_core.proofs.Log.{one_spaced}
 use Rattle.clause_core.specs.UnitPropagation.{IsRup}
 use Rattle.clause_core.proofs.Sets.{rup_same}
-use Rattle.cdcl_core.specs.Logs.{Continues, LogView, lemmas, with_added}
-use Rattle.cdcl_core.specs.Solving.{assignment_of}
-use Rattle.cdcl_core.specs.declared.solved.Solved.{Solved}
-use Rattle.goal_refuter.specs.Refuting.{IsCounterexample, IsDiffering, IsRefutation, IsShownNext, IsSoFar, IsUnshown}
+use Rattle.cdcl_solver.specs.Logs.{Continues, LogView, lemmas, with_added}
+use Rattle.cdcl_solver.specs.Solving.{assignment_of}
+use Rattle.cdcl_solver.specs.declared.solved.Solved.{Solved}
+use Rattle.goal_refuter.specs.Refuting.{IsCounterexample, IsDiffering, IsGoalSpent, IsRefutation, IsShownNext, IsSoFar}
 use Rattle.goal_refuter.specs.Refutations.{AreRefuted, IsRefutationLog, IsSpent, unmet_goals}
 use Rattle.goal_refuter.proofs.GoalClauses.{agreeing_hold}
 use Rattle.goal_refuter.proofs.Lists.{same_at, same_long, sames_flip, take_none}
@@ -113,7 +113,7 @@ module _ (e : Extended) (conflicts : ℕ) (clauses goals : List Clause) (same : 
         };
       })
 
-  pub spent_here : (spent : ℕ) → spent ≡ lemmas log - i → (new : LogView) → IsUnshown e.max clauses here (conflicts - spent) log new → IsSpent e conflicts conflicts i new
+  pub spent_here : (spent : ℕ) → spent ≡ lemmas log - i → (new : LogView) → IsGoalSpent e.max clauses here (conflicts - spent) log new → IsSpent e conflicts conflicts i new
   spent_here spent is new n =
       let limit = conflicts - spent in
       let exactly = h.log_is.exactly in

@@ -6,9 +6,9 @@ use Rattle.graph_core.specs.Graph.Literals.{negation_of}
 use Rattle.clause_core.specs.Clause.{Clause}
 use Rattle.clause_core.specs.GateClauses.{signed_of}
 use Rattle.clause_core.specs.UnitPropagation.{IsRup}
-use Rattle.cdcl_core.specs.Logs.{Continues, LogView}
-use Rattle.cdcl_core.specs.Solvers.{SolverView}
-use Rattle.goal_refuter.specs.Refuting.{AreOver, IsKeptOver, IsOutcome}
+use Rattle.cdcl_solver.specs.Logs.{Continues, LogView}
+use Rattle.cdcl_solver.specs.Solvers.{SolverView}
+use Rattle.goal_refuter.specs.Refuting.{AreOver, IsGoalsOutcome, IsKeptOver}
 use Rattle.goal_refuter.specs.declared.refuting.Outcome.{Outcome}
 
 -- The log has lemmas over the clauses, at most as many as there may be conflicts, and the solver's clauses are these and what it left.
@@ -28,4 +28,4 @@ AreShownEqual live one other =
 -- Whichever clauses, gates and columns they are of, this comes of all goals behind the log.
 abbrev pub IsOutcomeBehind : SolverView → LogView → List Clause → ℕ → Outcome → Type 0
 IsOutcomeBehind solver log goals conflicts outcome = (e : Extended) (given : List Clause) →
-    AreOver e solver.max given goals → IsBegun solver.max given conflicts solver log → IsOutcome e conflicts outcome
+    AreOver e solver.max given goals → IsBegun solver.max given conflicts solver log → IsGoalsOutcome e conflicts outcome

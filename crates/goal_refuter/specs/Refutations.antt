@@ -9,7 +9,7 @@ use Rattle.clause_core.specs.Likeness.{AreSameSets}
 use Rattle.clause_core.specs.Log.{AreLogLines, AreRunsSpaced, IsLawfulLog, first_spacing}
 use Rattle.clause_core.specs.UnitPropagation.{IsRup}
 use Rattle.clause_core.specs.declared.line.Line.TheVariants.{Add}
-use Rattle.cdcl_core.specs.Logs.{LogView}
+use Rattle.cdcl_solver.specs.Logs.{LogView}
 
 -- the goals of a column that no constant has met
 abbrev pub unmet_of : Column → List Clause

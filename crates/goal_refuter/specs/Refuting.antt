@@ -8,12 +8,12 @@ use Rattle.clause_core.specs.Clause.{Clause, IsClauseInRange, Satisfies, holds}
 use Rattle.clause_core.specs.GateClauses.{gate_clauses}
 use Rattle.clause_core.specs.Likeness.{AreSameSets}
 use Rattle.clause_core.specs.UnitPropagation.{IsRup}
-use Rattle.cdcl_core.specs.Loading.{SameLive}
-use Rattle.cdcl_core.specs.Logs.{Continues, LogView, lemmas, with_added}
-use Rattle.cdcl_core.specs.Solvers.{SolverView}
-use Rattle.cdcl_core.specs.Solving.{assignment_of}
-use Rattle.cdcl_core.specs.declared.solved.Solved.{Solved}
-use Rattle.cdcl_core.specs.declared.solved.Solved.TheVariants as solved
+use Rattle.cdcl_solver.specs.Loading.{SameLive}
+use Rattle.cdcl_solver.specs.Logs.{Continues, LogView, lemmas, with_added}
+use Rattle.cdcl_solver.specs.Solvers.{SolverView}
+use Rattle.cdcl_solver.specs.Solving.{assignment_of}
+use Rattle.cdcl_solver.specs.declared.solved.Solved.{Solved}
+use Rattle.cdcl_solver.specs.declared.solved.Solved.TheVariants as solved
 use Rattle.goal_refuter.specs.Refutations.{IsRefutationLog, IsSpent, unmet_goals}
 use Rattle.goal_refuter.specs.declared.refuting.Outcome.{Outcome}
 use Rattle.goal_refuter.specs.declared.refuting.Outcome.TheVariants as outcome
@@ -26,7 +26,7 @@ pub record IsShownNext (max : ℕ) (given : List Clause) (goal : Clause) (confli
   pub added_is : new ≡ with_added between goal
 
 -- The conflicts are spent, and the goal doesn't follow.
-pub record IsUnshown (max : ℕ) (given : List Clause) (goal : Clause) (conflicts : ℕ) (old new : LogView) : Type 0 where
+pub record IsGoalSpent (max : ℕ) (given : List Clause) (goal : Clause) (conflicts : ℕ) (old new : LogView) : Type 0 where
   pub continues : Continues max given conflicts old new
   pub spent : lemmas new ≡ lemmas old + conflicts
   pub next : ¬ (IsRup (new.left ++ given) goal)
@@ -41,7 +41,7 @@ pub record IsCounterexample (max : ℕ) (given : List Clause) (goal : Clause) (v
 abbrev pub IsRefutation : ℕ → List Clause → Clause → ℕ → LogView → LogView → Solved → Type 0
 IsRefutation max given goal conflicts old new solved.Refuted = IsShownNext max given goal conflicts old new
 IsRefutation max given goal conflicts old new (solved.Model values) = IsCounterexample max given goal values.items
-IsRefutation max given goal conflicts old new solved.Spent = IsUnshown max given goal conflicts old new
+IsRefutation max given goal conflicts old new solved.Spent = IsGoalSpent max given goal conflicts old new
 
 -- The log of the first goals, with at most as many lemmas as there may be conflicts.
 pub record IsSoFar (e : Extended) (conflicts goals : ℕ) (log : LogView) : Type 0 where
@@ -62,10 +62,10 @@ pub record IsDiffering (e : Extended) (values : List Bool) : Type 0 where
   pub differ : ¬ (AgreeOnColumns e (assignment_of values))
 
 -- what comes of all goals
-abbrev pub IsOutcome : Extended → ℕ → Outcome → Type 0
-IsOutcome e conflicts (outcome.Refuted log) = IsSoFar e conflicts (length (unmet_goals e)) log
-IsOutcome e conflicts (outcome.Model values) = IsDiffering e values.items
-IsOutcome e conflicts (outcome.Spent goal log) = IsSpent e conflicts conflicts goal log
+abbrev pub IsGoalsOutcome : Extended → ℕ → Outcome → Type 0
+IsGoalsOutcome e conflicts (outcome.Refuted log) = IsSoFar e conflicts (length (unmet_goals e)) log
+IsGoalsOutcome e conflicts (outcome.Model values) = IsDiffering e values.items
+IsGoalsOutcome e conflicts (outcome.Spent goal log) = IsSpent e conflicts conflicts goal log
 
 -- ---- over a list of clauses
 
@@ -77,4 +77,4 @@ pub record AreOver (e : Extended) (max : ℕ) (clauses goals : List Clause) : Ty
 
 -- Whichever gates and columns they are of, this comes of all goals.
 abbrev pub IsOutcomeOver : ℕ → List Clause → List Clause → ℕ → Outcome → Type 0
-IsOutcomeOver max clauses goals conflicts outcome = (e : Extended) → AreOver e max clauses goals → IsOutcome e conflicts outcome
+IsOutcomeOver max clauses goals conflicts outcome = (e : Extended) → AreOver e max clauses goals → IsGoalsOutcome e conflicts outcome

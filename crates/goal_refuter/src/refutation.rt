@@ -2,10 +2,10 @@
 ghost use Rattle.std.specs.Prelude.{List, ◌≡◌, ◌<◌, ◌^◌, [], ◌∷◌, ◌++◌, map, nat_abs, neg_ℤ, IfOk, OnOk};
 ghost use Rattle.std.specs.List.{All, Contains};
 ghost use Rattle.clause_core.specs.Clause.{Clause as Literals, IsClauseInRange};
-ghost use Rattle.cdcl_core.specs.Loading.{SameLive};
+ghost use Rattle.cdcl_solver.specs.Loading.{SameLive};
 ghost use Rattle.goal_refuter.specs.Refuting.{IsRefutation};
 
-use cdcl_core::{Log, Solved, Solver};
+use cdcl_solver::{Log, Solved, Solver};
 use clause_core::Clause;
 use graph_core::Memory;
 use std::alloc::Global;

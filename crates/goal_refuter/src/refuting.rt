@@ -8,7 +8,7 @@ ghost use Rattle.goal_refuter.specs.Refuting.{AreOver, IsOutcomeOver};
 
 use crate::refutation::refute;
 use crate::solver::solver_of;
-use cdcl_core::{Log, Solved, Solver};
+use cdcl_solver::{Log, Solved, Solver};
 use clause_core::ClauseList;
 use graph_core::Memory;
 use std::alloc::Global;

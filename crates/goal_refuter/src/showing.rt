@@ -6,7 +6,7 @@ ghost use Rattle.clause_core.specs.GateClauses.{signed_of};
 ghost use Rattle.clause_core.specs.UnitPropagation.{IsRup};
 ghost use Rattle.goal_refuter.specs.Beginnings.{AreShownEqual, IsBegun, StaysBegun};
 
-use cdcl_core::{Log, Solver};
+use cdcl_solver::{Log, Solver};
 use graph_core::{Lit, Memory};
 use miter_encoder::signed;
 

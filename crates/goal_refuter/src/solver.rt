@@ -3,7 +3,7 @@ ghost use Rattle.std.specs.Prelude.{◌≡◌, ◌<◌, ◌^◌, IfOk};
 ghost use Rattle.std.specs.List.{All};
 ghost use Rattle.clause_core.specs.Clause.{IsClauseInRange};
 
-use cdcl_core::Solver;
+use cdcl_solver::Solver;
 use clause_core::ClauseList;
 use graph_core::Memory;
 use std::alloc::Global;

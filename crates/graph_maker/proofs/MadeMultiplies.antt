@@ -18,7 +18,7 @@ use Rattle.graph_core.specs.Graph.Operands.{width, a_bits, b_bits, HasMultiplier
 use Rattle.graph_maker.specs.Builder.{Builder, literals_from}
 use Rattle.graph_maker.specs.Ripple.{Outputs}
 use Rattle.graph_maker.specs.Products.{Products, products}
-use Rattle.graph_maker.specs.Made.{outputs_of, made, IsMultiplier, MadeMultiplies}
+use Rattle.graph_maker.specs.Made.{outputs_of, made, IsMadeMultiplier, MadeMultiplies}
 use Rattle.graph_core.proofs.OfGraphs.CallerLemmas.{whole_from_evaluations, whole_products}
 use Rattle.graph_core.proofs.OfAiger.CallerLemmas.{ArePlaced, Counts, all_flat_map, counts_append, counts_apart, counts_contain, placed_count}
 use Rattle.graph_maker.proofs.CellFacts.{Holds}
@@ -199,7 +199,7 @@ module _ (kind : Kind) (n : ℕ) (adder : Adder) (pos : 0 < n) where
       let sum = outputs_add kind adder σ all_products.builder all_products.rows (omega (arith, count)) long (recursion_from_All (λ x. variable σ x.v ≡ (literal σ x.left && literal σ x.right)) g.gates evaluates) in
       sum.1 ∙ (products_multiply σ no_gates a_literals b_literals sum.0).1 ∙ ap₂ (λ x y. word σ x * word σ y) (sym a_is) (sym b_is)
 
-  is_multiplier : IsMultiplier n g
+  is_multiplier : IsMadeMultiplier n g
   is_multiplier =
       let well_formed = numbered_well_formed (2 * n) g numbered in
       record { width = width_is; shape = shape; whole = full; well_formed = well_formed; multiplies = (whole_products g Separate (omega (arith, full, width_is))).1 (whole_from_evaluations g Separate shape well_formed.defined_once well_formed.acyclic on_evaluations) }

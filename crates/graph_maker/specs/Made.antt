@@ -37,7 +37,7 @@ abbrev pub made : Kind → ℕ → Adder → Aig
 made kind n adder = whole_graph (2 * n) (product_behind (2 * n) kind n adder)
 
 -- Each made graph has two operands of n bits and an output for each bit of the product, has no fault, and multiplies.
-pub record IsMultiplier (n : ℕ) (g : Aig) : Type 0 where
+pub record IsMadeMultiplier (n : ℕ) (g : Aig) : Type 0 where
   pub width : width g ≡ n
   pub shape : HasMultiplierShape g
   pub whole : length g.outputs ≡ 2 * n
@@ -45,11 +45,11 @@ pub record IsMultiplier (n : ℕ) (g : Aig) : Type 0 where
   pub multiplies : Multiplies g Separate
 
 abbrev pub MadeMultiplies : Type 0
-MadeMultiplies = (kind : Kind) (n : ℕ) (adder : Adder) → 0 < n → IsMultiplier n (made kind n adder)
+MadeMultiplies = (kind : Kind) (n : ℕ) (adder : Adder) → 0 < n → IsMadeMultiplier n (made kind n adder)
 
 -- a gate's left side and two operands
-abbrev pub line_of : Gate → Lit × Lit × Lit
-line_of x = (plain x.v, x.left, x.right)
+abbrev pub gate_line : Gate → Lit × Lit × Lit
+gate_line x = (plain x.v, x.left, x.right)
 
 -- What is written for the graph is packed, and within the counts of a profile.
 pub record IsPackedAs (p : Profile) (g : Aig) : Type 0 where

@@ -10,8 +10,8 @@ use Rattle.graph_core.specs.Text.JudgedLines.{IsTooLong, Lengths}
 use Rattle.graph_core.specs.Text.{newline}
 use Rattle.graph_core.proofs.OfTexts.CallerLemmas.{HasNoNewline, ShortFrom, short_next, short_within, start_later, none_in}
 use Rattle.mv_desk.specs.View.{View}
-use Rattle.mv_desk.specs.declared.faults.LineFail.{LineFail}
-use Rattle.mv_desk.specs.declared.faults.LineFail.TheVariants as fail
+use Rattle.mv_text.specs.declared.line_fail.LineFail.{LineFail}
+use Rattle.mv_text.specs.declared.line_fail.LineFail.TheVariants as fail
 use Rattle.mv_desk.specs.declared.slot.Slot.TheVariants as slot
 use Rattle.aiger_reader.specs.declared.stop.Stop.TheVariants as stop
 use Rattle.mv_text.specs.CertificateFiles.{FileState, HasFirstLine, IsFirstRefusal}
@@ -19,8 +19,8 @@ use Rattle.joint_checker.specs.declared.checked.Checked.{Checked}
 use Rattle.joint_checker.specs.declared.checked.Checked.TheVariants as checked
 use Rattle.joint_checker.specs.declared.checked.Refusal.TheVariants as refusal
 use Rattle.joint_checker.specs.AlgebraBody.{IsBodyFail, IsLawfulBody}
-use Rattle.clause_judge.specs.ClauseBody.{IsLongIn}
-use Rattle.joint_checker.specs.Answers.{answer_of_line}
+use Rattle.drup_text.specs.HeaderSteps.{IsLongIn}
+use Rattle.joint_checker.specs.Answers.{answer_of_algebra_line}
 use Rattle.graph_core.specs.Certificates.{IsLawfulAlgebra}
 use Rattle.joint_checker.specs.Fails.{IsAlgebraFail}
 use Rattle.joint_checker.specs.Outcome.{cause_of}
@@ -35,7 +35,7 @@ none_first version = go (version == 2)
 
 module _ (lengths : Lengths) (given : Premises) (sides : Sides) where
   -- the first line isn't the header
-  pub header_fails : (text : Option (List ℕ)) (before now : View) (why : LineFail) → IsFirstRefusal (algebra_header given.version) lengths text before.read_faults now.read_faults why → IsAlgebraFail lengths given sides text before now (answer_of_line 1 why)
+  pub header_fails : (text : Option (List ℕ)) (before now : View) (why : LineFail) → IsFirstRefusal (algebra_header given.version) lengths text before.read_faults now.read_faults why → IsAlgebraFail lengths given sides text before now (answer_of_algebra_line 1 why)
   header_fails text before now fail.Text h =
       told_more text _ (λ bytes. IsAlgebraRefusal given sides lengths bytes (1, cause.Text)) (λ bytes k. inr (k.0, inl (k.1, refl))) h
   header_fails text before now fail.Range h = absurd h

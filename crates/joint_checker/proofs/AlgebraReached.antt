@@ -10,7 +10,7 @@ use Rattle.graph_core.specs.Graph.Operands.{Sides}
 use Rattle.graph_core.proofs.OfTexts.CallerLemmas.{none_close, none_line}
 use Rattle.mv_desk.specs.View.{View}
 use Rattle.mv_desk.specs.declared.slot.Slot.TheVariants as slot
-use Rattle.graph_core.specs.Algebra.Agreement.{Agree}
+use Rattle.graph_core.specs.Algebra.Agreement.{LedgersAgree}
 use Rattle.graph_core.proofs.OfAlgebra.CallerLemmas.{after_agrees, agree_trans, closes_agrees, lawful_agrees, next_agrees}
 use Rattle.mv_text.specs.LineReading.{IsLongAhead, Lines}
 use Rattle.poly_text.proofs.CallerLemmas.{long_of, short_of}
@@ -20,7 +20,7 @@ use Rattle.joint_checker.specs.declared.checked.Checked.{Checked}
 use Rattle.joint_checker.specs.declared.checked.Checked.TheVariants as checked
 use Rattle.joint_checker.specs.declared.checked.Refusal.TheVariants as refusal
 use Rattle.joint_checker.specs.AlgebraBody.{IsBodyFail, IsLawfulBody, IsLawfulRest}
-use Rattle.clause_judge.specs.ClauseBody.{IsLongIn}
+use Rattle.drup_text.specs.HeaderSteps.{IsLongIn}
 use Rattle.joint_checker.specs.AlgebraLines.{IsEndFail, IsLineFail, TakesClosing, TakesLawful}
 use Rattle.joint_checker.specs.Outcome.{cause_of}
 use Rattle.joint_checker.proofs.AlgebraRests.{IsRefusedRest, lawful_close, lawful_turn, refused_body, refused_end, refused_here, refused_turn}
@@ -37,7 +37,7 @@ pub record IsReached (given : Premises) (sides : Sides) (start : Lines) (known :
   pub turns : 2 * line + start.taken ≤ lines.taken + 4
   pub room : 2 < line → lines.taken ≤ start.lengths.file
   pub ledger : Ledger
-  pub agrees : Agree known ledger
+  pub agrees : LedgersAgree known ledger
   pub lawful : IsLawfulRest given.version given.extended sides (IsLongIn start body) ledger rest → IsLawfulBody given sides start body
   pub refused : (k : ℕ) (cause : AlgebraCause) → IsRefusedRest given sides (IsLongIn start body) ledger rest (k, cause) → IsRefusedBody given sides (IsLongIn start body) body (line + k, cause)
 
@@ -58,7 +58,7 @@ line_has_bytes version (b ∷ line) x h = omega arith
 
 module _ (given : Premises) (sides : Sides) (start : Lines) where
   -- no line is judged yet
-  pub begin : (known : Ledger) (left : Option (List ℕ)) → Agree known (beginning given) → IfSome left (IsReached given sides start known 2 start left)
+  pub begin : (known : Ledger) (left : Option (List ℕ)) → LedgersAgree known (beginning given) → IfSome left (IsReached given sides start known 2 start left)
   begin known None agrees = tt
   begin known (Some body) agrees = record {
     rest = body;
@@ -73,7 +73,7 @@ module _ (given : Premises) (sides : Sides) (start : Lines) where
   }
 
   -- the same lines are judged, and the ledger says the same
-  pub reached_again : (known next : Ledger) (line : ℕ) (lines : Lines) (left body : Option (List ℕ)) → Agree next known → IfSome body (IsReached given sides start known line lines left) → IfSome body (IsReached given sides start next line lines left)
+  pub reached_again : (known next : Ledger) (line : ℕ) (lines : Lines) (left body : Option (List ℕ)) → LedgersAgree next known → IfSome body (IsReached given sides start known line lines left) → IfSome body (IsReached given sides start next line lines left)
   reached_again known next line lines left body agrees reached = told_more body (IsReached given sides start known line lines left) (IsReached given sides start next line lines left) (λ bytes r. record {
     rest = r.rest;
     left_is = r.left_is;

@@ -10,7 +10,7 @@ use Rattle.graph_core.specs.Graph.Literals.{variable_of}
 use Rattle.graph_core.specs.Graph.Extended.{Column, Extended, without_cut}
 use Rattle.graph_core.specs.Graph.{Aig, defined}
 use Rattle.graph_core.specs.Text.{newline}
-use Rattle.graph_core.specs.Text.Readers.{Reader, Reads, Ended, Anything, ended_at}
+use Rattle.graph_core.specs.Text.Readers.{Reader, IsReaderOf, Ended, Anything, ended_at}
 use Rattle.graph_core.specs.Text.JudgedLines.{BeginsWith, Behind, IsTooLong, Lengths, Unless, Never, IsExact}
 use Rattle.graph_core.proofs.OfGraphs.CallerLemmas.{Decided, decided_all, decided_and, decided_or, decided_eq, decided_le, decided_lt}
 use Rattle.graph_core.proofs.OfTexts.CallerLemmas.{behind_map, behind_either, behind_some, decided_long, StepsOn, walk, one_line, line_or_none, meet, unless_exact, last_exact, exact_as, front_exact}
@@ -24,7 +24,7 @@ use Rattle.drup_text.specs.declared.head.Header.{Header}
 use Rattle.drup_text.specs.ClauseTexts.{IsBlockLine, IsCountLine, IsCutLine, IsPairLine}
 use Rattle.drup_text.specs.ClauseReading.{block_line_at, count_line_at, cut_line_at, pair_line_at}
 use Rattle.drup_text.specs.PassingHeaders.{PassBlocks, PassesAnyHeader, PassesCount, PassesCut}
-use Rattle.drup_text.specs.HeaderRefusal.{HasNoVersion, IsFirstRefusal, IsPairStep, IsRefusedBehindCut, IsRefusedBehindPairs, IsRefusedBlocks, IsRefusedCount, IsRefusedCut, IsRefusedPair, IsRefusedPairs, Later, LineCause, Range, Text, TooLong, block_at, cut_at}
+use Rattle.drup_text.specs.HeaderRefusal.{HasNoVersion, IsFirstHeaderRefusal, IsPairStep, IsRefusedBehindCut, IsRefusedBehindPairs, IsRefusedBlocks, IsRefusedCount, IsRefusedCut, IsRefusedPair, IsRefusedPairs, Later, LineCause, Range, Text, TooLong, block_at, cut_at}
 use Rattle.drup_text.specs.Headers.{IsHeaderOf, extended_with, head_of, second_line, version_line}
 use Rattle.drup_text.specs.LineTexts.{IsCountInRange, IsCutSize, IsHeadOf, IsPairOf}
 use Rattle.drup_text.proofs.BlockSteps.{block_fits}
@@ -35,7 +35,7 @@ abbrev NoStep : {Line : Type 0} → ℕ → Line → ℕ → Type 0
 NoStep s x t = ⊥
 
 -- a line of the text that is good or refused by what it says, or a cause
-line_case : {C Line : Type 0} {Good : Line → List ℕ → Type 0} {Refused : Line → List ℕ → C → Type 0} (IsText : List ℕ → Line → Type 0) (item : Reader Line) → Reads item (Ended IsText (newline ∷ [])) Anything → (cause : C) (bytes : List ℕ) →
+line_case : {C Line : Type 0} {Good : Line → List ℕ → Type 0} {Refused : Line → List ℕ → C → Type 0} (IsText : List ℕ → Line → Type 0) (item : Reader Line) → IsReaderOf item (Ended IsText (newline ∷ [])) Anything → (cause : C) (bytes : List ℕ) →
     ((x : Line) (rest : List ℕ) → IsExact (Good x rest) (Refused x rest)) →
     IsExact ((x : Line) × (rest : List ℕ) × BeginsWith IsText bytes x rest × Good x rest)
     (λ c. (((x : Line) (rest : List ℕ) → BeginsWith IsText bytes x rest → ⊥) × (c ≡ cause)) ⊎ ((x : Line) × (rest : List ℕ) × BeginsWith IsText bytes x rest × Refused x rest c))
@@ -367,7 +367,7 @@ module _ (g : Aig) (lengths : Lengths) (bytes : List ℕ) where
   HasPassed Good = (h : Header) × (body : List ℕ) × PassesAnyHeader g lengths bytes h body × Good (extended_with g h) body
 
   -- so it is, or there is one first refusal
-  pub header_exact : (later : Later) (Good : Extended → List ℕ → Type 0) → ((e : Extended) (number : ℕ) (left : List ℕ) → IsExact (Good e left) (later e number left)) → IsExact (HasPassed Good) (IsFirstRefusal later g lengths bytes)
+  pub header_exact : (later : Later) (Good : Extended → List ℕ → Type 0) → ((e : Extended) (number : ℕ) (left : List ℕ) → IsExact (Good e left) (later e number left)) → IsExact (HasPassed Good) (IsFirstHeaderRefusal later g lengths bytes)
   header_exact later Good exact =
       exact_as there back (λ c r. r) (λ c r. r) (unless_exact (1, TooLong) (⊎_elim inr inl (decided bytes)) (λ h n. n h) (λ h. first_exact IsLong decided later Good exact g bytes))
     where

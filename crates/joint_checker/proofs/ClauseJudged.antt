@@ -11,19 +11,20 @@ use Rattle.clause_core.specs.GateClauses.{gate_clauses}
 use Rattle.drup_checker.specs.declared.keeps.Keeps.TheVariants as keep
 use Rattle.drup_text.specs.declared.head.Header.{Header}
 use Rattle.mv_text.specs.CertificateFiles.{FileState}
-use Rattle.drup_text.specs.PassingHeaders.{HasHeader, IsCause, PassesAnyHeader, lines_in}
-use Rattle.drup_text.specs.HeaderRefusal.{IsHeaderRefusal, LineCause, Range, Text, TooLong}
+use Rattle.drup_text.specs.PassingHeaders.{HasClauseHeader, IsCause, PassesAnyHeader, header_line_count}
+use Rattle.drup_text.specs.HeaderRefusal.{IsClauseHeaderRefusal, LineCause, Range, Text, TooLong}
 use Rattle.drup_text.specs.Headers.{extended_with}
 use Rattle.drup_text.proofs.CallerLemmas.{behind_header, header_anyhow}
+use Rattle.drup_text.specs.HeaderSteps.{IsLongIn}
 use Rattle.mv_desk.specs.View.{View}
-use Rattle.mv_desk.specs.declared.faults.LineFail.{LineFail}
-use Rattle.mv_desk.specs.declared.faults.LineFail.TheVariants as fail
+use Rattle.mv_text.specs.declared.line_fail.LineFail.{LineFail}
+use Rattle.mv_text.specs.declared.line_fail.LineFail.TheVariants as fail
 use Rattle.joint_checker.specs.Answers.{answer_of_clauses}
 use Rattle.clause_judge.specs.ClauseLines.{answer_of_line}
 use Rattle.clause_judge.specs.declared.fail.ClauseFail.{ClauseFail}
 use Rattle.clause_judge.specs.declared.fail.ClauseFail.TheVariants as clauses
-use Rattle.clause_judge.specs.ClauseBody.{HasPassed, IsLongIn, IsRestFail, IsShownWith, Pass}
-use Rattle.joint_checker.specs.ClauseFiles.{AddsClauses, GivesPremises, HasLawfulLines, imported, premises}
+use Rattle.clause_judge.specs.ClauseBody.{HasPassed, IsRestFail, IsShownWith, Pass}
+use Rattle.joint_checker.specs.ClauseFiles.{AddsClauses, GivesPremises, HasLawfulLines, importable, premises}
 use Rattle.joint_checker.specs.ClauseRefusals.{IsClauseRefusal, IsColumnRefusal}
 use Rattle.clause_judge.specs.LineRefusals.{IsRefusedLines, line_cause}
 use Rattle.joint_checker.specs.Fails.{IsClauseFail}
@@ -36,25 +37,25 @@ use Rattle.clause_judge.proofs.Told.{rose_before, told_more, told_of}
 module _ (lengths : Lengths) (g : Aig) where
   -- ---- the header
 
-  started : (bytes : List ℕ) (p : ℕ × LineCause) → IsHeaderRefusal g lengths bytes p → IsClauseRefusal lengths g bytes p
+  started : (bytes : List ℕ) (p : ℕ × LineCause) → IsClauseHeaderRefusal g lengths bytes p → IsClauseRefusal lengths g bytes p
   started bytes p h = header_anyhow (IsRefusedLines (IsTooLong lengths (length bytes))) g lengths bytes p h
 
-  pub header_fails : (text : Option (List ℕ)) (before now : View) (line : ℕ) (why : LineFail) → IsCause (IsHeaderRefusal g lengths) text before.read_faults now.read_faults line why → IsClauseFail lengths g text before now (answer_of_clauses (answer_of_line line why))
-  header_fails text before now line fail.Text h = told_more text (λ bytes. IsHeaderRefusal g lengths bytes (line, Text)) (λ bytes. IsClauseRefusal lengths g bytes (line, Text)) (λ bytes k. started bytes (line, Text) k) h
-  header_fails text before now line fail.Range h = told_more text (λ bytes. IsHeaderRefusal g lengths bytes (line, Range)) (λ bytes. IsClauseRefusal lengths g bytes (line, Range)) (λ bytes k. started bytes (line, Range) k) h
+  pub header_fails : (text : Option (List ℕ)) (before now : View) (line : ℕ) (why : LineFail) → IsCause (IsClauseHeaderRefusal g lengths) text before.read_faults now.read_faults line why → IsClauseFail lengths g text before now (answer_of_clauses (answer_of_line line why))
+  header_fails text before now line fail.Text h = told_more text (λ bytes. IsClauseHeaderRefusal g lengths bytes (line, Text)) (λ bytes. IsClauseRefusal lengths g bytes (line, Text)) (λ bytes k. started bytes (line, Text) k) h
+  header_fails text before now line fail.Range h = told_more text (λ bytes. IsClauseHeaderRefusal g lengths bytes (line, Range)) (λ bytes. IsClauseRefusal lengths g bytes (line, Range)) (λ bytes k. started bytes (line, Range) k) h
   header_fails text before now line fail.Fault h = h
   header_fails text before now line fail.TooLong h =
-      (refl, told_more text (λ bytes. IsHeaderRefusal g lengths bytes (line, TooLong)) (λ bytes. (n : ℕ) × IsClauseRefusal lengths g bytes (n, TooLong)) (λ bytes k. (line, started bytes (line, TooLong) k)) h)
+      (refl, told_more text (λ bytes. IsClauseHeaderRefusal g lengths bytes (line, TooLong)) (λ bytes. (n : ℕ) × IsClauseRefusal lengths g bytes (n, TooLong)) (λ bytes k. (line, started bytes (line, TooLong) k)) h)
   header_fails text before now line fail.Memory h = tt
 
   -- ---- what stands behind it
 
-  module _ (file : FileState) (h : Header) (same : file.lines.lengths ≡ lengths) (count : file.number ≡ lines_in h.version h.blocks)
-      (text behind : Option (List ℕ)) (header : IfSome text (λ bytes. HasHeader g file bytes behind h)) where
+  module _ (file : FileState) (h : Header) (same : file.lines.lengths ≡ lengths) (count : file.number ≡ header_line_count h.version h.blocks)
+      (text behind : Option (List ℕ)) (header : IfSome text (λ bytes. HasClauseHeader g file bytes behind h)) where
     abbrev e : Extended
     e = extended_with g h
 
-    module _ (bytes : List ℕ) (there : HasHeader g file bytes behind h) where
+    module _ (bytes : List ℕ) (there : HasClauseHeader g file bytes behind h) where
       passes : PassesAnyHeader g lengths bytes h there.body
       passes = subst (λ (k : Lengths). PassesAnyHeader g k bytes h there.body) same there.passes
 
@@ -69,8 +70,8 @@ module _ (lengths : Lengths) (g : Aig) where
           (subst (λ (n : ℕ). IsRefusedLines (IsTooLong lengths (length bytes)) e (n + 1) there.body p) count (whole (λ IsLong. IsRefusedLines IsLong e (file.number + 1) there.body p) k))
 
     pub text_gives : (chains : Bool) (cs : List Clause) (count : ℕ) → IfSome behind (IsShownWith e file.lines (keeps_of chains h.version) cs count) →
-        IfSome text (λ bytes. GivesPremises lengths g bytes (premises h.version e (imported h.version cs)))
-    text_gives chains cs count k = told_more text (λ bytes. HasHeader g file bytes behind h) (λ bytes. GivesPremises lengths g bytes (premises h.version e (imported h.version cs))) (λ bytes t.
+        IfSome text (λ bytes. GivesPremises lengths g bytes (premises h.version e (importable h.version cs)))
+    text_gives chains cs count k = told_more text (λ bytes. HasClauseHeader g file bytes behind h) (λ bytes. GivesPremises lengths g bytes (premises h.version e (importable h.version cs))) (λ bytes t.
         let shown = told_of behind t.body (IsShownWith e file.lines (keeps_of chains h.version) cs count) t.left k in
         record {
           header = h;
@@ -80,12 +81,12 @@ module _ (lengths : Lengths) (g : Aig) where
           same = record {
             version = refl;
             extended = refl;
-            imports = same_imports (imported h.version cs) (imported h.version (added shown.0)) (imported_of_kept chains h.version cs (added shown.0) shown.3);
+            imports = same_imports (importable h.version cs) (importable h.version (added shown.0)) (imported_of_kept chains h.version cs (added shown.0) shown.3);
           };
         }) header
 
     pub text_adds : (cs : List Clause) (count : ℕ) → IfSome behind (IsShownWith e file.lines keep.Chains cs count) → IfSome text (λ bytes. AddsClauses lengths g bytes h cs count)
-    text_adds cs count k = told_more text (λ bytes. HasHeader g file bytes behind h) (λ bytes. AddsClauses lengths g bytes h cs count) (λ bytes t.
+    text_adds cs count k = told_more text (λ bytes. HasClauseHeader g file bytes behind h) (λ bytes. AddsClauses lengths g bytes h cs count) (λ bytes t.
         let shown = told_of behind t.body (IsShownWith e file.lines keep.Chains cs count) t.left k in
         record {
           lines = shown.0;
@@ -96,16 +97,16 @@ module _ (lengths : Lengths) (g : Aig) where
         }) header
 
     told_refusal : (p : ℕ × LineCause) → IfSome behind (λ body. IsRefusedLines (IsLongIn file.lines body) e (file.number + 1) body p) → IfSome text (λ bytes. IsClauseRefusal lengths g bytes p)
-    told_refusal p k = told_more text (λ bytes. HasHeader g file bytes behind h) (λ bytes. IsClauseRefusal lengths g bytes p)
+    told_refusal p k = told_more text (λ bytes. HasClauseHeader g file bytes behind h) (λ bytes. IsClauseRefusal lengths g bytes p)
         (λ bytes t. refused bytes t p (told_of behind t.body (λ body. IsRefusedLines (IsLongIn file.lines body) e (file.number + 1) body p) t.left k)) header
 
     long_refusal : IfSome behind (λ body. (n : ℕ) × IsRefusedLines (IsLongIn file.lines body) e (file.number + 1) body (n, TooLong)) → IfSome text (λ bytes. (n : ℕ) × IsClauseRefusal lengths g bytes (n, TooLong))
-    long_refusal k = told_more text (λ bytes. HasHeader g file bytes behind h) (λ bytes. (n : ℕ) × IsClauseRefusal lengths g bytes (n, TooLong)) (λ bytes t.
+    long_refusal k = told_more text (λ bytes. HasClauseHeader g file bytes behind h) (λ bytes. (n : ℕ) × IsClauseRefusal lengths g bytes (n, TooLong)) (λ bytes t.
         let long = told_of behind t.body (λ body. (n : ℕ) × IsRefusedLines (IsLongIn file.lines body) e (file.number + 1) body (n, TooLong)) t.left k in
         (long.0, refused bytes t (long.0, TooLong) long.1)) header
 
     column_refusal : (column : ℕ) → IfSome behind (λ body. (xs : List ClauseLine) × HasPassed e file.lines xs body × IsGoalRefusal e xs column) → IfSome text (λ bytes. IsColumnRefusal lengths g bytes column)
-    column_refusal column k = told_more text (λ bytes. HasHeader g file bytes behind h) (λ bytes. IsColumnRefusal lengths g bytes column) (λ bytes t.
+    column_refusal column k = told_more text (λ bytes. HasClauseHeader g file bytes behind h) (λ bytes. IsColumnRefusal lengths g bytes column) (λ bytes t.
         let unshown = told_of behind t.body (λ body. (xs : List ClauseLine) × HasPassed e file.lines xs body × IsGoalRefusal e xs column) t.left k in
         (h, unshown.0, good bytes t unshown.0 unshown.1, unshown.2)) header
 

@@ -28,7 +28,7 @@ use Rattle.drup_text.specs.Headers.{extended_with}
 use Rattle.drup_text.proofs.CallerLemmas.{header_said, none_block, none_count, none_cut, none_pair}
 use Rattle.drup_text.proofs.HeaderExact.{header_passes}
 use Rattle.drup_text.proofs.OneFile.{one_text_is_one_file}
-use Rattle.joint_checker.specs.ClauseFiles.{GivesPremises, HasLawfulLines, imported, premises}
+use Rattle.joint_checker.specs.ClauseFiles.{GivesPremises, HasLawfulLines, importable, premises}
 use Rattle.joint_checker.specs.ClauseRefusals.{ClauseFault, ClausesAreExact, Goals, IsClauseRefusal, IsFileRefusal, Line}
 use Rattle.clause_judge.specs.LineRefusals.{IsRefusedLines}
 use Rattle.joint_checker.proofs.ClauseHeaders.{HasPassed, Reaches, header_exact, header_takes}
@@ -148,7 +148,7 @@ module _ (g : Aig) (lengths : Lengths) (bytes : List ℕ) where
   Gives = (p : Premises) × GivesPremises lengths g bytes p
 
   abbrev given : Header → List ClauseLine → Premises
-  given h lines = premises h.version (extended_with g h) (imported h.version (added lines))
+  given h lines = premises h.version (extended_with g h) (importable h.version (added lines))
 
   decide : Gives ⊎ ((f : ClauseFault) × IsFileRefusal lengths g bytes f)
   decide = ⊎_elim (λ l. goals l.0 l.1 l.2) (λ r. inr (Line r.0, r.1)) lines_are_exact.decided

@@ -35,7 +35,7 @@ use Rattle.graph_core.specs.Certificates.{no_cut}
 use Rattle.graph_core.specs.Text.JudgedLines.{IsWithin, Lengths}
 use Rattle.graph_core.specs.Text.{newline}
 use Rattle.joint_checker.specs.Certificates.{LawfulPairsAreSound}
-use Rattle.joint_checker.specs.ClauseFiles.{ArePremisesOf, GivesPremises, imported, premises}
+use Rattle.joint_checker.specs.ClauseFiles.{ArePremisesOf, GivesPremises, importable, premises}
 use Rattle.joint_checker.specs.Shown.{IsShownOf, premises_of}
 use Rattle.joint_checker.specs.declared.clause_file.Shown.{Shown}
 use Rattle.joint_checker.proofs.SamePremises.{same_all, same_self}
@@ -114,7 +114,7 @@ shown_fits g s of = record { header = s.header; takes = of.takes; version = refl
 
 -- ---- lawful pairs
 
-pub all_imported : (P : Clause → Type 0) (version : ℕ) (cs : List Clause) → All P cs → All P (imported version cs)
+pub all_imported : (P : Clause → Type 0) (version : ℕ) (cs : List Clause) → All P cs → All P (importable version cs)
 all_imported P version cs h = go (version == 2)
   where
     go : (t : Bool) → All P (cond t cs [])
@@ -132,7 +132,7 @@ module _ (lengths : Lengths) (g : Aig) (bytes : List ℕ) (p : Premises) (gives 
   met_there : (σ : Assignment) → IsEvaluation e.gates σ → AgreeOnColumns e σ × All (λ f. f σ ≡ 0) p.imports
   met_there σ evaluates =
       let h = gives.lawful in
-      let cs = imported gives.header.version (added gives.lines) in
+      let cs = importable gives.header.version (added gives.lines) in
       let facts = All-weaker (λ c. Always e.gates (λ τ. holds τ c ≡ true)) (λ c. holds σ c ≡ true) (λ c always. always σ evaluates) (added gives.lines) (added_are_facts e gives.lines h.in_range h.lawful) in (
         columns_agree e gives.lines (record { in_range = h.in_range; lawful = h.lawful; goals = gives.shown }) σ evaluates,
         same_all (λ (f : Assignment → ℕ). f σ ≡ 0) (λ f k same zero_there. same σ ∙ zero_there) p.imports (map clause_value cs) gives.same.imports
@@ -142,7 +142,7 @@ module _ (lengths : Lengths) (g : Aig) (bytes : List ℕ) (p : Premises) (gives 
   -- what may be imported depends on finitely many variables
   pub gives_bounds : All HasBound p.imports
   gives_bounds =
-      let cs = imported gives.header.version (added gives.lines) in
+      let cs = importable gives.header.version (added gives.lines) in
       same_all HasBound (λ f k same b. (b.0, λ σ τ agree. same σ ∙ b.1 σ τ agree ∙ sym (same τ))) p.imports (map clause_value cs) gives.same.imports (imports_bounded cs)
 
   pub gives_met : Always p.extended.gates (AreMet p)

@@ -19,7 +19,7 @@ use Rattle.mv_desk.specs.declared.limits.Limits.{Limits}
 use Rattle.mv_text.specs.LineReading.{lengths_of}
 use Rattle.poly_text.specs.Recorded.{lines_in}
 use Rattle.trim_core.specs.KeptClauses.{AreEarlier, HaveTightChains}
-use Rattle.joint_checker.specs.ClauseFiles.{AddsClauses, imported, premises}
+use Rattle.joint_checker.specs.ClauseFiles.{AddsClauses, importable, premises}
 use Rattle.joint_checker.specs.Files.{Files, texts_of}
 use Rattle.joint_checker.specs.Judged.{IsJudgedPair, IsLawfulRecord, IsToldPair}
 use Rattle.joint_checker.specs.Records.{IsRecordOf}
@@ -50,9 +50,9 @@ module _ (claim : Claim) (graph : Aig) (shown : Shown) (of : IsShownOf graph sho
           chains = subst (λ (e : Extended). HaveTightChains (gate_clauses e.gates) [] shown.recorded.added shown.recorded.uses.items) of.extended chains;
           earlier = earlier_uses;
         };
-        lines = subst (λ (g : Aig). IsLawfulRecord (premises shown.header.version (extended_with graph shown.header) (imported shown.header.version shown.recorded.added)) (sides_for claim g) closed)
+        lines = subst (λ (g : Aig). IsLawfulRecord (premises shown.header.version (extended_with graph shown.header) (importable shown.header.version shown.recorded.added)) (sides_for claim g) closed)
             (extended_graph graph shown.header of.takes)
-            (subst (λ (e : Extended). IsLawfulRecord (premises shown.header.version e (imported shown.header.version shown.recorded.added)) (sides_for claim e.graph) closed) of.extended lawful);
+            (subst (λ (e : Extended). IsLawfulRecord (premises shown.header.version e (importable shown.header.version shown.recorded.added)) (sides_for claim e.graph) closed) of.extended lawful);
       }))
 
   pub is_told : (limits : Limits) (files : Files) (a b c : View) → Inspects a b → Inspects b c → IfSome (bytes_under a files.graph) (λ bytes. SpellsWithin (profile_of claim.add) limits.graph bytes graph) →

@@ -6,12 +6,12 @@ use Rattle.clause_core.specs.Likeness.{AreSameSets}
 use Rattle.drup_checker.specs.Checking.{kept}
 use Rattle.drup_checker.specs.declared.keeps.Keeps.TheVariants as keep
 use Rattle.trim_core.specs.KeptClauses.{AreEarlier, HaveTightChains}
-use Rattle.joint_checker.specs.ClauseFiles.{imported}
+use Rattle.joint_checker.specs.ClauseFiles.{importable}
 use Rattle.joint_checker.specs.Shown.{keeps_of}
 
 -- ---- imports
 
-same_imported : (version : ℕ) (cs ds : List Clause) → AreSameSets cs ds → AreSameSets (imported version cs) (imported version ds)
+same_imported : (version : ℕ) (cs ds : List Clause) → AreSameSets cs ds → AreSameSets (importable version cs) (importable version ds)
 same_imported version cs ds same = go (version == 2)
   where
     go : (t : Bool) → AreSameSets (cond t cs []) (cond t ds [])
@@ -19,7 +19,7 @@ same_imported version cs ds same = go (version == 2)
     go false = tt
 
 -- whatever may be imported is kept
-imports_kept : (chains : Bool) (version : ℕ) (ds : List Clause) → imported version (kept (keeps_of chains version) ds) ≡ imported version ds
+imports_kept : (chains : Bool) (version : ℕ) (ds : List Clause) → importable version (kept (keeps_of chains version) ds) ≡ importable version ds
 imports_kept true version ds = refl
 imports_kept false version ds = go (version == 2)
   where
@@ -27,9 +27,9 @@ imports_kept false version ds = go (version == 2)
     go true = refl
     go false = refl
 
-pub imported_of_kept : (chains : Bool) (version : ℕ) (cs ds : List Clause) → AreSameSets cs (kept (keeps_of chains version) ds) → AreSameSets (imported version cs) (imported version ds)
+pub imported_of_kept : (chains : Bool) (version : ℕ) (cs ds : List Clause) → AreSameSets cs (kept (keeps_of chains version) ds) → AreSameSets (importable version cs) (importable version ds)
 imported_of_kept chains version cs ds same =
-    subst (AreSameSets (imported version cs)) (imports_kept chains version ds) (same_imported version cs (kept (keeps_of chains version) ds) same)
+    subst (AreSameSets (importable version cs)) (imports_kept chains version ds) (same_imported version cs (kept (keeps_of chains version) ds) same)
 
 -- ---- chains
 

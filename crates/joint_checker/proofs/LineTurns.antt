@@ -11,18 +11,18 @@ use Rattle.graph_core.specs.Graph.Extended.{Extended}
 use Rattle.graph_core.specs.Text.JudgedLines.{BeginsWith}
 use Rattle.graph_core.specs.Graph.Operands.{Sides}
 use Rattle.mv_desk.specs.View.{View}
-use Rattle.mv_desk.specs.declared.faults.LineFail.{LineFail}
-use Rattle.mv_desk.specs.declared.faults.LineFail.TheVariants as text
-use Rattle.graph_core.specs.Algebra.Agreement.{Agree}
-use Rattle.pac_checker.specs.Checking.{Checking, ledger_of, Takes}
+use Rattle.mv_text.specs.declared.line_fail.LineFail.{LineFail}
+use Rattle.mv_text.specs.declared.line_fail.LineFail.TheVariants as text
+use Rattle.graph_core.specs.Algebra.Agreement.{LedgersAgree}
+use Rattle.pac_checker.specs.Checking.{AlgebraChecking, ledger_of, TakesAlgebraLine}
 use Rattle.graph_core.specs.Algebra.InRange.{IsRefusedCloseInRange, IsRefusedInRange}
-use Rattle.pac_checker.specs.Faults.{IsCloseFault, IsFault}
+use Rattle.pac_checker.specs.Faults.{IsCloseFault, IsRuleFault}
 use Rattle.pac_checker.specs.declared.fault.LineFault.{LineFault}
 use Rattle.pac_checker.specs.declared.fault.LineFault.TheVariants as rule
 use Rattle.pac_checker.specs.declared.fault.CloseFault.{CloseFault}
 use Rattle.pac_checker.specs.declared.fault.CloseFault.TheVariants as close
 use Rattle.graph_core.proofs.OfAlgebra.CallerLemmas.{after_agrees, agree_trans, closes_agrees, lawful_agrees, refused_close_in_range_agrees, refused_in_range_agrees, likeness_is_kept}
-use Rattle.poly_terms.specs.Tables.{Table, modulus}
+use Rattle.poly_terms.specs.Tables.{Table, modulus_in}
 use Rattle.mv_text.specs.CertificateFiles.{BeginsOutOfRange, BeginsWithNone, IsLineRefusal, TakesText}
 use Rattle.poly_text.specs.LineTexts.{IsAnyInRange, IsAnyText, IsTextOf}
 use Rattle.graph_core.specs.Algebra.Likeness.{AreAlike}
@@ -34,9 +34,9 @@ use Rattle.poly_text.proofs.CallerLemmas.{close_there, line_there, no_line_is_re
 use Rattle.joint_checker.specs.declared.algebra_line.Turn.{Turn}
 use Rattle.joint_checker.specs.declared.algebra_line.Turn.TheVariants as turn
 use Rattle.joint_checker.specs.declared.checked.Checked.{Checked}
-use Rattle.clause_judge.specs.ClauseBody.{IsLongIn}
+use Rattle.drup_text.specs.HeaderSteps.{IsLongIn}
 use Rattle.joint_checker.specs.AlgebraLines.{IsJudged, IsLineFail, IsUnlawful, TakesClosing, TakesLawful, Turns}
-use Rattle.joint_checker.specs.Answers.{answer_of_close, answer_of_line, answer_of_rule}
+use Rattle.joint_checker.specs.Answers.{answer_of_algebra_line, answer_of_close, answer_of_rule}
 use Rattle.clause_judge.proofs.Told.{told_more}
 
 -- a line that is no closing line is told
@@ -53,20 +53,20 @@ some_of (Some y) h = (y, refl)
 some_of None h = cc
 
 -- a line that was judged by the checker, in the words of its contract
-pub taken_text : (old new : Checking) (line : PacLine) → ((id : ℕ) → line ≡ pac.Close id → ⊥) → IfSome (line_in old.table line) (λ y. Takes y old new) → IsJudged line old new turn.Taken
+pub taken_text : (old new : AlgebraChecking) (line : PacLine) → ((id : ℕ) → line ≡ pac.Close id → ⊥) → IfSome (line_in old.table line) (λ y. TakesAlgebraLine y old new) → IsJudged line old new turn.Taken
 taken_text old new line other takes =
     let y = some_of (line_in old.table line) (some_is_told old.table line other) in
-    (y.0, y.1, subst (λ (o : Option Line). IfSome o (λ z. Takes z old new)) y.1 takes)
+    (y.0, y.1, subst (λ (o : Option Line). IfSome o (λ z. TakesAlgebraLine z old new)) y.1 takes)
 
-pub refused_text : (c : Checking) (line : PacLine) (n : ℕ) (fault : LineFault) (answer : Checked) → answer ≡ answer_of_rule n fault → ((id : ℕ) → line ≡ pac.Close id → ⊥) →
-    IfSome (line_in c.table line) (λ y. IsFault c.extended (ledger_of c) y fault) → IsUnlawful n line c answer
+pub refused_text : (c : AlgebraChecking) (line : PacLine) (n : ℕ) (fault : LineFault) (answer : Checked) → answer ≡ answer_of_rule n fault → ((id : ℕ) → line ≡ pac.Close id → ⊥) →
+    IfSome (line_in c.table line) (λ y. IsRuleFault c.extended (ledger_of c) y fault) → IsUnlawful n line c answer
 refused_text c line n fault answer is other h =
     let y = some_of (line_in c.table line) (some_is_told c.table line other) in
-    inl (y.0, fault, y.1, subst (λ (o : Option Line). IfSome o (λ z. IsFault c.extended (ledger_of c) z fault)) y.1 h, is)
+    inl (y.0, fault, y.1, subst (λ (o : Option Line). IfSome o (λ z. IsRuleFault c.extended (ledger_of c) z fault)) y.1 h, is)
 
 -- no line is read
 pub text_fails : (n version : ℕ) (e : Extended) (sides : Sides) (l : Ledger) (max : ℕ) (lines : Lines) (left : Option (List ℕ)) (before now : View) (given : LineFail) → max ≡ e.max →
-    IsLineRefusal (IsAnyText version) (IsAnyInRange max) lines left before.read_faults now.read_faults given → IsLineFail n version e sides l lines left before now (answer_of_line n given)
+    IsLineRefusal (IsAnyText version) (IsAnyInRange max) lines left before.read_faults now.read_faults given → IsLineFail n version e sides l lines left before now (answer_of_algebra_line n given)
 text_fails n version e sides l max lines left before now text.Text same h = (
   refl,
   told_more left (λ bytes. ¬ (IsLongAhead lines bytes) × BeginsWithNone (IsAnyText version) bytes) (λ bytes. IsRefusedNext version e sides (IsLongIn lines bytes) l bytes (0, cause.Text))
@@ -82,7 +82,7 @@ text_fails n version e sides l max lines left before now text.TooLong same h = h
 text_fails n version e sides l max lines left before now text.Memory same h = tt
 
 -- A checker that was lent to a reader: its table has grown, and its ledger agrees with the one before.
-module _ (grown : Checking) (l : Ledger) (agrees : Agree (ledger_of grown) l) (same_modulus : modulus grown.table ≡ algebra.modulus grown.extended) (version max : ℕ) (same_max : max ≡ grown.extended.max)
+module _ (grown : AlgebraChecking) (l : Ledger) (agrees : LedgersAgree (ledger_of grown) l) (same_modulus : modulus_in grown.table ≡ algebra.modulus grown.extended) (version max : ℕ) (same_max : max ≡ grown.extended.max)
     (old new : Lines) (left behind : Option (List ℕ)) where
   -- a line that is no closing line
   module _ (line : PacLine) (given : IfSome left (λ bytes. TakesText (IsTextOf grown.table version max) old new bytes behind line)) where
@@ -99,11 +99,11 @@ module _ (grown : Checking) (l : Ledger) (agrees : Agree (ledger_of grown) l) (s
           x = t.0;
           begins = t.1;
           in_range = subst (λ (m : ℕ). IsLineInRange m t.0) same_max t.2;
-          alike = subst (λ (m : ℕ). AreAlike m t.0 y) same_modulus (subst (λ (o : Option Line). IsSomeAnd o (AreAlike (modulus grown.table) t.0)) is t.3.alike);
+          alike = subst (λ (m : ℕ). AreAlike m t.0 y) same_modulus (subst (λ (o : Option Line). IsSomeAnd o (AreAlike (modulus_in grown.table) t.0)) is t.3.alike);
         }
 
     -- it was lawful
-    pub line_is_taken : (next : Checking) (y : Line) → line_in grown.table line ≡ Some y → Takes y grown next → IfSome left (λ bytes. TakesLawful version grown.extended l (ledger_of next) old new bytes behind)
+    pub line_is_taken : (next : AlgebraChecking) (y : Line) → line_in grown.table line ≡ Some y → TakesAlgebraLine y grown next → IfSome left (λ bytes. TakesLawful version grown.extended l (ledger_of next) old new bytes behind)
     line_is_taken next y is takes = told_more left (λ bytes. TakesText (IsTextOf grown.table version max) old new bytes behind line) (λ bytes. TakesLawful version grown.extended l (ledger_of next) old new bytes behind) (λ bytes h.
         let t = there y is bytes h in
         let m = algebra.modulus grown.extended in
@@ -128,7 +128,7 @@ module _ (grown : Checking) (l : Ledger) (agrees : Agree (ledger_of grown) l) (s
           inr (h.short, inr (inl (t.x, h.rest, t.begins, (c, inr (t.in_range, here), refl))))) given
 
       -- it breaks its rule
-      pub rule_fails : (y : Line) (fault : LineFault) → line_in grown.table line ≡ Some y → IsFault grown.extended (ledger_of grown) y fault → IsLineFail n version grown.extended sides l old left before now (answer_of_rule n fault)
+      pub rule_fails : (y : Line) (fault : LineFault) → line_in grown.table line ≡ Some y → IsRuleFault grown.extended (ledger_of grown) y fault → IsLineFail n version grown.extended sides l old left before now (answer_of_rule n fault)
       rule_fails y rule.Id is h = (refl, refused_of cause.Id y is h)
       rule_fails y (rule.NoSuchLine id) is h = (refl, refused_of (cause.NoSuchLine id) y is h)
       rule_fails y (rule.NoSuchClause number) is h = (refl, refused_of (cause.NoSuchClause number) y is h)
@@ -162,12 +162,12 @@ module _ (grown : Checking) (l : Ledger) (agrees : Agree (ledger_of grown) l) (s
 
 -- ---- a line that was read and judged
 
-module _ (grown : Checking) (l : Ledger) (agrees : Agree (ledger_of grown) l) (same_modulus : modulus grown.table ≡ algebra.modulus grown.extended) (version max : ℕ) (same_max : max ≡ grown.extended.max)
+module _ (grown : AlgebraChecking) (l : Ledger) (agrees : LedgersAgree (ledger_of grown) l) (same_modulus : modulus_in grown.table ≡ algebra.modulus grown.extended) (version max : ℕ) (same_max : max ≡ grown.extended.max)
     (old new : Lines) (left behind : Option (List ℕ)) (line : PacLine) (given : IfSome left (λ bytes. TakesText (IsTextOf grown.table version max) old new bytes behind line)) where
   given_close : (id : ℕ) → line ≡ pac.Close id → IfSome left (λ bytes. TakesText (IsTextOf grown.table version max) old new bytes behind (pac.Close id))
   given_close id is = subst (λ (x : PacLine). IfSome left (λ bytes. TakesText (IsTextOf grown.table version max) old new bytes behind x)) is given
 
-  pub turn_is : (next : Checking) (given_turn : Turn) → IsJudged line grown next given_turn → Turns version grown.extended grown.sides l (ledger_of next) old new left behind given_turn
+  pub turn_is : (next : AlgebraChecking) (given_turn : Turn) → IsJudged line grown next given_turn → Turns version grown.extended grown.sides l (ledger_of next) old new left behind given_turn
   turn_is next turn.Taken h = line_is_taken grown l agrees same_modulus version max same_max old new left behind line given next h.0 h.1 h.2
   turn_is next (turn.Closed id) h = (line_is_closing grown l agrees same_modulus version max same_max old new left behind grown.sides id (given_close id h.0) h.1, h.2)
 

@@ -11,8 +11,8 @@ use Rattle.graph_core.specs.Algebra.Text.{AreLineTexts, IsCloseText, IsLineInRan
 use Rattle.graph_core.specs.Text.{newline}
 use Rattle.graph_core.specs.Text.JudgedLines.{BeginsWith}
 use Rattle.mv_text.specs.LineReading.{Lines}
-use Rattle.pac_checker.specs.Checking.{Checking, Grows, IsRecordable, recorded_of}
-use Rattle.poly_terms.specs.Tables.{Table, modulus}
+use Rattle.pac_checker.specs.Checking.{AlgebraChecking, GrowsCheckedTable, IsRecordable, recorded_of}
+use Rattle.poly_terms.specs.Tables.{Table, modulus_in}
 use Rattle.mv_text.specs.CertificateFiles.{FileState, HasFirstLine, TakesText}
 use Rattle.poly_text.specs.Lines.{line_in}
 use Rattle.poly_text.specs.Recorded.{AreAllAlike}
@@ -57,13 +57,13 @@ texts_behind version bytes (y ∷ xs) left x rest h begins = (h.0, h.1, h.2, tex
 
 module _ (records : Bool) (version m : ℕ) (old recorded : List Line) where
   -- a line that was read and judged
-  pub turn_records : (max : ℕ) (grown next : Checking) (lines then : Lines) (left behind : Option (List ℕ)) (text : PacLine) (given : Turn) → modulus grown.table ≡ m → grown.records ≡ records → grown.recorded ≡ old →
+  pub turn_records : (max : ℕ) (grown next : AlgebraChecking) (lines then : Lines) (left behind : Option (List ℕ)) (text : PacLine) (given : Turn) → modulus_in grown.table ≡ m → grown.records ≡ records → grown.recorded ≡ old →
       next.recorded ≡ recorded → ClosesRecord grown next given → IfSome left (λ bytes. TakesText (IsTextOf grown.table version max) lines then bytes behind text) → IsJudged text grown next given →
       RecordsTurn records version m old recorded left behind given
   turn_records max grown next lines then left behind text turn.Taken same_modulus same_records same_old same_next closes read h =
       told_more left (λ bytes. TakesText (IsTextOf grown.table version max) lines then bytes behind text) (λ bytes. RecordsText records version m old recorded bytes behind) (λ bytes t.
       let x = line_there grown.table version max bytes t.rest text h.0 h.1 t.begins in
-      let alike : AreAlike (modulus grown.table) x.0 h.0 = subst (λ o. IsSomeAnd o (AreAlike (modulus grown.table) x.0)) h.1 x.3.alike in
+      let alike : AreAlike (modulus_in grown.table) x.0 h.0 = subst (λ o. IsSomeAnd o (AreAlike (modulus_in grown.table) x.0)) h.1 x.3.alike in
       record {
         line = x.0;
         rest = t.rest;
@@ -97,7 +97,7 @@ module _ (records other : Bool) (version w : ℕ) (e f : Extended) (old new : Li
 
 -- ---- lines that are recorded close
 
-pub closes_at : (old other new : Checking) (id : ℕ) → other.records ≡ old.records → other.extended ≡ old.extended → other.added ≡ old.added → other.sides ≡ old.sides → ClosesAt other new id → ClosesAt old new id
+pub closes_at : (old other new : AlgebraChecking) (id : ℕ) → other.records ≡ old.records → other.extended ≡ old.extended → other.added ≡ old.added → other.sides ≡ old.sides → ClosesAt other new id → ClosesAt old new id
 closes_at old other new id records extended added sides h = record {
   is_id = h.is_id;
   lawful = λ yes version.
@@ -106,15 +106,15 @@ closes_at old other new id records extended added sides h = record {
       (subst (λ (e : Extended). AreLawful (premises version e other.added) other.sides new.recorded id) extended (h.lawful (records ∙ yes) version)));
 }
 
-pub closes_grown : (old grown new : Checking) (given : Turn) → Grows old grown → ClosesRecord grown new given → ClosesRecord old new given
+pub closes_grown : (old grown new : AlgebraChecking) (given : Turn) → GrowsCheckedTable old grown → ClosesRecord grown new given → ClosesRecord old new given
 closes_grown old grown new turn.Taken grows h = tt
 closes_grown old grown new (turn.Closed id) grows h = (h.0 ∙ grows.recorded, closes_at old grown new id grows.records grows.extended grows.added grows.sides h.1)
 
-pub closed_at : (old new : Checking) (given : Turn) (id : ℕ) → given ≡ turn.Closed id → ClosesRecord old new given → ClosesAt old new id
+pub closed_at : (old new : AlgebraChecking) (given : Turn) (id : ℕ) → given ≡ turn.Closed id → ClosesRecord old new given → ClosesAt old new id
 closed_at old new given id is h = let at : ClosesRecord old new (turn.Closed id) = subst (ClosesRecord old new) is h in at.1
 
 -- a line that was read may be recorded
-pub read_is_recordable : (t : Table) (version max : ℕ) (bytes : List ℕ) (line : PacLine) → modulus t ≤ 2 ^ 128 → IsTextOf t version max bytes line → IsRecordable max t line
+pub read_is_recordable : (t : Table) (version max : ℕ) (bytes : List ℕ) (line : PacLine) → modulus_in t ≤ 2 ^ 128 → IsTextOf t version max bytes line → IsRecordable max t line
 read_is_recordable t version max bytes line fits text = record { writable = read_is_writable t version max bytes line text; in_range = go (line_in t line) refl }
   where
     go : (o : Option Line) → line_in t line ≡ o → IfSome o (IsLineInRange max)

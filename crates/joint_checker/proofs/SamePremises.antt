@@ -4,7 +4,7 @@ use Rattle.std.specs.List.{All}
 use Rattle.std.proofs.Common.{refl, sym, ◌∙◌}
 use Rattle.std.proofs.lemmas.List.Elements.{All-cons, All-head, All-tail}
 use Rattle.graph_core.specs.Algebra.{Ledger, Premises}
-use Rattle.graph_core.specs.Algebra.Agreement.{Agree, AreSameImports, AreSamePremises}
+use Rattle.graph_core.specs.Algebra.Agreement.{AreSameImports, AreSamePremises, LedgersAgree}
 use Rattle.graph_core.specs.Graph.Assignments.{Assignment}
 use Rattle.graph_core.proofs.OfAlgebra.CallerLemmas.{agree_sym, agree_trans, imports_refl}
 
@@ -12,7 +12,7 @@ use Rattle.graph_core.proofs.OfAlgebra.CallerLemmas.{agree_sym, agree_trans, imp
 abbrev alone : List (Assignment → ℕ) → Ledger
 alone fs = record { live = []; last = 0; imports = fs }
 
-alike : (fs gs : List (Assignment → ℕ)) → AreSameImports fs gs → Agree (alone fs) (alone gs)
+alike : (fs gs : List (Assignment → ℕ)) → AreSameImports fs gs → LedgersAgree (alone fs) (alone gs)
 alike fs gs same = record { last = refl; lines = λ id. tt; imports = same }
 
 pub same_self : (p : Premises) → AreSamePremises p p

@@ -16,7 +16,7 @@ use Rattle.aiger_reader.specs.declared.stop.Stop.TheVariants as stop
 use Rattle.joint_checker.specs.declared.checked.Checked.{Checked}
 use Rattle.joint_checker.specs.declared.checked.Checked.TheVariants as checked
 use Rattle.joint_checker.specs.declared.checked.Refusal.TheVariants as refusal
-use Rattle.clause_judge.specs.ClauseBody.{IsLongIn}
+use Rattle.drup_text.specs.HeaderSteps.{IsLongIn}
 use Rattle.joint_checker.specs.Outcome.{cause_of}
 
 -- Lawful lines over the ledger, a closing line, and nothing behind it. No line is too long.

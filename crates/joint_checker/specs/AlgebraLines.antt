@@ -11,12 +11,12 @@ use Rattle.graph_core.specs.Text.JudgedLines.{BeginsWith}
 use Rattle.graph_core.specs.Graph.Operands.{Sides}
 use Rattle.mv_desk.specs.Calls.{ReadsOnly}
 use Rattle.mv_desk.specs.View.{KeepsTelling, Rose, View}
-use Rattle.mv_desk.specs.declared.faults.LineFail.{LineFail}
+use Rattle.mv_text.specs.declared.line_fail.LineFail.{LineFail}
 use Rattle.mv_desk.specs.declared.slot.Slot.TheVariants as slot
 use Rattle.mv_fact.specs.Always.{Always}
-use Rattle.graph_core.specs.Algebra.Agreement.{Agree}
-use Rattle.pac_checker.specs.Checking.{Checking, Takes, ledger_of}
-use Rattle.pac_checker.specs.Faults.{IsCloseFault, IsFault}
+use Rattle.graph_core.specs.Algebra.Agreement.{LedgersAgree}
+use Rattle.pac_checker.specs.Checking.{AlgebraChecking, TakesAlgebraLine, ledger_of}
+use Rattle.pac_checker.specs.Faults.{IsCloseFault, IsRuleFault}
 use Rattle.pac_checker.specs.declared.fault.CloseFault.{CloseFault}
 use Rattle.pac_checker.specs.declared.fault.LineFault.{LineFault}
 use Rattle.poly_terms.specs.Tables.{Table}
@@ -26,7 +26,7 @@ use Rattle.poly_text.specs.LineTexts.{IsAnyInRange, IsAnyText, IsTextOf}
 use Rattle.poly_text.specs.Lines.{line_in}
 use Rattle.poly_text.specs.declared.line.PacLine.{PacLine}
 use Rattle.poly_text.specs.declared.line.PacLine.TheVariants as pac
-use Rattle.clause_judge.specs.ClauseBody.{IsLongIn}
+use Rattle.drup_text.specs.HeaderSteps.{IsLongIn}
 use Rattle.joint_checker.specs.declared.algebra_line.Turn.{Turn}
 use Rattle.joint_checker.specs.declared.algebra_line.Turn.TheVariants as turn
 use Rattle.joint_checker.specs.declared.checked.AlgebraWhy.TheVariants as why
@@ -39,24 +39,24 @@ use Rattle.joint_checker.specs.Outcome.{cause_of}
 use Rattle.joint_checker.specs.Passing.{PassesLine}
 
 -- What the work of reading the next line does: the clauses of the file's reader, before its first failure.
-pub record ReadsNext (max : ℕ) (old : FileState) (before : View) (out : Result PacLine LineFail) (new : FileState) (now : View) (t : Table) : Type 0 where
+pub record ReadsNextLine (max : ℕ) (old : FileState) (before : View) (out : Result PacLine LineFail) (new : FileState) (now : View) (t : Table) : Type 0 where
   pub says : ReadsNeeded (IsAnyText old.version) (IsAnyInRange max) (IsTextOf t old.version max) slot.Algebra old new before now out
   pub keeps : KeepsFile old new out
   pub only : ReadsOnly slot.Algebra before now
   pub tells : KeepsTelling before now
 
 -- What a line that was read is for a checker: lawful, or closing. Then the specification vanishes.
-abbrev pub IsJudged : PacLine → Checking → Checking → Turn → Type 0
-IsJudged text old new turn.Taken = (line : Line) × (line_in old.table text ≡ Some line) × Takes line old new
+abbrev pub IsJudged : PacLine → AlgebraChecking → AlgebraChecking → Turn → Type 0
+IsJudged text old new turn.Taken = (line : Line) × (line_in old.table text ≡ Some line) × TakesAlgebraLine line old new
 IsJudged text old new (turn.Closed id) =
     (text ≡ pac.Close id) × Closes old.extended old.sides (ledger_of old).live id ×
     Always old.extended.gates (λ σ. specification old.extended old.sides σ ≡ 0)
 
 -- Why it is refused, at this number.
-abbrev pub IsUnlawful : ℕ → PacLine → Checking → Checked → Type 0
+abbrev pub IsUnlawful : ℕ → PacLine → AlgebraChecking → Checked → Type 0
 IsUnlawful n text c answer =
     ((line : Line) × (fault : LineFault) × (line_in c.table text ≡ Some line) ×
-    IsFault c.extended (ledger_of c) line fault × (answer ≡ answer_of_rule n fault)) ⊎
+    IsRuleFault c.extended (ledger_of c) line fault × (answer ≡ answer_of_rule n fault)) ⊎
     ((id : ℕ) × (fault : CloseFault) × (text ≡ pac.Close id) × IsCloseFault c.extended c.sides (ledger_of c) id fault × (answer ≡ answer_of_close n fault))
 
 -- A lawful line stands there, and the ledger next is the one behind it.
@@ -66,7 +66,7 @@ pub record TakesLawful (version : ℕ) (e : Extended) (l next : Ledger) (old new
   pub begins : BeginsWith (IsLineText version) left line rest
   pub in_range : IsLineInRange e.max line
   pub lawful : IsLawfulLine (modulus e) l line
-  pub ledger : Agree next (after (modulus e) l line)
+  pub ledger : LedgersAgree next (after (modulus e) l line)
   pub passes : PassesLine old new left rest behind
 
 -- A closing line stands there, which closes.

@@ -15,8 +15,8 @@ use Rattle.drup_text.specs.Headers.{IsAnyClauseFile, IsHeaderOf, extended_with}
 use Rattle.gate_axioms.specs.ClauseValues.{clause_value}
 
 -- of added clauses those that an algebra certificate of the version may import
-abbrev pub imported : ℕ → List Clause → List Clause
-imported version cs = if version == 2 then cs else []
+abbrev pub importable : ℕ → List Clause → List Clause
+importable version cs = if version == 2 then cs else []
 
 -- the premises of a version over an extended graph, with the values of these clauses to import
 abbrev pub premises : ℕ → Extended → List Clause → Premises
@@ -45,7 +45,7 @@ pub record GivesPremises (lengths : Lengths) (g : Aig) (bytes : List ℕ) (p : P
   pub lines : List ClauseLine
   pub lawful : HasLawfulLines lengths g bytes header lines
   pub shown : AreGoalsShown lines (extended_with g header)
-  pub same : AreSamePremises p (premises header.version (extended_with g header) (imported header.version (added lines)))
+  pub same : AreSamePremises p (premises header.version (extended_with g header) (importable header.version (added lines)))
 
 -- The lines behind this header are lawful, show each goal and add these clauses, as sets, and there are so many lines.
 pub record AddsClauses (lengths : Lengths) (g : Aig) (bytes : List ℕ) (header : Header) (clauses : List Clause) (count : ℕ) : Type 0 where

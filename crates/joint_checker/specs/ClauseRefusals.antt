@@ -6,14 +6,14 @@ use Rattle.graph_core.specs.Graph.{Aig}
 use Rattle.graph_core.specs.Text.JudgedLines.{IsExact, IsTooLong, Lengths}
 use Rattle.clause_core.specs.ClauseLines.{ClauseLine, IsGoalRefusal}
 use Rattle.clause_judge.specs.LineRefusals.{IsRefusedLines}
-use Rattle.drup_text.specs.HeaderRefusal.{IsFirstRefusal, LineCause}
+use Rattle.drup_text.specs.HeaderRefusal.{IsFirstHeaderRefusal, LineCause}
 use Rattle.drup_text.specs.declared.head.Header.{Header}
 use Rattle.drup_text.specs.Headers.{extended_with}
 use Rattle.joint_checker.specs.ClauseFiles.{GivesPremises, HasLawfulLines}
 
 -- The first line that is refused, from 1, and its cause.
 abbrev pub IsClauseRefusal : Lengths → Aig → List ℕ → ℕ × LineCause → Type 0
-IsClauseRefusal lengths g bytes = IsFirstRefusal (IsRefusedLines (IsTooLong lengths (length bytes))) g lengths bytes
+IsClauseRefusal lengths g bytes = IsFirstHeaderRefusal (IsRefusedLines (IsTooLong lengths (length bytes))) g lengths bytes
 
 -- Every line is lawful, and this is the least replaced column with a goal that isn't shown.
 abbrev pub IsColumnRefusal : Lengths → Aig → List ℕ → ℕ → Type 0

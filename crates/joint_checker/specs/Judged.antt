@@ -16,9 +16,9 @@ use Rattle.mv_text.specs.LineReading.{lengths_of}
 use Rattle.pac_checker.specs.Checking.{IsRecordable}
 use Rattle.poly_terms.specs.Tables as table
 use Rattle.poly_text.specs.Lines.{AreOf}
-use Rattle.poly_text.specs.Recorded.{AreMadeOfEarlier, AreRising, HasNewId, ids_in, lines_in}
+use Rattle.poly_text.specs.Recorded.{AreMadeOfEarlier, AreRisingIds, HasNewId, ids_in, lines_in}
 use Rattle.trim_core.specs.KeptClauses.{AreEarlier, HaveTightChains}
-use Rattle.joint_checker.specs.ClauseFiles.{AddsClauses, imported, premises}
+use Rattle.joint_checker.specs.ClauseFiles.{AddsClauses, importable, premises}
 use Rattle.joint_checker.specs.Files.{Texts}
 use Rattle.joint_checker.specs.Records.{IsRecordOf}
 use Rattle.joint_checker.specs.declared.algebra_file.Closed.{Closed}
@@ -29,7 +29,7 @@ abbrev pub extended_of : Judged → Extended
 extended_of j = extended_with j.graph j.header
 
 abbrev pub premises_for : Judged → Premises
-premises_for j = premises j.header.version (extended_of j) (imported j.header.version j.recorded.added)
+premises_for j = premises j.header.version (extended_of j) (importable j.header.version j.recorded.added)
 
 -- Each added clause has a tight chain.
 pub record HasChains (j : Judged) : Type 0 where
@@ -40,11 +40,11 @@ pub record HasChains (j : Judged) : Type 0 where
 pub record IsLawfulRecord (p : Premises) (sides : Sides) (c : Closed) : Type 0 where
   pub lawful : AreLawful p sides (lines_in c.record.terms c.record.lines.items) c.id
   pub closing : IsId c.id
-  pub modulus_is : table.modulus c.record.terms ≡ modulus p.extended
+  pub modulus_is : table.modulus_in c.record.terms ≡ modulus p.extended
   pub of_table : All (AreOf c.record.terms) c.record.lines.items
   pub recordable : All (IsRecordable p.extended.max c.record.terms) c.record.lines.items
   pub new_ids : All HasNewId c.record.lines.items
-  pub rising : AreRising (ids_in c.record.lines.items)
+  pub rising : AreRisingIds (ids_in c.record.lines.items)
   pub earlier : AreMadeOfEarlier c.record.lines.items
 
 -- What was judged, whether or not files are told.

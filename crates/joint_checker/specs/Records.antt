@@ -5,7 +5,7 @@ use Rattle.std.specs.declared.option.Option.TheVariants.{Some}
 use Rattle.graph_core.specs.Algebra.{Line, AreLawful}
 use Rattle.graph_core.specs.Algebra.Text.{AreLineTexts, IsAlgebraText, IsCloseText, IsId, IsLineText}
 use Rattle.graph_core.specs.Text.JudgedLines.{BeginsWith}
-use Rattle.pac_checker.specs.Checking.{Checking, recorded_of}
+use Rattle.pac_checker.specs.Checking.{AlgebraChecking, recorded_of}
 use Rattle.poly_text.specs.Recorded.{AreAllAlike}
 use Rattle.joint_checker.specs.ClauseFiles.{premises}
 use Rattle.joint_checker.specs.declared.algebra_line.Turn.{Turn}
@@ -47,12 +47,12 @@ RecordsTurn records version m old new left behind turn.Taken = IfSome left (λ b
 RecordsTurn records version m old new left behind (turn.Closed id) = (new ≡ old) × IfSome left (λ bytes. ClosesText id bytes behind)
 
 -- The id is one, and where lines are recorded those of the checker are lawful over what it stood on before, and close with the id.
-pub record ClosesAt (old new : Checking) (id : ℕ) : Type 0 where
+pub record ClosesAt (old new : AlgebraChecking) (id : ℕ) : Type 0 where
   pub is_id : IsId id
   pub lawful : old.records ≡ true → (version : ℕ) → AreLawful (premises version old.extended old.added) old.sides new.recorded id
 
 -- so it is at the closing line, of which nothing is recorded
-abbrev pub ClosesRecord : Checking → Checking → Turn → Type 0
+abbrev pub ClosesRecord : AlgebraChecking → AlgebraChecking → Turn → Type 0
 ClosesRecord old new turn.Taken = ⊤
 ClosesRecord old new (turn.Closed id) = (new.recorded ≡ old.recorded) × ClosesAt old new id
 

@@ -6,11 +6,11 @@ use Rattle.drup_checker.specs.declared.keeps.Keeps.{Keeps}
 use Rattle.drup_checker.specs.declared.keeps.Keeps.TheVariants as keep
 use Rattle.drup_text.specs.Headers.{IsHeaderOf, extended_with}
 use Rattle.joint_checker.specs.declared.clause_file.Shown.{Shown}
-use Rattle.joint_checker.specs.ClauseFiles.{imported, premises}
+use Rattle.joint_checker.specs.ClauseFiles.{importable, premises}
 
 -- the premises that it gives
 abbrev pub premises_of : Shown → Premises
-premises_of s = premises s.header.version s.extended (imported s.header.version s.recorded.added)
+premises_of s = premises s.header.version s.extended (importable s.header.version s.recorded.added)
 
 -- The graph takes its header, and with the header's blocks it is the extended graph.
 pub record IsShownOf (g : Aig) (s : Shown) : Type 0 where

@@ -9,15 +9,15 @@ ghost use Rattle.mv_desk.specs.View.{KeepsTelling, OpensFiles, SlotStays, bytes_
 ghost use Rattle.mv_desk.specs.declared.slot.Slot.{Slot};
 ghost use Rattle.mv_desk.specs.declared.slot.Slot.TheVariants as slot;
 ghost use Rattle.mv_fact.specs.Always.{Always};
-ghost use Rattle.graph_core.specs.Algebra.Agreement.{Agree};
+ghost use Rattle.graph_core.specs.Algebra.Agreement.{LedgersAgree};
 ghost use Rattle.pac_checker.specs.Checking.{ledger_of};
 ghost use Rattle.poly_text.specs.Recorded.{lines_in};
-ghost use Rattle.mv_text.specs.CertificateFiles.{GoesOn, left_of};
+ghost use Rattle.mv_text.specs.CertificateFiles.{GoesOn, left_of_file};
 ghost use Rattle.mv_text.specs.LineReading.{lengths_of};
 ghost use Rattle.joint_checker.specs.AlgebraBody.{IsBodyFail, IsLawfulBody};
 ghost use Rattle.graph_core.specs.Certificates.{IsLawfulAlgebra};
 ghost use Rattle.clause_core.specs.Facts.{IsClauseFact};
-ghost use Rattle.joint_checker.specs.ClauseFiles.{imported, premises};
+ghost use Rattle.joint_checker.specs.ClauseFiles.{importable, premises};
 ghost use Rattle.joint_checker.specs.Fails.{IsAlgebraFail};
 ghost use Rattle.joint_checker.specs.Files.{NameIsTold};
 ghost use Rattle.joint_checker.specs.Judged.{IsLawfulRecord};
@@ -147,7 +147,7 @@ fn judge_algebra<D: Desk>(
 // The clauses that the algebra may import.
 fn imports<'s>(shown: &'s Shown<'_>, none: &'s ClauseList) -> &'s ClauseList
     requires { none.now ≡ [] }
-    ensures { result.now ≡ imported shown.now.header.version shown.now.recorded.added }
+    ensures { result.now ≡ importable shown.now.header.version shown.now.recorded.added }
 {
     if shown.header.version == 2 {
         &shown.recorded.added
@@ -166,23 +166,23 @@ fn judge_lines<D: Desk>(
     requires going { GoesOn work.old.file }
     requires limit { work.old.file.lines.lengths.file < 2 ^ 64 }
     requires max { work.old.max ≡ checker.old.extended.max }
-    requires begins { Agree (ledger_of checker.old)
+    requires begins { LedgersAgree (ledger_of checker.old)
         (beginning (premises work.old.file.version checker.old.extended checker.old.added)) }
     requires few { length checker.old.extended.graph.outputs ≤ 128 }
     requires none_recorded { checker.old.recorded ≡ [] }
-    ensures lawful { OnOk result (IfSome (left_of slot.Algebra work.old.file (D.seen desk.old))
+    ensures lawful { OnOk result (IfSome (left_of_file slot.Algebra work.old.file (D.seen desk.old))
         (IsLawfulBody (premises work.old.file.version checker.old.extended checker.old.added)
         checker.old.sides work.old.file.lines)) }
     ensures vanishes { OnOk result (Always checker.old.extended.gates
         (λ σ. specification checker.old.extended checker.old.sides σ ≡ 0)) }
-    ensures recorded { IfOk result (λ c. IfSome (left_of slot.Algebra work.old.file (D.seen desk.old))
+    ensures recorded { IfOk result (λ c. IfSome (left_of_file slot.Algebra work.old.file (D.seen desk.old))
         (IsRecordedBody checker.old.records work.old.file.version (modulus checker.old.extended)
         checker.new.recorded c.id c.lines)) }
     ensures closes { IfOk result (λ c. ClosesAt checker.old checker.new c.id) }
     ensures extended { OnOk result (checker.new.extended ≡ checker.old.extended) }
     ensures refused { IfErr result
         (IsBodyFail (premises work.old.file.version checker.old.extended checker.old.added)
-        checker.old.sides work.old.file.lines (left_of slot.Algebra work.old.file (D.seen desk.old))
+        checker.old.sides work.old.file.lines (left_of_file slot.Algebra work.old.file (D.seen desk.old))
         (D.seen desk.old) (D.seen desk.new)) }
     ensures only { ReadsOnly slot.Algebra (D.seen desk.old) (D.seen desk.new) }
     ensures tells { KeepsTelling (D.seen desk.old) (D.seen desk.new) }

@@ -27,7 +27,7 @@ use Rattle.mv_desk.specs.declared.slot.Slot.TheVariants as slot
 use Rattle.mv_desk.specs.View.{View, bytes_under}
 use Rattle.joint_checker.specs.Files.{Files}
 use Rattle.ripple_graft.specs.declared.cut.Cut.{Cut}
-use Rattle.joint_prover.specs.declared.rewriting.Rewriting.{Rewriting}
+use Rattle.joint_prover.specs.declared.note.Note.{Note}
 use Rattle.joint_prover.specs.declared.task.Task.{Task}
 use Rattle.joint_prover.specs.declared.verdict.Tried.{Tried}
 use Rattle.joint_prover.specs.declared.verdict.Verdict.{Verdict}
@@ -74,7 +74,7 @@ module _ (limit : ℕ) (task : Task) (file : List ℕ) (h : IsEnough limit task 
   never_passes p =
       made_budget_is_enough h.kind h.bits h.graph task.budget h.some h.same h.high (subst (λ k. PassesBySlices (without_cut h.graph) (sides_for k h.graph) task.budget) h.separate p)
 
-  never_tried : (tried : List Tried) (noted : Option Rewriting) → HasNote h.graph task noted (λ used. AreTried h.graph task.claim task.budget used tried) → ⊥
+  never_tried : (tried : List Tried) (noted : Option Note) → HasNote h.graph task noted (λ used. AreTried h.graph task.claim task.budget used tried) → ⊥
   never_tried tried None k = absurd k
   never_tried tried (Some n) k = never_passes (tried_passes h.graph task.claim task.budget (cut_of n) tried k.1)
 
@@ -84,7 +84,7 @@ module _ (limit : ℕ) (task : Task) (file : List ℕ) (h : IsEnough limit task 
         (λ due. absurd ((graph_exact (profile_of task.claim.add) limit file slot.Graph).not_both why (h.graph, spells) due))
         (subst (λ o. IsStop (IsGraphStop slot.Graph (profile_of task.claim.add) limit o) a b why) told k)
 
-    pub proved_or_not : (given : Verdict) (noted : Option Rewriting) → IsVerdict limit task files a b given noted → GivesDue Stopped a b Proved given
+    pub proved_or_not : (given : Verdict) (noted : Option Note) → IsVerdict limit task files a b given noted → GivesDue Stopped a b Proved given
     proved_or_not Proved noted k = inl refl
     proved_or_not (Wrong x y value product) noted k =
         let s = spelled limit task file _ _ told k.0 in

@@ -4,18 +4,18 @@ use Rattle.std.specs.Prelude.{IfSome, IsSome, IsSomeAnd, option_map, unwrap_or}
 use Rattle.std.specs.declared.option.Option.{Option}
 use Rattle.aiger_reader.specs.Refusals.{SpellsWithin}
 use Rattle.mv_desk.specs.Calls.{AreApart, Becomes, BytesGrow, HeldGrows}
-use Rattle.mv_desk.specs.View.{View}
+use Rattle.mv_desk.specs.View.{IsTold, View}
 use Rattle.mv_desk.specs.declared.slot.Slot.{Slot}
 use Rattle.mv_desk.specs.declared.slot.Slot.TheVariants as slot
 use Rattle.joint_checker.specs.Files.{Files}
 use Rattle.joint_checker.proofs.HeldFiles.{file_is_held, other_names, others_are_held, same_told, told_file}
 use Rattle.joint_checker.specs.Written.{ReadsGraph, WritesFile, WritesPair}
 use Rattle.joint_prover.specs.Verdicts as verdicts
-use Rattle.joint_prover.specs.Verdicts.{HasNote, HoldsPair, IsTold, ProvedPairsAreHeld}
+use Rattle.joint_prover.specs.Verdicts.{HasNote, HoldsPair, ProvedPairsAreHeld}
 use Rattle.graph_core.specs.Graph.{Aig}
 use Rattle.graph_core.specs.Graph.Operands.{profile_of}
 use Rattle.ripple_graft.specs.declared.cut.Cut.{Cut}
-use Rattle.joint_prover.specs.declared.rewriting.Rewriting.{Rewriting}
+use Rattle.joint_prover.specs.declared.note.Note.{Note}
 use Rattle.joint_prover.specs.declared.task.Task.{Task}
 use Rattle.joint_prover.specs.Notes.{IsNote, cut_of}
 use Rattle.joint_prover.specs.Pairs.{IsPairFor}
@@ -32,7 +32,7 @@ algebra_no_graph e = cc
 algebra_no_clauses : slot.Algebra ≢ slot.Clauses
 algebra_no_clauses e = cc
 
-module _ (files : Files) (clauses text : List ℕ) (a r c : View) (told : IsTold a) (apart : verdicts.AreApart files) (reads : ReadsGraph a r) (w : WritesPair files clauses text r c) where
+module _ (files : Files) (clauses text : List ℕ) (a r c : View) (told : IsTold a) (apart : verdicts.AreDistinctFiles files) (reads : ReadsGraph a r) (w : WritesPair files clauses text r c) where
   clause_slot : IsSome (r.name slot.Clauses)
   clause_slot = same_told (a.name slot.Clauses) (r.name slot.Clauses) (reads.others slot.Clauses clauses_no_graph).mode.name (told.names slot.Clauses)
 
@@ -64,7 +64,7 @@ module _ (files : Files) (clauses text : List ℕ) (a r c : View) (told : IsTold
       (same_told (a.held files.algebra) (w.between.held files.algebra) (between_held files.algebra apart.certificates) (told.held files.algebra))
 
 -- the note, with what else holds of its cut
-note_there : (g : Aig) (task : Task) (noted : Option Rewriting) (P : Option Cut → Type 0) → HasNote g task noted P → (n : Rewriting) × (noted ≡ Some n) × IsNote g task.claim task.conflicts n × P (cut_of n)
+note_there : (g : Aig) (task : Task) (noted : Option Note) (P : Option Cut → Type 0) → HasNote g task noted P → (n : Note) × (noted ≡ Some n) × IsNote g task.claim task.conflicts n × P (cut_of n)
 note_there g task None P h = absurd h
 note_there g task (Some n) P h = (n, refl, h.0, h.1)
 

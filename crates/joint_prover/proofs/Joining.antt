@@ -20,10 +20,10 @@ use Rattle.joint_prover.specs.declared.task.Task.{Task}
 use Rattle.joint_prover.specs.declared.verdict.Verdict.{Verdict}
 use Rattle.joint_prover.specs.declared.verdict.Verdict.TheVariants.{Proved, Wrong, WrongSum, Undecided, Stopped}
 use Rattle.ripple_graft.specs.declared.cut.Cut.{Cut}
-use Rattle.joint_prover.specs.declared.rewriting.Rewriting.{Rewriting}
+use Rattle.joint_prover.specs.declared.note.Note.{Note}
 use Rattle.joint_prover.specs.Notes.{IsNote, cut_of}
 use Rattle.joint_prover.specs.Pairs.{AreClausesFor, IsPairFor}
-use Rattle.joint_prover.specs.Parts.{IsJudged, IsOfGraph, note_with}
+use Rattle.joint_prover.specs.Parts.{IsNotedVerdict, IsOfGraph, note_with}
 use Rattle.joint_prover.specs.Verdicts.{IsVerdict}
 use Rattle.joint_checker.specs.Written.{ReadsGraph, ReportStays, StopsAt, StopsWriting, WritesFile, WritesFront}
 
@@ -34,7 +34,7 @@ graph_is_read a r result opens = record {
 }
 
 module _ (limit : ℕ) (task : Task) (files : Files) (a r : View) (reads : ReadsGraph a r) where
-  of_graph : (c : View) (g : Aig) (v : Verdict) (n : Rewriting) → IfSome (bytes_under a files.graph) (λ bytes. SpellsWithin (profile_of task.claim.add) limit bytes g) → r.write_faults ≡ a.write_faults →
+  of_graph : (c : View) (g : Aig) (v : Verdict) (n : Note) → IfSome (bytes_under a files.graph) (λ bytes. SpellsWithin (profile_of task.claim.add) limit bytes g) → r.write_faults ≡ a.write_faults →
       IsNote g task.claim task.conflicts n → IsOfGraph g task (cut_of n) files r c v → IsVerdict limit task files a c v (note_with v n)
   of_graph c g Proved n spelled same noted h = (g, spelled, (h.0, (noted, (r, reads, h.1))))
   of_graph c g (Wrong x y value product) n spelled same noted h = ((g, spelled, (h.0, (noted, tt))), subst (ReadsGraph a) (sym h.1) reads)
@@ -43,8 +43,8 @@ module _ (limit : ℕ) (task : Task) (files : Files) (a r : View) (reads : Reads
   of_graph c g (Stopped why) n spelled same noted h = subst (λ x. IsVerdict limit task files a c (Stopped x) None) (sym h.0)
       (subst (λ k. Rose k c.write_faults) same h.1, (g, spelled, (h.2, (n, noted, r, reads, h.3))), refl)
 
-  pub joined : (c : View) (g : Aig) (v : Verdict) (noted : Option Rewriting) → IfSome (bytes_under a files.graph) (λ bytes. SpellsWithin (profile_of task.claim.add) limit bytes g) → r.write_faults ≡ a.write_faults →
-      IsJudged g task files r c v noted → IsVerdict limit task files a c v noted
+  pub joined : (c : View) (g : Aig) (v : Verdict) (noted : Option Note) → IfSome (bytes_under a files.graph) (λ bytes. SpellsWithin (profile_of task.claim.add) limit bytes g) → r.write_faults ≡ a.write_faults →
+      IsNotedVerdict g task files r c v noted → IsVerdict limit task files a c v noted
   joined c g v noted spelled same (inl h) = subst (IsVerdict limit task files a c v) (sym h.3) (of_graph c g v h.0 spelled same h.1 h.2)
   joined c g v noted spelled same (inr h) =
       subst (λ x. IsVerdict limit task files a c x noted) (sym h.0) (tt, subst (ReadsGraph a) (sym h.2) reads, h.1)
@@ -104,7 +104,7 @@ of_graph_leaves g task used files a b (WrongSum x y z value sum) h = subst (Repo
 of_graph_leaves g task used files a b (Undecided tried t n) h = subst (ReportStays a) (sym h.2) (stays a)
 of_graph_leaves g task used files a b (Stopped why) h = stopping_leaves files (AreClausesFor g task used) (IsPairFor g task used) a b h.3
 
-pub report_is_left : (g : Aig) (task : Task) (files : Files) (a b : View) (v : Verdict) (noted : Option Rewriting) → IsJudged g task files a b v noted → ReportStays a b
+pub report_is_left : (g : Aig) (task : Task) (files : Files) (a b : View) (v : Verdict) (noted : Option Note) → IsNotedVerdict g task files a b v noted → ReportStays a b
 report_is_left g task files a b v noted (inl h) = of_graph_leaves g task (cut_of h.0) files a b v h.2
 report_is_left g task files a b v noted (inr h) = subst (ReportStays a) (sym h.2) (stays a)
 

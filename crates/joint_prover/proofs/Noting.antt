@@ -2,7 +2,7 @@
 use Rattle.std.proofs.Common.{◌≡◌, ℕ, ◌^◌, ◌<◌, ◌≤◌, Bool, true, false, List, arith, length, refl, subst}
 use Rattle.std.specs.Prelude.{None}
 use Rattle.graph_core.specs.Algebra.{AgreeOnColumns}
-use Rattle.cdcl_core.specs.Logs.{LogView}
+use Rattle.cdcl_solver.specs.Logs.{LogView}
 use Rattle.clause_core.specs.ClauseLines.{ClauseLine}
 use Rattle.graph_core.specs.Graph.{Aig, IsWellFormed}
 use Rattle.graph_core.specs.Graph.Extended.{Extended}
@@ -12,10 +12,10 @@ use Rattle.graph_core.specs.declared.numbers.Numbers.{Numbers}
 use Rattle.mv_fact.specs.Always.{Always}
 use Rattle.ripple_graft.specs.Blocks.{with_cut}
 use Rattle.ripple_graft.specs.declared.cut.Cut.{Cut}
-use Rattle.slice_finder.proofs.FitCuts.{fit_is_cut}
-use Rattle.stage_rewriter.specs.Rewriting.{Agrees, IsDifference, IsRewriting, IsShown, IsUsed}
-use Rattle.stage_rewriter.specs.declared.rewriting.Rewritten.{Rewritten}
-use Rattle.stage_rewriter.specs.declared.rewriting.Rewritten.TheVariants as kind
+use Rattle.adder_finder.proofs.FitCuts.{fit_is_cut}
+use Rattle.stage_rewriter.specs.Rewriting.{Agrees, IsRewriting, IsRewritingDifference, IsShownRewriting, IsUsed}
+use Rattle.stage_rewriter.specs.declared.rewriting.Rewriting.{Rewriting}
+use Rattle.stage_rewriter.specs.declared.rewriting.Rewriting.TheVariants as kind
 use Rattle.joint_prover.specs.Notes.{DiffersAtStage, IsFoundCut, IsNote, cut_in, cut_of, differing, note_of}
 
 -- without an addend only 0 stands for one
@@ -27,14 +27,14 @@ differing_is g claim conflicts false x alone h =
     (alone, subst (λ c. DiffersAtStage g claim (record { a = x.a; b = x.b; c = c })) (no_addend g claim x alone h.2.range) h)
 differing_is g claim conflicts true x added h = (added, h)
 
-pub note_is : (g : Aig) (s : Sides) (conflicts : ℕ) (r : Rewritten) → AreOperandsOf g s → IsRewriting g s conflicts r → Agrees r → IsNote g s.claim conflicts (note_of s.claim.add r)
+pub note_is : (g : Aig) (s : Sides) (conflicts : ℕ) (r : Rewriting) → AreOperandsOf g s → IsRewriting g s conflicts r → Agrees r → IsNote g s.claim conflicts (note_of s.claim.add r)
 note_is g s conflicts (kind.Used cut extended log) of used agrees = record {
   stage = used.stage;
   agree = subst (λ (x : Extended). Always x.gates (AgreeOnColumns x)) used.extended_is agrees;
 }
 note_is g s conflicts kind.None of none agrees = none
 note_is g s conflicts (kind.Differs x) of h agrees =
-    differing_is g s.claim conflicts s.claim.add x refl (h.0, h.1, subst (λ (t : Sides). IsDifference (with_cut g h.0) t x) of h.2)
+    differing_is g s.claim conflicts s.claim.add x refl (h.0, h.1, subst (λ (t : Sides). IsRewritingDifference (with_cut g h.0) t x) of h.2)
 note_is g s conflicts (kind.Spent lemmas goal log) of spent agrees = spent
 
 -- The note has the cut whose adder is used.
@@ -42,21 +42,21 @@ cut_of_differing : (add : Bool) (x : Numbers) → cut_of (differing add x) ≡ N
 cut_of_differing false x = refl
 cut_of_differing true x = refl
 
-pub cut_of_note : (add : Bool) (r : Rewritten) → cut_of (note_of add r) ≡ cut_in r
+pub cut_of_note : (add : Bool) (r : Rewriting) → cut_of (note_of add r) ≡ cut_in r
 cut_of_note add (kind.Used cut extended log) = refl
 cut_of_note add kind.None = refl
 cut_of_note add (kind.Differs x) = cut_of_differing add x
 cut_of_note add (kind.Spent lemmas goal log) = refl
 
 -- There is none where no adder is used.
-pub without_adder : (r : Rewritten) → ((cut : Cut) (e : Extended) (log : LogView) → r ≡ kind.Used cut e log → ⊥) → cut_in r ≡ None
+pub without_adder : (r : Rewriting) → ((cut : Cut) (e : Extended) (log : LogView) → r ≡ kind.Used cut e log → ⊥) → cut_in r ≡ None
 without_adder (kind.Used cut e log) unused = absurd (unused cut e log refl)
 without_adder kind.None unused = refl
 without_adder (kind.Differs x) unused = refl
 without_adder (kind.Spent lemmas goal log) unused = refl
 
 -- The final stage in use is a cut that is shown.
-pub shown_of : (g : Aig) (conflicts : ℕ) (cut : Cut) (e : Extended) (lines : List ClauseLine) → IsWellFormed g → IsUsed g conflicts cut e lines → IsShown g conflicts cut e lines
+pub shown_of : (g : Aig) (conflicts : ℕ) (cut : Cut) (e : Extended) (lines : List ClauseLine) → IsWellFormed g → IsUsed g conflicts cut e lines → IsShownRewriting g conflicts cut e lines
 shown_of g conflicts cut e lines well used = record {
   fits = fit_is_cut g cut well used.stage.fit;
   extended_is = used.extended_is;
@@ -65,7 +65,7 @@ shown_of g conflicts cut e lines well used = record {
 }
 
 -- What few conflicts show, more do.
-pub shown_by_more : (g : Aig) (few more : ℕ) (cut : Cut) (e : Extended) (lines : List ClauseLine) → few ≤ more → IsShown g few cut e lines → IsShown g more cut e lines
+pub shown_by_more : (g : Aig) (few more : ℕ) (cut : Cut) (e : Extended) (lines : List ClauseLine) → few ≤ more → IsShownRewriting g few cut e lines → IsShownRewriting g more cut e lines
 shown_by_more g few more cut e lines low shown = record {
   fits = shown.fits;
   extended_is = shown.extended_is;
@@ -73,7 +73,7 @@ shown_by_more g few more cut e lines low shown = record {
   few = let short = shown.few in omega arith;
 }
 
-pub found_is : (g : Aig) (conflicts : ℕ) (cut : Cut) (e : Extended) (lines : List ClauseLine) → IsShown g conflicts cut e lines → Always e.gates (AgreeOnColumns e) → IsFoundCut g cut
+pub found_is : (g : Aig) (conflicts : ℕ) (cut : Cut) (e : Extended) (lines : List ClauseLine) → IsShownRewriting g conflicts cut e lines → Always e.gates (AgreeOnColumns e) → IsFoundCut g cut
 found_is g conflicts cut e lines shown agree = record {
   fits = shown.fits;
   agree = subst (λ (x : Extended). Always x.gates (AgreeOnColumns x)) shown.extended_is agree;

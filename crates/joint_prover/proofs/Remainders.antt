@@ -7,7 +7,7 @@ use Rattle.std.proofs.lemmas.Bool.{cases_lt}
 use Rattle.std.proofs.lemmas.List.{length-map, take_all}
 use Rattle.std.proofs.lemmas.List.Sorted.{length_permutation}
 use Rattle.std.proofs.lemmas.List.Elements.{recursion_from_All}
-use Rattle.column_reducer.specs.Reducing.{GoesOn, IsPassed, IsRest, IsWithin, Planned, planned, value_after}
+use Rattle.column_reducer.specs.Reducing.{ContinuesLines, IsLastRest, IsPassed, KeepsBudget, Planned, planned, value_after}
 use Rattle.column_reducer.specs.declared.reduced.Reduced.TheVariants as answer
 use Rattle.column_reducer.specs.declared.reduced.Reduced.TheVariants.{Rest}
 use Rattle.frontier_core.specs.declared.step.Step.{Step}
@@ -32,7 +32,7 @@ use Rattle.graph_core.specs.Algebra.Polynomials.{difference, value}
 use Rattle.graph_core.proofs.OfGraphs.CallerLemmas.{claim_is_done, difference_is, sides_read_inputs}
 use Rattle.graph_core.proofs.OfAiger.CallerLemmas.{shape_for}
 use Rattle.graph_core.proofs.OfAlgebra.CallerLemmas.{modulus_pos}
-use Rattle.pac_writer.specs.Writing.{AreLawfulSoFar, Made, ledger_of}
+use Rattle.pac_writer.specs.Writing.{AreLawfulSoFar, Made, written_ledger}
 use Rattle.poly_terms.specs.Laws.{modulus_stays}
 use Rattle.poly_terms.specs.Tables.{Table, Sum, monomials_in, value_in}
 use Rattle.poly_terms.specs.Tables as table
@@ -97,11 +97,11 @@ module _ (e : Extended) (s : Sides) (vs : List ℕ) (extension : IsExtension e) 
   of_order t n size = size_same (modulus e) n (frontier_value e s (all_columns e) (take t size.0)) (frontier_value e s (all_columns e) (take t vs))
       (λ σ. ap (λ ws. frontier_value e s (all_columns e) (take t ws) σ) (plain_order_is_one e.gates size.0 vs extension.acyclic size.1 order)) size.2
 
-  within_there : (budget : ℕ) → IsWithin (plain_of e vs) s budget → (t n : ℕ) → t ≤ length vs → HasSize (modulus e) (frontier_value e s (all_columns e) (take t vs)) n → n ≤ budget
+  within_there : (budget : ℕ) → KeepsBudget (plain_of e vs) s budget → (t n : ℕ) → t ≤ length vs → HasSize (modulus e) (frontier_value e s (all_columns e) (take t vs)) n → n ≤ budget
   within_there budget h t n low size = h t n (omega (arith, length-plain_steps))
       (size_same (modulus e) n (frontier_value e s (all_columns e) (take t vs)) (value_after (plain_of e vs) s (length e.graph.outputs + t)) (λ σ. sym (value_plain t σ low)) size)
 
-  pub within_always : (budget : ℕ) → IsWithin (plain_of e vs) s budget → (t n : ℕ) → HasPlainSize e s t n → n ≤ budget
+  pub within_always : (budget : ℕ) → KeepsBudget (plain_of e vs) s budget → (t n : ℕ) → HasPlainSize e s t n → n ≤ budget
   within_always budget h t n size = ⊎_elim
       (λ high. within_there budget h (length vs) n (omega arith)
       (subst (λ ws. HasSize (modulus e) (frontier_value e s (all_columns e) ws) n) (take_all t vs (omega arith) ∙ sym (take-length vs)) (of_order t n size)))
@@ -136,11 +136,11 @@ module _ (l : Made) (start : IsStart l) (steps : List Step) (slices : IsSlicePla
 
 -- ---- a plan that ended
 
-pub ends_within : (l : Made) (p : Planned) (budget : ℕ) → p.extended ≡ l.extended → p.uncounted ≡ 0 → IsColumnPlan l.extended p.steps → IsWithin p l.sides budget → EndsWithin l.extended l.sides budget
+pub ends_within : (l : Made) (p : Planned) (budget : ℕ) → p.extended ≡ l.extended → p.uncounted ≡ 0 → IsColumnPlan l.extended p.steps → KeepsBudget p l.sides budget → EndsWithin l.extended l.sides budget
 ends_within l p budget same counted columns h = record {
   steps = p.steps;
   columns = columns;
-  within = subst (λ x. IsWithin (planned x p.steps 0) l.sides budget) same (subst (λ n. IsWithin (planned p.extended p.steps n) l.sides budget) counted h);
+  within = subst (λ x. KeepsBudget (planned x p.steps 0) l.sides budget) same (subst (λ n. KeepsBudget (planned p.extended p.steps n) l.sides budget) counted h);
 }
 
 -- and so within more, over the same graph
@@ -154,17 +154,17 @@ ends_at l e s budget most extended sides low h = subst (λ x. EndsWithin x s mos
 abbrev pub IsFewOver : Extended → Made → Type 0
 IsFewOver e l = length l.lines ≤ length e.gates + 2
 
-pub few_over : (e : Extended) (l after : Made) → e ≡ l.extended → GoesOn l after → IsFewOver e after → AreFew after
+pub few_over : (e : Extended) (l after : Made) → e ≡ l.extended → ContinuesLines l after → IsFewOver e after → AreFew after
 few_over e l after same goes few = subst (λ x. IsFewOver x after) (same ∙ sym goes.extended) few
 
-pub remainder_of : (l after : Made) (p : Planned) (poly : Sum) (id : ℕ) → p.extended ≡ l.extended → IsPlan l.extended p.steps → GoesOn l after → IsFewOver p.extended after →
-    IsRest p l.sides after.table (ledger_of after).live poly id → IsRemainder l after poly id
+pub remainder_of : (l after : Made) (p : Planned) (poly : Sum) (id : ℕ) → p.extended ≡ l.extended → IsPlan l.extended p.steps → ContinuesLines l after → IsFewOver p.extended after →
+    IsLastRest p l.sides after.table (written_ledger after).live poly id → IsRemainder l after poly id
 remainder_of l after p poly id same plan goes few rest = record {
   steps = p.steps;
   uncounted = p.uncounted;
   plan = plan;
   goes_on = goes;
-  rest = subst (λ x. IsRest (planned x p.steps p.uncounted) l.sides after.table (ledger_of after).live poly id) same rest;
+  rest = subst (λ x. IsLastRest (planned x p.steps p.uncounted) l.sides after.table (written_ledger after).live poly id) same rest;
   few = few_over p.extended l after same goes few;
 }
 
@@ -174,10 +174,10 @@ plain_remainder l start budget after poly id h =
     (subst (λ x. IsFewOver x after) h.goes_on.extended h.few) h.reduced.0
 
 module _ (l : Made) (start : IsStart l) (after : Made) (poly : Sum) (id : ℕ) (left : IsRemainder l after poly id) where
-  goes : GoesOn l after
+  goes : ContinuesLines l after
   goes = left.goes_on
 
-  rest : IsRest (planned l.extended left.steps left.uncounted) l.sides after.table (ledger_of after).live poly id
+  rest : IsLastRest (planned l.extended left.steps left.uncounted) l.sides after.table (written_ledger after).live poly id
   rest = left.rest
 
   abbrev e : Extended
@@ -209,7 +209,7 @@ module _ (l : Made) (start : IsStart l) (after : Made) (poly : Sum) (id : ℕ) (
   poly_value : (σ : Assignment) → value_in after.table poly σ ≡ frontier_value e s f.added f.eliminated σ
   poly_value σ = rest.last σ ∙ ap (λ ss. value_of_taken e s (taken nothing ss) σ) (take-length left.steps)
 
-  same_modulus : table.modulus after.table ≡ modulus e
+  same_modulus : table.modulus_in after.table ≡ modulus e
   same_modulus = modulus_stays l.table after.table goes.table ∙ start.same_modulus
 
   inputs_are : inputs_in after.sides ≡ g.inputs
@@ -232,7 +232,7 @@ module _ (l : Made) (start : IsStart l) (after : Made) (poly : Sum) (id : ℕ) (
       (claim_is_done g s.claim shape once).0 (subst (MeetsClaim g) start.sides meets)
 
   module _ (lawful : AreLawfulSoFar after) (zero : (σ : Assignment) → value_in after.table poly σ ≡ 0) where
-    closes_value : (σ : Assignment) → value_of (ledger_of after).live id σ ≡ specification e s σ
+    closes_value : (σ : Assignment) → value_of (written_ledger after).live id σ ≡ specification e s σ
     closes_value σ =
         rest.differs σ ∙ ap (difference (modulus e) (specification e s σ)) (zero σ) ∙
         difference_is (modulus e) (specification e s σ) 0 (specification e s σ) (modulus_pos e) (ap (λ z. z % modulus e) (omega arith)) ∙
@@ -248,13 +248,13 @@ module _ (l : Made) (start : IsStart l) (after : Made) (poly : Sum) (id : ℕ) (
     no_line : id ≡ 0 → ⊥
     no_line none =
         let bits = lowest_bits g s start.sides shape once (some_bits s.claim.add g start.sized) in
-        let missing = none_there (ledger_of after).live (recursion_from_All (λ line. (0 < line.id) × (line.id ≤ after.last)) (ledger_of after).live lawful.ids) in
+        let missing = none_there (written_ledger after).live (recursion_from_All (λ line. (0 < line.id) × (line.id ≤ after.last)) (written_ledger after).live lawful.ids) in
         specification_is_not_zero e s bits.0 bits.1 bits.2 (some_outputs s.claim.add g start.sized)
-        (λ σ. sym (closes_value σ) ∙ ap (λ i. value_of (ledger_of after).live i σ) none ∙ ap (λ line. value_or_zero line σ) missing)
+        (λ σ. sym (closes_value σ) ∙ ap (λ i. value_of (written_ledger after).live i σ) none ∙ ap (λ line. value_or_zero line σ) missing)
 
-    pub rest_closes : Closes after.extended after.sides (ledger_of after).live id
-    rest_closes = subst (λ x. Closes x after.sides (ledger_of after).live id) (sym goes.extended)
-        (subst (λ x. Closes e x (ledger_of after).live id) (sym goes.sides)
+    pub rest_closes : Closes after.extended after.sides (written_ledger after).live id
+    rest_closes = subst (λ x. Closes x after.sides (written_ledger after).live id) (sym goes.extended)
+        (subst (λ x. Closes e x (written_ledger after).live id) (sym goes.sides)
         (⊎_elim (λ none. absurd (no_line none)) (λ live. live) rest.line, closes_value))
 
   -- ---- where it isn't

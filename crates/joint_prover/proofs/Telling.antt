@@ -26,7 +26,7 @@ use Rattle.pac_writer.specs.Writing.{Made}
 use Rattle.ripple_graft.specs.Blocks.{with_cut}
 use Rattle.ripple_graft.specs.HeaderBlocks.{cut_blocks}
 use Rattle.ripple_graft.specs.declared.cut.Cut.{Cut}
-use Rattle.stage_rewriter.specs.Rewriting.{IsShown}
+use Rattle.stage_rewriter.specs.Rewriting.{IsShownRewriting}
 use Rattle.joint_checker.specs.ClauseFiles.{premises}
 use Rattle.joint_checker.specs.Files.{Files}
 use Rattle.joint_prover.specs.declared.attempts.Attempt.{Attempt}
@@ -40,8 +40,8 @@ use Rattle.joint_prover.specs.declared.verdict.Verdict.{Verdict}
 use Rattle.joint_prover.specs.declared.verdict.Verdict.TheVariants.{Proved, Wrong, WrongSum, Undecided, Stopped}
 use Rattle.joint_prover.specs.Endings.{AreLeast, IsEnded}
 use Rattle.joint_prover.specs.Pairs.{AreClausesFor, AreClausesOver, IsPairFor, IsPairOver, IsSpareFile, IsVersion}
-use Rattle.joint_prover.specs.Parts.{AreTriedBefore, IsAttempt, IsFileOf, IsOfGraph, IsToldOver, IsToldWrong, IsWritten, MayTell, MayTellOver, cut_named, header_of, verdict_in}
-use Rattle.joint_prover.specs.Tries.{AreTried, EndsOver, HasPassed, IsTried, IsWithinBudget, extended_by}
+use Rattle.joint_prover.specs.Parts.{AreTriedBefore, IsAttempt, IsFileOf, IsOfGraph, IsToldOver, IsToldWrong, IsWritten, MayTell, MayTellOver, clauses_header, cut_named, verdict_in}
+use Rattle.joint_prover.specs.Tries.{AreTried, EndsOver, HasPassedBudget, IsTried, IsWithinBudget, extended_by}
 use Rattle.joint_checker.specs.Certificates.{IsPair}
 use Rattle.joint_checker.specs.Written.{StopsAt, StopsWriting}
 use Rattle.joint_prover.proofs.WrittenClauses.{AreSaid, said_clauses, said_with}
@@ -165,7 +165,7 @@ module _ (l : Made) (graph : Aig) (s : Sides) (of_graph : graph ≡ l.extended.g
 
 module _ (g : Aig) (claim : Claim) (budget : ℕ) where
   -- with a cut in use a plan over the graph alone comes second
-  pub has_passed : (used : Option Cut) (tried : List Tried) → AreTriedBefore g claim budget used tried → HasPassed g claim budget used
+  pub has_passed : (used : Option Cut) (tried : List Tried) → AreTriedBefore g claim budget used tried → HasPassedBudget g claim budget used
   has_passed None tried h = λ cut same. absurd (none-some cut same)
   has_passed (Some used) tried h = λ cut same. (h.0, subst (λ c. IsTried g claim budget c h.0) same h.2)
 
@@ -178,7 +178,7 @@ module _ (g : Aig) (claim : Claim) (budget : ℕ) where
 -- what the verdict at the end of a plan tells
 abbrev pub Tells : Clauses → Made → Ending → Files → View → View → Verdict → Type 0
 Tells c l ending files a b v = (e : Extended) (task : Task) → IsEnded e task.claim l ending → task.version ≡ c.version → e ≡ extended_by e.graph (cut_named c) →
-    AreClausesOver e.graph task (cut_named c) (any_file_text (header_of e.graph c) c.log.now) → IsToldOver e.graph task (cut_named c) files a b v
+    AreClausesOver e.graph task (cut_named c) (any_file_text (clauses_header e.graph c) c.log.now) → IsToldOver e.graph task (cut_named c) files a b v
 
 -- over the graph of which it is said
 pub told_over : (files : Files) (a b : View) (l : Made) (ending : Ending) (v : Verdict) (e : Extended) (task : Task) (cut : Option Cut) (c : Clauses) → Tells c l ending files a b v →
@@ -193,7 +193,7 @@ told_over files a b l ending v e task cut c told ended sized well said =
 -- over the graph with the adder of a cut that is shown
 pub told_shown : (files : Files) (a b : View) (l : Made) (ending : Ending) (v : Verdict) (g : Aig) (e : Extended) (task : Task) (cut : Cut) (c : Clauses) → Tells c l ending files a b v →
     IsEnded e task.claim l ending → IsSizedAs (profile_of task.claim.add) g → IsWellFormed e.graph → IsVersion task.version → task.version ≡ c.version → cut_named c ≡ Some cut →
-    All (λ line. IsClause (clause_in line)) c.log.now → IsShown g task.conflicts cut e c.log.now → IsToldOver g task (Some cut) files a b v
+    All (λ line. IsClause (clause_in line)) c.log.now → IsShownRewriting g task.conflicts cut e c.log.now → IsToldOver g task (Some cut) files a b v
 told_shown files a b l ending v g e task cut c told ended sized well known version named once shown =
     let is = shown.extended_is in
     told_over files a b l ending v (with_cut g cut) task (Some cut) c told (subst (λ x. IsEnded x task.claim l ending) is ended) sized

@@ -24,11 +24,11 @@ use Rattle.ripple_graft.proofs.BlockLists.{cut_is_block}
 use Rattle.ripple_graft.proofs.GraftedGraphs.{grafted_small}
 use Rattle.ripple_graft.specs.declared.cut.Cut.{Cut}
 use Rattle.joint_checker.proofs.SamePremises.{same_self}
-use Rattle.stage_rewriter.specs.Rewriting.{IsShown}
+use Rattle.stage_rewriter.specs.Rewriting.{IsShownRewriting}
 use Rattle.joint_prover.specs.declared.clauses.Clauses.{Clauses}
 use Rattle.joint_prover.specs.declared.task.Task.{Task}
 use Rattle.joint_prover.specs.Pairs.{AreClausesOver, IsVersion}
-use Rattle.joint_prover.specs.Parts.{cut_named, header_of}
+use Rattle.joint_prover.specs.Parts.{clauses_header, cut_named}
 use Rattle.joint_prover.specs.Tries.{extended_by}
 use Rattle.joint_prover.proofs.Sizes.{few_inputs, few_outputs, few_variables, some_outputs}
 
@@ -47,7 +47,7 @@ pub record AreSaid (e : Extended) (task : Task) (cut : Option Cut) (c : Clauses)
 
 -- of the graph with the adder of a cut that is shown
 pub said_with : (g : Aig) (e : Extended) (task : Task) (cut : Cut) (c : Clauses) → IsVersion task.version → task.version ≡ c.version → cut_named c ≡ Some cut →
-    All (λ line. IsClause (clause_in line)) c.log.now → IsShown g task.conflicts cut e c.log.now → AreSaid (with_cut g cut) task (Some cut) c
+    All (λ line. IsClause (clause_in line)) c.log.now → IsShownRewriting g task.conflicts cut e c.log.now → AreSaid (with_cut g cut) task (Some cut) c
 said_with g e task cut c known version named once shown = record {
   known = known;
   version = version;
@@ -80,7 +80,7 @@ one_block : (outputs : ℕ) (cut : Option Cut) → length (cut_blocks outputs cu
 one_block outputs None = omega arith
 one_block outputs (Some cut) = omega arith
 
-pub header_has_one : (g : Aig) (c : Clauses) (h : Header) → h ≡ header_of g c → length h.blocks ≤ 1
+pub header_has_one : (g : Aig) (c : Clauses) (h : Header) → h ≡ clauses_header g c → length h.blocks ≤ 1
 header_has_one g c h is = subst (λ (k : Header). length k.blocks ≤ 1) (sym is) (one_block (length g.outputs) (cut_named c))
 
 -- the graph takes it

@@ -12,7 +12,7 @@ use Rattle.graph_maker.specs.declared.adder.Adder.TheVariants.{Ripple}
 use Rattle.graph_maker.specs.declared.kind.Kind.{Kind}
 use Rattle.mv_desk.specs.View.{View, bytes_under}
 use Rattle.joint_checker.specs.Files.{Files}
-use Rattle.joint_prover.specs.declared.rewriting.Rewriting.{Rewriting}
+use Rattle.joint_prover.specs.declared.note.Note.{Note}
 use Rattle.joint_prover.specs.declared.task.Task.{Task}
 use Rattle.joint_prover.specs.declared.verdict.Verdict.{Verdict}
 use Rattle.joint_prover.specs.declared.verdict.Verdict.TheVariants.{Proved, Stopped}
@@ -38,5 +38,5 @@ ProvesEnough limit task files before after given =
     IfSome (bytes_under before files.graph) (λ file. IsEnough limit task file → GivesDue Stopped before after Proved given)
 
 abbrev pub EnoughIsProved : Type 0
-EnoughIsProved = (limit : ℕ) (task : Task) (files : Files) (before after : View) (given : Verdict) (noted : Option Rewriting) →
+EnoughIsProved = (limit : ℕ) (task : Task) (files : Files) (before after : View) (given : Verdict) (noted : Option Note) →
     IsVerdict limit task files before after given noted → ProvesEnough limit task files before after given

@@ -1,6 +1,6 @@
 -- What plans come to. Private clauses alone cite this file.
 use Rattle.std.specs.Prelude.{◌≡◌, ℕ, ◌+◌, ◌≤◌, Bool, List, [], ◌∷◌, length, take, None, IsSome}
-use Rattle.column_reducer.specs.Reducing.{GoesOn, IsReduced, IsRest, Planned, planned}
+use Rattle.column_reducer.specs.Reducing.{ContinuesLines, IsLastRest, IsReduced, Planned, planned}
 use Rattle.column_reducer.specs.declared.reduced.Reduced.{Reduced}
 use Rattle.frontier_core.specs.LastFrontier.{AgreeEverywhere}
 use Rattle.frontier_core.specs.LeastDifference.{IsLeastDifferenceAt, IsLeastNonzero}
@@ -16,8 +16,8 @@ use Rattle.graph_core.specs.Graph.Extended.{Extended}
 use Rattle.graph_core.specs.Graph.Operands.{AreInRange, AreOperandsOf, Does, Sides, inputs_at, inputs_in, profile_of, sides_for}
 use Rattle.graph_core.specs.declared.claim.Claim.{Claim}
 use Rattle.graph_core.specs.declared.numbers.Numbers.{Numbers}
-use Rattle.pac_writer.specs.Writing.{Made, closed, ledger_of}
-use Rattle.poly_terms.specs.Tables.{Sum, modulus, value_in}
+use Rattle.pac_writer.specs.Writing.{Made, closed, written_ledger}
+use Rattle.poly_terms.specs.Tables.{Sum, modulus_in, value_in}
 use Rattle.ripple_graft.specs.Extension.{IsExtension}
 use Rattle.joint_prover.specs.declared.ending.Ending.{Ending}
 use Rattle.joint_prover.specs.declared.ending.Ending.TheVariants.{Closed, Differs}
@@ -32,7 +32,7 @@ use Rattle.joint_prover.specs.Verdicts.{IsFirstAbove}
 -- Lines over a graph with or without an adder, of which none was written.
 pub record IsStart (l : Made) : Type 0 where
   pub sides : AreOperandsOf l.extended.graph l.sides
-  pub same_modulus : modulus l.table ≡ algebra.modulus l.extended
+  pub same_modulus : modulus_in l.table ≡ algebra.modulus l.extended
   pub lines : l.lines ≡ []
   pub unclosed : l.closing ≡ None
   pub sized : IsSizedAs (profile_of l.sides.claim.add) l.extended.graph
@@ -51,7 +51,7 @@ AreFew l = length l.lines ≤ length l.extended.gates + 2
 pub record IsPlainlyReduced (budget : ℕ) (old new : Made) (answer : Reduced) : Type 0 where
   pub order : List ℕ
   pub plain : IsPlainOrder old.extended.gates order
-  pub goes_on : GoesOn old new
+  pub goes_on : ContinuesLines old new
   pub reduced : IsReduced (plain_of old.extended order) old.sides budget new answer
   pub few : AreFew new
 
@@ -60,8 +60,8 @@ pub record IsRemainder (old new : Made) (poly : Sum) (id : ℕ) : Type 0 where
   pub steps : List Step
   pub uncounted : ℕ
   pub plan : IsPlan old.extended steps
-  pub goes_on : GoesOn old new
-  pub rest : IsRest (planned old.extended steps uncounted) old.sides new.table (ledger_of new).live poly id
+  pub goes_on : ContinuesLines old new
+  pub rest : IsLastRest (planned old.extended steps uncounted) old.sides new.table (written_ledger new).live poly id
   pub few : AreFew new
 
 -- The numbers stand for the least values of the inputs at which the graph isn't what is claimed.
@@ -94,9 +94,9 @@ IsPlain old budget l (plain.Ended ending) = IsEnded old.extended old.sides.claim
 IsPlain old budget l (plain.Passed step size) = IsFirstAbove old.extended.graph old.sides.claim budget step size
 
 -- what one step takes
-abbrev pub columns_of : Step → List ℕ
-columns_of (Add k) = k ∷ []
-columns_of (Eliminate v) = []
+abbrev pub columns_taken : Step → List ℕ
+columns_taken (Add k) = k ∷ []
+columns_taken (Eliminate v) = []
 
 abbrev pub gates_of : Step → List ℕ
 gates_of (Add k) = []

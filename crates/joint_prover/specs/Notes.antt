@@ -10,13 +10,13 @@ use Rattle.graph_core.specs.declared.numbers.Numbers.{Numbers}
 use Rattle.mv_fact.specs.Always.{Always}
 use Rattle.ripple_graft.specs.Blocks.{IsCut, with_cut}
 use Rattle.ripple_graft.specs.declared.cut.Cut.{Cut}
-use Rattle.slice_finder.specs.FinalStage.{IsFinalStage}
+use Rattle.adder_finder.specs.FinalStage.{IsFinalStage}
 use Rattle.goal_refuter.specs.Refutations.{IsSpent}
-use Rattle.stage_rewriter.specs.Rewriting.{IsDifference}
-use Rattle.stage_rewriter.specs.declared.rewriting.Rewritten.{Rewritten}
-use Rattle.stage_rewriter.specs.declared.rewriting.Rewritten.TheVariants as kind
-use Rattle.joint_prover.specs.declared.rewriting.Rewriting.{Rewriting}
-use Rattle.joint_prover.specs.declared.rewriting.Rewriting.TheVariants as note
+use Rattle.stage_rewriter.specs.Rewriting.{IsRewritingDifference}
+use Rattle.stage_rewriter.specs.declared.rewriting.Rewriting.{Rewriting}
+use Rattle.stage_rewriter.specs.declared.rewriting.Rewriting.TheVariants as kind
+use Rattle.joint_prover.specs.declared.note.Note.{Note}
+use Rattle.joint_prover.specs.declared.note.Note.TheVariants as note
 
 -- The cut is the final stage; with an adder there each new output equals the old one on every evaluation.
 pub record IsUsedCut (g : Aig) (cut : Cut) : Type 0 where
@@ -30,11 +30,11 @@ pub record IsFoundCut (g : Aig) (cut : Cut) : Type 0 where
 
 -- Numbers on which some new output differs from the old one, with an adder in place of the final stage.
 abbrev pub DiffersAtStage : Aig → Claim → Numbers → Type 0
-DiffersAtStage g claim x = (cut : Cut) × IsFinalStage g cut × IsDifference (with_cut g cut) (sides_for claim g) x
+DiffersAtStage g claim x = (cut : Cut) × IsFinalStage g cut × IsRewritingDifference (with_cut g cut) (sides_for claim g) x
 
 -- Each kind by its cause: there is no final stage; operands on which some new output differs from the old one, or operands and an addend;
 -- as many lemmas as there may be conflicts, and the goal in hand doesn't follow.
-abbrev pub IsNote : Aig → Claim → ℕ → Rewriting → Type 0
+abbrev pub IsNote : Aig → Claim → ℕ → Note → Type 0
 IsNote g claim conflicts (note.Used cut) = IsUsedCut g cut
 IsNote g claim conflicts note.None = (cut : Cut) → ¬ (IsFinalStage g cut)
 IsNote g claim conflicts (note.Differs a b) = (claim.add ≡ false) × DiffersAtStage g claim (record { a = a; b = b; c = 0 })
@@ -43,7 +43,7 @@ IsNote g claim conflicts (note.Spent lemmas goal log) = (cut : Cut) × IsFinalSt
 IsNote g claim conflicts (note.Found cut) = IsFoundCut g cut
 
 -- the cut over which a plan is tried first
-abbrev pub cut_of : Rewriting → Option Cut
+abbrev pub cut_of : Note → Option Cut
 cut_of (note.Used cut) = Some cut
 cut_of note.None = None
 cut_of (note.Differs a b) = None
@@ -52,19 +52,19 @@ cut_of (note.Spent lemmas goal log) = None
 cut_of (note.Found cut) = Some cut
 
 -- the note that numbers differ, without an addend and with one
-abbrev pub differing : Bool → Numbers → Rewriting
+abbrev pub differing : Bool → Numbers → Note
 differing false x = note.Differs x.a x.b
 differing true x = note.DiffersSum x.a x.b x.c
 
 -- the note on what came of a rewriting
-abbrev pub note_of : Bool → Rewritten → Rewriting
+abbrev pub note_of : Bool → Rewriting → Note
 note_of add (kind.Used cut extended log) = note.Used cut
 note_of add kind.None = note.None
 note_of add (kind.Differs x) = differing add x
 note_of add (kind.Spent lemmas goal log) = note.Spent lemmas goal log
 
 -- the cut whose adder is used
-abbrev pub cut_in : Rewritten → Option Cut
+abbrev pub cut_in : Rewriting → Option Cut
 cut_in (kind.Used cut extended log) = Some cut
 cut_in kind.None = None
 cut_in (kind.Differs x) = None

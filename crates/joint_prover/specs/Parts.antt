@@ -16,11 +16,11 @@ use Rattle.pac_writer.specs.Writing.{Made}
 use Rattle.ripple_graft.specs.HeaderBlocks.{cut_blocks}
 use Rattle.ripple_graft.specs.declared.cut.Cut.{Cut}
 use Rattle.drup_text.specs.declared.head.Header.{Header}
-use Rattle.stage_rewriter.specs.Rewriting.{IsShown}
+use Rattle.stage_rewriter.specs.Rewriting.{IsShownRewriting}
 use Rattle.joint_checker.specs.ClauseFiles.{premises}
 use Rattle.joint_checker.specs.Files.{Files}
 use Rattle.joint_prover.specs.declared.job.Job.{Job}
-use Rattle.joint_prover.specs.declared.rewriting.Rewriting.{Rewriting}
+use Rattle.joint_prover.specs.declared.note.Note.{Note}
 use Rattle.joint_prover.specs.declared.task.Task.{Task}
 use Rattle.joint_prover.specs.declared.verdict.Tried.{Tried}
 use Rattle.joint_prover.specs.declared.verdict.Verdict.{Verdict}
@@ -70,8 +70,8 @@ IsToldWrong g claim _ = ⊥
 abbrev pub cut_named : Clauses → Option Cut
 cut_named c = option_map (λ cut. cut.now) c.cut
 
-abbrev pub header_of : Aig → Clauses → Header
-header_of g c = record { version = c.version; blocks = cut_blocks (length g.outputs) (cut_named c) }
+abbrev pub clauses_header : Aig → Clauses → Header
+clauses_header g c = record { version = c.version; blocks = cut_blocks (length g.outputs) (cut_named c) }
 
 -- the verdict at the end of a plan over the graph with this cut, or without one
 abbrev pub IsToldOver : Aig → Task → Option Cut → Files → View → View → Verdict → Type 0
@@ -127,9 +127,9 @@ MayTell g task used files before after (Some v) = IsOfGraph g task used files be
 MayTell g task used files before after None = after ≡ before
 
 -- what comes of the plans before those over the graph alone, with this cut in use or none: a verdict, or what was tried
-abbrev pub IsFirst : Aig → Task → Option Cut → Files → View → View → First → Type 0
-IsFirst g task used files before after (first.Told v) = IsOfGraph g task used files before after v
-IsFirst g task used files before after (first.Left tried) = AreTriedBefore g task.claim task.budget used tried.items × (after ≡ before)
+abbrev pub IsOfFirstPlans : Aig → Task → Option Cut → Files → View → View → First → Type 0
+IsOfFirstPlans g task used files before after (first.Told v) = IsOfGraph g task used files before after v
+IsOfFirstPlans g task used files before after (first.Left tried) = AreTriedBefore g task.claim task.budget used tried.items × (after ≡ before)
 
 -- a verdict over the graph with a cut that was found, with that cut
 pub record IsToldFound (g : Aig) (task : Task) (files : Files) (before after : View) (told : Verdict × Cut) : Type 0 where
@@ -143,11 +143,11 @@ MayTellFound g task files before after None = after ≡ before
 
 -- a cut that was found, with the adder there and lines that show its outputs
 pub record IsShownCut (g : Aig) (conflicts : ℕ) (s : Shown) : Type 0 where
-  pub shown : IsShown g conflicts s.cut s.extended s.log.lines
+  pub shown : IsShownRewriting g conflicts s.cut s.extended s.log.lines
   pub agree : Always s.extended.gates (AgreeOnColumns s.extended)
 
 -- the note is told with each verdict but a stop
-abbrev pub note_with : Verdict → Rewriting → Option Rewriting
+abbrev pub note_with : Verdict → Note → Option Note
 note_with Proved n = Some n
 note_with (Wrong a b value product) n = Some n
 note_with (WrongSum a b c value sum) n = Some n
@@ -155,7 +155,7 @@ note_with (Undecided tried step size) n = Some n
 note_with (Stopped why) n = None
 
 -- a verdict on a graph with the note; or there is no memory
-abbrev pub IsJudged : Aig → Task → Files → View → View → Verdict → Option Rewriting → Type 0
-IsJudged g task files before after verdict noted =
-    ((n : Rewriting) × IsNote g task.claim task.conflicts n × IsOfGraph g task (cut_of n) files before after verdict × (noted ≡ note_with verdict n)) ⊎
+abbrev pub IsNotedVerdict : Aig → Task → Files → View → View → Verdict → Option Note → Type 0
+IsNotedVerdict g task files before after verdict noted =
+    ((n : Note) × IsNote g task.claim task.conflicts n × IsOfGraph g task (cut_of n) files before after verdict × (noted ≡ note_with verdict n)) ⊎
     ((verdict ≡ Stopped stop.Memory) × (noted ≡ None) × (after ≡ before))

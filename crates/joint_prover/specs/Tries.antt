@@ -17,7 +17,7 @@ use Rattle.ripple_graft.specs.HeaderBlocks.{cut_blocks}
 use Rattle.ripple_graft.specs.declared.cut.Cut.{Cut}
 use Rattle.slice_planner.specs.ColumnPlans.{IsColumnPlan}
 use Rattle.slice_planner.specs.Slices.{IsSlicePlan}
-use Rattle.column_reducer.specs.Reducing.{IsWithin, planned}
+use Rattle.column_reducer.specs.Reducing.{KeepsBudget, planned}
 use Rattle.joint_prover.specs.declared.verdict.Tried.{Tried}
 
 -- The columns and gates are those that the first steps of a slice plan take.
@@ -60,20 +60,20 @@ IsWithinBudget g claim budget = (t n : ℕ) → HasPlainSize (without_cut g) (si
 pub record EndsWithin (e : Extended) (s : Sides) (budget : ℕ) : Type 0 where
   pub steps : List Step
   pub columns : IsColumnPlan e steps
-  pub within : IsWithin (planned e steps 0) s budget
+  pub within : KeepsBudget (planned e steps 0) s budget
 
 -- And it is over this graph.
 abbrev pub EndsWithCut : Aig → Claim → ℕ → Option Cut → Type 0
 EndsWithCut g claim budget cut = EndsWithin (extended_by g cut) (sides_for claim g) budget
 
 -- Where a cut is in use, the plan over the graph with it has passed the budget.
-abbrev pub HasPassed : Aig → Claim → ℕ → Option Cut → Type 0
-HasPassed g claim budget used = (cut : Cut) → used ≡ Some cut → (tried : Tried) × IsTried g claim budget (Some cut) tried
+abbrev pub HasPassedBudget : Aig → Claim → ℕ → Option Cut → Type 0
+HasPassedBudget g claim budget used = (cut : Cut) → used ≡ Some cut → (tried : Tried) × IsTried g claim budget (Some cut) tried
 
 -- The plan that ended kept to the budget. It is over the graph with the cut in use; or over the graph alone, and a plan with a cut came
 -- before it; or it is the plain one, and the slice plans came before it.
 abbrev pub EndsOver : Aig → Claim → ℕ → Option Cut → Option Cut → Type 0
 EndsOver g claim budget used (Some cut) = (used ≡ Some cut) × EndsWithCut g claim budget (Some cut)
 EndsOver g claim budget used None =
-    (HasPassed g claim budget used × EndsWithCut g claim budget None) ⊎
+    (HasPassedBudget g claim budget used × EndsWithCut g claim budget None) ⊎
     (((tried : List Tried) × AreTried g claim budget used tried) × IsWithinBudget g claim budget)

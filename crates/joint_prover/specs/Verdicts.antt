@@ -1,5 +1,5 @@
 -- What `verify` says of a graph file, and where each verdict comes.
-use Rattle.std.specs.Prelude.{◌≡◌, ◌≢◌, ◌⊎◌, ℕ, ◌+◌, ◌*◌, ◌%◌, ◌<◌, ◌≤◌, Bool, true, false, List, ◌++◌, length, IsSome, IsSomeAnd, ⊤}
+use Rattle.std.specs.Prelude.{◌≡◌, ◌≢◌, ◌⊎◌, ℕ, ◌+◌, ◌*◌, ◌%◌, ◌<◌, ◌≤◌, Bool, true, false, List, ◌++◌, length, IsSomeAnd, ⊤}
 use Rattle.std.specs.declared.option.Option.{Option}
 use Rattle.std.specs.declared.option.Option.TheVariants.{None, Some}
 use Rattle.aiger_reader.specs.Refusals.{SpellsWithin}
@@ -11,13 +11,12 @@ use Rattle.graph_core.specs.Graph.{Aig}
 use Rattle.graph_core.specs.Graph.Extended.{without_cut}
 use Rattle.graph_core.specs.Graph.Operands.{Does, bits_of, inputs_of, output_modulus, product_as, profile_of, sides_for, sum_on, sum_width, value_on, width}
 use Rattle.graph_core.specs.declared.claim.Claim.{Claim}
-use Rattle.mv_desk.specs.View.{View, Rose, bytes_under}
-use Rattle.mv_desk.specs.declared.slot.Slot.{Slot}
+use Rattle.mv_desk.specs.View.{View, Rose, bytes_under, IsTold}
 use Rattle.mv_desk.specs.declared.slot.Slot.TheVariants as slot
 use Rattle.ripple_graft.specs.declared.cut.Cut.{Cut}
 use Rattle.joint_checker.specs.Certificates.{IsPair}
 use Rattle.joint_checker.specs.Files.{Files, HasGraph}
-use Rattle.joint_prover.specs.declared.rewriting.Rewriting.{Rewriting}
+use Rattle.joint_prover.specs.declared.note.Note.{Note}
 use Rattle.joint_prover.specs.declared.task.Task.{Task}
 use Rattle.joint_prover.specs.declared.verdict.Verdict.{Verdict}
 use Rattle.joint_prover.specs.declared.verdict.Verdict.TheVariants.{Proved, Wrong, WrongSum, Undecided, Stopped}
@@ -30,7 +29,7 @@ use Rattle.joint_checker.specs.Written.{ReadsGraph, StopsWriting, WritesPair}
 
 -- The files that a desk holds: a graph that does what is claimed, a pair of certificates for it, which is the pair that is written with
 -- the cut of this note, and the note's cause.
-pub record HoldsPair (task : Task) (files : Files) (view : View) (limit : ℕ) (noted : Option Rewriting) : Type 0 where
+pub record HoldsPair (task : Task) (files : Files) (view : View) (limit : ℕ) (noted : Option Note) : Type 0 where
   pub graph_file : List ℕ
   pub clause_file : List ℕ
   pub algebra_file : List ℕ
@@ -79,7 +78,7 @@ pub record IsWrongSum (g : Aig) (claim : Claim) (a b c value sum : ℕ) : Type 0
   pub sum_is : sum ≡ (product_as claim.sign (output_modulus g) (sum_width g) a b + c) % output_modulus g
 
 -- There is a note, which has its cause, and something holds of the cut that it has in use.
-abbrev pub HasNote : Aig → Task → Option Rewriting → (Option Cut → Type 0) → Type 0
+abbrev pub HasNote : Aig → Task → Option Note → (Option Cut → Type 0) → Type 0
 HasNote g task noted P = IsSomeAnd noted (λ n. IsNote g task.claim task.conflicts n × P (cut_of n))
 
 -- Something holds of the graph, as far as the file is told.
@@ -88,7 +87,7 @@ IsOfFile limit task files before P = HasGraph (profile_of task.claim.add) limit 
 
 -- Where each verdict comes, and what was done to the files. With each but the first and a write fault nothing was created. There is a
 -- note with each but a stop.
-abbrev pub IsVerdict : ℕ → Task → Files → View → View → Verdict → Option Rewriting → Type 0
+abbrev pub IsVerdict : ℕ → Task → Files → View → View → Verdict → Option Note → Type 0
 IsVerdict limit task files before after Proved noted =
     IsOfFile limit task files before (λ g. Does task.claim g × HasNote g task noted (λ used.
     (read : View) × ReadsGraph before read ×
@@ -106,7 +105,7 @@ IsVerdict limit task files before after (Undecided tried step size) noted =
 IsVerdict limit task files before after (Stopped stop.WriteFault) noted =
     Rose before.write_faults after.write_faults ×
     IsOfFile limit task files before (λ g. Does task.claim g ×
-    ((n : Rewriting) × IsNote g task.claim task.conflicts n × (read : View) × ReadsGraph before read ×
+    ((n : Note) × IsNote g task.claim task.conflicts n × (read : View) × ReadsGraph before read ×
     StopsWriting files (AreClausesFor g task (cut_of n)) (IsPairFor g task (cut_of n)) read after)) × (noted ≡ None)
 IsVerdict limit task files before after (Stopped why) noted =
     IsStop (IsGraphStop slot.Graph (profile_of task.claim.add) limit (bytes_under before files.graph)) before after why ×
@@ -115,20 +114,15 @@ IsVerdict limit task files before after (Stopped why) noted =
 -- ---- what users rest on
 
 -- no two of the names are equal
-pub record AreApart (files : Files) : Type 0 where
+pub record AreDistinctFiles (files : Files) : Type 0 where
   pub clauses : files.graph ≢ files.clauses
   pub algebra : files.graph ≢ files.algebra
   pub certificates : files.clauses ≢ files.algebra
 
--- which bytes are held under each name, and under which name each slot is open
-pub record IsTold (view : View) : Type 0 where
-  pub held : (name : List ℕ) → IsSome (view.held name)
-  pub names : (slot : Slot) → IsSome (view.name slot)
-
 -- With `Proved` the desk holds the pair, where it tells its files and no two names are equal.
 abbrev pub ProvedPairsAreHeld : Type 0
-ProvedPairsAreHeld = (limit : ℕ) (task : Task) (files : Files) (before after : View) (noted : Option Rewriting) →
-    IsTold before → AreApart files →
+ProvedPairsAreHeld = (limit : ℕ) (task : Task) (files : Files) (before after : View) (noted : Option Note) →
+    IsTold before → AreDistinctFiles files →
     IsVerdict limit task files before after Proved noted → HoldsPair task files after limit noted
 
 -- The verdict that is due to a graph file where no frontier of the plain order is above the budget, where the least difference has few
@@ -149,6 +143,6 @@ IsVerdictDue limit task file _ = ⊥
 -- It is given; or in its place a fault, which was counted, or want of memory.
 abbrev pub VerdictsAreExact : Type 0
 VerdictsAreExact = (limit : ℕ) (task : Task) (files : Files) (before after : View) (file : List ℕ)
-    (due given : Verdict) (noted : Option Rewriting) →
+    (due given : Verdict) (noted : Option Note) →
     bytes_under before files.graph ≡ Some file → IsVerdictDue limit task file due →
     IsVerdict limit task files before after given noted → GivesDue Stopped before after due given

@@ -3,17 +3,17 @@ ghost use Rattle.std.specs.Prelude.{◌≡◌, ◌≤◌, IfOk, None, OnErr, Som
 ghost use Rattle.graph_core.specs.Algebra.{AgreeOnColumns};
 ghost use Rattle.mv_desk.specs.View.{KeepsTelling};
 ghost use Rattle.mv_fact.specs.Always.{Always};
-ghost use Rattle.stage_rewriter.specs.Rewriting.{IsShown};
+ghost use Rattle.stage_rewriter.specs.Rewriting.{IsShownRewriting};
 ghost use Rattle.joint_checker.specs.Files.{files_of};
 ghost use Rattle.joint_prover.specs.Parts.{IsAttempt, IsJob, MayTellOver, task_of, verdict_in};
 
 use crate::clauses::Clauses;
-use crate::conclusion::{new_lines, told};
+use crate::conclusion::{conclude, start_lines};
 use crate::ending::Sliced;
 use crate::job::Job;
-use crate::reduction::{Layers, reduced_by_layers, reduced_by_slices};
+use crate::reduction::{Layers, reduce_by_layers, reduce_by_slices};
 use crate::verdict::{Tried, Verdict};
-use cdcl_core::Log;
+use cdcl_solver::Log;
 use graph_core::Memory;
 use mv_desk::Desk;
 use ripple_graft::{Cut, Extended};
@@ -40,7 +40,7 @@ impl Attempt {
 }
 
 /// The slice plan with this budget over the graph with the adder of a cut that is shown.
-pub(crate) fn over_cut<D: Desk>(
+pub(crate) fn try_over_cut<D: Desk>(
     alloc: Global,
     desk: &mut D,
     budget: u64,
@@ -51,7 +51,7 @@ pub(crate) fn over_cut<D: Desk>(
 ) -> Result<Attempt, Memory>
     requires job { IsJob job.now }
     requires within { budget ≤ job.now.budget }
-    requires shown { IsShown job.now.graph.now job.now.conflicts cut.now extended.now log.now.lines }
+    requires shown { IsShownRewriting job.now.graph.now job.now.conflicts cut.now extended.now log.now.lines }
     requires agree { Always extended.now.gates (AgreeOnColumns extended.now) }
     ensures over { IfOk result (IsAttempt job.now.graph.now (task_of job.now) budget
         (Some cut.now) (files_of job.now.names.now) (D.seen desk.old) (D.seen desk.new)) }
@@ -60,11 +60,11 @@ pub(crate) fn over_cut<D: Desk>(
     ensures later { (D.seen desk.old).write_faults ≤ (D.seen desk.new).write_faults }
     ensures tells { KeepsTelling (D.seen desk.old) (D.seen desk.new) }
 {
-    let mut lines = new_lines(alloc, extended, job.operands)?;
-    match reduced_by_slices(alloc, budget, true, &mut lines)? {
+    let mut lines = start_lines(alloc, extended, job.operands)?;
+    match reduce_by_slices(alloc, budget, true, &mut lines)? {
         Sliced::Ended(ending) => {
             let clauses = Clauses::with_cut(job.version, cut, log);
-            let verdict = told(alloc, desk, ending, &lines, clauses, job.names)?;
+            let verdict = conclude(alloc, desk, ending, &lines, clauses, job.names)?;
             Ok(Attempt::Told(verdict))
         }
         Sliced::Passed(tried) => Ok(Attempt::Passed(tried)),
@@ -72,7 +72,7 @@ pub(crate) fn over_cut<D: Desk>(
 }
 
 /// A plan by layers with this budget over the graph with the adder of a cut that is shown: a verdict, if it keeps to it.
-pub(crate) fn by_layers<D: Desk>(
+pub(crate) fn try_layers<D: Desk>(
     alloc: Global,
     desk: &mut D,
     budget: u64,
@@ -84,7 +84,7 @@ pub(crate) fn by_layers<D: Desk>(
 ) -> Result<Option<Verdict>, Memory>
     requires job { IsJob job.now }
     requires within { budget ≤ job.now.budget }
-    requires shown { IsShown job.now.graph.now job.now.conflicts cut.now extended.now log.now.lines }
+    requires shown { IsShownRewriting job.now.graph.now job.now.conflicts cut.now extended.now log.now.lines }
     requires agree { Always extended.now.gates (AgreeOnColumns extended.now) }
     ensures told { IfOk result (MayTellOver job.now.graph.now (task_of job.now)
         (Some cut.now) (files_of job.now.names.now) (D.seen desk.old) (D.seen desk.new)) }
@@ -93,11 +93,11 @@ pub(crate) fn by_layers<D: Desk>(
     ensures later { (D.seen desk.old).write_faults ≤ (D.seen desk.new).write_faults }
     ensures tells { KeepsTelling (D.seen desk.old) (D.seen desk.new) }
 {
-    let mut lines = new_lines(alloc, extended, job.operands)?;
-    match reduced_by_layers(alloc, budget, layers, &mut lines)? {
+    let mut lines = start_lines(alloc, extended, job.operands)?;
+    match reduce_by_layers(alloc, budget, layers, &mut lines)? {
         Some(ending) => {
             let clauses = Clauses::with_cut(job.version, cut, log);
-            let verdict = told(alloc, desk, ending, &lines, clauses, job.names)?;
+            let verdict = conclude(alloc, desk, ending, &lines, clauses, job.names)?;
             Ok(Some(verdict))
         }
         None => Ok(None),
@@ -105,7 +105,7 @@ pub(crate) fn by_layers<D: Desk>(
 }
 
 /// The slice plan with this budget over the graph alone.
-pub(crate) fn over_alone<D: Desk>(
+pub(crate) fn try_alone<D: Desk>(
     alloc: Global,
     desk: &mut D,
     budget: u64,
@@ -121,11 +121,11 @@ pub(crate) fn over_alone<D: Desk>(
     ensures tells { KeepsTelling (D.seen desk.old) (D.seen desk.new) }
 {
     let extended = Extended::without_cut(job.graph);
-    let mut lines = new_lines(alloc, &extended, job.operands)?;
-    match reduced_by_slices(alloc, budget, false, &mut lines)? {
+    let mut lines = start_lines(alloc, &extended, job.operands)?;
+    match reduce_by_slices(alloc, budget, false, &mut lines)? {
         Sliced::Ended(ending) => {
             let clauses = Clauses::without_cut(job.version);
-            let verdict = told(alloc, desk, ending, &lines, clauses, job.names)?;
+            let verdict = conclude(alloc, desk, ending, &lines, clauses, job.names)?;
             Ok(Attempt::Told(verdict))
         }
         Sliced::Passed(tried) => Ok(Attempt::Passed(tried)),

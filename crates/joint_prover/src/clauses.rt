@@ -2,10 +2,10 @@
 ghost use Rattle.std.specs.Prelude.{◌≡◌, All, IfOk, None, Some, [], length};
 ghost use Rattle.clause_core.specs.Clause.{IsClause};
 ghost use Rattle.clause_core.specs.ClauseLines.{clause_in};
-ghost use Rattle.joint_prover.specs.Parts.{cut_named, header_of};
+ghost use Rattle.joint_prover.specs.Parts.{clauses_header, cut_named};
 ghost use Rattle.ripple_graft.specs.Blocks.{block_of};
 
-use cdcl_core::Log;
+use cdcl_solver::Log;
 use clause_core::Line;
 use drup_text::Header;
 use graph_core::{Graph, Memory};
@@ -72,7 +72,7 @@ fn is_clause(line: &Line)
 
 /// The header that names the cut as a block of the graph.
 pub(crate) fn header(alloc: Global, graph: &Graph, clauses: &Clauses<'_>) -> Result<Header, Memory>
-    ensures { IfOk result (λ h. h ≡ header_of graph.now clauses.now) }
+    ensures { IfOk result (λ h. h ≡ clauses_header graph.now clauses.now) }
 {
     let mut blocks = Vec::new(alloc);
     if let Some(cut) = clauses.cut {

@@ -11,14 +11,14 @@ ghost use Rattle.ripple_graft.specs.Extension.{IsExtension};
 ghost use Rattle.joint_checker.specs.Files.{files_of};
 ghost use Rattle.joint_prover.specs.Endings.{AreLeast, IsEnded};
 ghost use Rattle.joint_prover.specs.Pairs.{AreClausesOver};
-ghost use Rattle.joint_prover.specs.Parts.{IsToldOver, IsToldWrong, cut_named, header_of};
+ghost use Rattle.joint_prover.specs.Parts.{IsToldOver, IsToldWrong, clauses_header, cut_named};
 ghost use Rattle.joint_prover.specs.Tries.{extended_by};
 ghost use Rattle.joint_prover.specs.declared.task.Task.{Task};
 
 use crate::clauses::{Clauses, header};
 use crate::ending::Ending;
 use crate::verdict::Verdict;
-use crate::writing::written;
+use crate::writing::write_certificates;
 use graph_core::{Graph, Memory, Numbers, Operands};
 use mv_desk::{Desk, Names};
 use operand_search::claimed_value;
@@ -27,7 +27,7 @@ use ripple_graft::Extended;
 use std::alloc::Global;
 
 /// No line, over an extended graph whose faults are none.
-pub(crate) fn new_lines<'a>(
+pub(crate) fn start_lines<'a>(
     alloc: Global,
     extended: &'a Extended<'a>,
     operands: &'a Operands,
@@ -41,7 +41,7 @@ pub(crate) fn new_lines<'a>(
 }
 
 /// The verdict at the end of a plan: lines that are closed are written beside the clause certificate that is given.
-pub(crate) fn told<D: Desk>(
+pub(crate) fn conclude<D: Desk>(
     alloc: Global,
     desk: &mut D,
     ending: Ending,
@@ -56,7 +56,7 @@ pub(crate) fn told<D: Desk>(
         task.version ≡ clauses.entry.version →
         e ≡ extended_by e.graph (cut_named clauses.entry) →
         AreClausesOver e.graph task (cut_named clauses.entry)
-        (any_file_text (header_of e.graph clauses.entry) clauses.entry.log.now) →
+        (any_file_text (clauses_header e.graph clauses.entry) clauses.entry.log.now) →
         IsToldOver e.graph task (cut_named clauses.entry) (files_of names.now)
         (D.seen desk.old) (D.seen desk.new) v) }
     ensures memory { OnErr result (D.seen desk.new ≡ D.seen desk.old) }
@@ -68,14 +68,14 @@ pub(crate) fn told<D: Desk>(
     match ending {
         Ending::Closed => {
             let header = header(alloc, graph, &clauses)?;
-            Ok(written(desk, lines, &header, clauses.log, names))
+            Ok(write_certificates(desk, lines, &header, clauses.log, names))
         }
-        Ending::Differs(numbers) => wrong(alloc, graph, lines.operands(), numbers),
+        Ending::Differs(numbers) => tell_wrong(alloc, graph, lines.operands(), numbers),
     }
 }
 
 /// The verdict on a graph that differs at these numbers and at none before them.
-pub(crate) fn wrong(
+pub(crate) fn tell_wrong(
     alloc: Global,
     graph: &Graph,
     operands: &Operands,
@@ -87,14 +87,14 @@ pub(crate) fn wrong(
     ensures { IfOk result (IsToldWrong graph.now operands.now.claim) }
 {
     if operands.claim().add {
-        wrong_sum(alloc, graph, operands, numbers)
+        tell_wrong_sum(alloc, graph, operands, numbers)
     } else {
-        wrong_product(alloc, graph, operands, numbers)
+        tell_wrong_product(alloc, graph, operands, numbers)
     }
 }
 
 // With its value there and the product.
-fn wrong_product(
+fn tell_wrong_product(
     alloc: Global,
     graph: &Graph,
     operands: &Operands,
@@ -118,7 +118,7 @@ fn wrong_product(
 }
 
 // With its value there and the product plus the addend.
-fn wrong_sum(
+fn tell_wrong_sum(
     alloc: Global,
     graph: &Graph,
     operands: &Operands,

@@ -5,7 +5,7 @@ ghost use Rattle.graph_core.specs.Graph.Operands.{AreOperandsOf, profile_of};
 ghost use Rattle.joint_prover.specs.Parts.{IsToldWrong};
 ghost use Rattle.joint_prover.specs.Verdicts.{HaveManyOnes};
 
-use crate::conclusion::wrong;
+use crate::conclusion::tell_wrong;
 use crate::verdict::Verdict;
 use graph_core::{Graph, Memory, Operands};
 use operand_search::{least_seen, least_within, most_ones_within};
@@ -17,7 +17,7 @@ pub(crate) const SOON: u64 = 1 << 24;
 pub(crate) const LATE: u64 = 1 << 29;
 
 /// The verdict on a graph that some fixed values of its inputs show to be wrong, if values with few ones do too.
-pub(crate) fn seen_wrong(
+pub(crate) fn find_seen_wrong(
     alloc: Global,
     graph: &Graph,
     operands: &Operands,
@@ -29,7 +29,7 @@ pub(crate) fn seen_wrong(
     let most = most_ones_within(graph, LATE);
     match least_seen(alloc, graph, operands, most)? {
         Some(numbers) => {
-            let verdict = wrong(alloc, graph, operands, numbers)?;
+            let verdict = tell_wrong(alloc, graph, operands, numbers)?;
             Ok(Some(verdict))
         }
         None => Ok(None),
@@ -38,7 +38,7 @@ pub(crate) fn seen_wrong(
 
 /// The verdict on a graph that is wrong on values of its inputs with at most two ones, or with as many more as some work
 /// is enough for.
-pub(crate) fn wrong_on_few(
+pub(crate) fn find_wrong_on_few(
     alloc: Global,
     graph: &Graph,
     operands: &Operands,
@@ -52,7 +52,7 @@ pub(crate) fn wrong_on_few(
     let most = most_ones_within(graph, work);
     match least_within(alloc, graph, operands, most)? {
         Some(numbers) => {
-            let verdict = wrong(alloc, graph, operands, numbers)?;
+            let verdict = tell_wrong(alloc, graph, operands, numbers)?;
             Ok(Some(verdict))
         }
         None => Ok(None),

@@ -5,16 +5,16 @@ ghost use Rattle.mv_desk.specs.View.{KeepsTelling};
 ghost use Rattle.joint_checker.specs.Files.{files_of};
 ghost use Rattle.joint_prover.specs.Parts.{IsJob, IsShownCut, MayTellFound, MayTellOver, task_of};
 
-use crate::attempts::{by_layers, over_cut};
+use crate::attempts::{try_layers, try_over_cut};
 use crate::job::Job;
 use crate::reduction::Layers;
 use crate::verdict::Verdict;
-use cdcl_core::Log;
+use cdcl_solver::Log;
 use graph_core::{Graph, Memory, Operands};
 use mv_desk::Desk;
 use ripple_graft::{Cut, Extended};
 use stage_guesser::candidate;
-use stage_rewriter::{Rewritten, rewrite_at};
+use stage_rewriter::{Rewriting, rewrite_at};
 use std::alloc::Global;
 
 // How many cuts are looked at.
@@ -27,7 +27,7 @@ const BY_COLUMN: u64 = 2;
 const AT_END: u64 = 16;
 
 /// The verdict over the graph with the adder of a cut that is found and shown, with that cut.
-pub(crate) fn over_found<D: Desk>(
+pub(crate) fn try_found<D: Desk>(
     alloc: Global,
     desk: &mut D,
     job: &Job<'_>,
@@ -40,10 +40,10 @@ pub(crate) fn over_found<D: Desk>(
     ensures later { (D.seen desk.old).write_faults ≤ (D.seen desk.new).write_faults }
     ensures tells { KeepsTelling (D.seen desk.old) (D.seen desk.new) }
 {
-    let Some(shown) = found(alloc, job.graph, job.operands, job.conflicts)? else {
+    let Some(shown) = find_cut(alloc, job.graph, job.operands, job.conflicts)? else {
         return Ok(None);
     };
-    match over_shown(alloc, desk, job, &shown)? {
+    match try_shown(alloc, desk, job, &shown)? {
         Some(verdict) => {
             let Shown { cut, .. } = shown;
             Ok(Some((verdict, cut)))
@@ -63,7 +63,7 @@ pub(crate) fn small_budget(job: &Job<'_>) -> u64
 
 // The plans over the graph with that adder: the slice plan with a small budget, those by layers with some more, and then
 // the slice plan with the whole one.
-fn over_shown<D: Desk>(
+fn try_shown<D: Desk>(
     alloc: Global,
     desk: &mut D,
     job: &Job<'_>,
@@ -78,17 +78,17 @@ fn over_shown<D: Desk>(
     ensures later { (D.seen desk.old).write_faults ≤ (D.seen desk.new).write_faults }
     ensures tells { KeepsTelling (D.seen desk.old) (D.seen desk.new) }
 {
-    if let Some(verdict) = by_slices(alloc, desk, small_budget(job), job, shown)? {
+    if let Some(verdict) = try_slices(alloc, desk, small_budget(job), job, shown)? {
         return Ok(Some(verdict));
     }
-    if let Some(verdict) = in_layers(alloc, desk, job, shown)? {
+    if let Some(verdict) = try_all_layers(alloc, desk, job, shown)? {
         return Ok(Some(verdict));
     }
-    by_slices(alloc, desk, job.budget, job, shown)
+    try_slices(alloc, desk, job.budget, job, shown)
 }
 
 // The plans by layers over it, with some more than the small budget.
-fn in_layers<D: Desk>(
+fn try_all_layers<D: Desk>(
     alloc: Global,
     desk: &mut D,
     job: &Job<'_>,
@@ -107,16 +107,16 @@ fn in_layers<D: Desk>(
     let least = small_budget(job);
     let layers = Layers::ByColumn;
     let more = job.budget.min(least.saturating_mul(BY_COLUMN));
-    if let Some(verdict) = by_layers(alloc, desk, more, layers, job, cut, extended, log)? {
+    if let Some(verdict) = try_layers(alloc, desk, more, layers, job, cut, extended, log)? {
         return Ok(Some(verdict));
     }
     let layers = Layers::AtEnd;
     let more = job.budget.min(least.saturating_mul(AT_END));
-    by_layers(alloc, desk, more, layers, job, cut, extended, log)
+    try_layers(alloc, desk, more, layers, job, cut, extended, log)
 }
 
 // The slice plan over it.
-fn by_slices<D: Desk>(
+fn try_slices<D: Desk>(
     alloc: Global,
     desk: &mut D,
     budget: u64,
@@ -134,7 +134,7 @@ fn by_slices<D: Desk>(
     ensures tells { KeepsTelling (D.seen desk.old) (D.seen desk.new) }
 {
     let Shown { cut, extended, log } = shown;
-    let attempt = over_cut(alloc, desk, budget, job, cut, extended, log)?;
+    let attempt = try_over_cut(alloc, desk, budget, job, cut, extended, log)?;
     Ok(attempt.verdict())
 }
 
@@ -148,7 +148,7 @@ pub(crate) struct Shown<'a> {
 
 // A cut that is found and shown, within so many conflicts. Numbers at which one differs are held against the next, which
 // may have half as many conflicts.
-fn found<'a>(
+fn find_cut<'a>(
     alloc: Global,
     graph: &'a Graph,
     operands: &Operands,
@@ -165,10 +165,10 @@ fn found<'a>(
             return Ok(None);
         };
         match rewrite_at(alloc, graph, operands, left, cut)? {
-            Rewritten::Used { cut, extended, log } => {
+            Rewriting::Used { cut, extended, log } => {
                 return Ok(Some(Shown { cut, extended, log }));
             }
-            Rewritten::Differs(numbers) => given.push(numbers)?,
+            Rewriting::Differs(numbers) => given.push(numbers)?,
             _ => return Ok(None),
         }
         left /= 2;

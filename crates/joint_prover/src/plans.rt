@@ -7,22 +7,22 @@ ghost use Rattle.ripple_graft.specs.declared.cut.Cut.{Cut as CutAt};
 ghost use Rattle.stage_rewriter.specs.Rewriting.{Agrees, IsRewriting};
 ghost use Rattle.joint_checker.specs.Files.{files_of};
 ghost use Rattle.joint_prover.specs.Notes.{cut_in};
-ghost use Rattle.joint_prover.specs.Parts.{AreTriedBefore, IsFirst, IsJob, IsOfGraph, task_of};
+ghost use Rattle.joint_prover.specs.Parts.{AreTriedBefore, IsJob, IsOfFirstPlans, IsOfGraph, task_of};
 ghost use Rattle.joint_prover.specs.Tries.{AreTried};
 ghost use Rattle.joint_prover.specs.Verdicts.{HaveManyOnes};
 
-use crate::attempts::{Attempt, over_alone, over_cut};
+use crate::attempts::{Attempt, try_alone, try_over_cut};
 use crate::clauses::Clauses;
-use crate::conclusion::{new_lines, told};
+use crate::conclusion::{conclude, start_lines};
 use crate::ending::Plain;
-use crate::few_ones::{LATE, wrong_on_few};
+use crate::few_ones::{LATE, find_wrong_on_few};
 use crate::job::Job;
-use crate::reduction::reduced_plainly;
+use crate::reduction::reduce_plainly;
 use crate::verdict::{Tried, Verdict};
 use graph_core::Memory;
 use mv_desk::Desk;
 use ripple_graft::Extended;
-use stage_rewriter::Rewritten;
+use stage_rewriter::Rewriting;
 use std::alloc::Global;
 
 // What comes of the plans before those over the graph alone.
@@ -34,11 +34,11 @@ enum First {
 }
 
 /// The verdict by the plans, where values of the inputs with few ones don't show that the graph is wrong.
-pub(crate) fn with_whole_budget<D: Desk>(
+pub(crate) fn try_whole_budget<D: Desk>(
     alloc: Global,
     desk: &mut D,
     job: &Job<'_>,
-    rewritten: &Rewritten<'_>,
+    rewritten: &Rewriting<'_>,
 ) -> Result<Verdict, Memory>
     requires job { IsJob job.now }
     requires well_formed { IsWellFormed job.now.graph.now }
@@ -51,27 +51,27 @@ pub(crate) fn with_whole_budget<D: Desk>(
     ensures later { (D.seen desk.old).write_faults ≤ (D.seen desk.new).write_faults }
     ensures tells { KeepsTelling (D.seen desk.old) (D.seen desk.new) }
 {
-    if let Some(verdict) = wrong_on_few(alloc, job.graph, job.operands, LATE)? {
+    if let Some(verdict) = find_wrong_on_few(alloc, job.graph, job.operands, LATE)? {
         return Ok(verdict);
     }
-    match over_rewritten(alloc, desk, job, rewritten)? {
+    match try_with_adder(alloc, desk, job, rewritten)? {
         First::Told(verdict) => Ok(verdict),
-        First::Left(tried) => over_graph(alloc, desk, job, tried),
+        First::Left(tried) => try_without_adder(alloc, desk, job, tried),
     }
 }
 
 // Where an adder is used, the slice plan over the graph with it.
-fn over_rewritten<D: Desk>(
+fn try_with_adder<D: Desk>(
     alloc: Global,
     desk: &mut D,
     job: &Job<'_>,
-    rewritten: &Rewritten<'_>,
+    rewritten: &Rewriting<'_>,
 ) -> Result<First, Memory>
     requires job { IsJob job.now }
     requires well_formed { IsWellFormed job.now.graph.now }
     requires rewriting { IsRewriting job.now.graph.now job.now.operands.now job.now.conflicts rewritten.now }
     requires agrees { Agrees rewritten.now }
-    ensures first { IfOk result (IsFirst job.now.graph.now (task_of job.now) (cut_in rewritten.now)
+    ensures first { IfOk result (IsOfFirstPlans job.now.graph.now (task_of job.now) (cut_in rewritten.now)
         (files_of job.now.names.now) (D.seen desk.old) (D.seen desk.new)) }
     ensures memory { OnErr result (D.seen desk.new ≡ D.seen desk.old) }
     ensures opened { (D.seen desk.new).opened ≡ (D.seen desk.old).opened }
@@ -79,8 +79,8 @@ fn over_rewritten<D: Desk>(
     ensures tells { KeepsTelling (D.seen desk.old) (D.seen desk.new) }
 {
     match rewritten {
-        Rewritten::Used { cut, extended, log } => {
-            match over_cut(alloc, desk, job.budget, job, cut, extended, log)? {
+        Rewriting::Used { cut, extended, log } => {
+            match try_over_cut(alloc, desk, job.budget, job, cut, extended, log)? {
                 Attempt::Told(verdict) => Ok(First::Told(verdict)),
                 Attempt::Passed(tried) => {
                     let tried = vec![in alloc; tried]?;
@@ -93,7 +93,7 @@ fn over_rewritten<D: Desk>(
 }
 
 // The slice plan over the graph alone, and then the plain one, where no difference has few ones.
-fn over_graph<D: Desk>(
+fn try_without_adder<D: Desk>(
     alloc: Global,
     desk: &mut D,
     job: &Job<'_>,
@@ -110,18 +110,18 @@ fn over_graph<D: Desk>(
     ensures later { (D.seen desk.old).write_faults ≤ (D.seen desk.new).write_faults }
     ensures tells { KeepsTelling (D.seen desk.old) (D.seen desk.new) }
 {
-    match over_alone(alloc, desk, job.budget, job)? {
+    match try_alone(alloc, desk, job.budget, job)? {
         Attempt::Told(verdict) => Ok(verdict),
         Attempt::Passed(last) => {
             let mut tried = tried;
             tried.push(last)?;
-            in_order(alloc, desk, job, tried)
+            try_plain(alloc, desk, job, tried)
         }
     }
 }
 
 // The plain plan.
-fn in_order<D: Desk>(
+fn try_plain<D: Desk>(
     alloc: Global,
     desk: &mut D,
     job: &Job<'_>,
@@ -139,11 +139,11 @@ fn in_order<D: Desk>(
     ensures tells { KeepsTelling (D.seen desk.old) (D.seen desk.new) }
 {
     let extended = Extended::without_cut(job.graph);
-    let mut lines = new_lines(alloc, &extended, job.operands)?;
-    match reduced_plainly(alloc, job.budget, &mut lines)? {
+    let mut lines = start_lines(alloc, &extended, job.operands)?;
+    match reduce_plainly(alloc, job.budget, &mut lines)? {
         Plain::Ended(ending) => {
             let clauses = Clauses::without_cut(job.version);
-            told(alloc, desk, ending, &lines, clauses, job.names)
+            conclude(alloc, desk, ending, &lines, clauses, job.names)
         }
         Plain::Passed { step, size } => Ok(Verdict::Undecided {
             tried,

@@ -9,21 +9,21 @@ ghost use Rattle.mv_desk.specs.View.{KeepsTelling, OpensFiles};
 ghost use Rattle.joint_prover.specs.Budgets.{ProvesEnough};
 ghost use Rattle.joint_prover.specs.Notes.{IsNote, cut_of};
 ghost use Rattle.joint_prover.specs.Pairs.{IsVersion};
-ghost use Rattle.joint_prover.specs.Parts.{IsJob, IsJudged, IsOfGraph, note_with, task_of};
+ghost use Rattle.joint_prover.specs.Parts.{IsJob, IsNotedVerdict, IsOfGraph, note_with, task_of};
 ghost use Rattle.joint_prover.specs.Verdicts.{IsVerdict};
 ghost use Rattle.joint_checker.specs.Written.{ReportStays};
 
-use crate::found::over_found;
+use crate::found::try_found;
 use crate::job::Job;
-use crate::plans::with_whole_budget;
-use crate::rewriting::{Rewriting, note};
-use crate::soon::told_soon;
+use crate::note::{Note, make_note};
+use crate::plans::try_whole_budget;
+use crate::soon::try_soon;
 use crate::task::Task;
 use crate::verdict::Verdict;
 use aiger_reader::{Stop, read_graph};
 use graph_core::{Graph, Memory, Operands};
 use mv_desk::{Desk, Limits, Names, Slot};
-use stage_rewriter::{Rewritten, rewrite};
+use stage_rewriter::{Rewriting, rewrite};
 use std::alloc::Global;
 
 /// The verdict on a graph file, and what became of a rewriting of its final stage, where the verdict is `Proved`,
@@ -34,7 +34,7 @@ pub fn verify<D: Desk>(
     task: &Task,
     limits: &Limits,
     names: &Names<'_>,
-) -> (Verdict, Option<Rewriting>)
+) -> (Verdict, Option<Note>)
     requires { IsVersion task.now.version }
     ensures verdict { IsVerdict limits.now.graph task.now (files_of names.now)
         (D.seen desk.old) (D.seen desk.new) result.0 result.1 }
@@ -61,10 +61,10 @@ fn judge<D: Desk>(
     task: &Task,
     graph: &Graph,
     names: &Names<'_>,
-) -> (Verdict, Option<Rewriting>)
+) -> (Verdict, Option<Note>)
     requires sized { IsSizedAs (profile_of task.now.claim.add) graph.now }
     requires version { IsVersion task.now.version }
-    ensures verdict { IsJudged graph.now task.now (files_of names.now)
+    ensures verdict { IsNotedVerdict graph.now task.now (files_of names.now)
         (D.seen desk.old) (D.seen desk.new) result.0 result.1 }
     ensures opened { (D.seen desk.new).opened ≡ (D.seen desk.old).opened }
     ensures later { (D.seen desk.old).write_faults ≤ (D.seen desk.new).write_faults }
@@ -83,7 +83,7 @@ fn judge_noted<D: Desk>(
     task: &Task,
     graph: &Graph,
     names: &Names<'_>,
-) -> Result<(Verdict, Rewriting), Memory>
+) -> Result<(Verdict, Note), Memory>
     requires sized { IsSizedAs (profile_of task.now.claim.add) graph.now }
     requires version { IsVersion task.now.version }
     ensures note { IfOk result (λ r. IsNote graph.now task.now.claim task.now.conflicts r.1) }
@@ -112,8 +112,8 @@ fn judge_rewritten<D: Desk>(
     alloc: Global,
     desk: &mut D,
     job: &Job<'_>,
-    rewritten: Rewritten<'_>,
-) -> Result<(Verdict, Rewriting), Memory>
+    rewritten: Rewriting<'_>,
+) -> Result<(Verdict, Note), Memory>
     requires job { IsJob job.now }
     requires rewriting { IsRewriting job.now.graph.now job.now.operands.now job.now.conflicts rewritten }
     requires agrees { Agrees rewritten }
@@ -127,8 +127,8 @@ fn judge_rewritten<D: Desk>(
 {
     // without faults
     let _max = job.graph.max();
-    match told_soon(alloc, desk, job, &rewritten)? {
-        Some(verdict) => Ok((verdict, note(job.operands.claim().add, rewritten))),
+    match try_soon(alloc, desk, job, &rewritten)? {
+        Some(verdict) => Ok((verdict, make_note(job.operands.claim().add, rewritten))),
         None => judge_further(alloc, desk, job, rewritten),
     }
 }
@@ -139,8 +139,8 @@ fn judge_further<D: Desk>(
     alloc: Global,
     desk: &mut D,
     job: &Job<'_>,
-    rewritten: Rewritten<'_>,
-) -> Result<(Verdict, Rewriting), Memory>
+    rewritten: Rewriting<'_>,
+) -> Result<(Verdict, Note), Memory>
     requires job { IsJob job.now }
     requires well_formed { IsWellFormed job.now.graph.now }
     requires rewriting { IsRewriting job.now.graph.now job.now.operands.now job.now.conflicts rewritten }
@@ -153,17 +153,17 @@ fn judge_further<D: Desk>(
     ensures later { (D.seen desk.old).write_faults ≤ (D.seen desk.new).write_faults }
     ensures tells { KeepsTelling (D.seen desk.old) (D.seen desk.new) }
 {
-    match over_found(alloc, desk, job)? {
-        Some((verdict, cut)) => Ok((verdict, Rewriting::Found(cut))),
+    match try_found(alloc, desk, job)? {
+        Some((verdict, cut)) => Ok((verdict, Note::Found(cut))),
         None => {
-            let verdict = with_whole_budget(alloc, desk, job, &rewritten)?;
-            Ok((verdict, note(job.operands.claim().add, rewritten)))
+            let verdict = try_whole_budget(alloc, desk, job, &rewritten)?;
+            Ok((verdict, make_note(job.operands.claim().add, rewritten)))
         }
     }
 }
 
 // A note is told with each verdict but a stop.
-fn with_note(verdict: Verdict, note: Rewriting) -> (Verdict, Option<Rewriting>)
+fn with_note(verdict: Verdict, note: Note) -> (Verdict, Option<Note>)
     ensures verdict { result.0 ≡ verdict }
     ensures note { result.1 ≡ note_with verdict note }
 {

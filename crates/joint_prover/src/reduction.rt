@@ -8,7 +8,7 @@ ghost use Rattle.frontier_core.specs.LastFrontier.{IsOverInputs};
 ghost use Rattle.frontier_core.specs.LeastDifference.{AreInputs};
 ghost use Rattle.slice_planner.specs.ColumnPlans.{IsColumnPlan};
 ghost use Rattle.poly_terms.specs.Tables.{IsOf, monomials_in, value_in};
-ghost use Rattle.pac_writer.specs.Writing.{AreLawfulSoFar, Made, ledger_of};
+ghost use Rattle.pac_writer.specs.Writing.{AreLawfulSoFar, Made, written_ledger};
 ghost use Rattle.joint_prover.specs.Endings.{IsEnded, IsEndedWithin, IsPlain, IsPlainlyReduced, IsRemainder, IsSliced, IsStart, IsWitness};
 
 use crate::ending::{Ending, Plain, Sliced};
@@ -24,7 +24,7 @@ use std::alloc::Global;
 use witness_finder::least;
 
 /// What the slice plan comes to; where the remainder is 0 the lines are closed.
-pub(crate) fn reduced_by_slices(
+pub(crate) fn reduce_by_slices(
     alloc: Global,
     budget: u64,
     rewritten: bool,
@@ -36,7 +36,7 @@ pub(crate) fn reduced_by_slices(
     let extended = lines.extended();
     let plan = slice_plan(alloc, extended)?;
     match reduce(alloc, &plan, budget, lines)? {
-        Reduced::Rest { poly, id } => Ok(Sliced::Ended(concluded(lines, &poly, id))),
+        Reduced::Rest { poly, id } => Ok(Sliced::Ended(end_plan(lines, &poly, id))),
         Reduced::Passed { step, size } => {
             let tried = frontier_after(alloc, &plan, step, size, rewritten)?;
             Ok(Sliced::Passed(tried))
@@ -55,7 +55,7 @@ pub(crate) enum Layers {
 
 /// What a plan by layers comes to; where the remainder is 0 the lines are closed. None where a frontier is above the
 /// budget.
-pub(crate) fn reduced_by_layers(
+pub(crate) fn reduce_by_layers(
     alloc: Global,
     budget: u64,
     layers: Layers,
@@ -67,7 +67,7 @@ pub(crate) fn reduced_by_layers(
     let extended = lines.extended();
     let plan = plan_by_layers(alloc, layers, extended)?;
     match reduce(alloc, &plan, budget, lines)? {
-        Reduced::Rest { poly, id } => Ok(Some(concluded(lines, &poly, id))),
+        Reduced::Rest { poly, id } => Ok(Some(end_plan(lines, &poly, id))),
         Reduced::Passed { .. } => Ok(None),
     }
 }
@@ -89,7 +89,7 @@ fn plan_by_layers<'a>(
 }
 
 /// What the plain plan comes to, over a graph alone; where the remainder is 0 the lines are closed.
-pub(crate) fn reduced_plainly(
+pub(crate) fn reduce_plainly(
     alloc: Global,
     budget: u64,
     lines: &mut Lines<'_>,
@@ -98,14 +98,14 @@ pub(crate) fn reduced_plainly(
     requires alone { lines.old.extended ≡ without_cut lines.old.extended.graph }
     ensures { IfOk result (IsPlain lines.old budget lines.new) }
 {
-    match reduced_in_order(alloc, budget, lines)? {
-        Reduced::Rest { poly, id } => Ok(Plain::Ended(concluded(lines, &poly, id))),
+    match reduce_in_order(alloc, budget, lines)? {
+        Reduced::Rest { poly, id } => Ok(Plain::Ended(end_plan(lines, &poly, id))),
         Reduced::Passed { step, size } => Ok(Plain::Passed { step, size }),
     }
 }
 
 // Adds all columns and eliminates the gates in the plain order.
-fn reduced_in_order(alloc: Global, budget: u64, lines: &mut Lines<'_>) -> Result<Reduced, Memory>
+fn reduce_in_order(alloc: Global, budget: u64, lines: &mut Lines<'_>) -> Result<Reduced, Memory>
     requires start { IsStart lines.old }
     requires alone { lines.old.extended ≡ without_cut lines.old.extended.graph }
     ensures { IfOk result (IsPlainlyReduced budget lines.old lines.new) }
@@ -116,13 +116,13 @@ fn reduced_in_order(alloc: Global, budget: u64, lines: &mut Lines<'_>) -> Result
 }
 
 // The end where a plan has left a remainder.
-fn concluded(lines: &mut Lines<'_>, poly: &Poly, id: u64) -> Ending
+fn end_plan(lines: &mut Lines<'_>, poly: &Poly, id: u64) -> Ending
     requires { (start : Made) × IsStart start × IsRemainder start lines.old poly.now id }
     ensures { (start : Made) → IsStart start → IsRemainder start lines.old poly.now id →
         IsEnded start.extended start.sides.claim lines.new result }
 {
     are_lawful(lines);
-    ended(lines, poly, id)
+    end_lines(lines, poly, id)
 }
 
 // Lines are lawful so far.
@@ -133,13 +133,13 @@ fn are_lawful(lines: &Lines<'_>)
 }
 
 // The end: the lines are closed where the remainder is 0.
-fn ended(lines: &mut Lines<'_>, poly: &Poly, id: u64) -> Ending
+fn end_lines(lines: &mut Lines<'_>, poly: &Poly, id: u64) -> Ending
     requires of { IsOf lines.old.table poly.now }
     requires inputs { AreInputs (inputs_in lines.old.sides) }
     requires over { IsOverInputs (inputs_in lines.old.sides) (monomials_in lines.old.table poly.now) }
     requires unclosed { lines.old.closing ≡ None }
     requires closes { ((σ : Assignment) → value_in lines.old.table poly.now σ ≡ 0) →
-        Closes lines.old.extended lines.old.sides (ledger_of lines.old).live id }
+        Closes lines.old.extended lines.old.sides (written_ledger lines.old).live id }
     ensures { IsWitness lines.old lines.new poly.now id result }
 {
     match least(lines.terms(), poly, lines.operands()) {

@@ -7,23 +7,23 @@ ghost use Rattle.joint_checker.specs.Files.{files_of};
 ghost use Rattle.joint_prover.specs.Notes.{cut_in};
 ghost use Rattle.joint_prover.specs.Parts.{IsJob, MayTell, task_of};
 
-use crate::attempts::{over_alone, over_cut};
-use crate::few_ones::{SOON, seen_wrong, wrong_on_few};
+use crate::attempts::{try_alone, try_over_cut};
+use crate::few_ones::{SOON, find_seen_wrong, find_wrong_on_few};
 use crate::found::small_budget;
 use crate::job::Job;
 use crate::verdict::Verdict;
 use graph_core::Memory;
 use mv_desk::Desk;
-use stage_rewriter::Rewritten;
+use stage_rewriter::Rewriting;
 use std::alloc::Global;
 
 /// The verdict on a graph that some fixed values of its inputs show to be wrong, that the slice plan ends with a small
 /// budget, or that values with few ones show to be wrong, in this order.
-pub(crate) fn told_soon<D: Desk>(
+pub(crate) fn try_soon<D: Desk>(
     alloc: Global,
     desk: &mut D,
     job: &Job<'_>,
-    rewritten: &Rewritten<'_>,
+    rewritten: &Rewriting<'_>,
 ) -> Result<Option<Verdict>, Memory>
     requires job { IsJob job.now }
     requires well_formed { IsWellFormed job.now.graph.now }
@@ -36,21 +36,21 @@ pub(crate) fn told_soon<D: Desk>(
     ensures later { (D.seen desk.old).write_faults ≤ (D.seen desk.new).write_faults }
     ensures tells { KeepsTelling (D.seen desk.old) (D.seen desk.new) }
 {
-    if let Some(verdict) = seen_wrong(alloc, job.graph, job.operands)? {
+    if let Some(verdict) = find_seen_wrong(alloc, job.graph, job.operands)? {
         return Ok(Some(verdict));
     }
-    if let Some(verdict) = over_small(alloc, desk, job, rewritten)? {
+    if let Some(verdict) = try_small_budget(alloc, desk, job, rewritten)? {
         return Ok(Some(verdict));
     }
-    wrong_on_few(alloc, job.graph, job.operands, SOON)
+    find_wrong_on_few(alloc, job.graph, job.operands, SOON)
 }
 
 // The slice plan with the small budget over the graph with the adder that is used, or over the graph alone where none is.
-fn over_small<D: Desk>(
+fn try_small_budget<D: Desk>(
     alloc: Global,
     desk: &mut D,
     job: &Job<'_>,
-    rewritten: &Rewritten<'_>,
+    rewritten: &Rewriting<'_>,
 ) -> Result<Option<Verdict>, Memory>
     requires job { IsJob job.now }
     requires well_formed { IsWellFormed job.now.graph.now }
@@ -65,12 +65,12 @@ fn over_small<D: Desk>(
 {
     let least = small_budget(job);
     match rewritten {
-        Rewritten::Used { cut, extended, log } => {
-            let attempt = over_cut(alloc, desk, least, job, cut, extended, log)?;
+        Rewriting::Used { cut, extended, log } => {
+            let attempt = try_over_cut(alloc, desk, least, job, cut, extended, log)?;
             Ok(attempt.verdict())
         }
         _ => {
-            let attempt = over_alone(alloc, desk, least, job)?;
+            let attempt = try_alone(alloc, desk, least, job)?;
             Ok(attempt.verdict())
         }
     }

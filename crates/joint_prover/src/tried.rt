@@ -1,6 +1,6 @@
 // A frontier at which a plan passed the budget.
 ghost use Rattle.std.specs.Prelude.{◌≡◌, ◌≤◌, ◌++◌, IfOk, OnOk, length};
-ghost use Rattle.joint_prover.specs.Endings.{IsTriedAt, columns_of, gates_of};
+ghost use Rattle.joint_prover.specs.Endings.{IsTriedAt, columns_taken, gates_of};
 
 use crate::verdict::Tried;
 use column_reducer::Plan;
@@ -35,7 +35,7 @@ pub(crate) fn frontier_after(
 
 // The column that a step adds, or the gate that it eliminates.
 fn push_step(columns: &mut Vec<u32>, gates: &mut Vec<u32>, step: Step) -> Result<(), Memory>
-    ensures columns { OnOk result (columns.new.items ≡ columns.old.items ++ columns_of step) }
+    ensures columns { OnOk result (columns.new.items ≡ columns.old.items ++ columns_taken step) }
     ensures gates { OnOk result (gates.new.items ≡ gates.old.items ++ gates_of step) }
 {
     match step {

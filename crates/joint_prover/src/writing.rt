@@ -18,7 +18,7 @@ use mv_desk::{Desk, Failed, Names, Slot, WriteFault};
 use pac_writer::Lines;
 
 /// Lines that are closed are written beside the clause certificate with this header and these lines, in its version.
-pub(crate) fn written<D: Desk>(
+pub(crate) fn write_certificates<D: Desk>(
     desk: &mut D,
     lines: &Lines<'_>,
     header: &Header,

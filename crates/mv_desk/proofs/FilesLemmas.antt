@@ -14,7 +14,7 @@ use Rattle.std.specs.List.{position, position_or_len}
 use Rattle.std.specs.Option.{option_or}
 use Rattle.std.specs.Prelude.{Result, Ok, Err, OnErr}
 use Rattle.std.specs.Str.{bytes_eq}
-use Rattle.mv_desk.specs.Files.{File, IsFirst, file_at, file_of, files_of, held_at, is_named}
+use Rattle.mv_desk.specs.Files.{File, IsFirst, file_at, file_of, files_from, held_at, is_named}
 use Rattle.std.specs.declared.alloc.Global.{Global}
 use Rattle.std.specs.declared.string.String.{String}
 use Rattle.std.specs.declared.vec.Vec.{Vec}
@@ -41,22 +41,22 @@ on_err (Ok value) P fact = tt
 on_err (Err error) P fact = fact
 
 -- the pair at a place, as a file
-pub file_at-files_of : (pairs : List (String Global × Vec ℕ Global)) (i : ℕ) (pair : String Global × Vec ℕ Global) → i < length (files_of pairs) →
+pub file_at-files_of : (pairs : List (String Global × Vec ℕ Global)) (i : ℕ) (pair : String Global × Vec ℕ Global) → i < length (files_from pairs) →
     pair ≡ get_or pairs i pair
-    → file_at (files_of pairs) i ≡ file_of pair
+    → file_at (files_from pairs) i ≡ file_of pair
 file_at-files_of pairs i pair below is =
     let within : i < length pairs = rw length-map at below in
     get_or-map file_of pairs i pair ([], []) within ∙ ap file_of (sym is)
 
 -- a pair is put as another file
 pub files_of-set : (pairs : List (String Global × Vec ℕ Global)) (i : ℕ) (pair : String Global × Vec ℕ Global) (file : File) → file_of pair ≡ file
-    → files_of (set pairs i pair) ≡ set (files_of pairs) i file
-files_of-set pairs i pair file is = map-set file_of pairs i pair ∙ ap (set (files_of pairs) i) is
+    → files_from (set pairs i pair) ≡ set (files_from pairs) i file
+files_of-set pairs i pair file is = map-set file_of pairs i pair ∙ ap (set (files_from pairs) i) is
 
 -- a pair is put that is the file that was there
 pub files_of-set_same : (pairs : List (String Global × Vec ℕ Global)) (i : ℕ) (old pair : String Global × Vec ℕ Global) → old ≡ get_or pairs i old →
     file_of pair ≡ file_of old
-    → files_of (set pairs i pair) ≡ files_of pairs
+    → files_from (set pairs i pair) ≡ files_from pairs
 files_of-set_same pairs i old pair is same = map-set_same file_of pairs i pair old (same ∙ ap file_of is)
 
 -- where a name is found, there is the first file of it

@@ -5,7 +5,7 @@ use Rattle.std.specs.List.{position}
 use Rattle.mv_desk.proofs.FilesLemmas.{file_push, first_new, first_push, first_set, set_names}
 use Rattle.mv_desk.specs.Calls.{AreApart}
 use Rattle.mv_desk.specs.Files.{File, file_at, is_named}
-use Rattle.mv_desk.specs.Memory.{AllFit, Fits, left_of, name_of, place_at, with_place}
+use Rattle.mv_desk.specs.Memory.{AllFit, StandsAtFirst, left_at, name_of, place_at, with_place}
 use Rattle.mv_desk.specs.declared.memory.bytes.Bytes.{Bytes}
 use Rattle.mv_desk.specs.declared.memory.place.Place.{Place}
 use Rattle.mv_desk.specs.declared.memory.place.Place.TheVariants as place
@@ -63,33 +63,33 @@ put_back p Clauses = refl
 put_back p Algebra = refl
 put_back p Report = refl
 
-pub fit_put : (fs : List File) (p : Places) (s : Slot) (q : Place) → AllFit fs p → Fits fs q → AllFit fs (with_place p s q)
-fit_put fs p Graph q all one = λ t. elim t as (λ k. Fits fs (place_at (with_place p Graph q) k)) [
+pub fit_put : (fs : List File) (p : Places) (s : Slot) (q : Place) → AllFit fs p → StandsAtFirst fs q → AllFit fs (with_place p s q)
+fit_put fs p Graph q all one = λ t. elim t as (λ k. StandsAtFirst fs (place_at (with_place p Graph q) k)) [
   | Graph ↦ one
   | Other ↦ all Other
   | Clauses ↦ all Clauses
   | Algebra ↦ all Algebra
   | Report ↦ all Report
 ]
-fit_put fs p Other q all one = λ t. elim t as (λ k. Fits fs (place_at (with_place p Other q) k)) [
+fit_put fs p Other q all one = λ t. elim t as (λ k. StandsAtFirst fs (place_at (with_place p Other q) k)) [
   | Graph ↦ all Graph
   | Other ↦ one
   | Clauses ↦ all Clauses
   | Algebra ↦ all Algebra
   | Report ↦ all Report
 ]
-fit_put fs p Clauses q all one = λ t. elim t as (λ k. Fits fs (place_at (with_place p Clauses q) k))
+fit_put fs p Clauses q all one = λ t. elim t as (λ k. StandsAtFirst fs (place_at (with_place p Clauses q) k))
     [ Graph ↦ all Graph | Other ↦ all Other | Clauses ↦ one | Algebra ↦ all Algebra | Report ↦ all Report ]
-fit_put fs p Algebra q all one = λ t. elim t as (λ k. Fits fs (place_at (with_place p Algebra q) k))
+fit_put fs p Algebra q all one = λ t. elim t as (λ k. StandsAtFirst fs (place_at (with_place p Algebra q) k))
     [ Graph ↦ all Graph | Other ↦ all Other | Clauses ↦ all Clauses | Algebra ↦ one | Report ↦ all Report ]
-fit_put fs p Report q all one = λ t. elim t as (λ k. Fits fs (place_at (with_place p Report q) k))
+fit_put fs p Report q all one = λ t. elim t as (λ k. StandsAtFirst fs (place_at (with_place p Report q) k))
     [ Graph ↦ all Graph | Other ↦ all Other | Clauses ↦ all Clauses | Algebra ↦ all Algebra | Report ↦ one ]
 
 -- a slot keeps a file that is the first of its name
-pub fit_at : (fs : List File) (p : Places) (s : Slot) (q : Place) → AllFit fs p → place_at p s ≡ q → Fits fs q
-fit_at fs p s q all e = subst (Fits fs) e (all s)
+pub fit_at : (fs : List File) (p : Places) (s : Slot) (q : Place) → AllFit fs p → place_at p s ≡ q → StandsAtFirst fs q
+fit_at fs p s q all e = subst (StandsAtFirst fs) e (all s)
 
-pub fits_set : (fs : List File) (i : ℕ) (g : File) (q : Place) → i < length fs → g.0 ≡ (file_at fs i).0 → Fits fs q → Fits (set fs i g) q
+pub fits_set : (fs : List File) (i : ℕ) (g : File) (q : Place) → i < length fs → g.0 ≡ (file_at fs i).0 → StandsAtFirst fs q → StandsAtFirst (set fs i g) q
 fits_set fs i g (place.Reading file at) below same one = first_set fs i file g below same one
 fits_set fs i g (place.Writing file written) below same one = first_set fs i file g below same one
 fits_set fs i g place.Closed below same one = one
@@ -104,7 +104,7 @@ name_set fs i g place.Absent below same = refl
 name_set fs i g (place.Printing written) below same = refl
 
 pub left_set : (fs : List File) (i : ℕ) (g : File) (q : Place) → i < length fs → g.0 ≡ (file_at fs i).0 → AreApart (Some (Some g.0)) (name_of fs q) →
-    left_of (set fs i g) q ≡ left_of fs q
+    left_at (set fs i g) q ≡ left_at fs q
 left_set fs i g (place.Reading file at) below same other =
     ap (λ (f : File). drop at f.1) (get_or-set_other fs i file g ([], []) (λ e. other (rw e same)))
 left_set fs i g (place.Writing file written) below same other = refl
@@ -112,28 +112,28 @@ left_set fs i g place.Closed below same other = refl
 left_set fs i g place.Absent below same other = refl
 left_set fs i g (place.Printing written) below same other = refl
 
-pub fits_push : (fs : List File) (g : File) (q : Place) → Fits fs q → Fits (fs ++ g ∷ []) q
+pub fits_push : (fs : List File) (g : File) (q : Place) → StandsAtFirst fs q → StandsAtFirst (fs ++ g ∷ []) q
 fits_push fs g (place.Reading file at) one = first_push fs file g one
 fits_push fs g (place.Writing file written) one = first_push fs file g one
 fits_push fs g place.Closed one = one
 fits_push fs g place.Absent one = one
 fits_push fs g (place.Printing written) one = one
 
-pub name_push : (fs : List File) (g : File) (q : Place) → Fits fs q → name_of (fs ++ g ∷ []) q ≡ name_of fs q
+pub name_push : (fs : List File) (g : File) (q : Place) → StandsAtFirst fs q → name_of (fs ++ g ∷ []) q ≡ name_of fs q
 name_push fs g (place.Reading file at) one = ap (λ (f : File). Some (Some f.0)) (file_push fs file g one.within)
 name_push fs g (place.Writing file written) one = ap (λ (f : File). Some (Some f.0)) (file_push fs file g one.within)
 name_push fs g place.Closed one = refl
 name_push fs g place.Absent one = refl
 name_push fs g (place.Printing written) one = refl
 
-pub left_push : (fs : List File) (g : File) (q : Place) → Fits fs q → left_of (fs ++ g ∷ []) q ≡ left_of fs q
+pub left_push : (fs : List File) (g : File) (q : Place) → StandsAtFirst fs q → left_at (fs ++ g ∷ []) q ≡ left_at fs q
 left_push fs g (place.Reading file at) one = ap (λ (f : File). drop at f.1) (file_push fs file g one.within)
 left_push fs g (place.Writing file written) one = refl
 left_push fs g place.Closed one = refl
 left_push fs g place.Absent one = refl
 left_push fs g (place.Printing written) one = refl
 
-pub all_fit_set : (fs : List File) (p : Places) (s : Slot) (q : Place) (i : ℕ) (g : File) → AllFit fs p → Fits fs q → i < length fs → g.0 ≡ (file_at fs i).0
+pub all_fit_set : (fs : List File) (p : Places) (s : Slot) (q : Place) (i : ℕ) (g : File) → AllFit fs p → StandsAtFirst fs q → i < length fs → g.0 ≡ (file_at fs i).0
     → AllFit (set fs i g) (with_place p s q)
 all_fit_set fs p s q i g all one below same = fit_put (set fs i g) p s q (λ t. fits_set fs i g (place_at p t) below same (all t))
     (fits_set fs i g q below same one)

@@ -8,7 +8,7 @@ use Rattle.mv_desk.proofs.FilesLemmas.{first_found, held_first, held_new, held_p
 use Rattle.mv_desk.proofs.PlacesLemmas.{all_fit_set, fit_at, fit_put, left_push, left_set, name_push, name_set, put_back, put_other, put_same}
 use Rattle.mv_desk.specs.Calls.{Becomes, Creates, Opens, OtherStays, WritesTo}
 use Rattle.mv_desk.specs.Files.{File, IsFirst, file_at, held_at, is_named}
-use Rattle.mv_desk.specs.Memory.{AllFit, WritesInto, is_read, is_written, left_of, memory_view, name_of, place_at, with_place, written_of}
+use Rattle.mv_desk.specs.Memory.{AllFit, WritesInto, is_read, is_written, left_at, memory_view, name_of, place_at, with_place, written_of}
 use Rattle.mv_desk.specs.View.{SlotStays}
 use Rattle.mv_desk.specs.declared.counts.Counts.{Counts}
 use Rattle.mv_desk.specs.declared.memory.bytes.Bytes.{Bytes}
@@ -32,7 +32,7 @@ stays fs p s t q counts counts' other =
     let e = put_other p s t q other in
     record {
       mode = record { reads = ap is_read e; writes = ap is_written e; name = ap (name_of fs) e };
-      left = ap (λ (x : Place). Some (left_of fs x)) e;
+      left = ap (λ (x : Place). Some (left_at fs x)) e;
       written = ap (λ (x : Place). Some (written_of x)) e;
     }
 
@@ -60,7 +60,7 @@ other_set fs p s t q i g counts below same other =
     record {
       mode = record { reads = ap is_read e; writes = ap is_written e; name = ap (name_of (set fs i g)) e ∙ name_set fs i g (place_at p t) below same };
       written = ap (λ (x : Place). Some (written_of x)) e;
-      left = λ apart. ap (λ (x : Place). Some (left_of (set fs i g) x)) e ∙ ap Some (left_set fs i g (place_at p t) below same apart);
+      left = λ apart. ap (λ (x : Place). Some (left_at (set fs i g) x)) e ∙ ap Some (left_set fs i g (place_at p t) below same apart);
     }
 
 pub creates_set : (fs : List File) (p : Places) (s : Slot) (name : List ℕ) (written : Bytes) (i : ℕ) (g : File) (counts : Counts)
@@ -102,7 +102,7 @@ creates_push fs p s name written g counts fit none_named named empty none =
           record {
             mode = record { reads = ap is_read e; writes = ap is_written e; name = ap (name_of (fs ++ g ∷ [])) e ∙ name_push fs g (place_at p t) (fit t) };
             written = ap (λ (x : Place). Some (written_of x)) e;
-            left = λ _. ap (λ (x : Place). Some (left_of (fs ++ g ∷ []) x)) e ∙ ap Some (left_push fs g (place_at p t) (fit t));
+            left = λ _. ap (λ (x : Place). Some (left_at (fs ++ g ∷ []) x)) e ∙ ap Some (left_push fs g (place_at p t) (fit t));
           };
       held = λ n other. ap Some (held_push_other fs g n (λ e. other (e ∙ named)));
     }

@@ -14,8 +14,8 @@ File = List ℕ × List ℕ
 abbrev pub file_of : String Global × Vec ℕ Global → File
 file_of pair = (string_bytes pair.0, pair.1.items)
 
-abbrev pub files_of : List (String Global × Vec ℕ Global) → List File
-files_of pairs = map file_of pairs
+abbrev pub files_from : List (String Global × Vec ℕ Global) → List File
+files_from pairs = map file_of pairs
 
 abbrev pub is_named : List ℕ → File → Bool
 is_named name file = bytes_eq file.0 name

@@ -30,12 +30,12 @@ abbrev pub fresh_places : Places
 fresh_places = record { graph = place.Closed; other = place.Closed; clauses = place.Closed; algebra = place.Closed; report = place.Printing [] }
 
 -- what is still to be read
-abbrev pub left_of : List File → Place → List ℕ
-left_of files (place.Reading file at) = drop at (file_at files file).1
-left_of files place.Absent = []
-left_of files place.Closed = []
-left_of files (place.Printing written) = []
-left_of files (place.Writing file written) = []
+abbrev pub left_at : List File → Place → List ℕ
+left_at files (place.Reading file at) = drop at (file_at files file).1
+left_at files place.Absent = []
+left_at files place.Closed = []
+left_at files (place.Printing written) = []
+left_at files (place.Writing file written) = []
 
 -- what was written
 abbrev pub written_of : Place → List ℕ
@@ -68,22 +68,22 @@ is_written place.Absent = false
 is_written (place.Reading file at) = false
 
 -- a place stands at a file that is the first of its name
-abbrev pub Fits : List File → Place → Type 0
-Fits files (place.Reading file at) = IsFirst files file
-Fits files (place.Writing file written) = IsFirst files file
-Fits files place.Closed = Unit {0}
-Fits files place.Absent = Unit {0}
-Fits files (place.Printing written) = Unit {0}
+abbrev pub StandsAtFirst : List File → Place → Type 0
+StandsAtFirst files (place.Reading file at) = IsFirst files file
+StandsAtFirst files (place.Writing file written) = IsFirst files file
+StandsAtFirst files place.Closed = Unit {0}
+StandsAtFirst files place.Absent = Unit {0}
+StandsAtFirst files (place.Printing written) = Unit {0}
 
 -- each place does
 abbrev pub AllFit : List File → Places → Type 0
-AllFit files places = (slot : Slot) → Fits files (place_at places slot)
+AllFit files places = (slot : Slot) → StandsAtFirst files (place_at places slot)
 
 -- what a desk tells of these files and places
 abbrev pub memory_view : List File → Places → Counts → View
 memory_view files places counts = record {
   held = λ name. Some (held_at files name);
-  left = λ slot. Some (left_of files (place_at places slot));
+  left = λ slot. Some (left_at files (place_at places slot));
   written = λ slot. Some (written_of (place_at places slot));
   name = λ slot. name_of files (place_at places slot);
   reads = λ slot. is_read (place_at places slot);
@@ -103,7 +103,7 @@ tells shelf = memory_view shelf.0 shelf.1
 
 -- what is still to be read from a slot, and what was written to it
 abbrev pub rest_in : Shelved → Slot → List ℕ
-rest_in shelf slot = left_of shelf.0 (place_at shelf.1 slot)
+rest_in shelf slot = left_at shelf.0 (place_at shelf.1 slot)
 
 abbrev pub out_in : Shelved → Slot → List ℕ
 out_in shelf slot = written_of (place_at shelf.1 slot)

@@ -79,3 +79,8 @@ pub record SlotStays (slot : Slot) (old new : View) : Type 0 where
 pub record IsSame (old new : View) : Type 0 where
   pub slots : (slot : Slot) → SlotStays slot old new
   pub held : (name : List ℕ) → new.held name ≡ old.held name
+
+-- which bytes are held under each name, and under which name each slot is open
+pub record IsTold (view : View) : Type 0 where
+  pub held : (name : List ℕ) → IsSome (view.held name)
+  pub names : (slot : Slot) → IsSome (view.name slot)

@@ -25,7 +25,7 @@ mod slot;
 mod whole;
 
 pub use desk::{Desk, Failed};
-pub use faults::{LineFail, ReadFault, WriteFault};
+pub use faults::{ReadFault, WriteFault};
 pub use limits::Limits;
 pub use memory::{HonestDesk, MemoryDesk};
 pub use names::Names;

@@ -14,7 +14,7 @@ abbrev pub decimal_value : List ℕ → ℕ
 decimal_value bytes = fold append_digit 0 bytes
 
 -- one digit or more, which spell the number; the first may be zeros
-pub record Spells (bytes : List ℕ) (number : ℕ) : Type 0 where
+pub record SpellsNumber (bytes : List ℕ) (number : ℕ) : Type 0 where
   pub some : 0 < length bytes
   pub digits : All IsDigit bytes
   pub spelled : number ≡ decimal_value bytes
@@ -27,5 +27,5 @@ pub record SpellsAtLeast (bound : ℕ) (bytes : List ℕ) : Type 0 where
 
 -- the numeral of a number: no leading zero, but in the numeral of 0
 pub record IsNumeralOf (number : ℕ) (bytes : List ℕ) : Type 0 where
-  pub spells : Spells bytes number
+  pub spells : SpellsNumber bytes number
   pub shortest : slice_get bytes 0 ≡ Some 48 → bytes ≡ 48 ∷ []

@@ -2,7 +2,7 @@
 ghost use Rattle.std.specs.Prelude.{◌≡◌, ◌≤◌, ◌<◌, ◌^◌, ◌↔◌, [], All, Any, decimal, IfNone, IfOk, IfSome, IsErrOf, drop, length, take};
 ghost use Rattle.std.specs.Bool.{MatchBool};
 ghost use Rattle.std.specs.Option.{SomeIff};
-ghost use Rattle.mv_nums.specs.Numeral.{IsDigit, IsNumeralOf, Spells, SpellsAtLeast, append_digit, decimal_value};
+ghost use Rattle.mv_nums.specs.Numeral.{IsDigit, IsNumeralOf, SpellsAtLeast, SpellsNumber, append_digit, decimal_value};
 
 use crate::NumberFault;
 use itoa::Buffer;
@@ -12,7 +12,7 @@ const SHORT: usize = 19;
 
 /// The number that decimal digits spell. Leading zeros are allowed, and any number of digits.
 pub fn read_decimal(bytes: &[u8]) -> Result<u128, NumberFault>
-    ensures ok { IfOk result (Spells bytes.now) }
+    ensures ok { IfOk result (SpellsNumber bytes.now) }
     ensures empty { IsErrOf result NumberFault.Empty ↔ (bytes.now ≡ []) }
     ensures digit { IsErrOf result NumberFault.Digit ↔ Any (λ byte. ¬ IsDigit byte) bytes.now }
     ensures too_big { IsErrOf result NumberFault.TooBig ↔ SpellsAtLeast (2 ^ 128) bytes.now }

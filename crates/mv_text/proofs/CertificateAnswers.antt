@@ -9,11 +9,11 @@ use Rattle.std.specs.declared.vec.Vec.{Vec}
 use Rattle.mv_desk.specs.Calls.{Reads}
 use Rattle.mv_desk.specs.View.{View}
 use Rattle.mv_desk.specs.declared.slot.Slot.{Slot}
-use Rattle.mv_desk.specs.declared.faults.LineFail.{LineFail}
-use Rattle.mv_desk.specs.declared.faults.LineFail.TheVariants as fail
+use Rattle.mv_text.specs.declared.line_fail.LineFail.{LineFail}
+use Rattle.mv_text.specs.declared.line_fail.LineFail.TheVariants as fail
 use Rattle.graph_core.proofs.OfTexts.CallerLemmas.{HasNoNewline}
 use Rattle.mv_text.specs.LineReading.{EndsIn}
-use Rattle.mv_text.specs.CertificateFiles.{AnswersAgain, FileState, GivesEnd, GivesLine, GivesNeeded, IsAtEnd, IsRefusedText, ReadsLine, ReadsNeeded, left_of, settled}
+use Rattle.mv_text.specs.CertificateFiles.{AnswersAgain, FileState, GivesEnd, GivesLine, GivesNeeded, IsAtEnd, ReadsLine, ReadsNeeded, SaysNothing, left_of_file, settled}
 use Rattle.mv_text.proofs.LineLengths.{end_is_short}
 use Rattle.mv_text.proofs.CertificateSteps.{fault_is_no_end, line_is_no_end, needed_refused, next_fault, next_refused_text, refused_text, text_is_taken, told_from}
 
@@ -24,19 +24,19 @@ module _ {X Y : Type 0} (IsText : List ℕ → X → Type 0) (InRange : X → Ty
   pub line_read : (v : Vec ℕ Global) (y : Y) → GivesLine slot old new before now (Ok (Some v)) → IsSaid v.items y → ReadsLine IsText InRange IsSaid slot old (settled new None) before now (Ok (Some y))
   line_read v y h is = record {
     text = (v.items, is);
-    line = text_is_taken IsSaid old.lines new.lines (left_of slot old before) (left_of slot new now) v.items y h.line is;
+    line = text_is_taken IsSaid old.lines new.lines (left_of_file slot old before) (left_of_file slot new now) v.items y h.line is;
     end = tt;
     refused = tt;
     number = h.number;
     ended = h.ended;
   }
 
-  pub line_not_read : (v : Vec ℕ Global) (f : LineFail) → GivesLine slot old new before now (Ok (Some v)) → IsRefusedText IsText InRange v.items f → ReadsLine IsText InRange IsSaid slot old (settled new (Some f)) before now (Err f)
+  pub line_not_read : (v : Vec ℕ Global) (f : LineFail) → GivesLine slot old new before now (Ok (Some v)) → SaysNothing IsText InRange v.items f → ReadsLine IsText InRange IsSaid slot old (settled new (Some f)) before now (Err f)
   line_not_read v f h refused = record {
     text = tt;
     line = tt;
     end = tt;
-    refused = next_refused_text IsText InRange none old.lines new.lines (left_of slot old before) (left_of slot new now) v.items before.read_faults now.read_faults f h.line refused;
+    refused = next_refused_text IsText InRange none old.lines new.lines (left_of_file slot old before) (left_of_file slot new now) v.items before.read_faults now.read_faults f h.line refused;
     number = h.number;
     ended = h.ended;
   }
@@ -45,36 +45,36 @@ module _ {X Y : Type 0} (IsText : List ℕ → X → Type 0) (InRange : X → Ty
   end_read h = record {
     text = tt;
     line = tt;
-    end = told_from (left_of slot old before) (λ bytes. (bytes ≡ []) × EndsIn old.lines bytes) (IsAtEnd old.lines) (λ bytes e ends. record { none = ends.0; short = end_is_short old.lines bytes ends.1 }) h.end;
+    end = told_from (left_of_file slot old before) (λ bytes. (bytes ≡ []) × EndsIn old.lines bytes) (IsAtEnd old.lines) (λ bytes e ends. record { none = ends.0; short = end_is_short old.lines bytes ends.1 }) h.end;
     refused = tt;
     number = h.number;
     ended = h.ended;
   }
 
   pub fault_read : (f : LineFail) → GivesLine slot old new before now (Err f) → ReadsLine IsText InRange IsSaid slot old new before now (Err f)
-  fault_read f h = record { text = tt; line = tt; end = tt; refused = next_fault IsText InRange none old.lines (left_of slot old before) before.read_faults now.read_faults f h.fault; number = h.number; ended = h.ended }
+  fault_read f h = record { text = tt; line = tt; end = tt; refused = next_fault IsText InRange none old.lines (left_of_file slot old before) before.read_faults now.read_faults f h.fault; number = h.number; ended = h.ended }
 
   -- ---- a line that has to be there
 
   pub needed_read : (v : Vec ℕ Global) (y : Y) → GivesNeeded slot old new before now (Ok v) → IsSaid v.items y → ReadsNeeded IsText InRange IsSaid slot old (settled new None) before now (Ok y)
   needed_read v y h is =
-      record { text = (v.items, is); line = text_is_taken IsSaid old.lines new.lines (left_of slot old before) (left_of slot new now) v.items y h.line is; refused = tt; number = h.number; ended = h.ended }
+      record { text = (v.items, is); line = text_is_taken IsSaid old.lines new.lines (left_of_file slot old before) (left_of_file slot new now) v.items y h.line is; refused = tt; number = h.number; ended = h.ended }
 
-  pub needed_not_read : (v : Vec ℕ Global) (f : LineFail) → GivesNeeded slot old new before now (Ok v) → IsRefusedText IsText InRange v.items f → ReadsNeeded IsText InRange IsSaid slot old (settled new (Some f)) before now (Err f)
+  pub needed_not_read : (v : Vec ℕ Global) (f : LineFail) → GivesNeeded slot old new before now (Ok v) → SaysNothing IsText InRange v.items f → ReadsNeeded IsText InRange IsSaid slot old (settled new (Some f)) before now (Err f)
   needed_not_read v f h refused =
-      record { text = tt; line = tt; refused = refused_text IsText InRange none old.lines new.lines (left_of slot old before) (left_of slot new now) v.items before.read_faults now.read_faults f h.line refused; number = h.number; ended = tt }
+      record { text = tt; line = tt; refused = refused_text IsText InRange none old.lines new.lines (left_of_file slot old before) (left_of_file slot new now) v.items before.read_faults now.read_faults f h.line refused; number = h.number; ended = tt }
 
   pub needed_fault_read : (f : LineFail) → GivesNeeded slot old new before now (Err f) → ReadsNeeded IsText InRange IsSaid slot old new before now (Err f)
-  needed_fault_read f h = record { text = tt; line = tt; refused = needed_refused IsText InRange none old.lines (left_of slot old before) before.read_faults now.read_faults f h.fault; number = h.number; ended = tt }
+  needed_fault_read f h = record { text = tt; line = tt; refused = needed_refused IsText InRange none old.lines (left_of_file slot old before) before.read_faults now.read_faults f h.fault; number = h.number; ended = tt }
 
 -- ---- the end
 
 module _ {slot : Slot} {old new : FileState} {before now : View} where
   pub line_no_end : (v : Vec ℕ Global) → GivesLine slot old new before now (Ok (Some v)) → GivesEnd slot old (settled new (Some fail.Text)) before now (Err fail.Text)
-  line_no_end v h = record { number = h.number; end = tt; refused = line_is_no_end old.lines new.lines (left_of slot old before) (left_of slot new now) v.items h.line }
+  line_no_end v h = record { number = h.number; end = tt; refused = line_is_no_end old.lines new.lines (left_of_file slot old before) (left_of_file slot new now) v.items h.line }
 
   pub fault_no_end : (f : LineFail) → GivesLine slot old new before now (Err f) → GivesEnd slot old new before now (Err f)
-  fault_no_end f h = record { number = h.number; end = tt; refused = fault_is_no_end old.lines (left_of slot old before) before.read_faults now.read_faults f h.fault }
+  fault_no_end f h = record { number = h.number; end = tt; refused = fault_is_no_end old.lines (left_of_file slot old before) before.read_faults now.read_faults f h.fault }
 
 -- ---- what stays
 

@@ -8,13 +8,13 @@ use Rattle.std.specs.declared.result.Result.{Result}
 use Rattle.std.specs.declared.result.Result.TheVariants.{Ok, Err}
 use Rattle.std.proofs.Common.{refl, sym, ap, subst, ◌∙◌, append_assoc, arith}
 use Rattle.std.proofs.lemmas.List.Elements.{recursion_from_All}
-use Rattle.mv_desk.specs.declared.faults.LineFail.{LineFail}
-use Rattle.mv_desk.specs.declared.faults.LineFail.TheVariants as fail
+use Rattle.mv_text.specs.declared.line_fail.LineFail.{LineFail}
+use Rattle.mv_text.specs.declared.line_fail.LineFail.TheVariants as fail
 use Rattle.graph_core.specs.Text.{newline}
 use Rattle.graph_core.specs.Text.JudgedLines.{BeginsWith, IsTooLong, Lengths}
 use Rattle.graph_core.proofs.OfTexts.CallerLemmas.{HasNoNewline, begins_front}
 use Rattle.mv_text.specs.LineReading.{EndsIn, IsLineFault, IsLongAhead, Lines, TakesLine}
-use Rattle.mv_text.specs.CertificateFiles.{BeginsOutOfRange, BeginsWithNone, HasFirstLine, IsEndRefusal, IsFirstRefusal, IsLineRefusal, IsNeededFault, IsNextRefusal, IsRefusedText, TakesText}
+use Rattle.mv_text.specs.CertificateFiles.{BeginsOutOfRange, BeginsWithNone, HasFirstLine, IsEndRefusal, IsFirstRefusal, IsLineRefusal, IsNeededFault, IsNextRefusal, SaysNothing, TakesText}
 use Rattle.mv_text.proofs.LineLengths.{end_is_short, line_is_taken, long_of, short_of}
 
 -- whatever bytes begin with is said by the line in front of their first line feed
@@ -67,7 +67,7 @@ module _ {X : Type 0} (IsText : List ℕ → X → Type 0) (InRange : X → Type
   none_begins bytes left rest none e refused x more b = refused x (one_front IsText none_text left bytes rest none e x more b)
 
   -- the text of a line that was taken is refused
-  pub refused_text : (old new : Lines) (before after : Option (List ℕ)) (bytes : List ℕ) (first then : ℕ) (f : LineFail) → TakesLine old new before after bytes → IsRefusedText IsText InRange bytes f → IsLineRefusal IsText InRange old before first then f
+  pub refused_text : (old new : Lines) (before after : Option (List ℕ)) (bytes : List ℕ) (first then : ℕ) (f : LineFail) → TakesLine old new before after bytes → SaysNothing IsText InRange bytes f → IsLineRefusal IsText InRange old before first then f
   refused_text old new before after bytes first then fail.Text takes refused = told before (λ left. ¬ (IsLongAhead old left) × BeginsWithNone IsText left) (λ left e.
       let l = line_is_taken old new before after bytes left takes e in
       (l.3, none_begins bytes left l.0 (no_end bytes takes.no_end) l.2 refused))
@@ -78,7 +78,7 @@ module _ {X : Type 0} (IsText : List ℕ → X → Type 0) (InRange : X → Type
   refused_text old new before after bytes first then fail.TooLong takes refused = absurd refused
   refused_text old new before after bytes first then fail.Memory takes refused = tt
 
-  pub text_err : (old new : Lines) (before after : Option (List ℕ)) (bytes : List ℕ) (first then : ℕ) (r : Result X LineFail) → TakesLine old new before after bytes → IfErr r (IsRefusedText IsText InRange bytes) → IfErr r (IsLineRefusal IsText InRange old before first then)
+  pub text_err : (old new : Lines) (before after : Option (List ℕ)) (bytes : List ℕ) (first then : ℕ) (r : Result X LineFail) → TakesLine old new before after bytes → IfErr r (SaysNothing IsText InRange bytes) → IfErr r (IsLineRefusal IsText InRange old before first then)
   text_err old new before after bytes first then (Ok x) takes refused = refused
   text_err old new before after bytes first then (Err f) takes refused = refused_text old new before after bytes first then f takes refused
 
@@ -93,7 +93,7 @@ module _ {X : Type 0} (IsText : List ℕ → X → Type 0) (InRange : X → Type
 
   -- ---- a line that needn't be there
 
-  pub next_refused_text : (old new : Lines) (before after : Option (List ℕ)) (bytes : List ℕ) (first then : ℕ) (f : LineFail) → TakesLine old new before after bytes → IsRefusedText IsText InRange bytes f → IsNextRefusal IsText InRange old before first then f
+  pub next_refused_text : (old new : Lines) (before after : Option (List ℕ)) (bytes : List ℕ) (first then : ℕ) (f : LineFail) → TakesLine old new before after bytes → SaysNothing IsText InRange bytes f → IsNextRefusal IsText InRange old before first then f
   next_refused_text old new before after bytes first then fail.Text takes refused = told before (λ left. ¬ (IsLongAhead old left) × (left ≢ []) × BeginsWithNone IsText left) (λ left e.
       let l = line_is_taken old new before after bytes left takes e in
       (l.3, λ n. some_left bytes l.0 (sym l.2 ∙ n), none_begins bytes left l.0 (no_end bytes takes.no_end) l.2 refused))

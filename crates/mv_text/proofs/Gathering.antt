@@ -12,8 +12,8 @@ use Rattle.std.proofs.lemmas.List.Elements.{All-push, All-pop}
 use Rattle.graph_core.specs.Text.Numerals.{◌>>=◌}
 use Rattle.graph_core.specs.Text.Readers.{Reader, many_at, many_in, put_before}
 use Rattle.mv_text.specs.Steps.{begins, Gives, Takes, Pushes, IsMisfit}
-use Rattle.mv_desk.specs.declared.faults.LineFail.{LineFail}
-use Rattle.mv_desk.specs.declared.faults.LineFail.TheVariants as fail
+use Rattle.mv_text.specs.declared.line_fail.LineFail.{LineFail}
+use Rattle.mv_text.specs.declared.line_fail.LineFail.TheVariants as fail
 
 -- items before those that are read behind them
 abbrev pub put_all : {A : Type 0} → List A → Option (List A × List ℕ) → Option (List A × List ℕ)

@@ -9,8 +9,8 @@ use Rattle.std.specs.declared.option.Option.TheVariants.{None, Some}
 use Rattle.std.proofs.Common.{refl, sym, ap, subst, ◌∙◌, arith, append_assoc, length-append, inl, inr, ⊎_elim, eqb-true}
 use Rattle.std.proofs.lemmas.List.{append-nil}
 use Rattle.std.proofs.lemmas.List.Elements.{All-nil, recursion_from_All, All-append, All-push}
-use Rattle.mv_desk.specs.declared.faults.LineFail.{LineFail}
-use Rattle.mv_desk.specs.declared.faults.LineFail.TheVariants as fail
+use Rattle.mv_text.specs.declared.line_fail.LineFail.{LineFail}
+use Rattle.mv_text.specs.declared.line_fail.LineFail.TheVariants as fail
 use Rattle.graph_core.specs.Text.{newline}
 use Rattle.graph_core.specs.Text.JudgedLines.{Lengths, IsTooLong, front_line, behind_line}
 use Rattle.graph_core.proofs.OfTexts.CallerLemmas.{HasNoNewline}

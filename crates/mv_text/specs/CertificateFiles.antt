@@ -9,8 +9,8 @@ use Rattle.graph_core.specs.Text.JudgedLines.{BeginsWith, IsTooLong, Lengths}
 use Rattle.mv_desk.specs.View.{Rose, View}
 use Rattle.mv_desk.specs.declared.slot.Slot.{Slot}
 use Rattle.mv_desk.specs.declared.limits.Limits.{Limits}
-use Rattle.mv_desk.specs.declared.faults.LineFail.{LineFail}
-use Rattle.mv_desk.specs.declared.faults.LineFail.TheVariants as fail
+use Rattle.mv_text.specs.declared.line_fail.LineFail.{LineFail}
+use Rattle.mv_text.specs.declared.line_fail.LineFail.TheVariants as fail
 use Rattle.mv_text.specs.LineReading.{EndsIn, FitsPiece, IsLineFault, IsLongAhead, Lines, TakesLine, known_from, lengths_of}
 
 -- A file: its version, its lines, how many of them were read or refused, whether its end was met, and the answer that it gives from its
@@ -28,18 +28,18 @@ pub record GoesOn (file : FileState) : Type 0 where
   pub failed : file.failed ≡ None
 
 -- what is left of the file in a slot, where the desk tells it
-abbrev pub left_of : Slot → FileState → View → Option (List ℕ)
-left_of slot file view = known_from file.lines.ahead (view.left slot)
+abbrev pub left_of_file : Slot → FileState → View → Option (List ℕ)
+left_of_file slot file view = known_from file.lines.ahead (view.left slot)
 
 -- ---- the text of one line
 
 -- Why a text says nothing: none has it, or one out of range does; or want of memory.
-abbrev pub IsRefusedText : {X : Type 0} → (List ℕ → X → Type 0) → (X → Type 0) → List ℕ → LineFail → Type 0
-IsRefusedText {X} IsText InRange bytes fail.Text = (x : X) → IsText bytes x → ⊥
-IsRefusedText {X} IsText InRange bytes fail.Range = (x : X) × IsText bytes x × ¬ (InRange x)
-IsRefusedText IsText InRange bytes fail.Fault = ⊥
-IsRefusedText IsText InRange bytes fail.TooLong = ⊥
-IsRefusedText IsText InRange bytes fail.Memory = Unit {0}
+abbrev pub SaysNothing : {X : Type 0} → (List ℕ → X → Type 0) → (X → Type 0) → List ℕ → LineFail → Type 0
+SaysNothing {X} IsText InRange bytes fail.Text = (x : X) → IsText bytes x → ⊥
+SaysNothing {X} IsText InRange bytes fail.Range = (x : X) × IsText bytes x × ¬ (InRange x)
+SaysNothing IsText InRange bytes fail.Fault = ⊥
+SaysNothing IsText InRange bytes fail.TooLong = ⊥
+SaysNothing IsText InRange bytes fail.Memory = Unit {0}
 
 -- ---- one line of what is left
 
@@ -121,7 +121,7 @@ IsFirstRefusal first lengths left before now fail.Memory = Unit {0}
 -- ---- what is kept
 
 -- A byte at least was taken, and no more than the file may have.
-pub record TakesSome (old new : Lines) : Type 0 where
+pub record TakesSomeBytes (old new : Lines) : Type 0 where
   pub more : old.taken < new.taken
   pub within : new.taken ≤ new.lengths.file
 
@@ -160,10 +160,10 @@ pub record AnswersAgain {X : Type 0} (end : Result X LineFail) (old new : FileSt
 -- ---- the answers of a file that goes on, in a slot of a desk that is seen before and now
 
 -- how many lines an answer is of, and whether it is the end
-abbrev pub lines_of : {X : Type 0} → Result (Option X) LineFail → ℕ
-lines_of (Ok None) = 0
-lines_of (Ok (Some x)) = 1
-lines_of (Err fail) = 1
+abbrev pub lines_of_file : {X : Type 0} → Result (Option X) LineFail → ℕ
+lines_of_file (Ok None) = 0
+lines_of_file (Ok (Some x)) = 1
+lines_of_file (Err fail) = 1
 
 abbrev pub is_end : {X : Type 0} → Result (Option X) LineFail → Bool
 is_end (Ok None) = true
@@ -172,40 +172,40 @@ is_end (Err fail) = false
 
 -- the next line as it stands there, or none at the end of the file
 pub record GivesLine (slot : Slot) (old new : FileState) (before now : View) (result : Result (Option (Vec ℕ Global)) LineFail) : Type 0 where
-  pub line : IfOk result (λ r. IfSome r (λ line. TakesLine old.lines new.lines (left_of slot old before) (left_of slot new now) line.items))
-  pub end : IfOk result (λ r. IfNone r (IfSome (left_of slot old before) (λ bytes. (bytes ≡ []) × EndsIn old.lines bytes)))
-  pub fault : IfErr result (IsLineFault old.lines (left_of slot old before) before.read_faults now.read_faults)
-  pub number : new.number ≡ old.number + lines_of result
+  pub line : IfOk result (λ r. IfSome r (λ line. TakesLine old.lines new.lines (left_of_file slot old before) (left_of_file slot new now) line.items))
+  pub end : IfOk result (λ r. IfNone r (IfSome (left_of_file slot old before) (λ bytes. (bytes ≡ []) × EndsIn old.lines bytes)))
+  pub fault : IfErr result (IsLineFault old.lines (left_of_file slot old before) before.read_faults now.read_faults)
+  pub number : new.number ≡ old.number + lines_of_file result
   pub ended : new.ended ≡ is_end result
 
 -- the same of a line that has to be there
 pub record GivesNeeded (slot : Slot) (old new : FileState) (before now : View) (result : Result (Vec ℕ Global) LineFail) : Type 0 where
-  pub line : IfOk result (λ line. TakesLine old.lines new.lines (left_of slot old before) (left_of slot new now) line.items)
-  pub fault : IfErr result (IsNeededFault old.lines (left_of slot old before) before.read_faults now.read_faults)
+  pub line : IfOk result (λ line. TakesLine old.lines new.lines (left_of_file slot old before) (left_of_file slot new now) line.items)
+  pub fault : IfErr result (IsNeededFault old.lines (left_of_file slot old before) before.read_faults now.read_faults)
   pub number : new.number ≡ old.number + 1
   pub ended : OnOk result (new.ended ≡ false)
 
 -- the end
 pub record GivesEnd (slot : Slot) (old new : FileState) (before now : View) (result : Result (Unit {0}) LineFail) : Type 0 where
-  pub end : OnOk result (IfSome (left_of slot old before) (IsAtEnd old.lines))
-  pub refused : IfErr result (IsEndRefusal old.lines (left_of slot old before) before.read_faults now.read_faults)
+  pub end : OnOk result (IfSome (left_of_file slot old before) (IsAtEnd old.lines))
+  pub refused : IfErr result (IsEndRefusal old.lines (left_of_file slot old before) before.read_faults now.read_faults)
   pub number : OnErr result (new.number ≡ old.number + 1)
 
 -- What the next line says in a grammar, `IsSaid` of what code has of it; or the end of the file.
 pub record ReadsLine {X Y : Type 0} (IsText : List ℕ → X → Type 0) (InRange : X → Type 0) (IsSaid : List ℕ → Y → Type 0) (slot : Slot) (old new : FileState)
     (before now : View) (result : Result (Option Y) LineFail) : Type 0 where
   pub text : IfOk result (λ r. IfSome r (λ y. (text : List ℕ) × IsSaid text y))
-  pub line : IfOk result (λ r. IfSome r (λ y. IfSome (left_of slot old before) (λ left. TakesText IsSaid old.lines new.lines left (left_of slot new now) y)))
-  pub end : IfOk result (λ r. IfNone r (IfSome (left_of slot old before) (IsAtEnd old.lines)))
-  pub refused : IfErr result (IsNextRefusal IsText InRange old.lines (left_of slot old before) before.read_faults now.read_faults)
-  pub number : new.number ≡ old.number + lines_of result
+  pub line : IfOk result (λ r. IfSome r (λ y. IfSome (left_of_file slot old before) (λ left. TakesText IsSaid old.lines new.lines left (left_of_file slot new now) y)))
+  pub end : IfOk result (λ r. IfNone r (IfSome (left_of_file slot old before) (IsAtEnd old.lines)))
+  pub refused : IfErr result (IsNextRefusal IsText InRange old.lines (left_of_file slot old before) before.read_faults now.read_faults)
+  pub number : new.number ≡ old.number + lines_of_file result
   pub ended : new.ended ≡ is_end result
 
 -- the same of a line that has to be there
 pub record ReadsNeeded {X Y : Type 0} (IsText : List ℕ → X → Type 0) (InRange : X → Type 0) (IsSaid : List ℕ → Y → Type 0) (slot : Slot) (old new : FileState)
     (before now : View) (result : Result Y LineFail) : Type 0 where
   pub text : IfOk result (λ y. (text : List ℕ) × IsSaid text y)
-  pub line : IfOk result (λ y. IfSome (left_of slot old before) (λ left. TakesText IsSaid old.lines new.lines left (left_of slot new now) y))
-  pub refused : IfErr result (IsLineRefusal IsText InRange old.lines (left_of slot old before) before.read_faults now.read_faults)
+  pub line : IfOk result (λ y. IfSome (left_of_file slot old before) (λ left. TakesText IsSaid old.lines new.lines left (left_of_file slot new now) y))
+  pub refused : IfErr result (IsLineRefusal IsText InRange old.lines (left_of_file slot old before) before.read_faults now.read_faults)
   pub number : new.number ≡ old.number + 1
   pub ended : OnOk result (new.ended ≡ false)

@@ -5,8 +5,8 @@ use Rattle.std.specs.List.{All}
 use Rattle.std.specs.declared.option.Option.{Option}
 use Rattle.mv_desk.specs.View.{Rose}
 use Rattle.mv_desk.specs.declared.limits.Limits.{Limits}
-use Rattle.mv_desk.specs.declared.faults.LineFail.{LineFail}
-use Rattle.mv_desk.specs.declared.faults.LineFail.TheVariants as fail
+use Rattle.mv_text.specs.declared.line_fail.LineFail.{LineFail}
+use Rattle.mv_text.specs.declared.line_fail.LineFail.TheVariants as fail
 use Rattle.graph_core.specs.Text.{newline}
 use Rattle.graph_core.specs.Text.JudgedLines.{Lengths, IsTooLong}
 use Rattle.mv_text.specs.declared.room.TheConstants.{ROOM}

@@ -6,13 +6,13 @@ use Rattle.std.specs.Global.{Global}
 use Rattle.std.specs.declared.vec.Vec.{Vec}
 use Rattle.graph_core.specs.Text.Numerals.{digits_of, behind_digits}
 use Rattle.graph_core.specs.Text.Readers.{Reader}
-use Rattle.mv_desk.specs.declared.faults.LineFail.{LineFail}
-use Rattle.mv_desk.specs.declared.faults.LineFail.TheVariants as fail
+use Rattle.mv_text.specs.declared.line_fail.LineFail.{LineFail}
+use Rattle.mv_text.specs.declared.line_fail.LineFail.TheVariants as fail
 
 -- the first byte, if there is one
-abbrev pub first : List ℕ → Option ℕ
-first [] = None
-first (b ∷ bytes) = Some b
+abbrev pub first_byte : List ℕ → Option ℕ
+first_byte [] = None
+first_byte (b ∷ bytes) = Some b
 
 -- whether the first byte is there and passes a test
 abbrev pub begins : (ℕ → Bool) → List ℕ → Bool
@@ -55,3 +55,7 @@ Pushes None x longer = longer ≡ None
 -- a number of the text that code has as it is, where it is in range
 abbrev pub TakesNumber : Reader ℕ → (ℕ → Type 0) → List ℕ → List ℕ → Option ℕ → Type 0
 TakesNumber item InRange = Takes item InRange (λ n k. n ≡ k)
+
+-- a variable from 1 to the greatest one
+abbrev pub IsVariable : ℕ → ℕ → Type 0
+IsVariable max v = (0 < v) × (v ≤ max)

@@ -4,11 +4,12 @@ ghost use Rattle.std.specs.List.{AllByRecursion};
 ghost use Rattle.std.specs.Result.{result_err};
 ghost use Rattle.graph_core.specs.Text.{newline};
 ghost use Rattle.mv_desk.specs.Calls.{Reads};
-ghost use Rattle.mv_text.specs.CertificateFiles.{AnswersAgain, GivesEnd, GivesLine, GivesNeeded, GoesOn, HasFirstLine, IsFirstRefusal, IsStarted, KeepsFile, left_of, settled};
+ghost use Rattle.mv_text.specs.CertificateFiles.{AnswersAgain, GivesEnd, GivesLine, GivesNeeded, GoesOn, HasFirstLine, IsFirstRefusal, IsStarted, KeepsFile, left_of_file, settled};
 ghost use Rattle.mv_text.specs.LineReading.{FitsPiece, lengths_of};
 
+use crate::line_fail::LineFail;
 use crate::line_reader::LineReader;
-use mv_desk::{Desk, Limits, LineFail, Slot};
+use mv_desk::{Desk, Limits, Slot};
 use std::alloc::Global;
 use std::marker::Model;
 
@@ -53,7 +54,7 @@ impl CertificateFile {
         requires some { 0 < length first.now }
         ensures first { IfOk result (λ file. IfSome ((D.seen desk.old).left slot)
             (λ bytes. HasFirstLine (first.now ++ newline ∷ []) file.lines bytes
-            (left_of slot file (D.seen desk.new)))) }
+            (left_of_file slot file (D.seen desk.new)))) }
         ensures refused { IfErr result (IsFirstRefusal (first.now ++ newline ∷ []) (lengths_of limits.now)
             ((D.seen desk.old).left slot) (D.seen desk.old).read_faults (D.seen desk.new).read_faults) }
         ensures file { IfOk result (IsStarted version 1 limits.now) }

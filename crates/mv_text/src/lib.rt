@@ -17,6 +17,7 @@
 
 mod byte_reader;
 mod certificate_file;
+mod line_fail;
 mod line_reader;
 mod output;
 mod pushing;
@@ -24,6 +25,7 @@ mod room;
 mod scanner;
 
 pub use certificate_file::CertificateFile;
+pub use line_fail::LineFail;
 pub use line_reader::LineReader;
 pub use output::Output;
 pub use pushing::push;

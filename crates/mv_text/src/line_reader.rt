@@ -6,7 +6,8 @@ ghost use Rattle.mv_text.specs.CertificateFiles.{IsNeededFault};
 ghost use Rattle.mv_text.specs.LineReading.{FitsPiece, TakesPlain, known_from, lengths_of, TakesLine, EndsIn, IsByteFault, IsLineFault};
 
 use crate::byte_reader::ByteReader;
-use mv_desk::{Desk, Failed, Limits, LineFail, Slot};
+use crate::line_fail::LineFail;
+use mv_desk::{Desk, Failed, Limits, Slot};
 use std::alloc::Global;
 use std::marker::Model;
 

@@ -2,9 +2,9 @@
 ghost use Rattle.std.specs.Prelude.{IfErr, OnOk};
 ghost use Rattle.mv_text.specs.Steps.{IsMisfit, Pushes};
 
-use mv_desk::LineFail;
-
 /// Puts an item behind those of a list, where both are there; else there is no list any more.
+use crate::line_fail::LineFail;
+
 pub fn push<T: Drop>(list: &mut Option<Vec<T>>, item: Option<T>) -> Result<(), LineFail>
     ensures ok { OnOk result (Pushes list.old item list.new) }
     ensures err { IfErr result (IsMisfit ⊥) }

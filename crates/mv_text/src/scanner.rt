@@ -1,9 +1,9 @@
 // What is taken from the front of a line.
 ghost use Rattle.std.specs.Prelude.{◌≡◌, ◌<◌, ◌≤◌, ◌^◌, ◌↔◌, ◌==◌, [], IsTrue, IfOk, OnOk, IfErr, Some, None, length, take, drop};
-ghost use Rattle.graph_core.specs.Text.Numerals.{number_at, byte_at, front_at, digits_of, behind_digits, is_digit};
-ghost use Rattle.mv_text.specs.Steps.{IsDigitsOf, IsMisfit, TakesNumber, first, begins};
+ghost use Rattle.graph_core.specs.Text.Numerals.{number_at, behind_byte, front_at, digits_of, behind_digits, is_digit};
+ghost use Rattle.mv_text.specs.Steps.{IsDigitsOf, IsMisfit, TakesNumber, first_byte, begins};
 
-use mv_desk::LineFail;
+use crate::line_fail::LineFail;
 use mv_nums::read_decimal;
 use std::marker::Model;
 
@@ -36,7 +36,7 @@ impl<'a> Scanner<'a> {
 
     /// The next byte, which stays.
     pub fn peek(&self) -> Option<u8>
-        ensures { result ≡ first self.now }
+        ensures { result ≡ first_byte self.now }
     {
         self.left.first().copied()
     }
@@ -83,8 +83,8 @@ impl<'a> Scanner<'a> {
 
     // Takes one byte, where it is the next one.
     fn byte(&mut self, byte: u8) -> Result<(), LineFail>
-        ensures ok { OnOk result (byte_at byte self.old ≡ Some self.new) }
-        ensures err { IfErr result (IsMisfit (byte_at byte self.old ≡ None)) }
+        ensures ok { OnOk result (behind_byte byte self.old ≡ Some self.new) }
+        ensures err { IfErr result (IsMisfit (behind_byte byte self.old ≡ None)) }
     {
         if !self.is_at(byte) {
             return Err(LineFail::Text);

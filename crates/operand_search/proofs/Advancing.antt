@@ -3,7 +3,7 @@ use Rattle.std.specs.Prelude.{◌≡◌, ℕ, zero, suc, ◌+◌, ◌-◌, ◌<�
 use Rattle.std.proofs.Common.{refl, sym, ap, ap₂, subst, ◌∙◌, arith, true≢false, append_assoc, length-drop}
 use Rattle.std.proofs.lemmas.List.{append-nil, length-set, length-take, length-replicate, take_at, take-take, take_more, take_more_set, drop_all, drop_at, drop-replicate, get_or-take, get_or_default}
 use borrow.Rule.Slice.PartMut.{put_mid}
-use Rattle.operand_search.specs.Enumeration.{EndsWith, ones, IsStep, left_over}
+use Rattle.operand_search.specs.Enumeration.{EndsInRun, ones, IsStep, left_over}
 use Rattle.operand_search.proofs.Steps.{moved_from, moved_to, first, last, moving_is_step, moving_falls, more_is_step, more_falls, last_is_end}
 
 -- zeros from a place on, and then so many ones
@@ -115,7 +115,7 @@ module _ (xs ts : List Bool) (q p : ℕ) (h : IsScanned xs ts q p) where
 
 -- ---- the three ways on
 
-module _ (most : ℕ) (xs ys : List Bool) (q p : ℕ) (some_ones : EndsWith true xs q) (zeros_before : EndsWith false (take (length xs - q) xs) p) where
+module _ (most : ℕ) (xs ys : List Bool) (q p : ℕ) (some_ones : EndsInRun true xs q) (zeros_before : EndsInRun false (take (length xs - q) xs) p) where
   scanned : IsScanned xs (take (length xs - q) xs) q p
   scanned = record {
     within = some_ones.within;

@@ -5,7 +5,7 @@ use Rattle.std.proofs.Common.{refl, ap, arith, inl, inr, ⊎_elim, pow-suc}
 use Rattle.graph_core.specs.Graph.Assignments.{bit}
 use Rattle.frontier_core.specs.LeastDifference.{IsLexicographicallyBelow, ones_from}
 use Rattle.frontier_core.proofs.CallerLemmas.{ones_above}
-use Rattle.operand_search.specs.Enumeration.{ComesBefore, binary}
+use Rattle.operand_search.specs.Enumeration.{IsEnumeratedBefore, binary}
 
 -- the number of ones
 abbrev pub count : List Bool → ℕ
@@ -64,16 +64,16 @@ below_from k (false ∷ xs) (true ∷ ys) l h = absurd h
 below_from k (false ∷ xs) (false ∷ ys) l h = below_from (suc k) xs ys l h
 
 -- the parts of an order of values
-pub comes_before_cases : (xs ys : List Bool) → length xs ≡ length ys → ComesBefore xs ys → (count xs < count ys) ⊎ ((count xs ≡ count ys) × IsBefore xs ys)
+pub comes_before_cases : (xs ys : List Bool) → length xs ≡ length ys → IsEnumeratedBefore xs ys → (count xs < count ys) ⊎ ((count xs ≡ count ys) × IsBefore xs ys)
 comes_before_cases xs ys l h =
     let m = length-ones_from 0 xs in
     let n = length-ones_from 0 ys in
     ⊎_elim (λ lt. inl (omega arith)) (λ e. let same = e.0 in inr (omega arith, before_from 0 xs ys l e.1)) h
 
-pub comes_before_fewer : (xs ys : List Bool) → count xs < count ys → ComesBefore xs ys
+pub comes_before_fewer : (xs ys : List Bool) → count xs < count ys → IsEnumeratedBefore xs ys
 comes_before_fewer xs ys h = let m = length-ones_from 0 xs in let n = length-ones_from 0 ys in inl (omega arith)
 
-pub comes_before_same : (xs ys : List Bool) → count xs ≡ count ys → IsBefore xs ys → ComesBefore xs ys
+pub comes_before_same : (xs ys : List Bool) → count xs ≡ count ys → IsBefore xs ys → IsEnumeratedBefore xs ys
 comes_before_same xs ys e h =
     let m = length-ones_from 0 xs in
     let n = length-ones_from 0 ys in

@@ -10,7 +10,7 @@ use Rattle.graph_core.specs.Graph.Operands.{Sides, AreInRange, AreOperandsOf, Ar
 use Rattle.graph_core.proofs.OfGraphs.CallerLemmas.{length-operands}
 use Rattle.frontier_core.specs.LeastDifference.{IsDifferenceAt, IsLeastDifferenceAt, ones_from}
 use Rattle.frontier_core.proofs.CallerLemmas.{claimed_at, length-inputs_at, ones_injective, precedes_total}
-use Rattle.operand_search.specs.Enumeration.{ones, ComesBefore, IsPassed}
+use Rattle.operand_search.specs.Enumeration.{ones, IsEnumeratedBefore, IsEnumerated}
 use Rattle.operand_search.specs.Lanes.{StandFor}
 use Rattle.operand_search.specs.Runs.{IsRun, start, more, IsRightOn, IsFirstWrong}
 use Rattle.operand_search.proofs.Orders.{length-ones_from, count-false, comes_before_cases}
@@ -64,7 +64,7 @@ module _ (g : Aig) (s : Sides) (shape : HasShapeFor s.claim.add g) (once : IsDef
   module _ (most : ℕ) where
     -- no difference was passed
     abbrev pub IsClear : Bool → List Bool → Type 0
-    IsClear goes_on bits = (other : List Bool) → IsDifferenceAt g s other → IsPassed most goes_on bits other → ⊥
+    IsClear goes_on bits = (other : List Bool) → IsDifferenceAt g s other → IsEnumerated most goes_on bits other → ⊥
 
     -- where the graph is right on each of them, no difference was passed at the end
     pub run_clear : (bits : List Bool) → IsClear true bits → (xs : List Numbers) (b : Bool) (zs : List Bool) → IsRun s most bits xs b zs → All (IsRightOn g s) xs → IsClear b zs
@@ -86,7 +86,7 @@ module _ (g : Aig) (s : Sides) (shape : HasShapeFor s.claim.add g) (once : IsDef
           least = λ other difference.
               ⊎_elim
               (λ same. inl (ones_injective 0 other us (difference.size ∙ sym (length-inputs_at g s shape once of x)) (sym same)))
-              (λ o. ⊎_elim (λ h. inr h) (λ h. absurd (clear other difference (subst (ComesBefore other) (sym st.is) h))) o)
+              (λ o. ⊎_elim (λ h. inr h) (λ h. absurd (clear other difference (subst (IsEnumeratedBefore other) (sym st.is) h))) o)
               (precedes_total (ones_from 0 us) (ones_from 0 other));
         }
 

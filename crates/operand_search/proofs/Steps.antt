@@ -3,7 +3,7 @@ use Rattle.std.specs.Prelude.{◌≡◌, ℕ, zero, suc, ◌+◌, ◌-◌, ◌*�
 use Rattle.std.proofs.Common.{refl, sym, ap, ap₂, ◌∙◌, arith, inl, inr, ⊎_elim, suc-mul, length-append}
 use Rattle.std.proofs.lemmas.List.{length-replicate}
 use Rattle.std.proofs.lemmas.Bool.{cases_lt}
-use Rattle.operand_search.specs.Enumeration.{ones, ComesBefore, IsStep, left_over}
+use Rattle.operand_search.specs.Enumeration.{ones, IsEnumeratedBefore, IsStep, left_over}
 use Rattle.operand_search.proofs.Orders.{count, length-ones_from, count-append, count-true, count-false, IsBefore, comes_before_cases, comes_before_fewer, comes_before_same, binary-low, binary_falls}
 
 -- zeros and then ones, and the other way round
@@ -130,7 +130,7 @@ module _ (p q : ℕ) where
   ys_count : count ys ≡ suc q
   ys_count = omega (arith, count-append (replicate q true) (replicate p false), count-true q, count-false p)
 
-  passed_more : (zs : List Bool) → length zs ≡ length xs → count zs ≤ q → (zs ≡ xs) ⊎ ComesBefore zs xs
+  passed_more : (zs : List Bool) → length zs ≡ length xs → count zs ≤ q → (zs ≡ xs) ⊎ IsEnumeratedBefore zs xs
   passed_more zs l c =
       let size = xs_length in
       let here = xs_count in

@@ -5,7 +5,7 @@ use Rattle.graph_core.specs.declared.numbers.Numbers.{Numbers}
 use Rattle.graph_core.specs.Graph.{Aig, evaluated}
 use Rattle.graph_core.specs.Graph.Operands.{Sides, claimed, inputs_at, output_modulus, value_at_inputs}
 use Rattle.frontier_core.specs.LeastDifference.{IsDifferenceAt}
-use Rattle.operand_search.specs.Enumeration.{ComesBefore, IsStep}
+use Rattle.operand_search.specs.Enumeration.{IsEnumeratedBefore, IsStep}
 use Rattle.operand_search.specs.Lanes.{StandFor}
 
 -- So many steps from values of the inputs on, and the numbers that were stepped from.
@@ -26,4 +26,4 @@ pub record IsFirstWrong (g : Aig) (s : Sides) (xs : List Numbers) (j : ℕ) : Ty
 
 -- No values of the inputs on which it isn't come before these.
 abbrev pub NoneBefore : Aig → Sides → List Bool → Type 0
-NoneBefore g s bits = (other : List Bool) → IsDifferenceAt g s other → ComesBefore other bits → ⊥
+NoneBefore g s bits = (other : List Bool) → IsDifferenceAt g s other → IsEnumeratedBefore other bits → ⊥

@@ -1,6 +1,6 @@
 // The values of some inputs one after another: fewer ones first, and as many by the order of their positions.
 ghost use Rattle.std.specs.Prelude.{◌≡◌, ◌+◌, ◌-◌, ◌<◌, ◌≤◌, ◌++◌, true, false, length, take, replicate};
-ghost use Rattle.operand_search.specs.Enumeration.{EndsWith, IsStep, ones, left_over};
+ghost use Rattle.operand_search.specs.Enumeration.{EndsInRun, IsStep, ones, left_over};
 
 /// Goes on to the next values with at most so many ones; false where there are none.
 pub(crate) fn advance(bits: &mut [bool], most_ones: usize) -> bool
@@ -27,7 +27,7 @@ pub(crate) fn advance(bits: &mut [bool], most_ones: usize) -> bool
 
 // How many values at the end are this one.
 fn run_at_end(bits: &[bool], value: bool) -> usize
-    ensures { EndsWith value bits.now result }
+    ensures { EndsInRun value bits.now result }
 {
     let mut rest = bits.len();
     while rest > 0 && bits[rest - 1] == value {

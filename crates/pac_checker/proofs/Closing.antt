@@ -13,10 +13,10 @@ use Rattle.graph_core.proofs.OfAlgebra.CallerLemmas.{closes_agrees, refused_clos
 use Rattle.mv_fact.specs.Always.{Always}
 use Rattle.mv_fact.specs.Facts.{Facts, fact_at}
 use Rattle.poly_terms.specs.Tables.{Table, Sum}
-use Rattle.gate_axioms.specs.Axioms.{IsSpecification}
+use Rattle.gate_axioms.specs.Axioms.{HasSpecificationValue}
 use Rattle.pac_checker.specs.declared.fault.CloseFault.{CloseFault}
 use Rattle.pac_checker.specs.declared.fault.CloseFault.TheVariants as close
-use Rattle.pac_checker.specs.Checking.{Checking, Grows, IsClosedBy, SpecificationVanishes, checking_of, ledger_of}
+use Rattle.pac_checker.specs.Checking.{AlgebraChecking, GrowsCheckedTable, IsClosedBy, SpecificationVanishes, checking_of, ledger_of}
 use Rattle.pac_checker.specs.Faults.{IsCloseFault, IsClosingFault}
 use Rattle.pac_checker.specs.Rules.{AreEqual, Differ}
 use Rattle.pac_checker.proofs.Entries.{there, gone, value_of-entry}
@@ -25,18 +25,18 @@ pub close_missing : (added : List Clause) (e : Extended) (sides : Sides) (facts 
     IsCloseFault e sides (ledger_of (checking_of added e sides facts last)) id (close.NoSuchLine id)
 close_missing added e sides facts last id none = inl ((λ live. true≢false (sym live ∙ gone facts.table facts.entries id none)), refl)
 
-pub closes_equal : (added : List Clause) (e : Extended) (sides : Sides) (facts : Facts Sum Table) (last id : ℕ) (p wanted : Sum) → fact_at facts.entries id ≡ Some p → IsSpecification facts.table wanted e sides →
+pub closes_equal : (added : List Clause) (e : Extended) (sides : Sides) (facts : Facts Sum Table) (last id : ℕ) (p wanted : Sum) → fact_at facts.entries id ≡ Some p → HasSpecificationValue facts.table wanted e sides →
     AreEqual facts.table p wanted → Closes e sides (ledger_of (checking_of added e sides facts last)).live id
 closes_equal added e sides facts last id p wanted found is same = (there facts.table facts.entries id p found, λ σ. value_of-entry facts.table facts.entries id p found σ ∙ same σ ∙ is σ)
 
-pub closes_unequal : (added : List Clause) (e : Extended) (sides : Sides) (facts : Facts Sum Table) (last id : ℕ) (p wanted : Sum) → fact_at facts.entries id ≡ Some p → IsSpecification facts.table wanted e sides →
+pub closes_unequal : (added : List Clause) (e : Extended) (sides : Sides) (facts : Facts Sum Table) (last id : ℕ) (p wanted : Sum) → fact_at facts.entries id ≡ Some p → HasSpecificationValue facts.table wanted e sides →
     Differ facts.table p wanted → IsCloseFault e sides (ledger_of (checking_of added e sides facts last)) id close.NotSpec
 closes_unequal added e sides facts last id p wanted found is apart =
     inr (there facts.table facts.entries id p found, inl ((apart.0, λ same. apart.1 (sym (value_of-entry facts.table facts.entries id p found apart.0) ∙ same ∙ sym (is apart.0))), refl))
 
 -- ---- over a table that has grown
 
-module _ (old mid : Checking) (g : Grows old mid) where
+module _ (old mid : AlgebraChecking) (g : GrowsCheckedTable old mid) where
   pub closes_grown : (id : ℕ) → IsClosedBy mid id → IsClosedBy old id
   closes_grown id h =
       closes_agrees old.extended old.sides (ledger_of mid) (ledger_of old) g.ledger id

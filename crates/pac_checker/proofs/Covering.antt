@@ -11,9 +11,9 @@ use Rattle.graph_core.specs.Graph.Extended.{Extended}
 use Rattle.graph_core.specs.Graph.Operands.{Sides}
 use Rattle.graph_core.specs.Algebra.Polynomials.{Polynomial, value}
 use Rattle.graph_core.specs.Algebra.{LiveLine, Line, Part, Sum, Product, Combination, Import, Delete, Ledger, IsLive, IsNewId, IsLawfulLine, AreLawfulLines, Closes, line_of, value_of, value_or_zero, combined, named, operands, introduce, after, after_all}
-use Rattle.graph_core.specs.Algebra.Agreement.{Agree, AreSame, AreSameImports}
+use Rattle.graph_core.specs.Algebra.Agreement.{AreSame, AreSameImports, LedgersAgree}
 use Rattle.graph_core.proofs.OfAlgebra.CallerLemmas.{agree_sym, agree_trans, lawful_agrees, line_of-deleted, live_agrees, same_refl, same_sym, same_trans}
-use Rattle.pac_checker.specs.Recording.{AreWithin, Covers}
+use Rattle.pac_checker.specs.Recording.{AreIdsWithin, Covers}
 
 -- ---- a line behind others
 
@@ -27,7 +27,7 @@ lines_more m l (y ∷ xs) x h k = let rest = lines_more m (after m l y) xs x h.1
 abbrev importing : List (Assignment → ℕ) → Ledger
 importing fs = record { live = []; last = 0; imports = fs }
 
-alike : (fs gs : List (Assignment → ℕ)) → AreSameImports fs gs → Agree (importing fs) (importing gs)
+alike : (fs gs : List (Assignment → ℕ)) → AreSameImports fs gs → LedgersAgree (importing fs) (importing gs)
 alike fs gs h = record { last = refl; lines = λ id. tt; imports = h }
 
 imports_join : (fs gs hs : List (Assignment → ℕ)) → AreSameImports fs gs → AreSameImports hs gs → AreSameImports fs hs
@@ -35,7 +35,7 @@ imports_join fs gs hs a b = (agree_trans (importing fs) (importing gs) (importin
 
 -- ---- what covers what
 
-pub covers_agreeing : (l k j : Ledger) → Covers l k → Agree j k → Covers l j
+pub covers_agreeing : (l k j : Ledger) → Covers l k → LedgersAgree j k → Covers l j
 covers_agreeing l k j c a = record {
   last = c.last ∙ sym a.last;
   lines = λ id live. same_trans (line_of l.live id) (line_of k.live id) (line_of j.live id) (c.lines id (live_agrees j k a id live)) (same_sym (line_of j.live id) (line_of k.live id) (a.lines id));
@@ -122,25 +122,25 @@ module _ (m : ℕ) (l k : Ledger) (c : Covers l k) where
 
 -- ---- ids up to the last one
 
-pub within_agreeing : (l k : Ledger) → Agree k l → AreWithin l → AreWithin k
+pub within_agreeing : (l k : Ledger) → LedgersAgree k l → AreIdsWithin l → AreIdsWithin k
 within_agreeing l k a h id live = let low = h id (live_agrees k l a id live) in let same = a.last in omega arith
 
-module _ (m : ℕ) (l : Ledger) (h : AreWithin l) where
-  within_new : (id : ℕ) (p : Polynomial) → l.last < id → AreWithin (introduce m l id p)
+module _ (m : ℕ) (l : Ledger) (h : AreIdsWithin l) where
+  within_new : (id : ℕ) (p : Polynomial) → l.last < id → AreIdsWithin (introduce m l id p)
   within_new id p above other live = go (id == other) refl live
     where
       go : (b : Bool) → (id == other) ≡ b → IsSome (cond b (Some (record { id = id; value = value m p })) (line_of l.live other)) → other ≤ id
       go true f live = let same = eqb-true id other f in omega arith
       go false f live = let low = h other live in omega arith
 
-  within_fewer : (id : ℕ) → AreWithin (after m l (Delete id))
+  within_fewer : (id : ℕ) → AreIdsWithin (after m l (Delete id))
   within_fewer id other live = go (other == id) (subst IsSome (line_of-deleted l.live id other) live)
     where
       go : (b : Bool) → IsSome (cond b None (line_of l.live other)) → other ≤ l.last
       go true live = absurd (true≢false (sym live))
       go false live = h other live
 
-  pub within_after : (x : Line) → IsNewId l.last x → AreWithin (after m l x)
+  pub within_after : (x : Line) → IsNewId l.last x → AreIdsWithin (after m l x)
   within_after (Sum id i j p) above = within_new id p above
   within_after (Product id i q p) above = within_new id p above
   within_after (Combination id parts p) above = within_new id p above

@@ -22,18 +22,18 @@ use Rattle.graph_core.specs.Algebra.{Ledger, IsLive, import_of, import_or_zero, 
 use Rattle.graph_core.specs.Algebra as algebra
 use Rattle.graph_core.proofs.OfAlgebra.CallerLemmas.{agree_trans, imports_refl}
 use Rattle.mv_fact.specs.Facts.{Facts}
-use Rattle.poly_terms.specs.Tables.{Table, Sum, IsOf, Extends, modulus, monomials_in, value_in}
+use Rattle.poly_terms.specs.Tables.{Table, Sum, IsOf, Extends, modulus_in, monomials_in, value_in}
 use Rattle.poly_terms.specs.Laws.{modulus_stays, value_stays}
 use Rattle.pac_checker.specs.declared.fault.LineFault.{LineFault}
 use Rattle.pac_checker.specs.declared.fault.LineFault.TheVariants.{Id, NoSuchLine, NoSuchClause, NotEqual, Memory}
-use Rattle.pac_checker.specs.Checking.{Checking, Takes, checking_of, ledger_of}
-use Rattle.pac_checker.specs.Rules.{AreEqual, Introduces, IsRefused, IsSound, IsStatingFault, clause_at, import_line}
+use Rattle.pac_checker.specs.Checking.{AlgebraChecking, TakesAlgebraLine, checking_of, ledger_of}
+use Rattle.pac_checker.specs.Rules.{AreEqual, Introduces, IsCheckerSound, IsRefused, IsStatingFault, clause_numbered, import_line}
 use Rattle.pac_checker.proofs.Lawful.{introduce_same}
 
 -- ---- clauses by number
 
 -- the clause of a number is one of the clauses
-clause_among : (P : Clause → Type 0) (cs : List Clause) (number : ℕ) (c : Clause) → All P cs → clause_at cs number ≡ Some c → P c
+clause_among : (P : Clause → Type 0) (cs : List Clause) (number : ℕ) (c : Clause) → All P cs → clause_numbered cs number ≡ Some c → P c
 clause_among P cs zero c all is = absurd (cc)
 clause_among P cs (suc j) c all is = go cs j all is
   where
@@ -43,7 +43,7 @@ clause_among P cs (suc j) c all is = go cs j all is
     go (d ∷ cs) (suc j) all is = go cs j (λ k e below. all (suc k) e (omega arith)) is
 
 -- what may be imported under its number is its value
-import_is : (cs : List Clause) (number : ℕ) (c : Clause) → clause_at cs number ≡ Some c → import_of (map clause_value cs) number ≡ Some (clause_value c)
+import_is : (cs : List Clause) (number : ℕ) (c : Clause) → clause_numbered cs number ≡ Some c → import_of (map clause_value cs) number ≡ Some (clause_value c)
 import_is cs zero c is = absurd (cc)
 import_is cs (suc j) c is = go cs j is
   where
@@ -55,17 +55,17 @@ import_is cs (suc j) c is = go cs j is
 -- ---- lawful imports
 
 -- the polynomial of a clause that holds on every evaluation vanishes
-pub clause_vanishes : (gates : List Gate) (cs : List Clause) (number : ℕ) (c : Clause) (t : Table) (p : Sum) → All (IsClauseFact gates) cs → clause_at cs number ≡ Some c → IsOf t p → IsClausePoly t p c → Vanishes gates t p
+pub clause_vanishes : (gates : List Gate) (cs : List Clause) (number : ℕ) (c : Clause) (t : Table) (p : Sum) → All (IsClauseFact gates) cs → clause_numbered cs number ≡ Some c → IsOf t p → IsClausePoly t p c → Vanishes gates t p
 clause_vanishes gates cs number c t p facts there of is =
     record { of_table = of; always = λ σ evaluates. clause_values.polys_vanish t p c σ is ((clause_among (IsClauseFact gates) cs number c facts there).always σ evaluates) }
 
 -- What is found of an import: the id is new, the clause is there, and a polynomial of a table that has grown has its value.
 pub record IsImportOf (added : List Clause) (e : Extended) (s : Sides) (old mid : Facts Sum Table) (last id number : ℕ) (c : Clause) (p q : Sum) : Type 0 where
-  pub sound : IsSound added e s old last
+  pub sound : IsCheckerSound added e s old last
   pub keeps : KeepsLines old mid
   pub above : last < id
   pub of_table : IsOf old.table q
-  pub there : clause_at added number ≡ Some c
+  pub there : clause_numbered added number ≡ Some c
   pub value : IsClausePoly mid.table p c
 
 module _ (added : List Clause) (e : Extended) (s : Sides) (old mid : Facts Sum Table) (last id number : ℕ) (c : Clause) (p q : Sum) (h : IsImportOf added e s old mid last id number c p q) where
@@ -86,7 +86,7 @@ module _ (added : List Clause) (e : Extended) (s : Sides) (old mid : Facts Sum T
   is_there : is_some (import_of (map clause_value added) number) ≡ true
   is_there = ap is_some (import_is added number c h.there)
 
-  takes : (new : Checking) → AreEqual mid.table p q → Introduces id (monomials_in mid.table q) (checking_of added e s mid last) new → Takes (import_line old.table id number q) (checking_of added e s old last) new
+  takes : (new : AlgebraChecking) → AreEqual mid.table p q → Introduces id (monomials_in mid.table q) (checking_of added e s mid last) new → TakesAlgebraLine (import_line old.table id number q) (checking_of added e s old last) new
   takes new same i =
       let first : Ledger = ledger_of (checking_of added e s old last) in
       let between : Ledger = ledger_of (checking_of added e s mid last) in
@@ -98,12 +98,12 @@ module _ (added : List Clause) (e : Extended) (s : Sides) (old mid : Facts Sum T
         recorded = i.recorded;
         table = subst (Extends old.table) (sym i.table) h.keeps.table;
         lawful = record { new_id = h.above; live_operands = All-nil (IsLive (lines_of old)); there = is_there; equal = λ σ. sym (stated_is σ) ∙ sym (same σ) ∙ named_is σ };
-        ledger = agree_trans (ledger_of new) (introduce (modulus mid.table) between id (monomials_in mid.table q)) (introduce (algebra.modulus e) first id (monomials_in old.table q)) i.ledger
-            (introduce_same between first id (modulus mid.table) (algebra.modulus e) (monomials_in mid.table q) (monomials_in old.table q) (record { last = refl; lines = h.keeps.lines; imports = imports_refl (map clause_value added) }) stated_is);
+        ledger = agree_trans (ledger_of new) (introduce (modulus_in mid.table) between id (monomials_in mid.table q)) (introduce (algebra.modulus e) first id (monomials_in old.table q)) i.ledger
+            (introduce_same between first id (modulus_in mid.table) (algebra.modulus e) (monomials_in mid.table q) (monomials_in old.table q) (record { last = refl; lines = h.keeps.lines; imports = imports_refl (map clause_value added) }) stated_is);
       }
 
-  pub takes_import : {T : Type 0} (r : Result T LineFault) (new : Checking) → OnOk r (AreEqual mid.table p q) → OnOk r (Introduces id (monomials_in mid.table q) (checking_of added e s mid last) new) →
-      OnOk r (Takes (import_line old.table id number q) (checking_of added e s old last) new)
+  pub takes_import : {T : Type 0} (r : Result T LineFault) (new : AlgebraChecking) → OnOk r (AreEqual mid.table p q) → OnOk r (Introduces id (monomials_in mid.table q) (checking_of added e s mid last) new) →
+      OnOk r (TakesAlgebraLine (import_line old.table id number q) (checking_of added e s old last) new)
   takes_import (Ok t) new same i = takes new same i
   takes_import (Err fault) new same i = same
 

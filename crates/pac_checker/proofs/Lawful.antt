@@ -14,22 +14,23 @@ use Rattle.graph_core.specs.Algebra.{LiveLine, Line, Ledger, IsLive, line_of, op
 use Rattle.graph_core.specs.Algebra as algebra
 use Rattle.graph_core.specs.Algebra.Refusal.{first_missing}
 use Rattle.mv_fact.specs.Facts.{Facts, fact_at}
-use Rattle.poly_terms.specs.Tables.{Table, Sum, IsOf, Extends, modulus, value_in, monomials_in}
+use Rattle.poly_terms.specs.Tables.{Table, Sum, IsOf, Extends, modulus_in, value_in, monomials_in}
 use Rattle.poly_terms.specs.Laws.{modulus_stays, value_stays, extends_itself}
 use Rattle.pac_checker.specs.declared.fault.LineFault.{LineFault}
 use Rattle.pac_checker.specs.declared.fault.LineFault.TheVariants.{Id, NoSuchLine, NoSuchClause, NotEqual, Memory}
-use Rattle.graph_core.specs.Algebra.Agreement.{AreSame, Agree}
+use Rattle.graph_core.specs.Algebra.Agreement.{AreSame, LedgersAgree}
 use Rattle.gate_axioms.specs.ClauseValues.{clause_value}
 use Rattle.gate_axioms.specs.Lines.{lines_of}
 use Rattle.gate_axioms.specs.Steps.{KeepsLines}
-use Rattle.pac_checker.specs.Checking.{Checking, checking_of, ledger_of, Grows, KeepsLedger}
-use Rattle.pac_checker.specs.Rules.{AreEqual, AreRefused, Introduces, IsLineOf, IsNamed, IsSound, IsStatingFault, TakesLinesOf, parts_in}
+use Rattle.pac_checker.specs.Checking.{AlgebraChecking, checking_of, ledger_of, GrowsCheckedTable, KeepsLedger}
+use Rattle.pac_checker.specs.Rules.{AreEqual, AreRefused, Introduces, IsCheckerSound, IsNamed, IsStatingFault, IsStatingLine, TakesLinesOf}
 use Rattle.graph_core.proofs.OfAlgebra.CallerLemmas.{agree_trans, agree_refl, imports_refl}
+use Rattle.poly_text.specs.Lines.{parts_in}
 
 -- ---- the table has grown
 
 -- the type's facts are kept
-pub sound_grown : (added : List Clause) (e : Extended) (s : Sides) (old new : Facts Sum Table) (last : ℕ) → KeepsLines old new → IsSound added e s old last → IsSound added e s new last
+pub sound_grown : (added : List Clause) (e : Extended) (s : Sides) (old new : Facts Sum Table) (last : ℕ) → KeepsLines old new → IsCheckerSound added e s old last → IsCheckerSound added e s new last
 sound_grown added e s old new last k h = record {
   importable = h.importable;
   same_gates = k.gates ∙ h.same_gates;
@@ -37,7 +38,7 @@ sound_grown added e s old new last k h = record {
   fresh = λ id above. ap (λ es. fact_at es id) k.entries ∙ h.fresh id above;
 }
 
-pub grows : (added : List Clause) (e : Extended) (sides : Sides) (old new : Facts Sum Table) (last : ℕ) → KeepsLines old new → Grows (checking_of added e sides old last) (checking_of added e sides new last)
+pub grows : (added : List Clause) (e : Extended) (sides : Sides) (old new : Facts Sum Table) (last : ℕ) → KeepsLines old new → GrowsCheckedTable (checking_of added e sides old last) (checking_of added e sides new last)
 grows added e sides old new last k = record {
   added = refl;
   extended = refl;
@@ -50,10 +51,10 @@ grows added e sides old new last k = record {
   ledger = record { last = refl; lines = k.lines; imports = imports_refl (map clause_value added) };
 }
 
-pub grows_itself : (c : Checking) → Grows c c
+pub grows_itself : (c : AlgebraChecking) → GrowsCheckedTable c c
 grows_itself c = record { added = refl; extended = refl; sides = refl; table = extends_itself c.table; entries = refl; last = refl; records = refl; recorded = refl; ledger = agree_refl (ledger_of c) }
 
-pub keeps_ledger_itself : (c : Checking) → KeepsLedger c c
+pub keeps_ledger_itself : (c : AlgebraChecking) → KeepsLedger c c
 keeps_ledger_itself c = record { added = refl; extended = refl; sides = refl; records = refl; recorded = refl; ledger = agree_refl (ledger_of c) }
 
 -- what holds anyway holds where a call failed
@@ -76,7 +77,7 @@ pub all_live : (live : List LiveLine) (ids : List ℕ) → first_missing live id
 all_live live ids h = All-from_recursion (IsLive live) ids (none_missing live ids h)
 
 -- ledgers that agree do so with a new line of the same values
-pub introduce_same : (l k : Ledger) (id m n : ℕ) (p q : Polynomial) → Agree l k → ((σ : Assignment) → value m p σ ≡ value n q σ) → Agree (introduce m l id p) (introduce n k id q)
+pub introduce_same : (l k : Ledger) (id m n : ℕ) (p q : Polynomial) → LedgersAgree l k → ((σ : Assignment) → value m p σ ≡ value n q σ) → LedgersAgree (introduce m l id p) (introduce n k id q)
 introduce_same l k id m n p q a same = record { last = refl; imports = a.imports; lines = λ other. go other (id == other) }
   where
     go : (other : ℕ) (b : Bool) → AreSame (cond b (Some (record { id = id; value = value m p })) (line_of l.live other)) (cond b (Some (record { id = id; value = value n q })) (line_of k.live other))
@@ -84,20 +85,20 @@ introduce_same l k id m n p q a same = record { last = refl; imports = a.imports
     go other false = a.lines other
 
 -- the stated polynomial has the value that the rule names, modulo the modulus of the graph
-equal_named : (added : List Clause) (e : Extended) (s : Sides) (old mid : Facts Sum Table) (last id : ℕ) (parts : List (ℕ × Sum)) (p q : Sum) (x : Line) → IsSound added e s old last → KeepsLines old mid → IsOf old.table q → IsNamed old mid (parts_in old.table parts) p →
-    IsLineOf (checking_of added e s old last) id parts q x → (σ : Assignment) → value_in mid.table p σ ≡ value_in mid.table q σ →
+equal_named : (added : List Clause) (e : Extended) (s : Sides) (old mid : Facts Sum Table) (last id : ℕ) (parts : List (ℕ × Sum)) (p q : Sum) (x : Line) → IsCheckerSound added e s old last → KeepsLines old mid → IsOf old.table q → IsNamed old mid (parts_in old.table parts) p →
+    IsStatingLine (checking_of added e s old last) id parts q x → (σ : Assignment) → value_in mid.table p σ ≡ value_in mid.table q σ →
     value (algebra.modulus e) (stated x) σ ≡ named (algebra.modulus e) (ledger_of (checking_of added e s old last)) x σ % algebra.modulus e
 equal_named added e s old mid last id parts p q x sound k of found line σ same =
     subst (λ m. value m (stated x) σ ≡ named m (ledger_of (checking_of added e s old last)) x σ % m) sound.same_modulus
-    (ap (λ r. value (modulus old.table) r σ) line.states ∙ sym (value_stays old.table mid.table q σ k.table of) ∙ sym same ∙ found.same σ ∙ sym (line.names σ))
+    (ap (λ r. value (modulus_in old.table) r σ) line.states ∙ sym (value_stays old.table mid.table q σ k.table of) ∙ sym same ∙ found.same σ ∙ sym (line.names σ))
 
 -- its operands are live
 live_named : (added : List Clause) (e : Extended) (s : Sides) (old mid : Facts Sum Table) (last id : ℕ) (parts : List (ℕ × Sum)) (p q : Sum) (x : Line) → IsNamed old mid (parts_in old.table parts) p →
-    IsLineOf (checking_of added e s old last) id parts q x → All (IsLive (lines_of old)) (operands x)
+    IsStatingLine (checking_of added e s old last) id parts q x → All (IsLive (lines_of old)) (operands x)
 live_named added e s old mid last id parts p q x found line = all_live (lines_of old) (operands x) (ap (first_missing (lines_of old)) line.lines ∙ found.live)
 
 -- a line whose named polynomial is found equal, and put under the new id, is taken
-pub takes_named : (added : List Clause) (e : Extended) (s : Sides) (old mid : Facts Sum Table) (last id : ℕ) (parts : List (ℕ × Sum)) (p q : Sum) (new : Checking) → IsSound added e s old last → KeepsLines old mid → last < id → IsOf old.table q →
+pub takes_named : (added : List Clause) (e : Extended) (s : Sides) (old mid : Facts Sum Table) (last id : ℕ) (parts : List (ℕ × Sum)) (p q : Sum) (new : AlgebraChecking) → IsCheckerSound added e s old last → KeepsLines old mid → last < id → IsOf old.table q →
     IsNamed old mid (parts_in old.table parts) p → AreEqual mid.table p q → Introduces id (monomials_in mid.table q) (checking_of added e s mid last) new → TakesLinesOf id parts q (checking_of added e s old last) new
 takes_named added e s old mid last id parts p q new sound k above of found same i = λ x line.
     let before : Ledger = ledger_of (checking_of added e s old last) in
@@ -110,13 +111,13 @@ takes_named added e s old mid last id parts p q new sound k above of found same 
       recorded = i.recorded;
       table = subst (Extends old.table) (sym i.table) k.table;
       lawful = record { new_id = line.is_new last above; live_operands = live_named added e s old mid last id parts p q x found line; there = line.there before.imports; equal = λ σ. equal_named added e s old mid last id parts p q x sound k of found line σ (same σ) };
-      ledger = subst (Agree (ledger_of new)) (sym (line.next (algebra.modulus e) before))
-          (agree_trans (ledger_of new) (introduce (modulus mid.table) between id (monomials_in mid.table q)) (introduce (algebra.modulus e) before id (monomials_in old.table q)) i.ledger
-          (introduce_same between before id (modulus mid.table) (algebra.modulus e) (monomials_in mid.table q) (monomials_in old.table q) (record { last = refl; lines = k.lines; imports = imports_refl (map clause_value added) })
+      ledger = subst (LedgersAgree (ledger_of new)) (sym (line.next (algebra.modulus e) before))
+          (agree_trans (ledger_of new) (introduce (modulus_in mid.table) between id (monomials_in mid.table q)) (introduce (algebra.modulus e) before id (monomials_in old.table q)) i.ledger
+          (introduce_same between before id (modulus_in mid.table) (algebra.modulus e) (monomials_in mid.table q) (monomials_in old.table q) (record { last = refl; lines = k.lines; imports = imports_refl (map clause_value added) })
           (λ σ. value_stays old.table mid.table q σ k.table of ∙ ap (λ m. value m (monomials_in old.table q) σ) sound.same_modulus)));
     }
 
-pub takes_stated : {T : Type 0} (r : Result T LineFault) (added : List Clause) (e : Extended) (s : Sides) (old mid : Facts Sum Table) (last id : ℕ) (parts : List (ℕ × Sum)) (p q : Sum) (new : Checking) → IsSound added e s old last → KeepsLines old mid → last < id → IsOf old.table q →
+pub takes_stated : {T : Type 0} (r : Result T LineFault) (added : List Clause) (e : Extended) (s : Sides) (old mid : Facts Sum Table) (last id : ℕ) (parts : List (ℕ × Sum)) (p q : Sum) (new : AlgebraChecking) → IsCheckerSound added e s old last → KeepsLines old mid → last < id → IsOf old.table q →
     IsNamed old mid (parts_in old.table parts) p → OnOk r (AreEqual mid.table p q) → OnOk r (Introduces id (monomials_in mid.table q) (checking_of added e s mid last) new) → OnOk r (TakesLinesOf id parts q (checking_of added e s old last) new)
 takes_stated (Ok t) added e s old mid last id parts p q new sound k above of found same i = takes_named added e s old mid last id parts p q new sound k above of found same i
 takes_stated (Err fault) added e s old mid last id parts p q new sound k above of found same i = same
@@ -124,7 +125,7 @@ takes_stated (Err fault) added e s old mid last id parts p q new sound k above o
 -- ---- refused lines
 
 -- a polynomial that differs from the named one does
-stating_refused : (added : List Clause) (e : Extended) (s : Sides) (old mid : Facts Sum Table) (last id : ℕ) (parts : List (ℕ × Sum)) (p q : Sum) (fault : LineFault) → IsSound added e s old last → KeepsLines old mid → last < id → IsOf old.table q →
+stating_refused : (added : List Clause) (e : Extended) (s : Sides) (old mid : Facts Sum Table) (last id : ℕ) (parts : List (ℕ × Sum)) (p q : Sum) (fault : LineFault) → IsCheckerSound added e s old last → KeepsLines old mid → last < id → IsOf old.table q →
     IsNamed old mid (parts_in old.table parts) p → IsStatingFault mid.table p q fault → AreRefused (checking_of added e s old last) id parts q fault
 stating_refused added e s old mid last id parts p q Id sound k above of found h = absurd h
 stating_refused added e s old mid last id parts p q (NoSuchLine missing) sound k above of found h = absurd h
@@ -132,14 +133,14 @@ stating_refused added e s old mid last id parts p q (NoSuchClause number) sound 
 stating_refused added e s old mid last id parts p q NotEqual sound k above of found h = λ x line.
     inr (line.is_new last above, inr (live_named added e s old mid last id parts p q x found line, inr (line.there (map clause_value added), inl ((h.0, λ same. h.1 (differ x line same)), refl))))
   where
-    differ : (x : Line) → IsLineOf (checking_of added e s old last) id parts q x → value (algebra.modulus e) (stated x) h.0 ≡ named (algebra.modulus e) (ledger_of (checking_of added e s old last)) x h.0 % algebra.modulus e →
+    differ : (x : Line) → IsStatingLine (checking_of added e s old last) id parts q x → value (algebra.modulus e) (stated x) h.0 ≡ named (algebra.modulus e) (ledger_of (checking_of added e s old last)) x h.0 % algebra.modulus e →
         value_in mid.table p h.0 ≡ value_in mid.table q h.0
     differ x line same =
         found.same h.0 ∙ sym (line.names h.0) ∙ subst (λ m. named m (ledger_of (checking_of added e s old last)) x h.0 % m ≡ value m (stated x) h.0) (sym sound.same_modulus) (sym same) ∙
-        ap (λ r. value (modulus old.table) r h.0) line.states ∙ sym (value_stays old.table mid.table q h.0 k.table of)
+        ap (λ r. value (modulus_in old.table) r h.0) line.states ∙ sym (value_stays old.table mid.table q h.0 k.table of)
 stating_refused added e s old mid last id parts p q Memory sound k above of found h = λ x line. tt
 
-pub stating_faults : {T : Type 0} (r : Result T LineFault) (added : List Clause) (e : Extended) (s : Sides) (old mid : Facts Sum Table) (last id : ℕ) (parts : List (ℕ × Sum)) (p q : Sum) → IsSound added e s old last → KeepsLines old mid → last < id → IsOf old.table q →
+pub stating_faults : {T : Type 0} (r : Result T LineFault) (added : List Clause) (e : Extended) (s : Sides) (old mid : Facts Sum Table) (last id : ℕ) (parts : List (ℕ × Sum)) (p q : Sum) → IsCheckerSound added e s old last → KeepsLines old mid → last < id → IsOf old.table q →
     IsNamed old mid (parts_in old.table parts) p → IfErr r (IsStatingFault mid.table p q) → IfErr r (AreRefused (checking_of added e s old last) id parts q)
 stating_faults (Ok t) added e s old mid last id parts p q sound k above of found h = h
 stating_faults (Err fault) added e s old mid last id parts p q sound k above of found h = stating_refused added e s old mid last id parts p q fault sound k above of found h

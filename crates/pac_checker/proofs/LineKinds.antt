@@ -6,21 +6,21 @@ use Rattle.graph_core.specs.Algebra.{Line, introduce, value_of}
 use Rattle.graph_core.specs.Algebra as algebra
 use Rattle.graph_core.specs.Algebra.Refusal as cause
 use Rattle.graph_core.proofs.OfAlgebra.CallerLemmas.{after_agrees, agree_trans, lawful_agrees, refused_in_range_agrees}
-use Rattle.poly_terms.specs.Tables.{Sum, IsOf, modulus, monomials_in}
+use Rattle.poly_terms.specs.Tables.{Sum, IsOf, modulus_in, monomials_in}
 use Rattle.poly_terms.specs.Laws.{extends_on, modulus_stays, monomials_stay}
 use Rattle.pac_checker.specs.declared.fault.LineFault.{LineFault}
 use Rattle.pac_checker.specs.declared.fault.LineFault.TheVariants.{Id, NoSuchLine, NoSuchClause, NotEqual, Memory}
-use Rattle.pac_checker.specs.Checking.{Checking, ledger_of, recorded_of, Grows, Takes}
-use Rattle.pac_checker.specs.Rules.{IsLineOf, IsRefused, combination_line, product_line, sum_line}
-use Rattle.pac_checker.specs.Works.{IsMade}
+use Rattle.pac_checker.specs.Checking.{AlgebraChecking, ledger_of, recorded_of, GrowsCheckedTable, TakesAlgebraLine}
+use Rattle.pac_checker.specs.Rules.{IsRefused, IsStatingLine, combination_line, product_line, sum_line}
+use Rattle.pac_checker.specs.Works.{IsPolyOfValue}
 
 two_ones : (m k v w f : ℕ) → f ≡ 1 % k → m ≡ k → (v + w) % m ≡ (v * f + (w * f + 0)) % m
 two_ones m k v w f e same =
     sym (ap (λ n. n % m) (omega arith ∙ sym (add-mul v w f)) ∙ ap (λ n. ((v + w) * n) % m) (e ∙ ap (λ n. 1 % n) (sym same)) ∙ mul-mod_second (v + w) 1 m ∙ ap (λ n. n % m) (omega arith))
 
 -- a sum, over a table that has grown by the polynomial 1
-pub sum_is_combination : (old mid : Checking) (id i j : ℕ) (one p : Sum) → Grows old mid → IsMade mid.table (λ σ. 1 % modulus old.table) one → IsOf old.table p →
-    IsLineOf mid id ((i, one) ∷ (j, one) ∷ []) p (sum_line old.table id i j p)
+pub sum_is_combination : (old mid : AlgebraChecking) (id i j : ℕ) (one p : Sum) → GrowsCheckedTable old mid → IsPolyOfValue mid.table (λ σ. 1 % modulus_in old.table) one → IsOf old.table p →
+    IsStatingLine mid id ((i, one) ∷ (j, one) ∷ []) p (sum_line old.table id i j p)
 sum_is_combination old mid id i j one p grown made of =
     let same : monomials_in mid.table p ≡ monomials_in old.table p = monomials_stay old.table mid.table p grown.table of in
     record {
@@ -29,22 +29,22 @@ sum_is_combination old mid id i j one p grown made of =
       lines = refl;
       there = λ imports. tt;
       states = sym same;
-      names = λ σ. two_ones (modulus mid.table) (modulus old.table) (value_of (ledger_of mid).live i σ) (value_of (ledger_of mid).live j σ) _ (made.value σ) (modulus_stays old.table mid.table grown.table);
+      names = λ σ. two_ones (modulus_in mid.table) (modulus_in old.table) (value_of (ledger_of mid).live i σ) (value_of (ledger_of mid).live j σ) _ (made.value σ) (modulus_stays old.table mid.table grown.table);
       next = λ m l. ap (introduce m l id) (sym same);
     }
 
-pub product_is_combination : (c : Checking) (id i : ℕ) (factor p : Sum) → IsLineOf c id ((i, factor) ∷ []) p (product_line c.table id i factor p)
+pub product_is_combination : (c : AlgebraChecking) (id i : ℕ) (factor p : Sum) → IsStatingLine c id ((i, factor) ∷ []) p (product_line c.table id i factor p)
 product_is_combination c id i factor p = record {
   is_new = λ last above. above;
   is_old = λ last below above. absurd (omega (arith, below, above));
   lines = refl;
   there = λ imports. tt;
   states = refl;
-  names = λ σ. ap (λ n. n % modulus c.table) (omega arith);
+  names = λ σ. ap (λ n. n % modulus_in c.table) (omega arith);
   next = λ m l. refl;
 }
 
-pub combination_is_combination : (c : Checking) (id : ℕ) (parts : List (ℕ × Sum)) (p : Sum) → IsLineOf c id parts p (combination_line c.table id parts p)
+pub combination_is_combination : (c : AlgebraChecking) (id : ℕ) (parts : List (ℕ × Sum)) (p : Sum) → IsStatingLine c id parts p (combination_line c.table id parts p)
 combination_is_combination c id parts p = record {
   is_new = λ last above. above;
   is_old = λ last below above. absurd (omega (arith, below, above));
@@ -57,7 +57,7 @@ combination_is_combination c id parts p = record {
 
 -- ---- over a table that has grown
 
-pub takes_grown : (old mid new : Checking) (x : Line) → Grows old mid → Takes x mid new → Takes x old new
+pub takes_grown : (old mid new : AlgebraChecking) (x : Line) → GrowsCheckedTable old mid → TakesAlgebraLine x mid new → TakesAlgebraLine x old new
 takes_grown old mid new x g t = record {
   added = t.added ∙ g.added;
   extended = t.extended ∙ g.extended;
@@ -70,14 +70,14 @@ takes_grown old mid new x g t = record {
       (after_agrees (algebra.modulus old.extended) (ledger_of mid) (ledger_of old) g.ledger x);
 }
 
-pub refused_grown : (old mid : Checking) (x : Line) (fault : LineFault) → Grows old mid → IsRefused mid x fault → IsRefused old x fault
+pub refused_grown : (old mid : AlgebraChecking) (x : Line) (fault : LineFault) → GrowsCheckedTable old mid → IsRefused mid x fault → IsRefused old x fault
 refused_grown old mid x Id g r = refused_in_range_agrees old.extended (ledger_of mid) (ledger_of old) g.ledger x cause.Id (rw g.extended at r)
 refused_grown old mid x (NoSuchLine id) g r = refused_in_range_agrees old.extended (ledger_of mid) (ledger_of old) g.ledger x (cause.NoSuchLine id) (rw g.extended at r)
 refused_grown old mid x (NoSuchClause number) g r = refused_in_range_agrees old.extended (ledger_of mid) (ledger_of old) g.ledger x (cause.NoSuchClause number) (rw g.extended at r)
 refused_grown old mid x NotEqual g r = refused_in_range_agrees old.extended (ledger_of mid) (ledger_of old) g.ledger x cause.NotEqual (rw g.extended at r)
 refused_grown old mid x Memory g r = tt
 
-pub grows_grown : (a b c : Checking) → Grows a b → Grows b c → Grows a c
+pub grows_grown : (a b c : AlgebraChecking) → GrowsCheckedTable a b → GrowsCheckedTable b c → GrowsCheckedTable a c
 grows_grown a b c g h = record {
   added = h.added ∙ g.added;
   extended = h.extended ∙ g.extended;

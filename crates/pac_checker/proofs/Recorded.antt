@@ -8,21 +8,21 @@ use Rattle.std.proofs.lemmas.List.{append-nil, get_or_append_left, get_or_push, 
 use Rattle.std.proofs.lemmas.List.Elements.{All-map, All-nil, All-push, filter_map-append}
 use Rattle.clause_core.specs.Clause.{Clause}
 use Rattle.graph_core.specs.Algebra.{Line, Ledger, Delete, IsLawfulLine, AreLawfulLines, after, after_all, modulus}
-use Rattle.graph_core.specs.Algebra.Agreement.{Agree}
+use Rattle.graph_core.specs.Algebra.Agreement.{LedgersAgree}
 use Rattle.graph_core.specs.Graph.Extended.{Extended}
 use Rattle.poly_terms.specs.Tables.{Table, Extends}
 use Rattle.poly_text.specs.declared.line.PacLine.{PacLine}
 use Rattle.poly_text.specs.declared.line.PacLine.TheVariants as pac
 use Rattle.poly_text.specs.Lines.{AreOf, line_in}
-use Rattle.poly_text.specs.Recorded.{AreRising, HasNewId, id_in, ids_in, lines_in, operands_in}
+use Rattle.poly_text.specs.Recorded.{AreRisingIds, HasNewId, id_in, ids_in, lines_in, operands_in}
 use Rattle.pac_checker.specs.Checking.{IsRecordable, recorded_of}
-use Rattle.pac_checker.specs.Recording.{AreLines, AreWithin, Covers, HasRecorded, first_ledger, kept_of}
+use Rattle.pac_checker.specs.Recording.{AreIdsWithin, AreRecordedLines, Covers, HasRecorded, first_ledger, kept_of}
 use Rattle.pac_checker.proofs.Covering.{covers_agreeing, covers_fewer, lawful_covered, lines_more, within_after, within_agreeing}
 use Rattle.pac_checker.proofs.Telling.{IsTold, lines_stay, of_stays, recordable_stays, some_same, told}
 
 -- ---- ids that rise
 
-pub rising_more : (ids : List ℕ) (id : ℕ) → AreRising ids → All (λ x. x < id) ids → AreRising (ids ++ id ∷ [])
+pub rising_more : (ids : List ℕ) (id : ℕ) → AreRisingIds ids → All (λ x. x < id) ids → AreRisingIds (ids ++ id ∷ [])
 rising_more ids id up low i j before inside = ⊎_elim (old j before) (new j before inside) (cases_lt j (length ids))
   where
     at : (k : ℕ) → k < length ids → slice_index (ids ++ id ∷ []) k ≡ slice_index ids k
@@ -41,7 +41,7 @@ rising_more ids id up low i j before inside = ⊎_elim (old j before) (new j bef
 
 -- ---- such lines
 
-pub no_lines : (max : ℕ) (t : Table) (last : ℕ) → AreLines max t last []
+pub no_lines : (max : ℕ) (t : Table) (last : ℕ) → AreRecordedLines max t last []
 no_lines max t last = record {
   of_table = All-nil (AreOf t);
   recordable = All-nil (IsRecordable max t);
@@ -51,7 +51,7 @@ no_lines max t last = record {
   earlier = All-nil (λ x. All (λ o. o < id_in x) (operands_in x));
 }
 
-lines_grown : (max : ℕ) (old new : Table) (last : ℕ) (xs : List PacLine) → Extends old new → AreLines max old last xs → AreLines max new last xs
+lines_grown : (max : ℕ) (old new : Table) (last : ℕ) (xs : List PacLine) → Extends old new → AreRecordedLines max old last xs → AreRecordedLines max new last xs
 lines_grown max old new last xs e h = record {
   of_table = λ k d low. of_stays old new _ e (h.of_table k d low);
   recordable = λ k d low. recordable_stays max old new _ e (h.of_table k d low) (h.recordable k d low);
@@ -61,15 +61,15 @@ lines_grown max old new last xs e h = record {
   earlier = h.earlier;
 }
 
-line_added : (max : ℕ) (t : Table) (last : ℕ) (xs : List PacLine) (line : PacLine) → AreLines max t last xs → last < id_in line → AreOf t line → IsRecordable max t line → HasNewId line → All (λ o. o < id_in line) (operands_in line) →
-    AreLines max t (id_in line) (xs ++ line ∷ [])
+line_added : (max : ℕ) (t : Table) (last : ℕ) (xs : List PacLine) (line : PacLine) → AreRecordedLines max t last xs → last < id_in line → AreOf t line → IsRecordable max t line → HasNewId line → All (λ o. o < id_in line) (operands_in line) →
+    AreRecordedLines max t (id_in line) (xs ++ line ∷ [])
 line_added max t last xs line h above has ok new made =
     let lesser : All (λ x. x < id_in line) (ids_in xs) = All-map (λ x. x < id_in line) id_in xs (λ k d low. let less = h.bounded k d low in omega arith) in
     record {
       of_table = All-push (AreOf t) xs line h.of_table has;
       recordable = All-push (IsRecordable max t) xs line h.recordable ok;
       new_ids = All-push HasNewId xs line h.new_ids new;
-      rising = subst AreRising (sym (map_push id_in xs line)) (rising_more (ids_in xs) (id_in line) h.rising lesser);
+      rising = subst AreRisingIds (sym (map_push id_in xs line)) (rising_more (ids_in xs) (id_in line) h.rising lesser);
       bounded = All-push (λ x. id_in x ≤ id_in line) xs line (λ k d low. let less = h.bounded k d low in omega arith) (omega arith);
       earlier = All-push (λ x. All (λ o. o < id_in x) (operands_in x)) xs line h.earlier made;
     }
@@ -80,17 +80,17 @@ module _ (e : Extended) (added : List Clause) where
   abbrev behind : List Line → Ledger
   behind xs = after_all (modulus e) (first_ledger e added) xs
 
-  pub has_none : (t : Table) (l : Ledger) (xs : List PacLine) → xs ≡ [] → AreWithin l → HasRecorded e added t l false xs
+  pub has_none : (t : Table) (l : Ledger) (xs : List PacLine) → xs ≡ [] → AreIdsWithin l → HasRecorded e added t l false xs
   has_none t l xs none within = subst (HasRecorded e added t l false) (sym none)
       (record { within = within; lines_are = no_lines e.max t l.last; lawful = tt; covers = λ on. absurd (true≢false (sym on)); none = λ off. refl })
 
   -- the table has grown
-  pub has_grown : (old new : Table) (l k : Ledger) (records : Bool) (xs : List PacLine) → Extends old new → Agree k l → HasRecorded e added old l records xs → HasRecorded e added new k records xs
+  pub has_grown : (old new : Table) (l k : Ledger) (records : Bool) (xs : List PacLine) → Extends old new → LedgersAgree k l → HasRecorded e added old l records xs → HasRecorded e added new k records xs
   has_grown old new l k records xs grown a h =
       let same : lines_in new xs ≡ lines_in old xs = lines_stay old new xs grown h.lines_are.of_table in
       record {
         within = within_agreeing l k a h.within;
-        lines_are = subst (λ n. AreLines e.max new n xs) (sym a.last) (lines_grown e.max old new l.last xs grown h.lines_are);
+        lines_are = subst (λ n. AreRecordedLines e.max new n xs) (sym a.last) (lines_grown e.max old new l.last xs grown h.lines_are);
         lawful = subst (AreLawfulLines (modulus e) (first_ledger e added)) (sym same) h.lawful;
         covers = λ on. subst (λ ys. Covers (behind ys) k) (sym same) (covers_agreeing (behind (lines_in old xs)) l k (h.covers on) a);
         none = h.none;
@@ -98,14 +98,14 @@ module _ (e : Extended) (added : List Clause) where
 
   -- What is said of a line that is recorded, and of the ledger behind it.
   module _ (old new : Table) (l k : Ledger) (xs : List PacLine) (line : PacLine) (x : Line) (grown : Extends old new) (is : line_in old line ≡ Some x) (has : AreOf old line) (ok : IsRecordable e.max old line)
-      (w : IsLawfulLine (modulus e) l x) (a : Agree k (after (modulus e) l x)) (h : HasRecorded e added old l true xs) where
+      (w : IsLawfulLine (modulus e) l x) (a : LedgersAgree k (after (modulus e) l x)) (h : HasRecorded e added old l true xs) where
     abbrev Recorded : List PacLine → List Line → Type 0
     Recorded kept said = HasRecorded e added new k true (xs ++ kept) × (lines_in new (xs ++ kept) ≡ lines_in old xs ++ said)
 
     same : lines_in new xs ≡ lines_in old xs
     same = lines_stay old new xs grown h.lines_are.of_table
 
-    within : AreWithin k
+    within : AreIdsWithin k
     within = within_agreeing (after (modulus e) l x) k a (within_after (modulus e) l h.within x w.new_id)
 
     line_taken : IsTold old line x → Recorded (line ∷ []) (x ∷ [])
@@ -118,7 +118,7 @@ module _ (e : Extended) (added : List Clause) where
         let last : k.last ≡ id_in line = a.last ∙ t.last (modulus e) l in (
           record {
             within = within;
-            lines_are = subst (λ n. AreLines e.max new n (xs ++ line ∷ [])) (sym last)
+            lines_are = subst (λ n. AreRecordedLines e.max new n (xs ++ line ∷ [])) (sym last)
                 (lines_grown e.max old new (id_in line) (xs ++ line ∷ []) grown (line_added e.max old l.last xs line h.lines_are (t.above l.last w.new_id) has ok t.new_id lesser));
             lawful = subst (AreLawfulLines (modulus e) (first_ledger e added)) (sym all) more.0;
             covers = λ on. subst (λ ys. Covers (behind ys) k) (sym all)
@@ -130,12 +130,12 @@ module _ (e : Extended) (added : List Clause) where
 
     deletion_taken : (id : ℕ) → x ≡ Delete id → Recorded [] []
     deletion_taken id gone =
-        let b : Agree k (after (modulus e) l (Delete id)) = subst (λ y. Agree k (after (modulus e) l y)) gone a in
+        let b : LedgersAgree k (after (modulus e) l (Delete id)) = subst (λ y. LedgersAgree k (after (modulus e) l y)) gone a in
         let front : xs ++ [] ≡ xs = append-nil xs in
         let all : lines_in new (xs ++ []) ≡ lines_in old xs = ap (lines_in new) front ∙ same in (
           subst (HasRecorded e added new k true) (sym front) (record {
             within = within;
-            lines_are = subst (λ n. AreLines e.max new n xs) (sym b.last) (lines_grown e.max old new l.last xs grown h.lines_are);
+            lines_are = subst (λ n. AreRecordedLines e.max new n xs) (sym b.last) (lines_grown e.max old new l.last xs grown h.lines_are);
             lawful = subst (AreLawfulLines (modulus e) (first_ledger e added)) (sym same) h.lawful;
             covers = λ on. subst (λ ys. Covers (behind ys) k) (sym same) (covers_agreeing (behind (lines_in old xs)) (after (modulus e) l (Delete id)) k (covers_fewer (modulus e) (behind (lines_in old xs)) l (h.covers refl) id) b);
             none = λ off. absurd (true≢false off);
@@ -144,7 +144,7 @@ module _ (e : Extended) (added : List Clause) where
         )
 
   by_told : (old new : Table) (l k : Ledger) (xs : List PacLine) (line : PacLine) (x : Line) → Extends old new → line_in old line ≡ Some x → AreOf old line → IsRecordable e.max old line → IsLawfulLine (modulus e) l x →
-      Agree k (after (modulus e) l x) → HasRecorded e added old l true xs → HasNewId line → HasRecorded e added new k true (xs ++ kept_of line) × (lines_in new (xs ++ kept_of line) ≡ lines_in old xs ++ recorded_of true x)
+      LedgersAgree k (after (modulus e) l x) → HasRecorded e added old l true xs → HasNewId line → HasRecorded e added new k true (xs ++ kept_of line) × (lines_in new (xs ++ kept_of line) ≡ lines_in old xs ++ recorded_of true x)
   by_told old new l k xs line x grown is has ok w a h new_id =
       let t = told old line x new_id is in
       let r = line_taken old new l k xs line x grown is has ok w a h t in
@@ -153,7 +153,7 @@ module _ (e : Extended) (added : List Clause) where
 
   -- a line of code that was taken
   pub has_taken : (old new : Table) (l k : Ledger) (xs : List PacLine) (line : PacLine) (x : Line) → Extends old new → line_in old line ≡ Some x → AreOf old line → IsRecordable e.max old line → IsLawfulLine (modulus e) l x →
-      Agree k (after (modulus e) l x) → HasRecorded e added old l true xs → HasRecorded e added new k true (xs ++ kept_of line) × (lines_in new (xs ++ kept_of line) ≡ lines_in old xs ++ recorded_of true x)
+      LedgersAgree k (after (modulus e) l x) → HasRecorded e added old l true xs → HasRecorded e added new k true (xs ++ kept_of line) × (lines_in new (xs ++ kept_of line) ≡ lines_in old xs ++ recorded_of true x)
   has_taken old new l k xs (pac.Sum id i j poly) x grown is has ok w a h = by_told old new l k xs (pac.Sum id i j poly) x grown is has ok w a h tt
   has_taken old new l k xs (pac.Product id i factor poly) x grown is has ok w a h = by_told old new l k xs (pac.Product id i factor poly) x grown is has ok w a h tt
   has_taken old new l k xs (pac.Combination id parts poly) x grown is has ok w a h = by_told old new l k xs (pac.Combination id parts poly) x grown is has ok w a h tt

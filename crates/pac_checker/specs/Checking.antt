@@ -13,13 +13,13 @@ use Rattle.mv_fact.specs.Facts.{Facts}
 use Rattle.poly_text.specs.declared.PacLine.{PacLine}
 use Rattle.poly_text.specs.Lines.{line_in}
 use Rattle.poly_text.specs.WrittenLines.{IsWritable}
-use Rattle.graph_core.specs.Algebra.Agreement.{Agree}
+use Rattle.graph_core.specs.Algebra.Agreement.{LedgersAgree}
 use Rattle.gate_axioms.specs.ClauseValues.{clause_value}
-use Rattle.gate_axioms.specs.Lines.{lines_in}
+use Rattle.gate_axioms.specs.Lines.{live_lines_in}
 
 -- The clauses that lines may import, the extended graph, its operands, the table of polynomials, the live ones by id, the last id in use,
 -- whether lines are recorded, and the recorded ones.
-pub record Checking : Type 0 where
+pub record AlgebraChecking : Type 0 where
   pub added : List Clause
   pub extended : Extended
   pub sides : Sides
@@ -30,7 +30,7 @@ pub record Checking : Type 0 where
   pub recorded : List Line
 
 -- the checker of an extended graph and its operands with these clauses and these live polynomials, which records nothing
-abbrev pub checking_of : List Clause → Extended → Sides → Facts tables.Sum Table → ℕ → Checking
+abbrev pub checking_of : List Clause → Extended → Sides → Facts tables.Sum Table → ℕ → AlgebraChecking
 checking_of added e sides facts last = record {
   added = added;
   extended = e;
@@ -43,7 +43,7 @@ checking_of added e sides facts last = record {
 }
 
 -- the same one, where it records lines or doesn't, with these recorded ones
-abbrev pub recording : Checking → Bool → List Line → Checking
+abbrev pub recording : AlgebraChecking → Bool → List Line → AlgebraChecking
 recording c records lines = record {
   added = c.added;
   extended = c.extended;
@@ -56,12 +56,12 @@ recording c records lines = record {
 }
 
 -- the ledger that the checker stands for: its lines may import the values of its clauses
-abbrev pub ledger_of : Checking → Ledger
-ledger_of c = record { live = lines_in c.table c.entries; last = c.last; imports = map clause_value c.added }
+abbrev pub ledger_of : AlgebraChecking → Ledger
+ledger_of c = record { live = live_lines_in c.table c.entries; last = c.last; imports = map clause_value c.added }
 
 -- what it stands on in a certificate of a version
-abbrev pub premises_of : ℕ → Checking → Premises
-premises_of version c = record { version = version; extended = c.extended; imports = map clause_value c.added }
+abbrev pub checker_premises : ℕ → AlgebraChecking → Premises
+checker_premises version c = record { version = version; extended = c.extended; imports = map clause_value c.added }
 
 -- what is recorded of a line that is taken: the line, but no deletion
 abbrev pub recorded_of : Bool → Line → List Line
@@ -73,7 +73,7 @@ recorded_of true (Import id number p) = Import id number p ∷ []
 recorded_of true (Delete id) = []
 
 -- The line is lawful over the ledger so far, and the ledger afterwards is the one after the line.
-pub record Takes (line : Line) (old new : Checking) : Type 0 where
+pub record TakesAlgebraLine (line : Line) (old new : AlgebraChecking) : Type 0 where
   pub added : new.added ≡ old.added
   pub extended : new.extended ≡ old.extended
   pub sides : new.sides ≡ old.sides
@@ -81,10 +81,10 @@ pub record Takes (line : Line) (old new : Checking) : Type 0 where
   pub records : new.records ≡ old.records
   pub recorded : new.recorded ≡ old.recorded ++ recorded_of old.records line
   pub lawful : IsLawfulLine (modulus old.extended) (ledger_of old) line
-  pub ledger : Agree (ledger_of new) (after (modulus old.extended) (ledger_of old) line)
+  pub ledger : LedgersAgree (ledger_of new) (after (modulus old.extended) (ledger_of old) line)
 
 -- Nothing has changed but the table, which has grown; so the ledger says the same.
-pub record Grows (old new : Checking) : Type 0 where
+pub record GrowsCheckedTable (old new : AlgebraChecking) : Type 0 where
   pub added : new.added ≡ old.added
   pub extended : new.extended ≡ old.extended
   pub sides : new.sides ≡ old.sides
@@ -93,20 +93,20 @@ pub record Grows (old new : Checking) : Type 0 where
   pub last : new.last ≡ old.last
   pub records : new.records ≡ old.records
   pub recorded : new.recorded ≡ old.recorded
-  pub ledger : Agree (ledger_of new) (ledger_of old)
+  pub ledger : LedgersAgree (ledger_of new) (ledger_of old)
 
 -- Nothing has changed but the table and the polynomials in it, which have their values; so the ledger says the same.
-pub record KeepsLedger (old new : Checking) : Type 0 where
+pub record KeepsLedger (old new : AlgebraChecking) : Type 0 where
   pub added : new.added ≡ old.added
   pub extended : new.extended ≡ old.extended
   pub sides : new.sides ≡ old.sides
   pub records : new.records ≡ old.records
   pub recorded : new.recorded ≡ old.recorded
-  pub ledger : Agree (ledger_of new) (ledger_of old)
+  pub ledger : LedgersAgree (ledger_of new) (ledger_of old)
 
 -- A line of code is taken: what it says in the table is.
-abbrev pub TakesLine : PacLine → Checking → Checking → Type 0
-TakesLine line old new = IfSome (line_in old.table line) (λ x. Takes x old new)
+abbrev pub TakesPacLine : PacLine → AlgebraChecking → AlgebraChecking → Type 0
+TakesPacLine line old new = IfSome (line_in old.table line) (λ x. TakesAlgebraLine x old new)
 
 -- A line that may be recorded: it can be written, and its numbers are in range, variables up to a greatest one.
 pub record IsRecordable (max : ℕ) (t : Table) (line : PacLine) : Type 0 where
@@ -114,9 +114,9 @@ pub record IsRecordable (max : ℕ) (t : Table) (line : PacLine) : Type 0 where
   pub in_range : IfSome (line_in t line) (IsLineInRange max)
 
 -- the line has the specification's value
-abbrev pub IsClosedBy : Checking → ℕ → Type 0
+abbrev pub IsClosedBy : AlgebraChecking → ℕ → Type 0
 IsClosedBy c id = Closes c.extended c.sides (ledger_of c).live id
 
 -- The specification vanishes on every evaluation.
-abbrev pub SpecificationVanishes : Checking → Type 0
+abbrev pub SpecificationVanishes : AlgebraChecking → Type 0
 SpecificationVanishes c = Always c.extended.gates (λ σ. specification c.extended c.sides σ ≡ 0)

@@ -6,7 +6,7 @@ use Rattle.graph_core.specs.Algebra.{Ledger, Line}
 use Rattle.graph_core.specs.Algebra.Refusal as cause
 use Rattle.poly_text.specs.declared.PacLine.{PacLine}
 use Rattle.poly_text.specs.Lines.{line_in}
-use Rattle.pac_checker.specs.Checking.{Checking, ledger_of}
+use Rattle.pac_checker.specs.Checking.{AlgebraChecking, ledger_of}
 use Rattle.graph_core.specs.Algebra.InRange.{IsRefusedInRange, IsRefusedCloseInRange}
 use Rattle.pac_checker.specs.declared.fault.LineFault.{LineFault}
 use Rattle.pac_checker.specs.declared.fault.LineFault.TheVariants.{Id, NoSuchLine, NoSuchClause, NotEqual, Memory}
@@ -14,12 +14,12 @@ use Rattle.pac_checker.specs.declared.fault.CloseFault.{CloseFault}
 use Rattle.pac_checker.specs.declared.fault.CloseFault.TheVariants as close
 
 -- the line is refused for this cause; want of memory comes at any time
-abbrev pub IsFault : Extended → Ledger → Line → LineFault → Type 0
-IsFault e l x Id = IsRefusedInRange e l x cause.Id
-IsFault e l x (NoSuchLine id) = IsRefusedInRange e l x (cause.NoSuchLine id)
-IsFault e l x (NoSuchClause number) = IsRefusedInRange e l x (cause.NoSuchClause number)
-IsFault e l x NotEqual = IsRefusedInRange e l x cause.NotEqual
-IsFault e l x Memory = Unit {0}
+abbrev pub IsRuleFault : Extended → Ledger → Line → LineFault → Type 0
+IsRuleFault e l x Id = IsRefusedInRange e l x cause.Id
+IsRuleFault e l x (NoSuchLine id) = IsRefusedInRange e l x (cause.NoSuchLine id)
+IsRuleFault e l x (NoSuchClause number) = IsRefusedInRange e l x (cause.NoSuchClause number)
+IsRuleFault e l x NotEqual = IsRefusedInRange e l x cause.NotEqual
+IsRuleFault e l x Memory = Unit {0}
 
 -- likewise of a closing line
 abbrev pub IsCloseFault : Extended → Sides → Ledger → ℕ → CloseFault → Type 0
@@ -28,8 +28,8 @@ IsCloseFault e sides l id close.NotSpec = IsRefusedCloseInRange e sides l id cau
 IsCloseFault e sides l id close.Memory = Unit {0}
 
 -- the same of a line of code over a checker, and of a closing one
-abbrev pub IsLineFault : Checking → PacLine → LineFault → Type 0
-IsLineFault c line fault = IfSome (line_in c.table line) (λ x. IsFault c.extended (ledger_of c) x fault)
+abbrev pub IsPacLineFault : AlgebraChecking → PacLine → LineFault → Type 0
+IsPacLineFault c line fault = IfSome (line_in c.table line) (λ x. IsRuleFault c.extended (ledger_of c) x fault)
 
-abbrev pub IsClosingFault : Checking → ℕ → CloseFault → Type 0
+abbrev pub IsClosingFault : AlgebraChecking → ℕ → CloseFault → Type 0
 IsClosingFault c id fault = IsCloseFault c.extended c.sides (ledger_of c) id fault

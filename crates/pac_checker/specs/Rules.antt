@@ -12,26 +12,23 @@ use Rattle.graph_core.specs.Graph.Operands.{Sides}
 use Rattle.graph_core.specs.Algebra.Polynomials.{Polynomial}
 use Rattle.graph_core.specs.Algebra.{Line, Ledger, Part, IsNewId, IsThere, value_of, introduce, combined, operands, stated, named, after}
 use Rattle.graph_core.specs.Algebra as algebra
-use Rattle.graph_core.specs.Algebra.Agreement.{Agree, AreSameLines}
+use Rattle.graph_core.specs.Algebra.Agreement.{AreSameLines, LedgersAgree}
 use Rattle.graph_core.specs.Algebra.Refusal.{first_missing}
 use Rattle.mv_fact.specs.Facts.{Facts, fact_at}
-use Rattle.poly_terms.specs.Tables.{Table, Sum, modulus, value_in, monomials_in}
-use Rattle.poly_text.specs.Lines.{part_in}
+use Rattle.poly_terms.specs.Tables.{Table, Sum, modulus_in, value_in, monomials_in}
+use Rattle.poly_text.specs.Lines.{part_in, parts_in}
 use Rattle.gate_axioms.specs.Lines.{lines_of}
 use Rattle.gate_axioms.specs.Steps.{Vanishes}
 use Rattle.pac_checker.specs.declared.fault.LineFault.{LineFault}
 use Rattle.pac_checker.specs.declared.fault.LineFault.TheVariants.{Id, NoSuchLine, NoSuchClause, NotEqual, Memory}
-use Rattle.pac_checker.specs.Checking.{Checking, ledger_of, Takes}
-use Rattle.pac_checker.specs.Faults.{IsFault}
+use Rattle.pac_checker.specs.Checking.{AlgebraChecking, ledger_of, TakesAlgebraLine}
+use Rattle.pac_checker.specs.Faults.{IsRuleFault}
 
 -- lines, each beside a factor that is lent, as lines and factors
 abbrev pub lent : List (ℕ × Bor Sum) → List (ℕ × Sum)
 lent parts = map (λ part. (part.0, part.1.now)) parts
 
--- lines, each times a polynomial of a table, as the definitions know them; and the ids of the lines
-abbrev pub parts_in : Table → List (ℕ × Sum) → List Part
-parts_in t parts = map (part_in t) parts
-
+-- the ids of lines that parts name
 abbrev pub ids_of : List Part → List ℕ
 ids_of parts = map (λ part. part.id) parts
 
@@ -40,7 +37,7 @@ abbrev pub product_value : Facts Sum Table → ℕ → Sum → Assignment → �
 product_value facts id factor σ = value_of (lines_of facts) id σ * value_in facts.table factor σ
 
 abbrev pub combined_value : Facts Sum Table → List Part → Assignment → ℕ
-combined_value facts parts σ = combined (modulus facts.table) (lines_of facts) parts σ % modulus facts.table
+combined_value facts parts σ = combined (modulus_in facts.table) (lines_of facts) parts σ % modulus_in facts.table
 
 -- The lines of some parts are live, and the polynomial is the sum of these parts, which vanishes on every evaluation.
 pub record IsNamed (old new : Facts Sum Table) (parts : List Part) (p : Sum) : Type 0 where
@@ -57,26 +54,26 @@ IsNamingFault facts ids NotEqual = ⊥
 IsNamingFault facts ids Memory = Unit {0}
 
 -- A line that states a polynomial under an id, and whose rule names some lines, each times a factor.
-pub record IsLineOf (c : Checking) (id : ℕ) (parts : List (ℕ × Sum)) (p : Sum) (x : Line) : Type 0 where
+pub record IsStatingLine (c : AlgebraChecking) (id : ℕ) (parts : List (ℕ × Sum)) (p : Sum) (x : Line) : Type 0 where
   pub is_new : (last : ℕ) → last < id → IsNewId last x
   pub is_old : (last : ℕ) → id ≤ last → IsNewId last x → ⊥
   pub lines : operands x ≡ ids_of (parts_in c.table parts)
   pub there : (imports : List (Assignment → ℕ)) → IsThere imports x
   pub states : stated x ≡ monomials_in c.table p
-  pub names : (σ : Assignment) → named (modulus c.table) (ledger_of c) x σ % modulus c.table ≡
-      combined (modulus c.table) (ledger_of c).live (parts_in c.table parts) σ % modulus c.table
+  pub names : (σ : Assignment) → named (modulus_in c.table) (ledger_of c) x σ % modulus_in c.table ≡
+      combined (modulus_in c.table) (ledger_of c).live (parts_in c.table parts) σ % modulus_in c.table
   pub next : (m : ℕ) (l : Ledger) → after m l x ≡ introduce m l id (monomials_in c.table p)
 
 -- each such line is lawful, and the ledger afterwards is the one after it
-abbrev pub TakesLinesOf : ℕ → List (ℕ × Sum) → Sum → Checking → Checking → Type 0
-TakesLinesOf id parts p old new = (x : Line) → IsLineOf old id parts p x → Takes x old new
+abbrev pub TakesLinesOf : ℕ → List (ℕ × Sum) → Sum → AlgebraChecking → AlgebraChecking → Type 0
+TakesLinesOf id parts p old new = (x : Line) → IsStatingLine old id parts p x → TakesAlgebraLine x old new
 
 -- the line is refused over the checker's ledger; and so is each such line
-abbrev pub IsRefused : Checking → Line → LineFault → Type 0
-IsRefused c x fault = IsFault c.extended (ledger_of c) x fault
+abbrev pub IsRefused : AlgebraChecking → Line → LineFault → Type 0
+IsRefused c x fault = IsRuleFault c.extended (ledger_of c) x fault
 
-abbrev pub AreRefused : Checking → ℕ → List (ℕ × Sum) → Sum → LineFault → Type 0
-AreRefused c id parts p fault = (x : Line) → IsLineOf c id parts p x → IsRefused c x fault
+abbrev pub AreRefused : AlgebraChecking → ℕ → List (ℕ × Sum) → Sum → LineFault → Type 0
+AreRefused c id parts p fault = (x : Line) → IsStatingLine c id parts p x → IsRefused c x fault
 
 -- lines of polynomials of a table, as the definitions know them
 abbrev pub sum_line : Table → ℕ → ℕ → ℕ → Sum → Line
@@ -92,9 +89,9 @@ abbrev pub import_line : Table → ℕ → ℕ → Sum → Line
 import_line t id number p = algebra.Import id number (monomials_in t p)
 
 -- the clause of a number, from 1 on
-abbrev pub clause_at : List Clause → ℕ → Option Clause
-clause_at cs zero = None
-clause_at cs (suc i) = slice_get cs i
+abbrev pub clause_numbered : List Clause → ℕ → Option Clause
+clause_numbered cs zero = None
+clause_numbered cs (suc i) = slice_get cs i
 
 -- the same value at every assignment
 abbrev pub AreEqual : Table → Sum → Sum → Type 0
@@ -113,14 +110,14 @@ IsStatingFault t named stated NotEqual = Differ t named stated
 IsStatingFault t named stated Memory = Unit {0}
 
 -- A polynomial of the same table was put under a new id.
-pub record Introduces (id : ℕ) (p : Polynomial) (old new : Checking) : Type 0 where
+pub record Introduces (id : ℕ) (p : Polynomial) (old new : AlgebraChecking) : Type 0 where
   pub added : new.added ≡ old.added
   pub extended : new.extended ≡ old.extended
   pub sides : new.sides ≡ old.sides
   pub table : new.table ≡ old.table
   pub records : new.records ≡ old.records
   pub recorded : new.recorded ≡ old.recorded
-  pub ledger : Agree (ledger_of new) (introduce (modulus old.table) (ledger_of old) id p)
+  pub ledger : LedgersAgree (ledger_of new) (introduce (modulus_in old.table) (ledger_of old) id p)
 
 -- The same live lines, over another table of the same modulus.
 pub record Carries (old new : Facts Sum Table) : Type 0 where
@@ -129,8 +126,8 @@ pub record Carries (old new : Facts Sum Table) : Type 0 where
   pub lines : AreSameLines (lines_of new) (lines_of old)
 
 -- What the type of a checker keeps besides that each live polynomial vanishes.
-pub record IsSound (added : List Clause) (e : Extended) (s : Sides) (facts : Facts Sum Table) (last : ℕ) : Type 0 where
+pub record IsCheckerSound (added : List Clause) (e : Extended) (s : Sides) (facts : Facts Sum Table) (last : ℕ) : Type 0 where
   pub same_gates : facts.gates ≡ e.gates
-  pub same_modulus : modulus facts.table ≡ algebra.modulus e
+  pub same_modulus : modulus_in facts.table ≡ algebra.modulus e
   pub fresh : (id : ℕ) → last < id → fact_at facts.entries id ≡ None
   pub importable : All (IsClauseFact e.gates) added

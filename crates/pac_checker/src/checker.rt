@@ -5,15 +5,15 @@ ghost use Rattle.std.specs.Prelude.{◌≡◌, ◌≤◌, ℕ, [], true, length,
 ghost use Rattle.std.specs.List.{All};
 ghost use Rattle.graph_core.specs.Algebra.{AgreeOnColumns, AreLawful, beginning};
 ghost use Rattle.graph_core.specs.Algebra as algebra;
-ghost use Rattle.graph_core.specs.Algebra.Agreement.{Agree};
+ghost use Rattle.graph_core.specs.Algebra.Agreement.{LedgersAgree};
 ghost use Rattle.mv_fact.specs.Always.{Always};
-ghost use Rattle.poly_terms.specs.Tables.{modulus};
+ghost use Rattle.poly_terms.specs.Tables.{modulus_in};
 ghost use Rattle.poly_text.specs.Lines.{line_in, AreOf};
-ghost use Rattle.poly_text.specs.Recorded.{AreMadeOfEarlier, AreRising, HasNewId, ids_in, lines_in};
+ghost use Rattle.poly_text.specs.Recorded.{AreMadeOfEarlier, AreRisingIds, HasNewId, ids_in, lines_in};
 ghost use Rattle.clause_core.specs.Facts.{IsClauseFact};
 ghost use Rattle.gate_axioms.specs.ClauseValues.{clause_value};
-ghost use Rattle.pac_checker.specs.Checking.{ledger_of, premises_of, TakesLine, Grows, KeepsLedger, IsClosedBy, IsRecordable, SpecificationVanishes};
-ghost use Rattle.pac_checker.specs.Faults.{IsLineFault, IsClosingFault};
+ghost use Rattle.pac_checker.specs.Checking.{ledger_of, checker_premises, TakesPacLine, GrowsCheckedTable, KeepsLedger, IsClosedBy, IsRecordable, SpecificationVanishes};
+ghost use Rattle.pac_checker.specs.Faults.{IsPacLineFault, IsClosingFault};
 
 use crate::judge::Judge;
 use crate::record::{Record, keep};
@@ -38,10 +38,10 @@ pub struct PacChecker<'a> {
 
 impl<'a> Model for PacChecker<'a> {
     ghost use Rattle.poly_text.specs.Recorded.{lines_in};
-    ghost use Rattle.pac_checker.specs.Checking.{Checking, ledger_of, recording};
+    ghost use Rattle.pac_checker.specs.Checking.{AlgebraChecking, ledger_of, recording};
     ghost use Rattle.pac_checker.specs.Recording.{HasRecorded};
 
-    ghost Value = { Checking };
+    ghost Value = { AlgebraChecking };
 
     ghost view = { λ c. recording c.judge c.records (lines_in c.judge.table c.recorded.items) };
 
@@ -67,8 +67,8 @@ impl<'a> PacChecker<'a> {
         ensures added { IfOk result (λ c. c.added ≡ added.entry.now) }
         ensures records { IfOk result (λ c. c.records ≡ records) }
         ensures recorded { IfOk result (λ c. c.recorded ≡ []) }
-        ensures modulus { IfOk result (λ c. modulus c.table ≡ algebra.modulus c.extended) }
-        ensures axioms { IfOk result (λ c. (version : ℕ) → Agree (ledger_of c)
+        ensures modulus { IfOk result (λ c. modulus_in c.table ≡ algebra.modulus c.extended) }
+        ensures axioms { IfOk result (λ c. (version : ℕ) → LedgersAgree (ledger_of c)
             (beginning (record { version = version; extended = extended.entry.now; imports = map clause_value added.entry.now }))) }
     {
         let judge = Judge::new(alloc, extended, operands, added)?;
@@ -83,8 +83,8 @@ impl<'a> PacChecker<'a> {
     pub fn grow<G: Grow<Poly>>(&mut self, work: &mut G, on: &mut G::On) -> G::Out
         requires { G.can_grow work.old on.old self.old.table }
         ensures did { G.did work.old on.old self.old.table result work.new on.new self.new.table }
-        ensures grows { Grows self.old self.new }
-        ensures modulus { modulus self.new.table ≡ algebra.modulus self.new.extended }
+        ensures grows { GrowsCheckedTable self.old self.new }
+        ensures modulus { modulus_in self.new.table ≡ algebra.modulus self.new.extended }
     {
         self.judge.grow(work, on)
     }
@@ -109,9 +109,9 @@ impl<'a> PacChecker<'a> {
         requires of_table { AreOf self.old.table line }
         requires recordable { self.old.records ≡ true →
             IsRecordable self.old.extended.max self.old.table line }
-        ensures taken { OnOk result (TakesLine line self.old self.new) }
-        ensures refused { IfErr result (IsLineFault self.old line) }
-        ensures unchanged { OnErr result (Grows self.old self.new) }
+        ensures taken { OnOk result (TakesPacLine line self.old self.new) }
+        ensures refused { IfErr result (IsPacLineFault self.old line) }
+        ensures unchanged { OnErr result (GrowsCheckedTable self.old self.new) }
     {
         if !self.records {
             return self.judge.line(&line);
@@ -131,9 +131,9 @@ impl<'a> PacChecker<'a> {
         ensures closes { OnOk result (IsClosedBy self.old id) }
         ensures vanishes { OnOk result (SpecificationVanishes self.old) }
         ensures recorded { self.old.records ≡ true → OnOk result ((version : ℕ) →
-            AreLawful (premises_of version self.old) self.old.sides self.old.recorded id) }
+            AreLawful (checker_premises version self.old) self.old.sides self.old.recorded id) }
         ensures refused { IfErr result (IsClosingFault self.old id) }
-        ensures unchanged { Grows self.old self.new }
+        ensures unchanged { GrowsCheckedTable self.old self.new }
     {
         self.judge.close(id)
     }
@@ -143,11 +143,11 @@ impl<'a> PacChecker<'a> {
     pub fn into_record(self) -> Record
         ensures lines { lines_in result.terms result.lines.items ≡ self.entry.recorded }
         ensures terms { result.terms ≡ self.entry.table }
-        ensures modulus { modulus result.terms ≡ algebra.modulus self.entry.extended }
+        ensures modulus { modulus_in result.terms ≡ algebra.modulus self.entry.extended }
         ensures of_table { All (AreOf result.terms) result.lines.items }
         ensures recordable { All (IsRecordable self.entry.extended.max result.terms) result.lines.items }
         ensures new_ids { All HasNewId result.lines.items }
-        ensures rising { AreRising (ids_in result.lines.items) }
+        ensures rising { AreRisingIds (ids_in result.lines.items) }
         ensures earlier { AreMadeOfEarlier result.lines.items }
     {
         Record {

@@ -2,7 +2,7 @@
 #![tactic(auto, using(gate_axioms::proofs::CallerLemmas::keeps_lines))]
 
 ghost use Rattle.std.specs.Prelude.{◌≡◌, IfOk, OnOk};
-ghost use Rattle.gate_axioms.specs.Lines.{line_in};
+ghost use Rattle.gate_axioms.specs.Lines.{live_line_in};
 ghost use Rattle.gate_axioms.specs.Steps.{AddsLine, Vanishes};
 ghost use Rattle.pac_checker.specs.Rules.{Carries};
 
@@ -49,7 +49,7 @@ pub(crate) fn compacted<'a>(
 fn carry(live: &mut Live<'_, Poly>, from: &Terms, id: u64, line: &Poly) -> Result<(), Memory>
     requires exponent { from.now.exponent ≡ live.old.table.exponent }
     requires vanishes { Vanishes live.old.gates from.now line.now }
-    ensures { OnOk result (AddsLine (line_in from.now (id, line.now)) live.old live.new) }
+    ensures { OnOk result (AddsLine (live_line_in from.now (id, line.now)) live.old live.new) }
 {
     let brought = live.grow(&mut Bring { from, line }, &mut ())?;
     match live.insert(id, brought) {

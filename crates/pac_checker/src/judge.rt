@@ -6,17 +6,17 @@ ghost use Rattle.std.specs.List.{All};
 ghost use Rattle.graph_core.specs.Algebra.{Delete, AgreeOnColumns};
 ghost use Rattle.graph_core.specs.Algebra as algebra;
 ghost use Rattle.mv_fact.specs.Always.{Always};
-ghost use Rattle.poly_terms.specs.Tables.{IsOf, modulus, monomials_in};
+ghost use Rattle.poly_terms.specs.Tables.{IsOf, modulus_in, monomials_in};
 ghost use Rattle.poly_text.specs.Lines.{line_in, AreOf};
 ghost use Rattle.clause_core.specs.Facts.{IsClauseFact};
-ghost use Rattle.gate_axioms.specs.Axioms.{IsSpecification};
-ghost use Rattle.graph_core.specs.Algebra.Agreement.{Agree};
-ghost use Rattle.pac_checker.specs.Checking.{ledger_of, Takes, TakesLine, Grows, KeepsLedger, IsClosedBy, SpecificationVanishes};
-ghost use Rattle.pac_checker.specs.Faults.{IsLineFault, IsClosingFault};
-ghost use Rattle.pac_checker.specs.Recording.{AreWithin, first_ledger};
+ghost use Rattle.gate_axioms.specs.Axioms.{HasSpecificationValue};
+ghost use Rattle.graph_core.specs.Algebra.Agreement.{LedgersAgree};
+ghost use Rattle.pac_checker.specs.Checking.{ledger_of, TakesAlgebraLine, TakesPacLine, GrowsCheckedTable, KeepsLedger, IsClosedBy, SpecificationVanishes};
+ghost use Rattle.pac_checker.specs.Faults.{IsPacLineFault, IsClosingFault};
+ghost use Rattle.pac_checker.specs.Recording.{AreIdsWithin, first_ledger};
 ghost use Rattle.gate_axioms.specs.Steps.{Vanishes};
-ghost use Rattle.pac_checker.specs.Rules.{AreEqual, AreRefused, Introduces, IsRefused, IsStatingFault, TakesLinesOf, clause_at, combination_line, import_line, lent, product_line, sum_line};
-ghost use Rattle.pac_checker.specs.Works.{IsMade};
+ghost use Rattle.pac_checker.specs.Rules.{AreEqual, AreRefused, Introduces, IsRefused, IsStatingFault, TakesLinesOf, clause_numbered, combination_line, import_line, lent, product_line, sum_line};
+ghost use Rattle.pac_checker.specs.Works.{IsPolyOfValue};
 
 use crate::compaction::{compacted, most_monomials};
 use crate::rules::combine;
@@ -50,14 +50,14 @@ pub(crate) struct Judge<'a> {
 }
 
 impl<'a> Model for Judge<'a> {
-    ghost use Rattle.pac_checker.specs.Checking.{Checking, checking_of};
-    ghost use Rattle.pac_checker.specs.Rules.{IsSound};
+    ghost use Rattle.pac_checker.specs.Checking.{AlgebraChecking, checking_of};
+    ghost use Rattle.pac_checker.specs.Rules.{IsCheckerSound};
 
-    ghost Value = { Checking };
+    ghost Value = { AlgebraChecking };
 
     ghost view = { λ c. checking_of c.added.now c.extended.now c.operands.now c.live c.last };
 
-    ghost invariant = { λ c. IsSound c.added.now c.extended.now c.operands.now c.live c.last };
+    ghost invariant = { λ c. IsCheckerSound c.added.now c.extended.now c.operands.now c.live c.last };
 }
 
 impl<'a> Judge<'a> {
@@ -76,9 +76,9 @@ impl<'a> Judge<'a> {
         ensures extended { IfOk result (λ c. c.extended ≡ extended.entry.now) }
         ensures sides { IfOk result (λ c. c.sides ≡ operands.entry.now) }
         ensures added { IfOk result (λ c. c.added ≡ added.entry.now) }
-        ensures modulus { IfOk result (λ c. modulus c.table ≡ algebra.modulus c.extended) }
-        ensures axioms { IfOk result (λ c. Agree (ledger_of c) (first_ledger extended.entry.now added.entry.now)) }
-        ensures within { IfOk result (λ c. AreWithin (ledger_of c)) }
+        ensures modulus { IfOk result (λ c. modulus_in c.table ≡ algebra.modulus c.extended) }
+        ensures axioms { IfOk result (λ c. LedgersAgree (ledger_of c) (first_ledger extended.entry.now added.entry.now)) }
+        ensures within { IfOk result (λ c. AreIdsWithin (ledger_of c)) }
     {
         let outputs = extended.graph().outputs();
         let gates = extended.gates();
@@ -101,7 +101,7 @@ impl<'a> Judge<'a> {
     /// Gives up the lines, and hands out the table.
     pub(crate) fn into_terms(self) -> Terms
         ensures table { result ≡ self.entry.table }
-        ensures modulus { modulus self.entry.table ≡ algebra.modulus self.entry.extended }
+        ensures modulus { modulus_in self.entry.table ≡ algebra.modulus self.entry.extended }
     {
         self.live.into_table()
     }
@@ -110,8 +110,8 @@ impl<'a> Judge<'a> {
     pub(crate) fn grow<G: Grow<Poly>>(&mut self, work: &mut G, on: &mut G::On) -> G::Out
         requires { G.can_grow work.old on.old self.old.table }
         ensures did { G.did work.old on.old self.old.table result work.new on.new self.new.table }
-        ensures grows { Grows self.old self.new }
-        ensures modulus { modulus self.new.table ≡ algebra.modulus self.new.extended }
+        ensures grows { GrowsCheckedTable self.old self.new }
+        ensures modulus { modulus_in self.new.table ≡ algebra.modulus self.new.extended }
     {
         self.live.grow(work, on)
     }
@@ -136,9 +136,9 @@ impl<'a> Judge<'a> {
     pub(crate) fn line(&mut self, line: &PacLine) -> Result<(), LineFault>
         requires goes_on { IsSome (line_in self.old.table line.now) }
         requires of_table { AreOf self.old.table line.now }
-        ensures taken { OnOk result (TakesLine line.now self.old self.new) }
-        ensures refused { IfErr result (IsLineFault self.old line.now) }
-        ensures unchanged { OnErr result (Grows self.old self.new) }
+        ensures taken { OnOk result (TakesPacLine line.now self.old self.new) }
+        ensures refused { IfErr result (IsPacLineFault self.old line.now) }
+        ensures unchanged { OnErr result (GrowsCheckedTable self.old self.new) }
     {
         match line {
             PacLine::Sum { id, i, j, poly } => self.sum(*id, *i, *j, poly),
@@ -162,17 +162,17 @@ impl<'a> Judge<'a> {
         ensures closes { OnOk result (IsClosedBy self.old id) }
         ensures vanishes { OnOk result (SpecificationVanishes self.old) }
         ensures refused { IfErr result (IsClosingFault self.old id) }
-        ensures unchanged { Grows self.old self.new }
+        ensures unchanged { GrowsCheckedTable self.old self.new }
     {
         let wanted = self.specification()?;
         self.compare(id, &wanted)
     }
 
     fn specification(&mut self) -> Result<Poly, Memory>
-        ensures grows { Grows self.old self.new }
+        ensures grows { GrowsCheckedTable self.old self.new }
         ensures of_table { IfOk result (IsOf self.new.table) }
         ensures value { IfOk result
-            (λ p. IsSpecification self.new.table p self.old.extended self.old.sides) }
+            (λ p. HasSpecificationValue self.new.table p self.old.extended self.old.sides) }
     {
         let mut work = MakeSpecification {
             alloc: self.alloc,
@@ -185,7 +185,7 @@ impl<'a> Judge<'a> {
     // Whether a line has the value that is wanted.
     fn compare(&self, id: u64, wanted: &Poly) -> Result<(), CloseFault>
         requires wanted { IsOf self.now.table wanted.now }
-        requires value { IsSpecification self.now.table wanted.now self.now.extended
+        requires value { HasSpecificationValue self.now.table wanted.now self.now.extended
             self.now.sides }
         ensures closes { OnOk result (IsClosedBy self.now id) }
         ensures vanishes { OnOk result (SpecificationVanishes self.now) }
@@ -207,10 +207,10 @@ impl<'a> Judge<'a> {
     fn sum(&mut self, id: u64, i: u64, j: u64, poly: &Poly) -> Result<(), LineFault>
         requires { IsOf self.old.table poly.now }
         ensures taken { OnOk result
-            (Takes (sum_line self.old.table id i j poly.now) self.old self.new) }
+            (TakesAlgebraLine (sum_line self.old.table id i j poly.now) self.old self.new) }
         ensures refused { IfErr result
             (IsRefused self.old (sum_line self.old.table id i j poly.now)) }
-        ensures unchanged { OnErr result (Grows self.old self.new) }
+        ensures unchanged { OnErr result (GrowsCheckedTable self.old self.new) }
     {
         let one = self.one()?;
         self.introduce(id, &[(i, &one), (j, &one)], poly)
@@ -221,10 +221,10 @@ impl<'a> Judge<'a> {
         requires factor_of_table { IsOf self.old.table factor.now }
         requires of_table { IsOf self.old.table poly.now }
         ensures taken { OnOk result
-            (Takes (product_line self.old.table id i factor.now poly.now) self.old self.new) }
+            (TakesAlgebraLine (product_line self.old.table id i factor.now poly.now) self.old self.new) }
         ensures refused { IfErr result
             (IsRefused self.old (product_line self.old.table id i factor.now poly.now)) }
-        ensures unchanged { OnErr result (Grows self.old self.new) }
+        ensures unchanged { OnErr result (GrowsCheckedTable self.old self.new) }
     {
         self.introduce(id, &[(i, factor)], poly)
     }
@@ -233,10 +233,10 @@ impl<'a> Judge<'a> {
         requires parts_of_table { All (λ part. IsOf self.old.table part.1) parts.now }
         requires of_table { IsOf self.old.table poly.now }
         ensures taken { OnOk result
-            (Takes (combination_line self.old.table id parts.now poly.now) self.old self.new) }
+            (TakesAlgebraLine (combination_line self.old.table id parts.now poly.now) self.old self.new) }
         ensures refused { IfErr result
             (IsRefused self.old (combination_line self.old.table id parts.now poly.now)) }
-        ensures unchanged { OnErr result (Grows self.old self.new) }
+        ensures unchanged { OnErr result (GrowsCheckedTable self.old self.new) }
     {
         let parts = lend(self.alloc, parts)?;
         self.introduce(id, &parts, poly)
@@ -246,10 +246,10 @@ impl<'a> Judge<'a> {
     fn import(&mut self, id: u64, number: u64, stated: &Poly) -> Result<(), LineFault>
         requires { IsOf self.old.table stated.now }
         ensures taken { OnOk result
-            (Takes (import_line self.old.table id number stated.now) self.old self.new) }
+            (TakesAlgebraLine (import_line self.old.table id number stated.now) self.old self.new) }
         ensures refused { IfErr result
             (IsRefused self.old (import_line self.old.table id number stated.now)) }
-        ensures unchanged { OnErr result (Grows self.old self.new) }
+        ensures unchanged { OnErr result (GrowsCheckedTable self.old self.new) }
     {
         judge_id(self.last, id)?;
         let clause = clause_at(self.added, number)?;
@@ -268,7 +268,7 @@ impl<'a> Judge<'a> {
         ensures taken { OnOk result
             (TakesLinesOf id (lent parts.now) stated.now self.old self.new) }
         ensures refused { IfErr result (AreRefused self.old id (lent parts.now) stated.now) }
-        ensures unchanged { OnErr result (Grows self.old self.new) }
+        ensures unchanged { OnErr result (GrowsCheckedTable self.old self.new) }
     {
         judge_id(self.last, id)?;
         let named = combine(&mut self.products, &mut self.live, parts)?;
@@ -300,16 +300,16 @@ impl<'a> Judge<'a> {
 
     // The polynomial 1.
     fn one(&mut self) -> Result<Poly, Memory>
-        ensures grows { Grows self.old self.new }
-        ensures one { IfOk result (IsMade self.new.table (λ σ. 1 % modulus self.old.table)) }
+        ensures grows { GrowsCheckedTable self.old self.new }
+        ensures one { IfOk result (IsPolyOfValue self.new.table (λ σ. 1 % modulus_in self.old.table)) }
     {
         self.live.grow(&mut MakeOne { alloc: self.alloc }, &mut ())
     }
 
     fn delete(&mut self, id: u64) -> Result<(), LineFault>
-        ensures taken { OnOk result (Takes (Delete id) self.old self.new) }
+        ensures taken { OnOk result (TakesAlgebraLine (Delete id) self.old self.new) }
         ensures refused { IfErr result (IsRefused self.old (Delete id)) }
-        ensures unchanged { OnErr result (Grows self.old self.new) }
+        ensures unchanged { OnErr result (GrowsCheckedTable self.old self.new) }
     {
         match self.live.remove(id) {
             Ok(_) => {}
@@ -332,9 +332,9 @@ fn judge_id(last: u64, id: u64) -> Result<(), LineFault>
 
 // The added clause of a number, from 1 on.
 fn clause_at(added: &ClauseList, number: u64) -> Result<&Clause, LineFault>
-    ensures some { IfOk result (λ c. clause_at added.now number ≡ Some c.now) }
+    ensures some { IfOk result (λ c. clause_numbered added.now number ≡ Some c.now) }
     ensures none { IfErr result (λ fault. (fault ≡ LineFault.NoSuchClause number) ×
-        (clause_at added.now number ≡ None)) }
+        (clause_numbered added.now number ≡ None)) }
 {
     if number == 0 {
         return Err(LineFault::NoSuchClause(number));

@@ -43,7 +43,7 @@ pub(crate) struct Bring<'a> {
 impl<'a> Grow<Poly> for Bring<'a> {
     ghost use Rattle.std.specs.Prelude.{◌≡◌, IfOk};
     ghost use Rattle.poly_terms.specs.Tables.{IsOf, value_in};
-    ghost use Rattle.pac_checker.specs.Works.{IsMade};
+    ghost use Rattle.pac_checker.specs.Works.{IsPolyOfValue};
 
     type Out = Result<Poly, Memory>;
 
@@ -53,7 +53,7 @@ impl<'a> Grow<Poly> for Bring<'a> {
         IsOf work.from.now work.line.now };
 
     ghost did = { λ work _ _ out _ _ table'.
-        IfOk out (IsMade table' (value_in work.from.now work.line.now)) };
+        IfOk out (IsPolyOfValue table' (value_in work.from.now work.line.now)) };
 
     fn grow(&mut self, _on: &mut (), table: &mut Terms) -> Result<Poly, Memory> {
         table.bring(self.from, self.line)
@@ -68,14 +68,14 @@ pub(crate) struct MakeOne {
 
 impl Grow<Poly> for MakeOne {
     ghost use Rattle.std.specs.Prelude.{◌%◌, IfOk};
-    ghost use Rattle.poly_terms.specs.Tables.{modulus};
-    ghost use Rattle.pac_checker.specs.Works.{IsMade};
+    ghost use Rattle.poly_terms.specs.Tables.{modulus_in};
+    ghost use Rattle.pac_checker.specs.Works.{IsPolyOfValue};
 
     type Out = Result<Poly, Memory>;
 
     type On = ();
 
-    ghost did = { λ _ _ table out _ _ table'. IfOk out (IsMade table' (λ σ. 1 % modulus table)) };
+    ghost did = { λ _ _ table out _ _ table'. IfOk out (IsPolyOfValue table' (λ σ. 1 % modulus_in table)) };
 
     fn grow(&mut self, _on: &mut (), table: &mut Terms) -> Result<Poly, Memory> {
         table.make(&[(1, Vec::new(self.alloc))])
@@ -118,17 +118,17 @@ impl<'a> Grow<Poly> for MakeSpecification<'a> {
     ghost use Rattle.std.specs.Prelude.{◌≡◌, IfOk};
     ghost use Rattle.graph_core.specs.Graph.Extended.{without_cut};
     ghost use Rattle.graph_core.specs.Algebra.{modulus as modulus_of};
-    ghost use Rattle.poly_terms.specs.Tables.{IsOf, modulus};
-    ghost use Rattle.gate_axioms.specs.Axioms.{IsSpecification};
+    ghost use Rattle.poly_terms.specs.Tables.{IsOf, modulus_in};
+    ghost use Rattle.gate_axioms.specs.Axioms.{HasSpecificationValue};
 
     type Out = Result<Poly, Memory>;
 
     type On = ();
 
-    ghost can_grow = { λ work _ table. modulus table ≡ modulus_of (without_cut work.graph.now) };
+    ghost can_grow = { λ work _ table. modulus_in table ≡ modulus_of (without_cut work.graph.now) };
 
     ghost did = { λ work _ _ out _ _ table'. IfOk out (λ p. IsOf table' p ×
-        IsSpecification table' p (without_cut work.graph.now) work.operands.now) };
+        HasSpecificationValue table' p (without_cut work.graph.now) work.operands.now) };
 
     fn grow(&mut self, _on: &mut (), table: &mut Terms) -> Result<Poly, Memory> {
         spec_poly(self.alloc, table, self.graph, self.operands)

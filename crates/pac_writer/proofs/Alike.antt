@@ -1,12 +1,12 @@
 -- Lines that are alike are lawful together, one after the other.
 use Rattle.std.specs.Prelude.{ℕ, List, [], ◌∷◌}
 use Rattle.graph_core.specs.Algebra.{Ledger, Line, AreLawfulLines, after, after_all}
-use Rattle.graph_core.specs.Algebra.Agreement.{Agree}
+use Rattle.graph_core.specs.Algebra.Agreement.{LedgersAgree}
 use Rattle.graph_core.proofs.OfAlgebra.CallerLemmas.{after_agrees, agree_trans, lawful_agrees, likeness_is_kept}
 use Rattle.poly_text.specs.Recorded.{AreAllAlike}
 
 -- over ledgers that agree
-pub alike_lawful : (m : ℕ) (l k : Ledger) (xs ys : List Line) → Agree l k → AreAllAlike m xs ys → AreLawfulLines m l ys → AreLawfulLines m k xs × Agree (after_all m l ys) (after_all m k xs)
+pub alike_lawful : (m : ℕ) (l k : Ledger) (xs ys : List Line) → LedgersAgree l k → AreAllAlike m xs ys → AreLawfulLines m l ys → AreLawfulLines m k xs × LedgersAgree (after_all m l ys) (after_all m k xs)
 alike_lawful m l k [] ys same alike h = (tt, rw alike same)
 alike_lawful m l k (x ∷ xs) [] same alike h = absurd alike
 alike_lawful m l k (x ∷ xs) (y ∷ ys) same alike h =

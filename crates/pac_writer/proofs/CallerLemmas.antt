@@ -7,7 +7,7 @@ use Rattle.graph_core.specs.Graph.Assignments.{Assignment}
 use Rattle.frontier_core.specs.Frontier.{set_to}
 use Rattle.frontier_core.specs.Sets.{has}
 use Rattle.frontier_core.proofs.Unused.{unused_variable_is_absent}
-use Rattle.poly_terms.specs.Tables.{Table, Sum, IsOf, modulus, monomials_in, value_in}
+use Rattle.poly_terms.specs.Tables.{Table, Sum, IsOf, modulus_in, monomials_in, value_in}
 use Rattle.poly_terms.proofs.Values.{normal}
 use Rattle.poly_text.specs.WrittenLaws.{IsUpTo}
 use Rattle.pac_writer.specs.Writing.{IsOver}
@@ -34,6 +34,6 @@ over_from_values t max p is fixed = (is, up_to)
         let vs = (slice_index_or (monomials_in t p) k d).variables in
         let v = slice_index_or vs j e in
         ⊎_elim
-        (λ above. absurd (true≢false (sym (has_own vs j e within) ∙ unused_variable_is_absent (modulus t) v (monomials_in t p) (omega arith) (normal t p is) (λ σ. fixed v σ above) k d low)))
+        (λ above. absurd (true≢false (sym (has_own vs j e within) ∙ unused_variable_is_absent (modulus_in t) v (monomials_in t p) (omega arith) (normal t p is) (λ σ. fixed v σ above) k d low)))
         (λ small. small)
         (cases_lt max v)

@@ -13,9 +13,9 @@ use Rattle.frontier_core.proofs.Gathered.{spare_is_lawful}
 use Rattle.poly_terms.specs.Tables.{Table, Sum, IsOf, monomials_in}
 use Rattle.poly_terms.proofs.Values.{normal as monomials_are_normal}
 use Rattle.poly_text.specs.declared.line.PacLine.TheVariants as line
-use Rattle.poly_text.specs.Lines.{part_in}
-use Rattle.pac_writer.specs.Writing.{Made, AreLawfulSoFar, AreOver, combination_of, ledger_of, parts_in}
-use Rattle.pac_writer.specs.Kept.{CanFollow, IsKept}
+use Rattle.poly_text.specs.Lines.{part_in, parts_in}
+use Rattle.pac_writer.specs.Writing.{Made, AreLawfulSoFar, ArePartsOver, combination_of, written_ledger}
+use Rattle.pac_writer.specs.Kept.{CanFollowLines, IsKeptLine}
 
 -- ---- ids of live lines
 
@@ -27,19 +27,19 @@ live_is_up_to (l ∷ live) id last h is =
     (λ there. live_is_up_to live id last h.1 (subst (λ b. IsSome (cond b (Some l) (line_of live id))) there is))
     (cases_Bool (l.id == id))
 
-pub live_is_id : (old : Made) (id : ℕ) → AreLawfulSoFar old → IsLive (ledger_of old).live id → IsId id
+pub live_is_id : (old : Made) (id : ℕ) → AreLawfulSoFar old → IsLive (written_ledger old).live id → IsId id
 live_is_id old id h live =
-    let within = live_is_up_to (ledger_of old).live id old.last (recursion_from_All (λ line. (0 < line.id) × (line.id ≤ old.last)) (ledger_of old).live h.ids) live in
+    let within = live_is_up_to (written_ledger old).live id old.last (recursion_from_All (λ line. (0 < line.id) × (line.id ≤ old.last)) (written_ledger old).live h.ids) live in
     (within.0, (let far = within.1 in let room = h.room in omega arith))
 
 pub closing_is_id : (old : Made) (id : ℕ) → AreLawfulSoFar old → old.closing ≡ Some id → IsId id
 closing_is_id old id h closed =
-    let closes : Closes old.extended old.sides (ledger_of old).live id = subst (λ q. IfSome q (Closes old.extended old.sides (ledger_of old).live)) closed h.closes in
+    let closes : Closes old.extended old.sides (written_ledger old).live id = subst (λ q. IfSome q (Closes old.extended old.sides (written_ledger old).live)) closed h.closes in
     live_is_id old id h closes.0
 
 -- ---- parts
 
-part_ids : (old : Made) (t : Table) (parts : List (ℕ × Sum)) → AreLawfulSoFar old → AllByRecursion (λ (p : Part). IsLive (ledger_of old).live p.id) (parts_in t parts) → AllByRecursion (λ part. IsId part.0) parts
+part_ids : (old : Made) (t : Table) (parts : List (ℕ × Sum)) → AreLawfulSoFar old → AllByRecursion (λ (p : Part). IsLive (written_ledger old).live p.id) (parts_in t parts) → AllByRecursion (λ part. IsId part.0) parts
 part_ids old t [] h live = tt
 part_ids old t (part ∷ parts) h live = (live_is_id old part.0 h live.0, part_ids old t parts h live.1)
 
@@ -49,25 +49,25 @@ normal old p h is = subst (λ m. IsNormalForm m (monomials_in old.table p)) h.sa
 -- ---- lines
 
 pub combination_is_kept : (old : Made) (parts : List (ℕ × Sum)) (poly : Sum) (id : ℕ) → AreLawfulSoFar old → id ≡ old.last + 1 → id < 2 ^ 48 →
-    AreOver old.extended.max old.table parts poly → AreSpare (modulus old.extended) (ledger_of old).live (parts_in old.table parts) →
-    IsKept old.extended.max old.table (line.Combination id parts poly)
+    ArePartsOver old.extended.max old.table parts poly → AreSpare (modulus old.extended) (written_ledger old).live (parts_in old.table parts) →
+    IsKeptLine old.extended.max old.table (line.Combination id parts poly)
 combination_is_kept old parts poly id h is room over spare = record {
   goes_on = tt;
   «of» = ((λ k d low. (over.factors k d low).0), over.stated.0);
   writable = (
     (omega arith, room),
     All-from_recursion (λ part. IsId part.0) parts
-        (part_ids old old.table parts h (recursion_from_All (λ (p : Part). IsLive (ledger_of old).live p.id) (parts_in old.table parts) spare.live)),
+        (part_ids old old.table parts h (recursion_from_All (λ (p : Part). IsLive (written_ledger old).live p.id) (parts_in old.table parts) spare.live)),
     over.some,
   );
   up_to = ((λ k d low. (over.factors k d low).1), over.stated.1);
 }
 
 pub combination_can_follow : (old : Made) (parts : List (ℕ × Sum)) (poly : Sum) (id : ℕ) → AreLawfulSoFar old → id ≡ old.last + 1 → id < 2 ^ 48 →
-    AreOver old.extended.max old.table parts poly → AreSpare (modulus old.extended) (ledger_of old).live (parts_in old.table parts) →
-    IsCombined (modulus old.extended) (ledger_of old).live (parts_in old.table parts) (monomials_in old.table poly) → CanFollow old id (combination_of old.table id parts poly)
+    ArePartsOver old.extended.max old.table parts poly → AreSpare (modulus old.extended) (written_ledger old).live (parts_in old.table parts) →
+    IsCombined (modulus old.extended) (written_ledger old).live (parts_in old.table parts) (monomials_in old.table poly) → CanFollowLines old id (combination_of old.table id parts poly)
 combination_can_follow old parts poly id h is room over spare equal = record {
-  lawful = spare_is_lawful (modulus old.extended) (ledger_of old) (parts_in old.table parts) id (monomials_in old.table poly) spare (let last = h.greatest in omega arith) equal;
+  lawful = spare_is_lawful (modulus old.extended) (written_ledger old) (parts_in old.table parts) id (monomials_in old.table poly) spare (let last = h.greatest in omega arith) equal;
   spare = record {
     once = spare.once;
     nonzero = spare.nonzero;
@@ -78,12 +78,12 @@ combination_can_follow old parts poly id h is room over spare equal = record {
   room = room;
 }
 
-pub deletion_is_kept : (old : Made) (id : ℕ) → AreLawfulSoFar old → IsLive (ledger_of old).live id → IsKept old.extended.max old.table (line.Drop id)
+pub deletion_is_kept : (old : Made) (id : ℕ) → AreLawfulSoFar old → IsLive (written_ledger old).live id → IsKeptLine old.extended.max old.table (line.Drop id)
 deletion_is_kept old id h live = record { goes_on = tt; «of» = tt; writable = live_is_id old id h live; up_to = tt }
 
-pub deletion_can_follow : (old : Made) (id : ℕ) → AreLawfulSoFar old → IsLive (ledger_of old).live id → CanFollow old old.last (Delete id)
+pub deletion_can_follow : (old : Made) (id : ℕ) → AreLawfulSoFar old → IsLive (written_ledger old).live id → CanFollowLines old old.last (Delete id)
 deletion_can_follow old id h live = record {
-  lawful = record { new_id = tt; there = tt; live_operands = All-from_recursion (IsLive (ledger_of old).live) (id ∷ []) (live, tt); equal = λ σ. refl };
+  lawful = record { new_id = tt; there = tt; live_operands = All-from_recursion (IsLive (written_ledger old).live) (id ∷ []) (live, tt); equal = λ σ. refl };
   spare = tt;
   greatest = h.greatest;
   room = h.room;

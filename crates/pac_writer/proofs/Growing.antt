@@ -17,9 +17,9 @@ use Rattle.poly_text.specs.declared.line.PacLine.{PacLine}
 use Rattle.poly_text.specs.declared.line.PacLine.TheVariants.{Sum, Product, Combination, Import, Drop, Close}
 use Rattle.poly_text.specs.Lines.{AreOf, line_in, part_in}
 use Rattle.poly_text.specs.WrittenLaws.{AreUpTo, IsUpTo}
-use Rattle.pac_writer.specs.Writing.{Grows, made_of}
+use Rattle.pac_writer.specs.Writing.{GrowsWrittenTable, made_of}
 use Rattle.poly_text.specs.Recorded.{lines_in}
-use Rattle.pac_writer.specs.Kept.{AreKept, IsKept}
+use Rattle.pac_writer.specs.Kept.{AreKept, IsKeptLine}
 
 -- ---- a line
 
@@ -56,7 +56,7 @@ up_to_stays max old new (Import id number poly) e h up = poly_up_to max old new 
 up_to_stays max old new (Drop id) e h up = tt
 up_to_stays max old new (Close id) e h up = tt
 
-kept_stays : (max : ℕ) (old new : Table) (x : PacLine) → Extends old new → IsKept max old x → IsKept max new x
+kept_stays : (max : ℕ) (old new : Table) (x : PacLine) → Extends old new → IsKeptLine max old x → IsKeptLine max new x
 kept_stays max old new x e h = record { goes_on = h.goes_on; «of» = of_stays old new x e h.«of»; writable = h.writable; up_to = up_to_stays max old new x e h.«of» h.up_to }
 
 exponent_stays : (old new : Table) → Extends old new → new.exponent ≡ old.exponent
@@ -65,14 +65,14 @@ exponent_stays old new e = e.0
 
 -- ---- all lines
 
-lines_stay : (max : ℕ) (old new : Table) (xs : List PacLine) → Extends old new → AllByRecursion (IsKept max old) xs → lines_in new xs ≡ lines_in old xs
+lines_stay : (max : ℕ) (old new : Table) (xs : List PacLine) → Extends old new → AllByRecursion (IsKeptLine max old) xs → lines_in new xs ≡ lines_in old xs
 lines_stay max old new [] e h = refl
 lines_stay max old new (x ∷ xs) e h = ap₂ cons_option (told_stays old new x e h.0.«of») (lines_stay max old new xs e h.1)
 
 pub lines_keep : (e : Extended) (s : Sides) (old new : Table) (xs : List PacLine) (last : ℕ) (closing : Option ℕ) → Extends old new → AreKept e s old xs last closing →
-    AreKept e s new xs last closing × Grows (made_of e s old xs last closing) (made_of e s new xs last closing)
+    AreKept e s new xs last closing × GrowsWrittenTable (made_of e s old xs last closing) (made_of e s new xs last closing)
 lines_keep e s old new xs last closing grows h =
-    let same = lines_stay e.max old new xs grows (recursion_from_All (IsKept e.max old) xs h.kept) in (
+    let same = lines_stay e.max old new xs grows (recursion_from_All (IsKeptLine e.max old) xs h.kept) in (
       record {
         small = h.small;
         exponent = subst IsWidth (sym (exponent_stays old new grows)) h.exponent;

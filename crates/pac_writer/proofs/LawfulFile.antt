@@ -15,12 +15,12 @@ use Rattle.graph_core.specs.Algebra as algebra
 use Rattle.graph_core.specs.Algebra.Text.{algebra_header, first_line, IsId, IsLawfulAlgebraFile, IsLineInRange}
 use Rattle.graph_core.proofs.OfAlgebra.CallerLemmas.{agree_refl, closes_agrees}
 use Rattle.mv_nums.specs.Residue.{IsWidth}
-use Rattle.poly_terms.specs.Tables.{Table, modulus}
+use Rattle.poly_terms.specs.Tables.{Table, modulus_in}
 use Rattle.poly_text.specs.declared.line.PacLine.{PacLine}
 use Rattle.poly_text.specs.Lines.{line_in}
 use Rattle.pac_writer.specs.Writing.{Made, made_of, without_imports}
 use Rattle.poly_text.specs.Recorded.{AreAllAlike, lines_in}
-use Rattle.pac_writer.specs.Certificates.{certificate_text, closing_text, lines_text, written_certificate}
+use Rattle.pac_writer.specs.Certificates.{certificate_text, closing_text, written_certificate, written_lines}
 use Rattle.pac_writer.specs.Kept.{AreKept}
 use Rattle.pac_writer.specs.LawfulTexts.{IsLawfulTextOf, WrittenCertificatesAreLawful}
 use Rattle.pac_writer.proofs.Alike.{alike_lawful}
@@ -30,7 +30,7 @@ use Rattle.pac_writer.proofs.Readable.{IsTold, kept_goes_on, kept_is_told, reada
 use Rattle.pac_writer.proofs.Texts.{same_texts, written_texts}
 
 -- what is written of lawful lines that are told
-told_text : (p : Premises) (s : Sides) (t : Table) (xs : List PacLine) (id : ℕ) → IsWidth t.exponent → p.extended.max < 2 ^ 32 → modulus t ≡ algebra.modulus p.extended →
+told_text : (p : Premises) (s : Sides) (t : Table) (xs : List PacLine) (id : ℕ) → IsWidth t.exponent → p.extended.max < 2 ^ 32 → modulus_in t ≡ algebra.modulus p.extended →
     AllByRecursion (IsTold p.version p.extended.max t) xs → IsId id → AreLawful p s (lines_in t xs) id →
     IsLawfulTextOf p s (lines_in t xs) id (algebra_header p.version ++ (written_texts t xs ++ closing_text (Some id)))
 told_text p s t xs id width small same told is lawful =
@@ -78,13 +78,13 @@ written_certificates_are_lawful p s t xs id width small same two readable is law
 
 -- the text is that of the lines as they are kept
 pub kept_certificate : (version : ℕ) (old : Made) (e : Extended) (s : Sides) (t : Table) (xs : List PacLine) (last id : ℕ) (closing : Option ℕ) →
-    made_of e s t xs last closing ≡ old → closing ≡ Some id → AreKept e s t xs last closing → written_certificate version (modulus t) (lines_in t xs) id ≡ certificate_text version old
+    made_of e s t xs last closing ≡ old → closing ≡ Some id → AreKept e s t xs last closing → written_certificate version (modulus_in t) (lines_in t xs) id ≡ certificate_text version old
 kept_certificate version old e s t xs last id closing view closed h =
-    ap (λ m. algebra_header version ++ (lines_text m (lines_in t xs) ++ closing_text (Some id))) h.so_far.same_modulus ∙
-    (ap (λ q. algebra_header version ++ (lines_text (algebra.modulus e) (lines_in t xs) ++ closing_text q)) (sym closed) ∙ ap (certificate_text version) view)
+    ap (λ m. algebra_header version ++ (written_lines m (lines_in t xs) ++ closing_text (Some id))) h.so_far.same_modulus ∙
+    (ap (λ q. algebra_header version ++ (written_lines (algebra.modulus e) (lines_in t xs) ++ closing_text q)) (sym closed) ∙ ap (certificate_text version) view)
 
 closed_file : (version : ℕ) (e : Extended) (s : Sides) (t : Table) (xs : List PacLine) (last id : ℕ) → AreKept e s t xs last (Some id) →
-    IsLawfulAlgebraFile (without_imports version e) s (written_certificate version (modulus t) (lines_in t xs) id)
+    IsLawfulAlgebraFile (without_imports version e) s (written_certificate version (modulus_in t) (lines_in t xs) id)
 closed_file version e s t xs last id h =
     let small : e.max < 2 ^ 32 = (let low = h.small in omega arith) in
     let closes : Closes e s (after_all (algebra.modulus e) (axioms e) (lines_in t xs)).live id = h.so_far.closes in

@@ -9,7 +9,7 @@ use Rattle.graph_core.specs.Algebra.{Line}
 use Rattle.graph_core.specs.Algebra.Likeness.{AreAlike}
 use Rattle.graph_core.specs.Algebra.Text.{AreLineTexts, IsCloseText, IsId, IsLineInRange, IsLineText}
 use Rattle.mv_nums.specs.Residue.{IsWidth}
-use Rattle.poly_terms.specs.Tables.{Table, modulus}
+use Rattle.poly_terms.specs.Tables.{Table, modulus_in}
 use Rattle.poly_text.specs.declared.line.PacLine.{PacLine}
 use Rattle.poly_text.specs.declared.line.PacLine.TheVariants as line
 use Rattle.poly_text.specs.LineTexts.{IsTextOf}
@@ -27,7 +27,7 @@ pub record SaysLine (version max m : ℕ) (text : List ℕ) (y : Option Line) : 
   pub in_range : IsLineInRange max line
   pub alike : IsSomeAnd y (AreAlike m line)
 
-says_line : (t : Table) (version max : ℕ) (x : PacLine) → IsSome (line_in t x) → IsTextOf t version max (line_text t x) x → SaysLine version max (modulus t) (line_text t x) (line_in t x)
+says_line : (t : Table) (version max : ℕ) (x : PacLine) → IsSome (line_in t x) → IsTextOf t version max (line_text t x) x → SaysLine version max (modulus_in t) (line_text t x) (line_in t x)
 says_line t version max (line.Sum id i j poly) h s = record { line = s.0; text_is = s.1; in_range = s.2; alike = s.3.alike }
 says_line t version max (line.Product id i factor poly) h s = record { line = s.0; text_is = s.1; in_range = s.2; alike = s.3.alike }
 says_line t version max (line.Combination id parts poly) h s = record { line = s.0; text_is = s.1; in_range = s.2; alike = s.3.alike }
@@ -36,7 +36,7 @@ says_line t version max (line.Drop id) h s = record { line = s.0; text_is = s.1;
 says_line t version max (line.Close id) h s = absurd (cc h)
 
 -- what is written for a line that is told says this line
-told_says : (t : Table) (version max : ℕ) (x : PacLine) → IsWidth t.exponent → max < 2 ^ 32 → IsTold version max t x → SaysLine version max (modulus t) (line_text t x) (line_in t x)
+told_says : (t : Table) (version max : ℕ) (x : PacLine) → IsWidth t.exponent → max < 2 ^ 32 → IsTold version max t x → SaysLine version max (modulus_in t) (line_text t x) (line_in t x)
 told_says t version max x width small h = says_line t version max x h.goes_on (written_lines_are_read t version max x width small h.«of» h.writable h.up_to h.of_version)
 
 -- Lines that a text says, and then these bytes, alike to those that were told.
@@ -57,10 +57,10 @@ more_says version max m text rest after (Some y) ys one more = record {
 }
 
 pub told_say : (t : Table) (version max : ℕ) (xs : List PacLine) (after : List ℕ) → IsWidth t.exponent → max < 2 ^ 32 → AllByRecursion (IsTold version max t) xs →
-    SaysLines version max (modulus t) (written_texts t xs ++ after) after (lines_in t xs)
+    SaysLines version max (modulus_in t) (written_texts t xs ++ after) after (lines_in t xs)
 told_say t version max [] after width small h = record { lines = []; texts = refl; in_range = tt; alike = refl }
 told_say t version max (x ∷ xs) after width small h =
-    more_says version max (modulus t) (line_text t x) (written_texts t xs) after (line_in t x) (lines_in t xs) (told_says t version max x width small h.0) (told_say t version max xs after width small h.1)
+    more_says version max (modulus_in t) (line_text t x) (written_texts t xs) after (line_in t x) (lines_in t xs) (told_says t version max x width small h.0) (told_say t version max xs after width small h.1)
 
 pub closing_says : (t : Table) (version max id : ℕ) → IsWidth t.exponent → max < 2 ^ 32 → IsId id → IsCloseText (codes "q " ++ decimal id ++ codes ";") id
 closing_says t version max id width small is = (written_lines_are_read t version max (line.Close id) width small tt is tt tt).0

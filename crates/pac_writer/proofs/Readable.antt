@@ -17,7 +17,7 @@ use Rattle.poly_text.specs.LineTexts.{IsOfVersion}
 use Rattle.poly_text.specs.Lines.{AreOf, line_in, part_in}
 use Rattle.poly_text.specs.WrittenLaws.{AreUpTo, IsUpTo}
 use Rattle.poly_text.specs.WrittenLines.{IsWritable}
-use Rattle.pac_writer.specs.Kept.{GoesOn, IsKept}
+use Rattle.pac_writer.specs.Kept.{IsKeptLine, IsPlainLine}
 use Rattle.pac_writer.specs.LawfulTexts.{AreReadable}
 use Rattle.poly_text.specs.Recorded.{lines_in}
 
@@ -31,7 +31,7 @@ pub record IsTold (version max : ℕ) (t : Table) (x : PacLine) : Type 0 where
 
 -- ---- lines that are made
 
-goes_on_is_line : (t : Table) (x : PacLine) → GoesOn x → IsSome (line_in t x)
+goes_on_is_line : (t : Table) (x : PacLine) → IsPlainLine x → IsSome (line_in t x)
 goes_on_is_line t (Sum id i j poly) h = refl
 goes_on_is_line t (Product id i factor poly) h = refl
 goes_on_is_line t (Combination id parts poly) h = refl
@@ -40,7 +40,7 @@ goes_on_is_line t (Drop id) h = refl
 goes_on_is_line t (Close id) h = absurd h
 
 -- each version has it
-of_each_version : (version : ℕ) (x : PacLine) → GoesOn x → IsOfVersion version x
+of_each_version : (version : ℕ) (x : PacLine) → IsPlainLine x → IsOfVersion version x
 of_each_version version (Sum id i j poly) h = tt
 of_each_version version (Product id i factor poly) h = tt
 of_each_version version (Combination id parts poly) h = tt
@@ -48,10 +48,10 @@ of_each_version version (Import id number poly) h = absurd h
 of_each_version version (Drop id) h = tt
 of_each_version version (Close id) h = absurd h
 
-pub kept_goes_on : (max : ℕ) (t : Table) (x : PacLine) → IsKept max t x → IsSome (line_in t x)
+pub kept_goes_on : (max : ℕ) (t : Table) (x : PacLine) → IsKeptLine max t x → IsSome (line_in t x)
 kept_goes_on max t x h = goes_on_is_line t x h.goes_on
 
-pub kept_is_told : (version max : ℕ) (t : Table) (x : PacLine) → IsKept max t x → IsTold version max t x
+pub kept_is_told : (version max : ℕ) (t : Table) (x : PacLine) → IsKeptLine max t x → IsTold version max t x
 kept_is_told version max t x h = record { goes_on = kept_goes_on max t x h; «of» = h.«of»; writable = h.writable; up_to = h.up_to; of_version = of_each_version version x h.goes_on }
 
 -- ---- lines in range

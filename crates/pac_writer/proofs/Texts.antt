@@ -4,14 +4,14 @@ use Rattle.std.specs.List.{AllByRecursion}
 use Rattle.std.proofs.Common.{refl, sym, ap, ◌∙◌, arith, drop-cons}
 use Rattle.std.proofs.lemmas.List.{drop_all}
 use Rattle.graph_core.specs.Text.{newline}
-use Rattle.poly_terms.specs.Tables.{Table, modulus}
+use Rattle.poly_terms.specs.Tables.{Table, modulus_in}
 use Rattle.poly_terms.specs.Tables as table
 use Rattle.poly_text.specs.declared.line.PacLine.{PacLine}
 use Rattle.poly_text.specs.declared.line.PacLine.TheVariants.{Sum, Product, Combination, Import, Drop, Close}
 use Rattle.poly_text.specs.Lines.{line_in, part_in}
 use Rattle.poly_text.specs.WrittenLines.{joint_text, poly_text, written_text}
 use Rattle.poly_text.specs.WrittenLines as written
-use Rattle.pac_writer.specs.Certificates.{lines_text, parts_text}
+use Rattle.pac_writer.specs.Certificates.{written_lines, written_parts}
 use Rattle.poly_text.specs.Recorded.{lines_in}
 
 -- the text of lines as poly_text writes them
@@ -19,23 +19,23 @@ abbrev pub written_texts : Table → List PacLine → List ℕ
 written_texts t [] = []
 written_texts t (x ∷ xs) = written_text t x ++ written_texts t xs
 
-same_parts : (t : Table) (first : Bool) (parts : List (ℕ × table.Sum)) → written.parts_text t first parts ≡ parts_text (modulus t) first (map (part_in t) parts)
+same_parts : (t : Table) (first : Bool) (parts : List (ℕ × table.Sum)) → written.parts_text t first parts ≡ written_parts (modulus_in t) first (map (part_in t) parts)
 unfolding poly_text
 same_parts t first [] = refl
 same_parts t first (part ∷ parts) = ap (λ rest. joint_text first ++ written.part_text t part ++ rest) (same_parts t false parts)
 
 -- a line's text is that of the line that the definitions know
-same_line : (t : Table) (x : PacLine) (xs : List PacLine) → IsSome (line_in t x) → written_text t x ++ lines_text (modulus t) (lines_in t xs) ≡ lines_text (modulus t) (lines_in t (x ∷ xs))
+same_line : (t : Table) (x : PacLine) (xs : List PacLine) → IsSome (line_in t x) → written_text t x ++ written_lines (modulus_in t) (lines_in t xs) ≡ written_lines (modulus_in t) (lines_in t (x ∷ xs))
 unfolding poly_text
 same_line t (Sum id i j poly) xs h = refl
 same_line t (Product id i factor poly) xs h = refl
 same_line t (Combination id parts poly) xs h =
-    ap (λ sum. ((decimal id ++ codes " % " ++ sum ++ codes ", " ++ poly_text t poly ++ codes ";") ++ newline ∷ []) ++ lines_text (modulus t) (lines_in t xs)) (same_parts t true parts)
+    ap (λ sum. ((decimal id ++ codes " % " ++ sum ++ codes ", " ++ poly_text t poly ++ codes ";") ++ newline ∷ []) ++ written_lines (modulus_in t) (lines_in t xs)) (same_parts t true parts)
 same_line t (Import id number poly) xs h = refl
 same_line t (Drop id) xs h = refl
 same_line t (Close id) xs h = absurd (cc h)
 
-pub same_texts : (t : Table) (xs : List PacLine) → AllByRecursion (λ x. IsSome (line_in t x)) xs → written_texts t xs ≡ lines_text (modulus t) (lines_in t xs)
+pub same_texts : (t : Table) (xs : List PacLine) → AllByRecursion (λ x. IsSome (line_in t x)) xs → written_texts t xs ≡ written_lines (modulus_in t) (lines_in t xs)
 same_texts t [] h = refl
 same_texts t (x ∷ xs) h = ap (λ rest. written_text t x ++ rest) (same_texts t xs h.1) ∙ same_line t x xs h.0
 

@@ -9,26 +9,26 @@ use Rattle.poly_text.specs.WrittenLines.{joint_text, sum_text}
 use Rattle.pac_writer.specs.Writing.{Made}
 
 -- a line's id times a polynomial, modulo m
-abbrev pub part_text : ℕ → Part → List ℕ
-part_text m part = decimal part.id ++ codes " * (" ++ sum_text m part.factor ++ codes ")"
+abbrev pub written_part : ℕ → Part → List ℕ
+written_part m part = decimal part.id ++ codes " * (" ++ sum_text m part.factor ++ codes ")"
 
 -- a plus stands before each part but the first one
-abbrev pub parts_text : ℕ → Bool → List Part → List ℕ
-parts_text m first [] = []
-parts_text m first (part ∷ parts) = joint_text first ++ part_text m part ++ parts_text m false parts
+abbrev pub written_parts : ℕ → Bool → List Part → List ℕ
+written_parts m first [] = []
+written_parts m first (part ∷ parts) = joint_text first ++ written_part m part ++ written_parts m false parts
 
 -- a line without its line feed
-abbrev pub line_text : ℕ → Line → List ℕ
-line_text m (Sum id i j p) = decimal id ++ codes " + " ++ decimal i ++ codes ", " ++ decimal j ++ codes ", " ++ sum_text m p ++ codes ";"
-line_text m (Product id i q p) = decimal id ++ codes " * " ++ decimal i ++ codes ", " ++ sum_text m q ++ codes ", " ++ sum_text m p ++ codes ";"
-line_text m (Combination id parts p) = decimal id ++ codes " % " ++ parts_text m true parts ++ codes ", " ++ sum_text m p ++ codes ";"
-line_text m (Import id number p) = decimal id ++ codes " c " ++ decimal number ++ codes ", " ++ sum_text m p ++ codes ";"
-line_text m (Delete id) = decimal id ++ codes " d;"
+abbrev pub written_line : ℕ → Line → List ℕ
+written_line m (Sum id i j p) = decimal id ++ codes " + " ++ decimal i ++ codes ", " ++ decimal j ++ codes ", " ++ sum_text m p ++ codes ";"
+written_line m (Product id i q p) = decimal id ++ codes " * " ++ decimal i ++ codes ", " ++ sum_text m q ++ codes ", " ++ sum_text m p ++ codes ";"
+written_line m (Combination id parts p) = decimal id ++ codes " % " ++ written_parts m true parts ++ codes ", " ++ sum_text m p ++ codes ";"
+written_line m (Import id number p) = decimal id ++ codes " c " ++ decimal number ++ codes ", " ++ sum_text m p ++ codes ";"
+written_line m (Delete id) = decimal id ++ codes " d;"
 
 -- lines, each with its line feed
-abbrev pub lines_text : ℕ → List Line → List ℕ
-lines_text m [] = []
-lines_text m (x ∷ xs) = (line_text m x ++ newline ∷ []) ++ lines_text m xs
+abbrev pub written_lines : ℕ → List Line → List ℕ
+written_lines m [] = []
+written_lines m (x ∷ xs) = (written_line m x ++ newline ∷ []) ++ written_lines m xs
 
 -- the closing line, where there is one, with its line feed
 abbrev pub closing_text : Option ℕ → List ℕ
@@ -37,8 +37,8 @@ closing_text (Some id) = (codes "q " ++ decimal id ++ codes ";") ++ newline ∷ 
 
 -- the header, lines, and a closing line with this id, of a version and modulo m
 abbrev pub written_certificate : ℕ → ℕ → List Line → ℕ → List ℕ
-written_certificate version m lines closing = algebra_header version ++ (lines_text m lines ++ closing_text (Some closing))
+written_certificate version m lines closing = algebra_header version ++ (written_lines m lines ++ closing_text (Some closing))
 
 -- the header, the lines that are made, and the closing line
 abbrev pub certificate_text : ℕ → Made → List ℕ
-certificate_text version l = algebra_header version ++ (lines_text (modulus l.extended) l.lines ++ closing_text l.closing)
+certificate_text version l = algebra_header version ++ (written_lines (modulus l.extended) l.lines ++ closing_text l.closing)

@@ -6,7 +6,7 @@ use Rattle.graph_core.specs.Algebra.{AreLawful, Line, Premises}
 use Rattle.graph_core.specs.Algebra as algebra
 use Rattle.graph_core.specs.Algebra.Text.{IsId, IsLawfulAlgebraFile, IsLineInRange}
 use Rattle.mv_nums.specs.Residue.{IsWidth}
-use Rattle.poly_terms.specs.Tables.{Table, modulus}
+use Rattle.poly_terms.specs.Tables.{Table, modulus_in}
 use Rattle.poly_text.specs.declared.line.PacLine.{PacLine}
 use Rattle.poly_text.specs.Lines.{AreOf, line_in}
 use Rattle.poly_text.specs.Recorded.{AreAllAlike, lines_in}
@@ -30,7 +30,7 @@ pub record IsLawfulTextOf (p : Premises) (s : Sides) (lines : List Line) (closin
 -- is nothing to import.
 abbrev pub WrittenCertificatesAreLawful : Type 0
 WrittenCertificatesAreLawful = (p : Premises) (s : Sides) (t : Table) (lines : List PacLine) (closing : ℕ) →
-    IsWidth (length p.extended.graph.outputs) → p.extended.max < 2 ^ 32 → modulus t ≡ algebra.modulus p.extended →
+    IsWidth (length p.extended.graph.outputs) → p.extended.max < 2 ^ 32 → modulus_in t ≡ algebra.modulus p.extended →
     (p.version ≡ 2) ⊎ (p.imports ≡ []) → AreReadable p.extended.max t lines → IsId closing →
     AreLawful p s (lines_in t lines) closing →
-    IsLawfulTextOf p s (lines_in t lines) closing (written_certificate p.version (modulus t) (lines_in t lines) closing)
+    IsLawfulTextOf p s (lines_in t lines) closing (written_certificate p.version (modulus_in t) (lines_in t lines) closing)

@@ -3,10 +3,10 @@ ghost use Rattle.std.specs.Prelude.{◌≡◌, true, All, IsSome};
 ghost use Rattle.mv_desk.specs.Calls.{Writes};
 ghost use Rattle.mv_desk.specs.declared.slot.Slot.TheVariants.{Algebra};
 ghost use Rattle.graph_core.specs.Algebra.Text.{IsId};
-ghost use Rattle.poly_terms.specs.Tables.{modulus};
+ghost use Rattle.poly_terms.specs.Tables.{modulus_in};
 ghost use Rattle.poly_text.specs.Lines.{AreOf, line_in};
 ghost use Rattle.poly_text.specs.WrittenLines.{IsWritable};
-ghost use Rattle.pac_writer.specs.Certificates.{lines_text, written_certificate};
+ghost use Rattle.pac_writer.specs.Certificates.{written_certificate, written_lines};
 ghost use Rattle.poly_text.specs.Recorded.{lines_in};
 
 use mv_desk::{Desk, WriteFault};
@@ -28,7 +28,7 @@ pub fn write_certificate<D: Desk>(
     requires writable { All IsWritable lines.now }
     requires closing { IsId closing }
     ensures { Writes Algebra
-        (written_certificate version (modulus terms.now) (lines_in terms.now lines.now) closing)
+        (written_certificate version (modulus_in terms.now) (lines_in terms.now lines.now) closing)
         (D.seen desk.old) (D.seen desk.new) result }
 {
     write_header(desk, version)?;
@@ -43,7 +43,7 @@ fn write_lines<D: Desk>(desk: &mut D, terms: &Terms, lines: &[PacLine]) -> Resul
     requires of { All (AreOf terms.now) lines.now }
     requires writable { All IsWritable lines.now }
     ensures open { (D.seen desk.new).writes Algebra ≡ true }
-    ensures writes { Writes Algebra (lines_text (modulus terms.now) (lines_in terms.now lines.now))
+    ensures writes { Writes Algebra (written_lines (modulus_in terms.now) (lines_in terms.now lines.now))
         (D.seen desk.old) (D.seen desk.new) result }
 {
     for line in lines {

@@ -9,7 +9,7 @@
 //! or in a front part with a counted fault (`writes`). The whole text is a lawful algebra file that imports nothing
 //! (`lawful`), and each of its lines is spare (`spare`).
 //!
-//! *Ledger*: the live lines after all that were made (`ledger_of` in `specs/Writing.antt`). *Puts*: one line more
+//! *Ledger*: the live lines after all that were made (`written_ledger` in `specs/Writing.antt`). *Puts*: one line more
 //! stands behind the others. *Spare*: no line twice in a combination, none times 0, each polynomial in its normal
 //! form (`specs/Spare.antt`). *Text*: that of `specs/Certificates.antt`.
 #![tactic(auto)]

@@ -4,10 +4,10 @@ ghost use Rattle.graph_core.specs.Algebra.{Closes, Delete, IsCombined, IsLive, a
 ghost use Rattle.graph_core.specs.Algebra as algebra;
 ghost use Rattle.frontier_core.specs.Pending.{AreSpare};
 ghost use Rattle.mv_nums.specs.Residue.{IsWidth};
-ghost use Rattle.poly_terms.specs.Tables.{modulus, monomials_in};
-ghost use Rattle.poly_text.specs.Lines.{line_in};
-ghost use Rattle.pac_writer.specs.Writing.{AreLawfulSoFar, AreOver, Grows, IsFresh, PutsLine, closed, combination_of, ledger_of, parts_in};
-ghost use Rattle.pac_writer.specs.Kept.{CanFollow, IsKept};
+ghost use Rattle.poly_terms.specs.Tables.{modulus_in, monomials_in};
+ghost use Rattle.poly_text.specs.Lines.{line_in, parts_in};
+ghost use Rattle.pac_writer.specs.Writing.{AreLawfulSoFar, ArePartsOver, GrowsWrittenTable, IsFresh, PutsLine, closed, combination_of, written_ledger};
+ghost use Rattle.pac_writer.specs.Kept.{CanFollowLines, IsKeptLine};
 
 use graph_core::{Memory, Operands};
 use mv_fact::Grow;
@@ -66,10 +66,10 @@ impl<'a> Lines<'a> {
     pub fn combine(&mut self, parts: Vec<(u64, Poly)>, poly: Poly) -> Result<u64, Memory>
         requires unclosed { self.old.closing ≡ None }
         requires room { self.old.last + 1 < 2 ^ 48 }
-        requires over { AreOver self.old.extended.max self.old.table parts.items poly }
-        requires spare { AreSpare (algebra.modulus self.old.extended) (ledger_of self.old).live
+        requires over { ArePartsOver self.old.extended.max self.old.table parts.items poly }
+        requires spare { AreSpare (algebra.modulus self.old.extended) (written_ledger self.old).live
             (parts_in self.old.table parts.items) }
-        requires equal { IsCombined (algebra.modulus self.old.extended) (ledger_of self.old).live
+        requires equal { IsCombined (algebra.modulus self.old.extended) (written_ledger self.old).live
             (parts_in self.old.table parts.items) (monomials_in self.old.table poly) }
         ensures id { IfOk result (λ id. id ≡ self.old.last + 1) }
         ensures writes { IfOk result
@@ -85,7 +85,7 @@ impl<'a> Lines<'a> {
     /// Deletes a live line. Its id isn't used again.
     pub fn drop_line(&mut self, id: u64) -> Result<(), Memory>
         requires unclosed { self.old.closing ≡ None }
-        requires live { IsLive (ledger_of self.old).live id }
+        requires live { IsLive (written_ledger self.old).live id }
         ensures writes { OnOk result (PutsLine (Delete id) self.old.last self.old self.new) }
         ensures unchanged { OnErr result (self.new ≡ self.old) }
     {
@@ -96,8 +96,8 @@ impl<'a> Lines<'a> {
     // Puts a lawful line behind the others.
     fn put(&mut self, line: PacLine, last: u64) -> Result<(), Memory>
         requires unclosed { self.old.closing ≡ None }
-        requires kept { IsKept self.old.extended.max self.old.table line }
-        requires lawful { IsSomeAnd (line_in self.old.table line) (CanFollow self.old last) }
+        requires kept { IsKeptLine self.old.extended.max self.old.table line }
+        requires lawful { IsSomeAnd (line_in self.old.table line) (CanFollowLines self.old last) }
         ensures writes { OnOk result
             (IsSomeAnd (line_in self.old.table line) (λ x. PutsLine x last self.old self.new)) }
         ensures unchanged { OnErr result (self.new ≡ self.old) }
@@ -114,7 +114,7 @@ impl<'a> Lines<'a> {
     /// Ends the certificate with a line of the specification's value.
     pub fn close(&mut self, id: u64)
         requires unclosed { self.old.closing ≡ None }
-        requires closes { Closes self.old.extended self.old.sides (ledger_of self.old).live id }
+        requires closes { Closes self.old.extended self.old.sides (written_ledger self.old).live id }
         ensures { self.new ≡ closed self.old id }
     {
         self.closing = Some(id);
@@ -124,7 +124,7 @@ impl<'a> Lines<'a> {
     pub fn grow<G: Grow<Poly>>(&mut self, work: &mut G, on: &mut G::On) -> G::Out
         requires { G.can_grow work.old on.old self.old.table }
         ensures did { G.did work.old on.old self.old.table result work.new on.new self.new.table }
-        ensures grows { Grows self.old self.new }
+        ensures grows { GrowsWrittenTable self.old self.new }
     {
         work.grow(on, &mut self.terms)
     }
@@ -140,7 +140,7 @@ impl<'a> Lines<'a> {
     /// The table of the lines' polynomials.
     pub fn terms(&self) -> &Terms
         ensures table { result.now ≡ self.now.table }
-        ensures modulus { modulus self.now.table ≡ algebra.modulus self.now.extended }
+        ensures modulus { modulus_in self.now.table ≡ algebra.modulus self.now.extended }
     {
         &self.terms
     }

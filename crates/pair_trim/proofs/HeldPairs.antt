@@ -9,13 +9,13 @@ use Rattle.graph_core.specs.Graph.Operands.{profile_of}
 use Rattle.clause_core.specs.ClauseLines.{ClauseLine}
 use Rattle.drup_text.specs.Headers.{IsAnyClauseFile}
 use Rattle.drup_text.specs.declared.head.Header.{Header}
-use Rattle.mv_desk.specs.View.{View, IsHeld, bytes_under}
+use Rattle.mv_desk.specs.View.{View, IsHeld, bytes_under, IsTold}
 use Rattle.mv_desk.specs.declared.slot.Slot.TheVariants as slot
 use Rattle.mv_text.specs.LineReading.{lengths_of}
 use Rattle.joint_checker.specs.Written.{WritesPair}
 use Rattle.joint_checker.proofs.HeldFiles.{file_is_held, other_names, others_are_held, same_told, told_file}
 use Rattle.pair_trim.specs.NewPairs.{IsTrimOf}
-use Rattle.pair_trim.specs.Trimming.{Files, IsTold, LeavesOld, ReadsOld, TrimmedPairsAreHeld, new_files}
+use Rattle.pair_trim.specs.Trimming.{LeavesOld, ReadsOld, TrimmedFiles, TrimmedPairsAreHeld, new_files}
 
 algebra_no_clauses : slot.Algebra ≢ slot.Clauses
 algebra_no_clauses e = cc
@@ -43,7 +43,7 @@ held_of view name bytes is some = go (view.held name) refl is
 
 -- ---- both files
 
-module _ (files : Files) (clauses text : List ℕ) (a r c : View) (told : IsTold a) (apart : LeavesOld files) (reads : ReadsOld files a r) (old : IsHeld a files.clauses) (other : IsHeld a files.algebra)
+module _ (files : TrimmedFiles) (clauses text : List ℕ) (a r c : View) (told : IsTold a) (apart : LeavesOld files) (reads : ReadsOld files a r) (old : IsHeld a files.clauses) (other : IsHeld a files.algebra)
     (w : WritesPair (new_files files) clauses text r c) where
   clause_slot : IsSome (r.name slot.Clauses)
   clause_slot = reads.clauses_named old (told.names slot.Clauses)

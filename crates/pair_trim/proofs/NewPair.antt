@@ -37,7 +37,7 @@ use Rattle.poly_text.specs.Recorded.{HasNewId, id_in, lines_in}
 use Rattle.poly_text.specs.WrittenLines.{IsWritable}
 use Rattle.poly_text.specs.declared.line.PacLine.{PacLine}
 use Rattle.joint_checker.specs.Certificates.{IsLawfulPair, IsPair}
-use Rattle.joint_checker.specs.ClauseFiles.{AddsClauses, imported, premises}
+use Rattle.joint_checker.specs.ClauseFiles.{AddsClauses, importable, premises}
 use Rattle.joint_checker.specs.Judged.{IsJudgedPair, extended_of, premises_for}
 use Rattle.joint_checker.specs.declared.checking.Judged.{Judged}
 use Rattle.joint_checker.proofs.CallerLemmas.{blocks_fit, extended_graph, outputs_of, same_self}
@@ -52,15 +52,15 @@ use Rattle.pair_trim.proofs.Parts.{all_added, all_chosen, all_in_range, all_line
 
 -- what may be imported becomes what is kept of it, or nothing may
 imports_these : (version : ℕ) (e : Extended) (old : List Clause) (lines : List ClauseLine) →
-    ImportThese clause_value old lines (premises version e (imported version old)) (premises version e (imported version (added lines)))
+    ImportThese clause_value old lines (premises version e (importable version old)) (premises version e (importable version (added lines)))
 imports_these version e old lines = go (version == 2)
   where
     go : (b : Bool) → (map clause_value (cond b old []) ≡ []) ⊎ ((map clause_value (cond b old []) ≡ map clause_value old) × (map clause_value (cond b (added lines) []) ≡ map clause_value (added lines)))
     go true = inr (refl, refl)
     go false = inl refl
 
-version_or_none : (g : Aig) (h : Header) (cs : List Clause) → IsHeaderOf g h → (h.version ≡ 2) ⊎ (map clause_value (imported h.version cs) ≡ [])
-version_or_none g h cs takes = ⊎_elim (λ first. inr (ap (λ v. map clause_value (imported v cs)) first.0)) (λ second. inl second.0) takes
+version_or_none : (g : Aig) (h : Header) (cs : List Clause) → IsHeaderOf g h → (h.version ≡ 2) ⊎ (map clause_value (importable h.version cs) ≡ [])
+version_or_none g h cs takes = ⊎_elim (λ first. inr (ap (λ v. map clause_value (importable v cs)) first.0)) (λ second. inl second.0) takes
 
 one_block : (outputs : ℕ) (cut : Option Cut) → length (cut_blocks outputs cut) ≤ 1
 one_block outputs None = omega arith
@@ -120,7 +120,7 @@ module _ (claim : Claim) (j : Judged) (t : Trimmed) (judged : IsJudgedPair claim
   }
 
   abbrev new_premises : Premises
-  new_premises = premises j.header.version e (imported j.header.version (added t.clauses.items))
+  new_premises = premises j.header.version e (importable j.header.version (added t.clauses.items))
 
   lawful : AreLawful new_premises (sides_for claim j.graph) (lines_in terms new) j.closed.id
   lawful = kept_pair_is_lawful (premises_for j) new_premises (sides_for claim j.graph) terms old chosen.kept j.closed.id clause_value chosen.goals j.recorded.added j.recorded.uses.items t.clauses.items t.uses.items chosen.ranks
@@ -153,12 +153,12 @@ module _ (claim : Claim) (j : Judged) (t : Trimmed) (judged : IsJudgedPair claim
       over : (P : Table → List PacLine → Type 0) → P terms new → P t.terms t.algebra.items
       over P h = subst (λ (ls : List PacLine). P t.terms ls) (sym chosen.renumbered) (subst (λ (s : Table). P s new) (sym chosen.terms) h)
 
-  algebra_is : algebra_text t ≡ written_certificate j.header.version (tables.modulus terms) (lines_in terms new) j.closed.id
+  algebra_is : algebra_text t ≡ written_certificate j.header.version (tables.modulus_in terms) (lines_in terms new) j.closed.id
   algebra_is =
-      ap (λ (h : Header). written_certificate h.version (tables.modulus t.terms) (lines_in t.terms t.algebra.items) t.closing) chosen.header ∙
-      ap (λ (s : Table). written_certificate j.header.version (tables.modulus s) (lines_in s t.algebra.items) t.closing) chosen.terms ∙
-      ap (λ (ls : List PacLine). written_certificate j.header.version (tables.modulus terms) (lines_in terms ls) t.closing) chosen.renumbered ∙
-      ap (written_certificate j.header.version (tables.modulus terms) (lines_in terms new)) chosen.closing
+      ap (λ (h : Header). written_certificate h.version (tables.modulus_in t.terms) (lines_in t.terms t.algebra.items) t.closing) chosen.header ∙
+      ap (λ (s : Table). written_certificate j.header.version (tables.modulus_in s) (lines_in s t.algebra.items) t.closing) chosen.terms ∙
+      ap (λ (ls : List PacLine). written_certificate j.header.version (tables.modulus_in terms) (lines_in terms ls) t.closing) chosen.renumbered ∙
+      ap (written_certificate j.header.version (tables.modulus_in terms) (lines_in terms new)) chosen.closing
 
   algebra_file : IsLawfulAlgebraFile new_premises (sides_for claim j.graph) (algebra_text t)
   algebra_file =

@@ -22,7 +22,7 @@ use Rattle.joint_checker.specs.Records.{IsRecordOf}
 use Rattle.joint_checker.specs.declared.checking.Judged.{Judged}
 use Rattle.pair_trim.specs.Choosing.{HasChosen, IsChosen}
 use Rattle.pair_trim.specs.NewPairs.{IsTrimOf, algebra_text, clauses_text}
-use Rattle.pair_trim.specs.Trimming.{Files, IsAnswer, IsNotAccepted, checked_of}
+use Rattle.pair_trim.specs.Trimming.{IsNotAccepted, IsTrimAnswer, TrimmedFiles, checked_of}
 use Rattle.pair_trim.specs.declared.answer.TrimAnswer.{TrimAnswer}
 use Rattle.pair_trim.specs.declared.answer.TrimAnswer.TheVariants as trim
 use Rattle.pair_trim.specs.declared.answer.Trimmed.{Trimmed}
@@ -77,8 +77,8 @@ needed_without_memory profile limits texts a b o = record {
   other = o.other;
 }
 
-pub not_accepted_answers : (limits : Limits) (claim : Claim) (files : Files) (a b : View) (answer : TrimAnswer) → checked_of answer ≢ checked.Accepted → IsNotAccepted limits claim files a b (checked_of answer) →
-    IsAnswer limits claim files a b answer
+pub not_accepted_answers : (limits : Limits) (claim : Claim) (files : TrimmedFiles) (a b : View) (answer : TrimAnswer) → checked_of answer ≢ checked.Accepted → IsNotAccepted limits claim files a b (checked_of answer) →
+    IsTrimAnswer limits claim files a b answer
 not_accepted_answers limits claim files a b (trim.Trimmed t) other h = absurd (other refl)
 not_accepted_answers limits claim files a b (trim.Refused why) other h = h
 not_accepted_answers limits claim files a b (trim.Stopped (stop.Graph at why)) other h = h

@@ -30,7 +30,7 @@ abbrev pub clauses_text : Trimmed → List ℕ
 clauses_text t = any_file_text t.header t.clauses.items
 
 abbrev pub algebra_text : Trimmed → List ℕ
-algebra_text t = written_certificate t.header.version (table.modulus t.terms) (lines_in t.terms t.algebra.items) t.closing
+algebra_text t = written_certificate t.header.version (table.modulus_in t.terms) (lines_in t.terms t.algebra.items) t.closing
 
 -- Of the clauses that were added those are kept that are used, in their order. Each follows by a tight chain of gates' clauses and of kept
 -- ones that its uses name; and it is the first that shows some goal of the extended graph, or kept lines import it, or a later one uses it.

@@ -6,10 +6,9 @@ use Rattle.graph_core.specs.Graph.{Aig}
 use Rattle.graph_core.specs.Graph.Operands.{Does, profile_of}
 use Rattle.graph_core.specs.declared.claim.Claim.{Claim}
 use Rattle.mv_desk.specs.Calls.{Inspects}
-use Rattle.mv_desk.specs.View.{View, IsHeld, Rose, bytes_under}
+use Rattle.mv_desk.specs.View.{View, IsHeld, Rose, bytes_under, IsTold}
 use Rattle.mv_desk.specs.declared.limits.Limits.{Limits}
 use Rattle.mv_desk.specs.declared.names.Names.{Names}
-use Rattle.mv_desk.specs.declared.slot.Slot.{Slot}
 use Rattle.mv_desk.specs.declared.slot.Slot.TheVariants as slot
 use Rattle.mv_text.specs.LineReading.{lengths_of}
 use Rattle.joint_checker.specs.Files as checking
@@ -24,15 +23,15 @@ use Rattle.pair_trim.specs.declared.answer.Trimmed.{Trimmed}
 use Rattle.pair_trim.specs.NewPairs.{IsTrimOf}
 
 -- the names of the files that are read, and of the certificates that are written, as texts
-pub record Files : Type 0 where
+pub record TrimmedFiles : Type 0 where
   pub graph : List ℕ
   pub clauses : List ℕ
   pub algebra : List ℕ
   pub to_clauses : List ℕ
   pub to_algebra : List ℕ
 
-abbrev pub files_of : Names → Files
-files_of names = record {
+abbrev pub trimmed_files_of : Names → TrimmedFiles
+trimmed_files_of names = record {
   graph = names.graph.now;
   clauses = names.clauses.now;
   algebra = names.algebra.now;
@@ -41,20 +40,20 @@ files_of names = record {
 }
 
 -- the files that are read, and the graph with the certificates that are written
-abbrev pub old_files : Files → checking.Files
+abbrev pub old_files : TrimmedFiles → checking.Files
 old_files files = record { graph = files.graph; clauses = files.clauses; algebra = files.algebra }
 
-abbrev pub new_files : Files → checking.Files
+abbrev pub new_files : TrimmedFiles → checking.Files
 new_files files = record { graph = files.graph; clauses = files.to_clauses; algebra = files.to_algebra }
 
 -- The old files were opened and read. A slot whose name is told and whose file is held has its name told still.
-pub record ReadsOld (files : Files) (before after : View) : Type 0 where
+pub record ReadsOld (files : TrimmedFiles) (before after : View) : Type 0 where
   pub inspects : Inspects before after
   pub clauses_named : IsHeld before files.clauses → IsSome (before.name slot.Clauses) → IsSome (after.name slot.Clauses)
   pub algebra_named : IsHeld before files.algebra → IsSome (before.name slot.Algebra) → IsSome (after.name slot.Algebra)
 
 -- The graph does what is claimed, this is kept of the certificates that are told, and something holds of its texts.
-abbrev pub HasTrim : Limits → Claim → Files → View → Trimmed → (List ℕ → List ℕ → Type 0) → Type 0
+abbrev pub HasTrim : Limits → Claim → TrimmedFiles → View → Trimmed → (List ℕ → List ℕ → Type 0) → Type 0
 HasTrim limits claim files before t P = HasGraph (profile_of claim.add) limits.graph (bytes_under before files.graph) (λ g. Does claim g ×
     ((clauses : List ℕ) × (algebra : List ℕ) ×
     IfSome (bytes_under before files.clauses) (λ old. IfSome (bytes_under before files.algebra) (λ other.
@@ -67,21 +66,21 @@ checked_of (trim.Refused why) = checked.Refused why
 checked_of (trim.Stopped why) = checked.Stopped why
 
 -- The pair isn't accepted, and nothing was created.
-pub record IsNotAccepted (limits : Limits) (claim : Claim) (files : Files) (before after : View) (outcome : Checked) : Type 0 where
+pub record IsNotAccepted (limits : Limits) (claim : Claim) (files : TrimmedFiles) (before after : View) (outcome : Checked) : Type 0 where
   pub outcome_is : IsOutcome limits claim (old_files files) before after outcome
   pub opens : OpensNeeded (profile_of claim.add) limits (texts_of before (old_files files)) before after outcome
   pub inspects : Inspects before after
 
 -- Where each answer comes, as far as the desk tells the files.
-abbrev pub IsAnswer : Limits → Claim → Files → View → View → TrimAnswer → Type 0
-IsAnswer limits claim files before after (trim.Trimmed t) =
+abbrev pub IsTrimAnswer : Limits → Claim → TrimmedFiles → View → View → TrimAnswer → Type 0
+IsTrimAnswer limits claim files before after (trim.Trimmed t) =
     IsOutcome limits claim (old_files files) before after checked.Accepted ×
     HasTrim limits claim files before t (λ clauses algebra. (read : View) × ReadsOld files before read × WritesPair (new_files files) clauses algebra read after)
-IsAnswer limits claim files before after (trim.Stopped stop.WriteFault) =
+IsTrimAnswer limits claim files before after (trim.Stopped stop.WriteFault) =
     Rose before.write_faults after.write_faults × IsOutcome limits claim (old_files files) before after checked.Accepted ×
     ((t : Trimmed) × HasTrim limits claim files before t (λ clauses algebra. (read : View) × ReadsOld files before read ×
     StopsWriting (new_files files) (λ text. text ≡ clauses) (λ beside text. text ≡ algebra) read after))
-IsAnswer limits claim files before after given = IsNotAccepted limits claim files before after (checked_of given)
+IsTrimAnswer limits claim files before after given = IsNotAccepted limits claim files before after (checked_of given)
 
 -- The answer that is due: where `check` accepts, something is kept; else that of `check`.
 abbrev pub IsTrimDue : Limits → Claim → Texts → TrimAnswer → Type 0
@@ -90,7 +89,7 @@ IsTrimDue limits claim texts given = IsDue limits claim texts (checked_of given)
 -- ---- what users rest on
 
 -- neither of the certificates that are written has the name of a file that is read, nor both one name
-pub record LeavesOld (files : Files) : Type 0 where
+pub record LeavesOld (files : TrimmedFiles) : Type 0 where
   pub clauses_graph : files.to_clauses ≢ files.graph
   pub clauses_clauses : files.to_clauses ≢ files.clauses
   pub clauses_algebra : files.to_clauses ≢ files.algebra
@@ -99,13 +98,8 @@ pub record LeavesOld (files : Files) : Type 0 where
   pub algebra_algebra : files.to_algebra ≢ files.algebra
   pub apart : files.to_clauses ≢ files.to_algebra
 
--- the desk tells every name and which name each slot is open under
-pub record IsTold (view : View) : Type 0 where
-  pub held : (name : List ℕ) → IsSome (view.held name)
-  pub names : (at : Slot) → IsSome (view.name at)
-
 -- The files that a desk holds: a graph that does what is claimed, an old pair of certificates, and what is kept of it.
-pub record HoldsTrimmed (limits : Limits) (claim : Claim) (files : Files) (view : View) : Type 0 where
+pub record HoldsTrimmed (limits : Limits) (claim : Claim) (files : TrimmedFiles) (view : View) : Type 0 where
   pub graph_file : List ℕ
   pub old_clauses : List ℕ
   pub old_algebra : List ℕ
@@ -124,5 +118,5 @@ pub record HoldsTrimmed (limits : Limits) (claim : Claim) (files : Files) (view 
 
 -- Where the desk tells its files and the new names are new, that is what it holds once a pair was trimmed.
 abbrev pub TrimmedPairsAreHeld : Type 0
-TrimmedPairsAreHeld = (limits : Limits) (claim : Claim) (files : Files) (before after : View) (t : Trimmed) → IsTold before → LeavesOld files →
-    IsAnswer limits claim files before after (trim.Trimmed t) → HoldsTrimmed limits claim files after
+TrimmedPairsAreHeld = (limits : Limits) (claim : Claim) (files : TrimmedFiles) (before after : View) (t : Trimmed) → IsTold before → LeavesOld files →
+    IsTrimAnswer limits claim files before after (trim.Trimmed t) → HoldsTrimmed limits claim files after

@@ -34,7 +34,7 @@ pub(crate) fn read_trimmed<D: Desk>(
         (texts_of (D.seen desk.old) (files_of names.now)) (D.seen desk.old) (D.seen desk.new)) }
     ensures opened_all { OnOk result (OpensFiles 3 (D.seen desk.old) (D.seen desk.new)) }
     ensures opened { IfErr result (λ answer. OpensFor answer (D.seen desk.old) (D.seen desk.new)) }
-    ensures reads { ReadsOld (trimming.files_of names.now) (D.seen desk.old) (D.seen desk.new) }
+    ensures reads { ReadsOld (trimming.trimmed_files_of names.now) (D.seen desk.old) (D.seen desk.new) }
     ensures tells { KeepsTelling (D.seen desk.old) (D.seen desk.new) }
 {
     let judged = judge_pair(alloc, desk, claim, limits, names, true)?;

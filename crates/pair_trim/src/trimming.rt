@@ -2,7 +2,7 @@
 ghost use Rattle.std.specs.Prelude.{◌≡◌, ◌≢◌, ◌≤◌};
 ghost use Rattle.mv_desk.specs.View.{KeepsTelling};
 ghost use Rattle.joint_checker.specs.Outcome.{OpensFor};
-ghost use Rattle.pair_trim.specs.Trimming.{IsAnswer, checked_of, files_of};
+ghost use Rattle.pair_trim.specs.Trimming.{IsTrimAnswer, checked_of, trimmed_files_of};
 
 use crate::answer::TrimAnswer;
 use crate::reading::read_trimmed;
@@ -23,7 +23,7 @@ pub fn trim<D: Desk>(
     limits: &Limits,
     names: &Names<'_>,
 ) -> TrimAnswer
-    ensures answer { IsAnswer limits.now claim (files_of names.now) (D.seen desk.old) (D.seen desk.new) result }
+    ensures answer { IsTrimAnswer limits.now claim (trimmed_files_of names.now) (D.seen desk.old) (D.seen desk.new) result }
     ensures opened { OpensFor (checked_of result) (D.seen desk.old) (D.seen desk.new) }
     ensures later { (D.seen desk.old).write_faults ≤ (D.seen desk.new).write_faults }
     ensures tells { KeepsTelling (D.seen desk.old) (D.seen desk.new) }

@@ -6,7 +6,7 @@ ghost use Rattle.mv_desk.specs.declared.slot.Slot.TheVariants as slot;
 ghost use Rattle.joint_checker.specs.Written.{StopsAt, StopsWriting, WritesFile, WritesPair};
 ghost use Rattle.pair_trim.specs.Choosing.{CanBeWritten};
 ghost use Rattle.pair_trim.specs.NewPairs.{algebra_text, clauses_text};
-ghost use Rattle.pair_trim.specs.Trimming.{files_of, new_files};
+ghost use Rattle.pair_trim.specs.Trimming.{new_files, trimmed_files_of};
 
 use crate::answer::Trimmed;
 use drup_text::write_clauses;
@@ -20,9 +20,9 @@ pub(crate) fn write_pair<D: Desk>(
     names: &Names<'_>,
 ) -> Result<(), WriteFault>
     requires { CanBeWritten kept.now }
-    ensures whole { OnOk result (WritesPair (new_files (files_of names.now)) (clauses_text kept.now) (algebra_text kept.now)
+    ensures whole { OnOk result (WritesPair (new_files (trimmed_files_of names.now)) (clauses_text kept.now) (algebra_text kept.now)
         (D.seen desk.old) (D.seen desk.new)) }
-    ensures stops { OnErr result (StopsWriting (new_files (files_of names.now)) (λ text. text ≡ clauses_text kept.now)
+    ensures stops { OnErr result (StopsWriting (new_files (trimmed_files_of names.now)) (λ text. text ≡ clauses_text kept.now)
         (λ beside text. text ≡ algebra_text kept.now) (D.seen desk.old) (D.seen desk.new)) }
     ensures cause { HasWriteCause (D.seen desk.old) (D.seen desk.new) result }
     ensures tells { KeepsTelling (D.seen desk.old) (D.seen desk.new) }

@@ -8,7 +8,7 @@ use Rattle.graph_core.specs.Algebra.Polynomials.{difference, product}
 use Rattle.graph_core.proofs.OfGraphs.CallerLemmas.{difference_is}
 use Rattle.poly_terms.specs.Entries.{Sum, Entry}
 use Rattle.poly_terms.specs.Monomials.{Adds, free_of, has_in, places_of, replaced, total_in}
-use Rattle.poly_terms.specs.Tables.{ArePlaces, Extends, IsOf, Table, assigned, modulus, quotient_value, value_in, table_of}
+use Rattle.poly_terms.specs.Tables.{ArePlacesOf, Extends, IsOf, Table, assigned, modulus_in, quotient_value, value_in, table_of}
 use Rattle.poly_terms.specs.Laws.{value_stays}
 use Rattle.poly_terms.proofs.Assigned.{product-other}
 use Rattle.poly_terms.proofs.Made.{adds-value}
@@ -51,7 +51,7 @@ rest-value w v ms t new p p' kept r σ e f h is same grown some =
     let free = free_of t.monomials v p in
     let all : r ≡ free = same ∙ is ∙ ap₂ (λ (u : Table) x. free_of u.monomials v x) e f in
     ap (λ x. value_in new x σ) all ∙ value_stays t new free σ grown (free_of-IsOf t v p h) ∙ value-total t free σ ∙
-    ap (λ n. n % modulus t) (free-total t.monomials v σ p some) ∙ sym (value-total t p (assigned σ v false))
+    ap (λ n. n % modulus_in t) (free-total t.monomials v σ p some) ∙ sym (value-total t p (assigned σ v false))
 
 -- ---- a polynomial without a variable
 
@@ -69,7 +69,7 @@ total-free ms v σ b (e ∷ es) none = go (total-free ms v σ b es) (has_in ms v
         ap₂ (λ n k. e.1 * n + k) (product-other σ v b (get_or ms e.0 []) is) (rest left)
 
 -- its value doesn't hang on the variable
-pub free-value : (t : Table) (p : Sum) (v : ℕ) (σ : Assignment) (b : Bool) → ArePlaces t p v [] → value_in t p (assigned σ v b) ≡ value_in t p σ
-unfolding ArePlaces
+pub free-value : (t : Table) (p : Sum) (v : ℕ) (σ : Assignment) (b : Bool) → ArePlacesOf t p v [] → value_in t p (assigned σ v b) ≡ value_in t p σ
+unfolding ArePlacesOf
 free-value t p v σ b none =
-    value-total t p (assigned σ v b) ∙ ap (λ n. n % modulus t) (total-free t.monomials v σ b p (sym none)) ∙ sym (value-total t p σ)
+    value-total t p (assigned σ v b) ∙ ap (λ n. n % modulus_in t) (total-free t.monomials v σ b p (sym none)) ∙ sym (value-total t p σ)

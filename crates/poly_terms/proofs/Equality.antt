@@ -9,10 +9,10 @@ use Rattle.graph_core.specs.Graph.Assignments.{Assignment}
 use Rattle.graph_core.specs.Algebra.Polynomials.{product}
 use Rattle.graph_core.proofs.OfAlgebra.CallerLemmas.{normal_forms_differ}
 use Rattle.graph_core.proofs.OfGraphs.CallerLemmas.{same_from_difference}
-use Rattle.poly_terms.specs.Merges.{chosen, AreAfter}
+use Rattle.poly_terms.specs.Merges.{chosen_of_two, AreAfter}
 use Rattle.poly_terms.specs.Entries.{entry_order, add_entries, plus, total, Sum, Entry}
 use Rattle.poly_terms.specs.Monomials.{AreIn}
-use Rattle.poly_terms.specs.Tables.{Table, IsOf, modulus, variables_in, monomials_in, value_in}
+use Rattle.poly_terms.specs.Tables.{Table, IsOf, modulus_in, variables_in, monomials_in, value_in}
 use Rattle.poly_terms.proofs.Orders.{after_list, same_bound}
 use Rattle.poly_terms.proofs.Residues.{sum_of_reduced}
 use Rattle.poly_terms.proofs.Values.{value-total, value-plus, plus-IsOf, normal}
@@ -40,13 +40,13 @@ unfolding negated
 negated_after m bound [] h = tt
 negated_after m bound (e ∷ es) h = (after_list bound e (e.0, m - e.1) refl h.0, same_bound e (e.0, m - e.1) (negated m es) refl (negated_after m (Some e) es h.1))
 
-negated-IsOf : (t : Table) (p : Sum) → IsOf t p → IsOf t (negated (modulus t) p)
+negated-IsOf : (t : Table) (p : Sum) → IsOf t p → IsOf t (negated (modulus_in t) p)
 unfolding IsOf
 negated-IsOf t p h = record {
-  coefficients = negated_below (modulus t) p h.coefficients;
-  numbers = negated_in t.monomials (modulus t) p h.numbers;
+  coefficients = negated_below (modulus_in t) p h.coefficients;
+  numbers = negated_in t.monomials (modulus_in t) p h.numbers;
   table = h.table;
-  order = negated_after (modulus t) None p h.order;
+  order = negated_after (modulus_in t) None p h.order;
 }
 
 multiple : (d c m f r s n : ℕ) → d + c ≡ m → r + s ≡ m * n → (d * f + r) + (c * f + s) ≡ m * (f + n)
@@ -62,10 +62,10 @@ total-negated m f (e ∷ es) h =
     (f e.0 + rest.0, multiple (m - e.1) e.1 m (f e.0) (total f (negated m es)) (total f es) rest.0 whole rest.1)
 
 -- a polynomial and its opposite have the value 0
-opposite : (t : Table) (p q : Sum) (σ : Assignment) → IsOf t q → value_in t p σ ≡ value_in t q σ → value_in t (plus (modulus t) p (negated (modulus t) q)) σ ≡ 0
+opposite : (t : Table) (p q : Sum) (σ : Assignment) → IsOf t q → value_in t p σ ≡ value_in t q σ → value_in t (plus (modulus_in t) p (negated (modulus_in t) q)) σ ≡ 0
 unfolding IsOf
 opposite t p q σ h same =
-    let m = modulus t in
+    let m = modulus_in t in
     let f = λ (k : ℕ). product σ (variables_in t k) in
     let none = total-negated m f q h.coefficients in
     value-plus t p (negated m q) σ ∙ ap₂ (λ a b. (a + b) % m) (same ∙ value-total t q σ) (value-total t (negated m q) σ) ∙ sum_of_reduced m (total f q) (total f (negated m q)) ∙
@@ -95,7 +95,7 @@ none_left m (x ∷ xs) (y ∷ ys) a b h = go (λ g. none_left m xs ys a.1 b.1 g)
     kept later e false t g = no_items _ _ g
 
     go : (plus m xs (negated m ys) ≡ [] → xs ≡ ys) → (o : Ordering) → entry_order x y ≡ o →
-        chosen (add_entries m) o x (y.0, m - y.1) (plus m xs ((y.0, m - y.1) ∷ negated m ys)) (plus m xs (negated m ys)) (plus m (x ∷ xs) (negated m ys)) ≡ [] → x ∷ xs ≡ y ∷ ys
+        chosen_of_two (add_entries m) o x (y.0, m - y.1) (plus m xs ((y.0, m - y.1) ∷ negated m ys)) (plus m xs (negated m ys)) (plus m (x ∷ xs) (negated m ys)) ≡ [] → x ∷ xs ≡ y ∷ ys
     go later Less e g = no_items _ _ g
     go later Equal e g = kept later (exact_unsigned x.0 y.0 e) ((x.1 + (m - y.1)) % m == 0) refl g
     go later Greater e g = no_items _ _ g
@@ -103,10 +103,10 @@ none_left m (x ∷ xs) (y ∷ ys) a b h = go (λ g. none_left m xs ys a.1 b.1 g)
 -- polynomials with the same value at every assignment are the same
 pub same_values : (t : Table) (p q : Sum) → IsOf t p → IsOf t q → ((σ : Assignment) → value_in t p σ ≡ value_in t q σ) → p ≡ q
 unfolding IsOf monomials_in
-same_values t p q a b same = none_left (modulus t) p q a.coefficients b.coefficients (empty (plus (modulus t) p (negated (modulus t) q)) (plus-IsOf t p (negated (modulus t) q) a (negated-IsOf t q b)) (λ σ. opposite t p q σ b (same σ)))
+same_values t p q a b same = none_left (modulus_in t) p q a.coefficients b.coefficients (empty (plus (modulus_in t) p (negated (modulus_in t) q)) (plus-IsOf t p (negated (modulus_in t) q) a (negated-IsOf t q b)) (λ σ. opposite t p q σ b (same σ)))
   where
     empty : (d : Sum) → IsOf t d → ((σ : Assignment) → value_in t d σ ≡ 0) → d ≡ []
     empty [] h none = refl
     empty (x ∷ xs) h none =
-        let far = normal_forms_differ (modulus t) (monomials_in t (x ∷ xs)) (normal t (x ∷ xs) h) (omega arith) in
+        let far = normal_forms_differ (modulus_in t) (monomials_in t (x ∷ xs)) (normal t (x ∷ xs) h) (omega arith) in
         absurd (far.1 (none far.0))

@@ -12,18 +12,18 @@ use Rattle.std.specs.declared.cmp.Ordering.{Ordering}
 use Rattle.std.specs.declared.cmp.Ordering.TheVariants.{Less, Equal, Greater}
 use Rattle.graph_core.proofs.OfGraphs.CallerLemmas.{all_split, all_weaker}
 use Rattle.poly_terms.specs.Merges.{AreAfter, IsAfter}
-use Rattle.poly_terms.specs.Entries.{entry_order, total, one_entry, IsGathered, IsPutBehind, Sum, Entry}
+use Rattle.poly_terms.specs.Entries.{entry_order, total, one_entry, IsSortedSum, IsPutBehind, Sum, Entry}
 use Rattle.poly_terms.proofs.Orders.{after_list}
 use Rattle.poly_terms.proofs.Residues.{factor_reduced, plus_same}
 use Rattle.poly_terms.proofs.Values.{not_zero}
 
-pub gathered_none : (m : ℕ) → IsGathered m [] []
+pub gathered_none : (m : ℕ) → IsSortedSum m [] []
 gathered_none m = record { sums = λ f. refl; order = tt; coefficients = tt; numbers = λ n h. h }
 
-pub gathered_one : (m : ℕ) (e : Entry) → 0 < m → IsGathered m (e ∷ []) (one_entry m e)
+pub gathered_one : (m : ℕ) (e : Entry) → 0 < m → IsSortedSum m (e ∷ []) (one_entry m e)
 gathered_one m e some = go (e.1 % m == 0) refl
   where
-    go : (b : Bool) → (e.1 % m == 0) ≡ b → IsGathered m (e ∷ []) (cond b [] ((e.0, e.1 % m) ∷ []))
+    go : (b : Bool) → (e.1 % m == 0) ≡ b → IsSortedSum m (e ∷ []) (cond b [] ((e.0, e.1 % m) ∷ []))
     go true t = record {
       sums = λ f. let none = eqb-true (e.1 % m) 0 t in ap (λ n. n % m) (omega (arith, ap (λ n. n * f e.0) none)) ∙ factor_reduced m e.1 (f e.0) 0;
       order = tt;
@@ -56,7 +56,7 @@ after-one_entry m bound (y ∷ ys) x a = (a.0, after-one_entry m (Some y) ys x a
 -- entries are gathered where all but the last are, and the last one is reduced
 ends : (m : ℕ) (raw front : Sum) (x : Entry) → 0 < m → ((f : ℕ → ℕ) → total f (front ++ x ∷ []) % m ≡ total f raw % m) → AreAfter entry_order None (front ++ x ∷ []) →
     AllByRecursion (λ e. (0 < e.1) × (e.1 < m)) front → ((n : ℕ) → AllByRecursion (λ e. e.0 < n) raw → AllByRecursion (λ e. e.0 < n) (front ++ x ∷ [])) →
-    IsGathered m raw (front ++ one_entry m x)
+    IsSortedSum m raw (front ++ one_entry m x)
 ends m raw front x some sums order coefficients keys =
     let one = gathered_one m x some in
     record {
@@ -71,8 +71,8 @@ ends m raw front x some sums order coefficients keys =
     }
 
 -- one more entry, with the monomial of the last
-gathered_onto : (m : ℕ) (raw front : Sum) (last e : Entry) → 0 < m → last.0 ≡ e.0 → IsGathered m raw (front ++ last ∷ []) →
-    IsGathered m (raw ++ e ∷ []) (front ++ one_entry m (e.0, last.1 + e.1))
+gathered_onto : (m : ℕ) (raw front : Sum) (last e : Entry) → 0 < m → last.0 ≡ e.0 → IsSortedSum m raw (front ++ last ∷ []) →
+    IsSortedSum m (raw ++ e ∷ []) (front ++ one_entry m (e.0, last.1 + e.1))
 gathered_onto m raw front last e some same g =
     let both : Entry = (e.0, last.1 + e.1) in
     ends m (raw ++ e ∷ []) front both some
@@ -93,8 +93,8 @@ gathered_onto m raw front last e some same g =
     after_same bound (z ∷ zs) x y e a = (a.0, after_same (Some z) zs x y e a.1)
 
 -- one more entry, after all others
-gathered_behind : (m : ℕ) (raw old : Sum) (e : Entry) → 0 < m → AreAfter entry_order None (old ++ e ∷ []) → IsGathered m raw old →
-    IsGathered m (raw ++ e ∷ []) (old ++ one_entry m e)
+gathered_behind : (m : ℕ) (raw old : Sum) (e : Entry) → 0 < m → AreAfter entry_order None (old ++ e ∷ []) → IsSortedSum m raw old →
+    IsSortedSum m (raw ++ e ∷ []) (old ++ one_entry m e)
 gathered_behind m raw old e some order g =
     ends m (raw ++ e ∷ []) old e some
     (λ f.
@@ -147,14 +147,14 @@ after_last bound (x ∷ xs) e a none some =
     (a.0, after_last (Some x) xs e a.1 (λ h. some [] x (ap (λ z. x ∷ z) h)) (λ front last h. some (x ∷ front) last (ap (λ z. x ∷ z) h)))
 
 -- a loop's step: none of the entries that are left comes before one of those gathered
-pub gathered_more : (m : ℕ) (raw old new rest : Sum) (e : Entry) → 0 < m → IsGathered m raw old → AllByRecursion (λ o. NoneBefore o (e ∷ rest)) old → NoneBefore e rest →
-    IsPutBehind m e old new → IsGathered m (raw ++ e ∷ []) new × AllByRecursion (λ o. NoneBefore o rest) new
+pub gathered_more : (m : ℕ) (raw old new rest : Sum) (e : Entry) → 0 < m → IsSortedSum m raw old → AllByRecursion (λ o. NoneBefore o (e ∷ rest)) old → NoneBefore e rest →
+    IsPutBehind m e old new → IsSortedSum m (raw ++ e ∷ []) new × AllByRecursion (λ o. NoneBefore o rest) new
 gathered_more m raw old new rest e some g before ascends put =
     let left = all_weaker (λ o. NoneBefore o (e ∷ rest)) (λ o. NoneBefore o rest) old (λ o h. h.1) before in
     ⊎_elim
     (λ (front, last, is, same, becomes).
     let both : Entry = (e.0, last.1 + e.1) in (
-      subst (IsGathered m (raw ++ e ∷ [])) (sym becomes) (gathered_onto m raw front last e some same (subst (IsGathered m raw) is g)),
+      subst (IsSortedSum m (raw ++ e ∷ [])) (sym becomes) (gathered_onto m raw front last e some same (subst (IsSortedSum m raw) is g)),
       subst (AllByRecursion (λ o. NoneBefore o rest)) (sym becomes)
           (all_joined (λ o. NoneBefore o rest) front (one_entry m both)
           (all_split (λ o. NoneBefore o rest) front (last ∷ []) (subst (AllByRecursion (λ o. NoneBefore o rest)) is left)).0
@@ -164,7 +164,7 @@ gathered_more m raw old new rest e some g before ascends put =
     let last_before = λ (front : Sum) (last : Entry) (is : old ≡ front ++ last ∷ []).
     let at = all_split (λ o. NoneBefore o (e ∷ rest)) front (last ∷ []) (subst (AllByRecursion (λ o. NoneBefore o (e ∷ rest))) is before) in
     comes_after last e at.1.0.0 (other front last is) in (
-      subst (IsGathered m (raw ++ e ∷ [])) (sym becomes) (gathered_behind m raw old e some (after_last None old e g.order (λ h. tt) last_before) g),
+      subst (IsSortedSum m (raw ++ e ∷ [])) (sym becomes) (gathered_behind m raw old e some (after_last None old e g.order (λ h. tt) last_before) g),
       subst (AllByRecursion (λ o. NoneBefore o rest)) (sym becomes) (all_joined (λ o. NoneBefore o rest) old (one_entry m e) left (none_before_one m e rest ascends)),
     ))
     put
@@ -188,7 +188,7 @@ total-sum_by f [] = refl
 total-sum_by f (e ∷ es) = ap (λ n. e.1 * f e.0 + n) (total-sum_by f es) ∙ sym (sum_by-cons (λ (x : Entry). x.1 * f x.0) e es)
 
 -- the order of what is gathered doesn't matter
-pub gathered_permuted : (m : ℕ) (raw sorted out : Sum) → IsPermutation raw sorted → IsGathered m sorted out → IsGathered m raw out
+pub gathered_permuted : (m : ℕ) (raw sorted out : Sum) → IsPermutation raw sorted → IsSortedSum m sorted out → IsSortedSum m raw out
 gathered_permuted m raw sorted out moved g = record {
   sums = λ f.
       g.sums f ∙ ap (λ n. n % m) (total-sum_by f sorted ∙ sum_by-IsPermutation (λ (e : Entry). e.1 * f e.0) raw sorted moved ∙ sym (total-sum_by f raw));

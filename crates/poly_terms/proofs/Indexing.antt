@@ -8,10 +8,10 @@ use Rattle.std.specs.List.{AllByRecursion, Contains, filter}
 use Rattle.graph_core.specs.Graph.Assignments.{Assignment}
 use Rattle.graph_core.specs.Algebra.Polynomials.{difference, product}
 use Rattle.graph_core.proofs.OfGraphs.CallerLemmas.{difference_is}
-use Rattle.poly_terms.specs.Entries.{Entry, IsGathered, Sum, total}
-use Rattle.poly_terms.specs.Indexed.{AreIndexed, EntersNew, HasAdded, IndexedSum, IsAtPlace, IsGone, IsIndexed, IsLonger, TakesOut, terms_from}
+use Rattle.poly_terms.specs.Entries.{Entry, IsSortedSum, Sum, total}
+use Rattle.poly_terms.specs.Indexed.{AreIndexed, EntersNew, HasAddedTerms, IndexedSum, IsAtPlace, IsGone, IsIndexed, IsLonger, TakesOut, terms_from}
 use Rattle.poly_terms.specs.Monomials.{AreMonomials, has_in, has_variable, places_of, total_in}
-use Rattle.poly_terms.specs.Tables.{ArePlaces, IsOf, Table, assigned, modulus, quotient_value, value_in}
+use Rattle.poly_terms.specs.Tables.{ArePlacesOf, IsOf, Table, assigned, modulus_in, quotient_value, value_in}
 use Rattle.poly_terms.proofs.Assigned.{product-false}
 use Rattle.poly_terms.proofs.Dividing.{free-value}
 use Rattle.poly_terms.proofs.Gathering.{all_joined, total-append}
@@ -75,12 +75,12 @@ module _ (m : ℕ) (ms : List (List ℕ)) (old mid new : List ℕ) (places more 
       left_out m (total f (terms_from 0 new)) (s + total f (e ∷ [])) (before * f n) some
       (ap (λ k. k % m) to ∙ factor_reduced m (before + e.1) (f n) s ∙ ap (λ k. k % m) (omega (arith, ap (λ k. e.1 * f k) at)))
 
-  pub added_one : HasAdded m ms old new more (e ∷ [])
+  pub added_one : HasAddedTerms m ms old new more (e ∷ [])
   added_one = record { indexed = added-indexed; sums = added-total }
 
 -- the step of a loop that adds each term
 pub added_more : (m : ℕ) (ms : List (List ℕ)) (old mid new : List ℕ) (places more : List (List ℕ)) (es : Sum) (i : ℕ) (e : Entry) → i < length es → e ≡ get_or es i e →
-    HasAdded m ms old mid places (take i es) → HasAdded m ms mid new more (e ∷ []) → HasAdded m ms old new more (take (i + 1) es)
+    HasAddedTerms m ms old mid places (take i es) → HasAddedTerms m ms mid new more (e ∷ []) → HasAddedTerms m ms old new more (take (i + 1) es)
 added_more m ms old mid new places more es i e low at p q = record {
   indexed = q.indexed;
   sums = λ f.
@@ -151,13 +151,13 @@ module _ (m : ℕ) (ms : List (List ℕ)) (v : ℕ) (old new : List ℕ) (places
 
 -- ---- in a table
 
-pub indexed_inside : (t : Table) (x : IndexedSum) (cs : List ℕ) → terms_from 0 cs ≡ x.sum → IsOf t x.sum → IsIndexed t x → AreIndexed (modulus t) t.monomials cs x.places
+pub indexed_inside : (t : Table) (x : IndexedSum) (cs : List ℕ) → terms_from 0 cs ≡ x.sum → IsOf t x.sum → IsIndexed t x → AreIndexed (modulus_in t) t.monomials cs x.places
 unfolding IsOf IsIndexed
 indexed_inside t x cs is of h = record {
   below = λ n.
       ⊎_elim
-      (λ none. subst (λ c. c < modulus t) (sym none) (pow_pos t.exponent))
-      (λ one. (each_term (λ e. (0 < e.1) × (e.1 < modulus t)) cs (subst (AllByRecursion (λ e. (0 < e.1) × (e.1 < modulus t))) (sym is) of.coefficients) n (positive (get_or cs n 0) one)).1)
+      (λ none. subst (λ c. c < modulus_in t) (sym none) (pow_pos t.exponent))
+      (λ one. (each_term (λ e. (0 < e.1) × (e.1 < modulus_in t)) cs (subst (AllByRecursion (λ e. (0 < e.1) × (e.1 < modulus_in t))) (sym is) of.coefficients) n (positive (get_or cs n 0) one)).1)
       (same_or_not (get_or cs n 0) 0);
   within = each_term (λ e. e.0 < length t.monomials) cs (subst (AllByRecursion (λ e. e.0 < length t.monomials)) (sym is) of.numbers);
   indexed = λ n v some has.
@@ -165,16 +165,16 @@ indexed_inside t x cs is of h = record {
       (subst (AllByRecursion (λ e. (v : ℕ) → has_in t.monomials v e ≡ true → IsAtPlace x.places v e.0)) (sym is) h) n some v has;
 }
 
-pub of_inside : (t : Table) (cs : List ℕ) (places : List (List ℕ)) → AreMonomials t.monomials → AreIndexed (modulus t) t.monomials cs places → IsOf t (terms_from 0 cs)
+pub of_inside : (t : Table) (cs : List ℕ) (places : List (List ℕ)) → AreMonomials t.monomials → AreIndexed (modulus_in t) t.monomials cs places → IsOf t (terms_from 0 cs)
 unfolding IsOf
 of_inside t cs places once h = record {
-  coefficients = all_terms (λ e. (0 < e.1) × (e.1 < modulus t)) cs (λ n some. (some, h.below n));
+  coefficients = all_terms (λ e. (0 < e.1) × (e.1 < modulus_in t)) cs (λ n some. (some, h.below n));
   numbers = all_terms (λ e. e.0 < length t.monomials) cs h.within;
   order = after-terms None 0 cs (λ e low. tt);
   table = once;
 }
 
-pub index_inside : (t : Table) (cs : List ℕ) (places : List (List ℕ)) → AreIndexed (modulus t) t.monomials cs places →
+pub index_inside : (t : Table) (cs : List ℕ) (places : List (List ℕ)) → AreIndexed (modulus_in t) t.monomials cs places →
     IsIndexed t (record { sum = terms_from 0 cs; places = places })
 unfolding IsIndexed
 index_inside t cs places h = all_terms (λ e. (v : ℕ) → has_in t.monomials v e ≡ true → IsAtPlace places v e.0) cs (λ n some v has. h.indexed n v some has)
@@ -184,12 +184,12 @@ unfolding IsOf
 table_once t p h = h.table
 
 -- a sum's value, from its totals
-pub sum-value : (t : Table) (p q r : Sum) (σ : Assignment) → ((f : ℕ → ℕ) → total f r % modulus t ≡ (total f p + total f q) % modulus t) →
-    value_in t r σ ≡ (value_in t p σ + value_in t q σ) % modulus t
+pub sum-value : (t : Table) (p q r : Sum) (σ : Assignment) → ((f : ℕ → ℕ) → total f r % modulus_in t ≡ (total f p + total f q) % modulus_in t) →
+    value_in t r σ ≡ (value_in t p σ + value_in t q σ) % modulus_in t
 sum-value t p q r σ sums =
     let f = λ (k : ℕ). product σ (get_or t.monomials k []) in
-    value-total t r σ ∙ sums f ∙ sym (sum_of_reduced (modulus t) (total f p) (total f q)) ∙
-    sym (ap₂ (λ a b. (a + b) % modulus t) (value-total t p σ) (value-total t q σ))
+    value-total t r σ ∙ sums f ∙ sym (sum_of_reduced (modulus_in t) (total f p) (total f q)) ∙
+    sym (ap₂ (λ a b. (a + b) % modulus_in t) (value-total t p σ) (value-total t q σ))
 
 -- terms that have a variable are 0 where it is false
 total-false : (ms : List (List ℕ)) (v : ℕ) (σ : Assignment) (es : Sum) → 0 < v → AllByRecursion (λ e. (e.0 < length ms) × (has_in ms v e ≡ true)) es → total_in ms (assigned σ v false) es ≡ 0
@@ -197,26 +197,26 @@ total-false ms v σ [] some h = refl
 total-false ms v σ (e ∷ es) some h =
     omega (arith, ap (λ n. e.1 * n) (product-false σ v (get_or ms e.0 []) some h.0.1), total-false ms v σ es some h.1)
 
-module _ (t : Table) (v : ℕ) (old new raw out r : Sum) (some : 0 < v) (sums : (f : ℕ → ℕ) → total f new + total f raw ≡ total f old) (g : IsGathered (modulus t) raw out) (is : r ≡ out)
-    (has : AllByRecursion (λ e. (e.0 < length t.monomials) × (has_in t.monomials v e ≡ true)) raw) (free : ArePlaces t new v []) where
-  pub taken-sum : (σ : Assignment) → value_in t old σ ≡ (value_in t new σ + value_in t r σ) % modulus t
+module _ (t : Table) (v : ℕ) (old new raw out r : Sum) (some : 0 < v) (sums : (f : ℕ → ℕ) → total f new + total f raw ≡ total f old) (g : IsSortedSum (modulus_in t) raw out) (is : r ≡ out)
+    (has : AllByRecursion (λ e. (e.0 < length t.monomials) × (has_in t.monomials v e ≡ true)) raw) (free : ArePlacesOf t new v []) where
+  pub taken-sum : (σ : Assignment) → value_in t old σ ≡ (value_in t new σ + value_in t r σ) % modulus_in t
   taken-sum σ =
       sum-value t new r old σ
       (λ f.
-      ap (λ n. n % modulus t) (sym (sums f)) ∙ plus_same (modulus t) (total f new) (total f raw) (total f r) (sym (ap (λ es. total f es % modulus t) is ∙ g.sums f)))
+      ap (λ n. n % modulus_in t) (sym (sums f)) ∙ plus_same (modulus_in t) (total f new) (total f raw) (total f r) (sym (ap (λ es. total f es % modulus_in t) is ∙ g.sums f)))
 
   taken-false : (σ : Assignment) → value_in t r (assigned σ v false) ≡ 0
   taken-false σ =
       let f = λ (k : ℕ). product (assigned σ v false) (get_or t.monomials k []) in
-      value-total t r (assigned σ v false) ∙ ap (λ es. total f es % modulus t) is ∙ g.sums f ∙ ap (λ n. n % modulus t) (total-false t.monomials v σ raw some has) ∙ zero_mod
+      value-total t r (assigned σ v false) ∙ ap (λ es. total f es % modulus_in t) is ∙ g.sums f ∙ ap (λ n. n % modulus_in t) (total-false t.monomials v σ raw some has) ∙ zero_mod
     where
-      zero_mod : 0 % modulus t ≡ 0
+      zero_mod : 0 % modulus_in t ≡ 0
       zero_mod = mod-eq_of_lt (pow_pos t.exponent)
 
   pub taken-rest : (σ : Assignment) → value_in t new σ ≡ value_in t old (assigned σ v false)
   taken-rest σ =
       sym
-      (taken-sum (assigned σ v false) ∙ ap₂ (λ a b. (a + b) % modulus t) (free-value t new v σ false free) (taken-false σ) ∙ ap (λ n. n % modulus t) (plus_none (value_in t new σ)) ∙
+      (taken-sum (assigned σ v false) ∙ ap₂ (λ a b. (a + b) % modulus_in t) (free-value t new v σ false free) (taken-false σ) ∙ ap (λ n. n % modulus_in t) (plus_none (value_in t new σ)) ∙
       value_below t new σ)
     where
       plus_none : (n : ℕ) → n + 0 ≡ n
@@ -224,7 +224,7 @@ module _ (t : Table) (v : ℕ) (old new raw out r : Sum) (some : 0 < v) (sums : 
 
   pub taken-quotient : (σ : Assignment) → quotient_value t r v σ ≡ quotient_value t old v σ
   taken-quotient σ =
-      let m = modulus t in
+      let m = modulus_in t in
       let a = value_in t new σ in
       let b = value_in t r (assigned σ v true) in
       let high : value_in t old (assigned σ v true) ≡ (a + b) % m = taken-sum (assigned σ v true) ∙ ap (λ n. (n + b) % m) (free-value t new v σ true free) in
@@ -243,7 +243,7 @@ inside_of t x w ms cs places view width monomials of h =
     indexed_inside t seen cs refl (subst (λ (y : IndexedSum). IsOf t y.sum) (sym view) of) (subst (IsIndexed t) (sym view) h) in
     subst (λ k. AreIndexed (2 ^ k) ms cs places) (sym width) (subst (λ k. AreIndexed (2 ^ t.exponent) k cs places) (sym monomials) is)
 
-outside : (t : Table) (w : ℕ) (ms : List (List ℕ)) (cs : List ℕ) (places : List (List ℕ)) → w ≡ t.exponent → ms ≡ t.monomials → AreIndexed (2 ^ w) ms cs places → AreIndexed (modulus t) t.monomials cs places
+outside : (t : Table) (w : ℕ) (ms : List (List ℕ)) (cs : List ℕ) (places : List (List ℕ)) → w ≡ t.exponent → ms ≡ t.monomials → AreIndexed (2 ^ w) ms cs places → AreIndexed (modulus_in t) t.monomials cs places
 outside t w ms cs places width monomials h = subst (λ k. AreIndexed (2 ^ k) t.monomials cs places) width (subst (λ k. AreIndexed (2 ^ w) k cs places) monomials h)
 
 pub outside_of : (t : Table) (p : Sum) (w : ℕ) (ms : List (List ℕ)) (cs : List ℕ) (places : List (List ℕ)) → w ≡ t.exponent → ms ≡ t.monomials → IsOf t p → AreIndexed (2 ^ w) ms cs places → IsOf t (terms_from 0 cs)
@@ -254,12 +254,12 @@ pub outside_index : (t : Table) (w : ℕ) (ms : List (List ℕ)) (cs : List ℕ)
 outside_index t w ms cs places width monomials h = index_inside t cs places (outside t w ms cs places width monomials h)
 
 pub added-value : (t : Table) (x : IndexedSum) (w : ℕ) (cs new : List ℕ) (places : List (List ℕ)) (p p' : Sum) → record { sum = terms_from 0 cs; places = places } ≡ x → w ≡ t.exponent → p' ≡ p →
-    ((f : ℕ → ℕ) → total f (terms_from 0 new) % 2 ^ w ≡ (total f (terms_from 0 cs) + total f p') % 2 ^ w) → (σ : Assignment) → value_in t (terms_from 0 new) σ ≡ (value_in t x.sum σ + value_in t p σ) % modulus t
+    ((f : ℕ → ℕ) → total f (terms_from 0 new) % 2 ^ w ≡ (total f (terms_from 0 cs) + total f p') % 2 ^ w) → (σ : Assignment) → value_in t (terms_from 0 new) σ ≡ (value_in t x.sum σ + value_in t p σ) % modulus_in t
 added-value t x w cs new places p p' view width is sums σ =
     sum-value t x.sum p (terms_from 0 new) σ
     (λ f.
     subst (λ k. total f (terms_from 0 new) % 2 ^ k ≡ (total f (terms_from 0 cs) + total f p') % 2 ^ k) width (sums f) ∙
-    ap₂ (λ (y : IndexedSum) q. (total f y.sum + total f q) % modulus t) view is)
+    ap₂ (λ (y : IndexedSum) q. (total f y.sum + total f q) % modulus_in t) view is)
 
 -- ---- the polynomial 0
 
@@ -279,24 +279,24 @@ zero-value t σ = value-total t [] σ ∙ mod-eq_of_lt (pow_pos t.exponent)
 pub record IsTaken (t : Table) (v : ℕ) (x : IndexedSum) (new : List ℕ) (left : List (List ℕ)) (r : Sum) : Type 0 where
   pub of : IsOf t (terms_from 0 new)
   pub indexed : IsIndexed t (record { sum = terms_from 0 new; places = left })
-  pub none : ArePlaces t (terms_from 0 new) v []
+  pub none : ArePlacesOf t (terms_from 0 new) v []
   pub rest : (σ : Assignment) → value_in t (terms_from 0 new) σ ≡ value_in t x.sum (assigned σ v false)
   pub taken : IsOf t r
-  pub sum : (σ : Assignment) → value_in t x.sum σ ≡ (value_in t (terms_from 0 new) σ + value_in t r σ) % modulus t
+  pub sum : (σ : Assignment) → value_in t x.sum σ ≡ (value_in t (terms_from 0 new) σ + value_in t r σ) % modulus_in t
   pub quotient : (σ : Assignment) → quotient_value t r v σ ≡ quotient_value t x.sum v σ
 
 pub is_taken : (t : Table) (v : ℕ) (x : IndexedSum) (w : ℕ) (ms : List (List ℕ)) (cs new : List ℕ) (places left : List (List ℕ)) (numbers : List ℕ) (raw out r : Sum) →
     record { sum = terms_from 0 cs; places = places } ≡ x → w ≡ t.exponent → ms ≡ t.monomials → IsOf t x.sum → IsIndexed t x → 0 < v →
     numbers ≡ get_or places v [] → ((u : ℕ) → u ≢ v → get_or left u [] ≡ get_or places u []) →
-    TakesOut ms v cs new [] raw → ((k : ℕ) → k < length numbers → IsGone ms v new (get_or numbers k 0)) → IsGathered (2 ^ w) raw out → r ≡ out → IsTaken t v x new left r
-unfolding ArePlaces
+    TakesOut ms v cs new [] raw → ((k : ℕ) → k < length numbers → IsGone ms v new (get_or numbers k 0)) → IsSortedSum (2 ^ w) raw out → r ≡ out → IsTaken t v x new left r
+unfolding ArePlacesOf
 is_taken t v x w ms cs new places left numbers raw out r view width monomials of h some are others takes gone g is =
     let a : AreIndexed (2 ^ t.exponent) t.monomials cs places = inside_of t x t.exponent t.monomials cs places view refl refl of h in
     let takes' : TakesOut t.monomials v cs new [] raw = subst (λ k. TakesOut k v cs new [] raw) monomials takes in
     let gone' : (k : ℕ) → k < length numbers → IsGone t.monomials v new (get_or numbers k 0) = λ k low. subst (λ ks. IsGone ks v new (get_or numbers k 0)) monomials (gone k low) in
-    let g' : IsGathered (modulus t) raw out = subst (λ k. IsGathered (2 ^ k) raw out) width g in
-    let b : AreIndexed (modulus t) t.monomials new left = left-indexed (modulus t) t.monomials v cs new places left numbers raw (pow_pos t.exponent) a takes' are others gone' in
-    let free : ArePlaces t (terms_from 0 new) v [] = sym (left-places (modulus t) t.monomials v cs new places left numbers raw (pow_pos t.exponent) a takes' are others gone') in
+    let g' : IsSortedSum (modulus_in t) raw out = subst (λ k. IsSortedSum (2 ^ k) raw out) width g in
+    let b : AreIndexed (modulus_in t) t.monomials new left = left-indexed (modulus_in t) t.monomials v cs new places left numbers raw (pow_pos t.exponent) a takes' are others gone' in
+    let free : ArePlacesOf t (terms_from 0 new) v [] = sym (left-places (modulus_in t) t.monomials v cs new places left numbers raw (pow_pos t.exponent) a takes' are others gone') in
     let has = takes'.taken tt in
     let sums : (f : ℕ → ℕ) → total f (terms_from 0 new) + total f raw ≡ total f x.sum =
     λ f. takes'.sums f ∙ (let e : total f (terms_from 0 cs) + 0 ≡ total f (terms_from 0 cs) = omega arith in e) ∙ ap (λ (y : IndexedSum). total f y.sum) view in

@@ -10,7 +10,7 @@ use Rattle.poly_terms.specs.Entries.{Sum, Entry, entry_order}
 use Rattle.poly_terms.specs.Merges.{AreAfter}
 use Rattle.graph_core.specs.Algebra.Polynomials.{product}
 use Rattle.poly_terms.specs.Laws.{grows_on, stands_in_grown}
-use Rattle.poly_terms.specs.Monomials.{Adds, AreIn, Grows, free_of, has_in, places_of, replaced, replaced_one, total_in, without}
+use Rattle.poly_terms.specs.Monomials.{Adds, AreIn, Grows, free_of, has_in, places_of, replaced, replaced_one, total_in, without_variable}
 use Rattle.poly_terms.proofs.Adding.{adds_on, adds_same, all_at, total_grown}
 use Rattle.poly_terms.proofs.Leaving.{all-filter}
 use Rattle.poly_terms.proofs.Merging.{begins, drop_past}
@@ -122,7 +122,7 @@ module _ (m v : ℕ) (old mid : List (List ℕ)) (places : List ℕ) (by es out 
 
   as_before : (σ : Assignment) → replaced_one mid v σ (total_in mid σ by) e ≡ replaced_one old v σ (total_in old σ by) e
   as_before σ =
-      ap₂ (λ us n. e.1 * product σ (without v us) * n) (stands_in_grown old mid e.0 s.grows (all_at (λ x. x.0 < length old) es i e in_list at of)) (total_grown old mid by σ s.grows by_of)
+      ap₂ (λ us n. e.1 * product σ (without_variable v us) * n) (stands_in_grown old mid e.0 s.grows (all_at (λ x. x.0 < length old) es i e in_list at of)) (total_grown old mid by σ s.grows by_of)
 
   -- one with the variable
   pub replaced_at : (new table : List (List ℕ)) (more after : Sum) (next : ℕ) → table ≡ new → after ≡ more → next ≡ j + 1 → slice_get places j ≡ Some e.0 → Grows mid new →

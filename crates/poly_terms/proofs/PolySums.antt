@@ -7,11 +7,11 @@ use Rattle.std.specs.List.{AllByRecursion}
 use Rattle.graph_core.specs.Graph.Assignments.{Assignment}
 use Rattle.graph_core.specs.Algebra.Polynomials.{product}
 use Rattle.graph_core.proofs.OfGraphs.CallerLemmas.{all_split}
-use Rattle.poly_terms.specs.Entries.{Entry, IsGathered, Sum, total}
+use Rattle.poly_terms.specs.Entries.{Entry, IsSortedSum, Sum, total}
 use Rattle.poly_terms.specs.Indexed.{IsLonger, terms_from}
 use Rattle.poly_terms.specs.Monomials.{Adds, AreIn, AreMonomials, Grows, total_in}
 use Rattle.poly_terms.specs.PolySums.{AreListed, AreTaken, Gains, IsAdded, IsLess}
-use Rattle.poly_terms.specs.Tables.{IsOf, Table, modulus, table_of, value_in}
+use Rattle.poly_terms.specs.Tables.{IsOf, Table, modulus_in, table_of, value_in}
 use Rattle.poly_terms.proofs.Gathering.{all_joined, total-append}
 use Rattle.poly_terms.proofs.Indexing.{put_cases, sum-value, table_once}
 use Rattle.poly_terms.proofs.Made.{made-IsOf, numbers_in, product-values}
@@ -87,22 +87,22 @@ taken_one old new before after n c is some within to put = record {
 
 -- ---- in a table
 
-below_of : (t : Table) (cs : List ℕ) → IsOf t (terms_from 0 cs) → (n : ℕ) → get_or cs n 0 < modulus t
+below_of : (t : Table) (cs : List ℕ) → IsOf t (terms_from 0 cs) → (n : ℕ) → get_or cs n 0 < modulus_in t
 unfolding IsOf
 below_of t cs of n = go (get_or cs n 0) refl
   where
-    go : (c : ℕ) → get_or cs n 0 ≡ c → get_or cs n 0 < modulus t
-    go zero is = subst (λ c. c < modulus t) (sym is) (pow_pos t.exponent)
-    go (suc c) is = (each_term (λ e. (0 < e.1) × (e.1 < modulus t)) cs of.coefficients n (omega (arith, is))).1
+    go : (c : ℕ) → get_or cs n 0 ≡ c → get_or cs n 0 < modulus_in t
+    go zero is = subst (λ c. c < modulus_in t) (sym is) (pow_pos t.exponent)
+    go (suc c) is = (each_term (λ e. (0 < e.1) × (e.1 < modulus_in t)) cs of.coefficients n (omega (arith, is))).1
 
 within_of : (t : Table) (cs : List ℕ) → IsOf t (terms_from 0 cs) → (n : ℕ) → 0 < get_or cs n 0 → n < length t.monomials
 unfolding IsOf
 within_of t cs of = each_term (λ e. e.0 < length t.monomials) cs of.numbers
 
-of_coefficients : (t : Table) (cs : List ℕ) → AreMonomials t.monomials → ((n : ℕ) → get_or cs n 0 < modulus t) → ((n : ℕ) → 0 < get_or cs n 0 → n < length t.monomials) → IsOf t (terms_from 0 cs)
+of_coefficients : (t : Table) (cs : List ℕ) → AreMonomials t.monomials → ((n : ℕ) → get_or cs n 0 < modulus_in t) → ((n : ℕ) → 0 < get_or cs n 0 → n < length t.monomials) → IsOf t (terms_from 0 cs)
 unfolding IsOf
 of_coefficients t cs once below within = record {
-  coefficients = all_terms (λ e. (0 < e.1) × (e.1 < modulus t)) cs (λ n some. (some, below n));
+  coefficients = all_terms (λ e. (0 < e.1) × (e.1 < modulus_in t)) cs (λ n some. (some, below n));
   numbers = all_terms (λ e. e.0 < length t.monomials) cs within;
   order = after-terms None 0 cs (λ e low. tt);
   table = once;
@@ -110,7 +110,7 @@ of_coefficients t cs once below within = record {
 
 -- what is seen of coefficients to which a polynomial's terms were added
 module _ (t : Table) (w : ℕ) (cs new : List ℕ) (x p p' : Sum) (view : terms_from 0 cs ≡ x) (width : w ≡ t.exponent) (is : p' ≡ p) (of : IsOf t x) (addend : IsOf t p) (added : IsAdded (2 ^ w) cs new p') where
-  added_here : IsAdded (modulus t) cs new p'
+  added_here : IsAdded (modulus_in t) cs new p'
   added_here = subst (λ k. IsAdded (2 ^ k) cs new p') width added
 
   pub added-of : IsOf t (terms_from 0 new)
@@ -119,8 +119,8 @@ module _ (t : Table) (w : ℕ) (cs new : List ℕ) (x p p' : Sum) (view : terms_
       of_coefficients t new (table_once t x of) (added_here.below (below_of t cs of'))
       (added_here.within (length t.monomials) (numbers_in t t.monomials p p' refl is addend) (within_of t cs of'))
 
-  pub added-value : (σ : Assignment) → value_in t (terms_from 0 new) σ ≡ (value_in t x σ + value_in t p σ) % modulus t
-  added-value σ = sum-value t x p (terms_from 0 new) σ (λ f. added_here.sums f ∙ ap₂ (λ y q. (total f y + total f q) % modulus t) view is)
+  pub added-value : (σ : Assignment) → value_in t (terms_from 0 new) σ ≡ (value_in t x σ + value_in t p σ) % modulus_in t
+  added-value σ = sum-value t x p (terms_from 0 new) σ (λ f. added_here.sums f ∙ ap₂ (λ y q. (total f y + total f q) % modulus_in t) view is)
 
 -- What is listed and 0 where it is listed is 0.
 pub all_gone : (cs new numbers : List ℕ) → AreListed cs numbers → IsLess cs new → ((k : ℕ) → k < length numbers → get_or new (get_or numbers k 0) 0 ≡ 0) → (n : ℕ) → 0 < get_or new n 0 → ⊥
@@ -139,9 +139,9 @@ nothing_left cs new numbers listed less gone = none (terms_from 0 new) (all_term
     none (e ∷ es) h = absurd h.0
 
 module _ (t : Table) (w : ℕ) (cs new : List ℕ) (x raw out r : Sum) (view : terms_from 0 cs ≡ x) (width : w ≡ t.exponent) (of : IsOf t x) (taken : AreTaken cs new [] raw) (left : terms_from 0 new ≡ [])
-    (g : IsGathered (2 ^ w) raw out) (is : r ≡ out) where
-  gathered_here : IsGathered (modulus t) raw out
-  gathered_here = subst (λ k. IsGathered (2 ^ k) raw out) width g
+    (g : IsSortedSum (2 ^ w) raw out) (is : r ≡ out) where
+  gathered_here : IsSortedSum (modulus_in t) raw out
+  gathered_here = subst (λ k. IsSortedSum (2 ^ k) raw out) width g
 
   pub taken-of : IsOf t r
   taken-of = made-IsOf t.exponent t.monomials raw out r is (table_once t x of) (taken.within (length t.monomials) (within_of t cs (subst (IsOf t) (sym view) of)) tt) gathered_here
@@ -150,7 +150,7 @@ module _ (t : Table) (w : ℕ) (cs new : List ℕ) (x raw out r : Sum) (view : t
   taken-value σ =
       let f = λ (k : ℕ). product σ (get_or t.monomials k []) in
       let all : total f raw ≡ total f x = omega (arith, taken.sums f, ap (total f) left, ap (total f) view) in
-      value-total t r σ ∙ ap (λ es. total f es % modulus t) is ∙ gathered_here.sums f ∙ ap (λ n. n % modulus t) all ∙ sym (value-total t x σ)
+      value-total t r σ ∙ ap (λ es. total f es % modulus_in t) is ∙ gathered_here.sums f ∙ ap (λ n. n % modulus_in t) all ∙ sym (value-total t x σ)
 
 -- ---- products
 
@@ -166,14 +166,14 @@ pub product_gained-of : (w : ℕ) (old new : List (List ℕ)) (t : Table) (x y :
 product_gained-of w old new t x y e keeps of = keeps (subst (λ u. IsOf u x) (sym e) of)
 
 pub product_gained-value : (w : ℕ) (old new : List (List ℕ)) (t : Table) (x y p q p' q' : Sum) (σ : Assignment) → table_of w old ≡ t → p' ≡ p → q' ≡ q → Adds (2 ^ w) old new x y (λ σ. total_in old σ p' * total_in old σ q') → IsOf t x →
-    value_in (table_of w new) y σ ≡ (value_in t x σ + value_in t p σ * value_in t q σ) % modulus t
+    value_in (table_of w new) y σ ≡ (value_in t x σ + value_in t p σ * value_in t q σ) % modulus_in t
 unfolding IsOf
 product_gained-value w old new t x y p q p' q' σ e f g adds of =
-    let m = modulus t in
+    let m = modulus_in t in
     let a = total_in t.monomials σ x in
     let b = value_in t p σ * value_in t q σ in
     value-total (table_of w new) y σ ∙ adds.sums (subst (λ (u : Table). AreIn u.monomials x) (sym e) of.numbers) σ ∙
     plus_same (2 ^ w) (total_in old σ x) (total_in old σ p' * total_in old σ q') b
-    (product-values w old t p q p' q' σ e f g ∙ sym (ap (λ (u : Table). b % modulus u) e)) ∙
-    ap (λ (u : Table). (total_in u.monomials σ x + b) % modulus u) e ∙
+    (product-values w old t p q p' q' σ e f g ∙ sym (ap (λ (u : Table). b % modulus_in u) e)) ∙
+    ap (λ (u : Table). (total_in u.monomials σ x + b) % modulus_in u) e ∙
     sym (ap (λ k. (k + b) % m) (value-total t x σ) ∙ mod-add-mod a m b)

@@ -4,10 +4,10 @@ use Rattle.std.proofs.Math.Nat.{add-mod-mod, mod-add-mod, mod-mod}
 use Rattle.std.proofs.lemmas.Nat.{pow_pos}
 use Rattle.graph_core.specs.Graph.Assignments.{Assignment, bit}
 use Rattle.graph_core.specs.Algebra.Polynomials.{product, difference}
-use Rattle.poly_terms.specs.Monomials.{Adds, AreMonomials, Grows, free_of, has_in, places_of, replaced, replaced_one, total_in, without}
-use Rattle.poly_terms.specs.Entries.{IsGathered, Sum, entry_order, plus}
+use Rattle.poly_terms.specs.Monomials.{Adds, AreMonomials, Grows, free_of, has_in, places_of, replaced, replaced_one, total_in, without_variable}
+use Rattle.poly_terms.specs.Entries.{IsSortedSum, Sum, entry_order, plus}
 use Rattle.poly_terms.specs.Merges.{AreAfter}
-use Rattle.poly_terms.specs.Tables.{ArePlaces, Table, IsOf, modulus, value_in, assigned, replaced_value, table_of}
+use Rattle.poly_terms.specs.Tables.{ArePlacesOf, Table, IsOf, modulus_in, value_in, assigned, replaced_value, table_of}
 use Rattle.poly_terms.specs.Laws.{values_stay}
 use Rattle.poly_terms.proofs.Assigned.{product-other, product-false, product-true}
 use Rattle.poly_terms.proofs.Leaving.{after-filter, all-filter}
@@ -43,9 +43,9 @@ total-replaced ms v σ n (e ∷ es) some = go (total-replaced ms v σ n es some)
         let r = replaced ms v σ n es in
         let p0 = total_in ms (assigned σ v false) es in
         let p1 = total_in ms (assigned σ v true) es in
-        let k = e.1 * product σ (without v vs) in
+        let k = e.1 * product σ (without_variable v vs) in
         let none : product (assigned σ v false) vs ≡ 0 = product-false σ v vs some h in
-        let one : product (assigned σ v true) vs ≡ product σ (without v vs) = product-true σ v vs some in
+        let one : product (assigned σ v true) vs ≡ product σ (without_variable v vs) = product-true σ v vs some in
         ap (λ b. free + (k * n + r) + n * (e.1 * b + p0)) none ∙ replaced_front e.1 k free r n p0 ∙ ap (λ z. k * n + z) rest ∙ replaced_back e.1 k n p0 p1 ∙
         sym (ap₂ (λ a b. e.1 * a + p0 + n * (e.1 * b + p1)) none one)
     go rest false h =
@@ -84,7 +84,7 @@ replaced_number m r q p0 p1 some h =
 pub free_of-IsOf : (t : Table) (v : ℕ) (p : Sum) → IsOf t p → IsOf t (free_of t.monomials v p)
 unfolding IsOf
 free_of-IsOf t v p h = record {
-  coefficients = all-filter (λ e. not (has_in t.monomials v e)) (λ e. (0 < e.1) × (e.1 < modulus t)) p h.coefficients;
+  coefficients = all-filter (λ e. not (has_in t.monomials v e)) (λ e. (0 < e.1) × (e.1 < modulus_in t)) p h.coefficients;
   numbers = all-filter (λ e. not (has_in t.monomials v e)) (λ e. e.0 < length t.monomials) p h.numbers;
   order = after-filter (λ e. not (has_in t.monomials v e)) None p h.order;
   table = h.table;
@@ -97,7 +97,7 @@ pub record IsSubstituted (w v : ℕ) (old new : List (List ℕ)) (p q r : Sum) :
   pub grows : Grows old new
   pub once : AreMonomials new
   pub adds : Adds (2 ^ w) old new [] raw (λ σ. replaced old v σ (total_in old σ q) p)
-  pub others : IsGathered (2 ^ w) raw gathered
+  pub others : IsSortedSum (2 ^ w) raw gathered
   pub sum : r ≡ plus (2 ^ w) (free_of old v p) gathered
 
 module _ (w v : ℕ) (old new : List (List ℕ)) (p q r : Sum) (of : IsOf (table_of w old) p) (s : IsSubstituted w v old new p q r) where
@@ -128,7 +128,7 @@ module _ (w v : ℕ) (old new : List (List ℕ)) (p q r : Sum) (of : IsOf (table
 -- where it is replaced by what is 0 or 1
 pub replaced-bit : (t : Table) (p : Sum) (v n : ℕ) (σ : Assignment) (b : Bool) → n ≡ bit b → replaced_value t p v n σ ≡ value_in t p (assigned σ v b)
 replaced-bit t p v n σ true h =
-    let m = modulus t in
+    let m = modulus_in t in
     let low = value_in t p (assigned σ v false) in
     let high = value_in t p (assigned σ v true) in
     ap (λ n. (low + n * difference m high low) % m) h ∙ ap (λ n. n % m) (once low (difference m high low)) ∙ difference_plus m high low (pow_pos t.exponent) ∙
@@ -137,7 +137,7 @@ replaced-bit t p v n σ true h =
     once : (a d : ℕ) → a + 1 * d ≡ d + a
     once a d = omega arith
 replaced-bit t p v n σ false h =
-    let m = modulus t in
+    let m = modulus_in t in
     let low = value_in t p (assigned σ v false) in
     let high = value_in t p (assigned σ v true) in
     ap (λ n. (low + n * difference m high low) % m) h ∙ ap (λ n. n % m) (none low (difference m high low)) ∙ value_below t p (assigned σ v false)
@@ -147,7 +147,7 @@ replaced-bit t p v n σ false h =
 
 -- what was substituted, from the steps
 pub substituted_along : (w v : ℕ) (old new : List (List ℕ)) (p q p1 p2 q1 raw kept gathered r : Sum) → p1 ≡ p → p2 ≡ p → q1 ≡ q → Grows old new → AreMonomials new →
-    Adds (2 ^ w) old new [] raw (λ σ. replaced old v σ (total_in old σ q1) p2) → IsGathered (2 ^ w) raw gathered → kept ≡ free_of old v p1 → r ≡ plus (2 ^ w) kept gathered →
+    Adds (2 ^ w) old new [] raw (λ σ. replaced old v σ (total_in old σ q1) p2) → IsSortedSum (2 ^ w) raw gathered → kept ≡ free_of old v p1 → r ≡ plus (2 ^ w) kept gathered →
     IsSubstituted w v old new p q r
 substituted_along w v old new p q p1 p2 q1 raw stayed gathered r e f h g once adds others is sum = record {
   raw = raw;
@@ -165,6 +165,6 @@ unfolding IsOf
 order_of t p p' e h = subst (AreAfter entry_order None) (sym e) h.order
 
 -- the places, seen from the table inside
-pub places_along : (w v : ℕ) (ms : List (List ℕ)) (t : Table) (p p' : Sum) (places : List ℕ) → table_of w ms ≡ t → p' ≡ p → ArePlaces t p v places → places ≡ places_of ms v p'
-unfolding ArePlaces
+pub places_along : (w v : ℕ) (ms : List (List ℕ)) (t : Table) (p p' : Sum) (places : List ℕ) → table_of w ms ≡ t → p' ≡ p → ArePlacesOf t p v places → places ≡ places_of ms v p'
+unfolding ArePlacesOf
 places_along w v ms t p p' places e f h = h ∙ sym (ap (λ (u : Table). places_of u.monomials v p) e) ∙ sym (ap (places_of ms v) f)

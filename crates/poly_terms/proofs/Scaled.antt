@@ -10,7 +10,7 @@ use Rattle.graph_core.specs.Algebra.Polynomials.{product}
 use Rattle.poly_terms.specs.Entries.{Entry, IsMultiple, IsQuotient, Sum, entry_order, total}
 use Rattle.poly_terms.specs.Merges.{AreAfter}
 use Rattle.poly_terms.specs.Monomials.{AreIn, total_in}
-use Rattle.poly_terms.specs.Tables.{Table, IsOf, modulus, monomial_in, monomials_in, table_of, value_in}
+use Rattle.poly_terms.specs.Tables.{Table, IsOf, modulus_in, monomial_in, monomials_in, table_of, value_in}
 use Rattle.poly_terms.proofs.Gathering.{all_joined, total-append}
 use Rattle.poly_terms.proofs.Residues.{factor_reduced, plus_same}
 use Rattle.poly_terms.proofs.Values.{value-total}
@@ -100,11 +100,11 @@ scaled-numbers m by t p p' raw f h times = times.numbers (length t.monomials) (s
 
 -- with so many times the value
 pub scaled-total : (w by : ℕ) (ms : List (List ℕ)) (t : Table) (p p' raw : Sum) (σ : Assignment) → table_of w ms ≡ t → p' ≡ p → IsMultiple (2 ^ w) by p' raw →
-    total_in t.monomials σ raw % modulus t ≡ (by * value_in t p σ) % modulus t
+    total_in t.monomials σ raw % modulus_in t ≡ (by * value_in t p σ) % modulus_in t
 scaled-total w by ms t p p' raw σ e f times =
-    let m = modulus t in
+    let m = modulus_in t in
     let F : ℕ → ℕ = λ k. product σ (get_or t.monomials k []) in
-    let of_p : IsMultiple m by p raw = subst (λ (u : Table). IsMultiple (modulus u) by p raw) e (subst (λ a. IsMultiple (2 ^ w) by a raw) f times) in
+    let of_p : IsMultiple m by p raw = subst (λ (u : Table). IsMultiple (modulus_in u) by p raw) e (subst (λ a. IsMultiple (2 ^ w) by a raw) f times) in
     of_p.sums F ∙ sym (reduced m by (total F p)) ∙ ap (λ n. (by * n) % m) (sym (value-total t p σ))
 
 -- entries of the same numbers are alike in all that hangs on numbers
@@ -141,25 +141,25 @@ both m [] h k = tt
 both m (x ∷ xs) h k = ((h.0, k.0), both m xs h.1 k.1)
 
 -- a quotient is a polynomial
-pub quotient-IsOf : (t : Table) (by : ℕ) (p r : Sum) → IsOf t p → IsQuotient (modulus t) by p r → IsOf t r
+pub quotient-IsOf : (t : Table) (by : ℕ) (p r : Sum) → IsOf t p → IsQuotient (modulus_in t) by p r → IsOf t r
 unfolding IsOf
 quotient-IsOf t by p r h part = record {
-  coefficients = both (modulus t) r (part.some (somes (modulus t) p h.coefficients)) part.below;
+  coefficients = both (modulus_in t) r (part.some (somes (modulus_in t) p h.coefficients)) part.below;
   numbers = from_firsts (λ n. n < length t.monomials) r (subst (AllByRecursion (λ n. n < length t.monomials)) (sym part.numbers) (over_firsts (λ n. n < length t.monomials) p h.numbers));
   order = firsts_order r (subst (AreAfter nat_cmp None) (sym part.numbers) (order_firsts p h.order));
   table = h.table;
 }
 
 -- what is divided by a number, in the words of the table
-pub quotient_in : (w by : ℕ) (ms : List (List ℕ)) (t : Table) (p p' raw r : Sum) → table_of w ms ≡ t → p' ≡ p → r ≡ raw → IsQuotient (2 ^ w) by p' raw → IsQuotient (modulus t) by p r
+pub quotient_in : (w by : ℕ) (ms : List (List ℕ)) (t : Table) (p p' raw r : Sum) → table_of w ms ≡ t → p' ≡ p → r ≡ raw → IsQuotient (2 ^ w) by p' raw → IsQuotient (modulus_in t) by p r
 quotient_in w by ms t p p' raw r e f is part =
-    subst (λ (u : Table). IsQuotient (modulus u) by p r) e (subst (λ a. IsQuotient (2 ^ w) by a r) f (subst (IsQuotient (2 ^ w) by p') (sym is) part))
+    subst (λ (u : Table). IsQuotient (modulus_in u) by p r) e (subst (λ a. IsQuotient (2 ^ w) by a r) f (subst (IsQuotient (2 ^ w) by p') (sym is) part))
 
 -- so many times a quotient's value is that of the whole
-pub quotient-value : (t : Table) (by : ℕ) (p r : Sum) (σ : Assignment) → IsQuotient (modulus t) by p r → (by * value_in t r σ) % modulus t ≡ value_in t p σ
+pub quotient-value : (t : Table) (by : ℕ) (p r : Sum) (σ : Assignment) → IsQuotient (modulus_in t) by p r → (by * value_in t r σ) % modulus_in t ≡ value_in t p σ
 quotient-value t by p r σ part =
     let F : ℕ → ℕ = λ k. product σ (get_or t.monomials k []) in
-    ap (λ n. (by * n) % modulus t) (value-total t r σ) ∙ reduced (modulus t) by (total F r) ∙ part.sums F ∙ sym (value-total t p σ)
+    ap (λ n. (by * n) % modulus_in t) (value-total t r σ) ∙ reduced (modulus_in t) by (total F r) ∙ part.sums F ∙ sym (value-total t p σ)
 
 variables_along : (t : Table) (p : Sum) → map (λ x. x.variables) (monomials_in t p) ≡ map (λ n. get_or t.monomials n []) (map (λ e. e.0) p)
 unfolding monomials_in
@@ -167,7 +167,7 @@ variables_along t [] = refl
 variables_along t (e ∷ es) = ap (λ vs. get_or t.monomials e.0 [] ∷ vs) (variables_along t es)
 
 -- and its monomials are the same
-pub quotient-variables : (t : Table) (by : ℕ) (p r : Sum) → IsQuotient (modulus t) by p r → map (λ x. x.variables) (monomials_in t r) ≡ map (λ x. x.variables) (monomials_in t p)
+pub quotient-variables : (t : Table) (by : ℕ) (p r : Sum) → IsQuotient (modulus_in t) by p r → map (λ x. x.variables) (monomials_in t r) ≡ map (λ x. x.variables) (monomials_in t p)
 quotient-variables t by p r part =
     variables_along t r ∙ ap (map (λ n. get_or t.monomials n [])) part.numbers ∙ sym (variables_along t p)
 
@@ -175,8 +175,8 @@ quotient-variables t by p r part =
 pub coefficients_below : (w : ℕ) (ms : List (List ℕ)) (t : Table) (p p' : Sum) → table_of w ms ≡ t → p' ≡ p → IsOf t p → All (λ e. e.1 < 2 ^ w) p'
 unfolding IsOf
 coefficients_below w ms t p p' e f h =
-    let low : All (λ e. e.1 < modulus t) p = λ i x in_list. (All-from_recursion (λ e. (0 < e.1) × (e.1 < modulus t)) p h.coefficients i x in_list).1 in
-    subst (λ (u : Table). All (λ e. e.1 < modulus u) p') (sym e) (subst (All (λ e. e.1 < modulus t)) (sym f) low)
+    let low : All (λ e. e.1 < modulus_in t) p = λ i x in_list. (All-from_recursion (λ e. (0 < e.1) × (e.1 < modulus_in t)) p h.coefficients i x in_list).1 in
+    subst (λ (u : Table). All (λ e. e.1 < modulus_in u) p') (sym e) (subst (All (λ e. e.1 < modulus_in t)) (sym f) low)
 
 -- a fact of some entry's coefficient is one of some monomial's
 coefficient_of_some : (P : ℕ → Type 0) (t : Table) (p : Sum) → Any (λ e. P e.1) p ↔ Any (λ x. P x.coefficient) (monomials_in t p)

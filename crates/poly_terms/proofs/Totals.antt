@@ -3,7 +3,7 @@ use Rattle.std.proofs.Common.{◌≡◌, ℕ, ◌+◌, ◌*◌, ◌%◌, ◌<◌
 use Rattle.std.proofs.lemmas.Map.Lookups.{exact_unsigned}
 use Rattle.std.specs.declared.cmp.Ordering.{Ordering}
 use Rattle.std.specs.declared.cmp.Ordering.TheVariants.{Less, Equal, Greater}
-use Rattle.poly_terms.specs.Merges.{chosen}
+use Rattle.poly_terms.specs.Merges.{chosen_of_two}
 use Rattle.poly_terms.specs.Entries.{entry_order, add_entries, plus, total, Sum, Entry}
 use Rattle.std.proofs.Math.Nat.{mod-add-mod}
 use Rattle.poly_terms.proofs.Merging.{begins}
@@ -24,7 +24,7 @@ total-into m f x xs before [] = plus_same m (x.1 * f x.0) (total f (plus m xs []
 total-into m f x xs before (y ∷ ys) = go (total-into m f x xs before ys) (entry_order x y) refl
   where
     go : total f (plus m (x ∷ xs) ys) % m ≡ (total f (x ∷ xs) + total f ys) % m → (o : Ordering) → entry_order x y ≡ o →
-        total f (chosen (add_entries m) o x y (plus m xs (y ∷ ys)) (plus m xs ys) (plus m (x ∷ xs) ys)) % m ≡ (total f (x ∷ xs) + total f (y ∷ ys)) % m
+        total f (chosen_of_two (add_entries m) o x y (plus m xs (y ∷ ys)) (plus m xs ys) (plus m (x ∷ xs) ys)) % m ≡ (total f (x ∷ xs) + total f (y ∷ ys)) % m
     go later Less e = plus_same m (x.1 * f x.0) (total f (plus m xs (y ∷ ys))) (total f xs + total f (y ∷ ys)) (before (y ∷ ys)) ∙ ap (λ n. n % m) (omega arith)
     go later Equal e = total-add_entries m f x y (plus m xs ys) (total f xs + total f ys) (exact_unsigned x.0 y.0 e) (before ys) ∙ ap (λ n. n % m) (omega arith)
     go later Greater e = plus_same m (y.1 * f y.0) (total f (plus m (x ∷ xs) ys)) (total f (x ∷ xs) + total f ys) later ∙ ap (λ n. n % m) (omega arith)

@@ -9,7 +9,7 @@ use Rattle.graph_core.specs.Algebra.NormalForm.{AreRising, IsNormalTerm, IsNorma
 use Rattle.poly_terms.specs.Merges.{AreAfter}
 use Rattle.poly_terms.specs.Entries.{entry_order, plus, total, Sum, Entry}
 use Rattle.poly_terms.specs.Monomials.{AreIn, AreMonomials}
-use Rattle.poly_terms.specs.Tables.{Table, IsOf, modulus, variables_in, monomial_in, monomials_in, value_in}
+use Rattle.poly_terms.specs.Tables.{Table, IsOf, modulus_in, variables_in, monomial_in, monomials_in, value_in}
 use Rattle.poly_terms.proofs.Orders.{after-plus, all-plus, all_after}
 use Rattle.poly_terms.proofs.Totals.{total-plus}
 use Rattle.poly_terms.proofs.Residues.{sum_of_reduced}
@@ -20,15 +20,15 @@ sum_of-monomials t m [] σ = refl
 sum_of-monomials t m (e ∷ es) σ = ap (λ n. e.1 * product σ (variables_in t e.0) + n) (sum_of-monomials t m es σ)
 
 -- a value is the total of the coefficients whose variables are all true
-pub value-total : (t : Table) (p : Sum) (σ : Assignment) → value_in t p σ ≡ total (λ k. product σ (variables_in t k)) p % modulus t
+pub value-total : (t : Table) (p : Sum) (σ : Assignment) → value_in t p σ ≡ total (λ k. product σ (variables_in t k)) p % modulus_in t
 unfolding monomials_in
-value-total t p σ = ap (λ n. n % modulus t) (sum_of-monomials t (modulus t) p σ)
+value-total t p σ = ap (λ n. n % modulus_in t) (sum_of-monomials t (modulus_in t) p σ)
 
-pub value-plus : (t : Table) (p q : Sum) (σ : Assignment) → value_in t (plus (modulus t) p q) σ ≡ (value_in t p σ + value_in t q σ) % modulus t
+pub value-plus : (t : Table) (p q : Sum) (σ : Assignment) → value_in t (plus (modulus_in t) p q) σ ≡ (value_in t p σ + value_in t q σ) % modulus_in t
 value-plus t p q σ =
     let f = λ (k : ℕ). product σ (variables_in t k) in
-    value-total t (plus (modulus t) p q) σ ∙ total-plus (modulus t) f p q ∙ sym (sum_of_reduced (modulus t) (total f p) (total f q)) ∙
-    sym (ap₂ (λ a b. (a + b) % modulus t) (value-total t p σ) (value-total t q σ))
+    value-total t (plus (modulus_in t) p q) σ ∙ total-plus (modulus_in t) f p q ∙ sym (sum_of_reduced (modulus_in t) (total f p) (total f q)) ∙
+    sym (ap₂ (λ a b. (a + b) % modulus_in t) (value-total t p σ) (value-total t q σ))
 
 pub not_zero : (n : ℕ) → (n == 0) ≡ false → 0 < n
 not_zero n h = let ne : n ≢ 0 = λ e. true≢false (sym (eq-eqb n 0 e) ∙ h) in omega arith
@@ -40,21 +40,21 @@ sums_below m x y e p q =
     let some : 0 < m = omega arith in
     (not_zero ((x.1 + y.1) % m) e, mod-lt (x.1 + y.1) some)
 
-pub plus-IsOf : (t : Table) (p q : Sum) → IsOf t p → IsOf t q → IsOf t (plus (modulus t) p q)
+pub plus-IsOf : (t : Table) (p q : Sum) → IsOf t p → IsOf t q → IsOf t (plus (modulus_in t) p q)
 unfolding IsOf
 plus-IsOf t p q a b = record {
   table = a.table;
-  coefficients = all-plus (modulus t) (λ e. (0 < e.1) × (e.1 < modulus t)) (λ x y e g h. sums_below (modulus t) x y e g h) p q a.coefficients b.coefficients;
-  numbers = all-plus (modulus t) (λ e. e.0 < length t.monomials) (λ x y e g h. g) p q a.numbers b.numbers;
-  order = after-plus (modulus t) None p q a.order b.order;
+  coefficients = all-plus (modulus_in t) (λ e. (0 < e.1) × (e.1 < modulus_in t)) (λ x y e g h. sums_below (modulus_in t) x y e g h) p q a.coefficients b.coefficients;
+  numbers = all-plus (modulus_in t) (λ e. e.0 < length t.monomials) (λ x y e g h. g) p q a.numbers b.numbers;
+  order = after-plus (modulus_in t) None p q a.order b.order;
 }
 
 -- a monomial of the table rises
 pub rises : (ms : List (List ℕ)) (n : ℕ) → AreMonomials ms → n < length ms → AreRising 0 (get_or ms n [])
 rises ms n o h = All-from_recursion (AreRising 0) ms o.rising n [] h
 
-normal_terms : (t : Table) (p : Sum) → AllByRecursion (λ e. (0 < e.1) × (e.1 < modulus t)) p → AreIn t.monomials p → AreMonomials t.monomials →
-    AllByRecursion (IsNormalTerm (modulus t)) (monomials_in t p)
+normal_terms : (t : Table) (p : Sum) → AllByRecursion (λ e. (0 < e.1) × (e.1 < modulus_in t)) p → AreIn t.monomials p → AreMonomials t.monomials →
+    AllByRecursion (IsNormalTerm (modulus_in t)) (monomials_in t p)
 unfolding monomials_in
 normal_terms t [] a b o = tt
 normal_terms t (e ∷ es) a b o = ((refl, a.0.0, a.0.1, rises t.monomials e.0 o b.0), normal_terms t es a.1 b.1 o)
@@ -72,9 +72,9 @@ once t bound (e ∷ es) o b a =
     (All-from_recursion (λ s. variables_in t e.0 ≢ s.variables) (monomials_in t es) (others t e es o b.0 b.1 (all_after e es a.1))) (once t (Some e) es o b.1 a.1)
 
 -- a polynomial of a table has distinct monomials with coefficients other than 0
-pub normal : (t : Table) (p : Sum) → IsOf t p → IsNormalForm (modulus t) (monomials_in t p)
+pub normal : (t : Table) (p : Sum) → IsOf t p → IsNormalForm (modulus_in t) (monomials_in t p)
 unfolding IsOf monomials_in
 normal t p h = record {
-  terms = All-from_recursion (IsNormalTerm (modulus t)) (monomials_in t p) (normal_terms t p h.coefficients h.numbers h.table);
+  terms = All-from_recursion (IsNormalTerm (modulus_in t)) (monomials_in t p) (normal_terms t p h.coefficients h.numbers h.table);
   once = once t None p h.table h.numbers h.order;
 }

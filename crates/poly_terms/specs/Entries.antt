@@ -3,7 +3,7 @@ use Rattle.std.specs.Prelude.{◌≡◌, ◌≢◌, ◌⊎◌, ℕ, ◌+◌, ◌
 use Rattle.std.specs.List.{AllByRecursion}
 use Rattle.std.specs.declared.cmp.Ordering.{Ordering}
 use Rattle.std.specs.Ordering.{nat_cmp}
-use Rattle.poly_terms.specs.Merges.{merged, AreAfter}
+use Rattle.poly_terms.specs.Merges.{merged_lists, AreAfter}
 
 -- An entry: the number of a monomial, and a coefficient.
 abbrev pub Entry : Type 0
@@ -22,7 +22,7 @@ add_entries m x y rest = cond ((x.1 + y.1) % m == 0) rest ((x.0, (x.1 + y.1) % m
 
 -- two sorted lists of entries, added
 abbrev pub plus : ℕ → Sum → Sum → Sum
-plus m xs ys = merged entry_order (add_entries m) xs ys
+plus m xs ys = merged_lists entry_order (add_entries m) xs ys
 
 -- the sum of the coefficients, each times what f gives for its number
 abbrev pub total : (ℕ → ℕ) → Sum → ℕ
@@ -51,7 +51,7 @@ pub record IsOrderly (m : ℕ) (es : Sum) : Type 0 where
   pub coefficients : AllByRecursion (λ e. (0 < e.1) × (e.1 < m)) es
 
 -- A sorted list with the sum of some entries, modulo m.
-pub record IsGathered (m : ℕ) (raw entries : Sum) : Type 0 where
+pub record IsSortedSum (m : ℕ) (raw entries : Sum) : Type 0 where
   pub sums : (f : ℕ → ℕ) → total f entries % m ≡ total f raw % m
   pub order : AreAfter entry_order None entries
   pub coefficients : AllByRecursion (λ e. (0 < e.1) × (e.1 < m)) entries

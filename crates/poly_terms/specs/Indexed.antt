@@ -55,7 +55,7 @@ pub record EntersNew (before number : ℕ) (variables : List ℕ) (old new : Lis
   pub entered : before ≡ 0 → (v : ℕ) → has_variable v variables ≡ true → IsAtPlace new v number
 
 -- Coefficients to which terms were added, modulo m.
-pub record HasAdded (m : ℕ) (ms : List (List ℕ)) (old new : List ℕ) (places : List (List ℕ)) (terms : Sum) : Type 0 where
+pub record HasAddedTerms (m : ℕ) (ms : List (List ℕ)) (old new : List ℕ) (places : List (List ℕ)) (terms : Sum) : Type 0 where
   pub indexed : AreIndexed m ms new places
   pub sums : (f : ℕ → ℕ) → total f (terms_from 0 new) % m ≡ (total f (terms_from 0 old) + total f terms) % m
 

@@ -8,7 +8,7 @@ use Rattle.graph_core.specs.Graph.Assignments.{Assignment}
 use Rattle.poly_terms.specs.Entries.{Sum}
 use Rattle.poly_terms.specs.Indexed.{IndexedSum, IndexesStay, IsAtPlace, IsIndexed}
 use Rattle.poly_terms.specs.Monomials.{AreIn, Grows, has_in, has_variable}
-use Rattle.poly_terms.specs.Tables.{Table, IsOf, Extends, modulus, monomials_in, value_in, ValuesStay, ModulusStays, TablesExtend}
+use Rattle.poly_terms.specs.Tables.{Table, IsOf, Extends, modulus_in, monomials_in, value_in, ValuesStay, ModulusStays, TablesExtend}
 
 pub modulus_stays : ModulusStays
 unfolding Extends
@@ -46,7 +46,7 @@ same_monomials old new (e ∷ es) g h =
 pub values_stay : ValuesStay
 unfolding Extends IsOf
 values_stay old new p e h =
-    let m : modulus new ≡ modulus old = ap (λ w. 2 ^ w) e.0 in (
+    let m : modulus_in new ≡ modulus_in old = ap (λ w. 2 ^ w) e.0 in (
       record {
         coefficients = subst (λ k. AllByRecursion (λ x. (0 < x.1) × (x.1 < k)) p) (sym m) h.coefficients;
         numbers = all_in_grown old.monomials new.monomials p e.1 h.numbers;

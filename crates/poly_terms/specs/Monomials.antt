@@ -5,20 +5,20 @@ use Rattle.std.specs.Ordering.{nat_cmp}
 use Rattle.graph_core.specs.Graph.Assignments.{Assignment}
 use Rattle.graph_core.specs.Algebra.NormalForm.{AreRising}
 use Rattle.graph_core.specs.Algebra.Polynomials.{product}
-use Rattle.poly_terms.specs.Merges.{merged}
+use Rattle.poly_terms.specs.Merges.{merged_lists}
 use Rattle.poly_terms.specs.Entries.{Sum, Entry, total}
 
 -- the variables of two monomials, as one
 abbrev pub joined : List ℕ → List ℕ → List ℕ
-joined xs ys = merged nat_cmp (λ x y rest. x ∷ rest) xs ys
+joined xs ys = merged_lists nat_cmp (λ x y rest. x ∷ rest) xs ys
 
 -- whether a variable is among a monomial's
 abbrev pub has_variable : ℕ → List ℕ → Bool
 has_variable v key = list_any (λ u. u == v) key
 
 -- a monomial without a variable
-abbrev pub without : ℕ → List ℕ → List ℕ
-without v key = filter (λ u. not (u == v)) key
+abbrev pub without_variable : ℕ → List ℕ → List ℕ
+without_variable v key = filter (λ u. not (u == v)) key
 
 -- the monomial of some variables: it rises, and has their product at every assignment
 pub record IsMonomialOf (variables key : List ℕ) : Type 0 where
@@ -68,7 +68,7 @@ places_of ms v es = map (λ e. e.0) (filter (has_in ms v) es)
 
 -- what an entry with the variable adds, where the variable stands for n
 abbrev pub replaced_one : List (List ℕ) → ℕ → Assignment → ℕ → Entry → ℕ
-replaced_one ms v σ n e = e.1 * product σ (without v (get_or ms e.0 [])) * n
+replaced_one ms v σ n e = e.1 * product σ (without_variable v (get_or ms e.0 [])) * n
 
 -- what the entries with the variable add
 abbrev pub replaced : List (List ℕ) → ℕ → Assignment → ℕ → Sum → ℕ

@@ -19,8 +19,8 @@ pub record Table : Type 0 where
 abbrev pub table_of : ℕ → List (List ℕ) → Table
 table_of exponent monomials = record { exponent = exponent; monomials = monomials }
 
-abbrev pub modulus : Table → ℕ
-modulus t = 2 ^ t.exponent
+abbrev pub modulus_in : Table → ℕ
+modulus_in t = 2 ^ t.exponent
 
 -- the variables of a number's monomial
 abbrev pub variables_in : Table → ℕ → List ℕ
@@ -35,25 +35,25 @@ monomials_in t p = map (monomial_in t) p
 
 -- a polynomial's value at an assignment
 abbrev pub value_in : Table → Sum → Assignment → ℕ
-value_in t p σ = value (modulus t) (monomials_in t p) σ
+value_in t p σ = value (modulus_in t) (monomials_in t p) σ
 
 -- A polynomial in the table's normal form: numbers of the table, rising, with coefficients from 1 to below the modulus.
-pub record IsReduced (t : Table) (p : Sum) : Type 0 where
-  pub coefficients : AllByRecursion (λ e. (0 < e.1) × (e.1 < modulus t)) p
+pub record IsInNormalForm (t : Table) (p : Sum) : Type 0 where
+  pub coefficients : AllByRecursion (λ e. (0 < e.1) × (e.1 < modulus_in t)) p
   pub numbers : AreIn t.monomials p
   pub order : AreAfter entry_order None p
   pub table : AreMonomials t.monomials
 
 unfoldable pub IsOf : Table → Sum → Type 0
-IsOf t p = IsReduced t p
+IsOf t p = IsInNormalForm t p
 
 -- The new table gives each polynomial of the old one its value: it has the old monomials at their numbers.
 unfoldable pub Extends : Table → Table → Type 0
 Extends old new = (new.exponent ≡ old.exponent) × Grows old.monomials new.monomials
 
 -- the numbers, rising, of just the monomials with a variable
-unfoldable pub ArePlaces : Table → Sum → ℕ → List ℕ → Type 0
-ArePlaces t p v places = places ≡ places_of t.monomials v p
+unfoldable pub ArePlacesOf : Table → Sum → ℕ → List ℕ → Type 0
+ArePlacesOf t p v places = places ≡ places_of t.monomials v p
 
 -- a coefficient and variables, as a term
 abbrev pub said_term : ℕ × List ℕ → Term
@@ -77,7 +77,7 @@ ValuesStay = (old new : Table) (p : Sum) → Extends old new → IsOf old p →
 
 -- A table that extends another has its modulus.
 abbrev pub ModulusStays : Type 0
-ModulusStays = (old new : Table) → Extends old new → modulus new ≡ modulus old
+ModulusStays = (old new : Table) → Extends old new → modulus_in new ≡ modulus_in old
 
 -- A table extends itself, and what extends an extension extends the table.
 abbrev pub TablesExtend : Type 0
@@ -89,8 +89,8 @@ assigned σ v b u = cond (u == v) b (σ u)
 
 -- what a variable adds to a polynomial's value: that with the variable true, minus that with it false
 abbrev pub quotient_value : Table → Sum → ℕ → Assignment → ℕ
-quotient_value t p v σ = difference (modulus t) (value_in t p (assigned σ v true)) (value_in t p (assigned σ v false))
+quotient_value t p v σ = difference (modulus_in t) (value_in t p (assigned σ v true)) (value_in t p (assigned σ v false))
 
 -- a polynomial's value where n stands for a variable: that with the variable false, and n times what the variable adds
 abbrev pub replaced_value : Table → Sum → ℕ → ℕ → Assignment → ℕ
-replaced_value t p v n σ = (value_in t p (assigned σ v false) + n * quotient_value t p v σ) % modulus t
+replaced_value t p v n σ = (value_in t p (assigned σ v false) + n * quotient_value t p v σ) % modulus_in t

@@ -1,7 +1,7 @@
 // Sums of sorted lists of terms, and of terms in any order.
 ghost use Rattle.std.specs.Prelude.{◌≡◌, ◌++◌, ◌^◌, ◌<◌, [], IfOk, IsTrue, OnOk, length};
 ghost use Rattle.mv_nums.specs.Residue.{IsWidth};
-ghost use Rattle.poly_terms.specs.Entries.{IsGathered, IsOrderly, IsPlaced, IsPutBehind, add_entries, plus};
+ghost use Rattle.poly_terms.specs.Entries.{IsOrderly, IsPlaced, IsPutBehind, IsSortedSum, add_entries, plus};
 
 use crate::coefficient;
 use crate::term::Term;
@@ -49,7 +49,7 @@ pub(crate) fn add_sorted(
 /// The sum of entries in any order: sorted, and those of one monomial added up.
 pub(crate) fn gather(alloc: Global, exponent: u32, raw: Vec<Term>) -> Result<Vec<Term>, AllocError>
     requires { IsWidth exponent }
-    ensures { IfOk result (λ out. IsGathered (2 ^ exponent) raw.items out.items) }
+    ensures { IfOk result (λ out. IsSortedSum (2 ^ exponent) raw.items out.items) }
 {
     if is_orderly(exponent, &raw) {
         return Ok(raw);

@@ -4,9 +4,9 @@ ghost use Rattle.std.specs.List.{AllByRecursion};
 ghost use Rattle.graph_core.specs.Graph.Assignments.{Assignment};
 ghost use Rattle.graph_core.specs.Algebra.NormalForm.{HasSize};
 ghost use Rattle.mv_nums.specs.Residue.{IsWidth};
-ghost use Rattle.poly_terms.specs.Indexed.{AreIndexed, HasAdded, IsGone, IsIndexed, TakesOut, Enters, EntersNew};
+ghost use Rattle.poly_terms.specs.Indexed.{AreIndexed, HasAddedTerms, IsGone, IsIndexed, TakesOut, Enters, EntersNew};
 ghost use Rattle.poly_terms.specs.Monomials.{AreIn};
-ghost use Rattle.poly_terms.specs.Tables.{ArePlaces, IsOf, Table, assigned, modulus, quotient_value, value_in};
+ghost use Rattle.poly_terms.specs.Tables.{ArePlacesOf, IsOf, Table, assigned, modulus_in, quotient_value, value_in};
 
 use crate::coefficients::Coefficients;
 use crate::numbering::Numbering;
@@ -57,7 +57,7 @@ impl Indexed {
         ensures of { OnOk result (IsOf terms.now self.new.sum) }
         ensures indexed { OnOk result (IsIndexed terms.now self.new) }
         ensures value { OnOk result ((σ : Assignment) → value_in terms.now self.new.sum σ ≡
-            (value_in terms.now self.old.sum σ + value_in terms.now p.now σ) % modulus terms.now) }
+            (value_in terms.now self.old.sum σ + value_in terms.now p.now σ) % modulus_in terms.now) }
     {
         add_all(
             terms.exponent(),
@@ -76,12 +76,12 @@ impl Indexed {
         requires variable { 0 < v }
         ensures of { OnOk result (IsOf terms.now self.new.sum) }
         ensures indexed { OnOk result (IsIndexed terms.now self.new) }
-        ensures none { OnOk result (ArePlaces terms.now self.new.sum v []) }
+        ensures none { OnOk result (ArePlacesOf terms.now self.new.sum v []) }
         ensures rest { OnOk result ((σ : Assignment) →
             value_in terms.now self.new.sum σ ≡ value_in terms.now self.old.sum (assigned σ v false)) }
         ensures taken { IfOk result (IsOf terms.now) }
         ensures sum { IfOk result (λ p. (σ : Assignment) → value_in terms.now self.old.sum σ ≡
-            (value_in terms.now self.new.sum σ + value_in terms.now p σ) % modulus terms.now) }
+            (value_in terms.now self.new.sum σ + value_in terms.now p σ) % modulus_in terms.now) }
         ensures quotient { IfOk result (λ p. (σ : Assignment) →
             quotient_value terms.now p v σ ≡ quotient_value terms.now self.old.sum v σ) }
     {
@@ -101,7 +101,7 @@ impl Indexed {
     pub fn size(&self) -> u64
         ensures terms { result ≡ length self.now.sum }
         ensures size { (t : Table) → IsOf t self.now.sum →
-            HasSize (modulus t) (value_in t self.now.sum) result }
+            HasSize (modulus_in t) (value_in t self.now.sum) result }
     {
         self.coefficients.count()
     }
@@ -127,7 +127,7 @@ fn add_all(
     requires entries { AreIn table.now entries.now }
     requires indexed { AreIndexed (2 ^ width) table.now coefficients.old places.old }
     ensures { OnOk result
-        (HasAdded (2 ^ width) table.now coefficients.old coefficients.new places.new entries.now) }
+        (HasAddedTerms (2 ^ width) table.now coefficients.old coefficients.new places.new entries.now) }
 {
     for entry in entries {
         add_term(width, table, coefficients, places, entry)?;
@@ -146,7 +146,7 @@ fn add_term(
     requires term { term.now.0 < length table.now }
     requires indexed { AreIndexed (2 ^ width) table.now coefficients.old places.old }
     ensures { OnOk result
-        (HasAdded (2 ^ width) table.now coefficients.old coefficients.new places.new (term.now ∷ [])) }
+        (HasAddedTerms (2 ^ width) table.now coefficients.old coefficients.new places.new (term.now ∷ [])) }
 {
     let number = term.number();
     coefficients.reach(number)?;

@@ -1,7 +1,7 @@
 // Monomials: rising lists of variables. Nearly all are short, and stay inline.
 ghost use Rattle.std.specs.Prelude.{◌≡◌, ◌++◌, false, IfOk, IsTrue, length};
 ghost use Rattle.graph_core.specs.Algebra.NormalForm.{AreRising};
-ghost use Rattle.poly_terms.specs.Monomials.{IsMonomialOf, has_variable, joined, without};
+ghost use Rattle.poly_terms.specs.Monomials.{IsMonomialOf, has_variable, joined, without_variable};
 ghost use Rattle.smallvec.specs.SmallVec.{HasRoomFor};
 
 use smallvec::SmallVec;
@@ -103,7 +103,7 @@ pub(crate) fn has_variable(variables: &[u32], v: u32) -> bool
 
 /// The monomial without a variable.
 pub(crate) fn without(alloc: Global, variables: &[u32], v: u32) -> Result<Monomial, AllocError>
-    ensures { IfOk result (λ rest. rest.items ≡ without v variables.now) }
+    ensures { IfOk result (λ rest. rest.items ≡ without_variable v variables.now) }
 {
     let mut rest = SmallVec::with_capacity(alloc, variables.len())?;
     for u in variables {

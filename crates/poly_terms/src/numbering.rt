@@ -1,7 +1,7 @@
 // Monomials, each with one number.
 ghost use Rattle.std.specs.Prelude.{◌≡◌, ◌<◌, [], IfOk, IsTrue, length, get_or};
 ghost use Rattle.graph_core.specs.Algebra.NormalForm.{AreRising};
-ghost use Rattle.poly_terms.specs.Monomials.{AreMonomials, Grows, Stands, joined, without};
+ghost use Rattle.poly_terms.specs.Monomials.{AreMonomials, Grows, Stands, joined, without_variable};
 
 use crate::monomial::{self, Monomial};
 use indexmap::IndexSet;
@@ -187,7 +187,7 @@ impl Numbering {
     /// The monomial of a number, without a variable.
     pub(crate) fn without(&self, number: u64, v: u32) -> Result<Monomial, AllocError>
         requires { number < length self.now }
-        ensures value { IfOk result (λ rest. rest.items ≡ without v (get_or self.now number [])) }
+        ensures value { IfOk result (λ rest. rest.items ≡ without_variable v (get_or self.now number [])) }
         ensures rising { IfOk result (λ rest. AreRising 0 rest.items) }
     {
         monomial::without(self.alloc, self.variables(number), v)

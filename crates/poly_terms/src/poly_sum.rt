@@ -5,7 +5,7 @@ ghost use Rattle.graph_core.specs.Graph.Assignments.{Assignment};
 ghost use Rattle.mv_nums.specs.Residue.{IsWidth};
 ghost use Rattle.poly_terms.specs.Monomials.{Adds, AreIn, Grows, total_in};
 ghost use Rattle.poly_terms.specs.PolySums.{AreListed, AreTaken, IsAdded, IsLess};
-ghost use Rattle.poly_terms.specs.Tables.{IsOf, modulus, table_of, value_in};
+ghost use Rattle.poly_terms.specs.Tables.{IsOf, modulus_in, table_of, value_in};
 
 use crate::coefficients::Coefficients;
 use crate::numbering::Numbering;
@@ -55,7 +55,7 @@ impl PolySum {
         requires addend { IsOf terms.now p.now }
         ensures of { OnOk result (IsOf terms.now self.new) }
         ensures value { OnOk result ((σ : Assignment) → value_in terms.now self.new σ ≡
-            (value_in terms.now self.old σ + value_in terms.now p.now σ) % modulus terms.now) }
+            (value_in terms.now self.old σ + value_in terms.now p.now σ) % modulus_in terms.now) }
     {
         add_all(
             terms.exponent(),

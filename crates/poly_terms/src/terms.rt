@@ -4,7 +4,7 @@ ghost use Rattle.graph_core.specs.Graph.Assignments.{Assignment, bit, listed};
 ghost use Rattle.graph_core.specs.Algebra.NormalForm.{HasSize};
 ghost use Rattle.graph_core.specs.Algebra.Polynomials.{value};
 ghost use Rattle.mv_nums.specs.Residue.{IsWidth};
-ghost use Rattle.poly_terms.specs.Tables.{ArePlaces, Extends, IsOf, assigned, given, modulus, monomials_in, quotient_value, replaced_value, said, value_in};
+ghost use Rattle.poly_terms.specs.Tables.{ArePlacesOf, Extends, IsOf, assigned, given, modulus_in, monomials_in, quotient_value, replaced_value, said, value_in};
 ghost use Rattle.poly_terms.specs.Monomials.{AreIn, total_in};
 
 use crate::numbering::Numbering;
@@ -81,7 +81,7 @@ impl Terms {
         ensures extends { Extends self.old self.new }
         ensures of { IfOk result (IsOf self.new) }
         ensures value { IfOk result (λ r. (σ : Assignment) →
-            value_in self.new r σ ≡ value (modulus self.old) (given parts.now) σ) }
+            value_in self.new r σ ≡ value (modulus_in self.old) (given parts.now) σ) }
     {
         let parts = parts::copies(self.alloc, parts)?;
         let poly = self.make_of(parts)?;
@@ -94,7 +94,7 @@ impl Terms {
         ensures extends { Extends self.old self.new }
         ensures of { IfOk result (IsOf self.new) }
         ensures value { IfOk result (λ r. (σ : Assignment) →
-            value_in self.new r σ ≡ value (modulus self.old) (said parts.items) σ) }
+            value_in self.new r σ ≡ value (modulus_in self.old) (said parts.items) σ) }
     {
         let raw = parts::entries_of(self.alloc, &mut self.monomials, parts)?;
         self.monomials.stand_once();
@@ -110,7 +110,7 @@ impl Terms {
         ensures extends { Extends self.old self.new }
         ensures of { IfOk result (IsOf self.new) }
         ensures value { IfOk result (λ r. (σ : Assignment) → value_in self.new r σ ≡
-            (value_in self.old p.now σ + value_in self.old q.now σ) % modulus self.old) }
+            (value_in self.old p.now σ + value_in self.old q.now σ) % modulus_in self.old) }
     {
         let entries = addition::add_sorted(self.alloc, self.exponent, p.entries(), q.entries())?;
         Ok(Poly::of(entries))
@@ -124,7 +124,7 @@ impl Terms {
         ensures extends { Extends self.old self.new }
         ensures of { IfOk result (IsOf self.new) }
         ensures value { IfOk result (λ r. (σ : Assignment) → value_in self.new r σ ≡
-            (value_in self.old p.now σ * value_in self.old q.now σ) % modulus self.old) }
+            (value_in self.old p.now σ * value_in self.old q.now σ) % modulus_in self.old) }
     {
         let raw = multiplication::products_of(
             self.alloc,
@@ -144,7 +144,7 @@ impl Terms {
         ensures extends { Extends self.old self.new }
         ensures of { IfOk result (IsOf self.new) }
         ensures value { IfOk result (λ r. (σ : Assignment) → value_in self.new r σ ≡
-            (value_in self.old p.now σ * value (modulus self.old) (said parts.now) σ) % modulus self.old) }
+            (value_in self.old p.now σ * value (modulus_in self.old) (said parts.now) σ) % modulus_in self.old) }
     {
         let raw = parts::products_of(
             self.alloc,
@@ -162,7 +162,7 @@ impl Terms {
         requires { AreIn self.now.monomials raw.items }
         ensures of { IfOk result (IsOf self.now) }
         ensures value { IfOk result (λ r. (σ : Assignment) →
-            value_in self.now r σ ≡ total_in self.now.monomials σ raw.items % modulus self.now) }
+            value_in self.now r σ ≡ total_in self.now.monomials σ raw.items % modulus_in self.now) }
     {
         self.monomials.stand_once();
         let entries = addition::gather(self.alloc, self.exponent, raw)?;
@@ -179,14 +179,14 @@ impl Terms {
         ensures of { IfOk result (IsOf self.new) }
         ensures value { IfOk result (λ r. (σ : Assignment) →
             let product = value_in self.old p.now σ * value_in self.old q.now σ in
-            value_in self.new r σ ≡ (value_in self.old sum.now σ + product) % modulus self.old) }
+            value_in self.new r σ ≡ (value_in self.old sum.now σ + product) % modulus_in self.old) }
     {
         let product = self.mul(p, q)?;
         self.add(sum, &product)
     }
 
     /// A polynomial in which a variable is replaced by another polynomial, which may have it too.
-    #[tactic(auto, using(crate::specs::Laws::extends_itself, crate::proofs::Made::numbers_of), unfolding(crate::specs::Tables::ArePlaces))]
+    #[tactic(auto, using(crate::specs::Laws::extends_itself, crate::proofs::Made::numbers_of), unfolding(crate::specs::Tables::ArePlacesOf))]
     pub fn substitute(&mut self, p: &Poly, v: u32, q: &Poly) -> Result<Poly, Memory>
         requires left { IsOf self.old p.now }
         requires right { IsOf self.old q.now }
@@ -217,7 +217,7 @@ impl Terms {
         requires left { IsOf self.old p.now }
         requires right { IsOf self.old q.now }
         requires variable { 0 < v }
-        requires places { ArePlaces self.old p.now v places.now }
+        requires places { ArePlacesOf self.old p.now v places.now }
         ensures extends { Extends self.old self.new }
         ensures of { IfOk result (IsOf self.new) }
         ensures value { IfOk result (λ r. (σ : Assignment) →
@@ -249,7 +249,7 @@ impl Terms {
 
     /// What stands beside a variable: the polynomial is the variable times that, and what it is where the variable is
     /// false.
-    #[tactic(auto, using(crate::specs::Laws::extends_itself, crate::proofs::Made::numbers_of), unfolding(crate::specs::Tables::ArePlaces))]
+    #[tactic(auto, using(crate::specs::Laws::extends_itself, crate::proofs::Made::numbers_of), unfolding(crate::specs::Tables::ArePlacesOf))]
     pub fn quotient(&mut self, p: &Poly, v: u32) -> Result<Poly, Memory>
         requires of { IsOf self.old p.now }
         requires variable { 0 < v }
@@ -268,7 +268,7 @@ impl Terms {
     fn quotient_at(&mut self, p: &Poly, v: u32, places: &[u64]) -> Result<Poly, Memory>
         requires of { IsOf self.old p.now }
         requires variable { 0 < v }
-        requires places { ArePlaces self.old p.now v places.now }
+        requires places { ArePlacesOf self.old p.now v places.now }
         ensures extends { Extends self.old self.new }
         ensures of { IfOk result (IsOf self.new) }
         ensures value { IfOk result (λ r. (σ : Assignment) →
@@ -289,7 +289,7 @@ impl Terms {
         ensures extends { Extends self.old self.new }
         ensures of { OnOk result (IsOf self.new sum.new) }
         ensures value { OnOk result ((σ : Assignment) → value_in self.new sum.new σ ≡
-            (value_in self.old sum.old σ + value_in self.old p.now σ * value_in self.old q.now σ) % modulus self.old) }
+            (value_in self.old sum.old σ + value_in self.old p.now σ * value_in self.old q.now σ) % modulus_in self.old) }
     {
         sum.add_products(self.exponent, &mut self.monomials, p.entries(), q.entries())?;
         Ok(())
@@ -300,7 +300,7 @@ impl Terms {
         requires { IsOf self.now p.now }
         ensures of { IfOk result (IsOf self.now) }
         ensures value { IfOk result (λ r. (σ : Assignment) →
-            value_in self.now r σ ≡ (by * value_in self.now p.now σ) % modulus self.now) }
+            value_in self.now r σ ≡ (by * value_in self.now p.now σ) % modulus_in self.now) }
     {
         let raw = scaling::multiples(self.alloc, self.exponent, p.entries(), by)?;
         let product = self.gathered(raw)?;
@@ -314,7 +314,7 @@ impl Terms {
         requires power { k < 128 }
         ensures of { IfOk result (λ r. IfSome r (IsOf self.now)) }
         ensures value { IfOk result (λ r. IfSome r (λ q. (σ : Assignment) →
-            (2 ^ k * value_in self.now q σ) % modulus self.now ≡ value_in self.now p.now σ)) }
+            (2 ^ k * value_in self.now q σ) % modulus_in self.now ≡ value_in self.now p.now σ)) }
         ensures variables { IfOk result (λ r. IfSome r (λ q.
             map (λ x. x.variables) (monomials_in self.now q) ≡ map (λ x. x.variables) (monomials_in self.now p.now))) }
         ensures none { IfOk result (λ r. IsNone r ↔
@@ -385,7 +385,7 @@ impl Terms {
     #[tactic(auto, unfolding(crate::specs::Tables::monomials_in))]
     pub fn size(&self, p: &Poly) -> u64
         requires { IsOf self.now p.now }
-        ensures size { HasSize (modulus self.now) (value_in self.now p.now) result }
+        ensures size { HasSize (modulus_in self.now) (value_in self.now p.now) result }
         ensures monomials { result ≡ length (monomials_in self.now p.now) }
     {
         p.entries().len() as u64

@@ -9,7 +9,7 @@ use Rattle.std.proofs.Common.{refl, ◌∙◌}
 use Rattle.graph_core.specs.Text.Numerals.{front_at}
 use Rattle.graph_core.specs.Text.Readers.{Reader, behind_at}
 use Rattle.graph_core.specs.Algebra.Reading.{first_term_at, is_minus, term_at}
-use Rattle.mv_desk.specs.declared.faults.LineFail.{LineFail}
+use Rattle.mv_text.specs.declared.line_fail.LineFail.{LineFail}
 use Rattle.mv_text.specs.Steps.{begins, IsMisfit, Takes}
 use Rattle.mv_text.proofs.CallerLemmas.{misfit_from}
 use Rattle.poly_text.proofs.LineSteps.{chosen_one, chosen_other}

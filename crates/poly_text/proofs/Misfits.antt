@@ -5,7 +5,7 @@ use Rattle.std.specs.declared.option.Option.{Option}
 use Rattle.std.specs.declared.option.Option.TheVariants.{None, Some}
 use Rattle.std.specs.Prelude.{◌≡◌, ℕ, List}
 use Rattle.std.specs.Result.{IfOk, IfErr, IsErrAnd}
-use Rattle.mv_desk.specs.declared.faults.LineFail.{LineFail}
+use Rattle.mv_text.specs.declared.line_fail.LineFail.{LineFail}
 use Rattle.std.proofs.Common.{refl}
 use Rattle.graph_core.specs.Text.Numerals.{front_at}
 use Rattle.graph_core.specs.Text.Readers.{Reader, ended_at}

@@ -17,7 +17,7 @@ use Rattle.graph_core.specs.Algebra.NormalForm.{AreRising, IsNormalForm, IsNorma
 use Rattle.graph_core.specs.Algebra.Polynomials.{Polynomial, Term, difference, product, sum_of, term_value, value}
 use Rattle.graph_core.specs.Algebra.Text.{IsId, IsInRange, IsLineInRange}
 use Rattle.graph_core.proofs.OfAlgebra.CallerLemmas.{Once, normal_form, once_from_pairs, plain_value, size_is_one}
-use Rattle.poly_terms.specs.Tables.{Table, IsOf, modulus}
+use Rattle.poly_terms.specs.Tables.{Table, IsOf, modulus_in}
 use Rattle.poly_terms.specs.Tables as table
 use Rattle.poly_terms.proofs.Values.{normal}
 use Rattle.poly_text.specs.declared.line.PacLine.{PacLine}
@@ -191,27 +191,27 @@ module _ (max : ℕ) where
 
 -- ---- lines of a table
 
-parts_normal : (t : Table) (parts : List (ℕ × table.Sum)) → All (λ part. IsOf t part.1) parts → All (λ part. IsNormalForm (modulus t) part.factor) (map (part_in t) parts)
-parts_normal t [] h = All-nil (λ part. IsNormalForm (modulus t) part.factor)
+parts_normal : (t : Table) (parts : List (ℕ × table.Sum)) → All (λ part. IsOf t part.1) parts → All (λ part. IsNormalForm (modulus_in t) part.factor) (map (part_in t) parts)
+parts_normal t [] h = All-nil (λ part. IsNormalForm (modulus_in t) part.factor)
 parts_normal t (part ∷ parts) h =
-    All-cons (λ part. IsNormalForm (modulus t) part.factor) (part_in t part) (map (part_in t) parts) (normal t part.1 (All-head (λ part. IsOf t part.1) part parts h))
+    All-cons (λ part. IsNormalForm (modulus_in t) part.factor) (part_in t part) (map (part_in t) parts) (normal t part.1 (All-head (λ part. IsOf t part.1) part parts h))
     (parts_normal t parts (All-tail (λ part. IsOf t part.1) part parts h))
 
-pub read_in_range : (t : Table) (version max : ℕ) (bytes : List ℕ) (given : PacLine) (y : Line) → modulus t ≤ 2 ^ 128 → IsTextOf t version max bytes given → line_in t given ≡ Some y → IsLineInRange max y
+pub read_in_range : (t : Table) (version max : ℕ) (bytes : List ℕ) (given : PacLine) (y : Line) → modulus_in t ≤ 2 ^ 128 → IsTextOf t version max bytes given → line_in t given ≡ Some y → IsLineInRange max y
 read_in_range t version max bytes (line.Sum id i j poly) y fits h e =
-    subst (IsLineInRange max) (same_Some _ _ e) (alike_in_range max (modulus t) fits h.0 _ h.3.alike (normal t poly h.3.of) h.2)
+    subst (IsLineInRange max) (same_Some _ _ e) (alike_in_range max (modulus_in t) fits h.0 _ h.3.alike (normal t poly h.3.of) h.2)
 read_in_range t version max bytes (line.Product id i factor poly) y fits h e =
-    subst (IsLineInRange max) (same_Some _ _ e) (alike_in_range max (modulus t) fits h.0 _ h.3.alike (normal t factor h.3.of.0, normal t poly h.3.of.1) h.2)
+    subst (IsLineInRange max) (same_Some _ _ e) (alike_in_range max (modulus_in t) fits h.0 _ h.3.alike (normal t factor h.3.of.0, normal t poly h.3.of.1) h.2)
 read_in_range t version max bytes (line.Combination id parts poly) y fits h e =
-    subst (IsLineInRange max) (same_Some _ _ e) (alike_in_range max (modulus t) fits h.0 _ h.3.alike (parts_normal t parts h.3.of.0, normal t poly h.3.of.1) h.2)
+    subst (IsLineInRange max) (same_Some _ _ e) (alike_in_range max (modulus_in t) fits h.0 _ h.3.alike (parts_normal t parts h.3.of.0, normal t poly h.3.of.1) h.2)
 read_in_range t version max bytes (line.Import id number poly) y fits h e =
-    subst (IsLineInRange max) (same_Some _ _ e) (alike_in_range max (modulus t) fits h.0 _ h.3.alike (normal t poly h.3.of) h.2)
+    subst (IsLineInRange max) (same_Some _ _ e) (alike_in_range max (modulus_in t) fits h.0 _ h.3.alike (normal t poly h.3.of) h.2)
 read_in_range t version max bytes (line.Drop id) y fits h e =
-    subst (IsLineInRange max) (same_Some _ _ e) (alike_in_range max (modulus t) fits h.0 _ h.3.alike tt h.2)
+    subst (IsLineInRange max) (same_Some _ _ e) (alike_in_range max (modulus_in t) fits h.0 _ h.3.alike tt h.2)
 read_in_range t version max bytes (line.Close id) y fits h e = absurd (cc)
 
 -- A line that a text says may be written again.
-pub read_again : (t : Table) (version max : ℕ) (bytes : List ℕ) (given : PacLine) (y : Line) → modulus t ≤ 2 ^ 128 → IsTextOf t version max bytes given → line_in t given ≡ Some y →
+pub read_again : (t : Table) (version max : ℕ) (bytes : List ℕ) (given : PacLine) (y : Line) → modulus_in t ≤ 2 ^ 128 → IsTextOf t version max bytes given → line_in t given ≡ Some y →
     IsLineInRange max y × IsWritable given
 read_again t version max bytes given y fits h e = (read_in_range t version max bytes given y fits h e, read_is_writable t version max bytes given h)
 
@@ -221,8 +221,8 @@ close_read_again t version max bytes id h = h.1
 
 -- ---- where the modulus is at most 2 ^ 128
 
-pub width_fits : (t : Table) → IsWidth t.exponent → modulus t ≤ 2 ^ 128
+pub width_fits : (t : Table) → IsWidth t.exponent → modulus_in t ≤ 2 ^ 128
 width_fits t width = pow-le-pow_right (omega arith) width.1
 
-pub outputs_fit : (t : Table) (e : Extended) → modulus t ≡ algebra.modulus e → length e.graph.outputs ≤ 128 → modulus t ≤ 2 ^ 128
+pub outputs_fit : (t : Table) (e : Extended) → modulus_in t ≡ algebra.modulus e → length e.graph.outputs ≤ 128 → modulus_in t ≤ 2 ^ 128
 outputs_fit t e is few = subst (λ m. m ≤ 2 ^ 128) (sym is) (pow-le-pow_right (omega arith) few)

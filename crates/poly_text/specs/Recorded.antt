@@ -30,8 +30,8 @@ operands_in (Close id) = []
 abbrev pub ids_in : List PacLine → List ℕ
 ids_in lines = map id_in lines
 
-abbrev pub AreRising : List ℕ → Type 0
-AreRising ids = (i j : ℕ) → i < j → j < length ids → slice_index ids i < slice_index ids j
+abbrev pub AreRisingIds : List ℕ → Type 0
+AreRisingIds ids = (i j : ℕ) → i < j → j < length ids → slice_index ids i < slice_index ids j
 
 -- each line is made of lines with lesser ids
 abbrev pub AreMadeOfEarlier : List PacLine → Type 0

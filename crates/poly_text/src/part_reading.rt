@@ -4,14 +4,13 @@ ghost use Rattle.graph_core.specs.Text.Numerals.{number_at};
 ghost use Rattle.graph_core.specs.Text.Readers.{many_at, behind_at, ended_at};
 ghost use Rattle.graph_core.specs.Algebra.Reading.{is_space, part_at, parts_at, poly_at};
 ghost use Rattle.graph_core.specs.Algebra.Text.{IsId};
-ghost use Rattle.poly_terms.specs.Tables.{Extends, modulus};
+ghost use Rattle.poly_terms.specs.Tables.{Extends, modulus_in};
 ghost use Rattle.mv_text.specs.Steps.{IsMisfit, TakesNumber};
 ghost use Rattle.poly_text.specs.Values.{TakesAllParts, TakesPart, TakesParts, TakesPoly};
 
 use crate::numbers::id;
 use crate::pac_reader::PacReader;
-use mv_desk::LineFail;
-use mv_text::{Scanner, push};
+use mv_text::{LineFail, Scanner, push};
 use poly_terms::{Poly, Terms};
 
 // An id and a text behind it.
@@ -32,7 +31,7 @@ impl PacReader {
         scanner: &mut Scanner<'_>,
         terms: &mut Terms,
     ) -> Result<Option<Vec<(u64, Poly)>>, LineFail>
-        requires { modulus terms.old ≡ 2 ^ self.now.exponent }
+        requires { modulus_in terms.old ≡ 2 ^ self.now.exponent }
         ensures ok { IfOk result
             (TakesAllParts (ended_at parts_at (codes ", ")) self.now.max terms.new scanner.old
             scanner.new) }
@@ -50,7 +49,7 @@ impl PacReader {
         scanner: &mut Scanner<'_>,
         terms: &mut Terms,
     ) -> Result<Option<Vec<(u64, Poly)>>, LineFail>
-        requires { modulus terms.old ≡ 2 ^ self.now.exponent }
+        requires { modulus_in terms.old ≡ 2 ^ self.now.exponent }
         ensures ok { IfOk result
             (TakesAllParts parts_at self.now.max terms.new scanner.old scanner.new) }
         ensures err { IfErr result (IsMisfit (parts_at scanner.old ≡ None)) }
@@ -70,7 +69,7 @@ impl PacReader {
         terms: &mut Terms,
         before: Option<Vec<(u64, Poly)>>,
     ) -> Result<Option<Vec<(u64, Poly)>>, LineFail>
-        requires { modulus terms.old ≡ 2 ^ self.now.exponent }
+        requires { modulus_in terms.old ≡ 2 ^ self.now.exponent }
         ensures ok { IfOk result (
             let later = many_at is_space (behind_at (codes " + ") part_at) in
             TakesParts later before self.now.max terms.new scanner.old scanner.new) }
@@ -93,7 +92,7 @@ impl PacReader {
         scanner: &mut Scanner<'_>,
         terms: &mut Terms,
     ) -> Result<Option<(u64, Poly)>, LineFail>
-        requires { modulus terms.old ≡ 2 ^ self.now.exponent }
+        requires { modulus_in terms.old ≡ 2 ^ self.now.exponent }
         ensures ok { IfOk result
             (TakesPart (behind_at (codes " + ") part_at) self.now.max terms.new scanner.old
             scanner.new) }
@@ -111,7 +110,7 @@ impl PacReader {
         scanner: &mut Scanner<'_>,
         terms: &mut Terms,
     ) -> Result<Option<(u64, Poly)>, LineFail>
-        requires { modulus terms.old ≡ 2 ^ self.now.exponent }
+        requires { modulus_in terms.old ≡ 2 ^ self.now.exponent }
         ensures ok { IfOk result
             (TakesPart part_at self.now.max terms.new scanner.old scanner.new) }
         ensures err { IfErr result (IsMisfit (part_at scanner.old ≡ None)) }
@@ -129,7 +128,7 @@ impl PacReader {
         terms: &mut Terms,
         end: &[u8],
     ) -> Result<Option<Poly>, LineFail>
-        requires { modulus terms.old ≡ 2 ^ self.now.exponent }
+        requires { modulus_in terms.old ≡ 2 ^ self.now.exponent }
         ensures ok { IfOk result
             (TakesPoly (ended_at poly_at end.now) self.now.max terms.new scanner.old scanner.new) }
         ensures err { IfErr result (IsMisfit (ended_at poly_at end.now scanner.old ≡ None)) }

@@ -3,13 +3,12 @@ ghost use Rattle.std.specs.Prelude.{◌≡◌, ◌^◌, None, IfOk, IfErr};
 ghost use Rattle.graph_core.specs.Text.Readers.{many_at};
 ghost use Rattle.graph_core.specs.Algebra.Reading.{is_sign, first_term_at, signed_term_at, poly_at};
 ghost use Rattle.graph_core.specs.Algebra.Text.{IsInRange};
-ghost use Rattle.poly_terms.specs.Tables.{Extends, modulus};
+ghost use Rattle.poly_terms.specs.Tables.{Extends, modulus_in};
 ghost use Rattle.mv_text.specs.Steps.{IsMisfit, Takes, begins};
 ghost use Rattle.poly_text.specs.Values.{AreTermsOf, TakesPoly, TakesTerm, TakesTerms};
 
 use crate::pac_reader::PacReader;
-use mv_desk::LineFail;
-use mv_text::{Scanner, push};
+use mv_text::{LineFail, Scanner, push};
 use poly_terms::{Poly, Terms, Variables};
 
 impl PacReader {
@@ -19,7 +18,7 @@ impl PacReader {
         scanner: &mut Scanner<'_>,
         terms: &mut Terms,
     ) -> Result<Option<Poly>, LineFail>
-        requires { modulus terms.old ≡ 2 ^ self.now.exponent }
+        requires { modulus_in terms.old ≡ 2 ^ self.now.exponent }
         ensures ok { IfOk result
             (TakesPoly poly_at self.now.max terms.new scanner.old scanner.new) }
         ensures err { IfErr result (IsMisfit (poly_at scanner.old ≡ None)) }

@@ -3,14 +3,13 @@ ghost use Rattle.std.specs.Prelude.{◌≡◌, ◌+◌, ◌%◌, ◌^◌, true, 
 ghost use Rattle.graph_core.specs.Text.Numerals.{number_at};
 ghost use Rattle.graph_core.specs.Text.Readers.{behind_at};
 ghost use Rattle.graph_core.specs.Algebra.Reading.{factors_at, coefficient_at, product_at, term_at};
-ghost use Rattle.mv_text.specs.Steps.{IsMisfit, TakesNumber};
-ghost use Rattle.poly_text.specs.Values.{IsTimes, IsVariable, Signs, TakesFactors, TakesTerm};
+ghost use Rattle.mv_text.specs.Steps.{IsMisfit, IsVariable, TakesNumber};
+ghost use Rattle.poly_text.specs.Values.{IsTimes, Signs, TakesFactors, TakesTerm};
 
 use crate::numbers::{coefficient, variable};
 use crate::pac_reader::PacReader;
-use mv_desk::LineFail;
 use mv_nums::Residue;
-use mv_text::Scanner;
+use mv_text::{LineFail, Scanner};
 use poly_terms::Variables;
 
 impl PacReader {

@@ -37,18 +37,18 @@ pub record IsFirstUnknown (e : Extended) (pairs : List (Lit × Lit)) (i : ℕ) :
 -- ---- blocks
 
 -- no column from the first of these on and before the second is replaced
-abbrev pub AreApart : List Column → ℕ → ℕ → Type 0
-AreApart cs lo end = All (λ c. (c.number < lo) ⊎ (end ≤ c.number)) cs
+abbrev pub AreUnreplaced : List Column → ℕ → ℕ → Type 0
+AreUnreplaced cs lo end = All (λ c. (c.number < lo) ⊎ (end ≤ c.number)) cs
 
 -- There is a pair, and the columns are among the outputs and replaced by no block so far.
-pub record HasRoom (e : Extended) (lo pairs : ℕ) (carry : Bool) : Type 0 where
+pub record HasColumnRoom (e : Extended) (lo pairs : ℕ) (carry : Bool) : Type 0 where
   pub some : 0 < pairs
   pub within : lo + reach pairs carry ≤ length e.graph.outputs
-  pub apart : AreApart e.replaced lo (lo + reach pairs carry)
+  pub apart : AreUnreplaced e.replaced lo (lo + reach pairs carry)
 
 -- so it is of a block
 abbrev pub HasRoomFor : Extended → Block → Type 0
-HasRoomFor e b = HasRoom e b.cut.lo (length b.cut.pairs) b.carry
+HasRoomFor e b = HasColumnRoom e b.cut.lo (length b.cut.pairs) b.carry
 
 -- why a block doesn't fit behind those so far: its columns, or else its first unknown pair
 abbrev pub IsBlockFault : Extended → Block → GraftFail → Type 0
@@ -95,5 +95,5 @@ pub record IsGrafted (g : Aig) (e : Extended) : Type 0 where
   pub fit : AreBlocks (without_cut g) blocks
   pub is : e ≡ with_blocks g blocks
 
-abbrev pub IsSeen : Aig → Option Added → Type 0
-IsSeen g added = IsGrafted g (seen g added)
+abbrev pub IsAddedGrafted : Aig → Option Added → Type 0
+IsAddedGrafted g added = IsGrafted g (seen g added)

@@ -3,8 +3,8 @@ use Rattle.std.specs.Prelude.{◌≡◌, ℕ, Bool, List, length, map}
 use Rattle.std.proofs.Common.{arith, subst}
 use Rattle.std.specs.Global.{Global}
 use Rattle.std.specs.declared.vec.Vec.{Vec}
-use Rattle.cdcl_core.specs.Logs.{LogView}
-use Rattle.cdcl_core.specs.Solving.{assignment_of}
+use Rattle.cdcl_solver.specs.Logs.{LogView}
+use Rattle.cdcl_solver.specs.Solving.{assignment_of}
 use Rattle.clause_core.specs.ClauseLines.{ClauseLine}
 use Rattle.drup_text.proofs.Writable.{lines_are_writable}
 use Rattle.goal_refuter.specs.Refutations.{IsSpent, unmet_goals}
@@ -21,18 +21,18 @@ use Rattle.same_core.specs.declared.pairs.PairFail.TheVariants as pair
 use Rattle.aiger_reader.specs.declared.stop.Stop.TheVariants as stop
 use Rattle.same_core.specs.declared.verdict.Same.TheVariants as same
 use Rattle.same_core.specs.Answers.{same_of_pair}
-use Rattle.same_core.specs.Deciding.{AreWritten, IsAnswer, ReadsGraphs, StopsAt, WritesFile}
-use Rattle.same_core.specs.Files.{Files, texts_of}
+use Rattle.same_core.specs.Deciding.{AreWritten, IsCompared, ReadsGraphs, StopsAtClauses, WritesClauseFile}
+use Rattle.same_core.specs.Files.{ComparedFiles, compared_texts_of}
 use Rattle.same_core.specs.Merged.{Both, both, merged}
-use Rattle.same_core.specs.Pairs.{IsPairFail, IsPairOf}
+use Rattle.same_core.specs.Pairs.{IsPairFail, IsReadPair}
 use Rattle.same_core.specs.Places.{IsMerged}
 use Rattle.same_core.proofs.Differing.{difference}
 use Rattle.same_core.proofs.MergedColumns.{length-columns_from}
 use Rattle.same_core.proofs.Merging.{merged_outputs_agree}
 use Rattle.same_core.proofs.Ranges.{both_merged}
 
-module _ (limits : Limits) (conflicts : ℕ) (files : Files) (a b : View) (inspects : Inspects a b) where
-  pub pair_fails : (given : PairFail) → IsPairFail limits files a b given → IsAnswer limits conflicts files a b (same_of_pair given)
+module _ (limits : Limits) (conflicts : ℕ) (files : ComparedFiles) (a b : View) (inspects : Inspects a b) where
+  pub pair_fails : (given : PairFail) → IsPairFail limits files a b given → IsCompared limits conflicts files a b (same_of_pair given)
   pair_fails pair.Shapes h = (h, inspects)
   pair_fails (pair.Stopped (stop.Graph at why)) h = (h, inspects)
   pair_fails (pair.Stopped (stop.TooLong at)) h = (h, inspects)
@@ -41,10 +41,10 @@ module _ (limits : Limits) (conflicts : ℕ) (files : Files) (a b : View) (inspe
   pair_fails (pair.Stopped stop.Memory) h = (tt, inspects)
 
   -- writing stopped
-  pub stopped : (lines : List ClauseLine) (c : View) → StopsAt files.clauses lines b c → Rose b.write_faults c.write_faults → IsAnswer limits conflicts files a c (same.Stopped stop.WriteFault)
+  pub stopped : (lines : List ClauseLine) (c : View) → StopsAtClauses files.clauses lines b c → Rose b.write_faults c.write_faults → IsCompared limits conflicts files a c (same.Stopped stop.WriteFault)
   stopped lines c stops rose = (subst (λ (n : ℕ). Rose n c.write_faults) inspects.write_faults rose, (lines, b, inspects, stops))
 
-  module _ (g : Aig) (m : Both) (p : IsPairOf limits.graph (texts_of a files) g m) where
+  module _ (g : Aig) (m : Both) (p : IsReadPair limits.graph (compared_texts_of a files) g m) where
     abbrev e : Extended
     e = merged g p.other
 
@@ -66,14 +66,14 @@ module _ (limits : Limits) (conflicts : ℕ) (files : Files) (a b : View) (inspe
           few = omega (arith, most, columns, few);
         }
 
-    pub equal : (log : LogView) → IsSoFar e conflicts (length (unmet_goals e)) log → ReadsGraphs a b → (c : View) → WritesFile files.clauses log.lines b c → IsAnswer limits conflicts files a c same.Equal
+    pub equal : (log : LogView) → IsSoFar e conflicts (length (unmet_goals e)) log → ReadsGraphs a b → (c : View) → WritesClauseFile files.clauses log.lines b c → IsCompared limits conflicts files a c same.Equal
     equal log h reads c writes =
         let agree = merged_outputs_agree g p.other p.built.well_formed p.other_built.well_formed p.shape (lines_agree e conflicts log h) in
         (g, p.spelled, (p.other, p.other_spelled, (p.shape, (agree, (log.lines, b, written log h, reads, writes)))))
 
-    pub spent : (goal : ℕ) (log : LogView) → IsSpent e conflicts conflicts goal log → IsAnswer limits conflicts files a b (same.Spent conflicts goal log)
+    pub spent : (goal : ℕ) (log : LogView) → IsSpent e conflicts conflicts goal log → IsCompared limits conflicts files a b (same.Spent conflicts goal log)
     spent goal log h = ((g, p.spelled, (p.other, p.other_spelled, (p.shape, h))), inspects)
 
-    pub differs : (values : List Bool) (inputs : Vec Bool Global) → IsDiffering e values → inputs.items ≡ map (literal (assignment_of values)) g.inputs → IsAnswer limits conflicts files a b (same.Differs inputs)
+    pub differs : (values : List Bool) (inputs : Vec Bool Global) → IsDiffering e values → inputs.items ≡ map (literal (assignment_of values)) g.inputs → IsCompared limits conflicts files a b (same.Differs inputs)
     differs values inputs h is =
         ((g, p.spelled, (p.other, p.other_spelled, (p.shape, difference g p.other p.built.well_formed p.other_built.well_formed p.shape (assignment_of values) h.evaluation inputs.items is h.differ))), inspects)

@@ -11,7 +11,7 @@ use Rattle.graph_core.specs.Graph.Assignments.{Assignment, literal}
 use Rattle.graph_core.specs.Graph.{Aig, IsEvaluation, IsWellFormed, evaluated}
 use Rattle.miter_encoder.specs.ColumnGoals.{AgreeOnPairs}
 use Rattle.miter_encoder.proofs.PairGoals.{columns_mean_pairs}
-use Rattle.same_core.specs.Deciding.{IsDifference}
+use Rattle.same_core.specs.Deciding.{IsPairDifference}
 use Rattle.same_core.specs.Merged.{AreOfOneShape, both, merged, moved_literal, pairs_of, second_part}
 use Rattle.same_core.proofs.Merging.{merged_is_pair, second_literal}
 
@@ -31,7 +31,7 @@ module _ (g h : Aig) (well : IsWellFormed g) (other : IsWellFormed h) (shape : A
       rest : map (literal σ) ls ≡ map (literal τ) ks
       rest = cc
 
-  pub difference : (inputs : List Bool) → inputs ≡ map (literal σ) g.inputs → ¬ (AgreeOnColumns (merged g h) σ) → IsDifference g h inputs
+  pub difference : (inputs : List Bool) → inputs ≡ map (literal σ) g.inputs → ¬ (AgreeOnColumns (merged g h) σ) → IsPairDifference g h inputs
   difference inputs is differ =
       let parts = merged_is_pair.parts g h well other shape σ evaluates in
       let one : map (literal (evaluated g inputs)) g.outputs ≡ map (literal σ) g.outputs =

@@ -26,10 +26,10 @@ use Rattle.mv_text.specs.LineReading.{lengths_of}
 use Rattle.same_core.specs.declared.checked.SameChecked.{SameChecked}
 use Rattle.same_core.specs.declared.checked.SameChecked.TheVariants as checked
 use Rattle.same_core.specs.declared.checked.SameRefusal.TheVariants as refusal
-use Rattle.same_core.specs.Certificates.{Goals, IsFileRefusal, IsLawful, IsLineRefusal, Line, SameFault}
-use Rattle.same_core.specs.Files.{Files, Texts, texts_of}
+use Rattle.same_core.specs.Certificates.{Goals, IsLawful, IsMergedFileRefusal, IsMergedLineRefusal, Line, SameFault}
+use Rattle.same_core.specs.Files.{ComparedFiles, ComparedTexts, compared_texts_of}
 use Rattle.same_core.specs.Merged.{AreOfOneShape, merged}
-use Rattle.same_core.specs.Outcome.{IsDue, IsExactAnswer, IsOutcome, IsPairStopDue, MeetsClauses, OneAnswerIsDue, OutcomesAreExact}
+use Rattle.same_core.specs.Outcome.{IsExactPairAnswer, IsPairCheckDue, IsPairOutcome, IsPairStopDue, MeetsPairClauses, OnePairAnswerIsDue, PairOutcomesAreExact}
 use Rattle.same_core.proofs.Wholes.{certificates_are_exact}
 
 -- ---- the answers by their causes
@@ -72,7 +72,7 @@ decided_shape g h = ⊎_elim
     (λ differ. inr (λ shape. differ shape.inputs)) (decided_eq (length g.inputs) (length h.inputs))
 
 module _ (limits : Limits) (file other clauses : List ℕ) where
-  abbrev told : Texts
+  abbrev told : ComparedTexts
   told = record { graph = Some file; other = Some other; clauses = Some clauses }
 
   abbrev limit : ℕ
@@ -107,7 +107,7 @@ module _ (limits : Limits) (file other clauses : List ℕ) where
   -- ---- the clause file
 
   abbrev IsRefusedFor : Aig → Aig → SameChecked → Type 0
-  IsRefusedFor g h c = (f : SameFault) × IsFileRefusal (lengths_of limits) (merged g h) clauses f × (c ≡ clause_answer f)
+  IsRefusedFor g h c = (f : SameFault) × IsMergedFileRefusal (lengths_of limits) (merged g h) clauses f × (c ≡ clause_answer f)
 
   abbrev Lawful : Type 0
   Lawful = (g : Aig) × (h : Aig) × SpellsWithin Any limit file g × SpellsWithin Any limit other h × IsLawful (lengths_of limits) (merged g h) clauses
@@ -143,12 +143,12 @@ module _ (limits : Limits) (file other clauses : List ℕ) where
   clause_fault : (g h : Aig) → SpellsWithin Any limit file g → SpellsWithin Any limit other h → AreOfOneShape g h → (c : SameChecked) → IsRefusedFor g h c → IsRefused c
   clause_fault g h a b shape c r = inr ((g, a), inr ((h, b), inr ((g, h, a, b, shape), (g, h, a, b, r))))
 
-  due_is : (c : SameChecked) → IsDue limits told c → ((c ≡ checked.Accepted) × All) ⊎ IsRefused c
+  due_is : (c : SameChecked) → IsPairCheckDue limits told c → ((c ≡ checked.Accepted) × All) ⊎ IsRefused c
   due_is checked.Accepted (g, a, (h, b, (shape, lawful))) = inl (refl, ((g, a), ((h, b), ((g, h, a, b, shape), (g, h, a, b, lawful)))))
   due_is (checked.Stopped given) (inl (inl k)) = inr (inl (given, k, refl))
   due_is (checked.Stopped given) (inl (inr (g, a, k))) = inr (inr ((g, a), inl (given, k, refl)))
   due_is (checked.Stopped given) (inr k) =
-      let long = IsLong-is slot.Clauses (MeetsClauses limits told (λ g h bytes. (line : ℕ) × IsLineRefusal (lengths_of limits) (merged g h) bytes (line, clausal.TooLong))) given k in
+      let long = IsLong-is slot.Clauses (MeetsPairClauses limits told (λ g h bytes. (line : ℕ) × IsMergedLineRefusal (lengths_of limits) (merged g h) bytes (line, clausal.TooLong))) given k in
       let l = long.1 in
       inr (clause_fault l.0 l.2.0 l.1 l.2.1 l.2.2.0 (checked.Stopped given) (Line (l.2.2.1.0, clausal.TooLong), l.2.2.1.1, ap checked.Stopped long.0))
   due_is checked.Shapes (g, a, (h, b, differ)) = inr (inr ((g, a), inr ((h, b), inl (g, h, a, b, differ, refl))))
@@ -156,14 +156,14 @@ module _ (limits : Limits) (file other clauses : List ℕ) where
       inr (clause_fault g h a b shape (checked.Refused (refusal.Clauses line given)) (Line (line, line_cause given), k, clause_is line given))
   due_is (checked.Refused (refusal.Goals output)) (g, a, (h, b, (shape, k))) = inr (clause_fault g h a b shape (checked.Refused (refusal.Goals output)) (Goals output, k, refl))
 
-  one_due : (a b : SameChecked) → IsDue limits told a → IsDue limits told b → a ≡ b
+  one_due : (a b : SameChecked) → IsPairCheckDue limits told a → IsPairCheckDue limits told b → a ≡ b
   one_due a b h k =
       ⊎_elim (λ x. ⊎_elim (λ y. x.0 ∙ sym y.0) (λ y. absurd (all_exact.not_both b x.1 y)) (due_is b k)) (λ x. ⊎_elim (λ y. absurd (all_exact.not_both a y.1 x)) (λ y. all_exact.one a b x y) (due_is b k)) (due_is a h)
 
   abbrev IsSomeDue : Type 0
-  IsSomeDue = (c : SameChecked) × IsDue limits told c
+  IsSomeDue = (c : SameChecked) × IsPairCheckDue limits told c
 
-  clause_due : (g h : Aig) → SpellsWithin Any limit file g → SpellsWithin Any limit other h → AreOfOneShape g h → (f : SameFault) → IsFileRefusal (lengths_of limits) (merged g h) clauses f → IsSomeDue
+  clause_due : (g h : Aig) → SpellsWithin Any limit file g → SpellsWithin Any limit other h → AreOfOneShape g h → (f : SameFault) → IsMergedFileRefusal (lengths_of limits) (merged g h) clauses f → IsSomeDue
   clause_due g h a b shape (Line (line, clausal.TooLong)) k = (checked.Stopped (stop.TooLong slot.Clauses), inr (refl, (g, a, (h, b, (shape, (line, k))))))
   clause_due g h a b shape (Line (line, clausal.Text)) k = (checked.Refused (refusal.Clauses line why.Text), (g, a, (h, b, (shape, k))))
   clause_due g h a b shape (Line (line, clausal.Range)) k = (checked.Refused (refusal.Clauses line why.Range), (g, a, (h, b, (shape, k))))
@@ -188,36 +188,36 @@ module _ (limits : Limits) (file other clauses : List ℕ) where
 -- ---- three files that are told
 
 there_is : (limits : Limits) (file other clauses : Option (List ℕ)) → IsSome file → IsSome other → IsSome clauses →
-    (c : SameChecked) × IsDue limits (record { graph = file; other = other; clauses = clauses }) c
+    (c : SameChecked) × IsPairCheckDue limits (record { graph = file; other = other; clauses = clauses }) c
 there_is limits (Some file) (Some other) (Some clauses) f o c = some_due limits file other clauses
 there_is limits None other clauses f o c = absurd (cc)
 there_is limits (Some file) None clauses f o c = absurd (cc)
 there_is limits (Some file) (Some other) None f o c = absurd (cc)
 
 only_one : (limits : Limits) (file other clauses : Option (List ℕ)) → IsSome file → IsSome other → IsSome clauses →
-    (x y : SameChecked) → IsDue limits (record { graph = file; other = other; clauses = clauses }) x → IsDue limits (record { graph = file; other = other; clauses = clauses }) y → x ≡ y
+    (x y : SameChecked) → IsPairCheckDue limits (record { graph = file; other = other; clauses = clauses }) x → IsPairCheckDue limits (record { graph = file; other = other; clauses = clauses }) y → x ≡ y
 only_one limits (Some file) (Some other) (Some clauses) f o c = one_due limits file other clauses
 only_one limits None other clauses f o c = absurd (cc)
 only_one limits (Some file) None clauses f o c = absurd (cc)
 only_one limits (Some file) (Some other) None f o c = absurd (cc)
 
-pub one_answer_is_due : OneAnswerIsDue
+pub one_answer_is_due : OnePairAnswerIsDue
 one_answer_is_due = record {
   some = λ limits texts told. there_is limits texts.graph texts.other texts.clauses told.graph_told told.other_told told.clauses_told;
   one = λ limits texts told. only_one limits texts.graph texts.other texts.clauses told.graph_told told.other_told told.clauses_told;
 }
 
 -- an answer that has its cause is the one that is due
-module _ (limits : Limits) (files : Files) (before after : View) where
-  due_of : (given : SameChecked) → IsDue limits (texts_of before files) given → IsExactAnswer limits files before after given
-  due_of given h told due k = inl (one_answer_is_due.one limits (texts_of before files) told given due h k)
+module _ (limits : Limits) (files : ComparedFiles) (before after : View) where
+  due_of : (given : SameChecked) → IsPairCheckDue limits (compared_texts_of before files) given → IsExactPairAnswer limits files before after given
+  due_of given h told due k = inl (one_answer_is_due.one limits (compared_texts_of before files) told given due h k)
 
-  exact : (given : SameChecked) → IsOutcome limits files before after given → IsExactAnswer limits files before after given
+  exact : (given : SameChecked) → IsPairOutcome limits files before after given → IsExactPairAnswer limits files before after given
   exact checked.Accepted (g, a, (h, b, (shape, (lawful, agree)))) = due_of checked.Accepted (g, a, (h, b, (shape, lawful)))
   exact (checked.Refused given) h = due_of (checked.Refused given) h
   exact checked.Shapes h = due_of checked.Shapes h
-  exact (checked.Stopped given) h = λ told due k. stop_gives (IsPairStopDue limits (texts_of before files)) before after checked.Stopped due given
-      (λ p. one_answer_is_due.one limits (texts_of before files) told (checked.Stopped given) due p k) h
+  exact (checked.Stopped given) h = λ told due k. stop_gives (IsPairStopDue limits (compared_texts_of before files)) before after checked.Stopped due given
+      (λ p. one_answer_is_due.one limits (compared_texts_of before files) told (checked.Stopped given) due p k) h
 
-pub outcomes_are_exact : OutcomesAreExact
+pub outcomes_are_exact : PairOutcomesAreExact
 outcomes_are_exact limits files before after given h = exact limits files before after given h

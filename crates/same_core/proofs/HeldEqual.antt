@@ -7,9 +7,9 @@ use Rattle.graph_core.specs.declared.profile.Profile.TheVariants.{Any}
 use Rattle.clause_core.specs.ClauseLines.{ClauseLine}
 use Rattle.drup_text.specs.SameFiles.{same_text}
 use Rattle.mv_desk.specs.Calls.{AreApart, Becomes, BytesGrow, HeldGrows}
-use Rattle.mv_desk.specs.View.{View}
+use Rattle.mv_desk.specs.View.{IsTold, View}
 use Rattle.mv_desk.specs.declared.slot.Slot.TheVariants as slot
-use Rattle.same_core.specs.Deciding.{EqualPairsAreHeld, IsTold, ReadsGraphs, WritesFile}
+use Rattle.same_core.specs.Deciding.{EqualPairsAreHeld, ReadsGraphs, WritesClauseFile}
 
 none_told : (A : Type 0) → IsSome {T = A} None → ⊥
 none_told A h = cc
@@ -32,7 +32,7 @@ told_file : (file : Option (Option (List ℕ))) → IsSome file → (bytes : Lis
 told_file None told = absurd (none_told (Option (List ℕ)) told)
 told_file (Some bytes) told = (unwrap_or bytes [], refl)
 
-module _ (name : List ℕ) (lines : List ClauseLine) (a r c : View) (told : IsTold a) (reads : ReadsGraphs a r) (w : WritesFile name lines r c) where
+module _ (name : List ℕ) (lines : List ClauseLine) (a r c : View) (told : IsTold a) (reads : ReadsGraphs a r) (w : WritesClauseFile name lines r c) where
   named : w.created.name slot.Clauses ≡ Some (Some name)
   named = becomes (r.name slot.Clauses) (w.created.name slot.Clauses) (Some name)
       (same_told (a.name slot.Clauses) (r.name slot.Clauses) (reads.others slot.Clauses clauses_no_graph clauses_no_other).mode.name (told.names slot.Clauses)) w.creates.name

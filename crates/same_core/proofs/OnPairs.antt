@@ -14,21 +14,21 @@ use Rattle.same_core.specs.declared.checked.SameChecked.{SameChecked}
 use Rattle.same_core.specs.declared.checked.SameChecked.TheVariants as checked
 use Rattle.same_core.specs.declared.verdict.Same.{Same}
 use Rattle.same_core.specs.declared.verdict.Same.TheVariants as same
-use Rattle.same_core.specs.Deciding.{HasToldPair, IsAnswer, IsOnPair, IsPairDue, PairAnswersAreExact, PairsAreDecided}
-use Rattle.same_core.specs.Files.{AreTold, HasPair, Texts, texts_of}
-use Rattle.same_core.specs.Outcome.{IsDue, IsPairStop}
+use Rattle.same_core.specs.Deciding.{HasToldPair, IsCompared, IsOnPair, IsPairDue, PairAnswersAreExact, PairsAreDecided}
+use Rattle.same_core.specs.Files.{AreComparedTold, ComparedTexts, HasPair, compared_texts_of}
+use Rattle.same_core.specs.Outcome.{IsPairCheckDue, IsPairStop}
 use Rattle.same_core.proofs.DueRows.{one_answer_is_due, shape_there}
 
 -- a file that is told
 at_told : (text : Option (List ℕ)) (file : List ℕ) (P : List ℕ → Type 0) → text ≡ Some file → IfSome text P → P file
 at_told text file P is h = subst (λ o. IfSome o P) is h
 
-module _ (limits : Limits) (texts : Texts) (p : HasToldPair limits.graph texts) where
+module _ (limits : Limits) (texts : ComparedTexts) (p : HasToldPair limits.graph texts) where
   no_stop : (why : Stop) → IsPairStop limits.graph texts why → ⊥
   no_stop why (inl h) = (graph_exact Any limits.graph p.0 slot.Graph).not_both why (p.4, p.6) (subst (λ (o : Option (List ℕ)). IsGraphStop slot.Graph Any limits.graph o why) p.2 h)
   no_stop why (inr h) = (graph_exact Any limits.graph p.1 slot.Other).not_both why (p.5, p.7) (subst (λ (o : Option (List ℕ)). IsGraphStop slot.Other Any limits.graph o why) p.3 h.2)
 
-  one_shape : IsDue limits texts checked.Shapes → ⊥
+  one_shape : IsPairCheckDue limits texts checked.Shapes → ⊥
   one_shape h =
       let first = at_told texts.graph p.0 (λ bytes. SpellsWithin Any limits.graph bytes h.0) p.2 h.1 in
       let second = at_told texts.other p.1 (λ bytes. SpellsWithin Any limits.graph bytes h.2.0) p.3 h.2.1 in
@@ -37,10 +37,10 @@ module _ (limits : Limits) (texts : Texts) (p : HasToldPair limits.graph texts) 
 pub pairs_are_decided : PairsAreDecided
 pairs_are_decided limits conflicts files before after given p h = go given h
   where
-    texts : Texts
-    texts = texts_of before files
+    texts : ComparedTexts
+    texts = compared_texts_of before files
 
-    go : (x : Same) → IsAnswer limits conflicts files before after x → IsOnPair x
+    go : (x : Same) → IsCompared limits conflicts files before after x → IsOnPair x
     go same.Equal k = tt
     go (same.Differs inputs) k = tt
     go (same.Spent lemmas goal log) k = tt
@@ -62,12 +62,12 @@ told_pair limit (Some file) (Some other) clauses P f o (g, spelled, (h, more, (s
 told_pair limit None other clauses P f o h = absurd (none_told (List ℕ) f)
 told_pair limit (Some file) None clauses P f o h = absurd (none_told (List ℕ) o)
 
-module _ (limits : Limits) (texts : Texts) (file_told : IsSome texts.graph) (other_told : IsSome texts.other) where
+module _ (limits : Limits) (texts : ComparedTexts) (file_told : IsSome texts.graph) (other_told : IsSome texts.other) where
   -- the same files, with a clause file that is told
-  abbrev whole : Texts
+  abbrev whole : ComparedTexts
   whole = record { graph = texts.graph; other = texts.other; clauses = Some [] }
 
-  told : AreTold whole
+  told : AreComparedTold whole
   told = record { graph_told = file_told; other_told = other_told; clauses_told = cc }
 
   -- what a check says in place of an answer without a pair
@@ -82,7 +82,7 @@ module _ (limits : Limits) (texts : Texts) (file_told : IsSome texts.graph) (oth
   same_of (checked.Stopped why) = same.Stopped why
   same_of _ = same.Equal
 
-  is_due : (x : Same) → IsPairDue limits texts x → IsDue limits whole (check_of x) × (same_of (check_of x) ≡ x)
+  is_due : (x : Same) → IsPairDue limits texts x → IsPairCheckDue limits whole (check_of x) × (same_of (check_of x) ≡ x)
   is_due same.Shapes h = (h, refl)
   is_due (same.Stopped why) h = (inl h, refl)
   is_due same.Equal h = absurd h
@@ -105,13 +105,13 @@ module _ (limits : Limits) (texts : Texts) (file_told : IsSome texts.graph) (oth
 pub pair_answers_are_exact : PairAnswersAreExact
 pair_answers_are_exact limits conflicts files before after given file_told other_told h due k = go given h
   where
-    texts : Texts
-    texts = texts_of before files
+    texts : ComparedTexts
+    texts = compared_texts_of before files
 
     none : (P : Aig → Aig → Type 0) → HasPair limits.graph texts P → ⊥
     none P p = not_on_pair limits texts file_told other_told (told_pair limits.graph texts.graph texts.other texts.clauses P file_told other_told p) due k
 
-    go : (x : Same) → IsAnswer limits conflicts files before after x → GivesDue same.Stopped before after due x
+    go : (x : Same) → IsCompared limits conflicts files before after x → GivesDue same.Stopped before after due x
     go same.Equal p = absurd (none _ p)
     go (same.Differs inputs) p = absurd (none _ p.0)
     go (same.Spent lemmas goal log) p = absurd (none _ p.0)

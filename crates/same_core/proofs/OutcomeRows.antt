@@ -29,17 +29,17 @@ use Rattle.same_core.specs.declared.merged.MergeFail.TheVariants as merge
 use Rattle.same_core.specs.declared.pairs.PairFail.{PairFail}
 use Rattle.same_core.specs.declared.pairs.PairFail.TheVariants as pair
 use Rattle.same_core.specs.declared.verdict.Same.TheVariants as same
-use Rattle.same_core.specs.Answers.{answer_of_clauses, answer_of_merge, answer_of_pair, same_of_pair}
-use Rattle.same_core.specs.Certificates.{IsLawful, IsLineRefusal, IsOutputRefusal}
-use Rattle.same_core.specs.Fails.{IsClauseFail}
-use Rattle.same_core.specs.Files.{Files, IsSpelled, texts_of}
+use Rattle.same_core.specs.Answers.{answer_of_merge, answer_of_pair, pair_answer_of_clauses, same_of_pair}
+use Rattle.same_core.specs.Certificates.{IsLawful, IsMergedLineRefusal, IsOutputRefusal}
+use Rattle.same_core.specs.Fails.{IsPairClauseFail}
+use Rattle.same_core.specs.Files.{ComparedFiles, IsSpelled, compared_texts_of}
 use Rattle.same_core.specs.Merged.{AreOfOneShape, Both, both, merged}
-use Rattle.same_core.specs.Deciding.{OpensForAnswer}
-use Rattle.same_core.specs.Outcome.{IsOutcome, IsPairStop, IsPairStopDue, OpensFor, pair_place}
-use Rattle.same_core.specs.Pairs.{IsPairFail, IsPairOf}
+use Rattle.same_core.specs.Deciding.{OpensForCompared}
+use Rattle.same_core.specs.Outcome.{IsPairOutcome, IsPairStop, IsPairStopDue, OpensForPair, pair_place}
+use Rattle.same_core.specs.Pairs.{IsPairFail, IsReadPair}
 use Rattle.same_core.proofs.Merging.{merged_outputs_agree}
 
-module _ (limits : Limits) (files : Files) where
+module _ (limits : Limits) (files : ComparedFiles) where
   -- a fact of the bytes under a name, where nothing held was changed in between
   earlier : (a b : View) (name : List ℕ) (P : List ℕ → Type 0) → Inspects a b → IfSome (bytes_under b name) P → IfSome (bytes_under a name) P
   earlier a b name P inspects h = subst (λ (o : Option (List ℕ)). IfSome o P) (bytes_under-held a b name (inspects.held name)) h
@@ -47,9 +47,9 @@ module _ (limits : Limits) (files : Files) where
   -- no first graph was read
   pub first_answers : (a b : View) (why : Stop) → IsStop (IsGraphStop slot.Graph Any limits.graph (bytes_under a files.graph)) a b why → IsPairFail limits files a b (pair.Stopped why)
   first_answers a b why h =
-      IsStop-weaker (IsGraphStop slot.Graph Any limits.graph (bytes_under a files.graph)) a b (IsPairStop limits.graph (texts_of a files)) a (λ w k. inl k) (omega arith) why h
+      IsStop-weaker (IsGraphStop slot.Graph Any limits.graph (bytes_under a files.graph)) a b (IsPairStop limits.graph (compared_texts_of a files)) a (λ w k. inl k) (omega arith) why h
 
-  pub first_opened : (a b : View) (why : Stop) → IsStop (IsGraphStop slot.Graph Any limits.graph (bytes_under a files.graph)) a b why → OpensFiles 1 a b → OpensForAnswer (same.Stopped why) a b
+  pub first_opened : (a b : View) (why : Stop) → IsStop (IsGraphStop slot.Graph Any limits.graph (bytes_under a files.graph)) a b why → OpensFiles 1 a b → OpensForCompared (same.Stopped why) a b
   first_opened a b why h opened =
       let text = bytes_under a files.graph in
       opens_up_to (IsGraphStop slot.Graph Any limits.graph text) a b pair_place 2 slot.Graph (IsGraphStop-about slot.Graph Any limits.graph text) (omega arith) a opened why h
@@ -58,10 +58,10 @@ module _ (limits : Limits) (files : Files) where
     -- no second graph was read
     pub other_answers : (why : Stop) → IsStop (IsGraphStop slot.Other Any limits.graph (bytes_under b files.other)) b c why → IsPairFail limits files a c (pair.Stopped why)
     other_answers why h =
-        IsStop-weaker (IsGraphStop slot.Other Any limits.graph (bytes_under b files.other)) b c (IsPairStop limits.graph (texts_of a files)) a
+        IsStop-weaker (IsGraphStop slot.Other Any limits.graph (bytes_under b files.other)) b c (IsPairStop limits.graph (compared_texts_of a files)) a
         (λ w k. inr (g, spelled, subst (λ (o : Option (List ℕ)). IsGraphStop slot.Other Any limits.graph o w) (bytes_under-held a b files.other (first.held files.other)) k)) first.later why h
 
-    pub other_opened : (why : Stop) → IsStop (IsGraphStop slot.Other Any limits.graph (bytes_under b files.other)) b c why → OpensFiles 2 a c → OpensForAnswer (same.Stopped why) a c
+    pub other_opened : (why : Stop) → IsStop (IsGraphStop slot.Other Any limits.graph (bytes_under b files.other)) b c why → OpensFiles 2 a c → OpensForCompared (same.Stopped why) a c
     other_opened why h opened =
         let text = bytes_under b files.other in
         opens_up_to (IsGraphStop slot.Other Any limits.graph text) b c pair_place 2 slot.Other (IsGraphStop-about slot.Other Any limits.graph text) (omega arith) a opened why h
@@ -75,20 +75,20 @@ module _ (limits : Limits) (files : Files) where
       merge_answers merge.Shape shape = (g, spelled, (h, there, shape refl))
       merge_answers merge.Memory shape = tt
 
-      pub merge_opened : (given : MergeFail) → OpensFiles 2 a c → OpensForAnswer (same_of_pair (answer_of_merge given)) a c
+      pub merge_opened : (given : MergeFail) → OpensFiles 2 a c → OpensForCompared (same_of_pair (answer_of_merge given)) a c
       merge_opened merge.Shape opened = opened
       merge_opened merge.Memory opened = (2, omega arith, opened)
 
       -- they were
-      pub pair_is : (m : Both) → IsBuilt g → IsBuilt h → AreOfOneShape g h → m ≡ both g h → IsPairOf limits.graph (texts_of a files) g m
+      pub pair_is : (m : Both) → IsBuilt g → IsBuilt h → AreOfOneShape g h → m ≡ both g h → IsReadPair limits.graph (compared_texts_of a files) g m
       pair_is m built built' shape is = record { other = h; spelled = spelled; other_spelled = there; built = built; other_built = built'; shape = shape; merged_is = is }
 
   -- no pair was read for a check
-  pub pair_answers : (a b : View) (given : PairFail) → IsPairFail limits files a b given → IsOutcome limits files a b (answer_of_pair given)
+  pub pair_answers : (a b : View) (given : PairFail) → IsPairFail limits files a b given → IsPairOutcome limits files a b (answer_of_pair given)
   pair_answers a b pair.Shapes h = h
-  pair_answers a b (pair.Stopped why) h = IsStop-weaker (IsPairStop limits.graph (texts_of a files)) a b (IsPairStopDue limits (texts_of a files)) a (λ w k. inl k) (omega arith) why h
+  pair_answers a b (pair.Stopped why) h = IsStop-weaker (IsPairStop limits.graph (compared_texts_of a files)) a b (IsPairStopDue limits (compared_texts_of a files)) a (λ w k. inl k) (omega arith) why h
 
-  pub pair_opened : (a b : View) (given : PairFail) → IsPairFail limits files a b given → OpensForAnswer (same_of_pair given) a b → OpensFor (answer_of_pair given) a b
+  pub pair_opened : (a b : View) (given : PairFail) → IsPairFail limits files a b given → OpensForCompared (same_of_pair given) a b → OpensForPair (answer_of_pair given) a b
   pair_opened a b pair.Shapes h opened = opened
   pair_opened a b (pair.Stopped (stop.Graph at why)) h opened = opened
   pair_opened a b (pair.Stopped (stop.TooLong at)) h opened = opened
@@ -96,26 +96,26 @@ module _ (limits : Limits) (files : Files) where
   pair_opened a b (pair.Stopped stop.WriteFault) h opened = absurd h
   pair_opened a b (pair.Stopped stop.Memory) h opened = (opened.0, omega (arith, opened.1), opened.2)
 
-  module _ (a c d : View) (inspects : Inspects a c) (g : Aig) (m : Both) (p : IsPairOf limits.graph (texts_of a files) g m) where
+  module _ (a c d : View) (inspects : Inspects a c) (g : Aig) (m : Both) (p : IsReadPair limits.graph (compared_texts_of a files) g m) where
     abbrev e : Extended
     e = merged g p.other
 
     -- the clause file isn't lawful
-    pub clauses_answers : (given : ClauseFail) → IsClauseFail (lengths_of limits) e (bytes_under c files.clauses) c d given → IsOutcome limits files a d (answer_of_clauses given)
-    clauses_answers (clauses.Line line why) k = (g, p.spelled, (p.other, p.other_spelled, (p.shape, earlier a c files.clauses (λ bytes. IsLineRefusal (lengths_of limits) e bytes (line, line_cause why)) inspects k)))
+    pub clauses_answers : (given : ClauseFail) → IsPairClauseFail (lengths_of limits) e (bytes_under c files.clauses) c d given → IsPairOutcome limits files a d (pair_answer_of_clauses given)
+    clauses_answers (clauses.Line line why) k = (g, p.spelled, (p.other, p.other_spelled, (p.shape, earlier a c files.clauses (λ bytes. IsMergedLineRefusal (lengths_of limits) e bytes (line, line_cause why)) inspects k)))
     clauses_answers (clauses.Goals output) k = (g, p.spelled, (p.other, p.other_spelled, (p.shape, earlier a c files.clauses (λ bytes. IsOutputRefusal (lengths_of limits) e bytes output) inspects k)))
-    clauses_answers clauses.TooLong k = inr (refl, (g, p.spelled, (p.other, p.other_spelled, (p.shape, earlier a c files.clauses (λ bytes. (line : ℕ) × IsLineRefusal (lengths_of limits) e bytes (line, TooLong)) inspects k))))
+    clauses_answers clauses.TooLong k = inr (refl, (g, p.spelled, (p.other, p.other_spelled, (p.shape, earlier a c files.clauses (λ bytes. (line : ℕ) × IsMergedLineRefusal (lengths_of limits) e bytes (line, TooLong)) inspects k))))
     clauses_answers clauses.ReadFault k = rose_before a.read_faults c.read_faults d.read_faults inspects.later k
     clauses_answers clauses.Memory k = tt
 
     -- It is lawful, and the outputs are equal on every evaluation of the merged gates.
-    pub accepts : IfSome (bytes_under c files.clauses) (IsLawful (lengths_of limits) e) → Always e.gates (AgreeOnColumns e) → IsOutcome limits files a d checked.Accepted
+    pub accepts : IfSome (bytes_under c files.clauses) (IsLawful (lengths_of limits) e) → Always e.gates (AgreeOnColumns e) → IsPairOutcome limits files a d checked.Accepted
     accepts lawful agree =
         let well = p.built.well_formed in
         let well' = p.other_built.well_formed in
         (g, p.spelled, (p.other, p.other_spelled, (p.shape, (earlier a c files.clauses (IsLawful (lengths_of limits) e) inspects lawful, merged_outputs_agree g p.other well well' p.shape agree))))
 
-  pub clauses_opened : (a d : View) (given : ClauseFail) → OpensFiles 3 a d → OpensFor (answer_of_clauses given) a d
+  pub clauses_opened : (a d : View) (given : ClauseFail) → OpensFiles 3 a d → OpensForPair (pair_answer_of_clauses given) a d
   clauses_opened a d (clauses.Line line why) opened = opened
   clauses_opened a d (clauses.Goals output) opened = opened
   clauses_opened a d clauses.TooLong opened = opened

@@ -7,8 +7,8 @@ use Rattle.graph_core.specs.declared.literal.Lit.{Lit}
 use Rattle.clause_core.specs.Clause.{Clause}
 use Rattle.clause_core.specs.GateClauses.{gate_clauses}
 use Rattle.clause_core.specs.Likeness.{AreSameSets}
-use Rattle.cdcl_core.specs.Logs.{LogView}
-use Rattle.cdcl_core.specs.Solvers.{SolverView}
+use Rattle.cdcl_solver.specs.Logs.{LogView}
+use Rattle.cdcl_solver.specs.Solvers.{SolverView}
 use Rattle.goal_refuter.specs.Beginnings.{IsBegun, StaysBegun}
 use Rattle.goal_refuter.specs.Refutations.{unmet_of}
 use Rattle.goal_refuter.specs.Refuting.{AreOver}

@@ -16,7 +16,7 @@ use Rattle.clause_judge.proofs.ClauseRests.{Passes, lawful_passes, lines_exact, 
 use Rattle.drup_text.specs.HeaderRefusal.{Text, TooLong}
 use Rattle.drup_text.specs.SameFiles.{same_line}
 use Rattle.drup_text.proofs.SameHeaders.{one_same_file, written_same_is_read}
-use Rattle.same_core.specs.Certificates.{CertificatesAreExact, Goals, HasLawfulLines, IsFileRefusal, IsLawful, IsLineRefusal, LawfulGraphsAgree, Line, SameFault}
+use Rattle.same_core.specs.Certificates.{CertificatesAreExact, Goals, HasLawfulMergedLines, IsLawful, IsMergedFileRefusal, IsMergedLineRefusal, LawfulGraphsAgree, Line, SameFault}
 use Rattle.same_core.specs.Deciding.{WrittenIsLawful}
 use Rattle.same_core.specs.Merged.{merged}
 use Rattle.same_core.proofs.Merging.{merged_outputs_agree}
@@ -31,7 +31,7 @@ module _ (lengths : Lengths) (e : Extended) (bytes : List ℕ) where
   abbrev pub GoodLines : List ℕ → Type 0
   GoodLines body = (lines : List ClauseLine) × Passes e Long long_or lines (gate_clauses e.gates) body
 
-  pub body_lawful : (body : List ℕ) → bytes ≡ same_line ++ body → ¬ (Long bytes) → (good : GoodLines body) → HasLawfulLines lengths e bytes good.0
+  pub body_lawful : (body : List ℕ) → bytes ≡ same_line ++ body → ¬ (Long bytes) → (good : GoodLines body) → HasLawfulMergedLines lengths e bytes good.0
   body_lawful body is short good =
       let lawful = passes_lawful e Long long_or good.0 (gate_clauses e.gates) body good.1 in
       let whole = short_line Long bytes (codes "same 1") body is (none_in (codes "same 1") refl) short (passes_short e Long long_or good.0 (gate_clauses e.gates) body good.1) in
@@ -43,10 +43,10 @@ module _ (lengths : Lengths) (e : Extended) (bytes : List ℕ) where
       }
 
   abbrev HasLines : Type 0
-  HasLines = (lines : List ClauseLine) × HasLawfulLines lengths e bytes lines
+  HasLines = (lines : List ClauseLine) × HasLawfulMergedLines lengths e bytes lines
 
   -- the lines are lawful, or there is one first refusal
-  lines_are_exact : IsExact HasLines (IsLineRefusal lengths e bytes)
+  lines_are_exact : IsExact HasLines (IsMergedLineRefusal lengths e bytes)
   lines_are_exact =
       exact_as
       (λ good. (good.1.2.0, body_lawful good.1.0 good.1.1 good.0 good.1.2))
@@ -69,21 +69,21 @@ module _ (lengths : Lengths) (e : Extended) (bytes : List ℕ) where
 
   -- ---- and their goals
 
-  decide : IsLawful lengths e bytes ⊎ ((f : SameFault) × IsFileRefusal lengths e bytes f)
+  decide : IsLawful lengths e bytes ⊎ ((f : SameFault) × IsMergedFileRefusal lengths e bytes f)
   decide = ⊎_elim (λ l. goals l.0 l.1) (λ r. inr (Line r.0, r.1)) lines_are_exact.decided
     where
-      goals : (lines : List ClauseLine) → HasLawfulLines lengths e bytes lines → IsLawful lengths e bytes ⊎ ((f : SameFault) × IsFileRefusal lengths e bytes f)
+      goals : (lines : List ClauseLine) → HasLawfulMergedLines lengths e bytes lines → IsLawful lengths e bytes ⊎ ((f : SameFault) × IsMergedFileRefusal lengths e bytes f)
       goals lines h = ⊎_elim (λ shown. inl (record { lines = lines; lawful = h; shown = shown })) (λ r. inr (Goals r.0, (lines, h, r.1))) (goals_are_exact e lines).decided
 
-  one_file : (xs ys : List ClauseLine) → HasLawfulLines lengths e bytes xs → HasLawfulLines lengths e bytes ys → xs ≡ ys
+  one_file : (xs ys : List ClauseLine) → HasLawfulMergedLines lengths e bytes xs → HasLawfulMergedLines lengths e bytes ys → xs ≡ ys
   one_file xs ys h i = one_same_file bytes xs ys h.text i.text
 
-  not_both : (f : SameFault) → IsLawful lengths e bytes → IsFileRefusal lengths e bytes f → ⊥
+  not_both : (f : SameFault) → IsLawful lengths e bytes → IsMergedFileRefusal lengths e bytes f → ⊥
   not_both (Line p) s r = lines_are_exact.not_both p (s.lines, s.lawful) r
   not_both (Goals output) s r =
       (goals_are_exact e s.lines).not_both output s.shown (subst (λ z. IsGoalRefusal e z output) (one_file r.0 s.lines r.1 s.lawful) r.2)
 
-  one_refusal : (a b : SameFault) → IsFileRefusal lengths e bytes a → IsFileRefusal lengths e bytes b → a ≡ b
+  one_refusal : (a b : SameFault) → IsMergedFileRefusal lengths e bytes a → IsMergedFileRefusal lengths e bytes b → a ≡ b
   one_refusal (Line p) (Line q) h k = ap Line (lines_are_exact.one p q h k)
   one_refusal (Line p) (Goals c) h k = absurd (lines_are_exact.not_both p (k.0, k.1) h)
   one_refusal (Goals c) (Line q) h k = absurd (lines_are_exact.not_both q (h.0, h.1) k)

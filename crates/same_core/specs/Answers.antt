@@ -29,9 +29,9 @@ same_of_pair pair.Shapes = same.Shapes
 same_of_pair (pair.Stopped why) = same.Stopped why
 
 -- the lines of the clause file weren't taken
-abbrev pub answer_of_clauses : ClauseFail → SameChecked
-answer_of_clauses (clauses.Line line why) = checked.Refused (refusal.Clauses line why)
-answer_of_clauses (clauses.Goals output) = checked.Refused (refusal.Goals output)
-answer_of_clauses clauses.ReadFault = checked.Stopped stop.ReadFault
-answer_of_clauses clauses.TooLong = checked.Stopped (stop.TooLong slot.Clauses)
-answer_of_clauses clauses.Memory = checked.Stopped stop.Memory
+abbrev pub pair_answer_of_clauses : ClauseFail → SameChecked
+pair_answer_of_clauses (clauses.Line line why) = checked.Refused (refusal.Clauses line why)
+pair_answer_of_clauses (clauses.Goals output) = checked.Refused (refusal.Goals output)
+pair_answer_of_clauses clauses.ReadFault = checked.Stopped stop.ReadFault
+pair_answer_of_clauses clauses.TooLong = checked.Stopped (stop.TooLong slot.Clauses)
+pair_answer_of_clauses clauses.Memory = checked.Stopped stop.Memory

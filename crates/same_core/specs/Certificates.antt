@@ -13,7 +13,7 @@ use Rattle.drup_text.specs.SameFiles.{IsSameFile, same_line}
 use Rattle.same_core.specs.Merged.{AgreeOnInputs, AreOfOneShape, merged}
 
 -- A file within the lengths with these lines, each of which is lawful behind those before it, whatever the goals.
-pub record HasLawfulLines (lengths : Lengths) (e : Extended) (bytes : List ℕ) (lines : List ClauseLine) : Type 0 where
+pub record HasLawfulMergedLines (lengths : Lengths) (e : Extended) (bytes : List ℕ) (lines : List ClauseLine) : Type 0 where
   pub text : IsSameFile bytes lines
   pub in_range : All (λ x. IsClauseInRange e.max (clause_in x)) lines
   pub lawful : AreLawfulClauses (gate_clauses e.gates) lines
@@ -22,18 +22,18 @@ pub record HasLawfulLines (lengths : Lengths) (e : Extended) (bytes : List ℕ) 
 -- Its lines are lawful, and every goal is met or shown by an added clause.
 pub record IsLawful (lengths : Lengths) (e : Extended) (bytes : List ℕ) : Type 0 where
   pub lines : List ClauseLine
-  pub lawful : HasLawfulLines lengths e bytes lines
+  pub lawful : HasLawfulMergedLines lengths e bytes lines
   pub shown : AreGoalsShown lines e
 
 -- The first line that is refused, from 1, and its cause.
-abbrev pub IsLineRefusal : Lengths → Extended → List ℕ → ℕ × LineCause → Type 0
-IsLineRefusal lengths e bytes = Unless (¬ (IsTooLong lengths (length bytes) bytes)) (IsTooLong lengths (length bytes) bytes) (1, TooLong)
+abbrev pub IsMergedLineRefusal : Lengths → Extended → List ℕ → ℕ × LineCause → Type 0
+IsMergedLineRefusal lengths e bytes = Unless (¬ (IsTooLong lengths (length bytes) bytes)) (IsTooLong lengths (length bytes) bytes) (1, TooLong)
     (λ p. (((body : List ℕ) → bytes ≢ same_line ++ body) × (p ≡ (1, Text))) ⊎
     ((body : List ℕ) × (bytes ≡ same_line ++ body) × IsRefusedLines (IsTooLong lengths (length bytes)) e 2 body p))
 
 -- Every line is lawful, and this is the least output with a goal that isn't shown.
 abbrev pub IsOutputRefusal : Lengths → Extended → List ℕ → ℕ → Type 0
-IsOutputRefusal lengths e bytes output = (lines : List ClauseLine) × HasLawfulLines lengths e bytes lines × IsGoalRefusal e lines output
+IsOutputRefusal lengths e bytes output = (lines : List ClauseLine) × HasLawfulMergedLines lengths e bytes lines × IsGoalRefusal e lines output
 
 -- why a file isn't lawful: a line and its cause, or an output
 pub data SameFault : Type 0 where
@@ -41,15 +41,15 @@ pub data SameFault : Type 0 where
   Goals : ℕ → SameFault
 
 -- The first refusal of a file.
-abbrev pub IsFileRefusal : Lengths → Extended → List ℕ → SameFault → Type 0
-IsFileRefusal lengths e bytes (Line p) = IsLineRefusal lengths e bytes p
-IsFileRefusal lengths e bytes (Goals output) = IsOutputRefusal lengths e bytes output
+abbrev pub IsMergedFileRefusal : Lengths → Extended → List ℕ → SameFault → Type 0
+IsMergedFileRefusal lengths e bytes (Line p) = IsMergedLineRefusal lengths e bytes p
+IsMergedFileRefusal lengths e bytes (Goals output) = IsOutputRefusal lengths e bytes output
 
 -- ---- laws
 
 -- A file is lawful, or it has one first refusal, and never both.
 abbrev pub CertificatesAreExact : Type 0
-CertificatesAreExact = (lengths : Lengths) (e : Extended) (bytes : List ℕ) → IsExact (IsLawful lengths e bytes) (IsFileRefusal lengths e bytes)
+CertificatesAreExact = (lengths : Lengths) (e : Extended) (bytes : List ℕ) → IsExact (IsLawful lengths e bytes) (IsMergedFileRefusal lengths e bytes)
 
 -- Two graphs with a lawful certificate agree on all inputs.
 abbrev pub LawfulGraphsAgree : Type 0

@@ -10,7 +10,7 @@ use Rattle.graph_core.specs.declared.profile.Profile.TheVariants.{Any}
 use Rattle.graph_core.specs.Graph.{Aig, evaluated}
 use Rattle.graph_core.specs.Text.JudgedLines.{IsWithin, Lengths}
 use Rattle.mv_desk.specs.Calls.{Creates, Inspects, WritesPart, WritesTo}
-use Rattle.mv_desk.specs.View.{IsSame, OpensFiles, Rose, SlotStays, View, bytes_under}
+use Rattle.mv_desk.specs.View.{IsSame, IsTold, OpensFiles, Rose, SlotStays, View, bytes_under}
 use Rattle.mv_desk.specs.declared.limits.Limits.{Limits}
 use Rattle.mv_desk.specs.declared.slot.Slot.{Slot}
 use Rattle.mv_desk.specs.declared.slot.Slot.TheVariants as slot
@@ -21,12 +21,12 @@ use Rattle.same_core.specs.Certificates.{IsLawful}
 use Rattle.aiger_reader.specs.Refusals.{SpellsWithin}
 use Rattle.aiger_reader.specs.Stopping.{GivesDue, IsStop, OpensUpTo}
 use Rattle.aiger_reader.specs.declared.stop.Stop.TheVariants as stop
-use Rattle.same_core.specs.Files.{Files, HasPair, Texts, texts_of}
+use Rattle.same_core.specs.Files.{ComparedFiles, ComparedTexts, HasPair, compared_texts_of}
 use Rattle.same_core.specs.Merged.{AgreeOnInputs, AreOfOneShape, merged}
-use Rattle.same_core.specs.Outcome.{IsDue, IsPairStop, pair_place}
+use Rattle.same_core.specs.Outcome.{IsPairCheckDue, IsPairStop, pair_place}
 
 -- Inputs on which some output of the two graphs differs.
-pub record IsDifference (g h : Aig) (inputs : List Bool) : Type 0 where
+pub record IsPairDifference (g h : Aig) (inputs : List Bool) : Type 0 where
   pub all : length inputs ≡ length g.inputs
   pub differ : map (literal (evaluated g inputs)) g.outputs ≢ map (literal (evaluated h inputs)) h.outputs
 
@@ -42,43 +42,43 @@ pub record ReadsGraphs (before after : View) : Type 0 where
   pub inspects : Inspects before after
 
 -- the file was created, and the text of these lines was written to it
-pub record WritesFile (name : List ℕ) (lines : List ClauseLine) (before after : View) : Type 0 where
+pub record WritesClauseFile (name : List ℕ) (lines : List ClauseLine) (before after : View) : Type 0 where
   pub created : View
   pub creates : Creates slot.Clauses name before created
   pub writes : WritesTo slot.Clauses (same_text lines) created after
 
 -- it was created, and a front part of that text was written to it
-pub record WritesFront (name : List ℕ) (lines : List ClauseLine) (before after : View) : Type 0 where
+pub record WritesClauseFront (name : List ℕ) (lines : List ClauseLine) (before after : View) : Type 0 where
   pub created : View
   pub creates : Creates slot.Clauses name before created
   pub writes : WritesPart slot.Clauses (same_text lines) created after
 
 -- Writing stopped: no file of that name could be created, or a front part was written.
-abbrev pub StopsAt : List ℕ → List ClauseLine → View → View → Type 0
-StopsAt name lines before after = IsSame before after ⊎ WritesFront name lines before after
+abbrev pub StopsAtClauses : List ℕ → List ClauseLine → View → View → Type 0
+StopsAtClauses name lines before after = IsSame before after ⊎ WritesClauseFront name lines before after
 
 -- Where each answer comes, as far as the desk tells the files. Graphs that are called equal agree on all inputs; where no pair of graphs
 -- is read, the answer is that of a check.
-abbrev pub IsAnswer : Limits → ℕ → Files → View → View → Same → Type 0
-IsAnswer limits conflicts files before after same.Equal =
-    HasPair limits.graph (texts_of before files) (λ g h. AgreeOnInputs g h × ((lines : List ClauseLine) × (between : View) × AreWritten g h conflicts lines ×
-    ReadsGraphs before between × WritesFile files.clauses lines between after))
-IsAnswer limits conflicts files before after (same.Differs inputs) = HasPair limits.graph (texts_of before files) (λ g h. IsDifference g h inputs.items) × Inspects before after
-IsAnswer limits conflicts files before after (same.Spent lemmas goal log) =
-    HasPair limits.graph (texts_of before files) (λ g h. IsSpent (merged g h) conflicts lemmas goal log) × Inspects before after
-IsAnswer limits conflicts files before after same.Shapes = IsDue limits (texts_of before files) checked.Shapes × Inspects before after
-IsAnswer limits conflicts files before after (same.Stopped stop.WriteFault) =
-    Rose before.write_faults after.write_faults × ((lines : List ClauseLine) × (between : View) × Inspects before between × StopsAt files.clauses lines between after)
-IsAnswer limits conflicts files before after (same.Stopped why) = IsStop (IsPairStop limits.graph (texts_of before files)) before after why × Inspects before after
+abbrev pub IsCompared : Limits → ℕ → ComparedFiles → View → View → Same → Type 0
+IsCompared limits conflicts files before after same.Equal =
+    HasPair limits.graph (compared_texts_of before files) (λ g h. AgreeOnInputs g h × ((lines : List ClauseLine) × (between : View) × AreWritten g h conflicts lines ×
+    ReadsGraphs before between × WritesClauseFile files.clauses lines between after))
+IsCompared limits conflicts files before after (same.Differs inputs) = HasPair limits.graph (compared_texts_of before files) (λ g h. IsPairDifference g h inputs.items) × Inspects before after
+IsCompared limits conflicts files before after (same.Spent lemmas goal log) =
+    HasPair limits.graph (compared_texts_of before files) (λ g h. IsSpent (merged g h) conflicts lemmas goal log) × Inspects before after
+IsCompared limits conflicts files before after same.Shapes = IsPairCheckDue limits (compared_texts_of before files) checked.Shapes × Inspects before after
+IsCompared limits conflicts files before after (same.Stopped stop.WriteFault) =
+    Rose before.write_faults after.write_faults × ((lines : List ClauseLine) × (between : View) × Inspects before between × StopsAtClauses files.clauses lines between after)
+IsCompared limits conflicts files before after (same.Stopped why) = IsStop (IsPairStop limits.graph (compared_texts_of before files)) before after why × Inspects before after
 
 -- How many files were opened: both graphs, or the first one alone where the answer is of it.
-abbrev pub OpensForAnswer : Same → View → View → Type 0
-OpensForAnswer (same.Stopped why) before after = OpensUpTo pair_place 2 why before after
-OpensForAnswer _ before after = OpensFiles 2 before after
+abbrev pub OpensForCompared : Same → View → View → Type 0
+OpensForCompared (same.Stopped why) before after = OpensUpTo pair_place 2 why before after
+OpensForCompared _ before after = OpensFiles 2 before after
 
 -- The answer that is due where no pair of graphs is spelled: that of a check.
-abbrev pub IsPairDue : Limits → Texts → Same → Type 0
-IsPairDue limits texts same.Shapes = IsDue limits texts checked.Shapes
+abbrev pub IsPairDue : Limits → ComparedTexts → Same → Type 0
+IsPairDue limits texts same.Shapes = IsPairCheckDue limits texts checked.Shapes
 IsPairDue limits texts (same.Stopped why) = IsPairStop limits.graph texts why
 IsPairDue limits texts _ = ⊥
 
@@ -90,7 +90,7 @@ WrittenIsLawful = (lengths : Lengths) (g h : Aig) (conflicts : ℕ) (lines : Lis
     IsWithin lengths (same_text lines) → IsLawful lengths (merged g h) (same_text lines)
 
 -- The files spell two graphs of one shape, and are told.
-abbrev pub HasToldPair : ℕ → Texts → Type 0
+abbrev pub HasToldPair : ℕ → ComparedTexts → Type 0
 HasToldPair limit texts = (file : List ℕ) × (other : List ℕ) × (texts.graph ≡ Some file) × (texts.other ≡ Some other) ×
     (g : Aig) × (h : Aig) × SpellsWithin Any limit file g × SpellsWithin Any limit other h × AreOfOneShape g h
 
@@ -103,22 +103,17 @@ IsOnPair _ = ⊤
 
 -- Two graphs of one shape are called equal, or differ, or the conflicts are spent; but for a fault or want of memory.
 abbrev pub PairsAreDecided : Type 0
-PairsAreDecided = (limits : Limits) (conflicts : ℕ) (files : Files) (before after : View) (given : Same) → HasToldPair limits.graph (texts_of before files) →
-    IsAnswer limits conflicts files before after given → IsOnPair given
+PairsAreDecided = (limits : Limits) (conflicts : ℕ) (files : ComparedFiles) (before after : View) (given : Same) → HasToldPair limits.graph (compared_texts_of before files) →
+    IsCompared limits conflicts files before after given → IsOnPair given
 
 -- Where two graph files are told, whichever such answer is due is given.
 abbrev pub PairAnswersAreExact : Type 0
-PairAnswersAreExact = (limits : Limits) (conflicts : ℕ) (files : Files) (before after : View) (given : Same) →
-    IsSome (bytes_under before files.graph) → IsSome (bytes_under before files.other) → IsAnswer limits conflicts files before after given →
-    (due : Same) → IsPairDue limits (texts_of before files) due → GivesDue same.Stopped before after due given
-
--- the desk tells every name and which name each slot is open under
-pub record IsTold (view : View) : Type 0 where
-  pub held : (name : List ℕ) → IsSome (view.held name)
-  pub names : (at : Slot) → IsSome (view.name at)
+PairAnswersAreExact = (limits : Limits) (conflicts : ℕ) (files : ComparedFiles) (before after : View) (given : Same) →
+    IsSome (bytes_under before files.graph) → IsSome (bytes_under before files.other) → IsCompared limits conflicts files before after given →
+    (due : Same) → IsPairDue limits (compared_texts_of before files) due → GivesDue same.Stopped before after due given
 
 -- The files are two graphs that agree on all inputs, and the text of lines that show it.
-pub record HoldsEqual (limit conflicts : ℕ) (files : Files) (view : View) : Type 0 where
+pub record HoldsEqual (limit conflicts : ℕ) (files : ComparedFiles) (view : View) : Type 0 where
   pub graph_file : List ℕ
   pub other_file : List ℕ
   pub lines : List ClauseLine
@@ -135,5 +130,5 @@ pub record HoldsEqual (limit conflicts : ℕ) (files : Files) (view : View) : Ty
 
 -- Where graphs are called equal, and the certificate has the name of neither, that is what the files are then.
 abbrev pub EqualPairsAreHeld : Type 0
-EqualPairsAreHeld = (limits : Limits) (conflicts : ℕ) (files : Files) (before after : View) → IsTold before → files.clauses ≢ files.graph → files.clauses ≢ files.other →
-    IsAnswer limits conflicts files before after same.Equal → HoldsEqual limits.graph conflicts files after
+EqualPairsAreHeld = (limits : Limits) (conflicts : ℕ) (files : ComparedFiles) (before after : View) → IsTold before → files.clauses ≢ files.graph → files.clauses ≢ files.other →
+    IsCompared limits conflicts files before after same.Equal → HoldsEqual limits.graph conflicts files after

@@ -8,12 +8,12 @@ use Rattle.drup_text.specs.HeaderRefusal.{TooLong}
 use Rattle.graph_core.specs.Graph.Extended.{Extended}
 use Rattle.graph_core.specs.Text.JudgedLines.{Lengths}
 use Rattle.mv_desk.specs.View.{Rose, View}
-use Rattle.same_core.specs.Certificates.{IsLineRefusal, IsOutputRefusal}
+use Rattle.same_core.specs.Certificates.{IsMergedLineRefusal, IsOutputRefusal}
 
 -- over merged gates
-abbrev pub IsClauseFail : Lengths → Extended → Option (List ℕ) → View → View → ClauseFail → Type 0
-IsClauseFail lengths e text before now (clauses.Line line why) = IfSome text (λ bytes. IsLineRefusal lengths e bytes (line, line_cause why))
-IsClauseFail lengths e text before now (clauses.Goals output) = IfSome text (λ bytes. IsOutputRefusal lengths e bytes output)
-IsClauseFail lengths e text before now clauses.TooLong = IfSome text (λ bytes. (line : ℕ) × IsLineRefusal lengths e bytes (line, TooLong))
-IsClauseFail lengths e text before now clauses.ReadFault = Rose before.read_faults now.read_faults
-IsClauseFail lengths e text before now clauses.Memory = ⊤
+abbrev pub IsPairClauseFail : Lengths → Extended → Option (List ℕ) → View → View → ClauseFail → Type 0
+IsPairClauseFail lengths e text before now (clauses.Line line why) = IfSome text (λ bytes. IsMergedLineRefusal lengths e bytes (line, line_cause why))
+IsPairClauseFail lengths e text before now (clauses.Goals output) = IfSome text (λ bytes. IsOutputRefusal lengths e bytes output)
+IsPairClauseFail lengths e text before now clauses.TooLong = IfSome text (λ bytes. (line : ℕ) × IsMergedLineRefusal lengths e bytes (line, TooLong))
+IsPairClauseFail lengths e text before now clauses.ReadFault = Rose before.read_faults now.read_faults
+IsPairClauseFail lengths e text before now clauses.Memory = ⊤

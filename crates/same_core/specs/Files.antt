@@ -9,26 +9,26 @@ use Rattle.mv_desk.specs.declared.names.Names.{Names}
 use Rattle.same_core.specs.Merged.{AreOfOneShape}
 
 -- the names, as texts
-pub record Files : Type 0 where
+pub record ComparedFiles : Type 0 where
   pub graph : List ℕ
   pub other : List ℕ
   pub clauses : List ℕ
 
-abbrev pub files_of : Names → Files
-files_of names = record { graph = names.graph.now; other = names.other.now; clauses = names.clauses.now }
+abbrev pub compared_files_of : Names → ComparedFiles
+compared_files_of names = record { graph = names.graph.now; other = names.other.now; clauses = names.clauses.now }
 
 -- what the files have, each where it is told
-pub record Texts : Type 0 where
+pub record ComparedTexts : Type 0 where
   pub graph : Option (List ℕ)
   pub other : Option (List ℕ)
   pub clauses : Option (List ℕ)
 
 -- the texts under the names, as a desk tells them
-abbrev pub texts_of : View → Files → Texts
-texts_of view files = record { graph = bytes_under view files.graph; other = bytes_under view files.other; clauses = bytes_under view files.clauses }
+abbrev pub compared_texts_of : View → ComparedFiles → ComparedTexts
+compared_texts_of view files = record { graph = bytes_under view files.graph; other = bytes_under view files.other; clauses = bytes_under view files.clauses }
 
 -- each of the three is told
-pub record AreTold (texts : Texts) : Type 0 where
+pub record AreComparedTold (texts : ComparedTexts) : Type 0 where
   pub graph_told : IsSome texts.graph
   pub other_told : IsSome texts.other
   pub clauses_told : IsSome texts.clauses
@@ -40,13 +40,13 @@ abbrev pub IsSpelled : ℕ → Option (List ℕ) → Aig → Type 0
 IsSpelled limit file g = IfSome file (λ bytes. SpellsWithin Any limit bytes g)
 
 -- There is a first graph, of which something holds.
-abbrev pub HasFirst : ℕ → Texts → (Aig → Type 0) → Type 0
+abbrev pub HasFirst : ℕ → ComparedTexts → (Aig → Type 0) → Type 0
 HasFirst limit texts P = (g : Aig) × IsSpelled limit texts.graph g × P g
 
 -- There are two graphs, of which something holds.
-abbrev pub HasBoth : ℕ → Texts → (Aig → Aig → Type 0) → Type 0
+abbrev pub HasBoth : ℕ → ComparedTexts → (Aig → Aig → Type 0) → Type 0
 HasBoth limit texts P = HasFirst limit texts (λ g. (h : Aig) × IsSpelled limit texts.other h × P g h)
 
 -- and they are of one shape
-abbrev pub HasPair : ℕ → Texts → (Aig → Aig → Type 0) → Type 0
+abbrev pub HasPair : ℕ → ComparedTexts → (Aig → Aig → Type 0) → Type 0
 HasPair limit texts P = HasBoth limit texts (λ g h. AreOfOneShape g h × P g h)

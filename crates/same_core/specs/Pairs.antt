@@ -7,12 +7,12 @@ use Rattle.mv_desk.specs.declared.limits.Limits.{Limits}
 use Rattle.same_core.specs.declared.checked.SameChecked.TheVariants as checked
 use Rattle.same_core.specs.declared.pairs.PairFail.{PairFail}
 use Rattle.same_core.specs.declared.pairs.PairFail.TheVariants as pair
-use Rattle.same_core.specs.Files.{Files, IsSpelled, Texts, texts_of}
+use Rattle.same_core.specs.Files.{ComparedFiles, ComparedTexts, IsSpelled, compared_texts_of}
 use Rattle.same_core.specs.Merged.{AreOfOneShape, Both, both}
-use Rattle.same_core.specs.Outcome.{IsDue, IsPairStop}
+use Rattle.same_core.specs.Outcome.{IsPairCheckDue, IsPairStop}
 
 -- The first graph, and the merged gates of both.
-pub record IsPairOf (limit : ℕ) (texts : Texts) (g : Aig) (m : Both) : Type 0 where
+pub record IsReadPair (limit : ℕ) (texts : ComparedTexts) (g : Aig) (m : Both) : Type 0 where
   pub other : Aig
   pub spelled : IsSpelled limit texts.graph g
   pub other_spelled : IsSpelled limit texts.other other
@@ -22,6 +22,6 @@ pub record IsPairOf (limit : ℕ) (texts : Texts) (g : Aig) (m : Both) : Type 0 
   pub merged_is : m ≡ both g other
 
 -- why there is no pair
-abbrev pub IsPairFail : Limits → Files → View → View → PairFail → Type 0
-IsPairFail limits files before after pair.Shapes = IsDue limits (texts_of before files) checked.Shapes
-IsPairFail limits files before after (pair.Stopped why) = IsStop (IsPairStop limits.graph (texts_of before files)) before after why
+abbrev pub IsPairFail : Limits → ComparedFiles → View → View → PairFail → Type 0
+IsPairFail limits files before after pair.Shapes = IsPairCheckDue limits (compared_texts_of before files) checked.Shapes
+IsPairFail limits files before after (pair.Stopped why) = IsStop (IsPairStop limits.graph (compared_texts_of before files)) before after why

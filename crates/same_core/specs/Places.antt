@@ -7,8 +7,8 @@ use Rattle.graph_core.specs.Graph.{Aig}
 use Rattle.clause_core.specs.GateClauses.{AreGatesWithin}
 use Rattle.same_core.specs.Merged.{Both}
 
-abbrev pub IsReadable : Aig → Lit → Type 0
-IsReadable g l = variable_of l ≤ g.max
+abbrev pub IsReadableIn : Aig → Lit → Type 0
+IsReadableIn g l = variable_of l ≤ g.max
 
 -- What is known of merged gates: their variables and those of the outputs are in range, and there are few outputs.
 pub record IsMerged (b : Both) : Type 0 where

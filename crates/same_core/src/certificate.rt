@@ -2,7 +2,7 @@
 ghost use Rattle.std.specs.Prelude.{◌≡◌, OnErr, OnOk};
 ghost use Rattle.mv_desk.specs.Calls.{HasWriteCause};
 ghost use Rattle.mv_desk.specs.View.{KeepsTelling};
-ghost use Rattle.same_core.specs.Deciding.{StopsAt, WritesFile};
+ghost use Rattle.same_core.specs.Deciding.{StopsAtClauses, WritesClauseFile};
 
 use clause_core::Line;
 use drup_text::write_same;
@@ -13,8 +13,8 @@ pub(crate) fn write_certificate<D: Desk>(
     lines: &[Line],
     name: &str,
 ) -> Result<(), WriteFault>
-    ensures whole { OnOk result (WritesFile name.now lines.now (D.seen desk.old) (D.seen desk.new)) }
-    ensures stops { OnErr result (StopsAt name.now lines.now (D.seen desk.old) (D.seen desk.new)) }
+    ensures whole { OnOk result (WritesClauseFile name.now lines.now (D.seen desk.old) (D.seen desk.new)) }
+    ensures stops { OnErr result (StopsAtClauses name.now lines.now (D.seen desk.old) (D.seen desk.new)) }
     ensures cause { HasWriteCause (D.seen desk.old) (D.seen desk.new) result }
     ensures tells { KeepsTelling (D.seen desk.old) (D.seen desk.new) }
 {

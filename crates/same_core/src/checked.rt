@@ -41,9 +41,9 @@ impl From<PairFail> for SameChecked {
 
 impl From<ClauseFail> for SameChecked {
     ghost use Rattle.std.specs.Prelude.{◌≡◌};
-    ghost use Rattle.same_core.specs.Answers.{answer_of_clauses};
+    ghost use Rattle.same_core.specs.Answers.{pair_answer_of_clauses};
 
-    ghost from_gives = { λ fail answer. answer ≡ answer_of_clauses fail };
+    ghost from_gives = { λ fail answer. answer ≡ pair_answer_of_clauses fail };
 
     fn from(fail: ClauseFail) -> Self {
         match fail {

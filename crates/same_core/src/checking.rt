@@ -2,8 +2,8 @@
 ghost use Rattle.std.specs.Prelude.{IfErr, OnOk};
 ghost use Rattle.mv_desk.specs.Calls.{Inspects};
 ghost use Rattle.mv_desk.specs.View.{KeepsTelling, OpensFiles};
-ghost use Rattle.same_core.specs.Files.{files_of};
-ghost use Rattle.same_core.specs.Outcome.{IsExactAnswer, IsOutcome, OpensFor};
+ghost use Rattle.same_core.specs.Files.{compared_files_of};
+ghost use Rattle.same_core.specs.Outcome.{IsExactPairAnswer, IsPairOutcome, OpensForPair};
 
 use crate::checked::SameChecked;
 use crate::clauses::check_clauses;
@@ -19,9 +19,9 @@ pub fn check_same<D: Desk>(
     limits: &Limits,
     names: &Names<'_>,
 ) -> SameChecked
-    ensures outcome { IsOutcome limits.now (files_of names.now) (D.seen desk.old) (D.seen desk.new) result }
-    ensures exact { IsExactAnswer limits.now (files_of names.now) (D.seen desk.old) (D.seen desk.new) result }
-    ensures opened { OpensFor result (D.seen desk.old) (D.seen desk.new) }
+    ensures outcome { IsPairOutcome limits.now (compared_files_of names.now) (D.seen desk.old) (D.seen desk.new) result }
+    ensures exact { IsExactPairAnswer limits.now (compared_files_of names.now) (D.seen desk.old) (D.seen desk.new) result }
+    ensures opened { OpensForPair result (D.seen desk.old) (D.seen desk.new) }
     ensures inspects { Inspects (D.seen desk.old) (D.seen desk.new) }
     ensures tells { KeepsTelling (D.seen desk.old) (D.seen desk.new) }
 {
@@ -38,12 +38,12 @@ fn check_files<D: Desk>(
     limits: &Limits,
     names: &Names<'_>,
 ) -> Result<(), SameChecked>
-    ensures accepted { OnOk result (IsOutcome limits.now (files_of names.now)
+    ensures accepted { OnOk result (IsPairOutcome limits.now (compared_files_of names.now)
         (D.seen desk.old) (D.seen desk.new) SameChecked.Accepted) }
-    ensures refused { IfErr result (IsOutcome limits.now (files_of names.now)
+    ensures refused { IfErr result (IsPairOutcome limits.now (compared_files_of names.now)
         (D.seen desk.old) (D.seen desk.new)) }
     ensures opened_all { OnOk result (OpensFiles 3 (D.seen desk.old) (D.seen desk.new)) }
-    ensures opened { IfErr result (λ answer. OpensFor answer (D.seen desk.old) (D.seen desk.new)) }
+    ensures opened { IfErr result (λ answer. OpensForPair answer (D.seen desk.old) (D.seen desk.new)) }
     ensures inspects { Inspects (D.seen desk.old) (D.seen desk.new) }
     ensures tells { KeepsTelling (D.seen desk.old) (D.seen desk.new) }
 {

@@ -2,7 +2,7 @@
 ghost use Rattle.std.specs.Prelude.{◌≡◌, ◌+◌, ◌<◌, ◌≤◌, ◌^◌, true, length, IfErr, IfSome, OnOk};
 ghost use Rattle.clause_core.specs.GateClauses.{AreGatesWithin};
 ghost use Rattle.clause_judge.specs.ClauseBody.{IsRestFail, IsShownBody};
-ghost use Rattle.mv_text.specs.CertificateFiles.{GoesOn, left_of};
+ghost use Rattle.mv_text.specs.CertificateFiles.{GoesOn, left_of_file};
 ghost use Rattle.graph_core.specs.Algebra.{AgreeOnColumns};
 ghost use Rattle.mv_desk.specs.Calls.{Inspects, ReadsOnly};
 ghost use Rattle.mv_desk.specs.View.{KeepsTelling, OpensFiles, bytes_under};
@@ -10,7 +10,7 @@ ghost use Rattle.mv_desk.specs.declared.slot.Slot.TheVariants as slot;
 ghost use Rattle.mv_fact.specs.Always.{Always};
 ghost use Rattle.mv_text.specs.LineReading.{lengths_of};
 ghost use Rattle.same_core.specs.Certificates.{IsLawful};
-ghost use Rattle.same_core.specs.Fails.{IsClauseFail};
+ghost use Rattle.same_core.specs.Fails.{IsPairClauseFail};
 ghost use Rattle.same_core.specs.Merged.{over};
 ghost use Rattle.same_core.specs.Places.{IsMerged};
 
@@ -34,7 +34,7 @@ pub(crate) fn check_clauses<D: Desk>(
     ensures lawful { OnOk result (IfSome (bytes_under (D.seen desk.old) name.now)
         (IsLawful (lengths_of limits.now) (over merged.now))) }
     ensures agree { OnOk result (Always merged.now.gates (AgreeOnColumns (over merged.now))) }
-    ensures refused { IfErr result (IsClauseFail (lengths_of limits.now) (over merged.now)
+    ensures refused { IfErr result (IsPairClauseFail (lengths_of limits.now) (over merged.now)
         (bytes_under (D.seen desk.old) name.now) (D.seen desk.old) (D.seen desk.new)) }
     ensures opened { OpensFiles 1 (D.seen desk.old) (D.seen desk.new) }
     ensures inspects { Inspects (D.seen desk.old) (D.seen desk.new) }
@@ -58,7 +58,7 @@ fn judge_clauses<D: Desk>(
     ensures lawful { OnOk result (IfSome ((D.seen desk.old).left slot.Clauses)
         (IsLawful (lengths_of limits.now) (over merged.now))) }
     ensures agree { OnOk result (Always merged.now.gates (AgreeOnColumns (over merged.now))) }
-    ensures refused { IfErr result (IsClauseFail (lengths_of limits.now) (over merged.now)
+    ensures refused { IfErr result (IsPairClauseFail (lengths_of limits.now) (over merged.now)
         ((D.seen desk.old).left slot.Clauses) (D.seen desk.old) (D.seen desk.new)) }
     ensures only { ReadsOnly slot.Clauses (D.seen desk.old) (D.seen desk.new) }
     ensures tells { KeepsTelling (D.seen desk.old) (D.seen desk.new) }
@@ -81,11 +81,11 @@ fn judge_lines<D: Desk>(
     requires going { GoesOn file.old }
     requires limit { file.old.lines.lengths.file < 2 ^ 64 }
     requires merged { IsMerged merged.now }
-    ensures lawful { OnOk result (IfSome (left_of slot.Clauses file.old (D.seen desk.old))
+    ensures lawful { OnOk result (IfSome (left_of_file slot.Clauses file.old (D.seen desk.old))
         (IsShownBody (over merged.now) file.old.lines)) }
     ensures agree { OnOk result (Always merged.now.gates (AgreeOnColumns (over merged.now))) }
     ensures refused { IfErr result (IsRestFail (file.old.number + 1) (over merged.now) file.old.lines
-        (left_of slot.Clauses file.old (D.seen desk.old)) (D.seen desk.old) (D.seen desk.new)) }
+        (left_of_file slot.Clauses file.old (D.seen desk.old)) (D.seen desk.old) (D.seen desk.new)) }
     ensures only { ReadsOnly slot.Clauses (D.seen desk.old) (D.seen desk.new) }
     ensures tells { KeepsTelling (D.seen desk.old) (D.seen desk.new) }
 {

@@ -1,8 +1,8 @@
 // `same`: the two graphs, a solver, and the certificate.
 ghost use Rattle.std.specs.Prelude.{◌≤◌};
 ghost use Rattle.mv_desk.specs.View.{KeepsTelling};
-ghost use Rattle.same_core.specs.Deciding.{IsAnswer, OpensForAnswer};
-ghost use Rattle.same_core.specs.Files.{files_of};
+ghost use Rattle.same_core.specs.Deciding.{IsCompared, OpensForCompared};
+ghost use Rattle.same_core.specs.Files.{compared_files_of};
 
 use crate::certificate::write_certificate;
 use crate::pairs::read_pair;
@@ -22,8 +22,8 @@ pub fn same<D: Desk>(
     limits: &Limits,
     names: &Names<'_>,
 ) -> Same
-    ensures answer { IsAnswer limits.now conflicts (files_of names.now) (D.seen desk.old) (D.seen desk.new) result }
-    ensures opened { OpensForAnswer result (D.seen desk.old) (D.seen desk.new) }
+    ensures answer { IsCompared limits.now conflicts (compared_files_of names.now) (D.seen desk.old) (D.seen desk.new) result }
+    ensures opened { OpensForCompared result (D.seen desk.old) (D.seen desk.new) }
     ensures later { (D.seen desk.old).write_faults ≤ (D.seen desk.new).write_faults }
     ensures tells { KeepsTelling (D.seen desk.old) (D.seen desk.new) }
 {

@@ -2,7 +2,7 @@
 ghost use Rattle.same_core.specs.Certificates.{CertificatesAreExact, LawfulGraphsAgree};
 ghost use Rattle.same_core.specs.Deciding.{EqualPairsAreHeld, PairAnswersAreExact, PairsAreDecided, WrittenIsLawful};
 ghost use Rattle.same_core.specs.Merged.{MergedIsPair, MergedOutputsAgree};
-ghost use Rattle.same_core.specs.Outcome.{OneAnswerIsDue, OutcomesAreExact};
+ghost use Rattle.same_core.specs.Outcome.{OnePairAnswerIsDue, PairOutcomesAreExact};
 
 /// An evaluation of the merged gates is a pair of evaluations with equal inputs.
 pub fn merged_is_pair()
@@ -46,10 +46,10 @@ pub fn pair_answers_are_exact()
 
 /// Of three files that are told just one answer is due.
 pub fn one_answer_is_due()
-    ensures { OneAnswerIsDue }
+    ensures { OnePairAnswerIsDue }
 {}
 
 /// An answer that has its cause is the one that is due, or a failed read or want of memory.
 pub fn outcomes_are_exact()
-    ensures { OutcomesAreExact }
+    ensures { PairOutcomesAreExact }
 {}

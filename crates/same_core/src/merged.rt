@@ -1,7 +1,7 @@
 // Two graphs as one list of gates.
 ghost use Rattle.std.specs.Prelude.{◌≡◌, ◌<◌, ◌≤◌, ◌^◌, ◌↔◌, ◌++◌, map, IfOk, IsErrOf, IsTrue};
 ghost use Rattle.same_core.specs.Merged.{AreOfOneShape, both, moved, moved_gate as gate_moved, moved_literal as literal_moved, pairs_of};
-ghost use Rattle.same_core.specs.Places.{IsReadable};
+ghost use Rattle.same_core.specs.Places.{IsReadableIn};
 
 use graph_core::{Gate, Graph, Lit, Memory};
 use std::alloc::Global;
@@ -144,8 +144,8 @@ fn merge_outputs(alloc: Global, graph: &Graph, other: &Graph) -> Result<Vec<(Lit
 fn moved_gate(graph: &Graph, other: &Graph, gate: &Gate) -> Gate
     requires shape { AreOfOneShape graph.now other.now }
     requires own { gate.now.v < 2 ^ 31 }
-    requires left { IsReadable other.now gate.now.left }
-    requires right { IsReadable other.now gate.now.right }
+    requires left { IsReadableIn other.now gate.now.left }
+    requires right { IsReadableIn other.now gate.now.right }
     ensures { result ≡ gate_moved graph.now other.now gate.now }
 {
     Gate {
@@ -157,7 +157,7 @@ fn moved_gate(graph: &Graph, other: &Graph, gate: &Gate) -> Gate
 
 fn moved_literal(graph: &Graph, other: &Graph, lit: Lit) -> Lit
     requires shape { AreOfOneShape graph.now other.now }
-    requires readable { IsReadable other.now lit }
+    requires readable { IsReadableIn other.now lit }
     ensures { result ≡ literal_moved graph.now other.now lit }
 {
     Lit(2 * moved_variable(graph, other, lit.var()) + lit.0 % 2)

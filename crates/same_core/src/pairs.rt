@@ -3,9 +3,9 @@ ghost use Rattle.std.specs.Prelude.{IfErr, IfOk, OnOk};
 ghost use Rattle.mv_desk.specs.Calls.{Inspects};
 ghost use Rattle.mv_desk.specs.View.{KeepsTelling, OpensFiles};
 ghost use Rattle.same_core.specs.Answers.{same_of_pair};
-ghost use Rattle.same_core.specs.Deciding.{OpensForAnswer, ReadsGraphs};
-ghost use Rattle.same_core.specs.Files.{files_of, texts_of};
-ghost use Rattle.same_core.specs.Pairs.{IsPairFail, IsPairOf};
+ghost use Rattle.same_core.specs.Deciding.{OpensForCompared, ReadsGraphs};
+ghost use Rattle.same_core.specs.Files.{compared_files_of, compared_texts_of};
+ghost use Rattle.same_core.specs.Pairs.{IsPairFail, IsReadPair};
 
 use crate::merged::{MergeFail, Merged, merge};
 use aiger_reader::{Profile, Stop, read_graph};
@@ -53,11 +53,11 @@ pub(crate) fn read_pair<D: Desk>(
     limits: &Limits,
     names: &Names<'_>,
 ) -> Result<(Graph, Merged), PairFail>
-    ensures pair { IfOk result (λ pair. IsPairOf limits.now.graph
-        (texts_of (D.seen desk.old) (files_of names.now)) pair.0 pair.1) }
-    ensures refused { IfErr result (IsPairFail limits.now (files_of names.now) (D.seen desk.old) (D.seen desk.new)) }
+    ensures pair { IfOk result (λ pair. IsReadPair limits.now.graph
+        (compared_texts_of (D.seen desk.old) (compared_files_of names.now)) pair.0 pair.1) }
+    ensures refused { IfErr result (IsPairFail limits.now (compared_files_of names.now) (D.seen desk.old) (D.seen desk.new)) }
     ensures opened_all { OnOk result (OpensFiles 2 (D.seen desk.old) (D.seen desk.new)) }
-    ensures opened { IfErr result (λ fail. OpensForAnswer (same_of_pair fail) (D.seen desk.old) (D.seen desk.new)) }
+    ensures opened { IfErr result (λ fail. OpensForCompared (same_of_pair fail) (D.seen desk.old) (D.seen desk.new)) }
     ensures inspects { Inspects (D.seen desk.old) (D.seen desk.new) }
     ensures reads { OnOk result (ReadsGraphs (D.seen desk.old) (D.seen desk.new)) }
     ensures tells { KeepsTelling (D.seen desk.old) (D.seen desk.new) }

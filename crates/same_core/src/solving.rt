@@ -1,14 +1,14 @@
 // What a solver says of merged gates.
 ghost use Rattle.std.specs.Prelude.{◌≡◌, ◌≤◌, IfOk, length, map};
-ghost use Rattle.cdcl_core.specs.Solving.{assignment_of};
-ghost use Rattle.goal_refuter.specs.Refuting.{IsOutcome};
+ghost use Rattle.cdcl_solver.specs.Solving.{assignment_of};
+ghost use Rattle.goal_refuter.specs.Refuting.{IsGoalsOutcome};
 ghost use Rattle.graph_core.specs.Graph.Assignments.{literal};
 ghost use Rattle.same_core.specs.Merged.{over};
 ghost use Rattle.same_core.specs.Places.{IsMerged};
 
 use crate::merged::Merged;
 use crate::sweeping::sweep;
-use cdcl_core::Log;
+use cdcl_solver::Log;
 use goal_refuter::{Outcome, pair_goals, refute_behind, solver_of};
 use graph_core::{Graph, Memory};
 use miter_encoder::gate_clauses_of;
@@ -17,7 +17,7 @@ use std::alloc::Global;
 // What comes of the goals of merged gates.
 pub(crate) fn decide(alloc: Global, merged: &Merged, conflicts: u64) -> Result<Outcome, Memory>
     requires { IsMerged merged.now }
-    ensures { IfOk result (IsOutcome (over merged.now) conflicts) }
+    ensures { IfOk result (IsGoalsOutcome (over merged.now) conflicts) }
 {
     let greatest = merged.max();
     let merged_gates = merged.gates();

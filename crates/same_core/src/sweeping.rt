@@ -6,7 +6,7 @@ ghost use Rattle.goal_refuter.specs.Beginnings.{IsBegun, StaysBegun};
 use crate::levels::{by_level, level_of, levels};
 use crate::merged::Merged;
 use crate::twins::Twins;
-use cdcl_core::{Log, Solver};
+use cdcl_solver::{Log, Solver};
 use goal_refuter::show_equal;
 use graph_core::{Gate, Lit, Memory};
 use stage_guesser::Draws;
@@ -28,7 +28,7 @@ pub(crate) fn sweep(
 {
     let levels = levels(alloc, merged.max(), merged.gates())?;
     let order = by_level(alloc, &levels, merged.gates())?;
-    let mut twins = simulated(alloc, merged, &levels, &order)?;
+    let mut twins = simulate(alloc, merged, &levels, &order)?;
     for step in order.as_slice() {
         show_at(merged, step.1, conflicts, &mut twins, solver, log)?;
     }
@@ -85,7 +85,7 @@ fn show_twin(
 }
 
 // The values of all gates on the patterns, and the gates of the first graph by operands and by values.
-fn simulated(
+fn simulate(
     alloc: Global,
     merged: &Merged,
     levels: &[u32],

@@ -16,7 +16,7 @@ use Rattle.frontier_core.specs.declared.step.Step.{Step}
 use Rattle.frontier_core.specs.declared.step.Step.TheVariants.{Add, Eliminate}
 use Rattle.frontier_core.specs.Sets.{has}
 use Rattle.frontier_core.specs.Plan.{Taken, nothing, step, taken, CanEliminate, AreSteps}
-use Rattle.slice_finder.proofs.Cases.{by_cases}
+use Rattle.adder_finder.proofs.Cases.{by_cases}
 use Rattle.slice_core.specs.Groups.{IsWhole}
 use Rattle.slice_core.specs.GroupPlans.{AreGroups, AreAtGroups}
 use Rattle.slice_core.specs.SlicePlan.{readers_gone, outputs_added, can_go, can_all_go, swept, slices, slice_steps, columns_added, count_down, SlicePlanServes}

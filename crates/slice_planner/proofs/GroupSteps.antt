@@ -24,14 +24,14 @@ use Rattle.frontier_core.specs.Sets.{has}
 use Rattle.frontier_core.proofs.OrderMade.{gates_of_defined}
 use Rattle.frontier_core.proofs.PlainOrders.{pairs_recursion}
 use Rattle.slice_core.specs.SlicePlan.{can_all_go, swept}
-use Rattle.slice_finder.proofs.Cases.{by_cases}
+use Rattle.adder_finder.proofs.Cases.{by_cases}
 use Rattle.slice_core.proofs.GroupPlans.{taken-append}
 use Rattle.slice_core.specs.GroupPlans.{AreAtGroups, AreGroups}
 use Rattle.frontier_core.proofs.Everywhere.{all_has}
 use Rattle.slice_core.proofs.SlicePlans.{added_stays, all_complete, all_ones, all_sound, split_at, sweep_all, sweep_at}
 use Rattle.slice_planner.specs.declared.arrangement.Part.{Part}
 use Rattle.slice_planner.specs.Arranged.{pieces, variables}
-use Rattle.slice_planner.specs.Taking.{IsReady, IsTaking, StaysAtGroups, Took, is_one, read_by_columns, read_by_gates, took}
+use Rattle.slice_planner.specs.Taking.{IsReadyGate, IsTaking, StaysAtGroups, Took, is_one, read_by_columns, read_by_gates, took}
 use Rattle.slice_planner.proofs.ReadCounts.{gates_few, gates_less, gates_more}
 use Rattle.slice_planner.proofs.TakenSteps.{gate_can_go, gates_have}
 
@@ -93,7 +93,7 @@ module _ (e : Extended) (steps : List Step) (below : ℕ) (gone : List Bool) (re
       later : (k : ℕ) → has f.added k ≡ true → below ≤ k
       later k there = ⊎_elim (λ lt. absurd (true≢false (sym there ∙ t.ahead k lt))) (λ le. le) (cases_lt k below)
 
-  pub is_ready : (v : ℕ) → CanEliminate e f v → IsReady (took e steps below) v
+  pub is_ready : (v : ℕ) → CanEliminate e f v → IsReadyGate (took e steps below) v
   is_ready v can = (can.new, unread f v refl can)
 
   module _ (front : List Gate) (there : All (Contains e.gates) front) (can : AreSteps e f (map Eliminate (variables front))) where
@@ -209,8 +209,8 @@ module _ (e : Extended) (steps : List Step) (below : ℕ) (gone : List Bool) (re
         (λ go. eq-eqb a b (sym a_is ∙ unread_behind e steps below gone readers t made front there can x go ∙ sym b_is)),
       )) there can in_gates new
 
-  pub ready_now : (u : Took) (v : ℕ) → took e steps below ≡ u → CanEliminate u.extended (taken nothing u.steps) v → IsReady u v
-  ready_now u v is can = subst (λ (u : Took). CanEliminate u.extended (taken nothing u.steps) v → IsReady u v) is (λ can. is_ready e steps below gone readers t made v can) can
+  pub ready_now : (u : Took) (v : ℕ) → took e steps below ≡ u → CanEliminate u.extended (taken nothing u.steps) v → IsReadyGate u v
+  ready_now u v is can = subst (λ (u : Took). CanEliminate u.extended (taken nothing u.steps) v → IsReadyGate u v) is (λ can. is_ready e steps below gone readers t made v can) can
 
 -- the gates of a front, and of a part of a list
 pub all_front : (P : Gate → Type 0) (gates : List Gate) (i : ℕ) → All P gates → All P (take i gates)

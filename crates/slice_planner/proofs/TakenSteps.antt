@@ -23,7 +23,7 @@ use Rattle.frontier_core.proofs.Plans.{step_is_pushed}
 use Rattle.slice_core.specs.GroupPlans.{AreAtGroups}
 use Rattle.slice_core.specs.SlicePlan.{columns_added, count_down}
 use Rattle.slice_core.proofs.GroupPlans.{column_is_pushed}
-use Rattle.slice_planner.specs.Taking.{IsReady, IsTaking, Lowers, Took, left_count, read_by_columns, read_by_gate, read_by_gates, still_read, took}
+use Rattle.slice_planner.specs.Taking.{IsReadyGate, IsTaking, LowersByOne, Took, left_count, read_by_columns, read_by_gate, read_by_gates, still_read, took}
 use Rattle.slice_planner.proofs.ReadCounts.{all_gone, columns_more, columns_none, columns_zero, gates_less, gates_none, left_less, one_same}
 
 -- ---- lists
@@ -75,7 +75,7 @@ module _ (e : Extended) (steps : List Step) (below : ℕ) (gone : List Bool) (re
       let now : read_by_columns (new_outputs e) below (variable_of l) ≡ read_by_columns (new_outputs e) (suc k) (variable_of l) = ap (λ n. read_by_columns (new_outputs e) n (variable_of l)) up in
       omega arith
 
-  module _ (k : ℕ) (l : Lit) (now : List ℕ) (next : below ≡ k + 1) (is : slice_get (new_outputs e) k ≡ Some l) (lower : Lowers (variable_of l) readers now) where
+  module _ (k : ℕ) (l : Lit) (now : List ℕ) (next : below ≡ k + 1) (is : slice_get (new_outputs e) k ≡ Some l) (lower : LowersByOne (variable_of l) readers now) where
     up : below ≡ suc k
     up = omega arith
 
@@ -138,7 +138,7 @@ module _ (e : Extended) (steps : List Step) (below : ℕ) (gone : List Bool) (re
         let one = one_same (variable_of x.left) (variable_of x.left) refl in
         omega arith
 
-    pub right_is_read : (between : List ℕ) → Lowers (variable_of x.left) readers between → 0 < slice_index_or between (variable_of x.right) 0
+    pub right_is_read : (between : List ℕ) → LowersByOne (variable_of x.left) readers between → 0 < slice_index_or between (variable_of x.right) 0
     right_is_read between lower =
         let all = t.reads (variable_of x.right) in
         let split = less (variable_of x.right) in
@@ -146,7 +146,7 @@ module _ (e : Extended) (steps : List Step) (below : ℕ) (gone : List Bool) (re
         let one_less = lower.each (variable_of x.right) in
         omega arith
 
-    module _ (unread : still_read (took e steps below) x.v ≡ 0) (between now : List ℕ) (first : Lowers (variable_of x.left) readers between) (second : Lowers (variable_of x.right) between now) where
+    module _ (unread : still_read (took e steps below) x.v ≡ 0) (between now : List ℕ) (first : LowersByOne (variable_of x.left) readers between) (second : LowersByOne (variable_of x.right) between now) where
       gone_is : taken nothing (steps ++ Eliminate x.v ∷ []) ≡ record { added = f.added; eliminated = x.v ∷ f.eliminated }
       gone_is = after (Eliminate x.v)
 
@@ -171,7 +171,7 @@ module _ (e : Extended) (steps : List Step) (below : ℕ) (gone : List Bool) (re
 
   -- ---- the end
 
-  pub finished : IsExtension e → below ≡ 0 → All (λ x. ¬ (IsReady (took e steps below) x.v)) e.gates → IsPlan e steps
+  pub finished : IsExtension e → below ≡ 0 → All (λ x. ¬ (IsReadyGate (took e steps below) x.v)) e.gates → IsPlan e steps
   finished made none stuck = record {
     follow = t.follow;
     last = record {
@@ -191,7 +191,7 @@ module _ (e : Extended) (steps : List Step) (below : ℕ) (gone : List Bool) (re
   all_added none = sym (append_nil (columns_added steps)) ∙ ap (λ n. columns_added steps ++ count_down n) (sym none) ∙ t.columns
 
 -- Eliminating a gate leaves fewer.
-pub fewer_left : (old new : Took) (x : Gate) → new.extended ≡ old.extended → new.steps ≡ old.steps ++ Eliminate x.v ∷ [] → Contains old.extended.gates x → IsReady old x.v →
+pub fewer_left : (old new : Took) (x : Gate) → new.extended ≡ old.extended → new.steps ≡ old.steps ++ Eliminate x.v ∷ [] → Contains old.extended.gates x → IsReadyGate old x.v →
     left_count new.extended.gates (taken nothing new.steps).eliminated < left_count old.extended.gates (taken nothing old.steps).eliminated
 fewer_left old new x same steps there ready =
     let e = old.extended in

@@ -59,15 +59,15 @@ pub record IsTaking (t : Took) (gone : List Bool) (readers : List ℕ) : Type 0 
   pub reads : (v : ℕ) → slice_index_or readers v 0 ≡ still_read t v
 
 -- The variable's gate isn't eliminated, and nothing reads it any more.
-abbrev pub IsReady : Took → ℕ → Type 0
-IsReady t v = (has (taken nothing t.steps).eliminated v ≡ false) × (still_read t v ≡ 0)
+abbrev pub IsReadyGate : Took → ℕ → Type 0
+IsReadyGate t v = (has (taken nothing t.steps).eliminated v ≡ false) × (still_read t v ≡ 0)
 
 -- A table has one more at a variable, or one less.
 pub record Raises (v : ℕ) (old new : List ℕ) : Type 0 where
   pub room : length new ≡ length old
   pub each : (w : ℕ) → slice_index_or new w 0 ≡ is_one v w + slice_index_or old w 0
 
-pub record Lowers (v : ℕ) (old new : List ℕ) : Type 0 where
+pub record LowersByOne (v : ℕ) (old new : List ℕ) : Type 0 where
   pub room : length new ≡ length old
   pub each : (w : ℕ) → slice_index_or old w 0 ≡ is_one v w + slice_index_or new w 0
 

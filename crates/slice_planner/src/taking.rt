@@ -10,7 +10,7 @@ ghost use Rattle.slice_core.specs.GroupPlans.{AreAtGroups, AreGroups};
 ghost use Rattle.slice_core.specs.Groups.{GoesByGroups};
 ghost use Rattle.slice_core.specs.SlicePlan.{columns_added, count_down, swept};
 ghost use Rattle.slice_planner.specs.Arranged.{lists_in, variables};
-ghost use Rattle.slice_planner.specs.Taking.{IsReady, Lowers, Raises, StaysAtGroups};
+ghost use Rattle.slice_planner.specs.Taking.{IsReadyGate, LowersByOne, Raises, StaysAtGroups};
 ghost use Rattle.slice_planner.specs.Taking.{is_one, read_by_gates, still_read, took};
 
 use crate::arrangement::Arrangement;
@@ -246,7 +246,7 @@ impl<'a> Taking<'a> {
     // Whether a gate isn't eliminated, and nothing reads it any more.
     fn can_go(&self, gate: Gate) -> bool
         requires gate { Contains self.now.extended.gates gate }
-        ensures { IsTrue result ↔ IsReady self.now gate.v }
+        ensures { IsTrue result ↔ IsReadyGate self.now gate.v }
     {
         let _gates = self.extended.gates();
         let v = gate.v as usize;
@@ -256,7 +256,7 @@ impl<'a> Taking<'a> {
     // Eliminates a gate that can go.
     fn eliminate(&mut self, gate: Gate) -> Result<(), Memory>
         requires gate { Contains self.old.extended.gates gate }
-        requires ready { IsReady self.old gate.v }
+        requires ready { IsReadyGate self.old gate.v }
         ensures extended { self.new.extended ≡ self.old.extended }
         ensures below { self.new.below ≡ self.old.below }
         ensures steps { OnOk result (self.new.steps ≡ self.old.steps ++ steps.Eliminate gate.v ∷ []) }
@@ -271,8 +271,8 @@ impl<'a> Taking<'a> {
 
     // The first gate of the list that can go.
     fn first_ready(&self) -> Option<Gate>
-        ensures some { IfSome result (λ x. Contains self.now.extended.gates x × IsReady self.now x.v) }
-        ensures none { result ≡ None → All (λ x. ¬ (IsReady self.now x.v)) self.now.extended.gates }
+        ensures some { IfSome result (λ x. Contains self.now.extended.gates x × IsReadyGate self.now x.v) }
+        ensures none { result ≡ None → All (λ x. ¬ (IsReadyGate self.now x.v)) self.now.extended.gates }
     {
         for gate in self.extended.gates() {
             if self.can_go(*gate) {
@@ -355,7 +355,7 @@ fn one_more(table: &mut Vec<u64>, v: u32)
 // One less at a variable.
 fn one_less(table: &mut Vec<u64>, v: u32)
     requires some { 0 < slice_index_or table.old.items v 0 }
-    ensures { Lowers v table.old.items table.new.items }
+    ensures { LowersByOne v table.old.items table.new.items }
 {
     table[v as usize] -= 1;
 }

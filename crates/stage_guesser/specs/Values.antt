@@ -4,5 +4,5 @@ use Rattle.std.specs.Int.{bit_at}
 use Rattle.stage_guesser.specs.declared.signature.Signature.{Signature}
 
 -- the value on a pattern, of which a word has 64
-abbrev pub value_on : Signature → ℕ → ℕ
-value_on s p = bit_at (slice_index s.words (p / 64)) (p % 64)
+abbrev pub pattern_value : Signature → ℕ → ℕ
+pattern_value s p = bit_at (slice_index s.words (p / 64)) (p % 64)

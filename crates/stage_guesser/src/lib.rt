@@ -5,7 +5,7 @@
 //! whoever uses the cut. Operands on which a cut was wrong can be handed in, and the next one is right on them.
 //!
 //! A `Signature` is the values of a literal on all patterns: of the constant, a negation, a conjunction, or what is set
-//! (`value_on`). `is` is true exactly where two are equal. `Draws` are numbers to draw patterns by.
+//! (`pattern_value`). `is` is true exactly where two are equal. `Draws` are numbers to draw patterns by.
 //!
 //! *Cut*: `specs/Blocks.antt` of `ripple_graft`. *Value* on a pattern: `specs/Values.antt`. Of `candidate` only that
 //! the answer is a cut is proved: which one it is, is advice. Which numbers are drawn, and which key a signature has,

@@ -1,6 +1,6 @@
 // The values of a literal on all patterns.
 ghost use Rattle.std.specs.Prelude.{◌≡◌, ◌≢◌, ◌↔◌, ℕ, ◌-◌, ◌*◌, ◌^◌, ◌<◌, min, IsTrue, if◌then◌else◌};
-ghost use Rattle.stage_guesser.specs.Values.{value_on};
+ghost use Rattle.stage_guesser.specs.Values.{pattern_value};
 
 /// How many words a signature has, with 64 patterns in each.
 pub const WORDS: usize = 24;
@@ -14,15 +14,15 @@ pub struct Signature {
 impl Signature {
     /// The signature of the constant false.
     pub fn zero() -> Signature
-        ensures { (p : ℕ) → p < WORDS * 64 → value_on result p ≡ 0 }
+        ensures { (p : ℕ) → p < WORDS * 64 → pattern_value result p ≡ 0 }
     {
         Signature { words: [0; 24] }
     }
 
     /// The signature of the negation, where it is asked for.
     pub fn negated_if(&self, negated: bool) -> Signature
-        ensures { (p : ℕ) → p < WORDS * 64 → value_on result p
-            ≡ (if negated then 1 - value_on self.now p else value_on self.now p) }
+        ensures { (p : ℕ) → p < WORDS * 64 → pattern_value result p
+            ≡ (if negated then 1 - pattern_value self.now p else pattern_value self.now p) }
     {
         let mask = mask_of(negated);
         let mut words = self.words;
@@ -34,8 +34,8 @@ impl Signature {
 
     /// The signature of the conjunction.
     pub fn and(&self, other: &Signature) -> Signature
-        ensures { (p : ℕ) → p < WORDS * 64 → value_on result p
-            ≡ min (value_on self.now p) (value_on other.now p) }
+        ensures { (p : ℕ) → p < WORDS * 64 → pattern_value result p
+            ≡ min (pattern_value self.now p) (pattern_value other.now p) }
     {
         let mut words = self.words;
         for i in 0..WORDS {
@@ -85,8 +85,8 @@ impl Signature {
 
     /// Makes the value on a pattern true.
     pub fn set(&mut self, pattern: usize)
-        ensures here { pattern < WORDS * 64 → value_on self.new pattern ≡ 1 }
-        ensures others { (p : ℕ) → p ≢ pattern → value_on self.new p ≡ value_on self.old p }
+        ensures here { pattern < WORDS * 64 → pattern_value self.new pattern ≡ 1 }
+        ensures others { (p : ℕ) → p ≢ pattern → pattern_value self.new p ≡ pattern_value self.old p }
     {
         let place = pattern / 64;
         if place < WORDS {

@@ -13,15 +13,15 @@ use Rattle.clause_core.specs.UnitPropagation.{IsRup}
 use Rattle.clause_core.proofs.CallerLemmas.{contains_nil}
 use Rattle.clause_core.proofs.Copies.{same_self}
 use Rattle.clause_core.proofs.Sets.{rup_by_sets}
-use Rattle.cdcl_core.specs.Logs.{LogView}
-use Rattle.stage_rewriter.specs.NearClauses.{AreNearOf, IsMarked, IsNear, IsNearLine, PushesNear}
+use Rattle.cdcl_solver.specs.Logs.{LogView}
+use Rattle.stage_rewriter.specs.NearClauses.{AreNearOf, IsMarkedLiteral, IsNear, IsNearLine, PushesNear}
 use Rattle.goal_refuter.specs.Refuting.{IsShownNext}
 use Rattle.goal_refuter.proofs.Kept.{Within}
 
 -- ---- the clauses that are near
 
 subset_near : (marks : List Bool) (c d : Clause) → IsSubset d c → IsNear marks c → IsNear marks d
-subset_near marks c d sub near = λ k x below. All-contains (IsMarked marks) c (slice_index_or d k x) near (sub (slice_index_or d k x) (Contains-get_or d k x below))
+subset_near marks c d sub near = λ k x below. All-contains (IsMarkedLiteral marks) c (slice_index_or d k x) near (sub (slice_index_or d k x) (Contains-get_or d k x below))
 
 pub near_none : (marks : List Bool) (clauses near : List Clause) → near ≡ [] → AreNearOf marks (take 0 clauses) near
 near_none marks [] near is = record { inside = λ c i. absurd (contains_nil c (subst (λ (z : List Clause). Contains z c) is i)); all = λ c i n. absurd (contains_nil c i) }

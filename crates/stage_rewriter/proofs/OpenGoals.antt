@@ -16,32 +16,32 @@ use Rattle.clause_core.specs.GateClauses.{clause_of, gate_clauses, gate_literals
 use Rattle.clause_core.specs.UnitPropagation.{IsChain, IsRup, IsTautology}
 use Rattle.clause_core.proofs.RupSoundness.{contains_cases}
 use Rattle.miter_encoder.proofs.Collecting.{clause_of-one, clause_of-other, clause_of-zero}
-use Rattle.stage_rewriter.specs.Resting.{IsAtRest, IsGateAtRest, IsOpposed, IsPossible, mark_at, number_of}
+use Rattle.stage_rewriter.specs.Resting.{IsAtRest, IsGateAtRest, IsOpposed, IsPossible, literal_number, mark_at}
 
 -- ---- numbers
 
-number_minus : (v : ℕ) → 0 < v → number_of (neg_ℤ (pos v)) ≡ 2 * v + 1
+number_minus : (v : ℕ) → 0 < v → literal_number (neg_ℤ (pos v)) ≡ 2 * v + 1
 number_minus zero h = absurd (omega arith)
 number_minus (suc v) h = omega arith
 
-number_back : (v : ℕ) → 0 < v → number_of (neg_ℤ (neg_ℤ (pos v))) ≡ 2 * v
+number_back : (v : ℕ) → 0 < v → literal_number (neg_ℤ (neg_ℤ (pos v))) ≡ 2 * v
 number_back zero h = absurd (omega arith)
 number_back (suc v) h = refl
 
 -- a literal's number, by its signed variable
-signed_number : (l : Lit) → 0 < variable_of l → number_of (signed_of l) ≡ l.0
+signed_number : (l : Lit) → 0 < variable_of l → literal_number (signed_of l) ≡ l.0
 signed_number l h = go (l.0 % 2 == 0) refl
   where
-    go : (b : Bool) → (l.0 % 2 == 0) ≡ b → number_of (cond b (pos (variable_of l)) (neg_ℤ (pos (variable_of l)))) ≡ l.0
+    go : (b : Bool) → (l.0 % 2 == 0) ≡ b → literal_number (cond b (pos (variable_of l)) (neg_ℤ (pos (variable_of l)))) ≡ l.0
     go true e = let even = eqb-true (l.0 % 2) 0 e in omega arith
     go false e = let odd = eqb-false (l.0 % 2) 0 e in number_minus (variable_of l) h ∙ omega (arith, odd)
 
 -- and that of its negation
-negated_number : (l : Lit) → 0 < variable_of l → number_of (neg_ℤ (signed_of l)) ≡ (negation_of l).0
+negated_number : (l : Lit) → 0 < variable_of l → literal_number (neg_ℤ (signed_of l)) ≡ (negation_of l).0
 negated_number l h = go (l.0 % 2 == 0) refl
   where
     go : (b : Bool) → (l.0 % 2 == 0) ≡ b →
-        number_of (neg_ℤ (cond b (pos (variable_of l)) (neg_ℤ (pos (variable_of l))))) ≡ (cond {A = Lit} b (record { 0 = l.0 + 1 }) (record { 0 = l.0 - 1 })).0
+        literal_number (neg_ℤ (cond b (pos (variable_of l)) (neg_ℤ (pos (variable_of l))))) ≡ (cond {A = Lit} b (record { 0 = l.0 + 1 }) (record { 0 = l.0 - 1 })).0
     go true e = let even = eqb-true (l.0 % 2) 0 e in number_minus (variable_of l) h ∙ omega arith
     go false e = let odd = eqb-false (l.0 % 2) 0 e in number_back (variable_of l) h ∙ omega (arith, odd)
 
@@ -112,7 +112,7 @@ module _ (marks : List Bool) (truth : mark_at marks 1 ≡ true) where
 
   -- a possible literal is a member, and its signed variable isn't false
   possible : (lits : List Lit) (c : Clause) (l : Lit) → clause_of lits ≡ Some c → Contains lits l → IsPossible marks l →
-      (0 < variable_of l) × Contains c (signed_of l) × (mark_at marks (number_of (neg_ℤ (signed_of l))) ≡ false)
+      (0 < variable_of l) × Contains c (signed_of l) × (mark_at marks (literal_number (neg_ℤ (signed_of l))) ≡ false)
   possible lits c l is inside may =
       let some : l.0 ≢ 0 = λ z. true≢false (sym truth ∙ ap (λ (m : Lit). mark_at marks (negation_of m).0) (sym (same_number l (record { 0 = 0 }) z)) ∙ may) in
       let m = member l lits c is inside some in
@@ -120,7 +120,7 @@ module _ (marks : List Bool) (truth : mark_at marks 1 ≡ true) where
 
   module _ (gates : List Gate) (all : All (IsGateAtRest marks) gates) where
     abbrev Marked : ℤ → Type 0
-    Marked k = mark_at marks (number_of k) ≡ true
+    Marked k = mark_at marks (literal_number k) ≡ true
 
     no_conflict : (c : Clause) → Contains (gate_clauses gates) c → ((k : ℤ) → Contains c k → Marked (neg_ℤ k)) → ⊥
     no_conflict c h falsified =
@@ -139,7 +139,7 @@ module _ (marks : List Bool) (truth : mark_at marks 1 ≡ true) where
         (λ o.
         let q = possible f.0 c o.1 f.2 (o.0, o.2, o.3) o.4.1 in
         let too : signed_of o.1 ≡ k = ⊎_elim (λ e. e) (λ n. absurd (true≢false (sym n ∙ q.2))) (unit (signed_of o.1) q.1) in
-        absurd (o.4.0 (same_number o.1 r.1 (sym (signed_number o.1 q.0) ∙ ap number_of (too ∙ sym only) ∙ signed_number r.1 p.0)))) r.4.1
+        absurd (o.4.0 (same_number o.1 r.1 (sym (signed_number o.1 q.0) ∙ ap literal_number (too ∙ sym only) ∙ signed_number r.1 p.0)))) r.4.1
 
     no_refutation : (assumed : List ℤ) (chain : List Clause) → ((k : ℤ) → Contains assumed k → Marked k) → ((c : Clause) → Contains chain c → Contains (gate_clauses gates) c) → IsChain assumed chain → ⊥
     no_refutation assumed [] marked inside h = h

@@ -9,18 +9,18 @@ use Rattle.graph_core.specs.declared.numbers.Numbers.{Numbers}
 use Rattle.graph_core.specs.Graph.Extended.{Extended}
 use Rattle.ripple_graft.specs.Blocks.{IsCut, with_cut}
 use Rattle.ripple_graft.specs.declared.cut.Cut.{Cut}
-use Rattle.slice_finder.specs.FinalStage.{IsFinalStage}
-use Rattle.cdcl_core.specs.Logs.{LogView}
-use Rattle.cdcl_core.specs.Solving.{assignment_of}
+use Rattle.adder_finder.specs.FinalStage.{IsFinalStage}
+use Rattle.cdcl_solver.specs.Logs.{LogView}
+use Rattle.cdcl_solver.specs.Solving.{assignment_of}
 use Rattle.goal_refuter.specs.Refutations.{unmet_goals}
 use Rattle.goal_refuter.specs.Refuting.{IsDiffering, IsSoFar}
 use Rattle.goal_refuter.proofs.Lawful.{lawful_lines, lines_few}
-use Rattle.stage_rewriter.specs.Rewriting.{IsDifference, IsRewriting, IsRewritingAt, IsShown}
-use Rattle.stage_rewriter.specs.declared.rewriting.Rewritten.{Rewritten}
-use Rattle.stage_rewriter.specs.declared.rewriting.Rewritten.TheVariants as kind
+use Rattle.stage_rewriter.specs.Rewriting.{IsRewriting, IsRewritingAt, IsRewritingDifference, IsShownRewriting}
+use Rattle.stage_rewriter.specs.declared.rewriting.Rewriting.{Rewriting}
+use Rattle.stage_rewriter.specs.declared.rewriting.Rewriting.TheVariants as kind
 use Rattle.stage_rewriter.proofs.Columns.{replaced_long}
 
-pub shown : (g : Aig) (conflicts : ℕ) (cut : Cut) (e : Extended) (log : LogView) → IsCut g cut → e ≡ with_cut g cut → IsSoFar e conflicts (length (unmet_goals e)) log → IsShown g conflicts cut e log.lines
+pub shown : (g : Aig) (conflicts : ℕ) (cut : Cut) (e : Extended) (log : LogView) → IsCut g cut → e ≡ with_cut g cut → IsSoFar e conflicts (length (unmet_goals e)) log → IsShownRewriting g conflicts cut e log.lines
 shown g conflicts cut e log is_cut is h =
     let graph : e.graph ≡ g = ap (λ (x : Extended). x.graph) is in
     let outs : length e.graph.outputs ≡ length g.outputs = ap (λ (x : Aig). length x.outputs) graph in
@@ -32,7 +32,7 @@ shown g conflicts cut e log is_cut is h =
 
 -- numbers at which an old and a new output differ
 pub differs : (g : Aig) (s : Sides) (cut : Cut) (e : Extended) (values : List Bool) (x : Numbers) → e ≡ with_cut g cut → IsDiffering e values → map (literal (assignment_of values)) g.inputs ≡ inputs_at s x →
-    AreInRange s x → IsDifference (with_cut g cut) s x
+    AreInRange s x → IsRewritingDifference (with_cut g cut) s x
 differs g s cut e values x is h inputs range = record {
   range = range;
   values = assignment_of values;
@@ -42,7 +42,7 @@ differs g s cut e values x is h inputs range = record {
 }
 
 -- What comes of it at the final stage.
-pub at_stage : (g : Aig) (s : Sides) (conflicts : ℕ) (cut : Cut) → IsFinalStage g cut → (r : Rewritten) → IsRewritingAt g s conflicts cut r → IsRewriting g s conflicts r
+pub at_stage : (g : Aig) (s : Sides) (conflicts : ℕ) (cut : Cut) → IsFinalStage g cut → (r : Rewriting) → IsRewritingAt g s conflicts cut r → IsRewriting g s conflicts r
 at_stage g s conflicts cut stage (kind.Used at e log) h = record {
   stage = subst (IsFinalStage g) (sym h.0) stage;
   extended_is = h.1.extended_is;

@@ -5,12 +5,12 @@ use Rattle.clause_core.specs.Clause.{Clause}
 use Rattle.clause_core.specs.ClauseLines.{ClauseLine, clause_in}
 
 -- a literal whose variable is marked
-abbrev pub IsMarked : List Bool → ℤ → Type 0
-IsMarked marks l = slice_index_or marks (nat_abs l) false ≡ true
+abbrev pub IsMarkedLiteral : List Bool → ℤ → Type 0
+IsMarkedLiteral marks l = slice_index_or marks (nat_abs l) false ≡ true
 
 -- a clause all of whose variables are marked
 abbrev pub IsNear : List Bool → Clause → Type 0
-IsNear marks c = All (IsMarked marks) c
+IsNear marks c = All (IsMarkedLiteral marks) c
 
 -- and a line with such a clause
 abbrev pub IsNearLine : List Bool → ClauseLine → Type 0

@@ -4,8 +4,8 @@ use Rattle.graph_core.specs.Graph.Extended.{Extended}
 use Rattle.clause_core.specs.Clause.{Clause}
 use Rattle.clause_core.specs.GateClauses.{gate_clauses}
 use Rattle.clause_core.specs.Likeness.{AreSameSets}
-use Rattle.cdcl_core.specs.Logs.{LogView}
-use Rattle.cdcl_core.specs.Solvers.{SolverView}
+use Rattle.cdcl_solver.specs.Logs.{LogView}
+use Rattle.cdcl_solver.specs.Solvers.{SolverView}
 use Rattle.goal_refuter.specs.Refuting.{IsKeptOver}
 use Rattle.stage_rewriter.specs.NearClauses.{AreNearOf}
 

@@ -36,10 +36,10 @@ pub record IsGateAtRest (marks : List Bool) (g : Gate) : Type 0 where
   pub both : IsAtRest marks (plain g.v ∷ negation_of g.left ∷ negation_of g.right ∷ [])
 
 -- the number of a signed variable's literal
-abbrev pub number_of : ℤ → ℕ
-number_of (pos v) = 2 * v
-number_of (negsuc v) = 2 * v + 3
+abbrev pub literal_number : ℤ → ℕ
+literal_number (pos v) = 2 * v
+literal_number (negsuc v) = 2 * v + 3
 
 -- a signed variable whose negation is marked, and itself not
 abbrev pub IsOpposed : List Bool → ℤ → Type 0
-IsOpposed marks k = (mark_at marks (number_of (neg_ℤ k)) ≡ true) × (mark_at marks (number_of k) ≡ false)
+IsOpposed marks k = (mark_at marks (literal_number (neg_ℤ k)) ≡ true) × (mark_at marks (literal_number k) ≡ false)

@@ -3,7 +3,7 @@ ghost use Rattle.std.specs.Prelude.{◌≡◌, ◌<◌, ◌≤◌, length, map, 
 ghost use Rattle.graph_core.specs.Graph.Assignments.{literal};
 ghost use Rattle.graph_core.specs.Graph.Literals.{variable_of};
 ghost use Rattle.graph_core.specs.Graph.Operands.{AreInRange, AreOperandsOf, HasShapeFor, inputs_at};
-ghost use Rattle.cdcl_core.specs.Solving.{assignment_of};
+ghost use Rattle.cdcl_solver.specs.Solving.{assignment_of};
 
 use graph_core::{Graph, Lit, Memory, Numbers, Operands};
 use std::alloc::Global;

@@ -5,7 +5,7 @@
 //! lawful clause certificate, no final stage, numbers at which an output differs, or a spent budget with the log that
 //! spent it. `rewrite_at` does the same with any cut in place of the final stage.
 //!
-//! *Final stage*: `specs/FinalStage.antt` of `slice_finder`. *Goals*, *lawful lines*, *lemma*: `GateClauses`,
+//! *Final stage*: `specs/FinalStage.antt` of `adder_finder`. *Goals*, *lawful lines*, *lemma*: `GateClauses`,
 //! `ClauseLines` and `Log` in `specs/` of `clause_core`. *Spent*: `specs/Refutations.antt` of `goal_refuter`.
 //! *Rewriting*: `specs/Rewriting.antt`.
 #![tactic(auto)]
@@ -18,4 +18,4 @@ mod outcome;
 mod resting;
 mod rewriting;
 
-pub use rewriting::{Rewritten, rewrite, rewrite_at};
+pub use rewriting::{Rewriting, rewrite, rewrite_at};

@@ -2,15 +2,15 @@
 ghost use Rattle.std.specs.Prelude.{List, ◌≡◌, ◌↔◌, ◌++◌, drop, length, IfOk, IfSome, IsTrue, OnOk};
 ghost use Rattle.std.specs.List.{All, Contains};
 ghost use Rattle.clause_core.specs.Clause.{Clause as Literals, IsClauseInRange};
-ghost use Rattle.cdcl_core.specs.Loading.{SameLive};
+ghost use Rattle.cdcl_solver.specs.Loading.{SameLive};
 ghost use Rattle.ripple_graft.specs.Blocks.{IsCut, with_cut};
-ghost use Rattle.stage_rewriter.specs.NearClauses.{AreNearOf, IsMarked, IsNear, IsNearLine, PushesNear};
+ghost use Rattle.stage_rewriter.specs.NearClauses.{AreNearOf, IsMarkedLiteral, IsNear, IsNearLine, PushesNear};
 ghost use Rattle.goal_refuter.specs.Refuting.{IsRefutation, IsSoFar};
 ghost use Rattle.goal_refuter.specs.Refutations.{unmet_goals};
 
 use crate::cone::{near_variables, variables_below};
 use crate::goals::unmet_goals;
-use cdcl_core::{Log, Solved, Solver};
+use cdcl_solver::{Log, Solved, Solver};
 use clause_core::{Clause, ClauseList, Line};
 use goal_refuter::{refute, solver_of};
 use graph_core::Memory;
@@ -170,7 +170,7 @@ fn is_near(lits: &[i32], marks: &[bool]) -> bool
 }
 
 fn is_marked(lit: i32, marks: &[bool]) -> bool
-    ensures { IsTrue result ↔ IsMarked marks.now lit }
+    ensures { IsTrue result ↔ IsMarkedLiteral marks.now lit }
 {
     let var = lit.unsigned_abs() as usize;
     var < marks.len() && marks[var]

@@ -1,13 +1,13 @@
 // All goals of a graph with an adder, one after the other.
 ghost use Rattle.std.specs.Prelude.{◌≡◌, [], IfOk, IsTrue};
 ghost use Rattle.ripple_graft.specs.Blocks.{IsCut, with_cut};
-ghost use Rattle.goal_refuter.specs.Refuting.{IsOutcome};
+ghost use Rattle.goal_refuter.specs.Refuting.{IsGoalsOutcome};
 ghost use Rattle.goal_refuter.specs.Refutations.{IsSpent};
 
 use crate::goals::unmet_goals;
 use crate::near::refute_near;
 use crate::resting::stays_open;
-use cdcl_core::Log;
+use cdcl_solver::Log;
 use goal_refuter::{Outcome, refute_goals};
 use graph_core::Memory;
 use miter_encoder::gate_clauses;
@@ -26,7 +26,7 @@ pub(crate) fn refute_all(
 ) -> Result<Outcome, Memory>
     requires cut { IsCut extended.now.graph cut.now }
     requires graph { extended.now ≡ with_cut extended.now.graph cut.now }
-    ensures { IfOk result (IsOutcome extended.now conflicts) }
+    ensures { IfOk result (IsGoalsOutcome extended.now conflicts) }
 {
     if conflicts == 0 {
         if is_spent_at_once(alloc, extended, cut)? {
@@ -60,7 +60,7 @@ fn refute_over_all(
 ) -> Result<Outcome, Memory>
     requires cut { IsCut extended.now.graph cut.now }
     requires graph { extended.now ≡ with_cut extended.now.graph cut.now }
-    ensures { IfOk result (IsOutcome extended.now conflicts) }
+    ensures { IfOk result (IsGoalsOutcome extended.now conflicts) }
 {
     let max = extended.max();
     let _gates = extended.gates();

@@ -3,7 +3,7 @@ ghost use Rattle.std.specs.Prelude.{◌≡◌, ◌↔◌, neg_ℤ, IfOk, IsTrue}
 ghost use Rattle.std.specs.List.{All, Any};
 ghost use Rattle.clause_core.specs.GateClauses.{gate_clauses};
 ghost use Rattle.clause_core.specs.UnitPropagation.{IsRup};
-ghost use Rattle.stage_rewriter.specs.Resting.{IsAtRest, IsGateAtRest, IsOpposed, IsOther, IsPossible, RestsAt, is_marked, mark_at, number_of};
+ghost use Rattle.stage_rewriter.specs.Resting.{IsAtRest, IsGateAtRest, IsOpposed, IsOther, IsPossible, RestsAt, is_marked, literal_number, mark_at};
 
 use clause_core::Clause;
 use graph_core::{Gate, Lit, Memory};
@@ -200,13 +200,13 @@ fn mark_at(marks: &[bool], number: usize) -> bool
 
 // The number of a signed variable's literal.
 fn number_of(lit: i32) -> usize
-    ensures { result ≡ number_of lit }
+    ensures { result ≡ literal_number lit }
 {
     2 * lit.unsigned_abs() as usize + usize::from(lit < 0)
 }
 
 fn number_of_negation(lit: i32) -> usize
-    ensures { result ≡ number_of (neg_ℤ lit) }
+    ensures { result ≡ literal_number (neg_ℤ lit) }
 {
     2 * lit.unsigned_abs() as usize + usize::from(lit > 0)
 }

@@ -3,16 +3,16 @@ ghost use Rattle.std.specs.Prelude.{◌≡◌, ℕ, IfOk};
 ghost use Rattle.graph_core.specs.Graph.{Aig};
 ghost use Rattle.graph_core.specs.Graph.Operands.{AreOperandsOf, HasShapeFor};
 ghost use Rattle.ripple_graft.specs.Blocks.{IsCut, with_cut};
-ghost use Rattle.slice_finder.specs.FinalStage.{IsFinalStage};
+ghost use Rattle.adder_finder.specs.FinalStage.{IsFinalStage};
 ghost use Rattle.stage_rewriter.specs.Rewriting.{Agrees, IsRewriting, IsRewritingAt};
 
 use crate::difference::numbers_of;
 use crate::outcome::refute_all;
-use cdcl_core::Log;
+use adder_finder::final_stage;
+use cdcl_solver::Log;
 use goal_refuter::Outcome;
 use graph_core::{Graph, Memory, Numbers, Operands};
 use ripple_graft::{Cut, Extended, GraftFail, graft};
-use slice_finder::final_stage;
 use std::alloc::Global;
 
 // At a cut that isn't known to be a final stage, pairs are often the sum and the carry of the same two literals, which
@@ -21,7 +21,7 @@ const DEPTH: u32 = 4;
 
 /// What comes of putting a ripple-carry adder in place of a graph's final stage.
 #[derive(Debug, Drop)]
-pub enum Rewritten<'a> {
+pub enum Rewriting<'a> {
     /// The adder's outputs are the graph's on every evaluation, as the log's lines show.
     Used {
         cut: Cut,
@@ -47,14 +47,14 @@ pub fn rewrite<'a>(
     graph: &'a Graph,
     operands: &Operands,
     conflicts: u64,
-) -> Result<Rewritten<'a>, Memory>
+) -> Result<Rewriting<'a>, Memory>
     requires shape { HasShapeFor operands.now.claim.add graph.now }
     requires operands { AreOperandsOf graph.now operands.now }
     ensures rewriting { IfOk result (IsRewriting graph.now operands.now conflicts) }
     ensures agrees { IfOk result Agrees }
 {
     match final_stage(alloc, graph)? {
-        None => Ok(Rewritten::None),
+        None => Ok(Rewriting::None),
         Some(cut) => replace(alloc, graph, operands, conflicts, cut),
     }
 }
@@ -67,7 +67,7 @@ pub fn rewrite_at<'a>(
     operands: &Operands,
     conflicts: u64,
     cut: Cut,
-) -> Result<Rewritten<'a>, Memory>
+) -> Result<Rewriting<'a>, Memory>
     requires cut { IsCut graph.now cut }
     requires shape { HasShapeFor operands.now.claim.add graph.now }
     requires operands { AreOperandsOf graph.now operands.now }
@@ -85,21 +85,21 @@ fn rewrite_near<'a>(
     conflicts: u64,
     cut: Cut,
     depth: u32,
-) -> Result<Rewritten<'a>, Memory>
+) -> Result<Rewriting<'a>, Memory>
     requires cut { IsCut graph.now cut }
     requires shape { HasShapeFor operands.now.claim.add graph.now }
     requires operands { AreOperandsOf graph.now operands.now }
     ensures rewriting { IfOk result (IsRewritingAt graph.now operands.now conflicts cut) }
     ensures agrees { IfOk result Agrees }
 {
-    let extended = grafted(alloc, graph, &cut)?;
+    let extended = graft_cut(alloc, graph, &cut)?;
     match refute_all(alloc, &extended, &cut, depth, conflicts)? {
-        Outcome::Refuted(log) => Ok(Rewritten::Used { cut, extended, log }),
+        Outcome::Refuted(log) => Ok(Rewriting::Used { cut, extended, log }),
         Outcome::Model(values) => {
             let numbers = numbers_of(alloc, graph, operands, &values)?;
-            Ok(Rewritten::Differs(numbers))
+            Ok(Rewriting::Differs(numbers))
         }
-        Outcome::Spent(goal, log) => Ok(Rewritten::Spent {
+        Outcome::Spent(goal, log) => Ok(Rewriting::Spent {
             lemmas: conflicts,
             goal,
             log,
@@ -114,7 +114,7 @@ fn replace<'a>(
     operands: &Operands,
     conflicts: u64,
     cut: Cut,
-) -> Result<Rewritten<'a>, Memory>
+) -> Result<Rewriting<'a>, Memory>
     requires stage { IsFinalStage graph.now cut }
     requires shape { HasShapeFor operands.now.claim.add graph.now }
     requires operands { AreOperandsOf graph.now operands.now }
@@ -128,7 +128,7 @@ fn replace<'a>(
 }
 
 // The graph with the adder of a cut.
-fn grafted<'a>(alloc: Global, graph: &'a Graph, cut: &Cut) -> Result<Extended<'a>, Memory>
+fn graft_cut<'a>(alloc: Global, graph: &'a Graph, cut: &Cut) -> Result<Extended<'a>, Memory>
     requires { IsCut graph.now cut.now }
     ensures { IfOk result (λ extended. extended ≡ with_cut graph.now cut.now) }
 {

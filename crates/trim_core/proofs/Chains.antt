@@ -11,7 +11,7 @@ use Rattle.clause_core.specs.UnitPropagation.{IsChain, IsRup}
 use Rattle.clause_core.proofs.CallerLemmas.{any_there, contains_here, contains_nil, contains_there}
 use Rattle.clause_core.proofs.Sets.{rup_by_sets}
 use Rattle.trim_core.specs.TightChains.{IsTight, IsTightChain, TightChainsImply}
-use Rattle.trim_core.specs.KeptClauses.{HasTightChain, HaveTightChains, IsNamed, IsNumbered, KeptClausesAreLawful, TightChainsGoOn, added_lines, numbered}
+use Rattle.trim_core.specs.KeptClauses.{HasTightChain, HaveTightChains, IsGivenOrUsed, IsNumbered, KeptClausesAreLawful, TightChainsGoOn, added_lines, numbered}
 
 chain_of : (assumed : List ℤ) (chain : List Clause) → IsTight assumed chain → IsChain assumed chain
 chain_of assumed [] h = h
@@ -39,7 +39,7 @@ record AreLive (given before live : List Clause) : Type 0 where
   given_live : (c : Clause) → Any (λ d. SameSet d c) given → Any (λ d. SameSet d c) live
   before_live : (c : Clause) → Contains before c → Contains live c
 
-named_live : (given before live : List Clause) → AreLive given before live → (uses : List ℕ) (c : Clause) → IsNamed given before uses c → Any (λ d. SameSet d c) live
+named_live : (given before live : List Clause) → AreLive given before live → (uses : List ℕ) (c : Clause) → IsGivenOrUsed given before uses c → Any (λ d. SameSet d c) live
 named_live given before live h uses c n = ⊎_elim (h.given_live c) (λ u. by_number u.1 u.4) n
   where
     by_number : (k : ℕ) → IsNumbered before c k → Any (λ d. SameSet d c) live

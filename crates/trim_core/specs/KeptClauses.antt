@@ -20,14 +20,14 @@ abbrev pub IsNumbered : List Clause → Clause → ℕ → Type 0
 IsNumbered before c n = (d : Clause) × (numbered before n ≡ Some d) × SameSet d c
 
 -- the set is that of a given clause, or of an earlier one that the uses name
-abbrev pub IsNamed : List Clause → List Clause → List ℕ → Clause → Type 0
-IsNamed given before uses c = Any (λ d. SameSet d c) given ⊎ Any (IsNumbered before c) uses
+abbrev pub IsGivenOrUsed : List Clause → List Clause → List ℕ → Clause → Type 0
+IsGivenOrUsed given before uses c = Any (λ d. SameSet d c) given ⊎ Any (IsNumbered before c) uses
 
 -- A tight chain of given clauses and of earlier ones, all of which the uses name; and they name no other.
 pub record HasTightChain (given before : List Clause) (c : Clause) (uses : List ℕ) : Type 0 where
   pub chain : List Clause
   pub tight : IsTightChain c chain
-  pub named : All (IsNamed given before uses) chain
+  pub named : All (IsGivenOrUsed given before uses) chain
   pub only : All (λ n. Any (λ d. IsNumbered before d n) chain) uses
 
 -- each clause has one, from those before it

@@ -12,7 +12,7 @@ use Rattle.graph_core.specs.Algebra as algebra
 use Rattle.graph_core.specs.Graph.Operands.{Sides}
 use Rattle.poly_terms.specs.Tables.{Table, Sum as Poly, monomials_in}
 use Rattle.poly_text.specs.Lines.{line_in, part_in}
-use Rattle.poly_text.specs.Recorded.{AreRising, id_in, ids_in, lines_in, operands_in}
+use Rattle.poly_text.specs.Recorded.{AreRisingIds, id_in, ids_in, lines_in, operands_in}
 use Rattle.poly_text.specs.declared.line.PacLine.{PacLine}
 use Rattle.poly_text.specs.declared.line.PacLine.TheVariants as pac
 use Rattle.trim_core.specs.KeptClauses.{chosen}
@@ -39,7 +39,7 @@ mark_cases (x ∷ ids) (b ∷ marks) id = go (x == id) refl (mark_cases ids mark
     go true f rest = inr (0, omega arith, eqb-true x id f)
     go false f rest = ⊎_elim inl (λ r. let low : r.0 < length ids = r.1 in inr (suc r.0, omega arith, r.2)) rest
 
-mark_at : (ids : List ℕ) (marks : List Bool) → AreRising ids → length marks ≡ length ids → (q : ℕ) → q < length ids → mark_of ids marks (slice_index ids q) ≡ slice_index_or marks q false
+mark_at : (ids : List ℕ) (marks : List Bool) → AreRisingIds ids → length marks ≡ length ids → (q : ℕ) → q < length ids → mark_of ids marks (slice_index ids q) ≡ slice_index_or marks q false
 mark_at [] marks up even q low = absurd (omega arith)
 mark_at (x ∷ ids) [] up even q low = absurd (omega arith)
 mark_at (x ∷ ids) (b ∷ marks) up even zero low = ap (λ (e : Bool). cond e b (mark_of ids marks x)) (eq-eqb x x refl)
@@ -127,7 +127,7 @@ module _ (t : Table) (keeps : ℕ → Bool) where
       go s false next e all' = All-cons (λ y. is_kept keeps y ≡ true → P y) s.line (lines_in t lines) (λ f. absurd (cc)) (next all')
 
 -- over any premises that have what kept lines import
-pub kept_lines_close : (p q : Premises) (s : Sides) (t : Table) (number : ℕ → ℕ) (lines kept : List PacLine) (closing : ℕ) → AreLinesKept lines closing kept → AreRising (ids_in lines) → IntroduceIds lines →
+pub kept_lines_close : (p q : Premises) (s : Sides) (t : Table) (number : ℕ → ℕ) (lines kept : List PacLine) (closing : ℕ) → AreLinesKept lines closing kept → AreRisingIds (ids_in lines) → IntroduceIds lines →
     AreLawful p s (lines_in t lines) closing → q.extended ≡ p.extended → All (IsImportKept p.imports q.imports number) (lines_in t kept) →
     AreLawful q s (map (renumbered number) (lines_in t kept)) closing
 kept_lines_close p q s t number lines kept closing k up h lawful extended imports =

@@ -9,7 +9,7 @@ use Rattle.clause_core.specs.ClauseLines.{ClauseLine}
 use Rattle.miter_encoder.specs.declared.goal.Goal.{Goal}
 use Rattle.trim_core.specs.KeptClauses.{AreBelow, AreEarlier, AreMarkedUsed, IsFirstShowing, IsMarked, added_lines, chosen, rank}
 use Rattle.trim_core.proofs.Used.{there}
-use Rattle.trim_keeper.specs.Marking.{AreRanks, Closes, IsKeptOf, IsSet, IsShownIn, MarksRoots, SetsMarks, unmet}
+use Rattle.trim_keeper.specs.Marking.{AreRanks, ClosesMarks, IsKeptOf, IsSet, IsShownIn, MarksRoots, SetsMarks, unmet}
 use Rattle.trim_keeper.proofs.Marking.{marked_number}
 
 -- ---- lists by marks
@@ -93,7 +93,7 @@ uses_low uses n low earlier i d b k e inside =
 
 module _ (goals : List Goal) (more : List ℕ) (clauses : List Clause) (uses : List (List ℕ)) (none roots named marks : List Bool) (ranks : List ℕ)
     (size : ℕ) (nothing : none ≡ replicate size false) (many : length none ≡ length clauses) (even : length uses ≡ length clauses) (earlier : AreEarlier uses) (below : AreBelow (length clauses) more)
-    (rooted : MarksRoots (unmet goals) clauses none roots) (sets : SetsMarks more roots named) (closes : Closes uses named marks) (ranked : AreRanks marks ranks) where
+    (rooted : MarksRoots (unmet goals) clauses none roots) (sets : SetsMarks more roots named) (closes : ClosesMarks uses named marks) (ranked : AreRanks marks ranks) where
   unset : (n i : ℕ) → IsSet (replicate n false) i → ⊥
   unset zero i s = true≢false (sym s)
   unset (suc n) zero s = true≢false (sym s)

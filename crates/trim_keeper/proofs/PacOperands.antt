@@ -7,7 +7,7 @@ use Rattle.std.proofs.lemmas.List.{get_or_append_left, get_or-map, get_or_push, 
 use Rattle.std.proofs.lemmas.List.Elements.{All-contains, All-get_or, All-push, Contains-append_left, Contains-push, Contains-push_cases}
 use Rattle.poly_text.specs.declared.line.PacLine.{PacLine}
 use Rattle.poly_text.specs.declared.line.PacLine.TheVariants as pac
-use Rattle.poly_text.specs.Recorded.{AreMadeOfEarlier, AreRising, id_in, ids_in, operands_in}
+use Rattle.poly_text.specs.Recorded.{AreMadeOfEarlier, AreRisingIds, id_in, ids_in, operands_in}
 use Rattle.trim_core.specs.KeptClauses.{AreEarlier, IsMarked, chosen}
 use Rattle.trim_keeper.specs.Lines.{AreAllUses, AreLinesKept, AreUsesOf, MarksClosing, id_at, operands_at}
 use Rattle.trim_keeper.specs.Marking.{IsSet}
@@ -40,11 +40,11 @@ module _ (ids operands numbers : List ℕ) (o : ℕ) (h : AreUsesOf ids operands
       back : (n : ℕ) → n ≡ n + 1 - 1
       back n = omega arith
 
-pub rising_once : (ids : List ℕ) → AreRising ids → (i j : ℕ) → i < length ids → j < length ids → slice_index ids i ≡ slice_index ids j → i ≡ j
+pub rising_once : (ids : List ℕ) → AreRisingIds ids → (i j : ℕ) → i < length ids → j < length ids → slice_index ids i ≡ slice_index ids j → i ≡ j
 rising_once ids up i j a b e =
     ⊎_elim (λ low. let less = up i j low b in absurd (omega arith)) (λ high. ⊎_elim (λ same. same) (λ other. let low : j < i = omega arith in let less = up j i low a in absurd (omega arith)) (cases_eq i j)) (cases_lt i j)
 
-pub rising_weak : (ids : List ℕ) → AreRising ids → (i j : ℕ) → i ≤ j → j < length ids → slice_index ids i ≤ slice_index ids j
+pub rising_weak : (ids : List ℕ) → AreRisingIds ids → (i j : ℕ) → i ≤ j → j < length ids → slice_index ids i ≤ slice_index ids j
 rising_weak ids up i j low inside = ⊎_elim (λ e. let same = ap (slice_index ids) e in omega arith) (λ other. let before : i < j = omega arith in let less = up i j before inside in omega arith) (cases_eq i j)
 
 -- ---- of all lines
@@ -70,7 +70,7 @@ all_more ids operands uses o u h new = record {
 
 -- ---- all together
 
-module _ (lines : List PacLine) (closing : ℕ) (ids : List ℕ) (ids_are : ids ≡ ids_in lines) (up : AreRising (ids_in lines)) (earlier : AreMadeOfEarlier lines) (uses : List (List ℕ)) (all : AreAllUses ids (map operands_in lines) uses) where
+module _ (lines : List PacLine) (closing : ℕ) (ids : List ℕ) (ids_are : ids ≡ ids_in lines) (up : AreRisingIds (ids_in lines)) (earlier : AreMadeOfEarlier lines) (uses : List (List ℕ)) (all : AreAllUses ids (map operands_in lines) uses) where
   of_ids : AreAllUses (ids_in lines) (map operands_in lines) uses
   of_ids = subst (λ (xs : List ℕ). AreAllUses xs (map operands_in lines) uses) ids_are all
 

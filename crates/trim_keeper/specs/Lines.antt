@@ -8,7 +8,7 @@ use Rattle.poly_text.specs.Recorded.{id_in, ids_in, operands_in}
 use Rattle.poly_text.specs.declared.line.PacLine.{PacLine}
 use Rattle.poly_text.specs.declared.line.PacLine.TheVariants.{Sum, Product, Combination, Import, Drop, Close}
 use Rattle.trim_core.specs.KeptClauses.{chosen}
-use Rattle.trim_keeper.specs.Marking.{Closes, IsSet}
+use Rattle.trim_keeper.specs.Marking.{ClosesMarks, IsSet}
 
 -- each line introduces an id, so none is a deletion or a closing line
 abbrev pub IntroduceIds : List PacLine → Type 0
@@ -34,7 +34,7 @@ pub record SetsClosing (ids : List ℕ) (closing : ℕ) (old new : List Bool) : 
 
 -- and then whatever marked lines use
 abbrev pub MarksClosing : List ℕ → ℕ → List (List ℕ) → List Bool → List Bool → Type 0
-MarksClosing ids closing uses old new = (roots : List Bool) × SetsClosing ids closing old roots × Closes uses roots new
+MarksClosing ids closing uses old new = (roots : List Bool) × SetsClosing ids closing old roots × ClosesMarks uses roots new
 
 -- the id of the line at a place, and what the line is made of
 abbrev pub id_at : List PacLine → ℕ → ℕ

@@ -22,8 +22,8 @@ pub record IsClosedFrom (n : ℕ) (uses : List (List ℕ)) (old new : List Bool)
   pub used : (i : ℕ) → IsSet new i → IsSet old i ⊎ IsUsedBehind new uses i
 
 -- all of them
-abbrev pub Closes : List (List ℕ) → List Bool → List Bool → Type 0
-Closes uses old new = IsClosedFrom 0 uses old new
+abbrev pub ClosesMarks : List (List ℕ) → List Bool → List Bool → Type 0
+ClosesMarks uses old new = IsClosedFrom 0 uses old new
 
 -- ---- the clauses that goals need
 
@@ -51,7 +51,7 @@ pub record MarksRoots (goals clauses : List Clause) (old new : List Bool) : Type
 -- Marked are the first clauses that show goals, those that some numbers name, and whatever these use.
 abbrev pub MarksNeeded : List Clause → List ℕ → List Clause → List (List ℕ) → List Bool → List Bool → Type 0
 MarksNeeded goals more clauses uses old new =
-    (roots named : List Bool) × MarksRoots goals clauses old roots × SetsMarks more roots named × Closes uses named new
+    (roots named : List Bool) × MarksRoots goals clauses old roots × SetsMarks more roots named × ClosesMarks uses named new
 
 -- how many of the first marks are set, for each number up to theirs
 pub record AreRanks (marks : List Bool) (ranks : List ℕ) : Type 0 where

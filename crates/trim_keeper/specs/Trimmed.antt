@@ -10,7 +10,7 @@ use Rattle.clause_core.specs.ClauseLines.{AreLawfulClauses, ClauseLine, added}
 use Rattle.miter_encoder.specs.declared.goal.Goal.{Goal}
 use Rattle.poly_terms.specs.Tables.{Table}
 use Rattle.poly_text.specs.Lines.{AreOf}
-use Rattle.poly_text.specs.Recorded.{AreRising, ids_in, lines_in}
+use Rattle.poly_text.specs.Recorded.{AreRisingIds, ids_in, lines_in}
 use Rattle.poly_text.specs.WrittenLines.{IsWritable}
 use Rattle.poly_text.specs.declared.line.PacLine.{PacLine}
 use Rattle.trim_core.specs.KeptClauses.{AreBelow, AreUsed, HaveTightChains, added_lines, chosen}
@@ -55,7 +55,7 @@ ImportThese f clauses lines p q = (p.imports ≡ []) ⊎ ((p.imports ≡ map f c
 abbrev pub KeptPairIsLawful : Type 0
 KeptPairIsLawful = (p q : Premises) (s : Sides) (t : Table) (lines kept : List PacLine) (closing : ℕ) (f : Clause → Assignment → ℕ)
     (goals : List Goal) (clauses : List Clause) (uses : List (List ℕ)) (clause_lines : List ClauseLine) (kept_uses : List (List ℕ)) (ranks : List ℕ) →
-    AreLinesKept lines closing kept → AreRising (ids_in lines) → IntroduceIds lines → AreLawful p s (lines_in t lines) closing →
+    AreLinesKept lines closing kept → AreRisingIds (ids_in lines) → IntroduceIds lines → AreLawful p s (lines_in t lines) closing →
     IsKeptOf goals (imports_in kept) clauses uses clause_lines kept_uses ranks → q.extended ≡ p.extended → ImportThese f clauses clause_lines p q →
     AreLawful q s (lines_in t (all_renumbered (slice_index ranks) kept)) closing
 

@@ -1,6 +1,6 @@
 // The lines of an algebra certificate that are kept.
 ghost use Rattle.std.specs.Prelude.{◌≡◌, length, IfOk};
-ghost use Rattle.poly_text.specs.Recorded.{AreMadeOfEarlier, AreRising, ids_in};
+ghost use Rattle.poly_text.specs.Recorded.{AreMadeOfEarlier, AreRisingIds, ids_in};
 ghost use Rattle.trim_core.specs.KeptClauses.{AreEarlier};
 ghost use Rattle.trim_keeper.specs.Lines.{AreLinesKept, MarksClosing, SetsClosing};
 
@@ -14,7 +14,7 @@ use std::alloc::Global;
 
 /// Of lines that introduce ids, those that the closing line needs.
 pub fn keep_lines(alloc: Global, lines: Vec<PacLine>, closing: u64) -> Result<Vec<PacLine>, Memory>
-    requires rising { AreRising (ids_in lines.items) }
+    requires rising { AreRisingIds (ids_in lines.items) }
     requires earlier { AreMadeOfEarlier lines.items }
     ensures { IfOk result (λ kept. AreLinesKept lines.items closing kept.items) }
 {
@@ -28,7 +28,7 @@ pub fn keep_lines(alloc: Global, lines: Vec<PacLine>, closing: u64) -> Result<Ve
 
 // Marks the line of the closing id, if there is one, and whatever marked lines use.
 fn mark_closing(marks: &mut [bool], ids: &[u64], uses: &[Numbers], closing: u64)
-    requires rising { AreRising ids.now }
+    requires rising { AreRisingIds ids.now }
     requires long { length marks.old ≡ length uses.now }
     requires even { length ids.now ≡ length uses.now }
     requires earlier { AreEarlier uses.now }
@@ -39,7 +39,7 @@ fn mark_closing(marks: &mut [bool], ids: &[u64], uses: &[Numbers], closing: u64)
 }
 
 fn set_closing(marks: &mut [bool], ids: &[u64], closing: u64)
-    requires rising { AreRising ids.now }
+    requires rising { AreRisingIds ids.now }
     requires long { length marks.old ≡ length ids.now }
     ensures { SetsClosing ids.now closing marks.old marks.new }
 {

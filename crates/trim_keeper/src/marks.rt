@@ -1,7 +1,7 @@
 // Marks of the clauses that are kept.
 ghost use Rattle.std.specs.Prelude.{◌≡◌, length};
 ghost use Rattle.trim_core.specs.KeptClauses.{AreBelow, AreEarlier};
-ghost use Rattle.trim_keeper.specs.Marking.{Closes, SetsMarks};
+ghost use Rattle.trim_keeper.specs.Marking.{ClosesMarks, SetsMarks};
 
 use drup_checker::Numbers;
 
@@ -9,7 +9,7 @@ use drup_checker::Numbers;
 pub(crate) fn close(marks: &mut [bool], uses: &[Numbers])
     requires long { length marks.old ≡ length uses.now }
     requires earlier { AreEarlier uses.now }
-    ensures { Closes uses.now marks.old marks.new }
+    ensures { ClosesMarks uses.now marks.old marks.new }
 {
     let mut place = uses.len();
     'walk: while 0 < place {

@@ -1,6 +1,6 @@
 // Which lines of an algebra certificate a line is made of.
 ghost use Rattle.std.specs.Prelude.{◌≡◌, ◌≢◌, ◌<◌, ◌++◌, ◌∷◌, [], ℕ, List, length, map, slice_index, IfOk, MatchOption, OnOk};
-ghost use Rattle.poly_text.specs.Recorded.{AreRising, id_in, ids_in, operands_in};
+ghost use Rattle.poly_text.specs.Recorded.{AreRisingIds, id_in, ids_in, operands_in};
 ghost use Rattle.trim_keeper.specs.Lines.{AreAllUses, AreUsesOf};
 
 use drup_checker::Numbers;
@@ -25,7 +25,7 @@ pub(crate) fn all_uses(
     ids: &[u64],
     lines: &[PacLine],
 ) -> Result<Vec<Numbers>, Memory>
-    requires { AreRising ids.now }
+    requires { AreRisingIds ids.now }
     ensures { IfOk result (λ uses. AreAllUses ids.now (map operands_in lines.now) uses.items) }
 {
     let mut uses = Vec::new(alloc);
@@ -37,7 +37,7 @@ pub(crate) fn all_uses(
 
 /// The place of an id, if it is there.
 pub(crate) fn place_in(ids: &[u64], id: u64) -> Option<usize>
-    requires { AreRising ids.now }
+    requires { AreRisingIds ids.now }
     ensures { MatchOption result ((p : ℕ) → p < length ids.now → slice_index ids.now p ≢ id)
         (λ p. (p < length ids.now) × (slice_index ids.now p ≡ id)) }
 {
@@ -61,7 +61,7 @@ fn id_of(line: &PacLine) -> u64
 }
 
 fn uses_of(alloc: Global, ids: &[u64], line: &PacLine) -> Result<Numbers, Memory>
-    requires { AreRising ids.now }
+    requires { AreRisingIds ids.now }
     ensures { IfOk result (AreUsesOf ids.now (operands_in line.now)) }
 {
     match line {
@@ -89,7 +89,7 @@ fn first_of<T>(alloc: Global, parts: &[(u64, T)]) -> Result<Vec<u64>, Memory>
 
 // The numbers of the ids that are among some.
 fn uses_among(alloc: Global, ids: &[u64], operands: &[u64]) -> Result<Numbers, Memory>
-    requires { AreRising ids.now }
+    requires { AreRisingIds ids.now }
     ensures { IfOk result (AreUsesOf ids.now operands.now) }
 {
     let mut uses = Vec::new(alloc);

@@ -11,7 +11,7 @@ use Rattle.clause_core.specs.Clause.{Clause, IsSubset}
 use Rattle.clause_core.specs.UnitPropagation.{IsUnit, IsFalsified, IsChain, IsRefuted}
 use Rattle.clause_core.proofs.CallerLemmas.{at_contained, contains_cases, contains_here, contains_nil, contains_there}
 use Rattle.unit_prop.specs.Literals.{IsLiteral}
-use Rattle.unit_prop.specs.Standing.{IsFree, IsSound, Standing, StandsAlone, assumed_in, assumed_of, at, live_of, reason_at}
+use Rattle.unit_prop.specs.Standing.{HasNoAssumption, IsSound, Standing, StandsAlone, assumed_in, assumed_of, at, live_of, reason_at}
 use Rattle.unit_prop.proofs.Findings.{assumed_at, live_has}
 use Rattle.unit_prop.proofs.TrailSteps.{once}
 
@@ -90,10 +90,10 @@ none_assumed (l ∷ lits) [] free = refl
 none_assumed (l ∷ lits) (None ∷ rs) free = absurd (free 0 (omega arith) refl)
 none_assumed (l ∷ lits) (Some r ∷ rs) free = none_assumed lits rs (λ i b. free (suc i) (omega arith))
 
-pub free_assumes_none : (s : Standing) → IsFree s → assumed_of s ≡ []
+pub free_assumes_none : (s : Standing) → HasNoAssumption s → assumed_of s ≡ []
 free_assumes_none s free = none_assumed s.trail.literals s.trail.reasons free
 
-pub alone_is_free : (s : Standing) → StandsAlone s → IsFree s
+pub alone_is_free : (s : Standing) → StandsAlone s → HasNoAssumption s
 alone_is_free s alone i below none = let units = alone.1 in let u = alone.0.by_unit i (omega arith) in differ u.0 (sym u.1 ∙ none)
   where
     differ : (r : ℕ) → ◌≡◌ {A = Option ℕ} (Some r) None → ⊥

@@ -13,8 +13,8 @@ use Rattle.clause_core.proofs.CallerLemmas.{contains_cases, fixpoint_leaves_no_c
 use Rattle.unit_prop.specs.Watches.{none, Hung}
 use Rattle.unit_prop.specs.Trail.{Stood}
 use Rattle.unit_prop.specs.Standing.{Standing, clause_at, at, reason_at, live_of, assumed_in, assumed_of, Propagates, IsFound}
-use Rattle.unit_prop.specs.Visits.{place, partner, IsKept, Grows, IsPropagating, IsFalse}
-use Rattle.unit_prop.specs.Ground.{cause_of, standing_of, IsGround}
+use Rattle.unit_prop.specs.Visits.{watched_at, partner, IsVisitedUpTo, GainsLiterals, IsPropagating, IsFalse}
+use Rattle.unit_prop.specs.Ground.{reason_clause, standing_of, IsGround}
 use Rattle.unit_prop.proofs.TrailSteps.{once, map_same}
 use Rattle.unit_prop.proofs.VisitSteps.{live_below}
 use Rattle.unit_prop.proofs.Codes.{real}
@@ -71,22 +71,22 @@ assumed_grown (m ∷ lits) [] more causes even = absurd (omega arith)
 assumed_grown (m ∷ lits) (None ∷ rs) more causes even = ap (λ (ls : List ℤ). m ∷ ls) (assumed_grown lits rs more causes (omega arith))
 assumed_grown (m ∷ lits) (Some r ∷ rs) more causes even = assumed_grown lits rs more causes (omega arith)
 
-pub cause_none : (r : ℕ) → r ≡ none → cause_of r ≡ None
+pub cause_none : (r : ℕ) → r ≡ none → reason_clause r ≡ None
 cause_none r e = rw (eq-eqb r none e) refl
 
-pub cause_some : (r : ℕ) → r ≢ none → cause_of r ≡ Some r
+pub cause_some : (r : ℕ) → r ≢ none → reason_clause r ≡ Some r
 cause_some r e = rw (ne_eqb r none e) refl
 
-pub causes_some : (rs : List ℕ) → All (λ r. r ≢ none) rs → map cause_of rs ≡ map Some rs
-causes_some rs all = map_same cause_of Some rs (λ i d h. cause_some (get_or rs i d) (all i d h))
+pub causes_some : (rs : List ℕ) → All (λ r. r ≢ none) rs → map reason_clause rs ≡ map Some rs
+causes_some rs all = map_same reason_clause Some rs (λ i d h. cause_some (get_or rs i d) (all i d h))
 
 -- A chain from what was assumed to a clause that is false under what stands.
-module _ (clauses : List (Option Clause)) (s : Stood) (head : ℕ) (kept : IsKept clauses s head) (c : Clause) (r : ℕ) (live : clause_at clauses r ≡ Some c) (falsified : IsFalsified s.lits c) where
+module _ (clauses : List (Option Clause)) (s : Stood) (head : ℕ) (kept : IsVisitedUpTo clauses s head) (c : Clause) (r : ℕ) (live : clause_at clauses r ≡ Some c) (falsified : IsFalsified s.lits c) where
   abbrev rs : List (Option ℕ)
-  rs = map cause_of s.reasons
+  rs = map reason_clause s.reasons
 
   even : length rs ≡ length s.lits
-  even = length-map s.reasons cause_of ∙ kept.reasons
+  even = length-map s.reasons reason_clause ∙ kept.reasons
 
   abbrev Has : List ℤ → ℕ → Type 0
   Has acc n = ((i : ℕ) → i < n → Contains acc (at s.lits i)) × ((l : ℤ) → Contains (assumed_in s.lits rs) l → Contains acc l)
@@ -114,8 +114,8 @@ module _ (clauses : List (Option Clause)) (s : Stood) (head : ℕ) (kept : IsKep
   )
   leads (suc k) n e acc has = step (λ acc' has'. leads k (suc n) (omega arith) acc' has')
     where
-      reason_is : reason_at rs n ≡ cause_of (slice_index s.reasons n)
-      reason_is = get_or-map cause_of s.reasons n 0 None (omega (arith, kept.reasons))
+      reason_is : reason_at rs n ≡ reason_clause (slice_index s.reasons n)
+      reason_is = get_or-map reason_clause s.reasons n 0 None (omega (arith, kept.reasons))
 
       assumed : ((acc' : List ℤ) → Has acc' (suc n) → Leads acc') → slice_index s.reasons n ≡ none → Leads acc
       assumed next none_is = next acc (λ i b. ⊎_elim (λ f. has.0 i f) (λ f. let same : n ≡ i = omega arith in subst (λ (j : ℕ). Contains acc (at s.lits j)) same (has.1 (at s.lits n) (assumed_at s.lits rs even n (omega arith) (reason_is ∙ cause_none (slice_index s.reasons n) none_is)))) (cases_lt i n), has.1)
@@ -145,11 +145,11 @@ module _ (clauses : List (Option Clause)) (hung : Hung) (s : Stood) (p : IsPropa
   not_both l real = once s.lits l real p.kept.apart
 
   -- a watched literal that is false has a true one beside it
-  beside : (n : ℕ) (c : Clause) → clause_at clauses (n / 2) ≡ Some c → 2 ≤ length c → Contains s.lits (neg_ℤ (place hung.places n)) → (m : ℤ) × Contains c m × Contains s.lits m
+  beside : (n : ℕ) (c : Clause) → clause_at clauses (n / 2) ≡ Some c → 2 ≤ length c → Contains s.lits (neg_ℤ (watched_at hung.places n)) → (m : ℤ) × Contains c m × Contains s.lits m
   beside n c live long h =
       let w = p.watching.watches n c live long in
-      let real = ((p.sound (n / 2) c live).1 (place hung.places n) w.0).0 in
-      let served = p.served n h.0 h.1 (get_or_default s.lits h.0 (pos 0) (neg_ℤ (place hung.places n)) h.1 ∙ h.2) (nonzero (place hung.places n) real) c live in
+      let real = ((p.sound (n / 2) c live).1 (watched_at hung.places n) w.0).0 in
+      let served = p.served n h.0 h.1 (get_or_default s.lits h.0 (pos 0) (neg_ℤ (watched_at hung.places n)) h.1 ∙ h.2) (nonzero (watched_at hung.places n) real) c live in
       (at s.lits served.0, served.2, Contains-get_or s.lits served.0 (pos 0) served.1)
     where
       nonzero : (l : ℤ) → IsLiteral l → l ≢ pos 0
@@ -172,7 +172,7 @@ module _ (clauses : List (Option Clause)) (hung : Hung) (s : Stood) (p : IsPropa
       by_length (inr many) =
           let live = subst (λ (r : ℕ). clause_at clauses r ≡ Some c) (sym (node_of l.0)) l.1 in
           let w = p.watching.watches (2 * l.0) c live many in
-          let m = beside (2 * l.0) c live many (falsified (place hung.places (2 * l.0)) w.0) in
+          let m = beside (2 * l.0) c live many (falsified (watched_at hung.places (2 * l.0)) w.0) in
           not_both m.0 ((p.sound l.0 c l.1).1 m.0 m.1).0 m.2 (falsified m.0 m.1)
 
   settled_closed : (c : Clause) (l : ℤ) → Contains (live_of clauses) c → IsUnit s.lits c l → Contains s.lits l
@@ -188,8 +188,8 @@ module _ (clauses : List (Option Clause)) (hung : Hung) (s : Stood) (p : IsPropa
       by_length : (length c < 2) ⊎ (2 ≤ length c) → Contains s.lits k
       by_length (inl few) = let u = short l.0 c l.1 few in it_is u.0 (subst (λ d. Contains d u.0) (sym u.1) (contains_here u.0 [])) u.2
       by_length (inr many) =
-          ⊎_elim (λ e. ⊎_elim (λ f. absurd (w.1 (e ∙ sym f))) (λ f. let m = beside (partner (2 * l.0)) c live' many f in it_is m.0 m.1 m.2) (unit.1 (place hung.places (partner (2 * l.0))) w'.0))
-          (λ f. let m = beside (2 * l.0) c live many f in it_is m.0 m.1 m.2) (unit.1 (place hung.places (2 * l.0)) w.0)
+          ⊎_elim (λ e. ⊎_elim (λ f. absurd (w.1 (e ∙ sym f))) (λ f. let m = beside (partner (2 * l.0)) c live' many f in it_is m.0 m.1 m.2) (unit.1 (watched_at hung.places (partner (2 * l.0))) w'.0))
+          (λ f. let m = beside (2 * l.0) c live many f in it_is m.0 m.1 m.2) (unit.1 (watched_at hung.places (2 * l.0)) w.0)
         where
           live : clause_at clauses ((2 * l.0) / 2) ≡ Some c
           live = subst (λ (r : ℕ). clause_at clauses r ≡ Some c) (sym (node_of l.0)) l.1
@@ -197,17 +197,17 @@ module _ (clauses : List (Option Clause)) (hung : Hung) (s : Stood) (p : IsPropa
           live' : clause_at clauses (partner (2 * l.0) / 2) ≡ Some c
           live' = subst (λ (r : ℕ). clause_at clauses r ≡ Some c) (sym (partner_owner (2 * l.0))) live
 
-          w : Contains c (place hung.places (2 * l.0)) × (place hung.places (2 * l.0) ≢ place hung.places (partner (2 * l.0)))
+          w : Contains c (watched_at hung.places (2 * l.0)) × (watched_at hung.places (2 * l.0) ≢ watched_at hung.places (partner (2 * l.0)))
           w = p.watching.watches (2 * l.0) c live many
 
-          w' : Contains c (place hung.places (partner (2 * l.0))) × (place hung.places (partner (2 * l.0)) ≢ place hung.places (partner (partner (2 * l.0))))
+          w' : Contains c (watched_at hung.places (partner (2 * l.0))) × (watched_at hung.places (partner (2 * l.0)) ≢ watched_at hung.places (partner (partner (2 * l.0))))
           w' = p.watching.watches (partner (2 * l.0)) c live' many
 
   pub settled : IsFixpoint (live_of clauses) s.lits
   settled = record { no_conflict = settled_none; closed = settled_closed }
 
-  pub no_chain : IsRefuted (live_of clauses) (assumed_in s.lits (map cause_of s.reasons)) → ⊥
-  no_chain h = fixpoint_leaves_no_chain (live_of clauses) s.lits (assumed_in s.lits (map cause_of s.reasons)) h.0 settled (λ l k. assumed_stand s.lits (map cause_of s.reasons) l k) h.1 h.2
+  pub no_chain : IsRefuted (live_of clauses) (assumed_in s.lits (map reason_clause s.reasons)) → ⊥
+  no_chain h = fixpoint_leaves_no_chain (live_of clauses) s.lits (assumed_in s.lits (map reason_clause s.reasons)) h.0 settled (λ l k. assumed_stand s.lits (map reason_clause s.reasons) l k) h.1 h.2
 
 pub from_front : {X : Type 0} (n : ℕ) (xs : List X) (x : X) → Contains (take n xs) x → Contains xs x
 from_front n xs x h = (h.0, before, sym (get_or-take n xs h.0 x under) ∙ h.2)
@@ -224,10 +224,10 @@ from_front n xs x h = (h.0, before, sym (get_or-take n xs h.0 x under) ∙ h.2)
 pub propagates_not : (s : Standing) → Propagates s s
 propagates_not s = record { literals = []; causes = []; clauses = refl; greatest = refl; units = refl; trail = sym (append-nil s.trail.literals); reasons = sym (append-nil s.trail.reasons) }
 
-pub causes_grown : (a b : Stood) (g : Grows a b) → map cause_of b.reasons ≡ map cause_of a.reasons ++ map Some g.causes
-causes_grown a b g = ap (map cause_of) g.reasons ∙ (map-append cause_of a.reasons g.causes ∙ ap (λ rs. map cause_of a.reasons ++ rs) (causes_some g.causes g.caused))
+pub causes_grown : (a b : Stood) (g : GainsLiterals a b) → map reason_clause b.reasons ≡ map reason_clause a.reasons ++ map Some g.causes
+causes_grown a b g = ap (map reason_clause) g.reasons ∙ (map-append reason_clause a.reasons g.causes ∙ ap (λ rs. map reason_clause a.reasons ++ rs) (causes_some g.causes g.caused))
 
-module _ (clauses : List (Option Clause)) (a b : Stood) (units : ℕ) (seen : Standing) (view : standing_of clauses a units ≡ seen) (g : Grows a b) (even : length a.reasons ≡ length a.lits) where
+module _ (clauses : List (Option Clause)) (a b : Stood) (units : ℕ) (seen : Standing) (view : standing_of clauses a units ≡ seen) (g : GainsLiterals a b) (even : length a.reasons ≡ length a.lits) where
   pub propagates_by : Propagates seen (standing_of clauses b units)
   propagates_by = subst (λ (s : Standing). Propagates s (standing_of clauses b units)) view (record {
     literals = g.more;
@@ -239,9 +239,9 @@ module _ (clauses : List (Option Clause)) (a b : Stood) (units : ℕ) (seen : St
     reasons = causes_grown a b g;
   })
 
-  assumed_same : assumed_in b.lits (map cause_of b.reasons) ≡ assumed_of seen
-  assumed_same = ap (λ (ls : List ℤ). assumed_in ls (map cause_of b.reasons)) g.lits ∙ (ap (assumed_in (a.lits ++ g.more)) (causes_grown a b g)
-      ∙ (assumed_grown a.lits (map cause_of a.reasons) g.more g.causes (length-map a.reasons cause_of ∙ even) ∙ ap assumed_of view))
+  assumed_same : assumed_in b.lits (map reason_clause b.reasons) ≡ assumed_of seen
+  assumed_same = ap (λ (ls : List ℤ). assumed_in ls (map reason_clause b.reasons)) g.lits ∙ (ap (assumed_in (a.lits ++ g.more)) (causes_grown a b g)
+      ∙ (assumed_grown a.lits (map reason_clause a.reasons) g.more g.causes (length-map a.reasons reason_clause ∙ even) ∙ ap assumed_of view))
 
   pub found_some : (hung : Hung) (head r : ℕ) → IsPropagating clauses hung b head → IsFalse clauses b.lits r → IsFound seen (standing_of clauses b units) (Some r)
   found_some hung head r p f = (

@@ -7,7 +7,7 @@ use Rattle.clause_core.specs.Clause.{Clause, SameSet}
 use Rattle.clause_core.specs.UnitPropagation.{IsUnit, IsFalsified, IsFixpoint, IsRefuted}
 use Rattle.unit_prop.specs.declared.assumed.Assumed.{Assumed}
 use Rattle.unit_prop.specs.declared.assumed.Assumed.TheVariants.{Fresh, Known, Opposed}
-use Rattle.unit_prop.specs.Trail.{variable, AreApart, AreWithin}
+use Rattle.unit_prop.specs.Trail.{signed_variable, AreDistinctVariables, AreLiteralsUpTo}
 
 -- the greatest variable, what stands in the order in which it came, and for each place the clause that led to it, None where it was assumed
 pub record TrailView : Type 0 where
@@ -58,14 +58,14 @@ IsReason clauses before l r = (c : Clause) × (clause_at clauses r ≡ Some c) �
 -- Each literal that stands was assumed, or forced by a live clause when those before it stood.
 pub record IsSound (s : Standing) : Type 0 where
   pub paired : length s.trail.reasons ≡ length s.trail.literals
-  pub within : AreWithin s.trail.greatest s.trail.literals
-  pub apart : AreApart s.trail.literals
+  pub within : AreLiteralsUpTo s.trail.greatest s.trail.literals
+  pub apart : AreDistinctVariables s.trail.literals
   pub forced : (i r : ℕ) → i < length s.trail.literals → reason_at s.trail.reasons i ≡ Some r →
       IsReason s.clauses (take i s.trail.literals) (at s.trail.literals i) r
 
 -- no literal was assumed
-abbrev pub IsFree : Standing → Type 0
-IsFree s = (i : ℕ) → i < length s.trail.literals → reason_at s.trail.reasons i ≢ None
+abbrev pub HasNoAssumption : Standing → Type 0
+HasNoAssumption s = (i : ℕ) → i < length s.trail.literals → reason_at s.trail.reasons i ≢ None
 
 -- The first literals are those of unit clauses: each is forced by one, and for each unit clause its literal is there, or its negation
 -- from an earlier clause.
@@ -126,12 +126,12 @@ abbrev pub IsConflict : Standing → ℕ → Type 0
 IsConflict s r = (c : Clause) × (clause_at s.clauses r ≡ Some c) × IsFalsified s.trail.literals c
 
 -- every consequence stands, without a conflict
-abbrev pub IsSettled : Standing → Type 0
-IsSettled s = IsFixpoint (live_of s.clauses) s.trail.literals
+abbrev pub IsPropagated : Standing → Type 0
+IsPropagated s = IsFixpoint (live_of s.clauses) s.trail.literals
 
 -- What propagation has found: a conflict that a chain reaches from what is assumed, or that no chain reaches one.
 abbrev pub IsFound : Standing → Standing → Option ℕ → Type 0
-IsFound old new None = IsSettled new × (IsRefuted (live_of old.clauses) (assumed_of old) → ⊥)
+IsFound old new None = IsPropagated new × (IsRefuted (live_of old.clauses) (assumed_of old) → ⊥)
 IsFound old new (Some r) = IsConflict new r × IsRefuted (live_of old.clauses) (assumed_of old)
 
 -- what becomes of an assumption
@@ -142,18 +142,18 @@ Assumes old l Opposed new = (new ≡ old) × Contains old.trail.literals (neg_�
 
 -- why a variable stands: the reason at its place; None where it is open too
 abbrev pub IsReasonOf : TrailView → ℕ → Option ℕ → Type 0
-IsReasonOf t v None = (i : ℕ) → i < length t.literals → variable (at t.literals i) ≡ v → reason_at t.reasons i ≡ None
-IsReasonOf t v (Some r) = (i : ℕ) × (i < length t.literals) × (variable (at t.literals i) ≡ v) × (reason_at t.reasons i ≡ Some r)
+IsReasonOf t v None = (i : ℕ) → i < length t.literals → signed_variable (at t.literals i) ≡ v → reason_at t.reasons i ≡ None
+IsReasonOf t v (Some r) = (i : ℕ) × (i < length t.literals) × (signed_variable (at t.literals i) ≡ v) × (reason_at t.reasons i ≡ Some r)
 
 -- one more clause is live, and only the literals of unit clauses stand
-pub record Adds (old : Standing) (c : Clause) (r : ℕ) (new : Standing) : Type 0 where
+pub record AddsClause (old : Standing) (c : Clause) (r : ℕ) (new : Standing) : Type 0 where
   pub place : r ≡ length old.clauses
   pub clauses : new.clauses ≡ old.clauses ++ Some c ∷ []
   pub greatest : new.trail.greatest ≡ old.trail.greatest
   pub alone : StandsAlone new
 
 -- one clause is live no longer, and only the literals of unit clauses stand
-pub record Removes (old : Standing) (r : ℕ) (new : Standing) : Type 0 where
+pub record RemovesClause (old : Standing) (r : ℕ) (new : Standing) : Type 0 where
   pub clauses : new.clauses ≡ slice_set old.clauses r None
   pub greatest : new.trail.greatest ≡ old.trail.greatest
   pub alone : StandsAlone new

@@ -2,7 +2,7 @@
 ghost use Rattle.std.specs.Prelude.{◌≡◌, ◌+◌, ◌*◌, ◌<◌, ◌≤◌, ◌++◌, ◌∷◌, [], length, pos, OnOk, OnErr, None, Some, IsSome, vec_len, vec_capacity};
 ghost use Rattle.clause_core.specs.Clause.{Clause as Literals};
 ghost use Rattle.unit_prop.specs.Standing.{clause_at};
-ghost use Rattle.unit_prop.specs.Visits.{AreClauses, IsKept};
+ghost use Rattle.unit_prop.specs.Visits.{AreClauses, IsVisitedUpTo};
 ghost use Rattle.unit_prop.specs.Ground.{AreShorts, IsGround, Forgets};
 
 use crate::trail::Trail;
@@ -43,13 +43,13 @@ pub(crate) fn stand(
     refuted: &mut Option<u32>,
     place: u32,
 )
-    requires kept { IsKept clauses.now trail.old 0 }
+    requires kept { IsVisitedUpTo clauses.now trail.old 0 }
     requires clauses { AreClauses trail.old.max clauses.now }
     requires few { length clauses.now < 4294967295 }
     requires ground { IsGround clauses.now place trail.old.lits trail.old.reasons refuted.old }
     requires live { (c : Literals) × (clause_at clauses.now place ≡ Some c) × (length c < 2) }
     ensures max { trail.new.max ≡ trail.old.max }
-    ensures kept { IsKept clauses.now trail.new 0 }
+    ensures kept { IsVisitedUpTo clauses.now trail.new 0 }
     ensures ground { IsGround clauses.now (place + 1) trail.new.lits trail.new.reasons refuted.new }
 {
     let Some(clause) = &clauses[place as usize] else {
@@ -75,13 +75,13 @@ pub(crate) fn stand_all(
     trail: &mut Trail,
     refuted: &mut Option<u32>,
 )
-    requires kept { IsKept clauses.now trail.old 0 }
+    requires kept { IsVisitedUpTo clauses.now trail.old 0 }
     requires clauses { AreClauses trail.old.max clauses.now }
     requires few { length clauses.now < 4294967295 }
     requires shorts { AreShorts clauses.now shorts.now }
     requires nothing { (trail.old.lits ≡ []) × (refuted.old ≡ None) }
     ensures max { trail.new.max ≡ trail.old.max }
-    ensures kept { IsKept clauses.now trail.new 0 }
+    ensures kept { IsVisitedUpTo clauses.now trail.new 0 }
     ensures ground { IsGround clauses.now (length clauses.now) trail.new.lits trail.new.reasons refuted.new }
 {
     for &place in shorts {

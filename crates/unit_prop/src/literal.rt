@@ -1,7 +1,7 @@
 // Signed literals and their numbers.
 ghost use Rattle.std.specs.Prelude.{◌≡◌, neg_ℤ};
 ghost use Rattle.unit_prop.specs.Literals.{IsLiteral};
-ghost use Rattle.unit_prop.specs.Trail.{variable};
+ghost use Rattle.unit_prop.specs.Trail.{signed_variable};
 ghost use Rattle.unit_prop.specs.Watches.{code};
 
 /// The number of a literal among those of its kind: 2v for the variable v, and 2v + 1 for its negation.
@@ -23,7 +23,7 @@ pub(crate) fn negation(lit: i32) -> i32
 
 /// The variable of a literal.
 pub(crate) fn variable_of(lit: i32) -> u32
-    ensures { result ≡ variable lit }
+    ensures { result ≡ signed_variable lit }
 {
     lit.unsigned_abs()
 }

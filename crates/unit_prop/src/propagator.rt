@@ -1,18 +1,18 @@
 // Clauses, and what stands over them.
 ghost use Rattle.std.specs.Prelude.{◌≡◌, ◌≢◌, ◌↔◌, ◌<◌, ◌≤◌, ◌^◌, [], length, neg_ℤ, ℤ, IfOk, IfSome, MatchOption, OnErr, None, IsNone, IsSome, IsTrue, Some};
 ghost use Rattle.std.specs.List.{Contains};
-ghost use Rattle.unit_prop.specs.Trail.{IsWithin, HasValue};
+ghost use Rattle.unit_prop.specs.Trail.{IsLiteralUpTo, HasValue};
 ghost use Rattle.unit_prop.specs.Standing.{
   Standing,
   IsSound,
-  IsFree,
+  HasNoAssumption,
   StandsAlone,
   IsMark,
   Propagates,
   IsFound,
   Assumes,
-  Adds,
-  Removes,
+  AddsClause,
+  RemovesClause,
   IsReasonOf,
   HasSetAt,
   clause_at,
@@ -86,8 +86,8 @@ impl Propagator {
 
     /// One more clause. Only the literals of unit clauses stand after it.
     pub fn add(&mut self, clause: &Clause) -> Result<Ref, Memory>
-        requires within { (l : ℤ) → Contains clause.now l → IsWithin self.old.trail.greatest l }
-        ensures ok { IfOk result (λ r. Adds self.old clause.now r self.new) }
+        requires within { (l : ℤ) → Contains clause.now l → IsLiteralUpTo self.old.trail.greatest l }
+        ensures ok { IfOk result (λ r. AddsClause self.old clause.now r self.new) }
         ensures few { IfOk result (λ r. r < 2 ^ 31) }
         ensures err { OnErr result (self.new ≡ self.old) }
     {
@@ -112,7 +112,7 @@ impl Propagator {
 
     /// One more clause, two of whose literals are not false: it says nothing yet, and what stands still does.
     pub fn add_open(&mut self, clause: &Clause, first: i32, second: i32) -> Result<Ref, Memory>
-        requires within { (l : ℤ) → Contains clause.now l → IsWithin self.old.trail.greatest l }
+        requires within { (l : ℤ) → Contains clause.now l → IsLiteralUpTo self.old.trail.greatest l }
         requires two { Contains clause.now first × Contains clause.now second × (first ≢ second) }
         requires open { (Contains self.old.trail.literals (neg_ℤ first) → ⊥) ×
             (Contains self.old.trail.literals (neg_ℤ second) → ⊥) }
@@ -132,7 +132,7 @@ impl Propagator {
     /// One clause less. Only the literals of unit clauses stand after it.
     pub fn remove(&mut self, reference: Ref)
         requires live { IsSome (clause_at self.old.clauses reference) }
-        ensures { Removes self.old reference self.new }
+        ensures { RemovesClause self.old reference self.new }
     {
         let place = reference.place;
         let len = len_of(&self.clauses, place);
@@ -179,7 +179,7 @@ impl Propagator {
 
     /// Only `Fresh` changes anything.
     pub fn assume(&mut self, lit: i32) -> Assumed
-        requires { IsWithin self.old.trail.greatest lit }
+        requires { IsLiteralUpTo self.old.trail.greatest lit }
         ensures stands { Assumes self.old lit result self.new }
         ensures sound { IsSound self.old }
     {
@@ -219,7 +219,7 @@ impl Propagator {
 
     /// Whether a literal is true or false, or neither.
     pub fn value(&self, lit: i32) -> Option<bool>
-        requires { IsWithin self.now.trail.greatest lit }
+        requires { IsLiteralUpTo self.now.trail.greatest lit }
         ensures { HasValue self.now.trail.literals lit result }
     {
         self.trail.value(lit)

@@ -21,7 +21,7 @@ ghost use Rattle.std.specs.Prelude.{
   neg_ℤ,
 };
 ghost use Rattle.std.specs.List.{Contains};
-ghost use Rattle.unit_prop.specs.Trail.{HasValue, IsOpen, IsWithin, AreWithin, AreApart, variable};
+ghost use Rattle.unit_prop.specs.Trail.{HasValue, IsOpen, IsLiteralUpTo, AreLiteralsUpTo, AreDistinctVariables, signed_variable};
 
 use crate::literal::{code_of, negation, variable_of};
 use graph_core::Memory;
@@ -85,8 +85,8 @@ impl Trail {
 
     pub(crate) fn lits(&self) -> &[i32]
         ensures value { result.now ≡ self.now.lits }
-        ensures within { AreWithin self.now.max self.now.lits }
-        ensures apart { AreApart self.now.lits }
+        ensures within { AreLiteralsUpTo self.now.max self.now.lits }
+        ensures apart { AreDistinctVariables self.now.lits }
     {
         self.lits.as_slice()
     }
@@ -95,7 +95,7 @@ impl Trail {
     pub(crate) fn lit(&self, at: u32) -> i32
         requires { at < length self.now.lits }
         ensures value { result ≡ slice_index_or self.now.lits at (pos 0) }
-        ensures within { IsWithin self.now.max result }
+        ensures within { IsLiteralUpTo self.now.max result }
         ensures small { self.now.max < 2147483648 }
     {
         self.lits[at as usize]
@@ -111,7 +111,7 @@ impl Trail {
 
     /// Whether a literal is true or false.
     pub(crate) fn value(&self, lit: i32) -> Option<bool>
-        requires { IsWithin self.now.max lit }
+        requires { IsLiteralUpTo self.now.max lit }
         ensures value { HasValue self.now.lits lit result }
         ensures once { Contains self.now.lits lit → Contains self.now.lits (neg_ℤ lit) → ⊥ }
     {
@@ -119,7 +119,7 @@ impl Trail {
     }
 
     pub(crate) fn is_true(&self, lit: i32) -> bool
-        requires { IsWithin self.now.max lit }
+        requires { IsLiteralUpTo self.now.max lit }
         ensures { MatchBool result (Contains self.now.lits lit) (Contains self.now.lits lit → ⊥) }
     {
         match self.value(lit) {
@@ -129,7 +129,7 @@ impl Trail {
     }
 
     pub(crate) fn is_false(&self, lit: i32) -> bool
-        requires { IsWithin self.now.max lit }
+        requires { IsLiteralUpTo self.now.max lit }
         ensures { MatchBool result (Contains self.now.lits (neg_ℤ lit)) (Contains self.now.lits (neg_ℤ lit) → ⊥) }
     {
         match self.value(lit) {
@@ -141,7 +141,7 @@ impl Trail {
     /// The clause that led to a variable which stands.
     pub(crate) fn reason(&self, var: u32) -> u32
         requires { var ≤ self.now.max }
-        ensures { (i : ℕ) → i < length self.now.lits → variable (slice_index_or self.now.lits i (pos 0)) ≡ var →
+        ensures { (i : ℕ) → i < length self.now.lits → signed_variable (slice_index_or self.now.lits i (pos 0)) ≡ var →
             result ≡ slice_index self.now.reasons i }
     {
         self.reasons[var as usize]
@@ -152,15 +152,15 @@ impl Trail {
         requires some { 0 < var }
         requires within { var ≤ self.now.max }
         ensures { MatchBool result
-            ((i : ℕ) → i < length self.now.lits → variable (slice_index_or self.now.lits i (pos 0)) ≢ var)
-            ((i : ℕ) × (i < length self.now.lits) × (variable (slice_index_or self.now.lits i (pos 0)) ≡ var)) }
+            ((i : ℕ) → i < length self.now.lits → signed_variable (slice_index_or self.now.lits i (pos 0)) ≢ var)
+            ((i : ℕ) × (i < length self.now.lits) × (signed_variable (slice_index_or self.now.lits i (pos 0)) ≡ var)) }
     {
         self.values[2 * var as usize].is_none()
     }
 
     /// A literal comes to stand.
     pub(crate) fn push(&mut self, lit: i32, reason: u32, visited: u32)
-        requires lit { IsWithin self.old.max lit }
+        requires lit { IsLiteralUpTo self.old.max lit }
         requires open { IsOpen self.old.lits lit }
         ensures { self.new ≡ record {
           max = self.old.max;

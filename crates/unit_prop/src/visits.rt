@@ -24,9 +24,9 @@ ghost use Rattle.clause_core.specs.Clause.{Clause as Literals};
 ghost use Rattle.clause_core.specs.UnitPropagation.{IsUnit};
 ghost use Rattle.unit_prop.specs.Literals.{IsLiteral};
 ghost use Rattle.unit_prop.specs.Watches.{none};
-ghost use Rattle.unit_prop.specs.Trail.{IsWithin};
+ghost use Rattle.unit_prop.specs.Trail.{IsLiteralUpTo};
 ghost use Rattle.unit_prop.specs.Standing.{clause_at};
-ghost use Rattle.unit_prop.specs.Visits.{AreClauses, IsKept, Grows, Settles, IsChosen, IsFalse, IsPropagating, partner};
+ghost use Rattle.unit_prop.specs.Visits.{AreClauses, IsVisitedUpTo, GainsLiterals, Settles, IsChosenWatch, IsFalse, IsPropagating, partner};
 
 use crate::literal::negation;
 use crate::trail::Trail;
@@ -56,7 +56,7 @@ fn partner_of(node: u32) -> u32
 
 // A literal of the clause that isn't false, other than this one.
 fn replacement(trail: &Trail, lits: &[i32], other: i32) -> Option<i32>
-    requires { All (IsWithin trail.now.max) lits.now }
+    requires { All (IsLiteralUpTo trail.now.max) lits.now }
     ensures { MatchOption result
         (All (λ l. (l ≡ other) ⊎ Contains trail.now.lits (neg_ℤ l)) lits.now)
         (λ l. Contains lits.now l × (l ≢ other) × (Contains trail.now.lits (neg_ℤ l) → ⊥)) }
@@ -77,14 +77,14 @@ fn settle(
     other: i32,
     head: u32,
 ) -> Settled
-    requires kept { IsKept clauses.now trail.old head }
+    requires kept { IsVisitedUpTo clauses.now trail.old head }
     requires clauses { AreClauses trail.old.max clauses.now }
     requires reference { reference < none }
     requires place { reference < length clauses.now }
-    requires other { (other ≡ pos 0) ⊎ IsWithin trail.old.max other }
+    requires other { (other ≡ pos 0) ⊎ IsLiteralUpTo trail.old.max other }
     requires watched { (c : Literals) → clause_at clauses.now reference ≡ Some c → Contains c other }
-    ensures kept { IsKept clauses.now trail.new head }
-    ensures grows { Grows trail.old trail.new }
+    ensures kept { IsVisitedUpTo clauses.now trail.new head }
+    ensures grows { GainsLiterals trail.old trail.new }
     ensures settles { Settles clauses.now reference other head trail.old result trail.new }
 {
     if other == 0 {
@@ -117,17 +117,17 @@ fn next_literal(
     false_lit: i32,
     head: u32,
 ) -> i32
-    requires kept { IsKept clauses.now trail.old head }
+    requires kept { IsVisitedUpTo clauses.now trail.old head }
     requires clauses { AreClauses trail.old.max clauses.now }
     requires reference { reference < none }
     requires place { reference < length clauses.now }
-    requires other { (other ≡ pos 0) ⊎ IsWithin trail.old.max other }
+    requires other { (other ≡ pos 0) ⊎ IsLiteralUpTo trail.old.max other }
     requires watched { (c : Literals) → clause_at clauses.now reference ≡ Some c → Contains c other }
     requires conflict { IfSome conflict.old (IsFalse clauses.now trail.old.lits) }
-    ensures kept { IsKept clauses.now trail.new head }
-    ensures grows { Grows trail.old trail.new }
+    ensures kept { IsVisitedUpTo clauses.now trail.new head }
+    ensures grows { GainsLiterals trail.old trail.new }
     ensures earlier { conflict.new ≡ None → conflict.old ≡ None }
-    ensures chosen { IsChosen clauses.now reference other false_lit head trail.new conflict.new result }
+    ensures chosen { IsChosenWatch clauses.now reference other false_lit head trail.new conflict.new result }
 {
     if conflict.is_some() {
         return false_lit;
@@ -153,7 +153,7 @@ pub(crate) fn visit(
 ) -> Option<u32>
     requires propagating { IsPropagating clauses.now watches.old trail.old at }
     requires place { at < length trail.old.lits }
-    ensures grows { Grows trail.old trail.new }
+    ensures grows { GainsLiterals trail.old trail.new }
     ensures kept { MatchOption result
         (IsPropagating clauses.now watches.new trail.new (at + 1))
         (λ r. IsPropagating clauses.now watches.new trail.new at × IsFalse clauses.now trail.new.lits r) }
@@ -189,7 +189,7 @@ pub(crate) fn visit_all(
 ) -> Option<u32>
     requires { IsPropagating clauses.now watches.old trail.old head.old }
     ensures kept { IsPropagating clauses.now watches.new trail.new head.new }
-    ensures grows { Grows trail.old trail.new }
+    ensures grows { GainsLiterals trail.old trail.new }
     ensures outcome { MatchOption result
         (head.new ≡ length trail.new.lits)
         (λ r. IsFalse clauses.now trail.new.lits r) }

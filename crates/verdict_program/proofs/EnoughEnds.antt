@@ -11,7 +11,7 @@ use Rattle.mv_desk.specs.View.{View}
 use Rattle.verdict_program.specs.declared.answer.Answer.{Answer}
 use Rattle.verdict_program.specs.Answer.{status_of, status_of_verify}
 use Rattle.verdict_program.specs.EnoughBudget.{HasEnoughBudget}
-use Rattle.verdict_program.specs.Runs.{EndsAsDue, EndsWith, IsRight, IsRightOf, files_of, standard, task_of}
+use Rattle.verdict_program.specs.Runs.{EndsAsDue, EndsWith, IsRight, IsRightOf, files_asked, standard, task_asked}
 use Rattle.verdict_program.proofs.Asking.{no_command, one_command}
 use Rattle.verdict_program.proofs.StopFacts.{gives_as_due}
 
@@ -21,10 +21,10 @@ module _ (words : List (List ℕ)) (a b c : View) (given : Answer) (status : ℕ
 
   verify_ends : IsRightOf asks a b given → EndsAsDue 0 (status_of given)
   verify_ends r =
-      let told = enough_is_proved standard.graph (task_of h.1 h.2 h.3 h.4) (files_of h.0) a b r.0 r.1 r.3.0 in
+      let told = enough_is_proved standard.graph (task_asked h.1 h.2 h.3 h.4) (files_asked h.0) a b r.0 r.1 r.3.0 in
       subst (λ x. EndsAsDue 0 (status_of x)) (sym r.2)
       (gives_as_due a b verdict.Stopped status_of_verify (λ why. refl) verdict.Proved r.0
-      (subst (λ o. IfSome o (λ file. IsEnough standard.graph (task_of h.1 h.2 h.3 h.4) file → GivesDue verdict.Stopped a b verdict.Proved r.0)) h.7 told h.8))
+      (subst (λ o. IfSome o (λ file. IsEnough standard.graph (task_asked h.1 h.2 h.3 h.4) file → GivesDue verdict.Stopped a b verdict.Proved r.0)) h.7 told h.8))
 
   answer_ends : IsRight words a b given → EndsAsDue 0 (status_of given)
   answer_ends (inl none) = absurd (no_command words asks h.5 none.1)

@@ -6,14 +6,14 @@ use Rattle.command_line.specs.declared.command.Command.TheVariants.{Check, Check
 use Rattle.graph_core.specs.Graph.Operands.{profile_of}
 use Rattle.graph_maker.specs.Designed.{designed}
 use Rattle.joint_checker.specs.Files.{HasGraph}
-use Rattle.joint_prover.specs.declared.rewriting.Rewriting.{Rewriting}
+use Rattle.joint_prover.specs.declared.note.Note.{Note}
 use Rattle.joint_prover.specs.declared.verdict.Tried.{Tried}
 use Rattle.joint_prover.specs.Notes.{IsNote, cut_of}
 use Rattle.joint_prover.specs.Tries.{AreTried}
 use Rattle.joint_prover.specs.Verdicts.{HaveManyOnes, HoldsPair, IsFirstAbove}
 use Rattle.mv_desk.specs.View.{View, Rose, bytes_under}
 use Rattle.pair_trim.specs.Trimming.{HoldsTrimmed}
-use Rattle.same_core.specs.Deciding.{HoldsEqual, IsDifference}
+use Rattle.same_core.specs.Deciding.{HoldsEqual, IsPairDifference}
 use Rattle.same_core.specs.Files as pair
 use Rattle.verdict_program.specs.declared.answer.Answer.{Answer}
 use Rattle.verdict_program.specs.declared.evaluated.Evaluated.TheVariants.{TooGreat}
@@ -22,27 +22,27 @@ use Rattle.verdict_program.specs.Evaluation.{IsValueDue}
 use Rattle.verdict_program.specs.Headline.{AreTheSame, IsAsClaimed}
 use Rattle.verdict_program.specs.Making.{text_for}
 use Rattle.verdict_program.specs.Trial.{IsAcceptedWith, IsUndecidedWith, OfMade, plan_of}
-use Rattle.verdict_program.specs.Runs.{DiffersSomewhere, EndsAsDue, HasSpentPair, IsDueOf, IsTold, TellsNames, files_of, pair_of, standard, task_of, trim_of}
+use Rattle.verdict_program.specs.Runs.{DiffersSomewhere, EndsAsDue, HasSpentPair, IsDueOf, TellsHeld, TellsNames, files_asked, pair_asked, standard, task_asked, trim_files_asked}
 use Rattle.verdict_program.proofs.Told.{none_told}
 
 -- what status 0 means
 abbrev pub Succeeds : Command → View → View → Type 0
 Succeeds (Check files claim) a b = IsAsClaimed a files.graph claim
 Succeeds (Verify files claim budget conflicts version) a b =
-    IsTold a → TellsNames a → (noted : Option Rewriting) × HoldsPair (task_of claim budget conflicts version) (files_of files) b standard.graph noted
+    TellsHeld a → TellsNames a → (noted : Option Note) × HoldsPair (task_asked claim budget conflicts version) (files_asked files) b standard.graph noted
 Succeeds (Eval graph x y order addend) a b = ⊤
-Succeeds (Make design bits adder out) a b = IsTold a → TellsNames a → b.held out ≡ Some (Some (text_for out (designed design bits adder)))
-Succeeds (Trial number) a b = (n : Rewriting) × OfMade (plan_of number) (IsAcceptedWith n)
-Succeeds (Same files conflicts) a b = AreTheSame a files.graph files.other × (IsTold a → TellsNames a → HoldsEqual standard.graph conflicts (pair_of files) b)
+Succeeds (Make design bits adder out) a b = TellsHeld a → TellsNames a → b.held out ≡ Some (Some (text_for out (designed design bits adder)))
+Succeeds (Trial number) a b = (n : Note) × OfMade (plan_of number) (IsAcceptedWith n)
+Succeeds (Same files conflicts) a b = AreTheSame a files.graph files.other × (TellsHeld a → TellsNames a → HoldsEqual standard.graph conflicts (pair_asked files) b)
 Succeeds (CheckSame files) a b = AreTheSame a files.graph files.other
-Succeeds (Trim files claim) a b = IsAsClaimed a files.graph claim × (IsTold a → TellsNames a → HoldsTrimmed standard claim (trim_of files) b)
+Succeeds (Trim files claim) a b = IsAsClaimed a files.graph claim × (TellsHeld a → TellsNames a → HoldsTrimmed standard claim (trim_files_asked files) b)
 
 -- where statuses 1, 2 and 5 come
 abbrev pub IsWrongFor : Command → View → Type 0
 IsWrongFor (Verify files claim budget conflicts version) a =
-    HasGraph (profile_of claim.add) standard.graph (bytes_under a files.graph) (λ g. DiffersSomewhere g claim × ((n : Rewriting) × IsNote g claim conflicts n))
+    HasGraph (profile_of claim.add) standard.graph (bytes_under a files.graph) (λ g. DiffersSomewhere g claim × ((n : Note) × IsNote g claim conflicts n))
 IsWrongFor (Same files conflicts) a =
-    pair.HasPair standard.graph (pair.texts_of a (pair_of files)) (λ g h. (inputs : List Bool) × IsDifference g h inputs)
+    pair.HasPair standard.graph (pair.compared_texts_of a (pair_asked files)) (λ g h. (inputs : List Bool) × IsPairDifference g h inputs)
 IsWrongFor command a = ⊥
 
 abbrev pub IsTooGreatFor : Command → View → Type 0
@@ -52,8 +52,8 @@ IsTooGreatFor command a = ⊥
 abbrev pub IsUndecidedFor : Command → View → Type 0
 IsUndecidedFor (Verify files claim budget conflicts version) a =
     HasGraph (profile_of claim.add) standard.graph (bytes_under a files.graph) (λ g. (step : ℕ) × (size : ℕ) × IsFirstAbove g claim budget step size ×
-    ((n : Rewriting) × IsNote g claim conflicts n × (tried : List Tried) × AreTried g claim budget (cut_of n) tried) × HaveManyOnes g claim)
-IsUndecidedFor (Trial number) a = (step : ℕ) × (size : ℕ) × (n : Rewriting) × OfMade (plan_of number) (IsUndecidedWith step size n)
+    ((n : Note) × IsNote g claim conflicts n × (tried : List Tried) × AreTried g claim budget (cut_of n) tried) × HaveManyOnes g claim)
+IsUndecidedFor (Trial number) a = (step : ℕ) × (size : ℕ) × (n : Note) × OfMade (plan_of number) (IsUndecidedWith step size n)
 IsUndecidedFor (Same files conflicts) a = HasSpentPair conflicts a files
 IsUndecidedFor command a = ⊥
 
@@ -65,11 +65,11 @@ pub record Facts (command : Command) (a b : View) (given : Answer) : Type 0 wher
   pub five : status_of given ≡ 5 → IsUndecidedFor command a
   pub six : status_of given ≡ 6 → Rose a.read_faults b.read_faults
   pub seven : status_of given ≡ 7 → Rose a.write_faults b.write_faults
-  pub due : IsTold a → (due : Answer) → IsDueOf command a due → EndsAsDue (status_of due) (status_of given)
+  pub due : TellsHeld a → (due : Answer) → IsDueOf command a due → EndsAsDue (status_of due) (status_of given)
 
 -- ---- what is told
 
-pub told_bytes : (a : View) → IsTold a → (name : List ℕ) → IsSome (bytes_under a name)
+pub told_bytes : (a : View) → TellsHeld a → (name : List ℕ) → IsSome (bytes_under a name)
 told_bytes a told name = go (a.held name) (told name)
   where
     go : (file : Option (Option (List ℕ))) → IsSome file → IsSome (option_map (λ bytes. unwrap_or bytes []) file)

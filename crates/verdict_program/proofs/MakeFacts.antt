@@ -11,7 +11,7 @@ use Rattle.graph_maker.specs.declared.adder.Adder.{Adder}
 use Rattle.graph_maker.specs.declared.design.Design.{Design}
 use Rattle.verdict_program.specs.Answer.{status_of, status_of_make}
 use Rattle.verdict_program.specs.Making.{IsMade, text_for}
-use Rattle.verdict_program.specs.Runs.{EndsAsDue, IsTold, TellsNames}
+use Rattle.verdict_program.specs.Runs.{EndsAsDue, TellsHeld, TellsNames}
 use Rattle.verdict_program.proofs.Facts.{Facts}
 use Rattle.verdict_program.proofs.StopFacts.{is_read_fault, is_write_fault, stop_is_apart}
 use Rattle.verdict_program.proofs.MakingLemmas.{written_is_held}
@@ -20,7 +20,7 @@ module _ (design : Design) (bits : ℕ) (adder : Adder) (out : List ℕ) (a b : 
   abbrev Is : Made → Type 0
   Is outcome = IsMade (text_for out (designed design bits adder)) out a b outcome
 
-  zero : (outcome : Made) → Is outcome → status_of_make outcome ≡ 0 → IsTold a → TellsNames a → b.held out ≡ Some (Some (text_for out (designed design bits adder)))
+  zero : (outcome : Made) → Is outcome → status_of_make outcome ≡ 0 → TellsHeld a → TellsNames a → b.held out ≡ Some (Some (text_for out (designed design bits adder)))
   zero made.Written h e told names = written_is_held out (text_for out (designed design bits adder)) a b told names h
   zero (made.Stopped why) h e told names = absurd ((stop_is_apart why).zero e)
 

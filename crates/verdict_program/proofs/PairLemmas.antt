@@ -9,8 +9,8 @@ use Rattle.graph_core.specs.declared.profile.Profile.TheVariants.{Any}
 use Rattle.mv_desk.specs.View.{View, bytes_under}
 use Rattle.mv_desk.specs.declared.limits.Limits.{Limits}
 use Rattle.mv_desk.specs.declared.slot.Slot.TheVariants as slot
-use Rattle.same_core.specs.Deciding.{IsAnswer, StopsAt}
-use Rattle.same_core.specs.Files.{Files}
+use Rattle.same_core.specs.Deciding.{IsCompared, StopsAtClauses}
+use Rattle.same_core.specs.Files.{ComparedFiles}
 use Rattle.same_core.specs.Merged.{AgreeOnInputs, AreOfOneShape}
 use Rattle.same_core.specs.declared.verdict.Same.{Same}
 use Rattle.same_core.specs.declared.verdict.Same.TheVariants as same
@@ -27,13 +27,13 @@ are_the_same a files g h spelled other_spelled shape agree =
     some_more (bytes_under a files.graph) (λ bytes. SpellsWithin Any standard.graph bytes g) _
     (λ bytes s. some_more (bytes_under a files.other) (λ more. SpellsWithin Any standard.graph more h) _ (λ more t. (g, h, s.spells, t.spells, shape, agree)) other_spelled) spelled
 
-module _ (limits : Limits) (conflicts : ℕ) (files : Files) (a c : View) where
-  stopped_leaves : (lines : List ClauseLine) (b : View) → StopsAt files.clauses lines b c → ReportStays b c
+module _ (limits : Limits) (conflicts : ℕ) (files : ComparedFiles) (a c : View) where
+  stopped_leaves : (lines : List ClauseLine) (b : View) → StopsAtClauses files.clauses lines b c → ReportStays b c
   stopped_leaves lines b (inl none) = same_leaves b c none
   stopped_leaves lines b (inr w) = slot_leaves slot.Clauses no_clauses files.clauses w.writes.part b w.created c w.creates w.writes.writes
 
   -- `same` leaves the report as it was
-  pub report_stays : (outcome : Same) → IsAnswer limits conflicts files a c outcome → ReportStays a c
+  pub report_stays : (outcome : Same) → IsCompared limits conflicts files a c outcome → ReportStays a c
   report_stays same.Equal (g, spelled, (h, other_spelled, (shape, (agree, (lines, b, written, reads, w))))) =
       leaves_both a b c (reads_leave a b reads.inspects) (slot_leaves slot.Clauses no_clauses files.clauses (same_text lines) b w.created c w.creates w.writes)
   report_stays (same.Differs inputs) h = reads_leave a c h.1

@@ -1,7 +1,7 @@
 -- What follows from an answer of `trial`.
 use Rattle.std.proofs.Common.{◌≡◌, ℕ, refl, subst, sym, arith, inl, inr}
 use Rattle.command_line.specs.declared.command.Command.TheVariants.{Trial}
-use Rattle.joint_prover.specs.declared.rewriting.Rewriting.{Rewriting}
+use Rattle.joint_prover.specs.declared.note.Note.{Note}
 use Rattle.mv_desk.specs.View.{View}
 use Rattle.joint_prover.specs.Tries.{IsWithinBudget}
 use Rattle.joint_prover.specs.Verdicts.{IsFirstAbove}
@@ -13,17 +13,17 @@ use Rattle.verdict_program.specs.declared.plan.Plan.{Plan}
 use Rattle.verdict_program.specs.declared.tested.Tested.{Tested}
 use Rattle.verdict_program.specs.declared.tested.Tested.TheVariants as tested
 use Rattle.verdict_program.specs.Answer.{status_of, status_of_trial}
-use Rattle.verdict_program.specs.Making.{graph_of}
+use Rattle.verdict_program.specs.Making.{planned_graph}
 use Rattle.verdict_program.specs.Runs.{EndsAsDue}
 use Rattle.verdict_program.specs.Trial.{IsAcceptedWith, IsTestDue, IsTested, IsUndecidedWith, OfMade, multiplier_of, plan_of, trial_task}
 use Rattle.verdict_program.proofs.Facts.{Facts}
 
 -- a frontier above the budget, and none
-undecided_not_due : (plan : Plan) (step size : ℕ) (n : Rewriting) → OfMade plan (IsUndecidedWith step size n) →
+undecided_not_due : (plan : Plan) (step size : ℕ) (n : Note) → OfMade plan (IsUndecidedWith step size n) →
     OfMade plan (λ g. IsWithinBudget g trial_task.claim trial_task.budget) → ⊥
 undecided_not_due plan step size n h k =
     let first : IsFirstAbove h.0 trial_task.claim trial_task.budget step size = h.2.first in
-    let within = subst (λ g. IsWithinBudget g trial_task.claim trial_task.budget) (one_graph TwoOperands (ascii_text (graph_of plan)) k.0 h.0 k.1 h.1) k.2 in
+    let within = subst (λ g. IsWithinBudget g trial_task.claim trial_task.budget) (one_graph TwoOperands (ascii_text (planned_graph plan)) k.0 h.0 k.1 h.1) k.2 in
     let low = within step size first.size in
     let high = first.above in
     omega arith
@@ -32,12 +32,12 @@ module _ (number : ℕ) (a b : View) where
   abbrev Is : Tested → Type 0
   Is outcome = IsTested (multiplier_of number) outcome
 
-  zero : (outcome : Tested) → Is outcome → status_of_trial outcome ≡ 0 → (n : Rewriting) × OfMade (plan_of number) (IsAcceptedWith n)
+  zero : (outcome : Tested) → Is outcome → status_of_trial outcome ≡ 0 → (n : Note) × OfMade (plan_of number) (IsAcceptedWith n)
   zero (tested.Accepted m n) h e = (n, h.1)
   zero (tested.Undecided m step size n) h e = absurd (omega arith)
   zero tested.Memory h e = absurd (omega arith)
 
-  five : (outcome : Tested) → Is outcome → status_of_trial outcome ≡ 5 → (step : ℕ) × (size : ℕ) × (n : Rewriting) × OfMade (plan_of number) (IsUndecidedWith step size n)
+  five : (outcome : Tested) → Is outcome → status_of_trial outcome ≡ 5 → (step : ℕ) × (size : ℕ) × (n : Note) × OfMade (plan_of number) (IsUndecidedWith step size n)
   five (tested.Accepted m n) h e = absurd (omega arith)
   five (tested.Undecided m step size n) h e = (step, size, n, h.1)
   five tested.Memory h e = absurd (omega arith)

@@ -27,7 +27,7 @@ use Rattle.joint_prover.specs.Notes.{IsNote, cut_of}
 use Rattle.joint_prover.specs.Pairs.{IsPairFor}
 use Rattle.joint_prover.specs.Verdicts.{HasNote, IsVerdict, IsWrong, IsWrongSum}
 use Rattle.joint_checker.specs.Written.{ReadsGraph, WritesFile, WritesPair}
-use Rattle.joint_prover.specs.declared.rewriting.Rewriting.{Rewriting}
+use Rattle.joint_prover.specs.declared.note.Note.{Note}
 use Rattle.joint_prover.specs.declared.verdict.Tried.{Tried}
 use Rattle.joint_prover.specs.declared.verdict.Verdict.{Verdict}
 use Rattle.joint_prover.specs.declared.verdict.Verdict.TheVariants as verdict
@@ -43,7 +43,7 @@ use Rattle.std.specs.Global.{Global}
 use Rattle.verdict_program.specs.declared.made.Made.TheVariants as answered
 use Rattle.verdict_program.specs.declared.plan.Plan.{Plan}
 use Rattle.verdict_program.specs.Making as making
-use Rattle.verdict_program.specs.Making.{graph_of, text_for}
+use Rattle.verdict_program.specs.Making.{planned_graph, text_for}
 use Rattle.verdict_program.specs.Runs.{SpellsAsClaimed}
 use Rattle.verdict_program.specs.Trial.{HoldsGraph, HoldsTrial, IsAcceptedWith, IsOfMemory, OfMade, no_limits, trial_files, trial_task}
 use Rattle.verdict_program.proofs.MakingLemmas.{design_spells}
@@ -62,23 +62,23 @@ interrupts_in_memory a b none (stop.TooLong at) h = absurd h
 interrupts_in_memory a b none stop.Memory h = tt
 
 -- the note, with what else holds of its cut
-note_of_some : (g : Aig) (n : Rewriting) (noted : Option Rewriting) (P : Option Cut → Type 0) → noted ≡ Some n → HasNote g trial_task noted P →
+note_of_some : (g : Aig) (n : Note) (noted : Option Note) (P : Option Cut → Type 0) → noted ≡ Some n → HasNote g trial_task noted P →
     IsNote g trial_task.claim trial_task.conflicts n × P (cut_of n)
 note_of_some g n noted P same h = subst (λ o. IsSomeAnd o (λ m. IsNote g trial_task.claim trial_task.conflicts m × P (cut_of m))) same h
 
 -- ---- the graph file
 
 -- what was made and written is held
-pub made_is_held : (d e : HonestDesk) (plan : Plan) (g : Aig) (name : List ℕ) → name ≡ trial_files.graph → g ≡ graph_of plan →
-    making.WritesFile name (text_for name g) (view_of d) (view_of e) → HoldsGraph (view_of e) plan
+pub made_is_held : (d e : HonestDesk) (plan : Plan) (g : Aig) (name : List ℕ) → name ≡ trial_files.graph → g ≡ planned_graph plan →
+    making.WritesGraphFile name (text_for name g) (view_of d) (view_of e) → HoldsGraph (view_of e) plan
 made_is_held d e plan g name same_name same_graph w =
-    let at = subst (λ h. making.WritesFile trial_files.graph (text_for trial_files.graph h) (view_of d) (view_of e)) same_graph
-    (subst (λ n. making.WritesFile n (text_for n g) (view_of d) (view_of e)) same_name w) in
-    let file : WritesFile slot.Graph trial_files.graph (ascii_text (graph_of plan)) (view_of d) (view_of e) =
+    let at = subst (λ h. making.WritesGraphFile trial_files.graph (text_for trial_files.graph h) (view_of d) (view_of e)) same_graph
+    (subst (λ n. making.WritesGraphFile n (text_for n g) (view_of d) (view_of e)) same_name w) in
+    let file : WritesFile slot.Graph trial_files.graph (ascii_text (planned_graph plan)) (view_of d) (view_of e) =
     record { created = at.created; creates = at.creates; writes = at.writes } in
-    let opened = is_written_to slot.Graph trial_files.graph (ascii_text (graph_of plan)) (view_of d) (view_of e) file in
+    let opened = is_written_to slot.Graph trial_files.graph (ascii_text (planned_graph plan)) (view_of d) (view_of e) file in
     ap (option_map (λ x. unwrap_or x []))
-    (file_is_held slot.Graph trial_files.graph (ascii_text (graph_of plan)) (view_of d) (view_of e) file ((honest_tells e).named slot.Graph opened) ((honest_tells d).held trial_files.graph))
+    (file_is_held slot.Graph trial_files.graph (ascii_text (planned_graph plan)) (view_of d) (view_of e) file ((honest_tells e).named slot.Graph opened) ((honest_tells d).held trial_files.graph))
 
 -- else memory was wanted
 pub write_refused : (name text : List ℕ) (a b : View) (why : Stop) → making.IsMade text name a b (answered.Stopped why) → IsOfMemory why
@@ -90,10 +90,10 @@ write_refused name text a b (stop.TooLong at) h = absurd h
 
 -- ---- the verdict
 
-module _ (plan : Plan) (some : 1 ≤ plan.bits) (narrow : plan.bits ≤ 64) (a b : View) (noted : Option Rewriting)
-    (held : HoldsGraph a plan) (short : length (ascii_text (graph_of plan)) ≤ 2 ^ 64 - 1) where
+module _ (plan : Plan) (some : 1 ≤ plan.bits) (narrow : plan.bits ≤ 64) (a b : View) (noted : Option Note)
+    (held : HoldsGraph a plan) (short : length (ascii_text (planned_graph plan)) ≤ 2 ^ 64 - 1) where
   abbrev text : List ℕ
-  text = ascii_text (graph_of plan)
+  text = ascii_text (planned_graph plan)
 
   abbrev Is : Verdict → Type 0
   Is v = IsVerdict no_limits.graph trial_task trial_files a b v noted
@@ -154,7 +154,7 @@ module _ (plan : Plan) (some : 1 ≤ plan.bits) (narrow : plan.bits ≤ 64) (a b
     abbrev bytes : Option (Option (List ℕ)) → Option (List ℕ)
     bytes = option_map (λ x. unwrap_or x [])
 
-    pub held_trial : (n : Rewriting) → noted ≡ Some n → HoldsGraph b plan × HoldsTrial b n
+    pub held_trial : (n : Note) → noted ≡ Some n → HoldsGraph b plan × HoldsTrial b n
     held_trial n same =
         let note = note_of_some h.0 n noted Wrote same h.2.1 in
         let wrote = note.1 in
@@ -180,7 +180,7 @@ module _ (plan : Plan) (some : 1 ≤ plan.bits) (narrow : plan.bits ≤ 64) (a b
 
 -- ---- the check
 
-module _ (plan : Plan) (v : View) (n : Rewriting) (held : HoldsGraph v plan) (h : HoldsTrial v n)
+module _ (plan : Plan) (v : View) (n : Note) (held : HoldsGraph v plan) (h : HoldsTrial v n)
     (clauses_short : length h.clause_file ≤ 2 ^ 64 - 1) (algebra_short : length h.algebra_file ≤ 2 ^ 64 - 1) where
   lawful : IsLawfulPair (lengths_of no_limits) h.graph (product_under Separate) h.clause_file h.algebra_file
   lawful = h.pair (lengths_of no_limits) (within_no_limits h.clause_file clauses_short) (within_no_limits h.algebra_file algebra_short)
@@ -219,7 +219,7 @@ module _ (plan : Plan) (v : View) (n : Rewriting) (held : HoldsGraph v plan) (h 
 
   pub accepted_of_made : OfMade plan (IsAcceptedWith n)
   accepted_of_made =
-      let same : h.graph_file ≡ ascii_text (graph_of plan) = ap (λ o. unwrap_or o []) (sym h.graph_held ∙ held) in (
+      let same : h.graph_file ≡ ascii_text (planned_graph plan) = ap (λ o. unwrap_or o []) (sym h.graph_held ∙ held) in (
         h.graph,
         subst (λ bytes. Spells TwoOperands bytes h.graph) same h.spells.spells,
         record {

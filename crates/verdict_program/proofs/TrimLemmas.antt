@@ -7,7 +7,7 @@ use Rattle.mv_desk.specs.View.{View}
 use Rattle.mv_desk.specs.declared.limits.Limits.{Limits}
 use Rattle.mv_desk.specs.declared.slot.Slot.{Slot}
 use Rattle.mv_desk.specs.declared.slot.Slot.TheVariants as slot
-use Rattle.pair_trim.specs.Trimming.{Files, IsAnswer, new_files}
+use Rattle.pair_trim.specs.Trimming.{IsTrimAnswer, TrimmedFiles, new_files}
 use Rattle.pair_trim.specs.declared.answer.TrimAnswer.{TrimAnswer}
 use Rattle.pair_trim.specs.declared.answer.TrimAnswer.TheVariants as trim
 use Rattle.verdict_program.specs.Runs.{ReportStays}
@@ -24,7 +24,7 @@ stopped_leaves : (at : Slot) → slot.Report ≢ at → (name : List ℕ) (P : L
 stopped_leaves at other name P a b (inl none) = same_leaves a b none
 stopped_leaves at other name P a b (inr (text, is, w)) = slot_leaves at other name w.writes.part a w.created b w.creates w.writes.writes
 
-module _ (limits : Limits) (claim : Claim) (files : Files) (a c : View) where
+module _ (limits : Limits) (claim : Claim) (files : TrimmedFiles) (a c : View) where
   pair_stopped : (P : List ℕ → Type 0) (Q : List ℕ → List ℕ → Type 0) (b : View) → StopsWriting (new_files files) P Q b c → ReportStays b c
   pair_stopped P Q b (inl stops) = stopped_leaves slot.Clauses no_clauses files.to_clauses P b c stops
   pair_stopped P Q b (inr (clauses, between, is, w, stops)) =
@@ -32,7 +32,7 @@ module _ (limits : Limits) (claim : Claim) (files : Files) (a c : View) where
       (stopped_leaves slot.Algebra no_algebra files.to_algebra (Q clauses) between c stops)
 
   -- `trim` leaves the report as it was
-  pub trim_leaves_report : (outcome : TrimAnswer) → IsAnswer limits claim files a c outcome → ReportStays a c
+  pub trim_leaves_report : (outcome : TrimAnswer) → IsTrimAnswer limits claim files a c outcome → ReportStays a c
   trim_leaves_report (trim.Trimmed pair) (accepted, (g, spelled, (does, (clauses, algebra, trims, (b, reads, w))))) =
       leaves_both a b c (reads_leave a b reads.inspects) (leaves_both b w.between c
       (whole_leaves slot.Clauses no_clauses files.to_clauses clauses b w.between w.clause_file)

@@ -1,13 +1,13 @@
 -- What follows from an answer of `verify`.
 use Rattle.std.proofs.Common.{◌≡◌, ℕ, List, Option, Some, None, refl, subst, sym, arith, inl, inr}
 use Rattle.std.specs.Prelude.{⊤}
-use Rattle.command_line.specs.Asked.{AreApart}
+use Rattle.command_line.specs.Asked.{HaveDistinctNames}
 use Rattle.command_line.specs.declared.command.Command.TheVariants.{Verify}
 use Rattle.command_line.specs.declared.files.Files as named
 use Rattle.graph_core.specs.Graph.Operands.{profile_of}
 use Rattle.graph_core.specs.declared.claim.Claim.{Claim}
 use Rattle.joint_checker.specs.Files.{HasGraph}
-use Rattle.joint_prover.specs.declared.rewriting.Rewriting.{Rewriting}
+use Rattle.joint_prover.specs.declared.note.Note.{Note}
 use Rattle.joint_prover.specs.declared.verdict.Tried.{Tried}
 use Rattle.joint_prover.specs.Notes.{IsNote, cut_of}
 use Rattle.joint_prover.specs.Tries.{AreTried}
@@ -20,24 +20,24 @@ use Rattle.joint_prover.proofs.CallerLemmas.{proved_pairs_are_held, verdicts_are
 use Rattle.mv_desk.specs.View.{View, Rose, bytes_under}
 use Rattle.verdict_program.specs.declared.answer.Answer.TheVariants as answer
 use Rattle.verdict_program.specs.Answer.{status_of, status_of_verify}
-use Rattle.verdict_program.specs.Runs.{DiffersSomewhere, EndsAsDue, IsTold, TellsNames, files_of, standard, task_of}
+use Rattle.verdict_program.specs.Runs.{DiffersSomewhere, EndsAsDue, TellsHeld, TellsNames, files_asked, standard, task_asked}
 use Rattle.verdict_program.proofs.Facts.{Facts}
 use Rattle.verdict_program.proofs.StopFacts.{gives_as_due, is_read_fault, is_write_fault, stop_is_apart}
 
-module _ (files : named.Files) (claim : Claim) (budget conflicts version : ℕ) (a b : View) (apart : AreApart files) (noted : Option Rewriting) where
+module _ (files : named.Files) (claim : Claim) (budget conflicts version : ℕ) (a b : View) (apart : HaveDistinctNames files) (noted : Option Note) where
   abbrev Is : Verdict → Type 0
-  Is outcome = IsVerdict standard.graph (task_of claim budget conflicts version) (files_of files) a b outcome noted
+  Is outcome = IsVerdict standard.graph (task_asked claim budget conflicts version) (files_asked files) a b outcome noted
 
-  note_there : (g : Aig) (P : Option Cut → Type 0) → HasNote g (task_of claim budget conflicts version) noted P → (n : Rewriting) × IsNote g claim conflicts n × P (cut_of n)
+  note_there : (g : Aig) (P : Option Cut → Type 0) → HasNote g (task_asked claim budget conflicts version) noted P → (n : Note) × IsNote g claim conflicts n × P (cut_of n)
   note_there g P h = go noted h
     where
-      go : (told : Option Rewriting) → HasNote g (task_of claim budget conflicts version) told P → (n : Rewriting) × IsNote g claim conflicts n × P (cut_of n)
+      go : (told : Option Note) → HasNote g (task_asked claim budget conflicts version) told P → (n : Note) × IsNote g claim conflicts n × P (cut_of n)
       go None k = absurd k
       go (Some n) k = (n, k.0, k.1)
 
-  zero : (outcome : Verdict) → Is outcome → status_of_verify outcome ≡ 0 → IsTold a → TellsNames a → HoldsPair (task_of claim budget conflicts version) (files_of files) b standard.graph noted
+  zero : (outcome : Verdict) → Is outcome → status_of_verify outcome ≡ 0 → TellsHeld a → TellsNames a → HoldsPair (task_asked claim budget conflicts version) (files_asked files) b standard.graph noted
   zero verdict.Proved h e told names =
-      proved_pairs_are_held standard.graph (task_of claim budget conflicts version) (files_of files) a b noted (record { held = told; names = names })
+      proved_pairs_are_held standard.graph (task_asked claim budget conflicts version) (files_asked files) a b noted (record { held = told; names = names })
       (record { clauses = apart.clauses; algebra = apart.algebra; certificates = apart.certificates }) h
   zero (verdict.Wrong x y value product) h e told names = absurd (omega arith)
   zero (verdict.WrongSum x y z value sum) h e told names = absurd (omega arith)
@@ -45,7 +45,7 @@ module _ (files : named.Files) (claim : Claim) (budget conflicts version : ℕ) 
   zero (verdict.Stopped why) h e told names = absurd ((stop_is_apart why).zero e)
 
   one : (outcome : Verdict) → Is outcome → status_of_verify outcome ≡ 1 →
-      HasGraph (profile_of claim.add) standard.graph (bytes_under a files.graph) (λ g. DiffersSomewhere g claim × ((n : Rewriting) × IsNote g claim conflicts n))
+      HasGraph (profile_of claim.add) standard.graph (bytes_under a files.graph) (λ g. DiffersSomewhere g claim × ((n : Note) × IsNote g claim conflicts n))
   one verdict.Proved h e = absurd (omega arith)
   one (verdict.Wrong x y value product) h e = let r = h.0 in let n = note_there r.0 (λ used. ⊤) r.2.1 in (r.0, r.1, (inl (x, y, value, product, r.2.0), (n.0, n.1)))
   one (verdict.WrongSum x y z value sum) h e = let r = h.0 in let n = note_there r.0 (λ used. ⊤) r.2.1 in (r.0, r.1, (inr (x, y, z, value, sum, r.2.0), (n.0, n.1)))
@@ -53,7 +53,7 @@ module _ (files : named.Files) (claim : Claim) (budget conflicts version : ℕ) 
   one (verdict.Stopped why) h e = absurd ((stop_is_apart why).one e)
 
   five : (outcome : Verdict) → Is outcome → status_of_verify outcome ≡ 5 →
-      HasGraph (profile_of claim.add) standard.graph (bytes_under a files.graph) (λ g. (step : ℕ) × (size : ℕ) × IsFirstAbove g claim budget step size × ((n : Rewriting) × IsNote g claim conflicts n × (tried : List Tried) × AreTried g claim budget (cut_of n) tried) × HaveManyOnes g claim)
+      HasGraph (profile_of claim.add) standard.graph (bytes_under a files.graph) (λ g. (step : ℕ) × (size : ℕ) × IsFirstAbove g claim budget step size × ((n : Note) × IsNote g claim conflicts n × (tried : List Tried) × AreTried g claim budget (cut_of n) tried) × HaveManyOnes g claim)
   five verdict.Proved h e = absurd (omega arith)
   five (verdict.Wrong x y value product) h e = absurd (omega arith)
   five (verdict.WrongSum x y z value sum) h e = absurd (omega arith)
@@ -90,5 +90,5 @@ module _ (files : named.Files) (claim : Claim) (budget conflicts version : ℕ) 
     six = λ e. six outcome h e;
     seven = λ e. seven outcome h e;
     due = λ told due k. subst (λ d. EndsAsDue (status_of d) (status_of_verify outcome)) (sym k.2)
-        (let file = k.3 in gives_as_due a b verdict.Stopped status_of_verify (λ why. refl) k.0 outcome (verdicts_are_exact standard.graph (task_of claim budget conflicts version) (files_of files) a b file.0 k.0 outcome noted file.1 file.2 h));
+        (let file = k.3 in gives_as_due a b verdict.Stopped status_of_verify (λ why. refl) k.0 outcome (verdicts_are_exact standard.graph (task_asked claim budget conflicts version) (files_asked files) a b file.0 k.0 outcome noted file.1 file.2 h));
   }

@@ -19,13 +19,13 @@ use Rattle.joint_prover.specs.Notes.{IsNote, cut_of}
 use Rattle.joint_prover.specs.Pairs.{IsPairFor}
 use Rattle.joint_prover.specs.Tries.{AreTried, IsWithinBudget}
 use Rattle.joint_prover.specs.Verdicts.{HoldsPair, IsFirstAbove}
-use Rattle.joint_prover.specs.declared.rewriting.Rewriting.{Rewriting}
+use Rattle.joint_prover.specs.declared.note.Note.{Note}
 use Rattle.joint_prover.specs.declared.task.Task.{Task}
 use Rattle.joint_prover.specs.declared.verdict.Tried.{Tried}
 use Rattle.mv_desk.specs.View.{View, bytes_under}
 use Rattle.mv_desk.specs.declared.limits.Limits.{Limits}
 use Rattle.mv_text.specs.LineReading.{lengths_of}
-use Rattle.verdict_program.specs.Making.{graph_of}
+use Rattle.verdict_program.specs.Making.{planned_graph}
 use Rattle.verdict_program.specs.declared.plan.Plan.{Plan}
 use Rattle.verdict_program.specs.declared.tested.Multiplier.{Multiplier}
 use Rattle.verdict_program.specs.declared.tested.Tested.{Tested}
@@ -45,7 +45,7 @@ plan_of number = record { kind = kind_of number; bits = 1 + number / 6 % 64; add
 
 -- with how many gates it has
 abbrev pub multiplier_of : ℕ → Multiplier
-multiplier_of number = record { plan = plan_of number; gates = length (graph_of (plan_of number)).gates }
+multiplier_of number = record { plan = plan_of number; gates = length (planned_graph (plan_of number)).gates }
 
 -- ---- what is said of it
 
@@ -59,10 +59,10 @@ no_limits = record { graph = 2 ^ 64 - 1; certificate = 2 ^ 64 - 1; line = 2 ^ 64
 
 -- Something holds of the graph that the made graph's ascii text spells.
 abbrev pub OfMade : Plan → (Aig → Type 0) → Type 0
-OfMade plan P = (g : Aig) × Spells TwoOperands (ascii_text (graph_of plan)) g × P g
+OfMade plan P = (g : Aig) × Spells TwoOperands (ascii_text (planned_graph plan)) g × P g
 
 -- The graph multiplies, the note has its cause, and there is a lawful pair of certificates: the pair that is written with the note's cut.
-pub record IsAcceptedWith (note : Rewriting) (g : Aig) : Type 0 where
+pub record IsAcceptedWith (note : Note) (g : Aig) : Type 0 where
   pub multiplies : Multiplies g Separate
   pub noted : IsNote g trial_task.claim trial_task.conflicts note
   pub clauses : List ℕ
@@ -72,7 +72,7 @@ pub record IsAcceptedWith (note : Rewriting) (g : Aig) : Type 0 where
 
 -- This is the plain order's first frontier above the budget, the note has its cause, and each plan that was tried before has a frontier
 -- above the budget.
-pub record IsUndecidedWith (step size : ℕ) (note : Rewriting) (g : Aig) : Type 0 where
+pub record IsUndecidedWith (step size : ℕ) (note : Note) (g : Aig) : Type 0 where
   pub first : IsFirstAbove g trial_task.claim trial_task.budget step size
   pub noted : IsNote g trial_task.claim trial_task.conflicts note
   pub tried : List Tried
@@ -103,8 +103,8 @@ trial_files = record { graph = codes "graph"; clauses = codes "clauses"; algebra
 
 -- the graph file is held
 abbrev pub HoldsGraph : View → Plan → Type 0
-HoldsGraph view plan = bytes_under view trial_files.graph ≡ Some (ascii_text (graph_of plan))
+HoldsGraph view plan = bytes_under view trial_files.graph ≡ Some (ascii_text (planned_graph plan))
 
 -- and a lawful pair of certificates for what it spells
-abbrev pub HoldsTrial : View → Rewriting → Type 0
+abbrev pub HoldsTrial : View → Note → Type 0
 HoldsTrial view note = HoldsPair trial_task trial_files view no_limits.graph (Some note)

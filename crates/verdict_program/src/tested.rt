@@ -1,6 +1,6 @@
 // The ends of a trial.
 use crate::plan::Plan;
-use joint_prover::Rewriting;
+use joint_prover::Note;
 
 /// A multiplier that was made.
 #[derive(Clone, Copy)]
@@ -16,14 +16,14 @@ pub enum Tested {
     /// It was proved, and the certificates were accepted; with the note on a rewriting.
     Accepted {
         multiplier: Multiplier,
-        note: Rewriting,
+        note: Note,
     },
     /// All plans passed the budget: the plain order's first frontier above it; with the note on a rewriting.
     Undecided {
         multiplier: Multiplier,
         step: u64,
         size: u64,
-        note: Rewriting,
+        note: Note,
     },
     /// No memory for the multiplier, for its files, or for the work on them.
     Memory,

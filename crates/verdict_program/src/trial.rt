@@ -5,7 +5,7 @@ ghost use Rattle.graph_core.specs.Aiger.Writing.{written};
 ghost use Rattle.joint_checker.specs.Files.{files_of};
 ghost use Rattle.mv_desk.specs.HonestDesk.{held_of};
 ghost use Rattle.verdict_program.specs.declared.tested.Tested.TheVariants.{Memory};
-ghost use Rattle.verdict_program.specs.Making.{graph_of};
+ghost use Rattle.verdict_program.specs.Making.{planned_graph};
 ghost use Rattle.graph_core.specs.Graph.Operands.{product_under};
 ghost use Rattle.graph_core.specs.declared.order.Order.TheVariants.{Separate};
 ghost use Rattle.joint_prover.specs.Verdicts.{IsVerdict};
@@ -20,7 +20,7 @@ use command_line::{BUDGET, CONFLICTS};
 use graph_core::{Claim, Graph, Order, Sign};
 use graph_maker::make;
 use joint_checker::{Checked, check};
-use joint_prover::{Rewriting, Task, Verdict, verify};
+use joint_prover::{Note, Task, Verdict, verify};
 use mv_desk::{Desk, HonestDesk, Limits, Names};
 use std::alloc::Global;
 
@@ -55,7 +55,7 @@ pub fn trial(alloc: Global, number: u64) -> Tested
 
 // The verdict on a made graph, and the check.
 fn test(alloc: Global, multiplier: Multiplier, graph: &Graph) -> Tested
-    requires made { graph.now ≡ graph_of multiplier.plan }
+    requires made { graph.now ≡ planned_graph multiplier.plan }
     requires packed { IsPacked (written graph.now) }
     requires some { 1 ≤ multiplier.plan.bits }
     requires narrow { multiplier.plan.bits ≤ 64 }
@@ -96,11 +96,7 @@ fn judge(alloc: Global, desk: &mut HonestDesk, multiplier: Multiplier) -> Tested
 }
 
 // The verdict on a file, within the default budgets.
-fn verdict_on(
-    alloc: Global,
-    desk: &mut HonestDesk,
-    names: &Names<'_>,
-) -> (Verdict, Option<Rewriting>)
+fn verdict_on(alloc: Global, desk: &mut HonestDesk, names: &Names<'_>) -> (Verdict, Option<Note>)
     ensures { IsVerdict no_limits.graph trial_task (files_of names.now)
         (⟦<HonestDesk as Desk>⟧.seen desk.old) (⟦<HonestDesk as Desk>⟧.seen desk.new) result.0 result.1 }
 {
@@ -114,12 +110,7 @@ fn verdict_on(
 }
 
 // The check of the certificates that a desk holds.
-fn check_pair(
-    alloc: Global,
-    desk: &mut HonestDesk,
-    multiplier: Multiplier,
-    note: Rewriting,
-) -> Tested
+fn check_pair(alloc: Global, desk: &mut HonestDesk, multiplier: Multiplier, note: Note) -> Tested
     requires made { HoldsGraph (⟦<HonestDesk as Desk>⟧.seen desk.old) multiplier.plan }
     requires pair { HoldsTrial (⟦<HonestDesk as Desk>⟧.seen desk.old) note }
     ensures { IsTested multiplier result }

@@ -4,8 +4,9 @@ use Rattle.std.proofs.Common.{refl, sym, ap, subst, ◌∙◌, inl, inr, eq-eqb}
 use Rattle.graph_core.specs.declared.literal.Lit.{Lit}
 use Rattle.graph_core.specs.Text.{space, newline}
 use Rattle.graph_core.specs.Aiger.{Form, Ascii, Binary, Counts, Listing, symbol_bound}
-use Rattle.graph_core.specs.Aiger.Reading.{Stop, Stops, Wrong, ◌>>=◌, Go, Done, No, Bad, advance, scan, from_start, done_if, byte_where, the_byte, byte_at, is_digit, Digits, Before, Behind, judged, ended, digit_step, numeral_at, field_at, number_below, line_at, lines_at, behind_number, one_less, numbers_at, form_of, header_at, lit_of, gate_of, ascii_at, group_step, groups_at, in_range, difference_at, lit, consecutive, gates_at, binary_at, body_at, name_step, symbol_at}
+use Rattle.graph_core.specs.Aiger.Reading.{Stop, Stops, Wrong, ◌>>=◌, Go, Done, No, Bad, advance, scan, from_start, done_if, byte_where, the_byte, byte_at, Digits, Before, Behind, judged, ended, digit_step, numeral_at, field_at, number_below, line_at, lines_at, behind_number, one_less, numbers_at, form_of, header_at, lit_of, gate_of, ascii_at, group_step, groups_at, in_range, difference_at, lit, consecutive, gates_at, binary_at, body_at, name_step, symbol_at}
 use Rattle.graph_core.proofs.OfTexts.Steady.{Outcome, Whole, Steady, both, both_steady, pure, pure_steady, if_steady, started_steady, scan_steady}
+use Rattle.graph_core.specs.Text.Numerals.{is_digit}
 
 pub byte_where_steady : {A : Type 0} (meaning : ℕ → Option A) (b : ℕ) (a : A) → meaning b ≡ Some a → Steady (byte_where meaning)
 byte_where_steady {A} meaning b a e = scan_steady (λ s x. done_if (meaning x)) (λ s. (b ∷ [], inl ((a, []), refl, ap (λ o. advance {A = A} (λ t. Err (Stops [])) b [] (done_if o)) e))) tt

@@ -6,7 +6,7 @@ use Rattle.graph_core.specs.declared.fault.Field.{Field}
 use Rattle.graph_core.specs.declared.profile.Profile.{Profile}
 use Rattle.graph_core.specs.Aiger.{Form, Counts, Listing, Lists}
 use Rattle.graph_core.specs.Aiger.Refusal.{refused_field, counts_of, IsHeaderText, HasHeader, IsHeaderLine, Begins, IsLongest, IsRestOrWrong, IsRestRefusal, Refusal, Text, Header, IsRefusal}
-use Rattle.graph_core.specs.Aiger.Reading.{Stop, Stops, Wrong, left_of, header_at, rest_at, place, or_text, behind_fields, behind_header, lists_at, ListsAreRead}
+use Rattle.graph_core.specs.Aiger.Reading.{Stop, Stops, Wrong, left_of, header_at, rest_at, offset_of, or_text, behind_fields, behind_header, lists_at, ListsAreRead}
 use Rattle.graph_core.proofs.OfTexts.Steady.{Outcome, Sound, Whole, same_Ok, same_Err}
 use Rattle.graph_core.proofs.OfAiger.Readers.{header_steady}
 use Rattle.graph_core.proofs.OfAiger.Tail.{Some_listing, rest_sound}
@@ -143,7 +143,7 @@ lists_are_read p bytes g = (lists_take p bytes g, lists_again p bytes g)
 pub lists_refused : (p : Profile) (bytes : List ℕ) (r : Refusal) → lists_at p bytes ≡ Err r → IsRefusal p bytes r
 lists_refused p bytes r h = go (header_at bytes) refl h
   where
-    text_at : (n : ℕ) (e : Stop) → n + length (left_of e) ≡ length bytes → n ≡ place bytes (left_of e)
+    text_at : (n : ℕ) (e : Stop) → n + length (left_of e) ≡ length bytes → n ≡ offset_of bytes (left_of e)
     text_at n e l = omega arith
 
     rest_step : (form : Form) (numbers rest : List ℕ) → HasHeader bytes form numbers rest → refused_field p form numbers ≡ None → (o : Result Listing Stop) → rest_at form (counts_of numbers) rest ≡ o → or_text bytes o ≡ Err r → IsRefusal p bytes r
@@ -152,7 +152,7 @@ lists_refused p bytes r h = go (header_at bytes) refl h
         let d = rest_refused form (counts_of numbers) rest x e in
         let long : length bytes ≡ length header.0 + length rest = ap length header.2 ∙ length-append header.0 rest in
         let len : d.0 + length (left_of x) ≡ length rest = d.2 in
-        subst (IsRefusal p bytes) (same_Err (Text (place bytes (left_of x))) r f) (inr (form, numbers, rest, d.0, header, none, d.1, omega arith))
+        subst (IsRefusal p bytes) (same_Err (Text (offset_of bytes (left_of x))) r f) (inr (form, numbers, rest, d.0, header, none, d.1, omega arith))
 
     field_step : (form : Form) (numbers rest : List ℕ) → HasHeader bytes form numbers rest → (o : Option Field) → refused_field p form numbers ≡ o → behind_fields bytes form numbers rest o ≡ Err r → IsRefusal p bytes r
     field_step form numbers rest header None e f = rest_step form numbers rest header e (rest_at form (counts_of numbers) rest) refl f
@@ -164,7 +164,7 @@ lists_refused p bytes r h = go (header_at bytes) refl h
     go (Err (Stops rest)) e f =
         let l = header_longest bytes rest e in
         let none : (form : Form) (numbers left : List ℕ) → HasHeader bytes form numbers left → ⊥ = λ form numbers left header. let both = sym (has_header_read bytes form numbers left header) ∙ e in cc in
-        subst (IsRefusal p bytes) (same_Err (Text (place bytes rest)) r f) (inl (none, subst (IsLongest IsHeaderLine bytes) (text_at l.0 (Stops rest) l.2) l.1))
+        subst (IsRefusal p bytes) (same_Err (Text (offset_of bytes rest)) r f) (inl (none, subst (IsLongest IsHeaderLine bytes) (text_at l.0 (Stops rest) l.2) l.1))
 
 pub text_refused : (p : Profile) (bytes : List ℕ) (at : ℕ) → IsRefusal p bytes (Text at) → lists_at p bytes ≡ Err (Text at)
 text_refused p bytes at (inl h) = go (header_at bytes) refl
@@ -176,12 +176,12 @@ text_refused p bytes at (inl h) = go (header_at bytes) refl
         let l = header_longest bytes rest e in
         let one = longest_one IsHeaderLine bytes at l.0 h.1 l.1 in
         let len : l.0 + length rest ≡ length bytes = l.2 in
-        let here : place bytes rest ≡ at = omega arith in
+        let here : offset_of bytes rest ≡ at = omega arith in
         ap (behind_header p bytes) e ∙ ap (λ n. Err (Text n)) here
 text_refused p bytes at (inr (form, numbers, rest, n, header, none, refused, is)) =
     let r = rest_refusal form (counts_of numbers) rest n refused in
     let len : n + length (left_of r.0) ≡ length rest = r.2 in
-    let here : place bytes (left_of r.0) ≡ at = omega arith in
+    let here : offset_of bytes (left_of r.0) ≡ at = omega arith in
     behind_good p bytes form numbers rest header none ∙ ap (or_text bytes) r.1 ∙ ap (λ m. Err (Text m)) here
 
 pub header_refused : (p : Profile) (bytes : List ℕ) (f : Field) → IsRefusal p bytes (Header f) → lists_at p bytes ≡ Err (Header f)

@@ -14,7 +14,7 @@ use Rattle.graph_core.specs.Graph.Literals.{variable_of}
 use Rattle.graph_core.specs.Text.{IsDigit, IsNumeral, IsLine, AreLines, decimal}
 use Rattle.graph_core.specs.Graph.{Aig, IsWellFormed, IsAcyclic, greater_first, SameUpToOperands, read_literals, defined}
 use Rattle.graph_core.specs.Aiger.{graph_of, body, IsGroups, AreBinaryGates, ArePackedGates, IsPacked, most_inputs, most_outputs, HasCounts, IsFaultless, Lists}
-use Rattle.graph_core.specs.Aiger.Writing.{digits_upto, numeral, line_of, written_gate, written, header_of, ascii_text, groups_upto, gate_bytes, binary_text, AsciiTextSpells, BinaryTextSpells}
+use Rattle.graph_core.specs.Aiger.Writing.{digits_upto, numeral, number_line, written_gate, written, header_of, ascii_text, groups_upto, gate_bytes, binary_text, AsciiTextSpells, BinaryTextSpells}
 use Rattle.graph_core.proofs.OfTexts.Numerals.{not_below}
 use Rattle.graph_core.proofs.OfGraphs.Levels.{In, all_in, all_from_in}
 use Rattle.graph_core.proofs.OfGraphs.Faults.{in_left, in_right, in_parts}
@@ -64,18 +64,18 @@ numeral_spells n h = digits_spell 9 n (omega arith)
 
 -- ---- lines
 
-line_spells : (ns : List ℕ) → 0 < length ns → AllByRecursion IsSmall ns → IsLine (line_of ns) ns
+line_spells : (ns : List ℕ) → 0 < length ns → AllByRecursion IsSmall ns → IsLine (number_line ns) ns
 line_spells [] some h = absurd (omega arith)
 line_spells (n ∷ []) some h = (numeral n, numeral_spells n h.0, refl)
-line_spells (n ∷ k ∷ ns) some h = (numeral n, line_of (k ∷ ns), numeral_spells n h.0, line_spells (k ∷ ns) (omega arith) h.1, refl)
+line_spells (n ∷ k ∷ ns) some h = (numeral n, number_line (k ∷ ns), numeral_spells n h.0, line_spells (k ∷ ns) (omega arith) h.1, refl)
 
 abbrev IsGood : List ℕ → Type 0
 IsGood ns = (0 < length ns) × AllByRecursion IsSmall ns
 
-lines_spell : (lines : List (List ℕ)) (after : List ℕ) → AllByRecursion IsGood lines → AreLines (concat (map line_of lines) ++ after) lines after
+lines_spell : (lines : List (List ℕ)) (after : List ℕ) → AllByRecursion IsGood lines → AreLines (concat (map number_line lines) ++ after) lines after
 lines_spell [] after h = refl
 lines_spell (ns ∷ lines) after h =
-    (line_of ns, concat (map line_of lines) ++ after, line_spells ns h.0.0 h.0.1, lines_spell lines after h.1, append_assoc (line_of ns) (concat (map line_of lines)) after)
+    (number_line ns, concat (map number_line lines) ++ after, line_spells ns h.0.0 h.0.1, lines_spell lines after h.1, append_assoc (number_line ns) (concat (map number_line lines)) after)
 
 -- ---- groups
 
@@ -339,9 +339,9 @@ ascii_text_spells p g w c =
           c,
           inl (
             header_of g,
-            concat (map line_of (header_of g ∷ body (written g))),
+            concat (map number_line (header_of g ∷ body (written g))),
             ([], omega arith, tt, header_is g),
-            subst (λ ys. AreLines ys (header_of g ∷ body (written g)) []) (append-nil (concat (map line_of (header_of g ∷ body (written g))))) (lines_spell (header_of g ∷ body (written g)) [] good),
+            subst (λ ys. AreLines ys (header_of g ∷ body (written g)) []) (append-nil (concat (map number_line (header_of g ∷ body (written g))))) (lines_spell (header_of g ∷ body (written g)) [] good),
             refl,
           ),
         )
@@ -369,13 +369,13 @@ binary_text_spells p g packed c =
           inr (
             (
               header_of g,
-              concat (map line_of (header_of g ∷ map (λ l. l.0 ∷ []) g.outputs)) ++ concat (map gate_bytes (map written_gate g.gates)),
+              concat (map number_line (header_of g ∷ map (λ l. l.0 ∷ []) g.outputs)) ++ concat (map gate_bytes (map written_gate g.gates)),
               concat (map gate_bytes (map written_gate g.gates)),
               ([], omega arith, tt, header_is g),
               packed.inputs,
               lines_spell (header_of g ∷ map (λ l. l.0 ∷ []) g.outputs) (concat (map gate_bytes (map written_gate g.gates))) (header_good p g c, b),
               gates_spell (2 * length g.inputs + 2) (map written_gate g.gates) d,
-              append_assoc (codes "aig ") (concat (map line_of (header_of g ∷ map (λ l. l.0 ∷ []) g.outputs))) (concat (map gate_bytes (map written_gate g.gates))),
+              append_assoc (codes "aig ") (concat (map number_line (header_of g ∷ map (λ l. l.0 ∷ []) g.outputs))) (concat (map gate_bytes (map written_gate g.gates))),
             ),
             packed.max,
           ),

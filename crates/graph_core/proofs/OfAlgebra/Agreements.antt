@@ -12,7 +12,7 @@ use Rattle.graph_core.specs.Graph.Extended.{Extended}
 use Rattle.graph_core.specs.Algebra.{LiveLine, Line, Part, Sum, Product, Combination, Import, Delete, Ledger, IsLive, IsThere, import_of, import_or_zero, line_of, value_of, value_or_zero, combined, named, operands, IsNewId, IsLawfulLine, introduce, after, Closes, modulus}
 use Rattle.graph_core.specs.Algebra.Refusal.{AlgebraCause, first_missing, IsRefusedLine, IsRefusedClose}
 use Rattle.graph_core.specs.Algebra.InRange.{IsRefusedInRange, IsRefusedCloseInRange}
-use Rattle.graph_core.specs.Algebra.Agreement.{AreSame, AreSameImports, AreSameLines, Agree}
+use Rattle.graph_core.specs.Algebra.Agreement.{AreSame, AreSameImports, AreSameLines, LedgersAgree}
 
 pub same_refl : (x : Option LiveLine) → AreSame x x
 same_refl None = tt
@@ -96,13 +96,13 @@ there_same fs gs h (Delete id) t = t
 
 -- ---- ledgers
 
-pub agree_refl : (l : Ledger) → Agree l l
+pub agree_refl : (l : Ledger) → LedgersAgree l l
 agree_refl l = record { last = refl; lines = λ id. same_refl (line_of l.live id); imports = imports_refl l.imports }
 
-pub agree_sym : (l k : Ledger) → Agree l k → Agree k l
+pub agree_sym : (l k : Ledger) → LedgersAgree l k → LedgersAgree k l
 agree_sym l k a = record { last = sym a.last; lines = λ id. same_sym (line_of l.live id) (line_of k.live id) (a.lines id); imports = imports_sym l.imports k.imports a.imports }
 
-pub agree_trans : (l k j : Ledger) → Agree l k → Agree k j → Agree l j
+pub agree_trans : (l k j : Ledger) → LedgersAgree l k → LedgersAgree k j → LedgersAgree l j
 agree_trans l k j a b = record {
   last = a.last ∙ b.last;
   lines = λ id. same_trans (line_of l.live id) (line_of k.live id) (line_of j.live id) (a.lines id) (b.lines id);
@@ -114,17 +114,17 @@ agree_trans l k j a b = record {
 pub value_same : (xs ys : List LiveLine) → AreSameLines xs ys → (id : ℕ) (σ : Assignment) → value_of xs id σ ≡ value_of ys id σ
 value_same xs ys a id σ = same_value (line_of xs id) (line_of ys id) (a id) σ
 
-value_agrees : (l k : Ledger) → Agree l k → (id : ℕ) (σ : Assignment) → value_of l.live id σ ≡ value_of k.live id σ
+value_agrees : (l k : Ledger) → LedgersAgree l k → (id : ℕ) (σ : Assignment) → value_of l.live id σ ≡ value_of k.live id σ
 value_agrees l k a id σ = value_same l.live k.live a.lines id σ
 
-pub live_agrees : (l k : Ledger) → Agree l k → (id : ℕ) → IsLive l.live id → IsLive k.live id
+pub live_agrees : (l k : Ledger) → LedgersAgree l k → (id : ℕ) → IsLive l.live id → IsLive k.live id
 live_agrees l k a id h = same_live (line_of l.live id) (line_of k.live id) (a.lines id) h
 
-combined_agrees : (m : ℕ) (l k : Ledger) → Agree l k → (parts : List Part) (σ : Assignment) → combined m l.live parts σ ≡ combined m k.live parts σ
+combined_agrees : (m : ℕ) (l k : Ledger) → LedgersAgree l k → (parts : List Part) (σ : Assignment) → combined m l.live parts σ ≡ combined m k.live parts σ
 combined_agrees m l k a [] σ = refl
 combined_agrees m l k a (p ∷ ps) σ = ap₂ (λ x y. x * value m p.factor σ + y) (value_agrees l k a p.id σ) (combined_agrees m l k a ps σ)
 
-named_agrees : (m : ℕ) (l k : Ledger) → Agree l k → (x : Line) (σ : Assignment) → named m l x σ ≡ named m k x σ
+named_agrees : (m : ℕ) (l k : Ledger) → LedgersAgree l k → (x : Line) (σ : Assignment) → named m l x σ ≡ named m k x σ
 named_agrees m l k a (Sum id i j p) σ = ap₂ (λ x y. x + y) (value_agrees l k a i σ) (value_agrees l k a j σ)
 named_agrees m l k a (Product id i q p) σ = ap (λ x. x * value m q σ) (value_agrees l k a i σ)
 named_agrees m l k a (Combination id parts p) σ = combined_agrees m l k a parts σ
@@ -132,7 +132,7 @@ named_agrees m l k a (Import id number p) σ = import_same l.imports k.imports a
 named_agrees m l k a (Delete id) σ = refl
 
 -- the same lines are lawful
-pub lawful_agrees : (m : ℕ) (l k : Ledger) → Agree l k → (x : Line) → IsLawfulLine m l x → IsLawfulLine m k x
+pub lawful_agrees : (m : ℕ) (l k : Ledger) → LedgersAgree l k → (x : Line) → IsLawfulLine m l x → IsLawfulLine m k x
 lawful_agrees m l k a x h = record {
   new_id = subst (λ n. IsNewId n x) a.last h.new_id;
   live_operands = λ i d low. live_agrees l k a _ (h.live_operands i d low);
@@ -145,7 +145,7 @@ missing_same xs ys a [] = refl
 missing_same xs ys a (id ∷ ids) = ap₂ (λ b r. cond (not b) (Some id) r) (same_there (line_of xs id) (line_of ys id) (a id)) (missing_same xs ys a ids)
 
 -- the same lines are refused for the same causes
-pub refused_in_range_agrees : (e : Extended) (l k : Ledger) → Agree l k → (x : Line) (cause : AlgebraCause) → IsRefusedInRange e l x cause → IsRefusedInRange e k x cause
+pub refused_in_range_agrees : (e : Extended) (l k : Ledger) → LedgersAgree l k → (x : Line) (cause : AlgebraCause) → IsRefusedInRange e l x cause → IsRefusedInRange e k x cause
 refused_in_range_agrees e l k a x cause (inl (bad, same)) = inl ((λ new. bad (subst (λ n. IsNewId n x) (sym a.last) new)), same)
 refused_in_range_agrees e l k a x cause (inr (new, inl (id, missing, same))) =
     inr (subst (λ n. IsNewId n x) a.last new, inl (id, sym (missing_same l.live k.live a.lines (operands x)) ∙ missing, same))
@@ -170,27 +170,27 @@ refused_in_range_agrees e l k a x cause (inr (new, inr (live, inr (there, inl (a
     )
 refused_in_range_agrees e l k a x cause (inr (new, inr (live, inr (there, inr (equal, never))))) = absurd never
 
-pub refused_agrees : (e : Extended) (l k : Ledger) → Agree l k → (x : Line) (cause : AlgebraCause) → IsRefusedLine e l x cause → IsRefusedLine e k x cause
+pub refused_agrees : (e : Extended) (l k : Ledger) → LedgersAgree l k → (x : Line) (cause : AlgebraCause) → IsRefusedLine e l x cause → IsRefusedLine e k x cause
 refused_agrees e l k a x cause (inl w) = inl w
 refused_agrees e l k a x cause (inr (range, refused)) = inr (range, refused_in_range_agrees e l k a x cause refused)
 
 -- the same line closes
-pub closes_agrees : (e : Extended) (sides : Sides) (l k : Ledger) → Agree l k → (id : ℕ) → Closes e sides l.live id → Closes e sides k.live id
+pub closes_agrees : (e : Extended) (sides : Sides) (l k : Ledger) → LedgersAgree l k → (id : ℕ) → Closes e sides l.live id → Closes e sides k.live id
 closes_agrees e sides l k a id h = (live_agrees l k a id h.0, λ σ. sym (value_agrees l k a id σ) ∙ h.1 σ)
 
-pub refused_close_in_range_agrees : (e : Extended) (sides : Sides) (l k : Ledger) → Agree l k → (id : ℕ) (cause : AlgebraCause) → IsRefusedCloseInRange e sides l id cause → IsRefusedCloseInRange e sides k id cause
+pub refused_close_in_range_agrees : (e : Extended) (sides : Sides) (l k : Ledger) → LedgersAgree l k → (id : ℕ) (cause : AlgebraCause) → IsRefusedCloseInRange e sides l id cause → IsRefusedCloseInRange e sides k id cause
 refused_close_in_range_agrees e sides l k a id cause (inl (bad, same)) = inl ((λ live. bad (live_agrees k l (agree_sym l k a) id live)), same)
 refused_close_in_range_agrees e sides l k a id cause (inr (live, inl (apart, same))) =
     inr (live_agrees l k a id live, inl ((apart.0, λ is. apart.1 (value_agrees l k a id apart.0 ∙ is)), same))
 refused_close_in_range_agrees e sides l k a id cause (inr (live, inr (equal, never))) = absurd never
 
-pub refused_close_agrees : (e : Extended) (sides : Sides) (l k : Ledger) → Agree l k → (id : ℕ) (cause : AlgebraCause) → IsRefusedClose e sides l id cause → IsRefusedClose e sides k id cause
+pub refused_close_agrees : (e : Extended) (sides : Sides) (l k : Ledger) → LedgersAgree l k → (id : ℕ) (cause : AlgebraCause) → IsRefusedClose e sides l id cause → IsRefusedClose e sides k id cause
 refused_close_agrees e sides l k a id cause (inl w) = inl w
 refused_close_agrees e sides l k a id cause (inr (range, refused)) = inr (range, refused_close_in_range_agrees e sides l k a id cause refused)
 
 -- ---- afterwards
 
-pub introduce_agrees : (m : ℕ) (l k : Ledger) → Agree l k → (id : ℕ) (p : Polynomial) → Agree (introduce m l id p) (introduce m k id p)
+pub introduce_agrees : (m : ℕ) (l k : Ledger) → LedgersAgree l k → (id : ℕ) (p : Polynomial) → LedgersAgree (introduce m l id p) (introduce m k id p)
 introduce_agrees m l k a id p = record { last = refl; lines = λ other. go other (id == other); imports = a.imports }
   where
     go : (other : ℕ) (b : Bool) → AreSame (cond b (Some (record { id = id; value = value m p })) (line_of l.live other)) (cond b (Some (record { id = id; value = value m p })) (line_of k.live other))
@@ -213,7 +213,7 @@ line_of-deleted (x ∷ live) id other = go (x.id == id) refl (x.id == other) ref
         ap (λ b. cond b (Some x) (line_of (filter (λ x. not (x.id == id)) live) other)) g ∙ sym (ap (λ b. cond b None (Some x)) apart)
     go false f false g rest = ap (λ b. cond b (Some x) (line_of (filter (λ x. not (x.id == id)) live) other)) g ∙ rest
 
-delete_agrees : (m : ℕ) (l k : Ledger) → Agree l k → (id : ℕ) → Agree (after m l (Delete id)) (after m k (Delete id))
+delete_agrees : (m : ℕ) (l k : Ledger) → LedgersAgree l k → (id : ℕ) → LedgersAgree (after m l (Delete id)) (after m k (Delete id))
 delete_agrees m l k a id = record { last = a.last; imports = a.imports; lines = λ other. subst₂ (sym (line_of-deleted l.live id other)) (sym (line_of-deleted k.live id other)) (go other (other == id)) }
   where
     subst₂ : {x y z w : Option LiveLine} → x ≡ y → z ≡ w → AreSame x z → AreSame y w
@@ -224,7 +224,7 @@ delete_agrees m l k a id = record { last = a.last; imports = a.imports; lines = 
     go other false = a.lines other
 
 -- after the same line they agree
-pub after_agrees : (m : ℕ) (l k : Ledger) → Agree l k → (x : Line) → Agree (after m l x) (after m k x)
+pub after_agrees : (m : ℕ) (l k : Ledger) → LedgersAgree l k → (x : Line) → LedgersAgree (after m l x) (after m k x)
 after_agrees m l k a (Sum id i j p) = introduce_agrees m l k a id p
 after_agrees m l k a (Product id i q p) = introduce_agrees m l k a id p
 after_agrees m l k a (Combination id parts p) = introduce_agrees m l k a id p

@@ -8,7 +8,7 @@ use Rattle.std.proofs.lemmas.List.Elements.{All-from_recursion, recursion_from_A
 use Rattle.graph_core.specs.Graph.Assignments.{Assignment, HasBound}
 use Rattle.graph_core.specs.Graph.Operands.{Sides}
 use Rattle.graph_core.specs.Text.{newline}
-use Rattle.graph_core.specs.Text.Readers.{Reads, Ended, OneOf, Anything}
+use Rattle.graph_core.specs.Text.Readers.{IsReaderOf, Ended, OneOf, Anything}
 use Rattle.graph_core.specs.Text.JudgedLines.{Lengths, IsTooLong, IsWithin, IsLineStart, BeginsWith, Behind, Unless, Never, IsExact}
 use Rattle.graph_core.specs.Text.Numerals.{is_digit}
 use Rattle.graph_core.specs.Text.Readers.{ended_at}
@@ -156,10 +156,10 @@ decided_nil [] = inl refl
 decided_nil (b ∷ rest) = inr (λ h. absurd (cc))
 
 -- both kinds of lines are read in one way
-line_item : (v : ℕ) → Reads (ended_at (algebra_line_at v) (newline ∷ [])) (Ended (IsLineText v) (newline ∷ [])) Anything
+line_item : (v : ℕ) → IsReaderOf (ended_at (algebra_line_at v) (newline ∷ [])) (Ended (IsLineText v) (newline ∷ [])) Anything
 line_item v = reads_ended (newline ∷ []) (reads_line v) (λ rest. tt)
 
-close_item : Reads (ended_at close_at (newline ∷ [])) (Ended IsCloseText (newline ∷ [])) Anything
+close_item : IsReaderOf (ended_at close_at (newline ∷ [])) (Ended IsCloseText (newline ∷ [])) Anything
 close_item = reads_ended (newline ∷ []) reads_close (λ rest. tt)
 
 abbrev NoStep : {Line : Type 0} → ℕ → Line → ℕ → Type 0

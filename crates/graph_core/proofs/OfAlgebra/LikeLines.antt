@@ -8,7 +8,7 @@ use Rattle.graph_core.specs.Graph.Extended.{Extended}
 use Rattle.graph_core.specs.Algebra.Polynomials.{Polynomial, value}
 use Rattle.graph_core.specs.Algebra.{LiveLine, Line, Sum, Product, Combination, Import, Delete, Part, Ledger, IsNewId, IsLive, IsThere, IsEqual, IsLawfulLine, operands, stated, named, imported, combined, value_of, introduce, after, modulus, line_of}
 use Rattle.graph_core.specs.Algebra.Refusal.{AlgebraCause, NoSuchClause, first_missing, IsRefusedRule, IsUnequal}
-use Rattle.graph_core.specs.Algebra.Agreement.{AreSame, Agree}
+use Rattle.graph_core.specs.Algebra.Agreement.{AreSame, LedgersAgree}
 use Rattle.graph_core.specs.Algebra.InRange.{IsRefusedInRange}
 use Rattle.graph_core.specs.Algebra.Likeness.{HaveSameValue, ArePartsAlike, AreAlike, LikenessIsKept}
 use Rattle.graph_core.proofs.OfAlgebra.Agreements.{agree_refl, imports_refl, same_refl}
@@ -112,19 +112,19 @@ refused : (e : Extended) (l : Ledger) (x y : Line) (c : AlgebraCause) → AreAli
 refused e l x y c h r =
     ⊎_elim (λ old. inl ((λ new. old.0 (new_back (modulus e) l.last x y h new)), old.1)) (λ rule. inr (new_there (modulus e) l.last x y h rule.0, refused_rule e l x y c h rule.1)) r
 
-introduced : (m : ℕ) (l : Ledger) (id : ℕ) (p q : Polynomial) → HaveSameValue m p q → Agree (introduce m l id q) (introduce m l id p)
+introduced : (m : ℕ) (l : Ledger) (id : ℕ) (p q : Polynomial) → HaveSameValue m p q → LedgersAgree (introduce m l id q) (introduce m l id p)
 introduced m l id p q same = record { last = refl; lines = λ k. go k (id == k); imports = imports_refl l.imports }
   where
     go : (k : ℕ) (c : Bool) → AreSame (cond c (Some (record { id = id; value = value m q })) (line_of l.live k)) (cond c (Some (record { id = id; value = value m p })) (line_of l.live k))
     go k true = λ σ. sym (same σ)
     go k false = same_refl (line_of l.live k)
 
-follows : (m : ℕ) (l : Ledger) (x y : Line) → AreAlike m x y → Agree (after m l y) (after m l x)
-follows m l (Sum id i j p) y h = subst (λ z. Agree (after m l z) (introduce m l id p)) (sym h.1) (introduced m l id p h.0 h.2)
-follows m l (Product id i f p) y h = subst (λ z. Agree (after m l z) (introduce m l id p)) (sym h.2) (introduced m l id p h.1 h.4)
-follows m l (Combination id parts p) y h = subst (λ z. Agree (after m l z) (introduce m l id p)) (sym h.2) (introduced m l id p h.1 h.4)
-follows m l (Import id number p) y h = subst (λ z. Agree (after m l z) (introduce m l id p)) (sym h.1) (introduced m l id p h.0 h.2)
-follows m l (Delete id) y h = subst (λ z. Agree (after m l z) (after m l (Delete id))) (sym h) (agree_refl (after m l (Delete id)))
+follows : (m : ℕ) (l : Ledger) (x y : Line) → AreAlike m x y → LedgersAgree (after m l y) (after m l x)
+follows m l (Sum id i j p) y h = subst (λ z. LedgersAgree (after m l z) (introduce m l id p)) (sym h.1) (introduced m l id p h.0 h.2)
+follows m l (Product id i f p) y h = subst (λ z. LedgersAgree (after m l z) (introduce m l id p)) (sym h.2) (introduced m l id p h.1 h.4)
+follows m l (Combination id parts p) y h = subst (λ z. LedgersAgree (after m l z) (introduce m l id p)) (sym h.2) (introduced m l id p h.1 h.4)
+follows m l (Import id number p) y h = subst (λ z. LedgersAgree (after m l z) (introduce m l id p)) (sym h.1) (introduced m l id p h.0 h.2)
+follows m l (Delete id) y h = subst (λ z. LedgersAgree (after m l z) (after m l (Delete id))) (sym h) (agree_refl (after m l (Delete id)))
 
 pub likeness_is_kept : LikenessIsKept
 likeness_is_kept = record { operands = same_operands; lawful = lawful; refused = refused; after = follows }

@@ -8,7 +8,7 @@ use Rattle.std.proofs.lemmas.List.{append-nil}
 use Rattle.std.proofs.lemmas.List.Elements.{recursion_from_All}
 use Rattle.graph_core.specs.Text.{newline, IsNumeral, IsDigit}
 use Rattle.graph_core.specs.Text.Numerals.{number_at, is_digit, ◌>>=◌}
-use Rattle.graph_core.specs.Text.Readers.{Reader, Reads, behind_at, ended_at, then_at, choose_at, many_at, put_before, Ended, BehindText, Then, Bind, AreMany, NoneOf, OneOf, Anything}
+use Rattle.graph_core.specs.Text.Readers.{Reader, IsReaderOf, behind_at, ended_at, then_at, choose_at, many_at, put_before, Ended, BehindText, Then, Bind, AreMany, NoneOf, OneOf, Anything}
 use Rattle.graph_core.specs.Algebra.Polynomials.{Term, Polynomial}
 use Rattle.graph_core.specs.Algebra.{Line, Sum, Product, Combination, Import, Delete, Part}
 use Rattle.graph_core.specs.Algebra.Text.{AreFactors, IsTerm, AreTerms, IsPolynomial, IsPart, AreParts, IsLineText, IsCloseText, AreLineTexts, IsAlgebraText, algebra_header, first_line, sign_of}
@@ -44,7 +44,7 @@ factors_back bytes (v ∷ vs) h = (codes "*x" ++ h.0, h.1, (h.0, h.2, refl), fac
 abbrev EndsFactors : List ℕ → Type 0
 EndsFactors rest = NoneOf is_star rest × NoneOf is_digit rest
 
-pub reads_factors : Reads factors_at AreFactors EndsFactors
+pub reads_factors : IsReaderOf factors_at AreFactors EndsFactors
 reads_factors =
     reads_as AreFactors
     (reads_many is_star (behind_at (codes "*x") (number_at 10)) IsFactor (NoneOf is_digit) (reads_behind (codes "*x") (reads_number 10)) factor_first star_no_digit)
@@ -72,7 +72,7 @@ same_term t n c vs e f g =
     let term : Bool → ℕ → List ℕ → Term = λ m k ws. record { negative = m; coefficient = k; variables = ws } in
     ap (λ m. term m c vs) (sym e) ∙ ap (λ k. term t.negative k vs) (sym f) ∙ ap (λ ws. term t.negative t.coefficient ws) (sym g)
 
-reads_coefficient : (negative : Bool) → Reads (coefficient_at negative) (HasCoefficient negative) EndsFactors
+reads_coefficient : (negative : Bool) → IsReaderOf (coefficient_at negative) (HasCoefficient negative) EndsFactors
 reads_coefficient negative =
     reads_map (λ x. record { negative = negative; coefficient = x.0; variables = x.1 }) (HasCoefficient negative)
     (reads_then (reads_number 39) reads_factors factors_joins)
@@ -85,7 +85,7 @@ IsVariable = BehindText (codes "x") (IsNumeral 10)
 tail_same : (a b : ℕ) (xs ys : List ℕ) → a ∷ xs ≡ b ∷ ys → xs ≡ ys
 tail_same a b xs ys e = cc
 
-reads_product : (negative : Bool) → Reads (product_at negative) (HasNone negative) EndsFactors
+reads_product : (negative : Bool) → IsReaderOf (product_at negative) (HasNone negative) EndsFactors
 reads_product negative =
     reads_map (λ x. record { negative = negative; coefficient = 1; variables = x.0 ∷ x.1 }) (HasNone negative)
     (reads_then (reads_behind (codes "x") (reads_number 10)) reads_factors factors_joins)
@@ -108,7 +108,7 @@ product_first negative front t h = go t.variables h.2
     go [] f = let e : codes "*" ++ front ≡ [] = f in absurd (cc)
     go (v ∷ vs) f = (f.0 ++ f.1, tail_same 42 42 front (codes "x" ++ f.0 ++ f.1) f.4)
 
-reads_term : (negative : Bool) → Reads (term_at negative) (IsSigned negative) EndsFactors
+reads_term : (negative : Bool) → IsReaderOf (term_at negative) (IsSigned negative) EndsFactors
 reads_term negative =
     reads_as (IsSigned negative)
     (reads_choice is_digit (reads_coefficient negative) (reads_product negative) (coefficient_first negative)
@@ -137,10 +137,10 @@ HasSign bytes t = (term : List ℕ) × IsTerm term t × (bytes ≡ sign_of t.neg
 abbrev IsFirst : List ℕ → Term → Type 0
 IsFirst bytes t = BehindText (codes "-") (IsSigned true) bytes t ⊎ IsSigned false bytes t
 
-reads_first : Reads first_term_at IsFirst EndsFactors
+reads_first : IsReaderOf first_term_at IsFirst EndsFactors
 reads_first = reads_choice is_minus (reads_behind (codes "-") (reads_term true)) (reads_term false) (λ front t h. subst (OneOf is_minus) (sym h.2) refl) (term_first false)
 
-reads_sign : Reads signed_term_at HasSign EndsFactors
+reads_sign : IsReaderOf signed_term_at HasSign EndsFactors
 reads_sign =
     reads_as HasSign
     (reads_choice is_minus (reads_behind (codes "-") (reads_term true)) (reads_behind (codes "+") (reads_term false)) (λ front t h. subst (OneOf is_minus) (sym h.2) refl) (λ front t h. subst (OtherOf is_minus) (sym h.2) refl))
@@ -206,7 +206,7 @@ poly_back bytes t ts h = go t.negative refl
         let f = subst (λ c. AreTerms (cond c bytes (codes "+" ++ bytes)) (t ∷ ts)) e h in
         (f.0, f.1, inr (e, f.2), terms_back f.1 ts f.3, tail_same 43 43 bytes (f.0 ++ f.1) (f.4 ∙ ap (λ b. sign_of b ++ f.0 ++ f.1) e))
 
-pub reads_poly : Reads poly_at IsPolynomial EndsPolynomial
+pub reads_poly : IsReaderOf poly_at IsPolynomial EndsPolynomial
 reads_poly =
     reads_map (λ x. x.0 ∷ x.1) IsPolynomial
     (reads_then reads_first (reads_many is_sign signed_term_at HasSign EndsFactors reads_sign sign_first sign_ends) terms_joins)
@@ -223,7 +223,7 @@ reads_poly =
 abbrev Field : List ℕ → List ℕ → ℕ → Type 0
 Field text = Ended (IsNumeral 15) text
 
-pub reads_part : Reads part_at IsPart Anything
+pub reads_part : IsReaderOf part_at IsPart Anything
 reads_part =
     reads_map (λ x. record { id = x.0; factor = x.1 }) IsPart
     (reads_then (reads_ended (codes " * (") (reads_number 15) (λ rest. refl)) (reads_ended (codes ")") reads_poly (λ rest. (refl, (refl, refl)))) (λ front y rest is f. tt))
@@ -252,7 +252,7 @@ parts_back bytes part (next ∷ parts) h =
 later_first : (front : List ℕ) (part : Part) → IsLaterPart front part → OneOf is_space front
 later_first front part h = subst (OneOf is_space) (sym h.2) refl
 
-pub reads_parts : Reads parts_at AreParts (λ rest. NoneOf is_space rest × Anything rest)
+pub reads_parts : IsReaderOf parts_at AreParts (λ rest. NoneOf is_space rest × Anything rest)
 reads_parts =
     reads_map (λ x. x.0 ∷ x.1) AreParts
     (reads_then reads_part (reads_many is_space (behind_at (codes " + ") part_at) IsLaterPart Anything (reads_behind (codes " + ") reads_part) later_first (λ rest h. tt)) (λ front y rest is f. tt))
@@ -280,7 +280,7 @@ ends_comma rest = (refl, (refl, refl))
 ends_semicolon : (rest : List ℕ) → EndsPolynomial (codes ";" ++ rest)
 ends_semicolon rest = (refl, (refl, refl))
 
-reads_sum : (id : ℕ) → Reads (sum_at id) (IsSum id) Anything
+reads_sum : (id : ℕ) → IsReaderOf (sum_at id) (IsSum id) Anything
 reads_sum id =
     reads_map (λ x. Sum id x.0 x.1.0 x.1.1) (IsSum id)
     (reads_behind (codes "+ ") (reads_then (reads_ended (codes ", ") (reads_number 15) (λ rest. refl))
@@ -317,7 +317,7 @@ abbrev IsMultiple : ℕ → List ℕ → Line → Type 0
 IsMultiple id bytes x = (i : ℕ) × (q p : Polynomial) × (x ≡ Product id i q p) × ((left factor poly : List ℕ) × IsNumeral 15 left i × IsPolynomial factor q × IsPolynomial poly p ×
     (bytes ≡ codes "* " ++ left ++ codes ", " ++ factor ++ codes ", " ++ poly ++ codes ";"))
 
-reads_multiple : (id : ℕ) → Reads (multiple_at id) (IsMultiple id) Anything
+reads_multiple : (id : ℕ) → IsReaderOf (multiple_at id) (IsMultiple id) Anything
 reads_multiple id =
     reads_map (λ x. Product id x.0 x.1.0 x.1.1) (IsMultiple id)
     (reads_behind (codes "* ") (reads_then (reads_ended (codes ", ") (reads_number 15) (λ rest. refl))
@@ -354,7 +354,7 @@ abbrev IsCombination : ℕ → List ℕ → Line → Type 0
 IsCombination id bytes x = (parts : List Part) × (p : Polynomial) × (x ≡ Combination id parts p) × ((sum poly : List ℕ) × AreParts sum parts × IsPolynomial poly p ×
     (bytes ≡ codes "% " ++ sum ++ codes ", " ++ poly ++ codes ";"))
 
-reads_combination : (id : ℕ) → Reads (combination_at id) (IsCombination id) Anything
+reads_combination : (id : ℕ) → IsReaderOf (combination_at id) (IsCombination id) Anything
 reads_combination id =
     reads_map (λ x. Combination id x.0 x.1) (IsCombination id)
     (reads_behind (codes "% ") (reads_then (reads_ended (codes ", ") reads_parts (λ rest. (refl, tt))) (reads_ended (codes ";") reads_poly ends_semicolon) (λ front y rest is f. tt)))
@@ -379,7 +379,7 @@ abbrev IsImport : ℕ → List ℕ → Line → Type 0
 IsImport id bytes x = (number : ℕ) × (p : Polynomial) × (x ≡ Import id number p) × ((digits poly : List ℕ) × IsNumeral 15 digits number × IsPolynomial poly p ×
     (bytes ≡ codes "c " ++ digits ++ codes ", " ++ poly ++ codes ";"))
 
-reads_import : (id : ℕ) → Reads (import_at id) (IsImport id) Anything
+reads_import : (id : ℕ) → IsReaderOf (import_at id) (IsImport id) Anything
 reads_import id =
     reads_map (λ x. Import id x.0 x.1) (IsImport id)
     (reads_behind (codes "c ") (reads_then (reads_ended (codes ", ") (reads_number 15) (λ rest. refl)) (reads_ended (codes ";") reads_poly ends_semicolon) (λ front y rest is f. tt)))
@@ -404,7 +404,7 @@ reads_import id =
 abbrev InSecond : {A : Type 0} → ℕ → (List ℕ → A → Type 0) → List ℕ → A → Type 0
 InSecond version Is bytes x = (version ≡ 2) × Is bytes x
 
-reads_second : {A : Type 0} {item : Reader A} {Is : List ℕ → A → Type 0} (version : ℕ) → Reads item Is Anything → Reads (second_at version item) (InSecond version Is) Anything
+reads_second : {A : Type 0} {item : Reader A} {Is : List ℕ → A → Type 0} (version : ℕ) → IsReaderOf item Is Anything → IsReaderOf (second_at version item) (InSecond version Is) Anything
 reads_second {A} {item} {Is} version r = record { takes = λ bytes x rest h. takes bytes x rest (version == 2) refl h; again = again }
   where
     takes : (bytes : List ℕ) (x : A) (rest : List ℕ) (b : Bool) → (version == 2) ≡ b → cond b (item bytes) None ≡ Some (x, rest) → (front : List ℕ) × InSecond version Is front x × (bytes ≡ front ++ rest)
@@ -417,7 +417,7 @@ reads_second {A} {item} {Is} version r = record { takes = λ bytes x rest h. tak
 abbrev IsDrop : ℕ → List ℕ → Line → Type 0
 IsDrop id bytes x = (x ≡ Delete id) × (bytes ≡ codes "d;")
 
-reads_drop : (id : ℕ) → Reads (drop_at id) (IsDrop id) Anything
+reads_drop : (id : ℕ) → IsReaderOf (drop_at id) (IsDrop id) Anything
 reads_drop id = reads_text (codes "d;") (Delete id)
 
 abbrev IsKind : ℕ → ℕ → List ℕ → Line → Type 0
@@ -430,7 +430,7 @@ first_of_text test b more bytes h e = subst (OneOf test) (sym e) h
 other_of_text : (test : ℕ → Bool) (b : ℕ) (more bytes : List ℕ) → test b ≡ false → bytes ≡ b ∷ more → OtherOf test bytes
 other_of_text test b more bytes h e = subst (OtherOf test) (sym e) h
 
-reads_kind : (version id : ℕ) → Reads (choose_at (λ b. b == 43) (sum_at id) (choose_at (λ b. b == 42) (multiple_at id) (choose_at (λ b. b == 37) (combination_at id)
+reads_kind : (version id : ℕ) → IsReaderOf (choose_at (λ b. b == 43) (sum_at id) (choose_at (λ b. b == 42) (multiple_at id) (choose_at (λ b. b == 37) (combination_at id)
     (choose_at (λ b. b == 99) (second_at version (import_at id)) (drop_at id))))) (IsKind version id) Anything
 reads_kind version id =
     reads_choice (λ b. b == 43) (reads_sum id)
@@ -485,18 +485,18 @@ line_back version bytes (Import id number p) h =
     (id, (h.1.0 ++ codes " ", codes "c " ++ h.1.1 ++ codes ", " ++ h.1.2 ++ codes ";", (h.1.0, h.1.3, refl), inr (inr (inr (inl (h.0, (number, p, refl, (h.1.1, h.1.2, h.1.4, h.1.5, refl)))))), h.1.6 ∙ simp append_assoc))
 line_back version bytes (Delete id) h = (id, (h.0 ++ codes " ", codes "d;", (h.0, h.1, refl), inr (inr (inr (inr (refl, refl)))), h.2 ∙ sym (append_assoc h.0 (codes " ") (codes "d;"))))
 
-pub reads_line : (version : ℕ) → Reads (algebra_line_at version) (IsLineText version) Anything
+pub reads_line : (version : ℕ) → IsReaderOf (algebra_line_at version) (IsLineText version) Anything
 unfolding algebra_line_at
 reads_line version = reads_as (IsLineText version) (reads_bind (reads_ended (codes " ") (reads_number 15) (λ rest. refl)) (reads_kind version)) (line_there version) (line_back version)
 
-pub reads_close : Reads close_at IsCloseText Anything
+pub reads_close : IsReaderOf close_at IsCloseText Anything
 reads_close =
     reads_as IsCloseText (reads_behind (codes "q ") (reads_ended (codes ";") (reads_number 15) (λ rest. refl)))
     (λ bytes id h. (h.1.0, h.1.1, h.2 ∙ ap (λ z. codes "q " ++ z) h.1.2 ∙ sym (append_assoc (codes "q ") h.1.0 (codes ";"))))
     (λ bytes id h. (h.0 ++ codes ";", (h.0, h.1, refl), h.2 ∙ append_assoc (codes "q ") h.0 (codes ";")))
 
 -- a reader that whatever follows doesn't disturb
-exactly : {A : Type 0} {item : Reader A} {Is : List ℕ → A → Type 0} → Reads item Is Anything → (bytes : List ℕ) (x : A) (rest : List ℕ) → (front : List ℕ) × Is front x × (bytes ≡ front ++ rest) → item bytes ≡ Some (x, rest)
+exactly : {A : Type 0} {item : Reader A} {Is : List ℕ → A → Type 0} → IsReaderOf item Is Anything → (bytes : List ℕ) (x : A) (rest : List ℕ) → (front : List ℕ) × Is front x × (bytes ≡ front ++ rest) → item bytes ≡ Some (x, rest)
 exactly {A} {item} r bytes x rest h = ap item h.2 ∙ r.again h.0 x rest h.1 tt
 
 pub algebra_line_is_read : AlgebraLineIsRead
@@ -518,7 +518,7 @@ line_first version front (Combination id parts p) h = subst (OneOf is_digit) (sy
 line_first version front (Import id number p) h = subst (OneOf is_digit) (sym h.1.6) (one_longer is_digit _ _ (one_longer is_digit _ _ (one_longer is_digit _ _ (one_longer is_digit _ _ (one_longer is_digit _ _ (numeral_first 15 h.1.0 id h.1.3))))))
 line_first version front (Delete id) h = subst (OneOf is_digit) (sym h.2) (one_longer is_digit _ _ (numeral_first 15 h.0 id h.1))
 
-pub reads_lines : (version : ℕ) → Reads (many_at is_digit (ended_at (algebra_line_at version) (newline ∷ []))) (AreMany (IsEndedLine version)) (λ rest. NoneOf is_digit rest × Anything rest)
+pub reads_lines : (version : ℕ) → IsReaderOf (many_at is_digit (ended_at (algebra_line_at version) (newline ∷ []))) (AreMany (IsEndedLine version)) (λ rest. NoneOf is_digit rest × Anything rest)
 reads_lines version =
     reads_many is_digit (ended_at (algebra_line_at version) (newline ∷ [])) (IsEndedLine version) Anything (reads_ended (newline ∷ []) (reads_line version) (λ rest. tt))
     (λ front x h. subst (OneOf is_digit) (sym h.2) (one_longer is_digit h.0 (newline ∷ []) (line_first version h.0 x h.1))) (λ rest h. tt)
@@ -540,7 +540,7 @@ lines_back version bytes after (x ∷ xs) h =
 abbrev IsText : ℕ → List ℕ → List Line × ℕ → Type 0
 IsText version = BehindText (algebra_header version) (Then (AreMany (IsEndedLine version)) (Ended IsCloseText (newline ∷ [])))
 
-reads_text_all : (version : ℕ) → Reads (behind_at (algebra_header version) (then_at (many_at is_digit (ended_at (algebra_line_at version) (newline ∷ []))) (ended_at close_at (newline ∷ [])))) (IsText version) Anything
+reads_text_all : (version : ℕ) → IsReaderOf (behind_at (algebra_header version) (then_at (many_at is_digit (ended_at (algebra_line_at version) (newline ∷ []))) (ended_at close_at (newline ∷ [])))) (IsText version) Anything
 reads_text_all version =
     reads_behind (algebra_header version) (reads_then (reads_lines version) (reads_ended (newline ∷ []) reads_close (λ rest. tt)) (λ front y rest h any.
     (subst (λ z. NoneOf is_digit (z ++ rest)) (sym (h.2 ∙ ap (λ z. z ++ newline ∷ []) h.1.2)) refl, tt)))

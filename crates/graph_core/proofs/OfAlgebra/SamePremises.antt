@@ -8,19 +8,19 @@ use Rattle.graph_core.specs.Text.JudgedLines.{Behind, Lengths}
 use Rattle.graph_core.specs.Algebra.{Line, Sum, Product, Combination, Import, Delete, Ledger, Premises, AreLawfulLines, Closes, IsLawfulLine, after, after_all, beginning, import_of, modulus}
 use Rattle.graph_core.specs.Algebra.Text.{IsLawfulAlgebraFile, IsLineText}
 use Rattle.graph_core.specs.Algebra.Refusal.{AlgebraCause, IsAlgebraRefusal, IsAlgebraStep, IsRefusedNext, IsRefusedText}
-use Rattle.graph_core.specs.Algebra.Agreement.{Agree, AreSameImports, AreSamePremises, PremisesAreKept}
+use Rattle.graph_core.specs.Algebra.Agreement.{AreSameImports, AreSamePremises, LedgersAgree, PremisesAreKept}
 use Rattle.graph_core.proofs.OfAlgebra.Agreements.{after_agrees, agree_refl, closes_agrees, lawful_agrees, refused_agrees, refused_close_agrees}
 
 -- ---- ledgers that agree
 
-pub lines_agree : (m : ℕ) (l k : Ledger) → Agree l k → (xs : List Line) → AreLawfulLines m l xs → AreLawfulLines m k xs × Agree (after_all m l xs) (after_all m k xs)
+pub lines_agree : (m : ℕ) (l k : Ledger) → LedgersAgree l k → (xs : List Line) → AreLawfulLines m l xs → AreLawfulLines m k xs × LedgersAgree (after_all m l xs) (after_all m k xs)
 lines_agree m l k a [] h = (tt, a)
 lines_agree m l k a (x ∷ xs) h =
     let more = lines_agree m (after m l x) (after m k x) (after_agrees m l k a x) xs h.1 in
     ((lawful_agrees m l k a x h.0, more.0), more.1)
 
 module _ (version : ℕ) (e : Extended) (sides : Sides) (IsLong : List ℕ → Type 0) where
-  module _ (l k : Ledger) (agrees : Agree l k) (left : List ℕ) (q : ℕ × AlgebraCause) where
+  module _ (l k : Ledger) (agrees : LedgersAgree l k) (left : List ℕ) (q : ℕ × AlgebraCause) where
     text_agrees : IsRefusedText version e sides IsLong l left q → IsRefusedText version e sides IsLong k left q
     text_agrees (inl h) = inl h
     text_agrees (inr (inl h)) = inr (inl (h.0, h.1, h.2, (h.3.0, refused_agrees e l k agrees h.0 h.3.0 h.3.1, h.3.2)))
@@ -35,7 +35,7 @@ module _ (version : ℕ) (e : Extended) (sides : Sides) (IsLong : List ℕ → T
   abbrev RefusedBehind : ℕ × AlgebraCause → List Line → Ledger → List ℕ → Type 0
   RefusedBehind q xs l left = Behind (IsLineText version) (IsAlgebraStep e) IsLong (λ l left. IsRefusedNext version e sides IsLong l left q) xs l left
 
-  behind_agrees : (q : ℕ × AlgebraCause) (xs : List Line) (l k : Ledger) → Agree l k → (left : List ℕ) → RefusedBehind q xs l left → RefusedBehind q xs k left
+  behind_agrees : (q : ℕ × AlgebraCause) (xs : List Line) (l k : Ledger) → LedgersAgree l k → (left : List ℕ) → RefusedBehind q xs l left → RefusedBehind q xs k left
   behind_agrees q [] l k a left h = next_agrees l k a left q h
   behind_agrees q (x ∷ xs) l k a left (rest, next, short, begins, step, more) = (
     rest,
@@ -52,7 +52,7 @@ module _ (version : ℕ) (e : Extended) where
   abbrev over : List (Assignment → ℕ) → Premises
   over imports = record { version = version; extended = e; imports = imports }
 
-  begin_alike : (fs gs : List (Assignment → ℕ)) → AreSameImports fs gs → Agree (beginning (over fs)) (beginning (over gs))
+  begin_alike : (fs gs : List (Assignment → ℕ)) → AreSameImports fs gs → LedgersAgree (beginning (over fs)) (beginning (over gs))
   begin_alike fs gs same =
       let whole = agree_refl (beginning (over fs)) in
       record { last = whole.last; lines = whole.lines; imports = same }

@@ -13,7 +13,7 @@ use Rattle.graph_core.specs.Graph.Assignments.{listed}
 use Rattle.graph_core.specs.Graph.{defined}
 use Rattle.graph_core.specs.Aiger.{Listing, graph_of, listed_gate}
 use Rattle.graph_core.specs.Aiger.Refusal.{literals, left_sides, first_above, first_repeated, first_undefined}
-use Rattle.graph_core.specs.Graph.Searches.{is_above, is_unmarked, all_literals, operands, AreMarks}
+use Rattle.graph_core.specs.Graph.Searches.{is_above, is_unmarked, all_literals, gate_operands, AreMarks}
 use Rattle.graph_core.proofs.OfGraphs.Levels.{In, all_from_in}
 use Rattle.graph_core.proofs.OfGraphs.Faults.{find_none, in_left, in_right, in_parts, map_in, left_in, left_variables}
 use Rattle.graph_core.proofs.OfGraphs.WrittenValues.{listed-set}
@@ -83,14 +83,14 @@ pub find_same : (p q : Lit → Bool) → ((l : Lit) → p l ≡ q l) → (ls : L
 find_same p q h [] = refl
 find_same p q h (l ∷ ls) = ap₂ (λ b o. cond b (Some l) o) (h l) (find_same p q h ls)
 
-gates_read_are : (ts : List (Lit × Lit × Lit)) → flat_map (λ x. x.left ∷ x.right ∷ []) (map listed_gate ts) ≡ flat_map operands ts
+gates_read_are : (ts : List (Lit × Lit × Lit)) → flat_map (λ x. x.left ∷ x.right ∷ []) (map listed_gate ts) ≡ flat_map gate_operands ts
 gates_read_are [] = refl
 gates_read_are (t ∷ ts) = ap (λ ls. t.1 ∷ t.2 ∷ ls) (gates_read_are ts)
 
-pub undefined_is : (g : Listing) (marks : List Bool) → AreMarks (map variable_of (left_sides g)) marks → find (is_unmarked marks) (g.outputs ++ flat_map operands g.gates) ≡ first_undefined g
+pub undefined_is : (g : Listing) (marks : List Bool) → AreMarks (map variable_of (left_sides g)) marks → find (is_unmarked marks) (g.outputs ++ flat_map gate_operands g.gates) ≡ first_undefined g
 undefined_is g marks m =
     find_same (is_unmarked marks) (λ l. not (variable_of l == 0) && not (list_any (λ v. v == variable_of l) (defined (graph_of g))))
-    (λ l. ap (λ b. not (variable_of l == 0) && not b) (m (variable_of l) ∙ ap (list_any (λ v. v == variable_of l)) (left_variables g.inputs g.gates))) (g.outputs ++ flat_map operands g.gates) ∙
+    (λ l. ap (λ b. not (variable_of l == 0) && not b) (m (variable_of l) ∙ ap (list_any (λ v. v == variable_of l)) (left_variables g.inputs g.gates))) (g.outputs ++ flat_map gate_operands g.gates) ∙
     ap (λ ls. find (λ l. not (variable_of l == 0) && not (list_any (λ v. v == variable_of l) (defined (graph_of g)))) (g.outputs ++ ls)) (sym (gates_read_are g.gates))
 
 -- where no literal is above the limit, what is defined fits a table

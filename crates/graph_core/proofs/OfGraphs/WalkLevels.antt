@@ -11,14 +11,14 @@ use Rattle.graph_core.specs.Graph.Literals.{variable_of}
 use Rattle.graph_core.specs.Graph.{IsLevel, free, above}
 use Rattle.graph_core.specs.Aiger.Refusal.{HasLevel}
 use Rattle.graph_core.specs.Graph.Tables.{IsSettled, IsSchedule}
-use Rattle.graph_core.specs.Graph.Walk.{Visits, AreVisits, FitsPlaces, Reads, mark_of}
+use Rattle.graph_core.specs.Graph.Walk.{Visits, AreVisits, FitsPlaces, ReadsVariable, mark_of}
 use Rattle.graph_core.proofs.OfGraphs.Levels.{contains_in, distinct_from, distinct_same, level_inverted, not_free, one_level}
 use Rattle.graph_core.proofs.OfGraphs.TableLemmas.{scheduled_left, scheduled_right}
 use Rattle.graph_core.proofs.OfGraphs.WellFormedGates.{free_or_some}
 use Rattle.graph_core.proofs.OfGraphs.WalkSteps.{contains_variable, variable_contained}
 
 -- a variable that a gate reads has a lower level
-reads_lower : (gates : List Gate) → AllPairs ◌≢◌ (map (λ x. x.v) gates) → (x : Gate) (u k : ℕ) → Contains gates x → Reads x u → IsLevel gates x.v k → (m : ℕ) × IsLevel gates u m × (m < k)
+reads_lower : (gates : List Gate) → AllPairs ◌≢◌ (map (λ x. x.v) gates) → (x : Gate) (u k : ℕ) → Contains gates x → ReadsVariable x u → IsLevel gates x.v k → (m : ℕ) × IsLevel gates u m × (m < k)
 reads_lower gates apart x u k some reads level = ⊎_elim (λ a. absurd (not_free gates x x.v (contains_in x gates some) refl a.0)) go (level_inverted gates x.v k level)
   where
     go : (y : Gate) × (i j : ℕ) × Contains gates y × (y.v ≡ x.v) × IsLevel gates (variable_of y.left) i × IsLevel gates (variable_of y.right) j × (k ≡ suc (max i j)) → (m : ℕ) × IsLevel gates u m × (m < k)
@@ -68,7 +68,7 @@ module _ (w : Visits) (is : AreVisits w) where
       (lower.0, subst (λ j. IsLevel w.gates (slice_index_or w.path j d).v lower.0) next lower.1, omega arith)
 
   -- where the last gate of the path reads a variable of the path, the first has no level
-  pub no_level : (d x : Gate) (u : ℕ) → 0 < length w.path → slice_index_or w.path (length w.path - 1) d ≡ x → Reads x u → mark_of w u ≡ Open → HasLevel w.gates (slice_index_or w.path 0 d).v → ⊥
+  pub no_level : (d x : Gate) (u : ℕ) → 0 < length w.path → slice_index_or w.path (length w.path - 1) d ≡ x → ReadsVariable x u → mark_of w u ≡ Open → HasLevel w.gates (slice_index_or w.path 0 d).v → ⊥
   no_level d x u some last reads marked level =
       let at = is.opened u marked in
       let i : ℕ = at.0 in

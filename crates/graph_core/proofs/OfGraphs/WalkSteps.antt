@@ -15,7 +15,7 @@ use Rattle.graph_core.specs.Graph.Literals.{variable_of}
 use Rattle.graph_core.specs.Graph.{IsFree, IsGateOf}
 use Rattle.graph_core.specs.Aiger.Refusal.{HasLevel}
 use Rattle.graph_core.specs.Graph.Tables.{IsSettled}
-use Rattle.graph_core.specs.Graph.Walk.{Visits, AreVisits, FitsPlaces, ArePlaces, Reads, GoesOn, mark_of, first_mark, entered, left}
+use Rattle.graph_core.specs.Graph.Walk.{Visits, AreVisits, FitsPlaces, AreGatePlaces, ReadsVariable, KeepsReached, mark_of, first_mark, entered, left}
 use Rattle.graph_core.proofs.OfGraphs.TableLemmas.{place_read}
 use Rattle.graph_core.proofs.OfGraphs.WrittenValues.{below_or_not}
 
@@ -84,7 +84,7 @@ module _ (w : Visits) (is : AreVisits w) (x : Gate) (some : Contains w.gates x) 
   others : (old : Mark) (gates : List Gate) → (mark_of w x.v ≡ old → ⊥) → All (λ y. mark_of w y.v ≡ old) gates → All (λ y. y.v ≢ x.v) gates
   others old gates n h k d l e = n (ap (mark_of w) (sym e) ∙ h k d l)
 
-  module _ (new : mark_of w x.v ≡ New) (read : (d : Gate) → 0 < length w.path → Reads (slice_index_or w.path (length w.path - 1) d) x.v) where
+  module _ (new : mark_of w x.v ≡ New) (read : (d : Gate) → 0 < length w.path → ReadsVariable (slice_index_or w.path (length w.path - 1) d) x.v) where
     entered_done : (v : ℕ) → marked Open v ≡ Done → IsSettled w.gates w.schedule v
     entered_done v h = ⊎_elim (λ e. absurd (open_done (marked_here Open v e) h)) (λ n. is.done v (sym (marked_other Open v n) ∙ h)) (cases_eq v x.v)
 
@@ -94,17 +94,17 @@ module _ (w : Visits) (is : AreVisits w) (x : Gate) (some : Contains w.gates x) 
         (⊎_elim (λ e. subst (Contains (map (λ y. y.v) w.path ++ x.v ∷ [])) (sym e) (Contains-push (map (λ y. y.v) w.path) x.v))
         (λ n. Contains-append_left (map (λ y. y.v) w.path) (x.v ∷ []) v (is.opened v (sym (marked_other Open v n) ∙ h))) (cases_eq v x.v))
 
-    entered_chain : (i : ℕ) (d : Gate) → i + 1 < length (w.path ++ x ∷ []) → Reads (slice_index_or (w.path ++ x ∷ []) i d) (slice_index_or (w.path ++ x ∷ []) (i + 1) d).v
+    entered_chain : (i : ℕ) (d : Gate) → i + 1 < length (w.path ++ x ∷ []) → ReadsVariable (slice_index_or (w.path ++ x ∷ []) i d) (slice_index_or (w.path ++ x ∷ []) (i + 1) d).v
     entered_chain i d below =
         let size = length-append w.path (x ∷ []) in
         let before = get_or_append_left w.path (x ∷ []) d i (omega arith) in
         ⊎_elim
         (λ e. let last = get_or_push w.path x d (i + 1) (sym e) in
         let at : length w.path - 1 ≡ i = omega arith in
-        subst (λ y. Reads (slice_index_or (w.path ++ x ∷ []) i d) y.v) (sym last) (subst (λ y. Reads y x.v) (sym before) (subst (λ k. Reads (slice_index_or w.path k d) x.v) at (read d (omega arith)))))
+        subst (λ y. ReadsVariable (slice_index_or (w.path ++ x ∷ []) i d) y.v) (sym last) (subst (λ y. ReadsVariable y x.v) (sym before) (subst (λ k. ReadsVariable (slice_index_or w.path k d) x.v) at (read d (omega arith)))))
         (λ n. let within : i + 1 < length w.path = omega arith in
         let next = get_or_append_left w.path (x ∷ []) d (i + 1) within in
-        subst (λ y. Reads (slice_index_or (w.path ++ x ∷ []) i d) y.v) (sym next) (subst (λ y. Reads y (slice_index_or w.path (i + 1) d).v) (sym before) (is.chain i d within)))
+        subst (λ y. ReadsVariable (slice_index_or (w.path ++ x ∷ []) i d) y.v) (sym next) (subst (λ y. ReadsVariable y (slice_index_or w.path (i + 1) d).v) (sym before) (is.chain i d within)))
         (cases_eq (i + 1) (length w.path))
 
     pub visits_entered : AreVisits (entered w x)
@@ -155,12 +155,12 @@ module _ (w : Visits) (is : AreVisits w) (front : List Gate) (x : Gate) (path : 
       (λ n. ⊎_elim (λ c. c) (λ e. absurd (n (sym e))) (Contains-push_cases (map (λ y. y.v) front) x.v v
       (subst (λ vs. Contains vs v) (ap (map (λ y. y.v)) path ∙ map_push (λ y. y.v) front x) (is.opened v (sym (marked_other w is x last_on_path Done v n) ∙ h))))) (cases_eq v x.v)
 
-  left_chain : (i : ℕ) (d : Gate) → i + 1 < length front → Reads (slice_index_or front i d) (slice_index_or front (i + 1) d).v
+  left_chain : (i : ℕ) (d : Gate) → i + 1 < length front → ReadsVariable (slice_index_or front i d) (slice_index_or front (i + 1) d).v
   left_chain i d below =
       let size = length-append front (x ∷ []) in
       let before = ap (λ p. slice_index_or p i d) path ∙ get_or_append_left front (x ∷ []) d i (omega arith) in
       let next = ap (λ p. slice_index_or p (i + 1) d) path ∙ get_or_append_left front (x ∷ []) d (i + 1) below in
-      subst (λ y. Reads (slice_index_or front i d) y.v) next (subst (λ y. Reads y (slice_index_or w.path (i + 1) d).v) before (is.chain i d (omega (arith, ap length path))))
+      subst (λ y. ReadsVariable (slice_index_or front i d) y.v) next (subst (λ y. ReadsVariable y (slice_index_or w.path (i + 1) d).v) before (is.chain i d (omega (arith, ap length path))))
 
   left_settled : (v : ℕ) → IsSettled w.gates w.schedule v → IsSettled w.gates (w.schedule ++ x ∷ []) v
   left_settled v (inl f) = inl f
@@ -204,7 +204,7 @@ module _ (w : Visits) (is : AreVisits w) (front : List Gate) (x : Gate) (path : 
   }
 
 -- the gate of a variable that isn't reached yet
-pub new_gate : (w : Visits) (places : List ℕ) (v : ℕ) → AreVisits w → ArePlaces w.gates (length w.marks) places → v < length w.marks → mark_of w v ≡ New →
+pub new_gate : (w : Visits) (places : List ℕ) (v : ℕ) → AreVisits w → AreGatePlaces w.gates (length w.marks) places → v < length w.marks → mark_of w v ≡ New →
     (get_or places v 0 - 1 < length w.gates) × ((d : Gate) → IsGateOf w.gates v (get_or w.gates (get_or places v 0 - 1) d))
 new_gate w places v is table low new =
     let place = table.each v low in
@@ -218,7 +218,7 @@ split_last xs x some last =
     sym (take_all (length xs) xs (omega arith)) ∙ ap (λ n. take n xs) (sym here) ∙ take_more xs (length xs - 1) x (omega arith) ∙ ap (λ y. take (length xs - 1) xs ++ y ∷ []) (last x)
 
 -- before the first gate
-module _ (gates : List Gate) (places : List ℕ) (fits : All (FitsPlaces (length places)) gates) (distinct : AllPairs ◌≢◌ (map (λ x. x.v) gates)) (table : ArePlaces gates (length places) places) where
+module _ (gates : List Gate) (places : List ℕ) (fits : All (FitsPlaces (length places)) gates) (distinct : AllPairs ◌≢◌ (map (λ x. x.v) gates)) (table : AreGatePlaces gates (length places) places) where
   abbrev before : Visits
   before = record { gates = gates; marks = map first_mark places; path = []; schedule = [] }
 
@@ -278,10 +278,10 @@ module _ (gates : List Gate) (places : List ℕ) (fits : All (FitsPlaces (length
 
 -- ---- what the calls leave
 
-pub sized : {gates : List Gate} {places : List ℕ} (marks : List Mark) (v : ℕ) (m : Mark) → ArePlaces gates (length marks) places → ArePlaces gates (length (slice_set marks v m)) places
-sized {gates} {places} marks v m h = subst (λ n. ArePlaces gates n places) (sym (length-set marks v m)) h
+pub sized : {gates : List Gate} {places : List ℕ} (marks : List Mark) (v : ℕ) (m : Mark) → AreGatePlaces gates (length marks) places → AreGatePlaces gates (length (slice_set marks v m)) places
+sized {gates} {places} marks v m h = subst (λ n. AreGatePlaces gates n places) (sym (length-set marks v m)) h
 
-module _ (w : Visits) (places : List ℕ) (v : ℕ) (d : Gate) (path : List Gate) (is : AreVisits w) (table : ArePlaces w.gates (length w.marks) places) (low : v < length w.marks) (new : mark_of w v ≡ New)
+module _ (w : Visits) (places : List ℕ) (v : ℕ) (d : Gate) (path : List Gate) (is : AreVisits w) (table : AreGatePlaces w.gates (length w.marks) places) (low : v < length w.marks) (new : mark_of w v ≡ New)
     (pushed : path ≡ w.path ++ get_or w.gates (get_or places v 0 - 1) d ∷ []) where
   is_gate : IsGateOf w.gates v (get_or w.gates (get_or places v 0 - 1) d)
   is_gate = (new_gate w places v is table low new).1 d
@@ -293,12 +293,12 @@ module _ (w : Visits) (places : List ℕ) (v : ℕ) (d : Gate) (path : List Gate
     ap₂ (λ u p. record { gates = w.gates; marks = slice_set w.marks u Open; path = p; schedule = w.schedule }) (sym is_gate.1) pushed,
   )
 
-  pub enter_keeps : ((e : Gate) → 0 < length w.path → Reads (slice_index_or w.path (length w.path - 1) e) v) → AreVisits (record { gates = w.gates; marks = slice_set w.marks v Open; path = path; schedule = w.schedule })
+  pub enter_keeps : ((e : Gate) → 0 < length w.path → ReadsVariable (slice_index_or w.path (length w.path - 1) e) v) → AreVisits (record { gates = w.gates; marks = slice_set w.marks v Open; path = path; schedule = w.schedule })
   enter_keeps read =
       let x = is_entered.0 in
       let same : x.v ≡ v = is_entered.1.1 in
       subst AreVisits (sym is_entered.2)
-      (visits_entered w is x is_entered.1.0 (ap (mark_of w) same ∙ new) (λ e some. subst (Reads (slice_index_or w.path (length w.path - 1) e)) (sym same) (read e some)))
+      (visits_entered w is x is_entered.1.0 (ap (mark_of w) same ∙ new) (λ e some. subst (ReadsVariable (slice_index_or w.path (length w.path - 1) e)) (sym same) (read e some)))
 
 -- ---- on the way
 
@@ -333,8 +333,8 @@ none_read inside w path own same read = subst (λ p. p ≡ []) (own ∙ ap (λ v
 abbrev pub SameStart : Visits → Visits → Type 0
 SameStart old new = (d : Gate) → 0 < length new.path → slice_index_or new.path 0 d ≡ slice_index_or old.path 0 d
 
-pub goes_on_by_entering : (old w new : Visits) (x : Gate) → AreVisits w → Contains w.gates x → GoesOn old w → new ≡ entered w x → GoesOn old new
-goes_on_by_entering old w new x is some on e = subst (GoesOn old) (sym e) (record {
+pub goes_on_by_entering : (old w new : Visits) (x : Gate) → AreVisits w → Contains w.gates x → KeepsReached old w → new ≡ entered w x → KeepsReached old new
+goes_on_by_entering old w new x is some on e = subst (KeepsReached old) (sym e) (record {
   gates = on.gates;
   size = length-set w.marks x.v Open ∙ on.size;
   reached = λ v n. ⊎_elim (λ same. λ fresh. new_open fresh (marked_here w is x some Open v same)) (λ other. λ fresh. on.reached v n (sym (marked_other w is x some Open v other) ∙ fresh)) (cases_eq v x.v);
@@ -358,8 +358,8 @@ module _ (old w new : Visits) (x : Gate) (is : AreVisits w) (on : Contains w.pat
   here_some : Contains w.gates x
   here_some = All-contains (Contains w.gates) w.path x is.on_path on
 
-  pub goes_on_by_leaving : GoesOn old w → GoesOn old new
-  goes_on_by_leaving on = subst (GoesOn old) (sym e) (record {
+  pub goes_on_by_leaving : KeepsReached old w → KeepsReached old new
+  goes_on_by_leaving on = subst (KeepsReached old) (sym e) (record {
     gates = on.gates;
     size = length-set w.marks x.v Done ∙ on.size;
     reached = λ v n. ⊎_elim (λ same. λ fresh. new_done fresh (marked_here w is x here_some Done v same)) (λ other. λ fresh. on.reached v n (sym (marked_other w is x here_some Done v other) ∙ fresh)) (cases_eq v x.v);
@@ -384,14 +384,14 @@ still_new inside w v m same low read shut undone = go (mark_of w v) refl
     go Open e = absurd (shut (sym (mark_read w.marks v m low (subst (λ u. m ≡ get_or u.marks v m) same read)) ∙ e))
     go Done e = absurd (undone e)
 
-pub reads_in_range : (n : ℕ) (x : Gate) (v : ℕ) → FitsPlaces n x → Reads x v → v < n
+pub reads_in_range : (n : ℕ) (x : Gate) (v : ℕ) → FitsPlaces n x → ReadsVariable x v → v < n
 reads_in_range n x v fits (inl e) = let l = fits.left in omega arith
 reads_in_range n x v fits (inr e) = let r = fits.right in omega arith
 
-pub goes_on_itself : (w : Visits) → GoesOn w w
+pub goes_on_itself : (w : Visits) → KeepsReached w w
 goes_on_itself w = record { gates = refl; size = refl; reached = λ v n. n }
 
-pub goes_on_twice : (old mid new : Visits) → GoesOn old mid → GoesOn mid new → GoesOn old new
+pub goes_on_twice : (old mid new : Visits) → KeepsReached old mid → KeepsReached mid new → KeepsReached old new
 goes_on_twice old mid new a b = record { gates = b.gates ∙ a.gates; size = b.size ∙ a.size; reached = λ v n. b.reached v (a.reached v n) }
 
 -- the first gate of a path that was empty

@@ -6,7 +6,7 @@ use Rattle.std.specs.List.{AllByRecursion}
 use Rattle.std.proofs.Common.{refl, sym, ap, ap₂, subst, ◌∙◌, arith, append_assoc, length-append, inl, inr, ⊎_elim, eqb-true}
 use Rattle.std.proofs.lemmas.Option.{same_Some}
 use Rattle.graph_core.specs.Text.{newline}
-use Rattle.graph_core.specs.Text.Readers.{Reader, Reads, Ended, Anything}
+use Rattle.graph_core.specs.Text.Readers.{Reader, IsReaderOf, Ended, Anything}
 use Rattle.graph_core.specs.Text.JudgedLines.{Lengths, front_line, behind_line, IsTooLong, IsLineStart, IsWithin, BeginsWith, Behind, Unless, Never, IsExact}
 use Rattle.graph_core.specs.Text.Numerals.{front_at}
 use Rattle.graph_core.proofs.OfTexts.NumeralReading.{front_takes, front_again}
@@ -104,7 +104,7 @@ module _ {State Line : Type 0} (IsText : List ℕ → Line → Type 0) (Step : S
       (λ on. let more = walk Keeps F judge keeps most on.2 on.1 (omega (arith, few, ap length on.4.2 ∙ length-append on.4.0 (newline ∷ on.1))) (keeps s on.0 on.2 k on.5) in
       (on.0 ∷ more.0, (on.1, on.2, on.3, on.4, on.5, more.1))) (judge s bytes k)
 
-  module _ (item : Reader Line) (r : Reads item (Ended IsText (newline ∷ [])) Anything) where
+  module _ (item : Reader Line) (r : IsReaderOf item (Ended IsText (newline ∷ [])) Anything) where
     -- what stands at the front is one line
     pub one_line : (bytes : List ℕ) (x y : Line) (rest more : List ℕ) → BeginsWith IsText bytes x rest → BeginsWith IsText bytes y more → (x ≡ y) × (rest ≡ more)
     one_line bytes x y rest more h i =

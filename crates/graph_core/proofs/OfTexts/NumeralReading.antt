@@ -9,7 +9,7 @@ use Rattle.std.proofs.lemmas.List.Elements.{All-from_recursion, recursion_from_A
 use Rattle.std.proofs.lemmas.Option.{same_Some}
 use Rattle.graph_core.proofs.OfTexts.Numerals.{digit_is}
 use Rattle.graph_core.specs.Text.{IsDigit, IsNumeral, decimal}
-use Rattle.graph_core.specs.Text.Numerals.{is_digit, digits_of, behind_digits, ◌>>=◌, number_at, byte_at, front_at}
+use Rattle.graph_core.specs.Text.Numerals.{is_digit, digits_of, behind_digits, ◌>>=◌, number_at, behind_byte, front_at}
 
 pub is_digit_of : (b : ℕ) → IsDigit b → is_digit b ≡ true
 is_digit_of b h = ap₂ ◌&&◌ (le-leb 48 b h.0) (lt-ltb b 58 h.1)
@@ -72,19 +72,19 @@ number_again d digits n rest numeral stop =
     ap (λ c. cond c (Some (decimal digits, rest)) None) test ∙
     ap (λ k. Some (k, rest)) (sym numeral.number)
 
-pub byte_takes : (x : ℕ) (bytes rest : List ℕ) → byte_at x bytes ≡ Some rest → bytes ≡ x ∷ rest
+pub byte_takes : (x : ℕ) (bytes rest : List ℕ) → behind_byte x bytes ≡ Some rest → bytes ≡ x ∷ rest
 byte_takes x [] rest h = absurd (cc)
 byte_takes x (b ∷ bytes) rest h =
     let found = cond_some (b == x) bytes rest h in
     ap₂ ◌∷◌ (eqb-true b x found.0) found.1
 
-pub byte_again : (x : ℕ) (rest : List ℕ) → byte_at x (x ∷ rest) ≡ Some rest
+pub byte_again : (x : ℕ) (rest : List ℕ) → behind_byte x (x ∷ rest) ≡ Some rest
 byte_again x rest = ap (λ c. cond c (Some rest) None) (eq-eqb x x refl)
 
 pub front_takes : (xs bytes rest : List ℕ) → front_at xs bytes ≡ Some rest → bytes ≡ xs ++ rest
 front_takes [] bytes rest h = same_Some bytes rest h
 front_takes (x ∷ xs) bytes rest h =
-    let first = bind_some (byte_at x bytes) (front_at xs) rest h in
+    let first = bind_some (behind_byte x bytes) (front_at xs) rest h in
     byte_takes x bytes first.0 first.1 ∙ ap (λ ys. x ∷ ys) (front_takes xs first.0 rest first.2)
 
 pub front_again : (xs rest : List ℕ) → front_at xs (xs ++ rest) ≡ Some rest

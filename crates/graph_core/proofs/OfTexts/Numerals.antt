@@ -5,8 +5,9 @@ use Rattle.std.proofs.Common.{refl, sym, ap, ap₂, subst, ◌∙◌, arith, eq-
 use Rattle.std.proofs.lemmas.Bool.{and_parts, ltb-false}
 use Rattle.std.proofs.lemmas.List.Elements.{All-from_recursion, recursion_from_All}
 use Rattle.graph_core.specs.Text.{IsDigit, IsNumeral, space}
-use Rattle.graph_core.specs.Aiger.Reading.{Stop, Wrong, ◌>>=◌, Go, Done, No, Bad, advance, scan, from_start, is_digit, Digits, Before, Behind, judged, ended, digit_step, numeral_at, field_at, number_below}
+use Rattle.graph_core.specs.Aiger.Reading.{Stop, Wrong, ◌>>=◌, Go, Done, No, Bad, advance, scan, from_start, Digits, Before, Behind, judged, ended, digit_step, numeral_at, field_at, number_below}
 use Rattle.graph_core.proofs.OfTexts.Steady.{bind_ok, bind_err, same_Ok, started_wrong, started_ok}
+use Rattle.graph_core.specs.Text.Numerals.{is_digit}
 
 pub digit_is : (b : ℕ) → is_digit b ≡ true → IsDigit b
 digit_is b h = let parts = and_parts (nat_le 48 b) (nat_lt b 58) h in (leb-true 48 b parts.0, ltb-true b 58 parts.1)

@@ -6,7 +6,7 @@ use Rattle.std.proofs.Common.{refl, sym, ap, subst, ◌∙◌, arith, append_ass
 use Rattle.std.proofs.lemmas.Option.{same_Some}
 use Rattle.graph_core.specs.Text.Numerals.{◌>>=◌, front_at, number_at, is_digit}
 use Rattle.graph_core.specs.Text.{IsNumeral}
-use Rattle.graph_core.specs.Text.Readers.{Reader, map_at, behind_at, ended_at, then_at, text_at, bind_at, choose_at, many_in, many_at, put_before, Ended, BehindText, Then, Bind, AreMany, NoneOf, OneOf, Reads, Anything}
+use Rattle.graph_core.specs.Text.Readers.{Reader, map_at, behind_at, ended_at, then_at, text_at, bind_at, choose_at, many_in, many_at, put_before, Ended, BehindText, Then, Bind, AreMany, NoneOf, OneOf, IsReaderOf, Anything}
 use Rattle.graph_core.proofs.OfTexts.NumeralReading.{bind_some, front_takes, front_again, number_takes, number_again, NoDigit}
 
 -- no digit, as the readers say it
@@ -14,30 +14,30 @@ no_digit : (rest : List ℕ) → NoneOf is_digit rest → NoDigit rest
 no_digit [] h = tt
 no_digit (b ∷ rest) h = h
 
-pub reads_number : (d : ℕ) → Reads (number_at d) (IsNumeral d) (NoneOf is_digit)
+pub reads_number : (d : ℕ) → IsReaderOf (number_at d) (IsNumeral d) (NoneOf is_digit)
 reads_number d = record {
   takes = number_takes d;
   again = λ front x rest is stop. number_again d front x rest is (no_digit rest stop);
 }
 
 -- the same reader for texts of another name
-pub reads_as : {A : Type 0} {item : Reader A} {Is : List ℕ → A → Type 0} {Follows : List ℕ → Type 0} (Other : List ℕ → A → Type 0) → Reads item Is Follows →
-    ((bytes : List ℕ) (x : A) → Is bytes x → Other bytes x) → ((bytes : List ℕ) (x : A) → Other bytes x → Is bytes x) → Reads item Other Follows
+pub reads_as : {A : Type 0} {item : Reader A} {Is : List ℕ → A → Type 0} {Follows : List ℕ → Type 0} (Other : List ℕ → A → Type 0) → IsReaderOf item Is Follows →
+    ((bytes : List ℕ) (x : A) → Is bytes x → Other bytes x) → ((bytes : List ℕ) (x : A) → Other bytes x → Is bytes x) → IsReaderOf item Other Follows
 reads_as Other r there back = record {
   takes = λ bytes x rest h. let t = r.takes bytes x rest h in (t.0, there t.0 x t.1, t.2);
   again = λ front x rest is follows. r.again front x rest (back front x is) follows;
 }
 
 -- and for fewer texts behind it
-pub reads_before : {A : Type 0} {item : Reader A} {Is : List ℕ → A → Type 0} {Follows : List ℕ → Type 0} (Fewer : List ℕ → Type 0) → Reads item Is Follows →
-    ((rest : List ℕ) → Fewer rest → Follows rest) → Reads item Is Fewer
+pub reads_before : {A : Type 0} {item : Reader A} {Is : List ℕ → A → Type 0} {Follows : List ℕ → Type 0} (Fewer : List ℕ → Type 0) → IsReaderOf item Is Follows →
+    ((rest : List ℕ) → Fewer rest → Follows rest) → IsReaderOf item Is Fewer
 reads_before Fewer r fewer = record {
   takes = r.takes;
   again = λ front x rest is follows. r.again front x rest is (fewer rest follows);
 }
 
-pub reads_map : {A B : Type 0} {item : Reader A} {Is : List ℕ → A → Type 0} {Follows : List ℕ → Type 0} (f : A → B) (Other : List ℕ → B → Type 0) → Reads item Is Follows →
-    ((bytes : List ℕ) (x : A) → Is bytes x → Other bytes (f x)) → ((bytes : List ℕ) (y : B) → Other bytes y → (x : A) × Is bytes x × (f x ≡ y)) → Reads (map_at f item) Other Follows
+pub reads_map : {A B : Type 0} {item : Reader A} {Is : List ℕ → A → Type 0} {Follows : List ℕ → Type 0} (f : A → B) (Other : List ℕ → B → Type 0) → IsReaderOf item Is Follows →
+    ((bytes : List ℕ) (x : A) → Is bytes x → Other bytes (f x)) → ((bytes : List ℕ) (y : B) → Other bytes y → (x : A) × Is bytes x × (f x ≡ y)) → IsReaderOf (map_at f item) Other Follows
 reads_map {A} {B} {item} {Is} {Follows} f Other r there back = record { takes = takes; again = again }
   where
     takes : (bytes : List ℕ) (y : B) (rest : List ℕ) → map_at f item bytes ≡ Some (y, rest) → (front : List ℕ) × Other front y × (bytes ≡ front ++ rest)
@@ -52,7 +52,7 @@ reads_map {A} {B} {item} {Is} {Follows} f Other r there back = record { takes = 
         let b = back front y is in
         ap (λ o. o >>= (λ x. Some (f x.0, x.1))) (r.again front b.0 rest b.1 follows) ∙ ap (λ z. Some (z, rest)) b.2
 
-pub reads_behind : {A : Type 0} {item : Reader A} {Is : List ℕ → A → Type 0} {Follows : List ℕ → Type 0} (text : List ℕ) → Reads item Is Follows → Reads (behind_at text item) (BehindText text Is) Follows
+pub reads_behind : {A : Type 0} {item : Reader A} {Is : List ℕ → A → Type 0} {Follows : List ℕ → Type 0} (text : List ℕ) → IsReaderOf item Is Follows → IsReaderOf (behind_at text item) (BehindText text Is) Follows
 reads_behind {A} {item} {Is} {Follows} text r = record {
   takes = λ bytes x rest h. let first = bind_some (front_at text bytes) item (x, rest) h in
       let t = r.takes first.0 x rest first.2 in
@@ -61,8 +61,8 @@ reads_behind {A} {item} {Is} {Follows} text r = record {
       ap (λ o. o >>= item) (front_again text (is.0 ++ rest)) ∙ r.again is.0 x rest is.1 follows;
 }
 
-pub reads_ended : {A : Type 0} {item : Reader A} {Is : List ℕ → A → Type 0} {Follows : List ℕ → Type 0} (text : List ℕ) → Reads item Is Follows → ((rest : List ℕ) → Follows (text ++ rest)) →
-    Reads (ended_at item text) (Ended Is text) Anything
+pub reads_ended : {A : Type 0} {item : Reader A} {Is : List ℕ → A → Type 0} {Follows : List ℕ → Type 0} (text : List ℕ) → IsReaderOf item Is Follows → ((rest : List ℕ) → Follows (text ++ rest)) →
+    IsReaderOf (ended_at item text) (Ended Is text) Anything
 reads_ended {A} {item} {Is} {Follows} text r follows = record {
   takes = λ bytes x rest h. let first = bind_some (item bytes) (λ y. front_at text y.1 >>= (λ left. Some (y.0, left))) (x, rest) h in
       let second = bind_some (front_at text first.0.1) (λ left. Some (first.0.0, left)) (x, rest) first.2 in
@@ -77,8 +77,8 @@ reads_ended {A} {item} {Is} {Follows} text r follows = record {
       ap (λ o. o >>= (λ left. Some (x, left))) (front_again text rest);
 }
 
-pub reads_then : {A B : Type 0} {one : Reader A} {two : Reader B} {One : List ℕ → A → Type 0} {Two : List ℕ → B → Type 0} {First Follows : List ℕ → Type 0} → Reads one One First → Reads two Two Follows →
-    ((front : List ℕ) (y : B) (rest : List ℕ) → Two front y → Follows rest → First (front ++ rest)) → Reads (then_at one two) (Then One Two) Follows
+pub reads_then : {A B : Type 0} {one : Reader A} {two : Reader B} {One : List ℕ → A → Type 0} {Two : List ℕ → B → Type 0} {First Follows : List ℕ → Type 0} → IsReaderOf one One First → IsReaderOf two Two Follows →
+    ((front : List ℕ) (y : B) (rest : List ℕ) → Two front y → Follows rest → First (front ++ rest)) → IsReaderOf (then_at one two) (Then One Two) Follows
 reads_then {A} {B} {one} {two} {One} {Two} {First} {Follows} r s joins = record { takes = takes; again = again }
   where
     takes : (bytes : List ℕ) (x : A × B) (rest : List ℕ) → then_at one two bytes ≡ Some (x, rest) → (front : List ℕ) × Then One Two front x × (bytes ≡ front ++ rest)
@@ -99,7 +99,7 @@ reads_then {A} {B} {one} {two} {One} {Two} {First} {Follows} r s joins = record 
         ap (λ o. o >>= (λ y. two y.1 >>= (λ z. Some ((y.0, z.0), z.1)))) (r.again is.0 x.0 (is.1 ++ rest) is.2 (joins is.1 x.1 rest is.3 follows)) ∙
         ap (λ o. o >>= (λ z. Some ((x.0, z.0), z.1))) (s.again is.1 x.1 rest is.3 follows)
 
-pub reads_text : {A : Type 0} (text : List ℕ) (x : A) → Reads (text_at text x) (λ bytes y. (y ≡ x) × (bytes ≡ text)) Anything
+pub reads_text : {A : Type 0} (text : List ℕ) (x : A) → IsReaderOf (text_at text x) (λ bytes y. (y ≡ x) × (bytes ≡ text)) Anything
 reads_text {A} text x = record {
   takes = λ bytes y rest h. let first = bind_some (front_at text bytes) (λ left. Some (x, left)) (y, rest) h in
       let same = same_Some (x, first.0) (y, rest) first.2 in
@@ -107,8 +107,8 @@ reads_text {A} text x = record {
   again = λ front y rest is any. ap (λ z. text_at text x (z ++ rest)) is.1 ∙ ap (λ o. o >>= (λ left. Some (x, left))) (front_again text rest) ∙ ap (λ z. Some (z, rest)) (sym is.0);
 }
 
-pub reads_bind : {A B : Type 0} {one : Reader A} {two : A → Reader B} {One : List ℕ → A → Type 0} {Two : A → List ℕ → B → Type 0} {Follows : List ℕ → Type 0} → Reads one One Anything → ((x : A) → Reads (two x) (Two x) Follows) →
-    Reads (bind_at one two) (Bind One Two) Follows
+pub reads_bind : {A B : Type 0} {one : Reader A} {two : A → Reader B} {One : List ℕ → A → Type 0} {Two : A → List ℕ → B → Type 0} {Follows : List ℕ → Type 0} → IsReaderOf one One Anything → ((x : A) → IsReaderOf (two x) (Two x) Follows) →
+    IsReaderOf (bind_at one two) (Bind One Two) Follows
 reads_bind {A} {B} {one} {two} {One} {Two} {Follows} r s = record { takes = takes; again = again }
   where
     takes : (bytes : List ℕ) (y : B) (rest : List ℕ) → bind_at one two bytes ≡ Some (y, rest) → (front : List ℕ) × Bind One Two front y × (bytes ≡ front ++ rest)
@@ -133,8 +133,8 @@ abbrev pub OtherOf : (ℕ → Bool) → List ℕ → Type 0
 OtherOf test [] = ⊥
 OtherOf test (b ∷ bytes) = test b ≡ false
 
-pub reads_choice : {A : Type 0} {one two : Reader A} {One Two : List ℕ → A → Type 0} {Follows : List ℕ → Type 0} (test : ℕ → Bool) → Reads one One Follows → Reads two Two Follows →
-    ((front : List ℕ) (x : A) → One front x → OneOf test front) → ((front : List ℕ) (x : A) → Two front x → OtherOf test front) → Reads (choose_at test one two) (λ bytes x. One bytes x ⊎ Two bytes x) Follows
+pub reads_choice : {A : Type 0} {one two : Reader A} {One Two : List ℕ → A → Type 0} {Follows : List ℕ → Type 0} (test : ℕ → Bool) → IsReaderOf one One Follows → IsReaderOf two Two Follows →
+    ((front : List ℕ) (x : A) → One front x → OneOf test front) → ((front : List ℕ) (x : A) → Two front x → OtherOf test front) → IsReaderOf (choose_at test one two) (λ bytes x. One bytes x ⊎ Two bytes x) Follows
 reads_choice {A} {one} {two} {One} {Two} {Follows} test r s is_one is_two = record { takes = takes; again = again }
   where
     takes : (bytes : List ℕ) (x : A) (rest : List ℕ) → choose_at test one two bytes ≡ Some (x, rest) → (front : List ℕ) × (One front x ⊎ Two front x) × (bytes ≡ front ++ rest)
@@ -163,7 +163,7 @@ put_some : {A : Type 0} (x : A) (o : Option (List A × List ℕ)) (xs : List A) 
 put_some x None xs rest h = absurd (cc)
 put_some {A} x (Some ys) xs rest h = let same = same_Some {A = List A × List ℕ} (x ∷ ys.0, ys.1) (xs, rest) h in (ys.0, ap (λ r. Some (ys.0, r)) (ap (λ p. p.1) same), ap (λ p. p.0) same)
 
-module _ {A : Type 0} (begins : ℕ → Bool) (item : Reader A) (Is : List ℕ → A → Type 0) (Follows : List ℕ → Type 0) (r : Reads item Is Follows) (starts : (front : List ℕ) (x : A) → Is front x → OneOf begins front)
+module _ {A : Type 0} (begins : ℕ → Bool) (item : Reader A) (Is : List ℕ → A → Type 0) (Follows : List ℕ → Type 0) (r : IsReaderOf item Is Follows) (starts : (front : List ℕ) (x : A) → Is front x → OneOf begins front)
     (next : (rest : List ℕ) → OneOf begins rest → Follows rest) where
   abbrev Taken : List ℕ → List A → List ℕ → Type 0
   Taken bytes xs rest = (front : List ℕ) × AreMany Is front xs × (bytes ≡ front ++ rest)
@@ -227,7 +227,7 @@ module _ {A : Type 0} (begins : ℕ → Bool) (item : Reader A) (Is : List ℕ �
           ap (put_before x) (later k (omega arith))
 
   -- Items are read as long as one begins.
-  pub reads_many : Reads (many_at begins item) (AreMany Is) (λ rest. NoneOf begins rest × Follows rest)
+  pub reads_many : IsReaderOf (many_at begins item) (AreMany Is) (λ rest. NoneOf begins rest × Follows rest)
   unfolding many_at
   reads_many = record {
     takes = λ bytes xs rest h. many_takes (length bytes) bytes xs rest h;

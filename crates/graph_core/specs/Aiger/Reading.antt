@@ -8,6 +8,7 @@ use Rattle.graph_core.specs.declared.fault.GraphFault.{GraphFault}
 use Rattle.graph_core.specs.Graph.{Aig}
 use Rattle.graph_core.specs.Aiger.{Form, Ascii, Binary, Counts, Listing, graph_of, symbol_bound, Lists, Spells}
 use Rattle.graph_core.specs.Aiger.Refusal.{counts_of, refused_field, Refusal, Text, Header, Faulty, fault_of, shown, IsRefusal}
+use Rattle.graph_core.specs.Text.Numerals.{is_digit}
 
 -- Why reading ends: no text goes on with these bytes, or ends here where none are left; or a number out of range begins these bytes.
 pub data Stop : Type 0 where
@@ -68,9 +69,6 @@ abbrev pub byte_at : ℕ → List ℕ → Result (Unit {0} × List ℕ) Stop
 byte_at x bytes = byte_where (the_byte x) bytes
 
 -- ---- numerals of up to ten digits
-
-abbrev pub is_digit : ℕ → Bool
-is_digit b = nat_le 48 b && nat_lt b 58
 
 -- before the first digit, or behind some, with so many more allowed, and their number
 pub data Digits : Type 0 where
@@ -250,12 +248,12 @@ triples_at (suc n) bytes = triple_at bytes >>= λ t. (triples_at n t.1 >>= λ ts
 -- ---- the whole file
 
 -- the bytes before those that are left
-abbrev pub place : List ℕ → List ℕ → ℕ
-place bytes left = length bytes - length left
+abbrev pub offset_of : List ℕ → List ℕ → ℕ
+offset_of bytes left = length bytes - length left
 
 abbrev pub or_text : {A : Type 0} → List ℕ → Result A Stop → Result A Refusal
 or_text bytes (Ok x) = Ok x
-or_text bytes (Err e) = Err (Text (place bytes (left_of e)))
+or_text bytes (Err e) = Err (Text (offset_of bytes (left_of e)))
 
 abbrev pub behind_fields : List ℕ → Form → List ℕ → List ℕ → Option Field → Result Listing Refusal
 behind_fields bytes form numbers rest None = or_text bytes (rest_at form (counts_of numbers) rest)
@@ -263,7 +261,7 @@ behind_fields bytes form numbers rest (Some f) = Err (Header f)
 
 abbrev pub behind_header : Profile → List ℕ → Result ((Form × List ℕ) × List ℕ) Stop → Result Listing Refusal
 behind_header p bytes (Ok x) = behind_fields bytes x.0.0 x.0.1 x.1 (refused_field p x.0.0 x.0.1)
-behind_header p bytes (Err e) = Err (Text (place bytes (left_of e)))
+behind_header p bytes (Err e) = Err (Text (offset_of bytes (left_of e)))
 
 -- the lists of a file, or the first refusal before those of its faults
 abbrev pub lists_at : Profile → List ℕ → Result Listing Refusal

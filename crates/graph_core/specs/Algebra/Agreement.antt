@@ -30,28 +30,28 @@ AreSameImports (f ∷ fs) [] = ⊥
 AreSameImports (f ∷ fs) (g ∷ gs) = ((σ : Assignment) → f σ ≡ g σ) × AreSameImports fs gs
 
 -- Two ledgers agree where they have the same last id, the same lines, and the same values to import.
-pub record Agree (l k : Ledger) : Type 0 where
+pub record LedgersAgree (l k : Ledger) : Type 0 where
   pub last : l.last ≡ k.last
   pub lines : AreSameLines l.live k.live
   pub imports : AreSameImports l.imports k.imports
 
 -- Agreeing is an equivalence.
 pub record AgreementIsEquivalence : Type 0 where
-  pub itself : (l : Ledger) → Agree l l
-  pub back : (l k : Ledger) → Agree l k → Agree k l
-  pub joins : (l k j : Ledger) → Agree l k → Agree k j → Agree l j
+  pub itself : (l : Ledger) → LedgersAgree l l
+  pub back : (l k : Ledger) → LedgersAgree l k → LedgersAgree k l
+  pub joins : (l k j : Ledger) → LedgersAgree l k → LedgersAgree k j → LedgersAgree l j
 
 -- Ledgers that agree take the same lines, agree after them, refuse the same lines for the same causes, and close alike.
 pub record AgreementIsKept : Type 0 where
-  pub lawful : (m : ℕ) (l k : Ledger) → Agree l k → (x : Line) → IsLawfulLine m l x → IsLawfulLine m k x
-  pub after : (m : ℕ) (l k : Ledger) → Agree l k → (x : Line) → Agree (after m l x) (after m k x)
-  pub refused : (e : Extended) (l k : Ledger) → Agree l k → (x : Line) (cause : AlgebraCause) → IsRefusedLine e l x cause → IsRefusedLine e k x cause
-  pub refused_in_range : (e : Extended) (l k : Ledger) → Agree l k → (x : Line) (cause : AlgebraCause) →
+  pub lawful : (m : ℕ) (l k : Ledger) → LedgersAgree l k → (x : Line) → IsLawfulLine m l x → IsLawfulLine m k x
+  pub after : (m : ℕ) (l k : Ledger) → LedgersAgree l k → (x : Line) → LedgersAgree (after m l x) (after m k x)
+  pub refused : (e : Extended) (l k : Ledger) → LedgersAgree l k → (x : Line) (cause : AlgebraCause) → IsRefusedLine e l x cause → IsRefusedLine e k x cause
+  pub refused_in_range : (e : Extended) (l k : Ledger) → LedgersAgree l k → (x : Line) (cause : AlgebraCause) →
       IsRefusedInRange e l x cause → IsRefusedInRange e k x cause
-  pub closes : (e : Extended) (sides : Sides) (l k : Ledger) → Agree l k → (id : ℕ) → Closes e sides l.live id → Closes e sides k.live id
-  pub refused_close : (e : Extended) (sides : Sides) (l k : Ledger) → Agree l k → (id : ℕ) (cause : AlgebraCause) →
+  pub closes : (e : Extended) (sides : Sides) (l k : Ledger) → LedgersAgree l k → (id : ℕ) → Closes e sides l.live id → Closes e sides k.live id
+  pub refused_close : (e : Extended) (sides : Sides) (l k : Ledger) → LedgersAgree l k → (id : ℕ) (cause : AlgebraCause) →
       IsRefusedClose e sides l id cause → IsRefusedClose e sides k id cause
-  pub refused_close_in_range : (e : Extended) (sides : Sides) (l k : Ledger) → Agree l k →
+  pub refused_close_in_range : (e : Extended) (sides : Sides) (l k : Ledger) → LedgersAgree l k →
       (id : ℕ) (cause : AlgebraCause) → IsRefusedCloseInRange e sides l id cause →
       IsRefusedCloseInRange e sides k id cause
 

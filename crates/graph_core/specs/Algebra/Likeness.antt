@@ -2,7 +2,7 @@
 use Rattle.std.specs.Prelude.{◌≡◌, ℕ, List, [], ◌∷◌}
 use Rattle.graph_core.specs.Graph.Assignments.{Assignment}
 use Rattle.graph_core.specs.Graph.Extended.{Extended}
-use Rattle.graph_core.specs.Algebra.Agreement.{Agree}
+use Rattle.graph_core.specs.Algebra.Agreement.{LedgersAgree}
 use Rattle.graph_core.specs.Algebra.InRange.{IsRefusedInRange}
 use Rattle.graph_core.specs.Algebra.Polynomials.{Polynomial, value}
 use Rattle.graph_core.specs.Algebra.Refusal.{AlgebraCause}
@@ -33,4 +33,4 @@ pub record LikenessIsKept : Type 0 where
   pub lawful : (m : ℕ) (l : Ledger) (x y : Line) → AreAlike m x y → IsLawfulLine m l y → IsLawfulLine m l x
   pub refused : (e : Extended) (l : Ledger) (x y : Line) (cause : AlgebraCause) → AreAlike (modulus e) x y →
       IsRefusedInRange e l y cause → IsRefusedInRange e l x cause
-  pub after : (m : ℕ) (l : Ledger) (x y : Line) → AreAlike m x y → Agree (after m l y) (after m l x)
+  pub after : (m : ℕ) (l : Ledger) (x y : Line) → AreAlike m x y → LedgersAgree (after m l y) (after m l x)

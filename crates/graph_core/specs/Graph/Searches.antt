@@ -20,8 +20,8 @@ is_unmarked marks l = not (variable_of l == 0) && not (listed marks (variable_of
 abbrev pub all_literals : Lit × Lit × Lit → List Lit
 all_literals t = t.0 ∷ t.1 ∷ t.2 ∷ []
 
-abbrev pub operands : Lit × Lit × Lit → List Lit
-operands t = t.1 ∷ t.2 ∷ []
+abbrev pub gate_operands : Lit × Lit × Lit → List Lit
+gate_operands t = t.1 ∷ t.2 ∷ []
 
 -- The table marks these variables, and no others.
 abbrev pub AreMarks : List ℕ → List Bool → Type 0

@@ -35,13 +35,13 @@ pub record FitsPlaces (n : ℕ) (x : Gate) : Type 0 where
   pub right : variable_of x.right < n
 
 -- The table has the places of the gates.
-pub record ArePlaces (gates : List Gate) (n : ℕ) (places : List ℕ) : Type 0 where
+pub record AreGatePlaces (gates : List Gate) (n : ℕ) (places : List ℕ) : Type 0 where
   pub size : length places ≡ n
   pub each : (v : ℕ) → v < n → IsPlace gates v (slice_index places v)
 
 -- The gate reads the variable.
-abbrev pub Reads : Gate → ℕ → Type 0
-Reads x v = (variable_of x.left ≡ v) ⊎ (variable_of x.right ≡ v)
+abbrev pub ReadsVariable : Gate → ℕ → Type 0
+ReadsVariable x v = (variable_of x.left ≡ v) ⊎ (variable_of x.right ≡ v)
 
 pub record AreVisits (w : Visits) : Type 0 where
   pub in_range : All (FitsPlaces (length w.marks)) w.gates
@@ -59,7 +59,7 @@ pub record AreVisits (w : Visits) : Type 0 where
   pub «open» : All (λ x. mark_of w x.v ≡ Open) w.path
   pub opened : (v : ℕ) → mark_of w v ≡ Open → Contains (map (λ x. x.v) w.path) v
   pub apart : AllPairs ◌≢◌ (map (λ x. x.v) w.path)
-  pub chain : (i : ℕ) (d : Gate) → i + 1 < length w.path → Reads (slice_index_or w.path i d) (slice_index_or w.path (i + 1) d).v
+  pub chain : (i : ℕ) (d : Gate) → i + 1 < length w.path → ReadsVariable (slice_index_or w.path i d) (slice_index_or w.path (i + 1) d).v
 
 -- A gate is put on the path.
 abbrev pub entered : Visits → Gate → Visits
@@ -70,7 +70,7 @@ abbrev pub left : Visits → List Gate → Gate → Visits
 left w front x = record { gates = w.gates; marks = slice_set w.marks x.v Done; path = front; schedule = w.schedule ++ x ∷ [] }
 
 -- What was reached stays so.
-pub record GoesOn (old new : Visits) : Type 0 where
+pub record KeepsReached (old new : Visits) : Type 0 where
   pub gates : new.gates ≡ old.gates
   pub size : length new.marks ≡ length old.marks
   pub reached : (v : ℕ) → mark_of old v ≢ New → mark_of new v ≢ New

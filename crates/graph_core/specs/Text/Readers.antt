@@ -83,7 +83,7 @@ OneOf test [] = ⊥
 OneOf test (b ∷ bytes) = test b ≡ true
 
 -- A reader takes texts of its kind alone, and takes each of them, where what follows doesn't go on with it.
-pub record Reads {A : Type 0} (item : Reader A) (Is : List ℕ → A → Type 0) (Follows : List ℕ → Type 0) : Type 0 where
+pub record IsReaderOf {A : Type 0} (item : Reader A) (Is : List ℕ → A → Type 0) (Follows : List ℕ → Type 0) : Type 0 where
   pub takes : (bytes : List ℕ) (x : A) (rest : List ℕ) → item bytes ≡ Some (x, rest) → (front : List ℕ) × Is front x × (bytes ≡ front ++ rest)
   pub again : (front : List ℕ) (x : A) (rest : List ℕ) → Is front x → Follows rest → item (front ++ rest) ≡ Some (x, rest)
 

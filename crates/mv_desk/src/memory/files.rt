@@ -14,18 +14,18 @@ pub struct Files {
 
 impl Model for Files {
     ghost use Rattle.std.specs.Prelude.{List};
-    ghost use Rattle.mv_desk.specs.Files.{File, files_of};
+    ghost use Rattle.mv_desk.specs.Files.{File, files_from};
 
     ghost Value = { List File };
 
-    ghost view = { λ f. files_of f.items.items };
+    ghost view = { λ f. files_from f.items.items };
 }
 
 impl Files {
-    ghost use Rattle.mv_desk.specs.Files.{files_of};
+    ghost use Rattle.mv_desk.specs.Files.{files_from};
 
     pub fn new(items: Vec<(String, Vec<u8>)>) -> Files
-        ensures { result ≡ files_of items.items }
+        ensures { result ≡ files_from items.items }
     {
         Files { items }
     }

@@ -23,10 +23,10 @@ pub struct MemoryDesk {
     counts: Counts,
 }
 
-#[tactic(auto, unfolding(crate::specs::MemoryDesk::view_of))]
+#[tactic(auto, unfolding(crate::specs::MemoryDesk::memory_view_of))]
 impl MemoryDesk {
-    ghost use Rattle.mv_desk.specs.MemoryDesk.{held_of, out_of, plan_of, rest_of, view_of};
-    ghost use Rattle.mv_desk.specs.Files.{files_of, held_at};
+    ghost use Rattle.mv_desk.specs.MemoryDesk.{held_in_memory, memory_view_of, out_in_memory, rest_in_memory, script_of};
+    ghost use Rattle.mv_desk.specs.Files.{files_from, held_at};
 
     /// Nothing is open but the report. Of several files of one name the first counts.
     ///
@@ -40,10 +40,10 @@ impl MemoryDesk {
         fails: Vec<u64>,
     ) -> Self
         ensures report { HasReport (⟦<MemoryDesk as Desk>⟧.seen result) }
-        ensures files { (name : _) → held_of result name ≡ held_at (files_of files.items) name }
-        ensures unread { (slot : _) → rest_of result slot ≡ [] }
-        ensures unwritten { (slot : _) → out_of result slot ≡ [] }
-        ensures plan { plan_of result ≡ record { reads = reads.items; writes = []; fails = fails.items; calls = 0 } }
+        ensures files { (name : _) → held_in_memory result name ≡ held_at (files_from files.items) name }
+        ensures unread { (slot : _) → rest_in_memory result slot ≡ [] }
+        ensures unwritten { (slot : _) → out_in_memory result slot ≡ [] }
+        ensures plan { script_of result ≡ record { reads = reads.items; writes = []; fails = fails.items; calls = 0 } }
     {
         MemoryDesk {
             shelf: Shelf::new(alloc, files),
@@ -54,52 +54,52 @@ impl MemoryDesk {
 
     /// From now on the i-th write takes at most the i-th length in bytes (0 counts as 1), later ones take all.
     pub fn cut_writes(&mut self, lengths: Vec<usize>)
-        ensures same { view_of self.new ≡ view_of self.old }
-        ensures files { (name : _) → held_of self.new name ≡ held_of self.old name }
-        ensures unread { (slot : _) → rest_of self.new slot ≡ rest_of self.old slot }
-        ensures written { (slot : _) → out_of self.new slot ≡ out_of self.old slot }
-        ensures plan { plan_of self.new ≡ record (plan_of self.old) { writes = lengths.items } }
+        ensures same { memory_view_of self.new ≡ memory_view_of self.old }
+        ensures files { (name : _) → held_in_memory self.new name ≡ held_in_memory self.old name }
+        ensures unread { (slot : _) → rest_in_memory self.new slot ≡ rest_in_memory self.old slot }
+        ensures written { (slot : _) → out_in_memory self.new slot ≡ out_in_memory self.old slot }
+        ensures plan { script_of self.new ≡ record (script_of self.old) { writes = lengths.items } }
     {
         self.script.cut_writes(lengths);
     }
 
     /// The bytes under a name, where it is held.
     pub fn bytes(&self, name: &str) -> Option<&[u8]>
-        ensures { option_map (λ bytes. bytes.now) result ≡ held_of self.now name.now }
+        ensures { option_map (λ bytes. bytes.now) result ≡ held_in_memory self.now name.now }
     {
         self.shelf.bytes(name)
     }
 
     /// What is still to be read from a slot.
     pub fn rest(&self, slot: Slot) -> &[u8]
-        ensures { result.now ≡ rest_of self.now slot }
+        ensures { result.now ≡ rest_in_memory self.now slot }
     {
         self.shelf.rest(slot)
     }
 
     /// What was written to a slot since it was created.
     pub fn out(&self, slot: Slot) -> &[u8]
-        ensures { result.now ≡ out_of self.now slot }
+        ensures { result.now ≡ out_in_memory self.now slot }
     {
         self.shelf.out(slot)
     }
 }
 
-#[tactic(auto, unfolding(crate::specs::MemoryDesk::view_of))]
+#[tactic(auto, unfolding(crate::specs::MemoryDesk::memory_view_of))]
 impl Desk for MemoryDesk {
-    ghost use Rattle.mv_desk.specs.MemoryDesk.{held_of, plan_of, rest_of, view_of};
+    ghost use Rattle.mv_desk.specs.MemoryDesk.{held_in_memory, memory_view_of, rest_in_memory, script_of};
 
-    ghost seen = { λ d. view_of d };
+    ghost seen = { λ d. memory_view_of d };
 
     fn open_file(&mut self, slot: Slot, name: &str) -> Result<(), Failed>
-        ensures opens { OnOk result (Opens slot name.now (view_of self.old) (view_of self.new)) }
-        ensures failed { OnErr result (IsSame (view_of self.old) (view_of self.new)) }
-        ensures cause { HasReadCause (view_of self.old) (view_of self.new) result }
-        ensures tells { KeepsTelling (view_of self.old) (view_of self.new) }
-        ensures counted { OpensFiles 1 (view_of self.old) (view_of self.new) }
+        ensures opens { OnOk result (Opens slot name.now (memory_view_of self.old) (memory_view_of self.new)) }
+        ensures failed { OnErr result (IsSame (memory_view_of self.old) (memory_view_of self.new)) }
+        ensures cause { HasReadCause (memory_view_of self.old) (memory_view_of self.new) result }
+        ensures tells { KeepsTelling (memory_view_of self.old) (memory_view_of self.new) }
+        ensures counted { OpensFiles 1 (memory_view_of self.old) (memory_view_of self.new) }
         // It fails by its list, and at a name that isn't held.
-        ensures refused { is_err result ≡ (is_next_failing (plan_of self.old) || is_none (held_of self.old name.now)) }
-        ensures plan { plan_of self.new ≡ after_call (plan_of self.old) }
+        ensures refused { is_err result ≡ (is_next_failing (script_of self.old) || is_none (held_in_memory self.old name.now)) }
+        ensures plan { script_of self.new ≡ after_call (script_of self.old) }
     {
         self.counts.count_opened();
         if !self.script.fails_now() && self.shelf.open(slot, name) {
@@ -110,19 +110,19 @@ impl Desk for MemoryDesk {
     }
 
     fn read(&mut self, slot: Slot, into: &mut [u8]) -> Result<usize, Failed>
-        requires { (view_of self.old).reads slot ≡ true }
+        requires { (memory_view_of self.old).reads slot ≡ true }
         ensures bound { ReadsAtMost result into.new }
-        ensures bytes { ReadConsumes ((view_of self.old).left slot) ((view_of self.new).left slot) result into.new }
-        ensures only { ReadsOnly slot (view_of self.old) (view_of self.new) }
-        ensures failed { OnErr result (IsSame (view_of self.old) (view_of self.new)) }
-        ensures cause { HasReadCause (view_of self.old) (view_of self.new) result }
-        ensures tells { KeepsTelling (view_of self.old) (view_of self.new) }
+        ensures bytes { ReadConsumes ((memory_view_of self.old).left slot) ((memory_view_of self.new).left slot) result into.new }
+        ensures only { ReadsOnly slot (memory_view_of self.old) (memory_view_of self.new) }
+        ensures failed { OnErr result (IsSame (memory_view_of self.old) (memory_view_of self.new)) }
+        ensures cause { HasReadCause (memory_view_of self.old) (memory_view_of self.new) result }
+        ensures tells { KeepsTelling (memory_view_of self.old) (memory_view_of self.new) }
         // It fails by its list alone, and is cut by the lengths of reads alone.
-        ensures refused { is_err result ≡ is_next_failing (plan_of self.old) }
+        ensures refused { is_err result ≡ is_next_failing (script_of self.old) }
         ensures piece { IfOk result (λ count.
-            count ≡ read_len (plan_of self.old) (length into.old) (length (rest_of self.old slot))) }
-        ensures plan { plan_of self.new ≡
-            (if is_ok result then after_read (plan_of self.old) else after_call (plan_of self.old)) }
+            count ≡ read_len (script_of self.old) (length into.old) (length (rest_in_memory self.old slot))) }
+        ensures plan { script_of self.new ≡
+            (if is_ok result then after_read (script_of self.old) else after_call (script_of self.old)) }
     {
         if self.script.fails_now() {
             self.counts.count_read_fault();
@@ -133,12 +133,12 @@ impl Desk for MemoryDesk {
     }
 
     fn create_file(&mut self, slot: Slot, name: &str) -> Result<(), Failed>
-        ensures creates { OnOk result (Creates slot name.now (view_of self.old) (view_of self.new)) }
-        ensures failed { OnErr result (IsSame (view_of self.old) (view_of self.new)) }
-        ensures cause { HasWriteCause (view_of self.old) (view_of self.new) result }
-        ensures tells { KeepsTelling (view_of self.old) (view_of self.new) }
-        ensures refused { IsTrue (is_next_failing (plan_of self.old)) → IsErr result }
-        ensures plan { plan_of self.new ≡ after_call (plan_of self.old) }
+        ensures creates { OnOk result (Creates slot name.now (memory_view_of self.old) (memory_view_of self.new)) }
+        ensures failed { OnErr result (IsSame (memory_view_of self.old) (memory_view_of self.new)) }
+        ensures cause { HasWriteCause (memory_view_of self.old) (memory_view_of self.new) result }
+        ensures tells { KeepsTelling (memory_view_of self.old) (memory_view_of self.new) }
+        ensures refused { IsTrue (is_next_failing (script_of self.old)) → IsErr result }
+        ensures plan { script_of self.new ≡ after_call (script_of self.old) }
     {
         if !self.script.fails_now()
             && let Ok(()) = self.shelf.create(slot, name)
@@ -150,17 +150,17 @@ impl Desk for MemoryDesk {
     }
 
     fn write(&mut self, slot: Slot, piece: &[u8]) -> Result<usize, Failed>
-        requires { (view_of self.old).writes slot ≡ true }
+        requires { (memory_view_of self.old).writes slot ≡ true }
         ensures bound { IfOk result (λ taken. TakesSome taken (length piece.now)) }
         ensures writes { IfOk result (λ taken.
-            WritesTo slot (take taken piece.now) (view_of self.old) (view_of self.new)) }
-        ensures failed { OnErr result (IsSame (view_of self.old) (view_of self.new)) }
-        ensures cause { HasWriteCause (view_of self.old) (view_of self.new) result }
-        ensures tells { KeepsTelling (view_of self.old) (view_of self.new) }
-        ensures refused { IsTrue (is_next_failing (plan_of self.old)) → IsErr result }
-        ensures piece { IfOk result (λ taken. taken ≡ write_len (plan_of self.old) (length piece.now)) }
-        ensures plan { plan_of self.new ≡
-            (if is_ok result then after_write (plan_of self.old) else after_call (plan_of self.old)) }
+            WritesTo slot (take taken piece.now) (memory_view_of self.old) (memory_view_of self.new)) }
+        ensures failed { OnErr result (IsSame (memory_view_of self.old) (memory_view_of self.new)) }
+        ensures cause { HasWriteCause (memory_view_of self.old) (memory_view_of self.new) result }
+        ensures tells { KeepsTelling (memory_view_of self.old) (memory_view_of self.new) }
+        ensures refused { IsTrue (is_next_failing (script_of self.old)) → IsErr result }
+        ensures piece { IfOk result (λ taken. taken ≡ write_len (script_of self.old) (length piece.now)) }
+        ensures plan { script_of self.new ≡
+            (if is_ok result then after_write (script_of self.old) else after_call (script_of self.old)) }
     {
         if !self.script.fails_now() {
             let taken = self.script.next_write().min(piece.len());

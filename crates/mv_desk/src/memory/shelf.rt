@@ -1,7 +1,7 @@
 // Files in memory, with the slots in which they are open.
 ghost use Rattle.std.specs.Prelude.{◌≡◌, ◌<◌, ◌≤◌, ◌++◌, ℕ, [], true, false, length, take, min, is_some, option_map, OnOk, OnErr};
 ghost use Rattle.mv_desk.specs.Calls.{Creates, Opens, ReadsOnly, WritesTo};
-ghost use Rattle.mv_desk.specs.Files.{files_of, held_at};
+ghost use Rattle.mv_desk.specs.Files.{files_from, held_at};
 ghost use Rattle.mv_desk.specs.declared.counts.Counts.{Counts};
 ghost use Rattle.mv_desk.specs.Memory.{is_read, is_written, out_in, place_at, rest_in, tells};
 
@@ -37,7 +37,7 @@ impl Shelf {
 
     /// Nothing is open but the report.
     pub fn new(alloc: Global, files: Vec<(String, Vec<u8>)>) -> Shelf
-        ensures files { result.0 ≡ files_of files.items }
+        ensures files { result.0 ≡ files_from files.items }
         ensures places { result.1 ≡ fresh_places }
     {
         Shelf {

@@ -1,6 +1,6 @@
 // How many bytes one call moves.
 ghost use Rattle.std.specs.Prelude.{◌≡◌, ◌<◌, ◌≤◌, ◌+◌, ◌++◌, true, [], length, take, drop, min, OnOk, OnErr};
-ghost use Rattle.mv_desk.specs.Memory.{is_written, Fits, WritesInto};
+ghost use Rattle.mv_desk.specs.Memory.{is_written, StandsAtFirst, WritesInto};
 
 use super::files::Files;
 use super::place::Place;
@@ -25,7 +25,7 @@ pub fn give(bytes: &[u8], start: usize, most: usize, into: &mut [u8]) -> usize
 /// Appends to a place, and to its file.
 pub fn append(files: &mut Files, place: &mut Place, piece: &[u8]) -> Result<(), AllocError>
     requires writing { is_written place.old ≡ true }
-    requires fits { Fits files.old place.old }
+    requires fits { StandsAtFirst files.old place.old }
     ensures ok { OnOk result (WritesInto piece.now files.old place.old files.new place.new) }
     ensures err_files { OnErr result (files.new ≡ files.old) }
     ensures err_place { OnErr result (place.new ≡ place.old) }

@@ -1,5 +1,5 @@
 use Rattle.std.proofs.Common.{arith}
-use Rattle.poly_terms.specs.Tables.{modulus, value_in}
+use Rattle.poly_terms.specs.Tables.{modulus_in, value_in}
 use Rattle.column_reducer.proofs.Eliminations.{eliminated_none, eliminated_of, taken_false}
 use Rattle.column_reducer.proofs.Grown.{exponent_stays}
 use Rattle.column_reducer.proofs.Sizes.{size_none, size_some}
@@ -10,7 +10,7 @@ returns-then-size-eq0-clause-eliminated c =
     let t = c.args.terms.now in
     let taken = c.in_ok-taken.taken in
     eliminated_none t c.args.gate.now c.args.rest.sum taken c.take.new.self c.in_ok-taken.ensures.of c.in_ok-taken.ensures.indexed c.in_ok-taken.ensures.rest c.in_ok-taken.ensures.quotient
-    (size_none (modulus t) (value_in t taken) c.size.result c.size.ensures.size c.if-size-eq0.true)
+    (size_none (modulus_in t) (value_in t taken) c.size.result c.size.ensures.size c.if-size-eq0.true)
 
 pub of-requires-clause-all : goal.of-requires-clause-all
 of-requires-clause-all c =
@@ -19,7 +19,7 @@ of-requires-clause-all c =
 pub of-requires-clause-some : goal.of-requires-clause-some
 of-requires-clause-some c =
     let t = c.args.terms.now in
-    size_some (modulus t) (value_in t c.in_ok-taken.taken) c.size.result c.size.ensures.size c.if-size-eq0.false
+    size_some (modulus_in t) (value_in t c.in_ok-taken.taken) c.size.result c.size.ensures.size c.if-size-eq0.false
 
 pub minus_power-requires : goal.minus_power-requires
 minus_power-requires c =

@@ -35,8 +35,8 @@ take_step-requires-clause-follows c =
           (follows_at p.extended p.steps i (Add 0) c.steps-steps.ensures.plan.plan.follow low),
     )
 
-pub renewed-requires : goal.renewed-requires
-renewed-requires c =
+pub renew-requires : goal.renew-requires
+renew-requires c =
     let p = c.args.plan.now in
     let s = c.args.operands.now in
     let i = c.loop-count.count in
@@ -61,7 +61,7 @@ loop-count-preserved c =
     let low : i < length p.steps = omega (arith, c.loop-count-test.true, ap length c.steps-steps.ensures.steps) in
     let t0 = c.loop-count.terms in
     record {
-      walked = step_walked p.extended c.extended-extended.result.now s t0 c.take_step.new.terms c.renewed.new.terms p.steps c.steps-steps.result.now i (Add 0)
+      walked = step_walked p.extended c.extended-extended.result.now s t0 c.take_step.new.terms c.renew.new.terms p.steps c.steps-steps.result.now i (Add 0)
           c.loop-count.walk c.in_ok-walk.walk c.in_ok-walk-2.walk c.extended-extended.ensures c.steps-steps.ensures.steps c.steps-steps.ensures.plan.plan.follow low
           c.in_ok-walk.ensures.walked (λ x k f h. c.in_ok-walk-2.ensures.walked x k f h) c.loop-count.invariant.walked;
       within = within_more p s t0 c.args.budget i c.loop-count.walk c.loop-count.invariant.walked (c.in_default.ensures.within refl) c.loop-count.invariant.within;

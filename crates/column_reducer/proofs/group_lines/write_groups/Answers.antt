@@ -1,6 +1,6 @@
 use Rattle.std.proofs.Common.{◌≡◌, ◌+◌, ◌++◌, ◌∷◌, [], length, length-append, sym, subst, ap, arith}
 use Rattle.pac_writer.specs.Writing.{IsOver}
-use Rattle.column_reducer.specs.Gathering.{AreWritten}
+use Rattle.column_reducer.specs.Gathering.{AreGroupsWritten}
 use Rattle.column_reducer.proofs.Fixed.{over_fixed}
 use Rattle.column_reducer.proofs.group_lines.write_groups.Goals as goal
 
@@ -13,7 +13,7 @@ loop-group-preserved c =
     let count : length c.loop-group.left.items ≡ length gs + 1 = omega (arith, ap length items, length-append gs (group ∷ [])) in
     record {
       written = c.in_ok-write_group.ensures.written l.extended l.sides l.table c.args.total gs
-          (subst (λ xs. AreWritten l.extended l.sides l.table c.args.total xs c.loop-group.weighted.items c.loop-group.lines) items c.loop-group.invariant.written);
+          (subst (λ xs. AreGroupsWritten l.extended l.sides l.table c.args.total xs c.loop-group.weighted.items c.loop-group.lines) items c.loop-group.invariant.written);
       last = omega (arith, c.in_ok-write_group.ensures.last, c.loop-group.invariant.last);
       few = omega (arith, c.in_ok-write_group.ensures.few, c.loop-group.invariant.few);
     }

@@ -1,6 +1,6 @@
 use Rattle.std.proofs.Common.{◌≡◌, ◌+◌, ◌≤◌, ◌<◌, ◌^◌, length, arith, ap, subst, ◌∙◌}
 use Rattle.std.specs.Prelude.{IfSome}
-use Rattle.column_reducer.specs.Gathering.{AreTotal, IsEnded, IsOutcome}
+use Rattle.column_reducer.specs.Gathering.{AreTotal, IsEndedWalk, IsWalkOutcome}
 use Rattle.column_reducer.proofs.Finish.{goes_itself, goes_on, last_axiom, many_gates}
 use Rattle.column_reducer.proofs.reduction.write_outcome.Goals as goal
 
@@ -9,7 +9,7 @@ write_groups-requires-clause-room c =
     let l = c.args.lines.now in
     let w = c.requires.outcome in
     let p = w.0 in
-    let ended : IsEnded p l.sides l.table w.1 c.in-Ended.ended = subst (IsOutcome p l.sides l.table w.1) c.in-Ended.is w.3 in
+    let ended : IsEndedWalk p l.sides l.table w.1 c.in-Ended.ended = subst (IsWalkOutcome p l.sides l.table w.1) c.in-Ended.is w.3 in
     let total : AreTotal p.extended l.sides l.table c.in-Ended.ended.rest c.in-Some.gathered = subst (λ o. IfSome o (AreTotal p.extended l.sides l.table c.in-Ended.ended.rest)) c.in-Some.is ended.total in
     let few : length c.in-Some.gathered.groups.items ≤ length p.extended.gates + 1 = total.few in
     let same : length p.extended.gates ≡ length l.extended.gates = ap (λ e. length e.gates) w.2 in

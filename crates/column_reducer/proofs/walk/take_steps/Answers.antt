@@ -29,8 +29,8 @@ take_step-requires-clause-follows c =
           (follows_at p.extended p.steps i (Add 0) c.steps-steps.ensures.plan.plan.follow low),
     )
 
-pub settled-requires : goal.settled-requires
-settled-requires c =
+pub settle-requires : goal.settle-requires
+settle-requires c =
     let p = c.args.plan.now in
     let s = c.args.operands.now in
     let i = c.loop-count.count in
@@ -55,7 +55,7 @@ loop-count-preserved c =
     let low : i < length p.steps = omega (arith, c.loop-count-test.true, ap length c.steps-steps.ensures.steps) in
     let t0 = c.loop-count.terms in
     let t1 = c.take_step.new.terms in
-    let t2 = c.settled.new.terms in
+    let t2 = c.settle.new.terms in
     record {
       table = extends_on c.args.terms.now t0 t2 c.loop-count.invariant.table (extends_on t0 t1 t2 c.in_ok-walk-2.ensures.extends c.in_ok-walk-3.ensures.extends);
       walked = step_walked p.extended c.extended-extended.result.now s t0 t1 t2 p.steps c.steps-steps.result.now i (Add 0)
@@ -88,5 +88,5 @@ returns-clause-outcome c =
     let within = subst (λ j. (i n : ℕ) → p.uncounted + i < j + 1 → HasSizeAt p s i n → n ≤ c.args.budget) is
     (within_more p s c.loop-count.terms c.args.budget c.loop-count.count c.loop-count.walk c.loop-count.invariant.walked
     (λ low. c.in_default-passed.ensures.within refl (omega arith)) c.loop-count.invariant.within) in
-    is_ended p s c.loop-count.terms c.ended.new.terms c.args.budget c.loop-count.walk c.in_ok-ended.ended c.steps-steps.ensures.plan c.in_ok-ended.ensures.extends walked c.in_ok-ended.ensures.rest within
+    is_ended p s c.loop-count.terms c.end.new.terms c.args.budget c.loop-count.walk c.in_ok-ended.ended c.steps-steps.ensures.plan c.in_ok-ended.ensures.extends walked c.in_ok-ended.ensures.rest within
     (c.in_ok-ended.ensures.total p.extended s (taken_after p (length p.steps)) walked)

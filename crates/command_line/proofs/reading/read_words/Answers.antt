@@ -2,12 +2,12 @@ use Rattle.std.proofs.Common.{Result, Ok, Err, ◌≡◌, Some, List, ℕ}
 use Rattle.std.specs.Prelude.{IfOk}
 use Rattle.command_line.specs.declared.command.Command.{Command}
 use Rattle.command_line.specs.declared.fail.WordsFail.{WordsFail}
-use Rattle.command_line.specs.Asked.{IsInRange, asked, texts}
+use Rattle.command_line.specs.Asked.{IsCommandInRange, asked, texts}
 use Rattle.command_line.proofs.Answering.{asked_where_taken}
 use Rattle.command_line.proofs.Ranges.{asked_range}
 use Rattle.command_line.proofs.reading.read_words.Goals as goal
 
-in_range : (words : List (List ℕ)) (r : Result Command WordsFail) → IfOk r (λ command. asked words ≡ Some command) → IfOk r IsInRange
+in_range : (words : List (List ℕ)) (r : Result Command WordsFail) → IfOk r (λ command. asked words ≡ Some command) → IfOk r IsCommandInRange
 in_range words (Ok command) is = asked_range words command is
 in_range words (Err fail) is = tt
 

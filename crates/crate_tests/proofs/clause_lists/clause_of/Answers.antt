@@ -1,6 +1,6 @@
 use Rattle.std.proofs.lemmas.Result.{IfOk-weaker}
 use Rattle.clause_core.specs.Clause.{Clause, IsClauseInRange, SameSet}
-use Rattle.cdcl_core.proofs.SearchLemmas.{range_same}
+use Rattle.cdcl_solver.proofs.SearchLemmas.{range_same}
 use Rattle.crate_tests.proofs.clause_lists.clause_of.Goals as goal
 
 pub returns : goal.returns

@@ -6,7 +6,7 @@ use Rattle.clause_core.specs.Clause.{IsLiteral}
 use Rattle.clause_core.proofs.CallerLemmas.{at}
 use Rattle.unit_prop.specs.Standing.{Assumes}
 use Rattle.unit_prop.specs.declared.assumed.Assumed.TheVariants.{Opposed}
-use Rattle.drup_checker.specs.Opposing.{IsMet}
+use Rattle.drup_checker.specs.Opposing.{IsClauseMet}
 use Rattle.drup_checker.proofs.Opposed.{begins_same, opposed_met, opposed_rup, opposes_more, opposes_none}
 use Rattle.drup_checker.proofs.rup.oppose_all.Goals as goal
 
@@ -20,7 +20,7 @@ returns-in-Opposed-clause-opposed c =
     let same : c.lits-lit-items.result.now ≡ c.args.clause.now = c.lits-lit-items.ensures.value in
     let below : c.loop-lit.lit-index < length c.args.clause.now = omega (arith, ap length same) in
     let one = to_z-of_z w32 (at c.lits-lit-items.result.now c.loop-lit.lit-index) fits in
-    rw one (subst (λ (xs : List ℤ). IsMet c.oppose.new.propagator c.args.clause.now (at xs c.loop-lit.lit-index)) (sym same)
+    rw one (subst (λ (xs : List ℤ). IsClauseMet c.oppose.new.propagator c.args.clause.now (at xs c.loop-lit.lit-index)) (sym same)
     (opposed_met c.args.propagator.now c.loop-lit.propagator c.oppose.new.propagator c.args.clause.now c.loop-lit.lit-index c.loop-lit.invariant c.in-Opposed.ensures.sound below
     (subst (λ (xs : List ℤ). Assumes c.loop-lit.propagator (neg_ℤ (at xs c.loop-lit.lit-index)) Opposed c.oppose.new.propagator) same read)))
 

@@ -4,8 +4,8 @@ use Rattle.std.proofs.lemmas.List.{get_or_read}
 use Rattle.std.proofs.lemmas.List.Elements.{Contains-get_or}
 use Rattle.clause_core.specs.Clause.{IsClauseInRange}
 use Rattle.unit_prop.specs.Standing.{IsReasonOf, at}
-use Rattle.unit_prop.specs.Trail.{variable}
-use Rattle.drup_checker.specs.Tightness.{IsReached, IsSeen, Marks}
+use Rattle.unit_prop.specs.Trail.{signed_variable}
+use Rattle.drup_checker.specs.Tightness.{IsReached, IsVariableSeen, Marks}
 use Rattle.drup_checker.proofs.LiveClauses.{written}
 use Rattle.drup_checker.proofs.Tightening.{opposed_range, reached_assumed, reached_first, reached_forced, reached_unseen, reason_place, reason_range}
 use Rattle.drup_checker.proofs.tight.explain.Goals as goal
@@ -40,8 +40,8 @@ mark-requires-in-Some c k d low =
     let same = c.trail-trail.ensures.value in
     let b : p < length s.trail.literals = omega (arith, c.walk.invariant.within, c.walk-test.true) in
     let fits : SFits w32 (at c.trail-trail.result.now p) = search rules in
-    let var : c.variable_of-var.result ≡ variable (at s.trail.literals p) = rw (to_z-of_z, same) at c.variable_of-var.ensures in
-    let is : IsReasonOf s.trail (variable (at s.trail.literals p)) (Some c.in-Some.reason) = rw (var, c.in-Some.is) at c.reason.ensures in
+    let var : c.variable_of-var.result ≡ signed_variable (at s.trail.literals p) = rw (to_z-of_z, same) at c.variable_of-var.ensures in
+    let is : IsReasonOf s.trail (signed_variable (at s.trail.literals p)) (Some c.in-Some.reason) = rw (var, c.in-Some.is) at c.reason.ensures in
     let reason = reason_place s p c.in-Some.reason c.requires.sound b is in
     let most = reason_range s p c.in-Some.reason c.clause-in-Some.result.now c.requires.sound b reason c.clause-in-Some.ensures (slice_index_or c.clause-in-Some.result.now k d) (Contains-get_or c.clause-in-Some.result.now k d low) in
     omega (arith, most, ap length c.deref_mut-in-Some.ensures.value, c.walk.invariant.reached.size)
@@ -55,14 +55,14 @@ walk-preserved-in-Continue-branch-3 c =
     let same = c.trail-trail.ensures.value in
     let b : p < length s.trail.literals = omega (arith, c.walk.invariant.within, c.walk-test.true) in
     let fits : SFits w32 (at c.trail-trail.result.now p) = search rules in
-    let var : c.variable_of-var.result ≡ variable (at s.trail.literals p) = rw (to_z-of_z, same) at c.variable_of-var.ensures in
-    let is : IsReasonOf s.trail (variable (at s.trail.literals p)) (Some c.in-Some.reason) = rw (var, c.in-Some.is) at c.reason.ensures in
+    let var : c.variable_of-var.result ≡ signed_variable (at s.trail.literals p) = rw (to_z-of_z, same) at c.variable_of-var.ensures in
+    let is : IsReasonOf s.trail (signed_variable (at s.trail.literals p)) (Some c.in-Some.reason) = rw (var, c.in-Some.is) at c.reason.ensures in
     let reason = reason_place s p c.in-Some.reason c.requires.sound b is in
     let one : c.walk.place ≡ p + 1 = omega (arith, c.walk-test.true) in
     let reached = subst (IsReached s opposed v.items c.walk.places.items) one c.walk.invariant.reached in
     let room : c.variable_of-var.result < length v.items = omega (arith, var, (c.requires.sound.within p b).1, c.walk.invariant.reached.size) in
     let read = get_or_read v.items c.variable_of-var.result _ room c.index.ensures false in
-    let needs : IsSeen v.items (variable (at s.trail.literals p)) = subst (IsSeen v.items) var (sym read ∙ c.if-index.true) in
+    let needs : IsVariableSeen v.items (signed_variable (at s.trail.literals p)) = subst (IsVariableSeen v.items) var (sym read ∙ c.if-index.true) in
     let marks = subst (λ (xs : List Bool). Marks c.clause-in-Some.result.now xs c.mark-in-Some.new.seen) c.deref_mut-in-Some.ensures.value c.mark-in-Some.ensures in
     let places : c.push-in-Some.new.self.items ≡ c.walk.places.items ++ c.in-Some.reason ∷ [] = c.in_ok-push-2.ensures.items ∙ ap (λ (x : ℕ). c.walk.places.items ++ x ∷ []) c.place-in-Some.ensures in
     record {
@@ -80,8 +80,8 @@ walk-preserved-in_default c =
     let same = c.trail-trail.ensures.value in
     let b : p < length s.trail.literals = omega (arith, c.walk.invariant.within, c.walk-test.true) in
     let fits : SFits w32 (at c.trail-trail.result.now p) = search rules in
-    let var : c.variable_of-var.result ≡ variable (at s.trail.literals p) = rw (to_z-of_z, same) at c.variable_of-var.ensures in
-    let is : IsReasonOf s.trail (variable (at s.trail.literals p)) None = rw (var, c.in_default.is) at c.reason.ensures in
+    let var : c.variable_of-var.result ≡ signed_variable (at s.trail.literals p) = rw (to_z-of_z, same) at c.variable_of-var.ensures in
+    let is : IsReasonOf s.trail (signed_variable (at s.trail.literals p)) None = rw (var, c.in_default.is) at c.reason.ensures in
     let one : c.walk.place ≡ p + 1 = omega (arith, c.walk-test.true) in
     let reached = subst (IsReached s opposed c.walk.seen.items c.walk.places.items) one c.walk.invariant.reached in
     record { within = omega (arith, b); reached = reached_assumed s c.requires.sound opposed c.walk.seen.items c.walk.places.items p reached b c.requires.assumed (is p b refl) }
@@ -95,10 +95,10 @@ walk-preserved c =
     let same = c.trail-trail.ensures.value in
     let b : p < length s.trail.literals = omega (arith, c.walk.invariant.within, c.walk-test.true) in
     let fits : SFits w32 (at c.trail-trail.result.now p) = search rules in
-    let var : c.variable_of-var.result ≡ variable (at s.trail.literals p) = rw (to_z-of_z, same) at c.variable_of-var.ensures in
+    let var : c.variable_of-var.result ≡ signed_variable (at s.trail.literals p) = rw (to_z-of_z, same) at c.variable_of-var.ensures in
     let one : c.walk.place ≡ p + 1 = omega (arith, c.walk-test.true) in
     let reached = subst (IsReached s opposed v.items c.walk.places.items) one c.walk.invariant.reached in
     let room : c.variable_of-var.result < length v.items = omega (arith, var, (c.requires.sound.within p b).1, c.walk.invariant.reached.size) in
     let read = get_or_read v.items c.variable_of-var.result _ room c.index.ensures false in
-    let unseen : slice_index_or v.items (variable (at s.trail.literals p)) false ≡ false = subst (λ (x : ℕ). slice_index_or v.items x false ≡ false) var (sym read ∙ c.if-index.false) in
+    let unseen : slice_index_or v.items (signed_variable (at s.trail.literals p)) false ≡ false = subst (λ (x : ℕ). slice_index_or v.items x false ≡ false) var (sym read ∙ c.if-index.false) in
     record { within = omega (arith, b); reached = reached_unseen s c.requires.sound opposed v.items c.walk.places.items p reached b unseen }

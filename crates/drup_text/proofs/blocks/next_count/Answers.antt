@@ -3,7 +3,7 @@ use Rattle.std.specs.Result.{IfErr, IfOk}
 use Rattle.mv_desk.specs.declared.slot.Slot.TheVariants.{Clauses}
 use Rattle.mv_text.specs.LineReading.{known_from}
 use Rattle.drup_text.specs.ClauseTexts.{IsCountLine}
-use Rattle.mv_text.specs.CertificateFiles.{IsRefusedText}
+use Rattle.mv_text.specs.CertificateFiles.{SaysNothing}
 use Rattle.drup_text.specs.LineTexts.{IsCountTextOf, IsCountInRange}
 use Rattle.drup_text.proofs.ClauseReading.{none_count}
 use Rattle.mv_text.proofs.CallerLemmas.{needed_refused, text_err, text_ok}
@@ -23,8 +23,8 @@ returns-in-Ok-clause-refused g c =
     let after = known_from c.needed_line.new.self.ahead ((g.D.Desk.seen c.needed_line.new.desk).left Clauses) in
     text_err IsCountLine (IsCountInRange (length c.args.graph.now.outputs)) none_count c.args.lines.now c.needed_line.new.self before after c.in-Ok.line.items
     (g.D.Desk.seen c.args.desk.now).read_faults (g.D.Desk.seen c.needed_line.new.desk).read_faults c.read_count.result c.in-Ok.ensures.line
-    (subst (λ z. IfErr c.read_count.result (IsRefusedText IsCountLine (IsCountInRange (length c.args.graph.now.outputs)) z)) c.deref.ensures.value
-    (subst (λ n. IfErr c.read_count.result (IsRefusedText IsCountLine (IsCountInRange n) c.deref.result.now)) c.outputs.ensures.value c.read_count.ensures.err))
+    (subst (λ z. IfErr c.read_count.result (SaysNothing IsCountLine (IsCountInRange (length c.args.graph.now.outputs)) z)) c.deref.ensures.value
+    (subst (λ n. IfErr c.read_count.result (SaysNothing IsCountLine (IsCountInRange n) c.deref.result.now)) c.outputs.ensures.value c.read_count.ensures.err))
 
 pub returns-in-Err-clause-refused : goal.returns-in-Err-clause-refused
 returns-in-Err-clause-refused g c =

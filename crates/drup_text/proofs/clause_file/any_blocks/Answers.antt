@@ -3,7 +3,7 @@ use Rattle.std.specs.Option.{IfSome}
 use Rattle.mv_desk.specs.declared.slot.Slot.TheVariants.{Clauses}
 use Rattle.mv_text.specs.LineReading.{known_from}
 use Rattle.ripple_graft.specs.HeaderBlocks.{IsCutOf, cut_blocks}
-use Rattle.drup_text.specs.PassingHeaders.{lines_in}
+use Rattle.drup_text.specs.PassingHeaders.{header_line_count}
 use Rattle.drup_text.specs.HeaderSteps.{TakesCut}
 use Rattle.drup_text.proofs.VersionSteps.{fit_cut, fit_two, lines_cut, lines_one, lines_two, refused_memory, refused_two, version_cut, version_one, version_two}
 use Rattle.drup_text.proofs.clause_file.any_blocks.Goals as goal
@@ -42,7 +42,7 @@ pub returns-in-Ok-None-clause-counted : goal.returns-in-Ok-None-clause-counted
 returns-in-Ok-None-clause-counted g c =
     let one : c.args.version ≡ 1 = ⊎_elim (λ a. a) (λ b. absurd (c.if-version-eq2.false b)) c.requires.version in
     lines_one c.args.version c.args.lines.now.taken c.cut.new.lines.taken c.new.result.items (cut_blocks (length c.args.graph.now.outputs) None) one c.new.ensures.items
-    (subst (λ o. c.args.lines.now.taken + lines_in 1 (cut_blocks (length c.args.graph.now.outputs) o) ≤ c.cut.new.lines.taken + 1) c.in-Ok-None.field-0-is c.in-Ok-None.ensures.counted)
+    (subst (λ o. c.args.lines.now.taken + header_line_count 1 (cut_blocks (length c.args.graph.now.outputs) o) ≤ c.cut.new.lines.taken + 1) c.in-Ok-None.field-0-is c.in-Ok-None.ensures.counted)
 
 pub one_block-requires : goal.one_block-requires
 one_block-requires g c = subst (IsCutOf c.args.graph.now) c.in-Ok-Some.field-0-is c.in-Ok-Some.ensures.fits
@@ -70,7 +70,7 @@ pub returns-in-Ok-Some-clause-counted : goal.returns-in-Ok-Some-clause-counted
 returns-in-Ok-Some-clause-counted g c =
     let one : c.args.version ≡ 1 = ⊎_elim (λ a. a) (λ b. absurd (c.if-version-eq2.false b)) c.requires.version in
     lines_cut c.args.version c.args.lines.now.taken c.cut.new.lines.taken c.one_block.result (cut_blocks (length c.args.graph.now.outputs) (Some c.in-Ok-Some.cut)) one c.one_block.ensures.ok
-    (subst (λ o. c.args.lines.now.taken + lines_in 1 (cut_blocks (length c.args.graph.now.outputs) o) ≤ c.cut.new.lines.taken + 1) c.in-Ok-Some.field-0-is c.in-Ok-Some.ensures.counted)
+    (subst (λ o. c.args.lines.now.taken + header_line_count 1 (cut_blocks (length c.args.graph.now.outputs) o) ≤ c.cut.new.lines.taken + 1) c.in-Ok-Some.field-0-is c.in-Ok-Some.ensures.counted)
 
 pub returns-in-Err-clause-refused : goal.returns-in-Err-clause-refused
 returns-in-Err-clause-refused g c =

@@ -1,7 +1,6 @@
 use Rattle.std.proofs.Common.{◌≡◌, ◌∙◌, sym, subst, ℕ}
-use Rattle.mv_text.specs.Steps.{Takes}
+use Rattle.mv_text.specs.Steps.{IsVariable, Takes}
 use Rattle.drup_text.specs.ClauseReading.{nonzero_at}
-use Rattle.drup_text.specs.Steps.{IsVariable}
 use Rattle.drup_text.proofs.LineSteps.{minus_none, plus_none}
 use Rattle.drup_text.proofs.clause_reading.literal.Goals as goal
 

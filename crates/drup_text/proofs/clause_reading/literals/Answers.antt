@@ -2,7 +2,7 @@ use Rattle.std.proofs.Common.{◌≡◌, ◌∙◌, None, rules, codes, sym}
 use Rattle.graph_core.specs.Text.Readers.{ended_at}
 use Rattle.mv_text.proofs.CallerLemmas.{gathers_all, gathers_misfit, many_stops, misfit_from}
 use Rattle.mv_text.specs.Steps.{IsMisfit}
-use Rattle.drup_text.specs.ClauseReading.{is_no_zero, literal_at, literals_at}
+use Rattle.drup_text.specs.ClauseReading.{clause_literals_at, is_no_zero, literal_at}
 use Rattle.drup_text.proofs.ClauseReading.{spaced_fewer}
 use Rattle.drup_text.proofs.LineSteps.{literals_begin, literals_more, literals_turn}
 use Rattle.drup_text.proofs.clause_reading.literals.Goals as goal
@@ -12,7 +12,7 @@ loop-scanner-init c = literals_begin c.args.max c.args.scanner.now c.new.result 
 
 pub returns-in_err-literal-clause-err : goal.returns-in_err-literal-clause-err
 returns-in_err-literal-clause-err c =
-    let misfit : IsMisfit (literals_at c.args.scanner.now ≡ None) c.in_err-literal.field-0.0 =
+    let misfit : IsMisfit (clause_literals_at c.args.scanner.now ≡ None) c.in_err-literal.field-0.0 =
     misfit_from c.in_err-literal.field-0.0
     (gathers_misfit (ended_at literal_at (codes " ")) c.loop-scanner.invariant (literals_turn c.loop-scanner.scanner (sym c.is_at_literal.ensures ∙ c.loop-scanner-test.true))) c.in_err-literal.ensures.err in
     search (rules, misfit)

@@ -3,7 +3,7 @@ use Rattle.std.specs.Result.{IfErr, IfOk}
 use Rattle.mv_desk.specs.declared.slot.Slot.TheVariants.{Clauses}
 use Rattle.mv_text.specs.LineReading.{known_from}
 use Rattle.drup_text.specs.ClauseTexts.{IsCutLine}
-use Rattle.mv_text.specs.CertificateFiles.{IsRefusedText}
+use Rattle.mv_text.specs.CertificateFiles.{SaysNothing}
 use Rattle.drup_text.specs.LineTexts.{IsCutTextOf, IsSizeInRange}
 use Rattle.drup_text.proofs.ClauseReading.{none_cut}
 use Rattle.mv_text.proofs.CallerLemmas.{needed_refused, text_err, text_ok}
@@ -23,8 +23,8 @@ returns-in-Ok-clause-refused g c =
     let after = known_from c.needed_line.new.self.ahead ((g.D.Desk.seen c.needed_line.new.desk).left Clauses) in
     text_err IsCutLine (IsSizeInRange (length c.args.graph.now.outputs)) none_cut c.args.lines.now c.needed_line.new.self before after c.in-Ok.line.items
     (g.D.Desk.seen c.args.desk.now).read_faults (g.D.Desk.seen c.needed_line.new.desk).read_faults c.read_size.result c.in-Ok.ensures.line
-    (subst (λ z. IfErr c.read_size.result (IsRefusedText IsCutLine (IsSizeInRange (length c.args.graph.now.outputs)) z)) c.deref.ensures.value
-    (subst (λ n. IfErr c.read_size.result (IsRefusedText IsCutLine (IsSizeInRange n) c.deref.result.now)) c.outputs.ensures.value c.read_size.ensures.err))
+    (subst (λ z. IfErr c.read_size.result (SaysNothing IsCutLine (IsSizeInRange (length c.args.graph.now.outputs)) z)) c.deref.ensures.value
+    (subst (λ n. IfErr c.read_size.result (SaysNothing IsCutLine (IsSizeInRange n) c.deref.result.now)) c.outputs.ensures.value c.read_size.ensures.err))
 
 pub returns-in-Err-clause-refused : goal.returns-in-Err-clause-refused
 returns-in-Err-clause-refused g c =

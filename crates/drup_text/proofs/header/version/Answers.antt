@@ -1,7 +1,7 @@
 use Rattle.std.proofs.Common.{◌∙◌, inl, inr, refl, sym, ⊎_elim}
 use Rattle.std.specs.Prelude.{⊤}
 use Rattle.std.specs.Cmp.Lexicographic.{other_text, same_text}
-use Rattle.mv_desk.specs.declared.faults.LineFail.TheVariants as fail
+use Rattle.mv_text.specs.declared.line_fail.LineFail.TheVariants as fail
 use Rattle.mv_desk.specs.declared.slot.Slot.TheVariants.{Clauses}
 use Rattle.mv_text.specs.LineReading.{known_from}
 use Rattle.drup_text.specs.Headers.{IsVersionLine}

@@ -3,7 +3,7 @@ use Rattle.std.proofs.lemmas.Bool.{false≢true}
 use Rattle.mv_text.specs.Steps.{IsMisfit}
 use Rattle.drup_text.specs.ClauseReading.{count_line_at}
 use Rattle.drup_text.specs.ClauseTexts.{IsCountLine}
-use Rattle.mv_text.specs.CertificateFiles.{IsRefusedText}
+use Rattle.mv_text.specs.CertificateFiles.{SaysNothing}
 use Rattle.drup_text.specs.LineTexts.{IsCountInRange}
 use Rattle.drup_text.specs.Steps.{TakesCountLine}
 use Rattle.drup_text.proofs.BlockTexts.{count_misfit, count_out, count_over, count_said}
@@ -12,7 +12,7 @@ use Rattle.drup_text.proofs.header_reading.read_count.Goals as goal
 pub returns-in_err-count-clause-err : goal.returns-in_err-count-clause-err
 returns-in_err-count-clause-err c =
     let misfit = subst (λ z. IsMisfit (count_line_at z ≡ None) c.in_err-count.field-0.0) c.new-scanner.ensures c.in_err-count.ensures.err in
-    let refused : IsRefusedText IsCountLine (IsCountInRange c.args.outputs) c.args.bytes.now c.in_err-count.field-0.0 = count_misfit c.args.outputs c.args.bytes.now c.in_err-count.field-0.0 misfit in
+    let refused : SaysNothing IsCountLine (IsCountInRange c.args.outputs) c.args.bytes.now c.in_err-count.field-0.0 = count_misfit c.args.outputs c.args.bytes.now c.in_err-count.field-0.0 misfit in
     search (rules, refused)
 
 pub returns-then-not-is_empty-clause-err : goal.returns-then-not-is_empty-clause-err

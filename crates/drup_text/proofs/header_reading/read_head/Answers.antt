@@ -3,7 +3,7 @@ use Rattle.std.proofs.lemmas.Bool.{false≢true}
 use Rattle.mv_text.specs.Steps.{IsMisfit}
 use Rattle.drup_text.specs.ClauseReading.{block_line_at}
 use Rattle.drup_text.specs.ClauseTexts.{IsBlockLine}
-use Rattle.mv_text.specs.CertificateFiles.{IsRefusedText}
+use Rattle.mv_text.specs.CertificateFiles.{SaysNothing}
 use Rattle.drup_text.specs.LineTexts.{IsHeadOf}
 use Rattle.drup_text.specs.Steps.{TakesHead}
 use Rattle.drup_text.proofs.BlockTexts.{head_misfit, head_out, head_over, head_said}
@@ -12,7 +12,7 @@ use Rattle.drup_text.proofs.header_reading.read_head.Goals as goal
 pub returns-in_err-head-clause-err : goal.returns-in_err-head-clause-err
 returns-in_err-head-clause-err c =
     let misfit = subst (λ z. IsMisfit (block_line_at z ≡ None) c.in_err-head.field-0.0) c.new-scanner.ensures c.in_err-head.ensures.err in
-    let refused : IsRefusedText IsBlockLine (IsHeadOf c.args.extended.now) c.args.bytes.now c.in_err-head.field-0.0 = head_misfit c.args.extended.now c.args.bytes.now c.in_err-head.field-0.0 misfit in
+    let refused : SaysNothing IsBlockLine (IsHeadOf c.args.extended.now) c.args.bytes.now c.in_err-head.field-0.0 = head_misfit c.args.extended.now c.args.bytes.now c.in_err-head.field-0.0 misfit in
     search (rules, refused)
 
 pub returns-then-not-is_empty-clause-err : goal.returns-then-not-is_empty-clause-err

@@ -3,7 +3,7 @@ use Rattle.std.proofs.lemmas.Bool.{false≢true}
 use Rattle.mv_text.specs.Steps.{IsMisfit}
 use Rattle.drup_text.specs.ClauseReading.{pair_line_at}
 use Rattle.drup_text.specs.ClauseTexts.{IsPairLine}
-use Rattle.mv_text.specs.CertificateFiles.{IsRefusedText}
+use Rattle.mv_text.specs.CertificateFiles.{SaysNothing}
 use Rattle.drup_text.specs.LineTexts.{IsPairOf}
 use Rattle.drup_text.specs.Steps.{TakesPair}
 use Rattle.drup_text.proofs.HeaderTexts.{pair_misfit, pair_out, pair_over, pair_said}
@@ -12,7 +12,7 @@ use Rattle.drup_text.proofs.header_reading.read_pair.Goals as goal
 pub returns-in_err-pair-clause-err : goal.returns-in_err-pair-clause-err
 returns-in_err-pair-clause-err c =
     let misfit = subst (λ z. IsMisfit (pair_line_at z ≡ None) c.in_err-pair.field-0.0) c.new-scanner.ensures c.in_err-pair.ensures.err in
-    let refused : IsRefusedText IsPairLine (IsPairOf c.args.extended.now) c.args.bytes.now c.in_err-pair.field-0.0 = pair_misfit c.args.extended.now c.args.bytes.now c.in_err-pair.field-0.0 misfit in
+    let refused : SaysNothing IsPairLine (IsPairOf c.args.extended.now) c.args.bytes.now c.in_err-pair.field-0.0 = pair_misfit c.args.extended.now c.args.bytes.now c.in_err-pair.field-0.0 misfit in
     search (rules, refused)
 
 pub returns-then-not-is_empty-clause-err : goal.returns-then-not-is_empty-clause-err

@@ -3,7 +3,7 @@ use Rattle.std.proofs.lemmas.Bool.{false≢true}
 use Rattle.mv_text.specs.Steps.{IsMisfit}
 use Rattle.drup_text.specs.ClauseReading.{cut_line_at}
 use Rattle.drup_text.specs.ClauseTexts.{IsCutLine}
-use Rattle.mv_text.specs.CertificateFiles.{IsRefusedText}
+use Rattle.mv_text.specs.CertificateFiles.{SaysNothing}
 use Rattle.drup_text.specs.LineTexts.{IsSizeInRange}
 use Rattle.drup_text.specs.Steps.{TakesSize}
 use Rattle.drup_text.proofs.HeaderTexts.{size_misfit, size_out, size_over, size_said}
@@ -12,7 +12,7 @@ use Rattle.drup_text.proofs.header_reading.read_size.Goals as goal
 pub returns-in_err-size-clause-err : goal.returns-in_err-size-clause-err
 returns-in_err-size-clause-err c =
     let misfit = subst (λ z. IsMisfit (cut_line_at z ≡ None) c.in_err-size.field-0.0) c.new-scanner.ensures c.in_err-size.ensures.err in
-    let refused : IsRefusedText IsCutLine (IsSizeInRange c.args.outputs) c.args.bytes.now c.in_err-size.field-0.0 = size_misfit c.args.outputs c.args.bytes.now c.in_err-size.field-0.0 misfit in
+    let refused : SaysNothing IsCutLine (IsSizeInRange c.args.outputs) c.args.bytes.now c.in_err-size.field-0.0 = size_misfit c.args.outputs c.args.bytes.now c.in_err-size.field-0.0 misfit in
     search (rules, refused)
 
 pub returns-then-not-is_empty-clause-err : goal.returns-then-not-is_empty-clause-err

@@ -2,7 +2,7 @@ use Rattle.std.proofs.Common.{◌≡◌, ◌∙◌, None, codes, rules, subst, s
 use Rattle.clause_core.specs.declared.line.Line.TheVariants.{Add, Delete}
 use Rattle.mv_text.proofs.CallerLemmas.{misfit_from}
 use Rattle.mv_text.specs.Steps.{IsMisfit}
-use Rattle.drup_text.specs.ClauseReading.{clause_at, clause_line_at}
+use Rattle.drup_text.specs.ClauseReading.{clause_line_at, clause_read_at}
 use Rattle.drup_text.specs.Steps.{TakesClause}
 use Rattle.drup_text.proofs.LineSteps.{add_none, add_some, add_there, delete_none, delete_some, delete_there, fails_behind, fails_front, fails_map}
 use Rattle.drup_text.proofs.line_reading.any_line.Goals as goal
@@ -11,7 +11,7 @@ pub returns-in_err-text-clause-err : goal.returns-in_err-text-clause-err
 returns-in_err-text-clause-err c =
     let bytes = c.args.scanner.now in
     let misfit : IsMisfit (clause_line_at bytes ≡ None) c.in_err-text.field-0.0 =
-    misfit_from c.in_err-text.field-0.0 (λ e. delete_there bytes (sym c.is_at.ensures ∙ c.if-is_at.true) ∙ fails_front Delete (codes "d ") clause_at bytes e) c.in_err-text.ensures.err in
+    misfit_from c.in_err-text.field-0.0 (λ e. delete_there bytes (sym c.is_at.ensures ∙ c.if-is_at.true) ∙ fails_front Delete (codes "d ") clause_read_at bytes e) c.in_err-text.ensures.err in
     search (rules, misfit)
 
 pub returns-in_err-clause-clause-err : goal.returns-in_err-clause-clause-err
@@ -19,14 +19,14 @@ returns-in_err-clause-clause-err c =
     let bytes = c.args.scanner.now in
     let misfit : IsMisfit (clause_line_at bytes ≡ None) c.in_err-clause.field-0.0 =
     misfit_from c.in_err-clause.field-0.0
-    (λ e. delete_there bytes (sym c.is_at.ensures ∙ c.if-is_at.true) ∙ fails_behind Delete (codes "d ") clause_at bytes c.text.new.self c.in_ok-text.ensures.ok e) c.in_err-clause.ensures.err in
+    (λ e. delete_there bytes (sym c.is_at.ensures ∙ c.if-is_at.true) ∙ fails_behind Delete (codes "d ") clause_read_at bytes c.text.new.self c.in_ok-text.ensures.ok e) c.in_err-clause.ensures.err in
     search (rules, misfit)
 
 pub returns-in_err-clause-2-clause-err : goal.returns-in_err-clause-2-clause-err
 returns-in_err-clause-2-clause-err c =
     let bytes = c.args.scanner.now in
     let misfit : IsMisfit (clause_line_at bytes ≡ None) c.in_err-clause-2.field-0.0 =
-    misfit_from c.in_err-clause-2.field-0.0 (λ e. add_there bytes (sym c.is_at.ensures ∙ c.if-is_at.false) ∙ fails_map Add clause_at bytes e) c.in_err-clause-2.ensures.err in
+    misfit_from c.in_err-clause-2.field-0.0 (λ e. add_there bytes (sym c.is_at.ensures ∙ c.if-is_at.false) ∙ fails_map Add clause_read_at bytes e) c.in_err-clause-2.ensures.err in
     search (rules, misfit)
 
 pub returns-in-Some-clause-ok : goal.returns-in-Some-clause-ok

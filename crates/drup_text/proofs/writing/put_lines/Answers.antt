@@ -1,7 +1,7 @@
 use Rattle.std.proofs.Common.{◌++◌, ◌+◌, ◌∷◌, [], ap, drop, get_or}
 use Rattle.graph_core.specs.Text.{newline}
 use Rattle.mv_text.proofs.CallerLemmas.{Puts-is, up_to_more}
-use Rattle.drup_text.specs.WrittenTexts.{line_text, lines_text}
+use Rattle.drup_text.specs.WrittenTexts.{clause_line_text, clause_lines_text}
 use Rattle.drup_text.proofs.WrittenLoops.{next_line}
 use Rattle.drup_text.proofs.writing.put_lines.Goals as goal
 
@@ -12,6 +12,6 @@ loop-line-preserved g c =
     let line = c.line-item.result in
     record {
       «open» = c.put_line.ensures.open;
-      puts = up_to_more (line_text (get_or lines i line) ++ newline ∷ []) (lines_text (drop (i + 1) lines)) (next_line lines i line c.loop-line-test.true) c.loop-line.invariant.puts
-          (Puts-is (ap (λ x. line_text x ++ newline ∷ []) c.line-item.is) c.put_line.ensures.puts);
+      puts = up_to_more (clause_line_text (get_or lines i line) ++ newline ∷ []) (clause_lines_text (drop (i + 1) lines)) (next_line lines i line c.loop-line-test.true) c.loop-line.invariant.puts
+          (Puts-is (ap (λ x. clause_line_text x ++ newline ∷ []) c.line-item.is) c.put_line.ensures.puts);
     }

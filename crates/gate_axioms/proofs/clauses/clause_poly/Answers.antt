@@ -4,7 +4,7 @@ use Rattle.std.proofs.lemmas.Int.{to_z-of_z}
 use Rattle.clause_core.specs.Clause.{signed}
 use Rattle.graph_core.specs.Graph.Assignments.{bit}
 use Rattle.poly_terms.specs.Laws.{extends_on}
-use Rattle.poly_terms.specs.Tables.{modulus, value_in}
+use Rattle.poly_terms.specs.Tables.{modulus_in, value_in}
 use Rattle.gate_axioms.proofs.ClauseProducts.{product_ends, product_goes_on, product_starts}
 use Rattle.gate_axioms.proofs.clauses.clause_poly.Goals as goal
 
@@ -22,7 +22,7 @@ loop-lit-preserved c =
     let on = c.in_ok-product-2.ensures.extends in
     product_goes_on c.args.terms.now t u p r c.args.clause.now c.loop-lit.lit-index (pos 0) (rw c.lits-lit-items.ensures.value at c.loop-lit-test.true)
     (extends_on c.args.terms.now t u c.loop-lit.invariant.grown on) on c.in_ok-product-2.ensures.of
-    (λ σ. subst (λ (l : ℤ). value_in u r σ ≡ (value_in t p σ * bit (not (signed σ l))) % modulus t) same (c.in_ok-product-2.ensures.value σ)) c.loop-lit.invariant
+    (λ σ. subst (λ (l : ℤ). value_in u r σ ≡ (value_in t p σ * bit (not (signed σ l))) % modulus_in t) same (c.in_ok-product-2.ensures.value σ)) c.loop-lit.invariant
 
 pub returns-clause-value : goal.returns-clause-value
 returns-clause-value c =

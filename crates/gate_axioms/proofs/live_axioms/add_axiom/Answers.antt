@@ -5,7 +5,7 @@ use Rattle.mv_fact.specs.Facts.{fact_at}
 use Rattle.gate_axioms.proofs.Growth.{keeps_lines}
 use Rattle.gate_axioms.proofs.FirstLines.{adds_again, gate_vanishes, gate_added}
 use Rattle.graph_core.specs.Algebra.{gate_axiom}
-use Rattle.poly_terms.specs.Tables.{modulus}
+use Rattle.poly_terms.specs.Tables.{modulus_in}
 use Rattle.gate_axioms.proofs.live_axioms.add_axiom.Goals as goal
 
 err_ok : {T E : Type 0} {x : T} {e : E} → ◌≡◌ {A = Result T E} (Ok x) (Err e) → ⊥
@@ -24,4 +24,4 @@ pub returns-in-Err-IdUsed : goal.returns-in-Err-IdUsed
 returns-in-Err-IdUsed c =
     let mid = c.grow.new.self in
     let there : IsSome (fact_at mid.entries c.args.gate.now.v) = subst (λ n. IsSome (fact_at mid.entries n)) c.from.ensures (c.in-Err-IdUsed.ensures.used.0 (ap Err c.in-Err-IdUsed.field-0-is)) in
-    adds_again (gate_axiom (modulus c.args.live.now.table) c.args.gate.now) c.args.live.now mid c.insert.new.self (keeps_lines c.args.live.now mid c.grow.ensures.grows c.grow.ensures.kept) c.in-Err-IdUsed.ensures.unchanged there
+    adds_again (gate_axiom (modulus_in c.args.live.now.table) c.args.gate.now) c.args.live.now mid c.insert.new.self (keeps_lines c.args.live.now mid c.grow.ensures.grows c.grow.ensures.kept) c.in-Err-IdUsed.ensures.unchanged there

@@ -1,8 +1,8 @@
 use Rattle.std.proofs.Common.{◌≡◌, ◌+◌, ap₂, subst, ◌∙◌}
 use Rattle.std.proofs.lemmas.Result.{on_ok_weaker}
 use Rattle.graph_core.specs.Graph.{IsEvaluation}
-use Rattle.poly_terms.specs.Tables.{modulus}
-use Rattle.gate_axioms.specs.ReplacedColumns.{PutsLine, difference_line}
+use Rattle.poly_terms.specs.Tables.{modulus_in}
+use Rattle.gate_axioms.specs.ReplacedColumns.{PutsLiveLine, difference_line}
 use Rattle.gate_axioms.proofs.ColumnLines.{column_equal, columns_step}
 use Rattle.gate_axioms.proofs.live_axioms.add_column.Goals as goal
 
@@ -18,5 +18,5 @@ returns-in-Some c =
     let id : c.from.result + 1 + c.from-in-Some.result ≡ e.max + 1 + c.args.k = ap₂ (λ x y. x + 1 + y) (c.from.ensures ∙ c.max.ensures.value) c.from-in-Some.ensures in
     on_ok_weaker c.add_difference.result
     (λ puts start before. columns_step e c.args.k start old new c.in-Some.left c.in-Some.right c.requires.modulus c.in-Some.ensures before
-    (subst (λ n. PutsLine (difference_line (modulus old.table) n c.in-Some.left c.in-Some.right) old new) id puts))
+    (subst (λ n. PutsLiveLine (difference_line (modulus_in old.table) n c.in-Some.left c.in-Some.right) old new) id puts))
     c.add_difference.ensures

@@ -1,9 +1,9 @@
 use Rattle.std.proofs.Common.{[], get_or, refl, sym, subst, ◌∙◌}
 use Rattle.graph_core.specs.declared.Gate.{Gate}
 use Rattle.graph_core.specs.Algebra.{gate_axiom}
-use Rattle.poly_terms.specs.Tables.{modulus}
+use Rattle.poly_terms.specs.Tables.{modulus_in}
 use Rattle.poly_terms.specs.Laws.{extends_itself, extends_on, modulus_stays}
-use Rattle.gate_axioms.specs.Lines.{lines_in}
+use Rattle.gate_axioms.specs.Lines.{live_lines_in}
 use Rattle.graph_core.specs.Algebra.Agreement.{AreSameLines}
 use Rattle.gate_axioms.specs.Steps.{AddsLine}
 use Rattle.gate_axioms.proofs.FirstLines.{gates_more}
@@ -13,7 +13,7 @@ pub loop-gate-init : goal.loop-gate-init
 loop-gate-init c = record {
   same_gates = refl;
   table = extends_itself c.args.live.now.table;
-  done = subst (λ es. AreSameLines (lines_in c.args.live.now.table es) []) (sym c.requires.empty) (λ id. tt);
+  done = subst (λ es. AreSameLines (live_lines_in c.args.live.now.table es) []) (sym c.requires.empty) (λ id. tt);
 }
 
 pub loop-gate-preserved : goal.loop-gate-preserved
@@ -21,7 +21,7 @@ loop-gate-preserved c =
     let none : Gate = record { v = 0; left = record { 0 = 0 }; right = record { 0 = 0 } } in
     let gates = c.args.gates.now in
     let i = c.loop-gate.gate-index in
-    let m = modulus c.args.live.now.table in
+    let m = modulus_in c.args.live.now.table in
     let old = c.loop-gate.live in
     let new = c.add_axiom.new.live in
     let added : AddsLine (gate_axiom m (get_or gates i none)) old new =

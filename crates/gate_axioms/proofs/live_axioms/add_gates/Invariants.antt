@@ -1,13 +1,13 @@
 use Rattle.std.proofs.Common.{◌≡◌, map, take}
 use Rattle.graph_core.specs.Algebra.{gate_axiom}
-use Rattle.poly_terms.specs.Tables.{Extends, modulus}
+use Rattle.poly_terms.specs.Tables.{Extends, modulus_in}
 use Rattle.graph_core.specs.Algebra.Agreement.{AreSameLines}
-use Rattle.gate_axioms.specs.Lines.{lines_in}
+use Rattle.gate_axioms.specs.Lines.{live_lines_in}
 use Rattle.gate_axioms.proofs.live_axioms.add_gates.Given as goal
 
 abbrev pub invariant-loop-gate : goal.invariant-loop-gate
 invariant-loop-gate l = record {
   same_gates : l.live.gates ≡ l.initial.live.gates;
   table : Extends l.initial.live.table l.live.table;
-  done : AreSameLines (lines_in l.live.table l.live.entries) (map (gate_axiom (modulus l.initial.live.table)) (take l.gate-index l.gates));
+  done : AreSameLines (live_lines_in l.live.table l.live.entries) (map (gate_axiom (modulus_in l.initial.live.table)) (take l.gate-index l.gates));
 }

@@ -1,10 +1,10 @@
 use Rattle.std.proofs.Common.{◌≡◌, ◌∙◌, [], ◌∷◌, ◌++◌, sym, subst}
 use Rattle.clause_core.specs.Clause.{Clause, IsClauseInRange}
-use Rattle.cdcl_core.specs.Loading.{SameLive}
-use Rattle.cdcl_core.specs.Logs.{LogView, with_added}
-use Rattle.cdcl_core.specs.Solvers.{SolverView, with_clause}
-use Rattle.cdcl_core.specs.Solving.{IsAnswer}
-use Rattle.cdcl_core.specs.declared.solved.Solved.{Solved}
+use Rattle.cdcl_solver.specs.Loading.{SameLive}
+use Rattle.cdcl_solver.specs.Logs.{LogView, with_added}
+use Rattle.cdcl_solver.specs.Solvers.{SolverView, with_clause}
+use Rattle.cdcl_solver.specs.Solving.{IsAnswer}
+use Rattle.cdcl_solver.specs.declared.solved.Solved.{Solved}
 use Rattle.goal_refuter.specs.Refuting.{IsRefutation}
 use Rattle.goal_refuter.proofs.Answering.{answered, negated_range, shown_next}
 use Rattle.goal_refuter.proofs.Kept.{answer_kept, continues_kept, live_kept, live_pushed}

@@ -2,8 +2,8 @@ use Rattle.std.proofs.Common.{◌<◌, ◌+◌, ◌-◌, ℕ, List, [], length, 
 use Rattle.std.specs.List.{All}
 use Rattle.graph_core.specs.Graph.Extended.{Extended}
 use Rattle.clause_core.specs.Clause.{Clause, IsClauseInRange}
-use Rattle.cdcl_core.specs.declared.solved.Solved.{Solved}
-use Rattle.cdcl_core.specs.declared.solved.Solved.TheVariants.{Model, Refuted, Spent}
+use Rattle.cdcl_solver.specs.declared.solved.Solved.{Solved}
+use Rattle.cdcl_solver.specs.declared.solved.Solved.TheVariants.{Model, Refuted, Spent}
 use Rattle.miter_encoder.proofs.Meanings.{clauses_mean}
 use Rattle.goal_refuter.specs.Beginnings.{IsBegun}
 use Rattle.goal_refuter.specs.Refuting.{AreOver, IsRefutation}

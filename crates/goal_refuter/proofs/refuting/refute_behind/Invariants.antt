@@ -1,7 +1,7 @@
 use Rattle.std.proofs.Common.{◌+◌, ◌≤◌, List}
 use Rattle.graph_core.specs.Graph.Extended.{Extended}
 use Rattle.clause_core.specs.Clause.{Clause}
-use Rattle.cdcl_core.specs.Logs.{lemmas}
+use Rattle.cdcl_solver.specs.Logs.{lemmas}
 use Rattle.goal_refuter.specs.Beginnings.{IsBegun}
 use Rattle.goal_refuter.specs.Refuting.{AreOver, IsKeptOver, IsSoFar}
 use Rattle.goal_refuter.proofs.refuting.refute_behind.Given as goal

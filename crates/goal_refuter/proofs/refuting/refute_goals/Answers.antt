@@ -2,7 +2,7 @@ use Rattle.std.proofs.Common.{ℕ, sym, ap, subst}
 use Rattle.std.specs.List.{All}
 use Rattle.std.proofs.lemmas.Result.{IfOk-weaker}
 use Rattle.clause_core.specs.Clause.{IsClauseInRange}
-use Rattle.cdcl_core.specs.Solvers.{SolverView}
+use Rattle.cdcl_solver.specs.Solvers.{SolverView}
 use Rattle.goal_refuter.specs.Beginnings.{IsBegun, IsOutcomeBehind}
 use Rattle.goal_refuter.specs.Refuting.{AreOver, IsOutcomeOver}
 use Rattle.goal_refuter.proofs.Beginning.{begun_none}

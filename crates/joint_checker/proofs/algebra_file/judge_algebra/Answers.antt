@@ -2,7 +2,7 @@ use Rattle.std.proofs.Common.{◌≡◌, ℕ, List, ap, refl, sym, subst, ◌∙
 use Rattle.std.specs.Option.{IfSome}
 use Rattle.std.proofs.lemmas.Result.{err_from_is_err_and}
 use Rattle.graph_core.specs.Algebra.{AreLawful, Line, Premises, beginning, modulus, specification}
-use Rattle.graph_core.specs.Algebra.Agreement.{Agree}
+use Rattle.graph_core.specs.Algebra.Agreement.{LedgersAgree}
 use Rattle.graph_core.specs.Graph.Extended.{Extended}
 use Rattle.graph_core.specs.Graph.Operands.{Sides, sides_for}
 use Rattle.mv_desk.specs.declared.slot.Slot.TheVariants as slot
@@ -15,8 +15,8 @@ use Rattle.mv_text.specs.LineReading.{lengths_of}
 use Rattle.pac_checker.specs.Checking.{IsRecordable, ledger_of}
 use Rattle.poly_text.specs.Recorded.{lines_in}
 use Rattle.joint_checker.specs.AlgebraBody.{IsBodyFail, IsLawfulBody}
-use Rattle.mv_text.specs.CertificateFiles.{left_of}
-use Rattle.joint_checker.specs.ClauseFiles.{imported, premises}
+use Rattle.mv_text.specs.CertificateFiles.{left_of_file}
+use Rattle.joint_checker.specs.ClauseFiles.{importable, premises}
 use Rattle.joint_checker.specs.Shown.{premises_of}
 use Rattle.joint_checker.proofs.AlgebraFiles.{body_fails, header_fails, text_is_lawful}
 use Rattle.joint_checker.proofs.Joined.{all_imported}
@@ -38,8 +38,8 @@ pub judge_lines-requires-clause-begins : goal.judge_lines-requires-clause-begins
 judge_lines-requires-clause-begins g c =
     let known = ledger_of c.in_ok-checker.checker in
     let version = c.in-Ok.file.version in
-    subst (λ (e : Extended). Agree known (beginning (premises version e c.in_ok-checker.checker.added))) (sym c.in_ok-checker.ensures.extended)
-    (subst (λ (cs : List Clause). Agree known (beginning (premises version c.args.shown.now.extended cs))) (sym c.in_ok-checker.ensures.added) (c.in_ok-checker.ensures.axioms version))
+    subst (λ (e : Extended). LedgersAgree known (beginning (premises version e c.in_ok-checker.checker.added))) (sym c.in_ok-checker.ensures.extended)
+    (subst (λ (cs : List Clause). LedgersAgree known (beginning (premises version c.args.shown.now.extended cs))) (sym c.in_ok-checker.ensures.added) (c.in_ok-checker.ensures.axioms version))
 
 pub new-requires-clause-facts : goal.new-requires-clause-facts
 new-requires-clause-facts g c =
@@ -73,11 +73,11 @@ returns-clause-lawful g c =
     let p = premises_of shown in
     let sides = sides_for c.args.claim e.graph in
     let file = c.in-Ok.file in
-    let behind = left_of slot.Algebra file (g.D.Desk.seen c.start.new.desk) in
+    let behind = left_of_file slot.Algebra file (g.D.Desk.seen c.start.new.desk) in
     let checker = c.in_ok-checker.checker in
     let same_sides : checker.sides ≡ sides =
     c.in_ok-checker.ensures.sides ∙ c.in_ok-operands.ensures ∙ ap (λ x. sides_for c.args.claim x) c.graph.ensures in
-    let same_premises = made file.version shown.header.version checker.extended e checker.added (imported shown.header.version shown.recorded.added) c.in-Ok.ensures.file.version_is c.in_ok-checker.ensures.extended
+    let same_premises = made file.version shown.header.version checker.extended e checker.added (importable shown.header.version shown.recorded.added) c.in-Ok.ensures.file.version_is c.in_ok-checker.ensures.extended
     (c.in_ok-checker.ensures.added ∙ c.imports-added.ensures) in
     text_is_lawful (lengths_of c.args.limits.now) p sides file c.in-Ok.ensures.file.lengths (before.left slot.Algebra) behind c.in-Ok.ensures.header
     (subst (λ (s : Sides). IfSome behind (IsLawfulBody p s file.lines)) same_sides (subst (λ (x : Premises). IfSome behind (IsLawfulBody x checker.sides file.lines)) same_premises c.in_ok-closing.ensures.lawful))
@@ -101,11 +101,11 @@ returns-in_err-closing-clause-refused g c =
     let p = premises_of shown in
     let sides = sides_for c.args.claim e.graph in
     let file = c.in-Ok.file in
-    let behind = left_of slot.Algebra file middle in
+    let behind = left_of_file slot.Algebra file middle in
     let checker = c.in_ok-checker.checker in
     let same_sides : checker.sides ≡ sides =
     c.in_ok-checker.ensures.sides ∙ c.in_ok-operands.ensures ∙ ap (λ x. sides_for c.args.claim x) c.graph.ensures in
-    let same_premises = made file.version shown.header.version checker.extended e checker.added (imported shown.header.version shown.recorded.added) c.in-Ok.ensures.file.version_is c.in_ok-checker.ensures.extended
+    let same_premises = made file.version shown.header.version checker.extended e checker.added (importable shown.header.version shown.recorded.added) c.in-Ok.ensures.file.version_is c.in_ok-checker.ensures.extended
     (c.in_ok-checker.ensures.added ∙ c.imports-added.ensures) in
     let answer = c.in_err-closing.field-0.0 in
     let same = err_from_is_err_and c.from_residual-in_err-closing.result c.from_residual-in_err-closing.ensures.1 in
@@ -126,7 +126,7 @@ returns-clause-recorded g c = λ yes.
     let id = c.in_ok-closing.closing.id in
     let same_sides : checker.sides ≡ sides =
     c.in_ok-checker.ensures.sides ∙ c.in_ok-operands.ensures ∙ ap (λ x. sides_for c.args.claim x) c.graph.ensures in
-    let same_premises = made shown.header.version shown.header.version checker.extended e checker.added (imported shown.header.version shown.recorded.added) refl c.in_ok-checker.ensures.extended
+    let same_premises = made shown.header.version shown.header.version checker.extended e checker.added (importable shown.header.version shown.recorded.added) refl c.in_ok-checker.ensures.extended
     (c.in_ok-checker.ensures.added ∙ c.imports-added.ensures) in
     let same_extended = c.in_ok-closing.ensures.extended ∙ c.in_ok-checker.ensures.extended in
     let closes = c.in_ok-closing.ensures.closes in
@@ -148,7 +148,7 @@ returns-clause-told g c =
     let before = g.D.Desk.seen c.args.desk.now in
     let shown = c.args.shown.now in
     let file = c.in-Ok.file in
-    let behind = left_of slot.Algebra file (g.D.Desk.seen c.start.new.desk) in
+    let behind = left_of_file slot.Algebra file (g.D.Desk.seen c.start.new.desk) in
     let checker = c.in_ok-checker.checker in
     let record_of = c.into_record.result in
     let closing = c.in_ok-closing.closing in

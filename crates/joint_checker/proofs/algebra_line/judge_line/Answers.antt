@@ -8,7 +8,7 @@ use Rattle.pac_checker.specs.Checking.{IsRecordable, ledger_of}
 use Rattle.poly_text.proofs.CallerLemmas.{outputs_fit}
 use Rattle.clause_judge.proofs.Told.{both_of}
 use Rattle.joint_checker.specs.AlgebraLines.{IsJudged, IsLineFail, IsUnlawful, Turns}
-use Rattle.mv_text.specs.CertificateFiles.{left_of}
+use Rattle.mv_text.specs.CertificateFiles.{left_of_file}
 use Rattle.joint_checker.specs.Records.{ClosesRecord, RecordsTurn}
 use Rattle.joint_checker.proofs.LineTurns.{text_fails, turn_fails, turn_is}
 use Rattle.joint_checker.proofs.Recording.{closes_grown, read_is_recordable, turn_records}
@@ -20,7 +20,7 @@ returns-in-Err-clause-refused g c =
     let file = c.args.work.now.file in
     let before = g.D.Desk.seen c.args.desk.now in
     rw c.line_refused.ensures
-    (text_fails c.args.line file.version checker.extended checker.sides (ledger_of checker) c.args.work.now.max file.lines (left_of slot.Algebra file before) before (g.D.Desk.seen c.grow.new.on) c.in-Err.fail c.requires.max
+    (text_fails c.args.line file.version checker.extended checker.sides (ledger_of checker) c.args.work.now.max file.lines (left_of_file slot.Algebra file before) before (g.D.Desk.seen c.grow.new.on) c.in-Err.fail c.requires.max
     c.in-Err.ensures.did.0.says.refused)
 
 pub returns-in-Ok-clause-turns : goal.returns-in-Ok-clause-turns
@@ -30,8 +30,8 @@ returns-in-Ok-clause-turns g c =
     let next = ledger_of c.judge_text.new.checker in
     let lines = c.args.work.now.file.lines in
     let then = c.grow.new.work.file.lines in
-    let left = left_of slot.Algebra c.args.work.now.file (g.D.Desk.seen c.args.desk.now) in
-    let behind = left_of slot.Algebra c.grow.new.work.file (g.D.Desk.seen c.grow.new.on) in
+    let left = left_of_file slot.Algebra c.args.work.now.file (g.D.Desk.seen c.args.desk.now) in
+    let behind = left_of_file slot.Algebra c.grow.new.work.file (g.D.Desk.seen c.grow.new.on) in
     let grows = c.grow.ensures.grows in
     let same_max = c.requires.max ∙ ap (λ e. e.max) (sym grows.extended) in
     IfOk-weaker c.judge_text.result (IsJudged c.in-Ok.text grown c.judge_text.new.checker) (Turns c.args.work.now.file.version old.extended old.sides (ledger_of old) next lines then left behind) (λ turn h.
@@ -48,8 +48,8 @@ returns-in-Ok-clause-refused g c =
     let then = c.grow.new.work.file.lines in
     let before = g.D.Desk.seen c.args.desk.now in
     let after = g.D.Desk.seen c.grow.new.on in
-    let left = left_of slot.Algebra c.args.work.now.file before in
-    let behind = left_of slot.Algebra c.grow.new.work.file after in
+    let left = left_of_file slot.Algebra c.args.work.now.file before in
+    let behind = left_of_file slot.Algebra c.grow.new.work.file after in
     let grows = c.grow.ensures.grows in
     let same_max = c.requires.max ∙ ap (λ e. e.max) (sym grows.extended) in
     IfErr-weaker c.judge_text.result (IsUnlawful c.args.line c.in-Ok.text grown) (IsLineFail c.args.line c.args.work.now.file.version old.extended old.sides (ledger_of old) lines left before after) (λ answer h.
@@ -77,8 +77,8 @@ returns-in-Ok-clause-recorded g c =
     let grows = c.grow.ensures.grows in
     let lines = c.args.work.now.file.lines in
     let then = c.grow.new.work.file.lines in
-    let left = left_of slot.Algebra c.args.work.now.file (g.D.Desk.seen c.args.desk.now) in
-    let behind = left_of slot.Algebra c.grow.new.work.file (g.D.Desk.seen c.grow.new.on) in
+    let left = left_of_file slot.Algebra c.args.work.now.file (g.D.Desk.seen c.args.desk.now) in
+    let behind = left_of_file slot.Algebra c.grow.new.work.file (g.D.Desk.seen c.grow.new.on) in
     let same = c.grow.ensures.modulus ∙ ap modulus grows.extended in
     both_of c.judge_text.result (IsJudged c.in-Ok.text grown next) (ClosesRecord grown next) (RecordsTurn old.records c.args.work.now.file.version (modulus old.extended) old.recorded next.recorded left behind)
     (λ turn judged closes. turn_records old.records c.args.work.now.file.version (modulus old.extended) old.recorded next.recorded c.args.work.now.max grown next lines then left behind c.in-Ok.text turn same grows.records grows.recorded refl

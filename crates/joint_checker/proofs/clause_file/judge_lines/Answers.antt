@@ -11,7 +11,7 @@ use Rattle.clause_core.specs.GateClauses.{gate_clauses}
 use Rattle.clause_core.specs.Likeness.{AreSameSets}
 use Rattle.clause_judge.specs.ClauseBody.{IsShownWith}
 use Rattle.clause_judge.specs.ClauseLines.{IsTextFail, ReadsNext}
-use Rattle.mv_text.specs.CertificateFiles.{left_of}
+use Rattle.mv_text.specs.CertificateFiles.{left_of_file}
 use Rattle.clause_judge.proofs.ClauseTurns.{begins_with, first_fails, nothing_joined, nothing_passed}
 use Rattle.drup_checker.specs.declared.keeps.Keeps.{Keeps}
 use Rattle.trim_core.specs.KeptClauses.{AreEarlier}
@@ -26,7 +26,7 @@ returns-in_err-first-clause-refused g c =
     let start = c.args.file.now in
     let first = g.D.Desk.seen c.args.desk.now in
     let now = g.D.Desk.seen c.read_line.new.desk in
-    let body = left_of slot.Clauses start first in
+    let body = left_of_file slot.Clauses start first in
     let answer = c.in_err-first.field-0.0 in
     let p = err_from_is_err_and c.from_residual-in_err-first.result c.from_residual-in_err-first.ensures.1 in
     rw (p.1, p.2)
@@ -38,8 +38,8 @@ returns-then-is_nothing-clause-lawful g c =
     let e = c.args.extended.now in
     let start = c.args.file.now in
     let file = c.read_line.new.file in
-    let body = left_of slot.Clauses start (g.D.Desk.seen c.args.desk.now) in
-    let left = left_of slot.Clauses file (g.D.Desk.seen c.read_line.new.desk) in
+    let body = left_of_file slot.Clauses start (g.D.Desk.seen c.args.desk.now) in
+    let left = left_of_file slot.Clauses file (g.D.Desk.seen c.read_line.new.desk) in
     let none = c.is_nothing.ensures c.if-is_nothing.true in
     subst (λ (cs : List Clause). IfSome body (IsShownWith e start.lines c.args.keeps cs 0)) (sym c.nothing_kept.ensures.added)
     (nothing_passed e start body c.in_ok-goals.goals c.in_ok-goals.ensures.sets none.1 c.args.keeps file left
@@ -50,7 +50,7 @@ pub returns-then-is_nothing-clause-columns : goal.returns-then-is_nothing-clause
 returns-then-is_nothing-clause-columns g c =
     let start = c.args.file.now in
     let none = c.is_nothing.ensures c.if-is_nothing.true in
-    nothing_joined c.args.extended.now start (left_of slot.Clauses start (g.D.Desk.seen c.args.desk.now)) c.in_ok-goals.goals c.in_ok-goals.ensures.sets none.1
+    nothing_joined c.args.extended.now start (left_of_file slot.Clauses start (g.D.Desk.seen c.args.desk.now)) c.in_ok-goals.goals c.in_ok-goals.ensures.sets none.1
 
 pub returns-then-is_nothing-clause-chains : goal.returns-then-is_nothing-clause-chains
 returns-then-is_nothing-clause-chains g c given =
@@ -74,11 +74,11 @@ judge_from-requires-clause-begins g c =
     let start = c.args.file.now in
     let middle = g.D.Desk.seen c.read_line.new.desk in
     let file = c.read_line.new.file in
-    let body = left_of slot.Clauses start (g.D.Desk.seen c.args.desk.now) in (
+    let body = left_of_file slot.Clauses start (g.D.Desk.seen c.args.desk.now) in (
       e,
       start,
       body,
-      begins_with e start body c.in_ok-checker.checker c.gates.result.now c.in_ok-goals.goals c.max-max.result c.in_ok-first.first file (left_of slot.Clauses file middle)
+      begins_with e start body c.in_ok-checker.checker c.gates.result.now c.in_ok-goals.goals c.max-max.result c.in_ok-first.first file (left_of_file slot.Clauses file middle)
           c.in_ok-checker.ensures.taken (sym c.gates.ensures.value) c.in_ok-checker.ensures.max c.max-max.ensures.value c.in_ok-checker.ensures.goals c.in_ok-goals.ensures.sets c.in_ok-first.ensures.lengths c.requires.limit
           c.in_ok-first.ensures.next,
     )
@@ -89,9 +89,9 @@ returns-clause-lawful g c =
     let start = c.args.file.now in
     let middle = g.D.Desk.seen c.read_line.new.desk in
     let file = c.read_line.new.file in
-    let body = left_of slot.Clauses start (g.D.Desk.seen c.args.desk.now) in
+    let body = left_of_file slot.Clauses start (g.D.Desk.seen c.args.desk.now) in
     let begins =
-    begins_with e start body c.in_ok-checker.checker c.gates.result.now c.in_ok-goals.goals c.max-max.result c.in_ok-first.first file (left_of slot.Clauses file middle)
+    begins_with e start body c.in_ok-checker.checker c.gates.result.now c.in_ok-goals.goals c.max-max.result c.in_ok-first.first file (left_of_file slot.Clauses file middle)
     c.in_ok-checker.ensures.taken (sym c.gates.ensures.value) c.in_ok-checker.ensures.max c.max-max.ensures.value c.in_ok-checker.ensures.goals c.in_ok-goals.ensures.sets c.in_ok-first.ensures.lengths c.requires.limit
     c.in_ok-first.ensures.next in
     let count = c.in_ok-lines.lines in
@@ -104,9 +104,9 @@ returns-clause-columns g c =
     let start = c.args.file.now in
     let middle = g.D.Desk.seen c.read_line.new.desk in
     let file = c.read_line.new.file in
-    let body = left_of slot.Clauses start (g.D.Desk.seen c.args.desk.now) in
+    let body = left_of_file slot.Clauses start (g.D.Desk.seen c.args.desk.now) in
     let begins =
-    begins_with e start body c.in_ok-checker.checker c.gates.result.now c.in_ok-goals.goals c.max-max.result c.in_ok-first.first file (left_of slot.Clauses file middle)
+    begins_with e start body c.in_ok-checker.checker c.gates.result.now c.in_ok-goals.goals c.max-max.result c.in_ok-first.first file (left_of_file slot.Clauses file middle)
     c.in_ok-checker.ensures.taken (sym c.gates.ensures.value) c.in_ok-checker.ensures.max c.max-max.ensures.value c.in_ok-checker.ensures.goals c.in_ok-goals.ensures.sets c.in_ok-first.ensures.lengths c.requires.limit
     c.in_ok-first.ensures.next in
     c.in_ok-lines.ensures.columns e start body begins
@@ -135,9 +135,9 @@ returns-in_err-lines-clause-refused g c =
     let first = g.D.Desk.seen c.args.desk.now in
     let middle = g.D.Desk.seen c.read_line.new.desk in
     let file = c.read_line.new.file in
-    let body = left_of slot.Clauses start first in
+    let body = left_of_file slot.Clauses start first in
     let begins =
-    begins_with e start body c.in_ok-checker.checker c.gates.result.now c.in_ok-goals.goals c.max-max.result c.in_ok-first.first file (left_of slot.Clauses file middle)
+    begins_with e start body c.in_ok-checker.checker c.gates.result.now c.in_ok-goals.goals c.max-max.result c.in_ok-first.first file (left_of_file slot.Clauses file middle)
     c.in_ok-checker.ensures.taken (sym c.gates.ensures.value) c.in_ok-checker.ensures.max c.max-max.ensures.value c.in_ok-checker.ensures.goals c.in_ok-goals.ensures.sets c.in_ok-first.ensures.lengths c.requires.limit
     c.in_ok-first.ensures.next in
     let p = err_from_is_err_and c.from_residual-in_err-lines.result c.from_residual-in_err-lines.ensures.1 in

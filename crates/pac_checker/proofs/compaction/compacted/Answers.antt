@@ -1,5 +1,5 @@
 use Rattle.std.proofs.Common.{◌<◌, ◌≤◌, subst, ◌∙◌}
-use Rattle.gate_axioms.specs.Lines.{line_in}
+use Rattle.gate_axioms.specs.Lines.{live_line_in}
 use Rattle.gate_axioms.specs.Steps.{AddsLine}
 use Rattle.pac_checker.proofs.Compacting.{carried_all, carried_more, exponent_stays}
 use Rattle.pac_checker.proofs.compaction.compacted.Goals as goal
@@ -11,7 +11,7 @@ loop-place-preserved c =
     let after = c.carry.new.live in
     let id = c.at-id.result.0 in
     let line = c.at-id.result.1.now in
-    let added : AddsLine (line_in old.table (id, line)) before after = subst (λ t. AddsLine (line_in t (id, line)) before after) c.table-in-loop-place.ensures.table c.in_ok-carry.ensures in
+    let added : AddsLine (live_line_in old.table (id, line)) before after = subst (λ t. AddsLine (live_line_in t (id, line)) before after) c.table-in-loop-place.ensures.table c.in_ok-carry.ensures in
     record {
       same_gates = added.gates ∙ c.loop-place.invariant.same_gates;
       exponent = exponent_stays before.table after.table added.table ∙ c.loop-place.invariant.exponent;

@@ -2,7 +2,7 @@ use Rattle.std.proofs.Common.{ℕ, sym, subst, ◌∙◌}
 use Rattle.mv_desk.specs.View.{Rose}
 use Rattle.joint_checker.specs.Outcome.{OpensFor}
 use Rattle.pair_trim.specs.NewPairs.{algebra_text, clauses_text}
-use Rattle.pair_trim.specs.Trimming.{IsNotAccepted, files_of}
+use Rattle.pair_trim.specs.Trimming.{IsNotAccepted, trimmed_files_of}
 use Rattle.pair_trim.proofs.Trims.{not_accepted_answers}
 use Rattle.pair_trim.proofs.trimming.trim.Goals as goal
 
@@ -20,7 +20,7 @@ returns-in-Err-write_pair-clause-answer g c =
 pub returns-in-Err-clause-answer : goal.returns-in-Err-clause-answer
 returns-in-Err-clause-answer g c =
     let limits = c.args.limits.now in
-    let files = files_of c.args.names.now in
+    let files = trimmed_files_of c.args.names.now in
     let before = g.D.Desk.seen c.args.desk.now in
     let now = g.D.Desk.seen c.read_trimmed.new.desk in
     let answer = c.not_accepted.result in

@@ -5,7 +5,7 @@ use Rattle.std.proofs.lemmas.Nat.{pow_pos}
 use Rattle.std.specs.List.{AllByRecursion}
 use Rattle.std.specs.List.Sorted.{IsSortedBy}
 use Rattle.std.specs.Vec.Iter.{into_iter_items}
-use Rattle.poly_terms.specs.Entries.{IsGathered, IsOrderly, Entry}
+use Rattle.poly_terms.specs.Entries.{IsSortedSum, IsOrderly, Entry}
 use Rattle.poly_terms.proofs.Gathering.{Ascend, NoneBefore, before, ascend_sorted, gathered_none, gathered_more, gathered_permuted}
 use Rattle.poly_terms.proofs.Merging.{nothing}
 use Rattle.poly_terms.proofs.Placed.{gathered_itself}
@@ -21,7 +21,7 @@ loop-entry-init c =
     record {
       rest = refl;
       len = left.1 ∙ sorted.ok.0 ∙ sym (ap length left.0);
-      gathered = subst (IsGathered m []) (sym c.in_ok-out.ensures.items) (gathered_none m);
+      gathered = subst (IsSortedSum m []) (sym c.in_ok-out.ensures.items) (gathered_none m);
       ascend = subst Ascend (sym left.0) (ascend_sorted sorted.items up);
       before = subst (AllByRecursion (λ o. NoneBefore o (into_iter_items c.into_iter-entry-iterator.result))) (sym c.in_ok-out.ensures.items) tt;
     }
@@ -55,9 +55,9 @@ returns c =
     let none = c.in-None.ensures.steps in
     let empty : into_iter_items at.entry-iterator ≡ [] = nothing _ (sym at.invariant.len ∙ none.0) in
     let all = sym (append-nil at.yielded) ∙ rw empty at at.invariant.rest ∙ c.into_iter-entry-iterator.ensures.into_iter_gives.0 in
-    subst (IsGathered m c.args.raw.items) (sym c.shrink_to_fit.ensures.items)
+    subst (IsSortedSum m c.args.raw.items) (sym c.shrink_to_fit.ensures.items)
     (gathered_permuted m c.args.raw.items c.sort_unstable_by.new.self.items at.out.items c.sort_unstable_by.ensures.permutation
-    (subst (λ xs. IsGathered m xs at.out.items) all at.invariant.gathered))
+    (subst (λ xs. IsSortedSum m xs at.out.items) all at.invariant.gathered))
 
 pub returns-then-is_orderly-2 : goal.returns-then-is_orderly-2
 returns-then-is_orderly-2 c =

@@ -1,7 +1,7 @@
 use Rattle.std.proofs.Common.{ℕ, ◌≡◌, ◌<◌, ◌%◌, ◌*◌, ◌+◌, [], length, take, sym, ap, subst, ◌∙◌, true≢false, refl, arith}
 use Rattle.graph_core.specs.Graph.Assignments.{Assignment}
 use Rattle.graph_core.specs.Algebra.Polynomials.{product}
-use Rattle.poly_terms.specs.Monomials.{Adds, replaced, replaced_one, without}
+use Rattle.poly_terms.specs.Monomials.{Adds, replaced, replaced_one, without_variable}
 use Rattle.std.proofs.lemmas.List.{take_all}
 use Rattle.std.proofs.lemmas.Option.{slice_get_within}
 use Rattle.poly_terms.specs.Entries.{Sum}
@@ -30,7 +30,7 @@ loop-entry-preserved c =
     let before : Assignment → ℕ = λ σ. replaced old v σ 1 (take i es) in
     let after : Assignment → ℕ = λ σ. replaced old v σ 1 (take (i + 1) es) in
     let step : (σ : Assignment) → replaced_one mid v σ 1 e ≡ replaced_one old v σ 1 e =
-    λ σ. ap (λ us. e.1 * product σ (without v us) * 1) (stands_in_grown old mid e.0 inv.grows (all_at (λ x. x.0 < length old) es i e h at c.requires.entries)) in
+    λ σ. ap (λ us. e.1 * product σ (without_variable v us) * 1) (stands_in_grown old mid e.0 inv.grows (all_at (λ x. x.0 < length old) es i e h at c.requires.entries)) in
     record {
       grows = elim c.if-is_place.branch [
         | then-is_place+in_ok-divide_behind w ↦ rw w.table-is (grows_on old mid w.divide_behind.new.table inv.grows w.divide_behind.ensures.grows)

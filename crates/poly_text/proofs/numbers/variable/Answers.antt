@@ -1,6 +1,6 @@
 use Rattle.std.proofs.Common.{◌<◌, ◌^◌}
 use Rattle.graph_core.specs.Text.Numerals.{number_at}
-use Rattle.poly_text.specs.Values.{IsVariable}
+use Rattle.mv_text.specs.Steps.{IsVariable}
 use Rattle.poly_text.proofs.Misfits.{misfit_passed, no_value}
 use Rattle.poly_text.proofs.NumberSteps.{not_below_it, not_positive, number_kept, number_left}
 use Rattle.poly_text.proofs.numbers.variable.Goals as goal

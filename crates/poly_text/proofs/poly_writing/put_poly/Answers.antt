@@ -1,6 +1,6 @@
 use Rattle.std.proofs.Common.{◌+◌, ◌==◌, ◌∙◌, lit≤, sym, subst, drop, map, get_or}
-use Rattle.poly_terms.specs.Tables.{modulus, monomials_in}
-use Rattle.poly_text.specs.WrittenLines.{none, poly_text, signed, term_text, terms_text}
+use Rattle.poly_terms.specs.Tables.{modulus_in, monomials_in}
+use Rattle.poly_text.specs.WrittenLines.{poly_text, signed_term, term_text, terms_text, zero_term}
 use Rattle.mv_text.proofs.CallerLemmas.{PutsUpTo, Puts-is, up_to_all, up_to_none, up_to_more}
 use Rattle.poly_text.proofs.WrittenTerms.{next_term, no_term, no_term_left, some_terms}
 use Rattle.poly_text.proofs.poly_writing.put_poly.Goals as goal
@@ -43,8 +43,8 @@ loop-i-preserved g c =
     let ts = monomials_in t c.args.poly.now in
     record {
       «open» = c.put_term.ensures.open;
-      puts = up_to_more (term_text (i == 0) (signed (modulus t) (get_or ts i none))) (terms_text (i + 1 == 0) (map (signed (modulus t)) (drop (i + 1) ts)))
-          (next_term (modulus t) ts i (rw (← c.size-size.ensures.monomials) c.loop-i-test.true)) c.loop-i.invariant.puts c.put_term.ensures.puts;
+      puts = up_to_more (term_text (i == 0) (signed_term (modulus_in t) (get_or ts i zero_term))) (terms_text (i + 1 == 0) (map (signed_term (modulus_in t)) (drop (i + 1) ts)))
+          (next_term (modulus_in t) ts i (rw (← c.size-size.ensures.monomials) c.loop-i-test.true)) c.loop-i.invariant.puts c.put_term.ensures.puts;
     }
 
 pub returns-clause-open : goal.returns-clause-open
@@ -54,4 +54,4 @@ pub returns-clause-puts : goal.returns-clause-puts
 returns-clause-puts g c =
     let t = c.args.terms.now in
     let ts = monomials_in t c.args.poly.now in
-    up_to_all (no_term_left (modulus t) (c.loop-i.i == 0) ts c.loop-i.i (rw (← c.size-size.ensures.monomials) c.loop-i-test.false)) c.loop-i.invariant.puts
+    up_to_all (no_term_left (modulus_in t) (c.loop-i.i == 0) ts c.loop-i.i (rw (← c.size-size.ensures.monomials) c.loop-i-test.false)) c.loop-i.invariant.puts

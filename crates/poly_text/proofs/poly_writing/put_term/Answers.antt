@@ -1,6 +1,6 @@
 use Rattle.std.proofs.Common.{◌≡◌, ◌^◌, ◌*◌, ◌==◌, ◌∙◌, ap, ap₂, get_or, nat_lt}
-use Rattle.poly_terms.specs.Tables.{modulus, monomials_in}
-use Rattle.poly_text.specs.WrittenLines.{lesser_of, none, product_text, sign_text}
+use Rattle.poly_terms.specs.Tables.{modulus_in, monomials_in}
+use Rattle.poly_text.specs.WrittenLines.{lesser_of, product_text, sign_text, zero_term}
 use Rattle.mv_text.proofs.CallerLemmas.{Puts-is, Puts-then}
 use Rattle.poly_text.proofs.WrittenTerms.{normal_here, coefficient_here, variables_here}
 use Rattle.poly_text.proofs.poly_writing.put_term.Goals as goal
@@ -21,10 +21,10 @@ pub returns-clause-puts : goal.returns-clause-puts
 returns-clause-puts g c =
     let t = c.args.terms.now in
     let p = c.args.poly.now in
-    let term = get_or (monomials_in t p) c.args.i none in
+    let term = get_or (monomials_in t p) c.args.i zero_term in
     let coefficient = coefficient_here t p c.requires.of c.args.i c.requires.place c.coefficient.result c.coefficient.ensures in
     let variables = variables_here t p c.requires.of c.args.i c.requires.place c.vars.result.now c.vars.ensures in
-    let m : 2 ^ c.exponent.result ≡ modulus t = ap (λ w. 2 ^ w) c.exponent.ensures.exponent in
+    let m : 2 ^ c.exponent.result ≡ modulus_in t = ap (λ w. 2 ^ w) c.exponent.ensures.exponent in
     let sign = c.signed-negative.ensures.sign ∙ ap₂ (λ k n. nat_lt k (2 * n)) m coefficient in
     let lesser = c.signed-negative.ensures.lesser ∙ ap₂ lesser_of m coefficient in
     Puts-then (Puts-is (c.sign.ensures.text ∙ ap (sign_text (c.args.i == 0)) sign) c.put.ensures.puts)

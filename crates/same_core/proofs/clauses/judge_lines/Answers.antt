@@ -12,7 +12,7 @@ use Rattle.miter_encoder.specs.ColumnGoals.{AreGoalsOfColumns, columns_from}
 use Rattle.miter_encoder.proofs.GateRanges.{within_range}
 use Rattle.clause_judge.specs.ClauseBody.{IsShownBody, IsShownWith}
 use Rattle.clause_judge.specs.ClauseLines.{IsTextFail}
-use Rattle.mv_text.specs.CertificateFiles.{left_of}
+use Rattle.mv_text.specs.CertificateFiles.{left_of_file}
 use Rattle.clause_judge.proofs.ClauseTurns.{begins_with, first_fails}
 use Rattle.clause_judge.proofs.Told.{told_more}
 use Rattle.same_core.specs.Merged.{over}
@@ -34,7 +34,7 @@ returns-in_err-first-clause-refused g c =
     let start = c.args.file.now in
     let first = g.D.Desk.seen c.args.desk.now in
     let now = g.D.Desk.seen c.read_line.new.desk in
-    let body = left_of slot.Clauses start first in
+    let body = left_of_file slot.Clauses start first in
     let answer = c.in_err-first.field-0.0 in
     let p = err_from_is_err_and c.from_residual-in_err-first.result c.from_residual-in_err-first.ensures.1 in
     rw (p.1, p.2)
@@ -59,12 +59,12 @@ judge_from-requires-clause-begins g c =
     let start = c.args.file.now in
     let middle = g.D.Desk.seen c.read_line.new.desk in
     let file = c.read_line.new.file in
-    let body = left_of slot.Clauses start (g.D.Desk.seen c.args.desk.now) in
+    let body = left_of_file slot.Clauses start (g.D.Desk.seen c.args.desk.now) in
     let shown_goals = subst (λ (pairs : List (Lit × Lit)). AreGoalsOfColumns (columns_from 0 pairs) c.in_ok-goals.goals) c.pairs.ensures c.in_ok-goals.ensures.sets in (
       e,
       start,
       body,
-      begins_with e start body c.in_ok-checker.checker c.gates-merged_gates.result.now c.in_ok-goals.goals c.max-greatest.result c.in_ok-first.first file (left_of slot.Clauses file middle)
+      begins_with e start body c.in_ok-checker.checker c.gates-merged_gates.result.now c.in_ok-goals.goals c.max-greatest.result c.in_ok-first.first file (left_of_file slot.Clauses file middle)
           c.in_ok-checker.ensures.taken (sym c.gates-merged_gates.ensures) c.in_ok-checker.ensures.max c.max-greatest.ensures c.in_ok-checker.ensures.goals shown_goals c.in_ok-first.ensures.lengths c.requires.limit
           c.in_ok-first.ensures.next,
     )
@@ -75,10 +75,10 @@ returns-clause-lawful g c =
     let start = c.args.file.now in
     let middle = g.D.Desk.seen c.read_line.new.desk in
     let file = c.read_line.new.file in
-    let body = left_of slot.Clauses start (g.D.Desk.seen c.args.desk.now) in
+    let body = left_of_file slot.Clauses start (g.D.Desk.seen c.args.desk.now) in
     let shown_goals = subst (λ (pairs : List (Lit × Lit)). AreGoalsOfColumns (columns_from 0 pairs) c.in_ok-goals.goals) c.pairs.ensures c.in_ok-goals.ensures.sets in
     let begins =
-    begins_with e start body c.in_ok-checker.checker c.gates-merged_gates.result.now c.in_ok-goals.goals c.max-greatest.result c.in_ok-first.first file (left_of slot.Clauses file middle)
+    begins_with e start body c.in_ok-checker.checker c.gates-merged_gates.result.now c.in_ok-goals.goals c.max-greatest.result c.in_ok-first.first file (left_of_file slot.Clauses file middle)
     c.in_ok-checker.ensures.taken (sym c.gates-merged_gates.ensures) c.in_ok-checker.ensures.max c.max-greatest.ensures c.in_ok-checker.ensures.goals shown_goals c.in_ok-first.ensures.lengths c.requires.limit
     c.in_ok-first.ensures.next in
     told_more body (IsShownWith e start.lines c.in_ok-checker.checker.keeps c.judge_from.new.checker.added c.in_ok-judge_from.field-0) (IsShownBody e start.lines) (λ bytes there. (there.0, there.1, there.2))
@@ -90,10 +90,10 @@ returns-clause-agree g c =
     let start = c.args.file.now in
     let middle = g.D.Desk.seen c.read_line.new.desk in
     let file = c.read_line.new.file in
-    let body = left_of slot.Clauses start (g.D.Desk.seen c.args.desk.now) in
+    let body = left_of_file slot.Clauses start (g.D.Desk.seen c.args.desk.now) in
     let shown_goals = subst (λ (pairs : List (Lit × Lit)). AreGoalsOfColumns (columns_from 0 pairs) c.in_ok-goals.goals) c.pairs.ensures c.in_ok-goals.ensures.sets in
     let begins =
-    begins_with e start body c.in_ok-checker.checker c.gates-merged_gates.result.now c.in_ok-goals.goals c.max-greatest.result c.in_ok-first.first file (left_of slot.Clauses file middle)
+    begins_with e start body c.in_ok-checker.checker c.gates-merged_gates.result.now c.in_ok-goals.goals c.max-greatest.result c.in_ok-first.first file (left_of_file slot.Clauses file middle)
     c.in_ok-checker.ensures.taken (sym c.gates-merged_gates.ensures) c.in_ok-checker.ensures.max c.max-greatest.ensures c.in_ok-checker.ensures.goals shown_goals c.in_ok-first.ensures.lengths c.requires.limit
     c.in_ok-first.ensures.next in
     c.in_ok-judge_from.ensures.columns e start body begins
@@ -105,10 +105,10 @@ returns-in_err-judge_from-clause-refused g c =
     let first = g.D.Desk.seen c.args.desk.now in
     let middle = g.D.Desk.seen c.read_line.new.desk in
     let file = c.read_line.new.file in
-    let body = left_of slot.Clauses start first in
+    let body = left_of_file slot.Clauses start first in
     let shown_goals = subst (λ (pairs : List (Lit × Lit)). AreGoalsOfColumns (columns_from 0 pairs) c.in_ok-goals.goals) c.pairs.ensures c.in_ok-goals.ensures.sets in
     let begins =
-    begins_with e start body c.in_ok-checker.checker c.gates-merged_gates.result.now c.in_ok-goals.goals c.max-greatest.result c.in_ok-first.first file (left_of slot.Clauses file middle)
+    begins_with e start body c.in_ok-checker.checker c.gates-merged_gates.result.now c.in_ok-goals.goals c.max-greatest.result c.in_ok-first.first file (left_of_file slot.Clauses file middle)
     c.in_ok-checker.ensures.taken (sym c.gates-merged_gates.ensures) c.in_ok-checker.ensures.max c.max-greatest.ensures c.in_ok-checker.ensures.goals shown_goals c.in_ok-first.ensures.lengths c.requires.limit
     c.in_ok-first.ensures.next in
     let p = err_from_is_err_and c.from_residual-in_err-judge_from.result c.from_residual-in_err-judge_from.ensures.1 in

@@ -1,7 +1,7 @@
 use Rattle.std.proofs.Common.{Err, ap}
 use Rattle.std.proofs.lemmas.Result.{err_from_is_err_and}
 use Rattle.mv_desk.proofs.CallerLemmas.{Inspects-trans, OpensFiles-trans, SlotStays-trans}
-use Rattle.same_core.specs.Files.{files_of}
+use Rattle.same_core.specs.Files.{compared_files_of}
 use Rattle.same_core.proofs.OutcomeRows.{first_answers, first_opened, merge_answers, merge_opened, other_answers, other_opened, pair_is}
 use Rattle.same_core.proofs.pairs.read_pair.Goals as goal
 
@@ -11,13 +11,13 @@ pub returns-in_err-graph-clause-refused : goal.returns-in_err-graph-clause-refus
 returns-in_err-graph-clause-refused g c =
     let same = err_from_is_err_and c.from_residual.result c.from_residual.ensures.1 in
     rw (same.1, same.2)
-    (first_answers c.args.limits.now (files_of c.args.names.now) (g.D.Desk.seen c.args.desk.now) (g.D.Desk.seen c.read_graph.new.desk) c.in_err-graph.field-0.0 c.in_err-graph.ensures.refused)
+    (first_answers c.args.limits.now (compared_files_of c.args.names.now) (g.D.Desk.seen c.args.desk.now) (g.D.Desk.seen c.read_graph.new.desk) c.in_err-graph.field-0.0 c.in_err-graph.ensures.refused)
 
 pub returns-in_err-graph-clause-opened : goal.returns-in_err-graph-clause-opened
 returns-in_err-graph-clause-opened g c =
     let same = err_from_is_err_and c.from_residual.result c.from_residual.ensures.1 in
     rw (same.1, same.2)
-    (first_opened c.args.limits.now (files_of c.args.names.now) (g.D.Desk.seen c.args.desk.now) (g.D.Desk.seen c.read_graph.new.desk) c.in_err-graph.field-0.0 c.in_err-graph.ensures.refused c.read_graph.ensures.opens.opened)
+    (first_opened c.args.limits.now (compared_files_of c.args.names.now) (g.D.Desk.seen c.args.desk.now) (g.D.Desk.seen c.read_graph.new.desk) c.in_err-graph.field-0.0 c.in_err-graph.ensures.refused c.read_graph.ensures.opens.opened)
 
 -- ---- the second graph
 
@@ -25,7 +25,7 @@ pub returns-in_err-other-clause-refused : goal.returns-in_err-other-clause-refus
 returns-in_err-other-clause-refused g c =
     let same = err_from_is_err_and c.from_residual-in_err-other.result c.from_residual-in_err-other.ensures.1 in
     rw (same.1, same.2)
-    (other_answers c.args.limits.now (files_of c.args.names.now) (g.D.Desk.seen c.args.desk.now) (g.D.Desk.seen c.read_graph.new.desk) (g.D.Desk.seen c.read_graph-2.new.desk) c.read_graph.ensures.inspects c.in_ok-graph.graph
+    (other_answers c.args.limits.now (compared_files_of c.args.names.now) (g.D.Desk.seen c.args.desk.now) (g.D.Desk.seen c.read_graph.new.desk) (g.D.Desk.seen c.read_graph-2.new.desk) c.read_graph.ensures.inspects c.in_ok-graph.graph
     c.in_ok-graph.ensures.spelled c.in_err-other.field-0.0 c.in_err-other.ensures.refused)
 
 pub returns-in_err-other-clause-opened : goal.returns-in_err-other-clause-opened
@@ -35,7 +35,7 @@ returns-in_err-other-clause-opened g c =
     let third = g.D.Desk.seen c.read_graph-2.new.desk in
     let same = err_from_is_err_and c.from_residual-in_err-other.result c.from_residual-in_err-other.ensures.1 in
     rw (same.1, same.2)
-    (other_opened c.args.limits.now (files_of c.args.names.now) first second third c.read_graph.ensures.inspects c.in_ok-graph.graph c.in_ok-graph.ensures.spelled c.in_err-other.field-0.0 c.in_err-other.ensures.refused
+    (other_opened c.args.limits.now (compared_files_of c.args.names.now) first second third c.read_graph.ensures.inspects c.in_ok-graph.graph c.in_ok-graph.ensures.spelled c.in_err-other.field-0.0 c.in_err-other.ensures.refused
     (OpensFiles-trans 1 1 first second third c.read_graph.ensures.opens.opened c.read_graph-2.ensures.opens.opened))
 
 -- ---- the merged gates
@@ -44,7 +44,7 @@ pub returns-in_err-merged-clause-refused : goal.returns-in_err-merged-clause-ref
 returns-in_err-merged-clause-refused g c =
     let same = err_from_is_err_and c.from_residual-in_err-merged.result c.from_residual-in_err-merged.ensures.1 in
     rw (same.1, same.2)
-    (merge_answers c.args.limits.now (files_of c.args.names.now) (g.D.Desk.seen c.args.desk.now) (g.D.Desk.seen c.read_graph.new.desk) (g.D.Desk.seen c.read_graph-2.new.desk) c.read_graph.ensures.inspects
+    (merge_answers c.args.limits.now (compared_files_of c.args.names.now) (g.D.Desk.seen c.args.desk.now) (g.D.Desk.seen c.read_graph.new.desk) (g.D.Desk.seen c.read_graph-2.new.desk) c.read_graph.ensures.inspects
     c.in_ok-graph.graph c.in_ok-graph.ensures.spelled c.in_ok-other.other c.in_ok-other.ensures.spelled c.in_err-merged.field-0.0 (λ e. c.in_err-merged.ensures.shape.0 (ap Err e)))
 
 pub returns-in_err-merged-clause-opened : goal.returns-in_err-merged-clause-opened
@@ -54,12 +54,12 @@ returns-in_err-merged-clause-opened g c =
     let third = g.D.Desk.seen c.read_graph-2.new.desk in
     let same = err_from_is_err_and c.from_residual-in_err-merged.result c.from_residual-in_err-merged.ensures.1 in
     rw (same.1, same.2)
-    (merge_opened c.args.limits.now (files_of c.args.names.now) first second third c.read_graph.ensures.inspects c.in_ok-graph.graph c.in_ok-graph.ensures.spelled c.in_ok-other.other c.in_ok-other.ensures.spelled c.in_err-merged.field-0.0
+    (merge_opened c.args.limits.now (compared_files_of c.args.names.now) first second third c.read_graph.ensures.inspects c.in_ok-graph.graph c.in_ok-graph.ensures.spelled c.in_ok-other.other c.in_ok-other.ensures.spelled c.in_err-merged.field-0.0
     (OpensFiles-trans 1 1 first second third c.read_graph.ensures.opens.opened c.read_graph-2.ensures.opens.opened))
 
 pub returns-clause-pair : goal.returns-clause-pair
 returns-clause-pair g c =
-    pair_is c.args.limits.now (files_of c.args.names.now) (g.D.Desk.seen c.args.desk.now) (g.D.Desk.seen c.read_graph.new.desk) (g.D.Desk.seen c.read_graph-2.new.desk) c.read_graph.ensures.inspects c.in_ok-graph.graph
+    pair_is c.args.limits.now (compared_files_of c.args.names.now) (g.D.Desk.seen c.args.desk.now) (g.D.Desk.seen c.read_graph.new.desk) (g.D.Desk.seen c.read_graph-2.new.desk) c.read_graph.ensures.inspects c.in_ok-graph.graph
     c.in_ok-graph.ensures.spelled c.in_ok-other.other c.in_ok-other.ensures.spelled c.in_ok-merged.merged c.in_ok-graph.ensures.built c.in_ok-other.ensures.built c.in_ok-merged.ensures.one_shape c.in_ok-merged.ensures.merged
 
 -- ---- the desk

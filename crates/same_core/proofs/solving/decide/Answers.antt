@@ -6,7 +6,7 @@ use Rattle.clause_core.specs.GateClauses.{gate_clauses}
 use Rattle.clause_core.specs.Likeness.{AreSameSets}
 use Rattle.goal_refuter.specs.Beginnings.{IsOutcomeBehind}
 use Rattle.goal_refuter.specs.Refutations.{unmet_goals}
-use Rattle.goal_refuter.specs.Refuting.{IsOutcome}
+use Rattle.goal_refuter.specs.Refuting.{IsGoalsOutcome}
 use Rattle.goal_refuter.proofs.Beginning.{begun_none}
 use Rattle.goal_refuter.proofs.GoalClauses.{sets_range}
 use Rattle.graph_core.specs.declared.gate.Gate.{Gate}
@@ -60,4 +60,4 @@ returns c =
     let solver = c.sweep.new.solver in
     let h = swept c.args.merged.now c.max-greatest.result c.gates-merged_gates.result.now c.pairs.result.now clauses goals c.args.conflicts c.in_ok-solver.solver solver c.new-log.result c.sweep.new.log
     c.max-greatest.ensures c.gates-merged_gates.ensures c.pairs.ensures c.in_ok-clauses.ensures.sets c.in_ok-goals.ensures c.in_ok-solver.ensures c.new-log.ensures c.in_ok-sweep.ensures in
-    IfOk-weaker c.refute_behind.result (IsOutcomeBehind solver c.sweep.new.log goals c.args.conflicts) (IsOutcome e c.args.conflicts) (λ o outcome. outcome e clauses h.are h.begun) c.refute_behind.ensures
+    IfOk-weaker c.refute_behind.result (IsOutcomeBehind solver c.sweep.new.log goals c.args.conflicts) (IsGoalsOutcome e c.args.conflicts) (λ o outcome. outcome e clauses h.are h.begun) c.refute_behind.ensures

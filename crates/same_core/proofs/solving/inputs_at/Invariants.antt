@@ -1,5 +1,5 @@
 use Rattle.std.proofs.Common.{◌≡◌, map, take}
-use Rattle.cdcl_core.specs.Solving.{assignment_of}
+use Rattle.cdcl_solver.specs.Solving.{assignment_of}
 use Rattle.graph_core.specs.Graph.Assignments.{literal}
 use Rattle.same_core.proofs.solving.inputs_at.Given as goal
 

@@ -1,7 +1,7 @@
 use Rattle.std.proofs.Common.{◌≡◌, ℕ, List, sym, subst}
 use Rattle.clause_core.specs.Clause.{Clause}
-use Rattle.cdcl_core.specs.Logs.{LogView}
-use Rattle.cdcl_core.specs.Solvers.{SolverView}
+use Rattle.cdcl_solver.specs.Logs.{LogView}
+use Rattle.cdcl_solver.specs.Solvers.{SolverView}
 use Rattle.goal_refuter.specs.Beginnings.{IsBegun}
 use Rattle.same_core.proofs.sweeping.show_twin.Goals as goal
 

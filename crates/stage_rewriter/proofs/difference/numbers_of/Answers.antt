@@ -3,7 +3,7 @@ use Rattle.std.proofs.lemmas.List.{length-map}
 use Rattle.graph_core.specs.declared.literal.Lit.{Lit}
 use Rattle.graph_core.specs.Graph.Assignments.{literal}
 use Rattle.frontier_core.proofs.CallerLemmas.{length-literals}
-use Rattle.cdcl_core.specs.Solving.{assignment_of}
+use Rattle.cdcl_solver.specs.Solving.{assignment_of}
 use Rattle.stage_rewriter.proofs.Values.{map_all, map_more}
 use Rattle.stage_rewriter.proofs.difference.numbers_of.Goals as goal
 

@@ -1,6 +1,6 @@
 use Rattle.std.proofs.Common.{sym, subst}
 use Rattle.std.specs.List.{Contains}
-use Rattle.cdcl_core.specs.Solvers.{SolverView}
+use Rattle.cdcl_solver.specs.Solvers.{SolverView}
 use Rattle.stage_rewriter.proofs.near.refute_by.Goals as goal
 
 pub refute-requires-clause-known : goal.refute-requires-clause-known

@@ -3,10 +3,10 @@ use Rattle.std.specs.List.{All}
 use Rattle.std.proofs.lemmas.List.Elements.{All-nil}
 use Rattle.clause_core.specs.Clause.{IsClauseInRange}
 use Rattle.clause_core.specs.GateClauses.{gate_clauses}
-use Rattle.cdcl_core.specs.Loading.{SameLive}
-use Rattle.cdcl_core.specs.Logs.{LogView}
-use Rattle.cdcl_core.specs.Solvers.{SolverView}
-use Rattle.cdcl_core.specs.declared.solved.Solved.{Solved}
+use Rattle.cdcl_solver.specs.Loading.{SameLive}
+use Rattle.cdcl_solver.specs.Logs.{LogView}
+use Rattle.cdcl_solver.specs.Solvers.{SolverView}
+use Rattle.cdcl_solver.specs.declared.solved.Solved.{Solved}
 use Rattle.stage_rewriter.specs.NearClauses.{AreNearOf, IsNearLine}
 use Rattle.goal_refuter.specs.Refuting.{IsRefutation}
 use Rattle.goal_refuter.specs.Refutations.{unmet_goals}

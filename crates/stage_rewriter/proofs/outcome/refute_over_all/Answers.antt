@@ -4,7 +4,7 @@ use Rattle.std.proofs.lemmas.Result.{IfOk-weaker}
 use Rattle.clause_core.specs.Clause.{IsClauseInRange}
 use Rattle.clause_core.specs.GateClauses.{gate_clauses}
 use Rattle.goal_refuter.specs.Refutations.{unmet_goals}
-use Rattle.goal_refuter.specs.Refuting.{IsOutcome, IsOutcomeOver}
+use Rattle.goal_refuter.specs.Refuting.{IsGoalsOutcome, IsOutcomeOver}
 use Rattle.goal_refuter.proofs.GoalClauses.{sets_range}
 use Rattle.stage_rewriter.proofs.ColumnGoals.{gates_range, goals_range}
 use Rattle.stage_rewriter.proofs.outcome.refute_over_all.Goals as goal
@@ -28,5 +28,5 @@ refute_goals-requires-clause-over c =
 pub returns : goal.returns
 returns c =
     let e = c.args.extended.now in
-    IfOk-weaker c.refute_goals.result (IsOutcomeOver c.max-max.result c.in_ok-clauses.clauses c.in_ok-goals.goals c.args.conflicts) (IsOutcome e c.args.conflicts)
+    IfOk-weaker c.refute_goals.result (IsOutcomeOver c.max-max.result c.in_ok-clauses.clauses c.in_ok-goals.goals c.args.conflicts) (IsGoalsOutcome e c.args.conflicts)
     (λ o outcome. outcome e (record { max_is = sym c.max-max.ensures.value; clauses_are = c.in_ok-clauses.ensures.sets; goals_are = c.in_ok-goals.ensures })) c.refute_goals.ensures

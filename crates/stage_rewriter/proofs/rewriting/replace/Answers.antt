@@ -1,4 +1,4 @@
-use Rattle.slice_finder.proofs.FitCuts.{fit_is_cut}
+use Rattle.adder_finder.proofs.FitCuts.{fit_is_cut}
 use Rattle.stage_rewriter.proofs.Using.{at_stage}
 use Rattle.stage_rewriter.proofs.rewriting.replace.Goals as goal
 

@@ -4,7 +4,7 @@ use Rattle.joint_checker.specs.Files.{Files}
 use Rattle.joint_prover.specs.Verdicts.{IsVerdict}
 use Rattle.mv_desk.specs.HonestDesk.{view_of}
 use Rattle.mv_desk.proofs.CallerLemmas.{never_failed}
-use Rattle.verdict_program.specs.Making.{graph_of}
+use Rattle.verdict_program.specs.Making.{planned_graph}
 use Rattle.verdict_program.specs.Trial.{no_limits, trial_files, trial_task}
 use Rattle.verdict_program.proofs.MemoryFiles.{honest_length, honest_tells}
 use Rattle.verdict_program.proofs.TrialLemmas.{held_trial, never_other, refused_alone}
@@ -17,7 +17,7 @@ check_pair-requires-clause-made c =
     let plan = c.args.multiplier.plan in
     let noted = c.verdict_on-verdict.result.1 in
     let same = c.names-names.ensures in
-    let short = honest_length c.args.desk.now c.names-names.result.graph.now trial_files.graph (ascii_text (graph_of plan)) c.measure.result
+    let short = honest_length c.args.desk.now c.names-names.result.graph.now trial_files.graph (ascii_text (planned_graph plan)) c.measure.result
     (ap (λ (f : Files). f.graph) same) c.requires.held c.measure.ensures.count c.measure.ensures.short in
     let said = subst (λ f. IsVerdict no_limits.graph trial_task f a b c.verdict_on-verdict.result.0 noted) same c.verdict_on-verdict.ensures in
     let proved = subst (λ v. IsVerdict no_limits.graph trial_task trial_files a b v noted) c.in-Proved.is said in
@@ -31,7 +31,7 @@ check_pair-requires-clause-pair c =
     let plan = c.args.multiplier.plan in
     let noted = c.verdict_on-verdict.result.1 in
     let same = c.names-names.ensures in
-    let short = honest_length c.args.desk.now c.names-names.result.graph.now trial_files.graph (ascii_text (graph_of plan)) c.measure.result
+    let short = honest_length c.args.desk.now c.names-names.result.graph.now trial_files.graph (ascii_text (planned_graph plan)) c.measure.result
     (ap (λ (f : Files). f.graph) same) c.requires.held c.measure.ensures.count c.measure.ensures.short in
     let said = subst (λ f. IsVerdict no_limits.graph trial_task f a b c.verdict_on-verdict.result.0 noted) same c.verdict_on-verdict.ensures in
     let proved = subst (λ v. IsVerdict no_limits.graph trial_task trial_files a b v noted) c.in-Proved.is said in
@@ -45,7 +45,7 @@ unreachable-requires c =
     let plan = c.args.multiplier.plan in
     let noted = c.verdict_on-verdict.result.1 in
     let same = c.names-names.ensures in
-    let short = honest_length c.args.desk.now c.names-names.result.graph.now trial_files.graph (ascii_text (graph_of plan)) c.measure.result
+    let short = honest_length c.args.desk.now c.names-names.result.graph.now trial_files.graph (ascii_text (planned_graph plan)) c.measure.result
     (ap (λ (f : Files). f.graph) same) c.requires.held c.measure.ensures.count c.measure.ensures.short in
     let said = subst (λ f. IsVerdict no_limits.graph trial_task f a b c.verdict_on-verdict.result.0 noted) same c.verdict_on-verdict.ensures in
     never_other plan c.requires.some c.requires.narrow a b noted c.requires.held short c.verdict_on-verdict.result.0 said
@@ -58,7 +58,7 @@ refused-requires c =
     let plan = c.args.multiplier.plan in
     let noted = c.verdict_on-verdict.result.1 in
     let same = c.names-names.ensures in
-    let short = honest_length c.args.desk.now c.names-names.result.graph.now trial_files.graph (ascii_text (graph_of plan)) c.measure.result
+    let short = honest_length c.args.desk.now c.names-names.result.graph.now trial_files.graph (ascii_text (planned_graph plan)) c.measure.result
     (ap (λ (f : Files). f.graph) same) c.requires.held c.measure.ensures.count c.measure.ensures.short in
     let said = subst (λ f. IsVerdict no_limits.graph trial_task f a b c.verdict_on-verdict.result.0 noted) same c.verdict_on-verdict.ensures in
     refused_alone plan c.requires.some c.requires.narrow a b noted c.requires.held short (never_failed c.verdict_on-verdict.new.desk) c.in-Stopped.why

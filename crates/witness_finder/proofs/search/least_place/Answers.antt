@@ -4,7 +4,7 @@ use Rattle.std.proofs.lemmas.Bool.{cases_Bool}
 use Rattle.std.proofs.lemmas.List.{get_or_default, take_all}
 use Rattle.std.specs.Prelude.{MatchBool}
 use Rattle.frontier_core.specs.LeastDifference.{Precedes}
-use Rattle.poly_terms.specs.Tables.{modulus, monomials_in}
+use Rattle.poly_terms.specs.Tables.{modulus_in, monomials_in}
 use Rattle.poly_terms.proofs.Values.{normal}
 use Rattle.witness_finder.specs.Positions.{IsMonomialOver, IsNoLater, positions}
 use Rattle.witness_finder.proofs.Searching.{IsBest, best_step, monomial_at, no_term, variables_at}
@@ -18,14 +18,14 @@ comes_before-requires-clause-first c =
     let size = c.size-i-end.ensures.monomials in
     let low : c.loop-i.i < length ts = omega arith in
     subst (IsMonomialOver c.args.operands.now) (variables_at ts c.loop-i.i no_term c.vars.result.now low c.vars.ensures)
-    (monomial_at (modulus c.args.terms.now) c.args.operands.now ts c.loop-i.i no_term low (normal c.args.terms.now c.args.poly.now c.requires.of) c.requires.over)
+    (monomial_at (modulus_in c.args.terms.now) c.args.operands.now ts c.loop-i.i no_term low (normal c.args.terms.now c.args.poly.now c.requires.of) c.requires.over)
 
 pub comes_before-requires-clause-second : goal.comes_before-requires-clause-second
 comes_before-requires-clause-second c =
     let ts = monomials_in c.args.terms.now c.args.poly.now in
     let low = c.loop-i.invariant.place in
     subst (IsMonomialOver c.args.operands.now) (variables_at ts c.loop-i.best no_term c.vars-in-loop-i.result.now low c.vars-in-loop-i.ensures)
-    (monomial_at (modulus c.args.terms.now) c.args.operands.now ts c.loop-i.best no_term low (normal c.args.terms.now c.args.poly.now c.requires.of) c.requires.over)
+    (monomial_at (modulus_in c.args.terms.now) c.args.operands.now ts c.loop-i.best no_term low (normal c.args.terms.now c.args.poly.now c.requires.of) c.requires.over)
 
 pub loop-i-preserved : goal.loop-i-preserved
 loop-i-preserved c =

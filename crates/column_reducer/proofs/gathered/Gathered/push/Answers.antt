@@ -1,5 +1,5 @@
 use Rattle.std.proofs.Common.{◌+◌, ◌%◌, ◌∷◌, ◌++◌, [], ap, refl, ◌∙◌}
-use Rattle.poly_terms.specs.Tables.{modulus, value_in}
+use Rattle.poly_terms.specs.Tables.{modulus_in, value_in}
 use Rattle.column_reducer.proofs.gathered.Gathered.push.Goals as goal
 
 pub returns : goal.returns
@@ -13,5 +13,5 @@ returns c =
       power = refl;
       parts = c.in_ok-push.ensures.items ∙ ap (λ v. c.args.self.parts.items ++ (v, factor) ∷ []) c.from.ensures;
       of = c.in_ok-add-2.ensures.of;
-      stated = λ σ. c.in_ok-add-2.ensures.value σ ∙ ap (λ n. (n + value_in t c.args.part.variable σ) % modulus t) (c.in_ok-add.ensures.value σ);
+      stated = λ σ. c.in_ok-add-2.ensures.value σ ∙ ap (λ n. (n + value_in t c.args.part.variable σ) % modulus_in t) (c.in_ok-add.ensures.value σ);
     }

@@ -1,4 +1,4 @@
-use Rattle.poly_terms.specs.Tables.{modulus, value_in}
+use Rattle.poly_terms.specs.Tables.{modulus_in, value_in}
 use Rattle.frontier_core.specs.Substitution.{quotient}
 use Rattle.std.proofs.Common.{◌<◌, subst}
 use Rattle.column_reducer.proofs.Taken.{gathered_somewhere, left_of, low_in, most_below}
@@ -20,7 +20,7 @@ eliminate-requires-clause-power c =
 pub gather-requires-clause-of : goal.gather-requires-clause-of
 gather-requires-clause-of c =
     let t0 = c.args.terms.now in
-    left_of (modulus t0) c.eliminate.new.terms c.args.gate (quotient (modulus t0) c.args.gate.v (value_in t0 c.args.self.rest.sum)) c.in_ok-out.out.part c.in_ok-out.ensures.eliminated.part
+    left_of (modulus_in t0) c.eliminate.new.terms c.args.gate (quotient (modulus_in t0) c.args.gate.v (value_in t0 c.args.self.rest.sum)) c.in_ok-out.out.part c.in_ok-out.ensures.eliminated.part
 
 pub gather-requires-clause-low : goal.gather-requires-clause-low
 gather-requires-clause-low c =

@@ -5,7 +5,7 @@ use Rattle.clause_core.specs.Clause.{Clause}
 use Rattle.clause_core.specs.GateClauses.{gate_clauses}
 use Rattle.clause_core.specs.UnitPropagation.{IsRup}
 use Rattle.trim_core.proofs.Chains.{as_many}
-use Rattle.drup_checker.specs.Checking.{Adds, Checking, Held, IsKept, ShowsBy, checking, held_with, kept, kept_uses}
+use Rattle.drup_checker.specs.Checking.{AddsRup, Checking, Held, KeepsClauses, ShowsBy, checking, held_with, kept, kept_uses}
 use Rattle.drup_checker.specs.declared.keeps.Keeps.{Keeps}
 use Rattle.drup_checker.specs.declared.keeps.Keeps.TheVariants as keep
 use Rattle.drup_checker.proofs.LiveClauses.{written}
@@ -54,9 +54,9 @@ invariant_of-self-2 c =
     omega (arith, grown, same, chained.counted, c.keep.new.recorded.uses.ok, c.saturating_add-number.ensures) in
     let whole = kept_added i.gates.now i.store c.put.new.self i.goals.now i.shown.items i.keeps i.recorded.added i.recorded.uses.items i.count clause c.self.invariant
     c.show.new.shown named number adds (told.0 refl) c.args.self.now.max c.requires.in_range (omega (arith, c.show.ensures.places)) tight next in
-    subst (λ (now : List Bool). IsKept i.gates.now c.put.new.self i.goals.now now i.keeps c.keep.new.recorded.added c.keep.new.recorded.uses.items number) (sym many)
-    (subst (λ (cs : List Clause). IsKept i.gates.now c.put.new.self i.goals.now c.show.new.shown i.keeps cs c.keep.new.recorded.uses.items number) (sym c.in_ok-keep.ensures.added)
-    (subst (λ (us : List (List ℕ)). IsKept i.gates.now c.put.new.self i.goals.now c.show.new.shown i.keeps (i.recorded.added ++ kept i.keeps (clause ∷ [])) us number) (sym c.in_ok-keep.ensures.uses) whole))
+    subst (λ (now : List Bool). KeepsClauses i.gates.now c.put.new.self i.goals.now now i.keeps c.keep.new.recorded.added c.keep.new.recorded.uses.items number) (sym many)
+    (subst (λ (cs : List Clause). KeepsClauses i.gates.now c.put.new.self i.goals.now c.show.new.shown i.keeps cs c.keep.new.recorded.uses.items number) (sym c.in_ok-keep.ensures.added)
+    (subst (λ (us : List (List ℕ)). KeepsClauses i.gates.now c.put.new.self i.goals.now c.show.new.shown i.keeps (i.recorded.added ++ kept i.keeps (clause ∷ [])) us number) (sym c.in_ok-keep.ensures.uses) whole))
 
 pub returns-clause-ok : goal.returns-clause-ok
 returns-clause-ok c =
@@ -71,10 +71,10 @@ returns-clause-ok c =
     let before = checking i.gates.now i.store i.goals.now i.shown.items i.keeps i.recorded.added i.recorded.uses.items i.count in
     let one = is_added i.gates.now i.store c.put.new.self i.goals.now i.shown.items i.keeps i.recorded.added i.recorded.uses.items i.count clause c.self.invariant
     c.show.new.shown named number adds (told.0 refl) c.saturating_add-number.ensures shows in
-    subst (λ (k : Checking). Adds clause k (checking i.gates.now c.put.new.self i.goals.now (take i.shown.len (c.show.new.shown ++ drop (length c.show.new.shown) i.shown.items)) i.keeps c.keep.new.recorded.added c.keep.new.recorded.uses.items number)) c.self.view_is
-    (subst (λ (now : List Bool). Adds clause before (checking i.gates.now c.put.new.self i.goals.now now i.keeps c.keep.new.recorded.added c.keep.new.recorded.uses.items number)) (sym many)
-    (subst (λ (cs : List Clause). Adds clause before (checking i.gates.now c.put.new.self i.goals.now c.show.new.shown i.keeps cs c.keep.new.recorded.uses.items number)) (sym c.in_ok-keep.ensures.added)
-    (subst (λ (us : List (List ℕ)). Adds clause before (checking i.gates.now c.put.new.self i.goals.now c.show.new.shown i.keeps (i.recorded.added ++ kept i.keeps (clause ∷ [])) us number)) (sym c.in_ok-keep.ensures.uses) one)))
+    subst (λ (k : Checking). AddsRup clause k (checking i.gates.now c.put.new.self i.goals.now (take i.shown.len (c.show.new.shown ++ drop (length c.show.new.shown) i.shown.items)) i.keeps c.keep.new.recorded.added c.keep.new.recorded.uses.items number)) c.self.view_is
+    (subst (λ (now : List Bool). AddsRup clause before (checking i.gates.now c.put.new.self i.goals.now now i.keeps c.keep.new.recorded.added c.keep.new.recorded.uses.items number)) (sym many)
+    (subst (λ (cs : List Clause). AddsRup clause before (checking i.gates.now c.put.new.self i.goals.now c.show.new.shown i.keeps cs c.keep.new.recorded.uses.items number)) (sym c.in_ok-keep.ensures.added)
+    (subst (λ (us : List (List ℕ)). AddsRup clause before (checking i.gates.now c.put.new.self i.goals.now c.show.new.shown i.keeps (i.recorded.added ++ kept i.keeps (clause ∷ [])) us number)) (sym c.in_ok-keep.ensures.uses) one)))
 
 pub returns-clause-not_implied : goal.returns-clause-not_implied
 returns-clause-not_implied c =

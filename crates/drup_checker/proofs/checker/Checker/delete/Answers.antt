@@ -1,12 +1,12 @@
 use Rattle.std.proofs.Common.{subst, sym}
-use Rattle.drup_checker.specs.Checking.{Checking, Deletes, Held, IsKept, checking}
+use Rattle.drup_checker.specs.Checking.{Checking, Deletes, Held, KeepsClauses, checking}
 use Rattle.drup_checker.proofs.Kept.{is_deleted, kept_removed}
 use Rattle.drup_checker.proofs.checker.Checker.delete.Goals as goal
 
 pub invariant_of-self : goal.invariant_of-self
 invariant_of-self c =
     let i = c.self.inside in
-    subst (λ (h : Held). IsKept i.gates.now h i.goals.now i.shown.items i.keeps i.recorded.added i.recorded.uses.items i.count) (sym (c.take.ensures.none c.if-not-take.true).0) c.self.invariant
+    subst (λ (h : Held). KeepsClauses i.gates.now h i.goals.now i.shown.items i.keeps i.recorded.added i.recorded.uses.items i.count) (sym (c.take.ensures.none c.if-not-take.true).0) c.self.invariant
 
 pub invariant_of-self-2 : goal.invariant_of-self-2
 invariant_of-self-2 c =

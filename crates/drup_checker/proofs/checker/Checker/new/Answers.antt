@@ -1,14 +1,14 @@
 use Rattle.std.specs.Prelude.{List, [], ℕ}
 use Rattle.std.proofs.Common.{length, ap, arith, subst, sym}
 use Rattle.clause_core.specs.Clause.{Clause}
-use Rattle.drup_checker.specs.Checking.{IsKept, Starts, checking}
+use Rattle.drup_checker.specs.Checking.{KeepsClauses, Starts, checking}
 use Rattle.drup_checker.proofs.Kept.{kept_first, starts}
 use Rattle.drup_checker.proofs.checker.Checker.new.Goals as goal
 
 pub invariant_of-result : goal.invariant_of-result
 invariant_of-result c =
-    subst (λ (cs : List Clause). IsKept c.args.gates.now c.in_ok-store.store c.args.goals.now c.in_ok-shown.shown.items c.args.keeps cs c.new-3.result.items 0) (sym c.new-2.ensures)
-    (subst (λ (us : List (List ℕ)). IsKept c.args.gates.now c.in_ok-store.store c.args.goals.now c.in_ok-shown.shown.items c.args.keeps [] us 0) (sym c.new-3.ensures.items)
+    subst (λ (cs : List Clause). KeepsClauses c.args.gates.now c.in_ok-store.store c.args.goals.now c.in_ok-shown.shown.items c.args.keeps cs c.new-3.result.items 0) (sym c.new-2.ensures)
+    (subst (λ (us : List (List ℕ)). KeepsClauses c.args.gates.now c.in_ok-store.store c.args.goals.now c.in_ok-shown.shown.items c.args.keeps [] us 0) (sym c.new-3.ensures.items)
     (kept_first c.args.gates.now c.args.max c.in_ok-store.store c.args.clauses.now c.args.goals.now c.in_ok-shown.shown.items c.in_ok-store.ensures c.requires.of_gates
     (omega (arith, c.in_ok-shown.ensures.len, ap length c.as_slice.ensures)) c.args.keeps))
 

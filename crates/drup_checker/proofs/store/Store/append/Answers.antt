@@ -1,7 +1,7 @@
 use Rattle.std.proofs.Common.{◌≡◌, ◌<◌, ◌+◌, ◌%◌, ◌++◌, ◌∷◌, [], ℕ, List, length, ap, set, sym, subst, ◌∙◌, arith, slice_index}
 use Rattle.std.proofs.lemmas.List.{get_or_default, length_push}
 use Rattle.clause_core.specs.Clause.{IsClauseInRange}
-use Rattle.drup_checker.specs.Chains.{IsStore, number_of}
+use Rattle.drup_checker.specs.Chains.{IsStore, clause_hash}
 use Rattle.drup_checker.specs.Checking.{Held, held, held_with}
 use Rattle.drup_checker.proofs.Stores.{held_more, store_more}
 use Rattle.drup_checker.proofs.store.Store.append.Goals as goal
@@ -12,7 +12,7 @@ invariant_of-self-2 c =
     let chain = c.chain_of-chain.result in
     let many : c.len.result ≡ length i.heads.items = omega (arith, c.len.ensures, i.heads.ok) in
     let there : c.chain_of-chain.result < length i.heads.items = omega (arith, many, c.chain_of-chain.ensures.bound) in
-    let its : c.chain_of-chain.result ≡ number_of c.args.clause.now % length i.heads.items = c.chain_of-chain.ensures.value ∙ ap (λ (n : ℕ). number_of c.args.clause.now % n) many in
+    let its : c.chain_of-chain.result ≡ clause_hash c.args.clause.now % length i.heads.items = c.chain_of-chain.ensures.value ∙ ap (λ (n : ℕ). clause_hash c.args.clause.now % n) many in
     let range = subst (λ (m : ℕ). IsClauseInRange m c.args.clause.now) (sym (ap (λ (h : Held). h.max) c.self.view_is) ∙ c.self.invariant.store.greatest) c.requires in
     let begins : c.index.result.now ≡ slice_index i.heads.items chain = c.index.ensures ∙ sym (get_or_default i.heads.items chain 0 c.index.result.now there) in
     let pushed : c.push.new.items.items ≡ i.next.items ++ slice_index i.heads.items chain ∷ [] =

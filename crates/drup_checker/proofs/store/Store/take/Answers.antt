@@ -3,7 +3,7 @@ use Rattle.std.specs.List.{Any}
 use Rattle.std.proofs.lemmas.List.{get_or_default}
 use Rattle.clause_core.specs.Clause.{SameSet}
 use Rattle.unit_prop.specs.Standing.{HasSetAt}
-use Rattle.drup_checker.specs.Chains.{IsStore, Leads, number_of}
+use Rattle.drup_checker.specs.Chains.{IsStore, Leads, clause_hash}
 use Rattle.drup_checker.specs.Checking.{Held}
 use Rattle.drup_checker.proofs.LiveClauses.{written}
 use Rattle.drup_checker.proofs.Stores.{held_fewer, nowhere, store_fewer}
@@ -37,7 +37,7 @@ returns-in-None-clause-none c e =
     let chain = c.chain_of-chain.result in
     let many : c.len.result ≡ length i.heads.items = omega (arith, c.len.ensures, i.heads.ok) in
     let there : c.chain_of-chain.result < length i.heads.items = omega (arith, many, c.chain_of-chain.ensures.bound) in
-    let its : c.chain_of-chain.result ≡ number_of c.args.clause.now % length i.heads.items = c.chain_of-chain.ensures.value ∙ ap (λ (n : ℕ). number_of c.args.clause.now % n) many in
+    let its : c.chain_of-chain.result ≡ clause_hash c.args.clause.now % length i.heads.items = c.chain_of-chain.ensures.value ∙ ap (λ (n : ℕ). clause_hash c.args.clause.now % n) many in
     let begins : c.index.result.now ≡ slice_index i.heads.items chain = c.index.ensures ∙ sym (get_or_default i.heads.items chain 0 c.index.result.now there) in
     let none = subst (λ (xs : List ℕ). (r : ℕ) → HasSetAt i.propagator.clauses c.args.clause.now r → Leads xs c.index.result.now r → ⊥) c.deref.ensures.value (c.in-None.ensures.none refl) in (
       refl,

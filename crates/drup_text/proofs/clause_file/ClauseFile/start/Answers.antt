@@ -8,7 +8,7 @@ use Rattle.mv_text.specs.LineReading.{Lines, known_from, lengths_of}
 use Rattle.ripple_graft.specs.HeaderBlocks.{AreHeaderBlocks}
 use Rattle.mv_text.specs.CertificateFiles.{IsLineRefusal, TakesText}
 use Rattle.drup_text.specs.Headers.{IsVersionLine}
-use Rattle.drup_text.specs.PassingHeaders.{HasHeader}
+use Rattle.drup_text.specs.PassingHeaders.{HasClauseHeader}
 use Rattle.drup_text.specs.declared.head.Header.{Header}
 use Rattle.mv_text.proofs.CallerLemmas.{IsNew}
 use Rattle.drup_text.proofs.HeaderSteps.{header_refused, version_refused}
@@ -23,7 +23,7 @@ returns-in-Ok-any_blocks-clause-header g c =
     let new : IsNew (lengths_of c.args.limits.now) c.new-lines.result = record { taken = c.new-lines.ensures.taken; lengths_are = c.new-lines.ensures.lengths } in
     let told = ap (λ z. known_from z before) c.new-lines.ensures.ahead ∙ prepend_known-nil before in
     let header : Header = record { version = c.in-Ok.version; blocks = c.from_vec.result } in
-    subst (λ (l : Lines). IfSome before (λ bytes. HasHeader c.args.graph.now c.behind-file.result bytes (known_from l.ahead ((g.D.Desk.seen c.any_blocks.new.desk).left Clauses)) header)) (sym c.behind-file.ensures.lines)
+    subst (λ (l : Lines). IfSome before (λ bytes. HasClauseHeader c.args.graph.now c.behind-file.result bytes (known_from l.ahead ((g.D.Desk.seen c.any_blocks.new.desk).left Clauses)) header)) (sym c.behind-file.ensures.lines)
     (header_there c.args.graph.now (lengths_of c.args.limits.now) c.new-lines.result c.version.new.lines c.any_blocks.new.lines c.in-Ok.version
     header new c.in-Ok.ensures.lengths refl
     c.behind-file.result c.in-Ok-any_blocks.blocks.items before left after

@@ -1,6 +1,6 @@
 use Rattle.std.proofs.Common.{◌*◌, ◌^◌, get_or}
 use Rattle.graph_core.specs.Graph.Assignments.{bit, literal}
-use Rattle.gate_axioms.specs.Form.{Adds, digits, partner_digit}
+use Rattle.gate_axioms.specs.Form.{AddsNumber, digits, partner_digit}
 use Rattle.gate_axioms.proofs.Columns.{column_starts, column_goes_on, column_ends}
 use Rattle.gate_axioms.proofs.form.Form.add_column.Goals as goal
 
@@ -12,7 +12,7 @@ loop-i-preserved c =
     let w = c.args.coefficient.width in
     let n = c.counted-counted.result.value in
     let bs = c.args.b.now in
-    let adds : Adds w c.loop-i.self c.add_partial_product.new.self
+    let adds : AddsNumber w c.loop-i.self c.add_partial_product.new.self
     (λ σ. n * (bit (literal σ (get_or c.args.a.now c.loop-i.i (record { 0 = 0 }))) * partner_digit (digits (2 ^ w) c.args.sign σ bs) c.args.k c.loop-i.i)) =
     rw (← c.counted-counted.ensures.width) (c.in_ok-add_partial_product.ensures) in
     column_goes_on w c.args.coefficient.value n c.args.sign c.args.a.now bs c.args.k c.loop-i.i (record { 0 = 0 }) c.args.self.now c.loop-i.self

@@ -1,5 +1,5 @@
 use Rattle.std.proofs.Common.{Err, Ok, Some, subst, sym}
-use Rattle.mv_desk.specs.declared.faults.LineFail.TheVariants as fail
+use Rattle.mv_text.specs.declared.line_fail.LineFail.TheVariants as fail
 use Rattle.mv_text.specs.CertificateFiles.{FileState, GivesEnd, GivesLine, settled}
 use Rattle.mv_text.proofs.CertificateAnswers.{fault_no_end, line_no_end}
 use Rattle.mv_text.proofs.certificate_file.CertificateFile.end.Goals as goal

@@ -3,8 +3,8 @@ use Rattle.std.specs.Prelude.{IsSome, true}
 use Rattle.std.proofs.lemmas.Result.{on_ok_weaker}
 use Rattle.poly_text.specs.declared.line.PacLine.{PacLine}
 use Rattle.poly_text.specs.Lines.{AreOf, line_in}
-use Rattle.pac_checker.specs.Checking.{Grows, IsRecordable, TakesLine}
-use Rattle.pac_checker.specs.Faults.{IsLineFault}
+use Rattle.pac_checker.specs.Checking.{GrowsCheckedTable, IsRecordable, TakesPacLine}
+use Rattle.pac_checker.specs.Faults.{IsPacLineFault}
 use Rattle.pac_checker.specs.Recording.{kept_of}
 use Rattle.pac_checker.proofs.Lawful.{on_err}
 use Rattle.pac_checker.proofs.Recordings.{Keeps, either_way, keeps_grown, keeps_passed, keeps_taken, seen, seen_grows, seen_passes, seen_same, seen_takes}
@@ -17,7 +17,7 @@ invariant_of-self c =
     let old = c.self.inside.judge in
     let new = c.line.new.self in
     let goes_on : IsSome (line_in old.table c.args.line) = rw (← c.self.view_is) at c.requires.goes_on in
-    either_way c.line.result (TakesLine c.args.line old new) (Grows old new) (Keeps new c.self.inside.records c.self.inside.recorded.items)
+    either_way c.line.result (TakesPacLine c.args.line old new) (GrowsCheckedTable old new) (Keeps new c.self.inside.records c.self.inside.recorded.items)
     (λ takes. keeps_passed old new c.self.inside.recorded.items c.args.line goes_on takes c.self.inside.records c.if-not-self.true c.self.invariant) (λ grown. keeps_grown old new c.self.inside.records c.self.inside.recorded.items grown c.self.invariant)
     c.line.ensures.taken c.line.ensures.unchanged
 
@@ -42,7 +42,7 @@ invariant_of-self-in_err-line c =
 
 pub returns-in_err-line-clause-refused : goal.returns-in_err-line-clause-refused
 returns-in_err-line-clause-refused c =
-    let refused : IsLineFault c.args.self.now c.args.line c.in_err-line.field-0.0 = rw (← c.self.view_is) c.in_err-line.ensures.refused in search rules
+    let refused : IsPacLineFault c.args.self.now c.args.line c.in_err-line.field-0.0 = rw (← c.self.view_is) c.in_err-line.ensures.refused in search rules
 
 pub returns-in_err-line-clause-unchanged : goal.returns-in_err-line-clause-unchanged
 returns-in_err-line-clause-unchanged c =
@@ -51,7 +51,7 @@ returns-in_err-line-clause-unchanged c =
     let room = c.try_reserve.new.self.items in
     on_err c.from_residual.result _
     (rw (← c.self.view_is)
-    (subst (λ (xs : List PacLine). Grows (seen old c.self.inside.records xs) (seen new c.self.inside.records room)) c.try_reserve.ensures.items
+    (subst (λ (xs : List PacLine). GrowsCheckedTable (seen old c.self.inside.records xs) (seen new c.self.inside.records room)) c.try_reserve.ensures.items
     (seen_grows old new c.self.inside.records room c.in_err-line.ensures.unchanged (subst (λ (xs : List PacLine). Keeps old c.self.inside.records xs) (sym c.try_reserve.ensures.items) c.self.invariant))))
 
 pub invariant_of-self-2 : goal.invariant_of-self-2
@@ -74,5 +74,5 @@ returns-clause-taken c =
     let has : AreOf old.table line = rw (← c.self.view_is) at c.requires.of_table in
     let ok : c.self.inside.records ≡ true → IsRecordable old.extended.max old.table line = rw (← c.self.view_is) at c.requires.recordable in
     rw (← c.self.view_is)
-    (subst (λ (xs : List PacLine). TakesLine line (seen old c.self.inside.records c.self.inside.recorded.items) (seen new c.self.inside.records xs)) (sym (c.keep.ensures ∙ ap (λ xs. xs ++ kept_of line) c.try_reserve.ensures.items))
+    (subst (λ (xs : List PacLine). TakesPacLine line (seen old c.self.inside.records c.self.inside.recorded.items) (seen new c.self.inside.records xs)) (sym (c.keep.ensures ∙ ap (λ xs. xs ++ kept_of line) c.try_reserve.ensures.items))
     (seen_takes old new c.self.inside.recorded.items line goes_on c.in_ok-line.ensures.taken has (ok c.if-not-self.false) c.self.inside.records c.if-not-self.false c.self.invariant))

@@ -2,7 +2,7 @@ use Rattle.std.proofs.Common.{sym, subst}
 use Rattle.std.proofs.lemmas.Result.{on_err_weaker}
 use Rattle.poly_terms.specs.Tables.{IsOf}
 use Rattle.gate_axioms.proofs.CallerLemmas.{keeps_lines}
-use Rattle.pac_checker.specs.Checking.{Grows, checking_of}
+use Rattle.pac_checker.specs.Checking.{GrowsCheckedTable, checking_of}
 use Rattle.pac_checker.proofs.Importing.{clause_vanishes, import_faults, takes_import}
 use Rattle.pac_checker.proofs.Lawful.{grows, on_err, sound_grown}
 use Rattle.pac_checker.proofs.judge.Judge.import.Goals as goal
@@ -44,7 +44,7 @@ returns-in_err-named-clause-unchanged c =
 
 pub returns-clause-unchanged : goal.returns-clause-unchanged
 returns-clause-unchanged c =
-    let grown : Grows c.args.self.now (checking_of c.self.inside.added.now c.self.inside.extended.now c.self.inside.operands.now c.grow.new.self c.self.inside.last) =
+    let grown : GrowsCheckedTable c.args.self.now (checking_of c.self.inside.added.now c.self.inside.extended.now c.self.inside.operands.now c.grow.new.self c.self.inside.last) =
     rw (← c.self.view_is)
     (grows c.self.inside.added.now c.self.inside.extended.now c.self.inside.operands.now c.self.inside.live c.grow.new.self c.self.inside.last (keeps_lines c.self.inside.live c.grow.new.self c.grow.ensures.grows c.grow.ensures.kept)) in
-    on_err_weaker c.state.result (λ same. subst (Grows c.args.self.now) (sym same) grown) c.state.ensures.unchanged
+    on_err_weaker c.state.result (λ same. subst (GrowsCheckedTable c.args.self.now) (sym same) grown) c.state.ensures.unchanged

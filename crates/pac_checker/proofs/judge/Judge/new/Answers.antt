@@ -4,15 +4,15 @@ use Rattle.graph_core.specs.Algebra.{axioms}
 use Rattle.graph_core.specs.Algebra as algebra
 use Rattle.graph_core.proofs.OfAlgebra.CallerLemmas.{imports_refl}
 use Rattle.gate_axioms.specs.ClauseValues.{clause_value}
-use Rattle.poly_terms.specs.Tables.{Table, modulus}
+use Rattle.poly_terms.specs.Tables.{Table, modulus_in}
 use Rattle.poly_terms.specs.Laws.{modulus_stays}
 use Rattle.gate_axioms.proofs.CallerLemmas.{axioms_within, fresh_above}
 use Rattle.pac_checker.proofs.Recordings.{within_fresh}
 use Rattle.pac_checker.proofs.judge.Judge.new.Goals as goal
 
 -- a table with the number of outputs as its exponent has the modulus of the graph
-table_modulus : (t s : Table) (e : Extended) (outputs : ℕ) → t ≡ s → s.exponent ≡ outputs → outputs ≡ length e.graph.outputs → modulus t ≡ algebra.modulus e
-table_modulus t s e outputs same wide is = ap modulus same ∙ ap (λ w. 2 ^ w) (wide ∙ is)
+table_modulus : (t s : Table) (e : Extended) (outputs : ℕ) → t ≡ s → s.exponent ≡ outputs → outputs ≡ length e.graph.outputs → modulus_in t ≡ algebra.modulus e
+table_modulus t s e outputs same wide is = ap modulus_in same ∙ ap (λ w. 2 ^ w) (wide ∙ is)
 
 last_is : (e : Extended) (a b max outputs : ℕ) → a ≡ max → max ≡ e.max → b ≡ outputs → outputs ≡ length e.graph.outputs → a + b ≡ (axioms e).last
 last_is e a b max outputs f g h j = ap₂ (λ x y. x + y) (f ∙ g) (h ∙ j)

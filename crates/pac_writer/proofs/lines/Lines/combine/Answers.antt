@@ -1,7 +1,7 @@
 use Rattle.std.proofs.Common.{◌≡◌, ◌+◌, ap, arith, subst, sym}
 use Rattle.poly_text.specs.declared.line.PacLine.TheVariants as line
 use Rattle.pac_writer.specs.Writing.{Made, AreLawfulSoFar, combination_of}
-use Rattle.pac_writer.specs.Kept.{CanFollow, IsKept}
+use Rattle.pac_writer.specs.Kept.{CanFollowLines, IsKeptLine}
 use Rattle.pac_writer.proofs.Combining.{combination_is_kept, combination_can_follow}
 use Rattle.pac_writer.proofs.lines.Lines.combine.Goals as goal
 
@@ -11,7 +11,7 @@ put-requires-clause-kept c =
     let last = c.self.inside.last in
     let is : last ≡ old.last = ap (λ (o : Made). o.last) c.self.view_is in
     let room = c.requires.room in
-    subst (λ ps. IsKept old.extended.max old.table (line.Combination (last + 1) ps c.args.poly)) (sym c.from-parts.ensures)
+    subst (λ ps. IsKeptLine old.extended.max old.table (line.Combination (last + 1) ps c.args.poly)) (sym c.from-parts.ensures)
     (combination_is_kept old c.args.parts.items c.args.poly (last + 1) (subst AreLawfulSoFar c.self.view_is c.self.invariant.so_far) (ap (λ n. n + 1) is) (omega arith) c.requires.over c.requires.spare)
 
 pub put-requires-clause-lawful : goal.put-requires-clause-lawful
@@ -20,6 +20,6 @@ put-requires-clause-lawful c =
     let last = c.self.inside.last in
     let is : last ≡ old.last = ap (λ (o : Made). o.last) c.self.view_is in
     let room = c.requires.room in
-    subst (λ ps. CanFollow old (last + 1) (combination_of old.table (last + 1) ps c.args.poly)) (sym c.from-parts.ensures)
+    subst (λ ps. CanFollowLines old (last + 1) (combination_of old.table (last + 1) ps c.args.poly)) (sym c.from-parts.ensures)
     (combination_can_follow old c.args.parts.items c.args.poly (last + 1) (subst AreLawfulSoFar c.self.view_is c.self.invariant.so_far) (ap (λ n. n + 1) is) (omega arith) c.requires.over c.requires.spare
     c.requires.equal)

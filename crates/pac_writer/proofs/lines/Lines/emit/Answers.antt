@@ -1,7 +1,7 @@
 use Rattle.std.specs.Prelude.{IsSome}
 use Rattle.std.specs.List.{All}
 use Rattle.std.proofs.Common.{◌∙◌, ap, subst, sym}
-use Rattle.poly_terms.specs.Tables.{modulus}
+use Rattle.poly_terms.specs.Tables.{modulus_in}
 use Rattle.poly_text.specs.Lines.{AreOf, line_in}
 use Rattle.poly_text.specs.WrittenLines.{IsWritable}
 use Rattle.pac_writer.specs.Certificates.{written_certificate}
@@ -32,7 +32,7 @@ pub returns-clause-writes : goal.returns-clause-writes
 returns-clause-writes g c =
     let i = c.self.inside in
     same_text
-    (ap (λ xs. written_certificate c.args.version (modulus i.terms) (lines_in i.terms xs) c.in-Some.id) c.deref.ensures.value ∙
+    (ap (λ xs. written_certificate c.args.version (modulus_in i.terms) (lines_in i.terms xs) c.in-Some.id) c.deref.ensures.value ∙
     kept_certificate c.args.version c.args.self.now i.extended.now i.operands.now i.terms i.lines.items i.last c.in-Some.id i.closing c.self.view_is c.in-Some.is c.self.invariant)
     c.write_certificate.ensures
 

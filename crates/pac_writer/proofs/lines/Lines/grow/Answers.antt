@@ -1,5 +1,5 @@
 use Rattle.std.proofs.Common.{subst}
-use Rattle.pac_writer.specs.Writing.{Made, Grows, made_of}
+use Rattle.pac_writer.specs.Writing.{Made, GrowsWrittenTable, made_of}
 use Rattle.pac_writer.proofs.Growing.{lines_keep}
 use Rattle.pac_writer.proofs.lines.Lines.grow.Goals as goal
 
@@ -11,5 +11,5 @@ invariant_of-self g c =
 pub returns-clause-grows : goal.returns-clause-grows
 returns-clause-grows g c =
     let i = c.self.inside in
-    subst (λ (o : Made). Grows o (made_of i.extended.now i.operands.now c.grow.new.table i.lines.items i.last i.closing)) c.self.view_is
+    subst (λ (o : Made). GrowsWrittenTable o (made_of i.extended.now i.operands.now c.grow.new.table i.lines.items i.last i.closing)) c.self.view_is
     (lines_keep i.extended.now i.operands.now i.terms c.grow.new.table i.lines.items i.last i.closing c.grow.ensures.extends c.self.invariant).1

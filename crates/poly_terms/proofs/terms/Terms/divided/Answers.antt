@@ -1,7 +1,7 @@
 use Rattle.std.proofs.Common.{◌↔◌, ◌%◌, ◌^◌, ◌≢◌, IfSome, IsNone, false, true, subst}
 use Rattle.std.specs.List.{Any}
 use Rattle.poly_terms.specs.Entries.{IsQuotient}
-use Rattle.poly_terms.specs.Tables.{modulus}
+use Rattle.poly_terms.specs.Tables.{modulus_in}
 use Rattle.poly_terms.proofs.Scaled.{coefficients_below, none_in, quotient-IsOf, quotient-value, quotient-variables, quotient_in}
 use Rattle.poly_terms.proofs.terms.Terms.divided.Goals as goal
 
@@ -17,7 +17,7 @@ returns-in-Some c =
     let p = c.args.p.now in
     let p' = c.entries.result.now in
     let r = c.of.result in
-    let is : IsQuotient (modulus t) by p r =
+    let is : IsQuotient (modulus_in t) by p r =
     quotient_in w by c.self.inside.monomials t p p' c.in-Some.entries.items r c.self.view_is c.entries.ensures c.of.ensures
     (subst (λ o. IfSome o (λ out. IsQuotient (2 ^ w) by p' out.items)) c.in-Some.is c.in_ok-divided.ensures.quotient) in
     record {

@@ -7,7 +7,7 @@ use Rattle.frontier_core.specs.Plan.{IsPlan, nothing, taken}
 use Rattle.frontier_core.specs.Sets.{has}
 use Rattle.slice_core.specs.Groups.{GoesByGroups}
 use Rattle.slice_core.specs.SlicePlan.{columns_added, count_down, swept}
-use Rattle.slice_planner.specs.Taking.{IsReady, Took}
+use Rattle.slice_planner.specs.Taking.{IsReadyGate, Took}
 use Rattle.slice_planner.proofs.GroupSteps.{all_swept, gone_refutes}
 use Rattle.slice_planner.proofs.TakenSteps.{all_added, finished, fewer_left}
 use Rattle.slice_planner.proofs.taking.Taking.finish.Goals as goal
@@ -49,7 +49,7 @@ returns c =
     let first : c.taking.inside.extended.now ≡ c.args.self.extended = ap (λ (t : Took). t.extended) c.taking.view_is in
     let made : IsExtension w.extended.now = subst IsExtension (sym same) (subst IsExtension first c.gates-gates.ensures.extension) in
     let none : w.below ≡ 0 = ap (λ (t : Took). t.below) view ∙ c.loop-gate.invariant.below in
-    let stuck = subst (λ (t : Took). All (λ x. ¬ (IsReady t x.v)) t.extended.gates) (sym view) (c.in_default.ensures.none refl) in
+    let stuck = subst (λ (t : Took). All (λ x. ¬ (IsReadyGate t x.v)) t.extended.gates) (sym view) (c.in_default.ensures.none refl) in
     record {
       plan = subst (λ (e : Extended). IsPlan e w.steps.items) same (finished w.extended.now w.steps.items w.below w.gone.items w.readers.items c.taking-in-loop-gate.invariant made none stuck);
       columns = subst (λ (e : Extended). columns_added w.steps.items ≡ count_down (length e.graph.outputs)) same (all_added w.extended.now w.steps.items w.below w.gone.items w.readers.items c.taking-in-loop-gate.invariant none);

@@ -1,7 +1,7 @@
 use Rattle.std.specs.Prelude.{◌≡◌, ◌<◌, ◌+◌, slice_index_or}
 use Rattle.std.proofs.Common.{sym, ap, subst, ◌∙◌}
 use Rattle.slice_core.specs.GroupPlans.{AreAtGroups}
-use Rattle.slice_planner.specs.Taking.{IsTaking, Lowers, Took, took}
+use Rattle.slice_planner.specs.Taking.{IsTaking, LowersByOne, Took, took}
 use Rattle.slice_planner.proofs.TakenSteps.{column_at_groups, column_taken, output_is_read}
 use Rattle.slice_planner.proofs.taking.Taking.push_column.Goals as goal
 
@@ -20,7 +20,7 @@ invariant_of-self-2 c =
     let e = w.extended.now in
     let now = c.one_less.new.table.items in
     let next : w.below ≡ c.args.column + 1 = ap (λ t. t.below) c.self.view_is ∙ c.requires.next in
-    let lower = subst (λ v. Lowers v w.readers.items now) c.var.ensures c.one_less.ensures in
+    let lower = subst (λ v. LowersByOne v w.readers.items now) c.var.ensures c.one_less.ensures in
     subst (λ ss. IsTaking (took e ss c.args.column) w.gone.items now) (sym c.in_ok-push.ensures.items)
     (column_taken e w.steps.items w.below w.gone.items w.readers.items c.self.invariant c.args.column c.new_output-output.result now next c.new_output-output.ensures lower)
 

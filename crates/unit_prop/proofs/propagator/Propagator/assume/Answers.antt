@@ -1,7 +1,7 @@
 use Rattle.std.proofs.Common.{ap, subst, sym, ◌∙◌, w32}
 use Rattle.std.proofs.lemmas.Int.{to_z-of_z}
 use Rattle.unit_prop.specs.Standing.{IsSound, Standing}
-use Rattle.unit_prop.specs.Trail.{IsOpen, IsWithin}
+use Rattle.unit_prop.specs.Trail.{IsLiteralUpTo, IsOpen}
 use Rattle.unit_prop.specs.Ground.{standing_of}
 use Rattle.unit_prop.proofs.Standings.{assumes, assumed_view, sound_of}
 use Rattle.unit_prop.proofs.propagator.Propagator.assume.Goals as goal
@@ -10,7 +10,7 @@ pub invariant_of-self : goal.invariant_of-self
 invariant_of-self c =
     let i = c.self.inside in
     let fits = to_z-of_z w32 c.args.lit c.ranges.lit in
-    let within : IsWithin i.trail.max c.args.lit = subst (λ m. IsWithin m c.args.lit) (sym (ap (λ (s : Standing). s.trail.greatest) c.self.view_is)) c.requires in
+    let within : IsLiteralUpTo i.trail.max c.args.lit = subst (λ m. IsLiteralUpTo m c.args.lit) (sym (ap (λ (s : Standing). s.trail.greatest) c.self.view_is)) c.requires in
     let free : IsOpen i.trail.lits c.args.lit = rw fits at c.in-None.ensures.value in
     rw (rw fits at c.push.ensures) (assumes i.clauses.items i.shorts.items i.watches i.trail i.head i.units i.refuted c.self.invariant c.args.lit within free)
 

@@ -1,0 +1,5 @@
+use Rattle.adder_finder.specs.Cover.{AreNeedsAt}
+use Rattle.adder_finder.proofs.cover.needs_of.Given as goal
+
+abbrev pub invariant-loop-level : goal.invariant-loop-level
+invariant-loop-level l = AreNeedsAt l.graph l.pairs l.keys l._level-index l.needs.items

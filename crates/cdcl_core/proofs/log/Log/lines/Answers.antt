@@ -1,7 +1,0 @@
-use Rattle.std.proofs.Common.{subst, []}
-use Rattle.cdcl_core.specs.Logs.{LogView, Leaves}
-use Rattle.cdcl_core.proofs.LogLemmas.{leaves_left}
-use Rattle.cdcl_core.proofs.log.Log.lines.Goals as goal
-
-pub returns-clause-left : goal.returns-clause-left
-returns-clause-left c = subst (λ (v : LogView). Leaves [] v.lines v.left) c.self.view_is (leaves_left [] c.self.inside.lines.items c.self.invariant)

@@ -1,6 +1,0 @@
-use Rattle.std.proofs.Common.{sym, subst}
-use Rattle.cdcl_core.specs.Solvers.{IsReady}
-use Rattle.cdcl_core.proofs.solver.Solver.prefer.Goals as goal
-
-pub invariant_of-self : goal.invariant_of-self
-invariant_of-self c = subst (λ o. IsReady c.self.inside.max c.self.inside.propagator o c.self.inside.levels.base c.self.inside.levels.marks.items) (sym c.prefer.ensures) c.self.invariant

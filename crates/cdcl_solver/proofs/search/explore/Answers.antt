@@ -1,0 +1,51 @@
+use Rattle.std.proofs.Common.{◌≡◌, Bool, true, [], refl, subst, sym, arith, rules, ◌∙◌}
+use Rattle.std.specs.declared.option.Option.{Option}
+use Rattle.clause_core.specs.Clause.{IsClauseInRange}
+use Rattle.unit_prop.specs.Standing.{live_of}
+use Rattle.cdcl_solver.specs.Descent.{Descends}
+use Rattle.cdcl_solver.specs.Levels.{SettlesAssumptions}
+use Rattle.cdcl_solver.specs.declared.conflict.Conflict.{Conflict}
+use Rattle.cdcl_solver.proofs.SolveLemmas.{model_answer}
+use Rattle.cdcl_solver.proofs.SolverLemmas.{loads_of, ready_kept}
+use Rattle.cdcl_solver.proofs.search.explore.Goals as goal
+
+pub settle-requires : goal.settle-requires
+settle-requires c = record {
+  stage = c.requires.ready.stage;
+  signed = omega (arith, c.requires.ready.greatest, c.requires.ready.small);
+  in_range = subst (λ m. IsClauseInRange m c.args.assumptions.now) (sym c.requires.ready.greatest) c.requires.assumptions;
+}
+
+pub returns-in_err-settle-clause-ready : goal.returns-in_err-settle-clause-ready
+returns-in_err-settle-clause-ready c = ready_kept c.args.max c.args.propagator.now c.settle.new.propagator c.args.order.now c.args.order.now c.args.levels.now.base c.settle.new.levels.base c.args.levels.now.marks.items c.settle.new.levels.marks.items c.requires.ready c.settle.ensures.keeps.clauses c.settle.ensures.keeps.greatest refl c.settle.ensures.stage
+
+pub returns-then-not-branch-clause-ready : goal.returns-then-not-branch-clause-ready
+returns-then-not-branch-clause-ready c = ready_kept c.args.max c.args.propagator.now c.settle.new.propagator c.args.order.now c.args.order.now c.args.levels.now.base c.settle.new.levels.base c.args.levels.now.marks.items c.settle.new.levels.marks.items c.requires.ready c.settle.ensures.keeps.clauses c.settle.ensures.keeps.greatest refl c.settle.ensures.stage
+
+pub returns-in_err-descend-clause-ready : goal.returns-in_err-descend-clause-ready
+returns-in_err-descend-clause-ready c = ready_kept c.args.max c.args.propagator.now c.descend.new.propagator c.args.order.now c.args.order.now c.args.levels.now.base c.descend.new.levels.base c.args.levels.now.marks.items c.descend.new.levels.marks.items c.requires.ready
+    (c.descend.ensures.extends.0.clauses ∙ c.settle.ensures.keeps.clauses) (c.descend.ensures.extends.0.greatest ∙ c.settle.ensures.keeps.greatest) refl c.descend.ensures.stage
+
+pub returns-in_err-values-in-None-clause-ready : goal.returns-in_err-values-in-None-clause-ready
+returns-in_err-values-in-None-clause-ready c = ready_kept c.args.max c.args.propagator.now c.descend.new.propagator c.args.order.now c.args.order.now c.args.levels.now.base c.descend.new.levels.base c.args.levels.now.marks.items c.descend.new.levels.marks.items c.requires.ready
+    (c.descend.ensures.extends.0.clauses ∙ c.settle.ensures.keeps.clauses) (c.descend.ensures.extends.0.greatest ∙ c.settle.ensures.keeps.greatest) refl c.descend.ensures.stage
+
+pub returns-in_ok-values-in-None-clause-ready : goal.returns-in_ok-values-in-None-clause-ready
+returns-in_ok-values-in-None-clause-ready c = ready_kept c.args.max c.args.propagator.now c.descend.new.propagator c.args.order.now c.args.order.now c.args.levels.now.base c.descend.new.levels.base c.args.levels.now.marks.items c.descend.new.levels.marks.items c.requires.ready
+    (c.descend.ensures.extends.0.clauses ∙ c.settle.ensures.keeps.clauses) (c.descend.ensures.extends.0.greatest ∙ c.settle.ensures.keeps.greatest) refl c.descend.ensures.stage
+
+pub returns-in_err-learn-in-Some-clause-ready : goal.returns-in_err-learn-in-Some-clause-ready
+returns-in_err-learn-in-Some-clause-ready c = ready_kept c.args.max c.args.propagator.now c.descend.new.propagator c.args.order.now c.learn.new.order c.args.levels.now.base c.descend.new.levels.base c.args.levels.now.marks.items c.descend.new.levels.marks.items c.requires.ready
+    (c.descend.ensures.extends.0.clauses ∙ c.settle.ensures.keeps.clauses) (c.descend.ensures.extends.0.greatest ∙ c.settle.ensures.keeps.greatest) (c.learn.ensures.order ∙ c.save.ensures) c.descend.ensures.stage
+
+pub returns-in_ok-learn-in-Some-clause-ready : goal.returns-in_ok-learn-in-Some-clause-ready
+returns-in_ok-learn-in-Some-clause-ready c = ready_kept c.args.max c.args.propagator.now c.descend.new.propagator c.args.order.now c.learn.new.order c.args.levels.now.base c.descend.new.levels.base c.args.levels.now.marks.items c.descend.new.levels.marks.items c.requires.ready
+    (c.descend.ensures.extends.0.clauses ∙ c.settle.ensures.keeps.clauses) (c.descend.ensures.extends.0.greatest ∙ c.settle.ensures.keeps.greatest) (c.learn.ensures.order ∙ c.save.ensures) c.descend.ensures.stage
+
+pub returns-in_ok-values-in-None-clause-found : goal.returns-in_ok-values-in-None-clause-found
+returns-in_ok-values-in-None-clause-found c =
+    let yes : c.in_ok-settle.field-0 ≡ true = search rules in
+    let settles = subst (λ (b : Bool). SettlesAssumptions c.args.propagator.now c.settle.new.propagator c.args.assumptions.now b) yes c.in_ok-settle.ensures.settled in
+    let end = subst (λ (o : Option Conflict). Descends c.descend.new.propagator o) c.in-None.is c.in_ok-descend.ensures.end in
+    model_answer c.args.propagator.now c.settle.new.propagator c.descend.new.propagator c.args.max [] (live_of c.args.propagator.now.clauses) c.args.assumptions.now c.in_ok-values-in-None.field-0.items
+    c.requires.ready.small (loads_of c.args.max c.args.propagator.now c.args.order.now c.args.levels.now.base c.args.levels.now.marks.items c.requires.ready) c.settle.ensures.keeps settles.2 c.descend.ensures.extends end.0 end.1 c.in_ok-values-in-None.ensures c.requires.assumptions

@@ -1,0 +1,57 @@
+use Rattle.std.proofs.Common.{◌≡◌, ◌-◌, [], ◌∷◌, ◌++◌, ℤ, neg_ℤ, w32, SFits, to_z, of_z, rules, sym, ap, ◌∙◌, subst, arith}
+use Rattle.std.proofs.lemmas.Int.{to_z-of_z}
+use Rattle.clause_core.specs.Clause.{IsClauseInRange}
+use Rattle.clause_core.specs.UnitPropagation.{IsRup}
+use Rattle.cdcl_solver.specs.Solvers.{SolverView}
+use Rattle.cdcl_solver.proofs.SearchLemmas.{rup_wider}
+use Rattle.cdcl_solver.proofs.ShowLemmas.{kept_follows, kept_more, negated_range, refuted_follows, two_equal}
+use Rattle.cdcl_solver.proofs.SolverLemmas.{known_live}
+use Rattle.cdcl_solver.proofs.solver.Solver.show.Goals as goal
+
+-- the negation of a literal, as it is passed on
+negated : (r l : ℤ) → SFits w32 r → SFits w32 l → r ≡ neg_ℤ (to_z w32 (of_z w32 l)) → to_z w32 (of_z w32 r) ≡ neg_ℤ l
+negated r l f g e = to_z-of_z w32 r f ∙ e ∙ ap neg_ℤ (to_z-of_z w32 l g)
+
+pub returns-then-conflicts-eq0-clause-live : goal.returns-then-conflicts-eq0-clause-live
+returns-then-conflicts-eq0-clause-live c = known_live c.args.log.now.left c.args.self.now.live c.requires.known
+
+pub returns-then-not-are_apart-clause-live : goal.returns-then-not-are_apart-clause-live
+returns-then-not-are_apart-clause-live c = known_live c.args.log.now.left c.args.self.now.live c.requires.known
+
+pub solve-requires-clause-assumptions : goal.solve-requires-clause-assumptions
+solve-requires-clause-assumptions c =
+    let one = c.ranges.one in
+    let other = c.ranges.other in
+    let first : SFits w32 c.negation.result = search rules in
+    let second : SFits w32 c.negation-2.result = search rules in
+    let apart = simp to_z-of_z at (c.are_apart.ensures c.if-not-are_apart.false) in
+    let range = subst (λ (v : SolverView). IsClauseInRange v.max (c.args.one ∷ c.args.other ∷ [])) c.self.view_is apart.0 in
+    subst (IsClauseInRange c.args.self.now.max) (sym (two_equal _ _ _ _ (negated c.negation.result c.args.one first one c.negation.ensures) (negated c.negation-2.result c.args.other second other c.negation-2.ensures)))
+    (negated_range c.args.self.now.max (c.args.one ∷ c.args.other ∷ []) range)
+
+pub keep-requires-clause-follows : goal.keep-requires-clause-follows
+keep-requires-clause-follows c =
+    let one = c.ranges.one in
+    let other = c.ranges.other in
+    let first : SFits w32 c.negation.result = search rules in
+    let second : SFits w32 c.negation-2.result = search rules in
+    let both = two_equal _ _ _ _ (negated c.negation.result c.args.one first one c.negation.ensures) (negated c.negation-2.result c.args.other second other c.negation-2.ensures) in
+    let follows = refuted_follows c.args.self.now.max c.args.self.now.live _ (c.args.conflicts - 1) c.args.log.now c.solve.new.log c.in_ok-solve.field-0 c.args.one c.args.other c.in_ok-solve.ensures.answer c.in-Refuted.is both in
+    subst (IsRup c.solve.new.self.live) (sym (two_equal _ _ _ _ (to_z-of_z w32 c.args.one one) (to_z-of_z w32 c.args.other other)))
+    (rup_wider (c.solve.new.log.left ++ c.args.self.now.live) c.solve.new.self.live (c.args.one ∷ c.args.other ∷ []) c.in_ok-solve.ensures.live.back follows)
+
+pub returns : goal.returns
+returns c =
+    let first : SFits w32 c.negation.result = search rules in
+    let second : SFits w32 c.negation-2.result = search rules in
+    let both = two_equal _ _ _ _ (negated c.negation.result c.args.one first c.ranges.one c.negation.ensures) (negated c.negation-2.result c.args.other second c.ranges.other c.negation-2.ensures) in
+    let follows = refuted_follows c.args.self.now.max c.args.self.now.live _ (c.args.conflicts - 1) c.args.log.now c.solve.new.log c.in_ok-solve.field-0 c.args.one c.args.other c.in_ok-solve.ensures.answer c.in-Refuted.is both in
+    let kept = c.in_ok-keep-in-Refuted.ensures.kept in
+    let more = kept_more c.args.self.now.max c.args.self.now.live c.args.log.now (c.args.conflicts - 1) c.args.conflicts c.solve.new.self c.keep.new.self c.solve.new.log c.keep.new.log (omega arith) c.solve.ensures.max c.in_ok-solve.ensures.live c.solve.ensures.log c.solve.ensures.in_range kept in
+    record {
+      max = c.keep.ensures.max ∙ c.solve.ensures.max;
+      log = more.1;
+      in_range = more.2;
+      live = more.0;
+      shown = kept_follows c.args.self.now.live c.solve.new.self c.keep.new.self c.solve.new.log c.keep.new.log (c.args.one ∷ c.args.other ∷ []) kept follows;
+    }

@@ -1,0 +1,15 @@
+use Rattle.std.proofs.Common.{◌≡◌, ◌+◌, ◌++◌}
+use Rattle.std.specs.List.{All}
+use Rattle.clause_core.specs.Clause.{IsClauseInRange}
+use Rattle.cdcl_solver.specs.Loading.{SameLive}
+use Rattle.cdcl_solver.specs.Logs.{Continues, lemmas}
+use Rattle.cdcl_solver.proofs.solver.Solver.solve.Given as goal
+
+abbrev pub invariant-loop-turn : goal.invariant-loop-turn
+invariant-loop-turn l = record {
+  max : l.self.max ≡ l.initial.self.max;
+  live : SameLive l.self.live (l.log.left ++ l.initial.self.live);
+  continues : Continues l.initial.self.max l.initial.self.live l.turn l.initial.log l.log;
+  in_range : All (IsClauseInRange l.initial.self.max) l.log.left;
+  count : lemmas l.log ≡ lemmas l.initial.log + l.turn;
+}

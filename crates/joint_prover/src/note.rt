@@ -1,0 +1,51 @@
+// The note on a rewriting.
+ghost use Rattle.std.specs.Prelude.{◌≡◌};
+ghost use Rattle.joint_prover.specs.Notes.{differing, note_of};
+
+use cdcl_solver::Log;
+use graph_core::Numbers;
+use ripple_graft::Cut;
+use stage_rewriter::Rewriting;
+
+/// What became of putting a ripple-carry adder in place of a graph's final stage.
+#[derive(Debug, Drop)]
+pub enum Note {
+    /// The adder's outputs are the graph's on every evaluation.
+    Used(Cut),
+    /// The graph has no final stage.
+    None,
+    /// Operands at which an output of the adder isn't the graph's.
+    Differs { a: u64, b: u64 },
+    /// With an addend the same: operands and an addend.
+    DiffersSum { a: u64, b: u64, c: u128 },
+    /// As many lemmas as there may be conflicts, and beside them so many goals refuted before the one in hand.
+    Spent { lemmas: u64, goal: u64, log: Log },
+    /// At a cut that was found by the values of its variables the adder's outputs are the graph's on every evaluation,
+    /// and the slice plan over the graph with it gave the verdict.
+    Found(Cut),
+}
+
+/// The note, where the claim has an addend or none: neither the graph with the adder is kept nor the lines that show its
+/// goals.
+pub(crate) fn make_note(add: bool, rewritten: Rewriting<'_>) -> Note
+    ensures { result ≡ note_of add rewritten.entry }
+{
+    match rewritten {
+        Rewriting::Used { cut, .. } => Note::Used(cut),
+        Rewriting::None => Note::None,
+        Rewriting::Differs(numbers) => differing(add, numbers),
+        Rewriting::Spent { lemmas, goal, log } => Note::Spent { lemmas, goal, log },
+    }
+}
+
+// The note that numbers differ.
+fn differing(add: bool, numbers: Numbers) -> Note
+    ensures { result ≡ differing add numbers }
+{
+    let Numbers { a, b, c } = numbers;
+    if add {
+        Note::DiffersSum { a, b, c }
+    } else {
+        Note::Differs { a, b }
+    }
+}

@@ -1,8 +1,0 @@
-use Rattle.std.proofs.Common.{sym, subst}
-use Rattle.std.specs.List.{All}
-use Rattle.slice_finder.specs.Adders.{IsNamed}
-use Rattle.slice_finder.proofs.adders.blocks.Goals as goal
-
-pub returns-clause-named : goal.returns-clause-named
-returns-clause-named c =
-    subst (All (IsNamed c.args.extended.now)) (sym c.from_vec.ensures) (subst (λ e. All (IsNamed e) c.in_ok-blocks.blocks.items) c.in_ok-network.ensures c.in_ok-blocks.ensures.named)

@@ -1,5 +1,0 @@
-use Rattle.slice_finder.specs.Cover.{AreFirstNeeds}
-use Rattle.slice_finder.proofs.cover.first_needs.Given as goal
-
-abbrev pub invariant-loop-i : goal.invariant-loop-i
-invariant-loop-i l = AreFirstNeeds l.graph.max l.pairs l.i l.needs.items

@@ -1,5 +1,0 @@
-use Rattle.slice_finder.specs.Cover.{AreNeedsAt}
-use Rattle.slice_finder.proofs.cover.needs_of.Given as goal
-
-abbrev pub invariant-loop-level : goal.invariant-loop-level
-invariant-loop-level l = AreNeedsAt l.graph l.pairs l.keys l._level-index l.needs.items

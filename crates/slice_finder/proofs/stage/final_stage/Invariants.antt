@@ -1,7 +1,0 @@
-use Rattle.std.proofs.Common.{◌<◌}
-use Rattle.ripple_graft.specs.declared.cut.Cut.{Cut}
-use Rattle.slice_finder.specs.FinalStage.{IsFit}
-use Rattle.slice_finder.proofs.stage.final_stage.Given as goal
-
-abbrev pub invariant-loop-lo : goal.invariant-loop-lo
-invariant-loop-lo l = (cut : Cut) → cut.lo < l.lo → ¬ (IsFit l.graph cut)
