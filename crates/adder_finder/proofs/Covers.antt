@@ -5,6 +5,7 @@ use Rattle.std.proofs.Common.{refl, sym, ap, ap₂, subst, ◌∙◌, arith, inl
 use Rattle.std.proofs.lemmas.Bool.{cases_eq}
 use Rattle.std.proofs.lemmas.List.{get_or_default, get_or_read}
 use Rattle.std.proofs.lemmas.List.Elements.{All-contains}
+use Rattle.graph_core.specs.declared.bounds.TheConstants.{MOST_OUTPUTS}
 use Rattle.graph_core.specs.declared.gate.Gate.{Gate}
 use Rattle.graph_core.specs.declared.literal.Lit.{Lit}
 use Rattle.graph_core.specs.Graph.Literals.{variable_of}
@@ -102,7 +103,7 @@ key_of keys v h = let r = go keys h.0 h.1 h.2 in (h.0, (0, v), omega arith, r.0,
     go (key ∷ ks) zero low e = (omega arith, e)
     go (key ∷ ks) (suc k) low e = let r = go ks k (omega arith) e in let below = r.0 in (omega arith, r.1)
 
-pub cover_start : (g : Aig) (pairs : List (Lit × Lit)) (keys : List (ℕ × ℕ)) (needs : List ℕ) → length pairs ≤ 256 → AreKeys g keys → AreFirstNeeds g.max pairs (length pairs) needs → AreNeedsAt g pairs keys 0 needs
+pub cover_start : (g : Aig) (pairs : List (Lit × Lit)) (keys : List (ℕ × ℕ)) (needs : List ℕ) → length pairs ≤ MOST_OUTPUTS → AreKeys g keys → AreFirstNeeds g.max pairs (length pairs) needs → AreNeedsAt g pairs keys 0 needs
 cover_start g pairs keys needs few order h = record {
   room = h.room;
   constant = h.constant;

@@ -1,6 +1,7 @@
 -- How many pairs cover a variable, and how that is found. Private clauses alone cite this file.
 use Rattle.std.specs.Prelude.{◌≡◌, ◌≢◌, ℕ, ◌+◌, ◌<◌, ◌≤◌, ◌⊎◌, List, map, length, take, slice_index, slice_index_or}
 use Rattle.std.specs.List.{All, Contains}
+use Rattle.graph_core.specs.declared.bounds.TheConstants.{MOST_OUTPUTS}
 use Rattle.graph_core.specs.declared.literal.Lit.{Lit}
 use Rattle.graph_core.specs.declared.gate.Gate.{Gate}
 use Rattle.graph_core.specs.Graph.Literals.{variable_of}
@@ -19,7 +20,7 @@ pub record AreNeeds (g : Aig) (pairs : List (Lit × Lit)) (needs : List ℕ) : T
 
 -- Few pairs of variables of the graph.
 pub record ArePairsIn (g : Aig) (pairs : List (Lit × Lit)) : Type 0 where
-  pub few : length pairs ≤ 256
+  pub few : length pairs ≤ MOST_OUTPUTS
   pub in_range : All (λ p. (variable_of p.0 ≤ g.max) × (variable_of p.1 ≤ g.max)) pairs
 
 -- Levels and variables, of which each gate's is one, by rising levels.
@@ -42,7 +43,7 @@ IsOfPairs pairs n j v = (i : ℕ) × (i < j) × (i < n) ×
 pub record AreFirstNeeds (max : ℕ) (pairs : List (Lit × Lit)) (n : ℕ) (needs : List ℕ) : Type 0 where
   pub room : length needs ≡ max + 1
   pub constant : slice_index needs 0 ≡ 0
-  pub enough : (v j : ℕ) → v ≤ max → j ≤ 256 → slice_index needs v ≤ j → (v ≡ 0) ⊎ IsOfPairs pairs n j v
+  pub enough : (v j : ℕ) → v ≤ max → j ≤ MOST_OUTPUTS → slice_index needs v ≤ j → (v ≡ 0) ⊎ IsOfPairs pairs n j v
   pub least : (v j : ℕ) → v ≤ max → IsOfPairs pairs n j v → slice_index needs v ≤ j
 
 -- What is needed once the gates of the first i keys are done.

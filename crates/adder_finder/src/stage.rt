@@ -2,6 +2,7 @@
 ghost use Rattle.std.specs.Prelude.{◌≡◌, ◌↔◌, ◌+◌, ◌<◌, ◌≤◌, ◌∷◌, ◌⊎◌, IfOk, IfSome, IsNone, IsTrue, MatchOption};
 ghost use Rattle.std.specs.Prelude.{drop, length, map, slice_index, slice_index_or};
 ghost use Rattle.std.specs.List.{All};
+ghost use Rattle.graph_core.specs.declared.bounds.TheConstants.{MOST_OUTPUTS};
 ghost use Rattle.graph_core.specs.declared.literal.Lit.{Lit as Literal};
 ghost use Rattle.graph_core.specs.Graph.{IsBuilt};
 ghost use Rattle.graph_core.specs.Graph.Literals.{variable_of};
@@ -153,7 +154,7 @@ fn pairs_of(alloc: Global, first: (Lit, Lit), nexts: &[Next]) -> Result<Vec<(Lit
 // How many columns, from the first on, have their other side covered by the pairs before them.
 fn covered_columns(needs: &[u32], nexts: &[Next]) -> usize
     requires in_range { AreSidesIn (length needs.now) nexts.now }
-    requires few { length nexts.now ≤ 256 }
+    requires few { length nexts.now ≤ MOST_OUTPUTS }
     ensures { IsCount needs.now nexts.now result }
 {
     for (i, next) in nexts.iter().enumerate() {

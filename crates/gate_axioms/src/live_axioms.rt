@@ -1,5 +1,6 @@
 // The axioms of an extended graph, as live polynomials.
 ghost use Rattle.std.specs.Prelude.{◌≡◌, ◌*◌, ◌<◌, ◌≤◌, [], None, OnOk, length, map};
+ghost use Rattle.graph_core.specs.declared.bounds.TheConstants.{MOST_OUTPUTS};
 ghost use Rattle.graph_core.specs.Algebra.{gate_axiom, axioms, AgreeOnColumns};
 ghost use Rattle.graph_core.specs.Algebra as algebra;
 ghost use Rattle.graph_core.specs.Graph.Assignments.{literal};
@@ -110,7 +111,7 @@ fn add_column(
     requires gates { live.old.gates ≡ extended.now.gates }
     requires modulus { modulus_in live.old.table ≡ algebra.modulus extended.now }
     requires in_range { k < length extended.now.graph.outputs }
-    requires few { length extended.now.graph.outputs ≤ 256 }
+    requires few { length extended.now.graph.outputs ≤ MOST_OUTPUTS }
     requires extension { IsExtension extended.now }
     requires columns { Always extended.now.gates (AgreeOnColumns extended.now) }
     ensures { OnOk result (AddsColumn extended.now k live.old live.new) }

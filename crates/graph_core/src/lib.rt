@@ -1,12 +1,12 @@
 //! And-inverter graphs, and the definitions of a multiplier verifier with their laws.
 //!
 //! `Graph::build` gives the graph of some lists exactly where they have no fault, and else their first fault. What is
-//! built is acyclic. A graph tells of each variable its gate, its level and how often it is read, and writes the values
-//! of all variables, which are its evaluation (`value_into`). A `Claim` is what is claimed of a graph: how its inputs
-//! make two operands, whether these are signed, and whether there is an addend. `Operands` tells which input is then
-//! which bit; `Graph::value_on` gives the value on two operands, `Graph::sum_on` that with an addend. Only these two,
-//! `Graph::build` and the makers of `Operands` take memory. `Graph::input` and `Operands::of` are promised calls of the
-//! library that no command needs.
+//! built is acyclic, and has at most `MOST_VARIABLES` variables, `MOST_INPUTS` inputs and `MOST_OUTPUTS` outputs. A graph
+//! tells of each variable its gate, its level and how often it is read, and writes the values of all variables, which
+//! are its evaluation (`value_into`). A `Claim` is what is claimed of a graph: how its inputs make two operands, whether
+//! these are signed, and whether there is an addend. `Operands` tells which input is then which bit; `Graph::value_on`
+//! gives the value on two operands, `Graph::sum_on` that with an addend. Only these two, `Graph::build` and the makers
+//! of `Operands` take memory. `Graph::input` and `Operands::of` are promised calls of the library that no command needs.
 //!
 //! The contracts of all crates above cite the words of `specs/`: graphs, their evaluation, operands and the product
 //! (`Graph` and its files), what bytes spell and how a text is refused (`Text`, `Aiger`), lawful algebra certificates
@@ -16,6 +16,7 @@
 //! refusal; what ledgers that agree and lines that are alike have in common.
 #![tactic(auto)]
 
+mod bounds;
 mod certificate_laws;
 mod claim;
 mod evaluation_laws;
@@ -33,6 +34,7 @@ mod polynomial_laws;
 mod profile;
 mod sign;
 
+pub use bounds::{MOST_INPUTS, MOST_OUTPUTS, MOST_VARIABLES};
 pub use certificate_laws::{
     algebra_is_exact, algebra_is_read, algebra_is_sound, algebra_line_is_read, axioms_vanish,
     close_is_read, vanishing_means_claim,

@@ -5,6 +5,6 @@ pub enum Profile {
     Multiplier,
     /// 4, 8, .. or 256 inputs, and 1 to half as many outputs: two operands, and an addend of twice their bits.
     MultiplyAdd,
-    /// At most 256 inputs, and 1 to 256 outputs.
+    /// At most `MOST_INPUTS` inputs, and 1 to `MOST_OUTPUTS` outputs.
     Any,
 }

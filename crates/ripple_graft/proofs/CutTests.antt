@@ -5,6 +5,7 @@ use Rattle.std.specs.Bool.{IsTrue}
 use Rattle.std.specs.List.{All, AllWithin, HoldsAt}
 use Rattle.std.proofs.Common.{sym, ap, ap₂, subst, ◌∙◌, arith, get_or, below_more, eqb-true, eq-eqb, inl, inr, ⊎_elim, Fits, w32}
 use Rattle.std.proofs.lemmas.List.{get_or_default}
+use Rattle.graph_core.specs.declared.bounds.TheConstants.{MOST_OUTPUTS}
 use Rattle.graph_core.specs.declared.literal.Lit.{Lit}
 use Rattle.graph_core.specs.Graph.{Aig, IsBuilt}
 use Rattle.graph_core.specs.Graph.Extended.{Extended, without_cut}
@@ -45,7 +46,7 @@ ends_before g cut pairs outputs outputs_are pairs_are some end =
       λ h. eq-eqb _ _ (⊎_elim (λ (x : cut.lo + length cut.pairs + 1 ≡ length g.outputs). omega arith) (λ (y : cut.lo + length cut.pairs ≡ length g.outputs). absurd (end (omega arith))) h.columns),
     )
 
-pub few_pairs : (g : Aig) (cut : Cut) → IsBuilt g → HasColumns g cut → length cut.pairs ≤ 256
+pub few_pairs : (g : Aig) (cut : Cut) → IsBuilt g → HasColumns g cut → length cut.pairs ≤ MOST_OUTPUTS
 few_pairs g cut built h =
     let few = built.few_outputs in
     ⊎_elim (λ (x : cut.lo + length cut.pairs + 1 ≡ length g.outputs). omega arith) (λ (y : cut.lo + length cut.pairs ≡ length g.outputs). omega arith) h.columns
@@ -74,13 +75,13 @@ pub right_unknown : (e : Extended) (pairs : List (Lit × Lit)) (i : ℕ) (l m : 
 right_unknown e pairs i l m known below not is x h =
     let t = is.1 (subst (λ p. IsKnown e p.1) (get_or_default pairs i x (l, m) below) h.1) in absurd (cc)
 
-pub index_fits : (i few : ℕ) → i < few → few ≤ 256 → Fits w32 i
+pub index_fits : (i few : ℕ) → i < few → few ≤ MOST_OUTPUTS → Fits w32 i
 index_fits i few below h = omega (arith, below, h)
 
 -- ---- the cut
 
-pub few_given : (g : Aig) (cut : Cut) (pairs : List (Lit × Lit)) → pairs ≡ cut.pairs → (HasColumns g cut → length cut.pairs ≤ 256) → HasColumns g cut → length pairs ≤ 256
-few_given g cut pairs is few h = subst (λ ps. length ps ≤ 256) (sym is) (few h)
+pub few_given : (g : Aig) (cut : Cut) (pairs : List (Lit × Lit)) → pairs ≡ cut.pairs → (HasColumns g cut → length cut.pairs ≤ MOST_OUTPUTS) → HasColumns g cut → length pairs ≤ MOST_OUTPUTS
+few_given g cut pairs is few h = subst (λ ps. length ps ≤ MOST_OUTPUTS) (sym is) (few h)
 
 pub cut_is : (g : Aig) (cut : Cut) (pairs : List (Lit × Lit)) (alone : Extended) → pairs ≡ cut.pairs → alone ≡ without_cut g → HasColumns g cut → All (IsKnownPair alone) pairs → IsCut g cut
 cut_is g cut pairs alone is plain h known = record { some = h.some; columns = h.columns; known = subst (λ (e : Extended). All (IsKnownPair e) cut.pairs) plain (subst (All (IsKnownPair alone)) is known) }
@@ -123,7 +124,7 @@ no_room e lo pairs carry fault h =
     let wide = (reach_is pairs carry).0 in
     ⊎_elim (λ (a : pairs ≡ 0). omega arith) (λ (b : (pairs ≡ 0 → ⊥) × (length e.graph.outputs < pairs)). let long = b.1 in omega arith) fault
 
-pub room_few : (e : Extended) (lo pairs : ℕ) (carry : Bool) → length e.graph.outputs ≤ 256 → HasColumnRoom e lo pairs carry → pairs ≤ 256
+pub room_few : (e : Extended) (lo pairs : ℕ) (carry : Bool) → length e.graph.outputs ≤ MOST_OUTPUTS → HasColumnRoom e lo pairs carry → pairs ≤ MOST_OUTPUTS
 room_few e lo pairs carry few h = let within = h.within in let wide = (reach_is pairs carry).0 in omega arith
 
 pub block_is : (e : Extended) (b : Block) (pairs : List (Lit × Lit)) → pairs ≡ b.cut.pairs → HasColumnRoom e b.cut.lo (length pairs) b.carry → All (IsKnownPair e) pairs → IsBlock e b

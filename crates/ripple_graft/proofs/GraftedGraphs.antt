@@ -7,6 +7,7 @@ use Rattle.std.specs.List.{AllByRecursion, Contains, flat_map}
 use Rattle.std.proofs.Common.{refl, sym, ap, subst, ◌∙◌, arith, length-append, length-drop, get_or, get_or-append-add, Fits, w32}
 use Rattle.std.proofs.lemmas.List.{get_or-map, length-map, map-append, take_more}
 use Rattle.std.proofs.lemmas.List.Elements.{All-from_recursion, recursion_from_All, All-append, All-contains, Contains-append_left}
+use Rattle.graph_core.specs.declared.bounds.TheConstants.{MOST_OUTPUTS}
 use Rattle.graph_core.specs.declared.literal.Lit.{Lit}
 use Rattle.graph_core.specs.declared.gate.Gate.{Gate}
 use Rattle.graph_core.specs.Graph.{Aig, IsBuilt, IsFree, IsGateOf}
@@ -111,7 +112,7 @@ graft_keeps : (e : Extended) (blocks : List Block) → (graft_all e blocks).grap
 graft_keeps e [] = refl
 graft_keeps e (b ∷ blocks) = graft_keeps (graft_block e b) blocks
 
-few_pairs : (g : Aig) (blocks : List Block) → IsBuilt g → AreBlocks (without_cut g) blocks → pair_count blocks ≤ 256
+few_pairs : (g : Aig) (blocks : List Block) → IsBuilt g → AreBlocks (without_cut g) blocks → pair_count blocks ≤ MOST_OUTPUTS
 few_pairs g blocks built fit =
     let few = few_replaced (with_blocks g blocks) (blocks_extend g blocks built.well_formed fit) in
     let more = few_more (without_cut g) blocks fit in
@@ -124,7 +125,7 @@ few_blocks e [] fit = omega arith
 few_blocks e (b ∷ blocks) fit = let more = few_blocks (graft_block e b) blocks fit.1 in let some = fit.0.some in omega arith
 
 -- so are the blocks
-pub blocks_few : (g : Aig) (blocks : List Block) → IsBuilt g → AreBlocks (without_cut g) blocks → length blocks ≤ 256
+pub blocks_few : (g : Aig) (blocks : List Block) → IsBuilt g → AreBlocks (without_cut g) blocks → length blocks ≤ MOST_OUTPUTS
 blocks_few g blocks built fit = let few = few_pairs g blocks built fit in let some = few_blocks (without_cut g) blocks fit in omega arith
 
 -- and variables have 31 bits

@@ -1,6 +1,7 @@
 // Columns that are replaced, as they are kept.
 ghost use Rattle.std.specs.Prelude.{◌≡◌, ◌↔◌, ◌+◌, ◌++◌, ◌<◌, ◌≤◌, ◌⊎◌, IfOk, IsTrue, drop, length};
 ghost use Rattle.std.specs.List.{All, Any};
+ghost use Rattle.graph_core.specs.declared.bounds.TheConstants.{MOST_OUTPUTS};
 ghost use Rattle.ripple_graft.specs.Blocks.{columns, reach};
 ghost use Rattle.ripple_graft.specs.Extension.{new_or_old};
 ghost use Rattle.ripple_graft.specs.Grafts.{columns_in};
@@ -11,7 +12,7 @@ use std::alloc::AllocError;
 
 // How many columns so many pairs replace, with the last carry's or without.
 pub fn reach(pairs: usize, carry: bool) -> usize
-    requires { pairs ≤ 256 }
+    requires { pairs ≤ MOST_OUTPUTS }
     ensures { result ≡ reach pairs carry }
 {
     if carry { pairs + 1 } else { pairs }
@@ -53,7 +54,7 @@ pub fn columns_behind(
     new: &[Lit],
 ) -> Result<Vec<Replaced>, AllocError>
     requires within { lo + length new.now ≤ length old.now }
-    requires few { length old.now ≤ 256 }
+    requires few { length old.now ≤ MOST_OUTPUTS }
     ensures { IfOk result (λ all. columns_in all.items ≡
         columns_in before.items ++ columns lo (drop lo old.now) new.now) }
 {

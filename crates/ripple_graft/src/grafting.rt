@@ -1,6 +1,7 @@
 // Grafting ripple-carry adders onto a graph.
 ghost use Rattle.std.specs.Prelude.{◌≡◌, ◌↔◌, ℕ, ◌+◌, ◌<◌, ◌^◌, ◌≤◌, ◌==◌, Err, IfErr, IfOk, IsTrue, MatchOption, length};
 ghost use Rattle.std.specs.List.{All};
+ghost use Rattle.graph_core.specs.declared.bounds.TheConstants.{MOST_OUTPUTS};
 ghost use Rattle.graph_core.specs.Graph.{IsBuilt};
 ghost use Rattle.graph_core.specs.Graph.Extended.{without_cut};
 ghost use Rattle.ripple_graft.specs.Blocks.{AreBlocks, IsBlock, IsCut, graft_block, with_blocks, with_cut};
@@ -91,7 +92,7 @@ fn graft_next<'a>(
 
 fn has_columns(graph: &Graph, cut: &Cut) -> bool
     ensures value { IsTrue result ↔ HasColumns graph.now cut.now }
-    ensures few { HasColumns graph.now cut.now → length cut.now.pairs ≤ 256 }
+    ensures few { HasColumns graph.now cut.now → length cut.now.pairs ≤ MOST_OUTPUTS }
 {
     let outputs = graph.output_literals().len();
     let pairs = cut.pairs.as_slice().len();
@@ -104,7 +105,7 @@ fn has_columns(graph: &Graph, cut: &Cut) -> bool
 
 // Whether there is a column for the last carry.
 fn has_carry(graph: &Graph, cut: &Cut) -> bool
-    requires { length cut.now.pairs ≤ 256 }
+    requires { length cut.now.pairs ≤ MOST_OUTPUTS }
     ensures { result ≡ (cut.now.lo + length cut.now.pairs + 1 == length graph.now.outputs) }
 {
     let outputs = graph.output_literals().len();
@@ -113,7 +114,7 @@ fn has_carry(graph: &Graph, cut: &Cut) -> bool
 }
 
 fn first_unknown(extended: &Extended<'_>, pairs: &[(Lit, Lit)]) -> Option<u32>
-    requires { length pairs.now ≤ 256 }
+    requires { length pairs.now ≤ MOST_OUTPUTS }
     ensures { MatchOption result (All (IsKnownPair extended.now) pairs.now)
         (IsFirstUnknown extended.now pairs.now) }
 {

@@ -1,10 +1,11 @@
 // The values of the inputs at which just a monomial's variables are true.
 ghost use Rattle.std.specs.Prelude.{◌≡◌, ◌*◌, ◌<◌, ◌≤◌, Some, length, slice_get, slice_index_or, false};
+ghost use Rattle.graph_core.specs.declared.bounds.TheConstants.{MOST_INPUTS};
 ghost use Rattle.graph_core.specs.Graph.Operands.{AreInRange, inputs_at, inputs_in, operand_literals};
 ghost use Rattle.frontier_core.specs.LeastDifference.{AreInputs};
 ghost use Rattle.witness_finder.specs.Positions.{bits_at};
 
-use graph_core::{Lit, Numbers, Operands, Order};
+use graph_core::{Lit, MOST_INPUTS, Numbers, Operands, Order};
 
 /// The numbers at which the variables of a monomial are true and no others.
 pub(crate) fn numbers_at(variables: &[u32], operands: &Operands) -> Numbers
@@ -12,7 +13,7 @@ pub(crate) fn numbers_at(variables: &[u32], operands: &Operands) -> Numbers
     ensures inputs { inputs_at operands.now result ≡ bits_at operands.now variables.now }
     ensures range { AreInRange operands.now result }
 {
-    let mut values = [false; 256];
+    let mut values = [false; MOST_INPUTS];
     let count = inputs(operands);
     for i in 0..count {
         values[i as usize] = is_one(variables, operands, i);
@@ -33,7 +34,7 @@ pub(crate) fn is_one(variables: &[u32], operands: &Operands, i: u32) -> bool
 pub(crate) fn inputs(operands: &Operands) -> u32
     ensures value { result ≡ length (inputs_in operands.now) }
     ensures literals { result ≡ length (operand_literals operands.now) }
-    ensures few { result ≤ 256 }
+    ensures few { result ≤ MOST_INPUTS }
 {
     2 * operands.bits() + operands.c_literals().len() as u32
 }

@@ -3,6 +3,7 @@ use Rattle.std.specs.Prelude.{◌≡◌, ℕ, ◌+◌, ◌%◌, ◌<◌, ◌≤�
 use Rattle.std.specs.List.{AllByRecursion}
 use Rattle.std.proofs.Common.{refl, sym, ap, ap₂, subst, ◌∙◌, arith, append_assoc, inl, inr, eq-eqb, eqb-true, ne_eqb}
 use Rattle.std.proofs.lemmas.Bool.{ltb-false, eqb-false}
+use Rattle.graph_core.specs.declared.bounds.TheConstants.{MOST_VARIABLES}
 use Rattle.graph_core.specs.declared.fault.Field.{Field}
 use Rattle.graph_core.specs.declared.fault.Field.TheVariants as field
 use Rattle.graph_core.specs.declared.profile.Profile.{Profile}
@@ -32,7 +33,7 @@ pub record AreAccepted (p : Profile) (form : Form) (numbers : List ℕ) : Type 0
   pub few_zeros : length zeros ≤ 4
   pub all_zero : AllByRecursion (λ z. z ≡ 0) zeros
   pub is : numbers ≡ ((counts_of numbers).max ∷ (counts_of numbers).inputs ∷ 0 ∷ (counts_of numbers).outputs ∷ (counts_of numbers).gates ∷ []) ++ zeros
-  pub max : (counts_of numbers).max ≤ 4194303
+  pub max : (counts_of numbers).max ≤ MOST_VARIABLES
   pub step : (counts_of numbers).inputs % input_step p ≡ 0
   pub some : least_inputs p ≤ (counts_of numbers).inputs
   pub few : (counts_of numbers).inputs ≤ most_inputs p
@@ -79,7 +80,7 @@ accepted p form (m ∷ i ∷ l ∷ []) many few h = absurd (omega arith)
 accepted p form (m ∷ i ∷ l ∷ o ∷ []) many few h = absurd (omega arith)
 accepted p form (m ∷ i ∷ l ∷ o ∷ a ∷ others) many few h =
     let zs : List (Field × Bool) = zero_fields (field.B ∷ field.C ∷ field.J ∷ field.F ∷ []) others in
-    let pm = none_first (nat_lt 4194303 m) field.M _ h in
+    let pm = none_first (nat_lt MOST_VARIABLES m) field.M _ h in
     let pi = none_first (has_wrong_inputs p i) field.I _ pm.1 in
     let pl = none_first (not (l == 0)) field.L _ pi.1 in
     let po = none_first (has_wrong_outputs p i o) field.O _ pl.1 in
@@ -93,7 +94,7 @@ accepted p form (m ∷ i ∷ l ∷ o ∷ a ∷ others) many few h =
       few_zeros = omega arith;
       all_zero = zeros_from (field.B ∷ field.C ∷ field.J ∷ field.F ∷ []) others (omega arith) pa.1;
       is = ap (λ x. m ∷ i ∷ x ∷ o ∷ a ∷ others) (eqb-true l 0 (not_false (l == 0) pl.0));
-      max = ltb-false 4194303 m pm.0;
+      max = ltb-false MOST_VARIABLES m pm.0;
       step = inputs.0;
       some = inputs.1;
       few = inputs.2;
@@ -103,10 +104,10 @@ accepted p form (m ∷ i ∷ l ∷ o ∷ a ∷ others) many few h =
       full = room.1;
     }
 
-pub none_refused : (p : Profile) (form : Form) (m i o a : ℕ) (zeros : List ℕ) → AllByRecursion (λ z. z ≡ 0) zeros → m ≤ 4194303 → i % input_step p ≡ 0 → least_inputs p ≤ i → i ≤ most_inputs p → 0 < o →
+pub none_refused : (p : Profile) (form : Form) (m i o a : ℕ) (zeros : List ℕ) → AllByRecursion (λ z. z ≡ 0) zeros → m ≤ MOST_VARIABLES → i % input_step p ≡ 0 → least_inputs p ≤ i → i ≤ most_inputs p → 0 < o →
     o ≤ most_outputs p i → i + a ≤ m → (form ≡ Binary → m ≡ i + a) → refused_field p form ((m ∷ i ∷ 0 ∷ o ∷ a ∷ []) ++ zeros) ≡ None
 none_refused p form m i o a zeros all max step some few some_outputs most room full =
-    ap (λ b. cond b (Some field.M) (cond (has_wrong_inputs p i) (Some field.I) (cond (has_wrong_outputs p i o) (Some field.O) (cond (has_wrong_room form m (i + a)) (Some field.A) (first_refused (zero_fields (field.B ∷ field.C ∷ field.J ∷ field.F ∷ []) zeros)))))) (not_below 4194303 m max) ∙
+    ap (λ b. cond b (Some field.M) (cond (has_wrong_inputs p i) (Some field.I) (cond (has_wrong_outputs p i o) (Some field.O) (cond (has_wrong_room form m (i + a)) (Some field.A) (first_refused (zero_fields (field.B ∷ field.C ∷ field.J ∷ field.F ∷ []) zeros)))))) (not_below MOST_VARIABLES m max) ∙
     ap (λ b. cond b (Some field.I) (cond (has_wrong_outputs p i o) (Some field.O) (cond (has_wrong_room form m (i + a)) (Some field.A) (first_refused (zero_fields (field.B ∷ field.C ∷ field.J ∷ field.F ∷ []) zeros))))) (inputs_back p i step some few) ∙
     ap₂ (λ b c. cond (b || c) (Some field.O) (cond (has_wrong_room form m (i + a)) (Some field.A) (first_refused (zero_fields (field.B ∷ field.C ∷ field.J ∷ field.F ∷ []) zeros)))) (ne_eqb o 0 (omega arith)) (not_below (most_outputs p i) o most) ∙
     ap (λ b. cond b (Some field.A) (first_refused (zero_fields (field.B ∷ field.C ∷ field.J ∷ field.F ∷ []) zeros))) (room_back form m (i + a) room full) ∙
@@ -155,7 +156,7 @@ counts_header p form g numbers a e = (a.zeros, a.few_zeros, a.all_zero, subst (�
 
 -- the counts of a profile, in a header
 record AreCounts (p : Profile) (c : Counts) : Type 0 where
-  max : c.max ≤ 4194303
+  max : c.max ≤ MOST_VARIABLES
   step : c.inputs % input_step p ≡ 0
   some : least_inputs p ≤ c.inputs
   few : c.inputs ≤ most_inputs p

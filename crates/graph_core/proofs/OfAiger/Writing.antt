@@ -6,6 +6,7 @@ use Rattle.std.proofs.lemmas.Bool.{ltb-false}
 use Rattle.std.proofs.lemmas.List.{length-map}
 use Rattle.std.proofs.lemmas.List.Sums.{fold_push}
 use Rattle.std.proofs.lemmas.List.Elements.{All-from_recursion, recursion_from_All, All-append}
+use Rattle.graph_core.specs.declared.bounds.TheConstants.{MOST_VARIABLES, MOST_OUTPUTS}
 use Rattle.graph_core.specs.declared.literal.Lit.{Lit}
 use Rattle.graph_core.specs.declared.gate.Gate.{Gate}
 use Rattle.graph_core.specs.declared.profile.Profile.{Profile}
@@ -278,7 +279,7 @@ written_faultless g w = record {
 
 -- ---- the texts
 
-small_lit : (max : ℕ) (l : Lit) → max ≤ 4194303 → l.0 ≤ 2 * max + 1 → IsSmall l.0
+small_lit : (max : ℕ) (l : Lit) → max ≤ MOST_VARIABLES → l.0 ≤ 2 * max + 1 → IsSmall l.0
 small_lit max l a b = omega arith
 
 singles_good : (ls : List Lit) → AllByRecursion (λ l. IsSmall l.0) ls → AllByRecursion IsGood (map (λ l. l.0 ∷ []) ls)
@@ -289,7 +290,7 @@ good_append : (xs ys : List (List ℕ)) → AllByRecursion IsGood xs → AllByRe
 good_append [] ys a b = b
 good_append (x ∷ xs) ys a b = (a.0, good_append xs ys a.1 b)
 
-few_outputs : (p : Profile) (i : ℕ) → i ≤ most_inputs p → most_outputs p i ≤ 256
+few_outputs : (p : Profile) (i : ℕ) → i ≤ most_inputs p → most_outputs p i ≤ MOST_OUTPUTS
 few_outputs Multiplier i h = omega (arith, h)
 few_outputs MultiplyAdd i h = omega (arith, h)
 few_outputs Any i h = omega arith
@@ -306,19 +307,19 @@ header_good p g c =
 header_is : (g : Aig) → header_of g ≡ ((written g).max ∷ length (written g).inputs ∷ 0 ∷ length (written g).outputs ∷ length (written g).gates ∷ []) ++ []
 header_is g = ap (λ n. g.max ∷ length g.inputs ∷ 0 ∷ length g.outputs ∷ n ∷ []) (sym (length-map g.gates written_gate))
 
-triples_good : (max : ℕ) (xs : List Gate) → max ≤ 4194303 → AllByRecursion (λ x. x.v ≤ max) xs → AllByRecursion (λ l. l.0 ≤ 2 * max + 1) (flat_map operands (map sorted xs)) → AllByRecursion IsGood (map (λ t. t.0.0 ∷ t.1.0 ∷ t.2.0 ∷ []) (map written_gate xs))
+triples_good : (max : ℕ) (xs : List Gate) → max ≤ MOST_VARIABLES → AllByRecursion (λ x. x.v ≤ max) xs → AllByRecursion (λ l. l.0 ≤ 2 * max + 1) (flat_map operands (map sorted xs)) → AllByRecursion IsGood (map (λ t. t.0.0 ∷ t.1.0 ∷ t.2.0 ∷ []) (map written_gate xs))
 triples_good max [] a v l = tt
 triples_good max (x ∷ xs) a v l =
     let below = v.0 in
     ((omega arith, (omega arith, (small_lit max (sorted x).left a l.0, (small_lit max (sorted x).right a l.1.0, tt)))), triples_good max xs a v.1 l.1.1)
 
-small_all : (max : ℕ) (ls : List Lit) → max ≤ 4194303 → AllByRecursion (λ l. l.0 ≤ 2 * max + 1) ls → AllByRecursion (λ l. IsSmall l.0) ls
+small_all : (max : ℕ) (ls : List Lit) → max ≤ MOST_VARIABLES → AllByRecursion (λ l. l.0 ≤ 2 * max + 1) ls → AllByRecursion (λ l. IsSmall l.0) ls
 small_all max [] a h = tt
 small_all max (l ∷ ls) a h = (small_lit max l a h.0, small_all max ls a h.1)
 
 pub ascii_text_spells : AsciiTextSpells
 ascii_text_spells p g w c =
-    let max : g.max ≤ 4194303 = c.max in
+    let max : g.max ≤ MOST_VARIABLES = c.max in
     let well = sorted_well g w in
     let low : (l : Lit) → In l (g.inputs ++ read_literals (with_sorted g)) → l.0 ≤ 2 * g.max + 1 =
     λ l i. all_in (λ x. x.0 ≤ 2 * g.max + 1) (g.inputs ++ read_literals (with_sorted g)) l (recursion_from_All (λ x. x.0 ≤ 2 * g.max + 1) (g.inputs ++ read_literals (with_sorted g)) well.in_range) i in
@@ -347,13 +348,13 @@ ascii_text_spells p g w c =
         )
 
 -- packed gates are sorted once they are written
-packed_sorted : (max left : ℕ) (xs : List Gate) → max ≤ 4194303 → left + 2 * length xs ≤ 2 * max + 2 → ArePackedGates left (map written_gate xs) → AreSorted left (map written_gate xs)
+packed_sorted : (max left : ℕ) (xs : List Gate) → max ≤ MOST_VARIABLES → left + 2 * length xs ≤ 2 * max + 2 → ArePackedGates left (map written_gate xs) → AreSorted left (map written_gate xs)
 packed_sorted max left [] a b h = tt
 packed_sorted max left (x ∷ xs) a b h = (h.0, h.1, (sorted_cases x).2, omega arith, packed_sorted max (left + 2) xs a (omega arith) h.3)
 
 pub binary_text_spells : BinaryTextSpells
 binary_text_spells p g packed c =
-    let max : g.max ≤ 4194303 = c.max in
+    let max : g.max ≤ MOST_VARIABLES = c.max in
     let full : g.max ≡ length g.inputs + length (map written_gate g.gates) = packed.max in
     let len : length (map written_gate g.gates) ≡ length g.gates = length-map g.gates written_gate in
     let gates = packed_sorted g.max (2 * length g.inputs + 2) g.gates max (omega arith) packed.gates in

@@ -3,6 +3,7 @@ use Rattle.std.specs.Prelude.{◌≡◌, ℕ, ◌+◌, ◌*◌, ◌<◌, ◌≤�
 use Rattle.std.specs.List.{find, flat_map}
 use Rattle.std.proofs.Common.{refl, sym, ap, ap₂, ◌∙◌, arith, inl, inr, ltb-true, lt-ltb}
 use Rattle.std.proofs.lemmas.Bool.{ltb-false}
+use Rattle.graph_core.specs.declared.bounds.TheConstants.{MOST_VARIABLES}
 use Rattle.graph_core.specs.declared.literal.Lit.{Lit}
 use Rattle.graph_core.specs.declared.fault.GraphFault.TheVariants.{Range}
 use Rattle.graph_core.specs.Aiger.{Listing}
@@ -50,7 +51,7 @@ shown_literals g =
     ap (λ zs. (map shown g.inputs ++ map shown g.outputs) ++ zs) (shown_three g.gates) ∙ ap (λ zs. zs ++ map shown (flat_map three g.gates)) (sym (map_append g.inputs g.outputs)) ∙
     sym (map_append (g.inputs ++ g.outputs) (flat_map three g.gates))
 
-shown_above : (g : Listing) → g.max ≤ 4194303 → first_above (shown_lists g) ≡ shown_option (first_above g)
+shown_above : (g : Listing) → g.max ≤ MOST_VARIABLES → first_above (shown_lists g) ≡ shown_option (first_above g)
 shown_above g h = ap (find (is_above (2 * g.max + 1))) (shown_literals g) ∙ find_shown (2 * g.max + 1) (omega arith) (literals g)
 
 -- ---- lists without a literal above the limit
@@ -68,7 +69,7 @@ gates_same (t ∷ ts) h =
     ap₂ ◌∷◌ (ap₂ (λ a b. (a, b, shown t.2)) (shown_same t.0 (h t.0 (inl refl))) (shown_same t.1 (h t.1 (inr (inl refl)))) ∙ ap (λ c. (t.0, t.1, c)) (shown_same t.2 (h t.2 (inr (inr (inl refl))))))
     (gates_same ts (λ x i. h x (inr (inr (inr i)))))
 
-lists_same : (g : Listing) → g.max ≤ 4194303 → first_above g ≡ None → shown_lists g ≡ g
+lists_same : (g : Listing) → g.max ≤ MOST_VARIABLES → first_above g ≡ None → shown_lists g ≡ g
 lists_same g h none =
     let low : (l : Lit) → In l (literals g) → l.0 ≤ 4294967295 = λ l i. let b = ltb-false (2 * g.max + 1) l.0 (find_none (is_above (2 * g.max + 1)) (literals g) none l i) in omega arith in
     let ins = all_same g.inputs (λ l i. low l (in_left l (g.inputs ++ g.outputs) (flat_map three g.gates) (in_left l g.inputs g.outputs i))) in
@@ -79,7 +80,7 @@ lists_same g h none =
 shown_twice : (l : Lit) → shown l ≡ shown (shown l)
 shown_twice l = let e : min l.0 4294967295 ≡ min (min l.0 4294967295) 4294967295 = omega arith in ap (λ n. record { 0 = n }) e
 
-same_fault : (g : Listing) → g.max ≤ 4194303 → (o : Option Lit) → first_above g ≡ o → (fault_of (shown_lists g) ≡ fault_of g) × (fault_of g ≡ None → shown_lists g ≡ g)
+same_fault : (g : Listing) → g.max ≤ MOST_VARIABLES → (o : Option Lit) → first_above g ≡ o → (fault_of (shown_lists g) ≡ fault_of g) × (fault_of g ≡ None → shown_lists g ≡ g)
 same_fault g h None e = let same = lists_same g h e in (ap fault_of same, λ n. same)
 same_fault g h (Some l) e =
     let here = (fault_is_found g (Range (shown l))).1 (l, e, refl) in

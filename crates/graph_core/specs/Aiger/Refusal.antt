@@ -1,6 +1,7 @@
 -- The first refusal of a graph file.
 use Rattle.std.specs.Prelude.{◌≡◌, ℕ, ◌+◌, ◌*◌, ◌%◌, ◌<◌, ◌≤◌, ◌⊎◌, not, ◌&&◌, ◌||◌, List, [], ◌∷◌, ◌++◌, map, length, take, codes, if◌then◌else◌, ◌==◌, nat_lt, Bool, slice_index, zero, suc, min, ◌≢◌, ◌↔◌, Option, None, Some}
 use Rattle.std.specs.List.{find, flat_map, list_any, list_all, concat, AllByRecursion, AllPairs}
+use Rattle.graph_core.specs.declared.bounds.TheConstants.{MOST_VARIABLES}
 use Rattle.graph_core.specs.declared.literal.Lit.{Lit}
 use Rattle.graph_core.specs.declared.gate.Gate.{Gate}
 use Rattle.graph_core.specs.declared.profile.Profile.{Profile}
@@ -118,7 +119,7 @@ has_wrong_outputs p i o = o == 0 || nat_lt (most_outputs p i) o
 -- The fields in their order, each with whether it is refused.
 abbrev pub fields : Profile → Form → List ℕ → List (Field × Bool)
 fields p form (m ∷ i ∷ l ∷ o ∷ a ∷ others) =
-    (field.M, nat_lt 4194303 m) ∷ (field.I, has_wrong_inputs p i) ∷ (field.L, not (l == 0)) ∷
+    (field.M, nat_lt MOST_VARIABLES m) ∷ (field.I, has_wrong_inputs p i) ∷ (field.L, not (l == 0)) ∷
     (field.O, has_wrong_outputs p i o) ∷ (field.A, has_wrong_room form m (i + a)) ∷
     zero_fields (field.B ∷ field.C ∷ field.J ∷ field.F ∷ []) others
 fields p form _ = []
@@ -248,4 +249,4 @@ shown_lists g = record { max = g.max; inputs = map shown g.inputs; outputs = map
 
 -- They have the same first fault, and are the same lists where there is none.
 abbrev pub ShownFaults : Type 0
-ShownFaults = (g : Listing) → g.max ≤ 4194303 → (fault_of (shown_lists g) ≡ fault_of g) × (fault_of g ≡ None → shown_lists g ≡ g)
+ShownFaults = (g : Listing) → g.max ≤ MOST_VARIABLES → (fault_of (shown_lists g) ≡ fault_of g) × (fault_of g ≡ None → shown_lists g ≡ g)

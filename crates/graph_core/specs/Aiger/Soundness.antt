@@ -1,5 +1,6 @@
 -- What a vanishing specification means for the graph that a text spells.
 use Rattle.std.specs.Prelude.{◌≡◌, ℕ, ◌≤◌, List, length}
+use Rattle.graph_core.specs.declared.bounds.TheConstants.{MOST_VARIABLES, MOST_INPUTS, MOST_OUTPUTS}
 use Rattle.graph_core.specs.declared.order.Order.{Order}
 use Rattle.graph_core.specs.declared.profile.Profile.{Profile}
 use Rattle.graph_core.specs.declared.profile.Profile.TheVariants.{Multiplier, MultiplyAdd, Any}
@@ -25,21 +26,21 @@ pub record IsMultiplierSized (g : Aig) : Type 0 where
   pub shape : HasMultiplierShape g
   pub some : 1 ≤ width g
   pub narrow : width g ≤ 64
-  pub small : g.max ≤ 4194303
+  pub small : g.max ≤ MOST_VARIABLES
 
 -- With an addend it has such operands too.
 pub record IsSumSized (g : Aig) : Type 0 where
   pub shape : HasSumShape g
   pub some : 1 ≤ sum_width g
   pub narrow : sum_width g ≤ 64
-  pub small : g.max ≤ 4194303
+  pub small : g.max ≤ MOST_VARIABLES
 
--- Any graph has at most 256 inputs, and 1 to 256 outputs.
+-- Any graph is within the bounds, and has an output.
 pub record IsBounded (g : Aig) : Type 0 where
-  pub few_inputs : length g.inputs ≤ 256
+  pub few_inputs : length g.inputs ≤ MOST_INPUTS
   pub some_outputs : 1 ≤ length g.outputs
-  pub few_outputs : length g.outputs ≤ 256
-  pub small : g.max ≤ 4194303
+  pub few_outputs : length g.outputs ≤ MOST_OUTPUTS
+  pub small : g.max ≤ MOST_VARIABLES
 
 abbrev pub IsSizedAs : Profile → Aig → Type 0
 IsSizedAs Multiplier g = IsMultiplierSized g
