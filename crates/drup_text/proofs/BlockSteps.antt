@@ -1,27 +1,29 @@
--- The lines of a header of version 2, one behind the other: what passes, and the first refusal.
-use Rattle.std.specs.Prelude.{◌≡◌, ◌+◌, ◌<◌, ℕ, zero, suc, Bool, List, [], ◌∷◌, ◌++◌, length, IfSome}
+-- The lines of a cut, of a block and of blocks, one behind the other: what passes, and the first refusal.
+use Rattle.std.specs.Prelude.{◌≡◌, ◌⊎◌, ◌+◌, ◌<◌, ℕ, zero, suc, Bool, List, [], ◌∷◌, ◌++◌, ◌≤◌, length, IfOk, Result, Ok, Err}
+use Rattle.std.specs.Global.{Global}
 use Rattle.std.specs.declared.option.Option.{Option}
 use Rattle.std.specs.declared.option.Option.TheVariants.{None, Some}
+use Rattle.std.specs.declared.vec.Vec.{Vec}
 use Rattle.std.specs.List.{All}
-use Rattle.std.proofs.Common.{refl, sym, ap, subst, ◌∙◌, arith, append_assoc, inl, inr, ⊎_elim}
-use Rattle.mv_text.specs.declared.line_fail.LineFail.{LineFail}
+use Rattle.std.proofs.Common.{refl, sym, ap, subst, ◌∙◌, arith, append_assoc, inl, inr, length-append, ⊎_elim}
 use Rattle.graph_core.specs.declared.literal.Lit.{Lit}
 use Rattle.graph_core.specs.Graph.{Aig}
 use Rattle.graph_core.specs.Graph.Extended.{Extended, without_cut}
-use Rattle.graph_core.specs.Text.JudgedLines.{Behind}
+use Rattle.graph_core.specs.Text.JudgedLines.{BeginsWith, Behind, Unless}
 use Rattle.graph_core.proofs.OfTexts.CallerLemmas.{behind_map}
-use Rattle.mv_text.specs.LineReading.{Lines}
+use Rattle.mv_desk.specs.View.{View}
+use Rattle.mv_text.specs.CertificateFiles.{BeginsWithNone, FileState}
+use Rattle.mv_text.specs.declared.line_fail.LineFail.{LineFail}
 use Rattle.ripple_graft.specs.declared.block.Block.{Block}
+use Rattle.ripple_graft.specs.declared.cut.Cut.{Cut}
 use Rattle.ripple_graft.specs.Blocks.{AreBlocks, IsBlock, graft_all, graft_block}
-use Rattle.drup_text.specs.ClauseTexts.{IsBlockLine, IsCountLine, IsPairLine}
-use Rattle.mv_text.specs.CertificateFiles.{IsLineRefusal, TakesText}
-use Rattle.drup_text.specs.PassingHeaders.{IsCause, PassBlocks, PassesBlock, block_lines}
-use Rattle.drup_text.specs.HeaderRefusal.{Later, LineCause, IsPairStep, IsRefusedBehindPairs, IsRefusedBlock, IsRefusedBlocks, IsRefusedCount, IsRefusedPairs, block_at, nothing_later}
-use Rattle.drup_text.specs.HeaderSteps.{IsLongIn, Leaves, TakesBlock, TakesBlocks, TakesCount, TakesPairs}
+use Rattle.drup_text.specs.ClauseTexts.{IsBlockLine, IsCountLine, IsCutLine, IsPairLine}
+use Rattle.drup_text.specs.PassingHeaders.{PassBlocks, PassesBlock, PassesCount, PassesCut, block_lines}
+use Rattle.drup_text.specs.HeaderRefusal.{Later, LineCause, IsPairStep, IsRefusedBehindCut, IsRefusedBehindPairs, IsRefusedBlock, IsRefusedBlocks, IsRefusedCount, IsRefusedCut, IsRefusedPairs, Range, Text, TooLong, block_at, cut_at, nothing_later}
+use Rattle.drup_text.specs.HeaderSteps.{Part, ReadsPart, blocks_part, count_part, line_part, pairs_part}
 use Rattle.drup_text.specs.Headers.{head_of}
-use Rattle.drup_text.specs.LineTexts.{IsBlockTextOf, IsCountInRange, IsCountTextOf, IsHeadOf, IsPairOf}
-use Rattle.mv_text.proofs.CallerLemmas.{told_from}
-use Rattle.drup_text.proofs.HeaderSteps.{cause_behind, line_cause, over_all}
+use Rattle.drup_text.specs.LineTexts.{IsCountInRange, IsHeadOf, IsPairOf, IsSizeInRange}
+use Rattle.drup_text.proofs.HeaderSteps.{part_behind, refused_behind}
 
 -- ---- more is refused behind a block where more is refused later
 
@@ -80,140 +82,76 @@ pub block_passes_on : (later : Later) (IsLong : List ℕ → Type 0) (x : Extend
 block_passes_on later IsLong x number bytes b body p h refused =
     inr (h.1, inr (head_of b, h.0, h.2, inr (h.3, pairs_pass_on later (block_at x (head_of b)) x IsLong (number + 1) b.cut.pairs h.0 body p h.4 refused)))
 
--- ---- a block
+-- the pairs that were read, as a cut has them
+pairs_of : (x : Extended) (IsLong : List ℕ → Type 0) (mine : List (Lit × Lit)) (count : ℕ) (pairs : Vec (Lit × Lit) Global) → mine ≡ pairs.items → length pairs.items ≡ count → (bytes body : List ℕ) → (pairs_part x count).passes IsLong bytes pairs body →
+    Behind IsPairLine (IsPairStep x) IsLong (λ n rest. (n ≡ 0) × (rest ≡ body)) mine (length mine) bytes
+pairs_of x IsLong mine count pairs same many bytes body h =
+    subst (λ ps. Behind IsPairLine (IsPairStep x) IsLong (λ n rest. (n ≡ 0) × (rest ≡ body)) ps (length ps) bytes) (sym same)
+    (subst (λ n. Behind IsPairLine (IsPairStep x) IsLong (λ n rest. (n ≡ 0) × (rest ≡ body)) pairs.items n bytes) (sym many) h)
 
--- a pair of a block is refused
-pub block_refused : (x : Extended) (old mid : Lines) (before left : Option (List ℕ)) (number : ℕ) (h : ℕ × ℕ × Bool) (first then last line : ℕ) (f : LineFail) → mid.lengths ≡ old.lengths → then ≡ first →
-    IfSome before (λ bytes. TakesText (IsBlockTextOf x) old mid bytes left h) → IsCause (λ bytes. IsRefusedPairs nothing_later (block_at x h) x (IsLongIn mid bytes) (number + 1) h.1 bytes) left then last line f →
-    IsCause (λ bytes. IsRefusedBlock nothing_later (IsLongIn old bytes) x number bytes) before first last line f
-block_refused x old mid before left number h first then last line f lengths same takes refused =
-    cause_behind (λ bytes. IsRefusedBlock nothing_later (IsLongIn old bytes) x number bytes) (λ bytes. IsRefusedPairs nothing_later (block_at x h) x (IsLongIn mid bytes) (number + 1) h.1 bytes) before left first then last line f same
-    (told_from before (λ bytes. TakesText (IsBlockTextOf x) old mid bytes left h)
-    (λ bytes. (rest : List ℕ) × (left ≡ Some rest) × ((p : ℕ × LineCause) → IsRefusedPairs nothing_later (block_at x h) x (IsLongIn mid rest) (number + 1) h.1 rest p → IsRefusedBlock nothing_later (IsLongIn old bytes) x number bytes p))
-    (λ bytes e t. (
-      t.rest,
-      t.left_is,
-      λ p r. inr (t.short, inr (h, t.rest, (t.begins.0, t.begins.1.0, t.begins.2), inr (t.begins.1.1, over_all (λ IsLong. IsRefusedPairs nothing_later (block_at x h) x IsLong (number + 1) h.1 t.rest p) old mid bytes t.rest lengths t.taken r))),
-    )) takes)
-    refused
+-- ---- a line, and what is behind it
 
--- its own line is
-pub head_refused : (x : Extended) (lines : Lines) (left : Option (List ℕ)) (first last number : ℕ) (f : LineFail) → IsLineRefusal IsBlockLine (IsHeadOf x) lines left first last f →
-    IsCause (λ bytes. IsRefusedBlock nothing_later (IsLongIn lines bytes) x number bytes) left first last number f
-head_refused x lines left first last number f h =
-    line_cause IsBlockLine (IsHeadOf x) (λ bytes. IsRefusedBlock nothing_later (IsLongIn lines bytes) x number bytes) lines left first last number f
-    (λ bytes long. inl (long, refl)) (λ bytes short none. inr (short, inl (none, refl))) (λ bytes short out. inr (short, inr (out.0, out.1, out.2, inl (out.3, refl)))) h
+-- it is refused, whatever is behind it
+pub front_refused : {X : Type 0} (IsText : List ℕ → X → Type 0) (InRange : X → Type 0) (Then : X → List ℕ → ℕ × LineCause → Type 0) (IsLong : List ℕ → Type 0) (n : ℕ) (bytes : List ℕ) (p : ℕ × LineCause) →
+    (line_part IsText InRange).refused IsLong n bytes p → Unless (¬ (IsLong bytes)) (IsLong bytes) (n, TooLong)
+    (λ q. (BeginsWithNone IsText bytes × (q ≡ (n, Text))) ⊎ ((x : X) × (rest : List ℕ) × BeginsWith IsText bytes x rest × Unless (InRange x) (¬ (InRange x)) (n, Range) (Then x rest) q)) p
+front_refused IsText InRange Then IsLong n bytes p h =
+    ⊎_elim (λ f. inl f) (λ s. inr (s.0, ⊎_elim (λ none. inl none) (λ o. inr (o.0.0, o.0.1, o.0.2, inl (o.0.3, o.1))) s.1)) h
 
--- a block's line and its pairs pass
-pub block_taken : (x : Extended) (b : Block) (count : ℕ) (old mid new : Lines) (before left after : Option (List ℕ)) → length b.cut.pairs ≡ count → mid.lengths ≡ old.lengths →
-    IfSome before (λ bytes. TakesText (IsBlockTextOf x) old mid bytes left (b.cut.lo, count, b.carry)) → IfSome left (λ bytes. TakesPairs x count mid new bytes after b.cut.pairs) → IfSome before (λ bytes. TakesBlock x old new bytes after b)
-block_taken x b count old mid new before left after many lengths takes pairs =
-    told_from before (λ bytes. TakesText (IsBlockTextOf x) old mid bytes left (b.cut.lo, count, b.carry)) (λ bytes. TakesBlock x old new bytes after b) (λ bytes e t.
-    let p = subst (λ o. IfSome o (λ z. TakesPairs x count mid new z after b.cut.pairs)) t.left_is pairs in
-    let head = subst (λ n. IsBlockTextOf x t.begins.0 (b.cut.lo, n, b.carry)) (sym many) t.begins.1 in
-    let all : Behind IsPairLine (IsPairStep x) (IsLongIn mid t.rest) (λ n rest. (n ≡ 0) × (rest ≡ p.0)) b.cut.pairs (length b.cut.pairs) t.rest =
-    subst (λ n. Behind IsPairLine (IsPairStep x) (IsLongIn mid t.rest) (λ n rest. (n ≡ 0) × (rest ≡ p.0)) b.cut.pairs n t.rest) (sym many) p.1 in
-    let here = t.taken in
-    let behind = p.2.taken in (
-      p.0,
-      (
-        t.rest,
-        t.short,
-        (t.begins.0, head.0, t.begins.2),
-        head.1,
-        over_all (λ IsLong. Behind IsPairLine (IsPairStep x) IsLong (λ n rest. (n ≡ 0) × (rest ≡ p.0)) b.cut.pairs (length b.cut.pairs) t.rest) old mid bytes t.rest lengths t.taken all,
-      ),
-      record { left_is = p.2.left_is; taken = behind ∙ here },
-    )) takes
+-- ---- the cut's line and its pairs
 
--- and the block fits
+module _ (g : Aig) (IsLong : List ℕ → Type 0) where
+  abbrev cut_line : Part (Option (ℕ × ℕ))
+  cut_line = line_part IsCutLine (IsSizeInRange (length g.outputs))
+
+  pub no_cut : (bytes body : List ℕ) → cut_line.passes IsLong bytes None body → PassesCut g IsLong bytes None body
+  no_cut bytes body l = (l.0, l.1)
+
+  pub cut_joined : (cut : Cut) (count : ℕ) (pairs : Vec (Lit × Lit) Global) → cut.pairs ≡ pairs.items → length pairs.items ≡ count → (bytes rest body : List ℕ) → cut_line.passes IsLong bytes (Some (cut.lo, count)) rest →
+      (pairs_part (without_cut g) count).passes IsLong rest pairs body → PassesCut g IsLong bytes (Some cut) body
+  cut_joined cut count pairs same many bytes rest body l h =
+      let n = ap length same ∙ many in
+      let k = subst (λ m. cut_line.passes IsLong bytes (Some (cut.lo, m)) rest) (sym n) l in
+      (rest, k.0, k.1, k.2, pairs_of (without_cut g) IsLong cut.pairs count pairs same many rest body h)
+
+  pub cut_refused : (number lo count : ℕ) → number ≡ 1 → (bytes rest : List ℕ) (p : ℕ × LineCause) → cut_line.passes IsLong bytes (Some (lo, count)) rest → (pairs_part (without_cut g) count).refused IsLong (number + 1 + 1) rest p →
+      IsRefusedCut nothing_later g IsLong bytes p
+  cut_refused number lo count first bytes rest p l r =
+      inr (l.0, inr (Some (lo, count), rest, l.1, inr (l.2, subst (λ n. IsRefusedPairs nothing_later (cut_at g lo) (without_cut g) IsLong n count rest p) (omega (arith, first)) (r (cut_at g lo)))))
+
+  pub size_refused : (number : ℕ) → number ≡ 1 → (bytes : List ℕ) (p : ℕ × LineCause) → cut_line.refused IsLong (number + 1) bytes p → IsRefusedCut nothing_later g IsLong bytes p
+  size_refused number first bytes p h =
+      ⊎_elim (λ f. inl f) (λ s. inr (s.0, ⊎_elim (λ none. inl none) (λ o. inr (o.0.0, o.0.1, o.0.2, out o.0.0 o.0.1 o.0.3 o.1)) s.1))
+      (subst (λ n. cut_line.refused IsLong n bytes p) (ap (λ n. n + 1) first) h)
+    where
+      out : (size : Option (ℕ × ℕ)) (rest : List ℕ) → ¬ (IsSizeInRange (length g.outputs) size) → p ≡ (2, Range) → IsRefusedBehindCut nothing_later g IsLong size rest p
+      out None rest none is = absurd (none tt)
+      out (Some n) rest none is = inl (none, is)
+
+-- ---- a block's line and its pairs
+
+module _ (x : Extended) (IsLong : List ℕ → Type 0) where
+  abbrev head_line : Part (ℕ × ℕ × Bool)
+  head_line = line_part IsBlockLine (IsHeadOf x)
+
+  pub block_joined : (b : Block) (count : ℕ) (pairs : Vec (Lit × Lit) Global) → b.cut.pairs ≡ pairs.items → length pairs.items ≡ count → (bytes rest body : List ℕ) → head_line.passes IsLong bytes (b.cut.lo, count, b.carry) rest →
+      (pairs_part x count).passes IsLong rest pairs body → PassesBlock IsLong x bytes b body
+  block_joined b count pairs same many bytes rest body l h =
+      let n = ap length same ∙ many in
+      let k = subst (λ m. head_line.passes IsLong bytes (b.cut.lo, m, b.carry) rest) (sym n) l in
+      (rest, k.0, k.1, k.2, pairs_of x IsLong b.cut.pairs count pairs same many rest body h)
+
+  pub block_refused : (number : ℕ) (h : ℕ × ℕ × Bool) (bytes rest : List ℕ) (p : ℕ × LineCause) → head_line.passes IsLong bytes h rest → (pairs_part x h.1).refused IsLong (number + 1 + 1) rest p → IsRefusedBlock nothing_later IsLong x (number + 1) bytes p
+  block_refused number h bytes rest p l r = inr (l.0, inr (h, rest, l.1, inr (l.2, r (block_at x h))))
+
+  pub head_refused : (number : ℕ) (bytes : List ℕ) (p : ℕ × LineCause) → head_line.refused IsLong number bytes p → IsRefusedBlock nothing_later IsLong x number bytes p
+  head_refused number bytes p h = front_refused IsBlockLine (IsHeadOf x) (λ k rest. IsRefusedPairs nothing_later (block_at x k) x IsLong (number + 1) k.1 rest) IsLong number bytes p h
+
+-- a block of a line and its pairs fits
 pub block_fits : (x : Extended) (b : Block) (count : ℕ) → length b.cut.pairs ≡ count → IsHeadOf x (b.cut.lo, count, b.carry) → All (IsPairOf x) b.cut.pairs → IsBlock x b
 block_fits x b count many h known =
     let k : IsHeadOf x (b.cut.lo, length b.cut.pairs, b.carry) = subst (λ n. IsHeadOf x (b.cut.lo, n, b.carry)) (sym many) h in
     record { some = k.some; within = k.within; apart = k.apart; known = known }
-
--- ---- the loop over blocks
-
--- So many blocks passed, and these bytes are left: what passes or is refused from here on does so from the first one on.
-pub record BlocksSoFar (start x : Extended) (count i number : ℕ) (old now : Lines) (bytes : List ℕ) (after : Option (List ℕ)) (blocks : List Block) : Type 0 where
-  pub rest : List ℕ
-  pub leaves : Leaves old now bytes after rest
-  pub passes : (more : List Block) (body : List ℕ) → PassBlocks (IsLongIn old bytes) x rest more body → PassBlocks (IsLongIn old bytes) start bytes (blocks ++ more) body
-  pub refuses : (left : ℕ) (p : ℕ × LineCause) → left + i ≡ count → IsRefusedBlocks nothing_later (IsLongIn old bytes) left x number rest p → IsRefusedBlocks nothing_later (IsLongIn old bytes) count start 3 bytes p
-
-blocks_start : (start : Extended) (count : ℕ) (lines : Lines) (left : Option (List ℕ)) → IfSome left (λ bytes. BlocksSoFar start start count 0 3 lines lines bytes left [])
-blocks_start start count lines left = none left refl
-  where
-    one : (bytes : List ℕ) → left ≡ Some bytes → BlocksSoFar start start count 0 3 lines lines bytes left []
-    one bytes is = record {
-      rest = bytes;
-      leaves = record { left_is = is; taken = refl };
-      passes = λ more body h. h;
-      refuses = λ n p same h. subst (λ k. IsRefusedBlocks nothing_later (IsLongIn lines bytes) k start 3 bytes p) (omega arith) h;
-    }
-
-    none : (o : Option (List ℕ)) → left ≡ o → IfSome o (λ bytes. BlocksSoFar start start count 0 3 lines lines bytes left [])
-    none None is = tt
-    none (Some bytes) is = one bytes is
-
-pub blocks_begin : (start x : Extended) (count : ℕ) (lines : Lines) (left : Option (List ℕ)) (blocks : List Block) → x ≡ start → blocks ≡ [] → IfSome left (λ bytes. BlocksSoFar start x count 0 3 lines lines bytes left blocks)
-blocks_begin start x count lines left blocks same none =
-    subst (λ (y : Extended). IfSome left (λ bytes. BlocksSoFar start y count 0 3 lines lines bytes left blocks)) (sym same)
-    (subst (λ bs. IfSome left (λ bytes. BlocksSoFar start start count 0 3 lines lines bytes left bs)) (sym none) (blocks_start start count lines left))
-
-block_on : (start x next : Extended) (count i number : ℕ) (old now new : Lines) (bytes : List ℕ) (left after : Option (List ℕ)) (blocks : List Block) (b : Block) → i < count → now.lengths ≡ old.lengths → next ≡ graft_block x b →
-    BlocksSoFar start x count i number old now bytes left blocks → IfSome left (λ rest. TakesBlock x now new rest after b) → BlocksSoFar start next count (i + 1) (number + 1 + length b.cut.pairs) old new bytes after (blocks ++ b ∷ [])
-block_on start x next count i number old now new bytes left after blocks b early lengths next_is so_far takes =
-    let t = subst (λ o. IfSome o (λ rest. TakesBlock x now new rest after b)) so_far.leaves.left_is takes in
-    let here = so_far.leaves.taken in
-    let behind = t.2.taken in
-    let all : PassesBlock (IsLongIn old bytes) x so_far.rest b t.0 = over_all (λ IsLong. PassesBlock IsLong x so_far.rest b t.0) old now bytes so_far.rest lengths here t.1 in
-    record {
-      rest = t.0;
-      leaves = record { left_is = t.2.left_is; taken = behind ∙ here };
-      passes = λ more body h. subst (λ bs. PassBlocks (IsLongIn old bytes) start bytes bs body) (sym (append_assoc blocks (b ∷ []) more))
-          (so_far.passes (b ∷ more) body (t.0, all, subst (λ (y : Extended). PassBlocks (IsLongIn old bytes) y t.0 more body) next_is h));
-      refuses = λ n p same h. so_far.refuses (suc n) p (omega arith)
-          (block_passes_on (IsRefusedBlocks nothing_later (IsLongIn old bytes) n) (IsLongIn old bytes) x number so_far.rest b t.0 p all
-          (subst (λ (y : Extended). IsRefusedBlocks nothing_later (IsLongIn old bytes) n y (number + 1 + length b.cut.pairs) t.0 p) next_is h));
-    }
-
-pub blocks_on : (start x next : Extended) (count i number line : ℕ) (old now new : Lines) (before left after : Option (List ℕ)) (blocks longer : List Block) (b : Block) → i < count → now.lengths ≡ old.lengths → next ≡ graft_block x b →
-    longer ≡ blocks ++ b ∷ [] → line ≡ number + 1 + length b.cut.pairs → IfSome before (λ bytes. BlocksSoFar start x count i number old now bytes left blocks) → IfSome left (λ rest. TakesBlock x now new rest after b) →
-    IfSome before (λ bytes. BlocksSoFar start next count (i + 1) line old new bytes after longer)
-blocks_on start x next count i number line old now new before left after blocks longer b early lengths next_is more line_is so_far takes =
-    told_from before (λ bytes. BlocksSoFar start x count i number old now bytes left blocks) (λ bytes. BlocksSoFar start next count (i + 1) line old new bytes after longer)
-    (λ bytes e s. subst (λ n. BlocksSoFar start next count (i + 1) n old new bytes after longer) (sym line_is)
-    (subst (BlocksSoFar start next count (i + 1) (number + 1 + length b.cut.pairs) old new bytes after) (sym more) (block_on start x next count i number old now new bytes left after blocks b early lengths next_is s takes))) so_far
-
-append_none : {X : Type 0} (xs : List X) → xs ++ [] ≡ xs
-append_none [] = refl
-append_none (x ∷ xs) = ap (λ ys. x ∷ ys) (append_none xs)
-
-pub blocks_end : (start x : Extended) (count i number : ℕ) (old now : Lines) (before after : Option (List ℕ)) (blocks : List Block) → IfSome before (λ bytes. BlocksSoFar start x count i number old now bytes after blocks) →
-    IfSome before (λ bytes. TakesBlocks start old now bytes after blocks)
-blocks_end start x count i number old now before after blocks so_far =
-    told_from before (λ bytes. BlocksSoFar start x count i number old now bytes after blocks) (λ bytes. TakesBlocks start old now bytes after blocks)
-    (λ bytes e s. (s.rest, subst (λ bs. PassBlocks (IsLongIn old bytes) start bytes bs s.rest) (append_none blocks) (s.passes [] s.rest refl), s.leaves)) so_far
-
--- a block is refused
-pub blocks_refused : (start x : Extended) (count i number line : ℕ) (old now : Lines) (before left : Option (List ℕ)) (blocks : List Block) (first mid last : ℕ) (f : LineFail) → i < count → now.lengths ≡ old.lengths → mid ≡ first →
-    IfSome before (λ bytes. BlocksSoFar start x count i number old now bytes left blocks) → IsCause (λ bytes. IsRefusedBlock nothing_later (IsLongIn now bytes) x number bytes) left mid last line f →
-    IsCause (λ bytes. IsRefusedBlocks nothing_later (IsLongIn old bytes) count start 3 bytes) before first last line f
-blocks_refused start x count i number line old now before left blocks first mid last f early lengths same so_far h =
-    cause_behind (λ bytes. IsRefusedBlocks nothing_later (IsLongIn old bytes) count start 3 bytes) (λ bytes. IsRefusedBlock nothing_later (IsLongIn now bytes) x number bytes) before left first mid last line f same
-    (told_from before (λ bytes. BlocksSoFar start x count i number old now bytes left blocks)
-    (λ bytes. (rest : List ℕ) × (left ≡ Some rest) × ((p : ℕ × LineCause) → IsRefusedBlock nothing_later (IsLongIn now rest) x number rest p → IsRefusedBlocks nothing_later (IsLongIn old bytes) count start 3 bytes p))
-    (λ bytes e s. (s.rest, s.leaves.left_is, λ p r. go bytes s p (over_all (λ IsLong. IsRefusedBlock nothing_later IsLong x number s.rest p) old now bytes s.rest lengths s.leaves.taken r))) so_far)
-    h
-  where
-    some_left : (i count : ℕ) → i < count → (n : ℕ) × (suc n + i ≡ count)
-    some_left i zero h = absurd (omega arith)
-    some_left zero (suc count) h = (count, omega arith)
-    some_left (suc i) (suc count) h = let more = some_left i count (omega arith) in let same = more.1 in (more.0, omega arith)
-
-    go : (bytes : List ℕ) (s : BlocksSoFar start x count i number old now bytes left blocks) (p : ℕ × LineCause) → IsRefusedBlock nothing_later (IsLongIn old bytes) x number s.rest p → IsRefusedBlocks nothing_later (IsLongIn old bytes) count start 3 bytes p
-    go bytes s p r = let n = some_left i count early in s.refuses (suc n.0) p n.1 (block_whatever (IsRefusedBlocks nothing_later (IsLongIn old bytes) n.0) (IsLongIn old bytes) x number s.rest p r)
 
 pub blocks_more_fit : (start x : Extended) (blocks : List Block) (b : Block) → AreBlocks start blocks → x ≡ graft_all start blocks → IsBlock x b → AreBlocks start (blocks ++ b ∷ [])
 blocks_more_fit start x [] b fit is one = (subst (λ (y : Extended). IsBlock y b) is one, tt)
@@ -227,37 +165,92 @@ pub lines_more : (own : ℕ) (blocks : List Block) (b : Block) → block_lines o
 lines_more own [] b = omega arith
 lines_more own (c ∷ blocks) b = let more = lines_more own blocks b in omega arith
 
+some_left : (i count : ℕ) → i < count → (n : ℕ) × (suc n + i ≡ count)
+some_left i zero h = absurd (omega arith)
+some_left zero (suc count) h = (count, omega arith)
+some_left (suc i) (suc count) h = let more = some_left i count (omega arith) in let same = more.1 in (more.0, omega arith)
+
+-- ---- the loop over blocks
+
+-- Where so many of the blocks that are to come passed: what passes or is refused from here on does so from the first one on.
+abbrev pub blocks_so_far : Extended → ℕ → Part (Vec Block Global)
+blocks_so_far start count = record {
+  passes = λ IsLong bytes blocks rest.
+      ((more : List Block) (body : List ℕ) → PassBlocks IsLong (graft_all start blocks.items) rest more body → PassBlocks IsLong start bytes (blocks.items ++ more) body) ×
+      ((number left : ℕ) (p : ℕ × LineCause) → left + length blocks.items ≡ count → IsRefusedBlocks nothing_later IsLong left (graft_all start blocks.items) (number + block_lines 1 blocks.items) rest p →
+      IsRefusedBlocks nothing_later IsLong count start number bytes p);
+  refused = λ IsLong number bytes p. ⊥;
+  lines = λ blocks. block_lines 1 blocks.items;
+}
+
+pub no_blocks : (start : Extended) (count : ℕ) (none : Vec Block Global) → none.items ≡ [] → (IsLong : List ℕ → Type 0) (bytes : List ℕ) → (blocks_so_far start count).passes IsLong bytes none bytes
+no_blocks start count none is IsLong bytes =
+    subst (λ bs. ((more : List Block) (body : List ℕ) → PassBlocks IsLong (graft_all start bs) bytes more body → PassBlocks IsLong start bytes (bs ++ more) body) ×
+    ((number left : ℕ) (p : ℕ × LineCause) → left + length bs ≡ count → IsRefusedBlocks nothing_later IsLong left (graft_all start bs) (number + block_lines 1 bs) bytes p → IsRefusedBlocks nothing_later IsLong count start number bytes p)) (sym is) (
+      λ more body h. h,
+      λ number left p n h. subst (λ k. IsRefusedBlocks nothing_later IsLong count start k bytes p) (omega arith) (subst (λ k. IsRefusedBlocks nothing_later IsLong k start (number + 0) bytes p) (omega (arith, n)) h),
+    )
+
+module _ (start x : Extended) (count : ℕ) (blocks : Vec Block Global) (early : length blocks.items < count) (is : x ≡ graft_all start blocks.items) (IsLong : List ℕ → Type 0) (bytes rest : List ℕ)
+    (so_far : (blocks_so_far start count).passes IsLong bytes blocks rest) where
+  -- one more passes
+  pub block_on : (longer : Vec Block Global) (b : Block) (body : List ℕ) → longer.items ≡ blocks.items ++ b ∷ [] → PassesBlock IsLong x rest b body → (blocks_so_far start count).passes IsLong bytes longer body
+  block_on longer b body made here =
+      let all : PassesBlock IsLong (graft_all start blocks.items) rest b body = subst (λ (y : Extended). PassesBlock IsLong y rest b body) is here in
+      let grafted : graft_all start longer.items ≡ graft_block (graft_all start blocks.items) b = ap (graft_all start) made ∙ sym (blocks_more_made start (graft_all start blocks.items) (graft_block (graft_all start blocks.items) b) blocks.items b refl refl) in
+      let many : length longer.items ≡ length blocks.items + 1 = ap length made ∙ length-append blocks.items (b ∷ []) in
+      let lines : block_lines 1 longer.items ≡ block_lines 1 blocks.items + (1 + length b.cut.pairs) = ap (block_lines 1) made ∙ lines_more 1 blocks.items b in (
+        λ more end h. subst (λ bs. PassBlocks IsLong start bytes bs end) (sym (ap (λ bs. bs ++ more) made ∙ append_assoc blocks.items (b ∷ []) more))
+            (so_far.0 (b ∷ more) end (body, all, subst (λ (y : Extended). PassBlocks IsLong y body more end) grafted h)),
+        λ number left p n h. so_far.1 number (suc left) p (omega (arith, n, many))
+            (block_passes_on (IsRefusedBlocks nothing_later IsLong left) IsLong (graft_all start blocks.items) (number + block_lines 1 blocks.items) rest b body p all
+            (subst (λ k. IsRefusedBlocks nothing_later IsLong left (graft_block (graft_all start blocks.items) b) k body p) (omega (arith, lines))
+            (subst (λ (y : Extended). IsRefusedBlocks nothing_later IsLong left y (number + block_lines 1 longer.items) body p) grafted h))),
+      )
+
+  -- one more is refused
+  pub blocks_refused : (first : ℕ) (p : ℕ × LineCause) → IsRefusedBlock nothing_later IsLong x (first + block_lines 1 blocks.items + 1) rest p → IsRefusedBlocks nothing_later IsLong count start (first + 1) bytes p
+  blocks_refused first p r =
+      let n = some_left (length blocks.items) count early in
+      let number : first + block_lines 1 blocks.items + 1 ≡ first + 1 + block_lines 1 blocks.items = omega arith in
+      so_far.1 (first + 1) (suc n.0) p n.1
+      (block_whatever (IsRefusedBlocks nothing_later IsLong n.0) IsLong (graft_all start blocks.items) (first + 1 + block_lines 1 blocks.items) rest p
+      (subst (λ k. IsRefusedBlock nothing_later IsLong (graft_all start blocks.items) k rest p) number (subst (λ (y : Extended). IsRefusedBlock nothing_later IsLong y (first + block_lines 1 blocks.items + 1) rest p) is r)))
+
+append_none : {X : Type 0} (xs : List X) → xs ++ [] ≡ xs
+append_none [] = refl
+append_none (x ∷ xs) = ap (λ ys. x ∷ ys) (append_none xs)
+
+-- all passed
+pub blocks_all : (start : Extended) (count : ℕ) (blocks : Vec Block Global) (IsLong : List ℕ → Type 0) (bytes body : List ℕ) → (blocks_so_far start count).passes IsLong bytes blocks body → PassBlocks IsLong start bytes blocks.items body
+blocks_all start count blocks IsLong bytes body h = subst (λ bs. PassBlocks IsLong start bytes bs body) (append_none blocks.items) (h.0 [] body refl)
+
 -- ---- the number of blocks, and they
 
-pub count_refused : (g : Aig) (lines : Lines) (left : Option (List ℕ)) (first last : ℕ) (f : LineFail) → IsLineRefusal IsCountLine (IsCountInRange (length g.outputs)) lines left first last f →
-    IsCause (λ bytes. IsRefusedCount nothing_later g (IsLongIn lines bytes) bytes) left first last 2 f
-count_refused g lines left first last f h =
-    line_cause IsCountLine (IsCountInRange (length g.outputs)) (λ bytes. IsRefusedCount nothing_later g (IsLongIn lines bytes) bytes) lines left first last 2 f
-    (λ bytes long. inl (long, refl)) (λ bytes short none. inr (short, inl (none, refl))) (λ bytes short out. inr (short, inr (out.0, out.1, out.2, inl (out.3, refl)))) h
+module _ (g : Aig) (IsLong : List ℕ → Type 0) where
+  abbrev count_line : Part ℕ
+  count_line = line_part IsCountLine (IsCountInRange (length g.outputs))
 
-pub counted_refused : (g : Aig) (count : ℕ) (old mid : Lines) (before left : Option (List ℕ)) (first then last line : ℕ) (f : LineFail) → mid.lengths ≡ old.lengths → then ≡ first →
-    IfSome before (λ bytes. TakesText (IsCountTextOf (length g.outputs)) old mid bytes left count) → IsCause (λ bytes. IsRefusedBlocks nothing_later (IsLongIn mid bytes) count (without_cut g) 3 bytes) left then last line f →
-    IsCause (λ bytes. IsRefusedCount nothing_later g (IsLongIn old bytes) bytes) before first last line f
-counted_refused g count old mid before left first then last line f lengths same takes refused =
-    cause_behind (λ bytes. IsRefusedCount nothing_later g (IsLongIn old bytes) bytes) (λ bytes. IsRefusedBlocks nothing_later (IsLongIn mid bytes) count (without_cut g) 3 bytes) before left first then last line f same
-    (told_from before (λ bytes. TakesText (IsCountTextOf (length g.outputs)) old mid bytes left count)
-    (λ bytes. (rest : List ℕ) × (left ≡ Some rest) × ((p : ℕ × LineCause) → IsRefusedBlocks nothing_later (IsLongIn mid rest) count (without_cut g) 3 rest p → IsRefusedCount nothing_later g (IsLongIn old bytes) bytes p))
-    (λ bytes e t. (
-      t.rest,
-      t.left_is,
-      λ p r. inr (t.short, inr (count, t.rest, (t.begins.0, t.begins.1.0, t.begins.2), inr (t.begins.1.1, over_all (λ IsLong. IsRefusedBlocks nothing_later IsLong count (without_cut g) 3 t.rest p) old mid bytes t.rest lengths t.taken r))),
-    )) takes)
-    refused
+  pub counted_joined : (count : ℕ) (blocks : List Block) → length blocks ≡ count → (bytes rest body : List ℕ) → count_line.passes IsLong bytes count rest → PassBlocks IsLong (without_cut g) rest blocks body → PassesCount g IsLong bytes blocks body
+  counted_joined count blocks many bytes rest body l h = let k = subst (λ n. count_line.passes IsLong bytes n rest) (sym many) l in (rest, k.0, k.1, k.2, h)
 
-pub counted_taken : (g : Aig) (count : ℕ) (blocks : List Block) (old mid new : Lines) (before left after : Option (List ℕ)) → length blocks ≡ count → mid.lengths ≡ old.lengths →
-    IfSome before (λ bytes. TakesText (IsCountTextOf (length g.outputs)) old mid bytes left count) → IfSome left (λ bytes. TakesBlocks (without_cut g) mid new bytes after blocks) → IfSome before (λ bytes. TakesCount g old new bytes after blocks)
-counted_taken g count blocks old mid new before left after many lengths takes all =
-    told_from before (λ bytes. TakesText (IsCountTextOf (length g.outputs)) old mid bytes left count) (λ bytes. TakesCount g old new bytes after blocks) (λ bytes e t.
-    let p = subst (λ o. IfSome o (λ z. TakesBlocks (without_cut g) mid new z after blocks)) t.left_is all in
-    let here = t.taken in
-    let behind = p.2.taken in
-    let head = subst (IsCountTextOf (length g.outputs) t.begins.0) (sym many) t.begins.1 in (
-      p.0,
-      (t.rest, t.short, (t.begins.0, head.0, t.begins.2), head.1, over_all (λ IsLong. PassBlocks IsLong (without_cut g) t.rest blocks p.0) old mid bytes t.rest lengths t.taken p.1),
-      record { left_is = p.2.left_is; taken = behind ∙ here },
-    )) takes
+  pub counted_refused : (number count : ℕ) → number ≡ 1 → (bytes rest : List ℕ) (p : ℕ × LineCause) → count_line.passes IsLong bytes count rest → IsRefusedBlocks nothing_later IsLong count (without_cut g) (number + 1 + 1) rest p →
+      IsRefusedCount nothing_later g IsLong bytes p
+  counted_refused number count first bytes rest p l r = inr (l.0, inr (count, rest, l.1, inr (l.2, subst (λ n. IsRefusedBlocks nothing_later IsLong count (without_cut g) n rest p) (omega (arith, first)) r)))
+
+  pub count_refused : (number : ℕ) → number ≡ 1 → (bytes : List ℕ) (p : ℕ × LineCause) → count_line.refused IsLong (number + 1) bytes p → IsRefusedCount nothing_later g IsLong bytes p
+  count_refused number first bytes p h =
+      front_refused IsCountLine (IsCountInRange (length g.outputs)) (λ n rest. IsRefusedBlocks nothing_later IsLong n (without_cut g) 3 rest) IsLong 2 bytes p (subst (λ n. count_line.refused IsLong n bytes p) (ap (λ n. n + 1) first) h)
+
+-- they, where their number was read
+pub counted_read : (g : Aig) (count : ℕ) {old mid new : FileState} {before between now : View} (r : Result (Vec Block Global) LineFail) → old.number ≡ 1 → mid.lines.lengths ≡ old.lines.lengths → between.read_faults ≡ before.read_faults →
+    ReadsPart (line_part IsCountLine (IsCountInRange (length g.outputs))) old mid before between (Ok count) → IfOk r (λ bs. length bs.items ≡ count) → ReadsPart (blocks_part (without_cut g) count) mid new between now r → ReadsPart (count_part g) old new before now r
+counted_read g count (Ok blocks) first lengths stands line many h =
+    part_behind (line_part IsCountLine (IsCountInRange (length g.outputs))) (blocks_part (without_cut g) count) (count_part g) count lengths line blocks blocks refl (λ IsLong. counted_joined g IsLong count blocks.items many) h
+counted_read g count {old} (Err f) first lengths stands line many h =
+    refused_behind (line_part IsCountLine (IsCountInRange (length g.outputs))) (blocks_part (without_cut g) count) (count_part g) count lengths line f stands (λ IsLong. counted_refused g IsLong old.number count first) h
+
+pub counted_fit : (g : Aig) (count : ℕ) (r : Result (Vec Block Global) LineFail) → count ≤ length g.outputs → IfOk r (λ bs. length bs.items ≡ count) → IfOk r (λ bs. AreBlocks (without_cut g) bs.items) →
+    IfOk r (λ bs. (length bs.items ≤ length g.outputs) × AreBlocks (without_cut g) bs.items)
+counted_fit g count (Ok bs) few many fit = (omega (arith, many, few), fit)
+counted_fit g count (Err f) few many fit = fit

@@ -1,154 +1,176 @@
--- What stands behind the first line of a header, in either version: what passes, and the first refusal.
-use Rattle.std.specs.Prelude.{◌≡◌, ◌+◌, ◌<◌, ◌≤◌, ℕ, List, ◌∷◌, ◌++◌, length, IfSome}
+-- What stands behind the first line of a header, in either version, and the whole header: what passes, and the first refusal.
+use Rattle.std.specs.Prelude.{◌≡◌, ◌+◌, ◌≤◌, ℕ, List, [], ◌∷◌, ◌++◌, codes, length, IfErr, IfOk, IfSome, Result, Ok, Err}
 use Rattle.std.specs.Global.{Global}
-use Rattle.std.specs.Result.{IfErr, IfOk}
+use Rattle.std.specs.Result.{result_err}
 use Rattle.std.specs.declared.option.Option.{Option}
-use Rattle.std.specs.declared.option.Option.TheVariants.{Some}
-use Rattle.std.specs.declared.result.Result.{Result}
-use Rattle.std.specs.declared.result.Result.TheVariants.{Err, Ok}
+use Rattle.std.specs.declared.option.Option.TheVariants.{None, Some}
 use Rattle.std.specs.declared.vec.Vec.{Vec}
-use Rattle.std.proofs.Common.{sym, ap, subst, ◌∙◌, arith, inl, inr, ⊎_elim}
-use Rattle.std.proofs.lemmas.Result.{IfOk-weaker}
-use Rattle.mv_text.specs.declared.line_fail.LineFail.TheVariants as fail
+use Rattle.std.proofs.Common.{refl, sym, ap, subst, ◌∙◌, arith, inl, inr, ⊎_elim}
 use Rattle.graph_core.specs.Graph.{Aig}
 use Rattle.graph_core.specs.Graph.Extended.{without_cut}
 use Rattle.graph_core.specs.Text.{newline}
 use Rattle.graph_core.specs.Text.JudgedLines.{IsTooLong, Lengths}
+use Rattle.mv_desk.specs.View.{View}
+use Rattle.mv_desk.specs.declared.slot.Slot.TheVariants.{Clauses}
+use Rattle.mv_text.specs.declared.line_fail.LineFail.{LineFail}
+use Rattle.mv_text.specs.declared.line_fail.LineFail.TheVariants as fail
+use Rattle.mv_text.specs.CertificateFiles.{FileState, HasEitherFirst, HasFirstLine, IsEitherRefusal, left_of_file, settled}
 use Rattle.mv_text.specs.LineReading.{Lines}
-use Rattle.mv_text.proofs.CallerLemmas.{IsNew, short_of, told_from}
+use Rattle.mv_text.proofs.CallerLemmas.{told_from}
 use Rattle.ripple_graft.specs.declared.block.Block.{Block}
 use Rattle.ripple_graft.specs.declared.cut.Cut.{Cut}
 use Rattle.ripple_graft.specs.Blocks.{AreBlocks}
 use Rattle.ripple_graft.specs.HeaderBlocks.{AreHeaderBlocks, IsCutOf, cut_blocks}
-use Rattle.drup_text.specs.declared.fault.StartFail.{StartFail}
 use Rattle.drup_text.specs.declared.head.Header.{Header}
-use Rattle.mv_text.specs.CertificateFiles.{FileState, TakesText}
-use Rattle.drup_text.specs.PassingHeaders.{HasClauseHeader, IsCause, PassesAnyHeader, PassesBlocks, PassesCount, PassesCut, PassesHeader, block_lines, header_line_count}
-use Rattle.drup_text.specs.HeaderRefusal.{IsRefusedCut, nothing_later}
-use Rattle.drup_text.specs.HeaderSteps.{IsBlocksRefusal, IsCountRefusal, IsLongIn, IsVersionRefusal, Leaves, TakesBlocks, TakesCount, TakesCut, TakesVersion}
-use Rattle.drup_text.specs.Headers.{IsVersionLine}
-use Rattle.drup_text.specs.LineTexts.{IsCountTextOf}
-use Rattle.drup_text.proofs.BlockSteps.{counted_refused, counted_taken}
-use Rattle.drup_text.proofs.HeaderSteps.{first_is, over_file, second_is}
+use Rattle.drup_text.specs.PassingHeaders.{HasClauseHeader, IsCause, PassesAnyHeader, PassesCount, PassesCut, block_lines, header_line_count, own_line}
+use Rattle.drup_text.specs.HeaderRefusal.{LineCause, IsClauseHeaderRefusal, IsRefusedCount, IsRefusedCut, nothing_later}
+use Rattle.drup_text.specs.HeaderRefusal as cause
+use Rattle.drup_text.specs.HeaderSteps.{IsLongIn, ReadsPart, TakesPart, count_part, cut_part, version_part}
+use Rattle.drup_text.specs.Headers.{second_line, version_line}
+use Rattle.drup_text.proofs.HeaderSteps.{cause_behind, memory_short, part_settled, refused_front, same_part}
 
-abbrev Blocks : Type 0
-Blocks = Vec Block Global
+-- ---- behind the first line
 
-abbrev Answer : Type 0
-Answer = Result Blocks StartFail
+module _ (g : Aig) (version : ℕ) {old mid : FileState} {before now : View} where
+  pub version_two : (r : Result (Vec Block Global) LineFail) → version ≡ 2 → ReadsPart (count_part g) old mid before now r → ReadsPart (version_part g version) old mid before now r
+  version_two (Ok blocks) two h =
+      same_part (count_part g) (version_part g version) blocks blocks (ap (λ v. 1 + block_lines (own_line v) blocks.items) two) (λ IsLong bytes body p. inr (two, p)) h
+  version_two (Err f) two h = refused_front (count_part g) (version_part g version) f (λ IsLong bytes p r. inr (two, r)) h
 
--- ---- version 2: the number of blocks, and they
-
-module _ (g : Aig) (count : ℕ) (old mid new : Lines) (before left after : Option (List ℕ)) (r : Answer) where
-  pub counted_ok : mid.lengths ≡ old.lengths → IfSome before (λ bytes. TakesText (IsCountTextOf (length g.outputs)) old mid bytes left count) → IfOk r (λ bs. length bs.items ≡ count) →
-      IfOk r (λ bs. IfSome left (λ bytes. TakesBlocks (without_cut g) mid new bytes after bs.items)) → IfOk r (λ bs. IfSome before (λ bytes. TakesCount g old new bytes after bs.items))
-  counted_ok lengths takes many all = go r many all
+  pub version_cut : (cut : Option Cut) (blocks : Vec Block Global) → version ≡ 1 → blocks.items ≡ cut_blocks (length g.outputs) cut → ReadsPart (cut_part g) old mid before now (Ok cut) → ReadsPart (version_part g version) old mid before now (Ok blocks)
+  version_cut cut blocks one is h = same_part (cut_part g) (version_part g version) cut blocks (lines cut is) (λ IsLong bytes body p. inl (one, (cut, is, p))) h
     where
-      go : (r : Answer) → IfOk r (λ bs. length bs.items ≡ count) → IfOk r (λ bs. IfSome left (λ bytes. TakesBlocks (without_cut g) mid new bytes after bs.items)) → IfOk r (λ bs. IfSome before (λ bytes. TakesCount g old new bytes after bs.items))
-      go (Ok bs) n h = counted_taken g count bs.items old mid new before left after n lengths takes h
-      go (Err f) n h = h
+      of_one : block_lines (own_line version) blocks.items ≡ block_lines 0 blocks.items
+      of_one = ap (λ v. block_lines (own_line v) blocks.items) one
 
-  pub counted_err : (first then last : ℕ) → mid.lengths ≡ old.lengths → then ≡ first → IfSome before (λ bytes. TakesText (IsCountTextOf (length g.outputs)) old mid bytes left count) →
-      IfErr r (IsBlocksRefusal (without_cut g) count mid left then last) → IfErr r (IsCountRefusal g old before first last)
-  counted_err first then last lengths same takes refused = go r refused
-    where
-      go : (r : Answer) → IfErr r (IsBlocksRefusal (without_cut g) count mid left then last) → IfErr r (IsCountRefusal g old before first last)
-      go (Ok bs) h = h
-      go (Err f) h = counted_refused g count old mid before left first then last f.line f.why lengths same takes h
+      lines : (cut : Option Cut) → blocks.items ≡ cut_blocks (length g.outputs) cut → 1 + block_lines (own_line version) blocks.items ≡ (cut_part g).lines cut
+      lines None is = let e = of_one ∙ ap (block_lines 0) is in ap (λ n. 1 + n) e
+      lines (Some c) is = let e : block_lines (own_line version) blocks.items ≡ 0 + length c.pairs + 0 = of_one ∙ ap (block_lines 0) is in omega (arith, e)
 
-pub counted_fit : (g : Aig) (count : ℕ) (r : Answer) → count ≤ length g.outputs → IfOk r (λ bs. length bs.items ≡ count) → IfOk r (λ bs. AreBlocks (without_cut g) bs.items) →
-    IfOk r (λ bs. (length bs.items ≤ length g.outputs) × AreBlocks (without_cut g) bs.items)
-counted_fit g count (Ok bs) few many fit = (omega (arith, many), fit)
-counted_fit g count (Err f) few many fit = fit
+  -- the block of a cut that was read, or want of memory
+  pub version_block : (cut : Cut) (r : Result (Vec Block Global) LineFail) → version ≡ 1 → IfOk r (λ bs. bs.items ≡ cut_blocks (length g.outputs) (Some cut)) → IfErr r (λ f. f ≡ fail.Memory) → ReadsPart (cut_part g) old mid before now (Ok (Some cut)) →
+      ReadsPart (version_part g version) old (settled mid (result_err r)) before now r
+  version_block cut (Ok blocks) one is short h = part_settled (version_part g version) None blocks (version_cut (Some cut) blocks one is h)
+  version_block cut (Err f) one is short h = memory_short (version_part g version) f short
 
-pub counted_bytes : (one two n : ℕ) (r : Answer) → one < two → IfOk r (λ bs. two + block_lines 1 bs.items ≤ n) → IfOk r (λ bs. one + 2 + block_lines 1 bs.items ≤ n + 1)
-counted_bytes one two n r more h = IfOk-weaker r (λ bs. two + block_lines 1 bs.items ≤ n) (λ bs. one + 2 + block_lines 1 bs.items ≤ n + 1) (λ bs k. omega (arith, k, more)) h
+  pub refused_cut : (f : LineFail) → version ≡ 1 → ReadsPart (cut_part g) old mid before now (Err f) → ReadsPart (version_part g version) old mid before now (Err f)
+  refused_cut f one h = refused_front (cut_part g) (version_part g version) f (λ IsLong bytes p r. inl (one, r)) h
 
--- ---- of either version
+-- the blocks fit
+pub fit_two : (g : Aig) (version : ℕ) (r : Result (Vec Block Global) LineFail) → version ≡ 2 → IfOk r (λ bs. (length bs.items ≤ length g.outputs) × AreBlocks (without_cut g) bs.items) → IfOk r (λ bs. AreHeaderBlocks g version bs.items)
+fit_two g version (Ok bs) two h = inr (two, h.0, h.1)
+fit_two g version (Err f) two h = h
 
-module _ (g : Aig) (version : ℕ) (old new : Lines) (before after : Option (List ℕ)) where
-  pub version_two : (r : Answer) → version ≡ 2 → IfOk r (λ bs. IfSome before (λ bytes. TakesCount g old new bytes after bs.items)) → IfOk r (λ bs. IfSome before (λ bytes. TakesVersion g version old new bytes after bs.items))
-  version_two r two h = IfOk-weaker r (λ bs. IfSome before (λ bytes. TakesCount g old new bytes after bs.items)) (λ bs. IfSome before (λ bytes. TakesVersion g version old new bytes after bs.items))
-      (λ bs k. told_from before (λ bytes. TakesCount g old new bytes after bs.items) (λ bytes. TakesVersion g version old new bytes after bs.items) (λ bytes e t. inr (two, t)) k) h
-
-  pub version_one : (blocks : List Block) (cut : Option Cut) → version ≡ 1 → blocks ≡ cut_blocks (length g.outputs) cut → IfSome before (λ bytes. TakesCut g old new bytes after cut) → IfSome before (λ bytes. TakesVersion g version old new bytes after blocks)
-  version_one blocks cut one is h = told_from before (λ bytes. TakesCut g old new bytes after cut) (λ bytes. TakesVersion g version old new bytes after blocks) (λ bytes e t. inl (one, (cut, is, t))) h
-
-  pub version_cut : (r : Answer) (cut : Cut) → version ≡ 1 → IfOk r (λ bs. bs.items ≡ cut_blocks (length g.outputs) (Some cut)) → IfSome before (λ bytes. TakesCut g old new bytes after (Some cut)) →
-      IfOk r (λ bs. IfSome before (λ bytes. TakesVersion g version old new bytes after bs.items))
-  version_cut r cut one is h = IfOk-weaker r (λ bs. bs.items ≡ cut_blocks (length g.outputs) (Some cut)) (λ bs. IfSome before (λ bytes. TakesVersion g version old new bytes after bs.items)) (λ bs k. version_one bs.items (Some cut) one k h) is
-
-module _ (g : Aig) (version : ℕ) (old : Lines) (before : Option (List ℕ)) (first last : ℕ) where
-  pub refused_two : (r : Answer) → version ≡ 2 → IfErr r (IsCountRefusal g old before first last) → IfErr r (IsVersionRefusal g version old before first last)
-  refused_two (Ok bs) two h = h
-  refused_two (Err f) two h = inr (two, h)
-
-  -- want of memory
-  pub refused_memory : (r : Answer) → version ≡ 1 → IfErr r (λ f. f.why ≡ fail.Memory) → IfErr r (IsVersionRefusal g version old before first last)
-  refused_memory (Ok bs) one h = h
-  refused_memory (Err f) one h = inl (one, subst (IsCause (λ bytes. IsRefusedCut nothing_later g (IsLongIn old bytes) bytes) before first last f.line) (sym h) tt)
-
-pub fit_two : (g : Aig) (version : ℕ) (r : Answer) → version ≡ 2 → IfOk r (λ bs. (length bs.items ≤ length g.outputs) × AreBlocks (without_cut g) bs.items) → IfOk r (λ bs. AreHeaderBlocks g version bs.items)
-fit_two g version r two h = IfOk-weaker r (λ bs. (length bs.items ≤ length g.outputs) × AreBlocks (without_cut g) bs.items) (λ bs. AreHeaderBlocks g version bs.items) (λ bs k. inr (two, k.0, k.1)) h
-
-pub fit_cut : (g : Aig) (version : ℕ) (r : Answer) (cut : Cut) → version ≡ 1 → IsCutOf g (Some cut) → IfOk r (λ bs. bs.items ≡ cut_blocks (length g.outputs) (Some cut)) → IfOk r (λ bs. AreHeaderBlocks g version bs.items)
-fit_cut g version r cut one fits is = IfOk-weaker r (λ bs. bs.items ≡ cut_blocks (length g.outputs) (Some cut)) (λ bs. AreHeaderBlocks g version bs.items) (λ bs k. inl (one, (Some cut, k, fits))) is
-
--- how many lines there are, in bytes
-pub lines_two : (version one n : ℕ) (r : Answer) → version ≡ 2 → IfOk r (λ bs. one + 2 + block_lines 1 bs.items ≤ n + 1) → IfOk r (λ bs. one + header_line_count version bs.items ≤ n + 1)
-lines_two version one n r two h = IfOk-weaker r (λ bs. one + 2 + block_lines 1 bs.items ≤ n + 1) (λ bs. one + header_line_count version bs.items ≤ n + 1)
-    (λ bs k. subst (λ v. one + header_line_count v bs.items ≤ n + 1) (sym two) (omega (arith, k))) h
-
-pub lines_one : (version one n : ℕ) (blocks some : List Block) → version ≡ 1 → blocks ≡ some → one + header_line_count 1 some ≤ n + 1 → one + header_line_count version blocks ≤ n + 1
-lines_one version one n blocks some first is h = subst (λ v. one + header_line_count v blocks ≤ n + 1) (sym first) (subst (λ bs. one + header_line_count 1 bs ≤ n + 1) (sym is) h)
-
-pub lines_cut : (version one n : ℕ) (r : Answer) (some : List Block) → version ≡ 1 → IfOk r (λ bs. bs.items ≡ some) → one + header_line_count 1 some ≤ n + 1 → IfOk r (λ bs. one + header_line_count version bs.items ≤ n + 1)
-lines_cut version one n r some first is h = IfOk-weaker r (λ bs. bs.items ≡ some) (λ bs. one + header_line_count version bs.items ≤ n + 1) (λ bs k. lines_one version one n bs.items some first k h) is
+pub fit_cut : (g : Aig) (version : ℕ) (r : Result (Vec Block Global) LineFail) (cut : Cut) → version ≡ 1 → IsCutOf g (Some cut) → IfOk r (λ bs. bs.items ≡ cut_blocks (length g.outputs) (Some cut)) → IfOk r (λ bs. AreHeaderBlocks g version bs.items)
+fit_cut g version (Ok bs) cut one fits is = inl (one, (Some cut, is, fits))
+fit_cut g version (Err f) cut one fits is = is
 
 -- ---- the whole header
 
-module _ (g : Aig) (lengths : Lengths) (lines now new : Lines) (version : ℕ) (h : Header) (fresh : IsNew lengths lines) (same : now.lengths ≡ lines.lengths) (is : h.version ≡ version) where
-  total : (bytes : List ℕ) → lines.taken + length bytes ≡ length bytes
-  total bytes = let none = fresh.taken in omega arith
+-- what holds of the lengths of a whole file
+over_file : (P : (List ℕ → Type 0) → Type 0) (lengths : Lengths) (now : Lines) (bytes rest : List ℕ) → now.lengths ≡ lengths → now.taken + length rest ≡ length bytes → P (IsLongIn now rest) → P (IsTooLong lengths (length bytes))
+over_file P lengths now bytes rest same total h = subst (λ k. P (IsTooLong k (length bytes))) same (subst (λ n. P (IsTooLong now.lengths n)) total h)
 
-  short : (bytes : List ℕ) (left : Option (List ℕ)) → TakesText IsVersionLine lines now bytes left version → ¬ (IsTooLong lengths (length bytes) bytes)
-  short bytes left t = short_of lengths (length bytes) lines bytes fresh.lengths_are (total bytes) t.short
+short : (lengths : Lengths) (now : Lines) (line bytes : List ℕ) (left : Option (List ℕ)) → now.lengths ≡ lengths → HasFirstLine line now bytes left → ¬ (IsTooLong lengths (length bytes) bytes)
+short lengths now line bytes left same t long = t.short (subst (λ k. IsTooLong k (length bytes) bytes) (sym same) long)
 
-  passes_one : (bytes : List ℕ) (left after : Option (List ℕ)) (t : TakesText IsVersionLine lines now bytes left version) (cut : Option Cut) → version ≡ 1 → (k : TakesCut g now new t.rest after cut) → PassesHeader g lengths bytes cut k.0
-  passes_one bytes left after t cut one k = record {
-    rest = t.rest;
-    short = short bytes left t;
-    version = t.begins.2 ∙ ap (λ z. z ++ newline ∷ t.rest) (first_is version t.begins.0 one t.begins.1);
-    cut_passes = over_file (λ IsLong. PassesCut g IsLong t.rest cut k.0) lengths lines now bytes t.rest fresh same t.taken k.1;
-  }
+not_both : (version : ℕ) → version ≡ 1 → version ≡ 2 → ⊥
+not_both version one two = omega (arith, one, two)
 
-  passes_two : (bytes : List ℕ) (left after : Option (List ℕ)) (t : TakesText IsVersionLine lines now bytes left version) (blocks : List Block) → version ≡ 2 → (k : TakesCount g now new t.rest after blocks) → PassesBlocks g lengths bytes blocks k.0
-  passes_two bytes left after t blocks two k = record {
-    rest = t.rest;
-    short = short bytes left t;
-    version = t.begins.2 ∙ ap (λ z. z ++ newline ∷ t.rest) (second_is version t.begins.0 two t.begins.1);
-    blocks_pass = over_file (λ IsLong. PassesCount g IsLong t.rest blocks k.0) lengths lines now bytes t.rest fresh same t.taken k.1;
-  }
+module _ (g : Aig) (lengths : Lengths) {old new : FileState} {between now : View} (before : Option (List ℕ)) (same : old.lines.lengths ≡ lengths)
+    (first : IfSome before (λ bytes. HasEitherFirst version_line second_line old bytes (left_of_file Clauses old between))) where
+  pub header_there : (h : Header) (blocks : Vec Block Global) → h.version ≡ old.version → h.blocks ≡ blocks.items → new.lines.lengths ≡ old.lines.lengths → ReadsPart (version_part g old.version) old new between now (Ok blocks) →
+      IfSome before (λ bytes. HasClauseHeader g new bytes (left_of_file Clauses new now) h)
+  header_there h blocks version_is blocks_are kept behind =
+      told_from before (λ bytes. HasEitherFirst version_line second_line old bytes (left_of_file Clauses old between)) (λ bytes. HasClauseHeader g new bytes (left_of_file Clauses new now) h) (λ bytes e t.
+      ⊎_elim
+      (λ a. let k = part version_line bytes a.1 in has version_line bytes a.1 k (⊎_elim
+      (λ p. inl (
+        version_is ∙ a.0,
+        (
+          p.1.0,
+          blocks_are ∙ p.1.1,
+          record {
+            rest = a.1.body;
+            short = short lengths old.lines version_line bytes (left_of_file Clauses old between) same a.1;
+            version = a.1.begins;
+            cut_passes = over_file (λ IsLong. PassesCut g IsLong a.1.body p.1.0 k.body) lengths old.lines bytes a.1.body same a.1.taken p.1.2;
+          },
+        ),
+      ))
+      (λ p. absurd (not_both old.version a.0 p.0)) k.passes))
+      (λ b. let k = part second_line bytes b.1 in has second_line bytes b.1 k (⊎_elim
+      (λ p. absurd (not_both old.version p.0 b.0))
+      (λ p. inr (
+        version_is ∙ b.0,
+        record {
+          rest = b.1.body;
+          short = short lengths old.lines second_line bytes (left_of_file Clauses old between) same b.1;
+          version = b.1.begins;
+          blocks_pass = subst (λ bs. PassesCount g (IsTooLong lengths (length bytes)) b.1.body bs k.body) (sym blocks_are)
+              (over_file (λ IsLong. PassesCount g IsLong b.1.body blocks.items k.body) lengths old.lines bytes b.1.body same b.1.taken p.1);
+        },
+      )) k.passes)) t) first
+    where
+      part : (line bytes : List ℕ) (t : HasFirstLine line old.lines bytes (left_of_file Clauses old between)) → TakesPart (version_part g old.version) old.lines new.lines t.body (left_of_file Clauses new now) blocks
+      part line bytes t = subst (λ o. IfSome o (λ z. TakesPart (version_part g old.version) old.lines new.lines z (left_of_file Clauses new now) blocks)) t.left behind.value
 
-  has : (file : FileState) (bytes rest body : List ℕ) (after : Option (List ℕ)) → file.lines ≡ new → new.lengths ≡ lines.lengths → now.taken + length rest ≡ lines.taken + length bytes → Leaves now new rest after body →
-      PassesAnyHeader g lengths bytes h body → HasClauseHeader g file bytes after h
-  has file bytes rest body after lines_are new_lengths taken leaves passes =
-      let none = fresh.taken in
-      let behind = leaves.taken in
-      let count : new.taken + length body ≡ length bytes = omega arith in
-      let kept : file.lines.lengths ≡ lengths = ap (λ (x : Lines). x.lengths) lines_are ∙ new_lengths ∙ fresh.lengths_are in
-      record {
-        body = body;
-        passes = subst (λ (k : Lengths). PassesAnyHeader g k bytes h body) (sym kept) passes;
-        left = leaves.left_is;
-        taken = subst (λ (x : Lines). x.taken + length body ≡ length bytes) (sym lines_are) count;
+      has : (line bytes : List ℕ) (t : HasFirstLine line old.lines bytes (left_of_file Clauses old between)) (k : TakesPart (version_part g old.version) old.lines new.lines t.body (left_of_file Clauses new now) blocks) →
+          PassesAnyHeader g lengths bytes h k.body → HasClauseHeader g new bytes (left_of_file Clauses new now) h
+      has line bytes t k passes = record {
+        body = k.body;
+        passes = subst (λ (q : Lengths). PassesAnyHeader g q bytes h k.body) (sym (kept ∙ same)) passes;
+        left = k.left_is;
+        taken = k.taken ∙ t.taken;
       }
 
-  pub header_there : (file : FileState) (blocks : List Block) (before left after : Option (List ℕ)) → file.lines ≡ new → new.lengths ≡ lines.lengths → h.blocks ≡ blocks → IfSome before (λ bytes. TakesText IsVersionLine lines now bytes left version) →
-      IfSome left (λ bytes. TakesVersion g version now new bytes after blocks) → IfSome before (λ bytes. HasClauseHeader g file bytes after h)
-  header_there file blocks before left after lines_are new_lengths blocks_are first behind =
-      told_from before (λ bytes. TakesText IsVersionLine lines now bytes left version) (λ bytes. HasClauseHeader g file bytes after h) (λ bytes e t.
-      ⊎_elim
-      (λ a. has file bytes t.rest a.1.2.0 after lines_are new_lengths t.taken a.1.2.2 (inl (is ∙ a.0, (a.1.0, blocks_are ∙ a.1.1, passes_one bytes left after t a.1.0 a.0 a.1.2))))
-      (λ b. has file bytes t.rest b.1.0 after lines_are new_lengths t.taken b.1.2 (inr (is ∙ b.0, subst (λ bs. PassesBlocks g lengths bytes bs b.1.0) (sym blocks_are) (passes_two bytes left after t blocks b.0 b.1))))
-      (subst (λ o. IfSome o (λ rest. TakesVersion g version now new rest after blocks)) t.left_is behind)) first
+  pub header_refused : (f : LineFail) (first_faults : ℕ) → between.read_faults ≡ first_faults → ReadsPart (version_part g old.version) old new between now (Err f) →
+      IsCause (IsClauseHeaderRefusal g lengths) before first_faults now.read_faults new.number f
+  header_refused f first_faults stands behind =
+      cause_behind (IsClauseHeaderRefusal g lengths) (λ bytes. (version_part g old.version).refused (IsLongIn old.lines bytes) (old.number + 1) bytes) before (left_of_file Clauses old between)
+      first_faults between.read_faults now.read_faults new.number f stands
+      (told_from before (λ bytes. HasEitherFirst version_line second_line old bytes (left_of_file Clauses old between))
+      (λ bytes. (rest : List ℕ) × (left_of_file Clauses old between ≡ Some rest) × ((p : ℕ × LineCause) → (version_part g old.version).refused (IsLongIn old.lines rest) (old.number + 1) rest p → IsClauseHeaderRefusal g lengths bytes p))
+      (λ bytes e t. ⊎_elim
+      (λ a. (
+        a.1.body,
+        a.1.left,
+        λ p r. inr (
+          short lengths old.lines version_line bytes (left_of_file Clauses old between) same a.1,
+          inr (⊎_elim
+              (λ c. inl (a.1.body, a.1.begins, over_file (λ IsLong. IsRefusedCut nothing_later g IsLong a.1.body p) lengths old.lines bytes a.1.body same a.1.taken c.1))
+              (λ c. absurd (not_both old.version a.0 c.0)) r),
+        ),
+      ))
+      (λ b. (
+        b.1.body,
+        b.1.left,
+        λ p r. inr (
+          short lengths old.lines second_line bytes (left_of_file Clauses old between) same b.1,
+          inr (⊎_elim
+              (λ c. absurd (not_both old.version c.0 b.0))
+              (λ c. inr (b.1.body, b.1.begins, over_file (λ IsLong. IsRefusedCount nothing_later g IsLong b.1.body p) lengths old.lines bytes b.1.body same b.1.taken c.1)) r),
+        ),
+      )) t) first)
+      behind.refused
+
+-- the first line is refused
+pub version_refused : (g : Aig) (lengths : Lengths) (left : Option (List ℕ)) (first last : ℕ) (f : LineFail) → IsEitherRefusal version_line second_line lengths left first last f → IsCause (IsClauseHeaderRefusal g lengths) left first last 1 f
+version_refused g lengths None first last fail.Text h = tt
+version_refused g lengths (Some bytes) first last fail.Text h = inr (h.0.0, inl ((h.0.1, h.1.1), refl))
+version_refused g lengths left first last fail.Range h = absurd h.0
+version_refused g lengths left first last fail.Fault h = h.0
+version_refused g lengths left first last fail.TooLong h = told_from left (λ bytes. IsTooLong lengths (length bytes) bytes) (λ bytes. IsClauseHeaderRefusal g lengths bytes (1, cause.TooLong)) (λ bytes e long. inl (long, refl)) h.0
+version_refused g lengths left first last fail.Memory h = tt
+
+-- how many lines it has
+pub header_counted : (old new version read : ℕ) (blocks items : List Block) → old ≡ 1 → new ≡ old + (1 + block_lines (own_line version) items) → read ≡ version → blocks ≡ items → new ≡ header_line_count read blocks
+header_counted old new version read blocks items first count version_is blocks_are =
+    subst (λ v. new ≡ header_line_count v blocks) (sym version_is) (subst (λ bs. new ≡ header_line_count version bs) (sym blocks_are) (omega (arith, first, count)))
+
+-- the first lines, as code has them
+pub told_first : (left : Option (List ℕ)) (file : FileState) (now : View) (one two : List ℕ) → one ≡ codes "joined 1" → two ≡ codes "joined 2" →
+    IfSome left (λ bytes. HasEitherFirst (one ++ newline ∷ []) (two ++ newline ∷ []) file bytes (left_of_file Clauses file now)) → IfSome left (λ bytes. HasEitherFirst version_line second_line file bytes (left_of_file Clauses file now))
+told_first left file now one two is_one is_two h =
+    subst (λ z. IfSome left (λ bytes. HasEitherFirst (z ++ newline ∷ []) second_line file bytes (left_of_file Clauses file now))) is_one
+    (subst (λ z. IfSome left (λ bytes. HasEitherFirst (one ++ newline ∷ []) (z ++ newline ∷ []) file bytes (left_of_file Clauses file now))) is_two h)

@@ -41,7 +41,8 @@ IsRefusedPair e IsLong bytes = Unless (¬ (IsLong bytes)) (IsLong bytes) TooLong
 
 -- Behind some pairs, the first of them in the line of this number: one of those to come is refused, or all are there and something behind
 -- them is refused, over the graph that they make.
-abbrev pub IsRefusedBehindPairs : Later → (List (Lit × Lit) → Extended) → Extended → (List ℕ → Type 0) → ℕ → List (Lit × Lit) → ℕ → List ℕ → ℕ × LineCause → Type 0
+abbrev pub IsRefusedBehindPairs : Later → (List (Lit × Lit) → Extended) → Extended → (List ℕ → Type 0) → ℕ →
+    List (Lit × Lit) → ℕ → List ℕ → ℕ × LineCause → Type 0
 IsRefusedBehindPairs later made e IsLong number pairs zero bytes p = later (made pairs) (number + length pairs) bytes p
 IsRefusedBehindPairs later made e IsLong number pairs (suc left) bytes p =
     (cause : LineCause) × IsRefusedPair e IsLong bytes cause × (p ≡ (number + length pairs, cause))

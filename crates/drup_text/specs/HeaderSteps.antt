@@ -1,72 +1,112 @@
--- The lines of a header behind the first one, over what is left of a file.
-use Rattle.std.specs.Prelude.{◌≡◌, ◌⊎◌, ◌+◌, ℕ, List, length}
+-- The parts of a header, as they are read over what is left of a file: a line, or lines one behind the other.
+use Rattle.std.specs.Prelude.{◌≡◌, ◌⊎◌, ◌+◌, ℕ, false, List, length, Result, IfErr, IfOk, IfSome, OnOk}
+use Rattle.std.specs.Global.{Global}
 use Rattle.std.specs.declared.option.Option.{Option}
-use Rattle.std.specs.declared.option.Option.TheVariants.{Some}
+use Rattle.std.specs.declared.option.Option.TheVariants.{None, Some}
+use Rattle.std.specs.declared.vec.Vec.{Vec}
 use Rattle.graph_core.specs.declared.literal.Lit.{Lit}
 use Rattle.graph_core.specs.Graph.{Aig}
 use Rattle.graph_core.specs.Graph.Extended.{Extended}
-use Rattle.graph_core.specs.Text.JudgedLines.{Behind, IsTooLong}
+use Rattle.graph_core.specs.Text.JudgedLines.{BeginsWith, Behind, IsTooLong, Unless}
+use Rattle.mv_desk.specs.View.{View}
+use Rattle.mv_desk.specs.declared.slot.Slot.TheVariants.{Clauses}
+use Rattle.mv_text.specs.CertificateFiles.{BeginsOutOfRange, BeginsWithNone, FileState, left_of_file}
 use Rattle.mv_text.specs.LineReading.{Lines}
+use Rattle.mv_text.specs.declared.line_fail.LineFail.{LineFail}
 use Rattle.ripple_graft.specs.declared.block.Block.{Block}
 use Rattle.ripple_graft.specs.declared.cut.Cut.{Cut}
-use Rattle.drup_text.specs.ClauseTexts.{IsPairLine}
-use Rattle.drup_text.specs.PassingHeaders.{IsCause, PassBlocks, PassesBlock, PassesCount, PassesCut}
-use Rattle.drup_text.specs.HeaderRefusal.{IsPairStep, IsRefusedBlock, IsRefusedBlocks, IsRefusedCount, IsRefusedCut, IsRefusedPairs, nothing_later}
 use Rattle.ripple_graft.specs.HeaderBlocks.{cut_blocks}
-use Rattle.drup_text.specs.declared.fault.StartFail.{StartFail}
+use Rattle.drup_text.specs.ClauseTexts.{IsPairLine}
+use Rattle.drup_text.specs.PassingHeaders.{IsCause, PassBlocks, PassesBlock, PassesCount, PassesCut, block_lines, own_line}
+use Rattle.drup_text.specs.HeaderRefusal.{IsPairStep, IsRefusedBlock, IsRefusedBlocks, IsRefusedCount, IsRefusedCut, IsRefusedPairs, LineCause, Range, Text, TooLong, nothing_later}
 
 -- of a file of which these bytes are left, those that some bytes begin a line that is too long
 abbrev pub IsLongIn : Lines → List ℕ → List ℕ → Type 0
 IsLongIn lines left = IsTooLong lines.lengths (lines.taken + length left)
 
--- These bytes are left behind what was taken.
-pub record Leaves (old new : Lines) (left : List ℕ) (after : Option (List ℕ)) (body : List ℕ) : Type 0 where
+-- A part of a header, given which lines are long: what passes, of these bytes, and the bytes behind it; the first refusals in it, where its
+-- first line has this number; and how many lines it has.
+pub record Part (X : Type 0) : Type 1 where
+  pub passes : (List ℕ → Type 0) → List ℕ → X → List ℕ → Type 0
+  pub refused : (List ℕ → Type 0) → ℕ → List ℕ → ℕ × LineCause → Type 0
+  pub lines : X → ℕ
+
+-- What is left begins with a part that passes, and these bytes are behind it.
+pub record TakesPart {X : Type 0} (part : Part X) (old new : Lines) (left : List ℕ) (after : Option (List ℕ)) (x : X) : Type 0 where
+  pub body : List ℕ
+  pub passes : part.passes (IsLongIn old left) left x body
   pub left_is : after ≡ Some body
   pub taken : new.taken + length body ≡ old.taken + length left
 
--- so many pairs pass
-abbrev pub TakesPairs : Extended → ℕ → Lines → Lines → List ℕ → Option (List ℕ) → List (Lit × Lit) → Type 0
-TakesPairs e count old new left after pairs =
-    (body : List ℕ) ×
-    Behind IsPairLine (IsPairStep e) (IsLongIn old left) (λ n rest. (n ≡ 0) × (rest ≡ body)) pairs count left ×
-    Leaves old new left after body
+-- A part is read, or its first refusal is in the last line that was counted.
+pub record ReadsPart {X : Type 0} (part : Part X) (old new : FileState) (before now : View) (result : Result X LineFail) : Type 0 where
+  pub value : IfOk result (λ x. IfSome (left_of_file Clauses old before)
+      (λ left. TakesPart part old.lines new.lines left (left_of_file Clauses new now) x))
+  pub refused : IfErr result (IsCause (λ bytes. part.refused (IsLongIn old.lines bytes) (old.number + 1) bytes)
+      (left_of_file Clauses old before) before.read_faults now.read_faults new.number)
+  pub number : IfOk result (λ x. new.number ≡ old.number + part.lines x)
+  pub ended : OnOk result (new.ended ≡ false)
 
-abbrev pub TakesCut : Aig → Lines → Lines → List ℕ → Option (List ℕ) → Option Cut → Type 0
-TakesCut g old new left after cut = (body : List ℕ) × PassesCut g (IsLongIn old left) left cut body × Leaves old new left after body
+-- a line
+abbrev pub line_part : {X : Type 0} → (List ℕ → X → Type 0) → (X → Type 0) → Part X
+line_part IsText InRange = record {
+  passes = λ IsLong bytes x rest. ¬ (IsLong bytes) × BeginsWith IsText bytes x rest × InRange x;
+  refused = λ IsLong number bytes. Unless (¬ (IsLong bytes)) (IsLong bytes) (number, TooLong)
+      (λ p. (BeginsWithNone IsText bytes × (p ≡ (number, Text))) ⊎ (BeginsOutOfRange IsText InRange bytes × (p ≡ (number, Range))));
+  lines = λ x. 1;
+}
 
--- the blocks of this number, of a block, and of blocks from these on
-abbrev pub TakesCount : Aig → Lines → Lines → List ℕ → Option (List ℕ) → List Block → Type 0
-TakesCount g old new left after blocks = (body : List ℕ) × PassesCount g (IsLongIn old left) left blocks body × Leaves old new left after body
+-- so many pairs, whatever graph they make
+abbrev pub pairs_part : Extended → ℕ → Part (Vec (Lit × Lit) Global)
+pairs_part e count = record {
+  passes = λ IsLong bytes pairs body. Behind IsPairLine (IsPairStep e) IsLong (λ n rest. (n ≡ 0) × (rest ≡ body)) pairs.items count bytes;
+  refused = λ IsLong number bytes p. (made : List (Lit × Lit) → Extended) → IsRefusedPairs nothing_later made e IsLong number count bytes p;
+  lines = λ pairs. length pairs.items;
+}
 
-abbrev pub TakesBlock : Extended → Lines → Lines → List ℕ → Option (List ℕ) → Block → Type 0
-TakesBlock e old new left after b = (body : List ℕ) × PassesBlock (IsLongIn old left) e left b body × Leaves old new left after body
+-- ---- version 1
 
-abbrev pub TakesBlocks : Extended → Lines → Lines → List ℕ → Option (List ℕ) → List Block → Type 0
-TakesBlocks e old new left after blocks = (body : List ℕ) × PassBlocks (IsLongIn old left) e left blocks body × Leaves old new left after body
+-- the cut's line, and one for each pair
+abbrev pub cut_lines : Option Cut → ℕ
+cut_lines None = 1
+cut_lines (Some cut) = 1 + length cut.pairs
+
+abbrev pub cut_part : Aig → Part (Option Cut)
+cut_part g = record { passes = PassesCut g; refused = λ IsLong number. IsRefusedCut nothing_later g IsLong; lines = cut_lines }
+
+-- ---- version 2
+
+-- a block, blocks, and blocks behind their number
+abbrev pub block_part : Extended → Part Block
+block_part e = record {
+  passes = λ IsLong. PassesBlock IsLong e;
+  refused = λ IsLong. IsRefusedBlock nothing_later IsLong e;
+  lines = λ b. 1 + length b.cut.pairs;
+}
+
+abbrev pub blocks_part : Extended → ℕ → Part (Vec Block Global)
+blocks_part e count = record {
+  passes = λ IsLong bytes blocks. PassBlocks IsLong e bytes blocks.items;
+  refused = λ IsLong. IsRefusedBlocks nothing_later IsLong count e;
+  lines = λ blocks. block_lines 1 blocks.items;
+}
+
+abbrev pub count_part : Aig → Part (Vec Block Global)
+count_part g = record {
+  passes = λ IsLong bytes blocks. PassesCount g IsLong bytes blocks.items;
+  refused = λ IsLong number. IsRefusedCount nothing_later g IsLong;
+  lines = λ blocks. 1 + block_lines 1 blocks.items;
+}
+
+-- ---- both
 
 -- what stands behind the line of a version
-abbrev pub TakesVersion : Aig → ℕ → Lines → Lines → List ℕ → Option (List ℕ) → List Block → Type 0
-TakesVersion g version old new left after blocks =
-    ((version ≡ 1) × ((cut : Option Cut) × (blocks ≡ cut_blocks (length g.outputs) cut) × TakesCut g old new left after cut)) ⊎
-    ((version ≡ 2) × TakesCount g old new left after blocks)
-
-abbrev pub IsPairsRefusal : Extended → ℕ → ℕ → Lines → Option (List ℕ) → ℕ → ℕ → StartFail → Type 0
-IsPairsRefusal e number count lines left before now f = (made : List (Lit × Lit) → Extended) →
-    IsCause (λ bytes. IsRefusedPairs nothing_later made e (IsLongIn lines bytes) number count bytes) left before now f.line f.why
-
-abbrev pub IsBlockRefusal : Extended → ℕ → Lines → Option (List ℕ) → ℕ → ℕ → StartFail → Type 0
-IsBlockRefusal e number lines left before now f =
-    IsCause (λ bytes. IsRefusedBlock nothing_later (IsLongIn lines bytes) e number bytes) left before now f.line f.why
-
-abbrev pub IsBlocksRefusal : Extended → ℕ → Lines → Option (List ℕ) → ℕ → ℕ → StartFail → Type 0
-IsBlocksRefusal e count lines left before now f =
-    IsCause (λ bytes. IsRefusedBlocks nothing_later (IsLongIn lines bytes) count e 3 bytes) left before now f.line f.why
-
-abbrev pub IsCountRefusal : Aig → Lines → Option (List ℕ) → ℕ → ℕ → StartFail → Type 0
-IsCountRefusal g lines left before now f = IsCause (λ bytes. IsRefusedCount nothing_later g (IsLongIn lines bytes) bytes) left before now f.line f.why
-
-abbrev pub IsCutRefusal : Aig → Lines → Option (List ℕ) → ℕ → ℕ → StartFail → Type 0
-IsCutRefusal g lines left before now f = IsCause (λ bytes. IsRefusedCut nothing_later g (IsLongIn lines bytes) bytes) left before now f.line f.why
-
-abbrev pub IsVersionRefusal : Aig → ℕ → Lines → Option (List ℕ) → ℕ → ℕ → StartFail → Type 0
-IsVersionRefusal g version lines left before now f = ((version ≡ 1) × IsCutRefusal g lines left before now f) ⊎ ((version ≡ 2) × IsCountRefusal g lines left before now f)
+abbrev pub version_part : Aig → ℕ → Part (Vec Block Global)
+version_part g version = record {
+  passes = λ IsLong bytes blocks body.
+      ((version ≡ 1) × ((cut : Option Cut) × (blocks.items ≡ cut_blocks (length g.outputs) cut) × PassesCut g IsLong bytes cut body)) ⊎
+      ((version ≡ 2) × PassesCount g IsLong bytes blocks.items body);
+  refused = λ IsLong number bytes p.
+      ((version ≡ 1) × IsRefusedCut nothing_later g IsLong bytes p) ⊎ ((version ≡ 2) × IsRefusedCount nothing_later g IsLong bytes p);
+  lines = λ blocks. 1 + block_lines (own_line version) blocks.items;
+}

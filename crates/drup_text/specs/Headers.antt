@@ -35,10 +35,6 @@ IsClauseHeaderText bytes cut after = (rest : List ℕ) × IsCutText rest cut aft
 abbrev pub second_line : List ℕ
 second_line = codes "joined 2" ++ newline ∷ []
 
--- the first line, of either version
-abbrev pub IsVersionLine : List ℕ → ℕ → Type 0
-IsVersionLine bytes version = ((version ≡ 1) × (bytes ≡ codes "joined 1")) ⊎ ((version ≡ 2) × (bytes ≡ codes "joined 2"))
-
 abbrev pub head_of : Block → ℕ × ℕ × Bool
 head_of b = (b.cut.lo, length b.cut.pairs, b.carry)
 

@@ -22,7 +22,8 @@ WrittenClausesAreRead = (max : ℕ) (line : ClauseLine) → IsWritableLine line 
 
 -- A whole text that is written for a header whose blocks the graph takes is the file of this header and of these lines.
 abbrev pub WrittenFilesAreRead : Type 0
-WrittenFilesAreRead = (g : Aig) (h : Header) (lines : List ClauseLine) → IsBuilt g → IsHeaderOf g h → All IsWritableLine lines → IsAnyClauseFile (length g.outputs) (any_file_text h lines) h lines
+WrittenFilesAreRead = (g : Aig) (h : Header) (lines : List ClauseLine) → IsBuilt g → IsHeaderOf g h → All IsWritableLine lines →
+    IsAnyClauseFile (length g.outputs) (any_file_text h lines) h lines
 
 -- No text is two files over graphs with so many outputs.
 abbrev pub OneTextIsOneFile : Type 0

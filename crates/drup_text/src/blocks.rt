@@ -1,157 +1,114 @@
 // The header of a certificate of version 2, line by line.
-ghost use Rattle.std.specs.Prelude.{◌≡◌, ◌+◌, ◌≤◌, ◌<◌, ◌^◌, ◌++◌, ◌∷◌, [], true, IfOk, IfErr, IfSome, OnOk, length};
+ghost use Rattle.std.specs.Prelude.{◌≡◌, ◌≤◌, ◌++◌, ◌∷◌, [], true, IfOk, IfErr, OnOk, length};
 ghost use Rattle.graph_core.specs.Graph.Extended.{without_cut};
 ghost use Rattle.mv_desk.specs.Calls.{Reads};
 ghost use Rattle.mv_desk.specs.declared.slot.Slot.TheVariants.{Clauses};
-ghost use Rattle.mv_text.specs.LineReading.{FitsPiece, known_from};
+ghost use Rattle.mv_text.specs.CertificateFiles.{GoesOn, KeepsFile};
+ghost use Rattle.mv_text.specs.LineReading.{FitsPiece};
 ghost use Rattle.ripple_graft.specs.Blocks.{AreBlocks, IsBlock, graft_block};
 ghost use Rattle.drup_text.specs.ClauseTexts.{IsBlockLine, IsCountLine};
-ghost use Rattle.mv_text.specs.CertificateFiles.{IsLineRefusal, TakesSomeBytes, TakesText};
-ghost use Rattle.drup_text.specs.PassingHeaders.{block_lines};
-ghost use Rattle.drup_text.specs.HeaderSteps.{IsBlockRefusal, IsBlocksRefusal, IsCountRefusal, TakesBlock, TakesBlocks, TakesCount};
-ghost use Rattle.drup_text.specs.LineTexts.{IsBlockTextOf, IsCountInRange, IsCountTextOf, IsHeadOf};
+ghost use Rattle.drup_text.specs.HeaderSteps.{ReadsPart, block_part, blocks_part, count_part, line_part};
+ghost use Rattle.drup_text.specs.LineTexts.{IsCountInRange, IsHeadOf};
 
-use crate::fault::StartFail;
 use crate::header::pairs;
 use crate::header_reading::{read_count, read_head};
 use graph_core::Graph;
 use mv_desk::{Desk, Slot};
-use mv_text::{LineFail, LineReader};
+use mv_text::{CertificateFile, LineFail};
 use ripple_graft::{Block, Cut, Extended, Pairs};
 use std::alloc::Global;
 
 // The lines behind the first one: the number of blocks, and the lines of each.
 pub(crate) fn listed_blocks<D: Desk>(
     alloc: Global,
-    lines: &mut LineReader,
+    file: &mut CertificateFile,
     desk: &mut D,
     graph: &Graph,
-) -> Result<Vec<Block>, StartFail>
+) -> Result<Vec<Block>, LineFail>
     requires open { (D.seen desk.old).reads Clauses ≡ true }
-    requires two { 2 ≤ lines.old.taken }
-    requires small { lines.old.lengths.file < 2 ^ 64 }
-    ensures blocks { IfOk result (λ blocks. IfSome (known_from lines.old.ahead ((D.seen desk.old).left Clauses))
-        (λ left. TakesCount graph.now lines.old lines.new left
-        (known_from lines.new.ahead ((D.seen desk.new).left Clauses)) blocks.items)) }
-    ensures refused { IfErr result (IsCountRefusal graph.now lines.old
-        (known_from lines.old.ahead ((D.seen desk.old).left Clauses))
-        (D.seen desk.old).read_faults (D.seen desk.new).read_faults) }
+    requires goes_on { GoesOn file.old }
+    requires first { file.old.number ≡ 1 }
+    ensures blocks { ReadsPart (count_part graph.now) file.old file.new (D.seen desk.old) (D.seen desk.new) result }
     ensures fits { IfOk result (λ blocks. (length blocks.items ≤ length graph.now.outputs) ×
         AreBlocks (without_cut graph.now) blocks.items) }
-    ensures counted { IfOk result
-        (λ blocks. lines.old.taken + 2 + block_lines 1 blocks.items ≤ lines.new.taken + 1) }
-    ensures within { OnOk result (lines.new.taken ≤ lines.new.lengths.file) }
-    ensures lengths { lines.new.lengths ≡ lines.old.lengths }
-    ensures piece { FitsPiece lines.new }
+    ensures keeps { KeepsFile file.old file.new result }
     ensures reads { Reads Clauses (D.seen desk.old) (D.seen desk.new) result }
 {
-    match next_count(alloc, lines, desk, graph) {
-        Ok(count) => counted_blocks(alloc, lines, desk, graph, count),
-        Err(why) => Err(StartFail { line: 2, why }),
+    match next_count(alloc, file, desk, graph) {
+        Ok(count) => counted_blocks(alloc, file, desk, graph, count),
+        Err(fail) => Err(fail),
     }
 }
 
 // The line with the number of blocks.
 fn next_count<D: Desk>(
     alloc: Global,
-    lines: &mut LineReader,
+    file: &mut CertificateFile,
     desk: &mut D,
     graph: &Graph,
 ) -> Result<u32, LineFail>
-    requires { (D.seen desk.old).reads Clauses ≡ true }
-    ensures line { IfOk result (λ count. IfSome (known_from lines.old.ahead ((D.seen desk.old).left Clauses))
-        (λ left. TakesText (IsCountTextOf (length graph.now.outputs)) lines.old lines.new left
-        (known_from lines.new.ahead ((D.seen desk.new).left Clauses)) count)) }
-    ensures refused { IfErr result (IsLineRefusal IsCountLine (IsCountInRange (length graph.now.outputs)) lines.old
-        (known_from lines.old.ahead ((D.seen desk.old).left Clauses))
-        (D.seen desk.old).read_faults (D.seen desk.new).read_faults) }
-    ensures count { IfOk result (IsCountInRange (length graph.now.outputs)) }
-    ensures some { OnOk result (TakesSomeBytes lines.old lines.new) }
-    ensures lengths { lines.new.lengths ≡ lines.old.lengths }
-    ensures piece { FitsPiece lines.new }
+    requires open { (D.seen desk.old).reads Clauses ≡ true }
+    requires goes_on { GoesOn file.old }
+    ensures count { ReadsPart (line_part IsCountLine (IsCountInRange (length graph.now.outputs)))
+        file.old file.new (D.seen desk.old) (D.seen desk.new) result }
+    ensures in_range { IfOk result (IsCountInRange (length graph.now.outputs)) }
+    ensures keeps { KeepsFile file.old file.new result }
     ensures reads { Reads Clauses (D.seen desk.old) (D.seen desk.new) result }
 {
-    match lines.needed_line(alloc, desk, Slot::Clauses) {
-        Ok(line) => read_count(&line, graph.outputs()),
+    match file.needed_line(alloc, desk, Slot::Clauses) {
+        Ok(line) => file.settle(read_count(&line, graph.outputs())),
         Err(fail) => Err(fail),
     }
 }
 
-// So many blocks, from line 3 on.
+// So many blocks.
 fn counted_blocks<D: Desk>(
     alloc: Global,
-    lines: &mut LineReader,
+    file: &mut CertificateFile,
     desk: &mut D,
     graph: &Graph,
     count: u32,
-) -> Result<Vec<Block>, StartFail>
+) -> Result<Vec<Block>, LineFail>
     requires open { (D.seen desk.old).reads Clauses ≡ true }
-    requires three { 3 ≤ lines.old.taken }
-    requires small { lines.old.lengths.file < 2 ^ 64 }
-    requires within { lines.old.taken ≤ lines.old.lengths.file }
-    requires piece { FitsPiece lines.old }
-    ensures blocks { IfOk result (λ blocks. IfSome (known_from lines.old.ahead ((D.seen desk.old).left Clauses))
-        (λ left. TakesBlocks (without_cut graph.now) lines.old lines.new left
-        (known_from lines.new.ahead ((D.seen desk.new).left Clauses)) blocks.items)) }
-    ensures refused { IfErr result (IsBlocksRefusal (without_cut graph.now) count lines.old
-        (known_from lines.old.ahead ((D.seen desk.old).left Clauses))
-        (D.seen desk.old).read_faults (D.seen desk.new).read_faults) }
+    requires goes_on { GoesOn file.old }
+    requires piece { FitsPiece file.old.lines }
+    ensures blocks { ReadsPart (blocks_part (without_cut graph.now) count) file.old file.new (D.seen desk.old) (D.seen desk.new) result }
     ensures count { IfOk result (λ blocks. length blocks.items ≡ count) }
     ensures fits { IfOk result (λ blocks. AreBlocks (without_cut graph.now) blocks.items) }
-    ensures counted { IfOk result
-        (λ blocks. lines.old.taken + block_lines 1 blocks.items ≤ lines.new.taken) }
-    ensures within { OnOk result (lines.new.taken ≤ lines.new.lengths.file) }
-    ensures lengths { lines.new.lengths ≡ lines.old.lengths }
-    ensures piece { FitsPiece lines.new }
+    ensures keeps { KeepsFile file.old file.new result }
     ensures reads { Reads Clauses (D.seen desk.old) (D.seen desk.new) result }
 {
     let mut extended = Extended::without_cut(graph);
     let mut blocks = Vec::new(alloc);
-    let mut line: u64 = 3;
     for _ in 0..count {
-        let block = match next_block(alloc, lines, desk, &extended, line) {
+        let block = match next_block(alloc, file, desk, &extended) {
             Ok(block) => block,
             Err(fail) => return Err(fail),
         };
-        let next = line + 1 + block.cut.pairs.as_slice().len() as u64;
-        extended = match append(alloc, extended, &mut blocks, block) {
+        extended = match file.settle(append(alloc, extended, &mut blocks, block)) {
             Ok(longer) => longer,
-            Err(why) => return Err(StartFail { line, why }),
+            Err(fail) => return Err(fail),
         };
-        line = next;
     }
     Ok(blocks)
 }
 
-// The lines of a block, the first of them of this number: its own, and one for each pair.
+// The lines of a block: its own, and one for each pair.
 fn next_block<D: Desk>(
     alloc: Global,
-    lines: &mut LineReader,
+    file: &mut CertificateFile,
     desk: &mut D,
     extended: &Extended<'_>,
-    line: u64,
-) -> Result<Block, StartFail>
+) -> Result<Block, LineFail>
     requires open { (D.seen desk.old).reads Clauses ≡ true }
-    requires first { line ≤ lines.old.taken }
-    requires small { lines.old.lengths.file < 2 ^ 64 }
-    requires within { lines.old.taken ≤ lines.old.lengths.file }
-    requires piece { FitsPiece lines.old }
-    ensures block { IfOk result (λ b. IfSome (known_from lines.old.ahead ((D.seen desk.old).left Clauses))
-        (λ left. TakesBlock extended.now lines.old lines.new left
-        (known_from lines.new.ahead ((D.seen desk.new).left Clauses)) b)) }
-    ensures refused { IfErr result (IsBlockRefusal extended.now line lines.old
-        (known_from lines.old.ahead ((D.seen desk.old).left Clauses))
-        (D.seen desk.old).read_faults (D.seen desk.new).read_faults) }
+    requires goes_on { GoesOn file.old }
+    ensures block { ReadsPart (block_part extended.now) file.old file.new (D.seen desk.old) (D.seen desk.new) result }
     ensures fits { IfOk result (IsBlock extended.now) }
-    ensures counted { IfOk result
-        (λ b. lines.old.taken + 1 + length b.cut.pairs ≤ lines.new.taken) }
-    ensures within { OnOk result (lines.new.taken ≤ lines.new.lengths.file) }
-    ensures lengths { lines.new.lengths ≡ lines.old.lengths }
-    ensures piece { FitsPiece lines.new }
+    ensures keeps { KeepsFile file.old file.new result }
     ensures reads { Reads Clauses (D.seen desk.old) (D.seen desk.new) result }
 {
-    match next_head(alloc, lines, desk, extended) {
-        Ok((lo, count, carry)) => match pairs(alloc, lines, desk, extended, line + 1, count) {
+    match next_head(alloc, file, desk, extended) {
+        Ok((lo, count, carry)) => match pairs(alloc, file, desk, extended, count) {
             Ok(pairs) => {
                 let pairs = Pairs::from_vec(pairs);
                 Ok(Block {
@@ -161,32 +118,27 @@ fn next_block<D: Desk>(
             }
             Err(fail) => Err(fail),
         },
-        Err(why) => Err(StartFail { line, why }),
+        Err(fail) => Err(fail),
     }
 }
 
 // The line of a block.
 fn next_head<D: Desk>(
     alloc: Global,
-    lines: &mut LineReader,
+    file: &mut CertificateFile,
     desk: &mut D,
     extended: &Extended<'_>,
 ) -> Result<(u32, u32, bool), LineFail>
-    requires { (D.seen desk.old).reads Clauses ≡ true }
-    ensures line { IfOk result (λ head. IfSome (known_from lines.old.ahead ((D.seen desk.old).left Clauses))
-        (λ left. TakesText (IsBlockTextOf extended.now) lines.old lines.new left
-        (known_from lines.new.ahead ((D.seen desk.new).left Clauses)) head)) }
-    ensures refused { IfErr result (IsLineRefusal IsBlockLine (IsHeadOf extended.now) lines.old
-        (known_from lines.old.ahead ((D.seen desk.old).left Clauses))
-        (D.seen desk.old).read_faults (D.seen desk.new).read_faults) }
-    ensures head { IfOk result (IsHeadOf extended.now) }
-    ensures some { OnOk result (TakesSomeBytes lines.old lines.new) }
-    ensures lengths { lines.new.lengths ≡ lines.old.lengths }
-    ensures piece { FitsPiece lines.new }
+    requires open { (D.seen desk.old).reads Clauses ≡ true }
+    requires goes_on { GoesOn file.old }
+    ensures head { ReadsPart (line_part IsBlockLine (IsHeadOf extended.now))
+        file.old file.new (D.seen desk.old) (D.seen desk.new) result }
+    ensures in_range { IfOk result (IsHeadOf extended.now) }
+    ensures keeps { KeepsFile file.old file.new result }
     ensures reads { Reads Clauses (D.seen desk.old) (D.seen desk.new) result }
 {
-    match lines.needed_line(alloc, desk, Slot::Clauses) {
-        Ok(line) => read_head(&line, extended),
+    match file.needed_line(alloc, desk, Slot::Clauses) {
+        Ok(line) => file.settle(read_head(&line, extended)),
         Err(fail) => Err(fail),
     }
 }

@@ -3,12 +3,12 @@ ghost use Rattle.std.specs.Prelude.{◌≡◌, ◌+◌, ◌<◌, ◌≤◌, ◌^
 ghost use Rattle.std.specs.Result.{result_err};
 ghost use Rattle.mv_desk.specs.Calls.{Reads};
 ghost use Rattle.mv_desk.specs.declared.slot.Slot.TheVariants.{Clauses};
-ghost use Rattle.mv_text.specs.LineReading.{FitsPiece, known_from, lengths_of};
+ghost use Rattle.mv_text.specs.LineReading.{lengths_of};
 ghost use Rattle.ripple_graft.specs.Blocks.{IsCut, block_of};
 ghost use Rattle.drup_text.specs.ClauseTexts.{IsClauseLine};
 ghost use Rattle.mv_text.specs.CertificateFiles.{AnswersAgain, GoesOn, HasFirstLine, IsStarted, KeepsFile, ReadsLine, left_of_file};
-ghost use Rattle.drup_text.specs.PassingHeaders.{HasClauseHeader, IsStartRefusal, block_lines, header_line_count, own_line};
-ghost use Rattle.drup_text.specs.HeaderSteps.{IsVersionRefusal, TakesVersion};
+ghost use Rattle.drup_text.specs.PassingHeaders.{HasClauseHeader, IsStartRefusal, header_line_count};
+ghost use Rattle.drup_text.specs.HeaderSteps.{ReadsPart, version_part};
 ghost use Rattle.drup_text.specs.Headers.{IsHeaderOf};
 ghost use Rattle.ripple_graft.specs.HeaderBlocks.{AreHeaderBlocks};
 ghost use Rattle.drup_text.specs.LineTexts.{IsClauseLineInRange, IsClauseTextOf};
@@ -17,12 +17,12 @@ ghost use Rattle.drup_text.specs.SameFiles.{IsSameStartRefusal, same_line};
 use crate::blocks::listed_blocks;
 use crate::fault::StartFail;
 use crate::head::Header;
-use crate::header::{cut, version};
+use crate::header::cut;
 use crate::line_reading::read_line;
 use clause_core::Line;
 use graph_core::Graph;
 use mv_desk::{Desk, Limits, Slot};
-use mv_text::{CertificateFile, LineFail, LineReader};
+use mv_text::{CertificateFile, LineFail};
 use ripple_graft::{Block, BlockList, Cut};
 use std::alloc::Global;
 use std::marker::Model;
@@ -69,18 +69,21 @@ impl ClauseFile {
         ensures file { IfOk result (λ r. IsStarted r.1.version (header_line_count r.1.version r.1.blocks) limits.now r.0) }
         ensures reads { Reads Clauses (D.seen desk.old) (D.seen desk.new) result }
     {
-        let mut lines = LineReader::new(limits);
-        match version(alloc, &mut lines, desk) {
-            Ok(version) => match any_blocks(alloc, &mut lines, desk, graph, version) {
+        let one = b"joined 1".as_slice();
+        let two = b"joined 2".as_slice();
+        match CertificateFile::start_either(alloc, desk, Slot::Clauses, one, two, limits) {
+            Ok(mut file) => match any_blocks(alloc, &mut file, desk, graph) {
                 Ok(blocks) => {
                     let header = Header {
-                        version,
+                        version: file.version(),
                         blocks: BlockList::from_vec(blocks),
                     };
-                    let file = CertificateFile::behind(lines, version, header_lines(&header));
                     Ok((ClauseFile { alloc, file }, header))
                 }
-                Err(fail) => Err(fail),
+                Err(why) => Err(StartFail {
+                    line: file.line_no(),
+                    why,
+                }),
             },
             Err(why) => Err(StartFail { line: 1, why }),
         }
@@ -145,80 +148,40 @@ impl ClauseFile {
 // The lines of a header behind the first one, by the version.
 fn any_blocks<D: Desk>(
     alloc: Global,
-    lines: &mut LineReader,
+    file: &mut CertificateFile,
     desk: &mut D,
     graph: &Graph,
-    version: u8,
-) -> Result<Vec<Block>, StartFail>
+) -> Result<Vec<Block>, LineFail>
     requires open { (D.seen desk.old).reads Clauses ≡ true }
-    requires version { (version ≡ 1) ⊎ (version ≡ 2) }
-    requires two { 2 ≤ lines.old.taken }
-    requires small { lines.old.lengths.file < 2 ^ 64 }
-    ensures blocks { IfOk result (λ blocks. IfSome (known_from lines.old.ahead ((D.seen desk.old).left Clauses))
-        (λ left. TakesVersion graph.now version lines.old lines.new left
-        (known_from lines.new.ahead ((D.seen desk.new).left Clauses)) blocks.items)) }
-    ensures refused { IfErr result (IsVersionRefusal graph.now version lines.old
-        (known_from lines.old.ahead ((D.seen desk.old).left Clauses))
-        (D.seen desk.old).read_faults (D.seen desk.new).read_faults) }
-    ensures fits { IfOk result (λ blocks. AreHeaderBlocks graph.now version blocks.items) }
-    ensures counted { IfOk result
-        (λ blocks. lines.old.taken + header_line_count version blocks.items ≤ lines.new.taken + 1) }
-    ensures within { OnOk result (lines.new.taken ≤ lines.new.lengths.file) }
-    ensures lengths { lines.new.lengths ≡ lines.old.lengths }
-    ensures piece { FitsPiece lines.new }
+    requires version { (file.old.version ≡ 1) ⊎ (file.old.version ≡ 2) }
+    requires goes_on { GoesOn file.old }
+    requires first { file.old.number ≡ 1 }
+    ensures blocks { ReadsPart (version_part graph.now file.old.version) file.old file.new (D.seen desk.old) (D.seen desk.new) result }
+    ensures fits { IfOk result (λ blocks. AreHeaderBlocks graph.now file.old.version blocks.items) }
+    ensures keeps { KeepsFile file.old file.new result }
     ensures reads { Reads Clauses (D.seen desk.old) (D.seen desk.new) result }
 {
-    if version == 2 {
-        return listed_blocks(alloc, lines, desk, graph);
+    if file.version() == 2 {
+        return listed_blocks(alloc, file, desk, graph);
     }
-    match cut(alloc, lines, desk, graph) {
+    match cut(alloc, file, desk, graph) {
         Ok(None) => Ok(Vec::new(alloc)),
-        Ok(Some(cut)) => one_block(alloc, graph, cut),
+        Ok(Some(cut)) => file.settle(one_block(alloc, graph, cut)),
         Err(fail) => Err(fail),
     }
 }
 
 // The block of a cut of version 1: the last carry is replaced too where it is that of the last column.
-fn one_block(alloc: Global, graph: &Graph, cut: Cut) -> Result<Vec<Block>, StartFail>
+fn one_block(alloc: Global, graph: &Graph, cut: Cut) -> Result<Vec<Block>, LineFail>
     requires { IsCut graph.now cut }
     ensures ok { IfOk result (λ blocks. blocks.items ≡ block_of (length graph.now.outputs) cut ∷ []) }
-    ensures err { IfErr result (λ fail. fail.why ≡ LineFail.Memory) }
+    ensures err { IfErr result (λ fail. fail ≡ LineFail.Memory) }
 {
     let end = cut.lo as usize + cut.pairs.as_slice().len();
     let carry = end + 1 == graph.output_literals().len();
     let mut blocks = Vec::new(alloc);
     match blocks.push(Block { cut, carry }) {
         Ok(()) => Ok(blocks),
-        Err(_) => Err(StartFail {
-            line: 2,
-            why: LineFail::Memory,
-        }),
+        Err(_) => Err(LineFail::Memory),
     }
-}
-
-// How many lines a header has.
-fn header_lines(header: &Header) -> u64
-    requires { header_line_count header.now.version header.now.blocks < 2 ^ 64 }
-    ensures { result ≡ header_line_count header.now.version header.now.blocks }
-{
-    2 + block_lines(own_line(header.version), header.blocks.as_slice())
-}
-
-// How many lines some blocks have, where each has so many beside those of its pairs.
-fn block_lines(own: u64, blocks: &[Block]) -> u64
-    requires { block_lines own blocks.now < 2 ^ 64 }
-    ensures { result ≡ block_lines own blocks.now }
-{
-    let mut lines: u64 = 0;
-    for block in blocks {
-        lines += own + block.cut.pairs.as_slice().len() as u64;
-    }
-    lines
-}
-
-// A block's own line, which in version 1 is the second one.
-fn own_line(version: u8) -> u64
-    ensures { result ≡ own_line version }
-{
-    if version == 2 { 1 } else { 0 }
 }

@@ -1,11 +1,8 @@
 -- What the next line of a certificate says, why there is none, and what its first line is.
 use Rattle.std.specs.Prelude.{⊤, ◌≡◌, ◌≢◌, ◌+◌, ℕ, List, [], ◌∷◌, ◌++◌, length, IfSome}
 use Rattle.std.specs.List.{All}
-use Rattle.std.specs.Result.{IfOk, IfErr}
 use Rattle.std.specs.declared.option.Option.{Option}
 use Rattle.std.specs.declared.option.Option.TheVariants.{None, Some}
-use Rattle.std.specs.declared.result.Result.{Result}
-use Rattle.std.specs.declared.result.Result.TheVariants.{Ok, Err}
 use Rattle.std.proofs.Common.{refl, sym, ap, subst, ◌∙◌, append_assoc, arith}
 use Rattle.std.proofs.lemmas.List.Elements.{recursion_from_All}
 use Rattle.mv_text.specs.declared.line_fail.LineFail.{LineFail}
@@ -57,11 +54,6 @@ text_is_taken IsText old new before after bytes x takes is = told before (λ lef
     let l = line_is_taken old new before after bytes left takes e in
     record { rest = l.0; begins = (bytes, is, l.2); short = l.3; left_is = l.1; taken = l.4 })
 
-pub text_ok : {X : Type 0} (IsText : List ℕ → X → Type 0) (old new : Lines) (before after : Option (List ℕ)) (bytes : List ℕ) (r : Result X LineFail) → TakesLine old new before after bytes → IfOk r (IsText bytes) →
-    IfOk r (λ x. IfSome before (λ left. TakesText IsText old new left after x))
-text_ok IsText old new before after bytes (Ok x) takes is = text_is_taken IsText old new before after bytes x takes is
-text_ok IsText old new before after bytes (Err f) takes is = is
-
 module _ {X : Type 0} (IsText : List ℕ → X → Type 0) (InRange : X → Type 0) (none_text : (line : List ℕ) (x : X) → IsText line x → HasNoNewline line) where
   none_begins : (bytes left rest : List ℕ) → HasNoNewline bytes → left ≡ bytes ++ newline ∷ rest → ((x : X) → IsText bytes x → ⊥) → BeginsWithNone IsText left
   none_begins bytes left rest none e refused x more b = refused x (one_front IsText none_text left bytes rest none e x more b)
@@ -77,10 +69,6 @@ module _ {X : Type 0} (IsText : List ℕ → X → Type 0) (InRange : X → Type
   refused_text old new before after bytes first then fail.Fault takes refused = absurd refused
   refused_text old new before after bytes first then fail.TooLong takes refused = absurd refused
   refused_text old new before after bytes first then fail.Memory takes refused = tt
-
-  pub text_err : (old new : Lines) (before after : Option (List ℕ)) (bytes : List ℕ) (first then : ℕ) (r : Result X LineFail) → TakesLine old new before after bytes → IfErr r (SaysNothing IsText InRange bytes) → IfErr r (IsLineRefusal IsText InRange old before first then)
-  text_err old new before after bytes first then (Ok x) takes refused = refused
-  text_err old new before after bytes first then (Err f) takes refused = refused_text old new before after bytes first then f takes refused
 
   -- a needed line isn't had
   pub needed_refused : (lines : Lines) (left : Option (List ℕ)) (first then : ℕ) (f : LineFail) → IsNeededFault lines left first then f → IsLineRefusal IsText InRange lines left first then f

@@ -1,5 +1,5 @@
 -- A certificate that is read line by line, over any grammar: what its lines say (`IsText`), and which of them are in range.
-use Rattle.std.specs.Prelude.{◌≡◌, ◌≢◌, ◌+◌, ◌<◌, ◌≤◌, ◌^◌, ℕ, Bool, true, false, List, [], ◌++◌, length, Result, Ok, Err, IfErr, IfNone, IfOk, IfSome, OnErr, OnOk}
+use Rattle.std.specs.Prelude.{◌≡◌, ◌≢◌, ◌+◌, ◌<◌, ◌≤◌, ◌^◌, ◌⊎◌, ℕ, Bool, true, false, List, [], ◌++◌, length, Result, Ok, Err, IfErr, IfNone, IfOk, IfSome, OnErr, OnOk}
 use Rattle.std.specs.Global.{Global}
 use Rattle.std.specs.Result.{result_err}
 use Rattle.std.specs.declared.vec.Vec.{Vec}
@@ -112,18 +112,23 @@ pub record HasFirstLine (first : List ℕ) (new : Lines) (bytes : List ℕ) (aft
 -- Why a file doesn't begin with it: the line there is too long, or it is another one or has no line feed, a read failed, or want of
 -- memory.
 abbrev pub IsFirstRefusal : List ℕ → Lengths → Option (List ℕ) → ℕ → ℕ → LineFail → Type 0
-IsFirstRefusal first lengths left before now fail.Text = IfSome left (λ bytes. ¬ (IsTooLong lengths (length bytes) bytes) × ((body : List ℕ) → bytes ≢ first ++ body))
+IsFirstRefusal first lengths left before now fail.Text =
+    IfSome left (λ bytes. ¬ (IsTooLong lengths (length bytes) bytes) × ((body : List ℕ) → bytes ≢ first ++ body))
 IsFirstRefusal first lengths left before now fail.Range = ⊥
 IsFirstRefusal first lengths left before now fail.Fault = Rose before now
 IsFirstRefusal first lengths left before now fail.TooLong = IfSome left (λ bytes. IsTooLong lengths (length bytes) bytes)
 IsFirstRefusal first lengths left before now fail.Memory = Unit {0}
 
--- ---- what is kept
+-- It begins with the first line of version 1, or with that of version 2; and why with neither.
+abbrev pub HasEitherFirst : List ℕ → List ℕ → FileState → List ℕ → Option (List ℕ) → Type 0
+HasEitherFirst one two file bytes after =
+    ((file.version ≡ 1) × HasFirstLine one file.lines bytes after) ⊎ ((file.version ≡ 2) × HasFirstLine two file.lines bytes after)
 
--- A byte at least was taken, and no more than the file may have.
-pub record TakesSomeBytes (old new : Lines) : Type 0 where
-  pub more : old.taken < new.taken
-  pub within : new.taken ≤ new.lengths.file
+abbrev pub IsEitherRefusal : List ℕ → List ℕ → Lengths → Option (List ℕ) → ℕ → ℕ → LineFail → Type 0
+IsEitherRefusal one two lengths left before now why =
+    IsFirstRefusal one lengths left before now why × IsFirstRefusal two lengths left before now why
+
+-- ---- what is kept
 
 -- While the file goes on, more bytes were taken than lines were read; so lines can be counted.
 pub record IsCounted (file : FileState) : Type 0 where
@@ -195,7 +200,8 @@ pub record GivesEnd (slot : Slot) (old new : FileState) (before now : View) (res
 pub record ReadsLine {X Y : Type 0} (IsText : List ℕ → X → Type 0) (InRange : X → Type 0) (IsSaid : List ℕ → Y → Type 0) (slot : Slot) (old new : FileState)
     (before now : View) (result : Result (Option Y) LineFail) : Type 0 where
   pub text : IfOk result (λ r. IfSome r (λ y. (text : List ℕ) × IsSaid text y))
-  pub line : IfOk result (λ r. IfSome r (λ y. IfSome (left_of_file slot old before) (λ left. TakesText IsSaid old.lines new.lines left (left_of_file slot new now) y)))
+  pub line : IfOk result (λ r. IfSome r (λ y. IfSome (left_of_file slot old before)
+      (λ left. TakesText IsSaid old.lines new.lines left (left_of_file slot new now) y)))
   pub end : IfOk result (λ r. IfNone r (IfSome (left_of_file slot old before) (IsAtEnd old.lines)))
   pub refused : IfErr result (IsNextRefusal IsText InRange old.lines (left_of_file slot old before) before.read_faults now.read_faults)
   pub number : new.number ≡ old.number + lines_of_file result

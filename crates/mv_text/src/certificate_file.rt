@@ -1,10 +1,10 @@
 // A certificate read line by line, whatever its lines say.
-ghost use Rattle.std.specs.Prelude.{◌≡◌, ◌≢◌, ◌+◌, ◌<◌, ◌≤◌, ◌^◌, ◌++◌, ◌∷◌, [], length, true, false, None, Ok, Err, IfErr, IfOk, IfSome};
+ghost use Rattle.std.specs.Prelude.{◌≡◌, ◌≢◌, ◌+◌, ◌<◌, ◌≤◌, ◌^◌, ◌⊎◌, ◌++◌, ◌∷◌, [], length, true, false, None, Ok, Err, IfErr, IfOk, IfSome};
 ghost use Rattle.std.specs.List.{AllByRecursion};
 ghost use Rattle.std.specs.Result.{result_err};
 ghost use Rattle.graph_core.specs.Text.{newline};
 ghost use Rattle.mv_desk.specs.Calls.{Reads};
-ghost use Rattle.mv_text.specs.CertificateFiles.{AnswersAgain, GivesEnd, GivesLine, GivesNeeded, GoesOn, HasFirstLine, IsFirstRefusal, IsStarted, KeepsFile, left_of_file, settled};
+ghost use Rattle.mv_text.specs.CertificateFiles.{AnswersAgain, GivesEnd, GivesLine, GivesNeeded, GoesOn, HasEitherFirst, HasFirstLine, IsEitherRefusal, IsFirstRefusal, IsStarted, KeepsFile, left_of_file, settled};
 ghost use Rattle.mv_text.specs.LineReading.{FitsPiece, lengths_of};
 
 use crate::line_fail::LineFail;
@@ -64,7 +64,7 @@ impl CertificateFile {
         match lines.needed_line(alloc, desk, slot) {
             Ok(line) => {
                 if line.as_slice() == first {
-                    return Ok(CertificateFile::behind(lines, version, 1));
+                    return Ok(CertificateFile::behind(lines, version));
                 }
                 Err(LineFail::Text)
             }
@@ -72,21 +72,58 @@ impl CertificateFile {
         }
     }
 
-    /// A certificate of this version of which so many lines were read.
-    pub fn behind(lines: LineReader, version: u8, number: u64) -> CertificateFile
-        requires counted { number < lines.taken }
+    /// Reads the first line as `start` does, where a certificate of version 1 begins with one text, and one of version 2
+    /// with the other.
+    pub fn start_either<D: Desk>(
+        alloc: Global,
+        desk: &mut D,
+        slot: Slot,
+        one: &[u8],
+        two: &[u8],
+        limits: &Limits,
+    ) -> Result<CertificateFile, LineFail>
+        requires reads { (D.seen desk.old).reads slot ≡ true }
+        requires plain { AllByRecursion (λ b. b ≢ newline) one.now × AllByRecursion (λ b. b ≢ newline) two.now }
+        requires some { (0 < length one.now) × (0 < length two.now) }
+        ensures version { IfOk result (λ file. (file.version ≡ 1) ⊎ (file.version ≡ 2)) }
+        ensures first { IfOk result (λ file. IfSome ((D.seen desk.old).left slot)
+            (λ bytes. HasEitherFirst (one.now ++ newline ∷ []) (two.now ++ newline ∷ []) file bytes
+            (left_of_file slot file (D.seen desk.new)))) }
+        ensures refused { IfErr result (IsEitherRefusal (one.now ++ newline ∷ []) (two.now ++ newline ∷ [])
+            (lengths_of limits.now) ((D.seen desk.old).left slot) (D.seen desk.old).read_faults (D.seen desk.new).read_faults) }
+        ensures file { IfOk result (λ file. IsStarted file.version 1 limits.now file) }
+        ensures reads { Reads slot (D.seen desk.old) (D.seen desk.new) result }
+    {
+        let mut lines = LineReader::new(limits);
+        match lines.needed_line(alloc, desk, slot) {
+            Ok(line) => {
+                if line.as_slice() == one {
+                    return Ok(CertificateFile::behind(lines, 1));
+                }
+                if line.as_slice() == two {
+                    return Ok(CertificateFile::behind(lines, 2));
+                }
+                Err(LineFail::Text)
+            }
+            Err(fail) => Err(fail),
+        }
+    }
+
+    // A certificate of this version of which the first line was read.
+    fn behind(lines: LineReader, version: u8) -> CertificateFile
+        requires counted { 1 < lines.taken }
         requires within { lines.taken ≤ lines.lengths.file }
         requires small { lines.lengths.file < 2 ^ 64 }
         requires piece { FitsPiece lines }
         ensures version { result.version ≡ version }
         ensures lines { result.lines ≡ lines }
-        ensures number { result.number ≡ number }
+        ensures number { result.number ≡ 1 }
         ensures goes_on { GoesOn result }
     {
         CertificateFile {
             version,
             lines,
-            number,
+            number: 1,
             ended: false,
             failed: None,
         }

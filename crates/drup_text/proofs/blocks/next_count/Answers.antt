@@ -1,32 +1,30 @@
-use Rattle.std.proofs.Common.{length, subst}
+use Rattle.std.proofs.Common.{length, subst, sym}
+use Rattle.std.proofs.lemmas.Result.{IfOk-weaker}
 use Rattle.std.specs.Result.{IfErr, IfOk}
-use Rattle.mv_desk.specs.declared.slot.Slot.TheVariants.{Clauses}
-use Rattle.mv_text.specs.LineReading.{known_from}
+use Rattle.mv_text.specs.CertificateFiles.{FileState, SaysNothing}
 use Rattle.drup_text.specs.ClauseTexts.{IsCountLine}
-use Rattle.mv_text.specs.CertificateFiles.{SaysNothing}
-use Rattle.drup_text.specs.LineTexts.{IsCountTextOf, IsCountInRange}
+use Rattle.drup_text.specs.HeaderSteps.{ReadsPart, line_part}
+use Rattle.drup_text.specs.LineTexts.{IsCountInRange, IsCountTextOf}
 use Rattle.drup_text.proofs.ClauseReading.{none_count}
-use Rattle.mv_text.proofs.CallerLemmas.{needed_refused, text_err, text_ok}
+use Rattle.drup_text.proofs.HeaderSteps.{line_answered, line_missed}
 use Rattle.drup_text.proofs.blocks.next_count.Goals as goal
 
-pub returns-in-Ok-clause-line : goal.returns-in-Ok-clause-line
-returns-in-Ok-clause-line g c =
-    let before = known_from c.args.lines.now.ahead ((g.D.Desk.seen c.args.desk.now).left Clauses) in
-    let after = known_from c.needed_line.new.self.ahead ((g.D.Desk.seen c.needed_line.new.desk).left Clauses) in
-    text_ok (IsCountTextOf (length c.args.graph.now.outputs)) c.args.lines.now c.needed_line.new.self before after c.in-Ok.line.items c.read_count.result c.in-Ok.ensures.line
+pub returns-in-Ok-clause-count : goal.returns-in-Ok-clause-count
+returns-in-Ok-clause-count g c =
+    let InRange = IsCountInRange (length c.args.graph.now.outputs) in
+    let before = g.D.Desk.seen c.args.desk.now in
+    let now = g.D.Desk.seen c.needed_line.new.desk in
+    let r = c.read_count.result in
+    rw (c.settle.ensures.read)
+    (subst (λ (f : FileState). ReadsPart (line_part IsCountLine InRange) c.args.file.now f before now r) (sym c.settle.ensures.settled)
+    (line_answered IsCountLine InRange none_count c.in-Ok.line r (c.in-Ok.ensures.next c.requires.goes_on)
     (subst (λ z. IfOk c.read_count.result (IsCountTextOf (length c.args.graph.now.outputs) z)) c.deref.ensures.value
     (subst (λ n. IfOk c.read_count.result (IsCountTextOf n c.deref.result.now)) c.outputs.ensures.value c.read_count.ensures.ok))
-
-pub returns-in-Ok-clause-refused : goal.returns-in-Ok-clause-refused
-returns-in-Ok-clause-refused g c =
-    let before = known_from c.args.lines.now.ahead ((g.D.Desk.seen c.args.desk.now).left Clauses) in
-    let after = known_from c.needed_line.new.self.ahead ((g.D.Desk.seen c.needed_line.new.desk).left Clauses) in
-    text_err IsCountLine (IsCountInRange (length c.args.graph.now.outputs)) none_count c.args.lines.now c.needed_line.new.self before after c.in-Ok.line.items
-    (g.D.Desk.seen c.args.desk.now).read_faults (g.D.Desk.seen c.needed_line.new.desk).read_faults c.read_count.result c.in-Ok.ensures.line
     (subst (λ z. IfErr c.read_count.result (SaysNothing IsCountLine (IsCountInRange (length c.args.graph.now.outputs)) z)) c.deref.ensures.value
-    (subst (λ n. IfErr c.read_count.result (SaysNothing IsCountLine (IsCountInRange n) c.deref.result.now)) c.outputs.ensures.value c.read_count.ensures.err))
+    (subst (λ n. IfErr c.read_count.result (SaysNothing IsCountLine (IsCountInRange n) c.deref.result.now)) c.outputs.ensures.value c.read_count.ensures.err))))
 
-pub returns-in-Err-clause-refused : goal.returns-in-Err-clause-refused
-returns-in-Err-clause-refused g c =
-    needed_refused IsCountLine (IsCountInRange (length c.args.graph.now.outputs)) none_count c.args.lines.now (known_from c.args.lines.now.ahead ((g.D.Desk.seen c.args.desk.now).left Clauses))
-    (g.D.Desk.seen c.args.desk.now).read_faults (g.D.Desk.seen c.needed_line.new.desk).read_faults c.in-Err.fail c.in-Err.ensures.fault
+pub returns-in-Ok-clause-in_range : goal.returns-in-Ok-clause-in_range
+returns-in-Ok-clause-in_range g c = rw (c.settle.ensures.read) (IfOk-weaker c.read_count.result (IsCountTextOf (length c.args.graph.now.outputs) c.deref.result.now) (IsCountInRange (length c.args.graph.now.outputs)) (λ x h. h.1) (subst (λ n. IfOk c.read_count.result (IsCountTextOf n c.deref.result.now)) c.outputs.ensures.value c.read_count.ensures.ok))
+
+pub returns-in-Err-clause-count : goal.returns-in-Err-clause-count
+returns-in-Err-clause-count g c = line_missed IsCountLine (IsCountInRange (length c.args.graph.now.outputs)) none_count c.in-Err.fail (c.in-Err.ensures.next c.requires.goes_on)

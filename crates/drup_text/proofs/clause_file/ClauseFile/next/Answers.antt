@@ -1,4 +1,4 @@
-use Rattle.std.proofs.Common.{Err, None, Ok, Some, ap, subst, sym, ◌∙◌}
+use Rattle.std.proofs.Common.{Err, Ok, Some, ap, subst, sym, ◌∙◌}
 use Rattle.std.specs.Result.{IfErr, IfOk, result_err}
 use Rattle.mv_desk.specs.declared.slot.Slot.TheVariants.{Clauses}
 use Rattle.mv_text.specs.CertificateFiles.{FileState, GivesLine, ReadsLine, SaysNothing, settled}
