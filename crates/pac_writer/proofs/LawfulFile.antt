@@ -1,5 +1,5 @@
 -- The text of a certificate is a lawful algebra file.
-use Rattle.std.specs.Prelude.{◌≡◌, ℕ, ◌<◌, ◌^◌, List, [], ◌∷◌, ◌++◌, length, IsSome}
+use Rattle.std.specs.Prelude.{◌≡◌, ℕ, ◌<◌, ◌^◌, List, [], ◌∷◌, ◌++◌, length}
 use Rattle.std.specs.declared.option.Option.{Option}
 use Rattle.std.specs.declared.option.Option.TheVariants.{Some}
 use Rattle.std.specs.List.{AllByRecursion}
@@ -12,32 +12,33 @@ use Rattle.graph_core.specs.Graph.Extended.{Extended}
 use Rattle.graph_core.specs.Text.{newline}
 use Rattle.graph_core.specs.Algebra.{AreLawful, Closes, Premises, after_all, axioms, beginning}
 use Rattle.graph_core.specs.Algebra as algebra
-use Rattle.graph_core.specs.Algebra.Text.{algebra_header, first_line, IsId, IsLawfulAlgebraFile, IsLineInRange}
+use Rattle.graph_core.specs.Algebra.Text.{first_line, IsId, IsLawfulAlgebraFile, IsLineInRange}
 use Rattle.graph_core.proofs.OfAlgebra.CallerLemmas.{agree_refl, closes_agrees}
 use Rattle.mv_nums.specs.Residue.{IsWidth}
 use Rattle.poly_terms.specs.Tables.{Table, modulus_in}
 use Rattle.poly_text.specs.declared.line.PacLine.{PacLine}
-use Rattle.poly_text.specs.Lines.{line_in}
 use Rattle.pac_writer.specs.Writing.{Made, made_of, without_imports}
 use Rattle.poly_text.specs.Recorded.{AreAllAlike, lines_in}
-use Rattle.pac_writer.specs.Certificates.{certificate_text, closing_text, written_certificate, written_lines}
+use Rattle.poly_text.specs.WrittenLines.{closing_text, written_certificate, written_lines}
+use Rattle.pac_writer.specs.Certificates.{certificate_text}
 use Rattle.pac_writer.specs.Kept.{AreKept}
 use Rattle.pac_writer.specs.LawfulTexts.{IsLawfulTextOf, WrittenCertificatesAreLawful}
 use Rattle.pac_writer.proofs.Alike.{alike_lawful}
 use Rattle.pac_writer.proofs.Combining.{live_is_id}
 use Rattle.pac_writer.proofs.ReadBack.{closing_says, told_say}
-use Rattle.pac_writer.proofs.Readable.{IsTold, kept_goes_on, kept_is_told, readable_are_told}
-use Rattle.pac_writer.proofs.Texts.{same_texts, written_texts}
+use Rattle.pac_writer.proofs.Readable.{IsTold, kept_is_told, readable_are_told}
 
 -- what is written of lawful lines that are told
 told_text : (p : Premises) (s : Sides) (t : Table) (xs : List PacLine) (id : ℕ) → IsWidth t.exponent → p.extended.max < 2 ^ 32 → modulus_in t ≡ algebra.modulus p.extended →
     AllByRecursion (IsTold p.version p.extended.max t) xs → IsId id → AreLawful p s (lines_in t xs) id →
-    IsLawfulTextOf p s (lines_in t xs) id (algebra_header p.version ++ (written_texts t xs ++ closing_text (Some id)))
+    IsLawfulTextOf p s (lines_in t xs) id (written_certificate p.version (modulus_in t) (lines_in t xs) id)
 told_text p s t xs id width small same told is lawful =
     let m = algebra.modulus p.extended in
     let max = p.extended.max in
     let close = closing_says t p.version max id width small is in
-    let says = told_say t p.version max xs (closing_text (Some id)) width small told in
+    let after = closing_text id ++ newline ∷ [] in
+    let says = told_say t p.version max xs after width small told in
+    let body = written_lines (modulus_in t) (lines_in t xs) ++ after in
     let alike : AreAllAlike m says.lines (lines_in t xs) = subst (λ n. AreAllAlike n says.lines (lines_in t xs)) same says.alike in
     let both = alike_lawful m (beginning p) (beginning p) says.lines (lines_in t xs) (agree_refl (beginning p)) alike lawful.0 in
     record {
@@ -45,13 +46,13 @@ told_text p s t xs id width small same told is lawful =
         lines = says.lines;
         closing = id;
         text = (
-          written_texts t xs ++ closing_text (Some id),
-          closing_text (Some id),
+          body,
+          after,
           close.0,
           close.1,
           says.texts,
           ap (λ b. b ++ newline ∷ []) close.2,
-          append_assoc (first_line p.version) (newline ∷ []) (written_texts t xs ++ closing_text (Some id)),
+          append_assoc (first_line p.version) (newline ∷ []) body,
         );
         in_range = All-from_recursion (IsLineInRange max) says.lines says.in_range;
         closing_in_range = is;
@@ -70,9 +71,7 @@ written_certificates_are_lawful p s t xs id width small same two readable is law
     let max = p.extended.max in
     let exponent : IsWidth t.exponent = subst IsWidth (sym (same_exponent t.exponent (length p.extended.graph.outputs) same)) width in
     let told = readable_are_told p.version max (algebra.modulus p.extended) t p.imports two (beginning p) xs refl readable lawful.0 in
-    subst (λ b. IsLawfulTextOf p s (lines_in t xs) id (algebra_header p.version ++ (b ++ closing_text (Some id))))
-    (same_texts t xs (recursion_from_All (λ x. IsSome (line_in t x)) xs readable.go_on))
-    (told_text p s t xs id exponent small same told is lawful)
+    told_text p s t xs id exponent small same told is lawful
 
 -- ---- lines that are made
 
@@ -80,8 +79,8 @@ written_certificates_are_lawful p s t xs id width small same two readable is law
 pub kept_certificate : (version : ℕ) (old : Made) (e : Extended) (s : Sides) (t : Table) (xs : List PacLine) (last id : ℕ) (closing : Option ℕ) →
     made_of e s t xs last closing ≡ old → closing ≡ Some id → AreKept e s t xs last closing → written_certificate version (modulus_in t) (lines_in t xs) id ≡ certificate_text version old
 kept_certificate version old e s t xs last id closing view closed h =
-    ap (λ m. algebra_header version ++ (written_lines m (lines_in t xs) ++ closing_text (Some id))) h.so_far.same_modulus ∙
-    (ap (λ q. algebra_header version ++ (written_lines (algebra.modulus e) (lines_in t xs) ++ closing_text q)) (sym closed) ∙ ap (certificate_text version) view)
+    ap (λ m. written_certificate version m (lines_in t xs) id) h.so_far.same_modulus ∙
+    (ap (λ q. certificate_text version (made_of e s t xs last q)) (sym closed) ∙ ap (certificate_text version) view)
 
 closed_file : (version : ℕ) (e : Extended) (s : Sides) (t : Table) (xs : List PacLine) (last id : ℕ) → AreKept e s t xs last (Some id) →
     IsLawfulAlgebraFile (without_imports version e) s (written_certificate version (modulus_in t) (lines_in t xs) id)
@@ -89,8 +88,6 @@ closed_file version e s t xs last id h =
     let small : e.max < 2 ^ 32 = (let low = h.small in omega arith) in
     let closes : Closes e s (after_all (algebra.modulus e) (axioms e) (lines_in t xs)).live id = h.so_far.closes in
     let told = recursion_from_All (IsTold version e.max t) xs (λ k d low. kept_is_told version e.max t _ (h.kept k d low)) in
-    subst (λ b. IsLawfulAlgebraFile (without_imports version e) s (algebra_header version ++ (b ++ closing_text (Some id))))
-    (same_texts t xs (recursion_from_All (λ x. IsSome (line_in t x)) xs (λ k d low. kept_goes_on e.max t _ (h.kept k d low))))
     (told_text (without_imports version e) s t xs id h.exponent small h.so_far.same_modulus told (live_is_id (made_of e s t xs last (Some id)) id h.so_far closes.0) (h.so_far.lawful, closes)).file
 
 pub certificate_is_lawful : (version : ℕ) (old : Made) (e : Extended) (s : Sides) (t : Table) (xs : List PacLine) (last id : ℕ) (closing : Option ℕ) →

@@ -1,5 +1,5 @@
 -- What the text of lawful lines is: a lawful algebra file with these lines.
-use Rattle.std.specs.Prelude.{◌≡◌, ◌⊎◌, ◌<◌, ◌^◌, ℕ, List, [], ◌∷◌, length, IsSome}
+use Rattle.std.specs.Prelude.{◌≡◌, ◌⊎◌, ◌<◌, ◌^◌, ℕ, List, [], length, IsSome}
 use Rattle.std.specs.List.{All}
 use Rattle.graph_core.specs.Graph.Operands.{Sides}
 use Rattle.graph_core.specs.Algebra.{AreLawful, Line, Premises}
@@ -10,8 +10,7 @@ use Rattle.poly_terms.specs.Tables.{Table, modulus_in}
 use Rattle.poly_text.specs.declared.line.PacLine.{PacLine}
 use Rattle.poly_text.specs.Lines.{AreOf, line_in}
 use Rattle.poly_text.specs.Recorded.{AreAllAlike, lines_in}
-use Rattle.poly_text.specs.WrittenLines.{IsWritable}
-use Rattle.pac_writer.specs.Certificates.{written_certificate}
+use Rattle.poly_text.specs.WrittenLines.{IsWritable, written_certificate}
 
 -- Lines of the definitions, with polynomials of a table, that can be written and are in range.
 pub record AreReadable (max : ℕ) (t : Table) (lines : List PacLine) : Type 0 where

@@ -5,9 +5,8 @@ ghost use Rattle.mv_desk.specs.declared.slot.Slot.TheVariants.{Algebra};
 ghost use Rattle.graph_core.specs.Algebra.Text.{IsId};
 ghost use Rattle.poly_terms.specs.Tables.{modulus_in};
 ghost use Rattle.poly_text.specs.Lines.{AreOf, line_in};
-ghost use Rattle.poly_text.specs.WrittenLines.{IsWritable};
-ghost use Rattle.pac_writer.specs.Certificates.{written_certificate, written_lines};
 ghost use Rattle.poly_text.specs.Recorded.{lines_in};
+ghost use Rattle.poly_text.specs.WrittenLines.{IsWritable, written_certificate, written_lines};
 
 use mv_desk::{Desk, WriteFault};
 use poly_terms::Terms;

@@ -11,7 +11,7 @@
 //!
 //! *Ledger*: the live lines after all that were made (`written_ledger` in `specs/Writing.antt`). *Puts*: one line more
 //! stands behind the others. *Spare*: no line twice in a combination, none times 0, each polynomial in its normal
-//! form (`specs/Spare.antt`). *Text*: that of `specs/Certificates.antt`.
+//! form (`specs/Spare.antt`). *Text*: that of `specs/Certificates.antt`, by `WrittenLines` of `poly_text`.
 #![tactic(auto)]
 
 mod certificate;

@@ -39,12 +39,8 @@ long_is_refused version e s IsLong l left long = inl (long, refl)
 -- a line that is no closing line
 pub line_there : (t : Table) (version max : ℕ) (left rest : List ℕ) (given : PacLine) (y : Line) → line_in t given ≡ Some y → BeginsWith (IsTextOf t version max) left given rest →
     (x : Line) × BeginsWith (IsLineText version) left x rest × IsLineInRange max x × IsLineOf t x given
-line_there t version max left rest (line.Sum id i j poly) y e b = (b.1.0, (b.0, b.1.1, b.2), b.1.2, b.1.3)
-line_there t version max left rest (line.Product id i factor poly) y e b = (b.1.0, (b.0, b.1.1, b.2), b.1.2, b.1.3)
-line_there t version max left rest (line.Combination id parts poly) y e b = (b.1.0, (b.0, b.1.1, b.2), b.1.2, b.1.3)
-line_there t version max left rest (line.Import id number poly) y e b = (b.1.0, (b.0, b.1.1, b.2), b.1.2, b.1.3)
-line_there t version max left rest (line.Drop id) y e b = (b.1.0, (b.0, b.1.1, b.2), b.1.2, b.1.3)
 line_there t version max left rest (line.Close id) y e b = absurd (cc)
+line_there t version max left rest given y e b = (b.1.0, (b.0, b.1.1, b.2), b.1.2, b.1.3)
 
 pub close_there : (t : Table) (version max : ℕ) (left rest : List ℕ) (id : ℕ) → BeginsWith (IsTextOf t version max) left (line.Close id) rest → BeginsWith IsCloseText left id rest × IsId id
 close_there t version max left rest id b = ((b.0, b.1.0, b.2), b.1.1)

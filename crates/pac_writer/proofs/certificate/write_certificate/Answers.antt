@@ -1,9 +1,10 @@
-use Rattle.std.proofs.Common.{Err, Ok, Some, ◌++◌, subst}
+use Rattle.std.proofs.Common.{[], ◌++◌, ◌∷◌}
+use Rattle.graph_core.specs.Text.{newline}
 use Rattle.graph_core.specs.Algebra.Text.{algebra_header}
 use Rattle.poly_terms.specs.Tables.{modulus_in}
-use Rattle.pac_writer.specs.Certificates.{closing_text, written_lines}
 use Rattle.poly_text.specs.Recorded.{lines_in}
-use Rattle.pac_writer.proofs.Wrote.{WritesText, failed_before, returned, writes_then}
+use Rattle.poly_text.specs.WrittenLines.{closing_text, written_lines}
+use Rattle.pac_writer.proofs.Wrote.{failed_before, returned, writes_then}
 use Rattle.pac_writer.proofs.certificate.write_certificate.Goals as goal
 
 pub returns-in_err-write_header : goal.returns-in_err-write_header
@@ -13,7 +14,7 @@ returns-in_err-write_header g c =
     let v = g.D.Desk.seen c.write_header.new.desk in
     let here = c.in_err-write_header.ensures in
     let lines = written_lines (modulus_in c.args.terms.now) (lines_in c.args.terms.now c.args.lines.now) in
-    let close = closing_text (Some c.args.closing) in
+    let close = closing_text c.args.closing ++ newline ∷ [] in
     returned (algebra_header c.args.version ++ (lines ++ close)) c.from_residual.result e u v c.from_residual.ensures.0
     (failed_before (algebra_header c.args.version) (lines ++ close) e u v here)
 
@@ -25,7 +26,7 @@ returns-in_err-write_lines g c =
     let w = g.D.Desk.seen c.write_lines.new.desk in
     let begun = c.in_ok-write_header.ensures in
     let lines = written_lines (modulus_in c.args.terms.now) (lines_in c.args.terms.now c.args.lines.now) in
-    let close = closing_text (Some c.args.closing) in
+    let close = closing_text c.args.closing ++ newline ∷ [] in
     returned (algebra_header c.args.version ++ (lines ++ close)) c.from_residual-in_err-write_lines.result e u w c.from_residual-in_err-write_lines.ensures.0
     (writes_then (algebra_header c.args.version) (lines ++ close) _ u v w begun
     (failed_before lines close e v w c.in_err-write_lines.ensures.writes))
@@ -39,7 +40,6 @@ returns g c =
     let x = g.D.Desk.seen c.write_line.new.desk in
     let begun = c.in_ok-write_header.ensures in
     let lines = written_lines (modulus_in c.args.terms.now) (lines_in c.args.terms.now c.args.lines.now) in
-    let close = closing_text (Some c.args.closing) in
+    let close = closing_text c.args.closing ++ newline ∷ [] in
     writes_then (algebra_header c.args.version) (lines ++ close) r u v x begun
-    (writes_then lines close r v w x c.in_ok-write_lines.ensures.writes
-    (record { whole = c.write_line.ensures.whole; part = c.write_line.ensures.part; cause = c.write_line.ensures.cause; tells = c.write_line.ensures.tells }))
+    (writes_then lines close r v w x c.in_ok-write_lines.ensures.writes c.write_line.ensures)

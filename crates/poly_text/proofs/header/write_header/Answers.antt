@@ -1,4 +1,3 @@
-use Rattle.mv_desk.specs.Calls.{Writes}
 use Rattle.std.proofs.Math.Nat.{le_trans}
 use Rattle.std.proofs.Common.{lit≤}
 use Rattle.graph_core.specs.Algebra.Text.{algebra_header}

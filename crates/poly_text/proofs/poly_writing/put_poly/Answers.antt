@@ -15,16 +15,16 @@ pub returns-then-size-eq0-clause-open : goal.returns-then-size-eq0-clause-open
 returns-then-size-eq0-clause-open g c = c.put.ensures.open
 
 pub returns-then-size-eq0-clause-puts : goal.returns-then-size-eq0-clause-puts
-returns-then-size-eq0-clause-puts g c = Puts-is (sym (no_term c.args.terms.now c.args.poly.now (sym c.size-size.ensures.monomials ∙ c.if-size-eq0.true))) c.put.ensures.puts
+returns-then-size-eq0-clause-puts g c = Puts-is (sym (no_term (modulus_in c.args.terms.now) (monomials_in c.args.terms.now c.args.poly.now) (sym c.size-size.ensures.monomials ∙ c.if-size-eq0.true))) c.put.ensures.puts
 
 pub loop-i-init : goal.loop-i-init
 loop-i-init g c =
-    let t = c.args.terms.now in
-    let p = c.args.poly.now in
+    let m = modulus_in c.args.terms.now in
+    let ts = monomials_in c.args.terms.now c.args.poly.now in
     let v = g.D.Desk.seen c.args.desk.now in
     record {
       «open» = c.requires.open;
-      puts = subst (λ rest. PutsUpTo (poly_text t p) rest c.args.output.now c.args.output.now v v) (some_terms t p (λ e. c.if-size-eq0.false (c.size-size.ensures.monomials ∙ e))) (up_to_none (poly_text t p) c.args.output.now v);
+      puts = subst (λ rest. PutsUpTo (poly_text m ts) rest c.args.output.now c.args.output.now v v) (some_terms m ts (λ e. c.if-size-eq0.false (c.size-size.ensures.monomials ∙ e))) (up_to_none (poly_text m ts) c.args.output.now v);
     }
 
 pub put_term-requires-clause-open : goal.put_term-requires-clause-open

@@ -1,9 +1,9 @@
 use Rattle.std.proofs.Common.{ap, lit≤, subst, sym, true}
 use Rattle.std.specs.Prelude.{codes, decimal}
 use Rattle.std.specs.List.{All}
-use Rattle.poly_terms.specs.Tables.{IsOf}
-use Rattle.poly_text.specs.Lines.{AreOf}
-use Rattle.poly_text.specs.WrittenLines.{line_text, parts_text, poly_text}
+use Rattle.poly_terms.specs.Tables.{IsOf, modulus_in, monomials_in}
+use Rattle.poly_text.specs.Lines.{AreOf, parts_in}
+use Rattle.poly_text.specs.WrittenLines.{parts_text, poly_text, text_in}
 use Rattle.mv_text.proofs.CallerLemmas.{Puts-is, Puts-more, Puts-then}
 use Rattle.poly_text.proofs.writing.put_line.Goals as goal
 
@@ -38,7 +38,7 @@ pub returns-in-Sum-clause-puts : goal.returns-in-Sum-clause-puts
 returns-in-Sum-clause-puts g c =
     let t = c.args.terms.now in
     let ids = Puts-more (decimal c.in-Sum.j) (codes ", ") (Puts-more (decimal c.in-Sum.i) (codes ", ") c.put_id.ensures.puts c.put_id-in-Sum.ensures.puts) c.put_id-in-Sum-2.ensures.puts in
-    Puts-is (sym (ap (line_text t) c.in-Sum.is)) (Puts-more (poly_text t c.in-Sum.poly) (codes ";") ids c.put_stated.ensures.puts)
+    Puts-is (sym (ap (text_in t) c.in-Sum.is)) (Puts-more (poly_text (modulus_in t) (monomials_in t c.in-Sum.poly)) (codes ";") ids c.put_stated.ensures.puts)
 
 pub put_id-requires-in-Product-clause-open : goal.put_id-requires-in-Product-clause-open
 put_id-requires-in-Product-clause-open g c = c.requires.open
@@ -78,7 +78,7 @@ returns-in-Product-clause-puts g c =
     let t = c.args.terms.now in
     let ids = Puts-more (decimal c.in-Product.i) (codes ", ") c.put_id-in-Product.ensures.puts c.put_id-in-Product-2.ensures.puts in
     let factor = Puts-then (Puts-then ids c.put_poly.ensures.puts) c.put.ensures.puts in
-    Puts-is (sym (ap (line_text t) c.in-Product.is)) (Puts-more (poly_text t c.in-Product.poly) (codes ";") factor c.put_stated-in-Product.ensures.puts)
+    Puts-is (sym (ap (text_in t) c.in-Product.is)) (Puts-more (poly_text (modulus_in t) (monomials_in t c.in-Product.poly)) (codes ";") factor c.put_stated-in-Product.ensures.puts)
 
 pub put_id-requires-in-Combination-clause-open : goal.put_id-requires-in-Combination-clause-open
 put_id-requires-in-Combination-clause-open g c = c.requires.open
@@ -111,9 +111,9 @@ returns-in-Combination-clause-open g c = c.put_stated-in-Combination.ensures.ope
 pub returns-in-Combination-clause-puts : goal.returns-in-Combination-clause-puts
 returns-in-Combination-clause-puts g c =
     let t = c.args.terms.now in
-    let parts = Puts-is (ap (parts_text t true) c.as_slice.ensures) c.put_parts.ensures.puts in
+    let parts = Puts-is (ap (λ l. parts_text (modulus_in t) true (parts_in t l)) c.as_slice.ensures) c.put_parts.ensures.puts in
     let front = Puts-then (Puts-then c.put_id-in-Combination.ensures.puts parts) c.put-in-Combination.ensures.puts in
-    Puts-is (sym (ap (line_text t) c.in-Combination.is)) (Puts-more (poly_text t c.in-Combination.poly) (codes ";") front c.put_stated-in-Combination.ensures.puts)
+    Puts-is (sym (ap (text_in t) c.in-Combination.is)) (Puts-more (poly_text (modulus_in t) (monomials_in t c.in-Combination.poly)) (codes ";") front c.put_stated-in-Combination.ensures.puts)
 
 pub put_id-requires-in-Import-clause-open : goal.put_id-requires-in-Import-clause-open
 put_id-requires-in-Import-clause-open g c = c.requires.open
@@ -140,7 +140,7 @@ pub returns-in-Import-clause-puts : goal.returns-in-Import-clause-puts
 returns-in-Import-clause-puts g c =
     let t = c.args.terms.now in
     let ids = Puts-more (decimal c.in-Import.clause) (codes ", ") c.put_id-in-Import.ensures.puts c.put_id-in-Import-2.ensures.puts in
-    Puts-is (sym (ap (line_text t) c.in-Import.is)) (Puts-more (poly_text t c.in-Import.poly) (codes ";") ids c.put_stated-in-Import.ensures.puts)
+    Puts-is (sym (ap (text_in t) c.in-Import.is)) (Puts-more (poly_text (modulus_in t) (monomials_in t c.in-Import.poly)) (codes ";") ids c.put_stated-in-Import.ensures.puts)
 
 pub put_id-requires-in-Drop-clause-open : goal.put_id-requires-in-Drop-clause-open
 put_id-requires-in-Drop-clause-open g c = c.requires.open
@@ -152,7 +152,7 @@ pub returns-in-Drop-clause-open : goal.returns-in-Drop-clause-open
 returns-in-Drop-clause-open g c = c.put_id-in-Drop.ensures.open
 
 pub returns-in-Drop-clause-puts : goal.returns-in-Drop-clause-puts
-returns-in-Drop-clause-puts g c = Puts-is (sym (ap (line_text c.args.terms.now) c.in-Drop.is)) c.put_id-in-Drop.ensures.puts
+returns-in-Drop-clause-puts g c = Puts-is (sym (ap (text_in c.args.terms.now) c.in-Drop.is)) c.put_id-in-Drop.ensures.puts
 
 pub put-requires-in-Close-clause-open : goal.put-requires-in-Close-clause-open
 put-requires-in-Close-clause-open g c = c.requires.open
@@ -171,5 +171,5 @@ returns-in-Close-clause-open g c = c.put_id-in-Close.ensures.open
 
 pub returns-in-Close-clause-puts : goal.returns-in-Close-clause-puts
 returns-in-Close-clause-puts g c =
-    Puts-is (sym (ap (line_text c.args.terms.now) c.in-Close.is))
+    Puts-is (sym (ap (text_in c.args.terms.now) c.in-Close.is))
     (Puts-more (decimal c.in-Close.id) (codes ";") c.put-in-Close.ensures.puts c.put_id-in-Close.ensures.puts)

@@ -3,8 +3,7 @@ use Rattle.std.specs.List.{All}
 use Rattle.std.proofs.Common.{◌∙◌, ap, subst, sym}
 use Rattle.poly_terms.specs.Tables.{modulus_in}
 use Rattle.poly_text.specs.Lines.{AreOf, line_in}
-use Rattle.poly_text.specs.WrittenLines.{IsWritable}
-use Rattle.pac_writer.specs.Certificates.{written_certificate}
+use Rattle.poly_text.specs.WrittenLines.{IsWritable, written_certificate}
 use Rattle.pac_writer.specs.Writing.{Made, AreLawfulSoFar}
 use Rattle.poly_text.specs.Recorded.{lines_in}
 use Rattle.pac_writer.proofs.Combining.{closing_is_id}

@@ -1,4 +1,4 @@
-use Rattle.std.proofs.Common.{◌∙◌, ℕ, List, ap, subst, sym}
+use Rattle.std.proofs.Common.{◌∙◌, ℕ, subst, sym}
 use Rattle.std.specs.Global.{Global}
 use Rattle.std.specs.Result.{IfErr, IfOk, result_err}
 use Rattle.std.specs.declared.result.Result.{Result}
