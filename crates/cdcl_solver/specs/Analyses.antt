@@ -54,7 +54,8 @@ SeesLate standing old new l = IsLate standing old l ×
 
 abbrev pub SeesEarly : List ℤ → AnalysisView → AnalysisView → ℤ → Type 0
 SeesEarly standing old new l = (IsLate standing old l → ⊥) ×
-    (new ≡ record { level = old.level; seen = slice_set old.seen (signed_variable l) true; places = old.places; lits = old.lits ++ l ∷ []; lowest = old.lowest })
+    (new ≡ record
+    { level = old.level; seen = slice_set old.seen (signed_variable l) true; places = old.places; lits = old.lits ++ l ∷ []; lowest = old.lowest })
 
 -- what seeing one literal does: it is seen already, or comes from the last level, or goes to the lemma
 abbrev pub Sees : List ℤ → AnalysisView → AnalysisView → ℤ → Type 0
@@ -70,7 +71,8 @@ pub record SeesAll (old new : AnalysisView) (c : Clause) (n : ℕ) : Type 0 wher
 
 -- each literal of the clause is false, or its variable was seen
 abbrev pub IsFalseOrSeen : Standing → AnalysisView → ℕ → Type 0
-IsFalseOrSeen s a r = (c : Clause) → clause_at s.clauses r ≡ Some c → (k : ℤ) → Contains c k → Contains s.trail.literals (neg_ℤ k) ⊎ IsSeen a (signed_variable k)
+IsFalseOrSeen s a r =
+    (c : Clause) → clause_at s.clauses r ≡ Some c → (k : ℤ) → Contains c k → Contains s.trail.literals (neg_ℤ k) ⊎ IsSeen a (signed_variable k)
 
 -- the variables of a live clause were seen
 abbrev pub MarksClause : Standing → AnalysisView → AnalysisView → ℕ → Type 0

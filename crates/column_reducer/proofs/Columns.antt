@@ -33,7 +33,7 @@ use Rattle.frontier_core.proofs.Gathered.{combined_push, has_first, has_more, pe
 use Rattle.frontier_core.proofs.LineLemmas.{axioms_are_live}
 use Rattle.frontier_core.proofs.RestLines.{adding_keeps_rest_line}
 use Rattle.column_reducer.specs.declared.gathered.Gathered.{Gathered}
-use Rattle.column_reducer.specs.Gathering.{AreColumns, AreGateParts, AreOfAdded, AreSumGroups, HasColumn, HasColumnIn, IsFixedAbove, IsGathered, group_count, groups_sum, one_if_some, scaled_parts}
+use Rattle.column_reducer.specs.Gathering.{AreColumns, AreGateParts, AreOfAdded, AreSumBatches, HasColumn, HasColumnIn, IsFixedAbove, IsGathered, batch_count, batches_sum, one_if_some, scaled_parts}
 use Rattle.column_reducer.proofs.Fixed.{literal_fixed, new_outputs_low, output_low, outputs_low, over_fixed, same_fixed}
 use Rattle.column_reducer.proofs.Grown.{gathered_grown}
 use Rattle.column_reducer.proofs.Taken.{part_pushed}
@@ -79,7 +79,7 @@ column_kept t e k g kept = record {
       let old : slice_get e.graph.outputs k ≡ Some o = slice_get-get_or e.graph.outputs k (record { 0 = 0 }) low in
       let out : slice_get (new_outputs e) k ≡ Some o = outputs_are_new.kept e k kept ∙ old in
       record {
-        groups = h.groups;
+        batches = h.batches;
         added = added_more e f.added k g.columns.items h.added;
         parts = h.parts;
         fixed = h.fixed;
@@ -134,8 +134,8 @@ columns_pushed e t added k weight columns same low new live of weight_is are h =
 pub column_taken : (t0 t1 t2 t : Table) (e : Extended) (k : ℕ) (o r : Lit) (equal weight : Sum) (g more : Gathered) → Extends t0 t1 → Extends t1 t2 → Extends t2 t → IsReplaced e k →
     slice_get e.graph.outputs k ≡ Some o → slice_get (new_outputs e) k ≡ Some r → IsOf t1 equal → IsLiteralDifference t1 equal o r → IsOf t2 weight → ((σ : Assignment) → value_in t2 weight σ ≡ 2 ^ k) → IsOf t more.total →
     ((σ : Assignment) → value_in t more.total σ ≡ (value_in t2 g.total σ + value_in t2 equal σ * value_in t2 weight σ) % modulus_in t2) →
-    more.groups ≡ g.groups → more.columns.items ≡ g.columns.items ++ (e.max + 1 + k, weight) ∷ [] → more.parts ≡ g.parts → more.stated ≡ g.stated → more.power ≡ g.power → HasColumn t0 t e k g more
-column_taken t0 t1 t2 t e k o r equal weight g more first second third replaced old out of_axiom axiom_is of_weight weight_is of_total total_is groups columns parts stated power = record {
+    more.batches ≡ g.batches → more.columns.items ≡ g.columns.items ++ (e.max + 1 + k, weight) ∷ [] → more.parts ≡ g.parts → more.stated ≡ g.stated → more.power ≡ g.power → HasColumn t0 t e k g more
+column_taken t0 t1 t2 t e k o r equal weight g more first second third replaced old out of_axiom axiom_is of_weight weight_is of_total total_is batches columns parts stated power = record {
   gathered = λ s f rest next same made low new sum h0.
       let m = algebra.modulus e in
       let live = (axioms e).live in
@@ -151,30 +151,30 @@ column_taken t0 t1 t2 t e k o r equal weight g more first second third replaced 
       let axiom_now : (σ : Assignment) → value_in t2 equal σ ≡ d σ = λ σ.
       value_stays t1 t2 equal σ second of_axiom ∙ axiom_is σ ∙ ap (λ n. difference n (bit (literal σ o)) (bit (literal σ r))) (modulus_stays t0 t1 first ∙ same) in
       let total_now : (σ : Assignment) → value_in t more.total σ ≡ (value_in t g.total σ + d σ * 2 ^ k) % m = λ σ.
-      total_is σ ∙ ap₂ (λ x n. (x + value_in t2 equal σ * value_in t2 weight σ) % n) (sym (value_stays t2 t g.total σ third (stays t0 t2 g.total to2 h0.groups.of))) there ∙
+      total_is σ ∙ ap₂ (λ x n. (x + value_in t2 equal σ * value_in t2 weight σ) % n) (sym (value_stays t2 t g.total σ third (stays t0 t2 g.total to2 h0.batches.of))) there ∙
       ap₂ (λ x y. (value_in t g.total σ + x * y) % m) (axiom_now σ) (weight_is σ) in
       let pushed : AreColumns e t (g.columns.items ++ (id, weight) ∷ []) =
-      columns_pushed e t f.added k weight g.columns.items here low new column.live (stays t2 t weight third of_weight) weight_now h.added h.groups.of_columns in
-      let all_groups : AreSumGroups e t g.groups.items (g.columns.items ++ (id, weight) ∷ []) more.total = record {
-        groups = h.groups.groups;
+      columns_pushed e t f.added k weight g.columns.items here low new column.live (stays t2 t weight third of_weight) weight_now h.added h.batches.of_columns in
+      let all_batches : AreSumBatches e t g.batches.items (g.columns.items ++ (id, weight) ∷ []) more.total = record {
+        batches = h.batches.batches;
         of_columns = pushed;
         of = of_total;
         fixed = same_fixed e.max (value_in t more.total) (λ σ. (value_in t g.total σ + d σ * 2 ^ k) % m) total_now
-            (λ v b σ above. ap₂ (λ x y. (x + y * 2 ^ k) % m) (h.groups.fixed v b σ above)
+            (λ v b σ above. ap₂ (λ x y. (x + y * 2 ^ k) % m) (h.batches.fixed v b σ above)
             (ap₂ (λ x y. difference m (bit x) (bit y)) (literal_fixed e.max o v b σ above (output_low e.graph.outputs e.max k o (outputs_low e made) old))
             (literal_fixed e.max r v b σ above (output_low (new_outputs e) e.max k r (new_outputs_low e made) out))));
         sum = λ σ.
-            let own = groups_sum t g.groups.items σ in
+            let own = batches_sum t g.batches.items σ in
             let c = combined m live (parts_in t g.columns.items) σ in
             let factor : value m (monomials_in t weight) σ ≡ 2 ^ k = ap (λ n. value n (monomials_in t weight) σ) (sym here) ∙ weight_now σ in
             let one : value_of live id σ * value m (monomials_in t weight) σ ≡ d σ * 2 ^ k = ap₂ ◌*◌ (column.states σ) factor in
             let parts_are : combined m live (parts_in t (g.columns.items ++ (id, weight) ∷ [])) σ ≡ c + value_of live id σ * value m (monomials_in t weight) σ =
             ap (λ ps. combined m live ps σ) (part_pushed t g.columns.items (id, weight)) ∙ combined_push m live (parts_in t g.columns.items) (record { id = id; factor = monomials_in t weight }) σ in
             let sum_is : own + combined m live (parts_in t (g.columns.items ++ (id, weight) ∷ [])) σ ≡ (own + c) + d σ * 2 ^ k = omega (arith, parts_are, one) in
-            ap (λ n. n % m) sum_is ∙ sym (mod-add-mod (own + c) m (d σ * 2 ^ k)) ∙ ap (λ n. (n + d σ * 2 ^ k) % m) (h.groups.sum σ) ∙ sym (total_now σ);
+            ap (λ n. n % m) sum_is ∙ sym (mod-add-mod (own + c) m (d σ * 2 ^ k)) ∙ ap (λ n. (n + d σ * 2 ^ k) % m) (h.batches.sum σ) ∙ sym (total_now σ);
       } in
       record {
-        groups = subst (λ gs. AreSumGroups e t gs.items more.columns.items more.total) (sym groups) (subst (λ cs. AreSumGroups e t g.groups.items cs more.total) (sym columns) all_groups);
+        batches = subst (λ gs. AreSumBatches e t gs.items more.columns.items more.total) (sym batches) (subst (λ cs. AreSumBatches e t g.batches.items cs more.total) (sym columns) all_batches);
         added = subst (AreOfAdded e (k ∷ f.added)) (sym columns)
             (All-push (λ p. (j : ℕ) × (has (k ∷ f.added) j ≡ true) × (p.0 ≡ e.max + 1 + j)) g.columns.items (id, weight) (added_more e f.added k g.columns.items h.added) (k, has_first k f.added, refl));
         parts = subst (λ ps. AreGateParts e t ps.items) (sym parts) h.parts;
@@ -186,7 +186,7 @@ column_taken t0 t1 t2 t e k o r equal weight g more first second third replaced 
         of = subst (IsOf t) (sym stated) h.of;
         sum = λ σ. ap (λ p. value_in t p σ) stated ∙ h.sum σ ∙ sym (ap (λ ps. combined m live (parts_in t ps.items) σ % m) parts);
       };
-  count = ap₂ (λ gs ps. length gs.items + one_if_some ps.items) groups parts;
+  count = ap₂ (λ gs ps. length gs.items + one_if_some ps.items) batches parts;
 }
 
 -- ---- in what may be kept
@@ -200,7 +200,7 @@ column_in e s t0 t1 t f p next k (Some g) None made same first of low new sum ta
 column_in e s t0 t1 t f p next k (Some g) (Some more) made same first of low new sum takes h =
     takes.gathered s f (value_in t0 p) next (modulus_stays t0 t1 first ∙ same) made low new sum (gathered_grown e s t0 t1 f (value_in t0 p) g first h)
 
-pub few_columns : (n : ℕ) (t0 t : Table) (e : Extended) (k : ℕ) (g more : Option Gathered) → HasColumnIn t0 t e k g more → IfSome g (λ x. group_count x ≤ n) → IfSome more (λ x. group_count x ≤ n)
+pub few_columns : (n : ℕ) (t0 t : Table) (e : Extended) (k : ℕ) (g more : Option Gathered) → HasColumnIn t0 t e k g more → IfSome g (λ x. batch_count x ≤ n) → IfSome more (λ x. batch_count x ≤ n)
 few_columns n t0 t e k None None takes h = tt
 few_columns n t0 t e k None (Some more) takes h = cc
 few_columns n t0 t e k (Some g) None takes h = absurd takes

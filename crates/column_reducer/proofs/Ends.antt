@@ -72,7 +72,7 @@ pub may_be_passed : (p : Planned) (s : Sides) (t : Table) (budget count : ℕ) (
 may_be_passed p s t budget count None w h low is above size before = tt
 may_be_passed p s t budget count (Some r) w h low is above size before = is_passed p s t budget count r.0 r.1 w h is low size above before
 
--- what the groups state in all is the specification minus the rest
+-- what the batches state in all is the specification minus the rest
 total_at_end : (e : Extended) (s : Sides) (t : Table) (f : Taken) (rest : Sum) (g : Gathered) → modulus_in t ≡ algebra.modulus e → ((k : ℕ) → k < length e.graph.outputs → has f.added k ≡ true) → length f.eliminated ≤ length e.gates →
     HasEnded e s t f rest g → AreTotal e s t rest g
 total_at_end e s t f rest g same all few h =
@@ -80,7 +80,7 @@ total_at_end e s t f rest g same all few h =
     let alone : (σ : Assignment) → (value_in t g.total σ + 0) % m ≡ gap e s f.added (value_in t rest) σ = λ σ.
     sym (ap (λ ps. (value_in t g.total σ + combined m (axioms e).live (scaled_parts t g.power ps) σ) % m) h.none) ∙ h.gathered.pending.sum σ in
     record {
-      groups = h.gathered.groups;
+      batches = h.gathered.batches;
       few = let low = h.few in omega arith;
       total = λ σ. sym (mod-mod (sum_of (modulus_in t) (monomials_in t g.total) σ) (modulus_in t)) ∙ ap (λ k. value_in t g.total σ % k) same ∙ ap (λ z. z % m) (omega arith) ∙
           alone σ ∙ (total_ends e s f.added (value_in t rest) all).0 σ;

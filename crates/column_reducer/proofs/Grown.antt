@@ -16,8 +16,8 @@ use Rattle.pac_writer.specs.Writing.{IsOver}
 use Rattle.frontier_core.specs.Plan.{Taken}
 use Rattle.frontier_core.specs.Pending.{AreSpare, IsNotZero, IsPending}
 use Rattle.column_reducer.specs.declared.gathered.Gathered.{Gathered}
-use Rattle.column_reducer.specs.declared.gathered.Group.{Group}
-use Rattle.column_reducer.specs.Gathering.{AreColumns, AreGateParts, AreSumGroups, IsFixedAbove, IsGathered, IsGroup, groups_sum, scaled_parts, times}
+use Rattle.column_reducer.specs.declared.gathered.Batch.{Batch}
+use Rattle.column_reducer.specs.Gathering.{AreColumns, AreGateParts, AreSumBatches, IsFixedAbove, IsGathered, IsBatch, batches_sum, scaled_parts, times}
 use Rattle.poly_text.specs.Lines.{parts_in}
 
 -- a polynomial keeps its function
@@ -42,8 +42,8 @@ parts_grown e t0 t1 parts grown h = record {
   gates = h.gates;
 }
 
-group_grown : (e : Extended) (t0 t1 : Table) (g : Group) → Extends t0 t1 → IsGroup e t0 g → IsGroup e t1 g
-group_grown e t0 t1 g grown h =
+batch_grown : (e : Extended) (t0 t1 : Table) (g : Batch) → Extends t0 t1 → IsBatch e t0 g → IsBatch e t1 g
+batch_grown e t0 t1 g grown h =
     let told = parts_stay e t0 t1 g.parts.items grown h.parts in
     record {
       some = h.some;
@@ -55,7 +55,7 @@ group_grown e t0 t1 g grown h =
       nonzero = subst (IsNotZero (algebra.modulus e)) (sym (monomials_stay t0 t1 g.weight grown h.of_weight.0)) h.nonzero;
     }
 
-sum_grown : (e : Extended) (t0 t1 : Table) (gs : List Group) (σ : Assignment) → Extends t0 t1 → AllByRecursion (IsGroup e t0) gs → groups_sum t1 gs σ ≡ groups_sum t0 gs σ
+sum_grown : (e : Extended) (t0 t1 : Table) (gs : List Batch) (σ : Assignment) → Extends t0 t1 → AllByRecursion (IsBatch e t0) gs → batches_sum t1 gs σ ≡ batches_sum t0 gs σ
 sum_grown e t0 t1 [] σ grown h = refl
 sum_grown e t0 t1 (g ∷ gs) σ grown h = ap₂ ◌+◌ (ap₂ ◌*◌ (value_stays t0 t1 g.poly σ grown h.0.of.0) (value_stays t0 t1 g.weight σ grown h.0.of_weight.0)) (sum_grown e t0 t1 gs σ grown h.1)
 
@@ -71,14 +71,14 @@ columns_grown e t0 t1 columns grown h = record {
   ids = h.ids;
 }
 
-pub groups_grown : (e : Extended) (t0 t1 : Table) (gs : List Group) (columns : List (ℕ × Sum)) (total : Sum) → Extends t0 t1 → AreSumGroups e t0 gs columns total → AreSumGroups e t1 gs columns total
-groups_grown e t0 t1 gs columns total grown h = record {
-  groups = λ k d low. group_grown e t0 t1 (slice_index_or gs k d) grown (h.groups k d low);
+pub batches_grown : (e : Extended) (t0 t1 : Table) (gs : List Batch) (columns : List (ℕ × Sum)) (total : Sum) → Extends t0 t1 → AreSumBatches e t0 gs columns total → AreSumBatches e t1 gs columns total
+batches_grown e t0 t1 gs columns total grown h = record {
+  batches = λ k d low. batch_grown e t0 t1 (slice_index_or gs k d) grown (h.batches k d low);
   of_columns = columns_grown e t0 t1 columns grown h.of_columns;
   of = stays t0 t1 total grown h.of;
   fixed = subst (IsFixedAbove e.max) (sym (function_stays t0 t1 total grown h.of)) h.fixed;
   sum = λ σ.
-      ap₂ (λ a ps. (a + combined (algebra.modulus e) (axioms e).live ps σ) % algebra.modulus e) (sum_grown e t0 t1 gs σ grown (recursion_from_All (IsGroup e t0) gs h.groups))
+      ap₂ (λ a ps. (a + combined (algebra.modulus e) (axioms e).live ps σ) % algebra.modulus e) (sum_grown e t0 t1 gs σ grown (recursion_from_All (IsBatch e t0) gs h.batches))
       (columns_stay e t0 t1 columns grown h.of_columns) ∙ h.sum σ ∙ sym (value_stays t0 t1 total σ grown h.of);
 }
 
@@ -113,12 +113,12 @@ gathered_grown e s t0 t1 f rest g grown h =
     let live = (axioms e).live in
     let told = parts_stay e t0 t1 g.parts.items grown h.parts in
     record {
-      groups = groups_grown e t0 t1 g.groups.items g.columns.items g.total grown h.groups;
+      batches = batches_grown e t0 t1 g.batches.items g.columns.items g.total grown h.batches;
       added = h.added;
       parts = parts_grown e t0 t1 g.parts.items grown h.parts;
       fixed = subst (λ ps. IsFixedAbove e.max (combined m live ps)) (sym told) h.fixed;
       low = subst (λ k. g.power < k) (sym (exponent_stays t0 t1 grown)) h.low;
-      pending = subst (λ start. IsPending e s live start f rest (scaled_parts t1 g.power g.parts.items)) (sym (function_stays t0 t1 g.total grown h.groups.of))
+      pending = subst (λ start. IsPending e s live start f rest (scaled_parts t1 g.power g.parts.items)) (sym (function_stays t0 t1 g.total grown h.batches.of))
           (subst (IsPending e s live (value_in t0 g.total) f rest) (sym (whole_stays e t0 t1 g.power g.parts.items grown h.parts)) h.pending);
       of = stays t0 t1 g.stated grown h.of;
       sum = λ σ. value_stays t0 t1 g.stated σ grown h.of ∙ h.sum σ ∙ ap (λ ps. combined m live ps σ % m) (sym told);

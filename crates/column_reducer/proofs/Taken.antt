@@ -1,4 +1,4 @@
--- What is gathered before the first step, after a part was taken, and after a group was ended.
+-- What is gathered before the first step, after a part was taken, and after a batch was ended.
 use Rattle.std.specs.Prelude.{◌≡◌, ◌≢◌, ℕ, ◌+◌, ◌*◌, ◌%◌, ◌^◌, ◌<◌, ◌≤◌, true, false, List, [], ◌∷◌, ◌++◌, map, length, suc, IfSome}
 use Rattle.std.specs.List.{AllByRecursion, AllPairs, Contains}
 use Rattle.std.specs.declared.option.Option.{Option}
@@ -40,8 +40,8 @@ use Rattle.frontier_core.proofs.PlainOrders.{gates_had}
 use Rattle.frontier_core.proofs.RestLines.{difference_small, rest_line_starts}
 use Rattle.column_reducer.specs.declared.gate_part.GatePart.{GatePart}
 use Rattle.column_reducer.specs.declared.gathered.Gathered.{Gathered}
-use Rattle.column_reducer.specs.declared.gathered.Group.{Group}
-use Rattle.column_reducer.specs.Gathering.{AreColumns, AreGateParts, AreOfAdded, AreSumGroups, HasPart, HasPower, HasTakenGate, IsEndedGroup, IsFixedAbove, IsGatePart, IsGatePartOf, IsGathered, IsGroup, IsLeft, IsNext, KeepsGathered, groups_sum, one_if_some, scaled_parts, times}
+use Rattle.column_reducer.specs.declared.gathered.Batch.{Batch}
+use Rattle.column_reducer.specs.Gathering.{AreColumns, AreGateParts, AreOfAdded, AreSumBatches, HasPart, HasPower, HasTakenGate, IsEndedBatch, IsFixedAbove, IsGatePart, IsGatePartOf, IsGathered, IsBatch, IsLeft, IsNext, KeepsGathered, batches_sum, one_if_some, scaled_parts, times}
 use Rattle.column_reducer.proofs.Fixed.{axiom_fixed, fixed_over, over_fixed, quotient_fixed, same_fixed}
 use Rattle.column_reducer.proofs.Grown.{gathered_grown, over_grown}
 use Rattle.column_reducer.proofs.Sizes.{opposite_zero}
@@ -122,46 +122,46 @@ no_columns e t = record {
   ids = λ k d low. absurd (omega arith);
 }
 
-no_groups : (e : Extended) (t : Table) (total : Sum) → IsOf t total → ((σ : Assignment) → value_in t total σ ≡ 0) → AreSumGroups e t [] [] total
-no_groups e t total of none = record {
-  groups = λ k d low. absurd (omega arith);
+no_batches : (e : Extended) (t : Table) (total : Sum) → IsOf t total → ((σ : Assignment) → value_in t total σ ≡ 0) → AreSumBatches e t [] [] total
+no_batches e t total of none = record {
+  batches = λ k d low. absurd (omega arith);
   of_columns = no_columns e t;
   of = of;
   fixed = λ v b σ above. none (set_to v b σ) ∙ sym (none σ);
   sum = λ σ. zero-mod (algebra.modulus e) ∙ sym (none σ);
 }
 
--- no part is open, and the ended groups state the gap
-nothing_open : (e : Extended) (s : Sides) (t : Table) (f : Taken) (rest : Assignment → ℕ) (g : Gathered) → AreSumGroups e t g.groups.items g.columns.items g.total → AreOfAdded e f.added g.columns.items →
+-- no part is open, and the ended batches state the gap
+nothing_open : (e : Extended) (s : Sides) (t : Table) (f : Taken) (rest : Assignment → ℕ) (g : Gathered) → AreSumBatches e t g.batches.items g.columns.items g.total → AreOfAdded e f.added g.columns.items →
     ((σ : Assignment) → value_in t g.total σ ≡ gap e s f.added rest σ) → g.power < t.exponent → g.parts.items ≡ [] → g.stated ≡ [] → IsGathered e s t f rest g
-nothing_open e s t f rest g groups added is low parts stated =
+nothing_open e s t f rest g batches added is low parts stated =
     let m = algebra.modulus e in
     let live = (axioms e).live in
     record {
-      groups = groups;
+      batches = batches;
       added = added;
       parts = subst (AreGateParts e t) (sym parts) (no_parts e t);
       fixed = subst (λ ps. IsFixedAbove e.max (combined m live (parts_in t ps))) (sym parts) (λ v b σ above. refl);
       low = low;
       pending = subst (λ ps. IsPending e s live (value_in t g.total) f rest (scaled_parts t g.power ps)) (sym parts)
           (subst (λ (h : Assignment → ℕ). IsPending e s live h f rest []) (sym (fun_ext is)) (pending_starts e s live f rest));
-      of = subst (IsOf t) (sym stated) (zero_of t (table_once t g.total groups.of));
+      of = subst (IsOf t) (sym stated) (zero_of t (table_once t g.total batches.of));
       sum = λ σ. ap (λ p. value_in t p σ) stated ∙ zero-value t σ ∙ sym (ap (λ ps. combined m live (parts_in t ps) σ % m) parts ∙ zero-mod m);
     }
 
-pub gathered_first : (e : Extended) (s : Sides) (t : Table) (rest : Assignment → ℕ) (g : Gathered) → g.groups.items ≡ [] → g.columns.items ≡ [] → g.parts.items ≡ [] → g.stated ≡ [] → g.power < t.exponent → IsOf t g.total →
+pub gathered_first : (e : Extended) (s : Sides) (t : Table) (rest : Assignment → ℕ) (g : Gathered) → g.batches.items ≡ [] → g.columns.items ≡ [] → g.parts.items ≡ [] → g.stated ≡ [] → g.power < t.exponent → IsOf t g.total →
     ((σ : Assignment) → value_in t g.total σ ≡ 0) → ((σ : Assignment) → rest σ ≡ 0) → IsGathered e s t nothing rest g
-gathered_first e s t rest g groups columns parts stated low of none rest_none =
-    nothing_open e s t nothing rest g (subst (λ gs. AreSumGroups e t gs g.columns.items g.total) (sym groups) (subst (λ cs. AreSumGroups e t [] cs g.total) (sym columns) (no_groups e t g.total of none)))
+gathered_first e s t rest g batches columns parts stated low of none rest_none =
+    nothing_open e s t nothing rest g (subst (λ gs. AreSumBatches e t gs g.columns.items g.total) (sym batches) (subst (λ cs. AreSumBatches e t [] cs g.total) (sym columns) (no_batches e t g.total of none)))
     (subst (AreOfAdded e []) (sym columns) (λ k d low'. absurd (omega arith)))
     (λ σ. none σ ∙ rest_line_starts e s (λ τ. 0) rest (λ τ. refl) rest_none σ) low parts stated
 
--- the same groups and columns' parts
-pub groups_moved : (e : Extended) (t : Table) (g more : Gathered) → more.groups ≡ g.groups → more.columns ≡ g.columns → more.total ≡ g.total → AreSumGroups e t g.groups.items g.columns.items g.total →
-    AreSumGroups e t more.groups.items more.columns.items more.total
-groups_moved e t g more groups columns total h =
-    subst (λ gs. AreSumGroups e t gs.items more.columns.items more.total) (sym groups)
-    (subst (λ cs. AreSumGroups e t g.groups.items cs.items more.total) (sym columns) (subst (AreSumGroups e t g.groups.items g.columns.items) (sym total) h))
+-- the same batches and columns' parts
+pub batches_moved : (e : Extended) (t : Table) (g more : Gathered) → more.batches ≡ g.batches → more.columns ≡ g.columns → more.total ≡ g.total → AreSumBatches e t g.batches.items g.columns.items g.total →
+    AreSumBatches e t more.batches.items more.columns.items more.total
+batches_moved e t g more batches columns total h =
+    subst (λ gs. AreSumBatches e t gs.items more.columns.items more.total) (sym batches)
+    (subst (λ cs. AreSumBatches e t g.batches.items cs.items more.total) (sym columns) (subst (AreSumBatches e t g.batches.items g.columns.items) (sym total) h))
 
 -- ---- a part more
 
@@ -192,9 +192,9 @@ pub none_taken : (e : Extended) (s : Sides) (t : Table) (f : Taken) (rest next :
     IsGathered e s t f rest g → IsGathered e s t (step f (Eliminate x.v)) next g
 none_taken e s t f rest next g x is next_is none h =
     let law = pending_eliminates e s (axioms e).live (value_in t g.total) rest next f (scaled_parts t g.power g.parts.items) x h.pending (above_zero e f x is) (within e f x is) is.new next_is in
-    record { groups = h.groups; added = h.added; parts = h.parts; fixed = h.fixed; low = h.low; pending = law.0 none; of = h.of; sum = h.sum }
+    record { batches = h.batches; added = h.added; parts = h.parts; fixed = h.fixed; low = h.low; pending = law.0 none; of = h.of; sum = h.sum }
 
--- a part that is divided by the open group's power
+-- a part that is divided by the open batch's power
 pub part_taken : (e : Extended) (s : Sides) (t0 t : Table) (f : Taken) (rest next : Assignment → ℕ) (g more : Gathered) (x : Gate) (p : GatePart) → IsNext e f x → modulus_in t0 ≡ algebra.modulus e → Extends t0 t →
     IsFixedAbove e.max rest → ((σ : Assignment) → next σ ≡ substituted (algebra.modulus e) x.v (gate_value x) rest σ) → IsGatePart (algebra.modulus e) t0 x (quotient (algebra.modulus e) x.v rest) p → g.power ≡ p.power →
     HasPart t x p g more → IsGathered e s t f rest g → IsGathered e s t (step f (Eliminate x.v)) next more
@@ -224,7 +224,7 @@ part_taken e s t0 t f rest next g more x p is same grown fixed next_is is_part p
     ap (λ n. n % m) (ap₂ ◌+◌ (value_stays t0 t p.operands σ grown is_part.of.operands) (value_stays t0 t p.variable σ grown is_part.of.variable)) ∙ is_part.product σ ∙
     ap₂ (λ a v. (a * v) % m) (sym (axiom_live.1 σ)) (sym (value_stays t0 t factor σ grown over.0) ∙ sym (factor_is σ)) in
     record {
-      groups = groups_moved e t g more has.groups has.columns has.total h.groups;
+      batches = batches_moved e t g more has.batches has.columns has.total h.batches;
       added = subst (AreOfAdded e f.added) (sym (ap (λ v. v.items) has.columns)) h.added;
       parts = subst (AreGateParts e t) (sym has.parts) (parts_pushed e t g.parts.items x factor is.gate over_now h.parts);
       fixed = same_fixed e.max (combined m live (parts_in t more.parts.items)) (λ σ. combined m live (parts_in t g.parts.items) σ + value_of live x.v σ * value m (monomials_in t factor) σ) line
@@ -245,9 +245,9 @@ part_taken e s t0 t f rest next g more x p is same grown fixed next_is is_part p
           sum_same m old c (o + d) (value_of live x.v σ * value m (monomials_in t factor) σ) (ap (λ n. n % m) (h.sum σ) ∙ mod-mod c m) (product_is σ) ∙ ap (λ n. n % m) (sym (line σ));
     }
 
--- ---- a group ended
+-- ---- a batch ended
 
-pub sum_more : (t : Table) (gs : List Group) (g : Group) (σ : Assignment) → groups_sum t (gs ++ g ∷ []) σ ≡ groups_sum t gs σ + value_in t g.poly σ * value_in t g.weight σ
+pub sum_more : (t : Table) (gs : List Batch) (g : Batch) (σ : Assignment) → batches_sum t (gs ++ g ∷ []) σ ≡ batches_sum t gs σ + value_in t g.poly σ * value_in t g.weight σ
 sum_more t [] g σ = omega arith
 sum_more t (h ∷ gs) g σ = omega (arith, sum_more t gs g σ)
 
@@ -255,13 +255,13 @@ pub ended : (e : Extended) (s : Sides) (t : Table) (f : Taken) (rest : Assignmen
     IsFixedAbove e.max (gap e s f.added rest) → 0 < length g.parts.items → IsOf t poly → IsOf t weight → IsOf t more.total → ((σ : Assignment) → value_in t weight σ ≡ 2 ^ g.power) →
     ((σ : Assignment) → value_in t poly σ ≡ value_in t g.stated σ) →
     ((σ : Assignment) → value_in t more.total σ ≡ (value_in t g.total σ + value_in t poly σ * value_in t weight σ) % modulus_in t) →
-    more.groups.items ≡ g.groups.items ++ record { parts = g.parts; poly = poly; weight = weight } ∷ [] → more.columns ≡ g.columns → more.parts.items ≡ [] → more.stated ≡ [] →
+    more.batches.items ≡ g.batches.items ++ record { parts = g.parts; poly = poly; weight = weight } ∷ [] → more.columns ≡ g.columns → more.parts.items ≡ [] → more.stated ≡ [] →
     more.power ≡ g.power → IsGathered e s t f rest g → IsGathered e s t f rest more
-ended e s t f rest g more poly weight same fixed some of_poly of_weight of_total weight_is poly_is total_is groups columns parts stated power h =
+ended e s t f rest g more poly weight same fixed some of_poly of_weight of_total weight_is poly_is total_is batches columns parts stated power h =
     let m = algebra.modulus e in
     let live = (axioms e).live in
     let w = 2 ^ g.power in
-    let group : Group = record { parts = g.parts; poly = poly; weight = weight } in
+    let batch : Batch = record { parts = g.parts; poly = poly; weight = weight } in
     let c : Assignment → ℕ = combined m live (parts_in t g.parts.items) in
     let states : (σ : Assignment) → value_in t poly σ ≡ c σ % m = λ σ. poly_is σ ∙ h.sum σ in
     let adds : (σ : Assignment) → value_in t more.total σ ≡ (value_in t g.total σ + value_in t poly σ * value_in t weight σ) % m = λ σ.
@@ -278,31 +278,31 @@ ended e s t f rest g more poly weight same fixed some of_poly of_weight of_total
     let at : Assignment = λ v. false in
     let zero : w ≡ 0 = sym (weight_is at) ∙ ap (λ n. value n (monomials_in t weight) at) same ∙ none at in
     let some' = pow_pos g.power in absurd (omega arith) in
-    let all : AreSumGroups e t (g.groups.items ++ group ∷ []) g.columns.items more.total = record {
-      groups = All-push (IsGroup e t) g.groups.items group h.groups.groups
+    let all : AreSumBatches e t (g.batches.items ++ batch ∷ []) g.columns.items more.total = record {
+      batches = All-push (IsBatch e t) g.batches.items batch h.batches.batches
           (record { some = some; parts = h.parts; of = poly_over; of_weight = weight_over; spare = spare; states = states; nonzero = nonzero });
-      of_columns = h.groups.of_columns;
+      of_columns = h.batches.of_columns;
       of = of_total;
       fixed = same_fixed e.max (value_in t more.total) (gap e s f.added rest) now fixed;
       sum = λ σ.
-          let own = groups_sum t g.groups.items σ in
+          let own = batches_sum t g.batches.items σ in
           let of_columns = combined m live (parts_in t g.columns.items) σ in
-          let more_is : groups_sum t (g.groups.items ++ group ∷ []) σ + of_columns ≡ (own + of_columns) + value_in t poly σ * value_in t weight σ = omega (arith, sum_more t g.groups.items group σ) in
+          let more_is : batches_sum t (g.batches.items ++ batch ∷ []) σ + of_columns ≡ (own + of_columns) + value_in t poly σ * value_in t weight σ = omega (arith, sum_more t g.batches.items batch σ) in
           ap (λ z. z % m) more_is ∙ sym (mod-add-mod (own + of_columns) m (value_in t poly σ * value_in t weight σ)) ∙
-          ap (λ z. (z + value_in t poly σ * value_in t weight σ) % m) (h.groups.sum σ) ∙ sym (adds σ);
+          ap (λ z. (z + value_in t poly σ * value_in t weight σ) % m) (h.batches.sum σ) ∙ sym (adds σ);
     } in
-    nothing_open e s t f rest more (subst (λ gs. AreSumGroups e t gs more.columns.items more.total) (sym groups) (subst (λ cs. AreSumGroups e t (g.groups.items ++ group ∷ []) cs.items more.total) (sym columns) all))
+    nothing_open e s t f rest more (subst (λ gs. AreSumBatches e t gs more.columns.items more.total) (sym batches) (subst (λ cs. AreSumBatches e t (g.batches.items ++ batch ∷ []) cs.items more.total) (sym columns) all))
     (subst (λ cs. AreOfAdded e f.added cs.items) (sym columns) h.added) now (subst (λ n. n < t.exponent) (sym power) h.low) parts stated
 
--- another power, where no group is open
-pub repowered : (e : Extended) (s : Sides) (t : Table) (f : Taken) (rest : Assignment → ℕ) (g more : Gathered) (k : ℕ) → more.groups ≡ g.groups → more.columns ≡ g.columns → more.total ≡ g.total → more.parts ≡ g.parts →
+-- another power, where no batch is open
+pub repowered : (e : Extended) (s : Sides) (t : Table) (f : Taken) (rest : Assignment → ℕ) (g more : Gathered) (k : ℕ) → more.batches ≡ g.batches → more.columns ≡ g.columns → more.total ≡ g.total → more.parts ≡ g.parts →
     more.stated ≡ g.stated → more.power ≡ k → k ≤ g.power → g.parts.items ≡ [] → IsGathered e s t f rest g → IsGathered e s t f rest more
-repowered e s t f rest g more k groups columns total parts stated power low none h =
+repowered e s t f rest g more k batches columns total parts stated power low none h =
     let live = (axioms e).live in
     let is : more.parts.items ≡ [] = ap (λ v. v.items) parts ∙ none in
     let old = h.low in
     record {
-      groups = groups_moved e t g more groups columns total h.groups;
+      batches = batches_moved e t g more batches columns total h.batches;
       added = subst (λ cs. AreOfAdded e f.added cs.items) (sym columns) h.added;
       parts = subst (AreGateParts e t) (sym (ap (λ v. v.items) parts)) h.parts;
       fixed = subst (λ ps. IsFixedAbove e.max (combined (algebra.modulus e) live (parts_in t ps))) (sym (ap (λ v. v.items) parts)) h.fixed;
@@ -327,15 +327,15 @@ none_known e s σ = ap (λ z. z % algebra.modulus e) (none_added (algebra.modulu
 pub settled_itself : (t : Table) (g : Gathered) → KeepsGathered t t g g
 settled_itself t g = record { gathered = λ e s f rest same fixed h. h; of = λ h. h; count = omega arith }
 
-pub ended_itself : (t : Table) (g : Gathered) → g.parts.items ≡ [] → IsEndedGroup t t g g
+pub ended_itself : (t : Table) (g : Gathered) → g.parts.items ≡ [] → IsEndedBatch t t g g
 ended_itself t g none = record { settles = settled_itself t g; none = none; power = refl }
 
-pub group_ended : (t0 t1 t2 t3 : Table) (g more : Gathered) (poly weight : Sum) → Extends t0 t1 → Extends t1 t2 → Extends t2 t3 → 0 < length g.parts.items → IsOf t1 poly → IsOf t2 weight → IsOf t3 more.total →
+pub batch_ended : (t0 t1 t2 t3 : Table) (g more : Gathered) (poly weight : Sum) → Extends t0 t1 → Extends t1 t2 → Extends t2 t3 → 0 < length g.parts.items → IsOf t1 poly → IsOf t2 weight → IsOf t3 more.total →
     ((σ : Assignment) → value_in t1 poly σ ≡ value_in t0 g.stated σ) → ((σ : Assignment) → value_in t2 weight σ ≡ 2 ^ g.power) →
     ((σ : Assignment) → value_in t3 more.total σ ≡ (value_in t2 g.total σ + value_in t2 poly σ * value_in t2 weight σ) % modulus_in t2) →
-    more.groups.items ≡ g.groups.items ++ record { parts = g.parts; poly = poly; weight = weight } ∷ [] → more.columns ≡ g.columns → more.parts.items ≡ [] → more.stated ≡ [] →
-    more.power ≡ g.power → IsEndedGroup t0 t3 g more
-group_ended t0 t1 t2 t3 g more poly weight first second third some of_poly of_weight of_total poly_is weight_is total_is groups columns parts stated power = record {
+    more.batches.items ≡ g.batches.items ++ record { parts = g.parts; poly = poly; weight = weight } ∷ [] → more.columns ≡ g.columns → more.parts.items ≡ [] → more.stated ≡ [] →
+    more.power ≡ g.power → IsEndedBatch t0 t3 g more
+batch_ended t0 t1 t2 t3 g more poly weight first second third some of_poly of_weight of_total poly_is weight_is total_is batches columns parts stated power = record {
   settles = record {
     gathered = λ e s f rest same fixed h.
         let all = extends_on t0 t1 t3 first (extends_on t1 t2 t3 second third) in
@@ -345,15 +345,15 @@ group_ended t0 t1 t2 t3 g more poly weight first second third some of_poly of_we
         ended e s t3 f rest g more poly weight (modulus_stays t0 t3 all ∙ same) fixed some (stays t1 t3 poly late of_poly) (stays t2 t3 weight third of_weight) of_total
         (λ σ. value_stays t2 t3 weight σ third of_weight ∙ weight_is σ)
         (λ σ. value_stays t1 t3 poly σ late of_poly ∙ poly_is σ ∙ sym (value_stays t0 t3 g.stated σ all h.of))
-        (λ σ. total_is σ ∙ ap₂ ◌%◌ (ap₂ ◌+◌ (sym (value_stays t2 t3 g.total σ third (stays t0 t2 g.total to2 h.groups.of)))
+        (λ σ. total_is σ ∙ ap₂ ◌%◌ (ap₂ ◌+◌ (sym (value_stays t2 t3 g.total σ third (stays t0 t2 g.total to2 h.batches.of)))
         (ap₂ ◌*◌ (sym (value_stays t2 t3 poly σ third (stays t1 t2 poly second of_poly))) (sym (value_stays t2 t3 weight σ third of_weight)))) (sym (modulus_stays t2 t3 third)))
-        groups columns parts stated power grown;
+        batches columns parts stated power grown;
     of = λ h. subst (IsOf t3) (sym stated) (zero_of t3 (table_once t3 more.total of_total));
     count =
         let one : one_if_some g.parts.items ≡ 1 = counted g.parts.items some in
         let none : one_if_some more.parts.items ≡ 0 = ap one_if_some parts in
-        let longer = ap length groups in
-        let sum = length-append g.groups.items (record { parts = g.parts; poly = poly; weight = weight } ∷ []) in
+        let longer = ap length batches in
+        let sum = length-append g.batches.items (record { parts = g.parts; poly = poly; weight = weight } ∷ []) in
         omega arith;
   };
   none = parts;
@@ -364,15 +364,15 @@ group_ended t0 t1 t2 t3 g more poly weight first second third some of_poly of_we
     counted [] h = absurd (omega arith)
     counted (p ∷ ps) h = refl
 
-pub power_set : (t0 t : Table) (g mid more : Gathered) (k : ℕ) → IsEndedGroup t0 t g mid → more.groups ≡ mid.groups → more.columns ≡ mid.columns → more.total ≡ mid.total → more.parts ≡ mid.parts →
+pub power_set : (t0 t : Table) (g mid more : Gathered) (k : ℕ) → IsEndedBatch t0 t g mid → more.batches ≡ mid.batches → more.columns ≡ mid.columns → more.total ≡ mid.total → more.parts ≡ mid.parts →
     more.stated ≡ mid.stated → more.power ≡ k → k ≤ g.power →
     HasPower t0 t k g more
-power_set t0 t g mid more k h groups columns total parts stated power low = record {
+power_set t0 t g mid more k h batches columns total parts stated power low = record {
   settles = record {
     gathered = λ e s f rest same fixed old. let same_power = h.power in
-        repowered e s t f rest mid more k groups columns total parts stated power (omega arith) h.none (h.settles.gathered e s f rest same fixed old);
+        repowered e s t f rest mid more k batches columns total parts stated power (omega arith) h.none (h.settles.gathered e s f rest same fixed old);
     of = λ old. subst (IsOf t) (sym stated) (h.settles.of old);
-    count = let count = h.settles.count in let a = ap (λ v. length v.items) groups in let b = ap (λ v. one_if_some v.items) parts in omega arith;
+    count = let count = h.settles.count in let a = ap (λ v. length v.items) batches in let b = ap (λ v. one_if_some v.items) parts in omega arith;
   };
   power = power;
 }
@@ -380,14 +380,14 @@ power_set t0 t g mid more k h groups columns total parts stated power low = reco
 pub taken_none : (t : Table) (x : Gate) (g : Gathered) → HasTakenGate t t x None g g
 taken_none t x g = record { gathered = λ e s f rest next same is fixed gap_is next_is turned h. none_taken e s t f rest next g x is next_is turned h; count = omega arith }
 
--- a part, where the open group has its power
+-- a part, where the open batch has its power
 pub taken_part : (t0 t : Table) (x : Gate) (p : GatePart) (g mid more : Gathered) → Extends t0 t → HasPower t0 t p.power g mid → HasPart t x p mid more → HasTakenGate t0 t x (Some p) g more
 taken_part t0 t x p g mid more grown has part = record {
   gathered = λ e s f rest next same is fixed gap_is next_is left h.
       part_taken e s t0 t f rest next mid more x p is same grown fixed next_is left has.power part (has.settles.gathered e s f rest same gap_is h);
   count =
       let count = has.settles.count in
-      let groups = ap (λ v. length v.items) part.groups in
+      let batches = ap (λ v. length v.items) part.batches in
       let one = at_most_one more.parts.items in
       omega arith;
 }
@@ -396,7 +396,7 @@ taken_part t0 t x p g mid more grown has part = record {
     at_most_one [] = omega arith
     at_most_one (p ∷ ps) = omega arith
 
-pub settled_ended : (t0 t : Table) (g r : Gathered) → IsEndedGroup t0 t g r → KeepsGathered t0 t g r
+pub settled_ended : (t0 t : Table) (g r : Gathered) → IsEndedBatch t0 t g r → KeepsGathered t0 t g r
 settled_ended t0 t g r h = h.settles
 
 -- ---- what calls ask for

@@ -32,7 +32,7 @@ use Rattle.column_reducer.specs.declared.elimination.Elimination.{Elimination}
 use Rattle.column_reducer.specs.declared.gate_part.GatePart.{GatePart}
 use Rattle.column_reducer.specs.declared.gathered.Gathered.{Gathered}
 use Rattle.column_reducer.specs.declared.walk.Walk.{Walk}
-use Rattle.column_reducer.specs.Gathering.{HasColumnIn, HasEnded, HasTakenIn, IsEliminated, IsEndedGroup, IsFixedAbove, IsGathered, IsLeft, IsNext, IsWalked, KeepsGathered, group_count}
+use Rattle.column_reducer.specs.Gathering.{HasColumnIn, HasEnded, HasTakenIn, IsEliminated, IsEndedBatch, IsFixedAbove, IsGathered, IsLeft, IsNext, IsWalked, KeepsGathered, batch_count}
 use Rattle.column_reducer.proofs.Columns.{column_in, few_columns}
 use Rattle.column_reducer.proofs.Fixed.{column_fixed, gap_fixed, partial_fixed, same_fixed, substituted_fixed}
 use Rattle.column_reducer.proofs.Grown.{function_stays, gathered_grown}
@@ -44,7 +44,7 @@ walk_of rest gathered = record { rest = rest; gathered = gathered }
 -- ---- in a table that has grown
 
 walk_grown : (e : Extended) (s : Sides) (t0 t : Table) (f : Taken) (w : Walk) (g : Option Gathered) → Extends t0 t → IsWalked e s t0 f w → IfSome g (IsGathered e s t f (value_in t0 w.rest.sum)) →
-    IfSome g (λ k. group_count k ≤ length f.eliminated) → IsWalked e s t f (walk_of w.rest g)
+    IfSome g (λ k. batch_count k ≤ length f.eliminated) → IsWalked e s t f (walk_of w.rest g)
 walk_grown e s t0 t f w g grown h gathered few = record {
   same_modulus = modulus_stays t0 t grown ∙ h.same_modulus;
   of = stays t0 t w.rest.sum grown h.of;
@@ -72,10 +72,10 @@ walk_bare e s t rest same of indexed none = record {
 }
 
 pub walk_started : (e : Extended) (s : Sides) (t0 t : Table) (rest : IndexedSum) (g : Gathered) → modulus_in t0 ≡ algebra.modulus e → Extends t0 t → IsOf t0 rest.sum → IsIndexed t0 rest →
-    ((σ : Assignment) → value_in t0 rest.sum σ ≡ 0) → group_count g ≡ 0 →
+    ((σ : Assignment) → value_in t0 rest.sum σ ≡ 0) → batch_count g ≡ 0 →
     ((k : Assignment → ℕ) → ((σ : Assignment) → k σ ≡ 0) → IsGathered e s t nothing k g) → IsWalked e s t nothing (walk_of rest (Some g))
-walk_started e s t0 t rest g same grown of indexed none groups gathered =
-    walk_grown e s t0 t nothing (walk_of rest None) (Some g) grown (walk_bare e s t0 rest same of indexed none) (gathered (value_in t0 rest.sum) none) (omega (arith, groups))
+walk_started e s t0 t rest g same grown of indexed none batches gathered =
+    walk_grown e s t0 t nothing (walk_of rest None) (Some g) grown (walk_bare e s t0 rest same of indexed none) (gathered (value_in t0 rest.sum) none) (omega (arith, batches))
 
 -- ---- a column
 
@@ -121,7 +121,7 @@ taken_in e s t0 t1 t f p next (Some g) (Some more) x q is same first second of_p
     (λ σ. value_stays t1 t next σ second of_next ∙ next_is σ ∙ ap (λ m. substituted m x.v (gate_value x) (value_in t0 p) σ) same)
     (subst (λ m. IsLeft m t1 x (quotient m x.v (value_in t0 p)) q) same left) (gathered_grown e s t0 t1 f (value_in t0 p) g first h)
 
-few_in : (n : ℕ) (t0 t : Table) (x : Gate) (q : Option GatePart) (g more : Option Gathered) → HasTakenIn t0 t x q g more → IfSome g (λ k. group_count k ≤ n) → IfSome more (λ k. group_count k ≤ suc n)
+few_in : (n : ℕ) (t0 t : Table) (x : Gate) (q : Option GatePart) (g more : Option Gathered) → HasTakenIn t0 t x q g more → IfSome g (λ k. batch_count k ≤ n) → IfSome more (λ k. batch_count k ≤ suc n)
 few_in n t0 t x q None None takes h = tt
 few_in n t0 t x q None (Some more) takes h = cc
 few_in n t0 t x q (Some g) None takes h = absurd takes
@@ -152,7 +152,7 @@ walk_eliminated e s t0 t1 t f w more x r made is first second by takes frontier 
 pub walk_settled : (e : Extended) (s : Sides) (t0 t : Table) (f : Taken) (rest : IndexedSum) (g r : Gathered) → Extends t0 t → KeepsGathered t0 t g r →
     IsWalked e s t0 f (walk_of rest (Some g)) → IsWalked e s t f (walk_of rest (Some r))
 walk_settled e s t0 t f rest g r grown settles h =
-    let low : group_count g ≤ length f.eliminated = h.few in
+    let low : batch_count g ≤ length f.eliminated = h.few in
     let count = settles.count in
     walk_grown e s t0 t f (walk_of rest (Some g)) (Some r) grown h
     (settles.gathered e s f (value_in t0 rest.sum) h.same_modulus (gap_fixed e s f.added (value_in t0 rest.sum) h.known h.fixed) h.gathered) (omega arith)
@@ -178,7 +178,7 @@ walk_renewed e s t0 t f w rest same of indexed is h = record {
   few = tt;
 }
 
-pub walk_ended : (e : Extended) (s : Sides) (t0 t : Table) (f : Taken) (rest : IndexedSum) (last : Sum) (g more : Gathered) → last ≡ rest.sum → Extends t0 t → IsEndedGroup t0 t g more →
+pub walk_ended : (e : Extended) (s : Sides) (t0 t : Table) (f : Taken) (rest : IndexedSum) (last : Sum) (g more : Gathered) → last ≡ rest.sum → Extends t0 t → IsEndedBatch t0 t g more →
     IsWalked e s t0 f (walk_of rest (Some g)) → HasEnded e s t f last more
 walk_ended e s t0 t f rest last g more is grown ends h =
     let fixed = subst (λ p. IsFixedAbove e.max (value_in t0 p)) (sym is) h.fixed in
@@ -186,6 +186,6 @@ walk_ended e s t0 t f rest last g more is grown ends h =
     let here = ends.settles.gathered e s f (value_in t0 last) h.same_modulus (gap_fixed e s f.added (value_in t0 last) h.known fixed) gathered in
     record {
       gathered = subst (λ (k : Assignment → ℕ). IsGathered e s t f k more) (sym (function_stays t0 t last grown (subst (IsOf t0) (sym is) h.of))) here;
-      few = let low : group_count g ≤ length f.eliminated = h.few in let count = ends.settles.count in omega arith;
+      few = let low : batch_count g ≤ length f.eliminated = h.few in let count = ends.settles.count in omega arith;
       none = ends.none;
     }

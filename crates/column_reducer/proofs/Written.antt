@@ -1,4 +1,4 @@
--- The lines of groups, one after the other, and their sum.
+-- The lines of batches, one after the other, and their sum.
 use Rattle.std.specs.Prelude.{◌≡◌, ◌≢◌, ℕ, suc, ◌+◌, ◌*◌, ◌%◌, ◌<◌, ◌≤◌, cond, true, List, [], ◌∷◌, ◌++◌, map, length, IsSome, slice_index_or}
 use Rattle.std.specs.declared.option.Option.TheVariants.{None, Some}
 use Rattle.std.specs.List.{All, AllByRecursion, AllPairs}
@@ -21,8 +21,8 @@ use Rattle.frontier_core.specs.Pending.{AreSpare, IsNotZero}
 use Rattle.frontier_core.proofs.Gathered.{combined_push}
 use Rattle.frontier_core.proofs.Everywhere.{all_from_map, all_has}
 use Rattle.frontier_core.proofs.LineLemmas.{new_line_is_live}
-use Rattle.column_reducer.specs.declared.gathered.Group.{Group}
-use Rattle.column_reducer.specs.Gathering.{AreGateParts, AreGroupsWritten, IsGroup}
+use Rattle.column_reducer.specs.declared.gathered.Batch.{Batch}
+use Rattle.column_reducer.specs.Gathering.{AreGateParts, AreBatchesWritten, IsBatch}
 use Rattle.column_reducer.specs.Reducing.{AreLinesOver}
 use Rattle.column_reducer.proofs.Fixed.{all_left, all_right}
 use Rattle.column_reducer.proofs.Taken.{part_pushed, sum_more}
@@ -52,36 +52,36 @@ part_lines e t live parts made same h =
     (all_from_map (λ p. line_of live p.id ≡ line_of (axioms e).live p.id) (λ p. record { id = p.0; factor = monomials_in t p.1 }) parts
     (recursion_from_All (λ p. line_of live p.0 ≡ line_of (axioms e).live p.0) parts (λ k d low. same (slice_index_or parts k d).0 (gates_low e (slice_index_or parts k d).0 made (h.gates k d low)))))
 
--- ---- one group
+-- ---- one batch
 
-last_group : (e : Extended) (s : Sides) (t : Table) (total : Sum) (gs : List Group) (g : Group) (ones : List (ℕ × Sum)) (l : Made) → AreGroupsWritten e s t total (gs ++ g ∷ []) ones l → IsGroup e t g
-last_group e s t total gs g ones l h = all_right (IsGroup e t) gs (g ∷ []) h.groups 0 g (omega arith)
+last_batch : (e : Extended) (s : Sides) (t : Table) (total : Sum) (gs : List Batch) (g : Batch) (ones : List (ℕ × Sum)) (l : Made) → AreBatchesWritten e s t total (gs ++ g ∷ []) ones l → IsBatch e t g
+last_batch e s t total gs g ones l h = all_right (IsBatch e t) gs (g ∷ []) h.batches 0 g (omega arith)
 
-pub group_over : (e : Extended) (s : Sides) (t : Table) (total : Sum) (gs : List Group) (g : Group) (ones : List (ℕ × Sum)) (l : Made) → AreGroupsWritten e s t total (gs ++ g ∷ []) ones l →
+pub batch_over : (e : Extended) (s : Sides) (t : Table) (total : Sum) (gs : List Batch) (g : Batch) (ones : List (ℕ × Sum)) (l : Made) → AreBatchesWritten e s t total (gs ++ g ∷ []) ones l →
     ArePartsOver l.extended.max l.table g.parts.items g.poly
-group_over e s t total gs g ones l h =
-    let group = last_group e s t total gs g ones l h in
+batch_over e s t total gs g ones l h =
+    let batch = last_batch e s t total gs g ones l h in
     subst (λ x. ArePartsOver x.max l.table g.parts.items g.poly) (sym h.graph.extended)
-    (subst (λ u. ArePartsOver e.max u g.parts.items g.poly) (sym h.graph.table) (record { some = group.some; factors = group.parts.of; stated = group.of }))
+    (subst (λ u. ArePartsOver e.max u g.parts.items g.poly) (sym h.graph.table) (record { some = batch.some; factors = batch.parts.of; stated = batch.of }))
 
-pub group_spare : (e : Extended) (s : Sides) (t : Table) (total : Sum) (gs : List Group) (g : Group) (ones : List (ℕ × Sum)) (l : Made) → AreGroupsWritten e s t total (gs ++ g ∷ []) ones l →
+pub batch_spare : (e : Extended) (s : Sides) (t : Table) (total : Sum) (gs : List Batch) (g : Batch) (ones : List (ℕ × Sum)) (l : Made) → AreBatchesWritten e s t total (gs ++ g ∷ []) ones l →
     AreSpare (algebra.modulus l.extended) (written_ledger l).live (parts_in l.table g.parts.items)
-group_spare e s t total gs g ones l h =
-    let group = last_group e s t total gs g ones l h in
+batch_spare e s t total gs g ones l h =
+    let batch = last_batch e s t total gs g ones l h in
     subst (λ x. AreSpare (algebra.modulus x) (written_ledger l).live (parts_in l.table g.parts.items)) (sym h.graph.extended)
     (subst (λ u. AreSpare (algebra.modulus e) (written_ledger l).live (parts_in u g.parts.items)) (sym h.graph.table)
-    (spare_moves (algebra.modulus e) (axioms e).live (written_ledger l).live (parts_in t g.parts.items) (part_lines e t (written_ledger l).live g.parts.items h.made h.axioms group.parts) group.spare))
+    (spare_moves (algebra.modulus e) (axioms e).live (written_ledger l).live (parts_in t g.parts.items) (part_lines e t (written_ledger l).live g.parts.items h.made h.axioms batch.parts) batch.spare))
 
-pub group_equal : (e : Extended) (s : Sides) (t : Table) (total : Sum) (gs : List Group) (g : Group) (ones : List (ℕ × Sum)) (l : Made) → AreGroupsWritten e s t total (gs ++ g ∷ []) ones l →
+pub batch_equal : (e : Extended) (s : Sides) (t : Table) (total : Sum) (gs : List Batch) (g : Batch) (ones : List (ℕ × Sum)) (l : Made) → AreBatchesWritten e s t total (gs ++ g ∷ []) ones l →
     IsCombined (algebra.modulus l.extended) (written_ledger l).live (parts_in l.table g.parts.items) (monomials_in l.table g.poly)
-group_equal e s t total gs g ones l h =
+batch_equal e s t total gs g ones l h =
     let m = algebra.modulus e in
-    let group = last_group e s t total gs g ones l h in
+    let batch = last_batch e s t total gs g ones l h in
     subst (λ x. IsCombined (algebra.modulus x) (written_ledger l).live (parts_in l.table g.parts.items) (monomials_in l.table g.poly)) (sym h.graph.extended)
     (subst (λ u. IsCombined m (written_ledger l).live (parts_in u g.parts.items) (monomials_in u g.poly)) (sym h.graph.table)
-    (λ σ. ap (λ k. value k (monomials_in t g.poly) σ) (sym h.same_modulus) ∙ group.states σ ∙
+    (λ σ. ap (λ k. value k (monomials_in t g.poly) σ) (sym h.same_modulus) ∙ batch.states σ ∙
     ap (λ z. z % m) (sym (combined_moves m (axioms e).live (written_ledger l).live (parts_in t g.parts.items) σ
-    (recursion_from_All (λ p. line_of (written_ledger l).live p.id ≡ line_of (axioms e).live p.id) (parts_in t g.parts.items) (part_lines e t (written_ledger l).live g.parts.items h.made h.axioms group.parts))))))
+    (recursion_from_All (λ p. line_of (written_ledger l).live p.id ≡ line_of (axioms e).live p.id) (parts_in t g.parts.items) (part_lines e t (written_ledger l).live g.parts.items h.made h.axioms batch.parts))))))
 
 graph_on : (e : Extended) (s : Sides) (t : Table) (line : algebra.Line) (id : ℕ) (l new : Made) → PutsLine line id l new → AreLinesOver e s t l → AreLinesOver e s t new
 graph_on e s t line id l new puts h = record {
@@ -91,13 +91,13 @@ graph_on e s t line id l new puts h = record {
   unclosed = puts.closing;
 }
 
-pub group_written : (e : Extended) (s : Sides) (t : Table) (total : Sum) (gs : List Group) (g : Group) (ones more : List (ℕ × Sum)) (id : ℕ) (l new : Made) → id ≡ l.last + 1 →
-    PutsLine (combination_of l.table id g.parts.items g.poly) id l new → more ≡ ones ++ (id, g.weight) ∷ [] → AreGroupsWritten e s t total (gs ++ g ∷ []) ones l → AreGroupsWritten e s t total gs more new
-group_written e s t total gs g ones more id l new is puts pushed h =
+pub batch_written : (e : Extended) (s : Sides) (t : Table) (total : Sum) (gs : List Batch) (g : Batch) (ones more : List (ℕ × Sum)) (id : ℕ) (l new : Made) → id ≡ l.last + 1 →
+    PutsLine (combination_of l.table id g.parts.items g.poly) id l new → more ≡ ones ++ (id, g.weight) ∷ [] → AreBatchesWritten e s t total (gs ++ g ∷ []) ones l → AreBatchesWritten e s t total gs more new
+batch_written e s t total gs g ones more id l new is puts pushed h =
     let m = algebra.modulus e in
     let old = (written_ledger l).live in
     let live = (written_ledger new).live in
-    let group = last_group e s t total gs g ones l h in
+    let batch = last_batch e s t total gs g ones l h in
     let p = monomials_in t g.poly in
     let ledger : written_ledger new ≡ introduce m (written_ledger l) id p = puts.ledger ∙ ap₂ (λ x u. introduce (algebra.modulus x) (written_ledger l) id (monomials_in u g.poly)) h.graph.extended h.graph.table in
     let law = new_line_is_live m (written_ledger l) id p in
@@ -106,13 +106,13 @@ group_written e s t total gs g ones more id l new is puts pushed h =
     let low = h.low in
     let apart : All (λ q. q.0 ≢ id) ones = λ k d within. let ids = h.ids k d within in λ same. absurd (omega (arith, ids.1)) in
     let greatest = puts.last in
-    subst (λ os. AreGroupsWritten e s t total gs os new) (sym pushed)
+    subst (λ os. AreBatchesWritten e s t total gs os new) (sym pushed)
     (record {
       made = h.made;
       same_modulus = h.same_modulus;
       graph = graph_on e s t (combination_of l.table id g.parts.items g.poly) id l new puts h.graph;
       axioms = λ i small. others i (λ same. absurd (omega arith)) ∙ h.axioms i small;
-      groups = all_left (IsGroup e t) gs (g ∷ []) h.groups;
+      batches = all_left (IsBatch e t) gs (g ∷ []) h.batches;
       sum = λ σ.
           let before = combined m old (parts_in t ones) σ in
           let lines : combined m live (parts_in t (ones ++ (id, g.weight) ∷ [])) σ ≡ before + value_of live id σ * value m (monomials_in t g.weight) σ =
@@ -125,8 +125,8 @@ group_written e s t total gs g ones more id l new is puts pushed h =
           let new_term : value_of live id σ * value m (monomials_in t g.weight) σ ≡ value_in t g.poly σ * value_in t g.weight σ =
           ap₂ (λ a b. a * b) (here σ ∙ ap (λ k. value k p σ) (sym h.same_modulus)) (ap (λ k. value k (monomials_in t g.weight) σ) (sym h.same_modulus)) in
           ap (λ z. z % m) (omega (arith, lines, new_term, sum_more t gs g σ)) ∙ h.sum σ;
-      over = All-push (λ q. IsOver e.max t q.1) ones (id, g.weight) h.over group.of_weight;
-      nonzero = All-push (λ q. IsNotZero m (monomials_in t q.1)) ones (id, g.weight) h.nonzero group.nonzero;
+      over = All-push (λ q. IsOver e.max t q.1) ones (id, g.weight) h.over batch.of_weight;
+      nonzero = All-push (λ q. IsNotZero m (monomials_in t q.1)) ones (id, g.weight) h.nonzero batch.nonzero;
       live = All-push (λ q. IsLive live q.0) ones (id, g.weight) (λ k d within. subst IsSome (sym (others (slice_index_or ones k d).0 (apart k d within))) (h.live k d within))
           (subst (λ k. IsLive k.live id) (sym ledger) law.0);
       once = all_pairs_push (λ a b. a.0 ≢ b.0) ones (id, g.weight) h.once apart;
@@ -149,7 +149,7 @@ pub no_items : {X : Type 0} (xs : List X) → length xs ≡ 0 → xs ≡ []
 no_items [] h = refl
 no_items (x ∷ xs) h = absurd (omega arith)
 
-pub sum_is_equal : (s : Sides) (total : Sum) (ones : List (ℕ × Sum)) (l : Made) → AreGroupsWritten l.extended s l.table total [] ones l →
+pub sum_is_equal : (s : Sides) (total : Sum) (ones : List (ℕ × Sum)) (l : Made) → AreBatchesWritten l.extended s l.table total [] ones l →
     AreSpare (algebra.modulus l.extended) (written_ledger l).live (parts_in l.table ones) × IsCombined (algebra.modulus l.extended) (written_ledger l).live (parts_in l.table ones) (monomials_in l.table total)
 sum_is_equal s total ones l h =
     let m = algebra.modulus l.extended in
@@ -172,12 +172,12 @@ no_line (x ∷ live) h =
     let other : x.id ≢ 0 = λ same. absurd (omega arith) in
     ap (λ b. cond b (Some x) (line_of live 0)) (ne_eqb x.id 0 other) ∙ no_line live h.1
 
-pub none_is_zero : (s : Sides) (total : Sum) (l : Made) (σ : Assignment) → AreLawfulSoFar l → AreGroupsWritten l.extended s l.table total [] [] l → value_of (written_ledger l).live 0 σ ≡ value_in l.table total σ
+pub none_is_zero : (s : Sides) (total : Sum) (l : Made) (σ : Assignment) → AreLawfulSoFar l → AreBatchesWritten l.extended s l.table total [] [] l → value_of (written_ledger l).live 0 σ ≡ value_in l.table total σ
 none_is_zero s total l σ lawful h =
     ap (λ o. value_or_zero o σ) (no_line (written_ledger l).live (recursion_from_All (λ x. 0 < x.id) (written_ledger l).live (λ k d low. (lawful.ids k d low).0))) ∙
     sym (zero-mod (algebra.modulus l.extended)) ∙ ap (λ z. z % algebra.modulus l.extended) (omega arith) ∙ h.sum σ
 
-pub sum_has : (s : Sides) (total : Sum) (ones : List (ℕ × Sum)) (id : ℕ) (l new : Made) (σ : Assignment) → PutsLine (combination_of l.table id ones total) id l new → AreGroupsWritten l.extended s l.table total [] ones l →
+pub sum_has : (s : Sides) (total : Sum) (ones : List (ℕ × Sum)) (id : ℕ) (l new : Made) (σ : Assignment) → PutsLine (combination_of l.table id ones total) id l new → AreBatchesWritten l.extended s l.table total [] ones l →
     value_of (written_ledger new).live id σ ≡ value_in l.table total σ
 sum_has s total ones id l new σ puts h =
     ap (λ k. value_of k.live id σ) puts.ledger ∙ (new_line_is_live (algebra.modulus l.extended) (written_ledger l) id (monomials_in l.table total)).1 σ ∙

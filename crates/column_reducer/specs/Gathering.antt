@@ -26,7 +26,7 @@ use Rattle.frontier_core.specs.Substitution.{gate_value, quotient, substituted}
 use Rattle.column_reducer.specs.declared.elimination.Elimination.{Elimination}
 use Rattle.column_reducer.specs.declared.gate_part.GatePart.{GatePart}
 use Rattle.column_reducer.specs.declared.gathered.Gathered.{Gathered}
-use Rattle.column_reducer.specs.declared.gathered.Group.{Group}
+use Rattle.column_reducer.specs.declared.gathered.Batch.{Batch}
 use Rattle.column_reducer.specs.declared.walk.Walk.{Walk}
 use Rattle.column_reducer.specs.declared.walk.Ended.{Ended}
 use Rattle.column_reducer.specs.declared.walk.Outcome.{Outcome}
@@ -72,7 +72,7 @@ pub record IsEliminated (t0 t1 : Table) (x : Gate) (p : Sum) (r : Elimination) :
   pub value : (σ : Assignment) → value_in t1 r.rest.sum σ ≡ substituted (modulus_in t0) x.v (gate_value x) (value_in t0 p) σ
   pub part : IsLeft (modulus_in t0) t1 x (quotient (modulus_in t0) x.v (value_in t0 p)) r.part
 
--- ---- groups
+-- ---- batches
 
 -- so many times a polynomial's entries
 abbrev pub times : ℕ → Sum → Sum
@@ -87,8 +87,8 @@ pub record AreGateParts (e : Extended) (t : Table) (parts : List (ℕ × Sum)) :
   pub of : All (λ p. IsOver e.max t p.1) parts
   pub gates : All (λ p. has (map (λ x. x.v) e.gates) p.0 ≡ true) parts
 
--- A group of parts that can be a line over the axioms, the polynomial that they add up to, and a weight that isn't 0.
-pub record IsGroup (e : Extended) (t : Table) (g : Group) : Type 0 where
+-- A batch of parts that can be a line over the axioms, the polynomial that they add up to, and a weight that isn't 0.
+pub record IsBatch (e : Extended) (t : Table) (g : Batch) : Type 0 where
   pub some : 0 < length g.parts.items
   pub parts : AreGateParts e t g.parts.items
   pub of : IsOver e.max t g.poly
@@ -97,10 +97,10 @@ pub record IsGroup (e : Extended) (t : Table) (g : Group) : Type 0 where
   pub states : (σ : Assignment) → value_in t g.poly σ ≡ combined (algebra.modulus e) (axioms e).live (parts_in t g.parts.items) σ % algebra.modulus e
   pub nonzero : IsNotZero (algebra.modulus e) (monomials_in t g.weight)
 
--- the sum of what groups state, each times its weight
-abbrev pub groups_sum : Table → List Group → Assignment → ℕ
-groups_sum t [] σ = 0
-groups_sum t (g ∷ gs) σ = value_in t g.poly σ * value_in t g.weight σ + groups_sum t gs σ
+-- the sum of what batches state, each times its weight
+abbrev pub batches_sum : Table → List Batch → Assignment → ℕ
+batches_sum t [] σ = 0
+batches_sum t (g ∷ gs) σ = value_in t g.poly σ * value_in t g.weight σ + batches_sum t gs σ
 
 -- Parts over the axioms of replaced columns, none of them twice, that a line can be over.
 pub record AreColumns (e : Extended) (t : Table) (columns : List (ℕ × Sum)) : Type 0 where
@@ -114,19 +114,19 @@ pub record AreColumns (e : Extended) (t : Table) (columns : List (ℕ × Sum)) :
 abbrev pub AreOfAdded : Extended → List ℕ → List (ℕ × Sum) → Type 0
 AreOfAdded e added columns = All (λ p. (k : ℕ) × (has added k ≡ true) × (p.0 ≡ e.max + 1 + k)) columns
 
--- Groups and the parts of replaced columns, and the sum of what the groups state and of these parts.
-pub record AreSumGroups (e : Extended) (t : Table) (gs : List Group) (columns : List (ℕ × Sum)) (total : Sum) : Type 0 where
-  pub groups : All (IsGroup e t) gs
+-- Batches and the parts of replaced columns, and the sum of what the batches state and of these parts.
+pub record AreSumBatches (e : Extended) (t : Table) (gs : List Batch) (columns : List (ℕ × Sum)) (total : Sum) : Type 0 where
+  pub batches : All (IsBatch e t) gs
   pub of_columns : AreColumns e t columns
   pub of : IsOf t total
   pub fixed : IsFixedAbove e.max (value_in t total)
   pub sum : (σ : Assignment) →
-      (groups_sum t gs σ + combined (algebra.modulus e) (axioms e).live (parts_in t columns) σ) % algebra.modulus e ≡ value_in t total σ
+      (batches_sum t gs σ + combined (algebra.modulus e) (axioms e).live (parts_in t columns) σ) % algebra.modulus e ≡ value_in t total σ
 
--- The sum of the ended groups and the columns' parts, and 2^k times the open one's parts are the gap at the frontier with this function; the open group states
+-- The sum of the ended batches and the columns' parts, and 2^k times the open one's parts are the gap at the frontier with this function; the open batch states
 -- the sum of the parts' axioms times their factors.
 pub record IsGathered (e : Extended) (s : Sides) (t : Table) (f : Taken) (rest : Assignment → ℕ) (g : Gathered) : Type 0 where
-  pub groups : AreSumGroups e t g.groups.items g.columns.items g.total
+  pub batches : AreSumBatches e t g.batches.items g.columns.items g.total
   pub added : AreOfAdded e f.added g.columns.items
   pub parts : AreGateParts e t g.parts.items
   pub fixed : IsFixedAbove e.max (combined (algebra.modulus e) (axioms e).live (parts_in t g.parts.items))
@@ -140,19 +140,20 @@ abbrev pub one_if_some : List (ℕ × Sum) → ℕ
 one_if_some [] = 0
 one_if_some (p ∷ parts) = 1
 
--- how many groups there are, the open one among them, once it has a part
-abbrev pub group_count : Gathered → ℕ
-group_count g = length g.groups.items + one_if_some g.parts.items
+-- how many batches there are, the open one among them, once it has a part
+abbrev pub batch_count : Gathered → ℕ
+batch_count g = length g.batches.items + one_if_some g.parts.items
 
--- What was gathered is so still, and there are as many groups.
+-- What was gathered is so still, and there are as many batches.
 pub record KeepsGathered (t0 t1 : Table) (old new : Gathered) : Type 0 where
-  pub gathered : (e : Extended) (s : Sides) (f : Taken) (rest : Assignment → ℕ) → modulus_in t0 ≡ algebra.modulus e → IsFixedAbove e.max (gap e s f.added rest) →
+  pub gathered : (e : Extended) (s : Sides) (f : Taken) (rest : Assignment → ℕ) → modulus_in t0 ≡ algebra.modulus e →
+      IsFixedAbove e.max (gap e s f.added rest) →
       IsGathered e s t0 f rest old → IsGathered e s t1 f rest new
   pub of : IsOf t0 old.stated → IsOf t1 new.stated
-  pub count : group_count new ≤ group_count old
+  pub count : batch_count new ≤ batch_count old
 
--- No group is open any more.
-pub record IsEndedGroup (t0 t1 : Table) (old new : Gathered) : Type 0 where
+-- No batch is open any more.
+pub record IsEndedBatch (t0 t1 : Table) (old new : Gathered) : Type 0 where
   pub settles : KeepsGathered t0 t1 old new
   pub none : new.parts.items ≡ []
   pub power : new.power ≡ old.power
@@ -162,9 +163,9 @@ pub record HasPower (t0 t1 : Table) (k : ℕ) (old new : Gathered) : Type 0 wher
   pub settles : KeepsGathered t0 t1 old new
   pub power : new.power ≡ k
 
--- The open group takes a part over the axiom of a gate.
+-- The open batch takes a part over the axiom of a gate.
 pub record HasPart (t : Table) (x : Gate) (p : GatePart) (old new : Gathered) : Type 0 where
-  pub groups : new.groups ≡ old.groups
+  pub batches : new.batches ≡ old.batches
   pub columns : new.columns ≡ old.columns
   pub total : new.total ≡ old.total
   pub power : new.power ≡ old.power
@@ -186,7 +187,7 @@ pub record HasTakenGate (t0 t1 : Table) (x : Gate) (q : Option GatePart) (old ne
       ((σ : Assignment) → next σ ≡ substituted (algebra.modulus e) x.v (gate_value x) rest σ) →
       IsLeft (algebra.modulus e) t0 x (quotient (algebra.modulus e) x.v rest) q →
       IsGathered e s t0 f rest old → IsGathered e s t1 (step f (Eliminate x.v)) next new
-  pub count : group_count new ≤ group_count old + 1
+  pub count : batch_count new ≤ batch_count old + 1
 
 -- The column's part is taken, where it is replaced.
 pub record HasColumn (t0 t1 : Table) (e : Extended) (k : ℕ) (old new : Gathered) : Type 0 where
@@ -194,7 +195,7 @@ pub record HasColumn (t0 t1 : Table) (e : Extended) (k : ℕ) (old new : Gathere
       IsExtension e → k < length e.graph.outputs → has f.added k ≡ false →
       ((r : Lit) → slice_get (new_outputs e) k ≡ Some r → (σ : Assignment) → next σ ≡ (rest σ + column_value e s k r σ) % algebra.modulus e) →
       IsGathered e s t0 f rest old → IsGathered e s t1 (step f (Add k)) next new
-  pub count : group_count new ≡ group_count old
+  pub count : batch_count new ≡ batch_count old
 
 -- ---- the walk over the steps
 
@@ -207,7 +208,7 @@ pub record IsWalked (e : Extended) (s : Sides) (t : Table) (f : Taken) (w : Walk
   pub fixed : IsFixedAbove e.max (value_in t w.rest.sum)
   pub known : IsFixedAbove e.max (partial_specification e s f.added)
   pub gathered : IfSome w.gathered (IsGathered e s t f (value_in t w.rest.sum))
-  pub few : IfSome w.gathered (λ g. group_count g ≤ length f.eliminated)
+  pub few : IfSome w.gathered (λ g. batch_count g ≤ length f.eliminated)
 
 -- the same, if what is gathered is kept
 abbrev pub HasTakenIn : Table → Table → Gate → Option GatePart → Option Gathered → Option Gathered → Type 0
@@ -221,10 +222,10 @@ HasColumnIn t0 t1 e k None r = r ≡ None
 HasColumnIn t0 t1 e k (Some g) None = ⊥
 HasColumnIn t0 t1 e k (Some g) (Some more) = HasColumn t0 t1 e k g more
 
--- The groups' lines and the columns' parts state the specification minus the last frontier's function.
+-- The batches' lines and the columns' parts state the specification minus the last frontier's function.
 pub record AreTotal (e : Extended) (s : Sides) (t : Table) (rest : Sum) (g : Gathered) : Type 0 where
-  pub groups : AreSumGroups e t g.groups.items g.columns.items g.total
-  pub few : length g.groups.items ≤ length e.gates + 1
+  pub batches : AreSumBatches e t g.batches.items g.columns.items g.total
+  pub few : length g.batches.items ≤ length e.gates + 1
   pub total : (σ : Assignment) → value_in t g.total σ ≡ difference (algebra.modulus e) (specification e s σ) (value_in t rest σ)
 
 -- All steps were taken within the budget.
@@ -251,24 +252,24 @@ HasGathered (outcome.Ended w) = IsSome w.gathered
 HasGathered (outcome.Passed step size) = Unit {0}
 HasGathered outcome.Stopped = ⊥
 
--- No group is open.
+-- No batch is open.
 pub record HasEnded (e : Extended) (s : Sides) (t : Table) (f : Taken) (rest : Sum) (g : Gathered) : Type 0 where
   pub gathered : IsGathered e s t f (value_in t rest) g
-  pub few : length g.groups.items ≤ length f.eliminated
+  pub few : length g.batches.items ≤ length f.eliminated
   pub none : g.parts.items ≡ []
 
--- ---- the lines of the groups
+-- ---- the lines of the batches
 
--- Some groups' lines are written, and each is to be taken by the last line, times its weight; with the groups that are left they add up
+-- Some batches' lines are written, and each is to be taken by the last line, times its weight; with the batches that are left they add up
 -- to the total.
-pub record AreGroupsWritten (e : Extended) (s : Sides) (t : Table) (total : Sum) (gs : List Group) (weighted : List (ℕ × Sum)) (l : Made) : Type 0 where
+pub record AreBatchesWritten (e : Extended) (s : Sides) (t : Table) (total : Sum) (gs : List Batch) (weighted : List (ℕ × Sum)) (l : Made) : Type 0 where
   pub made : IsExtension e
   pub same_modulus : modulus_in t ≡ algebra.modulus e
   pub graph : AreLinesOver e s t l
   pub axioms : (id : ℕ) → id ≤ e.max → line_of (written_ledger l).live id ≡ line_of (axioms e).live id
-  pub groups : All (IsGroup e t) gs
+  pub batches : All (IsBatch e t) gs
   pub sum : (σ : Assignment) →
-      (groups_sum t gs σ + combined (algebra.modulus e) (written_ledger l).live (parts_in t weighted) σ) % algebra.modulus e ≡ value_in t total σ
+      (batches_sum t gs σ + combined (algebra.modulus e) (written_ledger l).live (parts_in t weighted) σ) % algebra.modulus e ≡ value_in t total σ
   pub over : All (λ p. IsOver e.max t p.1) weighted
   pub nonzero : All (λ p. IsNotZero (algebra.modulus e) (monomials_in t p.1)) weighted
   pub live : All (λ p. IsLive (written_ledger l).live p.0) weighted

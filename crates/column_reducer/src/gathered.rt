@@ -8,8 +8,8 @@ ghost use Rattle.graph_core.specs.Graph.Extended.{Extended};
 ghost use Rattle.graph_core.specs.Graph.Operands.{Sides};
 ghost use Rattle.poly_terms.specs.Tables.{Extends, IsOf, modulus_in, value_in};
 ghost use Rattle.frontier_core.specs.Plan.{Taken, nothing};
-ghost use Rattle.column_reducer.specs.Gathering.{HasColumn, HasPart, HasPower, HasTakenGate, IsEndedGroup};
-ghost use Rattle.column_reducer.specs.Gathering.{IsGatePartOf, IsGathered, group_count};
+ghost use Rattle.column_reducer.specs.Gathering.{HasColumn, HasPart, HasPower, HasTakenGate, IsEndedBatch};
+ghost use Rattle.column_reducer.specs.Gathering.{IsGatePartOf, IsGathered, batch_count};
 
 use crate::gate_part::GatePart;
 use crate::pieces::{power_poly, zero_poly};
@@ -21,36 +21,36 @@ use std::alloc::Global;
 
 /// Parts of a line, the polynomial that they add up to, and the number with which a last line takes this one.
 #[derive(Debug, Drop)]
-pub(crate) struct Group {
+pub(crate) struct Batch {
     pub(crate) parts: Vec<(u64, Poly)>,
     pub(crate) poly: Poly,
     pub(crate) weight: Poly,
 }
 
-/// Groups that were ended, and the parts of the group that is open.
+/// Batches that were ended, and the parts of the batch that is open.
 #[derive(Debug, Drop)]
 pub(crate) struct Gathered {
-    pub(crate) groups: Vec<Group>,
+    pub(crate) batches: Vec<Batch>,
     /// parts over the axioms of replaced columns, which belong to the last line
     pub(crate) columns: Vec<(u64, Poly)>,
-    /// the sum of what the groups state, each times its weight, and of the columns' parts
+    /// the sum of what the batches state, each times its weight, and of the columns' parts
     pub(crate) total: Poly,
     /// parts that are divided by 2^power
     pub(crate) parts: Vec<(u64, Poly)>,
     /// the sum of each part's axiom times its factor
     pub(crate) stated: PolySum,
     pub(crate) power: u32,
-    /// how many monomials the open group's factors have
+    /// how many monomials the open batch's factors have
     pub(crate) pending: u64,
-    /// how many those of the ended groups have
+    /// how many those of the ended batches have
     pub(crate) ended: u64,
 }
 
 impl Gathered {
-    /// No group and no part.
+    /// No batch and no part.
     pub(crate) fn new(alloc: Global, terms: &mut Terms) -> Result<Gathered, Memory>
         ensures extends { Extends terms.old terms.new }
-        ensures none { IfOk result (λ g. group_count g ≡ 0) }
+        ensures none { IfOk result (λ g. batch_count g ≡ 0) }
         ensures gathered { IfOk result (λ g. (e : Extended) (s : Sides) (rest : Assignment → ℕ) →
             modulus_in terms.old ≡ algebra.modulus e → ((σ : Assignment) → rest σ ≡ 0) →
             IsGathered e s terms.new nothing rest g) }
@@ -58,7 +58,7 @@ impl Gathered {
         let total = zero_poly(alloc, terms)?;
         let power = terms.exponent() - 1;
         Ok(Gathered {
-            groups: Vec::new(alloc),
+            batches: Vec::new(alloc),
             columns: Vec::new(alloc),
             total,
             parts: Vec::new(alloc),
@@ -70,7 +70,7 @@ impl Gathered {
     }
 
     /// Takes a part over the axiom of a gate, if there is one. Where it is divided by a lesser power of two than those
-    /// of the open group, a group begins.
+    /// of the open batch, a batch begins.
     pub(crate) fn take(
         self,
         alloc: Global,
@@ -94,7 +94,7 @@ impl Gathered {
         }
     }
 
-    // Ends the open group where its parts are divided by another power.
+    // Ends the open batch where its parts are divided by another power.
     fn with_power(self, alloc: Global, terms: &mut Terms, power: u32) -> Result<Gathered, Memory>
         requires low { power ≤ self.power }
         requires gathered { (e : Extended) × (s : Sides) × (f : Taken) × (rest : Assignment → ℕ) ×
@@ -105,12 +105,12 @@ impl Gathered {
         if power == self.power {
             return Ok(self);
         }
-        let mut ended = self.end_group(alloc, terms)?;
+        let mut ended = self.end_batch(alloc, terms)?;
         ended.power = power;
         Ok(ended)
     }
 
-    // Takes a part that is divided by the open group's power.
+    // Takes a part that is divided by the open batch's power.
     fn push(self, terms: &Terms, gate: &Gate, part: GatePart) -> Result<Gathered, Memory>
         requires of { IsGatePartOf terms.now part }
         requires stated { IsOf terms.now self.stated }
@@ -152,18 +152,18 @@ impl Gathered {
         Ok(gathered)
     }
 
-    /// Ends the open group, if it has a part: it states what its parts add up to.
-    pub(crate) fn end_group(self, alloc: Global, terms: &mut Terms) -> Result<Gathered, Memory>
+    /// Ends the open batch, if it has a part: it states what its parts add up to.
+    pub(crate) fn end_batch(self, alloc: Global, terms: &mut Terms) -> Result<Gathered, Memory>
         requires gathered { (e : Extended) × (s : Sides) × (f : Taken) × (rest : Assignment → ℕ) ×
             IsGathered e s terms.old f rest self }
         ensures extends { Extends terms.old terms.new }
-        ensures ended { IfOk result (IsEndedGroup terms.old terms.new self) }
+        ensures ended { IfOk result (IsEndedBatch terms.old terms.new self) }
     {
         if self.parts.is_empty() {
             return Ok(self);
         }
         let Gathered {
-            mut groups,
+            mut batches,
             columns,
             total,
             parts,
@@ -175,13 +175,13 @@ impl Gathered {
         let poly = stated.take(terms)?;
         let weight = power_poly(alloc, terms, power)?;
         let total = terms.combine(&total, &poly, &weight)?;
-        groups.push(Group {
+        batches.push(Batch {
             parts,
             poly,
             weight,
         })?;
         Ok(Gathered {
-            groups,
+            batches,
             columns,
             total,
             parts: Vec::new(alloc),

@@ -5,8 +5,8 @@ ghost use Rattle.column_reducer.specs.Gathering.{HasGathered, IsWalkOutcome};
 ghost use Rattle.column_reducer.specs.Reducing.{ContinuesLines, IsReduced, Planned};
 ghost use Rattle.ripple_graft.specs.Extension.{IsExtension};
 
+use crate::batch_lines::write_batches;
 use crate::frontier_walk::first_passed;
-use crate::group_lines::write_groups;
 use crate::plan::Plan;
 use crate::reduced::Reduced;
 use crate::walk::{Ended, Outcome, take_steps};
@@ -139,9 +139,9 @@ fn write_outcome(lines: &mut Lines<'_>, outcome: Outcome) -> Result<Reduced, Mem
             match gathered {
                 None => unreachable!(),
                 Some(gathered) => {
-                    let id = write_groups(
+                    let id = write_batches(
                         lines,
-                        gathered.groups,
+                        gathered.batches,
                         gathered.columns,
                         gathered.total,
                     )?;

@@ -1,4 +1,4 @@
-// When a group ends.
+// When a batch ends.
 #![tactic(auto, using(poly_terms::specs::Laws::stays, poly_terms::specs::Laws::extends_on, poly_terms::specs::Laws::extends_itself, poly_terms::specs::Laws::indexed_stays))]
 
 ghost use Rattle.std.specs.Prelude.{◌≡◌, ◌≢◌, ◌≤◌, ◌+◌, ℕ, None, Ok, IfOk, IfSome, OnOk, length};
@@ -15,10 +15,10 @@ use graph_core::Memory;
 use poly_terms::Terms;
 use std::alloc::Global;
 
-// A group ends once its factors have more monomials than this, so that no line gets very long.
-const LARGE_GROUP: u64 = 1 << 16;
+// A batch ends once its factors have more monomials than this, so that no line gets very long.
+const LARGE_BATCH: u64 = 1 << 16;
 
-/// Ends a large group.
+/// Ends a large batch.
 #[tactic(auto, using(poly_terms::specs::Laws::extends_itself, crate::proofs::Taken::settled_itself, crate::proofs::Taken::settled_ended))]
 pub(crate) fn settle(
     alloc: Global,
@@ -30,9 +30,9 @@ pub(crate) fn settle(
     ensures extends { Extends terms.old terms.new }
     ensures gathered { IfOk result (KeepsGathered terms.old terms.new gathered) }
 {
-    if gathered.pending <= LARGE_GROUP {
+    if gathered.pending <= LARGE_BATCH {
         return Ok(gathered);
     }
-    let ended = gathered.end_group(alloc, terms)?;
+    let ended = gathered.end_batch(alloc, terms)?;
     Ok(ended)
 }

@@ -38,7 +38,7 @@ pub(crate) struct Walk {
     pub(crate) gathered: Option<Gathered>,
 }
 
-/// What there is after all steps: no group is open.
+/// What there is after all steps: no batch is open.
 #[derive(Debug, Drop)]
 pub(crate) struct Ended {
     pub(crate) rest: Poly,
@@ -231,7 +231,7 @@ impl Walk {
         }
     }
 
-    // Ends a large group.
+    // Ends a large batch.
     fn settle(self, alloc: Global, terms: &mut Terms) -> Result<Walk, Memory>
         requires walked { (e : ExtendedGraph) × (s : Sides) × (f : Taken) × IsWalked e s terms.old f self }
         ensures extends { Extends terms.old terms.new }
@@ -255,7 +255,7 @@ impl Walk {
         }
     }
 
-    // Ends the last group.
+    // Ends the last batch.
     fn end(self, alloc: Global, terms: &mut Terms) -> Result<Ended, Memory>
         requires walked { (e : ExtendedGraph) × (s : Sides) × (f : Taken) × IsWalked e s terms.old f self }
         ensures extends { Extends terms.old terms.new }
@@ -272,7 +272,7 @@ impl Walk {
                 gathered: None,
             }),
             Some(gathered) => {
-                let ended = gathered.end_group(alloc, terms)?;
+                let ended = gathered.end_batch(alloc, terms)?;
                 Ok(Ended {
                     rest,
                     gathered: Some(ended),
@@ -282,7 +282,7 @@ impl Walk {
     }
 }
 
-// The power of two by which parts of the open group are divided: none where nothing is gathered.
+// The power of two by which parts of the open batch are divided: none where nothing is gathered.
 fn open_power(gathered: &Option<Gathered>) -> u32
     ensures none { gathered.now ≡ None → result ≡ 0 }
     ensures some { IfSome gathered.now (λ g. result ≡ g.power) }

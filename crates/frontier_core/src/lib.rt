@@ -10,8 +10,8 @@
 //! the claim; else its least term gives the least difference (`LeastDifference`).
 //!
 //! The *gap* is the part of the specification that the added columns make up, minus the frontier's function. Each step
-//! changes it by an axiom times a polynomial: one line may state what a group of steps added (`Pending`), and a last
-//! line adds the groups up (`Totals`).
+//! changes it by an axiom times a polynomial: one line may state what a run of steps added (`Pending`), and a last
+//! line adds the lines up (`Totals`).
 //!
 //! There is no code but the enum of steps. A law is the contract of a public function with an empty body. What hangs on
 //! the kind of claim (a product of two operands) is told by `Columns` and proved in `proofs/ColumnClaims` and

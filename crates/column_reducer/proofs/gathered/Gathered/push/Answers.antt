@@ -7,7 +7,7 @@ returns c =
     let t = c.args.terms.now in
     let factor = c.args.part.factor in
     record {
-      groups = refl;
+      batches = refl;
       columns = refl;
       total = refl;
       power = refl;

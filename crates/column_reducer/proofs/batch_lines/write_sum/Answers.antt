@@ -4,9 +4,9 @@ use Rattle.graph_core.specs.Graph.Assignments.{Assignment}
 use Rattle.graph_core.specs.Algebra.{value_of}
 use Rattle.poly_terms.specs.Tables.{value_in}
 use Rattle.pac_writer.specs.Writing.{PutsLine, combination_of, written_ledger}
-use Rattle.column_reducer.specs.Gathering.{AreGroupsWritten}
+use Rattle.column_reducer.specs.Gathering.{AreBatchesWritten}
 use Rattle.column_reducer.proofs.Written.{no_items, none_is_zero, sum_has, sum_is_equal}
-use Rattle.column_reducer.proofs.group_lines.write_sum.Goals as goal
+use Rattle.column_reducer.proofs.batch_lines.write_sum.Goals as goal
 
 pub combine-requires-clause-spare : goal.combine-requires-clause-spare
 combine-requires-clause-spare c = (sum_is_equal c.args.lines.now.sides c.args.total c.args.weighted.items c.args.lines.now c.requires.written).0
@@ -25,4 +25,4 @@ pub returns-then-is_empty-clause-value : goal.returns-then-is_empty-clause-value
 returns-then-is_empty-clause-value c σ =
     let l = c.args.lines.now in
     let none : length c.args.weighted.items ≡ 0 = search rules in
-    none_is_zero l.sides c.args.total l σ c.last-last.ensures.lawful (subst (λ os. AreGroupsWritten l.extended l.sides l.table c.args.total [] os l) (no_items c.args.weighted.items none) c.requires.written)
+    none_is_zero l.sides c.args.total l σ c.last-last.ensures.lawful (subst (λ os. AreBatchesWritten l.extended l.sides l.table c.args.total [] os l) (no_items c.args.weighted.items none) c.requires.written)
