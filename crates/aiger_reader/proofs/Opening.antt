@@ -1,6 +1,5 @@
 -- A file that is opened in a slot, and read there.
 use Rattle.std.specs.Prelude.{◌≢◌, Result, Ok, Err}
-use Rattle.std.proofs.Common.{◌≤◌}
 use Rattle.mv_desk.specs.Calls.{Inspects}
 use Rattle.mv_desk.specs.View.{View}
 use Rattle.mv_desk.specs.declared.slot.Slot.{Slot}

@@ -7,7 +7,7 @@ use Rattle.graph_core.specs.declared.profile.Profile.{Profile}
 use Rattle.graph_core.specs.declared.profile.Profile.TheVariants.{Multiplier, MultiplyAdd, Any}
 use Rattle.graph_core.specs.Graph.Literals.{variable_of}
 use Rattle.graph_core.specs.Graph.{Aig, IsWellFormed, defined}
-use Rattle.graph_core.specs.Aiger.{least_inputs, most_inputs, input_step, most_outputs, HasCounts}
+use Rattle.graph_core.specs.Aiger.{HasCounts}
 use Rattle.graph_core.specs.Aiger.Soundness.{IsSizedAs}
 use Rattle.graph_core.specs.Aiger.Writing.{written, written_gate}
 use Rattle.graph_core.proofs.OfGraphs.CallerLemmas.{few_numbers, input_in_range}

@@ -3,7 +3,7 @@ ghost use Rattle.std.specs.Prelude.{◌≡◌, ◌↔◌, IsTrue, false};
 ghost use Rattle.graph_core.specs.Aiger as aiger;
 ghost use Rattle.graph_core.specs.Aiger.Refusal.{has_wrong_inputs, has_wrong_outputs};
 
-use graph_core::Profile;
+use graph_core::{MOST_INPUTS, MOST_OUTPUTS, Profile};
 
 // Whether there may be so many inputs.
 pub fn fits_inputs(profile: Profile, inputs: u64) -> bool
@@ -12,7 +12,7 @@ pub fn fits_inputs(profile: Profile, inputs: u64) -> bool
     match profile {
         Profile::Multiplier => inputs % 2 == 0 && 2 <= inputs && inputs <= 128,
         Profile::MultiplyAdd => inputs % 4 == 0 && 4 <= inputs && inputs <= 256,
-        Profile::Any => inputs <= 256,
+        Profile::Any => inputs <= MOST_INPUTS as u64,
     }
 }
 
@@ -29,6 +29,6 @@ fn most_outputs(profile: Profile, inputs: u64) -> u64
     match profile {
         Profile::Multiplier => inputs,
         Profile::MultiplyAdd => inputs / 2,
-        Profile::Any => 256,
+        Profile::Any => MOST_OUTPUTS as u64,
     }
 }

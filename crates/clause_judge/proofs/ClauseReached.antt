@@ -1,5 +1,5 @@
 -- How far a clause file is judged: one line more, its end, and each line at which it is refused.
-use Rattle.std.specs.Prelude.{◌≡◌, ◌≢◌, ℕ, suc, ◌+◌, ◌*◌, ◌<◌, ◌≤◌, ◌^◌, List, [], ◌∷◌, ◌++◌, length, IfSome}
+use Rattle.std.specs.Prelude.{◌≡◌, ◌≢◌, ℕ, suc, ◌+◌, ◌<◌, ◌≤◌, ◌^◌, List, [], ◌∷◌, ◌++◌, length, IfSome}
 use Rattle.std.specs.declared.option.Option.{Option}
 use Rattle.std.specs.declared.option.Option.TheVariants.{None, Some}
 use Rattle.std.proofs.Common.{refl, sym, ap, subst, ◌∙◌, arith, inl, inr, ⊎_elim, length-append}
@@ -27,11 +27,11 @@ use Rattle.miter_encoder.specs.ColumnGoals.{AreGoalsOf}
 use Rattle.mv_desk.specs.View.{View}
 use Rattle.mv_text.specs.declared.line_fail.LineFail.{LineFail}
 use Rattle.mv_text.specs.declared.line_fail.LineFail.TheVariants as text
-use Rattle.mv_text.specs.LineReading.{IsLongAhead, Lines}
+use Rattle.mv_text.specs.LineReading.{IsLongAhead}
 use Rattle.clause_judge.specs.declared.fail.ClauseFail.{ClauseFail}
 use Rattle.clause_judge.specs.declared.fail.ClauseFail.TheVariants as fail
-use Rattle.clause_judge.specs.ClauseBody.{Ends, HasPassed, IsRestFail, IsShownWith}
-use Rattle.clause_judge.specs.ClauseLines.{answer_of_line, IsGoalFail, IsRuleFail, IsTextFail, NextLine, ReadsNext, TakesClauseLine}
+use Rattle.clause_judge.specs.ClauseBody.{Ends, HasPassed, IsPassed, IsRestFail, IsShownWith, PassTo, StandsAt}
+use Rattle.clause_judge.specs.ClauseLines.{answer_of_line, IsGoalFail, IsRuleFail, IsTextFail, NextLine, TakesClauseLine}
 use Rattle.clause_judge.specs.LineRefusals.{IsClauseStep, IsRefusedClause, IsRefusedLines, IsRefusedNextClause}
 use Rattle.clause_judge.specs.Taking.{HasTaken, TakeClauses}
 use Rattle.clause_judge.proofs.LineEnds.{within_behind}
@@ -44,24 +44,17 @@ take_more e live [] mid x last h step = (last, subst (λ (z : List Clause). IsCl
 take_more e live (y ∷ xs) mid x last h step = (h.0, h.1, take_more e h.0 xs mid x last h.2 step)
 
 module _ (e : Extended) (IsLong : List ℕ → Type 0) where
-  -- these are the live clauses and the bytes that are left
-  abbrev At : List Clause → List ℕ → List Clause → List ℕ → Type 0
-  At live rest s left = (s ≡ live) × (left ≡ rest)
-
-  abbrev pub PassTo : List ClauseLine → List Clause → List ℕ → List Clause → List ℕ → Type 0
-  PassTo xs live rest = Behind IsClauseLine (IsClauseStep e) IsLong (At live rest) xs
-
-  pass_more : (xs : List ClauseLine) (live : List Clause) (rest : List ℕ) (x : ClauseLine) (next : List Clause) (more : List ℕ) (s : List Clause) (bytes : List ℕ) → PassTo xs live rest s bytes →
-      ¬ (IsLong rest) → BeginsWith IsClauseLine rest x more → IsClauseStep e live x next → PassTo (xs ++ x ∷ []) next more s bytes
+  pass_more : (xs : List ClauseLine) (live : List Clause) (rest : List ℕ) (x : ClauseLine) (next : List Clause) (more : List ℕ) (s : List Clause) (bytes : List ℕ) → PassTo e IsLong xs live rest s bytes →
+      ¬ (IsLong rest) → BeginsWith IsClauseLine rest x more → IsClauseStep e live x next → PassTo e IsLong (xs ++ x ∷ []) next more s bytes
   pass_more [] live rest x next more s bytes h short begins step =
       (more, next, subst (λ z. ¬ (IsLong z)) (sym h.1) short, subst (λ z. BeginsWith IsClauseLine z x more) (sym h.1) begins, subst (λ (z : List Clause). IsClauseStep e z x next) (sym h.0) step, (refl, refl))
   pass_more (y ∷ xs) live rest x next more s bytes h short begins step =
       (h.0, h.1, h.2, h.3, h.4, pass_more xs live rest x next more h.1 h.0 h.5 short begins step)
 
-  pass_map : (F : List Clause → List ℕ → Type 0) (xs : List ClauseLine) (live : List Clause) (rest : List ℕ) (s : List Clause) (bytes : List ℕ) → PassTo xs live rest s bytes → F live rest →
+  pass_map : (F : List Clause → List ℕ → Type 0) (xs : List ClauseLine) (live : List Clause) (rest : List ℕ) (s : List Clause) (bytes : List ℕ) → PassTo e IsLong xs live rest s bytes → F live rest →
       Behind IsClauseLine (IsClauseStep e) IsLong F xs s bytes
   pass_map F xs live rest s bytes h there =
-      behind_map IsClauseLine (IsClauseStep e) IsLong (At live rest) F (λ t left same. subst (λ (z : List Clause). F z left) (sym same.0) (subst (F live) (sym same.1) there)) xs s bytes h
+      behind_map IsClauseLine (IsClauseStep e) IsLong (λ t left. (t ≡ live) × (left ≡ rest)) F (λ t left same. subst (λ (z : List Clause). F z left) (sym same.0) (subst (F live) (sym same.1) there)) xs s bytes h
 
 -- ---- a line has bytes
 
@@ -77,35 +70,7 @@ line_has_bytes : (line : List ℕ) (x : ClauseLine) → IsClauseLine line x → 
 line_has_bytes [] x h = absurd (empty_is_no_line x h)
 line_has_bytes (b ∷ line) x h = omega arith
 
--- ---- where a reader of lines is
-
--- Of a body that this reader had before it, these lines passed, and the bytes that are left begin where the reader is now.
-pub record IsPassed (e : Extended) (start : Lines) (xs : List ClauseLine) (live : List Clause) (lines : Lines) (left : Option (List ℕ)) (body : List ℕ) : Type 0 where
-  pub rest : List ℕ
-  pub left_is : left ≡ Some rest
-  pub count : lines.taken + length rest ≡ start.taken + length body
-  -- a line has at least one byte and its line feed
-  pub turns : start.taken + 2 * length xs ≤ lines.taken
-  pub room : 0 < length xs → lines.taken ≤ start.lengths.file
-  pub passed : PassTo e (IsLongIn start body) xs live rest (gate_clauses e.gates) body
-
--- The same where the body is told, with the number of the last line.
-pub record StandsAt (e : Extended) (start : FileState) (body : Option (List ℕ)) (xs : List ClauseLine) (live : List Clause) (file : FileState) (left : Option (List ℕ)) : Type 0 where
-  pub lengths : file.lines.lengths ≡ start.lines.lengths
-  pub number : file.number ≡ start.number + length xs
-  pub passed : IfSome body (IsPassed e start.lines xs live file.lines left)
-
--- So many lines were taken by the checker so far, and the next one was read, or the end.
-pub record IsReached (e : Extended) (start : FileState) (body : Option (List ℕ)) (k : Checking) (turn : ℕ) (next : Option ClauseLine) (file : FileState) (left : Option (List ℕ)) : Type 0 where
-  pub xs : List ClauseLine
-  pub live : List Clause
-  pub before : FileState
-  pub ahead : Option (List ℕ)
-  pub turns : length xs ≡ turn
-  pub taken : HasTaken e xs live k
-  pub stands : StandsAt e start body xs live before ahead
-  pub lengths : file.lines.lengths ≡ before.lines.lengths
-  pub read : ReadsNext e.max before file ahead left next
+-- ---- how far
 
 module _ (e : Extended) (start : FileState) (body : Option (List ℕ)) where
   -- no line is taken yet
@@ -161,7 +126,7 @@ module _ (e : Extended) (start : FileState) (body : Option (List ℕ)) where
         pass_map e (IsLongIn start.lines bytes) (Ends (IsLongIn start.lines bytes)) xs live p.rest (gate_clauses e.gates) bytes p.passed (short_here bytes p end.short, end.none)) stands.passed
 
     -- a reader within its limit doesn't read so many lines
-    pub too_many : (first now : View) → 2 ^ 64 ≤ length xs + 1 → start.lines.lengths.file < 2 ^ 64 → Fails first now fail.TooLong
+    pub too_many : (first now : View) → 2 ^ 63 ≤ length xs → start.lines.lengths.file < 2 ^ 64 → Fails first now fail.TooLong
     too_many first now many limit = told_more body (IsPassed e start.lines xs live file.lines left) (λ bytes. (m : ℕ) × IsRefusedLines (IsLongIn start.lines bytes) e (start.number + 1) bytes (m, TooLong))
         (λ bytes p. let room = p.room in let turns = p.turns in absurd (omega (arith, many, limit, turns, p.room (omega (arith, many))))) stands.passed
 

@@ -1,51 +1,54 @@
 -- The turns of judging a clause file: the first line, each next one, and where it ends.
-use Rattle.std.specs.Prelude.{◌≡◌, ℕ, ◌+◌, ◌<◌, ◌≤◌, ◌^◌, List, [], ◌∷◌, ◌++◌, length, IfSome}
+use Rattle.std.specs.Prelude.{◌≡◌, ℕ, ◌+◌, ◌<◌, ◌≤◌, ◌^◌, List, [], ◌∷◌, ◌++◌, length, IfSome, Err}
 use Rattle.std.specs.List.{All, AllByRecursion, Any}
 use Rattle.std.specs.declared.option.Option.{Option}
 use Rattle.std.specs.declared.option.Option.TheVariants.{None, Some}
-use Rattle.std.proofs.Common.{refl, sym, subst, ◌∙◌, arith, length-append}
+use Rattle.std.proofs.Common.{refl, sym, ap, subst, ◌∙◌, arith, length-append}
+use Rattle.std.proofs.Math.Nat.{le_trans}
 use Rattle.std.proofs.lemmas.List.Elements.{All-from_recursion, recursion_from_All}
 use Rattle.graph_core.specs.Algebra.{AgreeOnColumns}
 use Rattle.graph_core.specs.Graph.Extended.{Column, Extended}
 use Rattle.graph_core.specs.declared.gate.Gate.{Gate}
 use Rattle.mv_fact.specs.Always.{Always}
-use Rattle.clause_core.specs.ClauseLines.{AreGoalsShown, ClauseLine, IsShown}
+use Rattle.clause_core.specs.Clause.{IsClauseInRange}
+use Rattle.clause_core.specs.ClauseLines.{AreGoalsShown, ClauseLine, IsShown, clause_in}
 use Rattle.clause_core.specs.GateClauses.{gate_clauses, goals_of}
 use Rattle.clause_core.specs.declared.line.Line.TheVariants.{Add, Delete}
 use Rattle.clause_core.proofs.CallerLemmas.{any_nil}
 use Rattle.drup_checker.specs.Checking.{Checking, IsLeastUnshown}
 use Rattle.drup_checker.specs.declared.keeps.Keeps.{Keeps}
-use Rattle.mv_text.specs.CertificateFiles.{FileState, GoesOn}
+use Rattle.mv_text.specs.CertificateFiles.{FileState, GoesOn, left_of_file}
 use Rattle.miter_encoder.specs.ColumnGoals.{AreGoalsOf, HasGoals, IsGoalOf}
 use Rattle.miter_encoder.specs.declared.goal.Goal.{Goal}
 use Rattle.mv_desk.specs.View.{View}
+use Rattle.mv_desk.specs.declared.slot.Slot.TheVariants as slot
 use Rattle.clause_judge.specs.declared.fail.ClauseFail.{ClauseFail}
 use Rattle.clause_judge.specs.declared.fail.ClauseFail.TheVariants as fail
-use Rattle.clause_judge.specs.ClauseBody.{BeginsBody, HasPassed, IsRestFail, IsShownWith}
+use Rattle.clause_judge.specs.ClauseBody.{AreJudged, BeginsBody, BeginsSomewhere, HasJudged, HasPassed, IsAtHand, IsFailFrom, IsReached, IsRestFail, IsSameTask, IsShownFrom, IsShownWith, JoinsFrom, KeepsTask}
 use Rattle.clause_judge.specs.ClauseLines.{IsGoalFail, IsRuleFail, IsTextFail, NextLine, ReadsNext, TakesClauseLine}
-use Rattle.clause_judge.specs.Taking.{HasTaken, HasTakenNone}
-use Rattle.clause_judge.proofs.CheckerBegins.{none_kept}
+use Rattle.clause_judge.specs.declared.judging.JudgeClauses.{JudgeClauses}
+use Rattle.clause_judge.specs.Taking.{HasTakenNone}
+use Rattle.clause_judge.proofs.CheckerBegins.{none_kept, range_of}
 use Rattle.clause_judge.proofs.ClauseReached as reached
-use Rattle.clause_judge.proofs.ClauseReached.{IsReached, begins}
+use Rattle.clause_judge.proofs.ClauseReached.{begins}
 use Rattle.clause_judge.proofs.Joins.{goals_join_columns, lines_join_columns}
 use Rattle.clause_judge.proofs.Told.{told_more}
 
--- the checker keeps its goals, its greatest variable, its gates and what it keeps
-pub takes_goals : (x : ClauseLine) (k k' : Checking) → TakesClauseLine x k k' → k'.goals ≡ k.goals
-takes_goals (Add c) k k' h = h.goals
-takes_goals (Delete c) k k' h = h.goals
+-- a line that is taken leaves the task
+pub takes_task : (x : ClauseLine) (k k' : Checking) → TakesClauseLine x k k' → KeepsTask k k'
+takes_task (Add c) k k' h = record { gates = h.gates; max = h.max; goals = h.goals; keeps = h.keeps }
+takes_task (Delete c) k k' h = record { gates = h.gates; max = h.max; goals = h.goals; keeps = h.keeps }
 
-pub takes_max : (x : ClauseLine) (k k' : Checking) → TakesClauseLine x k k' → k'.max ≡ k.max
-takes_max (Add c) k k' h = h.max
-takes_max (Delete c) k k' h = h.max
+pub task_stays : {a b : Checking} → b ≡ a → KeepsTask a b
+task_stays is = record { gates = ap (λ (k : Checking). k.gates) is; max = ap (λ (k : Checking). k.max) is; goals = ap (λ (k : Checking). k.goals) is; keeps = ap (λ (k : Checking). k.keeps) is }
 
-pub takes_gates : (x : ClauseLine) (k k' : Checking) → TakesClauseLine x k k' → k'.gates ≡ k.gates
-takes_gates (Add c) k k' h = h.gates
-takes_gates (Delete c) k k' h = h.gates
+task_trans : {a b c : Checking} → KeepsTask a b → KeepsTask b c → KeepsTask a c
+task_trans p q = record { gates = q.gates ∙ p.gates; max = q.max ∙ p.max; goals = q.goals ∙ p.goals; keeps = q.keeps ∙ p.keeps }
 
-pub takes_keeps : (x : ClauseLine) (k k' : Checking) → TakesClauseLine x k k' → k'.keeps ≡ k.keeps
-takes_keeps (Add c) k k' h = h.keeps
-takes_keeps (Delete c) k k' h = h.keeps
+-- a line that was read is in range, and the file goes on
+pub at_hand : (max : ℕ) (old new : FileState) (left behind : Option (List ℕ)) (next : Option ClauseLine) → ReadsNext max old new left behind next → IsAtHand max new next
+at_hand max old new left behind None h = tt
+at_hand max old new left behind (Some line) h = (range_of max h.text line h.same h.in_range, h.going)
 
 -- there is no replaced column without goals
 no_columns : (columns : List Column) (P : Column → Type 0) → All (HasGoals []) columns → All P columns
@@ -65,18 +68,17 @@ module _ (e : Extended) (start : FileState) (body : Option (List ℕ)) where
   first_fails before now answer h =
       reached.text_fails e start body [] (gate_clauses e.gates) start body (begins e start body) (start.number + 1) before before now answer (omega arith) (omega arith) h
 
-  pub first_reached : (k : Checking) (next : Option ClauseLine) (file : FileState) (left : Option (List ℕ)) → HasTaken e [] (gate_clauses e.gates) k → file.lines.lengths ≡ start.lines.lengths →
-      ReadsNext e.max start file body left next → IsReached e start body k 0 next file left
-  first_reached k next file left taken lengths read = record {
+  pub first_reached : (k : Checking) (next : Option ClauseLine) (file : FileState) (left : Option (List ℕ)) → BeginsBody e k start file body left next → IsReached e start body k 0 next file left
+  first_reached k next file left b = record {
     xs = [];
     live = gate_clauses e.gates;
     before = start;
     ahead = body;
     turns = refl;
-    taken = taken;
+    taken = b.taken;
     stands = begins e start body;
-    lengths = lengths;
-    read = read;
+    lengths = b.lengths;
+    read = b.read;
   }
 
   -- a new checker over these gates and goals, where the first line was read with the greatest variable of the gates
@@ -91,9 +93,6 @@ module _ (e : Extended) (start : FileState) (body : Option (List ℕ)) where
     read = subst (λ (n : ℕ). ReadsNext n start file body left next) is read;
   }
 
-  pub reached_first : (k : Checking) (next : Option ClauseLine) (file : FileState) (left : Option (List ℕ)) → BeginsBody e k start file body left next → IsReached e start body k 0 next file left
-  reached_first k next file left b = first_reached k next file left b.taken b.lengths b.read
-
   -- there is no line and no goal
   module _ (goals : List Goal) (of : AreGoalsOf e goals) (none : goals ≡ []) where
     nothing_shown : AreGoalsShown [] e
@@ -106,62 +105,108 @@ module _ (e : Extended) (start : FileState) (body : Option (List ℕ)) where
     nothing_passed keeps file left read = told_more body (HasPassed e start.lines []) (IsShownWith e start.lines keeps [] 0) (λ bytes passed. ([], passed, nothing_shown, none_kept keeps, refl))
         (reached.ends e start body [] (gate_clauses e.gates) start body (begins e start body) read)
 
-  -- ---- each next line
+-- ---- since a start
 
-  module _ (k : Checking) (turn : ℕ) (line : ClauseLine) (file : FileState) (left : Option (List ℕ)) (r : IsReached e start body k turn (Some line) file left) where
-    next : NextLine e.max r.before file r.ahead left line
-    next = r.read
+-- no line is judged yet
+pub none_judged : (it : JudgeClauses) (first : View) → it.max < 2 ^ 31 → it.checker.now.max ≡ it.max → BeginsSomewhere it.checker.now it.next.now it.file.now (left_of_file slot.Clauses it.file.now first) → HasJudged it first 0 it first
+none_judged it first small greatest some =
+    let left = left_of_file slot.Clauses it.file.now first in
+    record {
+      same = record { checker = refl; file = refl; task = record { gates = refl; max = refl; goals = refl; keeps = refl } };
+      small = small;
+      greatest = greatest;
+      at_hand = subst (λ (m : ℕ). IsAtHand m it.file.now it.next.now) (sym some.3.max ∙ greatest) (at_hand some.0.max some.1 it.file.now some.2 left it.next.now some.3.read);
+      reached = λ e file body b. first_reached e file body it.checker.now it.next.now it.file.now left b;
+    }
 
-    number_is : file.number ≡ start.number + 1 + length r.xs
-    number_is = omega (arith, next.number, r.stands.number)
+module _ {start it : JudgeClauses} {first before : View} {count : ℕ} (judged : HasJudged start first count it before) where
+  abbrev left : Option (List ℕ)
+  left = left_of_file slot.Clauses it.file.now before
 
-    pub rule_fails : (first now : View) (answer : ClauseFail) → IsRuleFail file.number line k answer → Fails first now answer
-    rule_fails first now answer h =
-        reached.rule_fails e start body r.xs r.live r.before r.ahead r.stands k r.taken file left line next file.number first now answer number_is h
+  abbrev Begins : Extended → FileState → Option (List ℕ) → Type 0
+  Begins e file body = BeginsBody e start.checker.now file start.file.now body (left_of_file slot.Clauses start.file.now first) start.next.now
 
-    module _ (k' : Checking) (takes : TakesClauseLine line k k') where
-      more : length (r.xs ++ next.text ∷ []) ≡ length r.xs + 1
-      more = length-append r.xs (next.text ∷ [])
+  abbrev FailsSince : View → ClauseFail → Type 0
+  FailsSince now answer = IsFailFrom start.checker.now start.next.now start.file.now (left_of_file slot.Clauses start.file.now first) first now answer
 
-      pub text_fails : (first before now : View) (answer : ClauseFail) → first.read_faults ≤ before.read_faults → IsTextFail (file.number + 1) e.max file.lines left before now answer → Fails first now answer
-      text_fails first before now answer later h =
-          let s = reached.step e start body r.xs r.live r.before r.ahead r.stands k r.taken file left line next k' takes r.lengths in
-          reached.text_fails e start body (r.xs ++ next.text ∷ []) s.0 file left s.2 (file.number + 1) first before now answer (omega (arith, number_is, more)) later h
+  at : (next : Option ClauseLine) → it.next.now ≡ next → (e : Extended) (file : FileState) (body : Option (List ℕ)) → Begins e file body → IsReached e file body it.checker.now count next it.file.now left
+  at next is e file body b = subst (λ (n : Option ClauseLine). IsReached e file body it.checker.now count n it.file.now left) is (judged.reached e file body b)
 
-      pub next_reached : (then : Option ClauseLine) (new : FileState) (behind : Option (List ℕ)) → new.lines.lengths ≡ file.lines.lengths → ReadsNext e.max file new left behind then → IsReached e start body k' (turn + 1) then new behind
-      next_reached then new behind lengths read =
-          let s = reached.step e start body r.xs r.live r.before r.ahead r.stands k r.taken file left line next k' takes r.lengths in
+  max_is : (e : Extended) → start.checker.now.max ≡ e.max → it.max ≡ e.max
+  max_is e is = sym judged.greatest ∙ judged.same.task.max ∙ is
+
+  pub still_same : {last : JudgeClauses} → last.checker.ghost_name ≡ it.checker.ghost_name → last.file.ghost_name ≡ it.file.ghost_name → KeepsTask it.checker.now last.checker.now → IsSameTask start last
+  still_same checker file task = record { checker = checker ∙ judged.same.checker; file = file ∙ judged.same.file; task = task_trans judged.same.task task }
+
+  -- ---- a line
+
+  module _ (line : ClauseLine) (is : it.next.now ≡ Some line) where
+    pub in_hand : IsClauseInRange it.max (clause_in line) × GoesOn it.file.now
+    in_hand = subst (IsAtHand it.max it.file.now) is judged.at_hand
+
+    number_is : (e : Extended) (file : FileState) (body : Option (List ℕ)) (r : IsReached e file body it.checker.now count (Some line) it.file.now left) → it.file.now.number ≡ file.number + 1 + length r.xs
+    number_is e file body r = let next : NextLine e.max r.before it.file.now r.ahead left line = r.read in omega (arith, next.number, r.stands.number)
+
+    pub rule_fails : (now : View) (answer : ClauseFail) → IsRuleFail it.file.now.number line it.checker.now answer → FailsSince now answer
+    rule_fails now answer h e file body b earlier later =
+        let r = at (Some line) is e file body b in
+        reached.rule_fails e file body r.xs r.live r.before r.ahead r.stands it.checker.now r.taken it.file.now left line r.read it.file.now.number earlier now answer (number_is e file body r) h
+
+    module _ (k : Checking) (takes : TakesClauseLine line it.checker.now k) where
+      pub text_fails : (now : View) (answer : ClauseFail) → first.read_faults ≤ before.read_faults → IsTextFail (it.file.now.number + 1) it.max it.file.now.lines left before now answer → FailsSince now answer
+      text_fails now answer since h e file body b earlier later =
+          let r = at (Some line) is e file body b in
+          let next : NextLine e.max r.before it.file.now r.ahead left line = r.read in
+          let s = reached.step e file body r.xs r.live r.before r.ahead r.stands it.checker.now r.taken it.file.now left line next k takes r.lengths in
+          let more = length-append r.xs (next.text ∷ []) in
+          reached.text_fails e file body (r.xs ++ next.text ∷ []) s.0 it.file.now left s.2 (it.file.now.number + 1) earlier before now answer (omega (arith, number_is e file body r, more)) (le_trans later since)
+          (subst (λ (m : ℕ). IsTextFail (it.file.now.number + 1) m it.file.now.lines left before now answer) (max_is e b.max) h)
+
+      pub next_reached : (then : Option ClauseLine) (new : FileState) (behind : Option (List ℕ)) → new.lines.lengths ≡ it.file.now.lines.lengths → ReadsNext it.max it.file.now new left behind then →
+          (e : Extended) (file : FileState) (body : Option (List ℕ)) → Begins e file body → IsReached e file body k (count + 1) then new behind
+      next_reached then new behind lengths read e file body b =
+          let r = at (Some line) is e file body b in
+          let next : NextLine e.max r.before it.file.now r.ahead left line = r.read in
+          let s = reached.step e file body r.xs r.live r.before r.ahead r.stands it.checker.now r.taken it.file.now left line next k takes r.lengths in
           record {
             xs = r.xs ++ next.text ∷ [];
             live = s.0;
-            before = file;
+            before = it.file.now;
             ahead = left;
-            turns = omega (arith, more, r.turns);
+            turns = omega (arith, length-append r.xs (next.text ∷ []), r.turns);
             taken = s.1;
             stands = s.2;
             lengths = lengths;
-            read = read;
+            read = subst (λ (m : ℕ). ReadsNext m it.file.now new left behind then) (max_is e b.max) read;
           }
-
-    -- a line that was read is in range, and the file goes on
-    pub going : GoesOn file
-    going = next.going
 
   -- ---- the end
 
-  module _ (k : Checking) (turn : ℕ) (file : FileState) (left : Option (List ℕ)) (r : IsReached e start body k turn None file left) (goals : AreGoalsOf e k.goals) where
-    pub all_shown : (keeps : Keeps) → k.keeps ≡ keeps → IsLeastUnshown k.goals k.shown None → IfSome body (IsShownWith e start.lines keeps k.added turn)
-    all_shown keeps is none = subst (λ (v : Keeps). IfSome body (IsShownWith e start.lines v k.added turn)) is
-        (subst (λ (n : ℕ). IfSome body (IsShownWith e start.lines k.keeps k.added n)) r.turns (reached.goals_shown e start body r.xs r.live r.before r.ahead r.stands k r.taken goals r.read none))
+  module _ (is : it.next.now ≡ None) where
+    same_goals : (e : Extended) → AreGoalsOf e start.checker.now.goals → AreGoalsOf e it.checker.now.goals
+    same_goals e of = subst (AreGoalsOf e) (sym judged.same.task.goals) of
 
-    pub all_joined : IsLeastUnshown k.goals k.shown None → Always e.gates (AgreeOnColumns e)
-    all_joined none = goals_join_columns e r.xs r.live k r.taken goals none
+    pub all_shown : IsLeastUnshown it.checker.now.goals it.checker.now.shown None → IsShownFrom start.checker.now it.checker.now.added count start.next.now start.file.now (left_of_file slot.Clauses start.file.now first)
+    all_shown none e file body b =
+        let r = at None is e file body b in
+        subst (λ (v : Keeps). IfSome body (IsShownWith e file.lines v it.checker.now.added count)) judged.same.task.keeps
+        (subst (λ (n : ℕ). IfSome body (IsShownWith e file.lines it.checker.now.keeps it.checker.now.added n)) r.turns
+        (reached.goals_shown e file body r.xs r.live r.before r.ahead r.stands it.checker.now r.taken (same_goals e b.goals) r.read none))
 
-    pub goals_fail : (first now : View) (answer : ClauseFail) → IsGoalFail k answer → Fails first now answer
-    goals_fail first now answer h = reached.goals_fail e start body r.xs r.live r.before r.ahead r.stands k r.taken goals r.read first now answer h
+    pub all_joined : IsLeastUnshown it.checker.now.goals it.checker.now.shown None → JoinsFrom start.checker.now start.next.now start.file.now (left_of_file slot.Clauses start.file.now first)
+    all_joined none e file body b = let r = at None is e file body b in goals_join_columns e r.xs r.live it.checker.now r.taken (same_goals e b.goals) none
 
-  pub too_many : (k : Checking) (turn : ℕ) (next : Option ClauseLine) (file : FileState) (left : Option (List ℕ)) → IsReached e start body k turn next file left → 2 ^ 64 ≤ turn + 1 → start.lines.lengths.file < 2 ^ 64 →
-      (first now : View) → Fails first now fail.TooLong
-  too_many k turn next file left r many limit first now =
+    pub goals_fail : (now : View) (answer : ClauseFail) → IsGoalFail it.checker.now answer → FailsSince now answer
+    goals_fail now answer h e file body b earlier later =
+        let r = at None is e file body b in
+        reached.goals_fail e file body r.xs r.live r.before r.ahead r.stands it.checker.now r.taken (same_goals e b.goals) r.read earlier now answer h
+
+  pub too_many : 2 ^ 63 ≤ count → (now : View) → FailsSince now fail.TooLong
+  too_many many now e file body b earlier later =
+      let r = judged.reached e file body b in
       let turns = r.turns in
-      reached.too_many e start body r.xs r.live r.before r.ahead r.stands first now (omega (arith, many, turns)) limit
+      reached.too_many e file body r.xs r.live r.before r.ahead r.stands earlier now (omega (arith, many, turns)) b.limit
+
+pub have_failed : {start last : JudgeClauses} {first now : View} {answer : ClauseFail} → IsSameTask start last → IsFailFrom start.checker.now start.next.now start.file.now (left_of_file slot.Clauses start.file.now first) first now answer →
+    AreJudged start first (Err answer) last now
+have_failed same refused = record { same = same; lawful = tt; columns = tt; refused = refused }

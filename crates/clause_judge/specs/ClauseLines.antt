@@ -11,7 +11,6 @@ use Rattle.mv_text.specs.CertificateFiles.{FileState, GoesOn, IsAtEnd, IsNextRef
 use Rattle.drup_text.specs.LineTexts.{IsClauseLineInRange, IsSameClauseLine}
 use Rattle.mv_desk.specs.View.{View}
 use Rattle.mv_text.specs.declared.line_fail.LineFail.{LineFail}
-use Rattle.mv_desk.specs.declared.slot.Slot.TheVariants as slot
 use Rattle.mv_text.specs.LineReading.{Lines}
 use Rattle.mv_text.specs.declared.line_fail.LineFail.TheVariants as text
 use Rattle.clause_judge.specs.declared.fail.ClauseFail.{ClauseFail}
@@ -45,7 +44,8 @@ answer_of_line line text.Memory = fail.Memory
 -- Why the line with this number isn't read.
 abbrev pub IsTextFail : ℕ → ℕ → Lines → Option (List ℕ) → View → View → ClauseFail → Type 0
 IsTextFail n max lines left before now answer =
-    (given : LineFail) × IsNextRefusal IsClauseLine (IsClauseLineInRange max) lines left before.read_faults now.read_faults given × (answer ≡ answer_of_line n given)
+    (given : LineFail) × IsNextRefusal IsClauseLine (IsClauseLineInRange max) lines left before.read_faults now.read_faults given ×
+    (answer ≡ answer_of_line n given)
 
 -- ---- checking
 

@@ -13,6 +13,7 @@ use clause_core::Line;
 use drup_checker::Checker;
 use drup_text::ClauseFile;
 use mv_desk::Desk;
+use mv_text::{JudgeLines, judge_lines};
 
 /// Judges a line that was read and those behind it, up to the end of the file, and then the goals, by a checker that has
 /// taken no line; the answer is how many lines these are. The greatest variable is the checker's.
@@ -39,16 +40,52 @@ pub fn judge_from<D: Desk>(
     ensures tells { KeepsTelling (D.seen desk.old) (D.seen desk.new) }
 {
     let mut next = first;
-    for count in 0..u64::MAX {
-        match next {
-            Some(line) => take_line(checker, &line, file.line_no())?,
+    let mut judge = JudgeClauses {
+        checker,
+        file,
+        max,
+        next: &mut next,
+    };
+    judge_lines(desk, &mut judge)
+}
+
+// The lines by a checker: the next one is at hand, or none at the end of the file.
+#[derive(Drop)]
+struct JudgeClauses<'a, 'g> {
+    checker: &'a mut Checker<'g>,
+    file: &'a mut ClauseFile,
+    max: u32,
+    next: &'a mut Option<Line>,
+}
+
+impl<'a, 'g, D: Desk> JudgeLines<D> for JudgeClauses<'a, 'g> {
+    ghost use Rattle.mv_desk.specs.declared.slot.Slot.TheVariants.{Clauses};
+    ghost use Rattle.clause_judge.specs.ClauseBody.{AreJudged, HasJudged};
+
+    type End = u64;
+
+    type Fail = ClauseFail;
+
+    ghost slot = { Clauses };
+
+    ghost reached = { HasJudged };
+
+    ghost judged = { AreJudged };
+
+    fn judge_line(&mut self, desk: &mut D, count: u64) -> Result<Option<u64>, ClauseFail> {
+        match self.next.take() {
+            Some(line) => take_line(self.checker, &line, self.file.line_no())?,
             None => {
-                judge_goals(checker)?;
-                return Ok(count);
+                judge_goals(self.checker)?;
+                return Ok(Some(count));
             }
         }
-        next = read_line(desk, file, max)?;
+        let next = read_line(desk, self.file, self.max)?;
+        *self.next = next;
+        Ok(None)
     }
-    // So many lines have more bytes than a file may have.
-    Err(ClauseFail::TooLong)
+
+    fn too_many(&self, _desk: &D) -> ClauseFail {
+        ClauseFail::TooLong
+    }
 }

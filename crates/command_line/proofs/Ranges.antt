@@ -15,7 +15,8 @@ use Rattle.command_line.specs.declared.command.Command.TheVariants.{Check, Check
 use Rattle.command_line.specs.declared.files.Files.{Files}
 use Rattle.command_line.specs.declared.files.PairFiles.{PairFiles}
 use Rattle.command_line.specs.declared.files.TrimFiles.{TrimFiles}
-use Rattle.command_line.specs.Asked.{HaveDistinctNames, AreBits, IsCommandInRange, IsUnread, LeavesFiles, LeavesGraphs, addend_at, adder_named, are_reused, are_shared, asked, bits_asked, check_of, check_same_of, check_same_with, check_with, claim_at, design_named, is_overwriting, is_file_read, is_set, pair_at, same_of, same_with, files_at, verify_of, verify_with, version_at, version_from, word_at, word_from, eval_of, eval_with, make_of, make_with, met, command_named, number_of, order_at, read_at, trial_of, trial_with, trim_files_at, trim_asked, trim_with, where_taken}
+use Rattle.command_core.specs.Files.{AreDistinct}
+use Rattle.command_line.specs.Asked.{AreBits, IsCommandInRange, IsUnread, LeavesFiles, LeavesGraphs, addend_at, adder_named, are_reused, are_shared, asked, bits_asked, check_of, check_same_of, check_same_with, check_with, claim_at, design_named, is_overwriting, is_file_read, is_set, pair_at, same_of, same_with, files_at, verify_of, verify_with, version_at, version_from, word_at, word_from, eval_of, eval_with, make_of, make_with, met, command_named, number_of, order_at, read_at, trial_of, trial_with, trim_files_at, trim_asked, trim_with, where_taken}
 use Rattle.command_line.specs.FixedCommand.{mulver}
 
 -- ---- the number
@@ -72,7 +73,7 @@ or_none : (t u : Bool) → (t || u) ≡ false → (t ≡ false) × (u ≡ false)
 or_none true u e = absurd (true≢false e)
 or_none false u e = (refl, e)
 
-apart : (files : Files) → are_shared files ≡ false → HaveDistinctNames files
+apart : (files : Files) → are_shared files ≡ false → AreDistinct files.graph files.clauses files.algebra
 apart files test =
     let one = or_none (bytes_eq files.graph files.clauses) (bytes_eq files.graph files.algebra || bytes_eq files.clauses files.algebra) test in
     let two = or_none (bytes_eq files.graph files.algebra) (bytes_eq files.clauses files.algebra) one.1 in

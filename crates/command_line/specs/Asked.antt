@@ -16,7 +16,8 @@ use Rattle.graph_maker.specs.declared.design.Design.{Design}
 use Rattle.graph_maker.specs.declared.design.Design.TheVariants.{Corrected, Multiplier, MultiplyAdd}
 use Rattle.graph_maker.specs.declared.kind.Kind.{Kind}
 use Rattle.graph_maker.specs.declared.kind.Kind.TheVariants.{Array, Dadda}
-use Rattle.mv_desk.specs.declared.names.Names.{Names}
+use Rattle.command_core.specs.Files.{AreDistinct}
+use Rattle.command_core.specs.declared.names.Names.{Names}
 use Rattle.mv_nums.specs.Numeral.{decimal_value}
 use Rattle.command_line.specs.declared.command.Command.{Command}
 use Rattle.command_line.specs.declared.command.Command.TheVariants.{Check, CheckSame, Eval, Make, Same, Trial, Trim, Verify}
@@ -337,12 +338,6 @@ AsksTrim words files claim = asked words ≡ Some (Trim files claim)
 abbrev pub AreBits : ℕ → Type 0
 AreBits bits = (1 ≤ bits) × (bits ≤ 64)
 
--- no two of the names are equal
-pub record HaveDistinctNames (files : Files) : Type 0 where
-  pub clauses : files.graph ≢ files.clauses
-  pub algebra : files.graph ≢ files.algebra
-  pub certificates : files.clauses ≢ files.algebra
-
 -- the certificate is neither of the graphs
 pub record LeavesGraphs (files : PairFiles) : Type 0 where
   pub graph : files.clauses ≢ files.graph
@@ -365,7 +360,7 @@ pub record LeavesFiles (files : TrimFiles) : Type 0 where
 abbrev pub IsCommandInRange : Command → Type 0
 IsCommandInRange (Make design bits adder out) = AreBits bits
 IsCommandInRange (Verify files claim budget conflicts version) =
-    HaveDistinctNames files × (1 ≤ budget) × (budget < 2 ^ 32) × (conflicts < 2 ^ 32) × ((version ≡ 1) ⊎ (version ≡ 2))
+    AreDistinct files.graph files.clauses files.algebra × (1 ≤ budget) × (budget < 2 ^ 32) × (conflicts < 2 ^ 32) × ((version ≡ 1) ⊎ (version ≡ 2))
 IsCommandInRange (Trial number) = number < 2 ^ 32
 IsCommandInRange (Same files conflicts) = LeavesGraphs files × (conflicts < 2 ^ 32)
 IsCommandInRange (Trim files claim) = LeavesFiles files

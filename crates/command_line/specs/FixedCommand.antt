@@ -82,7 +82,8 @@ of_graphs = with_subcommand (with_subcommand of_one_graph same_app.top) check_sa
 -- `trim GRAPH CLAUSES ALGEBRA TO-CLAUSES TO-ALGEBRA [--inputs ORDER] [--operands KIND] [--add]`
 abbrev pub trim_files : App
 trim_files = with_rule (with_rule (with_rule (with_rule (with_rule (new_app (codes "trim"))
-    (word_rule (codes "graph"))) (word_rule (codes "clauses"))) (word_rule (codes "algebra"))) (word_rule (codes "to-clauses"))) (word_rule (codes "to-algebra"))
+    (word_rule (codes "graph"))) (word_rule (codes "clauses"))) (word_rule (codes "algebra")))
+    (word_rule (codes "to-clauses"))) (word_rule (codes "to-algebra"))
 
 abbrev pub trim_app : App
 trim_app = with_rule (with_rule (with_rule trim_files

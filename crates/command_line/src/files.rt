@@ -1,7 +1,7 @@
 // The names of files that words give.
 ghost use Rattle.std.specs.Prelude.{◌≡◌, IfOk};
 
-use mv_desk::Names;
+use command_core::Names;
 use std::alloc::{AllocError, Global};
 use std::marker::Model;
 

@@ -1,8 +1,9 @@
 // joint_checker: lengths, over files in memory.
-use aiger_reader::{ReadFail, Stop};
+use aiger_reader::ReadFail;
+use command_core::{Names, Stop};
 use graph_core::{Claim, Field, Order, Sign};
 use joint_checker::{AlgebraWhy, Checked, Refusal, check};
-use mv_desk::{Limits, MemoryDesk, Names, Slot};
+use mv_desk::{Limits, MemoryDesk, Slot};
 use std::alloc::{AllocError, Global};
 
 const NAMES: Names<'static> = Names {

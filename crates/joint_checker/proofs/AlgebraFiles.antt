@@ -13,7 +13,7 @@ use Rattle.mv_desk.specs.View.{View}
 use Rattle.mv_text.specs.declared.line_fail.LineFail.{LineFail}
 use Rattle.mv_text.specs.declared.line_fail.LineFail.TheVariants as fail
 use Rattle.mv_desk.specs.declared.slot.Slot.TheVariants as slot
-use Rattle.aiger_reader.specs.declared.stop.Stop.TheVariants as stop
+use Rattle.command_core.specs.declared.stop.Stop.TheVariants as stop
 use Rattle.mv_text.specs.CertificateFiles.{FileState, HasFirstLine, IsFirstRefusal}
 use Rattle.joint_checker.specs.declared.checked.Checked.{Checked}
 use Rattle.joint_checker.specs.declared.checked.Checked.TheVariants as checked

@@ -1,5 +1,5 @@
 -- How far an algebra file is judged: one lawful line more, its end, and each line at which it is refused.
-use Rattle.std.proofs.Common.{◌≡◌, ℕ, suc, ◌+◌, ◌*◌, ◌-◌, ◌^◌, ◌<◌, ◌≤◌, List, [], ◌∷◌, ◌++◌, length, Option, Some, None, IfSome, refl, sym, ap, subst, ◌∙◌, arith, inl, inr, add-zero, length-append}
+use Rattle.std.proofs.Common.{◌≡◌, ℕ, suc, ◌+◌, ◌-◌, ◌^◌, ◌<◌, ◌≤◌, List, [], ◌∷◌, ◌++◌, length, Option, Some, None, IfSome, refl, sym, ap, subst, ◌∙◌, arith, inl, inr, add-zero, length-append}
 use Rattle.graph_core.specs.Algebra.{Combination, Delete, Import, Ledger, Line, Premises, IsLawfulLine, Product, Sum, after, beginning, modulus}
 use Rattle.graph_core.specs.Algebra.Refusal as cause
 use Rattle.graph_core.specs.Algebra.Refusal.{AlgebraCause, IsRefusedBody, IsRefusedNext}
@@ -15,31 +15,17 @@ use Rattle.graph_core.proofs.OfAlgebra.CallerLemmas.{after_agrees, agree_trans, 
 use Rattle.mv_text.specs.LineReading.{IsLongAhead, Lines}
 use Rattle.poly_text.proofs.CallerLemmas.{long_of, short_of}
 use Rattle.joint_checker.specs.declared.checked.AlgebraWhy.TheVariants as why
-use Rattle.aiger_reader.specs.declared.stop.Stop.TheVariants as stop
+use Rattle.command_core.specs.declared.stop.Stop.TheVariants as stop
 use Rattle.joint_checker.specs.declared.checked.Checked.{Checked}
 use Rattle.joint_checker.specs.declared.checked.Checked.TheVariants as checked
 use Rattle.joint_checker.specs.declared.checked.Refusal.TheVariants as refusal
-use Rattle.joint_checker.specs.AlgebraBody.{IsBodyFail, IsLawfulBody, IsLawfulRest}
+use Rattle.joint_checker.specs.AlgebraBody.{IsBodyFail, IsLawfulBody, IsReached}
 use Rattle.drup_text.specs.HeaderSteps.{IsLongIn}
 use Rattle.joint_checker.specs.AlgebraLines.{IsEndFail, IsLineFail, TakesClosing, TakesLawful}
 use Rattle.joint_checker.specs.Outcome.{cause_of}
-use Rattle.joint_checker.proofs.AlgebraRests.{IsRefusedRest, lawful_close, lawful_turn, refused_body, refused_end, refused_here, refused_turn}
+use Rattle.joint_checker.proofs.AlgebraRests.{lawful_close, lawful_turn, refused_body, refused_end, refused_here, refused_turn}
 use Rattle.clause_judge.proofs.LineEnds.{short_end, within_behind}
 use Rattle.clause_judge.proofs.Told.{rose_before, told_more, told_of}
-
--- The body is judged up to the line with this number: the checker's ledger is that of the lines before, and what is shown of the rest
--- holds of the body.
-pub record IsReached (given : Premises) (sides : Sides) (start : Lines) (known : Ledger) (line : ℕ) (lines : Lines) (left : Option (List ℕ)) (body : List ℕ) : Type 0 where
-  pub rest : List ℕ
-  pub left_is : left ≡ Some rest
-  pub count : lines.taken + length rest ≡ start.taken + length body
-  -- a line has at least one byte and its line feed
-  pub turns : 2 * line + start.taken ≤ lines.taken + 4
-  pub room : 2 < line → lines.taken ≤ start.lengths.file
-  pub ledger : Ledger
-  pub agrees : LedgersAgree known ledger
-  pub lawful : IsLawfulRest given.version given.extended sides (IsLongIn start body) ledger rest → IsLawfulBody given sides start body
-  pub refused : (k : ℕ) (cause : AlgebraCause) → IsRefusedRest given sides (IsLongIn start body) ledger rest (k, cause) → IsRefusedBody given sides (IsLongIn start body) body (line + k, cause)
 
 longer : (left line rest : List ℕ) → left ≡ line ++ newline ∷ rest → length left ≡ length line + suc (length rest)
 longer left line rest is = ap length is ∙ length-append line (newline ∷ rest)
@@ -58,7 +44,7 @@ line_has_bytes version (b ∷ line) x h = omega arith
 
 module _ (given : Premises) (sides : Sides) (start : Lines) where
   -- no line is judged yet
-  pub begin : (known : Ledger) (left : Option (List ℕ)) → LedgersAgree known (beginning given) → IfSome left (IsReached given sides start known 2 start left)
+  pub begin : (known : Ledger) (left : Option (List ℕ)) → LedgersAgree known (beginning given) → IfSome left (IsReached given sides start known 0 start left)
   begin known None agrees = tt
   begin known (Some body) agrees = record {
     rest = body;
@@ -73,8 +59,8 @@ module _ (given : Premises) (sides : Sides) (start : Lines) where
   }
 
   -- the same lines are judged, and the ledger says the same
-  pub reached_again : (known next : Ledger) (line : ℕ) (lines : Lines) (left body : Option (List ℕ)) → LedgersAgree next known → IfSome body (IsReached given sides start known line lines left) → IfSome body (IsReached given sides start next line lines left)
-  reached_again known next line lines left body agrees reached = told_more body (IsReached given sides start known line lines left) (IsReached given sides start next line lines left) (λ bytes r. record {
+  pub reached_again : (known next : Ledger) (count : ℕ) (lines : Lines) (left body : Option (List ℕ)) → LedgersAgree next known → IfSome body (IsReached given sides start known count lines left) → IfSome body (IsReached given sides start next count lines left)
+  reached_again known next count lines left body agrees reached = told_more body (IsReached given sides start known count lines left) (IsReached given sides start next count lines left) (λ bytes r. record {
     rest = r.rest;
     left_is = r.left_is;
     count = r.count;
@@ -90,7 +76,7 @@ module _ (given : Premises) (sides : Sides) (start : Lines) where
   at_line : (body : List ℕ) (n m : ℕ) (c : AlgebraCause) → n ≡ m → IsRefusedBody given sides (IsLongIn start body) body (n, c) → IsRefusedBody given sides (IsLongIn start body) body (m, c)
   at_line body n m c is h = subst (λ (k : ℕ). IsRefusedBody given sides (IsLongIn start body) body (k, c)) is h
 
-  module _ (known : Ledger) (line : ℕ) (lines : Lines) (left : Option (List ℕ)) (same : lines.lengths ≡ start.lengths) (body : List ℕ) (reached : IsReached given sides start known line lines left body) where
+  module _ (known : Ledger) (count : ℕ) (lines : Lines) (left : Option (List ℕ)) (same : lines.lengths ≡ start.lengths) (body : List ℕ) (reached : IsReached given sides start known count lines left body) where
     short_here : ¬ (IsLongAhead lines reached.rest) → ¬ (IsLongIn start body reached.rest)
     short_here short = short_of start.lengths (start.taken + length body) lines reached.rest same reached.count short
 
@@ -98,7 +84,7 @@ module _ (given : Premises) (sides : Sides) (start : Lines) where
     long_here long = long_of start.lengths (start.taken + length body) lines reached.rest same reached.count long
 
     -- one lawful line more
-    pub step_in : (next : Ledger) (new : Lines) (behind : Option (List ℕ)) → TakesLawful given.version given.extended known next lines new reached.rest behind → IsReached given sides start next (line + 1) new behind body
+    pub step_in : (next : Ledger) (new : Lines) (behind : Option (List ℕ)) → TakesLawful given.version given.extended known next lines new reached.rest behind → IsReached given sides start next (count + 1) new behind body
     step_in next new behind h =
         let m = modulus given.extended in
         let l = reached.ledger in
@@ -116,21 +102,21 @@ module _ (given : Premises) (sides : Sides) (start : Lines) where
           ledger = after m l h.line;
           agrees = agree_trans next (after m known h.line) (after m l h.line) h.ledger (after_agrees m known l reached.agrees h.line);
           lawful = λ end. reached.lawful (lawful_turn given sides (IsLongIn start body) l h.line reached.rest h.rest h.begins h.in_range here short end);
-          refused = λ k c end. at_line body (line + suc k) (line + 1 + k) c (omega arith)
+          refused = λ k c end. at_line body (2 + count + suc k) (2 + (count + 1) + k) c (omega arith)
               (reached.refused (suc k) c (refused_turn given sides (IsLongIn start body) l h.line reached.rest h.rest h.begins h.in_range here short k c end));
         }
 
     -- the line there is refused
-    pub line_refused : (c : AlgebraCause) → IsRefusedNext given.version given.extended sides (IsLongIn lines reached.rest) known reached.rest (0, c) → IsRefusedBody given sides (IsLongIn start body) body (line, c)
+    pub line_refused : (c : AlgebraCause) → IsRefusedNext given.version given.extended sides (IsLongIn lines reached.rest) known reached.rest (0, c) → IsRefusedBody given sides (IsLongIn start body) body (2 + count, c)
     line_refused c h =
         let one : IsRefusedNext given.version given.extended sides (IsLongIn start body) known reached.rest (0, c) = subst (λ (n : ℕ). IsRefusedNext given.version given.extended sides (λ l. IsTooLong start.lengths n l) known reached.rest (0, c)) reached.count
         (subst (λ (k : Lengths). IsRefusedNext given.version given.extended sides (λ l. IsTooLong k (lines.taken + length reached.rest) l) known reached.rest (0, c)) same h) in
-        at_line body (line + 0) line c (add-zero line)
+        at_line body (2 + count + 0) (2 + count) c (add-zero (2 + count))
         (reached.refused 0 c (refused_here given sides (IsLongIn start body) reached.ledger reached.rest (0, c) (next_agrees given.version given.extended sides (IsLongIn start body) known reached.ledger reached.agrees reached.rest (0, c) one)))
 
-    pub long_refused : IsLongAhead lines reached.rest → IsRefusedBody given sides (IsLongIn start body) body (line, cause.TooLong)
+    pub long_refused : IsLongAhead lines reached.rest → IsRefusedBody given sides (IsLongIn start body) body (2 + count, cause.TooLong)
     long_refused long =
-        at_line body (line + 0) line cause.TooLong (add-zero line)
+        at_line body (2 + count + 0) (2 + count) cause.TooLong (add-zero (2 + count))
         (reached.refused 0 cause.TooLong (refused_here given sides (IsLongIn start body) reached.ledger reached.rest (0, cause.TooLong) (inl (long_here long, refl))))
 
     -- the closing line, and what stands behind it
@@ -147,13 +133,13 @@ module _ (given : Premises) (sides : Sides) (start : Lines) where
       behind_count : new.taken + length h.rest ≡ start.taken + length body
       behind_count = omega (arith, h.passes.taken, reached.count)
 
-      pub more_is_refused : new.lengths ≡ lines.lengths → ¬ (IsLongAhead new h.rest) → ¬ (h.rest ≡ []) → IsRefusedBody given sides (IsLongIn start body) body (line + 1, cause.Text)
+      pub more_is_refused : new.lengths ≡ lines.lengths → ¬ (IsLongAhead new h.rest) → ¬ (h.rest ≡ []) → IsRefusedBody given sides (IsLongIn start body) body (2 + count + 1, cause.Text)
       more_is_refused keeps short some =
           reached.refused 1 cause.Text (refused_end given sides (IsLongIn start body) reached.ledger h.id reached.rest h.rest (1, cause.Text) h.begins h.in_range
           (closes_agrees given.extended sides known reached.ledger reached.agrees h.id h.closes) (short_here h.passes.short)
           (inr (short_of start.lengths (start.taken + length body) new h.rest (keeps ∙ same) behind_count short, inl (some, refl))))
 
-      pub long_is_refused : new.lengths ≡ lines.lengths → IsLongAhead new h.rest → IsRefusedBody given sides (IsLongIn start body) body (line + 1, cause.TooLong)
+      pub long_is_refused : new.lengths ≡ lines.lengths → IsLongAhead new h.rest → IsRefusedBody given sides (IsLongIn start body) body (2 + count + 1, cause.TooLong)
       long_is_refused keeps long =
           reached.refused 1 cause.TooLong (refused_end given sides (IsLongIn start body) reached.ledger h.id reached.rest h.rest (1, cause.TooLong) h.begins h.in_range
           (closes_agrees given.extended sides known reached.ledger reached.agrees h.id h.closes) (short_here h.passes.short)
@@ -161,23 +147,23 @@ module _ (given : Premises) (sides : Sides) (start : Lines) where
 
 -- ---- the loop over lines, where the file is told
 
-module _ (given : Premises) (sides : Sides) (start : Lines) (body : Option (List ℕ)) (known : Ledger) (line : ℕ) (lines : Lines) (left : Option (List ℕ)) (same : lines.lengths ≡ start.lengths)
-    (reached : IfSome body (IsReached given sides start known line lines left)) where
-  pub step : (next : Ledger) (new : Lines) (behind : Option (List ℕ)) → IfSome left (λ bytes. TakesLawful given.version given.extended known next lines new bytes behind) → IfSome body (IsReached given sides start next (line + 1) new behind)
-  step next new behind takes = told_more body (IsReached given sides start known line lines left) (IsReached given sides start next (line + 1) new behind)
-      (λ bytes r. step_in given sides start known line lines left same bytes r next new behind (told_of left r.rest (λ l. TakesLawful given.version given.extended known next lines new l behind) r.left_is takes)) reached
+module _ (given : Premises) (sides : Sides) (start : Lines) (body : Option (List ℕ)) (known : Ledger) (count : ℕ) (lines : Lines) (left : Option (List ℕ)) (same : lines.lengths ≡ start.lengths)
+    (reached : IfSome body (IsReached given sides start known count lines left)) where
+  pub step : (next : Ledger) (new : Lines) (behind : Option (List ℕ)) → IfSome left (λ bytes. TakesLawful given.version given.extended known next lines new bytes behind) → IfSome body (IsReached given sides start next (count + 1) new behind)
+  step next new behind takes = told_more body (IsReached given sides start known count lines left) (IsReached given sides start next (count + 1) new behind)
+      (λ bytes r. step_in given sides start known count lines left same bytes r next new behind (told_of left r.rest (λ l. TakesLawful given.version given.extended known next lines new l behind) r.left_is takes)) reached
 
-  text_fails : (n : ℕ) (c : AlgebraCause) → n ≡ line → IfSome left (λ bytes. IsRefusedNext given.version given.extended sides (IsLongIn lines bytes) known bytes (0, c)) → IfSome body (λ bytes. IsRefusedBody given sides (IsLongIn start bytes) bytes (n, c))
-  text_fails n c is h = told_more body (IsReached given sides start known line lines left) (λ bytes. IsRefusedBody given sides (IsLongIn start bytes) bytes (n, c))
+  text_fails : (n : ℕ) (c : AlgebraCause) → n ≡ 2 + count → IfSome left (λ bytes. IsRefusedNext given.version given.extended sides (IsLongIn lines bytes) known bytes (0, c)) → IfSome body (λ bytes. IsRefusedBody given sides (IsLongIn start bytes) bytes (n, c))
+  text_fails n c is h = told_more body (IsReached given sides start known count lines left) (λ bytes. IsRefusedBody given sides (IsLongIn start bytes) bytes (n, c))
       (λ bytes r. subst (λ (k : ℕ). IsRefusedBody given sides (IsLongIn start bytes) bytes (k, c)) (sym is)
-      (line_refused given sides start known line lines left same bytes r c (told_of left r.rest (λ l. IsRefusedNext given.version given.extended sides (IsLongIn lines l) known l (0, c)) r.left_is h))) reached
+      (line_refused given sides start known count lines left same bytes r c (told_of left r.rest (λ l. IsRefusedNext given.version given.extended sides (IsLongIn lines l) known l (0, c)) r.left_is h))) reached
 
   long_fails : IfSome left (IsLongAhead lines) → IfSome body (λ bytes. (n : ℕ) × IsRefusedBody given sides (IsLongIn start bytes) bytes (n, cause.TooLong))
-  long_fails h = told_more body (IsReached given sides start known line lines left) (λ bytes. (n : ℕ) × IsRefusedBody given sides (IsLongIn start bytes) bytes (n, cause.TooLong))
-      (λ bytes r. (line, long_refused given sides start known line lines left same bytes r (told_of left r.rest (IsLongAhead lines) r.left_is h))) reached
+  long_fails h = told_more body (IsReached given sides start known count lines left) (λ bytes. (n : ℕ) × IsRefusedBody given sides (IsLongIn start bytes) bytes (n, cause.TooLong))
+      (λ bytes r. (2 + count, long_refused given sides start known count lines left same bytes r (told_of left r.rest (IsLongAhead lines) r.left_is h))) reached
 
   -- a line isn't taken
-  pub line_fails : (first before now : View) (answer : Checked) → first.read_faults ≤ before.read_faults → IsLineFail line given.version given.extended sides known lines left before now answer → IsBodyFail given sides start body first now answer
+  pub line_fails : (first before now : View) (answer : Checked) → first.read_faults ≤ before.read_faults → IsLineFail (2 + count) given.version given.extended sides known lines left before now answer → IsBodyFail given sides start body first now answer
   line_fails first before now checked.Accepted later h = absurd h
   line_fails first before now (checked.Stopped (stop.Graph at why)) later h = absurd h
   line_fails first before now (checked.Refused (refusal.Clauses n why)) later h = absurd h
@@ -193,31 +179,31 @@ module _ (given : Premises) (sides : Sides) (start : Lines) (body : Option (List
   line_fails first before now (checked.Stopped stop.Memory) later h = tt
 
   -- so many lines have more bytes than a file may have
-  pub too_many : 2 ^ 64 - 1 ≤ line → start.lengths.file ≤ 2 ^ 64 - 1 → IfSome body (λ bytes. (n : ℕ) × IsRefusedBody given sides (IsLongIn start bytes) bytes (n, cause.TooLong))
-  too_many many limit = told_more body (IsReached given sides start known line lines left) (λ bytes. (n : ℕ) × IsRefusedBody given sides (IsLongIn start bytes) bytes (n, cause.TooLong))
+  pub too_many : 2 ^ 63 ≤ count → start.lengths.file < 2 ^ 64 → IfSome body (λ bytes. (n : ℕ) × IsRefusedBody given sides (IsLongIn start bytes) bytes (n, cause.TooLong))
+  too_many many limit = told_more body (IsReached given sides start known count lines left) (λ bytes. (n : ℕ) × IsRefusedBody given sides (IsLongIn start bytes) bytes (n, cause.TooLong))
       (λ bytes r. let room = r.room (omega (arith, many)) in absurd (omega (arith, room, r.turns, many, limit))) reached
 
   -- ---- behind the closing line
 
   module _ (new : Lines) (behind : Option (List ℕ)) (closing : IfSome left (λ bytes. TakesClosing given.extended sides known lines new bytes behind)) where
-    closed : (bytes : List ℕ) (r : IsReached given sides start known line lines left bytes) → TakesClosing given.extended sides known lines new r.rest behind
+    closed : (bytes : List ℕ) (r : IsReached given sides start known count lines left bytes) → TakesClosing given.extended sides known lines new r.rest behind
     closed bytes r = told_of left r.rest (λ l. TakesClosing given.extended sides known lines new l behind) r.left_is closing
 
     pub ends : IfSome behind (λ bytes. bytes ≡ []) → IfSome body (IsLawfulBody given sides start)
-    ends none = told_more body (IsReached given sides start known line lines left) (IsLawfulBody given sides start)
-        (λ bytes r. let c = closed bytes r in closed_is_lawful given sides start known line lines left same bytes r new behind c (told_of behind c.rest (λ l. l ≡ []) c.passes.left_is none)) reached
+    ends none = told_more body (IsReached given sides start known count lines left) (IsLawfulBody given sides start)
+        (λ bytes r. let c = closed bytes r in closed_is_lawful given sides start known count lines left same bytes r new behind c (told_of behind c.rest (λ l. l ≡ []) c.passes.left_is none)) reached
 
-    more_fails : new.lengths ≡ lines.lengths → (n : ℕ) → n ≡ line + 1 → IfSome behind (λ bytes. ¬ (IsLongAhead new bytes) × ¬ (bytes ≡ [])) → IfSome body (λ bytes. IsRefusedBody given sides (IsLongIn start bytes) bytes (n, cause.Text))
-    more_fails keeps n is h = told_more body (IsReached given sides start known line lines left) (λ bytes. IsRefusedBody given sides (IsLongIn start bytes) bytes (n, cause.Text))
+    more_fails : new.lengths ≡ lines.lengths → (n : ℕ) → n ≡ 3 + count → IfSome behind (λ bytes. ¬ (IsLongAhead new bytes) × ¬ (bytes ≡ [])) → IfSome body (λ bytes. IsRefusedBody given sides (IsLongIn start bytes) bytes (n, cause.Text))
+    more_fails keeps n is h = told_more body (IsReached given sides start known count lines left) (λ bytes. IsRefusedBody given sides (IsLongIn start bytes) bytes (n, cause.Text))
         (λ bytes r. let c = closed bytes r in let some = told_of behind c.rest (λ l. ¬ (IsLongAhead new l) × ¬ (l ≡ [])) c.passes.left_is h in
-        subst (λ (k : ℕ). IsRefusedBody given sides (IsLongIn start bytes) bytes (k, cause.Text)) (sym is) (more_is_refused given sides start known line lines left same bytes r new behind c keeps some.0 some.1)) reached
+        subst (λ (k : ℕ). IsRefusedBody given sides (IsLongIn start bytes) bytes (k, cause.Text)) (omega (arith, is)) (more_is_refused given sides start known count lines left same bytes r new behind c keeps some.0 some.1)) reached
 
     long_behind : new.lengths ≡ lines.lengths → IfSome behind (IsLongAhead new) → IfSome body (λ bytes. (n : ℕ) × IsRefusedBody given sides (IsLongIn start bytes) bytes (n, cause.TooLong))
-    long_behind keeps h = told_more body (IsReached given sides start known line lines left) (λ bytes. (n : ℕ) × IsRefusedBody given sides (IsLongIn start bytes) bytes (n, cause.TooLong))
-        (λ bytes r. let c = closed bytes r in (line + 1, long_is_refused given sides start known line lines left same bytes r new behind c keeps (told_of behind c.rest (IsLongAhead new) c.passes.left_is h))) reached
+    long_behind keeps h = told_more body (IsReached given sides start known count lines left) (λ bytes. (n : ℕ) × IsRefusedBody given sides (IsLongIn start bytes) bytes (n, cause.TooLong))
+        (λ bytes r. let c = closed bytes r in (2 + count + 1, long_is_refused given sides start known count lines left same bytes r new behind c keeps (told_of behind c.rest (IsLongAhead new) c.passes.left_is h))) reached
 
     -- the file doesn't end there
-    pub end_fails : (first before now : View) (answer : Checked) → new.lengths ≡ lines.lengths → first.read_faults ≤ before.read_faults → IsEndFail (line + 1) new behind before now answer → IsBodyFail given sides start body first now answer
+    pub end_fails : (first before now : View) (answer : Checked) → new.lengths ≡ lines.lengths → first.read_faults ≤ before.read_faults → IsEndFail (3 + count) new behind before now answer → IsBodyFail given sides start body first now answer
     end_fails first before now checked.Accepted keeps later h = absurd h
     end_fails first before now (checked.Stopped (stop.Graph at why)) keeps later h = absurd h
     end_fails first before now (checked.Refused (refusal.Clauses n why)) keeps later h = absurd h

@@ -2,20 +2,13 @@
 use Rattle.std.proofs.Common.{◌≡◌, ℕ, suc, ◌+◌, List, [], ◌∷◌, ◌++◌, length, refl, sym, ap, ap₂, subst, zero-add, ◌∙◌, arith, inr}
 use Rattle.std.proofs.lemmas.List.Elements.{All-cons, All-nil}
 use Rattle.graph_core.specs.Algebra.{Line, Ledger, Premises, IsLawfulLine, Closes, after, beginning, modulus}
-use Rattle.graph_core.specs.Algebra.Refusal.{AlgebraCause, IsAlgebraStep, IsRefusedBody, IsRefusedEnd, IsRefusedNext}
+use Rattle.graph_core.specs.Algebra.Refusal.{AlgebraCause, IsRefusedBody, IsRefusedEnd, IsRefusedNext}
 use Rattle.graph_core.specs.Algebra.Text.{IsCloseText, IsId, IsLineInRange, IsLineText}
-use Rattle.graph_core.specs.Text.JudgedLines.{BeginsWith, Behind}
+use Rattle.graph_core.specs.Text.JudgedLines.{BeginsWith}
 use Rattle.graph_core.specs.Text.{newline}
 use Rattle.graph_core.specs.Graph.Operands.{Sides}
 use Rattle.graph_core.proofs.OfTexts.CallerLemmas.{ShortFrom, short_next, short_nil, start_later, none_close, none_line}
-use Rattle.joint_checker.specs.AlgebraBody.{IsLawfulRest}
-
--- The first refusal behind lawful lines over the ledger: how many lines there are before it, and its cause.
-abbrev pub IsRefusedRest : Premises → Sides → (List ℕ → Type 0) → Ledger → List ℕ → ℕ × AlgebraCause → Type 0
-IsRefusedRest given sides IsLong l left p =
-    (lines : List Line) × (q : ℕ × AlgebraCause) ×
-    Behind (IsLineText given.version) (IsAlgebraStep given.extended) IsLong (λ l left. IsRefusedNext given.version given.extended sides IsLong l left q) lines l left ×
-    (p ≡ (length lines + q.0, q.1))
+use Rattle.joint_checker.specs.AlgebraBody.{IsLawfulRest, IsRefusedRest}
 
 pair_is : {A B : Type 0} {a c : A} {b d : B} → a ≡ c → b ≡ d → ◌≡◌ {A = A × B} (a, b) (c, d)
 pair_is p q = ap₂ (λ x y. (x, y)) p q

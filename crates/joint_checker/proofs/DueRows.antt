@@ -2,10 +2,10 @@
 use Rattle.std.proofs.Common.{◌≡◌, ℕ, List, Option, Some, None, refl, sym, ap, subst, ◌∙◌, inl, inr, ⊎_elim}
 use Rattle.std.specs.Prelude.{◌⊎◌, IsSome}
 use Rattle.aiger_reader.specs.Refusals.{SpellsWithin}
-use Rattle.aiger_reader.specs.Stopping.{IsGraphStop}
-use Rattle.aiger_reader.specs.declared.stop.Stop.{Stop}
-use Rattle.aiger_reader.specs.declared.stop.Stop.TheVariants as stop
-use Rattle.aiger_reader.proofs.CallerLemmas.{IsLong-is, graph_exact, stop_gives}
+use Rattle.command_core.specs.Stopping.{IsGraphStop}
+use Rattle.command_core.specs.declared.stop.Stop.{Stop}
+use Rattle.command_core.specs.declared.stop.Stop.TheVariants as stop
+use Rattle.command_core.proofs.CallerLemmas.{IsLong-is, graph_exact, stop_gives}
 use Rattle.graph_core.specs.Algebra.Refusal as cause
 use Rattle.graph_core.specs.declared.claim.Claim.{Claim}
 use Rattle.graph_core.specs.Graph.Operands.{profile_of, sides_for}
@@ -32,7 +32,7 @@ use Rattle.drup_text.specs.HeaderRefusal.{LineCause}
 use Rattle.joint_checker.specs.Certificates.{IsLawfulPair}
 use Rattle.joint_checker.specs.ClauseFiles.{GivesPremises}
 use Rattle.joint_checker.specs.ClauseRefusals.{ClauseFault, Goals, IsClauseRefusal, IsFileRefusal, Line}
-use Rattle.joint_checker.specs.Files.{Files, Texts, texts_of}
+use Rattle.command_core.specs.Files.{Files, Texts, texts_of}
 use Rattle.joint_checker.specs.Outcome.{IsDue, IsExactAnswer, IsOutcome, IsStopDue, MeetsAlgebra, MeetsClauses, OneAnswerIsDue, OutcomesAreExact, cause_of}
 use Rattle.clause_judge.specs.LineRefusals.{line_cause}
 use Rattle.clause_judge.proofs.Causes.{next_exact}

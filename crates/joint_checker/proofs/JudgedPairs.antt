@@ -20,7 +20,7 @@ use Rattle.mv_text.specs.LineReading.{lengths_of}
 use Rattle.poly_text.specs.Recorded.{lines_in}
 use Rattle.trim_core.specs.KeptClauses.{AreEarlier, HaveTightChains}
 use Rattle.joint_checker.specs.ClauseFiles.{AddsClauses, importable, premises}
-use Rattle.joint_checker.specs.Files.{Files, texts_of}
+use Rattle.command_core.specs.Files.{Files, texts_of}
 use Rattle.joint_checker.specs.Judged.{IsJudgedPair, IsLawfulRecord, IsToldPair}
 use Rattle.joint_checker.specs.Records.{IsRecordOf}
 use Rattle.joint_checker.specs.Shown.{IsShownOf, premises_of}

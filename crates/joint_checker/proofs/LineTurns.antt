@@ -2,7 +2,7 @@
 use Rattle.std.proofs.Common.{◌≡◌, ℕ, List, Option, Some, None, refl, sym, subst, inl, inr}
 use Rattle.std.specs.Prelude.{IfSome, IsSome}
 use Rattle.std.specs.Option.{IsSomeAnd}
-use Rattle.graph_core.specs.Algebra.{Line, LiveLine, Ledger, Closes, after}
+use Rattle.graph_core.specs.Algebra.{Line, Ledger, Closes, after}
 use Rattle.graph_core.specs.Algebra as algebra
 use Rattle.graph_core.specs.Algebra.Refusal.{AlgebraCause, IsRefusedNext}
 use Rattle.graph_core.specs.Algebra.Refusal as cause
@@ -179,19 +179,18 @@ module _ (grown : AlgebraChecking) (l : Ledger) (agrees : LedgersAgree (ledger_o
 
 -- ---- the answers over a version, a graph and operands that are equal
 
-module _ (version other : ℕ) (e f : Extended) (sides p : Sides) (known next : Ledger) (old new : Lines) (left behind : Option (List ℕ)) (given : Turn) where
-  turns_at : other ≡ version → f ≡ e → p ≡ sides → Turns other f p known next old new left behind given → Turns version e sides known next old new left behind given
-  turns_at same_version same same_order h =
+module _ (version other : ℕ) (e f : Extended) (sides p : Sides) (known next : Ledger) (old new : Lines) (left behind : Option (List ℕ)) (given : Turn) (same_version : other ≡ version) (same : f ≡ e) (same_sides : p ≡ sides)
+    (h : Turns other f p known next old new left behind given) where
+  turns_at : Turns version e sides known next old new left behind given
+  turns_at =
       subst (λ (v : ℕ). Turns v e sides known next old new left behind given) same_version
-      (subst (λ (o : Sides). Turns other e o known next old new left behind given) same_order (subst (λ (x : Extended). Turns other x p known next old new left behind given) same h))
+      (subst (λ (o : Sides). Turns other e o known next old new left behind given) same_sides (subst (λ (x : Extended). Turns other x p known next old new left behind given) same h))
 
-  pub taken_is : given ≡ turn.Taken → other ≡ version → f ≡ e → p ≡ sides → Turns other f p known next old new left behind given → IfSome left (λ bytes. TakesLawful version e known next old new bytes behind)
-  taken_is is same_version same same_order h =
-      let at : Turns version e sides known next old new left behind turn.Taken = subst (Turns version e sides known next old new left behind) is (turns_at same_version same same_order h) in at
+  pub taken_is : given ≡ turn.Taken → Turns version e sides known next old new left behind turn.Taken
+  taken_is is = subst (Turns version e sides known next old new left behind) is turns_at
 
-  pub closed_is : (id : ℕ) → given ≡ turn.Closed id → other ≡ version → f ≡ e → p ≡ sides → Turns other f p known next old new left behind given → IfSome left (λ bytes. TakesClosing e sides known old new bytes behind)
-  closed_is id is same_version same same_order h =
-      let at : Turns version e sides known next old new left behind (turn.Closed id) = subst (Turns version e sides known next old new left behind) is (turns_at same_version same same_order h) in at.0
+  pub closed_is : (id : ℕ) → given ≡ turn.Closed id → Turns version e sides known next old new left behind (turn.Closed id)
+  closed_is id is = subst (Turns version e sides known next old new left behind) is turns_at
 
 pub fail_is : (n version other : ℕ) (e f : Extended) (sides p : Sides) (known : Ledger) (lines : Lines) (left : Option (List ℕ)) (before now : View) (answer : Checked) → other ≡ version → f ≡ e → p ≡ sides →
     IsLineFail n other f p known lines left before now answer → IsLineFail n version e sides known lines left before now answer

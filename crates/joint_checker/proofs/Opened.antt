@@ -1,8 +1,8 @@
 -- How many files were opened for each answer.
 use Rattle.std.proofs.Common.{ℕ, List, Option, IfSome, arith}
-use Rattle.aiger_reader.specs.Stopping.{IsGraphStop, IsLong, IsStop}
-use Rattle.aiger_reader.specs.declared.stop.Stop.{Stop}
-use Rattle.aiger_reader.proofs.CallerLemmas.{IsGraphStop-about, IsLong-about, opens_up_to}
+use Rattle.command_core.specs.Stopping.{IsGraphStop, IsLong, IsStop}
+use Rattle.command_core.specs.declared.stop.Stop.{Stop}
+use Rattle.command_core.proofs.CallerLemmas.{IsGraphStop-about, IsLong-about, opens_up_to}
 use Rattle.drup_text.specs.HeaderRefusal.{TooLong}
 use Rattle.graph_core.specs.Graph.{Aig}
 use Rattle.graph_core.specs.Algebra.{Premises}

@@ -1,9 +1,9 @@
 -- Why a file isn't lawful, by what is left in its slot once it was opened.
 use Rattle.std.proofs.Common.{ℕ, ◌≤◌, List, Option, IfSome}
 use Rattle.std.specs.Io.KnownBytes.{Keeps}
-use Rattle.aiger_reader.specs.Stopping.{IsLong}
-use Rattle.aiger_reader.specs.declared.stop.Stop.{Stop}
-use Rattle.aiger_reader.proofs.CallerLemmas.{IsLong-weaker, IsStop-weaker}
+use Rattle.command_core.specs.Stopping.{IsLong}
+use Rattle.command_core.specs.declared.stop.Stop.{Stop}
+use Rattle.command_core.proofs.CallerLemmas.{IsLong-weaker, IsStop-weaker}
 use Rattle.graph_core.specs.Algebra.Refusal as cause
 use Rattle.graph_core.specs.Algebra.Refusal.{IsAlgebraRefusal}
 use Rattle.graph_core.specs.Graph.{Aig}

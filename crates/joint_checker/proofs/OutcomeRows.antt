@@ -1,9 +1,9 @@
 -- The answers of `check`, as files are opened and read one after the other.
 use Rattle.std.proofs.Common.{◌≡◌, ◌≤◌, ℕ, List, Option, IfSome, subst, arith, inl, inr}
 use Rattle.aiger_reader.specs.Refusals.{SpellsWithin}
-use Rattle.aiger_reader.specs.Stopping.{IsGraphStop, IsLong, IsStop}
-use Rattle.aiger_reader.specs.declared.stop.Stop.{Stop}
-use Rattle.aiger_reader.proofs.CallerLemmas.{IsLong-weaker, IsStop-weaker}
+use Rattle.command_core.specs.Stopping.{IsGraphStop, IsLong, IsStop}
+use Rattle.command_core.specs.declared.stop.Stop.{Stop}
+use Rattle.command_core.proofs.CallerLemmas.{IsLong-weaker, IsStop-weaker}
 use Rattle.graph_core.specs.Algebra.Refusal as cause
 use Rattle.graph_core.specs.Algebra.Refusal.{IsAlgebraRefusal}
 use Rattle.graph_core.specs.Algebra.{Premises, specification}
@@ -26,7 +26,8 @@ use Rattle.drup_text.specs.HeaderRefusal.{TooLong}
 use Rattle.joint_checker.specs.ClauseFiles.{GivesPremises, ArePremisesOf}
 use Rattle.joint_checker.specs.ClauseRefusals.{IsClauseRefusal, IsColumnRefusal}
 use Rattle.joint_checker.specs.Fails.{IsAlgebraFail, IsClauseFail, IsFail, RefusesAlgebra, RefusesClauses}
-use Rattle.joint_checker.specs.Files.{Files, HasPremises, texts_of}
+use Rattle.joint_checker.specs.LawfulFiles.{HasPremises}
+use Rattle.command_core.specs.Files.{Files, texts_of}
 use Rattle.joint_checker.specs.Outcome.{IsOutcome, IsRefusalDue, IsStopDue, MeetsAlgebra, MeetsClauses, cause_of}
 use Rattle.clause_judge.specs.LineRefusals.{line_cause}
 use Rattle.joint_checker.proofs.Joined.{graph_is, vanishing_does}

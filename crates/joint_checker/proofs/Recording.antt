@@ -1,5 +1,5 @@
 -- What is recorded of the lines of an algebra file, one line more, and at its end.
-use Rattle.std.proofs.Common.{◌≡◌, ℕ, ◌+◌, ◌-◌, ◌^◌, ◌≤◌, Bool, true, false, List, [], ◌∷◌, ◌++◌, Option, Some, None, IfSome, refl, sym, ap, subst, ◌∙◌, append_assoc, append-nil, arith, length-append}
+use Rattle.std.proofs.Common.{◌≡◌, ℕ, ◌+◌, ◌^◌, ◌≤◌, Bool, true, false, List, [], ◌∷◌, ◌++◌, Option, Some, None, IfSome, refl, sym, ap, subst, ◌∙◌, append_assoc, append-nil, arith, length-append}
 use Rattle.std.specs.Option.{IsSomeAnd}
 use Rattle.graph_core.specs.Algebra.{AreLawful, Combination, Delete, Import, Line, Product, Sum}
 use Rattle.graph_core.specs.Graph.Extended.{Extended}
@@ -124,13 +124,13 @@ read_is_recordable t version max bytes line fits text = record { writable = read
 -- ---- all lines
 
 module _ (records : Bool) (version m : ℕ) where
-  pub none_recorded : (left : Option (List ℕ)) → IfSome left (IsRecordedTo records version m [] 2 left)
+  pub none_recorded : (left : Option (List ℕ)) → IfSome left (IsRecordedTo records version m [] 0 left)
   none_recorded None = tt
   none_recorded (Some body) = record { lines = []; rest = body; left_is = refl; texts = refl; alike = refl; counted = refl }
 
-  module _ (old recorded : List Line) (line : ℕ) (body left behind : Option (List ℕ)) (so_far : IfSome body (IsRecordedTo records version m old line left)) where
-    pub one_more : IfSome left (λ bytes. RecordsText records version m old recorded bytes behind) → IfSome body (IsRecordedTo records version m recorded (line + 1) behind)
-    one_more h = told_more body (IsRecordedTo records version m old line left) (IsRecordedTo records version m recorded (line + 1) behind) (λ bytes r.
+  module _ (old recorded : List Line) (count : ℕ) (body left behind : Option (List ℕ)) (so_far : IfSome body (IsRecordedTo records version m old count left)) where
+    pub one_more : IfSome left (λ bytes. RecordsText records version m old recorded bytes behind) → IfSome body (IsRecordedTo records version m recorded (count + 1) behind)
+    one_more h = told_more body (IsRecordedTo records version m old count left) (IsRecordedTo records version m recorded (count + 1) behind) (λ bytes r.
         let t = told_of left r.rest (λ l. RecordsText records version m old recorded l behind) r.left_is h in
         record {
           lines = r.lines ++ t.line ∷ [];
@@ -142,8 +142,8 @@ module _ (records : Bool) (version m : ℕ) where
           counted = omega (arith, r.counted, length-append r.lines (t.line ∷ []));
         }) so_far
 
-    pub at_end : (closing : ℕ) → (recorded ≡ old) → IfSome left (λ bytes. ClosesText closing bytes behind) → IfSome behind (λ bytes. bytes ≡ []) → IfSome body (IsRecordedBody records version m recorded closing (line - 2))
-    at_end closing same h none = told_more body (IsRecordedTo records version m old line left) (IsRecordedBody records version m recorded closing (line - 2)) (λ bytes r.
+    pub at_end : (closing : ℕ) → (recorded ≡ old) → IfSome left (λ bytes. ClosesText closing bytes behind) → IfSome behind (λ bytes. bytes ≡ []) → IfSome body (IsRecordedBody records version m recorded closing count)
+    at_end closing same h none = told_more body (IsRecordedTo records version m old count left) (IsRecordedBody records version m recorded closing count) (λ bytes r.
         let t = told_of left r.rest (λ l. ClosesText closing l behind) r.left_is h in
         record {
           lines = r.lines;
@@ -151,7 +151,7 @@ module _ (records : Bool) (version m : ℕ) where
           texts = r.texts;
           close = subst (BeginsWith IsCloseText r.rest closing) (told_of behind t.rest (λ l. l ≡ []) t.left_is none) t.begins;
           alike = subst (AreAllAlike m (all_recorded records r.lines)) (sym same) r.alike;
-          counted = omega (arith, r.counted);
+          counted = r.counted;
         }) so_far
 
 -- the same over a choice, a version, a graph and recorded lines that are equal

@@ -30,7 +30,7 @@ use Rattle.drup_text.specs.HeaderSteps.{IsLongIn}
 use Rattle.joint_checker.specs.declared.algebra_line.Turn.{Turn}
 use Rattle.joint_checker.specs.declared.algebra_line.Turn.TheVariants as turn
 use Rattle.joint_checker.specs.declared.checked.AlgebraWhy.TheVariants as why
-use Rattle.aiger_reader.specs.declared.stop.Stop.TheVariants as stop
+use Rattle.command_core.specs.declared.stop.Stop.TheVariants as stop
 use Rattle.joint_checker.specs.declared.checked.Checked.{Checked}
 use Rattle.joint_checker.specs.declared.checked.Checked.TheVariants as checked
 use Rattle.joint_checker.specs.declared.checked.Refusal.TheVariants as refusal
@@ -44,6 +44,13 @@ pub record ReadsNextLine (max : ℕ) (old : FileState) (before : View) (out : Re
   pub keeps : KeepsFile old new out
   pub only : ReadsOnly slot.Algebra before now
   pub tells : KeepsTelling before now
+
+-- a checker stands on the same premises, asks for the same, and records as before
+pub record KeepsTask (old new : AlgebraChecking) : Type 0 where
+  pub extended : new.extended ≡ old.extended
+  pub sides : new.sides ≡ old.sides
+  pub added : new.added ≡ old.added
+  pub records : new.records ≡ old.records
 
 -- What a line that was read is for a checker: lawful, or closing. Then the specification vanishes.
 abbrev pub IsJudged : PacLine → AlgebraChecking → AlgebraChecking → Turn → Type 0

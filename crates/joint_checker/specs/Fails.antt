@@ -1,8 +1,8 @@
 -- The answers that come of one certificate alone, where it is told.
 use Rattle.std.specs.Prelude.{ℕ, List, IfSome}
 use Rattle.std.specs.declared.option.Option.{Option}
-use Rattle.aiger_reader.specs.Stopping.{IsLong, IsStop}
-use Rattle.aiger_reader.specs.declared.stop.Stop.{Stop}
+use Rattle.command_core.specs.Stopping.{IsLong, IsStop}
+use Rattle.command_core.specs.declared.stop.Stop.{Stop}
 use Rattle.graph_core.specs.Algebra.Refusal as cause
 use Rattle.graph_core.specs.Graph.Operands.{Sides}
 use Rattle.graph_core.specs.Algebra.Refusal.{IsAlgebraRefusal}
@@ -43,4 +43,5 @@ RefusesAlgebra lengths p sides text _ = ⊥
 
 abbrev pub IsAlgebraFail : Lengths → Premises → Sides → Option (List ℕ) → View → View → Checked → Type 0
 IsAlgebraFail lengths p sides text =
-    IsFail (RefusesAlgebra lengths p sides text) (IsLong slot.Algebra (IfSome text (λ bytes. (line : ℕ) × IsAlgebraRefusal p sides lengths bytes (line, cause.TooLong))))
+    IsFail (RefusesAlgebra lengths p sides text)
+    (IsLong slot.Algebra (IfSome text (λ bytes. (line : ℕ) × IsAlgebraRefusal p sides lengths bytes (line, cause.TooLong))))

@@ -19,7 +19,7 @@ use Rattle.poly_text.specs.Lines.{AreOf}
 use Rattle.poly_text.specs.Recorded.{AreMadeOfEarlier, AreRisingIds, HasNewId, ids_in, lines_in}
 use Rattle.trim_core.specs.KeptClauses.{AreEarlier, HaveTightChains}
 use Rattle.joint_checker.specs.ClauseFiles.{AddsClauses, importable, premises}
-use Rattle.joint_checker.specs.Files.{Texts}
+use Rattle.command_core.specs.Files.{Texts}
 use Rattle.joint_checker.specs.Records.{IsRecordOf}
 use Rattle.joint_checker.specs.declared.algebra_file.Closed.{Closed}
 use Rattle.joint_checker.specs.declared.checking.Judged.{Judged}

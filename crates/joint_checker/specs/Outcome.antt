@@ -1,7 +1,7 @@
 -- What `check` says of three files, and where each answer comes.
 use Rattle.std.specs.Prelude.{◌≡◌, ◌⊎◌, ℕ, List, IfSome, ⊤}
-use Rattle.aiger_reader.specs.Stopping.{GivesDue, IsAbout, IsGraphStop, IsLong, IsStop, OpensUpTo}
-use Rattle.aiger_reader.specs.declared.stop.Stop.{Stop}
+use Rattle.command_core.specs.Stopping.{GivesDue, IsAbout, IsGraphStop, IsLong, IsStop, OpensUpTo}
+use Rattle.command_core.specs.declared.stop.Stop.{Stop}
 use Rattle.graph_core.specs.Algebra.Refusal as cause
 use Rattle.graph_core.specs.Algebra.Refusal.{AlgebraCause, IsAlgebraRefusal}
 use Rattle.graph_core.specs.Algebra.{Premises}
@@ -23,7 +23,8 @@ use Rattle.joint_checker.specs.declared.checked.Refusal.TheVariants as refusal
 use Rattle.drup_text.specs.HeaderRefusal as clausal
 use Rattle.clause_judge.specs.LineRefusals.{line_cause}
 use Rattle.joint_checker.specs.ClauseRefusals.{IsClauseRefusal, IsColumnRefusal}
-use Rattle.joint_checker.specs.Files.{AreTold, Files, HasPremises, HasGraph, HasLawfulPair, Texts, texts_of}
+use Rattle.joint_checker.specs.LawfulFiles.{HasPremises, HasLawfulPair}
+use Rattle.command_core.specs.Files.{AreTold, Files, HasGraph, Texts, texts_of}
 
 -- ---- what the three files come to
 

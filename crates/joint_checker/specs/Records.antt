@@ -1,5 +1,5 @@
 -- What is recorded of the lines of an algebra file.
-use Rattle.std.specs.Prelude.{◌≡◌, ℕ, ◌+◌, Bool, true, List, [], ◌∷◌, ◌++◌, length, IfSome, ⊤}
+use Rattle.std.specs.Prelude.{◌≡◌, ℕ, Bool, true, List, [], ◌∷◌, ◌++◌, length, IfSome, ⊤}
 use Rattle.std.specs.declared.option.Option.{Option}
 use Rattle.std.specs.declared.option.Option.TheVariants.{Some}
 use Rattle.graph_core.specs.Algebra.{Line, AreLawful}
@@ -56,14 +56,14 @@ abbrev pub ClosesRecord : AlgebraChecking → AlgebraChecking → Turn → Type 
 ClosesRecord old new turn.Taken = ⊤
 ClosesRecord old new (turn.Closed id) = (new.recorded ≡ old.recorded) × ClosesAt old new id
 
--- Behind a header these lines stand, and then what is left; what is recorded of them is alike. The next line has this number.
-pub record IsRecordedTo (records : Bool) (version m : ℕ) (recorded : List Line) (line : ℕ) (left : Option (List ℕ)) (body : List ℕ) : Type 0 where
+-- Behind a header these lines stand, and then what is left; what is recorded of them is alike. They are so many.
+pub record IsRecordedTo (records : Bool) (version m : ℕ) (recorded : List Line) (count : ℕ) (left : Option (List ℕ)) (body : List ℕ) : Type 0 where
   pub lines : List Line
   pub rest : List ℕ
   pub left_is : left ≡ Some rest
   pub texts : AreLineTexts version body lines rest
   pub alike : AreAllAlike m (all_recorded records lines) recorded
-  pub counted : line ≡ length lines + 2
+  pub counted : count ≡ length lines
 
 -- Behind a header stand lines, of which there are so many, a closing line, and nothing more.
 pub record IsRecordedBody (records : Bool) (version m : ℕ) (recorded : List Line) (closing count : ℕ) (body : List ℕ) : Type 0 where

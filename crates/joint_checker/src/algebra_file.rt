@@ -1,37 +1,34 @@
 // The algebra certificate, line by line.
 ghost use Rattle.std.specs.List.{All};
-ghost use Rattle.std.specs.Prelude.{◌≡◌, ◌≢◌, ◌<◌, ◌≤◌, ◌^◌, [], length, true, IfErr, IfOk, IfSome, OnOk};
+ghost use Rattle.std.specs.Prelude.{◌≡◌, ◌≢◌, ◌<◌, [], true, IfErr, IfOk, IfSome, OnOk};
 ghost use Rattle.graph_core.specs.Graph.Operands.{profile_of, sides_for};
-ghost use Rattle.graph_core.specs.Algebra.{AgreeOnColumns, AreLawful, beginning, modulus, specification};
+ghost use Rattle.graph_core.specs.Algebra.{AgreeOnColumns, modulus, specification};
 ghost use Rattle.graph_core.specs.Aiger.Soundness.{IsSizedAs};
 ghost use Rattle.mv_desk.specs.Calls.{Inspects, ReadsOnly};
 ghost use Rattle.mv_desk.specs.View.{KeepsTelling, OpensFiles, SlotStays, bytes_under};
 ghost use Rattle.mv_desk.specs.declared.slot.Slot.{Slot};
 ghost use Rattle.mv_desk.specs.declared.slot.Slot.TheVariants as slot;
 ghost use Rattle.mv_fact.specs.Always.{Always};
-ghost use Rattle.graph_core.specs.Algebra.Agreement.{LedgersAgree};
-ghost use Rattle.pac_checker.specs.Checking.{ledger_of};
 ghost use Rattle.poly_text.specs.Recorded.{lines_in};
-ghost use Rattle.mv_text.specs.CertificateFiles.{GoesOn, left_of_file};
 ghost use Rattle.mv_text.specs.LineReading.{lengths_of};
-ghost use Rattle.joint_checker.specs.AlgebraBody.{IsBodyFail, IsLawfulBody};
 ghost use Rattle.graph_core.specs.Certificates.{IsLawfulAlgebra};
 ghost use Rattle.clause_core.specs.Facts.{IsClauseFact};
-ghost use Rattle.joint_checker.specs.ClauseFiles.{importable, premises};
+ghost use Rattle.joint_checker.specs.ClauseFiles.{importable};
 ghost use Rattle.joint_checker.specs.Fails.{IsAlgebraFail};
-ghost use Rattle.joint_checker.specs.Files.{NameIsTold};
+ghost use Rattle.command_core.specs.Files.{NameIsTold};
 ghost use Rattle.joint_checker.specs.Judged.{IsLawfulRecord};
-ghost use Rattle.joint_checker.specs.Records.{ClosesAt, IsRecordOf, IsRecordedBody};
+ghost use Rattle.joint_checker.specs.Records.{IsRecordOf};
 ghost use Rattle.joint_checker.specs.Shown.{premises_of};
 
 use crate::algebra_line::{Turn, judge_end, judge_line, line_refused};
 use crate::checked::Checked;
 use crate::clause_file::Shown;
 use crate::read_line::ReadLine;
-use aiger_reader::Stop;
 use clause_core::ClauseList;
+use command_core::Stop;
 use graph_core::{Claim, Operands};
 use mv_desk::{Desk, Limits, Slot};
+use mv_text::{JudgeLines, judge_lines};
 use pac_checker::{PacChecker, Record};
 use poly_text::AlgebraFile;
 use std::alloc::Global;
@@ -130,15 +127,18 @@ fn judge_algebra<D: Desk>(
     let operands = Operands::under(alloc, shown.extended.graph(), claim)?;
     let none = ClauseList::new(alloc);
     let added = imports(shown, &none);
-    let mut checker = PacChecker::new(alloc, &shown.extended, &operands, added, records)?;
-    let mut work = ReadLine {
-        file,
-        max: shown.extended.max(),
-        desk: PhantomData,
+    let checker = PacChecker::new(alloc, &shown.extended, &operands, added, records)?;
+    let mut judge = JudgeAlgebra {
+        checker,
+        work: ReadLine {
+            file,
+            max: shown.extended.max(),
+            desk: PhantomData,
+        },
     };
-    let closing = judge_lines(desk, &mut checker, &mut work)?;
+    let closing = judge_lines(desk, &mut judge)?;
     Ok(Closed {
-        record: checker.into_record(),
+        record: judge.checker.into_record(),
         id: closing.id,
         lines: closing.lines,
     })
@@ -156,49 +156,45 @@ fn imports<'s>(shown: &'s Shown<'_>, none: &'s ClauseList) -> &'s ClauseList
     }
 }
 
-// The lines behind the header, up to the end of the file.
-fn judge_lines<D: Desk>(
-    desk: &mut D,
-    checker: &mut PacChecker<'_>,
-    work: &mut ReadLine<D>,
-) -> Result<Closing, Checked>
-    requires reads { (D.seen desk.old).reads slot.Algebra ≡ true }
-    requires going { GoesOn work.old.file }
-    requires limit { work.old.file.lines.lengths.file < 2 ^ 64 }
-    requires max { work.old.max ≡ checker.old.extended.max }
-    requires begins { LedgersAgree (ledger_of checker.old)
-        (beginning (premises work.old.file.version checker.old.extended checker.old.added)) }
-    requires few { length checker.old.extended.graph.outputs ≤ 128 }
-    requires none_recorded { checker.old.recorded ≡ [] }
-    ensures lawful { OnOk result (IfSome (left_of_file slot.Algebra work.old.file (D.seen desk.old))
-        (IsLawfulBody (premises work.old.file.version checker.old.extended checker.old.added)
-        checker.old.sides work.old.file.lines)) }
-    ensures vanishes { OnOk result (Always checker.old.extended.gates
-        (λ σ. specification checker.old.extended checker.old.sides σ ≡ 0)) }
-    ensures recorded { IfOk result (λ c. IfSome (left_of_file slot.Algebra work.old.file (D.seen desk.old))
-        (IsRecordedBody checker.old.records work.old.file.version (modulus checker.old.extended)
-        checker.new.recorded c.id c.lines)) }
-    ensures closes { IfOk result (λ c. ClosesAt checker.old checker.new c.id) }
-    ensures extended { OnOk result (checker.new.extended ≡ checker.old.extended) }
-    ensures refused { IfErr result
-        (IsBodyFail (premises work.old.file.version checker.old.extended checker.old.added)
-        checker.old.sides work.old.file.lines (left_of_file slot.Algebra work.old.file (D.seen desk.old))
-        (D.seen desk.old) (D.seen desk.new)) }
-    ensures only { ReadsOnly slot.Algebra (D.seen desk.old) (D.seen desk.new) }
-    ensures tells { KeepsTelling (D.seen desk.old) (D.seen desk.new) }
-{
-    for line in 2..u64::MAX {
-        match judge_line(desk, checker, work, line)? {
-            Turn::Taken => checker.compact()?,
+// The lines behind the header by a checker, as a work reads them, up to the end of the file.
+#[derive(Drop)]
+struct JudgeAlgebra<'a, D> {
+    checker: PacChecker<'a>,
+    work: ReadLine<D>,
+}
+
+impl<'a, D: Desk> JudgeLines<D> for JudgeAlgebra<'a, D> {
+    ghost use Rattle.std.specs.Prelude.{◌≡◌};
+    ghost use Rattle.mv_desk.specs.declared.slot.Slot.TheVariants.{Algebra};
+    ghost use Rattle.joint_checker.specs.AlgebraBody.{AreJudged, HasJudged};
+
+    type End = Closing;
+
+    type Fail = Checked;
+
+    ghost slot = { Algebra };
+
+    ghost reached = { λ start first count it now.
+        HasJudged start.checker start.work.file first count it.checker it.work.file now ×
+        (it.work.max ≡ it.checker.extended.max) };
+
+    ghost judged = { λ start first answer it now.
+        AreJudged start.checker start.work.file first answer it.checker now };
+
+    fn judge_line(&mut self, desk: &mut D, count: u64) -> Result<Option<Closing>, Checked> {
+        match judge_line(desk, &mut self.checker, &mut self.work, 2 + count)? {
+            Turn::Taken => {
+                self.checker.compact()?;
+                Ok(None)
+            }
             Turn::Closed { id } => {
-                judge_end(desk, &mut work.file, line + 1)?;
-                return Ok(Closing {
-                    id,
-                    lines: line - 2,
-                });
+                judge_end(desk, &mut self.work.file, 3 + count)?;
+                Ok(Some(Closing { id, lines: count }))
             }
         }
     }
-    // So many lines have more bytes than a file may have.
-    Err(Checked::Stopped(Stop::TooLong(Slot::Algebra)))
+
+    fn too_many(&self, _desk: &D) -> Checked {
+        Checked::Stopped(Stop::TooLong(Slot::Algebra))
+    }
 }

@@ -3,10 +3,10 @@ use Rattle.std.proofs.Common.{◌≡◌, ℕ, ◌+◌, ◌*◌, ◌%◌, Bool, t
 use Rattle.std.specs.Prelude.{◌⊎◌, Some, IfSome}
 use Rattle.std.specs.declared.option.Option.{Option}
 use Rattle.aiger_reader.specs.Refusals.{SpellsWithin}
-use Rattle.aiger_reader.specs.Stopping.{GivesDue, Interrupts, IsGraphStop, IsStop}
-use Rattle.aiger_reader.specs.declared.stop.Stop.{Stop}
-use Rattle.aiger_reader.specs.declared.stop.Stop.TheVariants as stop
-use Rattle.aiger_reader.proofs.CallerLemmas.{due_or_interrupts, graph_exact}
+use Rattle.command_core.specs.Stopping.{GivesDue, Interrupts, IsGraphStop, IsStop}
+use Rattle.command_core.specs.declared.stop.Stop.{Stop}
+use Rattle.command_core.specs.declared.stop.Stop.TheVariants as stop
+use Rattle.command_core.proofs.CallerLemmas.{due_or_interrupts, graph_exact}
 use Rattle.frontier_core.proofs.CallerLemmas.{difference_is_of_operands, difference_is_of_sum, least_difference_is_one}
 use Rattle.frontier_core.specs.LeastDifference.{IsDifferenceAt}
 use Rattle.graph_core.specs.Graph.{Aig, IsDefinedOnce}
@@ -15,7 +15,7 @@ use Rattle.graph_core.specs.declared.claim.Claim.{Claim}
 use Rattle.graph_core.specs.declared.profile.Profile.{Profile}
 use Rattle.graph_core.proofs.OfAiger.CallerLemmas.{shape_for, spelled_shape, well_formed}
 use Rattle.graph_core.proofs.OfTexts.CallerLemmas.{one_graph}
-use Rattle.joint_checker.specs.Files.{HasGraph}
+use Rattle.command_core.specs.Files.{HasGraph}
 use Rattle.mv_desk.specs.View.{View, bytes_under}
 use Rattle.mv_desk.specs.declared.slot.Slot.TheVariants as slot
 use Rattle.joint_prover.specs.declared.task.Task.{Task}

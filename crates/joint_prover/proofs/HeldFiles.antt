@@ -3,15 +3,12 @@ use Rattle.std.proofs.Common.{◌≡◌, ◌≢◌, ℕ, List, [], Some, None, r
 use Rattle.std.specs.Prelude.{IfSome, IsSome, IsSomeAnd, option_map, unwrap_or}
 use Rattle.std.specs.declared.option.Option.{Option}
 use Rattle.aiger_reader.specs.Refusals.{SpellsWithin}
-use Rattle.mv_desk.specs.Calls.{AreApart, Becomes, BytesGrow, HeldGrows}
 use Rattle.mv_desk.specs.View.{IsTold, View}
-use Rattle.mv_desk.specs.declared.slot.Slot.{Slot}
 use Rattle.mv_desk.specs.declared.slot.Slot.TheVariants as slot
-use Rattle.joint_checker.specs.Files.{Files}
-use Rattle.joint_checker.proofs.HeldFiles.{file_is_held, other_names, others_are_held, same_told, told_file}
-use Rattle.joint_checker.specs.Written.{ReadsGraph, WritesFile, WritesPair}
-use Rattle.joint_prover.specs.Verdicts as verdicts
-use Rattle.joint_prover.specs.Verdicts.{HasNote, HoldsPair, ProvedPairsAreHeld}
+use Rattle.command_core.specs.Files.{AreDistinct, Files}
+use Rattle.command_core.proofs.CallerLemmas.{file_is_held, other_names, others_are_held, same_told, told_file}
+use Rattle.command_core.specs.Written.{ReadsGraph, WritesPair}
+use Rattle.joint_prover.specs.Verdicts.{HasNote, ProvedPairsAreHeld}
 use Rattle.graph_core.specs.Graph.{Aig}
 use Rattle.graph_core.specs.Graph.Operands.{profile_of}
 use Rattle.ripple_graft.specs.declared.cut.Cut.{Cut}
@@ -32,7 +29,7 @@ algebra_no_graph e = cc
 algebra_no_clauses : slot.Algebra ≢ slot.Clauses
 algebra_no_clauses e = cc
 
-module _ (files : Files) (clauses text : List ℕ) (a r c : View) (told : IsTold a) (apart : verdicts.AreDistinctFiles files) (reads : ReadsGraph a r) (w : WritesPair files clauses text r c) where
+module _ (files : Files) (clauses text : List ℕ) (a r c : View) (told : IsTold a) (apart : AreDistinct files.graph files.clauses files.algebra) (reads : ReadsGraph a r) (w : WritesPair files clauses text r c) where
   clause_slot : IsSome (r.name slot.Clauses)
   clause_slot = same_told (a.name slot.Clauses) (r.name slot.Clauses) (reads.others slot.Clauses clauses_no_graph).mode.name (told.names slot.Clauses)
 

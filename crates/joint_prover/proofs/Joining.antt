@@ -5,9 +5,9 @@ use Rattle.std.specs.declared.option.Option.{Option}
 use Rattle.std.specs.declared.option.Option.TheVariants.{None}
 use Rattle.aiger_reader.specs.Opening.{OpensOnly}
 use Rattle.aiger_reader.specs.Refusals.{SpellsWithin}
-use Rattle.aiger_reader.specs.Stopping.{IsGraphStop, IsStop}
-use Rattle.aiger_reader.specs.declared.stop.Stop.{Stop}
-use Rattle.aiger_reader.specs.declared.stop.Stop.TheVariants as stop
+use Rattle.command_core.specs.Stopping.{IsGraphStop, IsStop}
+use Rattle.command_core.specs.declared.stop.Stop.{Stop}
+use Rattle.command_core.specs.declared.stop.Stop.TheVariants as stop
 use Rattle.aiger_reader.proofs.CallerLemmas.{Inspects-OpensOnly}
 use Rattle.graph_core.specs.Graph.{Aig}
 use Rattle.graph_core.specs.Graph.Operands.{profile_of}
@@ -15,7 +15,7 @@ use Rattle.mv_desk.specs.View.{View, IsSame, Rose, bytes_under}
 use Rattle.mv_desk.specs.declared.slot.Slot.{Slot}
 use Rattle.mv_desk.specs.declared.slot.Slot.TheVariants as slot
 use Rattle.mv_desk.proofs.CallerLemmas.{ModeStays-refl, ModeStays-trans}
-use Rattle.joint_checker.specs.Files.{Files}
+use Rattle.command_core.specs.Files.{Files}
 use Rattle.joint_prover.specs.declared.task.Task.{Task}
 use Rattle.joint_prover.specs.declared.verdict.Verdict.{Verdict}
 use Rattle.joint_prover.specs.declared.verdict.Verdict.TheVariants.{Proved, Wrong, WrongSum, Undecided, Stopped}
@@ -25,7 +25,7 @@ use Rattle.joint_prover.specs.Notes.{IsNote, cut_of}
 use Rattle.joint_prover.specs.Pairs.{AreClausesFor, IsPairFor}
 use Rattle.joint_prover.specs.Parts.{IsNotedVerdict, IsOfGraph, note_with}
 use Rattle.joint_prover.specs.Verdicts.{IsVerdict}
-use Rattle.joint_checker.specs.Written.{ReadsGraph, ReportStays, StopsAt, StopsWriting, WritesFile, WritesFront}
+use Rattle.command_core.specs.Written.{ReadsGraph, ReportStays, StopsAt, StopsWriting, WritesFile, WritesFront}
 
 pub graph_is_read : {T E : Type 0} (a r : View) (result : Result T E) → OpensOnly slot.Graph a r result → ReadsGraph a r
 graph_is_read a r result opens = record {

@@ -1,5 +1,6 @@
 -- What a graph's size says, for a claim with an addend and without one.
 use Rattle.std.proofs.Common.{◌≡◌, ◌≤◌, Bool, true, false, length, arith, subst}
+use Rattle.graph_core.specs.declared.bounds.TheConstants.{MOST_INPUTS, MOST_VARIABLES}
 use Rattle.graph_core.specs.Aiger.Soundness.{IsMultiplierSized, IsSizedAs, IsSumSized}
 use Rattle.graph_core.specs.Graph.{Aig}
 use Rattle.graph_core.specs.Graph.Operands.{profile_of, width_for}
@@ -20,11 +21,11 @@ pub few_outputs : (add : Bool) (g : Aig) → IsSizedAs (profile_of add) g → le
 few_outputs false g sized = let n = sized.narrow in let few = sized.shape.outputs in omega arith
 few_outputs true g sized = let n = sized.narrow in let few = sized.shape.outputs in omega arith
 
-pub few_inputs : (add : Bool) (g : Aig) → IsSizedAs (profile_of add) g → length g.inputs ≤ 256
+pub few_inputs : (add : Bool) (g : Aig) → IsSizedAs (profile_of add) g → length g.inputs ≤ MOST_INPUTS
 few_inputs false g sized = let n = sized.narrow in let all = sized.shape.inputs in omega arith
 few_inputs true g sized = let n = sized.narrow in let all = sized.shape.inputs in omega arith
 
-pub few_variables : (add : Bool) (g : Aig) → IsSizedAs (profile_of add) g → g.max ≤ 4194303
+pub few_variables : (add : Bool) (g : Aig) → IsSizedAs (profile_of add) g → g.max ≤ MOST_VARIABLES
 few_variables false g sized = sized.small
 few_variables true g sized = sized.small
 

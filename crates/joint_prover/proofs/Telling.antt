@@ -28,7 +28,7 @@ use Rattle.ripple_graft.specs.HeaderBlocks.{cut_blocks}
 use Rattle.ripple_graft.specs.declared.cut.Cut.{Cut}
 use Rattle.stage_rewriter.specs.Rewriting.{IsShownRewriting}
 use Rattle.joint_checker.specs.ClauseFiles.{premises}
-use Rattle.joint_checker.specs.Files.{Files}
+use Rattle.command_core.specs.Files.{Files}
 use Rattle.joint_prover.specs.declared.attempts.Attempt.{Attempt}
 use Rattle.joint_prover.specs.declared.attempts.Attempt.TheVariants as attempt
 use Rattle.joint_prover.specs.declared.clauses.Clauses.{Clauses}
@@ -43,7 +43,7 @@ use Rattle.joint_prover.specs.Pairs.{AreClausesFor, AreClausesOver, IsPairFor, I
 use Rattle.joint_prover.specs.Parts.{AreTriedBefore, IsAttempt, IsFileOf, IsOfGraph, IsToldOver, IsToldWrong, IsWritten, MayTell, MayTellOver, clauses_header, cut_named, verdict_in}
 use Rattle.joint_prover.specs.Tries.{AreTried, EndsOver, HasPassedBudget, IsTried, IsWithinBudget, extended_by}
 use Rattle.joint_checker.specs.Certificates.{IsPair}
-use Rattle.joint_checker.specs.Written.{StopsAt, StopsWriting}
+use Rattle.command_core.specs.Written.{StopsAt, StopsWriting}
 use Rattle.joint_prover.proofs.WrittenClauses.{AreSaid, said_clauses, said_with}
 
 -- a pair over a graph is lawful: what imports nothing is lawful whatever the added clauses are

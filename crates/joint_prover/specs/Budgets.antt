@@ -2,7 +2,7 @@
 use Rattle.std.specs.Prelude.{◌≡◌, ℕ, ◌+◌, ◌*◌, ◌<◌, ◌≤◌, List, IfSome}
 use Rattle.std.specs.declared.option.Option.{Option}
 use Rattle.aiger_reader.specs.Refusals.{SpellsWithin}
-use Rattle.aiger_reader.specs.Stopping.{GivesDue}
+use Rattle.command_core.specs.Stopping.{GivesDue}
 use Rattle.graph_core.specs.Graph.{Aig, SameUpToOperands}
 use Rattle.graph_core.specs.Graph.Operands.{product_under}
 use Rattle.graph_core.specs.declared.order.Order.TheVariants.{Separate}
@@ -11,7 +11,7 @@ use Rattle.graph_maker.specs.Made.{made}
 use Rattle.graph_maker.specs.declared.adder.Adder.TheVariants.{Ripple}
 use Rattle.graph_maker.specs.declared.kind.Kind.{Kind}
 use Rattle.mv_desk.specs.View.{View, bytes_under}
-use Rattle.joint_checker.specs.Files.{Files}
+use Rattle.command_core.specs.Files.{Files}
 use Rattle.joint_prover.specs.declared.note.Note.{Note}
 use Rattle.joint_prover.specs.declared.task.Task.{Task}
 use Rattle.joint_prover.specs.declared.verdict.Verdict.{Verdict}

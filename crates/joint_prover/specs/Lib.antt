@@ -1,6 +1,6 @@
 -- To be trusted by whoever reads the contracts: `Verdicts`, `Notes` for the note on a rewriting, `Tries` for the plans that were tried,
--- `Pairs` for the certificates, `Budgets` for those that are enough, and `Files`, `ClauseFiles`, `Written`
--- and `Certificates` of joint_checker.
+-- `Pairs` for the certificates, `Budgets` for those that are enough, `Files` and `Written` of command_core, and `ClauseFiles` and
+-- `Certificates` of joint_checker.
 -- `Endings` and `Parts` serve private clauses alone.
 pub mod Notes
 pub mod Tries

@@ -2,7 +2,7 @@
 use Rattle.std.specs.Prelude.{◌≡◌, ◌⊎◌, ℕ, List, [], ◌∷◌, length, option_map}
 use Rattle.std.specs.declared.option.Option.{Option}
 use Rattle.std.specs.declared.option.Option.TheVariants.{None, Some}
-use Rattle.aiger_reader.specs.declared.stop.Stop.TheVariants as stop
+use Rattle.command_core.specs.declared.stop.Stop.TheVariants as stop
 use Rattle.graph_core.specs.Algebra.{AgreeOnColumns}
 use Rattle.graph_core.specs.Algebra.Text.{IsLawfulAlgebraFile}
 use Rattle.graph_core.specs.Graph.{Aig}
@@ -18,7 +18,7 @@ use Rattle.ripple_graft.specs.declared.cut.Cut.{Cut}
 use Rattle.drup_text.specs.declared.head.Header.{Header}
 use Rattle.stage_rewriter.specs.Rewriting.{IsShownRewriting}
 use Rattle.joint_checker.specs.ClauseFiles.{premises}
-use Rattle.joint_checker.specs.Files.{Files}
+use Rattle.command_core.specs.Files.{Files}
 use Rattle.joint_prover.specs.declared.job.Job.{Job}
 use Rattle.joint_prover.specs.declared.note.Note.{Note}
 use Rattle.joint_prover.specs.declared.task.Task.{Task}
@@ -35,7 +35,7 @@ use Rattle.joint_prover.specs.Notes.{IsFoundCut, IsNote, cut_of}
 use Rattle.joint_prover.specs.Pairs.{AreClausesFor, AreClausesOver, IsPairFor, IsPairOver, IsSpareFile, IsVersion}
 use Rattle.joint_prover.specs.Tries.{AreTried, EndsWithCut, IsTried}
 use Rattle.joint_prover.specs.Verdicts.{HaveManyOnes, IsFirstAbove, IsWrong, IsWrongSum}
-use Rattle.joint_checker.specs.Written.{StopsWriting, WritesPair}
+use Rattle.command_core.specs.Written.{StopsWriting, WritesPair}
 
 -- The operands are those that their claim names in the graph, which is of a size for it; and the version of certificates is one.
 pub record IsJob (job : Job) : Type 0 where
@@ -57,7 +57,8 @@ abbrev pub IsWritten : Made → ℕ → List ℕ → Files → View → View →
 IsWritten l version clauses files before after Proved =
     IsFileOf l version (certificate_text version l) × WritesPair files clauses (certificate_text version l) before after
 IsWritten l version clauses files before after (Stopped why) =
-    (why ≡ stop.WriteFault) × Rose before.write_faults after.write_faults × StopsWriting files (λ text. text ≡ clauses) (λ beside. IsFileOf l version) before after
+    (why ≡ stop.WriteFault) × Rose before.write_faults after.write_faults ×
+    StopsWriting files (λ text. text ≡ clauses) (λ beside. IsFileOf l version) before after
 IsWritten l version clauses files before after _ = ⊥
 
 -- the least numbers on which the graph differs are told

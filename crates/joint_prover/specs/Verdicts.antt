@@ -1,10 +1,10 @@
 -- What `verify` says of a graph file, and where each verdict comes.
-use Rattle.std.specs.Prelude.{◌≡◌, ◌≢◌, ◌⊎◌, ℕ, ◌+◌, ◌*◌, ◌%◌, ◌<◌, ◌≤◌, Bool, true, false, List, ◌++◌, length, IsSomeAnd, ⊤}
+use Rattle.std.specs.Prelude.{◌≡◌, ◌⊎◌, ℕ, ◌+◌, ◌*◌, ◌%◌, ◌<◌, ◌≤◌, Bool, true, false, List, ◌++◌, length, IsSomeAnd, ⊤}
 use Rattle.std.specs.declared.option.Option.{Option}
 use Rattle.std.specs.declared.option.Option.TheVariants.{None, Some}
 use Rattle.aiger_reader.specs.Refusals.{SpellsWithin}
-use Rattle.aiger_reader.specs.Stopping.{GivesDue, IsGraphStop, IsStop}
-use Rattle.aiger_reader.specs.declared.stop.Stop.TheVariants as stop
+use Rattle.command_core.specs.Stopping.{GivesDue, IsGraphStop, IsStop}
+use Rattle.command_core.specs.declared.stop.Stop.TheVariants as stop
 use Rattle.frontier_core.specs.LeastDifference.{IsDifferenceAt, IsLeastDifference, IsLeastSumDifference, ones_from}
 use Rattle.frontier_core.specs.PlainOrder.{HasPlainSize}
 use Rattle.graph_core.specs.Graph.{Aig}
@@ -15,7 +15,7 @@ use Rattle.mv_desk.specs.View.{View, Rose, bytes_under, IsTold}
 use Rattle.mv_desk.specs.declared.slot.Slot.TheVariants as slot
 use Rattle.ripple_graft.specs.declared.cut.Cut.{Cut}
 use Rattle.joint_checker.specs.Certificates.{IsPair}
-use Rattle.joint_checker.specs.Files.{Files, HasGraph}
+use Rattle.command_core.specs.Files.{AreDistinct, Files, HasGraph}
 use Rattle.joint_prover.specs.declared.note.Note.{Note}
 use Rattle.joint_prover.specs.declared.task.Task.{Task}
 use Rattle.joint_prover.specs.declared.verdict.Verdict.{Verdict}
@@ -23,7 +23,7 @@ use Rattle.joint_prover.specs.declared.verdict.Verdict.TheVariants.{Proved, Wron
 use Rattle.joint_prover.specs.Notes.{IsNote, cut_of}
 use Rattle.joint_prover.specs.Pairs.{AreClausesFor, IsPairFor}
 use Rattle.joint_prover.specs.Tries.{AreTried, IsWithinBudget}
-use Rattle.joint_checker.specs.Written.{ReadsGraph, StopsWriting, WritesPair}
+use Rattle.command_core.specs.Written.{ReadsGraph, StopsWriting, WritesPair}
 
 -- ---- proved
 
@@ -113,16 +113,10 @@ IsVerdict limit task files before after (Stopped why) noted =
 
 -- ---- what users rest on
 
--- no two of the names are equal
-pub record AreDistinctFiles (files : Files) : Type 0 where
-  pub clauses : files.graph ≢ files.clauses
-  pub algebra : files.graph ≢ files.algebra
-  pub certificates : files.clauses ≢ files.algebra
-
 -- With `Proved` the desk holds the pair, where it tells its files and no two names are equal.
 abbrev pub ProvedPairsAreHeld : Type 0
 ProvedPairsAreHeld = (limit : ℕ) (task : Task) (files : Files) (before after : View) (noted : Option Note) →
-    IsTold before → AreDistinctFiles files →
+    IsTold before → AreDistinct files.graph files.clauses files.algebra →
     IsVerdict limit task files before after Proved noted → HoldsPair task files after limit noted
 
 -- The verdict that is due to a graph file where no frontier of the plain order is above the budget, where the least difference has few

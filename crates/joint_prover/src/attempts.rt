@@ -4,7 +4,7 @@ ghost use Rattle.graph_core.specs.Algebra.{AgreeOnColumns};
 ghost use Rattle.mv_desk.specs.View.{KeepsTelling};
 ghost use Rattle.mv_fact.specs.Always.{Always};
 ghost use Rattle.stage_rewriter.specs.Rewriting.{IsShownRewriting};
-ghost use Rattle.joint_checker.specs.Files.{files_of};
+ghost use Rattle.command_core.specs.Files.{files_of};
 ghost use Rattle.joint_prover.specs.Parts.{IsAttempt, IsJob, MayTellOver, task_of, verdict_in};
 
 use crate::clauses::Clauses;

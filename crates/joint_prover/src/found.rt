@@ -2,7 +2,7 @@
 ghost use Rattle.std.specs.Prelude.{◌≡◌, ◌≤◌, IfOk, IfSome, OnErr, Some};
 ghost use Rattle.graph_core.specs.Graph.Operands.{AreOperandsOf, HasShapeFor};
 ghost use Rattle.mv_desk.specs.View.{KeepsTelling};
-ghost use Rattle.joint_checker.specs.Files.{files_of};
+ghost use Rattle.command_core.specs.Files.{files_of};
 ghost use Rattle.joint_prover.specs.Parts.{IsJob, IsShownCut, MayTellFound, MayTellOver, task_of};
 
 use crate::attempts::{try_layers, try_over_cut};

@@ -1,6 +1,6 @@
 // What travels from plan to plan.
+use command_core::Names;
 use graph_core::{Graph, Operands};
-use mv_desk::Names;
 
 /// A graph and what is asked of it.
 #[derive(Clone, Copy, Debug)]

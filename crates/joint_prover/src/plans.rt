@@ -5,7 +5,7 @@ ghost use Rattle.graph_core.specs.Graph.{IsWellFormed};
 ghost use Rattle.mv_desk.specs.View.{KeepsTelling};
 ghost use Rattle.ripple_graft.specs.declared.cut.Cut.{Cut as CutAt};
 ghost use Rattle.stage_rewriter.specs.Rewriting.{Agrees, IsRewriting};
-ghost use Rattle.joint_checker.specs.Files.{files_of};
+ghost use Rattle.command_core.specs.Files.{files_of};
 ghost use Rattle.joint_prover.specs.Notes.{cut_in};
 ghost use Rattle.joint_prover.specs.Parts.{AreTriedBefore, IsJob, IsOfFirstPlans, IsOfGraph, task_of};
 ghost use Rattle.joint_prover.specs.Tries.{AreTried};

@@ -4,14 +4,14 @@ ghost use Rattle.graph_core.specs.Aiger.Soundness.{IsSizedAs};
 ghost use Rattle.graph_core.specs.Graph.{IsWellFormed};
 ghost use Rattle.graph_core.specs.Graph.Operands.{profile_of};
 ghost use Rattle.stage_rewriter.specs.Rewriting.{Agrees, IsRewriting};
-ghost use Rattle.joint_checker.specs.Files.{files_of};
+ghost use Rattle.command_core.specs.Files.{files_of};
 ghost use Rattle.mv_desk.specs.View.{KeepsTelling, OpensFiles};
 ghost use Rattle.joint_prover.specs.Budgets.{ProvesEnough};
 ghost use Rattle.joint_prover.specs.Notes.{IsNote, cut_of};
 ghost use Rattle.joint_prover.specs.Pairs.{IsVersion};
 ghost use Rattle.joint_prover.specs.Parts.{IsJob, IsNotedVerdict, IsOfGraph, note_with, task_of};
 ghost use Rattle.joint_prover.specs.Verdicts.{IsVerdict};
-ghost use Rattle.joint_checker.specs.Written.{ReportStays};
+ghost use Rattle.command_core.specs.Written.{ReportStays};
 
 use crate::found::try_found;
 use crate::job::Job;
@@ -20,9 +20,9 @@ use crate::plans::try_whole_budget;
 use crate::soon::try_soon;
 use crate::task::Task;
 use crate::verdict::Verdict;
-use aiger_reader::{Stop, read_graph};
+use command_core::{Names, Stop, read_graph};
 use graph_core::{Graph, Memory, Operands};
-use mv_desk::{Desk, Limits, Names, Slot};
+use mv_desk::{Desk, Limits, Slot};
 use stage_rewriter::{Rewriting, rewrite};
 use std::alloc::Global;
 

@@ -3,7 +3,7 @@ ghost use Rattle.std.specs.Prelude.{◌≡◌, ◌≤◌, IfOk, OnErr};
 ghost use Rattle.graph_core.specs.Graph.{IsWellFormed};
 ghost use Rattle.mv_desk.specs.View.{KeepsTelling};
 ghost use Rattle.stage_rewriter.specs.Rewriting.{Agrees, IsRewriting};
-ghost use Rattle.joint_checker.specs.Files.{files_of};
+ghost use Rattle.command_core.specs.Files.{files_of};
 ghost use Rattle.joint_prover.specs.Notes.{cut_in};
 ghost use Rattle.joint_prover.specs.Parts.{IsJob, MayTell, task_of};
 

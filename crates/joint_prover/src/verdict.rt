@@ -1,5 +1,5 @@
 // The ends of a verification.
-use aiger_reader::Stop;
+use command_core::Stop;
 
 /// What `verify` says of a graph.
 #[derive(Debug, Drop)]

@@ -5,16 +5,16 @@ ghost use Rattle.mv_desk.specs.Calls.{HasWriteCause};
 ghost use Rattle.mv_desk.specs.View.{KeepsTelling};
 ghost use Rattle.mv_desk.specs.declared.slot.Slot.TheVariants as slot;
 ghost use Rattle.pac_writer.specs.Certificates.{certificate_text};
-ghost use Rattle.joint_checker.specs.Files.{files_of};
+ghost use Rattle.command_core.specs.Files.{files_of};
 ghost use Rattle.joint_prover.specs.Endings.{AreFew};
 ghost use Rattle.joint_prover.specs.Parts.{IsFileOf, IsWritten};
-ghost use Rattle.joint_checker.specs.Written.{StopsAt, StopsWriting, WritesFile, WritesPair};
+ghost use Rattle.command_core.specs.Written.{StopsAt, StopsWriting, WritesFile, WritesPair};
 
 use crate::verdict::Verdict;
-use aiger_reader::Stop;
 use clause_core::Line;
+use command_core::{Names, Stop};
 use drup_text::{Header, write_clauses};
-use mv_desk::{Desk, Failed, Names, Slot, WriteFault};
+use mv_desk::{Desk, Failed, Slot, WriteFault};
 use pac_writer::Lines;
 
 /// Lines that are closed are written beside the clause certificate with this header and these lines, in its version.

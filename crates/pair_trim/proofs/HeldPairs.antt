@@ -12,8 +12,8 @@ use Rattle.drup_text.specs.declared.head.Header.{Header}
 use Rattle.mv_desk.specs.View.{View, IsHeld, bytes_under, IsTold}
 use Rattle.mv_desk.specs.declared.slot.Slot.TheVariants as slot
 use Rattle.mv_text.specs.LineReading.{lengths_of}
-use Rattle.joint_checker.specs.Written.{WritesPair}
-use Rattle.joint_checker.proofs.HeldFiles.{file_is_held, other_names, others_are_held, same_told, told_file}
+use Rattle.command_core.specs.Written.{WritesPair}
+use Rattle.command_core.proofs.CallerLemmas.{file_is_held, other_names, others_are_held, same_told, told_file}
 use Rattle.pair_trim.specs.NewPairs.{IsTrimOf}
 use Rattle.pair_trim.specs.Trimming.{LeavesOld, ReadsOld, TrimmedFiles, TrimmedPairsAreHeld, new_files}
 

@@ -1,6 +1,6 @@
 -- What `trim` answers, of an accepted pair and of what is chosen of it.
 use Rattle.std.proofs.Common.{◌≢◌, List, ℕ, None, Some, refl, sym, subst, ◌∙◌, inl, inr, ⊎_elim}
-use Rattle.aiger_reader.specs.declared.stop.Stop.TheVariants as stop
+use Rattle.command_core.specs.declared.stop.Stop.TheVariants as stop
 use Rattle.graph_core.specs.declared.profile.Profile.{Profile}
 use Rattle.mv_desk.specs.View.{View}
 use Rattle.std.specs.Prelude.{IfSome, true}
@@ -14,7 +14,7 @@ use Rattle.mv_text.specs.LineReading.{lengths_of}
 use Rattle.poly_terms.specs.Tables.{Table}
 use Rattle.poly_text.specs.Recorded.{lines_in}
 use Rattle.joint_checker.specs.ClauseFiles.{AddsClauses, HasLawfulLines}
-use Rattle.joint_checker.specs.Files.{Texts}
+use Rattle.command_core.specs.Files.{Texts}
 use Rattle.joint_checker.specs.Outcome.{OpensNeeded}
 use Rattle.joint_checker.specs.declared.checked.Checked.TheVariants as checked
 use Rattle.joint_checker.specs.Judged.{IsJudgedPair, IsToldPair, extended_of}

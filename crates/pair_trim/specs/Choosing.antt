@@ -11,7 +11,7 @@ use Rattle.miter_encoder.specs.declared.goal.Goal.{Goal}
 use Rattle.poly_text.specs.Lines.{AreOf, line_in}
 use Rattle.poly_text.specs.WrittenLines.{IsWritable}
 use Rattle.poly_text.specs.declared.line.PacLine.{PacLine}
-use Rattle.joint_checker.specs.Files.{HasGraph, Texts}
+use Rattle.command_core.specs.Files.{HasGraph, Texts}
 use Rattle.joint_checker.specs.Judged.{extended_of}
 use Rattle.joint_checker.specs.declared.checking.Judged.{Judged}
 use Rattle.trim_keeper.specs.Lines.{AreLinesKept, all_renumbered, imports_in}
@@ -45,4 +45,5 @@ pub record CanBeWritten (t : Trimmed) : Type 0 where
 -- The graph does what is claimed, and this is kept of the two certificates, where all three files are told.
 abbrev pub HasChosen : Limits → Claim → Texts → Trimmed → Type 0
 HasChosen limits claim texts t = HasGraph (profile_of claim.add) limits.graph texts.graph (λ g. Does claim g ×
-    IfSome texts.clauses (λ clauses. IfSome texts.algebra (λ algebra. IsTrimOf (lengths_of limits) g claim clauses algebra t (clauses_text t) (algebra_text t))))
+    IfSome texts.clauses (λ clauses. IfSome texts.algebra (λ algebra.
+    IsTrimOf (lengths_of limits) g claim clauses algebra t (clauses_text t) (algebra_text t))))

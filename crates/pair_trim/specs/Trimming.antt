@@ -1,20 +1,20 @@
 -- What `trim` says of five files, where each answer comes, and what is done to the files.
 use Rattle.std.specs.Prelude.{◌≡◌, ◌≢◌, ℕ, List, IfSome, IsSome, Some}
 use Rattle.aiger_reader.specs.Refusals.{SpellsWithin}
-use Rattle.aiger_reader.specs.declared.stop.Stop.TheVariants as stop
+use Rattle.command_core.specs.declared.stop.Stop.TheVariants as stop
 use Rattle.graph_core.specs.Graph.{Aig}
 use Rattle.graph_core.specs.Graph.Operands.{Does, profile_of}
 use Rattle.graph_core.specs.declared.claim.Claim.{Claim}
 use Rattle.mv_desk.specs.Calls.{Inspects}
 use Rattle.mv_desk.specs.View.{View, IsHeld, Rose, bytes_under, IsTold}
 use Rattle.mv_desk.specs.declared.limits.Limits.{Limits}
-use Rattle.mv_desk.specs.declared.names.Names.{Names}
+use Rattle.command_core.specs.declared.names.Names.{Names}
 use Rattle.mv_desk.specs.declared.slot.Slot.TheVariants as slot
 use Rattle.mv_text.specs.LineReading.{lengths_of}
-use Rattle.joint_checker.specs.Files as checking
-use Rattle.joint_checker.specs.Files.{HasGraph, Texts, texts_of}
+use Rattle.command_core.specs.Files as checking
+use Rattle.command_core.specs.Files.{HasGraph, Texts, texts_of}
 use Rattle.joint_checker.specs.Outcome.{IsDue, IsOutcome, OpensNeeded}
-use Rattle.joint_checker.specs.Written.{StopsWriting, WritesPair}
+use Rattle.command_core.specs.Written.{StopsWriting, WritesPair}
 use Rattle.joint_checker.specs.declared.checked.Checked.{Checked}
 use Rattle.joint_checker.specs.declared.checked.Checked.TheVariants as checked
 use Rattle.pair_trim.specs.declared.answer.TrimAnswer.{TrimAnswer}
@@ -75,7 +75,8 @@ pub record IsNotAccepted (limits : Limits) (claim : Claim) (files : TrimmedFiles
 abbrev pub IsTrimAnswer : Limits → Claim → TrimmedFiles → View → View → TrimAnswer → Type 0
 IsTrimAnswer limits claim files before after (trim.Trimmed t) =
     IsOutcome limits claim (old_files files) before after checked.Accepted ×
-    HasTrim limits claim files before t (λ clauses algebra. (read : View) × ReadsOld files before read × WritesPair (new_files files) clauses algebra read after)
+    HasTrim limits claim files before t (λ clauses algebra.
+    (read : View) × ReadsOld files before read × WritesPair (new_files files) clauses algebra read after)
 IsTrimAnswer limits claim files before after (trim.Stopped stop.WriteFault) =
     Rose before.write_faults after.write_faults × IsOutcome limits claim (old_files files) before after checked.Accepted ×
     ((t : Trimmed) × HasTrim limits claim files before t (λ clauses algebra. (read : View) × ReadsOld files before read ×

@@ -1,6 +1,6 @@
 // What trimming ends with.
-use aiger_reader::Stop;
 use clause_core::Line;
+use command_core::Stop;
 use drup_checker::Numbers;
 use drup_text::Header;
 use joint_checker::Refusal;

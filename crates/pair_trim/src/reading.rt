@@ -2,7 +2,7 @@
 ghost use Rattle.std.specs.Prelude.{◌≢◌, IfErr, IfOk, OnOk};
 ghost use Rattle.graph_core.specs.Graph.Operands.{profile_of};
 ghost use Rattle.mv_desk.specs.View.{KeepsTelling, OpensFiles};
-ghost use Rattle.joint_checker.specs.Files.{files_of, texts_of};
+ghost use Rattle.command_core.specs.Files.{files_of, texts_of};
 ghost use Rattle.joint_checker.specs.Outcome.{IsOutcome, OpensFor, OpensNeeded};
 ghost use Rattle.pair_trim.specs.Choosing.{CanBeWritten, HasChosen};
 ghost use Rattle.pair_trim.specs.Trimming.{ReadsOld};
@@ -10,9 +10,10 @@ ghost use Rattle.pair_trim.specs.Trimming as trimming;
 
 use crate::answer::Trimmed;
 use crate::choosing::choose;
+use command_core::Names;
 use graph_core::Claim;
 use joint_checker::{Checked, judge_pair};
-use mv_desk::{Desk, Limits, Names};
+use mv_desk::{Desk, Limits};
 use std::alloc::Global;
 
 /// What is used of an accepted pair; else what `check` says of it. Want of memory comes at any time.

@@ -7,10 +7,10 @@ ghost use Rattle.pair_trim.specs.Trimming.{IsTrimAnswer, checked_of, trimmed_fil
 use crate::answer::TrimAnswer;
 use crate::reading::read_trimmed;
 use crate::writing::write_pair;
-use aiger_reader::Stop;
+use command_core::{Names, Stop};
 use graph_core::Claim;
 use joint_checker::Checked;
-use mv_desk::{Desk, Limits, Names};
+use mv_desk::{Desk, Limits};
 use std::alloc::Global;
 
 /// Judges a pair of certificates for what is claimed of a graph, and writes what is used of it under the new names.

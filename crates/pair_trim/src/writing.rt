@@ -3,14 +3,15 @@ ghost use Rattle.std.specs.Prelude.{◌≡◌, OnErr, OnOk};
 ghost use Rattle.mv_desk.specs.Calls.{HasWriteCause};
 ghost use Rattle.mv_desk.specs.View.{KeepsTelling};
 ghost use Rattle.mv_desk.specs.declared.slot.Slot.TheVariants as slot;
-ghost use Rattle.joint_checker.specs.Written.{StopsAt, StopsWriting, WritesFile, WritesPair};
+ghost use Rattle.command_core.specs.Written.{StopsAt, StopsWriting, WritesFile, WritesPair};
 ghost use Rattle.pair_trim.specs.Choosing.{CanBeWritten};
 ghost use Rattle.pair_trim.specs.NewPairs.{algebra_text, clauses_text};
 ghost use Rattle.pair_trim.specs.Trimming.{new_files, trimmed_files_of};
 
 use crate::answer::Trimmed;
+use command_core::Names;
 use drup_text::write_clauses;
-use mv_desk::{Desk, Failed, Names, Slot, WriteFault};
+use mv_desk::{Desk, Failed, Slot, WriteFault};
 use pac_writer::write_certificate;
 
 /// Creates the clause file and writes it, and then the algebra file.

@@ -6,6 +6,8 @@ use Rattle.std.specs.declared.vec.Vec.{Vec}
 use Rattle.cdcl_solver.specs.Logs.{LogView}
 use Rattle.cdcl_solver.specs.Solving.{assignment_of}
 use Rattle.clause_core.specs.ClauseLines.{ClauseLine}
+use Rattle.command_core.specs.Written.{FailsToWrite, WritesFile}
+use Rattle.drup_text.specs.SameFiles.{same_text}
 use Rattle.drup_text.proofs.Writable.{lines_are_writable}
 use Rattle.goal_refuter.specs.Refutations.{IsSpent, unmet_goals}
 use Rattle.goal_refuter.specs.Refuting.{IsDiffering, IsSoFar}
@@ -16,12 +18,13 @@ use Rattle.graph_core.specs.Graph.{Aig}
 use Rattle.mv_desk.specs.Calls.{Inspects}
 use Rattle.mv_desk.specs.View.{Rose, View}
 use Rattle.mv_desk.specs.declared.limits.Limits.{Limits}
+use Rattle.mv_desk.specs.declared.slot.Slot.TheVariants as slot
 use Rattle.same_core.specs.declared.pairs.PairFail.{PairFail}
 use Rattle.same_core.specs.declared.pairs.PairFail.TheVariants as pair
-use Rattle.aiger_reader.specs.declared.stop.Stop.TheVariants as stop
+use Rattle.command_core.specs.declared.stop.Stop.TheVariants as stop
 use Rattle.same_core.specs.declared.verdict.Same.TheVariants as same
 use Rattle.same_core.specs.Answers.{same_of_pair}
-use Rattle.same_core.specs.Deciding.{AreWritten, IsCompared, ReadsGraphs, StopsAtClauses, WritesClauseFile}
+use Rattle.same_core.specs.Deciding.{AreWritten, IsCompared, ReadsGraphs}
 use Rattle.same_core.specs.Files.{ComparedFiles, compared_texts_of}
 use Rattle.same_core.specs.Merged.{Both, both, merged}
 use Rattle.same_core.specs.Pairs.{IsPairFail, IsReadPair}
@@ -41,7 +44,7 @@ module _ (limits : Limits) (conflicts : ℕ) (files : ComparedFiles) (a b : View
   pair_fails (pair.Stopped stop.Memory) h = (tt, inspects)
 
   -- writing stopped
-  pub stopped : (lines : List ClauseLine) (c : View) → StopsAtClauses files.clauses lines b c → Rose b.write_faults c.write_faults → IsCompared limits conflicts files a c (same.Stopped stop.WriteFault)
+  pub stopped : (lines : List ClauseLine) (c : View) → FailsToWrite slot.Clauses files.clauses (same_text lines) b c → Rose b.write_faults c.write_faults → IsCompared limits conflicts files a c (same.Stopped stop.WriteFault)
   stopped lines c stops rose = (subst (λ (n : ℕ). Rose n c.write_faults) inspects.write_faults rose, (lines, b, inspects, stops))
 
   module _ (g : Aig) (m : Both) (p : IsReadPair limits.graph (compared_texts_of a files) g m) where
@@ -66,7 +69,7 @@ module _ (limits : Limits) (conflicts : ℕ) (files : ComparedFiles) (a b : View
           few = omega (arith, most, columns, few);
         }
 
-    pub equal : (log : LogView) → IsSoFar e conflicts (length (unmet_goals e)) log → ReadsGraphs a b → (c : View) → WritesClauseFile files.clauses log.lines b c → IsCompared limits conflicts files a c same.Equal
+    pub equal : (log : LogView) → IsSoFar e conflicts (length (unmet_goals e)) log → ReadsGraphs a b → (c : View) → WritesFile slot.Clauses files.clauses (same_text log.lines) b c → IsCompared limits conflicts files a c same.Equal
     equal log h reads c writes =
         let agree = merged_outputs_agree g p.other p.built.well_formed p.other_built.well_formed p.shape (lines_agree e conflicts log h) in
         (g, p.spelled, (p.other, p.other_spelled, (p.shape, (agree, (log.lines, b, written log h, reads, writes)))))

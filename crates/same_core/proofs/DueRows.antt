@@ -3,10 +3,10 @@
 use Rattle.std.proofs.Common.{◌≡◌, ℕ, List, Option, Some, None, refl, sym, ap, subst, ◌∙◌, inl, inr, ⊎_elim}
 use Rattle.std.specs.Prelude.{◌⊎◌, IsSome, length}
 use Rattle.aiger_reader.specs.Refusals.{SpellsWithin}
-use Rattle.aiger_reader.specs.Stopping.{IsGraphStop}
-use Rattle.aiger_reader.specs.declared.stop.Stop.{Stop}
-use Rattle.aiger_reader.specs.declared.stop.Stop.TheVariants as stop
-use Rattle.aiger_reader.proofs.CallerLemmas.{IsLong-is, graph_exact, stop_gives}
+use Rattle.command_core.specs.Stopping.{IsGraphStop}
+use Rattle.command_core.specs.declared.stop.Stop.{Stop}
+use Rattle.command_core.specs.declared.stop.Stop.TheVariants as stop
+use Rattle.command_core.proofs.CallerLemmas.{IsLong-is, graph_exact, stop_gives}
 use Rattle.clause_judge.specs.LineRefusals.{line_cause}
 use Rattle.clause_judge.proofs.Causes.{next_exact}
 use Rattle.clause_judge.specs.declared.fail.ClauseWhy.{ClauseWhy}

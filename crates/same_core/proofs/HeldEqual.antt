@@ -1,25 +1,16 @@
 -- What the files are once two graphs were called equal.
-use Rattle.std.proofs.Common.{◌≡◌, ◌≢◌, ℕ, List, [], Some, None, refl, sym, ap, subst, ◌∙◌}
+use Rattle.std.proofs.Common.{◌≡◌, ◌≢◌, ℕ, List, [], Some, ap, subst, ◌∙◌}
 use Rattle.std.specs.Prelude.{IfSome, IsSome, option_map, unwrap_or}
 use Rattle.std.specs.declared.option.Option.{Option}
 use Rattle.aiger_reader.specs.Refusals.{SpellsWithin}
 use Rattle.graph_core.specs.declared.profile.Profile.TheVariants.{Any}
 use Rattle.clause_core.specs.ClauseLines.{ClauseLine}
+use Rattle.command_core.specs.Written.{WritesFile}
+use Rattle.command_core.proofs.CallerLemmas.{file_is_held, others_are_held, same_told, told_file}
 use Rattle.drup_text.specs.SameFiles.{same_text}
-use Rattle.mv_desk.specs.Calls.{AreApart, Becomes, BytesGrow, HeldGrows}
 use Rattle.mv_desk.specs.View.{IsTold, View}
 use Rattle.mv_desk.specs.declared.slot.Slot.TheVariants as slot
-use Rattle.same_core.specs.Deciding.{EqualPairsAreHeld, ReadsGraphs, WritesClauseFile}
-
-none_told : (A : Type 0) → IsSome {T = A} None → ⊥
-none_told A h = cc
-
-becomes : {A : Type 0} (old new : Option A) (value : A) → IsSome old → Becomes old new value → new ≡ Some value
-becomes {A = A} None new value told h = absurd (none_told A told)
-becomes (Some before) new value told h = h
-
-same_told : {A : Type 0} (old new : Option A) → new ≡ old → IsSome old → IsSome new
-same_told old new same told = subst IsSome (sym same) told
+use Rattle.same_core.specs.Deciding.{EqualPairsAreHeld, ReadsGraphs}
 
 clauses_no_graph : slot.Clauses ≢ slot.Graph
 clauses_no_graph e = cc
@@ -27,27 +18,15 @@ clauses_no_graph e = cc
 clauses_no_other : slot.Clauses ≢ slot.Other
 clauses_no_other e = cc
 
--- the bytes that are told
-told_file : (file : Option (Option (List ℕ))) → IsSome file → (bytes : List ℕ) × (option_map (λ b. unwrap_or b []) file ≡ Some bytes)
-told_file None told = absurd (none_told (Option (List ℕ)) told)
-told_file (Some bytes) told = (unwrap_or bytes [], refl)
-
-module _ (name : List ℕ) (lines : List ClauseLine) (a r c : View) (told : IsTold a) (reads : ReadsGraphs a r) (w : WritesClauseFile name lines r c) where
-  named : w.created.name slot.Clauses ≡ Some (Some name)
-  named = becomes (r.name slot.Clauses) (w.created.name slot.Clauses) (Some name)
-      (same_told (a.name slot.Clauses) (r.name slot.Clauses) (reads.others slot.Clauses clauses_no_graph clauses_no_other).mode.name (told.names slot.Clauses)) w.creates.name
-
-  empty : w.created.held name ≡ Some (Some [])
-  empty = becomes (r.held name) (w.created.held name) (Some []) (same_told (a.held name) (r.held name) (reads.inspects.held name) (told.held name)) w.creates.bytes
+module _ (name : List ℕ) (lines : List ClauseLine) (a r c : View) (told : IsTold a) (reads : ReadsGraphs a r) (w : WritesFile slot.Clauses name (same_text lines) r c) where
+  named : IsSome (r.name slot.Clauses)
+  named = same_told (a.name slot.Clauses) (r.name slot.Clauses) (reads.others slot.Clauses clauses_no_graph clauses_no_other).mode.name (told.names slot.Clauses)
 
   pub certificate_is_held : c.held name ≡ Some (Some (same_text lines))
-  certificate_is_held =
-      let grows : HeldGrows (w.created.held name) (c.held name) (same_text lines) = subst (λ n. BytesGrow n w.created c (same_text lines)) named w.writes.bytes in
-      subst (λ old. HeldGrows old (c.held name) (same_text lines)) empty grows
+  certificate_is_held = file_is_held slot.Clauses name (same_text lines) r c w named (same_told (a.held name) (r.held name) (reads.inspects.held name) (told.held name))
 
   pub others_stay : (other : List ℕ) → name ≢ other → c.held other ≡ a.held other
-  others_stay other apart =
-      w.writes.held other (subst (λ n. AreApart n (Some (Some other))) (sym named) apart) ∙ w.creates.held other (λ same. apart (sym same)) ∙ reads.inspects.held other
+  others_stay other apart = others_are_held slot.Clauses name (same_text lines) r c w named other apart ∙ reads.inspects.held other
 
 pub equal_pairs_are_held : EqualPairsAreHeld
 equal_pairs_are_held limits conflicts files a c told no_graph no_other (g, spelled, (h, other_spelled, (shape, (agree, (lines, r, written, reads, w))))) =

@@ -2,10 +2,10 @@
 use Rattle.std.proofs.Common.{◌≡◌, ℕ, List, [], Option, Some, None, refl, sym, ap, subst, ◌∙◌, inl, inr}
 use Rattle.std.specs.Prelude.{IfSome, IsSome}
 use Rattle.aiger_reader.specs.Refusals.{SpellsWithin}
-use Rattle.aiger_reader.specs.Stopping.{GivesDue, IsGraphStop}
-use Rattle.aiger_reader.specs.declared.stop.Stop.{Stop}
-use Rattle.aiger_reader.specs.declared.stop.Stop.TheVariants as stop
-use Rattle.aiger_reader.proofs.CallerLemmas.{graph_exact}
+use Rattle.command_core.specs.Stopping.{GivesDue, IsGraphStop}
+use Rattle.command_core.specs.declared.stop.Stop.{Stop}
+use Rattle.command_core.specs.declared.stop.Stop.TheVariants as stop
+use Rattle.command_core.proofs.CallerLemmas.{graph_exact}
 use Rattle.graph_core.specs.declared.profile.Profile.TheVariants.{Any}
 use Rattle.graph_core.specs.Graph.{Aig}
 use Rattle.mv_desk.specs.declared.limits.Limits.{Limits}

@@ -3,10 +3,10 @@ use Rattle.std.specs.Prelude.{◌≡◌, ℕ, List, IfSome}
 use Rattle.std.specs.declared.option.Option.{Option}
 use Rattle.std.proofs.Common.{refl, subst, arith, inl, inr}
 use Rattle.aiger_reader.specs.Refusals.{SpellsWithin}
-use Rattle.aiger_reader.specs.Stopping.{IsGraphStop, IsStop}
-use Rattle.aiger_reader.specs.declared.stop.Stop.{Stop}
-use Rattle.aiger_reader.specs.declared.stop.Stop.TheVariants as stop
-use Rattle.aiger_reader.proofs.CallerLemmas.{IsGraphStop-about, IsStop-weaker, opens_up_to}
+use Rattle.command_core.specs.Stopping.{IsGraphStop, IsStop}
+use Rattle.command_core.specs.declared.stop.Stop.{Stop}
+use Rattle.command_core.specs.declared.stop.Stop.TheVariants as stop
+use Rattle.command_core.proofs.CallerLemmas.{IsGraphStop-about, IsStop-weaker, opens_up_to}
 use Rattle.graph_core.specs.Algebra.{AgreeOnColumns}
 use Rattle.graph_core.specs.Graph.Extended.{Extended}
 use Rattle.graph_core.specs.declared.profile.Profile.TheVariants.{Any}

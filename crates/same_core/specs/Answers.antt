@@ -1,5 +1,5 @@
 -- The answers of a pair of graphs, from those of the readers and of the checker. Private clauses alone cite them.
-use Rattle.aiger_reader.specs.declared.stop.Stop.TheVariants as stop
+use Rattle.command_core.specs.declared.stop.Stop.TheVariants as stop
 use Rattle.clause_judge.specs.declared.fail.ClauseFail.{ClauseFail}
 use Rattle.clause_judge.specs.declared.fail.ClauseFail.TheVariants as clauses
 use Rattle.mv_desk.specs.declared.slot.Slot.TheVariants as slot

@@ -1,5 +1,5 @@
 -- What `same` says of two files, and where each answer comes.
-use Rattle.std.specs.Prelude.{◌≡◌, ◌≢◌, ◌⊎◌, ◌+◌, ◌*◌, ◌≤◌, ⊤, ℕ, Bool, List, Some, IsSome, length, map}
+use Rattle.std.specs.Prelude.{◌≡◌, ◌≢◌, ◌+◌, ◌*◌, ◌≤◌, ⊤, ℕ, Bool, List, Some, IsSome, length, map}
 use Rattle.std.specs.List.{All}
 use Rattle.clause_core.specs.ClauseLines.{AreLawfulClauseLines, ClauseLine}
 use Rattle.drup_text.specs.SameFiles.{same_text}
@@ -9,8 +9,8 @@ use Rattle.graph_core.specs.Graph.Assignments.{literal}
 use Rattle.graph_core.specs.declared.profile.Profile.TheVariants.{Any}
 use Rattle.graph_core.specs.Graph.{Aig, evaluated}
 use Rattle.graph_core.specs.Text.JudgedLines.{IsWithin, Lengths}
-use Rattle.mv_desk.specs.Calls.{Creates, Inspects, WritesPart, WritesTo}
-use Rattle.mv_desk.specs.View.{IsSame, IsTold, OpensFiles, Rose, SlotStays, View, bytes_under}
+use Rattle.mv_desk.specs.Calls.{Inspects}
+use Rattle.mv_desk.specs.View.{IsTold, OpensFiles, Rose, SlotStays, View, bytes_under}
 use Rattle.mv_desk.specs.declared.limits.Limits.{Limits}
 use Rattle.mv_desk.specs.declared.slot.Slot.{Slot}
 use Rattle.mv_desk.specs.declared.slot.Slot.TheVariants as slot
@@ -19,8 +19,9 @@ use Rattle.same_core.specs.declared.verdict.Same.{Same}
 use Rattle.same_core.specs.declared.verdict.Same.TheVariants as same
 use Rattle.same_core.specs.Certificates.{IsLawful}
 use Rattle.aiger_reader.specs.Refusals.{SpellsWithin}
-use Rattle.aiger_reader.specs.Stopping.{GivesDue, IsStop, OpensUpTo}
-use Rattle.aiger_reader.specs.declared.stop.Stop.TheVariants as stop
+use Rattle.command_core.specs.Stopping.{GivesDue, IsStop, OpensUpTo}
+use Rattle.command_core.specs.Written.{FailsToWrite, WritesFile}
+use Rattle.command_core.specs.declared.stop.Stop.TheVariants as stop
 use Rattle.same_core.specs.Files.{ComparedFiles, ComparedTexts, HasPair, compared_texts_of}
 use Rattle.same_core.specs.Merged.{AgreeOnInputs, AreOfOneShape, merged}
 use Rattle.same_core.specs.Outcome.{IsPairCheckDue, IsPairStop, pair_place}
@@ -41,35 +42,23 @@ pub record ReadsGraphs (before after : View) : Type 0 where
   pub others : (other : Slot) → other ≢ slot.Graph → other ≢ slot.Other → SlotStays other before after
   pub inspects : Inspects before after
 
--- the file was created, and the text of these lines was written to it
-pub record WritesClauseFile (name : List ℕ) (lines : List ClauseLine) (before after : View) : Type 0 where
-  pub created : View
-  pub creates : Creates slot.Clauses name before created
-  pub writes : WritesTo slot.Clauses (same_text lines) created after
-
--- it was created, and a front part of that text was written to it
-pub record WritesClauseFront (name : List ℕ) (lines : List ClauseLine) (before after : View) : Type 0 where
-  pub created : View
-  pub creates : Creates slot.Clauses name before created
-  pub writes : WritesPart slot.Clauses (same_text lines) created after
-
--- Writing stopped: no file of that name could be created, or a front part was written.
-abbrev pub StopsAtClauses : List ℕ → List ClauseLine → View → View → Type 0
-StopsAtClauses name lines before after = IsSame before after ⊎ WritesClauseFront name lines before after
-
 -- Where each answer comes, as far as the desk tells the files. Graphs that are called equal agree on all inputs; where no pair of graphs
 -- is read, the answer is that of a check.
 abbrev pub IsCompared : Limits → ℕ → ComparedFiles → View → View → Same → Type 0
 IsCompared limits conflicts files before after same.Equal =
-    HasPair limits.graph (compared_texts_of before files) (λ g h. AgreeOnInputs g h × ((lines : List ClauseLine) × (between : View) × AreWritten g h conflicts lines ×
-    ReadsGraphs before between × WritesClauseFile files.clauses lines between after))
-IsCompared limits conflicts files before after (same.Differs inputs) = HasPair limits.graph (compared_texts_of before files) (λ g h. IsPairDifference g h inputs.items) × Inspects before after
+    HasPair limits.graph (compared_texts_of before files) (λ g h.
+    AgreeOnInputs g h × ((lines : List ClauseLine) × (between : View) × AreWritten g h conflicts lines ×
+    ReadsGraphs before between × WritesFile slot.Clauses files.clauses (same_text lines) between after))
+IsCompared limits conflicts files before after (same.Differs inputs) =
+    HasPair limits.graph (compared_texts_of before files) (λ g h. IsPairDifference g h inputs.items) × Inspects before after
 IsCompared limits conflicts files before after (same.Spent lemmas goal log) =
     HasPair limits.graph (compared_texts_of before files) (λ g h. IsSpent (merged g h) conflicts lemmas goal log) × Inspects before after
 IsCompared limits conflicts files before after same.Shapes = IsPairCheckDue limits (compared_texts_of before files) checked.Shapes × Inspects before after
 IsCompared limits conflicts files before after (same.Stopped stop.WriteFault) =
-    Rose before.write_faults after.write_faults × ((lines : List ClauseLine) × (between : View) × Inspects before between × StopsAtClauses files.clauses lines between after)
-IsCompared limits conflicts files before after (same.Stopped why) = IsStop (IsPairStop limits.graph (compared_texts_of before files)) before after why × Inspects before after
+    Rose before.write_faults after.write_faults × ((lines : List ClauseLine) × (between : View) × Inspects before between ×
+    FailsToWrite slot.Clauses files.clauses (same_text lines) between after)
+IsCompared limits conflicts files before after (same.Stopped why) =
+    IsStop (IsPairStop limits.graph (compared_texts_of before files)) before after why × Inspects before after
 
 -- How many files were opened: both graphs, or the first one alone where the answer is of it.
 abbrev pub OpensForCompared : Same → View → View → Type 0
@@ -103,7 +92,8 @@ IsOnPair _ = ⊤
 
 -- Two graphs of one shape are called equal, or differ, or the conflicts are spent; but for a fault or want of memory.
 abbrev pub PairsAreDecided : Type 0
-PairsAreDecided = (limits : Limits) (conflicts : ℕ) (files : ComparedFiles) (before after : View) (given : Same) → HasToldPair limits.graph (compared_texts_of before files) →
+PairsAreDecided = (limits : Limits) (conflicts : ℕ) (files : ComparedFiles) (before after : View) (given : Same) →
+    HasToldPair limits.graph (compared_texts_of before files) →
     IsCompared limits conflicts files before after given → IsOnPair given
 
 -- Where two graph files are told, whichever such answer is due is given.
@@ -130,5 +120,6 @@ pub record HoldsEqual (limit conflicts : ℕ) (files : ComparedFiles) (view : Vi
 
 -- Where graphs are called equal, and the certificate has the name of neither, that is what the files are then.
 abbrev pub EqualPairsAreHeld : Type 0
-EqualPairsAreHeld = (limits : Limits) (conflicts : ℕ) (files : ComparedFiles) (before after : View) → IsTold before → files.clauses ≢ files.graph → files.clauses ≢ files.other →
+EqualPairsAreHeld = (limits : Limits) (conflicts : ℕ) (files : ComparedFiles) (before after : View) → IsTold before → files.clauses ≢ files.graph →
+    files.clauses ≢ files.other →
     IsCompared limits conflicts files before after same.Equal → HoldsEqual limits.graph conflicts files after

@@ -5,7 +5,8 @@ use Rattle.aiger_reader.specs.Refusals.{SpellsWithin}
 use Rattle.graph_core.specs.declared.profile.Profile.TheVariants.{Any}
 use Rattle.graph_core.specs.Graph.{Aig}
 use Rattle.mv_desk.specs.View.{View, bytes_under}
-use Rattle.mv_desk.specs.declared.names.Names.{Names}
+use Rattle.command_core.specs.Files.{HasGraph}
+use Rattle.command_core.specs.declared.names.Names.{Names}
 use Rattle.same_core.specs.Merged.{AreOfOneShape}
 
 -- the names, as texts
@@ -41,11 +42,11 @@ IsSpelled limit file g = IfSome file (λ bytes. SpellsWithin Any limit bytes g)
 
 -- There is a first graph, of which something holds.
 abbrev pub HasFirst : ℕ → ComparedTexts → (Aig → Type 0) → Type 0
-HasFirst limit texts P = (g : Aig) × IsSpelled limit texts.graph g × P g
+HasFirst limit texts = HasGraph Any limit texts.graph
 
 -- There are two graphs, of which something holds.
 abbrev pub HasBoth : ℕ → ComparedTexts → (Aig → Aig → Type 0) → Type 0
-HasBoth limit texts P = HasFirst limit texts (λ g. (h : Aig) × IsSpelled limit texts.other h × P g h)
+HasBoth limit texts P = HasFirst limit texts (λ g. HasGraph Any limit texts.other (P g))
 
 -- and they are of one shape
 abbrev pub HasPair : ℕ → ComparedTexts → (Aig → Aig → Type 0) → Type 0

@@ -1,7 +1,7 @@
 -- What `check_same` says of three files, and where each answer comes.
 use Rattle.std.specs.Prelude.{◌≡◌, ◌⊎◌, ℕ, List, IfSome}
-use Rattle.aiger_reader.specs.Stopping.{GivesDue, IsGraphStop, IsLong, IsStop, OpensUpTo}
-use Rattle.aiger_reader.specs.declared.stop.Stop.{Stop}
+use Rattle.command_core.specs.Stopping.{GivesDue, IsGraphStop, IsLong, IsStop, OpensUpTo}
+use Rattle.command_core.specs.declared.stop.Stop.{Stop}
 use Rattle.clause_judge.specs.LineRefusals.{line_cause}
 use Rattle.drup_text.specs.HeaderRefusal as clausal
 use Rattle.graph_core.specs.declared.profile.Profile.TheVariants.{Any}
@@ -52,7 +52,8 @@ IsPairCheckDue limits texts (checked.Stopped why) = IsPairStopDue limits texts w
 -- Where each answer comes, as far as the desk tells the files. Accepted graphs agree on all inputs.
 abbrev pub IsPairOutcome : Limits → ComparedFiles → View → View → SameChecked → Type 0
 IsPairOutcome limits files before after checked.Accepted =
-    HasPair limits.graph (compared_texts_of before files) (λ g h. IfSome (compared_texts_of before files).clauses (IsLawful (lengths_of limits) (merged g h)) × AgreeOnInputs g h)
+    HasPair limits.graph (compared_texts_of before files) (λ g h.
+    IfSome (compared_texts_of before files).clauses (IsLawful (lengths_of limits) (merged g h)) × AgreeOnInputs g h)
 IsPairOutcome limits files before after (checked.Stopped why) = IsStop (IsPairStopDue limits (compared_texts_of before files)) before after why
 IsPairOutcome limits files before after outcome = IsPairCheckDue limits (compared_texts_of before files) outcome
 
@@ -73,12 +74,14 @@ OpensForPair _ before after = OpensFiles 3 before after
 -- Where the desk tells the three files, whichever answer is due is given.
 abbrev pub IsExactPairAnswer : Limits → ComparedFiles → View → View → SameChecked → Type 0
 IsExactPairAnswer limits files before after given =
-    AreComparedTold (compared_texts_of before files) → (due : SameChecked) → IsPairCheckDue limits (compared_texts_of before files) due → GivesDue checked.Stopped before after due given
+    AreComparedTold (compared_texts_of before files) → (due : SameChecked) → IsPairCheckDue limits (compared_texts_of before files) due →
+    GivesDue checked.Stopped before after due given
 
 -- Of three files that are told just one answer is due.
 pub record OnePairAnswerIsDue : Type 0 where
   pub some : (limits : Limits) (texts : ComparedTexts) → AreComparedTold texts → (due : SameChecked) × IsPairCheckDue limits texts due
-  pub one : (limits : Limits) (texts : ComparedTexts) → AreComparedTold texts → (due other : SameChecked) → IsPairCheckDue limits texts due → IsPairCheckDue limits texts other → due ≡ other
+  pub one : (limits : Limits) (texts : ComparedTexts) → AreComparedTold texts → (due other : SameChecked) → IsPairCheckDue limits texts due →
+      IsPairCheckDue limits texts other → due ≡ other
 
 -- So what has its cause is the answer that is due, or a failed read or want of memory.
 abbrev pub PairOutcomesAreExact : Type 0

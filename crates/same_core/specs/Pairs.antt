@@ -1,6 +1,6 @@
 -- Two files that spell a pair of graphs, and where they don't. Private clauses alone cite it.
 use Rattle.std.specs.Prelude.{◌≡◌, ℕ}
-use Rattle.aiger_reader.specs.Stopping.{IsStop}
+use Rattle.command_core.specs.Stopping.{IsStop}
 use Rattle.graph_core.specs.Graph.{Aig, IsBuilt}
 use Rattle.mv_desk.specs.View.{View}
 use Rattle.mv_desk.specs.declared.limits.Limits.{Limits}

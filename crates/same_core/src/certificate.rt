@@ -1,8 +1,10 @@
 // The certificate of two graphs, written.
 ghost use Rattle.std.specs.Prelude.{◌≡◌, OnErr, OnOk};
+ghost use Rattle.command_core.specs.Written.{FailsToWrite, WritesFile};
+ghost use Rattle.drup_text.specs.SameFiles.{same_text};
 ghost use Rattle.mv_desk.specs.Calls.{HasWriteCause};
 ghost use Rattle.mv_desk.specs.View.{KeepsTelling};
-ghost use Rattle.same_core.specs.Deciding.{StopsAtClauses, WritesClauseFile};
+ghost use Rattle.mv_desk.specs.declared.slot.Slot.TheVariants as slot;
 
 use clause_core::Line;
 use drup_text::write_same;
@@ -13,8 +15,10 @@ pub(crate) fn write_certificate<D: Desk>(
     lines: &[Line],
     name: &str,
 ) -> Result<(), WriteFault>
-    ensures whole { OnOk result (WritesClauseFile name.now lines.now (D.seen desk.old) (D.seen desk.new)) }
-    ensures stops { OnErr result (StopsAtClauses name.now lines.now (D.seen desk.old) (D.seen desk.new)) }
+    ensures whole { OnOk result (WritesFile slot.Clauses name.now (same_text lines.now)
+        (D.seen desk.old) (D.seen desk.new)) }
+    ensures stops { OnErr result (FailsToWrite slot.Clauses name.now (same_text lines.now)
+        (D.seen desk.old) (D.seen desk.new)) }
     ensures cause { HasWriteCause (D.seen desk.old) (D.seen desk.new) result }
     ensures tells { KeepsTelling (D.seen desk.old) (D.seen desk.new) }
 {

@@ -1,7 +1,7 @@
 // What a check of two graphs ends with.
 use crate::pairs::PairFail;
-use aiger_reader::Stop;
 use clause_judge::{ClauseFail, ClauseWhy};
+use command_core::Stop;
 use mv_desk::Slot;
 
 /// Why a clause certificate is refused: at which of its lines (from 1) and why, or at which output (from 0) for its goals.

@@ -8,7 +8,8 @@ ghost use Rattle.same_core.specs.Outcome.{IsExactPairAnswer, IsPairOutcome, Open
 use crate::checked::SameChecked;
 use crate::clauses::check_clauses;
 use crate::pairs::read_pair;
-use mv_desk::{Desk, Limits, Names};
+use command_core::Names;
+use mv_desk::{Desk, Limits};
 use std::alloc::Global;
 
 /// Judges a clause certificate for two graphs. The files are opened in their order, and only when they are needed; the

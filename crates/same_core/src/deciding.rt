@@ -8,9 +8,9 @@ use crate::certificate::write_certificate;
 use crate::pairs::read_pair;
 use crate::solving::{decide, inputs_at};
 use crate::verdict::Same;
-use aiger_reader::Stop;
+use command_core::{Names, Stop};
 use goal_refuter::Outcome;
-use mv_desk::{Desk, Limits, Names};
+use mv_desk::{Desk, Limits};
 use std::alloc::Global;
 
 /// Says whether two graphs are equal, within so many conflicts of a solver. Where each goal of their merged gates is

@@ -8,9 +8,9 @@ ghost use Rattle.same_core.specs.Files.{compared_files_of, compared_texts_of};
 ghost use Rattle.same_core.specs.Pairs.{IsPairFail, IsReadPair};
 
 use crate::merged::{MergeFail, Merged, merge};
-use aiger_reader::{Profile, Stop, read_graph};
-use graph_core::Graph;
-use mv_desk::{Desk, Limits, Names, Slot};
+use command_core::{Names, Stop, read_graph};
+use graph_core::{Graph, Profile};
+use mv_desk::{Desk, Limits, Slot};
 use std::alloc::Global;
 
 // Why two graphs aren't merged.

@@ -1,7 +1,7 @@
 // What `same` ends with.
 use crate::pairs::PairFail;
-use aiger_reader::Stop;
 use cdcl_solver::Log;
+use command_core::Stop;
 
 /// What `same` says of two graphs.
 #[derive(Debug, Drop)]

@@ -5,7 +5,7 @@ use Rattle.command_line.specs.declared.command.Command.TheVariants.{Check}
 use Rattle.command_line.specs.declared.files.Files as named
 use Rattle.graph_core.specs.Graph.Operands.{profile_of}
 use Rattle.graph_core.specs.declared.claim.Claim.{Claim}
-use Rattle.joint_checker.specs.Files.{texts_of}
+use Rattle.command_core.specs.Files.{texts_of}
 use Rattle.joint_checker.specs.Outcome.{IsDue, IsOutcome, IsStopDue}
 use Rattle.joint_checker.proofs.DueRows.{outcomes_are_exact}
 use Rattle.joint_checker.specs.declared.checked.Checked.{Checked}

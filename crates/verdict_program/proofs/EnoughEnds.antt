@@ -1,7 +1,7 @@
 -- A run that has enough budget ends with status 0, but for a fault or want of memory.
 use Rattle.std.proofs.Common.{ℕ, List, ap, refl, sym, subst, inl, inr}
 use Rattle.std.specs.Prelude.{IfSome}
-use Rattle.aiger_reader.specs.Stopping.{GivesDue}
+use Rattle.command_core.specs.Stopping.{GivesDue}
 use Rattle.command_line.specs.declared.command.Command.{Command}
 use Rattle.command_line.specs.declared.command.Command.TheVariants.{Verify}
 use Rattle.joint_prover.specs.Budgets.{IsEnough}

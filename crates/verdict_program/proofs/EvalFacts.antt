@@ -2,8 +2,8 @@
 use Rattle.mv_desk.specs.declared.slot.Slot.TheVariants as slot
 use Rattle.std.proofs.Common.{◌≡◌, ℕ, List, Option, Some, None, refl, subst, sym, arith, inl}
 use Rattle.std.specs.Prelude.{IsSome}
-use Rattle.aiger_reader.specs.Stopping.{GivesDue, IsGraphStop}
-use Rattle.aiger_reader.proofs.CallerLemmas.{stop_gives}
+use Rattle.command_core.specs.Stopping.{GivesDue, IsGraphStop}
+use Rattle.command_core.proofs.CallerLemmas.{stop_gives}
 use Rattle.command_line.specs.declared.command.Command.TheVariants.{Eval}
 use Rattle.mv_desk.specs.View.{View, Rose, bytes_under}
 use Rattle.verdict_program.specs.declared.answer.Answer.TheVariants as answer

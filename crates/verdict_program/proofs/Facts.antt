@@ -5,7 +5,7 @@ use Rattle.command_line.specs.declared.command.Command.{Command}
 use Rattle.command_line.specs.declared.command.Command.TheVariants.{Check, CheckSame, Eval, Make, Same, Trial, Trim, Verify}
 use Rattle.graph_core.specs.Graph.Operands.{profile_of}
 use Rattle.graph_maker.specs.Designed.{designed}
-use Rattle.joint_checker.specs.Files.{HasGraph}
+use Rattle.command_core.specs.Files.{HasGraph}
 use Rattle.joint_prover.specs.declared.note.Note.{Note}
 use Rattle.joint_prover.specs.declared.verdict.Tried.{Tried}
 use Rattle.joint_prover.specs.Notes.{IsNote, cut_of}
@@ -21,7 +21,7 @@ use Rattle.verdict_program.specs.Answer.{status_of}
 use Rattle.verdict_program.specs.Evaluation.{IsValueDue}
 use Rattle.verdict_program.specs.Headline.{AreTheSame, IsAsClaimed}
 use Rattle.verdict_program.specs.Making.{text_for}
-use Rattle.verdict_program.specs.Trial.{IsAcceptedWith, IsUndecidedWith, OfMade, plan_of}
+use Rattle.verdict_program.specs.Trial.{IsAcceptedWith, IsUndecidedWith, OfMade, sample_of}
 use Rattle.verdict_program.specs.Runs.{DiffersSomewhere, EndsAsDue, HasSpentPair, IsDueOf, TellsHeld, TellsNames, files_asked, pair_asked, standard, task_asked, trim_files_asked}
 use Rattle.verdict_program.proofs.Told.{none_told}
 
@@ -32,7 +32,7 @@ Succeeds (Verify files claim budget conflicts version) a b =
     TellsHeld a → TellsNames a → (noted : Option Note) × HoldsPair (task_asked claim budget conflicts version) (files_asked files) b standard.graph noted
 Succeeds (Eval graph x y order addend) a b = ⊤
 Succeeds (Make design bits adder out) a b = TellsHeld a → TellsNames a → b.held out ≡ Some (Some (text_for out (designed design bits adder)))
-Succeeds (Trial number) a b = (n : Note) × OfMade (plan_of number) (IsAcceptedWith n)
+Succeeds (Trial number) a b = (n : Note) × OfMade (sample_of number) (IsAcceptedWith n)
 Succeeds (Same files conflicts) a b = AreTheSame a files.graph files.other × (TellsHeld a → TellsNames a → HoldsEqual standard.graph conflicts (pair_asked files) b)
 Succeeds (CheckSame files) a b = AreTheSame a files.graph files.other
 Succeeds (Trim files claim) a b = IsAsClaimed a files.graph claim × (TellsHeld a → TellsNames a → HoldsTrimmed standard claim (trim_files_asked files) b)
@@ -53,7 +53,7 @@ abbrev pub IsUndecidedFor : Command → View → Type 0
 IsUndecidedFor (Verify files claim budget conflicts version) a =
     HasGraph (profile_of claim.add) standard.graph (bytes_under a files.graph) (λ g. (step : ℕ) × (size : ℕ) × IsFirstAbove g claim budget step size ×
     ((n : Note) × IsNote g claim conflicts n × (tried : List Tried) × AreTried g claim budget (cut_of n) tried) × HaveManyOnes g claim)
-IsUndecidedFor (Trial number) a = (step : ℕ) × (size : ℕ) × (n : Note) × OfMade (plan_of number) (IsUndecidedWith step size n)
+IsUndecidedFor (Trial number) a = (step : ℕ) × (size : ℕ) × (n : Note) × OfMade (sample_of number) (IsUndecidedWith step size n)
 IsUndecidedFor (Same files conflicts) a = HasSpentPair conflicts a files
 IsUndecidedFor command a = ⊥
 

@@ -1,6 +1,6 @@
 -- What follows from an answer of `make`.
 use Rattle.std.proofs.Common.{◌≡◌, ℕ, List, Some, refl, subst, sym, arith, inl, inr}
-use Rattle.aiger_reader.specs.declared.stop.Stop.TheVariants as stop
+use Rattle.command_core.specs.declared.stop.Stop.TheVariants as stop
 use Rattle.command_line.specs.declared.command.Command.TheVariants.{Make}
 use Rattle.mv_desk.specs.View.{View, Rose}
 use Rattle.verdict_program.specs.declared.answer.Answer.TheVariants as answer

@@ -4,8 +4,8 @@ use Rattle.std.specs.Prelude.{IsSome, get_or, unwrap_or}
 use Rattle.std.proofs.lemmas.List.{length-append}
 use Rattle.graph_core.specs.Text.{newline}
 use Rattle.graph_core.specs.Text.JudgedLines.{IsLineStart, IsWithin, front_line}
-use Rattle.joint_checker.specs.Written.{ReadsGraph, WritesFile, WritesPair}
-use Rattle.mv_desk.specs.Calls.{AreApart, Becomes, BytesGrow, HeldGrows}
+use Rattle.command_core.specs.Written.{ReadsGraph, WritesFile, WritesPair}
+use Rattle.mv_desk.specs.Calls.{Becomes}
 use Rattle.mv_desk.specs.Files.{File}
 use Rattle.mv_desk.specs.HonestDesk.{held_of, view_of}
 use Rattle.mv_desk.specs.Memory.{is_written, name_of, place_at}
@@ -17,7 +17,7 @@ use Rattle.mv_desk.specs.declared.slot.Slot.{Slot}
 use Rattle.mv_desk.specs.declared.slot.Slot.TheVariants as slot
 use Rattle.mv_text.specs.LineReading.{lengths_of}
 use Rattle.verdict_program.specs.Trial.{no_limits, trial_files}
-use Rattle.verdict_program.proofs.MakingLemmas.{becomes}
+use Rattle.command_core.proofs.CallerLemmas.{no_other_changed, text_is_held}
 use Rattle.verdict_program.proofs.Told.{none_told}
 
 -- ---- what it tells
@@ -82,14 +82,10 @@ module _ (at : Slot) (name text : List ℕ) (a b : View) (w : WritesFile at name
   created_name = becomes_told (a.name at) (w.created.name at) (Some name) (subst IsSome w.writes.mode.name named) w.creates.name
 
   pub file_is_held : IsSome (a.held name) → b.held name ≡ Some (Some text)
-  file_is_held told =
-      let empty = becomes (a.held name) (w.created.held name) (Some []) told w.creates.bytes in
-      let grows : HeldGrows (w.created.held name) (b.held name) text = subst (λ n. BytesGrow n w.created b text) created_name w.writes.bytes in
-      subst (λ old. HeldGrows old (b.held name) text) empty grows
+  file_is_held = text_is_held at name text a b w created_name
 
   others_are_held : (other : List ℕ) → name ≢ other → b.held other ≡ a.held other
-  others_are_held other apart =
-      w.writes.held other (subst (λ n. AreApart n (Some (Some other))) (sym created_name) apart) ∙ w.creates.held other (λ same. apart (sym same))
+  others_are_held = no_other_changed at name text a b w created_name
 
 -- a file that was written is open for writing, and another slot is open as it was
 pub is_written_to : (at : Slot) (name text : List ℕ) (a b : View) → WritesFile at name text a b → b.writes at ≡ true

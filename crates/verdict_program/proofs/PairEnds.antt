@@ -1,6 +1,6 @@
 -- A run of `same` over two graphs of one shape.
 use Rattle.std.proofs.Common.{ℕ, List, refl, ap, sym, subst, inl, inr}
-use Rattle.aiger_reader.specs.declared.stop.Stop.TheVariants as stop
+use Rattle.command_core.specs.declared.stop.Stop.TheVariants as stop
 use Rattle.command_line.specs.declared.command.Command.{Command}
 use Rattle.command_line.specs.declared.command.Command.TheVariants.{Same}
 use Rattle.mv_desk.specs.View.{View}

@@ -2,14 +2,15 @@
 use Rattle.std.proofs.Common.{ℕ, List, inl, inr}
 use Rattle.std.specs.Prelude.{IfSome}
 use Rattle.aiger_reader.specs.Refusals.{SpellsWithin}
-use Rattle.aiger_reader.specs.declared.stop.Stop.TheVariants as stop
+use Rattle.command_core.specs.Written.{FailsToWrite}
+use Rattle.command_core.specs.declared.stop.Stop.TheVariants as stop
 use Rattle.command_line.specs.declared.files.PairFiles.{PairFiles}
 use Rattle.graph_core.specs.Graph.{Aig}
 use Rattle.graph_core.specs.declared.profile.Profile.TheVariants.{Any}
 use Rattle.mv_desk.specs.View.{View, bytes_under}
 use Rattle.mv_desk.specs.declared.limits.Limits.{Limits}
 use Rattle.mv_desk.specs.declared.slot.Slot.TheVariants as slot
-use Rattle.same_core.specs.Deciding.{IsCompared, StopsAtClauses}
+use Rattle.same_core.specs.Deciding.{IsCompared}
 use Rattle.same_core.specs.Files.{ComparedFiles}
 use Rattle.same_core.specs.Merged.{AgreeOnInputs, AreOfOneShape}
 use Rattle.same_core.specs.declared.verdict.Same.{Same}
@@ -28,7 +29,7 @@ are_the_same a files g h spelled other_spelled shape agree =
     (λ bytes s. some_more (bytes_under a files.other) (λ more. SpellsWithin Any standard.graph more h) _ (λ more t. (g, h, s.spells, t.spells, shape, agree)) other_spelled) spelled
 
 module _ (limits : Limits) (conflicts : ℕ) (files : ComparedFiles) (a c : View) where
-  stopped_leaves : (lines : List ClauseLine) (b : View) → StopsAtClauses files.clauses lines b c → ReportStays b c
+  stopped_leaves : (lines : List ClauseLine) (b : View) → FailsToWrite slot.Clauses files.clauses (same_text lines) b c → ReportStays b c
   stopped_leaves lines b (inl none) = same_leaves b c none
   stopped_leaves lines b (inr w) = slot_leaves slot.Clauses no_clauses files.clauses w.writes.part b w.created c w.creates w.writes.writes
 

@@ -1,8 +1,8 @@
 -- What follows from a stop, whichever command has no answer of its own.
 use Rattle.std.proofs.Common.{◌≡◌, ◌∙◌, ℕ, refl, ap, subst, sym, arith, inl, inr}
-use Rattle.aiger_reader.specs.Stopping.{GivesDue, Interrupts, IsStop}
-use Rattle.aiger_reader.specs.declared.stop.Stop.{Stop}
-use Rattle.aiger_reader.specs.declared.stop.Stop.TheVariants as stop
+use Rattle.command_core.specs.Stopping.{GivesDue, Interrupts, IsStop}
+use Rattle.command_core.specs.declared.stop.Stop.{Stop}
+use Rattle.command_core.specs.declared.stop.Stop.TheVariants as stop
 use Rattle.mv_desk.specs.View.{View, Rose}
 use Rattle.verdict_program.specs.Stops.{status_of_stop}
 use Rattle.verdict_program.specs.Runs.{EndsAsDue}

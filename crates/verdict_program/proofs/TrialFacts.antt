@@ -9,21 +9,21 @@ use Rattle.graph_core.specs.Aiger.Writing.{ascii_text}
 use Rattle.graph_core.specs.declared.profile.Profile.TheVariants.{Multiplier as TwoOperands}
 use Rattle.graph_core.proofs.OfTexts.CallerLemmas.{one_graph}
 use Rattle.verdict_program.specs.declared.answer.Answer.TheVariants as answer
-use Rattle.verdict_program.specs.declared.plan.Plan.{Plan}
+use Rattle.verdict_program.specs.declared.sample.Sample.{Sample}
 use Rattle.verdict_program.specs.declared.tested.Tested.{Tested}
 use Rattle.verdict_program.specs.declared.tested.Tested.TheVariants as tested
 use Rattle.verdict_program.specs.Answer.{status_of, status_of_trial}
-use Rattle.verdict_program.specs.Making.{planned_graph}
+use Rattle.verdict_program.specs.Making.{sample_graph}
 use Rattle.verdict_program.specs.Runs.{EndsAsDue}
-use Rattle.verdict_program.specs.Trial.{IsAcceptedWith, IsTestDue, IsTested, IsUndecidedWith, OfMade, multiplier_of, plan_of, trial_task}
+use Rattle.verdict_program.specs.Trial.{IsAcceptedWith, IsTestDue, IsTested, IsUndecidedWith, OfMade, multiplier_of, sample_of, trial_task}
 use Rattle.verdict_program.proofs.Facts.{Facts}
 
 -- a frontier above the budget, and none
-undecided_not_due : (plan : Plan) (step size : ℕ) (n : Note) → OfMade plan (IsUndecidedWith step size n) →
-    OfMade plan (λ g. IsWithinBudget g trial_task.claim trial_task.budget) → ⊥
-undecided_not_due plan step size n h k =
+undecided_not_due : (sample : Sample) (step size : ℕ) (n : Note) → OfMade sample (IsUndecidedWith step size n) →
+    OfMade sample (λ g. IsWithinBudget g trial_task.claim trial_task.budget) → ⊥
+undecided_not_due sample step size n h k =
     let first : IsFirstAbove h.0 trial_task.claim trial_task.budget step size = h.2.first in
-    let within = subst (λ g. IsWithinBudget g trial_task.claim trial_task.budget) (one_graph TwoOperands (ascii_text (planned_graph plan)) k.0 h.0 k.1 h.1) k.2 in
+    let within = subst (λ g. IsWithinBudget g trial_task.claim trial_task.budget) (one_graph TwoOperands (ascii_text (sample_graph sample)) k.0 h.0 k.1 h.1) k.2 in
     let low = within step size first.size in
     let high = first.above in
     omega arith
@@ -32,12 +32,12 @@ module _ (number : ℕ) (a b : View) where
   abbrev Is : Tested → Type 0
   Is outcome = IsTested (multiplier_of number) outcome
 
-  zero : (outcome : Tested) → Is outcome → status_of_trial outcome ≡ 0 → (n : Note) × OfMade (plan_of number) (IsAcceptedWith n)
+  zero : (outcome : Tested) → Is outcome → status_of_trial outcome ≡ 0 → (n : Note) × OfMade (sample_of number) (IsAcceptedWith n)
   zero (tested.Accepted m n) h e = (n, h.1)
   zero (tested.Undecided m step size n) h e = absurd (omega arith)
   zero tested.Memory h e = absurd (omega arith)
 
-  five : (outcome : Tested) → Is outcome → status_of_trial outcome ≡ 5 → (step : ℕ) × (size : ℕ) × (n : Note) × OfMade (plan_of number) (IsUndecidedWith step size n)
+  five : (outcome : Tested) → Is outcome → status_of_trial outcome ≡ 5 → (step : ℕ) × (size : ℕ) × (n : Note) × OfMade (sample_of number) (IsUndecidedWith step size n)
   five (tested.Accepted m n) h e = absurd (omega arith)
   five (tested.Undecided m step size n) h e = (step, size, n, h.1)
   five tested.Memory h e = absurd (omega arith)
@@ -48,9 +48,9 @@ module _ (number : ℕ) (a b : View) where
   others (tested.Undecided m step size n) = ((λ e. absurd (omega arith)), (λ e. absurd (omega arith)), (λ e. absurd (omega arith)), (λ e. absurd (omega arith)))
   others tested.Memory = ((λ e. absurd (omega arith)), (λ e. absurd (omega arith)), (λ e. absurd (omega arith)), (λ e. absurd (omega arith)))
 
-  as_due : (due given : Tested) → IsTestDue (plan_of number) due → Is given → EndsAsDue (status_of_trial due) (status_of_trial given)
+  as_due : (due given : Tested) → IsTestDue (sample_of number) due → Is given → EndsAsDue (status_of_trial due) (status_of_trial given)
   as_due (tested.Accepted m n) (tested.Accepted l o) k h = inl refl
-  as_due (tested.Accepted m n) (tested.Undecided l step size o) k h = absurd (undecided_not_due (plan_of number) step size o h.1 k)
+  as_due (tested.Accepted m n) (tested.Undecided l step size o) k h = absurd (undecided_not_due (sample_of number) step size o h.1 k)
   as_due (tested.Accepted m n) tested.Memory k h = inr (inr (inr refl))
   as_due (tested.Undecided m step size n) given k h = absurd k
   as_due tested.Memory given k h = absurd k

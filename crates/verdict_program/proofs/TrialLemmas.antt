@@ -2,10 +2,10 @@
 use Rattle.std.proofs.Common.{◌≡◌, ◌≢◌, ℕ, ◌-◌, ◌^◌, ◌≤◌, List, length, Option, Some, refl, sym, ap, subst, ◌∙◌, arith, inl, inr, ⊎_elim, true≢false}
 use Rattle.std.specs.Prelude.{IfSome, IsSome, IsSomeAnd, ⊤, [], option_map, unwrap_or}
 use Rattle.aiger_reader.specs.Refusals.{SpellsWithin}
-use Rattle.aiger_reader.specs.Stopping.{GivesDue, Interrupts, IsGraphStop, IsStop}
-use Rattle.aiger_reader.specs.declared.stop.Stop.{Stop}
-use Rattle.aiger_reader.specs.declared.stop.Stop.TheVariants as stop
-use Rattle.aiger_reader.proofs.CallerLemmas.{due_or_interrupts, graph_exact}
+use Rattle.command_core.specs.Stopping.{GivesDue, Interrupts, IsGraphStop, IsStop}
+use Rattle.command_core.specs.declared.stop.Stop.{Stop}
+use Rattle.command_core.specs.declared.stop.Stop.TheVariants as stop
+use Rattle.command_core.proofs.CallerLemmas.{due_or_interrupts, graph_exact}
 use Rattle.graph_core.specs.Aiger.{Spells}
 use Rattle.graph_core.specs.Aiger.Writing.{ascii_text}
 use Rattle.graph_core.specs.Algebra.{Premises}
@@ -18,7 +18,7 @@ use Rattle.graph_maker.specs.declared.design.Design.TheVariants.{Multiplier}
 use Rattle.graph_core.proofs.OfTexts.CallerLemmas.{one_graph}
 use Rattle.joint_checker.specs.Certificates.{IsLawfulPair}
 use Rattle.joint_checker.specs.ClauseFiles.{ArePremisesOf, GivesPremises}
-use Rattle.joint_checker.specs.Files.{HasGraph, texts_of}
+use Rattle.command_core.specs.Files.{HasGraph, texts_of}
 use Rattle.joint_checker.specs.Outcome.{IsDue}
 use Rattle.joint_checker.specs.declared.checked.Checked.{Checked}
 use Rattle.joint_checker.specs.declared.checked.Checked.TheVariants as checked
@@ -26,7 +26,7 @@ use Rattle.joint_checker.specs.declared.checked.Refusal.{Refusal}
 use Rattle.joint_prover.specs.Notes.{IsNote, cut_of}
 use Rattle.joint_prover.specs.Pairs.{IsPairFor}
 use Rattle.joint_prover.specs.Verdicts.{HasNote, IsVerdict, IsWrong, IsWrongSum}
-use Rattle.joint_checker.specs.Written.{ReadsGraph, WritesFile, WritesPair}
+use Rattle.command_core.specs.Written.{ReadsGraph, WritesFile, WritesPair}
 use Rattle.joint_prover.specs.declared.note.Note.{Note}
 use Rattle.joint_prover.specs.declared.verdict.Tried.{Tried}
 use Rattle.joint_prover.specs.declared.verdict.Verdict.{Verdict}
@@ -41,9 +41,9 @@ use Rattle.ripple_graft.specs.declared.cut.Cut.{Cut}
 use Rattle.std.specs.declared.vec.Vec.{Vec}
 use Rattle.std.specs.Global.{Global}
 use Rattle.verdict_program.specs.declared.made.Made.TheVariants as answered
-use Rattle.verdict_program.specs.declared.plan.Plan.{Plan}
+use Rattle.verdict_program.specs.declared.sample.Sample.{Sample}
 use Rattle.verdict_program.specs.Making as making
-use Rattle.verdict_program.specs.Making.{planned_graph, text_for}
+use Rattle.verdict_program.specs.Making.{sample_graph, text_for}
 use Rattle.verdict_program.specs.Runs.{SpellsAsClaimed}
 use Rattle.verdict_program.specs.Trial.{HoldsGraph, HoldsTrial, IsAcceptedWith, IsOfMemory, OfMade, no_limits, trial_files, trial_task}
 use Rattle.verdict_program.proofs.MakingLemmas.{design_spells}
@@ -69,16 +69,16 @@ note_of_some g n noted P same h = subst (λ o. IsSomeAnd o (λ m. IsNote g trial
 -- ---- the graph file
 
 -- what was made and written is held
-pub made_is_held : (d e : HonestDesk) (plan : Plan) (g : Aig) (name : List ℕ) → name ≡ trial_files.graph → g ≡ planned_graph plan →
-    making.WritesGraphFile name (text_for name g) (view_of d) (view_of e) → HoldsGraph (view_of e) plan
-made_is_held d e plan g name same_name same_graph w =
-    let at = subst (λ h. making.WritesGraphFile trial_files.graph (text_for trial_files.graph h) (view_of d) (view_of e)) same_graph
-    (subst (λ n. making.WritesGraphFile n (text_for n g) (view_of d) (view_of e)) same_name w) in
-    let file : WritesFile slot.Graph trial_files.graph (ascii_text (planned_graph plan)) (view_of d) (view_of e) =
+pub made_is_held : (d e : HonestDesk) (sample : Sample) (g : Aig) (name : List ℕ) → name ≡ trial_files.graph → g ≡ sample_graph sample →
+    WritesFile slot.Graph name (text_for name g) (view_of d) (view_of e) → HoldsGraph (view_of e) sample
+made_is_held d e sample g name same_name same_graph w =
+    let at = subst (λ h. WritesFile slot.Graph trial_files.graph (text_for trial_files.graph h) (view_of d) (view_of e)) same_graph
+    (subst (λ n. WritesFile slot.Graph n (text_for n g) (view_of d) (view_of e)) same_name w) in
+    let file : WritesFile slot.Graph trial_files.graph (ascii_text (sample_graph sample)) (view_of d) (view_of e) =
     record { created = at.created; creates = at.creates; writes = at.writes } in
-    let opened = is_written_to slot.Graph trial_files.graph (ascii_text (planned_graph plan)) (view_of d) (view_of e) file in
+    let opened = is_written_to slot.Graph trial_files.graph (ascii_text (sample_graph sample)) (view_of d) (view_of e) file in
     ap (option_map (λ x. unwrap_or x []))
-    (file_is_held slot.Graph trial_files.graph (ascii_text (planned_graph plan)) (view_of d) (view_of e) file ((honest_tells e).named slot.Graph opened) ((honest_tells d).held trial_files.graph))
+    (file_is_held slot.Graph trial_files.graph (ascii_text (sample_graph sample)) (view_of d) (view_of e) file ((honest_tells e).named slot.Graph opened) ((honest_tells d).held trial_files.graph))
 
 -- else memory was wanted
 pub write_refused : (name text : List ℕ) (a b : View) (why : Stop) → making.IsMade text name a b (answered.Stopped why) → IsOfMemory why
@@ -90,22 +90,22 @@ write_refused name text a b (stop.TooLong at) h = absurd h
 
 -- ---- the verdict
 
-module _ (plan : Plan) (some : 1 ≤ plan.bits) (narrow : plan.bits ≤ 64) (a b : View) (noted : Option Note)
-    (held : HoldsGraph a plan) (short : length (ascii_text (planned_graph plan)) ≤ 2 ^ 64 - 1) where
+module _ (sample : Sample) (some : 1 ≤ sample.bits) (narrow : sample.bits ≤ 64) (a b : View) (noted : Option Note)
+    (held : HoldsGraph a sample) (short : length (ascii_text (sample_graph sample)) ≤ 2 ^ 64 - 1) where
   abbrev text : List ℕ
-  text = ascii_text (planned_graph plan)
+  text = ascii_text (sample_graph sample)
 
   abbrev Is : Verdict → Type 0
   Is v = IsVerdict no_limits.graph trial_task trial_files a b v noted
 
-  made : SpellsAsClaimed (product_under Separate) plan.bits text
-  made = design_spells (Multiplier plan.kind) plan.bits plan.adder trial_files.graph some narrow
+  made : SpellsAsClaimed (product_under Separate) sample.bits text
+  made = design_spells (Multiplier sample.kind) sample.bits sample.adder trial_files.graph some narrow
 
   within : SpellsWithin TwoOperands no_limits.graph text made.0
   within = record { short = short; spells = made.1 }
 
   -- of the graph that the file spells
-  of_file : (P : Aig → Type 0) → HasGraph TwoOperands no_limits.graph (bytes_under a trial_files.graph) P → OfMade plan P
+  of_file : (P : Aig → Type 0) → HasGraph TwoOperands no_limits.graph (bytes_under a trial_files.graph) P → OfMade sample P
   of_file P h =
       let spelled = subst (λ o. IfSome o (λ bytes. SpellsWithin TwoOperands no_limits.graph bytes h.0)) held h.1 in
       (h.0, spelled.spells, h.2)
@@ -154,7 +154,7 @@ module _ (plan : Plan) (some : 1 ≤ plan.bits) (narrow : plan.bits ≤ 64) (a b
     abbrev bytes : Option (Option (List ℕ)) → Option (List ℕ)
     bytes = option_map (λ x. unwrap_or x [])
 
-    pub held_trial : (n : Note) → noted ≡ Some n → HoldsGraph b plan × HoldsTrial b n
+    pub held_trial : (n : Note) → noted ≡ Some n → HoldsGraph b sample × HoldsTrial b n
     held_trial n same =
         let note = note_of_some h.0 n noted Wrote same h.2.1 in
         let wrote = note.1 in
@@ -180,7 +180,7 @@ module _ (plan : Plan) (some : 1 ≤ plan.bits) (narrow : plan.bits ≤ 64) (a b
 
 -- ---- the check
 
-module _ (plan : Plan) (v : View) (n : Note) (held : HoldsGraph v plan) (h : HoldsTrial v n)
+module _ (sample : Sample) (v : View) (n : Note) (held : HoldsGraph v sample) (h : HoldsTrial v n)
     (clauses_short : length h.clause_file ≤ 2 ^ 64 - 1) (algebra_short : length h.algebra_file ≤ 2 ^ 64 - 1) where
   lawful : IsLawfulPair (lengths_of no_limits) h.graph (product_under Separate) h.clause_file h.algebra_file
   lawful = h.pair (lengths_of no_limits) (within_no_limits h.clause_file clauses_short) (within_no_limits h.algebra_file algebra_short)
@@ -217,9 +217,9 @@ module _ (plan : Plan) (v : View) (n : Note) (held : HoldsGraph v plan) (h : Hol
         go (inl same) = cc
         go (inr h) = let other = h.1 in cc
 
-  pub accepted_of_made : OfMade plan (IsAcceptedWith n)
+  pub accepted_of_made : OfMade sample (IsAcceptedWith n)
   accepted_of_made =
-      let same : h.graph_file ≡ ascii_text (planned_graph plan) = ap (λ o. unwrap_or o []) (sym h.graph_held ∙ held) in (
+      let same : h.graph_file ≡ ascii_text (sample_graph sample) = ap (λ o. unwrap_or o []) (sym h.graph_held ∙ held) in (
         h.graph,
         subst (λ bytes. Spells TwoOperands bytes h.graph) same h.spells.spells,
         record {

@@ -1,12 +1,12 @@
 -- What follows from an answer of `trim`.
 use Rattle.std.proofs.Common.{◌≡◌, refl, subst, sym, arith, inl, inr}
-use Rattle.aiger_reader.specs.declared.stop.Stop.TheVariants as stop
+use Rattle.command_core.specs.declared.stop.Stop.TheVariants as stop
 use Rattle.command_line.specs.Asked.{LeavesFiles}
 use Rattle.command_line.specs.declared.command.Command.TheVariants.{Check, Trim}
 use Rattle.command_line.specs.declared.files.Files as named
 use Rattle.command_line.specs.declared.files.TrimFiles.{TrimFiles}
 use Rattle.graph_core.specs.declared.claim.Claim.{Claim}
-use Rattle.joint_checker.specs.Files.{texts_of}
+use Rattle.command_core.specs.Files.{texts_of}
 use Rattle.joint_checker.specs.Outcome.{IsOutcome}
 use Rattle.joint_checker.specs.declared.checked.Checked.{Checked}
 use Rattle.joint_checker.specs.declared.checked.Checked.TheVariants as checked

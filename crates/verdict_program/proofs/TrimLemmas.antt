@@ -1,8 +1,8 @@
 -- What `trim` does to the report.
 use Rattle.std.proofs.Common.{◌≡◌, ◌≢◌, ℕ, List, inl, inr}
-use Rattle.aiger_reader.specs.declared.stop.Stop.TheVariants as stop
+use Rattle.command_core.specs.declared.stop.Stop.TheVariants as stop
 use Rattle.graph_core.specs.declared.claim.Claim.{Claim}
-use Rattle.joint_checker.specs.Written.{StopsAt, StopsWriting, WritesFile}
+use Rattle.command_core.specs.Written.{StopsAt, StopsWriting, WritesFile}
 use Rattle.mv_desk.specs.View.{View}
 use Rattle.mv_desk.specs.declared.limits.Limits.{Limits}
 use Rattle.mv_desk.specs.declared.slot.Slot.{Slot}

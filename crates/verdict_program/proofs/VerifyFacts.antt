@@ -1,12 +1,11 @@
 -- What follows from an answer of `verify`.
 use Rattle.std.proofs.Common.{◌≡◌, ℕ, List, Option, Some, None, refl, subst, sym, arith, inl, inr}
 use Rattle.std.specs.Prelude.{⊤}
-use Rattle.command_line.specs.Asked.{HaveDistinctNames}
 use Rattle.command_line.specs.declared.command.Command.TheVariants.{Verify}
 use Rattle.command_line.specs.declared.files.Files as named
 use Rattle.graph_core.specs.Graph.Operands.{profile_of}
 use Rattle.graph_core.specs.declared.claim.Claim.{Claim}
-use Rattle.joint_checker.specs.Files.{HasGraph}
+use Rattle.command_core.specs.Files.{AreDistinct, HasGraph}
 use Rattle.joint_prover.specs.declared.note.Note.{Note}
 use Rattle.joint_prover.specs.declared.verdict.Tried.{Tried}
 use Rattle.joint_prover.specs.Notes.{IsNote, cut_of}
@@ -24,7 +23,7 @@ use Rattle.verdict_program.specs.Runs.{DiffersSomewhere, EndsAsDue, TellsHeld, T
 use Rattle.verdict_program.proofs.Facts.{Facts}
 use Rattle.verdict_program.proofs.StopFacts.{gives_as_due, is_read_fault, is_write_fault, stop_is_apart}
 
-module _ (files : named.Files) (claim : Claim) (budget conflicts version : ℕ) (a b : View) (apart : HaveDistinctNames files) (noted : Option Note) where
+module _ (files : named.Files) (claim : Claim) (budget conflicts version : ℕ) (a b : View) (apart : AreDistinct files.graph files.clauses files.algebra) (noted : Option Note) where
   abbrev Is : Verdict → Type 0
   Is outcome = IsVerdict standard.graph (task_asked claim budget conflicts version) (files_asked files) a b outcome noted
 
@@ -38,7 +37,7 @@ module _ (files : named.Files) (claim : Claim) (budget conflicts version : ℕ) 
   zero : (outcome : Verdict) → Is outcome → status_of_verify outcome ≡ 0 → TellsHeld a → TellsNames a → HoldsPair (task_asked claim budget conflicts version) (files_asked files) b standard.graph noted
   zero verdict.Proved h e told names =
       proved_pairs_are_held standard.graph (task_asked claim budget conflicts version) (files_asked files) a b noted (record { held = told; names = names })
-      (record { clauses = apart.clauses; algebra = apart.algebra; certificates = apart.certificates }) h
+      apart h
   zero (verdict.Wrong x y value product) h e told names = absurd (omega arith)
   zero (verdict.WrongSum x y z value sum) h e told names = absurd (omega arith)
   zero (verdict.Undecided tried step size) h e told names = absurd (omega arith)

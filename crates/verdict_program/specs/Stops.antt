@@ -10,8 +10,8 @@ use Rattle.graph_core.specs.declared.fault.GraphFault.TheVariants as fault
 use Rattle.graph_core.specs.declared.literal.Lit.{Lit}
 use Rattle.mv_desk.specs.declared.slot.Slot.{Slot}
 use Rattle.mv_desk.specs.declared.slot.Slot.TheVariants as slot
-use Rattle.aiger_reader.specs.declared.stop.Stop.{Stop}
-use Rattle.aiger_reader.specs.declared.stop.Stop.TheVariants as stop
+use Rattle.command_core.specs.declared.stop.Stop.{Stop}
+use Rattle.command_core.specs.declared.stop.Stop.TheVariants as stop
 
 abbrev pub line : List ℕ → List ℕ
 line text = text ++ newline ∷ []

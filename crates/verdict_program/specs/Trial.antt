@@ -1,7 +1,7 @@
 -- Which multiplier a number names, what `trial` says of it, and when.
 use Rattle.std.specs.Prelude.{◌≡◌, ℕ, ◌+◌, ◌-◌, ◌/◌, ◌%◌, ◌^◌, ◌==◌, List, Some, codes, length, if◌then◌else◌, ⊤}
-use Rattle.aiger_reader.specs.declared.stop.Stop.{Stop}
-use Rattle.aiger_reader.specs.declared.stop.Stop.TheVariants as stop
+use Rattle.command_core.specs.declared.stop.Stop.{Stop}
+use Rattle.command_core.specs.declared.stop.Stop.TheVariants as stop
 use Rattle.command_line.specs.Asked.{default_budget, default_conflicts}
 use Rattle.graph_core.specs.Aiger.{Spells}
 use Rattle.graph_core.specs.Aiger.Writing.{ascii_text}
@@ -14,7 +14,7 @@ use Rattle.graph_maker.specs.declared.adder.Adder.TheVariants.{Ripple, Kogge, Sk
 use Rattle.graph_maker.specs.declared.kind.Kind.{Kind}
 use Rattle.graph_maker.specs.declared.kind.Kind.TheVariants.{Array, Dadda}
 use Rattle.joint_checker.specs.Certificates.{IsLawfulPair}
-use Rattle.joint_checker.specs.Files.{Files}
+use Rattle.command_core.specs.Files.{Files}
 use Rattle.joint_prover.specs.Notes.{IsNote, cut_of}
 use Rattle.joint_prover.specs.Pairs.{IsPairFor}
 use Rattle.joint_prover.specs.Tries.{AreTried, IsWithinBudget}
@@ -25,8 +25,8 @@ use Rattle.joint_prover.specs.declared.verdict.Tried.{Tried}
 use Rattle.mv_desk.specs.View.{View, bytes_under}
 use Rattle.mv_desk.specs.declared.limits.Limits.{Limits}
 use Rattle.mv_text.specs.LineReading.{lengths_of}
-use Rattle.verdict_program.specs.Making.{planned_graph}
-use Rattle.verdict_program.specs.declared.plan.Plan.{Plan}
+use Rattle.verdict_program.specs.Making.{sample_graph}
+use Rattle.verdict_program.specs.declared.sample.Sample.{Sample}
 use Rattle.verdict_program.specs.declared.tested.Multiplier.{Multiplier}
 use Rattle.verdict_program.specs.declared.tested.Tested.{Tested}
 use Rattle.verdict_program.specs.declared.tested.Tested.TheVariants.{Accepted, Undecided, Memory}
@@ -40,12 +40,12 @@ abbrev pub adder_of : ℕ → Adder
 adder_of number = if number / 2 % 3 == 0 then Ripple else (if number / 2 % 3 == 1 then Kogge else Sklansky)
 
 -- the multiplier that a number names
-abbrev pub plan_of : ℕ → Plan
-plan_of number = record { kind = kind_of number; bits = 1 + number / 6 % 64; adder = adder_of number }
+abbrev pub sample_of : ℕ → Sample
+sample_of number = record { kind = kind_of number; bits = 1 + number / 6 % 64; adder = adder_of number }
 
 -- with how many gates it has
 abbrev pub multiplier_of : ℕ → Multiplier
-multiplier_of number = record { plan = plan_of number; gates = length (planned_graph (plan_of number)).gates }
+multiplier_of number = record { sample = sample_of number; gates = length (sample_graph (sample_of number)).gates }
 
 -- ---- what is said of it
 
@@ -58,8 +58,8 @@ abbrev pub no_limits : Limits
 no_limits = record { graph = 2 ^ 64 - 1; certificate = 2 ^ 64 - 1; line = 2 ^ 64 - 1 }
 
 -- Something holds of the graph that the made graph's ascii text spells.
-abbrev pub OfMade : Plan → (Aig → Type 0) → Type 0
-OfMade plan P = (g : Aig) × Spells TwoOperands (ascii_text (planned_graph plan)) g × P g
+abbrev pub OfMade : Sample → (Aig → Type 0) → Type 0
+OfMade sample P = (g : Aig) × Spells TwoOperands (ascii_text (sample_graph sample)) g × P g
 
 -- The graph multiplies, the note has its cause, and there is a lawful pair of certificates: the pair that is written with the note's cut.
 pub record IsAcceptedWith (note : Note) (g : Aig) : Type 0 where
@@ -80,14 +80,14 @@ pub record IsUndecidedWith (step size : ℕ) (note : Note) (g : Aig) : Type 0 wh
 
 -- Where each answer comes, and of which multiplier.
 abbrev pub IsTested : Multiplier → Tested → Type 0
-IsTested asked (Accepted multiplier note) = (multiplier ≡ asked) × OfMade asked.plan (IsAcceptedWith note)
-IsTested asked (Undecided multiplier step size note) = (multiplier ≡ asked) × OfMade asked.plan (IsUndecidedWith step size note)
+IsTested asked (Accepted multiplier note) = (multiplier ≡ asked) × OfMade asked.sample (IsAcceptedWith note)
+IsTested asked (Undecided multiplier step size note) = (multiplier ≡ asked) × OfMade asked.sample (IsUndecidedWith step size note)
 IsTested asked Memory = ⊤
 
 -- The answer that is due: acceptance, where no frontier of the plain order is above the budget.
-abbrev pub IsTestDue : Plan → Tested → Type 0
-IsTestDue plan (Accepted m n) = OfMade plan (λ g. IsWithinBudget g trial_task.claim trial_task.budget)
-IsTestDue plan _ = ⊥
+abbrev pub IsTestDue : Sample → Tested → Type 0
+IsTestDue sample (Accepted m n) = OfMade sample (λ g. IsWithinBudget g trial_task.claim trial_task.budget)
+IsTestDue sample _ = ⊥
 
 -- ---- private clauses alone cite what follows
 
@@ -102,8 +102,8 @@ abbrev pub trial_files : Files
 trial_files = record { graph = codes "graph"; clauses = codes "clauses"; algebra = codes "algebra" }
 
 -- the graph file is held
-abbrev pub HoldsGraph : View → Plan → Type 0
-HoldsGraph view plan = bytes_under view trial_files.graph ≡ Some (ascii_text (planned_graph plan))
+abbrev pub HoldsGraph : View → Sample → Type 0
+HoldsGraph view sample = bytes_under view trial_files.graph ≡ Some (ascii_text (sample_graph sample))
 
 -- and a lawful pair of certificates for what it spells
 abbrev pub HoldsTrial : View → Note → Type 0

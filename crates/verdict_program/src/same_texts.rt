@@ -1,11 +1,13 @@
 // The texts of reports on two graphs.
 ghost use Rattle.std.specs.Prelude.{◌≡◌, ◌≤◌, ◌+◌, ◌++◌, [], ◌∷◌, codes, length, map, take};
+ghost use Rattle.graph_core.specs.declared.bounds.TheConstants.{MOST_INPUTS};
 ghost use Rattle.verdict_program.specs.Answer.{digit_of, input_digits, report_of_judged, report_of_same, shapes_line};
 ghost use Rattle.verdict_program.specs.Stops.{line};
 
 use crate::report::Report;
 use crate::report_texts::clauses_report;
 use crate::stop::stop_report;
+use graph_core::MOST_INPUTS;
 use same_core::{Same, SameChecked, SameRefusal};
 
 /// The line that reports what `same` says.
@@ -53,7 +55,7 @@ fn differs_report(inputs: &[bool]) -> Report
     ensures { result ≡ codes "differs input=" ++ input_digits inputs.now ++ line [] }
 {
     let mut report = Report::of("differs input=");
-    push_bits(&mut report, front(inputs, 256));
+    push_bits(&mut report, front(inputs, MOST_INPUTS));
     report.push("\n");
     report
 }
@@ -71,10 +73,10 @@ fn front(bits: &[bool], most: usize) -> &[bool]
 }
 
 fn push_bits(report: &mut Report, bits: &[bool])
-    requires few { length bits.now ≤ 256 }
+    requires few { length bits.now ≤ MOST_INPUTS }
     requires room { length report.old ≤ 128 }
     ensures text { report.new ≡ report.old ++ map digit_of bits.now }
-    ensures short { length report.new ≤ length report.old + 256 }
+    ensures short { length report.new ≤ length report.old + MOST_INPUTS }
 {
     for bit in bits {
         report.push(digit(*bit));

@@ -1,11 +1,12 @@
 // The report and the status of what all commands have in common: why one has no answer of its own.
 ghost use Rattle.std.specs.Prelude.{◌≡◌, ◌≤◌, length};
-ghost use Rattle.aiger_reader.specs.declared.stop.Stop.TheVariants as stop;
+ghost use Rattle.command_core.specs.declared.stop.Stop.TheVariants as stop;
 ghost use Rattle.verdict_program.specs.Stops.{name_of_slot, prefix_of, report_of_stop, status_of_stop};
 
 use crate::graph_texts::graph_report;
 use crate::report::Report;
-use aiger_reader::{ReadFail, Stop};
+use aiger_reader::ReadFail;
+use command_core::Stop;
 use mv_desk::Slot;
 
 /// The line that reports it.

@@ -1,11 +1,11 @@
 // The ends of a trial.
-use crate::plan::Plan;
+use crate::sample::Sample;
 use joint_prover::Note;
 
 /// A multiplier that was made.
 #[derive(Clone, Copy)]
 pub struct Multiplier {
-    pub plan: Plan,
+    pub sample: Sample,
     /// how many gates it has
     pub gates: u64,
 }

@@ -2,10 +2,10 @@
 ghost use Rattle.std.specs.Prelude.{◌≡◌, ◌<◌, ◌≤◌, ◌^◌, [], length, unwrap_or};
 ghost use Rattle.graph_core.specs.Aiger.{IsPacked};
 ghost use Rattle.graph_core.specs.Aiger.Writing.{written};
-ghost use Rattle.joint_checker.specs.Files.{files_of};
+ghost use Rattle.command_core.specs.Files.{files_of};
 ghost use Rattle.mv_desk.specs.HonestDesk.{held_of};
 ghost use Rattle.verdict_program.specs.declared.tested.Tested.TheVariants.{Memory};
-ghost use Rattle.verdict_program.specs.Making.{planned_graph};
+ghost use Rattle.verdict_program.specs.Making.{sample_graph};
 ghost use Rattle.graph_core.specs.Graph.Operands.{product_under};
 ghost use Rattle.graph_core.specs.declared.order.Order.TheVariants.{Separate};
 ghost use Rattle.joint_prover.specs.Verdicts.{IsVerdict};
@@ -13,15 +13,15 @@ ghost use Rattle.verdict_program.specs.Trial.{HoldsGraph, HoldsTrial, IsOfMemory
 
 use crate::made::Made;
 use crate::make_file::create_file;
-use crate::plan::plan_of;
+use crate::sample::sample_of;
 use crate::tested::{Multiplier, Tested};
-use aiger_reader::Stop;
+use command_core::{Names, Stop};
 use command_line::{BUDGET, CONFLICTS};
 use graph_core::{Claim, Graph, Order, Sign};
 use graph_maker::make;
 use joint_checker::{Checked, check};
 use joint_prover::{Note, Task, Verdict, verify};
-use mv_desk::{Desk, HonestDesk, Limits, Names};
+use mv_desk::{Desk, HonestDesk, Limits};
 use std::alloc::Global;
 
 // As long as a file in memory can be.
@@ -43,11 +43,11 @@ const PRODUCT: Claim = Claim {
 pub fn trial(alloc: Global, number: u64) -> Tested
     ensures { IsTested (multiplier_of number) result }
 {
-    let plan = plan_of(number);
-    match make(alloc, plan.kind, plan.bits, plan.adder) {
+    let sample = sample_of(number);
+    match make(alloc, sample.kind, sample.bits, sample.adder) {
         Ok(graph) => {
             let gates = graph.gates().len() as u64;
-            test(alloc, Multiplier { plan, gates }, &graph)
+            test(alloc, Multiplier { sample, gates }, &graph)
         }
         Err(_) => Tested::Memory,
     }
@@ -55,10 +55,10 @@ pub fn trial(alloc: Global, number: u64) -> Tested
 
 // The verdict on a made graph, and the check.
 fn test(alloc: Global, multiplier: Multiplier, graph: &Graph) -> Tested
-    requires made { graph.now ≡ planned_graph multiplier.plan }
+    requires made { graph.now ≡ sample_graph multiplier.sample }
     requires packed { IsPacked (written graph.now) }
-    requires some { 1 ≤ multiplier.plan.bits }
-    requires narrow { multiplier.plan.bits ≤ 64 }
+    requires some { 1 ≤ multiplier.sample.bits }
+    requires narrow { multiplier.sample.bits ≤ 64 }
     ensures { IsTested multiplier result }
 {
     let mut desk = HonestDesk::new(alloc);
@@ -70,9 +70,9 @@ fn test(alloc: Global, multiplier: Multiplier, graph: &Graph) -> Tested
 
 // The verdict on the graph that a desk holds, and where it is proved the check.
 fn judge(alloc: Global, desk: &mut HonestDesk, multiplier: Multiplier) -> Tested
-    requires held { HoldsGraph (⟦<HonestDesk as Desk>⟧.seen desk.old) multiplier.plan }
-    requires some { 1 ≤ multiplier.plan.bits }
-    requires narrow { multiplier.plan.bits ≤ 64 }
+    requires held { HoldsGraph (⟦<HonestDesk as Desk>⟧.seen desk.old) multiplier.sample }
+    requires some { 1 ≤ multiplier.sample.bits }
+    requires narrow { multiplier.sample.bits ≤ 64 }
     ensures { IsTested multiplier result }
 {
     let names = names();
@@ -111,7 +111,7 @@ fn verdict_on(alloc: Global, desk: &mut HonestDesk, names: &Names<'_>) -> (Verdi
 
 // The check of the certificates that a desk holds.
 fn check_pair(alloc: Global, desk: &mut HonestDesk, multiplier: Multiplier, note: Note) -> Tested
-    requires made { HoldsGraph (⟦<HonestDesk as Desk>⟧.seen desk.old) multiplier.plan }
+    requires made { HoldsGraph (⟦<HonestDesk as Desk>⟧.seen desk.old) multiplier.sample }
     requires pair { HoldsTrial (⟦<HonestDesk as Desk>⟧.seen desk.old) note }
     ensures { IsTested multiplier result }
 {

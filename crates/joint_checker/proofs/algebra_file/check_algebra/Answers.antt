@@ -14,7 +14,7 @@ use Rattle.graph_core.specs.Algebra.{modulus}
 use Rattle.poly_text.specs.Recorded.{lines_in}
 use Rattle.joint_checker.specs.Records.{IsRecordOf}
 use Rattle.joint_checker.specs.declared.algebra_file.Closed.{Closed}
-use Rattle.joint_checker.proofs.NamesTold.{opened_told}
+use Rattle.command_core.proofs.CallerLemmas.{opened_told}
 use Rattle.joint_checker.proofs.algebra_file.check_algebra.Goals as goal
 
 pub returns-in-Ok-clause-lawful : goal.returns-in-Ok-clause-lawful

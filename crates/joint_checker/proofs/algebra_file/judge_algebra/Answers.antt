@@ -1,4 +1,4 @@
-use Rattle.std.proofs.Common.{◌≡◌, ℕ, List, ap, refl, sym, subst, ◌∙◌}
+use Rattle.std.proofs.Common.{rules, ◌≡◌, ◌≤◌, ℕ, List, ap, length, refl, sym, subst, ◌∙◌}
 use Rattle.std.specs.Option.{IfSome}
 use Rattle.std.proofs.lemmas.Result.{err_from_is_err_and}
 use Rattle.graph_core.specs.Algebra.{AreLawful, Line, Premises, beginning, modulus, specification}
@@ -18,6 +18,7 @@ use Rattle.joint_checker.specs.AlgebraBody.{IsBodyFail, IsLawfulBody}
 use Rattle.mv_text.specs.CertificateFiles.{left_of_file}
 use Rattle.joint_checker.specs.ClauseFiles.{importable, premises}
 use Rattle.joint_checker.specs.Shown.{premises_of}
+use Rattle.joint_checker.proofs.AlgebraTurns.{begins}
 use Rattle.joint_checker.proofs.AlgebraFiles.{body_fails, header_fails, text_is_lawful}
 use Rattle.joint_checker.proofs.Joined.{all_imported}
 use Rattle.joint_checker.proofs.Recording.{body_at, text_is_recorded}
@@ -36,10 +37,15 @@ new-requires-clause-few g c = (outputs_of c.args.claim.add c.args.shown.now.exte
 
 pub judge_lines-requires-clause-begins : goal.judge_lines-requires-clause-begins
 judge_lines-requires-clause-begins g c =
-    let known = ledger_of c.in_ok-checker.checker in
-    let version = c.in-Ok.file.version in
-    subst (λ (e : Extended). LedgersAgree known (beginning (premises version e c.in_ok-checker.checker.added))) (sym c.in_ok-checker.ensures.extended)
-    (subst (λ (cs : List Clause). LedgersAgree known (beginning (premises version c.args.shown.now.extended cs))) (sym c.in_ok-checker.ensures.added) (c.in_ok-checker.ensures.axioms version))
+    let k = c.in_ok-checker.checker in
+    let file = c.in-Ok.file in
+    let few = (outputs_of c.args.claim.add c.args.shown.now.extended.graph c.requires.sized).1 in (
+      begins k file (g.D.Desk.seen c.start.new.desk) (search rules) (search rules) (subst (λ (e : Extended). length e.graph.outputs ≤ 128) (sym c.in_ok-checker.ensures.extended) few)
+          (subst (λ (e : Extended). LedgersAgree (ledger_of k) (beginning (premises file.version e k.added))) (sym c.in_ok-checker.ensures.extended)
+          (subst (λ (cs : List Clause). LedgersAgree (ledger_of k) (beginning (premises file.version c.args.shown.now.extended cs))) (sym c.in_ok-checker.ensures.added) (c.in_ok-checker.ensures.axioms file.version)))
+          c.in_ok-checker.ensures.recorded,
+      c.max.ensures.value ∙ ap (λ e. e.max) (sym c.in_ok-checker.ensures.extended),
+    )
 
 pub new-requires-clause-facts : goal.new-requires-clause-facts
 new-requires-clause-facts g c =
@@ -80,7 +86,7 @@ returns-clause-lawful g c =
     let same_premises = made file.version shown.header.version checker.extended e checker.added (importable shown.header.version shown.recorded.added) c.in-Ok.ensures.file.version_is c.in_ok-checker.ensures.extended
     (c.in_ok-checker.ensures.added ∙ c.imports-added.ensures) in
     text_is_lawful (lengths_of c.args.limits.now) p sides file c.in-Ok.ensures.file.lengths (before.left slot.Algebra) behind c.in-Ok.ensures.header
-    (subst (λ (s : Sides). IfSome behind (IsLawfulBody p s file.lines)) same_sides (subst (λ (x : Premises). IfSome behind (IsLawfulBody x checker.sides file.lines)) same_premises c.in_ok-closing.ensures.lawful))
+    (subst (λ (s : Sides). IfSome behind (IsLawfulBody p s file.lines)) same_sides (subst (λ (x : Premises). IfSome behind (IsLawfulBody x checker.sides file.lines)) same_premises c.in_ok-closing.ensures.judged.lawful))
 
 pub returns-clause-vanishes : goal.returns-clause-vanishes
 returns-clause-vanishes g c =
@@ -89,7 +95,7 @@ returns-clause-vanishes g c =
     let same_sides : checker.sides ≡ sides_for c.args.claim e.graph =
     c.in_ok-checker.ensures.sides ∙ c.in_ok-operands.ensures ∙ ap (λ x. sides_for c.args.claim x) c.graph.ensures in
     subst (λ (s : Sides). Always e.gates (λ σ. specification e s σ ≡ 0)) same_sides
-    (subst (λ (x : Extended). Always x.gates (λ σ. specification x checker.sides σ ≡ 0)) c.in_ok-checker.ensures.extended c.in_ok-closing.ensures.vanishes)
+    (subst (λ (x : Extended). Always x.gates (λ σ. specification x checker.sides σ ≡ 0)) c.in_ok-checker.ensures.extended c.in_ok-closing.ensures.judged.vanishes)
 
 pub returns-in_err-closing-clause-refused : goal.returns-in_err-closing-clause-refused
 returns-in_err-closing-clause-refused g c =
@@ -112,7 +118,7 @@ returns-in_err-closing-clause-refused g c =
     rw (same.1, same.2)
     (body_fails (lengths_of c.args.limits.now) p sides file c.in-Ok.ensures.file.lengths (before.left slot.Algebra) behind c.in-Ok.ensures.header before middle now answer c.in-Ok.ensures.reads.only.later
     (subst (λ (s : Sides). IsBodyFail p s file.lines behind middle now answer) same_sides
-    (subst (λ (x : Premises). IsBodyFail x checker.sides file.lines behind middle now answer) same_premises c.in_err-closing.ensures.refused)))
+    (subst (λ (x : Premises). IsBodyFail x checker.sides file.lines behind middle now answer) same_premises c.in_err-closing.ensures.judged)))
 
 pub returns-clause-recorded : goal.returns-clause-recorded
 returns-clause-recorded g c = λ yes.
@@ -121,15 +127,15 @@ returns-clause-recorded g c = λ yes.
     let p = premises_of shown in
     let sides = sides_for c.args.claim e.graph in
     let checker = c.in_ok-checker.checker in
-    let end = c.judge_lines.new.checker in
+    let end = c.judge_lines.new.judge.checker in
     let record_of = c.into_record.result in
     let id = c.in_ok-closing.closing.id in
     let same_sides : checker.sides ≡ sides =
     c.in_ok-checker.ensures.sides ∙ c.in_ok-operands.ensures ∙ ap (λ x. sides_for c.args.claim x) c.graph.ensures in
     let same_premises = made shown.header.version shown.header.version checker.extended e checker.added (importable shown.header.version shown.recorded.added) refl c.in_ok-checker.ensures.extended
     (c.in_ok-checker.ensures.added ∙ c.imports-added.ensures) in
-    let same_extended = c.in_ok-closing.ensures.extended ∙ c.in_ok-checker.ensures.extended in
-    let closes = c.in_ok-closing.ensures.closes in
+    let same_extended = c.in_ok-closing.ensures.judged.extended ∙ c.in_ok-checker.ensures.extended in
+    let closes = c.in_ok-closing.ensures.judged.closes in
     record {
       lawful = subst (λ (ls : List Line). AreLawful p sides ls id) (sym c.into_record.ensures.lines)
           (subst (λ (s : Sides). AreLawful p s end.recorded id) same_sides
@@ -154,5 +160,5 @@ returns-clause-told g c =
     let closing = c.in_ok-closing.closing in
     let lines = lines_in record_of.terms record_of.lines.items in
     text_is_recorded c.args.records shown.header.version (modulus shown.extended) lines closing.id closing.lines file (before.left slot.Algebra) behind c.in-Ok.ensures.header
-    (body_at c.args.records checker.records shown.header.version file.version shown.extended checker.extended lines c.judge_lines.new.checker.recorded closing.id closing.lines behind c.in_ok-checker.ensures.records
-    c.in-Ok.ensures.file.version_is c.in_ok-checker.ensures.extended (sym c.into_record.ensures.lines) c.in_ok-closing.ensures.recorded)
+    (body_at c.args.records checker.records shown.header.version file.version shown.extended checker.extended lines c.judge_lines.new.judge.checker.recorded closing.id closing.lines behind c.in_ok-checker.ensures.records
+    c.in-Ok.ensures.file.version_is c.in_ok-checker.ensures.extended (sym c.into_record.ensures.lines) c.in_ok-closing.ensures.judged.recorded)

@@ -1,7 +1,7 @@
 use Rattle.std.proofs.Common.{◌≡◌, ℕ, Bool, List, Option, sym, subst}
 use Rattle.aiger_reader.specs.Refusals.{SpellsWithin}
-use Rattle.aiger_reader.specs.Stopping.{IsGraphStop, IsStop}
-use Rattle.aiger_reader.specs.declared.stop.Stop.{Stop}
+use Rattle.command_core.specs.Stopping.{IsGraphStop, IsStop}
+use Rattle.command_core.specs.declared.stop.Stop.{Stop}
 use Rattle.graph_core.specs.declared.profile.Profile.{Profile}
 use Rattle.std.specs.Option.{IfSome}
 use Rattle.graph_core.specs.Algebra.{modulus, specification}
@@ -18,7 +18,7 @@ use Rattle.mv_desk.specs.View.{View, bytes_under}
 use Rattle.mv_desk.proofs.CallerLemmas.{Inspects-trans, KeepsTelling-trans, OpensFiles-trans}
 use Rattle.mv_text.specs.LineReading.{lengths_of}
 use Rattle.joint_checker.specs.Fails.{IsAlgebraFail, IsClauseFail}
-use Rattle.joint_checker.specs.Files.{files_of}
+use Rattle.command_core.specs.Files.{files_of}
 use Rattle.joint_checker.specs.declared.checked.Checked.TheVariants as checked
 use Rattle.joint_checker.specs.Shown.{premises_of}
 use Rattle.joint_checker.proofs.Joined.{graph_is, shown_fits, vanishing_does}
@@ -26,7 +26,7 @@ use Rattle.joint_checker.proofs.Needs.{accepted_needed, algebra_needed, clauses_
 use Rattle.joint_checker.proofs.Opened.{algebra_opened, clauses_opened, graph_opened}
 use Rattle.joint_checker.proofs.OutcomeRows.{accepts, algebra_answers, clauses_answer, graph_answers}
 use Rattle.joint_checker.proofs.JudgedPairs.{is_judged, is_told}
-use Rattle.joint_checker.proofs.NamesTold.{told_earlier, told_later}
+use Rattle.command_core.proofs.CallerLemmas.{told_earlier, told_later}
 use Rattle.joint_checker.proofs.checking.judge_pair.Goals as goal
 
 -- ---- the profile that a claim asks for

@@ -8,7 +8,7 @@ use Rattle.joint_checker.specs.ClauseFiles.{AddsClauses, GivesPremises}
 use Rattle.joint_checker.specs.Fails.{IsClauseFail}
 use Rattle.joint_checker.specs.Shown.{premises_of}
 use Rattle.joint_checker.proofs.OpenedTexts.{clauses_fail}
-use Rattle.joint_checker.proofs.NamesTold.{opened_told}
+use Rattle.command_core.proofs.CallerLemmas.{opened_told}
 use Rattle.joint_checker.proofs.clause_file.check_clauses.Goals as goal
 
 pub returns-in-Ok-clause-gives : goal.returns-in-Ok-clause-gives

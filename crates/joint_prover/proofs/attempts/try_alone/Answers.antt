@@ -5,7 +5,7 @@ use Rattle.graph_core.specs.Graph.Extended.{Extended, without_cut}
 use Rattle.graph_core.specs.Graph.Operands.{profile_of, sides_for}
 use Rattle.pac_writer.specs.Writing.{IsFresh}
 use Rattle.ripple_graft.specs.Extension.{IsExtension}
-use Rattle.joint_checker.specs.Files.{files_of}
+use Rattle.command_core.specs.Files.{files_of}
 use Rattle.joint_prover.specs.Endings.{IsEnded, IsSliced}
 use Rattle.joint_prover.specs.Parts.{task_of}
 use Rattle.joint_prover.specs.Tries.{IsAbove}

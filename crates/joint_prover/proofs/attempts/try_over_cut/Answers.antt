@@ -3,7 +3,7 @@ use Rattle.graph_core.specs.Aiger.Soundness.{IsSizedAs}
 use Rattle.graph_core.specs.Graph.Extended.{Extended}
 use Rattle.graph_core.specs.Graph.Operands.{AreOperandsOf, profile_of, sides_for}
 use Rattle.stage_rewriter.specs.Rewriting.{IsShownRewriting}
-use Rattle.joint_checker.specs.Files.{files_of}
+use Rattle.command_core.specs.Files.{files_of}
 use Rattle.joint_prover.specs.Endings.{IsEnded, IsSliced}
 use Rattle.joint_prover.specs.Parts.{task_of}
 use Rattle.joint_prover.specs.Tries.{IsAbove}

@@ -3,7 +3,7 @@ use Rattle.std.proofs.lemmas.Result.{IfOk-weaker}
 use Rattle.drup_text.specs.declared.head.Header.{Header}
 use Rattle.drup_text.specs.WrittenTexts.{any_file_text}
 use Rattle.graph_core.specs.Graph.Extended.{Extended}
-use Rattle.joint_checker.specs.Files.{files_of}
+use Rattle.command_core.specs.Files.{files_of}
 use Rattle.joint_prover.specs.Endings.{Decides, IsEnded}
 use Rattle.joint_prover.specs.Parts.{IsToldWrong, IsWritten, clauses_header, cut_named}
 use Rattle.joint_prover.proofs.WrittenClauses.{header_has_one}

@@ -1,6 +1,6 @@
 use Rattle.std.proofs.Common.{subst}
 use Rattle.std.specs.Prelude.{IfSome, Some}
-use Rattle.joint_checker.specs.Files.{files_of}
+use Rattle.command_core.specs.Files.{files_of}
 use Rattle.joint_prover.specs.Parts.{IsShownCut, MayTellOver, task_of}
 use Rattle.joint_prover.proofs.Noting.{found_is}
 use Rattle.joint_prover.proofs.found.try_found.Goals as goal

@@ -1,6 +1,6 @@
 use Rattle.std.proofs.Common.{◌≡◌, ◌∙◌, subst}
 use Rattle.std.specs.Prelude.{IfOk, OnErr, Some}
-use Rattle.joint_checker.specs.Files.{files_of}
+use Rattle.command_core.specs.Files.{files_of}
 use Rattle.joint_prover.specs.Parts.{IsToldWithin, MayTellOver, task_of}
 use Rattle.joint_prover.proofs.Telling.{on_err}
 use Rattle.joint_prover.proofs.found.try_shown.Goals as goal

@@ -3,7 +3,7 @@ use Rattle.std.proofs.lemmas.Result.{IfOk-weaker}
 use Rattle.std.specs.Prelude.{IfSome, IsNone, OnErr}
 use Rattle.std.specs.declared.option.Option.{Option}
 use Rattle.ripple_graft.specs.declared.cut.Cut.{Cut}
-use Rattle.joint_checker.specs.Files.{files_of}
+use Rattle.command_core.specs.Files.{files_of}
 use Rattle.joint_prover.specs.Notes.{cut_in}
 use Rattle.joint_prover.specs.Parts.{AreTriedBefore, IsOfFirstPlans, IsOfGraph, IsToldWrong, task_of}
 use Rattle.joint_prover.proofs.Telling.{wrong_of}

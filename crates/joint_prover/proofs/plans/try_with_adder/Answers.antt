@@ -1,7 +1,7 @@
 use Rattle.std.proofs.Common.{◌≡◌, refl, sym, subst}
 use Rattle.std.specs.Prelude.{Some}
 use Rattle.stage_rewriter.specs.Rewriting.{Agrees, IsRewriting}
-use Rattle.joint_checker.specs.Files.{files_of}
+use Rattle.command_core.specs.Files.{files_of}
 use Rattle.joint_prover.specs.Notes.{cut_in}
 use Rattle.joint_prover.specs.Parts.{IsAttempt, IsOfFirstPlans, task_of}
 use Rattle.joint_prover.specs.declared.plans.First.TheVariants as kind

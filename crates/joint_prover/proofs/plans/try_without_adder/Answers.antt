@@ -1,6 +1,6 @@
 use Rattle.std.proofs.Common.{◌≡◌, inl, subst}
 use Rattle.std.specs.Prelude.{IfOk, None, OnErr, Option}
-use Rattle.joint_checker.specs.Files.{files_of}
+use Rattle.command_core.specs.Files.{files_of}
 use Rattle.ripple_graft.specs.declared.cut.Cut.{Cut}
 use Rattle.joint_prover.specs.Parts.{IsAttempt, IsOfGraph, task_of}
 use Rattle.joint_prover.specs.Tries.{AreTried}

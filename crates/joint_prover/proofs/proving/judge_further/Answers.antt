@@ -1,6 +1,6 @@
 use Rattle.std.proofs.Common.{◌≡◌, ◌∙◌, refl, subst, sym}
 use Rattle.std.specs.Prelude.{Some}
-use Rattle.joint_checker.specs.Files.{files_of}
+use Rattle.command_core.specs.Files.{files_of}
 use Rattle.joint_prover.specs.Notes.{IsNote, cut_in, cut_of, note_of}
 use Rattle.joint_prover.specs.Parts.{IsOfGraph, MayTellFound, task_of}
 use Rattle.joint_prover.proofs.Noting.{cut_of_note, note_is}

@@ -1,6 +1,6 @@
 use Rattle.std.proofs.Common.{◌≡◌, subst, sym}
 use Rattle.std.specs.Prelude.{IfOk, OnErr}
-use Rattle.joint_checker.specs.Files.{files_of}
+use Rattle.command_core.specs.Files.{files_of}
 use Rattle.joint_prover.specs.Notes.{IsNote, cut_in, cut_of, note_of}
 use Rattle.joint_prover.specs.Parts.{IsOfGraph, MayTell, task_of}
 use Rattle.joint_prover.proofs.Noting.{cut_of_note, note_is}

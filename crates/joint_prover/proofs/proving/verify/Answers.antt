@@ -1,9 +1,9 @@
 use Rattle.std.proofs.Common.{subst}
 use Rattle.std.specs.Prelude.{IfSome, None}
 use Rattle.aiger_reader.specs.Refusals.{SpellsWithin}
-use Rattle.aiger_reader.specs.Stopping.{IsGraphStop, IsStop}
+use Rattle.command_core.specs.Stopping.{IsGraphStop, IsStop}
 use Rattle.graph_core.specs.Aiger.Soundness.{IsSizedAs}
-use Rattle.joint_checker.specs.Files.{files_of}
+use Rattle.command_core.specs.Files.{files_of}
 use Rattle.mv_desk.specs.View.{bytes_under}
 use Rattle.mv_desk.specs.declared.slot.Slot.TheVariants as slot
 use Rattle.joint_prover.specs.declared.verdict.Verdict.TheVariants.{Stopped}

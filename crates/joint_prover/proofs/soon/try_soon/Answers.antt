@@ -1,7 +1,7 @@
 use Rattle.std.proofs.Common.{◌≡◌, subst}
 use Rattle.std.proofs.lemmas.Result.{IfOk-weaker}
 use Rattle.std.specs.Prelude.{IfSome}
-use Rattle.joint_checker.specs.Files.{files_of}
+use Rattle.command_core.specs.Files.{files_of}
 use Rattle.joint_prover.specs.Notes.{cut_in}
 use Rattle.joint_prover.specs.Parts.{IsToldWrong, MayTell, task_of}
 use Rattle.joint_prover.proofs.Telling.{on_err, wrong_may_tell, wrong_of}

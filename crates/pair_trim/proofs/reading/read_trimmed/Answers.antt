@@ -1,7 +1,7 @@
 use Rattle.std.proofs.Common.{arith, refl}
 use Rattle.std.proofs.lemmas.Result.{err_from_is_err_and}
 use Rattle.graph_core.specs.Graph.Operands.{profile_of}
-use Rattle.joint_checker.specs.Files.{files_of, texts_of}
+use Rattle.command_core.specs.Files.{files_of, texts_of}
 use Rattle.pair_trim.proofs.NewPair.{can_be_written}
 use Rattle.pair_trim.proofs.Trims.{has_chosen, needed_without_memory}
 use Rattle.pair_trim.proofs.reading.read_trimmed.Goals as goal

@@ -1,9 +1,11 @@
 use Rattle.std.proofs.Common.{List, length, sym, subst}
 use Rattle.clause_core.specs.ClauseLines.{ClauseLine}
+use Rattle.command_core.specs.Written.{WritesFile}
+use Rattle.drup_text.specs.SameFiles.{same_text}
 use Rattle.goal_refuter.specs.Refutations.{unmet_goals}
 use Rattle.goal_refuter.specs.Refuting.{IsDiffering, IsGoalsOutcome, IsSoFar}
 use Rattle.goal_refuter.specs.declared.refuting.Outcome.{Outcome}
-use Rattle.same_core.specs.Deciding.{WritesClauseFile}
+use Rattle.mv_desk.specs.declared.slot.Slot.TheVariants as slot
 use Rattle.same_core.specs.Files.{compared_files_of}
 use Rattle.same_core.specs.Merged.{over}
 use Rattle.same_core.specs.Places.{IsMerged}
@@ -28,7 +30,7 @@ returns-in-Ok-write_certificate-clause-answer g c =
     equal limits c.args.conflicts files first second c.read_pair.ensures.inspects c.in-Ok.pair.0 c.in-Ok.pair.1 p log
     (of_merged limits c.args.conflicts files first second c.read_pair.ensures.inspects c.in-Ok.pair.0 c.in-Ok.pair.1 p (λ m. IsSoFar (over m) c.args.conflicts (length (unmet_goals (over m))) log)
     (subst (λ (o : Outcome). IsGoalsOutcome (over c.in-Ok.pair.1) c.args.conflicts o) c.in-Ok-Refuted.field-0-is c.in-Ok-Refuted.ensures))
-    c.in-Ok.ensures.reads last (subst (λ (lines : List ClauseLine). WritesClauseFile files.clauses lines second last) c.lines.ensures.lines c.in-Ok-write_certificate.ensures.whole)
+    c.in-Ok.ensures.reads last (subst (λ (lines : List ClauseLine). WritesFile slot.Clauses files.clauses (same_text lines) second last) c.lines.ensures.lines c.in-Ok-write_certificate.ensures.whole)
 
 pub returns-in-Ok-inputs_at-clause-answer : goal.returns-in-Ok-inputs_at-clause-answer
 returns-in-Ok-inputs_at-clause-answer g c =

@@ -2,7 +2,7 @@ use Rattle.std.proofs.Common.{ap, refl, subst}
 use Rattle.std.specs.Prelude.{is_some}
 use Rattle.graph_core.specs.Graph.Operands.{product_under}
 use Rattle.graph_core.specs.declared.order.Order.TheVariants.{Separate}
-use Rattle.joint_checker.specs.Files.{AreTold, Files, texts_of}
+use Rattle.command_core.specs.Files.{AreTold, Files, texts_of}
 use Rattle.joint_checker.specs.Outcome.{IsExactAnswer}
 use Rattle.mv_desk.specs.HonestDesk.{view_of}
 use Rattle.mv_desk.proofs.CallerLemmas.{never_failed}
@@ -24,7 +24,7 @@ unreachable-requires c =
     pair.algebra_held c.measure-2.ensures.count c.measure-2.ensures.short in
     let exact = subst (λ f. IsExactAnswer no_limits (product_under Separate) f before after c.check.result) same c.check.ensures.exact in
     let told : AreTold (texts_of before trial_files) = record { graph_told = ap is_some pair.graph_held; clauses_told = ap is_some pair.clauses_held; algebra_told = ap is_some pair.algebra_held } in
-    never_refused c.args.multiplier.plan before c.args.note c.requires.made pair clauses algebra after (never_failed c.check.new.desk) c.check.result (exact told)
+    never_refused c.args.multiplier.sample before c.args.note c.requires.made pair clauses algebra after (never_failed c.check.new.desk) c.check.result (exact told)
     c.in-Refused.field-0 c.in-Refused.is
 
 pub refused-requires : goal.refused-requires
@@ -40,7 +40,7 @@ refused-requires c =
     pair.algebra_held c.measure-2.ensures.count c.measure-2.ensures.short in
     let exact = subst (λ f. IsExactAnswer no_limits (product_under Separate) f before after c.check.result) same c.check.ensures.exact in
     let told : AreTold (texts_of before trial_files) = record { graph_told = ap is_some pair.graph_held; clauses_told = ap is_some pair.clauses_held; algebra_told = ap is_some pair.algebra_held } in
-    check_refused c.args.multiplier.plan before c.args.note c.requires.made pair clauses algebra after (never_failed c.check.new.desk) c.check.result (exact told)
+    check_refused c.args.multiplier.sample before c.args.note c.requires.made pair clauses algebra after (never_failed c.check.new.desk) c.check.result (exact told)
     c.in-Stopped.why c.in-Stopped.is
 
 pub returns-in-Accepted : goal.returns-in-Accepted
@@ -52,4 +52,4 @@ returns-in-Accepted c =
     pair.clauses_held c.measure.ensures.count c.measure.ensures.short in
     let algebra = honest_length c.args.desk.now names.algebra.now trial_files.algebra pair.algebra_file c.measure-2.result (ap (λ (f : Files). f.algebra) same)
     pair.algebra_held c.measure-2.ensures.count c.measure-2.ensures.short in
-    (refl, accepted_of_made c.args.multiplier.plan (view_of c.args.desk.now) c.args.note c.requires.made pair clauses algebra)
+    (refl, accepted_of_made c.args.multiplier.sample (view_of c.args.desk.now) c.args.note c.requires.made pair clauses algebra)

@@ -5,11 +5,11 @@ use Rattle.graph_core.specs.declared.profile.Profile.{Profile}
 use Rattle.mv_desk.specs.View.{OpensFiles, Rose, View}
 use Rattle.mv_desk.specs.declared.slot.Slot.{Slot}
 use Rattle.aiger_reader.specs.Refusals.{Refuses}
-use Rattle.aiger_reader.specs.Stopping.{GivesDue, Interrupts, IsAbout, IsGraphStop, IsLong, IsStop, OpensUpTo, stop_of_read}
+use Rattle.command_core.specs.Stopping.{GivesDue, Interrupts, IsAbout, IsGraphStop, IsLong, IsStop, OpensUpTo, stop_of_read}
 use Rattle.aiger_reader.specs.declared.fail.ReadFail.{ReadFail}
 use Rattle.aiger_reader.specs.declared.fail.ReadFail.TheVariants as fail
-use Rattle.aiger_reader.specs.declared.stop.Stop.{Stop}
-use Rattle.aiger_reader.specs.declared.stop.Stop.TheVariants as stop
+use Rattle.command_core.specs.declared.stop.Stop.{Stop}
+use Rattle.command_core.specs.declared.stop.Stop.TheVariants as stop
 
 -- no graph was read
 pub read_stops : (at : Slot) (profile : Profile) (limit : ℕ) (file : Option (List ℕ)) (before now : View) (why : ReadFail) → IfSome file (λ bytes. Refuses profile limit bytes why) →

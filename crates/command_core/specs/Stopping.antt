@@ -6,8 +6,8 @@ use Rattle.mv_desk.specs.View.{View, OpensAtMost, OpensFiles, Rose}
 use Rattle.mv_desk.specs.declared.slot.Slot.{Slot}
 use Rattle.aiger_reader.specs.declared.fail.ReadFail.{ReadFail}
 use Rattle.aiger_reader.specs.declared.fail.ReadFail.TheVariants as fail
-use Rattle.aiger_reader.specs.declared.stop.Stop.{Stop}
-use Rattle.aiger_reader.specs.declared.stop.Stop.TheVariants as stop
+use Rattle.command_core.specs.declared.stop.Stop.{Stop}
+use Rattle.command_core.specs.declared.stop.Stop.TheVariants as stop
 use Rattle.aiger_reader.specs.Refusals.{IsGraphRefusal, IsGraphTooLong}
 
 -- no graph was read in this slot

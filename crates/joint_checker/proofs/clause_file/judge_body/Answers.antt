@@ -16,7 +16,7 @@ use Rattle.clause_judge.proofs.ClauseTurns.{begins_with, first_fails, nothing_jo
 use Rattle.drup_checker.specs.declared.keeps.Keeps.{Keeps}
 use Rattle.trim_core.specs.KeptClauses.{AreEarlier}
 use Rattle.joint_checker.proofs.KeptRecords.{none_earlier, none_tight, tight_moved}
-use Rattle.joint_checker.proofs.clause_file.judge_lines.Goals as goal
+use Rattle.joint_checker.proofs.clause_file.judge_body.Goals as goal
 
 -- ---- the first line
 

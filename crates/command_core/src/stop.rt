@@ -1,5 +1,5 @@
 // Why a call on files has no answer of its own.
-use crate::fail::ReadFail;
+use aiger_reader::ReadFail;
 use graph_core::Memory;
 use mv_desk::Slot;
 
@@ -19,7 +19,7 @@ pub enum Stop {
 
 impl Stop {
     ghost use Rattle.std.specs.Prelude.{◌≡◌};
-    ghost use Rattle.aiger_reader.specs.Stopping.{stop_of_read};
+    ghost use Rattle.command_core.specs.Stopping.{stop_of_read};
 
     // No graph was read in this slot.
     pub(crate) fn of_read(slot: Slot, fail: ReadFail) -> Self
@@ -36,7 +36,7 @@ impl Stop {
 
 impl From<Memory> for Stop {
     ghost use Rattle.std.specs.Prelude.{◌≡◌};
-    ghost use Rattle.aiger_reader.specs.declared.stop.Stop.TheVariants as stop;
+    ghost use Rattle.command_core.specs.declared.stop.Stop.TheVariants as stop;
 
     ghost from_gives = { λ _ why. why ≡ stop.Memory };
 

@@ -1,8 +1,8 @@
 use Rattle.std.proofs.Common.{Err, ap}
 use Rattle.mv_desk.specs.View.{bytes_under}
-use Rattle.aiger_reader.proofs.Opening.{Inspects-OpensOnly, OpensOnly-Err, OpensOnly-Ok}
-use Rattle.aiger_reader.proofs.Stops.{read_stops}
-use Rattle.aiger_reader.proofs.reading.read_graph.Goals as goal
+use Rattle.aiger_reader.proofs.CallerLemmas.{Inspects-OpensOnly, OpensOnly-Err, OpensOnly-Ok}
+use Rattle.command_core.proofs.Stops.{read_stops}
+use Rattle.command_core.proofs.reading.read_graph.Goals as goal
 
 pub returns-in-Ok-clause-opens : goal.returns-in-Ok-clause-opens
 returns-in-Ok-clause-opens g c = OpensOnly-Ok c.args.slot (g.D.Desk.seen c.args.desk.now) (g.D.Desk.seen c.read_file.new.desk) c.in-Ok.graph c.in-Ok.ensures.opens

@@ -1,0 +1,5 @@
+pub mod HeldFiles
+pub mod NamesTold
+pub mod Stops
+pub mod GraphStops
+pub mod CallerLemmas
