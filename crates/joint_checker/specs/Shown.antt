@@ -1,9 +1,13 @@
 -- What a clause file that was read gives, and what is kept of the clauses that it adds.
 use Rattle.std.specs.Prelude.{◌≡◌, ◌==◌, ℕ, Bool, true, false, if◌then◌else◌}
-use Rattle.graph_core.specs.Algebra.{Premises}
+use Rattle.std.specs.List.{All}
+use Rattle.clause_core.specs.Facts.{IsClauseFact}
+use Rattle.graph_core.specs.Algebra.{AgreeOnColumns, Premises}
 use Rattle.graph_core.specs.Graph.{Aig}
 use Rattle.drup_checker.specs.declared.keeps.Keeps.{Keeps}
 use Rattle.drup_checker.specs.declared.keeps.Keeps.TheVariants as keep
+use Rattle.mv_fact.specs.Always.{Always}
+use Rattle.trim_core.specs.KeptClauses.{AreEarlier}
 use Rattle.drup_text.specs.Headers.{IsHeaderOf, extended_with}
 use Rattle.joint_checker.specs.declared.clause_file.Shown.{Shown}
 use Rattle.joint_checker.specs.ClauseFiles.{importable, premises}
@@ -12,10 +16,14 @@ use Rattle.joint_checker.specs.ClauseFiles.{importable, premises}
 abbrev pub premises_of : Shown → Premises
 premises_of s = premises s.header.version s.extended (importable s.header.version s.recorded.added)
 
--- The graph takes its header, and with the header's blocks it is the extended graph.
+-- The graph takes its header, and with the header's blocks it is the extended graph, over whose evaluations the columns agree and the
+-- kept clauses hold. A kept chain uses clauses before its own.
 pub record IsShownOf (g : Aig) (s : Shown) : Type 0 where
   pub takes : IsHeaderOf g s.header
   pub extended : s.extended ≡ extended_with g s.header
+  pub columns : Always s.extended.gates (AgreeOnColumns s.extended)
+  pub facts : All (IsClauseFact s.extended.gates) s.recorded.added
+  pub earlier : AreEarlier s.recorded.uses.items
 
 -- what is kept: with the chains each clause, else those that may be imported
 abbrev pub keeps_of : Bool → ℕ → Keeps

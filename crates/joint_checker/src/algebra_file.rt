@@ -1,12 +1,11 @@
 // The algebra certificate, line by line.
 ghost use Rattle.std.specs.List.{All};
-ghost use Rattle.std.specs.Prelude.{◌≡◌, ◌≢◌, ◌<◌, [], true, IfErr, IfOk, IfSome, OnOk};
+ghost use Rattle.std.specs.Prelude.{◌≡◌, ◌<◌, [], true, IfErr, IfOk, IfSome, OnOk};
 ghost use Rattle.graph_core.specs.Graph.Operands.{profile_of, sides_for};
 ghost use Rattle.graph_core.specs.Algebra.{AgreeOnColumns, modulus, specification};
 ghost use Rattle.graph_core.specs.Aiger.Soundness.{IsSizedAs};
-ghost use Rattle.mv_desk.specs.Calls.{Inspects, ReadsOnly};
-ghost use Rattle.mv_desk.specs.View.{KeepsTelling, OpensFiles, SlotStays, bytes_under};
-ghost use Rattle.mv_desk.specs.declared.slot.Slot.{Slot};
+ghost use Rattle.mv_desk.specs.Calls.{ReadsOnly};
+ghost use Rattle.mv_desk.specs.View.{KeepsTelling, bytes_under};
 ghost use Rattle.mv_desk.specs.declared.slot.Slot.TheVariants as slot;
 ghost use Rattle.mv_fact.specs.Always.{Always};
 ghost use Rattle.poly_text.specs.Recorded.{lines_in};
@@ -14,8 +13,8 @@ ghost use Rattle.mv_text.specs.LineReading.{lengths_of};
 ghost use Rattle.graph_core.specs.Certificates.{IsLawfulAlgebra};
 ghost use Rattle.clause_core.specs.Facts.{IsClauseFact};
 ghost use Rattle.joint_checker.specs.ClauseFiles.{importable};
+ghost use Rattle.joint_checker.specs.Reading.{ReadsCertificate};
 ghost use Rattle.joint_checker.specs.Fails.{IsAlgebraFail};
-ghost use Rattle.command_core.specs.Files.{NameIsTold};
 ghost use Rattle.joint_checker.specs.Judged.{IsLawfulRecord};
 ghost use Rattle.joint_checker.specs.Records.{IsRecordOf};
 ghost use Rattle.joint_checker.specs.Shown.{premises_of};
@@ -78,12 +77,7 @@ pub(crate) fn check_algebra<D: Desk>(
     ensures refused { IfErr result (IsAlgebraFail (lengths_of limits.now) (premises_of shown.now)
         (sides_for claim shown.now.extended.graph)
         (bytes_under (D.seen desk.old) name.now) (D.seen desk.old) (D.seen desk.new)) }
-    ensures others { (other : Slot) → other ≢ slot.Algebra →
-        SlotStays other (D.seen desk.old) (D.seen desk.new) }
-    ensures named { NameIsTold slot.Algebra name.now (D.seen desk.old) (D.seen desk.new) }
-    ensures opened { OpensFiles 1 (D.seen desk.old) (D.seen desk.new) }
-    ensures inspects { Inspects (D.seen desk.old) (D.seen desk.new) }
-    ensures tells { KeepsTelling (D.seen desk.old) (D.seen desk.new) }
+    ensures reads { ReadsCertificate slot.Algebra name.now (D.seen desk.old) (D.seen desk.new) }
 {
     match desk.open_file(Slot::Algebra, name) {
         Ok(()) => judge_algebra(alloc, desk, limits, shown, claim, records),

@@ -5,7 +5,7 @@ use Rattle.graph_core.specs.Certificates.{IsLawfulAlgebra}
 use Rattle.graph_core.specs.Graph.Operands.{sides_for}
 use Rattle.mv_desk.specs.View.{bytes_under}
 use Rattle.mv_desk.specs.declared.slot.Slot.TheVariants as slot
-use Rattle.mv_desk.proofs.CallerLemmas.{IfSome-Keeps, Inspects-Opens, Inspects-ReadsOnly, Inspects-trans, KeepsTelling-trans, OpensFiles-still, SlotStays-trans}
+use Rattle.mv_desk.proofs.CallerLemmas.{IfSome-Keeps}
 use Rattle.mv_text.specs.LineReading.{lengths_of}
 use Rattle.joint_checker.specs.Fails.{IsAlgebraFail}
 use Rattle.joint_checker.specs.Shown.{premises_of}
@@ -14,7 +14,7 @@ use Rattle.graph_core.specs.Algebra.{modulus}
 use Rattle.poly_text.specs.Recorded.{lines_in}
 use Rattle.joint_checker.specs.Records.{IsRecordOf}
 use Rattle.joint_checker.specs.declared.algebra_file.Closed.{Closed}
-use Rattle.command_core.proofs.CallerLemmas.{opened_told}
+use Rattle.joint_checker.proofs.CertificateReading.{not_opened, opened_and_read}
 use Rattle.joint_checker.proofs.algebra_file.check_algebra.Goals as goal
 
 pub returns-in-Ok-clause-lawful : goal.returns-in-Ok-clause-lawful
@@ -42,27 +42,6 @@ returns-in-Ok-clause-refused g c =
     IfErr-weaker c.judge_algebra.result (IsAlgebraFail lengths p sides left before now) (IsAlgebraFail lengths p sides text first now)
     (algebra_fails text left c.in-Ok.ensures.opens.left first before now c.in-Ok.ensures.cause.later lengths p sides) c.judge_algebra.ensures.refused
 
-pub returns-in-Ok-clause-others : goal.returns-in-Ok-clause-others
-returns-in-Ok-clause-others g c =
-    λ other apart. SlotStays-trans other (g.D.Desk.seen c.args.desk.now) (g.D.Desk.seen c.open_file.new.self) (g.D.Desk.seen c.judge_algebra.new.desk) (c.in-Ok.ensures.opens.others other apart)
-    (c.judge_algebra.ensures.only.others other apart)
-
-pub returns-in-Ok-clause-opened : goal.returns-in-Ok-clause-opened
-returns-in-Ok-clause-opened g c =
-    OpensFiles-still 1 (g.D.Desk.seen c.args.desk.now) (g.D.Desk.seen c.open_file.new.self) (g.D.Desk.seen c.judge_algebra.new.desk) c.in-Ok.ensures.counted c.judge_algebra.ensures.only.opened
-
-pub returns-in-Ok-clause-inspects : goal.returns-in-Ok-clause-inspects
-returns-in-Ok-clause-inspects g c =
-    let first = g.D.Desk.seen c.args.desk.now in
-    let before = g.D.Desk.seen c.open_file.new.self in
-    let now = g.D.Desk.seen c.judge_algebra.new.desk in
-    Inspects-trans first before now (Inspects-Opens slot.Algebra c.args.name.now first before c.open_file.result (λ e. cc) c.in-Ok.ensures.opens c.open_file.ensures.cause)
-    (Inspects-ReadsOnly slot.Algebra before now (λ e. cc) c.judge_algebra.ensures.only)
-
-pub returns-in-Ok-clause-tells : goal.returns-in-Ok-clause-tells
-returns-in-Ok-clause-tells g c =
-    KeepsTelling-trans (g.D.Desk.seen c.args.desk.now) (g.D.Desk.seen c.open_file.new.self) (g.D.Desk.seen c.judge_algebra.new.desk) c.in-Ok.ensures.tells c.judge_algebra.ensures.tells
-
 pub returns-in-Ok-clause-told : goal.returns-in-Ok-clause-told
 returns-in-Ok-clause-told g c =
     let shown = c.args.shown.now in
@@ -71,6 +50,12 @@ returns-in-Ok-clause-told g c =
     let left = (g.D.Desk.seen c.open_file.new.self).left slot.Algebra in
     IfOk-weaker c.judge_algebra.result (λ closed. IfSome left (P closed)) (λ closed. IfSome text (P closed)) (λ closed h. IfSome-Keeps text left (P closed) c.in-Ok.ensures.opens.left h) c.judge_algebra.ensures.told
 
-pub returns-in-Ok-clause-named : goal.returns-in-Ok-clause-named
-returns-in-Ok-clause-named g c =
-    opened_told slot.Algebra c.args.name.now (g.D.Desk.seen c.args.desk.now) (g.D.Desk.seen c.open_file.new.self) (g.D.Desk.seen c.judge_algebra.new.desk) c.in-Ok.ensures.opens c.judge_algebra.ensures.only
+pub returns-in-Ok-clause-reads : goal.returns-in-Ok-clause-reads
+returns-in-Ok-clause-reads g c =
+    opened_and_read slot.Algebra c.args.name.now (g.D.Desk.seen c.args.desk.now) (g.D.Desk.seen c.open_file.new.self) c.open_file.result c.open_file.ensures.cause c.open_file.ensures.counted c.open_file.ensures.tells
+    (g.D.Desk.seen c.judge_algebra.new.desk) (λ e. cc) c.in-Ok.ensures.opens c.judge_algebra.ensures.only c.judge_algebra.ensures.tells
+
+pub returns-in-Err-clause-reads : goal.returns-in-Err-clause-reads
+returns-in-Err-clause-reads g c =
+    not_opened slot.Algebra c.args.name.now (g.D.Desk.seen c.args.desk.now) (g.D.Desk.seen c.open_file.new.self) c.open_file.result c.open_file.ensures.cause c.open_file.ensures.counted c.open_file.ensures.tells
+    c.in-Err.ensures.failed

@@ -77,7 +77,7 @@ returns-in_err-shown-clause-opens g c =
     let p = err_from_is_err_and c.from_residual-in_err-shown.result c.from_residual-in_err-shown.ensures.1 in
     rw (p.1, p.2)
     (clauses_needed c.args.limits.now c.args.claim (files_of c.args.names.now) (g.D.Desk.seen c.args.desk.now) (g.D.Desk.seen c.read_graph.new.desk) (g.D.Desk.seen c.check_clauses.new.desk) c.read_graph.ensures.opens.others
-    c.check_clauses.ensures.others c.in_ok-graph.graph (spelled_for _ _ _ _ _ c.profile.ensures c.in_ok-graph.ensures.spelled) c.in_err-shown.field-0.0 c.in_err-shown.ensures.refused)
+    c.check_clauses.ensures.reads.others c.in_ok-graph.graph (spelled_for _ _ _ _ _ c.profile.ensures c.in_ok-graph.ensures.spelled) c.in_err-shown.field-0.0 c.in_err-shown.ensures.refused)
 
 pub returns-in_err-shown-clause-opened : goal.returns-in_err-shown-clause-opened
 returns-in_err-shown-clause-opened g c =
@@ -87,13 +87,19 @@ returns-in_err-shown-clause-opened g c =
     let p = err_from_is_err_and c.from_residual-in_err-shown.result c.from_residual-in_err-shown.ensures.1 in
     rw (p.1, p.2)
     (clauses_opened first second third (lengths_of c.args.limits.now) c.in_ok-graph.graph (bytes_under second (files_of c.args.names.now).clauses) c.in_err-shown.field-0.0 c.in_err-shown.ensures.refused
-    (OpensFiles-trans 1 1 first second third c.read_graph.ensures.opens.opened c.check_clauses.ensures.opened))
+    (OpensFiles-trans 1 1 first second third c.read_graph.ensures.opens.opened c.check_clauses.ensures.reads.opened))
 
 -- ---- the algebra file
 
 pub check_algebra-requires-clause-sized : goal.check_algebra-requires-clause-sized
 check_algebra-requires-clause-sized g c =
     subst (IsSizedAs (profile_of c.args.claim.add)) (sym (graph_is c.in_ok-graph.graph (premises_of c.in_ok-shown.shown) (shown_fits c.in_ok-graph.graph c.in_ok-shown.shown c.in_ok-shown.ensures.of_graph))) (sized_for _ _ _ c.profile.ensures c.in_ok-graph.ensures.sized)
+
+pub check_algebra-requires-clause-columns : goal.check_algebra-requires-clause-columns
+check_algebra-requires-clause-columns g c = c.in_ok-shown.ensures.of_graph.columns
+
+pub check_algebra-requires-clause-facts : goal.check_algebra-requires-clause-facts
+check_algebra-requires-clause-facts g c = c.in_ok-shown.ensures.of_graph.facts
 
 pub returns-in_err-closed-clause-refused : goal.returns-in_err-closed-clause-refused
 returns-in_err-closed-clause-refused g c =
@@ -105,7 +111,7 @@ returns-in_err-closed-clause-refused g c =
     let shown = c.in_ok-shown.shown in
     let same = err_from_is_err_and c.from_residual-in_err-closed.result c.from_residual-in_err-closed.ensures.1 in
     rw (same.1, same.2)
-    (algebra_answers c.args.limits.now c.args.claim (files_of c.args.names.now) first second third last c.read_graph.ensures.inspects c.check_clauses.ensures.inspects graph (premises_of shown) (shown_fits graph shown c.in_ok-shown.ensures.of_graph)
+    (algebra_answers c.args.limits.now c.args.claim (files_of c.args.names.now) first second third last c.read_graph.ensures.inspects c.check_clauses.ensures.reads.inspects graph (premises_of shown) (shown_fits graph shown c.in_ok-shown.ensures.of_graph)
     (spelled_for _ _ _ _ _ c.profile.ensures c.in_ok-graph.ensures.spelled) c.in_ok-shown.ensures.gives c.in_err-closed.field-0.0 c.in_err-closed.ensures.refused)
 
 pub returns-clause-accepted : goal.returns-clause-accepted
@@ -116,7 +122,7 @@ returns-clause-accepted g c =
     let last = g.D.Desk.seen c.check_algebra.new.desk in
     let graph = c.in_ok-graph.graph in
     let shown = c.in_ok-shown.shown in
-    accepts c.args.limits.now c.args.claim (files_of c.args.names.now) first second third last c.read_graph.ensures.inspects c.check_clauses.ensures.inspects graph (premises_of shown) (shown_fits graph shown c.in_ok-shown.ensures.of_graph)
+    accepts c.args.limits.now c.args.claim (files_of c.args.names.now) first second third last c.read_graph.ensures.inspects c.check_clauses.ensures.reads.inspects graph (premises_of shown) (shown_fits graph shown c.in_ok-shown.ensures.of_graph)
     (spelled_for _ _ _ _ _ c.profile.ensures c.in_ok-graph.ensures.spelled) c.in_ok-shown.ensures.gives c.in_ok-graph.ensures.built.well_formed (shape_for c.args.claim.add graph (sized_for _ _ _ c.profile.ensures c.in_ok-graph.ensures.sized)) c.in_ok-closed.ensures.lawful c.in_ok-closed.ensures.vanishes
 
 pub returns-clause-opens_all : goal.returns-clause-opens_all
@@ -125,8 +131,8 @@ returns-clause-opens_all g c =
     let second = g.D.Desk.seen c.read_graph.new.desk in
     let third = g.D.Desk.seen c.check_clauses.new.desk in
     let last = g.D.Desk.seen c.check_algebra.new.desk in
-    accepted_needed c.args.limits.now c.args.claim (files_of c.args.names.now) first second third c.read_graph.ensures.opens.others c.check_clauses.ensures.others c.in_ok-graph.graph (spelled_for _ _ _ _ _ c.profile.ensures c.in_ok-graph.ensures.spelled)
-    last c.check_algebra.ensures.others c.read_graph.ensures.inspects (premises_of c.in_ok-shown.shown) (shown_fits c.in_ok-graph.graph c.in_ok-shown.shown c.in_ok-shown.ensures.of_graph) c.in_ok-shown.ensures.gives
+    accepted_needed c.args.limits.now c.args.claim (files_of c.args.names.now) first second third c.read_graph.ensures.opens.others c.check_clauses.ensures.reads.others c.in_ok-graph.graph (spelled_for _ _ _ _ _ c.profile.ensures c.in_ok-graph.ensures.spelled)
+    last c.check_algebra.ensures.reads.others c.read_graph.ensures.inspects (premises_of c.in_ok-shown.shown) (shown_fits c.in_ok-graph.graph c.in_ok-shown.shown c.in_ok-shown.ensures.of_graph) c.in_ok-shown.ensures.gives
 
 pub returns-in_err-closed-clause-opens : goal.returns-in_err-closed-clause-opens
 returns-in_err-closed-clause-opens g c =
@@ -138,7 +144,7 @@ returns-in_err-closed-clause-opens g c =
     let p = premises_of shown in
     let same = err_from_is_err_and c.from_residual-in_err-closed.result c.from_residual-in_err-closed.ensures.1 in
     rw (same.1, same.2)
-    (algebra_needed c.args.limits.now c.args.claim (files_of c.args.names.now) first second third c.read_graph.ensures.opens.others c.check_clauses.ensures.others c.in_ok-graph.graph (spelled_for _ _ _ _ _ c.profile.ensures c.in_ok-graph.ensures.spelled) last c.check_algebra.ensures.others
+    (algebra_needed c.args.limits.now c.args.claim (files_of c.args.names.now) first second third c.read_graph.ensures.opens.others c.check_clauses.ensures.reads.others c.in_ok-graph.graph (spelled_for _ _ _ _ _ c.profile.ensures c.in_ok-graph.ensures.spelled) last c.check_algebra.ensures.reads.others
     c.read_graph.ensures.inspects p (shown_fits c.in_ok-graph.graph shown c.in_ok-shown.ensures.of_graph) c.in_ok-shown.ensures.gives (sides_for c.args.claim p.extended.graph) c.in_err-closed.field-0.0 c.in_err-closed.ensures.refused)
 
 pub returns-clause-opened_all : goal.returns-clause-opened_all
@@ -146,7 +152,7 @@ returns-clause-opened_all g c =
     let first = g.D.Desk.seen c.args.desk.now in
     let second = g.D.Desk.seen c.read_graph.new.desk in
     let third = g.D.Desk.seen c.check_clauses.new.desk in
-    OpensFiles-trans 2 1 first third (g.D.Desk.seen c.check_algebra.new.desk) (OpensFiles-trans 1 1 first second third c.read_graph.ensures.opens.opened c.check_clauses.ensures.opened) c.check_algebra.ensures.opened
+    OpensFiles-trans 2 1 first third (g.D.Desk.seen c.check_algebra.new.desk) (OpensFiles-trans 1 1 first second third c.read_graph.ensures.opens.opened c.check_clauses.ensures.reads.opened) c.check_algebra.ensures.reads.opened
 
 pub returns-in_err-closed-clause-opened : goal.returns-in_err-closed-clause-opened
 returns-in_err-closed-clause-opened g c =
@@ -155,7 +161,7 @@ returns-in_err-closed-clause-opened g c =
     let third = g.D.Desk.seen c.check_clauses.new.desk in
     let last = g.D.Desk.seen c.check_algebra.new.desk in
     let p = premises_of c.in_ok-shown.shown in
-    let opened = OpensFiles-trans 2 1 first third last (OpensFiles-trans 1 1 first second third c.read_graph.ensures.opens.opened c.check_clauses.ensures.opened) c.check_algebra.ensures.opened in
+    let opened = OpensFiles-trans 2 1 first third last (OpensFiles-trans 1 1 first second third c.read_graph.ensures.opens.opened c.check_clauses.ensures.reads.opened) c.check_algebra.ensures.reads.opened in
     let same = err_from_is_err_and c.from_residual-in_err-closed.result c.from_residual-in_err-closed.ensures.1 in
     rw (same.1, same.2)
     (algebra_opened first third last (lengths_of c.args.limits.now) p (sides_for c.args.claim p.extended.graph) (bytes_under third (files_of c.args.names.now).algebra) c.in_err-closed.field-0.0 c.in_err-closed.ensures.refused opened)
@@ -170,7 +176,7 @@ returns-clause-judged g c = λ yes.
     is_judged c.args.claim graph shown fits (sized_for _ _ _ c.profile.ensures c.in_ok-graph.ensures.sized) c.in_ok-graph.ensures.built
     (vanishing_does graph c.args.claim (premises_of shown) c.in_ok-graph.ensures.built.well_formed (shape_for c.args.claim.add graph (sized_for _ _ _ c.profile.ensures c.in_ok-graph.ensures.sized)) (shown_fits graph shown fits)
     (subst (λ (x : Aig). Always shown.extended.gates (λ σ. specification shown.extended (sides_for c.args.claim x) σ ≡ 0)) (graph_is graph (premises_of shown) (shown_fits graph shown fits)) c.in_ok-closed.ensures.vanishes))
-    (c.in_ok-shown.ensures.chains yes) c.in_ok-shown.ensures.earlier c.in_ok-closed.closed (c.in_ok-closed.ensures.recorded yes)
+    (c.in_ok-shown.ensures.chains yes) c.in_ok-shown.ensures.of_graph.earlier c.in_ok-closed.closed (c.in_ok-closed.ensures.recorded yes)
     (c.parts_of-header.result.0) (c.parts_of-header.result.1) c.parts_of-header.ensures.header c.parts_of-header.ensures.recorded c.parts_of-header.result.2
 
 pub returns-clause-told : goal.returns-clause-told
@@ -178,7 +184,7 @@ returns-clause-told g c = λ yes.
     let first = g.D.Desk.seen c.args.desk.now in
     let second = g.D.Desk.seen c.read_graph.new.desk in
     let third = g.D.Desk.seen c.check_clauses.new.desk in
-    is_told c.args.claim c.in_ok-graph.graph c.in_ok-shown.shown c.in_ok-shown.ensures.of_graph c.args.limits.now (files_of c.args.names.now) first second third c.read_graph.ensures.inspects c.check_clauses.ensures.inspects
+    is_told c.args.claim c.in_ok-graph.graph c.in_ok-shown.shown c.in_ok-shown.ensures.of_graph c.args.limits.now (files_of c.args.names.now) first second third c.read_graph.ensures.inspects c.check_clauses.ensures.reads.inspects
     (spelled_for _ _ _ _ _ c.profile.ensures c.in_ok-graph.ensures.spelled) (c.in_ok-shown.ensures.adds yes) c.in_ok-closed.closed
     (subst (λ (b : Bool). IfSome (bytes_under third (files_of c.args.names.now).algebra) (λ bytes. IsRecordOf b c.in_ok-shown.shown.header.version (modulus c.in_ok-shown.shown.extended) bytes
     (lines_in c.in_ok-closed.closed.record.terms c.in_ok-closed.closed.record.lines.items) c.in_ok-closed.closed.id c.in_ok-closed.closed.lines)) yes c.in_ok-closed.ensures.told)
@@ -188,25 +194,25 @@ returns-clause-told g c = λ yes.
 
 pub returns-in_err-shown-clause-inspects : goal.returns-in_err-shown-clause-inspects
 returns-in_err-shown-clause-inspects g c =
-    Inspects-trans (g.D.Desk.seen c.args.desk.now) (g.D.Desk.seen c.read_graph.new.desk) (g.D.Desk.seen c.check_clauses.new.desk) c.read_graph.ensures.inspects c.check_clauses.ensures.inspects
+    Inspects-trans (g.D.Desk.seen c.args.desk.now) (g.D.Desk.seen c.read_graph.new.desk) (g.D.Desk.seen c.check_clauses.new.desk) c.read_graph.ensures.inspects c.check_clauses.ensures.reads.inspects
 
 pub returns-clause-inspects : goal.returns-clause-inspects
 returns-clause-inspects g c =
     let first = g.D.Desk.seen c.args.desk.now in
     let third = g.D.Desk.seen c.check_clauses.new.desk in
     Inspects-trans first third (g.D.Desk.seen c.check_algebra.new.desk)
-    (Inspects-trans first (g.D.Desk.seen c.read_graph.new.desk) third c.read_graph.ensures.inspects c.check_clauses.ensures.inspects) c.check_algebra.ensures.inspects
+    (Inspects-trans first (g.D.Desk.seen c.read_graph.new.desk) third c.read_graph.ensures.inspects c.check_clauses.ensures.reads.inspects) c.check_algebra.ensures.reads.inspects
 
 pub returns-in_err-shown-clause-tells : goal.returns-in_err-shown-clause-tells
 returns-in_err-shown-clause-tells g c =
-    KeepsTelling-trans (g.D.Desk.seen c.args.desk.now) (g.D.Desk.seen c.read_graph.new.desk) (g.D.Desk.seen c.check_clauses.new.desk) c.read_graph.ensures.opens.tells c.check_clauses.ensures.tells
+    KeepsTelling-trans (g.D.Desk.seen c.args.desk.now) (g.D.Desk.seen c.read_graph.new.desk) (g.D.Desk.seen c.check_clauses.new.desk) c.read_graph.ensures.opens.tells c.check_clauses.ensures.reads.tells
 
 pub returns-clause-tells : goal.returns-clause-tells
 returns-clause-tells g c =
     let first = g.D.Desk.seen c.args.desk.now in
     let third = g.D.Desk.seen c.check_clauses.new.desk in
     KeepsTelling-trans first third (g.D.Desk.seen c.check_algebra.new.desk)
-    (KeepsTelling-trans first (g.D.Desk.seen c.read_graph.new.desk) third c.read_graph.ensures.opens.tells c.check_clauses.ensures.tells) c.check_algebra.ensures.tells
+    (KeepsTelling-trans first (g.D.Desk.seen c.read_graph.new.desk) third c.read_graph.ensures.opens.tells c.check_clauses.ensures.reads.tells) c.check_algebra.ensures.reads.tells
 
 pub returns-clause-clauses_named : goal.returns-clause-clauses_named
 returns-clause-clauses_named g c =
@@ -215,7 +221,7 @@ returns-clause-clauses_named g c =
     let third = g.D.Desk.seen c.check_clauses.new.desk in
     let name = c.args.names.now.clauses.now in
     told_later slot.Clauses name first third (g.D.Desk.seen c.check_algebra.new.desk)
-    (told_earlier slot.Clauses name first second third (c.read_graph.ensures.opens.others slot.Clauses (λ e. cc)) (c.read_graph.ensures.inspects.held name) c.check_clauses.ensures.named) (c.check_algebra.ensures.others slot.Clauses (λ e. cc))
+    (told_earlier slot.Clauses name first second third (c.read_graph.ensures.opens.others slot.Clauses (λ e. cc)) (c.read_graph.ensures.inspects.held name) c.check_clauses.ensures.reads.named) (c.check_algebra.ensures.reads.others slot.Clauses (λ e. cc))
 
 pub returns-clause-algebra_named : goal.returns-clause-algebra_named
 returns-clause-algebra_named g c =
@@ -225,7 +231,7 @@ returns-clause-algebra_named g c =
     let last = g.D.Desk.seen c.check_algebra.new.desk in
     let name = c.args.names.now.algebra.now in
     told_earlier slot.Algebra name first second last (c.read_graph.ensures.opens.others slot.Algebra (λ e. cc)) (c.read_graph.ensures.inspects.held name)
-    (told_earlier slot.Algebra name second third last (c.check_clauses.ensures.others slot.Algebra (λ e. cc)) (c.check_clauses.ensures.inspects.held name) c.check_algebra.ensures.named)
+    (told_earlier slot.Algebra name second third last (c.check_clauses.ensures.reads.others slot.Algebra (λ e. cc)) (c.check_clauses.ensures.reads.inspects.held name) c.check_algebra.ensures.reads.named)
 
 -- ---- no refusal accepts
 

@@ -2,13 +2,13 @@ use Rattle.std.specs.Option.{IfSome}
 use Rattle.std.proofs.lemmas.Result.{IfErr-weaker, IfOk-weaker}
 use Rattle.mv_desk.specs.View.{bytes_under}
 use Rattle.mv_desk.specs.declared.slot.Slot.TheVariants as slot
-use Rattle.mv_desk.proofs.CallerLemmas.{IfSome-Keeps, Inspects-Opens, Inspects-ReadsOnly, Inspects-trans, KeepsTelling-trans, OpensFiles-still, SlotStays-trans}
+use Rattle.mv_desk.proofs.CallerLemmas.{IfSome-Keeps}
 use Rattle.mv_text.specs.LineReading.{lengths_of}
 use Rattle.joint_checker.specs.ClauseFiles.{AddsClauses, GivesPremises}
 use Rattle.joint_checker.specs.Fails.{IsClauseFail}
 use Rattle.joint_checker.specs.Shown.{premises_of}
 use Rattle.joint_checker.proofs.OpenedTexts.{clauses_fail}
-use Rattle.command_core.proofs.CallerLemmas.{opened_told}
+use Rattle.joint_checker.proofs.CertificateReading.{not_opened, opened_and_read}
 use Rattle.joint_checker.proofs.clause_file.check_clauses.Goals as goal
 
 pub returns-in-Ok-clause-gives : goal.returns-in-Ok-clause-gives
@@ -43,27 +43,12 @@ returns-in-Ok-clause-refused g c =
     IfErr-weaker c.judge_clauses.result (IsClauseFail lengths graph left before now) (IsClauseFail lengths graph text first now)
     (clauses_fail text left c.in-Ok.ensures.opens.left first before now c.in-Ok.ensures.cause.later lengths graph) c.judge_clauses.ensures.refused
 
-pub returns-in-Ok-clause-others : goal.returns-in-Ok-clause-others
-returns-in-Ok-clause-others g c =
-    λ other apart. SlotStays-trans other (g.D.Desk.seen c.args.desk.now) (g.D.Desk.seen c.open_file.new.self) (g.D.Desk.seen c.judge_clauses.new.desk) (c.in-Ok.ensures.opens.others other apart)
-    (c.judge_clauses.ensures.only.others other apart)
+pub returns-in-Ok-clause-reads : goal.returns-in-Ok-clause-reads
+returns-in-Ok-clause-reads g c =
+    opened_and_read slot.Clauses c.args.name.now (g.D.Desk.seen c.args.desk.now) (g.D.Desk.seen c.open_file.new.self) c.open_file.result c.open_file.ensures.cause c.open_file.ensures.counted c.open_file.ensures.tells
+    (g.D.Desk.seen c.judge_clauses.new.desk) (λ e. cc) c.in-Ok.ensures.opens c.judge_clauses.ensures.only c.judge_clauses.ensures.tells
 
-pub returns-in-Ok-clause-opened : goal.returns-in-Ok-clause-opened
-returns-in-Ok-clause-opened g c =
-    OpensFiles-still 1 (g.D.Desk.seen c.args.desk.now) (g.D.Desk.seen c.open_file.new.self) (g.D.Desk.seen c.judge_clauses.new.desk) c.in-Ok.ensures.counted c.judge_clauses.ensures.only.opened
-
-pub returns-in-Ok-clause-inspects : goal.returns-in-Ok-clause-inspects
-returns-in-Ok-clause-inspects g c =
-    let first = g.D.Desk.seen c.args.desk.now in
-    let before = g.D.Desk.seen c.open_file.new.self in
-    let now = g.D.Desk.seen c.judge_clauses.new.desk in
-    Inspects-trans first before now (Inspects-Opens slot.Clauses c.args.name.now first before c.open_file.result (λ e. cc) c.in-Ok.ensures.opens c.open_file.ensures.cause)
-    (Inspects-ReadsOnly slot.Clauses before now (λ e. cc) c.judge_clauses.ensures.only)
-
-pub returns-in-Ok-clause-tells : goal.returns-in-Ok-clause-tells
-returns-in-Ok-clause-tells g c =
-    KeepsTelling-trans (g.D.Desk.seen c.args.desk.now) (g.D.Desk.seen c.open_file.new.self) (g.D.Desk.seen c.judge_clauses.new.desk) c.in-Ok.ensures.tells c.judge_clauses.ensures.tells
-
-pub returns-in-Ok-clause-named : goal.returns-in-Ok-clause-named
-returns-in-Ok-clause-named g c =
-    opened_told slot.Clauses c.args.name.now (g.D.Desk.seen c.args.desk.now) (g.D.Desk.seen c.open_file.new.self) (g.D.Desk.seen c.judge_clauses.new.desk) c.in-Ok.ensures.opens c.judge_clauses.ensures.only
+pub returns-in-Err-clause-reads : goal.returns-in-Err-clause-reads
+returns-in-Err-clause-reads g c =
+    not_opened slot.Clauses c.args.name.now (g.D.Desk.seen c.args.desk.now) (g.D.Desk.seen c.open_file.new.self) c.open_file.result c.open_file.ensures.cause c.open_file.ensures.counted c.open_file.ensures.tells
+    c.in-Err.ensures.failed
