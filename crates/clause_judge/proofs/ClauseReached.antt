@@ -30,7 +30,7 @@ use Rattle.mv_text.specs.declared.line_fail.LineFail.TheVariants as text
 use Rattle.mv_text.specs.LineReading.{IsLongAhead}
 use Rattle.clause_judge.specs.declared.fail.ClauseFail.{ClauseFail}
 use Rattle.clause_judge.specs.declared.fail.ClauseFail.TheVariants as fail
-use Rattle.clause_judge.specs.ClauseBody.{Ends, HasPassed, IsPassed, IsRestFail, IsShownWith, PassTo, StandsAt}
+use Rattle.clause_judge.specs.ClauseBody.{Ends, HasPassed, IsPassedTo, IsRestFail, IsShownWith, PassTo, StandsAt}
 use Rattle.clause_judge.specs.ClauseLines.{answer_of_line, IsGoalFail, IsRuleFail, IsTextFail, NextLine, TakesClauseLine}
 use Rattle.clause_judge.specs.LineRefusals.{IsClauseStep, IsRefusedClause, IsRefusedLines, IsRefusedNextClause}
 use Rattle.clause_judge.specs.Taking.{HasTaken, TakeClauses}
@@ -77,26 +77,26 @@ module _ (e : Extended) (start : FileState) (body : Option (List ℕ)) where
   pub begins : StandsAt e start body [] (gate_clauses e.gates) start body
   begins = record { lengths = refl; number = omega arith; passed = go body }
     where
-      go : (o : Option (List ℕ)) → IfSome o (IsPassed e start.lines [] (gate_clauses e.gates) start.lines o)
+      go : (o : Option (List ℕ)) → IfSome o (IsPassedTo e start.lines [] (gate_clauses e.gates) start.lines o)
       go None = tt
       go (Some bytes) = record { rest = bytes; left_is = refl; count = refl; turns = omega arith; room = λ below. absurd (omega (arith, below)); passed = (refl, refl) }
 
   module _ (xs : List ClauseLine) (live : List Clause) (file : FileState) (left : Option (List ℕ)) (stands : StandsAt e start body xs live file left) where
     -- what is shown where a line stands is so of the body
     refused_lines : (n : ℕ) (c : LineCause) (P : List ℕ → Type 0) → n ≡ start.number + 1 + length xs → IfSome left P →
-        ((bytes : List ℕ) (p : IsPassed e start.lines xs live file.lines left bytes) → P p.rest → IsRefusedNextClause e (IsLongIn start.lines bytes) live p.rest c) →
+        ((bytes : List ℕ) (p : IsPassedTo e start.lines xs live file.lines left bytes) → P p.rest → IsRefusedNextClause e (IsLongIn start.lines bytes) live p.rest c) →
         IfSome body (λ bytes. IsRefusedLines (IsLongIn start.lines bytes) e (start.number + 1) bytes (n, c))
-    refused_lines n c P same h there = told_more body (IsPassed e start.lines xs live file.lines left) (λ bytes. IsRefusedLines (IsLongIn start.lines bytes) e (start.number + 1) bytes (n, c)) (λ bytes p. (
+    refused_lines n c P same h there = told_more body (IsPassedTo e start.lines xs live file.lines left) (λ bytes. IsRefusedLines (IsLongIn start.lines bytes) e (start.number + 1) bytes (n, c)) (λ bytes p. (
       xs,
       c,
       pass_map e (IsLongIn start.lines bytes) (λ s rest. IsRefusedNextClause e (IsLongIn start.lines bytes) s rest c) xs live p.rest (gate_clauses e.gates) bytes p.passed (there bytes p (told_of left p.rest P p.left_is h)),
       ap (λ (m : ℕ). (m, c)) same,
     )) stands.passed
 
-    short_here : (bytes : List ℕ) (p : IsPassed e start.lines xs live file.lines left bytes) → ¬ (IsLongAhead file.lines p.rest) → ¬ (IsLongIn start.lines bytes p.rest)
+    short_here : (bytes : List ℕ) (p : IsPassedTo e start.lines xs live file.lines left bytes) → ¬ (IsLongAhead file.lines p.rest) → ¬ (IsLongIn start.lines bytes p.rest)
     short_here bytes p short = short_of start.lines.lengths (start.lines.taken + length bytes) file.lines p.rest stands.lengths p.count short
 
-    long_here : (bytes : List ℕ) (p : IsPassed e start.lines xs live file.lines left bytes) → IsLongAhead file.lines p.rest → IsLongIn start.lines bytes p.rest
+    long_here : (bytes : List ℕ) (p : IsPassedTo e start.lines xs live file.lines left bytes) → IsLongAhead file.lines p.rest → IsLongIn start.lines bytes p.rest
     long_here bytes p long = long_of start.lines.lengths (start.lines.taken + length bytes) file.lines p.rest stands.lengths p.count long
 
     abbrev Fails : View → View → ClauseFail → Type 0
@@ -121,13 +121,13 @@ module _ (e : Extended) (start : FileState) (body : Option (List ℕ)) where
     -- ---- the end
 
     pub ends : IfSome left (IsAtEnd file.lines) → IfSome body (HasPassed e start.lines xs)
-    ends h = told_more body (IsPassed e start.lines xs live file.lines left) (HasPassed e start.lines xs) (λ bytes p.
+    ends h = told_more body (IsPassedTo e start.lines xs live file.lines left) (HasPassed e start.lines xs) (λ bytes p.
         let end = told_of left p.rest (IsAtEnd file.lines) p.left_is h in
         pass_map e (IsLongIn start.lines bytes) (Ends (IsLongIn start.lines bytes)) xs live p.rest (gate_clauses e.gates) bytes p.passed (short_here bytes p end.short, end.none)) stands.passed
 
     -- a reader within its limit doesn't read so many lines
     pub too_many : (first now : View) → 2 ^ 63 ≤ length xs → start.lines.lengths.file < 2 ^ 64 → Fails first now fail.TooLong
-    too_many first now many limit = told_more body (IsPassed e start.lines xs live file.lines left) (λ bytes. (m : ℕ) × IsRefusedLines (IsLongIn start.lines bytes) e (start.number + 1) bytes (m, TooLong))
+    too_many first now many limit = told_more body (IsPassedTo e start.lines xs live file.lines left) (λ bytes. (m : ℕ) × IsRefusedLines (IsLongIn start.lines bytes) e (start.number + 1) bytes (m, TooLong))
         (λ bytes p. let room = p.room in let turns = p.turns in absurd (omega (arith, many, limit, turns, p.room (omega (arith, many))))) stands.passed
 
     -- ---- a line was read
@@ -159,12 +159,12 @@ module _ (e : Extended) (start : FileState) (body : Option (List ℕ)) where
             record {
               lengths = lengths ∙ stands.lengths;
               number = omega (arith, next.number, stands.number, more);
-              passed = told_more body (IsPassed e start.lines xs live file.lines left) (IsPassed e start.lines (xs ++ next.text ∷ []) s.0 new.lines behind) (λ bytes p. passes bytes p s.0 s.1 more) stands.passed;
+              passed = told_more body (IsPassedTo e start.lines xs live file.lines left) (IsPassedTo e start.lines (xs ++ next.text ∷ []) s.0 new.lines behind) (λ bytes p. passes bytes p s.0 s.1 more) stands.passed;
             },
           )
         where
-          passes : (bytes : List ℕ) (p : IsPassed e start.lines xs live file.lines left bytes) (last : List Clause) → IsClauseStep e live next.text last → length (xs ++ next.text ∷ []) ≡ length xs + 1 →
-              IsPassed e start.lines (xs ++ next.text ∷ []) last new.lines behind bytes
+          passes : (bytes : List ℕ) (p : IsPassedTo e start.lines xs live file.lines left bytes) (last : List Clause) → IsClauseStep e live next.text last → length (xs ++ next.text ∷ []) ≡ length xs + 1 →
+              IsPassedTo e start.lines (xs ++ next.text ∷ []) last new.lines behind bytes
           passes bytes p last one more =
               let t = told_of left p.rest (λ r. TakesText IsClauseLine file.lines new.lines r behind next.text) p.left_is next.takes in
               let short = short_here bytes p t.short in

@@ -24,7 +24,7 @@ use Rattle.mv_desk.specs.View.{View}
 use Rattle.mv_desk.specs.declared.slot.Slot.TheVariants as slot
 use Rattle.clause_judge.specs.declared.fail.ClauseFail.{ClauseFail}
 use Rattle.clause_judge.specs.declared.fail.ClauseFail.TheVariants as fail
-use Rattle.clause_judge.specs.ClauseBody.{AreJudged, BeginsBody, BeginsSomewhere, HasJudged, HasPassed, IsAtHand, IsFailFrom, IsReached, IsRestFail, IsSameTask, IsShownFrom, IsShownWith, JoinsFrom, KeepsTask}
+use Rattle.clause_judge.specs.ClauseBody.{AreClausesJudged, BeginsBody, BeginsSomewhere, HasJudgedClauses, HasPassed, IsAtHand, IsClauseReached, IsFailFrom, IsRestFail, IsSameTask, IsShownFrom, IsShownWith, JoinsFrom, KeepsClauseTask}
 use Rattle.clause_judge.specs.ClauseLines.{IsGoalFail, IsRuleFail, IsTextFail, NextLine, ReadsNext, TakesClauseLine}
 use Rattle.clause_judge.specs.declared.judging.JudgeClauses.{JudgeClauses}
 use Rattle.clause_judge.specs.Taking.{HasTakenNone}
@@ -35,14 +35,14 @@ use Rattle.clause_judge.proofs.Joins.{goals_join_columns, lines_join_columns}
 use Rattle.clause_judge.proofs.Told.{told_more}
 
 -- a line that is taken leaves the task
-pub takes_task : (x : ClauseLine) (k k' : Checking) → TakesClauseLine x k k' → KeepsTask k k'
+pub takes_task : (x : ClauseLine) (k k' : Checking) → TakesClauseLine x k k' → KeepsClauseTask k k'
 takes_task (Add c) k k' h = record { gates = h.gates; max = h.max; goals = h.goals; keeps = h.keeps }
 takes_task (Delete c) k k' h = record { gates = h.gates; max = h.max; goals = h.goals; keeps = h.keeps }
 
-pub task_stays : {a b : Checking} → b ≡ a → KeepsTask a b
+pub task_stays : {a b : Checking} → b ≡ a → KeepsClauseTask a b
 task_stays is = record { gates = ap (λ (k : Checking). k.gates) is; max = ap (λ (k : Checking). k.max) is; goals = ap (λ (k : Checking). k.goals) is; keeps = ap (λ (k : Checking). k.keeps) is }
 
-task_trans : {a b c : Checking} → KeepsTask a b → KeepsTask b c → KeepsTask a c
+task_trans : {a b c : Checking} → KeepsClauseTask a b → KeepsClauseTask b c → KeepsClauseTask a c
 task_trans p q = record { gates = q.gates ∙ p.gates; max = q.max ∙ p.max; goals = q.goals ∙ p.goals; keeps = q.keeps ∙ p.keeps }
 
 -- a line that was read is in range, and the file goes on
@@ -68,7 +68,7 @@ module _ (e : Extended) (start : FileState) (body : Option (List ℕ)) where
   first_fails before now answer h =
       reached.text_fails e start body [] (gate_clauses e.gates) start body (begins e start body) (start.number + 1) before before now answer (omega arith) (omega arith) h
 
-  pub first_reached : (k : Checking) (next : Option ClauseLine) (file : FileState) (left : Option (List ℕ)) → BeginsBody e k start file body left next → IsReached e start body k 0 next file left
+  pub first_reached : (k : Checking) (next : Option ClauseLine) (file : FileState) (left : Option (List ℕ)) → BeginsBody e k start file body left next → IsClauseReached e start body k 0 next file left
   first_reached k next file left b = record {
     xs = [];
     live = gate_clauses e.gates;
@@ -108,7 +108,7 @@ module _ (e : Extended) (start : FileState) (body : Option (List ℕ)) where
 -- ---- since a start
 
 -- no line is judged yet
-pub none_judged : (it : JudgeClauses) (first : View) → it.max < 2 ^ 31 → it.checker.now.max ≡ it.max → BeginsSomewhere it.checker.now it.next.now it.file.now (left_of_file slot.Clauses it.file.now first) → HasJudged it first 0 it first
+pub none_judged : (it : JudgeClauses) (first : View) → it.max < 2 ^ 31 → it.checker.now.max ≡ it.max → BeginsSomewhere it.checker.now it.next.now it.file.now (left_of_file slot.Clauses it.file.now first) → HasJudgedClauses it first 0 it first
 none_judged it first small greatest some =
     let left = left_of_file slot.Clauses it.file.now first in
     record {
@@ -119,7 +119,7 @@ none_judged it first small greatest some =
       reached = λ e file body b. first_reached e file body it.checker.now it.next.now it.file.now left b;
     }
 
-module _ {start it : JudgeClauses} {first before : View} {count : ℕ} (judged : HasJudged start first count it before) where
+module _ {start it : JudgeClauses} {first before : View} {count : ℕ} (judged : HasJudgedClauses start first count it before) where
   abbrev left : Option (List ℕ)
   left = left_of_file slot.Clauses it.file.now before
 
@@ -129,13 +129,13 @@ module _ {start it : JudgeClauses} {first before : View} {count : ℕ} (judged :
   abbrev FailsSince : View → ClauseFail → Type 0
   FailsSince now answer = IsFailFrom start.checker.now start.next.now start.file.now (left_of_file slot.Clauses start.file.now first) first now answer
 
-  at : (next : Option ClauseLine) → it.next.now ≡ next → (e : Extended) (file : FileState) (body : Option (List ℕ)) → Begins e file body → IsReached e file body it.checker.now count next it.file.now left
-  at next is e file body b = subst (λ (n : Option ClauseLine). IsReached e file body it.checker.now count n it.file.now left) is (judged.reached e file body b)
+  at : (next : Option ClauseLine) → it.next.now ≡ next → (e : Extended) (file : FileState) (body : Option (List ℕ)) → Begins e file body → IsClauseReached e file body it.checker.now count next it.file.now left
+  at next is e file body b = subst (λ (n : Option ClauseLine). IsClauseReached e file body it.checker.now count n it.file.now left) is (judged.reached e file body b)
 
   max_is : (e : Extended) → start.checker.now.max ≡ e.max → it.max ≡ e.max
   max_is e is = sym judged.greatest ∙ judged.same.task.max ∙ is
 
-  pub still_same : {last : JudgeClauses} → last.checker.ghost_name ≡ it.checker.ghost_name → last.file.ghost_name ≡ it.file.ghost_name → KeepsTask it.checker.now last.checker.now → IsSameTask start last
+  pub still_same : {last : JudgeClauses} → last.checker.ghost_name ≡ it.checker.ghost_name → last.file.ghost_name ≡ it.file.ghost_name → KeepsClauseTask it.checker.now last.checker.now → IsSameTask start last
   still_same checker file task = record { checker = checker ∙ judged.same.checker; file = file ∙ judged.same.file; task = task_trans judged.same.task task }
 
   -- ---- a line
@@ -144,7 +144,7 @@ module _ {start it : JudgeClauses} {first before : View} {count : ℕ} (judged :
     pub in_hand : IsClauseInRange it.max (clause_in line) × GoesOn it.file.now
     in_hand = subst (IsAtHand it.max it.file.now) is judged.at_hand
 
-    number_is : (e : Extended) (file : FileState) (body : Option (List ℕ)) (r : IsReached e file body it.checker.now count (Some line) it.file.now left) → it.file.now.number ≡ file.number + 1 + length r.xs
+    number_is : (e : Extended) (file : FileState) (body : Option (List ℕ)) (r : IsClauseReached e file body it.checker.now count (Some line) it.file.now left) → it.file.now.number ≡ file.number + 1 + length r.xs
     number_is e file body r = let next : NextLine e.max r.before it.file.now r.ahead left line = r.read in omega (arith, next.number, r.stands.number)
 
     pub rule_fails : (now : View) (answer : ClauseFail) → IsRuleFail it.file.now.number line it.checker.now answer → FailsSince now answer
@@ -163,7 +163,7 @@ module _ {start it : JudgeClauses} {first before : View} {count : ℕ} (judged :
           (subst (λ (m : ℕ). IsTextFail (it.file.now.number + 1) m it.file.now.lines left before now answer) (max_is e b.max) h)
 
       pub next_reached : (then : Option ClauseLine) (new : FileState) (behind : Option (List ℕ)) → new.lines.lengths ≡ it.file.now.lines.lengths → ReadsNext it.max it.file.now new left behind then →
-          (e : Extended) (file : FileState) (body : Option (List ℕ)) → Begins e file body → IsReached e file body k (count + 1) then new behind
+          (e : Extended) (file : FileState) (body : Option (List ℕ)) → Begins e file body → IsClauseReached e file body k (count + 1) then new behind
       next_reached then new behind lengths read e file body b =
           let r = at (Some line) is e file body b in
           let next : NextLine e.max r.before it.file.now r.ahead left line = r.read in
@@ -208,5 +208,5 @@ module _ {start it : JudgeClauses} {first before : View} {count : ℕ} (judged :
       reached.too_many e file body r.xs r.live r.before r.ahead r.stands earlier now (omega (arith, many, turns)) b.limit
 
 pub have_failed : {start last : JudgeClauses} {first now : View} {answer : ClauseFail} → IsSameTask start last → IsFailFrom start.checker.now start.next.now start.file.now (left_of_file slot.Clauses start.file.now first) first now answer →
-    AreJudged start first (Err answer) last now
+    AreClausesJudged start first (Err answer) last now
 have_failed same refused = record { same = same; lawful = tt; columns = tt; refused = refused }

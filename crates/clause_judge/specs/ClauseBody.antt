@@ -98,7 +98,7 @@ abbrev pub PassTo : Extended → (List ℕ → Type 0) → List ClauseLine → L
 PassTo e IsLong xs live rest = Behind IsClauseLine (IsClauseStep e) IsLong (λ s left. (s ≡ live) × (left ≡ rest)) xs
 
 -- Of a body that this reader had before it, these lines passed, and the bytes that are left begin where the reader is now.
-pub record IsPassed (e : Extended) (start : Lines) (xs : List ClauseLine) (live : List Clause) (lines : Lines)
+pub record IsPassedTo (e : Extended) (start : Lines) (xs : List ClauseLine) (live : List Clause) (lines : Lines)
     (left : Option (List ℕ)) (body : List ℕ) : Type 0 where
   pub rest : List ℕ
   pub left_is : left ≡ Some rest
@@ -113,10 +113,10 @@ pub record StandsAt (e : Extended) (start : FileState) (body : Option (List ℕ)
     (file : FileState) (left : Option (List ℕ)) : Type 0 where
   pub lengths : file.lines.lengths ≡ start.lines.lengths
   pub number : file.number ≡ start.number + length xs
-  pub passed : IfSome body (IsPassed e start.lines xs live file.lines left)
+  pub passed : IfSome body (IsPassedTo e start.lines xs live file.lines left)
 
 -- So many lines were taken by the checker so far, and the next one was read, or the end.
-pub record IsReached (e : Extended) (start : FileState) (body : Option (List ℕ)) (k : Checking) (turn : ℕ)
+pub record IsClauseReached (e : Extended) (start : FileState) (body : Option (List ℕ)) (k : Checking) (turn : ℕ)
     (next : Option ClauseLine) (file : FileState) (left : Option (List ℕ)) : Type 0 where
   pub xs : List ClauseLine
   pub live : List Clause
@@ -129,7 +129,7 @@ pub record IsReached (e : Extended) (start : FileState) (body : Option (List ℕ
   pub read : ReadsNext e.max before file ahead left next
 
 -- the checker has the same gates and goals, and keeps as much
-pub record KeepsTask (old new : Checking) : Type 0 where
+pub record KeepsClauseTask (old new : Checking) : Type 0 where
   pub gates : new.gates ≡ old.gates
   pub max : new.max ≡ old.max
   pub goals : new.goals ≡ old.goals
@@ -139,23 +139,23 @@ pub record KeepsTask (old new : Checking) : Type 0 where
 pub record IsSameTask (start it : JudgeClauses) : Type 0 where
   pub checker : it.checker.ghost_name ≡ start.checker.ghost_name
   pub file : it.file.ghost_name ≡ start.file.ghost_name
-  pub task : KeepsTask start.checker.now it.checker.now
+  pub task : KeepsClauseTask start.checker.now it.checker.now
 
 -- the line at hand is in range, and the file goes on behind it
 abbrev pub IsAtHand : ℕ → FileState → Option ClauseLine → Type 0
 IsAtHand max file None = ⊤
 IsAtHand max file (Some line) = IsClauseInRange max (clause_in line) × GoesOn file
 
-pub record HasJudged (start : JudgeClauses) (first : View) (count : ℕ) (it : JudgeClauses) (now : View) : Type 0 where
+pub record HasJudgedClauses (start : JudgeClauses) (first : View) (count : ℕ) (it : JudgeClauses) (now : View) : Type 0 where
   pub same : IsSameTask start it
   pub small : it.max < 2 ^ 31
   pub greatest : it.checker.now.max ≡ it.max
   pub at_hand : IsAtHand it.max it.file.now it.next.now
   pub reached : (e : Extended) (file : FileState) (body : Option (List ℕ)) →
       BeginsBody e start.checker.now file start.file.now body (left_of_file slot.Clauses start.file.now first) start.next.now →
-      IsReached e file body it.checker.now count it.next.now it.file.now (left_of_file slot.Clauses it.file.now now)
+      IsClauseReached e file body it.checker.now count it.next.now it.file.now (left_of_file slot.Clauses it.file.now now)
 
-pub record AreJudged (start : JudgeClauses) (first : View) (answer : Result ℕ ClauseFail) (it : JudgeClauses) (now : View) : Type 0 where
+pub record AreClausesJudged (start : JudgeClauses) (first : View) (answer : Result ℕ ClauseFail) (it : JudgeClauses) (now : View) : Type 0 where
   pub same : IsSameTask start it
   pub lawful : IfOk answer (λ count.
       IsShownFrom start.checker.now it.checker.now.added count start.next.now start.file.now (left_of_file slot.Clauses start.file.now first))

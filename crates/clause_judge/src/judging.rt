@@ -60,7 +60,7 @@ struct JudgeClauses<'a, 'g> {
 
 impl<'a, 'g, D: Desk> JudgeLines<D> for JudgeClauses<'a, 'g> {
     ghost use Rattle.mv_desk.specs.declared.slot.Slot.TheVariants.{Clauses};
-    ghost use Rattle.clause_judge.specs.ClauseBody.{AreJudged, HasJudged};
+    ghost use Rattle.clause_judge.specs.ClauseBody.{AreClausesJudged, HasJudgedClauses};
 
     type End = u64;
 
@@ -68,9 +68,9 @@ impl<'a, 'g, D: Desk> JudgeLines<D> for JudgeClauses<'a, 'g> {
 
     ghost slot = { Clauses };
 
-    ghost reached = { HasJudged };
+    ghost reached = { HasJudgedClauses };
 
-    ghost judged = { AreJudged };
+    ghost judged = { AreClausesJudged };
 
     fn judge_line(&mut self, desk: &mut D, count: u64) -> Result<Option<u64>, ClauseFail> {
         match self.next.take() {

@@ -20,7 +20,7 @@ use Rattle.ripple_graft.specs.Blocks.{AreBlocks, IsBlock, graft_all, graft_block
 use Rattle.drup_text.specs.ClauseTexts.{IsBlockLine, IsCountLine, IsCutLine, IsPairLine}
 use Rattle.drup_text.specs.PassingHeaders.{PassBlocks, PassesBlock, PassesCount, PassesCut, block_lines}
 use Rattle.drup_text.specs.HeaderRefusal.{Later, LineCause, IsPairStep, IsRefusedBehindCut, IsRefusedBehindPairs, IsRefusedBlock, IsRefusedBlocks, IsRefusedCount, IsRefusedCut, IsRefusedPairs, Range, Text, TooLong, block_at, cut_at, nothing_later}
-use Rattle.drup_text.specs.HeaderSteps.{Part, ReadsPart, blocks_part, count_part, line_part, pairs_part}
+use Rattle.drup_text.specs.HeaderSteps.{HeaderPart, ReadsHeaderPart, blocks_part, count_part, line_part, pairs_part}
 use Rattle.drup_text.specs.Headers.{head_of}
 use Rattle.drup_text.specs.LineTexts.{IsCountInRange, IsHeadOf, IsPairOf, IsSizeInRange}
 use Rattle.drup_text.proofs.HeaderSteps.{part_behind, refused_behind}
@@ -101,7 +101,7 @@ front_refused IsText InRange Then IsLong n bytes p h =
 -- ---- the cut's line and its pairs
 
 module _ (g : Aig) (IsLong : List ℕ → Type 0) where
-  abbrev cut_line : Part (Option (ℕ × ℕ))
+  abbrev cut_line : HeaderPart (Option (ℕ × ℕ))
   cut_line = line_part IsCutLine (IsSizeInRange (length g.outputs))
 
   pub no_cut : (bytes body : List ℕ) → cut_line.passes IsLong bytes None body → PassesCut g IsLong bytes None body
@@ -131,7 +131,7 @@ module _ (g : Aig) (IsLong : List ℕ → Type 0) where
 -- ---- a block's line and its pairs
 
 module _ (x : Extended) (IsLong : List ℕ → Type 0) where
-  abbrev head_line : Part (ℕ × ℕ × Bool)
+  abbrev head_line : HeaderPart (ℕ × ℕ × Bool)
   head_line = line_part IsBlockLine (IsHeadOf x)
 
   pub block_joined : (b : Block) (count : ℕ) (pairs : Vec (Lit × Lit) Global) → b.cut.pairs ≡ pairs.items → length pairs.items ≡ count → (bytes rest body : List ℕ) → head_line.passes IsLong bytes (b.cut.lo, count, b.carry) rest →
@@ -173,7 +173,7 @@ some_left (suc i) (suc count) h = let more = some_left i count (omega arith) in 
 -- ---- the loop over blocks
 
 -- Where so many of the blocks that are to come passed: what passes or is refused from here on does so from the first one on.
-abbrev pub blocks_so_far : Extended → ℕ → Part (Vec Block Global)
+abbrev pub blocks_so_far : Extended → ℕ → HeaderPart (Vec Block Global)
 blocks_so_far start count = record {
   passes = λ IsLong bytes blocks rest.
       ((more : List Block) (body : List ℕ) → PassBlocks IsLong (graft_all start blocks.items) rest more body → PassBlocks IsLong start bytes (blocks.items ++ more) body) ×
@@ -228,7 +228,7 @@ blocks_all start count blocks IsLong bytes body h = subst (λ bs. PassBlocks IsL
 -- ---- the number of blocks, and they
 
 module _ (g : Aig) (IsLong : List ℕ → Type 0) where
-  abbrev count_line : Part ℕ
+  abbrev count_line : HeaderPart ℕ
   count_line = line_part IsCountLine (IsCountInRange (length g.outputs))
 
   pub counted_joined : (count : ℕ) (blocks : List Block) → length blocks ≡ count → (bytes rest body : List ℕ) → count_line.passes IsLong bytes count rest → PassBlocks IsLong (without_cut g) rest blocks body → PassesCount g IsLong bytes blocks body
@@ -244,7 +244,7 @@ module _ (g : Aig) (IsLong : List ℕ → Type 0) where
 
 -- they, where their number was read
 pub counted_read : (g : Aig) (count : ℕ) {old mid new : FileState} {before between now : View} (r : Result (Vec Block Global) LineFail) → old.number ≡ 1 → mid.lines.lengths ≡ old.lines.lengths → between.read_faults ≡ before.read_faults →
-    ReadsPart (line_part IsCountLine (IsCountInRange (length g.outputs))) old mid before between (Ok count) → IfOk r (λ bs. length bs.items ≡ count) → ReadsPart (blocks_part (without_cut g) count) mid new between now r → ReadsPart (count_part g) old new before now r
+    ReadsHeaderPart (line_part IsCountLine (IsCountInRange (length g.outputs))) old mid before between (Ok count) → IfOk r (λ bs. length bs.items ≡ count) → ReadsHeaderPart (blocks_part (without_cut g) count) mid new between now r → ReadsHeaderPart (count_part g) old new before now r
 counted_read g count (Ok blocks) first lengths stands line many h =
     part_behind (line_part IsCountLine (IsCountInRange (length g.outputs))) (blocks_part (without_cut g) count) (count_part g) count lengths line blocks blocks refl (λ IsLong. counted_joined g IsLong count blocks.items many) h
 counted_read g count {old} (Err f) first lengths stands line many h =

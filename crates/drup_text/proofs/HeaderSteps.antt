@@ -23,7 +23,7 @@ use Rattle.drup_text.specs.ClauseTexts.{IsPairLine}
 use Rattle.drup_text.specs.PassingHeaders.{IsCause}
 use Rattle.drup_text.specs.HeaderRefusal.{LineCause, IsPairStep, IsRefusedBehindPairs, IsRefusedPair, IsRefusedPairs, nothing_later}
 use Rattle.drup_text.specs.HeaderRefusal as cause
-use Rattle.drup_text.specs.HeaderSteps.{IsLongIn, Part, ReadsPart, TakesPart, line_part, pairs_part}
+use Rattle.drup_text.specs.HeaderSteps.{HeaderPart, IsLongIn, ReadsHeaderPart, TakesHeaderPart, line_part, pairs_part}
 use Rattle.drup_text.specs.LineTexts.{IsPairOf}
 
 -- ---- a line
@@ -44,9 +44,9 @@ module _ {X : Type 0} (IsText : List ℕ → X → Type 0) (InRange : X → Type
   abbrev IsSaid : List ℕ → X → Type 0
   IsSaid bytes x = IsText bytes x × InRange x
 
-  line_is_part : (old new : FileState) (before now : View) (r : Result X LineFail) → ReadsNeeded IsText InRange IsSaid Clauses old new before now r → ReadsPart (line_part IsText InRange) old new before now r
+  line_is_part : (old new : FileState) (before now : View) (r : Result X LineFail) → ReadsNeeded IsText InRange IsSaid Clauses old new before now r → ReadsHeaderPart (line_part IsText InRange) old new before now r
   line_is_part old new before now (Ok x) h = record {
-    value = told_from (left_of_file Clauses old before) (λ left. TakesText IsSaid old.lines new.lines left (left_of_file Clauses new now) x) (λ left. TakesPart (line_part IsText InRange) old.lines new.lines left (left_of_file Clauses new now) x)
+    value = told_from (left_of_file Clauses old before) (λ left. TakesText IsSaid old.lines new.lines left (left_of_file Clauses new now) x) (λ left. TakesHeaderPart (line_part IsText InRange) old.lines new.lines left (left_of_file Clauses new now) x)
         (λ left e t. record { body = t.rest; passes = (t.short, (t.begins.0, t.begins.1.0, t.begins.2), t.begins.1.1); left_is = t.left_is; taken = t.taken }) h.line;
     refused = tt;
     number = h.number;
@@ -62,11 +62,11 @@ module _ {X : Type 0} (IsText : List ℕ → X → Type 0) (InRange : X → Type
 
   -- what was read of the line that was given, or why none was given
   pub line_answered : {old new : FileState} {before now : View} (v : Vec ℕ Global) (r : Result X LineFail) → GivesNeeded Clauses old new before now (Ok v) → IfOk r (IsSaid v.items) → IfErr r (SaysNothing IsText InRange v.items) →
-      ReadsPart (line_part IsText InRange) old (settled new (result_err r)) before now r
+      ReadsHeaderPart (line_part IsText InRange) old (settled new (result_err r)) before now r
   line_answered {old} {new} {before} {now} v (Ok x) gives is refused = line_is_part old (settled new None) before now (Ok x) (needed_read IsText InRange IsSaid none v x gives is)
   line_answered {old} {new} {before} {now} v (Err f) gives is refused = line_is_part old (settled new (Some f)) before now (Err f) (needed_not_read IsText InRange IsSaid none v f gives refused)
 
-  pub line_missed : {old new : FileState} {before now : View} (f : LineFail) → GivesNeeded Clauses old new before now (Err f) → ReadsPart (line_part IsText InRange) old new before now (Err f)
+  pub line_missed : {old new : FileState} {before now : View} (f : LineFail) → GivesNeeded Clauses old new before now (Err f) → ReadsHeaderPart (line_part IsText InRange) old new before now (Err f)
   line_missed {old} {new} {before} {now} f gives = line_is_part old new before now (Err f) (needed_fault_read IsText InRange IsSaid none f gives)
 
 -- ---- parts one behind the other
@@ -91,18 +91,18 @@ cause_behind Refused Later left after first mid last n f same passes h = go f h
 pub over_all : (P : (List ℕ → Type 0) → Type 0) (old mid : Lines) (bytes rest : List ℕ) → mid.lengths ≡ old.lengths → mid.taken + length rest ≡ old.taken + length bytes → P (IsLongIn mid rest) → P (IsLongIn old bytes)
 over_all P old mid bytes rest lengths taken h = subst (λ k. P (IsTooLong k (old.taken + length bytes))) lengths (subst (λ n. P (IsTooLong mid.lengths n)) taken h)
 
-module _ {X Y Z : Type 0} (one : Part X) (two : Part Y) (both : Part Z) {old mid new : FileState} {before between now : View} (x : X) (lengths : mid.lines.lengths ≡ old.lines.lengths)
-    (first : ReadsPart one old mid before between (Ok x)) where
+module _ {X Y Z : Type 0} (one : HeaderPart X) (two : HeaderPart Y) (both : HeaderPart Z) {old mid new : FileState} {before between now : View} (x : X) (lengths : mid.lines.lengths ≡ old.lines.lengths)
+    (first : ReadsHeaderPart one old mid before between (Ok x)) where
   -- both pass
   pub part_behind : (y : Y) (z : Z) → both.lines z ≡ one.lines x + two.lines y →
       ((IsLong : List ℕ → Type 0) (bytes rest body : List ℕ) → one.passes IsLong bytes x rest → two.passes IsLong rest y body → both.passes IsLong bytes z body) →
-      ReadsPart two mid new between now (Ok y) → ReadsPart both old new before now (Ok z)
+      ReadsHeaderPart two mid new between now (Ok y) → ReadsHeaderPart both old new before now (Ok z)
   part_behind y z many join second =
       let n : mid.number ≡ old.number + one.lines x = first.number in
       let k : new.number ≡ mid.number + two.lines y = second.number in
       record {
-        value = told_from (left_of_file Clauses old before) (λ left. TakesPart one old.lines mid.lines left (left_of_file Clauses mid between) x) (λ left. TakesPart both old.lines new.lines left (left_of_file Clauses new now) z) (λ bytes e t.
-            let p = subst (λ o. IfSome o (λ rest. TakesPart two mid.lines new.lines rest (left_of_file Clauses new now) y)) t.left_is second.value in
+        value = told_from (left_of_file Clauses old before) (λ left. TakesHeaderPart one old.lines mid.lines left (left_of_file Clauses mid between) x) (λ left. TakesHeaderPart both old.lines new.lines left (left_of_file Clauses new now) z) (λ bytes e t.
+            let p = subst (λ o. IfSome o (λ rest. TakesHeaderPart two mid.lines new.lines rest (left_of_file Clauses new now) y)) t.left_is second.value in
             record {
               body = p.body;
               passes = join (IsLongIn old.lines bytes) bytes t.body p.body t.passes (over_all (λ IsLong. two.passes IsLong t.body y p.body) old.lines mid.lines bytes t.body lengths t.taken p.passes);
@@ -117,12 +117,12 @@ module _ {X Y Z : Type 0} (one : Part X) (two : Part Y) (both : Part Z) {old mid
   -- the second is refused
   pub refused_behind : (f : LineFail) → between.read_faults ≡ before.read_faults →
       ((IsLong : List ℕ → Type 0) (bytes rest : List ℕ) (p : ℕ × LineCause) → one.passes IsLong bytes x rest → two.refused IsLong (old.number + one.lines x + 1) rest p → both.refused IsLong (old.number + 1) bytes p) →
-      ReadsPart two mid new between now (Err f) → ReadsPart both old new before now (Err f)
+      ReadsHeaderPart two mid new between now (Err f) → ReadsHeaderPart both old new before now (Err f)
   refused_behind f stands join second = record {
     value = tt;
     refused = cause_behind (λ bytes. both.refused (IsLongIn old.lines bytes) (old.number + 1) bytes) (λ bytes. two.refused (IsLongIn mid.lines bytes) (mid.number + 1) bytes) (left_of_file Clauses old before) (left_of_file Clauses mid between)
         before.read_faults between.read_faults now.read_faults new.number f stands
-        (told_from (left_of_file Clauses old before) (λ left. TakesPart one old.lines mid.lines left (left_of_file Clauses mid between) x)
+        (told_from (left_of_file Clauses old before) (λ left. TakesHeaderPart one old.lines mid.lines left (left_of_file Clauses mid between) x)
         (λ bytes. (rest : List ℕ) × (left_of_file Clauses mid between ≡ Some rest) × ((p : ℕ × LineCause) → two.refused (IsLongIn mid.lines rest) (mid.number + 1) rest p → both.refused (IsLongIn old.lines bytes) (old.number + 1) bytes p))
         (λ bytes e t. (
           t.body,
@@ -136,8 +136,8 @@ module _ {X Y Z : Type 0} (one : Part X) (two : Part Y) (both : Part Z) {old mid
   }
 
 -- a part is refused where its front is
-pub refused_front : {X Z : Type 0} (one : Part X) (both : Part Z) {old new : FileState} {before now : View} (f : LineFail) →
-    ((IsLong : List ℕ → Type 0) (bytes : List ℕ) (p : ℕ × LineCause) → one.refused IsLong (old.number + 1) bytes p → both.refused IsLong (old.number + 1) bytes p) → ReadsPart one old new before now (Err f) → ReadsPart both old new before now (Err f)
+pub refused_front : {X Z : Type 0} (one : HeaderPart X) (both : HeaderPart Z) {old new : FileState} {before now : View} (f : LineFail) →
+    ((IsLong : List ℕ → Type 0) (bytes : List ℕ) (p : ℕ × LineCause) → one.refused IsLong (old.number + 1) bytes p → both.refused IsLong (old.number + 1) bytes p) → ReadsHeaderPart one old new before now (Err f) → ReadsHeaderPart both old new before now (Err f)
 refused_front one both {old} {new} {before} {now} f join h = record { value = tt; refused = go f h.refused; number = tt; ended = tt }
   where
     at : (p : ℕ × LineCause) → IfSome (left_of_file Clauses old before) (λ bytes. one.refused (IsLongIn old.lines bytes) (old.number + 1) bytes p) →
@@ -154,15 +154,15 @@ refused_front one both {old} {new} {before} {now} f join h = record { value = tt
     go fail.Memory k = tt
 
 -- want of memory
-pub memory_short : {X : Type 0} (part : Part X) {old new : FileState} {before now : View} (f : LineFail) → f ≡ fail.Memory → ReadsPart part old new before now (Err f)
+pub memory_short : {X : Type 0} (part : HeaderPart X) {old new : FileState} {before now : View} (f : LineFail) → f ≡ fail.Memory → ReadsHeaderPart part old new before now (Err f)
 memory_short part {old} {new} {before} {now} f is =
-    subst (λ e. ReadsPart part old new before now (Err e)) (sym is) (record { value = tt; refused = tt; number = tt; ended = tt })
+    subst (λ e. ReadsHeaderPart part old new before now (Err e)) (sym is) (record { value = tt; refused = tt; number = tt; ended = tt })
 
 -- what is read of a part is read of another one
-pub same_part : {X Z : Type 0} (one : Part X) (both : Part Z) {old new : FileState} {before now : View} (x : X) (z : Z) → both.lines z ≡ one.lines x →
-    ((IsLong : List ℕ → Type 0) (bytes body : List ℕ) → one.passes IsLong bytes x body → both.passes IsLong bytes z body) → ReadsPart one old new before now (Ok x) → ReadsPart both old new before now (Ok z)
+pub same_part : {X Z : Type 0} (one : HeaderPart X) (both : HeaderPart Z) {old new : FileState} {before now : View} (x : X) (z : Z) → both.lines z ≡ one.lines x →
+    ((IsLong : List ℕ → Type 0) (bytes body : List ℕ) → one.passes IsLong bytes x body → both.passes IsLong bytes z body) → ReadsHeaderPart one old new before now (Ok x) → ReadsHeaderPart both old new before now (Ok z)
 same_part one both {old} {new} {before} {now} x z many join h = record {
-  value = told_from (left_of_file Clauses old before) (λ left. TakesPart one old.lines new.lines left (left_of_file Clauses new now) x) (λ left. TakesPart both old.lines new.lines left (left_of_file Clauses new now) z)
+  value = told_from (left_of_file Clauses old before) (λ left. TakesHeaderPart one old.lines new.lines left (left_of_file Clauses new now) x) (λ left. TakesHeaderPart both old.lines new.lines left (left_of_file Clauses new now) z)
       (λ bytes e t. record { body = t.body; passes = join (IsLongIn old.lines bytes) bytes t.body t.passes; left_is = t.left_is; taken = t.taken }) h.value;
   refused = tt;
   number = h.number ∙ ap (λ n. old.number + n) (sym many);
@@ -170,7 +170,7 @@ same_part one both {old} {new} {before} {now} x z many join h = record {
 }
 
 -- a file that is settled read the same
-pub part_settled : {X : Type 0} (part : Part X) {old mid : FileState} {before now : View} (failed : Option LineFail) (x : X) → ReadsPart part old mid before now (Ok x) → ReadsPart part old (settled mid failed) before now (Ok x)
+pub part_settled : {X : Type 0} (part : HeaderPart X) {old mid : FileState} {before now : View} (failed : Option LineFail) (x : X) → ReadsHeaderPart part old mid before now (Ok x) → ReadsHeaderPart part old (settled mid failed) before now (Ok x)
 part_settled part failed x h = record { value = h.value; refused = tt; number = h.number; ended = h.ended }
 
 -- ---- what stays
@@ -185,9 +185,9 @@ pub reads_both : {X Y Z : Type 0} (a b c : View) (x : X) (y : Y) (z : Z) → Rea
 reads_both a b c x y z h k = record { only = ReadsOnly-trans Clauses a b c h.only k.only; stands = k.stands ∙ h.stands; tells = KeepsTelling-trans a b c h.tells k.tells }
 
 -- nothing was read yet
-pub nothing_yet : {X : Type 0} (part : Part X) (file : FileState) (view : View) (x : X) → part.lines x ≡ 0 → ((IsLong : List ℕ → Type 0) (bytes : List ℕ) → part.passes IsLong bytes x bytes) → file.ended ≡ false → ReadsPart part file file view view (Ok x)
+pub nothing_yet : {X : Type 0} (part : HeaderPart X) (file : FileState) (view : View) (x : X) → part.lines x ≡ 0 → ((IsLong : List ℕ → Type 0) (bytes : List ℕ) → part.passes IsLong bytes x bytes) → file.ended ≡ false → ReadsHeaderPart part file file view view (Ok x)
 nothing_yet part file view x none start going = record {
-  value = told (left_of_file Clauses file view) (λ left. TakesPart part file.lines file.lines left (left_of_file Clauses file view) x)
+  value = told (left_of_file Clauses file view) (λ left. TakesHeaderPart part file.lines file.lines left (left_of_file Clauses file view) x)
       (λ bytes e. record { body = bytes; passes = start (IsLongIn file.lines bytes) bytes; left_is = e; taken = refl });
   refused = tt;
   number = omega (arith, none);
@@ -197,7 +197,7 @@ nothing_yet part file view x none start going = record {
 -- ---- pairs
 
 -- where so many of the pairs that are to come passed
-abbrev pub pairs_so_far : Extended → ℕ → Part (Vec (Lit × Lit) Global)
+abbrev pub pairs_so_far : Extended → ℕ → HeaderPart (Vec (Lit × Lit) Global)
 pairs_so_far e count = record {
   passes = λ IsLong bytes pairs rest. Behind IsPairLine (IsPairStep e) IsLong (λ n left. (n + length pairs.items ≡ count) × (left ≡ rest)) pairs.items count bytes;
   refused = λ IsLong number bytes p. ⊥;

@@ -25,19 +25,19 @@ use Rattle.drup_text.specs.declared.head.Header.{Header}
 use Rattle.drup_text.specs.PassingHeaders.{HasClauseHeader, IsCause, PassesAnyHeader, PassesCount, PassesCut, block_lines, header_line_count, own_line}
 use Rattle.drup_text.specs.HeaderRefusal.{LineCause, IsClauseHeaderRefusal, IsRefusedCount, IsRefusedCut, nothing_later}
 use Rattle.drup_text.specs.HeaderRefusal as cause
-use Rattle.drup_text.specs.HeaderSteps.{IsLongIn, ReadsPart, TakesPart, count_part, cut_part, version_part}
+use Rattle.drup_text.specs.HeaderSteps.{IsLongIn, ReadsHeaderPart, TakesHeaderPart, count_part, cut_part, version_part}
 use Rattle.drup_text.specs.Headers.{second_line, version_line}
 use Rattle.drup_text.proofs.HeaderSteps.{cause_behind, memory_short, part_settled, refused_front, same_part}
 
 -- ---- behind the first line
 
 module _ (g : Aig) (version : ℕ) {old mid : FileState} {before now : View} where
-  pub version_two : (r : Result (Vec Block Global) LineFail) → version ≡ 2 → ReadsPart (count_part g) old mid before now r → ReadsPart (version_part g version) old mid before now r
+  pub version_two : (r : Result (Vec Block Global) LineFail) → version ≡ 2 → ReadsHeaderPart (count_part g) old mid before now r → ReadsHeaderPart (version_part g version) old mid before now r
   version_two (Ok blocks) two h =
       same_part (count_part g) (version_part g version) blocks blocks (ap (λ v. 1 + block_lines (own_line v) blocks.items) two) (λ IsLong bytes body p. inr (two, p)) h
   version_two (Err f) two h = refused_front (count_part g) (version_part g version) f (λ IsLong bytes p r. inr (two, r)) h
 
-  pub version_cut : (cut : Option Cut) (blocks : Vec Block Global) → version ≡ 1 → blocks.items ≡ cut_blocks (length g.outputs) cut → ReadsPart (cut_part g) old mid before now (Ok cut) → ReadsPart (version_part g version) old mid before now (Ok blocks)
+  pub version_cut : (cut : Option Cut) (blocks : Vec Block Global) → version ≡ 1 → blocks.items ≡ cut_blocks (length g.outputs) cut → ReadsHeaderPart (cut_part g) old mid before now (Ok cut) → ReadsHeaderPart (version_part g version) old mid before now (Ok blocks)
   version_cut cut blocks one is h = same_part (cut_part g) (version_part g version) cut blocks (lines cut is) (λ IsLong bytes body p. inl (one, (cut, is, p))) h
     where
       of_one : block_lines (own_line version) blocks.items ≡ block_lines 0 blocks.items
@@ -48,12 +48,12 @@ module _ (g : Aig) (version : ℕ) {old mid : FileState} {before now : View} whe
       lines (Some c) is = let e : block_lines (own_line version) blocks.items ≡ 0 + length c.pairs + 0 = of_one ∙ ap (block_lines 0) is in omega (arith, e)
 
   -- the block of a cut that was read, or want of memory
-  pub version_block : (cut : Cut) (r : Result (Vec Block Global) LineFail) → version ≡ 1 → IfOk r (λ bs. bs.items ≡ cut_blocks (length g.outputs) (Some cut)) → IfErr r (λ f. f ≡ fail.Memory) → ReadsPart (cut_part g) old mid before now (Ok (Some cut)) →
-      ReadsPart (version_part g version) old (settled mid (result_err r)) before now r
+  pub version_block : (cut : Cut) (r : Result (Vec Block Global) LineFail) → version ≡ 1 → IfOk r (λ bs. bs.items ≡ cut_blocks (length g.outputs) (Some cut)) → IfErr r (λ f. f ≡ fail.Memory) → ReadsHeaderPart (cut_part g) old mid before now (Ok (Some cut)) →
+      ReadsHeaderPart (version_part g version) old (settled mid (result_err r)) before now r
   version_block cut (Ok blocks) one is short h = part_settled (version_part g version) None blocks (version_cut (Some cut) blocks one is h)
   version_block cut (Err f) one is short h = memory_short (version_part g version) f short
 
-  pub refused_cut : (f : LineFail) → version ≡ 1 → ReadsPart (cut_part g) old mid before now (Err f) → ReadsPart (version_part g version) old mid before now (Err f)
+  pub refused_cut : (f : LineFail) → version ≡ 1 → ReadsHeaderPart (cut_part g) old mid before now (Err f) → ReadsHeaderPart (version_part g version) old mid before now (Err f)
   refused_cut f one h = refused_front (cut_part g) (version_part g version) f (λ IsLong bytes p r. inl (one, r)) h
 
 -- the blocks fit
@@ -79,7 +79,7 @@ not_both version one two = omega (arith, one, two)
 
 module _ (g : Aig) (lengths : Lengths) {old new : FileState} {between now : View} (before : Option (List ℕ)) (same : old.lines.lengths ≡ lengths)
     (first : IfSome before (λ bytes. HasEitherFirst version_line second_line old bytes (left_of_file Clauses old between))) where
-  pub header_there : (h : Header) (blocks : Vec Block Global) → h.version ≡ old.version → h.blocks ≡ blocks.items → new.lines.lengths ≡ old.lines.lengths → ReadsPart (version_part g old.version) old new between now (Ok blocks) →
+  pub header_there : (h : Header) (blocks : Vec Block Global) → h.version ≡ old.version → h.blocks ≡ blocks.items → new.lines.lengths ≡ old.lines.lengths → ReadsHeaderPart (version_part g old.version) old new between now (Ok blocks) →
       IfSome before (λ bytes. HasClauseHeader g new bytes (left_of_file Clauses new now) h)
   header_there h blocks version_is blocks_are kept behind =
       told_from before (λ bytes. HasEitherFirst version_line second_line old bytes (left_of_file Clauses old between)) (λ bytes. HasClauseHeader g new bytes (left_of_file Clauses new now) h) (λ bytes e t.
@@ -112,10 +112,10 @@ module _ (g : Aig) (lengths : Lengths) {old new : FileState} {between now : View
         },
       )) k.passes)) t) first
     where
-      part : (line bytes : List ℕ) (t : HasFirstLine line old.lines bytes (left_of_file Clauses old between)) → TakesPart (version_part g old.version) old.lines new.lines t.body (left_of_file Clauses new now) blocks
-      part line bytes t = subst (λ o. IfSome o (λ z. TakesPart (version_part g old.version) old.lines new.lines z (left_of_file Clauses new now) blocks)) t.left behind.value
+      part : (line bytes : List ℕ) (t : HasFirstLine line old.lines bytes (left_of_file Clauses old between)) → TakesHeaderPart (version_part g old.version) old.lines new.lines t.body (left_of_file Clauses new now) blocks
+      part line bytes t = subst (λ o. IfSome o (λ z. TakesHeaderPart (version_part g old.version) old.lines new.lines z (left_of_file Clauses new now) blocks)) t.left behind.value
 
-      has : (line bytes : List ℕ) (t : HasFirstLine line old.lines bytes (left_of_file Clauses old between)) (k : TakesPart (version_part g old.version) old.lines new.lines t.body (left_of_file Clauses new now) blocks) →
+      has : (line bytes : List ℕ) (t : HasFirstLine line old.lines bytes (left_of_file Clauses old between)) (k : TakesHeaderPart (version_part g old.version) old.lines new.lines t.body (left_of_file Clauses new now) blocks) →
           PassesAnyHeader g lengths bytes h k.body → HasClauseHeader g new bytes (left_of_file Clauses new now) h
       has line bytes t k passes = record {
         body = k.body;
@@ -124,7 +124,7 @@ module _ (g : Aig) (lengths : Lengths) {old new : FileState} {between now : View
         taken = k.taken ∙ t.taken;
       }
 
-  pub header_refused : (f : LineFail) (first_faults : ℕ) → between.read_faults ≡ first_faults → ReadsPart (version_part g old.version) old new between now (Err f) →
+  pub header_refused : (f : LineFail) (first_faults : ℕ) → between.read_faults ≡ first_faults → ReadsHeaderPart (version_part g old.version) old new between now (Err f) →
       IsCause (IsClauseHeaderRefusal g lengths) before first_faults now.read_faults new.number f
   header_refused f first_faults stands behind =
       cause_behind (IsClauseHeaderRefusal g lengths) (λ bytes. (version_part g old.version).refused (IsLongIn old.lines bytes) (old.number + 1) bytes) before (left_of_file Clauses old between)

@@ -26,29 +26,29 @@ IsLongIn lines left = IsTooLong lines.lengths (lines.taken + length left)
 
 -- A part of a header, given which lines are long: what passes, of these bytes, and the bytes behind it; the first refusals in it, where its
 -- first line has this number; and how many lines it has.
-pub record Part (X : Type 0) : Type 1 where
+pub record HeaderPart (X : Type 0) : Type 1 where
   pub passes : (List ℕ → Type 0) → List ℕ → X → List ℕ → Type 0
   pub refused : (List ℕ → Type 0) → ℕ → List ℕ → ℕ × LineCause → Type 0
   pub lines : X → ℕ
 
 -- What is left begins with a part that passes, and these bytes are behind it.
-pub record TakesPart {X : Type 0} (part : Part X) (old new : Lines) (left : List ℕ) (after : Option (List ℕ)) (x : X) : Type 0 where
+pub record TakesHeaderPart {X : Type 0} (part : HeaderPart X) (old new : Lines) (left : List ℕ) (after : Option (List ℕ)) (x : X) : Type 0 where
   pub body : List ℕ
   pub passes : part.passes (IsLongIn old left) left x body
   pub left_is : after ≡ Some body
   pub taken : new.taken + length body ≡ old.taken + length left
 
 -- A part is read, or its first refusal is in the last line that was counted.
-pub record ReadsPart {X : Type 0} (part : Part X) (old new : FileState) (before now : View) (result : Result X LineFail) : Type 0 where
+pub record ReadsHeaderPart {X : Type 0} (part : HeaderPart X) (old new : FileState) (before now : View) (result : Result X LineFail) : Type 0 where
   pub value : IfOk result (λ x. IfSome (left_of_file Clauses old before)
-      (λ left. TakesPart part old.lines new.lines left (left_of_file Clauses new now) x))
+      (λ left. TakesHeaderPart part old.lines new.lines left (left_of_file Clauses new now) x))
   pub refused : IfErr result (IsCause (λ bytes. part.refused (IsLongIn old.lines bytes) (old.number + 1) bytes)
       (left_of_file Clauses old before) before.read_faults now.read_faults new.number)
   pub number : IfOk result (λ x. new.number ≡ old.number + part.lines x)
   pub ended : OnOk result (new.ended ≡ false)
 
 -- a line
-abbrev pub line_part : {X : Type 0} → (List ℕ → X → Type 0) → (X → Type 0) → Part X
+abbrev pub line_part : {X : Type 0} → (List ℕ → X → Type 0) → (X → Type 0) → HeaderPart X
 line_part IsText InRange = record {
   passes = λ IsLong bytes x rest. ¬ (IsLong bytes) × BeginsWith IsText bytes x rest × InRange x;
   refused = λ IsLong number bytes. Unless (¬ (IsLong bytes)) (IsLong bytes) (number, TooLong)
@@ -57,7 +57,7 @@ line_part IsText InRange = record {
 }
 
 -- so many pairs, whatever graph they make
-abbrev pub pairs_part : Extended → ℕ → Part (Vec (Lit × Lit) Global)
+abbrev pub pairs_part : Extended → ℕ → HeaderPart (Vec (Lit × Lit) Global)
 pairs_part e count = record {
   passes = λ IsLong bytes pairs body. Behind IsPairLine (IsPairStep e) IsLong (λ n rest. (n ≡ 0) × (rest ≡ body)) pairs.items count bytes;
   refused = λ IsLong number bytes p. (made : List (Lit × Lit) → Extended) → IsRefusedPairs nothing_later made e IsLong number count bytes p;
@@ -71,27 +71,27 @@ abbrev pub cut_lines : Option Cut → ℕ
 cut_lines None = 1
 cut_lines (Some cut) = 1 + length cut.pairs
 
-abbrev pub cut_part : Aig → Part (Option Cut)
+abbrev pub cut_part : Aig → HeaderPart (Option Cut)
 cut_part g = record { passes = PassesCut g; refused = λ IsLong number. IsRefusedCut nothing_later g IsLong; lines = cut_lines }
 
 -- ---- version 2
 
 -- a block, blocks, and blocks behind their number
-abbrev pub block_part : Extended → Part Block
+abbrev pub block_part : Extended → HeaderPart Block
 block_part e = record {
   passes = λ IsLong. PassesBlock IsLong e;
   refused = λ IsLong. IsRefusedBlock nothing_later IsLong e;
   lines = λ b. 1 + length b.cut.pairs;
 }
 
-abbrev pub blocks_part : Extended → ℕ → Part (Vec Block Global)
+abbrev pub blocks_part : Extended → ℕ → HeaderPart (Vec Block Global)
 blocks_part e count = record {
   passes = λ IsLong bytes blocks. PassBlocks IsLong e bytes blocks.items;
   refused = λ IsLong. IsRefusedBlocks nothing_later IsLong count e;
   lines = λ blocks. block_lines 1 blocks.items;
 }
 
-abbrev pub count_part : Aig → Part (Vec Block Global)
+abbrev pub count_part : Aig → HeaderPart (Vec Block Global)
 count_part g = record {
   passes = λ IsLong bytes blocks. PassesCount g IsLong bytes blocks.items;
   refused = λ IsLong number. IsRefusedCount nothing_later g IsLong;
@@ -101,7 +101,7 @@ count_part g = record {
 -- ---- both
 
 -- what stands behind the line of a version
-abbrev pub version_part : Aig → ℕ → Part (Vec Block Global)
+abbrev pub version_part : Aig → ℕ → HeaderPart (Vec Block Global)
 version_part g version = record {
   passes = λ IsLong bytes blocks body.
       ((version ≡ 1) × ((cut : Option Cut) × (blocks.items ≡ cut_blocks (length g.outputs) cut) × PassesCut g IsLong bytes cut body)) ⊎

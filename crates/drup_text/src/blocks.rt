@@ -7,7 +7,7 @@ ghost use Rattle.mv_text.specs.CertificateFiles.{GoesOn, KeepsFile};
 ghost use Rattle.mv_text.specs.LineReading.{FitsPiece};
 ghost use Rattle.ripple_graft.specs.Blocks.{AreBlocks, IsBlock, graft_block};
 ghost use Rattle.drup_text.specs.ClauseTexts.{IsBlockLine, IsCountLine};
-ghost use Rattle.drup_text.specs.HeaderSteps.{ReadsPart, block_part, blocks_part, count_part, line_part};
+ghost use Rattle.drup_text.specs.HeaderSteps.{ReadsHeaderPart, block_part, blocks_part, count_part, line_part};
 ghost use Rattle.drup_text.specs.LineTexts.{IsCountInRange, IsHeadOf};
 
 use crate::header::pairs;
@@ -28,7 +28,8 @@ pub(crate) fn listed_blocks<D: Desk>(
     requires open { (D.seen desk.old).reads Clauses ≡ true }
     requires goes_on { GoesOn file.old }
     requires first { file.old.number ≡ 1 }
-    ensures blocks { ReadsPart (count_part graph.now) file.old file.new (D.seen desk.old) (D.seen desk.new) result }
+    ensures blocks { ReadsHeaderPart (count_part graph.now)
+        file.old file.new (D.seen desk.old) (D.seen desk.new) result }
     ensures fits { IfOk result (λ blocks. (length blocks.items ≤ length graph.now.outputs) ×
         AreBlocks (without_cut graph.now) blocks.items) }
     ensures keeps { KeepsFile file.old file.new result }
@@ -49,7 +50,7 @@ fn next_count<D: Desk>(
 ) -> Result<u32, LineFail>
     requires open { (D.seen desk.old).reads Clauses ≡ true }
     requires goes_on { GoesOn file.old }
-    ensures count { ReadsPart (line_part IsCountLine (IsCountInRange (length graph.now.outputs)))
+    ensures count { ReadsHeaderPart (line_part IsCountLine (IsCountInRange (length graph.now.outputs)))
         file.old file.new (D.seen desk.old) (D.seen desk.new) result }
     ensures in_range { IfOk result (IsCountInRange (length graph.now.outputs)) }
     ensures keeps { KeepsFile file.old file.new result }
@@ -72,7 +73,8 @@ fn counted_blocks<D: Desk>(
     requires open { (D.seen desk.old).reads Clauses ≡ true }
     requires goes_on { GoesOn file.old }
     requires piece { FitsPiece file.old.lines }
-    ensures blocks { ReadsPart (blocks_part (without_cut graph.now) count) file.old file.new (D.seen desk.old) (D.seen desk.new) result }
+    ensures blocks { ReadsHeaderPart (blocks_part (without_cut graph.now) count)
+        file.old file.new (D.seen desk.old) (D.seen desk.new) result }
     ensures count { IfOk result (λ blocks. length blocks.items ≡ count) }
     ensures fits { IfOk result (λ blocks. AreBlocks (without_cut graph.now) blocks.items) }
     ensures keeps { KeepsFile file.old file.new result }
@@ -102,7 +104,8 @@ fn next_block<D: Desk>(
 ) -> Result<Block, LineFail>
     requires open { (D.seen desk.old).reads Clauses ≡ true }
     requires goes_on { GoesOn file.old }
-    ensures block { ReadsPart (block_part extended.now) file.old file.new (D.seen desk.old) (D.seen desk.new) result }
+    ensures block { ReadsHeaderPart (block_part extended.now)
+        file.old file.new (D.seen desk.old) (D.seen desk.new) result }
     ensures fits { IfOk result (IsBlock extended.now) }
     ensures keeps { KeepsFile file.old file.new result }
     ensures reads { Reads Clauses (D.seen desk.old) (D.seen desk.new) result }
@@ -131,7 +134,7 @@ fn next_head<D: Desk>(
 ) -> Result<(u32, u32, bool), LineFail>
     requires open { (D.seen desk.old).reads Clauses ≡ true }
     requires goes_on { GoesOn file.old }
-    ensures head { ReadsPart (line_part IsBlockLine (IsHeadOf extended.now))
+    ensures head { ReadsHeaderPart (line_part IsBlockLine (IsHeadOf extended.now))
         file.old file.new (D.seen desk.old) (D.seen desk.new) result }
     ensures in_range { IfOk result (IsHeadOf extended.now) }
     ensures keeps { KeepsFile file.old file.new result }

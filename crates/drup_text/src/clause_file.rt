@@ -8,7 +8,7 @@ ghost use Rattle.ripple_graft.specs.Blocks.{IsCut, block_of};
 ghost use Rattle.drup_text.specs.ClauseTexts.{IsClauseLine};
 ghost use Rattle.mv_text.specs.CertificateFiles.{AnswersAgain, GoesOn, HasFirstLine, IsStarted, KeepsFile, ReadsLine, left_of_file};
 ghost use Rattle.drup_text.specs.PassingHeaders.{HasClauseHeader, IsStartRefusal, header_line_count};
-ghost use Rattle.drup_text.specs.HeaderSteps.{ReadsPart, version_part};
+ghost use Rattle.drup_text.specs.HeaderSteps.{ReadsHeaderPart, version_part};
 ghost use Rattle.drup_text.specs.Headers.{IsHeaderOf};
 ghost use Rattle.ripple_graft.specs.HeaderBlocks.{AreHeaderBlocks};
 ghost use Rattle.drup_text.specs.LineTexts.{IsClauseLineInRange, IsClauseTextOf};
@@ -156,7 +156,8 @@ fn any_blocks<D: Desk>(
     requires version { (file.old.version ≡ 1) ⊎ (file.old.version ≡ 2) }
     requires goes_on { GoesOn file.old }
     requires first { file.old.number ≡ 1 }
-    ensures blocks { ReadsPart (version_part graph.now file.old.version) file.old file.new (D.seen desk.old) (D.seen desk.new) result }
+    ensures blocks { ReadsHeaderPart (version_part graph.now file.old.version)
+        file.old file.new (D.seen desk.old) (D.seen desk.new) result }
     ensures fits { IfOk result (λ blocks. AreHeaderBlocks graph.now file.old.version blocks.items) }
     ensures keeps { KeepsFile file.old file.new result }
     ensures reads { Reads Clauses (D.seen desk.old) (D.seen desk.new) result }

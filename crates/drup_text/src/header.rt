@@ -6,7 +6,7 @@ ghost use Rattle.mv_text.specs.CertificateFiles.{GoesOn, KeepsFile};
 ghost use Rattle.mv_text.specs.LineReading.{FitsPiece};
 ghost use Rattle.ripple_graft.specs.HeaderBlocks.{IsCutOf};
 ghost use Rattle.drup_text.specs.ClauseTexts.{IsCutLine, IsPairLine};
-ghost use Rattle.drup_text.specs.HeaderSteps.{ReadsPart, cut_part, line_part, pairs_part};
+ghost use Rattle.drup_text.specs.HeaderSteps.{ReadsHeaderPart, cut_part, line_part, pairs_part};
 ghost use Rattle.drup_text.specs.LineTexts.{IsPairOf, IsSizeInRange};
 
 use crate::header_reading::{read_pair, read_size};
@@ -26,7 +26,7 @@ pub(crate) fn cut<D: Desk>(
     requires open { (D.seen desk.old).reads Clauses ≡ true }
     requires goes_on { GoesOn file.old }
     requires first { file.old.number ≡ 1 }
-    ensures cut { ReadsPart (cut_part graph.now) file.old file.new (D.seen desk.old) (D.seen desk.new) result }
+    ensures cut { ReadsHeaderPart (cut_part graph.now) file.old file.new (D.seen desk.old) (D.seen desk.new) result }
     ensures fits { IfOk result (IsCutOf graph.now) }
     ensures keeps { KeepsFile file.old file.new result }
     ensures reads { Reads Clauses (D.seen desk.old) (D.seen desk.new) result }
@@ -55,7 +55,7 @@ fn next_size<D: Desk>(
 ) -> Result<Option<(u32, u32)>, LineFail>
     requires open { (D.seen desk.old).reads Clauses ≡ true }
     requires goes_on { GoesOn file.old }
-    ensures size { ReadsPart (line_part IsCutLine (IsSizeInRange (length graph.now.outputs)))
+    ensures size { ReadsHeaderPart (line_part IsCutLine (IsSizeInRange (length graph.now.outputs)))
         file.old file.new (D.seen desk.old) (D.seen desk.new) result }
     ensures in_range { IfOk result (IsSizeInRange (length graph.now.outputs)) }
     ensures keeps { KeepsFile file.old file.new result }
@@ -78,7 +78,8 @@ pub(crate) fn pairs<D: Desk>(
     requires open { (D.seen desk.old).reads Clauses ≡ true }
     requires goes_on { GoesOn file.old }
     requires piece { FitsPiece file.old.lines }
-    ensures pairs { ReadsPart (pairs_part extended.now count) file.old file.new (D.seen desk.old) (D.seen desk.new) result }
+    ensures pairs { ReadsHeaderPart (pairs_part extended.now count)
+        file.old file.new (D.seen desk.old) (D.seen desk.new) result }
     ensures known { IfOk result (λ pairs. All (IsPairOf extended.now) pairs.items) }
     ensures count { IfOk result (λ pairs. length pairs.items ≡ count) }
     ensures keeps { KeepsFile file.old file.new result }
@@ -107,7 +108,7 @@ fn next_pair<D: Desk>(
 ) -> Result<(Lit, Lit), LineFail>
     requires open { (D.seen desk.old).reads Clauses ≡ true }
     requires goes_on { GoesOn file.old }
-    ensures pair { ReadsPart (line_part IsPairLine (IsPairOf extended.now))
+    ensures pair { ReadsHeaderPart (line_part IsPairLine (IsPairOf extended.now))
         file.old file.new (D.seen desk.old) (D.seen desk.new) result }
     ensures known { IfOk result (IsPairOf extended.now) }
     ensures keeps { KeepsFile file.old file.new result }

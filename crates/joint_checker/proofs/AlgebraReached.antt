@@ -19,7 +19,7 @@ use Rattle.command_core.specs.declared.stop.Stop.TheVariants as stop
 use Rattle.joint_checker.specs.declared.checked.Checked.{Checked}
 use Rattle.joint_checker.specs.declared.checked.Checked.TheVariants as checked
 use Rattle.joint_checker.specs.declared.checked.Refusal.TheVariants as refusal
-use Rattle.joint_checker.specs.AlgebraBody.{IsBodyFail, IsLawfulBody, IsReached}
+use Rattle.joint_checker.specs.AlgebraBody.{IsBodyFail, IsLawfulBody, IsLedgerReached}
 use Rattle.drup_text.specs.HeaderSteps.{IsLongIn}
 use Rattle.joint_checker.specs.AlgebraLines.{IsEndFail, IsLineFail, TakesClosing, TakesLawful}
 use Rattle.joint_checker.specs.Outcome.{cause_of}
@@ -44,7 +44,7 @@ line_has_bytes version (b ∷ line) x h = omega arith
 
 module _ (given : Premises) (sides : Sides) (start : Lines) where
   -- no line is judged yet
-  pub begin : (known : Ledger) (left : Option (List ℕ)) → LedgersAgree known (beginning given) → IfSome left (IsReached given sides start known 0 start left)
+  pub begin : (known : Ledger) (left : Option (List ℕ)) → LedgersAgree known (beginning given) → IfSome left (IsLedgerReached given sides start known 0 start left)
   begin known None agrees = tt
   begin known (Some body) agrees = record {
     rest = body;
@@ -59,8 +59,8 @@ module _ (given : Premises) (sides : Sides) (start : Lines) where
   }
 
   -- the same lines are judged, and the ledger says the same
-  pub reached_again : (known next : Ledger) (count : ℕ) (lines : Lines) (left body : Option (List ℕ)) → LedgersAgree next known → IfSome body (IsReached given sides start known count lines left) → IfSome body (IsReached given sides start next count lines left)
-  reached_again known next count lines left body agrees reached = told_more body (IsReached given sides start known count lines left) (IsReached given sides start next count lines left) (λ bytes r. record {
+  pub reached_again : (known next : Ledger) (count : ℕ) (lines : Lines) (left body : Option (List ℕ)) → LedgersAgree next known → IfSome body (IsLedgerReached given sides start known count lines left) → IfSome body (IsLedgerReached given sides start next count lines left)
+  reached_again known next count lines left body agrees reached = told_more body (IsLedgerReached given sides start known count lines left) (IsLedgerReached given sides start next count lines left) (λ bytes r. record {
     rest = r.rest;
     left_is = r.left_is;
     count = r.count;
@@ -76,7 +76,7 @@ module _ (given : Premises) (sides : Sides) (start : Lines) where
   at_line : (body : List ℕ) (n m : ℕ) (c : AlgebraCause) → n ≡ m → IsRefusedBody given sides (IsLongIn start body) body (n, c) → IsRefusedBody given sides (IsLongIn start body) body (m, c)
   at_line body n m c is h = subst (λ (k : ℕ). IsRefusedBody given sides (IsLongIn start body) body (k, c)) is h
 
-  module _ (known : Ledger) (count : ℕ) (lines : Lines) (left : Option (List ℕ)) (same : lines.lengths ≡ start.lengths) (body : List ℕ) (reached : IsReached given sides start known count lines left body) where
+  module _ (known : Ledger) (count : ℕ) (lines : Lines) (left : Option (List ℕ)) (same : lines.lengths ≡ start.lengths) (body : List ℕ) (reached : IsLedgerReached given sides start known count lines left body) where
     short_here : ¬ (IsLongAhead lines reached.rest) → ¬ (IsLongIn start body reached.rest)
     short_here short = short_of start.lengths (start.taken + length body) lines reached.rest same reached.count short
 
@@ -84,7 +84,7 @@ module _ (given : Premises) (sides : Sides) (start : Lines) where
     long_here long = long_of start.lengths (start.taken + length body) lines reached.rest same reached.count long
 
     -- one lawful line more
-    pub step_in : (next : Ledger) (new : Lines) (behind : Option (List ℕ)) → TakesLawful given.version given.extended known next lines new reached.rest behind → IsReached given sides start next (count + 1) new behind body
+    pub step_in : (next : Ledger) (new : Lines) (behind : Option (List ℕ)) → TakesLawful given.version given.extended known next lines new reached.rest behind → IsLedgerReached given sides start next (count + 1) new behind body
     step_in next new behind h =
         let m = modulus given.extended in
         let l = reached.ledger in
@@ -148,18 +148,18 @@ module _ (given : Premises) (sides : Sides) (start : Lines) where
 -- ---- the loop over lines, where the file is told
 
 module _ (given : Premises) (sides : Sides) (start : Lines) (body : Option (List ℕ)) (known : Ledger) (count : ℕ) (lines : Lines) (left : Option (List ℕ)) (same : lines.lengths ≡ start.lengths)
-    (reached : IfSome body (IsReached given sides start known count lines left)) where
-  pub step : (next : Ledger) (new : Lines) (behind : Option (List ℕ)) → IfSome left (λ bytes. TakesLawful given.version given.extended known next lines new bytes behind) → IfSome body (IsReached given sides start next (count + 1) new behind)
-  step next new behind takes = told_more body (IsReached given sides start known count lines left) (IsReached given sides start next (count + 1) new behind)
+    (reached : IfSome body (IsLedgerReached given sides start known count lines left)) where
+  pub step : (next : Ledger) (new : Lines) (behind : Option (List ℕ)) → IfSome left (λ bytes. TakesLawful given.version given.extended known next lines new bytes behind) → IfSome body (IsLedgerReached given sides start next (count + 1) new behind)
+  step next new behind takes = told_more body (IsLedgerReached given sides start known count lines left) (IsLedgerReached given sides start next (count + 1) new behind)
       (λ bytes r. step_in given sides start known count lines left same bytes r next new behind (told_of left r.rest (λ l. TakesLawful given.version given.extended known next lines new l behind) r.left_is takes)) reached
 
   text_fails : (n : ℕ) (c : AlgebraCause) → n ≡ 2 + count → IfSome left (λ bytes. IsRefusedNext given.version given.extended sides (IsLongIn lines bytes) known bytes (0, c)) → IfSome body (λ bytes. IsRefusedBody given sides (IsLongIn start bytes) bytes (n, c))
-  text_fails n c is h = told_more body (IsReached given sides start known count lines left) (λ bytes. IsRefusedBody given sides (IsLongIn start bytes) bytes (n, c))
+  text_fails n c is h = told_more body (IsLedgerReached given sides start known count lines left) (λ bytes. IsRefusedBody given sides (IsLongIn start bytes) bytes (n, c))
       (λ bytes r. subst (λ (k : ℕ). IsRefusedBody given sides (IsLongIn start bytes) bytes (k, c)) (sym is)
       (line_refused given sides start known count lines left same bytes r c (told_of left r.rest (λ l. IsRefusedNext given.version given.extended sides (IsLongIn lines l) known l (0, c)) r.left_is h))) reached
 
   long_fails : IfSome left (IsLongAhead lines) → IfSome body (λ bytes. (n : ℕ) × IsRefusedBody given sides (IsLongIn start bytes) bytes (n, cause.TooLong))
-  long_fails h = told_more body (IsReached given sides start known count lines left) (λ bytes. (n : ℕ) × IsRefusedBody given sides (IsLongIn start bytes) bytes (n, cause.TooLong))
+  long_fails h = told_more body (IsLedgerReached given sides start known count lines left) (λ bytes. (n : ℕ) × IsRefusedBody given sides (IsLongIn start bytes) bytes (n, cause.TooLong))
       (λ bytes r. (2 + count, long_refused given sides start known count lines left same bytes r (told_of left r.rest (IsLongAhead lines) r.left_is h))) reached
 
   -- a line isn't taken
@@ -180,26 +180,26 @@ module _ (given : Premises) (sides : Sides) (start : Lines) (body : Option (List
 
   -- so many lines have more bytes than a file may have
   pub too_many : 2 ^ 63 ≤ count → start.lengths.file < 2 ^ 64 → IfSome body (λ bytes. (n : ℕ) × IsRefusedBody given sides (IsLongIn start bytes) bytes (n, cause.TooLong))
-  too_many many limit = told_more body (IsReached given sides start known count lines left) (λ bytes. (n : ℕ) × IsRefusedBody given sides (IsLongIn start bytes) bytes (n, cause.TooLong))
+  too_many many limit = told_more body (IsLedgerReached given sides start known count lines left) (λ bytes. (n : ℕ) × IsRefusedBody given sides (IsLongIn start bytes) bytes (n, cause.TooLong))
       (λ bytes r. let room = r.room (omega (arith, many)) in absurd (omega (arith, room, r.turns, many, limit))) reached
 
   -- ---- behind the closing line
 
   module _ (new : Lines) (behind : Option (List ℕ)) (closing : IfSome left (λ bytes. TakesClosing given.extended sides known lines new bytes behind)) where
-    closed : (bytes : List ℕ) (r : IsReached given sides start known count lines left bytes) → TakesClosing given.extended sides known lines new r.rest behind
+    closed : (bytes : List ℕ) (r : IsLedgerReached given sides start known count lines left bytes) → TakesClosing given.extended sides known lines new r.rest behind
     closed bytes r = told_of left r.rest (λ l. TakesClosing given.extended sides known lines new l behind) r.left_is closing
 
     pub ends : IfSome behind (λ bytes. bytes ≡ []) → IfSome body (IsLawfulBody given sides start)
-    ends none = told_more body (IsReached given sides start known count lines left) (IsLawfulBody given sides start)
+    ends none = told_more body (IsLedgerReached given sides start known count lines left) (IsLawfulBody given sides start)
         (λ bytes r. let c = closed bytes r in closed_is_lawful given sides start known count lines left same bytes r new behind c (told_of behind c.rest (λ l. l ≡ []) c.passes.left_is none)) reached
 
     more_fails : new.lengths ≡ lines.lengths → (n : ℕ) → n ≡ 3 + count → IfSome behind (λ bytes. ¬ (IsLongAhead new bytes) × ¬ (bytes ≡ [])) → IfSome body (λ bytes. IsRefusedBody given sides (IsLongIn start bytes) bytes (n, cause.Text))
-    more_fails keeps n is h = told_more body (IsReached given sides start known count lines left) (λ bytes. IsRefusedBody given sides (IsLongIn start bytes) bytes (n, cause.Text))
+    more_fails keeps n is h = told_more body (IsLedgerReached given sides start known count lines left) (λ bytes. IsRefusedBody given sides (IsLongIn start bytes) bytes (n, cause.Text))
         (λ bytes r. let c = closed bytes r in let some = told_of behind c.rest (λ l. ¬ (IsLongAhead new l) × ¬ (l ≡ [])) c.passes.left_is h in
         subst (λ (k : ℕ). IsRefusedBody given sides (IsLongIn start bytes) bytes (k, cause.Text)) (omega (arith, is)) (more_is_refused given sides start known count lines left same bytes r new behind c keeps some.0 some.1)) reached
 
     long_behind : new.lengths ≡ lines.lengths → IfSome behind (IsLongAhead new) → IfSome body (λ bytes. (n : ℕ) × IsRefusedBody given sides (IsLongIn start bytes) bytes (n, cause.TooLong))
-    long_behind keeps h = told_more body (IsReached given sides start known count lines left) (λ bytes. (n : ℕ) × IsRefusedBody given sides (IsLongIn start bytes) bytes (n, cause.TooLong))
+    long_behind keeps h = told_more body (IsLedgerReached given sides start known count lines left) (λ bytes. (n : ℕ) × IsRefusedBody given sides (IsLongIn start bytes) bytes (n, cause.TooLong))
         (λ bytes r. let c = closed bytes r in (2 + count + 1, long_is_refused given sides start known count lines left same bytes r new behind c keeps (told_of behind c.rest (IsLongAhead new) c.passes.left_is h))) reached
 
     -- the file doesn't end there

@@ -18,7 +18,7 @@ use Rattle.mv_text.specs.CertificateFiles.{FileState, GoesOn, left_of_file}
 use Rattle.mv_text.specs.LineReading.{Lines}
 use Rattle.command_core.specs.declared.stop.Stop.TheVariants as stop
 use Rattle.pac_checker.specs.Checking.{AlgebraChecking, ledger_of}
-use Rattle.joint_checker.specs.AlgebraLines.{KeepsTask}
+use Rattle.joint_checker.specs.AlgebraLines.{KeepsAlgebraTask}
 use Rattle.joint_checker.specs.ClauseFiles.{premises}
 use Rattle.joint_checker.specs.Records.{ClosesAt, IsRecordedBody, IsRecordedTo}
 use Rattle.joint_checker.specs.declared.algebra_file.Closing.{Closing}
@@ -68,7 +68,7 @@ IsRefusedRest given sides IsLong l left p =
 
 -- So many lines of the body are judged, the first having the number 2: the checker's ledger is theirs, and what is shown of the rest
 -- holds of the body.
-pub record IsReached (given : Premises) (sides : Sides) (start : Lines) (known : Ledger) (turn : ℕ) (lines : Lines)
+pub record IsLedgerReached (given : Premises) (sides : Sides) (start : Lines) (known : Ledger) (turn : ℕ) (lines : Lines)
     (left : Option (List ℕ)) (body : List ℕ) : Type 0 where
   pub rest : List ℕ
   pub left_is : left ≡ Some rest
@@ -83,16 +83,16 @@ pub record IsReached (given : Premises) (sides : Sides) (start : Lines) (known :
       IsRefusedBody given sides (IsLongIn start body) body (2 + turn + k, cause)
 
 -- since a checker and a file stood behind a header so many lines were judged
-pub record HasJudged (start : AlgebraChecking) (begun : FileState) (first : View) (count : ℕ) (k : AlgebraChecking)
+pub record HasJudgedAlgebra (start : AlgebraChecking) (begun : FileState) (first : View) (count : ℕ) (k : AlgebraChecking)
     (file : FileState) (now : View) : Type 0 where
   pub going : GoesOn file
   pub limit : begun.lines.lengths.file < 2 ^ 64
   pub few : length k.extended.graph.outputs ≤ 128
   pub version : file.version ≡ begun.version
   pub lengths : file.lines.lengths ≡ begun.lines.lengths
-  pub task : KeepsTask start k
+  pub task : KeepsAlgebraTask start k
   pub reached : IfSome (left_of_file slot.Algebra begun first)
-      (IsReached (premises begun.version start.extended start.added) start.sides begun.lines (ledger_of k) count file.lines
+      (IsLedgerReached (premises begun.version start.extended start.added) start.sides begun.lines (ledger_of k) count file.lines
       (left_of_file slot.Algebra file now))
   pub recorded : IfSome (left_of_file slot.Algebra begun first)
       (IsRecordedTo start.records begun.version (modulus start.extended) k.recorded count (left_of_file slot.Algebra file now))
@@ -106,7 +106,7 @@ pub record HaveClosed (start : AlgebraChecking) (begun : FileState) (first : Vie
   pub closes : ClosesAt start k closing.id
   pub extended : k.extended ≡ start.extended
 
-abbrev pub AreJudged : AlgebraChecking → FileState → View → Result Closing Checked → AlgebraChecking → View → Type 0
-AreJudged start begun first (Ok closing) k now = HaveClosed start begun first closing k
-AreJudged start begun first (Err answer) k now =
+abbrev pub IsAlgebraJudged : AlgebraChecking → FileState → View → Result Closing Checked → AlgebraChecking → View → Type 0
+IsAlgebraJudged start begun first (Ok closing) k now = HaveClosed start begun first closing k
+IsAlgebraJudged start begun first (Err answer) k now =
     IsBodyFail (premises begun.version start.extended start.added) start.sides begun.lines (left_of_file slot.Algebra begun first) first now answer

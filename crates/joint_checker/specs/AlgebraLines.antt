@@ -46,7 +46,7 @@ pub record ReadsNextLine (max : ℕ) (old : FileState) (before : View) (out : Re
   pub tells : KeepsTelling before now
 
 -- a checker stands on the same premises, asks for the same, and records as before
-pub record KeepsTask (old new : AlgebraChecking) : Type 0 where
+pub record KeepsAlgebraTask (old new : AlgebraChecking) : Type 0 where
   pub extended : new.extended ≡ old.extended
   pub sides : new.sides ≡ old.sides
   pub added : new.added ≡ old.added

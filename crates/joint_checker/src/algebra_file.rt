@@ -160,7 +160,7 @@ struct JudgeAlgebra<'a, D> {
 impl<'a, D: Desk> JudgeLines<D> for JudgeAlgebra<'a, D> {
     ghost use Rattle.std.specs.Prelude.{◌≡◌};
     ghost use Rattle.mv_desk.specs.declared.slot.Slot.TheVariants.{Algebra};
-    ghost use Rattle.joint_checker.specs.AlgebraBody.{AreJudged, HasJudged};
+    ghost use Rattle.joint_checker.specs.AlgebraBody.{HasJudgedAlgebra, IsAlgebraJudged};
 
     type End = Closing;
 
@@ -169,11 +169,11 @@ impl<'a, D: Desk> JudgeLines<D> for JudgeAlgebra<'a, D> {
     ghost slot = { Algebra };
 
     ghost reached = { λ start first count it now.
-        HasJudged start.checker start.work.file first count it.checker it.work.file now ×
+        HasJudgedAlgebra start.checker start.work.file first count it.checker it.work.file now ×
         (it.work.max ≡ it.checker.extended.max) };
 
     ghost judged = { λ start first answer it now.
-        AreJudged start.checker start.work.file first answer it.checker now };
+        IsAlgebraJudged start.checker start.work.file first answer it.checker now };
 
     fn judge_line(&mut self, desk: &mut D, count: u64) -> Result<Option<Closing>, Checked> {
         match judge_line(desk, &mut self.checker, &mut self.work, 2 + count)? {

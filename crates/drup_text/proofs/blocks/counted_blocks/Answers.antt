@@ -5,7 +5,7 @@ use Rattle.mv_desk.proofs.CallerLemmas.{KeepsTelling-refl, ReadsOnly-refl}
 use Rattle.mv_desk.specs.declared.slot.Slot.TheVariants.{Clauses}
 use Rattle.mv_text.specs.CertificateFiles.{FileState, KeepsFile, settled}
 use Rattle.ripple_graft.specs.Blocks.{AreBlocks, graft_all, graft_block}
-use Rattle.drup_text.specs.HeaderSteps.{ReadsPart, block_part, blocks_part}
+use Rattle.drup_text.specs.HeaderSteps.{ReadsHeaderPart, block_part, blocks_part}
 use Rattle.drup_text.specs.PassingHeaders.{block_lines}
 use Rattle.drup_text.proofs.BlockSteps.{block_on, blocks_all, blocks_more_fit, blocks_more_made, blocks_refused, blocks_so_far, lines_more, no_blocks}
 use Rattle.drup_text.proofs.HeaderSteps.{keeps_on, keeps_settled, nothing_yet, part_behind, part_settled, reads_both, refused_behind, same_part}
@@ -48,7 +48,7 @@ loop-preserved g c =
     let reads = c.in-Ok.ensures.reads in
     record {
       «open» = reads.only.mode.reads ∙ c.loop.invariant.open;
-      so_far = subst (λ (f : FileState). ReadsPart so_far c.args.file.now f before now (Ok longer)) file_is
+      so_far = subst (λ (f : FileState). ReadsHeaderPart so_far c.args.file.now f before now (Ok longer)) file_is
           (part_settled so_far None longer
           (part_behind so_far (block_part c.loop.extended) so_far blocks c.loop.invariant.keeps.lengths c.loop.invariant.so_far block longer lines
           (λ IsLong bytes rest body passed here. block_on start c.loop.extended c.args.count blocks early c.loop.invariant.made IsLong bytes rest passed longer block body made here) c.in-Ok.ensures.block));

@@ -3,7 +3,7 @@ use Rattle.std.proofs.lemmas.Result.{IfOk-weaker}
 use Rattle.std.specs.Result.{IfErr, IfOk}
 use Rattle.mv_text.specs.CertificateFiles.{FileState, SaysNothing}
 use Rattle.drup_text.specs.ClauseTexts.{IsBlockLine}
-use Rattle.drup_text.specs.HeaderSteps.{ReadsPart, line_part}
+use Rattle.drup_text.specs.HeaderSteps.{ReadsHeaderPart, line_part}
 use Rattle.drup_text.specs.LineTexts.{IsHeadOf, IsBlockTextOf}
 use Rattle.drup_text.proofs.ClauseReading.{none_block}
 use Rattle.drup_text.proofs.HeaderSteps.{line_answered, line_missed}
@@ -16,7 +16,7 @@ returns-in-Ok-clause-head g c =
     let now = g.D.Desk.seen c.needed_line.new.desk in
     let r = c.read_head.result in
     rw (c.settle.ensures.read)
-    (subst (λ (f : FileState). ReadsPart (line_part IsBlockLine InRange) c.args.file.now f before now r) (sym c.settle.ensures.settled)
+    (subst (λ (f : FileState). ReadsHeaderPart (line_part IsBlockLine InRange) c.args.file.now f before now r) (sym c.settle.ensures.settled)
     (line_answered IsBlockLine InRange none_block c.in-Ok.line r (c.in-Ok.ensures.next c.requires.goes_on)
     (subst (λ z. IfOk c.read_head.result (IsBlockTextOf c.args.extended.now z)) c.deref.ensures.value c.read_head.ensures.ok)
     (subst (λ z. IfErr c.read_head.result (SaysNothing IsBlockLine (IsHeadOf c.args.extended.now) z)) c.deref.ensures.value c.read_head.ensures.err)))

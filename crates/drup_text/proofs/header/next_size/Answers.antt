@@ -3,7 +3,7 @@ use Rattle.std.proofs.lemmas.Result.{IfOk-weaker}
 use Rattle.std.specs.Result.{IfErr, IfOk}
 use Rattle.mv_text.specs.CertificateFiles.{FileState, SaysNothing}
 use Rattle.drup_text.specs.ClauseTexts.{IsCutLine}
-use Rattle.drup_text.specs.HeaderSteps.{ReadsPart, line_part}
+use Rattle.drup_text.specs.HeaderSteps.{ReadsHeaderPart, line_part}
 use Rattle.drup_text.specs.LineTexts.{IsSizeInRange, IsCutTextOf}
 use Rattle.drup_text.proofs.ClauseReading.{none_cut}
 use Rattle.drup_text.proofs.HeaderSteps.{line_answered, line_missed}
@@ -16,7 +16,7 @@ returns-in-Ok-clause-size g c =
     let now = g.D.Desk.seen c.needed_line.new.desk in
     let r = c.read_size.result in
     rw (c.settle.ensures.read)
-    (subst (λ (f : FileState). ReadsPart (line_part IsCutLine InRange) c.args.file.now f before now r) (sym c.settle.ensures.settled)
+    (subst (λ (f : FileState). ReadsHeaderPart (line_part IsCutLine InRange) c.args.file.now f before now r) (sym c.settle.ensures.settled)
     (line_answered IsCutLine InRange none_cut c.in-Ok.line r (c.in-Ok.ensures.next c.requires.goes_on)
     (subst (λ z. IfOk c.read_size.result (IsCutTextOf (length c.args.graph.now.outputs) z)) c.deref.ensures.value
     (subst (λ n. IfOk c.read_size.result (IsCutTextOf n c.deref.result.now)) c.outputs.ensures.value c.read_size.ensures.ok))

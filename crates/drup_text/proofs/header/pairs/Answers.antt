@@ -5,7 +5,7 @@ use Rattle.mv_desk.proofs.CallerLemmas.{KeepsTelling-refl, ReadsOnly-refl}
 use Rattle.mv_desk.specs.declared.slot.Slot.TheVariants.{Clauses}
 use Rattle.mv_text.specs.CertificateFiles.{FileState, KeepsFile, settled}
 use Rattle.drup_text.specs.ClauseTexts.{IsPairLine}
-use Rattle.drup_text.specs.HeaderSteps.{ReadsPart, line_part, pairs_part}
+use Rattle.drup_text.specs.HeaderSteps.{ReadsHeaderPart, line_part, pairs_part}
 use Rattle.drup_text.specs.LineTexts.{IsPairOf}
 use Rattle.drup_text.proofs.HeaderSteps.{keeps_on, keeps_settled, no_pairs, nothing_yet, pair_on, pair_refused, pairs_all, pairs_so_far, part_behind, part_settled, reads_both, refused_behind, same_part}
 use Rattle.drup_text.proofs.header.pairs.Goals as goal
@@ -44,7 +44,7 @@ loop-preserved g c =
     let reads = c.in-Ok.ensures.reads in
     record {
       «open» = reads.only.mode.reads ∙ c.loop.invariant.open;
-      so_far = subst (λ (f : FileState). ReadsPart so_far c.args.file.now f before now (Ok longer)) file_is
+      so_far = subst (λ (f : FileState). ReadsHeaderPart so_far c.args.file.now f before now (Ok longer)) file_is
           (part_settled so_far None longer
           (part_behind so_far (line_part IsPairLine (IsPairOf e)) so_far pairs c.loop.invariant.keeps.lengths c.loop.invariant.so_far pair longer one
           (λ IsLong bytes rest body passed here. pair_on e c.args.count IsLong bytes rest pairs early passed longer pair body made here) c.in-Ok.ensures.pair));
