@@ -123,8 +123,8 @@ pub record AreSumBatches (e : Extended) (t : Table) (gs : List Batch) (columns :
   pub sum : (σ : Assignment) →
       (batches_sum t gs σ + combined (algebra.modulus e) (axioms e).live (parts_in t columns) σ) % algebra.modulus e ≡ value_in t total σ
 
--- The sum of the ended batches and the columns' parts, and 2^k times the open one's parts are the gap at the frontier with this function; the open batch states
--- the sum of the parts' axioms times their factors.
+-- The sum of the ended batches and the columns' parts, and 2^k times the open one's parts are the gap at the frontier with this function;
+-- the open batch states the sum of the parts' axioms times their factors.
 pub record IsGathered (e : Extended) (s : Sides) (t : Table) (f : Taken) (rest : Assignment → ℕ) (g : Gathered) : Type 0 where
   pub batches : AreSumBatches e t g.batches.items g.columns.items g.total
   pub added : AreOfAdded e f.added g.columns.items

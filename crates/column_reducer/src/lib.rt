@@ -12,9 +12,9 @@
 //! *Frontier*, *plan*, *size*: those of `frontier_core`. *Counts*: a plan may have steps before the first frontier that
 //! counts, which is that of step 0 (`Planned` in `specs/Reducing.antt`). *Part*: an axiom times a polynomial. Each gate
 //! that the polynomial has leaves one; the parts of many gates are gathered into a *batch*, which is one line over
-//! parts that are divided by a power of two, and a last line adds the batches up, each times its *weight*, that power. A
-//! replaced column k is added with its new output; its axiom times 2^k is a part of the last line, so that this one has
-//! the graph's own outputs.
+//! parts that are divided by a power of two, and a last line adds the batches up, each times its *weight*, that power.
+//! A replaced column k is added with its new output; its axiom times 2^k is a part of the last line, so that this one
+//! has the graph's own outputs.
 #![tactic(auto)]
 
 mod batch_lines;
