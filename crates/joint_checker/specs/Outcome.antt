@@ -1,5 +1,5 @@
 -- What `check` says of three files, and where each answer comes.
-use Rattle.std.specs.Prelude.{◌≡◌, ◌⊎◌, ℕ, List, IfSome, ⊤}
+use Rattle.std.specs.Prelude.{◌≡◌, ◌⊎◌, ℕ, List, Err, IfSome, Ok, Result, ⊤}
 use Rattle.command_core.specs.Stopping.{GivesDue, IsAbout, IsGraphStop, IsLong, IsStop, OpensUpTo}
 use Rattle.command_core.specs.declared.stop.Stop.{Stop}
 use Rattle.graph_core.specs.Algebra.Refusal as cause
@@ -78,6 +78,11 @@ abbrev pub IsOutcome : Limits → Claim → Files → View → View → Checked 
 IsOutcome limits claim files before after checked.Accepted = HasLawfulPair limits claim (texts_of before files) (Does claim)
 IsOutcome limits claim files before after (checked.Refused why) = IsRefusalDue limits claim (texts_of before files) why
 IsOutcome limits claim files before after (checked.Stopped why) = IsStop (IsStopDue limits claim (texts_of before files)) before after why
+
+-- The answer where something is made of an accepted pair, or else why there is none.
+abbrev pub answer_of : {X : Type 0} → Result X Checked → Checked
+answer_of (Ok made) = checked.Accepted
+answer_of (Err answer) = answer
 
 -- ---- which files are opened
 

@@ -1,9 +1,9 @@
 // The three files, and what is used of them.
-ghost use Rattle.std.specs.Prelude.{◌≢◌, IfErr, IfOk, OnOk};
+ghost use Rattle.std.specs.Prelude.{◌≢◌, IfErr, IfOk};
 ghost use Rattle.graph_core.specs.Graph.Operands.{profile_of};
-ghost use Rattle.mv_desk.specs.View.{KeepsTelling, OpensFiles};
+ghost use Rattle.mv_desk.specs.View.{KeepsTelling};
 ghost use Rattle.command_core.specs.Files.{files_of, texts_of};
-ghost use Rattle.joint_checker.specs.Outcome.{IsOutcome, OpensFor, OpensNeeded};
+ghost use Rattle.joint_checker.specs.Outcome.{IsOutcome, OpensFor, OpensNeeded, answer_of};
 ghost use Rattle.pair_trim.specs.Choosing.{CanBeWritten, HasChosen};
 ghost use Rattle.pair_trim.specs.Trimming.{ReadsOld};
 ghost use Rattle.pair_trim.specs.Trimming as trimming;
@@ -26,15 +26,12 @@ pub(crate) fn read_trimmed<D: Desk>(
 ) -> Result<Trimmed, Checked>
     ensures trims { IfOk result (HasChosen limits.now claim (texts_of (D.seen desk.old) (files_of names.now))) }
     ensures writes { IfOk result CanBeWritten }
-    ensures accepted { OnOk result (IsOutcome limits.now claim (files_of names.now)
-        (D.seen desk.old) (D.seen desk.new) Checked.Accepted) }
-    ensures refused { IfErr result (IsOutcome limits.now claim (files_of names.now)
-        (D.seen desk.old) (D.seen desk.new)) }
+    ensures outcome { IsOutcome limits.now claim (files_of names.now)
+        (D.seen desk.old) (D.seen desk.new) (answer_of result) }
     ensures not_accepted { IfErr result (λ answer. answer ≢ Checked.Accepted) }
-    ensures opens { IfErr result (OpensNeeded (profile_of claim.add) limits.now
-        (texts_of (D.seen desk.old) (files_of names.now)) (D.seen desk.old) (D.seen desk.new)) }
-    ensures opened_all { OnOk result (OpensFiles 3 (D.seen desk.old) (D.seen desk.new)) }
-    ensures opened { IfErr result (λ answer. OpensFor answer (D.seen desk.old) (D.seen desk.new)) }
+    ensures opens { OpensNeeded (profile_of claim.add) limits.now (texts_of (D.seen desk.old) (files_of names.now))
+        (D.seen desk.old) (D.seen desk.new) (answer_of result) }
+    ensures opened { OpensFor (answer_of result) (D.seen desk.old) (D.seen desk.new) }
     ensures reads { ReadsOld (trimming.trimmed_files_of names.now) (D.seen desk.old) (D.seen desk.new) }
     ensures tells { KeepsTelling (D.seen desk.old) (D.seen desk.new) }
 {

@@ -42,8 +42,8 @@ stopped_for p q limit text before now why same h = subst (λ p. IsStop (IsGraphS
 
 -- ---- the graph file
 
-pub returns-in_err-graph-clause-refused : goal.returns-in_err-graph-clause-refused
-returns-in_err-graph-clause-refused g c =
+pub returns-in_err-graph-clause-outcome : goal.returns-in_err-graph-clause-outcome
+returns-in_err-graph-clause-outcome g c =
     let p = err_from_is_err_and c.from_residual.result c.from_residual.ensures.1 in
     rw (p.1, p.2)
     (graph_answers c.args.limits.now c.args.claim (files_of c.args.names.now) (g.D.Desk.seen c.args.desk.now) (g.D.Desk.seen c.read_graph.new.desk) c.in_err-graph.field-0.0 (stopped_for _ _ _ _ (g.D.Desk.seen c.args.desk.now) (g.D.Desk.seen c.read_graph.new.desk) _ c.profile.ensures c.in_err-graph.ensures.refused))
@@ -65,8 +65,8 @@ returns-in_err-graph-clause-opened g c =
 
 -- ---- the clause file
 
-pub returns-in_err-shown-clause-refused : goal.returns-in_err-shown-clause-refused
-returns-in_err-shown-clause-refused g c =
+pub returns-in_err-shown-clause-outcome : goal.returns-in_err-shown-clause-outcome
+returns-in_err-shown-clause-outcome g c =
     let p = err_from_is_err_and c.from_residual-in_err-shown.result c.from_residual-in_err-shown.ensures.1 in
     rw (p.1, p.2)
     (clauses_answer c.args.limits.now c.args.claim (files_of c.args.names.now) (g.D.Desk.seen c.args.desk.now) (g.D.Desk.seen c.read_graph.new.desk) (g.D.Desk.seen c.check_clauses.new.desk) c.read_graph.ensures.inspects c.in_ok-graph.graph
@@ -101,8 +101,8 @@ check_algebra-requires-clause-columns g c = c.in_ok-shown.ensures.of_graph.colum
 pub check_algebra-requires-clause-facts : goal.check_algebra-requires-clause-facts
 check_algebra-requires-clause-facts g c = c.in_ok-shown.ensures.of_graph.facts
 
-pub returns-in_err-closed-clause-refused : goal.returns-in_err-closed-clause-refused
-returns-in_err-closed-clause-refused g c =
+pub returns-in_err-closed-clause-outcome : goal.returns-in_err-closed-clause-outcome
+returns-in_err-closed-clause-outcome g c =
     let first = g.D.Desk.seen c.args.desk.now in
     let second = g.D.Desk.seen c.read_graph.new.desk in
     let third = g.D.Desk.seen c.check_clauses.new.desk in
@@ -114,8 +114,8 @@ returns-in_err-closed-clause-refused g c =
     (algebra_answers c.args.limits.now c.args.claim (files_of c.args.names.now) first second third last c.read_graph.ensures.inspects c.check_clauses.ensures.reads.inspects graph (premises_of shown) (shown_fits graph shown c.in_ok-shown.ensures.of_graph)
     (spelled_for _ _ _ _ _ c.profile.ensures c.in_ok-graph.ensures.spelled) c.in_ok-shown.ensures.gives c.in_err-closed.field-0.0 c.in_err-closed.ensures.refused)
 
-pub returns-clause-accepted : goal.returns-clause-accepted
-returns-clause-accepted g c =
+pub returns-clause-outcome : goal.returns-clause-outcome
+returns-clause-outcome g c =
     let first = g.D.Desk.seen c.args.desk.now in
     let second = g.D.Desk.seen c.read_graph.new.desk in
     let third = g.D.Desk.seen c.check_clauses.new.desk in
@@ -125,8 +125,8 @@ returns-clause-accepted g c =
     accepts c.args.limits.now c.args.claim (files_of c.args.names.now) first second third last c.read_graph.ensures.inspects c.check_clauses.ensures.reads.inspects graph (premises_of shown) (shown_fits graph shown c.in_ok-shown.ensures.of_graph)
     (spelled_for _ _ _ _ _ c.profile.ensures c.in_ok-graph.ensures.spelled) c.in_ok-shown.ensures.gives c.in_ok-graph.ensures.built.well_formed (shape_for c.args.claim.add graph (sized_for _ _ _ c.profile.ensures c.in_ok-graph.ensures.sized)) c.in_ok-closed.ensures.lawful c.in_ok-closed.ensures.vanishes
 
-pub returns-clause-opens_all : goal.returns-clause-opens_all
-returns-clause-opens_all g c =
+pub returns-clause-opens : goal.returns-clause-opens
+returns-clause-opens g c =
     let first = g.D.Desk.seen c.args.desk.now in
     let second = g.D.Desk.seen c.read_graph.new.desk in
     let third = g.D.Desk.seen c.check_clauses.new.desk in
@@ -147,8 +147,8 @@ returns-in_err-closed-clause-opens g c =
     (algebra_needed c.args.limits.now c.args.claim (files_of c.args.names.now) first second third c.read_graph.ensures.opens.others c.check_clauses.ensures.reads.others c.in_ok-graph.graph (spelled_for _ _ _ _ _ c.profile.ensures c.in_ok-graph.ensures.spelled) last c.check_algebra.ensures.reads.others
     c.read_graph.ensures.inspects p (shown_fits c.in_ok-graph.graph shown c.in_ok-shown.ensures.of_graph) c.in_ok-shown.ensures.gives (sides_for c.args.claim p.extended.graph) c.in_err-closed.field-0.0 c.in_err-closed.ensures.refused)
 
-pub returns-clause-opened_all : goal.returns-clause-opened_all
-returns-clause-opened_all g c =
+pub returns-clause-opened : goal.returns-clause-opened
+returns-clause-opened g c =
     let first = g.D.Desk.seen c.args.desk.now in
     let second = g.D.Desk.seen c.read_graph.new.desk in
     let third = g.D.Desk.seen c.check_clauses.new.desk in

@@ -13,7 +13,7 @@ returns-in-Err-write_pair-clause-answer g c =
     let h = c.in-Ok.ensures.trims in
     let t = c.in-Ok.kept in (
       subst (λ (n : ℕ). Rose n now.write_faults) c.in-Ok.ensures.reads.inspects.write_faults c.in-Err-write_pair.ensures.cause.rose,
-      c.in-Ok.ensures.accepted,
+      c.in-Ok.ensures.outcome,
       (t, (h.0, h.1, (h.2.0, (clauses_text t, algebra_text t, h.2.1, (read, c.in-Ok.ensures.reads, c.in-Err-write_pair.ensures.stops))))),
     )
 
@@ -26,7 +26,7 @@ returns-in-Err-clause-answer g c =
     let answer = c.not_accepted.result in
     let same = c.not_accepted.ensures in
     not_accepted_answers limits c.args.claim files before now answer (λ e. c.in-Err.ensures.not_accepted (sym same ∙ e)) (subst (IsNotAccepted limits c.args.claim files before now) (sym same) (record {
-      outcome_is = c.in-Err.ensures.refused;
+      outcome_is = c.in-Err.ensures.outcome;
       opens = c.in-Err.ensures.opens;
       inspects = c.read_trimmed.ensures.reads.inspects;
     }))
