@@ -26,12 +26,24 @@ ghost use Rattle.unit_prop.specs.Literals.{IsLiteral};
 ghost use Rattle.unit_prop.specs.Watches.{none};
 ghost use Rattle.unit_prop.specs.Trail.{IsLiteralUpTo};
 ghost use Rattle.unit_prop.specs.Standing.{clause_at};
-ghost use Rattle.unit_prop.specs.Visits.{AreClauses, IsVisitedUpTo, GainsLiterals, Settles, IsChosenWatch, IsFalse, IsPropagating, partner};
+ghost use Rattle.unit_prop.specs.Visits.{IsVisitedUpTo, GainsLiterals, IsVisit, Settles, IsChosenWatch, IsFalse, IsPropagating, partner};
 
 use crate::literal::negation;
 use crate::trail::Trail;
 use crate::watches::Watches;
 use clause_core::Clause;
+
+/// A watch whose literal is false.
+#[derive(Clone, Copy)]
+pub(crate) struct Watch<'a> {
+    clauses: &'a [Option<Clause>],
+    reference: u32,
+    lit: i32,
+    /// The other literal that its clause watches, or 0.
+    other: i32,
+    /// The place of the trail at which the literal became false.
+    head: u32,
+}
 
 /// What becomes of a watch whose literal is false.
 #[derive(Clone, Copy, Debug)]
@@ -69,37 +81,26 @@ fn replacement(trail: &Trail, lits: &[i32], other: i32) -> Option<i32>
     None
 }
 
-// Looks after a clause one of whose watched literals is false.
-fn settle(
-    trail: &mut Trail,
-    clauses: &[Option<Clause>],
-    reference: u32,
-    other: i32,
-    head: u32,
-) -> Settled
-    requires kept { IsVisitedUpTo clauses.now trail.old head }
-    requires clauses { AreClauses trail.old.max clauses.now }
-    requires reference { reference < none }
-    requires place { reference < length clauses.now }
-    requires other { (other ≡ pos 0) ⊎ IsLiteralUpTo trail.old.max other }
-    requires watched { (c : Literals) → clause_at clauses.now reference ≡ Some c → Contains c other }
-    ensures kept { IsVisitedUpTo clauses.now trail.new head }
+// Looks after the clause of a watch whose literal is false.
+fn settle(watch: &Watch<'_>, trail: &mut Trail) -> Settled
+    requires { IsVisit watch.now trail.old }
+    ensures kept { IsVisitedUpTo watch.now.clauses.now trail.new watch.now.head }
     ensures grows { GainsLiterals trail.old trail.new }
-    ensures settles { Settles clauses.now reference other head trail.old result trail.new }
+    ensures settles { Settles watch.now trail.old result trail.new }
 {
-    if other == 0 {
+    if watch.other == 0 {
         return Settled::Gone;
     }
-    if trail.is_true(other) {
+    if trail.is_true(watch.other) {
         return Settled::Stays;
     }
-    let Some(clause) = &clauses[reference as usize] else {
+    let Some(clause) = &watch.clauses[watch.reference as usize] else {
         return Settled::Gone;
     };
-    match replacement(trail, clause.lits(), other) {
+    match replacement(trail, clause.lits(), watch.other) {
         Some(lit) => Settled::Moves(lit),
-        None if !trail.is_false(other) => {
-            trail.push(other, reference, head);
+        None if !trail.is_false(watch.other) => {
+            trail.push(watch.other, watch.reference, watch.head);
             Settled::Stays
         }
         None => Settled::Conflict,
@@ -108,37 +109,24 @@ fn settle(
 
 // Where a node whose literal is false is hung up again, 0 where its clause was removed. After a conflict that is where
 // it was.
-fn next_literal(
-    clauses: &[Option<Clause>],
-    trail: &mut Trail,
-    conflict: &mut Option<u32>,
-    reference: u32,
-    other: i32,
-    false_lit: i32,
-    head: u32,
-) -> i32
-    requires kept { IsVisitedUpTo clauses.now trail.old head }
-    requires clauses { AreClauses trail.old.max clauses.now }
-    requires reference { reference < none }
-    requires place { reference < length clauses.now }
-    requires other { (other ≡ pos 0) ⊎ IsLiteralUpTo trail.old.max other }
-    requires watched { (c : Literals) → clause_at clauses.now reference ≡ Some c → Contains c other }
-    requires conflict { IfSome conflict.old (IsFalse clauses.now trail.old.lits) }
-    ensures kept { IsVisitedUpTo clauses.now trail.new head }
+fn next_literal(watch: &Watch<'_>, trail: &mut Trail, conflict: &mut Option<u32>) -> i32
+    requires visit { IsVisit watch.now trail.old }
+    requires conflict { IfSome conflict.old (IsFalse watch.now.clauses.now trail.old.lits) }
+    ensures kept { IsVisitedUpTo watch.now.clauses.now trail.new watch.now.head }
     ensures grows { GainsLiterals trail.old trail.new }
     ensures earlier { conflict.new ≡ None → conflict.old ≡ None }
-    ensures chosen { IsChosenWatch clauses.now reference other false_lit head trail.new conflict.new result }
+    ensures chosen { IsChosenWatch watch.now trail.new conflict.new result }
 {
     if conflict.is_some() {
-        return false_lit;
+        return watch.lit;
     }
-    match settle(trail, clauses, reference, other, head) {
-        Settled::Stays => false_lit,
+    match settle(watch, trail) {
+        Settled::Stays => watch.lit,
         Settled::Moves(lit) => lit,
         Settled::Gone => 0,
         Settled::Conflict => {
-            *conflict = Some(reference);
-            false_lit
+            *conflict = Some(watch.reference);
+            watch.lit
         }
     }
 }
@@ -163,15 +151,14 @@ pub(crate) fn visit(
     watches.take_up(false_lit);
     while let Some(node) = watches.next() {
         let other = watches.lit(partner_of(node));
-        let lit = next_literal(
+        let watch = Watch {
             clauses,
-            trail,
-            &mut conflict,
-            node / 2,
+            reference: node / 2,
+            lit: false_lit,
             other,
-            false_lit,
-            at,
-        );
+            head: at,
+        };
+        let lit = next_literal(&watch, trail, &mut conflict);
         if lit != 0 {
             watches.hang(node, lit);
         }
