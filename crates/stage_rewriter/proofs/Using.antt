@@ -1,12 +1,11 @@
 -- An adder whose goals are all refuted is used, and operands at which one fails are a difference.
 use Rattle.std.specs.Prelude.{◌≡◌, ℕ, Bool, List, length, map}
 use Rattle.std.proofs.Common.{sym, ap, subst, ◌∙◌, arith}
-use Rattle.graph_core.specs.Algebra.{AgreeOnColumns}
+use Rattle.graph_core.specs.Graph.Extended.{AgreeOnColumns, Extended}
 use Rattle.graph_core.specs.Graph.{Aig, IsEvaluation}
 use Rattle.graph_core.specs.Graph.Assignments.{literal}
 use Rattle.graph_core.specs.Graph.Operands.{Sides, AreInRange, inputs_at}
 use Rattle.graph_core.specs.declared.numbers.Numbers.{Numbers}
-use Rattle.graph_core.specs.Graph.Extended.{Extended}
 use Rattle.ripple_graft.specs.Blocks.{IsCut, with_cut}
 use Rattle.ripple_graft.specs.declared.cut.Cut.{Cut}
 use Rattle.adder_finder.specs.FinalStage.{IsFinalStage}

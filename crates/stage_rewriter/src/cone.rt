@@ -17,23 +17,7 @@ pub(crate) fn near_variables(
         reached: Vec::from_elem(alloc, false, most + 1)?,
         path: Vec::new(alloc),
     };
-    for (x, y) in cut.pairs.as_slice() {
-        walk.reach(x.var())?;
-        walk.reach(y.var())?;
-    }
-    let pairs = walk.path.len();
-    for (column, output) in extended.graph().output_literals().iter().enumerate() {
-        if column >= cut.lo as usize {
-            walk.reach(output.var())?;
-        }
-    }
-    for gate in extended.gates() {
-        if gate.v > extended.graph().max() {
-            walk.reach(gate.v)?;
-        }
-    }
-    walk.go_down(extended, pairs)?;
-    walk.deepen(extended, pairs, depth)?;
+    walk.reach_cut(extended, cut, depth)?;
     Ok(walk.reached)
 }
 
@@ -75,6 +59,27 @@ impl Walk {
             self.path.push(var)?;
         }
         Ok(())
+    }
+
+    // What is near a cut.
+    fn reach_cut(&mut self, extended: &Extended<'_>, cut: &Cut, depth: u32) -> Result<(), Memory> {
+        for (x, y) in cut.pairs.as_slice() {
+            self.reach(x.var())?;
+            self.reach(y.var())?;
+        }
+        let pairs = self.path.len();
+        for (column, output) in extended.graph().output_literals().iter().enumerate() {
+            if column >= cut.lo as usize {
+                self.reach(output.var())?;
+            }
+        }
+        for gate in extended.gates() {
+            if gate.v > extended.graph().max() {
+                self.reach(gate.v)?;
+            }
+        }
+        self.go_down(extended, pairs)?;
+        self.deepen(extended, pairs, depth)
     }
 
     // What is read below the variables from a place on.

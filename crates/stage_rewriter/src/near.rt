@@ -1,11 +1,11 @@
 // Goals that are refuted over the clauses near an adder alone.
-ghost use Rattle.std.specs.Prelude.{List, ◌≡◌, ◌↔◌, ◌++◌, drop, length, IfOk, IfSome, IsTrue, OnOk};
-ghost use Rattle.std.specs.List.{All, Contains};
-ghost use Rattle.clause_core.specs.Clause.{Clause as Literals, IsClauseInRange};
-ghost use Rattle.cdcl_solver.specs.Loading.{SameLive};
+ghost use Rattle.std.specs.Prelude.{[], ◌≡◌, ◌↔◌, drop, length, IfOk, IfSome, IsTrue, OnOk};
+ghost use Rattle.std.specs.List.{All};
+ghost use Rattle.clause_core.specs.Likeness.{AreSameSets};
 ghost use Rattle.ripple_graft.specs.Blocks.{IsCut, with_cut};
 ghost use Rattle.stage_rewriter.specs.NearClauses.{AreNearOf, IsMarkedLiteral, IsNear, IsNearLine, PushesNear};
-ghost use Rattle.goal_refuter.specs.Refuting.{IsRefutation, IsSoFar};
+ghost use Rattle.stage_rewriter.specs.NearKept.{IsKeptNear};
+ghost use Rattle.goal_refuter.specs.Refuting.{IsSoFar};
 ghost use Rattle.goal_refuter.specs.Refutations.{unmet_goals};
 
 use crate::cone::{near_variables, variables_below};
@@ -38,77 +38,73 @@ pub(crate) fn refute_near(
     let clauses = gate_clauses(alloc, extended)?;
     let goals = unmet_goals(alloc, extended, cut)?;
     let marks = near_variables(alloc, extended, cut, depth)?;
-    let near = near_clauses(alloc, &clauses, &marks)?;
-    let mut solver = solver_of(alloc, max, &near)?;
-    let mut log = Log::new(alloc);
-    for goal in 0..goals.len() {
-        // the goals so far are among the added clauses beside the lemmas
-        let spent = log.added() - goal as u64;
-        let left = conflicts - spent;
-        let start = log.lines().len();
-        match refute_by(
-            alloc,
-            extended,
-            &marks,
-            depth,
-            &mut solver,
-            goals.get(goal),
-            left,
-            &mut log,
-        )? {
-            Solved::Refuted => {}
-            Solved::Model(_) => return Ok(None),
-            Solved::Spent => return Ok(None),
-        }
-        if !are_near(log.lines(), start, &marks) {
-            return Ok(None);
-        }
-    }
-    Ok(Some(log))
+    let near = Near {
+        extended,
+        marks: &marks,
+        depth,
+    };
+    let some = near_clauses(alloc, &clauses, near.marks)?;
+    let mut solver = solver_of(alloc, max, &some)?;
+    near.refute_each(alloc, &mut solver, &goals, conflicts)
 }
 
-// Refutes the negation of a goal, as `refute` does.
-fn refute_by(
-    alloc: Global,
-    extended: &Extended<'_>,
-    marks: &[bool],
+// What lies near an adder.
+#[derive(Clone, Copy)]
+struct Near<'a> {
+    extended: &'a Extended<'a>,
+    /// By variable, whether it is near.
+    marks: &'a [bool],
+    /// Through at most so many gates below the pairs.
     depth: u32,
-    solver: &mut Solver,
-    goal: &Clause,
-    conflicts: u64,
-    log: &mut Log,
-) -> Result<Solved, Memory>
-    requires goal { IsClauseInRange solver.old.max goal.now }
-    requires log { All (IsClauseInRange solver.old.max) log.old.left }
-    requires known { (c : Literals) → Contains log.old.left c → Contains solver.old.live c }
-    ensures max { OnOk result (solver.new.max ≡ solver.old.max) }
-    ensures left { OnOk result (All (IsClauseInRange solver.old.max) log.new.left) }
-    ensures answer { (given : List Literals) → SameLive solver.old.live (log.old.left ++ given) →
-        IfOk result (IsRefutation solver.old.max given goal.now conflicts log.old log.new) }
-    ensures live { (given : List Literals) → SameLive solver.old.live (log.old.left ++ given) →
-        OnOk result (SameLive solver.new.live (log.new.left ++ given)) }
-{
-    prefer_below(alloc, extended, marks, depth, solver, goal)?;
-    refute(alloc, solver, goal, conflicts, log)
 }
 
-// Has the variables of a goal and those below decided first, the goal's foremost, where what lies below the pairs counts
-// as near.
-fn prefer_below(
-    alloc: Global,
-    extended: &Extended<'_>,
-    marks: &[bool],
-    depth: u32,
-    solver: &mut Solver,
-    goal: &Clause,
-) -> Result<(), Memory>
-    ensures { solver.new ≡ solver.old }
-{
-    if depth > 0 {
-        let vars = variables_below(alloc, extended, goal, marks)?;
-        solver.prefer(&vars);
+impl Near<'_> {
+    // Refutes the negation of each goal, by a solver over the clauses that are near.
+    fn refute_each(
+        &self,
+        alloc: Global,
+        solver: &mut Solver,
+        goals: &ClauseList,
+        conflicts: u64,
+    ) -> Result<Option<Log>, Memory>
+        requires goals { AreSameSets goals.now (unmet_goals self.now.extended.now) }
+        requires near { IsKeptNear self.now.extended.now self.now.marks.now solver.old
+            (record { lines = []; left = [] }) }
+        ensures { IfOk result (λ found. IfSome found
+            (IsSoFar self.now.extended.now conflicts (length (unmet_goals self.now.extended.now)))) }
+    {
+        let _gates = self.extended.gates();
+        let mut log = Log::new(alloc);
+        for goal in 0..goals.len() {
+            // the goals so far are among the added clauses beside the lemmas
+            let spent = log.added() - goal as u64;
+            let left = conflicts - spent;
+            let start = log.lines().len();
+            let clause = goals.get(goal);
+            self.prefer_below(alloc, solver, clause)?;
+            match refute(alloc, solver, clause, left, &mut log)? {
+                Solved::Refuted => {}
+                Solved::Model(_) => return Ok(None),
+                Solved::Spent => return Ok(None),
+            }
+            if !are_near(log.lines(), start, self.marks) {
+                return Ok(None);
+            }
+        }
+        Ok(Some(log))
     }
-    Ok(())
+
+    // Has the variables of a goal and those below decided first, the goal's foremost, where what lies below the pairs
+    // counts as near.
+    fn prefer_below(&self, alloc: Global, solver: &mut Solver, goal: &Clause) -> Result<(), Memory>
+        ensures { solver.new ≡ solver.old }
+    {
+        if self.depth > 0 {
+            let vars = variables_below(alloc, self.extended, goal, self.marks)?;
+            solver.prefer(&vars);
+        }
+        Ok(())
+    }
 }
 
 // The clauses whose variables are all marked.

@@ -2,9 +2,9 @@ use Rattle.std.proofs.Common.{◌≡◌, List, length, slice_index_or, sym, ap, 
 use Rattle.std.proofs.lemmas.List.{length-map}
 use Rattle.graph_core.specs.declared.literal.Lit.{Lit}
 use Rattle.graph_core.specs.Graph.Assignments.{literal}
-use Rattle.frontier_core.proofs.CallerLemmas.{length-literals}
 use Rattle.cdcl_solver.specs.Solving.{assignment_of}
 use Rattle.stage_rewriter.proofs.Values.{map_all, map_more}
+use Rattle.graph_core.proofs.OfGraphs.CallerLemmas.{length-literals}
 use Rattle.stage_rewriter.proofs.difference.numbers_of.Goals as goal
 
 pub loop-lit-preserved : goal.loop-lit-preserved
@@ -24,7 +24,7 @@ numbers_of-requires c =
     let all = map_all (literal (assignment_of c.args.values.now)) g.inputs c.loop-lit.lit-index c.loop-lit.inputs.items (omega (arith, ap length c.input_literals-lit-items.ensures.value)) c.loop-lit.invariant in
     record {
       as_many = ap length (c.deref.ensures.value ∙ all) ∙ length-map g.inputs (literal (assignment_of c.args.values.now)) ∙
-          sym (length-literals g s c.requires.shape c.input_literals-lit-items.ensures.built.well_formed.defined_once c.requires.operands);
+          sym (length-literals g s c.requires.shape c.requires.operands);
     }
 
 pub returns-clause-inputs : goal.returns-clause-inputs
