@@ -10,6 +10,9 @@ use std::alloc::Global;
 // How many positions are looked at altogether.
 const MOST_POSITIONS: u32 = 16384;
 
+// A position has fewer choices than 4,096, and is given up once, so that no search takes so many steps.
+const TOO_MANY: u32 = MOST_POSITIONS * 4096;
+
 // So many gates at most lie between an output and the literals that its pair may have.
 const DEPTH: u32 = 8;
 
@@ -80,7 +83,7 @@ impl<'a> Search<'a> {
     pub(crate) fn pairs_from(&mut self, lo: usize) -> Result<Option<Vec<(Lit, Lit)>>, Memory> {
         let mut path = Vec::new(self.alloc);
         self.go_on(&mut path, lo, &Signature::zero())?;
-        for _step in 0..u64::MAX {
+        for _step in 0..TOO_MANY {
             match self.step(&mut path, lo)? {
                 Step::On => {}
                 Step::Found => return Ok(Some(pairs_of(self.alloc, &path)?)),

@@ -9,8 +9,8 @@ use graph_core::{Graph, Memory, Numbers, Operands};
 use ripple_graft::{Cut, GraftFail, Pairs, graft};
 use std::alloc::Global;
 
-// No cut is looked for among more variables.
-const MOST_VARIABLES: u32 = 65536;
+// No table is made of more variables, and no cut looked for.
+const MOST_TABLE_VARIABLES: u32 = 65536;
 
 // So many variables for each pair are few.
 const NARROW: usize = 64;
@@ -25,7 +25,7 @@ pub fn candidate(
 ) -> Result<Option<Cut>, Memory>
     ensures { IfOk result (λ cut. IfSome cut (IsCut graph.now)) }
 {
-    if graph.max() > MOST_VARIABLES {
+    if graph.max() > MOST_TABLE_VARIABLES {
         return Ok(None);
     }
     match guess(alloc, graph, operands, given)? {
@@ -43,18 +43,32 @@ fn guess(
     given: &[Numbers],
 ) -> Result<Option<Cut>, Memory> {
     let table = Table::new(alloc, graph, operands, given)?;
-    let mut search = Search::new(alloc, graph, &table)?;
-    let Some(first) = first_adder(alloc, graph, &table, &mut search)? else {
-        return Ok(None);
-    };
+    best(alloc, graph, &table)
+}
+
+// The cut of the best adder by the values of a table.
+fn best(alloc: Global, graph: &Graph, table: &Table) -> Result<Option<Cut>, Memory> {
+    let mut search = Search::new(alloc, graph, table)?;
+    match first_adder(alloc, graph, table, &mut search)? {
+        None => Ok(None),
+        Some(first) => best_with(alloc, graph, table, &mut search, first),
+    }
+}
+
+// This adder, or the first one in the other order if that is narrower.
+fn best_with(
+    alloc: Global,
+    graph: &Graph,
+    table: &Table,
+    search: &mut Search<'_>,
+    first: Adder,
+) -> Result<Option<Cut>, Memory> {
     if first.is_narrow() {
         return Ok(Some(first.into_cut()));
     }
     search.turn();
-    match first_adder(alloc, graph, &table, &mut search)? {
-        Some(other) if other.is_better(&first) => Ok(Some(other.into_cut())),
-        _ => Ok(Some(first.into_cut())),
-    }
+    let other = first_adder(alloc, graph, table, search)?;
+    Ok(Some(first.or_better(other).into_cut()))
 }
 
 // The adder with the least low column.
@@ -89,6 +103,14 @@ impl Adder {
     // Whether it begins no higher and fewer variables lie above its pairs.
     fn is_better(&self, other: &Adder) -> bool {
         self.lo <= other.lo && self.raised.width < other.raised.width
+    }
+
+    // The other one, if there is one and it is better.
+    fn or_better(self, other: Option<Adder>) -> Adder {
+        match other {
+            Some(other) if other.is_better(&self) => other,
+            _ => self,
+        }
     }
 
     fn into_cut(self) -> Cut {

@@ -32,27 +32,48 @@ impl Table {
         operands: &Operands,
         given: &[Numbers],
     ) -> Result<Table, Memory> {
-        let order = by_level(alloc, graph)?;
-        let patterns = patterns(alloc, operands, given)?;
-        let size = graph.max() as usize + 1;
-        let mut table = Table {
+        let mut table = Table::zero(alloc, graph.max() as usize + 1)?;
+        table.fill(alloc, graph, operands, given)?;
+        Ok(table)
+    }
+
+    // So many variables with the signature of the constant false.
+    fn zero(alloc: Global, size: usize) -> Result<Table, Memory> {
+        Ok(Table {
             signatures: vec![in alloc; Signature::zero(); size]?,
             keys: vec![in alloc; 0; size]?,
             lowest: IndexMap::new(alloc),
             ones: Signature::zero().negated_if(true).key(),
-        };
-        table.set_word(operands.a_literals(), &patterns, Word::A);
-        table.set_word(operands.b_literals(), &patterns, Word::B);
-        table.set_word(operands.c_literals(), &patterns, Word::C);
+        })
+    }
+
+    // The signatures and keys on the given numbers and drawn ones.
+    fn fill(
+        &mut self,
+        alloc: Global,
+        graph: &Graph,
+        operands: &Operands,
+        given: &[Numbers],
+    ) -> Result<(), Memory> {
+        let patterns = patterns(alloc, operands, given)?;
+        self.set_word(operands.a_literals(), &patterns, Word::A);
+        self.set_word(operands.b_literals(), &patterns, Word::B);
+        self.set_word(operands.c_literals(), &patterns, Word::C);
+        self.set_gates(alloc, graph)
+    }
+
+    // The same of the constant, the inputs and the gates, from those of operands.
+    fn set_gates(&mut self, alloc: Global, graph: &Graph) -> Result<(), Memory> {
+        let order = by_level(alloc, graph)?;
         for (_level, v) in order.as_slice() {
             if *v <= graph.max() {
                 if let Some(gate) = graph.gate(*v) {
-                    table.set_gate(gate);
+                    self.set_gate(gate);
                 }
             }
-            table.enter(*v)?;
+            self.enter(*v)?;
         }
-        Ok(table)
+        Ok(())
     }
 
     /// The signature of a literal.
