@@ -1,7 +1,6 @@
 -- What is gathered after a column was added.
-use Rattle.std.specs.Prelude.{◌≡◌, ◌≢◌, ℕ, ◌+◌, ◌*◌, ◌%◌, ◌^◌, ◌<◌, ◌≤◌, true, false, List, [], ◌∷◌, ◌++◌, length, get_or, slice_get, slice_index_or, IfSome}
-use Rattle.std.specs.declared.option.Option.{Option}
-use Rattle.std.specs.declared.option.Option.TheVariants.{None, Some}
+use Rattle.std.specs.Prelude.{◌≡◌, ◌≢◌, ℕ, ◌+◌, ◌*◌, ◌%◌, ◌^◌, ◌<◌, ◌≤◌, true, false, List, [], ◌∷◌, ◌++◌, length, get_or, slice_get, slice_index_or}
+use Rattle.std.specs.declared.option.Option.TheVariants.{Some}
 use Rattle.std.specs.List.{All, Contains}
 use Rattle.std.proofs.Common.{refl, sym, ap, ap₂, subst, ◌∙◌, arith, pow_mono, true≢false, lt_of_not-le}
 use Rattle.std.proofs.Math.Nat.{mod-add-mod}
@@ -14,9 +13,10 @@ use Rattle.graph_core.specs.declared.literal.Lit.{Lit}
 use Rattle.graph_core.specs.Graph.Assignments.{Assignment, bit, literal}
 use Rattle.graph_core.specs.Graph.Operands.{Sides}
 use Rattle.graph_core.specs.Graph.Extended.{Column, Extended}
-use Rattle.graph_core.specs.Algebra.{IsLive, axioms, combined, value_of}
-use Rattle.graph_core.specs.Algebra as algebra
-use Rattle.graph_core.specs.Algebra.Polynomials.{difference, value}
+use Rattle.algebra_core.specs.AlgebraLines.{IsLive, axioms, combined, value_of}
+use Rattle.graph_core.specs.Graph.Extended as graphs
+use Rattle.algebra_core.specs.AlgebraLines as algebra
+use Rattle.algebra_core.specs.Polynomials.{difference, value}
 use Rattle.gate_axioms.specs.Axioms.{IsLiteralDifference}
 use Rattle.ripple_graft.specs.Extension.{IsExtension, IsReplaced, new_outputs}
 use Rattle.ripple_graft.proofs.NewOutputs.{outputs_are_new}
@@ -33,7 +33,7 @@ use Rattle.frontier_core.proofs.Gathered.{combined_push, has_first, has_more, pe
 use Rattle.frontier_core.proofs.LineLemmas.{axioms_are_live}
 use Rattle.frontier_core.proofs.RestLines.{adding_keeps_rest_line}
 use Rattle.column_reducer.specs.declared.gathered.Gathered.{Gathered}
-use Rattle.column_reducer.specs.Gathering.{AreColumns, AreGateParts, AreOfAdded, AreSumBatches, HasColumn, HasColumnIn, IsFixedAbove, IsGathered, batch_count, batches_sum, one_if_some, scaled_parts}
+use Rattle.column_reducer.specs.Gathering.{AreColumns, AreGateParts, AreOfAdded, AreSumBatches, HasColumn, IsFixedAbove, batches_sum, one_if_some, scaled_parts}
 use Rattle.column_reducer.proofs.Fixed.{literal_fixed, new_outputs_low, output_low, outputs_low, over_fixed, same_fixed}
 use Rattle.column_reducer.proofs.Grown.{gathered_grown}
 use Rattle.column_reducer.proofs.Taken.{part_pushed}
@@ -42,7 +42,7 @@ use Rattle.poly_text.specs.Lines.{parts_in}
 -- ---- a column's number
 
 -- it is below the exponent
-pub below_exponent : (e : Extended) (t : Table) (k : ℕ) → modulus_in t ≡ algebra.modulus e → k < length e.graph.outputs → k < t.exponent
+pub below_exponent : (e : Extended) (t : Table) (k : ℕ) → modulus_in t ≡ graphs.modulus e → k < length e.graph.outputs → k < t.exponent
 below_exponent e t k same low =
     lt_of_not-le (λ (h : t.exponent ≤ k).
     let small : 2 ^ t.exponent ≤ 2 ^ k = pow_mono h in let great : 2 ^ k < 2 ^ length e.graph.outputs = pow-lt low in absurd (omega (arith, same)))
@@ -53,7 +53,7 @@ added_more e added k columns h i d low = let one = h i d low in (one.0, has_more
 -- a replaced column's axiom is live, and states its old output minus its new one
 record IsLiveColumn (e : Extended) (k : ℕ) (o r : Lit) : Type 0 where
   pub live : IsLive (axioms e).live (e.max + 1 + k)
-  pub states : (σ : Assignment) → value_of (axioms e).live (e.max + 1 + k) σ ≡ difference (algebra.modulus e) (bit (literal σ o)) (bit (literal σ r))
+  pub states : (σ : Assignment) → value_of (axioms e).live (e.max + 1 + k) σ ≡ difference (graphs.modulus e) (bit (literal σ o)) (bit (literal σ r))
 
 live_column : (e : Extended) (k : ℕ) (o r : Lit) → IsExtension e → IsReplaced e k → slice_get e.graph.outputs k ≡ Some o → slice_get (new_outputs e) k ≡ Some r → IsLiveColumn e k o r
 live_column e k o r made replaced old new =
@@ -67,7 +67,7 @@ live_column e k o r made replaced old new =
       live = subst (λ n. IsLive (axioms e).live (e.max + 1 + n)) number law.0;
       states = λ σ.
           ap (λ n. value_of (axioms e).live (e.max + 1 + n) σ) (sym number) ∙ law.1 σ ∙
-          ap₂ (λ x y. difference (algebra.modulus e) (bit (literal σ x)) (bit (literal σ y))) first second;
+          ap₂ (λ x y. difference (graphs.modulus e) (bit (literal σ x)) (bit (literal σ y))) first second;
     }
 
 -- ---- a column that isn't replaced
@@ -95,11 +95,11 @@ column_kept t e k g kept = record {
 
 -- its axiom times 2^k goes into the total
 pending_more : (e : Extended) (s : Sides) (f : Taken) (start more rest next : Assignment → ℕ) (parts : List algebra.Part) (k : ℕ) (o r : Lit) → slice_get e.graph.outputs k ≡ Some o → slice_get (new_outputs e) k ≡ Some r →
-    has f.added k ≡ false → ((σ : Assignment) → next σ ≡ (rest σ + column_value e s k r σ) % algebra.modulus e) →
-    ((σ : Assignment) → more σ ≡ (start σ + difference (algebra.modulus e) (bit (literal σ o)) (bit (literal σ r)) * 2 ^ k) % algebra.modulus e) →
+    has f.added k ≡ false → ((σ : Assignment) → next σ ≡ (rest σ + column_value e s k r σ) % graphs.modulus e) →
+    ((σ : Assignment) → more σ ≡ (start σ + difference (graphs.modulus e) (bit (literal σ o)) (bit (literal σ r)) * 2 ^ k) % graphs.modulus e) →
     IsPending e s (axioms e).live start f rest parts → IsPending e s (axioms e).live more (step f (Add k)) next parts
 pending_more e s f start more rest next parts k o r old out new sum more_is h =
-    let m = algebra.modulus e in
+    let m = graphs.modulus e in
     let c : Assignment → ℕ = combined m (axioms e).live parts in
     let law = adding_keeps_rest_line e s f.added k o r (gap e s f.added rest) rest next (λ σ. refl) old out new sum in
     record {
@@ -112,10 +112,10 @@ pending_more e s f start more rest next parts k o r old out new sum more_is h =
       taken = λ i d low. taken_adding e f k (slice_index_or parts i d).id (h.taken i d low);
     }
 
-columns_pushed : (e : Extended) (t : Table) (added : List ℕ) (k : ℕ) (weight : Sum) (columns : List (ℕ × Sum)) → modulus_in t ≡ algebra.modulus e → k < length e.graph.outputs → has added k ≡ false → IsLive (axioms e).live (e.max + 1 + k) →
+columns_pushed : (e : Extended) (t : Table) (added : List ℕ) (k : ℕ) (weight : Sum) (columns : List (ℕ × Sum)) → modulus_in t ≡ graphs.modulus e → k < length e.graph.outputs → has added k ≡ false → IsLive (axioms e).live (e.max + 1 + k) →
     IsOf t weight → ((σ : Assignment) → value_in t weight σ ≡ 2 ^ k) → AreOfAdded e added columns → AreColumns e t columns → AreColumns e t (columns ++ (e.max + 1 + k, weight) ∷ [])
 columns_pushed e t added k weight columns same low new live of weight_is are h =
-    let m = algebra.modulus e in
+    let m = graphs.modulus e in
     let over : IsOver e.max t weight = over_fixed e.max t weight of (λ v b σ above. weight_is (set_to v b σ) ∙ sym (weight_is σ)) in
     let nonzero : IsNotZero m (monomials_in t weight) = λ none.
     let at : Assignment = λ v. false in
@@ -137,7 +137,7 @@ pub column_taken : (t0 t1 t2 t : Table) (e : Extended) (k : ℕ) (o r : Lit) (eq
     more.batches ≡ g.batches → more.columns.items ≡ g.columns.items ++ (e.max + 1 + k, weight) ∷ [] → more.parts ≡ g.parts → more.stated ≡ g.stated → more.power ≡ g.power → HasColumn t0 t e k g more
 column_taken t0 t1 t2 t e k o r equal weight g more first second third replaced old out of_axiom axiom_is of_weight weight_is of_total total_is batches columns parts stated power = record {
   gathered = λ s f rest next same made low new sum h0.
-      let m = algebra.modulus e in
+      let m = graphs.modulus e in
       let live = (axioms e).live in
       let id = e.max + 1 + k in
       let to2 = extends_on t0 t1 t2 first second in
@@ -188,20 +188,3 @@ column_taken t0 t1 t2 t e k o r equal weight g more first second third replaced 
       };
   count = ap₂ (λ gs ps. length gs.items + one_if_some ps.items) batches parts;
 }
-
--- ---- in what may be kept
-
-pub column_in : (e : Extended) (s : Sides) (t0 t1 t : Table) (f : Taken) (p : Sum) (next : Assignment → ℕ) (k : ℕ) (g more : Option Gathered) → IsExtension e → modulus_in t0 ≡ algebra.modulus e → Extends t0 t1 → IsOf t0 p →
-    k < length e.graph.outputs → has f.added k ≡ false → ((r : Lit) → slice_get (new_outputs e) k ≡ Some r → (σ : Assignment) → next σ ≡ (value_in t0 p σ + column_value e s k r σ) % algebra.modulus e) →
-    HasColumnIn t1 t e k g more → IfSome g (IsGathered e s t0 f (value_in t0 p)) → IfSome more (IsGathered e s t (step f (Add k)) next)
-column_in e s t0 t1 t f p next k None None made same first of low new sum takes h = tt
-column_in e s t0 t1 t f p next k None (Some more) made same first of low new sum takes h = cc
-column_in e s t0 t1 t f p next k (Some g) None made same first of low new sum takes h = absurd takes
-column_in e s t0 t1 t f p next k (Some g) (Some more) made same first of low new sum takes h =
-    takes.gathered s f (value_in t0 p) next (modulus_stays t0 t1 first ∙ same) made low new sum (gathered_grown e s t0 t1 f (value_in t0 p) g first h)
-
-pub few_columns : (n : ℕ) (t0 t : Table) (e : Extended) (k : ℕ) (g more : Option Gathered) → HasColumnIn t0 t e k g more → IfSome g (λ x. batch_count x ≤ n) → IfSome more (λ x. batch_count x ≤ n)
-few_columns n t0 t e k None None takes h = tt
-few_columns n t0 t e k None (Some more) takes h = cc
-few_columns n t0 t e k (Some g) None takes h = absurd takes
-few_columns n t0 t e k (Some g) (Some more) takes h = let count = takes.count in omega arith

@@ -7,8 +7,9 @@ use Rattle.std.proofs.Math.Path.{fun_ext}
 use Rattle.std.proofs.lemmas.Nat.{pow_pos}
 use Rattle.graph_core.specs.declared.gate.Gate.{Gate}
 use Rattle.graph_core.specs.Graph.Assignments.{Assignment}
-use Rattle.graph_core.specs.Algebra.Polynomials.{difference, sum_of}
-use Rattle.graph_core.proofs.OfGraphs.CallerLemmas.{difference_is, difference_same, product_same, sum_same}
+use Rattle.algebra_core.specs.Polynomials.{difference, sum_of}
+use Rattle.graph_core.proofs.OfGraphs.CallerLemmas.{product_same, sum_same}
+use Rattle.algebra_core.proofs.CallerLemmas.{difference_is, difference_same}
 use Rattle.poly_terms.specs.Indexed.{IndexedSum, IsIndexed}
 use Rattle.poly_terms.specs.Tables.{Table, Sum, Extends, IsOf, assigned, modulus_in, monomials_in, quotient_value, value_in}
 use Rattle.poly_terms.specs.Laws.{modulus_stays, value_stays}
@@ -57,11 +58,11 @@ part_same : (m : ℕ) (t : Table) (x : Gate) (f g : Assignment → ℕ) (p : Gat
 part_same m t x f g p is h = subst (λ (k : Assignment → ℕ). IsGatePart m t x k p) (fun_ext is) h
 
 -- the terms with the variable, taken out and put back with the product in its place
-pub eliminated_of : (t0 t1 : Table) (x : Gate) (p taken more : Sum) (left next : IndexedSum) (part : GatePart) (c : ℕ) → Extends t0 t1 → IsOf t0 left.sum → IsOf t1 next.sum → IsIndexed t1 next →
+pub eliminated_of : (t0 t1 : Table) (x : Gate) (p taken : Sum) (left next : IndexedSum) (part : GatePart) (c : ℕ) → Extends t0 t1 → IsOf t0 left.sum → IsOf t1 next.sum → IsIndexed t1 next →
     ((σ : Assignment) → value_in t0 left.sum σ ≡ value_in t0 p (assigned σ x.v false)) → ((σ : Assignment) → quotient_value t0 taken x.v σ ≡ quotient_value t0 p x.v σ) →
-    IsGatePart (modulus_in t0) t1 x (quotient_value t0 taken x.v) part → (c + 2 ^ part.power) % modulus_in t1 ≡ 0 → ((σ : Assignment) → value_in t1 more σ ≡ (c * value_in t1 part.operands σ) % modulus_in t1) →
-    ((σ : Assignment) → value_in t1 next.sum σ ≡ (value_in t1 left.sum σ + value_in t1 more σ) % modulus_in t1) → IsEliminated t0 t1 x p (record { rest = next; part = Some part })
-eliminated_of t0 t1 x p taken more left next part c grown of_left of_next indexed left_is same is_part opposite more_is next_is =
+    IsGatePart (modulus_in t0) t1 x (quotient_value t0 taken x.v) part → (c + 2 ^ part.power) % modulus_in t1 ≡ 0 →
+    ((σ : Assignment) → value_in t1 next.sum σ ≡ (value_in t1 left.sum σ + (c * value_in t1 part.operands σ) % modulus_in t1) % modulus_in t1) → IsEliminated t0 t1 x p next (Some part)
+eliminated_of t0 t1 x p taken left next part c grown of_left of_next indexed left_is same is_part opposite next_is =
     let m = modulus_in t0 in
     let m1 : modulus_in t1 ≡ m = modulus_stays t0 t1 grown in
     record {
@@ -76,14 +77,14 @@ eliminated_of t0 t1 x p taken more left next part c grown of_left of_next indexe
           let back : (c * o) % m ≡ (g * q) % m =
           turned_product m (2 ^ part.power) c f q g o (pow_pos t0.exponent) (ap (λ n. (c + 2 ^ part.power) % n) (sym m1) ∙ opposite) (is_part.minus σ ∙ ap (difference m 0) (same σ))
           (ap (λ n. n % m) (is_part.operands σ) ∙ mod-mod (g * f) m) in
-          next_is σ ∙ ap₂ (λ a k. a % k) (ap₂ ◌+◌ (value_stays t0 t1 left.sum σ grown of_left ∙ left_is σ) (more_is σ ∙ ap (λ k. (c * o) % k) m1)) m1 ∙
+          next_is σ ∙ ap₂ (λ a k. a % k) (ap₂ ◌+◌ (value_stays t0 t1 left.sum σ grown of_left ∙ left_is σ) (ap (λ k. (c * o) % k) m1)) m1 ∙
           sum_same m free free ((c * o) % m) (g * q) refl (mod-mod (c * o) m ∙ back);
-      part = part_same m t1 x (quotient_value t0 taken x.v) (quotient m x.v (value_in t0 p)) part same is_part;
+      left = part_same m t1 x (quotient_value t0 taken x.v) (quotient m x.v (value_in t0 p)) part same is_part;
     }
 
 -- no term has the variable
 pub eliminated_none : (t : Table) (x : Gate) (p taken : Sum) (left : IndexedSum) → IsOf t left.sum → IsIndexed t left → ((σ : Assignment) → value_in t left.sum σ ≡ value_in t p (assigned σ x.v false)) →
-    ((σ : Assignment) → quotient_value t taken x.v σ ≡ quotient_value t p x.v σ) → ((σ : Assignment) → value_in t taken σ ≡ 0) → IsEliminated t t x p (record { rest = left; part = None })
+    ((σ : Assignment) → quotient_value t taken x.v σ ≡ quotient_value t p x.v σ) → ((σ : Assignment) → value_in t taken σ ≡ 0) → IsEliminated t t x p left None
 eliminated_none t x p taken left of indexed left_is same none =
     let m = modulus_in t in
     let zero : (σ : Assignment) → quotient_value t p x.v σ ≡ 0 = λ σ.
@@ -96,5 +97,5 @@ eliminated_none t x p taken left of indexed left_is same none =
           sym
           (ap (λ b. (value_in t p (assigned σ x.v false) + gate_value x σ * b) % m) (zero σ) ∙ ap (λ z. z % m) (omega arith) ∙
           mod-mod (sum_of m (monomials_in t p) (assigned σ x.v false)) m);
-      part = zero;
+      left = zero;
     }

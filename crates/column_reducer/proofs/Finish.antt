@@ -10,8 +10,9 @@ use Rattle.std.proofs.lemmas.Map.Steps.{length-le_from_distinct_below}
 use Rattle.std.proofs.lemmas.Map.Made.{IsDistinct-from_AllPairs}
 use Rattle.graph_core.specs.declared.gate.Gate.{Gate}
 use Rattle.graph_core.specs.Graph.Extended.{Extended}
-use Rattle.graph_core.specs.Algebra.{axioms}
-use Rattle.graph_core.specs.Algebra as algebra
+use Rattle.algebra_core.specs.AlgebraLines.{axioms}
+use Rattle.graph_core.specs.Graph.Extended as graphs
+use Rattle.algebra_core.specs.AlgebraLines as algebra
 use Rattle.ripple_graft.specs.Extension.{IsExtension}
 use Rattle.poly_terms.specs.Tables.{Extends}
 use Rattle.poly_terms.specs.Laws.{extends_itself, extends_on}
@@ -48,7 +49,7 @@ gates_few e made =
     (all_from_map (λ w. w < e.max + 1) (λ x. x.v) e.gates (recursion_from_All (λ x. x.v < e.max + 1) e.gates (λ k d low. let h = made.gates_in_range k d low in omega (arith, h)))) t)
 
 pub last_axiom : (l : Made) → AreLawfulSoFar l → l.lines ≡ [] → l.last ≡ l.extended.max + length l.extended.graph.outputs
-last_axiom l lawful fresh = sym lawful.greatest ∙ ap (λ xs. (algebra.after_all (algebra.modulus l.extended) (axioms l.extended) xs).last) fresh
+last_axiom l lawful fresh = sym lawful.greatest ∙ ap (λ xs. (algebra.after_all (graphs.modulus l.extended) (axioms l.extended) xs).last) fresh
 
 as_many : (gates : List Gate) → length (map (λ g. g.v) gates) ≡ length gates
 as_many [] = refl

@@ -2,11 +2,10 @@
 use Rattle.std.specs.Prelude.{◌≡◌, ◌≢◌, ◌==◌, ℕ, suc, ◌+◌, ◌*◌, ◌%◌, ◌<◌, ◌≤◌, Bool, true, false, List, [], ◌∷◌, ◌++◌, map, slice_get, slice_index_or}
 use Rattle.std.specs.declared.option.Option.TheVariants.{Some}
 use Rattle.std.specs.List.{All, AllByRecursion, Contains, flat_map}
-use Rattle.std.proofs.Common.{refl, sym, ap, ap₂, subst, ◌∙◌, arith}
+use Rattle.std.proofs.Common.{refl, sym, ap, ap₂, subst, ◌∙◌, arith, ⊎_elim, eq-eqb, cond}
 use Rattle.std.proofs.Math.Path.{fun_ext}
 use Rattle.std.proofs.lemmas.Bool.{cases_eq}
 use Rattle.std.proofs.lemmas.Option.{get_or_from_slice_get, slice_get_within}
-use Rattle.std.proofs.Common.{⊎_elim, eq-eqb, cond}
 use Rattle.std.proofs.lemmas.List.Elements.{All-contains, All-from_recursion, recursion_from_All}
 use Rattle.graph_core.specs.declared.literal.Lit.{Lit}
 use Rattle.graph_core.specs.declared.gate.Gate.{Gate}
@@ -14,9 +13,9 @@ use Rattle.graph_core.specs.Graph.Literals.{variable_of}
 use Rattle.graph_core.specs.Graph.Assignments.{Assignment, literal, bit, variable}
 use Rattle.graph_core.specs.Graph.{Aig, IsWellFormed, read_literals}
 use Rattle.graph_core.specs.Graph.Operands.{Sides, ReadInputs, operand_literals}
-use Rattle.graph_core.specs.Graph.Extended.{Extended}
-use Rattle.graph_core.specs.Algebra.{gate_axiom, modulus}
-use Rattle.graph_core.specs.Algebra.Polynomials.{Polynomial, difference, product, sum_of}
+use Rattle.graph_core.specs.Graph.Extended.{Extended, modulus}
+use Rattle.algebra_core.specs.AlgebraLines.{gate_axiom}
+use Rattle.algebra_core.specs.Polynomials.{Polynomial, difference, product, sum_of}
 use Rattle.graph_core.proofs.OfGraphs.CallerLemmas.{all_split, literal_same, variable_same}
 use Rattle.ripple_graft.specs.Extension.{IsExtension, IsReadable, new_outputs, whole}
 use Rattle.ripple_graft.proofs.BlockLists.{whole_is_well_formed}

@@ -5,17 +5,13 @@ use Rattle.std.proofs.lemmas.List.{take_more}
 use Rattle.std.proofs.lemmas.List.Elements.{recursion_from_All}
 use Rattle.std.proofs.lemmas.Option.{slice_get-get_or}
 use Rattle.graph_core.specs.Graph.{IsFree}
-use Rattle.graph_core.specs.Graph.Operands.{Sides}
 use Rattle.graph_core.specs.Graph.Extended.{Extended}
 use Rattle.ripple_graft.specs.Extension.{IsExtension}
-use Rattle.poly_terms.specs.Tables.{Table}
 use Rattle.frontier_core.specs.declared.step.Step.{Step}
 use Rattle.frontier_core.specs.declared.step.Step.TheVariants.{Eliminate}
 use Rattle.frontier_core.specs.Plan.{Taken, AreSteps, CanEliminate, CanFollow, IsFrontierOf, nothing, step, taken}
 use Rattle.frontier_core.proofs.Everywhere.{all_from_map, all_has, has_none}
 use Rattle.frontier_core.proofs.Plans.{plan_leaves_frontiers, taken_append}
-use Rattle.column_reducer.specs.declared.walk.Walk.{Walk}
-use Rattle.column_reducer.specs.Gathering.{IsWalked}
 
 -- a step that can follow, by what it is
 pub can_eliminate : (e : Extended) (f : Taken) (this : Step) (v : ℕ) → this ≡ Eliminate v → CanFollow e f this → CanEliminate e f v
@@ -27,8 +23,8 @@ gate_within e f v made h = all_has (λ w. w ≤ e.max) (map (λ x. x.v) e.gates)
 pub gate_not_free : (e : Extended) (f : Taken) (v : ℕ) → CanEliminate e f v → IsFree e.gates v → ⊥
 gate_not_free e f v h free = true≢false (sym h.gate ∙ has_none e.gates v (recursion_from_All (λ x. x.v ≢ v) e.gates free))
 
-pub eliminated_is : (e : Extended) (s : Sides) (t : Table) (f : Taken) (this : Step) (v u : ℕ) (w : Walk) → this ≡ Eliminate v → u ≡ v → IsWalked e s t (step f (Eliminate u)) w → IsWalked e s t (step f this) w
-eliminated_is e s t f this v u w is same h = subst (λ x. IsWalked e s t (step f x) w) (ap (λ k. Eliminate k) same ∙ sym is) h
+pub eliminated_is : (f : Taken) (this : Step) (v u : ℕ) (P : Taken → Type 0) → this ≡ Eliminate v → u ≡ v → P (step f (Eliminate u)) → P (step f this)
+eliminated_is f this v u P is same h = subst (λ x. P (step f x)) (ap (λ k. Eliminate k) same ∙ sym is) h
 
 -- ---- from step to step
 
@@ -43,16 +39,14 @@ pub follows_in : (e other : Extended) (f : Taken) (plan steps : List Step) (i : 
 follows_in e other f plan steps i d same all h =
     subst (λ x. CanFollow x f (get_or steps i d)) (sym same) (subst (λ ss. CanFollow e f (get_or ss i d)) (sym all) h)
 
--- a step and what follows it
-pub step_walked : (e other : Extended) (s : Sides) (t0 t1 t2 : Table) (plan steps : List Step) (i : ℕ) (d : Step) (w0 w1 w2 : Walk) → other ≡ e → steps ≡ plan → AreSteps e nothing plan → i < length plan →
-    ((f : Taken) → IsFrontierOf other f → CanFollow other f (get_or steps i d) → IsWalked other s t0 f w0 → IsWalked other s t1 (step f (get_or steps i d)) w1) →
-    ((x : Extended) (k : Sides) (f : Taken) → IsWalked x k t1 f w1 → IsWalked x k t2 f w2) →
-    IsWalked e s t0 (taken nothing (take i plan)) w0 → IsWalked e s t2 (taken nothing (take (i + 1) plan)) w2
-step_walked e other s t0 t1 t2 plan steps i d w0 w1 w2 same all follow low steps_on settles h =
+-- from before a step to after it
+pub step_on : (e other : Extended) (plan steps : List Step) (i : ℕ) (d : Step) (P Q : Extended → Taken → Type 0) → other ≡ e → steps ≡ plan → AreSteps e nothing plan → i < length plan →
+    ((f : Taken) → IsFrontierOf other f → CanFollow other f (get_or steps i d) → P other f → Q other (step f (get_or steps i d))) →
+    P e (taken nothing (take i plan)) → Q e (taken nothing (take (i + 1) plan))
+step_on e other plan steps i d P Q same all follow low steps_on h =
     let f = taken nothing (take i plan) in
-    let here : (g : Taken) → IsFrontierOf e g → CanFollow e g (get_or steps i d) → IsWalked e s t0 g w0 → IsWalked e s t1 (step g (get_or steps i d)) w1 =
-    subst (λ x. (g : Taken) → IsFrontierOf x g → CanFollow x g (get_or steps i d) → IsWalked x s t0 g w0 → IsWalked x s t1 (step g (get_or steps i d)) w1) same steps_on in
-    let there : (g : Taken) → IsFrontierOf e g → CanFollow e g (get_or plan i d) → IsWalked e s t0 g w0 → IsWalked e s t1 (step g (get_or plan i d)) w1 =
-    subst (λ ss. (g : Taken) → IsFrontierOf e g → CanFollow e g (get_or ss i d) → IsWalked e s t0 g w0 → IsWalked e s t1 (step g (get_or ss i d)) w1) all here in
-    settles e s (taken nothing (take (i + 1) plan))
-    (subst (λ g. IsWalked e s t1 g w1) (sym (taken_more plan i d low)) (there f (plan_leaves_frontiers e plan i follow).0 (follows_at e plan i d follow low) h))
+    let here : (g : Taken) → IsFrontierOf e g → CanFollow e g (get_or steps i d) → P e g → Q e (step g (get_or steps i d)) =
+    subst (λ x. (g : Taken) → IsFrontierOf x g → CanFollow x g (get_or steps i d) → P x g → Q x (step g (get_or steps i d))) same steps_on in
+    let there : (g : Taken) → IsFrontierOf e g → CanFollow e g (get_or plan i d) → P e g → Q e (step g (get_or plan i d)) =
+    subst (λ ss. (g : Taken) → IsFrontierOf e g → CanFollow e g (get_or ss i d) → P e g → Q e (step g (get_or ss i d))) all here in
+    subst (Q e) (sym (taken_more plan i d low)) (there f (plan_leaves_frontiers e plan i follow).0 (follows_at e plan i d follow low) h)

@@ -6,10 +6,10 @@ use Rattle.std.proofs.Math.Nat.{mod-mod, zero-mod}
 use Rattle.std.proofs.lemmas.Nat.{pow_pos}
 use Rattle.graph_core.specs.declared.gate.Gate.{Gate}
 use Rattle.graph_core.specs.Graph.Assignments.{Assignment, bit, variable}
-use Rattle.graph_core.specs.Algebra.{gate_axiom}
-use Rattle.graph_core.specs.Algebra.Polynomials.{difference, product, sum_of}
-use Rattle.graph_core.proofs.OfAlgebra.CallerLemmas.{normal_forms_differ}
-use Rattle.graph_core.proofs.OfGraphs.CallerLemmas.{difference_is, difference_plus, product_same, sum_same}
+use Rattle.algebra_core.specs.AlgebraLines.{gate_axiom}
+use Rattle.algebra_core.specs.Polynomials.{difference, product, sum_of}
+use Rattle.algebra_core.proofs.CallerLemmas.{normal_forms_differ, difference_is, difference_plus}
+use Rattle.graph_core.proofs.OfGraphs.CallerLemmas.{product_same, sum_same}
 use Rattle.frontier_core.specs.Substitution.{gate_value}
 use Rattle.frontier_core.proofs.Substituting.{quotient_splits}
 use Rattle.poly_terms.specs.Entries.{total}

@@ -7,8 +7,8 @@ use Rattle.std.proofs.lemmas.List.Elements.{recursion_from_All}
 use Rattle.graph_core.specs.Graph.Assignments.{Assignment}
 use Rattle.graph_core.specs.Graph.Operands.{Sides}
 use Rattle.graph_core.specs.Graph.Extended.{Extended}
-use Rattle.graph_core.specs.Algebra.{axioms, combined}
-use Rattle.graph_core.specs.Algebra as algebra
+use Rattle.algebra_core.specs.AlgebraLines.{axioms, combined}
+use Rattle.graph_core.specs.Graph.Extended as graphs
 use Rattle.poly_terms.specs.Tables.{Table, Sum, Extends, IsOf, monomials_in, value_in}
 use Rattle.poly_terms.specs.Monomials.{AreIn, Grows}
 use Rattle.poly_terms.specs.Laws.{monomials_stay, stands_in_grown, stays, value_stays}
@@ -50,9 +50,9 @@ batch_grown e t0 t1 g grown h =
       parts = parts_grown e t0 t1 g.parts.items grown h.parts;
       of = over_grown e.max t0 t1 g.poly grown h.of;
       of_weight = over_grown e.max t0 t1 g.weight grown h.of_weight;
-      spare = subst (AreSpare (algebra.modulus e) (axioms e).live) (sym told) h.spare;
-      states = λ σ. value_stays t0 t1 g.poly σ grown h.of.0 ∙ h.states σ ∙ ap (λ ps. combined (algebra.modulus e) (axioms e).live ps σ % algebra.modulus e) (sym told);
-      nonzero = subst (IsNotZero (algebra.modulus e)) (sym (monomials_stay t0 t1 g.weight grown h.of_weight.0)) h.nonzero;
+      spare = subst (AreSpare (graphs.modulus e) (axioms e).live) (sym told) h.spare;
+      states = λ σ. value_stays t0 t1 g.poly σ grown h.of.0 ∙ h.states σ ∙ ap (λ ps. combined (graphs.modulus e) (axioms e).live ps σ % graphs.modulus e) (sym told);
+      nonzero = subst (IsNotZero (graphs.modulus e)) (sym (monomials_stay t0 t1 g.weight grown h.of_weight.0)) h.nonzero;
     }
 
 sum_grown : (e : Extended) (t0 t1 : Table) (gs : List Batch) (σ : Assignment) → Extends t0 t1 → AllByRecursion (IsBatch e t0) gs → batches_sum t1 gs σ ≡ batches_sum t0 gs σ
@@ -65,7 +65,7 @@ columns_stay e t0 t1 columns grown h = part_stays e.max t0 t1 columns grown (rec
 columns_grown : (e : Extended) (t0 t1 : Table) (columns : List (ℕ × Sum)) → Extends t0 t1 → AreColumns e t0 columns → AreColumns e t1 columns
 columns_grown e t0 t1 columns grown h = record {
   over = λ k d low. over_grown e.max t0 t1 (slice_index_or columns k d).1 grown (h.over k d low);
-  nonzero = λ k d low. subst (IsNotZero (algebra.modulus e)) (sym (monomials_stay t0 t1 (slice_index_or columns k d).1 grown (h.over k d low).0)) (h.nonzero k d low);
+  nonzero = λ k d low. subst (IsNotZero (graphs.modulus e)) (sym (monomials_stay t0 t1 (slice_index_or columns k d).1 grown (h.over k d low).0)) (h.nonzero k d low);
   live = h.live;
   once = h.once;
   ids = h.ids;
@@ -78,7 +78,7 @@ batches_grown e t0 t1 gs columns total grown h = record {
   of = stays t0 t1 total grown h.of;
   fixed = subst (IsFixedAbove e.max) (sym (function_stays t0 t1 total grown h.of)) h.fixed;
   sum = λ σ.
-      ap₂ (λ a ps. (a + combined (algebra.modulus e) (axioms e).live ps σ) % algebra.modulus e) (sum_grown e t0 t1 gs σ grown (recursion_from_All (IsBatch e t0) gs h.batches))
+      ap₂ (λ a ps. (a + combined (graphs.modulus e) (axioms e).live ps σ) % graphs.modulus e) (sum_grown e t0 t1 gs σ grown (recursion_from_All (IsBatch e t0) gs h.batches))
       (columns_stay e t0 t1 columns grown h.of_columns) ∙ h.sum σ ∙ sym (value_stays t0 t1 total σ grown h.of);
 }
 
@@ -109,7 +109,7 @@ exponent_stays t0 t1 grown = grown.0
 
 pub gathered_grown : (e : Extended) (s : Sides) (t0 t1 : Table) (f : Taken) (rest : Assignment → ℕ) (g : Gathered) → Extends t0 t1 → IsGathered e s t0 f rest g → IsGathered e s t1 f rest g
 gathered_grown e s t0 t1 f rest g grown h =
-    let m = algebra.modulus e in
+    let m = graphs.modulus e in
     let live = (axioms e).live in
     let told = parts_stay e t0 t1 g.parts.items grown h.parts in
     record {

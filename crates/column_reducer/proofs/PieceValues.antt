@@ -5,7 +5,7 @@ use Rattle.std.proofs.Math.Nat.{mod-eq_of_lt, zero-mod}
 use Rattle.std.proofs.Math.Pow.{pow-lt}
 use Rattle.std.proofs.lemmas.Nat.{one_shl, pow_pos}
 use Rattle.graph_core.specs.Graph.Assignments.{Assignment, bit}
-use Rattle.graph_core.specs.Algebra.Polynomials.{difference}
+use Rattle.algebra_core.specs.Polynomials.{difference}
 use Rattle.gate_axioms.proofs.Opposites.{opposite_difference, one_reduced}
 use Rattle.poly_terms.specs.Tables.{Table, Sum, modulus_in, value_in}
 

@@ -3,10 +3,9 @@ use Rattle.std.specs.Prelude.{◌≡◌, ◌≢◌, ℕ, ◌+◌, ◌%◌, ◌<�
 use Rattle.std.proofs.Common.{sym, ap, ◌∙◌, arith}
 use Rattle.std.proofs.Math.Nat.{zero-mod}
 use Rattle.graph_core.specs.Graph.Assignments.{Assignment}
-use Rattle.graph_core.specs.Algebra.Polynomials.{Polynomial, difference, value}
-use Rattle.graph_core.specs.Algebra.NormalForm.{HasSize}
-use Rattle.graph_core.proofs.OfAlgebra.CallerLemmas.{normal_forms_differ}
-use Rattle.graph_core.proofs.OfGraphs.CallerLemmas.{difference_plus}
+use Rattle.algebra_core.specs.Polynomials.{Polynomial, difference, value}
+use Rattle.algebra_core.specs.NormalForm.{HasSize}
+use Rattle.algebra_core.proofs.CallerLemmas.{normal_forms_differ, difference_plus}
 
 -- a function of size 0 is 0
 pub size_none : (m : ℕ) (f : Assignment → ℕ) (n : ℕ) → HasSize m f n → n ≡ 0 → (σ : Assignment) → f σ ≡ 0

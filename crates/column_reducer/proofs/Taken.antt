@@ -14,10 +14,10 @@ use Rattle.graph_core.specs.declared.literal.Lit.{Lit}
 use Rattle.graph_core.specs.Graph.Assignments.{Assignment}
 use Rattle.graph_core.specs.Graph.Operands.{Sides}
 use Rattle.graph_core.specs.Graph.Extended.{Extended}
-use Rattle.graph_core.specs.Algebra.{LiveLine, Part, IsLive, axioms, combined, gate_axiom, value_of}
-use Rattle.graph_core.specs.Algebra as algebra
-use Rattle.graph_core.specs.Algebra.Polynomials.{difference, product, value}
-use Rattle.graph_core.proofs.OfAlgebra.CallerLemmas.{modulus_pos}
+use Rattle.algebra_core.specs.AlgebraLines.{LiveLine, Part, IsLive, axioms, combined, gate_axiom, value_of}
+use Rattle.graph_core.specs.Graph.Extended as graphs
+use Rattle.algebra_core.specs.Polynomials.{difference, product, value}
+use Rattle.algebra_core.proofs.CallerLemmas.{modulus_pos}
 use Rattle.graph_core.proofs.OfGraphs.CallerLemmas.{product_same, sum_same}
 use Rattle.frontier_core.specs.Frontier.{set_to}
 use Rattle.pac_writer.specs.Writing.{IsOver}
@@ -74,8 +74,8 @@ whole_sum t live k (p ∷ parts) σ =
     ap (λ n. n % m) (let e : w * (l * v) + w * c ≡ w * (l * v + c) = omega arith in e)
 
 -- the same where the modulus is the graph's
-pub whole_is : (e : Extended) (t : Table) (live : List LiveLine) (k : ℕ) (parts : List (ℕ × Sum)) (σ : Assignment) → modulus_in t ≡ algebra.modulus e →
-    combined (algebra.modulus e) live (scaled_parts t k parts) σ % algebra.modulus e ≡ (2 ^ k * combined (algebra.modulus e) live (parts_in t parts) σ) % algebra.modulus e
+pub whole_is : (e : Extended) (t : Table) (live : List LiveLine) (k : ℕ) (parts : List (ℕ × Sum)) (σ : Assignment) → modulus_in t ≡ graphs.modulus e →
+    combined (graphs.modulus e) live (scaled_parts t k parts) σ % graphs.modulus e ≡ (2 ^ k * combined (graphs.modulus e) live (parts_in t parts) σ) % graphs.modulus e
 whole_is e t live k parts σ same = subst (λ m. combined m live (scaled_parts t k parts) σ % m ≡ (2 ^ k * combined m live (parts_in t parts) σ) % m) same (whole_sum t live k parts σ)
 
 -- parts are spare where they are so 2^k times as great
@@ -128,14 +128,14 @@ no_batches e t total of none = record {
   of_columns = no_columns e t;
   of = of;
   fixed = λ v b σ above. none (set_to v b σ) ∙ sym (none σ);
-  sum = λ σ. zero-mod (algebra.modulus e) ∙ sym (none σ);
+  sum = λ σ. zero-mod (graphs.modulus e) ∙ sym (none σ);
 }
 
 -- no part is open, and the ended batches state the gap
 nothing_open : (e : Extended) (s : Sides) (t : Table) (f : Taken) (rest : Assignment → ℕ) (g : Gathered) → AreSumBatches e t g.batches.items g.columns.items g.total → AreOfAdded e f.added g.columns.items →
     ((σ : Assignment) → value_in t g.total σ ≡ gap e s f.added rest σ) → g.power < t.exponent → g.parts.items ≡ [] → g.stated ≡ [] → IsGathered e s t f rest g
 nothing_open e s t f rest g batches added is low parts stated =
-    let m = algebra.modulus e in
+    let m = graphs.modulus e in
     let live = (axioms e).live in
     record {
       batches = batches;
@@ -188,18 +188,18 @@ within e f x h = All-contains (λ y. y.v ≤ e.max) e.gates x h.made.gates_in_ra
 
 -- no term has the gate's variable
 pub none_taken : (e : Extended) (s : Sides) (t : Table) (f : Taken) (rest next : Assignment → ℕ) (g : Gathered) (x : Gate) → IsNext e f x →
-    ((σ : Assignment) → next σ ≡ substituted (algebra.modulus e) x.v (gate_value x) rest σ) → ((σ : Assignment) → quotient (algebra.modulus e) x.v rest σ ≡ 0) →
+    ((σ : Assignment) → next σ ≡ substituted (graphs.modulus e) x.v (gate_value x) rest σ) → ((σ : Assignment) → quotient (graphs.modulus e) x.v rest σ ≡ 0) →
     IsGathered e s t f rest g → IsGathered e s t (step f (Eliminate x.v)) next g
 none_taken e s t f rest next g x is next_is none h =
     let law = pending_eliminates e s (axioms e).live (value_in t g.total) rest next f (scaled_parts t g.power g.parts.items) x h.pending (above_zero e f x is) (within e f x is) is.new next_is in
     record { batches = h.batches; added = h.added; parts = h.parts; fixed = h.fixed; low = h.low; pending = law.0 none; of = h.of; sum = h.sum }
 
 -- a part that is divided by the open batch's power
-pub part_taken : (e : Extended) (s : Sides) (t0 t : Table) (f : Taken) (rest next : Assignment → ℕ) (g more : Gathered) (x : Gate) (p : GatePart) → IsNext e f x → modulus_in t0 ≡ algebra.modulus e → Extends t0 t →
-    IsFixedAbove e.max rest → ((σ : Assignment) → next σ ≡ substituted (algebra.modulus e) x.v (gate_value x) rest σ) → IsGatePart (algebra.modulus e) t0 x (quotient (algebra.modulus e) x.v rest) p → g.power ≡ p.power →
+pub part_taken : (e : Extended) (s : Sides) (t0 t : Table) (f : Taken) (rest next : Assignment → ℕ) (g more : Gathered) (x : Gate) (p : GatePart) → IsNext e f x → modulus_in t0 ≡ graphs.modulus e → Extends t0 t →
+    IsFixedAbove e.max rest → ((σ : Assignment) → next σ ≡ substituted (graphs.modulus e) x.v (gate_value x) rest σ) → IsGatePart (graphs.modulus e) t0 x (quotient (graphs.modulus e) x.v rest) p → g.power ≡ p.power →
     HasPart t x p g more → IsGathered e s t f rest g → IsGathered e s t (step f (Eliminate x.v)) next more
 part_taken e s t0 t f rest next g more x p is same grown fixed next_is is_part power has h =
-    let m = algebra.modulus e in
+    let m = graphs.modulus e in
     let live = (axioms e).live in
     let k = g.power in
     let factor = p.factor in
@@ -251,14 +251,14 @@ pub sum_more : (t : Table) (gs : List Batch) (g : Batch) (σ : Assignment) → b
 sum_more t [] g σ = omega arith
 sum_more t (h ∷ gs) g σ = omega (arith, sum_more t gs g σ)
 
-pub ended : (e : Extended) (s : Sides) (t : Table) (f : Taken) (rest : Assignment → ℕ) (g more : Gathered) (poly weight : Sum) → modulus_in t ≡ algebra.modulus e →
+pub ended : (e : Extended) (s : Sides) (t : Table) (f : Taken) (rest : Assignment → ℕ) (g more : Gathered) (poly weight : Sum) → modulus_in t ≡ graphs.modulus e →
     IsFixedAbove e.max (gap e s f.added rest) → 0 < length g.parts.items → IsOf t poly → IsOf t weight → IsOf t more.total → ((σ : Assignment) → value_in t weight σ ≡ 2 ^ g.power) →
     ((σ : Assignment) → value_in t poly σ ≡ value_in t g.stated σ) →
     ((σ : Assignment) → value_in t more.total σ ≡ (value_in t g.total σ + value_in t poly σ * value_in t weight σ) % modulus_in t) →
     more.batches.items ≡ g.batches.items ++ record { parts = g.parts; poly = poly; weight = weight } ∷ [] → more.columns ≡ g.columns → more.parts.items ≡ [] → more.stated ≡ [] →
     more.power ≡ g.power → IsGathered e s t f rest g → IsGathered e s t f rest more
 ended e s t f rest g more poly weight same fixed some of_poly of_weight of_total weight_is poly_is total_is batches columns parts stated power h =
-    let m = algebra.modulus e in
+    let m = graphs.modulus e in
     let live = (axioms e).live in
     let w = 2 ^ g.power in
     let batch : Batch = record { parts = g.parts; poly = poly; weight = weight } in
@@ -305,13 +305,13 @@ repowered e s t f rest g more k batches columns total parts stated power low non
       batches = batches_moved e t g more batches columns total h.batches;
       added = subst (λ cs. AreOfAdded e f.added cs.items) (sym columns) h.added;
       parts = subst (AreGateParts e t) (sym (ap (λ v. v.items) parts)) h.parts;
-      fixed = subst (λ ps. IsFixedAbove e.max (combined (algebra.modulus e) live (parts_in t ps))) (sym (ap (λ v. v.items) parts)) h.fixed;
+      fixed = subst (λ ps. IsFixedAbove e.max (combined (graphs.modulus e) live (parts_in t ps))) (sym (ap (λ v. v.items) parts)) h.fixed;
       low = omega arith;
       pending = subst (λ ps. IsPending e s live (value_in t more.total) f rest (scaled_parts t more.power ps)) (sym is)
           (subst (λ u. IsPending e s live (value_in t u) f rest []) (sym total) (subst (λ ps. IsPending e s live (value_in t g.total) f rest (scaled_parts t g.power ps)) none h.pending));
       of = subst (IsOf t) (sym stated) h.of;
       sum = λ σ. ap (λ p. value_in t p σ) stated ∙ h.sum σ ∙
-          sym (ap (λ v. combined (algebra.modulus e) live (parts_in t v.items) σ % algebra.modulus e) parts);
+          sym (ap (λ v. combined (graphs.modulus e) live (parts_in t v.items) σ % graphs.modulus e) parts);
     }
 
 -- no column is known at first
@@ -320,7 +320,7 @@ none_added m s k [] σ = refl
 none_added m s k (o ∷ os) σ = omega (arith, none_added m s (suc k) os σ)
 
 pub none_known : (e : Extended) (s : Sides) (σ : Assignment) → partial_specification e s [] σ ≡ 0
-none_known e s σ = ap (λ z. z % algebra.modulus e) (none_added (algebra.modulus e) s 0 e.graph.outputs σ) ∙ zero-mod (algebra.modulus e)
+none_known e s σ = ap (λ z. z % graphs.modulus e) (none_added (graphs.modulus e) s 0 e.graph.outputs σ) ∙ zero-mod (graphs.modulus e)
 
 -- ---- what calls answer
 
@@ -401,24 +401,9 @@ settled_ended t0 t g r h = h.settles
 
 -- ---- what calls ask for
 
-pub gathered_somewhere : (e : Extended) (s : Sides) (t0 t : Table) (f : Taken) (rest : Assignment → ℕ) (o : Option Gathered) → Extends t0 t → IfSome o (IsGathered e s t0 f rest) →
-    IfSome o (λ g. (e : Extended) × (s : Sides) × (f : Taken) × (rest : Assignment → ℕ) × IsGathered e s t f rest g)
-gathered_somewhere e s t0 t f rest None grown h = tt
-gathered_somewhere e s t0 t f rest (Some g) grown h = (e, s, f, rest, gathered_grown e s t0 t f rest g grown h)
-
 pub left_of : (m : ℕ) (t : Table) (x : Gate) (by : Assignment → ℕ) (q : Option GatePart) → IsLeft m t x by q → IfSome q (IsGatePartOf t)
 left_of m t x by None h = tt
 left_of m t x by (Some q) h = h.of
-
-pub low_in : (most : ℕ) (o : Option Gathered) (q : Option GatePart) → IfSome o (λ g. most ≡ g.power) → IfSome q (λ p. p.power ≤ most) → IfSome o (λ g. IfSome q (λ p. p.power ≤ g.power))
-low_in most None q is low = tt
-low_in most (Some g) None is low = tt
-low_in most (Some g) (Some p) is low = omega (arith, is, low)
-
-pub most_below : (e : Extended) (s : Sides) (t : Table) (f : Taken) (rest : Assignment → ℕ) (most : ℕ) (o : Option Gathered) → 0 < t.exponent → (o ≡ None → most ≡ 0) → IfSome o (λ g. most ≡ g.power) →
-    IfSome o (IsGathered e s t f rest) → most < t.exponent
-most_below e s t f rest most None some none is h = omega (arith, none refl, some)
-most_below e s t f rest most (Some g) some none is h = omega (arith, is, h.low)
 
 -- a part in a table that has grown
 pub part_grown : (t0 t : Table) (p : GatePart) → Extends t0 t → IsGatePartOf t0 p → IsGatePartOf t p

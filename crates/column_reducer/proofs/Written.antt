@@ -10,9 +10,10 @@ use Rattle.std.proofs.lemmas.List.Kept.{AllPairs-cons}
 use Rattle.graph_core.specs.Graph.Assignments.{Assignment}
 use Rattle.graph_core.specs.Graph.Operands.{Sides}
 use Rattle.graph_core.specs.Graph.Extended.{Extended}
-use Rattle.graph_core.specs.Algebra.{LiveLine, Part, IsCombined, IsLive, axioms, combined, line_of, value_of, value_or_zero, introduce}
-use Rattle.graph_core.specs.Algebra as algebra
-use Rattle.graph_core.specs.Algebra.Polynomials.{value}
+use Rattle.algebra_core.specs.AlgebraLines.{LiveLine, Part, IsCombined, IsLive, axioms, combined, line_of, value_of, value_or_zero, introduce}
+use Rattle.graph_core.specs.Graph.Extended as graphs
+use Rattle.algebra_core.specs.AlgebraLines as algebra
+use Rattle.algebra_core.specs.Polynomials.{value}
 use Rattle.ripple_graft.specs.Extension.{IsExtension}
 use Rattle.poly_terms.specs.Tables.{Table, Sum, monomials_in, value_in}
 use Rattle.pac_writer.specs.Writing.{ArePartsOver, IsOver, Made, PutsLine, AreLawfulSoFar, combination_of, written_ledger}
@@ -65,19 +66,19 @@ batch_over e s t total gs g ones l h =
     (subst (λ u. ArePartsOver e.max u g.parts.items g.poly) (sym h.graph.table) (record { some = batch.some; factors = batch.parts.of; stated = batch.of }))
 
 pub batch_spare : (e : Extended) (s : Sides) (t : Table) (total : Sum) (gs : List Batch) (g : Batch) (ones : List (ℕ × Sum)) (l : Made) → AreBatchesWritten e s t total (gs ++ g ∷ []) ones l →
-    AreSpare (algebra.modulus l.extended) (written_ledger l).live (parts_in l.table g.parts.items)
+    AreSpare (graphs.modulus l.extended) (written_ledger l).live (parts_in l.table g.parts.items)
 batch_spare e s t total gs g ones l h =
     let batch = last_batch e s t total gs g ones l h in
-    subst (λ x. AreSpare (algebra.modulus x) (written_ledger l).live (parts_in l.table g.parts.items)) (sym h.graph.extended)
-    (subst (λ u. AreSpare (algebra.modulus e) (written_ledger l).live (parts_in u g.parts.items)) (sym h.graph.table)
-    (spare_moves (algebra.modulus e) (axioms e).live (written_ledger l).live (parts_in t g.parts.items) (part_lines e t (written_ledger l).live g.parts.items h.made h.axioms batch.parts) batch.spare))
+    subst (λ x. AreSpare (graphs.modulus x) (written_ledger l).live (parts_in l.table g.parts.items)) (sym h.graph.extended)
+    (subst (λ u. AreSpare (graphs.modulus e) (written_ledger l).live (parts_in u g.parts.items)) (sym h.graph.table)
+    (spare_moves (graphs.modulus e) (axioms e).live (written_ledger l).live (parts_in t g.parts.items) (part_lines e t (written_ledger l).live g.parts.items h.made h.axioms batch.parts) batch.spare))
 
 pub batch_equal : (e : Extended) (s : Sides) (t : Table) (total : Sum) (gs : List Batch) (g : Batch) (ones : List (ℕ × Sum)) (l : Made) → AreBatchesWritten e s t total (gs ++ g ∷ []) ones l →
-    IsCombined (algebra.modulus l.extended) (written_ledger l).live (parts_in l.table g.parts.items) (monomials_in l.table g.poly)
+    IsCombined (graphs.modulus l.extended) (written_ledger l).live (parts_in l.table g.parts.items) (monomials_in l.table g.poly)
 batch_equal e s t total gs g ones l h =
-    let m = algebra.modulus e in
+    let m = graphs.modulus e in
     let batch = last_batch e s t total gs g ones l h in
-    subst (λ x. IsCombined (algebra.modulus x) (written_ledger l).live (parts_in l.table g.parts.items) (monomials_in l.table g.poly)) (sym h.graph.extended)
+    subst (λ x. IsCombined (graphs.modulus x) (written_ledger l).live (parts_in l.table g.parts.items) (monomials_in l.table g.poly)) (sym h.graph.extended)
     (subst (λ u. IsCombined m (written_ledger l).live (parts_in u g.parts.items) (monomials_in u g.poly)) (sym h.graph.table)
     (λ σ. ap (λ k. value k (monomials_in t g.poly) σ) (sym h.same_modulus) ∙ batch.states σ ∙
     ap (λ z. z % m) (sym (combined_moves m (axioms e).live (written_ledger l).live (parts_in t g.parts.items) σ
@@ -94,12 +95,12 @@ graph_on e s t line id l new puts h = record {
 pub batch_written : (e : Extended) (s : Sides) (t : Table) (total : Sum) (gs : List Batch) (g : Batch) (ones more : List (ℕ × Sum)) (id : ℕ) (l new : Made) → id ≡ l.last + 1 →
     PutsLine (combination_of l.table id g.parts.items g.poly) id l new → more ≡ ones ++ (id, g.weight) ∷ [] → AreBatchesWritten e s t total (gs ++ g ∷ []) ones l → AreBatchesWritten e s t total gs more new
 batch_written e s t total gs g ones more id l new is puts pushed h =
-    let m = algebra.modulus e in
+    let m = graphs.modulus e in
     let old = (written_ledger l).live in
     let live = (written_ledger new).live in
     let batch = last_batch e s t total gs g ones l h in
     let p = monomials_in t g.poly in
-    let ledger : written_ledger new ≡ introduce m (written_ledger l) id p = puts.ledger ∙ ap₂ (λ x u. introduce (algebra.modulus x) (written_ledger l) id (monomials_in u g.poly)) h.graph.extended h.graph.table in
+    let ledger : written_ledger new ≡ introduce m (written_ledger l) id p = puts.ledger ∙ ap₂ (λ x u. introduce (graphs.modulus x) (written_ledger l) id (monomials_in u g.poly)) h.graph.extended h.graph.table in
     let law = new_line_is_live m (written_ledger l) id p in
     let others : (i : ℕ) → i ≢ id → line_of live i ≡ line_of old i = λ i ne. ap (λ k. line_of k.live i) ledger ∙ law.2 i ne in
     let here : (σ : Assignment) → value_of live id σ ≡ value m p σ = λ σ. ap (λ k. value_of k.live id σ) ledger ∙ law.1 σ in
@@ -150,9 +151,9 @@ no_items [] h = refl
 no_items (x ∷ xs) h = absurd (omega arith)
 
 pub sum_is_equal : (s : Sides) (total : Sum) (ones : List (ℕ × Sum)) (l : Made) → AreBatchesWritten l.extended s l.table total [] ones l →
-    AreSpare (algebra.modulus l.extended) (written_ledger l).live (parts_in l.table ones) × IsCombined (algebra.modulus l.extended) (written_ledger l).live (parts_in l.table ones) (monomials_in l.table total)
+    AreSpare (graphs.modulus l.extended) (written_ledger l).live (parts_in l.table ones) × IsCombined (graphs.modulus l.extended) (written_ledger l).live (parts_in l.table ones) (monomials_in l.table total)
 sum_is_equal s total ones l h =
-    let m = algebra.modulus l.extended in
+    let m = graphs.modulus l.extended in
     let t = l.table in (
       record {
         live = All-from_recursion (λ p. IsLive (written_ledger l).live p.id) (parts_in t ones)
@@ -175,10 +176,10 @@ no_line (x ∷ live) h =
 pub none_is_zero : (s : Sides) (total : Sum) (l : Made) (σ : Assignment) → AreLawfulSoFar l → AreBatchesWritten l.extended s l.table total [] [] l → value_of (written_ledger l).live 0 σ ≡ value_in l.table total σ
 none_is_zero s total l σ lawful h =
     ap (λ o. value_or_zero o σ) (no_line (written_ledger l).live (recursion_from_All (λ x. 0 < x.id) (written_ledger l).live (λ k d low. (lawful.ids k d low).0))) ∙
-    sym (zero-mod (algebra.modulus l.extended)) ∙ ap (λ z. z % algebra.modulus l.extended) (omega arith) ∙ h.sum σ
+    sym (zero-mod (graphs.modulus l.extended)) ∙ ap (λ z. z % graphs.modulus l.extended) (omega arith) ∙ h.sum σ
 
 pub sum_has : (s : Sides) (total : Sum) (ones : List (ℕ × Sum)) (id : ℕ) (l new : Made) (σ : Assignment) → PutsLine (combination_of l.table id ones total) id l new → AreBatchesWritten l.extended s l.table total [] ones l →
     value_of (written_ledger new).live id σ ≡ value_in l.table total σ
 sum_has s total ones id l new σ puts h =
-    ap (λ k. value_of k.live id σ) puts.ledger ∙ (new_line_is_live (algebra.modulus l.extended) (written_ledger l) id (monomials_in l.table total)).1 σ ∙
+    ap (λ k. value_of k.live id σ) puts.ledger ∙ (new_line_is_live (graphs.modulus l.extended) (written_ledger l) id (monomials_in l.table total)).1 σ ∙
     ap (λ m. value m (monomials_in l.table total) σ) (sym h.same_modulus)

@@ -1,5 +1,5 @@
 -- What the loop over a plan's steps keeps: the frontier's function, and what lines are to state.
-use Rattle.std.specs.Prelude.{Bool, ◌≡◌, ◌≢◌, ℕ, ◌+◌, ◌*◌, ◌%◌, ◌^◌, ◌<◌, ◌≤◌, true, false, List, [], ◌∷◌, map, ◌++◌, length, slice_get, IfSome, IsSome}
+use Rattle.std.specs.Prelude.{Bool, ◌≡◌, ◌≢◌, ℕ, ◌+◌, ◌*◌, ◌%◌, ◌^◌, ◌<◌, ◌≤◌, true, false, List, [], ◌∷◌, map, ◌++◌, length, slice_get}
 use Rattle.std.specs.declared.option.Option.{Option}
 use Rattle.std.specs.declared.option.Option.TheVariants.{None, Some}
 use Rattle.std.specs.List.{All, AllPairs, Contains}
@@ -8,11 +8,11 @@ use Rattle.graph_core.specs.declared.literal.Lit.{Lit}
 use Rattle.graph_core.specs.Graph.Assignments.{Assignment}
 use Rattle.graph_core.specs.Graph.Operands.{ReadInputs, Sides}
 use Rattle.graph_core.specs.Graph.Extended.{Extended}
-use Rattle.graph_core.specs.Algebra.{IsLive, Part, axioms, combined, gate_axiom, line_of, specification}
-use Rattle.graph_core.specs.Algebra as algebra
-use Rattle.graph_core.specs.Algebra.Polynomials.{Term, difference}
+use Rattle.algebra_core.specs.AlgebraLines.{IsLive, Part, axioms, combined, gate_axiom, line_of, specification}
+use Rattle.graph_core.specs.Graph.Extended as graphs
+use Rattle.algebra_core.specs.Polynomials.{Term, difference}
 use Rattle.ripple_graft.specs.Extension.{IsExtension, new_outputs}
-use Rattle.poly_terms.specs.Indexed.{IsIndexed}
+use Rattle.poly_terms.specs.Indexed.{IndexedSum, IsIndexed}
 use Rattle.poly_terms.specs.Tables.{Table, Sum, IsOf, modulus_in, monomials_in, value_in}
 use Rattle.frontier_core.specs.Columns.{column_value}
 use Rattle.frontier_core.specs.Frontier.{set_to}
@@ -23,7 +23,6 @@ use Rattle.frontier_core.specs.Pending.{AreSpare, IsNotZero, IsPending, gap}
 use Rattle.frontier_core.specs.RestLine.{partial_specification}
 use Rattle.pac_writer.specs.Writing.{IsOver, Made, written_ledger}
 use Rattle.frontier_core.specs.Substitution.{gate_value, quotient, substituted}
-use Rattle.column_reducer.specs.declared.elimination.Elimination.{Elimination}
 use Rattle.column_reducer.specs.declared.gate_part.GatePart.{GatePart}
 use Rattle.column_reducer.specs.declared.gathered.Gathered.{Gathered}
 use Rattle.column_reducer.specs.declared.gathered.Batch.{Batch}
@@ -66,11 +65,19 @@ IsLeft m t x by None = (σ : Assignment) → by σ ≡ 0
 IsLeft m t x by (Some p) = IsGatePart m t x by p
 
 -- A polynomial with the product of a gate's operands in place of its variable, with its index, and what is left of the terms that had it.
-pub record IsEliminated (t0 t1 : Table) (x : Gate) (p : Sum) (r : Elimination) : Type 0 where
-  pub of : IsOf t1 r.rest.sum
-  pub indexed : IsIndexed t1 r.rest
-  pub value : (σ : Assignment) → value_in t1 r.rest.sum σ ≡ substituted (modulus_in t0) x.v (gate_value x) (value_in t0 p) σ
-  pub part : IsLeft (modulus_in t0) t1 x (quotient (modulus_in t0) x.v (value_in t0 p)) r.part
+pub record IsEliminated (t0 t1 : Table) (x : Gate) (p : Sum) (rest : IndexedSum) (part : Option GatePart) : Type 0 where
+  pub of : IsOf t1 rest.sum
+  pub indexed : IsIndexed t1 rest
+  pub value : (σ : Assignment) → value_in t1 rest.sum σ ≡ substituted (modulus_in t0) x.v (gate_value x) (value_in t0 p) σ
+  pub left : IsLeft (modulus_in t0) t1 x (quotient (modulus_in t0) x.v (value_in t0 p)) part
+
+-- ---- one column
+
+-- A polynomial with a column added, with its index.
+pub record IsAdded (e : Extended) (s : Sides) (t0 t1 : Table) (k : ℕ) (p : Sum) (rest : IndexedSum) : Type 0 where
+  pub of : IsOf t1 rest.sum
+  pub indexed : IsIndexed t1 rest
+  pub value : (r : Lit) → slice_get (new_outputs e) k ≡ Some r → (σ : Assignment) → value_in t1 rest.sum σ ≡ (value_in t0 p σ + column_value e s k r σ) % graphs.modulus e
 
 -- ---- batches
 
@@ -93,9 +100,9 @@ pub record IsBatch (e : Extended) (t : Table) (g : Batch) : Type 0 where
   pub parts : AreGateParts e t g.parts.items
   pub of : IsOver e.max t g.poly
   pub of_weight : IsOver e.max t g.weight
-  pub spare : AreSpare (algebra.modulus e) (axioms e).live (parts_in t g.parts.items)
-  pub states : (σ : Assignment) → value_in t g.poly σ ≡ combined (algebra.modulus e) (axioms e).live (parts_in t g.parts.items) σ % algebra.modulus e
-  pub nonzero : IsNotZero (algebra.modulus e) (monomials_in t g.weight)
+  pub spare : AreSpare (graphs.modulus e) (axioms e).live (parts_in t g.parts.items)
+  pub states : (σ : Assignment) → value_in t g.poly σ ≡ combined (graphs.modulus e) (axioms e).live (parts_in t g.parts.items) σ % graphs.modulus e
+  pub nonzero : IsNotZero (graphs.modulus e) (monomials_in t g.weight)
 
 -- the sum of what batches state, each times its weight
 abbrev pub batches_sum : Table → List Batch → Assignment → ℕ
@@ -105,7 +112,7 @@ batches_sum t (g ∷ gs) σ = value_in t g.poly σ * value_in t g.weight σ + ba
 -- Parts over the axioms of replaced columns, none of them twice, that a line can be over.
 pub record AreColumns (e : Extended) (t : Table) (columns : List (ℕ × Sum)) : Type 0 where
   pub over : All (λ p. IsOver e.max t p.1) columns
-  pub nonzero : All (λ p. IsNotZero (algebra.modulus e) (monomials_in t p.1)) columns
+  pub nonzero : All (λ p. IsNotZero (graphs.modulus e) (monomials_in t p.1)) columns
   pub live : All (λ p. IsLive (axioms e).live p.0) columns
   pub once : AllPairs (λ p q. p.0 ≢ q.0) columns
   pub ids : All (λ p. (e.max < p.0) × (p.0 ≤ e.max + length e.graph.outputs)) columns
@@ -121,7 +128,7 @@ pub record AreSumBatches (e : Extended) (t : Table) (gs : List Batch) (columns :
   pub of : IsOf t total
   pub fixed : IsFixedAbove e.max (value_in t total)
   pub sum : (σ : Assignment) →
-      (batches_sum t gs σ + combined (algebra.modulus e) (axioms e).live (parts_in t columns) σ) % algebra.modulus e ≡ value_in t total σ
+      (batches_sum t gs σ + combined (graphs.modulus e) (axioms e).live (parts_in t columns) σ) % graphs.modulus e ≡ value_in t total σ
 
 -- The sum of the ended batches and the columns' parts, and 2^k times the open one's parts are the gap at the frontier with this function;
 -- the open batch states the sum of the parts' axioms times their factors.
@@ -129,11 +136,11 @@ pub record IsGathered (e : Extended) (s : Sides) (t : Table) (f : Taken) (rest :
   pub batches : AreSumBatches e t g.batches.items g.columns.items g.total
   pub added : AreOfAdded e f.added g.columns.items
   pub parts : AreGateParts e t g.parts.items
-  pub fixed : IsFixedAbove e.max (combined (algebra.modulus e) (axioms e).live (parts_in t g.parts.items))
+  pub fixed : IsFixedAbove e.max (combined (graphs.modulus e) (axioms e).live (parts_in t g.parts.items))
   pub low : g.power < t.exponent
   pub pending : IsPending e s (axioms e).live (value_in t g.total) f rest (scaled_parts t g.power g.parts.items)
   pub of : IsOf t g.stated
-  pub sum : (σ : Assignment) → value_in t g.stated σ ≡ combined (algebra.modulus e) (axioms e).live (parts_in t g.parts.items) σ % algebra.modulus e
+  pub sum : (σ : Assignment) → value_in t g.stated σ ≡ combined (graphs.modulus e) (axioms e).live (parts_in t g.parts.items) σ % graphs.modulus e
 
 -- 1 for a list that has something, else 0
 abbrev pub one_if_some : List (ℕ × Sum) → ℕ
@@ -146,7 +153,7 @@ batch_count g = length g.batches.items + one_if_some g.parts.items
 
 -- What was gathered is so still, and there are as many batches.
 pub record KeepsGathered (t0 t1 : Table) (old new : Gathered) : Type 0 where
-  pub gathered : (e : Extended) (s : Sides) (f : Taken) (rest : Assignment → ℕ) → modulus_in t0 ≡ algebra.modulus e →
+  pub gathered : (e : Extended) (s : Sides) (f : Taken) (rest : Assignment → ℕ) → modulus_in t0 ≡ graphs.modulus e →
       IsFixedAbove e.max (gap e s f.added rest) →
       IsGathered e s t0 f rest old → IsGathered e s t1 f rest new
   pub of : IsOf t0 old.stated → IsOf t1 new.stated
@@ -182,75 +189,60 @@ pub record IsNext (e : Extended) (f : Taken) (x : Gate) : Type 0 where
 
 -- The gate's part is taken, if its variable's quotient isn't 0.
 pub record HasTakenGate (t0 t1 : Table) (x : Gate) (q : Option GatePart) (old new : Gathered) : Type 0 where
-  pub gathered : (e : Extended) (s : Sides) (f : Taken) (rest next : Assignment → ℕ) → modulus_in t0 ≡ algebra.modulus e → IsNext e f x →
+  pub gathered : (e : Extended) (s : Sides) (f : Taken) (rest next : Assignment → ℕ) → modulus_in t0 ≡ graphs.modulus e → IsNext e f x →
       IsFixedAbove e.max rest → IsFixedAbove e.max (gap e s f.added rest) →
-      ((σ : Assignment) → next σ ≡ substituted (algebra.modulus e) x.v (gate_value x) rest σ) →
-      IsLeft (algebra.modulus e) t0 x (quotient (algebra.modulus e) x.v rest) q →
+      ((σ : Assignment) → next σ ≡ substituted (graphs.modulus e) x.v (gate_value x) rest σ) →
+      IsLeft (graphs.modulus e) t0 x (quotient (graphs.modulus e) x.v rest) q →
       IsGathered e s t0 f rest old → IsGathered e s t1 (step f (Eliminate x.v)) next new
   pub count : batch_count new ≤ batch_count old + 1
 
 -- The column's part is taken, where it is replaced.
 pub record HasColumn (t0 t1 : Table) (e : Extended) (k : ℕ) (old new : Gathered) : Type 0 where
-  pub gathered : (s : Sides) (f : Taken) (rest next : Assignment → ℕ) → modulus_in t0 ≡ algebra.modulus e →
+  pub gathered : (s : Sides) (f : Taken) (rest next : Assignment → ℕ) → modulus_in t0 ≡ graphs.modulus e →
       IsExtension e → k < length e.graph.outputs → has f.added k ≡ false →
-      ((r : Lit) → slice_get (new_outputs e) k ≡ Some r → (σ : Assignment) → next σ ≡ (rest σ + column_value e s k r σ) % algebra.modulus e) →
+      ((r : Lit) → slice_get (new_outputs e) k ≡ Some r → (σ : Assignment) → next σ ≡ (rest σ + column_value e s k r σ) % graphs.modulus e) →
       IsGathered e s t0 f rest old → IsGathered e s t1 (step f (Add k)) next new
   pub count : batch_count new ≡ batch_count old
 
 -- ---- the walk over the steps
 
--- What there is after some steps: the frontier's function, and what is gathered, if it is kept.
-pub record IsWalked (e : Extended) (s : Sides) (t : Table) (f : Taken) (w : Walk) : Type 0 where
-  pub same_modulus : modulus_in t ≡ algebra.modulus e
-  pub of : IsOf t w.rest.sum
-  pub indexed : IsIndexed t w.rest
-  pub value : (σ : Assignment) → value_in t w.rest.sum σ ≡ value_of_taken e s f σ
-  pub fixed : IsFixedAbove e.max (value_in t w.rest.sum)
+-- A polynomial has the function of the frontier that these steps leave, with its index.
+pub record IsRest (e : Extended) (s : Sides) (t : Table) (f : Taken) (rest : IndexedSum) : Type 0 where
+  pub same_modulus : modulus_in t ≡ graphs.modulus e
+  pub of : IsOf t rest.sum
+  pub indexed : IsIndexed t rest
+  pub value : (σ : Assignment) → value_in t rest.sum σ ≡ value_of_taken e s f σ
+  pub fixed : IsFixedAbove e.max (value_in t rest.sum)
   pub known : IsFixedAbove e.max (partial_specification e s f.added)
-  pub gathered : IfSome w.gathered (IsGathered e s t f (value_in t w.rest.sum))
-  pub few : IfSome w.gathered (λ g. batch_count g ≤ length f.eliminated)
 
--- the same, if what is gathered is kept
-abbrev pub HasTakenIn : Table → Table → Gate → Option GatePart → Option Gathered → Option Gathered → Type 0
-HasTakenIn t0 t1 x q None r = r ≡ None
-HasTakenIn t0 t1 x q (Some g) None = ⊥
-HasTakenIn t0 t1 x q (Some g) (Some more) = HasTakenGate t0 t1 x q g more
-
--- the same, if what is gathered is kept
-abbrev pub HasColumnIn : Table → Table → Extended → ℕ → Option Gathered → Option Gathered → Type 0
-HasColumnIn t0 t1 e k None r = r ≡ None
-HasColumnIn t0 t1 e k (Some g) None = ⊥
-HasColumnIn t0 t1 e k (Some g) (Some more) = HasColumn t0 t1 e k g more
+-- What there is after some steps: the frontier's function, and what is gathered.
+pub record IsWalked (e : Extended) (s : Sides) (t : Table) (f : Taken) (w : Walk) : Type 0 where
+  pub rest : IsRest e s t f w.rest
+  pub gathered : IsGathered e s t f (value_in t w.rest.sum) w.gathered
+  pub few : batch_count w.gathered ≤ length f.eliminated
 
 -- The batches' lines and the columns' parts state the specification minus the last frontier's function.
 pub record AreTotal (e : Extended) (s : Sides) (t : Table) (rest : Sum) (g : Gathered) : Type 0 where
   pub batches : AreSumBatches e t g.batches.items g.columns.items g.total
   pub few : length g.batches.items ≤ length e.gates + 1
-  pub total : (σ : Assignment) → value_in t g.total σ ≡ difference (algebra.modulus e) (specification e s σ) (value_in t rest σ)
+  pub total : (σ : Assignment) → value_in t g.total σ ≡ difference (graphs.modulus e) (specification e s σ) (value_in t rest σ)
 
 -- All steps were taken within the budget.
 pub record IsEndedWalk (p : Planned) (s : Sides) (t : Table) (budget : ℕ) (w : Ended) : Type 0 where
   pub of : IsOf t w.rest
   pub last : (σ : Assignment) → value_in t w.rest σ ≡ value_after p s (length p.steps) σ
   pub within : KeepsBudget p s budget
-  pub total : IfSome w.gathered (AreTotal p.extended s t w.rest)
+  pub total : AreTotal p.extended s t w.rest w.gathered
 
 -- what a walk answers
 abbrev pub IsWalkOutcome : Planned → Sides → Table → ℕ → Outcome → Type 0
 IsWalkOutcome p s t budget (outcome.Ended w) = IsEndedWalk p s t budget w
 IsWalkOutcome p s t budget (outcome.Passed step size) = IsPassed p s budget step size
-IsWalkOutcome p s t budget outcome.Stopped = Unit {0}
 
 -- What a walk asks for: the operands are inputs, and the table has the graph's modulus.
 pub record CanTake (p : Planned) (s : Sides) (t : Table) : Type 0 where
   pub inputs : ReadInputs p.extended.graph s
-  pub same_modulus : modulus_in t ≡ algebra.modulus p.extended
-
--- the walk ended, and what was gathered is kept if all steps were taken
-abbrev pub HasGathered : Outcome → Type 0
-HasGathered (outcome.Ended w) = IsSome w.gathered
-HasGathered (outcome.Passed step size) = Unit {0}
-HasGathered outcome.Stopped = ⊥
+  pub same_modulus : modulus_in t ≡ graphs.modulus p.extended
 
 -- No batch is open.
 pub record HasEnded (e : Extended) (s : Sides) (t : Table) (f : Taken) (rest : Sum) (g : Gathered) : Type 0 where
@@ -264,14 +256,14 @@ pub record HasEnded (e : Extended) (s : Sides) (t : Table) (f : Taken) (rest : S
 -- to the total.
 pub record AreBatchesWritten (e : Extended) (s : Sides) (t : Table) (total : Sum) (gs : List Batch) (weighted : List (ℕ × Sum)) (l : Made) : Type 0 where
   pub made : IsExtension e
-  pub same_modulus : modulus_in t ≡ algebra.modulus e
+  pub same_modulus : modulus_in t ≡ graphs.modulus e
   pub graph : AreLinesOver e s t l
   pub axioms : (id : ℕ) → id ≤ e.max → line_of (written_ledger l).live id ≡ line_of (axioms e).live id
   pub batches : All (IsBatch e t) gs
   pub sum : (σ : Assignment) →
-      (batches_sum t gs σ + combined (algebra.modulus e) (written_ledger l).live (parts_in t weighted) σ) % algebra.modulus e ≡ value_in t total σ
+      (batches_sum t gs σ + combined (graphs.modulus e) (written_ledger l).live (parts_in t weighted) σ) % graphs.modulus e ≡ value_in t total σ
   pub over : All (λ p. IsOver e.max t p.1) weighted
-  pub nonzero : All (λ p. IsNotZero (algebra.modulus e) (monomials_in t p.1)) weighted
+  pub nonzero : All (λ p. IsNotZero (graphs.modulus e) (monomials_in t p.1)) weighted
   pub live : All (λ p. IsLive (written_ledger l).live p.0) weighted
   pub once : AllPairs (λ p q. p.0 ≢ q.0) weighted
   pub ids : All (λ p. (e.max < p.0) × (p.0 ≤ l.last)) weighted

@@ -9,7 +9,7 @@ use Rattle.graph_core.specs.Graph.{IsLevel}
 abbrev pub Rises : ℕ × ℕ → ℕ × ℕ → Type 0
 Rises a b = (a.0 < b.0) ⊎ ((a.0 ≡ b.0) × (a.1 ≤ b.1))
 
--- each key rises to all behind it
+-- each key rises to all after it
 abbrev pub AreRisingKeys : List (ℕ × ℕ) → Type 0
 AreRisingKeys [] = Unit {0}
 AreRisingKeys (x ∷ xs) = AllByRecursion (Rises x) xs × AreRisingKeys xs

@@ -2,10 +2,10 @@
 use Rattle.std.specs.Prelude.{◌≡◌, ◌⊎◌, ℕ, ◌+◌, ◌<◌, ◌≤◌, List, length, take}
 use Rattle.graph_core.specs.Graph.Assignments.{Assignment}
 use Rattle.graph_core.specs.Graph.Operands.{Sides}
-use Rattle.graph_core.specs.Graph.Extended.{Extended}
-use Rattle.graph_core.specs.Algebra.{LiveLine, IsLive, modulus, specification, value_of}
-use Rattle.graph_core.specs.Algebra.NormalForm.{HasSize}
-use Rattle.graph_core.specs.Algebra.Polynomials.{difference}
+use Rattle.graph_core.specs.Graph.Extended.{Extended, modulus}
+use Rattle.algebra_core.specs.AlgebraLines.{LiveLine, IsLive, specification, value_of}
+use Rattle.algebra_core.specs.NormalForm.{HasSize}
+use Rattle.algebra_core.specs.Polynomials.{difference}
 use Rattle.poly_terms.specs.Tables.{Table, Sum, Extends, IsOf, value_in}
 use Rattle.pac_writer.specs.Writing.{Made, written_ledger}
 use Rattle.column_reducer.specs.declared.reduced.Reduced.{Reduced}

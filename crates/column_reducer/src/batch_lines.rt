@@ -1,6 +1,6 @@
 // The lines of batches, and the last line, which adds them up, each times its weight.
 ghost use Rattle.std.specs.Prelude.{◌≡◌, ◌<◌, ◌≤◌, ◌⊎◌, ◌+◌, ◌^◌, ◌++◌, ◌∷◌, ℕ, [], None, List, IfOk, OnOk, length};
-ghost use Rattle.graph_core.specs.Algebra.{IsLive, value_of};
+ghost use Rattle.algebra_core.specs.AlgebraLines.{IsLive, value_of};
 ghost use Rattle.graph_core.specs.Graph.Assignments.{Assignment};
 ghost use Rattle.graph_core.specs.Graph.Extended.{Extended};
 ghost use Rattle.graph_core.specs.Graph.Operands.{Sides};

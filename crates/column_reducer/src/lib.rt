@@ -1,13 +1,12 @@
 //! Reductions of a multiplier's columns along a plan, with the lines of a certificate that state what they do.
 //!
-//! `plain_plan` gives the plan that adds all columns and then eliminates the gates by their levels, `slice_plan` one
-//! that adds the columns from the last down and eliminates gates behind each. `layered_plan` does so too, and
-//! `columns_first_plan` eliminates them behind all columns; both take the gates nearest to the outputs first. `reduce`
-//! takes the steps of a plan: a column is added, or a gate's variable is replaced by the product of its operands. After
-//! each step the polynomial that is kept is the next frontier's function. It ends at the first frontier with more
-//! monomials than the budget, or with the last one, and then the lines have one whose value is the specification minus
-//! it (`reduced`), at most two lines more than there are gates (`few`). `Passed` comes exactly at the first step that
-//! leaves a frontier above the budget, with its size.
+//! `plain_plan` gives the plan that adds all columns and then eliminates the gates by their levels, `column_plan` one
+//! that adds the columns from the last down, with the gates in an order of elimination. `reduce` takes the steps of a
+//! plan: a column is added, or a gate's variable is replaced by the product of its operands. After each step the
+//! polynomial that is kept is the next frontier's function. It ends at the first frontier with more monomials than the
+//! budget, or with the last one, and then the lines have one whose value is the specification minus it (`reduced`), at
+//! most two lines more than there are gates (`few`). `Passed` comes exactly at the first step that leaves a frontier
+//! above the budget, with its size.
 //!
 //! *Frontier*, *plan*, *size*: those of `frontier_core`. *Counts*: a plan may have steps before the first frontier that
 //! counts, which is that of step 0 (`Planned` in `specs/Reducing.antt`). *Part*: an axiom times a polynomial. Each gate
@@ -18,25 +17,21 @@
 #![tactic(auto)]
 
 mod batch_lines;
-mod columns_first;
 mod elimination;
+mod frontier;
 mod frontier_walk;
 mod gate_part;
 mod gathered;
-mod layered;
+mod orders;
 mod pieces;
 mod plain;
 mod plan;
 mod reduced;
 mod reduction;
-mod settling;
-mod slice;
 mod walk;
 
-pub use columns_first::columns_first_plan;
-pub use layered::layered_plan;
+pub use orders::column_plan;
 pub use plain::plain_plan;
 pub use plan::Plan;
 pub use reduced::Reduced;
 pub use reduction::reduce;
-pub use slice::slice_plan;

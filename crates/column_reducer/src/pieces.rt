@@ -3,7 +3,7 @@
 
 ghost use Rattle.std.specs.Prelude.{◌≡◌, ◌<◌, ◌%◌, ◌+◌, ◌*◌, ◌^◌, ◌∷◌, [], IfOk};
 ghost use Rattle.graph_core.specs.Graph.Assignments.{Assignment, bit};
-ghost use Rattle.graph_core.specs.Algebra.Polynomials.{difference};
+ghost use Rattle.algebra_core.specs.Polynomials.{difference};
 ghost use Rattle.poly_terms.specs.Tables.{IsOf, Extends, given, modulus_in, value_in};
 ghost use Rattle.column_reducer.specs.Gathering.{term_of};
 

@@ -37,7 +37,7 @@ pub fn plain_plan<'a>(alloc: Global, extended: &'a Extended<'a>) -> Result<Plan<
     })
 }
 
-// The gates behind other steps, the last key first.
+// The gates after other steps, the last key first.
 fn then_gates(mut steps: Vec<Step>, keys: Vec<(u32, u32)>) -> Result<Vec<Step>, Memory>
     ensures { IfOk result (λ all. all.items ≡ steps.items ++ map Eliminate (reverse (map (λ key. key.1) keys.items))) }
 {

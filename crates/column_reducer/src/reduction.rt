@@ -1,12 +1,11 @@
 // Reductions along a plan.
-ghost use Rattle.std.specs.Prelude.{◌≡◌, ◌≤◌, ◌+◌, [], None, IfOk, length, IsTrue, ℕ};
+ghost use Rattle.std.specs.Prelude.{◌≡◌, ◌≤◌, ◌+◌, [], None, IfOk, length, ℕ};
 ghost use Rattle.graph_core.specs.Graph.Operands.{ReadInputs};
-ghost use Rattle.column_reducer.specs.Gathering.{HasGathered, IsWalkOutcome};
+ghost use Rattle.column_reducer.specs.Gathering.{IsWalkOutcome};
 ghost use Rattle.column_reducer.specs.Reducing.{ContinuesLines, IsReduced, Planned};
 ghost use Rattle.ripple_graft.specs.Extension.{IsExtension};
 
 use crate::batch_lines::write_batches;
-use crate::frontier_walk::first_passed;
 use crate::plan::Plan;
 use crate::reduced::Reduced;
 use crate::walk::{Ended, Outcome, take_steps};
@@ -15,10 +14,6 @@ use mv_fact::Grow;
 use pac_writer::Lines;
 use poly_terms::{Poly, Terms};
 use std::alloc::Global;
-
-// More monomials than this aren't kept, in parts or in the table, before it is known that all steps stay within the
-// budget.
-const MOST_KEPT: u64 = 1 << 19;
 
 /// Adds the columns and eliminates the gates of a plan, in the plan's order, as long as each frontier has at most
 /// `budget` monomials, and writes the lines by which the last one differs from the specification. The lines are new.
@@ -61,7 +56,7 @@ struct TakeSteps<'a> {
 
 impl<'a> Grow<Poly> for TakeSteps<'a> {
     ghost use Rattle.std.specs.Prelude.{IfOk};
-    ghost use Rattle.column_reducer.specs.Gathering.{CanTake, IsWalkOutcome, HasGathered};
+    ghost use Rattle.column_reducer.specs.Gathering.{CanTake, IsWalkOutcome};
 
     type Out = Result<Outcome, Memory>;
 
@@ -70,48 +65,10 @@ impl<'a> Grow<Poly> for TakeSteps<'a> {
     ghost can_grow = { λ work _ table. CanTake work.plan.now work.operands.now table };
 
     ghost did = { λ work _ _ out _ _ table.
-        IfOk out (λ o. IsWalkOutcome work.plan.now work.operands.now table work.budget o × HasGathered o) };
+        IfOk out (IsWalkOutcome work.plan.now work.operands.now table work.budget) };
 
     fn grow(&mut self, on: &mut (), table: &mut Terms) -> Result<Outcome, Memory> {
-        let bounded = take_steps(
-            self.alloc,
-            table,
-            self.plan,
-            self.operands,
-            self.budget,
-            Some(MOST_KEPT),
-        )?;
-        if is_kept(&bounded) {
-            return Ok(bounded);
-        }
-        if let Some((step, size)) = first_passed(
-            self.alloc,
-            table.exponent(),
-            self.plan,
-            self.operands,
-            self.budget,
-        )? {
-            return Ok(Outcome::Passed { step, size });
-        }
-        take_steps(
-            self.alloc,
-            table,
-            self.plan,
-            self.operands,
-            self.budget,
-            None,
-        )
-    }
-}
-
-// Whether nothing was let go that a line needs.
-fn is_kept(outcome: &Outcome) -> bool
-    ensures { IsTrue result → HasGathered outcome.now }
-{
-    match outcome {
-        Outcome::Ended(ended) => ended.gathered.is_some(),
-        Outcome::Passed { .. } => true,
-        Outcome::Stopped => false,
+        take_steps(self.alloc, table, self.plan, self.operands, self.budget)
     }
 }
 
@@ -120,7 +77,6 @@ fn write_outcome(lines: &mut Lines<'_>, outcome: Outcome) -> Result<Reduced, Mem
     requires new { lines.old.lines ≡ [] }
     requires unclosed { lines.old.closing ≡ None }
     requires extension { IsExtension lines.old.extended }
-    requires kept { HasGathered outcome }
     requires outcome { (p : Planned) × (budget : ℕ) × (p.extended ≡ lines.old.extended) ×
         IsWalkOutcome p lines.old.sides lines.old.table budget outcome }
     ensures goes_on { ContinuesLines lines.old lines.new }
@@ -133,21 +89,10 @@ fn write_outcome(lines: &mut Lines<'_>, outcome: Outcome) -> Result<Reduced, Mem
     let _outputs = lines.extended().graph().outputs();
     match outcome {
         Outcome::Passed { step, size } => Ok(Reduced::Passed { step, size }),
-        Outcome::Stopped => unreachable!(),
         Outcome::Ended(ended) => {
             let Ended { rest, gathered } = ended;
-            match gathered {
-                None => unreachable!(),
-                Some(gathered) => {
-                    let id = write_batches(
-                        lines,
-                        gathered.batches,
-                        gathered.columns,
-                        gathered.total,
-                    )?;
-                    Ok(Reduced::Rest { poly: rest, id })
-                }
-            }
+            let id = write_batches(lines, gathered.batches, gathered.columns, gathered.total)?;
+            Ok(Reduced::Rest { poly: rest, id })
         }
     }
 }

@@ -1,7 +1,7 @@
 use Rattle.std.proofs.lemmas.Result.{IfOk-weaker}
 use Rattle.std.proofs.Common.{◌≡◌, length, subst, rules, []}
 use Rattle.graph_core.specs.Graph.Assignments.{Assignment}
-use Rattle.graph_core.specs.Algebra.{value_of}
+use Rattle.algebra_core.specs.AlgebraLines.{value_of}
 use Rattle.poly_terms.specs.Tables.{value_in}
 use Rattle.pac_writer.specs.Writing.{PutsLine, combination_of, written_ledger}
 use Rattle.column_reducer.specs.Gathering.{AreBatchesWritten}

@@ -9,25 +9,26 @@ pub returns-then-size-eq0-clause-eliminated : goal.returns-then-size-eq0-clause-
 returns-then-size-eq0-clause-eliminated c =
     let t = c.args.terms.now in
     let taken = c.in_ok-taken.taken in
-    eliminated_none t c.args.gate.now c.args.rest.sum taken c.take.new.self c.in_ok-taken.ensures.of c.in_ok-taken.ensures.indexed c.in_ok-taken.ensures.rest c.in_ok-taken.ensures.quotient
+    eliminated_none t c.args.gate.now c.args.rest.now.sum taken c.take.new.self c.in_ok-taken.ensures.of c.in_ok-taken.ensures.indexed c.in_ok-taken.ensures.rest c.in_ok-taken.ensures.quotient
     (size_none (modulus_in t) (value_in t taken) c.size.result c.size.ensures.size c.if-size-eq0.true)
 
 pub of-requires-clause-all : goal.of-requires-clause-all
 of-requires-clause-all c =
-    taken_false c.args.terms.now c.args.gate.now.v c.args.rest.sum c.in_ok-taken.taken c.take.new.self.sum c.in_ok-taken.ensures.rest c.in_ok-taken.ensures.sum
+    taken_false c.args.terms.now c.args.gate.now.v c.args.rest.now.sum c.in_ok-taken.taken c.take.new.self.sum c.in_ok-taken.ensures.rest c.in_ok-taken.ensures.sum
 
 pub of-requires-clause-some : goal.of-requires-clause-some
 of-requires-clause-some c =
     let t = c.args.terms.now in
     size_some (modulus_in t) (value_in t c.in_ok-taken.taken) c.size.result c.size.ensures.size c.if-size-eq0.false
 
-pub minus_power-requires : goal.minus_power-requires
-minus_power-requires c =
+pub put_back-requires-clause-power : goal.put_back-requires-clause-power
+put_back-requires-clause-power c =
     let same = exponent_stays c.args.terms.now c.of.new.terms c.in_ok-part.ensures.extends in
     omega (arith, same, c.requires.power, c.in_ok-part.ensures.low)
 
 pub returns-clause-eliminated : goal.returns-clause-eliminated
 returns-clause-eliminated c =
-    eliminated_of c.args.terms.now c.of.new.terms c.args.gate.now c.args.rest.sum c.in_ok-taken.taken c.in_ok-more.more c.take.new.self c.add.new.self c.in_ok-part.part c.minus_power.result
-    c.in_ok-part.ensures.extends c.in_ok-taken.ensures.of c.in_ok-add.ensures.of c.in_ok-add.ensures.indexed c.in_ok-taken.ensures.rest c.in_ok-taken.ensures.quotient c.in_ok-part.ensures.part
-    c.minus_power.ensures c.in_ok-more.ensures.value c.in_ok-add.ensures.value
+    let back = c.in_ok-put_back.ensures.value in
+    eliminated_of c.args.terms.now c.of.new.terms c.args.gate.now c.args.rest.now.sum c.in_ok-taken.taken c.take.new.self c.put_back.new.rest c.in_ok-part.part back.0
+    c.in_ok-part.ensures.extends c.in_ok-taken.ensures.of c.in_ok-put_back.ensures.of c.in_ok-put_back.ensures.indexed c.in_ok-taken.ensures.rest c.in_ok-taken.ensures.quotient c.in_ok-part.ensures.part
+    back.1 back.2

@@ -1,6 +1,6 @@
 use Rattle.std.proofs.Common.{◌≡◌, ◌*◌, ◌%◌, ap, ◌∙◌, arith}
 use Rattle.std.proofs.Math.Nat.{mod-mod}
-use Rattle.graph_core.specs.Algebra.Polynomials.{sum_of}
+use Rattle.algebra_core.specs.Polynomials.{sum_of}
 use Rattle.poly_terms.specs.Tables.{modulus_in, monomials_in, value_in}
 use Rattle.column_reducer.proofs.gate_part.divided.Goals as goal
 

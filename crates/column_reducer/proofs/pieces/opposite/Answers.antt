@@ -2,7 +2,7 @@ use Rattle.std.proofs.lemmas.Result.{IfOk-weaker}
 use Rattle.std.specs.Prelude.{◌≡◌}
 use Rattle.std.proofs.Common.{◌+◌, ◌%◌, subst, sym}
 use Rattle.graph_core.specs.Graph.Assignments.{Assignment}
-use Rattle.graph_core.specs.Algebra.Polynomials.{difference}
+use Rattle.algebra_core.specs.Polynomials.{difference}
 use Rattle.poly_terms.specs.Tables.{modulus_in, value_in}
 use Rattle.column_reducer.proofs.PieceValues.{opposite_has}
 use Rattle.column_reducer.proofs.pieces.opposite.Goals as goal

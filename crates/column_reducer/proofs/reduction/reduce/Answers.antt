@@ -1,5 +1,5 @@
 use Rattle.std.proofs.Common.{ap, sym, subst, ◌∙◌}
-use Rattle.graph_core.specs.Algebra.{modulus}
+use Rattle.graph_core.specs.Graph.Extended.{modulus}
 use Rattle.graph_core.specs.Graph.Operands.{ReadInputs}
 use Rattle.column_reducer.specs.Gathering.{IsWalkOutcome}
 use Rattle.column_reducer.proofs.Finish.{goes_after}
@@ -19,7 +19,7 @@ write_outcome-requires-clause-outcome c =
       p,
       c.args.budget,
       sym (grows.extended ∙ c.requires.same_graph),
-      subst (λ s. IsWalkOutcome p s mid.table c.args.budget c.in_ok-outcome.outcome) (c.operands.ensures ∙ sym grows.sides) c.in_ok-outcome.ensures.did.0,
+      subst (λ s. IsWalkOutcome p s mid.table c.args.budget c.in_ok-outcome.outcome) (c.operands.ensures ∙ sym grows.sides) c.in_ok-outcome.ensures.did,
     )
 
 pub returns-clause-goes_on : goal.returns-clause-goes_on

@@ -1,7 +1,6 @@
 use Rattle.std.proofs.Common.{◌≡◌, ◌+◌, ◌≤◌, ◌<◌, ◌^◌, length, arith, ap, subst, ◌∙◌}
-use Rattle.std.specs.Prelude.{IfSome}
 use Rattle.graph_core.specs.declared.bounds.TheConstants.{MOST_OUTPUTS}
-use Rattle.column_reducer.specs.Gathering.{AreTotal, IsEndedWalk, IsWalkOutcome}
+use Rattle.column_reducer.specs.Gathering.{IsEndedWalk, IsWalkOutcome}
 use Rattle.column_reducer.proofs.Finish.{goes_itself, goes_on, last_axiom, many_gates}
 use Rattle.column_reducer.proofs.reduction.write_outcome.Goals as goal
 
@@ -11,8 +10,7 @@ write_batches-requires-clause-room c =
     let w = c.requires.outcome in
     let p = w.0 in
     let ended : IsEndedWalk p l.sides l.table w.1 c.in-Ended.ended = subst (IsWalkOutcome p l.sides l.table w.1) c.in-Ended.is w.3 in
-    let total : AreTotal p.extended l.sides l.table c.in-Ended.ended.rest c.in-Some.gathered = subst (λ o. IfSome o (AreTotal p.extended l.sides l.table c.in-Ended.ended.rest)) c.in-Some.is ended.total in
-    let few : length c.in-Some.gathered.batches.items ≤ length p.extended.gates + 1 = total.few in
+    let few : length c.in-Ended.ended.gathered.batches.items ≤ length p.extended.gates + 1 = ended.total.few in
     let same : length p.extended.gates ≡ length l.extended.gates = ap (λ e. length e.gates) w.2 in
     let many : length l.extended.gates ≤ l.extended.max + 1 = many_gates l.extended c.requires.extension in
     let last : l.last ≡ l.extended.max + length l.extended.graph.outputs = last_axiom l c.last-last.ensures.lawful c.requires.new in
@@ -20,11 +18,11 @@ write_batches-requires-clause-room c =
     let outputs : length l.extended.graph.outputs ≤ MOST_OUTPUTS = subst (λ g. length g.outputs ≤ MOST_OUTPUTS) (c.graph.ensures ∙ ap (λ e. e.graph) c.extended-2.ensures) c.outputs-outputs.ensures.built.few_outputs in
     omega arith
 
-pub returns-in_err-id-in-Some-clause-goes_on : goal.returns-in_err-id-in-Some-clause-goes_on
-returns-in_err-id-in-Some-clause-goes_on c = goes_on c.args.lines.now c.write_batches.new.lines c.write_batches.ensures.graph
+pub returns-in_err-id-in-Ended-clause-goes_on : goal.returns-in_err-id-in-Ended-clause-goes_on
+returns-in_err-id-in-Ended-clause-goes_on c = goes_on c.args.lines.now c.write_batches.new.lines c.write_batches.ensures.graph
 
 pub returns-in-Passed-clause-goes_on : goal.returns-in-Passed-clause-goes_on
 returns-in-Passed-clause-goes_on c = goes_itself c.args.lines.now c.requires.unclosed
 
-pub returns-in_ok-id-in-Some-clause-goes_on : goal.returns-in_ok-id-in-Some-clause-goes_on
-returns-in_ok-id-in-Some-clause-goes_on c = goes_on c.args.lines.now c.write_batches.new.lines c.write_batches.ensures.graph
+pub returns-in_ok-id-in-Ended-clause-goes_on : goal.returns-in_ok-id-in-Ended-clause-goes_on
+returns-in_ok-id-in-Ended-clause-goes_on c = goes_on c.args.lines.now c.write_batches.new.lines c.write_batches.ensures.graph

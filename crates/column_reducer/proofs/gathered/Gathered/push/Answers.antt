@@ -11,7 +11,7 @@ returns c =
       columns = refl;
       total = refl;
       power = refl;
-      parts = c.in_ok-push.ensures.items ∙ ap (λ v. c.args.self.parts.items ++ (v, factor) ∷ []) c.from.ensures;
+      parts = c.in_ok-push.ensures.items ∙ ap (λ v. c.args.self.now.parts.items ++ (v, factor) ∷ []) c.from.ensures;
       of = c.in_ok-add-2.ensures.of;
       stated = λ σ. c.in_ok-add-2.ensures.value σ ∙ ap (λ n. (n + value_in t c.args.part.variable σ) % modulus_in t) (c.in_ok-add.ensures.value σ);
     }

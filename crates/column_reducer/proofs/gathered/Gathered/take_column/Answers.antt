@@ -1,21 +1,10 @@
-use Rattle.std.proofs.Common.{◌≡◌, ◌<◌, ◌+◌, ◌∷◌, ◌++◌, [], Some, slice_get, refl, ap, sym, subst, ◌∙◌, true≢false, arith}
-use Rattle.column_reducer.proofs.Columns.{column_kept, column_taken}
-use Rattle.column_reducer.proofs.Grown.{exponent_stays}
+use Rattle.std.proofs.Common.{sym, ◌∙◌, true≢false}
+use Rattle.column_reducer.proofs.Columns.{column_kept}
 use Rattle.column_reducer.proofs.gathered.Gathered.take_column.Goals as goal
 
 pub returns-then-not-replaced-clause-column : goal.returns-then-not-replaced-clause-column
 returns-then-not-replaced-clause-column c =
-    column_kept c.args.terms.now c.args.extended.now c.args.k c.args.self (λ is. true≢false (sym (c.replaced.ensures.1 is) ∙ c.if-not-replaced.true))
+    column_kept c.args.terms.now c.args.extended.now c.args.k c.args.self.now (λ is. true≢false (sym (c.replaced.ensures.1 is) ∙ c.if-not-replaced.true))
 
-pub power_poly-requires : goal.power_poly-requires
-power_poly-requires c = subst (λ n. c.args.k < n) (sym (exponent_stays c.args.terms.now c.equal_poly.new.terms c.in_ok-axiom.ensures.extends)) c.requires.weight
-
-pub returns-clause-column : goal.returns-clause-column
-returns-clause-column c =
-    let k = c.args.k in
-    let old : slice_get c.args.extended.now.graph.outputs k ≡ Some c.output-old.result = subst (λ g. slice_get g.outputs k ≡ Some c.output-old.result) c.graph.ensures c.output-old.ensures in
-    let id : c.from.result + 1 + c.from-2.result ≡ c.args.extended.now.max + 1 + k = omega (arith, c.from.ensures, c.from-2.ensures, c.max.ensures.value) in
-    column_taken c.args.terms.now c.equal_poly.new.terms c.power_poly.new.terms c.combine.new.self c.args.extended.now k c.output-old.result c.new_output.result c.in_ok-axiom.axiom c.in_ok-weight.weight
-    c.args.self _ c.in_ok-axiom.ensures.extends c.in_ok-weight.ensures.extends c.in_ok-gathered.ensures.extends (c.replaced.ensures.0 c.if-not-replaced.false) old c.new_output.ensures c.in_ok-axiom.ensures.of
-    c.in_ok-axiom.ensures.value c.in_ok-weight.ensures.of c.in_ok-weight.ensures.value c.in_ok-gathered.ensures.of c.in_ok-gathered.ensures.value refl
-    (c.in_ok-push.ensures.items ∙ ap (λ n. c.args.self.columns.items ++ (n, c.in_ok-weight.weight) ∷ []) id) refl refl refl
+pub add_column-requires-clause-replaced : goal.add_column-requires-clause-replaced
+add_column-requires-clause-replaced c = c.replaced.ensures.0 c.if-not-replaced.false

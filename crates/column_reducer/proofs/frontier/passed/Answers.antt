@@ -1,7 +1,7 @@
 use Rattle.std.proofs.Common.{arith}
-use Rattle.graph_core.proofs.OfAlgebra.CallerLemmas.{size_is_one}
+use Rattle.algebra_core.proofs.CallerLemmas.{size_is_one}
 use Rattle.poly_terms.specs.Tables.{modulus_in, value_in}
-use Rattle.column_reducer.proofs.walk.passed.Goals as goal
+use Rattle.column_reducer.proofs.frontier.passed.Goals as goal
 
 pub returns-then-size-budget-clause-within : goal.returns-then-size-budget-clause-within
 returns-then-size-budget-clause-within c is low n has =

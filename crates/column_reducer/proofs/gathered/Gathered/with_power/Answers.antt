@@ -1,7 +1,0 @@
-use Rattle.std.proofs.Common.{refl}
-use Rattle.column_reducer.proofs.Taken.{power_set}
-use Rattle.column_reducer.proofs.gathered.Gathered.with_power.Goals as goal
-
-pub returns-clause-power : goal.returns-clause-power
-returns-clause-power c =
-    power_set c.args.terms.now c.end_batch.new.terms c.args.self c.in_ok-ended.ended _ c.args.power c.in_ok-ended.ensures.ended refl refl refl refl refl refl c.requires.low
