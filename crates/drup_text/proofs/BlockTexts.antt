@@ -1,5 +1,5 @@
 -- The lines of a header of version 2, as they are read.
-use Rattle.std.specs.Prelude.{◌≡◌, ◌≢◌, ◌==◌, ◌≤◌, ℕ, Bool, true, false, cond, List, [], ◌∷◌, codes}
+use Rattle.std.specs.Prelude.{◌≡◌, ◌==◌, ◌≤◌, ℕ, Bool, true, false, cond, List, [], ◌∷◌, codes}
 use Rattle.std.specs.Result.{IfErr, IfOk}
 use Rattle.std.specs.declared.result.Result.{Result}
 use Rattle.std.specs.declared.result.Result.TheVariants.{Err, Ok}
@@ -14,12 +14,8 @@ use Rattle.mv_text.proofs.CallerLemmas.{misfit_from}
 use Rattle.mv_text.specs.Steps.{IsMisfit, Takes, begins}
 use Rattle.ripple_graft.proofs.GraftedGraphs.{reach_is}
 use Rattle.drup_text.specs.ClauseReading.{block_line_at, carry_at, count_line_at, head_from, two_at}
-use Rattle.drup_text.specs.ClauseTexts.{IsBlockLine, IsCountLine}
-use Rattle.mv_text.specs.CertificateFiles.{SaysNothing}
-use Rattle.drup_text.specs.LineTexts.{IsBlockTextOf, IsCountInRange, IsCountTextOf, IsHeadOf}
+use Rattle.drup_text.specs.LineTexts.{IsCountInRange, IsHeadOf}
 use Rattle.drup_text.specs.Steps.{AreBothUpTo}
-use Rattle.drup_text.proofs.ClauseReading.{reads_block_line, reads_count_line}
-use Rattle.drup_text.proofs.WholeTexts.{left_over, misfit_refused, out_of_range, said}
 
 abbrev IsSame : {A : Type 0} → A → A → Type 0
 IsSame x y = x ≡ y
@@ -56,12 +52,6 @@ no_carry (b ∷ bytes) h = ap (λ t. cond t (text_at (codes " carry") true (b �
 carry_there : (bytes : List ℕ) → begins (λ b. b == 32) bytes ≡ true → carry_at bytes ≡ text_at (codes " carry") true bytes
 carry_there [] h = absurd (cc)
 carry_there (b ∷ bytes) h = ap (λ t. cond t (text_at (codes " carry") true (b ∷ bytes)) (Some (false, b ∷ bytes))) h
-
-pub carry_taken : (old new : List ℕ) → begins (λ b. b == 32) old ≡ true → front_at (codes " carry") old ≡ Some new → carry_at old ≡ Some (true, new)
-carry_taken old new at e = carry_there old at ∙ ap (λ o. o >>= λ rest. Some (true, rest)) e
-
-pub carry_fails : (bytes : List ℕ) → begins (λ b. b == 32) bytes ≡ true → front_at (codes " carry") bytes ≡ None → carry_at bytes ≡ None
-carry_fails bytes at e = carry_there bytes at ∙ ap (λ o. o >>= λ rest. Some (true, rest)) e
 
 -- ---- a block
 
@@ -105,33 +95,3 @@ head_none x outputs old mid rest new c all e h k = record {
   taken = head_read old mid rest new h.read c e h.taken k;
   gives = λ is. let within = is.within in let wide = (reach_is h.read.1 c).0 in h.gives (omega arith, omega arith);
 }
-
--- ---- whole texts
-
-pub count_said : (outputs : ℕ) (bytes rest : List ℕ) (given : Option ℕ) (n : ℕ) → rest ≡ [] → given ≡ Some n → Takes count_line_at (IsCountInRange outputs) IsSame bytes rest given → IsCountTextOf outputs bytes n
-count_said outputs bytes rest given n e f h =
-    let s = said reads_count_line tt (IsCountInRange outputs) IsSame bytes rest given n e f h in
-    subst (IsCountTextOf outputs bytes) s.3 (s.1, s.2)
-
-pub count_over : (outputs : ℕ) (bytes rest : List ℕ) (given : Option ℕ) → rest ≢ [] → Takes count_line_at (IsCountInRange outputs) IsSame bytes rest given → (n : ℕ) → IsCountLine bytes n → ⊥
-count_over outputs bytes rest given some h = left_over reads_count_line tt (IsCountInRange outputs) IsSame bytes rest given some h
-
-pub count_out : (outputs : ℕ) (bytes rest : List ℕ) (given : Option ℕ) → rest ≡ [] → given ≡ None → Takes count_line_at (IsCountInRange outputs) IsSame bytes rest given → (n : ℕ) × IsCountLine bytes n × ¬ (IsCountInRange outputs n)
-count_out outputs bytes rest given e f h = out_of_range reads_count_line tt (IsCountInRange outputs) IsSame bytes rest given e f h
-
-pub count_misfit : (outputs : ℕ) (bytes : List ℕ) (f : LineFail) → IsMisfit (count_line_at bytes ≡ None) f → SaysNothing IsCountLine (IsCountInRange outputs) bytes f
-count_misfit outputs bytes f h = misfit_refused {T = ℕ} reads_count_line tt (IsCountInRange outputs) IsSame bytes f h
-
-pub head_said : (x : Extended) (bytes rest : List ℕ) (given : Option (ℕ × ℕ × Bool)) (d : ℕ × ℕ × Bool) → rest ≡ [] → given ≡ Some d → Takes block_line_at (IsHeadOf x) IsSame bytes rest given → IsBlockTextOf x bytes d
-head_said x bytes rest given d e f h =
-    let s = said reads_block_line tt (IsHeadOf x) IsSame bytes rest given d e f h in
-    subst (IsBlockTextOf x bytes) s.3 (s.1, s.2)
-
-pub head_over : (x : Extended) (bytes rest : List ℕ) (given : Option (ℕ × ℕ × Bool)) → rest ≢ [] → Takes block_line_at (IsHeadOf x) IsSame bytes rest given → (d : ℕ × ℕ × Bool) → IsBlockLine bytes d → ⊥
-head_over x bytes rest given some h = left_over reads_block_line tt (IsHeadOf x) IsSame bytes rest given some h
-
-pub head_out : (x : Extended) (bytes rest : List ℕ) (given : Option (ℕ × ℕ × Bool)) → rest ≡ [] → given ≡ None → Takes block_line_at (IsHeadOf x) IsSame bytes rest given → (d : ℕ × ℕ × Bool) × IsBlockLine bytes d × ¬ (IsHeadOf x d)
-head_out x bytes rest given e f h = out_of_range reads_block_line tt (IsHeadOf x) IsSame bytes rest given e f h
-
-pub head_misfit : (x : Extended) (bytes : List ℕ) (f : LineFail) → IsMisfit (block_line_at bytes ≡ None) f → SaysNothing IsBlockLine (IsHeadOf x) bytes f
-head_misfit x bytes f h = misfit_refused {T = ℕ × ℕ × Bool} reads_block_line tt (IsHeadOf x) IsSame bytes f h

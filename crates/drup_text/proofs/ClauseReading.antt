@@ -8,9 +8,8 @@ use Rattle.std.proofs.lemmas.List.Elements.{recursion_from_All}
 use Rattle.graph_core.specs.declared.literal.Lit.{Lit}
 use Rattle.graph_core.specs.Text.{newline, space, IsNumeral, IsDigit}
 use Rattle.graph_core.specs.Text.Numerals.{number_at, is_digit, ◌>>=◌}
-use Rattle.graph_core.specs.Text.Readers.{IsReaderOf, map_at, behind_at, ended_at, text_at, Ended, BehindText, AreMany, NoneOf, OneOf, Anything, Then, put_before}
-use Rattle.graph_core.proofs.OfTexts.CallerLemmas.{HasNoNewline, OtherOf, many_next, none_append, none_in, none_numeral, one_longer, reads_as, reads_before, reads_behind, reads_choice, reads_ended, reads_many, reads_map, reads_number, reads_text, reads_then}
-use Rattle.graph_core.proofs.OfAlgebra.CallerLemmas.{numeral_first}
+use Rattle.graph_core.proofs.OfTexts.CallerLemmas.{IsReaderOf, BehindText, AreMany, NoneOf, OneOf, Anything, Then, Ended, HasNoNewline, OtherOf, many_next, none_append, none_in, none_numeral, one_longer, reads_as, reads_before, reads_behind, reads_choice, reads_ended, reads_many, reads_map, reads_number, reads_text, reads_then, numeral_first}
+use Rattle.graph_core.specs.Text.Readers.{map_at, behind_at, ended_at, text_at, put_before}
 use Rattle.clause_core.specs.Clause.{Clause}
 use Rattle.clause_core.specs.ClauseLines.{ClauseLine}
 use Rattle.clause_core.specs.declared.line.Line.TheVariants.{Add, Delete}

@@ -1,26 +1,21 @@
 -- The lines of a header, as they are read.
-use Rattle.std.specs.Prelude.{◌≡◌, ◌≢◌, ◌==◌, ◌+◌, ◌*◌, ◌≤◌, ℕ, true, false, List, [], codes}
+use Rattle.std.specs.Prelude.{◌≡◌, ◌==◌, ◌+◌, ◌*◌, ◌≤◌, ℕ, true, false, List, codes}
 use Rattle.std.specs.declared.option.Option.{Option}
 use Rattle.std.specs.declared.option.Option.TheVariants.{None, Some}
 use Rattle.std.specs.Option.{option_zip}
-use Rattle.std.proofs.Common.{refl, sym, ap, subst, ◌∙◌, arith, ⊎_elim}
+use Rattle.std.proofs.Common.{refl, sym, ap, ◌∙◌, arith, ⊎_elim}
 use Rattle.graph_core.specs.declared.literal.Lit.{Lit}
 use Rattle.graph_core.specs.Graph.Extended.{Extended}
 use Rattle.graph_core.specs.Graph.Literals.{variable_of}
 use Rattle.graph_core.specs.Text.Numerals.{◌>>=◌, number_at, front_at}
 use Rattle.graph_core.specs.Text.Readers.{Reader, behind_at, ended_at, map_at, text_at}
 use Rattle.graph_core.proofs.OfGraphs.CallerLemmas.{input_in_range}
-use Rattle.mv_text.specs.declared.line_fail.LineFail.{LineFail}
-use Rattle.mv_text.specs.Steps.{Gives, IsMisfit, Takes, begins}
+use Rattle.mv_text.specs.Steps.{Gives, Takes, begins}
 use Rattle.ripple_graft.specs.Extension.{IsExtension, IsKnown, whole}
 use Rattle.ripple_graft.proofs.KnownLiterals.{defined_is}
 use Rattle.drup_text.specs.ClauseReading.{cut_line_at, lits, pair_line_at, some_cut, two_at}
-use Rattle.drup_text.specs.ClauseTexts.{IsCutLine, IsPairLine}
-use Rattle.mv_text.specs.CertificateFiles.{SaysNothing}
-use Rattle.drup_text.specs.LineTexts.{IsCutSize, IsCutTextOf, IsPairOf, IsPairTextOf, IsSizeInRange}
+use Rattle.drup_text.specs.LineTexts.{IsCutSize, IsPairOf, IsSizeInRange}
 use Rattle.drup_text.specs.Steps.{AreBothUpTo}
-use Rattle.drup_text.proofs.ClauseReading.{reads_cut_line, reads_pair_line}
-use Rattle.drup_text.proofs.WholeTexts.{left_over, misfit_refused, out_of_range, said}
 use Rattle.drup_text.proofs.LineSteps.{chosen_one, chosen_other, fails_behind, fails_front, fails_map, taken_behind, taken_map}
 
 abbrev IsSame : {A : Type 0} → A → A → Type 0
@@ -140,33 +135,3 @@ pair_none e old new made h = record {
   taken = pair_read old new h.read h.taken;
   gives = λ is. h.gives (known_low e (lits h.read).0 made is.0, known_low e (lits h.read).1 made is.1);
 }
-
--- ---- whole texts
-
-pub size_said : (outputs : ℕ) (bytes rest : List ℕ) (given : Option (Option (ℕ × ℕ))) (size : Option (ℕ × ℕ)) → rest ≡ [] → given ≡ Some size → Takes cut_line_at (IsSizeInRange outputs) IsSame bytes rest given → IsCutTextOf outputs bytes size
-size_said outputs bytes rest given size e f h =
-    let s = said reads_cut_line tt (IsSizeInRange outputs) IsSame bytes rest given size e f h in
-    subst (IsCutTextOf outputs bytes) s.3 (s.1, s.2)
-
-pub size_over : (outputs : ℕ) (bytes rest : List ℕ) (given : Option (Option (ℕ × ℕ))) → rest ≢ [] → Takes cut_line_at (IsSizeInRange outputs) IsSame bytes rest given → (c : Option (ℕ × ℕ)) → IsCutLine bytes c → ⊥
-size_over outputs bytes rest given some h = left_over reads_cut_line tt (IsSizeInRange outputs) IsSame bytes rest given some h
-
-pub size_out : (outputs : ℕ) (bytes rest : List ℕ) (given : Option (Option (ℕ × ℕ))) → rest ≡ [] → given ≡ None → Takes cut_line_at (IsSizeInRange outputs) IsSame bytes rest given → (c : Option (ℕ × ℕ)) × IsCutLine bytes c × ¬ (IsSizeInRange outputs c)
-size_out outputs bytes rest given e f h = out_of_range reads_cut_line tt (IsSizeInRange outputs) IsSame bytes rest given e f h
-
-pub size_misfit : (outputs : ℕ) (bytes : List ℕ) (f : LineFail) → IsMisfit (cut_line_at bytes ≡ None) f → SaysNothing IsCutLine (IsSizeInRange outputs) bytes f
-size_misfit outputs bytes f h = misfit_refused {T = Option (ℕ × ℕ)} reads_cut_line tt (IsSizeInRange outputs) IsSame bytes f h
-
-pub pair_said : (x : Extended) (bytes rest : List ℕ) (given : Option (Lit × Lit)) (p : Lit × Lit) → rest ≡ [] → given ≡ Some p → Takes pair_line_at (IsPairOf x) IsSame bytes rest given → IsPairTextOf x bytes p
-pair_said x bytes rest given p e f h =
-    let s = said reads_pair_line tt (IsPairOf x) IsSame bytes rest given p e f h in
-    subst (IsPairTextOf x bytes) s.3 (s.1, s.2)
-
-pub pair_over : (x : Extended) (bytes rest : List ℕ) (given : Option (Lit × Lit)) → rest ≢ [] → Takes pair_line_at (IsPairOf x) IsSame bytes rest given → (p : Lit × Lit) → IsPairLine bytes p → ⊥
-pair_over x bytes rest given some h = left_over reads_pair_line tt (IsPairOf x) IsSame bytes rest given some h
-
-pub pair_out : (x : Extended) (bytes rest : List ℕ) (given : Option (Lit × Lit)) → rest ≡ [] → given ≡ None → Takes pair_line_at (IsPairOf x) IsSame bytes rest given → (p : Lit × Lit) × IsPairLine bytes p × ¬ (IsPairOf x p)
-pair_out x bytes rest given e f h = out_of_range reads_pair_line tt (IsPairOf x) IsSame bytes rest given e f h
-
-pub pair_misfit : (x : Extended) (bytes : List ℕ) (f : LineFail) → IsMisfit (pair_line_at bytes ≡ None) f → SaysNothing IsPairLine (IsPairOf x) bytes f
-pair_misfit x bytes f h = misfit_refused {T = Lit × Lit} reads_pair_line tt (IsPairOf x) IsSame bytes f h

@@ -1,5 +1,5 @@
 -- Literals, clauses and lines that are read.
-use Rattle.std.specs.Prelude.{◌≡◌, ◌≢◌, ◌==◌, ℕ, zero, suc, Bool, true, false, cond, List, [], ◌∷◌, ◌++◌, codes, ℤ, pos}
+use Rattle.std.specs.Prelude.{◌≡◌, ◌==◌, ℕ, zero, suc, Bool, true, false, cond, List, [], ◌∷◌, ◌++◌, codes, ℤ, pos}
 use Rattle.std.specs.Global.{Global}
 use Rattle.std.specs.List.{All}
 use Rattle.std.specs.declared.option.Option.{Option}
@@ -13,15 +13,11 @@ use Rattle.clause_core.specs.Clause.{Clause, IsClauseInRange, SameSet}
 use Rattle.clause_core.specs.ClauseLines.{ClauseLine}
 use Rattle.clause_core.specs.declared.line.Line.TheVariants.{Add, Delete}
 use Rattle.mv_text.proofs.CallerLemmas.{Gathers, gathers_more, gathers_none}
-use Rattle.mv_text.specs.declared.line_fail.LineFail.{LineFail}
-use Rattle.mv_text.specs.Steps.{Gives, IsMisfit, IsVariable, Pushes, Takes, begins}
+use Rattle.mv_text.specs.Steps.{Gives, IsVariable, Pushes, Takes, begins}
 use Rattle.drup_text.specs.ClauseReading.{clause_line_at, clause_literals_at, clause_read_at, is_no_zero, literal_at, minus_number, nonzero_at}
-use Rattle.drup_text.specs.ClauseTexts.{IsClauseLine}
-use Rattle.mv_text.specs.CertificateFiles.{SaysNothing}
-use Rattle.drup_text.specs.LineTexts.{IsClauseLineInRange, IsClauseTextOf, IsSameClauseLine}
+use Rattle.drup_text.specs.LineTexts.{IsClauseLineInRange, IsSameClauseLine}
 use Rattle.drup_text.specs.Steps.{HasItems, IsLiteralInRange}
-use Rattle.drup_text.proofs.ClauseReading.{literals_next, reads_clause_line}
-use Rattle.drup_text.proofs.WholeTexts.{left_over, misfit_refused, out_of_range, said}
+use Rattle.drup_text.proofs.ClauseReading.{literals_next}
 
 -- ---- one of two readers
 
@@ -153,17 +149,3 @@ fails_front f text item old e = ap (λ o. o >>= λ y. Some (f y.0, y.1)) (ap (λ
 
 pub fails_map : {A B : Type 0} (f : A → B) (item : Reader A) (old : List ℕ) → item old ≡ None → map_at f item old ≡ None
 fails_map f item old h = ap (λ o. o >>= λ y. Some (f y.0, y.1)) h
-
--- ---- whole lines
-
-pub line_said : (max : ℕ) (bytes rest : List ℕ) (given : Option ClauseLine) (line : ClauseLine) → rest ≡ [] → given ≡ Some line → Takes clause_line_at (IsClauseLineInRange max) IsSameClauseLine bytes rest given → IsClauseTextOf max bytes line
-line_said max bytes rest given line e f h = said reads_clause_line tt (IsClauseLineInRange max) IsSameClauseLine bytes rest given line e f h
-
-pub line_over : (max : ℕ) (bytes rest : List ℕ) (given : Option ClauseLine) → rest ≢ [] → Takes clause_line_at (IsClauseLineInRange max) IsSameClauseLine bytes rest given → (x : ClauseLine) → IsClauseLine bytes x → ⊥
-line_over max bytes rest given some h = left_over reads_clause_line tt (IsClauseLineInRange max) IsSameClauseLine bytes rest given some h
-
-pub line_out : (max : ℕ) (bytes rest : List ℕ) (given : Option ClauseLine) → rest ≡ [] → given ≡ None → Takes clause_line_at (IsClauseLineInRange max) IsSameClauseLine bytes rest given → (x : ClauseLine) × IsClauseLine bytes x × ¬ (IsClauseLineInRange max x)
-line_out max bytes rest given e f h = out_of_range reads_clause_line tt (IsClauseLineInRange max) IsSameClauseLine bytes rest given e f h
-
-pub line_misfit : (max : ℕ) (bytes : List ℕ) (f : LineFail) → IsMisfit (clause_line_at bytes ≡ None) f → SaysNothing IsClauseLine (IsClauseLineInRange max) bytes f
-line_misfit max bytes f h = misfit_refused {T = ClauseLine} reads_clause_line tt (IsClauseLineInRange max) IsSameClauseLine bytes f h

@@ -7,8 +7,8 @@ use Rattle.std.proofs.lemmas.Option.{same_Some}
 use Rattle.graph_core.specs.declared.literal.Lit.{Lit}
 use Rattle.graph_core.specs.Text.{newline}
 use Rattle.graph_core.specs.Text.JudgedLines.{BeginsWith}
-use Rattle.graph_core.specs.Text.Readers.{Anything, Ended, IsReaderOf, Reader, ended_at}
-use Rattle.graph_core.proofs.OfTexts.CallerLemmas.{one_line}
+use Rattle.graph_core.proofs.OfTexts.CallerLemmas.{Anything, IsReaderOf, Ended, one_line}
+use Rattle.graph_core.specs.Text.Readers.{Reader, ended_at}
 use Rattle.ripple_graft.specs.declared.block.Block.{Block}
 use Rattle.ripple_graft.specs.declared.cut.Cut.{Cut}
 use Rattle.ripple_graft.specs.HeaderBlocks.{cut_blocks}

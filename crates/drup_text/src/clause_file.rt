@@ -89,14 +89,13 @@ impl ClauseFile {
         }
     }
 
-    /// Reads the first line of the certificate of two graphs, which names no variable, so that `_max` has no use.
+    /// Reads the first line of the certificate of two graphs.
     ///
     /// `Text` comes where another line stands there, or none with its line feed. `TooLong` comes where the line is too long
     /// or holds the first byte past the limit of the file.
     pub fn start_same<D: Desk>(
         alloc: Global,
         desk: &mut D,
-        _max: u32,
         limits: &Limits,
     ) -> Result<ClauseFile, StartFail>
         requires { (D.seen desk.old).reads Clauses ≡ true }

@@ -21,13 +21,7 @@ pub(crate) fn read_size(bytes: &[u8], outputs: u32) -> Result<Option<(u32, u32)>
 {
     let mut scanner = Scanner::new(bytes);
     let size = size(&mut scanner, outputs)?;
-    if !scanner.is_empty() {
-        return Err(LineFail::Text);
-    }
-    match size {
-        Some(size) => Ok(size),
-        None => Err(LineFail::Range),
-    }
+    scanner.all(size)
 }
 
 // The two literals of a position. `Range` comes exactly where the graph with the blocks so far doesn't have both.
@@ -37,13 +31,7 @@ pub(crate) fn read_pair(bytes: &[u8], extended: &Extended<'_>) -> Result<(Lit, L
 {
     let mut scanner = Scanner::new(bytes);
     let pair = pair(&mut scanner, extended)?;
-    if !scanner.is_empty() {
-        return Err(LineFail::Text);
-    }
-    match pair {
-        Some(pair) => Ok(pair),
-        None => Err(LineFail::Range),
-    }
+    scanner.all(pair)
 }
 
 // The number of blocks. `Range` comes exactly where there are more of them than columns.
@@ -53,13 +41,7 @@ pub(crate) fn read_count(bytes: &[u8], outputs: u32) -> Result<u32, LineFail>
 {
     let mut scanner = Scanner::new(bytes);
     let count = count(&mut scanner, outputs)?;
-    if !scanner.is_empty() {
-        return Err(LineFail::Text);
-    }
-    match count {
-        Some(count) => Ok(count),
-        None => Err(LineFail::Range),
-    }
+    scanner.all(count)
 }
 
 // The first column of a block, the number of its pairs, and whether its last carry replaces a column too. `Range` comes exactly
@@ -70,13 +52,7 @@ pub(crate) fn read_head(bytes: &[u8], extended: &Extended<'_>) -> Result<(u32, u
 {
     let mut scanner = Scanner::new(bytes);
     let head = head(&mut scanner, extended)?;
-    if !scanner.is_empty() {
-        return Err(LineFail::Text);
-    }
-    match head {
-        Some(head) => Ok(head),
-        None => Err(LineFail::Range),
-    }
+    scanner.all(head)
 }
 
 fn size(scanner: &mut Scanner<'_>, outputs: u32) -> Result<Option<Option<(u32, u32)>>, LineFail>

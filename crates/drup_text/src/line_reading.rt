@@ -22,13 +22,7 @@ pub(crate) fn read_line(alloc: Global, bytes: &[u8], max: u32) -> Result<Line, L
 {
     let mut scanner = Scanner::new(bytes);
     let line = any_line(alloc, &mut scanner, max)?;
-    if !scanner.is_empty() {
-        return Err(LineFail::Text);
-    }
-    match line {
-        Some(line) => Ok(line),
-        None => Err(LineFail::Range),
-    }
+    scanner.all(line)
 }
 
 // A line that deletes a clause, or one that adds one.

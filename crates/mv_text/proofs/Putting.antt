@@ -1,11 +1,11 @@
 -- Texts put one behind the other.
-use Rattle.std.specs.Prelude.{◌≡◌, ℕ, List, [], ◌++◌, Result, Ok, Err, OnOk, OnErr}
+use Rattle.std.specs.Prelude.{◌≡◌, ℕ, List, [], ◌++◌, Result, Ok, Err, OnOk}
 use Rattle.std.proofs.Common.{refl, sym, ap, subst, ◌∙◌, append_assoc, append-nil}
 use Rattle.mv_desk.specs.View.{View, KeepsTelling}
 use Rattle.mv_desk.specs.Calls.{HasWriteCause, Writes, WritesPart, WritesTo}
 use Rattle.mv_desk.specs.declared.faults.WriteFault.{WriteFault}
 use Rattle.mv_desk.specs.declared.slot.Slot.{Slot}
-use Rattle.mv_desk.proofs.CallerLemmas.{HasWriteCause-none, HasWriteCause-then, KeepsTelling-refl, KeepsTelling-trans, WritesPart-behind, WritesPart-longer, WritesTo-nil, WritesTo-trans}
+use Rattle.mv_desk.proofs.CallerLemmas.{HasWriteCause-none, HasWriteCause-then, KeepsTelling-refl, KeepsTelling-trans, WritesPart-behind, WritesTo-nil, WritesTo-trans}
 use Rattle.mv_text.specs.Puts.{Pending, IsInPart, HasPut, Puts, Flushes}
 
 -- ---- what is put is written
@@ -13,16 +13,6 @@ use Rattle.mv_text.specs.Puts.{Pending, IsInPart, HasPut, Puts, Flushes}
 -- no write failed
 abbrev none_failed : Result (Unit {0}) WriteFault
 none_failed = Ok tt
-
--- a write failed before
-pub failed_flushes : (old : Pending) (fault : WriteFault) (v : View) → old.result ≡ Err fault → Flushes old (Err fault) v v
-failed_flushes old fault v e = record {
-  flushes = λ done start h. subst (λ r. Writes old.slot done start v r) e (go done start old.result h.part h.cause h.tells (λ x is. absurd (cc (is, e))));
-}
-  where
-    go : (done : List ℕ) (start : View) (r : Result (Unit {0}) WriteFault) → OnErr r (WritesPart old.slot done start v) → HasWriteCause start v r → KeepsTelling start v → ((x : Unit {0}) → r ≡ Ok x → ⊥) → Writes old.slot done start v r
-    go done start (Ok x) part cause tells other = absurd (other x refl)
-    go done start (Err f) part cause tells other = record { whole = tt; part = part; cause = cause; tells = tells }
 
 -- what waits is written
 pub wrote_flushes : (old : Pending) (r : Result (Unit {0}) WriteFault) (u v : View) → old.result ≡ none_failed → Writes old.slot old.waits u v r → Flushes old r u v
@@ -43,50 +33,6 @@ wrote_flushes old r u v e wrote = record { flushes = λ done start h. go done st
     }
 
 -- ---- steps
-
--- nothing waits after a flush
-pub flushed_puts : (old new : Pending) (u v : View) → Flushes old new.result u v → new.slot ≡ old.slot → new.waits ≡ [] → Puts [] old new u v
-flushed_puts old new u v f same none = record { slot = same; puts = λ done start h. go done start new.result refl (f.flushes done start h) }
-  where
-    go : (done : List ℕ) (start : View) (r : Result (Unit {0}) WriteFault) → new.result ≡ r → Writes old.slot done start v new.result → HasPut (done ++ []) new start v
-    go done start (Ok x) is w = record {
-      whole = rw is (record {
-        part = done;
-        all = ap (λ l. done ++ l) (sym none);
-        writes = rw same (rw is at w.whole);
-      });
-      part = rw is tt;
-      cause = w.cause;
-      tells = w.tells;
-    }
-    go done start (Err e) is w = record {
-      whole = rw is tt;
-      part = rw (is, append-nil done, same) (rw is at w.part);
-      cause = w.cause;
-      tells = w.tells;
-    }
-
--- a piece waits behind the others
-pub appended_puts : (piece : List ℕ) (old new : Pending) (v : View) → new.slot ≡ old.slot → new.waits ≡ old.waits ++ piece → new.result ≡ old.result → Puts piece old new v v
-appended_puts piece old new v same waits result = record { slot = same; puts = λ done start h. go done start old.result refl h }
-  where
-    go : (done : List ℕ) (start : View) (r : Result (Unit {0}) WriteFault) → old.result ≡ r → HasPut done old start v → HasPut (done ++ piece) new start v
-    go done start (Ok x) is h =
-        let before : IsInPart old.slot done old.waits start v = rw is at h.whole in
-        record {
-          whole = rw (result, is) (record { part = before.part; all = ap (λ l. l ++ piece) before.all ∙ append_assoc before.part old.waits piece ∙ ap (λ l. before.part ++ l) (sym waits); writes = rw same before.writes });
-          part = rw (result, is) tt;
-          cause = rw result h.cause;
-          tells = h.tells;
-        }
-    go done start (Err e) is h =
-        let before : WritesPart old.slot done start v = rw is at h.part in
-        record {
-          whole = rw (result, is) tt;
-          part = rw (result, is, same) (WritesPart-longer old.slot done piece start v before);
-          cause = rw result h.cause;
-          tells = h.tells;
-        }
 
 pub Puts-nil : (a : Pending) (v : View) → Puts [] a a v v
 Puts-nil a v = record { slot = refl; puts = λ done start h. rw (append-nil done) h }

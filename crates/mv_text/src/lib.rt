@@ -3,8 +3,9 @@
 //! `LineReader` gives the lines of a file from a slot, and meets the lengths of lines and of the file at their
 //! places. `CertificateFile` counts them, and gives its end or its first failure again at each later call. `judge_lines`
 //! has them judged one after the other, up to the first answer. `Scanner` takes texts and numbers from the front of a
-//! line, as the readers of the definitions do. `Output` writes a text put piece by piece: the file grows by exactly the
-//! text, or by a front part where a write failed. Nothing here takes memory but a line and the list that `push` fills.
+//! line, as the readers of the definitions do, and its `all` answers what was found where nothing is left. `Output` writes
+//! a text put piece by piece: the file grows by exactly the text, or by a front part where a write failed. Nothing here
+//! takes memory but a line and the list that `push` fills.
 //!
 //! Less than a piece of 4,096 bytes is read past a line that `LineReader` gives. After a write that failed `Output`
 //! writes nothing more, and tells that first fault at the end.

@@ -1,5 +1,5 @@
 // What is taken from the front of a line.
-ghost use Rattle.std.specs.Prelude.{◌≡◌, ◌<◌, ◌≤◌, ◌^◌, ◌↔◌, ◌==◌, [], IsTrue, IfOk, OnOk, IfErr, Some, None, length, take, drop};
+ghost use Rattle.std.specs.Prelude.{◌≡◌, ◌≢◌, ◌<◌, ◌≤◌, ◌^◌, ◌↔◌, ◌==◌, [], IsTrue, IfOk, OnOk, IfErr, Some, None, Err, length, ok_or, take, drop};
 ghost use Rattle.graph_core.specs.Text.Numerals.{number_at, behind_byte, front_at, digits_of, behind_digits, is_digit};
 ghost use Rattle.mv_text.specs.Steps.{IsDigitsOf, IsMisfit, TakesNumber, first_byte, begins};
 
@@ -78,6 +78,19 @@ impl<'a> Scanner<'a> {
         match read_decimal(digits) {
             Ok(number) => Ok(Some(number)),
             Err(_) => Ok(None),
+        }
+    }
+
+    /// What was found in a text, where all of it was taken: `Text` comes where a byte is left, and else `Range` where nothing
+    /// was found.
+    pub fn all<T: Drop>(self, found: Option<T>) -> Result<T, LineFail>
+        ensures all { self.entry ≡ [] → result ≡ ok_or found LineFail.Range }
+        ensures left { self.entry ≢ [] → result ≡ Err LineFail.Text }
+    {
+        if self.is_empty() {
+            found.ok_or(LineFail::Range)
+        } else {
+            Err(LineFail::Text)
         }
     }
 

@@ -5,10 +5,10 @@ use Rattle.std.specs.Prelude.{◌≡◌, ℕ, List}
 use Rattle.std.specs.declared.option.Option.TheVariants.{Some}
 use Rattle.std.proofs.Common.{refl, inl, inr}
 use Rattle.graph_core.specs.Graph.Operands.{Sides}
-use Rattle.graph_core.specs.Algebra.{Line, Ledger}
-use Rattle.graph_core.specs.Algebra.Text.{IsLineText, IsCloseText, IsLineInRange, IsId}
-use Rattle.graph_core.specs.Algebra.Refusal.{IsRefusedNext, IsRefusedText}
-use Rattle.graph_core.specs.Algebra.Refusal as cause
+use Rattle.algebra_core.specs.AlgebraLines.{Line, Ledger}
+use Rattle.algebra_core.specs.Text.{IsLineText, IsCloseText, IsLineInRange, IsId}
+use Rattle.algebra_core.specs.Refusal.{IsRefusedNext, IsRefusedText}
+use Rattle.algebra_core.specs.Refusal as cause
 use Rattle.graph_core.specs.Graph.Extended.{Extended}
 use Rattle.graph_core.specs.Text.JudgedLines.{BeginsWith}
 use Rattle.poly_terms.specs.Tables.{Table}

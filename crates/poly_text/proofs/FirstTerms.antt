@@ -8,7 +8,7 @@ use Rattle.std.specs.Result.{IfOk, IfErr}
 use Rattle.std.proofs.Common.{refl, ◌∙◌}
 use Rattle.graph_core.specs.Text.Numerals.{front_at}
 use Rattle.graph_core.specs.Text.Readers.{Reader, behind_at}
-use Rattle.graph_core.specs.Algebra.Reading.{first_term_at, is_minus, term_at}
+use Rattle.algebra_core.specs.Reading.{first_term_at, is_minus, term_at}
 use Rattle.mv_text.specs.declared.line_fail.LineFail.{LineFail}
 use Rattle.mv_text.specs.Steps.{begins, IsMisfit, Takes}
 use Rattle.mv_text.proofs.CallerLemmas.{misfit_from}

@@ -10,13 +10,13 @@ use Rattle.std.proofs.lemmas.Option.{same_Some}
 use Rattle.mv_nums.specs.Residue.{IsWidth}
 use Rattle.graph_core.specs.Graph.Assignments.{Assignment, bit, variable}
 use Rattle.graph_core.specs.Graph.Extended.{Extended}
-use Rattle.graph_core.specs.Algebra.{Line, Part, Sum, Product, Combination, Import, Delete}
-use Rattle.graph_core.specs.Algebra as algebra
-use Rattle.graph_core.specs.Algebra.Likeness.{AreAlike, ArePartsAlike, HaveSameValue}
-use Rattle.graph_core.specs.Algebra.NormalForm.{AreRising, IsNormalForm, IsNormalTerm}
-use Rattle.graph_core.specs.Algebra.Polynomials.{Polynomial, Term, difference, product, sum_of, term_value, value}
-use Rattle.graph_core.specs.Algebra.Text.{IsId, IsInRange, IsLineInRange}
-use Rattle.graph_core.proofs.OfAlgebra.CallerLemmas.{Once, normal_form, once_from_pairs, plain_value, size_is_one}
+use Rattle.algebra_core.specs.AlgebraLines.{Line, Part, Sum, Product, Combination, Import, Delete}
+use Rattle.graph_core.specs.Graph.Extended as graphs
+use Rattle.algebra_core.specs.Likeness.{AreAlike, ArePartsAlike, HaveSameValue}
+use Rattle.algebra_core.specs.NormalForm.{AreRising, IsNormalForm, IsNormalTerm}
+use Rattle.algebra_core.specs.Polynomials.{Polynomial, Term, difference, product, sum_of, term_value, value}
+use Rattle.algebra_core.specs.Text.{IsId, IsInRange, IsLineInRange}
+use Rattle.algebra_core.proofs.CallerLemmas.{Once, normal_form, once_from_pairs, plain_value, size_is_one}
 use Rattle.poly_terms.specs.Tables.{Table, IsOf, modulus_in}
 use Rattle.poly_terms.specs.Tables as table
 use Rattle.poly_terms.proofs.Values.{normal}
@@ -224,5 +224,5 @@ close_read_again t version max bytes id h = h.1
 pub width_fits : (t : Table) → IsWidth t.exponent → modulus_in t ≤ 2 ^ 128
 width_fits t width = pow-le-pow_right (omega arith) width.1
 
-pub outputs_fit : (t : Table) (e : Extended) → modulus_in t ≡ algebra.modulus e → length e.graph.outputs ≤ 128 → modulus_in t ≤ 2 ^ 128
+pub outputs_fit : (t : Table) (e : Extended) → modulus_in t ≡ graphs.modulus e → length e.graph.outputs ≤ 128 → modulus_in t ≤ 2 ^ 128
 outputs_fit t e is few = subst (λ m. m ≤ 2 ^ 128) (sym is) (pow-le-pow_right (omega arith) few)

@@ -2,8 +2,8 @@
 -- aren't recorded.
 use Rattle.std.specs.Prelude.{◌≡◌, ◌<◌, ℕ, List, [], ◌∷◌, length, map, slice_index}
 use Rattle.std.specs.List.{All, filter_map}
-use Rattle.graph_core.specs.Algebra.{Line}
-use Rattle.graph_core.specs.Algebra.Likeness.{AreAlike}
+use Rattle.algebra_core.specs.AlgebraLines.{Line}
+use Rattle.algebra_core.specs.Likeness.{AreAlike}
 use Rattle.poly_terms.specs.Tables.{Table}
 use Rattle.poly_text.specs.Lines.{line_in}
 use Rattle.poly_text.specs.declared.line.PacLine.{PacLine}

@@ -1,6 +1,6 @@
 // The first line of a certificate.
 ghost use Rattle.std.specs.Prelude.{◌≡◌, ◌≤◌, true, length};
-ghost use Rattle.graph_core.specs.Algebra.Text.{algebra_header, first_line};
+ghost use Rattle.algebra_core.specs.Text.{algebra_header, first_line};
 ghost use Rattle.mv_desk.specs.Calls.{Writes};
 ghost use Rattle.mv_desk.specs.declared.slot.Slot.TheVariants.{Algebra};
 

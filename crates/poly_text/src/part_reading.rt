@@ -2,8 +2,8 @@
 ghost use Rattle.std.specs.Prelude.{◌≡◌, ◌^◌, None, IfOk, IfErr, codes};
 ghost use Rattle.graph_core.specs.Text.Numerals.{number_at};
 ghost use Rattle.graph_core.specs.Text.Readers.{many_at, behind_at, ended_at};
-ghost use Rattle.graph_core.specs.Algebra.Reading.{is_space, part_at, parts_at, poly_at};
-ghost use Rattle.graph_core.specs.Algebra.Text.{IsId};
+ghost use Rattle.algebra_core.specs.Reading.{is_space, part_at, parts_at, poly_at};
+ghost use Rattle.algebra_core.specs.Text.{IsId};
 ghost use Rattle.poly_terms.specs.Tables.{Extends, modulus_in};
 ghost use Rattle.mv_text.specs.Steps.{IsMisfit, TakesNumber};
 ghost use Rattle.poly_text.specs.Values.{TakesAllParts, TakesPart, TakesParts, TakesPoly};

@@ -1,8 +1,8 @@
 // Polynomials, as they are read.
 ghost use Rattle.std.specs.Prelude.{◌≡◌, ◌^◌, None, IfOk, IfErr};
 ghost use Rattle.graph_core.specs.Text.Readers.{many_at};
-ghost use Rattle.graph_core.specs.Algebra.Reading.{is_sign, first_term_at, signed_term_at, poly_at};
-ghost use Rattle.graph_core.specs.Algebra.Text.{IsInRange};
+ghost use Rattle.algebra_core.specs.Reading.{is_sign, first_term_at, signed_term_at, poly_at};
+ghost use Rattle.algebra_core.specs.Text.{IsInRange};
 ghost use Rattle.poly_terms.specs.Tables.{Extends, modulus_in};
 ghost use Rattle.mv_text.specs.Steps.{IsMisfit, Takes, begins};
 ghost use Rattle.poly_text.specs.Values.{AreTermsOf, TakesPoly, TakesTerm, TakesTerms};

@@ -2,7 +2,7 @@
 ghost use Rattle.std.specs.Prelude.{◌≡◌, ◌+◌, ◌%◌, ◌^◌, true, false, None, IfOk, IfErr, OnOk};
 ghost use Rattle.graph_core.specs.Text.Numerals.{number_at};
 ghost use Rattle.graph_core.specs.Text.Readers.{behind_at};
-ghost use Rattle.graph_core.specs.Algebra.Reading.{factors_at, coefficient_at, product_at, term_at};
+ghost use Rattle.algebra_core.specs.Reading.{factors_at, coefficient_at, product_at, term_at};
 ghost use Rattle.mv_text.specs.Steps.{IsMisfit, IsVariable, TakesNumber};
 ghost use Rattle.poly_text.specs.Values.{IsTimes, Signs, TakesFactors, TakesTerm};
 

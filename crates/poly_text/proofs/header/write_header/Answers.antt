@@ -1,6 +1,6 @@
 use Rattle.std.proofs.Math.Nat.{le_trans}
 use Rattle.std.proofs.Common.{lit≤}
-use Rattle.graph_core.specs.Algebra.Text.{algebra_header}
+use Rattle.algebra_core.specs.Text.{algebra_header}
 use Rattle.mv_desk.specs.declared.slot.Slot.TheVariants.{Algebra}
 use Rattle.mv_text.proofs.CallerLemmas.{Puts-is, Puts-then, written_from}
 use Rattle.poly_text.proofs.header.write_header.Goals as goal

@@ -1,5 +1,5 @@
 use Rattle.std.proofs.Common.{◌<◌, ◌^◌}
-use Rattle.graph_core.specs.Algebra.Text.{IsId}
+use Rattle.algebra_core.specs.Text.{IsId}
 use Rattle.graph_core.specs.Text.Numerals.{number_at}
 use Rattle.poly_text.proofs.Misfits.{misfit_passed, no_value}
 use Rattle.poly_text.proofs.NumberSteps.{id_is_small, not_below_it, not_positive, number_kept, number_left, number_lost}

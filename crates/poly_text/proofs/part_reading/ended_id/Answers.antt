@@ -1,5 +1,5 @@
 use Rattle.std.proofs.Common.{◌≡◌}
-use Rattle.graph_core.specs.Algebra.Text.{IsId}
+use Rattle.algebra_core.specs.Text.{IsId}
 use Rattle.graph_core.specs.Text.Numerals.{number_at}
 use Rattle.poly_text.proofs.Misfits.{ended_taken, misfit_passed, no_end, no_item, no_value}
 use Rattle.poly_text.proofs.part_reading.ended_id.Goals as goal

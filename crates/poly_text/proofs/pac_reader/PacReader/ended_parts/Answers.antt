@@ -1,6 +1,6 @@
 use Rattle.std.proofs.Common.{codes}
 use Rattle.std.specs.List.{All}
-use Rattle.graph_core.specs.Algebra.Reading.{parts_at}
+use Rattle.algebra_core.specs.Reading.{parts_at}
 use Rattle.poly_text.specs.Values.{AreAllParts, IsPartInRange}
 use Rattle.poly_text.proofs.Misfits.{ended_taken, misfit_passed, no_end, no_item, no_value}
 use Rattle.poly_text.proofs.pac_reader.PacReader.ended_parts.Goals as goal

@@ -1,5 +1,5 @@
-use Rattle.graph_core.specs.Algebra.Reading.{poly_at}
-use Rattle.graph_core.specs.Algebra.Text.{IsInRange}
+use Rattle.algebra_core.specs.Reading.{poly_at}
+use Rattle.algebra_core.specs.Text.{IsInRange}
 use Rattle.poly_text.specs.Values.{IsPolyOf}
 use Rattle.poly_text.proofs.Misfits.{ended_taken, misfit_passed, no_end, no_item, no_value}
 use Rattle.poly_text.proofs.pac_reader.PacReader.ended_poly.Goals as goal

@@ -1,7 +1,7 @@
 use Rattle.std.proofs.Common.{◌≡◌, ◌∙◌, None, rules, codes, sym}
 use Rattle.graph_core.specs.Text.Numerals.{number_at}
 use Rattle.graph_core.specs.Text.Readers.{behind_at}
-use Rattle.graph_core.specs.Algebra.Reading.{is_star, factors_at}
+use Rattle.algebra_core.specs.Reading.{is_star, factors_at}
 use Rattle.mv_text.specs.Steps.{IsMisfit}
 use Rattle.mv_text.proofs.CallerLemmas.{gathers_all, gathers_misfit, many_stops, misfit_from}
 use Rattle.poly_text.proofs.TermSteps.{factors_begin, factors_more, factors_turn, factor_fewer}

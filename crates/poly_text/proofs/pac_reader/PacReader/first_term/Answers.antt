@@ -1,5 +1,5 @@
 use Rattle.std.proofs.Common.{◌≡◌, ◌^◌, ◌∙◌, ap₂, sym}
-use Rattle.graph_core.specs.Algebra.Reading.{first_term_at, term_at}
+use Rattle.algebra_core.specs.Reading.{first_term_at, term_at}
 use Rattle.poly_text.specs.Values.{IsTermInRange, IsTermOf}
 use Rattle.poly_text.proofs.FirstTerms.{err_further, negative_there, no_minus_there, ok_further, positive_there}
 use Rattle.poly_text.proofs.Misfits.{misfit_passed, no_value}

@@ -1,18 +1,16 @@
-use Rattle.graph_core.specs.Algebra.Text.{IsLineInRange}
-use Rattle.graph_core.specs.Algebra.Reading.{import_at, second_at}
-use Rattle.poly_text.specs.LineTexts.{IsLineOf}
-use Rattle.poly_text.proofs.LineSteps.{ok_there, err_there, import_in_second, none_in_first}
+use Rattle.algebra_core.specs.Reading.{import_at}
+use Rattle.poly_terms.specs.Laws.{extends_itself}
+use Rattle.poly_text.proofs.FormSteps.{form_there}
+use Rattle.poly_text.proofs.LineSteps.{import_in_second, none_in_first}
 use Rattle.poly_text.proofs.pac_reader.PacReader.import.Goals as goal
 
-pub returns-then-self-ne2-clause-err : goal.returns-then-self-ne2-clause-err
-returns-then-self-ne2-clause-err c n = none_in_first c.args.self.now.version n c.args.scanner.now c.if-self-ne2.true
+pub returns-then-self-ne2 : goal.returns-then-self-ne2
+returns-then-self-ne2 c = record {
+  ok = λ n g. tt;
+  err = λ n. none_in_first c.args.self.now.version n c.args.scanner.now c.if-self-ne2.true;
+  extends = extends_itself c.args.terms.now;
+}
 
-pub returns-clause-ok : goal.returns-clause-ok
-returns-clause-ok c n g =
-    ok_there (second_at c.args.self.now.version (import_at n)) (import_at n) (IsLineInRange c.args.self.now.max) (IsLineOf c.numbered_import.new.terms) c.args.scanner.now c.numbered_import.new.scanner c.numbered_import.result
-    (import_in_second c.args.self.now.version n c.args.scanner.now c.if-self-ne2.false) (c.numbered_import.ensures.ok n g)
-
-pub returns-clause-err : goal.returns-clause-err
-returns-clause-err c n =
-    err_there (second_at c.args.self.now.version (import_at n)) (import_at n) c.args.scanner.now c.numbered_import.result
-    (import_in_second c.args.self.now.version n c.args.scanner.now c.if-self-ne2.false) (c.numbered_import.ensures.err n)
+pub returns : goal.returns
+returns c =
+    form_there import_at c.numbered_import.result (λ n. import_in_second c.args.self.now.version n c.args.scanner.now c.if-self-ne2.false) c.numbered_import.ensures

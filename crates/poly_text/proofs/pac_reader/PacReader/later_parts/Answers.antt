@@ -1,6 +1,6 @@
 use Rattle.std.proofs.Common.{◌∙◌, codes, sym}
 use Rattle.graph_core.specs.Text.Readers.{behind_at}
-use Rattle.graph_core.specs.Algebra.Reading.{is_space, part_at}
+use Rattle.algebra_core.specs.Reading.{is_space, part_at}
 use Rattle.poly_terms.specs.Laws.{extends_itself, extends_on, modulus_stays}
 use Rattle.mv_text.proofs.CallerLemmas.{gathers_all, gathers_misfit, many_stops}
 use Rattle.poly_text.proofs.Misfits.{misfit_passed, no_value}

@@ -1,6 +1,6 @@
 use Rattle.std.proofs.Common.{◌≡◌, ◌∙◌, None, rules, sym, ◌^◌}
 use Rattle.graph_core.specs.Text.Readers.{many_at}
-use Rattle.graph_core.specs.Algebra.Reading.{is_sign, signed_term_at}
+use Rattle.algebra_core.specs.Reading.{is_sign, signed_term_at}
 use Rattle.mv_text.specs.Steps.{IsMisfit}
 use Rattle.poly_text.proofs.Lengths.{signed_term_fewer}
 use Rattle.mv_text.proofs.CallerLemmas.{gathers_all, gathers_misfit, many_stops, misfit_from}

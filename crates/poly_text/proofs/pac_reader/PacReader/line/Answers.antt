@@ -1,5 +1,5 @@
 use Rattle.std.proofs.Common.{◌≡◌, None, rules}
-use Rattle.graph_core.specs.Algebra.Reading.{algebra_line_at}
+use Rattle.algebra_core.specs.Reading.{algebra_line_at}
 use Rattle.mv_text.specs.Steps.{IsMisfit}
 use Rattle.mv_text.proofs.CallerLemmas.{misfit_from}
 use Rattle.poly_text.proofs.LineSteps.{line_taken, no_id, no_line_behind}

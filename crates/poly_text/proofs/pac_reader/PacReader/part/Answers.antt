@@ -1,5 +1,5 @@
 use Rattle.std.proofs.Common.{sym, subst}
-use Rattle.graph_core.specs.Algebra.Reading.{part_at}
+use Rattle.algebra_core.specs.Reading.{part_at}
 use Rattle.mv_text.specs.Steps.{Takes}
 use Rattle.poly_text.specs.Values.{IsPartInRange, IsPartOf}
 use Rattle.poly_text.proofs.PartSteps.{part_taken}
