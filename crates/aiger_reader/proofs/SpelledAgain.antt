@@ -8,7 +8,7 @@ use Rattle.graph_core.specs.declared.profile.Profile.TheVariants.{Multiplier, Mu
 use Rattle.graph_core.specs.Graph.Literals.{variable_of}
 use Rattle.graph_core.specs.Graph.{Aig, IsWellFormed, defined}
 use Rattle.graph_core.specs.Aiger.{HasCounts}
-use Rattle.graph_core.specs.Aiger.Soundness.{IsSizedAs}
+use Rattle.graph_core.specs.Aiger.Sizes.{IsSizedAs}
 use Rattle.graph_core.specs.Aiger.Writing.{written, written_gate}
 use Rattle.graph_core.proofs.OfGraphs.CallerLemmas.{few_numbers, input_in_range}
 use Rattle.graph_core.proofs.OfAiger.CallerLemmas.{ascii_text_spells, binary_text_spells}

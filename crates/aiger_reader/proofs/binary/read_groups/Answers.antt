@@ -1,6 +1,6 @@
 use Rattle.std.proofs.Common.{◌<◌, rules, arith}
 use Rattle.aiger_reader.proofs.GroupSteps.{group_small, weight_small}
-use Rattle.aiger_reader.proofs.binary.groups.Goals as goal
+use Rattle.aiger_reader.proofs.binary.read_groups.Goals as goal
 
 pub overflow_mul-result : goal.overflow_mul-result
 overflow_mul-result c =
