@@ -1,21 +1,21 @@
 -- The turns of judging a clause file: the first line, each next one, and where it ends.
-use Rattle.std.specs.Prelude.{◌≡◌, ℕ, ◌+◌, ◌<◌, ◌≤◌, ◌^◌, List, [], ◌∷◌, ◌++◌, length, IfSome, Err}
+use Rattle.std.specs.Prelude.{◌≡◌, ℕ, ◌+◌, ◌<◌, ◌≤◌, ◌^◌, false, List, [], ◌∷◌, ◌++◌, length, IfSome, Err}
 use Rattle.std.specs.List.{All, AllByRecursion, Any}
 use Rattle.std.specs.declared.option.Option.{Option}
 use Rattle.std.specs.declared.option.Option.TheVariants.{None, Some}
 use Rattle.std.proofs.Common.{refl, sym, ap, subst, ◌∙◌, arith, length-append}
 use Rattle.std.proofs.Math.Nat.{le_trans}
 use Rattle.std.proofs.lemmas.List.Elements.{All-from_recursion, recursion_from_All}
-use Rattle.graph_core.specs.Algebra.{AgreeOnColumns}
-use Rattle.graph_core.specs.Graph.Extended.{Column, Extended}
+use Rattle.graph_core.specs.Graph.Extended.{AgreeOnColumns, Column, Extended}
 use Rattle.graph_core.specs.declared.gate.Gate.{Gate}
 use Rattle.mv_fact.specs.Always.{Always}
-use Rattle.clause_core.specs.Clause.{IsClauseInRange}
+use Rattle.clause_core.specs.Clause.{Clause, IsClauseInRange}
 use Rattle.clause_core.specs.ClauseLines.{AreGoalsShown, ClauseLine, IsShown, clause_in}
 use Rattle.clause_core.specs.GateClauses.{gate_clauses, goals_of}
+use Rattle.clause_core.specs.Likeness.{AreSameSets}
 use Rattle.clause_core.specs.declared.line.Line.TheVariants.{Add, Delete}
 use Rattle.clause_core.proofs.CallerLemmas.{any_nil}
-use Rattle.drup_checker.specs.Checking.{Checking, IsLeastUnshown}
+use Rattle.drup_checker.specs.Checking.{Checking, IsLeastUnshown, Starts}
 use Rattle.drup_checker.specs.declared.keeps.Keeps.{Keeps}
 use Rattle.mv_text.specs.CertificateFiles.{FileState, GoesOn, left_of_file}
 use Rattle.miter_encoder.specs.ColumnGoals.{AreGoalsOf, HasGoals, IsGoalOf}
@@ -27,8 +27,8 @@ use Rattle.clause_judge.specs.declared.fail.ClauseFail.TheVariants as fail
 use Rattle.clause_judge.specs.ClauseBody.{AreClausesJudged, BeginsBody, BeginsSomewhere, HasJudgedClauses, HasPassed, IsAtHand, IsClauseReached, IsFailFrom, IsRestFail, IsSameTask, IsShownFrom, IsShownWith, JoinsFrom, KeepsClauseTask}
 use Rattle.clause_judge.specs.ClauseLines.{IsGoalFail, IsRuleFail, IsTextFail, NextLine, ReadsNext, TakesClauseLine}
 use Rattle.clause_judge.specs.declared.judging.JudgeClauses.{JudgeClauses}
-use Rattle.clause_judge.specs.Taking.{HasTakenNone}
 use Rattle.clause_judge.proofs.CheckerBegins.{none_kept, range_of}
+use Rattle.clause_judge.proofs.CheckerBegins.{begins as checker_begins}
 use Rattle.clause_judge.proofs.ClauseReached as reached
 use Rattle.clause_judge.proofs.ClauseReached.{begins}
 use Rattle.clause_judge.proofs.Joins.{goals_join_columns, lines_join_columns}
@@ -82,12 +82,13 @@ module _ (e : Extended) (start : FileState) (body : Option (List ℕ)) where
   }
 
   -- a new checker over these gates and goals, where the first line was read with the greatest variable of the gates
-  pub begins_with : (k : Checking) (gates : List Gate) (goals : List Goal) (m : ℕ) (next : Option ClauseLine) (file : FileState) (left : Option (List ℕ)) → HasTakenNone gates k → e.gates ≡ gates → k.max ≡ m → m ≡ e.max →
-      k.goals ≡ goals → AreGoalsOf e goals → file.lines.lengths ≡ start.lines.lengths → start.lines.lengths.file < 2 ^ 64 → ReadsNext m start file body left next → BeginsBody e k start file body left next
-  begins_with k gates goals m next file left taken own max is same of lengths limit read = record {
-    taken = taken e own;
-    max = max ∙ is;
-    goals = subst (AreGoalsOf e) (sym same) of;
+  pub begins_with : (k : Checking) (gates : List Gate) (cs : List Clause) (goals : List Goal) (keeps : Keeps) (m : ℕ) (next : Option ClauseLine) (file : FileState) (left : Option (List ℕ)) →
+      Starts gates m cs goals keeps k → All (λ b. b ≡ false) k.shown → AreSameSets cs (gate_clauses gates) → e.gates ≡ gates → m ≡ e.max → AreGoalsOf e goals →
+      file.lines.lengths ≡ start.lines.lengths → start.lines.lengths.file < 2 ^ 64 → ReadsNext m start file body left next → BeginsBody e k start file body left next
+  begins_with k gates cs goals keeps m next file left starts none clauses own is of lengths limit read = record {
+    taken = checker_begins e cs k (subst (λ (gs : List Gate). AreSameSets cs (gate_clauses gs)) (sym own) clauses) starts.live_is starts.added_is none;
+    max = starts.max_is ∙ is;
+    goals = subst (AreGoalsOf e) (sym starts.goals_are) of;
     lengths = lengths;
     limit = limit;
     read = subst (λ (n : ℕ). ReadsNext n start file body left next) is read;

@@ -3,8 +3,7 @@ use Rattle.std.specs.Prelude.{List, [], ◌∷◌}
 use Rattle.std.specs.List.{AllByRecursion}
 use Rattle.std.proofs.Common.{subst}
 use Rattle.std.proofs.lemmas.List.Elements.{All-from_recursion}
-use Rattle.graph_core.specs.Algebra.{AgreeOnColumns}
-use Rattle.graph_core.specs.Graph.Extended.{Extended}
+use Rattle.graph_core.specs.Graph.Extended.{AgreeOnColumns, Extended}
 use Rattle.mv_fact.specs.Always.{Always}
 use Rattle.clause_core.specs.Clause.{Clause, IsClauseInRange}
 use Rattle.clause_core.specs.ClauseLines.{AreGoalsShown, AreLawfulClauses, ClauseLine, clause_in}

@@ -1,9 +1,7 @@
 -- What a checker has taken of the lines of a clause certificate.
 use Rattle.std.specs.Prelude.{◌≡◌, List, [], ◌∷◌}
 use Rattle.std.specs.declared.option.Option.TheVariants.{None}
-use Rattle.graph_core.specs.Algebra.{AgreeOnColumns}
-use Rattle.graph_core.specs.Graph.Extended.{Extended}
-use Rattle.graph_core.specs.declared.gate.Gate.{Gate}
+use Rattle.graph_core.specs.Graph.Extended.{AgreeOnColumns, Extended}
 use Rattle.mv_fact.specs.Always.{Always}
 use Rattle.clause_core.specs.Clause.{Clause}
 use Rattle.clause_core.specs.ClauseLines.{ClauseLine}
@@ -26,10 +24,6 @@ pub record HasTaken (e : Extended) (lines : List ClauseLine) (live : List Clause
   pub alike : HaveSameCopies k.live live
   pub shown : HasShown k lines
   pub added : HasAdded k lines
-
--- A checker of these gates has taken no line.
-abbrev pub HasTakenNone : List Gate → Checking → Type 0
-HasTakenNone gates k = (e : Extended) → e.gates ≡ gates → HasTaken e [] (gate_clauses e.gates) k
 
 -- Where a checker has taken lines and no goal is unshown, the old and the new output of each replaced column are equal on every
 -- evaluation.

@@ -1,7 +1,7 @@
 //! Judges the lines of a clause certificate and its goals, over any gates.
 //!
-//! `checker_of` begins a checker with the clauses of gates, for goals; `read_line` reads the next line of a file;
-//! `judge_from` takes a line that was read and those after it, up to the end of the file, and then asks for the goals.
+//! `read_line` reads the next line of a file; `judge_from` lets a new checker of the gates' clauses, for goals, take a line
+//! that was read and those after it, up to the end of the file, and then asks for the goals.
 //! It says that the lines are lawful and show each goal, and which clauses they add, where these are kept, and then the
 //! old and the new output of each column with goals are equal on every evaluation of the gates; or the first refusal,
 //! or a length that is met before any (`lawful`, `columns`, `refused`). A failed read is answered where it was counted,
@@ -17,7 +17,6 @@ mod clause_line;
 mod fail;
 mod judging;
 
-pub use clause_checker::checker_of;
 pub use clause_line::{line_refused, read_line};
 pub use fail::{ClauseFail, ClauseWhy};
 pub use judging::judge_from;

@@ -12,9 +12,8 @@ use Rattle.clause_core.specs.Facts.{IsClauseFact}
 use Rattle.clause_core.specs.GateClauses.{gate_clauses}
 use Rattle.clause_core.specs.Likeness.{AreSameSets}
 use Rattle.clause_core.specs.UnitPropagation.{IsRup}
-use Rattle.clause_core.proofs.CallerLemmas.{facts_stay, same_flip}
-use Rattle.trim_core.specs.KeptClauses.{AreBelow, AreEarlier}
-use Rattle.trim_core.proofs.Chains.{as_many, tight_chains_go_on}
+use Rattle.clause_core.proofs.CallerLemmas.{as_many, facts_stay, same_flip, tight_chains_go_on}
+use Rattle.clause_core.specs.KeptClauses.{AreBelow, AreEarlier}
 use Rattle.drup_checker.specs.Checking.{AddsRup, AreChained, Deletes, Held, IsTightChainOf, KeepsClauses, LosesOne, Numbered, ShowsBy, Starts, checking, held_with, kept, kept_uses, more, unnumbered}
 use Rattle.drup_checker.specs.declared.keeps.Keeps.{Keeps}
 use Rattle.drup_checker.specs.declared.keeps.Keeps.TheVariants as keep

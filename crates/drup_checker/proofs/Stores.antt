@@ -14,7 +14,7 @@ use Rattle.unit_prop.proofs.CallerLemmas.{alone_is_free, none_live}
 use Rattle.unit_prop.proofs.Grounds.{clause_cases}
 use Rattle.unit_prop.proofs.VisitSteps.{live_below}
 use Rattle.clause_core.specs.ClauseLines.{Removes as RemovesOne}
-use Rattle.trim_core.specs.TightChains.{IsTightChain}
+use Rattle.clause_core.specs.TightChains.{IsTightChain}
 use Rattle.drup_checker.specs.Checking.{Held, IsTightChainOf, LosesOne, Numbered, added_numbers, held, held_with, numbered_of}
 use Rattle.drup_checker.specs.Tightness.{AreTightAt, clause_or_empty, clauses_at}
 use Rattle.drup_checker.specs.Chains.{AreFalling, IsStore, Leads, clause_hash}

@@ -11,7 +11,7 @@ use Rattle.graph_core.proofs.OfGraphs.CallerLemmas.{all_split}
 use Rattle.clause_core.specs.Clause.{Clause, SameSet}
 use Rattle.clause_core.specs.Likeness.{AreSameSets}
 use Rattle.clause_core.proofs.CallerLemmas.{any_here, any_there, contains_cases, contains_here, contains_nil, contains_there, same_flip}
-use Rattle.trim_core.specs.KeptClauses.{AreBelow, HasTightChain, IsGivenOrUsed, IsNumbered}
+use Rattle.clause_core.specs.KeptClauses.{AreBelow, HasTightChain, IsGivenOrUsed, IsNumbered}
 use Rattle.drup_checker.specs.Checking.{IsTagged, IsTightChainOf, LosesOne, Numbered, unnumbered}
 
 -- ---- lists

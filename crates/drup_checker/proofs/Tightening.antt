@@ -13,13 +13,14 @@ use Rattle.clause_core.specs.Clause.{Clause, IsClauseInRange, IsSubset}
 use Rattle.clause_core.specs.UnitPropagation.{IsFalsified, IsRup, IsTautology, IsUnit}
 use Rattle.clause_core.proofs.PropagationEnds.{rup_is_decided}
 use Rattle.clause_core.proofs.CallerLemmas.{any_here, any_there, at, at_contained, below_suc, contains_here, contains_nil, contains_there}
-use Rattle.trim_core.specs.TightChains.{IsTight}
+use Rattle.clause_core.specs.TightChains.{IsTight}
 use Rattle.unit_prop.specs.Standing.{IsConflict, IsReasonOf, IsSound, Propagates, Standing, assumed_in, assumed_of, clause_at, reason_at}
 use Rattle.unit_prop.specs.Trail.{signed_variable}
 use Rattle.unit_prop.proofs.Findings.{assumed_at, assumed_grown}
 use Rattle.unit_prop.proofs.TrailSteps as steps
 use Rattle.drup_checker.specs.Opposing.{Opposes}
-use Rattle.drup_checker.specs.Tightness.{IsOpposedBefore, IsReached, IsVariableSeen, Marks, clause_or_empty, clauses_at}
+use Rattle.drup_checker.specs.Tightness.{IsOpposedBefore, IsVariableSeen, Marks, clause_or_empty, clauses_at}
+use Rattle.drup_checker.proofs.Words.{IsReached}
 use Rattle.drup_checker.proofs.Opposed.{origin, tautology}
 
 variable-abs : (l : ℤ) → nat_abs l ≡ signed_variable l

@@ -11,8 +11,8 @@ use Rattle.clause_core.specs.GateClauses.{gate_clauses}
 use Rattle.clause_core.specs.UnitPropagation.{IsRup}
 use Rattle.unit_prop.specs.Standing.{Standing, live_of}
 use Rattle.miter_encoder.specs.declared.goal.Goal.{Goal}
-use Rattle.trim_core.specs.KeptClauses.{AreEarlier, HaveTightChains}
-use Rattle.trim_core.specs.TightChains.{IsTightChain}
+use Rattle.clause_core.specs.KeptClauses.{AreEarlier, HaveTightChains}
+use Rattle.clause_core.specs.TightChains.{IsTightChain}
 use Rattle.drup_checker.specs.declared.keeps.Keeps.{Keeps}
 use Rattle.drup_checker.specs.declared.keeps.Keeps.TheVariants as keep
 
@@ -128,12 +128,6 @@ pub record KeepsClauses (gates : List Gate) (h : Held) (goals : List Goal) (show
 abbrev pub ShowsBy : Clause → List Goal → List Bool → List Bool → Type 0
 ShowsBy c goals old new = (i : ℕ) (g : Goal) → i < length goals → (shown_at new i ≡ true) ↔
     ((shown_at old i ≡ true) ⊎ IsSubset c (slice_index_or goals i g).clause)
-
--- so far among the first n goals
-pub record ShowsFirst (c : Clause) (goals : List Goal) (old new : List Bool) (n : ℕ) : Type 0 where
-  pub places : length new ≡ length old
-  pub done : (i : ℕ) (g : Goal) → i < n → i < length goals → (shown_at new i ≡ true) ↔ ((shown_at old i ≡ true) ⊎ IsSubset c (slice_index_or goals i g).clause)
-  pub rest : (i : ℕ) → n ≤ i → shown_at new i ≡ shown_at old i
 
 -- a count of one more, of 64 bits
 abbrev pub more : ℕ → ℕ

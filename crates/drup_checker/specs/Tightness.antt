@@ -4,7 +4,7 @@ use Rattle.std.specs.declared.option.Option.{Option}
 use Rattle.std.specs.declared.option.Option.TheVariants.{None, Some}
 use Rattle.std.specs.List.{All, Any, Contains}
 use Rattle.clause_core.specs.Clause.{Clause, IsSubset}
-use Rattle.trim_core.specs.TightChains.{IsTight, IsTightChain}
+use Rattle.clause_core.specs.TightChains.{IsTight, IsTightChain}
 use Rattle.unit_prop.specs.Standing.{Standing, at, clause_at}
 use Rattle.unit_prop.specs.Trail.{signed_variable}
 
@@ -31,17 +31,6 @@ pub record Marks (lits : List ℤ) (old new : List Bool) : Type 0 where
 abbrev pub IsOpposedBefore : Standing → ℕ → List ℤ → Clause → Type 0
 IsOpposedBefore s n opposed c = (k : ℤ) → Contains c k → Contains (take n s.trail.literals) (neg_ℤ k) ⊎
     (Contains opposed (neg_ℤ k) × ((j : ℕ) → j < n → signed_variable (at s.trail.literals j) ≢ signed_variable k))
-
--- Whatever has what is opposed and the marked ones of the first n literals is refuted by a tight chain, that of the places from the last one
--- on; and it needs each of them.
-pub record IsReached (s : Standing) (opposed : List ℤ) (seen : List Bool) (places : List ℕ) (n : ℕ) : Type 0 where
-  pub size : length seen ≡ suc s.trail.greatest
-  pub live : All (λ r. IsSome (clause_at s.clauses r)) (reverse places)
-  pub tight : (acc : List ℤ) → IsSubset opposed acc →
-      ((j : ℕ) → j < n → IsVariableSeen seen (signed_variable (at s.trail.literals j)) → Contains acc (at s.trail.literals j)) →
-      IsTight acc (clauses_at s.clauses (reverse places))
-  pub needed : (j : ℕ) → j < n → j < length s.trail.literals → IsVariableSeen seen (signed_variable (at s.trail.literals j)) →
-      Any (λ e. Contains e (neg_ℤ (at s.trail.literals j))) (clauses_at s.clauses (reverse places))
 
 -- live clauses that are a tight chain for a clause
 pub record AreTightAt (clauses : List (Option Clause)) (c : Clause) (places : List ℕ) : Type 0 where

@@ -7,7 +7,7 @@ ghost use Rattle.clause_core.specs.GateClauses.{gate_clauses};
 ghost use Rattle.clause_core.specs.Likeness.{AreSameSets};
 ghost use Rattle.clause_core.specs.UnitPropagation.{IsRup};
 ghost use Rattle.drup_checker.specs.Checking.{AddsRup, Deletes, IsLeastUnshown, IsNowhere, IsTightChainOf, Starts};
-ghost use Rattle.trim_core.specs.KeptClauses.{AreEarlier, HaveTightChains};
+ghost use Rattle.clause_core.specs.KeptClauses.{AreEarlier, HaveTightChains};
 
 use crate::fault::{AddFail, NoSuchClause};
 use crate::keeps::Keeps;
@@ -131,8 +131,8 @@ impl<'a> Checker<'a> {
         self.store.chain(clause)
     }
 
-    /// The same, where the checker isn't needed any more, and where chains are kept what they use: each added clause has a
-    /// tight chain of the gates' clauses and of earlier ones that its numbers name.
+    /// What was kept of the added clauses, where the checker isn't needed any more. Where chains are kept, each of these
+    /// clauses has a tight chain of the gates' clauses and of earlier ones that its numbers name.
     pub fn into_record(self) -> Record
         ensures added { result.added ≡ self.entry.added }
         ensures uses { result.uses.items ≡ self.entry.uses }

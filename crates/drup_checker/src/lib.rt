@@ -7,7 +7,7 @@
 //! `into_record`, `chains`). `chain` gives a tight chain exactly for a clause that follows (`some`, `none`): it is a
 //! promised call of the library, and no command needs it. Only `new`, `add` and `chain` take memory.
 //!
-//! *Tight*: by `specs/TightChains.antt` of `trim_core`. *Follows*, *chain*, *live*, *shown*: by
+//! *Tight*: by `specs/TightChains.antt` of `clause_core`. *Follows*, *chain*, *live*, *shown*: by
 //! `specs/UnitPropagation.antt` and `specs/ClauseLines.antt` of `clause_core`.
 #![tactic(auto)]
 

@@ -4,7 +4,7 @@ ghost use Rattle.std.specs.List.{All, Contains};
 ghost use Rattle.clause_core.specs.Clause.{Clause as Literals, IsClauseInRange, IsSubset};
 ghost use Rattle.clause_core.specs.UnitPropagation.{IsRup, IsTautology};
 ghost use Rattle.drup_checker.specs.Opposing.{StandsMore};
-ghost use Rattle.drup_checker.specs.Tightness.{AreTightAt, IsOpposedBefore, IsReached, Marks};
+ghost use Rattle.drup_checker.specs.Tightness.{AreTightAt, IsOpposedBefore, Marks};
 ghost use Rattle.unit_prop.specs.Standing.{HasNoAssumption, IsSound, assumed_of, at, clause_at, live_of};
 ghost use Rattle.unit_prop.specs.Trail.{signed_variable};
 

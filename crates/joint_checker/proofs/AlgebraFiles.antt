@@ -1,11 +1,11 @@
 -- The header of an algebra file, and the whole file by what stands behind it.
 use Rattle.std.proofs.Common.{◌≡◌, ℕ, ◌≤◌, List, [], ◌∷◌, ◌++◌, length, Option, IfSome, refl, sym, ap, subst, ◌∙◌, append_assoc, inl, inr}
 use Rattle.std.specs.Prelude.{Bool, true, false, cond, codes, ◌==◌}
-use Rattle.graph_core.specs.Algebra.Refusal as cause
+use Rattle.algebra_core.specs.Refusal as cause
 use Rattle.graph_core.specs.Graph.Operands.{Sides}
-use Rattle.graph_core.specs.Algebra.Refusal.{AlgebraCause, IsAlgebraRefusal, IsRefusedBody}
-use Rattle.graph_core.specs.Algebra.{Premises}
-use Rattle.graph_core.specs.Algebra.Text.{algebra_header, first_line}
+use Rattle.algebra_core.specs.Refusal.{AlgebraCause, IsAlgebraRefusal, IsRefusedBody}
+use Rattle.algebra_core.specs.AlgebraLines.{Premises}
+use Rattle.algebra_core.specs.Text.{algebra_header, first_line}
 use Rattle.graph_core.specs.Text.JudgedLines.{IsTooLong, Lengths}
 use Rattle.graph_core.specs.Text.{newline}
 use Rattle.graph_core.proofs.OfTexts.CallerLemmas.{HasNoNewline, ShortFrom, short_next, short_within, start_later, none_in}
@@ -21,7 +21,7 @@ use Rattle.joint_checker.specs.declared.checked.Refusal.TheVariants as refusal
 use Rattle.joint_checker.specs.AlgebraBody.{IsBodyFail, IsLawfulBody}
 use Rattle.drup_text.specs.HeaderSteps.{IsLongIn}
 use Rattle.joint_checker.specs.Answers.{answer_of_algebra_line}
-use Rattle.graph_core.specs.Certificates.{IsLawfulAlgebra}
+use Rattle.algebra_core.specs.Certificates.{IsLawfulAlgebra}
 use Rattle.joint_checker.specs.Fails.{IsAlgebraFail}
 use Rattle.joint_checker.specs.Outcome.{cause_of}
 use Rattle.clause_judge.proofs.Told.{rose_before, told_more, told_of}

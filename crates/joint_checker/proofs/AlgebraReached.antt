@@ -1,17 +1,17 @@
 -- How far an algebra file is judged: one lawful line more, its end, and each line at which it is refused.
 use Rattle.std.proofs.Common.{◌≡◌, ℕ, suc, ◌+◌, ◌-◌, ◌^◌, ◌<◌, ◌≤◌, List, [], ◌∷◌, ◌++◌, length, Option, Some, None, IfSome, refl, sym, ap, subst, ◌∙◌, arith, inl, inr, add-zero, length-append}
-use Rattle.graph_core.specs.Algebra.{Combination, Delete, Import, Ledger, Line, Premises, IsLawfulLine, Product, Sum, after, beginning, modulus}
-use Rattle.graph_core.specs.Algebra.Refusal as cause
-use Rattle.graph_core.specs.Algebra.Refusal.{AlgebraCause, IsRefusedBody, IsRefusedNext}
-use Rattle.graph_core.specs.Algebra.Text.{IsLineText}
+use Rattle.algebra_core.specs.AlgebraLines.{Combination, Delete, Import, Ledger, Line, Premises, IsLawfulLine, Product, Sum, after, beginning}
+use Rattle.graph_core.specs.Graph.Extended.{modulus}
+use Rattle.algebra_core.specs.Refusal as cause
+use Rattle.algebra_core.specs.Refusal.{AlgebraCause, IsRefusedBody, IsRefusedNext}
+use Rattle.algebra_core.specs.Text.{IsLineText}
 use Rattle.graph_core.specs.Text.JudgedLines.{IsTooLong, Lengths}
 use Rattle.graph_core.specs.Text.{newline}
 use Rattle.graph_core.specs.Graph.Operands.{Sides}
-use Rattle.graph_core.proofs.OfTexts.CallerLemmas.{none_close, none_line}
+use Rattle.algebra_core.proofs.CallerLemmas.{none_close, none_line, after_agrees, agree_trans, closes_agrees, lawful_agrees, next_agrees}
 use Rattle.mv_desk.specs.View.{View}
 use Rattle.mv_desk.specs.declared.slot.Slot.TheVariants as slot
-use Rattle.graph_core.specs.Algebra.Agreement.{LedgersAgree}
-use Rattle.graph_core.proofs.OfAlgebra.CallerLemmas.{after_agrees, agree_trans, closes_agrees, lawful_agrees, next_agrees}
+use Rattle.algebra_core.specs.Agreement.{LedgersAgree}
 use Rattle.mv_text.specs.LineReading.{IsLongAhead, Lines}
 use Rattle.poly_text.proofs.CallerLemmas.{long_of, short_of}
 use Rattle.joint_checker.specs.declared.checked.AlgebraWhy.TheVariants as why

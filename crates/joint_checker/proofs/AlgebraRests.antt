@@ -1,13 +1,15 @@
 -- What is left of an algebra file behind some lines: how it may go on to be lawful, and where it is refused.
 use Rattle.std.proofs.Common.{◌≡◌, ℕ, suc, ◌+◌, List, [], ◌∷◌, ◌++◌, length, refl, sym, ap, ap₂, subst, zero-add, ◌∙◌, arith, inr}
 use Rattle.std.proofs.lemmas.List.Elements.{All-cons, All-nil}
-use Rattle.graph_core.specs.Algebra.{Line, Ledger, Premises, IsLawfulLine, Closes, after, beginning, modulus}
-use Rattle.graph_core.specs.Algebra.Refusal.{AlgebraCause, IsRefusedBody, IsRefusedEnd, IsRefusedNext}
-use Rattle.graph_core.specs.Algebra.Text.{IsCloseText, IsId, IsLineInRange, IsLineText}
+use Rattle.algebra_core.specs.AlgebraLines.{Line, Ledger, Premises, IsLawfulLine, Closes, after, beginning}
+use Rattle.graph_core.specs.Graph.Extended.{modulus}
+use Rattle.algebra_core.specs.Refusal.{AlgebraCause, IsRefusedBody, IsRefusedEnd, IsRefusedNext}
+use Rattle.algebra_core.specs.Text.{IsCloseText, IsId, IsLineInRange, IsLineText}
 use Rattle.graph_core.specs.Text.JudgedLines.{BeginsWith}
 use Rattle.graph_core.specs.Text.{newline}
 use Rattle.graph_core.specs.Graph.Operands.{Sides}
-use Rattle.graph_core.proofs.OfTexts.CallerLemmas.{ShortFrom, short_next, short_nil, start_later, none_close, none_line}
+use Rattle.graph_core.proofs.OfTexts.CallerLemmas.{ShortFrom, short_next, short_nil, start_later}
+use Rattle.algebra_core.proofs.CallerLemmas.{none_close, none_line}
 use Rattle.joint_checker.specs.AlgebraBody.{IsLawfulRest, IsRefusedRest}
 
 pair_is : {A B : Type 0} {a c : A} {b d : B} → a ≡ c → b ≡ d → ◌≡◌ {A = A × B} (a, b) (c, d)

@@ -1,13 +1,14 @@
 -- The turns of judging an algebra file since a start: no line yet, one line more, the closing line, and each line at which it is refused.
 use Rattle.std.proofs.Common.{◌≡◌, ℕ, ◌+◌, ◌<◌, ◌≤◌, ◌^◌, List, [], Option, Err, IfSome, length, refl, subst, sym, ◌∙◌, arith}
-use Rattle.graph_core.specs.Algebra.{Line, Premises, beginning, modulus}
-use Rattle.graph_core.specs.Algebra.Agreement.{LedgersAgree}
+use Rattle.algebra_core.specs.AlgebraLines.{Line, Premises, beginning}
+use Rattle.graph_core.specs.Graph.Extended.{modulus}
+use Rattle.algebra_core.specs.Agreement.{LedgersAgree}
 use Rattle.mv_desk.specs.View.{View}
 use Rattle.mv_desk.specs.declared.slot.Slot.TheVariants as slot
 use Rattle.mv_text.specs.CertificateFiles.{FileState, GoesOn, left_of_file}
 use Rattle.pac_checker.specs.Checking.{AlgebraChecking, ledger_of}
 use Rattle.joint_checker.specs.AlgebraLines.{IsEndFail, IsLineFail, KeepsAlgebraTask, Turns}
-use Rattle.joint_checker.specs.ClauseFiles.{premises}
+use Rattle.pair_core.specs.ClauseFiles.{premises}
 use Rattle.joint_checker.specs.Records.{ClosesRecord, IsRecordedTo, RecordsTurn}
 use Rattle.joint_checker.specs.declared.algebra_line.Turn.{Turn}
 use Rattle.joint_checker.specs.declared.algebra_line.Turn.TheVariants as turn

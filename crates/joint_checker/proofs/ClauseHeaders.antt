@@ -10,10 +10,10 @@ use Rattle.graph_core.specs.Graph.Literals.{variable_of}
 use Rattle.graph_core.specs.Graph.Extended.{Column, Extended, without_cut}
 use Rattle.graph_core.specs.Graph.{Aig, defined}
 use Rattle.graph_core.specs.Text.{newline}
-use Rattle.graph_core.specs.Text.Readers.{Reader, IsReaderOf, Ended, Anything, ended_at}
+use Rattle.graph_core.specs.Text.Readers.{Reader, ended_at}
+use Rattle.graph_core.proofs.OfTexts.CallerLemmas.{Ended, IsReaderOf, Anything, behind_map, behind_either, behind_some, decided_long, StepsOn, walk, one_line, line_or_none, meet, unless_exact, last_exact, exact_as, front_exact}
 use Rattle.graph_core.specs.Text.JudgedLines.{BeginsWith, Behind, IsTooLong, Lengths, Unless, Never, IsExact}
 use Rattle.graph_core.proofs.OfGraphs.CallerLemmas.{Decided, decided_all, decided_and, decided_or, decided_eq, decided_le, decided_lt}
-use Rattle.graph_core.proofs.OfTexts.CallerLemmas.{behind_map, behind_either, behind_some, decided_long, StepsOn, walk, one_line, line_or_none, meet, unless_exact, last_exact, exact_as, front_exact}
 use Rattle.ripple_graft.specs.Blocks.{AreBlocks, block, graft_all, graft_block, reach, with_blocks}
 use Rattle.ripple_graft.specs.Extension.{IsKnown, whole}
 use Rattle.ripple_graft.specs.HeaderBlocks.{IsCutOf, cut_blocks}

@@ -24,7 +24,7 @@ use Rattle.clause_judge.specs.ClauseLines.{answer_of_line}
 use Rattle.clause_judge.specs.declared.fail.ClauseFail.{ClauseFail}
 use Rattle.clause_judge.specs.declared.fail.ClauseFail.TheVariants as clauses
 use Rattle.clause_judge.specs.ClauseBody.{HasPassed, IsRestFail, IsShownWith, Pass}
-use Rattle.joint_checker.specs.ClauseFiles.{AddsClauses, GivesPremises, HasLawfulLines, importable, premises}
+use Rattle.pair_core.specs.ClauseFiles.{AddsClauses, GivesPremises, HasLawfulLines, importable, premises}
 use Rattle.joint_checker.specs.ClauseRefusals.{IsClauseRefusal, IsColumnRefusal}
 use Rattle.clause_judge.specs.LineRefusals.{IsRefusedLines, line_cause}
 use Rattle.joint_checker.specs.Fails.{IsClauseFail}

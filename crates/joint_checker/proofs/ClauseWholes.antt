@@ -5,8 +5,8 @@ use Rattle.std.specs.declared.option.Option.TheVariants.{None, Some}
 use Rattle.std.proofs.Common.{refl, sym, ap, subst, ◌∙◌, inl, inr, ⊎_elim}
 use Rattle.std.proofs.lemmas.List.Elements.{All-from_recursion, recursion_from_All}
 use Rattle.graph_core.specs.declared.literal.Lit.{Lit}
-use Rattle.graph_core.specs.Algebra.{Premises}
-use Rattle.graph_core.specs.Algebra.Agreement.{AreSamePremises}
+use Rattle.algebra_core.specs.AlgebraLines.{Premises}
+use Rattle.algebra_core.specs.Agreement.{AreSamePremises}
 use Rattle.graph_core.specs.Graph.Extended.{Extended, without_cut}
 use Rattle.graph_core.specs.Graph.{Aig}
 use Rattle.graph_core.specs.Text.JudgedLines.{BeginsWith, Behind, IsExact, IsLineStart, IsTooLong, Lengths}
@@ -28,11 +28,11 @@ use Rattle.drup_text.specs.Headers.{extended_with}
 use Rattle.drup_text.proofs.CallerLemmas.{header_said, none_block, none_count, none_cut, none_pair}
 use Rattle.drup_text.proofs.HeaderExact.{header_passes}
 use Rattle.drup_text.proofs.OneFile.{one_text_is_one_file}
-use Rattle.joint_checker.specs.ClauseFiles.{GivesPremises, HasLawfulLines, importable, premises}
+use Rattle.pair_core.specs.ClauseFiles.{GivesPremises, HasLawfulLines, importable, premises}
 use Rattle.joint_checker.specs.ClauseRefusals.{ClauseFault, ClausesAreExact, Goals, IsClauseRefusal, IsFileRefusal, Line}
 use Rattle.clause_judge.specs.LineRefusals.{IsRefusedLines}
 use Rattle.joint_checker.proofs.ClauseHeaders.{HasPassed, Reaches, header_exact, header_takes}
-use Rattle.joint_checker.proofs.SamePremises.{same_back, same_joined, same_self}
+use Rattle.pair_core.proofs.CallerLemmas.{same_back, same_joined, same_self}
 use Rattle.clause_judge.proofs.ClauseRests.{Passes, lawful_passes, lines_exact, passes_lawful, passes_short}
 
 -- ---- line starts

@@ -6,14 +6,14 @@ use Rattle.command_core.specs.Stopping.{IsGraphStop}
 use Rattle.command_core.specs.declared.stop.Stop.{Stop}
 use Rattle.command_core.specs.declared.stop.Stop.TheVariants as stop
 use Rattle.command_core.proofs.CallerLemmas.{IsLong-is, graph_exact, stop_gives}
-use Rattle.graph_core.specs.Algebra.Refusal as cause
+use Rattle.algebra_core.specs.Refusal as cause
 use Rattle.graph_core.specs.declared.claim.Claim.{Claim}
 use Rattle.graph_core.specs.Graph.Operands.{profile_of, sides_for}
-use Rattle.graph_core.specs.Algebra.Refusal.{AlgebraCause, IsAlgebraRefusal}
-use Rattle.graph_core.specs.Algebra.{Premises}
+use Rattle.algebra_core.specs.Refusal.{AlgebraCause, IsAlgebraRefusal}
+use Rattle.algebra_core.specs.AlgebraLines.{Premises}
 use Rattle.graph_core.specs.Graph.{Aig}
 use Rattle.graph_core.specs.Text.JudgedLines.{IsExact}
-use Rattle.graph_core.proofs.OfAlgebra.CallerLemmas.{algebra_is_exact, premises_are_kept}
+use Rattle.algebra_core.proofs.CallerLemmas.{algebra_is_exact, premises_are_kept}
 use Rattle.graph_core.proofs.OfTexts.CallerLemmas.{one_graph, exact_map}
 use Rattle.mv_desk.specs.View.{View}
 use Rattle.mv_desk.specs.declared.limits.Limits.{Limits}
@@ -26,11 +26,11 @@ use Rattle.joint_checker.specs.declared.checked.Checked.TheVariants as checked
 use Rattle.clause_judge.specs.declared.fail.ClauseWhy.{ClauseWhy}
 use Rattle.clause_judge.specs.declared.fail.ClauseWhy.TheVariants as clause
 use Rattle.joint_checker.specs.declared.checked.Refusal.TheVariants as refusal
-use Rattle.graph_core.specs.Certificates.{IsLawfulAlgebra}
+use Rattle.algebra_core.specs.Certificates.{IsLawfulAlgebra}
 use Rattle.drup_text.specs.HeaderRefusal as clausal
 use Rattle.drup_text.specs.HeaderRefusal.{LineCause}
-use Rattle.joint_checker.specs.Certificates.{IsLawfulPair}
-use Rattle.joint_checker.specs.ClauseFiles.{GivesPremises}
+use Rattle.pair_core.specs.Certificates.{IsLawfulPair}
+use Rattle.pair_core.specs.ClauseFiles.{GivesPremises}
 use Rattle.joint_checker.specs.ClauseRefusals.{ClauseFault, Goals, IsClauseRefusal, IsFileRefusal, Line}
 use Rattle.command_core.specs.Files.{Files, Texts, texts_of}
 use Rattle.joint_checker.specs.Outcome.{IsDue, IsExactAnswer, IsOutcome, IsStopDue, MeetsAlgebra, MeetsClauses, OneAnswerIsDue, OutcomesAreExact, cause_of}

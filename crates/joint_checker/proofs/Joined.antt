@@ -6,16 +6,16 @@ use Rattle.std.specs.declared.option.Option.TheVariants.{None, Some}
 use Rattle.std.specs.List.{All, AllByRecursion, Contains, flat_map}
 use Rattle.std.proofs.Common.{refl, sym, ap, ap₂, subst, ◌∙◌, arith, inl, ⊎_elim}
 use Rattle.std.proofs.lemmas.List.Elements.{All-nil, All-contains, All-from_recursion, All-weaker, recursion_from_All}
-use Rattle.graph_core.specs.Algebra.{AgreeOnColumns, AreMet, Premises, specification}
+use Rattle.algebra_core.specs.AlgebraLines.{AreMet, Premises, specification}
+use Rattle.graph_core.specs.Graph.Extended.{AgreeOnColumns, Extended, without_cut}
 use Rattle.graph_core.specs.Graph.Assignments.{Assignment, HasBound, bit, literal, word}
-use Rattle.graph_core.specs.Graph.Extended.{Extended, without_cut}
 use Rattle.graph_core.specs.Graph.Literals.{variable_of}
 use Rattle.graph_core.specs.declared.claim.Claim.{Claim}
 use Rattle.graph_core.specs.Graph.Operands.{profile_of, Does, HasShapeFor, MeetsClaimOnEvaluations, ReadInputs, Sides, claimed, operand_literals, output_modulus, sides_for}
 use Rattle.graph_core.specs.Graph.{Aig, IsEvaluation, IsWellFormed, read_literals}
 use Rattle.graph_core.specs.declared.literal.Lit.{Lit}
 use Rattle.graph_core.proofs.OfAiger.CallerLemmas.{shape_for, spelled_shape, well_formed}
-use Rattle.graph_core.proofs.OfAlgebra.CallerLemmas.{axioms-vanish, specification-zero, vanishing_means_claim}
+use Rattle.algebra_core.proofs.CallerLemmas.{axioms-vanish, specification-zero, vanishing_means_claim}
 use Rattle.graph_core.proofs.OfGraphs.CallerLemmas.{all_split, all_weaker, claim_is_done, claim_same, evaluations_suffice, literal_same, sides_read_inputs}
 use Rattle.mv_fact.specs.Always.{Always}
 use Rattle.ripple_graft.specs.Blocks.{AreBlocks, SameUpTo}
@@ -31,14 +31,14 @@ use Rattle.drup_text.specs.declared.head.Header.{Header}
 use Rattle.drup_text.specs.Headers.{IsHeaderOf, extended_with}
 use Rattle.gate_axioms.specs.ClauseValues.{clause_value}
 use Rattle.gate_axioms.proofs.CallerLemmas.{imports_bounded, imports_vanish}
-use Rattle.graph_core.specs.Certificates.{no_cut}
+use Rattle.algebra_core.specs.Certificates.{no_cut}
 use Rattle.graph_core.specs.Text.JudgedLines.{IsWithin, Lengths}
 use Rattle.graph_core.specs.Text.{newline}
-use Rattle.joint_checker.specs.Certificates.{LawfulPairsAreSound}
-use Rattle.joint_checker.specs.ClauseFiles.{ArePremisesOf, GivesPremises, importable, premises}
+use Rattle.pair_core.specs.Certificates.{LawfulPairsAreSound}
+use Rattle.pair_core.specs.ClauseFiles.{ArePremisesOf, GivesPremises, importable, premises}
 use Rattle.joint_checker.specs.Shown.{IsShownOf, premises_of}
 use Rattle.joint_checker.specs.declared.clause_file.Shown.{Shown}
-use Rattle.joint_checker.proofs.SamePremises.{same_all, same_self}
+use Rattle.pair_core.proofs.CallerLemmas.{same_all, same_self}
 
 -- ---- the graph below an extended one
 

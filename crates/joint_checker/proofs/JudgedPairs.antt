@@ -3,10 +3,9 @@ use Rattle.std.proofs.Common.{◌≡◌, ℕ, [], sym, subst}
 use Rattle.std.specs.Option.{IfSome}
 use Rattle.std.specs.Prelude.{true}
 use Rattle.aiger_reader.specs.Refusals.{SpellsWithin}
-use Rattle.graph_core.specs.Aiger.Soundness.{IsSizedAs}
-use Rattle.graph_core.specs.Algebra.{modulus}
+use Rattle.graph_core.specs.Aiger.Sizes.{IsSizedAs}
+use Rattle.graph_core.specs.Graph.Extended.{modulus, Extended}
 use Rattle.graph_core.specs.Graph.{Aig, IsBuilt}
-use Rattle.graph_core.specs.Graph.Extended.{Extended}
 use Rattle.graph_core.specs.Graph.Operands.{Does, profile_of, sides_for}
 use Rattle.graph_core.specs.declared.claim.Claim.{Claim}
 use Rattle.clause_core.specs.GateClauses.{gate_clauses}
@@ -18,8 +17,8 @@ use Rattle.mv_desk.specs.View.{View, bytes_under}
 use Rattle.mv_desk.specs.declared.limits.Limits.{Limits}
 use Rattle.mv_text.specs.LineReading.{lengths_of}
 use Rattle.poly_text.specs.Recorded.{lines_in}
-use Rattle.trim_core.specs.KeptClauses.{AreEarlier, HaveTightChains}
-use Rattle.joint_checker.specs.ClauseFiles.{AddsClauses, importable, premises}
+use Rattle.clause_core.specs.KeptClauses.{AreEarlier, HaveTightChains}
+use Rattle.pair_core.specs.ClauseFiles.{AddsClauses, importable, premises}
 use Rattle.command_core.specs.Files.{Files, texts_of}
 use Rattle.joint_checker.specs.Judged.{IsJudgedPair, IsLawfulRecord, IsToldPair}
 use Rattle.joint_checker.specs.Records.{IsRecordOf}

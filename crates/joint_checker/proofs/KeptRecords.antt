@@ -5,8 +5,8 @@ use Rattle.clause_core.specs.Clause.{Clause}
 use Rattle.clause_core.specs.Likeness.{AreSameSets}
 use Rattle.drup_checker.specs.Checking.{kept}
 use Rattle.drup_checker.specs.declared.keeps.Keeps.TheVariants as keep
-use Rattle.trim_core.specs.KeptClauses.{AreEarlier, HaveTightChains}
-use Rattle.joint_checker.specs.ClauseFiles.{importable}
+use Rattle.clause_core.specs.KeptClauses.{AreEarlier, HaveTightChains}
+use Rattle.pair_core.specs.ClauseFiles.{importable}
 use Rattle.joint_checker.specs.Shown.{keeps_of}
 
 -- ---- imports

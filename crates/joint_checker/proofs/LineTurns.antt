@@ -2,30 +2,30 @@
 use Rattle.std.proofs.Common.{◌≡◌, ℕ, List, Option, Some, None, refl, sym, subst, inl, inr}
 use Rattle.std.specs.Prelude.{IfSome, IsSome}
 use Rattle.std.specs.Option.{IsSomeAnd}
-use Rattle.graph_core.specs.Algebra.{Line, Ledger, Closes, after}
-use Rattle.graph_core.specs.Algebra as algebra
-use Rattle.graph_core.specs.Algebra.Refusal.{AlgebraCause, IsRefusedNext}
-use Rattle.graph_core.specs.Algebra.Refusal as cause
-use Rattle.graph_core.specs.Algebra.Text.{IsLineInRange, IsLineText}
+use Rattle.algebra_core.specs.AlgebraLines.{Line, Ledger, Closes, after}
+use Rattle.graph_core.specs.Graph.Extended as graphs
+use Rattle.algebra_core.specs.Refusal.{AlgebraCause, IsRefusedNext}
+use Rattle.algebra_core.specs.Refusal as cause
+use Rattle.algebra_core.specs.Text.{IsLineInRange, IsLineText}
 use Rattle.graph_core.specs.Graph.Extended.{Extended}
 use Rattle.graph_core.specs.Text.JudgedLines.{BeginsWith}
 use Rattle.graph_core.specs.Graph.Operands.{Sides}
 use Rattle.mv_desk.specs.View.{View}
 use Rattle.mv_text.specs.declared.line_fail.LineFail.{LineFail}
 use Rattle.mv_text.specs.declared.line_fail.LineFail.TheVariants as text
-use Rattle.graph_core.specs.Algebra.Agreement.{LedgersAgree}
+use Rattle.algebra_core.specs.Agreement.{LedgersAgree}
 use Rattle.pac_checker.specs.Checking.{AlgebraChecking, ledger_of, TakesAlgebraLine}
-use Rattle.graph_core.specs.Algebra.InRange.{IsRefusedCloseInRange, IsRefusedInRange}
+use Rattle.algebra_core.specs.InRange.{IsRefusedCloseInRange, IsRefusedInRange}
 use Rattle.pac_checker.specs.Faults.{IsCloseFault, IsRuleFault}
 use Rattle.pac_checker.specs.declared.fault.LineFault.{LineFault}
 use Rattle.pac_checker.specs.declared.fault.LineFault.TheVariants as rule
 use Rattle.pac_checker.specs.declared.fault.CloseFault.{CloseFault}
 use Rattle.pac_checker.specs.declared.fault.CloseFault.TheVariants as close
-use Rattle.graph_core.proofs.OfAlgebra.CallerLemmas.{after_agrees, agree_trans, closes_agrees, lawful_agrees, refused_close_in_range_agrees, refused_in_range_agrees, likeness_is_kept}
+use Rattle.algebra_core.proofs.CallerLemmas.{after_agrees, agree_trans, closes_agrees, lawful_agrees, refused_close_in_range_agrees, refused_in_range_agrees, likeness_is_kept}
 use Rattle.poly_terms.specs.Tables.{Table, modulus_in}
 use Rattle.mv_text.specs.CertificateFiles.{BeginsOutOfRange, BeginsWithNone, IsLineRefusal, TakesText}
 use Rattle.poly_text.specs.LineTexts.{IsAnyInRange, IsAnyText, IsTextOf}
-use Rattle.graph_core.specs.Algebra.Likeness.{AreAlike}
+use Rattle.algebra_core.specs.Likeness.{AreAlike}
 use Rattle.poly_text.specs.Lines.{line_in}
 use Rattle.mv_text.specs.LineReading.{IsLongAhead, Lines}
 use Rattle.poly_text.specs.declared.line.PacLine.{PacLine}
@@ -52,12 +52,6 @@ some_of : (o : Option Line) → IsSome o → (y : Line) × (o ≡ Some y)
 some_of (Some y) h = (y, refl)
 some_of None h = cc
 
--- a line that was judged by the checker, in the words of its contract
-pub taken_text : (old new : AlgebraChecking) (line : PacLine) → ((id : ℕ) → line ≡ pac.Close id → ⊥) → IfSome (line_in old.table line) (λ y. TakesAlgebraLine y old new) → IsJudged line old new turn.Taken
-taken_text old new line other takes =
-    let y = some_of (line_in old.table line) (some_is_told old.table line other) in
-    (y.0, y.1, subst (λ (o : Option Line). IfSome o (λ z. TakesAlgebraLine z old new)) y.1 takes)
-
 pub refused_text : (c : AlgebraChecking) (line : PacLine) (n : ℕ) (fault : LineFault) (answer : Checked) → answer ≡ answer_of_rule n fault → ((id : ℕ) → line ≡ pac.Close id → ⊥) →
     IfSome (line_in c.table line) (λ y. IsRuleFault c.extended (ledger_of c) y fault) → IsUnlawful n line c answer
 refused_text c line n fault answer is other h =
@@ -82,7 +76,7 @@ text_fails n version e sides l max lines left before now text.TooLong same h = h
 text_fails n version e sides l max lines left before now text.Memory same h = tt
 
 -- A checker that was lent to a reader: its table has grown, and its ledger agrees with the one before.
-module _ (grown : AlgebraChecking) (l : Ledger) (agrees : LedgersAgree (ledger_of grown) l) (same_modulus : modulus_in grown.table ≡ algebra.modulus grown.extended) (version max : ℕ) (same_max : max ≡ grown.extended.max)
+module _ (grown : AlgebraChecking) (l : Ledger) (agrees : LedgersAgree (ledger_of grown) l) (same_modulus : modulus_in grown.table ≡ graphs.modulus grown.extended) (version max : ℕ) (same_max : max ≡ grown.extended.max)
     (old new : Lines) (left behind : Option (List ℕ)) where
   -- a line that is no closing line
   module _ (line : PacLine) (given : IfSome left (λ bytes. TakesText (IsTextOf grown.table version max) old new bytes behind line)) where
@@ -90,7 +84,7 @@ module _ (grown : AlgebraChecking) (l : Ledger) (agrees : LedgersAgree (ledger_o
       x : Line
       begins : BeginsWith (IsLineText version) bytes x rest
       in_range : IsLineInRange grown.extended.max x
-      alike : AreAlike (algebra.modulus grown.extended) x y
+      alike : AreAlike (graphs.modulus grown.extended) x y
 
     there : (y : Line) → line_in grown.table line ≡ Some y → (bytes : List ℕ) (h : TakesText (IsTextOf grown.table version max) old new bytes behind line) → IsThere y bytes h.rest
     there y is bytes h =
@@ -106,7 +100,7 @@ module _ (grown : AlgebraChecking) (l : Ledger) (agrees : LedgersAgree (ledger_o
     pub line_is_taken : (next : AlgebraChecking) (y : Line) → line_in grown.table line ≡ Some y → TakesAlgebraLine y grown next → IfSome left (λ bytes. TakesLawful version grown.extended l (ledger_of next) old new bytes behind)
     line_is_taken next y is takes = told_more left (λ bytes. TakesText (IsTextOf grown.table version max) old new bytes behind line) (λ bytes. TakesLawful version grown.extended l (ledger_of next) old new bytes behind) (λ bytes h.
         let t = there y is bytes h in
-        let m = algebra.modulus grown.extended in
+        let m = graphs.modulus grown.extended in
         let known = ledger_of grown in
         record {
           line = t.x;
@@ -162,7 +156,7 @@ module _ (grown : AlgebraChecking) (l : Ledger) (agrees : LedgersAgree (ledger_o
 
 -- ---- a line that was read and judged
 
-module _ (grown : AlgebraChecking) (l : Ledger) (agrees : LedgersAgree (ledger_of grown) l) (same_modulus : modulus_in grown.table ≡ algebra.modulus grown.extended) (version max : ℕ) (same_max : max ≡ grown.extended.max)
+module _ (grown : AlgebraChecking) (l : Ledger) (agrees : LedgersAgree (ledger_of grown) l) (same_modulus : modulus_in grown.table ≡ graphs.modulus grown.extended) (version max : ℕ) (same_max : max ≡ grown.extended.max)
     (old new : Lines) (left behind : Option (List ℕ)) (line : PacLine) (given : IfSome left (λ bytes. TakesText (IsTextOf grown.table version max) old new bytes behind line)) where
   given_close : (id : ℕ) → line ≡ pac.Close id → IfSome left (λ bytes. TakesText (IsTextOf grown.table version max) old new bytes behind (pac.Close id))
   given_close id is = subst (λ (x : PacLine). IfSome left (λ bytes. TakesText (IsTextOf grown.table version max) old new bytes behind x)) is given

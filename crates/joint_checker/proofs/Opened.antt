@@ -5,9 +5,9 @@ use Rattle.command_core.specs.declared.stop.Stop.{Stop}
 use Rattle.command_core.proofs.CallerLemmas.{IsGraphStop-about, IsLong-about, opens_up_to}
 use Rattle.drup_text.specs.HeaderRefusal.{TooLong}
 use Rattle.graph_core.specs.Graph.{Aig}
-use Rattle.graph_core.specs.Algebra.{Premises}
-use Rattle.graph_core.specs.Algebra.Refusal as cause
-use Rattle.graph_core.specs.Algebra.Refusal.{IsAlgebraRefusal}
+use Rattle.algebra_core.specs.AlgebraLines.{Premises}
+use Rattle.algebra_core.specs.Refusal as cause
+use Rattle.algebra_core.specs.Refusal.{IsAlgebraRefusal}
 use Rattle.graph_core.specs.Graph.Operands.{Sides}
 use Rattle.graph_core.specs.Text.JudgedLines.{Lengths}
 use Rattle.mv_desk.specs.View.{OpensFiles, View}

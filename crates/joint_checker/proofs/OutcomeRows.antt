@@ -4,9 +4,9 @@ use Rattle.aiger_reader.specs.Refusals.{SpellsWithin}
 use Rattle.command_core.specs.Stopping.{IsGraphStop, IsLong, IsStop}
 use Rattle.command_core.specs.declared.stop.Stop.{Stop}
 use Rattle.command_core.proofs.CallerLemmas.{IsLong-weaker, IsStop-weaker}
-use Rattle.graph_core.specs.Algebra.Refusal as cause
-use Rattle.graph_core.specs.Algebra.Refusal.{IsAlgebraRefusal}
-use Rattle.graph_core.specs.Algebra.{Premises, specification}
+use Rattle.algebra_core.specs.Refusal as cause
+use Rattle.algebra_core.specs.Refusal.{IsAlgebraRefusal}
+use Rattle.algebra_core.specs.AlgebraLines.{Premises, specification}
 use Rattle.graph_core.specs.Graph.{Aig, IsWellFormed}
 use Rattle.graph_core.specs.declared.claim.Claim.{Claim}
 use Rattle.graph_core.specs.Graph.Operands.{profile_of, Does, HasShapeFor, sides_for}
@@ -21,9 +21,9 @@ use Rattle.joint_checker.specs.declared.checked.Checked.{Checked}
 use Rattle.joint_checker.specs.declared.checked.Checked.TheVariants as checked
 use Rattle.joint_checker.specs.declared.checked.Refusal.{Refusal}
 use Rattle.joint_checker.specs.declared.checked.Refusal.TheVariants as refusal
-use Rattle.graph_core.specs.Certificates.{IsLawfulAlgebra}
+use Rattle.algebra_core.specs.Certificates.{IsLawfulAlgebra}
 use Rattle.drup_text.specs.HeaderRefusal.{TooLong}
-use Rattle.joint_checker.specs.ClauseFiles.{GivesPremises, ArePremisesOf}
+use Rattle.pair_core.specs.ClauseFiles.{GivesPremises, ArePremisesOf}
 use Rattle.joint_checker.specs.ClauseRefusals.{IsClauseRefusal, IsColumnRefusal}
 use Rattle.joint_checker.specs.Fails.{IsAlgebraFail, IsClauseFail, IsFail, RefusesAlgebra, RefusesClauses}
 use Rattle.joint_checker.specs.LawfulFiles.{HasPremises}

@@ -1,13 +1,13 @@
 -- What is recorded of the lines of an algebra file, one line more, and at its end.
 use Rattle.std.proofs.Common.{◌≡◌, ℕ, ◌+◌, ◌^◌, ◌≤◌, Bool, true, false, List, [], ◌∷◌, ◌++◌, Option, Some, None, IfSome, refl, sym, ap, subst, ◌∙◌, append_assoc, append-nil, arith, length-append}
 use Rattle.std.specs.Option.{IsSomeAnd}
-use Rattle.graph_core.specs.Algebra.{AreLawful, Combination, Delete, Import, Line, Product, Sum}
+use Rattle.algebra_core.specs.AlgebraLines.{AreLawful, Combination, Delete, Import, Line, Product, Sum}
 use Rattle.graph_core.specs.Graph.Extended.{Extended}
 use Rattle.graph_core.specs.Graph.Operands.{Sides}
 use Rattle.clause_core.specs.Clause.{Clause}
-use Rattle.graph_core.specs.Algebra as algebra
-use Rattle.graph_core.specs.Algebra.Likeness.{AreAlike}
-use Rattle.graph_core.specs.Algebra.Text.{AreLineTexts, IsCloseText, IsLineInRange, IsLineText, algebra_header, first_line}
+use Rattle.graph_core.specs.Graph.Extended as graphs
+use Rattle.algebra_core.specs.Likeness.{AreAlike}
+use Rattle.algebra_core.specs.Text.{AreLineTexts, IsCloseText, IsLineInRange, IsLineText, algebra_header, first_line}
 use Rattle.graph_core.specs.Text.{newline}
 use Rattle.graph_core.specs.Text.JudgedLines.{BeginsWith}
 use Rattle.mv_text.specs.LineReading.{Lines}
@@ -23,7 +23,7 @@ use Rattle.poly_text.proofs.CallerLemmas.{close_there, line_there, read_again}
 use Rattle.poly_text.proofs.WritableLines.{read_is_writable}
 use Rattle.clause_judge.proofs.Told.{told_more, told_of}
 use Rattle.joint_checker.specs.AlgebraLines.{IsJudged}
-use Rattle.joint_checker.specs.ClauseFiles.{premises}
+use Rattle.pair_core.specs.ClauseFiles.{premises}
 use Rattle.joint_checker.specs.Records.{ClosesAt, ClosesRecord, ClosesText, IsRecordOf, IsRecordedBody, IsRecordedTo, RecordsText, RecordsTurn, all_recorded}
 use Rattle.joint_checker.specs.declared.algebra_line.Turn.{Turn}
 use Rattle.joint_checker.specs.declared.algebra_line.Turn.TheVariants as turn
@@ -82,18 +82,18 @@ module _ (records : Bool) (version m : ℕ) (old recorded : List Line) where
 
 -- the same over a version, a graph and a choice that are equal
 module _ (records other : Bool) (version w : ℕ) (e f : Extended) (old new : List Line) (left behind : Option (List ℕ)) (given : Turn) (same_records : other ≡ records) (same_version : w ≡ version) (same : f ≡ e)
-    (h : RecordsTurn other w (algebra.modulus f) old new left behind given) where
-  turn_at : RecordsTurn records version (algebra.modulus e) old new left behind given
+    (h : RecordsTurn other w (graphs.modulus f) old new left behind given) where
+  turn_at : RecordsTurn records version (graphs.modulus e) old new left behind given
   turn_at =
-      subst (λ (b : Bool). RecordsTurn b version (algebra.modulus e) old new left behind given) same_records
-      (subst (λ (v : ℕ). RecordsTurn other v (algebra.modulus e) old new left behind given) same_version
-      (subst (λ (x : Extended). RecordsTurn other w (algebra.modulus x) old new left behind given) same h))
+      subst (λ (b : Bool). RecordsTurn b version (graphs.modulus e) old new left behind given) same_records
+      (subst (λ (v : ℕ). RecordsTurn other v (graphs.modulus e) old new left behind given) same_version
+      (subst (λ (x : Extended). RecordsTurn other w (graphs.modulus x) old new left behind given) same h))
 
-  pub taken_record : given ≡ turn.Taken → IfSome left (λ bytes. RecordsText records version (algebra.modulus e) old new bytes behind)
-  taken_record is = let at : RecordsTurn records version (algebra.modulus e) old new left behind turn.Taken = subst (RecordsTurn records version (algebra.modulus e) old new left behind) is turn_at in at
+  pub taken_record : given ≡ turn.Taken → IfSome left (λ bytes. RecordsText records version (graphs.modulus e) old new bytes behind)
+  taken_record is = let at : RecordsTurn records version (graphs.modulus e) old new left behind turn.Taken = subst (RecordsTurn records version (graphs.modulus e) old new left behind) is turn_at in at
 
   pub closed_record : (id : ℕ) → given ≡ turn.Closed id → (new ≡ old) × IfSome left (λ bytes. ClosesText id bytes behind)
-  closed_record id is = let at : RecordsTurn records version (algebra.modulus e) old new left behind (turn.Closed id) = subst (RecordsTurn records version (algebra.modulus e) old new left behind) is turn_at in at
+  closed_record id is = let at : RecordsTurn records version (graphs.modulus e) old new left behind (turn.Closed id) = subst (RecordsTurn records version (graphs.modulus e) old new left behind) is turn_at in at
 
 -- ---- lines that are recorded close
 
@@ -156,12 +156,12 @@ module _ (records : Bool) (version m : ℕ) where
 
 -- the same over a choice, a version, a graph and recorded lines that are equal
 pub body_at : (records other : Bool) (version w : ℕ) (e f : Extended) (rs recorded : List Line) (closing count : ℕ) (behind : Option (List ℕ)) → other ≡ records → w ≡ version → f ≡ e → recorded ≡ rs →
-    IfSome behind (IsRecordedBody other w (algebra.modulus f) recorded closing count) → IfSome behind (IsRecordedBody records version (algebra.modulus e) rs closing count)
+    IfSome behind (IsRecordedBody other w (graphs.modulus f) recorded closing count) → IfSome behind (IsRecordedBody records version (graphs.modulus e) rs closing count)
 body_at records other version w e f rs recorded closing count behind same_records same_version same same_lines h =
-    subst (λ (b : Bool). IfSome behind (IsRecordedBody b version (algebra.modulus e) rs closing count)) same_records
-    (subst (λ (v : ℕ). IfSome behind (IsRecordedBody other v (algebra.modulus e) rs closing count)) same_version
-    (subst (λ (x : Extended). IfSome behind (IsRecordedBody other w (algebra.modulus x) rs closing count)) same
-    (subst (λ (ls : List Line). IfSome behind (IsRecordedBody other w (algebra.modulus f) ls closing count)) same_lines h)))
+    subst (λ (b : Bool). IfSome behind (IsRecordedBody b version (graphs.modulus e) rs closing count)) same_records
+    (subst (λ (v : ℕ). IfSome behind (IsRecordedBody other v (graphs.modulus e) rs closing count)) same_version
+    (subst (λ (x : Extended). IfSome behind (IsRecordedBody other w (graphs.modulus x) rs closing count)) same
+    (subst (λ (ls : List Line). IfSome behind (IsRecordedBody other w (graphs.modulus f) ls closing count)) same_lines h)))
 
 -- ---- the whole file
 

@@ -1,6 +1,6 @@
 -- How many outputs graphs of multipliers have, and that the graph with a header's blocks is of that graph.
 use Rattle.std.proofs.Common.{◌≡◌, refl, ◌≤◌, Bool, true, false, length, arith}
-use Rattle.graph_core.specs.Aiger.Soundness.{IsSizedAs}
+use Rattle.graph_core.specs.Aiger.Sizes.{IsSizedAs}
 use Rattle.graph_core.specs.Graph.Operands.{profile_of}
 use Rattle.graph_core.specs.Graph.{Aig}
 use Rattle.drup_text.specs.Headers.{IsHeaderOf, extended_with}

@@ -3,12 +3,12 @@ use Rattle.std.specs.Prelude.{◌≡◌, ◌+◌, ◌*◌, ◌<◌, ◌≤◌, �
 use Rattle.std.specs.List.{All}
 use Rattle.std.specs.declared.option.Option.{Option}
 use Rattle.std.specs.declared.option.Option.TheVariants.{Some}
-use Rattle.graph_core.specs.Algebra.{Line, Ledger, Premises, AreLawfulLines, Closes, after_all, beginning, modulus, specification}
-use Rattle.graph_core.specs.Algebra.Agreement.{LedgersAgree}
-use Rattle.graph_core.specs.Algebra.Refusal as cause
-use Rattle.graph_core.specs.Algebra.Refusal.{AlgebraCause, IsAlgebraStep, IsRefusedBody, IsRefusedNext}
-use Rattle.graph_core.specs.Algebra.Text.{AreLineTexts, IsCloseText, IsId, IsLineInRange, IsLineText}
-use Rattle.graph_core.specs.Graph.Extended.{Extended}
+use Rattle.algebra_core.specs.AlgebraLines.{Line, Ledger, Premises, AreLawfulLines, Closes, after_all, beginning, specification}
+use Rattle.graph_core.specs.Graph.Extended.{modulus, Extended}
+use Rattle.algebra_core.specs.Agreement.{LedgersAgree}
+use Rattle.algebra_core.specs.Refusal as cause
+use Rattle.algebra_core.specs.Refusal.{AlgebraCause, IsAlgebraStep, IsRefusedBody, IsRefusedNext}
+use Rattle.algebra_core.specs.Text.{AreLineTexts, IsCloseText, IsId, IsLineInRange, IsLineText}
 use Rattle.graph_core.specs.Text.JudgedLines.{BeginsWith, Behind, IsLineStart}
 use Rattle.graph_core.specs.Graph.Operands.{Sides}
 use Rattle.mv_desk.specs.View.{Rose, View}
@@ -19,7 +19,7 @@ use Rattle.mv_text.specs.LineReading.{Lines}
 use Rattle.command_core.specs.declared.stop.Stop.TheVariants as stop
 use Rattle.pac_checker.specs.Checking.{AlgebraChecking, ledger_of}
 use Rattle.joint_checker.specs.AlgebraLines.{KeepsAlgebraTask}
-use Rattle.joint_checker.specs.ClauseFiles.{premises}
+use Rattle.pair_core.specs.ClauseFiles.{premises}
 use Rattle.joint_checker.specs.Records.{ClosesAt, IsRecordedBody, IsRecordedTo}
 use Rattle.joint_checker.specs.declared.algebra_file.Closing.{Closing}
 use Rattle.joint_checker.specs.declared.checked.Checked.{Checked}

@@ -3,10 +3,10 @@ use Rattle.std.specs.Prelude.{◌≡◌, ◌≢◌, ◌⊎◌, ℕ, List, [], If
 use Rattle.std.specs.declared.option.Option.{Option}
 use Rattle.std.specs.declared.option.Option.TheVariants.{Some}
 use Rattle.std.specs.declared.result.Result.{Result}
-use Rattle.graph_core.specs.Algebra.{Ledger, Line, Closes, IsLawfulLine, after, modulus, specification}
-use Rattle.graph_core.specs.Algebra.Refusal.{IsRefusedNext}
-use Rattle.graph_core.specs.Algebra.Text.{IsCloseText, IsId, IsLineInRange, IsLineText}
-use Rattle.graph_core.specs.Graph.Extended.{Extended}
+use Rattle.algebra_core.specs.AlgebraLines.{Ledger, Line, Closes, IsLawfulLine, after, specification}
+use Rattle.graph_core.specs.Graph.Extended.{modulus, Extended}
+use Rattle.algebra_core.specs.Refusal.{IsRefusedNext}
+use Rattle.algebra_core.specs.Text.{IsCloseText, IsId, IsLineInRange, IsLineText}
 use Rattle.graph_core.specs.Text.JudgedLines.{BeginsWith}
 use Rattle.graph_core.specs.Graph.Operands.{Sides}
 use Rattle.mv_desk.specs.Calls.{ReadsOnly}
@@ -14,7 +14,7 @@ use Rattle.mv_desk.specs.View.{KeepsTelling, Rose, View}
 use Rattle.mv_text.specs.declared.line_fail.LineFail.{LineFail}
 use Rattle.mv_desk.specs.declared.slot.Slot.TheVariants as slot
 use Rattle.mv_fact.specs.Always.{Always}
-use Rattle.graph_core.specs.Algebra.Agreement.{LedgersAgree}
+use Rattle.algebra_core.specs.Agreement.{LedgersAgree}
 use Rattle.pac_checker.specs.Checking.{AlgebraChecking, TakesAlgebraLine, ledger_of}
 use Rattle.pac_checker.specs.Faults.{IsCloseFault, IsRuleFault}
 use Rattle.pac_checker.specs.declared.fault.CloseFault.{CloseFault}

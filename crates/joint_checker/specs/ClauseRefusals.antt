@@ -1,7 +1,7 @@
 -- The first refusal of a clause certificate: a line and its cause, or else a column whose goals aren't shown.
 use Rattle.std.specs.Prelude.{ℕ, List, length}
-use Rattle.graph_core.specs.Algebra.{Premises}
-use Rattle.graph_core.specs.Algebra.Agreement.{AreSamePremises}
+use Rattle.algebra_core.specs.AlgebraLines.{Premises}
+use Rattle.algebra_core.specs.Agreement.{AreSamePremises}
 use Rattle.graph_core.specs.Graph.{Aig}
 use Rattle.graph_core.specs.Text.JudgedLines.{IsExact, IsTooLong, Lengths}
 use Rattle.clause_core.specs.ClauseLines.{ClauseLine, IsGoalRefusal}
@@ -9,7 +9,7 @@ use Rattle.clause_judge.specs.LineRefusals.{IsRefusedLines}
 use Rattle.drup_text.specs.HeaderRefusal.{IsFirstHeaderRefusal, LineCause}
 use Rattle.drup_text.specs.declared.head.Header.{Header}
 use Rattle.drup_text.specs.Headers.{extended_with}
-use Rattle.joint_checker.specs.ClauseFiles.{GivesPremises, HasLawfulLines}
+use Rattle.pair_core.specs.ClauseFiles.{GivesPremises, HasLawfulLines}
 
 -- The first line that is refused, from 1, and its cause.
 abbrev pub IsClauseRefusal : Lengths → Aig → List ℕ → ℕ × LineCause → Type 0

@@ -3,10 +3,10 @@ use Rattle.std.specs.Prelude.{ℕ, List, IfSome}
 use Rattle.std.specs.declared.option.Option.{Option}
 use Rattle.command_core.specs.Stopping.{IsLong, IsStop}
 use Rattle.command_core.specs.declared.stop.Stop.{Stop}
-use Rattle.graph_core.specs.Algebra.Refusal as cause
+use Rattle.algebra_core.specs.Refusal as cause
 use Rattle.graph_core.specs.Graph.Operands.{Sides}
-use Rattle.graph_core.specs.Algebra.Refusal.{IsAlgebraRefusal}
-use Rattle.graph_core.specs.Algebra.{Premises}
+use Rattle.algebra_core.specs.Refusal.{IsAlgebraRefusal}
+use Rattle.algebra_core.specs.AlgebraLines.{Premises}
 use Rattle.graph_core.specs.Text.JudgedLines.{Lengths}
 use Rattle.mv_desk.specs.View.{View}
 use Rattle.mv_desk.specs.declared.slot.Slot.TheVariants as slot

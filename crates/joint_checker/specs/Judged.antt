@@ -2,11 +2,11 @@
 use Rattle.std.specs.Prelude.{◌≡◌, true, [], IfSome}
 use Rattle.std.specs.List.{All}
 use Rattle.aiger_reader.specs.Refusals.{SpellsWithin}
-use Rattle.graph_core.specs.Algebra.{AreLawful, Premises, modulus}
-use Rattle.graph_core.specs.Algebra.Text.{IsId}
-use Rattle.graph_core.specs.Aiger.Soundness.{IsSizedAs}
+use Rattle.algebra_core.specs.AlgebraLines.{AreLawful, Premises}
+use Rattle.graph_core.specs.Graph.Extended.{modulus, Extended}
+use Rattle.algebra_core.specs.Text.{IsId}
+use Rattle.graph_core.specs.Aiger.Sizes.{IsSizedAs}
 use Rattle.graph_core.specs.Graph.{IsBuilt}
-use Rattle.graph_core.specs.Graph.Extended.{Extended}
 use Rattle.graph_core.specs.Graph.Operands.{Does, Sides, profile_of, sides_for}
 use Rattle.graph_core.specs.declared.claim.Claim.{Claim}
 use Rattle.clause_core.specs.GateClauses.{gate_clauses}
@@ -17,8 +17,8 @@ use Rattle.pac_checker.specs.Checking.{IsRecordable}
 use Rattle.poly_terms.specs.Tables as table
 use Rattle.poly_text.specs.Lines.{AreOf}
 use Rattle.poly_text.specs.Recorded.{AreMadeOfEarlier, AreRisingIds, HasNewId, ids_in, lines_in}
-use Rattle.trim_core.specs.KeptClauses.{AreEarlier, HaveTightChains}
-use Rattle.joint_checker.specs.ClauseFiles.{AddsClauses, importable, premises}
+use Rattle.clause_core.specs.KeptClauses.{AreEarlier, HaveTightChains}
+use Rattle.pair_core.specs.ClauseFiles.{AddsClauses, importable, premises}
 use Rattle.command_core.specs.Files.{Texts}
 use Rattle.joint_checker.specs.Records.{IsRecordOf}
 use Rattle.joint_checker.specs.declared.algebra_file.Closed.{Closed}

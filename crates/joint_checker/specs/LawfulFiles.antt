@@ -1,15 +1,15 @@
 -- What the three files of `check` come to, as far as the desk tells them.
 use Rattle.std.specs.Prelude.{IfSome}
 use Rattle.command_core.specs.Files.{HasGraph, Texts}
-use Rattle.graph_core.specs.Certificates.{IsLawfulAlgebra}
-use Rattle.graph_core.specs.Algebra.{Premises}
+use Rattle.algebra_core.specs.Certificates.{IsLawfulAlgebra}
+use Rattle.algebra_core.specs.AlgebraLines.{Premises}
 use Rattle.graph_core.specs.Graph.Operands.{profile_of, sides_for}
 use Rattle.graph_core.specs.declared.claim.Claim.{Claim}
 use Rattle.graph_core.specs.declared.profile.Profile.{Profile}
 use Rattle.graph_core.specs.Graph.{Aig}
 use Rattle.mv_desk.specs.declared.limits.Limits.{Limits}
 use Rattle.mv_text.specs.LineReading.{lengths_of}
-use Rattle.joint_checker.specs.ClauseFiles.{ArePremisesOf, GivesPremises}
+use Rattle.pair_core.specs.ClauseFiles.{ArePremisesOf, GivesPremises}
 
 -- There is a graph, which the graph file spells where it is told, and premises of it, which the clause file gives where it is told.
 -- Something holds of both.

@@ -2,9 +2,9 @@
 use Rattle.std.specs.Prelude.{◌≡◌, ◌⊎◌, ℕ, List, Err, IfSome, Ok, Result, ⊤}
 use Rattle.command_core.specs.Stopping.{GivesDue, IsAbout, IsGraphStop, IsLong, IsStop, OpensUpTo}
 use Rattle.command_core.specs.declared.stop.Stop.{Stop}
-use Rattle.graph_core.specs.Algebra.Refusal as cause
-use Rattle.graph_core.specs.Algebra.Refusal.{AlgebraCause, IsAlgebraRefusal}
-use Rattle.graph_core.specs.Algebra.{Premises}
+use Rattle.algebra_core.specs.Refusal as cause
+use Rattle.algebra_core.specs.Refusal.{AlgebraCause, IsAlgebraRefusal}
+use Rattle.algebra_core.specs.AlgebraLines.{Premises}
 use Rattle.graph_core.specs.Graph.{Aig}
 use Rattle.graph_core.specs.Graph.Operands.{Does, profile_of, sides_for}
 use Rattle.graph_core.specs.declared.claim.Claim.{Claim}

@@ -2,12 +2,12 @@
 use Rattle.std.specs.Prelude.{◌≡◌, ℕ, Bool, true, List, [], ◌∷◌, ◌++◌, length, IfSome, ⊤}
 use Rattle.std.specs.declared.option.Option.{Option}
 use Rattle.std.specs.declared.option.Option.TheVariants.{Some}
-use Rattle.graph_core.specs.Algebra.{Line, AreLawful}
-use Rattle.graph_core.specs.Algebra.Text.{AreLineTexts, IsAlgebraText, IsCloseText, IsId, IsLineText}
+use Rattle.algebra_core.specs.AlgebraLines.{Line, AreLawful}
+use Rattle.algebra_core.specs.Text.{AreLineTexts, IsAlgebraText, IsCloseText, IsId, IsLineText}
 use Rattle.graph_core.specs.Text.JudgedLines.{BeginsWith}
 use Rattle.pac_checker.specs.Checking.{AlgebraChecking, recorded_of}
 use Rattle.poly_text.specs.Recorded.{AreAllAlike}
-use Rattle.joint_checker.specs.ClauseFiles.{premises}
+use Rattle.pair_core.specs.ClauseFiles.{premises}
 use Rattle.joint_checker.specs.declared.algebra_line.Turn.{Turn}
 use Rattle.joint_checker.specs.declared.algebra_line.Turn.TheVariants as turn
 

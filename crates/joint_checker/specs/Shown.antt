@@ -2,15 +2,16 @@
 use Rattle.std.specs.Prelude.{◌≡◌, ◌==◌, ℕ, Bool, true, false, if◌then◌else◌}
 use Rattle.std.specs.List.{All}
 use Rattle.clause_core.specs.Facts.{IsClauseFact}
-use Rattle.graph_core.specs.Algebra.{AgreeOnColumns, Premises}
+use Rattle.algebra_core.specs.AlgebraLines.{Premises}
+use Rattle.graph_core.specs.Graph.Extended.{AgreeOnColumns}
 use Rattle.graph_core.specs.Graph.{Aig}
 use Rattle.drup_checker.specs.declared.keeps.Keeps.{Keeps}
 use Rattle.drup_checker.specs.declared.keeps.Keeps.TheVariants as keep
 use Rattle.mv_fact.specs.Always.{Always}
-use Rattle.trim_core.specs.KeptClauses.{AreEarlier}
+use Rattle.clause_core.specs.KeptClauses.{AreEarlier}
 use Rattle.drup_text.specs.Headers.{IsHeaderOf, extended_with}
 use Rattle.joint_checker.specs.declared.clause_file.Shown.{Shown}
-use Rattle.joint_checker.specs.ClauseFiles.{importable, premises}
+use Rattle.pair_core.specs.ClauseFiles.{importable, premises}
 
 -- the premises that it gives
 abbrev pub premises_of : Shown → Premises

@@ -7,8 +7,7 @@ use Rattle.command_core.specs.Stopping.{IsGraphStop, IsStop}
 use Rattle.command_core.specs.declared.stop.Stop.{Stop}
 use Rattle.command_core.specs.declared.stop.Stop.TheVariants as stop
 use Rattle.command_core.proofs.CallerLemmas.{IsGraphStop-about, IsStop-weaker, opens_up_to}
-use Rattle.graph_core.specs.Algebra.{AgreeOnColumns}
-use Rattle.graph_core.specs.Graph.Extended.{Extended}
+use Rattle.graph_core.specs.Graph.Extended.{AgreeOnColumns, Extended}
 use Rattle.graph_core.specs.declared.profile.Profile.TheVariants.{Any}
 use Rattle.graph_core.specs.Graph.{Aig, IsBuilt}
 use Rattle.mv_fact.specs.Always.{Always}

@@ -2,9 +2,8 @@
 use Rattle.std.specs.Prelude.{◌≡◌, ◌≤◌, ℕ, ◌+◌, ◌*◌, ◌%◌, Bool, List, [], ◌∷◌, ◌++◌, map, length, if◌then◌else◌, ◌==◌}
 use Rattle.graph_core.specs.declared.gate.Gate.{Gate}
 use Rattle.graph_core.specs.declared.literal.Lit.{Lit}
-use Rattle.graph_core.specs.Algebra.{AgreeOnColumns}
+use Rattle.graph_core.specs.Graph.Extended.{AgreeOnColumns, Extended}
 use Rattle.graph_core.specs.Graph.Assignments.{Assignment, literal, variable}
-use Rattle.graph_core.specs.Graph.Extended.{Extended}
 use Rattle.graph_core.specs.Graph.Literals.{variable_of}
 use Rattle.graph_core.specs.Graph.{Aig, IsEvaluation, IsWellFormed, evaluated}
 use Rattle.miter_encoder.specs.ColumnGoals.{columns_from}

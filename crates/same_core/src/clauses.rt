@@ -3,7 +3,7 @@ ghost use Rattle.std.specs.Prelude.{◌≡◌, ◌+◌, ◌<◌, ◌≤◌, ◌^
 ghost use Rattle.clause_core.specs.GateClauses.{AreGatesWithin};
 ghost use Rattle.clause_judge.specs.ClauseBody.{IsRestFail, IsShownBody};
 ghost use Rattle.mv_text.specs.CertificateFiles.{GoesOn, left_of_file};
-ghost use Rattle.graph_core.specs.Algebra.{AgreeOnColumns};
+ghost use Rattle.graph_core.specs.Graph.Extended.{AgreeOnColumns};
 ghost use Rattle.mv_desk.specs.Calls.{Inspects, ReadsOnly};
 ghost use Rattle.mv_desk.specs.View.{KeepsTelling, OpensFiles, bytes_under};
 ghost use Rattle.mv_desk.specs.declared.slot.Slot.TheVariants as slot;
@@ -15,8 +15,8 @@ ghost use Rattle.same_core.specs.Merged.{over};
 ghost use Rattle.same_core.specs.Places.{IsMerged};
 
 use crate::merged::Merged;
-use clause_judge::{ClauseFail, checker_of, judge_from, line_refused, read_line};
-use drup_checker::Keeps;
+use clause_judge::{ClauseFail, judge_from, line_refused, read_line};
+use drup_checker::{Checker, Keeps};
 use drup_text::ClauseFile;
 use miter_encoder::{gate_clauses_of, goals_of};
 use mv_desk::{Desk, Limits, Slot};
@@ -63,7 +63,7 @@ fn judge_clauses<D: Desk>(
     ensures only { ReadsOnly slot.Clauses (D.seen desk.old) (D.seen desk.new) }
     ensures tells { KeepsTelling (D.seen desk.old) (D.seen desk.new) }
 {
-    let mut file = match ClauseFile::start_same(alloc, desk, merged.max(), limits) {
+    let mut file = match ClauseFile::start_same(alloc, desk, limits) {
         Ok(file) => file,
         Err(fail) => return Err(line_refused(fail.line, fail.why)),
     };
@@ -94,7 +94,7 @@ fn judge_lines<D: Desk>(
     let clauses = gate_clauses_of(alloc, merged_gates)?;
     let goals = goals_of(alloc, merged.pairs())?;
     let nothing = Keeps::Nothing;
-    let mut checker = checker_of(alloc, greatest, merged_gates, &clauses, &goals, nothing)?;
+    let mut checker = Checker::new(alloc, greatest, merged_gates, &clauses, &goals, nothing)?;
     let first = read_line(desk, file, greatest)?;
     judge_from(desk, file, greatest, &mut checker, first)?;
     Ok(())

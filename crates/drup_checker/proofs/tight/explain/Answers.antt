@@ -5,7 +5,8 @@ use Rattle.std.proofs.lemmas.List.Elements.{Contains-get_or}
 use Rattle.clause_core.specs.Clause.{IsClauseInRange}
 use Rattle.unit_prop.specs.Standing.{IsReasonOf, at}
 use Rattle.unit_prop.specs.Trail.{signed_variable}
-use Rattle.drup_checker.specs.Tightness.{IsReached, IsVariableSeen, Marks}
+use Rattle.drup_checker.proofs.Words.{IsReached}
+use Rattle.drup_checker.specs.Tightness.{IsVariableSeen, Marks}
 use Rattle.drup_checker.proofs.LiveClauses.{written}
 use Rattle.drup_checker.proofs.Tightening.{opposed_range, reached_assumed, reached_first, reached_forced, reached_unseen, reason_place, reason_range}
 use Rattle.drup_checker.proofs.tight.explain.Goals as goal

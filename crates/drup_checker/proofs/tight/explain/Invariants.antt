@@ -1,5 +1,5 @@
 use Rattle.std.proofs.Common.{◌≤◌, length, map, neg_ℤ}
-use Rattle.drup_checker.specs.Tightness.{IsReached}
+use Rattle.drup_checker.proofs.Words.{IsReached}
 use Rattle.drup_checker.proofs.tight.explain.Given as goal
 
 abbrev pub invariant-walk : goal.invariant-walk

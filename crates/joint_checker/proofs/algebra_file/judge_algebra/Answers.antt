@@ -1,9 +1,9 @@
 use Rattle.std.proofs.Common.{rules, ◌≡◌, ◌≤◌, ℕ, List, ap, length, refl, sym, subst, ◌∙◌}
 use Rattle.std.specs.Option.{IfSome}
 use Rattle.std.proofs.lemmas.Result.{err_from_is_err_and}
-use Rattle.graph_core.specs.Algebra.{AreLawful, Line, Premises, beginning, modulus, specification}
-use Rattle.graph_core.specs.Algebra.Agreement.{LedgersAgree}
-use Rattle.graph_core.specs.Graph.Extended.{Extended}
+use Rattle.algebra_core.specs.AlgebraLines.{AreLawful, Line, Premises, beginning, specification}
+use Rattle.graph_core.specs.Graph.Extended.{modulus, Extended}
+use Rattle.algebra_core.specs.Agreement.{LedgersAgree}
 use Rattle.graph_core.specs.Graph.Operands.{Sides, sides_for}
 use Rattle.mv_desk.specs.declared.slot.Slot.TheVariants as slot
 use Rattle.mv_desk.proofs.CallerLemmas.{KeepsTelling-trans, ReadsOnly-trans}
@@ -16,7 +16,7 @@ use Rattle.pac_checker.specs.Checking.{IsRecordable, ledger_of}
 use Rattle.poly_text.specs.Recorded.{lines_in}
 use Rattle.joint_checker.specs.AlgebraBody.{IsBodyFail, IsLawfulBody}
 use Rattle.mv_text.specs.CertificateFiles.{left_of_file}
-use Rattle.joint_checker.specs.ClauseFiles.{importable, premises}
+use Rattle.pair_core.specs.ClauseFiles.{importable, premises}
 use Rattle.joint_checker.specs.Shown.{premises_of}
 use Rattle.joint_checker.proofs.AlgebraTurns.{begins}
 use Rattle.joint_checker.proofs.AlgebraFiles.{body_fails, header_fails, text_is_lawful}

@@ -1,8 +1,7 @@
 use Rattle.std.proofs.Common.{◌≤◌, length, ap, refl, sym, subst, ◌∙◌}
 use Rattle.std.proofs.lemmas.Result.{IfErr-weaker, IfOk-weaker}
-use Rattle.graph_core.specs.Graph.Extended.{Extended}
+use Rattle.graph_core.specs.Graph.Extended.{Extended, modulus}
 use Rattle.graph_core.specs.Graph.Operands.{Sides}
-use Rattle.graph_core.specs.Algebra.{modulus}
 use Rattle.mv_desk.specs.declared.slot.Slot.TheVariants as slot
 use Rattle.pac_checker.specs.Checking.{IsRecordable, ledger_of}
 use Rattle.poly_text.proofs.CallerLemmas.{outputs_fit}

@@ -1,7 +1,7 @@
 use Rattle.std.proofs.Common.{List, sym, subst}
-use Rattle.graph_core.specs.Algebra.{AreLawful, Line}
+use Rattle.algebra_core.specs.AlgebraLines.{AreLawful, Line}
 use Rattle.poly_text.specs.WrittenLines.{IsWritable}
-use Rattle.joint_checker.specs.ClauseFiles.{premises}
+use Rattle.pair_core.specs.ClauseFiles.{premises}
 use Rattle.joint_checker.proofs.algebra_line.judge_text.Goals as goal
 
 pub returns-in-Ok-clause-closes : goal.returns-in-Ok-clause-closes

@@ -4,14 +4,15 @@ use Rattle.command_core.specs.Stopping.{IsGraphStop, IsStop}
 use Rattle.command_core.specs.declared.stop.Stop.{Stop}
 use Rattle.graph_core.specs.declared.profile.Profile.{Profile}
 use Rattle.std.specs.Option.{IfSome}
-use Rattle.graph_core.specs.Algebra.{modulus, specification}
+use Rattle.algebra_core.specs.AlgebraLines.{specification}
+use Rattle.graph_core.specs.Graph.Extended.{modulus}
 use Rattle.graph_core.specs.Graph.{Aig}
 use Rattle.mv_desk.specs.declared.slot.Slot.TheVariants as slot
 use Rattle.mv_fact.specs.Always.{Always}
 use Rattle.poly_text.specs.Recorded.{lines_in}
 use Rattle.joint_checker.specs.Records.{IsRecordOf}
 use Rattle.std.proofs.lemmas.Result.{err_from_is_err_and}
-use Rattle.graph_core.specs.Aiger.Soundness.{IsSizedAs}
+use Rattle.graph_core.specs.Aiger.Sizes.{IsSizedAs}
 use Rattle.graph_core.specs.Graph.Operands.{profile_of, sides_for}
 use Rattle.graph_core.proofs.OfAiger.CallerLemmas.{shape_for}
 use Rattle.mv_desk.specs.View.{View, bytes_under}

@@ -4,7 +4,7 @@ use Rattle.mv_desk.specs.View.{bytes_under}
 use Rattle.mv_desk.specs.declared.slot.Slot.TheVariants as slot
 use Rattle.mv_desk.proofs.CallerLemmas.{IfSome-Keeps}
 use Rattle.mv_text.specs.LineReading.{lengths_of}
-use Rattle.joint_checker.specs.ClauseFiles.{AddsClauses, GivesPremises}
+use Rattle.pair_core.specs.ClauseFiles.{AddsClauses, GivesPremises}
 use Rattle.joint_checker.specs.Fails.{IsClauseFail}
 use Rattle.joint_checker.specs.Shown.{premises_of}
 use Rattle.joint_checker.proofs.OpenedTexts.{clauses_fail}

@@ -14,7 +14,7 @@ use Rattle.clause_judge.specs.ClauseLines.{IsTextFail, ReadsNext}
 use Rattle.mv_text.specs.CertificateFiles.{left_of_file}
 use Rattle.clause_judge.proofs.ClauseTurns.{begins_with, first_fails, nothing_joined, nothing_passed}
 use Rattle.drup_checker.specs.declared.keeps.Keeps.{Keeps}
-use Rattle.trim_core.specs.KeptClauses.{AreEarlier}
+use Rattle.clause_core.specs.KeptClauses.{AreEarlier}
 use Rattle.joint_checker.proofs.KeptRecords.{none_earlier, none_tight, tight_moved}
 use Rattle.joint_checker.proofs.clause_file.judge_body.Goals as goal
 
@@ -62,11 +62,11 @@ returns-then-is_nothing-clause-earlier g c = none_earlier c.nothing_kept.result.
 
 -- ---- all lines
 
-pub checker_of-requires-clause-in_range : goal.checker_of-requires-clause-in_range
-checker_of-requires-clause-in_range g c = subst (λ (m : ℕ). All (IsClauseInRange m) c.in_ok-clauses.clauses) (sym c.max-max.ensures.value) c.in_ok-clauses.ensures.in_range
+pub new-requires-clause-in_range : goal.new-requires-clause-in_range
+new-requires-clause-in_range g c = subst (λ (m : ℕ). All (IsClauseInRange m) c.in_ok-clauses.clauses) (sym c.max-max.ensures.value) c.in_ok-clauses.ensures.in_range
 
-pub checker_of-requires-clause-of_gates : goal.checker_of-requires-clause-of_gates
-checker_of-requires-clause-of_gates g c = subst (λ (gates : List Gate). AreSameSets c.in_ok-clauses.clauses (gate_clauses gates)) (sym c.gates.ensures.value) c.in_ok-clauses.ensures.sets
+pub new-requires-clause-of_gates : goal.new-requires-clause-of_gates
+new-requires-clause-of_gates g c = subst (λ (gates : List Gate). AreSameSets c.in_ok-clauses.clauses (gate_clauses gates)) (sym c.gates.ensures.value) c.in_ok-clauses.ensures.sets
 
 pub judge_from-requires-clause-begins : goal.judge_from-requires-clause-begins
 judge_from-requires-clause-begins g c =
@@ -78,8 +78,8 @@ judge_from-requires-clause-begins g c =
       e,
       start,
       body,
-      begins_with e start body c.in_ok-checker.checker c.gates.result.now c.in_ok-goals.goals c.max-max.result c.in_ok-first.first file (left_of_file slot.Clauses file middle)
-          c.in_ok-checker.ensures.taken (sym c.gates.ensures.value) c.in_ok-checker.ensures.max c.max-max.ensures.value c.in_ok-checker.ensures.goals c.in_ok-goals.ensures.sets c.in_ok-first.ensures.lengths c.requires.limit
+      begins_with e start body c.in_ok-checker.checker c.gates.result.now c.in_ok-clauses.clauses c.in_ok-goals.goals c.args.keeps c.max-max.result c.in_ok-first.first file (left_of_file slot.Clauses file middle)
+          c.in_ok-checker.ensures.starts c.in_ok-checker.ensures.shown (subst (λ (gates : List Gate). AreSameSets c.in_ok-clauses.clauses (gate_clauses gates)) (sym c.gates.ensures.value) c.in_ok-clauses.ensures.sets) (sym c.gates.ensures.value) c.max-max.ensures.value c.in_ok-goals.ensures.sets c.in_ok-first.ensures.lengths c.requires.limit
           c.in_ok-first.ensures.next,
     )
 
@@ -91,12 +91,12 @@ returns-clause-lawful g c =
     let file = c.read_line.new.file in
     let body = left_of_file slot.Clauses start (g.D.Desk.seen c.args.desk.now) in
     let begins =
-    begins_with e start body c.in_ok-checker.checker c.gates.result.now c.in_ok-goals.goals c.max-max.result c.in_ok-first.first file (left_of_file slot.Clauses file middle)
-    c.in_ok-checker.ensures.taken (sym c.gates.ensures.value) c.in_ok-checker.ensures.max c.max-max.ensures.value c.in_ok-checker.ensures.goals c.in_ok-goals.ensures.sets c.in_ok-first.ensures.lengths c.requires.limit
+    begins_with e start body c.in_ok-checker.checker c.gates.result.now c.in_ok-clauses.clauses c.in_ok-goals.goals c.args.keeps c.max-max.result c.in_ok-first.first file (left_of_file slot.Clauses file middle)
+    c.in_ok-checker.ensures.starts c.in_ok-checker.ensures.shown (subst (λ (gates : List Gate). AreSameSets c.in_ok-clauses.clauses (gate_clauses gates)) (sym c.gates.ensures.value) c.in_ok-clauses.ensures.sets) (sym c.gates.ensures.value) c.max-max.ensures.value c.in_ok-goals.ensures.sets c.in_ok-first.ensures.lengths c.requires.limit
     c.in_ok-first.ensures.next in
     let count = c.in_ok-lines.lines in
     subst (λ (cs : List Clause). IfSome body (IsShownWith e start.lines c.args.keeps cs count)) (sym c.into_record.ensures.added)
-    (subst (λ (v : Keeps). IfSome body (IsShownWith e start.lines v c.judge_from.new.checker.added count)) c.in_ok-checker.ensures.keeps (c.in_ok-lines.ensures.lawful e start body begins))
+    (subst (λ (v : Keeps). IfSome body (IsShownWith e start.lines v c.judge_from.new.checker.added count)) c.in_ok-checker.ensures.starts.keeps_is (c.in_ok-lines.ensures.lawful e start body begins))
 
 pub returns-clause-columns : goal.returns-clause-columns
 returns-clause-columns g c =
@@ -106,14 +106,14 @@ returns-clause-columns g c =
     let file = c.read_line.new.file in
     let body = left_of_file slot.Clauses start (g.D.Desk.seen c.args.desk.now) in
     let begins =
-    begins_with e start body c.in_ok-checker.checker c.gates.result.now c.in_ok-goals.goals c.max-max.result c.in_ok-first.first file (left_of_file slot.Clauses file middle)
-    c.in_ok-checker.ensures.taken (sym c.gates.ensures.value) c.in_ok-checker.ensures.max c.max-max.ensures.value c.in_ok-checker.ensures.goals c.in_ok-goals.ensures.sets c.in_ok-first.ensures.lengths c.requires.limit
+    begins_with e start body c.in_ok-checker.checker c.gates.result.now c.in_ok-clauses.clauses c.in_ok-goals.goals c.args.keeps c.max-max.result c.in_ok-first.first file (left_of_file slot.Clauses file middle)
+    c.in_ok-checker.ensures.starts c.in_ok-checker.ensures.shown (subst (λ (gates : List Gate). AreSameSets c.in_ok-clauses.clauses (gate_clauses gates)) (sym c.gates.ensures.value) c.in_ok-clauses.ensures.sets) (sym c.gates.ensures.value) c.max-max.ensures.value c.in_ok-goals.ensures.sets c.in_ok-first.ensures.lengths c.requires.limit
     c.in_ok-first.ensures.next in
     c.in_ok-lines.ensures.columns e start body begins
 
 pub returns-clause-facts : goal.returns-clause-facts
 returns-clause-facts g c =
-    let same = c.judge_from.ensures.gates ∙ c.in_ok-checker.ensures.gates ∙ c.gates.ensures.value in
+    let same = c.judge_from.ensures.gates ∙ c.in_ok-checker.ensures.starts.gates_are ∙ c.gates.ensures.value in
     subst (All (IsClauseFact c.args.extended.now.gates)) (sym c.into_record.ensures.added)
     (subst (λ (gates : List Gate). All (IsClauseFact gates) c.judge_from.new.checker.added) same c.into_record.ensures.facts)
 
@@ -121,9 +121,9 @@ pub returns-clause-chains : goal.returns-clause-chains
 returns-clause-chains g c given =
     let k = c.judge_from.new.checker in
     let r = c.into_record.result in
-    let same = c.judge_from.ensures.gates ∙ c.in_ok-checker.ensures.gates ∙ c.gates.ensures.value in
+    let same = c.judge_from.ensures.gates ∙ c.in_ok-checker.ensures.starts.gates_are ∙ c.gates.ensures.value in
     tight_moved (gate_clauses k.gates) (gate_clauses c.args.extended.now.gates) k.added r.added k.uses r.uses.items (ap gate_clauses same) (sym c.into_record.ensures.added) (sym c.into_record.ensures.uses)
-    (c.into_record.ensures.chains (c.judge_from.ensures.keeps ∙ c.in_ok-checker.ensures.keeps ∙ given))
+    (c.into_record.ensures.chains (c.judge_from.ensures.keeps ∙ c.in_ok-checker.ensures.starts.keeps_is ∙ given))
 
 pub returns-clause-earlier : goal.returns-clause-earlier
 returns-clause-earlier g c = subst AreEarlier (sym c.into_record.ensures.uses) c.into_record.ensures.earlier
@@ -137,8 +137,8 @@ returns-in_err-lines-clause-refused g c =
     let file = c.read_line.new.file in
     let body = left_of_file slot.Clauses start first in
     let begins =
-    begins_with e start body c.in_ok-checker.checker c.gates.result.now c.in_ok-goals.goals c.max-max.result c.in_ok-first.first file (left_of_file slot.Clauses file middle)
-    c.in_ok-checker.ensures.taken (sym c.gates.ensures.value) c.in_ok-checker.ensures.max c.max-max.ensures.value c.in_ok-checker.ensures.goals c.in_ok-goals.ensures.sets c.in_ok-first.ensures.lengths c.requires.limit
+    begins_with e start body c.in_ok-checker.checker c.gates.result.now c.in_ok-clauses.clauses c.in_ok-goals.goals c.args.keeps c.max-max.result c.in_ok-first.first file (left_of_file slot.Clauses file middle)
+    c.in_ok-checker.ensures.starts c.in_ok-checker.ensures.shown (subst (λ (gates : List Gate). AreSameSets c.in_ok-clauses.clauses (gate_clauses gates)) (sym c.gates.ensures.value) c.in_ok-clauses.ensures.sets) (sym c.gates.ensures.value) c.max-max.ensures.value c.in_ok-goals.ensures.sets c.in_ok-first.ensures.lengths c.requires.limit
     c.in_ok-first.ensures.next in
     let p = err_from_is_err_and c.from_residual-in_err-lines.result c.from_residual-in_err-lines.ensures.1 in
     rw (p.1, p.2) (c.in_err-lines.ensures.refused e start body begins first c.in_ok-first.ensures.only.later)

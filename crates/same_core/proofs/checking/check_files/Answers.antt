@@ -1,7 +1,7 @@
 use Rattle.std.proofs.Common.{sym, subst}
 use Rattle.std.proofs.lemmas.Result.{err_from_is_err_and}
 use Rattle.std.specs.Option.{IfSome}
-use Rattle.graph_core.specs.Algebra.{AgreeOnColumns}
+use Rattle.graph_core.specs.Graph.Extended.{AgreeOnColumns}
 use Rattle.mv_desk.specs.View.{bytes_under}
 use Rattle.mv_desk.proofs.CallerLemmas.{OpensFiles-trans}
 use Rattle.mv_fact.specs.Always.{Always}

@@ -15,6 +15,7 @@ use Rattle.clause_judge.specs.ClauseLines.{IsTextFail}
 use Rattle.mv_text.specs.CertificateFiles.{left_of_file}
 use Rattle.clause_judge.proofs.ClauseTurns.{begins_with, first_fails}
 use Rattle.clause_judge.proofs.Told.{told_more}
+use Rattle.drup_checker.specs.declared.keeps.Keeps.TheVariants.{Nothing}
 use Rattle.same_core.specs.Merged.{over}
 use Rattle.same_core.proofs.clauses.judge_lines.Goals as goal
 
@@ -43,15 +44,15 @@ returns-in_err-first-clause-refused g c =
 
 -- ---- all lines
 
-pub checker_of-requires-clause-in_range : goal.checker_of-requires-clause-in_range
-checker_of-requires-clause-in_range g c =
+pub new-requires-clause-in_range : goal.new-requires-clause-in_range
+new-requires-clause-in_range g c =
     let b = c.args.merged.now in
     let clauses = c.in_ok-clauses.clauses in
     subst (λ (m : ℕ). All (IsClauseInRange m) clauses) (sym c.max-greatest.ensures)
     (within_range b.max b.gates clauses c.requires.merged.within (subst (λ (gates : List Gate). AreSameSets clauses (gate_clauses gates)) c.gates-merged_gates.ensures c.in_ok-clauses.ensures.sets))
 
-pub checker_of-requires-clause-of_gates : goal.checker_of-requires-clause-of_gates
-checker_of-requires-clause-of_gates g c = c.in_ok-clauses.ensures.sets
+pub new-requires-clause-of_gates : goal.new-requires-clause-of_gates
+new-requires-clause-of_gates g c = c.in_ok-clauses.ensures.sets
 
 pub judge_from-requires-clause-begins : goal.judge_from-requires-clause-begins
 judge_from-requires-clause-begins g c =
@@ -64,8 +65,8 @@ judge_from-requires-clause-begins g c =
       e,
       start,
       body,
-      begins_with e start body c.in_ok-checker.checker c.gates-merged_gates.result.now c.in_ok-goals.goals c.max-greatest.result c.in_ok-first.first file (left_of_file slot.Clauses file middle)
-          c.in_ok-checker.ensures.taken (sym c.gates-merged_gates.ensures) c.in_ok-checker.ensures.max c.max-greatest.ensures c.in_ok-checker.ensures.goals shown_goals c.in_ok-first.ensures.lengths c.requires.limit
+      begins_with e start body c.in_ok-checker.checker c.gates-merged_gates.result.now c.in_ok-clauses.clauses c.in_ok-goals.goals Nothing c.max-greatest.result c.in_ok-first.first file (left_of_file slot.Clauses file middle)
+          c.in_ok-checker.ensures.starts c.in_ok-checker.ensures.shown c.in_ok-clauses.ensures.sets (sym c.gates-merged_gates.ensures) c.max-greatest.ensures shown_goals c.in_ok-first.ensures.lengths c.requires.limit
           c.in_ok-first.ensures.next,
     )
 
@@ -78,8 +79,8 @@ returns-clause-lawful g c =
     let body = left_of_file slot.Clauses start (g.D.Desk.seen c.args.desk.now) in
     let shown_goals = subst (λ (pairs : List (Lit × Lit)). AreGoalsOfColumns (columns_from 0 pairs) c.in_ok-goals.goals) c.pairs.ensures c.in_ok-goals.ensures.sets in
     let begins =
-    begins_with e start body c.in_ok-checker.checker c.gates-merged_gates.result.now c.in_ok-goals.goals c.max-greatest.result c.in_ok-first.first file (left_of_file slot.Clauses file middle)
-    c.in_ok-checker.ensures.taken (sym c.gates-merged_gates.ensures) c.in_ok-checker.ensures.max c.max-greatest.ensures c.in_ok-checker.ensures.goals shown_goals c.in_ok-first.ensures.lengths c.requires.limit
+    begins_with e start body c.in_ok-checker.checker c.gates-merged_gates.result.now c.in_ok-clauses.clauses c.in_ok-goals.goals Nothing c.max-greatest.result c.in_ok-first.first file (left_of_file slot.Clauses file middle)
+    c.in_ok-checker.ensures.starts c.in_ok-checker.ensures.shown c.in_ok-clauses.ensures.sets (sym c.gates-merged_gates.ensures) c.max-greatest.ensures shown_goals c.in_ok-first.ensures.lengths c.requires.limit
     c.in_ok-first.ensures.next in
     told_more body (IsShownWith e start.lines c.in_ok-checker.checker.keeps c.judge_from.new.checker.added c.in_ok-judge_from.field-0) (IsShownBody e start.lines) (λ bytes there. (there.0, there.1, there.2))
     (c.in_ok-judge_from.ensures.lawful e start body begins)
@@ -93,8 +94,8 @@ returns-clause-agree g c =
     let body = left_of_file slot.Clauses start (g.D.Desk.seen c.args.desk.now) in
     let shown_goals = subst (λ (pairs : List (Lit × Lit)). AreGoalsOfColumns (columns_from 0 pairs) c.in_ok-goals.goals) c.pairs.ensures c.in_ok-goals.ensures.sets in
     let begins =
-    begins_with e start body c.in_ok-checker.checker c.gates-merged_gates.result.now c.in_ok-goals.goals c.max-greatest.result c.in_ok-first.first file (left_of_file slot.Clauses file middle)
-    c.in_ok-checker.ensures.taken (sym c.gates-merged_gates.ensures) c.in_ok-checker.ensures.max c.max-greatest.ensures c.in_ok-checker.ensures.goals shown_goals c.in_ok-first.ensures.lengths c.requires.limit
+    begins_with e start body c.in_ok-checker.checker c.gates-merged_gates.result.now c.in_ok-clauses.clauses c.in_ok-goals.goals Nothing c.max-greatest.result c.in_ok-first.first file (left_of_file slot.Clauses file middle)
+    c.in_ok-checker.ensures.starts c.in_ok-checker.ensures.shown c.in_ok-clauses.ensures.sets (sym c.gates-merged_gates.ensures) c.max-greatest.ensures shown_goals c.in_ok-first.ensures.lengths c.requires.limit
     c.in_ok-first.ensures.next in
     c.in_ok-judge_from.ensures.columns e start body begins
 
@@ -108,8 +109,8 @@ returns-in_err-judge_from-clause-refused g c =
     let body = left_of_file slot.Clauses start first in
     let shown_goals = subst (λ (pairs : List (Lit × Lit)). AreGoalsOfColumns (columns_from 0 pairs) c.in_ok-goals.goals) c.pairs.ensures c.in_ok-goals.ensures.sets in
     let begins =
-    begins_with e start body c.in_ok-checker.checker c.gates-merged_gates.result.now c.in_ok-goals.goals c.max-greatest.result c.in_ok-first.first file (left_of_file slot.Clauses file middle)
-    c.in_ok-checker.ensures.taken (sym c.gates-merged_gates.ensures) c.in_ok-checker.ensures.max c.max-greatest.ensures c.in_ok-checker.ensures.goals shown_goals c.in_ok-first.ensures.lengths c.requires.limit
+    begins_with e start body c.in_ok-checker.checker c.gates-merged_gates.result.now c.in_ok-clauses.clauses c.in_ok-goals.goals Nothing c.max-greatest.result c.in_ok-first.first file (left_of_file slot.Clauses file middle)
+    c.in_ok-checker.ensures.starts c.in_ok-checker.ensures.shown c.in_ok-clauses.ensures.sets (sym c.gates-merged_gates.ensures) c.max-greatest.ensures shown_goals c.in_ok-first.ensures.lengths c.requires.limit
     c.in_ok-first.ensures.next in
     let p = err_from_is_err_and c.from_residual-in_err-judge_from.result c.from_residual-in_err-judge_from.ensures.1 in
     rw (p.1, p.2) (c.in_err-judge_from.ensures.refused e start body begins first c.in_ok-first.ensures.only.later)

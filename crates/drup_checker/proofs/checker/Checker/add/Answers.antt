@@ -4,7 +4,7 @@ use Rattle.std.proofs.lemmas.Result.{err_from_is_err_and}
 use Rattle.clause_core.specs.Clause.{Clause}
 use Rattle.clause_core.specs.GateClauses.{gate_clauses}
 use Rattle.clause_core.specs.UnitPropagation.{IsRup}
-use Rattle.trim_core.proofs.Chains.{as_many}
+use Rattle.clause_core.proofs.CallerLemmas.{as_many}
 use Rattle.drup_checker.specs.Checking.{AddsRup, Checking, Held, KeepsClauses, ShowsBy, checking, held_with, kept, kept_uses}
 use Rattle.drup_checker.specs.declared.keeps.Keeps.{Keeps}
 use Rattle.drup_checker.specs.declared.keeps.Keeps.TheVariants as keep

@@ -2,7 +2,7 @@ use Rattle.std.proofs.Common.{◌≡◌, [], subst}
 use Rattle.std.specs.List.{All}
 use Rattle.clause_core.specs.Facts.{IsClauseFact}
 use Rattle.clause_core.specs.GateClauses.{gate_clauses}
-use Rattle.trim_core.specs.KeptClauses.{AreEarlier, HaveTightChains}
+use Rattle.clause_core.specs.KeptClauses.{AreEarlier, HaveTightChains}
 use Rattle.drup_checker.specs.Checking.{Checking}
 use Rattle.drup_checker.specs.declared.keeps.Keeps.TheVariants as keep
 use Rattle.drup_checker.proofs.Kept.{are_earlier}
