@@ -1,3 +1,4 @@
+pub mod Words
 pub mod Trails
 pub mod Standings
 pub mod LogLemmas

@@ -19,7 +19,8 @@ use Rattle.cdcl_solver.proofs.Trails.{IsValue, literal_positive}
 use Rattle.unit_prop.specs.Trail.{IsLiteralUpTo}
 use Rattle.unit_prop.specs.Standing.{Standing, live_of, IsPropagated}
 use Rattle.cdcl_solver.proofs.Standings.{front, behind}
-use Rattle.cdcl_solver.specs.Loading.{SameLive, Loads}
+use Rattle.cdcl_solver.specs.Loading.{SameLive}
+use Rattle.cdcl_solver.proofs.Words.{Loads}
 use Rattle.cdcl_solver.specs.Additions.{AreAdditions, left_by}
 use Rattle.cdcl_solver.specs.Search.{AllStand}
 use Rattle.cdcl_solver.specs.Models.{AreModelValues}

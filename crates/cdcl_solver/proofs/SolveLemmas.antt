@@ -13,7 +13,8 @@ use Rattle.unit_prop.specs.Standing.{Standing, live_of, IsPropagated}
 use Rattle.cdcl_solver.proofs.Trails.{trail_of, clause_within, literal_positive}
 use Rattle.cdcl_solver.proofs.Trails.{consistent}
 use Rattle.cdcl_solver.proofs.Standings.{not_refuted}
-use Rattle.cdcl_solver.specs.Loading.{SameLive, Loads}
+use Rattle.cdcl_solver.specs.Loading.{SameLive}
+use Rattle.cdcl_solver.proofs.Words.{Loads}
 use Rattle.cdcl_solver.specs.Levels.{Keeps}
 use Rattle.cdcl_solver.specs.Search.{StandsUnder, ExtendsStanding, AllStand}
 use Rattle.cdcl_solver.specs.Models.{AreModelValues}

@@ -19,7 +19,8 @@ use Rattle.std.specs.Bool.{MatchBool}
 use Rattle.cdcl_solver.specs.Search.{BeginsSearch}
 use Rattle.cdcl_solver.specs.Levels.{IsStage, Keeps}
 use Rattle.cdcl_solver.specs.Additions.{AreAdditions}
-use Rattle.cdcl_solver.specs.Loading.{SameLive, Loads, IsSolverOver}
+use Rattle.cdcl_solver.specs.Loading.{SameLive, IsSolverOver}
+use Rattle.cdcl_solver.proofs.Words.{Loads}
 use Rattle.cdcl_solver.specs.Logs.{LogView, Continues, lemmas}
 use Rattle.cdcl_solver.specs.Solvers.{SolverView, IsReady, IsSolverEnd, TurnsSearch, with_clause}
 use Rattle.cdcl_solver.specs.Solving.{IsAnswer, assignment_of}

@@ -11,12 +11,6 @@ pub record SameLive (a b : List Clause) : Type 0 where
   pub there : (c : Clause) → Contains a c → Contains b c
   pub back : (c : Clause) → Contains b c → Contains a c
 
--- These clauses are live, over the variables.
-pub record Loads (s : Standing) (max : ℕ) (clauses : List Clause) : Type 0 where
-  pub greatest : s.trail.greatest ≡ max
-  pub live : SameLive (live_of s.clauses) clauses
-  pub within : (c : Clause) → Contains clauses c → (l : ℤ) → Contains c l → IsLiteralUpTo max l
-
 -- a solver over these variables, over which these clauses are live
 abbrev pub IsSolverOver : SolverView → ℕ → List Clause → Type 0
 IsSolverOver s max clauses = (s.max ≡ max) × SameLive s.live clauses

@@ -9,4 +9,7 @@ pub mod GateClauseLaws
 pub mod AddedClauses
 pub mod Goals
 pub mod Log
+pub mod Chains
+pub mod Chosen
+pub mod Used
 pub mod CallerLemmas

@@ -2,7 +2,7 @@
 ghost use Rattle.std.specs.Prelude.{◌≡◌, ◌≢◌, IfErr, IfOk, IfSome};
 ghost use Rattle.aiger_reader.specs.Opening.{OpensOnly};
 ghost use Rattle.aiger_reader.specs.Refusals.{SpellsWithin};
-ghost use Rattle.graph_core.specs.Aiger.Soundness.{IsSizedAs};
+ghost use Rattle.graph_core.specs.Aiger.Sizes.{IsSizedAs};
 ghost use Rattle.graph_core.specs.Graph.{IsBuilt};
 ghost use Rattle.mv_desk.specs.Calls.{Inspects};
 ghost use Rattle.mv_desk.specs.View.{bytes_under};

@@ -7,10 +7,9 @@ use Rattle.std.proofs.lemmas.Bool.{cases_Bool, cases_eq, cases_lt}
 use Rattle.graph_core.specs.declared.literal.Lit.{Lit}
 use Rattle.graph_core.specs.declared.gate.Gate.{Gate}
 use Rattle.graph_core.specs.Graph.Assignments.{Assignment, variable, literal}
-use Rattle.graph_core.specs.Graph.Literals.{variable_of, negation_of}
+use Rattle.graph_core.specs.Graph.Literals.{variable_of, negation_of, plain, inverted}
 use Rattle.graph_core.proofs.OfGraphs.CallerLemmas.{variable_of-negated, variable_same}
 use Rattle.frontier_core.specs.Sets.{has}
-use Rattle.graph_core.specs.Graph.Literals.{plain, inverted}
 use Rattle.enough_budget.proofs.Network.{gates_at}
 use Rattle.enough_budget.proofs.Needed.{IsReader}
 

@@ -6,9 +6,9 @@ use Rattle.std.proofs.lemmas.Bool.{cases_eq}
 use Rattle.std.proofs.lemmas.List.{length-map}
 use Rattle.std.proofs.lemmas.List.Elements.{All-from_recursion}
 use Rattle.graph_core.specs.Graph.Assignments.{Assignment, variable, bit}
-use Rattle.graph_core.specs.Algebra.Polynomials.{Term, Polynomial, product, term_value, sum_of, difference}
-use Rattle.graph_core.proofs.OfGraphs.CallerLemmas.{difference_plus, product_same, sum_same}
-use Rattle.graph_core.proofs.OfAlgebra.CallerLemmas.{sum_of-append}
+use Rattle.algebra_core.specs.Polynomials.{Term, Polynomial, product, term_value, sum_of, difference}
+use Rattle.graph_core.proofs.OfGraphs.CallerLemmas.{product_same, sum_same}
+use Rattle.algebra_core.proofs.CallerLemmas.{difference_plus, sum_of-append}
 use Rattle.frontier_core.specs.Frontier.{set_to}
 use Rattle.frontier_core.proofs.FrontierSteps.{set_to-same, set_to-other}
 use Rattle.enough_budget.specs.FewVariables.{FewVariablesAreSmall}

@@ -13,10 +13,10 @@ use Rattle.graph_core.specs.declared.order.Order.TheVariants.{Separate}
 use Rattle.graph_core.specs.Graph.Assignments.{Assignment, variable, literal, bit}
 use Rattle.graph_core.specs.Graph.Literals.{variable_of}
 use Rattle.graph_core.specs.Graph.{evaluation}
-use Rattle.graph_core.specs.Algebra.Polynomials.{Polynomial, value}
-use Rattle.graph_core.specs.Algebra.NormalForm.{HasSize}
+use Rattle.algebra_core.specs.Polynomials.{Polynomial, value}
+use Rattle.algebra_core.specs.NormalForm.{HasSize}
 use Rattle.graph_core.specs.Graph.Operands.{sides_of}
-use Rattle.graph_core.proofs.OfGraphs.CallerLemmas.{Apart, all_split, all_weaker, apart_from_pairs, finds_none, rounds-free, sum_same, variable_same}
+use Rattle.graph_core.proofs.OfGraphs.CallerLemmas.{Apart, all_split, all_weaker, apart_from_pairs, finds_none, rounds-free, sum_same, variable_same, by_cases}
 use Rattle.graph_core.proofs.OfAiger.CallerLemmas.{ArePlaced}
 use Rattle.frontier_core.specs.Sets.{has}
 use Rattle.frontier_core.specs.Columns.{columns_sum}
@@ -28,8 +28,7 @@ use Rattle.frontier_core.proofs.SizeBounds.{linear_is_small}
 use Rattle.graph_maker.specs.declared.kind.Kind.{Kind}
 use Rattle.graph_maker.specs.declared.adder.Adder.TheVariants.{Ripple}
 use Rattle.graph_maker.proofs.MadeMultiplies.{all_products, numbered}
-use Rattle.adder_finder.proofs.Cases.{by_cases}
-use Rattle.slice_core.proofs.Composition.{has_append, eliminating_part}
+use Rattle.slice_planner.proofs.Composition.{has_append, eliminating_part}
 use Rattle.enough_budget.proofs.Linear.{IsLinear, AreInputs}
 use Rattle.enough_budget.proofs.FewVariables.{few_variables_are_small}
 use Rattle.enough_budget.proofs.Network.{Cell, gates_at, size_of, adder_gates}

@@ -6,8 +6,8 @@ use Rattle.frontier_core.specs.declared.step.Step.TheVariants.{Add, Eliminate}
 use Rattle.graph_maker.specs.declared.kind.Kind.TheVariants.{Array, Dadda}
 use Rattle.graph_maker.specs.declared.adder.Adder.TheVariants.{Ripple}
 use Rattle.graph_maker.specs.Made.{made}
-use Rattle.slice_core.specs.Groups.{groups}
-use Rattle.slice_core.specs.SlicePlan.{slice_steps}
+use Rattle.slice_planner.specs.Groups.{groups}
+use Rattle.slice_planner.specs.SlicePlan.{slice_steps}
 
 one_bit : groups (made Array 1 Ripple).gates ≡ (3 ∷ []) ∷ []
 one_bit = refl

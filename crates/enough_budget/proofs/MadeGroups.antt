@@ -11,9 +11,9 @@ use Rattle.graph_core.specs.Graph.Literals.{negation_of}
 use Rattle.graph_core.specs.Graph.Literals.{plain, inverted, and_gate}
 use Rattle.graph_core.specs.Graph.Positions.{position}
 use Rattle.graph_maker.specs.Cells.{half_gates}
-use Rattle.adder_finder.specs.Positions.{reads, is_half, is_carried, is_full}
-use Rattle.slice_core.specs.Groups.{ends_full, ends_half}
-use Rattle.slice_core.proofs.ListedGroups.{all_groups, first_group}
+use Rattle.slice_planner.specs.Positions.{reads, is_half, is_carried, is_full}
+use Rattle.slice_planner.specs.Groups.{ends_full, ends_half}
+use Rattle.slice_planner.proofs.ListedGroups.{all_groups, first_group}
 use Rattle.enough_budget.proofs.Network.{Cell, gates_at, size_of, adder_gates}
 
 -- ---- tests

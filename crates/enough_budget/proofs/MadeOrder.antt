@@ -10,7 +10,7 @@ use Rattle.graph_core.proofs.OfAiger.CallerLemmas.{ArePlaced}
 use Rattle.graph_maker.specs.declared.adder.Adder.TheVariants.{Ripple}
 use Rattle.graph_maker.specs.Made.{made}
 use Rattle.graph_maker.proofs.MadeMultiplies.{numbered}
-use Rattle.slice_core.specs.GroupPlans.{AreInOrder}
+use Rattle.slice_planner.specs.GroupPlans.{AreInOrder}
 use Rattle.enough_budget.specs.MadeGroups.{MadeGatesAreInOrder}
 use Rattle.enough_budget.proofs.Swapped.{IsSame, ArePairs, firsts, seconds, paired}
 use Rattle.enough_budget.proofs.WholeFrontiers.{placed_above}

@@ -9,12 +9,10 @@ use Rattle.std.proofs.lemmas.Bool.{cases_lt}
 use Rattle.graph_core.specs.declared.literal.Lit.{Lit}
 use Rattle.graph_core.specs.declared.gate.Gate.{Gate}
 use Rattle.graph_core.specs.Graph.Assignments.{Assignment, variable, literal, bit}
-use Rattle.graph_core.specs.Graph.Literals.{variable_of}
-use Rattle.graph_core.proofs.OfGraphs.CallerLemmas.{all_split, literal-even}
+use Rattle.graph_core.specs.Graph.Literals.{variable_of, plain, inverted, constant_false}
+use Rattle.graph_core.proofs.OfGraphs.CallerLemmas.{all_split, literal-even, by_cases}
 use Rattle.frontier_core.specs.Sets.{has}
-use Rattle.graph_core.specs.Graph.Literals.{plain, inverted, constant_false}
 use Rattle.graph_maker.proofs.CellFacts.{Computes, half_adds, position_adds}
-use Rattle.adder_finder.proofs.Cases.{by_cases}
 use Rattle.enough_budget.proofs.Network.{Cell, gates_at, size_of, sum_at, carry_at, adder_gates, Valuation, IsZero, ins, outs, all_ins, all_outs, full, fulls, word_at, rows_at}
 
 -- 1 at one literal

@@ -15,10 +15,9 @@ use Rattle.graph_maker.specs.declared.adder.Adder.TheVariants.{Ripple}
 use Rattle.graph_maker.specs.Builder.{Builder, with_gates, literals_from}
 use Rattle.graph_maker.specs.Products.{product_gates, products}
 use Rattle.graph_maker.specs.Made.{made}
-use Rattle.graph_maker.proofs.MadeMultiplies.{a_literals, b_literals, numbered}
-use Rattle.graph_maker.proofs.MadeMultiplies.{no_gates}
-use Rattle.slice_core.specs.Groups.{groups}
-use Rattle.slice_core.specs.AdderLists.{ReadsNoGate}
+use Rattle.graph_maker.proofs.MadeMultiplies.{a_literals, b_literals, numbered, no_gates}
+use Rattle.slice_planner.specs.Groups.{groups}
+use Rattle.slice_planner.specs.AdderLists.{ReadsNoGate}
 use Rattle.enough_budget.specs.MadeGroups.{MadeGroupsAreAdders}
 use Rattle.enough_budget.proofs.MadeGroups.{group_at, singles}
 use Rattle.enough_budget.proofs.Network.{Cell, gates_at, size_of, adder_gates}

@@ -13,7 +13,7 @@ use Rattle.graph_core.specs.declared.gate.Gate.{Gate}
 use Rattle.graph_core.specs.declared.order.Order.TheVariants.{Separate}
 use Rattle.graph_core.specs.Graph.Assignments.{Assignment}
 use Rattle.graph_core.specs.Graph.Extended.{Extended}
-use Rattle.graph_core.specs.Algebra.NormalForm.{HasSize}
+use Rattle.algebra_core.specs.NormalForm.{HasSize}
 use Rattle.graph_core.specs.Graph.Operands.{sides_of}
 use Rattle.graph_core.proofs.OfGraphs.CallerLemmas.{all_join, any_cases, any_nil}
 use Rattle.graph_core.proofs.OfAiger.CallerLemmas.{ArePlaced}
@@ -30,15 +30,14 @@ use Rattle.graph_maker.specs.declared.kind.Kind.{Kind}
 use Rattle.graph_maker.specs.declared.adder.Adder.TheVariants.{Ripple}
 use Rattle.graph_maker.specs.Builder.{Builder, with_gates, literals_from}
 use Rattle.graph_maker.specs.Products.{product_gates, products}
-use Rattle.graph_maker.proofs.MadeMultiplies.{a_literals, b_literals, all_products, placed}
-use Rattle.graph_maker.proofs.MadeMultiplies.{no_gates}
-use Rattle.slice_core.specs.Groups.{groups, groups_of, IsWhole, AreByGroups}
-use Rattle.slice_core.proofs.Composition.{has_append}
+use Rattle.graph_maker.proofs.MadeMultiplies.{a_literals, b_literals, all_products, placed, no_gates}
+use Rattle.slice_planner.specs.Groups.{groups, groups_of, IsWhole, AreByGroups}
+use Rattle.slice_planner.proofs.Composition.{has_append}
 use Rattle.enough_budget.proofs.Network.{Cell, gates_at, size_of}
 use Rattle.enough_budget.proofs.Needed.{AreWhole}
 use Rattle.enough_budget.proofs.WholeFrontiers.{g, e, m, above, base, cells, gates_are, whole_linear}
 use Rattle.enough_budget.proofs.GroupFrontiers.{IsCellAt, half_small, full_small}
-use Rattle.slice_core.proofs.ListedGroups.{all_groups}
+use Rattle.slice_planner.proofs.ListedGroups.{all_groups}
 use Rattle.enough_budget.proofs.MadeGroups.{IsPlain, group_at, onto, singles, adders_groups, plain_groups}
 
 -- ---- the gates that were eliminated up to some step are a frontier with the columns that are there now

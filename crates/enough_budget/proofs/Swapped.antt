@@ -11,12 +11,11 @@ use Rattle.graph_core.specs.declared.literal.Lit.{Lit}
 use Rattle.graph_core.specs.declared.gate.Gate.{Gate}
 use Rattle.graph_core.specs.declared.order.Order.TheVariants.{Separate}
 use Rattle.graph_core.specs.Graph.Assignments.{Assignment, literal}
-use Rattle.graph_core.specs.Graph.Literals.{variable_of, negation_of}
+use Rattle.graph_core.specs.Graph.Literals.{variable_of, negation_of, plain, inverted}
 use Rattle.graph_core.specs.Graph.{Aig, computed, rounds, evaluation, greater_first}
 use Rattle.graph_core.specs.Graph.Operands.{sides_of}
-use Rattle.graph_core.specs.Graph.Extended.{without_cut}
-use Rattle.graph_core.specs.Algebra.{modulus}
-use Rattle.graph_core.specs.Algebra.NormalForm.{HasSize}
+use Rattle.graph_core.specs.Graph.Extended.{without_cut, modulus}
+use Rattle.algebra_core.specs.NormalForm.{HasSize}
 use Rattle.ripple_graft.specs.Extension.{new_outputs}
 use Rattle.frontier_core.specs.declared.step.Step.{Step}
 use Rattle.frontier_core.specs.Sets.{has}
@@ -25,13 +24,11 @@ use Rattle.frontier_core.specs.Columns.{columns_sum}
 use Rattle.frontier_core.specs.Plan.{nothing, taken, AreSteps}
 use Rattle.graph_maker.specs.declared.kind.Kind.{Kind}
 use Rattle.graph_maker.specs.declared.adder.Adder.TheVariants.{Ripple}
-use Rattle.graph_core.specs.Graph.Literals.{plain, inverted}
-use Rattle.graph_core.proofs.OfGraphs.CallerLemmas.{all_join}
+use Rattle.graph_core.proofs.OfGraphs.CallerLemmas.{all_join, by_cases}
 use Rattle.graph_maker.specs.Made.{made}
-use Rattle.adder_finder.specs.Positions.{reads, is_half, is_carried}
-use Rattle.adder_finder.proofs.Cases.{by_cases}
-use Rattle.slice_core.specs.Groups.{ends_full, ends_half, group_size, groups_of, groups, AreByGroups}
-use Rattle.slice_core.proofs.ListedGroups.{map_reverse}
+use Rattle.slice_planner.specs.Positions.{reads, is_half, is_carried}
+use Rattle.slice_planner.specs.Groups.{ends_full, ends_half, group_size, groups_of, groups, AreByGroups}
+use Rattle.slice_planner.proofs.ListedGroups.{map_reverse}
 use Rattle.enough_budget.specs.MadeSlices.{MadeSlicesAreSmall}
 use Rattle.enough_budget.proofs.Needed.{IsReader}
 use Rattle.enough_budget.proofs.SmallSlices.{fronts_all, fronts_first, by_groups_small}

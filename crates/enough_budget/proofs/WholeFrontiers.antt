@@ -10,13 +10,13 @@ use Rattle.graph_core.specs.declared.literal.Lit.{Lit}
 use Rattle.graph_core.specs.declared.gate.Gate.{Gate}
 use Rattle.graph_core.specs.declared.order.Order.TheVariants.{Separate}
 use Rattle.graph_core.specs.Graph.Assignments.{Assignment, variable, literal, bit}
-use Rattle.graph_core.specs.Graph.Literals.{variable_of}
+use Rattle.graph_core.specs.Graph.Literals.{variable_of, plain}
 use Rattle.graph_core.specs.Graph.{Aig, evaluation}
-use Rattle.graph_core.specs.Graph.Extended.{Extended, without_cut}
-use Rattle.graph_core.specs.Algebra.Polynomials.{difference}
-use Rattle.graph_core.specs.Algebra.{modulus}
+use Rattle.graph_core.specs.Graph.Extended.{Extended, without_cut, modulus}
+use Rattle.algebra_core.specs.Polynomials.{difference}
 use Rattle.graph_core.specs.Graph.Operands.{Sides, product_under, sides_of}
-use Rattle.graph_core.proofs.OfGraphs.CallerLemmas.{all_split, all_weaker, difference_plus, finds_none, literal-even, literal_same, product_same, rounds-free, sum_same}
+use Rattle.graph_core.proofs.OfGraphs.CallerLemmas.{all_split, all_weaker, finds_none, literal-even, literal_same, product_same, rounds-free, sum_same, by_cases}
+use Rattle.algebra_core.proofs.CallerLemmas.{difference_plus}
 use Rattle.ripple_graft.specs.Extension.{outputs_from, new_outputs, IsExtension}
 use Rattle.ripple_graft.proofs.Plain.{graph_extends}
 use Rattle.frontier_core.specs.Sets.{has}
@@ -26,15 +26,12 @@ use Rattle.frontier_core.proofs.Everywhere.{filter_all, all_filtered}
 use Rattle.frontier_core.proofs.Computed.{computed_is, computed_keeps}
 use Rattle.graph_maker.specs.declared.kind.Kind.{Kind}
 use Rattle.graph_maker.specs.declared.adder.Adder.TheVariants.{Ripple}
-use Rattle.graph_core.specs.Graph.Literals.{plain}
 use Rattle.graph_core.proofs.OfAiger.CallerLemmas.{ArePlaced}
 use Rattle.graph_maker.specs.Builder.{Builder, with_gates, literals_from}
 use Rattle.graph_maker.specs.Products.{product_gates, products}
 use Rattle.graph_maker.specs.Made.{made}
 use Rattle.graph_maker.proofs.ArrayAdds.{length-literals_from}
-use Rattle.graph_maker.proofs.MadeMultiplies.{a_literals, b_literals, all_products, whole_outputs, count, long, numbered, numbered_well_formed, a_is, b_is, full}
-use Rattle.graph_maker.proofs.MadeMultiplies.{no_gates}
-use Rattle.adder_finder.proofs.Cases.{by_cases}
+use Rattle.graph_maker.proofs.MadeMultiplies.{a_literals, b_literals, all_products, whole_outputs, count, long, numbered, numbered_well_formed, a_is, b_is, full, no_gates}
 use Rattle.enough_budget.proofs.Linear.{IsLinear, linear_constant, linear_same, linear_more, linear_plus, linear_times, linear_minus, linear_literal, linear_product}
 use Rattle.enough_budget.proofs.Network.{Cell, IsNetwork, all_outs, fulls, outs, size_of, sum_at, carry_at, adder_gates, Valuation, word_at, rows_at, outputs_network}
 use Rattle.enough_budget.proofs.Needed.{at_literal, chosen, outs_out, AreWhole, IsReader, AreAdded, needed, needed_few, sum_whole, carry_whole, columns_are, few_needed}

@@ -3,9 +3,8 @@ use Rattle.std.specs.Prelude.{ℕ, ◌+◌, ◌*◌, ◌<◌, ◌≤◌, List, t
 use Rattle.graph_core.specs.declared.order.Order.TheVariants.{Separate}
 use Rattle.graph_core.specs.Graph.{Aig, SameUpToOperands}
 use Rattle.graph_core.specs.Graph.Operands.{Sides, sides_of}
-use Rattle.graph_core.specs.Graph.Extended.{Extended, without_cut}
-use Rattle.graph_core.specs.Algebra.{modulus}
-use Rattle.graph_core.specs.Algebra.NormalForm.{HasSize}
+use Rattle.graph_core.specs.Graph.Extended.{Extended, without_cut, modulus}
+use Rattle.algebra_core.specs.NormalForm.{HasSize}
 use Rattle.frontier_core.specs.declared.step.Step.{Step}
 use Rattle.frontier_core.specs.Plan.{nothing, taken, value_of_taken}
 use Rattle.graph_maker.specs.declared.kind.Kind.{Kind}

@@ -2,7 +2,7 @@
 use Rattle.std.specs.Prelude.{◌≡◌, ℕ, ◌^◌, ◌<◌, ◌≤◌, ◌%◌, List, length}
 use Rattle.std.specs.List.{All}
 use Rattle.graph_core.specs.Graph.Assignments.{Assignment, variable}
-use Rattle.graph_core.specs.Algebra.Polynomials.{Polynomial, value}
+use Rattle.algebra_core.specs.Polynomials.{Polynomial, value}
 
 -- A function that depends on these variables alone.
 abbrev pub DependsOn : List ℕ → (Assignment → ℕ) → Type 0

@@ -4,8 +4,8 @@ use Rattle.graph_core.specs.Graph.{Aig, SameUpToOperands}
 use Rattle.graph_maker.specs.declared.kind.Kind.{Kind}
 use Rattle.graph_maker.specs.declared.adder.Adder.TheVariants.{Ripple}
 use Rattle.graph_maker.specs.Made.{made}
-use Rattle.slice_core.specs.AdderLists.{AreAddersAndProducts}
-use Rattle.slice_core.specs.GroupPlans.{AreInOrder}
+use Rattle.slice_planner.specs.AdderLists.{AreAddersAndProducts}
+use Rattle.slice_planner.specs.GroupPlans.{AreInOrder}
 
 -- A made graph's gates are in such an order.
 abbrev pub MadeGatesAreInOrder : Type 0

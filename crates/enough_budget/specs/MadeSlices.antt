@@ -2,9 +2,8 @@
 use Rattle.std.specs.Prelude.{◌≡◌, ℕ, ◌+◌, ◌*◌, ◌<◌, ◌≤◌, List, take}
 use Rattle.graph_core.specs.declared.order.Order.TheVariants.{Separate}
 use Rattle.graph_core.specs.Graph.{Aig, SameUpToOperands, IsWellFormed}
-use Rattle.graph_core.specs.Graph.Extended.{without_cut}
-use Rattle.graph_core.specs.Algebra.{modulus}
-use Rattle.graph_core.specs.Algebra.NormalForm.{HasSize}
+use Rattle.graph_core.specs.Graph.Extended.{without_cut, modulus}
+use Rattle.algebra_core.specs.NormalForm.{HasSize}
 use Rattle.graph_core.specs.Graph.Assignments.{Assignment}
 use Rattle.graph_core.specs.Graph.Operands.{sides_of}
 use Rattle.frontier_core.specs.declared.step.Step.{Step}
@@ -13,7 +12,7 @@ use Rattle.frontier_core.specs.Plan.{nothing, taken, value_of_taken, AreSteps, I
 use Rattle.graph_maker.specs.declared.kind.Kind.{Kind}
 use Rattle.graph_maker.specs.declared.adder.Adder.TheVariants.{Ripple}
 use Rattle.graph_maker.specs.Made.{made}
-use Rattle.slice_core.specs.Groups.{groups, AreByGroups}
+use Rattle.slice_planner.specs.Groups.{groups, AreByGroups}
 use Rattle.slice_planner.specs.Slices.{IsSlicePlan}
 
 -- While steps over a made graph with a ripple-carry adder go by its groups, each frontier has few monomials.

@@ -1,6 +1,6 @@
 -- What crates above may cite: laws, and of a graph's inputs and operands.
-pub use Rattle.frontier_core.proofs.LastFrontiers.{last_frontier_decides, last_frontier_is_over_inputs, outputs_are}
-pub use Rattle.frontier_core.proofs.InputNumbers.{claimed_at, length-in_order, length-inputs_at, length-literals, length-literals_in, same_numbers}
+pub use Rattle.frontier_core.proofs.LastFrontiers.{last_frontier_decides, last_frontier_is_over_inputs}
+pub use Rattle.frontier_core.proofs.InputNumbers.{claimed_at, length-inputs_at, same_numbers}
 pub use Rattle.frontier_core.proofs.LeastValues.{difference_is_of_operands, difference_is_of_sum, last_frontier_gives_least, least_difference_is_one, least_term_gives_inputs}
 pub use Rattle.frontier_core.proofs.NotZero.{specification_is_not_zero}
 pub use Rattle.frontier_core.proofs.PlainOrders.{plain_order_is_one}

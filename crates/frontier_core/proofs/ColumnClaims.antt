@@ -11,8 +11,9 @@ use Rattle.graph_core.specs.Graph.Assignments.{Assignment, literal, bit, word}
 use Rattle.graph_core.specs.declared.sign.Sign.{Sign}
 use Rattle.graph_core.specs.declared.sign.Sign.TheVariants.{Unsigned, Signed}
 use Rattle.graph_core.specs.Graph.Operands.{Sides, signed_word, operand_word, claimed}
-use Rattle.graph_core.specs.Algebra.Polynomials.{difference}
-use Rattle.graph_core.proofs.OfGraphs.CallerLemmas.{sum_same, product_same, difference_plus, difference_is, all_split, claim_same, plus_word_is}
+use Rattle.algebra_core.specs.Polynomials.{difference}
+use Rattle.graph_core.proofs.OfGraphs.CallerLemmas.{sum_same, product_same, all_split, claim_same, plus_word_is}
+use Rattle.algebra_core.proofs.CallerLemmas.{difference_plus, difference_is}
 use Rattle.frontier_core.specs.Sets.{has}
 use Rattle.frontier_core.specs.Columns.{bit_at, partial_products, signed_digits, digit_at, digit_products, product_column, plus_bit, column_claim, column_of, columns_sum, ClaimsAreOfOperands, ColumnsMakeClaim}
 

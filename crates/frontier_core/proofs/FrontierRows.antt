@@ -9,9 +9,8 @@ use Rattle.graph_core.specs.declared.order.Order.TheVariants.{Separate, Interlea
 use Rattle.graph_core.specs.Graph.Assignments.{listed}
 use Rattle.graph_core.specs.Graph.{Aig}
 use Rattle.graph_core.specs.Graph.Operands.{sides_of, value_on}
-use Rattle.graph_core.specs.Algebra.Polynomials.{Term, Polynomial, value}
-use Rattle.graph_core.specs.Graph.Extended.{without_cut}
-use Rattle.graph_core.specs.Algebra.{modulus}
+use Rattle.algebra_core.specs.Polynomials.{Term, Polynomial, value}
+use Rattle.graph_core.specs.Graph.Extended.{without_cut, modulus}
 use Rattle.frontier_core.specs.Columns.{all_columns}
 use Rattle.frontier_core.specs.Frontier.{frontier_value}
 use Rattle.frontier_core.specs.Substitution.{gate_value, quotient, substituted}

@@ -13,9 +13,8 @@ use Rattle.graph_core.specs.Graph.Literals.{variable_of}
 use Rattle.graph_core.specs.Graph.Assignments.{Assignment, variable, literal, bit}
 use Rattle.graph_core.specs.Graph.{IsEvaluation, IsFree, evaluation}
 use Rattle.graph_core.specs.Graph.Operands.{Sides}
-use Rattle.graph_core.specs.Algebra.Polynomials.{difference}
-use Rattle.graph_core.specs.Graph.Extended.{Extended}
-use Rattle.graph_core.specs.Algebra.{modulus}
+use Rattle.algebra_core.specs.Polynomials.{difference}
+use Rattle.graph_core.specs.Graph.Extended.{Extended, modulus}
 use Rattle.ripple_graft.specs.Extension.{new_outputs, IsExtension}
 use Rattle.graph_core.proofs.OfGraphs.CallerLemmas.{rounds-free, finds_none, evaluation_is_one, variable-pos, literal_same, all_weaker}
 use Rattle.frontier_core.specs.Sets.{has}

@@ -12,11 +12,11 @@ use Rattle.graph_core.specs.Graph.Literals.{variable_of}
 use Rattle.graph_core.specs.Graph.Assignments.{Assignment, variable, literal, bit}
 use Rattle.graph_core.specs.Graph.{computed, rounds, evaluation}
 use Rattle.graph_core.specs.Graph.Operands.{Sides, operand_literals}
-use Rattle.graph_core.specs.Algebra.Polynomials.{Term, Polynomial, product, term_value, sum_of, difference}
-use Rattle.graph_core.specs.Algebra.{modulus}
+use Rattle.algebra_core.specs.Polynomials.{Term, Polynomial, product, term_value, sum_of, difference}
+use Rattle.graph_core.specs.Graph.Extended.{modulus}
 use Rattle.ripple_graft.specs.Extension.{new_outputs}
-use Rattle.graph_core.proofs.OfAlgebra.CallerLemmas.{modulus_pos, sum_of-append, normal_form_exists}
-use Rattle.graph_core.proofs.OfGraphs.CallerLemmas.{sum_same, product_same, difference_same}
+use Rattle.algebra_core.proofs.CallerLemmas.{modulus_pos, sum_of-append, normal_form_exists, difference_same}
+use Rattle.graph_core.proofs.OfGraphs.CallerLemmas.{sum_same, product_same}
 use Rattle.frontier_core.specs.Sets.{has}
 use Rattle.frontier_core.specs.Columns.{column_claim, column_of, columns_sum}
 use Rattle.frontier_core.specs.Frontier.{gates_among, set_to}

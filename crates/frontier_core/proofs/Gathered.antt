@@ -6,10 +6,10 @@ use Rattle.std.proofs.lemmas.List.Elements.{All-from_recursion, recursion_from_A
 use Rattle.std.proofs.lemmas.List.Quantifiers.{all_pairs_push}
 use Rattle.graph_core.specs.Graph.Assignments.{Assignment, literal, bit}
 use Rattle.graph_core.specs.Graph.Operands.{Sides}
-use Rattle.graph_core.specs.Algebra.Polynomials.{difference, value}
-use Rattle.graph_core.specs.Graph.Extended.{Extended}
-use Rattle.graph_core.specs.Algebra.{LiveLine, Part, IsLive, value_of, combined, modulus, gate_axiom}
-use Rattle.graph_core.proofs.OfAlgebra.CallerLemmas.{modulus_pos}
+use Rattle.algebra_core.specs.Polynomials.{difference, value}
+use Rattle.graph_core.specs.Graph.Extended.{Extended, modulus}
+use Rattle.algebra_core.specs.AlgebraLines.{LiveLine, Part, IsLive, value_of, combined, gate_axiom}
+use Rattle.algebra_core.proofs.CallerLemmas.{modulus_pos}
 use Rattle.graph_core.proofs.OfGraphs.CallerLemmas.{sum_same, product_same}
 use Rattle.frontier_core.specs.declared.step.Step.TheVariants.{Add, Eliminate}
 use Rattle.frontier_core.specs.Sets.{has}

@@ -8,8 +8,8 @@ use Rattle.graph_core.specs.declared.order.Order.{Order}
 use Rattle.graph_core.specs.declared.order.Order.TheVariants.{Separate, Interleaved}
 use Rattle.graph_core.specs.Graph.Assignments.{Assignment, literal, word}
 use Rattle.graph_core.specs.Graph.{Aig, IsDefinedOnce, evaluated}
-use Rattle.graph_core.specs.Graph.Operands.{Sides, AreInRange, AreOperandsOf, HasShapeFor, alternate, bits_of, claimed, evens, in_order, inputs_at, inputs_in, inputs_of, number_as, odds, operand_literals, operand_word, output_modulus, product_as}
-use Rattle.graph_core.proofs.OfGraphs.CallerLemmas.{evens-alternate, inputs_have, length-alternate, length-bits_of, length-inputs_of, length-operands, number_of, number_of-bits_of, odds-alternate, operand_number, plus_word_is, product_same, sides_are_inputs, sum_same, take-length-append, word_is}
+use Rattle.graph_core.specs.Graph.Operands.{Sides, AreInRange, AreOperandsOf, HasShapeFor, alternate, bits_of, claimed, evens, in_order, inputs_at, inputs_in, inputs_of, number_as, odds, operand_word, output_modulus, product_as}
+use Rattle.graph_core.proofs.OfGraphs.CallerLemmas.{are_inputs, evens-alternate, inputs_have, length-bits_of, length-in_order, length-inputs_of, length-operands, number_of, number_of-bits_of, odds-alternate, operand_number, plus_word_is, product_same, sum_same, take-length-append, word_is}
 
 -- ---- lists in the order of the inputs
 
@@ -21,10 +21,6 @@ map-alternate f (x ∷ xs) (y ∷ ys) = ap (λ zs. f x ∷ f y ∷ zs) (map-alte
 map-in_order : {X Y : Type 0} (f : X → Y) (order : Order) (xs ys : List X) → map f (in_order order xs ys) ≡ in_order order (map f xs) (map f ys)
 map-in_order f Separate xs ys = map-append f xs ys
 map-in_order f Interleaved xs ys = map-alternate f xs ys
-
-pub length-in_order : {X : Type 0} (order : Order) (xs ys : List X) → length (in_order order xs ys) ≡ length xs + length ys
-length-in_order Separate xs ys = length-append xs ys
-length-in_order Interleaved xs ys = length-alternate xs ys
 
 in_order-bits : (order : Order) (n a b : ℕ) → inputs_of order n a b ≡ in_order order (bits_of n a) (bits_of n b)
 in_order-bits Separate n a b = refl
@@ -64,23 +60,14 @@ same_numbers order n k a b c d e f a_low b_low c_low d_low e_low f_low same =
       sym (number_of-bits_of k f f_low) ∙ ap number_of parts.2 ∙ number_of-bits_of k c c_low,
     )
 
--- the literals of operands and addend, in the order of the inputs or not
-pub length-literals_in : (s : Sides) → length (operand_literals s) ≡ length (inputs_in s)
-length-literals_in s =
-    omega (arith, length-append s.a (s.b ++ s.c), length-append s.b s.c, length-append (in_order s.claim.order s.a s.b) s.c, length-in_order s.claim.order s.a s.b)
-
 -- ---- what is claimed of numbers
 
 module _ (g : Aig) (s : Sides) (shape : HasShapeFor s.claim.add g) (once : IsDefinedOnce g) (of : AreOperandsOf g s) where
   equal : length s.a ≡ length s.b
   equal = let both = length-operands g s shape of in both.0 ∙ sym both.1
 
-  are_inputs : inputs_in s ≡ g.inputs
-  are_inputs = ap inputs_in of ∙ sides_are_inputs g s.claim shape
-
-  -- there are as many literals of operands and addend as inputs
-  pub length-literals : length (operand_literals s) ≡ length g.inputs
-  length-literals = length-literals_in s ∙ ap length are_inputs
+  placed : inputs_in s ≡ g.inputs
+  placed = are_inputs g s shape of
 
   pub length-inputs_at : (x : Numbers) → length (inputs_at s x) ≡ length g.inputs
   length-inputs_at x =
@@ -92,7 +79,7 @@ module _ (g : Aig) (s : Sides) (shape : HasShapeFor s.claim.add g) (once : IsDef
         length-bits_of (length s.c) x.c,
         length-append (in_order s.claim.order s.a s.b) s.c,
         length-in_order s.claim.order s.a s.b,
-        ap length are_inputs,
+        ap length placed,
       )
 
   -- the values of each part
@@ -101,7 +88,7 @@ module _ (g : Aig) (s : Sides) (shape : HasShapeFor s.claim.add g) (once : IsDef
   values_are σ x have =
       let apart : in_order s.claim.order (map (literal σ) s.a) (map (literal σ) s.b) ++ map (literal σ) s.c ≡ inputs_at s x =
       ap (λ xs. xs ++ map (literal σ) s.c) (sym (map-in_order (literal σ) s.claim.order s.a s.b)) ∙ sym (map-append (literal σ) (in_order s.claim.order s.a s.b) s.c) ∙
-      ap (map (literal σ)) are_inputs ∙ have in
+      ap (map (literal σ)) placed ∙ have in
       bit_parts s.claim.order (length s.a) (length s.c) x.a x.b x.c (map (literal σ) s.a) (map (literal σ) s.b) (map (literal σ) s.c) (length-map s.a (literal σ)) (length-map s.b (literal σ) ∙ sym equal) apart
 
   -- What is claimed where the inputs stand for numbers: the product of what the operands stand for, and the addend.

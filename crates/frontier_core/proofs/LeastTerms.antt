@@ -8,10 +8,10 @@ use Rattle.std.proofs.lemmas.List.Elements.{recursion_from_All, All-contains}
 use Rattle.graph_core.specs.declared.literal.Lit.{Lit}
 use Rattle.graph_core.specs.Graph.Literals.{variable_of}
 use Rattle.graph_core.specs.Graph.Assignments.{Assignment, literal}
-use Rattle.graph_core.specs.Algebra.Polynomials.{Term, Polynomial, term_value, sum_of, value}
-use Rattle.graph_core.specs.Algebra.NormalForm.{IsNormalTerm, IsNormalForm}
+use Rattle.algebra_core.specs.Polynomials.{Term, Polynomial, term_value, sum_of, value}
+use Rattle.algebra_core.specs.NormalForm.{IsNormalTerm, IsNormalForm}
 use Rattle.graph_core.proofs.OfGraphs.CallerLemmas.{all_split, IsInput, literal-input}
-use Rattle.graph_core.proofs.OfAlgebra.CallerLemmas.{part_length, part_whole, all_mem, sum_of-append, Once, once_from_pairs, once_around, term_none, term_full, true_term}
+use Rattle.algebra_core.proofs.CallerLemmas.{part_length, part_whole, all_mem, sum_of-append, Once, once_from_pairs, once_around, term_none, term_full, true_term}
 use Rattle.frontier_core.specs.Sets.{has}
 use Rattle.frontier_core.specs.LastFrontier.{IsOverInputs}
 use Rattle.frontier_core.specs.LeastDifference.{ones_from, IsLexicographicallyBelow, Precedes, ones_of, IsLeastTerm, LeastTermIsLeast}

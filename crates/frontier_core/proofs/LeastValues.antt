@@ -13,14 +13,14 @@ use Rattle.graph_core.specs.Graph.Literals.{variable_of}
 use Rattle.graph_core.specs.Graph.Assignments.{literal, word}
 use Rattle.graph_core.specs.Graph.{Aig, IsDefinedOnce, of_inputs, evaluated}
 use Rattle.graph_core.specs.Graph.Operands.{Sides, width, sum_width, bits_of, inputs_of, a_part, b_part, claimed, product_as, sides_for, multiplying, adding, sides_of, output_modulus, HasMultiplierShape, HasSumShape}
-use Rattle.graph_core.specs.Algebra.Polynomials.{value}
-use Rattle.graph_core.specs.Algebra.NormalForm.{IsNormalTerm}
-use Rattle.graph_core.proofs.OfGraphs.CallerLemmas.{Apart, apart_from_pairs, product_at, a_is, b_is, bits_of-number_of, length-inputs_of, length-operands, DistinctLits, IsInput, inputs_are, number_of, length-a_part, length-b_part, number_of-low, parts_are}
+use Rattle.algebra_core.specs.Polynomials.{value}
+use Rattle.algebra_core.specs.NormalForm.{IsNormalTerm}
+use Rattle.graph_core.proofs.OfGraphs.CallerLemmas.{Apart, apart_from_pairs, product_at, a_is, b_is, bits_of-number_of, length-inputs_of, length-operands, DistinctLits, IsInput, inputs_are, number_of, length-a_part, length-b_part, number_of-low, parts_are, of_inputs_again}
 use Rattle.frontier_core.specs.Sets.{has}
 use Rattle.frontier_core.specs.LeastDifference.{AreInputs, IsDifferenceAt, IsDifference, IsSumDifference, ones_from, ones_at, ones_of, sum_ones_at, Precedes, LastFrontierGivesLeast, DifferenceIsOfOperands, DifferenceIsOfSum, LeastDifferenceIsOne, LeastTermGivesInputs}
 use Rattle.frontier_core.proofs.Everywhere.{all_has, all_of_map}
 use Rattle.frontier_core.proofs.InputNumbers.{claimed_at, length-inputs_at, same_numbers}
-use Rattle.frontier_core.proofs.LastFrontiers.{given, of_inputs_again, last_frontier_at_inputs, error_is_none, none_is_error}
+use Rattle.frontier_core.proofs.LastFrontiers.{given, last_frontier_at_inputs, error_is_none, none_is_error}
 use Rattle.frontier_core.proofs.LeastTerms.{least_term_is_least}
 use Rattle.frontier_core.proofs.Positions.{ones_injective, precedes_one_way}
 

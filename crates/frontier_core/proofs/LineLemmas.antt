@@ -5,9 +5,9 @@ use Rattle.std.specs.List.{AllByRecursion, Contains}
 use Rattle.std.proofs.Common.{refl, sym, ap, subst, ◌∙◌, arith, eq-eqb, ne_eqb}
 use Rattle.std.proofs.lemmas.List.Elements.{All-from_recursion, recursion_from_All}
 use Rattle.graph_core.specs.declared.gate.Gate.{Gate}
-use Rattle.graph_core.specs.Algebra.Polynomials.{value}
-use Rattle.graph_core.specs.Graph.Extended.{Extended, Column}
-use Rattle.graph_core.specs.Algebra.{LiveLine, modulus, gate_axiom, column_axiom, line_of, value_or_zero, after}
+use Rattle.algebra_core.specs.Polynomials.{value}
+use Rattle.graph_core.specs.Graph.Extended.{Extended, Column, modulus}
+use Rattle.algebra_core.specs.AlgebraLines.{LiveLine, gate_axiom, column_axiom, line_of, value_or_zero, after}
 use Rattle.graph_core.proofs.OfGraphs.CallerLemmas.{Distinct, Apart, apart_from_pairs}
 use Rattle.frontier_core.specs.LiveLines.{AxiomsAreLive, NewLineIsLive, LinesGrow}
 use Rattle.frontier_core.proofs.Everywhere.{all_of_map, all_from_map}

@@ -12,8 +12,8 @@ use Rattle.graph_core.specs.Graph.Assignments.{Assignment, variable, literal, bi
 use Rattle.graph_core.specs.declared.sign.Sign.{Sign}
 use Rattle.graph_core.specs.declared.sign.Sign.TheVariants.{Unsigned, Signed}
 use Rattle.graph_core.specs.Graph.Operands.{Sides, signed_word, operand_word, claimed}
-use Rattle.graph_core.specs.Algebra.{modulus}
-use Rattle.graph_core.proofs.OfAlgebra.CallerLemmas.{vanishing_means_claim}
+use Rattle.graph_core.specs.Graph.Extended.{modulus}
+use Rattle.algebra_core.proofs.CallerLemmas.{vanishing_means_claim}
 use Rattle.graph_core.proofs.OfGraphs.CallerLemmas.{literal-input, plus_word_is, product_same}
 use Rattle.frontier_core.specs.RestLine.{SpecificationIsNotZero}
 

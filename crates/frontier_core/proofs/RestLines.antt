@@ -6,11 +6,11 @@ use Rattle.std.proofs.Math.Nat.{zero-mod, mod-mod, mod-add-mod, add-mod-mod}
 use Rattle.graph_core.specs.declared.literal.Lit.{Lit}
 use Rattle.graph_core.specs.Graph.Assignments.{Assignment, variable, literal, bit, word}
 use Rattle.graph_core.specs.Graph.Operands.{Sides, claimed}
-use Rattle.graph_core.specs.Algebra.Polynomials.{difference}
-use Rattle.graph_core.specs.Graph.Extended.{Extended}
-use Rattle.graph_core.specs.Algebra.{modulus, gate_axiom, specification}
-use Rattle.graph_core.proofs.OfAlgebra.CallerLemmas.{modulus_pos}
-use Rattle.graph_core.proofs.OfGraphs.CallerLemmas.{sum_same, product_same, difference_plus, difference_is, difference_same}
+use Rattle.algebra_core.specs.Polynomials.{difference}
+use Rattle.graph_core.specs.Graph.Extended.{Extended, modulus}
+use Rattle.algebra_core.specs.AlgebraLines.{gate_axiom, specification}
+use Rattle.algebra_core.proofs.CallerLemmas.{modulus_pos, difference_plus, difference_is, difference_same}
+use Rattle.graph_core.proofs.OfGraphs.CallerLemmas.{sum_same, product_same}
 use Rattle.frontier_core.specs.Sets.{has}
 use Rattle.frontier_core.specs.Columns.{column_claim, column_of, columns_sum}
 use Rattle.frontier_core.specs.Frontier.{set_to}

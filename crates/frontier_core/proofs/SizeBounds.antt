@@ -4,9 +4,9 @@ use Rattle.std.proofs.Common.{refl, sym, ap, ◌∙◌, arith, length-append}
 use Rattle.std.proofs.Math.Nat.{mod-mod}
 use Rattle.std.proofs.lemmas.List.{length-map}
 use Rattle.graph_core.specs.Graph.Assignments.{Assignment, variable, bit}
-use Rattle.graph_core.specs.Algebra.Polynomials.{Term, sum_of, value}
+use Rattle.algebra_core.specs.Polynomials.{Term, sum_of, value}
 use Rattle.graph_core.proofs.OfGraphs.CallerLemmas.{sum_same}
-use Rattle.graph_core.proofs.OfAlgebra.CallerLemmas.{sum_of-append, normal_form_exists, size_is_one}
+use Rattle.algebra_core.proofs.CallerLemmas.{sum_of-append, normal_form_exists, size_is_one}
 use Rattle.frontier_core.specs.Sizes.{SizeIsAtMost, LinearIsSmall, linear_sum, bilinear_sum}
 
 pub size_is_at_most : SizeIsAtMost

@@ -6,8 +6,9 @@ use Rattle.std.proofs.Math.Nat.{mod-mod}
 use Rattle.std.proofs.lemmas.Bool.{cases_Bool, eqb-false, or_parts, or_cases, or_from}
 use Rattle.std.proofs.lemmas.List.Elements.{recursion_from_All}
 use Rattle.graph_core.specs.Graph.Assignments.{Assignment, variable, bit}
-use Rattle.graph_core.specs.Algebra.Polynomials.{Polynomial, product, sum_of, value, difference}
-use Rattle.graph_core.proofs.OfGraphs.CallerLemmas.{difference_is, variable_same, variable-pos}
+use Rattle.algebra_core.specs.Polynomials.{Polynomial, product, sum_of, value, difference}
+use Rattle.graph_core.proofs.OfGraphs.CallerLemmas.{variable_same, variable-pos}
+use Rattle.algebra_core.proofs.CallerLemmas.{difference_is}
 use Rattle.frontier_core.specs.Sets.{has, without}
 use Rattle.frontier_core.specs.Frontier.{set_to}
 use Rattle.frontier_core.specs.Substitution.{quotient, IsFreeOf, SplittingSubstitutes, VariableIsTakenOut}

@@ -7,10 +7,10 @@ use Rattle.std.proofs.lemmas.Bool.{cases_Bool}
 use Rattle.graph_core.specs.declared.gate.Gate.{Gate}
 use Rattle.graph_core.specs.Graph.Assignments.{Assignment, variable, literal, bit}
 use Rattle.graph_core.specs.Graph.{evaluation}
-use Rattle.graph_core.specs.Algebra.{modulus}
+use Rattle.graph_core.specs.Graph.Extended.{modulus}
 use Rattle.ripple_graft.specs.Extension.{new_outputs}
-use Rattle.graph_core.proofs.OfAlgebra.CallerLemmas.{modulus_pos}
-use Rattle.graph_core.proofs.OfGraphs.CallerLemmas.{difference_plus, variable-pos}
+use Rattle.algebra_core.proofs.CallerLemmas.{modulus_pos, difference_plus}
+use Rattle.graph_core.proofs.OfGraphs.CallerLemmas.{variable-pos}
 use Rattle.frontier_core.specs.Columns.{columns_sum}
 use Rattle.frontier_core.specs.Frontier.{gates_among, set_to}
 use Rattle.frontier_core.specs.Substitution.{gate_value, quotient, SubstitutingSets, QuotientSplits, EliminatingSubstitutes, EliminatingReplaces}

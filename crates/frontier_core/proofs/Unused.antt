@@ -6,10 +6,10 @@ use Rattle.std.proofs.Math.Nat.{mod-mod}
 use Rattle.std.proofs.lemmas.Bool.{cases_eq}
 use Rattle.std.proofs.lemmas.List.Elements.{All-from_recursion, recursion_from_All}
 use Rattle.graph_core.specs.Graph.Assignments.{Assignment, variable, bit}
-use Rattle.graph_core.specs.Algebra.Polynomials.{Term, product, term_value, sum_of, value, difference}
-use Rattle.graph_core.specs.Algebra.NormalForm.{AreRising, IsNormalTerm, IsNormalForm}
-use Rattle.graph_core.proofs.OfGraphs.CallerLemmas.{difference_same, sum_same, product_same}
-use Rattle.graph_core.proofs.OfAlgebra.CallerLemmas.{rising_from, part_length, part_whole, all_mem, Once, once_from_pairs, normal_forms_differ, normal_form, plain_value}
+use Rattle.algebra_core.specs.Polynomials.{Term, product, term_value, sum_of, value, difference}
+use Rattle.algebra_core.specs.NormalForm.{AreRising, IsNormalTerm, IsNormalForm}
+use Rattle.graph_core.proofs.OfGraphs.CallerLemmas.{sum_same, product_same}
+use Rattle.algebra_core.proofs.CallerLemmas.{difference_same, rising_from, part_length, part_whole, all_mem, Once, once_from_pairs, normal_forms_differ, normal_form, plain_value}
 use Rattle.frontier_core.specs.Sets.{has, without}
 use Rattle.frontier_core.specs.Frontier.{set_to}
 use Rattle.frontier_core.specs.Substitution.{UnusedVariableIsAbsent}

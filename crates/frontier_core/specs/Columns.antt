@@ -6,9 +6,8 @@ use Rattle.graph_core.specs.declared.sign.Sign.{Sign}
 use Rattle.graph_core.specs.declared.sign.Sign.TheVariants.{Unsigned, Signed}
 use Rattle.graph_core.specs.Graph.Assignments.{Assignment, literal, bit, word}
 use Rattle.graph_core.specs.Graph.Operands.{Sides, operand_literals, claimed}
-use Rattle.graph_core.specs.Algebra.Polynomials.{difference}
-use Rattle.graph_core.specs.Graph.Extended.{Extended}
-use Rattle.graph_core.specs.Algebra.{modulus}
+use Rattle.algebra_core.specs.Polynomials.{difference}
+use Rattle.graph_core.specs.Graph.Extended.{Extended, modulus}
 use Rattle.frontier_core.specs.Sets.{has, count_from}
 
 -- the value of a literal of a list, or 0 past its end

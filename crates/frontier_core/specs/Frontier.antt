@@ -8,8 +8,7 @@ use Rattle.graph_core.specs.Graph.Literals.{variable_of}
 use Rattle.graph_core.specs.Graph.Assignments.{Assignment, literal}
 use Rattle.graph_core.specs.Graph.{evaluation}
 use Rattle.graph_core.specs.Graph.Operands.{Sides, ReadInputs}
-use Rattle.graph_core.specs.Graph.Extended.{Extended}
-use Rattle.graph_core.specs.Algebra.{modulus}
+use Rattle.graph_core.specs.Graph.Extended.{Extended, modulus}
 use Rattle.ripple_graft.specs.Extension.{new_outputs, IsExtension}
 use Rattle.frontier_core.specs.Sets.{has}
 use Rattle.frontier_core.specs.Columns.{column_value, columns_sum}

@@ -6,10 +6,9 @@ use Rattle.graph_core.specs.Graph.Literals.{variable_of}
 use Rattle.graph_core.specs.Graph.Assignments.{Assignment, literal}
 use Rattle.graph_core.specs.Graph.{IsEvaluation, of_inputs, evaluated}
 use Rattle.graph_core.specs.Graph.Operands.{Sides, ReadInputs, MeetsClaim, claimed, value_at_inputs}
-use Rattle.graph_core.specs.Algebra.Polynomials.{Polynomial, value, difference}
-use Rattle.graph_core.specs.Algebra.NormalForm.{IsNormalForm}
-use Rattle.graph_core.specs.Graph.Extended.{Extended}
-use Rattle.graph_core.specs.Algebra.{modulus, AgreeOnColumns}
+use Rattle.algebra_core.specs.Polynomials.{Polynomial, value, difference}
+use Rattle.algebra_core.specs.NormalForm.{IsNormalForm}
+use Rattle.graph_core.specs.Graph.Extended.{Extended, modulus, AgreeOnColumns}
 use Rattle.ripple_graft.specs.Extension.{IsExtension}
 use Rattle.frontier_core.specs.Sets.{has}
 use Rattle.frontier_core.specs.Frontier.{IsLastFrontier, frontier_value}

@@ -8,8 +8,8 @@ use Rattle.graph_core.specs.Graph.Literals.{variable_of}
 use Rattle.graph_core.specs.Graph.Assignments.{Assignment, literal}
 use Rattle.graph_core.specs.Graph.{Aig, IsDefinedOnce, of_inputs, evaluated}
 use Rattle.graph_core.specs.Graph.Operands.{Sides, sides_for, multiplying, adding, width, sum_width, bits_of, inputs_of, product_as, value_on, sum_on, value_at_inputs, claimed, output_modulus, HasMultiplierShape, HasSumShape}
-use Rattle.graph_core.specs.Algebra.Polynomials.{Term, Polynomial, value}
-use Rattle.graph_core.specs.Algebra.NormalForm.{IsNormalForm}
+use Rattle.algebra_core.specs.Polynomials.{Term, Polynomial, value}
+use Rattle.algebra_core.specs.NormalForm.{IsNormalForm}
 use Rattle.graph_core.specs.Graph.Extended.{Extended}
 use Rattle.frontier_core.specs.Sets.{has}
 use Rattle.frontier_core.specs.Frontier.{frontier_value}

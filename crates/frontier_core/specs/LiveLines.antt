@@ -3,9 +3,9 @@ use Rattle.std.specs.Prelude.{◌≡◌, ◌≢◌, ℕ, ◌+◌, List, [], ◌�
 use Rattle.std.specs.List.{Contains}
 use Rattle.graph_core.specs.declared.gate.Gate.{Gate}
 use Rattle.graph_core.specs.Graph.Assignments.{Assignment}
-use Rattle.graph_core.specs.Algebra.Polynomials.{Polynomial, value}
-use Rattle.graph_core.specs.Graph.Extended.{Extended, Column}
-use Rattle.graph_core.specs.Algebra.{Line, Ledger, IsLive, IsLawfulLine, AreLawfulLines, axioms, column_axiom, gate_axiom, line_of, introduce, after, after_all, modulus, value_of}
+use Rattle.algebra_core.specs.Polynomials.{Polynomial, value}
+use Rattle.graph_core.specs.Graph.Extended.{Extended, Column, modulus}
+use Rattle.algebra_core.specs.AlgebraLines.{Line, Ledger, IsLive, IsLawfulLine, AreLawfulLines, axioms, column_axiom, gate_axiom, line_of, introduce, after, after_all, value_of}
 use Rattle.ripple_graft.specs.Extension.{IsExtension}
 
 -- The axioms are live under their ids.

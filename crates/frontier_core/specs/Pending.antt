@@ -6,9 +6,9 @@ use Rattle.graph_core.specs.declared.literal.Lit.{Lit}
 use Rattle.graph_core.specs.declared.gate.Gate.{Gate}
 use Rattle.graph_core.specs.Graph.Assignments.{Assignment, literal, bit}
 use Rattle.graph_core.specs.Graph.Operands.{Sides}
-use Rattle.graph_core.specs.Algebra.Polynomials.{Polynomial, difference, value}
-use Rattle.graph_core.specs.Graph.Extended.{Extended}
-use Rattle.graph_core.specs.Algebra.{LiveLine, Ledger, Part, Combination, IsCombined, IsLawfulLine, IsLive, value_of, combined, modulus, gate_axiom}
+use Rattle.algebra_core.specs.Polynomials.{Polynomial, difference, value}
+use Rattle.graph_core.specs.Graph.Extended.{Extended, modulus}
+use Rattle.algebra_core.specs.AlgebraLines.{LiveLine, Ledger, Part, Combination, IsCombined, IsLawfulLine, IsLive, value_of, combined, gate_axiom}
 use Rattle.ripple_graft.specs.Extension.{new_outputs}
 use Rattle.frontier_core.specs.declared.step.Step.TheVariants.{Add, Eliminate}
 use Rattle.frontier_core.specs.Sets.{has}

@@ -7,9 +7,8 @@ use Rattle.graph_core.specs.declared.gate.Gate.{Gate}
 use Rattle.graph_core.specs.Graph.Literals.{variable_of}
 use Rattle.graph_core.specs.Graph.{IsLevel, IsAcyclic}
 use Rattle.graph_core.specs.Graph.Operands.{Sides}
-use Rattle.graph_core.specs.Algebra.NormalForm.{HasSize}
-use Rattle.graph_core.specs.Graph.Extended.{Extended}
-use Rattle.graph_core.specs.Algebra.{modulus}
+use Rattle.algebra_core.specs.NormalForm.{HasSize}
+use Rattle.graph_core.specs.Graph.Extended.{Extended, modulus}
 use Rattle.ripple_graft.specs.Extension.{IsExtension}
 use Rattle.frontier_core.specs.Sets.{has}
 use Rattle.frontier_core.specs.Columns.{all_columns}

@@ -7,9 +7,9 @@ use Rattle.graph_core.specs.declared.gate.Gate.{Gate}
 use Rattle.graph_core.specs.Graph.Literals.{variable_of}
 use Rattle.graph_core.specs.Graph.Assignments.{Assignment, literal, bit}
 use Rattle.graph_core.specs.Graph.Operands.{Sides}
-use Rattle.graph_core.specs.Algebra.Polynomials.{difference}
-use Rattle.graph_core.specs.Graph.Extended.{Extended}
-use Rattle.graph_core.specs.Algebra.{modulus, gate_axiom, specification}
+use Rattle.algebra_core.specs.Polynomials.{difference}
+use Rattle.graph_core.specs.Graph.Extended.{Extended, modulus}
+use Rattle.algebra_core.specs.AlgebraLines.{gate_axiom, specification}
 use Rattle.ripple_graft.specs.Extension.{new_outputs}
 use Rattle.frontier_core.specs.Sets.{has}
 use Rattle.frontier_core.specs.Columns.{column_value, columns_sum}

@@ -2,10 +2,9 @@
 use Rattle.std.specs.Prelude.{◌≡◌, ℕ, ◌+◌, ◌*◌, ◌%◌, ◌<◌, ◌≤◌, List, [], ◌∷◌, length}
 use Rattle.graph_core.specs.Graph.Assignments.{Assignment, variable, bit}
 use Rattle.graph_core.specs.Graph.Operands.{Sides}
-use Rattle.graph_core.specs.Algebra.Polynomials.{Polynomial, value}
-use Rattle.graph_core.specs.Algebra.NormalForm.{HasSize}
-use Rattle.graph_core.specs.Graph.Extended.{Extended}
-use Rattle.graph_core.specs.Algebra.{modulus}
+use Rattle.algebra_core.specs.Polynomials.{Polynomial, value}
+use Rattle.algebra_core.specs.NormalForm.{HasSize}
+use Rattle.graph_core.specs.Graph.Extended.{Extended, modulus}
 use Rattle.frontier_core.specs.Frontier.{frontier_value}
 
 -- A function's size is at most the number of terms of any polynomial that has its values.

@@ -4,10 +4,9 @@ use Rattle.std.specs.List.{All, Contains}
 use Rattle.graph_core.specs.declared.gate.Gate.{Gate}
 use Rattle.graph_core.specs.Graph.Assignments.{Assignment, variable, literal, bit}
 use Rattle.graph_core.specs.Graph.Operands.{Sides}
-use Rattle.graph_core.specs.Algebra.Polynomials.{Polynomial, product, value, difference}
-use Rattle.graph_core.specs.Algebra.NormalForm.{IsNormalForm}
-use Rattle.graph_core.specs.Graph.Extended.{Extended}
-use Rattle.graph_core.specs.Algebra.{modulus}
+use Rattle.algebra_core.specs.Polynomials.{Polynomial, product, value, difference}
+use Rattle.algebra_core.specs.NormalForm.{IsNormalForm}
+use Rattle.graph_core.specs.Graph.Extended.{Extended, modulus}
 use Rattle.ripple_graft.specs.Extension.{IsExtension}
 use Rattle.frontier_core.specs.Sets.{has, without}
 use Rattle.frontier_core.specs.Frontier.{IsFrontier, frontier_value, set_to}

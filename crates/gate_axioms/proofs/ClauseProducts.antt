@@ -8,7 +8,7 @@ use Rattle.clause_core.proofs.CallerLemmas.{subset_holds}
 use Rattle.graph_core.specs.declared.literal.Lit.{Lit}
 use Rattle.graph_core.specs.Graph.Assignments.{Assignment, HasBound, bit, literal, variable}
 use Rattle.graph_core.proofs.OfGraphs.CallerLemmas.{literal-inverted, literal-plain, product_same}
-use Rattle.graph_core.proofs.OfGraphs.Support.{bound_constant, bound_of, bound_of_two, bound_variable}
+use Rattle.algebra_core.proofs.Support.{bound_constant, bound_of, bound_of_two, bound_variable}
 use Rattle.poly_terms.specs.Tables.{Table, Sum, IsOf, Extends, modulus_in, value_in}
 use Rattle.poly_terms.specs.Laws.{modulus_stays, value_stays}
 use Rattle.gate_axioms.specs.ClauseValues.{ClauseValues, IsClausePoly, clause_value, opposite}

@@ -11,11 +11,11 @@ use Rattle.std.proofs.lemmas.List.Folds.{find-append}
 use Rattle.std.proofs.lemmas.Option.{slice_get_within}
 use Rattle.graph_core.specs.declared.Lit.{Lit}
 use Rattle.graph_core.specs.Graph.Assignments.{Assignment, literal, bit}
-use Rattle.graph_core.specs.Graph.Extended.{Extended, Column}
+use Rattle.graph_core.specs.Graph.Extended.{Extended, Column, AgreeOnColumns}
 use Rattle.graph_core.specs.Graph.{IsEvaluation}
-use Rattle.graph_core.specs.Algebra.Polynomials.{difference}
-use Rattle.graph_core.specs.Algebra.{LiveLine, line_of, gate_axiom, column_axiom, axioms, AgreeOnColumns}
-use Rattle.graph_core.specs.Algebra as algebra
+use Rattle.algebra_core.specs.Polynomials.{difference}
+use Rattle.algebra_core.specs.AlgebraLines.{LiveLine, line_of, gate_axiom, column_axiom, axioms}
+use Rattle.graph_core.specs.Graph.Extended as graphs
 use Rattle.mv_fact.specs.Always.{Always}
 use Rattle.mv_fact.specs.Facts.{Facts, ChangesAt}
 use Rattle.poly_terms.specs.Tables.{Table, Sum, IsOf, Extends, modulus_in}
@@ -23,11 +23,11 @@ use Rattle.poly_terms.specs.Laws.{extends_itself, extends_on, modulus_stays}
 use Rattle.gate_axioms.specs.Axioms.{IsLiteralDifference}
 use Rattle.gate_axioms.specs.Laws.{equal_literals_vanish}
 use Rattle.ripple_graft.specs.Extension.{IsExtension}
-use Rattle.graph_core.specs.Algebra.Agreement.{AreSame, AreSameLines}
+use Rattle.algebra_core.specs.Agreement.{AreSame, AreSameLines}
 use Rattle.gate_axioms.specs.Lines.{live_lines_in}
 use Rattle.gate_axioms.specs.ReplacedColumns.{replaced_column, column_line, difference_line, PutsLiveLine, HasColumnLines}
 use Rattle.gate_axioms.specs.Steps.{Vanishes, KeepsLines}
-use Rattle.graph_core.proofs.OfAlgebra.CallerLemmas.{same_of, same_refl, same_trans}
+use Rattle.algebra_core.proofs.CallerLemmas.{same_of, same_refl, same_trans}
 use Rattle.gate_axioms.proofs.ReplacedColumns.{found_all, found_number}
 use Rattle.gate_axioms.proofs.Entries.{line_at, line_of-entries}
 use Rattle.gate_axioms.proofs.FirstLines.{none_above, or_none, gates_within}
@@ -71,7 +71,7 @@ columns_none e facts xs are within = record {
 below_last : (j k : ℕ) → j < k + 1 → (j ≡ k → ⊥) → j < k
 below_last j k low apart = omega (arith, low, apart)
 
-pub columns_step : (e : Extended) (k : ℕ) (old mid new : Facts Sum Table) (left right : Lit) → modulus_in mid.table ≡ algebra.modulus e → Some (record { number = k; old = left; new = right }) ≡ replaced_column e k → HasColumnLines e k old mid →
+pub columns_step : (e : Extended) (k : ℕ) (old mid new : Facts Sum Table) (left right : Lit) → modulus_in mid.table ≡ graphs.modulus e → Some (record { number = k; old = left; new = right }) ≡ replaced_column e k → HasColumnLines e k old mid →
     PutsLiveLine (difference_line (modulus_in mid.table) (e.max + 1 + k) left right) mid new → HasColumnLines e (k + 1) old new
 columns_step e k old mid new left right m here h puts = record {
   gates = puts.gates ∙ h.gates;
@@ -174,6 +174,6 @@ append_within last (x ∷ xs) ys h j = (h.0, append_within last xs ys h.1 j)
 -- no id of an axiom is above the last one
 pub axioms_within : (e : Extended) → IsExtension e → AllByRecursion (λ l. l.id ≤ (axioms e).last) (axioms e).live
 axioms_within e extension =
-    append_within (axioms e).last (map (gate_axiom (algebra.modulus e)) e.gates) (map (column_axiom e) e.replaced)
-    (gates_within (algebra.modulus e) (axioms e).last e.gates (recursion_from_All (λ g. g.v ≤ (axioms e).last) e.gates (λ k d low. let here = extension.gates_in_range k d low in omega (arith, here))))
+    append_within (axioms e).last (map (gate_axiom (graphs.modulus e)) e.gates) (map (column_axiom e) e.replaced)
+    (gates_within (graphs.modulus e) (axioms e).last e.gates (recursion_from_All (λ g. g.v ≤ (axioms e).last) e.gates (λ k d low. let here = extension.gates_in_range k d low in omega (arith, here))))
     (columns_within e (length e.graph.outputs) e.replaced (number_within e extension))

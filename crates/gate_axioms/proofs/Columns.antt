@@ -9,11 +9,11 @@ use Rattle.graph_core.specs.declared.literal.Lit.{Lit}
 use Rattle.graph_core.specs.declared.sign.Sign.{Sign}
 use Rattle.graph_core.specs.declared.sign.Sign.TheVariants.{Unsigned, Signed}
 use Rattle.graph_core.specs.Graph.Assignments.{Assignment, bit, literal}
-use Rattle.graph_core.specs.Graph.Extended.{Extended}
+use Rattle.graph_core.specs.Graph.Extended.{Extended, modulus as modulus_of}
 use Rattle.graph_core.specs.Graph.Operands.{Sides}
-use Rattle.graph_core.specs.Algebra.{modulus as modulus_of}
-use Rattle.graph_core.specs.Algebra.Polynomials.{Polynomial, value, sum_of, difference}
-use Rattle.graph_core.proofs.OfGraphs.CallerLemmas.{sum_same, product_same, difference_is, difference_plus}
+use Rattle.algebra_core.specs.Polynomials.{Polynomial, value, sum_of, difference}
+use Rattle.graph_core.proofs.OfGraphs.CallerLemmas.{sum_same, product_same}
+use Rattle.algebra_core.proofs.CallerLemmas.{difference_is, difference_plus}
 use Rattle.frontier_core.specs.Columns.{bit_at, partial_products, digit_at, digit_products, product_column, plus_bit, column_claim, column_value}
 use Rattle.poly_terms.specs.Tables.{Table, Sum, Extends, modulus_in, value_in}
 use Rattle.poly_terms.specs.Laws.{modulus_stays}

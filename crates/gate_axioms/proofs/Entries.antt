@@ -4,7 +4,7 @@ use Rattle.std.proofs.Common.{◌≡◌, ℕ, Bool, true, false, List, [], ◌�
 use Rattle.std.specs.declared.option.Option.{Option}
 use Rattle.std.specs.declared.option.Option.TheVariants.{None, Some}
 use Rattle.std.proofs.lemmas.Bool.{eqb-true, eq-eqb, true≢false}
-use Rattle.graph_core.specs.Algebra.{LiveLine, line_of}
+use Rattle.algebra_core.specs.AlgebraLines.{LiveLine, line_of}
 use Rattle.mv_fact.specs.Facts.{fact_at}
 use Rattle.poly_terms.specs.Tables.{Table, Sum}
 use Rattle.gate_axioms.specs.Lines.{live_line_in, live_lines_in}

@@ -12,14 +12,14 @@ use Rattle.graph_core.specs.declared.Gate.{Gate}
 use Rattle.std.proofs.lemmas.Nat.{pow_pos}
 use Rattle.graph_core.specs.Graph.Assignments.{Assignment}
 use Rattle.graph_core.specs.Graph.{IsEvaluation}
-use Rattle.graph_core.proofs.OfAlgebra.CallerLemmas.{gate_axiom-zero, same_of, same_refl, same_trans}
-use Rattle.graph_core.specs.Algebra.{LiveLine, line_of, gate_axiom}
+use Rattle.algebra_core.proofs.CallerLemmas.{gate_axiom-zero, same_of, same_refl, same_trans}
+use Rattle.algebra_core.specs.AlgebraLines.{LiveLine, line_of, gate_axiom}
 use Rattle.mv_fact.specs.Facts.{Facts, fact_at, ChangesAt}
 use Rattle.mv_fact.specs.Always.{Always}
 use Rattle.poly_terms.specs.Tables.{Table, Sum, IsOf, Extends, modulus_in, value_in}
 use Rattle.poly_terms.specs.Laws.{extends_itself, extends_on, modulus_stays}
 use Rattle.gate_axioms.specs.Axioms.{IsGateAxiom}
-use Rattle.graph_core.specs.Algebra.Agreement.{AreSame, AreSameLines}
+use Rattle.algebra_core.specs.Agreement.{AreSame, AreSameLines}
 use Rattle.gate_axioms.specs.Lines.{live_lines_in}
 use Rattle.gate_axioms.specs.Steps.{Vanishes, KeepsLines, AddsLine, ComputesGate}
 use Rattle.gate_axioms.proofs.Entries.{line_at, line_of-entries}

@@ -6,14 +6,14 @@ use Rattle.std.specs.List.{All, AllByRecursion}
 use Rattle.std.specs.Map.{values_of}
 use Rattle.std.proofs.lemmas.List.Elements.{recursion_from_All}
 use Rattle.graph_core.specs.declared.Gate.{Gate}
-use Rattle.graph_core.specs.Algebra.{line_of}
+use Rattle.algebra_core.specs.AlgebraLines.{line_of}
 use Rattle.poly_terms.specs.Tables.{Table, Sum, Extends}
 use Rattle.poly_terms.specs.Laws.{value_stays, extends_itself}
 use Rattle.mv_fact.specs.Facts.{Facts, IsGrown}
-use Rattle.graph_core.specs.Algebra.Agreement.{AreSame}
+use Rattle.algebra_core.specs.Agreement.{AreSame}
 use Rattle.gate_axioms.specs.Lines.{live_line_in, live_lines_in}
 use Rattle.gate_axioms.specs.Steps.{Vanishes, KeepsLines}
-use Rattle.graph_core.proofs.OfAlgebra.CallerLemmas.{same_refl}
+use Rattle.algebra_core.proofs.CallerLemmas.{same_refl}
 
 lines_stay : (gates : List Gate) (old new : Table) (es : List (ℕ × Sum)) (id : ℕ) → Extends old new → AllByRecursion (Vanishes gates old) (values_of es) →
     AreSame (line_of (live_lines_in new es) id) (line_of (live_lines_in old es) id)

@@ -5,7 +5,7 @@ use Rattle.std.proofs.lemmas.List.Elements.{All-map}
 use Rattle.clause_core.specs.Clause.{Clause, Satisfies}
 use Rattle.clause_core.specs.Likeness.{AreSameSets}
 use Rattle.graph_core.specs.Graph.Assignments.{Assignment, HasBound}
-use Rattle.graph_core.specs.Algebra.Agreement.{AreSameImports}
+use Rattle.algebra_core.specs.Agreement.{AreSameImports}
 use Rattle.gate_axioms.specs.ClauseValues.{clause_value}
 use Rattle.gate_axioms.proofs.ClauseProducts.{clause_values}
 

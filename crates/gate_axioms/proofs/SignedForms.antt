@@ -5,7 +5,7 @@ use Rattle.std.proofs.lemmas.Nat.{pow_pos}
 use Rattle.graph_core.specs.declared.literal.Lit.{Lit}
 use Rattle.graph_core.specs.Graph.Assignments.{Assignment, bit, literal, word}
 use Rattle.graph_core.specs.Graph.Operands.{signed_word}
-use Rattle.graph_core.specs.Algebra.Polynomials.{Polynomial}
+use Rattle.algebra_core.specs.Polynomials.{Polynomial}
 use Rattle.graph_core.proofs.OfGraphs.CallerLemmas.{product_same, signed_is, sum_same, top}
 use Rattle.gate_axioms.specs.Form.{AddsNumber}
 use Rattle.gate_axioms.proofs.Adding.{adds_on}

@@ -6,11 +6,10 @@ use Rattle.graph_core.specs.declared.literal.Lit.{Lit}
 use Rattle.graph_core.specs.declared.gate.Gate.{Gate}
 use Rattle.graph_core.specs.Graph.Assignments.{Assignment, variable, bit, literal, word}
 use Rattle.graph_core.specs.Graph.{Aig}
-use Rattle.graph_core.specs.Graph.Extended.{without_cut}
+use Rattle.graph_core.specs.Graph.Extended.{without_cut, modulus as modulus_of}
 use Rattle.graph_core.specs.Graph.Operands.{Sides, claimed, operand_word}
-use Rattle.graph_core.specs.Algebra.Polynomials.{Polynomial, value, difference}
+use Rattle.algebra_core.specs.Polynomials.{Polynomial, value, difference}
 use Rattle.frontier_core.specs.Substitution.{gate_value}
-use Rattle.graph_core.specs.Algebra.{modulus as modulus_of}
 use Rattle.graph_core.proofs.OfGraphs.CallerLemmas.{plus_word_is, product_same}
 use Rattle.poly_terms.specs.Tables.{Table, Sum, modulus_in, value_in, IsOf, Extends}
 use Rattle.poly_terms.specs.Laws.{modulus_stays, value_stays, extends_on}

@@ -2,11 +2,11 @@
 use Rattle.std.specs.Prelude.{◌≡◌}
 use Rattle.graph_core.specs.declared.literal.Lit.{Lit}
 use Rattle.graph_core.specs.declared.gate.Gate.{Gate}
-use Rattle.graph_core.specs.Algebra.{gate_axiom, specification}
+use Rattle.algebra_core.specs.AlgebraLines.{gate_axiom, specification}
 use Rattle.graph_core.specs.Graph.Assignments.{Assignment, bit, literal}
 use Rattle.graph_core.specs.Graph.Extended.{Extended}
 use Rattle.graph_core.specs.Graph.Operands.{Sides}
-use Rattle.graph_core.specs.Algebra.Polynomials.{difference}
+use Rattle.algebra_core.specs.Polynomials.{difference}
 use Rattle.poly_terms.specs.Tables.{Table, Sum, modulus_in, value_in}
 
 -- at every assignment it has the value of a gate's axiom

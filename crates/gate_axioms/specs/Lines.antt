@@ -1,6 +1,6 @@
 -- Live polynomials as live lines.
 use Rattle.std.specs.Prelude.{ℕ, List, map}
-use Rattle.graph_core.specs.Algebra.{LiveLine}
+use Rattle.algebra_core.specs.AlgebraLines.{LiveLine}
 use Rattle.mv_fact.specs.Facts.{Facts}
 use Rattle.poly_terms.specs.Tables.{Table, Sum, value_in}
 

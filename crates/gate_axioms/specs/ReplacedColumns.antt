@@ -6,12 +6,12 @@ use Rattle.std.specs.List.{find}
 use Rattle.std.specs.Option.{option_map}
 use Rattle.graph_core.specs.declared.Lit.{Lit}
 use Rattle.graph_core.specs.Graph.Assignments.{literal, bit}
-use Rattle.graph_core.specs.Algebra.Polynomials.{difference}
+use Rattle.algebra_core.specs.Polynomials.{difference}
 use Rattle.graph_core.specs.Graph.Extended.{Extended, Column}
-use Rattle.graph_core.specs.Algebra.{LiveLine, line_of, column_axiom}
+use Rattle.algebra_core.specs.AlgebraLines.{LiveLine, line_of, column_axiom}
 use Rattle.mv_fact.specs.Facts.{Facts}
 use Rattle.poly_terms.specs.Tables.{Table, Sum, Extends}
-use Rattle.graph_core.specs.Algebra.Agreement.{AreSame}
+use Rattle.algebra_core.specs.Agreement.{AreSame}
 use Rattle.gate_axioms.specs.Lines.{live_lines_in}
 
 -- the replaced column of this number, and its axiom

@@ -3,8 +3,8 @@ use Rattle.std.specs.Prelude.{◌≡◌, ◌&&◌, ℕ, List, [], ◌∷◌}
 use Rattle.std.specs.Option.{option_or}
 use Rattle.graph_core.specs.declared.Gate.{Gate}
 use Rattle.graph_core.specs.Graph.Assignments.{Assignment, variable, literal}
-use Rattle.graph_core.specs.Algebra.{LiveLine, line_of}
-use Rattle.graph_core.specs.Algebra.Agreement.{AreSame, AreSameLines}
+use Rattle.algebra_core.specs.AlgebraLines.{LiveLine, line_of}
+use Rattle.algebra_core.specs.Agreement.{AreSame, AreSameLines}
 use Rattle.mv_fact.specs.Facts.{Facts, IsKept}
 use Rattle.poly_terms.specs.Tables.{Table, Sum, IsOf, Extends, value_in}
 use Rattle.gate_axioms.specs.Lines.{live_lines_in}

@@ -5,10 +5,9 @@ ghost use Rattle.std.specs.Prelude.{◌≡◌, ◌+◌, ◌*◌, ◌%◌, ◌<�
 ghost use Rattle.frontier_core.specs.Columns.{column_value};
 ghost use Rattle.frontier_core.specs.Substitution.{gate_value};
 ghost use Rattle.graph_core.specs.declared.literal.Lit.{Lit};
-ghost use Rattle.graph_core.specs.Algebra.{modulus as modulus_of};
-ghost use Rattle.graph_core.specs.Graph.Extended.{without_cut};
+ghost use Rattle.graph_core.specs.Graph.Extended.{modulus as modulus_of, without_cut};
 ghost use Rattle.graph_core.specs.Graph.Assignments.{Assignment};
-ghost use Rattle.graph_core.specs.Algebra.Polynomials.{value};
+ghost use Rattle.algebra_core.specs.Polynomials.{value};
 ghost use Rattle.poly_terms.specs.Tables.{IsOf, Extends, modulus_in, value_in};
 ghost use Rattle.ripple_graft.specs.Extension.{new_outputs};
 ghost use Rattle.gate_axioms.specs.Form.{HasPolyValue};

@@ -1,13 +1,14 @@
 // The axioms of an extended graph, as live polynomials.
 ghost use Rattle.std.specs.Prelude.{◌≡◌, ◌*◌, ◌<◌, ◌≤◌, [], None, OnOk, length, map};
 ghost use Rattle.graph_core.specs.declared.bounds.TheConstants.{MOST_OUTPUTS};
-ghost use Rattle.graph_core.specs.Algebra.{gate_axiom, axioms, AgreeOnColumns};
-ghost use Rattle.graph_core.specs.Algebra as algebra;
+ghost use Rattle.algebra_core.specs.AlgebraLines.{gate_axiom, axioms};
+ghost use Rattle.graph_core.specs.Graph.Extended.{AgreeOnColumns};
+ghost use Rattle.graph_core.specs.Graph.Extended as graphs;
 ghost use Rattle.graph_core.specs.Graph.Assignments.{literal};
 ghost use Rattle.ripple_graft.specs.Extension.{IsExtension};
 ghost use Rattle.mv_fact.specs.Always.{Always};
 ghost use Rattle.poly_terms.specs.Tables.{Extends, modulus_in};
-ghost use Rattle.graph_core.specs.Algebra.Agreement.{AreSameLines};
+ghost use Rattle.algebra_core.specs.Agreement.{AreSameLines};
 ghost use Rattle.gate_axioms.specs.Lines.{lines_of};
 ghost use Rattle.gate_axioms.specs.ReplacedColumns.{replaced_column, column_by, difference_line, PutsLiveLine, HasColumnLines, AddsColumn};
 ghost use Rattle.gate_axioms.specs.Steps.{AddsLine, ComputesGate};
@@ -28,7 +29,7 @@ pub fn add_axioms(
 ) -> Result<(), Memory>
     requires gates { live.old.gates ≡ extended.now.gates }
     requires empty { live.old.entries ≡ [] }
-    requires modulus { modulus_in live.old.table ≡ algebra.modulus extended.now }
+    requires modulus { modulus_in live.old.table ≡ graphs.modulus extended.now }
     requires columns { Always extended.now.gates (AgreeOnColumns extended.now) }
     ensures gates { OnOk result (live.new.gates ≡ live.old.gates) }
     ensures table { OnOk result (Extends live.old.table live.new.table) }
@@ -109,7 +110,7 @@ fn add_column(
     k: u32,
 ) -> Result<(), Memory>
     requires gates { live.old.gates ≡ extended.now.gates }
-    requires modulus { modulus_in live.old.table ≡ algebra.modulus extended.now }
+    requires modulus { modulus_in live.old.table ≡ graphs.modulus extended.now }
     requires in_range { k < length extended.now.graph.outputs }
     requires few { length extended.now.graph.outputs ≤ MOST_OUTPUTS }
     requires extension { IsExtension extended.now }
@@ -132,7 +133,7 @@ fn add_columns(
     extended: &Extended<'_>,
 ) -> Result<(), Memory>
     requires gates { live.old.gates ≡ extended.now.gates }
-    requires modulus { modulus_in live.old.table ≡ algebra.modulus extended.now }
+    requires modulus { modulus_in live.old.table ≡ graphs.modulus extended.now }
     requires extension { IsExtension extended.now }
     requires columns { Always extended.now.gates (AgreeOnColumns extended.now) }
     requires none { HasColumnLines extended.now 0 live.old live.old }

@@ -8,9 +8,8 @@ use Rattle.std.proofs.lemmas.Grind.{flat_map-append}
 use Rattle.std.proofs.lemmas.List.{append-nil, length-append, take_all}
 use Rattle.std.proofs.lemmas.List.Elements.{All-contains, All-from_recursion, recursion_from_All, Contains-append_cases, Contains-append_left, Contains-append_right, Contains-get_or}
 use Rattle.graph_core.specs.declared.literal.Lit.{Lit}
-use Rattle.graph_core.specs.Algebra.{AgreeOnColumns}
+use Rattle.graph_core.specs.Graph.Extended.{AgreeOnColumns, Column, Extended}
 use Rattle.graph_core.specs.Graph.Assignments.{Assignment, literal}
-use Rattle.graph_core.specs.Graph.Extended.{Column, Extended}
 use Rattle.graph_core.specs.Graph.Literals.{negation_of, variable_of}
 use Rattle.graph_core.proofs.OfGraphs.CallerLemmas.{all_join}
 use Rattle.clause_core.specs.Clause.{Clause, IsClauseInRange, IsSubset, holds}

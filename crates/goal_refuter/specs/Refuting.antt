@@ -1,9 +1,8 @@
 -- The refutation of one goal's negation, and of all.
 use Rattle.std.specs.Prelude.{◌≡◌, ℕ, ◌+◌, ◌≤◌, Bool, false, List, ◌++◌, length}
 use Rattle.std.specs.List.{All}
-use Rattle.graph_core.specs.Algebra.{AgreeOnColumns}
+use Rattle.graph_core.specs.Graph.Extended.{AgreeOnColumns, Extended}
 use Rattle.graph_core.specs.Graph.{IsEvaluation}
-use Rattle.graph_core.specs.Graph.Extended.{Extended}
 use Rattle.clause_core.specs.Clause.{Clause, IsClauseInRange, Satisfies, holds}
 use Rattle.clause_core.specs.GateClauses.{gate_clauses}
 use Rattle.clause_core.specs.Likeness.{AreSameSets}

@@ -10,6 +10,6 @@ pub mod Refusals
 pub mod Rests
 pub mod Rows
 pub mod SoundLists
-pub mod Soundness
+pub mod SpelledSizes
 pub mod Tail
 pub mod Writing

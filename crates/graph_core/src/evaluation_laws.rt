@@ -2,7 +2,7 @@
 ghost use Rattle.graph_core.specs.Graph.{EvaluationIsOne};
 ghost use Rattle.graph_core.specs.Aiger.Refusal.{OneLevel};
 ghost use Rattle.graph_core.specs.Graph.Operands.{ClaimIsDone, ClaimIsProduct, EvaluationsSuffice, SidesAreInputs, SidesReadInputs, WholeProducts};
-ghost use Rattle.graph_core.specs.Aiger.Soundness.{SpelledShape, VanishingMeetsClaim, VanishingMultiplies};
+ghost use Rattle.graph_core.specs.Aiger.Sizes.{SpelledShape};
 
 /// What is claimed on every evaluation of an acyclic graph holds for all values of its inputs.
 pub fn evaluations_suffice()
@@ -42,16 +42,6 @@ pub fn evaluation_is_one()
 /// Where gates have different variables, a variable has at most one level.
 pub fn one_level()
     ensures { OneLevel }
-{}
-
-/// Where the specification vanishes on each evaluation of a spelled graph, the graph meets the claim.
-pub fn vanishing_meets_claim()
-    ensures { VanishingMeetsClaim }
-{}
-
-/// Where the specification of two operands vanishes on those of a multiplier's graph, it multiplies.
-pub fn vanishing_multiplies()
-    ensures { VanishingMultiplies }
 {}
 
 /// A graph that a text spells is of its profile's size.

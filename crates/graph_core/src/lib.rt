@@ -1,4 +1,4 @@
-//! And-inverter graphs, and the definitions of a multiplier verifier with their laws.
+//! And-inverter graphs, their operands and their files: the definitions on which all else stands, with their laws.
 //!
 //! `Graph::build` gives the graph of some lists exactly where they have no fault, and else their first fault. What is
 //! built is acyclic, and has at most `MOST_VARIABLES` variables, `MOST_INPUTS` inputs and `MOST_OUTPUTS` outputs. A graph
@@ -8,42 +8,32 @@
 //! gives the value on two operands, `Graph::sum_on` that with an addend. Only these two, `Graph::build` and the makers
 //! of `Operands` take memory. `Graph::input` and `Operands::of` are promised calls of the library that no command needs.
 //!
-//! The contracts of all crates above cite the words of `specs/`: graphs, their evaluation, operands and the product
-//! (`Graph` and its files), what bytes spell and how a text is refused (`Text`, `Aiger`), lawful algebra certificates
-//! by the values of their polynomials (`Algebra`, `Certificates`). A law is the contract of a public function with an
-//! empty body. Laws here: no bytes spell two graphs, and bytes that spell none have one first refusal; where the
-//! specification is 0 on every evaluation the graph does what is claimed; an algebra file is lawful or has one first
-//! refusal; what ledgers that agree and lines that are alike have in common.
+//! The contracts of all crates above cite the words of `specs/`: graphs, their evaluation, operands and the product, and
+//! graphs with gates that stand for a final stage (`Graph` and its files), what bytes spell and how a text is refused
+//! (`Text`, `Aiger`). A law is the contract of a public function with an empty body. Laws here: no bytes spell two graphs,
+//! and bytes that spell none have one first refusal; what holds on every evaluation holds for all values of the inputs.
 #![tactic(auto)]
 
 mod bounds;
-mod certificate_laws;
 mod claim;
 mod evaluation_laws;
 mod fault;
 mod file_laws;
 mod gate;
 mod graph;
-mod ledger_laws;
 mod literal;
 mod memory;
 mod numbers;
 mod operands;
 mod order;
-mod polynomial_laws;
 mod profile;
 mod sign;
 
 pub use bounds::{MOST_INPUTS, MOST_OUTPUTS, MOST_VARIABLES};
-pub use certificate_laws::{
-    algebra_is_exact, algebra_is_read, algebra_is_sound, algebra_line_is_read, axioms_vanish,
-    close_is_read, vanishing_means_claim,
-};
 pub use claim::Claim;
 pub use evaluation_laws::{
     claim_is_done, claim_is_product, evaluation_is_one, evaluations_suffice, one_level,
-    sides_are_inputs, sides_read_inputs, spelled_shape, vanishing_meets_claim,
-    vanishing_multiplies, whole_products,
+    sides_are_inputs, sides_read_inputs, spelled_shape, whole_products,
 };
 pub use fault::{BuildFail, Field, GraphFault};
 pub use file_laws::{
@@ -53,17 +43,10 @@ pub use file_laws::{
 };
 pub use gate::Gate;
 pub use graph::Graph;
-pub use ledger_laws::{
-    agreement_is_equivalence, agreement_is_kept, ledger_is_map, likeness_is_kept,
-    live_lines_vanish, premises_are_kept,
-};
 pub use literal::Lit;
 pub use memory::Memory;
 pub use numbers::Numbers;
 pub use operands::Operands;
 pub use order::Order;
-pub use polynomial_laws::{
-    normal_form_exists, normal_form_is_one, normal_forms_differ, size_is_one,
-};
 pub use profile::Profile;
 pub use sign::Sign;

@@ -1,7 +1,7 @@
 -- Each corrected array multiplies signed operands.
-use Rattle.std.specs.Prelude.{◌≡◌, ℕ, zero, suc, ◌+◌, ◌*◌, ◌-◌, ◌%◌, ◌^◌, ◌<◌, ◌≤◌, Bool, true, false, not, ◌&&◌, List, [], ◌∷◌, length, take, drop}
-use Rattle.std.proofs.Common.{refl, sym, ap, ap₂, subst, ◌∙◌, arith, pow-suc, mod-eq_of_lt, length-append, length-drop}
-use Rattle.std.proofs.Math.Nat.{add-mul-mod_self_left}
+use Rattle.std.specs.Prelude.{◌≡◌, ℕ, zero, suc, ◌+◌, ◌*◌, ◌-◌, ◌/◌, ◌%◌, ◌^◌, ◌<◌, ◌≤◌, Bool, true, false, not, ◌&&◌, List, [], ◌∷◌, length, take, drop}
+use Rattle.std.proofs.Common.{refl, sym, ap, ap₂, subst, ◌∙◌, arith, pow-suc, mod-eq_of_lt, mod-lt, length-append, length-drop}
+use Rattle.std.proofs.Math.Nat.{add-mul-mod_self_left, div-add-mod}
 use Rattle.std.proofs.lemmas.Nat.{pow-add, pow_pos}
 use Rattle.std.proofs.lemmas.List.Elements.{recursion_from_All}
 use Rattle.graph_core.specs.declared.literal.Lit.{Lit}
@@ -11,7 +11,7 @@ use Rattle.graph_core.specs.Graph.Literals.{variable_of, plain, inverted, consta
 use Rattle.graph_core.specs.Graph.Assignments.{Assignment, bit, variable, literal, word}
 use Rattle.graph_core.specs.Graph.{Aig}
 use Rattle.graph_core.specs.Graph.Operands.{width, a_bits, b_bits, HasMultiplierShape, multiplying, sides_for, signed_word, output_modulus, MeetsClaimOnEvaluations}
-use Rattle.graph_core.proofs.OfGraphs.CallerLemmas.{claim_is_done, difference_is, evaluations_suffice, literal-even, literal-odd, signed_is, top, word_below}
+use Rattle.graph_core.proofs.OfGraphs.CallerLemmas.{claim_is_done, evaluations_suffice, literal-even, literal-odd, signed_is, sum_same, top, word_below}
 use Rattle.graph_core.proofs.OfAiger.CallerLemmas.{ArePlaced}
 use Rattle.graph_maker.specs.declared.adder.Adder.{Adder}
 use Rattle.graph_maker.specs.Builder.{Builder, no_gates, with_gates, literals_from}
@@ -29,7 +29,12 @@ use Rattle.graph_maker.proofs.MadeMultiplies.{IsNumbered, numbered_well_formed, 
 -- ---- numbers
 
 cancel_mod : (m x y z : ℕ) → 0 < m → (x + z) % m ≡ (y + z) % m → x % m ≡ y % m
-cancel_mod m x y z pos h = sym (difference_is m (x + z) z x pos refl) ∙ difference_is m (x + z) z y pos (sym h)
+cancel_mod m x y z pos h = sym (back x) ∙ sum_same m (x + z) (y + z) (m - z % m) (m - z % m) h refl ∙ back y
+  where
+    back : (w : ℕ) → ((w + z) + (m - z % m)) % m ≡ w % m
+    back w =
+        let up : (w + z) + (m - z % m) ≡ w + m * (z / m + 1) = omega (arith, div-add-mod z m, mod-lt z pos) in
+        ap (λ v. v % m) up ∙ add-mul-mod_self_left w m (z / m + 1)
 
 -- The product of two numbers that are u * a and u * b less than x and y, up to multiples of m, which is u * u.
 signed_product : (u m x y a b s t p q : ℕ) → u * u ≡ m → s + u * a ≡ x + m * p → t + u * b ≡ y + m * q → (s * t + u * (a * y + b * x)) % m ≡ (x * y) % m

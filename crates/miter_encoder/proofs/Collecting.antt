@@ -10,7 +10,7 @@ use Rattle.graph_core.specs.declared.literal.Lit.{Lit}
 use Rattle.graph_core.specs.Graph.Literals.{variable_of}
 use Rattle.clause_core.specs.Clause.{Clause, IsLiteral}
 use Rattle.clause_core.specs.GateClauses.{clause_of, signed_of}
-use Rattle.miter_encoder.specs.Encoding.{Collects}
+use Rattle.miter_encoder.proofs.Words.{Collects}
 
 drop_here : {X : Type 0} (xs : List X) (n : ℕ) (d : X) → n < length xs → drop n xs ≡ slice_index_or xs n d ∷ drop (n + 1) xs
 drop_here [] n d h = absurd (omega arith)

@@ -14,7 +14,8 @@ use Rattle.ripple_graft.specs.Extension.{IsExtension, IsReplaced, new_outputs}
 use Rattle.ripple_graft.proofs.CallerLemmas.{outputs_are_new}
 use Rattle.clause_core.specs.Clause.{Clause}
 use Rattle.clause_core.specs.GateClauses.{clause_of, goals_of}
-use Rattle.miter_encoder.specs.ColumnGoals.{AreGoalsBelow, AreGoalsOf, HasGoals, IsGoalOf, IsOfColumns}
+use Rattle.miter_encoder.proofs.Words.{AreGoalsBelow}
+use Rattle.miter_encoder.specs.ColumnGoals.{AreGoalsOf, HasGoals, IsGoalOf, IsOfColumns}
 use Rattle.miter_encoder.specs.Pushing.{PushesGoals}
 use Rattle.miter_encoder.specs.declared.goal.Goal.{Goal}
 

@@ -1,3 +1,4 @@
+pub mod Words
 pub mod Collecting
 pub mod Appending
 pub mod GoalLists

@@ -6,10 +6,9 @@ use Rattle.std.specs.List.{All, AllByRecursion}
 use Rattle.std.proofs.Common.{sym, ◌∙◌, arith, inl, inr, ⊎_elim, true≢false}
 use Rattle.std.proofs.lemmas.List.Elements.{All-contains, All-from_recursion, recursion_from_All}
 use Rattle.graph_core.specs.declared.gate.Gate.{Gate}
-use Rattle.graph_core.specs.Algebra.{AgreeOnColumns}
+use Rattle.graph_core.specs.Graph.Extended.{AgreeOnColumns, Column, Extended}
 use Rattle.graph_core.specs.Graph.Assignments.{Assignment, literal}
 use Rattle.graph_core.specs.Graph.{IsEvaluation}
-use Rattle.graph_core.specs.Graph.Extended.{Column, Extended}
 use Rattle.clause_core.specs.Clause.{Clause, Satisfies, holds}
 use Rattle.clause_core.specs.GateClauses.{IsMet, gate_clauses, goals_of}
 use Rattle.clause_core.specs.Likeness.{AreSameSets}

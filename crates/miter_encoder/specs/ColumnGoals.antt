@@ -44,8 +44,3 @@ columns_from k (p ∷ pairs) = record { number = k; old = p.0; new = p.1 } ∷ c
 -- the two literals of each pair are equal
 abbrev pub AgreeOnPairs : List (Lit × Lit) → Assignment → Type 0
 AgreeOnPairs pairs σ = All (λ p. literal σ p.0 ≡ literal σ p.1) pairs
-
--- so far, of the columns below a number
-pub record AreGoalsBelow (e : Extended) (goals : List Goal) (k : ℕ) : Type 0 where
-  pub each : All (IsOfColumns e.replaced) goals
-  pub all : All (λ c. c.number < k → HasGoals goals c) e.replaced

@@ -1,7 +1,7 @@
 // The goals of columns.
 ghost use Rattle.std.specs.Prelude.{◌≡◌, ◌↔◌, ◌≤◌, ◌^◌, ◌∷◌, [], ◌++◌, length, IfOk, OnOk};
 ghost use Rattle.std.specs.List.{All};
-ghost use Rattle.graph_core.specs.Algebra.{AgreeOnColumns};
+ghost use Rattle.graph_core.specs.Graph.Extended.{AgreeOnColumns};
 ghost use Rattle.graph_core.specs.Graph.Assignments.{Assignment};
 ghost use Rattle.graph_core.specs.Graph.Literals.{negation_of};
 ghost use Rattle.clause_core.specs.GateClauses.{clause_of as clause_by};

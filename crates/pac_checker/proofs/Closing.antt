@@ -5,11 +5,11 @@ use Rattle.std.proofs.lemmas.Bool.{true≢false}
 use Rattle.clause_core.specs.Clause.{Clause}
 use Rattle.graph_core.specs.Graph.Operands.{Sides}
 use Rattle.graph_core.specs.Graph.Extended.{Extended}
-use Rattle.graph_core.specs.Algebra.{Closes, specification}
-use Rattle.graph_core.specs.Algebra.InRange.{IsRefusedCloseInRange}
-use Rattle.graph_core.specs.Algebra.Refusal as cause
-use Rattle.graph_core.specs.Algebra.Refusal.{AlgebraCause}
-use Rattle.graph_core.proofs.OfAlgebra.CallerLemmas.{closes_agrees, refused_close_in_range_agrees}
+use Rattle.algebra_core.specs.AlgebraLines.{Closes, specification}
+use Rattle.algebra_core.specs.InRange.{IsRefusedCloseInRange}
+use Rattle.algebra_core.specs.Refusal as cause
+use Rattle.algebra_core.specs.Refusal.{AlgebraCause}
+use Rattle.algebra_core.proofs.CallerLemmas.{closes_agrees, refused_close_in_range_agrees}
 use Rattle.mv_fact.specs.Always.{Always}
 use Rattle.mv_fact.specs.Facts.{Facts, fact_at}
 use Rattle.poly_terms.specs.Tables.{Table, Sum}

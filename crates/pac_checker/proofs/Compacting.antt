@@ -10,8 +10,8 @@ use Rattle.graph_core.specs.declared.Gate.{Gate}
 use Rattle.graph_core.specs.Graph.{IsEvaluation}
 use Rattle.graph_core.specs.Graph.Extended.{Extended}
 use Rattle.graph_core.specs.Graph.Operands.{Sides}
-use Rattle.graph_core.specs.Algebra.{line_of}
-use Rattle.graph_core.specs.Algebra.Agreement.{AreSame, AreSameLines}
+use Rattle.algebra_core.specs.AlgebraLines.{line_of}
+use Rattle.algebra_core.specs.Agreement.{AreSame, AreSameLines}
 use Rattle.mv_fact.specs.Facts.{Facts, fact_at, ChangesAt}
 use Rattle.poly_terms.specs.Tables.{Table, Sum, Extends, value_in}
 use Rattle.gate_axioms.specs.Lines.{lines_of, live_line_in, live_lines_in}

@@ -9,10 +9,10 @@ use Rattle.std.proofs.lemmas.List.Elements.{All-head, All-tail}
 use Rattle.graph_core.specs.Graph.Assignments.{Assignment}
 use Rattle.graph_core.specs.Graph.Extended.{Extended}
 use Rattle.graph_core.specs.Graph.Operands.{Sides}
-use Rattle.graph_core.specs.Algebra.Polynomials.{Polynomial, value}
-use Rattle.graph_core.specs.Algebra.{LiveLine, Line, Part, Sum, Product, Combination, Import, Delete, Ledger, IsLive, IsNewId, IsLawfulLine, AreLawfulLines, Closes, line_of, value_of, value_or_zero, combined, named, operands, introduce, after, after_all}
-use Rattle.graph_core.specs.Algebra.Agreement.{AreSame, AreSameImports, LedgersAgree}
-use Rattle.graph_core.proofs.OfAlgebra.CallerLemmas.{agree_sym, agree_trans, lawful_agrees, line_of-deleted, live_agrees, same_refl, same_sym, same_trans}
+use Rattle.algebra_core.specs.Polynomials.{Polynomial, value}
+use Rattle.algebra_core.specs.AlgebraLines.{LiveLine, Line, Part, Sum, Product, Combination, Import, Delete, Ledger, IsLive, IsNewId, IsLawfulLine, AreLawfulLines, Closes, line_of, value_of, value_or_zero, combined, named, operands, introduce, after, after_all}
+use Rattle.algebra_core.specs.Agreement.{AreSame, AreSameImports, LedgersAgree}
+use Rattle.algebra_core.proofs.CallerLemmas.{agree_sym, agree_trans, lawful_agrees, line_of-deleted, live_agrees, same_refl, same_sym, same_trans}
 use Rattle.pac_checker.specs.Recording.{AreIdsWithin, Covers}
 
 -- ---- a line behind others

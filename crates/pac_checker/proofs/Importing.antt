@@ -17,10 +17,10 @@ use Rattle.graph_core.specs.declared.gate.Gate.{Gate}
 use Rattle.graph_core.specs.Graph.Assignments.{Assignment}
 use Rattle.graph_core.specs.Graph.Extended.{Extended}
 use Rattle.graph_core.specs.Graph.Operands.{Sides}
-use Rattle.graph_core.specs.Algebra.Polynomials.{value}
-use Rattle.graph_core.specs.Algebra.{Ledger, IsLive, import_of, import_or_zero, introduce}
-use Rattle.graph_core.specs.Algebra as algebra
-use Rattle.graph_core.proofs.OfAlgebra.CallerLemmas.{agree_trans, imports_refl}
+use Rattle.algebra_core.specs.Polynomials.{value}
+use Rattle.algebra_core.specs.AlgebraLines.{Ledger, IsLive, import_of, import_or_zero, introduce}
+use Rattle.graph_core.specs.Graph.Extended as graphs
+use Rattle.algebra_core.proofs.CallerLemmas.{agree_trans, imports_refl}
 use Rattle.mv_fact.specs.Facts.{Facts}
 use Rattle.poly_terms.specs.Tables.{Table, Sum, IsOf, Extends, modulus_in, monomials_in, value_in}
 use Rattle.poly_terms.specs.Laws.{modulus_stays, value_stays}
@@ -76,11 +76,11 @@ module _ (added : List Clause) (e : Extended) (s : Sides) (old mid : Facts Sum T
   imported_is σ = ap (λ o. import_or_zero o σ) (import_is added number c h.there)
 
   -- the value that the rule names is that of the polynomial, and the stated one has that of the other polynomial
-  named_is : (σ : Assignment) → value_in mid.table p σ ≡ imported σ % algebra.modulus e
+  named_is : (σ : Assignment) → value_in mid.table p σ ≡ imported σ % graphs.modulus e
   named_is σ =
-      h.value σ ∙ ap (λ m. clause_value c σ % m) (modulus_stays old.table mid.table h.keeps.table ∙ h.sound.same_modulus) ∙ ap (λ n. n % algebra.modulus e) (sym (imported_is σ))
+      h.value σ ∙ ap (λ m. clause_value c σ % m) (modulus_stays old.table mid.table h.keeps.table ∙ h.sound.same_modulus) ∙ ap (λ n. n % graphs.modulus e) (sym (imported_is σ))
 
-  stated_is : (σ : Assignment) → value_in mid.table q σ ≡ value (algebra.modulus e) (monomials_in old.table q) σ
+  stated_is : (σ : Assignment) → value_in mid.table q σ ≡ value (graphs.modulus e) (monomials_in old.table q) σ
   stated_is σ = value_stays old.table mid.table q σ h.keeps.table h.of_table ∙ ap (λ m. value m (monomials_in old.table q) σ) h.sound.same_modulus
 
   is_there : is_some (import_of (map clause_value added) number) ≡ true
@@ -98,8 +98,8 @@ module _ (added : List Clause) (e : Extended) (s : Sides) (old mid : Facts Sum T
         recorded = i.recorded;
         table = subst (Extends old.table) (sym i.table) h.keeps.table;
         lawful = record { new_id = h.above; live_operands = All-nil (IsLive (lines_of old)); there = is_there; equal = λ σ. sym (stated_is σ) ∙ sym (same σ) ∙ named_is σ };
-        ledger = agree_trans (ledger_of new) (introduce (modulus_in mid.table) between id (monomials_in mid.table q)) (introduce (algebra.modulus e) first id (monomials_in old.table q)) i.ledger
-            (introduce_same between first id (modulus_in mid.table) (algebra.modulus e) (monomials_in mid.table q) (monomials_in old.table q) (record { last = refl; lines = h.keeps.lines; imports = imports_refl (map clause_value added) }) stated_is);
+        ledger = agree_trans (ledger_of new) (introduce (modulus_in mid.table) between id (monomials_in mid.table q)) (introduce (graphs.modulus e) first id (monomials_in old.table q)) i.ledger
+            (introduce_same between first id (modulus_in mid.table) (graphs.modulus e) (monomials_in mid.table q) (monomials_in old.table q) (record { last = refl; lines = h.keeps.lines; imports = imports_refl (map clause_value added) }) stated_is);
       }
 
   pub takes_import : {T : Type 0} (r : Result T LineFault) (new : AlgebraChecking) → OnOk r (AreEqual mid.table p q) → OnOk r (Introduces id (monomials_in mid.table q) (checking_of added e s mid last) new) →

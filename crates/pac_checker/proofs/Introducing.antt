@@ -6,19 +6,19 @@ use Rattle.std.proofs.lemmas.Bool.{eqb-true, eq-eqb, true≢false}
 use Rattle.clause_core.specs.Clause.{Clause}
 use Rattle.graph_core.specs.Graph.Operands.{Sides}
 use Rattle.graph_core.specs.Graph.Extended.{Extended}
-use Rattle.graph_core.specs.Algebra.Polynomials.{value}
-use Rattle.graph_core.specs.Algebra.{LiveLine, Delete, line_of, operands}
+use Rattle.algebra_core.specs.Polynomials.{value}
+use Rattle.algebra_core.specs.AlgebraLines.{LiveLine, Delete, line_of, operands}
 use Rattle.mv_fact.specs.Facts.{Facts, fact_at, ChangesAt}
 use Rattle.poly_terms.specs.Tables.{Table, Sum, Extends, modulus_in, monomials_in}
 use Rattle.poly_terms.specs.Laws.{extends_itself}
 use Rattle.pac_checker.specs.declared.fault.LineFault.TheVariants as line
-use Rattle.graph_core.specs.Algebra.Agreement.{AreSame}
+use Rattle.algebra_core.specs.Agreement.{AreSame}
 use Rattle.gate_axioms.specs.ClauseValues.{clause_value}
 use Rattle.gate_axioms.specs.Lines.{live_lines_in}
 use Rattle.pac_checker.specs.Checking.{checking_of, ledger_of, TakesAlgebraLine}
 use Rattle.pac_checker.specs.Faults.{IsRuleFault}
 use Rattle.pac_checker.specs.Rules.{AreEqual, Introduces}
-use Rattle.graph_core.proofs.OfAlgebra.CallerLemmas.{imports_refl, same_of, line_of-deleted}
+use Rattle.algebra_core.proofs.CallerLemmas.{imports_refl, same_of, line_of-deleted}
 use Rattle.gate_axioms.proofs.CallerLemmas.{line_at, line_of-entries}
 use Rattle.pac_checker.proofs.Entries.{missing_first, live_first}
 use Rattle.pac_checker.proofs.Lawful.{all_live}

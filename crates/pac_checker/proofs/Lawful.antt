@@ -9,22 +9,22 @@ use Rattle.clause_core.specs.Clause.{Clause}
 use Rattle.graph_core.specs.Graph.Assignments.{Assignment}
 use Rattle.graph_core.specs.Graph.Extended.{Extended}
 use Rattle.graph_core.specs.Graph.Operands.{Sides}
-use Rattle.graph_core.specs.Algebra.Polynomials.{Polynomial, value}
-use Rattle.graph_core.specs.Algebra.{LiveLine, Line, Ledger, IsLive, line_of, operands, named, stated, introduce}
-use Rattle.graph_core.specs.Algebra as algebra
-use Rattle.graph_core.specs.Algebra.Refusal.{first_missing}
+use Rattle.algebra_core.specs.Polynomials.{Polynomial, value}
+use Rattle.algebra_core.specs.AlgebraLines.{LiveLine, Line, Ledger, IsLive, line_of, operands, named, stated, introduce}
+use Rattle.graph_core.specs.Graph.Extended as graphs
+use Rattle.algebra_core.specs.Refusal.{first_missing}
 use Rattle.mv_fact.specs.Facts.{Facts, fact_at}
 use Rattle.poly_terms.specs.Tables.{Table, Sum, IsOf, Extends, modulus_in, value_in, monomials_in}
 use Rattle.poly_terms.specs.Laws.{modulus_stays, value_stays, extends_itself}
 use Rattle.pac_checker.specs.declared.fault.LineFault.{LineFault}
 use Rattle.pac_checker.specs.declared.fault.LineFault.TheVariants.{Id, NoSuchLine, NoSuchClause, NotEqual, Memory}
-use Rattle.graph_core.specs.Algebra.Agreement.{AreSame, LedgersAgree}
+use Rattle.algebra_core.specs.Agreement.{AreSame, LedgersAgree}
 use Rattle.gate_axioms.specs.ClauseValues.{clause_value}
 use Rattle.gate_axioms.specs.Lines.{lines_of}
 use Rattle.gate_axioms.specs.Steps.{KeepsLines}
 use Rattle.pac_checker.specs.Checking.{AlgebraChecking, checking_of, ledger_of, GrowsCheckedTable, KeepsLedger}
 use Rattle.pac_checker.specs.Rules.{AreEqual, AreRefused, Introduces, IsCheckerSound, IsNamed, IsStatingFault, IsStatingLine, TakesLinesOf}
-use Rattle.graph_core.proofs.OfAlgebra.CallerLemmas.{agree_trans, agree_refl, imports_refl}
+use Rattle.algebra_core.proofs.CallerLemmas.{agree_trans, agree_refl, imports_refl}
 use Rattle.poly_text.specs.Lines.{parts_in}
 
 -- ---- the table has grown
@@ -87,7 +87,7 @@ introduce_same l k id m n p q a same = record { last = refl; imports = a.imports
 -- the stated polynomial has the value that the rule names, modulo the modulus of the graph
 equal_named : (added : List Clause) (e : Extended) (s : Sides) (old mid : Facts Sum Table) (last id : ℕ) (parts : List (ℕ × Sum)) (p q : Sum) (x : Line) → IsCheckerSound added e s old last → KeepsLines old mid → IsOf old.table q → IsNamed old mid (parts_in old.table parts) p →
     IsStatingLine (checking_of added e s old last) id parts q x → (σ : Assignment) → value_in mid.table p σ ≡ value_in mid.table q σ →
-    value (algebra.modulus e) (stated x) σ ≡ named (algebra.modulus e) (ledger_of (checking_of added e s old last)) x σ % algebra.modulus e
+    value (graphs.modulus e) (stated x) σ ≡ named (graphs.modulus e) (ledger_of (checking_of added e s old last)) x σ % graphs.modulus e
 equal_named added e s old mid last id parts p q x sound k of found line σ same =
     subst (λ m. value m (stated x) σ ≡ named m (ledger_of (checking_of added e s old last)) x σ % m) sound.same_modulus
     (ap (λ r. value (modulus_in old.table) r σ) line.states ∙ sym (value_stays old.table mid.table q σ k.table of) ∙ sym same ∙ found.same σ ∙ sym (line.names σ))
@@ -111,9 +111,9 @@ takes_named added e s old mid last id parts p q new sound k above of found same 
       recorded = i.recorded;
       table = subst (Extends old.table) (sym i.table) k.table;
       lawful = record { new_id = line.is_new last above; live_operands = live_named added e s old mid last id parts p q x found line; there = line.there before.imports; equal = λ σ. equal_named added e s old mid last id parts p q x sound k of found line σ (same σ) };
-      ledger = subst (LedgersAgree (ledger_of new)) (sym (line.next (algebra.modulus e) before))
-          (agree_trans (ledger_of new) (introduce (modulus_in mid.table) between id (monomials_in mid.table q)) (introduce (algebra.modulus e) before id (monomials_in old.table q)) i.ledger
-          (introduce_same between before id (modulus_in mid.table) (algebra.modulus e) (monomials_in mid.table q) (monomials_in old.table q) (record { last = refl; lines = k.lines; imports = imports_refl (map clause_value added) })
+      ledger = subst (LedgersAgree (ledger_of new)) (sym (line.next (graphs.modulus e) before))
+          (agree_trans (ledger_of new) (introduce (modulus_in mid.table) between id (monomials_in mid.table q)) (introduce (graphs.modulus e) before id (monomials_in old.table q)) i.ledger
+          (introduce_same between before id (modulus_in mid.table) (graphs.modulus e) (monomials_in mid.table q) (monomials_in old.table q) (record { last = refl; lines = k.lines; imports = imports_refl (map clause_value added) })
           (λ σ. value_stays old.table mid.table q σ k.table of ∙ ap (λ m. value m (monomials_in old.table q) σ) sound.same_modulus)));
     }
 
@@ -133,7 +133,7 @@ stating_refused added e s old mid last id parts p q (NoSuchClause number) sound 
 stating_refused added e s old mid last id parts p q NotEqual sound k above of found h = λ x line.
     inr (line.is_new last above, inr (live_named added e s old mid last id parts p q x found line, inr (line.there (map clause_value added), inl ((h.0, λ same. h.1 (differ x line same)), refl))))
   where
-    differ : (x : Line) → IsStatingLine (checking_of added e s old last) id parts q x → value (algebra.modulus e) (stated x) h.0 ≡ named (algebra.modulus e) (ledger_of (checking_of added e s old last)) x h.0 % algebra.modulus e →
+    differ : (x : Line) → IsStatingLine (checking_of added e s old last) id parts q x → value (graphs.modulus e) (stated x) h.0 ≡ named (graphs.modulus e) (ledger_of (checking_of added e s old last)) x h.0 % graphs.modulus e →
         value_in mid.table p h.0 ≡ value_in mid.table q h.0
     differ x line same =
         found.same h.0 ∙ sym (line.names h.0) ∙ subst (λ m. named m (ledger_of (checking_of added e s old last)) x h.0 % m ≡ value m (stated x) h.0) (sym sound.same_modulus) (sym same) ∙

@@ -2,10 +2,11 @@
 use Rattle.std.proofs.Common.{◌≡◌, ℕ, ◌+◌, ◌*◌, ◌%◌, List, [], ◌∷◌, ◌++◌, refl, sym, ap, ap₂, ◌∙◌, arith}
 use Rattle.std.proofs.Math.Nat.{add-mul}
 use Rattle.std.proofs.lemmas.Nat.{mul-mod_second}
-use Rattle.graph_core.specs.Algebra.{Line, introduce, value_of}
-use Rattle.graph_core.specs.Algebra as algebra
-use Rattle.graph_core.specs.Algebra.Refusal as cause
-use Rattle.graph_core.proofs.OfAlgebra.CallerLemmas.{after_agrees, agree_trans, lawful_agrees, refused_in_range_agrees}
+use Rattle.algebra_core.specs.AlgebraLines.{Line, introduce, value_of}
+use Rattle.graph_core.specs.Graph.Extended as graphs
+use Rattle.algebra_core.specs.AlgebraLines as algebra
+use Rattle.algebra_core.specs.Refusal as cause
+use Rattle.algebra_core.proofs.CallerLemmas.{after_agrees, agree_trans, lawful_agrees, refused_in_range_agrees}
 use Rattle.poly_terms.specs.Tables.{Sum, IsOf, modulus_in, monomials_in}
 use Rattle.poly_terms.specs.Laws.{extends_on, modulus_stays, monomials_stay}
 use Rattle.pac_checker.specs.declared.fault.LineFault.{LineFault}
@@ -65,9 +66,9 @@ takes_grown old mid new x g t = record {
   records = t.records ∙ g.records;
   recorded = t.recorded ∙ ap₂ (λ lines records. lines ++ recorded_of records x) g.recorded g.records;
   table = extends_on old.table mid.table new.table g.table t.table;
-  lawful = lawful_agrees (algebra.modulus old.extended) (ledger_of mid) (ledger_of old) g.ledger x (rw g.extended at t.lawful);
-  ledger = agree_trans (ledger_of new) (algebra.after (algebra.modulus old.extended) (ledger_of mid) x) (algebra.after (algebra.modulus old.extended) (ledger_of old) x) (rw g.extended at t.ledger)
-      (after_agrees (algebra.modulus old.extended) (ledger_of mid) (ledger_of old) g.ledger x);
+  lawful = lawful_agrees (graphs.modulus old.extended) (ledger_of mid) (ledger_of old) g.ledger x (rw g.extended at t.lawful);
+  ledger = agree_trans (ledger_of new) (algebra.after (graphs.modulus old.extended) (ledger_of mid) x) (algebra.after (graphs.modulus old.extended) (ledger_of old) x) (rw g.extended at t.ledger)
+      (after_agrees (graphs.modulus old.extended) (ledger_of mid) (ledger_of old) g.ledger x);
 }
 
 pub refused_grown : (old mid : AlgebraChecking) (x : Line) (fault : LineFault) → GrowsCheckedTable old mid → IsRefused mid x fault → IsRefused old x fault

@@ -7,9 +7,9 @@ use Rattle.std.proofs.lemmas.Bool.{cases_lt}
 use Rattle.std.proofs.lemmas.List.{append-nil, get_or_append_left, get_or_push, length_push, map_push}
 use Rattle.std.proofs.lemmas.List.Elements.{All-map, All-nil, All-push, filter_map-append}
 use Rattle.clause_core.specs.Clause.{Clause}
-use Rattle.graph_core.specs.Algebra.{Line, Ledger, Delete, IsLawfulLine, AreLawfulLines, after, after_all, modulus}
-use Rattle.graph_core.specs.Algebra.Agreement.{LedgersAgree}
-use Rattle.graph_core.specs.Graph.Extended.{Extended}
+use Rattle.algebra_core.specs.AlgebraLines.{Line, Ledger, Delete, IsLawfulLine, AreLawfulLines, after, after_all}
+use Rattle.graph_core.specs.Graph.Extended.{modulus, Extended}
+use Rattle.algebra_core.specs.Agreement.{LedgersAgree}
 use Rattle.poly_terms.specs.Tables.{Table, Extends}
 use Rattle.poly_text.specs.declared.line.PacLine.{PacLine}
 use Rattle.poly_text.specs.declared.line.PacLine.TheVariants as pac

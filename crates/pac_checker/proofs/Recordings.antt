@@ -5,8 +5,8 @@ use Rattle.std.specs.declared.option.Option.TheVariants.{None, Some}
 use Rattle.std.proofs.Common.{refl, sym, ap, ap₂, subst, ◌∙◌, Result, Ok, Err, OnErr, OnOk, ⊎_elim, true≢false}
 use Rattle.std.proofs.lemmas.Bool.{cases_lt}
 use Rattle.clause_core.specs.Clause.{Clause}
-use Rattle.graph_core.specs.Algebra.{Line, AreLawful, modulus}
-use Rattle.graph_core.specs.Graph.Extended.{Extended}
+use Rattle.algebra_core.specs.AlgebraLines.{Line, AreLawful}
+use Rattle.graph_core.specs.Graph.Extended.{modulus, Extended}
 use Rattle.graph_core.specs.Graph.Operands.{Sides}
 use Rattle.mv_fact.specs.Facts.{Facts, fact_at}
 use Rattle.poly_terms.specs.Tables.{Table}

@@ -5,10 +5,10 @@ use Rattle.std.specs.declared.option.Option.TheVariants.{Some}
 use Rattle.std.specs.List.{All, AllByRecursion, cons_option}
 use Rattle.std.proofs.Common.{refl, sym, ap, ap₂, subst}
 use Rattle.std.proofs.lemmas.List.Elements.{recursion_from_All}
-use Rattle.graph_core.specs.Algebra.Polynomials.{Polynomial}
-use Rattle.graph_core.specs.Algebra.{Line, Part, Ledger, IsNewId, after, operands}
-use Rattle.graph_core.specs.Algebra as algebra
-use Rattle.graph_core.specs.Algebra.Text.{IsLineInRange}
+use Rattle.algebra_core.specs.Polynomials.{Polynomial}
+use Rattle.algebra_core.specs.AlgebraLines.{Line, Part, Ledger, IsNewId, after, operands}
+use Rattle.algebra_core.specs.AlgebraLines as algebra
+use Rattle.algebra_core.specs.Text.{IsLineInRange}
 use Rattle.poly_terms.specs.Tables.{Table, Extends, IsOf}
 use Rattle.poly_terms.specs.Tables as table
 use Rattle.poly_terms.specs.Laws.{monomials_stay, stays}

@@ -3,9 +3,9 @@
 use Rattle.std.specs.Prelude.{◌≡◌, ℕ, Bool, true, false, List, [], ◌∷◌, ◌++◌, IfSome, map}
 use Rattle.clause_core.specs.Clause.{Clause}
 use Rattle.graph_core.specs.Graph.Operands.{Sides}
-use Rattle.graph_core.specs.Graph.Extended.{Extended}
-use Rattle.graph_core.specs.Algebra.{Ledger, Line, Premises, Sum, Product, Combination, Import, Delete, modulus, after, IsLawfulLine, Closes, specification}
-use Rattle.graph_core.specs.Algebra.Text.{IsLineInRange}
+use Rattle.graph_core.specs.Graph.Extended.{Extended, modulus}
+use Rattle.algebra_core.specs.AlgebraLines.{Ledger, Line, Premises, Sum, Product, Combination, Import, Delete, after, IsLawfulLine, Closes, specification}
+use Rattle.algebra_core.specs.Text.{IsLineInRange}
 use Rattle.poly_terms.specs.Tables.{Table, Extends}
 use Rattle.poly_terms.specs.Tables as tables
 use Rattle.mv_fact.specs.Always.{Always}
@@ -13,7 +13,7 @@ use Rattle.mv_fact.specs.Facts.{Facts}
 use Rattle.poly_text.specs.declared.PacLine.{PacLine}
 use Rattle.poly_text.specs.Lines.{line_in}
 use Rattle.poly_text.specs.WrittenLines.{IsWritable}
-use Rattle.graph_core.specs.Algebra.Agreement.{LedgersAgree}
+use Rattle.algebra_core.specs.Agreement.{LedgersAgree}
 use Rattle.gate_axioms.specs.ClauseValues.{clause_value}
 use Rattle.gate_axioms.specs.Lines.{live_lines_in}
 

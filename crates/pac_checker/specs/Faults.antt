@@ -2,12 +2,12 @@
 use Rattle.std.specs.Prelude.{ℕ, IfSome}
 use Rattle.graph_core.specs.Graph.Operands.{Sides}
 use Rattle.graph_core.specs.Graph.Extended.{Extended}
-use Rattle.graph_core.specs.Algebra.{Ledger, Line}
-use Rattle.graph_core.specs.Algebra.Refusal as cause
+use Rattle.algebra_core.specs.AlgebraLines.{Ledger, Line}
+use Rattle.algebra_core.specs.Refusal as cause
 use Rattle.poly_text.specs.declared.PacLine.{PacLine}
 use Rattle.poly_text.specs.Lines.{line_in}
 use Rattle.pac_checker.specs.Checking.{AlgebraChecking, ledger_of}
-use Rattle.graph_core.specs.Algebra.InRange.{IsRefusedInRange, IsRefusedCloseInRange}
+use Rattle.algebra_core.specs.InRange.{IsRefusedInRange, IsRefusedCloseInRange}
 use Rattle.pac_checker.specs.declared.fault.LineFault.{LineFault}
 use Rattle.pac_checker.specs.declared.fault.LineFault.TheVariants.{Id, NoSuchLine, NoSuchClause, NotEqual, Memory}
 use Rattle.pac_checker.specs.declared.fault.CloseFault.{CloseFault}

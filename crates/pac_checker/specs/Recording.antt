@@ -2,9 +2,9 @@
 use Rattle.std.specs.Prelude.{◌≡◌, ◌≤◌, ℕ, Bool, true, false, List, [], ◌∷◌, map}
 use Rattle.std.specs.List.{All}
 use Rattle.clause_core.specs.Clause.{Clause}
-use Rattle.graph_core.specs.Algebra.{Ledger, IsLive, AreLawfulLines, after_all, beginning, line_of, modulus}
-use Rattle.graph_core.specs.Algebra.Agreement.{AreSame, AreSameImports}
-use Rattle.graph_core.specs.Graph.Extended.{Extended}
+use Rattle.algebra_core.specs.AlgebraLines.{Ledger, IsLive, AreLawfulLines, after_all, beginning, line_of}
+use Rattle.graph_core.specs.Graph.Extended.{modulus, Extended}
+use Rattle.algebra_core.specs.Agreement.{AreSame, AreSameImports}
 use Rattle.poly_terms.specs.Tables.{Table}
 use Rattle.poly_text.specs.declared.line.PacLine.{PacLine}
 use Rattle.poly_text.specs.declared.line.PacLine.TheVariants.{Sum, Product, Combination, Import, Drop, Close}

@@ -9,11 +9,12 @@ use Rattle.clause_core.specs.Facts.{IsClauseFact}
 use Rattle.graph_core.specs.Graph.Assignments.{Assignment}
 use Rattle.graph_core.specs.Graph.Extended.{Extended}
 use Rattle.graph_core.specs.Graph.Operands.{Sides}
-use Rattle.graph_core.specs.Algebra.Polynomials.{Polynomial}
-use Rattle.graph_core.specs.Algebra.{Line, Ledger, Part, IsNewId, IsThere, value_of, introduce, combined, operands, stated, named, after}
-use Rattle.graph_core.specs.Algebra as algebra
-use Rattle.graph_core.specs.Algebra.Agreement.{AreSameLines, LedgersAgree}
-use Rattle.graph_core.specs.Algebra.Refusal.{first_missing}
+use Rattle.algebra_core.specs.Polynomials.{Polynomial}
+use Rattle.algebra_core.specs.AlgebraLines.{Line, Ledger, Part, IsNewId, IsThere, value_of, introduce, combined, operands, stated, named, after}
+use Rattle.graph_core.specs.Graph.Extended as graphs
+use Rattle.algebra_core.specs.AlgebraLines as algebra
+use Rattle.algebra_core.specs.Agreement.{AreSameLines, LedgersAgree}
+use Rattle.algebra_core.specs.Refusal.{first_missing}
 use Rattle.mv_fact.specs.Facts.{Facts, fact_at}
 use Rattle.poly_terms.specs.Tables.{Table, Sum, modulus_in, value_in, monomials_in}
 use Rattle.poly_text.specs.Lines.{part_in, parts_in}
@@ -128,6 +129,6 @@ pub record Carries (old new : Facts Sum Table) : Type 0 where
 -- What the type of a checker keeps besides that each live polynomial vanishes.
 pub record IsCheckerSound (added : List Clause) (e : Extended) (s : Sides) (facts : Facts Sum Table) (last : ℕ) : Type 0 where
   pub same_gates : facts.gates ≡ e.gates
-  pub same_modulus : modulus_in facts.table ≡ algebra.modulus e
+  pub same_modulus : modulus_in facts.table ≡ graphs.modulus e
   pub fresh : (id : ℕ) → last < id → fact_at facts.entries id ≡ None
   pub importable : All (IsClauseFact e.gates) added

@@ -3,9 +3,10 @@
 
 ghost use Rattle.std.specs.Prelude.{◌≡◌, ◌≤◌, ℕ, [], true, length, map, IfErr, IfOk, IsSome, OnErr, OnOk};
 ghost use Rattle.std.specs.List.{All};
-ghost use Rattle.graph_core.specs.Algebra.{AgreeOnColumns, AreLawful, beginning};
-ghost use Rattle.graph_core.specs.Algebra as algebra;
-ghost use Rattle.graph_core.specs.Algebra.Agreement.{LedgersAgree};
+ghost use Rattle.algebra_core.specs.AlgebraLines.{AreLawful, beginning};
+ghost use Rattle.graph_core.specs.Graph.Extended.{AgreeOnColumns};
+ghost use Rattle.graph_core.specs.Graph.Extended as graphs;
+ghost use Rattle.algebra_core.specs.Agreement.{LedgersAgree};
 ghost use Rattle.mv_fact.specs.Always.{Always};
 ghost use Rattle.poly_terms.specs.Tables.{modulus_in};
 ghost use Rattle.poly_text.specs.Lines.{line_in, AreOf};
@@ -67,7 +68,7 @@ impl<'a> PacChecker<'a> {
         ensures added { IfOk result (λ c. c.added ≡ added.entry.now) }
         ensures records { IfOk result (λ c. c.records ≡ records) }
         ensures recorded { IfOk result (λ c. c.recorded ≡ []) }
-        ensures modulus { IfOk result (λ c. modulus_in c.table ≡ algebra.modulus c.extended) }
+        ensures modulus { IfOk result (λ c. modulus_in c.table ≡ graphs.modulus c.extended) }
         ensures axioms { IfOk result (λ c. (version : ℕ) → LedgersAgree (ledger_of c)
             (beginning (record { version = version; extended = extended.entry.now; imports = map clause_value added.entry.now }))) }
     {
@@ -84,7 +85,7 @@ impl<'a> PacChecker<'a> {
         requires { G.can_grow work.old on.old self.old.table }
         ensures did { G.did work.old on.old self.old.table result work.new on.new self.new.table }
         ensures grows { GrowsCheckedTable self.old self.new }
-        ensures modulus { modulus_in self.new.table ≡ algebra.modulus self.new.extended }
+        ensures modulus { modulus_in self.new.table ≡ graphs.modulus self.new.extended }
     {
         self.judge.grow(work, on)
     }
@@ -143,7 +144,7 @@ impl<'a> PacChecker<'a> {
     pub fn into_record(self) -> Record
         ensures lines { lines_in result.terms result.lines.items ≡ self.entry.recorded }
         ensures terms { result.terms ≡ self.entry.table }
-        ensures modulus { modulus_in result.terms ≡ algebra.modulus self.entry.extended }
+        ensures modulus { modulus_in result.terms ≡ graphs.modulus self.entry.extended }
         ensures of_table { All (AreOf result.terms) result.lines.items }
         ensures recordable { All (IsRecordable self.entry.extended.max result.terms) result.lines.items }
         ensures new_ids { All HasNewId result.lines.items }

@@ -1,7 +1,7 @@
 // The live lines over a table that is made anew.
 #![tactic(auto, using(gate_axioms::proofs::CallerLemmas::keeps_lines))]
 
-ghost use Rattle.std.specs.Prelude.{◌≡◌, IfOk, OnOk};
+ghost use Rattle.std.specs.Prelude.{◌≡◌, [], IfOk, OnOk};
 ghost use Rattle.gate_axioms.specs.Lines.{live_line_in};
 ghost use Rattle.gate_axioms.specs.Steps.{AddsLine, Vanishes};
 ghost use Rattle.pac_checker.specs.Rules.{Carries};
@@ -38,11 +38,22 @@ pub(crate) fn compacted<'a>(
     ensures { IfOk result (Carries live.now) }
 {
     let mut compact = Live::new(alloc, gates, Terms::new(alloc, live.table().exponent()));
+    carry_all(&mut compact, live)?;
+    Ok(compact)
+}
+
+// Makes the lines of another table live, where none is.
+fn carry_all(compact: &mut Live<'_, Poly>, live: &Live<'_, Poly>) -> Result<(), Memory>
+    requires none { compact.old.entries ≡ [] }
+    requires gates { compact.old.gates ≡ live.now.gates }
+    requires exponent { compact.old.table.exponent ≡ live.now.table.exponent }
+    ensures { OnOk result (Carries live.now compact.new) }
+{
     for place in 0..live.len() {
         let (id, line) = live.at(place);
-        carry(&mut compact, live.table(), id, line)?;
+        carry(compact, live.table(), id, line)?;
     }
-    Ok(compact)
+    Ok(())
 }
 
 // Makes a line of another table live, unless its id has one.

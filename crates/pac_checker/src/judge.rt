@@ -3,14 +3,15 @@
 
 ghost use Rattle.std.specs.Prelude.{◌≡◌, ◌%◌, ◌<◌, ◌≤◌, None, Some, length, IfErr, IfOk, IsSome, OnErr, OnOk};
 ghost use Rattle.std.specs.List.{All};
-ghost use Rattle.graph_core.specs.Algebra.{Delete, AgreeOnColumns};
-ghost use Rattle.graph_core.specs.Algebra as algebra;
+ghost use Rattle.algebra_core.specs.AlgebraLines.{Delete};
+ghost use Rattle.graph_core.specs.Graph.Extended.{AgreeOnColumns};
+ghost use Rattle.graph_core.specs.Graph.Extended as graphs;
 ghost use Rattle.mv_fact.specs.Always.{Always};
 ghost use Rattle.poly_terms.specs.Tables.{IsOf, modulus_in, monomials_in};
 ghost use Rattle.poly_text.specs.Lines.{line_in, AreOf};
 ghost use Rattle.clause_core.specs.Facts.{IsClauseFact};
 ghost use Rattle.gate_axioms.specs.Axioms.{HasSpecificationValue};
-ghost use Rattle.graph_core.specs.Algebra.Agreement.{LedgersAgree};
+ghost use Rattle.algebra_core.specs.Agreement.{LedgersAgree};
 ghost use Rattle.pac_checker.specs.Checking.{ledger_of, TakesAlgebraLine, TakesPacLine, GrowsCheckedTable, KeepsLedger, IsClosedBy, SpecificationVanishes};
 ghost use Rattle.pac_checker.specs.Faults.{IsPacLineFault, IsClosingFault};
 ghost use Rattle.pac_checker.specs.Recording.{AreIdsWithin, first_ledger};
@@ -76,7 +77,7 @@ impl<'a> Judge<'a> {
         ensures extended { IfOk result (λ c. c.extended ≡ extended.entry.now) }
         ensures sides { IfOk result (λ c. c.sides ≡ operands.entry.now) }
         ensures added { IfOk result (λ c. c.added ≡ added.entry.now) }
-        ensures modulus { IfOk result (λ c. modulus_in c.table ≡ algebra.modulus c.extended) }
+        ensures modulus { IfOk result (λ c. modulus_in c.table ≡ graphs.modulus c.extended) }
         ensures axioms { IfOk result (λ c. LedgersAgree (ledger_of c) (first_ledger extended.entry.now added.entry.now)) }
         ensures within { IfOk result (λ c. AreIdsWithin (ledger_of c)) }
     {
@@ -101,7 +102,7 @@ impl<'a> Judge<'a> {
     /// Gives up the lines, and hands out the table.
     pub(crate) fn into_terms(self) -> Terms
         ensures table { result ≡ self.entry.table }
-        ensures modulus { modulus_in self.entry.table ≡ algebra.modulus self.entry.extended }
+        ensures modulus { modulus_in self.entry.table ≡ graphs.modulus self.entry.extended }
     {
         self.live.into_table()
     }
@@ -111,7 +112,7 @@ impl<'a> Judge<'a> {
         requires { G.can_grow work.old on.old self.old.table }
         ensures did { G.did work.old on.old self.old.table result work.new on.new self.new.table }
         ensures grows { GrowsCheckedTable self.old self.new }
-        ensures modulus { modulus_in self.new.table ≡ algebra.modulus self.new.extended }
+        ensures modulus { modulus_in self.new.table ≡ graphs.modulus self.new.extended }
     {
         self.live.grow(work, on)
     }

@@ -117,7 +117,7 @@ pub(crate) struct MakeSpecification<'a> {
 impl<'a> Grow<Poly> for MakeSpecification<'a> {
     ghost use Rattle.std.specs.Prelude.{◌≡◌, IfOk};
     ghost use Rattle.graph_core.specs.Graph.Extended.{without_cut};
-    ghost use Rattle.graph_core.specs.Algebra.{modulus as modulus_of};
+    ghost use Rattle.graph_core.specs.Graph.Extended.{modulus as modulus_of};
     ghost use Rattle.poly_terms.specs.Tables.{IsOf, modulus_in};
     ghost use Rattle.gate_axioms.specs.Axioms.{HasSpecificationValue};
 

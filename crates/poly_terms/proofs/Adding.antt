@@ -4,7 +4,7 @@ use Rattle.std.proofs.lemmas.List.{take_more}
 use Rattle.std.proofs.lemmas.List.Elements.{All-from_recursion}
 use Rattle.std.specs.List.{AllByRecursion}
 use Rattle.graph_core.specs.Graph.Assignments.{Assignment}
-use Rattle.graph_core.specs.Algebra.Polynomials.{product}
+use Rattle.algebra_core.specs.Polynomials.{product}
 use Rattle.poly_terms.specs.Entries.{Sum, Entry, total}
 use Rattle.poly_terms.specs.Monomials.{Adds, AreIn, Grows, Stands, total_in}
 use Rattle.poly_terms.specs.Laws.{all_in_grown, stands_in_grown}

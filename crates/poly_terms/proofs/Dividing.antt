@@ -4,8 +4,8 @@ use Rattle.std.proofs.Math.Nat.{add-mod-mod, mod-mod}
 use Rattle.std.proofs.lemmas.Nat.{pow_pos}
 use Rattle.std.specs.List.{filter}
 use Rattle.graph_core.specs.Graph.Assignments.{Assignment}
-use Rattle.graph_core.specs.Algebra.Polynomials.{difference, product}
-use Rattle.graph_core.proofs.OfGraphs.CallerLemmas.{difference_is}
+use Rattle.algebra_core.specs.Polynomials.{difference, product}
+use Rattle.algebra_core.proofs.CallerLemmas.{difference_is}
 use Rattle.poly_terms.specs.Entries.{Sum, Entry}
 use Rattle.poly_terms.specs.Monomials.{Adds, free_of, has_in, places_of, replaced, total_in}
 use Rattle.poly_terms.specs.Tables.{ArePlacesOf, Extends, IsOf, Table, assigned, modulus_in, quotient_value, value_in, table_of}

@@ -6,9 +6,8 @@ use Rattle.std.specs.List.{AllByRecursion}
 use Rattle.std.specs.declared.cmp.Ordering.{Ordering}
 use Rattle.std.specs.declared.cmp.Ordering.TheVariants.{Less, Equal, Greater}
 use Rattle.graph_core.specs.Graph.Assignments.{Assignment}
-use Rattle.graph_core.specs.Algebra.Polynomials.{product}
-use Rattle.graph_core.proofs.OfAlgebra.CallerLemmas.{normal_forms_differ}
-use Rattle.graph_core.proofs.OfGraphs.CallerLemmas.{same_from_difference}
+use Rattle.algebra_core.specs.Polynomials.{product}
+use Rattle.algebra_core.proofs.CallerLemmas.{normal_forms_differ, same_from_difference}
 use Rattle.poly_terms.specs.Merges.{chosen_of_two, AreAfter}
 use Rattle.poly_terms.specs.Entries.{entry_order, add_entries, plus, total, Sum, Entry}
 use Rattle.poly_terms.specs.Monomials.{AreIn}

@@ -4,7 +4,7 @@ use Rattle.std.proofs.Math.Nat.{zero-mul}
 use Rattle.std.proofs.lemmas.Bool.{cases_Bool}
 use Rattle.std.proofs.lemmas.List.{take_more}
 use Rattle.graph_core.specs.Graph.Assignments.{Assignment, variable, bit}
-use Rattle.graph_core.specs.Algebra.Polynomials.{product, sum_of}
+use Rattle.algebra_core.specs.Polynomials.{product, sum_of}
 use Rattle.poly_terms.specs.Entries.{Sum}
 use Rattle.poly_terms.specs.Monomials.{AreIn, Grows, has_variable, total_in}
 use Rattle.poly_terms.specs.Tables.{said}

@@ -6,8 +6,8 @@ use Rattle.std.proofs.lemmas.List.{take_more}
 use Rattle.std.proofs.lemmas.Nat.{pow_pos}
 use Rattle.std.specs.List.{AllByRecursion, Contains, filter}
 use Rattle.graph_core.specs.Graph.Assignments.{Assignment}
-use Rattle.graph_core.specs.Algebra.Polynomials.{difference, product}
-use Rattle.graph_core.proofs.OfGraphs.CallerLemmas.{difference_is}
+use Rattle.algebra_core.specs.Polynomials.{difference, product}
+use Rattle.algebra_core.proofs.CallerLemmas.{difference_is}
 use Rattle.poly_terms.specs.Entries.{Entry, IsSortedSum, Sum, total}
 use Rattle.poly_terms.specs.Indexed.{AreIndexed, EntersNew, HasAddedTerms, IndexedSum, IsAtPlace, IsGone, IsIndexed, IsLonger, TakesOut, terms_from}
 use Rattle.poly_terms.specs.Monomials.{AreMonomials, has_in, has_variable, places_of, total_in}

@@ -5,7 +5,7 @@ use Rattle.std.proofs.lemmas.List.{length-map}
 use Rattle.std.proofs.lemmas.Option.{slice_get-map, slice_get_read}
 use Rattle.std.specs.Prelude.{option_map}
 use Rattle.graph_core.specs.Graph.Assignments.{Assignment}
-use Rattle.graph_core.specs.Algebra.Polynomials.{Polynomial, product, sum_of, value}
+use Rattle.algebra_core.specs.Polynomials.{Polynomial, product, sum_of, value}
 use Rattle.poly_terms.specs.Entries.{IsSortedSum, Sum, Entry}
 use Rattle.poly_terms.specs.Monomials.{Adds, AreIn, AreMonomials, Grows, total_in}
 use Rattle.poly_terms.specs.Tables.{Table, Extends, IsOf, modulus_in, monomial_in, monomials_in, table_of, value_in}

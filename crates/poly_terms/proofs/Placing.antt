@@ -8,7 +8,7 @@ use Rattle.std.specs.List.{AllByRecursion, filter}
 use Rattle.graph_core.specs.Graph.Assignments.{Assignment}
 use Rattle.poly_terms.specs.Entries.{Sum, Entry, entry_order}
 use Rattle.poly_terms.specs.Merges.{AreAfter}
-use Rattle.graph_core.specs.Algebra.Polynomials.{product}
+use Rattle.algebra_core.specs.Polynomials.{product}
 use Rattle.poly_terms.specs.Laws.{grows_on, stands_in_grown}
 use Rattle.poly_terms.specs.Monomials.{Adds, AreIn, Grows, free_of, has_in, places_of, replaced, replaced_one, total_in, without_variable}
 use Rattle.poly_terms.proofs.Adding.{adds_on, adds_same, all_at, total_grown}

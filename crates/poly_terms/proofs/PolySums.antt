@@ -5,7 +5,7 @@ use Rattle.std.proofs.lemmas.List.{take_more}
 use Rattle.std.proofs.lemmas.Nat.{pow_pos}
 use Rattle.std.specs.List.{AllByRecursion}
 use Rattle.graph_core.specs.Graph.Assignments.{Assignment}
-use Rattle.graph_core.specs.Algebra.Polynomials.{product}
+use Rattle.algebra_core.specs.Polynomials.{product}
 use Rattle.graph_core.proofs.OfGraphs.CallerLemmas.{all_split}
 use Rattle.poly_terms.specs.Entries.{Entry, IsSortedSum, Sum, total}
 use Rattle.poly_terms.specs.Indexed.{IsLonger, terms_from}

@@ -3,7 +3,7 @@ use Rattle.std.proofs.Common.{◌≡◌, ℕ, ◌+◌, ◌*◌, ◌%◌, ◌^◌
 use Rattle.std.proofs.Math.Nat.{add-mod-mod, mod-add-mod, mod-mod}
 use Rattle.std.proofs.lemmas.Nat.{pow_pos}
 use Rattle.graph_core.specs.Graph.Assignments.{Assignment, bit}
-use Rattle.graph_core.specs.Algebra.Polynomials.{product, difference}
+use Rattle.algebra_core.specs.Polynomials.{product, difference}
 use Rattle.poly_terms.specs.Monomials.{Adds, AreMonomials, Grows, free_of, has_in, places_of, replaced, replaced_one, total_in, without_variable}
 use Rattle.poly_terms.specs.Entries.{IsSortedSum, Sum, entry_order, plus}
 use Rattle.poly_terms.specs.Merges.{AreAfter}

@@ -1,7 +1,7 @@
 -- What one more product adds to coefficients by number.
 use Rattle.std.proofs.Common.{◌≡◌, ℕ, ◌+◌, ◌*◌, ◌%◌, ◌<◌, List, [], ◌∷◌, get_or, length, refl, ap, ap₂, ◌∙◌, arith}
 use Rattle.graph_core.specs.Graph.Assignments.{Assignment}
-use Rattle.graph_core.specs.Algebra.Polynomials.{product}
+use Rattle.algebra_core.specs.Polynomials.{product}
 use Rattle.poly_terms.specs.Indexed.{terms_from}
 use Rattle.poly_terms.specs.Laws.{all_in_grown, grows_itself}
 use Rattle.poly_terms.specs.Monomials.{Grows, Stands}

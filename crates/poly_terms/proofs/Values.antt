@@ -4,8 +4,8 @@ use Rattle.std.specs.List.{AllPairs, AllByRecursion}
 use Rattle.std.proofs.lemmas.List.Elements.{All-from_recursion}
 use Rattle.std.proofs.lemmas.List.Kept.{AllPairs-cons}
 use Rattle.graph_core.specs.Graph.Assignments.{Assignment}
-use Rattle.graph_core.specs.Algebra.Polynomials.{product, sum_of}
-use Rattle.graph_core.specs.Algebra.NormalForm.{AreRising, IsNormalTerm, IsNormalForm}
+use Rattle.algebra_core.specs.Polynomials.{product, sum_of}
+use Rattle.algebra_core.specs.NormalForm.{AreRising, IsNormalTerm, IsNormalForm}
 use Rattle.poly_terms.specs.Merges.{AreAfter}
 use Rattle.poly_terms.specs.Entries.{entry_order, plus, total, Sum, Entry}
 use Rattle.poly_terms.specs.Monomials.{AreIn, AreMonomials}

@@ -3,7 +3,7 @@ use Rattle.std.specs.Prelude.{ℕ, false, true, ◌≡◌, ◌^◌, ◌<◌, ◌
 use Rattle.std.specs.List.{AllByRecursion}
 use Rattle.std.proofs.Common.{sym, ap, ap₂, subst, ◌∙◌, arith, append-nil, append_assoc, length-append}
 use Rattle.std.proofs.lemmas.List.{get_or_append_left}
-use Rattle.graph_core.specs.Algebra.Polynomials.{value}
+use Rattle.algebra_core.specs.Polynomials.{value}
 use Rattle.graph_core.specs.Graph.Assignments.{Assignment}
 use Rattle.poly_terms.specs.Entries.{Sum}
 use Rattle.poly_terms.specs.Indexed.{IndexedSum, IndexesStay, IsAtPlace, IsIndexed}

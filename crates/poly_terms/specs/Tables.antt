@@ -4,7 +4,7 @@ use Rattle.std.specs.Global.{Global}
 use Rattle.std.specs.declared.vec.Vec.{Vec}
 use Rattle.std.specs.List.{AllByRecursion}
 use Rattle.graph_core.specs.Graph.Assignments.{Assignment}
-use Rattle.graph_core.specs.Algebra.Polynomials.{Polynomial, Term, value, difference}
+use Rattle.algebra_core.specs.Polynomials.{Polynomial, Term, value, difference}
 use Rattle.poly_terms.specs.Merges.{AreAfter}
 use Rattle.poly_terms.specs.Entries.{Entry, entry_order}
 use Rattle.poly_terms.specs.Monomials.{AreIn, AreMonomials, Grows, places_of}

@@ -1,6 +1,6 @@
 // Terms with their monomials in another table.
 ghost use Rattle.std.specs.Prelude.{◌*◌, ◌<◌, ℕ, [], IfOk, OnOk, length, get_or};
-ghost use Rattle.graph_core.specs.Algebra.Polynomials.{product};
+ghost use Rattle.algebra_core.specs.Polynomials.{product};
 ghost use Rattle.poly_terms.specs.Monomials.{Adds, AreIn, Grows, total_in};
 
 use crate::numbering::Numbering;

@@ -1,7 +1,7 @@
 // The value of terms at an assignment.
 ghost use Rattle.std.specs.Prelude.{◌≡◌, ◌%◌, ◌^◌};
 ghost use Rattle.graph_core.specs.Graph.Assignments.{bit, listed, variable};
-ghost use Rattle.graph_core.specs.Algebra.Polynomials.{product};
+ghost use Rattle.algebra_core.specs.Polynomials.{product};
 ghost use Rattle.mv_nums.specs.Residue.{IsWidth};
 ghost use Rattle.poly_terms.specs.Monomials.{AreIn, total_in};
 

@@ -2,7 +2,7 @@
 ghost use Rattle.std.specs.Prelude.{◌≡◌, ◌<◌, ◌+◌, ◌%◌, ◌^◌, ◌∷◌, ℕ, false, [], IfOk, OnOk, length, get_or};
 ghost use Rattle.std.specs.List.{AllByRecursion};
 ghost use Rattle.graph_core.specs.Graph.Assignments.{Assignment};
-ghost use Rattle.graph_core.specs.Algebra.NormalForm.{HasSize};
+ghost use Rattle.algebra_core.specs.NormalForm.{HasSize};
 ghost use Rattle.mv_nums.specs.Residue.{IsWidth};
 ghost use Rattle.poly_terms.specs.Indexed.{AreIndexed, HasAddedTerms, IsGone, IsIndexed, TakesOut, Enters, EntersNew};
 ghost use Rattle.poly_terms.specs.Monomials.{AreIn};

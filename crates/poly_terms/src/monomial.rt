@@ -1,6 +1,6 @@
 // Monomials: rising lists of variables. Nearly all are short, and stay inline.
 ghost use Rattle.std.specs.Prelude.{◌≡◌, ◌++◌, false, IfOk, IsTrue, length};
-ghost use Rattle.graph_core.specs.Algebra.NormalForm.{AreRising};
+ghost use Rattle.algebra_core.specs.NormalForm.{AreRising};
 ghost use Rattle.poly_terms.specs.Monomials.{IsMonomialOf, has_variable, joined, without_variable};
 ghost use Rattle.smallvec.specs.SmallVec.{HasRoomFor};
 

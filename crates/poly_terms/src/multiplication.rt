@@ -1,7 +1,7 @@
 // Products of terms, in any order.
 ghost use Rattle.std.specs.Prelude.{◌*◌, ◌^◌, ◌<◌, ℕ, OnOk, IfOk, [], length, get_or};
-ghost use Rattle.graph_core.specs.Algebra.NormalForm.{AreRising};
-ghost use Rattle.graph_core.specs.Algebra.Polynomials.{product};
+ghost use Rattle.algebra_core.specs.NormalForm.{AreRising};
+ghost use Rattle.algebra_core.specs.Polynomials.{product};
 ghost use Rattle.mv_nums.specs.Residue.{IsWidth};
 ghost use Rattle.poly_terms.specs.Monomials.{Adds, AreIn, Grows, total_in};
 

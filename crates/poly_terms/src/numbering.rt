@@ -1,6 +1,6 @@
 // Monomials, each with one number.
 ghost use Rattle.std.specs.Prelude.{◌≡◌, ◌<◌, [], IfOk, IsTrue, length, get_or};
-ghost use Rattle.graph_core.specs.Algebra.NormalForm.{AreRising};
+ghost use Rattle.algebra_core.specs.NormalForm.{AreRising};
 ghost use Rattle.poly_terms.specs.Monomials.{AreMonomials, Grows, Stands, joined, without_variable};
 
 use crate::monomial::{self, Monomial};

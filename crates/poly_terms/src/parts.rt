@@ -1,6 +1,6 @@
 // Terms of coefficients and variables as a caller gives them.
 ghost use Rattle.std.specs.Prelude.{◌≡◌, ◌*◌, ◌^◌, ℕ, IfOk, OnOk, []};
-ghost use Rattle.graph_core.specs.Algebra.Polynomials.{product, sum_of};
+ghost use Rattle.algebra_core.specs.Polynomials.{product, sum_of};
 ghost use Rattle.mv_nums.specs.Residue.{IsWidth};
 ghost use Rattle.poly_terms.specs.Monomials.{Adds, AreIn, Grows, total_in};
 ghost use Rattle.poly_terms.specs.Tables.{given, said};

@@ -1,6 +1,6 @@
 // Products of terms, added up by number.
 ghost use Rattle.std.specs.Prelude.{◌*◌, ◌<◌, ◌^◌, [], OnOk, length, get_or};
-ghost use Rattle.graph_core.specs.Algebra.Polynomials.{product};
+ghost use Rattle.algebra_core.specs.Polynomials.{product};
 ghost use Rattle.mv_nums.specs.Residue.{IsWidth};
 ghost use Rattle.poly_terms.specs.Monomials.{AreIn, Grows, total_in};
 ghost use Rattle.poly_terms.specs.PolySums.{AreListed, Gains};

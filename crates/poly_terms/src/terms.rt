@@ -1,8 +1,8 @@
 // The table of monomials, and all that makes polynomials.
 ghost use Rattle.std.specs.Prelude.{◌≡◌, ◌≢◌, ◌<◌, ◌↔◌, ◌+◌, ◌*◌, ◌%◌, ◌^◌, Any, Bool, false, IfOk, IfSome, IsNone, IsTrue, OnOk, Some, [], length, map, option_map, slice_get};
 ghost use Rattle.graph_core.specs.Graph.Assignments.{Assignment, bit, listed};
-ghost use Rattle.graph_core.specs.Algebra.NormalForm.{HasSize};
-ghost use Rattle.graph_core.specs.Algebra.Polynomials.{value};
+ghost use Rattle.algebra_core.specs.NormalForm.{HasSize};
+ghost use Rattle.algebra_core.specs.Polynomials.{value};
 ghost use Rattle.mv_nums.specs.Residue.{IsWidth};
 ghost use Rattle.poly_terms.specs.Tables.{ArePlacesOf, Extends, IsOf, assigned, given, modulus_in, monomials_in, quotient_value, replaced_value, said, value_in};
 ghost use Rattle.poly_terms.specs.Monomials.{AreIn, total_in};

@@ -117,16 +117,6 @@ literal_told g cut pairs alone i j r is plain h first a b =
 
 -- ---- a block
 
-pub no_room : (e : Extended) (lo pairs : ℕ) (carry : Bool) → (pairs ≡ 0) ⊎ ((pairs ≡ 0 → ⊥) × (length e.graph.outputs < pairs)) → HasColumnRoom e lo pairs carry → ⊥
-no_room e lo pairs carry fault h =
-    let some = h.some in
-    let within = h.within in
-    let wide = (reach_is pairs carry).0 in
-    ⊎_elim (λ (a : pairs ≡ 0). omega arith) (λ (b : (pairs ≡ 0 → ⊥) × (length e.graph.outputs < pairs)). let long = b.1 in omega arith) fault
-
-pub room_few : (e : Extended) (lo pairs : ℕ) (carry : Bool) → length e.graph.outputs ≤ MOST_OUTPUTS → HasColumnRoom e lo pairs carry → pairs ≤ MOST_OUTPUTS
-room_few e lo pairs carry few h = let within = h.within in let wide = (reach_is pairs carry).0 in omega arith
-
 pub block_is : (e : Extended) (b : Block) (pairs : List (Lit × Lit)) → pairs ≡ b.cut.pairs → HasColumnRoom e b.cut.lo (length pairs) b.carry → All (IsKnownPair e) pairs → IsBlock e b
 block_is e b pairs is room known =
     let h : HasColumnRoom e b.cut.lo (length b.cut.pairs) b.carry = subst (λ ps. HasColumnRoom e b.cut.lo (length ps) b.carry) is room in

@@ -8,9 +8,8 @@ use Rattle.std.proofs.Common.{refl, sym, ap, ap₂, ◌∙◌, arith, eqb-true, 
 use Rattle.std.proofs.lemmas.List.Elements.{All-from_recursion, recursion_from_All, All-contains}
 use Rattle.std.proofs.lemmas.Option.{same_Some}
 use Rattle.graph_core.specs.declared.literal.Lit.{Lit}
-use Rattle.graph_core.specs.Algebra.{AgreeOnColumns}
+use Rattle.graph_core.specs.Graph.Extended.{AgreeOnColumns, Column, Extended}
 use Rattle.graph_core.specs.Graph.Assignments.{Assignment, bit, literal, word}
-use Rattle.graph_core.specs.Graph.Extended.{Column, Extended}
 use Rattle.graph_core.proofs.OfGraphs.CallerLemmas.{Apart, apart_from_pairs}
 use Rattle.ripple_graft.specs.Extension.{IsExtension, IsReplaced, OutputsAreNew, new_or_old, new_outputs, outputs_from}
 

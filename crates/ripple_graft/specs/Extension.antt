@@ -3,10 +3,9 @@ use Rattle.std.specs.Prelude.{◌≡◌, ◌≢◌, ℕ, suc, ◌≤◌, ◌⊎�
 use Rattle.std.specs.List.{All, AllPairs, Any, Contains}
 use Rattle.graph_core.specs.declared.literal.Lit.{Lit}
 use Rattle.graph_core.specs.Graph.Literals.{variable_of}
-use Rattle.graph_core.specs.Algebra.{AgreeOnColumns}
+use Rattle.graph_core.specs.Graph.Extended.{AgreeOnColumns, Extended, Column}
 use Rattle.graph_core.specs.Graph.Assignments.{Assignment, word}
 use Rattle.graph_core.specs.Graph.{Aig, IsDefinedOnce, IsAcyclic, IsWellFormed, defined}
-use Rattle.graph_core.specs.Graph.Extended.{Extended, Column}
 
 -- some column of this number is replaced
 abbrev pub IsReplaced : Extended → ℕ → Type 0

@@ -6,8 +6,8 @@ use Rattle.std.proofs.lemmas.Slice.{between_to_end}
 use Rattle.std.proofs.lemmas.List.Elements.{recursion_from_All, All-from_recursion}
 use Rattle.graph_core.specs.declared.gate.Gate.{Gate}
 use Rattle.graph_core.proofs.OfGraphs.CallerLemmas.{all_join}
-use Rattle.slice_core.specs.Groups.{group_size}
-use Rattle.slice_core.proofs.ListedGroups.{all_groups, first_group}
+use Rattle.slice_planner.specs.Groups.{group_size}
+use Rattle.slice_planner.proofs.ListedGroups.{all_groups, first_group}
 use Rattle.slice_planner.specs.declared.arrangement.Part.{Part}
 use Rattle.slice_planner.specs.Arranged.{AreWithin, pieces, variables}
 

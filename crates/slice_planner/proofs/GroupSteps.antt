@@ -1,6 +1,5 @@
 -- Whether the gates of a group can go one after the other, and what goes with them.
-use Rattle.std.specs.Prelude.{◌≡◌, ◌≢◌, ℕ, zero, suc, ◌+◌, ◌-◌, ◌*◌, ◌<◌, ◌≤◌, ◌⊎◌, Bool, true, false, cond, ◌||◌, List, [], ◌∷◌, ◌++◌, map, length, take, drop, slice_get, slice_index_or, ◌==◌}
-use Rattle.std.specs.Prelude.{IfSome, is_some, IfOk, OnOk, reverse}
+use Rattle.std.specs.Prelude.{◌≡◌, ◌≢◌, ℕ, zero, suc, ◌+◌, ◌-◌, ◌*◌, ◌<◌, ◌≤◌, ◌⊎◌, Bool, true, false, cond, ◌||◌, List, [], ◌∷◌, ◌++◌, map, length, take, drop, slice_get, slice_index_or, ◌==◌, IfSome, is_some, IfOk, OnOk, reverse}
 use Rattle.std.specs.declared.result.Result.{Result}
 use Rattle.std.specs.declared.result.Result.TheVariants.{Ok, Err}
 use Rattle.std.specs.declared.option.Option.{Option}
@@ -15,7 +14,7 @@ use Rattle.graph_core.specs.declared.literal.Lit.{Lit}
 use Rattle.graph_core.specs.Graph.{IsGateOf}
 use Rattle.graph_core.specs.Graph.Literals.{variable_of}
 use Rattle.graph_core.specs.Graph.Extended.{Extended}
-use Rattle.graph_core.proofs.OfGraphs.CallerLemmas.{all_join}
+use Rattle.graph_core.proofs.OfGraphs.CallerLemmas.{all_join, by_cases}
 use Rattle.ripple_graft.specs.Extension.{IsExtension, new_outputs}
 use Rattle.frontier_core.specs.declared.step.Step.{Step}
 use Rattle.frontier_core.specs.declared.step.Step.TheVariants.{Eliminate}
@@ -23,12 +22,11 @@ use Rattle.frontier_core.specs.Plan.{AreSteps, CanEliminate, Taken, nothing, ste
 use Rattle.frontier_core.specs.Sets.{has}
 use Rattle.frontier_core.proofs.OrderMade.{gates_of_defined}
 use Rattle.frontier_core.proofs.PlainOrders.{pairs_recursion}
-use Rattle.slice_core.specs.SlicePlan.{can_all_go, swept}
-use Rattle.adder_finder.proofs.Cases.{by_cases}
-use Rattle.slice_core.proofs.GroupPlans.{taken-append}
-use Rattle.slice_core.specs.GroupPlans.{AreAtGroups, AreGroups}
+use Rattle.slice_planner.specs.SlicePlan.{can_all_go, swept}
+use Rattle.slice_planner.proofs.GroupPlans.{taken-append}
+use Rattle.slice_planner.specs.GroupPlans.{AreAtGroups, AreGroups}
 use Rattle.frontier_core.proofs.Everywhere.{all_has}
-use Rattle.slice_core.proofs.SlicePlans.{added_stays, all_complete, all_ones, all_sound, split_at, sweep_all, sweep_at}
+use Rattle.slice_planner.proofs.SlicePlans.{added_stays, all_complete, all_ones, all_sound, split_at, sweep_all, sweep_at}
 use Rattle.slice_planner.specs.declared.arrangement.Part.{Part}
 use Rattle.slice_planner.specs.Arranged.{pieces, variables}
 use Rattle.slice_planner.specs.Taking.{IsReadyGate, IsTaking, StaysAtGroups, Took, is_one, read_by_columns, read_by_gates, took}

@@ -1,3 +1,8 @@
+pub mod Composition
+pub mod GroupPlans
+pub mod ListedGroups
+pub mod SlicePlans
+pub mod Words
 pub mod ReadCounts
 pub mod TakenSteps
 pub mod TablesMade

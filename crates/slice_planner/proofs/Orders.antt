@@ -8,9 +8,9 @@ use Rattle.graph_core.specs.declared.gate.Gate.{Gate}
 use Rattle.graph_core.specs.Graph.Literals.{variable_of}
 use Rattle.graph_core.specs.Graph.Extended.{Extended}
 use Rattle.frontier_core.specs.Sets.{has}
-use Rattle.slice_core.specs.AdderLists.{AreAddersAndProducts, ReadsNoGate}
-use Rattle.slice_core.specs.GroupPlans.{AreInOrder}
-use Rattle.slice_core.specs.Groups.{groups}
+use Rattle.slice_planner.specs.AdderLists.{AreAddersAndProducts, ReadsNoGate}
+use Rattle.slice_planner.specs.GroupPlans.{AreInOrder}
+use Rattle.slice_planner.specs.Groups.{groups}
 use Rattle.slice_planner.specs.Arranged.{IsLater, ReadsGate, variables}
 use Rattle.slice_planner.proofs.GroupSteps.{one_of_lists}
 

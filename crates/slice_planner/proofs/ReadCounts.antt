@@ -10,7 +10,8 @@ use Rattle.graph_core.specs.Graph.Literals.{variable_of}
 use Rattle.graph_core.specs.Graph.{IsAcyclic}
 use Rattle.frontier_core.specs.Sets.{has}
 use Rattle.frontier_core.proofs.PlainOrders.{Pairs}
-use Rattle.slice_planner.specs.Taking.{is_one, left_count, read_by_columns, read_by_gate, read_by_gates}
+use Rattle.slice_planner.specs.Taking.{is_one, read_by_columns, read_by_gate, read_by_gates}
+use Rattle.slice_planner.proofs.Words.{left_count}
 
 pub one_same : (u v : ℕ) → u ≡ v → is_one u v ≡ 1
 one_same u v e = ap (λ b. cond b 1 0) (eq-eqb u v e)

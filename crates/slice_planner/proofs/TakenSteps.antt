@@ -20,10 +20,11 @@ use Rattle.frontier_core.specs.Sets.{has}
 use Rattle.frontier_core.proofs.OrderMade.{gates_of_defined}
 use Rattle.frontier_core.proofs.PlainOrders.{length-outputs_from, pairs_recursion}
 use Rattle.frontier_core.proofs.Plans.{step_is_pushed}
-use Rattle.slice_core.specs.GroupPlans.{AreAtGroups}
-use Rattle.slice_core.specs.SlicePlan.{columns_added, count_down}
-use Rattle.slice_core.proofs.GroupPlans.{column_is_pushed}
-use Rattle.slice_planner.specs.Taking.{IsReadyGate, IsTaking, LowersByOne, Took, left_count, read_by_columns, read_by_gate, read_by_gates, still_read, took}
+use Rattle.slice_planner.specs.GroupPlans.{AreAtGroups}
+use Rattle.slice_planner.specs.SlicePlan.{columns_added, count_down}
+use Rattle.slice_planner.proofs.GroupPlans.{column_is_pushed}
+use Rattle.slice_planner.specs.Taking.{IsReadyGate, IsTaking, LowersByOne, Took, read_by_columns, read_by_gate, read_by_gates, still_read, took}
+use Rattle.slice_planner.proofs.Words.{left_count}
 use Rattle.slice_planner.proofs.ReadCounts.{all_gone, columns_more, columns_none, columns_zero, gates_less, gates_none, left_less, one_same}
 
 -- ---- lists

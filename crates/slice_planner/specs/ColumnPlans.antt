@@ -3,7 +3,7 @@ use Rattle.std.specs.Prelude.{◌≡◌, List, length}
 use Rattle.graph_core.specs.Graph.Extended.{Extended}
 use Rattle.frontier_core.specs.declared.step.Step.{Step}
 use Rattle.frontier_core.specs.Plan.{IsPlan}
-use Rattle.slice_core.specs.SlicePlan.{columns_added, count_down}
+use Rattle.slice_planner.specs.SlicePlan.{columns_added, count_down}
 
 -- A plan that adds the columns from the last down to 0, each once.
 pub record IsColumnPlan (e : Extended) (steps : List Step) : Type 0 where

@@ -1,5 +1,10 @@
--- To be read by whoever trusts the contracts: Slices and ColumnPlans. Arranged and Taking say what is kept while steps are
--- taken: they serve private clauses alone.
+-- To be read by whoever trusts the contracts: all but Arranged and Taking, which say what is kept while steps are taken: they serve private
+-- clauses alone.
+pub mod Positions
+pub mod Groups
+pub mod AdderLists
+pub mod GroupPlans
+pub mod SlicePlan
 pub mod Slices
 pub mod ColumnPlans
 pub mod Arranged

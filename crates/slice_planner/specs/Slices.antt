@@ -3,10 +3,10 @@ use Rattle.std.specs.Prelude.{◌≡◌, List, length}
 use Rattle.graph_core.specs.Graph.Extended.{Extended}
 use Rattle.frontier_core.specs.declared.step.Step.{Step}
 use Rattle.frontier_core.specs.Plan.{IsPlan}
-use Rattle.slice_core.specs.AdderLists.{AreAddersAndProducts}
-use Rattle.slice_core.specs.GroupPlans.{AreInOrder}
-use Rattle.slice_core.specs.Groups.{GoesByGroups, groups}
-use Rattle.slice_core.specs.SlicePlan.{columns_added, count_down}
+use Rattle.slice_planner.specs.AdderLists.{AreAddersAndProducts}
+use Rattle.slice_planner.specs.GroupPlans.{AreInOrder}
+use Rattle.slice_planner.specs.Groups.{GoesByGroups, groups}
+use Rattle.slice_planner.specs.SlicePlan.{columns_added, count_down}
 
 -- A plan that adds the columns from the last down to 0, each once. Over adders and products of inputs, each gate listed
 -- behind those that it reads, it goes by the groups of the list.

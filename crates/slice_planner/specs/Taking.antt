@@ -8,8 +8,8 @@ use Rattle.ripple_graft.specs.Extension.{new_outputs}
 use Rattle.frontier_core.specs.declared.step.Step.{Step}
 use Rattle.frontier_core.specs.Plan.{AreSteps, nothing, taken}
 use Rattle.frontier_core.specs.Sets.{has}
-use Rattle.slice_core.specs.GroupPlans.{AreAtGroups}
-use Rattle.slice_core.specs.SlicePlan.{columns_added, count_down}
+use Rattle.slice_planner.specs.GroupPlans.{AreAtGroups}
+use Rattle.slice_planner.specs.SlicePlan.{columns_added, count_down}
 
 -- The steps so far over an extended graph, and from which column on the columns were added.
 pub record Took : Type 0 where
@@ -70,11 +70,6 @@ pub record Raises (v : ℕ) (old new : List ℕ) : Type 0 where
 pub record LowersByOne (v : ℕ) (old new : List ℕ) : Type 0 where
   pub room : length new ≡ length old
   pub each : (w : ℕ) → slice_index_or old w 0 ≡ is_one v w + slice_index_or new w 0
-
--- how many gates aren't eliminated
-abbrev pub left_count : List Gate → List ℕ → ℕ
-left_count [] eliminated = 0
-left_count (x ∷ gates) eliminated = (if has eliminated x.v then 0 else 1) + left_count gates eliminated
 
 -- Steps that end between two groups still do.
 abbrev pub StaysAtGroups : Took → Took → Type 0

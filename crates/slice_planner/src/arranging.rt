@@ -3,9 +3,9 @@ ghost use Rattle.std.specs.Prelude.{◌≡◌, ◌⊎◌, ◌∷◌, [], true, I
 ghost use Rattle.std.specs.List.{All, Contains};
 ghost use Rattle.graph_core.specs.Graph.Literals.{variable_of};
 ghost use Rattle.frontier_core.specs.Sets.{has};
-ghost use Rattle.slice_core.specs.AdderLists.{AreAddersAndProducts};
-ghost use Rattle.slice_core.specs.GroupPlans.{AreInOrder};
-ghost use Rattle.slice_core.specs.Groups.{groups};
+ghost use Rattle.slice_planner.specs.AdderLists.{AreAddersAndProducts};
+ghost use Rattle.slice_planner.specs.GroupPlans.{AreInOrder};
+ghost use Rattle.slice_planner.specs.Groups.{groups};
 ghost use Rattle.slice_planner.specs.Arranged.{AreWithin, IsLater, ReadsGate, lists_in, variables};
 
 use crate::arrangement::{Arrangement, Part};

@@ -18,24 +18,27 @@ use std::alloc::Global;
 
 /// The columns from the last down to 0, and behind each the gates that nothing reads any more: those nearest to the
 /// outputs first, full adders whole. Where the gates stand in the list and how they are numbered counts for little.
-pub fn layered_steps<'a>(alloc: Global, extended: &'a Extended<'a>) -> Result<Vec<Step>, Memory>
+pub(crate) fn layered_steps<'a>(
+    alloc: Global,
+    extended: &'a Extended<'a>,
+) -> Result<Vec<Step>, Memory>
     ensures { IfOk result (λ steps. IsColumnPlan extended.now steps.items) }
 {
     let arrangement = adders_in_layers(alloc, extended)?;
     let due = due_groups(alloc, extended, &arrangement)?;
     let rest = by_levels(alloc, extended)?;
-    column_steps(alloc, extended, &arrangement, &due, &rest)
+    steps_by(alloc, extended, &arrangement, &due, &rest)
 }
 
 /// The columns from the last down to 0, and then the gates alone, those nearest to the outputs first.
-pub fn columns_first_steps<'a>(
+pub(crate) fn columns_first_steps<'a>(
     alloc: Global,
     extended: &'a Extended<'a>,
 ) -> Result<Vec<Step>, Memory>
     ensures { IfOk result (λ steps. IsColumnPlan extended.now steps.items) }
 {
     let arrangement = gates_in_layers(alloc, extended)?;
-    column_steps(alloc, extended, &arrangement, &[], &arrangement)
+    steps_by(alloc, extended, &arrangement, &[], &arrangement)
 }
 
 // The full adders and the other gates in their layers; the gates alone where an adder reads itself through others.
@@ -62,7 +65,7 @@ fn gates_in_layers(alloc: Global, extended: &Extended<'_>) -> Result<Arrangement
 
 // The columns, and behind each those of the groups that are due there and can go; what is left goes in an order of its
 // own.
-fn column_steps<'a>(
+fn steps_by<'a>(
     alloc: Global,
     extended: &'a Extended<'a>,
     arrangement: &Arrangement,

@@ -1,6 +1,6 @@
 // The list of gates cut into groups from its end on.
 ghost use Rattle.std.specs.Prelude.{◌≡◌, ◌<◌, ◌≤◌, length, map, reverse, true, IfOk};
-ghost use Rattle.slice_core.specs.Groups.{ends_full, ends_half, group_size, groups, groups_of};
+ghost use Rattle.slice_planner.specs.Groups.{ends_full, ends_half, group_size, groups, groups_of};
 ghost use Rattle.slice_planner.specs.Arranged.{AreWithin, lists_in, pieces, variables};
 
 use crate::arrangement::{Arrangement, Part};

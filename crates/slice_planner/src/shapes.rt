@@ -1,7 +1,7 @@
 // The shapes of half and full adders, operands in either order.
 ghost use Rattle.std.specs.Prelude.{◌≡◌, ◌==◌};
 ghost use Rattle.graph_core.specs.Graph.Literals.{inverted, plain};
-ghost use Rattle.adder_finder.specs.Positions.{is_carried, is_full, is_half, reads};
+ghost use Rattle.slice_planner.specs.Positions.{is_carried, is_full, is_half, reads};
 
 use graph_core::{Gate, Lit};
 

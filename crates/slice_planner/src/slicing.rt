@@ -1,7 +1,7 @@
 // The slice plan's steps.
 ghost use Rattle.std.specs.Prelude.{◌≡◌, ℕ, List, IfOk, OnOk};
 ghost use Rattle.std.specs.List.{All, Contains};
-ghost use Rattle.slice_core.specs.GroupPlans.{AreAtGroups, AreGroups};
+ghost use Rattle.slice_planner.specs.GroupPlans.{AreAtGroups, AreGroups};
 ghost use Rattle.slice_planner.specs.Arranged.{lists_in};
 ghost use Rattle.slice_planner.specs.Slices.{IsSlicePlan};
 
@@ -17,7 +17,10 @@ use std::alloc::Global;
 /// The steps of a slice plan: the columns from the last down to 0, and behind each the groups of gates that are due
 /// there and can go. Over adders and products of inputs, each gate listed behind those that it reads, the groups are
 /// those of the list.
-pub fn slice_steps<'a>(alloc: Global, extended: &'a Extended<'a>) -> Result<Vec<Step>, Memory>
+pub(crate) fn slice_steps<'a>(
+    alloc: Global,
+    extended: &'a Extended<'a>,
+) -> Result<Vec<Step>, Memory>
     ensures { IfOk result (λ steps. IsSlicePlan extended.now steps.items) }
 {
     let _gates = extended.gates();

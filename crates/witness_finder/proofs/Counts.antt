@@ -8,7 +8,7 @@ use Rattle.graph_core.specs.declared.Lit.{Lit}
 use Rattle.graph_core.specs.Graph.Literals.{variable_of}
 use Rattle.graph_core.specs.Graph.Assignments.{bit, literal}
 use Rattle.graph_core.specs.Graph.Operands.{Sides, inputs_in}
-use Rattle.graph_core.specs.Algebra.NormalForm.{AreRising}
+use Rattle.algebra_core.specs.NormalForm.{AreRising}
 use Rattle.graph_core.proofs.OfGraphs.CallerLemmas.{Apart, apart_from_pairs, IsInput, literal-input}
 use Rattle.frontier_core.specs.Sets.{has}
 use Rattle.frontier_core.specs.LeastDifference.{AreInputs, ones_from}

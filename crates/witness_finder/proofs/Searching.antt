@@ -5,8 +5,8 @@ use Rattle.std.proofs.Common.{refl, sym, ap, subst, ◌∙◌, inl, inr, ⊎_eli
 use Rattle.std.proofs.lemmas.List.Elements.{All-more, All-weaker}
 use Rattle.std.proofs.lemmas.Option.{slice_get-get_or}
 use Rattle.graph_core.specs.Graph.Operands.{Sides, inputs_in}
-use Rattle.graph_core.specs.Algebra.Polynomials.{Term, Polynomial}
-use Rattle.graph_core.specs.Algebra.NormalForm.{IsNormalForm}
+use Rattle.algebra_core.specs.Polynomials.{Term, Polynomial}
+use Rattle.algebra_core.specs.NormalForm.{IsNormalForm}
 use Rattle.frontier_core.specs.LastFrontier.{IsOverInputs}
 use Rattle.frontier_core.specs.LeastDifference.{Precedes}
 use Rattle.frontier_core.proofs.CallerLemmas.{precedes_transitive}

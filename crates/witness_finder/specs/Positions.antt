@@ -4,7 +4,7 @@ use Rattle.std.specs.List.{All}
 use Rattle.graph_core.specs.Graph.Literals.{variable_of}
 use Rattle.graph_core.specs.Graph.Assignments.{literal}
 use Rattle.graph_core.specs.Graph.Operands.{Sides, inputs_in}
-use Rattle.graph_core.specs.Algebra.NormalForm.{AreRising}
+use Rattle.algebra_core.specs.NormalForm.{AreRising}
 use Rattle.frontier_core.specs.Sets.{has}
 use Rattle.frontier_core.specs.LeastDifference.{Precedes, ones_of}
 

@@ -4,7 +4,7 @@ ghost use Rattle.graph_core.specs.Graph.Operands.{inputs_in};
 ghost use Rattle.frontier_core.specs.LeastDifference.{AreInputs, Precedes};
 ghost use Rattle.witness_finder.specs.Positions.{IsMonomialOver, IsNoLater, positions};
 
-use crate::ones::{inputs, is_one};
+use crate::ones::is_one;
 use graph_core::Operands;
 
 /// Whether the first monomial has fewer variables, or as many at lexicographically lesser positions among the inputs.
@@ -18,7 +18,7 @@ pub(crate) fn comes_before(first: &[u32], second: &[u32], operands: &Operands) -
     if first.len() != second.len() {
         return first.len() < second.len();
     }
-    for i in 0..inputs(operands) {
+    for i in 0..operands.inputs() {
         let in_first = is_one(first, operands, i);
         if in_first != is_one(second, operands, i) {
             return in_first;

@@ -2,7 +2,7 @@
 ghost use Rattle.std.specs.Prelude.{◌≡◌, ◌<◌, ◌↔◌, IfSome, None, length, slice_index_or};
 ghost use Rattle.graph_core.specs.Graph.Assignments.{Assignment};
 ghost use Rattle.graph_core.specs.Graph.Operands.{AreInRange, inputs_at, inputs_in};
-ghost use Rattle.graph_core.specs.Algebra.Polynomials.{Term};
+ghost use Rattle.algebra_core.specs.Polynomials.{Term};
 ghost use Rattle.frontier_core.specs.LastFrontier.{IsOverInputs};
 ghost use Rattle.frontier_core.specs.LeastDifference.{AreInputs, IsLeastNonzero, IsLeastTerm};
 ghost use Rattle.poly_terms.specs.Tables.{IsOf, monomials_in, value_in};

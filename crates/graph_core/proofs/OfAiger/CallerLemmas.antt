@@ -4,6 +4,7 @@ pub use Rattle.graph_core.proofs.OfAiger.Packed.{Counts, all_flat_map, counts_ap
 pub use Rattle.graph_core.proofs.OfAiger.PlacedGates.{ArePlaced, placed-append, placed_count, position_placed}
 pub use Rattle.graph_core.proofs.OfAiger.Readers.{header_steady, symbol_steady}
 pub use Rattle.graph_core.proofs.OfAiger.Refusals.{header_refused, lists_refused, lists_take, text_refused}
-pub use Rattle.graph_core.proofs.OfAiger.Soundness.{shape_for, shape_of, spelled_shape, vanishing_multiplies, well_formed}
+pub use Rattle.graph_core.proofs.OfAiger.SpelledSizes.{shape_for, shape_of, spelled_shape, well_formed}
 pub use Rattle.graph_core.proofs.OfAiger.Tail.{Ends, ends_behind, rest_sound}
 pub use Rattle.graph_core.proofs.OfAiger.Writing.{ascii_text_spells, binary_text_spells}
+pub use Rattle.graph_core.proofs.OfAiger.Rows.{one_bit, one_bit_is_spelled, one_bit_text}

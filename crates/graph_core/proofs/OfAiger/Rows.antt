@@ -1,17 +1,14 @@
 -- Small graphs and their texts: what they spell, and what they are refused for.
-use Rattle.std.specs.Prelude.{◌≡◌, ℕ, ◌/◌, List, [], ◌∷◌, map}
+use Rattle.std.specs.Prelude.{◌≡◌, ℕ, ◌/◌, List, [], ◌∷◌, map, ◌++◌, ◌≤◌, length, codes, None, Some, Ok}
 use Rattle.std.proofs.Common.{refl, arith}
-use Rattle.std.specs.Prelude.{◌++◌, ◌≤◌, length, codes}
-use Rattle.std.specs.Prelude.{None, Some, Ok}
 use Rattle.std.proofs.lemmas.List.Elements.{All-from_recursion}
-use Rattle.graph_core.specs.Aiger.{Listing, IsPacked, Spells}
+use Rattle.graph_core.specs.Aiger.{Listing, IsPacked, Spells, graph_of}
 use Rattle.graph_core.specs.Aiger.Reading.{header_at, ascii_at, rest_at, lists_at}
 use Rattle.graph_core.proofs.OfAiger.Refusals.{lists_are_read}
 use Rattle.graph_core.proofs.OfAiger.Packed.{packed_is_faultless}
 use Rattle.std.specs.List.{concat}
 use Rattle.graph_core.specs.declared.literal.Lit.{Lit}
 use Rattle.graph_core.specs.Graph.Literals.{variable_of}
-use Rattle.graph_core.specs.Aiger.{graph_of}
 use Rattle.graph_core.specs.Aiger.Refusal.{first_above, first_no_left, first_repeated, first_undefined, left_sides}
 use Rattle.graph_core.specs.declared.gate.Gate.{Gate}
 use Rattle.graph_core.specs.declared.profile.Profile.TheVariants.{Multiplier}

@@ -1,8 +1,8 @@
 -- What crates above may cite of graphs that are built, of their values and of their operands.
 pub use Rattle.graph_core.proofs.OfGraphs.BuiltFacts.{few_distinct, few_numbers}
 pub use Rattle.graph_core.proofs.OfGraphs.Claims.{claim_is_done, product_at}
-pub use Rattle.graph_core.proofs.OfGraphs.Congruence.{difference_is, difference_plus, product_same, sum_same}
-pub use Rattle.graph_core.proofs.OfGraphs.Decided.{Decided, decided_all, decided_and, decided_as, decided_eq, decided_le, decided_lt, decided_or}
+pub use Rattle.graph_core.proofs.OfGraphs.Congruence.{product_same, sum_same}
+pub use Rattle.graph_core.proofs.OfGraphs.Decided.{Decided, by_cases, decided_all, decided_and, decided_as, decided_eq, decided_le, decided_lt, decided_or}
 pub use Rattle.graph_core.proofs.OfGraphs.Evaluation.{Distinct, evaluation_is, evaluation_is_one, finds_none, literal_same, rounds-free, variable-pos, variable_same}
 pub use Rattle.graph_core.proofs.OfGraphs.Faults.{apart_pairs, no_fault_is_found}
 pub use Rattle.graph_core.proofs.OfGraphs.FullAdders.{full_adder}
@@ -12,8 +12,9 @@ pub use Rattle.graph_core.proofs.OfGraphs.Lists.{all_join, all_split, all_weaker
 pub use Rattle.graph_core.proofs.OfGraphs.LiteralValues.{literal-even, literal-inverted, literal-negated, literal-odd, literal-plain, variable_of-negated}
 pub use Rattle.graph_core.proofs.OfGraphs.Multiplies.{Apart, a_is, apart_from_pairs, b_is, claim_is, claim_is_product, evaluations_suffice, gates_distinct, inputs_have, length-inputs_of, lits_apart, rest_apart, sides_are_inputs, sides_read_inputs, take-length-append, whole_products}
 pub use Rattle.graph_core.proofs.OfGraphs.OperandBits.{DistinctLits, IsInput, evens-alternate, inputs_are, length-alternate, length-bits_of, literal-input, number_of, number_of-bits_of, odds-alternate, word_is}
+pub use Rattle.graph_core.proofs.OfGraphs.OperandLiterals.{are_inputs, length-in_order, length-literals, length-literals_in}
+pub use Rattle.graph_core.proofs.OfGraphs.OutputValues.{has_at, has_contained, has_none, of_inputs_again, outputs_are, outputs_are_value}
 pub use Rattle.graph_core.proofs.OfGraphs.OperandPlaces.{a_bits_are, a_part_at, a_place_low, b_bits_are, b_part_at, b_place_low, bit_low, bits_of-number_of, byte_is_bit, length-a_part, length-b_part, number_of-low, parts_are}
-pub use Rattle.graph_core.proofs.OfGraphs.Residues.{claim_from_difference, difference_same, same_from_difference}
 pub use Rattle.graph_core.proofs.OfGraphs.SignedWords.{claim_same, operand_number, plus_word_is, signed_is, top, top_low, word_top}
 pub use Rattle.graph_core.proofs.OfGraphs.TableSteps.{gates_read_more}
 pub use Rattle.graph_core.proofs.OfGraphs.WellFormedGates.{distinct_gates, gate_in_range, gates_apart, input_in_range, output_in_range}

@@ -13,7 +13,8 @@ use Rattle.graph_core.specs.Graph.Assignments.{listed}
 use Rattle.graph_core.specs.Graph.{defined}
 use Rattle.graph_core.specs.Aiger.{Listing, graph_of, listed_gate}
 use Rattle.graph_core.specs.Aiger.Refusal.{literals, left_sides, first_above, first_repeated, first_undefined}
-use Rattle.graph_core.specs.Graph.Searches.{is_above, is_unmarked, all_literals, gate_operands, AreMarks}
+use Rattle.graph_core.specs.Graph.Searches.{is_above, is_unmarked, gate_operands, AreMarks}
+use Rattle.graph_core.proofs.Words.{all_literals}
 use Rattle.graph_core.proofs.OfGraphs.Levels.{In, all_from_in}
 use Rattle.graph_core.proofs.OfGraphs.Faults.{find_none, in_left, in_right, in_parts, map_in, left_in, left_variables}
 use Rattle.graph_core.proofs.OfGraphs.WrittenValues.{listed-set}

@@ -6,7 +6,8 @@ use Rattle.std.specs.List.{AllByRecursion}
 use Rattle.std.proofs.Common.{refl, sym, ap, ap₂, subst, ◌∙◌, arith, append_assoc, length-append, inl, inr, ⊎_elim, eqb-true}
 use Rattle.std.proofs.lemmas.Option.{same_Some}
 use Rattle.graph_core.specs.Text.{newline}
-use Rattle.graph_core.specs.Text.Readers.{Reader, IsReaderOf, Ended, Anything}
+use Rattle.graph_core.specs.Text.Readers.{Reader}
+use Rattle.graph_core.proofs.Words.{Ended, IsReaderOf, Anything}
 use Rattle.graph_core.specs.Text.JudgedLines.{Lengths, front_line, behind_line, IsTooLong, IsLineStart, IsWithin, BeginsWith, Behind, Unless, Never, IsExact}
 use Rattle.graph_core.specs.Text.Numerals.{front_at}
 use Rattle.graph_core.proofs.OfTexts.NumeralReading.{front_takes, front_again}

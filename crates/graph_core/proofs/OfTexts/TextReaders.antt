@@ -4,10 +4,12 @@ use Rattle.std.specs.declared.option.Option.{Option}
 use Rattle.std.specs.declared.option.Option.TheVariants.{None, Some}
 use Rattle.std.proofs.Common.{refl, sym, ap, subst, ◌∙◌, arith, append_assoc, length-append, inl, inr, ⊎_elim}
 use Rattle.std.proofs.lemmas.Option.{same_Some}
+use Rattle.std.proofs.lemmas.List.Elements.{recursion_from_All}
 use Rattle.graph_core.specs.Text.Numerals.{◌>>=◌, front_at, number_at, is_digit}
-use Rattle.graph_core.specs.Text.{IsNumeral}
-use Rattle.graph_core.specs.Text.Readers.{Reader, map_at, behind_at, ended_at, then_at, text_at, bind_at, choose_at, many_in, many_at, put_before, Ended, BehindText, Then, Bind, AreMany, NoneOf, OneOf, IsReaderOf, Anything}
-use Rattle.graph_core.proofs.OfTexts.NumeralReading.{bind_some, front_takes, front_again, number_takes, number_again, NoDigit}
+use Rattle.graph_core.specs.Text.{IsNumeral, IsDigit}
+use Rattle.graph_core.specs.Text.Readers.{Reader, map_at, behind_at, ended_at, then_at, text_at, bind_at, choose_at, many_in, many_at, put_before}
+use Rattle.graph_core.proofs.Words.{Ended, BehindText, Then, Bind, AreMany, NoneOf, OneOf, IsReaderOf, Anything}
+use Rattle.graph_core.proofs.OfTexts.NumeralReading.{bind_some, front_takes, front_again, is_digit_of, number_takes, number_again, NoDigit}
 
 -- no digit, as the readers say it
 no_digit : (rest : List ℕ) → NoneOf is_digit rest → NoDigit rest
@@ -265,3 +267,8 @@ module _ {A : Type 0} (begins : ℕ → Bool) (item : Reader A) (Is : List ℕ �
           (o >>= (λ x. put_before x.0 (many_in (length bytes) begins item x.1))) ≡ (o >>= (λ x. put_before x.0 (many_in (length x.1) begins item x.1)))
       go None e = refl
       go (Some x) e = ap (put_before x.0) (enough (length bytes) (length x.1) x.1 (let h = shorter (b ∷ bytes) x.0 x.1 e in omega arith) (omega arith))
+
+-- a numeral begins with a digit
+pub numeral_first : (d : ℕ) (digits : List ℕ) (n : ℕ) → IsNumeral d digits n → OneOf is_digit digits
+numeral_first d [] n h = let some : 0 < 0 = h.some in absurd (omega arith)
+numeral_first d (b ∷ digits) n h = is_digit_of b (recursion_from_All IsDigit (b ∷ digits) h.digits).0

@@ -17,9 +17,6 @@ is_no_left l = l.0 == 0 || l.0 % 2 == 1
 abbrev pub is_unmarked : List Bool → Lit → Bool
 is_unmarked marks l = not (variable_of l == 0) && not (listed marks (variable_of l))
 
-abbrev pub all_literals : Lit × Lit × Lit → List Lit
-all_literals t = t.0 ∷ t.1 ∷ t.2 ∷ []
-
 abbrev pub gate_operands : Lit × Lit × Lit → List Lit
 gate_operands t = t.1 ∷ t.2 ∷ []
 

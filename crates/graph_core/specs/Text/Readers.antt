@@ -1,5 +1,5 @@
 -- Readers that are put together from readers: what each takes from the front of a text, and what it leaves.
-use Rattle.std.specs.Prelude.{◌≡◌, ℕ, zero, suc, Bool, true, false, List, [], ◌∷◌, ◌++◌, length, if◌then◌else◌}
+use Rattle.std.specs.Prelude.{ℕ, zero, suc, Bool, List, [], ◌∷◌, length, if◌then◌else◌}
 use Rattle.std.specs.declared.option.Option.{Option}
 use Rattle.std.specs.declared.option.Option.TheVariants.{None, Some}
 use Rattle.graph_core.specs.Text.Numerals.{◌>>=◌, front_at}
@@ -53,40 +53,3 @@ many_in (suc most) begins item (b ∷ bytes) = if begins b
 -- Items, as long as one begins at the first byte; there are no more of them than bytes.
 unfoldable pub many_at : {A : Type 0} → (ℕ → Bool) → Reader A → Reader (List A)
 many_at begins item bytes = many_in (length bytes) begins item bytes
-
--- ---- the texts that they read
-
-abbrev pub Ended : {A : Type 0} → (List ℕ → A → Type 0) → List ℕ → List ℕ → A → Type 0
-Ended Is text bytes x = (front : List ℕ) × Is front x × (bytes ≡ front ++ text)
-
-abbrev pub BehindText : {A : Type 0} → List ℕ → (List ℕ → A → Type 0) → List ℕ → A → Type 0
-BehindText text Is bytes x = (rest : List ℕ) × Is rest x × (bytes ≡ text ++ rest)
-
-abbrev pub Then : {A B : Type 0} → (List ℕ → A → Type 0) → (List ℕ → B → Type 0) → List ℕ → A × B → Type 0
-Then One Two bytes x = (front rest : List ℕ) × One front x.0 × Two rest x.1 × (bytes ≡ front ++ rest)
-
-abbrev pub Bind : {A B : Type 0} → (List ℕ → A → Type 0) → (A → List ℕ → B → Type 0) → List ℕ → B → Type 0
-Bind {A} One Two bytes y = (x : A) × ((front rest : List ℕ) × One front x × Two x rest y × (bytes ≡ front ++ rest))
-
-abbrev pub AreMany : {A : Type 0} → (List ℕ → A → Type 0) → List ℕ → List A → Type 0
-AreMany Is bytes [] = bytes ≡ []
-AreMany Is bytes (x ∷ xs) = (item rest : List ℕ) × Is item x × AreMany Is rest xs × (bytes ≡ item ++ rest)
-
--- The bytes don't begin with a byte of the test.
-abbrev pub NoneOf : (ℕ → Bool) → List ℕ → Type 0
-NoneOf test [] = Unit {0}
-NoneOf test (b ∷ bytes) = test b ≡ false
-
--- The bytes begin with a byte of the test.
-abbrev pub OneOf : (ℕ → Bool) → List ℕ → Type 0
-OneOf test [] = ⊥
-OneOf test (b ∷ bytes) = test b ≡ true
-
--- A reader takes texts of its kind alone, and takes each of them, where what follows doesn't go on with it.
-pub record IsReaderOf {A : Type 0} (item : Reader A) (Is : List ℕ → A → Type 0) (Follows : List ℕ → Type 0) : Type 0 where
-  pub takes : (bytes : List ℕ) (x : A) (rest : List ℕ) → item bytes ≡ Some (x, rest) → (front : List ℕ) × Is front x × (bytes ≡ front ++ rest)
-  pub again : (front : List ℕ) (x : A) (rest : List ℕ) → Is front x → Follows rest → item (front ++ rest) ≡ Some (x, rest)
-
--- whatever follows
-abbrev pub Anything : List ℕ → Type 0
-Anything rest = Unit {0}

@@ -4,7 +4,7 @@ use Rattle.std.proofs.lemmas.Bool.{true≢false}
 use Rattle.mv_fact.specs.Facts.{fact_at}
 use Rattle.gate_axioms.proofs.Growth.{keeps_lines}
 use Rattle.gate_axioms.proofs.FirstLines.{adds_again, gate_vanishes, gate_added}
-use Rattle.graph_core.specs.Algebra.{gate_axiom}
+use Rattle.algebra_core.specs.AlgebraLines.{gate_axiom}
 use Rattle.poly_terms.specs.Tables.{modulus_in}
 use Rattle.gate_axioms.proofs.live_axioms.add_axiom.Goals as goal
 

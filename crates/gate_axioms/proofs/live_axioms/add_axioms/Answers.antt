@@ -3,14 +3,14 @@ use Rattle.std.specs.List.{AllByRecursion}
 use Rattle.std.proofs.lemmas.List.Elements.{recursion_from_All}
 use Rattle.std.proofs.lemmas.Result.{on_ok_weaker}
 use Rattle.graph_core.specs.Graph.Extended.{Extended}
-use Rattle.graph_core.specs.Algebra.{LiveLine, gate_axiom}
-use Rattle.graph_core.specs.Algebra as algebra
+use Rattle.algebra_core.specs.AlgebraLines.{LiveLine, gate_axiom}
+use Rattle.graph_core.specs.Graph.Extended as graphs
 use Rattle.graph_core.specs.declared.Gate.{Gate}
 use Rattle.mv_fact.specs.Facts.{Facts}
 use Rattle.poly_terms.specs.Tables.{Table, Sum, modulus_in}
 use Rattle.poly_terms.specs.Laws.{extends_on, modulus_stays}
 use Rattle.ripple_graft.specs.Extension.{IsExtension}
-use Rattle.graph_core.specs.Algebra.Agreement.{AreSameLines}
+use Rattle.algebra_core.specs.Agreement.{AreSameLines}
 use Rattle.gate_axioms.specs.Lines.{live_lines_in}
 use Rattle.gate_axioms.proofs.ColumnLines.{columns_none, columns_end, number_within}
 use Rattle.gate_axioms.proofs.FirstLines.{gates_within}
@@ -18,12 +18,12 @@ use Rattle.gate_axioms.proofs.live_axioms.add_axioms.Goals as goal
 
 -- the lines of gates, and that none is above the greatest variable
 abbrev gate_lines : Extended → List LiveLine
-gate_lines e = map (gate_axiom (algebra.modulus e)) e.gates
+gate_lines e = map (gate_axiom (graphs.modulus e)) e.gates
 
 within : (e : Extended) → IsExtension e → AllByRecursion (λ l. l.id ≤ e.max) (gate_lines e)
-within e extension = gates_within (algebra.modulus e) e.max e.gates (recursion_from_All (λ g. g.v ≤ e.max) e.gates extension.gates_in_range)
+within e extension = gates_within (graphs.modulus e) e.max e.gates (recursion_from_All (λ g. g.v ≤ e.max) e.gates extension.gates_in_range)
 
-are_lines : (e : Extended) (new : Facts Sum Table) (gates : List Gate) (m : ℕ) → gates ≡ e.gates → m ≡ algebra.modulus e → AreSameLines (live_lines_in new.table new.entries) (map (gate_axiom m) gates) →
+are_lines : (e : Extended) (new : Facts Sum Table) (gates : List Gate) (m : ℕ) → gates ≡ e.gates → m ≡ graphs.modulus e → AreSameLines (live_lines_in new.table new.entries) (map (gate_axiom m) gates) →
     AreSameLines (live_lines_in new.table new.entries) (gate_lines e)
 are_lines e new gates m same is are =
     subst (λ m. AreSameLines (live_lines_in new.table new.entries) (map (gate_axiom m) e.gates)) is (subst (λ gates. AreSameLines (live_lines_in new.table new.entries) (map (gate_axiom m) gates)) same are)

@@ -1,10 +1,10 @@
 use Rattle.std.proofs.Common.{[], get_or, refl, sym, subst, ◌∙◌}
 use Rattle.graph_core.specs.declared.Gate.{Gate}
-use Rattle.graph_core.specs.Algebra.{gate_axiom}
+use Rattle.algebra_core.specs.AlgebraLines.{gate_axiom}
 use Rattle.poly_terms.specs.Tables.{modulus_in}
 use Rattle.poly_terms.specs.Laws.{extends_itself, extends_on, modulus_stays}
 use Rattle.gate_axioms.specs.Lines.{live_lines_in}
-use Rattle.graph_core.specs.Algebra.Agreement.{AreSameLines}
+use Rattle.algebra_core.specs.Agreement.{AreSameLines}
 use Rattle.gate_axioms.specs.Steps.{AddsLine}
 use Rattle.gate_axioms.proofs.FirstLines.{gates_more}
 use Rattle.gate_axioms.proofs.live_axioms.add_gates.Goals as goal

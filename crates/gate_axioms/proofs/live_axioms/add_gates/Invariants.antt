@@ -1,7 +1,7 @@
 use Rattle.std.proofs.Common.{◌≡◌, map, take}
-use Rattle.graph_core.specs.Algebra.{gate_axiom}
+use Rattle.algebra_core.specs.AlgebraLines.{gate_axiom}
 use Rattle.poly_terms.specs.Tables.{Extends, modulus_in}
-use Rattle.graph_core.specs.Algebra.Agreement.{AreSameLines}
+use Rattle.algebra_core.specs.Agreement.{AreSameLines}
 use Rattle.gate_axioms.specs.Lines.{live_lines_in}
 use Rattle.gate_axioms.proofs.live_axioms.add_gates.Given as goal
 

@@ -1,13 +1,13 @@
 use Rattle.std.proofs.Common.{arith, subst, sym, ◌∙◌, All}
 use Rattle.std.specs.Option.{IfSome}
-use Rattle.frontier_core.proofs.CallerLemmas.{length-literals}
+use Rattle.graph_core.proofs.OfGraphs.CallerLemmas.{length-literals}
 use Rattle.operand_search.specs.Lanes.{AreLanes}
 use Rattle.operand_search.specs.Runs.{IsFirstWrong, IsRightOn}
 use Rattle.operand_search.proofs.Running.{IsClear, all_passed, found_is_least, run_clear}
 use Rattle.operand_search.proofs.search.least_from.Goals as goal
 
 pub next_numbers-requires-clause-size : goal.next_numbers-requires-clause-size
-next_numbers-requires-clause-size c = c.loop-numbers.invariant.size ∙ sym (length-literals c.args.graph.now c.args.operands.now c.requires.shape c.requires.once c.requires.operands)
+next_numbers-requires-clause-size c = c.loop-numbers.invariant.size ∙ sym (length-literals c.args.graph.now c.args.operands.now c.requires.shape c.requires.operands)
 
 pub next_numbers-requires-clause-as_many : goal.next_numbers-requires-clause-as_many
 next_numbers-requires-clause-as_many c =

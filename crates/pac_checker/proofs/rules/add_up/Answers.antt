@@ -1,7 +1,7 @@
 use Rattle.std.proofs.Common.{◌≡◌, ℕ, [], ◌∷◌, get_or, sym, subst, arith}
 use denote.Ref.{Bor}
 use Rattle.std.specs.declared.option.Option.TheVariants.{None}
-use Rattle.graph_core.specs.Algebra.Refusal.{first_missing}
+use Rattle.algebra_core.specs.Refusal.{first_missing}
 use Rattle.poly_terms.specs.Tables.{IsOf, Sum}
 use Rattle.poly_terms.specs.Laws.{stays}
 use Rattle.gate_axioms.specs.Lines.{lines_of}

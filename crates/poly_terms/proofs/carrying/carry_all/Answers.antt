@@ -1,6 +1,6 @@
 use Rattle.std.proofs.Common.{◌+◌, ◌*◌, [], ◌<◌, get_or, length, refl, take, sym, subst}
 use Rattle.std.proofs.lemmas.List.{take_all}
-use Rattle.graph_core.specs.Algebra.Polynomials.{product}
+use Rattle.algebra_core.specs.Polynomials.{product}
 use Rattle.poly_terms.specs.Entries.{Sum}
 use Rattle.poly_terms.specs.Laws.{grows_itself, grows_on}
 use Rattle.poly_terms.specs.Monomials.{Adds, total_in}

@@ -1,5 +1,5 @@
 use Rattle.std.proofs.Common.{◌≡◌, ◌*◌, ◌%◌, [], get_or, sym, ap, ap₂, ◌∙◌}
-use Rattle.graph_core.specs.Algebra.Polynomials.{product}
+use Rattle.algebra_core.specs.Polynomials.{product}
 use Rattle.poly_terms.proofs.Adding.{adds_same}
 use Rattle.poly_terms.proofs.carrying.carry_behind.Goals as goal
 

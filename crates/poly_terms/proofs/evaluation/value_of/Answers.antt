@@ -1,8 +1,7 @@
-use Rattle.std.proofs.Common.{◌≡◌, ◌+◌, ◌%◌, ◌^◌, ℕ, [], get_or, ap, sym, ◌∙◌, arith}
+use Rattle.std.proofs.Common.{◌≡◌, ◌+◌, ◌%◌, ◌^◌, ℕ, [], get_or, ap, sym, ◌∙◌, arith, mod-lt}
 use Rattle.graph_core.specs.Graph.Assignments.{bit, listed}
-use Rattle.graph_core.specs.Algebra.Polynomials.{product}
+use Rattle.algebra_core.specs.Polynomials.{product}
 use Rattle.poly_terms.proofs.Totals.{counted, not_counted}
-use Rattle.std.proofs.Common.{mod-lt}
 use Rattle.std.proofs.lemmas.Nat.{pow_pos}
 use Rattle.poly_terms.proofs.evaluation.value_of.Goals as goal
 use Rattle.poly_terms.proofs.evaluation.value_of.Goals.{then-are_true, else-are_true}

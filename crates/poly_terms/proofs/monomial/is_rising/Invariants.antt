@@ -1,5 +1,5 @@
 use Rattle.std.proofs.Common.{drop}
-use Rattle.graph_core.specs.Algebra.NormalForm.{AreRising}
+use Rattle.algebra_core.specs.NormalForm.{AreRising}
 use Rattle.poly_terms.proofs.monomial.is_rising.Given as goal
 
 abbrev pub invariant-loop-v : goal.invariant-loop-v

@@ -1,5 +1,5 @@
 use Rattle.std.proofs.Common.{◌*◌, ◌^◌, ◌<◌, ◌+◌, [], get_or, length, take, mul-zero, subst}
-use Rattle.graph_core.specs.Algebra.Polynomials.{product}
+use Rattle.algebra_core.specs.Polynomials.{product}
 use Rattle.poly_terms.specs.Monomials.{total_in, Adds}
 use Rattle.poly_terms.specs.Laws.{all_in_grown, grows_on, in_grown, grows_itself}
 use Rattle.poly_terms.proofs.Adding.{adds_on, all_at, one_more_row, adds_none}

@@ -1,5 +1,5 @@
 use Rattle.std.proofs.Common.{◌≡◌, ◌*◌, ◌%◌, ◌^◌, [], get_or, ap, subst, ◌∙◌, arith}
-use Rattle.graph_core.specs.Algebra.Polynomials.{product}
+use Rattle.algebra_core.specs.Polynomials.{product}
 use Rattle.poly_terms.specs.Monomials.{Stands, joined}
 use Rattle.poly_terms.proofs.Adding.{adds_one, adds_same}
 use Rattle.poly_terms.proofs.Keys.{product-joined}

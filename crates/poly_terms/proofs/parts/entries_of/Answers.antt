@@ -1,6 +1,6 @@
 use Rattle.std.proofs.Common.{◌≡◌, ℕ, List, ◌*◌, ◌++◌, ◌∷◌, [], length, sym, ap, subst, ◌∙◌, append_assoc, append-nil, arith}
 use Rattle.std.specs.Vec.Iter.{into_iter_items}
-use Rattle.graph_core.specs.Algebra.Polynomials.{product, sum_of}
+use Rattle.algebra_core.specs.Polynomials.{product, sum_of}
 use Rattle.poly_terms.specs.Monomials.{Adds}
 use Rattle.poly_terms.specs.Tables.{said}
 use Rattle.poly_terms.specs.Laws.{grows_on, grows_itself}

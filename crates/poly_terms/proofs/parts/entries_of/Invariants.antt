@@ -1,6 +1,6 @@
 use Rattle.std.proofs.Common.{◌≡◌, ◌++◌, ℕ, [], length}
 use Rattle.std.specs.Vec.Iter.{into_iter_items, into_iter_len}
-use Rattle.graph_core.specs.Algebra.Polynomials.{sum_of}
+use Rattle.algebra_core.specs.Polynomials.{sum_of}
 use Rattle.poly_terms.specs.Monomials.{Adds, Grows}
 use Rattle.poly_terms.specs.Tables.{said}
 use Rattle.poly_terms.proofs.parts.entries_of.Given as goal

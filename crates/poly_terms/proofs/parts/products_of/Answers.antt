@@ -1,6 +1,6 @@
 use Rattle.std.proofs.Common.{◌*◌, ◌^◌, ◌+◌, [], subst, take, arith}
 use Rattle.std.proofs.lemmas.List.{take_all}
-use Rattle.graph_core.specs.Algebra.Polynomials.{product, sum_of}
+use Rattle.algebra_core.specs.Polynomials.{product, sum_of}
 use Rattle.poly_terms.specs.Monomials.{Adds, total_in}
 use Rattle.poly_terms.specs.Tables.{said}
 use Rattle.poly_terms.specs.Laws.{all_in_grown, grows_on, grows_itself}

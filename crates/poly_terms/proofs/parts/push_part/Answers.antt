@@ -1,6 +1,6 @@
 use Rattle.std.proofs.Common.{◌≡◌, ◌*◌, ◌%◌, true, refl, ap, subst, ◌∙◌, mul-zero}
 use Rattle.std.specs.Prelude.{IfNone, IfSome}
-use Rattle.graph_core.specs.Algebra.Polynomials.{product}
+use Rattle.algebra_core.specs.Polynomials.{product}
 use Rattle.poly_terms.specs.Laws.{grows_itself}
 use Rattle.poly_terms.specs.Monomials.{IsMonomialOf, has_variable}
 use Rattle.poly_terms.proofs.Adding.{adds_none, adds_same}

@@ -1,6 +1,6 @@
 use Rattle.std.proofs.Common.{◌*◌, ◌%◌, ◌^◌, refl, ap, sym, ◌∙◌, mul-zero, zero-mul}
 use Rattle.std.proofs.lemmas.Result.{on_ok_weaker}
-use Rattle.graph_core.specs.Algebra.Polynomials.{product}
+use Rattle.algebra_core.specs.Polynomials.{product}
 use Rattle.poly_terms.specs.Laws.{grows_itself}
 use Rattle.poly_terms.specs.Monomials.{total_in}
 use Rattle.poly_terms.proofs.Adding.{adds_none, adds_same}

@@ -1,6 +1,6 @@
 use Rattle.std.proofs.Common.{ℕ, ◌*◌, ◌^◌, ◌<◌, ◌+◌, [], get_or, length, take, ap, ◌∙◌, mul-zero, subst}
 use Rattle.graph_core.specs.Graph.Assignments.{Assignment}
-use Rattle.graph_core.specs.Algebra.Polynomials.{product}
+use Rattle.algebra_core.specs.Polynomials.{product}
 use Rattle.poly_terms.specs.Monomials.{total_in}
 use Rattle.poly_terms.specs.Laws.{grows_itself, grows_on, in_grown, stands_in_grown}
 use Rattle.poly_terms.proofs.Adding.{all_at, one_more_product}

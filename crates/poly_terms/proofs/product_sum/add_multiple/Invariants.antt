@@ -1,5 +1,5 @@
 use Rattle.std.proofs.Common.{◌*◌, ◌^◌, [], get_or, take}
-use Rattle.graph_core.specs.Algebra.Polynomials.{product}
+use Rattle.algebra_core.specs.Polynomials.{product}
 use Rattle.poly_terms.specs.Monomials.{Grows, total_in}
 use Rattle.poly_terms.specs.PolySums.{AreListed, Gains}
 use Rattle.poly_terms.proofs.product_sum.add_multiple.Given as goal

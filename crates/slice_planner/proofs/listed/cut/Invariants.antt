@@ -1,5 +1,5 @@
 use Rattle.std.specs.Prelude.{◌≡◌, ◌≤◌, ◌-◌, ◌++◌, length, map, drop}
-use Rattle.slice_core.proofs.ListedGroups.{all_groups}
+use Rattle.slice_planner.proofs.ListedGroups.{all_groups}
 use Rattle.slice_planner.specs.Arranged.{AreWithin, pieces, variables}
 use Rattle.slice_planner.proofs.listed.cut.Given as goal
 

@@ -3,10 +3,10 @@ use Rattle.std.specs.List.{All, Contains}
 use Rattle.std.proofs.Common.{sym, ap, subst, ◌∙◌}
 use Rattle.graph_core.specs.Graph.Extended.{Extended}
 use Rattle.frontier_core.specs.Plan.{IsPlan}
-use Rattle.slice_core.specs.GroupPlans.{AreGroups}
-use Rattle.slice_core.specs.Groups.{groups}
-use Rattle.slice_core.specs.SlicePlan.{columns_added, count_down}
-use Rattle.slice_core.proofs.ListedGroups.{listed_groups_serve}
+use Rattle.slice_planner.specs.GroupPlans.{AreGroups}
+use Rattle.slice_planner.specs.Groups.{groups}
+use Rattle.slice_planner.specs.SlicePlan.{columns_added, count_down}
+use Rattle.slice_planner.proofs.ListedGroups.{listed_groups_serve}
 use Rattle.slice_planner.specs.Arranged.{lists_in}
 use Rattle.slice_planner.proofs.GroupSteps.{due_at_groups, if_all, turn_at_groups}
 use Rattle.slice_planner.proofs.slicing.slice_steps.Goals as goal

@@ -1,5 +1,5 @@
 use Rattle.std.specs.Prelude.{◌≡◌, ℕ, List}
-use Rattle.slice_core.specs.GroupPlans.{AreAtGroups, AreGroups}
+use Rattle.slice_planner.specs.GroupPlans.{AreAtGroups, AreGroups}
 use Rattle.slice_planner.specs.Arranged.{arranged, lists_in}
 use Rattle.slice_planner.proofs.slicing.slice_steps.Given as goal
 

@@ -1,6 +1,6 @@
 use Rattle.std.proofs.Common.{◌<◌, take, length, get_or}
 use Rattle.std.specs.List.{All}
-use Rattle.graph_core.specs.Algebra.Polynomials.{Term}
+use Rattle.algebra_core.specs.Polynomials.{Term}
 use Rattle.poly_terms.specs.Tables.{monomials_in}
 use Rattle.witness_finder.proofs.Searching.{IsBest}
 use Rattle.witness_finder.proofs.search.least_place.Given as goal

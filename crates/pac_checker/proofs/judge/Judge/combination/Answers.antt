@@ -1,7 +1,7 @@
 use Rattle.std.proofs.Common.{sym, ap, subst, ◌∙◌}
 use Rattle.std.specs.List.{All}
 use Rattle.std.proofs.lemmas.Result.{IfErr-weaker, on_ok_weaker}
-use Rattle.graph_core.specs.Algebra.{Line}
+use Rattle.algebra_core.specs.AlgebraLines.{Line}
 use Rattle.poly_terms.specs.Tables.{IsOf}
 use Rattle.pac_checker.specs.Rules.{IsStatingLine, lent, combination_line}
 use Rattle.pac_checker.proofs.Sums.{all_lent}

@@ -1,6 +1,6 @@
 use Rattle.std.proofs.Common.{map, refl}
 use Rattle.gate_axioms.specs.ClauseValues.{clause_value}
-use Rattle.graph_core.proofs.OfAlgebra.CallerLemmas.{imports_refl}
+use Rattle.algebra_core.proofs.CallerLemmas.{imports_refl}
 use Rattle.pac_checker.proofs.Compacting.{sound_carried}
 use Rattle.pac_checker.proofs.Lawful.{keeps_ledger_itself}
 use Rattle.pac_checker.proofs.judge.Judge.compact.Goals as goal

@@ -1,8 +1,8 @@
 use Rattle.std.proofs.Common.{◌≡◌, ℕ, ◌^◌, ◌+◌, ◌<◌, length, map, ap, ap₂, subst, ◌∙◌}
 use Rattle.graph_core.specs.Graph.Extended.{Extended}
-use Rattle.graph_core.specs.Algebra.{axioms}
-use Rattle.graph_core.specs.Algebra as algebra
-use Rattle.graph_core.proofs.OfAlgebra.CallerLemmas.{imports_refl}
+use Rattle.algebra_core.specs.AlgebraLines.{axioms}
+use Rattle.graph_core.specs.Graph.Extended as graphs
+use Rattle.algebra_core.proofs.CallerLemmas.{imports_refl}
 use Rattle.gate_axioms.specs.ClauseValues.{clause_value}
 use Rattle.poly_terms.specs.Tables.{Table, modulus_in}
 use Rattle.poly_terms.specs.Laws.{modulus_stays}
@@ -11,7 +11,7 @@ use Rattle.pac_checker.proofs.Recordings.{within_fresh}
 use Rattle.pac_checker.proofs.judge.Judge.new.Goals as goal
 
 -- a table with the number of outputs as its exponent has the modulus of the graph
-table_modulus : (t s : Table) (e : Extended) (outputs : ℕ) → t ≡ s → s.exponent ≡ outputs → outputs ≡ length e.graph.outputs → modulus_in t ≡ algebra.modulus e
+table_modulus : (t s : Table) (e : Extended) (outputs : ℕ) → t ≡ s → s.exponent ≡ outputs → outputs ≡ length e.graph.outputs → modulus_in t ≡ graphs.modulus e
 table_modulus t s e outputs same wide is = ap modulus_in same ∙ ap (λ w. 2 ^ w) (wide ∙ is)
 
 last_is : (e : Extended) (a b max outputs : ℕ) → a ≡ max → max ≡ e.max → b ≡ outputs → outputs ≡ length e.graph.outputs → a + b ≡ (axioms e).last

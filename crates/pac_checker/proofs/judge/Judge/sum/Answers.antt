@@ -1,5 +1,5 @@
 use Rattle.std.proofs.lemmas.Result.{IfErr-weaker, on_ok_weaker}
-use Rattle.graph_core.specs.Algebra.{Line}
+use Rattle.algebra_core.specs.AlgebraLines.{Line}
 use Rattle.pac_checker.specs.Rules.{sum_line}
 use Rattle.pac_checker.proofs.LineKinds.{sum_is_combination, takes_grown, refused_grown}
 use Rattle.pac_checker.proofs.judge.Judge.sum.Goals as goal

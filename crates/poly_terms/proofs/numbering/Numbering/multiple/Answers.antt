@@ -1,5 +1,5 @@
 use Rattle.std.proofs.Common.{◌≡◌, IfOk, [], get_or, sym, ap, subst, ◌∙◌}
-use Rattle.graph_core.specs.Algebra.NormalForm.{AreRising}
+use Rattle.algebra_core.specs.NormalForm.{AreRising}
 use Rattle.poly_terms.specs.Monomials.{Stands, joined}
 use Rattle.poly_terms.proofs.Keys.{rising-joined}
 use Rattle.poly_terms.proofs.numbering.Numbering.multiple.Goals as goal

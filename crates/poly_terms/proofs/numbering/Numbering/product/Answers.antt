@@ -1,5 +1,5 @@
 use Rattle.std.proofs.Common.{◌≡◌, IfOk, List, ℕ, true, [], ◌∷◌, ◌==◌, get_or, length, refl, sym, ap, ap₂, subst, ◌∙◌, arith, eqb-true}
-use Rattle.graph_core.specs.Algebra.NormalForm.{AreRising}
+use Rattle.algebra_core.specs.NormalForm.{AreRising}
 use Rattle.poly_terms.specs.Monomials.{Stands, joined}
 use Rattle.poly_terms.proofs.Keys.{joined-none, rising-joined}
 use Rattle.poly_terms.proofs.numbering.Numbering.product.Goals as goal

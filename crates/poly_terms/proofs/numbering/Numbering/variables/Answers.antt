@@ -1,5 +1,5 @@
 use Rattle.std.proofs.Common.{◌≡◌, map, slice_get, Some, sym, subst, ◌∙◌}
-use Rattle.graph_core.specs.Algebra.NormalForm.{AreRising}
+use Rattle.algebra_core.specs.NormalForm.{AreRising}
 use Rattle.poly_terms.proofs.Interned.{stands_at}
 use Rattle.poly_terms.proofs.Values.{rises}
 use Rattle.poly_terms.proofs.numbering.Numbering.variables.Goals as goal

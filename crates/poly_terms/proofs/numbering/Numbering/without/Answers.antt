@@ -1,6 +1,6 @@
 use Rattle.std.proofs.Common.{sym, subst}
 use Rattle.std.proofs.lemmas.Result.{IfOk-weaker}
-use Rattle.graph_core.specs.Algebra.NormalForm.{AreRising}
+use Rattle.algebra_core.specs.NormalForm.{AreRising}
 use Rattle.poly_terms.proofs.Leaving.{rising-without}
 use Rattle.poly_terms.proofs.numbering.Numbering.without.Goals as goal
 

@@ -1,5 +1,5 @@
 use Rattle.std.proofs.Common.{◌^◌, ap, ◌∙◌}
-use Rattle.graph_core.specs.Algebra.Polynomials.{sum_of, value}
+use Rattle.algebra_core.specs.Polynomials.{sum_of, value}
 use Rattle.poly_terms.specs.Tables.{Table, modulus_in, said}
 use Rattle.poly_terms.proofs.Made.{made-IsOf, made-value}
 use Rattle.poly_terms.proofs.terms.Terms.make_of.Goals as goal

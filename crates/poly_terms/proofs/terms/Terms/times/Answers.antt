@@ -1,5 +1,5 @@
 use Rattle.std.proofs.Common.{◌*◌, ◌^◌, ◌∙◌}
-use Rattle.graph_core.specs.Algebra.Polynomials.{sum_of}
+use Rattle.algebra_core.specs.Polynomials.{sum_of}
 use Rattle.poly_terms.specs.Monomials.{total_in}
 use Rattle.poly_terms.specs.Tables.{said}
 use Rattle.poly_terms.proofs.Made.{adds-value, multiple-values, numbers_of}

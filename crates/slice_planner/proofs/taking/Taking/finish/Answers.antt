@@ -5,8 +5,8 @@ use Rattle.graph_core.specs.Graph.Extended.{Extended}
 use Rattle.ripple_graft.specs.Extension.{IsExtension}
 use Rattle.frontier_core.specs.Plan.{IsPlan, nothing, taken}
 use Rattle.frontier_core.specs.Sets.{has}
-use Rattle.slice_core.specs.Groups.{GoesByGroups}
-use Rattle.slice_core.specs.SlicePlan.{columns_added, count_down, swept}
+use Rattle.slice_planner.specs.Groups.{GoesByGroups}
+use Rattle.slice_planner.specs.SlicePlan.{columns_added, count_down, swept}
 use Rattle.slice_planner.specs.Taking.{IsReadyGate, Took}
 use Rattle.slice_planner.proofs.GroupSteps.{all_swept, gone_refutes}
 use Rattle.slice_planner.proofs.TakenSteps.{all_added, finished, fewer_left}

@@ -2,9 +2,9 @@ use Rattle.std.specs.Prelude.{◌≡◌, ℕ, true, List}
 use Rattle.std.specs.List.{All}
 use Rattle.frontier_core.specs.Plan.{nothing, taken}
 use Rattle.frontier_core.specs.Sets.{has}
-use Rattle.slice_core.specs.GroupPlans.{AreAtGroups, AreGroups}
+use Rattle.slice_planner.specs.GroupPlans.{AreAtGroups, AreGroups}
 use Rattle.slice_planner.specs.Arranged.{lists_in}
-use Rattle.slice_planner.specs.Taking.{left_count}
+use Rattle.slice_planner.proofs.Words.{left_count}
 use Rattle.slice_planner.proofs.taking.Taking.finish.Given as goal
 
 -- Where the groups have all gates in an order in which readers come first, none is left.

@@ -1,6 +1,6 @@
 use Rattle.std.specs.Prelude.{◌≡◌, ◌<◌, ◌+◌, slice_index_or}
 use Rattle.std.proofs.Common.{sym, ap, subst, ◌∙◌}
-use Rattle.slice_core.specs.GroupPlans.{AreAtGroups}
+use Rattle.slice_planner.specs.GroupPlans.{AreAtGroups}
 use Rattle.slice_planner.specs.Taking.{IsTaking, LowersByOne, Took, took}
 use Rattle.slice_planner.proofs.TakenSteps.{column_at_groups, column_taken, output_is_read}
 use Rattle.slice_planner.proofs.taking.Taking.push_column.Goals as goal

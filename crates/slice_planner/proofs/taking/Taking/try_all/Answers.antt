@@ -3,7 +3,7 @@ use Rattle.std.specs.List.{All, Contains}
 use Rattle.std.proofs.Common.{sym, ap, subst, ◌∙◌}
 use Rattle.graph_core.specs.Graph.Extended.{Extended}
 use Rattle.frontier_core.specs.Plan.{nothing, taken}
-use Rattle.slice_core.specs.SlicePlan.{swept}
+use Rattle.slice_planner.specs.SlicePlan.{swept}
 use Rattle.slice_planner.specs.Arranged.{groups_in, lists_in, variables}
 use Rattle.slice_planner.proofs.GroupSteps.{all_of_group, dropped, sweep_turn}
 use Rattle.slice_planner.proofs.taking.Taking.try_all.Goals as goal

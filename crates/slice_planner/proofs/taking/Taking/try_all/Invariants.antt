@@ -1,6 +1,6 @@
 use Rattle.std.specs.Prelude.{◌≡◌, ◌++◌, drop}
 use Rattle.frontier_core.specs.Plan.{nothing, taken}
-use Rattle.slice_core.specs.SlicePlan.{swept}
+use Rattle.slice_planner.specs.SlicePlan.{swept}
 use Rattle.slice_planner.specs.Arranged.{lists_in}
 use Rattle.slice_planner.proofs.taking.Taking.try_all.Given as goal
 

@@ -1,0 +1,5 @@
+use Rattle.algebra_core.proofs.NormalFormSizes.{normal_form_is_one as law}
+use Rattle.algebra_core.proofs.polynomial_laws.normal_form_is_one.Goals as goal
+
+pub returns : goal.returns
+returns c = law

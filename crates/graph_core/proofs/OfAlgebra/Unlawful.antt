@@ -1,1 +1,0 @@
--- A line that is refused isn't lawful.

@@ -1,5 +1,0 @@
-use Rattle.graph_core.proofs.OfAlgebra.LedgerLines.{ledger_is_map as law}
-use Rattle.graph_core.proofs.ledger_laws.ledger_is_map.Goals as goal
-
-pub returns : goal.returns
-returns c = law

@@ -1,0 +1,23 @@
+use Rattle.std.proofs.Common.{length, ap, arith}
+use Rattle.graph_core.proofs.OfGraphs.InputPlaces.{length-inputs_in}
+use Rattle.graph_core.proofs.OfGraphs.OperandLiterals.{length-literals_in}
+use Rattle.graph_core.proofs.operands.Operands.inputs.Goals as goal
+
+pub returns-clause-value : goal.returns-clause-value
+returns-clause-value c =
+    let value = c.bits.ensures.value in
+    let addend = ap length c.c_literals.ensures.value in
+    omega (arith, length-inputs_in c.args.self.now c.bits.ensures.sides)
+
+pub returns-clause-literals : goal.returns-clause-literals
+returns-clause-literals c =
+    let all = returns-clause-value c in
+    omega (arith, length-literals_in c.args.self.now)
+
+pub returns-clause-few : goal.returns-clause-few
+returns-clause-few c =
+    let value = c.bits.ensures.value in
+    let addend = ap length c.c_literals.ensures.value in
+    let narrow = c.bits.ensures.sides.narrow in
+    let wide = c.bits.ensures.sides.addend in
+    omega arith

@@ -1,4 +1,0 @@
-pub mod Chains
-pub mod Chosen
-pub mod Used
-pub mod Lines

@@ -1,5 +1,0 @@
-use Rattle.trim_core.proofs.Used.{chosen_clauses_are_used as law}
-use Rattle.trim_core.proofs.laws.chosen_clauses_are_used.Goals as goal
-
-pub returns : goal.returns
-returns c = law

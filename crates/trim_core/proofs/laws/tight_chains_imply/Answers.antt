@@ -1,5 +1,0 @@
-use Rattle.trim_core.proofs.Chains.{tight_chains_imply as law}
-use Rattle.trim_core.proofs.laws.tight_chains_imply.Goals as goal
-
-pub returns : goal.returns
-returns c = law
