@@ -12,7 +12,8 @@ use Rattle.graph_core.specs.Graph.Literals.{variable_of}
 use Rattle.graph_core.specs.Graph.{Aig, IsGateOf, IsLevel, IsWellFormed}
 use Rattle.graph_core.proofs.OfGraphs.CallerLemmas.{level_inverted, level_is_one, one_gate}
 use Rattle.adder_finder.specs.FinalStage.{IsCovered, constant, member, gate as gate_covered, variables_of}
-use Rattle.adder_finder.specs.Cover.{AreFirstNeeds, AreKeys, AreNeeds, AreNeedsAt, IsAhead, IsCover, IsCoveredBy, IsOfPairs, Lowers}
+use Rattle.adder_finder.specs.Cover.{AreFirstNeeds, AreKeys, AreNeeds, IsCover, IsCoveredBy, IsOfPairs, Lowers}
+use Rattle.adder_finder.proofs.Words.{AreNeedsAt, IsAhead}
 use Rattle.adder_finder.proofs.XorSearch.{operands_low}
 
 -- ---- lowering

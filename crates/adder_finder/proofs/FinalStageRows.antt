@@ -5,11 +5,10 @@ use Rattle.std.proofs.Common.{refl, sym, ap, subst, ◌∙◌, arith, inl, inr, 
 use Rattle.std.proofs.lemmas.List.Elements.{All-from_recursion}
 use Rattle.graph_core.specs.declared.literal.Lit.{Lit}
 use Rattle.graph_core.specs.declared.gate.Gate.{Gate}
-use Rattle.graph_core.specs.Graph.Literals.{variable_of}
+use Rattle.graph_core.specs.Graph.Literals.{variable_of, inverted}
 use Rattle.graph_core.specs.Graph.{IsDefinedOnce, Aig}
 use Rattle.graph_core.proofs.OfAiger.CallerLemmas.{counts_apart}
 use Rattle.ripple_graft.specs.declared.cut.Cut.{Cut}
-use Rattle.graph_core.specs.Graph.Literals.{inverted}
 use Rattle.graph_core.proofs.OfGraphs.CallerLemmas.{any_cases, any_nil}
 use Rattle.adder_finder.specs.XorShape.{HasXorShape, IsUsedBesides, IsXorGate, IsXorOfPair}
 use Rattle.adder_finder.specs.FinalStage.{member, gate as gate_covered, IsNextColumn, AreNextColumns, IsFit, IsFinalStage}

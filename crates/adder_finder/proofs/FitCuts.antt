@@ -13,7 +13,7 @@ use Rattle.ripple_graft.specs.Extension.{IsKnown, IsReadable}
 use Rattle.ripple_graft.proofs.Plain.{graph_extends}
 use Rattle.adder_finder.specs.XorShape.{ordered_operands, IsXorOfPair}
 use Rattle.adder_finder.specs.FinalStage.{AreNextColumns, FitIsCut}
-use Rattle.adder_finder.proofs.Cases.{by_cases}
+use Rattle.graph_core.proofs.OfGraphs.CallerLemmas.{by_cases}
 
 -- as many pairs as columns, or one fewer
 pub columns_count : (g : Aig) (earlier : List (Lit × Lit)) (os : List Lit) (ps : List (Lit × Lit)) → AreNextColumns g earlier os ps → (length ps + 1 ≡ length os) ⊎ (length ps ≡ length os)

@@ -8,10 +8,10 @@ use Rattle.graph_core.specs.declared.gate.Gate.{Gate}
 use Rattle.graph_core.specs.declared.literal.Lit.{Lit}
 use Rattle.graph_core.specs.Graph.Literals.{variable_of, inverted}
 use Rattle.graph_core.specs.Graph.{Aig, IsWellFormed, read_literals, reader_count}
-use Rattle.graph_core.proofs.OfGraphs.CallerLemmas.{Distinct, any_cases, any_here, any_nil, any_there, distinct_gates}
+use Rattle.graph_core.proofs.OfGraphs.CallerLemmas.{Distinct, any_cases, any_here, any_nil, any_there, distinct_gates, by_cases}
 use Rattle.adder_finder.specs.XorShape.{IsUsedBesides, IsGenerating}
-use Rattle.adder_finder.specs.XorFound.{HasOperands, IsReadMore}
-use Rattle.adder_finder.proofs.Cases.{by_cases}
+use Rattle.adder_finder.specs.XorFound.{HasOperands}
+use Rattle.adder_finder.proofs.Words.{IsReadMore}
 
 -- of how many of a gate's operands it is the variable
 abbrev of_gate : Gate → ℕ → ℕ

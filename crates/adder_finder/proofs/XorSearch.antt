@@ -9,11 +9,11 @@ use Rattle.graph_core.specs.declared.literal.Lit.{Lit}
 use Rattle.graph_core.specs.declared.gate.Gate.{Gate}
 use Rattle.graph_core.specs.Graph.Literals.{variable_of, negation_of, inverted, IsNegated}
 use Rattle.graph_core.specs.Graph.{Aig, IsGateOf, IsWellFormed, reader_count}
-use Rattle.graph_core.proofs.OfGraphs.CallerLemmas.{gate_in_range, one_gate, variable_of-negated}
+use Rattle.graph_core.proofs.OfGraphs.CallerLemmas.{gate_in_range, one_gate, variable_of-negated, by_cases}
 use Rattle.adder_finder.specs.declared.xor.Xor.{Xor}
 use Rattle.adder_finder.specs.XorShape.{Computes, HasXorShape, IsXor, IsXorGate, IsXorOf, IsXorOfPair, ordered_operands}
-use Rattle.adder_finder.specs.XorFound.{AreTwo, HasOperands, IsBelow, IsMoreRead, IsReadMore, IsShapeOver, shape_of}
-use Rattle.adder_finder.proofs.Cases.{by_cases}
+use Rattle.adder_finder.specs.XorFound.{AreTwo, HasOperands, IsBelow, IsMoreRead, IsShapeOver, shape_of}
+use Rattle.adder_finder.proofs.Words.{IsReadMore}
 use Rattle.adder_finder.proofs.ReadBesides.{generates_from}
 
 -- ---- literals

@@ -6,10 +6,9 @@ use Rattle.std.proofs.lemmas.List.Elements.{recursion_from_All}
 use Rattle.graph_core.specs.declared.literal.Lit.{Lit}
 use Rattle.graph_core.specs.declared.gate.Gate.{Gate}
 use Rattle.graph_core.specs.Graph.Assignments.{Assignment, variable, literal}
-use Rattle.graph_core.specs.Graph.Literals.{variable_of, negation_of}
+use Rattle.graph_core.specs.Graph.Literals.{variable_of, negation_of, plain, inverted}
 use Rattle.graph_core.specs.Graph.{Aig, IsDefinedOnce, defined}
 use Rattle.graph_core.proofs.OfGraphs.CallerLemmas.{Distinct, any_cases, any_nil, apart_from_pairs, gates_distinct as distinct_gates, literal-even, literal-negated, literal-odd, rest_apart, variable_of-negated}
-use Rattle.graph_core.specs.Graph.Literals.{plain, inverted}
 use Rattle.adder_finder.specs.XorShape.{Computes, HasXorShape, IsGenerating, IsXor, ordered_operands, IsXorGate, IsXorOfPair, exclusive_or, XorShapeIsXor}
 
 -- a gate's equation, for its operands in either order

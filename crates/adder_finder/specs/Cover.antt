@@ -30,10 +30,6 @@ pub record AreKeys (g : Aig) (keys : List (ℕ × ℕ)) : Type 0 where
   pub all : All (λ x. Contains (map (λ key. key.1) keys) x.v) g.gates
   pub rising : (i j : ℕ) (d : ℕ × ℕ) → i ≤ j → j < length keys → (slice_index_or keys i d).0 ≤ (slice_index_or keys j d).0
 
--- A key from the i-th on has the variable.
-abbrev pub IsAhead : List (ℕ × ℕ) → ℕ → ℕ → Type 0
-IsAhead keys i v = (j : ℕ) × (d : ℕ × ℕ) × (i ≤ j) × (j < length keys) × ((slice_index_or keys j d).1 ≡ v)
-
 -- One of the first n and of the first j pairs has the variable.
 abbrev pub IsOfPairs : List (Lit × Lit) → ℕ → ℕ → ℕ → Type 0
 IsOfPairs pairs n j v = (i : ℕ) × (i < j) × (i < n) ×
@@ -45,14 +41,6 @@ pub record AreFirstNeeds (max : ℕ) (pairs : List (Lit × Lit)) (n : ℕ) (need
   pub constant : slice_index needs 0 ≡ 0
   pub enough : (v j : ℕ) → v ≤ max → j ≤ MOST_OUTPUTS → slice_index needs v ≤ j → (v ≡ 0) ⊎ IsOfPairs pairs n j v
   pub least : (v j : ℕ) → v ≤ max → IsOfPairs pairs n j v → slice_index needs v ≤ j
-
--- What is needed once the gates of the first i keys are done.
-pub record AreNeedsAt (g : Aig) (pairs : List (Lit × Lit)) (keys : List (ℕ × ℕ)) (i : ℕ) (needs : List ℕ) : Type 0 where
-  pub room : length needs ≡ g.max + 1
-  pub constant : slice_index needs 0 ≡ 0
-  pub enough : (v j : ℕ) → v ≤ g.max → j ≤ length pairs → slice_index needs v ≤ j → IsCoveredBy g pairs j v
-  pub member : (v j : ℕ) → v ≤ g.max → j ≤ length pairs → Contains (variables_of (take j pairs)) v → slice_index needs v ≤ j
-  pub least : (v j : ℕ) → v ≤ g.max → j ≤ length pairs → ¬ (IsAhead keys i v) → IsCoveredBy g pairs j v → slice_index needs v ≤ j
 
 -- At most n at a variable.
 pub record Lowers (v n : ℕ) (old new : List ℕ) : Type 0 where

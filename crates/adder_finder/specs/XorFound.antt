@@ -23,11 +23,6 @@ pub record AreTwo (u w : Gate) : Type 0 where
   pub two_variables : variable_of u.left ≢ variable_of u.right
   pub reads : HasOperands w (negation_of u.left) (negation_of u.right)
 
--- Of two variables that are read by one gate this one is read more than once, and the other not; or it is the lesser.
-abbrev pub IsReadMore : Aig → ℕ → ℕ → Type 0
-IsReadMore g u w = ((1 < reader_count g u) × (reader_count g w ≤ 1)) ⊎
-    ((((1 < reader_count g u) × (1 < reader_count g w)) ⊎ ((reader_count g u ≤ 1) × (reader_count g w ≤ 1))) × (u < w))
-
 -- the same, where it is told of each whether it is read more than once
 abbrev pub IsMoreRead : ℕ → Bool → ℕ → Bool → Type 0
 IsMoreRead u first w second = ((first ≡ true) × (second ≡ false)) ⊎ ((first ≡ second) × (u < w))

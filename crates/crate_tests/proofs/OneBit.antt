@@ -1,8 +1,8 @@
 -- The axiom of the one-bit graph's gate is live.
 use Rattle.std.specs.Prelude.{◌≡◌}
 use Rattle.std.proofs.Common.{refl, sym, ap₂, subst}
-use Rattle.graph_core.specs.Graph.Extended.{without_cut}
-use Rattle.graph_core.specs.Algebra.{IsLive, Ledger, after_all, axioms, modulus}
+use Rattle.graph_core.specs.Graph.Extended.{without_cut, modulus}
+use Rattle.algebra_core.specs.AlgebraLines.{IsLive, Ledger, after_all, axioms}
 use Rattle.pac_writer.specs.Writing.{Made, written_ledger}
 use Rattle.crate_tests.specs.OneBit.{IsOneBit, one_bit}
 

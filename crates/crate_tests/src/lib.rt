@@ -5,8 +5,6 @@
 #[cfg(test)]
 mod aiger;
 #[cfg(test)]
-mod blocks;
-#[cfg(test)]
 mod clause_lists;
 #[cfg(test)]
 mod desks;

@@ -1,6 +1,6 @@
 // operand_search and stage_guesser: what is found by evaluating a graph.
 ghost use Rattle.std.specs.Prelude.{◌≤◌};
-ghost use Rattle.graph_core.specs.Aiger.Soundness.{IsSizedAs};
+ghost use Rattle.graph_core.specs.Aiger.Sizes.{IsSizedAs};
 ghost use Rattle.graph_core.specs.Graph.Operands.{profile_of};
 
 use aiger_reader::graph_of_text;

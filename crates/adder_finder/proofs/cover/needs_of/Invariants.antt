@@ -1,4 +1,4 @@
-use Rattle.adder_finder.specs.Cover.{AreNeedsAt}
+use Rattle.adder_finder.proofs.Words.{AreNeedsAt}
 use Rattle.adder_finder.proofs.cover.needs_of.Given as goal
 
 abbrev pub invariant-loop-level : goal.invariant-loop-level

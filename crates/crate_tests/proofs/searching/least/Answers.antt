@@ -1,5 +1,5 @@
 use Rattle.std.proofs.Common.{subst}
-use Rattle.graph_core.specs.Aiger.Soundness.{IsSizedAs}
+use Rattle.graph_core.specs.Aiger.Sizes.{IsSizedAs}
 use Rattle.crate_tests.proofs.searching.least.Goals as goal
 
 pub least_of-requires : goal.least_of-requires

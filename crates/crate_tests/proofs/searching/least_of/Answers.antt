@@ -1,5 +1,5 @@
 use Rattle.std.proofs.Common.{◌≤◌, Bool, true, false}
-use Rattle.graph_core.specs.Aiger.Soundness.{IsSizedAs}
+use Rattle.graph_core.specs.Aiger.Sizes.{IsSizedAs}
 use Rattle.graph_core.specs.Graph.{Aig}
 use Rattle.graph_core.specs.Graph.Operands.{profile_of, width_for}
 use Rattle.graph_core.proofs.OfAiger.CallerLemmas.{shape_for}
