@@ -1,8 +1,8 @@
 -- Lines that are alike are lawful together, one after the other.
 use Rattle.std.specs.Prelude.{ℕ, List, [], ◌∷◌}
-use Rattle.graph_core.specs.Algebra.{Ledger, Line, AreLawfulLines, after, after_all}
-use Rattle.graph_core.specs.Algebra.Agreement.{LedgersAgree}
-use Rattle.graph_core.proofs.OfAlgebra.CallerLemmas.{after_agrees, agree_trans, lawful_agrees, likeness_is_kept}
+use Rattle.algebra_core.specs.AlgebraLines.{Ledger, Line, AreLawfulLines, after, after_all}
+use Rattle.algebra_core.specs.Agreement.{LedgersAgree}
+use Rattle.algebra_core.proofs.CallerLemmas.{after_agrees, agree_trans, lawful_agrees, likeness_is_kept}
 use Rattle.poly_text.specs.Recorded.{AreAllAlike}
 
 -- over ledgers that agree

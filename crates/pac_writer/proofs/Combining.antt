@@ -5,9 +5,10 @@ use Rattle.std.specs.List.{AllByRecursion}
 use Rattle.std.proofs.Common.{refl, subst, arith, ⊎_elim, eqb-true}
 use Rattle.std.proofs.lemmas.Bool.{cases_Bool}
 use Rattle.std.proofs.lemmas.List.Elements.{All-from_recursion, All-map, recursion_from_All}
-use Rattle.graph_core.specs.Algebra.NormalForm.{IsNormalForm}
-use Rattle.graph_core.specs.Algebra.{LiveLine, Closes, Delete, IsCombined, IsLive, Part, line_of, modulus}
-use Rattle.graph_core.specs.Algebra.Text.{IsId}
+use Rattle.algebra_core.specs.NormalForm.{IsNormalForm}
+use Rattle.algebra_core.specs.AlgebraLines.{LiveLine, Closes, Delete, IsCombined, IsLive, Part, line_of}
+use Rattle.graph_core.specs.Graph.Extended.{modulus}
+use Rattle.algebra_core.specs.Text.{IsId}
 use Rattle.frontier_core.specs.Pending.{AreSpare}
 use Rattle.frontier_core.proofs.Gathered.{spare_is_lawful}
 use Rattle.poly_terms.specs.Tables.{Table, Sum, IsOf, monomials_in}

@@ -6,9 +6,9 @@ use Rattle.std.specs.List.{All, filter_map}
 use Rattle.std.proofs.Common.{refl, sym, ap, subst, ◌∙◌, arith}
 use Rattle.std.proofs.lemmas.List.Elements.{All-cons, All-filter, All-push, filter_map-append}
 use Rattle.graph_core.specs.Graph.Operands.{Sides}
-use Rattle.graph_core.specs.Graph.Extended.{Extended}
-use Rattle.graph_core.specs.Algebra.Polynomials.{Polynomial, value}
-use Rattle.graph_core.specs.Algebra.{LiveLine, Line, Ledger, Sum, Product, Combination, Import, Delete, AreLawfulLines, Closes, IsNewId, after, after_all, axioms, modulus}
+use Rattle.graph_core.specs.Graph.Extended.{Extended, modulus}
+use Rattle.algebra_core.specs.Polynomials.{Polynomial, value}
+use Rattle.algebra_core.specs.AlgebraLines.{LiveLine, Line, Ledger, Sum, Product, Combination, Import, Delete, AreLawfulLines, Closes, IsNewId, after, after_all, axioms}
 use Rattle.frontier_core.proofs.LineLemmas.{lines_grow}
 use Rattle.poly_terms.specs.Tables.{Table}
 use Rattle.poly_text.specs.declared.line.PacLine.{PacLine}

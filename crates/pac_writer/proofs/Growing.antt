@@ -5,14 +5,15 @@ use Rattle.std.specs.declared.option.Option.TheVariants.{Some}
 use Rattle.std.specs.List.{All, AllByRecursion, cons_option}
 use Rattle.std.proofs.Common.{refl, sym, ap, ap₂, subst, ◌∙◌}
 use Rattle.std.proofs.lemmas.List.Elements.{recursion_from_All}
-use Rattle.graph_core.specs.Algebra.Polynomials.{Polynomial}
-use Rattle.graph_core.specs.Algebra as algebra
+use Rattle.algebra_core.specs.Polynomials.{Polynomial}
+use Rattle.graph_core.specs.Graph.Extended as graphs
+use Rattle.algebra_core.specs.AlgebraLines as algebra
 use Rattle.graph_core.specs.Graph.Operands.{Sides}
 use Rattle.graph_core.specs.Graph.Extended.{Extended}
 use Rattle.mv_nums.specs.Residue.{IsWidth}
 use Rattle.poly_terms.specs.Tables.{Table, Extends, IsOf, monomials_in}
 use Rattle.poly_terms.specs.Tables as table
-use Rattle.poly_terms.specs.Laws.{modulus_stays, monomials_stay, stays}
+use Rattle.poly_terms.specs.Laws.{modulus_stays, stays, monomials_stay}
 use Rattle.poly_text.specs.declared.line.PacLine.{PacLine}
 use Rattle.poly_text.specs.declared.line.PacLine.TheVariants.{Sum, Product, Combination, Import, Drop, Close}
 use Rattle.poly_text.specs.Lines.{AreOf, line_in, part_in}
@@ -79,7 +80,7 @@ lines_keep e s old new xs last closing grows h =
         kept = λ k d low. kept_stays e.max old new _ grows (h.kept k d low);
         so_far = record {
           same_modulus = modulus_stays old new grows ∙ h.so_far.same_modulus;
-          lawful = subst (λ ys. algebra.AreLawfulLines (algebra.modulus e) (algebra.axioms e) ys) (sym same) h.so_far.lawful;
+          lawful = subst (λ ys. algebra.AreLawfulLines (graphs.modulus e) (algebra.axioms e) ys) (sym same) h.so_far.lawful;
           spare = rw same h.so_far.spare;
           greatest = rw same h.so_far.greatest;
           room = h.so_far.room;

@@ -10,30 +10,30 @@ use Rattle.std.proofs.lemmas.Nat.{pow_below}
 use Rattle.graph_core.specs.Graph.Operands.{Sides}
 use Rattle.graph_core.specs.Graph.Extended.{Extended}
 use Rattle.graph_core.specs.Text.{newline}
-use Rattle.graph_core.specs.Algebra.{AreLawful, Closes, Premises, after_all, axioms, beginning}
-use Rattle.graph_core.specs.Algebra as algebra
-use Rattle.graph_core.specs.Algebra.Text.{first_line, IsId, IsLawfulAlgebraFile, IsLineInRange}
-use Rattle.graph_core.proofs.OfAlgebra.CallerLemmas.{agree_refl, closes_agrees}
+use Rattle.algebra_core.specs.AlgebraLines.{AreLawful, Closes, Premises, after_all, axioms, beginning}
+use Rattle.graph_core.specs.Graph.Extended as graphs
+use Rattle.algebra_core.specs.Text.{first_line, IsId, IsLawfulAlgebraFile, IsLineInRange}
+use Rattle.algebra_core.proofs.CallerLemmas.{agree_refl, closes_agrees}
 use Rattle.mv_nums.specs.Residue.{IsWidth}
 use Rattle.poly_terms.specs.Tables.{Table, modulus_in}
 use Rattle.poly_text.specs.declared.line.PacLine.{PacLine}
 use Rattle.pac_writer.specs.Writing.{Made, made_of, without_imports}
 use Rattle.poly_text.specs.Recorded.{AreAllAlike, lines_in}
 use Rattle.poly_text.specs.WrittenLines.{closing_text, written_certificate, written_lines}
-use Rattle.pac_writer.specs.Certificates.{certificate_text}
+use Rattle.pac_writer.specs.Certificates.{ArePartsOf, certificate_text}
 use Rattle.pac_writer.specs.Kept.{AreKept}
 use Rattle.pac_writer.specs.LawfulTexts.{IsLawfulTextOf, WrittenCertificatesAreLawful}
 use Rattle.pac_writer.proofs.Alike.{alike_lawful}
-use Rattle.pac_writer.proofs.Combining.{live_is_id}
+use Rattle.pac_writer.proofs.Combining.{closing_is_id, live_is_id}
 use Rattle.pac_writer.proofs.ReadBack.{closing_says, told_say}
-use Rattle.pac_writer.proofs.Readable.{IsTold, kept_is_told, readable_are_told}
+use Rattle.pac_writer.proofs.Readable.{IsTold, kept_goes_on, kept_is_told, readable_are_told}
 
 -- what is written of lawful lines that are told
-told_text : (p : Premises) (s : Sides) (t : Table) (xs : List PacLine) (id : ℕ) → IsWidth t.exponent → p.extended.max < 2 ^ 32 → modulus_in t ≡ algebra.modulus p.extended →
+told_text : (p : Premises) (s : Sides) (t : Table) (xs : List PacLine) (id : ℕ) → IsWidth t.exponent → p.extended.max < 2 ^ 32 → modulus_in t ≡ graphs.modulus p.extended →
     AllByRecursion (IsTold p.version p.extended.max t) xs → IsId id → AreLawful p s (lines_in t xs) id →
     IsLawfulTextOf p s (lines_in t xs) id (written_certificate p.version (modulus_in t) (lines_in t xs) id)
 told_text p s t xs id width small same told is lawful =
-    let m = algebra.modulus p.extended in
+    let m = graphs.modulus p.extended in
     let max = p.extended.max in
     let close = closing_says t p.version max id width small is in
     let after = closing_text id ++ newline ∷ [] in
@@ -70,7 +70,7 @@ pub written_certificates_are_lawful : WrittenCertificatesAreLawful
 written_certificates_are_lawful p s t xs id width small same two readable is lawful =
     let max = p.extended.max in
     let exponent : IsWidth t.exponent = subst IsWidth (sym (same_exponent t.exponent (length p.extended.graph.outputs) same)) width in
-    let told = readable_are_told p.version max (algebra.modulus p.extended) t p.imports two (beginning p) xs refl readable lawful.0 in
+    let told = readable_are_told p.version max (graphs.modulus p.extended) t p.imports two (beginning p) xs refl readable lawful.0 in
     told_text p s t xs id exponent small same told is lawful
 
 -- ---- lines that are made
@@ -86,7 +86,7 @@ closed_file : (version : ℕ) (e : Extended) (s : Sides) (t : Table) (xs : List 
     IsLawfulAlgebraFile (without_imports version e) s (written_certificate version (modulus_in t) (lines_in t xs) id)
 closed_file version e s t xs last id h =
     let small : e.max < 2 ^ 32 = (let low = h.small in omega arith) in
-    let closes : Closes e s (after_all (algebra.modulus e) (axioms e) (lines_in t xs)).live id = h.so_far.closes in
+    let closes : Closes e s (after_all (graphs.modulus e) (axioms e) (lines_in t xs)).live id = h.so_far.closes in
     let told = recursion_from_All (IsTold version e.max t) xs (λ k d low. kept_is_told version e.max t _ (h.kept k d low)) in
     (told_text (without_imports version e) s t xs id h.exponent small h.so_far.same_modulus told (live_is_id (made_of e s t xs last (Some id)) id h.so_far closes.0) (h.so_far.lawful, closes)).file
 
@@ -96,3 +96,15 @@ certificate_is_lawful version old e s t xs last id closing view closed h =
     subst (λ (o : Made). IsLawfulAlgebraFile (without_imports version o.extended) o.sides (certificate_text version o)) view
     (subst (IsLawfulAlgebraFile (without_imports version e) s) (kept_certificate version (made_of e s t xs last closing) e s t xs last id closing refl closed h)
     (closed_file version e s t xs last id (subst (AreKept e s t xs last) closed h)))
+
+pub parts_of : (e : Extended) (s : Sides) (t : Table) (xs : List PacLine) (last id : ℕ) (closing : Option ℕ) → closing ≡ Some id → AreKept e s t xs last closing → ArePartsOf (made_of e s t xs last closing) t xs id
+parts_of e s t xs last id closing closed h = record {
+  go_on = λ k d low. kept_goes_on e.max t _ (h.kept k d low);
+  «of» = λ k d low. (h.kept k d low).«of»;
+  writable = λ k d low. (h.kept k d low).writable;
+  closing_is = closing_is_id (made_of e s t xs last closing) id h.so_far closed;
+  modulus_is = h.so_far.same_modulus;
+  lines_are = refl;
+  spare = h.so_far.spare;
+  lawful = λ version. closed_file version e s t xs last id (subst (AreKept e s t xs last) closed h);
+}

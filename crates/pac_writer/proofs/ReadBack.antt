@@ -5,9 +5,9 @@ use Rattle.std.specs.declared.option.Option.TheVariants.{None, Some}
 use Rattle.std.specs.List.{AllByRecursion, cons_option}
 use Rattle.std.proofs.Common.{refl, ◌∙◌, append_assoc}
 use Rattle.graph_core.specs.Text.{newline}
-use Rattle.graph_core.specs.Algebra.{Line}
-use Rattle.graph_core.specs.Algebra.Likeness.{AreAlike}
-use Rattle.graph_core.specs.Algebra.Text.{AreLineTexts, IsCloseText, IsId, IsLineInRange, IsLineText}
+use Rattle.algebra_core.specs.AlgebraLines.{Line}
+use Rattle.algebra_core.specs.Likeness.{AreAlike}
+use Rattle.algebra_core.specs.Text.{AreLineTexts, IsCloseText, IsId, IsLineInRange, IsLineText}
 use Rattle.mv_nums.specs.Residue.{IsWidth}
 use Rattle.poly_terms.specs.Tables.{Table, modulus_in}
 use Rattle.poly_text.specs.declared.line.PacLine.{PacLine}

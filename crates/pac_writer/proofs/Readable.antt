@@ -6,9 +6,9 @@ use Rattle.std.specs.List.{All, AllByRecursion, cons_option}
 use Rattle.std.proofs.Common.{refl, subst, ◌∙◌, ⊎_elim}
 use Rattle.std.proofs.lemmas.List.Elements.{All-nil, All-cons, All-head, All-tail, recursion_from_All}
 use Rattle.graph_core.specs.Graph.Assignments.{Assignment}
-use Rattle.graph_core.specs.Algebra.{AreLawfulLines, IsThere, Ledger, Line, Part, after, import_of}
-use Rattle.graph_core.specs.Algebra as algebra
-use Rattle.graph_core.specs.Algebra.Text.{IsId, IsInRange, IsLineInRange}
+use Rattle.algebra_core.specs.AlgebraLines.{AreLawfulLines, IsThere, Ledger, Line, Part, after, import_of}
+use Rattle.algebra_core.specs.AlgebraLines as algebra
+use Rattle.algebra_core.specs.Text.{IsId, IsInRange, IsLineInRange}
 use Rattle.poly_terms.specs.Tables.{Table, monomials_in}
 use Rattle.poly_terms.specs.Tables as table
 use Rattle.poly_text.specs.declared.line.PacLine.{PacLine}

@@ -3,8 +3,8 @@ use Rattle.std.specs.Prelude.{◌≡◌, ℕ, ◌<◌, ◌^◌, List}
 use Rattle.std.specs.List.{All}
 use Rattle.std.specs.declared.option.Option.{Option}
 use Rattle.graph_core.specs.Graph.Operands.{Sides}
-use Rattle.graph_core.specs.Graph.Extended.{Extended}
-use Rattle.graph_core.specs.Algebra.{Line, IsLawfulLine, after, modulus}
+use Rattle.graph_core.specs.Graph.Extended.{Extended, modulus}
+use Rattle.algebra_core.specs.AlgebraLines.{Line, IsLawfulLine, after}
 use Rattle.mv_nums.specs.Residue.{IsWidth}
 use Rattle.poly_terms.specs.Tables.{Table}
 use Rattle.poly_text.specs.declared.line.PacLine.{PacLine}

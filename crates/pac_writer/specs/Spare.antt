@@ -1,9 +1,9 @@
 -- What a certificate leaves out: parts times 0, a line twice in one combination, terms of value 0, a monomial twice.
 use Rattle.std.specs.Prelude.{◌≢◌, ℕ, List}
 use Rattle.std.specs.List.{All, AllPairs}
-use Rattle.graph_core.specs.Algebra.Polynomials.{Polynomial}
-use Rattle.graph_core.specs.Algebra.NormalForm.{IsNormalForm}
-use Rattle.graph_core.specs.Algebra.{Line, Sum, Product, Combination, Import, Delete, Part}
+use Rattle.algebra_core.specs.Polynomials.{Polynomial}
+use Rattle.algebra_core.specs.NormalForm.{IsNormalForm}
+use Rattle.algebra_core.specs.AlgebraLines.{Line, Sum, Product, Combination, Import, Delete, Part}
 use Rattle.frontier_core.specs.Pending.{IsNotZero}
 
 -- A combination has no line twice and none times 0, and each of its polynomials is a normal form.

@@ -4,8 +4,8 @@ use Rattle.std.specs.List.{All}
 use Rattle.std.specs.declared.option.Option.{Option}
 use Rattle.std.specs.declared.option.Option.TheVariants.{None, Some}
 use Rattle.graph_core.specs.Graph.Operands.{Sides}
-use Rattle.graph_core.specs.Graph.Extended.{Extended}
-use Rattle.graph_core.specs.Algebra.{Line, Combination, Ledger, Premises, AreLawfulLines, Closes, after, after_all, axioms, modulus}
+use Rattle.graph_core.specs.Graph.Extended.{Extended, modulus}
+use Rattle.algebra_core.specs.AlgebraLines.{Line, Combination, Ledger, Premises, AreLawfulLines, Closes, after, after_all, axioms}
 use Rattle.poly_terms.specs.Tables.{Table, Sum, IsOf, Extends, monomials_in}
 use Rattle.poly_terms.specs.Tables as table
 use Rattle.poly_text.specs.declared.line.PacLine.{PacLine}

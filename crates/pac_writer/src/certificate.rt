@@ -2,7 +2,7 @@
 ghost use Rattle.std.specs.Prelude.{◌≡◌, true, All, IsSome};
 ghost use Rattle.mv_desk.specs.Calls.{Writes};
 ghost use Rattle.mv_desk.specs.declared.slot.Slot.TheVariants.{Algebra};
-ghost use Rattle.graph_core.specs.Algebra.Text.{IsId};
+ghost use Rattle.algebra_core.specs.Text.{IsId};
 ghost use Rattle.poly_terms.specs.Tables.{modulus_in};
 ghost use Rattle.poly_text.specs.Lines.{AreOf, line_in};
 ghost use Rattle.poly_text.specs.Recorded.{lines_in};

@@ -1,11 +1,12 @@
 // The lines of a certificate, each lawful as it is put.
-ghost use Rattle.std.specs.Prelude.{◌≡◌, ◌+◌, ◌<◌, ◌≤◌, ◌^◌, [], All, None, IfOk, OnOk, OnErr, IsSomeAnd, length};
-ghost use Rattle.graph_core.specs.Algebra.{Closes, Delete, IsCombined, IsLive, axioms};
-ghost use Rattle.graph_core.specs.Algebra as algebra;
+ghost use Rattle.std.specs.Prelude.{◌≡◌, ◌+◌, ◌<◌, ◌≤◌, ◌^◌, [], All, None, IfOk, OnOk, OnErr, IsSome, IsSomeAnd, length};
+ghost use Rattle.algebra_core.specs.AlgebraLines.{Closes, Delete, IsCombined, IsLive, axioms};
+ghost use Rattle.graph_core.specs.Graph.Extended as graphs;
 ghost use Rattle.frontier_core.specs.Pending.{AreSpare};
 ghost use Rattle.mv_nums.specs.Residue.{IsWidth};
 ghost use Rattle.poly_terms.specs.Tables.{modulus_in, monomials_in};
 ghost use Rattle.poly_text.specs.Lines.{line_in, parts_in};
+ghost use Rattle.pac_writer.specs.Certificates.{ArePartsOf};
 ghost use Rattle.pac_writer.specs.Writing.{AreLawfulSoFar, ArePartsOver, GrowsWrittenTable, IsFresh, PutsLine, closed, combination_of, written_ledger};
 ghost use Rattle.pac_writer.specs.Kept.{CanFollowLines, IsKeptLine};
 
@@ -21,8 +22,8 @@ use std::marker::Model;
 /// own for the polynomials.
 #[derive(Drop)]
 pub struct Lines<'a> {
-    pub(crate) extended: &'a Extended<'a>,
-    pub(crate) operands: &'a Operands,
+    extended: &'a Extended<'a>,
+    operands: &'a Operands,
     pub(crate) terms: Terms,
     pub(crate) lines: Vec<PacLine>,
     /// the greatest id in use so far, also of lines that were deleted
@@ -67,9 +68,9 @@ impl<'a> Lines<'a> {
         requires unclosed { self.old.closing ≡ None }
         requires room { self.old.last + 1 < 2 ^ 48 }
         requires over { ArePartsOver self.old.extended.max self.old.table parts.items poly }
-        requires spare { AreSpare (algebra.modulus self.old.extended) (written_ledger self.old).live
+        requires spare { AreSpare (graphs.modulus self.old.extended) (written_ledger self.old).live
             (parts_in self.old.table parts.items) }
-        requires equal { IsCombined (algebra.modulus self.old.extended) (written_ledger self.old).live
+        requires equal { IsCombined (graphs.modulus self.old.extended) (written_ledger self.old).live
             (parts_in self.old.table parts.items) (monomials_in self.old.table poly) }
         ensures id { IfOk result (λ id. id ≡ self.old.last + 1) }
         ensures writes { IfOk result
@@ -120,6 +121,17 @@ impl<'a> Lines<'a> {
         self.closing = Some(id);
     }
 
+    /// The table, the lines and the id that closes them, as `write_certificate` takes them.
+    pub fn into_parts(self) -> (Terms, Vec<PacLine>, u64)
+        requires { IsSome self.closing }
+        ensures { ArePartsOf self.entry result.0 result.1.items result.2 }
+    {
+        match self.closing {
+            Some(id) => (self.terms, self.lines, id),
+            None => unreachable!(),
+        }
+    }
+
     /// Lends the table to a work. All lines keep their meaning.
     pub fn grow<G: Grow<Poly>>(&mut self, work: &mut G, on: &mut G::On) -> G::Out
         requires { G.can_grow work.old on.old self.old.table }
@@ -140,7 +152,7 @@ impl<'a> Lines<'a> {
     /// The table of the lines' polynomials.
     pub fn terms(&self) -> &Terms
         ensures table { result.now ≡ self.now.table }
-        ensures modulus { modulus_in self.now.table ≡ algebra.modulus self.now.extended }
+        ensures modulus { modulus_in self.now.table ≡ graphs.modulus self.now.extended }
     {
         &self.terms
     }

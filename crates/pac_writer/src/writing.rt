@@ -2,8 +2,8 @@
 ghost use Rattle.std.specs.Prelude.{◌≡◌, true, All, IsSome};
 ghost use Rattle.mv_desk.specs.Calls.{Writes};
 ghost use Rattle.mv_desk.specs.declared.slot.Slot.TheVariants.{Algebra};
-ghost use Rattle.graph_core.specs.Algebra.{modulus};
-ghost use Rattle.graph_core.specs.Algebra.Text.{IsLawfulAlgebraFile};
+ghost use Rattle.graph_core.specs.Graph.Extended.{modulus};
+ghost use Rattle.algebra_core.specs.Text.{IsLawfulAlgebraFile};
 ghost use Rattle.pac_writer.specs.Spare.{IsSpareLine};
 ghost use Rattle.pac_writer.specs.Certificates.{certificate_text};
 ghost use Rattle.pac_writer.specs.Writing.{without_imports};

@@ -9,13 +9,13 @@ use Rattle.clause_core.specs.Clause.{Clause}
 use Rattle.clause_core.specs.GateClauses.{gate_clauses}
 use Rattle.gate_axioms.specs.ClauseValues.{clause_value}
 use Rattle.poly_text.specs.declared.line.PacLine.{PacLine}
-use Rattle.trim_core.specs.KeptClauses.{AreBelow}
-use Rattle.trim_core.proofs.Chains.{as_many}
-use Rattle.joint_checker.specs.ClauseFiles.{importable}
+use Rattle.clause_core.specs.KeptClauses.{AreBelow}
+use Rattle.clause_core.proofs.CallerLemmas.{as_many}
+use Rattle.pair_core.specs.ClauseFiles.{importable}
 use Rattle.joint_checker.specs.Judged.{IsJudgedPair, extended_of, premises_for}
 use Rattle.joint_checker.specs.declared.checking.Judged.{Judged}
-use Rattle.trim_keeper.specs.Lines.{AreLinesKept, imports_in}
-use Rattle.trim_keeper.proofs.CallerLemmas.{kept_imports_are_there}
+use Rattle.pair_trim.specs.Lines.{AreLinesKept, imports_in}
+use Rattle.pair_trim.proofs.Renumbering.{kept_imports_are_there}
 
 few_imports : (f : Clause → Assignment → ℕ) (version : ℕ) (cs : List Clause) → length (map f (importable version cs)) ≤ length cs
 few_imports f version cs = go (version == 2)

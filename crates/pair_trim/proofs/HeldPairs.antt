@@ -3,8 +3,8 @@ use Rattle.std.proofs.Common.{◌≡◌, ◌≢◌, ℕ, List, [], Some, None, r
 use Rattle.std.specs.Prelude.{IfSome, IsSome, option_map, unwrap_or}
 use Rattle.std.specs.declared.option.Option.{Option}
 use Rattle.aiger_reader.specs.Refusals.{SpellsWithin}
-use Rattle.graph_core.specs.Algebra.{Line}
-use Rattle.graph_core.specs.Algebra.Text.{IsAlgebraText}
+use Rattle.algebra_core.specs.AlgebraLines.{Line}
+use Rattle.algebra_core.specs.Text.{IsAlgebraText}
 use Rattle.graph_core.specs.Graph.Operands.{profile_of}
 use Rattle.clause_core.specs.ClauseLines.{ClauseLine}
 use Rattle.drup_text.specs.Headers.{IsAnyClauseFile}
@@ -13,12 +13,10 @@ use Rattle.mv_desk.specs.View.{View, IsHeld, bytes_under, IsTold}
 use Rattle.mv_desk.specs.declared.slot.Slot.TheVariants as slot
 use Rattle.mv_text.specs.LineReading.{lengths_of}
 use Rattle.command_core.specs.Written.{WritesPair}
-use Rattle.command_core.proofs.CallerLemmas.{file_is_held, other_names, others_are_held, same_told, told_file}
+use Rattle.command_core.proofs.CallerLemmas.{same_told, told_file}
+use Rattle.pair_core.proofs.CallerLemmas.{algebra_is_held, clauses_are_held, others_stay_held}
 use Rattle.pair_trim.specs.NewPairs.{IsTrimOf}
 use Rattle.pair_trim.specs.Trimming.{LeavesOld, ReadsOld, TrimmedFiles, TrimmedPairsAreHeld, new_files}
-
-algebra_no_clauses : slot.Algebra ≢ slot.Clauses
-algebra_no_clauses e = cc
 
 -- ---- no certificate is empty
 
@@ -48,30 +46,21 @@ module _ (files : TrimmedFiles) (clauses text : List ℕ) (a r c : View) (told :
   clause_slot : IsSome (r.name slot.Clauses)
   clause_slot = reads.clauses_named old (told.names slot.Clauses)
 
-  algebra_slot : IsSome (w.between.name slot.Algebra)
-  algebra_slot = same_told (r.name slot.Algebra) (w.between.name slot.Algebra) (other_names slot.Clauses files.to_clauses clauses r w.between w.clause_file clause_slot slot.Algebra algebra_no_clauses)
-      (reads.algebra_named other (told.names slot.Algebra))
+  algebra_slot : IsSome (r.name slot.Algebra)
+  algebra_slot = reads.algebra_named other (told.names slot.Algebra)
 
   held_in_r : (name : List ℕ) → IsSome (r.held name)
   held_in_r name = same_told (a.held name) (r.held name) (reads.inspects.held name) (told.held name)
 
-  between_held : (name : List ℕ) → files.to_clauses ≢ name → w.between.held name ≡ a.held name
-  between_held name other_name = others_are_held slot.Clauses files.to_clauses clauses r w.between w.clause_file clause_slot name other_name ∙ reads.inspects.held name
-
-  end_held : (name : List ℕ) → files.to_algebra ≢ name → c.held name ≡ w.between.held name
-  end_held name other_name = others_are_held slot.Algebra files.to_algebra text w.between c w.algebra_file algebra_slot name other_name
-
   pub stays_held : (name : List ℕ) → files.to_clauses ≢ name → files.to_algebra ≢ name → bytes_under c name ≡ bytes_under a name
-  stays_held name one two = ap (option_map (λ b. unwrap_or b [])) (end_held name two ∙ between_held name one)
+  stays_held name one two = others_stay_held (new_files files) clauses text r c w apart.apart clause_slot algebra_slot held_in_r name one two ∙
+      ap (option_map (λ b. unwrap_or b [])) (reads.inspects.held name)
 
-  pub clauses_are_held : bytes_under c files.to_clauses ≡ Some clauses
-  clauses_are_held = ap (option_map (λ b. unwrap_or b []))
-      (end_held files.to_clauses (λ same. apart.apart (sym same)) ∙ file_is_held slot.Clauses files.to_clauses clauses r w.between w.clause_file clause_slot (held_in_r files.to_clauses))
+  pub new_clauses_are_held : bytes_under c files.to_clauses ≡ Some clauses
+  new_clauses_are_held = clauses_are_held (new_files files) clauses text r c w apart.apart clause_slot algebra_slot held_in_r
 
-  pub algebra_is_held : bytes_under c files.to_algebra ≡ Some text
-  algebra_is_held = ap (option_map (λ b. unwrap_or b []))
-      (file_is_held slot.Algebra files.to_algebra text w.between c w.algebra_file algebra_slot
-      (same_told (a.held files.to_algebra) (w.between.held files.to_algebra) (between_held files.to_algebra apart.apart) (told.held files.to_algebra)))
+  pub new_algebra_is_held : bytes_under c files.to_algebra ≡ Some text
+  new_algebra_is_held = algebra_is_held (new_files files) clauses text r c w apart.apart clause_slot algebra_slot held_in_r
 
 pub trimmed_pairs_are_held : TrimmedPairsAreHeld
 trimmed_pairs_are_held limits claim files a c t told apart h =
@@ -86,8 +75,8 @@ trimmed_pairs_are_held limits claim files a c t told apart h =
     let first : IfSome (bytes_under a files.algebra) (λ other. IsTrimOf (lengths_of limits) g claim one.0 other t clauses algebra) =
     subst (λ o. IfSome o (λ old. IfSome (bytes_under a files.algebra) (λ other. IsTrimOf (lengths_of limits) g claim old other t clauses algebra))) one.1 both in
     let trims : IsTrimOf (lengths_of limits) g claim one.0 two.0 t clauses algebra = subst (λ o. IfSome o (λ other. IsTrimOf (lengths_of limits) g claim one.0 other t clauses algebra)) two.1 first in
-    let old = held_of a files.clauses one.0 one.1 (λ none. no_clause_file (length g.outputs) t.header trims.clause_lines (subst (λ (b : List ℕ). IsAnyClauseFile (length g.outputs) b t.header trims.clause_lines) none trims.clause_file.text)) in
-    let other = held_of a files.algebra two.0 two.1 (λ none. no_algebra_file t.header.version trims.algebra_file.lines t.closing (subst (λ (b : List ℕ). IsAlgebraText t.header.version b trims.algebra_file.lines t.closing) none trims.algebra_file.text)) in
+    let old = held_of a files.clauses one.0 one.1 (λ none. no_clause_file (length g.outputs) t.pair.header trims.clause_lines (subst (λ (b : List ℕ). IsAnyClauseFile (length g.outputs) b t.pair.header trims.clause_lines) none trims.clause_file.text)) in
+    let other = held_of a files.algebra two.0 two.1 (λ none. no_algebra_file t.pair.header.version trims.algebra_file.lines t.pair.closing (subst (λ (b : List ℕ). IsAlgebraText t.pair.header.version b trims.algebra_file.lines t.pair.closing) none trims.algebra_file.text)) in
     record {
       graph_file = graph.0;
       old_clauses = one.0;
@@ -97,8 +86,8 @@ trimmed_pairs_are_held limits claim files a c t told apart h =
       graph_held = stays_held files clauses algebra a state.0 c told apart state.1 old other state.2 files.graph apart.clauses_graph apart.algebra_graph ∙ graph.1;
       clauses_held = stays_held files clauses algebra a state.0 c told apart state.1 old other state.2 files.clauses apart.clauses_clauses apart.algebra_clauses ∙ one.1;
       algebra_held = stays_held files clauses algebra a state.0 c told apart state.1 old other state.2 files.algebra apart.clauses_algebra apart.algebra_algebra ∙ two.1;
-      to_clauses_held = clauses_are_held files clauses algebra a state.0 c told apart state.1 old other state.2;
-      to_algebra_held = algebra_is_held files clauses algebra a state.0 c told apart state.1 old other state.2;
+      to_clauses_held = new_clauses_are_held files clauses algebra a state.0 c told apart state.1 old other state.2;
+      to_algebra_held = new_algebra_is_held files clauses algebra a state.0 c told apart state.1 old other state.2;
       graph = g;
       spells = subst (λ o. IfSome o (λ b. SpellsWithin (profile_of claim.add) limits.graph b g)) graph.1 h.1.1;
       does = h.1.2.0;

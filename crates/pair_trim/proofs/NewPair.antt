@@ -5,8 +5,8 @@ use Rattle.std.specs.declared.option.Option.{Option}
 use Rattle.std.specs.declared.option.Option.TheVariants.{None, Some}
 use Rattle.std.specs.List.{All}
 use Rattle.std.proofs.lemmas.List.Elements.{All-weaker}
-use Rattle.graph_core.specs.Algebra.{AreLawful, Premises}
-use Rattle.graph_core.specs.Algebra.Text.{IsId, IsLawfulAlgebraFile}
+use Rattle.algebra_core.specs.AlgebraLines.{AreLawful, Premises}
+use Rattle.algebra_core.specs.Text.{IsId, IsLawfulAlgebraFile}
 use Rattle.graph_core.specs.Graph.{Aig}
 use Rattle.graph_core.specs.Graph.Extended.{Extended}
 use Rattle.graph_core.specs.Graph.Operands.{sides_for}
@@ -36,17 +36,21 @@ use Rattle.poly_text.specs.Lines.{AreOf, line_in}
 use Rattle.poly_text.specs.Recorded.{HasNewId, id_in, lines_in}
 use Rattle.poly_text.specs.WrittenLines.{IsWritable}
 use Rattle.poly_text.specs.declared.line.PacLine.{PacLine}
-use Rattle.joint_checker.specs.Certificates.{IsLawfulPair, IsPair}
-use Rattle.joint_checker.specs.ClauseFiles.{AddsClauses, importable, premises}
+use Rattle.pair_core.specs.Certificates.{IsLawfulPair, IsPair}
+use Rattle.pair_core.specs.ClauseFiles.{AddsClauses, importable, premises}
 use Rattle.joint_checker.specs.Judged.{IsJudgedPair, extended_of, premises_for}
 use Rattle.joint_checker.specs.declared.checking.Judged.{Judged}
-use Rattle.joint_checker.proofs.CallerLemmas.{blocks_fit, extended_graph, outputs_of, same_self}
-use Rattle.trim_keeper.specs.Lines.{AreLinesKept, AreLinesUsed, all_renumbered, imports_in}
-use Rattle.trim_keeper.specs.Marking.{unmet}
-use Rattle.trim_keeper.specs.Trimmed.{AreClausesTrimmed, AreWritable, ImportThese}
-use Rattle.trim_keeper.proofs.CallerLemmas.{kept_clauses_are_trimmed, kept_lines_are_writable, kept_pair_is_lawful, renumbered_lines_serve}
-use Rattle.pair_trim.specs.Choosing.{CanBeWritten, IsChosen}
-use Rattle.pair_trim.specs.NewPairs.{AreClausesKept, AreLinesTrimmed, algebra_text, clauses_text}
+use Rattle.joint_checker.proofs.CallerLemmas.{blocks_fit, extended_graph, outputs_of}
+use Rattle.pair_core.proofs.CallerLemmas.{same_self}
+use Rattle.pair_trim.specs.Lines.{AreLinesKept, AreLinesUsed, all_renumbered, imports_in}
+use Rattle.pair_trim.specs.Marking.{unmet}
+use Rattle.pair_trim.specs.Trimmed.{AreClausesTrimmed, AreWritable, ImportThese}
+use Rattle.pair_trim.proofs.Renumbering.{kept_lines_are_writable, kept_pair_is_lawful}
+use Rattle.pair_trim.proofs.TrimmedClauses.{kept_clauses_are_trimmed}
+use Rattle.pair_trim.proofs.UsedLines.{renumbered_lines_serve}
+use Rattle.pair_core.specs.Texts.{CanBeWritten, algebra_text, clauses_text}
+use Rattle.pair_trim.specs.Choosing.{IsChosen}
+use Rattle.pair_trim.specs.NewPairs.{AreClausesKept, AreLinesTrimmed}
 use Rattle.pair_trim.specs.declared.answer.Trimmed.{Trimmed}
 use Rattle.pair_trim.proofs.Parts.{all_added, all_chosen, all_in_range, all_lines, both_all, goals_shown, goes_on, has_id, same_in_range}
 
@@ -93,14 +97,14 @@ module _ (claim : Claim) (j : Judged) (t : Trimmed) (judged : IsJudgedPair claim
 
   -- ---- clauses
 
-  same_imports : imports_in t.algebra.items ≡ map (slice_index chosen.ranks) (imports_in chosen.kept)
+  same_imports : imports_in t.pair.algebra.items ≡ map (slice_index chosen.ranks) (imports_in chosen.kept)
   same_imports = ap imports_in chosen.renumbered ∙ renumbered_lines_serve.imports (slice_index chosen.ranks) chosen.kept
 
-  pub trimmed : AreClausesTrimmed (gate_clauses e.gates) (unmet chosen.goals) (imports_in t.algebra.items) j.recorded.added t.clauses.items t.uses.items
-  trimmed = subst (λ (more : List ℕ). AreClausesTrimmed (gate_clauses e.gates) (unmet chosen.goals) more j.recorded.added t.clauses.items t.uses.items) (sym same_imports)
-      (kept_clauses_are_trimmed (gate_clauses e.gates) chosen.goals (imports_in chosen.kept) j.recorded.added j.recorded.uses.items t.clauses.items t.uses.items chosen.ranks chosen.clauses_kept judged.clauses.chains)
+  pub trimmed : AreClausesTrimmed (gate_clauses e.gates) (unmet chosen.goals) (imports_in t.pair.algebra.items) j.recorded.added t.pair.clauses.items t.uses.items
+  trimmed = subst (λ (more : List ℕ). AreClausesTrimmed (gate_clauses e.gates) (unmet chosen.goals) more j.recorded.added t.pair.clauses.items t.uses.items) (sym same_imports)
+      (kept_clauses_are_trimmed (gate_clauses e.gates) chosen.goals (imports_in chosen.kept) j.recorded.added j.recorded.uses.items t.pair.clauses.items t.uses.items chosen.ranks chosen.clauses_kept judged.clauses.chains)
 
-  pub clauses_kept : AreClausesKept (extended_with j.graph t.header) j.recorded.added t
+  pub clauses_kept : AreClausesKept (extended_with j.graph t.pair.header) j.recorded.added t
   clauses_kept = subst (λ (h : Header). AreClausesKept (extended_with j.graph h) j.recorded.added t) (sym chosen.header)
       (record { goals = chosen.goals; goals_are = chosen.goals_are; trimmed = trimmed })
 
@@ -115,19 +119,19 @@ module _ (claim : Claim) (j : Judged) (t : Trimmed) (judged : IsJudgedPair claim
     ranks = chosen.ranks;
     numbers = chosen.clauses_kept;
     renumbered = chosen.renumbered;
-    used = subst (λ (ls : List PacLine). AreLinesUsed ls t.closing) (sym chosen.renumbered)
+    used = subst (λ (ls : List PacLine). AreLinesUsed ls t.pair.closing) (sym chosen.renumbered)
         (subst (AreLinesUsed new) (sym chosen.closing) (renumbered_lines_serve.used old chosen.kept j.closed.id (slice_index chosen.ranks) chosen.lines_kept));
   }
 
   abbrev new_premises : Premises
-  new_premises = premises j.header.version e (importable j.header.version (added t.clauses.items))
+  new_premises = premises j.header.version e (importable j.header.version (added t.pair.clauses.items))
 
   lawful : AreLawful new_premises (sides_for claim j.graph) (lines_in terms new) j.closed.id
-  lawful = kept_pair_is_lawful (premises_for j) new_premises (sides_for claim j.graph) terms old chosen.kept j.closed.id clause_value chosen.goals j.recorded.added j.recorded.uses.items t.clauses.items t.uses.items chosen.ranks
-      chosen.lines_kept judged.lines.rising ids judged.lines.lawful chosen.clauses_kept refl (imports_these j.header.version e j.recorded.added t.clauses.items)
+  lawful = kept_pair_is_lawful (premises_for j) new_premises (sides_for claim j.graph) terms old chosen.kept j.closed.id clause_value chosen.goals j.recorded.added j.recorded.uses.items t.pair.clauses.items t.uses.items chosen.ranks
+      chosen.lines_kept judged.lines.rising ids judged.lines.lawful chosen.clauses_kept refl (imports_these j.header.version e j.recorded.added t.pair.clauses.items)
 
   writable : AreWritable terms e.max new
-  writable = kept_lines_are_writable terms e.max old chosen.kept j.closed.id chosen.goals j.recorded.added j.recorded.uses.items t.clauses.items t.uses.items chosen.ranks chosen.lines_kept chosen.clauses_kept
+  writable = kept_lines_are_writable terms e.max old chosen.kept j.closed.id chosen.goals j.recorded.added j.recorded.uses.items t.pair.clauses.items t.uses.items chosen.ranks chosen.lines_kept chosen.clauses_kept
       (record {
         introduce = ids;
         of = judged.lines.of_table;
@@ -141,7 +145,7 @@ module _ (claim : Claim) (j : Judged) (t : Trimmed) (judged : IsJudgedPair claim
   readable : AreReadable e.max terms new
   readable = record { go_on = go_on; of = writable.of; writable = writable.writable; in_range = writable.in_range }
 
-  pub can_be_written : CanBeWritten t
+  pub can_be_written : CanBeWritten t.pair
   can_be_written = record {
     one = subst (λ (h : Header). (h.version ≡ 2) ⊎ (length h.blocks ≤ 1)) (sym chosen.header) (has_one j.graph j.header judged.takes);
     go_on = over (λ s ls. All (λ x. IsSome (line_in s x)) ls) go_on;
@@ -150,47 +154,47 @@ module _ (claim : Claim) (j : Judged) (t : Trimmed) (judged : IsJudgedPair claim
     closing = subst IsId (sym chosen.closing) judged.lines.closing;
   }
     where
-      over : (P : Table → List PacLine → Type 0) → P terms new → P t.terms t.algebra.items
-      over P h = subst (λ (ls : List PacLine). P t.terms ls) (sym chosen.renumbered) (subst (λ (s : Table). P s new) (sym chosen.terms) h)
+      over : (P : Table → List PacLine → Type 0) → P terms new → P t.pair.terms t.pair.algebra.items
+      over P h = subst (λ (ls : List PacLine). P t.pair.terms ls) (sym chosen.renumbered) (subst (λ (s : Table). P s new) (sym chosen.terms) h)
 
-  algebra_is : algebra_text t ≡ written_certificate j.header.version (tables.modulus_in terms) (lines_in terms new) j.closed.id
+  algebra_is : algebra_text t.pair ≡ written_certificate j.header.version (tables.modulus_in terms) (lines_in terms new) j.closed.id
   algebra_is =
-      ap (λ (h : Header). written_certificate h.version (tables.modulus_in t.terms) (lines_in t.terms t.algebra.items) t.closing) chosen.header ∙
-      ap (λ (s : Table). written_certificate j.header.version (tables.modulus_in s) (lines_in s t.algebra.items) t.closing) chosen.terms ∙
-      ap (λ (ls : List PacLine). written_certificate j.header.version (tables.modulus_in terms) (lines_in terms ls) t.closing) chosen.renumbered ∙
+      ap (λ (h : Header). written_certificate h.version (tables.modulus_in t.pair.terms) (lines_in t.pair.terms t.pair.algebra.items) t.pair.closing) chosen.header ∙
+      ap (λ (s : Table). written_certificate j.header.version (tables.modulus_in s) (lines_in s t.pair.algebra.items) t.pair.closing) chosen.terms ∙
+      ap (λ (ls : List PacLine). written_certificate j.header.version (tables.modulus_in terms) (lines_in terms ls) t.pair.closing) chosen.renumbered ∙
       ap (written_certificate j.header.version (tables.modulus_in terms) (lines_in terms new)) chosen.closing
 
-  algebra_file : IsLawfulAlgebraFile new_premises (sides_for claim j.graph) (algebra_text t)
+  algebra_file : IsLawfulAlgebraFile new_premises (sides_for claim j.graph) (algebra_text t.pair)
   algebra_file =
       let outputs = subst (λ (g : Aig). IsWidth (length g.outputs)) (sym same_graph) (outputs_of claim.add j.graph judged.sized) in
       subst (IsLawfulAlgebraFile new_premises (sides_for claim j.graph)) (sym algebra_is)
       (written_certificates_are_lawful new_premises (sides_for claim j.graph) terms new j.closed.id outputs (let low = small in omega arith) judged.lines.modulus_is
-      (version_or_none j.graph j.header (added t.clauses.items) judged.takes) readable judged.lines.closing lawful).file
+      (version_or_none j.graph j.header (added t.pair.clauses.items) judged.takes) readable judged.lines.closing lawful).file
 
   -- ---- the pair, where the clause file is told
 
   module _ (lengths : Lengths) (bytes : List ℕ) (told : AddsClauses lengths j.graph bytes j.header j.recorded.added j.of_clauses) where
-    in_range : All (λ x. IsClauseInRange e.max (clause_in x)) t.clauses.items
+    in_range : All (λ x. IsClauseInRange e.max (clause_in x)) t.pair.clauses.items
     in_range =
         let all = all_added (IsClauseInRange e.max) told.lines told.lawful.in_range in
         let kept = all_chosen (IsClauseInRange e.max) trimmed.marks j.recorded.added (same_in_range e.max j.recorded.added (added told.lines) told.same all) in
         subst (λ (ls : List ClauseLine). All (λ x. IsClauseInRange e.max (clause_in x)) ls) (sym trimmed.only_added)
-        (all_lines (IsClauseInRange e.max) (added t.clauses.items) (subst (All (IsClauseInRange e.max)) (sym trimmed.some) kept))
+        (all_lines (IsClauseInRange e.max) (added t.pair.clauses.items) (subst (All (IsClauseInRange e.max)) (sym trimmed.some) kept))
 
-    pub pair : IsPair j.graph claim (clauses_text t) (algebra_text t)
-    pair = λ limits clauses_within algebra_within. subst (λ (h : Header). IsLawfulPair limits j.graph claim (any_file_text h t.clauses.items) (algebra_text t)) (sym chosen.header) (record {
+    pub pair : IsPair j.graph claim (clauses_text t.pair) (algebra_text t.pair)
+    pair = λ limits clauses_within algebra_within. subst (λ (h : Header). IsLawfulPair limits j.graph claim (any_file_text h t.pair.clauses.items) (algebra_text t.pair)) (sym chosen.header) (record {
       premises = new_premises;
       gives = record {
         header = j.header;
-        lines = t.clauses.items;
+        lines = t.pair.clauses.items;
         lawful = record {
-          text = written_files_are_read j.graph j.header t.clauses.items judged.built judged.takes (lines_are_writable e.max t.clauses.items small in_range);
+          text = written_files_are_read j.graph j.header t.pair.clauses.items judged.built judged.takes (lines_are_writable e.max t.pair.clauses.items small in_range);
           takes = judged.takes;
           in_range = in_range;
           lawful = trimmed.lawful;
-          within = subst (λ (h : Header). IsWithin limits (any_file_text h t.clauses.items)) chosen.header clauses_within;
+          within = subst (λ (h : Header). IsWithin limits (any_file_text h t.pair.clauses.items)) chosen.header clauses_within;
         };
-        shown = goals_shown e chosen.goals j.recorded.added told.lines t.clauses.items chosen.goals_are told.same trimmed.shown told.shown;
+        shown = goals_shown e chosen.goals j.recorded.added told.lines t.pair.clauses.items chosen.goals_are told.same trimmed.shown told.shown;
         same = same_self new_premises;
       };
       lawful = (algebra_file, algebra_within);

@@ -12,8 +12,8 @@ use Rattle.clause_core.specs.GateClauses.{goals_of}
 use Rattle.clause_core.specs.Likeness.{AreSameSets}
 use Rattle.clause_core.specs.declared.line.Line.TheVariants as line
 use Rattle.clause_core.proofs.CallerLemmas.{any_cases, any_here, any_nil, any_there}
-use Rattle.graph_core.specs.Algebra.Text.{IsLineInRange}
-use Rattle.graph_core.specs.Algebra as algebra
+use Rattle.algebra_core.specs.Text.{IsLineInRange}
+use Rattle.algebra_core.specs.AlgebraLines as algebra
 use Rattle.graph_core.specs.Graph.Extended.{Extended}
 use Rattle.miter_encoder.specs.ColumnGoals.{AreGoalsOf, IsGoalOf}
 use Rattle.miter_encoder.specs.declared.goal.Goal.{Goal}
@@ -24,8 +24,8 @@ use Rattle.poly_text.specs.Recorded.{HasNewId, id_in, lines_in}
 use Rattle.poly_text.specs.WrittenLines.{IsWritable}
 use Rattle.poly_text.specs.declared.line.PacLine.{PacLine}
 use Rattle.poly_text.specs.declared.line.PacLine.TheVariants as pac
-use Rattle.trim_core.specs.KeptClauses.{added_lines, chosen}
-use Rattle.trim_keeper.specs.Marking.{IsShownIn, unmet}
+use Rattle.clause_core.specs.KeptClauses.{added_lines, chosen}
+use Rattle.pair_trim.specs.Marking.{IsShownIn, unmet}
 
 true_false : true ≡ false → ⊥
 true_false e = cc

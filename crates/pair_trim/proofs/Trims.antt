@@ -5,7 +5,7 @@ use Rattle.graph_core.specs.declared.profile.Profile.{Profile}
 use Rattle.mv_desk.specs.View.{View}
 use Rattle.std.specs.Prelude.{IfSome, true}
 use Rattle.std.specs.declared.option.Option.{Option}
-use Rattle.graph_core.specs.Algebra.{modulus}
+use Rattle.graph_core.specs.Graph.Extended.{modulus}
 use Rattle.graph_core.specs.declared.claim.Claim.{Claim}
 use Rattle.drup_text.specs.Headers.{extended_with}
 use Rattle.drup_text.specs.declared.head.Header.{Header}
@@ -13,7 +13,7 @@ use Rattle.mv_desk.specs.declared.limits.Limits.{Limits}
 use Rattle.mv_text.specs.LineReading.{lengths_of}
 use Rattle.poly_terms.specs.Tables.{Table}
 use Rattle.poly_text.specs.Recorded.{lines_in}
-use Rattle.joint_checker.specs.ClauseFiles.{AddsClauses, HasLawfulLines}
+use Rattle.pair_core.specs.ClauseFiles.{AddsClauses, HasLawfulLines}
 use Rattle.command_core.specs.Files.{Texts}
 use Rattle.joint_checker.specs.Outcome.{OpensNeeded}
 use Rattle.joint_checker.specs.declared.checked.Checked.TheVariants as checked
@@ -21,7 +21,8 @@ use Rattle.joint_checker.specs.Judged.{IsJudgedPair, IsToldPair, extended_of}
 use Rattle.joint_checker.specs.Records.{IsRecordOf}
 use Rattle.joint_checker.specs.declared.checking.Judged.{Judged}
 use Rattle.pair_trim.specs.Choosing.{HasChosen, IsChosen}
-use Rattle.pair_trim.specs.NewPairs.{IsTrimOf, algebra_text, clauses_text}
+use Rattle.pair_core.specs.Texts.{algebra_text, clauses_text}
+use Rattle.pair_trim.specs.NewPairs.{IsTrimOf}
 use Rattle.pair_trim.specs.Trimming.{IsNotAccepted, IsTrimAnswer, TrimmedFiles, checked_of}
 use Rattle.pair_trim.specs.declared.answer.TrimAnswer.{TrimAnswer}
 use Rattle.pair_trim.specs.declared.answer.TrimAnswer.TheVariants as trim
@@ -31,7 +32,7 @@ use Rattle.pair_trim.proofs.NewPair.{clauses_kept, lines_trimmed, pair}
 module _ (limits : Limits) (claim : Claim) (j : Judged) (t : Trimmed) (judged : IsJudgedPair claim j) (chosen : IsChosen j t) where
   trim_is : (clauses algebra : List ℕ) → AddsClauses (lengths_of limits) j.graph clauses j.header j.recorded.added j.of_clauses →
       IsRecordOf true j.header.version (modulus (extended_of j)) algebra (lines_in j.closed.record.terms j.closed.record.lines.items) j.closed.id j.closed.lines →
-      IsTrimOf (lengths_of limits) j.graph claim clauses algebra t (clauses_text t) (algebra_text t)
+      IsTrimOf (lengths_of limits) j.graph claim clauses algebra t (clauses_text t.pair) (algebra_text t.pair)
   trim_is clauses algebra adds recorded = record {
     clause_lines = adds.lines;
     clause_file = subst (λ (h : Header). HasLawfulLines (lengths_of limits) j.graph clauses h adds.lines) (sym chosen.header) adds.lawful;
@@ -47,10 +48,10 @@ module _ (limits : Limits) (claim : Claim) (j : Judged) (t : Trimmed) (judged : 
     pair = pair claim j t judged chosen (lengths_of limits) clauses adds;
   }
     where
-      record_is : IsRecordOf true t.header.version (modulus (extended_with j.graph t.header)) algebra (lines_in t.terms j.closed.record.lines.items) t.closing t.of_algebra
+      record_is : IsRecordOf true t.pair.header.version (modulus (extended_with j.graph t.pair.header)) algebra (lines_in t.pair.terms j.closed.record.lines.items) t.pair.closing t.of_algebra
       record_is =
-          subst (λ (h : Header). IsRecordOf true h.version (modulus (extended_with j.graph h)) algebra (lines_in t.terms j.closed.record.lines.items) t.closing t.of_algebra) (sym chosen.header)
-          (subst (λ (s : Table). IsRecordOf true j.header.version (modulus (extended_of j)) algebra (lines_in s j.closed.record.lines.items) t.closing t.of_algebra) (sym chosen.terms)
+          subst (λ (h : Header). IsRecordOf true h.version (modulus (extended_with j.graph h)) algebra (lines_in t.pair.terms j.closed.record.lines.items) t.pair.closing t.of_algebra) (sym chosen.header)
+          (subst (λ (s : Table). IsRecordOf true j.header.version (modulus (extended_of j)) algebra (lines_in s j.closed.record.lines.items) t.pair.closing t.of_algebra) (sym chosen.terms)
           (subst (λ (n : ℕ). IsRecordOf true j.header.version (modulus (extended_of j)) algebra (lines_in j.closed.record.terms j.closed.record.lines.items) n t.of_algebra) (sym chosen.closing)
           (subst (IsRecordOf true j.header.version (modulus (extended_of j)) algebra (lines_in j.closed.record.terms j.closed.record.lines.items) j.closed.id) (sym chosen.of_algebra) recorded)))
 
@@ -64,7 +65,7 @@ module _ (limits : Limits) (claim : Claim) (j : Judged) (t : Trimmed) (judged : 
   has_chosen texts told = (
     j.graph,
     told.graph,
-    (judged.does, both_told texts.clauses texts.algebra _ _ (λ clauses algebra. IsTrimOf (lengths_of limits) j.graph claim clauses algebra t (clauses_text t) (algebra_text t)) trim_is told.clauses told.algebra),
+    (judged.does, both_told texts.clauses texts.algebra _ _ (λ clauses algebra. IsTrimOf (lengths_of limits) j.graph claim clauses algebra t (clauses_text t.pair) (algebra_text t.pair)) trim_is told.clauses told.algebra),
   )
 
 -- ---- a pair that isn't accepted

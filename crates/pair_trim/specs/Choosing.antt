@@ -1,29 +1,26 @@
--- What is chosen of a pair that is accepted, and that it can be written. Private clauses alone cite this file.
-use Rattle.std.specs.Prelude.{◌≡◌, ◌⊎◌, ◌≤◌, ℕ, List, length, slice_index, IfSome, IsSome}
-use Rattle.std.specs.List.{All}
-use Rattle.graph_core.specs.Algebra.Text.{IsId}
+-- What is chosen of a pair that is accepted. Private clauses alone cite this file.
+use Rattle.std.specs.Prelude.{◌≡◌, ℕ, List, slice_index, IfSome}
 use Rattle.graph_core.specs.Graph.Operands.{Does, profile_of}
 use Rattle.graph_core.specs.declared.claim.Claim.{Claim}
 use Rattle.mv_desk.specs.declared.limits.Limits.{Limits}
 use Rattle.mv_text.specs.LineReading.{lengths_of}
 use Rattle.miter_encoder.specs.ColumnGoals.{AreGoalsOf}
 use Rattle.miter_encoder.specs.declared.goal.Goal.{Goal}
-use Rattle.poly_text.specs.Lines.{AreOf, line_in}
-use Rattle.poly_text.specs.WrittenLines.{IsWritable}
 use Rattle.poly_text.specs.declared.line.PacLine.{PacLine}
 use Rattle.command_core.specs.Files.{HasGraph, Texts}
 use Rattle.joint_checker.specs.Judged.{extended_of}
 use Rattle.joint_checker.specs.declared.checking.Judged.{Judged}
-use Rattle.trim_keeper.specs.Lines.{AreLinesKept, all_renumbered, imports_in}
-use Rattle.trim_keeper.specs.Marking.{IsKeptOf}
+use Rattle.pair_trim.specs.Lines.{AreLinesKept, all_renumbered, imports_in}
+use Rattle.pair_trim.specs.Marking.{IsKeptOf}
 use Rattle.pair_trim.specs.declared.answer.Trimmed.{Trimmed}
-use Rattle.pair_trim.specs.NewPairs.{IsTrimOf, algebra_text, clauses_text}
+use Rattle.pair_core.specs.Texts.{algebra_text, clauses_text}
+use Rattle.pair_trim.specs.NewPairs.{IsTrimOf}
 
 -- What is chosen: lines by the closing line, clauses by goals and by the imports of these lines, which name them by new numbers.
 pub record IsChosen (j : Judged) (t : Trimmed) : Type 0 where
-  pub header : t.header ≡ j.header
-  pub terms : t.terms ≡ j.closed.record.terms
-  pub closing : t.closing ≡ j.closed.id
+  pub header : t.pair.header ≡ j.header
+  pub terms : t.pair.terms ≡ j.closed.record.terms
+  pub closing : t.pair.closing ≡ j.closed.id
   pub of_clauses : t.of_clauses ≡ j.of_clauses
   pub of_algebra : t.of_algebra ≡ j.closed.lines
   pub goals : List Goal
@@ -31,19 +28,11 @@ pub record IsChosen (j : Judged) (t : Trimmed) : Type 0 where
   pub kept : List PacLine
   pub ranks : List ℕ
   pub lines_kept : AreLinesKept j.closed.record.lines.items j.closed.id kept
-  pub clauses_kept : IsKeptOf goals (imports_in kept) j.recorded.added j.recorded.uses.items t.clauses.items t.uses.items ranks
-  pub renumbered : t.algebra.items ≡ all_renumbered (slice_index ranks) kept
-
--- What writing asks: a header that can be written, lines of the table that can be, and a closing line.
-pub record CanBeWritten (t : Trimmed) : Type 0 where
-  pub one : (t.header.version ≡ 2) ⊎ (length t.header.blocks ≤ 1)
-  pub go_on : All (λ line. IsSome (line_in t.terms line)) t.algebra.items
-  pub of : All (AreOf t.terms) t.algebra.items
-  pub writable : All IsWritable t.algebra.items
-  pub closing : IsId t.closing
+  pub clauses_kept : IsKeptOf goals (imports_in kept) j.recorded.added j.recorded.uses.items t.pair.clauses.items t.uses.items ranks
+  pub renumbered : t.pair.algebra.items ≡ all_renumbered (slice_index ranks) kept
 
 -- The graph does what is claimed, and this is kept of the two certificates, where all three files are told.
 abbrev pub HasChosen : Limits → Claim → Texts → Trimmed → Type 0
 HasChosen limits claim texts t = HasGraph (profile_of claim.add) limits.graph texts.graph (λ g. Does claim g ×
     IfSome texts.clauses (λ clauses. IfSome texts.algebra (λ algebra.
-    IsTrimOf (lengths_of limits) g claim clauses algebra t (clauses_text t) (algebra_text t))))
+    IsTrimOf (lengths_of limits) g claim clauses algebra t (clauses_text t.pair) (algebra_text t.pair))))

@@ -1,27 +1,16 @@
 // What trimming ends with.
-use clause_core::Line;
 use command_core::Stop;
 use drup_checker::Numbers;
-use drup_text::Header;
 use joint_checker::Refusal;
-use poly_terms::Terms;
-use poly_text::PacLine;
+use pair_core::Pair;
 
 /// What is kept of a pair of certificates.
 #[derive(Drop)]
 pub struct Trimmed {
-    /// the header of the clause certificate
-    pub header: Header,
-    /// the lines of the clause certificate, each of which adds a clause
-    pub clauses: Vec<Line>,
+    /// the certificates: each line of the first adds a clause
+    pub pair: Pair,
     /// for each kept clause the kept ones, by number from 1, in a tight chain for it
     pub uses: Vec<Numbers>,
-    /// the lines of the algebra certificate before the closing one
-    pub algebra: Vec<PacLine>,
-    /// the table of their polynomials
-    pub terms: Terms,
-    /// the id that the closing line names
-    pub closing: u64,
     /// how many lines stood behind the header of the clause certificate
     pub of_clauses: u64,
     /// how many lines stood before the closing one

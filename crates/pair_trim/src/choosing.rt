@@ -7,12 +7,15 @@ ghost use Rattle.drup_text.specs.Headers.{IsHeaderOf, extended_with};
 ghost use Rattle.pair_trim.specs.Choosing.{IsChosen};
 
 use crate::answer::Trimmed;
+use crate::imports::{imported_numbers, renumber};
+use crate::keeping::keep;
+use crate::kept_lines::keep_lines;
 use drup_text::Header;
 use graph_core::{Claim, Graph, Memory};
 use joint_checker::{Judged, extend};
 use miter_encoder::{Goals, goals};
+use pair_core::Pair;
 use std::alloc::Global;
-use trim_keeper::{imported_numbers, keep, keep_lines, renumber};
 
 /// What is used: lines by the closing line, clauses by goals and by the imports of kept lines, which name them by new numbers.
 pub(crate) fn choose(alloc: Global, claim: Claim, judged: Judged) -> Result<Trimmed, Memory>
@@ -32,13 +35,16 @@ pub(crate) fn choose(alloc: Global, claim: Claim, judged: Judged) -> Result<Trim
         &judged.recorded.uses,
     )?;
     renumber(&mut lines, &kept.ranks);
-    Ok(Trimmed {
+    let pair = Pair {
         header: judged.header,
         clauses: kept.lines,
-        uses: kept.uses,
         algebra: lines,
         terms: record.terms,
         closing: closed.id,
+    };
+    Ok(Trimmed {
+        pair,
+        uses: kept.uses,
         of_clauses: judged.of_clauses,
         of_algebra: closed.lines,
     })

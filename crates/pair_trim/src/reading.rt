@@ -4,7 +4,8 @@ ghost use Rattle.graph_core.specs.Graph.Operands.{profile_of};
 ghost use Rattle.mv_desk.specs.View.{KeepsTelling};
 ghost use Rattle.command_core.specs.Files.{files_of, texts_of};
 ghost use Rattle.joint_checker.specs.Outcome.{IsOutcome, OpensFor, OpensNeeded, answer_of};
-ghost use Rattle.pair_trim.specs.Choosing.{CanBeWritten, HasChosen};
+ghost use Rattle.pair_core.specs.Texts.{CanBeWritten};
+ghost use Rattle.pair_trim.specs.Choosing.{HasChosen};
 ghost use Rattle.pair_trim.specs.Trimming.{ReadsOld};
 ghost use Rattle.pair_trim.specs.Trimming as trimming;
 
@@ -25,7 +26,7 @@ pub(crate) fn read_trimmed<D: Desk>(
     names: &Names<'_>,
 ) -> Result<Trimmed, Checked>
     ensures trims { IfOk result (HasChosen limits.now claim (texts_of (D.seen desk.old) (files_of names.now))) }
-    ensures writes { IfOk result CanBeWritten }
+    ensures writes { IfOk result (λ t. CanBeWritten t.pair) }
     ensures outcome { IsOutcome limits.now claim (files_of names.now)
         (D.seen desk.old) (D.seen desk.new) (answer_of result) }
     ensures not_accepted { IfErr result (λ answer. answer ≢ Checked.Accepted) }

@@ -6,11 +6,11 @@ ghost use Rattle.pair_trim.specs.Trimming.{IsTrimAnswer, checked_of, trimmed_fil
 
 use crate::answer::TrimAnswer;
 use crate::reading::read_trimmed;
-use crate::writing::write_pair;
 use command_core::{Names, Stop};
 use graph_core::Claim;
 use joint_checker::Checked;
 use mv_desk::{Desk, Limits};
+use pair_core::write_pair;
 use std::alloc::Global;
 
 /// Judges a pair of certificates for what is claimed of a graph, and writes what is used of it under the new names.
@@ -28,8 +28,13 @@ pub fn trim<D: Desk>(
     ensures later { (D.seen desk.old).write_faults ≤ (D.seen desk.new).write_faults }
     ensures tells { KeepsTelling (D.seen desk.old) (D.seen desk.new) }
 {
+    let to = Names {
+        clauses: names.to_clauses,
+        algebra: names.to_algebra,
+        ..*names
+    };
     match read_trimmed(alloc, desk, claim, limits, names) {
-        Ok(kept) => match write_pair(desk, &kept, names) {
+        Ok(kept) => match write_pair(desk, &kept.pair, &to) {
             Ok(()) => TrimAnswer::Trimmed(kept),
             Err(_) => TrimAnswer::Stopped(Stop::WriteFault),
         },

@@ -1,6 +1,6 @@
 use Rattle.std.proofs.Common.{[], ◌++◌, ◌∷◌}
 use Rattle.graph_core.specs.Text.{newline}
-use Rattle.graph_core.specs.Algebra.Text.{algebra_header}
+use Rattle.algebra_core.specs.Text.{algebra_header}
 use Rattle.poly_terms.specs.Tables.{modulus_in}
 use Rattle.poly_text.specs.Recorded.{lines_in}
 use Rattle.poly_text.specs.WrittenLines.{closing_text, written_lines}

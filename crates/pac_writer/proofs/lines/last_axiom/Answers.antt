@@ -1,7 +1,7 @@
 use Rattle.std.specs.Prelude.{◌≤◌, ◌<◌}
 use Rattle.std.specs.List.{All}
 use Rattle.std.proofs.Common.{◌≡◌, ◌+◌, length, subst}
-use Rattle.graph_core.specs.Algebra.{axioms}
+use Rattle.algebra_core.specs.AlgebraLines.{axioms}
 use Rattle.pac_writer.proofs.FirstLines.{axiom_ids}
 use Rattle.pac_writer.proofs.lines.last_axiom.Goals as goal
 

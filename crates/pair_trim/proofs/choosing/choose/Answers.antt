@@ -3,10 +3,10 @@ use Rattle.std.proofs.lemmas.List.{with_items_is}
 use Rattle.std.specs.Prelude.{slice_index}
 use Rattle.std.specs.List.{All}
 use Rattle.miter_encoder.specs.declared.goal.Goal.{Goal}
-use Rattle.trim_core.specs.KeptClauses.{AreBelow}
-use Rattle.trim_keeper.specs.Lines.{all_renumbered, imports_in}
-use Rattle.trim_keeper.specs.Marking.{IsKeptOf}
-use Rattle.trim_keeper.proofs.CallerLemmas.{named_have_ranks}
+use Rattle.clause_core.specs.KeptClauses.{AreBelow}
+use Rattle.pair_trim.specs.Lines.{all_renumbered, imports_in}
+use Rattle.pair_trim.specs.Marking.{IsKeptOf}
+use Rattle.pair_trim.proofs.Ranks.{named_have_ranks}
 use Rattle.pair_trim.proofs.Choices.{imports_there, uses_long}
 use Rattle.pair_trim.proofs.choosing.choose.Goals as goal
 

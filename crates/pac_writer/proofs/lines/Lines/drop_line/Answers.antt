@@ -1,5 +1,5 @@
 use Rattle.std.proofs.Common.{ap, subst, sym}
-use Rattle.graph_core.specs.Algebra.{Delete}
+use Rattle.algebra_core.specs.AlgebraLines.{Delete}
 use Rattle.pac_writer.specs.Writing.{Made, AreLawfulSoFar}
 use Rattle.pac_writer.specs.Kept.{CanFollowLines}
 use Rattle.pac_writer.proofs.Combining.{deletion_is_kept, deletion_can_follow}

@@ -1,9 +1,0 @@
-pub mod Marking
-pub mod MarkedRoots
-pub mod KeptClauses
-pub mod PacOperands
-pub mod KeptAlgebra
-pub mod UsedLines
-pub mod Renumbering
-pub mod TrimmedClauses
-pub mod CallerLemmas

@@ -1,6 +1,0 @@
-use Rattle.std.proofs.Common.{◌≡◌, take}
-use Rattle.trim_core.specs.KeptClauses.{added_lines, chosen}
-use Rattle.trim_keeper.proofs.choosing.choose_lines.Given as goal
-
-abbrev pub invariant-loop-place : goal.invariant-loop-place
-invariant-loop-place l = l.kept.items ≡ added_lines (chosen l.marks (take l.place l.clauses))

@@ -1,5 +1,0 @@
-use Rattle.trim_keeper.proofs.Renumbering.{kept_pair_is_lawful as law}
-use Rattle.trim_keeper.proofs.laws.kept_pair_is_lawful.Goals as goal
-
-pub returns : goal.returns
-returns c = law

@@ -1,6 +1,0 @@
-use Rattle.std.proofs.Common.{take}
-use Rattle.trim_keeper.specs.Marking.{SetsMarks}
-use Rattle.trim_keeper.proofs.marks.set_all.Given as goal
-
-abbrev pub invariant-loop-number : goal.invariant-loop-number
-invariant-loop-number l = SetsMarks (take l.number-index l.numbers) l.initial.marks l.marks

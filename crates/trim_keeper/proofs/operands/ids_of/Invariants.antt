@@ -1,6 +1,0 @@
-use Rattle.std.proofs.Common.{◌≡◌, take}
-use Rattle.poly_text.specs.Recorded.{ids_in}
-use Rattle.trim_keeper.proofs.operands.ids_of.Given as goal
-
-abbrev pub invariant-loop-line : goal.invariant-loop-line
-invariant-loop-line l = l.ids.items ≡ ids_in (take l.line-index l.lines)

@@ -1,6 +1,0 @@
-use Rattle.std.proofs.Common.{take}
-use Rattle.trim_keeper.specs.Lines.{AreUsesOf}
-use Rattle.trim_keeper.proofs.operands.uses_among.Given as goal
-
-abbrev pub invariant-loop-operand : goal.invariant-loop-operand
-invariant-loop-operand l = AreUsesOf l.ids (take l.operand-index l.operands) l.uses.items

@@ -1,5 +1,0 @@
-use Rattle.trim_keeper.proofs.MarkedRoots.{NoneShows}
-use Rattle.trim_keeper.proofs.roots.first_showing.Given as goal
-
-abbrev pub invariant-loop-place : goal.invariant-loop-place
-invariant-loop-place l = NoneShows l.clauses l.goal l.place
