@@ -1,4 +1,3 @@
 -- What crates above may cite of verdicts.
-pub use Rattle.joint_prover.proofs.Exactness.{verdicts_are_exact}
-pub use Rattle.joint_prover.proofs.EnoughBudgets.{enough_is_proved}
+pub use Rattle.joint_prover.proofs.Exactness.{enough_is_proved, verdicts_are_exact}
 pub use Rattle.joint_prover.proofs.HeldFiles.{proved_pairs_are_held}

@@ -6,7 +6,8 @@ use Rattle.aiger_reader.specs.Refusals.{SpellsWithin}
 use Rattle.mv_desk.specs.View.{IsTold, View}
 use Rattle.mv_desk.specs.declared.slot.Slot.TheVariants as slot
 use Rattle.command_core.specs.Files.{AreDistinct, Files}
-use Rattle.command_core.proofs.CallerLemmas.{file_is_held, other_names, others_are_held, same_told, told_file}
+use Rattle.command_core.proofs.CallerLemmas.{same_told, told_file}
+use Rattle.pair_core.proofs.CallerLemmas.{algebra_is_held, clauses_are_held, others_stay_held}
 use Rattle.command_core.specs.Written.{ReadsGraph, WritesPair}
 use Rattle.joint_prover.specs.Verdicts.{HasNote, ProvedPairsAreHeld}
 use Rattle.graph_core.specs.Graph.{Aig}
@@ -18,47 +19,11 @@ use Rattle.joint_prover.specs.Notes.{IsNote, cut_of}
 use Rattle.joint_prover.specs.Pairs.{IsPairFor}
 use Rattle.joint_prover.proofs.Telling.{pair_is_lawful}
 
--- ---- all of them
-
 clauses_no_graph : slot.Clauses ≢ slot.Graph
 clauses_no_graph e = cc
 
 algebra_no_graph : slot.Algebra ≢ slot.Graph
 algebra_no_graph e = cc
-
-algebra_no_clauses : slot.Algebra ≢ slot.Clauses
-algebra_no_clauses e = cc
-
-module _ (files : Files) (clauses text : List ℕ) (a r c : View) (told : IsTold a) (apart : AreDistinct files.graph files.clauses files.algebra) (reads : ReadsGraph a r) (w : WritesPair files clauses text r c) where
-  clause_slot : IsSome (r.name slot.Clauses)
-  clause_slot = same_told (a.name slot.Clauses) (r.name slot.Clauses) (reads.others slot.Clauses clauses_no_graph).mode.name (told.names slot.Clauses)
-
-  algebra_slot : IsSome (w.between.name slot.Algebra)
-  algebra_slot = same_told (a.name slot.Algebra) (w.between.name slot.Algebra)
-      (other_names slot.Clauses files.clauses clauses r w.between w.clause_file clause_slot slot.Algebra algebra_no_clauses ∙ (reads.others slot.Algebra algebra_no_graph).mode.name)
-      (told.names slot.Algebra)
-
-  held_in_r : (name : List ℕ) → IsSome (r.held name)
-  held_in_r name = same_told (a.held name) (r.held name) (reads.inspects.held name) (told.held name)
-
-  between_held : (name : List ℕ) → files.clauses ≢ name → w.between.held name ≡ a.held name
-  between_held name apart = others_are_held slot.Clauses files.clauses clauses r w.between w.clause_file clause_slot name apart ∙ reads.inspects.held name
-
-  end_held : (name : List ℕ) → files.algebra ≢ name → c.held name ≡ w.between.held name
-  end_held name apart = others_are_held slot.Algebra files.algebra text w.between c w.algebra_file algebra_slot name apart
-
-  pub graph_stays : c.held files.graph ≡ a.held files.graph
-  graph_stays = end_held files.graph (λ same. apart.algebra (sym same)) ∙ between_held files.graph (λ same. apart.clauses (sym same))
-
-  pub clauses_are_held : c.held files.clauses ≡ Some (Some clauses)
-  clauses_are_held =
-      end_held files.clauses (λ same. apart.certificates (sym same)) ∙
-      file_is_held slot.Clauses files.clauses clauses r w.between w.clause_file clause_slot (held_in_r files.clauses)
-
-  pub algebra_is_held : c.held files.algebra ≡ Some (Some text)
-  algebra_is_held =
-      file_is_held slot.Algebra files.algebra text w.between c w.algebra_file algebra_slot
-      (same_told (a.held files.algebra) (w.between.held files.algebra) (between_held files.algebra apart.certificates) (told.held files.algebra))
 
 -- the note, with what else holds of its cut
 note_there : (g : Aig) (task : Task) (noted : Option Note) (P : Option Cut → Type 0) → HasNote g task noted P → (n : Note) × (noted ≡ Some n) × IsNote g task.claim task.conflicts n × P (cut_of n)
@@ -76,14 +41,19 @@ proved_pairs_are_held limit task files a c noted told apart h =
     let clauses = written.0 in
     let text = written.1 in
     let pair = written.2 in
-    let bytes : Option (Option (List ℕ)) → Option (List ℕ) = option_map (λ b. unwrap_or b []) in
+    let files_apart : files.clauses ≢ files.algebra = apart.certificates in
+    let read = state.0 in
+    let first = same_told (a.name slot.Clauses) (read.name slot.Clauses) (state.1.others slot.Clauses clauses_no_graph).mode.name (told.names slot.Clauses) in
+    let second = same_told (a.name slot.Algebra) (read.name slot.Algebra) (state.1.others slot.Algebra algebra_no_graph).mode.name (told.names slot.Algebra) in
+    let held : (name : List ℕ) → IsSome (read.held name) = λ name. same_told (a.held name) (read.held name) (state.1.inspects.held name) (told.held name) in
     record {
       graph_file = file.0;
       clause_file = clauses;
       algebra_file = text;
-      graph_held = ap bytes (graph_stays files clauses text a state.0 c told apart state.1 written.3) ∙ file.1;
-      clauses_held = ap bytes (clauses_are_held files clauses text a state.0 c told apart state.1 written.3);
-      algebra_held = ap bytes (algebra_is_held files clauses text a state.0 c told apart state.1 written.3);
+      graph_held = others_stay_held files clauses text read c written.3 files_apart first second held files.graph (λ same. apart.clauses (sym same)) (λ same. apart.algebra (sym same)) ∙
+          ap (option_map (λ b. unwrap_or b [])) (state.1.inspects.held files.graph) ∙ file.1;
+      clauses_held = clauses_are_held files clauses text read c written.3 files_apart first second held;
+      algebra_held = algebra_is_held files clauses text read c written.3 files_apart first second held;
       graph = g;
       spells = subst (λ o. IfSome o (λ b. SpellsWithin (profile_of task.claim.add) limit b g)) file.1 h.1;
       pair = pair_is_lawful g task pair.0 clauses text pair.2;

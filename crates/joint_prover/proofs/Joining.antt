@@ -1,8 +1,8 @@
--- A graph was read, and then judged.
-use Rattle.std.proofs.Common.{◌≡◌, ◌≢◌, ℕ, List, refl, sym, subst, ◌∙◌, inl, inr}
-use Rattle.std.specs.Prelude.{IfSome, Result}
+-- A graph was read, and then it was told what was decided of it.
+use Rattle.std.proofs.Common.{◌≡◌, ℕ, refl, sym, ap, subst, ◌∙◌, inl, inr}
+use Rattle.std.specs.Prelude.{IfOk, IfSome, OnErr, Result, Ok, Err}
 use Rattle.std.specs.declared.option.Option.{Option}
-use Rattle.std.specs.declared.option.Option.TheVariants.{None}
+use Rattle.std.specs.declared.option.Option.TheVariants.{None, Some}
 use Rattle.aiger_reader.specs.Opening.{OpensOnly}
 use Rattle.aiger_reader.specs.Refusals.{SpellsWithin}
 use Rattle.command_core.specs.Stopping.{IsGraphStop, IsStop}
@@ -11,21 +11,24 @@ use Rattle.command_core.specs.declared.stop.Stop.TheVariants as stop
 use Rattle.aiger_reader.proofs.CallerLemmas.{Inspects-OpensOnly}
 use Rattle.graph_core.specs.Graph.{Aig}
 use Rattle.graph_core.specs.Graph.Operands.{profile_of}
-use Rattle.mv_desk.specs.View.{View, IsSame, Rose, bytes_under}
-use Rattle.mv_desk.specs.declared.slot.Slot.{Slot}
+use Rattle.mv_desk.specs.View.{View, Rose, bytes_under}
 use Rattle.mv_desk.specs.declared.slot.Slot.TheVariants as slot
-use Rattle.mv_desk.proofs.CallerLemmas.{ModeStays-refl, ModeStays-trans}
+use Rattle.pair_core.proofs.CallerLemmas.{pair_leaves_report, report_stays, report_stays_on, stopping_leaves_report, stops_with}
 use Rattle.command_core.specs.Files.{Files}
+use Rattle.graph_core.specs.declared.memory.Memory.{Memory}
 use Rattle.joint_prover.specs.declared.task.Task.{Task}
 use Rattle.joint_prover.specs.declared.verdict.Verdict.{Verdict}
 use Rattle.joint_prover.specs.declared.verdict.Verdict.TheVariants.{Proved, Wrong, WrongSum, Undecided, Stopped}
-use Rattle.ripple_graft.specs.declared.cut.Cut.{Cut}
 use Rattle.joint_prover.specs.declared.note.Note.{Note}
 use Rattle.joint_prover.specs.Notes.{IsNote, cut_of}
 use Rattle.joint_prover.specs.Pairs.{AreClausesFor, IsPairFor}
-use Rattle.joint_prover.specs.Parts.{IsNotedVerdict, IsOfGraph, note_with}
+use Rattle.joint_prover.specs.Decisions.{IsDecision}
+use Rattle.joint_prover.specs.Endings.{IsTold}
+use Rattle.joint_prover.specs.declared.decision.Decision.{Decision}
+use Rattle.joint_prover.specs.declared.decision.Decision.TheVariants as decision
+use Rattle.pair_core.specs.Texts.{algebra_text, clauses_text}
 use Rattle.joint_prover.specs.Verdicts.{IsVerdict}
-use Rattle.command_core.specs.Written.{ReadsGraph, ReportStays, StopsAt, StopsWriting, WritesFile, WritesFront}
+use Rattle.command_core.specs.Written.{ReadsGraph, ReportStays}
 
 pub graph_is_read : {T E : Type 0} (a r : View) (result : Result T E) → OpensOnly slot.Graph a r result → ReadsGraph a r
 graph_is_read a r result opens = record {
@@ -34,20 +37,22 @@ graph_is_read a r result opens = record {
 }
 
 module _ (limit : ℕ) (task : Task) (files : Files) (a r : View) (reads : ReadsGraph a r) where
-  of_graph : (c : View) (g : Aig) (v : Verdict) (n : Note) → IfSome (bytes_under a files.graph) (λ bytes. SpellsWithin (profile_of task.claim.add) limit bytes g) → r.write_faults ≡ a.write_faults →
-      IsNote g task.claim task.conflicts n → IsOfGraph g task (cut_of n) files r c v → IsVerdict limit task files a c v (note_with v n)
-  of_graph c g Proved n spelled same noted h = (g, spelled, (h.0, (noted, (r, reads, h.1))))
-  of_graph c g (Wrong x y value product) n spelled same noted h = ((g, spelled, (h.0, (noted, tt))), subst (ReadsGraph a) (sym h.1) reads)
-  of_graph c g (WrongSum x y z value sum) n spelled same noted h = ((g, spelled, (h.0, (noted, tt))), subst (ReadsGraph a) (sym h.1) reads)
-  of_graph c g (Undecided tried t k) n spelled same noted h = ((g, spelled, (h.0, (noted, h.1), h.3)), subst (ReadsGraph a) (sym h.2) reads)
-  of_graph c g (Stopped why) n spelled same noted h = subst (λ x. IsVerdict limit task files a c (Stopped x) None) (sym h.0)
-      (subst (λ k. Rose k c.write_faults) same h.1, (g, spelled, (h.2, (n, noted, r, reads, h.3))), refl)
+  -- a verdict and a note by another name
+  named : (c : View) (v w : Verdict) (noted other : Option Note) → v ≡ w → noted ≡ other → IsVerdict limit task files a c w other → IsVerdict limit task files a c v noted
+  named c v w noted other is same h = subst (λ x. IsVerdict limit task files a c x noted) (sym is) (subst (IsVerdict limit task files a c w) (sym same) h)
 
-  pub joined : (c : View) (g : Aig) (v : Verdict) (noted : Option Note) → IfSome (bytes_under a files.graph) (λ bytes. SpellsWithin (profile_of task.claim.add) limit bytes g) → r.write_faults ≡ a.write_faults →
-      IsNotedVerdict g task files r c v noted → IsVerdict limit task files a c v noted
-  joined c g v noted spelled same (inl h) = subst (IsVerdict limit task files a c v) (sym h.3) (of_graph c g v h.0 spelled same h.1 h.2)
-  joined c g v noted spelled same (inr h) =
-      subst (λ x. IsVerdict limit task files a c x noted) (sym h.0) (tt, subst (ReadsGraph a) (sym h.2) reads, h.1)
+  told : (c : View) (g : Aig) (d : Decision) (n : Note) (v : Verdict) (noted : Option Note) → IfSome (bytes_under a files.graph) (λ bytes. SpellsWithin (profile_of task.claim.add) limit bytes g) →
+      r.write_faults ≡ a.write_faults → IsNote g task.claim task.conflicts n → IsDecision g task (cut_of n) d → IsTold files r c d n v noted → IsVerdict limit task files a c v noted
+  told c g (decision.Proved p) n v noted spelled same note h (inl t) =
+      named c v Proved noted (Some n) t.0 t.1 (g, spelled, (h.0, (note, (r, reads, (clauses_text p, algebra_text p, h.2, t.2)))))
+  told c g (decision.Proved p) n v noted spelled same note h (inr t) = named c v (Stopped stop.WriteFault) noted None t.0 t.1
+      (subst (λ k. Rose k c.write_faults) same t.2, (g, spelled, (h.0, (n, note, r, reads, stops_with files (clauses_text p) (algebra_text p) (AreClausesFor g task (cut_of n)) (IsPairFor g task (cut_of n)) r c (h.2.0, h.2.1, h.2.2.clause_file) h.2 t.3))), refl)
+  told c g (decision.Wrong x y value product) n v noted spelled same note h t =
+      named c v (Wrong x y value product) noted (Some n) t.0 t.1 ((g, spelled, (h, (note, tt))), subst (ReadsGraph a) (sym t.2) reads)
+  told c g (decision.WrongSum x y z value sum) n v noted spelled same note h t =
+      named c v (WrongSum x y z value sum) noted (Some n) t.0 t.1 ((g, spelled, (h, (note, tt))), subst (ReadsGraph a) (sym t.2) reads)
+  told c g (decision.Undecided tried step size) n v noted spelled same note h t =
+      named c v (Undecided tried step size) noted (Some n) t.0 t.1 ((g, spelled, (h.0, (note, h.1), h.2)), subst (ReadsGraph a) (sym t.2) reads)
 
   pub stopped : (why : Stop) → IsStop (IsGraphStop slot.Graph (profile_of task.claim.add) limit (bytes_under a files.graph)) a r why → IsVerdict limit task files a r (Stopped why) None
   stopped (stop.Graph at why) h = (h, reads, refl)
@@ -56,57 +61,29 @@ module _ (limit : ℕ) (task : Task) (files : Files) (a r : View) (reads : Reads
   stopped stop.WriteFault h = absurd h
   stopped stop.Memory h = (h, reads, refl)
 
+  -- where there was memory, or none
+  pub judged : (c : View) (g : Aig) (decided : Result (Decision × Note) Memory) (v : Verdict) (noted : Option Note) → IfSome (bytes_under a files.graph) (λ bytes. SpellsWithin (profile_of task.claim.add) limit bytes g) →
+      r.write_faults ≡ a.write_faults → IfOk decided (λ d. IsDecision g task (cut_of d.1) d.0) → IfOk decided (λ d. IsNote g task.claim task.conflicts d.1) → IfOk decided (λ d. IsTold files r c d.0 d.1 v noted) →
+      OnErr decided (◌≡◌ {A = Verdict × Option Note} (v, noted) (Stopped stop.Memory, None)) → OnErr decided (c ≡ r) → IsVerdict limit task files a c v noted
+  judged c g (Ok d) v noted spelled same decision note h none untouched = told c g d.0 d.1 v noted spelled same note decision h
+  judged c g (Err e) v noted spelled same decision note h none untouched =
+      named c v (Stopped stop.Memory) noted None (ap (λ x. x.0) none) (ap (λ x. x.1) none) (tt, subst (ReadsGraph a) (sym untouched) reads, refl)
+
 -- ---- the report
 
-stays : (a : View) → ReportStays a a
-stays a = record { mode = ModeStays-refl slot.Report a; written = refl }
+told_leaves : (files : Files) (a b : View) (d : Decision) (n : Note) (v : Verdict) (noted : Option Note) → IsTold files a b d n v noted → ReportStays a b
+told_leaves files a b (decision.Proved p) n v noted (inl t) = pair_leaves_report files (clauses_text p) (algebra_text p) a b t.2
+told_leaves files a b (decision.Proved p) n v noted (inr t) = stopping_leaves_report files (λ text. text ≡ clauses_text p) (λ beside text. text ≡ algebra_text p) a b t.3
+told_leaves files a b (decision.Wrong x y value product) n v noted t = subst (ReportStays a) (sym t.2) (report_stays a)
+told_leaves files a b (decision.WrongSum x y z value sum) n v noted t = subst (ReportStays a) (sym t.2) (report_stays a)
+told_leaves files a b (decision.Undecided tried step size) n v noted t = subst (ReportStays a) (sym t.2) (report_stays a)
 
-pub stays_on : (a b c : View) → ReportStays a b → ReportStays b c → ReportStays a c
-stays_on a b c h k = record { mode = ModeStays-trans slot.Report a b c h.mode k.mode; written = k.written ∙ h.written }
+judged_leaves : (files : Files) (a b : View) (decided : Result (Decision × Note) Memory) (v : Verdict) (noted : Option Note) → IfOk decided (λ d. IsTold files a b d.0 d.1 v noted) → OnErr decided (b ≡ a) → ReportStays a b
+judged_leaves files a b (Ok d) v noted h same = told_leaves files a b d.0 d.1 v noted h
+judged_leaves files a b (Err e) v noted h same = subst (ReportStays a) (sym same) (report_stays a)
 
-stays_same : (a b : View) → IsSame a b → ReportStays a b
-stays_same a b same = let s = same.slots slot.Report in record { mode = s.mode; written = s.written }
-
-file_leaves : (at : Slot) (name text : List ℕ) (a b : View) → slot.Report ≢ at → WritesFile at name text a b → ReportStays a b
-file_leaves at name text a b other w =
-    let first = w.creates.others slot.Report other in
-    let then = w.writes.others slot.Report other in
-    record { mode = ModeStays-trans slot.Report a w.created b first.mode then.mode; written = then.written ∙ first.written }
-
-front_leaves : (at : Slot) (name text : List ℕ) (a b : View) → slot.Report ≢ at → WritesFront at name text a b → ReportStays a b
-front_leaves at name text a b other w =
-    let first = w.creates.others slot.Report other in
-    let then = w.writes.writes.others slot.Report other in
-    record { mode = ModeStays-trans slot.Report a w.created b first.mode then.mode; written = then.written ∙ first.written }
-
-no_clauses : slot.Report ≢ slot.Clauses
-no_clauses e = cc
-
-no_algebra : slot.Report ≢ slot.Algebra
-no_algebra e = cc
-
-stop_leaves : (at : Slot) (name : List ℕ) (P : List ℕ → Type 0) (a b : View) → slot.Report ≢ at → StopsAt at name P a b → ReportStays a b
-stop_leaves at name P a b other (inl same) = stays_same a b same
-stop_leaves at name P a b other (inr w) = front_leaves at name w.0 a b other w.2
-
-stopping_leaves : (files : Files) (P : List ℕ → Type 0) (Q : List ℕ → List ℕ → Type 0) (a b : View) → StopsWriting files P Q a b → ReportStays a b
-stopping_leaves files P Q a b (inl h) = stop_leaves slot.Clauses files.clauses P a b no_clauses h
-stopping_leaves files P Q a b (inr h) =
-    stays_on a h.1 b (file_leaves slot.Clauses files.clauses h.0 a h.1 no_clauses h.3) (stop_leaves slot.Algebra files.algebra (Q h.0) h.1 b no_algebra h.4)
-
-of_graph_leaves : (g : Aig) (task : Task) (used : Option Cut) (files : Files) (a b : View) (v : Verdict) → IsOfGraph g task used files a b v → ReportStays a b
-of_graph_leaves g task used files a b Proved h =
-    let pair = h.1 in
-    let w = pair.3 in
-    stays_on a w.between b (file_leaves slot.Clauses files.clauses pair.0 a w.between no_clauses w.clause_file) (file_leaves slot.Algebra files.algebra pair.1 w.between b no_algebra w.algebra_file)
-of_graph_leaves g task used files a b (Wrong x y value product) h = subst (ReportStays a) (sym h.1) (stays a)
-of_graph_leaves g task used files a b (WrongSum x y z value sum) h = subst (ReportStays a) (sym h.1) (stays a)
-of_graph_leaves g task used files a b (Undecided tried t n) h = subst (ReportStays a) (sym h.2) (stays a)
-of_graph_leaves g task used files a b (Stopped why) h = stopping_leaves files (AreClausesFor g task used) (IsPairFor g task used) a b h.3
-
-pub report_is_left : (g : Aig) (task : Task) (files : Files) (a b : View) (v : Verdict) (noted : Option Note) → IsNotedVerdict g task files a b v noted → ReportStays a b
-report_is_left g task files a b v noted (inl h) = of_graph_leaves g task (cut_of h.0) files a b v h.2
-report_is_left g task files a b v noted (inr h) = subst (ReportStays a) (sym h.2) (stays a)
-
-pub reading_leaves : (a r : View) → ReadsGraph a r → ReportStays a r
-reading_leaves a r reads = let s = reads.inspects.report in record { mode = s.mode; written = s.written }
+pub reading_leaves : (files : Files) (a r b : View) (decided : Result (Decision × Note) Memory) (v : Verdict) (noted : Option Note) → ReadsGraph a r → IfOk decided (λ d. IsTold files r b d.0 d.1 v noted) → OnErr decided (b ≡ r) →
+    ReportStays a b
+reading_leaves files a r b decided v noted reads h same =
+    let s = reads.inspects.report in
+    report_stays_on a r b (record { mode = s.mode; written = s.written }) (judged_leaves files r b decided v noted h same)

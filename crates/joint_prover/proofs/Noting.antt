@@ -1,11 +1,12 @@
 -- The note has the cause of what came of the rewriting.
-use Rattle.std.proofs.Common.{◌≡◌, ℕ, ◌^◌, ◌<◌, ◌≤◌, Bool, true, false, List, arith, length, refl, subst}
-use Rattle.std.specs.Prelude.{None}
-use Rattle.graph_core.specs.Algebra.{AgreeOnColumns}
+use Rattle.std.proofs.Common.{◌≡◌, ℕ, ◌^◌, ◌<◌, ◌≤◌, Bool, true, false, List, arith, length, refl, sym, subst, ◌∙◌}
+use Rattle.std.specs.Prelude.{IfSome}
+use Rattle.std.specs.declared.option.Option.{Option}
+use Rattle.std.specs.declared.option.Option.TheVariants.{None, Some}
+use Rattle.graph_core.specs.Graph.Extended.{AgreeOnColumns, Extended}
 use Rattle.cdcl_solver.specs.Logs.{LogView}
 use Rattle.clause_core.specs.ClauseLines.{ClauseLine}
 use Rattle.graph_core.specs.Graph.{Aig, IsWellFormed}
-use Rattle.graph_core.specs.Graph.Extended.{Extended}
 use Rattle.graph_core.specs.Graph.Operands.{AreInRange, AreOperandsOf, Sides, c_literals, sides_for}
 use Rattle.graph_core.specs.declared.claim.Claim.{Claim}
 use Rattle.graph_core.specs.declared.numbers.Numbers.{Numbers}
@@ -16,7 +17,8 @@ use Rattle.adder_finder.proofs.FitCuts.{fit_is_cut}
 use Rattle.stage_rewriter.specs.Rewriting.{Agrees, IsRewriting, IsRewritingDifference, IsShownRewriting, IsUsed}
 use Rattle.stage_rewriter.specs.declared.rewriting.Rewriting.{Rewriting}
 use Rattle.stage_rewriter.specs.declared.rewriting.Rewriting.TheVariants as kind
-use Rattle.joint_prover.specs.Notes.{DiffersAtStage, IsFoundCut, IsNote, cut_in, cut_of, differing, note_of}
+use Rattle.joint_prover.specs.Endings.{cut_of_found}
+use Rattle.joint_prover.specs.Notes.{DiffersAtStage, IsFoundCut, IsNote, cut_in, cut_of, differing, note_of, rewriting_note_of}
 
 -- without an addend only 0 stands for one
 no_addend : (g : Aig) (claim : Claim) (x : Numbers) → claim.add ≡ false → AreInRange (sides_for claim g) x → x.c ≡ 0
@@ -27,33 +29,36 @@ differing_is g claim conflicts false x alone h =
     (alone, subst (λ c. DiffersAtStage g claim (record { a = x.a; b = x.b; c = c })) (no_addend g claim x alone h.2.range) h)
 differing_is g claim conflicts true x added h = (added, h)
 
-pub note_is : (g : Aig) (s : Sides) (conflicts : ℕ) (r : Rewriting) → AreOperandsOf g s → IsRewriting g s conflicts r → Agrees r → IsNote g s.claim conflicts (note_of s.claim.add r)
-note_is g s conflicts (kind.Used cut extended log) of used agrees = record {
+rewriting_note_is : (g : Aig) (s : Sides) (conflicts : ℕ) (r : Rewriting) → AreOperandsOf g s → IsRewriting g s conflicts r → Agrees r → IsNote g s.claim conflicts (rewriting_note_of s.claim.add r)
+rewriting_note_is g s conflicts (kind.Used cut extended log) of used agrees = record {
   stage = used.stage;
   agree = subst (λ (x : Extended). Always x.gates (AgreeOnColumns x)) used.extended_is agrees;
 }
-note_is g s conflicts kind.None of none agrees = none
-note_is g s conflicts (kind.Differs x) of h agrees =
+rewriting_note_is g s conflicts kind.None of none agrees = none
+rewriting_note_is g s conflicts (kind.Differs x) of h agrees =
     differing_is g s.claim conflicts s.claim.add x refl (h.0, h.1, subst (λ (t : Sides). IsRewritingDifference (with_cut g h.0) t x) of h.2)
-note_is g s conflicts (kind.Spent lemmas goal log) of spent agrees = spent
+rewriting_note_is g s conflicts (kind.Spent lemmas goal log) of spent agrees = spent
+
+pub note_is : (g : Aig) (s : Sides) (conflicts : ℕ) (r : Rewriting) (found : Option Cut) → AreOperandsOf g s → IsRewriting g s conflicts r → Agrees r → IfSome found (IsFoundCut g) →
+    IsNote g s.claim conflicts (note_of s.claim.add r found)
+note_is g s conflicts r None of rewriting agrees cut = rewriting_note_is g s conflicts r of rewriting agrees
+note_is g s conflicts r (Some cut) of rewriting agrees found = found
 
 -- The note has the cut whose adder is used.
 cut_of_differing : (add : Bool) (x : Numbers) → cut_of (differing add x) ≡ None
 cut_of_differing false x = refl
 cut_of_differing true x = refl
 
-pub cut_of_note : (add : Bool) (r : Rewriting) → cut_of (note_of add r) ≡ cut_in r
-cut_of_note add (kind.Used cut extended log) = refl
-cut_of_note add kind.None = refl
-cut_of_note add (kind.Differs x) = cut_of_differing add x
-cut_of_note add (kind.Spent lemmas goal log) = refl
+cut_of_rewriting : (add : Bool) (r : Rewriting) → cut_of (rewriting_note_of add r) ≡ cut_in r
+cut_of_rewriting add (kind.Used cut extended log) = refl
+cut_of_rewriting add kind.None = refl
+cut_of_rewriting add (kind.Differs x) = cut_of_differing add x
+cut_of_rewriting add (kind.Spent lemmas goal log) = refl
 
--- There is none where no adder is used.
-pub without_adder : (r : Rewriting) → ((cut : Cut) (e : Extended) (log : LogView) → r ≡ kind.Used cut e log → ⊥) → cut_in r ≡ None
-without_adder (kind.Used cut e log) unused = absurd (unused cut e log refl)
-without_adder kind.None unused = refl
-without_adder (kind.Differs x) unused = refl
-without_adder (kind.Spent lemmas goal log) unused = refl
+-- or the one that was found
+pub cut_of_note : (add : Bool) (r : Rewriting) (used found : Option Cut) → used ≡ cut_in r → cut_of_found used found ≡ cut_of (note_of add r found)
+cut_of_note add r used None is = is ∙ sym (cut_of_rewriting add r)
+cut_of_note add r used (Some cut) is = refl
 
 -- The final stage in use is a cut that is shown.
 pub shown_of : (g : Aig) (conflicts : ℕ) (cut : Cut) (e : Extended) (lines : List ClauseLine) → IsWellFormed g → IsUsed g conflicts cut e lines → IsShownRewriting g conflicts cut e lines

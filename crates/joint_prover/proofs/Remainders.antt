@@ -1,55 +1,107 @@
 -- What the remainder of a plan says of the graph.
-use Rattle.std.proofs.Common.{◌≡◌, ◌≢◌, ℕ, ◌+◌, ◌%◌, ◌<◌, ◌≤◌, Bool, cond, List, [], ◌∷◌, ◌++◌, length, map, take, refl, sym, ap, ap₂, subst, ◌∙◌, arith, ⊎_elim, ne_eqb, length-append}
-use Rattle.std.specs.Prelude.{None, Some, IsSome}
+use Rattle.std.proofs.Common.{◌≡◌, ◌≢◌, ℕ, ◌+◌, ◌%◌, ◌<◌, ◌≤◌, Bool, cond, List, [], ◌∷◌, ◌++◌, length, map, take, refl, sym, ap, ap₂, subst, ◌∙◌, arith, ⊎_elim, ne_eqb, length-append, zero, suc}
 use Rattle.std.specs.List.{AllByRecursion}
 use Rattle.std.proofs.Math.Seq.{take-append-add, take-length}
 use Rattle.std.proofs.lemmas.Bool.{cases_lt}
-use Rattle.std.proofs.lemmas.List.{length-map, take_all}
+use Rattle.std.proofs.lemmas.List.{length-map, take-map, take_all}
 use Rattle.std.proofs.lemmas.List.Sorted.{length_permutation}
 use Rattle.std.proofs.lemmas.List.Elements.{recursion_from_All}
-use Rattle.column_reducer.specs.Reducing.{ContinuesLines, IsLastRest, IsPassed, KeepsBudget, Planned, planned, value_after}
+use Rattle.column_reducer.specs.Reducing.{ContinuesLines, IsLastRest, IsPassed, IsReduced, KeepsBudget, Planned, planned, value_after}
+use Rattle.column_reducer.specs.declared.reduced.Reduced.{Reduced}
 use Rattle.column_reducer.specs.declared.reduced.Reduced.TheVariants as answer
 use Rattle.column_reducer.specs.declared.reduced.Reduced.TheVariants.{Rest}
 use Rattle.frontier_core.specs.declared.step.Step.{Step}
 use Rattle.frontier_core.specs.declared.step.Step.TheVariants.{Add, Eliminate}
 use Rattle.frontier_core.specs.Columns.{all_columns}
 use Rattle.frontier_core.specs.Frontier.{IsFrontier, frontier_value}
-use Rattle.frontier_core.specs.LastFrontier.{IsEnd, IsOverInputs}
+use Rattle.frontier_core.specs.LastFrontier.{IsEnd, IsOverInputs, AgreeEverywhere}
 use Rattle.frontier_core.specs.LeastDifference.{AreInputs, IsLeastDifferenceAt, IsLeastNonzero}
 use Rattle.frontier_core.specs.Plan.{IsPlan, Taken, nothing, plain_steps, taken, value_of_taken}
 use Rattle.frontier_core.specs.PlainOrder.{HasPlainSize, IsPlainOrder}
 use Rattle.frontier_core.proofs.Plans.{plan_leaves_frontiers}
 use Rattle.frontier_core.proofs.CallerLemmas.{graph_inputs, last_frontier_decides, last_frontier_gives_least, last_frontier_is_over_inputs, lowest_bits, operands_in_order, plain_order_is_one, plain_plan_is_plan, specification_is_not_zero, difference_small}
-use Rattle.graph_core.specs.Algebra.NormalForm.{HasSize, IsNormalForm}
+use Rattle.algebra_core.specs.NormalForm.{HasSize, IsNormalForm}
 use Rattle.graph_core.specs.Graph.{Aig, IsDefinedOnce, of_inputs}
 use Rattle.graph_core.specs.declared.literal.Lit.{Lit}
 use Rattle.graph_core.specs.Graph.Assignments.{Assignment, word}
-use Rattle.graph_core.specs.Graph.Extended.{Extended, without_cut}
-use Rattle.graph_core.specs.Graph.Operands.{AreInRange, Does, HasShapeFor, MeetsClaim, ReadInputs, Sides, claimed, inputs_at, inputs_in, sides_for}
+use Rattle.graph_core.specs.Graph.Extended.{Extended, without_cut, modulus}
+use Rattle.graph_core.specs.Graph.Operands.{AreInRange, Does, HasShapeFor, MeetsClaim, ReadInputs, Sides, claimed, inputs_at, inputs_in, sides_for, AreOperandsOf, profile_of}
+use Rattle.graph_core.specs.declared.claim.Claim.{Claim}
 use Rattle.graph_core.specs.declared.numbers.Numbers.{Numbers}
-use Rattle.graph_core.specs.Algebra.{Closes, LiveLine, line_of, modulus, specification, value_of, value_or_zero}
-use Rattle.graph_core.specs.Algebra.Polynomials.{difference, value}
-use Rattle.graph_core.proofs.OfGraphs.CallerLemmas.{claim_is_done, difference_is, sides_read_inputs}
+use Rattle.ripple_graft.specs.declared.cut.Cut.{Cut}
+use Rattle.std.specs.declared.option.Option.{Option}
+use Rattle.algebra_core.specs.AlgebraLines.{Closes, LiveLine, line_of, specification, value_of, value_or_zero}
+use Rattle.algebra_core.specs.Polynomials.{difference, value}
+use Rattle.graph_core.proofs.OfGraphs.CallerLemmas.{claim_is_done, sides_read_inputs}
+use Rattle.algebra_core.proofs.CallerLemmas.{difference_is, modulus_pos}
 use Rattle.graph_core.proofs.OfAiger.CallerLemmas.{shape_for}
-use Rattle.graph_core.proofs.OfAlgebra.CallerLemmas.{modulus_pos}
-use Rattle.pac_writer.specs.Writing.{AreLawfulSoFar, Made, written_ledger}
+use Rattle.pac_writer.specs.Writing.{AreLawfulSoFar, Made, closed, written_ledger, IsFresh}
 use Rattle.poly_terms.specs.Laws.{modulus_stays}
-use Rattle.poly_terms.specs.Tables.{Table, Sum, monomials_in, value_in}
 use Rattle.poly_terms.specs.Tables as table
+use Rattle.poly_terms.specs.Tables.{Table, Sum, monomials_in, value_in}
 use Rattle.poly_terms.proofs.Values.{normal}
 use Rattle.ripple_graft.specs.Extension.{IsExtension}
 use Rattle.slice_planner.specs.ColumnPlans.{IsColumnPlan}
 use Rattle.slice_planner.specs.Slices.{IsSlicePlan}
-use Rattle.joint_prover.proofs.PlanLists.{length-count_from, take-map}
 use Rattle.joint_prover.proofs.Sizes.{some_bits, some_outputs}
-use Rattle.joint_prover.specs.declared.ending.Ending.{Ending}
-use Rattle.joint_prover.specs.declared.ending.Ending.TheVariants.{Closed, Differs}
 use Rattle.joint_prover.specs.declared.verdict.Tried.{Tried}
-use Rattle.joint_prover.specs.Endings.{AreFew, AreLeast, IsEnded, IsPlainlyReduced, IsRemainder, IsStart, IsTriedAt, IsWitness, IsWitnessOf, plain_of}
-use Rattle.joint_prover.specs.Tries.{EndsWithin, IsAbove, IsWithinBudget}
+use Rattle.joint_prover.specs.Endings.{AreFew, AreLeast, IsProof, IsRemainder, IsStart, IsTriedAt, IsJob, IsShown, cut_named}
+use Rattle.joint_prover.specs.Tries.{EndsWithin, IsAbove, IsWithinBudget, extended_by}
 use Rattle.joint_prover.specs.Verdicts.{IsFirstAbove}
+use Rattle.std.specs.declared.option.Option.TheVariants.{None, Some}
+use Rattle.graph_core.specs.Aiger.Sizes.{IsSizedAs}
+use Rattle.joint_prover.specs.declared.shown.Shown.{Shown}
+use Rattle.joint_prover.specs.declared.task.Job.{Job}
+use Rattle.frontier_core.specs.Sets.{count_from}
+
+-- ---- lines that are fresh
+
+starts : (l : Made) (e : Extended) (s : Sides) → IsFresh e s l → AreOperandsOf e.graph s → IsSizedAs (profile_of s.claim.add) e.graph → IsExtension e → AgreeEverywhere e → IsStart l
+starts l e s fresh of sized extension agree = record {
+  sides = subst (AreOperandsOf l.extended.graph) (sym fresh.sides) (subst (λ (x : Extended). AreOperandsOf x.graph s) (sym fresh.extended) of);
+  same_modulus = fresh.same_modulus ∙ sym (ap modulus fresh.extended);
+  lines = fresh.lines;
+  unclosed = fresh.unclosed;
+  sized = subst (λ (t : Sides). IsSizedAs (profile_of t.claim.add) l.extended.graph) (sym fresh.sides)
+      (subst (λ (x : Extended). IsSizedAs (profile_of s.claim.add) x.graph) (sym fresh.extended) sized);
+  extension = subst IsExtension (sym fresh.extended) extension;
+  agree = subst AgreeEverywhere (sym fresh.extended) agree;
+}
+
+-- an extended graph is over its graph
+pub graph_by : (g : Aig) (cut : Option Cut) → (extended_by g cut).graph ≡ g
+graph_by g None = refl
+graph_by g (Some cut) = refl
+
+-- and so over a graph that is shown
+pub starts_shown : (l : Made) (g : Aig) (conflicts : ℕ) (s : Sides) (shown : Shown) → IsShown g conflicts shown → IsFresh shown.extended.now s l → AreOperandsOf g s → IsSizedAs (profile_of s.claim.add) g →
+    IsExtension shown.extended.now → IsStart l
+starts_shown l g conflicts s shown is fresh of sized extension =
+    let graph = sym (ap (λ (x : Extended). x.graph) is.extended ∙ graph_by g (cut_named shown)) in
+    starts l shown.extended.now s fresh (subst (λ h. AreOperandsOf h s) graph of) (subst (IsSizedAs (profile_of s.claim.add)) graph sized) extension
+    (subst AgreeEverywhere (sym is.extended) is.agree)
+
+-- the operands are those that are asked for
+pub operands_are : (job : Job) → IsJob job → job.operands.now ≡ sides_for job.task.claim job.graph.now
+operands_are job is = is.operands ∙ ap (λ k. sides_for k job.graph.now) is.claim
+
+length-count_from : (k n : ℕ) → length (count_from k n) ≡ n
+length-count_from k zero = refl
+length-count_from k (suc n) = ap suc (length-count_from (suc k) n)
 
 -- ---- the plain plan
+
+-- that of a plain order: all columns, and then the gates in that order
+abbrev pub plain_of : Extended → List ℕ → Planned
+plain_of e order = planned e (plain_steps e order) (length e.graph.outputs)
+
+-- The reduction of a plain order has this answer, and the lines go on; they are few.
+pub record IsPlainlyReduced (budget : ℕ) (old new : Made) (answer : Reduced) : Type 0 where
+  pub order : List ℕ
+  pub plain : IsPlainOrder old.extended.gates order
+  pub goes_on : ContinuesLines old new
+  pub reduced : IsReduced (plain_of old.extended order) old.sides budget new answer
+  pub few : AreFew new
 
 pub plan_is_plain : (p : Planned) (e given : Extended) (vs : List ℕ) → p.extended ≡ e → given ≡ e → p.steps ≡ plain_steps given vs → p.uncounted ≡ length given.graph.outputs → p ≡ plain_of e vs
 plan_is_plain p e given vs extended same steps uncounted =
@@ -113,7 +165,7 @@ reads_inputs l start = subst (ReadInputs l.extended.graph) (sym start.sides) (si
 
 -- ---- a frontier above the budget
 
-module _ (l : Made) (start : IsStart l) (steps : List Step) (slices : IsSlicePlan l.extended steps) (budget step size : ℕ) (h : IsPassed (planned l.extended steps 0) l.sides budget step size) where
+module _ (e : Extended) (s : Sides) (steps : List Step) (slices : IsSlicePlan e steps) (budget step size : ℕ) (h : IsPassed (planned e steps 0) s budget step size) where
   abbrev here : Taken
   here = taken nothing (take step steps)
 
@@ -123,14 +175,14 @@ module _ (l : Made) (start : IsStart l) (steps : List Step) (slices : IsSlicePla
   pub few_steps : step ≤ length steps
   few_steps = let low = h.there in omega arith
 
-  pub above_of : (rewritten : Bool) (tried : Tried) → IsTriedAt steps step size rewritten tried → IsAbove l.extended l.sides budget tried
+  pub above_of : (rewritten : Bool) (tried : Tried) → IsTriedAt steps step size rewritten tried → IsAbove e s budget tried
   above_of rewritten tried at = record {
     of_slices = record { steps = steps; slices = slices; count = step; columns = at.columns; gates = at.gates };
-    frontier = subst (λ ks. IsFrontier l.extended ks tried.gates.items) (sym at.columns)
-        (subst (IsFrontier l.extended here.added) (sym at.gates) (plan_leaves_frontiers l.extended steps step slices.plan.follow).0);
-    size = subst (λ ks. HasSize (modulus l.extended) (frontier_value l.extended l.sides ks tried.gates.items) tried.size) (sym at.columns)
-        (subst (λ vs. HasSize (modulus l.extended) (frontier_value l.extended l.sides here.added vs) tried.size) (sym at.gates)
-        (subst (HasSize (modulus l.extended) (frontier_value l.extended l.sides here.added here.eliminated)) (sym at.size_is) (subst (λ k. HasSize (modulus l.extended) (value_after (planned l.extended steps 0) l.sides k) size) (nothing_more step) h.has)));
+    frontier = subst (λ ks. IsFrontier e ks tried.gates.items) (sym at.columns)
+        (subst (IsFrontier e here.added) (sym at.gates) (plan_leaves_frontiers e steps step slices.plan.follow).0);
+    size = subst (λ ks. HasSize (modulus e) (frontier_value e s ks tried.gates.items) tried.size) (sym at.columns)
+        (subst (λ vs. HasSize (modulus e) (frontier_value e s here.added vs) tried.size) (sym at.gates)
+        (subst (HasSize (modulus e) (frontier_value e s here.added here.eliminated)) (sym at.size_is) (subst (λ k. HasSize (modulus e) (value_after (planned e steps 0) s k) size) (nothing_more step) h.has)));
     above = subst (λ n. budget < n) (sym at.size_is) h.above;
   }
 
@@ -166,6 +218,16 @@ remainder_of l after p poly id same plan goes few rest = record {
   goes_on = goes;
   rest = subst (λ x. IsLastRest (planned x p.steps p.uncounted) l.sides after.table (written_ledger after).live poly id) same rest;
   few = few_over p.extended l after same goes few;
+}
+
+pub plainly_reduced : (budget : ℕ) (l after : Made) (p : Planned) (given : Extended) (vs : List ℕ) (answer : Reduced) → given ≡ l.extended → p.extended ≡ given → p.uncounted ≡ length given.graph.outputs →
+    IsPlainOrder given.gates vs → p.steps ≡ plain_steps given vs → ContinuesLines l after → IsFewOver p.extended after → IsReduced p l.sides budget after answer → IsPlainlyReduced budget l after answer
+plainly_reduced budget l after p given vs answer same extended uncounted plain steps goes few h = record {
+  order = vs;
+  plain = subst (λ (x : Extended). IsPlainOrder x.gates vs) same plain;
+  goes_on = goes;
+  reduced = subst (λ q. IsReduced q l.sides budget after answer) (plan_is_plain p l.extended given vs (extended ∙ same) same steps uncounted) h;
+  few = few_over p.extended l after (extended ∙ same) goes few;
 }
 
 pub plain_remainder : (l : Made) → IsStart l → (budget : ℕ) (after : Made) (poly : Sum) (id : ℕ) → IsPlainlyReduced budget l after (Rest poly id) → IsRemainder l after poly id
@@ -227,14 +289,14 @@ module _ (l : Made) (start : IsStart l) (after : Made) (poly : Sum) (id : ℕ) (
   -- ---- where it is 0
 
   pub zero_does : ((σ : Assignment) → value_in after.table poly σ ≡ 0) → Does s.claim g
-  zero_does zero =
-      let meets = (last_frontier_decides e s f.added f.eliminated is_end).0 (λ σ. sym (poly_value σ) ∙ zero σ) in
+  zero_does vanishes =
+      let meets = (last_frontier_decides e s f.added f.eliminated is_end).0 (λ σ. sym (poly_value σ) ∙ vanishes σ) in
       (claim_is_done g s.claim shape once).0 (subst (MeetsClaim g) start.sides meets)
 
-  module _ (lawful : AreLawfulSoFar after) (zero : (σ : Assignment) → value_in after.table poly σ ≡ 0) where
+  module _ (lawful : AreLawfulSoFar after) (vanishes : (σ : Assignment) → value_in after.table poly σ ≡ 0) where
     closes_value : (σ : Assignment) → value_of (written_ledger after).live id σ ≡ specification e s σ
     closes_value σ =
-        rest.differs σ ∙ ap (difference (modulus e) (specification e s σ)) (zero σ) ∙
+        rest.differs σ ∙ ap (difference (modulus e) (specification e s σ)) (vanishes σ) ∙
         difference_is (modulus e) (specification e s σ) 0 (specification e s σ) (modulus_pos e) (ap (λ z. z % modulus e) (omega arith)) ∙
         difference_small (modulus e) (word σ g.outputs) (claimed (modulus e) s σ) (modulus_pos e)
 
@@ -262,49 +324,47 @@ module _ (l : Made) (start : IsStart l) (after : Made) (poly : Sum) (id : ℕ) (
   change : (h k : Assignment → ℕ) (ls : List Lit) (bits : List Bool) → ((σ : Assignment) → h σ ≡ k σ) → IsLeastNonzero h ls bits → IsLeastNonzero k ls bits
   change h k ls bits same least = record {
     size = least.size;
-    nonzero = λ zero. least.nonzero (same (of_inputs ls bits) ∙ zero);
-    least = λ other size nonzero. least.least other size (λ zero. nonzero (sym (same (of_inputs ls other)) ∙ zero));
+    nonzero = λ vanishes. least.nonzero (same (of_inputs ls bits) ∙ vanishes);
+    least = λ other size nonzero. least.least other size (λ vanishes. nonzero (sym (same (of_inputs ls other)) ∙ vanishes));
   }
 
-  pub witness_is_least : (x : Numbers) → IsWitnessOf after poly x → AreLeast g (sides_for s.claim g) x
-  witness_is_least x w =
-      let bits = inputs_at s x in
-      let P : List Lit → Sides → Type 0 = λ ls t. IsLeastNonzero (value_in after.table poly) ls (inputs_at t x) in
-      let at_inputs : P g.inputs s = subst (P g.inputs) goes.sides (subst (λ ls. P ls after.sides) inputs_are w.least) in
-      let least : IsLeastDifferenceAt g s bits =
-      last_frontier_gives_least e s f.added f.eliminated bits is_end (change (value_in after.table poly) (frontier_value e s f.added f.eliminated) g.inputs bits poly_value at_inputs) in
-      let range : AreInRange s x = subst (λ (t : Sides). AreInRange t x) goes.sides w.range in
-      let are : AreLeast g s x = record { least = least; range = range } in
-      subst (λ (t : Sides). AreLeast g t x) start.sides are
+  module _ (graph : Aig) (claim : Claim) (cut : Option Cut) (extended : l.extended ≡ extended_by graph cut) (sides : l.sides ≡ sides_for claim graph) where
+    same_graph : g ≡ graph
+    same_graph = ap (λ (x : Extended). x.graph) extended ∙ graph_by graph cut
 
-  -- ---- what a reduction comes to
+    pub witness_is_least : (x : Numbers) → IsLeastNonzero (value_in after.table poly) (inputs_in after.sides) (inputs_at after.sides x) → AreInRange after.sides x → AreLeast graph (sides_for claim graph) x
+    witness_is_least x nonzero in_range =
+        let P : List Lit → Sides → Type 0 = λ ls t. IsLeastNonzero (value_in after.table poly) ls (inputs_at t x) in
+        let at_inputs : P g.inputs s = subst (P g.inputs) goes.sides (subst (λ ls. P ls after.sides) inputs_are nonzero) in
+        let least : IsLeastDifferenceAt g s (inputs_at s x) =
+        last_frontier_gives_least e s f.added f.eliminated (inputs_at s x) is_end (change (value_in after.table poly) (frontier_value e s f.added f.eliminated) g.inputs (inputs_at s x) poly_value at_inputs) in
+        let range : AreInRange s x = subst (λ (t : Sides). AreInRange t x) goes.sides in_range in
+        subst (λ t. AreLeast graph t x) sides (subst (λ h. AreLeast h s x) same_graph (record { least = least; range = range }))
 
-  pub ended_of : (new : Made) (v : Ending) → IsWitness after new poly id v → IsEnded l.extended l.sides.claim new v
-  ended_of new Closed h = record {
-    extended = ap (λ (x : Made). x.extended) h.1 ∙ goes.extended;
-    sides = ap (λ (x : Made). x.sides) h.1 ∙ goes.sides ∙ start.sides;
-    few = subst AreFew (sym h.1) left.few;
-    decides = (subst (λ (x : Made). IsSome x.closing) (sym h.1) refl, zero_does h.0);
-  }
-  ended_of new (Differs x) h = record {
-    extended = ap (λ (x : Made). x.extended) h.1 ∙ goes.extended;
-    sides = ap (λ (x : Made). x.sides) h.1 ∙ goes.sides ∙ start.sides;
-    few = subst AreFew (sym h.1) left.few;
-    decides = witness_is_least x h.0;
-  }
+    -- ---- what is decided
 
-module _ (l : Made) (start : IsStart l) (alone : l.extended ≡ without_cut l.extended.graph) where
-  pub always_within : (budget : ℕ) (after : Made) (poly : Sum) (id : ℕ) → IsPlainlyReduced budget l after (Rest poly id) → IsWithinBudget l.extended.graph l.sides.claim budget
-  always_within budget after poly id h = λ t n is. within_always l.extended l.sides h.order start.extension h.plain budget h.reduced.1 t n
-      (subst (λ x. HasPlainSize x l.sides t n) (sym alone) (subst (λ x. HasPlainSize (without_cut l.extended.graph) x t n) (sym start.sides) is))
+    pub remainder_proves : AreLawfulSoFar after → ((σ : Assignment) → value_in after.table poly σ ≡ 0) → IsProof graph claim cut (closed after id)
+    remainder_proves lawful vanishes = record {
+      extended = goes.extended ∙ extended;
+      sides = goes.sides ∙ sides;
+      few = left.few;
+      closed = refl;
+      does = subst (λ k. Does k graph) (ap (λ (t : Sides). t.claim) sides) (subst (Does s.claim) same_graph (zero_does vanishes));
+    }
 
-  pub first_above : (budget step size : ℕ) (after : Made) → IsPlainlyReduced budget l after (answer.Passed step size) → IsFirstAbove l.extended.graph l.sides.claim budget step size
-  first_above budget step size after h =
+-- ---- the plain plan over the graph alone
+
+module _ (g : Aig) (claim : Claim) (l : Made) (start : IsStart l) (extended : l.extended ≡ without_cut g) (sides : l.sides ≡ sides_for claim g) where
+  pub within_alone : (budget : ℕ) (after : Made) (poly : Sum) (id : ℕ) → IsPlainlyReduced budget l after (Rest poly id) → IsWithinBudget g claim budget
+  within_alone budget after poly id h = λ t n is. within_always l.extended l.sides h.order start.extension h.plain budget h.reduced.1 t n
+      (subst (λ x. HasPlainSize x l.sides t n) (sym extended) (subst (λ x. HasPlainSize (without_cut g) x t n) (sym sides) is))
+
+  pub first_alone : (budget step size : ℕ) (after : Made) → IsPlainlyReduced budget l after (answer.Passed step size) → IsFirstAbove g claim budget step size
+  first_alone budget step size after h =
       let r = passed_is_first l.extended l.sides h.order start.extension h.plain budget step size h.reduced in
-      let g = l.extended.graph in
       record {
-        there = subst (λ (x : Extended). step ≤ length x.gates) alone r.0;
+        there = subst (λ (x : Extended). step ≤ length x.gates) extended r.0;
         above = h.reduced.above;
-        size = subst (λ x. HasPlainSize (without_cut g) x step size) start.sides (subst (λ x. HasPlainSize x l.sides step size) alone r.1);
-        first = λ i k before is. r.2 i k before (subst (λ x. HasPlainSize x l.sides i k) (sym alone) (subst (λ x. HasPlainSize (without_cut g) x i k) (sym start.sides) is));
+        size = subst (λ x. HasPlainSize (without_cut g) x step size) sides (subst (λ x. HasPlainSize x l.sides step size) extended r.1);
+        first = λ i k before is. r.2 i k before (subst (λ x. HasPlainSize x l.sides i k) (sym extended) (subst (λ x. HasPlainSize (without_cut g) x i k) (sym sides) is));
       }

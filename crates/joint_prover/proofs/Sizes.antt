@@ -1,7 +1,7 @@
 -- What a graph's size says, for a claim with an addend and without one.
-use Rattle.std.proofs.Common.{◌≡◌, ◌≤◌, Bool, true, false, length, arith, subst}
+use Rattle.std.proofs.Common.{◌≡◌, ◌≤◌, Bool, true, false, length, arith}
 use Rattle.graph_core.specs.declared.bounds.TheConstants.{MOST_INPUTS, MOST_VARIABLES}
-use Rattle.graph_core.specs.Aiger.Soundness.{IsMultiplierSized, IsSizedAs, IsSumSized}
+use Rattle.graph_core.specs.Aiger.Sizes.{IsSizedAs}
 use Rattle.graph_core.specs.Graph.{Aig}
 use Rattle.graph_core.specs.Graph.Operands.{profile_of, width_for}
 
@@ -28,10 +28,3 @@ few_inputs true g sized = let n = sized.narrow in let all = sized.shape.inputs i
 pub few_variables : (add : Bool) (g : Aig) → IsSizedAs (profile_of add) g → g.max ≤ MOST_VARIABLES
 few_variables false g sized = sized.small
 few_variables true g sized = sized.small
-
--- where it is known whether there is an addend
-pub sized_alone : (add : Bool) (g : Aig) → add ≡ false → IsSizedAs (profile_of add) g → IsMultiplierSized g
-sized_alone add g alone sized = subst (λ k. IsSizedAs (profile_of k) g) alone sized
-
-pub sized_added : (add : Bool) (g : Aig) → add ≡ true → IsSizedAs (profile_of add) g → IsSumSized g
-sized_added add g added sized = subst (λ k. IsSizedAs (profile_of k) g) added sized

@@ -4,12 +4,16 @@ use Rattle.std.proofs.lemmas.List.{append-nil}
 use Rattle.frontier_core.specs.LeastDifference.{IsLeastDifference, IsLeastDifferenceAt, IsLeastSumDifference}
 use Rattle.frontier_core.proofs.CallerLemmas.{difference_is_of_operands, difference_is_of_sum}
 use Rattle.graph_core.specs.Graph.{Aig, IsDefinedOnce}
-use Rattle.graph_core.specs.Graph.Operands.{AreOperandsOf, HasMultiplierShape, HasShapeFor, HasSumShape, Sides, adding, bits_of, c_literals, inputs_at, inputs_of, multiplying, output_modulus, product_as, sides_for, sum_width, width, width_for}
+use Rattle.graph_core.specs.Graph.Operands.{AreOperandsOf, HasMultiplierShape, HasShapeFor, HasSumShape, Sides, adding, bits_of, c_literals, inputs_at, inputs_of, multiplying, output_modulus, product_as, profile_of, sides_for, sum_width, width, width_for}
 use Rattle.graph_core.specs.declared.numbers.Numbers.{Numbers}
 use Rattle.graph_core.specs.declared.order.Order.{Order}
 use Rattle.graph_core.specs.declared.sign.Sign.{Sign}
 use Rattle.graph_core.proofs.OfGraphs.CallerLemmas.{length-operands}
-use Rattle.joint_prover.specs.Endings.{AreLeast}
+use Rattle.graph_core.specs.Aiger.Sizes.{IsMultiplierSized, IsSizedAs, IsSumSized}
+use Rattle.graph_core.specs.declared.claim.Claim.{Claim}
+use Rattle.joint_prover.specs.declared.task.Job.{Job}
+use Rattle.joint_prover.specs.Endings.{AreLeast, IsJob}
+use Rattle.joint_prover.proofs.Remainders.{operands_are}
 
 plus_none : (n : ℕ) → n + 0 ≡ n
 plus_none n = omega arith
@@ -78,3 +82,22 @@ module _ (g : Aig) (s : Sides) (of : AreOperandsOf g s) (once : IsDefinedOnce g)
 
     pub sum_is : (p : ℕ) → p ≡ (product_as sign m (length s.a) x.a x.b + x.c) % m → p ≡ (product_as sign m (sum_width g) x.a x.b + x.c) % m
     sum_is p is = is ∙ ap (λ n. (product_as sign m n x.a x.b + x.c) % m) as_wide
+
+-- ---- of what is asked
+
+module _ (job : Job) (is : IsJob job) where
+  pub sized_alone : job.task.claim.add ≡ false → IsMultiplierSized job.graph.now
+  sized_alone alone = subst (λ add. IsSizedAs (profile_of add) job.graph.now) (ap (λ (k : Claim). k.add) is.claim ∙ alone) is.sized
+
+  pub sized_added : job.task.claim.add ≡ true → IsSumSized job.graph.now
+  sized_added added = subst (λ add. IsSizedAs (profile_of add) job.graph.now) (ap (λ (k : Claim). k.add) is.claim ∙ added) is.sized
+
+  pub least_there : (x : Numbers) → AreLeast job.graph.now job.operands.now x → AreLeast job.graph.now (sides_for job.task.claim job.graph.now) x
+  least_there x = subst (λ s. AreLeast job.graph.now s x) (operands_are job is)
+
+  -- the number that is claimed there
+  pub claimed_there : (x : Numbers) (outputs p : ℕ) → outputs ≡ length job.graph.now.outputs →
+      p ≡ (product_as job.operands.now.claim.sign (2 ^ outputs) (length job.operands.now.a) x.a x.b + x.c) % 2 ^ outputs →
+      let s = sides_for job.task.claim job.graph.now in p ≡ (product_as s.claim.sign (output_modulus job.graph.now) (length s.a) x.a x.b + x.c) % output_modulus job.graph.now
+  claimed_there x outputs p many value = subst (λ (s : Sides). p ≡ (product_as s.claim.sign (output_modulus job.graph.now) (length s.a) x.a x.b + x.c) % output_modulus job.graph.now) (operands_are job is)
+      (subst (λ n. p ≡ (product_as job.operands.now.claim.sign (2 ^ n) (length job.operands.now.a) x.a x.b + x.c) % 2 ^ n) many value)

@@ -1,59 +1,95 @@
--- What plans come to. Private clauses alone cite this file.
-use Rattle.std.specs.Prelude.{◌≡◌, ℕ, ◌+◌, ◌≤◌, Bool, List, [], ◌∷◌, length, take, None, IsSome}
-use Rattle.column_reducer.specs.Reducing.{ContinuesLines, IsLastRest, IsReduced, Planned, planned}
-use Rattle.column_reducer.specs.declared.reduced.Reduced.{Reduced}
+-- What plans run over and come to, and what is told of it. Private clauses alone cite this file.
+use Rattle.std.specs.Prelude.{◌≡◌, ◌⊎◌, ℕ, ◌+◌, ◌*◌, ◌≤◌, Bool, List, [], length, option_map, take, IsSome}
+use Rattle.std.specs.declared.option.Option.{Option}
+use Rattle.std.specs.declared.option.Option.TheVariants.{None, Some}
+use Rattle.clause_core.specs.ClauseLines.{AreLawfulClauseLines}
+use Rattle.column_reducer.specs.Reducing.{ContinuesLines, IsLastRest, IsPassed, planned}
+use Rattle.command_core.specs.Files.{Files}
+use Rattle.command_core.specs.Written.{StopsWriting, WritesPair}
+use Rattle.command_core.specs.declared.stop.Stop.TheVariants as stop
+use Rattle.drup_text.specs.declared.head.Header.{Header}
 use Rattle.frontier_core.specs.LastFrontier.{AgreeEverywhere}
-use Rattle.frontier_core.specs.LeastDifference.{IsLeastDifferenceAt, IsLeastNonzero}
+use Rattle.frontier_core.specs.LeastDifference.{IsLeastDifferenceAt}
 use Rattle.frontier_core.specs.declared.step.Step.{Step}
-use Rattle.frontier_core.specs.declared.step.Step.TheVariants.{Add, Eliminate}
-use Rattle.frontier_core.specs.Plan.{IsPlan, nothing, plain_steps, taken}
-use Rattle.frontier_core.specs.PlainOrder.{IsPlainOrder}
-use Rattle.graph_core.specs.Aiger.Soundness.{IsSizedAs}
-use Rattle.graph_core.specs.Algebra as algebra
-use Rattle.graph_core.specs.Graph.{Aig}
-use Rattle.graph_core.specs.Graph.Assignments.{Assignment}
-use Rattle.graph_core.specs.Graph.Extended.{Extended}
-use Rattle.graph_core.specs.Graph.Operands.{AreInRange, AreOperandsOf, Does, Sides, inputs_at, inputs_in, profile_of, sides_for}
+use Rattle.frontier_core.specs.Plan.{IsPlan, nothing, taken}
+use Rattle.graph_core.specs.Aiger.Sizes.{IsSizedAs}
+use Rattle.graph_core.specs.Graph.Extended.{modulus}
+use Rattle.graph_core.specs.Graph.{Aig, IsWellFormed}
+use Rattle.graph_core.specs.Graph.Operands.{AreInRange, AreOperandsOf, Does, Sides, inputs_at, profile_of, sides_for}
 use Rattle.graph_core.specs.declared.claim.Claim.{Claim}
 use Rattle.graph_core.specs.declared.numbers.Numbers.{Numbers}
-use Rattle.pac_writer.specs.Writing.{Made, closed, written_ledger}
-use Rattle.poly_terms.specs.Tables.{Sum, modulus_in, value_in}
+use Rattle.mv_desk.specs.View.{View, Rose}
+use Rattle.pac_writer.specs.Writing.{Made, written_ledger}
+use Rattle.pair_core.specs.Texts.{CanBeWritten, algebra_text, clauses_text}
+use Rattle.poly_terms.specs.Tables.{Sum, modulus_in}
 use Rattle.ripple_graft.specs.Extension.{IsExtension}
-use Rattle.joint_prover.specs.declared.ending.Ending.{Ending}
-use Rattle.joint_prover.specs.declared.ending.Ending.TheVariants.{Closed, Differs}
-use Rattle.joint_prover.specs.declared.ending.Plain.{Plain}
-use Rattle.joint_prover.specs.declared.ending.Plain.TheVariants as plain
-use Rattle.joint_prover.specs.declared.ending.Sliced.{Sliced}
-use Rattle.joint_prover.specs.declared.ending.Sliced.TheVariants as sliced
+use Rattle.ripple_graft.specs.HeaderBlocks.{IsCutOf, cut_blocks}
+use Rattle.ripple_graft.specs.declared.cut.Cut.{Cut}
+use Rattle.slice_planner.specs.Slices.{IsSlicePlan}
+use Rattle.slice_planner.specs.declared.order.Order.{Order}
+use Rattle.slice_planner.specs.declared.order.Order.TheVariants.{Slices}
+use Rattle.joint_prover.specs.declared.decision.Decision.{Decision}
+use Rattle.joint_prover.specs.declared.decision.Decision.TheVariants as decision
+use Rattle.joint_prover.specs.declared.decision.Outcome.{Outcome}
+use Rattle.joint_prover.specs.declared.decision.Outcome.TheVariants.{Decided, Passed}
+use Rattle.joint_prover.specs.declared.note.Note.{Note}
+use Rattle.joint_prover.specs.declared.shown.Shown.{Shown}
+use Rattle.joint_prover.specs.declared.task.Job.{Job}
+use Rattle.joint_prover.specs.declared.task.Task.{Task}
 use Rattle.joint_prover.specs.declared.verdict.Tried.{Tried}
-use Rattle.joint_prover.specs.Tries.{EndsWithin, IsAbove, IsWithinBudget}
-use Rattle.joint_prover.specs.Verdicts.{IsFirstAbove}
+use Rattle.joint_prover.specs.declared.verdict.Verdict.{Verdict}
+use Rattle.joint_prover.specs.declared.verdict.Verdict.TheVariants as verdict
+use Rattle.joint_prover.specs.Pairs.{IsPairOver, IsVersion}
+use Rattle.joint_prover.specs.Tries.{EndsWithCut, extended_by}
+use Rattle.joint_prover.specs.Verdicts.{IsWrong, IsWrongSum}
+
+-- ---- the graphs that plans run over
+
+-- the cut that is named, if one is
+abbrev pub cut_named : Shown → Option Cut
+cut_named s = option_map (λ cut. cut.now) s.cut
+
+-- It is the graph with that cut's adder, or the graph alone. The new outputs are the old ones, and lines show it, of which there are few.
+pub record IsShown (g : Aig) (conflicts : ℕ) (s : Shown) : Type 0 where
+  pub extended : s.extended.now ≡ extended_by g (cut_named s)
+  pub fits : IsCutOf g (cut_named s)
+  pub agree : AgreeEverywhere (extended_by g (cut_named s))
+  pub lawful : AreLawfulClauseLines (extended_by g (cut_named s)) s.log.now
+  pub few : length s.log.now ≤ 2 * (conflicts + 2 * length g.outputs)
+  pub none : cut_named s ≡ None → s.log.now ≡ []
+
+-- The operands are those that their claim names in the graph, which has no fault and is of a size for it; that is what is asked; the version
+-- of certificates is one; and the graph is shown, alone and with the adder that is used.
+pub record IsJob (job : Job) : Type 0 where
+  pub operands : AreOperandsOf job.graph.now job.operands.now
+  pub sized : IsSizedAs (profile_of job.operands.now.claim.add) job.graph.now
+  pub claim : job.operands.now.claim ≡ job.task.claim
+  pub well_formed : IsWellFormed job.graph.now
+  pub version : IsVersion job.task.version
+  pub alone : IsShown job.graph.now job.task.conflicts job.alone
+  pub lone : cut_named job.alone ≡ None
+  pub used : IsShown job.graph.now job.task.conflicts job.used
+
+-- the cut in use: one that was found, or that of the adder that is used
+abbrev pub cut_of_found : Option Cut → Option Cut → Option Cut
+cut_of_found used None = used
+cut_of_found used (Some cut) = Some cut
+
+-- ---- a plan
 
 -- Lines over a graph with or without an adder, of which none was written.
 pub record IsStart (l : Made) : Type 0 where
   pub sides : AreOperandsOf l.extended.graph l.sides
-  pub same_modulus : modulus_in l.table ≡ algebra.modulus l.extended
+  pub same_modulus : modulus_in l.table ≡ modulus l.extended
   pub lines : l.lines ≡ []
   pub unclosed : l.closing ≡ None
   pub sized : IsSizedAs (profile_of l.sides.claim.add) l.extended.graph
   pub extension : IsExtension l.extended
   pub agree : AgreeEverywhere l.extended
 
--- the plan of a plain order: all columns, and then the gates in that order
-abbrev pub plain_of : Extended → List ℕ → Planned
-plain_of e order = planned e (plain_steps e order) (length e.graph.outputs)
-
 -- There are at most two lines more than gates.
 abbrev pub AreFew : Made → Type 0
 AreFew l = length l.lines ≤ length l.extended.gates + 2
-
--- The reduction of the plain order has this answer, and the lines go on; they are few.
-pub record IsPlainlyReduced (budget : ℕ) (old new : Made) (answer : Reduced) : Type 0 where
-  pub order : List ℕ
-  pub plain : IsPlainOrder old.extended.gates order
-  pub goes_on : ContinuesLines old new
-  pub reduced : IsReduced (plain_of old.extended order) old.sides budget new answer
-  pub few : AreFew new
 
 -- A plan was reduced to its end and left this remainder, and the lines go on; they are few.
 pub record IsRemainder (old new : Made) (poly : Sum) (id : ℕ) : Type 0 where
@@ -69,38 +105,13 @@ pub record AreLeast (g : Aig) (s : Sides) (x : Numbers) : Type 0 where
   pub least : IsLeastDifferenceAt g s (inputs_at s x)
   pub range : AreInRange s x
 
--- the lines are closed, and the graph does what is claimed; or these are the least numbers on which it doesn't
-abbrev pub Decides : Aig → Claim → Made → Ending → Type 0
-Decides g claim l Closed = IsSome l.closing × Does claim g
-Decides g claim l (Differs x) = AreLeast g (sides_for claim g) x
-
--- The lines are over this graph and few, and the end of a plan decides.
-pub record IsEnded (e : Extended) (claim : Claim) (l : Made) (ending : Ending) : Type 0 where
-  pub extended : l.extended ≡ e
-  pub sides : l.sides ≡ sides_for claim e.graph
+-- Lines over the graph with this cut or alone are few and closed, and the graph does what is claimed.
+pub record IsProof (g : Aig) (claim : Claim) (cut : Option Cut) (l : Made) : Type 0 where
+  pub extended : l.extended ≡ extended_by g cut
+  pub sides : l.sides ≡ sides_for claim g
   pub few : AreFew l
-  pub decides : Decides e.graph claim l ending
-
--- lines over the graph of others, and the plan kept to this budget
-abbrev pub IsEndedWithin : Made → ℕ → Made → Ending → Type 0
-IsEndedWithin old budget l ending = IsEnded old.extended old.sides.claim l ending × EndsWithin old.extended old.sides budget
-
-abbrev pub IsSliced : Made → ℕ → Bool → Made → Sliced → Type 0
-IsSliced old budget rewritten l (sliced.Ended ending) = IsEndedWithin old budget l ending
-IsSliced old budget rewritten l (sliced.Passed tried) = (tried.rewritten ≡ rewritten) × IsAbove old.extended old.sides budget tried
-
-abbrev pub IsPlain : Made → ℕ → Made → Plain → Type 0
-IsPlain old budget l (plain.Ended ending) = IsEnded old.extended old.sides.claim l ending × IsWithinBudget old.extended.graph old.sides.claim budget
-IsPlain old budget l (plain.Passed step size) = IsFirstAbove old.extended.graph old.sides.claim budget step size
-
--- what one step takes
-abbrev pub columns_taken : Step → List ℕ
-columns_taken (Add k) = k ∷ []
-columns_taken (Eliminate v) = []
-
-abbrev pub gates_of : Step → List ℕ
-gates_of (Add k) = []
-gates_of (Eliminate v) = v ∷ []
+  pub closed : IsSome l.closing
+  pub does : Does claim g
 
 -- The columns and gates that the first steps have taken, the latest first.
 pub record IsTriedAt (steps : List Step) (count size : ℕ) (rewritten : Bool) (tried : Tried) : Type 0 where
@@ -109,11 +120,41 @@ pub record IsTriedAt (steps : List Step) (count size : ℕ) (rewritten : Bool) (
   pub gates : tried.gates.items ≡ (taken nothing (take count steps)).eliminated
   pub size_is : tried.size ≡ size
 
--- The least numbers at which a remainder isn't 0.
-pub record IsWitnessOf (l : Made) (poly : Sum) (x : Numbers) : Type 0 where
-  pub least : IsLeastNonzero (value_in l.table poly) (inputs_in l.sides) (inputs_at l.sides x)
-  pub range : AreInRange l.sides x
+-- ---- what a plan decides
 
-abbrev pub IsWitness : Made → Made → Sum → ℕ → Ending → Type 0
-IsWitness old new poly id Closed = ((σ : Assignment) → value_in old.table poly σ ≡ 0) × (new ≡ closed old id)
-IsWitness old new poly id (Differs x) = IsWitnessOf old poly x × (new ≡ old)
+-- the least numbers on which the graph differs
+abbrev pub IsWrongAs : Aig → Claim → Decision → Type 0
+IsWrongAs g claim (decision.Wrong a b value product) = IsWrong g claim a b value product
+IsWrongAs g claim (decision.WrongSum a b c value sum) = IsWrongSum g claim a b c value sum
+IsWrongAs g claim _ = ⊥
+
+-- over the graph with this cut or alone
+abbrev pub Decides : Aig → Task → Option Cut → Decision → Type 0
+Decides g task cut (decision.Proved p) = Does task.claim g × CanBeWritten p × IsPairOver g task cut (clauses_text p) (algebra_text p)
+Decides g task cut d = IsWrongAs g task.claim d
+
+-- and by a plan that keeps to the budget
+abbrev pub IsEnd : Aig → Task → Option Cut → Decision → Type 0
+IsEnd g task cut d = EndsWithCut g task.claim task.budget cut × Decides g task cut d
+
+-- what a plan comes to; of a slice plan it is known where it passed its budget
+abbrev pub IsOutcome : Aig → Task → Option Cut → Order → ℕ → Outcome → Type 0
+IsOutcome g task cut order budget (Decided d) = IsEnd g task cut d
+IsOutcome g task cut order budget (Passed plan step size) = order ≡ Slices →
+    IsSlicePlan (extended_by g cut) plan.steps × IsPassed (planned (extended_by g cut) plan.steps 0) (sides_for task.claim g) budget step size
+
+-- the header that names a cut
+abbrev pub header_of : Aig → ℕ → Option Cut → Header
+header_of g version cut = record { version = version; blocks = cut_blocks (length g.outputs) cut }
+
+-- ---- what is told
+
+-- Of a decision with its note: a pair is written, or writing it stops; else nothing is done to the files.
+abbrev pub IsTold : Files → View → View → Decision → Note → Verdict → Option Note → Type 0
+IsTold files before after (decision.Proved p) n v noted =
+    ((v ≡ verdict.Proved) × (noted ≡ Some n) × WritesPair files (clauses_text p) (algebra_text p) before after) ⊎
+    ((v ≡ verdict.Stopped stop.WriteFault) × (noted ≡ None) × Rose before.write_faults after.write_faults ×
+    StopsWriting files (λ text. text ≡ clauses_text p) (λ beside text. text ≡ algebra_text p) before after)
+IsTold files before after (decision.Wrong a b value product) n v noted = (v ≡ verdict.Wrong a b value product) × (noted ≡ Some n) × (after ≡ before)
+IsTold files before after (decision.WrongSum a b c value sum) n v noted = (v ≡ verdict.WrongSum a b c value sum) × (noted ≡ Some n) × (after ≡ before)
+IsTold files before after (decision.Undecided tried step size) n v noted = (v ≡ verdict.Undecided tried step size) × (noted ≡ Some n) × (after ≡ before)

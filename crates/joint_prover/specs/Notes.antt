@@ -2,7 +2,7 @@
 use Rattle.std.specs.Prelude.{◌≡◌, ℕ, Bool, true, false}
 use Rattle.std.specs.declared.option.Option.{Option}
 use Rattle.std.specs.declared.option.Option.TheVariants.{None, Some}
-use Rattle.graph_core.specs.Algebra.{AgreeOnColumns}
+use Rattle.graph_core.specs.Graph.Extended.{AgreeOnColumns}
 use Rattle.graph_core.specs.Graph.{Aig}
 use Rattle.graph_core.specs.Graph.Operands.{sides_for}
 use Rattle.graph_core.specs.declared.claim.Claim.{Claim}
@@ -57,11 +57,16 @@ differing false x = note.Differs x.a x.b
 differing true x = note.DiffersSum x.a x.b x.c
 
 -- the note on what came of a rewriting
-abbrev pub note_of : Bool → Rewriting → Note
-note_of add (kind.Used cut extended log) = note.Used cut
-note_of add kind.None = note.None
-note_of add (kind.Differs x) = differing add x
-note_of add (kind.Spent lemmas goal log) = note.Spent lemmas goal log
+abbrev pub rewriting_note_of : Bool → Rewriting → Note
+rewriting_note_of add (kind.Used cut extended log) = note.Used cut
+rewriting_note_of add kind.None = note.None
+rewriting_note_of add (kind.Differs x) = differing add x
+rewriting_note_of add (kind.Spent lemmas goal log) = note.Spent lemmas goal log
+
+-- and where a cut was found
+abbrev pub note_of : Bool → Rewriting → Option Cut → Note
+note_of add r None = rewriting_note_of add r
+note_of add r (Some cut) = note.Found cut
 
 -- the cut whose adder is used
 abbrev pub cut_in : Rewriting → Option Cut

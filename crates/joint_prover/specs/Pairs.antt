@@ -3,11 +3,11 @@ use Rattle.std.specs.Prelude.{◌≡◌, ◌⊎◌, ℕ, ◌+◌, ◌*◌, ◌�
 use Rattle.std.specs.List.{All}
 use Rattle.std.specs.declared.option.Option.{Option}
 use Rattle.std.specs.declared.option.Option.TheVariants.{None}
-use Rattle.graph_core.specs.Algebra.{Line, Premises, modulus}
-use Rattle.graph_core.specs.Algebra.Text.{IsLawfulAlgebraFile}
+use Rattle.algebra_core.specs.AlgebraLines.{Line, Premises}
+use Rattle.graph_core.specs.Graph.Extended.{modulus, Extended}
+use Rattle.algebra_core.specs.Text.{IsLawfulAlgebraFile}
 use Rattle.graph_core.specs.Graph.Operands.{sides_for}
 use Rattle.graph_core.specs.Graph.{Aig}
-use Rattle.graph_core.specs.Graph.Extended.{Extended}
 use Rattle.graph_core.specs.Text.JudgedLines.{IsWithin, Lengths}
 use Rattle.ripple_graft.specs.HeaderBlocks.{cut_blocks}
 use Rattle.ripple_graft.specs.declared.cut.Cut.{Cut}
@@ -16,7 +16,7 @@ use Rattle.clause_core.specs.ClauseLines.{ClauseLine, clause_in}
 use Rattle.drup_text.specs.WrittenTexts.{any_file_text}
 use Rattle.pac_writer.specs.Certificates.{written_certificate}
 use Rattle.pac_writer.specs.Spare.{IsSpareLine}
-use Rattle.joint_checker.specs.ClauseFiles.{GivesPremises, premises}
+use Rattle.pair_core.specs.ClauseFiles.{GivesPremises, premises}
 use Rattle.joint_prover.specs.declared.task.Task.{Task}
 use Rattle.joint_prover.specs.Tries.{EndsOver, extended_by}
 

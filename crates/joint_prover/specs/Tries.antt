@@ -6,10 +6,9 @@ use Rattle.frontier_core.specs.Frontier.{IsFrontier, frontier_value}
 use Rattle.frontier_core.specs.Plan.{nothing, taken}
 use Rattle.frontier_core.specs.PlainOrder.{HasPlainSize}
 use Rattle.frontier_core.specs.declared.step.Step.{Step}
-use Rattle.graph_core.specs.Algebra.{modulus}
-use Rattle.graph_core.specs.Algebra.NormalForm.{HasSize}
+use Rattle.graph_core.specs.Graph.Extended.{modulus, Extended, without_cut}
+use Rattle.algebra_core.specs.NormalForm.{HasSize}
 use Rattle.graph_core.specs.Graph.{Aig}
-use Rattle.graph_core.specs.Graph.Extended.{Extended, without_cut}
 use Rattle.graph_core.specs.Graph.Operands.{Sides, sides_for}
 use Rattle.graph_core.specs.declared.claim.Claim.{Claim}
 use Rattle.ripple_graft.specs.Blocks.{with_blocks}

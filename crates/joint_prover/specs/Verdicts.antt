@@ -14,7 +14,7 @@ use Rattle.graph_core.specs.declared.claim.Claim.{Claim}
 use Rattle.mv_desk.specs.View.{View, Rose, bytes_under, IsTold}
 use Rattle.mv_desk.specs.declared.slot.Slot.TheVariants as slot
 use Rattle.ripple_graft.specs.declared.cut.Cut.{Cut}
-use Rattle.joint_checker.specs.Certificates.{IsPair}
+use Rattle.pair_core.specs.Certificates.{IsPair}
 use Rattle.command_core.specs.Files.{AreDistinct, Files, HasGraph}
 use Rattle.joint_prover.specs.declared.note.Note.{Note}
 use Rattle.joint_prover.specs.declared.task.Task.{Task}

@@ -1,116 +1,130 @@
-// What the end of a plan tells, and the lines that a plan begins with.
-ghost use Rattle.std.specs.Prelude.{◌≡◌, ◌≤◌, ℕ, IfOk, OnErr, false, true};
-ghost use Rattle.drup_text.specs.WrittenTexts.{any_file_text};
-ghost use Rattle.graph_core.specs.Aiger.Soundness.{IsMultiplierSized, IsSizedAs, IsSumSized};
-ghost use Rattle.graph_core.specs.Graph.Extended.{Extended as ExtendedGraph};
-ghost use Rattle.graph_core.specs.Graph.Operands.{AreOperandsOf, profile_of};
-ghost use Rattle.graph_core.specs.declared.claim.Claim.{Claim};
-ghost use Rattle.mv_desk.specs.View.{KeepsTelling};
-ghost use Rattle.pac_writer.specs.Writing.{IsFresh};
-ghost use Rattle.ripple_graft.specs.Extension.{IsExtension};
-ghost use Rattle.command_core.specs.Files.{files_of};
-ghost use Rattle.joint_prover.specs.Endings.{AreLeast, IsEnded};
-ghost use Rattle.joint_prover.specs.Pairs.{AreClausesOver};
-ghost use Rattle.joint_prover.specs.Parts.{IsToldOver, IsToldWrong, clauses_header, cut_named};
-ghost use Rattle.joint_prover.specs.Tries.{extended_by};
-ghost use Rattle.joint_prover.specs.declared.task.Task.{Task};
+// What is concluded from a plan that ended: the certificates of its lines, or the numbers that show the graph to be wrong.
+ghost use Rattle.std.specs.Prelude.{◌≡◌, false, true, IfOk, length};
+ghost use Rattle.std.specs.List.{All};
+ghost use Rattle.clause_core.specs.Clause.{IsClause};
+ghost use Rattle.clause_core.specs.ClauseLines.{clause_in};
+ghost use Rattle.ripple_graft.specs.Blocks.{block_of};
+ghost use Rattle.joint_prover.specs.Endings.{AreLeast, Decides, IsJob, IsProof, IsShown, IsWrongAs, cut_named, header_of};
 
-use crate::clauses::{Clauses, header};
-use crate::ending::Ending;
-use crate::verdict::Verdict;
-use crate::writing::write_certificates;
-use command_core::Names;
-use graph_core::{Graph, Memory, Numbers, Operands};
-use mv_desk::Desk;
+use crate::decision::Decision;
+use crate::shown::Shown;
+use crate::task::Job;
+use clause_core::Line;
+use drup_text::Header;
+use graph_core::{Graph, Memory, Numbers};
 use operand_search::claimed_value;
 use pac_writer::Lines;
-use ripple_graft::Extended;
+use pair_core::Pair;
+use ripple_graft::{Block, BlockList, Cut, Pairs};
 use std::alloc::Global;
 
-/// No line, over an extended graph whose faults are none.
-pub(crate) fn start_lines<'a>(
+/// Lines that are closed over an extended graph are an algebra certificate. What shows that graph is the clause
+/// certificate.
+pub(crate) fn prove(
     alloc: Global,
-    extended: &'a Extended<'a>,
-    operands: &'a Operands,
-) -> Result<Lines<'a>, Memory>
-    requires sized { IsSizedAs (profile_of operands.now.claim.add) extended.now.graph }
-    ensures fresh { IfOk result (IsFresh extended.now operands.now) }
-    ensures extension { IsExtension extended.now }
+    job: &Job<'_>,
+    shown: Shown<'_>,
+    lines: Lines<'_>,
+) -> Result<Decision, Memory>
+    requires job { IsJob job.now }
+    requires shown { IsShown job.now.graph.now job.now.task.conflicts shown }
+    requires proof { IsProof job.now.graph.now job.now.task.claim (cut_named shown) lines }
+    ensures { IfOk result (Decides job.now.graph.now job.now.task (cut_named shown.entry)) }
 {
-    let _gates = extended.gates();
-    Lines::new(alloc, extended, operands)
+    let header = header(alloc, job, shown)?;
+    let clauses = copied(alloc, shown.log)?;
+    let (terms, algebra, closing) = lines.into_parts();
+    Ok(Decision::Proved(Pair {
+        header,
+        clauses,
+        algebra,
+        terms,
+        closing,
+    }))
 }
 
-/// The verdict at the end of a plan: lines that are closed are written beside the clause certificate that is given.
-pub(crate) fn conclude<D: Desk>(
-    alloc: Global,
-    desk: &mut D,
-    ending: Ending,
-    lines: &Lines<'_>,
-    clauses: Clauses<'_>,
-    names: &Names<'_>,
-) -> Result<Verdict, Memory>
-    requires ended { (e : ExtendedGraph) × (claim : Claim) × IsSizedAs (profile_of claim.add) e.graph ×
-        IsEnded e claim lines.now ending }
-    ensures verdict { IfOk result (λ v. (e : ExtendedGraph) (task : Task) →
-        IsEnded e task.claim lines.now ending →
-        task.version ≡ clauses.entry.version →
-        e ≡ extended_by e.graph (cut_named clauses.entry) →
-        AreClausesOver e.graph task (cut_named clauses.entry)
-        (any_file_text (clauses_header e.graph clauses.entry) clauses.entry.log.now) →
-        IsToldOver e.graph task (cut_named clauses.entry) (files_of names.now)
-        (D.seen desk.old) (D.seen desk.new) v) }
-    ensures memory { OnErr result (D.seen desk.new ≡ D.seen desk.old) }
-    ensures opened { (D.seen desk.new).opened ≡ (D.seen desk.old).opened }
-    ensures later { (D.seen desk.old).write_faults ≤ (D.seen desk.new).write_faults }
-    ensures tells { KeepsTelling (D.seen desk.old) (D.seen desk.new) }
+// The header that names the cut as a block of the graph.
+fn header(alloc: Global, job: &Job<'_>, shown: Shown<'_>) -> Result<Header, Memory>
+    ensures { IfOk result (λ h. h ≡ header_of job.now.graph.now job.now.task.version (cut_named shown.entry)) }
 {
-    let graph = lines.extended().graph();
-    match ending {
-        Ending::Closed => {
-            let header = header(alloc, graph, &clauses)?;
-            Ok(write_certificates(desk, lines, &header, clauses.log, names))
+    let mut blocks = Vec::new(alloc);
+    if let Some(cut) = shown.cut {
+        blocks.push(block(alloc, job.graph, cut)?)?;
+    }
+    Ok(Header {
+        version: job.task.version,
+        blocks: BlockList::from_vec(blocks),
+    })
+}
+
+// The block of a cut: the last carry is replaced too where it is that of the last column.
+fn block(alloc: Global, graph: &Graph, cut: &Cut) -> Result<Block, Memory>
+    ensures { IfOk result (λ b. b ≡ block_of (length graph.now.outputs) cut.now) }
+{
+    let pairs = Vec::from_slice(alloc, cut.pairs.as_slice())?;
+    let end = u64::from(cut.lo) + pairs.len() as u64;
+    let carry = end + 1 == u64::from(graph.outputs());
+    let cut = Cut {
+        lo: cut.lo,
+        pairs: Pairs::from_vec(pairs),
+    };
+    Ok(Block { cut, carry })
+}
+
+// The same lines once more. Each has a literal once.
+fn copied(alloc: Global, log: &[Line]) -> Result<Vec<Line>, Memory>
+    ensures lines { IfOk result (λ lines. lines.items ≡ log.now) }
+    ensures once { IfOk result (λ lines. All (λ line. IsClause (clause_in line)) log.now) }
+{
+    let mut lines = Vec::new(alloc);
+    for line in log {
+        let copy = copy_of(alloc, line)?;
+        lines.push(copy)?;
+    }
+    Ok(lines)
+}
+
+fn copy_of(alloc: Global, line: &Line) -> Result<Line, Memory>
+    ensures line { IfOk result (λ copy. copy ≡ line.now) }
+    ensures once { IfOk result (λ copy. IsClause (clause_in line.now)) }
+{
+    match line {
+        Line::Add(clause) => {
+            // a clause has a literal once
+            let _literals = clause.lits();
+            Ok(Line::Add(clause.copy(alloc)?))
         }
-        Ending::Differs(numbers) => tell_wrong(alloc, graph, lines.operands(), numbers),
+        Line::Delete(clause) => {
+            let _literals = clause.lits();
+            Ok(Line::Delete(clause.copy(alloc)?))
+        }
     }
 }
 
-/// The verdict on a graph that differs at these numbers and at none before them.
-pub(crate) fn tell_wrong(
-    alloc: Global,
-    graph: &Graph,
-    operands: &Operands,
-    numbers: Numbers,
-) -> Result<Verdict, Memory>
-    requires sized { IsSizedAs (profile_of operands.now.claim.add) graph.now }
-    requires operands { AreOperandsOf graph.now operands.now }
-    requires least { AreLeast graph.now operands.now numbers }
-    ensures { IfOk result (IsToldWrong graph.now operands.now.claim) }
+/// The graph differs at these numbers and at none before them.
+pub(crate) fn refute(alloc: Global, job: &Job<'_>, numbers: Numbers) -> Result<Decision, Memory>
+    requires job { IsJob job.now }
+    requires least { AreLeast job.now.graph.now job.now.operands.now numbers }
+    ensures { IfOk result (IsWrongAs job.now.graph.now job.now.task.claim) }
 {
-    if operands.claim().add {
-        tell_wrong_sum(alloc, graph, operands, numbers)
+    if job.task.claim.add {
+        wrong_sum(alloc, job, numbers)
     } else {
-        tell_wrong_product(alloc, graph, operands, numbers)
+        wrong_product(alloc, job, numbers)
     }
 }
 
 // With its value there and the product.
-fn tell_wrong_product(
-    alloc: Global,
-    graph: &Graph,
-    operands: &Operands,
-    numbers: Numbers,
-) -> Result<Verdict, Memory>
-    requires alone { operands.now.claim.add ≡ false }
-    requires sized { IsMultiplierSized graph.now }
-    requires operands { AreOperandsOf graph.now operands.now }
-    requires least { AreLeast graph.now operands.now numbers }
-    ensures { IfOk result (IsToldWrong graph.now operands.now.claim) }
+fn wrong_product(alloc: Global, job: &Job<'_>, numbers: Numbers) -> Result<Decision, Memory>
+    requires job { IsJob job.now }
+    requires alone { job.now.task.claim.add ≡ false }
+    requires least { AreLeast job.now.graph.now job.now.operands.now numbers }
+    ensures { IfOk result (IsWrongAs job.now.graph.now job.now.task.claim) }
 {
     let Numbers { a, b, .. } = numbers;
-    let value = graph.value_on(alloc, operands.order(), a, b)?;
-    let product = claimed_value(operands, numbers, graph.outputs());
-    Ok(Verdict::Wrong {
+    let value = job.graph.value_on(alloc, job.task.claim.order, a, b)?;
+    let product = claimed_value(job.operands, numbers, job.graph.outputs());
+    Ok(Decision::Wrong {
         a,
         b,
         value,
@@ -119,22 +133,16 @@ fn tell_wrong_product(
 }
 
 // With its value there and the product plus the addend.
-fn tell_wrong_sum(
-    alloc: Global,
-    graph: &Graph,
-    operands: &Operands,
-    numbers: Numbers,
-) -> Result<Verdict, Memory>
-    requires added { operands.now.claim.add ≡ true }
-    requires sized { IsSumSized graph.now }
-    requires operands { AreOperandsOf graph.now operands.now }
-    requires least { AreLeast graph.now operands.now numbers }
-    ensures { IfOk result (IsToldWrong graph.now operands.now.claim) }
+fn wrong_sum(alloc: Global, job: &Job<'_>, numbers: Numbers) -> Result<Decision, Memory>
+    requires job { IsJob job.now }
+    requires added { job.now.task.claim.add ≡ true }
+    requires least { AreLeast job.now.graph.now job.now.operands.now numbers }
+    ensures { IfOk result (IsWrongAs job.now.graph.now job.now.task.claim) }
 {
     let Numbers { a, b, c } = numbers;
-    let value = graph.sum_on(alloc, operands.order(), a, b, c)?;
-    let sum = claimed_value(operands, numbers, graph.outputs());
-    Ok(Verdict::WrongSum {
+    let value = job.graph.sum_on(alloc, job.task.claim.order, a, b, c)?;
+    let sum = claimed_value(job.operands, numbers, job.graph.outputs());
+    Ok(Decision::WrongSum {
         a,
         b,
         c,

@@ -1,6 +1,6 @@
 // The note on a rewriting.
 ghost use Rattle.std.specs.Prelude.{◌≡◌};
-ghost use Rattle.joint_prover.specs.Notes.{differing, note_of};
+ghost use Rattle.joint_prover.specs.Notes.{differing, note_of, rewriting_note_of};
 
 use cdcl_solver::Log;
 use graph_core::Numbers;
@@ -25,10 +25,20 @@ pub enum Note {
     Found(Cut),
 }
 
-/// The note, where the claim has an addend or none: neither the graph with the adder is kept nor the lines that show its
-/// goals.
-pub(crate) fn make_note(add: bool, rewritten: Rewriting<'_>) -> Note
-    ensures { result ≡ note_of add rewritten.entry }
+/// The note: a cut that was found, where a plan over the graph with its adder gave the verdict, or else what came of the
+/// rewriting. Neither the graph with the adder is kept nor the lines that show its goals.
+pub(crate) fn make_note(add: bool, rewritten: Rewriting<'_>, found: Option<Cut>) -> Note
+    ensures { result ≡ note_of add rewritten.entry found }
+{
+    match found {
+        Some(cut) => Note::Found(cut),
+        None => rewriting_note(add, rewritten),
+    }
+}
+
+// Where the claim has an addend or none.
+fn rewriting_note(add: bool, rewritten: Rewriting<'_>) -> Note
+    ensures { result ≡ rewriting_note_of add rewritten.entry }
 {
     match rewritten {
         Rewriting::Used { cut, .. } => Note::Used(cut),

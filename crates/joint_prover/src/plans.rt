@@ -1,154 +1,198 @@
-// The plans in their order, with the whole budget: each is tried where those before it passed it.
-ghost use Rattle.std.specs.Prelude.{◌≡◌, ◌≤◌, IfOk, OnErr};
-ghost use Rattle.std.specs.declared.option.Option.{Option};
-ghost use Rattle.graph_core.specs.Graph.{IsWellFormed};
-ghost use Rattle.mv_desk.specs.View.{KeepsTelling};
-ghost use Rattle.ripple_graft.specs.declared.cut.Cut.{Cut as CutAt};
-ghost use Rattle.stage_rewriter.specs.Rewriting.{Agrees, IsRewriting};
-ghost use Rattle.command_core.specs.Files.{files_of};
-ghost use Rattle.joint_prover.specs.Notes.{cut_in};
-ghost use Rattle.joint_prover.specs.Parts.{AreTriedBefore, IsJob, IsOfFirstPlans, IsOfGraph, task_of};
-ghost use Rattle.joint_prover.specs.Tries.{AreTried};
+// The order of plans: what is tried over which graph, with which budget, until one decides.
+ghost use Rattle.std.specs.Prelude.{◌≡◌, ◌++◌, ◌∷◌, [], IfOk, IfSome, IsNone};
+ghost use Rattle.joint_prover.specs.declared.verdict.Tried.{Tried as TriedPlan};
+ghost use Rattle.joint_prover.specs.Decisions.{IsDecision};
+ghost use Rattle.joint_prover.specs.Endings.{AreLeast, IsEnd, IsJob, IsShown, cut_named, cut_of_found};
+ghost use Rattle.joint_prover.specs.Notes.{IsFoundCut};
+ghost use Rattle.joint_prover.specs.Tries.{IsTried};
 ghost use Rattle.joint_prover.specs.Verdicts.{HaveManyOnes};
 
-use crate::attempts::{Attempt, try_alone, try_over_cut};
-use crate::clauses::Clauses;
-use crate::conclusion::{conclude, start_lines};
-use crate::ending::Plain;
-use crate::few_ones::{LATE, find_wrong_on_few};
-use crate::job::Job;
-use crate::reduction::reduce_plainly;
-use crate::verdict::{Tried, Verdict};
-use graph_core::Memory;
-use mv_desk::Desk;
-use ripple_graft::Extended;
-use stage_rewriter::Rewriting;
+use crate::conclusion::refute;
+use crate::decision::{Decision, Outcome};
+use crate::reduction::{frontier_after, reduce_along, reduce_plainly};
+use crate::shown::{Found, Shown, find_cut};
+use crate::task::Job;
+use crate::verdict::Tried;
+use graph_core::{Memory, Numbers};
+use operand_search::{least_seen, least_within, most_ones_within};
+use ripple_graft::Cut;
+use slice_planner::Order;
 use std::alloc::Global;
 
-// What comes of the plans before those over the graph alone.
-#[derive(Debug, Drop)]
-enum First {
-    Told(Verdict),
-    // What was tried.
-    Left(Vec<Tried>),
-}
+// Plans have an order of elimination, and so many times the small budget; or the whole one.
+const WHOLE: u64 = u64::MAX;
 
-/// The verdict by the plans, where values of the inputs with few ones don't show that the graph is wrong.
-pub(crate) fn try_whole_budget<D: Desk>(
-    alloc: Global,
-    desk: &mut D,
-    job: &Job<'_>,
-    rewritten: &Rewriting<'_>,
-) -> Result<Verdict, Memory>
-    requires job { IsJob job.now }
-    requires well_formed { IsWellFormed job.now.graph.now }
-    requires rewriting { IsRewriting job.now.graph.now job.now.operands.now job.now.conflicts rewritten.now }
-    requires agrees { Agrees rewritten.now }
-    ensures verdict { IfOk result (IsOfGraph job.now.graph.now (task_of job.now) (cut_in rewritten.now)
-        (files_of job.now.names.now) (D.seen desk.old) (D.seen desk.new)) }
-    ensures memory { OnErr result (D.seen desk.new ≡ D.seen desk.old) }
-    ensures opened { (D.seen desk.new).opened ≡ (D.seen desk.old).opened }
-    ensures later { (D.seen desk.old).write_faults ≤ (D.seen desk.new).write_faults }
-    ensures tells { KeepsTelling (D.seen desk.old) (D.seen desk.new) }
-{
-    if let Some(verdict) = find_wrong_on_few(alloc, job.graph, job.operands, LATE)? {
-        return Ok(verdict);
-    }
-    match try_with_adder(alloc, desk, job, rewritten)? {
-        First::Told(verdict) => Ok(verdict),
-        First::Left(tried) => try_without_adder(alloc, desk, job, tried),
-    }
-}
+// What comes first, over the graph with the adder that is used, or over the graph alone where none is.
+const SOON: [(Order, u64); 1] = [(Order::Slices, 1)];
 
-// Where an adder is used, the slice plan over the graph with it.
-fn try_with_adder<D: Desk>(
+// What comes over the graph with an adder at a cut that is found.
+const FOUND: [(Order, u64); 4] = [
+    (Order::Slices, 1),
+    (Order::ByColumn, 2),
+    (Order::AtEnd, 16),
+    (Order::Slices, WHOLE),
+];
+
+// What it may cost to try values of the inputs before a plan is known to be hard: at 64 bits, those with two ones.
+const FEW: u64 = 1 << 24;
+// What it may cost where a plan is: at 64 bits, those with three ones.
+const MORE: u64 = 1 << 29;
+
+/// What the plans decide, and the cut that was found where a plan over the graph with its adder decided it.
+pub(crate) fn decide_by_plans(
     alloc: Global,
-    desk: &mut D,
     job: &Job<'_>,
-    rewritten: &Rewriting<'_>,
-) -> Result<First, Memory>
-    requires job { IsJob job.now }
-    requires well_formed { IsWellFormed job.now.graph.now }
-    requires rewriting { IsRewriting job.now.graph.now job.now.operands.now job.now.conflicts rewritten.now }
-    requires agrees { Agrees rewritten.now }
-    ensures first { IfOk result (IsOfFirstPlans job.now.graph.now (task_of job.now) (cut_in rewritten.now)
-        (files_of job.now.names.now) (D.seen desk.old) (D.seen desk.new)) }
-    ensures memory { OnErr result (D.seen desk.new ≡ D.seen desk.old) }
-    ensures opened { (D.seen desk.new).opened ≡ (D.seen desk.old).opened }
-    ensures later { (D.seen desk.old).write_faults ≤ (D.seen desk.new).write_faults }
-    ensures tells { KeepsTelling (D.seen desk.old) (D.seen desk.new) }
+) -> Result<(Decision, Option<Cut>), Memory>
+    requires { IsJob job.now }
+    ensures found { IfOk result (λ r. IfSome r.1 (IsFoundCut job.now.graph.now)) }
+    ensures decision { IfOk result (λ r. IsDecision job.now.graph.now job.now.task
+        (cut_of_found (cut_named job.now.used) r.1) r.0) }
 {
-    match rewritten {
-        Rewriting::Used { cut, extended, log } => {
-            match try_over_cut(alloc, desk, job.budget, job, cut, extended, log)? {
-                Attempt::Told(verdict) => Ok(First::Told(verdict)),
-                Attempt::Passed(tried) => {
-                    let tried = vec![in alloc; tried]?;
-                    Ok(First::Left(tried))
-                }
-            }
+    if let Some(decision) = decide_soon(alloc, job)? {
+        return Ok((decision, None));
+    }
+    if let Some(found) = find_cut(alloc, job.graph, job.operands, job.task.conflicts)? {
+        let shown = Shown::with_adder(&found.cut, &found.extended, &found.log);
+        // the job is lent again, since what was found lives shorter
+        if let Some(decision) = decide_over(alloc, &*job, shown, &FOUND)? {
+            let Found { cut, .. } = found;
+            return Ok((decision, Some(cut)));
         }
-        _ => Ok(First::Left(Vec::new(alloc))),
     }
+    let decision = decide_at_last(alloc, job)?;
+    Ok((decision, None))
 }
 
-// The slice plan over the graph alone, and then the plain one, where no difference has few ones.
-fn try_without_adder<D: Desk>(
-    alloc: Global,
-    desk: &mut D,
-    job: &Job<'_>,
-    tried: Vec<Tried>,
-) -> Result<Verdict, Memory>
-    requires job { IsJob job.now }
-    requires many { HaveManyOnes job.now.graph.now job.now.operands.now.claim }
-    ensures verdict { IfOk result (λ v. (used : Option CutAt) →
-        AreTriedBefore job.now.graph.now job.now.operands.now.claim job.now.budget used tried.items →
-        IsOfGraph job.now.graph.now (task_of job.now) used (files_of job.now.names.now)
-        (D.seen desk.old) (D.seen desk.new) v) }
-    ensures memory { OnErr result (D.seen desk.new ≡ D.seen desk.old) }
-    ensures opened { (D.seen desk.new).opened ≡ (D.seen desk.old).opened }
-    ensures later { (D.seen desk.old).write_faults ≤ (D.seen desk.new).write_faults }
-    ensures tells { KeepsTelling (D.seen desk.old) (D.seen desk.new) }
+// Before a plan has more than the small budget: most graphs are decided here.
+fn decide_soon(alloc: Global, job: &Job<'_>) -> Result<Option<Decision>, Memory>
+    requires { IsJob job.now }
+    ensures { IfOk result (λ d. IfSome d
+        (IsDecision job.now.graph.now job.now.task (cut_named job.now.used))) }
 {
-    match try_alone(alloc, desk, job.budget, job)? {
-        Attempt::Told(verdict) => Ok(verdict),
-        Attempt::Passed(last) => {
-            let mut tried = tried;
+    if let Some(decision) = seen_wrong(alloc, job)? {
+        return Ok(Some(decision));
+    }
+    if let Some(decision) = decide_over(alloc, job, job.used, &SOON)? {
+        return Ok(Some(decision));
+    }
+    wrong_on_few(alloc, job, FEW)
+}
+
+// With the whole budget, where values of the inputs with few ones don't show that the graph is wrong: the slice plan
+// over the graph with the adder that is used, if any, the slice plan over the graph alone, and the plain plan.
+fn decide_at_last(alloc: Global, job: &Job<'_>) -> Result<Decision, Memory>
+    requires { IsJob job.now }
+    ensures { IfOk result (IsDecision job.now.graph.now job.now.task (cut_named job.now.used)) }
+{
+    if let Some(decision) = wrong_on_few(alloc, job, MORE)? {
+        return Ok(decision);
+    }
+    let mut tried = Vec::new(alloc);
+    if let Some(decision) = try_whole(alloc, job, job.used, &mut tried)? {
+        return Ok(decision);
+    }
+    if job.used.cut.is_some() {
+        if let Some(decision) = try_whole(alloc, job, job.alone, &mut tried)? {
+            return Ok(decision);
+        }
+    }
+    reduce_plainly(alloc, job, tried)
+}
+
+// The first of these plans over an extended graph that keeps to its budget.
+fn decide_over<'a>(
+    alloc: Global,
+    job: &Job<'a>,
+    shown: Shown<'a>,
+    plans: &[(Order, u64)],
+) -> Result<Option<Decision>, Memory>
+    requires job { IsJob job.now }
+    requires shown { IsShown job.now.graph.now job.now.task.conflicts shown }
+    ensures { IfOk result (λ d. IfSome d
+        (IsEnd job.now.graph.now job.now.task (cut_named shown.entry))) }
+{
+    let small = small_budget(job.operands.bits());
+    for &(order, times) in plans {
+        let budget = job.task.budget.min(small.saturating_mul(times));
+        if let Outcome::Decided(decision) = reduce_along(alloc, job, shown, order, budget)? {
+            return Ok(Some(decision));
+        }
+    }
+    Ok(None)
+}
+
+// The slice plan with the whole budget over an extended graph; where it passes that, it was tried.
+fn try_whole<'a>(
+    alloc: Global,
+    job: &Job<'a>,
+    shown: Shown<'a>,
+    tried: &mut Vec<Tried>,
+) -> Result<Option<Decision>, Memory>
+    requires job { IsJob job.now }
+    requires shown { IsShown job.now.graph.now job.now.task.conflicts shown }
+    ensures some { IfOk result (λ d. IfSome d
+        (IsEnd job.now.graph.now job.now.task (cut_named shown.entry))) }
+    ensures none { IfOk result (λ d. IsNone d → (last : TriedPlan) ×
+        (tried.new.items ≡ tried.old.items ++ last ∷ []) ×
+        IsTried job.now.graph.now job.now.task.claim job.now.task.budget (cut_named shown.entry) last) }
+{
+    match reduce_along(alloc, job, shown, Order::Slices, job.task.budget)? {
+        Outcome::Decided(decision) => Ok(Some(decision)),
+        Outcome::Passed { plan, step, size } => {
+            let last = frontier_after(alloc, &plan, step, size, shown.cut.is_some())?;
             tried.push(last)?;
-            try_plain(alloc, desk, job, tried)
+            Ok(None)
         }
     }
 }
 
-// The plain plan.
-fn try_plain<D: Desk>(
-    alloc: Global,
-    desk: &mut D,
-    job: &Job<'_>,
-    tried: Vec<Tried>,
-) -> Result<Verdict, Memory>
-    requires job { IsJob job.now }
-    requires many { HaveManyOnes job.now.graph.now job.now.operands.now.claim }
-    ensures verdict { IfOk result (λ v. (used : Option CutAt) →
-        AreTried job.now.graph.now job.now.operands.now.claim job.now.budget used tried.items →
-        IsOfGraph job.now.graph.now (task_of job.now) used (files_of job.now.names.now)
-        (D.seen desk.old) (D.seen desk.new) v) }
-    ensures memory { OnErr result (D.seen desk.new ≡ D.seen desk.old) }
-    ensures opened { (D.seen desk.new).opened ≡ (D.seen desk.old).opened }
-    ensures later { (D.seen desk.old).write_faults ≤ (D.seen desk.new).write_faults }
-    ensures tells { KeepsTelling (D.seen desk.old) (D.seen desk.new) }
+// The budget of a plan that is tried before it is known whether it ends soon: that of made multipliers.
+fn small_budget(bits: u32) -> u64 {
+    let square = u64::from(bits).saturating_mul(u64::from(bits));
+    square.saturating_mul(8).saturating_add(64)
+}
+
+// That a graph is wrong which some fixed values of its inputs show to be, if values with few ones do too.
+fn seen_wrong(alloc: Global, job: &Job<'_>) -> Result<Option<Decision>, Memory>
+    requires { IsJob job.now }
+    ensures { IfOk result (λ d. IfSome d
+        (IsDecision job.now.graph.now job.now.task (cut_named job.now.used))) }
 {
-    let extended = Extended::without_cut(job.graph);
-    let mut lines = start_lines(alloc, &extended, job.operands)?;
-    match reduce_plainly(alloc, job.budget, &mut lines)? {
-        Plain::Ended(ending) => {
-            let clauses = Clauses::without_cut(job.version);
-            conclude(alloc, desk, ending, &lines, clauses, job.names)
+    let most = most_ones_within(job.graph, MORE);
+    let numbers = least_seen(alloc, job.graph, job.operands, most)?;
+    wrong_at(alloc, job, numbers)
+}
+
+// That a graph is wrong, if it is on values of its inputs with at most two ones, or with as many more as some work is
+// enough for.
+fn wrong_on_few(alloc: Global, job: &Job<'_>, work: u64) -> Result<Option<Decision>, Memory>
+    requires { IsJob job.now }
+    ensures some { IfOk result (λ d. IfSome d
+        (IsDecision job.now.graph.now job.now.task (cut_named job.now.used))) }
+    ensures none { IfOk result (λ d. IsNone d → HaveManyOnes job.now.graph.now job.now.operands.now.claim) }
+{
+    let most = most_ones_within(job.graph, work);
+    let numbers = least_within(alloc, job.graph, job.operands, most)?;
+    wrong_at(alloc, job, numbers)
+}
+
+// That a graph is wrong, where it is at some numbers and at none before them.
+fn wrong_at(
+    alloc: Global,
+    job: &Job<'_>,
+    numbers: Option<Numbers>,
+) -> Result<Option<Decision>, Memory>
+    requires job { IsJob job.now }
+    requires least { IfSome numbers (AreLeast job.now.graph.now job.now.operands.now) }
+    ensures some { IfOk result (λ d. IfSome d
+        (IsDecision job.now.graph.now job.now.task (cut_named job.now.used))) }
+    ensures none { IfOk result (λ d. IsNone d → IsNone numbers) }
+{
+    match numbers {
+        Some(numbers) => {
+            let decision = refute(alloc, job, numbers)?;
+            Ok(Some(decision))
         }
-        Plain::Passed { step, size } => Ok(Verdict::Undecided {
-            tried,
-            plain_step: step,
-            plain_size: size,
-        }),
+        None => Ok(None),
     }
 }

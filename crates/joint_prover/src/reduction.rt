@@ -1,152 +1,148 @@
-// The reductions of the plans, and what a remainder says.
-ghost use Rattle.std.specs.Prelude.{◌≡◌, IfOk, IfSome, None};
-ghost use Rattle.graph_core.specs.Algebra.{Closes};
-ghost use Rattle.graph_core.specs.Graph.Assignments.{Assignment};
-ghost use Rattle.graph_core.specs.Graph.Extended.{without_cut};
-ghost use Rattle.graph_core.specs.Graph.Operands.{inputs_in};
-ghost use Rattle.frontier_core.specs.LastFrontier.{IsOverInputs};
-ghost use Rattle.frontier_core.specs.LeastDifference.{AreInputs};
-ghost use Rattle.slice_planner.specs.ColumnPlans.{IsColumnPlan};
-ghost use Rattle.poly_terms.specs.Tables.{IsOf, monomials_in, value_in};
-ghost use Rattle.pac_writer.specs.Writing.{AreLawfulSoFar, Made, written_ledger};
-ghost use Rattle.joint_prover.specs.Endings.{IsEnded, IsEndedWithin, IsPlain, IsPlainlyReduced, IsRemainder, IsSliced, IsStart, IsWitness};
+// Single plans: the columns are reduced in an order of elimination, and the remainder decides.
+ghost use Rattle.std.specs.Prelude.{◌≡◌, ◌≤◌, ◌++◌, ◌∷◌, [], IfOk, OnOk, length};
+ghost use Rattle.frontier_core.specs.Plan.{nothing, taken};
+ghost use Rattle.graph_core.specs.Graph.Operands.{sides_for};
+ghost use Rattle.pac_writer.specs.Writing.{Made};
+ghost use Rattle.joint_prover.specs.Decisions.{IsDecision};
+ghost use Rattle.joint_prover.specs.Endings.{Decides, IsJob, IsOutcome, IsRemainder, IsShown, IsStart, IsTriedAt, cut_named};
+ghost use Rattle.joint_prover.specs.Tries.{AreTried, extended_by};
+ghost use Rattle.joint_prover.specs.Verdicts.{HaveManyOnes};
 
-use crate::ending::{Ending, Plain, Sliced};
-use crate::tried::frontier_after;
-use column_reducer::{
-    Plan, Reduced, columns_first_plan, layered_plan, plain_plan, reduce, slice_plan,
-};
+use crate::conclusion::{prove, refute};
+use crate::decision::{Decision, Outcome};
+use crate::shown::Shown;
+use crate::task::Job;
+use crate::verdict::Tried;
+use column_reducer::{Plan, Reduced, column_plan, plain_plan, reduce};
+use frontier_core::Step;
 use graph_core::Memory;
 use pac_writer::Lines;
 use poly_terms::Poly;
-use ripple_graft::Extended;
+use slice_planner::Order;
 use std::alloc::Global;
 use witness_finder::least;
 
-/// What the slice plan comes to; where the remainder is 0 the lines are closed.
-pub(crate) fn reduce_by_slices(
+/// What the plan of this order comes to over an extended graph, with this budget.
+pub(crate) fn reduce_along<'a>(
     alloc: Global,
+    job: &Job<'a>,
+    shown: Shown<'a>,
+    order: Order,
     budget: u64,
-    rewritten: bool,
-    lines: &mut Lines<'_>,
-) -> Result<Sliced, Memory>
-    requires { IsStart lines.old }
-    ensures { IfOk result (IsSliced lines.old budget rewritten lines.new) }
+) -> Result<Outcome<'a>, Memory>
+    requires job { IsJob job.now }
+    requires shown { IsShown job.now.graph.now job.now.task.conflicts shown }
+    requires within { budget ≤ job.now.task.budget }
+    ensures { IfOk result (IsOutcome job.now.graph.now job.now.task (cut_named shown.entry) order budget) }
 {
-    let extended = lines.extended();
-    let plan = slice_plan(alloc, extended)?;
-    match reduce(alloc, &plan, budget, lines)? {
-        Reduced::Rest { poly, id } => Ok(Sliced::Ended(end_plan(lines, &poly, id))),
-        Reduced::Passed { step, size } => {
-            let tried = frontier_after(alloc, &plan, step, size, rewritten)?;
-            Ok(Sliced::Passed(tried))
+    let mut lines = start_lines(alloc, job, shown)?;
+    let plan = column_plan(alloc, order, shown.extended)?;
+    match reduce(alloc, &plan, budget, &mut lines)? {
+        Reduced::Rest { poly, id } => {
+            let decision = end_plan(alloc, job, shown, lines, &poly, id)?;
+            Ok(Outcome::Decided(decision))
         }
+        Reduced::Passed { step, size } => Ok(Outcome::Passed { plan, step, size }),
     }
 }
 
-/// Where gates are eliminated by their layers.
-#[derive(Clone, Copy)]
-pub(crate) enum Layers {
-    /// behind each column that is added
-    ByColumn,
-    /// behind all columns
-    AtEnd,
-}
-
-/// What a plan by layers comes to; where the remainder is 0 the lines are closed. None where a frontier is above the
-/// budget.
-pub(crate) fn reduce_by_layers(
-    alloc: Global,
-    budget: u64,
-    layers: Layers,
-    lines: &mut Lines<'_>,
-) -> Result<Option<Ending>, Memory>
-    requires { IsStart lines.old }
-    ensures { IfOk result (λ ending. IfSome ending (IsEndedWithin lines.old budget lines.new)) }
-{
-    let extended = lines.extended();
-    let plan = plan_by_layers(alloc, layers, extended)?;
-    match reduce(alloc, &plan, budget, lines)? {
-        Reduced::Rest { poly, id } => Ok(Some(end_plan(lines, &poly, id))),
-        Reduced::Passed { .. } => Ok(None),
-    }
-}
-
-// The plan.
-fn plan_by_layers<'a>(
-    alloc: Global,
-    layers: Layers,
-    extended: &'a Extended<'a>,
-) -> Result<Plan<'a>, Memory>
-    ensures extended { IfOk result (λ p. p.extended ≡ extended.now) }
-    ensures uncounted { IfOk result (λ p. p.uncounted ≡ 0) }
-    ensures columns { IfOk result (λ p. IsColumnPlan extended.now p.steps) }
-{
-    match layers {
-        Layers::ByColumn => layered_plan(alloc, extended),
-        Layers::AtEnd => columns_first_plan(alloc, extended),
-    }
-}
-
-/// What the plain plan comes to, over a graph alone; where the remainder is 0 the lines are closed.
+/// What the plain plan decides at last, over the graph alone.
 pub(crate) fn reduce_plainly(
     alloc: Global,
-    budget: u64,
-    lines: &mut Lines<'_>,
-) -> Result<Plain, Memory>
-    requires start { IsStart lines.old }
-    requires alone { lines.old.extended ≡ without_cut lines.old.extended.graph }
-    ensures { IfOk result (IsPlain lines.old budget lines.new) }
+    job: &Job<'_>,
+    tried: Vec<Tried>,
+) -> Result<Decision, Memory>
+    requires job { IsJob job.now }
+    requires many { HaveManyOnes job.now.graph.now job.now.operands.now.claim }
+    requires tried { AreTried job.now.graph.now job.now.task.claim job.now.task.budget
+        (cut_named job.now.used) tried.items }
+    ensures { IfOk result (IsDecision job.now.graph.now job.now.task (cut_named job.now.used)) }
 {
-    match reduce_in_order(alloc, budget, lines)? {
-        Reduced::Rest { poly, id } => Ok(Plain::Ended(end_plan(lines, &poly, id))),
-        Reduced::Passed { step, size } => Ok(Plain::Passed { step, size }),
+    let mut lines = start_lines(alloc, job, job.alone)?;
+    let plan = plain_plan(alloc, job.alone.extended)?;
+    match reduce(alloc, &plan, job.task.budget, &mut lines)? {
+        Reduced::Rest { poly, id } => end_plan(alloc, job, job.alone, lines, &poly, id),
+        Reduced::Passed { step, size } => Ok(Decision::Undecided {
+            tried,
+            plain_step: step,
+            plain_size: size,
+        }),
     }
 }
 
-// Adds all columns and eliminates the gates in the plain order.
-fn reduce_in_order(alloc: Global, budget: u64, lines: &mut Lines<'_>) -> Result<Reduced, Memory>
-    requires start { IsStart lines.old }
-    requires alone { lines.old.extended ≡ without_cut lines.old.extended.graph }
-    ensures { IfOk result (IsPlainlyReduced budget lines.old lines.new) }
+// No line, over an extended graph whose faults are none.
+fn start_lines<'a>(alloc: Global, job: &Job<'a>, shown: Shown<'a>) -> Result<Lines<'a>, Memory>
+    requires job { IsJob job.now }
+    requires shown { IsShown job.now.graph.now job.now.task.conflicts shown }
+    ensures start { IfOk result IsStart }
+    ensures extended { IfOk result (λ l. l.extended ≡ extended_by job.now.graph.now (cut_named shown.entry)) }
+    ensures sides { IfOk result (λ l. l.sides ≡ sides_for job.now.task.claim job.now.graph.now) }
 {
-    let extended = lines.extended();
-    let plan = plain_plan(alloc, extended)?;
-    reduce(alloc, &plan, budget, lines)
+    let _gates = shown.extended.gates();
+    Lines::new(alloc, shown.extended, job.operands)
 }
 
-// The end where a plan has left a remainder.
-fn end_plan(lines: &mut Lines<'_>, poly: &Poly, id: u64) -> Ending
-    requires { (start : Made) × IsStart start × IsRemainder start lines.old poly.now id }
-    ensures { (start : Made) → IsStart start → IsRemainder start lines.old poly.now id →
-        IsEnded start.extended start.sides.claim lines.new result }
-{
-    are_lawful(lines);
-    end_lines(lines, poly, id)
-}
-
-// Lines are lawful so far.
-fn are_lawful(lines: &Lines<'_>)
-    ensures { AreLawfulSoFar lines.now }
+// What the remainder of a plan decides: the lines are closed where it is 0.
+fn end_plan(
+    alloc: Global,
+    job: &Job<'_>,
+    shown: Shown<'_>,
+    lines: Lines<'_>,
+    poly: &Poly,
+    id: u64,
+) -> Result<Decision, Memory>
+    requires job { IsJob job.now }
+    requires shown { IsShown job.now.graph.now job.now.task.conflicts shown }
+    requires left { (start : Made) × IsStart start × (start.sides ≡ sides_for job.now.task.claim job.now.graph.now) ×
+        (start.extended ≡ extended_by job.now.graph.now (cut_named shown)) × IsRemainder start lines poly.now id }
+    ensures { IfOk result (Decides job.now.graph.now job.now.task (cut_named shown.entry)) }
 {
     let _last = lines.last();
-}
-
-// The end: the lines are closed where the remainder is 0.
-fn end_lines(lines: &mut Lines<'_>, poly: &Poly, id: u64) -> Ending
-    requires of { IsOf lines.old.table poly.now }
-    requires inputs { AreInputs (inputs_in lines.old.sides) }
-    requires over { IsOverInputs (inputs_in lines.old.sides) (monomials_in lines.old.table poly.now) }
-    requires unclosed { lines.old.closing ≡ None }
-    requires closes { ((σ : Assignment) → value_in lines.old.table poly.now σ ≡ 0) →
-        Closes lines.old.extended lines.old.sides (written_ledger lines.old).live id }
-    ensures { IsWitness lines.old lines.new poly.now id result }
-{
     match least(lines.terms(), poly, lines.operands()) {
-        Some(numbers) => Ending::Differs(numbers),
+        Some(numbers) => refute(alloc, job, numbers),
         None => {
+            let mut lines = lines;
             lines.close(id);
-            Ending::Closed
+            prove(alloc, job, shown, lines)
         }
     }
+}
+
+/// The frontier that the first steps of a plan leave, which has so many monomials.
+pub(crate) fn frontier_after(
+    alloc: Global,
+    plan: &Plan<'_>,
+    steps: u64,
+    size: u64,
+    rewritten: bool,
+) -> Result<Tried, Memory>
+    requires { steps ≤ length plan.now.steps }
+    ensures { IfOk result (IsTriedAt plan.now.steps steps size rewritten) }
+{
+    let mut columns = Vec::new(alloc);
+    let mut gates = Vec::new(alloc);
+    for &step in &plan.steps()[..steps as usize] {
+        push_step(&mut columns, &mut gates, step)?;
+    }
+    // the latest first
+    columns.reverse();
+    gates.reverse();
+    Ok(Tried {
+        rewritten,
+        columns,
+        gates,
+        size,
+    })
+}
+
+// The column that a step adds, or the gate that it eliminates.
+fn push_step(columns: &mut Vec<u32>, gates: &mut Vec<u32>, step: Step) -> Result<(), Memory>
+    ensures columns { OnOk result (columns.new.items ≡ columns.old.items ++ (taken nothing (step ∷ [])).added) }
+    ensures gates { OnOk result (gates.new.items ≡ gates.old.items ++ (taken nothing (step ∷ [])).eliminated) }
+{
+    match step {
+        Step::Add(column) => columns.push(column)?,
+        Step::Eliminate(gate) => gates.push(gate)?,
+    }
+    Ok(())
 }

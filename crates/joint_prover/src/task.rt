@@ -1,7 +1,8 @@
-// What is asked of `verify`.
-use graph_core::Claim;
+// What is asked of a graph, and what travels from plan to plan.
+use crate::shown::Shown;
+use graph_core::{Claim, Graph, Operands};
 
-/// What is asked of `verify`.
+/// What is asked of a graph.
 #[derive(Clone, Copy, Debug, PartialEq, Eq)]
 pub struct Task {
     /// What is claimed of the graph.
@@ -12,4 +13,17 @@ pub struct Task {
     pub conflicts: u64,
     /// The version of the certificates that are written, 1 or 2.
     pub version: u8,
+}
+
+/// A graph and what is asked of it.
+#[derive(Clone, Copy)]
+pub(crate) struct Job<'a> {
+    pub(crate) graph: &'a Graph,
+    pub(crate) task: Task,
+    /// The operands that the claim names in the graph.
+    pub(crate) operands: &'a Operands,
+    /// The graph alone.
+    pub(crate) alone: Shown<'a>,
+    /// The graph with an adder in place of its final stage, or alone where no adder is used.
+    pub(crate) used: Shown<'a>,
 }

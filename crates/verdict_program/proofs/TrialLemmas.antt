@@ -8,16 +8,16 @@ use Rattle.command_core.specs.declared.stop.Stop.TheVariants as stop
 use Rattle.command_core.proofs.CallerLemmas.{due_or_interrupts, graph_exact}
 use Rattle.graph_core.specs.Aiger.{Spells}
 use Rattle.graph_core.specs.Aiger.Writing.{ascii_text}
-use Rattle.graph_core.specs.Algebra.{Premises}
-use Rattle.graph_core.specs.Certificates.{IsLawfulAlgebra}
+use Rattle.algebra_core.specs.AlgebraLines.{Premises}
+use Rattle.algebra_core.specs.Certificates.{IsLawfulAlgebra}
 use Rattle.graph_core.specs.Graph.{Aig}
 use Rattle.graph_core.specs.Graph.Operands.{Multiplies, product_under, sides_of}
 use Rattle.graph_core.specs.declared.order.Order.TheVariants.{Separate}
 use Rattle.graph_core.specs.declared.profile.Profile.TheVariants.{Multiplier as TwoOperands}
 use Rattle.graph_maker.specs.declared.design.Design.TheVariants.{Multiplier}
 use Rattle.graph_core.proofs.OfTexts.CallerLemmas.{one_graph}
-use Rattle.joint_checker.specs.Certificates.{IsLawfulPair}
-use Rattle.joint_checker.specs.ClauseFiles.{ArePremisesOf, GivesPremises}
+use Rattle.pair_core.specs.Certificates.{IsLawfulPair}
+use Rattle.pair_core.specs.ClauseFiles.{ArePremisesOf, GivesPremises}
 use Rattle.command_core.specs.Files.{HasGraph, texts_of}
 use Rattle.joint_checker.specs.Outcome.{IsDue}
 use Rattle.joint_checker.specs.declared.checked.Checked.{Checked}

@@ -13,7 +13,7 @@ use Rattle.graph_maker.specs.declared.adder.Adder.{Adder}
 use Rattle.graph_maker.specs.declared.adder.Adder.TheVariants.{Ripple, Kogge, Sklansky}
 use Rattle.graph_maker.specs.declared.kind.Kind.{Kind}
 use Rattle.graph_maker.specs.declared.kind.Kind.TheVariants.{Array, Dadda}
-use Rattle.joint_checker.specs.Certificates.{IsLawfulPair}
+use Rattle.pair_core.specs.Certificates.{IsLawfulPair}
 use Rattle.command_core.specs.Files.{Files}
 use Rattle.joint_prover.specs.Notes.{IsNote, cut_of}
 use Rattle.joint_prover.specs.Pairs.{IsPairFor}

@@ -12,11 +12,11 @@ pub fn trim_report(outcome: &TrimAnswer) -> Report
     ensures { result ≡ report_of_trim outcome.now }
 {
     match outcome {
-        TrimAnswer::Trimmed(pair) => trimmed_report(
-            pair.clauses.len(),
-            pair.of_clauses,
-            pair.algebra.len(),
-            pair.of_algebra,
+        TrimAnswer::Trimmed(kept) => trimmed_report(
+            kept.pair.clauses.len(),
+            kept.of_clauses,
+            kept.pair.algebra.len(),
+            kept.of_algebra,
         ),
         TrimAnswer::Refused(why) => refusal_report(*why),
         TrimAnswer::Stopped(why) => stop_report(*why),

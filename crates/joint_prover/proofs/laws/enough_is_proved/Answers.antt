@@ -1,4 +1,4 @@
-use Rattle.joint_prover.proofs.EnoughBudgets.{enough_is_proved}
+use Rattle.joint_prover.proofs.Exactness.{enough_is_proved}
 use Rattle.joint_prover.proofs.laws.enough_is_proved.Goals as goal
 
 pub returns : goal.returns

@@ -1,25 +1,74 @@
-use Rattle.std.proofs.Common.{subst}
-use Rattle.joint_prover.specs.Endings.{IsPlainlyReduced}
-use Rattle.joint_prover.proofs.Remainders.{always_within, first_above, plain_remainder}
+use Rattle.std.proofs.Common.{◌≡◌, sym, ap, subst, ◌∙◌}
+use Rattle.std.proofs.lemmas.Result.{IfOk-weaker}
+use Rattle.column_reducer.specs.Reducing.{IsReduced}
+use Rattle.graph_core.specs.Graph.Extended.{Extended, without_cut}
+use Rattle.graph_core.specs.Graph.Operands.{ReadInputs}
+use Rattle.joint_prover.specs.Decisions.{IsDecision}
+use Rattle.joint_prover.specs.Endings.{Decides, cut_named}
+use Rattle.joint_prover.specs.Tries.{extended_by}
+use Rattle.joint_prover.specs.Verdicts.{HaveManyOnes}
+use Rattle.joint_prover.proofs.Remainders.{first_alone, plain_remainder, plainly_reduced, reads_inputs, within_alone}
+use Rattle.joint_prover.proofs.Telling.{plain_decides}
 use Rattle.joint_prover.proofs.reduction.reduce_plainly.Goals as goal
 
-pub end_plan-requires : goal.end_plan-requires
-end_plan-requires c =
-    let l = c.args.lines.now in
-    let after = c.reduce_in_order.new.lines in
-    (l, c.requires.start, plain_remainder l c.requires.start c.args.budget after c.in-Rest.poly c.in-Rest.id (subst (IsPlainlyReduced c.args.budget l after) c.in-Rest.is c.in_ok-poly.ensures))
+pub plain_plan-requires : goal.plain_plan-requires
+plain_plan-requires c =
+    let job = c.args.job.now in
+    let is : job.alone.extended.now ≡ without_cut job.graph.now = c.requires.job.alone.extended ∙ ap (extended_by job.graph.now) c.requires.job.lone in
+    record { alone = is ∙ ap without_cut (sym (ap (λ (x : Extended). x.graph) is)) }
+
+pub reduce-requires-clause-inputs : goal.reduce-requires-clause-inputs
+reduce-requires-clause-inputs c =
+    let l = c.in_ok-lines.lines in
+    subst (λ (x : Extended). ReadInputs x.graph l.sides) (sym (c.in_ok-plan.ensures.extended ∙ c.requires.job.alone.extended ∙ sym c.in_ok-lines.ensures.extended)) (reads_inputs l c.in_ok-lines.ensures.start)
+
+pub end_plan-requires-clause-left : goal.end_plan-requires-clause-left
+end_plan-requires-clause-left c =
+    let job = c.args.job.now in
+    let l = c.in_ok-lines.lines in
+    let after = c.reduce.new.lines in
+    let p = c.in_ok-plan.plan in
+    let plan = c.in_ok-plan.ensures in
+    let same = c.requires.job.alone.extended ∙ sym c.in_ok-lines.ensures.extended in
+    let reduced = plainly_reduced job.task.budget l after p job.alone.extended.now plan.plain.0 _ same plan.extended plan.uncounted plan.plain.1 plan.plain.2 c.reduce.ensures.goes_on c.reduce.ensures.few
+    (subst (IsReduced p l.sides job.task.budget after) c.in-Rest.is c.in_ok-poly.ensures.reduced) in (
+      l,
+      c.in_ok-lines.ensures.start,
+      c.in_ok-lines.ensures.sides,
+      c.in_ok-lines.ensures.extended,
+      plain_remainder l c.in_ok-lines.ensures.start job.task.budget after c.in-Rest.poly c.in-Rest.id reduced,
+    )
 
 pub returns-in-Rest : goal.returns-in-Rest
 returns-in-Rest c =
-    let l = c.args.lines.now in
-    let after = c.reduce_in_order.new.lines in
-    let reduced = subst (IsPlainlyReduced c.args.budget l after) c.in-Rest.is c.in_ok-poly.ensures in (
-      c.end_plan.ensures l c.requires.start (plain_remainder l c.requires.start c.args.budget after c.in-Rest.poly c.in-Rest.id reduced),
-      always_within l c.requires.start c.requires.alone c.args.budget after c.in-Rest.poly c.in-Rest.id reduced,
-    )
+    let job = c.args.job.now in
+    let l = c.in_ok-lines.lines in
+    let after = c.reduce.new.lines in
+    let p = c.in_ok-plan.plan in
+    let plan = c.in_ok-plan.ensures in
+    let same = c.requires.job.alone.extended ∙ sym c.in_ok-lines.ensures.extended in
+    let reduced = plainly_reduced job.task.budget l after p job.alone.extended.now plan.plain.0 _ same plan.extended plan.uncounted plan.plain.1 plan.plain.2 c.reduce.ensures.goes_on c.reduce.ensures.few
+    (subst (IsReduced p l.sides job.task.budget after) c.in-Rest.is c.in_ok-poly.ensures.reduced) in
+    let g = job.graph.now in
+    let start = c.in_ok-lines.ensures in
+    let lone = c.requires.job.lone in
+    IfOk-weaker c.end_plan.result (Decides g job.task (cut_named job.alone)) (IsDecision g job.task (cut_named job.used))
+    (λ d. plain_decides g job.task (cut_named job.used) (cut_named job.alone) c.args.tried.items d lone c.requires.tried
+    (within_alone g job.task.claim l start.start (start.extended ∙ ap (extended_by g) lone) start.sides job.task.budget after c.in-Rest.poly c.in-Rest.id reduced)) c.end_plan.ensures
 
 pub returns-in-Passed : goal.returns-in-Passed
 returns-in-Passed c =
-    let l = c.args.lines.now in
-    let after = c.reduce_in_order.new.lines in
-    first_above l c.requires.start c.requires.alone c.args.budget c.in-Passed.step c.in-Passed.size after (subst (IsPlainlyReduced c.args.budget l after) c.in-Passed.is c.in_ok-poly.ensures)
+    let job = c.args.job.now in
+    let l = c.in_ok-lines.lines in
+    let after = c.reduce.new.lines in
+    let p = c.in_ok-plan.plan in
+    let plan = c.in_ok-plan.ensures in
+    let same = c.requires.job.alone.extended ∙ sym c.in_ok-lines.ensures.extended in
+    let reduced = plainly_reduced job.task.budget l after p job.alone.extended.now plan.plain.0 _ same plan.extended plan.uncounted plan.plain.1 plan.plain.2 c.reduce.ensures.goes_on c.reduce.ensures.few
+    (subst (IsReduced p l.sides job.task.budget after) c.in-Passed.is c.in_ok-poly.ensures.reduced) in
+    let g = job.graph.now in
+    let start = c.in_ok-lines.ensures in (
+      first_alone g job.task.claim l start.start (start.extended ∙ ap (extended_by g) c.requires.job.lone) start.sides job.task.budget c.in-Passed.step c.in-Passed.size after reduced,
+      c.requires.tried,
+      subst (HaveManyOnes g) c.requires.job.claim c.requires.many,
+    )

@@ -2,7 +2,7 @@ use Rattle.std.proofs.Common.{subst}
 use Rattle.std.specs.Option.{IfSome}
 use Rattle.aiger_reader.specs.Refusals.{SpellsWithin}
 use Rattle.command_core.specs.Stopping.{IsGraphStop, IsStop}
-use Rattle.graph_core.specs.Aiger.Soundness.{IsSizedAs}
+use Rattle.graph_core.specs.Aiger.Sizes.{IsSizedAs}
 use Rattle.mv_desk.specs.View.{bytes_under}
 use Rattle.mv_desk.specs.declared.slot.Slot.TheVariants as slot
 use Rattle.verdict_program.proofs.EvalLemmas.{value_is_due}
