@@ -3,9 +3,8 @@ use Rattle.std.proofs.Common.{◌≡◌, ◌≢◌, ℕ, List, [], Some, None, r
 use Rattle.std.specs.Prelude.{IfSome, IsSome, IsSomeAnd, option_map, unwrap_or}
 use Rattle.std.specs.declared.option.Option.{Option}
 use Rattle.aiger_reader.specs.Refusals.{SpellsWithin}
-use Rattle.mv_desk.specs.View.{IsTold, View}
+use Rattle.mv_desk.specs.View.{View}
 use Rattle.mv_desk.specs.declared.slot.Slot.TheVariants as slot
-use Rattle.command_core.specs.Files.{AreDistinct, Files}
 use Rattle.command_core.proofs.CallerLemmas.{same_told, told_file}
 use Rattle.pair_core.proofs.CallerLemmas.{algebra_is_held, clauses_are_held, others_stay_held}
 use Rattle.command_core.specs.Written.{ReadsGraph, WritesPair}

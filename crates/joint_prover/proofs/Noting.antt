@@ -4,7 +4,6 @@ use Rattle.std.specs.Prelude.{IfSome}
 use Rattle.std.specs.declared.option.Option.{Option}
 use Rattle.std.specs.declared.option.Option.TheVariants.{None, Some}
 use Rattle.graph_core.specs.Graph.Extended.{AgreeOnColumns, Extended}
-use Rattle.cdcl_solver.specs.Logs.{LogView}
 use Rattle.clause_core.specs.ClauseLines.{ClauseLine}
 use Rattle.graph_core.specs.Graph.{Aig, IsWellFormed}
 use Rattle.graph_core.specs.Graph.Operands.{AreInRange, AreOperandsOf, Sides, c_literals, sides_for}

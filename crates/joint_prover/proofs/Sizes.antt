@@ -1,5 +1,5 @@
 -- What a graph's size says, for a claim with an addend and without one.
-use Rattle.std.proofs.Common.{◌≡◌, ◌≤◌, Bool, true, false, length, arith}
+use Rattle.std.proofs.Common.{◌≤◌, Bool, true, false, length, arith}
 use Rattle.graph_core.specs.declared.bounds.TheConstants.{MOST_INPUTS, MOST_VARIABLES}
 use Rattle.graph_core.specs.Aiger.Sizes.{IsSizedAs}
 use Rattle.graph_core.specs.Graph.{Aig}

@@ -1,4 +1,4 @@
-use Rattle.std.proofs.Common.{◌≡◌, List, ap, subst, sym, ◌∙◌}
+use Rattle.std.proofs.Common.{◌≡◌, List, ap, subst, sym}
 use Rattle.clause_core.specs.ClauseLines.{ClauseLine}
 use Rattle.drup_text.specs.WrittenTexts.{any_file_text}
 use Rattle.drup_text.specs.declared.head.Header.{Header}

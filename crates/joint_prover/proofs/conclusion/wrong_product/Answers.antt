@@ -1,4 +1,4 @@
-use Rattle.std.proofs.Common.{◌≡◌, ◌≤◌, refl, subst, sym}
+use Rattle.std.proofs.Common.{◌≤◌, refl, subst, sym}
 use Rattle.graph_core.specs.Graph.Operands.{sides_for}
 use Rattle.joint_prover.proofs.Sizes.{few_outputs}
 use Rattle.joint_prover.proofs.WrongNumbers.{claimed_there, least_operands, least_there, product_is, sized_alone}

@@ -1,4 +1,4 @@
-use Rattle.std.proofs.Common.{◌≡◌, sym, subst, ◌∙◌}
+use Rattle.std.proofs.Common.{sym, subst, ◌∙◌}
 use Rattle.column_reducer.specs.Reducing.{IsReduced}
 use Rattle.frontier_core.specs.Plan.{IsPlan}
 use Rattle.graph_core.specs.Graph.Extended.{Extended}
