@@ -1,14 +1,15 @@
 //! Polynomials and algebra certificates, by the values that they have: definitions with their laws.
 //!
-//! A *polynomial* is a sum of terms over truth values (`specs/Polynomials.antt`), and has one normal form (`NormalForm`).
-//! A *ledger* has the live lines, the greatest id in use so far, and the values that lines may import; a *lawful line*
-//! has a new id, names live lines and what is there, and states a polynomial with the value that its rule names
-//! (`AlgebraLines`). The lines are lawful one after the other, and the closing one names the *specification*: the outputs'
-//! word minus what is claimed. How a certificate is written: `Text`; the first cause of each refusal: `Refusal`.
+//! A *polynomial* is a sum of terms over truth values (`specs/Polynomials.antt`), and has one normal form
+//! (`NormalForm`). A *ledger* has the live lines, the greatest id in use so far, and the values that lines may import;
+//! a *lawful line* has a new id, names live lines and what is there, and states a polynomial with the value that its
+//! rule names (`AlgebraLines`). The lines are lawful one after the other, and the closing one names the
+//! *specification*: the outputs' word minus what is claimed. How a certificate is written: `Text`; the first cause of
+//! each refusal: `Refusal`.
 //!
-//! There is no code. A law is the contract of a public function with an empty body: what a lawful certificate closes with
-//! is 0 on every evaluation, and then the graph does what is claimed; a file is lawful or has one first refusal; what
-//! ledgers that agree and lines that are alike have in common.
+//! There is no code. A law is the contract of a public function with an empty body: what a lawful certificate closes
+//! with is 0 on every evaluation, and then the graph does what is claimed; a file is lawful or has one first refusal;
+//! what ledgers that agree and lines that are alike have in common.
 #![tactic(auto)]
 
 mod certificate_laws;

@@ -13,7 +13,8 @@
 //! version 2 blocks in order. *Text of*: the text says this line, up to the order and the repeats of its literals
 //! (`specs/ClauseTexts.antt`, `specs/LineTexts.antt`). *First refusal*: `specs/HeaderRefusal.antt`. *Ahead*: read into
 //! the piece in hand, and not yet taken; what is *left* of a file is what is ahead and then what the desk has left
-//! (`specs/LineReading.antt` and `specs/CertificateFiles.antt` of `mv_text`). *Passes* a header: `specs/PassingHeaders.antt`.
+//! (`specs/LineReading.antt` and `specs/CertificateFiles.antt` of `mv_text`). *Passes* a header:
+//! `specs/PassingHeaders.antt`.
 #![tactic(auto)]
 
 mod blocks;

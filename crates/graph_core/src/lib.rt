@@ -1,17 +1,19 @@
 //! And-inverter graphs, their operands and their files: the definitions on which all else stands, with their laws.
 //!
 //! `Graph::build` gives the graph of some lists exactly where they have no fault, and else their first fault. What is
-//! built is acyclic, and has at most `MOST_VARIABLES` variables, `MOST_INPUTS` inputs and `MOST_OUTPUTS` outputs. A graph
-//! tells of each variable its gate, its level and how often it is read, and writes the values of all variables, which
-//! are its evaluation (`value_into`). A `Claim` is what is claimed of a graph: how its inputs make two operands, whether
-//! these are signed, and whether there is an addend. `Operands` tells which input is then which bit; `Graph::value_on`
-//! gives the value on two operands, `Graph::sum_on` that with an addend. Only these two, `Graph::build` and the makers
-//! of `Operands` take memory. `Graph::input` and `Operands::of` are promised calls of the library that no command needs.
+//! built is acyclic, and has at most `MOST_VARIABLES` variables, `MOST_INPUTS` inputs and `MOST_OUTPUTS` outputs. A
+//! graph tells of each variable its gate, its level and how often it is read, and writes the values of all variables,
+//! which are its evaluation (`value_into`). A `Claim` is what is claimed of a graph: how its inputs make two operands,
+//! whether these are signed, and whether there is an addend. `Operands` tells which input is then which bit;
+//! `Graph::value_on` gives the value on two operands, `Graph::sum_on` that with an addend. Only these two,
+//! `Graph::build` and the makers of `Operands` take memory. `Graph::input` and `Operands::of` are promised calls of the
+//! library that no command needs.
 //!
-//! The contracts of all crates above cite the words of `specs/`: graphs, their evaluation, operands and the product, and
-//! graphs with gates that stand for a final stage (`Graph` and its files), what bytes spell and how a text is refused
-//! (`Text`, `Aiger`). A law is the contract of a public function with an empty body. Laws here: no bytes spell two graphs,
-//! and bytes that spell none have one first refusal; what holds on every evaluation holds for all values of the inputs.
+//! The contracts of all crates above cite the words of `specs/`: graphs, their evaluation, operands and the product,
+//! and graphs with gates that stand for a final stage (`Graph` and its files), what bytes spell and how a text is
+//! refused (`Text`, `Aiger`). A law is the contract of a public function with an empty body. Laws here: no bytes spell
+//! two graphs, and bytes that spell none have one first refusal; what holds on every evaluation holds for all values of
+//! the inputs.
 #![tactic(auto)]
 
 mod bounds;

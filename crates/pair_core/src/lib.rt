@@ -1,4 +1,5 @@
-//! Pairs of certificates: what a clause certificate gives the algebra, what a pair for a graph is, and how one is written.
+//! Pairs of certificates: what a clause certificate gives the algebra, what a pair for a graph is, and how one is
+//! written.
 //!
 //! A clause certificate *gives premises* where its lines are lawful and each replaced column is met or shown: its
 //! version, the graph with its blocks, and the values that its added clauses have (`specs/ClauseFiles.antt`). A *pair*
