@@ -7,7 +7,7 @@
 //!
 //! `read_front` gives a file's bytes, of a file that is longer than a limit a front up to a byte past it at least; or
 //! why not. `write_all` appends all bytes, or a front part with a fault. That calls on real files succeed, and what
-//! they read, no clause says.
+//! they read, no clause says; nor that `RealDesk` creates no file that it has opened or created, under whatever name.
 //!
 //! *View*: what a desk tells (`specs/View.antt`); contents and names are optional in it. What each call does to a
 //! view is a word of `specs/Calls.antt`: *opens*, *reads only*, *creates*, *writes to*. *Rose*: a count of faults

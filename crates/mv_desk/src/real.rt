@@ -2,5 +2,6 @@
 mod channel;
 mod channels;
 mod real_desk;
+mod used_files;
 
 pub use real_desk::RealDesk;

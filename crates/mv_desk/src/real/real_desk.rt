@@ -1,9 +1,9 @@
 // The desk of the machine's own files.
 use super::channel::Channel;
 use super::channels::Channels;
+use super::used_files::UsedFiles;
 use crate::counts::Counts;
 use crate::{Desk, Failed, Slot};
-use std::fs::File;
 use std::io::{Read, Write};
 use std::rt::Files;
 
@@ -11,6 +11,7 @@ use std::rt::Files;
 #[derive(Drop)]
 pub struct RealDesk<R: Files + Print + Drop> {
     rt: R,
+    used: UsedFiles,
     channels: Channels<R::File>,
     counts: Counts,
 }
@@ -24,6 +25,7 @@ impl<R: Files + Print + Drop> RealDesk<R> {
     {
         RealDesk {
             rt,
+            used: UsedFiles::new(),
             channels: Channels {
                 graph: Channel::Closed,
                 other: Channel::Closed,
@@ -43,7 +45,7 @@ impl<R: Files + Print + Drop> Desk for RealDesk<R> {
 
     fn open_file(&mut self, slot: Slot, name: &str) -> Result<(), Failed> {
         self.counts.count_opened();
-        match File::open(&self.rt, name) {
+        match self.used.open(&self.rt, name) {
             Ok(file) => {
                 self.channels.put(slot, Channel::Reading(file));
                 Ok(())
@@ -69,7 +71,7 @@ impl<R: Files + Print + Drop> Desk for RealDesk<R> {
     }
 
     fn create_file(&mut self, slot: Slot, name: &str) -> Result<(), Failed> {
-        match File::create(&self.rt, name) {
+        match self.used.create(&self.rt, name) {
             Ok(file) => {
                 self.channels.put(slot, Channel::Writing(file));
                 Ok(())
