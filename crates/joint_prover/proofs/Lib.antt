@@ -6,5 +6,6 @@ pub mod Telling
 pub mod Noting
 pub mod Joining
 pub mod Exactness
+pub mod DraftRemainders
 pub mod HeldFiles
 pub mod CallerLemmas

@@ -1,5 +1,5 @@
 -- What the remainder of a plan says of the graph.
-use Rattle.std.proofs.Common.{◌≡◌, ◌≢◌, ℕ, ◌+◌, ◌%◌, ◌<◌, ◌≤◌, Bool, cond, List, [], ◌∷◌, ◌++◌, length, map, take, refl, sym, ap, ap₂, subst, ◌∙◌, arith, ⊎_elim, ne_eqb, length-append, zero, suc}
+use Rattle.std.proofs.Common.{◌≡◌, ◌≢◌, ℕ, ◌+◌, ◌*◌, ◌%◌, ◌<◌, ◌≤◌, Bool, cond, List, [], ◌∷◌, ◌++◌, length, map, take, refl, sym, ap, ap₂, subst, ◌∙◌, arith, ⊎_elim, ne_eqb, length-append, zero, suc}
 use Rattle.std.specs.List.{AllByRecursion}
 use Rattle.std.proofs.Math.Seq.{take-append-add, take-length}
 use Rattle.std.proofs.lemmas.Bool.{cases_lt}
@@ -207,9 +207,12 @@ abbrev pub IsFewOver : Extended → Made → Type 0
 IsFewOver e l = length l.lines ≤ length e.gates + 2
 
 pub few_over : (e : Extended) (l after : Made) → e ≡ l.extended → ContinuesLines l after → IsFewOver e after → AreFew after
-few_over e l after same goes few = subst (λ x. IsFewOver x after) (same ∙ sym goes.extended) few
+few_over e l after same goes few = times_few (length after.lines) (length after.extended.gates) (subst (λ x. IsFewOver x after) (same ∙ sym goes.extended) few)
+  where
+    times_few : (n k : ℕ) → n ≤ k + 2 → n ≤ 16 * (k + 2)
+    times_few n k few = omega arith
 
-pub remainder_of : (l after : Made) (p : Planned) (poly : Sum) (id : ℕ) → p.extended ≡ l.extended → IsPlan l.extended p.steps → ContinuesLines l after → IsFewOver p.extended after →
+pub remainder_of : (l after : Made) (p : Planned) (poly : Sum) (id : ℕ) → p.extended ≡ l.extended → IsPlan l.extended p.steps → ContinuesLines l after → AreFew after →
     IsLastRest p l.sides after.table (written_ledger after).live poly id → IsRemainder l after poly id
 remainder_of l after p poly id same plan goes few rest = record {
   steps = p.steps;
@@ -217,7 +220,7 @@ remainder_of l after p poly id same plan goes few rest = record {
   plan = plan;
   goes_on = goes;
   rest = subst (λ x. IsLastRest (planned x p.steps p.uncounted) l.sides after.table (written_ledger after).live poly id) same rest;
-  few = few_over p.extended l after same goes few;
+  few = few;
 }
 
 pub plainly_reduced : (budget : ℕ) (l after : Made) (p : Planned) (given : Extended) (vs : List ℕ) (answer : Reduced) → given ≡ l.extended → p.extended ≡ given → p.uncounted ≡ length given.graph.outputs →
@@ -232,8 +235,7 @@ plainly_reduced budget l after p given vs answer same extended uncounted plain s
 
 pub plain_remainder : (l : Made) → IsStart l → (budget : ℕ) (after : Made) (poly : Sum) (id : ℕ) → IsPlainlyReduced budget l after (Rest poly id) → IsRemainder l after poly id
 plain_remainder l start budget after poly id h =
-    remainder_of l after (plain_of l.extended h.order) poly id refl (plain_plan_is_plan l.extended h.order start.extension h.plain).0 h.goes_on
-    (subst (λ x. IsFewOver x after) h.goes_on.extended h.few) h.reduced.0
+    remainder_of l after (plain_of l.extended h.order) poly id refl (plain_plan_is_plan l.extended h.order start.extension h.plain).0 h.goes_on h.few h.reduced.0
 
 module _ (l : Made) (start : IsStart l) (after : Made) (poly : Sum) (id : ℕ) (left : IsRemainder l after poly id) where
   goes : ContinuesLines l after

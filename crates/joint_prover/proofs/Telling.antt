@@ -30,7 +30,7 @@ use Rattle.joint_prover.specs.declared.shown.Shown.{Shown}
 use Rattle.joint_prover.specs.declared.task.Task.{Task}
 use Rattle.joint_prover.specs.Pairs.{AreClausesOver, IsVersion, IsPairOver, IsSpareFile}
 use Rattle.joint_prover.specs.Endings.{IsShown, cut_named, header_of, Decides, IsEnd, IsProof, IsWrongAs}
-use Rattle.joint_prover.specs.Tries.{extended_by, AreTried, EndsOver, EndsWithCut, HasPassedBudget, IsTried, IsWithinBudget}
+use Rattle.joint_prover.specs.Tries.{extended_by, AreTried, EndsOver, EndsWithCut, HasPassedBudget, IsProvedOver, IsTried, IsWithinBudget}
 use Rattle.joint_prover.proofs.Sizes.{few_inputs, few_outputs, few_variables, some_outputs}
 use Rattle.std.specs.Prelude.{◌⊎◌, is_some, option_map}
 use Rattle.std.proofs.lemmas.Option.{none-some}
@@ -236,7 +236,7 @@ module _ (g : Aig) (task : Task) where
   wrong_decides cut (decision.Undecided tried step size seen) h = absurd h
 
   -- over a graph that is one to end with
-  decided : (used cut : Option Cut) (d : Decision) → EndsOver g claim budget used cut → Decides g task cut d → IsDecision g task used d
+  decided : (used cut : Option Cut) (d : Decision) → IsProvedOver g claim budget used cut → Decides g task cut d → IsDecision g task used d
   decided used cut (decision.Proved p) over h = (h.0, h.1, (cut, over, h.2))
   decided used cut (decision.Wrong a b value product) over h = h
   decided used cut (decision.WrongSum a b c value sum) over h = h
@@ -244,14 +244,18 @@ module _ (g : Aig) (task : Task) where
 
   -- that with the cut in use, or alone where none is
   pub end_decides : (used : Option Cut) (d : Decision) → IsEnd g task used d → IsDecision g task used d
-  end_decides used d h = decided used used d (over_used used h.0) h.1
+  end_decides used d h = decided used used d (inl (over_used used h.0)) h.1
+
+  -- by a plan or by drafts
+  pub over_decides : (used : Option Cut) (d : Decision) → Decides g task used d → IsDecision g task used d
+  over_decides used d h = decided used used d (inr refl) h
 
   -- the graph alone, where the plan over that with a cut has passed the budget
   pub later_decides : (used cut : Option Cut) (first : Tried) (d : Decision) → cut ≡ None → IsTried g claim budget used first → IsEnd g task cut d → IsDecision g task used d
   later_decides used cut first d none tried h = decided used cut d
-      (over_alone used cut none (inl (has_passed g claim budget used first tried, subst (EndsWithCut g claim budget) none h.0))) h.1
+      (inl (over_alone used cut none (inl (has_passed g claim budget used first tried, subst (EndsWithCut g claim budget) none h.0)))) h.1
 
   -- at last by the plain plan
   pub plain_decides : (used cut : Option Cut) (tried : List Tried) (d : Decision) → cut ≡ None → AreTried g claim budget used tried → IsWithinBudget g claim budget → Decides g task cut d →
       IsDecision g task used d
-  plain_decides used cut tried d none are within h = decided used cut d (over_alone used cut none (inr ((tried, are), within))) h
+  plain_decides used cut tried d none are within h = decided used cut d (inl (over_alone used cut none (inr ((tried, are), within)))) h

@@ -88,9 +88,9 @@ pub record IsStart (l : Made) : Type 0 where
   pub extension : IsExtension l.extended
   pub agree : AgreeEverywhere l.extended
 
--- There are at most two lines more than gates.
+-- There are at most 16 lines for each gate, and 32 more.
 abbrev pub AreFew : Made → Type 0
-AreFew l = length l.lines ≤ length l.extended.gates + 2
+AreFew l = length l.lines ≤ 16 * (length l.extended.gates + 2)
 
 -- A plan was reduced to its end and left this remainder, and the lines go on; they are few.
 pub record IsRemainder (old new : Made) (poly : Sum) (id : ℕ) : Type 0 where

@@ -18,7 +18,7 @@ use Rattle.pac_writer.specs.Certificates.{written_certificate}
 use Rattle.pac_writer.specs.Spare.{IsSpareLine}
 use Rattle.pair_core.specs.ClauseFiles.{GivesPremises, premises}
 use Rattle.joint_prover.specs.declared.task.Task.{Task}
-use Rattle.joint_prover.specs.Tries.{EndsOver, extended_by}
+use Rattle.joint_prover.specs.Tries.{IsProvedOver, extended_by}
 
 -- a version of certificates
 abbrev pub IsVersion : ℕ → Type 0
@@ -47,7 +47,7 @@ pub record AreClausesOver (g : Aig) (task : Task) (cut : Option Cut) (clauses : 
 pub record IsSpareFile (version : ℕ) (e : Extended) (text : List ℕ) : Type 0 where
   pub lines : List Line
   pub closing : ℕ
-  pub few : length lines ≤ length e.gates + 2
+  pub few : length lines ≤ 16 * (length e.gates + 2)
   pub spare : All (IsSpareLine (modulus e)) lines
   pub text_is : text ≡ written_certificate version (modulus e) lines closing
 
@@ -60,7 +60,7 @@ pub record IsPairOver (g : Aig) (task : Task) (cut : Option Cut) (clauses algebr
 -- ---- what is written where a graph does what is claimed, with this cut in use or none
 
 abbrev pub AreClausesFor : Aig → Task → Option Cut → List ℕ → Type 0
-AreClausesFor g task used clauses = (cut : Option Cut) × EndsOver g task.claim task.budget used cut × AreClausesOver g task cut clauses
+AreClausesFor g task used clauses = (cut : Option Cut) × IsProvedOver g task.claim task.budget used cut × AreClausesOver g task cut clauses
 
 abbrev pub IsPairFor : Aig → Task → Option Cut → List ℕ → List ℕ → Type 0
-IsPairFor g task used clauses algebra = (cut : Option Cut) × EndsOver g task.claim task.budget used cut × IsPairOver g task cut clauses algebra
+IsPairFor g task used clauses algebra = (cut : Option Cut) × IsProvedOver g task.claim task.budget used cut × IsPairOver g task cut clauses algebra

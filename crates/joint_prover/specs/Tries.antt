@@ -76,3 +76,7 @@ EndsOver g claim budget used (Some cut) = (used ≡ Some cut) × EndsWithCut g c
 EndsOver g claim budget used None =
     (HasPassedBudget g claim budget used × EndsWithCut g claim budget None) ⊎
     (((tried : List Tried) × AreTried g claim budget used tried) × IsWithinBudget g claim budget)
+
+-- A plan ended; or lines were drafted, over the graph with the cut in use, or over the graph alone where none is.
+abbrev pub IsProvedOver : Aig → Claim → ℕ → Option Cut → Option Cut → Type 0
+IsProvedOver g claim budget used cut = EndsOver g claim budget used cut ⊎ (cut ≡ used)

@@ -9,7 +9,8 @@
 //! of the variables may stand in the graph, if a solver shows it: plans over that graph come next. At last come the
 //! plans with the whole budget, each where the ones before it had a frontier with more monomials: the slice plan over
 //! the graph with the adder that is used, the slice plan over the graph, and the plain plan over it. Between these,
-//! values of the inputs with few ones are tried.
+//! values of the inputs with few ones are tried, and plans whose lines are drafted by implications between variables
+//! (`drafted.rt`): what is drafted is advice, so such a plan decides rightly or not at all.
 //!
 //! Where the remainder is 0 the decision is `Proved`, with a pair of certificates in memory, over the graph with an
 //! adder where a plan over that ended; else it is `Wrong` with the least operands on which the graph differs, or with
@@ -19,7 +20,7 @@
 //! certificate file is created before the decision, and writing them takes no memory.
 //!
 //! Each decision, each verdict and each note has its cause, what is written is spare, and the plan that ended kept to
-//! the budget (`decision`, `verdict`). One file is opened, whatever is answered (`opened`). A made graph with a
+//! the budget, or lines were drafted (`decision`, `verdict`). One file is opened, whatever is answered (`opened`). A made graph with a
 //! ripple-carry adder is proved with a budget of 8 n^2 + 64 (`enough`). Laws: whichever verdict is due comes
 //! (`verdicts_are_exact`), the pair is held under its names (`proved_pairs_are_held`), and enough budget proves
 //! (`enough_is_proved`).
@@ -34,6 +35,7 @@
 
 mod conclusion;
 mod decision;
+mod drafted;
 mod laws;
 mod note;
 mod plans;

@@ -1,14 +1,15 @@
 // The order of plans: what is tried over which graph, with which budget, until one decides.
-ghost use Rattle.std.specs.Prelude.{◌≡◌, ◌++◌, ◌∷◌, [], IfOk, IfSome, IsNone};
+ghost use Rattle.std.specs.Prelude.{◌≡◌, ◌≤◌, ◌++◌, ◌∷◌, [], IfOk, IfSome, IsNone};
 ghost use Rattle.joint_prover.specs.declared.verdict.Tried.{Tried as TriedPlan};
 ghost use Rattle.joint_prover.specs.Decisions.{IsDecision};
-ghost use Rattle.joint_prover.specs.Endings.{AreLeast, IsEnd, IsJob, IsShown, cut_named, cut_of_found};
+ghost use Rattle.joint_prover.specs.Endings.{AreLeast, Decides, IsEnd, IsJob, IsShown, cut_named, cut_of_found};
 ghost use Rattle.joint_prover.specs.Notes.{IsFoundCut};
 ghost use Rattle.joint_prover.specs.Tries.{IsTried};
 ghost use Rattle.joint_prover.specs.Verdicts.{HaveManyOnes};
 
 use crate::conclusion::refute;
 use crate::decision::{Decision, Outcome};
+use crate::drafted::decide_by_drafts;
 use crate::reduction::{frontier_after, reduce_along, reduce_plainly};
 use crate::shown::{Found, Shown, find_cut};
 use crate::task::Job;
@@ -19,19 +20,35 @@ use ripple_graft::Cut;
 use slice_planner::Order;
 use std::alloc::Global;
 
-// Plans have an order of elimination, and so many times the small budget; or the whole one.
+// How a plan's lines come about.
+#[derive(Clone, Copy)]
+enum Lines {
+    // each step's frontier is reduced, and kept
+    Reduced,
+    // they are drafted by implications
+    Drafted,
+}
+
+// A plan has lines of one kind, an order of elimination, and so many times the small budget; or the whole one.
+type Try = (Lines, Order, u64);
+
 const WHOLE: u64 = u64::MAX;
 
 // What comes first, over the graph with the adder that is used, or over the graph alone where none is.
-const SOON: [(Order, u64); 1] = [(Order::Slices, 1)];
+const SOON: [Try; 1] = [(Lines::Reduced, Order::Slices, 1)];
 
 // What comes over the graph with an adder at a cut that is found.
-const FOUND: [(Order, u64); 4] = [
-    (Order::Slices, 1),
-    (Order::ByColumn, 2),
-    (Order::AtEnd, 16),
-    (Order::Slices, WHOLE),
+const FOUND: [Try; 6] = [
+    (Lines::Reduced, Order::Slices, 1),
+    (Lines::Drafted, Order::Slices, 1),
+    (Lines::Drafted, Order::SumsLast, 16),
+    (Lines::Reduced, Order::ByColumn, 2),
+    (Lines::Reduced, Order::AtEnd, 16),
+    (Lines::Reduced, Order::Slices, WHOLE),
 ];
+
+// What comes before the whole budget, over the same graph as what comes first.
+const LATE: [Try; 1] = [(Lines::Drafted, Order::SumsLast, 16)];
 
 // What it may cost to try values of the inputs before a plan is known to be hard: at 64 bits, those with two ones.
 const FEW: u64 = 1 << 24;
@@ -80,12 +97,16 @@ fn decide_soon(alloc: Global, job: &Job<'_>) -> Result<Option<Decision>, Memory>
     wrong_on_few(alloc, job, FEW)
 }
 
-// With the whole budget, where values of the inputs with few ones don't show that the graph is wrong: the slice plan
-// over the graph with the adder that is used, if any, the slice plan over the graph alone, and the plain plan.
+// Lines from drafts; and with the whole budget, where values of the inputs with few ones don't show that the graph is
+// wrong, the slice plan over the graph with the adder that is used, if any, the slice plan over the graph alone, and
+// the plain plan.
 fn decide_at_last(alloc: Global, job: &Job<'_>) -> Result<Decision, Memory>
     requires { IsJob job.now }
     ensures { IfOk result (IsDecision job.now.graph.now job.now.task (cut_named job.now.used)) }
 {
+    if let Some(decision) = decide_over(alloc, job, job.used, &LATE)? {
+        return Ok(decision);
+    }
     if let Some(decision) = wrong_on_few(alloc, job, MORE)? {
         return Ok(decision);
     }
@@ -112,26 +133,50 @@ fn is_seen(decision: &Decision) -> bool {
     matches!(decision, Decision::Undecided { seen: Some(_), .. })
 }
 
-// The first of these plans over an extended graph that keeps to its budget.
+// What the first of these plans over an extended graph decides that keeps to its budget.
 fn decide_over<'a>(
     alloc: Global,
     job: &Job<'a>,
     shown: Shown<'a>,
-    plans: &[(Order, u64)],
+    plans: &[Try],
 ) -> Result<Option<Decision>, Memory>
     requires job { IsJob job.now }
     requires shown { IsShown job.now.graph.now job.now.task.conflicts shown }
     ensures { IfOk result (λ d. IfSome d
-        (IsEnd job.now.graph.now job.now.task (cut_named shown.entry))) }
+        (Decides job.now.graph.now job.now.task (cut_named shown.entry))) }
 {
     let small = small_budget(job.operands.bits());
-    for &(order, times) in plans {
+    for &(lines, order, times) in plans {
         let budget = job.task.budget.min(small.saturating_mul(times));
-        if let Outcome::Decided(decision) = reduce_along(alloc, job, shown, order, budget)? {
+        let decided = match lines {
+            Lines::Reduced => decide_along(alloc, job, shown, order, budget)?,
+            Lines::Drafted => decide_by_drafts(alloc, job, shown, order, budget)?,
+        };
+        if let Some(decision) = decided {
             return Ok(Some(decision));
         }
     }
     Ok(None)
+}
+
+// What the plan of this order decides, where it keeps to the budget.
+fn decide_along<'a>(
+    alloc: Global,
+    job: &Job<'a>,
+    shown: Shown<'a>,
+    order: Order,
+    budget: u64,
+) -> Result<Option<Decision>, Memory>
+    requires job { IsJob job.now }
+    requires shown { IsShown job.now.graph.now job.now.task.conflicts shown }
+    requires within { budget ≤ job.now.task.budget }
+    ensures { IfOk result (λ d. IfSome d
+        (Decides job.now.graph.now job.now.task (cut_named shown.entry))) }
+{
+    match reduce_along(alloc, job, shown, order, budget)? {
+        Outcome::Decided(decision) => Ok(Some(decision)),
+        Outcome::Passed { .. } => Ok(None),
+    }
 }
 
 // The slice plan with the whole budget over an extended graph; where it passes that, it was tried.

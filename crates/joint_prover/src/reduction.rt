@@ -75,8 +75,12 @@ pub(crate) fn reduce_plainly(
     }
 }
 
-// No line, over an extended graph whose faults are none.
-fn start_lines<'a>(alloc: Global, job: &Job<'a>, shown: Shown<'a>) -> Result<Lines<'a>, Memory>
+/// No line, over an extended graph whose faults are none.
+pub(crate) fn start_lines<'a>(
+    alloc: Global,
+    job: &Job<'a>,
+    shown: Shown<'a>,
+) -> Result<Lines<'a>, Memory>
     requires job { IsJob job.now }
     requires shown { IsShown job.now.graph.now job.now.task.conflicts shown }
     ensures start { IfOk result IsStart }
@@ -87,8 +91,8 @@ fn start_lines<'a>(alloc: Global, job: &Job<'a>, shown: Shown<'a>) -> Result<Lin
     Lines::new(alloc, shown.extended, job.operands)
 }
 
-// What the remainder of a plan decides: the lines are closed where it is 0.
-fn end_plan(
+/// What the remainder of a plan decides: the lines are closed where it is 0.
+pub(crate) fn end_plan(
     alloc: Global,
     job: &Job<'_>,
     shown: Shown<'_>,

@@ -4,10 +4,10 @@ use Rattle.std.specs.declared.option.Option.TheVariants.{Some}
 use Rattle.frontier_core.specs.LastFrontier.{AgreeEverywhere}
 use Rattle.stage_rewriter.specs.Rewriting.{IsShownRewriting}
 use Rattle.joint_prover.specs.Decisions.{IsDecision}
-use Rattle.joint_prover.specs.Endings.{IsEnd, cut_named}
+use Rattle.joint_prover.specs.Endings.{Decides, cut_named}
 use Rattle.joint_prover.specs.declared.shown.Found.{Found}
 use Rattle.joint_prover.proofs.Noting.{found_is}
-use Rattle.joint_prover.proofs.Telling.{end_decides}
+use Rattle.joint_prover.proofs.Telling.{over_decides}
 use Rattle.joint_prover.proofs.plans.decide_by_plans.Goals as goal
 
 pub returns-in-Some-clause-decision : goal.returns-in-Some-clause-decision
@@ -39,5 +39,5 @@ returns-in-Some-3-clause-decision c =
     let job = c.args.job.now in
     let g = job.graph.now in
     let d = c.in-Some-3.decision in
-    let end = subst (λ o. IfSome o (IsEnd g job.task (cut_named c.with_adder-shown.result))) c.in-Some-3.is c.in_ok-decision-2.ensures in
-    end_decides g job.task (Some c.in-Some-2.found.cut) d (subst (λ k. IsEnd g job.task k d) c.with_adder-shown.ensures.named end)
+    let over = subst (λ o. IfSome o (Decides g job.task (cut_named c.with_adder-shown.result))) c.in-Some-3.is c.in_ok-decision-2.ensures in
+    over_decides g job.task (Some c.in-Some-2.found.cut) d (subst (λ k. Decides g job.task k d) c.with_adder-shown.ensures.named over)

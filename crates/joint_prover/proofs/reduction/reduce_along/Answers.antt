@@ -6,7 +6,7 @@ use Rattle.graph_core.specs.Graph.Operands.{ReadInputs, sides_for}
 use Rattle.slice_planner.specs.ColumnPlans.{IsColumnPlan}
 use Rattle.joint_prover.specs.Endings.{cut_named}
 use Rattle.joint_prover.specs.Tries.{extended_by}
-use Rattle.joint_prover.proofs.Remainders.{ends_at, ends_within, reads_inputs, remainder_of}
+use Rattle.joint_prover.proofs.Remainders.{ends_at, ends_within, few_over, reads_inputs, remainder_of}
 use Rattle.joint_prover.proofs.reduction.reduce_along.Goals as goal
 
 pub reduce-requires-clause-inputs : goal.reduce-requires-clause-inputs
@@ -26,7 +26,7 @@ end_plan-requires-clause-left c =
       c.in_ok-lines.ensures.sides,
       c.in_ok-lines.ensures.extended,
       remainder_of l after p c.in-Rest.poly c.in-Rest.id (c.in_ok-plan.ensures.extended ∙ same) (subst (λ x. IsPlan x p.steps) same c.in_ok-plan.ensures.columns.plan)
-          c.reduce.ensures.goes_on c.reduce.ensures.few reduced.0,
+          c.reduce.ensures.goes_on (few_over p.extended l after (c.in_ok-plan.ensures.extended ∙ same) c.reduce.ensures.goes_on c.reduce.ensures.few) reduced.0,
     )
 
 pub returns-in-Rest : goal.returns-in-Rest

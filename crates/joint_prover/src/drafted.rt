@@ -1,0 +1,43 @@
+// Plans whose lines are drafted: what is drafted is advice, and the lines that are written of it decide.
+ghost use Rattle.std.specs.Prelude.{IfOk, IfSome};
+ghost use Rattle.joint_prover.specs.Endings.{Decides, IsJob, IsShown, cut_named};
+
+use crate::decision::Decision;
+use crate::reduction::{end_plan, start_lines};
+use crate::shown::Shown;
+use crate::task::Job;
+use column_reducer::column_plan;
+use graph_core::Memory;
+use implied_drafts::draft_plan;
+use line_drafts::write_drafts;
+use slice_planner::Order;
+use std::alloc::Global;
+
+/// What lines decide that are drafted along the plan of this order, by implications, with this budget. None where the
+/// drafts give none, or where what they leave isn't over inputs alone.
+pub(crate) fn decide_by_drafts<'a>(
+    alloc: Global,
+    job: &Job<'a>,
+    shown: Shown<'a>,
+    order: Order,
+    budget: u64,
+) -> Result<Option<Decision>, Memory>
+    requires job { IsJob job.now }
+    requires shown { IsShown job.now.graph.now job.now.task.conflicts shown }
+    ensures { IfOk result (λ d. IfSome d
+        (Decides job.now.graph.now job.now.task (cut_named shown.entry))) }
+{
+    let mut lines = start_lines(alloc, job, shown)?;
+    let plan = column_plan(alloc, order, shown.extended)?;
+    let drafts = draft_plan(alloc, shown.extended, job.operands, plan.steps(), budget)?;
+    let Some(drafts) = drafts else {
+        return Ok(None);
+    };
+    let Some((poly, id)) = write_drafts(alloc, &mut lines, &drafts)? else {
+        return Ok(None);
+    };
+    // each line is lawful
+    let _last = lines.last();
+    let decision = end_plan(alloc, job, shown, lines, &poly, id)?;
+    Ok(Some(decision))
+}
