@@ -171,14 +171,14 @@ module _ (limit : ℕ) (task : Task) (file : List ℕ) where
     Says Proved = Spelled (Does claim)
     Says (Wrong a b v p) = Spelled (λ g. IsWrong g claim a b v p)
     Says (WrongSum a b c v p) = Spelled (λ g. IsWrongSum g claim a b c v p)
-    Says (Undecided tried t n) = Spelled (λ g. IsFirstAbove g claim task.budget t n × HaveManyOnes g claim)
+    Says (Undecided tried t n seen) = Spelled (λ g. IsFirstAbove g claim task.budget t n × HaveManyOnes g claim)
     Says (Stopped why) = IsGraphStop slot.Graph profile limit (Some file) why ⊎ Interrupts before after why
 
     never_stopped : (g : Aig) (why : Stop) → SpellsWithin profile limit file g → IsGraphStop slot.Graph profile limit (Some file) why → ⊥
     never_stopped g why s d = (graph_exact profile limit file slot.Graph).not_both why (g, s) d
 
     exact : (given due : Verdict) → Says given → IsVerdictDue limit task file due → GivesDue Stopped before after due given
-    exact given (Undecided others u m) h d = absurd d
+    exact given (Undecided others u m other) h d = absurd d
     exact Proved Proved h d = inl refl
     exact Proved (Wrong x y w q) h d = absurd (right_or_wrong x y w q h (d.0, d.1, d.3))
     exact Proved (WrongSum x y z w q) h d = absurd (right_or_wrong_sum x y z w q h (d.0, d.1, d.3))
@@ -191,12 +191,12 @@ module _ (limit : ℕ) (task : Task) (file : List ℕ) where
     exact (WrongSum a b c v p) (Wrong x y w q) h d = absurd (product_or_sum x y w q a b c v p (d.0, d.1, d.3) h)
     exact (WrongSum a b c v p) (WrongSum x y z w q) h d = inl (one_wrong_sum x y z w q a b c v p (d.0, d.1, d.3) h)
     exact (WrongSum a b c v p) (Stopped other) h d = absurd (never_stopped h.0 other h.1 d)
-    exact (Undecided tried t n) Proved h d = absurd (within_or_above t n (d.0, d.1, d.2) (h.0, h.1, h.2.0))
-    exact (Undecided tried t n) (Wrong x y w q) h d =
+    exact (Undecided tried t n seen) Proved h d = absurd (within_or_above t n (d.0, d.1, d.2) (h.0, h.1, h.2.0))
+    exact (Undecided tried t n seen) (Wrong x y w q) h d =
         absurd (⊎_elim (λ within. within_or_above t n (d.0, d.1, within) (h.0, h.1, h.2.0)) (λ few. few_or_many x y w q (d.0, d.1, (few, d.3)) (h.0, h.1, h.2.1)) d.2)
-    exact (Undecided tried t n) (WrongSum x y z w q) h d =
+    exact (Undecided tried t n seen) (WrongSum x y z w q) h d =
         absurd (⊎_elim (λ within. within_or_above t n (d.0, d.1, within) (h.0, h.1, h.2.0)) (λ few. few_or_many_sum x y z w q (d.0, d.1, (few, d.3)) (h.0, h.1, h.2.1)) d.2)
-    exact (Undecided tried t n) (Stopped other) h d = absurd (never_stopped h.0 other h.1 d)
+    exact (Undecided tried t n seen) (Stopped other) h d = absurd (never_stopped h.0 other h.1 d)
     exact (Stopped why) due (inr interrupts) d = inr (why, refl, interrupts)
     exact (Stopped why) Proved (inl h) d = absurd (never_stopped d.0 why d.1 h)
     exact (Stopped why) (Wrong x y w q) (inl h) d = absurd (never_stopped d.0 why d.1 h)
@@ -219,7 +219,7 @@ verdicts_are_exact limit task files before after file due given noted told d h =
     says Proved h = let s = spelled limit task file _ _ told h in (s.0, s.1, s.2.0)
     says (Wrong a b value product) h = let s = spelled limit task file _ _ told h.0 in (s.0, s.1, s.2.0)
     says (WrongSum a b c value sum) h = let s = spelled limit task file _ _ told h.0 in (s.0, s.1, s.2.0)
-    says (Undecided tried t n) h = let s = spelled limit task file _ _ told h.0 in (s.0, s.1, (s.2.0, s.2.2))
+    says (Undecided tried t n seen) h = let s = spelled limit task file _ _ told h.0 in (s.0, s.1, (s.2.0, s.2.2))
     says (Stopped stop.WriteFault) h = inr h.0
     says (Stopped (stop.Graph at why)) h = of_stop (stop.Graph at why) h.0
     says (Stopped (stop.TooLong at)) h = of_stop (stop.TooLong at) h.0
@@ -282,7 +282,7 @@ module _ (limit : ℕ) (task : Task) (file : List ℕ) (h : IsEnough limit task 
     proved_or_not (WrongSum x y z value sum) noted k =
         let s = spelled limit task file _ _ told k.0 in
         absurd (right_or_wrong_sum limit task file x y z value sum (h.graph, spells, does) (s.0, s.1, s.2.0))
-    proved_or_not (Undecided tried t n) noted k =
+    proved_or_not (Undecided tried t n seen) noted k =
         let s = spelled limit task file _ _ told k.0 in
         let same = one_graph (profile_of task.claim.add) file s.0 h.graph s.1.spells spells.spells in
         absurd (never_tried tried.items noted (subst (λ g. HasNote g task noted (λ used. AreTried g task.claim task.budget used tried.items)) same s.2.1))

@@ -51,8 +51,8 @@ module _ (limit : ℕ) (task : Task) (files : Files) (a r : View) (reads : Reads
       named c v (Wrong x y value product) noted (Some n) t.0 t.1 ((g, spelled, (h, (note, tt))), subst (ReadsGraph a) (sym t.2) reads)
   told c g (decision.WrongSum x y z value sum) n v noted spelled same note h t =
       named c v (WrongSum x y z value sum) noted (Some n) t.0 t.1 ((g, spelled, (h, (note, tt))), subst (ReadsGraph a) (sym t.2) reads)
-  told c g (decision.Undecided tried step size) n v noted spelled same note h t =
-      named c v (Undecided tried step size) noted (Some n) t.0 t.1 ((g, spelled, (h.0, (note, h.1), h.2)), subst (ReadsGraph a) (sym t.2) reads)
+  told c g (decision.Undecided tried step size seen) n v noted spelled same note h t =
+      named c v (Undecided tried step size seen) noted (Some n) t.0 t.1 ((g, spelled, (h.0, (note, h.1), h.2, h.3)), subst (ReadsGraph a) (sym t.2) reads)
 
   pub stopped : (why : Stop) → IsStop (IsGraphStop slot.Graph (profile_of task.claim.add) limit (bytes_under a files.graph)) a r why → IsVerdict limit task files a r (Stopped why) None
   stopped (stop.Graph at why) h = (h, reads, refl)
@@ -76,7 +76,7 @@ told_leaves files a b (decision.Proved p) n v noted (inl t) = pair_leaves_report
 told_leaves files a b (decision.Proved p) n v noted (inr t) = stopping_leaves_report files (λ text. text ≡ clauses_text p) (λ beside text. text ≡ algebra_text p) a b t.3
 told_leaves files a b (decision.Wrong x y value product) n v noted t = subst (ReportStays a) (sym t.2) (report_stays a)
 told_leaves files a b (decision.WrongSum x y z value sum) n v noted t = subst (ReportStays a) (sym t.2) (report_stays a)
-told_leaves files a b (decision.Undecided tried step size) n v noted t = subst (ReportStays a) (sym t.2) (report_stays a)
+told_leaves files a b (decision.Undecided tried step size seen) n v noted t = subst (ReportStays a) (sym t.2) (report_stays a)
 
 judged_leaves : (files : Files) (a b : View) (decided : Result (Decision × Note) Memory) (v : Verdict) (noted : Option Note) → IfOk decided (λ d. IsTold files a b d.0 d.1 v noted) → OnErr decided (b ≡ a) → ReportStays a b
 judged_leaves files a b (Ok d) v noted h same = told_leaves files a b d.0 d.1 v noted h

@@ -1,5 +1,5 @@
 -- What plans run over and come to, and what is told of it. Private clauses alone cite this file.
-use Rattle.std.specs.Prelude.{◌≡◌, ◌⊎◌, ℕ, ◌+◌, ◌*◌, ◌≤◌, Bool, List, [], length, option_map, take, IsSome}
+use Rattle.std.specs.Prelude.{◌≡◌, ◌⊎◌, ℕ, ◌+◌, ◌*◌, ◌≤◌, Bool, List, [], length, option_map, take, IfSome, IsSome}
 use Rattle.std.specs.declared.option.Option.{Option}
 use Rattle.std.specs.declared.option.Option.TheVariants.{None, Some}
 use Rattle.clause_core.specs.ClauseLines.{AreLawfulClauseLines}
@@ -59,7 +59,7 @@ pub record IsShown (g : Aig) (conflicts : ℕ) (s : Shown) : Type 0 where
   pub none : cut_named s ≡ None → s.log.now ≡ []
 
 -- The operands are those that their claim names in the graph, which has no fault and is of a size for it; that is what is asked; the version
--- of certificates is one; and the graph is shown, alone and with the adder that is used.
+-- of certificates is one; the graph is shown, alone and with the adder that is used; and numbers on which an adder differs are in range.
 pub record IsJob (job : Job) : Type 0 where
   pub operands : AreOperandsOf job.graph.now job.operands.now
   pub sized : IsSizedAs (profile_of job.operands.now.claim.add) job.graph.now
@@ -69,6 +69,7 @@ pub record IsJob (job : Job) : Type 0 where
   pub alone : IsShown job.graph.now job.task.conflicts job.alone
   pub lone : cut_named job.alone ≡ None
   pub used : IsShown job.graph.now job.task.conflicts job.used
+  pub differing : IfSome job.differing (AreInRange job.operands.now)
 
 -- the cut in use: one that was found, or that of the adder that is used
 abbrev pub cut_of_found : Option Cut → Option Cut → Option Cut
@@ -157,4 +158,4 @@ IsTold files before after (decision.Proved p) n v noted =
     StopsWriting files (λ text. text ≡ clauses_text p) (λ beside text. text ≡ algebra_text p) before after)
 IsTold files before after (decision.Wrong a b value product) n v noted = (v ≡ verdict.Wrong a b value product) × (noted ≡ Some n) × (after ≡ before)
 IsTold files before after (decision.WrongSum a b c value sum) n v noted = (v ≡ verdict.WrongSum a b c value sum) × (noted ≡ Some n) × (after ≡ before)
-IsTold files before after (decision.Undecided tried step size) n v noted = (v ≡ verdict.Undecided tried step size) × (noted ≡ Some n) × (after ≡ before)
+IsTold files before after (decision.Undecided tried step size seen) n v noted = (v ≡ verdict.Undecided tried step size seen) × (noted ≡ Some n) × (after ≡ before)

@@ -1,11 +1,11 @@
 -- What `verify` says of a graph file, and where each verdict comes.
-use Rattle.std.specs.Prelude.{◌≡◌, ◌⊎◌, ℕ, ◌+◌, ◌*◌, ◌%◌, ◌<◌, ◌≤◌, Bool, true, false, List, ◌++◌, length, IsSomeAnd, ⊤}
+use Rattle.std.specs.Prelude.{◌≡◌, ◌⊎◌, ℕ, ◌+◌, ◌*◌, ◌%◌, ◌<◌, ◌≤◌, Bool, true, false, List, ◌++◌, length, IfSome, IsSomeAnd, ⊤}
 use Rattle.std.specs.declared.option.Option.{Option}
 use Rattle.std.specs.declared.option.Option.TheVariants.{None, Some}
 use Rattle.aiger_reader.specs.Refusals.{SpellsWithin}
 use Rattle.command_core.specs.Stopping.{GivesDue, IsGraphStop, IsStop}
 use Rattle.command_core.specs.declared.stop.Stop.TheVariants as stop
-use Rattle.frontier_core.specs.LeastDifference.{IsDifferenceAt, IsLeastDifference, IsLeastSumDifference, ones_from}
+use Rattle.frontier_core.specs.LeastDifference.{IsDifference, IsDifferenceAt, IsLeastDifference, IsLeastSumDifference, IsSumDifference, ones_from}
 use Rattle.frontier_core.specs.PlainOrder.{HasPlainSize}
 use Rattle.graph_core.specs.Graph.{Aig}
 use Rattle.graph_core.specs.Graph.Extended.{without_cut}
@@ -17,6 +17,8 @@ use Rattle.ripple_graft.specs.declared.cut.Cut.{Cut}
 use Rattle.pair_core.specs.Certificates.{IsPair}
 use Rattle.command_core.specs.Files.{AreDistinct, Files, HasGraph}
 use Rattle.joint_prover.specs.declared.note.Note.{Note}
+use Rattle.joint_prover.specs.declared.seen.Seen.{Seen}
+use Rattle.joint_prover.specs.declared.seen.Seen.TheVariants.{Product, Sum}
 use Rattle.joint_prover.specs.declared.task.Task.{Task}
 use Rattle.joint_prover.specs.declared.verdict.Verdict.{Verdict}
 use Rattle.joint_prover.specs.declared.verdict.Verdict.TheVariants.{Proved, Wrong, WrongSum, Undecided, Stopped}
@@ -77,6 +79,30 @@ pub record IsWrongSum (g : Aig) (claim : Claim) (a b c value sum : ℕ) : Type 0
   pub value_is : value ≡ sum_on g claim.order a b c
   pub sum_is : sum ≡ (product_as claim.sign (output_modulus g) (sum_width g) a b + c) % output_modulus g
 
+-- ---- seen
+
+-- Operands on which the graph's value isn't the product of the numbers that they stand for, with its value and the product; other ones may
+-- be less.
+pub record IsProductSeen (g : Aig) (claim : Claim) (a b value product : ℕ) : Type 0 where
+  pub alone : claim.add ≡ false
+  pub difference : IsDifference g claim.order claim.sign a b
+  pub value_is : value ≡ value_on g claim.order a b
+  pub product_is : product ≡ product_as claim.sign (output_modulus g) (width g) a b % output_modulus g
+
+-- The same for a claim with an addend.
+pub record IsSumSeen (g : Aig) (claim : Claim) (a b c value sum : ℕ) : Type 0 where
+  pub added : claim.add ≡ true
+  pub difference : IsSumDifference g claim.order claim.sign a b c
+  pub value_is : value ≡ sum_on g claim.order a b c
+  pub sum_is : sum ≡ (product_as claim.sign (output_modulus g) (sum_width g) a b + c) % output_modulus g
+
+-- The graph differs on these numbers from what is claimed, and has this value there.
+abbrev pub IsSeen : Aig → Claim → Seen → Type 0
+IsSeen g claim (Product a b value product) = IsProductSeen g claim a b value product
+IsSeen g claim (Sum a b c value sum) = IsSumSeen g claim a b c value sum
+
+-- ---- where each verdict comes
+
 -- There is a note, which has its cause, and something holds of the cut that it has in use.
 abbrev pub HasNote : Aig → Task → Option Note → (Option Cut → Type 0) → Type 0
 HasNote g task noted P = IsSomeAnd noted (λ n. IsNote g task.claim task.conflicts n × P (cut_of n))
@@ -98,9 +124,10 @@ IsVerdict limit task files before after (Wrong a b value product) noted =
 IsVerdict limit task files before after (WrongSum a b c value sum) noted =
     IsOfFile limit task files before (λ g. IsWrongSum g task.claim a b c value sum × HasNote g task noted (λ used. ⊤)) ×
     ReadsGraph before after
-IsVerdict limit task files before after (Undecided tried step size) noted =
+IsVerdict limit task files before after (Undecided tried step size seen) noted =
     IsOfFile limit task files before (λ g. IsFirstAbove g task.claim task.budget step size ×
-    HasNote g task noted (λ used. AreTried g task.claim task.budget used tried.items) × HaveManyOnes g task.claim) ×
+    HasNote g task noted (λ used. AreTried g task.claim task.budget used tried.items) × HaveManyOnes g task.claim ×
+    IfSome seen (IsSeen g task.claim)) ×
     ReadsGraph before after
 IsVerdict limit task files before after (Stopped stop.WriteFault) noted =
     Rose before.write_faults after.write_faults ×

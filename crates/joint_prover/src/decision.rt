@@ -1,4 +1,5 @@
 // What is decided of a graph, and what a plan comes to.
+use crate::seen::Seen;
 use crate::verdict::Tried;
 use column_reducer::Plan;
 use pair_core::Pair;
@@ -26,6 +27,7 @@ pub enum Decision {
         tried: Vec<Tried>,
         plain_step: u64,
         plain_size: u64,
+        seen: Option<Seen>,
     },
 }
 

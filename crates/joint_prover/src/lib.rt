@@ -13,7 +13,8 @@
 //!
 //! Where the remainder is 0 the decision is `Proved`, with a pair of certificates in memory, over the graph with an
 //! adder where a plan over that ended; else it is `Wrong` with the least operands on which the graph differs, or with
-//! an addend `WrongSum`. Where all plans pass the budget it is `Undecided`. `verify` opens and reads the graph file
+//! an addend `WrongSum`. Where all plans pass the budget it is `Undecided`, with numbers on which the graph was *seen* to
+//! differ, if some are known: those with few ones are tried once more then. `verify` opens and reads the graph file
 //! alone, decides, and tells: with `Proved` the clause certificate and then the algebra certificate are written. No
 //! certificate file is created before the decision, and writing them takes no memory.
 //!
@@ -23,6 +24,7 @@
 //! (`verdicts_are_exact`), the pair is held under its names (`proved_pairs_are_held`), and enough budget proves
 //! (`enough_is_proved`).
 //!
+//! *Seen*: values on which the graph was evaluated and isn't what is claimed (`specs/Verdicts.antt`).
 //! *Pair*: certificates that are lawful for a graph. *Spare*: no line or literal is there twice, and no term has value
 //! 0 (`specs/Pairs.antt`). *Above*, *within the budget*: the sizes of frontiers (`specs/Tries.antt`). Where each
 //! decision comes is told in `specs/Decisions.antt`, where each verdict comes in `specs/Verdicts.antt`, where each note
@@ -37,6 +39,7 @@ mod note;
 mod plans;
 mod proving;
 mod reduction;
+mod seen;
 mod shown;
 mod task;
 mod verdict;
@@ -45,5 +48,6 @@ pub use decision::Decision;
 pub use laws::{enough_is_proved, proved_pairs_are_held, verdicts_are_exact};
 pub use note::Note;
 pub use proving::{decide, verify};
+pub use seen::Seen;
 pub use task::Task;
 pub use verdict::{Tried, Verdict};

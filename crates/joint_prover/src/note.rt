@@ -1,5 +1,8 @@
 // The note on a rewriting.
-ghost use Rattle.std.specs.Prelude.{◌≡◌};
+ghost use Rattle.std.specs.Prelude.{◌≡◌, ℕ, IfSome};
+ghost use Rattle.graph_core.specs.Graph.{Aig};
+ghost use Rattle.graph_core.specs.Graph.Operands.{AreInRange, Sides};
+ghost use Rattle.stage_rewriter.specs.Rewriting.{IsRewriting};
 ghost use Rattle.joint_prover.specs.Notes.{differing, note_of, rewriting_note_of};
 
 use cdcl_solver::Log;
@@ -33,6 +36,17 @@ pub(crate) fn make_note(add: bool, rewritten: Rewriting<'_>, found: Option<Cut>)
     match found {
         Some(cut) => Note::Found(cut),
         None => rewriting_note(add, rewritten),
+    }
+}
+
+/// The numbers on which an adder's outputs aren't the graph's, if some are known.
+pub(crate) fn numbers_of(rewritten: &Rewriting<'_>) -> Option<Numbers>
+    ensures { (g : Aig) (s : Sides) (conflicts : ℕ) →
+        IsRewriting g s conflicts rewritten.now → IfSome result (AreInRange s) }
+{
+    match rewritten {
+        Rewriting::Differs(numbers) => Some(*numbers),
+        _ => None,
     }
 }
 

@@ -37,6 +37,8 @@ const FOUND: [(Order, u64); 4] = [
 const FEW: u64 = 1 << 24;
 // What it may cost where a plan is: at 64 bits, those with three ones.
 const MORE: u64 = 1 << 29;
+// What it may cost where the graph is known to be wrong, and no plan tells where: at 64 bits, those with four ones.
+const LATE: u64 = 1 << 35;
 
 /// What the plans decide, and the cut that was found where a plan over the graph with its adder decided it.
 pub(crate) fn decide_by_plans(
@@ -96,7 +98,18 @@ fn decide_at_last(alloc: Global, job: &Job<'_>) -> Result<Decision, Memory>
             return Ok(decision);
         }
     }
-    reduce_plainly(alloc, job, tried)
+    let decision = reduce_plainly(alloc, job, tried)?;
+    if is_seen(&decision) {
+        if let Some(wrong) = wrong_on_few(alloc, job, LATE)? {
+            return Ok(wrong);
+        }
+    }
+    Ok(decision)
+}
+
+// Whether all plans passed the budget, and the graph is known to be wrong.
+fn is_seen(decision: &Decision) -> bool {
+    matches!(decision, Decision::Undecided { seen: Some(_), .. })
 }
 
 // The first of these plans over an extended graph that keeps to its budget.

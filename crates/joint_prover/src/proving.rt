@@ -17,7 +17,7 @@ ghost use Rattle.joint_prover.specs.Verdicts.{IsVerdict};
 ghost use Rattle.command_core.specs.Written.{ReportStays};
 
 use crate::decision::Decision;
-use crate::note::{Note, make_note};
+use crate::note::{Note, make_note, numbers_of};
 use crate::plans::decide_by_plans;
 use crate::shown::Shown;
 use crate::task::{Job, Task};
@@ -77,6 +77,7 @@ pub fn decide(alloc: Global, task: &Task, graph: &Graph) -> Result<(Decision, No
         operands: &operands,
         alone,
         used: Shown::used(&rewritten, alone),
+        differing: numbers_of(&rewritten),
     };
     let (decision, found) = decide_by_plans(alloc, &job)?;
     Ok((decision, make_note(task.claim.add, rewritten, found)))
@@ -138,11 +139,13 @@ fn tell<D: Desk>(
                 tried,
                 plain_step,
                 plain_size,
+                seen,
             } => {
                 let verdict = Verdict::Undecided {
                     tried,
                     plain_step,
                     plain_size,
+                    seen,
                 };
                 (verdict, Some(note))
             }

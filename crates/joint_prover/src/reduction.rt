@@ -10,6 +10,7 @@ ghost use Rattle.joint_prover.specs.Verdicts.{HaveManyOnes};
 
 use crate::conclusion::{prove, refute};
 use crate::decision::{Decision, Outcome};
+use crate::seen::see;
 use crate::shown::Shown;
 use crate::task::Job;
 use crate::verdict::Tried;
@@ -62,11 +63,15 @@ pub(crate) fn reduce_plainly(
     let plan = plain_plan(alloc, job.alone.extended)?;
     match reduce(alloc, &plan, job.task.budget, &mut lines)? {
         Reduced::Rest { poly, id } => end_plan(alloc, job, job.alone, lines, &poly, id),
-        Reduced::Passed { step, size } => Ok(Decision::Undecided {
-            tried,
-            plain_step: step,
-            plain_size: size,
-        }),
+        Reduced::Passed { step, size } => {
+            let seen = see(alloc, job)?;
+            Ok(Decision::Undecided {
+                tried,
+                plain_step: step,
+                plain_size: size,
+                seen,
+            })
+        }
     }
 }
 

@@ -1,6 +1,6 @@
 // What is asked of a graph, and what travels from plan to plan.
 use crate::shown::Shown;
-use graph_core::{Claim, Graph, Operands};
+use graph_core::{Claim, Graph, Numbers, Operands};
 
 /// What is asked of a graph.
 #[derive(Clone, Copy, Debug, PartialEq, Eq)]
@@ -26,4 +26,6 @@ pub(crate) struct Job<'a> {
     pub(crate) alone: Shown<'a>,
     /// The graph with an adder in place of its final stage, or alone where no adder is used.
     pub(crate) used: Shown<'a>,
+    /// Numbers on which an adder's outputs aren't the graph's, if some are known.
+    pub(crate) differing: Option<Numbers>,
 }

@@ -1,4 +1,5 @@
 // The ends of a verification.
+use crate::seen::Seen;
 use command_core::Stop;
 
 /// What `verify` says of a graph.
@@ -27,6 +28,8 @@ pub enum Verdict {
         tried: Vec<Tried>,
         plain_step: u64,
         plain_size: u64,
+        /// numbers on which the graph was seen to differ, if some are known
+        seen: Option<Seen>,
     },
     /// There is no such answer. With a write fault what is there is a front part of a certificate.
     Stopped(Stop),

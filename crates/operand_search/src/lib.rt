@@ -5,8 +5,8 @@
 //! by the lexicographically least list of positions), and evaluates the graph on 64 of them at a time, in the bits of
 //! one word a variable. With k ones among n inputs there are n! / (k! (n - k)!) values: of 128 inputs 8,257 with at
 //! most two ones, and 349,633 with at most three. `most_ones_within` says how many ones some work is enough for, two at
-//! least. `least_seen` looks only where a few hundred fixed values of the inputs already show that the graph differs:
-//! its None says nothing.
+//! least. `some_seen` looks at a few hundred fixed values of the inputs, and `least_seen` looks for the least difference
+//! only where these show that there is one: the None of both says nothing.
 //!
 //! *Difference*, *least difference*: `LeastDifference` of `frontier_core`.
 #![tactic(auto)]
@@ -22,6 +22,6 @@ mod simulation;
 mod work;
 
 pub use claimed::claimed_value;
-pub use sampling::least_seen;
+pub use sampling::{least_seen, some_seen};
 pub use search::least_within;
 pub use work::most_ones_within;

@@ -1,5 +1,5 @@
-// The least difference, looked for only where some fixed operands show that there is one.
-ghost use Rattle.std.specs.Prelude.{◌≡◌, ◌+◌, ◌≤◌, length, IfOk, IfSome};
+// Fixed numbers on which a graph may be seen to differ, and the least difference, looked for only where it is.
+ghost use Rattle.std.specs.Prelude.{◌≡◌, ◌+◌, ◌≤◌, length, All, IfOk, IfSome};
 ghost use Rattle.graph_core.specs.Graph.Operands.{AreInRange, AreOperandsOf, HasShapeFor, inputs_at, operand_literals};
 ghost use Rattle.frontier_core.specs.LeastDifference.{IsLeastDifferenceAt};
 
@@ -27,50 +27,55 @@ pub fn least_seen(
         IsLeastDifferenceAt graph.now operands.now (inputs_at operands.now x))) }
     ensures range { IfOk result (λ found. IfSome found (AreInRange operands.now)) }
 {
-    if is_seen_to_differ(alloc, graph, operands)? {
-        least_within(alloc, graph, operands, most_ones)
-    } else {
-        Ok(None)
+    match some_seen(alloc, graph, operands)? {
+        Some(_) => least_within(alloc, graph, operands, most_ones),
+        None => Ok(None),
     }
 }
 
-// Whether on one of these values of the inputs the graph's value isn't what is claimed.
-fn is_seen_to_differ(alloc: Global, graph: &Graph, operands: &Operands) -> Result<bool, Memory>
+/// Operands and an addend on which the graph's value isn't what is claimed, if some of a few hundred fixed ones are such.
+pub fn some_seen(
+    alloc: Global,
+    graph: &Graph,
+    operands: &Operands,
+) -> Result<Option<Numbers>, Memory>
     requires shape { HasShapeFor operands.now.claim.add graph.now }
     requires operands { AreOperandsOf graph.now operands.now }
+    ensures range { IfOk result (λ found. IfSome found (AreInRange operands.now)) }
 {
     let count = graph.inputs() as usize;
     let mut bits = vec![in alloc; false; count]?;
     let mut lanes = vec![in alloc; 0; count]?;
     let mut words = vec![in alloc; 0; graph.max() as usize + 1]?;
-    differs_on_draws(alloc, graph, operands, &mut bits, &mut lanes, &mut words)
+    seen_on_draws(alloc, graph, operands, &mut bits, &mut lanes, &mut words)
 }
 
 // The same, with room for the inputs' bits, for the inputs' words and for the variables'.
-fn differs_on_draws(
+fn seen_on_draws(
     alloc: Global,
     graph: &Graph,
     operands: &Operands,
     bits: &mut [bool],
     lanes: &mut [u64],
     words: &mut [u64],
-) -> Result<bool, Memory>
+) -> Result<Option<Numbers>, Memory>
     requires shape { HasShapeFor operands.now.claim.add graph.now }
     requires operands { AreOperandsOf graph.now operands.now }
     requires bits { length bits.old ≡ length (operand_literals operands.now) }
     requires lanes { length lanes.old ≡ length graph.now.inputs }
     requires as_many { length bits.old ≡ length lanes.old }
     requires words { length words.old ≡ graph.now.max + 1 }
+    ensures range { IfOk result (λ found. IfSome found (AreInRange operands.now)) }
 {
     let mut draws = Draws::new();
     for round in 0..ROUNDS {
         draw_into(&mut draws, round, lanes);
         let numbers = numbers_in(alloc, operands, bits, lanes)?;
-        if first_wrong(graph, operands, &numbers, lanes, words).is_some() {
-            return Ok(true);
+        if let Some(j) = first_wrong(graph, operands, &numbers, lanes, words) {
+            return Ok(Some(numbers[j]));
         }
     }
-    Ok(false)
+    Ok(None)
 }
 
 // Words of any values, of few ones and of few zeros, by turns.
@@ -99,6 +104,7 @@ fn numbers_in(
     requires as_many { length bits.old ≡ length lanes.now }
     ensures size { length bits.new ≡ length bits.old }
     ensures at_most { IfOk result (λ numbers. length numbers.items ≤ 64) }
+    ensures range { IfOk result (λ numbers. All (AreInRange operands.now) numbers.items) }
 {
     let mut numbers = Vec::new(alloc);
     for lane in 0..LANES {

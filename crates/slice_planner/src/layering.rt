@@ -10,6 +10,7 @@ use crate::due::due_groups;
 use crate::grouping::grouped;
 use crate::layers::in_layers;
 use crate::slicing::take_due;
+use crate::sums_last::sums_last;
 use crate::taking::Taking;
 use frontier_core::Step;
 use graph_core::Memory;
@@ -38,6 +39,18 @@ pub(crate) fn columns_first_steps<'a>(
     ensures { IfOk result (λ steps. IsColumnPlan extended.now steps.items) }
 {
     let arrangement = gates_in_layers(alloc, extended)?;
+    steps_by(alloc, extended, &arrangement, &[], &arrangement)
+}
+
+/// The columns from the last down to 0, and then the gates alone: of those that nothing reads any more, tops of
+/// exclusive ors only where there is no other one.
+pub(crate) fn sums_last_steps<'a>(
+    alloc: Global,
+    extended: &'a Extended<'a>,
+) -> Result<Vec<Step>, Memory>
+    ensures { IfOk result (λ steps. IsColumnPlan extended.now steps.items) }
+{
+    let arrangement = sums_last(alloc, extended)?;
     steps_by(alloc, extended, &arrangement, &[], &arrangement)
 }
 

@@ -1,6 +1,6 @@
 //! Plans whose columns are added from the last down: the slice plan, and plans by layers.
 //!
-//! `column_steps` gives the steps of a plan in one of three orders, over any extended graph. By `Slices` the gates go
+//! `column_steps` gives the steps of a plan in one of four orders, over any extended graph. By `Slices` the gates go
 //! after each column that can go then. They are taken in groups, each whole or not at all: the half and full adders of
 //! a list that is adders over products of inputs, and else single gates by their levels. Behind which column a group is
 //! tried is a guess: it goes only where nothing else reads its gates any more, and what no guess reached goes at the
@@ -10,7 +10,8 @@
 //! `ByColumn` looks at no list: full adders are found by their shapes, and they and the other gates are taken by their
 //! layers, those nearest to the outputs first. So trees of other blocks, such as compressors of multiplexers, are taken
 //! stage by stage. `AtEnd` has all columns before the gates, alone and by their layers: its frontiers are greater, and
-//! stay small where a circuit was made smaller across its adders.
+//! stay small where a circuit was made smaller across its adders. `SumsLast` has all columns first as well, and takes
+//! tops of exclusive ors only where no other gate can go: carries meet before sums are taken apart.
 //!
 //! *Plan*, *step*, *frontier*: those of `frontier_core`. *Group*: a short list of gates; a plan *goes by groups* where
 //! one group after the other is eliminated, so at any time at most one is split; the *groups of a list* are cut off
@@ -36,6 +37,7 @@ mod listed;
 mod order;
 mod shapes;
 mod slicing;
+mod sums_last;
 mod taking;
 
 pub use laws::{

@@ -4,7 +4,7 @@ ghost use Rattle.slice_planner.specs.ColumnPlans.{IsColumnPlan};
 ghost use Rattle.slice_planner.specs.Slices.{IsSlicePlan};
 ghost use Rattle.slice_planner.specs.declared.order.Order.TheVariants as order_is;
 
-use crate::layering::{columns_first_steps, layered_steps};
+use crate::layering::{columns_first_steps, layered_steps, sums_last_steps};
 use crate::slicing::slice_steps;
 use frontier_core::Step;
 use graph_core::Memory;
@@ -20,6 +20,8 @@ pub enum Order {
     ByColumn,
     /// after all columns, by their layers
     AtEnd,
+    /// after all columns, tops of exclusive ors behind all others
+    SumsLast,
 }
 
 /// The steps of the plan of an order: the columns from the last down to 0, and the gates after those that read them.
@@ -35,5 +37,6 @@ pub fn column_steps<'a>(
         Order::Slices => slice_steps(alloc, extended),
         Order::ByColumn => layered_steps(alloc, extended),
         Order::AtEnd => columns_first_steps(alloc, extended),
+        Order::SumsLast => sums_last_steps(alloc, extended),
     }
 }

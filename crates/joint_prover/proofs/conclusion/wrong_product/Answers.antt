@@ -26,8 +26,8 @@ returns c =
     let least = least_there job c.requires.job x c.requires.least in
     record {
       alone = c.requires.alone;
-      least = least_operands g s refl once x least c.requires.alone shape;
+      least = least_operands g s refl once x least.range c.requires.alone shape least.least;
       value_is = c.in_ok-value.ensures;
-      product_is = product_is g s refl once x least c.requires.alone shape c.claimed_value-product.result
+      product_is = product_is g s refl once x least.range c.requires.alone shape c.claimed_value-product.result
           (claimed_there job c.requires.job x c.outputs.result c.claimed_value-product.result c.outputs.ensures.value c.claimed_value-product.ensures);
     }

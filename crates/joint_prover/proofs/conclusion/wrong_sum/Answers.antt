@@ -26,8 +26,8 @@ returns c =
     let least = least_there job c.requires.job x c.requires.least in
     record {
       added = c.requires.added;
-      least = least_sum g s refl once x least c.requires.added shape;
+      least = least_sum g s refl once x least.range c.requires.added shape least.least;
       value_is = c.in_ok-value.ensures;
-      sum_is = sum_is g s refl once x least c.requires.added shape c.claimed_value-sum.result
+      sum_is = sum_is g s refl once x least.range c.requires.added shape c.claimed_value-sum.result
           (claimed_there job c.requires.job x c.outputs.result c.claimed_value-sum.result c.outputs.ensures.value c.claimed_value-sum.ensures);
     }

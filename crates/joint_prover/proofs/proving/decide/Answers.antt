@@ -38,6 +38,7 @@ decide_by_plans-requires c =
       alone = alone;
       lone = c.alone-alone.ensures.named;
       used = c.used.ensures.shown graph conflicts well c.in_ok-operands.operands c.in_ok-rewritten.ensures.rewriting c.in_ok-rewritten.ensures.agrees alone;
+      differing = c.numbers_of.ensures graph c.in_ok-operands.operands conflicts c.in_ok-rewritten.ensures.rewriting;
     }
 
 pub returns-clause-decision : goal.returns-clause-decision

@@ -56,8 +56,8 @@ returns-in-Rest c =
     (λ d. plain_decides g job.task (cut_named job.used) (cut_named job.alone) c.args.tried.items d lone c.requires.tried
     (within_alone g job.task.claim l start.start (start.extended ∙ ap (extended_by g) lone) start.sides job.task.budget after c.in-Rest.poly c.in-Rest.id reduced)) c.end_plan.ensures
 
-pub returns-in-Passed : goal.returns-in-Passed
-returns-in-Passed c =
+pub returns-in_ok-seen-in-Passed : goal.returns-in_ok-seen-in-Passed
+returns-in_ok-seen-in-Passed c =
     let job = c.args.job.now in
     let l = c.in_ok-lines.lines in
     let after = c.reduce.new.lines in
@@ -71,4 +71,5 @@ returns-in-Passed c =
       first_alone g job.task.claim l start.start (start.extended ∙ ap (extended_by g) c.requires.job.lone) start.sides job.task.budget c.in-Passed.step c.in-Passed.size after reduced,
       c.requires.tried,
       subst (HaveManyOnes g) c.requires.job.claim c.requires.many,
+      c.in_ok-seen-in-Passed.ensures,
     )

@@ -1,0 +1,5 @@
+pub mod LineRests
+pub mod OpenDrafts
+pub mod Writings
+pub mod Leaving
+pub mod Starts
