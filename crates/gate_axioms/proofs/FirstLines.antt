@@ -1,27 +1,22 @@
--- The axioms as entries: lines that are put one by one, unless their id has one.
+-- Live lines that are put one by one, unless their id has one; and ids that no line has.
 use Rattle.std.specs.Prelude.{IsSome, is_some, cond, ◌==◌, map}
-use Rattle.std.proofs.Common.{◌≡◌, ℕ, ◌+◌, ◌<◌, ◌≤◌, Bool, true, false, List, [], ◌∷◌, ◌++◌, length, take, get_or, refl, sym, ap, subst, ◌∙◌, arith}
+use Rattle.std.proofs.Common.{◌≡◌, ℕ, ◌<◌, ◌≤◌, Bool, true, false, List, [], ◌∷◌, ◌++◌, refl, sym, ap, subst, ◌∙◌, arith}
 use Rattle.std.specs.declared.option.Option.{Option}
 use Rattle.std.specs.declared.option.Option.TheVariants.{None, Some}
 use Rattle.std.specs.Option.{option_or}
 use Rattle.std.specs.List.{AllByRecursion}
 use Rattle.std.proofs.lemmas.Bool.{eqb-true, eq-eqb, true≢false, false_from_ne_true}
-use Rattle.std.proofs.lemmas.List.{take_more, map-append}
 use Rattle.std.proofs.lemmas.List.Folds.{find-append}
 use Rattle.graph_core.specs.declared.Gate.{Gate}
-use Rattle.std.proofs.lemmas.Nat.{pow_pos}
 use Rattle.graph_core.specs.Graph.Assignments.{Assignment}
-use Rattle.graph_core.specs.Graph.{IsEvaluation}
-use Rattle.algebra_core.proofs.CallerLemmas.{gate_axiom-zero, same_of, same_refl, same_trans}
+use Rattle.algebra_core.proofs.CallerLemmas.{same_of, same_refl, same_trans}
 use Rattle.algebra_core.specs.AlgebraLines.{LiveLine, line_of, gate_axiom}
 use Rattle.mv_fact.specs.Facts.{Facts, fact_at, ChangesAt}
-use Rattle.mv_fact.specs.Always.{Always}
-use Rattle.poly_terms.specs.Tables.{Table, Sum, IsOf, Extends, modulus_in, value_in}
-use Rattle.poly_terms.specs.Laws.{extends_itself, extends_on, modulus_stays}
-use Rattle.gate_axioms.specs.Axioms.{IsGateAxiom}
+use Rattle.poly_terms.specs.Tables.{Table, Sum, Extends, value_in}
+use Rattle.poly_terms.specs.Laws.{extends_itself, extends_on}
 use Rattle.algebra_core.specs.Agreement.{AreSame, AreSameLines}
 use Rattle.gate_axioms.specs.Lines.{live_lines_in}
-use Rattle.gate_axioms.specs.Steps.{Vanishes, KeepsLines, AddsLine, ComputesGate}
+use Rattle.gate_axioms.specs.Steps.{KeepsLines, AddsLine}
 use Rattle.gate_axioms.proofs.Entries.{line_at, line_of-entries}
 
 or_same : (x y z : Option LiveLine) → AreSame x y → AreSame (option_or x z) (option_or y z)
@@ -97,12 +92,6 @@ lines_more a b xs line before adds id =
     (same_trans (line_of (live_lines_in b.table b.entries) id) (option_or (line_of (live_lines_in a.table a.entries) id) (line_of (line ∷ []) id)) (option_or (line_of xs id) (line_of (line ∷ []) id)) (adds.lines id)
     (or_same (line_of (live_lines_in a.table a.entries) id) (line_of xs id) (line_of (line ∷ []) id) (before id)))
 
-pub gates_more : (m : ℕ) (gates : List Gate) (i : ℕ) (d : Gate) (a b : Facts Sum Table) → i < length gates → AreSameLines (live_lines_in a.table a.entries) (map (gate_axiom m) (take i gates)) → AddsLine (gate_axiom m (get_or gates i d)) a b →
-    AreSameLines (live_lines_in b.table b.entries) (map (gate_axiom m) (take (i + 1) gates))
-gates_more m gates i d a b low before adds =
-    subst (AreSameLines (live_lines_in b.table b.entries)) (sym (ap (map (gate_axiom m)) (take_more gates i d low) ∙ map-append (gate_axiom m) (take i gates) (get_or gates i d ∷ [])))
-    (lines_more a b (map (gate_axiom m) (take i gates)) (gate_axiom m (get_or gates i d)) before adds)
-
 -- ---- ids that none of them has
 
 pub none_above : (xs : List LiveLine) (last id : ℕ) → AllByRecursion (λ l. l.id ≤ last) xs → last < id → line_of xs id ≡ None
@@ -118,24 +107,6 @@ no_entry t es id h = go (fact_at es id) (subst (λ x. AreSame x None) (line_of-e
     go None h = refl
     go (Some p) h = absurd h
 
-pub fresh_above : (facts : Facts Sum Table) (xs : List LiveLine) (last id : ℕ) → AreSameLines (live_lines_in facts.table facts.entries) xs → AllByRecursion (λ l. l.id ≤ last) xs → last < id → fact_at facts.entries id ≡ None
-fresh_above facts xs last id are within above =
-    no_entry facts.table facts.entries id (subst (AreSame (line_of (live_lines_in facts.table facts.entries) id)) (none_above xs last id within above) (are id))
-
 pub gates_within : (m last : ℕ) (gates : List Gate) → AllByRecursion (λ g. g.v ≤ last) gates → AllByRecursion (λ l. l.id ≤ last) (map (gate_axiom m) gates)
 gates_within m last [] h = tt
 gates_within m last (g ∷ gates) h = (h.0, gates_within m last gates h.1)
-
--- ---- the axiom of a gate
-
-pub gate_vanishes : (old mid : Facts Sum Table) (g : Gate) (p : Sum) → IsOf mid.table p → IsGateAxiom mid.table p g → mid.gates ≡ old.gates → Always old.gates (ComputesGate g) → Vanishes mid.gates mid.table p
-gate_vanishes old mid g p of is e computes = record {
-  of_table = of;
-  always = λ σ ev. is σ ∙ gate_axiom-zero (modulus_in mid.table) σ g (pow_pos mid.table.exponent) (computes σ (subst (λ gates. IsEvaluation gates σ) e ev));
-}
-
-pub gate_added : (old mid new : Facts Sum Table) (g : Gate) (id : ℕ) (p : Sum) → id ≡ g.v → KeepsLines old mid → IsGateAxiom mid.table p g → (IsSome (fact_at mid.entries id) → ⊥) → ChangesAt id (Some p) mid new →
-    AddsLine (gate_axiom (modulus_in old.table) g) old new
-gate_added old mid new g id p e k is none change =
-    adds_new (gate_axiom (modulus_in old.table) g) old mid new p k (subst (λ n. fact_at mid.entries n ≡ None) e (not_there (fact_at mid.entries id) none)) (subst (λ n. ChangesAt n (Some p) mid new) e change)
-    (λ σ. is σ ∙ ap (λ m. (gate_axiom m g).value σ) (modulus_stays old.table mid.table k.table))

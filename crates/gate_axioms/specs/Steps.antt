@@ -1,8 +1,7 @@
 -- How live lines change step by step. These words serve private clauses.
-use Rattle.std.specs.Prelude.{◌≡◌, ◌&&◌, ℕ, List, [], ◌∷◌}
+use Rattle.std.specs.Prelude.{◌≡◌, ℕ, List, [], ◌∷◌}
 use Rattle.std.specs.Option.{option_or}
 use Rattle.graph_core.specs.declared.Gate.{Gate}
-use Rattle.graph_core.specs.Graph.Assignments.{Assignment, variable, literal}
 use Rattle.algebra_core.specs.AlgebraLines.{LiveLine, line_of}
 use Rattle.algebra_core.specs.Agreement.{AreSame, AreSameLines}
 use Rattle.mv_fact.specs.Facts.{Facts, IsKept}
@@ -19,10 +18,6 @@ pub record KeepsLines (old new : Facts Sum Table) : Type 0 where
   pub table : Extends old.table new.table
   pub entries : new.entries ≡ old.entries
   pub lines : AreSameLines (live_lines_in new.table new.entries) (live_lines_in old.table old.entries)
-
--- what a gate says of an assignment
-abbrev pub ComputesGate : Gate → Assignment → Type 0
-ComputesGate g σ = variable σ g.v ≡ (literal σ g.left && literal σ g.right)
 
 -- One more line is live, unless its id was; the table has grown.
 pub record AddsLine (line : LiveLine) (old new : Facts Sum Table) : Type 0 where

@@ -8,12 +8,12 @@ use Rattle.std.proofs.lemmas.Option.{get_or_from_slice_get}
 use Rattle.clause_core.specs.Clause.{Clause}
 use Rattle.graph_core.specs.declared.Gate.{Gate}
 use Rattle.graph_core.specs.Graph.{IsEvaluation}
-use Rattle.graph_core.specs.Graph.Extended.{Extended}
 use Rattle.graph_core.specs.Graph.Operands.{Sides}
 use Rattle.algebra_core.specs.AlgebraLines.{line_of}
 use Rattle.algebra_core.specs.Agreement.{AreSame, AreSameLines}
 use Rattle.mv_fact.specs.Facts.{Facts, fact_at, ChangesAt}
 use Rattle.poly_terms.specs.Tables.{Table, Sum, Extends, value_in}
+use Rattle.gate_axioms.specs.LeftAxioms.{LeftAxioms}
 use Rattle.gate_axioms.specs.Lines.{lines_of, live_line_in, live_lines_in}
 use Rattle.gate_axioms.specs.Steps.{AddsLine, KeepsLines, Vanishes}
 use Rattle.gate_axioms.proofs.CallerLemmas.{line_at, line_of-entries}
@@ -64,11 +64,18 @@ carried_all old new i high gates exponent lines = record {
 
 -- ---- the checker over them
 
-pub sound_carried : (added : List Clause) (e : Extended) (s : Sides) (old new : Facts Sum Table) (last : ℕ) → Carries old new → IsCheckerSound added e s old last → IsCheckerSound added e s new last
-sound_carried added e s old new last k h = record {
+-- an id without an entry has none afterwards
+none_carried : (old new : Facts Sum Table) (id : ℕ) → Carries old new → fact_at old.entries id ≡ None → fact_at new.entries id ≡ None
+none_carried old new id k none =
+    no_entry new.table new.entries id (subst (AreSame (line_of (lines_of new) id)) (line_of-entries old.table old.entries id ∙ ap (line_at old.table id) none) (k.lines id))
+
+pub sound_carried : (added : List Clause) (a : LeftAxioms) (s : Sides) (old new : Facts Sum Table) (last : ℕ) → Carries old new → IsCheckerSound added a s old last → IsCheckerSound added a s new last
+sound_carried added a s old new last k h = record {
   importable = h.importable;
   same_gates = k.gates ∙ h.same_gates;
   same_modulus = ap (λ w. 2 ^ w) k.exponent ∙ h.same_modulus;
-  fresh = λ id above. no_entry new.table new.entries id
-      (subst (AreSame (line_of (lines_of new) id)) (line_of-entries old.table old.entries id ∙ ap (line_at old.table id) (h.fresh id above)) (k.lines id));
+  fresh = λ id above. none_carried old new id k (h.fresh id above);
+  no_axiom = h.no_axiom;
+  apart = λ id live. none_carried old new id k (h.apart id live);
+  columns = h.columns;
 }

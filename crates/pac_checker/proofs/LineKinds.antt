@@ -1,8 +1,11 @@
 -- Each kind of line that introduces an id states the sum of some lines, each times a factor.
-use Rattle.std.proofs.Common.{◌≡◌, ℕ, ◌+◌, ◌*◌, ◌%◌, List, [], ◌∷◌, ◌++◌, refl, sym, ap, ap₂, ◌∙◌, arith}
+use Rattle.std.proofs.Common.{◌≡◌, ℕ, ◌+◌, ◌*◌, ◌%◌, List, [], ◌∷◌, ◌++◌, refl, sym, ap, ap₂, subst, ◌∙◌, arith}
 use Rattle.std.proofs.Math.Nat.{add-mul}
 use Rattle.std.proofs.lemmas.Nat.{mul-mod_second}
-use Rattle.algebra_core.specs.AlgebraLines.{Line, introduce, value_of}
+use Rattle.graph_core.specs.Graph.Extended.{Extended}
+use Rattle.algebra_core.specs.Agreement.{LedgersAgree}
+use Rattle.algebra_core.specs.AlgebraLines.{Line, IsLawfulLine, introduce, value_of}
+use Rattle.algebra_core.specs.InRange.{IsRefusedInRange}
 use Rattle.graph_core.specs.Graph.Extended as graphs
 use Rattle.algebra_core.specs.AlgebraLines as algebra
 use Rattle.algebra_core.specs.Refusal as cause
@@ -66,22 +69,23 @@ takes_grown old mid new x g t = record {
   records = t.records ∙ g.records;
   recorded = t.recorded ∙ ap₂ (λ lines records. lines ++ recorded_of records x) g.recorded g.records;
   table = extends_on old.table mid.table new.table g.table t.table;
-  lawful = lawful_agrees (graphs.modulus old.extended) (ledger_of mid) (ledger_of old) g.ledger x (rw g.extended at t.lawful);
-  ledger = agree_trans (ledger_of new) (algebra.after (graphs.modulus old.extended) (ledger_of mid) x) (algebra.after (graphs.modulus old.extended) (ledger_of old) x) (rw g.extended at t.ledger)
+  lawful = lawful_agrees (graphs.modulus old.extended) (ledger_of mid) (ledger_of old) g.ledger x (subst (λ (e : Extended). IsLawfulLine (graphs.modulus e) (ledger_of mid) x) g.extended t.lawful);
+  ledger = agree_trans (ledger_of new) (algebra.after (graphs.modulus old.extended) (ledger_of mid) x) (algebra.after (graphs.modulus old.extended) (ledger_of old) x) (subst (λ (e : Extended). LedgersAgree (ledger_of new) (algebra.after (graphs.modulus e) (ledger_of mid) x)) g.extended t.ledger)
       (after_agrees (graphs.modulus old.extended) (ledger_of mid) (ledger_of old) g.ledger x);
 }
 
 pub refused_grown : (old mid : AlgebraChecking) (x : Line) (fault : LineFault) → GrowsCheckedTable old mid → IsRefused mid x fault → IsRefused old x fault
-refused_grown old mid x Id g r = refused_in_range_agrees old.extended (ledger_of mid) (ledger_of old) g.ledger x cause.Id (rw g.extended at r)
-refused_grown old mid x (NoSuchLine id) g r = refused_in_range_agrees old.extended (ledger_of mid) (ledger_of old) g.ledger x (cause.NoSuchLine id) (rw g.extended at r)
-refused_grown old mid x (NoSuchClause number) g r = refused_in_range_agrees old.extended (ledger_of mid) (ledger_of old) g.ledger x (cause.NoSuchClause number) (rw g.extended at r)
-refused_grown old mid x NotEqual g r = refused_in_range_agrees old.extended (ledger_of mid) (ledger_of old) g.ledger x cause.NotEqual (rw g.extended at r)
+refused_grown old mid x Id g r = refused_in_range_agrees old.extended (ledger_of mid) (ledger_of old) g.ledger x cause.Id (subst (λ (e : Extended). IsRefusedInRange e (ledger_of mid) x cause.Id) g.extended r)
+refused_grown old mid x (NoSuchLine id) g r = refused_in_range_agrees old.extended (ledger_of mid) (ledger_of old) g.ledger x (cause.NoSuchLine id) (subst (λ (e : Extended). IsRefusedInRange e (ledger_of mid) x (cause.NoSuchLine id)) g.extended r)
+refused_grown old mid x (NoSuchClause number) g r = refused_in_range_agrees old.extended (ledger_of mid) (ledger_of old) g.ledger x (cause.NoSuchClause number) (subst (λ (e : Extended). IsRefusedInRange e (ledger_of mid) x (cause.NoSuchClause number)) g.extended r)
+refused_grown old mid x NotEqual g r = refused_in_range_agrees old.extended (ledger_of mid) (ledger_of old) g.ledger x cause.NotEqual (subst (λ (e : Extended). IsRefusedInRange e (ledger_of mid) x cause.NotEqual) g.extended r)
 refused_grown old mid x Memory g r = tt
 
 pub grows_grown : (a b c : AlgebraChecking) → GrowsCheckedTable a b → GrowsCheckedTable b c → GrowsCheckedTable a c
 grows_grown a b c g h = record {
   added = h.added ∙ g.added;
   extended = h.extended ∙ g.extended;
+  deleted = h.deleted ∙ g.deleted;
   sides = h.sides ∙ g.sides;
   table = extends_on a.table b.table c.table g.table h.table;
   entries = h.entries ∙ g.entries;

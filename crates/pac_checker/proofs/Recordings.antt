@@ -5,7 +5,9 @@ use Rattle.std.specs.declared.option.Option.TheVariants.{None, Some}
 use Rattle.std.proofs.Common.{refl, sym, ap, ap₂, subst, ◌∙◌, Result, Ok, Err, OnErr, OnOk, ⊎_elim, true≢false}
 use Rattle.std.proofs.lemmas.Bool.{cases_lt}
 use Rattle.clause_core.specs.Clause.{Clause}
-use Rattle.algebra_core.specs.AlgebraLines.{Line, AreLawful}
+use Rattle.algebra_core.specs.AlgebraLines.{Line, AreLawful, axioms, line_of}
+use Rattle.gate_axioms.specs.LeftAxioms.{LeftAxioms, left_lines}
+use Rattle.gate_axioms.proofs.CallerLemmas.{none_left}
 use Rattle.graph_core.specs.Graph.Extended.{modulus, Extended}
 use Rattle.graph_core.specs.Graph.Operands.{Sides}
 use Rattle.mv_fact.specs.Facts.{Facts, fact_at}
@@ -29,9 +31,11 @@ Keeps c records xs = HasRecorded c.extended c.added c.table (ledger_of c) record
 abbrev pub seen : AlgebraChecking → Bool → List PacLine → AlgebraChecking
 seen c records xs = recording c records (lines_in c.table xs)
 
--- no live id is above the last one, where none above it has an entry
-pub within_fresh : (added : List Clause) (e : Extended) (sides : Sides) (facts : Facts table.Sum Table) (last : ℕ) → ((id : ℕ) → last < id → fact_at facts.entries id ≡ None) → AreIdsWithin (ledger_of (checking_of added e sides facts last))
-within_fresh added e sides facts last fresh id live = ⊎_elim (λ above. absurd (true≢false (sym live ∙ gone facts.table facts.entries id (fresh id above)))) (λ low. low) (cases_lt last id)
+-- no live id is above the last one, where none above it has an axiom or an entry
+pub within_fresh : (added : List Clause) (left : LeftAxioms) (sides : Sides) (facts : Facts table.Sum Table) (last : ℕ) → ((id : ℕ) → last < id → line_of (axioms left.extended).live id ≡ None) →
+    ((id : ℕ) → last < id → fact_at facts.entries id ≡ None) → AreIdsWithin (ledger_of (checking_of added left sides facts last))
+within_fresh added left sides facts last none fresh id live =
+    ⊎_elim (λ above. absurd (true≢false (sym live ∙ gone (left_lines left) facts.table facts.entries id (none_left left.extended left.deleted id (none id above)) (fresh id above)))) (λ low. low) (cases_lt last id)
 
 -- ---- the same graph and clauses
 
@@ -49,6 +53,7 @@ pub seen_grows : (old new : AlgebraChecking) (records : Bool) (xs : List PacLine
 seen_grows old new records xs g h = record {
   added = g.added;
   extended = g.extended;
+  deleted = g.deleted;
   sides = g.sides;
   table = g.table;
   entries = g.entries;

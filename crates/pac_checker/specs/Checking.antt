@@ -1,5 +1,5 @@
--- What contracts see of a checker of algebra lines: live polynomials of a table that grows, as the ledger of the definitions, and the
--- lines that it recorded.
+-- What contracts see of a checker of algebra lines: axioms that are left and live polynomials of a table that grows, as the ledger of the
+-- definitions, and the lines that it recorded.
 use Rattle.std.specs.Prelude.{◌≡◌, ℕ, Bool, true, false, List, [], ◌∷◌, ◌++◌, IfSome, map}
 use Rattle.clause_core.specs.Clause.{Clause}
 use Rattle.graph_core.specs.Graph.Operands.{Sides}
@@ -15,13 +15,15 @@ use Rattle.poly_text.specs.Lines.{line_in}
 use Rattle.poly_text.specs.WrittenLines.{IsWritable}
 use Rattle.algebra_core.specs.Agreement.{LedgersAgree}
 use Rattle.gate_axioms.specs.ClauseValues.{clause_value}
+use Rattle.gate_axioms.specs.LeftAxioms.{LeftAxioms, axioms_but}
 use Rattle.gate_axioms.specs.Lines.{live_lines_in}
 
--- The clauses that lines may import, the extended graph, its operands, the table of polynomials, the live ones by id, the last id in use,
--- whether lines are recorded, and the recorded ones.
+-- The clauses that lines may import, the extended graph, the ids of its axioms that were deleted, its operands, the table of polynomials,
+-- the live ones that lines introduced by id, the last id in use, whether lines are recorded, and the recorded ones.
 pub record AlgebraChecking : Type 0 where
   pub added : List Clause
   pub extended : Extended
+  pub deleted : List ℕ
   pub sides : Sides
   pub table : Table
   pub entries : List (ℕ × tables.Sum)
@@ -29,11 +31,12 @@ pub record AlgebraChecking : Type 0 where
   pub records : Bool
   pub recorded : List Line
 
--- the checker of an extended graph and its operands with these clauses and these live polynomials, which records nothing
-abbrev pub checking_of : List Clause → Extended → Sides → Facts tables.Sum Table → ℕ → AlgebraChecking
-checking_of added e sides facts last = record {
+-- the checker of an extended graph and its operands with these clauses, axioms and live polynomials, which records nothing
+abbrev pub checking_of : List Clause → LeftAxioms → Sides → Facts tables.Sum Table → ℕ → AlgebraChecking
+checking_of added left sides facts last = record {
   added = added;
-  extended = e;
+  extended = left.extended;
+  deleted = left.deleted;
   sides = sides;
   table = facts.table;
   entries = facts.entries;
@@ -47,6 +50,7 @@ abbrev pub recording : AlgebraChecking → Bool → List Line → AlgebraCheckin
 recording c records lines = record {
   added = c.added;
   extended = c.extended;
+  deleted = c.deleted;
   sides = c.sides;
   table = c.table;
   entries = c.entries;
@@ -57,7 +61,11 @@ recording c records lines = record {
 
 -- the ledger that the checker stands for: its lines may import the values of its clauses
 abbrev pub ledger_of : AlgebraChecking → Ledger
-ledger_of c = record { live = live_lines_in c.table c.entries; last = c.last; imports = map clause_value c.added }
+ledger_of c = record {
+  live = axioms_but c.extended c.deleted ++ live_lines_in c.table c.entries;
+  last = c.last;
+  imports = map clause_value c.added;
+}
 
 -- what it stands on in a certificate of a version
 abbrev pub checker_premises : ℕ → AlgebraChecking → Premises
@@ -87,6 +95,7 @@ pub record TakesAlgebraLine (line : Line) (old new : AlgebraChecking) : Type 0 w
 pub record GrowsCheckedTable (old new : AlgebraChecking) : Type 0 where
   pub added : new.added ≡ old.added
   pub extended : new.extended ≡ old.extended
+  pub deleted : new.deleted ≡ old.deleted
   pub sides : new.sides ≡ old.sides
   pub table : Extends old.table new.table
   pub entries : new.entries ≡ old.entries

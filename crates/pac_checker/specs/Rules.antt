@@ -1,5 +1,5 @@
 -- What the steps of a line find. These words serve private clauses.
-use Rattle.std.specs.Prelude.{◌≡◌, ◌≢◌, ◌<◌, ◌≤◌, ℕ, zero, suc, ◌*◌, ◌%◌, List, map, slice_get}
+use Rattle.std.specs.Prelude.{◌≡◌, ◌≢◌, ◌<◌, ◌≤◌, ◌++◌, ℕ, zero, suc, ◌*◌, ◌%◌, List, map, slice_get}
 use denote.Ref.{Bor}
 use Rattle.std.specs.declared.option.Option.{Option}
 use Rattle.std.specs.declared.option.Option.TheVariants.{None, Some}
@@ -7,17 +7,20 @@ use Rattle.std.specs.List.{All}
 use Rattle.clause_core.specs.Clause.{Clause}
 use Rattle.clause_core.specs.Facts.{IsClauseFact}
 use Rattle.graph_core.specs.Graph.Assignments.{Assignment}
-use Rattle.graph_core.specs.Graph.Extended.{Extended}
+use Rattle.graph_core.specs.Graph.Extended.{AgreeOnColumns}
+use Rattle.mv_fact.specs.Always.{Always}
 use Rattle.graph_core.specs.Graph.Operands.{Sides}
 use Rattle.algebra_core.specs.Polynomials.{Polynomial}
-use Rattle.algebra_core.specs.AlgebraLines.{Line, Ledger, Part, IsNewId, IsThere, value_of, introduce, combined, operands, stated, named, after}
+use Rattle.algebra_core.specs.AlgebraLines.{LiveLine, Line, Ledger, Part, IsLive, IsNewId, IsThere, axioms, line_of, value_of, introduce, combined, operands, stated, named, after}
 use Rattle.graph_core.specs.Graph.Extended as graphs
 use Rattle.algebra_core.specs.AlgebraLines as algebra
-use Rattle.algebra_core.specs.Agreement.{AreSameLines, LedgersAgree}
+use Rattle.algebra_core.specs.Agreement.{AreSame, AreSameLines, LedgersAgree}
 use Rattle.algebra_core.specs.Refusal.{first_missing}
 use Rattle.mv_fact.specs.Facts.{Facts, fact_at}
 use Rattle.poly_terms.specs.Tables.{Table, Sum, modulus_in, value_in, monomials_in}
 use Rattle.poly_text.specs.Lines.{part_in, parts_in}
+use Rattle.gate_axioms.specs.declared.left_axioms.Axiom.{Axiom}
+use Rattle.gate_axioms.specs.LeftAxioms.{LeftAxioms, axiom_line, axioms_but, left_lines}
 use Rattle.gate_axioms.specs.Lines.{lines_of}
 use Rattle.gate_axioms.specs.Steps.{Vanishes}
 use Rattle.pac_checker.specs.declared.fault.LineFault.{LineFault}
@@ -33,26 +36,40 @@ lent parts = map (λ part. (part.0, part.1.now)) parts
 abbrev pub ids_of : List Part → List ℕ
 ids_of parts = map (λ part. part.id) parts
 
--- a live line times a polynomial, and the sum of some such products
-abbrev pub product_value : Facts Sum Table → ℕ → Sum → Assignment → ℕ
-product_value facts id factor σ = value_of (lines_of facts) id σ * value_in facts.table factor σ
+-- the live lines: the axioms that are left, and behind them what lines introduced
+abbrev pub lines_with : LeftAxioms → Facts Sum Table → List LiveLine
+lines_with left facts = left_lines left ++ lines_of facts
 
-abbrev pub combined_value : Facts Sum Table → List Part → Assignment → ℕ
-combined_value facts parts σ = combined (modulus_in facts.table) (lines_of facts) parts σ % modulus_in facts.table
+-- a live line times a polynomial, and the sum of some such products
+abbrev pub product_value : LeftAxioms → Facts Sum Table → ℕ → Sum → Assignment → ℕ
+product_value left facts id factor σ = value_of (lines_with left facts) id σ * value_in facts.table factor σ
+
+abbrev pub combined_value : LeftAxioms → Facts Sum Table → List Part → Assignment → ℕ
+combined_value left facts parts σ = combined (modulus_in facts.table) (lines_with left facts) parts σ % modulus_in facts.table
 
 -- The lines of some parts are live, and the polynomial is the sum of these parts, which vanishes on every evaluation.
-pub record IsNamed (old new : Facts Sum Table) (parts : List Part) (p : Sum) : Type 0 where
-  pub live : first_missing (lines_of old) (ids_of parts) ≡ None
+pub record IsNamed (left : LeftAxioms) (old new : Facts Sum Table) (parts : List Part) (p : Sum) : Type 0 where
+  pub live : first_missing (lines_with left old) (ids_of parts) ≡ None
   pub vanishes : Vanishes new.gates new.table p
-  pub same : (σ : Assignment) → value_in new.table p σ ≡ combined_value old parts σ
+  pub same : (σ : Assignment) → value_in new.table p σ ≡ combined_value left old parts σ
 
 -- the first operand that isn't live, or want of memory
-abbrev pub IsNamingFault : Facts Sum Table → List ℕ → LineFault → Type 0
-IsNamingFault facts ids Id = ⊥
-IsNamingFault facts ids (NoSuchLine id) = first_missing (lines_of facts) ids ≡ Some id
-IsNamingFault facts ids (NoSuchClause number) = ⊥
-IsNamingFault facts ids NotEqual = ⊥
-IsNamingFault facts ids Memory = Unit {0}
+abbrev pub IsNamingFault : LeftAxioms → Facts Sum Table → List ℕ → LineFault → Type 0
+IsNamingFault left facts ids Id = ⊥
+IsNamingFault left facts ids (NoSuchLine id) = first_missing (lines_with left facts) ids ≡ Some id
+IsNamingFault left facts ids (NoSuchClause number) = ⊥
+IsNamingFault left facts ids NotEqual = ⊥
+IsNamingFault left facts ids Memory = Unit {0}
+
+-- an axiom with this id is left, this one is, none is
+abbrev pub HasAxiom : AlgebraChecking → ℕ → Type 0
+HasAxiom c id = IsLive (axioms_but c.extended c.deleted) id
+
+abbrev pub IsAxiomOf : AlgebraChecking → ℕ → Axiom → Type 0
+IsAxiomOf c id given = AreSame (line_of (axioms_but c.extended c.deleted) id) (axiom_line (graphs.modulus c.extended) id (Some given))
+
+abbrev pub HasNoAxiom : AlgebraChecking → ℕ → Type 0
+HasNoAxiom c id = line_of (axioms_but c.extended c.deleted) id ≡ None
 
 -- A line that states a polynomial under an id, and whose rule names some lines, each times a factor.
 pub record IsStatingLine (c : AlgebraChecking) (id : ℕ) (parts : List (ℕ × Sum)) (p : Sum) (x : Line) : Type 0 where
@@ -114,6 +131,7 @@ IsStatingFault t named stated Memory = Unit {0}
 pub record Introduces (id : ℕ) (p : Polynomial) (old new : AlgebraChecking) : Type 0 where
   pub added : new.added ≡ old.added
   pub extended : new.extended ≡ old.extended
+  pub deleted : new.deleted ≡ old.deleted
   pub sides : new.sides ≡ old.sides
   pub table : new.table ≡ old.table
   pub records : new.records ≡ old.records
@@ -126,9 +144,13 @@ pub record Carries (old new : Facts Sum Table) : Type 0 where
   pub exponent : new.table.exponent ≡ old.table.exponent
   pub lines : AreSameLines (lines_of new) (lines_of old)
 
--- What the type of a checker keeps besides that each live polynomial vanishes.
-pub record IsCheckerSound (added : List Clause) (e : Extended) (s : Sides) (facts : Facts Sum Table) (last : ℕ) : Type 0 where
-  pub same_gates : facts.gates ≡ e.gates
-  pub same_modulus : modulus_in facts.table ≡ graphs.modulus e
+-- What the type of a checker keeps besides that each live polynomial vanishes: an id above the last one has neither an axiom nor a
+-- polynomial, an axiom's id has no polynomial, and replaced columns agree.
+pub record IsCheckerSound (added : List Clause) (left : LeftAxioms) (s : Sides) (facts : Facts Sum Table) (last : ℕ) : Type 0 where
+  pub same_gates : facts.gates ≡ left.extended.gates
+  pub same_modulus : modulus_in facts.table ≡ graphs.modulus left.extended
   pub fresh : (id : ℕ) → last < id → fact_at facts.entries id ≡ None
-  pub importable : All (IsClauseFact e.gates) added
+  pub no_axiom : (id : ℕ) → last < id → line_of (axioms left.extended).live id ≡ None
+  pub apart : (id : ℕ) → IsLive (axioms left.extended).live id → fact_at facts.entries id ≡ None
+  pub columns : Always left.extended.gates (AgreeOnColumns left.extended)
+  pub importable : All (IsClauseFact left.extended.gates) added

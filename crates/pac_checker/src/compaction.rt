@@ -13,7 +13,7 @@ use poly_terms::{Poly, Terms};
 use std::alloc::Global;
 
 // So many lines and terms are few: a table with at most twice as many monomials isn't made anew.
-const FEW: u64 = 1 << 16;
+const FEW: u64 = 1 << 13;
 
 /// How many monomials a table may have before it is made anew: twice as many as there are live lines and terms now.
 /// These are what making it anew goes over, so that costs no more than reading what was read since.

@@ -11,20 +11,21 @@ ghost use Rattle.poly_terms.specs.Tables.{IsOf, modulus_in, monomials_in};
 ghost use Rattle.poly_text.specs.Lines.{line_in, AreOf};
 ghost use Rattle.clause_core.specs.Facts.{IsClauseFact};
 ghost use Rattle.gate_axioms.specs.Axioms.{HasSpecificationValue};
+ghost use Rattle.gate_axioms.specs.LeftAxioms.{HasAxiomValue};
 ghost use Rattle.algebra_core.specs.Agreement.{LedgersAgree};
 ghost use Rattle.pac_checker.specs.Checking.{ledger_of, TakesAlgebraLine, TakesPacLine, GrowsCheckedTable, KeepsLedger, IsClosedBy, SpecificationVanishes};
 ghost use Rattle.pac_checker.specs.Faults.{IsPacLineFault, IsClosingFault};
 ghost use Rattle.pac_checker.specs.Recording.{AreIdsWithin, first_ledger};
 ghost use Rattle.gate_axioms.specs.Steps.{Vanishes};
-ghost use Rattle.pac_checker.specs.Rules.{AreEqual, AreRefused, Introduces, IsRefused, IsStatingFault, TakesLinesOf, clause_numbered, combination_line, import_line, lent, product_line, sum_line};
+ghost use Rattle.pac_checker.specs.Rules.{AreEqual, AreRefused, HasAxiom, HasNoAxiom, Introduces, IsAxiomOf, IsRefused, IsStatingFault, TakesLinesOf, clause_numbered, combination_line, import_line, lent, product_line, sum_line};
 ghost use Rattle.pac_checker.specs.Works.{IsPolyOfValue};
 
 use crate::compaction::{compacted, most_monomials};
 use crate::rules::combine;
-use crate::works::{MakeClause, MakeOne, MakeSpecification};
+use crate::works::{MakeAxiom, MakeClause, MakeOne, MakeSpecification};
 use crate::{CloseFault, LineFault};
 use clause_core::{Clause, ClauseList};
-use gate_axioms::add_axioms;
+use gate_axioms::{Axiom, LeftAxioms};
 use graph_core::{Memory, Operands};
 use mv_fact::{Grow, Live};
 use poly_terms::{Poly, PolySum, Terms};
@@ -33,13 +34,13 @@ use ripple_graft::Extended;
 use std::alloc::Global;
 use std::marker::Model;
 
-/// The live polynomials of an algebra certificate over an extended graph, and the clauses that its lines may import. It
-/// records nothing.
+/// The axioms of an extended graph that are left, the live polynomials of an algebra certificate over it, and the clauses
+/// that its lines may import. It records nothing.
 #[derive(Drop)]
 pub(crate) struct Judge<'a> {
     alloc: Global,
     added: &'a ClauseList,
-    extended: &'a Extended<'a>,
+    left: LeftAxioms<'a>,
     operands: &'a Operands,
     live: Live<'a, Poly>,
     /// the greatest id in use so far, also of lines that were dropped
@@ -56,9 +57,9 @@ impl<'a> Model for Judge<'a> {
 
     ghost Value = { AlgebraChecking };
 
-    ghost view = { λ c. checking_of c.added.now c.extended.now c.operands.now c.live c.last };
+    ghost view = { λ c. checking_of c.added.now c.left c.operands.now c.live c.last };
 
-    ghost invariant = { λ c. IsCheckerSound c.added.now c.extended.now c.operands.now c.live c.last };
+    ghost invariant = { λ c. IsCheckerSound c.added.now c.left c.operands.now c.live c.last };
 }
 
 impl<'a> Judge<'a> {
@@ -82,15 +83,12 @@ impl<'a> Judge<'a> {
         ensures within { IfOk result (λ c. AreIdsWithin (ledger_of c)) }
     {
         let outputs = extended.graph().outputs();
-        let gates = extended.gates();
-        let terms = Terms::for_gates(alloc, outputs, gates.len())?;
-        let mut live = Live::new(alloc, gates, terms);
-        add_axioms(alloc, &mut live, extended)?;
+        let live = Live::new(alloc, extended.gates(), Terms::new(alloc, outputs));
         let most_monomials = most_monomials(&live);
         Ok(Judge {
             alloc,
             added,
-            extended,
+            left: LeftAxioms::new(alloc, extended),
             operands,
             live,
             last: u64::from(extended.max()) + u64::from(outputs),
@@ -127,7 +125,7 @@ impl<'a> Judge<'a> {
         if self.live.table().count() <= self.most_monomials {
             return Ok(());
         }
-        self.live = compacted(self.alloc, self.extended.gates(), &self.live)?;
+        self.live = compacted(self.alloc, self.left.extended().gates(), &self.live)?;
         self.products = PolySum::new(self.alloc);
         self.most_monomials = most_monomials(&self.live);
         Ok(())
@@ -166,7 +164,10 @@ impl<'a> Judge<'a> {
         ensures unchanged { GrowsCheckedTable self.old self.new }
     {
         let wanted = self.specification()?;
-        self.compare(id, &wanted)
+        match self.left.get(id) {
+            Some(given) => self.compare_axiom(id, &given, &wanted),
+            None => self.compare(id, &wanted),
+        }
     }
 
     fn specification(&mut self) -> Result<Poly, Memory>
@@ -177,14 +178,48 @@ impl<'a> Judge<'a> {
     {
         let mut work = MakeSpecification {
             alloc: self.alloc,
-            graph: self.extended.graph(),
+            graph: self.left.extended().graph(),
             operands: self.operands,
         };
         self.live.grow(&mut work, &mut ())
     }
 
-    // Whether a line has the value that is wanted.
+    // Whether an axiom has the value that is wanted.
+    fn compare_axiom(&mut self, id: u64, given: &Axiom, wanted: &Poly) -> Result<(), CloseFault>
+        requires is_left { IsAxiomOf self.old id given.now }
+        requires wanted { IsOf self.old.table wanted.now }
+        requires value { HasSpecificationValue self.old.table wanted.now self.old.extended
+            self.old.sides }
+        ensures closes { OnOk result (IsClosedBy self.old id) }
+        ensures vanishes { OnOk result (SpecificationVanishes self.old) }
+        ensures refused { IfErr result (IsClosingFault self.old id) }
+        ensures unchanged { GrowsCheckedTable self.old self.new }
+    {
+        let poly = self.axiom_poly(given)?;
+        if !self.live.table().equals(&poly, wanted) {
+            return Err(CloseFault::NotSpec);
+        }
+        Ok(())
+    }
+
+    // The polynomial of an axiom.
+    fn axiom_poly(&mut self, given: &Axiom) -> Result<Poly, Memory>
+        ensures grows { GrowsCheckedTable self.old self.new }
+        ensures of_table { IfOk result (IsOf self.new.table) }
+        ensures value { IfOk result (λ p. HasAxiomValue self.new.table p given.now) }
+        ensures modulus { modulus_in self.new.table ≡ graphs.modulus self.old.extended }
+        ensures columns { Always self.old.extended.gates (AgreeOnColumns self.old.extended) }
+    {
+        let mut work = MakeAxiom {
+            alloc: self.alloc,
+            given,
+        };
+        self.live.grow(&mut work, &mut ())
+    }
+
+    // Whether a line that was introduced has the value that is wanted.
     fn compare(&self, id: u64, wanted: &Poly) -> Result<(), CloseFault>
+        requires no_axiom { HasNoAxiom self.now id }
         requires wanted { IsOf self.now.table wanted.now }
         requires value { HasSpecificationValue self.now.table wanted.now self.now.extended
             self.now.sides }
@@ -272,7 +307,13 @@ impl<'a> Judge<'a> {
         ensures unchanged { OnErr result (GrowsCheckedTable self.old self.new) }
     {
         judge_id(self.last, id)?;
-        let named = combine(&mut self.products, &mut self.live, parts)?;
+        let named = combine(
+            self.alloc,
+            &mut self.products,
+            &self.left,
+            &mut self.live,
+            parts,
+        )?;
         self.state(id, named, stated)
     }
 
@@ -308,6 +349,29 @@ impl<'a> Judge<'a> {
     }
 
     fn delete(&mut self, id: u64) -> Result<(), LineFault>
+        ensures taken { OnOk result (TakesAlgebraLine (Delete id) self.old self.new) }
+        ensures refused { IfErr result (IsRefused self.old (Delete id)) }
+        ensures unchanged { OnErr result (GrowsCheckedTable self.old self.new) }
+    {
+        match self.left.get(id) {
+            Some(_) => self.delete_axiom(id),
+            None => self.delete_line(id),
+        }
+    }
+
+    fn delete_axiom(&mut self, id: u64) -> Result<(), LineFault>
+        requires is_left { HasAxiom self.old id }
+        ensures taken { OnOk result (TakesAlgebraLine (Delete id) self.old self.new) }
+        ensures refused { IfErr result (IsRefused self.old (Delete id)) }
+        ensures unchanged { OnErr result (GrowsCheckedTable self.old self.new) }
+    {
+        self.left.delete(id)?;
+        Ok(())
+    }
+
+    // Deletes a line that was introduced.
+    fn delete_line(&mut self, id: u64) -> Result<(), LineFault>
+        requires no_axiom { HasNoAxiom self.old id }
         ensures taken { OnOk result (TakesAlgebraLine (Delete id) self.old self.new) }
         ensures refused { IfErr result (IsRefused self.old (Delete id)) }
         ensures unchanged { OnErr result (GrowsCheckedTable self.old self.new) }

@@ -2,7 +2,7 @@
 ghost use Rattle.std.specs.Prelude.{IfOk};
 
 use clause_core::Clause;
-use gate_axioms::{clause_poly, spec_poly};
+use gate_axioms::{Axiom, clause_poly, spec_poly};
 use graph_core::{Graph, Memory, Operands};
 use mv_fact::{Grow, GrowFrom};
 use poly_terms::{Poly, PolySum, Terms};
@@ -30,6 +30,59 @@ impl<'a> GrowFrom<Poly> for AddProduct<'a> {
 
     fn grow(&mut self, sum: &mut PolySum, line: &Poly, table: &mut Terms) -> Result<(), Memory> {
         table.add_product(sum, line, self.factor)
+    }
+}
+
+/// Adds an axiom times a factor to a sum.
+#[derive(Drop)]
+pub(crate) struct AddAxiom<'a> {
+    pub(crate) alloc: Global,
+    pub(crate) given: &'a Axiom,
+    pub(crate) factor: &'a Poly,
+}
+
+impl<'a> Grow<Poly> for AddAxiom<'a> {
+    ghost use Rattle.std.specs.Prelude.{◌*◌, OnOk};
+    ghost use Rattle.poly_terms.specs.Tables.{IsOf, modulus_in, value_in};
+    ghost use Rattle.gate_axioms.specs.LeftAxioms.{axiom_value};
+    ghost use Rattle.pac_checker.specs.Works.{IsAddedTo};
+
+    type Out = Result<(), Memory>;
+
+    type On = PolySum;
+
+    ghost can_grow = { λ work sum table. IsOf table sum × IsOf table work.factor.now };
+
+    ghost did = { λ work sum table out _ sum' table'. OnOk out (IsAddedTo table table' sum sum'
+        (λ σ. axiom_value (modulus_in table) work.given.now σ * value_in table work.factor.now σ)) };
+
+    fn grow(&mut self, sum: &mut PolySum, table: &mut Terms) -> Result<(), Memory> {
+        let poly = self.given.poly(self.alloc, table)?;
+        table.add_product(sum, &poly, self.factor)
+    }
+}
+
+/// Makes the polynomial of an axiom.
+#[derive(Drop)]
+pub(crate) struct MakeAxiom<'a> {
+    pub(crate) alloc: Global,
+    pub(crate) given: &'a Axiom,
+}
+
+impl<'a> Grow<Poly> for MakeAxiom<'a> {
+    ghost use Rattle.std.specs.Prelude.{IfOk};
+    ghost use Rattle.gate_axioms.specs.LeftAxioms.{HasAxiomValue};
+    ghost use Rattle.poly_terms.specs.Tables.{IsOf};
+
+    type Out = Result<Poly, Memory>;
+
+    type On = ();
+
+    ghost did = { λ work _ _ out _ _ table'. IfOk out (λ p. IsOf table' p ×
+        HasAxiomValue table' p work.given.now) };
+
+    fn grow(&mut self, _on: &mut (), table: &mut Terms) -> Result<Poly, Memory> {
+        self.given.poly(self.alloc, table)
     }
 }
 

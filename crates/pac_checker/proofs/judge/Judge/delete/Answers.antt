@@ -1,13 +1,15 @@
-use Rattle.pac_checker.proofs.Introducing.{delete_missing, deletes}
-use Rattle.pac_checker.proofs.Lawful.{grows_itself}
+use Rattle.pac_checker.proofs.Entries.{is_some_same, same_none}
+use Rattle.gate_axioms.specs.LeftAxioms.{axiom_value, left_lines}
+use Rattle.algebra_core.specs.AlgebraLines.{line_of}
+use Rattle.graph_core.specs.Graph.Extended as graphs
 use Rattle.pac_checker.proofs.judge.Judge.delete.Goals as goal
 
-pub returns-in-Err-clause-refused : goal.returns-in-Err-clause-refused
-returns-in-Err-clause-refused c = rw (← c.self.view_is) (delete_missing c.self.inside.added.now c.self.inside.extended.now c.self.inside.operands.now c.self.inside.live c.self.inside.last c.args.id c.in-Err.ensures.none)
+pub delete_axiom-requires : goal.delete_axiom-requires
+delete_axiom-requires c =
+    record {
+      is_left = rw (← c.self.view_is)
+          (is_some_same (line_of (left_lines c.self.inside.left) c.args.id) (record { id = c.args.id; value = axiom_value (graphs.modulus c.self.inside.left.extended) c.in-Some.field-0 }) c.in-Some.ensures);
+    }
 
-pub returns-clause-taken : goal.returns-clause-taken
-returns-clause-taken c =
-    rw (← c.self.view_is) (deletes c.self.inside.added.now c.self.inside.extended.now c.self.inside.operands.now c.self.inside.live c.remove.new.self c.self.inside.last c.args.id c.in-Ok.field-0 c.in-Ok.ensures.fact c.in-Ok.ensures.ok)
-
-pub returns-in-Err-clause-unchanged : goal.returns-in-Err-clause-unchanged
-returns-in-Err-clause-unchanged c = rw (← c.self.view_is) (rw c.in-Err.ensures.unchanged (grows_itself _))
+pub delete_line-requires : goal.delete_line-requires
+delete_line-requires c = record { no_axiom = rw (← c.self.view_is) (same_none (line_of (left_lines c.self.inside.left) c.args.id) c.in-None.ensures) }

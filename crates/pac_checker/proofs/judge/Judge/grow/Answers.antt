@@ -6,7 +6,7 @@ use Rattle.pac_checker.proofs.judge.Judge.grow.Goals as goal
 
 pub invariant_of-self : goal.invariant_of-self
 invariant_of-self g c =
-    sound_grown c.self.inside.added.now c.self.inside.extended.now c.self.inside.operands.now c.self.inside.live c.grow.new.self c.self.inside.last (keeps_lines c.self.inside.live c.grow.new.self c.grow.ensures.grows c.grow.ensures.kept) c.self.invariant
+    sound_grown c.self.inside.added.now c.self.inside.left c.self.inside.operands.now c.self.inside.live c.grow.new.self c.self.inside.last (keeps_lines c.self.inside.live c.grow.new.self c.grow.ensures.grows c.grow.ensures.kept) c.self.invariant
 
 pub returns-clause-modulus : goal.returns-clause-modulus
 returns-clause-modulus g c = modulus_stays c.self.inside.live.table c.grow.new.self.table c.grow.ensures.grows.table ∙ c.self.invariant.same_modulus
@@ -14,4 +14,4 @@ returns-clause-modulus g c = modulus_stays c.self.inside.live.table c.grow.new.s
 pub returns-clause-grows : goal.returns-clause-grows
 returns-clause-grows g c =
     rw (← c.self.view_is)
-    (grows c.self.inside.added.now c.self.inside.extended.now c.self.inside.operands.now c.self.inside.live c.grow.new.self c.self.inside.last (keeps_lines c.self.inside.live c.grow.new.self c.grow.ensures.grows c.grow.ensures.kept))
+    (grows c.self.inside.added.now c.self.inside.left c.self.inside.operands.now c.self.inside.live c.grow.new.self c.self.inside.last (keeps_lines c.self.inside.live c.grow.new.self c.grow.ensures.grows c.grow.ensures.kept))

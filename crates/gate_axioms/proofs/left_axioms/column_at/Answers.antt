@@ -1,7 +1,7 @@
 use Rattle.std.proofs.Common.{◌≡◌, sym, ap, ◌∙◌, slice_get, Some}
 use Rattle.std.proofs.lemmas.Bool.{true≢false}
 use Rattle.gate_axioms.proofs.ReplacedColumns.{column_none, column_some}
-use Rattle.gate_axioms.proofs.live_axioms.column_at.Goals as goal
+use Rattle.gate_axioms.proofs.left_axioms.column_at.Goals as goal
 
 pub returns-then-not-replaced : goal.returns-then-not-replaced
 returns-then-not-replaced c = column_none c.args.extended.now c.args.k (λ there. true≢false (sym (c.replaced.ensures.1 there) ∙ c.if-not-replaced.true))
