@@ -22,10 +22,12 @@ use Rattle.cdcl_solver.proofs.Standings.{refuted_now, refuted_before, live_has}
 use Rattle.cdcl_solver.specs.Search.{IsConflictAt}
 use Rattle.cdcl_solver.specs.Analyses.{AnalysisView, IsSeen, IsAnalysis, IsLate, Sees, SeesEarly, SeesLate, SeesAll, IsFalseOrSeen, Refutes, IsResolved, place_of}
 use Rattle.cdcl_solver.proofs.SearchLemmas.{IsLearnt, map_neg_has}
+use Rattle.cdcl_solver.proofs.Stamps.{length-none, unmarked}
+use Rattle.cdcl_solver.specs.Marks.{none_marked}
 use Rattle.unit_prop.specs.Trail.{signed_variable}
 
 -- what is seen in a list of flags with one more
-seen_after : (seen : List Bool) (w v : ℕ) → slice_index_or (set seen w true) v false ≡ true → (v ≡ w) ⊎ (slice_index_or seen v false ≡ true)
+pub seen_after : (seen : List Bool) (w v : ℕ) → slice_index_or (set seen w true) v false ≡ true → (v ≡ w) ⊎ (slice_index_or seen v false ≡ true)
 seen_after seen w v e = ⊎_elim inl (λ n. inr (sym (get_or-set_other seen w v true false n) ∙ e)) (cases_eq v w)
 
 seen_kept : (seen : List Bool) (w v : ℕ) → w < length seen → slice_index_or seen v false ≡ true → slice_index_or (set seen w true) v false ≡ true
@@ -157,7 +159,7 @@ pub record ArePlacesBelow (s : Standing) (level n : ℕ) (places : List ℕ) : T
   pub size : length places ≡ suc s.trail.greatest
   pub here : (j : ℕ) → level ≤ j → j < n → slice_index_or places (signed_variable (at s.trail.literals j)) 0 ≡ j
 
-unseen : (n v : ℕ) → slice_index_or (replicate n false) v false ≡ false
+pub unseen : (n v : ℕ) → slice_index_or (replicate n false) v false ≡ false
 unseen zero v = refl
 unseen (suc n) zero = refl
 unseen (suc n) (suc v) = unseen n v
@@ -179,10 +181,10 @@ places_more s level n places h low b a = record {
     room = omega (arith, a.size, ((trail_of s h).in_range n b).1)
 
 -- an analysis that has seen nothing
-pub analysis_begins : (s : Standing) (level n size : ℕ) (seen : List Bool) (places : List ℕ) → level ≤ length s.trail.literals → length s.trail.literals ≤ n → n ≤ length s.trail.literals → size ≡ suc s.trail.greatest → length seen ≡ size → seen ≡ replicate size false → ArePlacesBelow s level n places →
+pub analysis_begins : (s : Standing) (level n size : ℕ) (seen : List Bool) (places : List ℕ) → level ≤ length s.trail.literals → length s.trail.literals ≤ n → n ≤ length s.trail.literals → size ≡ suc s.trail.greatest → seen ≡ none_marked size → ArePlacesBelow s level n places →
     IsAnalysis s (record { level = level; seen = seen; places = places; lits = []; lowest = length s.trail.literals })
-analysis_begins s level n size seen places low up down is len none a = record {
-  sizes = (len ∙ is, a.size);
+analysis_begins s level n size seen places low up down is none a = record {
+  sizes = (ap length none ∙ length-none size ∙ is, a.size);
   here = λ j high b. a.here j high (omega arith);
   from = λ k has. absurd (contains_nil k has);
   all = λ j k e. absurd (true≢false (sym e ∙ nothing (signed_variable (at s.trail.literals j))));
@@ -192,7 +194,7 @@ analysis_begins s level n size seen places low up down is len none a = record {
 }
   where
     nothing : (v : ℕ) → slice_index_or seen v false ≡ false
-    nothing v = ap (λ (xs : List Bool). slice_index_or xs v false) none ∙ unseen size v
+    nothing v = ap (λ (xs : List Bool). slice_index_or xs v false) none ∙ unmarked size v
 
 -- ---- resolving
 -- a conflict refutes what was seen of its clause

@@ -6,6 +6,8 @@ pub mod SearchLemmas
 pub mod LoadLemmas
 pub mod LevelLemmas
 pub mod SolveLemmas
+pub mod Stamps
 pub mod AnalysisLemmas
+pub mod OrderLemmas
 pub mod SolverLemmas
 pub mod ShowLemmas

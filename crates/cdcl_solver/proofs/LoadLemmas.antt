@@ -24,6 +24,7 @@ use Rattle.cdcl_solver.proofs.Words.{Loads}
 use Rattle.cdcl_solver.specs.Additions.{AreAdditions, left_by}
 use Rattle.cdcl_solver.specs.Search.{AllStand}
 use Rattle.cdcl_solver.specs.Models.{AreModelValues}
+use Rattle.cdcl_solver.specs.Orders.{HasVariablesOf}
 use Rattle.cdcl_solver.specs.Solving.{assignment_of}
 use Rattle.unit_prop.specs.Trail.{signed_variable}
 
@@ -120,16 +121,16 @@ some_stands standing (l ∷ c) told n =
     (λ no. let p = some_stands standing c (λ k has. told k (contains_there l c k has)) (λ f. n (λ k has. ⊎_elim (λ e. subst (λ x. Contains standing (neg_ℤ x)) e no) (λ m. f k m) (contains_cases l c k has))) in
     (p.0, contains_there l c p.0 p.1, p.2)) (told l (contains_here l c))
 
-stands_signed : (s : Standing) (l : ℤ) → AllStand s → 0 < signed_variable l → signed_variable l ≤ s.trail.greatest → Contains s.trail.literals l ⊎ Contains s.trail.literals (neg_ℤ l)
-stands_signed s (pos v) all sign b = all v sign b
-stands_signed s (negsuc v) all sign b = ⊎_elim inr inl (all (suc v) (omega arith) b)
+stands_signed : (vars : List ℕ) (s : Standing) (l : ℤ) → AllStand vars s → Contains vars (signed_variable l) → Contains s.trail.literals l ⊎ Contains s.trail.literals (neg_ℤ l)
+stands_signed vars s (pos v) all has = all v has
+stands_signed vars s (negsuc v) all has = ⊎_elim inr inl (all (suc v) has)
 
 -- the values meet each live clause
-pub values_satisfy : (s : Standing) (max : ℕ) (values : List Bool) → IsPropagated s → AllStand s → s.trail.greatest ≡ max → AreModelValues s.trail.literals max values → (c : Clause) → Contains (live_of s.clauses) c → ((l : ℤ) → Contains c l → IsLiteralUpTo max l)
-    → holds (assignment_of values) c ≡ true
-values_satisfy s max values settled all g are c has within =
+pub values_satisfy : (vars : List ℕ) (s : Standing) (max : ℕ) (values : List Bool) → IsPropagated s → AllStand vars s → s.trail.greatest ≡ max → AreModelValues s.trail.literals max values → (c : Clause) → Contains (live_of s.clauses) c → HasVariablesOf vars c
+    → ((l : ℤ) → Contains c l → IsLiteralUpTo max l) → holds (assignment_of values) c ≡ true
+values_satisfy vars s max values settled all g are c has covers within =
     let sign : (k : ℤ) → Contains c k → 0 < signed_variable k = λ k in'. literal_positive k (within k in').0 in
     let range : (k : ℤ) → Contains c k → signed_variable k ≤ s.trail.greatest = λ k in'. omega (arith, (within k in').1, g) in
-    let q = some_stands s.trail.literals c (λ k in'. stands_signed s k all (sign k in') (range k in')) (λ f. settled.no_conflict c has f) in
+    let q = some_stands s.trail.literals c (λ k in'. stands_signed vars s k all (covers k in')) (λ f. settled.no_conflict c has f) in
     let t = true_by_values s.trail.literals max values q.0 are (sign q.0 q.1) (omega (arith, range q.0 q.1, g)) q.2 in
     list_any_at (signed (assignment_of values)) c q.1.0 q.0 q.1.1 (ap (signed (assignment_of values)) q.1.2 ∙ t)

@@ -1,6 +1,9 @@
 -- Clauses that are shown on their own.
 use Rattle.std.specs.Prelude.{◌≡◌, ◌≢◌, ℕ, zero, suc, true, ◌+◌, ◌≤◌, ◌⊎◌, List, [], ◌∷◌, ◌++◌, map, ℤ, pos, negsuc, neg_ℤ, nat_abs, slice_index_or}
 use Rattle.std.specs.List.{All, Contains}
+use Rattle.std.specs.Option.{IfSome}
+use Rattle.std.specs.declared.option.Option.{Option}
+use Rattle.std.specs.declared.option.Option.TheVariants.{Some}
 use Rattle.std.proofs.Common.{refl, sym, ap, subst, ◌∙◌, arith, inl, inr, ⊎_elim}
 use Rattle.std.proofs.lemmas.List.Elements.{All-cons, All-contains, All-map, Contains-get_or, Contains-push, Contains-push_cases, Contains-append_left}
 use Rattle.clause_core.specs.Clause.{Clause, IsClauseInRange, IsSubset, SameSet}
@@ -98,6 +101,10 @@ two_lemma live one other c same apart rup none = record {
   no_tautology = two_no_tautology one other c apart same.0;
   new = λ k d below. none_subset live c (one ∷ other ∷ []) same.0 none (slice_index_or live k d) (Contains-get_or live k d below);
 }
+
+-- an answer, if there is one
+pub some_answer : (max : ℕ) (live : List Clause) (assumptions : List ℤ) (conflicts : ℕ) (old new : LogView) (found : Option Solved) (solved : Solved) → IfSome found (IsAnswer max live assumptions conflicts old new) → found ≡ Some solved → IsAnswer max live assumptions conflicts old new solved
+some_answer max live assumptions conflicts old new found solved answer is = subst (λ (o : Option Solved). IfSome o (IsAnswer max live assumptions conflicts old new)) is answer
 
 -- where both negations are refuted, the clause follows
 pub refuted_follows : (max : ℕ) (live : List Clause) (assumptions : List ℤ) (conflicts : ℕ) (old new : LogView) (solved : Solved) (one other : ℤ) → IsAnswer max live assumptions conflicts old new solved → solved ≡ Refuted → assumptions ≡ neg_ℤ one ∷ neg_ℤ other ∷ [] → IsRup (new.left ++ live) (one ∷ other ∷ [])

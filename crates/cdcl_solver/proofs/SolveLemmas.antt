@@ -18,6 +18,7 @@ use Rattle.cdcl_solver.proofs.Words.{Loads}
 use Rattle.cdcl_solver.specs.Levels.{Keeps}
 use Rattle.cdcl_solver.specs.Search.{StandsUnder, ExtendsStanding, AllStand}
 use Rattle.cdcl_solver.specs.Models.{AreModelValues}
+use Rattle.cdcl_solver.specs.Orders.{Covers}
 use Rattle.cdcl_solver.specs.Solving.{assignment_of}
 use Rattle.cdcl_solver.proofs.SearchLemmas.{rup_wider, map_neg_has, map_neg_twice}
 use Rattle.cdcl_solver.proofs.LoadLemmas.{true_by_values, values_satisfy}
@@ -50,10 +51,10 @@ lemma_same a b c same h = record {
 }
 
 -- a model
-pub model_answer : (s t u : Standing) (max : ℕ) (left given : List Clause) (assumptions : List ℤ) (values : List Bool) → max < 2147483648 → Loads s max (left ++ given) → Keeps s t → IsSubset assumptions t.trail.literals → ExtendsStanding t u → IsPropagated u → AllStand u →
+pub model_answer : (vars : List ℕ) (s t u : Standing) (max : ℕ) (left given : List Clause) (assumptions : List ℤ) (values : List Bool) → max < 2147483648 → Loads s max (left ++ given) → Covers vars (left ++ given) → Keeps s t → IsSubset assumptions t.trail.literals → ExtendsStanding t u → IsPropagated u → AllStand vars u →
     AreModelValues u.trail.literals max values → IsClauseInRange max assumptions →
     (length values ≡ max) × Satisfies (assignment_of values) given × All (λ l. signed (assignment_of values) l ≡ true) assumptions
-model_answer s t u max left given assumptions values small h same under extends settled all are range = (
+model_answer vars s t u max left given assumptions values small h covers same under extends settled all are range = (
   are.count,
   (λ k d b. meets (slice_index_or given k d) (k, b, same_at given k (slice_index_or given k d) d b)),
   (λ k d b. let has : Contains assumptions (slice_index_or assumptions k d) = (k, b, same_at assumptions k (slice_index_or assumptions k d) d b) in
@@ -65,5 +66,5 @@ model_answer s t u max left given assumptions values small h same under extends 
     meets : (c : Clause) → Contains given c → holds (assignment_of values) c ≡ true
     meets c has =
         let there = Contains-append_right left given c has in
-        values_satisfy u max values settled all (extends.0.greatest ∙ same.greatest ∙ h.greatest) are c
-        ((live_kept t u (left ++ given) extends.0.clauses (live_kept s t (left ++ given) same.clauses h.live)).back c there) (h.within c there)
+        values_satisfy vars u max values settled all (extends.0.greatest ∙ same.greatest ∙ h.greatest) are c
+        ((live_kept t u (left ++ given) extends.0.clauses (live_kept s t (left ++ given) same.clauses h.live)).back c there) (covers c there) (h.within c there)

@@ -22,6 +22,7 @@ use Rattle.cdcl_solver.specs.Additions.{AreAdditions}
 use Rattle.cdcl_solver.specs.Loading.{SameLive, IsSolverOver}
 use Rattle.cdcl_solver.proofs.Words.{Loads}
 use Rattle.cdcl_solver.specs.Logs.{LogView, Continues, lemmas}
+use Rattle.cdcl_solver.specs.Orders.{OrderView, GrowsOrder, HasVariablesOf}
 use Rattle.cdcl_solver.specs.Solvers.{SolverView, IsReady, IsSolverEnd, TurnsSearch, with_clause}
 use Rattle.cdcl_solver.specs.Solving.{IsAnswer, assignment_of}
 use Rattle.cdcl_solver.specs.Finding.{Finds, solver_of}
@@ -31,50 +32,65 @@ use Rattle.cdcl_solver.specs.declared.solved.Solved.TheVariants.{Refuted, Model,
 use Rattle.cdcl_solver.proofs.Trails.{clause_within}
 use Rattle.cdcl_solver.proofs.LoadLemmas.{live_push, same_live_self}
 use Rattle.cdcl_solver.proofs.LogLemmas.{continues_one, lemmas_push}
+use Rattle.cdcl_solver.proofs.OrderLemmas.{covers_grown}
 use Rattle.cdcl_solver.proofs.SearchLemmas.{rup_wider}
 use Rattle.cdcl_solver.proofs.SolveLemmas.{lemma_same, not_refuted_answer}
 
-pub loads_of : (max : ℕ) (s : Standing) (order base : ℕ) (marks : List ℕ) → IsReady max s order base marks → Loads s max (live_of s.clauses)
+pub loads_of : (max : ℕ) (s : Standing) (order : OrderView) (base : ℕ) (marks : List ℕ) → IsReady max s order base marks → Loads s max (live_of s.clauses)
 loads_of max s order base marks h = record { greatest = h.greatest; live = same_live_self (live_of s.clauses) (live_of s.clauses) refl; within = h.within }
 
-pub ready_none : (max : ℕ) (s : Standing) (order base : ℕ) (marks : List ℕ) → max < 2147483648 → order ≡ max → Loads s max [] → IsStage s base marks → IsReady max s order base marks
-ready_none max s order base marks small e h stage = record { small = small; greatest = h.greatest; ordered = e; within = λ c has. absurd (contains_nil c (h.live.there c has)); stage = stage }
+pub ready_none : (max : ℕ) (s : Standing) (order : OrderView) (base : ℕ) (marks : List ℕ) → max < 2147483648 → order.greatest ≡ max → Loads s max [] → IsStage s base marks → IsReady max s order base marks
+ready_none max s order base marks small e h stage = record { small = small; greatest = h.greatest; ordered = e; covers = λ c has. absurd (contains_nil c (h.live.there c has)); within = λ c has. absurd (contains_nil c (h.live.there c has)); stage = stage }
 
 pub alone_none : (s : Standing) (max : ℕ) → (let empty : Standing = record { clauses = []; trail = record { greatest = max; literals = []; reasons = [] }; units = 0 } in s ≡ empty) → StandsAlone s
 alone_none s max e = subst (λ (t : Standing). StandsAlone t) (sym e) (record { within = omega arith; by_unit = λ i b. absurd (omega arith); complete = λ r l f. absurd (cc) }, refl)
 
 -- the same clauses, at another moment
-pub ready_kept : (max : ℕ) (s new : Standing) (order after base later : ℕ) (marks more : List ℕ) → IsReady max s order base marks → new.clauses ≡ s.clauses → new.trail.greatest ≡ s.trail.greatest → after ≡ order → IsStage new later more → IsReady max new after later more
+pub ready_kept : (max : ℕ) (s new : Standing) (order after : OrderView) (base later : ℕ) (marks more : List ℕ) → IsReady max s order base marks → new.clauses ≡ s.clauses → new.trail.greatest ≡ s.trail.greatest → after ≡ order → IsStage new later more → IsReady max new after later more
 ready_kept max s new order after base later marks more h same greatest order' stage = record {
   small = h.small;
   greatest = greatest ∙ h.greatest;
-  ordered = order' ∙ h.ordered;
+  ordered = ap (λ (o : OrderView). o.greatest) order' ∙ h.ordered;
+  covers = λ c has. subst (λ (o : OrderView). HasVariablesOf o.vars c) (sym order') (h.covers c (subst (λ (cs : List (Option Clause)). Contains (live_of cs) c) same has));
   within = λ c has l in'. h.within c (subst (λ (cs : List (Option Clause)). Contains (live_of cs) c) same has) l in';
   stage = stage;
 }
 
+-- more variables in the order
+pub ready_entered : (max : ℕ) (s : Standing) (order after : OrderView) (base : ℕ) (marks : List ℕ) → IsReady max s order base marks → GrowsOrder order after → IsReady max s after base marks
+ready_entered max s order after base marks h grows = record {
+  small = h.small;
+  greatest = h.greatest;
+  ordered = grows.greatest ∙ h.ordered;
+  covers = covers_grown order after (live_of s.clauses) grows h.covers;
+  within = h.within;
+  stage = h.stage;
+}
+
 -- back at the beginning, and what was looked at there undone
-pub ready_settled : (max : ℕ) (s mid new : Standing) (order base later : ℕ) (marks more : List ℕ) → IsReady max s order base marks → Keeps s mid → IsStage mid later more → new ≡ mid → IsReady max new order later more
+pub ready_settled : (max : ℕ) (s mid new : Standing) (order : OrderView) (base later : ℕ) (marks more : List ℕ) → IsReady max s order base marks → Keeps s mid → IsStage mid later more → new ≡ mid → IsReady max new order later more
 ready_settled max s mid new order base later marks more h k stage e = subst (λ (t : Standing). IsReady max t order later more) (sym e) (ready_kept max s mid order order base later marks more h k.clauses k.greatest refl stage)
 
 pub live_more : (s new : Standing) (c : Clause) → new.clauses ≡ s.clauses ++ Some c ∷ [] → live_of new.clauses ≡ live_of s.clauses ++ c ∷ []
 live_more s new c e = ap live_of e ∙ live_push s.clauses c
 
-pub ready_more : (max : ℕ) (s new : Standing) (order base later : ℕ) (marks more : List ℕ) (c : Clause) → IsReady max s order base marks → IsClauseInRange max c → new.clauses ≡ s.clauses ++ Some c ∷ [] → new.trail.greatest ≡ s.trail.greatest → IsStage new later more → IsReady max new order later more
-ready_more max s new order base later marks more c h range e greatest stage = record {
+pub ready_more : (max : ℕ) (s new : Standing) (order : OrderView) (base later : ℕ) (marks more : List ℕ) (c : Clause) → IsReady max s order base marks → IsClauseInRange max c → HasVariablesOf order.vars c → new.clauses ≡ s.clauses ++ Some c ∷ [] → new.trail.greatest ≡ s.trail.greatest → IsStage new later more → IsReady max new order later more
+ready_more max s new order base later marks more c h range has' e greatest stage = record {
   small = h.small;
   greatest = greatest ∙ h.greatest;
   ordered = h.ordered;
+  covers = λ d has. ⊎_elim (λ m. h.covers d m) (λ f. subst (HasVariablesOf order.vars) f has')
+      (Contains-push_cases (live_of s.clauses) c d (subst (λ (cs : List Clause). Contains cs d) (live_more s new c e) has));
   within = λ d has l in'. ⊎_elim (λ m. h.within d m l in') (λ f. clause_within max c h.small range l (subst (λ (x : Clause). Contains x l) (sym f) in'))
       (Contains-push_cases (live_of s.clauses) c d (subst (λ (cs : List Clause). Contains cs d) (live_more s new c e) has));
   stage = stage;
 }
 
 -- one more clause, unless memory runs out
-pub ready_added : {A E : Type 0} (max : ℕ) (s new : Standing) (order base later : ℕ) (marks more : List ℕ) (c : Clause) (r : Result A E) → IsReady max s order base marks → IsClauseInRange max c → new.trail.greatest ≡ s.trail.greatest → IsStage new later more
+pub ready_added : {A E : Type 0} (max : ℕ) (s new : Standing) (order : OrderView) (base later : ℕ) (marks more : List ℕ) (c : Clause) (r : Result A E) → IsReady max s order base marks → IsClauseInRange max c → HasVariablesOf order.vars c → new.trail.greatest ≡ s.trail.greatest → IsStage new later more
     → OnOk r (new.clauses ≡ s.clauses ++ Some c ∷ []) → OnErr r (new.clauses ≡ s.clauses) → IsReady max new order later more
-ready_added max s new order base later marks more c (Ok u) h range greatest stage ok err = ready_more max s new order base later marks more c h range ok greatest stage
-ready_added max s new order base later marks more c (Err e) h range greatest stage ok err = ready_kept max s new order order base later marks more h err greatest refl stage
+ready_added max s new order base later marks more c (Ok u) h range has greatest stage ok err = ready_more max s new order base later marks more c h range has ok greatest stage
+ready_added max s new order base later marks more c (Err e) h range has greatest stage ok err = ready_kept max s new order order base later marks more h err greatest refl stage
 
 pub settled_answer : (s t : Standing) (assumptions : List ℤ) (b : Bool) → BeginsSearch s t assumptions b → MatchBool b (IsRup (live_of s.clauses) (map neg_ℤ assumptions) → ⊥) (IsRup (live_of s.clauses) (map neg_ℤ assumptions))
 settled_answer s t assumptions true h = not_refuted_answer s t (live_of s.clauses) assumptions (same_live_self (live_of s.clauses) (live_of s.clauses) refl) h.0.clauses h.1
@@ -130,10 +146,10 @@ live_front live left given c h = record {
     front_cases : (d : Clause) → Contains (c ∷ []) d → (c ≡ d) ⊎ Contains (let n : List Clause = [] in n) d
     front_cases d m = ⊎_elim inr inl (Contains-push_cases [] c d m)
 
-pub answer_turn : (max : ℕ) (s : Standing) (old new : SolverView) (log after : LogView) (assumptions : List ℤ) (solved : Solved) → Finds max s assumptions (Answer solved) → solver_of max s ≡ old → new ≡ old → after ≡ log → TurnsSearch old log new after assumptions (Some solved)
-answer_turn max s old new log after assumptions Refuted h v e f = (subst (λ (w : SolverView). IsSolverEnd w assumptions Refuted) v h, e, f)
-answer_turn max s old new log after assumptions (Model values) h v e f = (subst (λ (w : SolverView). IsSolverEnd w assumptions (Model values)) v h, e, f)
-answer_turn max s old new log after assumptions Spent h v e f = absurd h
+pub answer_turn : (max : ℕ) (s : Standing) (old new : SolverView) (log after : LogView) (assumptions : List ℤ) (few : Bool) (solved : Solved) → Finds max s assumptions few (Answer solved) → solver_of max s ≡ old → new ≡ old → after ≡ log → TurnsSearch old log new after assumptions (Some solved)
+answer_turn max s old new log after assumptions few Refuted h v e f = (subst (λ (w : SolverView). IsSolverEnd w assumptions Refuted) v h, e, f)
+answer_turn max s old new log after assumptions few (Model values) h v e f = (subst (λ (w : SolverView). IsSolverEnd w assumptions (Model values)) v h, e, f)
+answer_turn max s old new log after assumptions few Spent h v e f = absurd h
 
 -- one lemma more
 pub turn_more : (max : ℕ) (live : List Clause) (first : LogView) (n : ℕ) (s new : SolverView) (log after : LogView) (assumptions : List ℤ) → s.max ≡ max → SameLive s.live (log.left ++ live) → Continues max live n first log → All (IsClauseInRange max) log.left

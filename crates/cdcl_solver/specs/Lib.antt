@@ -10,6 +10,7 @@ pub mod Models
 pub mod Loading
 pub mod Analyses
 pub mod Orders
+pub mod Marks
 pub mod Solvers
 pub mod Shows
 pub mod Finding

@@ -1,9 +1,7 @@
 -- A propagator over given clauses.
-use Rattle.std.specs.Prelude.{◌≡◌, ℕ, ℤ, List}
+use Rattle.std.specs.Prelude.{◌≡◌, ℕ, List}
 use Rattle.std.specs.List.{Contains}
 use Rattle.clause_core.specs.Clause.{Clause}
-use Rattle.unit_prop.specs.Standing.{Standing, live_of}
-use Rattle.unit_prop.specs.Trail.{IsLiteralUpTo}
 use Rattle.cdcl_solver.specs.Solvers.{SolverView}
 
 -- the same clauses, in any order and number

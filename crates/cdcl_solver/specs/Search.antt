@@ -41,19 +41,23 @@ pub record IsConflictAt (s : Standing) (clause level : ℕ) : Type 0 where
   pub decision : reason_at s.trail.reasons level ≡ None
   pub forced : (i : ℕ) → level < i → i < length s.trail.literals → reason_at s.trail.reasons i ≢ None
 
--- each variable has a value
-abbrev pub AllStand : Standing → Type 0
-AllStand s = (v : ℕ) → 0 < v → v ≤ s.trail.greatest → Contains s.trail.literals (pos v) ⊎ Contains s.trail.literals (neg_ℤ (pos v))
+-- each of these variables has a value
+abbrev pub AllStand : List ℕ → Standing → Type 0
+AllStand vars s = (v : ℕ) → Contains vars v → Contains s.trail.literals (pos v) ⊎ Contains s.trail.literals (neg_ℤ (pos v))
 
--- an open literal, or none where each variable has a value
-abbrev pub IsChoice : Standing → Option ℤ → Type 0
-IsChoice s None = AllStand s
-IsChoice s (Some l) = (0 < signed_variable l) × (signed_variable l ≤ s.trail.greatest) × IsOpen s.trail.literals l
+-- an open literal of a variable up to the greatest one
+abbrev pub IsOpenChoice : Standing → ℤ → Type 0
+IsOpenChoice s l = (0 < signed_variable l) × (signed_variable l ≤ s.trail.greatest) × IsOpen s.trail.literals l
+
+-- an open literal, or none where each of these variables has a value
+abbrev pub IsChoice : List ℕ → Standing → Option ℤ → Type 0
+IsChoice vars s None = AllStand vars s
+IsChoice vars s (Some l) = IsOpenChoice s l
 
 -- an open literal of a variable, or none where it has a value
 abbrev pub IsChoiceOf : Standing → ℕ → Option ℤ → Type 0
 IsChoiceOf s v None = Contains s.trail.literals (pos v) ⊎ Contains s.trail.literals (neg_ℤ (pos v))
-IsChoiceOf s v (Some l) = IsChoice s (Some l)
+IsChoiceOf s v (Some l) = IsOpenChoice s l
 
 -- what stood still does, over the same clauses
 abbrev pub ExtendsStanding : Standing → Standing → Type 0

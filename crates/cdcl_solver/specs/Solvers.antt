@@ -1,5 +1,5 @@
 -- A solver's state between two calls, and its turns.
-use Rattle.std.specs.Prelude.{◌≡◌, ℕ, ◌<◌, true, List, [], ◌∷◌, ◌++◌, length, map, ℤ, neg_ℤ}
+use Rattle.std.specs.Prelude.{◌≡◌, ℕ, ◌<◌, Bool, true, List, [], ◌∷◌, ◌++◌, length, map, ℤ, neg_ℤ}
 use Rattle.std.specs.declared.option.Option.{Option}
 use Rattle.std.specs.declared.option.Option.TheVariants.{None, Some}
 use Rattle.std.specs.List.{All, Contains}
@@ -10,8 +10,11 @@ use Rattle.unit_prop.specs.Standing.{Standing, live_of}
 use Rattle.unit_prop.specs.Trail.{IsLiteralUpTo}
 use Rattle.cdcl_solver.specs.Levels.{IsStage}
 use Rattle.cdcl_solver.specs.Logs.{LogView, with_added}
+use Rattle.cdcl_solver.specs.Orders.{OrderView, Covers}
 use Rattle.cdcl_solver.specs.Solving.{assignment_of}
 use Rattle.cdcl_solver.specs.declared.solved.Solved.{Solved}
+use Rattle.cdcl_solver.specs.declared.solver.Turn.{Turn}
+use Rattle.cdcl_solver.specs.declared.solver.Turn.TheVariants.{Learnt, Ends, GivenUp}
 use Rattle.cdcl_solver.specs.declared.solved.Solved.TheVariants.{Refuted, Model, Spent}
 
 -- the greatest variable, and the clauses that are live, in the order in which they came
@@ -23,11 +26,12 @@ pub record SolverView : Type 0 where
 abbrev pub with_clause : SolverView → Clause → SolverView
 with_clause s c = record { max = s.max; live = s.live ++ c ∷ [] }
 
--- Between two calls: clauses over the variables, and moments to go back to.
-pub record IsReady (max : ℕ) (s : Standing) (order base : ℕ) (marks : List ℕ) : Type 0 where
+-- Between two calls: clauses over the variables, each of which is decided, and moments to go back to.
+pub record IsReady (max : ℕ) (s : Standing) (order : OrderView) (base : ℕ) (marks : List ℕ) : Type 0 where
   pub small : max < 2147483648
   pub greatest : s.trail.greatest ≡ max
-  pub ordered : order ≡ max
+  pub ordered : order.greatest ≡ max
+  pub covers : Covers order.vars (live_of s.clauses)
   pub within : (c : Clause) → Contains (live_of s.clauses) c → (l : ℤ) → Contains c l → IsLiteralUpTo max l
   pub stage : IsStage s base marks
 
@@ -45,3 +49,9 @@ TurnsSearch old log new after assumptions None =
 TurnsSearch old log new after assumptions (Some Spent) = ⊥
 TurnsSearch old log new after assumptions (Some Refuted) = IsSolverEnd old assumptions Refuted × (new ≡ old) × (after ≡ log)
 TurnsSearch old log new after assumptions (Some (Model values)) = IsSolverEnd old assumptions (Model values) × (new ≡ old) × (after ≡ log)
+
+-- The same, or it is given up where a few decisions are enough.
+abbrev pub IsTurn : SolverView → LogView → SolverView → LogView → List ℤ → Bool → Turn → Type 0
+IsTurn old log new after assumptions few Learnt = TurnsSearch old log new after assumptions None
+IsTurn old log new after assumptions few (Ends solved) = TurnsSearch old log new after assumptions (Some solved)
+IsTurn old log new after assumptions few GivenUp = (few ≡ true) × (new ≡ old) × (after ≡ log)

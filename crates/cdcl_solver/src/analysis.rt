@@ -9,11 +9,12 @@ ghost use Rattle.unit_prop.specs.Trail.{signed_variable};
 
 use crate::conflict::Conflict;
 use crate::literal::{negation, variable};
+use crate::marks::Marks;
 use crate::order::Order;
+use crate::room::Room;
 use graph_core::Memory;
 use std::alloc::Global;
 use std::marker::Model;
-use std::mem;
 use unit_prop::{Propagator, Ref};
 
 /// What is known of a conflict while its reasons are resolved from the last one down.
@@ -22,7 +23,7 @@ pub(crate) struct Analysis {
     /// how many literals stood before the last decision
     level: usize,
     /// whether each variable's literal is in the clause resolved so far, or was resolved away
-    seen: Vec<bool>,
+    seen: Marks,
     /// where each variable of the last level stands; of other variables it says nothing
     places: Vec<usize>,
     /// the literals of the lemma from before the last level
@@ -38,7 +39,7 @@ impl Model for Analysis {
 
     ghost view = { λ a. record {
       level = a.level;
-      seen = a.seen.items;
+      seen = a.seen;
       places = a.places.items;
       lits = a.lits.items;
       lowest = a.lowest;
@@ -52,7 +53,7 @@ impl Analysis {
         propagator: &Propagator,
         max: u32,
         conflict: Conflict,
-        room: &mut Vec<usize>,
+        room: &mut Room,
     ) -> Result<Analysis, Memory>
         requires conflict { IsConflictAt propagator.now conflict.clause conflict.level }
         requires max { propagator.now.trail.greatest ≡ max }
@@ -69,12 +70,12 @@ impl Analysis {
     pub(crate) fn bump(&self, propagator: &Propagator, order: &mut Order)
         requires analysis { IsAnalysis propagator.now self.now }
         requires sound { IsSound propagator.now }
-        requires order { order.old ≡ propagator.now.trail.greatest }
+        requires order { order.old.greatest ≡ propagator.now.trail.greatest }
         ensures { order.new ≡ order.old }
     {
         for &lit in propagator.trail() {
             let var = variable(lit);
-            if self.seen[var as usize] {
+            if self.seen.has(var as usize) {
                 order.bump(var);
             }
         }
@@ -84,7 +85,7 @@ impl Analysis {
     pub(crate) fn into_lits(
         self,
         propagator: &Propagator,
-        room: &mut Vec<usize>,
+        room: &mut Room,
     ) -> Result<Vec<i32>, Memory>
         requires resolved { IsResolved propagator.now self }
         requires sound { IsSound propagator.now }
@@ -94,7 +95,8 @@ impl Analysis {
         let last = propagator.trail()[self.lowest];
         let mut lits = self.lits;
         lits.push(negation(last))?;
-        *room = self.places;
+        room.places = self.places;
+        room.marks = self.seen;
         Ok(lits)
     }
 
@@ -105,7 +107,7 @@ impl Analysis {
         ensures { OnOk result (Sees trail.now self.old self.new lit) }
     {
         let var = variable(lit) as usize;
-        if self.seen[var] {
+        if self.seen.has(var) {
             return Ok(());
         }
         let place = self.places[var];
@@ -114,7 +116,7 @@ impl Analysis {
         } else {
             self.lits.push(lit)?;
         }
-        self.seen[var] = true;
+        self.seen.set(var);
         Ok(())
     }
 
@@ -123,7 +125,7 @@ impl Analysis {
         propagator: &Propagator,
         max: u32,
         level: usize,
-        room: &mut Vec<usize>,
+        room: &mut Room,
     ) -> Result<Analysis, Memory>
         requires sound { IsSound propagator.now }
         requires max { propagator.now.trail.greatest ≡ max }
@@ -133,13 +135,13 @@ impl Analysis {
     {
         let size = max as usize + 1;
         let trail = propagator.trail();
-        let mut places = places_in(alloc, room, size)?;
+        let mut places = room.take_places(alloc, size)?;
         for place in level..trail.len() {
             places[variable(trail[place]) as usize] = place;
         }
         Ok(Analysis {
             level,
-            seen: Vec::from_elem(alloc, false, size)?,
+            seen: room.take_marks(alloc, size)?,
             places,
             lits: Vec::new(alloc),
             lowest: trail.len(),
@@ -177,7 +179,7 @@ impl Analysis {
         'walk: while self.lowest + 1 < place {
             place -= 1;
             let var = variable(trail[place]);
-            if self.seen[var as usize] {
+            if self.seen.has(var as usize) {
                 if let Some(reason) = propagator.reason(var) {
                     self.mark(propagator, reason)?;
                 }
@@ -185,17 +187,6 @@ impl Analysis {
         }
         Ok(())
     }
-}
-
-// A table of so many places, whatever it says of them: the room, if it is as large.
-fn places_in(alloc: Global, room: &mut Vec<usize>, size: usize) -> Result<Vec<usize>, Memory>
-    ensures { IfOk result (λ places. length places.items ≡ size) }
-{
-    let places = mem::replace(room, Vec::new(alloc));
-    if places.len() == size {
-        return Ok(places);
-    }
-    Ok(Vec::from_elem(alloc, 0, size)?)
 }
 
 // Whether a literal's variable stands at a place of the trail.

@@ -7,6 +7,7 @@ ghost use Rattle.cdcl_solver.specs.Search.{IsConflictAt};
 
 use crate::analysis::Analysis;
 use crate::order::Order;
+use crate::room::Room;
 use clause_core::Clause;
 use graph_core::Memory;
 use std::alloc::Global;
@@ -27,12 +28,12 @@ pub(crate) fn learn(
     max: u32,
     conflict: Conflict,
     order: &mut Order,
-    room: &mut Vec<usize>,
+    room: &mut Room,
 ) -> Result<Clause, Memory>
     requires conflict { IsConflictAt propagator.now conflict.clause conflict.level }
     requires max { propagator.now.trail.greatest ≡ max }
     requires signed { max < 2 ^ 31 }
-    requires order { order.old ≡ max }
+    requires order { order.old.greatest ≡ max }
     ensures order { order.new ≡ order.old }
     ensures lemma { IfOk result (λ lemma. IsLemma (live_of propagator.now.clauses) lemma) }
     ensures in_range { IfOk result (λ lemma. IsClauseInRange max lemma) }

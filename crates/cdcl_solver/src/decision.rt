@@ -1,8 +1,9 @@
 // Decisions: open literals, and what follows from one.
 ghost use Rattle.std.specs.Prelude.{◌≡◌, ◌<◌, ◌≤◌, ◌^◌, ◌⊎◌, neg_ℤ, pos};
+ghost use Rattle.std.specs.List.{All};
 ghost use Rattle.unit_prop.specs.Trail.{HasValue, IsOpen, signed_variable};
 ghost use Rattle.unit_prop.specs.Standing.{Standing, IsSound, IsPropagated};
-ghost use Rattle.cdcl_solver.specs.Search.{GainsStanding, AllStand, IsChoice, IsChoiceOf, DecidesOnce};
+ghost use Rattle.cdcl_solver.specs.Search.{GainsStanding, IsChoice, IsChoiceOf, DecidesOnce};
 
 use crate::literal::{negation, positive};
 use unit_prop::{Propagator, Ref};
@@ -30,13 +31,13 @@ pub(crate) fn open_literal(propagator: &Propagator, var: u32, value: bool) -> Op
     }
 }
 
-/// A literal that is open; None where every variable has a value.
-pub(crate) fn first_open(propagator: &Propagator, max: u32) -> Option<i32>
-    requires max { propagator.now.trail.greatest ≡ max }
-    requires signed { max < 2 ^ 31 }
-    ensures { IsChoice propagator.now result }
+/// A literal of one of these variables that is open; None where each has a value.
+pub(crate) fn first_open(propagator: &Propagator, vars: &[u32]) -> Option<i32>
+    requires within { All (λ v. (0 < v) × (v ≤ propagator.now.trail.greatest)) vars.now }
+    requires signed { propagator.now.trail.greatest < 2 ^ 31 }
+    ensures { IsChoice vars.now propagator.now result }
 {
-    for var in 1..max + 1 {
+    for &var in vars {
         if let Some(lit) = open_literal(propagator, var, false) {
             return Some(lit);
         }

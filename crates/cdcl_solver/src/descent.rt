@@ -15,6 +15,20 @@ use crate::order::Order;
 use graph_core::Memory;
 use unit_prop::{Assumed, Propagator};
 
+// How many decisions a search that may be given up makes before it is.
+const FEW: u32 = 1000;
+
+/// How a descent ends.
+#[derive(Clone, Copy, Debug)]
+pub(crate) enum Descent {
+    /// Each variable of the order has a value.
+    Bottom,
+    /// A clause is false.
+    Conflict(Conflict),
+    /// There were too many decisions.
+    GivenUp,
+}
+
 /// Lets the assumptions stand with their consequences; false where they are refuted.
 pub(crate) fn begin(propagator: &mut Propagator, assumptions: &[i32]) -> bool
     requires alone { StandsAlone propagator.old }
@@ -60,28 +74,34 @@ pub(crate) fn settle(
     Ok(true)
 }
 
-/// Decides until each variable has a value or a clause is false.
+/// Decides until each variable of the order has a value or a clause is false, or a few times where that is enough.
 pub(crate) fn descend(
     propagator: &mut Propagator,
     order: &Order,
     levels: &mut Levels,
-) -> Result<Option<Conflict>, Memory>
+    few: bool,
+) -> Result<Descent, Memory>
     requires sound { IsSound propagator.old }
     requires settled { IsPropagated propagator.old }
     requires stage { IsStage propagator.old levels.old.base levels.old.marks.items }
-    requires max { propagator.old.trail.greatest ≡ order.now }
-    requires signed { order.now < 2 ^ 31 }
+    requires max { propagator.old.trail.greatest ≡ order.now.greatest }
+    requires signed { order.now.greatest < 2 ^ 31 }
     ensures extends { ExtendsStanding propagator.old propagator.new }
     ensures stage { IsStage propagator.new levels.new.base levels.new.marks.items }
-    ensures end { IfOk result (Descends propagator.new) }
+    ensures end { IfOk result (Descends order.now.vars few propagator.new) }
 {
     let mut cursor = order.first();
+    let mut decisions = 0u32;
     while let Some(lit) = order.choose(propagator, &mut cursor) {
+        if few && decisions >= FEW {
+            return Ok(Descent::GivenUp);
+        }
+        decisions = decisions.saturating_add(1);
         let level = propagator.trail().len();
         if let Some(clause) = decide(propagator, lit) {
-            return Ok(Some(Conflict { clause, level }));
+            return Ok(Descent::Conflict(Conflict { clause, level }));
         }
         levels.push(propagator)?;
     }
-    Ok(None)
+    Ok(Descent::Bottom)
 }

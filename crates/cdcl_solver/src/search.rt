@@ -9,11 +9,12 @@ ghost use Rattle.cdcl_solver.specs.Solvers.{IsReady};
 ghost use Rattle.cdcl_solver.specs.Finding.{Finds};
 
 use crate::conflict::learn;
-use crate::descent::{begin, descend, settle};
+use crate::descent::{Descent, begin, descend, settle};
 use crate::levels::{Levels, stands};
 use crate::literal::negation;
 use crate::model::values;
 use crate::order::Order;
+use crate::room::Room;
 use crate::solved::Solved;
 use clause_core::Clause;
 use graph_core::Memory;
@@ -26,31 +27,42 @@ pub(crate) enum Found {
     Answer(Solved),
     /// A clause that follows, and that no live clause is within.
     Lemma(Clause),
+    /// Nothing, where a few decisions are enough.
+    GivenUp,
 }
 
-/// Searches under the assumptions up to the next conflict, from the last moment on or anew.
+/// Searches under the assumptions up to the next conflict, from the last moment on or anew. Where a few decisions are
+/// enough, it is given up after them, and no model is told.
 pub(crate) fn explore(
     alloc: Global,
     max: u32,
     propagator: &mut Propagator,
     order: &mut Order,
     levels: &mut Levels,
-    room: &mut Vec<usize>,
+    room: &mut Room,
     assumptions: &[i32],
     anew: bool,
+    few: bool,
 ) -> Result<Found, Memory>
     requires ready { IsReady max propagator.old order.old levels.old.base levels.old.marks.items }
     requires assumptions { IsClauseInRange max assumptions.now }
     ensures ready { IsReady max propagator.new order.new levels.new.base levels.new.marks.items }
     ensures clauses { propagator.new.clauses ≡ propagator.old.clauses }
-    ensures found { IfOk result (Finds max propagator.old assumptions.now) }
+    ensures found { IfOk result (Finds max propagator.old assumptions.now few) }
 {
+    order.link();
     if !settle(propagator, levels, assumptions, anew)? {
         return Ok(Found::Answer(Solved::Refuted));
     }
-    match descend(propagator, order, levels)? {
-        None => Ok(Found::Answer(Solved::Model(values(alloc, propagator, max)?))),
-        Some(conflict) => {
+    match descend(propagator, order, levels, few)? {
+        Descent::GivenUp => Ok(Found::GivenUp),
+        Descent::Bottom => {
+            if few {
+                return Ok(Found::GivenUp);
+            }
+            Ok(Found::Answer(Solved::Model(values(alloc, propagator, max)?)))
+        }
+        Descent::Conflict(conflict) => {
             order.save(propagator.trail());
             Ok(Found::Lemma(learn(alloc, propagator, max, conflict, order, room)?))
         }

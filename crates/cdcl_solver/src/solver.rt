@@ -1,5 +1,5 @@
 // A solver that is kept between goals.
-ghost use Rattle.std.specs.Prelude.{◌≡◌, ◌≢◌, ◌↔◌, ◌<◌, ◌≤◌, ◌^◌, [], ◌∷◌, ◌++◌, IfOk, IsFalse, IsTrue, OnOk, OnErr};
+ghost use Rattle.std.specs.Prelude.{◌≡◌, ◌≢◌, ◌↔◌, ◌<◌, ◌≤◌, ◌^◌, [], ◌∷◌, ◌++◌, IfOk, IfSome, IsFalse, IsSome, IsTrue, OnOk, OnErr};
 ghost use Rattle.std.specs.List.{All, Contains};
 ghost use Rattle.clause_core.specs.Clause.{Clause as Literals, IsClauseInRange};
 ghost use Rattle.clause_core.specs.UnitPropagation.{IsRup};
@@ -7,13 +7,14 @@ ghost use Rattle.unit_prop.specs.Trail.{signed_variable as variable_of};
 ghost use Rattle.cdcl_solver.specs.Loading.{SameLive};
 ghost use Rattle.cdcl_solver.specs.Logs.{LogView, Continues};
 ghost use Rattle.cdcl_solver.specs.Shows.{HasNoneWithin, IsShownByLog, KeepsOrLearns};
-ghost use Rattle.cdcl_solver.specs.Solvers.{SolverView, IsSolverEnd, TurnsSearch, with_clause};
+ghost use Rattle.cdcl_solver.specs.Solvers.{SolverView, IsSolverEnd, IsTurn, with_clause};
 ghost use Rattle.cdcl_solver.specs.Solving.{IsAnswer};
 
 use crate::levels::Levels;
 use crate::literal::{negation, variable};
 use crate::log::Log;
 use crate::order::Order;
+use crate::room::Room;
 use crate::search::{Found, derive_each_other, explore, is_settled};
 use crate::solved::Solved;
 use clause_core::Clause;
@@ -25,6 +26,16 @@ use unit_prop::Propagator;
 // How many lemmas are learnt from one beginning to the next.
 const RESTART: u64 = 4;
 
+// How a turn of a search ends.
+#[derive(Debug, Drop)]
+enum Turn {
+    // One lemma more.
+    Learnt,
+    Ends(Solved),
+    // There is a model, or too many decisions.
+    GivenUp,
+}
+
 /// Live clauses, and the order in which their variables are decided, kept from goal to goal.
 #[derive(Drop)]
 pub struct Solver {
@@ -35,7 +46,7 @@ pub struct Solver {
     levels: Levels,
     order: Order,
     /// What each analysis of a conflict uses again.
-    room: Vec<usize>,
+    room: Room,
 }
 
 impl Model for Solver {
@@ -64,7 +75,7 @@ impl Solver {
             propagator,
             levels,
             order,
-            room: Vec::new(alloc),
+            room: Room::new(alloc),
         })
     }
 
@@ -74,6 +85,7 @@ impl Solver {
         ensures ok { OnOk result (self.new ≡ with_clause self.old clause.now) }
         ensures err { OnErr result (self.new ≡ self.old) }
     {
+        self.order.enter(clause.lits())?;
         self.levels.add_anew(&mut self.propagator, clause)
     }
 
@@ -82,6 +94,14 @@ impl Solver {
         ensures { self.new ≡ self.old }
     {
         self.order.prefer(vars);
+    }
+
+    /// Decides the variables of these literals before the others, the last one first, and tries these values first. It is
+    /// advice too.
+    pub fn suggest(&mut self, lits: &[i32])
+        ensures { self.new ≡ self.old }
+    {
+        self.order.suggest(lits);
     }
 
     /// Refutes the assumptions over the live clauses, finds a model of all of them, or logs `conflicts` lemmas.
@@ -103,16 +123,43 @@ impl Solver {
         ensures live { OnOk result (SameLive self.new.live (log.new.left ++ self.old.live)) }
         ensures answer { IfOk result (IsAnswer self.old.max self.old.live assumptions.now conflicts log.old log.new) }
     {
-        for turn in 0..conflicts {
-            if let Some(solved) = self.turn(assumptions, turn % RESTART == 0, log)? {
-                return Ok(solved);
-            }
+        match self.search(assumptions, conflicts, false, log)? {
+            Some(solved) => Ok(solved),
+            None => unreachable!(),
         }
-        Ok(self.close(assumptions))
     }
 
-    /// Shows a clause of two literals within so many lemmas, of which it is the last one; whether it follows now by
-    /// propagation. It is logged and live but where propagation derives each literal from the other's negation already.
+    // The same; or None where a few decisions between two lemmas are enough, if there is a model or more are needed.
+    fn search(
+        &mut self,
+        assumptions: &[i32],
+        conflicts: u64,
+        few: bool,
+        log: &mut Log,
+    ) -> Result<Option<Solved>, Memory>
+        requires known { (c : Literals) → Contains log.old.left c → Contains self.old.live c }
+        requires log { All (IsClauseInRange self.old.max) log.old.left }
+        requires assumptions { IsClauseInRange self.old.max assumptions.now }
+        ensures max { self.new.max ≡ self.old.max }
+        ensures log { Continues self.old.max self.old.live conflicts log.old log.new }
+        ensures in_range { All (IsClauseInRange self.old.max) log.new.left }
+        ensures live { OnOk result (SameLive self.new.live (log.new.left ++ self.old.live)) }
+        ensures answer { IfOk result (λ found. IfSome found
+            (IsAnswer self.old.max self.old.live assumptions.now conflicts log.old log.new)) }
+        ensures some { IsFalse few → IfOk result IsSome }
+    {
+        for turn in 0..conflicts {
+            match self.turn(assumptions, turn % RESTART == 0, few, log)? {
+                Turn::Learnt => {}
+                Turn::Ends(solved) => return Ok(Some(solved)),
+                Turn::GivenUp => return Ok(None),
+            }
+        }
+        Ok(Some(self.close(assumptions)))
+    }
+
+    /// Shows a clause of two literals within so many lemmas, of which it is the last one, and a few decisions before each;
+    /// whether it follows now by propagation. It is logged and live but where propagation derives each literal from the other's negation already.
     /// False of literals that aren't of two variables.
     ///
     /// What the log left has to be live here. After an `Err` the log may have lemmas more, each lawful, and nothing is
@@ -139,8 +186,8 @@ impl Solver {
             return Ok(false);
         }
         let negated = [negation(one), negation(other)];
-        match self.solve(&negated, conflicts - 1, log)? {
-            Solved::Refuted => self.keep(one, other, log)?,
+        match self.search(&negated, conflicts - 1, true, log)? {
+            Some(Solved::Refuted) => self.keep(one, other, log)?,
             _ => return Ok(false),
         }
         Ok(true)
@@ -174,16 +221,17 @@ impl Solver {
         derive_each_other(self.max, &mut self.propagator, one, other)
     }
 
-    // An answer, or one lemma more.
+    // An answer, or one lemma more; or neither, where a few decisions are enough.
     fn turn(
         &mut self,
         assumptions: &[i32],
         anew: bool,
+        few: bool,
         log: &mut Log,
-    ) -> Result<Option<Solved>, Memory>
+    ) -> Result<Turn, Memory>
         requires { IsClauseInRange self.old.max assumptions.now }
         ensures max { self.new.max ≡ self.old.max }
-        ensures turn { IfOk result (TurnsSearch self.old log.old self.new log.new assumptions.now) }
+        ensures turn { IfOk result (IsTurn self.old log.old self.new log.new assumptions.now few) }
         ensures err { OnErr result (log.new ≡ log.old) }
     {
         let found = explore(
@@ -195,13 +243,16 @@ impl Solver {
             &mut self.room,
             assumptions,
             anew,
+            few,
         )?;
         match found {
-            Found::Answer(solved) => Ok(Some(solved)),
+            Found::Answer(solved) => Ok(Turn::Ends(solved)),
+            Found::GivenUp => Ok(Turn::GivenUp),
             Found::Lemma(lemma) => {
+                self.order.enter(lemma.lits())?;
                 self.levels.add(&mut self.propagator, &lemma)?;
                 log.push(lemma)?;
-                Ok(None)
+                Ok(Turn::Learnt)
             }
         }
     }

@@ -29,15 +29,15 @@ abbrev pub check_app : App
 check_app = with_rule (with_rule (with_rule check_files
     (choice (codes "inputs"))) (choice (codes "operands"))) (flag (codes "add"))
 
--- `verify GRAPH --clauses FILE --algebra FILE [--inputs ORDER] [--budget N] [--conflicts N] [--operands KIND] [--add] [--format N]`
+-- `verify GRAPH --clauses FILE --algebra FILE [--inputs ORDER] [--budget N] [--conflicts N] [--format N] [--operands KIND] [--add]`
 abbrev pub verify_files : App
 verify_files = with_rule (with_rule (with_rule (new_app (codes "verify"))
     (word_rule (codes "graph"))) (needed (codes "clauses"))) (needed (codes "algebra"))
 
 abbrev pub verify_app : App
 verify_app = with_rule (with_rule (with_rule (with_rule (with_rule (with_rule verify_files
-    (choice (codes "inputs"))) (choice (codes "budget"))) (choice (codes "conflicts"))) (choice (codes "operands"))) (flag (codes "add")))
-    (choice (codes "format"))
+    (choice (codes "inputs"))) (choice (codes "budget"))) (choice (codes "conflicts"))) (choice (codes "format")))
+    (choice (codes "operands"))) (flag (codes "add"))
 
 -- `eval GRAPH A B [--inputs ORDER] [--addend C]`
 abbrev pub eval_app : App

@@ -43,9 +43,9 @@ const SUBCOMMANDS: [(&str, &[(Form, &str)]); 8] = [
             (Form::Choice, "inputs"),
             (Form::Choice, "budget"),
             (Form::Choice, "conflicts"),
+            (Form::Choice, "format"),
             (Form::Choice, "operands"),
             (Form::Flag, "add"),
-            (Form::Choice, "format"),
         ],
     ),
     (

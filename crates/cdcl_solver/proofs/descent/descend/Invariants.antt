@@ -9,7 +9,7 @@ invariant-loop-lit l = record {
   extends : ExtendsStanding l.initial.propagator l.propagator;
   settled : IsPropagated l.propagator;
   stage : IsStage l.propagator l.levels.base l.levels.marks.items;
-  cursor : l.cursor ≤ l.order;
+  cursor : l.cursor ≤ l.order.greatest;
 }
 
 abbrev pub decreases-loop-lit : goal.decreases-loop-lit

@@ -31,7 +31,6 @@ pub returns : goal.returns
 returns c =
     let s = c.args.propagator.now in
     let same = c.trail-trail.ensures.value in
-    let v = c.in_ok-from_elem.field-0 in
-    let all = analysis_begins s c.args.level c.loop-place.place (c.args.max + 1) v.items c.loop-place.places.items c.requires.level (omega (arith, ap length same)) (omega (arith, ap length same, c.requires.level)) (omega (arith, c.requires.max))
-    (omega (arith, c.in_ok-from_elem.ensures.len, v.ok.0)) (c.in_ok-from_elem.ensures.items_if_clones_equal (λ y h. search rules)) c.loop-place.invariant in
+    let all = analysis_begins s c.args.level c.loop-place.place (c.args.max + 1) c.in_ok-take_marks.field-0 c.loop-place.places.items c.requires.level (omega (arith, ap length same)) (omega (arith, ap length same, c.requires.level)) (omega (arith, c.requires.max))
+    c.in_ok-take_marks.ensures c.loop-place.invariant in
     record { analysis = rw (c.new.ensures.items, same) all; level = refl }

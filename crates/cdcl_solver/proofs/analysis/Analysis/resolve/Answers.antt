@@ -1,6 +1,5 @@
 use Rattle.std.proofs.Common.{◌≡◌, ◌<◌, ◌≤◌, ◌+◌, ◌-◌, ℕ, Bool, true, false, List, length, w32, SFits, None, Some, slice_index_or, sym, ap, ◌∙◌, subst, arith, rules, refl}
 use Rattle.std.proofs.lemmas.Int.{to_z-of_z}
-use Rattle.std.proofs.lemmas.List.{get_or_read}
 use Rattle.unit_prop.specs.Standing.{at, IsReasonOf}
 use Rattle.cdcl_solver.specs.Analyses.{AnalysisView, IsSeen, Refutes}
 use Rattle.cdcl_solver.proofs.AnalysisLemmas.{reason_place, live_reason, reason_told_false, refutes_unseen, refutes_resolved}
@@ -19,15 +18,15 @@ walk-init c =
       refutes = subst (Refutes c.args.propagator.now c.args.self.now) (sym same) c.requires.refutes;
     }
 
-pub index-requires : goal.index-requires
-index-requires c =
+pub has-requires : goal.has-requires
+has-requires c =
     let s = c.args.propagator.now in
     let p : ℕ = c.walk.place - 1 in
     let same = c.trail-trail.ensures.value in
     let b : p < length s.trail.literals = omega (arith, c.walk.invariant.within, c.walk.invariant.inside) in
     let fits : SFits w32 (at c.trail-trail.result.now p) = search rules in
     let var : c.variable-var.result ≡ signed_variable (at s.trail.literals p) = rw (to_z-of_z, same) at c.variable-var.ensures in
-    omega (arith, var, ((trail_of c.args.propagator.now c.requires.sound).in_range p b).1, c.walk.invariant.analysis.sizes.0, ap (λ (a : AnalysisView). length a.seen) c.self.view_is, c.self.inside.seen.ok.0)
+    omega (arith, var, ((trail_of c.args.propagator.now c.requires.sound).in_range p b).1, c.walk.invariant.analysis.sizes.0, ap (λ (a : AnalysisView). length a.seen) c.self.view_is)
 
 pub reason-requires : goal.reason-requires
 reason-requires c =
@@ -50,9 +49,8 @@ mark-requires c =
     let var : c.variable-var.result ≡ signed_variable (at s.trail.literals p) = rw (to_z-of_z, same) at c.variable-var.ensures in
     let is : IsReasonOf s.trail (signed_variable (at s.trail.literals p)) (Some c.in-Some.reason) = rw (var, c.in-Some.is) at c.reason.ensures in
     let reason = reason_place s p c.in-Some.reason c.requires.sound b is in
-    let room : c.variable-var.result < length c.self.inside.seen.items = omega (arith, var, ((trail_of c.args.propagator.now c.requires.sound).in_range p b).1, c.walk.invariant.analysis.sizes.0, ap (λ (a : AnalysisView). length a.seen) c.self.view_is) in
-    let read = get_or_read c.self.inside.seen.items c.variable-var.result _ room c.index.ensures false in
-    let seen : IsSeen c.walk.self (signed_variable (at s.trail.literals p)) = subst (λ (a : AnalysisView). IsSeen a (signed_variable (at s.trail.literals p))) c.self.view_is (subst (λ v. reason_seen c.self.inside.seen.items v) var (sym read ∙ c.if-index.true)) in
+    let room : c.variable-var.result < length c.self.inside.seen = omega (arith, var, ((trail_of c.args.propagator.now c.requires.sound).in_range p b).1, c.walk.invariant.analysis.sizes.0, ap (λ (a : AnalysisView). length a.seen) c.self.view_is) in
+    let seen : IsSeen c.walk.self (signed_variable (at s.trail.literals p)) = subst (λ (a : AnalysisView). IsSeen a (signed_variable (at s.trail.literals p))) c.self.view_is (subst (λ v. reason_seen c.self.inside.seen v) var (sym c.has.ensures ∙ c.if-has.true)) in
     record {
       sound = c.requires.sound;
       live = live_reason s p c.in-Some.reason c.requires.sound b reason;
@@ -71,13 +69,12 @@ walk-preserved c =
     let b : p < length s.trail.literals = omega (arith, c.walk.invariant.within, c.walk.invariant.inside) in
     let fits : SFits w32 (at c.trail-trail.result.now p) = search rules in
     let var : c.variable-var.result ≡ signed_variable (at s.trail.literals p) = rw (to_z-of_z, same) at c.variable-var.ensures in
-    let room : c.variable-var.result < length c.self.inside.seen.items = omega (arith, var, ((trail_of c.args.propagator.now c.requires.sound).in_range p b).1, c.walk.invariant.analysis.sizes.0, ap (λ (a : AnalysisView). length a.seen) c.self.view_is) in
-    let read = get_or_read c.self.inside.seen.items c.variable-var.result _ room c.index.ensures false in
+    let room : c.variable-var.result < length c.self.inside.seen = omega (arith, var, ((trail_of c.args.propagator.now c.requires.sound).in_range p b).1, c.walk.invariant.analysis.sizes.0, ap (λ (a : AnalysisView). length a.seen) c.self.view_is) in
     let below : c.walk.self.lowest < p = omega (arith, c.walk-test.true, ap (λ (a : AnalysisView). a.lowest) c.self.view_is) in
     let one : c.walk.place ≡ p + 1 = omega arith in
     let within : p ≤ length s.trail.literals = omega arith in
     let refutes = subst (Refutes s c.walk.self) one c.walk.invariant.refutes in
-    let not_seen : slice_index_or c.walk.self.seen (signed_variable (at s.trail.literals p)) false ≡ false = subst (λ (a : AnalysisView). slice_index_or a.seen (signed_variable (at s.trail.literals p)) false ≡ false) c.self.view_is (subst (λ v. slice_index_or c.self.inside.seen.items v false ≡ false) var (sym read ∙ c.if-index.false)) in
+    let not_seen : slice_index_or c.walk.self.seen (signed_variable (at s.trail.literals p)) false ≡ false = subst (λ (a : AnalysisView). slice_index_or a.seen (signed_variable (at s.trail.literals p)) false ≡ false) c.self.view_is (subst (λ v. slice_index_or c.self.inside.seen v false ≡ false) var (sym c.has.ensures ∙ c.if-has.false)) in
     record {
       analysis = c.walk.invariant.analysis;
       level = c.walk.invariant.level;

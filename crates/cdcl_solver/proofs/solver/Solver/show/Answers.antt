@@ -4,7 +4,7 @@ use Rattle.clause_core.specs.Clause.{IsClauseInRange}
 use Rattle.clause_core.specs.UnitPropagation.{IsRup}
 use Rattle.cdcl_solver.specs.Solvers.{SolverView}
 use Rattle.cdcl_solver.proofs.SearchLemmas.{rup_wider}
-use Rattle.cdcl_solver.proofs.ShowLemmas.{kept_follows, kept_more, negated_range, refuted_follows, two_equal}
+use Rattle.cdcl_solver.proofs.ShowLemmas.{kept_follows, kept_more, negated_range, refuted_follows, some_answer, two_equal}
 use Rattle.cdcl_solver.proofs.SolverLemmas.{known_live}
 use Rattle.cdcl_solver.proofs.solver.Solver.show.Goals as goal
 
@@ -18,8 +18,8 @@ returns-then-conflicts-eq0-clause-live c = known_live c.args.log.now.left c.args
 pub returns-then-not-are_apart-clause-live : goal.returns-then-not-are_apart-clause-live
 returns-then-not-are_apart-clause-live c = known_live c.args.log.now.left c.args.self.now.live c.requires.known
 
-pub solve-requires-clause-assumptions : goal.solve-requires-clause-assumptions
-solve-requires-clause-assumptions c =
+pub search-requires-clause-assumptions : goal.search-requires-clause-assumptions
+search-requires-clause-assumptions c =
     let one = c.ranges.one in
     let other = c.ranges.other in
     let first : SFits w32 c.negation.result = search rules in
@@ -36,22 +36,24 @@ keep-requires-clause-follows c =
     let first : SFits w32 c.negation.result = search rules in
     let second : SFits w32 c.negation-2.result = search rules in
     let both = two_equal _ _ _ _ (negated c.negation.result c.args.one first one c.negation.ensures) (negated c.negation-2.result c.args.other second other c.negation-2.ensures) in
-    let follows = refuted_follows c.args.self.now.max c.args.self.now.live _ (c.args.conflicts - 1) c.args.log.now c.solve.new.log c.in_ok-solve.field-0 c.args.one c.args.other c.in_ok-solve.ensures.answer c.in-Refuted.is both in
-    subst (IsRup c.solve.new.self.live) (sym (two_equal _ _ _ _ (to_z-of_z w32 c.args.one one) (to_z-of_z w32 c.args.other other)))
-    (rup_wider (c.solve.new.log.left ++ c.args.self.now.live) c.solve.new.self.live (c.args.one ∷ c.args.other ∷ []) c.in_ok-solve.ensures.live.back follows)
+    let answer = some_answer c.args.self.now.max c.args.self.now.live (to_z w32 (of_z w32 c.negation.result) ∷ to_z w32 (of_z w32 c.negation-2.result) ∷ []) (c.args.conflicts - 1) c.args.log.now c.search.new.log c.in_ok-search.field-0 c.in-Some-Refuted.field-0 c.in_ok-search.ensures.answer c.in-Some-Refuted.is in
+    let follows = refuted_follows c.args.self.now.max c.args.self.now.live _ (c.args.conflicts - 1) c.args.log.now c.search.new.log c.in-Some-Refuted.field-0 c.args.one c.args.other answer c.in-Some-Refuted.field-0-is both in
+    subst (IsRup c.search.new.self.live) (sym (two_equal _ _ _ _ (to_z-of_z w32 c.args.one one) (to_z-of_z w32 c.args.other other)))
+    (rup_wider (c.search.new.log.left ++ c.args.self.now.live) c.search.new.self.live (c.args.one ∷ c.args.other ∷ []) c.in_ok-search.ensures.live.back follows)
 
 pub returns : goal.returns
 returns c =
     let first : SFits w32 c.negation.result = search rules in
     let second : SFits w32 c.negation-2.result = search rules in
     let both = two_equal _ _ _ _ (negated c.negation.result c.args.one first c.ranges.one c.negation.ensures) (negated c.negation-2.result c.args.other second c.ranges.other c.negation-2.ensures) in
-    let follows = refuted_follows c.args.self.now.max c.args.self.now.live _ (c.args.conflicts - 1) c.args.log.now c.solve.new.log c.in_ok-solve.field-0 c.args.one c.args.other c.in_ok-solve.ensures.answer c.in-Refuted.is both in
-    let kept = c.in_ok-keep-in-Refuted.ensures.kept in
-    let more = kept_more c.args.self.now.max c.args.self.now.live c.args.log.now (c.args.conflicts - 1) c.args.conflicts c.solve.new.self c.keep.new.self c.solve.new.log c.keep.new.log (omega arith) c.solve.ensures.max c.in_ok-solve.ensures.live c.solve.ensures.log c.solve.ensures.in_range kept in
+    let answer = some_answer c.args.self.now.max c.args.self.now.live (to_z w32 (of_z w32 c.negation.result) ∷ to_z w32 (of_z w32 c.negation-2.result) ∷ []) (c.args.conflicts - 1) c.args.log.now c.search.new.log c.in_ok-search.field-0 c.in-Some-Refuted.field-0 c.in_ok-search.ensures.answer c.in-Some-Refuted.is in
+    let follows = refuted_follows c.args.self.now.max c.args.self.now.live _ (c.args.conflicts - 1) c.args.log.now c.search.new.log c.in-Some-Refuted.field-0 c.args.one c.args.other answer c.in-Some-Refuted.field-0-is both in
+    let kept = c.in_ok-keep-in-Some-Refuted.ensures.kept in
+    let more = kept_more c.args.self.now.max c.args.self.now.live c.args.log.now (c.args.conflicts - 1) c.args.conflicts c.search.new.self c.keep.new.self c.search.new.log c.keep.new.log (omega arith) c.search.ensures.max c.in_ok-search.ensures.live c.search.ensures.log c.search.ensures.in_range kept in
     record {
-      max = c.keep.ensures.max ∙ c.solve.ensures.max;
+      max = c.keep.ensures.max ∙ c.search.ensures.max;
       log = more.1;
       in_range = more.2;
       live = more.0;
-      shown = kept_follows c.args.self.now.live c.solve.new.self c.keep.new.self c.solve.new.log c.keep.new.log (c.args.one ∷ c.args.other ∷ []) kept follows;
+      shown = kept_follows c.args.self.now.live c.search.new.self c.keep.new.self c.search.new.log c.keep.new.log (c.args.one ∷ c.args.other ∷ []) kept follows;
     }

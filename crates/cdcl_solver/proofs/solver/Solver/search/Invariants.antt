@@ -3,7 +3,7 @@ use Rattle.std.specs.List.{All}
 use Rattle.clause_core.specs.Clause.{IsClauseInRange}
 use Rattle.cdcl_solver.specs.Loading.{SameLive}
 use Rattle.cdcl_solver.specs.Logs.{Continues, lemmas}
-use Rattle.cdcl_solver.proofs.solver.Solver.solve.Given as goal
+use Rattle.cdcl_solver.proofs.solver.Solver.search.Given as goal
 
 abbrev pub invariant-loop-turn : goal.invariant-loop-turn
 invariant-loop-turn l = record {
