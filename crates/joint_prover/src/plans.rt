@@ -55,7 +55,7 @@ const FEW: u64 = 1 << 24;
 // What it may cost where a plan is: at 64 bits, those with three ones.
 const MORE: u64 = 1 << 29;
 // What it may cost where the graph is known to be wrong, and no plan tells where: at 64 bits, those with four ones.
-const LATE: u64 = 1 << 35;
+const MOST: u64 = 1 << 35;
 
 /// What the plans decide, and the cut that was found where a plan over the graph with its adder decided it.
 pub(crate) fn decide_by_plans(
@@ -121,7 +121,7 @@ fn decide_at_last(alloc: Global, job: &Job<'_>) -> Result<Decision, Memory>
     }
     let decision = reduce_plainly(alloc, job, tried)?;
     if is_seen(&decision) {
-        if let Some(wrong) = wrong_on_few(alloc, job, LATE)? {
+        if let Some(wrong) = wrong_on_few(alloc, job, MOST)? {
             return Ok(wrong);
         }
     }
