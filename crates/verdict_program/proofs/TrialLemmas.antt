@@ -29,6 +29,7 @@ use Rattle.joint_prover.specs.Verdicts.{HasNote, IsVerdict, IsWrong, IsWrongSum}
 use Rattle.command_core.specs.Written.{ReadsGraph, WritesFile, WritesPair}
 use Rattle.joint_prover.specs.declared.note.Note.{Note}
 use Rattle.joint_prover.specs.declared.verdict.Tried.{Tried}
+use Rattle.joint_prover.specs.declared.seen.Seen.{Seen}
 use Rattle.joint_prover.specs.declared.verdict.Verdict.{Verdict}
 use Rattle.joint_prover.specs.declared.verdict.Verdict.TheVariants as verdict
 use Rattle.joint_prover.proofs.Telling.{pair_is_lawful}
@@ -123,10 +124,10 @@ module _ (sample : Sample) (some : 1 ≤ sample.bits) (narrow : sample.bits ≤ 
       absurd (true≢false (sym s.2.0.added))
 
   -- no other verdict comes
-  pub never_other : (v : Verdict) → Is v → (v ≢ verdict.Proved) → ((tried : Vec Tried Global) (step size : ℕ) → v ≢ verdict.Undecided tried step size) →
+  pub never_other : (v : Verdict) → Is v → (v ≢ verdict.Proved) → ((tried : Vec Tried Global) (step size : ℕ) (seen : Option Seen) → v ≢ verdict.Undecided tried step size seen) →
       ((why : Stop) → v ≢ verdict.Stopped why) → ⊥
   never_other verdict.Proved h p u s = p refl
-  never_other (verdict.Undecided tried step size) h p u s = u tried step size refl
+  never_other (verdict.Undecided tried step size seen) h p u s = u tried step size seen refl
   never_other (verdict.Stopped why) h p u s = s why refl
   never_other (verdict.Wrong x y value product) h p u s = never_wrong x y value product h
   never_other (verdict.WrongSum x y z value sum) h p u s = never_wrong_sum x y z value sum h

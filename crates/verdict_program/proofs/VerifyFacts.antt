@@ -40,7 +40,7 @@ module _ (files : named.Files) (claim : Claim) (budget conflicts version : ℕ) 
       apart h
   zero (verdict.Wrong x y value product) h e told names = absurd (omega arith)
   zero (verdict.WrongSum x y z value sum) h e told names = absurd (omega arith)
-  zero (verdict.Undecided tried step size) h e told names = absurd (omega arith)
+  zero (verdict.Undecided tried step size seen) h e told names = absurd (omega arith)
   zero (verdict.Stopped why) h e told names = absurd ((stop_is_apart why).zero e)
 
   one : (outcome : Verdict) → Is outcome → status_of_verify outcome ≡ 1 →
@@ -48,7 +48,7 @@ module _ (files : named.Files) (claim : Claim) (budget conflicts version : ℕ) 
   one verdict.Proved h e = absurd (omega arith)
   one (verdict.Wrong x y value product) h e = let r = h.0 in let n = note_there r.0 (λ used. ⊤) r.2.1 in (r.0, r.1, (inl (x, y, value, product, r.2.0), (n.0, n.1)))
   one (verdict.WrongSum x y z value sum) h e = let r = h.0 in let n = note_there r.0 (λ used. ⊤) r.2.1 in (r.0, r.1, (inr (x, y, z, value, sum, r.2.0), (n.0, n.1)))
-  one (verdict.Undecided tried step size) h e = absurd (omega arith)
+  one (verdict.Undecided tried step size seen) h e = absurd (omega arith)
   one (verdict.Stopped why) h e = absurd ((stop_is_apart why).one e)
 
   five : (outcome : Verdict) → Is outcome → status_of_verify outcome ≡ 5 →
@@ -56,28 +56,28 @@ module _ (files : named.Files) (claim : Claim) (budget conflicts version : ℕ) 
   five verdict.Proved h e = absurd (omega arith)
   five (verdict.Wrong x y value product) h e = absurd (omega arith)
   five (verdict.WrongSum x y z value sum) h e = absurd (omega arith)
-  five (verdict.Undecided tried step size) h e = let r = h.0 in let n = note_there r.0 (λ used. AreTried r.0 claim budget used tried.items) r.2.1 in (r.0, r.1, (step, size, r.2.0, (n.0, n.1, tried.items, n.2), r.2.2))
+  five (verdict.Undecided tried step size seen) h e = let r = h.0 in let n = note_there r.0 (λ used. AreTried r.0 claim budget used tried.items) r.2.1 in (r.0, r.1, (step, size, r.2.0, (n.0, n.1, tried.items, n.2), r.2.2))
   five (verdict.Stopped why) h e = absurd ((stop_is_apart why).five e)
 
   six : (outcome : Verdict) → Is outcome → status_of_verify outcome ≡ 6 → Rose a.read_faults b.read_faults
   six verdict.Proved h e = absurd (omega arith)
   six (verdict.Wrong x y value product) h e = absurd (omega arith)
   six (verdict.WrongSum x y z value sum) h e = absurd (omega arith)
-  six (verdict.Undecided tried step size) h e = absurd (omega arith)
+  six (verdict.Undecided tried step size seen) h e = absurd (omega arith)
   six (verdict.Stopped why) h e = (subst (λ x. Is (verdict.Stopped x)) (is_read_fault why e) h).0
 
   seven : (outcome : Verdict) → Is outcome → status_of_verify outcome ≡ 7 → Rose a.write_faults b.write_faults
   seven verdict.Proved h e = absurd (omega arith)
   seven (verdict.Wrong x y value product) h e = absurd (omega arith)
   seven (verdict.WrongSum x y z value sum) h e = absurd (omega arith)
-  seven (verdict.Undecided tried step size) h e = absurd (omega arith)
+  seven (verdict.Undecided tried step size seen) h e = absurd (omega arith)
   seven (verdict.Stopped why) h e = (subst (λ x. Is (verdict.Stopped x)) (is_write_fault why e) h).0
 
   two : (outcome : Verdict) → status_of_verify outcome ≡ 2 → ⊥
   two verdict.Proved e = absurd (omega arith)
   two (verdict.Wrong x y value product) e = absurd (omega arith)
   two (verdict.WrongSum x y z value sum) e = absurd (omega arith)
-  two (verdict.Undecided tried step size) e = absurd (omega arith)
+  two (verdict.Undecided tried step size seen) e = absurd (omega arith)
   two (verdict.Stopped why) e = (stop_is_apart why).two e
 
   pub verify_facts : (outcome : Verdict) → Is outcome → Facts (Verify files claim budget conflicts version) a b (answer.Verified outcome noted)
