@@ -22,7 +22,7 @@ use Rattle.clause_core.proofs.Sets.{rup_same}
 use Rattle.cdcl_solver.specs.Logs.{Continues, LogView, lemmas, with_added}
 use Rattle.cdcl_solver.specs.Solving.{assignment_of}
 use Rattle.cdcl_solver.specs.declared.solved.Solved.{Solved}
-use Rattle.goal_refuter.specs.Refuting.{IsCounterexample, IsDiffering, IsGoalSpent, IsRefutation, IsShownNext, IsSoFar}
+use Rattle.goal_refuter.specs.Refuting.{AreOver, IsCounterexample, IsDiffering, IsGoalSpent, IsRefutation, IsShownNext, IsSoFar}
 use Rattle.goal_refuter.specs.Refutations.{AreRefuted, IsRefutationLog, IsSpent, unmet_goals}
 use Rattle.goal_refuter.proofs.GoalClauses.{agreeing_hold}
 use Rattle.goal_refuter.proofs.Lists.{same_at, same_long, sames_flip, take_none}
@@ -142,6 +142,23 @@ module _ (e : Extended) (conflicts : ℕ) (clauses goals : List Clause) (same : 
         let true' : holds σ goal ≡ true = agreeing_hold e σ agree goal (Contains-get_or unmet i [] inside) in
         true≢false (sym (subset_holds goal here σ is_goal.1 true') ∙ n.fails);
   }
+
+-- a model at which the goal at a place fails
+pub differing_at : (e : Extended) (max : ℕ) (clauses goals : List Clause) (i : ℕ) (values : List Bool) → AreOver e max clauses goals → ((σ : Assignment) → Satisfies σ clauses → IsEvaluation e.gates σ) → i < length goals →
+    IsCounterexample max clauses (slice_index_or goals i []) values → IsDiffering e values
+differing_at e max clauses goals i values over mean below n = record {
+  all = n.all ∙ sym over.max_is;
+  evaluation = mean (assignment_of values) n.satisfies;
+  differ = λ agree.
+      let σ : Assignment = assignment_of values in
+      let unmet = unmet_goals e in
+      let here = slice_index_or goals i [] in
+      let long = same_long goals unmet over.goals_are in
+      let inside : i < length unmet = omega arith in
+      let same : SameSet here (slice_index_or unmet i []) = same_at goals unmet i [] [] over.goals_are below in
+      let true' : holds σ (slice_index_or unmet i []) ≡ true = agreeing_hold e σ agree (slice_index_or unmet i []) (Contains-get_or unmet i [] inside) in
+      true≢false (sym (subset_holds (slice_index_or unmet i []) here σ same.1 true') ∙ n.fails);
+}
 
 -- the goals so far are among the added clauses, and there are few lemmas beside them
 pub goals_so_far : (e : Extended) (conflicts i : ℕ) (log : LogView) → IsSoFar e conflicts i log → i ≤ lemmas log

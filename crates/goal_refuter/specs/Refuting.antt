@@ -74,6 +74,10 @@ pub record AreOver (e : Extended) (max : ℕ) (clauses goals : List Clause) : Ty
   pub clauses_are : AreSameSets clauses (gate_clauses e.gates)
   pub goals_are : AreSameSets goals (unmet_goals e)
 
+-- Whichever gates and columns they are of, on these values an old and a new output differ.
+abbrev pub IsDifferingOver : ℕ → List Clause → List Clause → List Bool → Type 0
+IsDifferingOver max clauses goals values = (e : Extended) → AreOver e max clauses goals → IsDiffering e values
+
 -- Whichever gates and columns they are of, this comes of all goals.
 abbrev pub IsOutcomeOver : ℕ → List Clause → List Clause → ℕ → Outcome → Type 0
 IsOutcomeOver max clauses goals conflicts outcome = (e : Extended) → AreOver e max clauses goals → IsGoalsOutcome e conflicts outcome

@@ -1,22 +1,23 @@
 // All goals of a graph with an adder, one after the other.
-ghost use Rattle.std.specs.Prelude.{◌≡◌, [], IfOk, IsTrue};
+ghost use Rattle.std.specs.Prelude.{◌≡◌, [], IfOk, IfSome, IsTrue};
 ghost use Rattle.ripple_graft.specs.Blocks.{IsCut, with_cut};
-ghost use Rattle.goal_refuter.specs.Refuting.{IsGoalsOutcome};
+ghost use Rattle.goal_refuter.specs.Refuting.{IsDiffering, IsGoalsOutcome};
 ghost use Rattle.goal_refuter.specs.Refutations.{IsSpent};
 
 use crate::goals::unmet_goals;
 use crate::near::refute_near;
 use crate::resting::stays_open;
+use crate::seen::failing_goal;
 use cdcl_solver::Log;
-use goal_refuter::{Outcome, refute_goals};
+use goal_refuter::{Outcome, differ_at, refute_goals};
 use graph_core::Memory;
 use miter_encoder::gate_clauses;
 use ripple_graft::{Cut, Extended};
 use std::alloc::Global;
 
 /// Refutes the negation of each goal that isn't met, within so many conflicts: over the clauses near the adder, so deep
-/// below its pairs, and where that doesn't come off, over all. Where no conflict is allowed, the first goal is looked at
-/// without a clause being made.
+/// below its pairs, and where that doesn't come off, over all. First the goals are held against a few inputs, so that a
+/// wrong adder costs no conflict. Where no conflict is allowed, the first goal is looked at without a clause being made.
 pub(crate) fn refute_all(
     alloc: Global,
     extended: &Extended<'_>,
@@ -32,10 +33,35 @@ pub(crate) fn refute_all(
         if is_spent_at_once(alloc, extended, cut)? {
             return Ok(Outcome::Spent(0, Log::new(alloc)));
         }
-    } else if let Some(log) = refute_near(alloc, extended, cut, depth, conflicts)? {
-        return Ok(Outcome::Refuted(log));
+    } else {
+        if let Some(values) = seen_difference(alloc, extended, cut)? {
+            return Ok(Outcome::Model(values));
+        }
+        if let Some(log) = refute_near(alloc, extended, cut, depth, conflicts)? {
+            return Ok(Outcome::Refuted(log));
+        }
     }
     refute_over_all(alloc, extended, cut, conflicts)
+}
+
+// An evaluation at which some goal fails, if one of a few inputs is such.
+fn seen_difference(
+    alloc: Global,
+    extended: &Extended<'_>,
+    cut: &Cut,
+) -> Result<Option<Vec<bool>>, Memory>
+    requires cut { IsCut extended.now.graph cut.now }
+    requires graph { extended.now ≡ with_cut extended.now.graph cut.now }
+    ensures { IfOk result (λ found. IfSome found (λ values. IsDiffering extended.now values.items)) }
+{
+    let max = extended.max();
+    let _gates = extended.gates();
+    let goals = unmet_goals(alloc, extended, cut)?;
+    let Some((place, inputs)) = failing_goal(alloc, extended, &goals)? else {
+        return Ok(None);
+    };
+    let clauses = gate_clauses(alloc, extended)?;
+    differ_at(alloc, max, &clauses, &goals, place, &inputs)
 }
 
 // Whether it is seen without a solver that the first goal doesn't follow by propagation.
