@@ -48,14 +48,14 @@ const FOUND: [Try; 6] = [
 ];
 
 // What comes before the whole budget, over the same graph as what comes first.
-const LATE: [Try; 1] = [(Lines::Drafted, Order::SumsLast, 16)];
+const DRAFTED: [Try; 1] = [(Lines::Drafted, Order::SumsLast, 16)];
 
 // What it may cost to try values of the inputs before a plan is known to be hard: at 64 bits, those with two ones.
 const FEW: u64 = 1 << 24;
 // What it may cost where a plan is: at 64 bits, those with three ones.
 const MORE: u64 = 1 << 29;
 // What it may cost where the graph is known to be wrong, and no plan tells where: at 64 bits, those with four ones.
-const MOST: u64 = 1 << 35;
+const LATE: u64 = 1 << 35;
 
 /// What the plans decide, and the cut that was found where a plan over the graph with its adder decided it.
 pub(crate) fn decide_by_plans(
@@ -104,7 +104,7 @@ fn decide_at_last(alloc: Global, job: &Job<'_>) -> Result<Decision, Memory>
     requires { IsJob job.now }
     ensures { IfOk result (IsDecision job.now.graph.now job.now.task (cut_named job.now.used)) }
 {
-    if let Some(decision) = decide_over(alloc, job, job.used, &LATE)? {
+    if let Some(decision) = decide_over(alloc, job, job.used, &DRAFTED)? {
         return Ok(decision);
     }
     if let Some(decision) = wrong_on_few(alloc, job, MORE)? {
@@ -121,7 +121,7 @@ fn decide_at_last(alloc: Global, job: &Job<'_>) -> Result<Decision, Memory>
     }
     let decision = reduce_plainly(alloc, job, tried)?;
     if is_seen(&decision) {
-        if let Some(wrong) = wrong_on_few(alloc, job, MOST)? {
+        if let Some(wrong) = wrong_on_few(alloc, job, LATE)? {
             return Ok(wrong);
         }
     }
