@@ -3,7 +3,7 @@ use graph_core::{Gate, Lit, Memory};
 use ripple_graft::Extended;
 use std::alloc::Global;
 
-// No more literals are kept of a variable.
+// Of a variable no more literals are looked at for what follows from them.
 const REACH: usize = 64;
 
 /// By which rule a literal follows at a gate.
@@ -170,7 +170,7 @@ impl<'a> Facts<'a> {
         rule: Rule,
     ) -> Result<(), Memory> {
         let place = found.len();
-        if place >= REACH || self.value(lit).is_some() {
+        if self.value(lit).is_some() {
             return Ok(());
         }
         if let Some(value) = self.values.get_mut(lit.var() as usize) {
