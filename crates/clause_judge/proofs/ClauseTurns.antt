@@ -24,14 +24,15 @@ use Rattle.mv_desk.specs.View.{View}
 use Rattle.mv_desk.specs.declared.slot.Slot.TheVariants as slot
 use Rattle.clause_judge.specs.declared.fail.ClauseFail.{ClauseFail}
 use Rattle.clause_judge.specs.declared.fail.ClauseFail.TheVariants as fail
-use Rattle.clause_judge.specs.ClauseBody.{AreClausesJudged, BeginsBody, BeginsSomewhere, HasJudgedClauses, HasPassed, IsAtHand, IsClauseReached, IsFailFrom, IsRestFail, IsSameTask, IsShownFrom, IsShownWith, JoinsFrom, KeepsClauseTask}
+use Rattle.clause_judge.specs.ClauseBody.{AreClausesJudged, BeginsBody, BeginsSomewhere, HasJudgedClauses, HasPassed, IsAtHand, IsClauseReached, IsFailFrom, IsRestFail, IsSameTask, IsShownFrom, IsShownWith, JoinsFrom, KeepsClauseTask, ShowsFrom}
 use Rattle.clause_judge.specs.ClauseLines.{IsGoalFail, IsRuleFail, IsTextFail, NextLine, ReadsNext, TakesClauseLine}
+use Rattle.clause_judge.specs.Taking.{IsShownOver}
 use Rattle.clause_judge.specs.declared.judging.JudgeClauses.{JudgeClauses}
 use Rattle.clause_judge.proofs.CheckerBegins.{none_kept, range_of}
 use Rattle.clause_judge.proofs.CheckerBegins.{begins as checker_begins}
 use Rattle.clause_judge.proofs.ClauseReached as reached
 use Rattle.clause_judge.proofs.ClauseReached.{begins}
-use Rattle.clause_judge.proofs.Joins.{goals_join_columns, lines_join_columns}
+use Rattle.clause_judge.proofs.Joins.{goals_join_columns, goals_show, lines_join_columns, taken_show}
 use Rattle.clause_judge.proofs.Told.{told_more}
 
 -- a line that is taken leaves the task
@@ -101,6 +102,9 @@ module _ (e : Extended) (start : FileState) (body : Option (List ℕ)) where
 
     pub nothing_joined : Always e.gates (AgreeOnColumns e)
     nothing_joined = lines_join_columns e [] (gate_clauses e.gates) refl nothing_shown
+
+    pub nothing_over : (keeps : Keeps) → IsShownOver e keeps []
+    nothing_over keeps = record { lines = []; lawful = taken_show e [] (gate_clauses e.gates) refl nothing_shown; same = none_kept keeps }
 
     pub nothing_passed : (keeps : Keeps) (file : FileState) (left : Option (List ℕ)) → ReadsNext e.max start file body left None → IfSome body (IsShownWith e start.lines keeps [] 0)
     nothing_passed keeps file left read = told_more body (HasPassed e start.lines []) (IsShownWith e start.lines keeps [] 0) (λ bytes passed. ([], passed, nothing_shown, none_kept keeps, refl))
@@ -194,6 +198,11 @@ module _ {start it : JudgeClauses} {first before : View} {count : ℕ} (judged :
         (subst (λ (n : ℕ). IfSome body (IsShownWith e file.lines it.checker.now.keeps it.checker.now.added n)) r.turns
         (reached.goals_shown e file body r.xs r.live r.before r.ahead r.stands it.checker.now r.taken (same_goals e b.goals) r.read none))
 
+    pub all_over : IsLeastUnshown it.checker.now.goals it.checker.now.shown None → ShowsFrom start.checker.now it.checker.now.added start.next.now start.file.now (left_of_file slot.Clauses start.file.now first)
+    all_over none e file body b =
+        let r = at None is e file body b in
+        subst (λ (v : Keeps). IsShownOver e v it.checker.now.added) judged.same.task.keeps (goals_show e r.xs r.live it.checker.now r.taken (same_goals e b.goals) none)
+
     pub all_joined : IsLeastUnshown it.checker.now.goals it.checker.now.shown None → JoinsFrom start.checker.now start.next.now start.file.now (left_of_file slot.Clauses start.file.now first)
     all_joined none e file body b = let r = at None is e file body b in goals_join_columns e r.xs r.live it.checker.now r.taken (same_goals e b.goals) none
 
@@ -210,4 +219,4 @@ module _ {start it : JudgeClauses} {first before : View} {count : ℕ} (judged :
 
 pub have_failed : {start last : JudgeClauses} {first now : View} {answer : ClauseFail} → IsSameTask start last → IsFailFrom start.checker.now start.next.now start.file.now (left_of_file slot.Clauses start.file.now first) first now answer →
     AreClausesJudged start first (Err answer) last now
-have_failed same refused = record { same = same; lawful = tt; columns = tt; refused = refused }
+have_failed same refused = record { same = same; lawful = tt; shown = tt; columns = tt; refused = refused }

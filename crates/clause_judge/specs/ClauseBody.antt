@@ -23,7 +23,7 @@ use Rattle.clause_judge.specs.declared.fail.ClauseFail.{ClauseFail}
 use Rattle.clause_judge.specs.declared.fail.ClauseFail.TheVariants as fail
 use Rattle.clause_judge.specs.ClauseLines.{ReadsNext}
 use Rattle.clause_judge.specs.LineRefusals.{IsClauseStep, IsRefusedLines, line_cause}
-use Rattle.clause_judge.specs.Taking.{HasTaken}
+use Rattle.clause_judge.specs.Taking.{HasTaken, IsShownOver}
 use Rattle.clause_judge.specs.declared.judging.JudgeClauses.{JudgeClauses}
 
 -- the file ends there
@@ -77,6 +77,12 @@ abbrev pub IsShownFrom : Checking → List Clause → ℕ → Option ClauseLine 
 IsShownFrom k clauses count first file left =
     (e : Extended) (start : FileState) (body : Option (List ℕ)) → BeginsBody e k start file body left first →
     IfSome body (IsShownWith e start.lines k.keeps clauses count)
+
+-- Wherever it begins, and whether or not the file is told, lawful lines show each goal, and these clauses are those that they add, as far
+-- as they are kept.
+abbrev pub ShowsFrom : Checking → List Clause → Option ClauseLine → FileState → Option (List ℕ) → Type 0
+ShowsFrom k clauses first file left =
+    (e : Extended) (start : FileState) (body : Option (List ℕ)) → BeginsBody e k start file body left first → IsShownOver e k.keeps clauses
 
 -- Wherever it begins, the old and the new output of each replaced column are equal on every evaluation.
 abbrev pub JoinsFrom : Checking → Option ClauseLine → FileState → Option (List ℕ) → Type 0
@@ -158,5 +164,6 @@ pub record AreClausesJudged (start : JudgeClauses) (first : View) (answer : Resu
   pub same : IsSameTask start it
   pub lawful : IfOk answer (λ count.
       IsShownFrom start.checker.now it.checker.now.added count start.next.now start.file.now (left_of_file slot.Clauses start.file.now first))
+  pub shown : OnOk answer (ShowsFrom start.checker.now it.checker.now.added start.next.now start.file.now (left_of_file slot.Clauses start.file.now first))
   pub columns : OnOk answer (JoinsFrom start.checker.now start.next.now start.file.now (left_of_file slot.Clauses start.file.now first))
   pub refused : IfErr answer (IsFailFrom start.checker.now start.next.now start.file.now (left_of_file slot.Clauses start.file.now first) first now)

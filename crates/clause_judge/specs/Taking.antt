@@ -4,11 +4,12 @@ use Rattle.std.specs.declared.option.Option.TheVariants.{None}
 use Rattle.graph_core.specs.Graph.Extended.{AgreeOnColumns, Extended}
 use Rattle.mv_fact.specs.Always.{Always}
 use Rattle.clause_core.specs.Clause.{Clause}
-use Rattle.clause_core.specs.ClauseLines.{ClauseLine}
+use Rattle.clause_core.specs.ClauseLines.{AreLawfulClauseLines, ClauseLine, added}
 use Rattle.clause_core.specs.GateClauses.{gate_clauses}
-use Rattle.clause_core.specs.Likeness.{HaveSameCopies}
-use Rattle.drup_checker.specs.Checking.{Checking, IsLeastUnshown}
+use Rattle.clause_core.specs.Likeness.{AreSameSets, HaveSameCopies}
+use Rattle.drup_checker.specs.Checking.{Checking, IsLeastUnshown, kept}
 use Rattle.drup_checker.specs.Steps.{HasAdded, HasShown}
+use Rattle.drup_checker.specs.declared.keeps.Keeps.{Keeps}
 use Rattle.miter_encoder.specs.ColumnGoals.{AreGoalsOf}
 use Rattle.clause_judge.specs.LineRefusals.{IsClauseStep}
 
@@ -24,6 +25,12 @@ pub record HasTaken (e : Extended) (lines : List ClauseLine) (live : List Clause
   pub alike : HaveSameCopies k.live live
   pub shown : HasShown k lines
   pub added : HasAdded k lines
+
+-- Lawful lines show each goal of the extended graph, and these clauses are those that they add, where so much of them is kept, as sets.
+pub record IsShownOver (e : Extended) (keeps : Keeps) (clauses : List Clause) : Type 0 where
+  pub lines : List ClauseLine
+  pub lawful : AreLawfulClauseLines e lines
+  pub same : AreSameSets clauses (kept keeps (added lines))
 
 -- Where a checker has taken lines and no goal is unshown, the old and the new output of each replaced column are equal on every
 -- evaluation.

@@ -3,7 +3,7 @@ ghost use Rattle.std.specs.Prelude.{◌≡◌, ◌<◌, ◌^◌, true, None, IfE
 ghost use Rattle.mv_desk.specs.Calls.{ReadsOnly};
 ghost use Rattle.mv_desk.specs.View.{KeepsTelling};
 ghost use Rattle.mv_desk.specs.declared.slot.Slot.TheVariants as slot;
-ghost use Rattle.clause_judge.specs.ClauseBody.{BeginsSomewhere, IsFailFrom, IsShownFrom, JoinsFrom};
+ghost use Rattle.clause_judge.specs.ClauseBody.{BeginsSomewhere, IsFailFrom, IsShownFrom, JoinsFrom, ShowsFrom};
 ghost use Rattle.mv_text.specs.CertificateFiles.{left_of_file};
 
 use crate::clause_checker::{judge_goals, take_line};
@@ -29,6 +29,8 @@ pub fn judge_from<D: Desk>(
     requires greatest { checker.old.max ≡ max }
     requires begins { BeginsSomewhere checker.old first file.old (left_of_file slot.Clauses file.old (D.seen desk.old)) }
     ensures lawful { IfOk result (λ count. IsShownFrom checker.old checker.new.added count first file.old
+        (left_of_file slot.Clauses file.old (D.seen desk.old))) }
+    ensures shown { OnOk result (ShowsFrom checker.old checker.new.added first file.old
         (left_of_file slot.Clauses file.old (D.seen desk.old))) }
     ensures gates { checker.new.gates ≡ checker.old.gates }
     ensures keeps { checker.new.keeps ≡ checker.old.keeps }

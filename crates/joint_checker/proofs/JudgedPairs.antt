@@ -9,6 +9,8 @@ use Rattle.graph_core.specs.Graph.{Aig, IsBuilt}
 use Rattle.graph_core.specs.Graph.Operands.{Does, profile_of, sides_for}
 use Rattle.graph_core.specs.declared.claim.Claim.{Claim}
 use Rattle.clause_core.specs.GateClauses.{gate_clauses}
+use Rattle.clause_judge.specs.Taking.{IsShownOver}
+use Rattle.drup_checker.specs.declared.keeps.Keeps.TheVariants as keep
 use Rattle.drup_checker.specs.declared.record.Record.{Record}
 use Rattle.drup_text.specs.Headers.{extended_with}
 use Rattle.drup_text.specs.declared.head.Header.{Header}
@@ -35,16 +37,17 @@ abbrev of_parts : Aig → Header → Record → ℕ → Closed → Judged
 of_parts graph header recorded count closed = record { graph = graph; header = header; recorded = recorded; of_clauses = count; closed = closed }
 
 module _ (claim : Claim) (graph : Aig) (shown : Shown) (of : IsShownOf graph shown) where
-  pub is_judged : IsSizedAs (profile_of claim.add) graph → IsBuilt graph → Does claim graph → HaveTightChains (gate_clauses shown.extended.gates) [] shown.recorded.added shown.recorded.uses.items → AreEarlier shown.recorded.uses.items →
+  pub is_judged : IsSizedAs (profile_of claim.add) graph → IsBuilt graph → Does claim graph → IsShownOver shown.extended keep.Chains shown.recorded.added → HaveTightChains (gate_clauses shown.extended.gates) [] shown.recorded.added shown.recorded.uses.items → AreEarlier shown.recorded.uses.items →
       (closed : Closed) → IsLawfulRecord (premises_of shown) (sides_for claim shown.extended.graph) closed → (header : Header) (recorded : Record) → header ≡ shown.header → recorded ≡ shown.recorded → (count : ℕ) →
       IsJudgedPair claim (of_parts graph header recorded count closed)
-  is_judged sized built does chains earlier_uses closed lawful header recorded same_header same_recorded count =
+  is_judged sized built does over chains earlier_uses closed lawful header recorded same_header same_recorded count =
       subst (λ (h : Header). IsJudgedPair claim (of_parts graph h recorded count closed)) (sym same_header)
       (subst (λ (r : Record). IsJudgedPair claim (of_parts graph shown.header r count closed)) (sym same_recorded) (record {
         sized = sized;
         built = built;
         does = does;
         takes = of.takes;
+        shown = subst (λ (e : Extended). IsShownOver e keep.Chains shown.recorded.added) of.extended over;
         clauses = record {
           chains = subst (λ (e : Extended). HaveTightChains (gate_clauses e.gates) [] shown.recorded.added shown.recorded.uses.items) of.extended chains;
           earlier = earlier_uses;

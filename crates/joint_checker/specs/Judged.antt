@@ -10,6 +10,8 @@ use Rattle.graph_core.specs.Graph.{IsBuilt}
 use Rattle.graph_core.specs.Graph.Operands.{Does, Sides, profile_of, sides_for}
 use Rattle.graph_core.specs.declared.claim.Claim.{Claim}
 use Rattle.clause_core.specs.GateClauses.{gate_clauses}
+use Rattle.clause_judge.specs.Taking.{IsShownOver}
+use Rattle.drup_checker.specs.declared.keeps.Keeps.TheVariants as keep
 use Rattle.drup_text.specs.Headers.{IsHeaderOf, extended_with}
 use Rattle.mv_desk.specs.declared.limits.Limits.{Limits}
 use Rattle.mv_text.specs.LineReading.{lengths_of}
@@ -53,6 +55,7 @@ pub record IsJudgedPair (claim : Claim) (j : Judged) : Type 0 where
   pub built : IsBuilt j.graph
   pub does : Does claim j.graph
   pub takes : IsHeaderOf j.graph j.header
+  pub shown : IsShownOver (extended_of j) keep.Chains j.recorded.added
   pub clauses : HasChains j
   pub lines : IsLawfulRecord (premises_for j) (sides_for claim j.graph) j.closed
 

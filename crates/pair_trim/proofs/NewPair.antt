@@ -10,7 +10,7 @@ use Rattle.algebra_core.specs.Text.{IsId, IsLawfulAlgebraFile}
 use Rattle.graph_core.specs.Graph.{Aig}
 use Rattle.graph_core.specs.Graph.Extended.{Extended}
 use Rattle.graph_core.specs.Graph.Operands.{sides_for}
-use Rattle.graph_core.specs.Text.JudgedLines.{IsWithin, Lengths}
+use Rattle.graph_core.specs.Text.JudgedLines.{IsWithin}
 use Rattle.graph_core.specs.declared.claim.Claim.{Claim}
 use Rattle.clause_core.specs.Clause.{Clause, IsClauseInRange}
 use Rattle.clause_core.specs.ClauseLines.{ClauseLine, added, clause_in}
@@ -37,7 +37,7 @@ use Rattle.poly_text.specs.Recorded.{HasNewId, id_in, lines_in}
 use Rattle.poly_text.specs.WrittenLines.{IsWritable}
 use Rattle.poly_text.specs.declared.line.PacLine.{PacLine}
 use Rattle.pair_core.specs.Certificates.{IsLawfulPair, IsPair}
-use Rattle.pair_core.specs.ClauseFiles.{AddsClauses, importable, premises}
+use Rattle.pair_core.specs.ClauseFiles.{importable, premises}
 use Rattle.joint_checker.specs.Judged.{IsJudgedPair, extended_of, premises_for}
 use Rattle.joint_checker.specs.declared.checking.Judged.{Judged}
 use Rattle.joint_checker.proofs.CallerLemmas.{blocks_fit, extended_graph, outputs_of}
@@ -171,31 +171,31 @@ module _ (claim : Claim) (j : Judged) (t : Trimmed) (judged : IsJudgedPair claim
       (written_certificates_are_lawful new_premises (sides_for claim j.graph) terms new j.closed.id outputs (let low = small in omega arith) judged.lines.modulus_is
       (version_or_none j.graph j.header (added t.pair.clauses.items) judged.takes) readable judged.lines.closing lawful).file
 
-  -- ---- the pair, where the clause file is told
+  -- ---- the pair
 
-  module _ (lengths : Lengths) (bytes : List ℕ) (told : AddsClauses lengths j.graph bytes j.header j.recorded.added j.of_clauses) where
-    in_range : All (λ x. IsClauseInRange e.max (clause_in x)) t.pair.clauses.items
-    in_range =
-        let all = all_added (IsClauseInRange e.max) told.lines told.lawful.in_range in
-        let kept = all_chosen (IsClauseInRange e.max) trimmed.marks j.recorded.added (same_in_range e.max j.recorded.added (added told.lines) told.same all) in
-        subst (λ (ls : List ClauseLine). All (λ x. IsClauseInRange e.max (clause_in x)) ls) (sym trimmed.only_added)
-        (all_lines (IsClauseInRange e.max) (added t.pair.clauses.items) (subst (All (IsClauseInRange e.max)) (sym trimmed.some) kept))
+  in_range : All (λ x. IsClauseInRange e.max (clause_in x)) t.pair.clauses.items
+  in_range =
+      let shown = judged.shown in
+      let all = all_added (IsClauseInRange e.max) shown.lines shown.lawful.in_range in
+      let kept = all_chosen (IsClauseInRange e.max) trimmed.marks j.recorded.added (same_in_range e.max j.recorded.added (added shown.lines) shown.same all) in
+      subst (λ (ls : List ClauseLine). All (λ x. IsClauseInRange e.max (clause_in x)) ls) (sym trimmed.only_added)
+      (all_lines (IsClauseInRange e.max) (added t.pair.clauses.items) (subst (All (IsClauseInRange e.max)) (sym trimmed.some) kept))
 
-    pub pair : IsPair j.graph claim (clauses_text t.pair) (algebra_text t.pair)
-    pair = λ limits clauses_within algebra_within. subst (λ (h : Header). IsLawfulPair limits j.graph claim (any_file_text h t.pair.clauses.items) (algebra_text t.pair)) (sym chosen.header) (record {
-      premises = new_premises;
-      gives = record {
-        header = j.header;
-        lines = t.pair.clauses.items;
-        lawful = record {
-          text = written_files_are_read j.graph j.header t.pair.clauses.items judged.built judged.takes (lines_are_writable e.max t.pair.clauses.items small in_range);
-          takes = judged.takes;
-          in_range = in_range;
-          lawful = trimmed.lawful;
-          within = subst (λ (h : Header). IsWithin limits (any_file_text h t.pair.clauses.items)) chosen.header clauses_within;
-        };
-        shown = goals_shown e chosen.goals j.recorded.added told.lines t.pair.clauses.items chosen.goals_are told.same trimmed.shown told.shown;
-        same = same_self new_premises;
+  pub pair : IsPair j.graph claim (clauses_text t.pair) (algebra_text t.pair)
+  pair = λ limits clauses_within algebra_within. subst (λ (h : Header). IsLawfulPair limits j.graph claim (any_file_text h t.pair.clauses.items) (algebra_text t.pair)) (sym chosen.header) (record {
+    premises = new_premises;
+    gives = record {
+      header = j.header;
+      lines = t.pair.clauses.items;
+      lawful = record {
+        text = written_files_are_read j.graph j.header t.pair.clauses.items judged.built judged.takes (lines_are_writable e.max t.pair.clauses.items small in_range);
+        takes = judged.takes;
+        in_range = in_range;
+        lawful = trimmed.lawful;
+        within = subst (λ (h : Header). IsWithin limits (any_file_text h t.pair.clauses.items)) chosen.header clauses_within;
       };
-      lawful = (algebra_file, algebra_within);
-    })
+      shown = goals_shown e chosen.goals j.recorded.added judged.shown.lines t.pair.clauses.items chosen.goals_are judged.shown.same trimmed.shown judged.shown.lawful.goals;
+      same = same_self new_premises;
+    };
+    lawful = (algebra_file, algebra_within);
+  })

@@ -45,7 +45,7 @@ module _ (limits : Limits) (claim : Claim) (j : Judged) (t : Trimmed) (judged : 
     lines_kept = lines_trimmed claim j t judged chosen;
     to_clauses_is = refl;
     to_algebra_is = refl;
-    pair = pair claim j t judged chosen (lengths_of limits) clauses adds;
+    pair = pair claim j t judged chosen;
   }
     where
       record_is : IsRecordOf true t.pair.header.version (modulus (extended_with j.graph t.pair.header)) algebra (lines_in t.pair.terms j.closed.record.lines.items) t.pair.closing t.of_algebra
@@ -65,7 +65,7 @@ module _ (limits : Limits) (claim : Claim) (j : Judged) (t : Trimmed) (judged : 
   has_chosen texts told = (
     j.graph,
     told.graph,
-    (judged.does, both_told texts.clauses texts.algebra _ _ (λ clauses algebra. IsTrimOf (lengths_of limits) j.graph claim clauses algebra t (clauses_text t.pair) (algebra_text t.pair)) trim_is told.clauses told.algebra),
+    (judged.does, pair claim j t judged chosen, both_told texts.clauses texts.algebra _ _ (λ clauses algebra. IsTrimOf (lengths_of limits) j.graph claim clauses algebra t (clauses_text t.pair) (algebra_text t.pair)) trim_is told.clauses told.algebra),
   )
 
 -- ---- a pair that isn't accepted

@@ -13,6 +13,7 @@ use Rattle.joint_checker.specs.declared.checking.Judged.{Judged}
 use Rattle.pair_trim.specs.Lines.{AreLinesKept, all_renumbered, imports_in}
 use Rattle.pair_trim.specs.Marking.{IsKeptOf}
 use Rattle.pair_trim.specs.declared.answer.Trimmed.{Trimmed}
+use Rattle.pair_core.specs.Certificates.{IsPair}
 use Rattle.pair_core.specs.Texts.{algebra_text, clauses_text}
 use Rattle.pair_trim.specs.NewPairs.{IsTrimOf}
 
@@ -31,8 +32,9 @@ pub record IsChosen (j : Judged) (t : Trimmed) : Type 0 where
   pub clauses_kept : IsKeptOf goals (imports_in kept) j.recorded.added j.recorded.uses.items t.pair.clauses.items t.uses.items ranks
   pub renumbered : t.pair.algebra.items ≡ all_renumbered (slice_index ranks) kept
 
--- The graph does what is claimed, and this is kept of the two certificates, where all three files are told.
+-- The graph does what is claimed, what is kept is a pair for it, and it is kept of the two certificates, where these are told.
 abbrev pub HasChosen : Limits → Claim → Texts → Trimmed → Type 0
 HasChosen limits claim texts t = HasGraph (profile_of claim.add) limits.graph texts.graph (λ g. Does claim g ×
+    IsPair g claim (clauses_text t.pair) (algebra_text t.pair) ×
     IfSome texts.clauses (λ clauses. IfSome texts.algebra (λ algebra.
     IsTrimOf (lengths_of limits) g claim clauses algebra t (clauses_text t.pair) (algebra_text t.pair))))

@@ -15,6 +15,7 @@ use Rattle.command_core.specs.Files as checking
 use Rattle.command_core.specs.Files.{HasGraph, Texts, texts_of}
 use Rattle.joint_checker.specs.Outcome.{IsDue, IsOutcome, OpensNeeded}
 use Rattle.command_core.specs.Written.{StopsWriting, WritesPair}
+use Rattle.pair_core.specs.Certificates.{IsPair}
 use Rattle.joint_checker.specs.declared.checked.Checked.{Checked}
 use Rattle.joint_checker.specs.declared.checked.Checked.TheVariants as checked
 use Rattle.pair_trim.specs.declared.answer.TrimAnswer.{TrimAnswer}
@@ -52,10 +53,11 @@ pub record ReadsOld (files : TrimmedFiles) (before after : View) : Type 0 where
   pub clauses_named : IsHeld before files.clauses → IsSome (before.name slot.Clauses) → IsSome (after.name slot.Clauses)
   pub algebra_named : IsHeld before files.algebra → IsSome (before.name slot.Algebra) → IsSome (after.name slot.Algebra)
 
--- The graph does what is claimed, this is kept of the certificates that are told, and something holds of its texts.
+-- The graph does what is claimed, and something holds of the texts of a pair for it; where the old certificates are told, these are the
+-- texts of what is kept of them.
 abbrev pub HasTrim : Limits → Claim → TrimmedFiles → View → Trimmed → (List ℕ → List ℕ → Type 0) → Type 0
 HasTrim limits claim files before t P = HasGraph (profile_of claim.add) limits.graph (bytes_under before files.graph) (λ g. Does claim g ×
-    ((clauses : List ℕ) × (algebra : List ℕ) ×
+    ((clauses : List ℕ) × (algebra : List ℕ) × IsPair g claim clauses algebra ×
     IfSome (bytes_under before files.clauses) (λ old. IfSome (bytes_under before files.algebra) (λ other.
     IsTrimOf (lengths_of limits) g claim old other t clauses algebra)) × P clauses algebra))
 
@@ -99,18 +101,22 @@ pub record LeavesOld (files : TrimmedFiles) : Type 0 where
   pub algebra_algebra : files.to_algebra ≢ files.algebra
   pub apart : files.to_clauses ≢ files.to_algebra
 
--- The files that a desk holds: a graph that does what is claimed, an old pair of certificates, and what is kept of it.
-pub record HoldsTrimmed (limits : Limits) (claim : Claim) (files : TrimmedFiles) (view : View) : Type 0 where
+-- The files that a desk held before are a graph that does what is claimed and an old pair of certificates. It holds them still, and under
+-- the new names what is kept of the pair.
+pub record HoldsTrimmed (limits : Limits) (claim : Claim) (files : TrimmedFiles) (before after : View) : Type 0 where
   pub graph_file : List ℕ
   pub old_clauses : List ℕ
   pub old_algebra : List ℕ
   pub new_clauses : List ℕ
   pub new_algebra : List ℕ
-  pub graph_held : bytes_under view files.graph ≡ Some graph_file
-  pub clauses_held : bytes_under view files.clauses ≡ Some old_clauses
-  pub algebra_held : bytes_under view files.algebra ≡ Some old_algebra
-  pub to_clauses_held : bytes_under view files.to_clauses ≡ Some new_clauses
-  pub to_algebra_held : bytes_under view files.to_algebra ≡ Some new_algebra
+  pub graph_held : bytes_under before files.graph ≡ Some graph_file
+  pub clauses_held : bytes_under before files.clauses ≡ Some old_clauses
+  pub algebra_held : bytes_under before files.algebra ≡ Some old_algebra
+  pub graph_stays : bytes_under after files.graph ≡ Some graph_file
+  pub clauses_stay : bytes_under after files.clauses ≡ Some old_clauses
+  pub algebra_stays : bytes_under after files.algebra ≡ Some old_algebra
+  pub to_clauses_held : bytes_under after files.to_clauses ≡ Some new_clauses
+  pub to_algebra_held : bytes_under after files.to_algebra ≡ Some new_algebra
   pub graph : Aig
   pub spells : SpellsWithin (profile_of claim.add) limits.graph graph_file graph
   pub does : Does claim graph
@@ -120,4 +126,4 @@ pub record HoldsTrimmed (limits : Limits) (claim : Claim) (files : TrimmedFiles)
 -- Where the desk tells its files and the new names are new, that is what it holds once a pair was trimmed.
 abbrev pub TrimmedPairsAreHeld : Type 0
 TrimmedPairsAreHeld = (limits : Limits) (claim : Claim) (files : TrimmedFiles) (before after : View) (t : Trimmed) → IsTold before → LeavesOld files →
-    IsTrimAnswer limits claim files before after (trim.Trimmed t) → HoldsTrimmed limits claim files after
+    IsTrimAnswer limits claim files before after (trim.Trimmed t) → HoldsTrimmed limits claim files before after

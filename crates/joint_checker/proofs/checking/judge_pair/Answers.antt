@@ -177,7 +177,7 @@ returns-clause-judged g c = λ yes.
     is_judged c.args.claim graph shown fits (sized_for _ _ _ c.profile.ensures c.in_ok-graph.ensures.sized) c.in_ok-graph.ensures.built
     (vanishing_does graph c.args.claim (premises_of shown) c.in_ok-graph.ensures.built.well_formed (shape_for c.args.claim.add graph (sized_for _ _ _ c.profile.ensures c.in_ok-graph.ensures.sized)) (shown_fits graph shown fits)
     (subst (λ (x : Aig). Always shown.extended.gates (λ σ. specification shown.extended (sides_for c.args.claim x) σ ≡ 0)) (graph_is graph (premises_of shown) (shown_fits graph shown fits)) c.in_ok-closed.ensures.vanishes))
-    (c.in_ok-shown.ensures.chains yes) c.in_ok-shown.ensures.of_graph.earlier c.in_ok-closed.closed (c.in_ok-closed.ensures.recorded yes)
+    (c.in_ok-shown.ensures.shown yes) (c.in_ok-shown.ensures.chains yes) c.in_ok-shown.ensures.of_graph.earlier c.in_ok-closed.closed (c.in_ok-closed.ensures.recorded yes)
     (c.parts_of-header.result.0) (c.parts_of-header.result.1) c.parts_of-header.ensures.header c.parts_of-header.ensures.recorded c.parts_of-header.result.2
 
 pub returns-clause-told : goal.returns-clause-told

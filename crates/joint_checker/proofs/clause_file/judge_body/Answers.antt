@@ -11,8 +11,9 @@ use Rattle.clause_core.specs.GateClauses.{gate_clauses}
 use Rattle.clause_core.specs.Likeness.{AreSameSets}
 use Rattle.clause_judge.specs.ClauseBody.{IsShownWith}
 use Rattle.clause_judge.specs.ClauseLines.{IsTextFail, ReadsNext}
+use Rattle.clause_judge.specs.Taking.{IsShownOver}
 use Rattle.mv_text.specs.CertificateFiles.{left_of_file}
-use Rattle.clause_judge.proofs.ClauseTurns.{begins_with, first_fails, nothing_joined, nothing_passed}
+use Rattle.clause_judge.proofs.ClauseTurns.{begins_with, first_fails, nothing_joined, nothing_over, nothing_passed}
 use Rattle.drup_checker.specs.declared.keeps.Keeps.{Keeps}
 use Rattle.clause_core.specs.KeptClauses.{AreEarlier}
 use Rattle.joint_checker.proofs.KeptRecords.{none_earlier, none_tight, tight_moved}
@@ -51,6 +52,14 @@ returns-then-is_nothing-clause-columns g c =
     let start = c.args.file.now in
     let none = c.is_nothing.ensures c.if-is_nothing.true in
     nothing_joined c.args.extended.now start (left_of_file slot.Clauses start (g.D.Desk.seen c.args.desk.now)) c.in_ok-goals.goals c.in_ok-goals.ensures.sets none.1
+
+pub returns-then-is_nothing-clause-shown : goal.returns-then-is_nothing-clause-shown
+returns-then-is_nothing-clause-shown g c =
+    let e = c.args.extended.now in
+    let start = c.args.file.now in
+    let none = c.is_nothing.ensures c.if-is_nothing.true in
+    subst (λ (cs : List Clause). IsShownOver e c.args.keeps cs) (sym c.nothing_kept.ensures.added)
+    (nothing_over e start (left_of_file slot.Clauses start (g.D.Desk.seen c.args.desk.now)) c.in_ok-goals.goals c.in_ok-goals.ensures.sets none.1 c.args.keeps)
 
 pub returns-then-is_nothing-clause-chains : goal.returns-then-is_nothing-clause-chains
 returns-then-is_nothing-clause-chains g c given =
@@ -97,6 +106,20 @@ returns-clause-lawful g c =
     let count = c.in_ok-lines.lines in
     subst (λ (cs : List Clause). IfSome body (IsShownWith e start.lines c.args.keeps cs count)) (sym c.into_record.ensures.added)
     (subst (λ (v : Keeps). IfSome body (IsShownWith e start.lines v c.judge_from.new.checker.added count)) c.in_ok-checker.ensures.starts.keeps_is (c.in_ok-lines.ensures.lawful e start body begins))
+
+pub returns-clause-shown : goal.returns-clause-shown
+returns-clause-shown g c =
+    let e = c.args.extended.now in
+    let start = c.args.file.now in
+    let middle = g.D.Desk.seen c.read_line.new.desk in
+    let file = c.read_line.new.file in
+    let body = left_of_file slot.Clauses start (g.D.Desk.seen c.args.desk.now) in
+    let begins =
+    begins_with e start body c.in_ok-checker.checker c.gates.result.now c.in_ok-clauses.clauses c.in_ok-goals.goals c.args.keeps c.max-max.result c.in_ok-first.first file (left_of_file slot.Clauses file middle)
+    c.in_ok-checker.ensures.starts c.in_ok-checker.ensures.shown (subst (λ (gates : List Gate). AreSameSets c.in_ok-clauses.clauses (gate_clauses gates)) (sym c.gates.ensures.value) c.in_ok-clauses.ensures.sets) (sym c.gates.ensures.value) c.max-max.ensures.value c.in_ok-goals.ensures.sets c.in_ok-first.ensures.lengths c.requires.limit
+    c.in_ok-first.ensures.next in
+    subst (λ (cs : List Clause). IsShownOver e c.args.keeps cs) (sym c.into_record.ensures.added)
+    (subst (λ (v : Keeps). IsShownOver e v c.judge_from.new.checker.added) c.in_ok-checker.ensures.starts.keeps_is (c.in_ok-lines.ensures.shown e start body begins))
 
 pub returns-clause-columns : goal.returns-clause-columns
 returns-clause-columns g c =

@@ -14,7 +14,7 @@ returns-in-Err-write_pair-clause-answer g c =
     let t = c.in-Ok.kept in (
       subst (λ (n : ℕ). Rose n now.write_faults) c.in-Ok.ensures.reads.inspects.write_faults c.in-Err-write_pair.ensures.cause.rose,
       c.in-Ok.ensures.outcome,
-      (t, (h.0, h.1, (h.2.0, (clauses_text t.pair, algebra_text t.pair, h.2.1, (read, c.in-Ok.ensures.reads, c.in-Err-write_pair.ensures.stops))))),
+      (t, (h.0, h.1, (h.2.0, (clauses_text t.pair, algebra_text t.pair, h.2.1, h.2.2, (read, c.in-Ok.ensures.reads, c.in-Err-write_pair.ensures.stops))))),
     )
 
 pub returns-in-Err-clause-answer : goal.returns-in-Err-clause-answer

@@ -3,7 +3,7 @@ use Rattle.std.proofs.lemmas.Result.{err_from_is_err_and}
 use Rattle.mv_desk.specs.declared.slot.Slot.TheVariants as slot
 use Rattle.mv_text.specs.CertificateFiles.{left_of_file}
 use Rattle.clause_judge.specs.ClauseLines.{IsRuleFail}
-use Rattle.clause_judge.proofs.ClauseTurns.{all_joined, all_shown, at_hand, goals_fail, have_failed, next_reached, rule_fails, still_same, takes_task, task_stays, text_fails}
+use Rattle.clause_judge.proofs.ClauseTurns.{all_joined, all_over, all_shown, at_hand, goals_fail, have_failed, next_reached, rule_fails, still_same, takes_task, task_stays, text_fails}
 use Rattle.clause_judge.proofs.judging.JudgeClausesJudgeLines.judge_line.Goals as goal
 
 pub returns-in_err-take_line-in-Some-clause-leads :
@@ -29,7 +29,7 @@ pub returns-in-None-clause-leads : goal.returns-in-None-clause-leads
 returns-in-None-clause-leads g c start first only h =
     let is = sym c.take.ensures.value ∙ c.in-None.is in
     let shown = c.in_ok-judge_goals-in-None.ensures.shown in
-    record { same = still_same h refl refl (task_stays refl); lawful = all_shown h is shown; columns = all_joined h is shown; refused = tt }
+    record { same = still_same h refl refl (task_stays refl); lawful = all_shown h is shown; shown = all_over h is shown; columns = all_joined h is shown; refused = tt }
 
 pub returns-in_err-next-clause-leads : goal.returns-in_err-next-clause-leads
 returns-in_err-next-clause-leads g c start first only h =
