@@ -88,6 +88,8 @@ pub(crate) fn is_settled(max: u32, propagator: &mut Propagator, assumptions: &[i
 
 /// Whether propagation derives each of two literals from the other's negation, or a conflict. Where it doesn't, no live
 /// clause is within the clause of both.
+///
+/// Which one is negated first is advice: a gate that is false says little, and one that is true says what all below it are.
 pub(crate) fn derive_each_other(max: u32, propagator: &mut Propagator, one: i32, other: i32) -> bool
     requires alone { StandsAlone propagator.old }
     requires max { propagator.old.trail.greatest ≡ max }
@@ -96,9 +98,25 @@ pub(crate) fn derive_each_other(max: u32, propagator: &mut Propagator, one: i32,
     ensures same { propagator.new ≡ propagator.old }
     ensures none { IsFalse result → HasNoneWithin (live_of propagator.old.clauses) (one ∷ other ∷ []) }
 {
-    let first = leads_to(max, propagator, one, other);
-    let second = leads_to(max, propagator, other, one);
-    first && second
+    if one < 0 {
+        return derive_both(max, propagator, other, one);
+    }
+    derive_both(max, propagator, one, other)
+}
+
+// The same, the negation of the first one first.
+fn derive_both(max: u32, propagator: &mut Propagator, one: i32, other: i32) -> bool
+    requires alone { StandsAlone propagator.old }
+    requires max { propagator.old.trail.greatest ≡ max }
+    requires signed { max < 2 ^ 31 }
+    requires range { IsClauseInRange max (one ∷ other ∷ []) }
+    ensures same { propagator.new ≡ propagator.old }
+    ensures none { IsFalse result → HasNoneWithin (live_of propagator.old.clauses) (one ∷ other ∷ []) }
+{
+    if !leads_to(max, propagator, one, other) {
+        return false;
+    }
+    leads_to(max, propagator, other, one)
 }
 
 // Whether propagation from the negation of one literal derives another one, or a conflict.

@@ -1,4 +1,5 @@
 // Variables near two gates.
+use crate::rows::Rows;
 use graph_core::{Gate, Memory};
 use std::alloc::Global;
 
@@ -8,34 +9,30 @@ const MANY: usize = 48;
 /// The variables below some gates, the nearest first, a few of them. It is advice.
 #[derive(Drop)]
 pub(crate) struct Cones {
-    /// By variable one more than the place of its gate, 0 for an input.
-    places: Vec<usize>,
     near: Vec<u32>,
 }
 
 impl Cones {
-    /// The cones of gates of variables up to the greatest one.
-    pub(crate) fn new(alloc: Global, max: u32, gates: &[Gate]) -> Result<Cones, Memory> {
-        let mut places = vec![in alloc; 0; max as usize + 1]?;
-        for (place, gate) in gates.iter().enumerate() {
-            if let Some(entry) = places.get_mut(gate.v as usize) {
-                *entry = place + 1;
-            }
-        }
+    pub(crate) fn new(alloc: Global) -> Result<Cones, Memory> {
         Ok(Cones {
-            places,
             near: Vec::with_capacity(alloc, MANY)?,
         })
     }
 
     /// The variables that two gates and those below them read, the nearest last.
-    pub(crate) fn near(&mut self, gates: &[Gate], one: u32, other: u32) -> Result<&[u32], Memory> {
+    pub(crate) fn near(
+        &mut self,
+        rows: &Rows,
+        gates: &[Gate],
+        one: u32,
+        other: u32,
+    ) -> Result<&[u32], Memory> {
         self.near.clear();
         self.near.push(one)?;
         self.near.push(other)?;
         for next in 0..MANY {
             let gate = match self.near.get(next) {
-                Some(variable) => self.gate(gates, *variable),
+                Some(variable) => rows.gate(gates, *variable),
                 None => None,
             };
             if let Some(gate) = gate {
@@ -53,13 +50,5 @@ impl Cones {
             self.near.push(variable)?;
         }
         Ok(())
-    }
-
-    fn gate(&self, gates: &[Gate], variable: u32) -> Option<Gate> {
-        let place = *self.places.get(variable as usize)?;
-        match gates.get(place.wrapping_sub(1)) {
-            Some(gate) => Some(*gate),
-            None => None,
-        }
     }
 }

@@ -29,6 +29,7 @@ mod laws;
 mod levels;
 mod merged;
 mod pairs;
+mod rows;
 mod solving;
 mod sweeping;
 mod twins;

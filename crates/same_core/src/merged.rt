@@ -3,6 +3,7 @@ ghost use Rattle.std.specs.Prelude.{◌≡◌, ◌<◌, ◌≤◌, ◌^◌, ◌�
 ghost use Rattle.same_core.specs.Merged.{AreOfOneShape, both, moved, moved_gate as gate_moved, moved_literal as literal_moved, pairs_of};
 ghost use Rattle.same_core.specs.Places.{IsReadableIn};
 
+use crate::levels::push_levels;
 use graph_core::{Gate, Graph, Lit, Memory};
 use std::alloc::Global;
 use std::marker::Model;
@@ -37,6 +38,8 @@ pub struct Merged {
     first: u32,
     max: u32,
     gates: Vec<Gate>,
+    /// The level of each gate in its graph.
+    levels: Vec<u32>,
     pairs: Vec<(Lit, Lit)>,
 }
 
@@ -62,6 +65,11 @@ impl Merged {
         ensures { result.now ≡ self.now.gates }
     {
         self.gates.as_slice()
+    }
+
+    /// The level of each gate in its graph, in their order. It is advice.
+    pub(crate) fn levels(&self) -> &[u32] {
+        self.levels.as_slice()
     }
 
     /// Whether a gate is one of the first graph.
@@ -105,12 +113,21 @@ fn merge_lists(alloc: Global, graph: &Graph, other: &Graph) -> Result<Merged, Me
     let max = graph.max() + other.max();
     let gates = merge_gates(alloc, graph, other)?;
     let pairs = merge_outputs(alloc, graph, other)?;
+    let levels = merge_levels(alloc, graph, other)?;
     Ok(Merged {
         first: graph.max(),
         max,
         gates,
+        levels,
         pairs,
     })
+}
+
+fn merge_levels(alloc: Global, graph: &Graph, other: &Graph) -> Result<Vec<u32>, Memory> {
+    let mut levels = Vec::new(alloc);
+    push_levels(&mut levels, graph)?;
+    push_levels(&mut levels, other)?;
+    Ok(levels)
 }
 
 fn merge_gates(alloc: Global, graph: &Graph, other: &Graph) -> Result<Vec<Gate>, Memory>

@@ -3,7 +3,7 @@ ghost use Rattle.std.specs.Prelude.{ℕ, List, OnOk};
 ghost use Rattle.clause_core.specs.Clause.{Clause};
 ghost use Rattle.goal_refuter.specs.Beginnings.{IsBegun, StaysBegun};
 
-use crate::levels::{by_level, level_of, levels};
+use crate::levels::by_level;
 use crate::merged::Merged;
 use crate::twins::Twins;
 use cdcl_solver::{Log, Solver};
@@ -26,9 +26,8 @@ pub(crate) fn sweep(
     requires { (max : ℕ) × (given : List Clause) × IsBegun max given conflicts solver.old log.old }
     ensures { OnOk result (StaysBegun conflicts solver.old log.old solver.new log.new) }
 {
-    let levels = levels(alloc, merged.max(), merged.gates())?;
-    let order = by_level(alloc, &levels, merged.gates())?;
-    let mut twins = simulate(alloc, merged, &levels, &order)?;
+    let order = by_level(alloc, merged.levels())?;
+    let mut twins = simulate(alloc, merged, &order)?;
     for step in order.as_slice() {
         show_at(merged, step.1, conflicts, &mut twins, solver, log)?;
     }
@@ -85,15 +84,10 @@ fn show_twin(
 }
 
 // The values of all gates on the patterns, and the gates of the first graph by operands and by values.
-fn simulate(
-    alloc: Global,
-    merged: &Merged,
-    levels: &[u32],
-    order: &[(u32, usize)],
-) -> Result<Twins, Memory> {
+fn simulate(alloc: Global, merged: &Merged, order: &[(u32, usize)]) -> Result<Twins, Memory> {
     let gates = merged.gates();
     let mut twins = Twins::new(alloc, merged.max(), gates)?;
-    draw(&mut twins, levels, gates);
+    draw(&mut twins, gates);
     for step in order {
         if let Some(gate) = gates.get(step.1) {
             twins.set(gate);
@@ -105,14 +99,11 @@ fn simulate(
     Ok(twins)
 }
 
-// Draws the values of each variable that a gate reads and that is none.
-fn draw(twins: &mut Twins, levels: &[u32], gates: &[Gate]) {
+// Draws the values of what gates read and is none.
+fn draw(twins: &mut Twins, gates: &[Gate]) {
     let mut draws = Draws::new();
     for gate in gates {
-        for lit in [gate.left, gate.right] {
-            if 0 < lit.var() && level_of(levels, lit.var()) == 0 {
-                twins.draw(lit.var(), &mut draws);
-            }
-        }
+        twins.draw(gates, gate.left.var(), &mut draws);
+        twins.draw(gates, gate.right.var(), &mut draws);
     }
 }

@@ -1,15 +1,18 @@
 // Literals of the first graph that those of the second one may equal.
 use crate::cones::Cones;
+use crate::rows::Rows;
 use graph_core::{Gate, Lit, Memory};
 use indexmap::IndexMap;
 use stage_guesser::{Draws, Signature, WORDS};
 use std::alloc::Global;
 
-/// By variable its values on some patterns of the inputs and the literal that it was seen to equal, else its own; and by
-/// operands and by values the gates of the first graph. All of it is advice.
+/// By row of a variable its values on some patterns of the inputs and the literal that it was shown to equal; and by operands
+/// and by values the gates of the first graph. All of it is advice.
 #[derive(Drop)]
 pub(crate) struct Twins {
+    rows: Rows,
     signatures: Vec<Signature>,
+    /// The constant where there is none.
     twins: Vec<Lit>,
     by_operands: IndexMap<u64, u32>,
     by_values: IndexMap<u64, u32>,
@@ -23,25 +26,26 @@ pub(crate) struct Twins {
 impl Twins {
     /// No twins, over the variables up to the greatest one.
     pub(crate) fn new(alloc: Global, max: u32, gates: &[Gate]) -> Result<Twins, Memory> {
-        let size = max as usize + 1;
-        let mut twins = Vec::with_capacity(alloc, size)?;
-        for variable in 0..size {
-            twins.push(Lit((variable as u32).wrapping_mul(2)))?;
-        }
+        let rows = Rows::new(alloc, max, gates)?;
+        let count = rows.count();
         Ok(Twins {
-            signatures: vec![in alloc; Signature::zero(); size]?,
-            twins,
+            rows,
+            signatures: vec![in alloc; Signature::zero(); count]?,
+            twins: vec![in alloc; Lit(0); count]?,
             by_operands: IndexMap::new(alloc),
             by_values: IndexMap::new(alloc),
             ones: Signature::zero().negated_if(true).key(),
-            cones: Cones::new(alloc, max, gates)?,
+            cones: Cones::new(alloc)?,
             spent: 0,
         })
     }
 
-    /// Draws the values of an input, unless it has some.
-    pub(crate) fn draw(&mut self, variable: u32, draws: &mut Draws) {
-        if let Some(signature) = self.signatures.get_mut(variable as usize) {
+    /// Draws the values of a variable, unless it is the constant, a gate's, or has some.
+    pub(crate) fn draw(&mut self, gates: &[Gate], variable: u32, draws: &mut Draws) {
+        if variable == 0 || self.rows.gate(gates, variable).is_some() {
+            return;
+        }
+        if let Some(signature) = self.signatures.get_mut(self.rows.of(variable)) {
             if !signature.is(&Signature::zero()) {
                 return;
             }
@@ -56,7 +60,7 @@ impl Twins {
     /// Sets the values of a gate by those of its operands.
     pub(crate) fn set(&mut self, gate: &Gate) {
         let values = self.values(gate.left).and(&self.values(gate.right));
-        if let Some(signature) = self.signatures.get_mut(gate.v as usize) {
+        if let Some(signature) = self.signatures.get_mut(self.rows.of(gate.v)) {
             *signature = values;
         }
     }
@@ -94,12 +98,12 @@ impl Twins {
 
     /// The variables near two gates, the nearest last.
     pub(crate) fn near(&mut self, gates: &[Gate], one: u32, other: u32) -> Result<&[u32], Memory> {
-        self.cones.near(gates, one, other)
+        self.cones.near(&self.rows, gates, one, other)
     }
 
     /// Keeps a literal that a variable was shown to equal.
     pub(crate) fn join(&mut self, variable: u32, lit: Lit) {
-        if let Some(twin) = self.twins.get_mut(variable as usize) {
+        if let Some(twin) = self.twins.get_mut(self.rows.of(variable)) {
             *twin = lit;
         }
     }
@@ -113,9 +117,10 @@ impl Twins {
         self.spent
     }
 
-    // The literal that a literal was shown to equal.
+    // The literal that a literal was shown to equal, else itself.
     fn twin(&self, lit: Lit) -> Lit {
-        match self.twins.get(lit.var() as usize) {
+        match self.twins.get(self.rows.of(lit.var())) {
+            Some(twin) if twin.0 == 0 => lit,
             Some(twin) if lit.negated() => twin.not(),
             Some(twin) => *twin,
             None => lit,
@@ -123,7 +128,7 @@ impl Twins {
     }
 
     fn values(&self, lit: Lit) -> Signature {
-        match self.signatures.get(lit.var() as usize) {
+        match self.signatures.get(self.rows.of(lit.var())) {
             Some(signature) => signature.negated_if(lit.negated()),
             None => Signature::zero(),
         }
