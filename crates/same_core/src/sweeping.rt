@@ -88,6 +88,7 @@ fn simulate(alloc: Global, merged: &Merged, order: &[(u32, usize)]) -> Result<Tw
     let gates = merged.gates();
     let mut twins = Twins::new(alloc, merged.max(), gates)?;
     draw(&mut twins, gates);
+    read(&mut twins, merged, order);
     for step in order {
         if let Some(gate) = gates.get(step.1) {
             twins.set(gate);
@@ -105,5 +106,18 @@ fn draw(twins: &mut Twins, gates: &[Gate]) {
     for gate in gates {
         twins.draw(gates, gate.left.var(), &mut draws);
         twins.draw(gates, gate.right.var(), &mut draws);
+    }
+}
+
+// Finds what the outputs depend on.
+fn read(twins: &mut Twins, merged: &Merged, order: &[(u32, usize)]) {
+    for pair in merged.pairs() {
+        twins.read(pair.0.var());
+        twins.read(pair.1.var());
+    }
+    for step in order.iter().rev() {
+        if let Some(gate) = merged.gates().get(step.1) {
+            twins.read_operands(gate);
+        }
     }
 }

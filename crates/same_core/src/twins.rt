@@ -12,8 +12,9 @@ use std::alloc::Global;
 pub(crate) struct Twins {
     rows: Rows,
     signatures: Vec<Signature>,
-    /// The constant where there is none.
-    twins: Vec<Lit>,
+    twins: Vec<Option<Lit>>,
+    /// Whether an output depends on it.
+    read: Vec<bool>,
     by_operands: IndexMap<u64, u32>,
     by_values: IndexMap<u64, u32>,
     /// The key of the constant true.
@@ -31,7 +32,8 @@ impl Twins {
         Ok(Twins {
             rows,
             signatures: vec![in alloc; Signature::zero(); count]?,
-            twins: vec![in alloc; Lit(0); count]?,
+            twins: vec![in alloc; None; count]?,
+            read: vec![in alloc; false; count]?,
             by_operands: IndexMap::new(alloc),
             by_values: IndexMap::new(alloc),
             ones: Signature::zero().negated_if(true).key(),
@@ -65,9 +67,27 @@ impl Twins {
         }
     }
 
+    /// An output has a variable's value.
+    pub(crate) fn read(&mut self, variable: u32) {
+        if let Some(read) = self.read.get_mut(self.rows.of(variable)) {
+            *read = true;
+        }
+    }
+
+    /// Where an output depends on a gate, it depends on the gate's operands.
+    pub(crate) fn read_operands(&mut self, gate: &Gate) {
+        if self.is_read(gate) {
+            self.read(gate.left.var());
+            self.read(gate.right.var());
+        }
+    }
+
     /// Enters a gate of the first graph.
     pub(crate) fn enter(&mut self, gate: &Gate) -> Result<(), Memory> {
-        let key = operands(gate.left, gate.right);
+        if let Some(lit) = self.folded(gate) {
+            self.join(gate.v, lit);
+        }
+        let key = operands(self.twin(gate.left), self.twin(gate.right));
         if self.by_operands.get(&key).is_none() {
             self.by_operands.insert(key, gate.v)?;
         }
@@ -79,8 +99,15 @@ impl Twins {
     }
 
     /// A literal of the first graph that a gate of the second one may equal: one of a gate with equal operands, else one
-    /// with the same values.
-    pub(crate) fn candidate(&self, gate: &Gate) -> Option<Lit> {
+    /// with the same values. None where no output depends on the gate, or it equals a literal by propagation alone.
+    pub(crate) fn candidate(&mut self, gate: &Gate) -> Option<Lit> {
+        if !self.is_read(gate) {
+            return None;
+        }
+        if let Some(lit) = self.folded(gate) {
+            self.join(gate.v, lit);
+            return None;
+        }
         let key = operands(self.twin(gate.left), self.twin(gate.right));
         if let Some(v) = self.by_operands.get(&key) {
             return Some(plain(*v));
@@ -104,7 +131,7 @@ impl Twins {
     /// Keeps a literal that a variable was shown to equal.
     pub(crate) fn join(&mut self, variable: u32, lit: Lit) {
         if let Some(twin) = self.twins.get_mut(self.rows.of(variable)) {
-            *twin = lit;
+            *twin = Some(lit);
         }
     }
 
@@ -117,13 +144,34 @@ impl Twins {
         self.spent
     }
 
+    fn is_read(&self, gate: &Gate) -> bool {
+        match self.read.get(self.rows.of(gate.v)) {
+            Some(read) => *read,
+            None => false,
+        }
+    }
+
+    // The literal that a gate equals by propagation alone: one operand is a constant, or both are of one variable.
+    fn folded(&self, gate: &Gate) -> Option<Lit> {
+        let (left, right) = (gate.left, gate.right);
+        if left.0 == 0 || right.0 == 0 || left == right.not() {
+            return Some(Lit(0));
+        }
+        if left.0 == 1 || left == right {
+            return Some(self.twin(right));
+        }
+        if right.0 == 1 {
+            return Some(self.twin(left));
+        }
+        None
+    }
+
     // The literal that a literal was shown to equal, else itself.
     fn twin(&self, lit: Lit) -> Lit {
         match self.twins.get(self.rows.of(lit.var())) {
-            Some(twin) if twin.0 == 0 => lit,
-            Some(twin) if lit.negated() => twin.not(),
-            Some(twin) => *twin,
-            None => lit,
+            Some(Some(twin)) if lit.negated() => twin.not(),
+            Some(Some(twin)) => *twin,
+            _ => lit,
         }
     }
 
