@@ -1,11 +1,13 @@
 -- The answers of `same`, by what the solver and the desk come to.
 use Rattle.std.specs.Prelude.{◌≡◌, ℕ, Bool, List, length, map}
 use Rattle.std.proofs.Common.{arith, subst}
+use Rattle.std.specs.List.{All}
 use Rattle.std.specs.Global.{Global}
 use Rattle.std.specs.declared.vec.Vec.{Vec}
 use Rattle.cdcl_solver.specs.Logs.{LogView}
 use Rattle.cdcl_solver.specs.Solving.{assignment_of}
-use Rattle.clause_core.specs.ClauseLines.{ClauseLine}
+use Rattle.clause_core.specs.Clause.{IsClause}
+use Rattle.clause_core.specs.ClauseLines.{clause_in}
 use Rattle.command_core.specs.Written.{FailsToWrite, WritesFile}
 use Rattle.drup_text.specs.SameFiles.{same_text}
 use Rattle.drup_text.proofs.Writable.{lines_are_writable}
@@ -24,7 +26,7 @@ use Rattle.same_core.specs.declared.pairs.PairFail.TheVariants as pair
 use Rattle.command_core.specs.declared.stop.Stop.TheVariants as stop
 use Rattle.same_core.specs.declared.verdict.Same.TheVariants as same
 use Rattle.same_core.specs.Answers.{same_of_pair}
-use Rattle.same_core.specs.Deciding.{AreWritten, IsCompared, ReadsGraphs}
+use Rattle.same_core.specs.Deciding.{AreWritten, HasEqualPair, IsCompared, ReadsGraphs}
 use Rattle.same_core.specs.Files.{ComparedFiles, compared_texts_of}
 use Rattle.same_core.specs.Merged.{Both, both, merged}
 use Rattle.same_core.specs.Pairs.{IsPairFail, IsReadPair}
@@ -43,10 +45,6 @@ module _ (limits : Limits) (conflicts : ℕ) (files : ComparedFiles) (a b : View
   pair_fails (pair.Stopped stop.WriteFault) h = absurd h
   pair_fails (pair.Stopped stop.Memory) h = (tt, inspects)
 
-  -- writing stopped
-  pub stopped : (lines : List ClauseLine) (c : View) → FailsToWrite slot.Clauses files.clauses (same_text lines) b c → Rose b.write_faults c.write_faults → IsCompared limits conflicts files a c (same.Stopped stop.WriteFault)
-  stopped lines c stops rose = (subst (λ (n : ℕ). Rose n c.write_faults) inspects.write_faults rose, (lines, b, inspects, stops))
-
   module _ (g : Aig) (m : Both) (p : IsReadPair limits.graph (compared_texts_of a files) g m) where
     abbrev e : Extended
     e = merged g p.other
@@ -58,21 +56,36 @@ module _ (limits : Limits) (conflicts : ℕ) (files : ComparedFiles) (a b : View
     pub of_merged : (P : Both → Type 0) → P m → P (both g p.other)
     of_merged P h = subst P p.merged_is h
 
-    written : (log : LogView) → IsSoFar e conflicts (length (unmet_goals e)) log → AreWritten g p.other conflicts log.lines
-    written log h =
+    written : (log : LogView) → IsSoFar e conflicts (length (unmet_goals e)) log → All (λ line. IsClause (clause_in line)) log.lines → AreWritten g p.other conflicts log.lines
+    written log h once =
         let most = lines_few e conflicts log h in
         let columns = length-columns_from 0 (both g p.other).pairs in
         let few = is_merged.few in
         record {
           lawful = lawful_lines e conflicts log h;
           writable = lines_are_writable e.max log.lines is_merged.small h.log_is.in_range;
+          once = once;
           few = omega (arith, most, columns, few);
         }
 
-    pub equal : (log : LogView) → IsSoFar e conflicts (length (unmet_goals e)) log → ReadsGraphs a b → (c : View) → WritesFile slot.Clauses files.clauses (same_text log.lines) b c → IsCompared limits conflicts files a c same.Equal
-    equal log h reads c writes =
+    -- the graphs agree, and something holds of the text of the log's lines
+    equal_pair : (log : LogView) → IsSoFar e conflicts (length (unmet_goals e)) log → All (λ line. IsClause (clause_in line)) log.lines → ReadsGraphs a b →
+        (P : List ℕ → View → Type 0) → P (same_text log.lines) b → HasEqualPair limits.graph conflicts files a P
+    equal_pair log h once reads P done =
         let agree = merged_outputs_agree g p.other p.built.well_formed p.other_built.well_formed p.shape (lines_agree e conflicts log h) in
-        (g, p.spelled, (p.other, p.other_spelled, (p.shape, (agree, (log.lines, b, written log h, reads, writes)))))
+        (g, p.spelled, (p.other, p.other_spelled, (p.shape, (agree, (log.lines, b, written log h once, reads, done)))))
+
+    pub equal : (log : LogView) → IsSoFar e conflicts (length (unmet_goals e)) log → All (λ line. IsClause (clause_in line)) log.lines → ReadsGraphs a b →
+        (c : View) → WritesFile slot.Clauses files.clauses (same_text log.lines) b c → IsCompared limits conflicts files a c same.Equal
+    equal log h once reads c writes = equal_pair log h once reads (λ text between. WritesFile slot.Clauses files.clauses text between c) writes
+
+    -- writing stopped
+    pub stopped : (log : LogView) → IsSoFar e conflicts (length (unmet_goals e)) log → All (λ line. IsClause (clause_in line)) log.lines → ReadsGraphs a b →
+        (c : View) → FailsToWrite slot.Clauses files.clauses (same_text log.lines) b c → Rose b.write_faults c.write_faults → IsCompared limits conflicts files a c (same.Stopped stop.WriteFault)
+    stopped log h once reads c stops rose = (
+      subst (λ (n : ℕ). Rose n c.write_faults) inspects.write_faults rose,
+      equal_pair log h once reads (λ text between. FailsToWrite slot.Clauses files.clauses text between c) stops,
+    )
 
     pub spent : (goal : ℕ) (log : LogView) → IsSpent e conflicts conflicts goal log → IsCompared limits conflicts files a b (same.Spent conflicts goal log)
     spent goal log h = ((g, p.spelled, (p.other, p.other_spelled, (p.shape, h))), inspects)

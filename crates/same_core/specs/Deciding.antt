@@ -1,7 +1,8 @@
 -- What `same` says of two files, and where each answer comes.
 use Rattle.std.specs.Prelude.{◌≡◌, ◌≢◌, ◌+◌, ◌*◌, ◌≤◌, ⊤, ℕ, Bool, List, Some, IsSome, length, map}
 use Rattle.std.specs.List.{All}
-use Rattle.clause_core.specs.ClauseLines.{AreLawfulClauseLines, ClauseLine}
+use Rattle.clause_core.specs.Clause.{IsClause}
+use Rattle.clause_core.specs.ClauseLines.{AreLawfulClauseLines, ClauseLine, clause_in}
 use Rattle.drup_text.specs.SameFiles.{same_text}
 use Rattle.drup_text.specs.WrittenLaws.{IsWritableLine}
 use Rattle.goal_refuter.specs.Refutations.{IsSpent}
@@ -31,10 +32,11 @@ pub record IsPairDifference (g h : Aig) (inputs : List Bool) : Type 0 where
   pub all : length inputs ≡ length g.inputs
   pub differ : map (literal (evaluated g inputs)) g.outputs ≢ map (literal (evaluated h inputs)) h.outputs
 
--- Lines that are written: they are lawful and show each goal, their literals have 32 bits, and they are few.
+-- Lines that are written: they are lawful and show each goal, each has a literal once, of 32 bits, and they are few.
 pub record AreWritten (g h : Aig) (conflicts : ℕ) (lines : List ClauseLine) : Type 0 where
   pub lawful : AreLawfulClauseLines (merged g h) lines
   pub writable : All IsWritableLine lines
+  pub once : All (λ line. IsClause (clause_in line)) lines
   pub few : length lines ≤ 2 * (conflicts + 512)
 
 -- The graphs alone were opened and read: every slot but theirs is as it was.
@@ -42,21 +44,26 @@ pub record ReadsGraphs (before after : View) : Type 0 where
   pub others : (other : Slot) → other ≢ slot.Graph → other ≢ slot.Other → SlotStays other before after
   pub inspects : Inspects before after
 
--- Where each answer comes, as far as the desk tells the files. Graphs that are called equal agree on all inputs; where no pair of graphs
--- is read, the answer is that of a check.
+-- The files spell two graphs of one shape that agree on all inputs, and something holds of the text of lines that show it, once the graphs
+-- alone were read.
+abbrev pub HasEqualPair : ℕ → ℕ → ComparedFiles → View → (List ℕ → View → Type 0) → Type 0
+HasEqualPair limit conflicts files before P = HasPair limit (compared_texts_of before files) (λ g h.
+    AgreeOnInputs g h × ((lines : List ClauseLine) × (between : View) × AreWritten g h conflicts lines ×
+    ReadsGraphs before between × P (same_text lines) between))
+
+-- Where each answer comes, as far as the desk tells the files. Graphs that are called equal agree on all inputs, and also those whose
+-- certificate couldn't be written; where no pair of graphs is read, the answer is that of a check.
 abbrev pub IsCompared : Limits → ℕ → ComparedFiles → View → View → Same → Type 0
 IsCompared limits conflicts files before after same.Equal =
-    HasPair limits.graph (compared_texts_of before files) (λ g h.
-    AgreeOnInputs g h × ((lines : List ClauseLine) × (between : View) × AreWritten g h conflicts lines ×
-    ReadsGraphs before between × WritesFile slot.Clauses files.clauses (same_text lines) between after))
+    HasEqualPair limits.graph conflicts files before (λ text between. WritesFile slot.Clauses files.clauses text between after)
 IsCompared limits conflicts files before after (same.Differs inputs) =
     HasPair limits.graph (compared_texts_of before files) (λ g h. IsPairDifference g h inputs.items) × Inspects before after
 IsCompared limits conflicts files before after (same.Spent lemmas goal log) =
     HasPair limits.graph (compared_texts_of before files) (λ g h. IsSpent (merged g h) conflicts lemmas goal log) × Inspects before after
 IsCompared limits conflicts files before after same.Shapes = IsPairCheckDue limits (compared_texts_of before files) checked.Shapes × Inspects before after
 IsCompared limits conflicts files before after (same.Stopped stop.WriteFault) =
-    Rose before.write_faults after.write_faults × ((lines : List ClauseLine) × (between : View) × Inspects before between ×
-    FailsToWrite slot.Clauses files.clauses (same_text lines) between after)
+    Rose before.write_faults after.write_faults ×
+    HasEqualPair limits.graph conflicts files before (λ text between. FailsToWrite slot.Clauses files.clauses text between after)
 IsCompared limits conflicts files before after (same.Stopped why) =
     IsStop (IsPairStop limits.graph (compared_texts_of before files)) before after why × Inspects before after
 
