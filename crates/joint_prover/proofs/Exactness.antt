@@ -22,7 +22,7 @@ use Rattle.joint_prover.specs.declared.task.Task.{Task}
 use Rattle.joint_prover.specs.declared.verdict.Verdict.{Verdict}
 use Rattle.joint_prover.specs.declared.verdict.Verdict.TheVariants.{Proved, Wrong, WrongSum, Undecided, Stopped}
 use Rattle.joint_prover.specs.Tries.{IsWithinBudget, AreTried, IsAbove}
-use Rattle.joint_prover.specs.Verdicts.{HasFewOnes, HaveManyOnes, IsFirstAbove, IsVerdict, IsVerdictDue, IsWrong, IsWrongSum, VerdictsAreExact, HasNote}
+use Rattle.joint_prover.specs.Verdicts.{HasFewOnes, HaveManyOnes, IsFirstAbove, IsVerdict, IsVerdictDue, IsWrong, IsWrongSum, VerdictsAreExact, HasNote, judgement}
 use Rattle.std.specs.declared.option.Option.TheVariants.{None, Some}
 use Rattle.enough_budget.specs.Budgets.{PassesBySlices}
 use Rattle.enough_budget.proofs.MadePlans.{made_budget_is_enough}
@@ -38,6 +38,7 @@ use Rattle.ripple_graft.specs.declared.cut.Cut.{Cut}
 use Rattle.joint_prover.specs.declared.note.Note.{Note}
 use Rattle.joint_prover.specs.declared.verdict.Tried.{Tried}
 use Rattle.joint_prover.specs.Budgets.{EnoughIsProved, IsEnough}
+use Rattle.mv_desk.specs.declared.limits.Limits.{Limits}
 use Rattle.joint_prover.specs.Notes.{cut_of}
 
 wrong_same : (a c b d v w p q : ℕ) → a ≡ c → b ≡ d → v ≡ w → p ≡ q → Wrong a b v p ≡ Wrong c d w q
@@ -168,7 +169,7 @@ module _ (limit : ℕ) (task : Task) (file : List ℕ) where
   -- what the verdict says of the file
   module _ (before after : View) where
     abbrev Says : Verdict → Type 0
-    Says Proved = Spelled (Does claim)
+    Says (Proved long) = Spelled (Does claim)
     Says (Wrong a b v p) = Spelled (λ g. IsWrong g claim a b v p)
     Says (WrongSum a b c v p) = Spelled (λ g. IsWrongSum g claim a b c v p)
     Says (Undecided tried t n seen) = Spelled (λ g. IsFirstAbove g claim task.budget t n × HaveManyOnes g claim)
@@ -177,28 +178,29 @@ module _ (limit : ℕ) (task : Task) (file : List ℕ) where
     never_stopped : (g : Aig) (why : Stop) → SpellsWithin profile limit file g → IsGraphStop slot.Graph profile limit (Some file) why → ⊥
     never_stopped g why s d = (graph_exact profile limit file slot.Graph).not_both why (g, s) d
 
-    exact : (given due : Verdict) → Says given → IsVerdictDue limit task file due → GivesDue Stopped before after due given
+    exact : (given due : Verdict) → Says given → IsVerdictDue limit task file due → GivesDue Stopped before after due (judgement given)
     exact given (Undecided others u m other) h d = absurd d
-    exact Proved Proved h d = inl refl
-    exact Proved (Wrong x y w q) h d = absurd (right_or_wrong x y w q h (d.0, d.1, d.3))
-    exact Proved (WrongSum x y z w q) h d = absurd (right_or_wrong_sum x y z w q h (d.0, d.1, d.3))
-    exact Proved (Stopped other) h d = absurd (never_stopped h.0 other h.1 d)
-    exact (Wrong a b v p) Proved h d = absurd (right_or_wrong a b v p (d.0, d.1, d.3) h)
+    exact given (Proved (Some at)) h d = absurd d
+    exact (Proved long) (Proved None) h d = inl refl
+    exact (Proved long) (Wrong x y w q) h d = absurd (right_or_wrong x y w q h (d.0, d.1, d.3))
+    exact (Proved long) (WrongSum x y z w q) h d = absurd (right_or_wrong_sum x y z w q h (d.0, d.1, d.3))
+    exact (Proved long) (Stopped other) h d = absurd (never_stopped h.0 other h.1 d)
+    exact (Wrong a b v p) (Proved None) h d = absurd (right_or_wrong a b v p (d.0, d.1, d.3) h)
     exact (Wrong a b v p) (Wrong x y w q) h d = inl (one_wrong x y w q a b v p (d.0, d.1, d.3) h)
     exact (Wrong a b v p) (WrongSum x y z w q) h d = absurd (product_or_sum a b v p x y z w q h (d.0, d.1, d.3))
     exact (Wrong a b v p) (Stopped other) h d = absurd (never_stopped h.0 other h.1 d)
-    exact (WrongSum a b c v p) Proved h d = absurd (right_or_wrong_sum a b c v p (d.0, d.1, d.3) h)
+    exact (WrongSum a b c v p) (Proved None) h d = absurd (right_or_wrong_sum a b c v p (d.0, d.1, d.3) h)
     exact (WrongSum a b c v p) (Wrong x y w q) h d = absurd (product_or_sum x y w q a b c v p (d.0, d.1, d.3) h)
     exact (WrongSum a b c v p) (WrongSum x y z w q) h d = inl (one_wrong_sum x y z w q a b c v p (d.0, d.1, d.3) h)
     exact (WrongSum a b c v p) (Stopped other) h d = absurd (never_stopped h.0 other h.1 d)
-    exact (Undecided tried t n seen) Proved h d = absurd (within_or_above t n (d.0, d.1, d.2) (h.0, h.1, h.2.0))
+    exact (Undecided tried t n seen) (Proved None) h d = absurd (within_or_above t n (d.0, d.1, d.2) (h.0, h.1, h.2.0))
     exact (Undecided tried t n seen) (Wrong x y w q) h d =
         absurd (⊎_elim (λ within. within_or_above t n (d.0, d.1, within) (h.0, h.1, h.2.0)) (λ few. few_or_many x y w q (d.0, d.1, (few, d.3)) (h.0, h.1, h.2.1)) d.2)
     exact (Undecided tried t n seen) (WrongSum x y z w q) h d =
         absurd (⊎_elim (λ within. within_or_above t n (d.0, d.1, within) (h.0, h.1, h.2.0)) (λ few. few_or_many_sum x y z w q (d.0, d.1, (few, d.3)) (h.0, h.1, h.2.1)) d.2)
     exact (Undecided tried t n seen) (Stopped other) h d = absurd (never_stopped h.0 other h.1 d)
     exact (Stopped why) due (inr interrupts) d = inr (why, refl, interrupts)
-    exact (Stopped why) Proved (inl h) d = absurd (never_stopped d.0 why d.1 h)
+    exact (Stopped why) (Proved None) (inl h) d = absurd (never_stopped d.0 why d.1 h)
     exact (Stopped why) (Wrong x y w q) (inl h) d = absurd (never_stopped d.0 why d.1 h)
     exact (Stopped why) (WrongSum x y z w q) (inl h) d = absurd (never_stopped d.0 why d.1 h)
     exact (Stopped why) (Stopped other) (inl h) d = inl (ap Stopped ((graph_exact profile limit file slot.Graph).one why other h d))
@@ -208,18 +210,18 @@ module _ (limit : ℕ) (task : Task) (file : List ℕ) where
   spelled given P told h = (h.0, subst (λ o. IfSome o (λ bytes. SpellsWithin profile limit bytes h.0)) told h.1, h.2)
 
 pub verdicts_are_exact : VerdictsAreExact
-verdicts_are_exact limit task files before after file due given noted told d h = exact limit task file before after given due (says given h) d
+verdicts_are_exact limits task files before after file due given noted told d h = exact limits.graph task file before after given due (says given h) d
   where
-    of_stop : (why : Stop) → IsStop (IsGraphStop slot.Graph (profile_of task.claim.add) limit (bytes_under before files.graph)) before after why →
-        Says limit task file before after (Stopped why)
-    of_stop why h = due_or_interrupts (IsGraphStop slot.Graph (profile_of task.claim.add) limit (Some file)) before after why
-        (subst (λ o. IsStop (IsGraphStop slot.Graph (profile_of task.claim.add) limit o) before after why) told h)
+    of_stop : (why : Stop) → IsStop (IsGraphStop slot.Graph (profile_of task.claim.add) limits.graph (bytes_under before files.graph)) before after why →
+        Says limits.graph task file before after (Stopped why)
+    of_stop why h = due_or_interrupts (IsGraphStop slot.Graph (profile_of task.claim.add) limits.graph (Some file)) before after why
+        (subst (λ o. IsStop (IsGraphStop slot.Graph (profile_of task.claim.add) limits.graph o) before after why) told h)
 
-    says : (v : Verdict) → IsVerdict limit task files before after v noted → Says limit task file before after v
-    says Proved h = let s = spelled limit task file _ _ told h in (s.0, s.1, s.2.0)
-    says (Wrong a b value product) h = let s = spelled limit task file _ _ told h.0 in (s.0, s.1, s.2.0)
-    says (WrongSum a b c value sum) h = let s = spelled limit task file _ _ told h.0 in (s.0, s.1, s.2.0)
-    says (Undecided tried t n seen) h = let s = spelled limit task file _ _ told h.0 in (s.0, s.1, (s.2.0, s.2.2))
+    says : (v : Verdict) → IsVerdict limits task files before after v noted → Says limits.graph task file before after v
+    says (Proved long) h = let s = spelled limits.graph task file _ _ told h in (s.0, s.1, s.2.0)
+    says (Wrong a b value product) h = let s = spelled limits.graph task file _ _ told h.0 in (s.0, s.1, s.2.0)
+    says (WrongSum a b c value sum) h = let s = spelled limits.graph task file _ _ told h.0 in (s.0, s.1, s.2.0)
+    says (Undecided tried t n seen) h = let s = spelled limits.graph task file _ _ told h.0 in (s.0, s.1, (s.2.0, s.2.2))
     says (Stopped stop.WriteFault) h = inr h.0
     says (Stopped (stop.Graph at why)) h = of_stop (stop.Graph at why) h.0
     says (Stopped (stop.TooLong at)) h = of_stop (stop.TooLong at) h.0
@@ -252,13 +254,13 @@ module _ (g : Aig) (claim : Claim) (budget : ℕ) where
 
 -- ---- the verdict
 
-module _ (limit : ℕ) (task : Task) (file : List ℕ) (h : IsEnough limit task file) where
+module _ (limits : Limits) (task : Task) (file : List ℕ) (h : IsEnough limits.graph task file) where
   does : Does task.claim h.graph
   does = (order_of_operands_is_free (made h.kind h.bits Ripple) h.graph task.claim h.same).0
       (subst (λ k. Does k (made h.kind h.bits Ripple)) (sym h.separate) (made_multiplies h.kind h.bits Ripple h.some).multiplies)
 
-  spells : SpellsWithin (profile_of task.claim.add) limit file h.graph
-  spells = subst (λ (k : Claim). SpellsWithin (profile_of k.add) limit file h.graph) (sym h.separate) h.spells
+  spells : SpellsWithin (profile_of task.claim.add) limits.graph file h.graph
+  spells = subst (λ (k : Claim). SpellsWithin (profile_of k.add) limits.graph file h.graph) (sym h.separate) h.spells
 
   never_passes : PassesBySlices (without_cut h.graph) (sides_for task.claim h.graph) task.budget → ⊥
   never_passes p =
@@ -269,21 +271,21 @@ module _ (limit : ℕ) (task : Task) (file : List ℕ) (h : IsEnough limit task 
   never_tried tried (Some n) k = never_passes (tried_passes h.graph task.claim task.budget (cut_of n) tried k.1)
 
   module _ (files : Files) (a b : View) (told : bytes_under a files.graph ≡ Some file) where
-    stops_or_not : (why : Stop) → IsStop (IsGraphStop slot.Graph (profile_of task.claim.add) limit (bytes_under a files.graph)) a b why → GivesDue Stopped a b Proved (Stopped why)
-    stops_or_not why k = stop_gives (IsGraphStop slot.Graph (profile_of task.claim.add) limit (Some file)) a b Stopped Proved why
-        (λ due. absurd ((graph_exact (profile_of task.claim.add) limit file slot.Graph).not_both why (h.graph, spells) due))
-        (subst (λ o. IsStop (IsGraphStop slot.Graph (profile_of task.claim.add) limit o) a b why) told k)
+    stops_or_not : (why : Stop) → IsStop (IsGraphStop slot.Graph (profile_of task.claim.add) limits.graph (bytes_under a files.graph)) a b why → GivesDue Stopped a b (Proved None) (Stopped why)
+    stops_or_not why k = stop_gives (IsGraphStop slot.Graph (profile_of task.claim.add) limits.graph (Some file)) a b Stopped (Proved None) why
+        (λ due. absurd ((graph_exact (profile_of task.claim.add) limits.graph file slot.Graph).not_both why (h.graph, spells) due))
+        (subst (λ o. IsStop (IsGraphStop slot.Graph (profile_of task.claim.add) limits.graph o) a b why) told k)
 
-    pub proved_or_not : (given : Verdict) (noted : Option Note) → IsVerdict limit task files a b given noted → GivesDue Stopped a b Proved given
-    proved_or_not Proved noted k = inl refl
+    pub proved_or_not : (given : Verdict) (noted : Option Note) → IsVerdict limits task files a b given noted → GivesDue Stopped a b (Proved None) (judgement given)
+    proved_or_not (Proved long) noted k = inl refl
     proved_or_not (Wrong x y value product) noted k =
-        let s = spelled limit task file _ _ told k.0 in
-        absurd (right_or_wrong limit task file x y value product (h.graph, spells, does) (s.0, s.1, s.2.0))
+        let s = spelled limits.graph task file _ _ told k.0 in
+        absurd (right_or_wrong limits.graph task file x y value product (h.graph, spells, does) (s.0, s.1, s.2.0))
     proved_or_not (WrongSum x y z value sum) noted k =
-        let s = spelled limit task file _ _ told k.0 in
-        absurd (right_or_wrong_sum limit task file x y z value sum (h.graph, spells, does) (s.0, s.1, s.2.0))
+        let s = spelled limits.graph task file _ _ told k.0 in
+        absurd (right_or_wrong_sum limits.graph task file x y z value sum (h.graph, spells, does) (s.0, s.1, s.2.0))
     proved_or_not (Undecided tried t n seen) noted k =
-        let s = spelled limit task file _ _ told k.0 in
+        let s = spelled limits.graph task file _ _ told k.0 in
         let same = one_graph (profile_of task.claim.add) file s.0 h.graph s.1.spells spells.spells in
         absurd (never_tried tried.items noted (subst (λ g. HasNote g task noted (λ used. AreTried g task.claim task.budget used tried.items)) same s.2.1))
     proved_or_not (Stopped stop.WriteFault) noted k = inr (stop.WriteFault, refl, k.0)
@@ -293,8 +295,8 @@ module _ (limit : ℕ) (task : Task) (file : List ℕ) (h : IsEnough limit task 
     proved_or_not (Stopped stop.Memory) noted k = stops_or_not stop.Memory k.0
 
 pub enough_is_proved : EnoughIsProved
-enough_is_proved limit task files before after given noted h = go (bytes_under before files.graph) refl
+enough_is_proved limits task files before after given noted h = go (bytes_under before files.graph) refl
   where
-    go : (told : Option (List ℕ)) → bytes_under before files.graph ≡ told → IfSome told (λ file. IsEnough limit task file → GivesDue Stopped before after Proved given)
+    go : (told : Option (List ℕ)) → bytes_under before files.graph ≡ told → IfSome told (λ file. IsEnough limits.graph task file → GivesDue Stopped before after (Proved None) (judgement given))
     go None same = tt
-    go (Some file) same = λ enough. proved_or_not limit task file enough files before after same given noted h
+    go (Some file) same = λ enough. proved_or_not limits task file enough files before after same given noted h

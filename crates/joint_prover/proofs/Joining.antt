@@ -11,8 +11,11 @@ use Rattle.command_core.specs.declared.stop.Stop.TheVariants as stop
 use Rattle.aiger_reader.proofs.CallerLemmas.{Inspects-OpensOnly}
 use Rattle.graph_core.specs.Graph.{Aig}
 use Rattle.graph_core.specs.Graph.Operands.{profile_of}
+use Rattle.graph_core.specs.Text.JudgedLines.{Lengths}
 use Rattle.mv_desk.specs.View.{View, Rose, bytes_under}
+use Rattle.mv_desk.specs.declared.limits.Limits.{Limits}
 use Rattle.mv_desk.specs.declared.slot.Slot.TheVariants as slot
+use Rattle.mv_text.specs.LineReading.{lengths_of}
 use Rattle.pair_core.proofs.CallerLemmas.{pair_leaves_report, report_stays, report_stays_on, stopping_leaves_report, stops_with}
 use Rattle.command_core.specs.Files.{Files}
 use Rattle.graph_core.specs.declared.memory.Memory.{Memory}
@@ -36,15 +39,15 @@ graph_is_read a r result opens = record {
   inspects = Inspects-OpensOnly slot.Graph a r result (λ e. cc) opens;
 }
 
-module _ (limit : ℕ) (task : Task) (files : Files) (a r : View) (reads : ReadsGraph a r) where
+module _ (limits : Limits) (task : Task) (files : Files) (a r : View) (reads : ReadsGraph a r) where
   -- a verdict and a note by another name
-  named : (c : View) (v w : Verdict) (noted other : Option Note) → v ≡ w → noted ≡ other → IsVerdict limit task files a c w other → IsVerdict limit task files a c v noted
-  named c v w noted other is same h = subst (λ x. IsVerdict limit task files a c x noted) (sym is) (subst (IsVerdict limit task files a c w) (sym same) h)
+  named : (c : View) (v w : Verdict) (noted other : Option Note) → v ≡ w → noted ≡ other → IsVerdict limits task files a c w other → IsVerdict limits task files a c v noted
+  named c v w noted other is same h = subst (λ x. IsVerdict limits task files a c x noted) (sym is) (subst (IsVerdict limits task files a c w) (sym same) h)
 
-  told : (c : View) (g : Aig) (d : Decision) (n : Note) (v : Verdict) (noted : Option Note) → IfSome (bytes_under a files.graph) (λ bytes. SpellsWithin (profile_of task.claim.add) limit bytes g) →
-      r.write_faults ≡ a.write_faults → IsNote g task.claim task.conflicts n → IsDecision g task (cut_of n) d → IsTold files r c d n v noted → IsVerdict limit task files a c v noted
+  told : (c : View) (g : Aig) (d : Decision) (n : Note) (v : Verdict) (noted : Option Note) → IfSome (bytes_under a files.graph) (λ bytes. SpellsWithin (profile_of task.claim.add) limits.graph bytes g) →
+      r.write_faults ≡ a.write_faults → IsNote g task.claim task.conflicts n → IsDecision g task (cut_of n) d → IsTold (lengths_of limits) files r c d n v noted → IsVerdict limits task files a c v noted
   told c g (decision.Proved p) n v noted spelled same note h (inl t) =
-      named c v Proved noted (Some n) t.0 t.1 (g, spelled, (h.0, (note, (r, reads, (clauses_text p, algebra_text p, h.2, t.2)))))
+      named c v (Proved t.0) noted (Some n) t.1 t.2 (g, spelled, (h.0, (note, (r, reads, (clauses_text p, algebra_text p, h.2, t.3, t.4)))))
   told c g (decision.Proved p) n v noted spelled same note h (inr t) = named c v (Stopped stop.WriteFault) noted None t.0 t.1
       (subst (λ k. Rose k c.write_faults) same t.2, (g, spelled, (h.0, (n, note, r, reads, stops_with files (clauses_text p) (algebra_text p) (AreClausesFor g task (cut_of n)) (IsPairFor g task (cut_of n)) r c (h.2.0, h.2.1, h.2.2.clause_file) h.2 t.3))), refl)
   told c g (decision.Wrong x y value product) n v noted spelled same note h t =
@@ -54,7 +57,7 @@ module _ (limit : ℕ) (task : Task) (files : Files) (a r : View) (reads : Reads
   told c g (decision.Undecided tried step size seen) n v noted spelled same note h t =
       named c v (Undecided tried step size seen) noted (Some n) t.0 t.1 ((g, spelled, (h.0, (note, h.1), h.2, h.3)), subst (ReadsGraph a) (sym t.2) reads)
 
-  pub stopped : (why : Stop) → IsStop (IsGraphStop slot.Graph (profile_of task.claim.add) limit (bytes_under a files.graph)) a r why → IsVerdict limit task files a r (Stopped why) None
+  pub stopped : (why : Stop) → IsStop (IsGraphStop slot.Graph (profile_of task.claim.add) limits.graph (bytes_under a files.graph)) a r why → IsVerdict limits task files a r (Stopped why) None
   stopped (stop.Graph at why) h = (h, reads, refl)
   stopped (stop.TooLong at) h = (h, reads, refl)
   stopped stop.ReadFault h = (h, reads, refl)
@@ -62,28 +65,28 @@ module _ (limit : ℕ) (task : Task) (files : Files) (a r : View) (reads : Reads
   stopped stop.Memory h = (h, reads, refl)
 
   -- where there was memory, or none
-  pub judged : (c : View) (g : Aig) (decided : Result (Decision × Note) Memory) (v : Verdict) (noted : Option Note) → IfSome (bytes_under a files.graph) (λ bytes. SpellsWithin (profile_of task.claim.add) limit bytes g) →
-      r.write_faults ≡ a.write_faults → IfOk decided (λ d. IsDecision g task (cut_of d.1) d.0) → IfOk decided (λ d. IsNote g task.claim task.conflicts d.1) → IfOk decided (λ d. IsTold files r c d.0 d.1 v noted) →
-      OnErr decided (◌≡◌ {A = Verdict × Option Note} (v, noted) (Stopped stop.Memory, None)) → OnErr decided (c ≡ r) → IsVerdict limit task files a c v noted
+  pub judged : (c : View) (g : Aig) (decided : Result (Decision × Note) Memory) (v : Verdict) (noted : Option Note) → IfSome (bytes_under a files.graph) (λ bytes. SpellsWithin (profile_of task.claim.add) limits.graph bytes g) →
+      r.write_faults ≡ a.write_faults → IfOk decided (λ d. IsDecision g task (cut_of d.1) d.0) → IfOk decided (λ d. IsNote g task.claim task.conflicts d.1) → IfOk decided (λ d. IsTold (lengths_of limits) files r c d.0 d.1 v noted) →
+      OnErr decided (◌≡◌ {A = Verdict × Option Note} (v, noted) (Stopped stop.Memory, None)) → OnErr decided (c ≡ r) → IsVerdict limits task files a c v noted
   judged c g (Ok d) v noted spelled same decision note h none untouched = told c g d.0 d.1 v noted spelled same note decision h
   judged c g (Err e) v noted spelled same decision note h none untouched =
       named c v (Stopped stop.Memory) noted None (ap (λ x. x.0) none) (ap (λ x. x.1) none) (tt, subst (ReadsGraph a) (sym untouched) reads, refl)
 
 -- ---- the report
 
-told_leaves : (files : Files) (a b : View) (d : Decision) (n : Note) (v : Verdict) (noted : Option Note) → IsTold files a b d n v noted → ReportStays a b
-told_leaves files a b (decision.Proved p) n v noted (inl t) = pair_leaves_report files (clauses_text p) (algebra_text p) a b t.2
-told_leaves files a b (decision.Proved p) n v noted (inr t) = stopping_leaves_report files (λ text. text ≡ clauses_text p) (λ beside text. text ≡ algebra_text p) a b t.3
-told_leaves files a b (decision.Wrong x y value product) n v noted t = subst (ReportStays a) (sym t.2) (report_stays a)
-told_leaves files a b (decision.WrongSum x y z value sum) n v noted t = subst (ReportStays a) (sym t.2) (report_stays a)
-told_leaves files a b (decision.Undecided tried step size seen) n v noted t = subst (ReportStays a) (sym t.2) (report_stays a)
+told_leaves : (lengths : Lengths) (files : Files) (a b : View) (d : Decision) (n : Note) (v : Verdict) (noted : Option Note) → IsTold lengths files a b d n v noted → ReportStays a b
+told_leaves lengths files a b (decision.Proved p) n v noted (inl t) = pair_leaves_report files (clauses_text p) (algebra_text p) a b t.3
+told_leaves lengths files a b (decision.Proved p) n v noted (inr t) = stopping_leaves_report files (λ text. text ≡ clauses_text p) (λ beside text. text ≡ algebra_text p) a b t.3
+told_leaves lengths files a b (decision.Wrong x y value product) n v noted t = subst (ReportStays a) (sym t.2) (report_stays a)
+told_leaves lengths files a b (decision.WrongSum x y z value sum) n v noted t = subst (ReportStays a) (sym t.2) (report_stays a)
+told_leaves lengths files a b (decision.Undecided tried step size seen) n v noted t = subst (ReportStays a) (sym t.2) (report_stays a)
 
-judged_leaves : (files : Files) (a b : View) (decided : Result (Decision × Note) Memory) (v : Verdict) (noted : Option Note) → IfOk decided (λ d. IsTold files a b d.0 d.1 v noted) → OnErr decided (b ≡ a) → ReportStays a b
-judged_leaves files a b (Ok d) v noted h same = told_leaves files a b d.0 d.1 v noted h
-judged_leaves files a b (Err e) v noted h same = subst (ReportStays a) (sym same) (report_stays a)
+judged_leaves : (lengths : Lengths) (files : Files) (a b : View) (decided : Result (Decision × Note) Memory) (v : Verdict) (noted : Option Note) → IfOk decided (λ d. IsTold lengths files a b d.0 d.1 v noted) → OnErr decided (b ≡ a) → ReportStays a b
+judged_leaves lengths files a b (Ok d) v noted h same = told_leaves lengths files a b d.0 d.1 v noted h
+judged_leaves lengths files a b (Err e) v noted h same = subst (ReportStays a) (sym same) (report_stays a)
 
-pub reading_leaves : (files : Files) (a r b : View) (decided : Result (Decision × Note) Memory) (v : Verdict) (noted : Option Note) → ReadsGraph a r → IfOk decided (λ d. IsTold files r b d.0 d.1 v noted) → OnErr decided (b ≡ r) →
+pub reading_leaves : (lengths : Lengths) (files : Files) (a r b : View) (decided : Result (Decision × Note) Memory) (v : Verdict) (noted : Option Note) → ReadsGraph a r → IfOk decided (λ d. IsTold lengths files r b d.0 d.1 v noted) → OnErr decided (b ≡ r) →
     ReportStays a b
-reading_leaves files a r b decided v noted reads h same =
+reading_leaves lengths files a r b decided v noted reads h same =
     let s = reads.inspects.report in
-    report_stays_on a r b (record { mode = s.mode; written = s.written }) (judged_leaves files r b decided v noted h same)
+    report_stays_on a r b (record { mode = s.mode; written = s.written }) (judged_leaves lengths files r b decided v noted h same)

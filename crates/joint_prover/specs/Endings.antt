@@ -18,9 +18,12 @@ use Rattle.graph_core.specs.Graph.{Aig, IsWellFormed}
 use Rattle.graph_core.specs.Graph.Operands.{AreInRange, AreOperandsOf, Does, Sides, inputs_at, profile_of, sides_for}
 use Rattle.graph_core.specs.declared.claim.Claim.{Claim}
 use Rattle.graph_core.specs.declared.numbers.Numbers.{Numbers}
+use Rattle.graph_core.specs.Text.JudgedLines.{Lengths}
 use Rattle.mv_desk.specs.View.{View, Rose}
+use Rattle.mv_desk.specs.declared.slot.Slot.{Slot}
 use Rattle.pac_writer.specs.Writing.{Made, written_ledger}
 use Rattle.pair_core.specs.Texts.{CanBeWritten, algebra_text, clauses_text}
+use Rattle.pair_limits.specs.TooLong.{IsFirstTooLong}
 use Rattle.poly_terms.specs.Tables.{Sum, modulus_in}
 use Rattle.ripple_graft.specs.Extension.{IsExtension}
 use Rattle.ripple_graft.specs.HeaderBlocks.{IsCutOf, cut_blocks}
@@ -150,12 +153,14 @@ header_of g version cut = record { version = version; blocks = cut_blocks (lengt
 
 -- ---- what is told
 
--- Of a decision with its note: a pair is written, or writing it stops; else nothing is done to the files.
-abbrev pub IsTold : Files → View → View → Decision → Note → Verdict → Option Note → Type 0
-IsTold files before after (decision.Proved p) n v noted =
-    ((v ≡ verdict.Proved) × (noted ≡ Some n) × WritesPair files (clauses_text p) (algebra_text p) before after) ⊎
+-- Of a decision with its note: a pair is written, of which it is told whether a file is too long, or writing it stops; else nothing is done
+-- to the files.
+abbrev pub IsTold : Lengths → Files → View → View → Decision → Note → Verdict → Option Note → Type 0
+IsTold lengths files before after (decision.Proved p) n v noted =
+    ((long : Option Slot) × (v ≡ verdict.Proved long) × (noted ≡ Some n) × WritesPair files (clauses_text p) (algebra_text p) before after ×
+    IsFirstTooLong lengths (clauses_text p) (algebra_text p) long) ⊎
     ((v ≡ verdict.Stopped stop.WriteFault) × (noted ≡ None) × Rose before.write_faults after.write_faults ×
     StopsWriting files (λ text. text ≡ clauses_text p) (λ beside text. text ≡ algebra_text p) before after)
-IsTold files before after (decision.Wrong a b value product) n v noted = (v ≡ verdict.Wrong a b value product) × (noted ≡ Some n) × (after ≡ before)
-IsTold files before after (decision.WrongSum a b c value sum) n v noted = (v ≡ verdict.WrongSum a b c value sum) × (noted ≡ Some n) × (after ≡ before)
-IsTold files before after (decision.Undecided tried step size seen) n v noted = (v ≡ verdict.Undecided tried step size seen) × (noted ≡ Some n) × (after ≡ before)
+IsTold lengths files before after (decision.Wrong a b value product) n v noted = (v ≡ verdict.Wrong a b value product) × (noted ≡ Some n) × (after ≡ before)
+IsTold lengths files before after (decision.WrongSum a b c value sum) n v noted = (v ≡ verdict.WrongSum a b c value sum) × (noted ≡ Some n) × (after ≡ before)
+IsTold lengths files before after (decision.Undecided tried step size seen) n v noted = (v ≡ verdict.Undecided tried step size seen) × (noted ≡ Some n) × (after ≡ before)

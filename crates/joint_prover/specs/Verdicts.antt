@@ -12,9 +12,13 @@ use Rattle.graph_core.specs.Graph.Extended.{without_cut}
 use Rattle.graph_core.specs.Graph.Operands.{Does, bits_of, inputs_of, output_modulus, product_as, profile_of, sides_for, sum_on, sum_width, value_on, width}
 use Rattle.graph_core.specs.declared.claim.Claim.{Claim}
 use Rattle.mv_desk.specs.View.{View, Rose, bytes_under, IsTold}
+use Rattle.mv_desk.specs.declared.limits.Limits.{Limits}
+use Rattle.mv_desk.specs.declared.slot.Slot.{Slot}
 use Rattle.mv_desk.specs.declared.slot.Slot.TheVariants as slot
 use Rattle.ripple_graft.specs.declared.cut.Cut.{Cut}
+use Rattle.mv_text.specs.LineReading.{lengths_of}
 use Rattle.pair_core.specs.Certificates.{IsPair}
+use Rattle.pair_limits.specs.TooLong.{IsFirstTooLong}
 use Rattle.command_core.specs.Files.{AreDistinct, Files, HasGraph}
 use Rattle.joint_prover.specs.declared.note.Note.{Note}
 use Rattle.joint_prover.specs.declared.seen.Seen.{Seen}
@@ -43,6 +47,11 @@ pub record HoldsPair (task : Task) (files : Files) (view : View) (limit : ℕ) (
   pub pair : IsPair graph task.claim clause_file algebra_file
   pub does : Does task.claim graph
   pub note : IsSomeAnd noted (λ n. IsNote graph task.claim task.conflicts n × IsPairFor graph task (cut_of n) clause_file algebra_file)
+
+-- Of the certificates that a desk holds, where it tells them, the first one that is past the limits, if one is.
+abbrev pub IsFirstTooLongHeld : Limits → Files → View → Option Slot → Type 0
+IsFirstTooLongHeld limits files view long =
+    IfSome (bytes_under view files.clauses) (λ clauses. IfSome (bytes_under view files.algebra) (λ algebra. IsFirstTooLong (lengths_of limits) clauses algebra long))
 
 -- ---- undecided
 
@@ -112,44 +121,51 @@ abbrev pub IsOfFile : ℕ → Task → Files → View → (Aig → Type 0) → T
 IsOfFile limit task files before P = HasGraph (profile_of task.claim.add) limit (bytes_under before files.graph) P
 
 -- Where each verdict comes, and what was done to the files. With each but the first and a write fault nothing was created. There is a
--- note with each but a stop.
-abbrev pub IsVerdict : ℕ → Task → Files → View → View → Verdict → Option Note → Type 0
-IsVerdict limit task files before after Proved noted =
-    IsOfFile limit task files before (λ g. Does task.claim g × HasNote g task noted (λ used.
+-- note with each but a stop. Of certificates that were written it is told which is the first that is past the limits, if one is.
+abbrev pub IsVerdict : Limits → Task → Files → View → View → Verdict → Option Note → Type 0
+IsVerdict limits task files before after (Proved long) noted =
+    IsOfFile limits.graph task files before (λ g. Does task.claim g × HasNote g task noted (λ used.
     (read : View) × ReadsGraph before read ×
-    ((clauses : List ℕ) × (algebra : List ℕ) × IsPairFor g task used clauses algebra × WritesPair files clauses algebra read after)))
-IsVerdict limit task files before after (Wrong a b value product) noted =
-    IsOfFile limit task files before (λ g. IsWrong g task.claim a b value product × HasNote g task noted (λ used. ⊤)) ×
+    ((clauses : List ℕ) × (algebra : List ℕ) × IsPairFor g task used clauses algebra × WritesPair files clauses algebra read after ×
+    IsFirstTooLong (lengths_of limits) clauses algebra long)))
+IsVerdict limits task files before after (Wrong a b value product) noted =
+    IsOfFile limits.graph task files before (λ g. IsWrong g task.claim a b value product × HasNote g task noted (λ used. ⊤)) ×
     ReadsGraph before after
-IsVerdict limit task files before after (WrongSum a b c value sum) noted =
-    IsOfFile limit task files before (λ g. IsWrongSum g task.claim a b c value sum × HasNote g task noted (λ used. ⊤)) ×
+IsVerdict limits task files before after (WrongSum a b c value sum) noted =
+    IsOfFile limits.graph task files before (λ g. IsWrongSum g task.claim a b c value sum × HasNote g task noted (λ used. ⊤)) ×
     ReadsGraph before after
-IsVerdict limit task files before after (Undecided tried step size seen) noted =
-    IsOfFile limit task files before (λ g. IsFirstAbove g task.claim task.budget step size ×
+IsVerdict limits task files before after (Undecided tried step size seen) noted =
+    IsOfFile limits.graph task files before (λ g. IsFirstAbove g task.claim task.budget step size ×
     HasNote g task noted (λ used. AreTried g task.claim task.budget used tried.items) × HaveManyOnes g task.claim ×
     IfSome seen (IsSeen g task.claim)) ×
     ReadsGraph before after
-IsVerdict limit task files before after (Stopped stop.WriteFault) noted =
+IsVerdict limits task files before after (Stopped stop.WriteFault) noted =
     Rose before.write_faults after.write_faults ×
-    IsOfFile limit task files before (λ g. Does task.claim g ×
+    IsOfFile limits.graph task files before (λ g. Does task.claim g ×
     ((n : Note) × IsNote g task.claim task.conflicts n × (read : View) × ReadsGraph before read ×
     StopsWriting files (AreClausesFor g task (cut_of n)) (IsPairFor g task (cut_of n)) read after)) × (noted ≡ None)
-IsVerdict limit task files before after (Stopped why) noted =
-    IsStop (IsGraphStop slot.Graph (profile_of task.claim.add) limit (bytes_under before files.graph)) before after why ×
+IsVerdict limits task files before after (Stopped why) noted =
+    IsStop (IsGraphStop slot.Graph (profile_of task.claim.add) limits.graph (bytes_under before files.graph)) before after why ×
     ReadsGraph before after × (noted ≡ None)
 
 -- ---- what users rest on
 
--- With `Proved` the desk holds the pair, where it tells its files and no two names are equal.
+-- With `Proved` the desk holds the pair, where it tells its files and no two names are equal; and the verdict tells which file of the pair is
+-- the first that is past the limits, if one is.
 abbrev pub ProvedPairsAreHeld : Type 0
-ProvedPairsAreHeld = (limit : ℕ) (task : Task) (files : Files) (before after : View) (noted : Option Note) →
+ProvedPairsAreHeld = (limits : Limits) (task : Task) (files : Files) (before after : View) (long : Option Slot) (noted : Option Note) →
     IsTold before → AreDistinct files.graph files.clauses files.algebra →
-    IsVerdict limit task files before after Proved noted → HoldsPair task files after limit noted
+    IsVerdict limits task files before after (Proved long) noted → HoldsPair task files after limits.graph noted × IsFirstTooLongHeld limits files after long
+
+-- a verdict without what it tells of lengths
+abbrev pub judgement : Verdict → Verdict
+judgement (Proved long) = Proved None
+judgement given = given
 
 -- The verdict that is due to a graph file where no frontier of the plain order is above the budget, where the least difference has few
 -- ones, or where no graph is spelled.
 abbrev pub IsVerdictDue : ℕ → Task → List ℕ → Verdict → Type 0
-IsVerdictDue limit task file Proved =
+IsVerdictDue limit task file (Proved None) =
     (g : Aig) × SpellsWithin (profile_of task.claim.add) limit file g × IsWithinBudget g task.claim task.budget × Does task.claim g
 IsVerdictDue limit task file (Wrong a b value product) =
     (g : Aig) × SpellsWithin (profile_of task.claim.add) limit file g ×
@@ -161,9 +177,9 @@ IsVerdictDue limit task file (WrongSum a b c value sum) =
 IsVerdictDue limit task file (Stopped why) = IsGraphStop slot.Graph (profile_of task.claim.add) limit (Some file) why
 IsVerdictDue limit task file _ = ⊥
 
--- It is given; or in its place a fault, which was counted, or want of memory.
+-- It is given, however long the certificates are; or in its place a fault, which was counted, or want of memory.
 abbrev pub VerdictsAreExact : Type 0
-VerdictsAreExact = (limit : ℕ) (task : Task) (files : Files) (before after : View) (file : List ℕ)
+VerdictsAreExact = (limits : Limits) (task : Task) (files : Files) (before after : View) (file : List ℕ)
     (due given : Verdict) (noted : Option Note) →
-    bytes_under before files.graph ≡ Some file → IsVerdictDue limit task file due →
-    IsVerdict limit task files before after given noted → GivesDue Stopped before after due given
+    bytes_under before files.graph ≡ Some file → IsVerdictDue limits.graph task file due →
+    IsVerdict limits task files before after given noted → GivesDue Stopped before after due (judgement given)

@@ -7,6 +7,7 @@ ghost use Rattle.graph_core.specs.Graph.{Aig};
 ghost use Rattle.graph_core.specs.Graph.Operands.{profile_of};
 ghost use Rattle.command_core.specs.Files.{files_of};
 ghost use Rattle.mv_desk.specs.View.{KeepsTelling, OpensFiles};
+ghost use Rattle.mv_text.specs.LineReading.{lengths_of};
 ghost use Rattle.joint_prover.specs.declared.task.Task.{Task as TaskOf};
 ghost use Rattle.joint_prover.specs.Budgets.{ProvesEnough};
 ghost use Rattle.joint_prover.specs.Notes.{IsNote, cut_of};
@@ -26,6 +27,7 @@ use command_core::{Names, Stop, read_graph};
 use graph_core::{Graph, Memory, Operands};
 use mv_desk::{Desk, Limits, Slot};
 use pair_core::write_pair;
+use pair_limits::first_too_long;
 use ripple_graft::Extended;
 use stage_rewriter::rewrite;
 use std::alloc::Global;
@@ -40,7 +42,7 @@ pub fn verify<D: Desk>(
     names: &Names<'_>,
 ) -> (Verdict, Option<Note>)
     requires { IsVersion task.now.version }
-    ensures verdict { IsVerdict limits.now.graph task.now (files_of names.now)
+    ensures verdict { IsVerdict limits.now task.now (files_of names.now)
         (D.seen desk.old) (D.seen desk.new) result.0 result.1 }
     // With enough budget a made multiplier with a ripple-carry adder is proved, but for a fault or want of memory.
     ensures enough { ProvesEnough limits.now.graph task.now (files_of names.now)
@@ -53,7 +55,7 @@ pub fn verify<D: Desk>(
 {
     let profile = task.claim.profile();
     match read_graph(alloc, desk, Slot::Graph, names.graph, profile, limits) {
-        Ok(graph) => tell(desk, decide(alloc, task, &graph), names),
+        Ok(graph) => tell(desk, decide(alloc, task, &graph), limits, names),
         Err(why) => (Verdict::Stopped(why), None),
     }
 }
@@ -88,11 +90,12 @@ pub fn decide(alloc: Global, task: &Task, graph: &Graph) -> Result<(Decision, No
 fn tell<D: Desk>(
     desk: &mut D,
     decided: Result<(Decision, Note), Memory>,
+    limits: &Limits,
     names: &Names<'_>,
 ) -> (Verdict, Option<Note>)
     requires { (g : Aig) × (task : TaskOf) × IfOk decided (λ r. IsDecision g task (cut_of r.1) r.0) }
-    ensures told { IfOk decided (λ r. IsTold (files_of names.now) (D.seen desk.old) (D.seen desk.new)
-        r.0 r.1 result.0 result.1) }
+    ensures told { IfOk decided (λ r. IsTold (lengths_of limits.now) (files_of names.now)
+        (D.seen desk.old) (D.seen desk.new) r.0 r.1 result.0 result.1) }
     ensures memory { OnErr decided (result ≡ (Stopped stop.Memory, None)) }
     ensures untouched { OnErr decided (D.seen desk.new ≡ D.seen desk.old) }
     ensures opened { (D.seen desk.new).opened ≡ (D.seen desk.old).opened }
@@ -101,10 +104,13 @@ fn tell<D: Desk>(
 {
     match decided {
         Ok((decision, note)) => match decision {
-            Decision::Proved(pair) => match write_pair(desk, &pair, names) {
-                Ok(()) => (Verdict::Proved, Some(note)),
-                Err(_) => (Verdict::Stopped(Stop::WriteFault), None),
-            },
+            Decision::Proved(pair) => {
+                let too_long = first_too_long(&pair, limits);
+                match write_pair(desk, &pair, names) {
+                    Ok(()) => (Verdict::Proved { too_long }, Some(note)),
+                    Err(_) => (Verdict::Stopped(Stop::WriteFault), None),
+                }
+            }
             Decision::Wrong {
                 a,
                 b,

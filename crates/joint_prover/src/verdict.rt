@@ -1,12 +1,16 @@
 // The ends of a verification.
 use crate::seen::Seen;
 use command_core::Stop;
+use mv_desk::Slot;
 
 /// What `verify` says of a graph.
 #[derive(Debug, Drop)]
 pub enum Verdict {
     /// The graph does what is claimed, and both certificates were written.
-    Proved,
+    Proved {
+        /// the first of them that is past the limits, if one is: `check` takes no such pair
+        too_long: Option<Slot>,
+    },
     /// The least operands on which the graph differs, its value there, and the product modulo 2 ^ the number of
     /// outputs. Operands are told as their bits count unsigned.
     Wrong {
