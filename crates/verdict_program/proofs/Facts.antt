@@ -35,7 +35,7 @@ Succeeds (Make design bits adder out) a b = TellsHeld a → TellsNames a → b.h
 Succeeds (Trial number) a b = (n : Note) × OfMade (sample_of number) (IsAcceptedWith n)
 Succeeds (Same files conflicts) a b = AreTheSame a files.graph files.other × (TellsHeld a → TellsNames a → HoldsEqual standard.graph conflicts (pair_asked files) b)
 Succeeds (CheckSame files) a b = AreTheSame a files.graph files.other
-Succeeds (Trim files claim) a b = IsAsClaimed a files.graph claim × (TellsHeld a → TellsNames a → HoldsTrimmed standard claim (trim_files_asked files) b)
+Succeeds (Trim files claim) a b = IsAsClaimed a files.graph claim × (TellsHeld a → TellsNames a → HoldsTrimmed standard claim (trim_files_asked files) a b)
 
 -- where statuses 1, 2 and 5 come
 abbrev pub IsWrongFor : Command → View → Type 0

@@ -40,7 +40,8 @@ module _ (limits : Limits) (conflicts : ℕ) (files : ComparedFiles) (a c : View
   report_stays (same.Differs inputs) h = reads_leave a c h.1
   report_stays (same.Spent lemmas goal log) h = reads_leave a c h.1
   report_stays same.Shapes h = reads_leave a c h.1
-  report_stays (same.Stopped stop.WriteFault) (rose, (lines, b, inspects, stops)) = leaves_both a b c (reads_leave a b inspects) (stopped_leaves lines b stops)
+  report_stays (same.Stopped stop.WriteFault) (rose, (g, spelled, (h, other_spelled, (shape, (agree, (lines, b, written, reads, stops)))))) =
+      leaves_both a b c (reads_leave a b reads.inspects) (stopped_leaves lines b stops)
   report_stays (same.Stopped (stop.Graph at why)) h = reads_leave a c h.1
   report_stays (same.Stopped (stop.TooLong at)) h = reads_leave a c h.1
   report_stays (same.Stopped stop.ReadFault) h = reads_leave a c h.1

@@ -51,7 +51,7 @@ module _ (files : TrimFiles) (claim : Claim) (a b : View) (leaves : LeavesFiles 
     apart = leaves.apart;
   }
 
-  held : (outcome : TrimAnswer) → Is outcome → status_of_trim outcome ≡ 0 → TellsHeld a → TellsNames a → HoldsTrimmed standard claim (trim_files_asked files) b
+  held : (outcome : TrimAnswer) → Is outcome → status_of_trim outcome ≡ 0 → TellsHeld a → TellsNames a → HoldsTrimmed standard claim (trim_files_asked files) a b
   held (trim.Trimmed pair) h e told names = trimmed_pairs_are_held standard claim (trim_files_asked files) a b pair (record { held = told; names = names }) leaves_old h
   held (trim.Refused why) h e told names = absurd (omega arith)
   held (trim.Stopped why) h e told names = absurd ((stop_is_apart why).zero e)

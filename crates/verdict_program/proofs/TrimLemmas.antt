@@ -33,12 +33,12 @@ module _ (limits : Limits) (claim : Claim) (files : TrimmedFiles) (a c : View) w
 
   -- `trim` leaves the report as it was
   pub trim_leaves_report : (outcome : TrimAnswer) → IsTrimAnswer limits claim files a c outcome → ReportStays a c
-  trim_leaves_report (trim.Trimmed pair) (accepted, (g, spelled, (does, (clauses, algebra, trims, (b, reads, w))))) =
+  trim_leaves_report (trim.Trimmed kept) (accepted, (g, spelled, (does, (clauses, algebra, pair, trims, (b, reads, w))))) =
       leaves_both a b c (reads_leave a b reads.inspects) (leaves_both b w.between c
       (whole_leaves slot.Clauses no_clauses files.to_clauses clauses b w.between w.clause_file)
       (whole_leaves slot.Algebra no_algebra files.to_algebra algebra w.between c w.algebra_file))
   trim_leaves_report (trim.Refused why) h = reads_leave a c h.inspects
-  trim_leaves_report (trim.Stopped stop.WriteFault) (rose, accepted, (pair, (g, spelled, (does, (clauses, algebra, trims, (b, reads, stops)))))) =
+  trim_leaves_report (trim.Stopped stop.WriteFault) (rose, accepted, (kept, (g, spelled, (does, (clauses, algebra, pair, trims, (b, reads, stops)))))) =
       leaves_both a b c (reads_leave a b reads.inspects) (pair_stopped (λ text. text ≡ clauses) (λ beside text. text ≡ algebra) b stops)
   trim_leaves_report (trim.Stopped (stop.Graph at why)) h = reads_leave a c h.inspects
   trim_leaves_report (trim.Stopped (stop.TooLong at)) h = reads_leave a c h.inspects
