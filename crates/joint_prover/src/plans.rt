@@ -1,5 +1,7 @@
 // The order of plans: what is tried over which graph, with which budget, until one decides.
-ghost use Rattle.std.specs.Prelude.{◌≡◌, ◌≤◌, ◌++◌, ◌∷◌, [], IfOk, IfSome, IsNone};
+ghost use Rattle.std.specs.Prelude.{◌≡◌, ◌≤◌, ◌++◌, ◌∷◌, [], Some, IfOk, IfSome, IsNone};
+ghost use Rattle.frontier_core.specs.LastFrontier.{AgreeEverywhere};
+ghost use Rattle.stage_rewriter.specs.Rewriting.{IsShownRewriting};
 ghost use Rattle.joint_prover.specs.declared.verdict.Tried.{Tried as TriedPlan};
 ghost use Rattle.joint_prover.specs.Decisions.{IsDecision};
 ghost use Rattle.joint_prover.specs.Endings.{AreLeast, Decides, IsEnd, IsJob, IsShown, cut_named, cut_of_found};
@@ -38,16 +40,18 @@ const WHOLE: u64 = u64::MAX;
 const SOON: [Try; 1] = [(Lines::Reduced, Order::Slices, 1)];
 
 // What comes over the graph with an adder at a cut that is found.
-const FOUND: [Try; 6] = [
+const FOUND: [Try; 5] = [
     (Lines::Reduced, Order::Slices, 1),
     (Lines::Drafted, Order::Slices, 1),
     (Lines::Drafted, Order::SumsLast, 16),
     (Lines::Reduced, Order::ByColumn, 2),
     (Lines::Reduced, Order::AtEnd, 16),
-    (Lines::Reduced, Order::Slices, WHOLE),
 ];
 
-// What comes before the whole budget, over the same graph as what comes first.
+// What comes there at last.
+const FOUND_AT_LAST: [Try; 1] = [(Lines::Reduced, Order::Slices, WHOLE)];
+
+// What comes before any whole budget, over the same graph as what comes first.
 const DRAFTED: [Try; 1] = [(Lines::Drafted, Order::SumsLast, 16)];
 
 // What it may cost to try values of the inputs before a plan is known to be hard: at 64 bits, those with two ones.
@@ -70,16 +74,91 @@ pub(crate) fn decide_by_plans(
     if let Some(decision) = decide_soon(alloc, job)? {
         return Ok((decision, None));
     }
-    if let Some(found) = find_cut(alloc, job.graph, job.operands, job.task.conflicts)? {
-        let shown = Shown::with_adder(&found.cut, &found.extended, &found.log);
-        // the job is lent again, since what was found lives shorter
-        if let Some(decision) = decide_over(alloc, &*job, shown, &FOUND)? {
-            let Found { cut, .. } = found;
-            return Ok((decision, Some(cut)));
-        }
+    if let Some(decided) = decide_by_values(alloc, job)? {
+        return Ok(decided);
     }
     let decision = decide_at_last(alloc, job)?;
     Ok((decision, None))
+}
+
+// What plans decide over the graph with an adder that is found by values, and over the graph of the first plan lines that
+// are drafted.
+fn decide_by_values(alloc: Global, job: &Job<'_>) -> Result<Option<(Decision, Option<Cut>)>, Memory>
+    requires { IsJob job.now }
+    ensures found { IfOk result (λ r. IfSome r (λ d. IfSome d.1 (IsFoundCut job.now.graph.now))) }
+    ensures decision { IfOk result (λ r. IfSome r (λ d. IsDecision job.now.graph.now job.now.task
+        (cut_of_found (cut_named job.now.used) d.1) d.0)) }
+{
+    let (before, between) = drafted(job);
+    if let Some(decision) = decide_over(alloc, job, job.used, before)? {
+        return Ok(Some((decision, None)));
+    }
+    if let Some(found) = find_cut(alloc, job.graph, job.operands, job.task.conflicts)? {
+        return decide_with(alloc, job, found, between);
+    }
+    if let Some(decision) = decide_over(alloc, job, job.used, between)? {
+        return Ok(Some((decision, None)));
+    }
+    Ok(None)
+}
+
+// The plans whose lines are drafted over the graph of the first plan: those before an adder by values, and those after
+// it. Where an adder is used already, what is in the way is seldom the last one.
+fn drafted(job: &Job<'_>) -> (&'static [Try], &'static [Try]) {
+    if job.used.cut.is_some() {
+        (&DRAFTED, &[])
+    } else {
+        (&[], &DRAFTED)
+    }
+}
+
+// What plans decide over the graph with the adder that was found, before and after some over the graph of the first
+// plan.
+fn decide_with<'a>(
+    alloc: Global,
+    job: &Job<'a>,
+    found: Found<'a>,
+    between: &[Try],
+) -> Result<Option<(Decision, Option<Cut>)>, Memory>
+    requires job { IsJob job.now }
+    requires shown { IsShownRewriting job.now.graph.now job.now.task.conflicts
+        found.cut found.extended found.log.lines }
+    requires agree { AgreeEverywhere found.extended }
+    ensures found { IfOk result (λ r. IfSome r (λ d. IfSome d.1 (IsFoundCut job.now.graph.now))) }
+    ensures decision { IfOk result (λ r. IfSome r (λ d. IsDecision job.now.graph.now job.now.task
+        (cut_of_found (cut_named job.now.used) d.1) d.0)) }
+{
+    if let Some(decision) = decide_over_found(alloc, job, &found, &FOUND)? {
+        let Found { cut, .. } = found;
+        return Ok(Some((decision, Some(cut))));
+    }
+    if let Some(decision) = decide_over(alloc, job, job.used, between)? {
+        return Ok(Some((decision, None)));
+    }
+    if let Some(decision) = decide_over_found(alloc, job, &found, &FOUND_AT_LAST)? {
+        let Found { cut, .. } = found;
+        return Ok(Some((decision, Some(cut))));
+    }
+    Ok(None)
+}
+
+// What the first of these plans over the graph with an adder decides that keeps to its budget.
+fn decide_over_found<'a>(
+    alloc: Global,
+    job: &Job<'a>,
+    found: &Found<'a>,
+    plans: &[Try],
+) -> Result<Option<Decision>, Memory>
+    requires job { IsJob job.now }
+    requires shown { IsShownRewriting job.now.graph.now job.now.task.conflicts
+        found.now.cut found.now.extended found.now.log.lines }
+    requires agree { AgreeEverywhere found.now.extended }
+    ensures { IfOk result (λ d. IfSome d
+        (Decides job.now.graph.now job.now.task (Some found.now.cut))) }
+{
+    let shown = Shown::with_adder(&found.cut, &found.extended, &found.log);
+    // the job is lent again, since what was found lives shorter
+    decide_over(alloc, &*job, shown, plans)
 }
 
 // Before a plan has more than the small budget: most graphs are decided here.
@@ -97,16 +176,13 @@ fn decide_soon(alloc: Global, job: &Job<'_>) -> Result<Option<Decision>, Memory>
     wrong_on_few(alloc, job, FEW)
 }
 
-// Lines from drafts; and with the whole budget, where values of the inputs with few ones don't show that the graph is
+// With the whole budget, where values of the inputs with few ones don't show that the graph is
 // wrong, the slice plan over the graph with the adder that is used, if any, the slice plan over the graph alone, and
 // the plain plan.
 fn decide_at_last(alloc: Global, job: &Job<'_>) -> Result<Decision, Memory>
     requires { IsJob job.now }
     ensures { IfOk result (IsDecision job.now.graph.now job.now.task (cut_named job.now.used)) }
 {
-    if let Some(decision) = decide_over(alloc, job, job.used, &DRAFTED)? {
-        return Ok(decision);
-    }
     if let Some(decision) = wrong_on_few(alloc, job, MORE)? {
         return Ok(decision);
     }
