@@ -43,7 +43,7 @@ loads_none s max e = subst (λ (t : Standing). Loads t max []) (sym e) (record {
 pub same_live_self : (a b : List Clause) → a ≡ b → SameLive a b
 same_live_self a b e = record { there = λ c has. subst (λ (cs : List Clause). Contains cs c) e has; back = λ c has. subst (λ (cs : List Clause). Contains cs c) (sym e) has }
 
--- a clause behind the others is as good as before them
+-- a clause after the others is as good as before them
 pub same_live_front : (clauses : List Clause) (c : Clause) → SameLive (clauses ++ c ∷ []) (c ∷ clauses)
 same_live_front clauses c = record {
   there = λ d has. ⊎_elim (contains_there c clauses d) (λ e. subst (Contains (c ∷ clauses)) e (contains_here c clauses)) (Contains-push_cases clauses c d has);

@@ -16,7 +16,7 @@ use Rattle.unit_prop.specs.Trail.{IsLiteralUpTo, IsOpen}
 use Rattle.unit_prop.proofs.Findings as findings
 use Rattle.unit_prop.proofs.TrailSteps.{apart_push, at_push}
 
--- an element behind others
+-- an element after others
 pub front : {X : Type 0} (xs ys : List X) (i : ℕ) (d : X) → i < length xs → slice_index_or (xs ++ ys) i d ≡ slice_index_or xs i d
 front [] ys i d h = absurd (omega arith)
 front (x ∷ xs) ys zero d h = refl

@@ -83,7 +83,7 @@ abbrev pub Refutes : Standing → AnalysisView → ℕ → Type 0
 Refutes s a n = (standing : List ℤ) → ((j : ℕ) → j < n → IsSeen a (signed_variable (at s.trail.literals j)) → Contains standing (at s.trail.literals j)) →
     IsRefuted (live_of s.clauses) standing
 
--- every literal behind this place was forced
+-- every literal after this place was forced
 abbrev pub IsForcedBehind : Standing → ℕ → Type 0
 IsForcedBehind s level = (i : ℕ) → level < i → i < length s.trail.literals → reason_at s.trail.reasons i ≢ None
 

@@ -32,7 +32,7 @@ abbrev pub BeginsSearch : Standing → Standing → List ℤ → Bool → Type 0
 BeginsSearch old new assumptions true = GainsStanding old new × StandsUnder new assumptions
 BeginsSearch old new assumptions false = GainsStanding old new × IsRup (live_of old.clauses) (map neg_ℤ assumptions)
 
--- A conflict behind a decision: before it every consequence stood, and behind it each literal was forced.
+-- A conflict after a decision: before it every consequence stood, and after it each literal was forced.
 pub record IsConflictAt (s : Standing) (clause level : ℕ) : Type 0 where
   pub sound : IsSound s
   pub conflict : IsConflict s clause

@@ -11,8 +11,8 @@ use graph_core::Memory;
 use std::alloc::Global;
 use unit_prop::{Mark, Propagator};
 
-/// The moment at which only the literals of unit clauses stood, and those since at which every consequence did: behind
-/// the assumptions, and behind each decision.
+/// The moment at which only the literals of unit clauses stood, and those since at which every consequence did: after
+/// the assumptions, and after each decision.
 #[derive(Debug, Drop)]
 pub(crate) struct Levels {
     base: Mark,

@@ -6,7 +6,7 @@
 //! want of memory among them, the lines before stay, at most that many lemmas come, each over the variables, and each
 //! line that was logged is lawful. A `Solver` keeps its clauses and the order of decisions from goal to goal, and shows
 //! clauses of two literals as lemmas of their own: only such as follow by propagation over the clauses and the log
-//! (`shown`). Which variable is decided next, and where a search goes on, is advice; so are the values that `suggest`
+//! (`shown`). Which variable is decided next, and where a search goes on, is a heuristic; so are the values that `suggest`
 //! has tried first. Variables of no clause are never decided, and a model has them false. The function `solve`, without
 //! a `Solver`, is a promised call of the library, and no command needs it.
 //!

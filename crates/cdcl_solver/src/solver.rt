@@ -89,15 +89,15 @@ impl Solver {
         self.levels.add_anew(&mut self.propagator, clause)
     }
 
-    /// Decides these variables before the others, the last one first. It is advice: no answer depends on it.
+    /// Decides these variables before the others, the last one first. No answer depends on it.
     pub fn prefer(&mut self, vars: &[u32])
         ensures { self.new ≡ self.old }
     {
         self.order.prefer(vars);
     }
 
-    /// Decides the variables of these literals before the others, the last one first, and tries these values first. It is
-    /// advice too.
+    /// Decides the variables of these literals before the others, the last one first, and tries these values first. No
+    /// answer depends on it.
     pub fn suggest(&mut self, lits: &[i32])
         ensures { self.new ≡ self.old }
     {

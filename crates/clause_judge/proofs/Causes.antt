@@ -3,7 +3,7 @@ use Rattle.std.specs.Prelude.{◌⊎◌}
 use Rattle.std.proofs.Common.{inl, inr, ⊎_elim}
 use Rattle.graph_core.specs.Text.JudgedLines.{IsExact}
 
--- causes of one thing, and behind it those of another
+-- causes of one thing, and after it those of another
 pub next_exact : {C G H : Type 0} {Refused Others : C → Type 0} → IsExact G Refused → (G → IsExact H Others) → IsExact (G × H) (λ c. Refused c ⊎ (G × Others c))
 next_exact e h = record {
   decided = ⊎_elim (λ g. ⊎_elim (λ k. inl (g, k)) (λ r. inr (r.0, inr (g, r.1))) (h g).decided) (λ r. inr (r.0, inl r.1)) e.decided;

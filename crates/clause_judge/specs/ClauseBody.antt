@@ -1,4 +1,4 @@
--- What stands behind the header of a clause file, over any gates: when it is lawful, and its first refusal.
+-- What stands after the header of a clause file, over any gates: when it is lawful, and its first refusal.
 use Rattle.std.specs.Prelude.{◌≡◌, ◌+◌, ◌*◌, ◌<◌, ◌≤◌, ◌^◌, ℕ, List, [], length, IfErr, IfOk, IfSome, OnOk, Result, ⊤}
 use Rattle.std.specs.declared.option.Option.{Option}
 use Rattle.std.specs.declared.option.Option.TheVariants.{None, Some}
@@ -30,14 +30,14 @@ use Rattle.clause_judge.specs.declared.judging.JudgeClauses.{JudgeClauses}
 abbrev pub Ends : (List ℕ → Type 0) → List Clause → List ℕ → Type 0
 Ends IsLong live bytes = ¬ (IsLong bytes) × (bytes ≡ [])
 
--- From these live clauses on the lines are lawful, no line is too long, and nothing stands behind them.
+-- From these live clauses on the lines are lawful, no line is too long, and nothing stands after them.
 abbrev pub Pass : Extended → (List ℕ → Type 0) → List ClauseLine → List Clause → List ℕ → Type 0
 Pass e IsLong = Behind IsClauseLine (IsClauseStep e) IsLong (Ends IsLong)
 
 abbrev pub HasPassed : Extended → Lines → List ClauseLine → List ℕ → Type 0
 HasPassed e lines xs body = Pass e (IsLongIn lines body) xs (gate_clauses e.gates) body
 
--- The lines behind the header are lawful, where this reader has them before it, and they show each goal.
+-- The lines after the header are lawful, where this reader has them before it, and they show each goal.
 abbrev pub IsShownBody : Extended → Lines → List ℕ → Type 0
 IsShownBody e lines body = (xs : List ClauseLine) × HasPassed e lines xs body × AreGoalsShown xs e
 
@@ -146,7 +146,7 @@ pub record IsSameTask (start it : JudgeClauses) : Type 0 where
   pub file : it.file.ghost_name ≡ start.file.ghost_name
   pub task : KeepsClauseTask start.checker.now it.checker.now
 
--- the line at hand is in range, and the file goes on behind it
+-- the line at hand is in range, and the file goes on after it
 abbrev pub IsAtHand : ℕ → FileState → Option ClauseLine → Type 0
 IsAtHand max file None = ⊤
 IsAtHand max file (Some line) = IsClauseInRange max (clause_in line) × GoesOn file

@@ -40,9 +40,9 @@ IsRefusedClause live (Delete c) = Unless (Any (λ d. SameSet d c) live) (¬ (Any
 abbrev pub IsRefusedClauseLine : Extended → List Clause → ClauseLine → LineCause → Type 0
 IsRefusedClauseLine e live x = Unless (IsClauseInRange e.max (clause_in x)) (¬ (IsClauseInRange e.max (clause_in x))) Range (IsRefusedClause live x)
 
--- ---- the lines behind a header
+-- ---- the lines after a header
 
--- what is wrong where bytes are left behind lawful lines
+-- what is wrong where bytes are left after lawful lines
 abbrev pub IsRefusedClauseText : Extended → List Clause → List ℕ → LineCause → Type 0
 IsRefusedClauseText e live bytes cause =
     (((x : ClauseLine) (rest : List ℕ) → BeginsWith IsClauseLine bytes x rest → ⊥) × (bytes ≢ []) × (cause ≡ Text)) ⊎

@@ -13,7 +13,7 @@ use Rattle.drup_checker.specs.declared.keeps.Keeps.{Keeps}
 use Rattle.miter_encoder.specs.ColumnGoals.{AreGoalsOf}
 use Rattle.clause_judge.specs.LineRefusals.{IsClauseStep}
 
--- lines that are lawful one behind the other take the live clauses to the last ones
+-- lines that are lawful one after the other take the live clauses to the last ones
 abbrev pub TakeClauses : Extended → List Clause → List ClauseLine → List Clause → Type 0
 TakeClauses e live [] last = last ≡ live
 TakeClauses e live (x ∷ xs) last = (next : List Clause) × IsClauseStep e live x next × TakeClauses e next xs last

@@ -15,7 +15,7 @@ use drup_text::ClauseFile;
 use mv_desk::Desk;
 use mv_text::{JudgeLines, judge_lines};
 
-/// Judges a line that was read and those behind it, up to the end of the file, and then the goals, by a checker that has
+/// Judges a line that was read and those after it, up to the end of the file, and then the goals, by a checker that has
 /// taken no line; the answer is how many lines these are. The greatest variable is the checker's.
 pub fn judge_from<D: Desk>(
     desk: &mut D,

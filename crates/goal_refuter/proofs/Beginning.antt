@@ -34,7 +34,7 @@ begun_none max given conflicts solver log is none = subst (λ (s : SolverView). 
   kept = record { max_is = refl; live = live_itself given; in_range = All-nil (IsClauseInRange max) };
 }))
 
--- More lines behind more lines.
+-- More lines after more lines.
 continues_on : (max : ℕ) (given : List Clause) (n m limit : ℕ) (old mid new : LogView) → Continues max given n old mid → Continues max given m mid new → lemmas new ≤ lemmas old + limit → Continues max given limit old new
 continues_on max given n m limit old mid new a b few = record {
   more = a.more ++ b.more;

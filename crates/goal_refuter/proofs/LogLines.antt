@@ -1,4 +1,4 @@
--- Lines of a log that refute goals: over another list with the same sets, with more lemmas or a goal behind them, and what they come to.
+-- Lines of a log that refute goals: over another list with the same sets, with more lemmas or a goal after them, and what they come to.
 use Rattle.std.specs.Prelude.{◌≡◌, suc, ◌+◌, ◌*◌, ◌≤◌, List, [], ◌∷◌, ◌++◌, length}
 use Rattle.std.specs.List.{Any, AllByRecursion, Contains, fold}
 use Rattle.std.proofs.Common.{refl, sym, ap, subst, ◌∙◌, arith, inl, inr, ⊎_elim, append_assoc}
@@ -44,7 +44,7 @@ log_over given other goals own (Add c ∷ lines) left same h = (
 )
 log_over given other goals own (Delete c ∷ lines) left same h = (h.0, h.1, log_over given other goals h.0 lines left same h.2)
 
--- ---- lines behind lines
+-- ---- lines after lines
 
 pub log_joins : (given goals own : List Clause) (xs : List ClauseLine) (mid : List Clause) (ys : List ClauseLine) (left : List Clause) → AreLogLines given goals own xs mid → AreLogLines given goals mid ys left → AreLogLines given goals own (xs ++ ys) left
 log_joins given goals own [] mid ys left h k = subst (λ z. AreLogLines given goals z ys left) h k

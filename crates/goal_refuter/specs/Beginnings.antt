@@ -25,7 +25,7 @@ abbrev pub AreShownEqual : List Clause → Lit → Lit → Type 0
 AreShownEqual live one other =
     IsRup live (signed_of (negation_of one) ∷ signed_of other ∷ []) × IsRup live (signed_of one ∷ signed_of (negation_of other) ∷ [])
 
--- Whichever clauses, gates and columns they are of, this comes of all goals behind the log.
+-- Whichever clauses, gates and columns they are of, this comes of all goals after the log.
 abbrev pub IsOutcomeBehind : SolverView → LogView → List Clause → ℕ → Outcome → Type 0
 IsOutcomeBehind solver log goals conflicts outcome = (e : Extended) (given : List Clause) →
     AreOver e solver.max given goals → IsBegun solver.max given conflicts solver log → IsGoalsOutcome e conflicts outcome

@@ -20,7 +20,7 @@ abbrev pub unmet_goals : Extended → List Clause
 unmet_goals e = flat_map unmet_of e.replaced
 
 -- Lines over a clause list that refute the negations of goals: lemmas, then the first goal, which follows from the clauses that are live then, and so
--- on, and behind the last goal lemmas again.
+-- on, and after the last goal lemmas again.
 abbrev pub AreRefuted : List Clause → List Clause → List Clause → List ClauseLine → List Clause → Type 0
 AreRefuted given own [] lines left = AreLogLines given [] own lines left
 AreRefuted given own (goal ∷ goals) lines left = (before after : List ClauseLine) × (live : List Clause) × (c : Clause) ×

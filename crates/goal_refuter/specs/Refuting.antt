@@ -17,7 +17,7 @@ use Rattle.goal_refuter.specs.Refutations.{IsRefutationLog, IsSpent, unmet_goals
 use Rattle.goal_refuter.specs.declared.refuting.Outcome.{Outcome}
 use Rattle.goal_refuter.specs.declared.refuting.Outcome.TheVariants as outcome
 
--- The goal follows from what lemmas left live, and was added behind them.
+-- The goal follows from what lemmas left live, and was added after them.
 pub record IsShownNext (max : ℕ) (given : List Clause) (goal : Clause) (conflicts : ℕ) (old new : LogView) : Type 0 where
   pub between : LogView
   pub continues : Continues max given conflicts old between

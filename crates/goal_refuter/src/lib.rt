@@ -2,7 +2,7 @@
 //!
 //! `refute_goals` has the negation of each goal refuted, one after the other, and answers one of three: the log, whose
 //! lines are a lawful clause certificate that shows each goal; an evaluation of the gates at which some goal fails; or
-//! a spent budget with the log that spent it. `refute` is one goal. `refute_behind` does the same behind a log of
+//! a spent budget with the log that spent it. `refute` is one goal. `refute_behind` does the same after a log of
 //! lemmas, such as those by which `show_equal` shows two literals to be equal: these count among the conflicts
 //! (`begun`), and it is true only where each literal implies the other by unit propagation (`shown`). `differ_at` gives an
 //! evaluation at which a goal fails, where values that are thought to show that are told.

@@ -42,7 +42,7 @@ pub fn refute_goals(
     refute_behind(alloc, goals, conflicts, &mut solver, Log::new(alloc))
 }
 
-/// The same behind a log of lemmas, which count among the conflicts, by a solver over the clauses of the gates and what
+/// The same after a log of lemmas, which count among the conflicts, by a solver over the clauses of the gates and what
 /// the log left.
 pub fn refute_behind(
     alloc: Global,

@@ -1,4 +1,4 @@
--- The header of an algebra file, and the whole file by what stands behind it.
+-- The header of an algebra file, and the whole file by what stands after it.
 use Rattle.std.proofs.Common.{◌≡◌, ℕ, ◌≤◌, List, [], ◌∷◌, ◌++◌, length, Option, IfSome, refl, sym, ap, subst, ◌∙◌, append_assoc, inl, inr}
 use Rattle.std.specs.Prelude.{Bool, true, false, cond, codes, ◌==◌}
 use Rattle.algebra_core.specs.Refusal as cause
@@ -91,7 +91,7 @@ module _ (lengths : Lengths) (given : Premises) (sides : Sides) where
         (λ bytes k. let there = told_of behind k.body (λ body. (line : ℕ) × IsRefusedBody given sides (IsLongIn file.lines body) body (line, cause.TooLong)) k.left h in
         (there.0, file_is_refused file same bytes behind k there.0 cause.TooLong there.1)) header
 
-    -- what is behind the header isn't lawful
+    -- what is after the header isn't lawful
     pub body_fails : (first before now : View) (answer : Checked) → first.read_faults ≤ before.read_faults → IsBodyFail given sides file.lines behind before now answer → IsAlgebraFail lengths given sides text first now answer
     body_fails first before now checked.Accepted later h = absurd h
     body_fails first before now (checked.Stopped (stop.Graph at why)) later h = absurd h

@@ -119,7 +119,7 @@ module _ (given : Premises) (sides : Sides) (start : Lines) where
         at_line body (2 + count + 0) (2 + count) cause.TooLong (add-zero (2 + count))
         (reached.refused 0 cause.TooLong (refused_here given sides (IsLongIn start body) reached.ledger reached.rest (0, cause.TooLong) (inl (long_here long, refl))))
 
-    -- the closing line, and what stands behind it
+    -- the closing line, and what stands after it
     module _ (new : Lines) (behind : Option (List ℕ)) (h : TakesClosing given.extended sides known lines new reached.rest behind) where
       pub closed_is_lawful : h.rest ≡ [] → IsLawfulBody given sides start body
       closed_is_lawful none =
@@ -183,7 +183,7 @@ module _ (given : Premises) (sides : Sides) (start : Lines) (body : Option (List
   too_many many limit = told_more body (IsLedgerReached given sides start known count lines left) (λ bytes. (n : ℕ) × IsRefusedBody given sides (IsLongIn start bytes) bytes (n, cause.TooLong))
       (λ bytes r. let room = r.room (omega (arith, many)) in absurd (omega (arith, room, r.turns, many, limit))) reached
 
-  -- ---- behind the closing line
+  -- ---- after the closing line
 
   module _ (new : Lines) (behind : Option (List ℕ)) (closing : IfSome left (λ bytes. TakesClosing given.extended sides known lines new bytes behind)) where
     closed : (bytes : List ℕ) (r : IsLedgerReached given sides start known count lines left bytes) → TakesClosing given.extended sides known lines new r.rest behind

@@ -1,4 +1,4 @@
--- What is left of an algebra file behind some lines: how it may go on to be lawful, and where it is refused.
+-- What is left of an algebra file after some lines: how it may go on to be lawful, and where it is refused.
 use Rattle.std.proofs.Common.{◌≡◌, ℕ, suc, ◌+◌, List, [], ◌∷◌, ◌++◌, length, refl, sym, ap, ap₂, subst, zero-add, ◌∙◌, arith, inr}
 use Rattle.std.proofs.lemmas.List.Elements.{All-cons, All-nil}
 use Rattle.algebra_core.specs.AlgebraLines.{Line, Ledger, Premises, IsLawfulLine, Closes, after, beginning}
@@ -16,7 +16,7 @@ pair_is : {A B : Type 0} {a c : A} {b d : B} → a ≡ c → b ≡ d → ◌≡�
 pair_is p q = ap₂ (λ x y. (x, y)) p q
 
 module _ (given : Premises) (sides : Sides) (IsLong : List ℕ → Type 0) where
-  -- behind the header, which is line 1
+  -- after the header, which is line 1
   pub refused_body : (body : List ℕ) (k : ℕ) (cause : AlgebraCause) → IsRefusedRest given sides IsLong (beginning given) body (k, cause) → IsRefusedBody given sides IsLong body (2 + k, cause)
   refused_body body k cause h =
       let count : k ≡ length h.0 + h.1.0 = ap (λ (p : ℕ × AlgebraCause). p.0) h.3 in
@@ -52,7 +52,7 @@ module _ (given : Premises) (sides : Sides) (IsLong : List ℕ → Type 0) where
         let same : cause ≡ h.1.1 = ap (λ (p : ℕ × AlgebraCause). p.1) h.3 in
         (x ∷ h.0, h.1, (rest, after (modulus given.extended) l x, short, begins, (in_range, lawful, refl), h.2), pair_is (omega (arith, count)) same)
 
-  -- a closing line with nothing behind it
+  -- a closing line with nothing after it
   pub lawful_close : (l : Ledger) (id : ℕ) (left rest : List ℕ) → BeginsWith IsCloseText left id rest → rest ≡ [] → IsId id → Closes given.extended sides l.live id → ¬ (IsLong left) → ¬ (IsLong []) →
       IsLawfulRest given.version given.extended sides IsLong l left
   lawful_close l id left rest begins none in_range closes short short_end =
@@ -71,7 +71,7 @@ module _ (given : Premises) (sides : Sides) (IsLong : List ℕ → Type 0) where
         ends = inr (begins.0, is);
       }
 
-  -- something behind the closing line, which is the next line's refusal
+  -- something after the closing line, which is the next line's refusal
   pub refused_end : (l : Ledger) (id : ℕ) (left rest : List ℕ) (q : ℕ × AlgebraCause) → BeginsWith IsCloseText left id rest → IsId id → Closes given.extended sides l.live id → ¬ (IsLong left) →
       IsRefusedEnd IsLong rest q → IsRefusedRest given sides IsLong l left q
   refused_end l id left rest q begins in_range closes short h = refused_here l left q (inr (short, inr (inr (id, rest, begins, inr ((in_range, closes), h)))))

@@ -23,7 +23,7 @@ use Rattle.joint_checker.proofs.Recording.{at_end, closed_at, closed_record, clo
 pub task_trans : {a b c : AlgebraChecking} → KeepsAlgebraTask a b → KeepsAlgebraTask b c → KeepsAlgebraTask a c
 task_trans p q = record { extended = q.extended ∙ p.extended; sides = q.sides ∙ p.sides; added = q.added ∙ p.added; records = q.records ∙ p.records }
 
--- behind the header no line is judged yet
+-- after the header no line is judged yet
 pub begins : (k : AlgebraChecking) (file : FileState) (first : View) → GoesOn file → file.lines.lengths.file < 2 ^ 64 → length k.extended.graph.outputs ≤ 128 →
     LedgersAgree (ledger_of k) (beginning (premises file.version k.extended k.added)) → k.recorded ≡ [] → HasJudgedAlgebra k file first 0 k file first
 begins k file first going limit few agrees none =
@@ -90,7 +90,7 @@ module _ {start k : AlgebraChecking} {begun file : FileState} {first before : Vi
               extended = extended ∙ h.task.extended;
             }
 
-        -- the file doesn't end behind it
+        -- the file doesn't end after it
         pub end_fails : (then : View) (last : AlgebraChecking) (answer : Checked) → new.lines.lengths ≡ file.lines.lengths → first.read_faults ≤ now.read_faults → IsEndFail (3 + count) new.lines behind now then answer → IsAlgebraJudged start begun first (Err answer) last then
         end_fails then last answer keeps later refused =
             reached.end_fails given start.sides begun.lines body (ledger_of k) count file.lines left h.lengths h.reached new.lines behind closing.0 first now then answer keeps later refused

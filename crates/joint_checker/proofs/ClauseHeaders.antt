@@ -1,4 +1,4 @@
--- The header of a clause certificate passes, or there is one first refusal, given as much of what stands behind it.
+-- The header of a clause certificate passes, or there is one first refusal, given as much of what stands after it.
 use Rattle.std.specs.Prelude.{◌≡◌, ◌≢◌, ℕ, zero, suc, ◌+◌, ◌⊎◌, Bool, List, [], ◌∷◌, ◌++◌, length}
 use Rattle.std.specs.declared.option.Option.{Option}
 use Rattle.std.specs.declared.option.Option.TheVariants.{None, Some}
@@ -97,9 +97,9 @@ decided_head e h =
     (decided_and (decided_lt 0 h.1) (decided_and (decided_le (h.0 + reach h.1 h.2) (length e.graph.outputs))
     (decided_all _ (λ (c : Column). decided_or (decided_lt c.number h.0) (decided_le (h.0 + reach h.1 h.2) c.number)) e.replaced)))
 
--- ---- what passes, and what is wanted behind it
+-- ---- what passes, and what is wanted after it
 
--- all pairs are there, and so is what is wanted behind them
+-- all pairs are there, and so is what is wanted after them
 abbrev Ends : (Extended → List ℕ → Type 0) → Extended → ℕ → List ℕ → Type 0
 Ends Good made left bytes = (left ≡ 0) × Good made bytes
 
@@ -248,7 +248,7 @@ module _ (IsLong : List ℕ → Type 0) where
   Reaches body left bytes = (left ≡ 0) × (bytes ≡ body)
 
   module _ (Good : Extended → List ℕ → Type 0) (e made : Extended) where
-    -- so many pairs, and something behind them
+    -- so many pairs, and something after them
     abbrev Reached : List (Lit × Lit) → ℕ → List ℕ → Type 0
     Reached pairs count bytes = (body : List ℕ) × (length pairs ≡ count) × Behind IsPairLine (IsPairStep e) IsLong (Reaches body) pairs count bytes × Good made body
 
@@ -362,7 +362,7 @@ module _ (g : Aig) (lengths : Lengths) (bytes : List ℕ) where
       ⊎_elim (λ a. inl (a.0, (a.1.0, a.1.1, cut_fits IsLong g a.1.2.rest a.1.0 body a.1.2.cut_passes)))
       (λ b. let t = b.1.blocks_pass in inr (b.0, t.3, blocks_fit IsLong (without_cut g) t.0 h.blocks body t.4)) passes
 
-  -- a header passes, and behind it is what is wanted
+  -- a header passes, and after it is what is wanted
   abbrev pub HasPassed : (Extended → List ℕ → Type 0) → Type 0
   HasPassed Good = (h : Header) × (body : List ℕ) × PassesAnyHeader g lengths bytes h body × Good (extended_with g h) body
 

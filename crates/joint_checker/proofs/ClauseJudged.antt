@@ -1,4 +1,4 @@
--- The header of a clause file, and the whole file by what stands behind it.
+-- The header of a clause file, and the whole file by what stands after it.
 use Rattle.std.specs.Prelude.{◌≡◌, ℕ, ◌+◌, ◌≤◌, Bool, List, length, IfSome}
 use Rattle.std.specs.declared.option.Option.{Option}
 use Rattle.std.proofs.Common.{refl, subst}
@@ -48,7 +48,7 @@ module _ (lengths : Lengths) (g : Aig) where
       (refl, told_more text (λ bytes. IsClauseHeaderRefusal g lengths bytes (line, TooLong)) (λ bytes. (n : ℕ) × IsClauseRefusal lengths g bytes (n, TooLong)) (λ bytes k. (line, started bytes (line, TooLong) k)) h)
   header_fails text before now line fail.Memory h = tt
 
-  -- ---- what stands behind it
+  -- ---- what stands after it
 
   module _ (file : FileState) (h : Header) (same : file.lines.lengths ≡ lengths) (count : file.number ≡ header_line_count h.version h.blocks)
       (text behind : Option (List ℕ)) (header : IfSome text (λ bytes. HasClauseHeader g file bytes behind h)) where

@@ -37,7 +37,7 @@ use Rattle.clause_judge.proofs.ClauseRests.{Passes, lawful_passes, lines_exact, 
 
 -- ---- line starts
 
--- bytes behind lines none of which is long
+-- bytes after lines none of which is long
 module _ (IsLong : List ℕ → Type 0) where
   abbrev Leads : List ℕ → List ℕ → Type 0
   Leads bytes rest = IsLineStart bytes rest × (ShortFrom IsLong rest → ShortFrom IsLong bytes)
@@ -99,7 +99,7 @@ module _ (g : Aig) (lengths : Lengths) (bytes : List ℕ) where
 
   -- ---- whole texts
 
-  -- lines that pass behind a header are lawful
+  -- lines that pass after a header are lawful
   pub lawful_lines : (h : Header) (body : List ℕ) → PassesAnyHeader g lengths bytes h body → (good : GoodLines (extended_with g h) body) → HasLawfulLines lengths g bytes h good.0
   lawful_lines h body passes good =
       let e = extended_with g h in

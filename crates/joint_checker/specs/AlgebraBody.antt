@@ -1,4 +1,4 @@
--- What stands behind the header of an algebra file: when it is lawful, and its first refusal.
+-- What stands after the header of an algebra file: when it is lawful, and its first refusal.
 use Rattle.std.specs.Prelude.{◌≡◌, ◌+◌, ◌*◌, ◌<◌, ◌≤◌, ◌^◌, ℕ, List, [], length, IfSome, Err, Ok, Result, ⊤}
 use Rattle.std.specs.List.{All}
 use Rattle.std.specs.declared.option.Option.{Option}
@@ -28,7 +28,7 @@ use Rattle.joint_checker.specs.declared.checked.Refusal.TheVariants as refusal
 use Rattle.drup_text.specs.HeaderSteps.{IsLongIn}
 use Rattle.joint_checker.specs.Outcome.{cause_of}
 
--- Lawful lines over the ledger, a closing line, and nothing behind it. No line is too long.
+-- Lawful lines over the ledger, a closing line, and nothing after it. No line is too long.
 pub record IsLawfulRest (version : ℕ) (e : Extended) (sides : Sides) (IsLong : List ℕ → Type 0) (l : Ledger) (left : List ℕ) : Type 0 where
   pub lines : List Line
   pub closing : ℕ
@@ -42,7 +42,7 @@ pub record IsLawfulRest (version : ℕ) (e : Extended) (sides : Sides) (IsLong :
   pub short : (more : List ℕ) → IsLineStart left more → ¬ (IsLong more)
   pub ends : IsLineStart left []
 
--- the lines behind the header, over the first ledger, where this reader has them before it
+-- the lines after the header, over the first ledger, where this reader has them before it
 abbrev pub IsLawfulBody : Premises → Sides → Lines → List ℕ → Type 0
 IsLawfulBody p sides lines body = IsLawfulRest p.version p.extended sides (IsLongIn lines body) (beginning p) body
 
@@ -58,7 +58,7 @@ IsBodyFail p sides lines left before now _ = ⊥
 
 -- ---- how far the lines are judged. Private clauses alone cite what follows.
 
--- The first refusal behind lawful lines over the ledger: how many lines there are before it, and its cause.
+-- The first refusal after lawful lines over the ledger: how many lines there are before it, and its cause.
 abbrev pub IsRefusedRest : Premises → Sides → (List ℕ → Type 0) → Ledger → List ℕ → ℕ × AlgebraCause → Type 0
 IsRefusedRest given sides IsLong l left p =
     (lines : List Line) × (q : ℕ × AlgebraCause) ×
@@ -82,7 +82,7 @@ pub record IsLedgerReached (given : Premises) (sides : Sides) (start : Lines) (k
   pub refused : (k : ℕ) (cause : AlgebraCause) → IsRefusedRest given sides (IsLongIn start body) ledger rest (k, cause) →
       IsRefusedBody given sides (IsLongIn start body) body (2 + turn + k, cause)
 
--- since a checker and a file stood behind a header so many lines were judged
+-- since a checker and a file stood after a header so many lines were judged
 pub record HasJudgedAlgebra (start : AlgebraChecking) (begun : FileState) (first : View) (count : ℕ) (k : AlgebraChecking)
     (file : FileState) (now : View) : Type 0 where
   pub going : GoesOn file

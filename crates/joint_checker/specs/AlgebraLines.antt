@@ -66,7 +66,7 @@ IsUnlawful n text c answer =
     IsRuleFault c.extended (ledger_of c) line fault × (answer ≡ answer_of_rule n fault)) ⊎
     ((id : ℕ) × (fault : CloseFault) × (text ≡ pac.Close id) × IsCloseFault c.extended c.sides (ledger_of c) id fault × (answer ≡ answer_of_close n fault))
 
--- A lawful line stands there, and the ledger next is the one behind it.
+-- A lawful line stands there, and the ledger next is the one after it.
 pub record TakesLawful (version : ℕ) (e : Extended) (l next : Ledger) (old new : Lines) (left : List ℕ) (behind : Option (List ℕ)) : Type 0 where
   pub line : Line
   pub rest : List ℕ

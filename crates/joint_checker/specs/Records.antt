@@ -25,7 +25,7 @@ pub record IsRecordOf (records : Bool) (version m : ℕ) (bytes : List ℕ) (rec
 
 -- ---- line by line. Private clauses alone cite what follows.
 
--- What is recorded of a line of these bytes comes behind what was recorded.
+-- What is recorded of a line of these bytes comes after what was recorded.
 pub record RecordsText (records : Bool) (version m : ℕ) (old new : List Line) (bytes : List ℕ) (behind : Option (List ℕ)) : Type 0 where
   pub line : Line
   pub rest : List ℕ

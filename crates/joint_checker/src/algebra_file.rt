@@ -151,7 +151,7 @@ fn imports<'s>(shown: &'s Shown<'_>, none: &'s ClauseList) -> &'s ClauseList
     }
 }
 
-// The lines behind the header by a checker, as a work reads them, up to the end of the file.
+// The lines after the header by a checker, as a work reads them, up to the end of the file.
 #[derive(Drop)]
 struct JudgeAlgebra<'a, D> {
     checker: PacChecker<'a>,

@@ -1,4 +1,4 @@
-// Plans whose lines are drafted: what is drafted is advice, and the lines that are written of it decide.
+// Plans whose lines are drafted: what is drafted comes from a heuristic, and the lines that are written of it decide.
 ghost use Rattle.std.specs.Prelude.{IfOk, IfSome};
 ghost use Rattle.joint_prover.specs.Endings.{Decides, IsJob, IsShown, cut_named};
 

@@ -24,7 +24,7 @@ pub enum Note {
     /// As many lemmas as there may be conflicts, and beside them so many goals refuted before the one in hand.
     Spent { lemmas: u64, goal: u64, log: Log },
     /// At a cut that was found by the values of its variables the adder's outputs are the graph's on every evaluation,
-    /// and the slice plan over the graph with it gave the verdict.
+    /// and a plan over the graph with it was tried.
     Found(Cut),
 }
 

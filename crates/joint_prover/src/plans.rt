@@ -176,9 +176,8 @@ fn decide_soon(alloc: Global, job: &Job<'_>) -> Result<Option<Decision>, Memory>
     wrong_on_few(alloc, job, FEW)
 }
 
-// With the whole budget, where values of the inputs with few ones don't show that the graph is
-// wrong, the slice plan over the graph with the adder that is used, if any, the slice plan over the graph alone, and
-// the plain plan.
+// With the whole budget, where values of the inputs with few ones don't show that the graph is wrong, the slice plan
+// over the graph with the adder that is used, if any, the slice plan over the graph alone, and the plain plan.
 fn decide_at_last(alloc: Global, job: &Job<'_>) -> Result<Decision, Memory>
     requires { IsJob job.now }
     ensures { IfOk result (IsDecision job.now.graph.now job.now.task (cut_named job.now.used)) }

@@ -1,4 +1,4 @@
--- Texts that are taken one behind the other.
+-- Texts that are taken one after the other.
 use Rattle.std.specs.Prelude.{◌≡◌, ℕ, List, [], ◌∷◌, ◌++◌}
 use Rattle.std.proofs.Common.{refl, sym, ap, subst, ◌∙◌, append_assoc}
 use Rattle.pair_limits.specs.declared.room.Room.{Room}
@@ -11,7 +11,7 @@ unfolding behind
 behind_append r [] rest = refl
 behind_append r (b ∷ front) rest = behind_append (behind_byte r b) front rest
 
--- one text behind the other
+-- one text after the other
 pub text_then : {p q : List ℕ} {a b c : Room} → Takes p a b → Takes q b c → Takes (p ++ q) a c
 text_then {p} {q} {a} {b} {c} one two = record { left = two.left ∙ ap (λ r. behind r q) one.left ∙ behind_append a p q }
 

@@ -1,4 +1,4 @@
--- Lemmas on texts that are taken one behind the other, and on texts within the limits.
+-- Lemmas on texts that are taken one after the other, and on texts within the limits.
 pub mod Behind
 pub mod Literals
 pub mod Within

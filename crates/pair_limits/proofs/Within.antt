@@ -7,13 +7,13 @@ use Rattle.graph_core.specs.Text.JudgedLines.{IsWithin, Lengths, front_line}
 use Rattle.pair_limits.specs.declared.room.Room.{Room}
 use Rattle.pair_limits.specs.Rooms.{Takes, TellsWhether, behind, passed, whole_room}
 
--- There is room for the text, for its first line, and for each line behind a line feed.
+-- There is room for the text, for its first line, and for each line after a line feed.
 record Fits (r : Room) (text : List ℕ) : Type 0 where
   file : length text ≤ r.file
   line : length (front_line text) ≤ r.line
   lines : (before left : List ℕ) → text ≡ before ++ newline ∷ left → length (front_line left) ≤ r.most
 
--- behind a byte, by what is known of the room and of the byte
+-- after a byte, by what is known of the room and of the byte
 abbrev next : Room → Bool → Bool → Bool → Room
 next r full last starts = if full || (last && not starts) then passed r else record {
   file = r.file - 1;
@@ -50,7 +50,7 @@ module _ (r : Room) (b : ℕ) (bytes : List ℕ) (h : Fits r (b ∷ bytes)) wher
     lines = later;
   }
 
--- ---- room is left behind a text that fits
+-- ---- room is left after a text that fits
 
 fitting_stays : (r : Room) (text : List ℕ) → Fits r text → (behind r text).over ≡ r.over
 unfolding behind
@@ -64,7 +64,7 @@ fitting_stays r (b ∷ bytes) h = go (λ s k. fitting_stays s bytes k) (r.file =
     go later false false true f l s = later (next r false false true) (fits_behind_newline r b bytes h s)
     go later false false false f l s = later (next r false false false) (fits_behind_other r b bytes h s)
 
--- ---- a text fits where room is left behind it
+-- ---- a text fits where room is left after it
 
 over_stays : (r : Room) (text : List ℕ) → r.over ≡ true → (behind r text).over ≡ true
 unfolding behind

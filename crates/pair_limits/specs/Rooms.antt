@@ -1,4 +1,4 @@
--- What is left of the limits behind a text.
+-- What is left of the limits after a text.
 use Rattle.std.specs.Prelude.{◌≡◌, ℕ, ◌-◌, ◌==◌, ◌||◌, ◌&&◌, not, Bool, true, false, List, [], ◌∷◌, if◌then◌else◌}
 use Rattle.graph_core.specs.Text.{newline}
 use Rattle.graph_core.specs.Text.JudgedLines.{Lengths}
@@ -21,7 +21,7 @@ behind_byte r b = if (r.file == 0) || ((r.line == 0) && not (b == newline)) then
   over = r.over;
 }
 
--- behind all bytes of a text
+-- after all bytes of a text
 unfoldable pub behind : Room → List ℕ → Room
 behind r [] = r
 behind r (b ∷ bytes) = behind (behind_byte r b) bytes

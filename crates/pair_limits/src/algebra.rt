@@ -128,7 +128,7 @@ fn put_part(room: &mut Room, terms: &Terms, id: u64, factor: &Poly)
     room.put(b")");
 }
 
-// An id, and what stands behind it.
+// An id, and what stands after it.
 fn put_id(room: &mut Room, id: u64, end: &[u8])
     ensures { Takes (decimal id ++ end.now) room.old room.new }
 {

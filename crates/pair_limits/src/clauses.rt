@@ -77,7 +77,7 @@ fn put_head(room: &mut Room, block: &Block)
     room.put(b"\n");
 }
 
-// What stands behind the numbers of a block whose last carry replaces a column too.
+// What stands after the numbers of a block whose last carry replaces a column too.
 fn carry(carry: bool) -> &'static [u8]
     ensures { result.now ≡ carry_text carry }
 {
@@ -143,7 +143,7 @@ fn put_clause(room: &mut Room, clause: &Clause)
     room.put(b"0\n");
 }
 
-// Literals, each with a space behind it.
+// Literals, each with a space after it.
 fn put_literals(room: &mut Room, literals: &[i32])
     ensures { Takes (literals_text literals.now []) room.old room.new }
 {

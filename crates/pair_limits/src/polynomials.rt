@@ -47,7 +47,7 @@ fn put_product(room: &mut Room, coefficient: u128, variables: &[u32])
     }
 }
 
-// Variables, each behind a star, but the first one of a bare term.
+// Variables, each after a star, but the first one of a bare term.
 fn put_factors(room: &mut Room, bare: bool, variables: &[u32])
     ensures { Takes (factors_text bare variables.now) room.old room.new }
 {
@@ -57,7 +57,7 @@ fn put_factors(room: &mut Room, bare: bool, variables: &[u32])
     }
 }
 
-// The sign of a coefficient, and what is written behind it: of it and its opposite the lesser.
+// The sign of a coefficient, and what is written after it: of it and its opposite the lesser.
 fn signed(exponent: u32, coefficient: u128) -> (bool, u128)
     requires exponent { IsWidth exponent }
     requires some { 0 < coefficient }

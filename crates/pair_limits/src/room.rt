@@ -6,7 +6,7 @@ ghost use Rattle.pair_limits.specs.Rooms.{Takes, behind_byte, whole_room};
 use mv_desk::Limits;
 use mv_nums::print;
 
-/// What is left of the limits behind the front of a text.
+/// What is left of the limits after the front of a text.
 #[derive(Clone, Copy)]
 pub(crate) struct Room {
     /// how many more bytes the file may have

@@ -11,7 +11,7 @@ pub struct Trimmed {
     pub pair: Pair,
     /// for each kept clause the kept ones, by number from 1, in a tight chain for it
     pub uses: Vec<Numbers>,
-    /// how many lines stood behind the header of the clause certificate
+    /// how many lines stood after the header of the clause certificate
     pub of_clauses: u64,
     /// how many lines stood before the closing one
     pub of_algebra: u64,

@@ -1,4 +1,4 @@
--- The first line of a clause file, and the whole file by what stands behind it.
+-- The first line of a clause file, and the whole file by what stands after it.
 use Rattle.std.specs.Prelude.{◌≡◌, ◌≢◌, ℕ, ◌+◌, ◌++◌, ◌≤◌, List, length, IfSome}
 use Rattle.std.specs.declared.option.Option.{Option}
 use Rattle.std.proofs.Common.{refl, ap, subst, inl, inr}
@@ -39,7 +39,7 @@ module _ (lengths : Lengths) (e : Extended) where
       told_more text (λ bytes. IsTooLong lengths (length bytes) bytes) (λ bytes. (n : ℕ) × IsMergedLineRefusal lengths e bytes (n, TooLong)) (λ bytes k. (1, inl (k, refl))) h
   start_fails text before now line fail.Memory first h = tt
 
-  -- ---- what stands behind it
+  -- ---- what stands after it
 
   module _ (file : FileState) (same : file.lines.lengths ≡ lengths) (number : file.number ≡ 1) (text behind : Option (List ℕ)) (header : IfSome text (λ bytes. HasFirstLine same_line file.lines bytes behind)) where
     module _ (bytes : List ℕ) (h : HasFirstLine same_line file.lines bytes behind) where

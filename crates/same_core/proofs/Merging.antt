@@ -153,7 +153,7 @@ module _ (g h : Aig) (well : IsWellFormed g) (other : IsWellFormed h) (shape : A
 
 -- ---- an evaluation of the merged gates is a pair
 
--- behind inputs of other variables the search goes on
+-- after inputs of other variables the search goes on
 passed : (ls ks : List Lit) (v other : ℕ) → AllByRecursion (λ l. variable_of l ≢ v) ls → input_or ls ks v other ≡ other
 passed [] ks v other h = refl
 passed (l ∷ ls) [] v other h = refl

@@ -12,7 +12,7 @@ use Rattle.drup_text.specs.HeaderRefusal.{LineCause, Text, TooLong}
 use Rattle.drup_text.specs.SameFiles.{IsSameFile, same_line}
 use Rattle.same_core.specs.Merged.{AgreeOnInputs, AreOfOneShape, merged}
 
--- A file within the lengths with these lines, each of which is lawful behind those before it, whatever the goals.
+-- A file within the lengths with these lines, each of which is lawful after those before it, whatever the goals.
 pub record HasLawfulMergedLines (lengths : Lengths) (e : Extended) (bytes : List ℕ) (lines : List ClauseLine) : Type 0 where
   pub text : IsSameFile bytes lines
   pub in_range : All (λ x. IsClauseInRange e.max (clause_in x)) lines

@@ -1,4 +1,4 @@
--- Two graphs as one: the gates of the second one behind those of the first one, over the same inputs.
+-- Two graphs as one: the gates of the second one after those of the first one, over the same inputs.
 use Rattle.std.specs.Prelude.{◌≡◌, ◌≤◌, ℕ, ◌+◌, ◌*◌, ◌%◌, Bool, List, [], ◌∷◌, ◌++◌, map, length, if◌then◌else◌, ◌==◌}
 use Rattle.graph_core.specs.declared.gate.Gate.{Gate}
 use Rattle.graph_core.specs.declared.literal.Lit.{Lit}

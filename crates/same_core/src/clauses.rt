@@ -70,7 +70,7 @@ fn judge_clauses<D: Desk>(
     judge_lines(alloc, desk, &mut file, merged)
 }
 
-// The lines behind the first one, up to the end of the file, and then the goals.
+// The lines after the first one, up to the end of the file, and then the goals.
 fn judge_lines<D: Desk>(
     alloc: Global,
     desk: &mut D,

@@ -6,7 +6,7 @@ use std::alloc::Global;
 // How many variables are gathered.
 const MANY: usize = 48;
 
-/// The variables below some gates, the nearest first, a few of them. It is advice.
+/// The variables below some gates, the nearest first, a few of them. No answer depends on it.
 #[derive(Drop)]
 pub(crate) struct Cones {
     near: Vec<u32>,

@@ -2,7 +2,7 @@
 use graph_core::{Gate, Graph, Memory};
 use std::alloc::Global;
 
-/// The level of each gate, as it is listed, and its place, rising: each gate is behind those that its operands are of.
+/// The level of each gate, as it is listed, and its place, rising: each gate is after those that its operands are of.
 pub(crate) fn by_level(alloc: Global, levels: &[u32]) -> Result<Vec<(u32, usize)>, Memory> {
     let mut order = Vec::with_capacity(alloc, levels.len())?;
     for (place, level) in levels.iter().enumerate() {
@@ -12,7 +12,7 @@ pub(crate) fn by_level(alloc: Global, levels: &[u32]) -> Result<Vec<(u32, usize)
     Ok(order)
 }
 
-/// Appends the level of each gate of a graph. It is advice.
+/// Appends the level of each gate of a graph. No answer depends on it.
 pub(crate) fn push_levels(levels: &mut Vec<u32>, graph: &Graph) -> Result<(), Memory> {
     for gate in graph.gates() {
         levels.push(level_of(graph, gate))?;

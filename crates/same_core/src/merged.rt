@@ -67,7 +67,7 @@ impl Merged {
         self.gates.as_slice()
     }
 
-    /// The level of each gate in its graph, in their order. It is advice.
+    /// The level of each gate in its graph, in their order. No answer depends on it.
     pub(crate) fn levels(&self) -> &[u32] {
         self.levels.as_slice()
     }

@@ -7,7 +7,7 @@ use stage_guesser::{Draws, Signature, WORDS};
 use std::alloc::Global;
 
 /// By row of a variable its values on some patterns of the inputs and the literal that it was shown to equal; and by operands
-/// and by values the gates of the first graph. All of it is advice.
+/// and by values the gates of the first graph. No answer depends on it.
 #[derive(Drop)]
 pub(crate) struct Twins {
     rows: Rows,

@@ -75,7 +75,7 @@ module _ (marks : List Bool) (clauses near : List Clause) (is : AreNearOf marks 
   )
   lines_near own (Delete c ∷ lines) more left n h = (h.0, h.1, lines_near h.0 lines more left n.1 h.2)
 
-  -- what the lines behind the old ones show over near clauses is shown over all
+  -- what the lines after the old ones show over near clauses is shown over all
   pub shown_near : (max limit : ℕ) (goal : Clause) (old new : LogView) → IsShownNext max near goal limit old new → All (IsNearLine marks) (drop (length old.lines) new.lines) → IsShownNext max clauses goal limit old new
   shown_near max limit goal old new h all = record {
     between = h.between;

@@ -5,7 +5,7 @@ use ripple_graft::{Cut, Extended};
 use std::alloc::Global;
 
 /// By variable, whether it is near: one of a pair, or of a gate between the pairs and the outputs, old or new, or one
-/// that is read below a pair through at most so many gates. Which are is advice: no answer depends on it.
+/// that is read below a pair through at most so many gates. No answer depends on which these are.
 pub(crate) fn near_variables(
     alloc: Global,
     extended: &Extended<'_>,

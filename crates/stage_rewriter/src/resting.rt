@@ -53,7 +53,7 @@ fn begin(marks: &mut [bool], goal: &Clause) {
     }
 }
 
-// Marks what propagation over the gates forces. What is marked is advice: no answer depends on it.
+// Marks what propagation over the gates forces. No answer depends on what is marked.
 fn spread(marks: &mut [bool], gates: &[Gate]) {
     for _round in 0..ROUNDS {
         let mut changed = false;

@@ -8,7 +8,7 @@ use stage_guesser::Draws;
 use std::alloc::Global;
 
 /// A goal that fails on one of 64 inputs, all ones and drawn ones, by its place, and the values of the inputs there as
-/// literals. None where each holds on all of them. Which inputs are tried is advice.
+/// literals. None where each holds on all of them. Which inputs are tried is a heuristic.
 pub(crate) fn failing_goal(
     alloc: Global,
     extended: &Extended<'_>,
@@ -37,7 +37,7 @@ fn words_of(alloc: Global, extended: &Extended<'_>) -> Result<Vec<u64>, Memory> 
     for gate in extended.graph().schedule() {
         evaluate(&mut words, gate);
     }
-    // an added gate stands behind those that it reads
+    // an added gate stands after those that it reads
     for gate in extended.gates() {
         if gate.v > extended.graph().max() {
             evaluate(&mut words, gate);
