@@ -1,10 +1,11 @@
 -- A run that has enough budget ends with status 0, but for a fault or want of memory.
 use Rattle.std.proofs.Common.{ℕ, List, ap, refl, sym, subst, inl, inr}
-use Rattle.std.specs.Prelude.{IfSome}
+use Rattle.std.specs.Prelude.{None, IfSome}
 use Rattle.command_core.specs.Stopping.{GivesDue}
 use Rattle.command_line.specs.declared.command.Command.{Command}
 use Rattle.command_line.specs.declared.command.Command.TheVariants.{Verify}
 use Rattle.joint_prover.specs.Budgets.{IsEnough}
+use Rattle.joint_prover.specs.Verdicts.{judgement}
 use Rattle.joint_prover.specs.declared.verdict.Verdict.TheVariants as verdict
 use Rattle.joint_prover.proofs.CallerLemmas.{enough_is_proved}
 use Rattle.mv_desk.specs.View.{View}
@@ -14,6 +15,7 @@ use Rattle.verdict_program.specs.EnoughBudget.{HasEnoughBudget}
 use Rattle.verdict_program.specs.Runs.{EndsAsDue, EndsWith, IsRight, IsRightOf, files_asked, standard, task_asked}
 use Rattle.verdict_program.proofs.Asking.{no_command, one_command}
 use Rattle.verdict_program.proofs.StopFacts.{gives_as_due}
+use Rattle.verdict_program.proofs.VerifyFacts.{status_of_judgement}
 
 module _ (words : List (List ℕ)) (a b c : View) (given : Answer) (status : ℕ) (right : IsRight words a b given) (ends : EndsWith given b c status) (h : HasEnoughBudget words a) where
   abbrev asks : Command
@@ -21,10 +23,11 @@ module _ (words : List (List ℕ)) (a b c : View) (given : Answer) (status : ℕ
 
   verify_ends : IsRightOf asks a b given → EndsAsDue 0 (status_of given)
   verify_ends r =
-      let told = enough_is_proved standard.graph (task_asked h.1 h.2 h.3 h.4) (files_asked h.0) a b r.0 r.1 r.3.0 in
+      let told = enough_is_proved standard (task_asked h.1 h.2 h.3 h.4) (files_asked h.0) a b r.0 r.1 r.3.0 in
       subst (λ x. EndsAsDue 0 (status_of x)) (sym r.2)
-      (gives_as_due a b verdict.Stopped status_of_verify (λ why. refl) verdict.Proved r.0
-      (subst (λ o. IfSome o (λ file. IsEnough standard.graph (task_asked h.1 h.2 h.3 h.4) file → GivesDue verdict.Stopped a b verdict.Proved r.0)) h.7 told h.8))
+      (subst (EndsAsDue 0) (status_of_judgement r.0)
+      (gives_as_due a b verdict.Stopped status_of_verify (λ why. refl) (verdict.Proved None) (judgement r.0)
+      (subst (λ o. IfSome o (λ file. IsEnough standard.graph (task_asked h.1 h.2 h.3 h.4) file → GivesDue verdict.Stopped a b (verdict.Proved None) (judgement r.0))) h.7 told h.8)))
 
   answer_ends : IsRight words a b given → EndsAsDue 0 (status_of given)
   answer_ends (inl none) = absurd (no_command words asks h.5 none.1)

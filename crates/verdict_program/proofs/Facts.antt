@@ -10,12 +10,15 @@ use Rattle.joint_prover.specs.declared.note.Note.{Note}
 use Rattle.joint_prover.specs.declared.verdict.Tried.{Tried}
 use Rattle.joint_prover.specs.Notes.{IsNote, cut_of}
 use Rattle.joint_prover.specs.Tries.{AreTried}
-use Rattle.joint_prover.specs.Verdicts.{HaveManyOnes, HoldsPair, IsFirstAbove}
+use Rattle.joint_prover.specs.Verdicts.{HaveManyOnes, HoldsPair, IsFirstAbove, IsFirstTooLongHeld}
+use Rattle.joint_prover.specs.declared.verdict.Verdict.TheVariants as verdict
 use Rattle.mv_desk.specs.View.{View, Rose, bytes_under}
 use Rattle.pair_trim.specs.Trimming.{HoldsTrimmed}
 use Rattle.same_core.specs.Deciding.{HoldsEqual, IsPairDifference}
 use Rattle.same_core.specs.Files as pair
+use Rattle.mv_desk.specs.declared.slot.Slot.{Slot}
 use Rattle.verdict_program.specs.declared.answer.Answer.{Answer}
+use Rattle.verdict_program.specs.declared.answer.Answer.TheVariants as answer
 use Rattle.verdict_program.specs.declared.evaluated.Evaluated.TheVariants.{TooGreat}
 use Rattle.verdict_program.specs.Answer.{status_of}
 use Rattle.verdict_program.specs.Evaluation.{IsValueDue}
@@ -26,16 +29,17 @@ use Rattle.verdict_program.specs.Runs.{DiffersSomewhere, EndsAsDue, HasSpentPair
 use Rattle.verdict_program.proofs.Told.{none_told}
 
 -- what status 0 means
-abbrev pub Succeeds : Command → View → View → Type 0
-Succeeds (Check files claim) a b = IsAsClaimed a files.graph claim
-Succeeds (Verify files claim budget conflicts version) a b =
-    TellsHeld a → TellsNames a → (noted : Option Note) × HoldsPair (task_asked claim budget conflicts version) (files_asked files) b standard.graph noted
-Succeeds (Eval graph x y order addend) a b = ⊤
-Succeeds (Make design bits adder out) a b = TellsHeld a → TellsNames a → b.held out ≡ Some (Some (text_for out (designed design bits adder)))
-Succeeds (Trial number) a b = (n : Note) × OfMade (sample_of number) (IsAcceptedWith n)
-Succeeds (Same files conflicts) a b = AreTheSame a files.graph files.other × (TellsHeld a → TellsNames a → HoldsEqual standard.graph conflicts (pair_asked files) b)
-Succeeds (CheckSame files) a b = AreTheSame a files.graph files.other
-Succeeds (Trim files claim) a b = IsAsClaimed a files.graph claim × (TellsHeld a → TellsNames a → HoldsTrimmed standard claim (trim_files_asked files) a b)
+abbrev pub Succeeds : Command → Answer → View → View → Type 0
+Succeeds (Check files claim) given a b = IsAsClaimed a files.graph claim
+Succeeds (Verify files claim budget conflicts version) given a b =
+    TellsHeld a → TellsNames a → (noted : Option Note) × (long : Option Slot) × (given ≡ answer.Verified (verdict.Proved long) noted) ×
+    HoldsPair (task_asked claim budget conflicts version) (files_asked files) b standard.graph noted × IsFirstTooLongHeld standard (files_asked files) b long
+Succeeds (Eval graph x y order addend) given a b = ⊤
+Succeeds (Make design bits adder out) given a b = TellsHeld a → TellsNames a → b.held out ≡ Some (Some (text_for out (designed design bits adder)))
+Succeeds (Trial number) given a b = (n : Note) × OfMade (sample_of number) (IsAcceptedWith n)
+Succeeds (Same files conflicts) given a b = AreTheSame a files.graph files.other × (TellsHeld a → TellsNames a → HoldsEqual standard.graph conflicts (pair_asked files) b)
+Succeeds (CheckSame files) given a b = AreTheSame a files.graph files.other
+Succeeds (Trim files claim) given a b = IsAsClaimed a files.graph claim × (TellsHeld a → TellsNames a → HoldsTrimmed standard claim (trim_files_asked files) a b)
 
 -- where statuses 1, 2 and 5 come
 abbrev pub IsWrongFor : Command → View → Type 0
@@ -59,7 +63,7 @@ IsUndecidedFor command a = ⊥
 
 -- One command's answer: what each status says, and that the answer which is due is given.
 pub record Facts (command : Command) (a b : View) (given : Answer) : Type 0 where
-  pub zero : status_of given ≡ 0 → Succeeds command a b
+  pub zero : status_of given ≡ 0 → Succeeds command given a b
   pub one : status_of given ≡ 1 → IsWrongFor command a
   pub two : status_of given ≡ 2 → IsTooGreatFor command a
   pub five : status_of given ≡ 5 → IsUndecidedFor command a

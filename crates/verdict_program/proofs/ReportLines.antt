@@ -1,4 +1,4 @@
--- The ends of lines that are put behind a report.
+-- The ends of lines that are put after a report.
 use Rattle.std.specs.Prelude.{◌≡◌, ℕ, List, [], ◌∷◌, ◌++◌}
 use Rattle.std.proofs.Common.{ap, append_assoc, ◌∙◌}
 use Rattle.graph_core.specs.Text.{newline}

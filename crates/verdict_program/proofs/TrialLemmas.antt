@@ -33,9 +33,11 @@ use Rattle.joint_prover.specs.declared.seen.Seen.{Seen}
 use Rattle.joint_prover.specs.declared.verdict.Verdict.{Verdict}
 use Rattle.joint_prover.specs.declared.verdict.Verdict.TheVariants as verdict
 use Rattle.joint_prover.proofs.Telling.{pair_is_lawful}
+use Rattle.pair_limits.specs.TooLong.{IsFirstTooLong}
 use Rattle.mv_desk.specs.HonestDesk.{view_of}
 use Rattle.mv_desk.specs.View.{View, Rose, bytes_under}
 use Rattle.mv_desk.specs.declared.memory.honest_desk.HonestDesk.{HonestDesk}
+use Rattle.mv_desk.specs.declared.slot.Slot.{Slot}
 use Rattle.mv_desk.specs.declared.slot.Slot.TheVariants as slot
 use Rattle.mv_text.specs.LineReading.{lengths_of}
 use Rattle.ripple_graft.specs.declared.cut.Cut.{Cut}
@@ -97,7 +99,7 @@ module _ (sample : Sample) (some : 1 ≤ sample.bits) (narrow : sample.bits ≤ 
   text = ascii_text (sample_graph sample)
 
   abbrev Is : Verdict → Type 0
-  Is v = IsVerdict no_limits.graph trial_task trial_files a b v noted
+  Is v = IsVerdict no_limits trial_task trial_files a b v noted
 
   made : SpellsAsClaimed (product_under Separate) sample.bits text
   made = design_spells (Multiplier sample.kind) sample.bits sample.adder trial_files.graph some narrow
@@ -124,9 +126,9 @@ module _ (sample : Sample) (some : 1 ≤ sample.bits) (narrow : sample.bits ≤ 
       absurd (true≢false (sym s.2.0.added))
 
   -- no other verdict comes
-  pub never_other : (v : Verdict) → Is v → (v ≢ verdict.Proved) → ((tried : Vec Tried Global) (step size : ℕ) (seen : Option Seen) → v ≢ verdict.Undecided tried step size seen) →
+  pub never_other : (v : Verdict) → Is v → ((long : Option Slot) → v ≢ verdict.Proved long) → ((tried : Vec Tried Global) (step size : ℕ) (seen : Option Seen) → v ≢ verdict.Undecided tried step size seen) →
       ((why : Stop) → v ≢ verdict.Stopped why) → ⊥
-  never_other verdict.Proved h p u s = p refl
+  never_other (verdict.Proved long) h p u s = p long refl
   never_other (verdict.Undecided tried step size seen) h p u s = u tried step size seen refl
   never_other (verdict.Stopped why) h p u s = s why refl
   never_other (verdict.Wrong x y value product) h p u s = never_wrong x y value product h
@@ -147,10 +149,11 @@ module _ (sample : Sample) (some : 1 ≤ sample.bits) (narrow : sample.bits ≤ 
   refused_alone none stop.ReadFault h = stop_refused none stop.ReadFault h.0
   refused_alone none stop.Memory h = tt
 
-  module _ (told : (name : List ℕ) → IsSome (a.held name)) (tells : TellsFiles b) (h : Is verdict.Proved) where
+  module _ (told : (name : List ℕ) → IsSome (a.held name)) (tells : TellsFiles b) (long : Option Slot) (h : Is (verdict.Proved long)) where
     abbrev Wrote : Option Cut → Type 0
     Wrote used = (read : View) × ReadsGraph a read ×
-        ((clauses : List ℕ) × (algebra : List ℕ) × IsPairFor h.0 trial_task used clauses algebra × WritesPair trial_files clauses algebra read b)
+        ((clauses : List ℕ) × (algebra : List ℕ) × IsPairFor h.0 trial_task used clauses algebra × WritesPair trial_files clauses algebra read b ×
+        IsFirstTooLong (lengths_of no_limits) clauses algebra long)
 
     abbrev bytes : Option (Option (List ℕ)) → Option (List ℕ)
     bytes = option_map (λ x. unwrap_or x [])

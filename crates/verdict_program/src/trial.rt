@@ -79,7 +79,7 @@ fn judge(alloc: Global, desk: &mut HonestDesk, multiplier: Multiplier) -> Tested
     measure(desk, names.graph);
     let (verdict, note) = verdict_on(alloc, desk, &names);
     match verdict {
-        Verdict::Proved => check_pair(alloc, desk, multiplier, note.unwrap()),
+        Verdict::Proved { .. } => check_pair(alloc, desk, multiplier, note.unwrap()),
         Verdict::Undecided {
             plain_step,
             plain_size,
@@ -97,7 +97,7 @@ fn judge(alloc: Global, desk: &mut HonestDesk, multiplier: Multiplier) -> Tested
 
 // The verdict on a file, within the default budgets.
 fn verdict_on(alloc: Global, desk: &mut HonestDesk, names: &Names<'_>) -> (Verdict, Option<Note>)
-    ensures { IsVerdict no_limits.graph trial_task (files_of names.now)
+    ensures { IsVerdict no_limits trial_task (files_of names.now)
         (⟦<HonestDesk as Desk>⟧.seen desk.old) (⟦<HonestDesk as Desk>⟧.seen desk.new) result.0 result.1 }
 {
     let task = Task {

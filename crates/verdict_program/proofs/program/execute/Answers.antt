@@ -13,7 +13,7 @@ returns-in-Verify-clause-right g c =
     let b = g.D.Desk.seen c.verify-verdict.new.desk in
     let verdict = c.verify-verdict.result.0 in
     let noted = c.verify-verdict.result.1 in
-    let said = subst (λ f. IsVerdict standard.graph (task_asked c.in-Verify.claim c.in-Verify.budget c.in-Verify.conflicts c.in-Verify.version) (files_asked f) a b verdict noted) c.names-names.ensures c.verify-verdict.ensures.verdict in
+    let said = subst (λ f. IsVerdict standard (task_asked c.in-Verify.claim c.in-Verify.budget c.in-Verify.conflicts c.in-Verify.version) (files_asked f) a b verdict noted) c.names-names.ensures c.verify-verdict.ensures.verdict in
     subst (λ command. IsRightOf command a b (answer.Verified verdict noted)) (sym c.in-Verify.is) (verdict, noted, refl, (said, c.verify-verdict.ensures.opened))
 
 pub returns-in-Trim-clause-right : goal.returns-in-Trim-clause-right

@@ -19,9 +19,9 @@ check_pair-requires-clause-made c =
     let same = c.names-names.ensures in
     let short = honest_length c.args.desk.now c.names-names.result.graph.now trial_files.graph (ascii_text (sample_graph sample)) c.measure.result
     (ap (λ (f : Files). f.graph) same) c.requires.held c.measure.ensures.count c.measure.ensures.short in
-    let said = subst (λ f. IsVerdict no_limits.graph trial_task f a b c.verdict_on-verdict.result.0 noted) same c.verdict_on-verdict.ensures in
-    let proved = subst (λ v. IsVerdict no_limits.graph trial_task trial_files a b v noted) c.in-Proved.is said in
-    (held_trial sample c.requires.some c.requires.narrow a b noted c.requires.held short (honest_tells c.args.desk.now).held (honest_tells c.verdict_on-verdict.new.desk) proved
+    let said = subst (λ f. IsVerdict no_limits trial_task f a b c.verdict_on-verdict.result.0 noted) same c.verdict_on-verdict.ensures in
+    let proved = subst (λ v. IsVerdict no_limits trial_task trial_files a b v noted) c.in-Proved.is said in
+    (held_trial sample c.requires.some c.requires.narrow a b noted c.requires.held short (honest_tells c.args.desk.now).held (honest_tells c.verdict_on-verdict.new.desk) c.in-Proved.too_long proved
     c.unwrap.result c.unwrap.ensures).0
 
 pub check_pair-requires-clause-pair : goal.check_pair-requires-clause-pair
@@ -33,9 +33,9 @@ check_pair-requires-clause-pair c =
     let same = c.names-names.ensures in
     let short = honest_length c.args.desk.now c.names-names.result.graph.now trial_files.graph (ascii_text (sample_graph sample)) c.measure.result
     (ap (λ (f : Files). f.graph) same) c.requires.held c.measure.ensures.count c.measure.ensures.short in
-    let said = subst (λ f. IsVerdict no_limits.graph trial_task f a b c.verdict_on-verdict.result.0 noted) same c.verdict_on-verdict.ensures in
-    let proved = subst (λ v. IsVerdict no_limits.graph trial_task trial_files a b v noted) c.in-Proved.is said in
-    (held_trial sample c.requires.some c.requires.narrow a b noted c.requires.held short (honest_tells c.args.desk.now).held (honest_tells c.verdict_on-verdict.new.desk) proved
+    let said = subst (λ f. IsVerdict no_limits trial_task f a b c.verdict_on-verdict.result.0 noted) same c.verdict_on-verdict.ensures in
+    let proved = subst (λ v. IsVerdict no_limits trial_task trial_files a b v noted) c.in-Proved.is said in
+    (held_trial sample c.requires.some c.requires.narrow a b noted c.requires.held short (honest_tells c.args.desk.now).held (honest_tells c.verdict_on-verdict.new.desk) c.in-Proved.too_long proved
     c.unwrap.result c.unwrap.ensures).1
 
 pub unreachable-requires : goal.unreachable-requires
@@ -47,7 +47,7 @@ unreachable-requires c =
     let same = c.names-names.ensures in
     let short = honest_length c.args.desk.now c.names-names.result.graph.now trial_files.graph (ascii_text (sample_graph sample)) c.measure.result
     (ap (λ (f : Files). f.graph) same) c.requires.held c.measure.ensures.count c.measure.ensures.short in
-    let said = subst (λ f. IsVerdict no_limits.graph trial_task f a b c.verdict_on-verdict.result.0 noted) same c.verdict_on-verdict.ensures in
+    let said = subst (λ f. IsVerdict no_limits trial_task f a b c.verdict_on-verdict.result.0 noted) same c.verdict_on-verdict.ensures in
     never_other sample c.requires.some c.requires.narrow a b noted c.requires.held short c.verdict_on-verdict.result.0 said
     c.in_default.not-Proved c.in_default.not-Undecided c.in_default.not-Stopped
 
@@ -60,6 +60,6 @@ refused-requires c =
     let same = c.names-names.ensures in
     let short = honest_length c.args.desk.now c.names-names.result.graph.now trial_files.graph (ascii_text (sample_graph sample)) c.measure.result
     (ap (λ (f : Files). f.graph) same) c.requires.held c.measure.ensures.count c.measure.ensures.short in
-    let said = subst (λ f. IsVerdict no_limits.graph trial_task f a b c.verdict_on-verdict.result.0 noted) same c.verdict_on-verdict.ensures in
+    let said = subst (λ f. IsVerdict no_limits trial_task f a b c.verdict_on-verdict.result.0 noted) same c.verdict_on-verdict.ensures in
     refused_alone sample c.requires.some c.requires.narrow a b noted c.requires.held short (never_failed c.verdict_on-verdict.new.desk) c.in-Stopped.why
-    (subst (λ v. IsVerdict no_limits.graph trial_task trial_files a b v noted) c.in-Stopped.is said)
+    (subst (λ v. IsVerdict no_limits trial_task trial_files a b v noted) c.in-Stopped.is said)
