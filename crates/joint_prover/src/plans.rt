@@ -16,7 +16,7 @@ use crate::reduction::{frontier_after, reduce_along, reduce_plainly};
 use crate::shown::{Found, Shown, find_cut};
 use crate::task::Job;
 use crate::verdict::Tried;
-use graph_core::{Memory, Numbers};
+use graph_core::{Memory, Numbers, Sign};
 use operand_search::{least_seen, least_within, most_ones_within};
 use ripple_graft::Cut;
 use slice_planner::Order;
@@ -103,9 +103,11 @@ fn decide_by_values(alloc: Global, job: &Job<'_>) -> Result<Option<(Decision, Op
 }
 
 // The plans whose lines are drafted over the graph of the first plan: those before an adder by values, and those after
-// it. Where an adder is used already, what is in the way is seldom the last one.
+// it. Where an adder is used already, and the product isn't all that is claimed, another adder is in the way.
 fn drafted(job: &Job<'_>) -> (&'static [Try], &'static [Try]) {
-    if job.used.cut.is_some() {
+    let claim = job.task.claim;
+    let is_product = !claim.add && matches!(claim.sign, Sign::Unsigned);
+    if job.used.cut.is_some() && !is_product {
         (&DRAFTED, &[])
     } else {
         (&[], &DRAFTED)
