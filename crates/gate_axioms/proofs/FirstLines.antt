@@ -59,7 +59,7 @@ lines_again t line es there id = go (line.id == id) refl (line_of (live_lines_in
         none_found None s e = true≢false (sym s)
         none_found (Some y) s e = true≢false (ap is_some e)
 
--- the same behind growth of the table
+-- the same after growth of the table
 adds_grown : (line : LiveLine) (a b c : Facts Sum Table) → KeepsLines a b → c.gates ≡ b.gates → Extends b.table c.table →
     ((id : ℕ) → AreSame (line_of (live_lines_in c.table c.entries) id) (option_or (line_of (live_lines_in b.table b.entries) id) (line_of (line ∷ []) id))) → AddsLine line a c
 adds_grown line a b c k gates table lines = record {

@@ -96,9 +96,9 @@ pub fn spec_poly(
     Ok(poly)
 }
 
-/// Column k of a multiplier: 2^k times (its output minus the sum of the partial products a_i b_j with i + j = k and minus
-/// bit k of the addend, where there is one). Of signed operands of n bits a_i b_j counts -1 times where just one of i and
-/// j is n - 1. Where the column is replaced, the output is its new one.
+/// Column k of a multiplier: 2^k times (its output minus the sum of the partial products a_i b_j with i + j = k and
+/// minus bit k of the addend, where there is one). Of signed operands of n bits a_i b_j counts -1 times where just
+/// one of i and j is n - 1. Where the column is replaced, the output is its new one.
 pub fn column_poly(
     alloc: Global,
     terms: &mut Terms,

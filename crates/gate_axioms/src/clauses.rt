@@ -15,7 +15,8 @@ use graph_core::{Lit, Memory};
 use poly_terms::{Poly, Terms};
 use std::alloc::Global;
 
-/// The polynomial of a clause: the product, over its literals, of 1 minus the literal. It is 0 wherever the clause holds.
+/// The polynomial of a clause: the product, over its literals, of 1 minus the literal. It is 0 wherever the clause
+/// holds.
 pub fn clause_poly(alloc: Global, terms: &mut Terms, clause: &Clause) -> Result<Poly, Memory>
     ensures extends { Extends terms.old terms.new }
     ensures of { IfOk result (λ p. IsOf terms.new p) }

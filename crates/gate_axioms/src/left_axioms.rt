@@ -39,8 +39,8 @@ impl Axiom {
     }
 }
 
-/// The axioms of an extended graph that weren't deleted, by their ids: that of a gate has the gate's variable, that of a
-/// replaced column k the greatest variable + 1 + k.
+/// The axioms of an extended graph that weren't deleted, by their ids: that of a gate has the gate's variable, that
+/// of a replaced column k the greatest variable + 1 + k.
 #[derive(Drop)]
 pub struct LeftAxioms<'a> {
     extended: &'a Extended<'a>,

@@ -1,8 +1,8 @@
 // Parts of a line that is gathered, all divided by one power of two.
 use crate::lemmas::Drafts;
 use crate::polynomials::Term;
+use gate_axioms::Draft;
 use graph_core::Memory;
-use line_drafts::Draft;
 use std::alloc::Global;
 use std::mem;
 

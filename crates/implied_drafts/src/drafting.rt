@@ -1,8 +1,8 @@
 // Drafts of the lines of a plan.
 use crate::walk::{Walk, When};
 use frontier_core::Step;
+use gate_axioms::Draft;
 use graph_core::{Memory, Operands};
-use line_drafts::Draft;
 use ripple_graft::Extended;
 use std::alloc::Global;
 

@@ -70,7 +70,7 @@ impl<'a> Facts<'a> {
         Ok(facts)
     }
 
-    // One more gate: what it reads is read by it. Added gates are listed behind those that they read.
+    // One more gate: what it reads is read by it. Added gates are listed after those that they read.
     fn meet(&mut self, gate: Gate) -> Result<(), Memory> {
         self.push_reader(gate.left.var(), gate.v)?;
         self.push_reader(gate.right.var(), gate.v)?;
@@ -144,21 +144,32 @@ impl<'a> Facts<'a> {
     // What follows from a variable, itself among it.
     fn propagated(&mut self, v: u32) -> Result<Vec<Fact>, Memory> {
         let mut found = Vec::new(self.alloc);
-        self.hold(&mut found, Lit(v.wrapping_mul(2)), v, Rule::Operand)?;
+        self.propagate(&mut found, v)?;
+        self.forget(&found);
+        found.sort_unstable_by_key(|fact| fact.lit.0);
+        Ok(found)
+    }
+
+    // Finds what follows from a variable, and gives it its value.
+    fn propagate(&mut self, found: &mut Vec<Fact>, v: u32) -> Result<(), Memory> {
+        self.hold(found, Lit(v.wrapping_mul(2)), v, Rule::Operand)?;
         for place in 0..REACH {
             let Some(fact) = found.get(place).copied() else {
                 break;
             };
-            self.go_down(&mut found, fact.lit)?;
-            self.go_up(&mut found, fact.lit.var())?;
+            self.go_down(found, fact.lit)?;
+            self.go_up(found, fact.lit.var())?;
         }
-        for fact in found.iter() {
+        Ok(())
+    }
+
+    // Takes the values of what was found back.
+    fn forget(&mut self, found: &[Fact]) {
+        for fact in found {
             if let Some(value) = self.values.get_mut(fact.lit.var() as usize) {
                 *value = None;
             }
         }
-        found.sort_unstable_by_key(|fact| fact.lit.0);
-        Ok(found)
     }
 
     // One literal more, unless the value of its variable is known.

@@ -178,6 +178,16 @@ impl Frontier {
         self.places = no_places(self.alloc, self.max)?;
         self.size = 0;
         self.bytes = 0;
+        self.add_left(monomials, &coefficients, &loose)
+    }
+
+    // Adds the monomials that are left of an older table.
+    fn add_left(
+        &mut self,
+        monomials: IndexSet<Monomial>,
+        coefficients: &[u128],
+        loose: &[bool],
+    ) -> Result<(), Memory> {
         for (number, monomial) in monomials.into_iter().enumerate() {
             let coefficient = match coefficients.get(number) {
                 Some(coefficient) => *coefficient,

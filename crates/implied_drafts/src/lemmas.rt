@@ -1,9 +1,9 @@
 // The lines of facts: a variable times the negation of what follows from it.
 use crate::facts::{Fact, Facts, Rule};
 use crate::polynomials::{MINUS_ONE, Term, literal, one, times, variable};
+use gate_axioms::Draft;
 use graph_core::{Gate, Lit, Memory};
 use indexmap::IndexMap;
-use line_drafts::Draft;
 use std::alloc::Global;
 
 // No more facts are asked for by one another.
@@ -23,7 +23,7 @@ pub(crate) struct Drafts {
 }
 
 impl Drafts {
-    /// No draft behind so many axioms, those of the gates first.
+    /// No draft after so many axioms, those of the gates first.
     pub(crate) fn new(
         alloc: Global,
         gates: &[Gate],
@@ -60,7 +60,8 @@ impl Drafts {
         Ok(place)
     }
 
-    /// The place of a fact's line, which is drafted where it isn't there, with all that it takes. None where it is none.
+    /// The place of a fact's line, which is drafted where it isn't there, with all that it takes. None where it is
+    /// none.
     pub(crate) fn fact(
         &mut self,
         facts: &mut Facts<'_>,
@@ -73,25 +74,49 @@ impl Drafts {
             let Some((of, last)) = wanted.pop() else {
                 break;
             };
-            if self.known(of, last).is_some() {
-                continue;
-            }
-            let Some(parts) = reason_of(self.alloc, facts, of, last)? else {
+            if self.known(of, last).is_none() && !self.take(facts, &mut wanted, of, last)? {
                 return Ok(None);
-            };
-            let count = wanted.len();
-            wanted.push((of, last))?;
-            for (lit, _) in parts.lemmas.iter() {
-                if self.known(lit.0, lit.1).is_none() {
-                    wanted.push(*lit)?;
-                }
-            }
-            if wanted.len() == count.saturating_add(1) {
-                wanted.pop();
-                self.push_fact(of, last, parts)?;
             }
         }
         Ok(self.known(v, lit))
+    }
+
+    // Drafts a fact's line, or wants it again after those that it takes. Whether it is a fact.
+    fn take(
+        &mut self,
+        facts: &mut Facts<'_>,
+        wanted: &mut Vec<(u32, Lit)>,
+        v: u32,
+        lit: Lit,
+    ) -> Result<bool, Memory> {
+        let Some(reason) = reason_of(self.alloc, facts, v, lit)? else {
+            return Ok(false);
+        };
+        if !self.wants(wanted, v, lit, &reason)? {
+            self.push_fact(v, lit, reason)?;
+        }
+        Ok(true)
+    }
+
+    // Whether lines that a fact's line takes aren't there yet. These are wanted before it then.
+    fn wants(
+        &self,
+        wanted: &mut Vec<(u32, Lit)>,
+        v: u32,
+        lit: Lit,
+        reason: &Reason,
+    ) -> Result<bool, Memory> {
+        let mut is_wanting = false;
+        for (lemma, _) in reason.lemmas.iter() {
+            if self.known(lemma.0, lemma.1).is_none() {
+                if !is_wanting {
+                    wanted.push((v, lit))?;
+                }
+                is_wanting = true;
+                wanted.push(*lemma)?;
+            }
+        }
+        Ok(is_wanting)
     }
 
     // The place of a fact's line, if it was drafted.
@@ -102,17 +127,15 @@ impl Drafts {
     // The draft of a fact's line, from those of others.
     fn push_fact(&mut self, v: u32, lit: Lit, reason: Reason) -> Result<(), Memory> {
         let mut parts = Vec::new(self.alloc);
-        parts.push((self.gate(reason.gate), reason.factor))?;
-        let mut lemmas = Vec::new(self.alloc);
+        let axiom = self.gate(reason.gate);
+        parts.push((axiom, reason.factor))?;
         for ((of, lit), factor) in reason.lemmas {
             if let Some(place) = self.known(of, lit) {
-                lemmas.push((place, factor))?;
+                parts.push((place, factor))?;
             }
         }
-        lemmas.sort_unstable_by_key(|lemma| lemma.0);
-        for lemma in lemmas {
-            parts.push(lemma)?;
-        }
+        // the axioms' places are below those of lines
+        parts.sort_unstable_by_key(|part| part.0);
         let place = self.push(Draft { parts })?;
         self.places.insert((v, lit.0), place)?;
         Ok(())
@@ -138,6 +161,44 @@ impl Reason {
             self.lemmas.push(((v, lit), factor))?;
         }
         Ok(())
+    }
+
+    // By a gate that is true: its operand is.
+    fn set_operand(&mut self, v: u32, operand: Lit, gate: Gate) -> Result<(), Memory> {
+        let negation = literal(self.alloc, operand.not())?;
+        self.factor = times(self.alloc, &negation, MINUS_ONE, &[v])?;
+        self.take(v, Lit(gate.v.wrapping_mul(2)), negation)
+    }
+
+    // By an operand that is false, the left one or the right one: the gate is.
+    fn set_false_operand(&mut self, v: u32, is_left: bool, gate: Gate) -> Result<(), Memory> {
+        let (first, other) = if is_left {
+            (gate.left, gate.right)
+        } else {
+            (gate.right, gate.left)
+        };
+        let one = one(self.alloc)?;
+        self.factor = times(self.alloc, &one, MINUS_ONE, &[v])?;
+        self.take(v, first.not(), literal(self.alloc, other)?)
+    }
+
+    // By two operands that are true: the gate is.
+    fn set_true_operands(&mut self, v: u32, gate: Gate) -> Result<(), Memory> {
+        self.factor = variable(self.alloc, v)?;
+        self.take(v, gate.left, one(self.alloc)?)?;
+        self.take(v, gate.right, literal(self.alloc, gate.left)?)
+    }
+
+    // By a gate that is false and an operand that is true: the other one is false.
+    fn set_other_operand(&mut self, v: u32, lit: Lit, gate: Gate) -> Result<(), Memory> {
+        let (first, other) = if lit.0 == gate.right.not().0 {
+            (gate.left, gate.right)
+        } else {
+            (gate.right, gate.left)
+        };
+        self.factor = variable(self.alloc, v)?;
+        self.take(v, first, literal(self.alloc, other)?)?;
+        self.take(v, Lit(gate.v.wrapping_mul(2)).not(), one(self.alloc)?)
     }
 }
 
@@ -202,7 +263,6 @@ fn by_rule(
     fact: Fact,
     gate: Gate,
 ) -> Result<Reason, Memory> {
-    let lit = Lit(gate.v.wrapping_mul(2));
     let mut reason = Reason {
         alloc,
         gate: gate.v,
@@ -210,35 +270,13 @@ fn by_rule(
         lemmas: Vec::new(alloc),
     };
     match fact.rule {
-        Rule::Operand => {
-            let negation = literal(alloc, fact.lit.not())?;
-            reason.factor = times(alloc, &negation, MINUS_ONE, &[v])?;
-            reason.take(v, lit, negation)?;
-        }
+        Rule::Operand => reason.set_operand(v, fact.lit, gate)?,
         Rule::FalseOperand => {
-            let (first, other) = if was_before(facts, v, gate.left.not(), fact.place)? {
-                (gate.left, gate.right)
-            } else {
-                (gate.right, gate.left)
-            };
-            reason.factor = times(alloc, &one(alloc)?, MINUS_ONE, &[v])?;
-            reason.take(v, first.not(), literal(alloc, other)?)?;
+            let is_left = was_before(facts, v, gate.left.not(), fact.place)?;
+            reason.set_false_operand(v, is_left, gate)?;
         }
-        Rule::TrueOperands => {
-            reason.factor = variable(alloc, v)?;
-            reason.take(v, gate.left, one(alloc)?)?;
-            reason.take(v, gate.right, literal(alloc, gate.left)?)?;
-        }
-        Rule::OtherOperand => {
-            let (first, other) = if fact.lit.0 == gate.right.not().0 {
-                (gate.left, gate.right)
-            } else {
-                (gate.right, gate.left)
-            };
-            reason.factor = variable(alloc, v)?;
-            reason.take(v, first, literal(alloc, other)?)?;
-            reason.take(v, lit.not(), one(alloc)?)?;
-        }
+        Rule::TrueOperands => reason.set_true_operands(v, gate)?,
+        Rule::OtherOperand => reason.set_other_operand(v, fact.lit, gate)?,
     }
     Ok(reason)
 }

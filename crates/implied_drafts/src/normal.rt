@@ -26,7 +26,8 @@ pub(crate) struct Normal {
 }
 
 impl Normal {
-    /// Some variables, which are normal, times others. Of a gate that is taken next, pairs that cancel by themselves stay.
+    /// Some variables, which are normal, times others. Of a gate that is taken next, pairs that cancel by themselves
+    /// stay.
     pub(crate) fn of(
         alloc: Global,
         facts: &mut Facts<'_>,
@@ -123,7 +124,8 @@ pub(crate) fn are_related(
     Ok(false)
 }
 
-// What one of two variables says of the other: that it is false, or else that it is true. Of equal ones the higher goes.
+// What one of two variables says of the other: that it is false, or else that it is true. Of equal ones the higher
+// goes.
 fn relation(
     facts: &mut Facts<'_>,
     u: u32,

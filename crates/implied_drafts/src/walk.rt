@@ -7,8 +7,8 @@ use crate::monomials::{joined, monomial_of, without};
 use crate::normal::{Normal, Use, are_related};
 use crate::polynomials::{MINUS_ONE, Term, operands_of};
 use frontier_core::Step;
+use gate_axioms::Draft;
 use graph_core::{Gate, Memory, Operands};
-use line_drafts::Draft;
 use poly_terms::Terms;
 use ripple_graft::Extended;
 use std::alloc::Global;
@@ -152,25 +152,40 @@ impl<'a> Walk<'a> {
         if self.when == When::Late {
             self.tighten(&taken, gate.v)?;
         }
+        self.substitute(gate)
+    }
+
+    // Takes the part of a gate, as its monomials stand.
+    fn substitute(&mut self, gate: Gate) -> Result<(), Memory> {
         let taken = self.frontier.with(gate.v)?;
         let operands = operands_of(self.alloc, &gate)?;
         let mut factor = Vec::new(self.alloc);
         let mut bytes = 0;
-        for number in taken {
-            let coefficient = self.frontier.coefficient(number);
-            let rest = without(self.alloc, self.frontier.variables(number), gate.v)?;
-            let opposite = self.frontier.opposite(coefficient);
-            self.frontier.put(number, opposite);
-            for (sign, more) in operands.iter() {
-                self.put_product(&rest, more, sign.wrapping_mul(coefficient) & self.mask)?;
-            }
-            let divided = self.frontier.divided(opposite, self.batch.power);
+        for number in taken.iter() {
+            let rest = without(self.alloc, self.frontier.variables(*number), gate.v)?;
+            let divided = self.put_products(*number, &rest, &operands)?;
             let length = self.frontier.length(divided, rest.len());
             bytes = length.saturating_add(bytes);
             factor.push((divided, rest))?;
         }
         self.bytes = self.bytes.saturating_add(bytes);
         self.take_part(gate.v, factor, bytes)
+    }
+
+    // Puts products in place of a monomial. The number by which the gate's axiom is taken, times the rest.
+    fn put_products(
+        &mut self,
+        number: usize,
+        rest: &[u32],
+        operands: &[Term],
+    ) -> Result<u128, Memory> {
+        let coefficient = self.frontier.coefficient(number);
+        let opposite = self.frontier.opposite(coefficient);
+        self.frontier.put(number, opposite);
+        for (sign, more) in operands {
+            self.put_product(rest, more, sign.wrapping_mul(coefficient) & self.mask)?;
+        }
+        Ok(self.frontier.divided(opposite, self.batch.power))
     }
 
     // One part more, in a batch of its own where the open one would be too long.

@@ -29,7 +29,7 @@ pub record IsOpen (max : ℕ) (t : Table) (live : List LiveLine) (o : OpenDraft)
   pub of : IsOf t o.sum
   pub sum : (σ : Assignment) → value_in t o.sum σ ≡ combined (modulus_in t) live (parts_in t o.parts.items) σ % modulus_in t
 
--- A line that can be put behind these live lines, and its polynomial once more.
+-- A line that can be put after these live lines, and its polynomial once more.
 pub record IsReady (max : ℕ) (t : Table) (live : List LiveLine) (r : Ready) : Type 0 where
   pub over : ArePartsOver max t r.parts.items r.poly
   pub spare : AreSpare (modulus_in t) live (parts_in t r.parts.items)
@@ -37,7 +37,7 @@ pub record IsReady (max : ℕ) (t : Table) (live : List LiveLine) (r : Ready) : 
   pub copy_of : IsOf t r.copy
   pub copy : (σ : Assignment) → value_in t r.copy σ ≡ value_in t r.poly σ
 
--- A line that is live behind those that were written, and its polynomial.
+-- A line that is live after those that were written, and its polynomial.
 pub record IsKnownOf (l : Made) (k : Known) : Type 0 where
   pub known : IsKnownIn l.table (written_ledger l).live k
   pub low : k.id ≤ l.last

@@ -70,7 +70,7 @@ fn gate_line(
     })
 }
 
-// That of a column behind others, where it is replaced.
+// That of a column after others, where it is replaced.
 fn with_column(
     alloc: Global,
     terms: &mut Terms,

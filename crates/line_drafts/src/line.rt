@@ -8,9 +8,9 @@ ghost use Rattle.poly_terms.specs.Tables.{Extends, IsOf};
 ghost use Rattle.line_drafts.specs.LineRests.{GoesOn};
 ghost use Rattle.line_drafts.specs.Drafts.{IsKnownIn, IsKnownOf, IsReady};
 
-use crate::draft::Draft;
 use crate::known::Known;
 use crate::open_draft::{OpenDraft, is_up_to, opened};
+use gate_axioms::Draft;
 use graph_core::Memory;
 use mv_fact::Grow;
 use pac_writer::Lines;

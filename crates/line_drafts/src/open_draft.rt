@@ -8,8 +8,8 @@ ghost use Rattle.poly_terms.specs.Tables.{Extends, IsOf};
 ghost use Rattle.poly_text.specs.WrittenLaws.{IsUpTo};
 ghost use Rattle.line_drafts.specs.Drafts.{IsKnownIn, IsOpen};
 
-use crate::draft::Draft;
 use crate::known::Known;
+use gate_axioms::Draft;
 use graph_core::Memory;
 use poly_terms::{Poly, PolySum, Terms};
 use std::alloc::Global;
@@ -23,8 +23,8 @@ pub(crate) struct OpenDraft {
     pub(crate) last: u64,
 }
 
-/// What a draft comes to, with the room of a sum that is left; none where one of its parts is at no place, or is 0, or its ids don't rise, or a variable is
-/// above the greatest one.
+/// What a draft comes to, with the room of a sum that is left; none where one of its parts is at no place, or is 0,
+/// or its ids don't rise, or a variable is above the greatest one.
 pub(crate) fn opened(
     alloc: Global,
     terms: &mut Terms,

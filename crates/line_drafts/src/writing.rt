@@ -7,10 +7,10 @@ ghost use Rattle.line_drafts.specs.Drafts.{IsKnownOf};
 ghost use Rattle.line_drafts.specs.LineRests.{GoesOn, IsLineRest};
 
 use crate::axiom_lines::axiom_lines;
-use crate::draft::Draft;
 use crate::known::Known;
 use crate::line::write_draft;
 use crate::remainder::left_of;
+use gate_axioms::Draft;
 use graph_core::{Memory, Operands};
 use mv_fact::Grow;
 use pac_writer::Lines;
