@@ -55,6 +55,6 @@ pub record IsFinalStage (g : Aig) (cut : Cut) : Type 0 where
 abbrev pub FinalStageIsOne : Type 0
 FinalStageIsOne = (g : Aig) (one other : Cut) → IsDefinedOnce g → IsFinalStage g one → IsFinalStage g other → one ≡ other
 
--- A fit cut of a graph without faults is a cut of it: with m outputs its columns end at m - 1, or its sums at m - 2 with the last carry behind them.
+-- A fit cut of a graph without faults is a cut of it: with m outputs its columns end at m - 1, or its sums at m - 2 with the last carry after them.
 abbrev pub FitIsCut : Type 0
 FitIsCut = (g : Aig) (cut : Cut) → IsWellFormed g → IsFit g cut → IsCut g cut

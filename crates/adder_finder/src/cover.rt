@@ -6,7 +6,7 @@ ghost use Rattle.adder_finder.specs.Cover.{AreFirstNeeds, AreKeys, AreNeeds, Are
 use graph_core::{Graph, Lit, Memory};
 use std::alloc::Global;
 
-/// The level and the variable of each gate, rising: so each gate comes behind those that it reads.
+/// The level and the variable of each gate, rising: so each gate comes after those that it reads.
 pub(crate) fn keys_by_level(alloc: Global, graph: &Graph) -> Result<Vec<(u32, u32)>, Memory>
     ensures { IfOk result (λ keys. AreKeys graph.now keys.items) }
 {

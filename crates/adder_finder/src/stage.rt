@@ -140,7 +140,7 @@ fn next_of(graph: &Graph, output: Lit) -> Option<Next>
     }
 }
 
-// The first pair and those of the columns behind it.
+// The first pair and those of the columns after it.
 fn pairs_of(alloc: Global, first: (Lit, Lit), nexts: &[Next]) -> Result<Vec<(Lit, Lit)>, Memory>
     ensures { IfOk result (λ pairs. pairs.items ≡ first ∷ map (λ next. next.pair) nexts.now) }
 {

@@ -13,7 +13,7 @@ ascii_pieces g = head_text (codes "aag ") g ++ (literal_lines g.inputs ++ (liter
 unfoldable pub binary_pieces : Aig → List ℕ
 binary_pieces g = head_text (codes "aig ") g ++ (literal_lines g.outputs ++ gates_groups g.gates)
 
--- what they make, where the byte behind them ends a numeral by the test
+-- what they make, where the byte after them ends a numeral by the test
 abbrev pub ends_as : (ℕ → Bool) → ℕ × List ℕ → Result ((ℕ × ℕ) × List ℕ) Stop
 ends_as ends (n, []) = Err (Stops [])
 ends_as ends (n, b ∷ rest) = if ends b then Ok ((n, b), rest) else Err (Stops (b ∷ rest))

@@ -141,7 +141,7 @@ line_not_close v bytes x rest id more h i =
     go : (digits : List ℕ) → OneOf is_digit ((codes "q " ++ digits ++ codes ";") ++ newline ∷ more) → ⊥
     go digits z = let f : is_digit 113 ≡ true = z in absurd (cc)
 
--- where a closing line stands that closes, and nothing behind it
+-- where a closing line stands that closes, and nothing after it
 abbrev GoodClose : Extended → Sides → (List ℕ → Type 0) → Ledger → List ℕ → Type 0
 GoodClose e s IsLong l bytes = (id : ℕ) × (rest : List ℕ) × BeginsWith IsCloseText bytes id rest × IsId id × Closes e s l.live id × ¬ (IsLong rest) × (rest ≡ [])
 
@@ -334,7 +334,7 @@ Long lengths bytes left = IsTooLong lengths (length bytes) left
 pub long_or : (lengths : Lengths) (bytes left : List ℕ) → Decided (Long lengths bytes left)
 long_or lengths bytes left = decided_long lengths (length bytes) left
 
--- behind the header
+-- after the header
 header_short : (version : ℕ) (lengths : Lengths) (bytes body : List ℕ) → ¬ (Long lengths bytes bytes) → bytes ≡ algebra_header version ++ body → ShortFrom (Long lengths bytes) body → IsLineStart body [] → IsWithin lengths bytes
 header_short version lengths bytes body n is short end =
     let split = is ∙ append_assoc (first_line version) (newline ∷ []) body in

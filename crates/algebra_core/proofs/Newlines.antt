@@ -40,7 +40,7 @@ none_parts bytes [] h = absurd h
 none_parts bytes (part ∷ []) h = none_part bytes part h
 none_parts bytes (part ∷ next ∷ parts) h = none_same bytes _ h.4 (none_append (h.0 ++ codes " + ") h.1 (none_append h.0 (codes " + ") (none_part h.0 part h.2) (none_in (codes " + ") refl)) (none_parts h.1 (next ∷ parts) h.3))
 
--- four fields with texts behind them
+-- four fields with texts after them
 none_two : (a p b q : List ℕ) → HasNoNewline a → HasNoNewline p → HasNoNewline b → HasNoNewline q → HasNoNewline (a ++ p ++ b ++ q)
 none_two a p b q h i j k = none_append (a ++ p ++ b) q (none_append (a ++ p) b (none_append a p h i) j) k
 

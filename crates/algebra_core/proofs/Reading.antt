@@ -261,7 +261,7 @@ reads_parts =
     back bytes [] h = absurd h
     back bytes (part ∷ parts) h = ((part, parts), parts_back bytes part parts h, refl)
 
--- what stands behind the new id in a line of each kind
+-- what stands after the new id in a line of each kind
 abbrev IsSum : ℕ → List ℕ → Line → Type 0
 IsSum id bytes x = (i j : ℕ) × (p : Polynomial) × (x ≡ Sum id i j p) × ((left right poly : List ℕ) × IsNumeral 15 left i × IsNumeral 15 right j × IsPolynomial poly p ×
     (bytes ≡ codes "+ " ++ left ++ codes ", " ++ right ++ codes ", " ++ poly ++ codes ";"))

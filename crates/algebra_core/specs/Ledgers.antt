@@ -15,7 +15,7 @@ LedgerIsMap = ((m : ℕ) (l : Ledger) (id : ℕ) (p : Polynomial) (k : ℕ) →
     (if id == k then Some (record { id = id; value = value m p }) else line_of l.live k)) ×
     ((m : ℕ) (l : Ledger) (id k : ℕ) → line_of (after m l (Delete id)).live k ≡ (if id == k then None else line_of l.live k))
 
--- Every line that is live behind lawful lines is 0 on each evaluation that meets the premises.
+-- Every line that is live after lawful lines is 0 on each evaluation that meets the premises.
 abbrev pub LiveLinesVanish : Type 0
 LiveLinesVanish = (p : Premises) (lines : List Line) (σ : Assignment) → AreLawfulLines (modulus p.extended) (beginning p) lines →
     IsEvaluation p.extended.gates σ → AreMet p σ →

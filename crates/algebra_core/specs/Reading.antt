@@ -22,7 +22,7 @@ is_sign b = b == 43 || b == 45
 abbrev pub is_space : ℕ → Bool
 is_space b = b == 32
 
--- the variables behind stars
+-- the variables after stars
 abbrev pub factors_at : Reader (List ℕ)
 factors_at = many_at is_star (behind_at (codes "*x") (number_at 10))
 
@@ -55,7 +55,7 @@ part_at = map_at (λ x. record { id = x.0; factor = x.1 }) (then_at (ended_at (n
 abbrev pub parts_at : Reader (List Part)
 parts_at = map_at (λ x. x.0 ∷ x.1) (then_at part_at (many_at is_space (behind_at (codes " + ") part_at)))
 
--- what stands behind the new id, and a space, in a line of each kind
+-- what stands after the new id, and a space, in a line of each kind
 abbrev pub sum_at : ℕ → Reader Line
 sum_at id = map_at (λ x. Sum id x.0 x.1.0 x.1.1)
     (behind_at (codes "+ ") (then_at (ended_at (number_at 15) (codes ", ")) (then_at (ended_at (number_at 15) (codes ", ")) (ended_at poly_at (codes ";")))))
@@ -77,7 +77,7 @@ drop_at id = text_at (codes "d;") (Delete id)
 abbrev pub second_at : {A : Type 0} → ℕ → Reader A → Reader A
 second_at version item bytes = if version == 2 then item bytes else None
 
--- a line, by the byte behind its id
+-- a line, by the byte after its id
 unfoldable pub algebra_line_at : ℕ → Reader Line
 algebra_line_at version = bind_at (ended_at (number_at 15) (codes " ")) (λ id.
     choose_at (λ b. b == 43) (sum_at id) (choose_at (λ b. b == 42) (multiple_at id) (choose_at (λ b. b == 37) (combination_at id)

@@ -63,12 +63,12 @@ IsRefusedClose e s l id =
 abbrev pub IsAlgebraStep : Extended → Ledger → Line → Ledger → Type 0
 IsAlgebraStep e l x next = IsLineInRange e.max x × IsLawfulLine (modulus e) l x × (next ≡ after (modulus e) l x)
 
--- What is wrong behind a good closing line: a line that is too long, or any byte.
+-- What is wrong after a good closing line: a line that is too long, or any byte.
 abbrev pub IsRefusedEnd : (List ℕ → Type 0) → List ℕ → ℕ × AlgebraCause → Type 0
 IsRefusedEnd IsLong rest = Unless (¬ (IsLong rest)) (IsLong rest) (1, TooLong) (Unless (rest ≡ []) (rest ≢ []) (1, Text) Never)
 
--- What is wrong where bytes are left behind lawful lines, by what stands there: no line, a line, or a closing line. With it, 0 for the
--- line there and 1 for the one behind it.
+-- What is wrong where bytes are left after lawful lines, by what stands there: no line, a line, or a closing line. With it, 0 for the
+-- line there and 1 for the one after it.
 abbrev pub IsRefusedText : ℕ → Extended → Sides → (List ℕ → Type 0) → Ledger → List ℕ → ℕ × AlgebraCause → Type 0
 IsRefusedText version e s IsLong l bytes p =
     (((x : Line) (rest : List ℕ) → BeginsWith (IsLineText version) bytes x rest → ⊥) ×
@@ -81,7 +81,7 @@ IsRefusedText version e s IsLong l bytes p =
 abbrev pub IsRefusedNext : ℕ → Extended → Sides → (List ℕ → Type 0) → Ledger → List ℕ → ℕ × AlgebraCause → Type 0
 IsRefusedNext version e s IsLong l bytes = Unless (¬ (IsLong bytes)) (IsLong bytes) (0, TooLong) (IsRefusedText version e s IsLong l bytes)
 
--- the refusal behind the header, which is line 1
+-- the refusal after the header, which is line 1
 abbrev pub IsRefusedBody : Premises → Sides → (List ℕ → Type 0) → List ℕ → ℕ × AlgebraCause → Type 0
 IsRefusedBody given s IsLong body p =
     (lines : List Line) × (q : ℕ × AlgebraCause) ×

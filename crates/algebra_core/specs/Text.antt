@@ -6,7 +6,7 @@ use Rattle.algebra_core.specs.Polynomials.{Term, Polynomial}
 use Rattle.graph_core.specs.Graph.Operands.{Sides}
 use Rattle.algebra_core.specs.AlgebraLines.{Line, Sum, Product, Combination, Import, Delete, Part, AreLawful, Premises}
 
--- each variable behind a star, as in *x3*x1
+-- each variable after a star, as in *x3*x1
 abbrev pub AreFactors : List ℕ → List ℕ → Type 0
 AreFactors bytes [] = bytes ≡ []
 AreFactors bytes (v ∷ vs) = (digits rest : List ℕ) × IsNumeral 10 digits v × AreFactors rest vs × (bytes ≡ codes "*x" ++ digits ++ rest)

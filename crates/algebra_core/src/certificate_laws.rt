@@ -1,5 +1,5 @@
-// Laws of certificates: what a lawful algebra certificate closes with vanishes, so the graph does what is claimed, and a
-// file is lawful or has one first refusal.
+// Laws of certificates: what a lawful algebra certificate closes with vanishes, so the graph does what is claimed,
+// and a file is lawful or has one first refusal.
 ghost use Rattle.algebra_core.specs.AlgebraLines.{AlgebraIsSound, AxiomsVanish, VanishingMeansClaim};
 ghost use Rattle.algebra_core.specs.Reading.{AlgebraIsRead, AlgebraLineIsRead, CloseIsRead};
 ghost use Rattle.algebra_core.specs.Refusal.{AlgebraIsExact};

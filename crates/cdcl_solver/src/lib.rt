@@ -3,12 +3,12 @@
 //! `solve` refutes assumptions, finds a model, or spends its budget of lemmas. *Refuted* comes only where propagation
 //! over the clauses and the log refutes the assumptions; a model meets all clauses and assumptions; *spent* comes only
 //! where exactly as many lemmas were logged as were allowed, and propagation doesn't refute them. Whatever the answer,
-//! want of memory among them, the lines before stay, at most that many lemmas come, each over the variables, and each
+//! out of memory among them, the lines before stay, at most that many lemmas come, each over the variables, and each
 //! line that was logged is lawful. A `Solver` keeps its clauses and the order of decisions from goal to goal, and shows
 //! clauses of two literals as lemmas of their own: only such as follow by propagation over the clauses and the log
-//! (`shown`). Which variable is decided next, and where a search goes on, is a heuristic; so are the values that `suggest`
-//! has tried first. Variables of no clause are never decided, and a model has them false. The function `solve`, without
-//! a `Solver`, is a promised call of the library, and no command needs it.
+//! (`shown`). Which variable is decided next, and where a search goes on, is a heuristic; so are the values that
+//! `suggest` has tried first. Variables of no clause are never decided, and a model has them false. The function
+//! `solve`, without a `Solver`, is a promised call of the library, and no command needs it.
 //!
 //! *Lemma*: it follows from the live clauses by unit propagation, is no tautology, and has no live clause within it;
 //! *lawful* lines: `specs/Log.antt` of `clause_core`. What the lines of a log leave live, and how a log goes on:

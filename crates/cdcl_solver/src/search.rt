@@ -89,8 +89,8 @@ pub(crate) fn is_settled(max: u32, propagator: &mut Propagator, assumptions: &[i
 /// Whether propagation derives each of two literals from the other's negation, or a conflict. Where it doesn't, no live
 /// clause is within the clause of both.
 ///
-/// Which one is negated first is a heuristic: a gate that is false says little, and one that is true says what all below
-/// it are.
+/// Which one is negated first is a heuristic: a gate that is false says little, and one that is true says what all
+/// below it are.
 pub(crate) fn derive_each_other(max: u32, propagator: &mut Propagator, one: i32, other: i32) -> bool
     requires alone { StandsAlone propagator.old }
     requires max { propagator.old.trail.greatest ≡ max }

@@ -158,9 +158,9 @@ impl Solver {
         Ok(Some(self.close(assumptions)))
     }
 
-    /// Shows a clause of two literals within so many lemmas, of which it is the last one, and a few decisions before each;
-    /// whether it follows now by propagation. It is logged and live but where propagation derives each literal from the other's negation already.
-    /// False of literals that aren't of two variables.
+    /// Shows a clause of two literals within so many lemmas, of which it is the last one, and a few decisions before
+    /// each; whether it follows now by propagation. It is logged and live but where propagation derives each literal
+    /// from the other's negation already. False of literals that aren't of two variables.
     ///
     /// What the log left has to be live here. After an `Err` the log may have lemmas more, each lawful, and nothing is
     /// known of the solver.
@@ -193,7 +193,8 @@ impl Solver {
         Ok(true)
     }
 
-    // Logs and adds a clause of two literals that follows, but where propagation derives each from the other's negation.
+    // Logs and adds a clause of two literals that follows, but where propagation derives each from the other's
+    // negation.
     fn keep(&mut self, one: i32, other: i32, log: &mut Log) -> Result<(), Memory>
         requires range { IsClauseInRange self.old.max (one ∷ other ∷ []) }
         requires apart { variable_of one ≢ variable_of other }

@@ -25,7 +25,7 @@ chosen_at (false ∷ marks) (y ∷ xs) (suc zero) x e m = absurd (cc)
 chosen_at (true ∷ marks) (y ∷ xs) (suc (suc n)) x e m = behind y (chosen marks xs) (rank marks (suc n)) x (chosen_at marks xs (suc n) x e m)
 chosen_at (false ∷ marks) (y ∷ xs) (suc (suc n)) x e m = chosen_at marks xs (suc n) x e m
 
--- marks behind an element don't tell for its number
+-- marks after an element don't tell for its number
 rank_front : (marks more : List Bool) (n : ℕ) → n ≤ length marks → rank (marks ++ more) n ≡ rank marks n
 rank_front marks more zero low = refl
 rank_front [] more (suc n) low = absurd (omega arith)

@@ -1,4 +1,4 @@
--- One more line behind a log, and a lawful log as a certificate.
+-- One more line after a log, and a lawful log as a certificate.
 use Rattle.std.specs.Prelude.{List, [], ◌∷◌, ◌++◌}
 use Rattle.std.specs.List.{fold}
 use Rattle.std.proofs.Common.{refl, ap, subst, ◌∙◌, ⊎_elim, append_assoc}
@@ -8,7 +8,7 @@ use Rattle.clause_core.specs.ClauseLines.{ClauseLine, AreLawfulClauses}
 use Rattle.clause_core.specs.declared.line.Line.TheVariants.{Add, Delete}
 use Rattle.clause_core.specs.Log.{IsLogLine, AreLogLines, Spacing, spacing_after, IsSpacedLine, AreRunsSpaced, LogIsCertificate}
 
--- one more line behind some lines
+-- one more line after some lines
 pub one_more : (given goals own : List Clause) (lines : List ClauseLine) (left next : List Clause) (x : ClauseLine) → AreLogLines given goals own lines left → IsLogLine given goals left x next → AreLogLines given goals own (lines ++ x ∷ []) next
 one_more given goals own [] left next x h i = (next, subst (λ z. IsLogLine given goals z x next) h i, refl)
 one_more given goals own (y ∷ lines) left next x h i = (h.0, h.1, one_more given goals h.0 lines left next x h.2 i)

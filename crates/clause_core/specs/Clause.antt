@@ -20,7 +20,7 @@ HasSigns c = All (λ l. l ≢ pos 0) c
 abbrev pub IsLiteral : ℤ → Type 0
 IsLiteral l = (l ≢ pos 0) × (nat_abs l < 2 ^ 31)
 
--- each literal is less than those behind it
+-- each literal is less than those after it
 abbrev pub IsRising : Clause → Type 0
 IsRising c = (i j : ℕ) → i < j → j < length c → slice_index_or c i (pos 0) <ℤ slice_index_or c j (pos 0)
 

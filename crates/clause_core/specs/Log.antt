@@ -35,7 +35,7 @@ abbrev pub spacing_after : Spacing → ClauseLine → Spacing
 spacing_after s (Add c) = record { run = s.run; count = suc s.count; within = false }
 spacing_after s (Delete c) = if s.within then s else record { run = suc s.run; count = 0; within = true }
 
--- the spacing behind the lines of a log
+-- the spacing after the lines of a log
 abbrev pub spacing_of : List ClauseLine → Spacing
 spacing_of lines = fold spacing_after first_spacing lines
 
@@ -48,7 +48,7 @@ abbrev pub AreRunsSpaced : Spacing → List ClauseLine → Type 0
 AreRunsSpaced s [] = Unit {0}
 AreRunsSpaced s (x ∷ xs) = IsSpacedLine s x × AreRunsSpaced (spacing_after s x) xs
 
--- A lawful log over a clause list, and the clauses it added that are live behind it.
+-- A lawful log over a clause list, and the clauses it added that are live after it.
 pub record IsLawfulLog (given goals : List Clause) (lines : List ClauseLine) (left : List Clause) : Type 0 where
   pub lines_lawful : AreLogLines given goals [] lines left
   pub spaced : AreRunsSpaced first_spacing lines

@@ -1,4 +1,4 @@
--- Chains of unit propagation without a clause that nothing behind it needs.
+-- Chains of unit propagation without a clause that nothing after it needs.
 use Rattle.std.specs.Prelude.{◌≡◌, ◌⊎◌, List, [], ◌∷◌, map, ℤ, neg_ℤ}
 use Rattle.std.specs.List.{All, Any, Contains}
 use Rattle.clause_core.specs.Clause.{Clause, SameSet}

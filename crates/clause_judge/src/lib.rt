@@ -5,7 +5,7 @@
 //! lines are lawful and show each goal, and which clauses they add, where these are kept, and then the old and the new
 //! output of each column with goals are equal on every evaluation of the gates; or the first refusal, or a length that
 //! is met before any (`lawful`, `columns`, `refused`). That there are such lines it says of a file that isn't told, too
-//! (`shown`). A failed read is answered where it was counted, and want of memory at any time.
+//! (`shown`). A failed read is answered where it was counted, and out of memory at any time.
 //!
 //! What gates these are, and which outputs are to be equal, is an extended graph (`graph_core`): one with a cut, or two
 //! graphs that are merged. *Passed*, *shown*: `specs/ClauseBody.antt`. *First refusal*: `specs/LineRefusals.antt`.

@@ -39,7 +39,7 @@ IsAbout at _ = ⊥
 
 -- ---- where each comes
 
--- In place of what is due: a fault where it was counted, and want of memory at any time.
+-- In place of what is due: a fault where it was counted, and out of memory at any time.
 abbrev pub Interrupts : View → View → Stop → Type 0
 Interrupts before now stop.ReadFault = Rose before.read_faults now.read_faults
 Interrupts before now stop.WriteFault = Rose before.write_faults now.write_faults

@@ -2,7 +2,7 @@
 //!
 //! `read_graph` opens a file in a slot and reads it, as `read_file` of `aiger_reader` does: Ok only with a graph that
 //! the file spells (`spelled`), and else a `Stop` (`refused`). A `Stop` is a graph refused, a failed read or write, a
-//! length that is passed, or want of memory: each command's answer carries it beside its own causes, and where each
+//! length that is passed, or out of memory: each command's answer carries it beside its own causes, and where each
 //! comes is said once for all of them.
 //!
 //! `Names` has the names of a command's files, of those that it reads and of those that it writes.

@@ -33,7 +33,7 @@ is_plain (x ∷ xs) begins =
 abbrev at : Held → ℕ → Walk
 at held position = record { held = held; waiting = idle; position = position; is_trailing = false; stopped = None }
 
--- where it stands behind one more plain word
+-- where it stands after one more plain word
 abbrev behind : List Rule → Held → ℕ → Text → Walk
 behind rules held position word = to_positional rules (arg_by_index rules position) word (at held position) held
 

@@ -11,8 +11,8 @@ pub enum Command {
         files: Files,
         claim: Claim,
     },
-    /// To give a verdict on what is claimed of a graph, and to write both certificates where it holds. No two of the names
-    /// are equal.
+    /// To give a verdict on what is claimed of a graph, and to write both certificates where it holds. No two of the
+    /// names are equal.
     Verify {
         files: Files,
         claim: Claim,
@@ -43,7 +43,8 @@ pub enum Command {
         /// below 2^32
         number: u64,
     },
-    /// To say whether two graphs are the same, and to write the certificate where they are. Its name is that of neither graph.
+    /// To say whether two graphs are the same, and to write the certificate where they are. Its name is that of
+    /// neither graph.
     Same {
         files: PairFiles,
         /// the most conflicts of the solver, below 2^32
@@ -53,8 +54,8 @@ pub enum Command {
     CheckSame {
         files: PairFiles,
     },
-    /// To judge a pair of certificates as `check` does, and where it is accepted to write it without the lines that nothing
-    /// uses. Neither of the two names that are written to is another of the five.
+    /// To judge a pair of certificates as `check` does, and where it is accepted to write it without the lines that
+    /// nothing uses. Neither of the two names that are written to is another of the five.
     Trim {
         files: TrimFiles,
         claim: Claim,

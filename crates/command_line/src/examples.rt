@@ -11,7 +11,7 @@ ghost use Rattle.command_line.specs.Asked.{AsksTrim, IsCheck, asked};
 ghost use Rattle.command_line.specs.Examples.{NamesAreChecked, NumbersAreNumerals, g_c_a, g_c_a_x_y, check_interleaved, check_signed_sum, check_g, make_array, make_corrected, make_dadda_add, make_corrected_add, eval_addend, trial_of_21, trim_interleaved, trim_to};
 
 /// `mulver check` with any three names asks for `check` of these files: that the graph multiplies unsigned operands
-/// under `separate`. With an order, a kind of operands or `--add` behind them it asks for that claim, and with one name
+/// under `separate`. With an order, a kind of operands or `--add` after them it asks for that claim, and with one name
 /// for nothing. `make corrected` takes no `--add`. `trim` is asked for like `check`, with two names more, neither of
 /// which may be another of the five.
 pub fn plain_words()

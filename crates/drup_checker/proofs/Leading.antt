@@ -31,7 +31,7 @@ module _ (next : List ℕ) (x : ℕ) (falls : AreFalling next) (low : x ≤ leng
   pub leads_on : (r : ℕ) → Leads next x r → Leads longer (suc (length next)) r
   leads_on r h = (suc h.0, inr (subst (λ (from : ℕ). LeadsIn h.0 longer from r) (sym (get_or_push next x 0 (length next) refl)) (leads_longer h.0 x r low h.1)))
 
--- a place is taken out behind the one that leads to it
+-- a place is taken out after the one that leads to it
 module _ (next : List ℕ) (place q : ℕ) (falls : AreFalling next) (there : q < length next) (leads : slice_index next q ≡ place + 1) where
   abbrev without : List ℕ
   without = slice_set next q (slice_index next place)
@@ -75,7 +75,7 @@ first_out heads next chain place b e i r n h =
     (leads_behind next place (slice_index heads i) r (ap (slice_index heads) same ∙ e) n h))
     (λ o. subst (λ (from : ℕ). Leads next from r) (sym (get_or-set_other heads chain i (slice_index next place) 0 o)) h) (cases_eq i chain)
 
--- nothing is found behind the end
+-- nothing is found after the end
 pub leads_nowhere : (next : List ℕ) (r : ℕ) → Leads next 0 r → ⊥
 leads_nowhere next r (zero, h) = h
 leads_nowhere next r (suc k, h) = h

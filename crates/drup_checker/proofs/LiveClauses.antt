@@ -76,7 +76,7 @@ numbered_has (None ∷ xs) (n ∷ ns) (suc place) c even is = numbered_has xs ns
 numbered_has (Some d ∷ xs) (n ∷ ns) (suc place) c even is =
     contains_there (record { clause = d; number = n }) (numbered_of xs ns) (record { clause = c; number = slice_index ns place }) (numbered_has xs ns place c (omega arith) is)
 
--- what a list holds behind a write of all its places
+-- what a list holds after a write of all its places
 pub written : {X : Type 0} (len : ℕ) (new old : List X) → len ≡ length old → length new ≡ length old → take len (new ++ drop (length new) old) ≡ new
 written len [] [] e f = ap (λ n. take n []) e
 written len [] (y ∷ old) e f = absurd (omega arith)

@@ -153,7 +153,7 @@ opposed_met old now next c n h sound below a = subst (λ (s : Standing). IsClaus
   stands = subst (Contains now.trail.literals) (neg_neg (at c n)) a.1;
 })
 
--- ---- behind propagation
+-- ---- after propagation
 
 negated_stand : (old now : Standing) (c : Clause) → Opposes old now c → (l : ℤ) → Contains c l → Contains now.trail.literals (neg_ℤ l)
 negated_stand old now c h l has = let p = at_contained c l has in subst (λ k. Contains now.trail.literals (neg_ℤ k)) p.2 (h.standing p.0 p.1)

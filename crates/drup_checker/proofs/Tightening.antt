@@ -109,7 +109,7 @@ module _ (s : Standing) (sound : IsSound s) (opposed : List ℤ) where
               subst (Contains c) (sym (same_place j q.0 k b (omega (arith, q.1)) q.2 e)) has
 
   module _ (seen : List Bool) (places : List ℕ) (i : ℕ) (h : IsReached s opposed seen places (i + 1)) (below : i < length lits) where
-    -- a literal that nothing behind it needs
+    -- a literal that nothing after it needs
     pub reached_unseen : slice_index_or seen (signed_variable (at lits i)) false ≡ false → IsReached s opposed seen places i
     reached_unseen not_seen = record {
       size = h.size;

@@ -21,8 +21,8 @@ use miter_encoder::Goals;
 use std::alloc::Global;
 use std::marker::Model;
 
-/// The live clauses of a clause certificate over some gates, which goals its added clauses have shown, and what is kept of
-/// those clauses.
+/// The live clauses of a clause certificate over some gates, which goals its added clauses have shown, and what is
+/// kept of those clauses.
 #[derive(Drop)]
 pub struct Checker<'a> {
     alloc: Global,
@@ -120,8 +120,8 @@ impl<'a> Checker<'a> {
         Ok(())
     }
 
-    /// The added clauses in a tight chain for the clause, by their numbers from 1 in the order in which they were added;
-    /// None exactly where it doesn't follow from the live ones. Nothing changes.
+    /// The added clauses in a tight chain for the clause, by their numbers from 1 in the order in which they were
+    /// added; None exactly where it doesn't follow from the live ones. Nothing changes.
     pub fn chain(&mut self, clause: &Clause) -> Result<Option<Vec<u64>>, Memory>
         requires in_range { IsClauseInRange self.old.max clause.now }
         ensures some { IfOk result (λ numbers. IfSome numbers (λ n. IsTightChainOf self.old.numbered clause.now n.items)) }
@@ -131,8 +131,8 @@ impl<'a> Checker<'a> {
         self.store.chain(clause)
     }
 
-    /// What was kept of the added clauses, where the checker isn't needed any more. Where chains are kept, each of these
-    /// clauses has a tight chain of the gates' clauses and of earlier ones that its numbers name.
+    /// What was kept of the added clauses, where the checker isn't needed any more. Where chains are kept, each of
+    /// these clauses has a tight chain of the gates' clauses and of earlier ones that its numbers name.
     pub fn into_record(self) -> Record
         ensures added { result.added ≡ self.entry.added }
         ensures uses { result.uses.items ≡ self.entry.uses }

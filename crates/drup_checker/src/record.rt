@@ -8,15 +8,15 @@ use clause_core::{Clause, ClauseList};
 use graph_core::Memory;
 use std::alloc::Global;
 
-/// The clauses that a checker added, in their order, also those that were deleted later, and for each the numbers, from 1,
-/// of the added ones in a tight chain for it.
+/// The clauses that a checker added, in their order, also those that were deleted later, and for each the numbers,
+/// from 1, of the added ones in a tight chain for it.
 #[derive(Debug, Drop)]
 pub struct Record {
     pub added: ClauseList,
     pub uses: Vec<Numbers>,
 }
 
-/// Puts a clause, and what its chain uses, behind those that are kept.
+/// Puts a clause, and what its chain uses, after those that are kept.
 pub(crate) fn keep(
     alloc: Global,
     keeps: Keeps,

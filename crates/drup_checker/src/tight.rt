@@ -15,8 +15,8 @@ use graph_core::Memory;
 use std::alloc::Global;
 use unit_prop::{Propagator, Ref};
 
-/// The places of the clauses of a tight chain for the clause, or None where it doesn't follow. Nothing stays assumed, and
-/// memory is wanted only where it follows.
+/// The places of the clauses of a tight chain for the clause, or None where it doesn't follow. Nothing stays assumed,
+/// and memory is wanted only where it follows.
 pub(crate) fn tight_chain(
     alloc: Global,
     max: u32,

@@ -1,4 +1,4 @@
--- The lines of a cut, of a block and of blocks, one behind the other: what passes, and the first refusal.
+-- The lines of a cut, of a block and of blocks, one after the other: what passes, and the first refusal.
 use Rattle.std.specs.Prelude.{◌≡◌, ◌⊎◌, ◌+◌, ◌<◌, ℕ, zero, suc, Bool, List, [], ◌∷◌, ◌++◌, ◌≤◌, length, IfOk, Result, Ok, Err}
 use Rattle.std.specs.Global.{Global}
 use Rattle.std.specs.declared.option.Option.{Option}
@@ -25,7 +25,7 @@ use Rattle.drup_text.specs.Headers.{head_of}
 use Rattle.drup_text.specs.LineTexts.{IsCountInRange, IsHeadOf, IsPairOf, IsSizeInRange}
 use Rattle.drup_text.proofs.HeaderSteps.{part_behind, refused_behind}
 
--- ---- more is refused behind a block where more is refused later
+-- ---- more is refused after a block where more is refused later
 
 module _ (one two : Later) (more : (e : Extended) (n : ℕ) (bytes : List ℕ) (p : ℕ × LineCause) → one e n bytes p → two e n bytes p) where
   pub pairs_more : (made : List (Lit × Lit) → Extended) (x : Extended) (IsLong : List ℕ → Type 0) (number count : ℕ) (bytes : List ℕ) (p : ℕ × LineCause) →
@@ -48,7 +48,7 @@ module _ (one two : Later) (more : (e : Extended) (n : ℕ) (bytes : List ℕ) (
             (λ b. inr (b.0, b.1, b.2, ⊎_elim (λ f. inl f) (λ r. inr (r.0, pairs_more (block_at x b.0) x IsLong (number + 1) b.0.1 b.1 p r.1)) b.3)) l.1,
       )) h
 
--- what is refused within a block is so whatever is behind it
+-- what is refused within a block is so whatever is after it
 nothing_more : (later : Later) (e : Extended) (n : ℕ) (bytes : List ℕ) (p : ℕ × LineCause) → nothing_later e n bytes p → later e n bytes p
 nothing_more later e n bytes p h = absurd h
 
@@ -64,7 +64,7 @@ blocks_whatever later IsLong zero x number bytes p h = absurd h
 blocks_whatever later IsLong (suc n) x number bytes p h =
     block_more (IsRefusedBlocks nothing_later IsLong n) (IsRefusedBlocks later IsLong n) (blocks_whatever later IsLong n) IsLong x number bytes p h
 
--- ---- what is refused behind a block that passes
+-- ---- what is refused after a block that passes
 
 pub pairs_pass_on : (later : Later) (made : List (Lit × Lit) → Extended) (x : Extended) (IsLong : List ℕ → Type 0) (number : ℕ) (pairs : List (Lit × Lit)) (bytes body : List ℕ) (p : ℕ × LineCause) →
     Behind IsPairLine (IsPairStep x) IsLong (λ n left. (n ≡ 0) × (left ≡ body)) pairs (length pairs) bytes → later (made pairs) (number + length pairs) body p → IsRefusedPairs later made x IsLong number (length pairs) bytes p
@@ -89,9 +89,9 @@ pairs_of x IsLong mine count pairs same many bytes body h =
     subst (λ ps. Behind IsPairLine (IsPairStep x) IsLong (λ n rest. (n ≡ 0) × (rest ≡ body)) ps (length ps) bytes) (sym same)
     (subst (λ n. Behind IsPairLine (IsPairStep x) IsLong (λ n rest. (n ≡ 0) × (rest ≡ body)) pairs.items n bytes) (sym many) h)
 
--- ---- a line, and what is behind it
+-- ---- a line, and what is after it
 
--- it is refused, whatever is behind it
+-- it is refused, whatever is after it
 pub front_refused : {X : Type 0} (IsText : List ℕ → X → Type 0) (InRange : X → Type 0) (Then : X → List ℕ → ℕ × LineCause → Type 0) (IsLong : List ℕ → Type 0) (n : ℕ) (bytes : List ℕ) (p : ℕ × LineCause) →
     (line_part IsText InRange).refused IsLong n bytes p → Unless (¬ (IsLong bytes)) (IsLong bytes) (n, TooLong)
     (λ q. (BeginsWithNone IsText bytes × (q ≡ (n, Text))) ⊎ ((x : X) × (rest : List ℕ) × BeginsWith IsText bytes x rest × Unless (InRange x) (¬ (InRange x)) (n, Range) (Then x rest) q)) p

@@ -45,7 +45,7 @@ header_said g lengths bytes h body passes =
     ⊎_elim (λ a. let t = a.1.2 in inl (a.0, (a.1.0, a.1.1, (t.rest, cut_said IsLong g t.rest a.1.0 body t.cut_passes, t.version))))
     (λ b. let t = b.1 in inr (b.0, (t.rest, count_said IsLong g t.rest h.blocks body t.blocks_pass, t.version))) passes
 
--- ---- what is refused within a header is so whatever is behind it
+-- ---- what is refused within a header is so whatever is after it
 
 module _ (later : Later) (g : Aig) where
   behind_anyhow : (IsLong : List ℕ → Type 0) (c : Option (ℕ × ℕ)) (bytes : List ℕ) (p : ℕ × LineCause) → IsRefusedBehindCut nothing_later g IsLong c bytes p → IsRefusedBehindCut later g IsLong c bytes p
@@ -75,7 +75,7 @@ module _ (later : Later) (g : Aig) where
             (λ v. inr (⊎_elim (λ c. inl (c.0, c.1, cut_anyhow IsLong c.0 p c.2)) (λ c. inr (c.0, c.1, count_anyhow IsLong c.0 p c.2)) v)) l.1,
       )) h
 
-  -- ---- what is refused behind a header that passes
+  -- ---- what is refused after a header that passes
 
   cut_behind : (IsLong : List ℕ → Type 0) (bytes : List ℕ) (cut : Option Cut) (body : List ℕ) (p : ℕ × LineCause) → PassesCut g IsLong bytes cut body →
       later (with_blocks g (cut_blocks (length g.outputs) cut)) (header_line_count 1 (cut_blocks (length g.outputs) cut) + 1) body p → IsRefusedCut later g IsLong bytes p

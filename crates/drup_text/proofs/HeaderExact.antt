@@ -40,7 +40,7 @@ module _ (IsLong : List ℕ → Type 0) where
     pairs_pass e body pairs h.0 (short_rest IsLong bytes h.1.0 h.0 h.1.2 short) h.2 (All-tail (IsPairOf e) p pairs known),
   )
 
-  -- what is short is so behind lines
+  -- what is short is so after lines
   behind_short : (pairs : List (Lit × Lit)) (bytes after : List ℕ) → ShortFrom IsLong bytes → AreLinesOf IsPairLine bytes pairs after → ShortFrom IsLong after
   behind_short [] bytes after short h = subst (ShortFrom IsLong) h short
   behind_short (p ∷ pairs) bytes after short h = behind_short pairs h.0 after (short_rest IsLong bytes h.1.0 h.0 h.1.2 short) h.2
@@ -144,7 +144,7 @@ module _ (IsLong : List ℕ → Type 0) (p : ℕ × LineCause) where
         let more = pairs_passed all xs ys i.1 i.0 (subst (λ z. Behind IsPairLine (IsPairStep e) IsLong Ends xs i.1 z) same.1 (subst (λ n. Behind IsPairLine (IsPairStep e) IsLong Ends xs n h.0) next h.5)) i.5 in
         (ap₂ ◌∷◌ (sym same.0) more.0, more.1)
 
-    -- so many pairs pass, and what is refused is so behind them
+    -- so many pairs pass, and what is refused is so after them
     pub behind_pairs : (pairs : List (Lit × Lit)) (count : ℕ) (bytes rest : List ℕ) → bytes ≡ rest → Behind IsPairLine (IsPairStep e) IsLong Ends pairs count bytes → IsRefusedPairs later made e IsLong number count rest p → IsLater later (made pairs) body p
     behind_pairs pairs count bytes rest same h refused =
         let t = pairs_passed refused.0 pairs refused.0 count rest (subst (λ z. Behind IsPairLine (IsPairStep e) IsLong Ends pairs count z) same h) refused.1 in

@@ -1,4 +1,4 @@
--- The parts of a header, one behind the other: what passes, and the first refusal.
+-- The parts of a header, one after the other: what passes, and the first refusal.
 use Rattle.std.specs.Prelude.{◌≡◌, ◌+◌, ◌<◌, ℕ, zero, suc, false, List, [], ◌∷◌, ◌++◌, length, IfErr, IfOk, IfSome, Result, Ok, Err}
 use Rattle.std.specs.Global.{Global}
 use Rattle.std.specs.Result.{result_err}
@@ -69,9 +69,9 @@ module _ {X : Type 0} (IsText : List ℕ → X → Type 0) (InRange : X → Type
   pub line_missed : {old new : FileState} {before now : View} (f : LineFail) → GivesNeeded Clauses old new before now (Err f) → ReadsHeaderPart (line_part IsText InRange) old new before now (Err f)
   line_missed {old} {new} {before} {now} f gives = line_is_part old new before now (Err f) (needed_fault_read IsText InRange IsSaid none f gives)
 
--- ---- parts one behind the other
+-- ---- parts one after the other
 
--- a first refusal behind what passes
+-- a first refusal after what passes
 pub cause_behind : (Refused Later : List ℕ → ℕ × LineCause → Type 0) (left after : Option (List ℕ)) (first mid last n : ℕ) (f : LineFail) → mid ≡ first →
     IfSome left (λ bytes. (rest : List ℕ) × (after ≡ Some rest) × ((p : ℕ × LineCause) → Later rest p → Refused bytes p)) → IsCause Later after mid last n f → IsCause Refused left first last n f
 cause_behind Refused Later left after first mid last n f same passes h = go f h
@@ -153,7 +153,7 @@ refused_front one both {old} {new} {before} {now} f join h = record { value = tt
     go fail.TooLong k = at (new.number, cause.TooLong) k
     go fail.Memory k = tt
 
--- want of memory
+-- out of memory
 pub memory_short : {X : Type 0} (part : HeaderPart X) {old new : FileState} {before now : View} (f : LineFail) → f ≡ fail.Memory → ReadsHeaderPart part old new before now (Err f)
 memory_short part {old} {new} {before} {now} f is =
     subst (λ e. ReadsHeaderPart part old new before now (Err e)) (sym is) (record { value = tt; refused = tt; number = tt; ended = tt })

@@ -39,7 +39,7 @@ pub minus_out : (max v : ℕ) → IsLiteralInRange max (minus_number v) → IsVa
 minus_out max zero h = absurd (h.0 refl)
 minus_out max (suc v) h = (omega arith, h.1)
 
--- what is read by another reader behind a text, changed
+-- what is read by another reader after a text, changed
 pub taken_behind : {A B : Type 0} (f : A → B) (text : List ℕ) (item : Reader A) (old mid new : List ℕ) (x : A) → front_at text old ≡ Some mid → item mid ≡ Some (x, new) → map_at f (behind_at text item) old ≡ Some (f x, new)
 taken_behind f text item old mid new x e h = ap (λ o. o >>= λ y. Some (f y.0, y.1)) (ap (λ o. o >>= item) e ∙ h)
 
@@ -140,7 +140,7 @@ add_some max old new c at h = record { read = Add h.read; taken = add_there old 
 pub add_none : (max : ℕ) (old new : List ℕ) → begins (λ b. b == 100) old ≡ false → Takes clause_read_at (IsClauseInRange max) SameSet old new None → Takes clause_line_at (IsClauseLineInRange max) IsSameClauseLine old new None
 add_none max old new at h = record { read = Add h.read; taken = add_there old at ∙ taken_map Add clause_read_at old new h.read h.taken; gives = h.gives }
 
--- a text that fails behind a choice
+-- a text that fails after a choice
 pub fails_behind : {A B : Type 0} (f : A → B) (text : List ℕ) (item : Reader A) (old mid : List ℕ) → front_at text old ≡ Some mid → item mid ≡ None → map_at f (behind_at text item) old ≡ None
 fails_behind f text item old mid e h = ap (λ o. o >>= λ y. Some (f y.0, y.1)) (ap (λ o. o >>= item) e ∙ h)
 

@@ -1,4 +1,4 @@
--- What stands behind the first line of a header, in either version, and the whole header: what passes, and the first refusal.
+-- What stands after the first line of a header, in either version, and the whole header: what passes, and the first refusal.
 use Rattle.std.specs.Prelude.{◌≡◌, ◌+◌, ◌≤◌, ℕ, List, [], ◌∷◌, ◌++◌, codes, length, IfErr, IfOk, IfSome, Result, Ok, Err}
 use Rattle.std.specs.Global.{Global}
 use Rattle.std.specs.Result.{result_err}
@@ -29,7 +29,7 @@ use Rattle.drup_text.specs.HeaderSteps.{IsLongIn, ReadsHeaderPart, TakesHeaderPa
 use Rattle.drup_text.specs.Headers.{second_line, version_line}
 use Rattle.drup_text.proofs.HeaderSteps.{cause_behind, memory_short, part_settled, refused_front, same_part}
 
--- ---- behind the first line
+-- ---- after the first line
 
 module _ (g : Aig) (version : ℕ) {old mid : FileState} {before now : View} where
   pub version_two : (r : Result (Vec Block Global) LineFail) → version ≡ 2 → ReadsHeaderPart (count_part g) old mid before now r → ReadsHeaderPart (version_part g version) old mid before now r
@@ -47,7 +47,7 @@ module _ (g : Aig) (version : ℕ) {old mid : FileState} {before now : View} whe
       lines None is = let e = of_one ∙ ap (block_lines 0) is in ap (λ n. 1 + n) e
       lines (Some c) is = let e : block_lines (own_line version) blocks.items ≡ 0 + length c.pairs + 0 = of_one ∙ ap (block_lines 0) is in omega (arith, e)
 
-  -- the block of a cut that was read, or want of memory
+  -- the block of a cut that was read, or out of memory
   pub version_block : (cut : Cut) (r : Result (Vec Block Global) LineFail) → version ≡ 1 → IfOk r (λ bs. bs.items ≡ cut_blocks (length g.outputs) (Some cut)) → IfErr r (λ f. f ≡ fail.Memory) → ReadsHeaderPart (cut_part g) old mid before now (Ok (Some cut)) →
       ReadsHeaderPart (version_part g version) old (settled mid (result_err r)) before now r
   version_block cut (Ok blocks) one is short h = part_settled (version_part g version) None blocks (version_cut (Some cut) blocks one is h)

@@ -49,7 +49,7 @@ pub next_literal : (ls : List ℤ) (i : ℕ) (d : ℤ) → i < length ls → lit
 next_literal ls i d early =
     ap (λ xs. literals_text xs []) (next_item ls i d early) ∙ sym (append_assoc (signed_decimal (get_or ls i d)) (space ∷ []) (literals_text (drop (i + 1) ls) []))
 
--- what stands behind literals
+-- what stands after literals
 pub literals_end : (ls : List ℤ) (end : List ℕ) → literals_text ls end ≡ literals_text ls [] ++ end
 literals_end [] end = refl
 literals_end (l ∷ ls) end = ap (λ z. signed_decimal l ++ space ∷ z) (literals_end ls end) ∙ sym (append_assoc (signed_decimal l) (space ∷ literals_text ls []) end)

@@ -32,7 +32,7 @@ minus_number v = neg_ℤ (pos v)
 abbrev pub literal_at : Reader ℤ
 literal_at = choose_at (λ b. b == 45) (map_at minus_number (behind_at (codes "-") nonzero_at)) (map_at pos nonzero_at)
 
--- literals, each with a space behind it
+-- literals, each with a space after it
 abbrev pub clause_literals_at : Reader (List ℤ)
 clause_literals_at = many_at is_no_zero (ended_at literal_at (codes " "))
 

@@ -17,12 +17,12 @@ abbrev pub IsLiteralText : List ℕ → ℤ → Type 0
 IsLiteralText bytes (pos v) = IsVariableText bytes v
 IsLiteralText bytes (negsuc v) = (digits : List ℕ) × IsVariableText digits (suc v) × (bytes ≡ codes "-" ++ digits)
 
--- literals, each with a space behind it, and a 0
+-- literals, each with a space after it, and a 0
 abbrev pub IsClauseText : List ℕ → Clause → Type 0
 IsClauseText bytes [] = bytes ≡ codes "0"
 IsClauseText bytes (l ∷ ls) = (literal rest : List ℕ) × IsLiteralText literal l × IsClauseText rest ls × (bytes ≡ literal ++ space ∷ rest)
 
--- a clause, or one behind the letter d
+-- a clause, or one after the letter d
 abbrev pub IsClauseLine : List ℕ → ClauseLine → Type 0
 IsClauseLine bytes (Add c) = IsClauseText bytes c
 IsClauseLine bytes (Delete c) = (rest : List ℕ) × IsClauseText rest c × (bytes ≡ codes "d " ++ rest)
@@ -51,7 +51,7 @@ abbrev pub IsBlockLine : List ℕ → ℕ × ℕ × Bool → Type 0
 IsBlockLine bytes h = (low count : List ℕ) × IsNumeral 10 low h.0 × IsNumeral 10 count h.1 ×
     (bytes ≡ codes "replace " ++ low ++ space ∷ (count ++ carry_text h.2))
 
--- ---- lines one behind the other, each with its line feed, and the bytes after them
+-- ---- lines one after the other, each with its line feed, and the bytes after them
 
 abbrev pub AreLinesOf : {Line : Type 0} → (List ℕ → Line → Type 0) → List ℕ → List Line → List ℕ → Type 0
 AreLinesOf IsText bytes [] after = bytes ≡ after

@@ -1,4 +1,4 @@
--- The first refusal in the header of a clause certificate, given what is refused behind a header.
+-- The first refusal in the header of a clause certificate, given what is refused after a header.
 use Rattle.std.specs.Prelude.{◌≡◌, ◌≢◌, ◌⊎◌, ℕ, zero, suc, ◌+◌, Bool, List, ◌++◌, length}
 use Rattle.std.specs.declared.option.Option.{Option}
 use Rattle.std.specs.declared.option.Option.TheVariants.{None, Some}
@@ -19,7 +19,7 @@ pub data LineCause : Type 0 where
   NotImplied : LineCause
   NoSuchClause : LineCause
 
--- What is refused behind a header, over the extended graph: the number of the line that comes next, the bytes left, and the refusal,
+-- What is refused after a header, over the extended graph: the number of the line that comes next, the bytes left, and the refusal,
 -- which is a line's number and its cause.
 abbrev pub Later : Type 1
 Later = Extended → ℕ → List ℕ → ℕ × LineCause → Type 0
@@ -39,7 +39,7 @@ IsRefusedPairText e bytes cause =
 abbrev pub IsRefusedPair : Extended → (List ℕ → Type 0) → List ℕ → LineCause → Type 0
 IsRefusedPair e IsLong bytes = Unless (¬ (IsLong bytes)) (IsLong bytes) TooLong (IsRefusedPairText e bytes)
 
--- Behind some pairs, the first of them in the line of this number: one of those to come is refused, or all are there and something behind
+-- After some pairs, the first of them in the line of this number: one of those to come is refused, or all are there and something after
 -- them is refused, over the graph that they make.
 abbrev pub IsRefusedBehindPairs : Later → (List (Lit × Lit) → Extended) → Extended → (List ℕ → Type 0) → ℕ →
     List (Lit × Lit) → ℕ → List ℕ → ℕ × LineCause → Type 0
@@ -65,7 +65,7 @@ IsRefusedBehindCut later g IsLong (Some n) bytes =
     Unless (IsCutSize (length g.outputs) n) (¬ (IsCutSize (length g.outputs) n)) (2, Range)
     (IsRefusedPairs later (cut_at g n.0) (without_cut g) IsLong 3 n.1 bytes)
 
--- behind the first line
+-- after the first line
 abbrev pub IsRefusedCut : Later → Aig → (List ℕ → Type 0) → List ℕ → ℕ × LineCause → Type 0
 IsRefusedCut later g IsLong bytes = Unless (¬ (IsLong bytes)) (IsLong bytes) (2, TooLong)
     (λ p. (((c : Option (ℕ × ℕ)) (rest : List ℕ) → BeginsWith IsCutLine bytes c rest → ⊥) × (p ≡ (2, Text))) ⊎
@@ -77,7 +77,7 @@ IsRefusedCut later g IsLong bytes = Unless (¬ (IsLong bytes)) (IsLong bytes) (2
 abbrev pub block_at : Extended → ℕ × ℕ × Bool → List (Lit × Lit) → Extended
 block_at e h pairs = graft_block e (block (record { lo = h.0; pairs = pairs }) h.2)
 
--- one block, from the line of this number on, and what comes behind it
+-- one block, from the line of this number on, and what comes after it
 abbrev pub IsRefusedBlock : Later → (List ℕ → Type 0) → Later
 IsRefusedBlock later IsLong e number bytes = Unless (¬ (IsLong bytes)) (IsLong bytes) (number, TooLong)
     (λ q. (((h : ℕ × ℕ × Bool) (rest : List ℕ) → BeginsWith IsBlockLine bytes h rest → ⊥) × (q ≡ (number, Text))) ⊎
@@ -89,7 +89,7 @@ abbrev pub IsRefusedBlocks : Later → (List ℕ → Type 0) → ℕ → Later
 IsRefusedBlocks later IsLong zero = later
 IsRefusedBlocks later IsLong (suc n) = IsRefusedBlock (IsRefusedBlocks later IsLong n) IsLong
 
--- behind the first line
+-- after the first line
 abbrev pub IsRefusedCount : Later → Aig → (List ℕ → Type 0) → List ℕ → ℕ × LineCause → Type 0
 IsRefusedCount later g IsLong bytes = Unless (¬ (IsLong bytes)) (IsLong bytes) (2, TooLong)
     (λ p. (((n : ℕ) (rest : List ℕ) → BeginsWith IsCountLine bytes n rest → ⊥) × (p ≡ (2, Text))) ⊎
@@ -111,7 +111,7 @@ IsFirstHeaderRefusal later g lengths bytes =
     (((body : List ℕ) × (bytes ≡ version_line ++ body) × IsRefusedCut later g (IsTooLong lengths (length bytes)) body p) ⊎
     ((body : List ℕ) × (bytes ≡ second_line ++ body) × IsRefusedCount later g (IsTooLong lengths (length bytes)) body p)))
 
--- nothing is refused behind a header
+-- nothing is refused after a header
 abbrev pub nothing_later : Later
 nothing_later e number bytes p = ⊥
 

@@ -1,4 +1,4 @@
--- The parts of a header, as they are read over what is left of a file: a line, or lines one behind the other.
+-- The parts of a header, as they are read over what is left of a file: a line, or lines one after the other.
 use Rattle.std.specs.Prelude.{◌≡◌, ◌⊎◌, ◌+◌, ℕ, false, List, length, Result, IfErr, IfOk, IfSome, OnOk}
 use Rattle.std.specs.Global.{Global}
 use Rattle.std.specs.declared.option.Option.{Option}
@@ -24,14 +24,14 @@ use Rattle.drup_text.specs.HeaderRefusal.{IsPairStep, IsRefusedBlock, IsRefusedB
 abbrev pub IsLongIn : Lines → List ℕ → List ℕ → Type 0
 IsLongIn lines left = IsTooLong lines.lengths (lines.taken + length left)
 
--- A part of a header, given which lines are long: what passes, of these bytes, and the bytes behind it; the first refusals in it, where its
+-- A part of a header, given which lines are long: what passes, of these bytes, and the bytes after it; the first refusals in it, where its
 -- first line has this number; and how many lines it has.
 pub record HeaderPart (X : Type 0) : Type 1 where
   pub passes : (List ℕ → Type 0) → List ℕ → X → List ℕ → Type 0
   pub refused : (List ℕ → Type 0) → ℕ → List ℕ → ℕ × LineCause → Type 0
   pub lines : X → ℕ
 
--- What is left begins with a part that passes, and these bytes are behind it.
+-- What is left begins with a part that passes, and these bytes are after it.
 pub record TakesHeaderPart {X : Type 0} (part : HeaderPart X) (old new : Lines) (left : List ℕ) (after : Option (List ℕ)) (x : X) : Type 0 where
   pub body : List ℕ
   pub passes : part.passes (IsLongIn old left) left x body
@@ -76,7 +76,7 @@ cut_part g = record { passes = PassesCut g; refused = λ IsLong number. IsRefuse
 
 -- ---- version 2
 
--- a block, blocks, and blocks behind their number
+-- a block, blocks, and blocks after their number
 abbrev pub block_part : Extended → HeaderPart Block
 block_part e = record {
   passes = λ IsLong. PassesBlock IsLong e;
@@ -100,7 +100,7 @@ count_part g = record {
 
 -- ---- both
 
--- what stands behind the line of a version
+-- what stands after the line of a version
 abbrev pub version_part : Aig → ℕ → HeaderPart (Vec Block Global)
 version_part g version = record {
   passes = λ IsLong bytes blocks body.

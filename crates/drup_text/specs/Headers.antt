@@ -20,7 +20,7 @@ use Rattle.drup_text.specs.ClauseTexts.{AreLinesOf, IsBlockLine, IsClauseLine, I
 abbrev pub version_line : List ℕ
 version_line = codes "joined 1" ++ newline ∷ []
 
--- Behind the first line: one line, and a line for each pair.
+-- After the first line: one line, and a line for each pair.
 abbrev pub IsCutText : List ℕ → Option Cut → List ℕ → Type 0
 IsCutText bytes None after = BeginsWith IsCutLine bytes None after
 IsCutText bytes (Some cut) after =
@@ -38,13 +38,13 @@ second_line = codes "joined 2" ++ newline ∷ []
 abbrev pub head_of : Block → ℕ × ℕ × Bool
 head_of b = (b.cut.lo, length b.cut.pairs, b.carry)
 
--- blocks one behind the other: a line for each, and a line for each of its pairs
+-- blocks one after the other: a line for each, and a line for each of its pairs
 abbrev pub AreBlockTexts : List ℕ → List Block → List ℕ → Type 0
 AreBlockTexts bytes [] after = bytes ≡ after
 AreBlockTexts bytes (b ∷ blocks) after =
     (rest middle : List ℕ) × BeginsWith IsBlockLine bytes (head_of b) rest × AreLinesOf IsPairLine rest b.cut.pairs middle × AreBlockTexts middle blocks after
 
--- behind the first line: the number of blocks, and the blocks
+-- after the first line: the number of blocks, and the blocks
 abbrev pub IsBlocksText : List ℕ → List Block → List ℕ → Type 0
 IsBlocksText bytes blocks after = (rest : List ℕ) × BeginsWith IsCountLine bytes (length blocks) rest × AreBlockTexts rest blocks after
 

@@ -28,7 +28,7 @@ IsSizeInRange outputs size = IfSome size (IsCutSize outputs)
 abbrev pub IsCountInRange : ℕ → ℕ → Type 0
 IsCountInRange outputs n = n ≤ outputs
 
--- the block has its columns behind the blocks before it
+-- the block has its columns after the blocks before it
 abbrev pub IsHeadOf : Extended → ℕ × ℕ × Bool → Type 0
 IsHeadOf e h = HasColumnRoom e h.0 h.1 h.2
 

@@ -20,7 +20,7 @@ use Rattle.ripple_graft.specs.HeaderBlocks.{cut_blocks}
 use Rattle.drup_text.specs.LineTexts.{IsCountInRange, IsCutSize, IsHeadOf}
 use Rattle.drup_text.specs.declared.fault.StartFail.{StartFail}
 
--- Of lines none of which is long: the cut's line and its pairs, which the graph takes, and the bytes behind them.
+-- Of lines none of which is long: the cut's line and its pairs, which the graph takes, and the bytes after them.
 abbrev pub PassesCut : Aig → (List ℕ → Type 0) → List ℕ → Option Cut → List ℕ → Type 0
 PassesCut g IsLong bytes None body = ¬ (IsLong bytes) × BeginsWith IsCutLine bytes None body
 PassesCut g IsLong bytes (Some cut) body =
@@ -28,7 +28,7 @@ PassesCut g IsLong bytes (Some cut) body =
     IsCutSize (length g.outputs) (cut.lo, length cut.pairs) ×
     Behind IsPairLine (IsPairStep (without_cut g)) IsLong (λ left after. (left ≡ 0) × (after ≡ body)) cut.pairs (length cut.pairs) rest
 
--- The same of a block's line and its pairs, which fit behind the blocks so far; and of blocks one behind the other.
+-- The same of a block's line and its pairs, which fit after the blocks so far; and of blocks one after the other.
 abbrev pub PassesBlock : (List ℕ → Type 0) → Extended → List ℕ → Block → List ℕ → Type 0
 PassesBlock IsLong e bytes b body =
     (rest : List ℕ) × ¬ (IsLong bytes) × BeginsWith IsBlockLine bytes (head_of b) rest × IsHeadOf e (head_of b) ×
@@ -65,7 +65,7 @@ PassesAnyHeader g lengths bytes h body =
     ((h.version ≡ 1) × ((cut : Option Cut) × (h.blocks ≡ cut_blocks (length g.outputs) cut) × PassesHeader g lengths bytes cut body)) ⊎
     ((h.version ≡ 2) × PassesBlocks g lengths bytes h.blocks body)
 
--- So it does, and these bytes are left behind it.
+-- So it does, and these bytes are left after it.
 pub record HasClauseHeader (g : Aig) (new : FileState) (bytes : List ℕ) (after : Option (List ℕ)) (h : Header) : Type 0 where
   pub body : List ℕ
   pub passes : PassesAnyHeader g new.lines.lengths bytes h body
@@ -85,7 +85,7 @@ own_line version = if version == 2 then 1 else 0
 abbrev pub header_line_count : ℕ → List Block → ℕ
 header_line_count version blocks = 2 + block_lines (own_line version) blocks
 
--- Why some of the lines of a header aren't had, where what is left has such first refusals: this one, a failed read, or want of memory.
+-- Why some of the lines of a header aren't had, where what is left has such first refusals: this one, a failed read, or out of memory.
 abbrev pub IsCause : (List ℕ → ℕ × LineCause → Type 0) → Option (List ℕ) → ℕ → ℕ → ℕ → LineFail → Type 0
 IsCause Refused left before now line fail.Text = IfSome left (λ bytes. Refused bytes (line, Text))
 IsCause Refused left before now line fail.Range = IfSome left (λ bytes. Refused bytes (line, Range))

@@ -30,7 +30,7 @@ abbrev pub OneTextIsOneFile : Type 0
 OneTextIsOneFile = (outputs : ℕ) (bytes : List ℕ) (h k : Header) (lines others : List ClauseLine) → IsAnyClauseFile outputs bytes h lines →
     IsAnyClauseFile outputs bytes k others → (h ≡ k) × (lines ≡ others)
 
--- Within the lengths the header that is written passes over each graph that takes its blocks, and the lines are left behind it.
+-- Within the lengths the header that is written passes over each graph that takes its blocks, and the lines are left after it.
 abbrev pub WrittenHeadersPass : Type 0
 WrittenHeadersPass = (g : Aig) (lengths : Lengths) (h : Header) (lines : List ClauseLine) → IsBuilt g → IsHeaderOf g h →
     IsWithin lengths (any_file_text h lines) → PassesAnyHeader g lengths (any_file_text h lines) h (clause_lines_text lines)

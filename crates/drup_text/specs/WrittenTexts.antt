@@ -21,7 +21,7 @@ abbrev pub literal_sign : ℤ → List ℕ
 literal_sign (pos v) = []
 literal_sign (negsuc v) = codes "-"
 
--- literals, each with a space behind it, and then a text
+-- literals, each with a space after it, and then a text
 abbrev pub literals_text : List ℤ → List ℕ → List ℕ
 literals_text [] end = end
 literals_text (l ∷ ls) end = signed_decimal l ++ space ∷ literals_text ls end
@@ -50,7 +50,7 @@ abbrev pub pairs_text : List (Lit × Lit) → List ℕ
 pairs_text [] = []
 pairs_text (p ∷ pairs) = two_text p.0.0 p.1.0 ++ newline ∷ pairs_text pairs
 
--- behind the first line
+-- after the first line
 abbrev pub cut_text : Option Cut → List ℕ
 cut_text None = codes "none" ++ newline ∷ []
 cut_text (Some cut) = codes "replace " ++ two_text cut.lo (length cut.pairs) ++ newline ∷ pairs_text cut.pairs
@@ -68,7 +68,7 @@ abbrev pub blocks_text : List Block → List ℕ
 blocks_text [] = []
 blocks_text (b ∷ blocks) = block_text b ++ blocks_text blocks
 
--- behind the first line
+-- after the first line
 abbrev pub count_text : List Block → List ℕ
 count_text blocks = codes "cuts " ++ decimal (length blocks) ++ newline ∷ blocks_text blocks
 

@@ -18,7 +18,7 @@ use mv_text::{CertificateFile, LineFail};
 use ripple_graft::{Block, Cut, Extended, Pairs};
 use std::alloc::Global;
 
-// The lines behind the first one: the number of blocks, and the lines of each.
+// The lines after the first one: the number of blocks, and the lines of each.
 pub(crate) fn listed_blocks<D: Desk>(
     alloc: Global,
     file: &mut CertificateFile,

@@ -29,8 +29,9 @@ use std::marker::Model;
 
 /// A clause certificate that is read line by line from the slot `Clauses` of a desk.
 ///
-/// Contracts see its version, the bytes of the piece in hand, how many bytes were taken before them, the lengths that are
-/// allowed, how many lines were read or refused, whether the end was met, and the answer from the first failure on.
+/// Contracts see its version, the bytes of the piece in hand, how many bytes were taken before them, the lengths that
+/// are allowed, how many lines were read or refused, whether the end was met, and the answer from the first failure
+/// on.
 #[derive(Drop)]
 pub struct ClauseFile {
     alloc: Global,
@@ -49,11 +50,11 @@ impl ClauseFile {
     /// Reads the header, and answers it: its version, and the blocks that it names; the graph takes them.
     ///
     /// `Text` comes where a line of the header isn't there as it has to be. `Range` comes in version 1 on line 2 where
-    /// there is no pair or the cut ends neither at the last column nor at the one before it; in version 2 on line 2 where
-    /// there are more blocks than columns, and on a block's line where there is no pair or a column isn't there or is
-    /// replaced by a block before; and on a pair's line where the variable of a literal is neither 0, an input nor a gate
-    /// of the graph or of a block before. `TooLong` comes where the line is too long or holds the first byte past the
-    /// limit of the file.
+    /// there is no pair or the cut ends neither at the last column nor at the one before it; in version 2 on line 2
+    /// where there are more blocks than columns, and on a block's line where there is no pair or a column isn't there
+    /// or is replaced by a block before; and on a pair's line where the variable of a literal is neither 0, an input
+    /// nor a gate of the graph or of a block before. `TooLong` comes where the line is too long or holds the first
+    /// byte past the limit of the file.
     pub fn start<D: Desk>(
         alloc: Global,
         desk: &mut D,
@@ -91,8 +92,8 @@ impl ClauseFile {
 
     /// Reads the first line of the certificate of two graphs.
     ///
-    /// `Text` comes where another line stands there, or none with its line feed. `TooLong` comes where the line is too long
-    /// or holds the first byte past the limit of the file.
+    /// `Text` comes where another line stands there, or none with its line feed. `TooLong` comes where the line is
+    /// too long or holds the first byte past the limit of the file.
     pub fn start_same<D: Desk>(
         alloc: Global,
         desk: &mut D,
@@ -144,7 +145,7 @@ impl ClauseFile {
     }
 }
 
-// The lines of a header behind the first one, by the version.
+// The lines of a header after the first one, by the version.
 fn any_blocks<D: Desk>(
     alloc: Global,
     file: &mut CertificateFile,

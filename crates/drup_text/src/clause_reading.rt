@@ -31,7 +31,7 @@ pub(crate) fn clause(
     }
 }
 
-// Literals, each with a space behind it, up to the 0 of a clause.
+// Literals, each with a space after it, up to the 0 of a clause.
 fn literals(
     alloc: Global,
     scanner: &mut Scanner<'_>,

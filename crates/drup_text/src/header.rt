@@ -16,7 +16,7 @@ use mv_text::{CertificateFile, LineFail};
 use ripple_graft::{Cut, Extended, Pairs};
 use std::alloc::Global;
 
-// The lines behind the first one in version 1: the cut's, and one for each pair.
+// The lines after the first one in version 1: the cut's, and one for each pair.
 pub(crate) fn cut<D: Desk>(
     alloc: Global,
     file: &mut CertificateFile,

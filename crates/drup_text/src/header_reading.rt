@@ -44,8 +44,8 @@ pub(crate) fn read_count(bytes: &[u8], outputs: u32) -> Result<u32, LineFail>
     scanner.all(count)
 }
 
-// The first column of a block, the number of its pairs, and whether its last carry replaces a column too. `Range` comes exactly
-// where there is no pair, or one of its columns isn't there or is replaced by a block before.
+// The first column of a block, the number of its pairs, and whether its last carry replaces a column too. `Range`
+// comes exactly where there is no pair, or one of its columns isn't there or is replaced by a block before.
 pub(crate) fn read_head(bytes: &[u8], extended: &Extended<'_>) -> Result<(u32, u32, bool), LineFail>
     ensures ok { IfOk result (IsBlockTextOf extended.now bytes.now) }
     ensures err { IfErr result (SaysNothing IsBlockLine (IsHeadOf extended.now) bytes.now) }

@@ -17,8 +17,8 @@ use mv_desk::{Desk, Slot, WriteFault};
 use mv_text::Output;
 use ripple_graft::{Block, Cut};
 
-/// Appends a certificate to the slot `Clauses`: a header, and lines. In version 1 there is one block at most, and only its
-/// cut is written. After an error a front part was written.
+/// Appends a certificate to the slot `Clauses`: a header, and lines. In version 1 there is one block at most, and
+/// only its cut is written. After an error a front part was written.
 pub fn write_clauses<D: Desk>(
     desk: &mut D,
     header: &Header,
@@ -118,7 +118,7 @@ fn put_head<D: Desk>(output: &mut Output, desk: &mut D, block: &Block)
     output.put(desk, b"\n");
 }
 
-// What stands behind the numbers of a block whose last carry replaces a column too.
+// What stands after the numbers of a block whose last carry replaces a column too.
 fn carry(carry: bool) -> &'static [u8]
     ensures text { result.now ≡ carry_text carry }
     ensures few { length result.now ≤ 6 }
@@ -203,7 +203,7 @@ fn put_clause<D: Desk>(output: &mut Output, desk: &mut D, clause: &Clause)
     output.put(desk, b"0\n");
 }
 
-// Literals, each with a space behind it.
+// Literals, each with a space after it.
 fn put_literals<D: Desk>(output: &mut Output, desk: &mut D, literals: &[i32])
     requires { (D.seen desk.old).writes output.old.slot ≡ true }
     ensures open { (D.seen desk.new).writes output.new.slot ≡ true }

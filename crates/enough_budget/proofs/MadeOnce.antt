@@ -16,7 +16,7 @@ at_cases : (l m : Lit) (k : ℕ) → ((m.0 ≡ l.0) × (at_literal l k m ≡ 1))
 at_cases l m k = ⊎_elim (λ e. inl (e, ap (λ b. cond b 1 0) (eq-eqb m.0 l.0 e))) (λ n. inr (n, ap (λ b. cond b 1 0) (ne_eqb m.0 l.0 n))) (cases_eq m.0 l.0)
 
 module _ (l : Lit) where
-  -- a sum at most 1, and 0 where the literal is before or behind
+  -- a sum at most 1, and 0 where the literal is before or after
   record IsOnce (sum low high : ℕ) : Type 0 where
     few : sum ≤ 1
     before : l.0 < low → sum ≡ 0

@@ -83,7 +83,7 @@ lowest_of_product g o sign shape once some =
       },
     )
 
--- with an addend: its literals stand behind those of the operands
+-- with an addend: its literals stand after those of the operands
 lowest_of_sum : (g : Aig) (o : Order) (sign : Sign) → HasSumShape g → IsDefinedOnce g → 0 < sum_width g →
     (a : Lit) × (b : Lit) × HaveLowestBits (sides_for (adding o sign) g) a b
 lowest_of_sum g o sign shape once some =

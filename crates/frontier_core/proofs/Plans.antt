@@ -101,7 +101,7 @@ module _ (e : Extended) (vs : List ℕ) (made : IsExtension e) (plain : IsPlainO
   pairs : Pairs (ComesBefore e.gates) vs
   pairs = pairs_recursion (ComesBefore e.gates) vs plain.1
 
-  -- the gate behind some isn't among them
+  -- the gate after some isn't among them
   not_done : (done : List ℕ) (v : ℕ) (rest : List ℕ) → vs ≡ done ++ v ∷ rest → has done v ≡ false
   not_done done v rest is =
       let crossed = (pairs_split (ComesBefore e.gates) done (v ∷ rest) (subst (Pairs (ComesBefore e.gates)) is pairs)).1 in

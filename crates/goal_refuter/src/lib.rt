@@ -4,8 +4,8 @@
 //! lines are a lawful clause certificate that shows each goal; an evaluation of the gates at which some goal fails; or
 //! a spent budget with the log that spent it. `refute` is one goal. `refute_behind` does the same after a log of
 //! lemmas, such as those by which `show_equal` shows two literals to be equal: these count among the conflicts
-//! (`begun`), and it is true only where each literal implies the other by unit propagation (`shown`). `differ_at` gives an
-//! evaluation at which a goal fails, where values that are thought to show that are told.
+//! (`begun`), and it is true only where each literal implies the other by unit propagation (`shown`). `differ_at`
+//! gives an evaluation at which a goal fails, where values that are thought to show that are told.
 //!
 //! *Log of refutations*, *spent*: `specs/Refutations.antt`. *Outcome*: `specs/Refuting.antt`. *Begun*:
 //! `specs/Beginnings.antt`. *Lemma*, *lawful lines*: `Log` and `ClauseLines` in `specs/` of `clause_core`.

@@ -3,8 +3,8 @@ use crate::order::Order;
 use crate::profile::Profile;
 use crate::sign::Sign;
 
-/// What is claimed of a graph with m outputs: that they are, modulo 2^m, the product of two operands, or that product plus an
-/// addend.
+/// What is claimed of a graph with m outputs: that they are, modulo 2^m, the product of two operands, or that product
+/// plus an addend.
 #[derive(Clone, Copy, Debug, PartialEq, Eq)]
 pub struct Claim {
     /// Which input is which bit of the two operands.

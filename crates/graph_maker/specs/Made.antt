@@ -23,12 +23,12 @@ abbrev pub outputs_of : Kind → Adder → Builder → List (List Lit) → Outpu
 outputs_of Array adder b rows = array adder b rows
 outputs_of Dadda adder b rows = dadda adder b rows
 
--- The product of a, in the variables 1 to n, and b, in the next n, whose gates stand behind so many inputs.
+-- The product of a, in the variables 1 to n, and b, in the next n, whose gates stand after so many inputs.
 abbrev pub product_behind : ℕ → Kind → ℕ → Adder → Outputs
 product_behind inputs kind n adder =
     let p = products (no_gates inputs) (literals_from 1 n) (literals_from (n + 1) n) in outputs_of kind adder p.builder p.rows
 
--- the graph of so many inputs, and of what was made behind them
+-- the graph of so many inputs, and of what was made after them
 abbrev pub whole_graph : ℕ → Outputs → Aig
 whole_graph inputs r = record { max = r.builder.last; inputs = literals_from 1 inputs; outputs = r.outputs; gates = r.builder.gates }
 

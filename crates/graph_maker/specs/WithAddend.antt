@@ -12,7 +12,7 @@ use Rattle.graph_maker.specs.Builder.{literals_from}
 use Rattle.graph_maker.specs.Ripple.{Outputs, add_words}
 use Rattle.graph_maker.specs.Made.{IsPackedAs, product_behind, whole_graph}
 
--- outputs of a product added to the addend, which is in the 2n variables behind those of a and b
+-- outputs of a product added to the addend, which is in the 2n variables after those of a and b
 abbrev pub with_addend : ℕ → Outputs → Outputs
 with_addend n r = add_words r.builder r.outputs (literals_from (2 * n + 1) (2 * n)) constant_false
 

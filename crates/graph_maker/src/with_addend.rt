@@ -9,7 +9,7 @@ impl Building {
     ghost use Rattle.graph_maker.specs.Builder.{HasRoom};
     ghost use Rattle.graph_maker.specs.WithAddend.{with_addend};
 
-    // The sums of a product's outputs and the addend, which is in the variables behind those of the operands.
+    // The sums of a product's outputs and the addend, which is in the variables after those of the operands.
     pub fn add_addend(
         &mut self,
         alloc: Global,

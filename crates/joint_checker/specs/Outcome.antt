@@ -134,7 +134,7 @@ pub record OneAnswerIsDue : Type 0 where
   pub one : (limits : Limits) (claim : Claim) (texts : Texts) → AreTold texts → (due other : Checked) →
       IsDue limits claim texts due → IsDue limits claim texts other → due ≡ other
 
--- So what has its cause is the answer that is due, or a failed read or want of memory.
+-- So what has its cause is the answer that is due, or a failed read or out of memory.
 abbrev pub OutcomesAreExact : Type 0
 OutcomesAreExact = (limits : Limits) (claim : Claim) (files : Files) (before after : View) (given : Checked) →
     IsOutcome limits claim files before after given → IsExactAnswer limits claim files before after given

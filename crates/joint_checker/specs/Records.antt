@@ -56,7 +56,7 @@ abbrev pub ClosesRecord : AlgebraChecking → AlgebraChecking → Turn → Type 
 ClosesRecord old new turn.Taken = ⊤
 ClosesRecord old new (turn.Closed id) = (new.recorded ≡ old.recorded) × ClosesAt old new id
 
--- Behind a header these lines stand, and then what is left; what is recorded of them is alike. They are so many.
+-- After a header these lines stand, and then what is left; what is recorded of them is alike. They are so many.
 pub record IsRecordedTo (records : Bool) (version m : ℕ) (recorded : List Line) (count : ℕ) (left : Option (List ℕ)) (body : List ℕ) : Type 0 where
   pub lines : List Line
   pub rest : List ℕ
@@ -65,7 +65,7 @@ pub record IsRecordedTo (records : Bool) (version m : ℕ) (recorded : List Line
   pub alike : AreAllAlike m (all_recorded records lines) recorded
   pub counted : count ≡ length lines
 
--- Behind a header stand lines, of which there are so many, a closing line, and nothing more.
+-- After a header stand lines, of which there are so many, a closing line, and nothing more.
 pub record IsRecordedBody (records : Bool) (version m : ℕ) (recorded : List Line) (closing count : ℕ) (body : List ℕ) : Type 0 where
   pub lines : List Line
   pub last : List ℕ

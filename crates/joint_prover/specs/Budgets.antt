@@ -34,7 +34,7 @@ pub record IsEnough (limit : ℕ) (task : Task) (file : List ℕ) : Type 0 where
   pub high : 8 * bits * bits + 64 ≤ task.budget
 
 -- Where the file is told and the budget is enough for it, the verdict is `Proved`, however long the certificates are; or in its place a
--- fault, which was counted, or want of memory.
+-- fault, which was counted, or out of memory.
 abbrev pub ProvesEnough : ℕ → Task → Files → View → View → Verdict → Type 0
 ProvesEnough limit task files before after given =
     IfSome (bytes_under before files.graph) (λ file. IsEnough limit task file → GivesDue Stopped before after (Proved None) (judgement given))

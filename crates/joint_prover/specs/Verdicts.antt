@@ -177,7 +177,7 @@ IsVerdictDue limit task file (WrongSum a b c value sum) =
 IsVerdictDue limit task file (Stopped why) = IsGraphStop slot.Graph (profile_of task.claim.add) limit (Some file) why
 IsVerdictDue limit task file _ = ⊥
 
--- It is given, however long the certificates are; or in its place a fault, which was counted, or want of memory.
+-- It is given, however long the certificates are; or in its place a fault, which was counted, or out of memory.
 abbrev pub VerdictsAreExact : Type 0
 VerdictsAreExact = (limits : Limits) (task : Task) (files : Files) (before after : View) (file : List ℕ)
     (due given : Verdict) (noted : Option Note) →

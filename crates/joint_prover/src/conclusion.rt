@@ -1,4 +1,5 @@
-// What is concluded from a plan that ended: the certificates of its lines, or the numbers that show the graph to be wrong.
+// What is concluded from a plan that ended: the certificates of its lines, or the numbers that show the graph to be
+// wrong.
 ghost use Rattle.std.specs.Prelude.{◌≡◌, false, true, IfOk, length};
 ghost use Rattle.std.specs.List.{All};
 ghost use Rattle.clause_core.specs.Clause.{IsClause};

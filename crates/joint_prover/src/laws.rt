@@ -16,7 +16,7 @@ pub fn verdicts_are_exact()
 {}
 
 /// A made multiplier of n bits with a ripple-carry adder is proved with a budget of 8 n^2 + 64 monomials or more; or in
-/// place of that a fault may come, which was counted, or want of memory.
+/// place of that a fault may come, which was counted, or out of memory.
 pub fn enough_is_proved()
     ensures { EnoughIsProved }
 {}

@@ -14,16 +14,16 @@
 //!
 //! Where the remainder is 0 the decision is `Proved`, with a pair of certificates in memory, over the graph with an
 //! adder where a plan over that ended; else it is `Wrong` with the least operands on which the graph differs, or with
-//! an addend `WrongSum`. Where all plans pass the budget it is `Undecided`, with numbers on which the graph was *seen* to
-//! differ, if some are known: those with few ones are tried once more then. `verify` opens and reads the graph file
-//! alone, decides, and tells: with `Proved` the clause certificate and then the algebra certificate are written. No
-//! certificate file is created before the decision, and writing them takes no memory.
+//! an addend `WrongSum`. Where all plans pass the budget it is `Undecided`, with numbers on which the graph was
+//! *seen* to differ, if some are known: those with few ones are tried once more then. `verify` opens and reads the
+//! graph file alone, decides, and tells: with `Proved` the clause certificate and then the algebra certificate are
+//! written. No certificate file is created before the decision, and writing them takes no memory.
 //!
 //! Each decision, each verdict and each note has its cause, what is written is spare, and the plan that ended kept to
-//! the budget, or lines were drafted (`decision`, `verdict`). One file is opened, whatever is answered (`opened`). A made graph with a
-//! ripple-carry adder is proved with a budget of 8 n^2 + 64 (`enough`). Laws: whichever verdict is due comes
-//! (`verdicts_are_exact`), the pair is held under its names (`proved_pairs_are_held`), and enough budget proves
-//! (`enough_is_proved`).
+//! the budget, or lines were drafted (`decision`, `verdict`). One file is opened, whatever is answered (`opened`). A
+//! made graph with a ripple-carry adder is proved with a budget of 8 n^2 + 64 (`enough`). Laws: whichever verdict is
+//! due comes (`verdicts_are_exact`), the pair is held under its names (`proved_pairs_are_held`), and enough budget
+//! proves (`enough_is_proved`).
 //!
 //! *Seen*: values on which the graph was evaluated and isn't what is claimed (`specs/Verdicts.antt`).
 //! *Pair*: certificates that are lawful for a graph. *Spare*: no line or literal is there twice, and no term has value

@@ -28,8 +28,8 @@ pub enum Note {
     Found(Cut),
 }
 
-/// The note: a cut that was found, where a plan over the graph with its adder gave the verdict, or else what came of the
-/// rewriting. Neither the graph with the adder is kept nor the lines that show its goals.
+/// The note: a cut that was found, where a plan over the graph with its adder gave the verdict, or else what came of
+/// the rewriting. Neither the graph with the adder is kept nor the lines that show its goals.
 pub(crate) fn make_note(add: bool, rewritten: Rewriting<'_>, found: Option<Cut>) -> Note
     ensures { result ≡ note_of add rewritten.entry found }
 {

@@ -81,8 +81,8 @@ pub(crate) fn decide_by_plans(
     Ok((decision, None))
 }
 
-// What plans decide over the graph with an adder that is found by values, and over the graph of the first plan lines that
-// are drafted.
+// What plans decide over the graph with an adder that is found by values, and over the graph of the first plan lines
+// that are drafted.
 fn decide_by_values(alloc: Global, job: &Job<'_>) -> Result<Option<(Decision, Option<Cut>)>, Memory>
     requires { IsJob job.now }
     ensures found { IfOk result (λ r. IfSome r (λ d. IfSome d.1 (IsFoundCut job.now.graph.now))) }

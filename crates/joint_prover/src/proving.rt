@@ -44,7 +44,7 @@ pub fn verify<D: Desk>(
     requires { IsVersion task.now.version }
     ensures verdict { IsVerdict limits.now task.now (files_of names.now)
         (D.seen desk.old) (D.seen desk.new) result.0 result.1 }
-    // With enough budget a made multiplier with a ripple-carry adder is proved, but for a fault or want of memory.
+    // With enough budget a made multiplier with a ripple-carry adder is proved, but for a fault or out of memory.
     ensures enough { ProvesEnough limits.now.graph task.now (files_of names.now)
         (D.seen desk.old) (D.seen desk.new) result.0 }
     ensures report { ReportStays (D.seen desk.old) (D.seen desk.new) }

@@ -79,8 +79,8 @@ pub(crate) struct Found<'a> {
     pub(crate) log: Log,
 }
 
-/// A cut that is found and shown, within so many conflicts. Numbers at which one differs are held against the next, which
-/// may have half as many conflicts.
+/// A cut that is found and shown, within so many conflicts. Numbers at which one differs are held against the next,
+/// which may have half as many conflicts.
 pub(crate) fn find_cut<'a>(
     alloc: Global,
     graph: &'a Graph,

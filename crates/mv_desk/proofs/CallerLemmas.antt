@@ -234,7 +234,7 @@ starts_behind front xs prefix h =
 pub WritesPart-longer : (slot : Slot) (bytes more : List ℕ) (a b : View) → WritesPart slot bytes a b → WritesPart slot (bytes ++ more) a b
 WritesPart-longer slot bytes more a b h = record { part = h.part; starts = starts_longer bytes more h.part h.starts; writes = h.writes }
 
--- bytes, and a front part of those behind them
+-- bytes, and a front part of those after them
 pub WritesPart-behind : (slot : Slot) (bytes more : List ℕ) (a b c : View) → WritesTo slot bytes a b → WritesPart slot more b c →
     WritesPart slot (bytes ++ more) a c
 WritesPart-behind slot bytes more a b c p q = record {
@@ -247,7 +247,7 @@ WritesPart-behind slot bytes more a b c p q = record {
 pub split_at : (bytes : List ℕ) (count most : ℕ) → length bytes - count ≤ most → bytes ≡ take count bytes ++ take most (drop count bytes)
 split_at bytes count most enough = rw (take_all most (drop count bytes) (rw (length-drop count bytes) enough)) (sym (take-append-drop count bytes))
 
--- a read behind others
+-- a read after others
 pub reads_on : {T E : Type 0} (slot : Slot) (a b c : View) → ReadsOnly slot a b → KeepsTelling a b → ReadsOnly slot b c → KeepsTelling b c → (result : Result T E)
     → OnOk result (c.read_faults ≡ a.read_faults) → Reads slot a c result
 reads_on slot a b c first told second tells result stands = record {

@@ -27,7 +27,7 @@ position_or_len-map p f (x ∷ xs) = ap (λ n. cond (not (p (f x))) (1 + n) 0) (
 pub position-map : {X Y : Type 0} (p : Y → Bool) (f : X → Y) (xs : List X) → position p (map f xs) ≡ position (λ x. p (f x)) xs
 position-map p f xs = rw (length-map, position_or_len-map p f xs) refl
 
--- where no element passes, the first place is behind the last
+-- where no element passes, the first place is after the last
 not_found : {X : Type 0} (p : X → Bool) (xs : List X) → position p xs ≡ None → length xs ≤ position_or_len p xs
 not_found p xs none = outside (nat_lt (position_or_len p xs) (length xs)) refl none
   where

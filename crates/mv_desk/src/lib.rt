@@ -1,7 +1,7 @@
 //! The outside of the program: files by slots, a report, and counts of opened files and of faults.
 //!
 //! A call on a desk fails only where the count of faults of its kind rose, and then nothing else changed. What is read
-//! is what was left, what is written comes behind what was written before, and nothing else changes, as far as the desk
+//! is what was left, what is written comes after what was written before, and nothing else changes, as far as the desk
 //! tells its contents at all. `MemoryDesk` is a promised type of the library that no command needs: its calls fail and
 //! are cut as a test asks for.
 //!

@@ -7,7 +7,7 @@ pub enum InsertFail {
     /// The id is live.
     #[error("the id is in use")]
     IdUsed,
-    /// Want of memory.
+    /// Out of memory.
     #[error("want of memory")]
     Memory,
 }

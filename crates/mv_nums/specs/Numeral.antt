@@ -5,7 +5,7 @@ use Rattle.std.specs.List.{All, fold}
 abbrev pub IsDigit : ℕ → Type 0
 IsDigit byte = (48 ≤ byte) × (byte < 58)
 
--- the number that a digit behind those of a number makes of it
+-- the number that a digit after those of a number makes of it
 abbrev pub append_digit : ℕ → ℕ → ℕ
 append_digit number byte = 10 * number + (byte - 48)
 

@@ -81,7 +81,7 @@ fn number_of(digits: &[u8]) -> Option<u128>
     Some(number)
 }
 
-// The number with one more digit behind it, if it is below 2^128.
+// The number with one more digit after it, if it is below 2^128.
 fn with_digit(number: u128, byte: u8) -> Option<u128>
     requires { IsDigit byte }
     ensures { let longer = append_digit number byte in SomeIff result (longer < 2 ^ 128) longer }

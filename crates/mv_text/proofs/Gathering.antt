@@ -15,7 +15,7 @@ use Rattle.mv_text.specs.Steps.{begins, Gives, Takes, Pushes, IsMisfit}
 use Rattle.mv_text.specs.declared.line_fail.LineFail.{LineFail}
 use Rattle.mv_text.specs.declared.line_fail.LineFail.TheVariants as fail
 
--- items before those that are read behind them
+-- items before those that are read after them
 abbrev pub put_all : {A : Type 0} → List A → Option (List A × List ℕ) → Option (List A × List ℕ)
 put_all xs None = None
 put_all xs (Some ys) = Some (xs ++ ys.0, ys.1)

@@ -92,7 +92,7 @@ long_of lengths total lines left e f h = subst (λ k. IsTooLong k total left) e 
 pub short_of : (lengths : Lengths) (total : ℕ) (lines : Lines) (left : List ℕ) → lines.lengths ≡ lengths → lines.taken + length left ≡ total → ¬ (IsLongAhead lines left) → ¬ (IsTooLong lengths total left)
 short_of lengths total lines left e f h = λ long. h (subst (λ n. IsTooLong lines.lengths n left) (sym f) (subst (λ k. IsTooLong k total left) (sym e) long))
 
--- a line that was taken isn't too long, and the bytes behind it are left
+-- a line that was taken isn't too long, and the bytes after it are left
 pub line_is_taken : (old new : Lines) (before after : Option (List ℕ)) (line left : List ℕ) → TakesLine old new before after line → before ≡ Some left →
     (rest : List ℕ) × (after ≡ Some rest) × (left ≡ line ++ newline ∷ rest) × ¬ (IsLongAhead old left) × (new.taken + length rest ≡ old.taken + length left)
 line_is_taken old new before after line left t e = go after (subst (λ z. Consumes z after (line ++ newline ∷ [])) e t.bytes)

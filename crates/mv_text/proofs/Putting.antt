@@ -1,4 +1,4 @@
--- Texts put one behind the other.
+-- Texts put one after the other.
 use Rattle.std.specs.Prelude.{◌≡◌, ℕ, List, [], ◌++◌, Result, Ok, Err, OnOk}
 use Rattle.std.proofs.Common.{refl, sym, ap, subst, ◌∙◌, append_assoc, append-nil}
 use Rattle.mv_desk.specs.View.{View, KeepsTelling}
@@ -37,7 +37,7 @@ wrote_flushes old r u v e wrote = record { flushes = λ done start h. go done st
 pub Puts-nil : (a : Pending) (v : View) → Puts [] a a v v
 Puts-nil a v = record { slot = refl; puts = λ done start h. rw (append-nil done) h }
 
--- one text behind the other
+-- one text after the other
 pub Puts-then : {p q : List ℕ} {a b c : Pending} {u v w : View} → Puts p a b u v → Puts q b c v w → Puts (p ++ q) a c u w
 Puts-then {p} {q} {a} {b} {c} {u} {v} {w} one two = record {
   slot = two.slot ∙ one.slot;
@@ -65,7 +65,7 @@ written_from slot text new old r u v w empty p f = rw (p.slot ∙ ap (λ o. o.sl
 
 -- ---- loops
 
--- behind what is put already
+-- after what is put already
 longer : (whole text rest piece later : List ℕ) → whole ≡ text ++ rest → rest ≡ piece ++ later → whole ≡ (text ++ piece) ++ later
 longer whole text rest piece later e f = e ∙ ap (λ ys. text ++ ys) f ∙ sym (append_assoc text piece later)
 

@@ -33,7 +33,7 @@ left_of_file slot file view = known_from file.lines.ahead (view.left slot)
 
 -- ---- the text of one line
 
--- Why a text says nothing: none has it, or one out of range does; or want of memory.
+-- Why a text says nothing: none has it, or one out of range does; or out of memory.
 abbrev pub SaysNothing : {X : Type 0} → (List ℕ → X → Type 0) → (X → Type 0) → List ℕ → LineFail → Type 0
 SaysNothing {X} IsText InRange bytes fail.Text = (x : X) → IsText bytes x → ⊥
 SaysNothing {X} IsText InRange bytes fail.Range = (x : X) × IsText bytes x × ¬ (InRange x)
@@ -43,7 +43,7 @@ SaysNothing IsText InRange bytes fail.Memory = Unit {0}
 
 -- ---- one line of what is left
 
--- What is left begins with a line of the text, which isn't too long, and these bytes are behind it.
+-- What is left begins with a line of the text, which isn't too long, and these bytes are after it.
 pub record TakesText {X : Type 0} (IsText : List ℕ → X → Type 0) (old new : Lines) (left : List ℕ) (after : Option (List ℕ)) (x : X) : Type 0 where
   pub rest : List ℕ
   pub begins : BeginsWith IsText left x rest
@@ -60,7 +60,7 @@ abbrev pub BeginsOutOfRange : {X : Type 0} → (List ℕ → X → Type 0) → (
 BeginsOutOfRange {X} IsText InRange left = (x : X) × (rest : List ℕ) × BeginsWith IsText left x rest × ¬ (InRange x)
 
 -- Why a line that has to be there isn't given, by what is left: it is too long, no line of the text stands there, one out of range
--- does, a read failed, or want of memory.
+-- does, a read failed, or out of memory.
 abbrev pub IsLineRefusal : {X : Type 0} → (List ℕ → X → Type 0) → (X → Type 0) → Lines → Option (List ℕ) → ℕ → ℕ → LineFail → Type 0
 IsLineRefusal IsText InRange lines left before now fail.Text = IfSome left (λ bytes. ¬ (IsLongAhead lines bytes) × BeginsWithNone IsText bytes)
 IsLineRefusal IsText InRange lines left before now fail.Range = IfSome left (λ bytes. ¬ (IsLongAhead lines bytes) × BeginsOutOfRange IsText InRange bytes)
@@ -76,7 +76,7 @@ IsNextRefusal IsText InRange lines left before now fail.Fault = Rose before now
 IsNextRefusal IsText InRange lines left before now fail.TooLong = IfSome left (IsLongAhead lines)
 IsNextRefusal IsText InRange lines left before now fail.Memory = Unit {0}
 
--- Why a line that has to be there isn't had: the file ends before its line feed, it is too long, a read failed, or want of memory.
+-- Why a line that has to be there isn't had: the file ends before its line feed, it is too long, a read failed, or out of memory.
 abbrev pub IsNeededFault : Lines → Option (List ℕ) → ℕ → ℕ → LineFail → Type 0
 IsNeededFault lines left before now fail.Text = IfSome left (EndsIn lines)
 IsNeededFault lines left before now fail.Range = ⊥
@@ -91,7 +91,7 @@ pub record IsAtEnd (lines : Lines) (left : List ℕ) : Type 0 where
   pub none : left ≡ []
   pub short : ¬ (IsLongAhead lines left)
 
--- Why this isn't the end of the file: a line is left that is too long, or any other byte, a read failed, or want of memory.
+-- Why this isn't the end of the file: a line is left that is too long, or any other byte, a read failed, or out of memory.
 abbrev pub IsEndRefusal : Lines → Option (List ℕ) → ℕ → ℕ → LineFail → Type 0
 IsEndRefusal lines left before now fail.Text = IfSome left (λ bytes. ¬ (IsLongAhead lines bytes) × (bytes ≢ []))
 IsEndRefusal lines left before now fail.Range = ⊥
@@ -101,7 +101,7 @@ IsEndRefusal lines left before now fail.Memory = Unit {0}
 
 -- ---- a first line that is fixed, here with its line feed
 
--- A file begins with it, it isn't too long, and these bytes are left behind it.
+-- A file begins with it, it isn't too long, and these bytes are left after it.
 pub record HasFirstLine (first : List ℕ) (new : Lines) (bytes : List ℕ) (after : Option (List ℕ)) : Type 0 where
   pub body : List ℕ
   pub begins : bytes ≡ first ++ body
@@ -157,7 +157,7 @@ pub record IsStarted (version number : ℕ) (limits : Limits) (file : FileState)
   pub piece : FitsPiece file.lines
   pub goes_on : GoesOn file
 
--- Behind its first failure a file answers the same again, and behind its end that it ends; so it stays as it is.
+-- After its first failure a file answers the same again, and after its end that it ends; so it stays as it is.
 pub record AnswersAgain {X : Type 0} (end : Result X LineFail) (old new : FileState) (result : Result X LineFail) : Type 0 where
   pub failed : IfSome old.failed (λ fail. (result ≡ Err fail) × (new ≡ old))
   pub ended : old.failed ≡ None → old.ended ≡ true → (result ≡ end) × OnOk end (new ≡ old)

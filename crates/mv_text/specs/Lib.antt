@@ -1,6 +1,6 @@
 -- To be trusted by a reader: all five, `LineReading` (lines of a file read by pieces), `CertificateFiles` (what the next line of a
 -- file says in a grammar), `Judging` (what it leads to), `Steps` (what is taken from the front of a text) and `Puts` (texts put one
--- behind the other).
+-- after the other).
 pub mod LineReading
 pub mod CertificateFiles
 pub mod Judging

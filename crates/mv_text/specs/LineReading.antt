@@ -11,7 +11,7 @@ use Rattle.graph_core.specs.Text.{newline}
 use Rattle.graph_core.specs.Text.JudgedLines.{Lengths, IsTooLong}
 use Rattle.mv_text.specs.declared.room.TheConstants.{ROOM}
 
--- the bytes ahead, and then what is left behind them, where that is told
+-- the bytes ahead, and then what is left after them, where that is told
 abbrev pub known_from : List ℕ → Option (List ℕ) → Option (List ℕ)
 known_from ahead left = prepend_known ahead left
 
@@ -43,7 +43,7 @@ pub record TakesLine (old new : Lines) (before after : Option (List ℕ)) (line 
   pub lengths : new.lengths ≡ old.lengths
   pub bytes : Consumes before after (line ++ newline ∷ [])
 
--- The file ends behind these bytes, which have no line feed and aren't too long.
+-- The file ends after these bytes, which have no line feed and aren't too long.
 pub record EndsIn (lines : Lines) (bytes : List ℕ) : Type 0 where
   pub no_end : All (λ b. b ≢ newline) bytes
   pub short : length bytes ≤ lines.lengths.line
@@ -57,7 +57,7 @@ IsByteFault lines left before now fail.Fault = Rose before now
 IsByteFault lines left before now fail.TooLong = (lines.taken ≡ lines.lengths.file) × IfSome left (λ bytes. bytes ≢ [])
 IsByteFault lines left before now fail.Memory = ⊥
 
--- Why there is no line: the file ends within it, it is too long, a read failed, or want of memory.
+-- Why there is no line: the file ends within it, it is too long, a read failed, or out of memory.
 abbrev pub IsLineFault : Lines → Option (List ℕ) → ℕ → ℕ → LineFail → Type 0
 IsLineFault lines left before now fail.Text = IfSome left (λ bytes. (bytes ≢ []) × EndsIn lines bytes)
 IsLineFault lines left before now fail.Range = ⊥
@@ -65,7 +65,7 @@ IsLineFault lines left before now fail.Fault = Rose before now
 IsLineFault lines left before now fail.TooLong = IfSome left (IsLongAhead lines)
 IsLineFault lines left before now fail.Memory = Unit {0}
 
--- Bytes of the piece in hand that are no line feeds were put behind those of a line, which may have as many.
+-- Bytes of the piece in hand that are no line feeds were put after those of a line, which may have as many.
 pub record TakesPlain (old new : Lines) (line longer : List ℕ) : Type 0 where
   pub part : List ℕ
   pub no_end : All (λ b. b ≢ newline) part

@@ -24,11 +24,11 @@ pub record HasPut (text : List ℕ) (output : Pending) (start now : View) : Type
   pub cause : HasWriteCause start now output.result
   pub tells : KeepsTelling start now
 
--- A text was put behind each one that was put before, for the same slot.
+-- A text was put after each one that was put before, for the same slot.
 pub record Puts (text : List ℕ) (old new : Pending) (before now : View) : Type 0 where
   pub slot : new.slot ≡ old.slot
   pub puts : (done : List ℕ) (start : View) → HasPut done old start before → HasPut (done ++ text) new start now
 
--- What waits was written behind what was put before.
+-- What waits was written after what was put before.
 pub record Flushes (old : Pending) (result : Result (Unit {0}) WriteFault) (before now : View) : Type 0 where
   pub flushes : (done : List ℕ) (start : View) → HasPut done old start before → Writes old.slot done start now result

@@ -15,8 +15,9 @@ use std::marker::Model;
 
 /// A certificate whose lines are counted. After its end or a failure it gives the same answer again.
 ///
-/// Contracts see its version, the bytes of the piece in hand, how many bytes were taken before them, the lengths that are
-/// allowed, how many lines were read or refused, whether the end was met, and the answer from the first failure on.
+/// Contracts see its version, the bytes of the piece in hand, how many bytes were taken before them, the lengths that
+/// are allowed, how many lines were read or refused, whether the end was met, and the answer from the first failure
+/// on.
 #[derive(Drop)]
 pub struct CertificateFile {
     version: u8,
@@ -72,8 +73,8 @@ impl CertificateFile {
         }
     }
 
-    /// Reads the first line as `start` does, where a certificate of version 1 begins with one text, and one of version 2
-    /// with the other.
+    /// Reads the first line as `start` does, where a certificate of version 1 begins with one text, and one of
+    /// version 2 with the other.
     pub fn start_either<D: Desk>(
         alloc: Global,
         desk: &mut D,
@@ -191,8 +192,8 @@ impl CertificateFile {
         }
     }
 
-    /// Whether the file ends here: `TooLong` comes where a line is left that is too long, and `Text` where any other byte
-    /// is left.
+    /// Whether the file ends here: `TooLong` comes where a line is left that is too long, and `Text` where any other
+    /// byte is left.
     pub fn end<D: Desk>(&mut self, alloc: Global, desk: &mut D, slot: Slot) -> Result<(), LineFail>
         requires { (D.seen desk.old).reads slot ≡ true }
         ensures end { GoesOn self.old → GivesEnd slot self.old self.new

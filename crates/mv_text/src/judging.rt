@@ -10,8 +10,8 @@ use mv_desk::Desk;
 // A line has at least one byte and its line feed, so that so many have more bytes than a file may have.
 const TOO_MANY: u64 = 1 << 63;
 
-/// What judges the lines of a file one after the other, as they are read from a desk. What holds since a start is said of
-/// itself and of what the desk told then, and of both now.
+/// What judges the lines of a file one after the other, as they are read from a desk. What holds since a start is
+/// said of itself and of what the desk told then, and of both now.
 pub trait JudgeLines<D: Desk> {
     /// What is known where the lines end.
     type End;

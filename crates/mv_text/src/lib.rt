@@ -13,7 +13,7 @@
 //! *Ahead*: read into the piece in hand, and not yet taken; what is *left* of a file is what is ahead and then what the
 //! desk has left (`specs/LineReading.antt`). What a line says in a grammar, and why there is none:
 //! `specs/CertificateFiles.antt`. *Leads to*: `specs/Judging.antt`. *Takes*: a reader gave a value, and left these
-//! bytes (`specs/Steps.antt`). *Puts*: a text waits behind what was put before, or is written (`specs/Puts.antt`).
+//! bytes (`specs/Steps.antt`). *Puts*: a text waits after what was put before, or is written (`specs/Puts.antt`).
 #![tactic(auto)]
 
 mod byte_reader;

@@ -53,7 +53,7 @@ impl LineReader {
 
     /// The next line without its line feed, or none at the end of the file.
     ///
-    /// `Text` comes where the file ends behind some bytes of a line, and `TooLong` where the line is
+    /// `Text` comes where the file ends after some bytes of a line, and `TooLong` where the line is
     /// longer than a line may be, or holds the first byte past the limit of the file.
     pub fn next_line<D: Desk>(
         &mut self,

@@ -2,7 +2,7 @@
 ghost use Rattle.std.specs.Prelude.{IfErr, OnOk};
 ghost use Rattle.mv_text.specs.Steps.{IsMisfit, Pushes};
 
-/// Puts an item behind those of a list, where both are there; else there is no list any more.
+/// Puts an item after those of a list, where both are there; else there is no list any more.
 use crate::line_fail::LineFail;
 
 pub fn push<T: Drop>(list: &mut Option<Vec<T>>, item: Option<T>) -> Result<(), LineFail>

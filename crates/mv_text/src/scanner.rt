@@ -81,8 +81,8 @@ impl<'a> Scanner<'a> {
         }
     }
 
-    /// What was found in a text, where all of it was taken: `Text` comes where a byte is left, and else `Range` where nothing
-    /// was found.
+    /// What was found in a text, where all of it was taken: `Text` comes where a byte is left, and else `Range` where
+    /// nothing was found.
     pub fn all<T: Drop>(self, found: Option<T>) -> Result<T, LineFail>
         ensures all { self.entry ≡ [] → result ≡ ok_or found LineFail.Range }
         ensures left { self.entry ≢ [] → result ≡ Err LineFail.Text }

@@ -45,7 +45,7 @@ none_before_first [] (suc q) p c h = h
 none_before_first (true ∷ zs) (suc q) p c h = none_before_first zs q p (omega arith) h
 none_before_first (false ∷ zs) (suc q) p c h = h
 
--- the last one that can go on goes one place on, and those behind it follow
+-- the last one that can go on goes one place on, and those after it follow
 abbrev pub moved_from : List Bool → ℕ → ℕ → List Bool
 moved_from front p q = front ++ true ∷ last (suc p) q
 

@@ -13,7 +13,7 @@ pub(crate) fn advance(bits: &mut [bool], most_ones: usize) -> bool
     let zeros = run_at_end(&bits[..rest], false);
     let front = rest - zeros;
     if front > 0 {
-        // the last one that can go one place on does, and those behind it follow
+        // the last one that can go one place on does, and those after it follow
         bits[front - 1] = false;
         rewrite(bits, front, ones + 1);
         true
@@ -36,7 +36,7 @@ fn run_at_end(bits: &[bool], value: bool) -> usize
     bits.len() - rest
 }
 
-// Writes so many ones from a place on, and zeros behind them.
+// Writes so many ones from a place on, and zeros after them.
 fn rewrite(bits: &mut [bool], at: usize, ones: usize)
     requires { at + ones ≤ length bits.old }
     ensures { bits.new ≡ take at bits.old ++

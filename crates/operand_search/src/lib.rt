@@ -5,8 +5,8 @@
 //! by the lexicographically least list of positions), and evaluates the graph on 64 of them at a time, in the bits of
 //! one word a variable. With k ones among n inputs there are n! / (k! (n - k)!) values: of 128 inputs 8,257 with at
 //! most two ones, and 349,633 with at most three. `most_ones_within` says how many ones some work is enough for, two at
-//! least. `some_seen` looks at a few hundred fixed values of the inputs, and `least_seen` looks for the least difference
-//! only where these show that there is one: the None of both says nothing.
+//! least. `some_seen` looks at a few hundred fixed values of the inputs, and `least_seen` looks for the least
+//! difference only where these show that there is one: the None of both says nothing.
 //!
 //! *Difference*, *least difference*: `LeastDifference` of `frontier_core`.
 #![tactic(auto)]

@@ -33,7 +33,8 @@ pub fn least_seen(
     }
 }
 
-/// Operands and an addend on which the graph's value isn't what is claimed, if some of a few hundred fixed ones are such.
+/// Operands and an addend on which the graph's value isn't what is claimed, if some of a few hundred fixed ones are
+/// such.
 pub fn some_seen(
     alloc: Global,
     graph: &Graph,

@@ -15,7 +15,7 @@ use Rattle.algebra_core.specs.Agreement.{AreSame, AreSameImports, LedgersAgree}
 use Rattle.algebra_core.proofs.CallerLemmas.{agree_sym, agree_trans, lawful_agrees, line_of-deleted, live_agrees, same_refl, same_sym, same_trans}
 use Rattle.pac_checker.specs.Recording.{AreIdsWithin, Covers}
 
--- ---- a line behind others
+-- ---- a line after others
 
 -- one more lawful line, and the ledger after all
 pub lines_more : (m : ℕ) (l : Ledger) (xs : List Line) (x : Line) → AreLawfulLines m l xs → IsLawfulLine m (after_all m l xs) x → AreLawfulLines m l (xs ++ x ∷ []) × (after_all m l (xs ++ x ∷ []) ≡ after m (after_all m l xs) x)

@@ -63,7 +63,7 @@ introduces added a sides old new last id p q none change same = record {
     go other false f = behind_one (left_lines a) (live_lines_in old.table new.entries) (lines_of old) other
         (same_of _ _ (line_of-entries old.table new.entries other ∙ ap (line_at old.table other) (change.others other (λ s. true≢false (sym (eq-eqb id other (sym s)) ∙ f))) ∙ sym (line_of-entries old.table old.entries other)))
 
--- what the type keeps, behind a new entry
+-- what the type keeps, after a new entry
 pub sound_introduced : (added : List Clause) (a : LeftAxioms) (s : Sides) (old new : Facts Sum Table) (last id : ℕ) (p : Sum) → last < id → ChangesAt id (Some p) old new → IsCheckerSound added a s old last → IsCheckerSound added a s new id
 sound_introduced added a s old new last id p above change h = record {
   importable = h.importable;

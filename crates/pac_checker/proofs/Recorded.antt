@@ -96,7 +96,7 @@ module _ (e : Extended) (added : List Clause) where
         none = h.none;
       }
 
-  -- What is said of a line that is recorded, and of the ledger behind it.
+  -- What is said of a line that is recorded, and of the ledger after it.
   module _ (old new : Table) (l k : Ledger) (xs : List PacLine) (line : PacLine) (x : Line) (grown : Extends old new) (is : line_in old line ≡ Some x) (has : AreOf old line) (ok : IsRecordable e.max old line)
       (w : IsLawfulLine (modulus e) l x) (a : LedgersAgree k (after (modulus e) l x)) (h : HasRecorded e added old l true xs) where
     abbrev Recorded : List PacLine → List Line → Type 0

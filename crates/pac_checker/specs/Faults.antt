@@ -13,7 +13,7 @@ use Rattle.pac_checker.specs.declared.fault.LineFault.TheVariants.{Id, NoSuchLin
 use Rattle.pac_checker.specs.declared.fault.CloseFault.{CloseFault}
 use Rattle.pac_checker.specs.declared.fault.CloseFault.TheVariants as close
 
--- the line is refused for this cause; want of memory comes at any time
+-- the line is refused for this cause; out of memory comes at any time
 abbrev pub IsRuleFault : Extended → Ledger → Line → LineFault → Type 0
 IsRuleFault e l x Id = IsRefusedInRange e l x cause.Id
 IsRuleFault e l x (NoSuchLine id) = IsRefusedInRange e l x (cause.NoSuchLine id)

@@ -45,7 +45,7 @@ pub record AreRecordedLines (max : ℕ) (t : Table) (last : ℕ) (lines : List P
   pub bounded : All (λ x. id_in x ≤ last) lines
   pub earlier : AreMadeOfEarlier lines
 
--- What was recorded are such lines, lawful from the beginning on, and each line that is live now is live behind them. Where nothing is
+-- What was recorded are such lines, lawful from the beginning on, and each line that is live now is live after them. Where nothing is
 -- recorded, there are none.
 pub record HasRecorded (e : Extended) (added : List Clause) (t : Table) (l : Ledger) (records : Bool) (lines : List PacLine) : Type 0 where
   pub within : AreIdsWithin l

@@ -36,7 +36,7 @@ lent parts = map (λ part. (part.0, part.1.now)) parts
 abbrev pub ids_of : List Part → List ℕ
 ids_of parts = map (λ part. part.id) parts
 
--- the live lines: the axioms that are left, and behind them what lines introduced
+-- the live lines: the axioms that are left, and after them what lines introduced
 abbrev pub lines_with : LeftAxioms → Facts Sum Table → List LiveLine
 lines_with left facts = left_lines left ++ lines_of facts
 
@@ -53,7 +53,7 @@ pub record IsNamed (left : LeftAxioms) (old new : Facts Sum Table) (parts : List
   pub vanishes : Vanishes new.gates new.table p
   pub same : (σ : Assignment) → value_in new.table p σ ≡ combined_value left old parts σ
 
--- the first operand that isn't live, or want of memory
+-- the first operand that isn't live, or out of memory
 abbrev pub IsNamingFault : LeftAxioms → Facts Sum Table → List ℕ → LineFault → Type 0
 IsNamingFault left facts ids Id = ⊥
 IsNamingFault left facts ids (NoSuchLine id) = first_missing (lines_with left facts) ids ≡ Some id
@@ -119,7 +119,7 @@ AreEqual t p q = (σ : Assignment) → value_in t p σ ≡ value_in t q σ
 abbrev pub Differ : Table → Sum → Sum → Type 0
 Differ t p q = (σ : Assignment) × (value_in t p σ ≢ value_in t q σ)
 
--- the stated polynomial differs from the named one, or want of memory
+-- the stated polynomial differs from the named one, or out of memory
 abbrev pub IsStatingFault : Table → Sum → Sum → LineFault → Type 0
 IsStatingFault t named stated Id = ⊥
 IsStatingFault t named stated (NoSuchLine id) = ⊥

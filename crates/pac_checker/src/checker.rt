@@ -28,8 +28,8 @@ use ripple_graft::Extended;
 use std::alloc::Global;
 use std::marker::Model;
 
-/// The live polynomials of an algebra certificate over an extended graph, the clauses that its lines may import, and the
-/// lines that were taken, where they are recorded.
+/// The live polynomials of an algebra certificate over an extended graph, the clauses that its lines may import, and
+/// the lines that were taken, where they are recorded.
 #[derive(Drop)]
 pub struct PacChecker<'a> {
     judge: Judge<'a>,
@@ -139,8 +139,8 @@ impl<'a> PacChecker<'a> {
         self.judge.close(id)
     }
 
-    /// The recorded lines and the table of their polynomials, where the checker isn't needed any more. Their ids rise, each
-    /// is made of lines with lesser ids, and each can be written.
+    /// The recorded lines and the table of their polynomials, where the checker isn't needed any more. Their ids
+    /// rise, each is made of lines with lesser ids, and each can be written.
     pub fn into_record(self) -> Record
         ensures lines { lines_in result.terms result.lines.items ≡ self.entry.recorded }
         ensures terms { result.terms ≡ self.entry.table }

@@ -34,8 +34,8 @@ use ripple_graft::Extended;
 use std::alloc::Global;
 use std::marker::Model;
 
-/// The axioms of an extended graph that are left, the live polynomials of an algebra certificate over it, and the clauses
-/// that its lines may import. It records nothing.
+/// The axioms of an extended graph that are left, the live polynomials of an algebra certificate over it, and the
+/// clauses that its lines may import. It records nothing.
 #[derive(Drop)]
 pub(crate) struct Judge<'a> {
     alloc: Global,

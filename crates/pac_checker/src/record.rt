@@ -12,7 +12,7 @@ pub struct Record {
     pub terms: Terms,
 }
 
-/// Puts a line behind those that are recorded, unless it is a deletion.
+/// Puts a line after those that are recorded, unless it is a deletion.
 pub(crate) fn keep(recorded: &mut Vec<PacLine>, line: PacLine)
     requires room { vec_len recorded.old < vec_capacity recorded.old }
     ensures { recorded.new.items ≡ recorded.old.items ++ kept_of line }

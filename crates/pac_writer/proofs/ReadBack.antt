@@ -1,4 +1,4 @@
--- What is written for lines is read as these lines, one behind the other.
+-- What is written for lines is read as these lines, one after the other.
 use Rattle.std.specs.Prelude.{◌<◌, ◌^◌, ℕ, List, [], ◌∷◌, ◌++◌, IsSome, IsSomeAnd}
 use Rattle.std.specs.declared.option.Option.{Option}
 use Rattle.std.specs.declared.option.Option.TheVariants.{None, Some}

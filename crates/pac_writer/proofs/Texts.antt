@@ -28,6 +28,6 @@ next_text t xs i x go_on low is =
     ap (written_in t) (drop-cons xs i x low ∙ ap (λ j. get_or xs i x ∷ drop j xs) next ∙ ap (λ y. y ∷ drop (i + 1) xs) (sym is)) ∙
     first_text t x (drop (i + 1) xs) (subst (λ y. IsSome (line_in t y)) (sym is) (All-get_or (λ y. IsSome (line_in t y)) xs i x low go_on))
 
--- nothing is left behind the last one
+-- nothing is left after the last one
 pub no_text : (t : Table) (xs : List PacLine) (i : ℕ) → length xs ≤ i → written_in t (drop i xs) ≡ []
 no_text t xs i past = ap (written_in t) (drop_all i xs past)

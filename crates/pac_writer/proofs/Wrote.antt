@@ -15,7 +15,7 @@ WritesText text old new r = Writes Algebra text old new r
 pub writes_none : (v : View) → WritesText [] v v (Ok tt)
 writes_none v = record { whole = WritesTo-nil Algebra v; part = tt; cause = HasWriteCause-none tt v; tells = KeepsTelling-refl v }
 
--- one text behind another
+-- one text after another
 pub writes_then : (p q : List ℕ) (r : Result (Unit {0}) WriteFault) (u v w : View) → WritesText p u v (Ok tt) → WritesText q v w r → WritesText (p ++ q) u w r
 writes_then p q (Ok x) u v w one two = record {
   whole = WritesTo-trans Algebra u v w p q one.whole two.whole;
@@ -30,7 +30,7 @@ writes_then p q (Err e) u v w one two = record {
   tells = KeepsTelling-trans u v w one.tells two.tells;
 }
 
--- a text that failed has failed with whatever was to come behind it
+-- a text that failed has failed with whatever was to come after it
 pub failed_before : (p q : List ℕ) (e : WriteFault) (u v : View) → WritesText p u v (Err e) → WritesText (p ++ q) u v (Err e)
 failed_before p q e u v h = record { whole = tt; part = WritesPart-longer Algebra p q u v h.part; cause = h.cause; tells = h.tells }
 
@@ -55,7 +55,7 @@ pub record WroteUpTo (whole rest : List ℕ) (old new : View) : Type 0 where
   pub all : whole ≡ text ++ rest
   pub writes : WritesText text old new (Ok tt)
 
--- behind what was written already
+-- after what was written already
 longer : (whole text rest piece later : List ℕ) → whole ≡ text ++ rest → rest ≡ piece ++ later → whole ≡ (text ++ piece) ++ later
 longer whole text rest piece later e f = e ∙ ap (λ ys. text ++ ys) f ∙ sym (append_assoc text piece later)
 

@@ -32,7 +32,7 @@ pub record IsKeptLine (max : ℕ) (t : Table) (line : PacLine) : Type 0 where
   pub writable : IsWritable line
   pub up_to : AreUpTo max t line
 
--- A line that may stand behind the others: it is lawful and spare, and this is the greatest id in use then.
+-- A line that may stand after the others: it is lawful and spare, and this is the greatest id in use then.
 pub record CanFollowLines (l : Made) (last : ℕ) (x : Line) : Type 0 where
   pub lawful : IsLawfulLine (modulus l.extended) (written_ledger l) x
   pub spare : IsSpareLine (modulus l.extended) x

@@ -94,7 +94,7 @@ impl<'a> Lines<'a> {
         self.put(PacLine::Drop { id }, last)
     }
 
-    // Puts a lawful line behind the others.
+    // Puts a lawful line after the others.
     fn put(&mut self, line: PacLine, last: u64) -> Result<(), Memory>
         requires unclosed { self.old.closing ≡ None }
         requires kept { IsKeptLine self.old.extended.max self.old.table line }
@@ -180,7 +180,7 @@ fn last_axiom(extended: &Extended<'_>) -> u64
     ensures room { result < 2 ^ 48 }
     ensures small { extended.now.max < 2 ^ 31 }
 {
-    // each is that of a gate, or of a column behind the gates
+    // each is that of a gate, or of a column after the gates
     let _gates = extended.gates();
     u64::from(extended.max()) + u64::from(extended.graph().outputs())
 }

@@ -29,7 +29,7 @@ pub record ArePremisesOf (g : Aig) (p : Premises) : Type 0 where
   pub version : p.version ≡ header.version
   pub extended : p.extended ≡ extended_with g header
 
--- A file within the lengths with this header, whose blocks the graph takes, and these lines, each of which is lawful behind those before
+-- A file within the lengths with this header, whose blocks the graph takes, and these lines, each of which is lawful after those before
 -- it, whatever the goals.
 pub record HasLawfulLines (lengths : Lengths) (g : Aig) (bytes : List ℕ) (header : Header) (lines : List ClauseLine) : Type 0 where
   pub text : IsAnyClauseFile (length g.outputs) bytes header lines
@@ -47,7 +47,7 @@ pub record GivesPremises (lengths : Lengths) (g : Aig) (bytes : List ℕ) (p : P
   pub shown : AreGoalsShown lines (extended_with g header)
   pub same : AreSamePremises p (premises header.version (extended_with g header) (importable header.version (added lines)))
 
--- The lines behind this header are lawful, show each goal and add these clauses, as sets, and there are so many lines.
+-- The lines after this header are lawful, show each goal and add these clauses, as sets, and there are so many lines.
 pub record AddsClauses (lengths : Lengths) (g : Aig) (bytes : List ℕ) (header : Header) (clauses : List Clause) (count : ℕ) : Type 0 where
   pub lines : List ClauseLine
   pub lawful : HasLawfulLines lengths g bytes header lines

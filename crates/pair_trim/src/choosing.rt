@@ -17,7 +17,8 @@ use miter_encoder::{Goals, goals};
 use pair_core::Pair;
 use std::alloc::Global;
 
-/// What is used: lines by the closing line, clauses by goals and by the imports of kept lines, which name them by new numbers.
+/// What is used: lines by the closing line, clauses by goals and by the imports of kept lines, which name them by new
+/// numbers.
 pub(crate) fn choose(alloc: Global, claim: Claim, judged: Judged) -> Result<Trimmed, Memory>
     requires { IsJudgedPair claim judged }
     ensures { IfOk result (IsChosen judged) }

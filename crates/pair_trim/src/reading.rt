@@ -17,7 +17,7 @@ use joint_checker::{Checked, judge_pair};
 use mv_desk::{Desk, Limits};
 use std::alloc::Global;
 
-/// What is used of an accepted pair; else what `check` says of it. Want of memory comes at any time.
+/// What is used of an accepted pair; else what `check` says of it. Out of memory comes at any time.
 pub(crate) fn read_trimmed<D: Desk>(
     alloc: Global,
     desk: &mut D,

@@ -14,8 +14,8 @@ use pair_core::write_pair;
 use std::alloc::Global;
 
 /// Judges a pair of certificates for what is claimed of a graph, and writes what is used of it under the new names.
-/// Files are created only where the pair is accepted, the clause certificate first; after a write fault a front part of each
-/// created file was written.
+/// Files are created only where the pair is accepted, the clause certificate first; after a write fault a front part
+/// of each created file was written.
 pub fn trim<D: Desk>(
     alloc: Global,
     desk: &mut D,

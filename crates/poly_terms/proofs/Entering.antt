@@ -34,7 +34,7 @@ enters_more number a b c vs i v low at p q = record {
 same_or_not : (i n : ℕ) → (i ≡ n) ⊎ (i ≢ n)
 same_or_not i n = ⊎_elim (λ t. inl (eqb-true i n t)) (λ f. inr (eqb-false i n f)) (cases_Bool (i == n))
 
--- a number put behind those of a variable
+-- a number put after those of a variable
 pub enters_one : (number v : ℕ) (old mid new : List (List ℕ)) → ((u : ℕ) → get_or mid u [] ≡ get_or old u []) → v < length mid → new ≡ set mid v (get_or mid v [] ++ number ∷ []) →
     Enters number (v ∷ []) old new
 enters_one number v old mid new same low is = record {

@@ -33,7 +33,7 @@ total f (e ∷ es) = e.1 * f e.0 + total f es
 abbrev pub one_entry : ℕ → Entry → Sum
 one_entry m e = cond (e.1 % m == 0) [] ((e.0, e.1 % m) ∷ [])
 
--- An entry put behind others: added to the last where that has its number, and not at all where the sum is 0.
+-- An entry put after others: added to the last where that has its number, and not at all where the sum is 0.
 abbrev pub IsPutBehind : ℕ → Entry → Sum → Sum → Type 0
 IsPutBehind m e old new =
     ((front : Sum) × (last : Entry) × (old ≡ front ++ last ∷ []) × (last.0 ≡ e.0) × (new ≡ front ++ one_entry m (e.0, last.1 + e.1)))

@@ -59,7 +59,7 @@ pub record HasAddedTerms (m : ℕ) (ms : List (List ℕ)) (old new : List ℕ) (
   pub indexed : AreIndexed m ms new places
   pub sums : (f : ℕ → ℕ) → total f (terms_from 0 new) % m ≡ (total f (terms_from 0 old) + total f terms) % m
 
--- Terms with the variable that were taken out and put behind others.
+-- Terms with the variable that were taken out and put after others.
 pub record TakesOut (ms : List (List ℕ)) (v : ℕ) (old new : List ℕ) (before after : Sum) : Type 0 where
   pub sums : (f : ℕ → ℕ) → total f (terms_from 0 new) + total f after ≡ total f (terms_from 0 old) + total f before
   pub less : (n : ℕ) → (get_or new n 0 ≡ get_or old n 0) ⊎ (get_or new n 0 ≡ 0)

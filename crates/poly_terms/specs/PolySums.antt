@@ -20,7 +20,7 @@ pub record IsAdded (m : ℕ) (old new : List ℕ) (terms : Sum) : Type 0 where
   pub below : ((n : ℕ) → get_or old n 0 < m) → (n : ℕ) → get_or new n 0 < m
   pub within : (k : ℕ) → AllByRecursion (λ e. e.0 < k) terms → ((n : ℕ) → 0 < get_or old n 0 → n < k) → (n : ℕ) → 0 < get_or new n 0 → n < k
 
--- Terms that were taken out, and put behind others.
+-- Terms that were taken out, and put after others.
 pub record AreTaken (old new : List ℕ) (before after : Sum) : Type 0 where
   pub sums : (f : ℕ → ℕ) → total f (terms_from 0 new) + total f after ≡ total f (terms_from 0 old) + total f before
   pub within : (k : ℕ) → ((n : ℕ) → 0 < get_or old n 0 → n < k) → AllByRecursion (λ e. e.0 < k) before → AllByRecursion (λ e. e.0 < k) after

@@ -79,7 +79,7 @@ fn push_sum(exponent: u32, x: &Term, y: &Term, out: &mut Vec<Term>) -> Result<()
     Ok(())
 }
 
-// Copies entries behind others.
+// Copies entries after others.
 fn copy_behind(entries: &[Term], out: &mut Vec<Term>) -> Result<(), AllocError>
     ensures { OnOk result (out.new.items ≡ out.old.items ++ entries.now) }
 {
@@ -118,7 +118,7 @@ fn is_placed(exponent: u32, entries: &[Term], i: usize) -> bool
     coefficient != 0 && Residue::new(exponent, coefficient).value() == coefficient
 }
 
-// Puts an entry behind others: added to the last where that has its monomial, and not at all where the sum is 0.
+// Puts an entry after others: added to the last where that has its monomial, and not at all where the sum is 0.
 fn put_behind(exponent: u32, entry: Term, out: &mut Vec<Term>) -> Result<(), AllocError>
     requires { IsWidth exponent }
     ensures { OnOk result (IsPutBehind (2 ^ exponent) entry out.old.items out.new.items) }

@@ -32,7 +32,7 @@ fn count(terms: &[Term]) -> usize {
     terms.iter().filter(|term| term.coefficient() != 0).count()
 }
 
-// A term with its monomial in another table, behind others, unless it is 0.
+// A term with its monomial in another table, after others, unless it is 0.
 fn carry_behind(
     alloc: Global,
     from: &Numbering,

@@ -114,7 +114,7 @@ fn terms_of(alloc: Global, by_number: &[u128]) -> Result<Vec<Term>, AllocError>
     Ok(out)
 }
 
-// A term behind others, unless it is 0.
+// A term after others, unless it is 0.
 fn push_term(number: u64, coefficient: u128, out: &mut Vec<Term>) -> Result<(), AllocError>
     ensures { OnOk result (out.new.items ≡ out.old.items ++ terms_from number (coefficient ∷ [])) }
 {

@@ -34,7 +34,7 @@ pub(crate) fn products_of(
     Ok(out)
 }
 
-/// A monomial with its coefficient times each term, behind others.
+/// A monomial with its coefficient times each term, after others.
 pub(crate) fn multiply_behind(
     table: &mut Numbering,
     exponent: u32,
@@ -57,7 +57,7 @@ pub(crate) fn multiply_behind(
     Ok(())
 }
 
-/// A monomial with its coefficient, behind others.
+/// A monomial with its coefficient, after others.
 pub(crate) fn push_term(
     table: &mut Numbering,
     monomial: Monomial,

@@ -72,7 +72,7 @@ pub(crate) fn products_of(
     Ok(out)
 }
 
-// Puts the term of a part behind others. A part over the constant 0 has none.
+// Puts the term of a part after others. A part over the constant 0 has none.
 fn push_part(
     alloc: Global,
     table: &mut Numbering,
@@ -93,7 +93,7 @@ fn push_part(
     }
 }
 
-// Puts the products of a part with each term behind others. A part over the constant 0 has none.
+// Puts the products of a part with each term after others. A part over the constant 0 has none.
 fn push_products(
     alloc: Global,
     table: &mut Numbering,

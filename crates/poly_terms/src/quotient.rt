@@ -35,7 +35,7 @@ pub(crate) fn quotients(
     Ok(out)
 }
 
-// One term without the variable, behind others.
+// One term without the variable, after others.
 fn divide_behind(
     table: &mut Numbering,
     entry: &Term,

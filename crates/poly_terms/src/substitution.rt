@@ -93,7 +93,7 @@ pub(crate) fn is_place(places: &[u64], j: usize, entry: &Term) -> bool
     }
 }
 
-// The same for one term, behind others.
+// The same for one term, after others.
 fn replace_behind(
     table: &mut Numbering,
     exponent: u32,

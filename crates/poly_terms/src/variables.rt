@@ -40,7 +40,7 @@ impl Variables {
         Ok(Variables { items })
     }
 
-    /// One more variable, behind the others.
+    /// One more variable, after the others.
     pub fn push(&mut self, v: u32) -> Result<(), Memory>
         ensures { OnOk result (self.new ≡ self.old ++ v ∷ []) }
     {

@@ -1,4 +1,4 @@
--- A form that is read behind an id.
+-- A form that is read after an id.
 use Rattle.std.specs.Prelude.{◌≡◌, ℕ, List, Result, Ok, Err}
 use Rattle.std.specs.Result.{IsErrAnd}
 use Rattle.std.specs.declared.option.Option.{Option}

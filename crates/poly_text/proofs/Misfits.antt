@@ -1,4 +1,4 @@
--- What is ensured where a step of reading fails and its failure is passed on, and where an item and a text behind it are read.
+-- What is ensured where a step of reading fails and its failure is passed on, and where an item and a text after it are read.
 use Rattle.std.specs.declared.result.Result.{Result}
 use Rattle.std.specs.declared.result.Result.TheVariants.{Ok, Err}
 use Rattle.std.specs.declared.option.Option.{Option}
@@ -22,7 +22,7 @@ pub misfit_passed : {T : Type 0} {P Q : Type 0} (r : Result T LineFail) (f : Lin
 misfit_passed (Ok x) f h stay m = absurd h
 misfit_passed (Err y) f h stay m = rw h (misfit_from f stay m)
 
--- ---- an item and a text behind it
+-- ---- an item and a text after it
 
 pub ended_taken : {A T : Type 0} (item : Reader A) (end : List ℕ) (InRange : A → Type 0) (Is : A → T → Type 0) (old mid new : List ℕ) (given : Option T) →
     Takes item InRange Is old mid given → front_at end mid ≡ Some new → Takes (ended_at item end) InRange Is old new given

@@ -13,7 +13,7 @@ use crate::pac_reader::PacReader;
 use mv_text::{LineFail, Scanner, push};
 use poly_terms::{Poly, Terms};
 
-// An id and a text behind it.
+// An id and a text after it.
 pub(crate) fn ended_id(scanner: &mut Scanner<'_>, end: &[u8]) -> Result<Option<u64>, LineFail>
     ensures ok { IfOk result
         (TakesNumber (ended_at (number_at 15) end.now) IsId scanner.old scanner.new) }
@@ -25,7 +25,7 @@ pub(crate) fn ended_id(scanner: &mut Scanner<'_>, end: &[u8]) -> Result<Option<u
 }
 
 impl PacReader {
-    // The parts of a combination, and what stands behind them.
+    // The parts of a combination, and what stands after them.
     pub(crate) fn ended_parts(
         &self,
         scanner: &mut Scanner<'_>,
@@ -62,7 +62,7 @@ impl PacReader {
         Ok(parts)
     }
 
-    // Parts with a plus before each, put behind other parts.
+    // Parts with a plus before each, put after other parts.
     fn later_parts(
         &self,
         scanner: &mut Scanner<'_>,
@@ -85,7 +85,7 @@ impl PacReader {
         Ok(parts)
     }
 
-    // A part behind a plus.
+    // A part after a plus.
     #[tactic(auto, using(poly_terms::specs::Laws::extends_itself))]
     fn later_part(
         &self,
@@ -121,7 +121,7 @@ impl PacReader {
         Ok(id.zip(factor))
     }
 
-    // A polynomial and a text behind it.
+    // A polynomial and a text after it.
     pub(crate) fn ended_poly(
         &self,
         scanner: &mut Scanner<'_>,

@@ -62,7 +62,7 @@ impl PacReader {
         self.term(scanner, negative)
     }
 
-    // Terms with their signs, put behind other terms.
+    // Terms with their signs, put after other terms.
     fn later_terms(
         &self,
         scanner: &mut Scanner<'_>,

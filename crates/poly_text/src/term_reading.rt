@@ -15,7 +15,7 @@ use poly_terms::Variables;
 impl PacReader {
     ghost use Rattle.std.specs.Prelude.{codes};
 
-    // A term behind its sign.
+    // A term after its sign.
     pub(crate) fn term(
         &self,
         scanner: &mut Scanner<'_>,
@@ -32,7 +32,7 @@ impl PacReader {
         }
     }
 
-    // A coefficient, and variables behind stars.
+    // A coefficient, and variables after stars.
     fn with_coefficient(
         &self,
         scanner: &mut Scanner<'_>,
@@ -48,7 +48,7 @@ impl PacReader {
         Ok(self.signed_term(negative, coefficient, variables))
     }
 
-    // A variable, and variables behind stars.
+    // A variable, and variables after stars.
     fn product(
         &self,
         scanner: &mut Scanner<'_>,
@@ -66,7 +66,7 @@ impl PacReader {
         Ok(self.signed_term(negative, Some(1), variables))
     }
 
-    // The variables behind stars, put behind other variables.
+    // The variables after stars, put after other variables.
     fn factors(
         &self,
         scanner: &mut Scanner<'_>,
@@ -83,7 +83,7 @@ impl PacReader {
         Ok(variables)
     }
 
-    // A variable behind a star.
+    // A variable after a star.
     fn factor(&self, scanner: &mut Scanner<'_>) -> Result<Option<u32>, LineFail>
         ensures ok { IfOk result
             (TakesNumber (behind_at (codes "*x") (number_at 10)) (IsVariable self.now.max)
@@ -122,7 +122,7 @@ impl PacReader {
     }
 }
 
-// Puts one more variable behind others, where both are there; else there are no variables any more.
+// Puts one more variable after others, where both are there; else there are no variables any more.
 fn times(variables: &mut Option<Variables>, v: Option<u32>) -> Result<(), LineFail>
     ensures ok { OnOk result (IsTimes variables.old v variables.new) }
     ensures err { IfErr result (IsMisfit ⊥) }

@@ -1,4 +1,4 @@
--- An adder, made position by position behind gates.
+-- An adder, made position by position after gates.
 use Rattle.std.specs.Prelude.{◌≡◌, ℕ, suc, ◌+◌, ◌*◌, ◌<◌, ◌≤◌, List, [], ◌∷◌, ◌++◌, length, drop}
 use Rattle.std.proofs.Common.{refl, sym, ap, ap₂, ◌∙◌, subst, arith, append_assoc, append-nil, get_or, drop-cons, w32, Fits}
 use Rattle.std.proofs.lemmas.List.{get_or_default}
@@ -10,7 +10,7 @@ use Rattle.ripple_graft.specs.declared.adder.Adder.{Adder}
 use Rattle.ripple_graft.specs.Grafts.{IsAdderBehind}
 use Rattle.ripple_graft.specs.Ripple.{ripple_gates, ripple_outputs}
 
--- so many pairs are added; what is left comes behind
+-- so many pairs are added; what is left comes after
 pub record IsAdding (max : ℕ) (before : List Gate) (pairs : List (Lit × Lit)) (i top : ℕ) (carry : Lit) (gates : List Gate) (outputs : List Lit) : Type 0 where
   pub top_is : top ≡ max + 7 * i
   pub gates_are : gates ++ ripple_gates top carry (drop i pairs) ≡ before ++ ripple_gates max constant_false pairs
@@ -50,7 +50,7 @@ drop_all : {X : Type 0} (xs : List X) → drop (length xs) xs ≡ []
 drop_all [] = refl
 drop_all (x ∷ xs) = drop_all xs
 
--- with all pairs added, and the last carry behind the sums
+-- with all pairs added, and the last carry after the sums
 pub adding_ends : (max : ℕ) (before : List Gate) (pairs : List (Lit × Lit)) (i top : ℕ) (carry : Lit) (gates : List Gate) (outputs : List Lit) (a : Adder) → length pairs ≤ i → i ≤ length pairs →
     a.max ≡ top → a.gates.items ≡ gates → a.outputs.items ≡ outputs ++ carry ∷ [] → IsAdding max before pairs i top carry gates outputs → IsAdderBehind max before pairs a
 adding_ends max before pairs i top carry gates outputs a far near max_is gates_are outputs_are h =

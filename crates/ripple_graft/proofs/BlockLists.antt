@@ -1,4 +1,4 @@
--- Blocks one behind the other: they extend a graph, its evaluations go on, each adds, and all of them at once.
+-- Blocks one after the other: they extend a graph, its evaluations go on, each adds, and all of them at once.
 use Rattle.std.specs.Prelude.{◌≡◌, ℕ, zero, suc, ◌+◌, ◌*◌, ◌<◌, ◌≤◌, ◌⊎◌, ◌&&◌, Bool, true, false, cond, List, [], ◌∷◌, ◌++◌, map, length, take, drop, slice_index_or, ◌==◌}
 use Rattle.std.specs.List.{All, AllByRecursion, Contains, flat_map}
 use Rattle.std.proofs.Common.{refl, sym, ap, ap₂, subst, ◌∙◌, arith, append_assoc, inl, inr, ⊎_elim, eqb-true}

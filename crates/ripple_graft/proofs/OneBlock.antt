@@ -182,7 +182,7 @@ module _ (e : Extended) (b : Block) (made : IsExtension e) (is_block : IsBlock e
       let r = a.right in
       (one_readable x.left (omega arith) a.left_one, one_readable x.right (omega arith) a.right_one))
 
-  -- the gates so far by their order, and the adder's behind them by their variables
+  -- the gates so far by their order, and the adder's after them by their variables
   abbrev number : ℕ → ℕ
   number v = cond (nat_le v e.max) (min (made.acyclic.0 v) (length e.gates)) (length e.gates + v)
 

@@ -16,7 +16,7 @@ use Rattle.ripple_graft.proofs.NewOutputs.{get_from}
 
 -- ---- made one by one
 
--- so many are made; what is left comes behind
+-- so many are made; what is left comes after
 pub record IsReplacing (before : List Column) (lo : ℕ) (old new : List Lit) (i number : ℕ) (all : List Replaced) : Type 0 where
   pub number_is : number ≡ lo + i
   pub columns_are : columns_in all ++ columns number (drop number old) (drop i new) ≡ before ++ columns lo (drop lo old) new

@@ -1,5 +1,5 @@
 -- A graph together with blocks of ripple-carry adders, which are added one after the other: the sums of each replace some columns,
--- and where it is said so, its last carry replaces the column behind them.
+-- and where it is said so, its last carry replaces the column after them.
 use Rattle.std.specs.Prelude.{◌≡◌, ℕ, ◌+◌, ◌*◌, ◌<◌, ◌≤◌, ◌⊎◌, Bool, List, [], ◌∷◌, ◌++◌, map, length, take, drop, if◌then◌else◌, ◌==◌, suc}
 use Rattle.std.specs.List.{All, flat_map, fold}
 use Rattle.graph_core.specs.declared.literal.Lit.{Lit}
@@ -12,7 +12,7 @@ use Rattle.ripple_graft.specs.Extension.{IsExtension, IsKnown}
 pub use Rattle.ripple_graft.specs.declared.cut.Cut.{Cut}
 pub use Rattle.ripple_graft.specs.declared.block.Block.{Block}
 
--- a cut, and whether the last carry replaces the column behind its sums
+-- a cut, and whether the last carry replaces the column after its sums
 abbrev pub block : Cut → Bool → Block
 block cut carry = record { cut = cut; carry = carry }
 
@@ -61,14 +61,14 @@ pub record IsBlock (e : Extended) (b : Block) : Type 0 where
   pub apart : All (λ c. (c.number < b.cut.lo) ⊎ (b.cut.lo + span b ≤ c.number)) e.replaced
   pub known : All (λ p. IsKnown e p.0 × IsKnown e p.1) b.cut.pairs
 
--- each block fits behind those before it
+-- each block fits after those before it
 abbrev pub AreBlocks : Extended → List Block → Type 0
 AreBlocks e [] = Unit {0}
 AreBlocks e (b ∷ blocks) = IsBlock e b × AreBlocks (graft_block e b) blocks
 
 -- ---- one cut up to the last column
 
--- Of a graph with m outputs: the last carry replaces column m - 1 where that is the one behind the sums.
+-- Of a graph with m outputs: the last carry replaces column m - 1 where that is the one after the sums.
 abbrev pub block_of : ℕ → Cut → Block
 block_of m cut = record { cut = cut; carry = cut.lo + length cut.pairs + 1 == m }
 
@@ -106,7 +106,7 @@ abbrev pub pair_count : List Block → ℕ
 pair_count [] = 0
 pair_count (b ∷ blocks) = length b.cut.pairs + pair_count blocks
 
--- The graph's gates and behind them the seven of each position, block by block, numbered on; and the columns, block by block.
+-- The graph's gates and after them the seven of each position, block by block, numbered on; and the columns, block by block.
 abbrev pub BlocksAreJoined : Type 0
 BlocksAreJoined = (g : Aig) (blocks : List Block) → with_blocks g blocks ≡ record {
   graph = g;
@@ -117,7 +117,7 @@ BlocksAreJoined = (g : Aig) (blocks : List Block) → with_blocks g blocks ≡ r
 
 -- ---- laws
 
--- A block keeps an extended graph without faults; so do blocks that fit one behind the other.
+-- A block keeps an extended graph without faults; so do blocks that fit one after the other.
 abbrev pub GraftExtends : Type 0
 GraftExtends = (e : Extended) (b : Block) → IsExtension e → IsBlock e b → IsExtension (graft_block e b)
 

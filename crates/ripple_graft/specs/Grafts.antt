@@ -50,27 +50,27 @@ pub record HasColumnRoom (e : Extended) (lo pairs : ℕ) (carry : Bool) : Type 0
 abbrev pub HasRoomFor : Extended → Block → Type 0
 HasRoomFor e b = HasColumnRoom e b.cut.lo (length b.cut.pairs) b.carry
 
--- why a block doesn't fit behind those so far: its columns, or else its first unknown pair
+-- why a block doesn't fit after those so far: its columns, or else its first unknown pair
 abbrev pub IsBlockFault : Extended → Block → GraftFail → Type 0
 IsBlockFault e b Columns = ¬ (HasRoomFor e b)
 IsBlockFault e b (Literal p) = HasRoomFor e b × IsFirstUnknown e b.cut.pairs p
 IsBlockFault e b Memory = Unit {0}
 
--- the blocks before the i-th fit one behind the other, and this one doesn't, for this cause
+-- the blocks before the i-th fit one after the other, and this one doesn't, for this cause
 abbrev pub IsFirstFault : Extended → List Block → ℕ → GraftFail → Type 0
 IsFirstFault e [] i why = ⊥
 IsFirstFault e (b ∷ blocks) zero why = IsBlockFault e b why
 IsFirstFault e (b ∷ blocks) (suc i) why = IsBlock e b × IsFirstFault (graft_block e b) blocks i why
 
--- the first block at fault, and in it the first pair; or want of memory
+-- the first block at fault, and in it the first pair; or out of memory
 abbrev pub IsBlocksFault : Aig → List Block → BlocksFail → Type 0
 IsBlocksFault g blocks (blocks_fail.Columns i) = IsFirstFault (without_cut g) blocks i Columns
 IsBlocksFault g blocks (blocks_fail.Literal i p) = IsFirstFault (without_cut g) blocks i (Literal p)
 IsBlocksFault g blocks blocks_fail.Memory = Unit {0}
 
--- ---- how an extended graph is kept: the graph, and perhaps adders behind its gates
+-- ---- how an extended graph is kept: the graph, and perhaps adders after its gates
 
--- the adder of some pairs behind gates, the greatest variable so far
+-- the adder of some pairs after gates, the greatest variable so far
 pub record IsAdderBehind (max : ℕ) (gates : List Gate) (pairs : List (Lit × Lit)) (a : Adder) : Type 0 where
   pub max_is : a.max ≡ max + 7 * length pairs
   pub gates_are : a.gates.items ≡ gates ++ ripple_gates max constant_false pairs
@@ -89,7 +89,7 @@ abbrev pub seen : Aig → Option Added → Extended
 seen g None = without_cut g
 seen g (Some a) = seen_in g a
 
--- the graph with blocks that fit one behind the other
+-- the graph with blocks that fit one after the other
 pub record IsGrafted (g : Aig) (e : Extended) : Type 0 where
   pub blocks : List Block
   pub fit : AreBlocks (without_cut g) blocks

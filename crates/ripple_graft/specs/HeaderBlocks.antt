@@ -17,7 +17,7 @@ IsCutOf g None = Unit {0}
 IsCutOf g (Some cut) = IsCut g cut
 
 -- The graph takes blocks: in version 1 those of a cut up to the last column or the one before it, in version 2 blocks that fit one
--- behind the other, no more of them than columns.
+-- after the other, no more of them than columns.
 abbrev pub AreHeaderBlocks : Aig → ℕ → List Block → Type 0
 AreHeaderBlocks g version blocks =
     ((version ≡ 1) × ((cut : Option Cut) × (blocks ≡ cut_blocks (length g.outputs) cut) × IsCutOf g cut)) ⊎

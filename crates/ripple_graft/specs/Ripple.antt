@@ -12,7 +12,7 @@ abbrev pub ripple_gates : ℕ → Lit → List (Lit × Lit) → List Gate
 ripple_gates v c [] = []
 ripple_gates v c (p ∷ ps) = position v p.0 p.1 c ++ ripple_gates (v + 7) (carry_after v) ps
 
--- its sums, and behind them the last carry
+-- its sums, and after them the last carry
 abbrev pub ripple_outputs : ℕ → Lit → List (Lit × Lit) → List Lit
 ripple_outputs v c [] = c ∷ []
 ripple_outputs v c (p ∷ ps) = sum_after v ∷ ripple_outputs (v + 7) (carry_after v) ps

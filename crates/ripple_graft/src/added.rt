@@ -9,13 +9,13 @@ pub struct Replaced {
     pub new: Lit,
 }
 
-// Adders behind a graph's gates.
+// Adders after a graph's gates.
 #[derive(Debug, Drop)]
 pub struct Added {
     // the greatest variable
     pub max: u32,
     // the graph's gates, and then those of the adders
     pub gates: Vec<Gate>,
-    // the columns of each block behind those of the blocks before
+    // the columns of each block after those of the blocks before
     pub columns: Vec<Replaced>,
 }

@@ -1,4 +1,4 @@
-// The gates and the outputs of a ripple-carry adder behind other gates.
+// The gates and the outputs of a ripple-carry adder after other gates.
 ghost use Rattle.std.specs.Prelude.{◌≡◌, ◌+◌, ◌*◌, ◌<◌, ◌^◌, IfOk, length};
 ghost use Rattle.graph_core.specs.Graph.Literals.{and_gate, inverted, plain};
 ghost use Rattle.graph_core.specs.Graph.Positions.{carry_after, position, sum_after};
@@ -17,7 +17,7 @@ pub struct Adder {
     pub outputs: Vec<Lit>,
 }
 
-// The adder of some pairs behind gates: seven gates for each pair, numbered on, with the constant 0 as the first carry.
+// The adder of some pairs after gates: seven gates for each pair, numbered on, with the constant 0 as the first carry.
 pub fn adder_behind(
     alloc: Global,
     from: u32,
@@ -61,7 +61,7 @@ fn position(v: u32, x: Lit, y: Lit, carry: Lit) -> [Gate; 7]
     ]
 }
 
-// the sum of the position behind a variable
+// the sum of the position after a variable
 fn sum_after(v: u32) -> Lit
     requires { v + 7 < 2 ^ 31 }
     ensures { result ≡ sum_after v }

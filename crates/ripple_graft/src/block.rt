@@ -2,7 +2,7 @@
 use crate::cut::Cut;
 use std::marker::Model;
 
-/// A cut, and whether its last carry replaces the column behind its sums.
+/// A cut, and whether its last carry replaces the column after its sums.
 #[derive(Debug, Drop)]
 pub struct Block {
     pub cut: Cut,

@@ -46,7 +46,7 @@ pub fn are_apart(columns: &[Replaced], lo: usize, end: usize) -> bool
         .all(|column| is_outside(column.number, lo, end))
 }
 
-// Columns from the given one on, with their outputs of the graph and new ones, behind other columns.
+// Columns from the given one on, with their outputs of the graph and new ones, after other columns.
 pub fn columns_behind(
     before: Vec<Replaced>,
     lo: u32,

@@ -11,7 +11,7 @@ pub enum GraftFail {
     /// The first pair, from 0, with a literal whose variable is neither 0, an input nor a gate.
     #[error("literal")]
     Literal(u32),
-    /// Want of memory.
+    /// Out of memory.
     #[error("want of memory")]
     Memory,
 }
@@ -30,14 +30,15 @@ impl From<AllocError> for GraftFail {
 /// Why blocks aren't grafted onto a graph.
 #[derive(Clone, Copy, Debug, PartialEq, Eq, Error)]
 pub enum BlocksFail {
-    /// The first block at fault, from 0: it has no pair, or one of its columns isn't there or is replaced by a block before.
+    /// The first block at fault, from 0: it has no pair, or one of its columns isn't there or is replaced by a block
+    /// before.
     #[error("columns of block {0}")]
     Columns(u32),
-    /// The first block at fault and in it the first pair, both from 0, with a literal whose variable is neither 0, an input
-    /// nor a gate of the graph or of a block before.
+    /// The first block at fault and in it the first pair, both from 0, with a literal whose variable is neither 0, an
+    /// input nor a gate of the graph or of a block before.
     #[error("pair {1} of block {0}")]
     Literal(u32, u32),
-    /// Want of memory.
+    /// Out of memory.
     #[error("want of memory")]
     Memory,
 }

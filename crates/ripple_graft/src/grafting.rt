@@ -17,7 +17,7 @@ use std::alloc::Global;
 
 /// The graph with a ripple-carry adder in place of its outputs from the cut's first column on.
 ///
-/// The sums replace as many columns as there are pairs, and the last carry the column behind them, if there is one.
+/// The sums replace as many columns as there are pairs, and the last carry the column after them, if there is one.
 pub fn graft<'a>(alloc: Global, graph: &'a Graph, cut: &Cut) -> Result<Extended<'a>, GraftFail>
     ensures ok { IfOk result (λ e. IsCut graph.now cut.now × (e ≡ with_cut graph.now cut.now)) }
     ensures columns { result ≡ Err GraftFail.Columns → ¬ (HasColumns graph.now cut.now) }
@@ -37,8 +37,8 @@ pub fn graft<'a>(alloc: Global, graph: &'a Graph, cut: &Cut) -> Result<Extended<
     }
 }
 
-/// The graph with blocks, one behind the other. The sums of each replace as many columns as it has pairs, and where it says
-/// so its last carry the column behind them.
+/// The graph with blocks, one after the other. The sums of each replace as many columns as it has pairs, and where it
+/// says so its last carry the column after them.
 pub fn graft_blocks<'a>(
     alloc: Global,
     graph: &'a Graph,

@@ -24,7 +24,7 @@ pub fn nothing_added(alloc: Global, graph: &Graph) -> Result<Added, AllocError>
     })
 }
 
-// The block of a cut behind what was added before: its adder, and the columns that it replaces.
+// The block of a cut after what was added before: its adder, and the columns that it replaces.
 pub fn with_block(
     alloc: Global,
     graph: &Graph,

@@ -90,14 +90,14 @@ abbrev pub HasToldPair : ℕ → ComparedTexts → Type 0
 HasToldPair limit texts = (file : List ℕ) × (other : List ℕ) × (texts.graph ≡ Some file) × (texts.other ≡ Some other) ×
     (g : Aig) × (h : Aig) × SpellsWithin Any limit file g × SpellsWithin Any limit other h × AreOfOneShape g h
 
--- the answer is on two graphs, or none is on the files: a fault, or want of memory
+-- the answer is on two graphs, or none is on the files: a fault, or out of memory
 abbrev pub IsOnPair : Same → Type 0
 IsOnPair same.Shapes = ⊥
 IsOnPair (same.Stopped (stop.Graph at why)) = ⊥
 IsOnPair (same.Stopped (stop.TooLong at)) = ⊥
 IsOnPair _ = ⊤
 
--- Two graphs of one shape are called equal, or differ, or the conflicts are spent; but for a fault or want of memory.
+-- Two graphs of one shape are called equal, or differ, or the conflicts are spent; but for a fault or out of memory.
 abbrev pub PairsAreDecided : Type 0
 PairsAreDecided = (limits : Limits) (conflicts : ℕ) (files : ComparedFiles) (before after : View) (given : Same) →
     HasToldPair limits.graph (compared_texts_of before files) →

@@ -1,4 +1,4 @@
--- Why the clause file isn't lawful, where it is told; beside its refusals a failed read and want of memory.
+-- Why the clause file isn't lawful, where it is told; beside its refusals a failed read and out of memory.
 use Rattle.std.specs.Prelude.{ℕ, List, IfSome, ⊤}
 use Rattle.std.specs.declared.option.Option.{Option}
 use Rattle.clause_judge.specs.LineRefusals.{line_cause}

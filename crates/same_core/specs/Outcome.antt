@@ -83,7 +83,7 @@ pub record OnePairAnswerIsDue : Type 0 where
   pub one : (limits : Limits) (texts : ComparedTexts) → AreComparedTold texts → (due other : SameChecked) → IsPairCheckDue limits texts due →
       IsPairCheckDue limits texts other → due ≡ other
 
--- So what has its cause is the answer that is due, or a failed read or want of memory.
+-- So what has its cause is the answer that is due, or a failed read or out of memory.
 abbrev pub PairOutcomesAreExact : Type 0
 PairOutcomesAreExact = (limits : Limits) (files : ComparedFiles) (before after : View) (given : SameChecked) →
     IsPairOutcome limits files before after given → IsExactPairAnswer limits files before after given

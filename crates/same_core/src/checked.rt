@@ -4,7 +4,8 @@ use clause_judge::{ClauseFail, ClauseWhy};
 use command_core::Stop;
 use mv_desk::Slot;
 
-/// Why a clause certificate is refused: at which of its lines (from 1) and why, or at which output (from 0) for its goals.
+/// Why a clause certificate is refused: at which of its lines (from 1) and why, or at which output (from 0) for its
+/// goals.
 #[derive(Clone, Copy, Debug, PartialEq, Eq)]
 pub enum SameRefusal {
     Clauses { line: u64, why: ClauseWhy },

@@ -34,12 +34,12 @@ pub fn equal_pairs_are_held()
     ensures { EqualPairsAreHeld }
 {}
 
-/// Two graphs of one shape are called equal, or differ, or the conflicts are spent; but for a fault or want of memory.
+/// Two graphs of one shape are called equal, or differ, or the conflicts are spent; but for a fault or out of memory.
 pub fn pairs_are_decided()
     ensures { PairsAreDecided }
 {}
 
-/// Where no pair of graphs is spelled, the answer of a check is given; but for a fault or want of memory.
+/// Where no pair of graphs is spelled, the answer of a check is given; but for a fault or out of memory.
 pub fn pair_answers_are_exact()
     ensures { PairAnswersAreExact }
 {}
@@ -49,7 +49,7 @@ pub fn one_answer_is_due()
     ensures { OnePairAnswerIsDue }
 {}
 
-/// An answer that has its cause is the one that is due, or a failed read or want of memory.
+/// An answer that has its cause is the one that is due, or a failed read or out of memory.
 pub fn outcomes_are_exact()
     ensures { PairOutcomesAreExact }
 {}

@@ -5,7 +5,7 @@
 //! numbers of inputs or outputs differ. `check_same` opens the two graphs and a clause certificate, reads the
 //! certificate line by line, and says what the files come to: accepted where the bytes spell two graphs of one shape
 //! and each line meets its rule, and then the graphs agree; else the first refusal, or a length that is met before any
-//! refusal. A failed read is answered where it was counted, and want of memory at any time.
+//! refusal. A failed read is answered where it was counted, and out of memory at any time.
 //!
 //! `same` lets a solver refute that some output differs, within a number of conflicts: where each goal is refuted it
 //! writes the certificate, which `check_same` accepts, or a front part of it after a write fault; where an evaluation

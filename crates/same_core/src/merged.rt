@@ -30,8 +30,8 @@ impl From<Memory> for MergeFail {
     }
 }
 
-/// The merged gates of two graphs: those of the first one, and then those of the second one, whose variables go up by the
-/// first one's greatest and whose inputs are the first one's.
+/// The merged gates of two graphs: those of the first one, and then those of the second one, whose variables go up by
+/// the first one's greatest and whose inputs are the first one's.
 #[derive(Debug, Drop)]
 pub struct Merged {
     /// The greatest variable of the first graph.

@@ -2,8 +2,8 @@
 use graph_core::{Gate, Memory};
 use std::alloc::Global;
 
-/// By variable its row in tables of signals: 0 for the constant and for what no gate has or reads, then the gates as they
-/// are listed, then the inputs that they read. No answer depends on it.
+/// By variable its row in tables of signals: 0 for the constant and for what no gate has or reads, then the gates as
+/// they are listed, then the inputs that they read. No answer depends on it.
 #[derive(Drop)]
 pub(crate) struct Rows {
     rows: Vec<u32>,

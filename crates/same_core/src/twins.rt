@@ -6,8 +6,8 @@ use indexmap::IndexMap;
 use stage_guesser::{Draws, Signature, WORDS};
 use std::alloc::Global;
 
-/// By row of a variable its values on some patterns of the inputs and the literal that it was shown to equal; and by operands
-/// and by values the gates of the first graph. No answer depends on it.
+/// By row of a variable its values on some patterns of the inputs and the literal that it was shown to equal; and by
+/// operands and by values the gates of the first graph. No answer depends on it.
 #[derive(Drop)]
 pub(crate) struct Twins {
     rows: Rows,
@@ -98,8 +98,9 @@ impl Twins {
         Ok(())
     }
 
-    /// A literal of the first graph that a gate of the second one may equal: one of a gate with equal operands, else one
-    /// with the same values. None where no output depends on the gate, or it equals a literal by propagation alone.
+    /// A literal of the first graph that a gate of the second one may equal: one of a gate with equal operands, else
+    /// one with the same values. None where no output depends on the gate, or it equals a literal by propagation
+    /// alone.
     pub(crate) fn candidate(&mut self, gate: &Gate) -> Option<Lit> {
         if !self.is_read(gate) {
             return None;

@@ -66,7 +66,7 @@ take-behind [] ys t h = (t, refl)
 take-behind (x ∷ xs) ys zero h = absurd (omega arith)
 take-behind (x ∷ xs) ys (suc t) h = let rest = take-behind xs ys t (omega arith) in (rest.0, ap (λ zs. x ∷ zs) rest.1)
 
--- what goes by groups up to some steps, and behind them
+-- what goes by groups up to some steps, and after them
 goes-append : (gs : List (List ℕ)) (xs ys : List Step) → GoesByGroups gs xs → ((j : ℕ) → AreByGroups gs (taken (taken nothing xs) (take j ys)).eliminated) → GoesByGroups gs (xs ++ ys)
 goes-append gs xs ys h k t =
     ⊎_elim (λ lt. subst (λ ss. AreByGroups gs (taken nothing ss).eliminated) (sym (take-front xs ys t (omega arith))) (h t))

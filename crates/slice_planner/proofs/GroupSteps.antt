@@ -56,7 +56,7 @@ columns_unread (x ∷ ls) (suc below) v h = at (variable_of x == v) refl (column
     at true e rest = let later = h 0 x refl (eqb-true (variable_of x) v e) in absurd (omega arith)
     at false e rest = omega arith
 
--- ---- behind other gates
+-- ---- after other gates
 
 or_moved : (a b c : Bool) → (a || (b || c)) ≡ ((b || a) || c)
 or_moved true true c = refl
@@ -195,7 +195,7 @@ any_default (x ∷ xs) zero a b low = refl
 any_default (x ∷ xs) (suc n) a b low = any_default xs n a b (omega arith)
 
 module _ (e : Extended) (steps : List Step) (below : ℕ) (gone : List Bool) (readers : List ℕ) (t : IsTaking (took e steps below) gone readers) (made : IsExtension e) where
-  -- whether a gate can go behind others
+  -- whether a gate can go after others
   pub goes_exactly : (u : Took) (front : List Gate) (x : Gate) (a b : ℕ) → took e steps below ≡ u → All (Contains u.extended.gates) front → AreSteps u.extended (taken nothing u.steps) (map Eliminate (variables front)) →
       Contains u.extended.gates x → has (taken (taken nothing u.steps) (map Eliminate (variables front))).eliminated x.v ≡ false → slice_index_or readers x.v 0 ≡ a → b ≡ read_by_gates front [] x.v →
       (((a == b) ≡ true) → CanEliminate u.extended (taken (taken nothing u.steps) (map Eliminate (variables front))) x.v) × (CanEliminate u.extended (taken (taken nothing u.steps) (map Eliminate (variables front))) x.v → (a == b) ≡ true)

@@ -142,7 +142,7 @@ swept_columns e f (u ∷ gs) =
     by_cases (λ t. columns_added (cond t (map Eliminate u ++ swept e (taken f (map Eliminate u)) gs) (swept e f gs)) ≡ []) (can_all_go e f u)
     (λ t. columns-append (map Eliminate u) (swept e (taken f (map Eliminate u)) gs) ∙ ap₂ ◌++◌ (no_columns u) (swept_columns e (taken f (map Eliminate u)) gs)) (λ t. swept_columns e f gs)
 
--- a group with those before and behind it
+-- a group with those before and after it
 pub record IsOne (gs : List (List ℕ)) (u : List ℕ) : Type 0 where
   pub before : List (List ℕ)
   pub behind : List (List ℕ)

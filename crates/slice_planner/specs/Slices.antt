@@ -9,7 +9,7 @@ use Rattle.slice_planner.specs.Groups.{GoesByGroups, groups}
 use Rattle.slice_planner.specs.SlicePlan.{columns_added, count_down}
 
 -- A plan that adds the columns from the last down to 0, each once. Over adders and products of inputs, each gate listed
--- behind those that it reads, it goes by the groups of the list.
+-- after those that it reads, it goes by the groups of the list.
 pub record IsSlicePlan (e : Extended) (steps : List Step) : Type 0 where
   pub plan : IsPlan e steps
   pub columns : columns_added steps ≡ count_down (length e.graph.outputs)

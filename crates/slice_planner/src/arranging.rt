@@ -69,7 +69,7 @@ fn is_single_reader(extended: &Extended<'_>, group: &[Gate]) -> bool
     }
 }
 
-// Whether each gate is listed behind those that it reads.
+// Whether each gate is listed after those that it reads.
 fn is_in_order(alloc: Global, extended: &Extended<'_>) -> Result<bool, Memory>
     ensures { IfOk result (λ r. AreInOrder extended.now.gates → r ≡ true) }
 {
@@ -128,7 +128,7 @@ fn keys_of(alloc: Global, extended: &Extended<'_>) -> Result<Vec<(u32, u32, usiz
         let level = if gate.v <= graph.max() {
             graph.level(gate.v)
         } else {
-            // the added gates are listed behind those that they read
+            // the added gates are listed after those that they read
             let (left, right) = (
                 levels[gate.left.var() as usize],
                 levels[gate.right.var() as usize],

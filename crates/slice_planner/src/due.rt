@@ -1,12 +1,12 @@
-// The column behind which each group of gates is due.
+// The column after which each group of gates is due.
 use crate::arrangement::Arrangement;
 use graph_core::{Gate, Memory};
 use ripple_graft::Extended;
 use std::alloc::Global;
 
-/// By column: the places of the groups that are due behind it, in their order.
+/// By column: the places of the groups that are due after it, in their order.
 ///
-/// A group is due behind the least column that has an output of it, or behind which a reader of it is due.
+/// A group is due after the least column that has an output of it, or after which a reader of it is due.
 pub(crate) fn due_groups(
     alloc: Global,
     extended: &Extended<'_>,

@@ -38,7 +38,7 @@ pub(crate) fn gate_of(extended: &Extended<'_>, v: u32) -> Option<Gate>
     }
 }
 
-// The gates of the group at a place behind others, if there is one.
+// The gates of the group at a place after others, if there is one.
 fn push_group(
     gates: &mut Vec<Gate>,
     extended: &Extended<'_>,
@@ -55,7 +55,7 @@ fn push_group(
     }
 }
 
-// The gates of some variables behind others.
+// The gates of some variables after others.
 fn push_gates(gates: &mut Vec<Gate>, extended: &Extended<'_>, group: &[u32]) -> Result<(), Memory>
     requires { All (Contains extended.now.gates) gates.old.items }
     ensures gates { OnOk result (All (Contains extended.now.gates) gates.new.items) }
@@ -67,7 +67,7 @@ fn push_gates(gates: &mut Vec<Gate>, extended: &Extended<'_>, group: &[u32]) -> 
     Ok(())
 }
 
-// The gate of a variable behind others, if it is one's.
+// The gate of a variable after others, if it is one's.
 fn push_gate(gates: &mut Vec<Gate>, extended: &Extended<'_>, v: u32) -> Result<(), Memory>
     requires { All (Contains extended.now.gates) gates.old.items }
     ensures gates { OnOk result (All (Contains extended.now.gates) gates.new.items) }

@@ -17,7 +17,7 @@ use graph_core::Memory;
 use ripple_graft::Extended;
 use std::alloc::Global;
 
-/// The columns from the last down to 0, and behind each the gates that nothing reads any more: those nearest to the
+/// The columns from the last down to 0, and after each the gates that nothing reads any more: those nearest to the
 /// outputs first, full adders whole. Where the gates stand in the list and how they are numbered counts for little.
 pub(crate) fn layered_steps<'a>(
     alloc: Global,
@@ -76,7 +76,7 @@ fn gates_in_layers(alloc: Global, extended: &Extended<'_>) -> Result<Arrangement
     grouped(alloc, extended, &gates, &places)
 }
 
-// The columns, and behind each those of the groups that are due there and can go; what is left goes in an order of its
+// The columns, and after each those of the groups that are due there and can go; what is left goes in an order of its
 // own.
 fn steps_by<'a>(
     alloc: Global,

@@ -2,7 +2,7 @@
 //!
 //! `column_steps` gives the steps of a plan in one of four orders, over any extended graph. By `Slices` the gates go
 //! after each column that can go then. They are taken in groups, each whole or not at all: the half and full adders of
-//! a list that is adders over products of inputs, and else single gates by their levels. Behind which column a group is
+//! a list that is adders over products of inputs, and else single gates by their levels. After which column a group is
 //! tried is a guess: it goes only where nothing else reads its gates any more, and what no guess reached goes at the
 //! end. So every graph has such a plan, and over a multiplier that is made of adders it goes adder by adder and its
 //! frontiers are small.

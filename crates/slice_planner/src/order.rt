@@ -20,7 +20,7 @@ pub enum Order {
     ByColumn,
     /// after all columns, by their layers
     AtEnd,
-    /// after all columns, tops of exclusive ors behind all others
+    /// after all columns, tops of exclusive ors after all others
     SumsLast,
 }
 

@@ -14,8 +14,8 @@ use graph_core::Memory;
 use ripple_graft::Extended;
 use std::alloc::Global;
 
-/// The steps of a slice plan: the columns from the last down to 0, and behind each the groups of gates that are due
-/// there and can go. Over adders and products of inputs, each gate listed behind those that it reads, the groups are
+/// The steps of a slice plan: the columns from the last down to 0, and after each the groups of gates that are due
+/// there and can go. Over adders and products of inputs, each gate listed after those that it reads, the groups are
 /// those of the list.
 pub(crate) fn slice_steps<'a>(
     alloc: Global,
@@ -33,7 +33,7 @@ pub(crate) fn slice_steps<'a>(
     taking.finish(&arrangement)
 }
 
-/// Eliminates those of the groups that are due behind a column that can go.
+/// Eliminates those of the groups that are due after a column that can go.
 pub(crate) fn take_due(
     taking: &mut Taking<'_>,
     arrangement: &Arrangement,

@@ -11,7 +11,7 @@ use ripple_graft::Extended;
 use std::alloc::Global;
 use std::collections::BinaryHeap;
 
-/// The gates alone, each behind those that read it. Of those whose readers all come before, first one that isn't the
+/// The gates alone, each after those that read it. Of those whose readers all come before, first one that isn't the
 /// top of an exclusive or, by greater level; where there is none, the top with the fewest tops between an output and
 /// it.
 pub(crate) fn sums_last(alloc: Global, extended: &Extended<'_>) -> Result<Arrangement, Memory>
@@ -30,7 +30,7 @@ pub(crate) fn sums_last(alloc: Global, extended: &Extended<'_>) -> Result<Arrang
 struct Ready {
     /// by variable: its gate's place in the list
     places: Vec<usize>,
-    /// by variable: how far its gate stands behind the one of greatest level
+    /// by variable: how far its gate stands after the one of greatest level
     ranks: Vec<u32>,
     /// by variable: whether its gate is the top of an exclusive or
     tops: Vec<bool>,
@@ -108,7 +108,7 @@ impl Ready {
         Ok(())
     }
 
-    // The places of the gates, each behind those that read it.
+    // The places of the gates, each after those that read it.
     fn take_all(self, alloc: Global, extended: &Extended<'_>) -> Result<Vec<usize>, Memory> {
         let mut ready = self;
         let mut order = Vec::new(alloc);

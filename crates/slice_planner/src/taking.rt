@@ -192,7 +192,7 @@ impl<'a> Taking<'a> {
         true
     }
 
-    // Whether a gate can go behind others, which can.
+    // Whether a gate can go after others, which can.
     fn can_go_behind(&self, front: &[Gate], gate: Gate) -> bool
         requires gate { Contains self.now.extended.gates gate }
         requires gates { All (Contains self.now.extended.gates) front.now }

@@ -8,8 +8,8 @@
 //! (`pattern_value`). `is` is true exactly where two are equal. `Draws` are numbers to draw patterns by.
 //!
 //! *Cut*: `specs/Blocks.antt` of `ripple_graft`. *Value* on a pattern: `specs/Values.antt`. Of `candidate` only that
-//! the answer is a cut is proved: which one it is, is advice. Which numbers are drawn, and which key a signature has,
-//! is too.
+//! the answer is a cut is proved: which one it is, is a heuristic. Which numbers are drawn, and which key a signature
+//! has, is too.
 #![tactic(auto)]
 
 mod chain;

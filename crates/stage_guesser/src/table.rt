@@ -136,7 +136,7 @@ impl Table {
         }
     }
 
-    // The key of a variable, which is behind all lower ones.
+    // The key of a variable, which is after all lower ones.
     fn enter(&mut self, v: u32) -> Result<(), Memory> {
         let key = self.signature(Lit(v.wrapping_mul(2))).key();
         if let Some(entry) = self.keys.get_mut(v as usize) {

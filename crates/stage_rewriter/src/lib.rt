@@ -2,8 +2,8 @@
 //!
 //! `rewrite` looks for the final stage, grafts the adder, holds the goals against a few inputs, and has the negation of
 //! each goal refuted, column by column upward, within a budget of conflicts. What it answers is one of four kinds, each
-//! by its cause: the lines of a lawful clause certificate, no final stage, numbers at which an output differs, or a spent
-//! budget with the log that spent it. `rewrite_at` does the same with any cut in place of the final stage.
+//! by its cause: the lines of a lawful clause certificate, no final stage, numbers at which an output differs, or a
+//! spent budget with the log that spent it. `rewrite_at` does the same with any cut in place of the final stage.
 //!
 //! *Final stage*: `specs/FinalStage.antt` of `adder_finder`. *Goals*, *lawful lines*, *lemma*: `GateClauses`,
 //! `ClauseLines` and `Log` in `specs/` of `clause_core`. *Spent*: `specs/Refutations.antt` of `goal_refuter`.

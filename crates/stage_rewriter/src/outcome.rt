@@ -17,7 +17,8 @@ use std::alloc::Global;
 
 /// Refutes the negation of each goal that isn't met, within so many conflicts: over the clauses near the adder, so deep
 /// below its pairs, and where that doesn't come off, over all. First the goals are held against a few inputs, so that a
-/// wrong adder costs no conflict. Where no conflict is allowed, the first goal is looked at without a clause being made.
+/// wrong adder costs no conflict. Where no conflict is allowed, the first goal is looked at without a clause being
+/// made.
 pub(crate) fn refute_all(
     alloc: Global,
     extended: &Extended<'_>,

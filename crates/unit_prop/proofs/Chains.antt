@@ -99,7 +99,7 @@ alone_is_free s alone i below none = let units = alone.1 in let u = alone.0.by_u
     differ : (r : ℕ) → ◌≡◌ {A = Option ℕ} (Some r) None → ⊥
     differ r e = absurd cc
 
--- what is assumed behind one assumption more
+-- what is assumed after one assumption more
 pub assumed_with : (lits : List ℤ) (rs : List (Option ℕ)) (l k : ℤ) → length rs ≡ length lits → Contains (assumed_in (lits ++ l ∷ []) (rs ++ None ∷ [])) k → Contains (assumed_in lits rs) k ⊎ (k ≡ l)
 assumed_with [] [] l k even h = inr (one h)
   where

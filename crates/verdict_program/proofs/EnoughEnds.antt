@@ -1,4 +1,4 @@
--- A run that has enough budget ends with status 0, but for a fault or want of memory.
+-- A run that has enough budget ends with status 0, but for a fault or out of memory.
 use Rattle.std.proofs.Common.{ℕ, List, ap, refl, sym, subst, inl, inr}
 use Rattle.std.specs.Prelude.{None, IfSome}
 use Rattle.command_core.specs.Stopping.{GivesDue}

@@ -21,7 +21,7 @@ pub fn graph_report(why: ReadFail) -> Report
         ),
         ReadFail::Header(field) => header_report(field),
         ReadFail::Graph(fault) => fault_report(fault),
-        // A failed read, a length and want of memory are answers of their own.
+        // A failed read, a length and out of memory are answers of their own.
         _ => Report::new(),
     }
 }

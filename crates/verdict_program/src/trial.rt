@@ -39,7 +39,7 @@ const PRODUCT: Claim = Claim {
 };
 
 /// Makes the multiplier that a number names, gives a verdict on it within the default budgets, and where it is proved
-/// judges the certificates. All files are in memory, and what is refused there is want of memory.
+/// judges the certificates. All files are in memory, and what is refused there is out of memory.
 pub fn trial(alloc: Global, number: u64) -> Tested
     ensures { IsTested (multiplier_of number) result }
 {
@@ -125,7 +125,7 @@ fn check_pair(alloc: Global, desk: &mut HonestDesk, multiplier: Multiplier, note
     }
 }
 
-// What is refused in memory is want of memory, also to write: no read fails there, and the files are as they should be.
+// What is refused in memory is out of memory, also to write: no read fails there, and the files are as they should be.
 fn refused(why: Stop) -> Tested
     requires { IsOfMemory why }
     ensures { result ≡ Memory }

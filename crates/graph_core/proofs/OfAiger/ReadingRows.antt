@@ -37,7 +37,7 @@ with_symbols : graph_at Multiplier (codes "aag 3 2 0 2 1 0 0 0 0" ++ drop 13 one
 unfolding header_at rest_at ascii_at symbol_at fault_of
 with_symbols = refl
 
--- a symbol's number that is too large is refused at its first digit, whatever comes behind it
+-- a symbol's number that is too large is refused at its first digit, whatever comes after it
 symbol_too_large : graph_at Multiplier (codes "aag 3 2 0 2 1 0 0 0 0" ++ drop 13 one_bit_text ++ codes "i2 a" ++ line_feed ++ codes "o1 high" ++ line_feed) ≡ Err (Text 37)
 unfolding header_at rest_at ascii_at symbol_at fault_of
 symbol_too_large = refl

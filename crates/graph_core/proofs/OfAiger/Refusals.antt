@@ -85,7 +85,7 @@ module _ (form : Form) (c : Counts) where
   pub rest_longest : (bytes rest : List ℕ) → rest_at form c bytes ≡ Err (Stops rest) → (n : ℕ) × IsLongest (IsRestOrWrong form c) bytes n × (n + length rest ≡ length bytes)
   rest_longest = longest Some_listing (rest_at form c) (rest_sound form c) (IsRestOrWrong form c) rest_into rest_out
 
-  -- reading ends behind the first n bytes exactly where the rest is refused there
+  -- reading ends after the first n bytes exactly where the rest is refused there
   pub rest_refused : (bytes : List ℕ) (e : Stop) → rest_at form c bytes ≡ Err e → (n : ℕ) × IsRestRefusal form c bytes n × (n + length (left_of e) ≡ length bytes)
   rest_refused bytes (Wrong here) h =
       let m = (rest_sound form c).misfit bytes here h in
@@ -127,7 +127,7 @@ lists_take p bytes g h = go (header_at bytes) refl h
     go (Ok x) e f = lists_join p bytes g (field_step x.0.0 x.0.1 x.1 (header_takes bytes x.0.0 x.0.1 x.1 e) (refused_field p x.0.0 x.0.1) refl f)
     go (Err x) e f = absurd (cc)
 
--- reading behind a header of which no field is refused
+-- reading after a header of which no field is refused
 pub behind_good : (p : Profile) (bytes : List ℕ) (form : Form) (numbers rest : List ℕ) → HasHeader bytes form numbers rest → refused_field p form numbers ≡ None → lists_at p bytes ≡ or_text bytes (rest_at form (counts_of numbers) rest)
 behind_good p bytes form numbers rest header none =
     ap (behind_header p bytes) (has_header_read bytes form numbers rest header) ∙ ap (behind_fields bytes form numbers rest) none

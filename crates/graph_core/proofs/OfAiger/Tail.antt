@@ -1,4 +1,4 @@
--- What follows the gates, and the whole rest behind a header: where reading ends, and that the number of bytes to come is no matter.
+-- What follows the gates, and the whole rest after a header: where reading ends, and that the number of bytes to come is no matter.
 use Rattle.std.specs.Prelude.{◌≡◌, ℕ, zero, suc, ◌<◌, ◌≤◌, Bool, true, false, cond, ◌⊎◌, List, [], ◌∷◌, ◌++◌, length, ◌==◌, Result, Ok, Err}
 use Rattle.std.proofs.Common.{refl, sym, ap, subst, ◌∙◌, arith, append_assoc, length-append, inl, inr, ⊎_elim, eqb-true}
 use Rattle.graph_core.specs.Aiger.{Form, Counts, Listing}
@@ -126,7 +126,7 @@ module _ (c : Counts) where
       open_end : (more : List ℕ) × EndsWell (front ++ more)
       blocked : (b : ℕ) (tail : List ℕ) → rest ≡ b ∷ tail → (more : List ℕ) → Ends (front ++ b ∷ more) (Err (Stops (b ∷ more)))
 
-    -- the first byte stays where a list is cut behind it
+    -- the first byte stays where a list is cut after it
     first_stays : (b d : ℕ) (bytes front tail more : List ℕ) → (b == 99) ≡ false → b ∷ bytes ≡ front ++ d ∷ tail → GoesOn (front ++ d ∷ more)
     first_stays b d bytes [] tail more e is = let same : b ≡ d = cc in subst (λ y. (y == 99) ≡ false) same e
     first_stays b d bytes (f ∷ front) tail more e is = let same : b ≡ f = cc in subst (λ y. (y == 99) ≡ false) same e

@@ -153,7 +153,7 @@ level_add gates (suc d) t v h = let e : suc (d + t) ≡ suc d + t = omega arith 
 pub level_le : (gates : List Gate) (t s v : ℕ) → t ≤ s → levelled gates t v ≡ true → levelled gates s v ≡ true
 level_le gates t s v l h = let e : s - t + t ≡ s = omega arith in subst (λ n. levelled gates n v ≡ true) e (level_add gates (s - t) t v h)
 
--- no variable first gets a level in the round behind t
+-- no variable first gets a level in the round after t
 abbrev IsStable : List Gate → ℕ → Type 0
 IsStable gates t = (v : ℕ) → levelled gates (suc t) v ≡ true → levelled gates t v ≡ true
 

@@ -132,7 +132,7 @@ b_part_from : {X : Type 0} (P : X → Type 0) (order : Order) (n : ℕ) (xs : Li
 b_part_from P Separate n xs h = dropped_from P n xs h
 b_part_from P Interleaved n xs h = odds_from P xs h
 
--- the three lists one behind the other
+-- the three lists one after the other
 three_from : {X : Type 0} (P : X → Type 0) (xs ys zs : List X) → AllByRecursion P xs → AllByRecursion P ys → AllByRecursion P zs → All P (xs ++ (ys ++ zs))
 three_from P xs ys zs h k l =
     All-append P xs (ys ++ zs) (All-from_recursion P xs h) (All-append P ys zs (All-from_recursion P ys k) (All-from_recursion P zs l))

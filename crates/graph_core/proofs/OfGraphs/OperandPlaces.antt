@@ -140,7 +140,7 @@ number_step bits (suc i) a x some h e f =
     let value : x ≡ bit (get_or bits i false) = f ∙ ap (λ k. bit (get_or bits k false)) here in
     omega (arith, ap (λ k. number_of (drop k bits)) here)
 
--- behind the first bit of at most w + 1 there is room for one more
+-- after the first bit of at most w + 1 there is room for one more
 pub number_fits : (bits : List Bool) (w i : ℕ) → 0 < i → length bits ≤ w + 1 → number_of (drop i bits) < 2 ^ w
 number_fits bits w i some narrow =
     let low = number_of-low (drop i bits) in

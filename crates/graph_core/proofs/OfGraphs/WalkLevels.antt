@@ -28,7 +28,7 @@ reads_lower gates apart x u k some reads level = ⊎_elim (λ a. absurd (not_fre
         (λ h. (i, subst (λ v. IsLevel gates v i) (ap (λ z. variable_of z.left) same ∙ h) l, omega arith))
         (λ h. (j, subst (λ v. IsLevel gates v j) (ap (λ z. variable_of z.right) same ∙ h) r, omega arith)) reads
 
--- gates that stand behind those that they read have levels
+-- gates that stand after those that they read have levels
 module _ (gates done : List Gate) (some : All (Contains gates) done) (left : (i : ℕ) (d : Gate) → i < length done → IsSettled gates (take i done) (variable_of (slice_index_or done i d).left))
     (right : (i : ℕ) (d : Gate) → i < length done → IsSettled gates (take i done) (variable_of (slice_index_or done i d).right)) where
   settled_has : (before : List Gate) (v : ℕ) → ((y : Gate) → Contains before y → HasLevel gates y.v) → IsSettled gates before v → HasLevel gates v

@@ -28,13 +28,13 @@ pub start_next : (bytes line rest : List ℕ) → IsLineStart bytes (line ++ new
 start_next bytes line rest h =
     ⊎_elim (λ e. inr (line, e)) (λ b. inr (b.0 ++ newline ∷ line, b.1 ∙ sym (append_assoc b.0 (newline ∷ line) (newline ∷ rest)))) h
 
--- a start behind a start
+-- a start after a start
 pub start_later : (bytes left more : List ℕ) → IsLineStart bytes left → IsLineStart left more → IsLineStart bytes more
 start_later bytes left more h i =
     ⊎_elim (λ e. subst (IsLineStart bytes) e h)
     (λ b. ⊎_elim (λ e. inr (b.0, e ∙ b.1)) (λ a. inr (a.0 ++ newline ∷ b.0, a.1 ∙ ap (λ z. a.0 ++ newline ∷ z) b.1 ∙ sym (append_assoc a.0 (newline ∷ b.0) (newline ∷ more)))) h) i
 
--- what is left behind a line feed, in a text whose first line is known
+-- what is left after a line feed, in a text whose first line is known
 behind_first : (line rest before left : List ℕ) → HasNoNewline line → line ++ newline ∷ rest ≡ before ++ newline ∷ left → IsLineStart rest left
 behind_first [] rest [] left no' e = let f : rest ≡ left = cc in inl f
 behind_first [] rest (b ∷ before) left no' e = let f : rest ≡ before ++ newline ∷ left = cc in inr (before, f)
@@ -67,7 +67,7 @@ module _ {State Line : Type 0} (IsText : List ℕ → Line → Type 0) (Step : S
   behind_map F G f [] s bytes h = f s bytes h
   behind_map F G f (x ∷ xs) s bytes h = (h.0, h.1, h.2, h.3, h.4, behind_map F G f xs h.1 h.0 h.5)
 
-  -- where one of two things holds, one of them holds behind all lines
+  -- where one of two things holds, one of them holds after all lines
   pub behind_either : (F G : State → List ℕ → Type 0) (xs : List Line) (s : State) (bytes : List ℕ) → Behind IsText Step IsLong (λ t left. F t left ⊎ G t left) xs s bytes →
       Behind IsText Step IsLong F xs s bytes ⊎ Behind IsText Step IsLong G xs s bytes
   behind_either F G [] s bytes h = h
@@ -78,14 +78,14 @@ module _ {State Line : Type 0} (IsText : List ℕ → Line → Type 0) (Step : S
   behind_some R [] s bytes h = h
   behind_some R (x ∷ xs) s bytes h = let more = behind_some R xs h.1 h.0 h.5 in (more.0, (h.0, h.1, h.2, h.3, h.4, more.1))
 
-  -- what is reached behind the lines
+  -- what is reached after the lines
   pub reached : (F : State → List ℕ → Type 0) (xs : List Line) (s : State) (bytes : List ℕ) → Behind IsText Step IsLong F xs s bytes → (t : State) × (left : List ℕ) × IsLineStart bytes left × F t left
   reached F [] s bytes h = (s, bytes, start_here bytes, h)
   reached F (x ∷ xs) s bytes h =
       let more = reached F xs h.1 h.0 h.5 in
       (more.0, more.1, start_later bytes h.0 more.1 (inr (h.3.0, h.3.2)) more.2, more.3)
 
-  -- each line start is short where that holds behind the lines
+  -- each line start is short where that holds after the lines
   pub behind_short : (F : State → List ℕ → Type 0) → ((line : List ℕ) (x : Line) → IsText line x → HasNoNewline line) → ((s : State) (left : List ℕ) → F s left → ShortFrom IsLong left) →
       (xs : List Line) (s : State) (bytes : List ℕ) → Behind IsText Step IsLong F xs s bytes → ShortFrom IsLong bytes
   behind_short F no' f [] s bytes h = f s bytes h
@@ -174,7 +174,7 @@ exact_map f e = record {
   one = λ a b r s. r.2 ∙ ap f (e.one r.0 s.0 r.1 s.1) ∙ sym s.2;
 }
 
--- causes of one thing, and behind it those of another
+-- causes of one thing, and after it those of another
 pub then_exact : {C D G H : Type 0} {Refused : C → Type 0} {Others : D → Type 0} (f : C → D) → IsExact G Refused → IsExact H Others → IsExact (G × H) (λ d. ((c : C) × Refused c × (d ≡ f c)) ⊎ (G × Others d))
 then_exact f e h = record {
   decided = ⊎_elim (λ g. ⊎_elim (λ k. inl (g, k)) (λ s. inr (s.0, inr (g, s.1))) h.decided) (λ r. inr (f r.0, inl (r.0, r.1, refl))) e.decided;

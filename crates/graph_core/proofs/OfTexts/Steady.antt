@@ -1,4 +1,4 @@
--- Readers whose answer at a byte does not depend on the bytes behind it.
+-- Readers whose answer at a byte does not depend on the bytes after it.
 use Rattle.std.specs.Prelude.{◌≡◌, ℕ, Bool, true, false, cond, ◌⊎◌, List, [], ◌∷◌, ◌++◌, Result, Ok, Err}
 use Rattle.std.proofs.Common.{refl, sym, ap, subst, ◌∙◌, append_assoc, append-nil, inl, inr, ⊎_elim}
 use Rattle.graph_core.specs.Aiger.Reading.{Stop, Stops, Wrong, ◌>>=◌, Next, Go, Done, No, Bad, advance, scan, from_start}
@@ -30,13 +30,13 @@ bind_err (Err d) f e h = inl (ap Err (same_Err d e h))
 abbrev pub Outcome : {B : Type 0} → (B → Type 0) → (List ℕ → Result B Stop) → List ℕ → Type 0
 Outcome {B} P R bytes = ((x : B) × P x × (R bytes ≡ Ok x)) ⊎ ((here : List ℕ) × (R bytes ≡ Err (Wrong here)))
 
--- what was read, whatever comes behind it
+-- what was read, whatever comes after it
 pub record IsTaken {A : Type 0} (R : List ℕ → Result (A × List ℕ) Stop) (bytes : List ℕ) (a : A) (rest : List ℕ) : Type 0 where
   pub front : List ℕ
   pub is : bytes ≡ front ++ rest
   pub again : (more : List ℕ) → R (front ++ more) ≡ Ok (a, more)
 
--- a number out of range, whatever comes behind it
+-- a number out of range, whatever comes after it
 pub record IsMisfit {B : Type 0} (R : List ℕ → Result B Stop) (bytes here : List ℕ) : Type 0 where
   pub front : List ℕ
   pub number : List ℕ

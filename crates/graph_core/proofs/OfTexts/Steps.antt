@@ -7,7 +7,7 @@ use Rattle.graph_core.specs.Aiger.Refusal.{shown, shown_gate, shown_lists}
 use Rattle.graph_core.specs.Text.{space, newline}
 use Rattle.graph_core.specs.declared.literal.Lit.{Lit}
 
--- the byte at a place, and the bytes behind it
+-- the byte at a place, and the bytes after it
 pub next_byte : (bytes : List ℕ) (at : ℕ) → at < length bytes → drop at bytes ≡ get_or bytes at 0 ∷ drop (at + 1) bytes
 next_byte bytes at h = let e : suc at ≡ at + 1 = omega arith in drop-cons bytes at 0 h ∙ ap (λ n. get_or bytes at 0 ∷ drop n bytes) e
 
@@ -32,7 +32,7 @@ room_digit (suc k) v d some l h =
     let e : k ≡ suc k - 1 = omega arith in
     subst (λ j. IsRoom j (10 * v + d)) e (room_less k (10 * v + d) (10 * v + 9) (omega arith) h)
 
--- ---- lines and gates one after the other, where those that are read are pushed behind the others
+-- ---- lines and gates one after the other, where those that are read are pushed after the others
 
 abbrev pub with_front : {A : Type 0} → List A → List A × List ℕ → Result (List A × List ℕ) Stop
 with_front done r = Ok (done ++ r.0, r.1)

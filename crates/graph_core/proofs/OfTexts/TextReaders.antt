@@ -30,7 +30,7 @@ reads_as Other r there back = record {
   again = λ front x rest is follows. r.again front x rest (back front x is) follows;
 }
 
--- and for fewer texts behind it
+-- and for fewer texts after it
 pub reads_before : {A : Type 0} {item : Reader A} {Is : List ℕ → A → Type 0} {Follows : List ℕ → Type 0} (Fewer : List ℕ → Type 0) → IsReaderOf item Is Follows →
     ((rest : List ℕ) → Fewer rest → Follows rest) → IsReaderOf item Is Fewer
 reads_before Fewer r fewer = record {

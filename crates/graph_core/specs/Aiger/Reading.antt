@@ -41,7 +41,7 @@ advance more b bytes (Done a) = Ok (a, bytes)
 advance more b bytes No = Err (Stops (b ∷ bytes))
 advance more b bytes Bad = Err (Wrong (b ∷ bytes))
 
--- a value and the bytes behind it
+-- a value and the bytes after it
 abbrev pub scan : {S A : Type 0} → (S → ℕ → Next S A) → S → List ℕ → Result (A × List ℕ) Stop
 scan step s [] = Err (Stops [])
 scan step s (b ∷ bytes) = advance (λ t. scan step t bytes) b bytes (step s b)
@@ -70,7 +70,7 @@ byte_at x bytes = byte_where (the_byte x) bytes
 
 -- ---- numerals of up to ten digits
 
--- before the first digit, or behind some, with so many more allowed, and their number
+-- before the first digit, or after some, with so many more allowed, and their number
 pub data Digits : Type 0 where
   Before : Digits
   Behind : ℕ → ℕ → Digits
@@ -90,11 +90,11 @@ digit_step ends fits (Behind (suc k) n) b = if is_digit b then judged fits k (10
 abbrev pub numeral_at : (ℕ → Bool) → List ℕ → Result ((ℕ × ℕ) × List ℕ) Stop
 numeral_at ends bytes = scan (digit_step ends (λ n. true)) Before bytes
 
--- a numeral that has the byte x behind it
+-- a numeral that has the byte x after it
 abbrev pub field_at : ℕ → List ℕ → Result (ℕ × List ℕ) Stop
 field_at x bytes = numeral_at (λ b. b == x) bytes >>= λ n. Ok (n.0.0, n.1)
 
--- a numeral below the bound, and the space behind it
+-- a numeral below the bound, and the space after it
 abbrev pub number_below : ℕ → List ℕ → Result (ℕ × List ℕ) Stop
 number_below bound bytes = from_start bytes (scan (digit_step (λ b. b == space) (λ n. nat_lt n bound)) Before bytes) >>= λ n. Ok (n.0.0, n.1)
 
@@ -112,7 +112,7 @@ lines_at k (suc n) bytes = line_at k bytes >>= λ line. (lines_at k n line.1 >>=
 
 -- ---- the header
 
--- what may stand behind a number, where `need` more must come and others may
+-- what may stand after a number, where `need` more must come and others may
 abbrev pub behind_number : ℕ → ℕ → ℕ → Bool
 behind_number need zero b = b == newline
 behind_number zero (suc more) b = b == newline || b == space
@@ -122,7 +122,7 @@ abbrev pub one_less : ℕ → ℕ
 one_less zero = zero
 one_less (suc n) = n
 
--- A line of one number, `need` more, and up to `more` in all behind the first.
+-- A line of one number, `need` more, and up to `more` in all after the first.
 abbrev pub numbers_at : ℕ → ℕ → List ℕ → Result (List ℕ × List ℕ) Stop
 numbers_at need zero bytes = field_at newline bytes >>= λ n. Ok (n.0 ∷ [], n.1)
 numbers_at need (suc more) bytes = numeral_at (behind_number need (suc more)) bytes >>= λ n.

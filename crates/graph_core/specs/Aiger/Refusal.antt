@@ -149,7 +149,7 @@ IsRest form c g bytes = (counts g ≡ c) × ((after : List ℕ) × IsBody form g
 
 -- ---- numbers out of range, each of which is refused at its first byte
 
--- A symbol's number: behind symbol lines and an i or o, digits that make a number which is too large.
+-- A symbol's number: after symbol lines and an i or o, digits that make a number which is too large.
 abbrev pub HasWrongSymbol : Counts → List ℕ → List ℕ → Type 0
 HasWrongSymbol c after here = (symbols : List (List ℕ)) × (kind bound n : ℕ) × (digits more : List ℕ) × AllByRecursion (IsSymbolLine c) symbols ×
     (symbol_bound c kind ≡ Some bound) × IsNumeral 10 digits n × (bound ≤ n) × (here ≡ digits ++ more) × (after ≡ concat symbols ++ kind ∷ here)
@@ -178,7 +178,7 @@ pub data Refusal : Type 0 where
   Header : Field → Refusal
   Faulty : GraphFault → Refusal
 
--- The file begins with a header line, and these bytes are behind it.
+-- The file begins with a header line, and these bytes are after it.
 abbrev pub HasHeader : List ℕ → Form → List ℕ → List ℕ → Type 0
 HasHeader bytes form numbers rest = (front : List ℕ) × IsHeaderText front form numbers × (bytes ≡ front ++ rest)
 
@@ -197,7 +197,7 @@ IsHeaderLine bytes = (form : Form) × (numbers : List ℕ) × IsHeaderText bytes
 abbrev pub IsRestOrWrong : Form → Counts → List ℕ → Type 0
 IsRestOrWrong form c bytes = ((g : Listing) × IsRest form c g bytes) ⊎ ((here : List ℕ) × HasWrongNumber form c bytes here)
 
--- What follows the header is refused behind its first n bytes: at a number out of range, or else where the longest front ends
+-- What follows the header is refused after its first n bytes: at a number out of range, or else where the longest front ends
 -- that begins what may follow a header.
 abbrev pub IsRestRefusal : Form → Counts → List ℕ → ℕ → Type 0
 IsRestRefusal form c rest n =

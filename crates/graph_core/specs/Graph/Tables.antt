@@ -38,12 +38,12 @@ pub record FitsTable (max : ℕ) (x : Gate) : Type 0 where
   pub left : variable_of x.left ≤ max
   pub right : variable_of x.right ≤ max
 
--- Gates of which each stands behind those that it reads.
+-- Gates of which each stands after those that it reads.
 pub record IsOrdered (gates : List Gate) : Type 0 where
   pub left : (i : ℕ) (d : Gate) → i < length gates → IsSettled gates (take i gates) (variable_of (slice_index_or gates i d).left)
   pub right : (i : ℕ) (d : Gate) → i < length gates → IsSettled gates (take i gates) (variable_of (slice_index_or gates i d).right)
 
--- The same gates, once each, behind those that they read.
+-- The same gates, once each, after those that they read.
 pub record IsSchedule (gates schedule : List Gate) : Type 0 where
   pub some : All (Contains gates) schedule
   pub all : All (Contains schedule) gates

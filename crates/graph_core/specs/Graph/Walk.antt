@@ -46,7 +46,7 @@ ReadsVariable x v = (variable_of x.left ≡ v) ⊎ (variable_of x.right ≡ v)
 pub record AreVisits (w : Visits) : Type 0 where
   pub in_range : All (FitsPlaces (length w.marks)) w.gates
   pub distinct : AllPairs ◌≢◌ (map (λ x. x.v) w.gates)
-  -- what is done: variables of no gate, and those of the scheduled gates, each behind those that it reads
+  -- what is done: variables of no gate, and those of the scheduled gates, each after those that it reads
   pub free : (v : ℕ) → IsFree w.gates v → mark_of w v ≡ Done
   pub done : (v : ℕ) → mark_of w v ≡ Done → IsSettled w.gates w.schedule v
   pub some : All (Contains w.gates) w.schedule

@@ -4,7 +4,7 @@ use Rattle.std.specs.declared.option.Option.{Option}
 use Rattle.std.specs.declared.option.Option.TheVariants.{None, Some}
 use Rattle.graph_core.specs.Text.Numerals.{◌>>=◌, front_at}
 
--- A reader gives a value and the bytes behind it, or nothing.
+-- A reader gives a value and the bytes after it, or nothing.
 abbrev pub Reader : Type 0 → Type 0
 Reader A = List ℕ → Option (A × List ℕ)
 
@@ -37,7 +37,7 @@ abbrev pub choose_at : {A : Type 0} → (ℕ → Bool) → Reader A → Reader A
 choose_at test one two [] = None
 choose_at test one two (b ∷ bytes) = if test b then one (b ∷ bytes) else two (b ∷ bytes)
 
--- an item before those that were read behind it
+-- an item before those that were read after it
 abbrev pub put_before : {A : Type 0} → A → Option (List A × List ℕ) → Option (List A × List ℕ)
 put_before x None = None
 put_before x (Some xs) = Some (x ∷ xs.0, xs.1)

@@ -11,7 +11,7 @@ use std::alloc::Global;
 
 /// Files in memory that tell everything. Opening and reading never fail: a name that isn't held opens as an empty file.
 ///
-/// Creating and writing may fail for want of memory.
+/// Creating and writing may fail where memory runs out.
 #[derive(Drop)]
 pub struct HonestDesk {
     shelf: Shelf,

@@ -15,7 +15,7 @@ use std::alloc::Global;
 /// Files in memory that tell everything. The desk cuts its reads and its writes into pieces, and fails at the calls of
 /// a list.
 ///
-/// A name that isn't held fails to open. Creating and writing may also fail for want of memory.
+/// A name that isn't held fails to open. Creating and writing may also fail where memory runs out.
 #[derive(Drop)]
 pub struct MemoryDesk {
     shelf: Shelf,

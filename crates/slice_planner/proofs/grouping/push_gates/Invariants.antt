@@ -2,7 +2,7 @@ use Rattle.std.specs.Prelude.{◌≤◌, length}
 use Rattle.std.specs.List.{All, Contains}
 use Rattle.slice_planner.proofs.grouping.push_gates.Given as goal
 
--- those before, and gates behind them
+-- those before, and gates after them
 abbrev pub invariant-loop-v : goal.invariant-loop-v
 invariant-loop-v l = record {
   gates : All (Contains l.extended.gates) l.gates.items;

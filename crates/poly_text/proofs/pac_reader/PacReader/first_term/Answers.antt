@@ -14,7 +14,7 @@ returns-in_err-text-clause-err c =
     misfit_passed c.from_residual.result c.in_err-text.field-0.0 c.from_residual.ensures.1
     (no_minus_there c.args.scanner.now (sym c.is_at-negative.ensures ∙ c.if-negative.true)) c.in_err-text.ensures.err
 
--- a term stands behind the minus, or at once
+-- a term stands after the minus, or at once
 term_there : (c : goal.After-term) → first_term_at c.args.scanner.now ≡ term_at c.is_at-negative.result c.if-negative.scanner
 term_there c =
     let old = c.args.scanner.now in
