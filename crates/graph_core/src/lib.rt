@@ -30,6 +30,7 @@ mod operands;
 mod order;
 mod profile;
 mod sign;
+mod widths;
 
 pub use bounds::{MOST_INPUTS, MOST_OUTPUTS, MOST_VARIABLES};
 pub use claim::Claim;
@@ -52,3 +53,4 @@ pub use operands::Operands;
 pub use order::Order;
 pub use profile::Profile;
 pub use sign::Sign;
+pub use widths::Widths;
