@@ -35,8 +35,9 @@ mod widths;
 pub use bounds::{MOST_INPUTS, MOST_OUTPUTS, MOST_VARIABLES};
 pub use claim::Claim;
 pub use evaluation_laws::{
-    claim_is_done, claim_is_product, evaluation_is_one, evaluations_suffice, one_level,
-    sides_are_inputs, sides_read_inputs, spelled_shape, whole_products,
+    claim_is_done, claim_is_product, doing_is_adding, doing_is_multiplying, evaluation_is_one,
+    evaluations_suffice, one_level, sides_are_inputs, sides_are_narrow, sides_read_inputs,
+    spelled_shape, whole_products,
 };
 pub use fault::{BuildFail, Field, GraphFault};
 pub use file_laws::{
