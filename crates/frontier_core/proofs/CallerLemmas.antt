@@ -9,7 +9,7 @@ pub use Rattle.frontier_core.proofs.RestLines.{difference_small}
 use Rattle.std.specs.Prelude.{◌≡◌, ◌≢◌, ℕ, zero, suc, ◌+◌, ◌-◌, ◌<◌, ◌%◌, List, [], ◌∷◌, length, map, get_or, slice_get}
 use Rattle.std.specs.declared.option.Option.TheVariants.{Some}
 use Rattle.std.specs.List.{All}
-use Rattle.std.proofs.Common.{refl, sym, ap, subst, arith}
+use Rattle.std.proofs.Common.{refl, sym, ap, subst, ◌∙◌, arith}
 use Rattle.std.proofs.lemmas.List.Elements.{All-from_recursion}
 use Rattle.std.proofs.lemmas.Option.{none-some, slice_get-get_or}
 use Rattle.graph_core.specs.declared.literal.Lit.{Lit}
@@ -103,7 +103,7 @@ module _ (g : Aig) (s : Sides) (whole : inputs_in s ≡ g.inputs) (once : IsDefi
         get_or s.a 0 d,
         get_or s.b 0 d,
         lowest_at 0 (length s.a) (get_or s.a 0 d) (get_or s.b 0 d) is_a is_b some_a (omega arith) (separate_a s 0 (get_or s.a 0 d) e is_a)
-        (separate_b s (length s.a) (get_or s.b 0 d) e (omega arith) (subst (λ k. slice_get s.b k ≡ Some (get_or s.b 0 d)) (sym here) is_b)),
+            (separate_b s (length s.a) (get_or s.b 0 d) e (omega arith) (subst (λ k. slice_get s.b k ≡ Some (get_or s.b 0 d)) (sym here) is_b)),
       )
   lowest_in Interleaved e even some_a some_b =
       let d : Lit = record { 0 = 0 } in
@@ -112,7 +112,7 @@ module _ (g : Aig) (s : Sides) (whole : inputs_in s ≡ g.inputs) (once : IsDefi
         get_or s.a 0 d,
         get_or s.b 0 d,
         lowest_at 0 1 (get_or s.a 0 d) (get_or s.b 0 d) is_a is_b (omega arith) (omega arith) (interleaved_a s 0 (get_or s.a 0 d) e (even e) (omega arith) is_a)
-        (interleaved_b s 1 (get_or s.b 0 d) e (even e) (omega arith) is_b),
+            (interleaved_b s 1 (get_or s.b 0 d) e (even e) (omega arith) is_b),
       )
 
 -- Operands of widths other than 0 have lowest bits.

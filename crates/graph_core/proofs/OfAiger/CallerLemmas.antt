@@ -1,6 +1,6 @@
 -- What crates above may cite of AIGER files.
-pub use Rattle.graph_core.proofs.OfAiger.Fields.{accepted}
-pub use Rattle.graph_core.proofs.OfAiger.GivenWidths.{both_widths, few_given_inputs, few_given_outputs, outputs_low, passed}
+pub use Rattle.graph_core.proofs.OfAiger.Fields.{accepted, inputs_back, inputs_from}
+pub use Rattle.graph_core.proofs.OfAiger.GivenWidths.{both_widths, few_given_inputs, few_given_outputs, outputs_fit, outputs_low, passed, widths_fit}
 pub use Rattle.graph_core.proofs.OfAiger.Packed.{Counts, all_flat_map, counts_apart, counts_append, counts_contain}
 pub use Rattle.graph_core.proofs.OfAiger.PlacedGates.{ArePlaced, placed-append, placed_count, position_placed}
 pub use Rattle.graph_core.proofs.OfAiger.Readers.{header_steady, symbol_steady}

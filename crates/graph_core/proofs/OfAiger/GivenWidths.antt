@@ -1,7 +1,7 @@
 -- How many inputs and outputs a graph with operands of given widths has.
 use Rattle.std.specs.Prelude.{◌≡◌, ℕ, ◌+◌, ◌/◌, ◌<◌, ◌≤◌, Bool, true, false, cond, nat_lt, ◌&&◌}
-use Rattle.std.proofs.Common.{refl, arith}
-use Rattle.std.proofs.lemmas.Bool.{ltb-true}
+use Rattle.std.proofs.Common.{refl, ap₂, arith}
+use Rattle.std.proofs.lemmas.Bool.{lt-ltb, ltb-true}
 use Rattle.graph_core.specs.Graph.Operands.{addend_width}
 use Rattle.graph_core.specs.Aiger.{are_widths, given_inputs}
 
@@ -22,6 +22,12 @@ both_widths a b h =
     let both = and_true (nat_lt 0 a && nat_lt a 65) (nat_lt 0 b && nat_lt b 65) h in
     (between a both.0, between b both.1)
 
+pub widths_fit : (a b : ℕ) → 1 ≤ a → a ≤ 64 → 1 ≤ b → b ≤ 64 → are_widths a b ≡ true
+widths_fit a b some_a few_a some_b few_b = ap₂ ◌&&◌ (fits a some_a few_a) (fits b some_b few_b)
+  where
+    fits : (n : ℕ) → 1 ≤ n → n ≤ 64 → (nat_lt 0 n && nat_lt n 65) ≡ true
+    fits n some few = ap₂ ◌&&◌ (lt-ltb 0 n (omega (arith, some))) (lt-ltb n 65 (omega (arith, few)))
+
 -- a number from a least to a greatest one, where these are 1 and 0 but for a test that is true
 pub passed : (t : Bool) (n i : ℕ) → cond t n 1 ≤ i → i ≤ cond t n 0 → (t ≡ true) × (i ≡ n)
 passed true n i low high = (refl, omega (arith, low, high))
@@ -31,6 +37,10 @@ passed false n i low high = absurd (omega (arith, low, high))
 pub outputs_low : (add : Bool) (n i o : ℕ) → i ≡ n + addend_width add n → o ≤ cond add (i / 2) i → o ≤ n
 outputs_low false n i o e h = omega (arith, e, h)
 outputs_low true n i o e h = omega (arith, e, h)
+
+pub outputs_fit : (add : Bool) (n i o : ℕ) → i ≡ n + addend_width add n → o ≤ n → o ≤ cond add (i / 2) i
+outputs_fit false n i o e h = omega (arith, e, h)
+outputs_fit true n i o e h = omega (arith, e, h)
 
 -- ---- bounds for all widths
 
