@@ -48,7 +48,7 @@ fn least_of(
     claim: Claim,
     most_ones: u32,
 ) -> Option<(Option<Numbers>, Option<Numbers>)>
-    requires { IsSizedAs (profile_of claim.add) graph.now }
+    requires { IsSizedAs (profile_of claim.widths) graph.now }
 {
     let operands = Operands::under(alloc, graph, claim).ok()?;
     let within = least_within(alloc, graph, &operands, most_ones).ok()?;

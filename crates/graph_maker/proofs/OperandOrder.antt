@@ -99,4 +99,4 @@ carried g h add order sign same d =
 
 pub order_of_operands_is_free : OrderOfOperandsIsFree
 order_of_operands_is_free g h claim same =
-    (carried g h claim.add claim.order claim.sign same, carried h g claim.add claim.order claim.sign (sym same.0, sym same.1, sym same.2, sym same.3))
+    (carried g h claim.widths claim.order claim.sign same, carried h g claim.widths claim.order claim.sign (sym same.0, sym same.1, sym same.2, sym same.3))

@@ -10,7 +10,7 @@ few_bits false g sized = sized.narrow
 few_bits true g sized = sized.narrow
 
 pub under-requires-clause-shape : goal.under-requires-clause-shape
-under-requires-clause-shape c = shape_for c.args.claim.add c.args.graph.now c.requires
+under-requires-clause-shape c = shape_for c.args.claim.widths c.args.graph.now c.requires
 
 pub under-requires-clause-narrow : goal.under-requires-clause-narrow
-under-requires-clause-narrow c = few_bits c.args.claim.add c.args.graph.now c.requires
+under-requires-clause-narrow c = few_bits c.args.claim.widths c.args.graph.now c.requires
