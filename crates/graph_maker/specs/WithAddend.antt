@@ -5,7 +5,7 @@ use Rattle.graph_core.specs.declared.sign.Sign.TheVariants.{Unsigned}
 use Rattle.graph_core.specs.declared.profile.Profile.TheVariants.{MultiplyAdd}
 use Rattle.graph_core.specs.Graph.{Aig, IsWellFormed}
 use Rattle.graph_core.specs.Graph.Literals.{constant_false}
-use Rattle.graph_core.specs.Graph.Operands.{sum_width, HasSumShape, MultipliesAndAdds}
+use Rattle.graph_core.specs.Graph.Operands.{sum_width, HasSumShape, Does, adding}
 use Rattle.graph_maker.specs.declared.kind.Kind.{Kind}
 use Rattle.graph_maker.specs.declared.adder.Adder.{Adder}
 use Rattle.graph_maker.specs.Builder.{literals_from}
@@ -27,7 +27,7 @@ pub record IsMultiplyAdder (n : ℕ) (g : Aig) : Type 0 where
   pub shape : HasSumShape g
   pub whole : length g.outputs ≡ 2 * n
   pub well_formed : IsWellFormed g
-  pub adds : MultipliesAndAdds Unsigned g Separate
+  pub adds : Does (adding Separate Unsigned) g
 
 abbrev pub MadeSumsAdd : Type 0
 MadeSumsAdd = (kind : Kind) (n : ℕ) (adder : Adder) → 0 < n → IsMultiplyAdder n (made_sum kind n adder)

@@ -14,6 +14,9 @@ use Rattle.graph_core.specs.Graph.Operands.{Does, HasShapeFor, claimed_at, has_a
 use Rattle.graph_core.specs.declared.claim.Claim.{Claim}
 use Rattle.graph_core.specs.declared.numbers.Numbers.{Numbers}
 use Rattle.graph_core.specs.declared.profile.Profile.{Profile}
+use Rattle.graph_core.specs.declared.order.Order.TheVariants.{Separate}
+use Rattle.graph_core.specs.declared.sign.Sign.TheVariants.{Unsigned}
+use Rattle.graph_core.proofs.OfGraphs.CallerLemmas.{product_doing}
 use Rattle.graph_core.proofs.OfAiger.CallerLemmas.{shape_for, spelled_shape, well_formed}
 use Rattle.graph_core.proofs.OfTexts.CallerLemmas.{one_graph}
 use Rattle.command_core.specs.Files.{HasGraph, Files}
@@ -32,7 +35,7 @@ use Rattle.frontier_core.specs.Frontier.{frontier_value}
 use Rattle.frontier_core.specs.Plan.{Taken, nothing, taken}
 use Rattle.graph_core.specs.Graph.Extended.{modulus, Extended, without_cut}
 use Rattle.algebra_core.specs.NormalForm.{HasSize}
-use Rattle.graph_maker.specs.Made.{made}
+use Rattle.graph_maker.specs.Made.{IsMadeMultiplier, made}
 use Rattle.graph_maker.specs.declared.adder.Adder.TheVariants.{Ripple}
 use Rattle.graph_maker.proofs.MadeMultiplies.{made_multiplies}
 use Rattle.ripple_graft.specs.declared.cut.Cut.{Cut}
@@ -206,9 +209,12 @@ module _ (g : Aig) (claim : Claim) (budget : ℕ) where
 -- ---- the verdict
 
 module _ (limits : Limits) (task : Task) (file : List ℕ) (h : IsEnough limits.graph task file) where
+  law : IsMadeMultiplier h.bits (made h.kind h.bits Ripple)
+  law = made_multiplies h.kind h.bits Ripple h.some
+
   does : Does task.claim h.graph
   does = (order_of_operands_is_free (made h.kind h.bits Ripple) h.graph task.claim h.same).0
-      (subst (λ k. Does k (made h.kind h.bits Ripple)) (sym h.separate) (made_multiplies h.kind h.bits Ripple h.some).multiplies)
+      (subst (λ k. Does k (made h.kind h.bits Ripple)) (sym h.separate) (product_doing (made h.kind h.bits Ripple) Separate Unsigned law.shape law.multiplies))
 
   spells : SpellsWithin (profile_of task.claim.widths) limits.graph file h.graph
   spells = subst (λ (k : Claim). SpellsWithin (profile_of k.widths) limits.graph file h.graph) (sym h.separate) h.spells

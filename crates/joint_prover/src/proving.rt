@@ -82,7 +82,10 @@ pub fn decide(alloc: Global, task: &Task, graph: &Graph) -> Result<(Decision, No
         differing: numbers_of(&rewritten),
     };
     let (decision, found) = decide_by_plans(alloc, &job)?;
-    Ok((decision, make_note(task.claim.widths.has_addend(), rewritten, found)))
+    Ok((
+        decision,
+        make_note(task.claim.widths.has_addend(), rewritten, found),
+    ))
 }
 
 // The verdict that tells what was decided, and the note. Both certificates are written where the graph does what is

@@ -5,7 +5,7 @@ use Rattle.graph_core.specs.declared.sign.Sign.TheVariants.{Signed}
 use Rattle.graph_core.specs.declared.profile.Profile.TheVariants as profile
 use Rattle.graph_core.specs.Aiger.{HasCounts, IsPacked}
 use Rattle.graph_core.specs.Graph.{IsWellFormed}
-use Rattle.graph_core.specs.Graph.Operands.{width, MultipliesAs}
+use Rattle.graph_core.specs.Graph.Operands.{Does, multiplying, width}
 use Rattle.graph_core.specs.Aiger.Writing.{written}
 use Rattle.graph_maker.specs.declared.kind.Kind.TheVariants.{Array}
 use Rattle.graph_maker.specs.Corrected.{corrected, made_corrected}
@@ -54,7 +54,7 @@ pub returns-clause-multiplies : goal.returns-clause-multiplies
 returns-clause-multiplies c =
     let made = ap (whole_graph (2 * c.args.bits)) (ap (corrected c.args.bits) c.in_ok-building.ensures ∙ c.in_ok-outputs.ensures) in
     let law = corrected_multiplies c.args.bits c.args.adder c.requires.some in
-    IfOk-weaker c.graph_of.result _ (λ g. MultipliesAs Signed g Separate) (λ g e. subst (λ h. MultipliesAs Signed h Separate) (made ∙ sym e) law.multiplies) c.graph_of.ensures
+    IfOk-weaker c.graph_of.result _ (λ g. Does (multiplying Separate Signed) g) (λ g e. subst (λ h. Does (multiplying Separate Signed) h) (made ∙ sym e) law.multiplies) c.graph_of.ensures
 
 pub returns-clause-counts : goal.returns-clause-counts
 returns-clause-counts c =
