@@ -55,11 +55,11 @@ fn seen_at(alloc: Global, job: &Job<'_>, numbers: Numbers) -> Result<Option<Seen
         return Ok(None);
     }
     let has_addend = job.task.claim.widths.has_addend();
-    Ok(Some(seen(has_addend, numbers, value, claimed)))
+    Ok(Some(seen_as(has_addend, numbers, value, claimed)))
 }
 
 // With an addend or without.
-fn seen(has_addend: bool, numbers: Numbers, value: u128, claimed: u128) -> Seen
+fn seen_as(has_addend: bool, numbers: Numbers, value: u128, claimed: u128) -> Seen
     ensures { result ≡ seen_as has_addend numbers value claimed }
 {
     let Numbers { a, b, c } = numbers;

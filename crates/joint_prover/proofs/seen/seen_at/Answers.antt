@@ -19,6 +19,6 @@ claimed_value-claimed-requires c =
 pub returns : goal.returns
 returns c =
     let job = c.args.job.now in
-    subst (IsSeen job.graph.now job.task.claim) (sym c.seen.ensures)
+    subst (IsSeen job.graph.now job.task.claim) (sym c.seen_as.ensures)
     (seen_there job c.requires.job c.outputs.ensures.built.well_formed.defined_once c.args.numbers c.outputs.result c.in_ok-value.value c.claimed_value-claimed.result c.outputs.ensures.value
     c.in_ok-value.ensures c.claimed_value-claimed.ensures c.has_addend-has_addend.result c.has_addend-has_addend.ensures c.requires.range c.if-value-claimed.false)
