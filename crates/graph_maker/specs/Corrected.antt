@@ -41,7 +41,7 @@ corrected n r = let s = correction n r in record { builder = s.builder; outputs 
 
 -- The graph of a width and an adder: a is in the variables 1 to n, b in the next n, and the gates follow.
 abbrev pub made_corrected : ℕ → Adder → Aig
-made_corrected n adder = whole_graph (2 * n) (corrected n (product_behind (2 * n) Array n adder))
+made_corrected n adder = whole_graph (2 * n) (corrected n (product_behind (2 * n) Array n n adder))
 
 -- Each corrected graph has two operands of n bits and an output for each bit of the product, has no fault, and multiplies signed operands.
 pub record IsSignedMultiplier (n : ℕ) (g : Aig) : Type 0 where

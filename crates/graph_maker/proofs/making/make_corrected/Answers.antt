@@ -12,16 +12,16 @@ use Rattle.graph_maker.specs.Corrected.{corrected, made_corrected}
 use Rattle.graph_maker.specs.Made.{whole_graph}
 use Rattle.graph_maker.proofs.CorrectedMultiplies.{corrected_multiplies}
 use Rattle.graph_maker.proofs.CorrectedPacked.{corrected_are_packed}
-use Rattle.graph_maker.proofs.ProductSizes.{product_few, product_long}
+use Rattle.graph_maker.proofs.ProductOfWidths.{product_few, product_long}
 use Rattle.graph_maker.proofs.making.make_corrected.Goals as goal
 
 pub correct-requires-clause-whole : goal.correct-requires-clause-whole
 correct-requires-clause-whole c =
-    ap (λ r. length r.outputs) (sym c.in_ok-building.ensures) ∙ product_long (2 * c.args.bits) Array c.args.bits c.args.adder c.requires.some
+    ap (λ r. length r.outputs) (sym c.in_ok-building.ensures) ∙ product_long (2 * c.args.bits) Array c.args.bits c.args.bits c.args.adder c.requires.some c.requires.some ∙ omega arith
 
 pub correct-requires-clause-room : goal.correct-requires-clause-room
 correct-requires-clause-room c =
-    omega (arith, ap (λ r. r.builder.last) c.in_ok-building.ensures, product_few (2 * c.args.bits) Array c.args.bits c.args.adder c.requires.some c.requires.few, c.requires.few)
+    omega (arith, ap (λ r. r.builder.last) c.in_ok-building.ensures, product_few (2 * c.args.bits) Array c.args.bits c.args.bits c.args.adder c.requires.some c.requires.some c.requires.few c.requires.few, c.requires.few)
 
 pub graph_of-requires-clause-few_outputs : goal.graph_of-requires-clause-few_outputs
 graph_of-requires-clause-few_outputs c =

@@ -9,14 +9,14 @@ use Rattle.graph_core.specs.Graph.Operands.{Does, adding, sum_width}
 use Rattle.graph_core.specs.Aiger.Writing.{written}
 use Rattle.graph_maker.specs.Made.{whole_graph}
 use Rattle.graph_maker.specs.WithAddend.{made_sum, with_addend}
-use Rattle.graph_maker.proofs.ProductSizes.{product_few}
+use Rattle.graph_maker.proofs.ProductOfWidths.{product_few}
 use Rattle.graph_maker.proofs.SumsAdd.{made_sums_add}
 use Rattle.graph_maker.proofs.SumsPacked.{sums_are_packed}
 use Rattle.graph_maker.proofs.making.make_sum.Goals as goal
 
 pub add_addend-requires-clause-room : goal.add_addend-requires-clause-room
 add_addend-requires-clause-room c =
-    omega (arith, ap (λ r. r.builder.last) c.in_ok-building.ensures, product_few (4 * c.args.bits) c.args.kind c.args.bits c.args.adder c.requires.some c.requires.few, c.requires.few)
+    omega (arith, ap (λ r. r.builder.last) c.in_ok-building.ensures, product_few (4 * c.args.bits) c.args.kind c.args.bits c.args.bits c.args.adder c.requires.some c.requires.some c.requires.few c.requires.few, c.requires.few)
 
 pub graph_of-requires-clause-few_outputs : goal.graph_of-requires-clause-few_outputs
 graph_of-requires-clause-few_outputs c =
