@@ -1,18 +1,21 @@
 -- Each made graph of two widths multiplies, and that of one width is the one of two equal ones.
-use Rattle.std.specs.Prelude.{◌≡◌, ℕ, ◌+◌, ◌*◌, ◌^◌, ◌<◌, Bool, true, ◌&&◌, List, [], ◌∷◌, ◌++◌, map, length, drop, get_or}
-use Rattle.std.proofs.Common.{refl, sym, ap, ap₂, ◌∙◌, arith, length-append}
+use Rattle.std.specs.Prelude.{◌≡◌, ℕ, ◌+◌, ◌*◌, ◌^◌, ◌<◌, Bool, true, ◌&&◌, List, [], ◌∷◌, ◌++◌, map, length, drop, get_or, ◌%◌, false}
+use Rattle.std.proofs.Common.{refl, sym, ap, ap₂, subst, ◌∙◌, arith, append-nil, length-append, mod-eq_of_lt}
+use Rattle.std.proofs.lemmas.Nat.{mul-lt, pow-add}
 use Rattle.std.proofs.lemmas.List.Elements.{recursion_from_All}
 use Rattle.graph_core.specs.declared.literal.Lit.{Lit}
+use Rattle.graph_core.specs.declared.order.Order.TheVariants.{Separate}
+use Rattle.graph_core.specs.declared.widths.Widths.TheVariants.{Given}
 use Rattle.graph_core.specs.Graph.Assignments.{Assignment, variable, literal, word}
 use Rattle.graph_core.specs.Graph.Literals.{variable_of}
 use Rattle.graph_core.specs.Graph.{Aig, IsAcyclic, IsDefinedOnce, IsEvaluation, IsWellFormed, defined, evaluated, of_inputs}
-use Rattle.graph_core.specs.Graph.Operands.{bits_of, value_at_inputs}
-use Rattle.graph_core.proofs.OfGraphs.CallerLemmas.{apart_from_pairs, evaluation_is, gates_distinct, inputs_have, length-bits_of, number_of, number_of-bits_of, rest_apart, word_is}
+use Rattle.graph_core.specs.Graph.Operands.{Sides, HasGivenShape, Does, bits_of, inputs_at, output_modulus, sides_for, value_at_inputs}
+use Rattle.graph_core.proofs.OfGraphs.CallerLemmas.{apart_from_pairs, evaluation_is, gates_distinct, inputs_have, length-a_literals, length-b_literals, length-bits_of, length-c_literals, number_of, number_of-bits_of, rest_apart, word_is}
 use Rattle.graph_maker.specs.declared.kind.Kind.{Kind}
 use Rattle.graph_maker.specs.declared.adder.Adder.{Adder}
 use Rattle.graph_maker.specs.Builder.{literals_from}
 use Rattle.graph_maker.specs.Made.{product_behind, whole_graph}
-use Rattle.graph_maker.specs.MadeOfWidths.{made_of, IsMultiplierOf, MadeOfMultiplies, OneWidthIsTwo}
+use Rattle.graph_maker.specs.MadeOfWidths.{claim_of_widths, made_of, IsMultiplierOf, MadeOfMultiplies, OneWidthIsTwo}
 use Rattle.graph_maker.proofs.ArrayAdds.{length-literals_from}
 use Rattle.graph_maker.proofs.Numbered.{IsNumbered, join-literals, numbered_well_formed}
 use Rattle.graph_maker.proofs.ProductOfWidths.{product_is, product_long, product_numbered}
@@ -73,12 +76,52 @@ module _ (kind : Kind) (m n : ℕ) (adder : Adder) (pos : 0 < m) (some : 0 < n) 
         on_evaluations σ (evaluated_is g bits well_formed.defined_once well_formed.acyclic) ∙
         ap₂ ◌*◌ (word_of_bits σ (literals_from 1 m) m a low_a parts.0) (word_of_bits σ (literals_from (m + 1) n) n b low_b parts.1)
 
+  whole : length g.outputs ≡ m + n
+  whole = product_long (m + n) kind m n adder pos some
+
+  -- ---- what is claimed
+
+  pub shape : HasGivenShape m n false g
+  shape = record {
+    inputs = omega (arith, length-literals_from 1 (m + n));
+    some_outputs = omega (arith, whole, pos);
+    outputs = omega (arith, whole);
+  }
+
+  abbrev pair : Sides
+  pair = sides_for (claim_of_widths m n) g
+
+  wide_a : length pair.a ≡ m
+  wide_a = length-a_literals (Given m n false) Separate g shape
+
+  wide_b : length pair.b ≡ n
+  wide_b = length-b_literals (Given m n false) Separate g shape
+
+  wide_c : length pair.c ≡ 0
+  wide_c = length-c_literals (Given m n false) g shape
+
+  fits : (a b : ℕ) → a < 2 ^ m → b < 2 ^ n → a * b % output_modulus g ≡ a * b
+  fits a b low_a low_b =
+      let below : a * b < 2 ^ m * 2 ^ n = mul-lt _ _ _ _ low_a low_b in
+      mod-eq_of_lt (subst (λ z. a * b < z) (sym (pow-add 2 m n) ∙ ap (λ k. 2 ^ k) (sym whole)) below)
+
+  does : Does (claim_of_widths m n) g
+  does x range =
+      let low_a : x.a < 2 ^ m = subst (λ k. x.a < 2 ^ k) wide_a range.a in
+      let low_b : x.b < 2 ^ n = subst (λ k. x.b < 2 ^ k) wide_b range.b in
+      let none : x.c < 2 ^ 0 = subst (λ k. x.c < 2 ^ k) wide_c range.c in
+      let values : inputs_at pair x ≡ bits_of m x.a ++ bits_of n x.b =
+      ap₂ ◌++◌ (ap₂ (λ i j. bits_of i x.a ++ bits_of j x.b) wide_a wide_b) (ap (λ k. bits_of k x.c) wide_c) ∙ append-nil (bits_of m x.a ++ bits_of n x.b) in
+      let sum : x.a * x.b ≡ x.a * x.b + x.c = omega arith in
+      ap (value_at_inputs g) values ∙ product x.a x.b low_a low_b ∙ sym (fits x.a x.b low_a low_b) ∙ ap (λ z. z % output_modulus g) sum
+
   is_multiplier : IsMultiplierOf m n g
   is_multiplier = record {
-    inputs = length-literals_from 1 (m + n);
-    outputs = product_long (m + n) kind m n adder pos some;
+    shape = shape;
+    whole = whole;
     well_formed = well_formed;
     multiplies = λ a b low_a low_b. product a b low_a low_b;
+    does = does;
   }
 
 pub made_of_multiplies : MadeOfMultiplies

@@ -7,8 +7,8 @@ use Rattle.graph_core.specs.declared.gate.Gate.{Gate}
 use Rattle.graph_core.specs.Graph.Literals.{variable_of}
 use Rattle.graph_core.specs.Graph.{Aig, greater_first}
 use Rattle.graph_core.specs.Aiger.Writing.{written, written_gate}
-use Rattle.graph_core.specs.Aiger.{AreConsecutive, ArePackedGates, IsPacked}
-use Rattle.graph_core.proofs.OfAiger.CallerLemmas.{ArePlaced}
+use Rattle.graph_core.specs.Aiger.{AreConsecutive, ArePackedGates, IsPacked, given_inputs}
+use Rattle.graph_core.proofs.OfAiger.CallerLemmas.{ArePlaced, widths_fit}
 use Rattle.graph_maker.specs.Builder.{literals_from}
 use Rattle.graph_maker.specs.Made.{made, MadeArePacked}
 use Rattle.graph_maker.specs.MadeOfWidths.{made_of, MadeOfArePacked}
@@ -67,14 +67,15 @@ made_of_are_packed kind m n adder pos some narrow small =
     let inputs = length-literals_from 1 (m + n) in
     let outputs = product_long (m + n) kind m n adder pos some in
     let packed = numbered_packed (m + n) (made_of kind m n adder) (product_numbered (m + n) kind m n adder pos some (omega arith)) in
+    let fit = sym (widths_fit m n (omega (arith, pos)) narrow (omega (arith, some)) small) in
     record {
       counts = record {
         max = omega (arith, product_few (m + n) kind m n adder pos some narrow small);
         step = omega arith;
-        some = omega arith;
-        few = omega (arith, inputs);
+        some = subst (λ t. cond t (given_inputs m n false) 1 ≤ length (literals_from 1 (m + n))) fit (omega (arith, inputs));
+        few = subst (λ t. length (literals_from 1 (m + n)) ≤ cond t (given_inputs m n false) 0) fit (omega (arith, inputs));
         some_outputs = omega (arith, outputs, pos);
-        outputs = omega (arith, outputs);
+        outputs = omega (arith, outputs, inputs);
         room = omega (arith, packed.max);
       };
       packed = packed;
