@@ -45,7 +45,7 @@ use Rattle.joint_prover.specs.declared.verdict.Verdict.TheVariants as verdict
 use Rattle.joint_prover.specs.Pairs.{IsPairOver, IsVersion}
 use Rattle.joint_prover.specs.Tries.{EndsWithCut, extended_by}
 use Rattle.joint_prover.specs.declared.seen.Seen.{Seen}
-use Rattle.joint_prover.specs.declared.seen.Seen.TheVariants.{Product, Sum}
+use Rattle.joint_prover.specs.declared.seen.Seen.TheVariants as sight
 use Rattle.joint_prover.specs.Verdicts.{IsWrong, IsWrongSum}
 
 -- ---- the graphs that plans run over
@@ -135,8 +135,8 @@ wrong_at true x value due = decision.WrongSum x.a x.b x.c value due
 
 -- and that it is seen to differ on them
 abbrev pub seen_as : Bool → Numbers → ℕ → ℕ → Seen
-seen_as false x value due = Product x.a x.b value due
-seen_as true x value due = Sum x.a x.b x.c value due
+seen_as false x value due = sight.Product x.a x.b value due
+seen_as true x value due = sight.Sum x.a x.b x.c value due
 
 -- the least numbers on which the graph differs
 abbrev pub IsWrongAs : Aig → Claim → Decision → Type 0

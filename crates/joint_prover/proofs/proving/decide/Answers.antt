@@ -1,4 +1,4 @@
-use Rattle.std.proofs.Common.{ap, refl, sym, subst}
+use Rattle.std.proofs.Common.{ap, refl, sym, subst, ◌∙◌}
 use Rattle.graph_core.specs.Aiger.Sizes.{IsSizedAs}
 use Rattle.graph_core.specs.Graph.Operands.{AreOperandsOf, HasShapeFor, Sides, has_addend, profile_of}
 use Rattle.graph_core.proofs.OfAiger.CallerLemmas.{narrow_for, shape_for}
@@ -47,7 +47,7 @@ returns-clause-decision c =
     let d = c.in_ok-decision.decision in
     let r = c.in_ok-rewritten.rewritten in
     let found = c.in_ok-decision.found in
-    subst (λ n. IsDecision graph task (cut_of n) d) {x = note_of (has_addend task.claim.widths) r found} (sym c.make_note.ensures)
+    subst (λ n. IsDecision graph task (cut_of n) d) {x = note_of (has_addend task.claim.widths) r found} (sym (c.make_note.ensures ∙ ap (λ add. note_of add r found) c.has_addend.ensures))
     (subst (λ cut. IsDecision graph task cut d) (cut_of_note (has_addend task.claim.widths) r (cut_named c.used.result) found c.used.ensures.named) c.in_ok-decision.ensures.decision)
 
 pub returns-clause-note : goal.returns-clause-note
@@ -57,6 +57,6 @@ returns-clause-note c =
     let s = c.in_ok-operands.operands in
     let r = c.in_ok-rewritten.rewritten in
     let found = c.in_ok-decision.found in
-    subst (IsNote graph task.claim task.conflicts) {x = note_of (has_addend task.claim.widths) r found} (sym c.make_note.ensures)
+    subst (IsNote graph task.claim task.conflicts) {x = note_of (has_addend task.claim.widths) r found} (sym (c.make_note.ensures ∙ ap (λ add. note_of add r found) c.has_addend.ensures))
     (subst (λ (t : Sides). IsNote graph t.claim task.conflicts (note_of (has_addend t.claim.widths) r found)) c.in_ok-operands.ensures
     (note_is graph s task.conflicts r found (rewrite-requires-clause-shape c) (subst (AreOperandsOf graph) (sym c.in_ok-operands.ensures) refl) c.in_ok-rewritten.ensures.rewriting c.in_ok-rewritten.ensures.agrees c.in_ok-decision.ensures.found))
