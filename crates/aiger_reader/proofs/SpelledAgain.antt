@@ -1,17 +1,17 @@
 -- A graph without faults has room for its inputs and gates, so what is written for it spells it.
-use Rattle.std.specs.Prelude.{ℕ, ◌+◌, ◌<◌, ◌≤◌, map, length, slice_index_or}
-use Rattle.std.proofs.Common.{arith, length-append}
+use Rattle.std.specs.Prelude.{ℕ, ◌+◌, ◌<◌, ◌≤◌, cond, map, length, slice_index_or}
+use Rattle.std.proofs.Common.{sym, subst, arith, length-append}
 use Rattle.std.proofs.lemmas.List.{length-map}
 use Rattle.std.proofs.lemmas.List.Elements.{All-append, All-map, Contains-get_or}
 use Rattle.graph_core.specs.declared.profile.Profile.{Profile}
-use Rattle.graph_core.specs.declared.profile.Profile.TheVariants.{Multiplier, MultiplyAdd, Any}
+use Rattle.graph_core.specs.declared.profile.Profile.TheVariants.{Multiplier, MultiplyAdd, Given, Any}
 use Rattle.graph_core.specs.Graph.Literals.{variable_of}
 use Rattle.graph_core.specs.Graph.{Aig, IsWellFormed, defined}
-use Rattle.graph_core.specs.Aiger.{HasCounts}
+use Rattle.graph_core.specs.Aiger.{HasCounts, given_inputs}
 use Rattle.graph_core.specs.Aiger.Sizes.{IsSizedAs}
 use Rattle.graph_core.specs.Aiger.Writing.{written, written_gate}
 use Rattle.graph_core.proofs.OfGraphs.CallerLemmas.{few_numbers, input_in_range}
-use Rattle.graph_core.proofs.OfAiger.CallerLemmas.{ascii_text_spells, binary_text_spells}
+use Rattle.graph_core.proofs.OfAiger.CallerLemmas.{ascii_text_spells, binary_text_spells, outputs_fit, widths_fit}
 use Rattle.aiger_reader.specs.Written.{AsciiSpellsAgain, BinarySpellsAgain}
 
 module _ (g : Aig) (well : IsWellFormed g) where
@@ -45,6 +45,18 @@ module _ (g : Aig) (well : IsWellFormed g) where
       let some = sized.some in
       let narrow = sized.narrow in
       record { max = sized.small; step = omega arith; some = omega arith; few = omega arith; some_outputs = omega arith; outputs = omega arith; room = written_room }
+  counted (Given a b add) sized =
+      let inputs = sized.shape.inputs in
+      let fit = widths_fit a b sized.some_a sized.narrow_a sized.some_b sized.narrow_b in
+      record {
+        max = sized.small;
+        step = omega arith;
+        some = subst (λ t. cond t (given_inputs a b add) 1 ≤ length g.inputs) (sym fit) (omega arith);
+        few = subst (λ t. length g.inputs ≤ cond t (given_inputs a b add) 0) (sym fit) (omega arith);
+        some_outputs = omega (arith, sized.shape.some_outputs);
+        outputs = outputs_fit add (a + b) (length g.inputs) (length g.outputs) inputs sized.shape.outputs;
+        room = written_room;
+      }
   counted Any sized =
       record { max = sized.small; step = omega arith; some = omega arith; few = sized.few_inputs; some_outputs = omega (arith, sized.some_outputs); outputs = sized.few_outputs; room = written_room }
 

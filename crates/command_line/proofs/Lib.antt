@@ -1,5 +1,6 @@
 pub mod Usage
 pub mod Numerals
+pub mod WidthTexts
 pub mod Answering
 pub mod Ranges
 pub mod PlainWords

@@ -65,7 +65,7 @@ numeral_spells : (text : List ℕ) → is_numeral text ≡ true → (0 < length 
 numeral_spells [] e = cc
 numeral_spells (c ∷ cs) e = (omega arith, (digits_decide (c ∷ cs)).0 e)
 
-number_spelled : (text : List ℕ) (number : ℕ) → number_of text ≡ Some number → SpellsNumber text number × (number < 2 ^ 128)
+pub number_spelled : (text : List ℕ) (number : ℕ) → number_of text ≡ Some number → SpellsNumber text number × (number < 2 ^ 128)
 number_spelled text number = go (is_numeral text) (nat_lt (decimal_value text) (2 ^ 128)) refl refl
   where
     go : (t u : Bool) → is_numeral text ≡ t → nat_lt (decimal_value text) (2 ^ 128) ≡ u
@@ -78,7 +78,7 @@ number_spelled text number = go (is_numeral text) (nat_lt (decimal_value text) (
     go true false e f same = cc
     go false u e f same = cc
 
-number_there : (text : List ℕ) (number : ℕ) → SpellsNumber text number × (number < 2 ^ 128) → number_of text ≡ Some number
+pub number_there : (text : List ℕ) (number : ℕ) → SpellsNumber text number × (number < 2 ^ 128) → number_of text ≡ Some number
 number_there text number (spells, below) =
     spelled text (numeral_of_digits text spells.some spells.digits) (rw spells.spelled at below) ∙ ap (λ n. Some n) (sym spells.spelled)
 

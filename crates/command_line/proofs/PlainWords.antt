@@ -9,7 +9,7 @@ use Rattle.graph_maker.specs.declared.design.Design.TheVariants.{Corrected, Mult
 use Rattle.graph_maker.specs.declared.kind.Kind.TheVariants.{Array, Dadda}
 use Rattle.command_line.specs.declared.command.Command.TheVariants.{Eval, Make, Trial}
 use Rattle.command_line.specs.Asked.{AsksTrim, IsCheck, asked}
-use Rattle.command_line.specs.Examples.{g_c_a, g_c_a_x_y, check_interleaved, check_signed_sum, check_g, make_array, make_corrected, make_dadda_add, make_corrected_add, eval_addend, trial_of_21, trim_interleaved, trim_to}
+use Rattle.command_line.specs.Examples.{adding_to_24x17, g_c_a, g_c_a_x_y, check_interleaved, check_interleaved_widths, check_signed_sum, check_widths, check_g, make_array, make_corrected, make_dadda_add, make_corrected_add, eval_addend, one_two_three, trial_of_21, trim_interleaved, trim_to}
 
 pub interleaved : IsCheck check_interleaved g_c_a (multiplying Interleaved Unsigned)
 unfolding asked clap_on_literals
@@ -18,6 +18,14 @@ interleaved = refl
 pub signed_sum : IsCheck check_signed_sum g_c_a (adding Separate Signed)
 unfolding asked clap_on_literals
 signed_sum = refl
+
+pub wide : IsCheck check_widths g_c_a adding_to_24x17
+unfolding asked clap_on_literals
+wide = refl
+
+pub wide_interleaved : asked check_interleaved_widths ≡ None
+unfolding asked clap_on_literals
+wide_interleaved = refl
 
 pub too_few : asked check_g ≡ None
 unfolding asked clap_on_literals
@@ -43,7 +51,7 @@ pub no_sum : asked make_corrected_add ≡ None
 unfolding asked clap_on_literals
 no_sum = refl
 
-pub added : asked eval_addend ≡ Some (Eval (codes "g") 1 2 Separate (Some 3))
+pub added : asked eval_addend ≡ Some (Eval (codes "g") one_two_three)
 unfolding asked clap_on_literals
 added = refl
 

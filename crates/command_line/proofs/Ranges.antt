@@ -7,7 +7,6 @@ use Rattle.std.proofs.lemmas.Bool.Decides.{nat_tests}
 use Rattle.std.proofs.lemmas.Slice.Eq.{bytes_eq-Decides}
 use Rattle.clap.specs.Words.{Kinds, Row, Text, fault_of, first_of, subcommand_of}
 use Rattle.graph_core.specs.declared.claim.Claim.{Claim}
-use Rattle.graph_core.specs.declared.order.Order.{Order}
 use Rattle.graph_maker.specs.declared.adder.Adder.{Adder}
 use Rattle.graph_maker.specs.declared.design.Design.{Design}
 use Rattle.command_line.specs.declared.command.Command.{Command}
@@ -15,8 +14,9 @@ use Rattle.command_line.specs.declared.command.Command.TheVariants.{Check, Check
 use Rattle.command_line.specs.declared.files.Files.{Files}
 use Rattle.command_line.specs.declared.files.PairFiles.{PairFiles}
 use Rattle.command_line.specs.declared.files.TrimFiles.{TrimFiles}
+use Rattle.command_line.specs.declared.point.Point.{Point}
 use Rattle.command_core.specs.Files.{AreDistinct}
-use Rattle.command_line.specs.Asked.{AreBits, IsCommandInRange, IsUnread, LeavesFiles, LeavesGraphs, addend_at, adder_named, are_reused, are_shared, asked, bits_asked, check_of, check_same_of, check_same_with, check_with, claim_at, design_named, is_overwriting, is_file_read, is_set, pair_at, same_of, same_with, files_at, verify_of, verify_with, version_at, version_from, word_at, word_from, eval_of, eval_with, make_of, make_with, met, command_named, number_of, order_at, read_at, trial_of, trial_with, trim_files_at, trim_asked, trim_with, where_taken}
+use Rattle.command_line.specs.Asked.{AreBits, IsCommandInRange, IsUnread, LeavesFiles, LeavesGraphs, adder_named, are_reused, are_shared, asked, bits_asked, check_of, check_same_of, check_same_with, check_with, claim_at, design_named, is_overwriting, is_file_read, is_set, pair_at, same_of, same_with, files_at, verify_of, verify_with, version_at, version_from, word_at, word_from, eval_of, eval_with, make_of, make_with, met, command_named, number_of, point_at, read_at, trial_of, trial_with, trim_files_at, trim_asked, trim_with, where_taken}
 use Rattle.command_line.specs.FixedCommand.{mulver}
 
 -- ---- the number
@@ -106,14 +106,10 @@ verify_range (Some f) (Some k) None conflicts version command b_range c_range v_
 verify_range (Some f) (Some k) (Some b) None version command b_range c_range v_range e = cc
 verify_range (Some f) (Some k) (Some b) (Some c) None command b_range c_range v_range e = cc
 
-eval_range : (graph : Option Text) (a b : Option ℕ) (order : Option Order) (addend : Option (Option ℕ)) (command : Command)
-    → eval_with graph a b order addend ≡ Some command → IsCommandInRange command
-eval_range (Some g) (Some a) (Some b) (Some o) (Some c) command e = same_range command (Eval g a b o c) tt e
-eval_range None a b order addend command e = cc
-eval_range (Some g) None b order addend command e = cc
-eval_range (Some g) (Some a) None order addend command e = cc
-eval_range (Some g) (Some a) (Some b) None addend command e = cc
-eval_range (Some g) (Some a) (Some b) (Some o) None command e = cc
+eval_range : (graph : Option Text) (point : Option Point) (command : Command) → eval_with graph point ≡ Some command → IsCommandInRange command
+eval_range (Some g) (Some p) command e = same_range command (Eval g p) tt e
+eval_range None point command e = cc
+eval_range (Some g) None command e = cc
 
 make_range : (design : Option Design) (bits : Option ℕ) (adder : Option Adder) (out : Option Text) (command : Command)
     → IfSome bits AreBits → make_with design bits adder out ≡ Some command → IsCommandInRange command
@@ -187,7 +183,7 @@ named_range name rows command =
     pick true w x y z s t r e = check_range (files_at rows) (claim_at rows) command e
     pick false true x y z s t r e = verify_range (files_at rows) (claim_at rows) (word_at 1 1000000 (codes "budget") rows) (word_at 0 100000 (codes "conflicts") rows) (version_at rows) command
         (word_in 1 1000000 (first_of (codes "budget") rows) (omega arith, omega arith)) (word_in 0 100000 (first_of (codes "conflicts") rows) (omega arith, omega arith)) (version_in (word_at 1 1 (codes "format") rows)) e
-    pick false false true y z s t r e = eval_range (first_of (codes "graph") rows) (read_at number_of (codes "a") rows) (read_at number_of (codes "b") rows) (order_at rows) (addend_at rows) command e
+    pick false false true y z s t r e = eval_range (first_of (codes "graph") rows) (point_at rows) command e
     pick false false false true z s t r e = make_range (read_at (design_named (is_set (codes "add") rows)) (codes "kind") rows) (read_at bits_asked (codes "bits") rows)
         (read_at adder_named (codes "adder") rows) (first_of (codes "out") rows) command (bits_in (first_of (codes "bits") rows)) e
     pick false false false false true s t r e = trial_range (read_at (word_from 0) (codes "number") rows) command (word_of_in (first_of (codes "number") rows)) e

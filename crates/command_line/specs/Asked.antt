@@ -1,6 +1,7 @@
 -- What the words of a command line ask for.
-use Rattle.std.specs.Prelude.{◌≡◌, ◌≢◌, ◌<◌, ◌≤◌, ◌⊎◌, ⊤, ℕ, ◌^◌, ◌==◌, ◌&&◌, ◌||◌, Bool, false, nat_le, nat_lt, List, [], ◌∷◌, map, Option, Some, None, if◌then◌else◌, codes, string_bytes, option_and_then, option_map}
+use Rattle.std.specs.Prelude.{◌≡◌, ◌≢◌, ◌<◌, ◌≤◌, ◌⊎◌, ⊤, ℕ, ◌^◌, ◌==◌, ◌&&◌, ◌||◌, Bool, false, nat_le, nat_lt, List, [], ◌∷◌, map, Option, Some, None, if◌then◌else◌, codes, is_some, string_bytes, option_and_then, option_map}
 use Rattle.std.specs.Global.{Global}
+use Rattle.std.specs.List.{after_first, before_first}
 use Rattle.std.specs.Option.{option_map_or}
 use Rattle.std.specs.Str.{all_ascii_digits, bytes_eq}
 use Rattle.std.specs.declared.string.String.{String}
@@ -10,6 +11,8 @@ use Rattle.graph_core.specs.declared.order.Order.{Order}
 use Rattle.graph_core.specs.declared.order.Order.TheVariants.{Separate, Interleaved}
 use Rattle.graph_core.specs.declared.sign.Sign.{Sign}
 use Rattle.graph_core.specs.declared.sign.Sign.TheVariants.{Unsigned, Signed}
+use Rattle.graph_core.specs.declared.widths.Widths.{Widths}
+use Rattle.graph_core.specs.declared.widths.Widths.TheVariants.{Equal, Given}
 use Rattle.graph_maker.specs.declared.adder.Adder.{Adder}
 use Rattle.graph_maker.specs.declared.adder.Adder.TheVariants.{Ripple, Kogge, Sklansky}
 use Rattle.graph_maker.specs.declared.design.Design.{Design}
@@ -24,6 +27,7 @@ use Rattle.command_line.specs.declared.command.Command.TheVariants.{Check, Check
 use Rattle.command_line.specs.declared.files.Files.{Files}
 use Rattle.command_line.specs.declared.files.PairFiles.{PairFiles}
 use Rattle.command_line.specs.declared.files.TrimFiles.{TrimFiles}
+use Rattle.command_line.specs.declared.point.Point.{Point}
 use Rattle.command_line.specs.FixedCommand.{mulver}
 
 -- the words as texts
@@ -90,6 +94,17 @@ abbrev pub bits_asked : Text → Option ℕ
 bits_asked text =
     option_and_then (λ bits. if nat_le 1 bits && nat_le bits 64 then Some bits else None) (number_of text)
 
+-- the widths of two operands: two such numbers with an x (120) between them
+abbrev pub widths_with : Bool → Option ℕ → Option ℕ → Option Widths
+widths_with add (Some a) (Some b) = Some (Given a b add)
+widths_with add _ _ = None
+
+abbrev pub is_x : ℕ → Bool
+is_x byte = byte == 120
+
+abbrev pub widths_named : Bool → Text → Option Widths
+widths_named add text = widths_with add (bits_asked (before_first is_x text)) (bits_asked (after_first is_x text))
+
 -- a number below 2^32, from a least one on
 abbrev pub word_from : ℕ → Text → Option ℕ
 word_from least text =
@@ -113,13 +128,25 @@ sign_at rows = option_map_or sign_named (first_of (codes "operands") rows) (Some
 abbrev pub is_set : Text → List Row → Bool
 is_set name rows = option_map_or (λ text. bytes_eq text (codes "true")) (first_of name rows) false
 
--- what is claimed: an order, a kind of operands, and whether there is an addend
-abbrev pub claim_with : Option Order → Option Sign → Bool → Option Claim
-claim_with (Some order) (Some sign) add = Some (record { order = order; sign = sign; add = add })
+-- a text of this name is given
+abbrev pub is_given : Text → List Row → Bool
+is_given name rows = is_some (first_of name rows)
+
+-- the widths that are named, or equal ones where none are; with an addend or without it
+abbrev pub widths_at : Bool → List Row → Option Widths
+widths_at add rows = option_map_or (widths_named add) (first_of (codes "widths") rows) (Some (Equal add))
+
+-- what is claimed: an order, a kind of operands, and their widths; no rule says how operands of given widths interleave
+abbrev pub claim_of : Order → Sign → Widths → Option Claim
+claim_of Interleaved sign (Given a b add) = None
+claim_of order sign widths = Some (record { order = order; sign = sign; widths = widths })
+
+abbrev pub claim_with : Option Order → Option Sign → Option Widths → Option Claim
+claim_with (Some order) (Some sign) (Some widths) = claim_of order sign widths
 claim_with _ _ _ = None
 
 abbrev pub claim_at : List Row → Option Claim
-claim_at rows = claim_with (order_at rows) (sign_at rows) (is_set (codes "add") rows)
+claim_at rows = claim_with (order_at rows) (sign_at rows) (widths_at (is_set (codes "add") rows) rows)
 
 -- the names of three files; nothing where one is missing
 abbrev pub files_with : Option Text → Option Text → Option Text → Option Files
@@ -178,22 +205,29 @@ verify_of rows = verify_with
     (word_at 0 default_conflicts (codes "conflicts") rows)
     (version_at rows)
 
--- the addend that is given, or none
-abbrev pub addend_at : List Row → Option (Option ℕ)
-addend_at rows = option_map_or (λ text. option_map (λ c. Some c) (number_of text)) (first_of (codes "addend") rows) (Some None)
+-- the addend that is given, or 0
+abbrev pub addend_at : List Row → Option ℕ
+addend_at rows = option_map_or number_of (first_of (codes "addend") rows) (Some 0)
 
--- `eval`: the name of a file, two numbers, an order, and perhaps an addend
-abbrev pub eval_with : Option Text → Option ℕ → Option ℕ → Option Order → Option (Option ℕ) → Option Command
-eval_with (Some graph) (Some a) (Some b) (Some order) (Some addend) = Some (Eval graph a b order addend)
-eval_with _ _ _ _ _ = None
+-- two operands, and an addend where one is given; which inputs are their bits
+abbrev pub point_with : Option ℕ → Option ℕ → Option ℕ → Option Claim → Option Point
+point_with (Some a) (Some b) (Some c) (Some claim) = Some (record { claim = claim; a = a; b = b; c = c })
+point_with _ _ _ _ = None
 
-abbrev pub eval_of : List Row → Option Command
-eval_of rows = eval_with
-    (first_of (codes "graph") rows)
+abbrev pub point_at : List Row → Option Point
+point_at rows = point_with
     (read_at number_of (codes "a") rows)
     (read_at number_of (codes "b") rows)
-    (order_at rows)
     (addend_at rows)
+    (claim_with (order_at rows) (Some Unsigned) (widths_at (is_given (codes "addend") rows) rows))
+
+-- `eval`: the name of a file, and what its graph is evaluated at
+abbrev pub eval_with : Option Text → Option Point → Option Command
+eval_with (Some graph) (Some point) = Some (Eval graph point)
+eval_with _ _ = None
+
+abbrev pub eval_of : List Row → Option Command
+eval_of rows = eval_with (first_of (codes "graph") rows) (point_at rows)
 
 -- `make`: a design, a number of bits, an adder, and the name of a file
 abbrev pub make_with : Option Design → Option ℕ → Option Adder → Option Text → Option Command

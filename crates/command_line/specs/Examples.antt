@@ -1,12 +1,16 @@
 -- What the definition says of plain words and numbers.
-use Rattle.std.specs.Prelude.{◌≡◌, ◌≢◌, ◌<◌, ◌^◌, ◌↔◌, ℕ, List, [], ◌∷◌, Some, codes, slice_get}
+use Rattle.std.specs.Prelude.{◌≡◌, ◌≢◌, ◌<◌, ◌^◌, ◌↔◌, ℕ, Bool, true, List, [], ◌∷◌, ◌++◌, Some, codes, slice_get}
 use Rattle.clap.specs.Words.{Text}
+use Rattle.graph_core.specs.declared.claim.Claim.{Claim}
 use Rattle.graph_core.specs.declared.order.Order.TheVariants.{Separate}
-use Rattle.graph_core.specs.Graph.Operands.{product_under}
+use Rattle.graph_core.specs.declared.sign.Sign.TheVariants.{Unsigned}
+use Rattle.graph_core.specs.declared.widths.Widths.TheVariants.{Given}
+use Rattle.graph_core.specs.Graph.Operands.{adding, product_under}
 use Rattle.mv_nums.specs.Numeral.{SpellsNumber}
 use Rattle.command_line.specs.declared.files.Files.{Files}
 use Rattle.command_line.specs.declared.files.TrimFiles.{TrimFiles}
-use Rattle.command_line.specs.Asked.{IsCheck, number_of}
+use Rattle.command_line.specs.declared.point.Point.{Point}
+use Rattle.command_line.specs.Asked.{AreBits, IsCheck, number_of, widths_named}
 
 -- the text doesn't begin with a hyphen (45)
 abbrev pub BeginsPlain : Text → Type 0
@@ -23,6 +27,20 @@ abbrev pub NumbersAreNumerals : Type 0
 NumbersAreNumerals = (text : Text) (number : ℕ)
     → (number_of text ≡ Some number) ↔ (SpellsNumber text number × (number < 2 ^ 128))
 
+-- two numerals of numbers from 1 to 64, with an x (120) between them
+pub record SpellsWidths (text : Text) (a b : ℕ) : Type 0 where
+  pub of_a : Text
+  pub of_b : Text
+  pub between : text ≡ of_a ++ 120 ∷ of_b
+  pub first : SpellsNumber of_a a
+  pub second : SpellsNumber of_b b
+  pub first_bits : AreBits a
+  pub second_bits : AreBits b
+
+-- The widths that a text says are those.
+abbrev pub WidthsAreNumerals : Type 0
+WidthsAreNumerals = (add : Bool) (text : Text) (a b : ℕ) → (widths_named add text ≡ Some (Given a b add)) ↔ SpellsWidths text a b
+
 abbrev pub g_c_a : Files
 g_c_a = record { graph = codes "g"; clauses = codes "c"; algebra = codes "a" }
 
@@ -35,6 +53,20 @@ abbrev pub check_signed_sum : List Text
 check_signed_sum =
     codes "mulver" ∷ codes "check" ∷ codes "g" ∷ codes "c" ∷ codes "a" ∷
     codes "--operands" ∷ codes "signed" ∷ codes "--add" ∷ []
+
+abbrev pub check_widths : List Text
+check_widths =
+    codes "mulver" ∷ codes "check" ∷ codes "g" ∷ codes "c" ∷ codes "a" ∷
+    codes "--widths" ∷ codes "24x017" ∷ codes "--add" ∷ []
+
+-- 24 bits and 17 bits, and an addend of 41
+abbrev pub adding_to_24x17 : Claim
+adding_to_24x17 = record { order = Separate; sign = Unsigned; widths = Given 24 17 true }
+
+abbrev pub check_interleaved_widths : List Text
+check_interleaved_widths =
+    codes "mulver" ∷ codes "check" ∷ codes "g" ∷ codes "c" ∷ codes "a" ∷
+    codes "--widths" ∷ codes "4x4" ∷ codes "--inputs" ∷ codes "interleaved" ∷ []
 
 abbrev pub check_g : List Text
 check_g = codes "mulver" ∷ codes "check" ∷ codes "g" ∷ []
@@ -58,6 +90,9 @@ make_corrected_add =
 abbrev pub eval_addend : List Text
 eval_addend =
     codes "mulver" ∷ codes "eval" ∷ codes "g" ∷ codes "1" ∷ codes "2" ∷ codes "--addend" ∷ codes "3" ∷ []
+
+abbrev pub one_two_three : Point
+one_two_three = record { claim = adding Separate Unsigned; a = 1; b = 2; c = 3 }
 
 abbrev pub trial_of_21 : List Text
 trial_of_21 = codes "mulver" ∷ codes "trial" ∷ codes "21" ∷ []

@@ -20,29 +20,34 @@ needed id = record (new_rule id) { long = Some id; action = Some Set; required =
 abbrev pub flag : Text → Rule
 flag id = record (new_rule id) { long = Some id; action = Some SetTrue }
 
--- `check GRAPH CLAUSES ALGEBRA [--inputs ORDER] [--operands KIND] [--add]`
+-- `check GRAPH CLAUSES ALGEBRA [--inputs ORDER] [--operands KIND] [--add] [--widths AxB]`
 abbrev pub check_files : App
 check_files = with_rule (with_rule (with_rule (new_app (codes "check"))
     (word_rule (codes "graph"))) (word_rule (codes "clauses"))) (word_rule (codes "algebra"))
 
 abbrev pub check_app : App
-check_app = with_rule (with_rule (with_rule check_files
-    (choice (codes "inputs"))) (choice (codes "operands"))) (flag (codes "add"))
+check_app = with_rule (with_rule (with_rule (with_rule check_files
+    (choice (codes "inputs"))) (choice (codes "operands"))) (flag (codes "add"))) (choice (codes "widths"))
 
--- `verify GRAPH --clauses FILE --algebra FILE [--inputs ORDER] [--budget N] [--conflicts N] [--format N] [--operands KIND] [--add]`
+-- `verify GRAPH --clauses FILE --algebra FILE [--inputs ORDER] [--budget N] [--conflicts N] [--format N] [--operands KIND] [--add]
+-- [--widths AxB]`
 abbrev pub verify_files : App
 verify_files = with_rule (with_rule (with_rule (new_app (codes "verify"))
     (word_rule (codes "graph"))) (needed (codes "clauses"))) (needed (codes "algebra"))
 
 abbrev pub verify_app : App
-verify_app = with_rule (with_rule (with_rule (with_rule (with_rule (with_rule verify_files
+verify_app = with_rule (with_rule (with_rule (with_rule (with_rule (with_rule (with_rule verify_files
     (choice (codes "inputs"))) (choice (codes "budget"))) (choice (codes "conflicts"))) (choice (codes "format")))
-    (choice (codes "operands"))) (flag (codes "add"))
+    (choice (codes "operands"))) (flag (codes "add"))) (choice (codes "widths"))
 
--- `eval GRAPH A B [--inputs ORDER] [--addend C]`
+-- `eval GRAPH A B [--inputs ORDER] [--addend C] [--widths AxB]`
+abbrev pub eval_words : App
+eval_words = with_rule (with_rule (with_rule (new_app (codes "eval"))
+    (word_rule (codes "graph"))) (word_rule (codes "a"))) (word_rule (codes "b"))
+
 abbrev pub eval_app : App
-eval_app = with_rule (with_rule (with_rule (with_rule (with_rule (new_app (codes "eval"))
-    (word_rule (codes "graph"))) (word_rule (codes "a"))) (word_rule (codes "b"))) (choice (codes "inputs"))) (choice (codes "addend"))
+eval_app = with_rule (with_rule (with_rule eval_words
+    (choice (codes "inputs"))) (choice (codes "addend"))) (choice (codes "widths"))
 
 -- `make KIND BITS ADDER OUT [--add]`
 abbrev pub make_app : App
@@ -79,15 +84,15 @@ of_one_graph = with_subcommand (with_subcommand (with_subcommand judging eval_ap
 abbrev pub of_graphs : App
 of_graphs = with_subcommand (with_subcommand of_one_graph same_app.top) check_same_app.top
 
--- `trim GRAPH CLAUSES ALGEBRA TO-CLAUSES TO-ALGEBRA [--inputs ORDER] [--operands KIND] [--add]`
+-- `trim GRAPH CLAUSES ALGEBRA TO-CLAUSES TO-ALGEBRA [--inputs ORDER] [--operands KIND] [--add] [--widths AxB]`
 abbrev pub trim_files : App
 trim_files = with_rule (with_rule (with_rule (with_rule (with_rule (new_app (codes "trim"))
     (word_rule (codes "graph"))) (word_rule (codes "clauses"))) (word_rule (codes "algebra")))
     (word_rule (codes "to-clauses"))) (word_rule (codes "to-algebra"))
 
 abbrev pub trim_app : App
-trim_app = with_rule (with_rule (with_rule trim_files
-    (choice (codes "inputs"))) (choice (codes "operands"))) (flag (codes "add"))
+trim_app = with_rule (with_rule (with_rule (with_rule trim_files
+    (choice (codes "inputs"))) (choice (codes "operands"))) (flag (codes "add"))) (choice (codes "widths"))
 
 -- the whole command
 abbrev pub mulver : App

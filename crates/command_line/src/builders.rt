@@ -32,6 +32,7 @@ const SUBCOMMANDS: [(&str, &[(Form, &str)]); 8] = [
             (Form::Choice, "inputs"),
             (Form::Choice, "operands"),
             (Form::Flag, "add"),
+            (Form::Choice, "widths"),
         ],
     ),
     (
@@ -46,6 +47,7 @@ const SUBCOMMANDS: [(&str, &[(Form, &str)]); 8] = [
             (Form::Choice, "format"),
             (Form::Choice, "operands"),
             (Form::Flag, "add"),
+            (Form::Choice, "widths"),
         ],
     ),
     (
@@ -56,6 +58,7 @@ const SUBCOMMANDS: [(&str, &[(Form, &str)]); 8] = [
             (Form::Word, "b"),
             (Form::Choice, "inputs"),
             (Form::Choice, "addend"),
+            (Form::Choice, "widths"),
         ],
     ),
     (
@@ -97,6 +100,7 @@ const SUBCOMMANDS: [(&str, &[(Form, &str)]); 8] = [
             (Form::Choice, "inputs"),
             (Form::Choice, "operands"),
             (Form::Flag, "add"),
+            (Form::Choice, "widths"),
         ],
     ),
 ];

@@ -1,6 +1,7 @@
 // The commands, each with what its words say.
 use crate::files::{FileName, Files, PairFiles, TrimFiles};
-use graph_core::{Claim, Order};
+use crate::point::Point;
+use graph_core::Claim;
 use graph_maker::{Adder, Design};
 
 /// What a command line asks for.
@@ -23,13 +24,10 @@ pub enum Command {
         /// the version of the certificates, 1 or 2
         version: u8,
     },
-    /// To evaluate a graph at two operands and perhaps an addend, each below 2^128.
+    /// To evaluate a graph at two operands and perhaps an addend.
     Eval {
         graph: FileName,
-        a: u128,
-        b: u128,
-        order: Order,
-        addend: Option<u128>,
+        point: Point,
     },
     /// To make the graph of a design, of operands of 1 to 64 bits, and to write it to a file.
     Make {

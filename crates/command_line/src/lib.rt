@@ -5,8 +5,8 @@
 //! names that `Files::names` lends are those of the command. This is the one crate that loads `clap`.
 //!
 //! What plain words ask for is a law, the contract of `plain_words`: any three names that begin with no hyphen, after
-//! `check`, are the files that are asked for; a number is what decimal digits spell below 2^128; the options, the
-//! designs, `trial` and too few words by example.
+//! `check`, are the files that are asked for; a number is what decimal digits spell below 2^128, and two widths are two
+//! such numbers from 1 to 64 with an x between them; the options, the designs, `trial` and too few words by example.
 //!
 //! *Asked*: what words ask for, by what `clap` says of the fixed command, the texts that are named, and numbers in
 //! their range (`specs/Asked.antt`). *Fixed command*: `mulver` with its subcommands, as `clap` is given it
@@ -19,6 +19,7 @@ mod defaults;
 mod examples;
 mod fail;
 mod files;
+mod point;
 mod reading;
 mod single;
 mod texts;
@@ -28,4 +29,5 @@ pub use defaults::{BUDGET, CONFLICTS};
 pub use examples::plain_words;
 pub use fail::WordsFail;
 pub use files::{FileName, Files, PairFiles, TrimFiles};
+pub use point::Point;
 pub use reading::read_words;

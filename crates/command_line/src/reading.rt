@@ -10,8 +10,7 @@ use crate::defaults::{BUDGET, CONFLICTS};
 use crate::fail::WordsFail;
 use crate::files::{Files, PairFiles, TrimFiles};
 use crate::texts::{
-    addend_at, adder_at, bits_at, claim_at, design_at, file_at, number_at, order_at, version_at,
-    word_at, word_of,
+    adder_at, bits_at, claim_at, design_at, file_at, point_at, version_at, word_at, word_of,
 };
 use clap::ArgMatches;
 use clap::error::ErrorKind;
@@ -113,17 +112,8 @@ fn eval(alloc: Global, matches: &ArgMatches<'_>) -> Result<Command, WordsFail>
     ensures { ReadsAsked (eval_of (rows_of (found_of matches.now))) result }
 {
     let graph = file_at(alloc, matches, "graph")?;
-    let a = number_at(matches, "a").ok_or(WordsFail::Usage)?;
-    let b = number_at(matches, "b").ok_or(WordsFail::Usage)?;
-    let order = order_at(matches).ok_or(WordsFail::Usage)?;
-    let addend = addend_at(matches).ok_or(WordsFail::Usage)?;
-    Ok(Command::Eval {
-        graph,
-        a,
-        b,
-        order,
-        addend,
-    })
+    let point = point_at(matches).ok_or(WordsFail::Usage)?;
+    Ok(Command::Eval { graph, point })
 }
 
 fn make(alloc: Global, matches: &ArgMatches<'_>) -> Result<Command, WordsFail>

@@ -1,8 +1,8 @@
 // What a single text says.
 ghost use Rattle.std.specs.Prelude.{◌≡◌};
-ghost use Rattle.command_line.specs.Asked.{adder_named, bits_asked, design_named, kind_named, number_of, order_named, sign_named, word_from};
+ghost use Rattle.command_line.specs.Asked.{adder_named, bits_asked, design_named, kind_named, number_of, order_named, sign_named, widths_named, word_from};
 
-use graph_core::{Order, Sign};
+use graph_core::{Order, Sign, Widths};
 use graph_maker::{Adder, Design, Kind};
 use mv_nums::read_decimal;
 
@@ -69,6 +69,16 @@ pub(crate) fn bits_of(text: &str) -> Option<u32>
     } else {
         None
     }
+}
+
+/// The widths of two operands: two numbers of bits with an x between them.
+pub(crate) fn widths_named(add: bool, text: &str) -> Option<Widths>
+    ensures { result ≡ widths_named add text.now }
+{
+    let (a, b) = text.split_once('x')?;
+    let a = bits_of(a)?;
+    let b = bits_of(b)?;
+    Some(Widths::Given { a, b, add })
 }
 
 /// A number below 2^32, from a least one on.

@@ -1,16 +1,17 @@
 // The texts of a subcommand, each under its name.
 ghost use Rattle.std.specs.Prelude.{◌≡◌, codes, option_map};
 ghost use Rattle.clap.specs.Words.{first_of, found_of, rows_of};
-ghost use Rattle.command_line.specs.Asked.{addend_at, adder_named, bits_asked, claim_at, design_named, is_set, number_of, order_at, read_at, sign_at, version_at, word_at, word_from};
+ghost use Rattle.command_line.specs.Asked.{addend_at, adder_named, bits_asked, claim_at, claim_of, design_named, is_given, is_set, number_of, order_at, point_at, read_at, sign_at, version_at, widths_at, word_at, word_from};
 ghost use Rattle.command_line.specs.Reading.{ReadsAsked};
 
 use crate::fail::WordsFail;
 use crate::files::FileName;
+use crate::point::Point;
 use crate::single::{
-    adder_named, bits_of, design_named, number_of, order_named, sign_named, word_from,
+    adder_named, bits_of, design_named, number_of, order_named, sign_named, widths_named, word_from,
 };
 use clap::ArgMatches;
-use graph_core::{Claim, Order, Sign};
+use graph_core::{Claim, Order, Sign, Widths};
 use graph_maker::{Adder, Design};
 use std::alloc::Global;
 
@@ -27,40 +28,27 @@ pub(crate) fn file_at(
     }
 }
 
-/// The order that is named, or `separate` where none is.
-pub(crate) fn order_at(matches: &ArgMatches<'_>) -> Option<Order>
-    ensures { result ≡ order_at (rows_of (found_of matches.now)) }
-{
-    match text_at(matches, "inputs") {
-        Some(text) => order_named(text),
-        None => Some(Order::Separate),
-    }
-}
-
-/// What is claimed, by an order, a kind of operands and the flag `add`.
+/// What is claimed, by an order, a kind of operands, the flag `add` and widths.
 pub(crate) fn claim_at(matches: &ArgMatches<'_>) -> Option<Claim>
     ensures { result ≡ claim_at (rows_of (found_of matches.now)) }
 {
     let order = order_at(matches)?;
     let sign = sign_at(matches)?;
-    let add = is_set(matches, "add");
-    Some(Claim { order, sign, add })
+    let widths = widths_at(matches, is_set(matches, "add"))?;
+    claim_of(order, sign, widths)
 }
 
-/// The addend that is given, or none.
-pub(crate) fn addend_at(matches: &ArgMatches<'_>) -> Option<Option<u128>>
-    ensures { result ≡ addend_at (rows_of (found_of matches.now)) }
+/// The operands that are given, and the addend where one is.
+pub(crate) fn point_at(matches: &ArgMatches<'_>) -> Option<Point>
+    ensures { result ≡ point_at (rows_of (found_of matches.now)) }
 {
-    match text_at(matches, "addend") {
-        Some(text) => Some(Some(number_of(text)?)),
-        None => Some(None),
-    }
-}
-
-pub(crate) fn number_at(matches: &ArgMatches<'_>, name: &str) -> Option<u128>
-    ensures { result ≡ read_at number_of name.now (rows_of (found_of matches.now)) }
-{
-    number_of(text_at(matches, name)?)
+    let a = number_at(matches, "a")?;
+    let b = number_at(matches, "b")?;
+    let c = addend_at(matches)?;
+    let order = order_at(matches)?;
+    let widths = widths_at(matches, is_given(matches, "addend"))?;
+    let claim = claim_of(order, Sign::Unsigned, widths)?;
+    Some(Point { claim, a, b, c })
 }
 
 /// A number below 2^32, from a least one on, or a default where none is named.
@@ -111,6 +99,16 @@ pub(crate) fn adder_at(matches: &ArgMatches<'_>, name: &str) -> Option<Adder>
     adder_named(text_at(matches, name)?)
 }
 
+// The order that is named, or `separate` where none is.
+fn order_at(matches: &ArgMatches<'_>) -> Option<Order>
+    ensures { result ≡ order_at (rows_of (found_of matches.now)) }
+{
+    match text_at(matches, "inputs") {
+        Some(text) => order_named(text),
+        None => Some(Order::Separate),
+    }
+}
+
 // The kind of operands that is named, or `unsigned` where none is.
 fn sign_at(matches: &ArgMatches<'_>) -> Option<Sign>
     ensures { result ≡ sign_at (rows_of (found_of matches.now)) }
@@ -119,6 +117,53 @@ fn sign_at(matches: &ArgMatches<'_>) -> Option<Sign>
         Some(text) => sign_named(text),
         None => Some(Sign::Unsigned),
     }
+}
+
+// The widths that are named, or equal ones where none are; with an addend or without it.
+fn widths_at(matches: &ArgMatches<'_>, add: bool) -> Option<Widths>
+    ensures { result ≡ widths_at add (rows_of (found_of matches.now)) }
+{
+    match text_at(matches, "widths") {
+        Some(text) => widths_named(add, text),
+        None => Some(Widths::Equal { add }),
+    }
+}
+
+// No rule says how operands of given widths interleave.
+fn claim_of(order: Order, sign: Sign, widths: Widths) -> Option<Claim>
+    ensures { result ≡ claim_of order sign widths }
+{
+    match (order, widths) {
+        (Order::Interleaved, Widths::Given { .. }) => None,
+        _ => Some(Claim {
+            order,
+            sign,
+            widths,
+        }),
+    }
+}
+
+// The addend that is given, or 0.
+fn addend_at(matches: &ArgMatches<'_>) -> Option<u128>
+    ensures { result ≡ addend_at (rows_of (found_of matches.now)) }
+{
+    match text_at(matches, "addend") {
+        Some(text) => number_of(text),
+        None => Some(0),
+    }
+}
+
+fn number_at(matches: &ArgMatches<'_>, name: &str) -> Option<u128>
+    ensures { result ≡ read_at number_of name.now (rows_of (found_of matches.now)) }
+{
+    number_of(text_at(matches, name)?)
+}
+
+// Whether a text of this name is given.
+fn is_given(matches: &ArgMatches<'_>, name: &str) -> bool
+    ensures { result ≡ is_given name.now (rows_of (found_of matches.now)) }
+{
+    text_at(matches, name).is_some()
 }
 
 // The flag of this name is given.

@@ -1,7 +1,7 @@
 // joint_checker: lengths, over files in memory.
 use aiger_reader::ReadFail;
 use command_core::{Names, Stop};
-use graph_core::{Claim, Field, Order, Sign};
+use graph_core::{Claim, Field, Order, Sign, Widths};
 use joint_checker::{AlgebraWhy, Checked, Refusal, check};
 use mv_desk::{Limits, MemoryDesk, Slot};
 use std::alloc::{AllocError, Global};
@@ -189,7 +189,7 @@ fn is_said(
     let claim = Claim {
         order: Order::Separate,
         sign: Sign::Unsigned,
-        add: false,
+        widths: Widths::Equal { add: false },
     };
     Ok(check(alloc, &mut desk, claim, &limits, &NAMES) == *said)
 }

@@ -4,7 +4,7 @@ ghost use Rattle.graph_core.specs.Aiger.Sizes.{IsSizedAs};
 ghost use Rattle.graph_core.specs.Graph.Operands.{profile_of};
 
 use aiger_reader::graph_of_text;
-use graph_core::{Claim, Graph, Numbers, Operands, Order, Sign};
+use graph_core::{Claim, Graph, Numbers, Operands, Order, Sign, Widths};
 use graph_maker::{Adder, Kind, make};
 use operand_search::{least_seen, least_within, most_ones_within};
 use stage_guesser::candidate;
@@ -14,19 +14,29 @@ use std::test::Fail;
 const PRODUCT: Claim = Claim {
     order: Order::Separate,
     sign: Sign::Unsigned,
-    add: false,
+    widths: Widths::Equal { add: false },
 };
 
 const SIGNED: Claim = Claim {
     order: Order::Separate,
     sign: Sign::Signed,
-    add: false,
+    widths: Widths::Equal { add: false },
+};
+
+const TWO_BY_ONE: Claim = Claim {
+    order: Order::Separate,
+    sign: Sign::Unsigned,
+    widths: Widths::Given {
+        a: 2,
+        b: 1,
+        add: false,
+    },
 };
 
 const SUM: Claim = Claim {
     order: Order::Separate,
     sign: Sign::Unsigned,
-    add: true,
+    widths: Widths::Equal { add: true },
 };
 
 // The least difference of the graph of a text, with at most so many ones, by both searches; None where one fails.
@@ -48,7 +58,7 @@ fn least_of(
     claim: Claim,
     most_ones: u32,
 ) -> Option<(Option<Numbers>, Option<Numbers>)>
-    requires { IsSizedAs (profile_of claim.add) graph.now }
+    requires { IsSizedAs (profile_of claim.widths) graph.now }
 {
     let operands = Operands::under(alloc, graph, claim).ok()?;
     let within = least_within(alloc, graph, &operands, most_ones).ok()?;
@@ -60,7 +70,7 @@ fn least_of(
 const TWO_BITS: &[u8] =
     b"aag 14 4 0 4 10\n2\n4\n6\n8\n10\n22\n28\n24\n10 6 2\n12 6 4\n14 8 2\n16 8 4\n18 14 12\n20 15 13\n22 21 19\n24 18 16\n26 19 17\n28 27 25\n";
 
-const DIFFERENCES: [(&str, &[u8], Claim, u32, Option<Numbers>); 8] = [
+const DIFFERENCES: [(&str, &[u8], Claim, u32, Option<Numbers>); 10] = [
     (
         "a multiplier of one bit",
         b"aag 3 2 0 1 1\n2\n4\n6\n6 4 2\n",
@@ -110,6 +120,20 @@ const DIFFERENCES: [(&str, &[u8], Claim, u32, Option<Numbers>); 8] = [
         SUM,
         4,
         None,
+    ),
+    (
+        "two bits times one",
+        b"aag 5 3 0 3 2\n2\n4\n6\n8\n10\n0\n8 6 2\n10 6 4\n",
+        TWO_BY_ONE,
+        3,
+        None,
+    ),
+    (
+        "two bits times one without the second",
+        b"aag 5 3 0 3 2\n2\n4\n6\n8\n0\n0\n8 6 2\n10 6 4\n",
+        TWO_BY_ONE,
+        3,
+        Some(Numbers { a: 2, b: 1, c: 0 }),
     ),
 ];
 

@@ -396,9 +396,9 @@ dadda_network b rows pos long =
     let n = length rows in
     let s : Columns = record { builder = b; columns = columns_of rows } in
     let r = stages n heights s in
-    let red = reduced b rows pos long in
-    let last = last_network r.builder r.columns red.first (low_pairs red.height r.columns (two_at_most b rows pos long) red.low) in
-    let tree = stages_network n (max n 63) heights 2 s (heights_fall n) (start_reduced b rows pos long) in
+    let red = reduced n b rows pos long in
+    let last = last_network r.builder r.columns red.first (low_pairs red.height r.columns (two_at_most n b rows pos long) red.low) in
+    let tree = stages_network n (max n 63) heights 2 s (heights_fall n) (start_reduced n b rows pos long) in
     let end = last_adder Ripple r.builder r.columns in
     fewer b end.builder _ _ (tree.0 + length r.columns) (n * n + 2 * n) (omega (arith, tree.2, literals-columns_of rows, literals-long n rows long, length-stages n heights s, length_columns rows pos long))
     (then b r.builder end.builder (λ φ. rows_at φ 0 rows) (λ φ. columns_at φ 0 (columns_of rows)) (λ φ. columns_at φ 0 r.columns) (λ φ. columns_at φ 0 r.columns) (λ φ. word_at φ 0 end.outputs) (λ φ. word_at φ 0 end.outputs)

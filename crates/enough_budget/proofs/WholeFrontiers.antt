@@ -31,7 +31,8 @@ use Rattle.graph_maker.specs.Builder.{Builder, with_gates, literals_from}
 use Rattle.graph_maker.specs.Products.{product_gates, products}
 use Rattle.graph_maker.specs.Made.{made}
 use Rattle.graph_maker.proofs.ArrayAdds.{length-literals_from}
-use Rattle.graph_maker.proofs.MadeMultiplies.{a_literals, b_literals, all_products, whole_outputs, count, long, numbered, numbered_well_formed, a_is, b_is, full, no_gates}
+use Rattle.graph_maker.proofs.MadeMultiplies.{a_literals, b_literals, all_products, whole_outputs, count, long, numbered, a_is, b_is, full, no_gates}
+use Rattle.graph_maker.proofs.Numbered.{numbered_well_formed}
 use Rattle.enough_budget.proofs.Linear.{IsLinear, linear_constant, linear_same, linear_more, linear_plus, linear_times, linear_minus, linear_literal, linear_product}
 use Rattle.enough_budget.proofs.Network.{Cell, IsNetwork, all_outs, fulls, outs, size_of, sum_at, carry_at, adder_gates, Valuation, word_at, rows_at, outputs_network}
 use Rattle.enough_budget.proofs.Needed.{at_literal, chosen, outs_out, AreWhole, IsReader, AreAdded, needed, needed_few, sum_whole, carry_whole, columns_are, few_needed}

@@ -4,11 +4,16 @@ use Rattle.std.specs.List.{list_all, filter, flat_map}
 use Rattle.std.proofs.Common.{refl}
 use Rattle.graph_core.specs.declared.literal.Lit.{Lit}
 use Rattle.graph_core.specs.declared.gate.Gate.{Gate}
+use Rattle.graph_core.specs.declared.claim.Claim.{Claim}
+use Rattle.graph_core.specs.declared.numbers.Numbers.{Numbers}
+use Rattle.graph_core.specs.declared.sign.Sign.{Sign}
+use Rattle.graph_core.specs.declared.sign.Sign.TheVariants.{Signed, Unsigned}
+use Rattle.graph_core.specs.declared.widths.Widths.TheVariants.{Given}
 use Rattle.graph_core.specs.declared.order.Order.{Order}
 use Rattle.graph_core.specs.declared.order.Order.TheVariants.{Separate, Interleaved}
 use Rattle.graph_core.specs.Graph.Assignments.{listed}
 use Rattle.graph_core.specs.Graph.{Aig}
-use Rattle.graph_core.specs.Graph.Operands.{sides_of, value_on}
+use Rattle.graph_core.specs.Graph.Operands.{claimed_at, output_modulus, product_under, sides_for, sides_of, value_at}
 use Rattle.algebra_core.specs.Polynomials.{Term, Polynomial, value}
 use Rattle.graph_core.specs.Graph.Extended.{without_cut, modulus}
 use Rattle.frontier_core.specs.Columns.{all_columns}
@@ -54,11 +59,19 @@ substituted_none = refl
 start_is_frontier : list_all (λ bits. value 4 start (listed bits) == frontier_value (without_cut one_bit) (sides_of Separate one_bit) (1 ∷ 0 ∷ []) [] (listed bits)) all_four ≡ true
 start_is_frontier = refl
 
--- the operands on which a graph of two bits isn't the product modulo 2 ^ the number of outputs, and the positions of their ones
+-- two operands
+abbrev two : ℕ × ℕ → Numbers
+two p = record { a = p.0; b = p.1; c = 0 }
+
+-- the operands on which a graph isn't what is claimed, b below a bound, and the positions of their ones
+abbrev differing_below : List ℕ → Aig → Claim → List (List ℕ)
+differing_below bs g k =
+    map (λ (p : ℕ × ℕ). p.0 ∷ p.1 ∷ ones_at (sides_for k g) (two p))
+    (filter (λ (p : ℕ × ℕ). not (value_at g (sides_for k g) (two p) == claimed_at (output_modulus g) (sides_for k g) (two p) % output_modulus g))
+    (flat_map (λ a. map (λ b. (a, b)) bs) (0 ∷ 1 ∷ 2 ∷ 3 ∷ [])))
+
 abbrev differing : Aig → Order → List (List ℕ)
-differing g order =
-    map (λ (p : ℕ × ℕ). p.0 ∷ p.1 ∷ ones_at g order p.0 p.1)
-    (filter (λ (p : ℕ × ℕ). not (value_on g order p.0 p.1 == p.0 * p.1 % 2 ^ length g.outputs)) (flat_map (λ a. map (λ b. (a, b)) (0 ∷ 1 ∷ 2 ∷ 3 ∷ [])) (0 ∷ 1 ∷ 2 ∷ 3 ∷ [])))
+differing g order = differing_below (0 ∷ 1 ∷ 2 ∷ 3 ∷ []) g (product_under order)
 
 none_differ : differing two_bits Separate ≡ []
 none_differ = refl
@@ -67,6 +80,19 @@ none_differ = refl
 interleaved_differ : differing two_bits Interleaved ≡
     (0 ∷ 3 ∷ 1 ∷ 3 ∷ []) ∷ (1 ∷ 1 ∷ 0 ∷ 1 ∷ []) ∷ (1 ∷ 3 ∷ 0 ∷ 1 ∷ 3 ∷ []) ∷ (2 ∷ 2 ∷ 2 ∷ 3 ∷ []) ∷ (3 ∷ 0 ∷ 0 ∷ 2 ∷ []) ∷ (3 ∷ 2 ∷ 0 ∷ 2 ∷ 3 ∷ []) ∷ []
 interleaved_differ = refl
+
+-- a of two bits times b of one, which is right of unsigned operands alone: signed ones are from -2 to 1 and from -1 to 0
+abbrev two_times_one : Aig
+two_times_one = record { max = 5; inputs = map lit (2 ∷ 4 ∷ 6 ∷ []); outputs = map lit (8 ∷ 10 ∷ 0 ∷ []); gates = gate 8 6 2 ∷ gate 10 6 4 ∷ [] }
+
+abbrev two_by_one : Sign → Claim
+two_by_one sign = record { order = Separate; sign = sign; widths = Given 2 1 false }
+
+none_of_three_inputs : differing_below (0 ∷ 1 ∷ []) two_times_one (two_by_one Unsigned) ≡ []
+none_of_three_inputs = refl
+
+signed_differ : differing_below (0 ∷ 1 ∷ []) two_times_one (two_by_one Signed) ≡ (1 ∷ 1 ∷ 0 ∷ 2 ∷ []) ∷ (3 ∷ 1 ∷ 0 ∷ 1 ∷ 2 ∷ []) ∷ []
+signed_differ = refl
 
 -- with the output 0 for 24 one pair differs, and the last frontier is 8*x1*x2*x3*x4
 abbrev top_lost : Aig

@@ -19,7 +19,6 @@ pub mod Added
 pub mod LastFrontiers
 pub mod Positions
 pub mod LeastTerms
-pub mod InputNumbers
 pub mod LeastValues
 pub mod CallerLemmas
 mod FrontierRows

@@ -1,13 +1,13 @@
 -- The least values of the inputs at which a graph isn't what it is claimed to be.
-use Rattle.std.specs.Prelude.{◌≡◌, ◌≢◌, ◌↔◌, ℕ, suc, ◌+◌, ◌*◌, ◌%◌, ◌^◌, ◌<◌, ◌⊎◌, Bool, true, false, List, [], ◌∷◌, ◌++◌, map, length, if◌then◌else◌}
+use Rattle.std.specs.Prelude.{◌≡◌, ◌≢◌, ◌↔◌, ℕ, suc, ◌%◌, ◌<◌, ◌⊎◌, Bool, true, false, List, [], ◌∷◌, ◌++◌, map, length, if◌then◌else◌}
 use Rattle.std.specs.List.{All, AllPairs, Contains}
 use Rattle.graph_core.specs.declared.literal.Lit.{Lit}
-use Rattle.graph_core.specs.declared.order.Order.{Order}
-use Rattle.graph_core.specs.declared.sign.Sign.{Sign}
+use Rattle.graph_core.specs.declared.claim.Claim.{Claim}
+use Rattle.graph_core.specs.declared.numbers.Numbers.{Numbers}
 use Rattle.graph_core.specs.Graph.Literals.{variable_of}
 use Rattle.graph_core.specs.Graph.Assignments.{Assignment, literal}
 use Rattle.graph_core.specs.Graph.{Aig, IsDefinedOnce, of_inputs, evaluated}
-use Rattle.graph_core.specs.Graph.Operands.{Sides, sides_for, multiplying, adding, width, sum_width, bits_of, inputs_of, product_as, value_on, sum_on, value_at_inputs, claimed, output_modulus, HasMultiplierShape, HasSumShape}
+use Rattle.graph_core.specs.Graph.Operands.{Sides, sides_for, inputs_at, value_at, value_at_inputs, claimed, claimed_at, output_modulus, AreInRange, HasShapeFor}
 use Rattle.algebra_core.specs.Polynomials.{Term, Polynomial, value}
 use Rattle.algebra_core.specs.NormalForm.{IsNormalForm}
 use Rattle.graph_core.specs.Graph.Extended.{Extended}
@@ -54,60 +54,31 @@ abbrev pub LastFrontierGivesLeast : Type 0
 LastFrontierGivesLeast = (e : Extended) (s : Sides) (added eliminated : List ℕ) (bits : List Bool) → IsEnd e s added eliminated →
     IsLeastNonzero (frontier_value e s added eliminated) e.graph.inputs bits → IsLeastDifferenceAt e.graph s bits
 
--- ---- two operands
+-- ---- numbers
 
--- operands of the graph's width on which its value isn't the product of the numbers that they stand for
-pub record IsDifference (g : Aig) (order : Order) (sign : Sign) (a b : ℕ) : Type 0 where
-  pub a_below : a < 2 ^ width g
-  pub b_below : b < 2 ^ width g
-  pub differs : value_on g order a b ≢ product_as sign (output_modulus g) (width g) a b % output_modulus g
+-- numbers of the operands' bits on which the graph's value isn't what is claimed of them
+pub record IsDifference (g : Aig) (s : Sides) (x : Numbers) : Type 0 where
+  pub range : AreInRange s x
+  pub differs : value_at g s x ≢ claimed_at (output_modulus g) s x % output_modulus g
 
--- the positions of the inputs that are one at these operands, in order
-abbrev pub ones_at : Aig → Order → ℕ → ℕ → List ℕ
-ones_at g order a b = ones_from 0 (inputs_of order (width g) a b)
+-- the positions of the inputs that are one at these numbers, in order
+abbrev pub ones_at : Sides → Numbers → List ℕ
+ones_at s x = ones_from 0 (inputs_at s x)
 
--- The difference with the fewest ones, ties by the lexicographically least list of input positions.
-pub record IsLeastDifference (g : Aig) (order : Order) (sign : Sign) (a b : ℕ) : Type 0 where
-  pub difference : IsDifference g order sign a b
-  pub least : (c d : ℕ) → IsDifference g order sign c d → ((c ≡ a) × (d ≡ b)) ⊎ Precedes (ones_at g order a b) (ones_at g order c d)
+-- The difference with the fewest ones, those of an addend too, ties by the lexicographically least list of input positions.
+pub record IsLeastDifference (g : Aig) (s : Sides) (x : Numbers) : Type 0 where
+  pub difference : IsDifference g s x
+  pub least : (y : Numbers) → IsDifference g s y → (y ≡ x) ⊎ Precedes (ones_at s x) (ones_at s y)
 
--- The values that stand for two operands are the least difference exactly where the operands are.
-abbrev pub DifferenceIsOfOperands : Type 0
-DifferenceIsOfOperands = (g : Aig) (order : Order) (sign : Sign) (a b : ℕ) → HasMultiplierShape g → IsDefinedOnce g → a < 2 ^ width g → b < 2 ^ width g →
-    (IsLeastDifferenceAt g (sides_for (multiplying order sign) g) (inputs_of order (width g) a b) ↔ IsLeastDifference g order sign a b)
-
--- ---- two operands and an addend
-
--- operands and an addend on which the graph's value isn't the product of the numbers that the operands stand for plus the addend
-pub record IsSumDifference (g : Aig) (order : Order) (sign : Sign) (a b c : ℕ) : Type 0 where
-  pub a_below : a < 2 ^ sum_width g
-  pub b_below : b < 2 ^ sum_width g
-  pub c_below : c < 2 ^ (2 * sum_width g)
-  pub differs : sum_on g order a b c ≢ (product_as sign (output_modulus g) (sum_width g) a b + c) % output_modulus g
-
--- the positions of the inputs that are one at these operands and this addend, in order
-abbrev pub sum_ones_at : Aig → Order → ℕ → ℕ → ℕ → List ℕ
-sum_ones_at g order a b c = ones_from 0 (inputs_of order (sum_width g) a b ++ bits_of (2 * sum_width g) c)
-
--- The difference with the fewest ones, those of the addend too, ties by the lexicographically least list of input positions.
-pub record IsLeastSumDifference (g : Aig) (order : Order) (sign : Sign) (a b c : ℕ) : Type 0 where
-  pub difference : IsSumDifference g order sign a b c
-  pub least : (d e f : ℕ) → IsSumDifference g order sign d e f →
-      ((d ≡ a) × (e ≡ b) × (f ≡ c)) ⊎ Precedes (sum_ones_at g order a b c) (sum_ones_at g order d e f)
-
--- The values that stand for two operands and an addend are the least difference exactly where these are.
-abbrev pub DifferenceIsOfSum : Type 0
-DifferenceIsOfSum = (g : Aig) (order : Order) (sign : Sign) (a b c : ℕ) → HasSumShape g → IsDefinedOnce g →
-    a < 2 ^ sum_width g → b < 2 ^ sum_width g → c < 2 ^ (2 * sum_width g) →
-    (IsLeastDifferenceAt g (sides_for (adding order sign) g) (inputs_of order (sum_width g) a b ++ bits_of (2 * sum_width g) c) ↔
-    IsLeastSumDifference g order sign a b c)
+-- The values that stand for numbers are the least difference exactly where the numbers are.
+abbrev pub DifferenceIsOfNumbers : Type 0
+DifferenceIsOfNumbers = (g : Aig) (k : Claim) (x : Numbers) → HasShapeFor k.widths g → IsDefinedOnce g → AreInRange (sides_for k g) x →
+    (IsLeastDifferenceAt g (sides_for k g) (inputs_at (sides_for k g) x) ↔ IsLeastDifference g (sides_for k g) x)
 
 -- There is at most one least difference.
 abbrev pub LeastDifferenceIsOne : Type 0
 LeastDifferenceIsOne = ((g : Aig) (s : Sides) (bits other : List Bool) → IsLeastDifferenceAt g s bits → IsLeastDifferenceAt g s other → other ≡ bits) ×
-    ((g : Aig) (order : Order) (sign : Sign) (a b c d : ℕ) → IsLeastDifference g order sign a b → IsLeastDifference g order sign c d → (c ≡ a) × (d ≡ b)) ×
-    ((g : Aig) (order : Order) (sign : Sign) (a b c d e f : ℕ) → IsLeastSumDifference g order sign a b c → IsLeastSumDifference g order sign d e f →
-    (d ≡ a) × (e ≡ b) × (f ≡ c))
+    ((g : Aig) (s : Sides) (x y : Numbers) → IsLeastDifference g s x → IsLeastDifference g s y → y ≡ x)
 
 -- ---- terms
 

@@ -29,10 +29,10 @@ mod step;
 mod substitution_laws;
 
 pub use end_laws::{
-    difference_is_of_operands, difference_is_of_sum, first_difference_precedes,
-    last_frontier_at_inputs, last_frontier_decides, last_frontier_gives_least,
-    last_frontier_is_error, last_frontier_is_over_inputs, least_difference_is_one,
-    least_term_gives_inputs, least_term_is_least,
+    difference_is_of_numbers, first_difference_precedes, last_frontier_at_inputs,
+    last_frontier_decides, last_frontier_gives_least, last_frontier_is_error,
+    last_frontier_is_over_inputs, least_difference_is_one, least_term_gives_inputs,
+    least_term_is_least,
 };
 pub use frontier_laws::{
     adding_adds_column, adding_leaves_frontier, claims_are_of_operands, columns_make_claim,

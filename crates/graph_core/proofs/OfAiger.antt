@@ -2,6 +2,7 @@
 pub mod CallerLemmas
 pub mod Bodies
 pub mod Fields
+pub mod GivenWidths
 pub mod Packed
 pub mod PlacedGates
 pub mod Readers

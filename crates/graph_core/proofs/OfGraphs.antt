@@ -13,9 +13,11 @@ pub mod Levels
 pub mod Lists
 pub mod LiteralValues
 pub mod Multiplies
+pub mod NumbersOfInputs
 pub mod OperandBits
 pub mod OperandLiterals
 pub mod OperandPlaces
+pub mod OperandWidths
 pub mod OutputValues
 pub mod SearchSteps
 pub mod SignedWords

@@ -30,12 +30,14 @@ mod operands;
 mod order;
 mod profile;
 mod sign;
+mod widths;
 
 pub use bounds::{MOST_INPUTS, MOST_OUTPUTS, MOST_VARIABLES};
 pub use claim::Claim;
 pub use evaluation_laws::{
-    claim_is_done, claim_is_product, evaluation_is_one, evaluations_suffice, one_level,
-    sides_are_inputs, sides_read_inputs, spelled_shape, whole_products,
+    claim_is_done, claim_is_product, doing_is_adding, doing_is_multiplying, evaluation_is_one,
+    evaluations_suffice, one_level, sides_are_inputs, sides_are_narrow, sides_read_inputs,
+    spelled_shape, whole_products,
 };
 pub use fault::{BuildFail, Field, GraphFault};
 pub use file_laws::{
@@ -52,3 +54,4 @@ pub use operands::Operands;
 pub use order::Order;
 pub use profile::Profile;
 pub use sign::Sign;
+pub use widths::Widths;

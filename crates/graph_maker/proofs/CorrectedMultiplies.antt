@@ -13,18 +13,20 @@ use Rattle.graph_core.specs.Graph.{Aig}
 use Rattle.graph_core.specs.Graph.Operands.{width, a_bits, b_bits, HasMultiplierShape, multiplying, sides_for, signed_word, output_modulus, MeetsClaimOnEvaluations}
 use Rattle.graph_core.proofs.OfGraphs.CallerLemmas.{claim_is_done, evaluations_suffice, literal-even, literal-odd, signed_is, sum_same, top, word_below}
 use Rattle.graph_core.proofs.OfAiger.CallerLemmas.{ArePlaced}
+use Rattle.graph_maker.specs.declared.kind.Kind.TheVariants.{Array}
 use Rattle.graph_maker.specs.declared.adder.Adder.{Adder}
 use Rattle.graph_maker.specs.Builder.{Builder, no_gates, with_gates, literals_from}
 use Rattle.graph_maker.specs.Ripple.{Outputs}
 use Rattle.graph_maker.specs.Products.{Products, products}
-use Rattle.graph_maker.specs.ArrayRows.{array}
+use Rattle.graph_maker.specs.Made.{product_behind}
 use Rattle.graph_maker.specs.Corrected.{masked_gates, inverted_from, take_away, made_corrected, IsSignedMultiplier, CorrectedMultiplies}
 use Rattle.graph_maker.proofs.CellFacts.{Computes, Holds, holds_split}
 use Rattle.graph_maker.proofs.AddWords.{length-add_words, words_add, words_placed}
-use Rattle.graph_maker.proofs.ArrayAdds.{AreLong, array_adds, bit_and, length-array, length-literals_from, length-products, length-take_to, products_long, products_multiply, word-append, word-split}
-use Rattle.graph_maker.proofs.Places.{AreUpTo, IsBuilt, IsNext, IsOutputs, array_placed, more, products_placed, then, up-append, up-drop, up-literals_from, up-take, with_placed}
+use Rattle.graph_maker.proofs.ArrayAdds.{bit_and, length-literals_from, length-take_to, word-append, word-split}
+use Rattle.graph_maker.proofs.Places.{AreUpTo, IsBuilt, IsNext, IsOutputs, more, then, up-append, up-drop, up-literals_from, up-take, with_placed}
 use Rattle.graph_maker.proofs.Inverted.{length-inverted_from}
-use Rattle.graph_maker.proofs.MadeMultiplies.{IsNumbered, numbered_well_formed, take-literals, drop-literals}
+use Rattle.graph_maker.proofs.Numbered.{IsNumbered, numbered_well_formed, take-literals, drop-literals}
+use Rattle.graph_maker.proofs.ProductOfWidths.{product_is, product_long, product_placed, rows_placed}
 
 -- ---- numbers
 
@@ -159,26 +161,20 @@ module _ (n : ℕ) (adder : Adder) (pos : 0 < n) where
   abbrev bs : List Lit
   bs = literals_from (n + 1) n
 
-  abbrev pub p : Products
+  abbrev p : Products
   p = products (no_gates (2 * n)) as' bs
 
-  abbrev pub r : Outputs
-  r = array adder p.builder p.rows
+  abbrev r : Outputs
+  r = product_behind (2 * n) Array n n adder
 
-  abbrev pub first : Outputs
+  abbrev first : Outputs
   first = take_away r.builder (drop n r.outputs) (plain n) bs
 
   abbrev second : Outputs
   second = take_away first.builder first.outputs (plain (2 * n)) as'
 
-  pub count : length p.rows ≡ n
-  count = length-products (no_gates (2 * n)) as' bs ∙ length-literals_from (n + 1) n
-
-  pub long : AreLong n p.rows
-  long = subst (λ k. AreLong k p.rows) (length-literals_from 1 n) (products_long (no_gates (2 * n)) as' bs)
-
-  pub wide : length r.outputs ≡ 2 * n
-  wide = omega (arith, length-array n adder p.builder p.rows pos (omega (arith, count)) long, count)
+  wide : length r.outputs ≡ 2 * n
+  wide = omega (arith, product_long (2 * n) Array n n adder pos pos)
 
   upper : length (drop n r.outputs) ≡ n
   upper = omega (arith, length-drop n r.outputs, wide)
@@ -198,13 +194,10 @@ module _ (n : ℕ) (adder : Adder) (pos : 0 < n) where
   -- ---- no fault
 
   placed_products : IsNext (2 * n) (no_gates (2 * n)) p.builder
-  placed_products =
-      (products_placed (2 * n) (no_gates (2 * n)) as' bs (record { placed = tt; last = omega arith }) (up-literals_from 1 n (2 * n) (omega arith)) (up-literals_from (n + 1) n (2 * n) (omega arith))).next
+  placed_products = (rows_placed (2 * n) Array n n adder pos pos (omega arith)).next
 
   placed_array : IsOutputs (2 * n) p.builder r
-  placed_array =
-      array_placed (2 * n) adder p.builder p.rows placed_products.built
-      (products_placed (2 * n) (no_gates (2 * n)) as' bs (record { placed = tt; last = omega arith }) (up-literals_from 1 n (2 * n) (omega arith)) (up-literals_from (n + 1) n (2 * n) (omega arith))).rows
+  placed_array = product_placed (2 * n) Array n n adder pos pos (omega arith)
 
   inputs_up : 2 * n ≤ r.builder.last
   inputs_up = omega (arith, placed_products.up, placed_array.next.up)
@@ -250,8 +243,8 @@ module _ (n : ℕ) (adder : Adder) (pos : 0 < n) where
   square = sym (pow-add 2 n n) ∙ ap (λ k. 2 ^ k) (omega arith)
 
   module _ (σ : Assignment) (holds : Holds σ second.builder) where
-    product_is : word σ g.outputs % 2 ^ (2 * n) ≡ (signed_word (2 ^ (2 * n)) σ as' * signed_word (2 ^ (2 * n)) σ bs) % 2 ^ (2 * n)
-    product_is =
+    signed_product_is : word σ g.outputs % 2 ^ (2 * n) ≡ (signed_word (2 ^ (2 * n)) σ as' * signed_word (2 ^ (2 * n)) σ bs) % 2 ^ (2 * n)
+    signed_product_is =
         let u = 2 ^ n in
         let m = 2 ^ (2 * n) in
         let x = word σ as' in
@@ -264,9 +257,8 @@ module _ (n : ℕ) (adder : Adder) (pos : 0 < n) where
         let d = word σ second.outputs in
         let last = taken_away σ first.builder first.outputs (plain (2 * n)) as' (length-first ∙ sym (length-literals_from 1 n)) holds in
         let before = taken_away σ r.builder (drop n r.outputs) (plain n) bs (upper ∙ sym (length-literals_from (n + 1) n)) last.0 in
-        let sums = array_adds n adder σ p.builder p.rows pos long before.0 in
-        let rows = products_multiply σ (no_gates (2 * n)) as' bs sums.0 in
-        let whole : x * y ≡ l + u * h = sym (sums.1 ∙ rows.1) ∙ word-split σ n r.outputs (omega (arith, wide)) in
+        let product = product_is (2 * n) Array n n adder pos pos σ before.0 in
+        let whole : x * y ≡ l + u * h = sym product ∙ word-split σ n r.outputs (omega (arith, wide)) in
         let one : c + a * y + u * before.1.0 ≡ h + u = subst (λ k. c + a * y + 2 ^ k * before.1.0 ≡ h + 2 ^ k) (length-literals_from (n + 1) n) before.1.1 in
         let two : d + b * x + u * last.1.0 ≡ c + u = subst (λ k. d + b * x + 2 ^ k * last.1.0 ≡ c + 2 ^ k) (length-literals_from 1 n) last.1.1 in
         let out : word σ g.outputs ≡ l + u * d = word-append σ (take n r.outputs) second.outputs ∙ ap (λ k. l + 2 ^ k * d) lower in
@@ -281,7 +273,7 @@ module _ (n : ℕ) (adder : Adder) (pos : 0 < n) where
   meets : MeetsClaimOnEvaluations g (sides_for (multiplying Separate Signed) g)
   meets σ evaluates =
       let holds = recursion_from_All (λ x. variable σ x.v ≡ (literal σ x.left && literal σ x.right)) g.gates evaluates in
-      sym (mod-eq_of_lt (word_below σ g.outputs)) ∙ subst (λ k. word σ g.outputs % 2 ^ k ≡ (signed_word (2 ^ k) σ as' * signed_word (2 ^ k) σ bs) % 2 ^ k) (sym full) (product_is σ holds) ∙
+      sym (mod-eq_of_lt (word_below σ g.outputs)) ∙ subst (λ k. word σ g.outputs % 2 ^ k ≡ (signed_word (2 ^ k) σ as' * signed_word (2 ^ k) σ bs) % 2 ^ k) (sym full) (signed_product_is σ holds) ∙
       ap₂ (λ xs ys. (signed_word (output_modulus g) σ xs * signed_word (output_modulus g) σ ys) % output_modulus g) (sym a_is) (sym b_is)
 
   is_multiplier : IsSignedMultiplier n g

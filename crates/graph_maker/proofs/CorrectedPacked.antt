@@ -12,7 +12,7 @@ use Rattle.graph_maker.proofs.ArrayAdds.{length-literals_from}
 use Rattle.graph_maker.proofs.CorrectedMultiplies.{full, numbered, shape, width_is}
 use Rattle.graph_maker.proofs.Inverted.{length-inverted_from, length-masked_gates}
 use Rattle.graph_maker.proofs.MadePacked.{numbered_packed}
-use Rattle.graph_maker.proofs.ProductSizes.{product_few}
+use Rattle.graph_maker.proofs.ProductOfWidths.{product_few}
 
 take_away_few : (b : Builder) (xs : List Lit) (x : Lit) (ys : List Lit) → (take_away b xs x ys).builder.last ≤ b.last + 8 * length ys
 take_away_few b xs x ys =
@@ -23,13 +23,13 @@ pub corrected_are_packed : CorrectedArePacked
 corrected_are_packed n adder pos small =
     let inputs = length-literals_from 1 (2 * n) in
     let packed = numbered_packed (2 * n) (made_corrected n adder) (numbered n adder pos) in
-    let r = product_behind (2 * n) Array n adder in
+    let r = product_behind (2 * n) Array n n adder in
     let one = take_away r.builder (drop n r.outputs) (plain n) (literals_from (n + 1) n) in
     let lower = take_away_few r.builder (drop n r.outputs) (plain n) (literals_from (n + 1) n) in
     let upper = take_away_few one.builder one.outputs (plain (2 * n)) (literals_from 1 n) in
     record {
       counts = record {
-        max = omega (arith, product_few (2 * n) Array n adder pos small, lower, upper, length-literals_from (n + 1) n, length-literals_from 1 n);
+        max = omega (arith, product_few (2 * n) Array n n adder pos pos small small, lower, upper, length-literals_from (n + 1) n, length-literals_from 1 n);
         step = omega (arith, inputs);
         some = omega (arith, inputs);
         few = omega (arith, inputs);

@@ -306,7 +306,7 @@ length-last adder b c cs = omega (arith, length-adder adder b (map x_of cs) (map
 pub heights_fall : (n : ℕ) → Fall (max n 63) heights 2
 heights_fall n = (omega arith, omega arith, (omega arith, omega arith, (omega arith, omega arith, (omega arith, omega arith, (omega arith, omega arith, (omega arith, omega arith, (omega arith, omega arith, (omega arith, omega arith, (omega arith, omega arith, (omega arith, omega arith, refl))))))))))
 
-module _ (b : Builder) (rows : List (List Lit)) (pos : 0 < length rows) (long : AreLong (length rows) rows) where
+module _ (m : ℕ) (b : Builder) (rows : List (List Lit)) (pos : 0 < m) (long : AreLong m rows) where
   abbrev pub n : ℕ
   n = length rows
 
@@ -317,7 +317,7 @@ module _ (b : Builder) (rows : List (List Lit)) (pos : 0 < length rows) (long : 
   start_reduced = record {
     height = n;
     is = record { wide = λ w. refl; reduced = λ w. omega arith };
-    low = triangle_low n (columns_of rows) (triangle-columns_of n pos rows long);
+    low = triangle_low n (columns_of rows) (triangle-columns_of m pos rows long);
     first = first-columns_of rows;
   }
 
@@ -334,12 +334,12 @@ module _ (b : Builder) (rows : List (List Lit)) (pos : 0 < length rows) (long : 
       let tree = stages_add σ n (max n 63) heights 2 start (heights_fall n) start_reduced last.0 in
       (tree.0, last.1 ∙ tree.1 ∙ sum-columns_of σ rows)
 
-  pub length-dadda : (adder : Adder) → length (dadda adder b rows).outputs ≡ 2 * n
-  length-dadda adder = go rows pos long (stages n heights start).columns (length-stages n heights start)
+  pub length-dadda : 0 < n → (adder : Adder) → length (dadda adder b rows).outputs ≡ m + n
+  length-dadda some adder = go rows some long (stages n heights start).columns (length-stages n heights start)
     where
-      go : (rs : List (List Lit)) → 0 < length rs → AreLong (length rs) rs → (cs : List (List Lit)) → length cs ≡ length (columns_of rs) →
-          length (last_adder adder (stages n heights start).builder cs).outputs ≡ 2 * length rs
+      go : (rs : List (List Lit)) → 0 < length rs → AreLong m rs → (cs : List (List Lit)) → length cs ≡ length (columns_of rs) →
+          length (last_adder adder (stages n heights start).builder cs).outputs ≡ m + length rs
       go [] p l cs e = absurd (omega arith)
-      go (r ∷ rs) p l [] e = absurd (omega (arith, length-columns_of (length (r ∷ rs)) p r rs l))
+      go (r ∷ rs) p l [] e = absurd (omega (arith, length-columns_of m pos r rs l, pos))
       go (r ∷ rs) p l (c ∷ cs) e =
-          omega (arith, length-columns_of (length (r ∷ rs)) p r rs l, length-last adder (stages n heights start).builder c cs)
+          omega (arith, length-columns_of m pos r rs l, length-last adder (stages n heights start).builder c cs)

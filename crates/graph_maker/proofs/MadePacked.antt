@@ -7,13 +7,15 @@ use Rattle.graph_core.specs.declared.gate.Gate.{Gate}
 use Rattle.graph_core.specs.Graph.Literals.{variable_of}
 use Rattle.graph_core.specs.Graph.{Aig, greater_first}
 use Rattle.graph_core.specs.Aiger.Writing.{written, written_gate}
-use Rattle.graph_core.specs.Aiger.{AreConsecutive, ArePackedGates, IsPacked}
-use Rattle.graph_core.proofs.OfAiger.CallerLemmas.{ArePlaced}
+use Rattle.graph_core.specs.Aiger.{AreConsecutive, ArePackedGates, IsPacked, given_inputs}
+use Rattle.graph_core.proofs.OfAiger.CallerLemmas.{ArePlaced, widths_fit}
 use Rattle.graph_maker.specs.Builder.{literals_from}
 use Rattle.graph_maker.specs.Made.{made, MadeArePacked}
+use Rattle.graph_maker.specs.MadeOfWidths.{made_of, MadeOfArePacked}
 use Rattle.graph_maker.proofs.ArrayAdds.{length-literals_from}
-use Rattle.graph_maker.proofs.Sizes.{products_few, made_few}
-use Rattle.graph_maker.proofs.MadeMultiplies.{IsNumbered, a_literals, b_literals, no_gates, all_products, count, long, numbered, full, shape, width_is}
+use Rattle.graph_maker.proofs.MadeMultiplies.{numbered, full, shape, width_is}
+use Rattle.graph_maker.proofs.Numbered.{IsNumbered}
+use Rattle.graph_maker.proofs.ProductOfWidths.{product_few, product_long, product_numbered}
 
 -- with the greater operand first both are as low
 sorted_low : (x : Gate) (n : ℕ) → x.left.0 < n → x.right.0 < n → ((greater_first x).left.0 < n) × ((greater_first x).right.0 < n)
@@ -47,17 +49,33 @@ pub made_are_packed : MadeArePacked
 made_are_packed kind n adder pos small =
     let inputs = length-literals_from 1 (2 * n) in
     let packed = numbered_packed (2 * n) (made kind n adder) (numbered kind n adder pos) in
-    let rows = count kind n adder pos in
-    let few = made_few kind adder (all_products kind n adder pos).builder (all_products kind n adder pos).rows (omega (arith, rows)) (omega (arith, rows)) (long kind n adder pos) in
-    let before = products_few (no_gates kind n adder pos) (a_literals kind n adder pos) (b_literals kind n adder pos) (omega (arith, length-literals_from 1 n)) in
     record {
       counts = record {
-        max = omega (arith, few, before, length-literals_from (n + 1) n);
+        max = omega (arith, product_few (2 * n) kind n n adder pos pos small small);
         step = omega (arith, inputs);
         some = omega (arith, inputs);
         few = omega (arith, inputs);
         some_outputs = omega (arith, full kind n adder pos, pos);
         outputs = omega (arith, full kind n adder pos, (shape kind n adder pos).inputs, width_is kind n adder pos);
+        room = omega (arith, packed.max);
+      };
+      packed = packed;
+    }
+
+pub made_of_are_packed : MadeOfArePacked
+made_of_are_packed kind m n adder pos some narrow small =
+    let inputs = length-literals_from 1 (m + n) in
+    let outputs = product_long (m + n) kind m n adder pos some in
+    let packed = numbered_packed (m + n) (made_of kind m n adder) (product_numbered (m + n) kind m n adder pos some (omega arith)) in
+    let fit = sym (widths_fit m n (omega (arith, pos)) narrow (omega (arith, some)) small) in
+    record {
+      counts = record {
+        max = omega (arith, product_few (m + n) kind m n adder pos some narrow small);
+        step = omega arith;
+        some = subst (λ t. cond t (given_inputs m n false) 1 ≤ length (literals_from 1 (m + n))) fit (omega (arith, inputs));
+        few = subst (λ t. length (literals_from 1 (m + n)) ≤ cond t (given_inputs m n false) 0) fit (omega (arith, inputs));
+        some_outputs = omega (arith, outputs, pos);
+        outputs = omega (arith, outputs, inputs);
         room = omega (arith, packed.max);
       };
       packed = packed;

@@ -16,13 +16,14 @@ use Rattle.graph_maker.specs.declared.adder.Adder.{Adder}
 use Rattle.graph_maker.specs.Builder.{no_gates, literals_from}
 use Rattle.graph_maker.specs.Ripple.{Outputs, add_words}
 use Rattle.graph_maker.specs.Products.{Products, products}
-use Rattle.graph_maker.specs.Made.{outputs_of}
+use Rattle.graph_maker.specs.Made.{product_behind}
 use Rattle.graph_maker.specs.WithAddend.{made_sum, IsMultiplyAdder, MadeSumsAdd}
 use Rattle.graph_maker.proofs.CellFacts.{Holds}
 use Rattle.graph_maker.proofs.AddWords.{length-add_words, words_add, words_placed}
-use Rattle.graph_maker.proofs.ArrayAdds.{AreLong, length-literals_from, length-products, products_long, products_multiply}
-use Rattle.graph_maker.proofs.Places.{IsNext, IsOutputs, outputs_placed, products_placed, up-literals_from}
-use Rattle.graph_maker.proofs.MadeMultiplies.{IsNumbered, numbered_well_formed, take-literals, drop-literals, outputs_add, length-outputs}
+use Rattle.graph_maker.proofs.ArrayAdds.{length-literals_from}
+use Rattle.graph_maker.proofs.Numbered.{IsNumbered, numbered_well_formed, take-literals, drop-literals}
+use Rattle.graph_maker.proofs.Places.{IsNext, IsOutputs, up-literals_from}
+use Rattle.graph_maker.proofs.ProductOfWidths.{product_is, product_long, product_placed, rows_placed}
 
 -- what is above n bits is a multiple of 2 ^ n
 low_part : (n o h x y : ℕ) → o + 2 ^ n * h ≡ x + y → o % 2 ^ n ≡ (x + y) % 2 ^ n
@@ -41,23 +42,17 @@ module _ (kind : Kind) (n : ℕ) (adder : Adder) (pos : 0 < n) where
   abbrev cs : List Lit
   cs = literals_from (2 * n + 1) (2 * n)
 
-  abbrev pub p : Products
+  abbrev p : Products
   p = products (no_gates (4 * n)) as' bs
 
-  abbrev pub r : Outputs
-  r = outputs_of kind adder p.builder p.rows
+  abbrev r : Outputs
+  r = product_behind (4 * n) kind n n adder
 
   abbrev s : Outputs
   s = add_words r.builder r.outputs cs constant_false
 
-  pub count : length p.rows ≡ n
-  count = length-products (no_gates (4 * n)) as' bs ∙ length-literals_from (n + 1) n
-
-  pub long : AreLong (length p.rows) p.rows
-  long = subst (λ k. AreLong k p.rows) (length-literals_from 1 n ∙ sym count) (products_long (no_gates (4 * n)) as' bs)
-
-  pub wide : length r.outputs ≡ 2 * n
-  wide = omega (arith, length-outputs kind adder p.builder p.rows (omega (arith, count)) long, count)
+  wide : length r.outputs ≡ 2 * n
+  wide = omega (arith, product_long (4 * n) kind n n adder pos pos)
 
   pub full : length g.outputs ≡ 2 * n
   full = length-add_words r.builder r.outputs cs constant_false ∙ length-literals_from (2 * n + 1) (2 * n)
@@ -65,13 +60,10 @@ module _ (kind : Kind) (n : ℕ) (adder : Adder) (pos : 0 < n) where
   -- ---- no fault
 
   placed_products : IsNext (4 * n) (no_gates (4 * n)) p.builder
-  placed_products =
-      (products_placed (4 * n) (no_gates (4 * n)) as' bs (record { placed = tt; last = omega arith }) (up-literals_from 1 n (4 * n) (omega arith)) (up-literals_from (n + 1) n (4 * n) (omega arith))).next
+  placed_products = (rows_placed (4 * n) kind n n adder pos pos (omega arith)).next
 
   placed_product : IsOutputs (4 * n) p.builder r
-  placed_product =
-      outputs_placed (4 * n) kind adder p.builder p.rows placed_products.built
-      (products_placed (4 * n) (no_gates (4 * n)) as' bs (record { placed = tt; last = omega arith }) (up-literals_from 1 n (4 * n) (omega arith)) (up-literals_from (n + 1) n (4 * n) (omega arith))).rows
+  placed_product = product_placed (4 * n) kind n n adder pos pos (omega arith)
 
   placed_sum : IsOutputs (4 * n) r.builder s
   placed_sum =
@@ -109,11 +101,10 @@ module _ (kind : Kind) (n : ℕ) (adder : Adder) (pos : 0 < n) where
   sum_is σ holds =
       let size = length-literals_from (2 * n + 1) (2 * n) in
       let sum = words_add σ r.builder r.outputs cs constant_false (omega (arith, wide, size)) holds in
-      let product = outputs_add kind adder σ p.builder p.rows (omega (arith, count)) long sum.0 in
-      let rows = products_multiply σ (no_gates (4 * n)) as' bs product.0 in
+      let product = product_is (4 * n) kind n n adder pos pos σ sum.0 in
       let whole : word σ g.outputs + 2 ^ (2 * n) * sum.1.0 ≡ word σ r.outputs + word σ cs + 0 =
       subst (λ k. word σ g.outputs + 2 ^ k * sum.1.0 ≡ word σ r.outputs + word σ cs + 0) size sum.1.1 in
-      let added : word σ r.outputs + word σ cs + 0 ≡ word σ as' * word σ bs + word σ cs = ap (λ z. z + word σ cs + 0) (product.1 ∙ rows.1) ∙ omega arith in
+      let added : word σ r.outputs + word σ cs + 0 ≡ word σ as' * word σ bs + word σ cs = ap (λ z. z + word σ cs + 0) product ∙ omega arith in
       low_part (2 * n) (word σ g.outputs) sum.1.0 (word σ as' * word σ bs) (word σ cs) (whole ∙ added)
 
   meets : MeetsClaimOnEvaluations g (sides_for (adding Separate Unsigned) g)

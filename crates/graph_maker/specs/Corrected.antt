@@ -7,7 +7,7 @@ use Rattle.graph_core.specs.declared.profile.Profile.TheVariants.{Multiplier}
 use Rattle.graph_core.specs.declared.sign.Sign.TheVariants.{Signed}
 use Rattle.graph_core.specs.Graph.{Aig, IsWellFormed}
 use Rattle.graph_core.specs.Graph.Literals.{plain, inverted, constant_true, and_gate}
-use Rattle.graph_core.specs.Graph.Operands.{width, HasMultiplierShape, MultipliesAs}
+use Rattle.graph_core.specs.Graph.Operands.{width, HasMultiplierShape, Does, multiplying}
 use Rattle.graph_maker.specs.declared.adder.Adder.{Adder}
 use Rattle.graph_maker.specs.declared.kind.Kind.TheVariants.{Array}
 use Rattle.graph_maker.specs.Builder.{Builder, with_gates, literals_from}
@@ -41,7 +41,7 @@ corrected n r = let s = correction n r in record { builder = s.builder; outputs 
 
 -- The graph of a width and an adder: a is in the variables 1 to n, b in the next n, and the gates follow.
 abbrev pub made_corrected : ℕ → Adder → Aig
-made_corrected n adder = whole_graph (2 * n) (corrected n (product_behind (2 * n) Array n adder))
+made_corrected n adder = whole_graph (2 * n) (corrected n (product_behind (2 * n) Array n n adder))
 
 -- Each corrected graph has two operands of n bits and an output for each bit of the product, has no fault, and multiplies signed operands.
 pub record IsSignedMultiplier (n : ℕ) (g : Aig) : Type 0 where
@@ -49,7 +49,7 @@ pub record IsSignedMultiplier (n : ℕ) (g : Aig) : Type 0 where
   pub shape : HasMultiplierShape g
   pub whole : length g.outputs ≡ 2 * n
   pub well_formed : IsWellFormed g
-  pub multiplies : MultipliesAs Signed g Separate
+  pub multiplies : Does (multiplying Separate Signed) g
 
 abbrev pub CorrectedMultiplies : Type 0
 CorrectedMultiplies = (n : ℕ) (adder : Adder) → 0 < n → IsSignedMultiplier n (made_corrected n adder)

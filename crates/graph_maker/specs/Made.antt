@@ -23,10 +23,10 @@ abbrev pub outputs_of : Kind → Adder → Builder → List (List Lit) → Outpu
 outputs_of Array adder b rows = array adder b rows
 outputs_of Dadda adder b rows = dadda adder b rows
 
--- The product of a, in the variables 1 to n, and b, in the next n, whose gates stand after so many inputs.
-abbrev pub product_behind : ℕ → Kind → ℕ → Adder → Outputs
-product_behind inputs kind n adder =
-    let p = products (no_gates inputs) (literals_from 1 n) (literals_from (n + 1) n) in outputs_of kind adder p.builder p.rows
+-- The product of a, in the variables 1 to m, and b, in the next n, whose gates stand after so many inputs.
+abbrev pub product_behind : ℕ → Kind → ℕ → ℕ → Adder → Outputs
+product_behind inputs kind m n adder =
+    let p = products (no_gates inputs) (literals_from 1 m) (literals_from (m + 1) n) in outputs_of kind adder p.builder p.rows
 
 -- the graph of so many inputs, and of what was made after them
 abbrev pub whole_graph : ℕ → Outputs → Aig
@@ -34,7 +34,7 @@ whole_graph inputs r = record { max = r.builder.last; inputs = literals_from 1 i
 
 -- The graph of a kind, a width and an adder: a is in the variables 1 to n, b in the next n, and the gates follow.
 abbrev pub made : Kind → ℕ → Adder → Aig
-made kind n adder = whole_graph (2 * n) (product_behind (2 * n) kind n adder)
+made kind n adder = whole_graph (2 * n) (product_behind (2 * n) kind n n adder)
 
 -- Each made graph has two operands of n bits and an output for each bit of the product, has no fault, and multiplies.
 pub record IsMadeMultiplier (n : ℕ) (g : Aig) : Type 0 where

@@ -82,34 +82,34 @@ module _ (limits : Limits) (claim : Claim) (file clauses algebra : List ℕ) whe
   told = record { graph = Some file; clauses = Some clauses; algebra = Some algebra }
 
   abbrev Spelled : Type 0
-  Spelled = (g : Aig) × SpellsWithin (profile_of claim.add) limits.graph file g
+  Spelled = (g : Aig) × SpellsWithin (profile_of claim.widths) limits.graph file g
 
   -- why the file spells no graph
   abbrev IsGraphRefused : Checked → Type 0
-  IsGraphRefused c = (why : Stop) × IsGraphStop slot.Graph (profile_of claim.add) limits.graph (Some file) why × (c ≡ checked.Stopped why)
+  IsGraphRefused c = (why : Stop) × IsGraphStop slot.Graph (profile_of claim.widths) limits.graph (Some file) why × (c ≡ checked.Stopped why)
 
   graph_refused : IsExact Spelled IsGraphRefused
-  graph_refused = exact_map checked.Stopped (graph_exact (profile_of claim.add) limits.graph file slot.Graph)
+  graph_refused = exact_map checked.Stopped (graph_exact (profile_of claim.widths) limits.graph file slot.Graph)
 
   -- why the clause file gives no premises for a graph
   abbrev IsRefusedFor : Aig → Checked → Type 0
   IsRefusedFor g c = (f : ClauseFault) × IsFileRefusal (lengths_of limits) g clauses f × (c ≡ clause_answer f)
 
   abbrev AreClausesRefused : Checked → Type 0
-  AreClausesRefused c = (g : Aig) × SpellsWithin (profile_of claim.add) limits.graph file g × IsRefusedFor g c
+  AreClausesRefused c = (g : Aig) × SpellsWithin (profile_of claim.widths) limits.graph file g × IsRefusedFor g c
 
   abbrev Gives : Aig → Premises → Type 0
   Gives g base = GivesPremises (lengths_of limits) g clauses base
 
   abbrev HasGiven : Type 0
-  HasGiven = (g : Aig) × SpellsWithin (profile_of claim.add) limits.graph file g × ((base : Premises) × Gives g base)
+  HasGiven = (g : Aig) × SpellsWithin (profile_of claim.widths) limits.graph file g × ((base : Premises) × Gives g base)
 
   of_clauses : (g : Aig) → IsExact ((base : Premises) × Gives g base) (IsRefusedFor g)
   of_clauses g = exact_map clause_answer (clauses_are_exact.exact (lengths_of limits) g clauses)
 
   -- a refusal is one for the graph that is there
-  refused_for : (c : Checked) (g : Aig) → SpellsWithin (profile_of claim.add) limits.graph file g → AreClausesRefused c → IsRefusedFor g c
-  refused_for c g s r = subst (λ (x : Aig). IsRefusedFor x c) (one_graph (profile_of claim.add) file r.0 g r.1.spells s.spells) r.2
+  refused_for : (c : Checked) (g : Aig) → SpellsWithin (profile_of claim.widths) limits.graph file g → AreClausesRefused c → IsRefusedFor g c
+  refused_for c g s r = subst (λ (x : Aig). IsRefusedFor x c) (one_graph (profile_of claim.widths) file r.0 g r.1.spells s.spells) r.2
 
   clauses_exact : Spelled → IsExact HasGiven AreClausesRefused
   clauses_exact s = record {
@@ -125,18 +125,18 @@ module _ (limits : Limits) (claim : Claim) (file clauses algebra : List ℕ) whe
   IsLawful g base = IsLawfulAlgebra (lengths_of limits) base (sides_for claim g) algebra
 
   abbrev Lawful : Type 0
-  Lawful = (g : Aig) × SpellsWithin (profile_of claim.add) limits.graph file g × IsLawfulPair (lengths_of limits) g claim clauses algebra
+  Lawful = (g : Aig) × SpellsWithin (profile_of claim.widths) limits.graph file g × IsLawfulPair (lengths_of limits) g claim clauses algebra
 
   abbrev IsAlgebraRefused : Checked → Type 0
-  IsAlgebraRefused c = (g : Aig) × SpellsWithin (profile_of claim.add) limits.graph file g × ((base : Premises) × Gives g base × Refused g base c)
+  IsAlgebraRefused c = (g : Aig) × SpellsWithin (profile_of claim.widths) limits.graph file g × ((base : Premises) × Gives g base × Refused g base c)
 
   of_given : (g : Aig) (base : Premises) → Gives g base → IsExact (IsLawful g base) (Refused g base)
   of_given g base gives = exact_map algebra_answer (algebra_is_exact base (sides_for claim g) (lengths_of limits) algebra (gives_bounds (lengths_of limits) g clauses base gives))
 
   -- a refusal is one for the graph and the premises that are there
-  refused_there : (c : Checked) (g : Aig) (base : Premises) → SpellsWithin (profile_of claim.add) limits.graph file g → Gives g base → IsAlgebraRefused c → Refused g base c
+  refused_there : (c : Checked) (g : Aig) (base : Premises) → SpellsWithin (profile_of claim.widths) limits.graph file g → Gives g base → IsAlgebraRefused c → Refused g base c
   refused_there c g base s gives r =
-      let here : (other : Premises) × Gives g other × Refused g other c = subst (λ (x : Aig). (other : Premises) × Gives x other × Refused x other c) (one_graph (profile_of claim.add) file r.0 g r.1.spells s.spells) r.2 in
+      let here : (other : Premises) × Gives g other × Refused g other c = subst (λ (x : Aig). (other : Premises) × Gives x other × Refused x other c) (one_graph (profile_of claim.widths) file r.0 g r.1.spells s.spells) r.2 in
       let same = clauses_are_exact.one (lengths_of limits) g clauses here.0 base here.1 gives in
       (here.2.0, premises_are_kept.refused here.0 base same (sides_for claim g) (lengths_of limits) algebra here.2.0 here.2.1, here.2.2)
 
@@ -165,11 +165,11 @@ module _ (limits : Limits) (claim : Claim) (file clauses algebra : List ℕ) whe
   due_is (checked.Refused (refusal.Algebra line given)) h = inr (inr ((h.0, h.1), inr ((h.0, h.1, (h.2.0, h.2.2)), (h.0, h.1, (h.2.0, h.2.2, ((line, cause_of given), h.2.3, answer_is line given))))))
   due_is (checked.Stopped given) (inl h) = inr (inl (given, h, refl))
   due_is (checked.Stopped given) (inr (inl h)) =
-      let long = IsLong-is slot.Clauses (MeetsClauses (profile_of claim.add) limits told (λ g bytes. (n : ℕ) × IsClauseRefusal (lengths_of limits) g bytes (n, clausal.TooLong))) given h in
+      let long = IsLong-is slot.Clauses (MeetsClauses (profile_of claim.widths) limits told (λ g bytes. (n : ℕ) × IsClauseRefusal (lengths_of limits) g bytes (n, clausal.TooLong))) given h in
       let l = long.1 in
       inr (inr ((l.0, l.1), inl (l.0, l.1, (Line (l.2.0, clausal.TooLong), l.2.1, ap checked.Stopped long.0))))
   due_is (checked.Stopped given) (inr (inr h)) =
-      let long = IsLong-is slot.Algebra (MeetsAlgebra (profile_of claim.add) limits told (λ g p bytes. (line : ℕ) × IsAlgebraRefusal p (sides_for claim g) (lengths_of limits) bytes (line, cause.TooLong))) given h in
+      let long = IsLong-is slot.Algebra (MeetsAlgebra (profile_of claim.widths) limits told (λ g p bytes. (line : ℕ) × IsAlgebraRefusal p (sides_for claim g) (lengths_of limits) bytes (line, cause.TooLong))) given h in
       let l = long.1 in
       inr (inr ((l.0, l.1), inr ((l.0, l.1, (l.2.0, l.2.2)), (l.0, l.1, (l.2.0, l.2.2, ((l.2.3.0, cause.TooLong), l.2.3.1, ap checked.Stopped long.0))))))
 
@@ -180,7 +180,7 @@ module _ (limits : Limits) (claim : Claim) (file clauses algebra : List ℕ) whe
   abbrev IsSomeDue : Type 0
   IsSomeDue = (c : Checked) × IsDue limits claim told c
 
-  clause_due : (g : Aig) → SpellsWithin (profile_of claim.add) limits.graph file g → (f : ClauseFault) → IsFileRefusal (lengths_of limits) g clauses f → IsSomeDue
+  clause_due : (g : Aig) → SpellsWithin (profile_of claim.widths) limits.graph file g → (f : ClauseFault) → IsFileRefusal (lengths_of limits) g clauses f → IsSomeDue
   clause_due g s (Line (line, clausal.TooLong)) h = (checked.Stopped (stop.TooLong slot.Clauses), inr (inl (refl, (g, s, (line, h)))))
   clause_due g s (Line (line, clausal.Text)) h = (checked.Refused (refusal.Clauses line clause.Text), (g, s, h))
   clause_due g s (Line (line, clausal.Range)) h = (checked.Refused (refusal.Clauses line clause.Range), (g, s, h))
@@ -188,7 +188,7 @@ module _ (limits : Limits) (claim : Claim) (file clauses algebra : List ℕ) whe
   clause_due g s (Line (line, clausal.NoSuchClause)) h = (checked.Refused (refusal.Clauses line clause.NoSuchClause), (g, s, h))
   clause_due g s (Goals column) h = (checked.Refused (refusal.Goals column), (g, s, h))
 
-  module _ (g : Aig) (s : SpellsWithin (profile_of claim.add) limits.graph file g) (base : Premises) (gives : Gives g base) where
+  module _ (g : Aig) (s : SpellsWithin (profile_of claim.widths) limits.graph file g) (base : Premises) (gives : Gives g base) where
     algebra_due : (p : ℕ × AlgebraCause) → IsAlgebraRefusal base (sides_for claim g) (lengths_of limits) algebra p → IsSomeDue
     algebra_due (line, cause.TooLong) h = (checked.Stopped (stop.TooLong slot.Algebra), inr (inr (refl, (g, s, (base, gives_of (lengths_of limits) g clauses base gives, gives, (line, h))))))
     algebra_due (line, cause.Text) h = (checked.Refused (refusal.Algebra line why.Text), (g, s, (base, gives_of (lengths_of limits) g clauses base gives, gives, h)))
@@ -199,7 +199,7 @@ module _ (limits : Limits) (claim : Claim) (file clauses algebra : List ℕ) whe
     algebra_due (line, cause.NotEqual) h = (checked.Refused (refusal.Algebra line why.NotEqual), (g, s, (base, gives_of (lengths_of limits) g clauses base gives, gives, h)))
     algebra_due (line, cause.NotSpecification) h = (checked.Refused (refusal.Algebra line why.NotSpec), (g, s, (base, gives_of (lengths_of limits) g clauses base gives, gives, h)))
 
-  lawful_due : (g : Aig) → SpellsWithin (profile_of claim.add) limits.graph file g → IsLawfulPair (lengths_of limits) g claim clauses algebra → IsSomeDue
+  lawful_due : (g : Aig) → SpellsWithin (profile_of claim.widths) limits.graph file g → IsLawfulPair (lengths_of limits) g claim clauses algebra → IsSomeDue
   lawful_due g s pair = (checked.Accepted, (g, s, (pair.premises, gives_of (lengths_of limits) g clauses pair.premises pair.gives, pair.gives, (pair.lawful, tt))))
 
   some_due : IsSomeDue

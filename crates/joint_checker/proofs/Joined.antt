@@ -99,7 +99,7 @@ module _ (g : Aig) (well : IsWellFormed g) where
         claim_back longer.0 τ longer.2 (on longer.0 gates)
 
 -- Where the specification vanishes on every evaluation of an extended graph, a graph without faults does what is claimed.
-pub vanishing_does : (g : Aig) (claim : Claim) (p : Premises) → IsWellFormed g → HasShapeFor claim.add g → ArePremisesOf g p → Always p.extended.gates (λ σ. specification p.extended (sides_for claim g) σ ≡ 0) → Does claim g
+pub vanishing_does : (g : Aig) (claim : Claim) (p : Premises) → IsWellFormed g → HasShapeFor claim.widths g → ArePremisesOf g p → Always p.extended.gates (λ σ. specification p.extended (sides_for claim g) σ ≡ 0) → Does claim g
 vanishing_does g claim p well shape of vanishes =
     let sides = sides_for claim g in
     (claim_is_done g claim shape well.defined_once).0
@@ -155,7 +155,7 @@ lawful_pairs_are_sound file lengths g claim clauses algebra spells pair =
     let p = pair.premises in
     let sides = sides_for claim g in
     let lawful = pair.lawful.0 in
-    vanishing_does g claim p (well_formed (profile_of claim.add) file g spells) (shape_for claim.add g (spelled_shape (profile_of claim.add) file g spells)) (gives_of lengths g clauses p pair.gives)
+    vanishing_does g claim p (well_formed (profile_of claim.widths) file g spells) (shape_for claim.widths g (spelled_shape (profile_of claim.widths) file g spells)) (gives_of lengths g clauses p pair.gives)
     (λ σ evaluates.
     let met = gives_met lengths g clauses p pair.gives σ evaluates in
     specification-zero p sides σ lawful.lines lawful.closing lawful.lawful (recursion_from_All (λ (f : Assignment → ℕ). f σ ≡ 0) p.imports met.imports) (axioms-vanish p.extended σ evaluates met.columns))

@@ -37,7 +37,7 @@ abbrev of_parts : Aig → Header → Record → ℕ → Closed → Judged
 of_parts graph header recorded count closed = record { graph = graph; header = header; recorded = recorded; of_clauses = count; closed = closed }
 
 module _ (claim : Claim) (graph : Aig) (shown : Shown) (of : IsShownOf graph shown) where
-  pub is_judged : IsSizedAs (profile_of claim.add) graph → IsBuilt graph → Does claim graph → IsShownOver shown.extended keep.Chains shown.recorded.added → HaveTightChains (gate_clauses shown.extended.gates) [] shown.recorded.added shown.recorded.uses.items → AreEarlier shown.recorded.uses.items →
+  pub is_judged : IsSizedAs (profile_of claim.widths) graph → IsBuilt graph → Does claim graph → IsShownOver shown.extended keep.Chains shown.recorded.added → HaveTightChains (gate_clauses shown.extended.gates) [] shown.recorded.added shown.recorded.uses.items → AreEarlier shown.recorded.uses.items →
       (closed : Closed) → IsLawfulRecord (premises_of shown) (sides_for claim shown.extended.graph) closed → (header : Header) (recorded : Record) → header ≡ shown.header → recorded ≡ shown.recorded → (count : ℕ) →
       IsJudgedPair claim (of_parts graph header recorded count closed)
   is_judged sized built does over chains earlier_uses closed lawful header recorded same_header same_recorded count =
@@ -57,7 +57,7 @@ module _ (claim : Claim) (graph : Aig) (shown : Shown) (of : IsShownOf graph sho
             (subst (λ (e : Extended). IsLawfulRecord (premises shown.header.version e (importable shown.header.version shown.recorded.added)) (sides_for claim e.graph) closed) of.extended lawful);
       }))
 
-  pub is_told : (limits : Limits) (files : Files) (a b c : View) → Inspects a b → Inspects b c → IfSome (bytes_under a files.graph) (λ bytes. SpellsWithin (profile_of claim.add) limits.graph bytes graph) →
+  pub is_told : (limits : Limits) (files : Files) (a b c : View) → Inspects a b → Inspects b c → IfSome (bytes_under a files.graph) (λ bytes. SpellsWithin (profile_of claim.widths) limits.graph bytes graph) →
       IfSome (bytes_under b files.clauses) (λ bytes. AddsClauses (lengths_of limits) graph bytes shown.header shown.recorded.added shown.lines) → (closed : Closed) →
       IfSome (bytes_under c files.algebra) (λ bytes. IsRecordOf true shown.header.version (modulus shown.extended) bytes (lines_in closed.record.terms closed.record.lines.items) closed.id closed.lines) →
       (header : Header) (recorded : Record) (count : ℕ) → header ≡ shown.header → recorded ≡ shown.recorded → count ≡ shown.lines →

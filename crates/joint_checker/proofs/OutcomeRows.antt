@@ -34,9 +34,9 @@ use Rattle.joint_checker.proofs.Joined.{graph_is, vanishing_does}
 
 module _ (limits : Limits) (claim : Claim) (files : Files) where
   -- no graph was read
-  pub graph_answers : (a b : View) (why : Stop) → IsStop (IsGraphStop slot.Graph (profile_of claim.add) limits.graph (bytes_under a files.graph)) a b why → IsOutcome limits claim files a b (checked.Stopped why)
+  pub graph_answers : (a b : View) (why : Stop) → IsStop (IsGraphStop slot.Graph (profile_of claim.widths) limits.graph (bytes_under a files.graph)) a b why → IsOutcome limits claim files a b (checked.Stopped why)
   graph_answers a b why h =
-      IsStop-weaker (IsGraphStop slot.Graph (profile_of claim.add) limits.graph (bytes_under a files.graph)) a b (IsStopDue limits claim (texts_of a files)) a (λ w k. inl k) (omega arith) why h
+      IsStop-weaker (IsGraphStop slot.Graph (profile_of claim.widths) limits.graph (bytes_under a files.graph)) a b (IsStopDue limits claim (texts_of a files)) a (λ w k. inl k) (omega arith) why h
 
   -- a certificate is refused
   certificate_answers : (R : Refusal → Type 0) (P : Stop → Type 0) (a b c : View) → ((why : Refusal) → R why → IsRefusalDue limits claim (texts_of a files) why) → ((why : Stop) → P why → IsStopDue limits claim (texts_of a files) why) →
@@ -49,7 +49,7 @@ module _ (limits : Limits) (claim : Claim) (files : Files) where
   pub earlier : (a b : View) (name : List ℕ) (P : List ℕ → Type 0) → Inspects a b → IfSome (bytes_under b name) P → IfSome (bytes_under a name) P
   earlier a b name P inspects h = subst (λ (o : Option (List ℕ)). IfSome o P) (bytes_under-held a b name (inspects.held name)) h
 
-  module _ (a b c : View) (first : Inspects a b) (g : Aig) (spelled : IfSome (bytes_under a files.graph) (λ bytes. SpellsWithin (profile_of claim.add) limits.graph bytes g)) where
+  module _ (a b c : View) (first : Inspects a b) (g : Aig) (spelled : IfSome (bytes_under a files.graph) (λ bytes. SpellsWithin (profile_of claim.widths) limits.graph bytes g)) where
     clauses_there : (P : List ℕ → Type 0) → IfSome (bytes_under b files.clauses) P → IfSome (bytes_under a files.clauses) P
     clauses_there P h = earlier a b files.clauses P first h
 
@@ -59,7 +59,7 @@ module _ (limits : Limits) (claim : Claim) (files : Files) where
         let Long : List ℕ → Type 0 = λ bytes. (line : ℕ) × IsClauseRefusal (lengths_of limits) g bytes (line, TooLong) in
         certificate_answers (RefusesClauses (lengths_of limits) g (bytes_under b files.clauses)) (IsLong slot.Clauses (IfSome (bytes_under b files.clauses) Long)) a b c refused
         (λ why k. inr (inl (IsLong-weaker slot.Clauses (IfSome (bytes_under b files.clauses) Long)
-        (MeetsClauses (profile_of claim.add) limits (texts_of a files) (λ x bytes. (line : ℕ) × IsClauseRefusal (lengths_of limits) x bytes (line, TooLong))) (λ l. (g, spelled, clauses_there Long l)) why k))) first.later answer h
+        (MeetsClauses (profile_of claim.widths) limits (texts_of a files) (λ x bytes. (line : ℕ) × IsClauseRefusal (lengths_of limits) x bytes (line, TooLong))) (λ l. (g, spelled, clauses_there Long l)) why k))) first.later answer h
       where
         refused : (why : Refusal) → RefusesClauses (lengths_of limits) g (bytes_under b files.clauses) why → IsRefusalDue limits claim (texts_of a files) why
         refused (refusal.Clauses line why) h = (g, spelled, clauses_there (λ bytes. IsClauseRefusal (lengths_of limits) g bytes (line, line_cause why)) h)
@@ -67,18 +67,18 @@ module _ (limits : Limits) (claim : Claim) (files : Files) where
         refused (refusal.Algebra line why) h = absurd h
 
   -- premises, of which something holds
-  pub premises_there : (a b : View) (g : Aig) (p : Premises) (P : Aig → Premises → Type 0) → Inspects a b → ArePremisesOf g p → IfSome (bytes_under a files.graph) (λ bytes. SpellsWithin (profile_of claim.add) limits.graph bytes g) →
-      IfSome (bytes_under b files.clauses) (λ bytes. GivesPremises (lengths_of limits) g bytes p) → P g p → HasPremises (profile_of claim.add) limits (texts_of a files) P
+  pub premises_there : (a b : View) (g : Aig) (p : Premises) (P : Aig → Premises → Type 0) → Inspects a b → ArePremisesOf g p → IfSome (bytes_under a files.graph) (λ bytes. SpellsWithin (profile_of claim.widths) limits.graph bytes g) →
+      IfSome (bytes_under b files.clauses) (λ bytes. GivesPremises (lengths_of limits) g bytes p) → P g p → HasPremises (profile_of claim.widths) limits (texts_of a files) P
   premises_there a b g p P inspects of spelled gives holds =
       (g, spelled, (p, of, earlier a b files.clauses (λ bytes. GivesPremises (lengths_of limits) g bytes p) inspects gives, holds))
 
   module _ (a b c d : View) (first : Inspects a b) (second : Inspects b c) (g : Aig) (p : Premises) (of : ArePremisesOf g p)
-      (spelled : IfSome (bytes_under a files.graph) (λ bytes. SpellsWithin (profile_of claim.add) limits.graph bytes g))
+      (spelled : IfSome (bytes_under a files.graph) (λ bytes. SpellsWithin (profile_of claim.widths) limits.graph bytes g))
       (gives : IfSome (bytes_under b files.clauses) (λ bytes. GivesPremises (lengths_of limits) g bytes p)) where
     there : (P : List ℕ → Type 0) → IfSome (bytes_under c files.algebra) P → IfSome (bytes_under a files.algebra) P
     there P h = earlier a c files.algebra P (Inspects-trans a b c first second) h
 
-    meets : (P : Aig → Premises → List ℕ → Type 0) → IfSome (bytes_under c files.algebra) (P g p) → MeetsAlgebra (profile_of claim.add) limits (texts_of a files) P
+    meets : (P : Aig → Premises → List ℕ → Type 0) → IfSome (bytes_under c files.algebra) (P g p) → MeetsAlgebra (profile_of claim.widths) limits (texts_of a files) P
     meets P h = premises_there a b g p (λ x f. IfSome (bytes_under a files.algebra) (P x f)) first of spelled gives (there (P g p) h)
 
     answers : (answer : Checked) → IsAlgebraFail (lengths_of limits) p (sides_for claim g) (bytes_under c files.algebra) c d answer → IsOutcome limits claim files a d answer
@@ -86,7 +86,7 @@ module _ (limits : Limits) (claim : Claim) (files : Files) where
         let Long : Type 0 = IfSome (bytes_under c files.algebra) (λ bytes. (line : ℕ) × IsAlgebraRefusal p (sides_for claim g) (lengths_of limits) bytes (line, cause.TooLong)) in
         let Meets : Aig → Premises → List ℕ → Type 0 = λ x f bytes. (line : ℕ) × IsAlgebraRefusal f (sides_for claim x) (lengths_of limits) bytes (line, cause.TooLong) in
         certificate_answers (RefusesAlgebra (lengths_of limits) p (sides_for claim g) (bytes_under c files.algebra)) (IsLong slot.Algebra Long) a c d refused
-        (λ why k. inr (inr (IsLong-weaker slot.Algebra Long (MeetsAlgebra (profile_of claim.add) limits (texts_of a files) Meets) (meets Meets) why k))) (Inspects-trans a b c first second).later answer h
+        (λ why k. inr (inr (IsLong-weaker slot.Algebra Long (MeetsAlgebra (profile_of claim.widths) limits (texts_of a files) Meets) (meets Meets) why k))) (Inspects-trans a b c first second).later answer h
       where
         refused : (why : Refusal) → RefusesAlgebra (lengths_of limits) p (sides_for claim g) (bytes_under c files.algebra) why → IsRefusalDue limits claim (texts_of a files) why
         refused (refusal.Clauses line why) h = absurd h
@@ -98,7 +98,7 @@ module _ (limits : Limits) (claim : Claim) (files : Files) where
     algebra_answers answer h = answers answer (subst (λ (x : Aig). IsAlgebraFail (lengths_of limits) p (sides_for claim x) (bytes_under c files.algebra) c d answer) (graph_is g p of) h)
 
     -- It is lawful, and the specification vanishes on every evaluation.
-    pub accepts : IsWellFormed g → HasShapeFor claim.add g → IfSome (bytes_under c files.algebra) (IsLawfulAlgebra (lengths_of limits) p (sides_for claim p.extended.graph)) →
+    pub accepts : IsWellFormed g → HasShapeFor claim.widths g → IfSome (bytes_under c files.algebra) (IsLawfulAlgebra (lengths_of limits) p (sides_for claim p.extended.graph)) →
         Always p.extended.gates (λ σ. specification p.extended (sides_for claim p.extended.graph) σ ≡ 0) → IsOutcome limits claim files a d checked.Accepted
     accepts well shape lawful vanishes =
         premises_there a b g p (λ x f. IfSome (bytes_under a files.algebra) (IsLawfulAlgebra (lengths_of limits) f (sides_for claim x)) × Does claim x) first of spelled gives (

@@ -51,7 +51,7 @@ pub record IsLawfulRecord (p : Premises) (sides : Sides) (c : Closed) : Type 0 w
 
 -- What was judged, whether or not files are told.
 pub record IsJudgedPair (claim : Claim) (j : Judged) : Type 0 where
-  pub sized : IsSizedAs (profile_of claim.add) j.graph
+  pub sized : IsSizedAs (profile_of claim.widths) j.graph
   pub built : IsBuilt j.graph
   pub does : Does claim j.graph
   pub takes : IsHeaderOf j.graph j.header
@@ -61,7 +61,7 @@ pub record IsJudgedPair (claim : Claim) (j : Judged) : Type 0 where
 
 -- It is what the files have, as far as they are told.
 pub record IsToldPair (limits : Limits) (claim : Claim) (texts : Texts) (j : Judged) : Type 0 where
-  pub graph : IfSome texts.graph (λ bytes. SpellsWithin (profile_of claim.add) limits.graph bytes j.graph)
+  pub graph : IfSome texts.graph (λ bytes. SpellsWithin (profile_of claim.widths) limits.graph bytes j.graph)
   pub clauses : IfSome texts.clauses (λ bytes. AddsClauses (lengths_of limits) j.graph bytes j.header j.recorded.added j.of_clauses)
   pub algebra : IfSome texts.algebra (λ bytes. IsRecordOf true j.header.version (modulus (extended_of j)) bytes
       (lines_in j.closed.record.terms j.closed.record.lines.items) j.closed.id j.closed.lines)

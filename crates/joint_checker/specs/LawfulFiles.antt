@@ -22,4 +22,4 @@ HasPremises profile limits texts P =
 -- certificates for it. Something holds of the graph.
 abbrev pub HasLawfulPair : Limits → Claim → Texts → (Aig → Type 0) → Type 0
 HasLawfulPair limits claim texts P =
-    HasPremises (profile_of claim.add) limits texts (λ g p. IfSome texts.algebra (IsLawfulAlgebra (lengths_of limits) p (sides_for claim g)) × P g)
+    HasPremises (profile_of claim.widths) limits texts (λ g p. IfSome texts.algebra (IsLawfulAlgebra (lengths_of limits) p (sides_for claim g)) × P g)

@@ -49,20 +49,20 @@ MeetsAlgebra profile limits texts P = HasPremises profile limits texts (λ g p. 
 -- A certificate is refused, by its first line that is, or for the column of a goal that isn't shown.
 abbrev pub IsRefusalDue : Limits → Claim → Texts → Refusal → Type 0
 IsRefusalDue limits claim texts (refusal.Clauses n why) =
-    MeetsClauses (profile_of claim.add) limits texts (λ g bytes. IsClauseRefusal (lengths_of limits) g bytes (n, line_cause why))
+    MeetsClauses (profile_of claim.widths) limits texts (λ g bytes. IsClauseRefusal (lengths_of limits) g bytes (n, line_cause why))
 IsRefusalDue limits claim texts (refusal.Goals column) =
-    MeetsClauses (profile_of claim.add) limits texts (λ g bytes. IsColumnRefusal (lengths_of limits) g bytes column)
+    MeetsClauses (profile_of claim.widths) limits texts (λ g bytes. IsColumnRefusal (lengths_of limits) g bytes column)
 IsRefusalDue limits claim texts (refusal.Algebra line why) =
-    MeetsAlgebra (profile_of claim.add) limits texts (λ g p bytes.
+    MeetsAlgebra (profile_of claim.widths) limits texts (λ g p bytes.
     IsAlgebraRefusal p (sides_for claim g) (lengths_of limits) bytes (line, cause_of why))
 
 -- The graph file spells no graph, or a certificate is too long before any refusal.
 abbrev pub IsStopDue : Limits → Claim → Texts → Stop → Type 0
 IsStopDue limits claim texts why =
-    IsGraphStop slot.Graph (profile_of claim.add) limits.graph texts.graph why ⊎
-    IsLong slot.Clauses (MeetsClauses (profile_of claim.add) limits texts (λ g bytes. (n : ℕ) ×
+    IsGraphStop slot.Graph (profile_of claim.widths) limits.graph texts.graph why ⊎
+    IsLong slot.Clauses (MeetsClauses (profile_of claim.widths) limits texts (λ g bytes. (n : ℕ) ×
     IsClauseRefusal (lengths_of limits) g bytes (n, clausal.TooLong))) why ⊎
-    IsLong slot.Algebra (MeetsAlgebra (profile_of claim.add) limits texts (λ g p bytes. (line : ℕ) ×
+    IsLong slot.Algebra (MeetsAlgebra (profile_of claim.widths) limits texts (λ g p bytes. (line : ℕ) ×
     IsAlgebraRefusal p (sides_for claim g) (lengths_of limits) bytes (line, cause.TooLong))) why
 
 -- The answer that is due: the pair is lawful, or the first refusal, or a length that is met before any refusal.

@@ -62,7 +62,7 @@ pub(crate) fn check_algebra<D: Desk>(
     claim: Claim,
     records: bool,
 ) -> Result<Closed, Checked>
-    requires sized { IsSizedAs (profile_of claim.add) shown.now.extended.graph }
+    requires sized { IsSizedAs (profile_of claim.widths) shown.now.extended.graph }
     requires columns { Always shown.now.extended.gates (AgreeOnColumns shown.now.extended) }
     requires facts { All (IsClauseFact shown.now.extended.gates) shown.now.recorded.added }
     ensures lawful { OnOk result (IfSome (bytes_under (D.seen desk.old) name.now)
@@ -96,7 +96,7 @@ fn judge_algebra<D: Desk>(
     records: bool,
 ) -> Result<Closed, Checked>
     requires reads { (D.seen desk.old).reads slot.Algebra ≡ true }
-    requires sized { IsSizedAs (profile_of claim.add) shown.now.extended.graph }
+    requires sized { IsSizedAs (profile_of claim.widths) shown.now.extended.graph }
     requires columns { Always shown.now.extended.gates (AgreeOnColumns shown.now.extended) }
     requires facts { All (IsClauseFact shown.now.extended.gates) shown.now.recorded.added }
     ensures lawful { OnOk result (IfSome ((D.seen desk.old).left slot.Algebra)

@@ -7,12 +7,16 @@ use Rattle.command_core.specs.Stopping.{GivesDue, Interrupts, IsGraphStop, IsSto
 use Rattle.command_core.specs.declared.stop.Stop.{Stop}
 use Rattle.command_core.specs.declared.stop.Stop.TheVariants as stop
 use Rattle.command_core.proofs.CallerLemmas.{due_or_interrupts, graph_exact, stop_gives}
-use Rattle.frontier_core.proofs.CallerLemmas.{difference_is_of_operands, difference_is_of_sum, least_difference_is_one}
+use Rattle.frontier_core.proofs.CallerLemmas.{difference_is_of_numbers, least_difference_is_one}
 use Rattle.frontier_core.specs.LeastDifference.{IsDifferenceAt}
 use Rattle.graph_core.specs.Graph.{Aig, IsDefinedOnce}
-use Rattle.graph_core.specs.Graph.Operands.{Does, DoesAs, HasShapeFor, bits_of, inputs_of, output_modulus, product_as, profile_of, sides_for, sum_on, sum_width, value_on, width, Sides}
+use Rattle.graph_core.specs.Graph.Operands.{Does, HasShapeFor, claimed_at, has_addend, inputs_at, output_modulus, profile_of, sides_for, value_at, Sides}
 use Rattle.graph_core.specs.declared.claim.Claim.{Claim}
+use Rattle.graph_core.specs.declared.numbers.Numbers.{Numbers}
 use Rattle.graph_core.specs.declared.profile.Profile.{Profile}
+use Rattle.graph_core.specs.declared.order.Order.TheVariants.{Separate}
+use Rattle.graph_core.specs.declared.sign.Sign.TheVariants.{Unsigned}
+use Rattle.graph_core.proofs.OfGraphs.CallerLemmas.{product_doing}
 use Rattle.graph_core.proofs.OfAiger.CallerLemmas.{shape_for, spelled_shape, well_formed}
 use Rattle.graph_core.proofs.OfTexts.CallerLemmas.{one_graph}
 use Rattle.command_core.specs.Files.{HasGraph, Files}
@@ -22,7 +26,7 @@ use Rattle.joint_prover.specs.declared.task.Task.{Task}
 use Rattle.joint_prover.specs.declared.verdict.Verdict.{Verdict}
 use Rattle.joint_prover.specs.declared.verdict.Verdict.TheVariants.{Proved, Wrong, WrongSum, Undecided, Stopped}
 use Rattle.joint_prover.specs.Tries.{IsWithinBudget, AreTried, IsAbove}
-use Rattle.joint_prover.specs.Verdicts.{HasFewOnes, HaveManyOnes, IsFirstAbove, IsVerdict, IsVerdictDue, IsWrong, IsWrongSum, VerdictsAreExact, HasNote, judgement}
+use Rattle.joint_prover.specs.Verdicts.{HasFewOnes, HaveManyOnes, IsFirstAbove, IsVerdict, IsVerdictDue, IsWrongAt, VerdictsAreExact, HasNote, judgement, three, two}
 use Rattle.std.specs.declared.option.Option.TheVariants.{None, Some}
 use Rattle.enough_budget.specs.Budgets.{PassesBySlices}
 use Rattle.enough_budget.proofs.MadePlans.{made_budget_is_enough}
@@ -31,7 +35,7 @@ use Rattle.frontier_core.specs.Frontier.{frontier_value}
 use Rattle.frontier_core.specs.Plan.{Taken, nothing, taken}
 use Rattle.graph_core.specs.Graph.Extended.{modulus, Extended, without_cut}
 use Rattle.algebra_core.specs.NormalForm.{HasSize}
-use Rattle.graph_maker.specs.Made.{made}
+use Rattle.graph_maker.specs.Made.{IsMadeMultiplier, made}
 use Rattle.graph_maker.specs.declared.adder.Adder.TheVariants.{Ripple}
 use Rattle.graph_maker.proofs.MadeMultiplies.{made_multiplies}
 use Rattle.ripple_graft.specs.declared.cut.Cut.{Cut}
@@ -41,50 +45,24 @@ use Rattle.joint_prover.specs.Budgets.{EnoughIsProved, IsEnough}
 use Rattle.mv_desk.specs.declared.limits.Limits.{Limits}
 use Rattle.joint_prover.specs.Notes.{cut_of}
 
-wrong_same : (a c b d v w p q : ℕ) → a ≡ c → b ≡ d → v ≡ w → p ≡ q → Wrong a b v p ≡ Wrong c d w q
-wrong_same a c b d v w p q e f g h = cc
-
-sum_same : (a d b e c f v w p q : ℕ) → a ≡ d → b ≡ e → c ≡ f → v ≡ w → p ≡ q → WrongSum a b c v p ≡ WrongSum d e f w q
-sum_same a d b e c f v w p q x y z g h = cc
+-- the verdict that numbers are the least on which the graph differs, with an addend or without
+abbrev pub wrong_of : Bool → Numbers → ℕ → ℕ → Verdict
+wrong_of false x v p = Wrong x.a x.b v p
+wrong_of true x v p = WrongSum x.a x.b x.c v p
 
 -- a claim has an addend or none
 both_ways : (add : Bool) → add ≡ false → add ≡ true → ⊥
 both_ways add alone added = cc
 
--- a claim by its parts
-abbrev Under : Claim → Bool → Claim
-Under claim add = record { order = claim.order; sign = claim.sign; add = add }
-
 -- ---- a graph that is wrong
 
-module _ (g : Aig) (claim : Claim) where
-  does_or_wrong : (a b v p : ℕ) → Does claim g → IsWrong g claim a b v p → ⊥
-  does_or_wrong a b v p does wrong =
-      let far = wrong.least.difference in
-      let product : DoesAs false claim.order claim.sign g = subst (λ add. DoesAs add claim.order claim.sign g) wrong.alone does in
-      far.differs (product a b far.a_below far.b_below)
-
-  does_or_wrong_sum : (a b c v p : ℕ) → Does claim g → IsWrongSum g claim a b c v p → ⊥
-  does_or_wrong_sum a b c v p does wrong =
-      let far = wrong.least.difference in
-      let sum : DoesAs true claim.order claim.sign g = subst (λ add. DoesAs add claim.order claim.sign g) wrong.added does in
-      far.differs (sum a b c far.a_below far.b_below far.c_below)
+module _ (g : Aig) (claim : Claim) (add : Bool) (x : Numbers) (v p : ℕ) where
+  does_or_wrong : Does claim g → IsWrongAt g claim add x v p → ⊥
+  does_or_wrong does wrong = wrong.least.difference.differs (does x wrong.least.difference.range)
 
   -- the values of the inputs at which it is
-
-  module _ (shape : HasShapeFor claim.add g) (once : IsDefinedOnce g) where
-    differs_there : (a b v p : ℕ) → IsWrong g claim a b v p → IsDifferenceAt g (sides_for claim g) (inputs_of claim.order (width g) a b)
-    differs_there a b v p wrong =
-        let far = wrong.least.difference in
-        let least = (difference_is_of_operands g claim.order claim.sign a b (subst (λ add. HasShapeFor add g) wrong.alone shape) once far.a_below far.b_below).1 wrong.least in
-        subst (λ add. IsDifferenceAt g (sides_for (Under claim add) g) (inputs_of claim.order (width g) a b)) (sym wrong.alone) least.difference
-
-    differs_there_sum : (a b c v p : ℕ) → IsWrongSum g claim a b c v p →
-        IsDifferenceAt g (sides_for claim g) (inputs_of claim.order (sum_width g) a b ++ bits_of (2 * sum_width g) c)
-    differs_there_sum a b c v p wrong =
-        let far = wrong.least.difference in
-        let least = (difference_is_of_sum g claim.order claim.sign a b c (subst (λ add. HasShapeFor add g) wrong.added shape) once far.a_below far.b_below far.c_below).1 wrong.least in
-        subst (λ add. IsDifferenceAt g (sides_for (Under claim add) g) (inputs_of claim.order (sum_width g) a b ++ bits_of (2 * sum_width g) c)) (sym wrong.added) least.difference
+  differs_there : HasShapeFor claim.widths g → IsDefinedOnce g → IsWrongAt g claim add x v p → IsDifferenceAt g (sides_for claim g) (inputs_at (sides_for claim g) x)
+  differs_there shape once wrong = ((difference_is_of_numbers g claim x shape once wrong.least.difference.range).1 wrong.least).difference
 
 -- ---- two verdicts on a file
 
@@ -93,7 +71,7 @@ module _ (limit : ℕ) (task : Task) (file : List ℕ) where
   claim = task.claim
 
   abbrev profile : Profile
-  profile = profile_of task.claim.add
+  profile = profile_of task.claim.widths
 
   -- a graph of the file, of which something holds
   abbrev pub Spelled : (Aig → Type 0) → Type 0
@@ -102,21 +80,18 @@ module _ (limit : ℕ) (task : Task) (file : List ℕ) where
   together : (P Q : Aig → Type 0) → Spelled P → Spelled Q → Spelled (λ g. P g × Q g)
   together P Q h k = (h.0, h.1, (h.2, subst Q (one_graph profile file k.0 h.0 k.1.spells h.1.spells) k.2))
 
-  shape_there : (g : Aig) → SpellsWithin profile limit file g → HasShapeFor claim.add g
-  shape_there g s = shape_for claim.add g (spelled_shape profile file g s.spells)
+  shape_there : (g : Aig) → SpellsWithin profile limit file g → HasShapeFor claim.widths g
+  shape_there g s = shape_for claim.widths g (spelled_shape profile file g s.spells)
 
   once_there : (g : Aig) → SpellsWithin profile limit file g → IsDefinedOnce g
   once_there g s = (well_formed profile file g s.spells).defined_once
 
-  pub right_or_wrong : (a b v p : ℕ) → Spelled (Does claim) → Spelled (λ g. IsWrong g claim a b v p) → ⊥
-  right_or_wrong a b v p h k = let both = together (Does claim) (λ g. IsWrong g claim a b v p) h k in does_or_wrong both.0 claim a b v p both.2.0 both.2.1
+  pub right_or_wrong : (add : Bool) (x : Numbers) (v p : ℕ) → Spelled (Does claim) → Spelled (λ g. IsWrongAt g claim add x v p) → ⊥
+  right_or_wrong add x v p h k =
+      let both = together (Does claim) (λ g. IsWrongAt g claim add x v p) h k in does_or_wrong both.0 claim add x v p both.2.0 both.2.1
 
-  pub right_or_wrong_sum : (a b c v p : ℕ) → Spelled (Does claim) → Spelled (λ g. IsWrongSum g claim a b c v p) → ⊥
-  right_or_wrong_sum a b c v p h k =
-      let both = together (Does claim) (λ g. IsWrongSum g claim a b c v p) h k in does_or_wrong_sum both.0 claim a b c v p both.2.0 both.2.1
-
-  product_or_sum : (a b v p c d e w q : ℕ) → Spelled (λ g. IsWrong g claim a b v p) → Spelled (λ g. IsWrongSum g claim c d e w q) → ⊥
-  product_or_sum a b v p c d e w q h k = both_ways claim.add h.2.alone k.2.added
+  product_or_sum : (x y : Numbers) (v p w q : ℕ) → Spelled (λ g. IsWrongAt g claim false x v p) → Spelled (λ g. IsWrongAt g claim true y w q) → ⊥
+  product_or_sum x y v p w q h k = both_ways (has_addend claim.widths) h.2.addend k.2.addend
 
   within_or_above : (t n : ℕ) → Spelled (λ g. IsWithinBudget g claim task.budget) → Spelled (λ g. IsFirstAbove g claim task.budget t n) → ⊥
   within_or_above t n h k =
@@ -126,52 +101,31 @@ module _ (limit : ℕ) (task : Task) (file : List ℕ) where
       let high = first.above in
       omega arith
 
-  few_or_many : (a b v p : ℕ) → Spelled (λ g. HasFewOnes (inputs_of claim.order (width g) a b) × IsWrong g claim a b v p) → Spelled (λ g. HaveManyOnes g claim) → ⊥
-  few_or_many a b v p h k =
-      let both = together (λ g. HasFewOnes (inputs_of claim.order (width g) a b) × IsWrong g claim a b v p) (λ g. HaveManyOnes g claim) h k in
+  few_or_many : (add : Bool) (x : Numbers) (v p : ℕ) → Spelled (λ g. HasFewOnes (inputs_at (sides_for claim g) x) × IsWrongAt g claim add x v p) → Spelled (λ g. HaveManyOnes g claim) → ⊥
+  few_or_many add x v p h k =
+      let both = together (λ g. HasFewOnes (inputs_at (sides_for claim g) x) × IsWrongAt g claim add x v p) (λ g. HaveManyOnes g claim) h k in
       let g = both.0 in
       let told = both.2.0 in
-      both.2.1 (inputs_of claim.order (width g) a b) (differs_there g claim (shape_there g both.1) (once_there g both.1) a b v p told.1) told.0
+      both.2.1 (inputs_at (sides_for claim g) x) (differs_there g claim add x v p (shape_there g both.1) (once_there g both.1) told.1) told.0
 
-  few_or_many_sum : (a b c v p : ℕ) → Spelled (λ g. HasFewOnes (inputs_of claim.order (sum_width g) a b ++ bits_of (2 * sum_width g) c) × IsWrongSum g claim a b c v p) →
-      Spelled (λ g. HaveManyOnes g claim) → ⊥
-  few_or_many_sum a b c v p h k =
-      let both = together (λ g. HasFewOnes (inputs_of claim.order (sum_width g) a b ++ bits_of (2 * sum_width g) c) × IsWrongSum g claim a b c v p) (λ g. HaveManyOnes g claim) h k in
+  one_wrong : (add : Bool) (x y : Numbers) (v p w q : ℕ) → Spelled (λ g. IsWrongAt g claim add x v p) → Spelled (λ g. IsWrongAt g claim add y w q) → wrong_of add y w q ≡ wrong_of add x v p
+  one_wrong add x y v p w q h k =
+      let both = together (λ g. IsWrongAt g claim add x v p) (λ g. IsWrongAt g claim add y w q) h k in
       let g = both.0 in
-      let told = both.2.0 in
-      both.2.1 (inputs_of claim.order (sum_width g) a b ++ bits_of (2 * sum_width g) c) (differs_there_sum g claim (shape_there g both.1) (once_there g both.1) a b c v p told.1) told.0
-
-  one_wrong : (a b v p c d w q : ℕ) → Spelled (λ g. IsWrong g claim a b v p) → Spelled (λ g. IsWrong g claim c d w q) → Wrong c d w q ≡ Wrong a b v p
-  one_wrong a b v p c d w q h k =
-      let both = together (λ g. IsWrong g claim a b v p) (λ g. IsWrong g claim c d w q) h k in
-      let g = both.0 in
+      let s = sides_for claim g in
       let m = output_modulus g in
       let one = both.2.0 in
       let two = both.2.1 in
-      let same = least_difference_is_one.1 g claim.order claim.sign a b c d one.least two.least in
-      wrong_same c a d b w v q p same.0 same.1
-      (two.value_is ∙ ap₂ (value_on g claim.order) same.0 same.1 ∙ sym one.value_is)
-      (two.product_is ∙ ap₂ (λ x y. product_as claim.sign m (width g) x y % m) same.0 same.1 ∙ sym one.product_is)
-
-  one_wrong_sum : (a b c v p d e f w q : ℕ) → Spelled (λ g. IsWrongSum g claim a b c v p) → Spelled (λ g. IsWrongSum g claim d e f w q) → WrongSum d e f w q ≡ WrongSum a b c v p
-  one_wrong_sum a b c v p d e f w q h k =
-      let both = together (λ g. IsWrongSum g claim a b c v p) (λ g. IsWrongSum g claim d e f w q) h k in
-      let g = both.0 in
-      let n = sum_width g in
-      let m = output_modulus g in
-      let one = both.2.0 in
-      let two = both.2.1 in
-      let same = least_difference_is_one.2 g claim.order claim.sign a b c d e f one.least two.least in
-      sum_same d a e b f c w v q p same.0 same.1 same.2
-      (two.value_is ∙ ap₂ (λ x y. sum_on g claim.order x y f) same.0 same.1 ∙ ap (sum_on g claim.order a b) same.2 ∙ sym one.value_is)
-      (two.sum_is ∙ ap₂ (λ x y. (product_as claim.sign m n x y + f) % m) same.0 same.1 ∙ ap (λ z. (product_as claim.sign m n a b + z) % m) same.2 ∙ sym one.sum_is)
+      let same : y ≡ x = least_difference_is_one.1 g s x y one.least two.least in
+      ap (λ z. wrong_of add z w q) same ∙
+      ap₂ (wrong_of add x) (two.value_is ∙ ap (value_at g s) same ∙ sym one.value_is) (two.claimed_is ∙ ap (λ z. claimed_at m s z % m) same ∙ sym one.claimed_is)
 
   -- what the verdict says of the file
   module _ (before after : View) where
     abbrev Says : Verdict → Type 0
     Says (Proved long) = Spelled (Does claim)
-    Says (Wrong a b v p) = Spelled (λ g. IsWrong g claim a b v p)
-    Says (WrongSum a b c v p) = Spelled (λ g. IsWrongSum g claim a b c v p)
+    Says (Wrong a b v p) = Spelled (λ g. IsWrongAt g claim false (two a b) v p)
+    Says (WrongSum a b c v p) = Spelled (λ g. IsWrongAt g claim true (three a b c) v p)
     Says (Undecided tried t n seen) = Spelled (λ g. IsFirstAbove g claim task.budget t n × HaveManyOnes g claim)
     Says (Stopped why) = IsGraphStop slot.Graph profile limit (Some file) why ⊎ Interrupts before after why
 
@@ -182,22 +136,22 @@ module _ (limit : ℕ) (task : Task) (file : List ℕ) where
     exact given (Undecided others u m other) h d = absurd d
     exact given (Proved (Some at)) h d = absurd d
     exact (Proved long) (Proved None) h d = inl refl
-    exact (Proved long) (Wrong x y w q) h d = absurd (right_or_wrong x y w q h (d.0, d.1, d.3))
-    exact (Proved long) (WrongSum x y z w q) h d = absurd (right_or_wrong_sum x y z w q h (d.0, d.1, d.3))
+    exact (Proved long) (Wrong x y w q) h d = absurd (right_or_wrong false (two x y) w q h (d.0, d.1, d.3))
+    exact (Proved long) (WrongSum x y z w q) h d = absurd (right_or_wrong true (three x y z) w q h (d.0, d.1, d.3))
     exact (Proved long) (Stopped other) h d = absurd (never_stopped h.0 other h.1 d)
-    exact (Wrong a b v p) (Proved None) h d = absurd (right_or_wrong a b v p (d.0, d.1, d.3) h)
-    exact (Wrong a b v p) (Wrong x y w q) h d = inl (one_wrong x y w q a b v p (d.0, d.1, d.3) h)
-    exact (Wrong a b v p) (WrongSum x y z w q) h d = absurd (product_or_sum a b v p x y z w q h (d.0, d.1, d.3))
+    exact (Wrong a b v p) (Proved None) h d = absurd (right_or_wrong false (two a b) v p (d.0, d.1, d.3) h)
+    exact (Wrong a b v p) (Wrong x y w q) h d = inl (one_wrong false (two x y) (two a b) w q v p (d.0, d.1, d.3) h)
+    exact (Wrong a b v p) (WrongSum x y z w q) h d = absurd (product_or_sum (two a b) (three x y z) v p w q h (d.0, d.1, d.3))
     exact (Wrong a b v p) (Stopped other) h d = absurd (never_stopped h.0 other h.1 d)
-    exact (WrongSum a b c v p) (Proved None) h d = absurd (right_or_wrong_sum a b c v p (d.0, d.1, d.3) h)
-    exact (WrongSum a b c v p) (Wrong x y w q) h d = absurd (product_or_sum x y w q a b c v p (d.0, d.1, d.3) h)
-    exact (WrongSum a b c v p) (WrongSum x y z w q) h d = inl (one_wrong_sum x y z w q a b c v p (d.0, d.1, d.3) h)
+    exact (WrongSum a b c v p) (Proved None) h d = absurd (right_or_wrong true (three a b c) v p (d.0, d.1, d.3) h)
+    exact (WrongSum a b c v p) (Wrong x y w q) h d = absurd (product_or_sum (two x y) (three a b c) w q v p (d.0, d.1, d.3) h)
+    exact (WrongSum a b c v p) (WrongSum x y z w q) h d = inl (one_wrong true (three x y z) (three a b c) w q v p (d.0, d.1, d.3) h)
     exact (WrongSum a b c v p) (Stopped other) h d = absurd (never_stopped h.0 other h.1 d)
     exact (Undecided tried t n seen) (Proved None) h d = absurd (within_or_above t n (d.0, d.1, d.2) (h.0, h.1, h.2.0))
     exact (Undecided tried t n seen) (Wrong x y w q) h d =
-        absurd (⊎_elim (λ within. within_or_above t n (d.0, d.1, within) (h.0, h.1, h.2.0)) (λ few. few_or_many x y w q (d.0, d.1, (few, d.3)) (h.0, h.1, h.2.1)) d.2)
+        absurd (⊎_elim (λ within. within_or_above t n (d.0, d.1, within) (h.0, h.1, h.2.0)) (λ few. few_or_many false (two x y) w q (d.0, d.1, (few, d.3)) (h.0, h.1, h.2.1)) d.2)
     exact (Undecided tried t n seen) (WrongSum x y z w q) h d =
-        absurd (⊎_elim (λ within. within_or_above t n (d.0, d.1, within) (h.0, h.1, h.2.0)) (λ few. few_or_many_sum x y z w q (d.0, d.1, (few, d.3)) (h.0, h.1, h.2.1)) d.2)
+        absurd (⊎_elim (λ within. within_or_above t n (d.0, d.1, within) (h.0, h.1, h.2.0)) (λ few. few_or_many true (three x y z) w q (d.0, d.1, (few, d.3)) (h.0, h.1, h.2.1)) d.2)
     exact (Undecided tried t n seen) (Stopped other) h d = absurd (never_stopped h.0 other h.1 d)
     exact (Stopped why) due (inr interrupts) d = inr (why, refl, interrupts)
     exact (Stopped why) (Proved None) (inl h) d = absurd (never_stopped d.0 why d.1 h)
@@ -212,10 +166,10 @@ module _ (limit : ℕ) (task : Task) (file : List ℕ) where
 pub verdicts_are_exact : VerdictsAreExact
 verdicts_are_exact limits task files before after file due given noted told d h = exact limits.graph task file before after given due (says given h) d
   where
-    of_stop : (why : Stop) → IsStop (IsGraphStop slot.Graph (profile_of task.claim.add) limits.graph (bytes_under before files.graph)) before after why →
+    of_stop : (why : Stop) → IsStop (IsGraphStop slot.Graph (profile_of task.claim.widths) limits.graph (bytes_under before files.graph)) before after why →
         Says limits.graph task file before after (Stopped why)
-    of_stop why h = due_or_interrupts (IsGraphStop slot.Graph (profile_of task.claim.add) limits.graph (Some file)) before after why
-        (subst (λ o. IsStop (IsGraphStop slot.Graph (profile_of task.claim.add) limits.graph o) before after why) told h)
+    of_stop why h = due_or_interrupts (IsGraphStop slot.Graph (profile_of task.claim.widths) limits.graph (Some file)) before after why
+        (subst (λ o. IsStop (IsGraphStop slot.Graph (profile_of task.claim.widths) limits.graph o) before after why) told h)
 
     says : (v : Verdict) → IsVerdict limits task files before after v noted → Says limits.graph task file before after v
     says (Proved long) h = let s = spelled limits.graph task file _ _ told h in (s.0, s.1, s.2.0)
@@ -255,12 +209,15 @@ module _ (g : Aig) (claim : Claim) (budget : ℕ) where
 -- ---- the verdict
 
 module _ (limits : Limits) (task : Task) (file : List ℕ) (h : IsEnough limits.graph task file) where
+  law : IsMadeMultiplier h.bits (made h.kind h.bits Ripple)
+  law = made_multiplies h.kind h.bits Ripple h.some
+
   does : Does task.claim h.graph
   does = (order_of_operands_is_free (made h.kind h.bits Ripple) h.graph task.claim h.same).0
-      (subst (λ k. Does k (made h.kind h.bits Ripple)) (sym h.separate) (made_multiplies h.kind h.bits Ripple h.some).multiplies)
+      (subst (λ k. Does k (made h.kind h.bits Ripple)) (sym h.separate) (product_doing (made h.kind h.bits Ripple) Separate Unsigned law.shape law.multiplies))
 
-  spells : SpellsWithin (profile_of task.claim.add) limits.graph file h.graph
-  spells = subst (λ (k : Claim). SpellsWithin (profile_of k.add) limits.graph file h.graph) (sym h.separate) h.spells
+  spells : SpellsWithin (profile_of task.claim.widths) limits.graph file h.graph
+  spells = subst (λ (k : Claim). SpellsWithin (profile_of k.widths) limits.graph file h.graph) (sym h.separate) h.spells
 
   never_passes : PassesBySlices (without_cut h.graph) (sides_for task.claim h.graph) task.budget → ⊥
   never_passes p =
@@ -271,22 +228,22 @@ module _ (limits : Limits) (task : Task) (file : List ℕ) (h : IsEnough limits.
   never_tried tried (Some n) k = never_passes (tried_passes h.graph task.claim task.budget (cut_of n) tried k.1)
 
   module _ (files : Files) (a b : View) (told : bytes_under a files.graph ≡ Some file) where
-    stops_or_not : (why : Stop) → IsStop (IsGraphStop slot.Graph (profile_of task.claim.add) limits.graph (bytes_under a files.graph)) a b why → GivesDue Stopped a b (Proved None) (Stopped why)
-    stops_or_not why k = stop_gives (IsGraphStop slot.Graph (profile_of task.claim.add) limits.graph (Some file)) a b Stopped (Proved None) why
-        (λ due. absurd ((graph_exact (profile_of task.claim.add) limits.graph file slot.Graph).not_both why (h.graph, spells) due))
-        (subst (λ o. IsStop (IsGraphStop slot.Graph (profile_of task.claim.add) limits.graph o) a b why) told k)
+    stops_or_not : (why : Stop) → IsStop (IsGraphStop slot.Graph (profile_of task.claim.widths) limits.graph (bytes_under a files.graph)) a b why → GivesDue Stopped a b (Proved None) (Stopped why)
+    stops_or_not why k = stop_gives (IsGraphStop slot.Graph (profile_of task.claim.widths) limits.graph (Some file)) a b Stopped (Proved None) why
+        (λ due. absurd ((graph_exact (profile_of task.claim.widths) limits.graph file slot.Graph).not_both why (h.graph, spells) due))
+        (subst (λ o. IsStop (IsGraphStop slot.Graph (profile_of task.claim.widths) limits.graph o) a b why) told k)
 
     pub proved_or_not : (given : Verdict) (noted : Option Note) → IsVerdict limits task files a b given noted → GivesDue Stopped a b (Proved None) (judgement given)
     proved_or_not (Proved long) noted k = inl refl
     proved_or_not (Wrong x y value product) noted k =
         let s = spelled limits.graph task file _ _ told k.0 in
-        absurd (right_or_wrong limits.graph task file x y value product (h.graph, spells, does) (s.0, s.1, s.2.0))
+        absurd (right_or_wrong limits.graph task file false (two x y) value product (h.graph, spells, does) (s.0, s.1, s.2.0))
     proved_or_not (WrongSum x y z value sum) noted k =
         let s = spelled limits.graph task file _ _ told k.0 in
-        absurd (right_or_wrong_sum limits.graph task file x y z value sum (h.graph, spells, does) (s.0, s.1, s.2.0))
+        absurd (right_or_wrong limits.graph task file true (three x y z) value sum (h.graph, spells, does) (s.0, s.1, s.2.0))
     proved_or_not (Undecided tried t n seen) noted k =
         let s = spelled limits.graph task file _ _ told k.0 in
-        let same = one_graph (profile_of task.claim.add) file s.0 h.graph s.1.spells spells.spells in
+        let same = one_graph (profile_of task.claim.widths) file s.0 h.graph s.1.spells spells.spells in
         absurd (never_tried tried.items noted (subst (λ g. HasNote g task noted (λ used. AreTried g task.claim task.budget used tried.items)) same s.2.1))
     proved_or_not (Stopped stop.WriteFault) noted k = inr (stop.WriteFault, refl, k.0)
     proved_or_not (Stopped (stop.Graph at why)) noted k = stops_or_not (stop.Graph at why) k.0

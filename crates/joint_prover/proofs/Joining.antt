@@ -44,7 +44,7 @@ module _ (limits : Limits) (task : Task) (files : Files) (a r : View) (reads : R
   named : (c : View) (v w : Verdict) (noted other : Option Note) → v ≡ w → noted ≡ other → IsVerdict limits task files a c w other → IsVerdict limits task files a c v noted
   named c v w noted other is same h = subst (λ x. IsVerdict limits task files a c x noted) (sym is) (subst (IsVerdict limits task files a c w) (sym same) h)
 
-  told : (c : View) (g : Aig) (d : Decision) (n : Note) (v : Verdict) (noted : Option Note) → IfSome (bytes_under a files.graph) (λ bytes. SpellsWithin (profile_of task.claim.add) limits.graph bytes g) →
+  told : (c : View) (g : Aig) (d : Decision) (n : Note) (v : Verdict) (noted : Option Note) → IfSome (bytes_under a files.graph) (λ bytes. SpellsWithin (profile_of task.claim.widths) limits.graph bytes g) →
       r.write_faults ≡ a.write_faults → IsNote g task.claim task.conflicts n → IsDecision g task (cut_of n) d → IsTold (lengths_of limits) files r c d n v noted → IsVerdict limits task files a c v noted
   told c g (decision.Proved p) n v noted spelled same note h (inl t) =
       named c v (Proved t.0) noted (Some n) t.1 t.2 (g, spelled, (h.0, (note, (r, reads, (clauses_text p, algebra_text p, h.2, t.3, t.4)))))
@@ -57,7 +57,7 @@ module _ (limits : Limits) (task : Task) (files : Files) (a r : View) (reads : R
   told c g (decision.Undecided tried step size seen) n v noted spelled same note h t =
       named c v (Undecided tried step size seen) noted (Some n) t.0 t.1 ((g, spelled, (h.0, (note, h.1), h.2, h.3)), subst (ReadsGraph a) (sym t.2) reads)
 
-  pub stopped : (why : Stop) → IsStop (IsGraphStop slot.Graph (profile_of task.claim.add) limits.graph (bytes_under a files.graph)) a r why → IsVerdict limits task files a r (Stopped why) None
+  pub stopped : (why : Stop) → IsStop (IsGraphStop slot.Graph (profile_of task.claim.widths) limits.graph (bytes_under a files.graph)) a r why → IsVerdict limits task files a r (Stopped why) None
   stopped (stop.Graph at why) h = (h, reads, refl)
   stopped (stop.TooLong at) h = (h, reads, refl)
   stopped stop.ReadFault h = (h, reads, refl)
@@ -65,7 +65,7 @@ module _ (limits : Limits) (task : Task) (files : Files) (a r : View) (reads : R
   stopped stop.Memory h = (h, reads, refl)
 
   -- where there was memory, or none
-  pub judged : (c : View) (g : Aig) (decided : Result (Decision × Note) Memory) (v : Verdict) (noted : Option Note) → IfSome (bytes_under a files.graph) (λ bytes. SpellsWithin (profile_of task.claim.add) limits.graph bytes g) →
+  pub judged : (c : View) (g : Aig) (decided : Result (Decision × Note) Memory) (v : Verdict) (noted : Option Note) → IfSome (bytes_under a files.graph) (λ bytes. SpellsWithin (profile_of task.claim.widths) limits.graph bytes g) →
       r.write_faults ≡ a.write_faults → IfOk decided (λ d. IsDecision g task (cut_of d.1) d.0) → IfOk decided (λ d. IsNote g task.claim task.conflicts d.1) → IfOk decided (λ d. IsTold (lengths_of limits) files r c d.0 d.1 v noted) →
       OnErr decided (◌≡◌ {A = Verdict × Option Note} (v, noted) (Stopped stop.Memory, None)) → OnErr decided (c ≡ r) → IsVerdict limits task files a c v noted
   judged c g (Ok d) v noted spelled same decision note h none untouched = told c g d.0 d.1 v noted spelled same note decision h

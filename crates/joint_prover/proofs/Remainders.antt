@@ -56,14 +56,14 @@ use Rattle.frontier_core.specs.Sets.{count_from}
 
 -- ---- lines that are fresh
 
-starts : (l : Made) (e : Extended) (s : Sides) → IsFresh e s l → AreOperandsOf e.graph s → IsSizedAs (profile_of s.claim.add) e.graph → IsExtension e → AgreeEverywhere e → IsStart l
+starts : (l : Made) (e : Extended) (s : Sides) → IsFresh e s l → AreOperandsOf e.graph s → IsSizedAs (profile_of s.claim.widths) e.graph → IsExtension e → AgreeEverywhere e → IsStart l
 starts l e s fresh of sized extension agree = record {
   sides = subst (AreOperandsOf l.extended.graph) (sym fresh.sides) (subst (λ (x : Extended). AreOperandsOf x.graph s) (sym fresh.extended) of);
   same_modulus = fresh.same_modulus ∙ sym (ap modulus fresh.extended);
   lines = fresh.lines;
   unclosed = fresh.unclosed;
-  sized = subst (λ (t : Sides). IsSizedAs (profile_of t.claim.add) l.extended.graph) (sym fresh.sides)
-      (subst (λ (x : Extended). IsSizedAs (profile_of s.claim.add) x.graph) (sym fresh.extended) sized);
+  sized = subst (λ (t : Sides). IsSizedAs (profile_of t.claim.widths) l.extended.graph) (sym fresh.sides)
+      (subst (λ (x : Extended). IsSizedAs (profile_of s.claim.widths) x.graph) (sym fresh.extended) sized);
   extension = subst IsExtension (sym fresh.extended) extension;
   agree = subst AgreeEverywhere (sym fresh.extended) agree;
 }
@@ -74,11 +74,11 @@ graph_by g None = refl
 graph_by g (Some cut) = refl
 
 -- and so over a graph that is shown
-pub starts_shown : (l : Made) (g : Aig) (conflicts : ℕ) (s : Sides) (shown : Shown) → IsShown g conflicts shown → IsFresh shown.extended.now s l → AreOperandsOf g s → IsSizedAs (profile_of s.claim.add) g →
+pub starts_shown : (l : Made) (g : Aig) (conflicts : ℕ) (s : Sides) (shown : Shown) → IsShown g conflicts shown → IsFresh shown.extended.now s l → AreOperandsOf g s → IsSizedAs (profile_of s.claim.widths) g →
     IsExtension shown.extended.now → IsStart l
 starts_shown l g conflicts s shown is fresh of sized extension =
     let graph = sym (ap (λ (x : Extended). x.graph) is.extended ∙ graph_by g (cut_named shown)) in
-    starts l shown.extended.now s fresh (subst (λ h. AreOperandsOf h s) graph of) (subst (IsSizedAs (profile_of s.claim.add)) graph sized) extension
+    starts l shown.extended.now s fresh (subst (λ h. AreOperandsOf h s) graph of) (subst (IsSizedAs (profile_of s.claim.widths)) graph sized) extension
     (subst AgreeEverywhere (sym is.extended) is.agree)
 
 -- the operands are those that are asked for
@@ -259,8 +259,8 @@ module _ (l : Made) (start : IsStart l) (after : Made) (poly : Sum) (id : ℕ) (
   once : IsDefinedOnce g
   once = start.extension.graph.defined_once
 
-  shape : HasShapeFor s.claim.add g
-  shape = shape_for s.claim.add g start.sized
+  shape : HasShapeFor s.claim.widths g
+  shape = shape_for s.claim.widths g start.sized
 
   is_end : IsEnd e s f.added f.eliminated
   is_end = record {
@@ -311,9 +311,9 @@ module _ (l : Made) (start : IsStart l) (after : Made) (poly : Sum) (id : ℕ) (
 
     no_line : id ≡ 0 → ⊥
     no_line none =
-        let bits = lowest_bits g s start.sides shape once (some_bits s.claim.add g start.sized) in
+        let bits = lowest_bits g s start.sides shape once (some_bits s.claim.widths g start.sized).0 (some_bits s.claim.widths g start.sized).1 in
         let missing = none_there (written_ledger after).live (recursion_from_All (λ line. (0 < line.id) × (line.id ≤ after.last)) (written_ledger after).live lawful.ids) in
-        specification_is_not_zero e s bits.0 bits.1 bits.2 (some_outputs s.claim.add g start.sized)
+        specification_is_not_zero e s bits.0 bits.1 bits.2 (some_outputs s.claim.widths g start.sized)
         (λ σ. sym (closes_value σ) ∙ ap (λ i. value_of (written_ledger after).live i σ) none ∙ ap (λ line. value_or_zero line σ) missing)
 
     pub rest_closes : Closes after.extended after.sides (written_ledger after).live id

@@ -14,6 +14,7 @@ use Rattle.drup_text.specs.WrittenTexts.{any_file_text}
 use Rattle.drup_text.proofs.Writable.{lines_are_writable}
 use Rattle.drup_text.proofs.WrittenAgain.{written_files_are_read}
 use Rattle.graph_core.specs.Aiger.Sizes.{IsSizedAs}
+use Rattle.graph_core.specs.declared.widths.Widths.{Widths}
 use Rattle.graph_core.specs.Graph.{Aig, IsBuilt, IsWellFormed}
 use Rattle.frontier_core.specs.LastFrontier.{AgreeEverywhere}
 use Rattle.graph_core.specs.Graph.Extended.{without_cut, modulus}
@@ -92,13 +93,13 @@ blocks_fit g (Some cut) fits = (cut_is_block g cut fits, tt)
 
 -- ---- what is written
 
-module _ (g : Aig) (add : Bool) (sized : IsSizedAs (profile_of add) g) (well : IsWellFormed g) where
+module _ (g : Aig) (widths : Widths) (sized : IsSizedAs (profile_of widths) g) (well : IsWellFormed g) where
   built : IsBuilt g
   built = record {
     well_formed = well;
-    small = few_variables add g sized;
-    few_inputs = few_inputs add g sized;
-    few_outputs = let few = few_outputs add g sized in omega arith;
+    small = few_variables widths g sized;
+    few_inputs = few_inputs widths g sized;
+    few_outputs = let few = few_outputs widths g sized in omega arith;
   }
 
   module _ (task : Task) (known : IsVersion task.version) (cut : Option Cut) (fits : IsCutOf g cut) where
@@ -108,7 +109,7 @@ module _ (g : Aig) (add : Bool) (sized : IsSizedAs (profile_of add) g) (well : I
     takes : IsHeaderOf g header
     takes =
         let one = one_block (length g.outputs) cut in
-        let some = some_outputs add g sized in
+        let some = some_outputs widths g sized in
         ⊎_elim (λ first. inl (first, (cut, refl, fits))) (λ second. inr (second, omega arith, blocks_fit g cut fits)) known
 
     grafted : IsGrafted g (extended_by g cut)
@@ -139,9 +140,9 @@ module _ (g : Aig) (add : Bool) (sized : IsSizedAs (profile_of add) g) (well : I
     }
 
 -- The certificate of what is shown gives premises over that graph, where each line has a literal once.
-pub shown_clauses : (g : Aig) (task : Task) (s : Shown) → IsSizedAs (profile_of task.claim.add) g → IsWellFormed g → IsVersion task.version → IsShown g task.conflicts s → All (λ line. IsClause (clause_in line)) s.log.now →
+pub shown_clauses : (g : Aig) (task : Task) (s : Shown) → IsSizedAs (profile_of task.claim.widths) g → IsWellFormed g → IsVersion task.version → IsShown g task.conflicts s → All (λ line. IsClause (clause_in line)) s.log.now →
     AreClausesOver g task (cut_named s) (any_file_text (header_of g task.version (cut_named s)) s.log.now)
-shown_clauses g task s sized well known is once = clauses_over g task.claim.add sized well task known (cut_named s) is.fits s.log.now is.few once is.none is.lawful
+shown_clauses g task s sized well known is once = clauses_over g task.claim.widths sized well task known (cut_named s) is.fits s.log.now is.few once is.none is.lawful
 
 -- a pair over a graph is lawful: what imports nothing is lawful whatever the added clauses are
 pub pair_is_lawful : (g : Aig) (task : Task) (cut : Option Cut) (clauses algebra : List ℕ) → IsPairOver g task cut clauses algebra → IsPair g task.claim clauses algebra

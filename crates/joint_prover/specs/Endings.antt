@@ -1,5 +1,5 @@
 -- What plans run over and come to, and what is told of it. Private clauses alone cite this file.
-use Rattle.std.specs.Prelude.{◌≡◌, ◌⊎◌, ℕ, ◌+◌, ◌*◌, ◌≤◌, Bool, List, [], length, option_map, take, IfSome, IsSome}
+use Rattle.std.specs.Prelude.{◌≡◌, ◌⊎◌, ℕ, ◌+◌, ◌*◌, ◌≤◌, Bool, true, false, List, [], length, option_map, take, IfSome, IsSome}
 use Rattle.std.specs.declared.option.Option.{Option}
 use Rattle.std.specs.declared.option.Option.TheVariants.{None, Some}
 use Rattle.clause_core.specs.ClauseLines.{AreLawfulClauseLines}
@@ -44,6 +44,8 @@ use Rattle.joint_prover.specs.declared.verdict.Verdict.{Verdict}
 use Rattle.joint_prover.specs.declared.verdict.Verdict.TheVariants as verdict
 use Rattle.joint_prover.specs.Pairs.{IsPairOver, IsVersion}
 use Rattle.joint_prover.specs.Tries.{EndsWithCut, extended_by}
+use Rattle.joint_prover.specs.declared.seen.Seen.{Seen}
+use Rattle.joint_prover.specs.declared.seen.Seen.TheVariants as sight
 use Rattle.joint_prover.specs.Verdicts.{IsWrong, IsWrongSum}
 
 -- ---- the graphs that plans run over
@@ -65,7 +67,7 @@ pub record IsShown (g : Aig) (conflicts : ℕ) (s : Shown) : Type 0 where
 -- of certificates is one; the graph is shown, alone and with the adder that is used; and numbers on which an adder differs are in range.
 pub record IsJob (job : Job) : Type 0 where
   pub operands : AreOperandsOf job.graph.now job.operands.now
-  pub sized : IsSizedAs (profile_of job.operands.now.claim.add) job.graph.now
+  pub sized : IsSizedAs (profile_of job.operands.now.claim.widths) job.graph.now
   pub claim : job.operands.now.claim ≡ job.task.claim
   pub well_formed : IsWellFormed job.graph.now
   pub version : IsVersion job.task.version
@@ -87,7 +89,7 @@ pub record IsStart (l : Made) : Type 0 where
   pub same_modulus : modulus_in l.table ≡ modulus l.extended
   pub lines : l.lines ≡ []
   pub unclosed : l.closing ≡ None
-  pub sized : IsSizedAs (profile_of l.sides.claim.add) l.extended.graph
+  pub sized : IsSizedAs (profile_of l.sides.claim.widths) l.extended.graph
   pub extension : IsExtension l.extended
   pub agree : AgreeEverywhere l.extended
 
@@ -125,6 +127,16 @@ pub record IsTriedAt (steps : List Step) (count size : ℕ) (rewritten : Bool) (
   pub size_is : tried.size ≡ size
 
 -- ---- what a plan decides
+
+-- the decision that numbers are the least on which the graph differs, without an addend and with one
+abbrev pub wrong_at : Bool → Numbers → ℕ → ℕ → Decision
+wrong_at false x value due = decision.Wrong x.a x.b value due
+wrong_at true x value due = decision.WrongSum x.a x.b x.c value due
+
+-- and that it is seen to differ on them
+abbrev pub seen_as : Bool → Numbers → ℕ → ℕ → Seen
+seen_as false x value due = sight.Product x.a x.b value due
+seen_as true x value due = sight.Sum x.a x.b x.c value due
 
 -- the least numbers on which the graph differs
 abbrev pub IsWrongAs : Aig → Claim → Decision → Type 0

@@ -4,7 +4,7 @@ use Rattle.std.specs.declared.option.Option.{Option}
 use Rattle.std.specs.declared.option.Option.TheVariants.{None, Some}
 use Rattle.graph_core.specs.Graph.Extended.{AgreeOnColumns}
 use Rattle.graph_core.specs.Graph.{Aig}
-use Rattle.graph_core.specs.Graph.Operands.{sides_for}
+use Rattle.graph_core.specs.Graph.Operands.{has_addend, sides_for}
 use Rattle.graph_core.specs.declared.claim.Claim.{Claim}
 use Rattle.graph_core.specs.declared.numbers.Numbers.{Numbers}
 use Rattle.mv_fact.specs.Always.{Always}
@@ -37,8 +37,8 @@ DiffersAtStage g claim x = (cut : Cut) × IsFinalStage g cut × IsRewritingDiffe
 abbrev pub IsNote : Aig → Claim → ℕ → Note → Type 0
 IsNote g claim conflicts (note.Used cut) = IsUsedCut g cut
 IsNote g claim conflicts note.None = (cut : Cut) → ¬ (IsFinalStage g cut)
-IsNote g claim conflicts (note.Differs a b) = (claim.add ≡ false) × DiffersAtStage g claim (record { a = a; b = b; c = 0 })
-IsNote g claim conflicts (note.DiffersSum a b c) = (claim.add ≡ true) × DiffersAtStage g claim (record { a = a; b = b; c = c })
+IsNote g claim conflicts (note.Differs a b) = (has_addend claim.widths ≡ false) × DiffersAtStage g claim (record { a = a; b = b; c = 0 })
+IsNote g claim conflicts (note.DiffersSum a b c) = (has_addend claim.widths ≡ true) × DiffersAtStage g claim (record { a = a; b = b; c = c })
 IsNote g claim conflicts (note.Spent lemmas goal log) = (cut : Cut) × IsFinalStage g cut × IsSpent (with_cut g cut) conflicts lemmas goal log
 IsNote g claim conflicts (note.Found cut) = IsFoundCut g cut
 

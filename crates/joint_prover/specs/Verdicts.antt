@@ -1,16 +1,17 @@
 -- What `verify` says of a graph file, and where each verdict comes.
-use Rattle.std.specs.Prelude.{◌≡◌, ◌⊎◌, ℕ, ◌+◌, ◌*◌, ◌%◌, ◌<◌, ◌≤◌, Bool, true, false, List, ◌++◌, length, IfSome, IsSomeAnd, ⊤}
+use Rattle.std.specs.Prelude.{◌≡◌, ◌⊎◌, ℕ, ◌%◌, ◌<◌, ◌≤◌, Bool, true, false, List, length, IfSome, IsSomeAnd, ⊤}
 use Rattle.std.specs.declared.option.Option.{Option}
 use Rattle.std.specs.declared.option.Option.TheVariants.{None, Some}
 use Rattle.aiger_reader.specs.Refusals.{SpellsWithin}
 use Rattle.command_core.specs.Stopping.{GivesDue, IsGraphStop, IsStop}
 use Rattle.command_core.specs.declared.stop.Stop.TheVariants as stop
-use Rattle.frontier_core.specs.LeastDifference.{IsDifference, IsDifferenceAt, IsLeastDifference, IsLeastSumDifference, IsSumDifference, ones_from}
+use Rattle.frontier_core.specs.LeastDifference.{IsDifference, IsDifferenceAt, IsLeastDifference, ones_from}
 use Rattle.frontier_core.specs.PlainOrder.{HasPlainSize}
 use Rattle.graph_core.specs.Graph.{Aig}
 use Rattle.graph_core.specs.Graph.Extended.{without_cut}
-use Rattle.graph_core.specs.Graph.Operands.{Does, bits_of, inputs_of, output_modulus, product_as, profile_of, sides_for, sum_on, sum_width, value_on, width}
+use Rattle.graph_core.specs.Graph.Operands.{Does, claimed_at, has_addend, inputs_at, output_modulus, profile_of, sides_for, value_at}
 use Rattle.graph_core.specs.declared.claim.Claim.{Claim}
+use Rattle.graph_core.specs.declared.numbers.Numbers.{Numbers}
 use Rattle.mv_desk.specs.View.{View, Rose, bytes_under, IsTold}
 use Rattle.mv_desk.specs.declared.limits.Limits.{Limits}
 use Rattle.mv_desk.specs.declared.slot.Slot.{Slot}
@@ -43,7 +44,7 @@ pub record HoldsPair (task : Task) (files : Files) (view : View) (limit : ℕ) (
   pub clauses_held : bytes_under view files.clauses ≡ Some clause_file
   pub algebra_held : bytes_under view files.algebra ≡ Some algebra_file
   pub graph : Aig
-  pub spells : SpellsWithin (profile_of task.claim.add) limit graph_file graph
+  pub spells : SpellsWithin (profile_of task.claim.widths) limit graph_file graph
   pub pair : IsPair graph task.claim clause_file algebra_file
   pub does : Does task.claim graph
   pub note : IsSomeAnd noted (λ n. IsNote graph task.claim task.conflicts n × IsPairFor graph task (cut_of n) clause_file algebra_file)
@@ -74,41 +75,41 @@ HaveManyOnes g claim = (bits : List Bool) → IsDifferenceAt g (sides_for claim 
 
 -- ---- the verdicts
 
+-- The least numbers on which the graph's value isn't what is claimed of them, with both; and whether there is an addend.
+pub record IsWrongAt (g : Aig) (claim : Claim) (add : Bool) (x : Numbers) (value due : ℕ) : Type 0 where
+  pub addend : has_addend claim.widths ≡ add
+  pub least : IsLeastDifference g (sides_for claim g) x
+  pub value_is : value ≡ value_at g (sides_for claim g) x
+  pub claimed_is : due ≡ claimed_at (output_modulus g) (sides_for claim g) x % output_modulus g
+
+-- two operands, and two operands and an addend, as numbers
+abbrev pub two : ℕ → ℕ → Numbers
+two a b = record { a = a; b = b; c = 0 }
+
+abbrev pub three : ℕ → ℕ → ℕ → Numbers
+three a b c = record { a = a; b = b; c = c }
+
 -- The least operands on which the graph's value isn't the product of the numbers that they stand for, with its value and the product.
-pub record IsWrong (g : Aig) (claim : Claim) (a b value product : ℕ) : Type 0 where
-  pub alone : claim.add ≡ false
-  pub least : IsLeastDifference g claim.order claim.sign a b
-  pub value_is : value ≡ value_on g claim.order a b
-  pub product_is : product ≡ product_as claim.sign (output_modulus g) (width g) a b % output_modulus g
+abbrev pub IsWrong : Aig → Claim → ℕ → ℕ → ℕ → ℕ → Type 0
+IsWrong g claim a b value product = IsWrongAt g claim false (two a b) value product
 
 -- The same for a claim with an addend: the least operands and addend, the graph's value, and the product plus the addend.
-pub record IsWrongSum (g : Aig) (claim : Claim) (a b c value sum : ℕ) : Type 0 where
-  pub added : claim.add ≡ true
-  pub least : IsLeastSumDifference g claim.order claim.sign a b c
-  pub value_is : value ≡ sum_on g claim.order a b c
-  pub sum_is : sum ≡ (product_as claim.sign (output_modulus g) (sum_width g) a b + c) % output_modulus g
+abbrev pub IsWrongSum : Aig → Claim → ℕ → ℕ → ℕ → ℕ → ℕ → Type 0
+IsWrongSum g claim a b c value sum = IsWrongAt g claim true (three a b c) value sum
 
 -- ---- seen
 
--- Operands on which the graph's value isn't the product of the numbers that they stand for, with its value and the product; other ones may
--- be less.
-pub record IsProductSeen (g : Aig) (claim : Claim) (a b value product : ℕ) : Type 0 where
-  pub alone : claim.add ≡ false
-  pub difference : IsDifference g claim.order claim.sign a b
-  pub value_is : value ≡ value_on g claim.order a b
-  pub product_is : product ≡ product_as claim.sign (output_modulus g) (width g) a b % output_modulus g
-
--- The same for a claim with an addend.
-pub record IsSumSeen (g : Aig) (claim : Claim) (a b c value sum : ℕ) : Type 0 where
-  pub added : claim.add ≡ true
-  pub difference : IsSumDifference g claim.order claim.sign a b c
-  pub value_is : value ≡ sum_on g claim.order a b c
-  pub sum_is : sum ≡ (product_as claim.sign (output_modulus g) (sum_width g) a b + c) % output_modulus g
+-- Numbers on which the graph's value isn't what is claimed of them, with both; other ones may be less.
+pub record IsSeenAt (g : Aig) (claim : Claim) (add : Bool) (x : Numbers) (value due : ℕ) : Type 0 where
+  pub addend : has_addend claim.widths ≡ add
+  pub difference : IsDifference g (sides_for claim g) x
+  pub value_is : value ≡ value_at g (sides_for claim g) x
+  pub claimed_is : due ≡ claimed_at (output_modulus g) (sides_for claim g) x % output_modulus g
 
 -- The graph differs on these numbers from what is claimed, and has this value there.
 abbrev pub IsSeen : Aig → Claim → Seen → Type 0
-IsSeen g claim (Product a b value product) = IsProductSeen g claim a b value product
-IsSeen g claim (Sum a b c value sum) = IsSumSeen g claim a b c value sum
+IsSeen g claim (Product a b value product) = IsSeenAt g claim false (two a b) value product
+IsSeen g claim (Sum a b c value sum) = IsSeenAt g claim true (three a b c) value sum
 
 -- ---- where each verdict comes
 
@@ -118,7 +119,7 @@ HasNote g task noted P = IsSomeAnd noted (λ n. IsNote g task.claim task.conflic
 
 -- Something holds of the graph, as far as the file is told.
 abbrev pub IsOfFile : ℕ → Task → Files → View → (Aig → Type 0) → Type 0
-IsOfFile limit task files before P = HasGraph (profile_of task.claim.add) limit (bytes_under before files.graph) P
+IsOfFile limit task files before P = HasGraph (profile_of task.claim.widths) limit (bytes_under before files.graph) P
 
 -- Where each verdict comes, and what was done to the files. With each but the first and a write fault nothing was created. There is a
 -- note with each but a stop. Of certificates that were written it is told which is the first that is past the limits, if one is.
@@ -145,7 +146,7 @@ IsVerdict limits task files before after (Stopped stop.WriteFault) noted =
     ((n : Note) × IsNote g task.claim task.conflicts n × (read : View) × ReadsGraph before read ×
     StopsWriting files (AreClausesFor g task (cut_of n)) (IsPairFor g task (cut_of n)) read after)) × (noted ≡ None)
 IsVerdict limits task files before after (Stopped why) noted =
-    IsStop (IsGraphStop slot.Graph (profile_of task.claim.add) limits.graph (bytes_under before files.graph)) before after why ×
+    IsStop (IsGraphStop slot.Graph (profile_of task.claim.widths) limits.graph (bytes_under before files.graph)) before after why ×
     ReadsGraph before after × (noted ≡ None)
 
 -- ---- what users rest on
@@ -166,15 +167,15 @@ judgement given = given
 -- ones, or where no graph is spelled.
 abbrev pub IsVerdictDue : ℕ → Task → List ℕ → Verdict → Type 0
 IsVerdictDue limit task file (Proved None) =
-    (g : Aig) × SpellsWithin (profile_of task.claim.add) limit file g × IsWithinBudget g task.claim task.budget × Does task.claim g
+    (g : Aig) × SpellsWithin (profile_of task.claim.widths) limit file g × IsWithinBudget g task.claim task.budget × Does task.claim g
 IsVerdictDue limit task file (Wrong a b value product) =
-    (g : Aig) × SpellsWithin (profile_of task.claim.add) limit file g ×
-    (IsWithinBudget g task.claim task.budget ⊎ HasFewOnes (inputs_of task.claim.order (width g) a b)) × IsWrong g task.claim a b value product
+    (g : Aig) × SpellsWithin (profile_of task.claim.widths) limit file g ×
+    (IsWithinBudget g task.claim task.budget ⊎ HasFewOnes (inputs_at (sides_for task.claim g) (two a b))) × IsWrong g task.claim a b value product
 IsVerdictDue limit task file (WrongSum a b c value sum) =
-    (g : Aig) × SpellsWithin (profile_of task.claim.add) limit file g ×
-    (IsWithinBudget g task.claim task.budget ⊎ HasFewOnes (inputs_of task.claim.order (sum_width g) a b ++ bits_of (2 * sum_width g) c)) ×
+    (g : Aig) × SpellsWithin (profile_of task.claim.widths) limit file g ×
+    (IsWithinBudget g task.claim task.budget ⊎ HasFewOnes (inputs_at (sides_for task.claim g) (three a b c))) ×
     IsWrongSum g task.claim a b c value sum
-IsVerdictDue limit task file (Stopped why) = IsGraphStop slot.Graph (profile_of task.claim.add) limit (Some file) why
+IsVerdictDue limit task file (Stopped why) = IsGraphStop slot.Graph (profile_of task.claim.widths) limit (Some file) why
 IsVerdictDue limit task file _ = ⊥
 
 -- It is given, however long the certificates are; or in its place a fault, which was counted, or out of memory.

@@ -1,11 +1,11 @@
 // What is concluded from a plan that ended: the certificates of its lines, or the numbers that show the graph to be
 // wrong.
-ghost use Rattle.std.specs.Prelude.{◌≡◌, false, true, IfOk, length};
+ghost use Rattle.std.specs.Prelude.{◌≡◌, IfOk, length};
 ghost use Rattle.std.specs.List.{All};
 ghost use Rattle.clause_core.specs.Clause.{IsClause};
 ghost use Rattle.clause_core.specs.ClauseLines.{clause_in};
 ghost use Rattle.ripple_graft.specs.Blocks.{block_of};
-ghost use Rattle.joint_prover.specs.Endings.{AreLeast, Decides, IsJob, IsProof, IsShown, IsWrongAs, cut_named, header_of};
+ghost use Rattle.joint_prover.specs.Endings.{AreLeast, Decides, IsJob, IsProof, IsShown, IsWrongAs, cut_named, header_of, wrong_at};
 
 use crate::decision::Decision;
 use crate::shown::Shown;
@@ -108,46 +108,30 @@ pub(crate) fn refute(alloc: Global, job: &Job<'_>, numbers: Numbers) -> Result<D
     requires least { AreLeast job.now.graph.now job.now.operands.now numbers }
     ensures { IfOk result (IsWrongAs job.now.graph.now job.now.task.claim) }
 {
-    if job.task.claim.add {
-        wrong_sum(alloc, job, numbers)
-    } else {
-        wrong_product(alloc, job, numbers)
-    }
+    let value = job.graph.value_at(alloc, job.operands, numbers)?;
+    let claimed = claimed_value(job.operands, numbers, job.graph.outputs());
+    Ok(wrong(job.task.claim.widths.has_addend(), numbers, value, claimed))
 }
 
-// With its value there and the product.
-fn wrong_product(alloc: Global, job: &Job<'_>, numbers: Numbers) -> Result<Decision, Memory>
-    requires job { IsJob job.now }
-    requires alone { job.now.task.claim.add ≡ false }
-    requires least { AreLeast job.now.graph.now job.now.operands.now numbers }
-    ensures { IfOk result (IsWrongAs job.now.graph.now job.now.task.claim) }
-{
-    let Numbers { a, b, .. } = numbers;
-    let value = job.graph.value_on(alloc, job.task.claim.order, a, b)?;
-    let product = claimed_value(job.operands, numbers, job.graph.outputs());
-    Ok(Decision::Wrong {
-        a,
-        b,
-        value,
-        product,
-    })
-}
-
-// With its value there and the product plus the addend.
-fn wrong_sum(alloc: Global, job: &Job<'_>, numbers: Numbers) -> Result<Decision, Memory>
-    requires job { IsJob job.now }
-    requires added { job.now.task.claim.add ≡ true }
-    requires least { AreLeast job.now.graph.now job.now.operands.now numbers }
-    ensures { IfOk result (IsWrongAs job.now.graph.now job.now.task.claim) }
+// With an addend or without.
+fn wrong(has_addend: bool, numbers: Numbers, value: u128, claimed: u128) -> Decision
+    ensures { result ≡ wrong_at has_addend numbers value claimed }
 {
     let Numbers { a, b, c } = numbers;
-    let value = job.graph.sum_on(alloc, job.task.claim.order, a, b, c)?;
-    let sum = claimed_value(job.operands, numbers, job.graph.outputs());
-    Ok(Decision::WrongSum {
-        a,
-        b,
-        c,
-        value,
-        sum,
-    })
+    if has_addend {
+        Decision::WrongSum {
+            a,
+            b,
+            c,
+            value,
+            sum: claimed,
+        }
+    } else {
+        Decision::Wrong {
+            a,
+            b,
+            value,
+            product: claimed,
+        }
+    }
 }

@@ -106,7 +106,7 @@ fn decide_by_values(alloc: Global, job: &Job<'_>) -> Result<Option<(Decision, Op
 // it. Where an adder is used already, and the product isn't all that is claimed, another adder is in the way.
 fn drafted(job: &Job<'_>) -> (&'static [Try], &'static [Try]) {
     let claim = job.task.claim;
-    let is_product = !claim.add && matches!(claim.sign, Sign::Unsigned);
+    let is_product = !claim.widths.has_addend() && matches!(claim.sign, Sign::Unsigned);
     if job.used.cut.is_some() && !is_product {
         (&DRAFTED, &[])
     } else {
@@ -222,7 +222,7 @@ fn decide_over<'a>(
     ensures { IfOk result (λ d. IfSome d
         (Decides job.now.graph.now job.now.task (cut_named shown.entry))) }
 {
-    let small = small_budget(job.operands.bits());
+    let small = small_budget(job.operands.a_width().max(job.operands.b_width()));
     for &(lines, order, times) in plans {
         let budget = job.task.budget.min(small.saturating_mul(times));
         let decided = match lines {

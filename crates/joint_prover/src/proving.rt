@@ -62,7 +62,7 @@ pub fn verify<D: Desk>(
 
 /// What is decided of a graph, and what became of a rewriting of its final stage.
 pub fn decide(alloc: Global, task: &Task, graph: &Graph) -> Result<(Decision, Note), Memory>
-    requires sized { IsSizedAs (profile_of task.now.claim.add) graph.now }
+    requires sized { IsSizedAs (profile_of task.now.claim.widths) graph.now }
     requires version { IsVersion task.now.version }
     ensures decision { IfOk result (λ r. IsDecision graph.now task.now (cut_of r.1) r.0) }
     ensures note { IfOk result (λ r. IsNote graph.now task.now.claim task.now.conflicts r.1) }
@@ -82,7 +82,10 @@ pub fn decide(alloc: Global, task: &Task, graph: &Graph) -> Result<(Decision, No
         differing: numbers_of(&rewritten),
     };
     let (decision, found) = decide_by_plans(alloc, &job)?;
-    Ok((decision, make_note(task.claim.add, rewritten, found)))
+    Ok((
+        decision,
+        make_note(task.claim.widths.has_addend(), rewritten, found),
+    ))
 }
 
 // The verdict that tells what was decided, and the note. Both certificates are written where the graph does what is

@@ -1,7 +1,7 @@
 // Numbers on which a graph is seen to differ from what is claimed, where they need not be the least.
-ghost use Rattle.std.specs.Prelude.{◌≡◌, false, true, IfOk, IfSome};
+ghost use Rattle.std.specs.Prelude.{◌≡◌, IfOk, IfSome};
 ghost use Rattle.graph_core.specs.Graph.Operands.{AreInRange};
-ghost use Rattle.joint_prover.specs.Endings.{IsJob};
+ghost use Rattle.joint_prover.specs.Endings.{IsJob, seen_as};
 ghost use Rattle.joint_prover.specs.Verdicts.{IsSeen};
 
 use crate::task::Job;
@@ -49,52 +49,34 @@ fn seen_at(alloc: Global, job: &Job<'_>, numbers: Numbers) -> Result<Option<Seen
     requires range { AreInRange job.now.operands.now numbers }
     ensures { IfOk result (λ seen. IfSome seen (IsSeen job.now.graph.now job.now.task.claim)) }
 {
-    if job.task.claim.add {
-        seen_sum(alloc, job, numbers)
-    } else {
-        seen_product(alloc, job, numbers)
-    }
-}
-
-// Without an addend.
-fn seen_product(alloc: Global, job: &Job<'_>, numbers: Numbers) -> Result<Option<Seen>, Memory>
-    requires job { IsJob job.now }
-    requires alone { job.now.task.claim.add ≡ false }
-    requires range { AreInRange job.now.operands.now numbers }
-    ensures { IfOk result (λ seen. IfSome seen (IsSeen job.now.graph.now job.now.task.claim)) }
-{
-    let Numbers { a, b, .. } = numbers;
-    let value = job.graph.value_on(alloc, job.task.claim.order, a, b)?;
-    let product = claimed_value(job.operands, numbers, job.graph.outputs());
-    if value == product {
+    let value = job.graph.value_at(alloc, job.operands, numbers)?;
+    let claimed = claimed_value(job.operands, numbers, job.graph.outputs());
+    if value == claimed {
         return Ok(None);
     }
-    Ok(Some(Seen::Product {
-        a,
-        b,
-        value,
-        product,
-    }))
+    let has_addend = job.task.claim.widths.has_addend();
+    Ok(Some(seen_as(has_addend, numbers, value, claimed)))
 }
 
-// With one.
-fn seen_sum(alloc: Global, job: &Job<'_>, numbers: Numbers) -> Result<Option<Seen>, Memory>
-    requires job { IsJob job.now }
-    requires added { job.now.task.claim.add ≡ true }
-    requires range { AreInRange job.now.operands.now numbers }
-    ensures { IfOk result (λ seen. IfSome seen (IsSeen job.now.graph.now job.now.task.claim)) }
+// With an addend or without.
+fn seen_as(has_addend: bool, numbers: Numbers, value: u128, claimed: u128) -> Seen
+    ensures { result ≡ seen_as has_addend numbers value claimed }
 {
     let Numbers { a, b, c } = numbers;
-    let value = job.graph.sum_on(alloc, job.task.claim.order, a, b, c)?;
-    let sum = claimed_value(job.operands, numbers, job.graph.outputs());
-    if value == sum {
-        return Ok(None);
+    if has_addend {
+        Seen::Sum {
+            a,
+            b,
+            c,
+            value,
+            sum: claimed,
+        }
+    } else {
+        Seen::Product {
+            a,
+            b,
+            value,
+            product: claimed,
+        }
     }
-    Ok(Some(Seen::Sum {
-        a,
-        b,
-        c,
-        value,
-        sum,
-    }))
 }

@@ -87,7 +87,7 @@ pub(crate) fn find_cut<'a>(
     operands: &Operands,
     conflicts: u64,
 ) -> Result<Option<Found<'a>>, Memory>
-    requires shape { HasShapeFor operands.now.claim.add graph.now }
+    requires shape { HasShapeFor operands.now.claim.widths graph.now }
     requires operands { AreOperandsOf graph.now operands.now }
     ensures shown { IfOk result (λ found. IfSome found (λ f.
         IsShownRewriting graph.now conflicts f.cut f.extended f.log.lines)) }

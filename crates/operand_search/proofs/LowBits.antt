@@ -6,7 +6,7 @@ use Rattle.std.proofs.lemmas.Bool.{lt-ltb, le-ltb}
 use Rattle.std.proofs.lemmas.Nat.{pow-add, pow_pos}
 use Rattle.graph_core.specs.declared.sign.Sign.{Sign}
 use Rattle.graph_core.specs.declared.sign.Sign.TheVariants.{Signed}
-use Rattle.graph_core.specs.Graph.Operands.{number_as, product_as}
+use Rattle.graph_core.specs.Graph.Operands.{number_as}
 use Rattle.graph_core.proofs.OfGraphs.CallerLemmas.{product_same, sum_same}
 use Rattle.operand_search.specs.Numbers.{IsNumber}
 
@@ -68,9 +68,9 @@ number_wrapped sign n a x signed small high is =
     (number_high n a x (half_high n a (subst (λ z. z ≤ 2 * a) (shifted n small) high)) (omega (arith, upper)) (is ∙ ap (λ z. (a + (2 ^ 128 - z)) % 2 ^ 128) (shifted n small)))
 
 -- the product of two such numbers, and an addend
-pub sum_is : (sign : Sign) (n k a b c x y p q : ℕ) → k ≤ 128 → IsNumber sign n a x → IsNumber sign n b y → p ≡ (x * y) % 2 ^ 128 → q ≡ (p + c) % 2 ^ 128 →
-    q % 2 ^ k ≡ (product_as sign (2 ^ k) n a b + c) % 2 ^ k
-sum_is sign n k a b c x y p q small first second product sum =
-    let product_is : p % 2 ^ k ≡ product_as sign (2 ^ k) n a b % 2 ^ k =
-    ap (λ z. z % 2 ^ k) product ∙ low_power k (x * y) small ∙ product_same (2 ^ k) x (number_as sign (2 ^ k) n a) y (number_as sign (2 ^ k) n b) (first k small) (second k small) in
-    ap (λ z. z % 2 ^ k) sum ∙ low_power k (p + c) small ∙ sum_same (2 ^ k) p (product_as sign (2 ^ k) n a b) c c product_is refl
+pub sum_is : (sign : Sign) (n j k a b c x y p q : ℕ) → k ≤ 128 → IsNumber sign n a x → IsNumber sign j b y → p ≡ (x * y) % 2 ^ 128 → q ≡ (p + c) % 2 ^ 128 →
+    q % 2 ^ k ≡ (number_as sign (2 ^ k) n a * number_as sign (2 ^ k) j b + c) % 2 ^ k
+sum_is sign n j k a b c x y p q small first second product sum =
+    let product_is : p % 2 ^ k ≡ number_as sign (2 ^ k) n a * number_as sign (2 ^ k) j b % 2 ^ k =
+    ap (λ z. z % 2 ^ k) product ∙ low_power k (x * y) small ∙ product_same (2 ^ k) x (number_as sign (2 ^ k) n a) y (number_as sign (2 ^ k) j b) (first k small) (second k small) in
+    ap (λ z. z % 2 ^ k) sum ∙ low_power k (p + c) small ∙ sum_same (2 ^ k) p (number_as sign (2 ^ k) n a * number_as sign (2 ^ k) j b) c c product_is refl

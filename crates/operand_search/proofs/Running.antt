@@ -5,11 +5,14 @@ use Rattle.std.proofs.Common.{refl, sym, ap, subst, ◌∙◌, arith, inl, inr, 
 use Rattle.std.proofs.lemmas.Bool.{cases_lt}
 use Rattle.std.proofs.lemmas.List.{get_or_append_left, get_or_push, take-append-le, take_at, length_push, length-replicate}
 use Rattle.graph_core.specs.declared.numbers.Numbers.{Numbers}
+use Rattle.graph_core.specs.declared.order.Order.TheVariants.{Interleaved}
+use Rattle.graph_core.specs.declared.widths.Widths.{Widths}
+use Rattle.graph_core.specs.declared.widths.Widths.TheVariants.{Equal, Given as OfWidths}
 use Rattle.graph_core.specs.Graph.{Aig, IsDefinedOnce, evaluated}
-use Rattle.graph_core.specs.Graph.Operands.{Sides, AreInRange, AreOperandsOf, AreSides, HasShapeFor, claimed, inputs_at, output_modulus, product_as, value_at_inputs, width_for}
-use Rattle.graph_core.proofs.OfGraphs.CallerLemmas.{length-operands}
+use Rattle.graph_core.specs.Graph.Operands.{Sides, AreInRange, AreOperandsOf, AreSides, HasShapeFor, a_width, b_width, claimed, claimed_at, inputs_at, inputs_in, order_of, output_modulus, value_at_inputs}
+use Rattle.graph_core.proofs.OfGraphs.CallerLemmas.{are_inputs, claimed_there, even_sides, length-inputs_at, length-operands}
 use Rattle.frontier_core.specs.LeastDifference.{IsDifferenceAt, IsLeastDifferenceAt, ones_from}
-use Rattle.frontier_core.proofs.CallerLemmas.{claimed_at, length-inputs_at, ones_injective, precedes_total}
+use Rattle.frontier_core.proofs.CallerLemmas.{ones_injective, precedes_total}
 use Rattle.operand_search.specs.Enumeration.{ones, IsEnumeratedBefore, IsEnumerated}
 use Rattle.operand_search.specs.Lanes.{StandFor}
 use Rattle.operand_search.specs.Runs.{IsRun, start, more, IsRightOn, IsFirstWrong}
@@ -54,12 +57,20 @@ run_at s most bits _ _ _ (more xs x b ys zs r st step) j d low =
     })
     (cases_lt j (length xs))
 
-module _ (g : Aig) (s : Sides) (shape : HasShapeFor s.claim.add g) (once : IsDefinedOnce g) (of : AreOperandsOf g s) where
+module _ (g : Aig) (s : Sides) (shape : HasShapeFor s.claim.widths g) (once : IsDefinedOnce g) (of : AreOperandsOf g s) where
+  whole : inputs_in s ≡ g.inputs
+  whole = are_inputs g s shape of
+
+  even : order_of s.claim ≡ Interleaved → length s.a ≡ length s.b
+  even = subst (λ z. order_of z.claim ≡ Interleaved → length z.a ≡ length z.b) (sym of) (even_sides g s.claim shape)
+
+  as_many : (x : Numbers) → length (inputs_at s x) ≡ length g.inputs
+  as_many x = length-inputs_at s x ∙ ap length whole
+
   -- what is computed of numbers is what is claimed of them
-  pub computed_is : (x : Numbers) → AreInRange s x → (n v : ℕ) → n ≡ length g.outputs → v ≡ (product_as s.claim.sign (2 ^ n) (length s.a) x.a x.b + x.c) % 2 ^ n →
+  pub computed_is : (x : Numbers) → AreInRange s x → (n v : ℕ) → n ≡ length g.outputs → v ≡ claimed_at (2 ^ n) s x % 2 ^ n →
       v ≡ claimed (output_modulus g) s (evaluated g (inputs_at s x)) % output_modulus g
-  computed_is x range n v size is =
-      is ∙ ap (λ k. (product_as s.claim.sign (2 ^ k) (length s.a) x.a x.b + x.c) % 2 ^ k) size ∙ sym (claimed_at g s shape once of x range)
+  computed_is x range n v size is = is ∙ ap (λ k. claimed_at (2 ^ k) s x % 2 ^ k) size ∙ sym (claimed_there g s whole even once x range)
 
   module _ (most : ℕ) where
     -- no difference was passed
@@ -70,7 +81,7 @@ module _ (g : Aig) (s : Sides) (shape : HasShapeFor s.claim.add g) (once : IsDef
     pub run_clear : (bits : List Bool) → IsClear true bits → (xs : List Numbers) (b : Bool) (zs : List Bool) → IsRun s most bits xs b zs → All (IsRightOn g s) xs → IsClear b zs
     run_clear bits clear _ _ _ start right = clear
     run_clear bits clear _ _ _ (more xs x b ys zs r st step) right = λ other difference passed.
-        let size : length other ≡ length ys = difference.size ∙ sym (ap length st.is ∙ length-inputs_at g s shape once of x) in
+        let size : length other ≡ length ys = difference.size ∙ sym (ap length st.is ∙ as_many x) in
         let here : value_at_inputs g (inputs_at s x) ≡ claimed (output_modulus g) s (evaluated g (inputs_at s x)) % output_modulus g = all_last (IsRightOn g s) xs x right in
         ⊎_elim
         (λ same. difference.differs (subst (λ us. value_at_inputs g us ≡ claimed (output_modulus g) s (evaluated g us) % output_modulus g) (sym (same ∙ st.is)) here))
@@ -82,10 +93,10 @@ module _ (g : Aig) (s : Sides) (shape : HasShapeFor s.claim.add g) (once : IsDef
     wrong_is_least bits x clear st wrong =
         let us = inputs_at s x in
         record {
-          difference = record { size = length-inputs_at g s shape once of x; differs = wrong };
+          difference = record { size = as_many x; differs = wrong };
           least = λ other difference.
               ⊎_elim
-              (λ same. inl (ones_injective 0 other us (difference.size ∙ sym (length-inputs_at g s shape once of x)) (sym same)))
+              (λ same. inl (ones_injective 0 other us (difference.size ∙ sym (as_many x)) (sym same)))
               (λ o. ⊎_elim (λ h. inr h) (λ h. absurd (clear other difference (subst (IsEnumeratedBefore other) (sym st.is) h))) o)
               (precedes_total (ones_from 0 us) (ones_from 0 other));
         }
@@ -130,12 +141,14 @@ pub start_few : (most n : ℕ) → ones (replicate n false) ≤ most
 start_few most n = let a = length-ones_from 0 (replicate n false) in let b = count-false n in omega arith
 
 -- there are at most 128 outputs
-pub outputs_few : (g : Aig) (s : Sides) → HasShapeFor s.claim.add g → AreOperandsOf g s → AreSides s → length g.outputs ≤ 128
+pub outputs_few : (g : Aig) (s : Sides) → HasShapeFor s.claim.widths g → AreOperandsOf g s → AreSides s → length g.outputs ≤ 128
 outputs_few g s shape of sides =
-    let wide = (length-operands g s shape of).0 in
-    let narrow = sides.narrow in
-    omega (arith, go s.claim.add shape)
+    let wide = length-operands g s shape of in
+    let narrow_a = sides.narrow_a in
+    let narrow_b = sides.narrow_b in
+    omega (arith, go s.claim.widths shape, wide.0, wide.1)
   where
-    go : (add : Bool) → HasShapeFor add g → length g.outputs ≤ 2 * width_for add g
-    go false h = h.outputs
-    go true h = h.outputs
+    go : (w : Widths) → HasShapeFor w g → length g.outputs ≤ a_width w g + b_width w g
+    go (Equal false) h = let few = h.outputs in omega arith
+    go (Equal true) h = let few = h.outputs in omega arith
+    go (OfWidths a b add) h = h.outputs

@@ -1,6 +1,6 @@
 // What is claimed of operands and an addend, as a number.
-ghost use Rattle.std.specs.Prelude.{◌≡◌, ◌+◌, ◌≤◌, ◌%◌, ◌^◌, length};
-ghost use Rattle.graph_core.specs.Graph.Operands.{product_as};
+ghost use Rattle.std.specs.Prelude.{◌≡◌, ◌≤◌, ◌%◌, ◌^◌};
+ghost use Rattle.graph_core.specs.Graph.Operands.{claimed_at};
 ghost use Rattle.operand_search.specs.Numbers.{IsNumber};
 
 use graph_core::{Numbers, Operands, Sign};
@@ -9,13 +9,12 @@ use graph_core::{Numbers, Operands, Sign};
 /// 2^outputs.
 pub fn claimed_value(operands: &Operands, numbers: Numbers, outputs: u32) -> u128
     requires { outputs ≤ 128 }
-    ensures { let modulus = 2 ^ outputs in result ≡
-        (product_as operands.now.claim.sign modulus (length operands.now.a) numbers.a numbers.b + numbers.c) % modulus }
+    ensures { result ≡ claimed_at (2 ^ outputs) operands.now numbers % 2 ^ outputs }
 {
     let sign = operands.sign();
-    let bits = operands.bits();
-    let product = number(sign, bits, numbers.a).wrapping_mul(number(sign, bits, numbers.b));
-    low_bits(product.wrapping_add(numbers.c), outputs)
+    let a = number(sign, operands.a_width(), numbers.a);
+    let b = number(sign, operands.b_width(), numbers.b);
+    low_bits(a.wrapping_mul(b).wrapping_add(numbers.c), outputs)
 }
 
 // The number that the bits of an operand stand for, modulo 2^128.

@@ -17,7 +17,7 @@ pub(crate) fn first_wrong(
     inputs: &[u64],
     words: &mut [u64],
 ) -> Option<usize>
-    requires shape { HasShapeFor operands.now.claim.add graph.now }
+    requires shape { HasShapeFor operands.now.claim.widths graph.now }
     requires operands { AreOperandsOf graph.now operands.now }
     requires at_most { length numbers.now ≤ 64 }
     requires as_many { length inputs.now ≡ length graph.now.inputs }
@@ -29,7 +29,7 @@ pub(crate) fn first_wrong(
         All (IsRightOn graph.now operands.now) numbers.now }
 {
     // at most 64 of each operand, so at most 128 outputs
-    let _bits = operands.bits();
+    let _a_width = operands.a_width();
     words_into(graph, inputs, words);
     let outputs = graph.output_literals();
     for (j, &x) in numbers.iter().enumerate() {

@@ -21,7 +21,7 @@ pub fn least_seen(
     operands: &Operands,
     most_ones: u32,
 ) -> Result<Option<Numbers>, Memory>
-    requires shape { HasShapeFor operands.now.claim.add graph.now }
+    requires shape { HasShapeFor operands.now.claim.widths graph.now }
     requires operands { AreOperandsOf graph.now operands.now }
     ensures some { IfOk result (λ found. IfSome found (λ x.
         IsLeastDifferenceAt graph.now operands.now (inputs_at operands.now x))) }
@@ -40,7 +40,7 @@ pub fn some_seen(
     graph: &Graph,
     operands: &Operands,
 ) -> Result<Option<Numbers>, Memory>
-    requires shape { HasShapeFor operands.now.claim.add graph.now }
+    requires shape { HasShapeFor operands.now.claim.widths graph.now }
     requires operands { AreOperandsOf graph.now operands.now }
     ensures range { IfOk result (λ found. IfSome found (AreInRange operands.now)) }
 {
@@ -60,7 +60,7 @@ fn seen_on_draws(
     lanes: &mut [u64],
     words: &mut [u64],
 ) -> Result<Option<Numbers>, Memory>
-    requires shape { HasShapeFor operands.now.claim.add graph.now }
+    requires shape { HasShapeFor operands.now.claim.widths graph.now }
     requires operands { AreOperandsOf graph.now operands.now }
     requires bits { length bits.old ≡ length (operand_literals operands.now) }
     requires lanes { length lanes.old ≡ length graph.now.inputs }

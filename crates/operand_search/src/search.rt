@@ -20,7 +20,7 @@ pub fn least_within(
     operands: &Operands,
     most_ones: u32,
 ) -> Result<Option<Numbers>, Memory>
-    requires shape { HasShapeFor operands.now.claim.add graph.now }
+    requires shape { HasShapeFor operands.now.claim.widths graph.now }
     requires operands { AreOperandsOf graph.now operands.now }
     ensures some { IfOk result (λ found. IfSome found (λ x.
         IsLeastDifferenceAt graph.now operands.now (inputs_at operands.now x))) }
@@ -55,7 +55,7 @@ fn least_from(
     lanes: &mut [u64],
     words: &mut [u64],
 ) -> Result<Option<Numbers>, Memory>
-    requires shape { HasShapeFor operands.now.claim.add graph.now }
+    requires shape { HasShapeFor operands.now.claim.widths graph.now }
     requires operands { AreOperandsOf graph.now operands.now }
     requires once { IsDefinedOnce graph.now }
     requires size { length inputs.old ≡ length graph.now.inputs }

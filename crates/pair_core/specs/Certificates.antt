@@ -21,5 +21,5 @@ IsPair g claim clauses algebra = (lengths : Lengths) → IsWithin lengths clause
 
 -- The graph of a lawful pair does what is claimed.
 abbrev pub LawfulPairsAreSound : Type 0
-LawfulPairsAreSound = (file : List ℕ) (lengths : Lengths) (g : Aig) (claim : Claim) (clauses algebra : List ℕ) → Spells (profile_of claim.add) file g →
+LawfulPairsAreSound = (file : List ℕ) (lengths : Lengths) (g : Aig) (claim : Claim) (clauses algebra : List ℕ) → Spells (profile_of claim.widths) file g →
     IsLawfulPair lengths g claim clauses algebra → Does claim g

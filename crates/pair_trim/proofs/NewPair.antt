@@ -166,7 +166,7 @@ module _ (claim : Claim) (j : Judged) (t : Trimmed) (judged : IsJudgedPair claim
 
   algebra_file : IsLawfulAlgebraFile new_premises (sides_for claim j.graph) (algebra_text t.pair)
   algebra_file =
-      let outputs = subst (λ (g : Aig). IsWidth (length g.outputs)) (sym same_graph) (outputs_of claim.add j.graph judged.sized) in
+      let outputs = subst (λ (g : Aig). IsWidth (length g.outputs)) (sym same_graph) (outputs_of claim.widths j.graph judged.sized) in
       subst (IsLawfulAlgebraFile new_premises (sides_for claim j.graph)) (sym algebra_is)
       (written_certificates_are_lawful new_premises (sides_for claim j.graph) terms new j.closed.id outputs (let low = small in omega arith) judged.lines.modulus_is
       (version_or_none j.graph j.header (added t.pair.clauses.items) judged.takes) readable judged.lines.closing lawful).file

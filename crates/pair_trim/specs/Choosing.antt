@@ -34,7 +34,7 @@ pub record IsChosen (j : Judged) (t : Trimmed) : Type 0 where
 
 -- The graph does what is claimed, what is kept is a pair for it, and it is kept of the two certificates, where these are told.
 abbrev pub HasChosen : Limits → Claim → Texts → Trimmed → Type 0
-HasChosen limits claim texts t = HasGraph (profile_of claim.add) limits.graph texts.graph (λ g. Does claim g ×
+HasChosen limits claim texts t = HasGraph (profile_of claim.widths) limits.graph texts.graph (λ g. Does claim g ×
     IsPair g claim (clauses_text t.pair) (algebra_text t.pair) ×
     IfSome texts.clauses (λ clauses. IfSome texts.algebra (λ algebra.
     IsTrimOf (lengths_of limits) g claim clauses algebra t (clauses_text t.pair) (algebra_text t.pair))))

@@ -56,7 +56,7 @@ pub record ReadsOld (files : TrimmedFiles) (before after : View) : Type 0 where
 -- The graph does what is claimed, and something holds of the texts of a pair for it; where the old certificates are told, these are the
 -- texts of what is kept of them.
 abbrev pub HasTrim : Limits → Claim → TrimmedFiles → View → Trimmed → (List ℕ → List ℕ → Type 0) → Type 0
-HasTrim limits claim files before t P = HasGraph (profile_of claim.add) limits.graph (bytes_under before files.graph) (λ g. Does claim g ×
+HasTrim limits claim files before t P = HasGraph (profile_of claim.widths) limits.graph (bytes_under before files.graph) (λ g. Does claim g ×
     ((clauses : List ℕ) × (algebra : List ℕ) × IsPair g claim clauses algebra ×
     IfSome (bytes_under before files.clauses) (λ old. IfSome (bytes_under before files.algebra) (λ other.
     IsTrimOf (lengths_of limits) g claim old other t clauses algebra)) × P clauses algebra))
@@ -70,7 +70,7 @@ checked_of (trim.Stopped why) = checked.Stopped why
 -- The pair isn't accepted, and nothing was created.
 pub record IsNotAccepted (limits : Limits) (claim : Claim) (files : TrimmedFiles) (before after : View) (outcome : Checked) : Type 0 where
   pub outcome_is : IsOutcome limits claim (old_files files) before after outcome
-  pub opens : OpensNeeded (profile_of claim.add) limits (texts_of before (old_files files)) before after outcome
+  pub opens : OpensNeeded (profile_of claim.widths) limits (texts_of before (old_files files)) before after outcome
   pub inspects : Inspects before after
 
 -- Where each answer comes, as far as the desk tells the files.
@@ -118,7 +118,7 @@ pub record HoldsTrimmed (limits : Limits) (claim : Claim) (files : TrimmedFiles)
   pub to_clauses_held : bytes_under after files.to_clauses ≡ Some new_clauses
   pub to_algebra_held : bytes_under after files.to_algebra ≡ Some new_algebra
   pub graph : Aig
-  pub spells : SpellsWithin (profile_of claim.add) limits.graph graph_file graph
+  pub spells : SpellsWithin (profile_of claim.widths) limits.graph graph_file graph
   pub does : Does claim graph
   pub kept : Trimmed
   pub trims : IsTrimOf (lengths_of limits) graph claim old_clauses old_algebra kept new_clauses new_algebra

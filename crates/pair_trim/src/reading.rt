@@ -30,7 +30,7 @@ pub(crate) fn read_trimmed<D: Desk>(
     ensures outcome { IsOutcome limits.now claim (files_of names.now)
         (D.seen desk.old) (D.seen desk.new) (answer_of result) }
     ensures not_accepted { IfErr result (λ answer. answer ≢ Checked.Accepted) }
-    ensures opens { OpensNeeded (profile_of claim.add) limits.now (texts_of (D.seen desk.old) (files_of names.now))
+    ensures opens { OpensNeeded (profile_of claim.widths) limits.now (texts_of (D.seen desk.old) (files_of names.now))
         (D.seen desk.old) (D.seen desk.new) (answer_of result) }
     ensures opened { OpensFor (answer_of result) (D.seen desk.old) (D.seen desk.new) }
     ensures reads { ReadsOld (trimming.trimmed_files_of names.now) (D.seen desk.old) (D.seen desk.new) }

@@ -27,7 +27,7 @@ pub(crate) fn patterns(
 
 // Two operands, and an addend where there is one.
 fn numbers(draws: &mut Draws, operands: &Operands) -> Numbers {
-    let (a, b) = pair(draws, operands.bits());
+    let (a, b) = pair(draws, operands.a_width(), operands.b_width());
     let c = if operands.c_literals().is_empty() {
         0
     } else {
@@ -44,26 +44,27 @@ fn addend(draws: &mut Draws) -> u128 {
 }
 
 // Two numbers of at most so many bits: apart from one another, or such that a carry goes far.
-fn pair(draws: &mut Draws, bits: u32) -> (u64, u64) {
+fn pair(draws: &mut Draws, a_width: u32, b_width: u32) -> (u64, u64) {
     match draws.next() % 16 {
-        0 => inverses(draws, bits),
-        1 => (great(draws, bits), great(draws, bits)),
-        2 => (power_below(draws, bits), operand(draws, bits)),
-        3 => (operand(draws, bits), power_below(draws, bits)),
-        _ => (operand(draws, bits), operand(draws, bits)),
+        0 => inverses(draws, a_width, b_width),
+        1 => (great(draws, a_width), great(draws, b_width)),
+        2 => (power_below(draws, a_width), operand(draws, b_width)),
+        3 => (operand(draws, a_width), power_below(draws, b_width)),
+        _ => (operand(draws, a_width), operand(draws, b_width)),
     }
 }
 
-// Two whose product's low half is 1 or near it, or has one bit.
-fn inverses(draws: &mut Draws, bits: u32) -> (u64, u64) {
-    let first = operand(draws, bits) | 1;
+// Two whose product's lowest bits are 1 or near it, or have one bit: as many as b has.
+fn inverses(draws: &mut Draws, a_width: u32, b_width: u32) -> (u64, u64) {
+    let first = operand(draws, a_width) | 1;
     let product = match draws.next() % 4 {
         0 => 1,
         1 => u64::MAX,
         2 => 3,
-        _ => power(place(draws, bits)),
+        _ => power(place(draws, b_width)),
     };
-    (first, inverse(first).wrapping_mul(product) & ones(bits))
+    let second = inverse(first).wrapping_mul(product) & ones(b_width);
+    (first, second)
 }
 
 // The number by which an odd one is 1 modulo 2^64: each round doubles how many bits are right.

@@ -15,7 +15,7 @@ pub(crate) fn numbers_of(
     operands: &Operands,
     values: &[bool],
 ) -> Result<Numbers, Memory>
-    requires shape { HasShapeFor operands.now.claim.add graph.now }
+    requires shape { HasShapeFor operands.now.claim.widths graph.now }
     requires operands { AreOperandsOf graph.now operands.now }
     requires all { graph.now.max ≤ length values.now }
     ensures inputs { IfOk result (λ x.

@@ -48,7 +48,7 @@ pub fn rewrite<'a>(
     operands: &Operands,
     conflicts: u64,
 ) -> Result<Rewriting<'a>, Memory>
-    requires shape { HasShapeFor operands.now.claim.add graph.now }
+    requires shape { HasShapeFor operands.now.claim.widths graph.now }
     requires operands { AreOperandsOf graph.now operands.now }
     ensures rewriting { IfOk result (IsRewriting graph.now operands.now conflicts) }
     ensures agrees { IfOk result Agrees }
@@ -69,7 +69,7 @@ pub fn rewrite_at<'a>(
     cut: Cut,
 ) -> Result<Rewriting<'a>, Memory>
     requires cut { IsCut graph.now cut }
-    requires shape { HasShapeFor operands.now.claim.add graph.now }
+    requires shape { HasShapeFor operands.now.claim.widths graph.now }
     requires operands { AreOperandsOf graph.now operands.now }
     ensures rewriting { IfOk result (IsRewritingAt graph.now operands.now conflicts cut) }
     ensures agrees { IfOk result Agrees }
@@ -87,7 +87,7 @@ fn rewrite_near<'a>(
     depth: u32,
 ) -> Result<Rewriting<'a>, Memory>
     requires cut { IsCut graph.now cut }
-    requires shape { HasShapeFor operands.now.claim.add graph.now }
+    requires shape { HasShapeFor operands.now.claim.widths graph.now }
     requires operands { AreOperandsOf graph.now operands.now }
     ensures rewriting { IfOk result (IsRewritingAt graph.now operands.now conflicts cut) }
     ensures agrees { IfOk result Agrees }
@@ -116,7 +116,7 @@ fn replace<'a>(
     cut: Cut,
 ) -> Result<Rewriting<'a>, Memory>
     requires stage { IsFinalStage graph.now cut }
-    requires shape { HasShapeFor operands.now.claim.add graph.now }
+    requires shape { HasShapeFor operands.now.claim.widths graph.now }
     requires operands { AreOperandsOf graph.now operands.now }
     ensures rewriting { IfOk result (IsRewriting graph.now operands.now conflicts) }
     ensures agrees { IfOk result Agrees }

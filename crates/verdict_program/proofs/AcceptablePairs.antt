@@ -34,7 +34,7 @@ module _ (task : Task) (files : Files) (v : View) (noted : Option Note) (h : Hol
   pub short_is_acceptable : AreAcceptable v files task.claim
   short_is_acceptable = (
     h.graph,
-    subst (λ o. IfSome o (λ bytes. SpellsWithin (profile_of task.claim.add) standard.graph bytes h.graph)) (sym h.graph_held) h.spells,
+    subst (λ o. IfSome o (λ bytes. SpellsWithin (profile_of task.claim.widths) standard.graph bytes h.graph)) (sym h.graph_held) h.spells,
     (
       lawful.premises,
       given_of h.graph h.clause_file lawful.premises lawful.gives,

@@ -25,7 +25,7 @@ module _ (files : named.Files) (claim : Claim) (a b : View) where
 
   zero : (outcome : Checked) → Is outcome → status_of_check outcome ≡ 0 → IsAsClaimed a files.graph claim
   zero checked.Accepted h e =
-      some_more (bytes_under a files.graph) (λ bytes. SpellsWithin (profile_of claim.add) standard.graph bytes h.0) _ (λ bytes spelled. (h.0, spelled.spells, h.2.3.1)) h.1
+      some_more (bytes_under a files.graph) (λ bytes. SpellsWithin (profile_of claim.widths) standard.graph bytes h.0) _ (λ bytes spelled. (h.0, spelled.spells, h.2.3.1)) h.1
   zero (checked.Refused why) h e = absurd (omega arith)
   zero (checked.Stopped why) h e = absurd ((stop_is_apart why).zero e)
 

@@ -44,7 +44,7 @@ Succeeds (Trim files claim) given a b = IsAsClaimed a files.graph claim × (Tell
 -- where statuses 1, 2 and 5 come
 abbrev pub IsWrongFor : Command → View → Type 0
 IsWrongFor (Verify files claim budget conflicts version) a =
-    HasGraph (profile_of claim.add) standard.graph (bytes_under a files.graph) (λ g. DiffersSomewhere g claim × ((n : Note) × IsNote g claim conflicts n))
+    HasGraph (profile_of claim.widths) standard.graph (bytes_under a files.graph) (λ g. DiffersSomewhere g claim × ((n : Note) × IsNote g claim conflicts n))
 IsWrongFor (Same files conflicts) a =
     pair.HasPair standard.graph (pair.compared_texts_of a (pair_asked files)) (λ g h. (inputs : List Bool) × IsPairDifference g h inputs)
 IsWrongFor command a = ⊥
@@ -55,7 +55,7 @@ IsTooGreatFor command a = ⊥
 
 abbrev pub IsUndecidedFor : Command → View → Type 0
 IsUndecidedFor (Verify files claim budget conflicts version) a =
-    HasGraph (profile_of claim.add) standard.graph (bytes_under a files.graph) (λ g. (step : ℕ) × (size : ℕ) × IsFirstAbove g claim budget step size ×
+    HasGraph (profile_of claim.widths) standard.graph (bytes_under a files.graph) (λ g. (step : ℕ) × (size : ℕ) × IsFirstAbove g claim budget step size ×
     ((n : Note) × IsNote g claim conflicts n × (tried : List Tried) × AreTried g claim budget (cut_of n) tried) × HaveManyOnes g claim)
 IsUndecidedFor (Trial number) a = (step : ℕ) × (size : ℕ) × (n : Note) × OfMade (sample_of number) (IsUndecidedWith step size n)
 IsUndecidedFor (Same files conflicts) a = HasSpentPair conflicts a files

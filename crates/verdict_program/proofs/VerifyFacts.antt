@@ -54,7 +54,7 @@ module _ (files : named.Files) (claim : Claim) (budget conflicts version : ℕ) 
   zero (verdict.Stopped why) h e told names = absurd ((stop_is_apart why).zero e)
 
   one : (outcome : Verdict) → Is outcome → status_of_verify outcome ≡ 1 →
-      HasGraph (profile_of claim.add) standard.graph (bytes_under a files.graph) (λ g. DiffersSomewhere g claim × ((n : Note) × IsNote g claim conflicts n))
+      HasGraph (profile_of claim.widths) standard.graph (bytes_under a files.graph) (λ g. DiffersSomewhere g claim × ((n : Note) × IsNote g claim conflicts n))
   one (verdict.Proved long) h e = absurd (omega arith)
   one (verdict.Wrong x y value product) h e = let r = h.0 in let n = note_there r.0 (λ used. ⊤) r.2.1 in (r.0, r.1, (inl (x, y, value, product, r.2.0), (n.0, n.1)))
   one (verdict.WrongSum x y z value sum) h e = let r = h.0 in let n = note_there r.0 (λ used. ⊤) r.2.1 in (r.0, r.1, (inr (x, y, z, value, sum, r.2.0), (n.0, n.1)))
@@ -62,7 +62,7 @@ module _ (files : named.Files) (claim : Claim) (budget conflicts version : ℕ) 
   one (verdict.Stopped why) h e = absurd ((stop_is_apart why).one e)
 
   five : (outcome : Verdict) → Is outcome → status_of_verify outcome ≡ 5 →
-      HasGraph (profile_of claim.add) standard.graph (bytes_under a files.graph) (λ g. (step : ℕ) × (size : ℕ) × IsFirstAbove g claim budget step size × ((n : Note) × IsNote g claim conflicts n × (tried : List Tried) × AreTried g claim budget (cut_of n) tried) × HaveManyOnes g claim)
+      HasGraph (profile_of claim.widths) standard.graph (bytes_under a files.graph) (λ g. (step : ℕ) × (size : ℕ) × IsFirstAbove g claim budget step size × ((n : Note) × IsNote g claim conflicts n × (tried : List Tried) × AreTried g claim budget (cut_of n) tried) × HaveManyOnes g claim)
   five (verdict.Proved long) h e = absurd (omega arith)
   five (verdict.Wrong x y value product) h e = absurd (omega arith)
   five (verdict.WrongSum x y z value sum) h e = absurd (omega arith)

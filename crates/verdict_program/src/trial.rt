@@ -17,7 +17,7 @@ use crate::sample::sample_of;
 use crate::tested::{Multiplier, Tested};
 use command_core::{Names, Stop};
 use command_line::{BUDGET, CONFLICTS};
-use graph_core::{Claim, Graph, Order, Sign};
+use graph_core::{Claim, Graph, Order, Sign, Widths};
 use graph_maker::make;
 use joint_checker::{Checked, check};
 use joint_prover::{Note, Task, Verdict, verify};
@@ -35,7 +35,7 @@ const NO_LIMITS: Limits = Limits {
 const PRODUCT: Claim = Claim {
     order: Order::Separate,
     sign: Sign::Unsigned,
-    add: false,
+    widths: Widths::Equal { add: false },
 };
 
 /// Makes the multiplier that a number names, gives a verdict on it within the default budgets, and where it is proved

@@ -62,13 +62,13 @@ room_back : (form : Form) (m n : ℕ) → n ≤ m → (form ≡ Binary → m ≡
 room_back Ascii m n low full = not_below m n low
 room_back Binary m n low full = ap not (eq-eqb m n (full refl))
 
-inputs_from : (p : Profile) (i : ℕ) → has_wrong_inputs p i ≡ false → (i % input_step p ≡ 0) × (least_inputs p ≤ i) × (i ≤ most_inputs p)
+pub inputs_from : (p : Profile) (i : ℕ) → has_wrong_inputs p i ≡ false → (i % input_step p ≡ 0) × (least_inputs p ≤ i) × (i ≤ most_inputs p)
 inputs_from p i h =
     let step = or_false (not (i % input_step p == 0)) (nat_lt i (least_inputs p) || nat_lt (most_inputs p) i) h in
     let sizes = or_false (nat_lt i (least_inputs p)) (nat_lt (most_inputs p) i) step.1 in
     (eqb-true (i % input_step p) 0 (not_false (i % input_step p == 0) step.0), ltb-false i (least_inputs p) sizes.0, ltb-false (most_inputs p) i sizes.1)
 
-inputs_back : (p : Profile) (i : ℕ) → i % input_step p ≡ 0 → least_inputs p ≤ i → i ≤ most_inputs p → has_wrong_inputs p i ≡ false
+pub inputs_back : (p : Profile) (i : ℕ) → i % input_step p ≡ 0 → least_inputs p ≤ i → i ≤ most_inputs p → has_wrong_inputs p i ≡ false
 inputs_back p i step some few =
     ap₂ (λ b c. not b || c) (eq-eqb (i % input_step p) 0 step) (ap₂ ◌||◌ (not_below i (least_inputs p) some) (not_below (most_inputs p) i few))
 

@@ -10,7 +10,7 @@ use Rattle.graph_core.specs.declared.bounds.TheConstants.{MOST_VARIABLES, MOST_O
 use Rattle.graph_core.specs.declared.literal.Lit.{Lit}
 use Rattle.graph_core.specs.declared.gate.Gate.{Gate}
 use Rattle.graph_core.specs.declared.profile.Profile.{Profile}
-use Rattle.graph_core.specs.declared.profile.Profile.TheVariants.{Multiplier, MultiplyAdd, Any}
+use Rattle.graph_core.specs.declared.profile.Profile.TheVariants.{Multiplier, MultiplyAdd, Given, Any}
 use Rattle.graph_core.specs.Graph.Literals.{variable_of}
 use Rattle.graph_core.specs.Text.{IsDigit, IsNumeral, IsLine, AreLines, decimal}
 use Rattle.graph_core.specs.Graph.{Aig, IsWellFormed, IsAcyclic, greater_first, SameUpToOperands, read_literals, defined}
@@ -19,6 +19,7 @@ use Rattle.graph_core.specs.Aiger.Writing.{digits_upto, numeral, number_line, wr
 use Rattle.graph_core.proofs.OfTexts.Numerals.{not_below}
 use Rattle.graph_core.proofs.OfGraphs.Levels.{In, all_in, all_from_in}
 use Rattle.graph_core.proofs.OfGraphs.Faults.{in_left, in_right, in_parts}
+use Rattle.graph_core.proofs.OfAiger.GivenWidths.{few_given_outputs}
 use Rattle.graph_core.proofs.OfAiger.Packed.{packed_is_faultless}
 
 -- ---- numerals
@@ -293,6 +294,7 @@ good_append (x ∷ xs) ys a b = (a.0, good_append xs ys a.1 b)
 few_outputs : (p : Profile) (i : ℕ) → i ≤ most_inputs p → most_outputs p i ≤ MOST_OUTPUTS
 few_outputs Multiplier i h = omega (arith, h)
 few_outputs MultiplyAdd i h = omega (arith, h)
+few_outputs (Given a b add) i h = few_given_outputs a b add i h
 few_outputs Any i h = omega arith
 
 header_good : (p : Profile) (g : Aig) → HasCounts p (written g) → IsGood (header_of g)

@@ -1,6 +1,9 @@
 -- What crates above may cite of graphs that are built, of their values and of their operands.
 pub use Rattle.graph_core.proofs.OfGraphs.BuiltFacts.{few_distinct, few_numbers}
-pub use Rattle.graph_core.proofs.OfGraphs.Claims.{claim_is_done, product_at}
+pub use Rattle.graph_core.proofs.OfGraphs.Claims.{claim_is_done, claimed_there, doing_is_adding, doing_is_multiplying, doing_product, doing_sum, have_inputs, product_doing, sum_doing}
+pub use Rattle.graph_core.proofs.OfGraphs.InputPlaces.{addend_at, interleaved_a, interleaved_b, length-inputs_in, separate_a, separate_b}
+pub use Rattle.graph_core.proofs.OfGraphs.NumbersOfInputs.{length-inputs_at, numbers_there, same_numbers}
+pub use Rattle.graph_core.proofs.OfGraphs.OperandWidths.{even_sides, length-a_literals, length-b_literals, length-c_literals, sides_are_narrow}
 pub use Rattle.graph_core.proofs.OfGraphs.Congruence.{product_same, sum_same}
 pub use Rattle.graph_core.proofs.OfGraphs.Decided.{Decided, by_cases, decided_all, decided_and, decided_as, decided_eq, decided_le, decided_lt, decided_or}
 pub use Rattle.graph_core.proofs.OfGraphs.Evaluation.{Distinct, evaluation_is, evaluation_is_one, finds_none, literal_same, rounds-free, variable-pos, variable_same}
@@ -21,20 +24,19 @@ pub use Rattle.graph_core.proofs.OfGraphs.WellFormedGates.{distinct_gates, gate_
 pub use Rattle.graph_core.proofs.OfGraphs.ValueSteps.{outputs_below, word_fits, word_step}
 pub use Rattle.graph_core.proofs.OfGraphs.Words.{word_below}
 pub use Rattle.graph_core.proofs.OfGraphs.WrittenValues.{all_gates_written, all_inputs_written, constant_written, input_written, inputs_apart, inputs_written, next_written}
-use Rattle.std.specs.Prelude.{◌≡◌, ℕ, ◌+◌, ◌*◌, Bool, true, false, List, [], ◌∷◌, length}
-use Rattle.std.proofs.Common.{refl, sym, ap, ap₂, ◌∙◌, arith, take}
-use Rattle.std.proofs.lemmas.List.{length-take}
+use Rattle.std.specs.Prelude.{◌≡◌, ℕ, ◌+◌, ◌*◌, Bool, List, [], ◌∷◌, length}
+use Rattle.std.proofs.Common.{refl, sym, ap, ap₂, ◌∙◌}
 use Rattle.graph_core.specs.declared.literal.Lit.{Lit}
 use Rattle.graph_core.specs.declared.gate.Gate.{Gate}
 use Rattle.graph_core.specs.declared.order.Order.{Order}
 use Rattle.graph_core.specs.Graph.Literals.{variable_of}
 use Rattle.graph_core.specs.Graph.Assignments.{literal, bit, word, listed, Assignment}
 use Rattle.graph_core.specs.Graph.{Aig, IsWellFormed, IsEvaluation, IsLevel, IsGateOf, AreValues, evaluated, IsDefinedOnce, IsAcyclic}
-use Rattle.graph_core.specs.Graph.Operands.{Sides, AreOperandsOf, HasMultiplierShape, HasShapeFor, width, sum_width, width_for, inputs_of, a_bits, b_bits, a_literals, b_literals, MultipliesWhole}
+use Rattle.graph_core.specs.Graph.Operands.{Sides, AreOperandsOf, HasMultiplierShape, HasShapeFor, width, inputs_of, a_bits, b_bits, a_width, b_width, MultipliesWhole}
 use Rattle.graph_core.proofs.OfGraphs.Evaluation.{literal_same}
 use Rattle.graph_core.proofs.OfGraphs.Levels.{contains_in, distinct_from, distinct_same, one_level}
 use Rattle.graph_core.proofs.OfGraphs.Multiplies.{evaluated_is, claim_is}
-use Rattle.graph_core.proofs.OfGraphs.OperandPlaces.{a_bits_are, b_bits_are, length-a_part, length-b_part}
+use Rattle.graph_core.proofs.OfGraphs.OperandWidths.{even_sides, length-a_literals, length-b_literals}
 
 -- ---- values
 
@@ -58,19 +60,9 @@ level_is_one g v i j well p q = (one_level g.gates (gates_apart g well) v i p).1
 
 -- ---- operands
 
-pub length-operands : (g : Aig) (s : Sides) → HasShapeFor s.claim.add g → AreOperandsOf g s →
-    (length s.a ≡ width_for s.claim.add g) × (length s.b ≡ width_for s.claim.add g)
-length-operands g s shape h = (ap (λ z. length z.a) h ∙ (go s.claim.add s.claim.order shape).0, ap (λ z. length z.b) h ∙ (go s.claim.add s.claim.order shape).1)
-  where
-    go : (add : Bool) (order : Order) → HasShapeFor add g → (length (a_literals add order g) ≡ width_for add g) × (length (b_literals add order g) ≡ width_for add g)
-    go false order shape = (
-      ap length (a_bits_are order g) ∙ length-a_part order (width g) g.inputs shape.inputs,
-      ap length (b_bits_are order g) ∙ length-b_part order (width g) g.inputs shape.inputs,
-    )
-    go true order shape =
-        let front : length (take (2 * sum_width g) g.inputs) ≡ 2 * sum_width g =
-        let h = shape.inputs in omega (arith, length-take (2 * sum_width g) g.inputs) in
-        (length-a_part order (sum_width g) (take (2 * sum_width g) g.inputs) front, length-b_part order (sum_width g) (take (2 * sum_width g) g.inputs) front)
+pub length-operands : (g : Aig) (s : Sides) → HasShapeFor s.claim.widths g → AreOperandsOf g s →
+    (length s.a ≡ a_width s.claim.widths g) × (length s.b ≡ b_width s.claim.widths g)
+length-operands g s shape h = (ap (λ z. length z.a) h ∙ length-a_literals s.claim.widths s.claim.order g shape, ap (λ z. length z.b) h ∙ length-b_literals s.claim.widths s.claim.order g shape)
 
 -- A product on each evaluation is the product of all operands, as whole numbers.
 pub whole_from_evaluations : (g : Aig) (order : Order) → HasMultiplierShape g → IsDefinedOnce g → IsAcyclic g.gates →

@@ -1,167 +1,138 @@
 -- A graph meets any claim exactly where it does what is claimed on all numbers.
-use Rattle.std.specs.Prelude.{◌≡◌, ℕ, ◌+◌, ◌*◌, ◌%◌, ◌^◌, ◌<◌, Bool, true, false, List, ◌++◌, map, length, take, drop}
-use Rattle.std.proofs.Common.{sym, ap, ap₂, subst, ◌∙◌, arith, length-append, length-drop, take-append-drop}
-use Rattle.std.proofs.lemmas.List.{length-take}
+use Rattle.std.specs.Prelude.{◌≡◌, ℕ, ◌+◌, ◌*◌, ◌%◌, ◌^◌, ◌<◌, false, true, List, [], ◌++◌, map, length}
+use Rattle.std.proofs.Common.{refl, sym, ap, ap₂, subst, ◌∙◌, arith, append-nil}
 use Rattle.std.proofs.lemmas.Nat.{pow_pos}
 use Rattle.graph_core.specs.declared.literal.Lit.{Lit}
+use Rattle.graph_core.specs.declared.numbers.Numbers.{Numbers}
 use Rattle.graph_core.specs.declared.order.Order.{Order}
-use Rattle.graph_core.specs.declared.order.Order.TheVariants.{Separate, Interleaved}
+use Rattle.graph_core.specs.declared.order.Order.TheVariants.{Interleaved}
 use Rattle.graph_core.specs.declared.sign.Sign.{Sign}
+use Rattle.graph_core.specs.declared.widths.Widths.TheVariants.{Equal}
 use Rattle.graph_core.specs.Graph.Assignments.{Assignment, literal, word}
 use Rattle.graph_core.specs.Graph.{Aig, IsDefinedOnce, evaluated}
-use Rattle.graph_core.specs.Graph.Operands.{HasMultiplierShape, HasSumShape, width, sum_width, a_bits, b_bits, a_part, b_part, bits_of, inputs_of, sides_for, multiplying, adding, claimed, operand_word, output_modulus, value_at_inputs, MeetsClaim, number_as, product_as, MultipliesAs, MultipliesAndAdds, HasShapeFor, DoesAs, ClaimIsDone}
-use Rattle.graph_core.proofs.OfGraphs.Congruence.{sum_same, product_same}
-use Rattle.graph_core.proofs.OfGraphs.Multiplies.{inputs_have, length-inputs_of, take-length-append, drop-length-append, a_is, b_is}
-use Rattle.graph_core.proofs.OfGraphs.OperandBits.{number_of, number_of-bits_of, word_is, length-bits_of, evens-alternate, odds-alternate, map-evens, map-odds, map-take, map-drop}
-use Rattle.graph_core.proofs.OfGraphs.OperandPlaces.{a_bits_are, b_bits_are, length-a_part, length-b_part, number_of-low, bits_of-number_of, parts_are}
+use Rattle.graph_core.specs.Graph.Operands.{Sides, AreInRange, AreNarrow, ClaimIsDone, Does, DoesWith, DoingIsAdding, DoingIsMultiplying, HasMultiplierShape, HasShapeFor, HasSumShape, MeetsClaim, MultipliesAndAdds, MultipliesAs, adding, bits_of, claimed, claimed_at, in_order, inputs_at, inputs_in, inputs_of, multiplying, number_as, operand_word, order_of, output_modulus, product_as, sides_for, sum_width, value_at, value_at_inputs, width}
+use Rattle.graph_core.proofs.OfGraphs.Congruence.{product_same, sum_same}
+use Rattle.graph_core.proofs.OfGraphs.Multiplies.{inputs_have, sides_are_inputs}
+use Rattle.graph_core.proofs.OfGraphs.NumbersOfInputs.{length-inputs_at, map-three, numbers_there, three_apart}
+use Rattle.graph_core.proofs.OfGraphs.OperandBits.{length-bits_of, number_of, number_of-bits_of, word_is}
+use Rattle.graph_core.proofs.OfGraphs.OperandWidths.{even_sides, length-a_literals, length-b_literals, length-c_literals}
 use Rattle.graph_core.proofs.OfGraphs.SignedWords.{operand_number, plus_word_is}
+use Rattle.std.proofs.lemmas.List.{length-map}
 
--- ---- parts of inputs
+-- ---- what is claimed at numbers
 
-map_a_part : {X Y : Type 0} (f : X → Y) (order : Order) (n : ℕ) (xs : List X) → map f (a_part order n xs) ≡ a_part order n (map f xs)
-map_a_part f Separate n xs = map-take f n xs
-map_a_part f Interleaved n xs = map-evens f xs
+-- an operand's literals have the number whose bits they are
+word_there : (σ : Assignment) (ls : List Lit) (a : ℕ) → a < 2 ^ length ls → map (literal σ) ls ≡ bits_of (length ls) a → word σ ls ≡ a
+word_there σ ls a low is = word_is σ ls ∙ ap number_of is ∙ number_of-bits_of (length ls) a low
 
-map_b_part : {X Y : Type 0} (f : X → Y) (order : Order) (n : ℕ) (xs : List X) → map f (b_part order n xs) ≡ b_part order n (map f xs)
-map_b_part f Separate n xs = map-drop f n xs
-map_b_part f Interleaved n xs = map-odds f xs
+module _ (g : Aig) (s : Sides) (whole : inputs_in s ≡ g.inputs) (even : order_of s.claim ≡ Interleaved → length s.a ≡ length s.b) (once : IsDefinedOnce g) (x : Numbers) where
+  -- the inputs have the bits of the numbers
+  pub have_inputs : map (literal (evaluated g (inputs_at s x))) (inputs_in s) ≡ inputs_at s x
+  have_inputs =
+      ap (map (literal (evaluated g (inputs_at s x)))) whole ∙
+      inputs_have g (inputs_at s x) once (sym (ap length whole) ∙ sym (length-inputs_at s x))
 
-a_part_of : (order : Order) (n a b : ℕ) → a_part order n (inputs_of order n a b) ≡ bits_of n a
-a_part_of Separate n a b = ap (λ k. take k (bits_of n a ++ bits_of n b)) (sym (length-bits_of n a)) ∙ take-length-append (bits_of n a) (bits_of n b)
-a_part_of Interleaved n a b = evens-alternate (bits_of n a) (bits_of n b) (length-bits_of n a ∙ sym (length-bits_of n b))
-
-b_part_of : (order : Order) (n a b : ℕ) → b_part order n (inputs_of order n a b) ≡ bits_of n b
-b_part_of Separate n a b = ap (λ k. drop k (bits_of n a ++ bits_of n b)) (sym (length-bits_of n a)) ∙ drop-length-append (bits_of n a) (bits_of n b)
-b_part_of Interleaved n a b = odds-alternate (bits_of n a) (bits_of n b) (length-bits_of n a ∙ sym (length-bits_of n b))
-
--- ---- the product of two operands
-
--- what is claimed there, by the numbers that the operands stand for
-product_there : (m : ℕ) (sign : Sign) (σ : Assignment) (as' bs : List Lit) (n a b : ℕ) → 0 < m → word σ as' ≡ a → word σ bs ≡ b → length as' ≡ n → length bs ≡ n →
-    (operand_word m sign σ as' * operand_word m sign σ bs) % m ≡ product_as sign m n a b % m
-product_there m sign σ as' bs n a b pos is_a is_b size_a size_b =
-    product_same m (operand_word m sign σ as') (number_as sign m n a) (operand_word m sign σ bs) (number_as sign m n b)
-    (operand_number m sign σ as' n a pos is_a size_a) (operand_number m sign σ bs n b pos is_b size_b)
-
-module _ (g : Aig) (order : Order) (sign : Sign) (shape : HasMultiplierShape g) (once : IsDefinedOnce g) where
-  size_a : length (a_bits order g) ≡ width g
-  size_a = ap length (a_bits_are order g) ∙ length-a_part order (width g) g.inputs shape.inputs
-
-  size_b : length (b_bits order g) ≡ width g
-  size_b = ap length (b_bits_are order g) ∙ length-b_part order (width g) g.inputs shape.inputs
-
-  pub product_at : (a b : ℕ) → a < 2 ^ width g → b < 2 ^ width g →
-      claimed (output_modulus g) (sides_for (multiplying order sign) g) (evaluated g (inputs_of order (width g) a b)) % output_modulus g ≡ product_as sign (output_modulus g) (width g) a b % output_modulus g
-  product_at a b below_a below_b =
-      product_there (output_modulus g) sign (evaluated g (inputs_of order (width g) a b)) (a_bits order g) (b_bits order g) (width g) a b (pow_pos (length g.outputs))
-      (a_is g order a b shape once below_a) (b_is g order a b shape once below_b) size_a size_b
-
-  product_meets : MeetsClaim g (sides_for (multiplying order sign) g) → MultipliesAs sign g order
-  product_meets meets a b below_a below_b =
-      meets (inputs_of order (width g) a b) (length-inputs_of order (width g) a b ∙ sym shape.inputs) ∙ product_at a b below_a below_b
-
-  meets_product : MultipliesAs sign g order → MeetsClaim g (sides_for (multiplying order sign) g)
-  meets_product multiplies bits same =
-      let size : length bits ≡ 2 * width g = same ∙ shape.inputs in
-      let a = number_of (a_part order (width g) bits) in
-      let b = number_of (b_part order (width g) bits) in
-      let below_a : a < 2 ^ width g = subst (λ k. a < 2 ^ k) (length-a_part order (width g) bits size) (number_of-low (a_part order (width g) bits)) in
-      let below_b : b < 2 ^ width g = subst (λ k. b < 2 ^ k) (length-b_part order (width g) bits size) (number_of-low (b_part order (width g) bits)) in
-      subst (λ xs. value_at_inputs g xs ≡ claimed (output_modulus g) (sides_for (multiplying order sign) g) (evaluated g xs) % output_modulus g) (sym (parts_are order (width g) bits size))
-      (multiplies a b below_a below_b ∙ sym (product_at a b below_a below_b))
-
--- ---- with an addend
-
--- the values of the inputs for two operands and an addend
-abbrev all_inputs : Order → ℕ → ℕ → ℕ → ℕ → List Bool
-all_inputs order n a b c = inputs_of order n a b ++ bits_of (2 * n) c
-
-length-all : (order : Order) (n a b c : ℕ) → length (all_inputs order n a b c) ≡ 4 * n
-length-all order n a b c = omega (arith, length-append (inputs_of order n a b) (bits_of (2 * n) c), length-inputs_of order n a b, length-bits_of (2 * n) c)
-
-first_of : (order : Order) (n a b c : ℕ) → take (2 * n) (all_inputs order n a b c) ≡ inputs_of order n a b
-first_of order n a b c = ap (λ k. take k (all_inputs order n a b c)) (sym (length-inputs_of order n a b)) ∙ take-length-append (inputs_of order n a b) (bits_of (2 * n) c)
-
-rest_of : (order : Order) (n a b c : ℕ) → drop (2 * n) (all_inputs order n a b c) ≡ bits_of (2 * n) c
-rest_of order n a b c = ap (λ k. drop k (all_inputs order n a b c)) (sym (length-inputs_of order n a b)) ∙ drop-length-append (inputs_of order n a b) (bits_of (2 * n) c)
-
--- values of the inputs are those of three numbers
-all_parts : (order : Order) (n : ℕ) (bits : List Bool) → length bits ≡ 4 * n →
-    bits ≡ all_inputs order n (number_of (a_part order n (take (2 * n) bits))) (number_of (b_part order n (take (2 * n) bits))) (number_of (drop (2 * n) bits))
-all_parts order n bits size =
-    let front : length (take (2 * n) bits) ≡ 2 * n = omega (arith, length-take (2 * n) bits) in
-    let back : length (drop (2 * n) bits) ≡ 2 * n = omega (arith, length-drop (2 * n) bits) in
-    sym (take-append-drop (2 * n) bits) ∙
-    ap₂ ◌++◌ (parts_are order n (take (2 * n) bits) front) (sym (ap (λ k. bits_of k (number_of (drop (2 * n) bits))) (sym back) ∙ bits_of-number_of (drop (2 * n) bits)))
-
-module _ (g : Aig) (order : Order) (sign : Sign) (shape : HasSumShape g) (once : IsDefinedOnce g) where
-  length-operands : length (take (2 * sum_width g) g.inputs) ≡ 2 * sum_width g
-  length-operands = omega (arith, length-take (2 * sum_width g) g.inputs, shape.inputs)
-
-  module _ (a b c : ℕ) (below_a : a < 2 ^ sum_width g) (below_b : b < 2 ^ sum_width g) (below_c : c < 2 ^ (2 * sum_width g)) where
-    have : map (literal (evaluated g (all_inputs order (sum_width g) a b c))) g.inputs ≡ all_inputs order (sum_width g) a b c
-    have = inputs_have g (all_inputs order (sum_width g) a b c) once (shape.inputs ∙ sym (length-all order (sum_width g) a b c))
-
-    front : map (literal (evaluated g (all_inputs order (sum_width g) a b c))) (take (2 * sum_width g) g.inputs) ≡ inputs_of order (sum_width g) a b
-    front =
-        map-take (literal (evaluated g (all_inputs order (sum_width g) a b c))) (2 * sum_width g) g.inputs ∙ ap (take (2 * sum_width g)) have ∙ first_of order (sum_width g) a b c
-
-    word_a : word (evaluated g (all_inputs order (sum_width g) a b c)) (a_part order (sum_width g) (take (2 * sum_width g) g.inputs)) ≡ a
-    word_a =
-        word_is (evaluated g (all_inputs order (sum_width g) a b c)) (a_part order (sum_width g) (take (2 * sum_width g) g.inputs)) ∙
-        ap number_of (map_a_part (literal (evaluated g (all_inputs order (sum_width g) a b c))) order (sum_width g) (take (2 * sum_width g) g.inputs) ∙ ap (a_part order (sum_width g)) front ∙ a_part_of order (sum_width g) a b) ∙
-        number_of-bits_of (sum_width g) a below_a
-
-    word_b : word (evaluated g (all_inputs order (sum_width g) a b c)) (b_part order (sum_width g) (take (2 * sum_width g) g.inputs)) ≡ b
-    word_b =
-        word_is (evaluated g (all_inputs order (sum_width g) a b c)) (b_part order (sum_width g) (take (2 * sum_width g) g.inputs)) ∙
-        ap number_of (map_b_part (literal (evaluated g (all_inputs order (sum_width g) a b c))) order (sum_width g) (take (2 * sum_width g) g.inputs) ∙ ap (b_part order (sum_width g)) front ∙ b_part_of order (sum_width g) a b) ∙
-        number_of-bits_of (sum_width g) b below_b
-
-    word_c : word (evaluated g (all_inputs order (sum_width g) a b c)) (drop (2 * sum_width g) g.inputs) ≡ c
-    word_c =
-        word_is (evaluated g (all_inputs order (sum_width g) a b c)) (drop (2 * sum_width g) g.inputs) ∙
-        ap number_of (map-drop (literal (evaluated g (all_inputs order (sum_width g) a b c))) (2 * sum_width g) g.inputs ∙ ap (drop (2 * sum_width g)) have ∙ rest_of order (sum_width g) a b c) ∙
-        number_of-bits_of (2 * sum_width g) c below_c
-
-    sum_at : claimed (output_modulus g) (sides_for (adding order sign) g) (evaluated g (all_inputs order (sum_width g) a b c)) % output_modulus g ≡
-        (product_as sign (output_modulus g) (sum_width g) a b + c) % output_modulus g
-    sum_at =
-        let τ = evaluated g (all_inputs order (sum_width g) a b c) in
-        let as' = a_part order (sum_width g) (take (2 * sum_width g) g.inputs) in
-        let bs = b_part order (sum_width g) (take (2 * sum_width g) g.inputs) in
-        let cs = drop (2 * sum_width g) g.inputs in
-        let k = output_modulus g in
-        ap (λ x. x % k) (plus_word_is (operand_word k sign τ as' * operand_word k sign τ bs) τ cs) ∙
-        sum_same k (operand_word k sign τ as' * operand_word k sign τ bs) (product_as sign k (sum_width g) a b) (word τ cs) c
-        (product_there k sign τ as' bs (sum_width g) a b (pow_pos (length g.outputs)) word_a word_b
-        (length-a_part order (sum_width g) (take (2 * sum_width g) g.inputs) length-operands) (length-b_part order (sum_width g) (take (2 * sum_width g) g.inputs) length-operands))
-        (ap (λ x. x % k) word_c)
-
-  sum_meets : MeetsClaim g (sides_for (adding order sign) g) → MultipliesAndAdds sign g order
-  sum_meets meets a b c below_a below_b below_c =
-      meets (all_inputs order (sum_width g) a b c) (length-all order (sum_width g) a b c ∙ sym shape.inputs) ∙ sum_at a b c below_a below_b below_c
-
-  meets_sum : MultipliesAndAdds sign g order → MeetsClaim g (sides_for (adding order sign) g)
-  meets_sum does bits same =
-      let n = sum_width g in
-      let size : length bits ≡ 4 * n = same ∙ shape.inputs in
-      let front : length (take (2 * n) bits) ≡ 2 * n = omega (arith, length-take (2 * n) bits) in
-      let back : length (drop (2 * n) bits) ≡ 2 * n = omega (arith, length-drop (2 * n) bits) in
-      let a = number_of (a_part order n (take (2 * n) bits)) in
-      let b = number_of (b_part order n (take (2 * n) bits)) in
-      let c = number_of (drop (2 * n) bits) in
-      let below_a : a < 2 ^ n = subst (λ k. a < 2 ^ k) (length-a_part order n (take (2 * n) bits) front) (number_of-low (a_part order n (take (2 * n) bits))) in
-      let below_b : b < 2 ^ n = subst (λ k. b < 2 ^ k) (length-b_part order n (take (2 * n) bits) front) (number_of-low (b_part order n (take (2 * n) bits))) in
-      let below_c : c < 2 ^ (2 * n) = subst (λ k. c < 2 ^ k) back (number_of-low (drop (2 * n) bits)) in
-      subst (λ xs. value_at_inputs g xs ≡ claimed (output_modulus g) (sides_for (adding order sign) g) (evaluated g xs) % output_modulus g) (sym (all_parts order n bits size))
-      (does a b c below_a below_b below_c ∙ sym (sum_at a b c below_a below_b below_c))
-
-claims_done : (g : Aig) (add : Bool) (order : Order) (sign : Sign) → HasShapeFor add g → IsDefinedOnce g →
-    (MeetsClaim g (sides_for (record { order = order; sign = sign; add = add }) g) → DoesAs add order sign g) ×
-    (DoesAs add order sign g → MeetsClaim g (sides_for (record { order = order; sign = sign; add = add }) g))
-claims_done g false order sign shape once = (product_meets g order sign shape once, meets_product g order sign shape once)
-claims_done g true order sign shape once = (sum_meets g order sign shape once, meets_sum g order sign shape once)
+  pub claimed_there : AreInRange s x → claimed (output_modulus g) s (evaluated g (inputs_at s x)) % output_modulus g ≡ claimed_at (output_modulus g) s x % output_modulus g
+  claimed_there range =
+      let τ = evaluated g (inputs_at s x) in
+      let m = output_modulus g in
+      let sign = s.claim.sign in
+      let parts =
+      three_apart (order_of s.claim) (map (literal τ) s.a) (map (literal τ) s.b) (map (literal τ) s.c) (bits_of (length s.a) x.a) (bits_of (length s.b) x.b) (bits_of (length s.c) x.c)
+      (length-map s.a (literal τ) ∙ sym (length-bits_of (length s.a) x.a)) (length-map s.b (literal τ) ∙ sym (length-bits_of (length s.b) x.b))
+      (λ e. length-map s.a (literal τ) ∙ even e ∙ sym (length-map s.b (literal τ))) (sym (map-three (literal τ) (order_of s.claim) s.a s.b s.c) ∙ have_inputs) in
+      ap (λ z. z % m) (plus_word_is (operand_word m sign τ s.a * operand_word m sign τ s.b) τ s.c) ∙
+      sum_same m (operand_word m sign τ s.a * operand_word m sign τ s.b) (number_as sign m (length s.a) x.a * number_as sign m (length s.b) x.b) (word τ s.c) x.c
+      (product_same m (operand_word m sign τ s.a) (number_as sign m (length s.a) x.a) (operand_word m sign τ s.b) (number_as sign m (length s.b) x.b)
+      (operand_number m sign τ s.a (length s.a) x.a (pow_pos (length g.outputs)) (word_there τ s.a x.a range.a parts.0) refl)
+      (operand_number m sign τ s.b (length s.b) x.b (pow_pos (length g.outputs)) (word_there τ s.b x.b range.b parts.1) refl))
+      (ap (λ z. z % m) (word_there τ s.c x.c range.c parts.2))
 
 pub claim_is_done : ClaimIsDone
-claim_is_done g k shape once = claims_done g k.add k.order k.sign shape once
+claim_is_done g k shape once = (
+  λ meets x range. meets (inputs_at s x) (length-inputs_at s x ∙ ap length whole) ∙ claimed_there g s whole even once x range,
+  λ does bits size.
+      let found = numbers_there s bits even (size ∙ sym (ap length whole)) in
+      let x = found.0 in
+      subst (λ xs. value_at_inputs g xs ≡ claimed (output_modulus g) s (evaluated g xs) % output_modulus g) (sym found.2)
+      (does x found.1 ∙ sym (claimed_there g s whole even once x found.1)),
+)
+  where
+    s : Sides
+    s = sides_for k g
+
+    whole : inputs_in s ≡ g.inputs
+    whole = sides_are_inputs g k shape
+
+    even : order_of k ≡ Interleaved → length s.a ≡ length s.b
+    even = even_sides g k shape
+
+-- ---- operands of equal widths
+
+-- the product of two operands, and an addend, by the widths of both
+claimed_by : (m : ℕ) (s : Sides) (x : Numbers) (n : ℕ) → length s.a ≡ n → length s.b ≡ n → claimed_at m s x ≡ product_as s.claim.sign m n x.a x.b + x.c
+claimed_by m s x n size_a size_b = ap₂ (λ i j. number_as s.claim.sign m i x.a * number_as s.claim.sign m j x.b + x.c) size_a size_b
+
+module _ (g : Aig) (order : Order) (sign : Sign) (shape : HasMultiplierShape g) where
+  abbrev pair : Sides
+  pair = sides_for (multiplying order sign) g
+
+  wide_a : length pair.a ≡ width g
+  wide_a = length-a_literals (Equal false) order g shape
+
+  wide_b : length pair.b ≡ width g
+  wide_b = length-b_literals (Equal false) order g shape
+
+  pair_inputs : (x : Numbers) → inputs_at pair x ≡ inputs_of order (width g) x.a x.b
+  pair_inputs x = ap₂ (λ i j. in_order order (bits_of i x.a) (bits_of j x.b) ++ []) wide_a wide_b ∙ append-nil (inputs_of order (width g) x.a x.b)
+
+  pair_claimed : (x : Numbers) → x.c ≡ 0 → claimed_at (output_modulus g) pair x ≡ product_as sign (output_modulus g) (width g) x.a x.b
+  pair_claimed x none = claimed_by (output_modulus g) pair x (width g) wide_a wide_b ∙ omega (arith, none)
+
+  pub doing_product : Does (multiplying order sign) g → MultipliesAs sign g order
+  doing_product does a b low_a low_b =
+      let x : Numbers = record { a = a; b = b; c = 0 } in
+      ap (value_at_inputs g) (sym (pair_inputs x)) ∙
+      does x (record { a = subst (λ n. a < 2 ^ n) (sym wide_a) low_a; b = subst (λ n. b < 2 ^ n) (sym wide_b) low_b; c = omega arith }) ∙
+      ap (λ z. z % output_modulus g) (pair_claimed x refl)
+
+  pub product_doing : MultipliesAs sign g order → Does (multiplying order sign) g
+  product_doing multiplies x range =
+      ap (value_at_inputs g) (pair_inputs x) ∙
+      multiplies x.a x.b (subst (λ n. x.a < 2 ^ n) wide_a range.a) (subst (λ n. x.b < 2 ^ n) wide_b range.b) ∙
+      ap (λ z. z % output_modulus g) (sym (pair_claimed x (omega (arith, range.c))))
+
+pub doing_is_multiplying : DoingIsMultiplying
+doing_is_multiplying g order sign shape = (doing_product g order sign shape, product_doing g order sign shape)
+
+module _ (g : Aig) (order : Order) (sign : Sign) (shape : HasSumShape g) where
+  abbrev three : Sides
+  three = sides_for (adding order sign) g
+
+  sum_a : length three.a ≡ sum_width g
+  sum_a = length-a_literals (Equal true) order g shape
+
+  sum_b : length three.b ≡ sum_width g
+  sum_b = length-b_literals (Equal true) order g shape
+
+  sum_c : length three.c ≡ 2 * sum_width g
+  sum_c = omega (arith, length-c_literals (Equal true) g shape)
+
+  three_inputs : (x : Numbers) → inputs_at three x ≡ inputs_of order (sum_width g) x.a x.b ++ bits_of (2 * sum_width g) x.c
+  three_inputs x = ap₂ ◌++◌ (ap₂ (λ i j. in_order order (bits_of i x.a) (bits_of j x.b)) sum_a sum_b) (ap (λ k. bits_of k x.c) sum_c)
+
+  pub doing_sum : Does (adding order sign) g → MultipliesAndAdds sign g order
+  doing_sum does a b c low_a low_b low_c =
+      let x : Numbers = record { a = a; b = b; c = c } in
+      ap (value_at_inputs g) (sym (three_inputs x)) ∙
+      does x (record { a = subst (λ n. a < 2 ^ n) (sym sum_a) low_a; b = subst (λ n. b < 2 ^ n) (sym sum_b) low_b; c = subst (λ n. c < 2 ^ n) (sym sum_c) low_c }) ∙
+      ap (λ z. z % output_modulus g) (claimed_by (output_modulus g) three x (sum_width g) sum_a sum_b)
+
+  pub sum_doing : MultipliesAndAdds sign g order → Does (adding order sign) g
+  sum_doing adds x range =
+      ap (value_at_inputs g) (three_inputs x) ∙
+      adds x.a x.b x.c (subst (λ n. x.a < 2 ^ n) sum_a range.a) (subst (λ n. x.b < 2 ^ n) sum_b range.b) (subst (λ n. x.c < 2 ^ n) sum_c range.c) ∙
+      ap (λ z. z % output_modulus g) (sym (claimed_by (output_modulus g) three x (sum_width g) sum_a sum_b))
+
+pub doing_is_adding : DoingIsAdding
+doing_is_adding g order sign shape = (doing_sum g order sign shape, sum_doing g order sign shape)

@@ -1,13 +1,15 @@
 -- What is claimed on every evaluation holds for all values of the inputs, and of two operands it is their product.
 use Rattle.std.specs.Prelude.{◌≡◌, ◌≢◌, ℕ, zero, suc, ◌+◌, ◌*◌, ◌%◌, ◌^◌, ◌<◌, Bool, true, false, List, [], ◌∷◌, ◌++◌, map, length, take, drop, ⊤}
 use Rattle.std.specs.List.{All, AllByRecursion, AllPairs, Contains}
-use Rattle.std.proofs.Common.{refl, sym, ap, ap₂, subst, ◌∙◌, arith, length-append, append-nil, mod-eq_of_lt, take-append-drop}
+use Rattle.std.proofs.Common.{refl, sym, ap, ap₂, subst, ◌∙◌, arith, length-append, append-nil, mod-eq_of_lt, take-append-drop, append_assoc}
 use Rattle.std.proofs.lemmas.List.Elements.{All-contains_itself, All-from_recursion, recursion_from_All, All-append}
 use Rattle.std.proofs.lemmas.Nat.{mul-lt, pow-add}
 use Rattle.graph_core.specs.declared.literal.Lit.{Lit}
 use Rattle.graph_core.specs.declared.gate.Gate.{Gate}
 use Rattle.graph_core.specs.declared.order.Order.{Order}
 use Rattle.graph_core.specs.declared.order.Order.TheVariants.{Separate, Interleaved}
+use Rattle.graph_core.specs.declared.widths.Widths.{Widths}
+use Rattle.graph_core.specs.declared.widths.Widths.TheVariants.{Equal, Given as OfWidths}
 use Rattle.graph_core.specs.Graph.Literals.{variable_of}
 use Rattle.graph_core.specs.Graph.Assignments.{Assignment, literal, word}
 use Rattle.graph_core.specs.Graph.{Aig, IsEvaluation, IsDefinedOnce, IsAcyclic, defined, of_inputs, evaluated, evaluation}
@@ -138,7 +140,7 @@ three_from P xs ys zs h k l =
     All-append P xs (ys ++ zs) (All-from_recursion P xs h) (All-append P ys zs (All-from_recursion P ys k) (All-from_recursion P zs l))
 
 pub sides_read_inputs : SidesReadInputs
-sides_read_inputs g k = go k.add k.order
+sides_read_inputs g k = go k.widths k.order
   where
     members : AllByRecursion (Contains g.inputs) g.inputs
     members = recursion_from_All (Contains g.inputs) g.inputs (All-contains_itself g.inputs)
@@ -146,27 +148,36 @@ sides_read_inputs g k = go k.add k.order
     front : AllByRecursion (Contains g.inputs) (take (2 * sum_width g) g.inputs)
     front = taken_from (Contains g.inputs) (2 * sum_width g) g.inputs members
 
-    go : (add : Bool) (order : Order) → All (Contains g.inputs) (operand_literals (sides_for (record { order = order; sign = k.sign; add = add }) g))
-    go false Separate =
-        three_from (Contains g.inputs) (take (width g) g.inputs) (drop (width g) g.inputs) [] (taken_from (Contains g.inputs) (width g) g.inputs members) (dropped_from (Contains g.inputs) (width g) g.inputs members) tt
-    go false Interleaved = three_from (Contains g.inputs) (evens g.inputs) (odds g.inputs) [] (evens_from (Contains g.inputs) g.inputs members) (odds_from (Contains g.inputs) g.inputs members) tt
-    go true order =
+    rest : (a : ℕ) → AllByRecursion (Contains g.inputs) (drop a g.inputs)
+    rest a = dropped_from (Contains g.inputs) a g.inputs members
+
+    go : (w : Widths) (order : Order) → All (Contains g.inputs) (operand_literals (sides_for (record { order = order; sign = k.sign; widths = w }) g))
+    go (Equal false) Separate =
+        three_from (Contains g.inputs) (take (width g) g.inputs) (drop (width g) g.inputs) [] (taken_from (Contains g.inputs) (width g) g.inputs members) (rest (width g)) tt
+    go (Equal false) Interleaved = three_from (Contains g.inputs) (evens g.inputs) (odds g.inputs) [] (evens_from (Contains g.inputs) g.inputs members) (odds_from (Contains g.inputs) g.inputs members) tt
+    go (Equal true) order =
         three_from (Contains g.inputs) (a_part order (sum_width g) (take (2 * sum_width g) g.inputs)) (b_part order (sum_width g) (take (2 * sum_width g) g.inputs)) (drop (2 * sum_width g) g.inputs)
         (a_part_from (Contains g.inputs) order (sum_width g) (take (2 * sum_width g) g.inputs) front)
-        (b_part_from (Contains g.inputs) order (sum_width g) (take (2 * sum_width g) g.inputs) front) (dropped_from (Contains g.inputs) (2 * sum_width g) g.inputs members)
+        (b_part_from (Contains g.inputs) order (sum_width g) (take (2 * sum_width g) g.inputs) front) (rest (2 * sum_width g))
+    go (OfWidths a b add) order =
+        three_from (Contains g.inputs) (take a g.inputs) (take b (drop a g.inputs)) (drop b (drop a g.inputs)) (taken_from (Contains g.inputs) a g.inputs members)
+        (taken_from (Contains g.inputs) b (drop a g.inputs) (rest a)) (dropped_from (Contains g.inputs) b (drop a g.inputs) (rest a))
 
 pub sides_are_inputs : SidesAreInputs
-sides_are_inputs g k = go k.add k.order
+sides_are_inputs g k = go k.widths k.order
   where
     parts : (order : Order) (n : ℕ) (xs : List Lit) → in_order order (a_part order n xs) (b_part order n xs) ≡ xs
     parts Separate n xs = take-append-drop n xs
     parts Interleaved n xs = alternate-parts xs
 
-    go : (add : Bool) (order : Order) → HasShapeFor add g → inputs_in (sides_for (record { order = order; sign = k.sign; add = add }) g) ≡ g.inputs
-    go false Separate shape = append-nil (take (width g) g.inputs ++ drop (width g) g.inputs) ∙ take-append-drop (width g) g.inputs
-    go false Interleaved shape = append-nil (alternate (evens g.inputs) (odds g.inputs)) ∙ alternate-parts g.inputs
-    go true order shape =
+    go : (w : Widths) (order : Order) → HasShapeFor w g → inputs_in (sides_for (record { order = order; sign = k.sign; widths = w }) g) ≡ g.inputs
+    go (Equal false) Separate shape = append-nil (take (width g) g.inputs ++ drop (width g) g.inputs) ∙ take-append-drop (width g) g.inputs
+    go (Equal false) Interleaved shape = append-nil (alternate (evens g.inputs) (odds g.inputs)) ∙ alternate-parts g.inputs
+    go (Equal true) order shape =
         ap (λ xs. xs ++ drop (2 * sum_width g) g.inputs) (parts order (sum_width g) (take (2 * sum_width g) g.inputs)) ∙ take-append-drop (2 * sum_width g) g.inputs
+    go (OfWidths a b add) order shape =
+        append_assoc (take a g.inputs) (take b (drop a g.inputs)) (drop b (drop a g.inputs)) ∙
+        ap (λ xs. take a g.inputs ++ xs) (take-append-drop b (drop a g.inputs)) ∙ take-append-drop a g.inputs
 
 -- the operands are the numbers that the inputs stand for
 pub a_is : (g : Aig) (order : Order) (a b : ℕ) → HasMultiplierShape g → IsDefinedOnce g → a < 2 ^ width g → word (evaluated g (inputs_of order (width g) a b)) (a_bits order g) ≡ a

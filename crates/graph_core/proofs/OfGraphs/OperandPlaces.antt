@@ -116,7 +116,7 @@ alternate-parts [] = refl
 alternate-parts (x ∷ []) = refl
 alternate-parts (x ∷ y ∷ xs) = ap (λ zs. x ∷ y ∷ zs) (alternate-parts xs)
 
-part_bits : (n : ℕ) (bits : List Bool) → length bits ≡ n → bits_of n (number_of bits) ≡ bits
+pub part_bits : (n : ℕ) (bits : List Bool) → length bits ≡ n → bits_of n (number_of bits) ≡ bits
 part_bits n bits e = ap (λ k. bits_of k (number_of bits)) (sym e) ∙ bits_of-number_of bits
 
 -- the inputs are the bits of the numbers of their parts

@@ -1,10 +1,10 @@
 -- The size of the graph that a text spells, for each profile.
-use Rattle.std.specs.Prelude.{ℕ, ◌≤◌, List, length}
+use Rattle.std.specs.Prelude.{ℕ, ◌≤◌, Bool, List, length}
 use Rattle.graph_core.specs.declared.bounds.TheConstants.{MOST_VARIABLES, MOST_INPUTS, MOST_OUTPUTS}
 use Rattle.graph_core.specs.declared.profile.Profile.{Profile}
-use Rattle.graph_core.specs.declared.profile.Profile.TheVariants.{Multiplier, MultiplyAdd, Any}
+use Rattle.graph_core.specs.declared.profile.Profile.TheVariants.{Multiplier, MultiplyAdd, Given, Any}
 use Rattle.graph_core.specs.Graph.{Aig}
-use Rattle.graph_core.specs.Graph.Operands.{HasMultiplierShape, HasSumShape, width, sum_width}
+use Rattle.graph_core.specs.Graph.Operands.{HasMultiplierShape, HasSumShape, HasGivenShape, width, sum_width}
 use Rattle.graph_core.specs.Aiger.{Spells}
 
 -- A multiplier's graph has operands of 1 to 64 bits.
@@ -21,6 +21,15 @@ pub record IsSumSized (g : Aig) : Type 0 where
   pub narrow : sum_width g ≤ 64
   pub small : g.max ≤ MOST_VARIABLES
 
+-- Operands of given widths have 1 to 64 bits each.
+pub record IsGivenSized (a : ℕ) (b : ℕ) (add : Bool) (g : Aig) : Type 0 where
+  pub shape : HasGivenShape a b add g
+  pub some_a : 1 ≤ a
+  pub some_b : 1 ≤ b
+  pub narrow_a : a ≤ 64
+  pub narrow_b : b ≤ 64
+  pub small : g.max ≤ MOST_VARIABLES
+
 -- Any graph is within the bounds, and has an output.
 pub record IsBounded (g : Aig) : Type 0 where
   pub few_inputs : length g.inputs ≤ MOST_INPUTS
@@ -31,6 +40,7 @@ pub record IsBounded (g : Aig) : Type 0 where
 abbrev pub IsSizedAs : Profile → Aig → Type 0
 IsSizedAs Multiplier g = IsMultiplierSized g
 IsSizedAs MultiplyAdd g = IsSumSized g
+IsSizedAs (Given a b add) g = IsGivenSized a b add g
 IsSizedAs Any g = IsBounded g
 
 -- A spelled graph is of its profile's size.

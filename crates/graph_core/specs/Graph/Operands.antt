@@ -7,9 +7,11 @@ use Rattle.graph_core.specs.declared.order.Order.TheVariants.{Separate, Interlea
 use Rattle.graph_core.specs.declared.sign.Sign.{Sign}
 use Rattle.graph_core.specs.declared.sign.Sign.TheVariants.{Unsigned, Signed}
 use Rattle.graph_core.specs.declared.claim.Claim.{Claim}
+use Rattle.graph_core.specs.declared.widths.Widths.{Widths}
+use Rattle.graph_core.specs.declared.widths.Widths.TheVariants.{Equal, Given as OfWidths}
 use Rattle.graph_core.specs.declared.numbers.Numbers.{Numbers}
 use Rattle.graph_core.specs.declared.profile.Profile.{Profile}
-use Rattle.graph_core.specs.declared.profile.Profile.TheVariants.{Multiplier, MultiplyAdd}
+use Rattle.graph_core.specs.declared.profile.Profile.TheVariants.{Multiplier, MultiplyAdd, Given}
 use Rattle.graph_core.specs.Graph.Assignments.{Assignment, bit, literal, word}
 use Rattle.graph_core.specs.Graph.{Aig, IsEvaluation, IsDefinedOnce, IsAcyclic, evaluated}
 
@@ -58,10 +60,14 @@ abbrev pub bits_of : ℕ → ℕ → List Bool
 bits_of zero a = []
 bits_of (suc n) a = (a % 2 == 1) ∷ bits_of n (a / 2)
 
+-- two lists in the order of the inputs
+abbrev pub in_order : {X : Type 0} → Order → List X → List X → List X
+in_order Separate xs ys = xs ++ ys
+in_order Interleaved xs ys = alternate xs ys
+
 -- the values of the inputs that stand for a and b
 abbrev pub inputs_of : Order → ℕ → ℕ → ℕ → List Bool
-inputs_of Separate n a b = bits_of n a ++ bits_of n b
-inputs_of Interleaved n a b = alternate (bits_of n a) (bits_of n b)
+inputs_of order n a b = in_order order (bits_of n a) (bits_of n b)
 
 -- Two operands of one width, and an output for each of the lowest bits of the product, from 1 to all of them.
 pub record HasMultiplierShape (g : Aig) : Type 0 where
@@ -80,15 +86,51 @@ pub record HasSumShape (g : Aig) : Type 0 where
   pub some_outputs : 1 ≤ length g.outputs
   pub outputs : length g.outputs ≤ 2 * sum_width g
 
--- the shape without an addend, and with one
-abbrev pub HasShapeFor : Bool → Aig → Type 0
-HasShapeFor false g = HasMultiplierShape g
-HasShapeFor true g = HasSumShape g
+-- as many bits as both operands have, where there is an addend
+abbrev pub addend_width : Bool → ℕ → ℕ
+addend_width false n = 0
+addend_width true n = n
 
--- the number of bits of an operand, without an addend and with one
-abbrev pub width_for : Bool → Aig → ℕ
-width_for false g = width g
-width_for true g = sum_width g
+-- Operands of given widths, an addend of both together where there is one, and an output for each of the lowest bits, from 1 to as many as
+-- the operands have.
+pub record HasGivenShape (a : ℕ) (b : ℕ) (add : Bool) (g : Aig) : Type 0 where
+  pub inputs : length g.inputs ≡ (a + b) + addend_width add (a + b)
+  pub some_outputs : 1 ≤ length g.outputs
+  pub outputs : length g.outputs ≤ a + b
+
+-- whether there is an addend
+abbrev pub has_addend : Widths → Bool
+has_addend (Equal add) = add
+has_addend (OfWidths a b add) = add
+
+-- the shape of the graphs with such operands
+abbrev pub HasShapeFor : Widths → Aig → Type 0
+HasShapeFor (Equal false) g = HasMultiplierShape g
+HasShapeFor (Equal true) g = HasSumShape g
+HasShapeFor (OfWidths a b add) g = HasGivenShape a b add g
+
+-- the number of bits of a, and of b
+abbrev pub a_width : Widths → Aig → ℕ
+a_width (Equal false) g = width g
+a_width (Equal true) g = sum_width g
+a_width (OfWidths a b add) g = a
+
+abbrev pub b_width : Widths → Aig → ℕ
+b_width (Equal add) g = a_width (Equal add) g
+b_width (OfWidths a b add) g = b
+
+-- Neither operand has more than 64 bits.
+pub record AreNarrow (w : Widths) (g : Aig) : Type 0 where
+  pub a : a_width w g ≤ 64
+  pub b : b_width w g ≤ 64
+
+-- Which input is which bit: operands of given widths are separate.
+abbrev pub order_for : Widths → Order → Order
+order_for (Equal add) order = order
+order_for (OfWidths a b add) order = Separate
+
+abbrev pub order_of : Claim → Order
+order_of k = order_for k.widths k.order
 
 -- What operands are seen as: what is claimed of them, the literals of each operand, and those of an addend, of which there are none
 -- without one; the bit of weight 1 first.
@@ -98,43 +140,48 @@ pub record Sides : Type 0 where
   pub b : List Lit
   pub c : List Lit
 
--- Operands are equally wide, and of at most 64 bits, and an addend is at most twice as wide.
+-- Operands have at most 64 bits, equally many where they are interleaved, and an addend at most as many as both.
 pub record AreSides (s : Sides) : Type 0 where
-  pub equal : length s.a ≡ length s.b
-  pub narrow : length s.a ≤ 64
-  pub addend : length s.c ≤ 2 * length s.a
+  pub even : order_of s.claim ≡ Interleaved → length s.a ≡ length s.b
+  pub narrow_a : length s.a ≤ 64
+  pub narrow_b : length s.b ≤ 64
+  pub addend : length s.c ≤ length s.a + length s.b
 
--- the literals of the operands a and b and of the addend, without an addend and with one
-abbrev pub a_literals : Bool → Order → Aig → List Lit
-a_literals false order g = a_bits order g
-a_literals true order g = a_part order (sum_width g) (take (2 * sum_width g) g.inputs)
+-- the literals of the operands a and b and of the addend
+abbrev pub a_literals : Widths → Order → Aig → List Lit
+a_literals (Equal false) order g = a_bits order g
+a_literals (Equal true) order g = a_part order (sum_width g) (take (2 * sum_width g) g.inputs)
+a_literals (OfWidths a b add) order g = take a g.inputs
 
-abbrev pub b_literals : Bool → Order → Aig → List Lit
-b_literals false order g = b_bits order g
-b_literals true order g = b_part order (sum_width g) (take (2 * sum_width g) g.inputs)
+abbrev pub b_literals : Widths → Order → Aig → List Lit
+b_literals (Equal false) order g = b_bits order g
+b_literals (Equal true) order g = b_part order (sum_width g) (take (2 * sum_width g) g.inputs)
+b_literals (OfWidths a b add) order g = take b (drop a g.inputs)
 
-abbrev pub c_literals : Bool → Aig → List Lit
-c_literals false g = []
-c_literals true g = drop (2 * sum_width g) g.inputs
+abbrev pub c_literals : Widths → Aig → List Lit
+c_literals (Equal false) g = []
+c_literals (Equal true) g = drop (2 * sum_width g) g.inputs
+c_literals (OfWidths a b add) g = drop b (drop a g.inputs)
 
 -- the operands that a claim names in a graph
 abbrev pub sides_for : Claim → Aig → Sides
-sides_for k g = record { claim = k; a = a_literals k.add k.order g; b = b_literals k.add k.order g; c = c_literals k.add g }
+sides_for k g = record { claim = k; a = a_literals k.widths k.order g; b = b_literals k.widths k.order g; c = c_literals k.widths g }
 
 -- the product under an order of operands of either kind, that of unsigned ones, and a product with an addend
 abbrev pub multiplying : Order → Sign → Claim
-multiplying order sign = record { order = order; sign = sign; add = false }
+multiplying order sign = record { order = order; sign = sign; widths = Equal false }
 
 abbrev pub product_under : Order → Claim
 product_under order = multiplying order Unsigned
 
 abbrev pub adding : Order → Sign → Claim
-adding order sign = record { order = order; sign = sign; add = true }
+adding order sign = record { order = order; sign = sign; widths = Equal true }
 
--- which graphs it can be claimed of
-abbrev pub profile_of : Bool → Profile
-profile_of false = Multiplier
-profile_of true = MultiplyAdd
+-- which graphs have such operands
+abbrev pub profile_of : Widths → Profile
+profile_of (Equal false) = Multiplier
+profile_of (Equal true) = MultiplyAdd
+profile_of (OfWidths a b add) = Given a b add
 
 abbrev pub sides_of : Order → Aig → Sides
 sides_of order g = sides_for (product_under order) g
@@ -151,22 +198,18 @@ operand_literals s = s.a ++ (s.b ++ s.c)
 abbrev pub ReadInputs : Aig → Sides → Type 0
 ReadInputs g s = All (Contains g.inputs) (operand_literals s)
 
--- the operands' literals in the order of the inputs
-abbrev pub in_order : {X : Type 0} → Order → List X → List X → List X
-in_order Separate xs ys = xs ++ ys
-in_order Interleaved xs ys = alternate xs ys
-
+-- the literals in the order of the inputs
 abbrev pub inputs_in : Sides → List Lit
-inputs_in s = in_order s.claim.order s.a s.b ++ s.c
+inputs_in s = in_order (order_of s.claim) s.a s.b ++ s.c
 
 -- the values of the inputs that stand for two operands and an addend
 abbrev pub inputs_at : Sides → Numbers → List Bool
-inputs_at s x = inputs_of s.claim.order (length s.a) x.a x.b ++ bits_of (length s.c) x.c
+inputs_at s x = in_order (order_of s.claim) (bits_of (length s.a) x.a) (bits_of (length s.b) x.b) ++ bits_of (length s.c) x.c
 
 -- The numbers have at most as many bits as the operands and the addend.
 pub record AreInRange (s : Sides) (x : Numbers) : Type 0 where
   pub a : x.a < 2 ^ length s.a
-  pub b : x.b < 2 ^ length s.a
+  pub b : x.b < 2 ^ length s.b
   pub c : x.c < 2 ^ length s.c
 
 -- The number of signed literals, up to multiples of m: each counts 1 times its power of 2, and the last one -1 times.
@@ -216,7 +259,11 @@ SidesReadInputs = (g : Aig) (k : Claim) → ReadInputs g (sides_for k g)
 
 -- In their order they are the inputs.
 abbrev pub SidesAreInputs : Type 0
-SidesAreInputs = (g : Aig) (k : Claim) → HasShapeFor k.add g → inputs_in (sides_for k g) ≡ g.inputs
+SidesAreInputs = (g : Aig) (k : Claim) → HasShapeFor k.widths g → inputs_in (sides_for k g) ≡ g.inputs
+
+-- Operands of at most 64 bits.
+abbrev pub SidesAreNarrow : Type 0
+SidesAreNarrow = (g : Aig) (k : Claim) → HasShapeFor k.widths g → AreNarrow k.widths g → AreSides (sides_for k g)
 
 -- ---- two operands as numbers
 
@@ -265,17 +312,33 @@ abbrev pub MultipliesAndAdds : Sign → Aig → Order → Type 0
 MultipliesAndAdds sign g order = (a b c : ℕ) → a < 2 ^ sum_width g → b < 2 ^ sum_width g → c < 2 ^ (2 * sum_width g) →
     sum_on g order a b c ≡ (product_as sign (output_modulus g) (sum_width g) a b + c) % output_modulus g
 
--- It does what is claimed.
-abbrev pub DoesAs : Bool → Order → Sign → Aig → Type 0
-DoesAs false order sign g = MultipliesAs sign g order
-DoesAs true order sign g = MultipliesAndAdds sign g order
+-- ---- any claim, on numbers
+
+-- the graph's value on numbers
+abbrev pub value_at : Aig → Sides → Numbers → ℕ
+value_at g s x = value_at_inputs g (inputs_at s x)
+
+-- What is claimed of numbers, up to multiples of m: the product of those that the operands stand for, and the addend.
+abbrev pub claimed_at : ℕ → Sides → Numbers → ℕ
+claimed_at m s x = number_as s.claim.sign m (length s.a) x.a * number_as s.claim.sign m (length s.b) x.b + x.c
+
+-- For all numbers of the operands' bits the graph evaluates to what is claimed, modulo 2 ^ m, m the number of its outputs.
+abbrev pub DoesWith : Aig → Sides → Type 0
+DoesWith g s = (x : Numbers) → AreInRange s x → value_at g s x ≡ claimed_at (output_modulus g) s x % output_modulus g
 
 abbrev pub Does : Claim → Aig → Type 0
-Does k g = DoesAs k.add k.order k.sign g
+Does k g = DoesWith g (sides_for k g)
 
 -- A graph meets the claim exactly where it does so on all numbers.
 abbrev pub ClaimIsDone : Type 0
-ClaimIsDone = (g : Aig) (k : Claim) → HasShapeFor k.add g → IsDefinedOnce g → (MeetsClaim g (sides_for k g) ↔ Does k g)
+ClaimIsDone = (g : Aig) (k : Claim) → HasShapeFor k.widths g → IsDefinedOnce g → (MeetsClaim g (sides_for k g) ↔ Does k g)
+
+-- Of operands of equal widths it is the product of both, and with an addend their sum.
+abbrev pub DoingIsMultiplying : Type 0
+DoingIsMultiplying = (g : Aig) (order : Order) (sign : Sign) → HasMultiplierShape g → (Does (multiplying order sign) g ↔ MultipliesAs sign g order)
+
+abbrev pub DoingIsAdding : Type 0
+DoingIsAdding = (g : Aig) (order : Order) (sign : Sign) → HasSumShape g → (Does (adding order sign) g ↔ MultipliesAndAdds sign g order)
 
 -- ---- where the bits stand among the inputs; private clauses alone cite what follows
 

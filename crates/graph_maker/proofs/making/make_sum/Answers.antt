@@ -5,18 +5,18 @@ use Rattle.graph_core.specs.declared.sign.Sign.TheVariants.{Unsigned}
 use Rattle.graph_core.specs.declared.profile.Profile.TheVariants as profile
 use Rattle.graph_core.specs.Aiger.{HasCounts, IsPacked}
 use Rattle.graph_core.specs.Graph.{IsWellFormed}
-use Rattle.graph_core.specs.Graph.Operands.{sum_width, MultipliesAndAdds}
+use Rattle.graph_core.specs.Graph.Operands.{Does, adding, sum_width}
 use Rattle.graph_core.specs.Aiger.Writing.{written}
 use Rattle.graph_maker.specs.Made.{whole_graph}
 use Rattle.graph_maker.specs.WithAddend.{made_sum, with_addend}
-use Rattle.graph_maker.proofs.ProductSizes.{product_few}
+use Rattle.graph_maker.proofs.ProductOfWidths.{product_few}
 use Rattle.graph_maker.proofs.SumsAdd.{made_sums_add}
 use Rattle.graph_maker.proofs.SumsPacked.{sums_are_packed}
 use Rattle.graph_maker.proofs.making.make_sum.Goals as goal
 
 pub add_addend-requires-clause-room : goal.add_addend-requires-clause-room
 add_addend-requires-clause-room c =
-    omega (arith, ap (λ r. r.builder.last) c.in_ok-building.ensures, product_few (4 * c.args.bits) c.args.kind c.args.bits c.args.adder c.requires.some c.requires.few, c.requires.few)
+    omega (arith, ap (λ r. r.builder.last) c.in_ok-building.ensures, product_few (4 * c.args.bits) c.args.kind c.args.bits c.args.bits c.args.adder c.requires.some c.requires.some c.requires.few c.requires.few, c.requires.few)
 
 pub graph_of-requires-clause-few_outputs : goal.graph_of-requires-clause-few_outputs
 graph_of-requires-clause-few_outputs c =
@@ -49,7 +49,7 @@ pub returns-clause-adds : goal.returns-clause-adds
 returns-clause-adds c =
     let made = ap (whole_graph (4 * c.args.bits)) (ap (with_addend c.args.bits) c.in_ok-building.ensures ∙ c.in_ok-outputs.ensures) in
     let law = made_sums_add c.args.kind c.args.bits c.args.adder c.requires.some in
-    IfOk-weaker c.graph_of.result _ (λ g. MultipliesAndAdds Unsigned g Separate) (λ g e. subst (λ h. MultipliesAndAdds Unsigned h Separate) (made ∙ sym e) law.adds) c.graph_of.ensures
+    IfOk-weaker c.graph_of.result _ (λ g. Does (adding Separate Unsigned) g) (λ g e. subst (λ h. Does (adding Separate Unsigned) h) (made ∙ sym e) law.adds) c.graph_of.ensures
 
 pub returns-clause-counts : goal.returns-clause-counts
 returns-clause-counts c =

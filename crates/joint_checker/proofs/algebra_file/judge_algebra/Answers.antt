@@ -30,16 +30,16 @@ made : (v w : ℕ) (e f : Extended) (cs ds : List Clause) → v ≡ w → e ≡ 
 made v w e f cs ds version extended added = ap (λ x. premises x e cs) version ∙ ap (λ x. premises w x cs) extended ∙ ap (premises w f) added
 
 pub new-requires-clause-some : goal.new-requires-clause-some
-new-requires-clause-some g c = (outputs_of c.args.claim.add c.args.shown.now.extended.graph c.requires.sized).0
+new-requires-clause-some g c = (outputs_of c.args.claim.widths c.args.shown.now.extended.graph c.requires.sized).0
 
 pub new-requires-clause-few : goal.new-requires-clause-few
-new-requires-clause-few g c = (outputs_of c.args.claim.add c.args.shown.now.extended.graph c.requires.sized).1
+new-requires-clause-few g c = (outputs_of c.args.claim.widths c.args.shown.now.extended.graph c.requires.sized).1
 
 pub judge_lines-requires-clause-begins : goal.judge_lines-requires-clause-begins
 judge_lines-requires-clause-begins g c =
     let k = c.in_ok-checker.checker in
     let file = c.in-Ok.file in
-    let few = (outputs_of c.args.claim.add c.args.shown.now.extended.graph c.requires.sized).1 in (
+    let few = (outputs_of c.args.claim.widths c.args.shown.now.extended.graph c.requires.sized).1 in (
       begins k file (g.D.Desk.seen c.start.new.desk) (search rules) (search rules) (subst (λ (e : Extended). length e.graph.outputs ≤ 128) (sym c.in_ok-checker.ensures.extended) few)
           (subst (λ (e : Extended). LedgersAgree (ledger_of k) (beginning (premises file.version e k.added))) (sym c.in_ok-checker.ensures.extended)
           (subst (λ (cs : List Clause). LedgersAgree (ledger_of k) (beginning (premises file.version c.args.shown.now.extended cs))) (sym c.in_ok-checker.ensures.added) (c.in_ok-checker.ensures.axioms file.version)))

@@ -62,7 +62,7 @@ returns-in_err-graph-clause-opened g c =
     let limits = c.args.limits.now in
     let p = err_from_is_err_and c.from_residual.result c.from_residual.ensures.1 in
     rw (p.1, p.2)
-    (graph_opened first first second (profile_of c.args.claim.add) limits.graph (bytes_under first (files_of c.args.names.now).graph) c.in_err-graph.field-0.0 (stopped_for _ _ _ _ (g.D.Desk.seen c.args.desk.now) (g.D.Desk.seen c.read_graph.new.desk) _ c.profile.ensures c.in_err-graph.ensures.refused) c.read_graph.ensures.opens.opened)
+    (graph_opened first first second (profile_of c.args.claim.widths) limits.graph (bytes_under first (files_of c.args.names.now).graph) c.in_err-graph.field-0.0 (stopped_for _ _ _ _ (g.D.Desk.seen c.args.desk.now) (g.D.Desk.seen c.read_graph.new.desk) _ c.profile.ensures c.in_err-graph.ensures.refused) c.read_graph.ensures.opens.opened)
 
 -- ---- the clause file
 
@@ -94,7 +94,7 @@ returns-in_err-shown-clause-opened g c =
 
 pub check_algebra-requires-clause-sized : goal.check_algebra-requires-clause-sized
 check_algebra-requires-clause-sized g c =
-    subst (IsSizedAs (profile_of c.args.claim.add)) (sym (graph_is c.in_ok-graph.graph (premises_of c.in_ok-shown.shown) (shown_fits c.in_ok-graph.graph c.in_ok-shown.shown c.in_ok-shown.ensures.of_graph))) (sized_for _ _ _ c.profile.ensures c.in_ok-graph.ensures.sized)
+    subst (IsSizedAs (profile_of c.args.claim.widths)) (sym (graph_is c.in_ok-graph.graph (premises_of c.in_ok-shown.shown) (shown_fits c.in_ok-graph.graph c.in_ok-shown.shown c.in_ok-shown.ensures.of_graph))) (sized_for _ _ _ c.profile.ensures c.in_ok-graph.ensures.sized)
 
 pub check_algebra-requires-clause-columns : goal.check_algebra-requires-clause-columns
 check_algebra-requires-clause-columns g c = c.in_ok-shown.ensures.of_graph.columns
@@ -124,7 +124,7 @@ returns-clause-outcome g c =
     let graph = c.in_ok-graph.graph in
     let shown = c.in_ok-shown.shown in
     accepts c.args.limits.now c.args.claim (files_of c.args.names.now) first second third last c.read_graph.ensures.inspects c.check_clauses.ensures.reads.inspects graph (premises_of shown) (shown_fits graph shown c.in_ok-shown.ensures.of_graph)
-    (spelled_for _ _ _ _ _ c.profile.ensures c.in_ok-graph.ensures.spelled) c.in_ok-shown.ensures.gives c.in_ok-graph.ensures.built.well_formed (shape_for c.args.claim.add graph (sized_for _ _ _ c.profile.ensures c.in_ok-graph.ensures.sized)) c.in_ok-closed.ensures.lawful c.in_ok-closed.ensures.vanishes
+    (spelled_for _ _ _ _ _ c.profile.ensures c.in_ok-graph.ensures.spelled) c.in_ok-shown.ensures.gives c.in_ok-graph.ensures.built.well_formed (shape_for c.args.claim.widths graph (sized_for _ _ _ c.profile.ensures c.in_ok-graph.ensures.sized)) c.in_ok-closed.ensures.lawful c.in_ok-closed.ensures.vanishes
 
 pub returns-clause-opens : goal.returns-clause-opens
 returns-clause-opens g c =
@@ -175,7 +175,7 @@ returns-clause-judged g c = λ yes.
     let shown = c.in_ok-shown.shown in
     let fits = c.in_ok-shown.ensures.of_graph in
     is_judged c.args.claim graph shown fits (sized_for _ _ _ c.profile.ensures c.in_ok-graph.ensures.sized) c.in_ok-graph.ensures.built
-    (vanishing_does graph c.args.claim (premises_of shown) c.in_ok-graph.ensures.built.well_formed (shape_for c.args.claim.add graph (sized_for _ _ _ c.profile.ensures c.in_ok-graph.ensures.sized)) (shown_fits graph shown fits)
+    (vanishing_does graph c.args.claim (premises_of shown) c.in_ok-graph.ensures.built.well_formed (shape_for c.args.claim.widths graph (sized_for _ _ _ c.profile.ensures c.in_ok-graph.ensures.sized)) (shown_fits graph shown fits)
     (subst (λ (x : Aig). Always shown.extended.gates (λ σ. specification shown.extended (sides_for c.args.claim x) σ ≡ 0)) (graph_is graph (premises_of shown) (shown_fits graph shown fits)) c.in_ok-closed.ensures.vanishes))
     (c.in_ok-shown.ensures.shown yes) (c.in_ok-shown.ensures.chains yes) c.in_ok-shown.ensures.of_graph.earlier c.in_ok-closed.closed (c.in_ok-closed.ensures.recorded yes)
     (c.parts_of-header.result.0) (c.parts_of-header.result.1) c.parts_of-header.ensures.header c.parts_of-header.ensures.recorded c.parts_of-header.result.2

@@ -22,7 +22,7 @@ returns c =
     let lines = c.in_ok-clauses.ensures.lines in
     let parts = c.into_parts-terms.ensures in
     let made = c.into_parts-terms.result in
-    let sized = subst (λ (k : Claim). IsSizedAs (profile_of k.add) g) c.requires.job.claim c.requires.job.sized in
+    let sized = subst (λ (k : Claim). IsSizedAs (profile_of k.widths) g) c.requires.job.claim c.requires.job.sized in
     let shown = shown_clauses g task s sized c.requires.job.well_formed c.requires.job.version c.requires.shown c.in_ok-clauses.ensures.once in
     let clauses = subst (λ (k : Header). AreClausesOver g task cut (any_file_text k c.in_ok-clauses.clauses.items)) (sym head)
     (subst (λ (ls : List ClauseLine). AreClausesOver g task cut (any_file_text (header_of g task.version cut) ls)) (sym lines) shown) in (

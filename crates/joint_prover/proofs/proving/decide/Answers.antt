@@ -1,23 +1,22 @@
-use Rattle.std.proofs.Common.{ap, refl, sym, subst}
+use Rattle.std.proofs.Common.{ap, refl, sym, subst, ◌∙◌}
 use Rattle.graph_core.specs.Aiger.Sizes.{IsSizedAs}
-use Rattle.graph_core.specs.Graph.Operands.{AreOperandsOf, HasShapeFor, Sides, profile_of}
-use Rattle.graph_core.proofs.OfAiger.CallerLemmas.{shape_for}
+use Rattle.graph_core.specs.Graph.Operands.{AreOperandsOf, HasShapeFor, Sides, has_addend, profile_of}
+use Rattle.graph_core.proofs.OfAiger.CallerLemmas.{narrow_for, shape_for}
 use Rattle.joint_prover.specs.Decisions.{IsDecision}
 use Rattle.joint_prover.specs.Endings.{cut_named}
 use Rattle.joint_prover.specs.Notes.{IsNote, cut_of, note_of}
 use Rattle.joint_prover.proofs.Noting.{cut_of_note, note_is}
-use Rattle.joint_prover.proofs.Sizes.{few_bits}
 use Rattle.joint_prover.proofs.proving.decide.Goals as goal
 
 pub under-requires-clause-shape : goal.under-requires-clause-shape
-under-requires-clause-shape c = shape_for c.args.task.now.claim.add c.args.graph.now c.requires.sized
+under-requires-clause-shape c = shape_for c.args.task.now.claim.widths c.args.graph.now c.requires.sized
 
 pub under-requires-clause-narrow : goal.under-requires-clause-narrow
-under-requires-clause-narrow c = few_bits c.args.task.now.claim.add c.args.graph.now c.requires.sized
+under-requires-clause-narrow c = narrow_for c.args.task.now.claim.widths c.args.graph.now c.requires.sized
 
 pub rewrite-requires-clause-shape : goal.rewrite-requires-clause-shape
 rewrite-requires-clause-shape c =
-    subst (λ (s : Sides). HasShapeFor s.claim.add c.args.graph.now) (sym c.in_ok-operands.ensures) (shape_for c.args.task.now.claim.add c.args.graph.now c.requires.sized)
+    subst (λ (s : Sides). HasShapeFor s.claim.widths c.args.graph.now) (sym c.in_ok-operands.ensures) (shape_for c.args.task.now.claim.widths c.args.graph.now c.requires.sized)
 
 pub rewrite-requires-clause-operands : goal.rewrite-requires-clause-operands
 rewrite-requires-clause-operands c = subst (AreOperandsOf c.args.graph.now) (sym c.in_ok-operands.ensures) refl
@@ -31,7 +30,7 @@ decide_by_plans-requires c =
     let well = c.max-max.ensures.built.well_formed in
     record {
       operands = subst (AreOperandsOf graph) is refl;
-      sized = subst (λ (s : Sides). IsSizedAs (profile_of s.claim.add) graph) is c.requires.sized;
+      sized = subst (λ (s : Sides). IsSizedAs (profile_of s.claim.widths) graph) is c.requires.sized;
       claim = ap (λ (s : Sides). s.claim) c.in_ok-operands.ensures;
       well_formed = well;
       version = c.requires.version;
@@ -48,8 +47,8 @@ returns-clause-decision c =
     let d = c.in_ok-decision.decision in
     let r = c.in_ok-rewritten.rewritten in
     let found = c.in_ok-decision.found in
-    subst (λ n. IsDecision graph task (cut_of n) d) {x = note_of task.claim.add r found} (sym c.make_note.ensures)
-    (subst (λ cut. IsDecision graph task cut d) (cut_of_note task.claim.add r (cut_named c.used.result) found c.used.ensures.named) c.in_ok-decision.ensures.decision)
+    subst (λ n. IsDecision graph task (cut_of n) d) {x = note_of (has_addend task.claim.widths) r found} (sym (c.make_note.ensures ∙ ap (λ add. note_of add r found) c.has_addend.ensures))
+    (subst (λ cut. IsDecision graph task cut d) (cut_of_note (has_addend task.claim.widths) r (cut_named c.used.result) found c.used.ensures.named) c.in_ok-decision.ensures.decision)
 
 pub returns-clause-note : goal.returns-clause-note
 returns-clause-note c =
@@ -58,6 +57,6 @@ returns-clause-note c =
     let s = c.in_ok-operands.operands in
     let r = c.in_ok-rewritten.rewritten in
     let found = c.in_ok-decision.found in
-    subst (IsNote graph task.claim task.conflicts) {x = note_of task.claim.add r found} (sym c.make_note.ensures)
-    (subst (λ (t : Sides). IsNote graph t.claim task.conflicts (note_of t.claim.add r found)) c.in_ok-operands.ensures
-    (note_is graph s task.conflicts r found (subst (AreOperandsOf graph) (sym c.in_ok-operands.ensures) refl) c.in_ok-rewritten.ensures.rewriting c.in_ok-rewritten.ensures.agrees c.in_ok-decision.ensures.found))
+    subst (IsNote graph task.claim task.conflicts) {x = note_of (has_addend task.claim.widths) r found} (sym (c.make_note.ensures ∙ ap (λ add. note_of add r found) c.has_addend.ensures))
+    (subst (λ (t : Sides). IsNote graph t.claim task.conflicts (note_of (has_addend t.claim.widths) r found)) c.in_ok-operands.ensures
+    (note_is graph s task.conflicts r found (rewrite-requires-clause-shape c) (subst (AreOperandsOf graph) (sym c.in_ok-operands.ensures) refl) c.in_ok-rewritten.ensures.rewriting c.in_ok-rewritten.ensures.agrees c.in_ok-decision.ensures.found))

@@ -13,7 +13,7 @@ use Rattle.joint_prover.proofs.reduction.start_lines.Goals as goal
 pub new-requires : goal.new-requires
 new-requires c =
     let job = c.args.job.now in
-    let add = job.operands.now.claim.add in
+    let add = job.operands.now.claim.widths in
     let s = c.args.shown in
     let g = s.extended.now.graph in
     let same = ap (λ (x : Extended). x.graph) c.requires.shown.extended ∙ graph_by job.graph.now (cut_named s) in

@@ -59,12 +59,12 @@ number_in-requires-clause-in_range c k d h =
 
 pub number_in-requires-clause-narrow : goal.number_in-requires-clause-narrow
 number_in-requires-clause-narrow c =
-    let few = outputs_few c.args.graph.now c.args.operands.now c.requires.shape c.requires.operands c.bits-bits.ensures.sides in
+    let few = outputs_few c.args.graph.now c.args.operands.now c.requires.shape c.requires.operands c.a_width-a_width.ensures.sides in
     let same = ap length c.output_literals-outputs.ensures.value in
     omega arith
 
 pub claimed_value-requires : goal.claimed_value-requires
 claimed_value-requires c =
-    let few = outputs_few c.args.graph.now c.args.operands.now c.requires.shape c.requires.operands c.bits-bits.ensures.sides in
+    let few = outputs_few c.args.graph.now c.args.operands.now c.requires.shape c.requires.operands c.a_width-a_width.ensures.sides in
     let same = c.outputs.ensures.value in
     omega arith

@@ -26,7 +26,7 @@ returns-in_err-choose-clause-opens g c =
     let before = g.D.Desk.seen c.args.desk.now in
     let same = err_from_is_err_and c.from_residual-in_err-choose.result c.from_residual-in_err-choose.ensures.1 in
     rw (same.1, same.2)
-    (needed_without_memory (profile_of c.args.claim.add) c.args.limits.now (texts_of before (files_of c.args.names.now)) before (g.D.Desk.seen c.judge_pair.new.desk) c.in_ok-judged.ensures.opens)
+    (needed_without_memory (profile_of c.args.claim.widths) c.args.limits.now (texts_of before (files_of c.args.names.now)) before (g.D.Desk.seen c.judge_pair.new.desk) c.in_ok-judged.ensures.opens)
 
 pub returns-in_err-choose-clause-opened : goal.returns-in_err-choose-clause-opened
 returns-in_err-choose-clause-opened g c =

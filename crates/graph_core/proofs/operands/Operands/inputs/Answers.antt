@@ -5,9 +5,10 @@ use Rattle.graph_core.proofs.operands.Operands.inputs.Goals as goal
 
 pub returns-clause-value : goal.returns-clause-value
 returns-clause-value c =
-    let value = c.bits.ensures.value in
+    let a = c.a_width.ensures.value in
+    let b = c.b_width.ensures.value in
     let addend = ap length c.c_literals.ensures.value in
-    omega (arith, length-inputs_in c.args.self.now c.bits.ensures.sides)
+    omega (arith, length-inputs_in c.args.self.now)
 
 pub returns-clause-literals : goal.returns-clause-literals
 returns-clause-literals c =
@@ -16,8 +17,10 @@ returns-clause-literals c =
 
 pub returns-clause-few : goal.returns-clause-few
 returns-clause-few c =
-    let value = c.bits.ensures.value in
+    let a = c.a_width.ensures.value in
+    let b = c.b_width.ensures.value in
     let addend = ap length c.c_literals.ensures.value in
-    let narrow = c.bits.ensures.sides.narrow in
-    let wide = c.bits.ensures.sides.addend in
+    let narrow_a = c.a_width.ensures.sides.narrow_a in
+    let narrow_b = c.a_width.ensures.sides.narrow_b in
+    let wide = c.a_width.ensures.sides.addend in
     omega arith

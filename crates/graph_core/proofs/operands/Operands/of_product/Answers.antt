@@ -10,7 +10,12 @@ invariant_of-result c =
     let a_size = ap length c.in_ok-a.ensures.a ∙ length-a_part c.args.order n c.input_literals.result.now even in
     let b_size = ap length c.in_ok-a.ensures.b ∙ length-b_part c.args.order n c.input_literals.result.now even in
     let narrow = c.requires.narrow in
-    record { equal = a_size ∙ sym b_size; narrow = omega (arith, ap length c.input_literals.ensures.value); addend = omega (arith, ap length c.new-c.ensures.items) }
+    record {
+      even = λ e. a_size ∙ sym b_size;
+      narrow_a = omega (arith, ap length c.input_literals.ensures.value);
+      narrow_b = omega (arith, ap length c.input_literals.ensures.value);
+      addend = omega (arith, ap length c.new-c.ensures.items);
+    }
 
 pub returns : goal.returns
 returns c =

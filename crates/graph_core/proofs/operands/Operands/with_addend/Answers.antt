@@ -18,7 +18,8 @@ invariant_of-result c =
     let rest = c.in_ok-extend_from_slice.ensures.len in
     let none = c.new-c.ensures.len in
     record {
-      equal = a_size ∙ sym b_size;
-      narrow = omega arith;
+      even = λ e. a_size ∙ sym b_size;
+      narrow_a = omega arith;
+      narrow_b = omega arith;
       addend = omega (arith, ap length c.in_ok-extend_from_slice.ensures.items, ap length c.new-c.ensures.items, length-append c.new-c.result.items c.split_at.result.1.now);
     }
