@@ -30,6 +30,7 @@ mod coefficients;
 mod evaluation;
 mod indexed;
 mod monomial;
+mod multiple_sum;
 mod multiplication;
 mod numbering;
 mod parts;
