@@ -29,6 +29,7 @@ mod coefficient;
 mod coefficients;
 mod evaluation;
 mod indexed;
+mod key;
 mod monomial;
 mod multiple_sum;
 mod multiplication;

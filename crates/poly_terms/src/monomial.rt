@@ -80,21 +80,6 @@ pub(crate) fn copy(alloc: Global, variables: &[u32]) -> Result<Monomial, AllocEr
     Ok(out)
 }
 
-/// Whether two monomials are the same. Nearly all are so short that a call of std's comparison costs more.
-pub(crate) fn are_same(left: &[u32], right: &[u32]) -> bool
-    ensures { IsTrue result → left.now ≡ right.now }
-{
-    if left.len() != right.len() {
-        return false;
-    }
-    for i in 0..left.len() {
-        if left[i] != right[i] {
-            return false;
-        }
-    }
-    true
-}
-
 pub(crate) fn has_variable(variables: &[u32], v: u32) -> bool
     ensures { result ≡ has_variable v variables.now }
 {
