@@ -8,13 +8,14 @@ use Rattle.graph_core.specs.Graph.Assignments.{Assignment, variable, bit, litera
 use Rattle.graph_core.specs.Graph.{Aig}
 use Rattle.graph_core.specs.Graph.Extended.{without_cut, modulus as modulus_of}
 use Rattle.graph_core.specs.Graph.Operands.{Sides, claimed, operand_word}
-use Rattle.algebra_core.specs.Polynomials.{Polynomial, value, difference}
+use Rattle.algebra_core.specs.AlgebraLines.{gate_axiom}
+use Rattle.algebra_core.specs.Polynomials.{Polynomial, sum_of, value, difference}
 use Rattle.frontier_core.specs.Substitution.{gate_value}
 use Rattle.graph_core.proofs.OfGraphs.CallerLemmas.{plus_word_is, product_same}
 use Rattle.poly_terms.specs.Tables.{Table, Sum, modulus_in, value_in, IsOf, Extends}
 use Rattle.poly_terms.specs.Laws.{modulus_stays, value_stays, extends_on}
-use Rattle.gate_axioms.specs.Axioms.{IsGateAxiom, IsLiteralDifference, HasSpecificationValue}
-use Rattle.gate_axioms.specs.Form.{AddsNumber, HasPolyValue}
+use Rattle.gate_axioms.specs.Axioms.{HasSpecificationValue}
+use Rattle.gate_axioms.specs.Form.{AddsNumber, HasFormValue, HasPolyValue}
 use Rattle.gate_axioms.proofs.Opposites.{opposite_difference, sum_with_product_same}
 
 -- A form with this value at each assignment, modulo a number.
@@ -72,18 +73,32 @@ difference_from : (old new : Table) (p : Sum) (o x y : ℕ) (f : Assignment → 
 difference_from old new p o x y f σ grown opposite has is =
     has.value σ ∙ opposite_difference (modulus_in new) x y (f σ) o (pow_pos new.exponent) (ap (λ m. (o + 1) % m) (modulus_stays old new grown) ∙ opposite) (ap (λ n. n % modulus_in new) is)
 
-pub literals_have : (old new : Table) (p : Sum) (n o : ℕ) (left right : Lit) → Extends old new → n ≡ 1 → (o + 1) % modulus_in old ≡ 0 →
-    HasPolyValue new p (λ σ. n * bit (literal σ left) + o * bit (literal σ right)) → IsLiteralDifference new p left right
-literals_have old new p n o left right grown one opposite has σ =
-    difference_from old new p o (bit (literal σ left)) (bit (literal σ right)) _ σ grown opposite has (ap (λ k. k * bit (literal σ left) + o * bit (literal σ right)) one ∙ omega arith)
+-- and a form's
+form_difference : (t : Table) (form : Polynomial) (o x y : ℕ) (f : Assignment → ℕ) (σ : Assignment) → (o + 1) % modulus_in t ≡ 0 → FormHas (modulus_in t) form f → f σ ≡ x + o * y → value (modulus_in t) form σ ≡ difference (modulus_in t) x y
+form_difference t form o x y f σ opposite has is =
+    let m = modulus_in t in
+    sym (mod-mod (sum_of m form σ) m) ∙ has.value σ ∙ opposite_difference m x y (f σ) o (pow_pos t.exponent) opposite (ap (λ n. n % m) is)
 
-pub gate_has : (old new : Table) (p : Sum) (gate : Gate) (o n : ℕ) → Extends old new → (o + 1) % modulus_in old ≡ 0 → n ≡ 1 →
-    HasPolyValue new p (λ σ. o * bit (variable σ gate.v) + n * (bit (literal σ gate.left) * bit (literal σ gate.right))) → IsGateAxiom new p gate
-gate_has old new p gate o n grown opposite one has σ =
+pub literals_have : (t : Table) (form : Polynomial) (n o : ℕ) (left right : Lit) → n ≡ 1 → (o + 1) % modulus_in t ≡ 0 → FormHas (modulus_in t) form (λ σ. n * bit (literal σ left) + o * bit (literal σ right)) →
+    HasFormValue (modulus_in t) form (λ σ. difference (modulus_in t) (bit (literal σ left)) (bit (literal σ right)))
+literals_have t form n o left right one opposite has σ =
+    form_difference t form o (bit (literal σ left)) (bit (literal σ right)) _ σ opposite has (ap (λ k. k * bit (literal σ left) + o * bit (literal σ right)) one ∙ omega arith)
+
+pub gate_has : (t : Table) (form : Polynomial) (gate : Gate) (o n : ℕ) → (o + 1) % modulus_in t ≡ 0 → n ≡ 1 →
+    FormHas (modulus_in t) form (λ σ. o * bit (variable σ gate.v) + n * (bit (literal σ gate.left) * bit (literal σ gate.right))) → HasFormValue (modulus_in t) form (gate_axiom (modulus_in t) gate).value
+gate_has t form gate o n opposite one has σ =
     let l = bit (literal σ gate.left) in
     let r = bit (literal σ gate.right) in
     let v = bit (variable σ gate.v) in
-    difference_from old new p o (l * r) v _ σ grown opposite has (ap (λ j. o * v + j * (l * r)) one ∙ omega arith)
+    form_difference t form o (l * r) v _ σ opposite has (ap (λ j. o * v + j * (l * r)) one ∙ omega arith)
+
+-- the polynomial of a form has its value
+pub made_has : (old new : Table) (p : Sum) (form : Polynomial) (f : ℕ → Assignment → ℕ) → Extends old new → HasPolyValue new p (value (modulus_in old) form) → HasFormValue (modulus_in old) form (f (modulus_in old)) →
+    (σ : Assignment) → value_in new p σ ≡ f (modulus_in new) σ
+made_has old new p form f grown has is σ =
+    let m = modulus_in old in
+    let same : modulus_in new ≡ m = modulus_stays old new grown in
+    has.value σ ∙ ap (λ k. value m form σ % k) same ∙ mod-mod (sum_of m form σ) m ∙ is σ ∙ ap (λ k. f k σ) (sym same)
 
 -- a number times the product of a gate's operands
 pub times_has : (t : Table) (form : Polynomial) (gate : Gate) (n x : ℕ) (σ : Assignment) → n ≡ 1 →

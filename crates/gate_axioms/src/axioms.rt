@@ -6,11 +6,12 @@ ghost use Rattle.frontier_core.specs.Columns.{column_value};
 ghost use Rattle.frontier_core.specs.Substitution.{gate_value};
 ghost use Rattle.graph_core.specs.declared.literal.Lit.{Lit};
 ghost use Rattle.graph_core.specs.Graph.Extended.{modulus as modulus_of, without_cut};
-ghost use Rattle.graph_core.specs.Graph.Assignments.{Assignment};
-ghost use Rattle.algebra_core.specs.Polynomials.{value};
+ghost use Rattle.graph_core.specs.Graph.Assignments.{Assignment, bit, literal};
+ghost use Rattle.algebra_core.specs.AlgebraLines.{gate_axiom};
+ghost use Rattle.algebra_core.specs.Polynomials.{difference, value};
 ghost use Rattle.poly_terms.specs.Tables.{IsOf, Extends, modulus_in, value_in};
 ghost use Rattle.ripple_graft.specs.Extension.{new_outputs};
-ghost use Rattle.gate_axioms.specs.Form.{HasPolyValue};
+ghost use Rattle.gate_axioms.specs.Form.{HasFormValue, HasPolyValue};
 ghost use Rattle.gate_axioms.specs.Axioms.{HasSpecificationValue, IsGateAxiom, IsLiteralDifference};
 
 use crate::form::Form;
@@ -32,12 +33,21 @@ pub fn gate_poly(alloc: Global, terms: &mut Terms, gate: &Gate) -> Result<Poly, 
     ensures of { IfOk result (λ p. IsOf terms.new p) }
     ensures value { IfOk result (λ p. IsGateAxiom terms.new p gate.now) }
 {
+    let form = gate_form(alloc, terms, gate)?;
+    let poly = form.poly_in(terms)?;
+    Ok(poly)
+}
+
+/// The same as a form.
+pub(crate) fn gate_form(alloc: Global, terms: &Terms, gate: &Gate) -> Result<Form, Memory>
+    ensures { IfOk result (λ form. HasFormValue (modulus_in terms.now) form
+        (gate_axiom (modulus_in terms.now) gate.now).value) }
+{
     let mut form = Form::with_room(alloc, MAX_AXIOM_PARTS)?;
     // The gate's variable is most often new to the table, so it comes last: then nothing has to be sorted.
     form.add_product(one(terms), gate.left, gate.right)?;
     form.add_variable(minus_one(terms), gate.v)?;
-    let poly = form.poly_in(terms)?;
-    Ok(poly)
+    Ok(form)
 }
 
 /// A polynomial times the product of a gate's operands.
@@ -65,11 +75,25 @@ pub fn equal_poly(alloc: Global, terms: &mut Terms, left: Lit, right: Lit) -> Re
     ensures of { IfOk result (λ p. IsOf terms.new p) }
     ensures value { IfOk result (λ p. IsLiteralDifference terms.new p left right) }
 {
+    let form = equal_form(alloc, terms, left, right)?;
+    let poly = form.poly_in(terms)?;
+    Ok(poly)
+}
+
+/// The same as a form.
+pub(crate) fn equal_form(
+    alloc: Global,
+    terms: &Terms,
+    left: Lit,
+    right: Lit,
+) -> Result<Form, Memory>
+    ensures { IfOk result (λ form. HasFormValue (modulus_in terms.now) form
+        (λ σ. difference (modulus_in terms.now) (bit (literal σ left)) (bit (literal σ right)))) }
+{
     let mut form = Form::new(alloc);
     form.add_literal(one(terms), left)?;
     form.add_literal(minus_one(terms), right)?;
-    let poly = form.poly_in(terms)?;
-    Ok(poly)
+    Ok(form)
 }
 
 /// The specification of a multiplier: the sum of 2^k times output k, minus the product of the operands and the addend,

@@ -1,17 +1,20 @@
 // The axioms of an extended graph that weren't deleted. None is kept: each is found by its id where it is used.
-ghost use Rattle.std.specs.Prelude.{◌≡◌, ◌+◌, ◌<◌, ◌≤◌, [], IfOk, OnErr, OnOk, length};
+ghost use Rattle.std.specs.Prelude.{◌≡◌, ◌+◌, ◌*◌, ◌%◌, ◌<◌, ◌≤◌, [], IfOk, OnErr, OnOk, length};
 ghost use Rattle.algebra_core.specs.AlgebraLines.{axioms, line_of};
 ghost use Rattle.algebra_core.specs.Agreement.{AreSame};
+ghost use Rattle.graph_core.specs.Graph.Assignments.{Assignment};
 ghost use Rattle.graph_core.specs.Graph.Extended as graphs;
-ghost use Rattle.poly_terms.specs.Tables.{Extends, IsOf};
+ghost use Rattle.poly_terms.specs.Tables.{Extends, IsOf, modulus_in, value_in};
 ghost use Rattle.ripple_graft.specs.Extension.{IsExtension};
-ghost use Rattle.gate_axioms.specs.LeftAxioms.{Deletes, HasAxiomValue, axiom_line, left_lines};
+ghost use Rattle.gate_axioms.specs.Form.{HasFormValue};
+ghost use Rattle.gate_axioms.specs.LeftAxioms.{Deletes, HasAxiomValue, axiom_line, axiom_value, left_lines};
 ghost use Rattle.gate_axioms.specs.ReplacedColumns.{column_by, replaced_column};
 
-use crate::{equal_poly, gate_poly};
+use crate::axioms::{equal_form, equal_poly, gate_form, gate_poly};
+use crate::form::Form;
 use graph_core::{Gate, Lit, Memory};
 use indexmap::IndexSet;
-use poly_terms::{Poly, Terms};
+use poly_terms::{Poly, PolySum, Terms};
 use ripple_graft::Extended;
 use std::alloc::Global;
 use std::marker::Model;
@@ -35,6 +38,37 @@ impl Axiom {
         match self {
             Axiom::Gate(gate) => gate_poly(alloc, terms, gate),
             Axiom::Column(old, new) => equal_poly(alloc, terms, *old, *new),
+        }
+    }
+
+    /// Adds it times a polynomial to a sum, with no polynomial of its own.
+    pub fn add_times(
+        &self,
+        alloc: Global,
+        terms: &mut Terms,
+        sum: &mut PolySum,
+        factor: &Poly,
+    ) -> Result<(), Memory>
+        requires sum { IsOf terms.old sum.old }
+        requires factor { IsOf terms.old factor.now }
+        ensures extends { Extends terms.old terms.new }
+        ensures of { OnOk result (IsOf terms.new sum.new) }
+        ensures value { OnOk result ((σ : Assignment) → value_in terms.new sum.new σ ≡
+            (value_in terms.old sum.old σ + axiom_value (modulus_in terms.old) self.now σ * value_in terms.old factor.now σ)
+            % modulus_in terms.old) }
+    {
+        let form = self.form(alloc, terms)?;
+        form.add_times(terms, sum, factor)
+    }
+
+    // Its parts.
+    fn form(&self, alloc: Global, terms: &Terms) -> Result<Form, Memory>
+        ensures { IfOk result (λ form. HasFormValue (modulus_in terms.now) form
+            (axiom_value (modulus_in terms.now) self.now)) }
+    {
+        match self {
+            Axiom::Gate(gate) => gate_form(alloc, terms, gate),
+            Axiom::Column(old, new) => equal_form(alloc, terms, *old, *new),
         }
     }
 }

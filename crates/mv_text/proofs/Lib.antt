@@ -2,6 +2,7 @@ pub mod Ahead
 pub mod LineLengths
 pub mod CertificateSteps
 pub mod CertificateAnswers
+pub mod DigitSteps
 pub mod NumberSteps
 pub mod Gathering
 pub mod Putting

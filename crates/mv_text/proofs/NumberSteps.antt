@@ -1,5 +1,5 @@
 -- Digits that were taken are a number of the text.
-use Rattle.std.proofs.Common.{◌≡◌, ◌<◌, ◌≤◌, ◌↔◌, ◌^◌, ◌&&◌, ℕ, Bool, true, false, List, [], ◌∷◌, All, None, Some, Err, Any, length, subst, sym, ap, ap₂, ◌∙◌, cond, lt-ltb, le-leb, arith, refl}
+use Rattle.std.proofs.Common.{◌≡◌, ◌<◌, ◌≤◌, ◌↔◌, ◌^◌, ◌&&◌, ℕ, Bool, true, false, List, [], ◌∷◌, All, None, Some, Err, Any, length, take, drop, subst, sym, ap, ap₂, ◌∙◌, cond, lt-ltb, le-leb, arith, refl}
 use Rattle.std.specs.declared.result.Result.{Result}
 use Rattle.std.specs.List.{AllByRecursion}
 use Rattle.std.proofs.lemmas.List.Elements.{All-from_recursion}
@@ -9,7 +9,9 @@ use Rattle.graph_core.proofs.OfTexts.CallerLemmas.{digit_is}
 use Rattle.mv_nums.specs.Numeral.{IsDigit, SpellsAtLeast}
 use Rattle.mv_nums.specs.declared.number_fault.NumberFault.{NumberFault}
 use Rattle.mv_nums.specs.declared.number_fault.NumberFault.TheVariants as fault
+use Rattle.mv_text.specs.NumbersAhead.{IsNumberAhead}
 use Rattle.mv_text.specs.Steps.{IsDigitsOf, Takes}
+use Rattle.mv_text.proofs.DigitSteps.{more_allowed}
 
 pub taken_number : (most : ℕ) (old digits new : List ℕ) → IsDigitsOf most old digits new → number_at most old ≡ Some (decimal digits, new)
 taken_number most old digits new h =
@@ -41,3 +43,8 @@ too_great most old digits new r fault.Digit h e empty digit big =
     absurd (all_digits digits (subst (All IsDigit) (sym h.digits_are) (All-from_recursion IsDigit (digits_of old) (are_digits old))) (digit.0 e))
 too_great most old digits new r fault.TooBig h e empty digit big =
     record { read = decimal digits; taken = taken_number most old digits new h; gives = λ small. let least : 2 ^ 128 ≤ decimal digits = (big.0 e).at_least in absurd (omega arith) }
+
+-- digits that were read as they were counted are a number of the text
+pub taken_ahead : (few most : ℕ) (old : List ℕ) (number count : ℕ) → few ≤ most → IsNumberAhead few old number count → number_at most old ≡ Some (number, drop count old)
+taken_ahead few most old number count less ahead =
+    taken_number most old (take count old) (drop count old) (more_allowed few most old (take count old) (drop count old) less ahead.digits) ∙ ap (λ n. Some (n, drop count old)) (sym ahead.spelled)

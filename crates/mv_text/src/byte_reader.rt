@@ -6,6 +6,7 @@ ghost use Rattle.mv_desk.specs.Calls.{HasReadCause, Reads};
 ghost use Rattle.mv_text.specs.LineReading.{known_from};
 
 use crate::room::ROOM;
+use memchr::memchr;
 use mv_desk::{Desk, Failed, Slot};
 use std::marker::Model;
 
@@ -48,8 +49,7 @@ impl ByteReader {
         let ahead = &self.buffer[self.start..self.end];
         let count = (ahead.len() as u64).min(most) as usize;
         let front = &ahead[..count];
-        let end = front.iter().position(|byte| *byte == b'\n');
-        &front[..end.unwrap_or(count)]
+        &front[..line_end(front)]
     }
 
     /// Takes so many bytes of those ahead.
@@ -119,5 +119,16 @@ impl ByteReader {
         let byte = self.buffer[self.start];
         self.start += 1;
         byte
+    }
+}
+
+// Where the first line feed is, or else the end.
+fn line_end(bytes: &[u8]) -> usize
+    ensures within { result ≤ length bytes.now }
+    ensures plain { All (λ b. b ≢ newline) (take result bytes.now) }
+{
+    match memchr(b'\n', bytes) {
+        Some(end) => end,
+        None => bytes.len(),
     }
 }

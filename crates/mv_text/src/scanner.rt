@@ -1,11 +1,15 @@
 // What is taken from the front of a line.
-ghost use Rattle.std.specs.Prelude.{◌≡◌, ◌≢◌, ◌<◌, ◌≤◌, ◌^◌, ◌↔◌, ◌==◌, [], IsTrue, IfOk, OnOk, IfErr, Some, None, Err, length, ok_or, take, drop};
+ghost use Rattle.std.specs.Prelude.{◌≡◌, ◌≢◌, ◌<◌, ◌≤◌, ◌^◌, ◌↔◌, ◌==◌, [], IsTrue, IfOk, OnOk, IfErr, IfSome, IfNone, Some, None, Err, length, ok_or, take, drop};
 ghost use Rattle.graph_core.specs.Text.Numerals.{number_at, behind_byte, front_at, digits_of, behind_digits, is_digit};
+ghost use Rattle.mv_text.specs.NumbersAhead.{IsNumberAhead};
 ghost use Rattle.mv_text.specs.Steps.{IsDigitsOf, IsMisfit, TakesNumber, first_byte, begins};
 
 use crate::line_fail::LineFail;
 use mv_nums::read_decimal;
 use std::marker::Model;
+
+// A number of so many digits is below 10^19, and so below 2^64.
+const SHORT: usize = 19;
 
 /// The bytes of a line that are still to be read.
 #[derive(Drop)]
@@ -74,10 +78,30 @@ impl<'a> Scanner<'a> {
             (TakesNumber (number_at most) (λ n. n < 2 ^ 128) self.old self.new) }
         ensures err { IfErr result (IsMisfit (number_at most self.old ≡ None)) }
     {
+        // Nearly all are short.
+        if let Some((number, count)) = number_ahead(self.left, most.min(SHORT)) {
+            self.left = &self.left[count..];
+            return Ok(Some(u128::from(number)));
+        }
         let digits = self.digits(most)?;
         match read_decimal(digits) {
             Ok(number) => Ok(Some(number)),
             Err(_) => Ok(None),
+        }
+    }
+
+    /// Takes a number of at most so many digits, of which there may be 19.
+    pub fn small(&mut self, most: usize) -> Result<u64, LineFail>
+        requires { most ≤ 19 }
+        ensures ok { IfOk result (λ n. number_at most self.old ≡ Some (n, self.new)) }
+        ensures err { IfErr result (IsMisfit (number_at most self.old ≡ None)) }
+    {
+        match number_ahead(self.left, most) {
+            Some((number, count)) => {
+                self.left = &self.left[count..];
+                Ok(number)
+            }
+            None => Err(LineFail::Text),
         }
     }
 
@@ -119,6 +143,28 @@ impl<'a> Scanner<'a> {
         self.left = left;
         Ok(digits)
     }
+}
+
+// The number of the digits at the front, and how many there are: at least one and at most so many, or there is none.
+// Each byte is looked at once.
+fn number_ahead(bytes: &[u8], most: usize) -> Option<(u64, usize)>
+    requires { most ≤ 19 }
+    ensures some { IfSome result (λ r. IsNumberAhead most bytes.now r.0 r.1) }
+    ensures none { IfNone result (number_at most bytes.now ≡ None) }
+{
+    let mut number: u64 = 0;
+    let mut count: usize = 0;
+    while count < bytes.len() && bytes[count].is_ascii_digit() {
+        if count == most {
+            return None;
+        }
+        number = 10 * number + u64::from(bytes[count] - b'0');
+        count += 1;
+    }
+    if count == 0 {
+        return None;
+    }
+    Some((number, count))
 }
 
 // How many digits there are at the front.

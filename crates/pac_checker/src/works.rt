@@ -57,8 +57,7 @@ impl<'a> Grow<Poly> for AddAxiom<'a> {
         (λ σ. axiom_value (modulus_in table) work.given.now σ * value_in table work.factor.now σ)) };
 
     fn grow(&mut self, sum: &mut PolySum, table: &mut Terms) -> Result<(), Memory> {
-        let poly = self.given.poly(self.alloc, table)?;
-        table.add_product(sum, &poly, self.factor)
+        self.given.add_times(self.alloc, table, sum, self.factor)
     }
 }
 

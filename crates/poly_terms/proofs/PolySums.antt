@@ -5,7 +5,7 @@ use Rattle.std.proofs.lemmas.List.{take_more}
 use Rattle.std.proofs.lemmas.Nat.{pow_pos}
 use Rattle.std.specs.List.{AllByRecursion}
 use Rattle.graph_core.specs.Graph.Assignments.{Assignment}
-use Rattle.algebra_core.specs.Polynomials.{product}
+use Rattle.algebra_core.specs.Polynomials.{Polynomial, product, sum_of, value}
 use Rattle.graph_core.proofs.OfGraphs.CallerLemmas.{all_split}
 use Rattle.poly_terms.specs.Entries.{Entry, IsSortedSum, Sum, total}
 use Rattle.poly_terms.specs.Indexed.{IsLonger, terms_from}
@@ -14,7 +14,7 @@ use Rattle.poly_terms.specs.PolySums.{AreListed, AreTaken, Gains, IsAdded, IsLes
 use Rattle.poly_terms.specs.Tables.{IsOf, Table, modulus_in, table_of, value_in}
 use Rattle.poly_terms.proofs.Gathering.{all_joined, total-append}
 use Rattle.poly_terms.proofs.Indexing.{put_cases, sum-value, table_once}
-use Rattle.poly_terms.proofs.Made.{made-IsOf, numbers_in, product-values}
+use Rattle.poly_terms.proofs.Made.{made-IsOf, multiple-values, numbers_in, product-values}
 use Rattle.poly_terms.proofs.Residues.{factor_reduced, left_out, plus_same}
 use Rattle.poly_terms.proofs.Sparse.{after-terms, all_terms, any_default, each_term, total-put}
 use Rattle.poly_terms.proofs.Values.{value-total}
@@ -165,15 +165,25 @@ gained-of w old new cs cs' n g gains of =
 pub product_gained-of : (w : ℕ) (old new : List (List ℕ)) (t : Table) (x y : Sum) → table_of w old ≡ t → (IsOf (table_of w old) x → IsOf (table_of w new) y) → IsOf t x → IsOf (table_of w new) y
 product_gained-of w old new t x y e keeps of = keeps (subst (λ u. IsOf u x) (sym e) of)
 
-pub product_gained-value : (w : ℕ) (old new : List (List ℕ)) (t : Table) (x y p q p' q' : Sum) (σ : Assignment) → table_of w old ≡ t → p' ≡ p → q' ≡ q → Adds (2 ^ w) old new x y (λ σ. total_in old σ p' * total_in old σ q') → IsOf t x →
-    value_in (table_of w new) y σ ≡ (value_in t x σ + value_in t p σ * value_in t q σ) % modulus_in t
+-- what is seen of a sum that gained a number
+gained-value : (w : ℕ) (old new : List (List ℕ)) (t : Table) (x y : Sum) (n : Assignment → ℕ) (b : ℕ) (σ : Assignment) → table_of w old ≡ t → Adds (2 ^ w) old new x y n → n σ % 2 ^ w ≡ b % modulus_in t → IsOf t x →
+    value_in (table_of w new) y σ ≡ (value_in t x σ + b) % modulus_in t
 unfolding IsOf
-product_gained-value w old new t x y p q p' q' σ e f g adds of =
+gained-value w old new t x y n b σ e adds same of =
     let m = modulus_in t in
     let a = total_in t.monomials σ x in
-    let b = value_in t p σ * value_in t q σ in
     value-total (table_of w new) y σ ∙ adds.sums (subst (λ (u : Table). AreIn u.monomials x) (sym e) of.numbers) σ ∙
-    plus_same (2 ^ w) (total_in old σ x) (total_in old σ p' * total_in old σ q') b
-    (product-values w old t p q p' q' σ e f g ∙ sym (ap (λ (u : Table). b % modulus_in u) e)) ∙
+    plus_same (2 ^ w) (total_in old σ x) (n σ) b (same ∙ sym (ap (λ (u : Table). b % modulus_in u) e)) ∙
     ap (λ (u : Table). (total_in u.monomials σ x + b) % modulus_in u) e ∙
     sym (ap (λ k. (k + b) % m) (value-total t x σ) ∙ mod-add-mod a m b)
+
+pub product_gained-value : (w : ℕ) (old new : List (List ℕ)) (t : Table) (x y p q p' q' : Sum) (σ : Assignment) → table_of w old ≡ t → p' ≡ p → q' ≡ q → Adds (2 ^ w) old new x y (λ σ. total_in old σ p' * total_in old σ q') → IsOf t x →
+    value_in (table_of w new) y σ ≡ (value_in t x σ + value_in t p σ * value_in t q σ) % modulus_in t
+product_gained-value w old new t x y p q p' q' σ e f g adds of =
+    gained-value w old new t x y (λ σ. total_in old σ p' * total_in old σ q') (value_in t p σ * value_in t q σ) σ e adds (product-values w old t p q p' q' σ e f g) of
+
+-- the same of a polynomial times parts
+pub multiple_gained-value : (w : ℕ) (old new : List (List ℕ)) (t : Table) (x y p p' : Sum) (parts : Polynomial) (σ : Assignment) → table_of w old ≡ t → p' ≡ p → Adds (2 ^ w) old new x y (λ σ. total_in old σ p' * sum_of (2 ^ w) parts σ) → IsOf t x →
+    value_in (table_of w new) y σ ≡ (value_in t x σ + value_in t p σ * value (modulus_in t) parts σ) % modulus_in t
+multiple_gained-value w old new t x y p p' parts σ e f adds of =
+    gained-value w old new t x y (λ σ. total_in old σ p' * sum_of (2 ^ w) parts σ) (value_in t p σ * value (modulus_in t) parts σ) σ e adds (multiple-values w old t p p' parts σ e f) of

@@ -3,6 +3,7 @@ ghost use Rattle.std.specs.Prelude.{◌≡◌, ◌<◌, [], IfOk, IsTrue, length
 ghost use Rattle.algebra_core.specs.NormalForm.{AreRising};
 ghost use Rattle.poly_terms.specs.Monomials.{AreMonomials, Grows, Stands, joined, without_variable};
 
+use crate::key::{self, Key};
 use crate::monomial::{self, Monomial};
 use indexmap::IndexSet;
 use std::alloc::{AllocError, Global};
@@ -15,7 +16,7 @@ const MORE_HINTS: usize = 64;
 #[derive(Drop)]
 pub(crate) struct Numbering {
     alloc: Global,
-    monomials: IndexSet<Monomial>,
+    monomials: IndexSet<Key>,
     /// which number a variable alone may have, by the variable, and at 0 the empty monomial
     hints: Vec<u32>,
 }
@@ -26,9 +27,9 @@ impl Model for Numbering {
 
     ghost Value = { List (List ℕ) };
 
-    ghost view = { λ n. map (λ m. m.items) n.monomials.keys };
+    ghost view = { λ n. map (λ k. k.monomial.items) n.monomials.keys };
 
-    ghost invariant = { λ n. AreMonomials (map (λ m. m.items) n.monomials.keys) };
+    ghost invariant = { λ n. AreMonomials (map (λ k. k.monomial.items) n.monomials.keys) };
 }
 
 impl Numbering {
@@ -97,7 +98,7 @@ impl Numbering {
         ensures once { AreMonomials self.new }
         ensures number { IfOk result (λ n. Stands self.new n monomial.items) }
     {
-        let (number, _) = self.monomials.insert_full(monomial)?;
+        let (number, _) = self.monomials.insert_full(Key { monomial })?;
         Ok(number as u64)
     }
 
@@ -113,7 +114,7 @@ impl Numbering {
         ensures { IsTrue result → Stands self.now number monomial.now }
     {
         match self.monomials.get_index(number as usize) {
-            Some(known) => monomial::are_same(known.as_slice(), monomial),
+            Some(known) => key::are_same(known.monomial.as_slice(), monomial),
             None => false,
         }
     }
@@ -145,7 +146,7 @@ impl Numbering {
         ensures rising { AreRising 0 result.now }
     {
         match self.monomials.get_index(number as usize) {
-            Some(monomial) => monomial.as_slice(),
+            Some(key) => key.monomial.as_slice(),
             None => unreachable!(),
         }
     }

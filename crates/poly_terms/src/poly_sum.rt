@@ -2,15 +2,16 @@
 ghost use Rattle.std.specs.Prelude.{◌≡◌, ◌+◌, ◌*◌, ◌%◌, ◌^◌, ◌<◌, ◌∷◌, ℕ, [], IfOk, OnOk, length, get_or};
 ghost use Rattle.std.specs.List.{Contains};
 ghost use Rattle.graph_core.specs.Graph.Assignments.{Assignment};
+ghost use Rattle.algebra_core.specs.Polynomials.{sum_of};
 ghost use Rattle.mv_nums.specs.Residue.{IsWidth};
 ghost use Rattle.poly_terms.specs.Monomials.{Adds, AreIn, Grows, total_in};
 ghost use Rattle.poly_terms.specs.PolySums.{AreListed, AreTaken, IsAdded, IsLess};
-ghost use Rattle.poly_terms.specs.Tables.{IsOf, modulus_in, table_of, value_in};
+ghost use Rattle.poly_terms.specs.Tables.{IsOf, modulus_in, said, table_of, value_in};
 
 use crate::coefficients::Coefficients;
 use crate::numbering::Numbering;
 use crate::term::Term;
-use crate::{Poly, Terms, addition, coefficient, product_sum};
+use crate::{Poly, Terms, Variables, addition, coefficient, multiple_sum, product_sum};
 use graph_core::Memory;
 use std::alloc::{AllocError, Global};
 use std::marker::Model;
@@ -99,6 +100,32 @@ impl PolySum {
             &mut self.numbers,
             left,
             right,
+        )
+    }
+
+    // the products of each term with each part
+    pub(crate) fn add_multiples(
+        &mut self,
+        width: u32,
+        table: &mut Numbering,
+        entries: &[Term],
+        parts: &[(u128, Variables)],
+    ) -> Result<(), AllocError>
+        requires width { IsWidth width }
+        requires entries { AreIn table.old entries.now }
+        ensures grows { Grows table.old table.new }
+        ensures of { OnOk result (IsOf (table_of width table.old) self.old → IsOf (table_of width table.new) self.new) }
+        ensures adds { OnOk result (Adds (2 ^ width) table.old table.new self.old self.new
+            (λ σ. total_in table.old σ entries.now * sum_of (2 ^ width) (said parts.now) σ)) }
+    {
+        multiple_sum::add_multiples(
+            self.alloc,
+            width,
+            table,
+            &mut self.coefficients,
+            &mut self.numbers,
+            entries,
+            parts,
         )
     }
 

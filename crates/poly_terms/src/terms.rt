@@ -295,6 +295,26 @@ impl Terms {
         Ok(())
     }
 
+    /// Adds a polynomial times parts, as `times` has them, to a sum. The table takes its monomials likewise.
+    #[tactic(auto, using(crate::specs::Laws::extends_itself, crate::proofs::Made::extends_grown))]
+    pub fn add_times(
+        &mut self,
+        sum: &mut PolySum,
+        p: &Poly,
+        parts: &[(u128, Variables)],
+    ) -> Result<(), Memory>
+        requires sum { IsOf self.old sum.old }
+        requires poly { IsOf self.old p.now }
+        ensures extends { Extends self.old self.new }
+        ensures of { OnOk result (IsOf self.new sum.new) }
+        ensures value { OnOk result ((σ : Assignment) → value_in self.new sum.new σ ≡
+            (value_in self.old sum.old σ + value_in self.old p.now σ * value (modulus_in self.old) (said parts.now) σ)
+            % modulus_in self.old) }
+    {
+        sum.add_multiples(self.exponent, &mut self.monomials, p.entries(), parts)?;
+        Ok(())
+    }
+
     /// A polynomial times a number.
     pub fn multiple(&self, p: &Poly, by: u128) -> Result<Poly, Memory>
         requires { IsOf self.now p.now }

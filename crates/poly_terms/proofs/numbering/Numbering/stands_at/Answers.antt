@@ -7,5 +7,5 @@ pub returns-in-Some : goal.returns-in-Some
 returns-in-Some c same =
     let keys = c.self.inside.monomials.keys in
     let at : slice_get keys c.args.number ≡ Some c.in-Some.known.now = sym c.in-Some.ensures.key in
-    let is : c.as_slice.result.now ≡ c.args.monomial.now = c.are_same.ensures same in
-    rw (← c.self.view_is) (subst (Stands (map (λ m. m.items) keys) c.args.number) (sym c.as_slice.ensures ∙ is) (stands_at (λ m. m.items) keys c.args.number c.in-Some.known.now at))
+    let is : c.as_slice.result.now ≡ c.args.monomial.now = c.are_same.ensures.0 same in
+    rw (← c.self.view_is) (subst (Stands (map (λ k. k.monomial.items) keys) c.args.number) (sym c.as_slice.ensures ∙ is) (stands_at (λ k. k.monomial.items) keys c.args.number c.in-Some.known.now at))

@@ -7,6 +7,6 @@ use Rattle.poly_terms.proofs.numbering.Numbering.variables.Goals as goal
 pub returns-clause-rising : goal.returns-clause-rising
 returns-clause-rising c =
     let keys = c.self.inside.monomials.keys in
-    let at : slice_get keys c.args.number ≡ Some c.in-Some.monomial.now = sym c.in-Some.ensures.key in
-    let s = stands_at (λ m. m.items) keys c.args.number c.in-Some.monomial.now at in
-    subst (AreRising 0) (s.monomial ∙ sym c.as_slice.ensures) (rises (map (λ m. m.items) keys) c.args.number c.self.invariant s.in_table)
+    let at : slice_get keys c.args.number ≡ Some c.in-Some.key.now = sym c.in-Some.ensures.key in
+    let s = stands_at (λ k. k.monomial.items) keys c.args.number c.in-Some.key.now at in
+    subst (AreRising 0) (s.monomial ∙ sym c.as_slice.ensures) (rises (map (λ k. k.monomial.items) keys) c.args.number c.self.invariant s.in_table)

@@ -1,5 +1,5 @@
 use Rattle.std.proofs.Common.{◌≡◌, take}
-use Rattle.poly_terms.proofs.monomial.are_same.Given as goal
+use Rattle.poly_terms.proofs.key.are_same.Given as goal
 
 abbrev pub invariant-loop-i : goal.invariant-loop-i
 invariant-loop-i l = take l.i l.left ≡ take l.i l.right
