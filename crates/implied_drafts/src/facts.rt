@@ -6,6 +6,18 @@ use std::alloc::Global;
 // Of a variable no more literals are looked at for what follows from them.
 const REACH: usize = 64;
 
+// Of a product so many are looked at for each variable below it, if those are more.
+const REACH_OF_EACH: usize = 24;
+
+// Below a product no more variables are counted.
+const MOST_BELOW: usize = 512;
+
+// All products together are looked into no further.
+const MOST_IN_ALL: usize = 1 << 22;
+
+// Of a variable that more gates read it isn't asked which.
+const READERS: usize = 64;
+
 /// By which rule a literal follows at a gate.
 #[derive(Clone, Copy, Debug, PartialEq, Eq)]
 pub(crate) enum Rule {
@@ -43,6 +55,10 @@ pub(crate) struct Facts<'a> {
     known: Vec<Option<Vec<Fact>>>,
     /// by variable: its value while something is propagated
     values: Vec<Option<bool>>,
+    /// by variable: whether its gate is a wide product, or one that such a product reads
+    products: Vec<bool>,
+    /// how many literals products may yet be looked at for
+    left: usize,
 }
 
 impl<'a> Facts<'a> {
@@ -56,6 +72,8 @@ impl<'a> Facts<'a> {
             levels: vec![in alloc; 0u32; room]?,
             known: Vec::new(alloc),
             values: vec![in alloc; None; room]?,
+            products: Vec::new(alloc),
+            left: MOST_IN_ALL,
         };
         for _ in 0..room {
             facts.readers.push(Vec::new(alloc))?;
@@ -113,6 +131,30 @@ impl<'a> Facts<'a> {
         }
     }
 
+    /// Whether no other gate reads both variables that a gate reads, as far as that is seen.
+    pub(crate) fn is_alone(&self, gate: Gate) -> bool {
+        let (x, y) = (gate.left.var(), gate.right.var());
+        if self.reader_count(y) < self.reader_count(x) {
+            self.is_alone_at(gate.v, y, x)
+        } else {
+            self.is_alone_at(gate.v, x, y)
+        }
+    }
+
+    // Whether no gate but one reads two variables.
+    fn is_alone_at(&self, v: u32, x: u32, y: u32) -> bool {
+        let count = self.reader_count(x);
+        for place in 0..count.min(READERS) {
+            if let Some(reader) = self.reader(x, place) {
+                let has_other = reader.left.var() == y || reader.right.var() == y;
+                if has_other && reader.v != v {
+                    return false;
+                }
+            }
+        }
+        count <= READERS
+    }
+
     /// Why a literal follows from a variable, if it does.
     pub(crate) fn find(&mut self, v: u32, lit: Lit) -> Result<Option<Fact>, Memory> {
         match self.about(v, lit.var())? {
@@ -121,13 +163,78 @@ impl<'a> Facts<'a> {
         }
     }
 
-    /// What follows from one variable of another, if anything does.
+    /// What follows from one variable of another, if anything does: from itself, or from a product that its gate reads.
     pub(crate) fn about(&mut self, v: u32, other: u32) -> Result<Option<Fact>, Memory> {
+        if let Some(fact) = self.told(v, other)? {
+            return Ok(Some(fact));
+        }
+        let Some(gate) = self.gate(v) else {
+            return Ok(None);
+        };
+        for operand in [gate.left, gate.right] {
+            if !operand.negated() && self.is_product(operand.var()) {
+                if let Some(fact) = self.told(operand.var(), other)? {
+                    return Ok(Some(fact));
+                }
+            }
+        }
+        Ok(None)
+    }
+
+    // What is found from one variable of another, if anything is.
+    fn told(&mut self, v: u32, other: u32) -> Result<Option<Fact>, Memory> {
         self.learn(v)?;
         match self.known.get(v as usize) {
             Some(Some(facts)) => Ok(about_in(facts, other)),
             _ => Ok(None),
         }
+    }
+
+    /// From now on these variables' gates are wide products, or such as these read.
+    pub(crate) fn set_products(&mut self, products: Vec<bool>) {
+        self.products = products;
+    }
+
+    /// Whether a variable's gate is a wide product, or one that such a product reads.
+    pub(crate) fn is_product(&self, v: u32) -> bool {
+        self.products.get(v as usize) == Some(&true)
+    }
+
+    // How many literals are looked at for what follows from a variable.
+    fn most_of(&mut self, v: u32) -> Result<usize, Memory> {
+        if !self.is_product(v) {
+            return Ok(REACH);
+        }
+        let wanted = self.most_of_product(v)?.min(self.left);
+        self.left = self.left.saturating_sub(wanted);
+        Ok(wanted.max(REACH))
+    }
+
+    // The same of a product's gate, as many for each variable that is below it.
+    fn most_of_product(&self, v: u32) -> Result<usize, Memory> {
+        let mut open = vec![in self.alloc; v; 1]?;
+        let mut count = 0usize;
+        for _ in 0..MOST_BELOW {
+            let Some(u) = open.pop() else {
+                break;
+            };
+            if !self.push_operands(&mut open, u)? {
+                count = count.saturating_add(REACH_OF_EACH);
+            }
+        }
+        Ok(count)
+    }
+
+    // Whether a variable's gate is a product; its operands' variables are open then.
+    fn push_operands(&self, open: &mut Vec<u32>, v: u32) -> Result<bool, Memory> {
+        if !self.is_product(v) {
+            return Ok(false);
+        }
+        if let Some(gate) = self.gate(v) {
+            open.push(gate.left.var())?;
+            open.push(gate.right.var())?;
+        }
+        Ok(true)
     }
 
     // Finds what follows from a variable, unless it is known.
@@ -152,8 +259,9 @@ impl<'a> Facts<'a> {
 
     // Finds what follows from a variable, and gives it its value.
     fn propagate(&mut self, found: &mut Vec<Fact>, v: u32) -> Result<(), Memory> {
+        let most = self.most_of(v)?;
         self.hold(found, Lit(v.wrapping_mul(2)), v, Rule::Operand)?;
-        for place in 0..REACH {
+        for place in 0..most {
             let Some(fact) = found.get(place).copied() else {
                 break;
             };

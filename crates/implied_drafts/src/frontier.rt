@@ -139,6 +139,14 @@ impl Frontier {
         }
     }
 
+    /// Whether a monomial has a variable.
+    pub(crate) fn has(&self, v: u32) -> bool {
+        match self.places.get(v as usize) {
+            Some(places) => places.iter().any(|number| self.coefficient(*number) != 0),
+            None => false,
+        }
+    }
+
     /// The monomials that have a variable.
     pub(crate) fn with(&self, v: u32) -> Result<Vec<usize>, Memory> {
         let mut numbers = Vec::new(self.alloc);

@@ -7,7 +7,9 @@
 //!
 //! *Follows*: found from a variable by unit propagation through the gates. *Fact*: a literal that follows from a
 //! variable, whose line is that variable times the literal's negation. *Loose*: a monomial that may have two such
-//! variables; a whole adder's cancel by themselves, so they may stay until a gate is taken that ends that.
+//! variables; a whole adder's cancel by themselves, so they may stay until a gate is taken that ends that. *Wide
+//! product*: a gate that is the AND of many tops of exclusive ors, as propagates of an adder with prefixes are. Its
+//! variable stays in monomials, in place of those of the tops, until one of these is taken.
 //!
 //! All of this is a heuristic: whoever makes lines of drafts sees what they state, so no contract says more here than
 //! that each call returns.
@@ -21,6 +23,9 @@ mod lemmas;
 mod monomials;
 mod normal;
 mod polynomials;
+mod products;
+mod shapes;
+mod waiting;
 mod walk;
 
 pub use drafting::draft_plan;

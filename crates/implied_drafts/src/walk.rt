@@ -6,6 +6,9 @@ use crate::lemmas::Drafts;
 use crate::monomials::{joined, monomial_of, without};
 use crate::normal::{Normal, Use, are_related};
 use crate::polynomials::{MINUS_ONE, Term, operands_of};
+use crate::products::{Product, products_of};
+use crate::shapes::wide_products;
+use crate::waiting::Waiting;
 use frontier_core::Step;
 use gate_axioms::Draft;
 use graph_core::{Gate, Memory, Operands};
@@ -43,6 +46,7 @@ pub(crate) struct Walk<'a> {
     mask: u128,
     frontier: Frontier,
     facts: Facts<'a>,
+    waiting: Waiting,
     batch: Batch,
     drafts: Drafts,
     /// places of replaced columns' axioms, and their weights
@@ -73,12 +77,18 @@ impl<'a> Walk<'a> {
         }
         let axioms = gates.len().saturating_add(columns.len());
         let frontier = Frontier::new(alloc, max, exponent)?;
+        let mut facts = Facts::new(alloc, extended)?;
+        if when == When::AtOnce {
+            let products = wide_products(alloc, &facts, gates, max)?;
+            facts.set_products(products);
+        }
         Ok(Walk {
             alloc,
             extended,
             when,
             mask: frontier.opposite(1),
-            facts: Facts::new(alloc, extended)?,
+            facts,
+            waiting: Waiting::new(alloc, max)?,
             batch: Batch::new(alloc, exponent.saturating_sub(1)),
             drafts: Drafts::new(alloc, gates, max, axioms)?,
             frontier,
@@ -101,7 +111,7 @@ impl<'a> Walk<'a> {
                 Step::Add(k) => self.add_column(operands, k)?,
                 Step::Eliminate(v) => {
                     if let Some(gate) = self.facts.gate(v) {
-                        self.eliminate(gate)?;
+                        self.meet(gate)?;
                     }
                 }
             }
@@ -110,7 +120,64 @@ impl<'a> Walk<'a> {
                 return Ok(false);
             }
         }
-        Ok(true)
+        self.take_waiting()?;
+        Ok(!self.has_passed(budget))
+    }
+
+    // Takes a gate, after those that wait and read it, unless it waits from now on.
+    fn meet(&mut self, gate: Gate) -> Result<(), Memory> {
+        if self.facts.is_product(gate.v) {
+            return self.waiting.push(gate);
+        }
+        if self.waiting.reads(gate.v) {
+            self.take_waiting()?;
+        }
+        self.eliminate(gate)
+    }
+
+    // Takes the gates that wait, until a frontier is too long.
+    fn take_waiting(&mut self) -> Result<(), Memory> {
+        let gates = self.waiting.end();
+        let (alloc, facts, frontier) = (self.alloc, &self.facts, &self.frontier);
+        let products = products_of(alloc, facts, frontier, &mut self.drafts, gates)?;
+        for product in products.iter() {
+            if !self.has_passed(u64::MAX) {
+                self.take_product(product)?;
+            }
+        }
+        Ok(())
+    }
+
+    // Takes a product, by its gate's axiom or by the line that states it.
+    fn take_product(&mut self, product: &Product) -> Result<(), Memory> {
+        let Some(place) = product.place else {
+            return self.eliminate(product.gate);
+        };
+        let taken = self.frontier.with(product.gate.v)?;
+        self.set_power(&taken)?;
+        for number in taken.iter() {
+            self.put_variables(*number, product, place)?;
+        }
+        self.end_long()
+    }
+
+    // Puts the variables of a product in place of its gate's in a monomial.
+    fn put_variables(
+        &mut self,
+        number: usize,
+        product: &Product,
+        place: usize,
+    ) -> Result<(), Memory> {
+        let coefficient = self.frontier.coefficient(number);
+        let opposite = self.frontier.opposite(coefficient);
+        let rest = without(self.alloc, self.frontier.variables(number), product.gate.v)?;
+        let all = joined(self.alloc, &rest, &product.variables)?;
+        self.frontier.put(number, opposite);
+        self.frontier.add(all, coefficient)?;
+        let divided = self.frontier.divided(opposite, self.batch.power);
+        let length = self.frontier.length(divided, rest.len());
+        self.bytes = self.bytes.saturating_add(length);
+        self.batch.take_fact(place, rest, divided, length)
     }
 
     // Whether too much is left, or kept.
@@ -188,9 +255,14 @@ impl<'a> Walk<'a> {
         Ok(self.frontier.divided(opposite, self.batch.power))
     }
 
-    // One part more, in a batch of its own where the open one would be too long.
+    // One part more.
     fn take_part(&mut self, v: u32, factor: Vec<Term>, bytes: u64) -> Result<(), Memory> {
         self.batch.take_gate(v, factor, bytes)?;
+        self.end_long()
+    }
+
+    // Ends the open batch where it is long.
+    fn end_long(&mut self) -> Result<(), Memory> {
         let stated = self.before.saturating_add(self.frontier.bytes());
         if self.batch.is_long(stated) {
             self.end_batch()?;

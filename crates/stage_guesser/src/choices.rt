@@ -28,7 +28,7 @@ pub(crate) struct Position {
 
 /// The pairs near an output whose sum with the carry it is, one for each carry out: the lowest. First come those after
 /// which the next column's output is the sum of the carry and one literal, and of like ones those with a constant, or
-/// without one where they are to come late.
+/// without one where they are to come late. In the last column the lowest comes first: no carry out tells of them there.
 pub(crate) fn choices(
     alloc: Global,
     graph: &Graph,
@@ -46,7 +46,17 @@ pub(crate) fn choices(
             }
         }
     }
+    if position.next.is_none() {
+        sorted.sort_unstable_by_key(|choice| height(graph, choice.pair));
+    }
     Ok(sorted)
+}
+
+// How high a pair is: the levels, and the numbers.
+fn height(graph: &Graph, pair: (Lit, Lit)) -> (u32, u32, u32, u32) {
+    let x = level(graph, pair.0);
+    let y = level(graph, pair.1);
+    (x.max(y), x.min(y), pair.0.0, pair.1.0)
 }
 
 // When a choice comes.
@@ -154,10 +164,8 @@ fn in_order(pair: (Lit, Lit)) -> (Lit, Lit) {
 }
 
 // What makes a pair low: a constant, the levels, and the numbers.
-fn rank(graph: &Graph, pair: (Lit, Lit)) -> (bool, u32, u32, u32, u32) {
-    let x = level(graph, pair.0);
-    let y = level(graph, pair.1);
-    (pair.0.var() > 0, x.max(y), x.min(y), pair.0.0, pair.1.0)
+fn rank(graph: &Graph, pair: (Lit, Lit)) -> (bool, (u32, u32, u32, u32)) {
+    (pair.0.var() > 0, height(graph, pair))
 }
 
 fn level(graph: &Graph, lit: Lit) -> u32 {
