@@ -10,4 +10,5 @@ pub mod Stamps
 pub mod AnalysisLemmas
 pub mod OrderLemmas
 pub mod SolverLemmas
+pub mod ForgetLemmas
 pub mod ShowLemmas

@@ -10,8 +10,6 @@ use Rattle.std.proofs.lemmas.List.Folds.{list_any_at}
 use Rattle.std.proofs.lemmas.List.Elements.{Contains-append_left, Contains-push, Contains-push_cases}
 use Rattle.clause_core.specs.Clause.{Clause, signed, holds}
 use Rattle.clause_core.specs.UnitPropagation.{IsFalsified}
-use Rattle.clause_core.specs.declared.line.Line.{Line}
-use Rattle.clause_core.specs.declared.line.Line.TheVariants.{Add, Delete}
 use Rattle.clause_core.proofs.Decided.{contains_here, contains_there, contains_nil}
 use Rattle.clause_core.proofs.RupSoundness.{contains_cases}
 use Rattle.clause_core.proofs.Places.{below_suc}
@@ -21,7 +19,6 @@ use Rattle.unit_prop.specs.Standing.{Standing, live_of, IsPropagated}
 use Rattle.cdcl_solver.proofs.Standings.{front, behind}
 use Rattle.cdcl_solver.specs.Loading.{SameLive}
 use Rattle.cdcl_solver.proofs.Words.{Loads}
-use Rattle.cdcl_solver.specs.Additions.{AreAdditions, left_by}
 use Rattle.cdcl_solver.specs.Search.{AllStand}
 use Rattle.cdcl_solver.specs.Models.{AreModelValues}
 use Rattle.cdcl_solver.specs.Orders.{HasVariablesOf}
@@ -52,34 +49,6 @@ same_live_front clauses c = record {
 
 pub first_clause : (clauses : List Clause) (i : ℕ) (c : Clause) → i < length clauses → c ≡ slice_index_or clauses i c → take (i + 1) clauses ≡ take i clauses ++ c ∷ []
 first_clause clauses i c b e = take_more clauses i c b ∙ ap (λ (d : Clause). take i clauses ++ d ∷ []) (sym e)
-
-left_push' : (own : List Clause) (lines : List Line) (c : Clause) → left_by own (lines ++ Add c ∷ []) ≡ c ∷ left_by own lines
-left_push' own [] c = refl
-left_push' own (Add d ∷ lines) c = left_push' (d ∷ own) lines c
-left_push' own (Delete d ∷ lines) c = left_push' own lines c
-
--- the clauses left by one more line that adds
-pub left_more : (lines : List Line) (i : ℕ) (x : Line) (c : Clause) → i < length lines → x ≡ slice_index_or lines i x → x ≡ Add c → left_by [] (take (i + 1) lines) ≡ c ∷ left_by [] (take i lines)
-left_more lines i x c b e is = ap (left_by []) (take_more lines i x b ∙ ap (λ (y : Line). take i lines ++ y ∷ []) (sym e ∙ is)) ∙ left_push' [] (take i lines) c
-
-own_left : (own : List Clause) (lines : List Line) (c : Clause) → Contains own c → Contains (left_by own lines) c
-own_left own [] c has = has
-own_left own (Add d ∷ lines) c has = own_left (d ∷ own) lines c (contains_there d own c has)
-own_left own (Delete d ∷ lines) c has = own_left own lines c has
-
-pub added_left : (own : List Clause) (lines : List Line) (i : ℕ) (x : Line) (c : Clause) → i < length lines → x ≡ slice_index_or lines i x → x ≡ Add c → Contains (left_by own lines) c
-added_left own [] i x c b e is = absurd (omega arith)
-added_left own (Add d ∷ lines) zero x c b e is = let f : Add d ≡ Add c = sym e ∙ is in let g : d ≡ c = cc in own_left (d ∷ own) lines c (subst (Contains (d ∷ own)) g (contains_here d own))
-added_left own (Delete d ∷ lines) zero x c b e is = let f : Delete d ≡ Add c = sym e ∙ is in absurd (cc)
-added_left own (Add d ∷ lines) (suc i) x c b e is = added_left (d ∷ own) lines i x c (omega arith) e is
-added_left own (Delete d ∷ lines) (suc i) x c b e is = added_left own lines i x c (omega arith) e is
-
--- no line is a deletion
-pub no_deletion : (lines : List Line) (i : ℕ) (x : Line) → AreAdditions lines → i < length lines → x ≡ slice_index_or lines i x → ((c : Clause) → x ≡ Add c → ⊥) → ⊥
-no_deletion [] i x h b e n = omega arith
-no_deletion (Add d ∷ lines) zero x h b e n = n d e
-no_deletion (Delete d ∷ lines) i x h b e n = h
-no_deletion (Add d ∷ lines) (suc i) x h b e n = no_deletion lines i x h (omega arith) e n
 
 -- ---- values
 -- the values of the variables from 1 up to those before v

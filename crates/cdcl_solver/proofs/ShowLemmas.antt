@@ -9,11 +9,13 @@ use Rattle.std.proofs.lemmas.List.Elements.{All-cons, All-contains, All-map, Con
 use Rattle.clause_core.specs.Clause.{Clause, IsClauseInRange, IsSubset, SameSet}
 use Rattle.clause_core.specs.Log.{IsLemma}
 use Rattle.clause_core.specs.UnitPropagation.{IsRup, IsTautology}
+use Rattle.clause_core.specs.declared.line.Line.{Line}
 use Rattle.clause_core.specs.declared.line.Line.TheVariants.{Add}
 use Rattle.clause_core.proofs.Decided.{contains_nil, contains_there}
 use Rattle.clause_core.proofs.Sets.{rup_same}
 use Rattle.unit_prop.specs.Standing.{Standing, live_of, IsPropagated}
 use Rattle.unit_prop.specs.Trail.{signed_variable}
+use Rattle.cdcl_solver.specs.Deletions.{ChangeAlike, OnlyAdds}
 use Rattle.cdcl_solver.specs.Loading.{SameLive}
 use Rattle.cdcl_solver.specs.Logs.{LogView, Continues}
 use Rattle.cdcl_solver.specs.Search.{StandsUnder}
@@ -22,7 +24,7 @@ use Rattle.cdcl_solver.specs.Solvers.{SolverView}
 use Rattle.cdcl_solver.specs.Solving.{IsAnswer}
 use Rattle.cdcl_solver.specs.declared.solved.Solved.{Solved}
 use Rattle.cdcl_solver.specs.declared.solved.Solved.TheVariants.{Refuted}
-use Rattle.cdcl_solver.proofs.LogLemmas.{continues_one, continues_weaker}
+use Rattle.cdcl_solver.proofs.LogLemmas.{adds_more, alike_more, continues_one, continues_weaker}
 use Rattle.cdcl_solver.proofs.SearchLemmas.{map_neg_twice, rup_wider}
 use Rattle.cdcl_solver.proofs.SolveLemmas.{lemma_same}
 use Rattle.cdcl_solver.proofs.SolverLemmas.{live_front}
@@ -132,3 +134,15 @@ kept_more max live first n wider s new log after b m same goes all (inr h) =
 pub kept_follows : (live : List Clause) (s new : SolverView) (log after : LogView) (c : Clause) → KeepsOrLearns s log new after → IsRup (log.left ++ live) c → IsShownByLog live c after true
 kept_follows live s new log after c (inl h) r = subst (λ (g : LogView). IsRup (g.left ++ live) c) (sym h.1) r
 kept_follows live s new log after c (inr h) r = subst (λ (g : LogView). IsRup (g.left ++ live) c) (sym h.4) (rup_wider (log.left ++ live) (h.0 ∷ (log.left ++ live)) c (λ d i. contains_there h.0 (log.left ++ live) d i) r)
+
+-- and is in both
+pub kept_alike : (live : List Clause) (first : LogView) (m : List Line) (s new : SolverView) (log after : LogView) → log.lines ≡ first.lines ++ m → ChangeAlike live first s.live log → OnlyAdds first log → KeepsOrLearns s log new after
+    → ChangeAlike live first new.live after × OnlyAdds first after
+kept_alike live first m s new log after e alike adds (inl h) = (
+  subst (λ (v : SolverView). ChangeAlike live first v.live after) (sym h.0) (subst (λ (g : LogView). ChangeAlike live first s.live g) (sym h.1) alike),
+  subst (λ (g : LogView). OnlyAdds first g) (sym h.1) adds,
+)
+kept_alike live first m s new log after e alike adds (inr h) = (
+  subst (λ (v : SolverView). ChangeAlike live first v.live after) (sym h.3) (subst (λ (g : LogView). ChangeAlike live first (s.live ++ h.0 ∷ []) g) (sym h.4) (alike_more live s.live first log h.0 alike)),
+  adds_more first log after m h.0 e adds h.4,
+)

@@ -5,7 +5,7 @@ use Rattle.std.specs.declared.option.Option.TheVariants.{None, Some}
 use Rattle.std.specs.declared.result.Result.{Result}
 use Rattle.std.specs.declared.result.Result.TheVariants.{Ok, Err}
 use Rattle.std.specs.List.{All, Contains}
-use Rattle.std.proofs.Common.{refl, sym, ap, subst, ◌∙◌, arith, inl, inr, ⊎_elim}
+use Rattle.std.proofs.Common.{refl, sym, ap, subst, ◌∙◌, ◌≤◌, arith, inl, inr, ⊎_elim, append_assoc, append-nil, length, take, take_all}
 use Rattle.std.proofs.lemmas.List.Elements.{All-cons, All-contains, Contains-append_left, Contains-append_right, Contains-append_cases, Contains-push, Contains-push_cases}
 use Rattle.clause_core.specs.Clause.{Clause, IsClauseInRange, Satisfies, holds}
 use Rattle.clause_core.specs.Log.{AreLogLines}
@@ -18,7 +18,7 @@ use Rattle.unit_prop.specs.Standing.{Standing, StandsAlone, live_of}
 use Rattle.std.specs.Bool.{MatchBool}
 use Rattle.cdcl_solver.specs.Search.{BeginsSearch}
 use Rattle.cdcl_solver.specs.Levels.{IsStage, Keeps}
-use Rattle.cdcl_solver.specs.Additions.{AreAdditions}
+use Rattle.cdcl_solver.specs.Deletions.{AreAdditions, ChangeAlike, OnlyAdds}
 use Rattle.cdcl_solver.specs.Loading.{SameLive, IsSolverOver}
 use Rattle.cdcl_solver.proofs.Words.{Loads}
 use Rattle.cdcl_solver.specs.Logs.{LogView, Continues, lemmas}
@@ -30,8 +30,8 @@ use Rattle.cdcl_solver.specs.declared.search.Found.TheVariants.{Answer}
 use Rattle.cdcl_solver.specs.declared.solved.Solved.{Solved}
 use Rattle.cdcl_solver.specs.declared.solved.Solved.TheVariants.{Refuted, Model, Spent}
 use Rattle.cdcl_solver.proofs.Trails.{clause_within}
-use Rattle.cdcl_solver.proofs.LoadLemmas.{live_push, same_live_self}
-use Rattle.cdcl_solver.proofs.LogLemmas.{continues_one, lemmas_push}
+use Rattle.cdcl_solver.proofs.LoadLemmas.{first_clause, live_push, same_live_self}
+use Rattle.cdcl_solver.proofs.LogLemmas.{adds_more, alike_more, continues_one, lemmas_push}
 use Rattle.cdcl_solver.proofs.OrderLemmas.{covers_grown}
 use Rattle.cdcl_solver.proofs.SearchLemmas.{rup_wider}
 use Rattle.cdcl_solver.proofs.SolveLemmas.{lemma_same, not_refuted_answer}
@@ -102,24 +102,48 @@ view_none s max e = ap (λ (t : Standing). let v : SolverView = record { max = m
 pub view_more : (max : ℕ) (s new : Standing) (c : Clause) → new.clauses ≡ s.clauses ++ Some c ∷ [] → solver_of max new ≡ with_clause (solver_of max s) c
 view_more max s new c e = ap (λ (cs : List Clause). let v : SolverView = record { max = max; live = cs } in v) (live_more s new c e)
 
-pub view_added : {A E : Type 0} (max : ℕ) (s new : Standing) (c : Clause) (v : SolverView) (r : Result A E) → solver_of max s ≡ v → OnOk r (new.clauses ≡ s.clauses ++ Some c ∷ []) → OnOk r (solver_of max new ≡ with_clause v c)
-view_added max s new c v (Ok u) e ok = view_more max s new c ok ∙ ap (λ (w : SolverView). with_clause w c) e
-view_added max s new c v (Err x) e ok = tt
-
 pub view_kept : (max : ℕ) (s new : Standing) → new.clauses ≡ s.clauses → solver_of max new ≡ solver_of max s
 view_kept max s new e = ap (λ (cs : List (Option Clause)). let v : SolverView = record { max = max; live = live_of cs } in v) e
 
-pub over_none : (s : SolverView) (max : ℕ) → (let e : SolverView = record { max = max; live = [] } in s ≡ e) → IsSolverOver s max []
-over_none s max e = subst (λ (v : SolverView). IsSolverOver v max []) (sym e) (refl, same_live_self [] [] refl)
+-- ---- all clauses of a list
 
-pub over_more : (s new : SolverView) (max : ℕ) (c : Clause) (clauses more : List Clause) → IsSolverOver s max clauses → new ≡ with_clause s c → SameLive (clauses ++ c ∷ []) more → IsSolverOver new max more
-over_more s new max c clauses more h e same = subst (λ (v : SolverView). IsSolverOver v max more) (sym e) (
-  h.0,
-  record {
-    there = λ d has. same.there d (⊎_elim (λ m. Contains-append_left clauses (c ∷ []) d (h.1.there d m)) (λ f. subst (Contains (clauses ++ c ∷ [])) f (Contains-push clauses c)) (Contains-push_cases s.live c d has));
-    back = λ d has. ⊎_elim (λ m. Contains-append_left s.live (c ∷ []) d (h.1.back d m)) (λ f. subst (Contains (s.live ++ c ∷ [])) f (Contains-push s.live c)) (Contains-push_cases clauses c d (same.back d has));
-  },
-)
+pub all_begun : (s : SolverView) (clauses : List Clause) → s ≡ record { max = s.max; live = s.live ++ take 0 clauses }
+all_begun s [] = ap (λ (live : List Clause). let v : SolverView = record { max = s.max; live = live } in v) (sym (append-nil s.live))
+all_begun s (c ∷ clauses) = ap (λ (live : List Clause). let v : SolverView = record { max = s.max; live = live } in v) (sym (append-nil s.live))
+
+pub all_range : (first s : SolverView) (i : ℕ) (c : Clause) (clauses : List Clause) → s ≡ record { max = first.max; live = first.live ++ take i clauses } → i < length clauses → c ≡ slice_index_or clauses i c → All (IsClauseInRange first.max) clauses → IsClauseInRange s.max c
+all_range first s i c clauses is below at range = subst (λ (v : SolverView). IsClauseInRange v.max c) (sym is) (subst (IsClauseInRange first.max) (sym at) (range i c below))
+
+pub all_more : (first s new : SolverView) (i : ℕ) (c : Clause) (clauses : List Clause) → s ≡ record { max = first.max; live = first.live ++ take i clauses } → i < length clauses → c ≡ slice_index_or clauses i c → new ≡ with_clause s c →
+    new ≡ record { max = first.max; live = first.live ++ take (i + 1) clauses }
+all_more first s new i c clauses is below at more =
+    let front : (first.live ++ take i clauses) ++ c ∷ [] ≡ first.live ++ take (i + 1) clauses =
+    append_assoc first.live (take i clauses) (c ∷ []) ∙ ap (λ (z : List Clause). first.live ++ z) (sym (first_clause clauses i c below at)) in
+    more ∙ ap (λ (v : SolverView). with_clause v c) is ∙ ap (λ (live : List Clause). let v : SolverView = record { max = first.max; live = live } in v) front
+
+pub all_done : (first s : SolverView) (i : ℕ) (clauses : List Clause) → length clauses ≤ i → s ≡ record { max = first.max; live = first.live ++ take i clauses } → s ≡ record { max = first.max; live = first.live ++ clauses }
+all_done first s i clauses end is = is ∙ ap (λ (z : List Clause). let v : SolverView = record { max = first.max; live = first.live ++ z } in v) (take_all i clauses end)
+
+-- ---- a solver that is loaded
+
+pub left_range : (max : ℕ) (none s : SolverView) (clauses copies left : List Clause) → none ≡ record { max = max; live = [] } → s ≡ record { max = none.max; live = none.live ++ clauses } → SameLive copies left → All (IsClauseInRange max) left → All (IsClauseInRange s.max) copies
+left_range max none s clauses copies left empty is same range =
+    let m : s.max ≡ max = ap (λ (v : SolverView). v.max) is ∙ ap (λ (v : SolverView). v.max) empty in
+    subst (λ (n : ℕ). All (IsClauseInRange n) copies) (sym m)
+    (λ k d below. All-contains (IsClauseInRange max) left (slice_index_or copies k d) range (same.there (slice_index_or copies k d) (k, below, same_at copies k (slice_index_or copies k d) d below)))
+
+pub loaded : (max : ℕ) (none s new : SolverView) (clauses copies left : List Clause) → none ≡ record { max = max; live = [] } → s ≡ record { max = none.max; live = none.live ++ clauses } → new ≡ record { max = s.max; live = s.live ++ copies } → SameLive copies left →
+    IsSolverOver new max (left ++ clauses)
+loaded max none s new clauses copies left empty is now same =
+    let first : s ≡ record { max = max; live = clauses } = is ∙ ap (λ (v : SolverView). let w : SolverView = record { max = v.max; live = v.live ++ clauses } in w) empty in
+    let both : new ≡ record { max = max; live = clauses ++ copies } = now ∙ ap (λ (v : SolverView). let w : SolverView = record { max = v.max; live = v.live ++ copies } in w) first in
+    subst (λ (v : SolverView). IsSolverOver v max (left ++ clauses)) (sym both) (
+      refl,
+      record {
+        there = λ c has. ⊎_elim (Contains-append_right left clauses c) (λ m. Contains-append_left left clauses c (same.there c m)) (Contains-append_cases clauses copies c has);
+        back = λ c has. ⊎_elim (λ m. Contains-append_right clauses copies c (same.back c m)) (Contains-append_left clauses copies c) (Contains-append_cases left clauses c has);
+      },
+    )
 
 -- an answer of a turn
 pub turned : (old : SolverView) (log : LogView) (new : SolverView) (after : LogView) (assumptions : List ℤ) (solved : Solved) → TurnsSearch old log new after assumptions (Some solved) → IsSolverEnd old assumptions solved × (new ≡ old) × (after ≡ log) × (solved ≢ Spent)
@@ -164,6 +188,14 @@ turn_more max live first n s new log after assumptions m same goes all count h =
       omega (arith, ap lemmas h.4, lemmas_push log h.0, count),
     )
 
+-- and it is one more in both
+pub turn_alike : (live : List Clause) (first : LogView) (m : List Line) (s new : SolverView) (log after : LogView) (assumptions : List ℤ) → log.lines ≡ first.lines ++ m → ChangeAlike live first s.live log → OnlyAdds first log → TurnsSearch s log new after assumptions None
+    → ChangeAlike live first new.live after × OnlyAdds first after
+turn_alike live first m s new log after assumptions e alike adds h = (
+  subst (λ (v : SolverView). ChangeAlike live first v.live after) (sym h.3) (subst (λ (g : LogView). ChangeAlike live first (s.live ++ h.0 ∷ []) g) (sym h.4) (alike_more live s.live first log h.0 alike)),
+  adds_more first log after m h.0 e adds h.4,
+)
+
 -- a log's additions are as lawful over the same clauses
 pub relog : (live given own : List Clause) (more : List Line) (left : List Clause) → AreKnown live (own ++ given) → AreKnown given live → AreAdditions more → AreLogLines live [] own more left → AreLogLines given [] own more left
 relog live given own [] left there back adds h = h
@@ -185,11 +217,6 @@ left_kept given own [] left adds h c has = subst (λ (cs : List Clause). Contain
 left_kept given own (Delete d ∷ more) left adds h c has = absurd adds
 left_kept given own (Add d ∷ more) left adds h c has = left_kept given h.0 more left adds h.2 c (subst (λ (cs : List Clause). Contains cs c) (sym h.1.1) (contains_there d own c has))
 
-additions_end : (lines more : List Line) → AreAdditions (lines ++ more) → AreAdditions more
-additions_end [] more h = h
-additions_end (Add c ∷ lines) more h = additions_end lines more h
-additions_end (Delete c ∷ lines) more h = absurd h
-
 pub satisfied_part : (live given : List Clause) (σ : ℕ → Bool) → AreKnown given live → Satisfies σ live → Satisfies σ given
 satisfied_part live given σ sub h k d b = All-contains (λ (c : Clause). holds σ c ≡ true) live (slice_index_or given k d) h (sub (slice_index_or given k d) (k, b, same_at given k (slice_index_or given k d) d b))
 
@@ -201,9 +228,9 @@ end_answer max s live assumptions conflicts old new (Model values) m same count 
 end_answer max s live assumptions conflicts old new Spent m same count e = (count refl, λ r. e (rup_wider (new.left ++ live) s.live (map neg_ℤ assumptions) same.back r))
 
 -- over the clauses that were loaded, the log goes on and the answer holds as over those that were given
-module _ (max : ℕ) (live given : List Clause) (limit : ℕ) (old new : LogView) (same : SameLive live (old.left ++ given)) (adds : AreAdditions new.lines) (h : Continues max live limit old new) where
+module _ (max : ℕ) (live given : List Clause) (limit : ℕ) (old new : LogView) (same : SameLive live (old.left ++ given)) (adds : OnlyAdds old new) (h : Continues max live limit old new) where
   only : AreAdditions h.more
-  only = additions_end old.lines h.more (subst AreAdditions h.lines adds)
+  only = adds h.more h.lines
 
   given_live : AreKnown given live
   given_live c has = same.back c (Contains-append_right old.left given c has)

@@ -1,7 +1,7 @@
--- To be read by whoever trusts the contracts: Logs, Additions, Solving, Solvers, Loading and Shows. The others serve private clauses and
+-- To be read by whoever trusts the contracts: Logs, Deletions, Solving, Solvers, Loading and Shows. The others serve private clauses and
 -- the invariants alone.
 pub mod Logs
-pub mod Additions
+pub mod Deletions
 pub mod Solving
 pub mod Search
 pub mod Levels

@@ -1,15 +1,15 @@
 // The moments of a search to which it goes back.
-ghost use Rattle.std.specs.Prelude.{◌≡◌, ◌≢◌, ◌<◌, ◌^◌, ◌++◌, ◌∷◌, [], ℤ, neg_ℤ, Some, OnOk, OnErr, IfSome, IsFalse, IsTrue};
+ghost use Rattle.std.specs.Prelude.{◌≡◌, ◌≢◌, ◌<◌, ◌^◌, ◌++◌, ◌∷◌, [], ℤ, neg_ℤ, None, Some, OnOk, OnErr, IfSome, IsFalse, IsSome, IsTrue, slice_set};
 ghost use Rattle.std.specs.List.{Contains};
 ghost use Rattle.clause_core.specs.Clause.{IsSubset};
 ghost use Rattle.unit_prop.specs.Trail.{IsLiteralUpTo};
-ghost use Rattle.unit_prop.specs.Standing.{Standing, IsSound, IsPropagated, StandsAlone};
+ghost use Rattle.unit_prop.specs.Standing.{Standing, IsSound, IsPropagated, StandsAlone, clause_at};
 ghost use Rattle.cdcl_solver.specs.Levels.{IsStage, IsLast, Keeps, AreTwoOpen, IsOtherOpen};
 
 use clause_core::Clause;
 use graph_core::Memory;
 use std::alloc::Global;
-use unit_prop::{Mark, Propagator};
+use unit_prop::{Mark, Propagator, Ref};
 
 /// The moment at which only the literals of unit clauses stood, and those since at which every consequence did: after
 /// the assumptions, and after each decision.
@@ -81,7 +81,11 @@ impl Levels {
 
     /// One more clause: at the last moment at which two of its literals are open, or where only the literals of unit
     /// clauses stand.
-    pub(crate) fn add(&mut self, propagator: &mut Propagator, clause: &Clause) -> Result<(), Memory>
+    pub(crate) fn add(
+        &mut self,
+        propagator: &mut Propagator,
+        clause: &Clause,
+    ) -> Result<Ref, Memory>
         requires stage { IsStage propagator.old self.old.base self.old.marks.items }
         requires within { (l : ℤ) → Contains clause.now l → IsLiteralUpTo propagator.old.trail.greatest l }
         ensures greatest { propagator.new.trail.greatest ≡ propagator.old.trail.greatest }
@@ -90,8 +94,8 @@ impl Levels {
         ensures err { OnErr result (propagator.new.clauses ≡ propagator.old.clauses) }
     {
         if let Some(two) = self.back_up(propagator, clause) {
-            propagator.add_open(clause, two.0, two.1)?;
-            return Ok(());
+            let added = propagator.add_open(clause, two.0, two.1)?;
+            return Ok(added);
         }
         self.add_anew(propagator, clause)
     }
@@ -101,7 +105,7 @@ impl Levels {
         &mut self,
         propagator: &mut Propagator,
         clause: &Clause,
-    ) -> Result<(), Memory>
+    ) -> Result<Ref, Memory>
         requires stage { IsStage propagator.old self.old.base self.old.marks.items }
         requires within { (l : ℤ) → Contains clause.now l → IsLiteralUpTo propagator.old.trail.greatest l }
         ensures greatest { propagator.new.trail.greatest ≡ propagator.old.trail.greatest }
@@ -109,10 +113,22 @@ impl Levels {
         ensures ok { OnOk result (propagator.new.clauses ≡ propagator.old.clauses ++ Some clause.now ∷ []) }
         ensures err { OnErr result (propagator.new.clauses ≡ propagator.old.clauses) }
     {
-        propagator.add(clause)?;
+        let added = propagator.add(clause)?;
         self.marks.clear();
         self.base = propagator.mark();
-        Ok(())
+        Ok(added)
+    }
+
+    /// One clause less, where only the literals of unit clauses stand.
+    pub(crate) fn remove(&mut self, propagator: &mut Propagator, reference: Ref)
+        requires { IsSome (clause_at propagator.old.clauses reference) }
+        ensures clauses { propagator.new.clauses ≡ slice_set propagator.old.clauses reference None }
+        ensures greatest { propagator.new.trail.greatest ≡ propagator.old.trail.greatest }
+        ensures stage { IsStage propagator.new self.new.base self.new.marks.items }
+    {
+        propagator.remove(reference);
+        self.marks.clear();
+        self.base = propagator.mark();
     }
 
     // Back to the last moment at which two literals of a clause are open. None where there is no such moment.

@@ -1,15 +1,17 @@
 // A solver that is kept between goals.
-ghost use Rattle.std.specs.Prelude.{◌≡◌, ◌≢◌, ◌↔◌, ◌<◌, ◌≤◌, ◌^◌, [], ◌∷◌, ◌++◌, IfOk, IfSome, IsFalse, IsSome, IsTrue, OnOk, OnErr};
+ghost use Rattle.std.specs.Prelude.{◌≡◌, ◌≢◌, ◌↔◌, ◌<◌, ◌≤◌, ◌^◌, [], ◌∷◌, ◌++◌, IfOk, IfSome, IsFalse, IsSome, IsTrue, List, OnOk, OnErr};
 ghost use Rattle.std.specs.List.{All, Contains};
 ghost use Rattle.clause_core.specs.Clause.{Clause as Literals, IsClauseInRange};
 ghost use Rattle.clause_core.specs.UnitPropagation.{IsRup};
 ghost use Rattle.unit_prop.specs.Trail.{signed_variable as variable_of};
+ghost use Rattle.cdcl_solver.specs.Deletions.{ChangeAlike, OnlyAdds, StaysOrDeletes};
 ghost use Rattle.cdcl_solver.specs.Loading.{SameLive};
 ghost use Rattle.cdcl_solver.specs.Logs.{LogView, Continues};
 ghost use Rattle.cdcl_solver.specs.Shows.{HasNoneWithin, IsShownByLog, KeepsOrLearns};
 ghost use Rattle.cdcl_solver.specs.Solvers.{SolverView, IsSolverEnd, IsTurn, with_clause};
 ghost use Rattle.cdcl_solver.specs.Solving.{IsAnswer};
 
+use crate::lemmas::{Learnt, Lemmas};
 use crate::levels::Levels;
 use crate::literal::{negation, variable};
 use crate::log::Log;
@@ -22,9 +24,6 @@ use graph_core::Memory;
 use std::alloc::Global;
 use std::marker::Model;
 use unit_prop::Propagator;
-
-// How many lemmas are learnt from one beginning to the next.
-const RESTART: u64 = 4;
 
 // How a turn of a search ends.
 #[derive(Debug, Drop)]
@@ -47,6 +46,8 @@ pub struct Solver {
     order: Order,
     /// What each analysis of a conflict uses again.
     room: Room,
+    /// What was learnt here and may be deleted.
+    lemmas: Lemmas,
 }
 
 impl Model for Solver {
@@ -76,6 +77,7 @@ impl Solver {
             levels,
             order,
             room: Room::new(alloc),
+            lemmas: Lemmas::new(alloc),
         })
     }
 
@@ -85,8 +87,43 @@ impl Solver {
         ensures ok { OnOk result (self.new ≡ with_clause self.old clause.now) }
         ensures err { OnErr result (self.new ≡ self.old) }
     {
+        self.lemmas.begin();
         self.order.enter(clause.lits())?;
-        self.levels.add_anew(&mut self.propagator, clause)
+        self.levels.add_anew(&mut self.propagator, clause)?;
+        Ok(())
+    }
+
+    /// Deletes lemmas that were learnt here from the log and from the clauses, if there are many and a deletion may
+    /// come. Which ones, is a heuristic.
+    pub fn forget(&mut self, log: &mut Log) -> Result<(), Memory>
+        requires { All (IsClauseInRange self.old.max) log.old.left }
+        ensures max { self.new.max ≡ self.old.max }
+        ensures log { (given : List Literals) → Continues self.old.max given 0 log.old log.new }
+        ensures in_range { All (IsClauseInRange self.old.max) log.new.left }
+        ensures alike { ChangeAlike self.old.live log.old self.new.live log.new }
+    {
+        if !log.may_delete() {
+            return Ok(());
+        }
+        let useless = self.lemmas.take_useless(self.alloc)?;
+        for lemma in &useless {
+            self.delete(*lemma, log)?;
+        }
+        Ok(())
+    }
+
+    // Deletes a lemma from the log and from the clauses, if both have it.
+    fn delete(&mut self, lemma: Learnt, log: &mut Log) -> Result<(), Memory>
+        ensures max { self.new.max ≡ self.old.max }
+        ensures deletes { StaysOrDeletes self.old.live log.old self.new.live log.new }
+    {
+        if let Some(clause) = self.propagator.get(lemma.clause.place()) {
+            let own = clause.copy(self.alloc)?;
+            if log.delete(lemma.line, own)? {
+                self.levels.remove(&mut self.propagator, lemma.clause);
+            }
+        }
+        Ok(())
     }
 
     /// Decides these variables before the others, the last one first. No answer depends on it.
@@ -121,6 +158,8 @@ impl Solver {
         ensures log { Continues self.old.max self.old.live conflicts log.old log.new }
         ensures in_range { All (IsClauseInRange self.old.max) log.new.left }
         ensures live { OnOk result (SameLive self.new.live (log.new.left ++ self.old.live)) }
+        ensures alike { OnOk result (ChangeAlike self.old.live log.old self.new.live log.new) }
+        ensures adds { OnlyAdds log.old log.new }
         ensures answer { IfOk result (IsAnswer self.old.max self.old.live assumptions.now conflicts log.old log.new) }
     {
         match self.search(assumptions, conflicts, false, log)? {
@@ -144,12 +183,15 @@ impl Solver {
         ensures log { Continues self.old.max self.old.live conflicts log.old log.new }
         ensures in_range { All (IsClauseInRange self.old.max) log.new.left }
         ensures live { OnOk result (SameLive self.new.live (log.new.left ++ self.old.live)) }
+        ensures alike { OnOk result (ChangeAlike self.old.live log.old self.new.live log.new) }
+        ensures adds { OnlyAdds log.old log.new }
         ensures answer { IfOk result (λ found. IfSome found
             (IsAnswer self.old.max self.old.live assumptions.now conflicts log.old log.new)) }
         ensures some { IsFalse few → IfOk result IsSome }
     {
         for turn in 0..conflicts {
-            match self.turn(assumptions, turn % RESTART == 0, few, log)? {
+            let anew = self.lemmas.is_new(turn, few);
+            match self.turn(assumptions, anew, few, log)? {
                 Turn::Learnt => {}
                 Turn::Ends(solved) => return Ok(Some(solved)),
                 Turn::GivenUp => return Ok(None),
@@ -177,6 +219,8 @@ impl Solver {
         ensures log { Continues self.old.max self.old.live conflicts log.old log.new }
         ensures in_range { All (IsClauseInRange self.old.max) log.new.left }
         ensures live { OnOk result (SameLive self.new.live (log.new.left ++ self.old.live)) }
+        ensures alike { OnOk result (ChangeAlike self.old.live log.old self.new.live log.new) }
+        ensures adds { OnlyAdds log.old log.new }
         ensures shown { IfOk result (IsShownByLog self.old.live (one ∷ other ∷ []) log.new) }
     {
         if conflicts == 0 {
@@ -251,7 +295,9 @@ impl Solver {
             Found::GivenUp => Ok(Turn::GivenUp),
             Found::Lemma(lemma) => {
                 self.order.enter(lemma.lits())?;
-                self.levels.add(&mut self.propagator, &lemma)?;
+                let clause = self.levels.add(&mut self.propagator, &lemma)?;
+                self.lemmas
+                    .push(clause, log.lines().len(), lemma.lits().len(), few)?;
                 log.push(lemma)?;
                 Ok(Turn::Learnt)
             }

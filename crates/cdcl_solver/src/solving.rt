@@ -1,5 +1,5 @@
 // One goal over given clauses.
-ghost use Rattle.std.specs.Prelude.{◌≡◌, ◌<◌, ◌^◌, IfOk, ◌++◌};
+ghost use Rattle.std.specs.Prelude.{◌≡◌, ◌<◌, ◌^◌, ◌++◌, IfOk, OnOk};
 ghost use Rattle.std.specs.List.{All};
 ghost use Rattle.clause_core.specs.Clause.{IsClauseInRange};
 ghost use Rattle.cdcl_solver.specs.Loading.{IsSolverOver};
@@ -9,7 +9,7 @@ ghost use Rattle.cdcl_solver.specs.Solving.{IsAnswer};
 use crate::log::Log;
 use crate::solved::Solved;
 use crate::solver::Solver;
-use clause_core::{ClauseList, Line};
+use clause_core::ClauseList;
 use graph_core::Memory;
 use std::alloc::Global;
 
@@ -34,9 +34,7 @@ pub fn solve(
     ensures answer { IfOk result (IsAnswer max clauses.now assumptions.now conflicts log.old log.new) }
 {
     let mut solver = load(alloc, max, clauses, log)?;
-    let solved = solver.solve(assumptions, conflicts, log);
-    let _lines = log.additions();
-    solved
+    solver.solve(assumptions, conflicts, log)
 }
 
 // A solver over the clauses and those that the log left live.
@@ -47,13 +45,18 @@ fn load(alloc: Global, max: u32, clauses: &ClauseList, log: &Log) -> Result<Solv
     ensures { IfOk result (λ solver. IsSolverOver solver max (log.now.left ++ clauses.now)) }
 {
     let mut solver = Solver::new(alloc, max)?;
+    add_all(&mut solver, clauses)?;
+    let left = log.left(alloc)?;
+    add_all(&mut solver, &left)?;
+    Ok(solver)
+}
+
+fn add_all(solver: &mut Solver, clauses: &ClauseList) -> Result<(), Memory>
+    requires { All (IsClauseInRange solver.old.max) clauses.now }
+    ensures { OnOk result (solver.new ≡ record { max = solver.old.max; live = solver.old.live ++ clauses.now }) }
+{
     for i in 0..clauses.len() {
         solver.add(clauses.get(i))?;
     }
-    for line in log.additions() {
-        if let Line::Add(clause) = line {
-            solver.add(clause)?;
-        }
-    }
-    Ok(solver)
+    Ok(())
 }

@@ -12,7 +12,7 @@ use Rattle.clause_core.specs.ClauseLines.{ClauseLine}
 use Rattle.clause_core.specs.GateClauses.{gate_clauses}
 use Rattle.clause_core.specs.Log.{AreLogLines, AreRunsSpaced, Spacing, first_spacing, spacing_after, spacing_of}
 use Rattle.clause_core.specs.UnitPropagation.{IsRup}
-use Rattle.cdcl_solver.specs.Additions.{AreAdditions}
+use Rattle.cdcl_solver.specs.Deletions.{OnlyAdds}
 use Rattle.cdcl_solver.specs.Loading.{SameLive}
 use Rattle.cdcl_solver.specs.Logs.{Continues, LogView, lemmas}
 use Rattle.cdcl_solver.specs.Shows.{IsShownByLog}
@@ -35,7 +35,7 @@ begun_none max given conflicts solver log is none = subst (λ (s : SolverView). 
 }))
 
 -- More lines after more lines.
-continues_on : (max : ℕ) (given : List Clause) (n m limit : ℕ) (old mid new : LogView) → Continues max given n old mid → Continues max given m mid new → lemmas new ≤ lemmas old + limit → Continues max given limit old new
+pub continues_on : (max : ℕ) (given : List Clause) (n m limit : ℕ) (old mid new : LogView) → Continues max given n old mid → Continues max given m mid new → lemmas new ≤ lemmas old + limit → Continues max given limit old new
 continues_on max given n m limit old mid new a b few = record {
   more = a.more ++ b.more;
   lines = b.lines ∙ ap (λ (z : List ClauseLine). z ++ b.more) a.lines ∙ append_assoc old.lines a.more b.more;
@@ -46,7 +46,7 @@ continues_on max given n m limit old mid new a b few = record {
   few = few;
 }
 
-pub begun_more : (max : ℕ) (given : List Clause) (conflicts limit : ℕ) (solver new : SolverView) (log after : LogView) → IsBegun max given conflicts solver log → limit ≤ conflicts - lemmas log → new.max ≡ solver.max → AreAdditions after.lines →
+pub begun_more : (max : ℕ) (given : List Clause) (conflicts limit : ℕ) (solver new : SolverView) (log after : LogView) → IsBegun max given conflicts solver log → limit ≤ conflicts - lemmas log → new.max ≡ solver.max → OnlyAdds log after →
     Continues solver.max solver.live limit log after → All (IsClauseInRange solver.max) after.left → SameLive new.live (after.left ++ solver.live) → IsBegun max given conflicts new after
 begun_more max given conflicts limit solver new log after h room same adds goes range now =
     let here = subst (λ m. Continues m solver.live limit log after) h.kept.max_is goes in

@@ -11,7 +11,7 @@ use Rattle.clause_core.specs.declared.line.Line.TheVariants.{Add, Delete}
 use Rattle.clause_core.proofs.CallerLemmas.{contains_cases, contains_here, contains_nil, contains_there}
 use Rattle.clause_core.proofs.Copies.{same_self}
 use Rattle.clause_core.proofs.Sets.{rup_by_sets}
-use Rattle.cdcl_solver.specs.Additions.{AreAdditions}
+use Rattle.cdcl_solver.specs.Deletions.{AreAdditions, OnlyAdds}
 use Rattle.cdcl_solver.specs.Loading.{SameLive}
 use Rattle.cdcl_solver.specs.Logs.{Continues, LogView}
 use Rattle.cdcl_solver.specs.Solving.{IsAnswer, assignment_of}
@@ -59,14 +59,9 @@ left_kept given own [] left adds h c i = subst (λ (z : List Clause). Contains z
 left_kept given own (Add x ∷ lines) left adds h c i = left_kept given h.0 lines left adds h.2 c (subst (λ (z : List Clause). Contains z c) (sym h.1.1) (contains_there x own c i))
 left_kept given own (Delete x ∷ lines) left adds h c i = absurd adds
 
-additions_back : (xs ys : List ClauseLine) → AreAdditions (xs ++ ys) → AreAdditions ys
-additions_back [] ys h = h
-additions_back (Add c ∷ xs) ys h = additions_back xs ys h
-additions_back (Delete c ∷ xs) ys h = absurd h
-
-module _ (max : ℕ) (given live : List Clause) (limit : ℕ) (old new : LogView) (same : SameLive live (old.left ++ given)) (adds : AreAdditions new.lines) (h : Continues max live limit old new) where
+module _ (max : ℕ) (given live : List Clause) (limit : ℕ) (old new : LogView) (same : SameLive live (old.left ++ given)) (adds : OnlyAdds old new) (h : Continues max live limit old new) where
   only_adds : AreAdditions h.more
-  only_adds = additions_back old.lines h.more (subst AreAdditions h.lines adds)
+  only_adds = adds h.more h.lines
 
   stays : Within old.left new.left
   stays = left_kept live old.left h.more new.left only_adds h.lawful

@@ -6,3 +6,4 @@ pub mod Kept
 pub mod Outcomes
 pub mod Lawful
 pub mod Beginning
+pub mod AsMany

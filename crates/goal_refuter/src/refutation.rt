@@ -2,6 +2,7 @@
 ghost use Rattle.std.specs.Prelude.{List, ◌≡◌, ◌<◌, ◌^◌, [], ◌∷◌, ◌++◌, map, nat_abs, neg_ℤ, IfOk, OnOk};
 ghost use Rattle.std.specs.List.{All, Contains};
 ghost use Rattle.clause_core.specs.Clause.{Clause as Literals, IsClauseInRange};
+ghost use Rattle.cdcl_solver.specs.Deletions.{ChangeAlike};
 ghost use Rattle.cdcl_solver.specs.Loading.{SameLive};
 ghost use Rattle.goal_refuter.specs.Refuting.{IsRefutation};
 
@@ -27,11 +28,10 @@ pub fn refute(
         IfOk result (IsRefutation solver.old.max given goal.now conflicts log.old log.new) }
     ensures live { (given : List Literals) → SameLive solver.old.live (log.old.left ++ given) →
         OnOk result (SameLive solver.new.live (log.new.left ++ given)) }
+    ensures alike { OnOk result (ChangeAlike solver.old.live log.old solver.new.live log.new) }
 {
     let negated = negations(alloc, goal)?;
     let solved = solver.solve(&negated, conflicts, log)?;
-    // it adds and doesn't delete
-    let _lines = log.additions();
     if let Solved::Refuted = solved {
         solver.add(goal)?;
         log.push(goal.copy(alloc)?)?;

@@ -4,6 +4,7 @@ ghost use Rattle.std.specs.List.{Contains};
 ghost use Rattle.clause_core.specs.Clause.{Clause};
 ghost use Rattle.clause_core.specs.GateClauses.{signed_of};
 ghost use Rattle.clause_core.specs.UnitPropagation.{IsRup};
+ghost use Rattle.cdcl_solver.specs.Deletions.{ChangeAlike};
 ghost use Rattle.goal_refuter.specs.Beginnings.{AreShownEqual, IsBegun, StaysBegun};
 
 use cdcl_solver::{Log, Solver};
@@ -22,6 +23,7 @@ pub fn show_equal(
 ) -> Result<bool, Memory>
     requires { (max : ℕ) × (given : List Clause) × IsBegun max given conflicts solver.old log.old }
     ensures begun { OnOk result (StaysBegun conflicts solver.old log.old solver.new log.new) }
+    ensures alike { OnOk result (ChangeAlike solver.old.live log.old solver.new.live log.new) }
     ensures shown { IfOk result (λ both. IsTrue both → AreShownEqual solver.new.live one other) }
 {
     if !show(solver, one.not(), other, few, conflicts, log)? {
@@ -41,6 +43,7 @@ fn show(
 ) -> Result<bool, Memory>
     requires { (max : ℕ) × (given : List Clause) × IsBegun max given conflicts solver.old log.old }
     ensures begun { OnOk result (StaysBegun conflicts solver.old log.old solver.new log.new) }
+    ensures alike { OnOk result (ChangeAlike solver.old.live log.old solver.new.live log.new) }
     ensures live { OnOk result ((c : Clause) → Contains solver.old.live c → Contains solver.new.live c) }
     ensures shown { IfOk result (λ shown. IsTrue shown
         → IsRup solver.new.live (signed_of one ∷ signed_of other ∷ [])) }
@@ -52,7 +55,5 @@ fn show(
     let second = signed(other);
     let left = conflicts - log.added();
     let shown = solver.show(first, second, few.min(left), log)?;
-    // it adds and doesn't delete
-    let _lines = log.additions();
     Ok(shown)
 }

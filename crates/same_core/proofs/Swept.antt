@@ -9,10 +9,10 @@ use Rattle.clause_core.specs.GateClauses.{gate_clauses}
 use Rattle.clause_core.specs.Likeness.{AreSameSets}
 use Rattle.cdcl_solver.specs.Logs.{LogView}
 use Rattle.cdcl_solver.specs.Solvers.{SolverView}
-use Rattle.goal_refuter.specs.Beginnings.{IsBegun, StaysBegun}
+use Rattle.goal_refuter.specs.Beginnings.{IsBegunAlike, StaysBegunAlike}
 use Rattle.goal_refuter.specs.Refutations.{unmet_of}
 use Rattle.goal_refuter.specs.Refuting.{AreOver}
-use Rattle.goal_refuter.proofs.Beginning.{begun_none}
+use Rattle.goal_refuter.proofs.AsMany.{begun_alike}
 use Rattle.miter_encoder.specs.ColumnGoals.{columns_from}
 use Rattle.same_core.specs.Merged.{Both, over}
 
@@ -20,14 +20,14 @@ use Rattle.same_core.specs.Merged.{Both, over}
 pub record IsSwept (b : Both) (clauses goals : List Clause) (conflicts : ℕ) (solver : SolverView) (log : LogView) : Type 0 where
   pub max_is : solver.max ≡ b.max
   pub are : AreOver (over b) solver.max clauses goals
-  pub begun : IsBegun solver.max clauses conflicts solver log
+  pub begun : IsBegunAlike solver.max clauses conflicts solver log
 
 pub swept : (b : Both) (max : ℕ) (gates : List Gate) (pairs : List (Lit × Lit)) (clauses goals : List Clause) (conflicts : ℕ) (first solver : SolverView) (none log : LogView) →
     max ≡ b.max → gates ≡ b.gates → pairs ≡ b.pairs → AreSameSets clauses (gate_clauses gates) → AreSameSets goals (flat_map unmet_of (columns_from 0 pairs)) →
-    first ≡ record { max = max; live = clauses } → none ≡ record { lines = []; left = [] } → StaysBegun conflicts first none solver log → IsSwept b clauses goals conflicts solver log
+    first ≡ record { max = max; live = clauses } → none ≡ record { lines = []; left = [] } → StaysBegunAlike conflicts first none solver log → IsSwept b clauses goals conflicts solver log
 swept b max gates pairs clauses goals conflicts first solver none log max_is gates_are pairs_are clauses_are goals_are is empty stays =
-    let begun = stays max clauses (begun_none max clauses conflicts first none is empty) in
-    let same : solver.max ≡ b.max = begun.kept.max_is ∙ max_is in
+    let begun = stays max clauses (begun_alike max clauses conflicts first none is empty) in
+    let same : solver.max ≡ b.max = begun.0.kept.max_is ∙ max_is in
     record {
       max_is = same;
       are = record {
@@ -35,5 +35,5 @@ swept b max gates pairs clauses goals conflicts first solver none log max_is gat
         clauses_are = subst (λ (gs : List Gate). AreSameSets clauses (gate_clauses gs)) gates_are clauses_are;
         goals_are = subst (λ (ps : List (Lit × Lit)). AreSameSets goals (flat_map unmet_of (columns_from 0 ps))) pairs_are goals_are;
       };
-      begun = subst (λ (m : ℕ). IsBegun m clauses conflicts solver log) (sym begun.kept.max_is) begun;
+      begun = subst (λ (m : ℕ). IsBegunAlike m clauses conflicts solver log) (sym begun.0.kept.max_is) begun;
     }

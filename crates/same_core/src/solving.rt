@@ -9,7 +9,7 @@ ghost use Rattle.same_core.specs.Places.{IsMerged};
 use crate::merged::Merged;
 use crate::sweeping::sweep;
 use cdcl_solver::Log;
-use goal_refuter::{Outcome, pair_goals, refute_behind, solver_of};
+use goal_refuter::{Outcome, pair_goals, refute_alike, solver_of};
 use graph_core::{Graph, Memory};
 use miter_encoder::gate_clauses_of;
 use std::alloc::Global;
@@ -26,7 +26,7 @@ pub(crate) fn decide(alloc: Global, merged: &Merged, conflicts: u64) -> Result<O
     let mut solver = solver_of(alloc, greatest, &clauses)?;
     let mut log = Log::new(alloc);
     sweep(alloc, merged, conflicts, &mut solver, &mut log)?;
-    refute_behind(alloc, &goals, conflicts, &mut solver, log)
+    refute_alike(alloc, &goals, conflicts, &mut solver, log)
 }
 
 // The inputs of a graph where its variables have these values.

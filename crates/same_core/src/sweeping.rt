@@ -1,13 +1,13 @@
 // Equal gates of two graphs, from the inputs upward.
 ghost use Rattle.std.specs.Prelude.{ℕ, List, OnOk};
 ghost use Rattle.clause_core.specs.Clause.{Clause};
-ghost use Rattle.goal_refuter.specs.Beginnings.{IsBegun, StaysBegun};
+ghost use Rattle.goal_refuter.specs.Beginnings.{IsBegunAlike, StaysBegunAlike};
 
 use crate::levels::by_level;
 use crate::merged::Merged;
 use crate::twins::Twins;
 use cdcl_solver::{Log, Solver};
-use goal_refuter::show_equal;
+use goal_refuter::{forget, show_equal};
 use graph_core::{Gate, Lit, Memory};
 use stage_guesser::Draws;
 use std::alloc::Global;
@@ -23,13 +23,14 @@ pub(crate) fn sweep(
     solver: &mut Solver,
     log: &mut Log,
 ) -> Result<(), Memory>
-    requires { (max : ℕ) × (given : List Clause) × IsBegun max given conflicts solver.old log.old }
-    ensures { OnOk result (StaysBegun conflicts solver.old log.old solver.new log.new) }
+    requires { (max : ℕ) × (given : List Clause) × IsBegunAlike max given conflicts solver.old log.old }
+    ensures { OnOk result (StaysBegunAlike conflicts solver.old log.old solver.new log.new) }
 {
     let order = by_level(alloc, merged.levels())?;
     let mut twins = simulate(alloc, merged, &order)?;
     for step in order.as_slice() {
         show_at(merged, step.1, conflicts, &mut twins, solver, log)?;
+        forget(solver, conflicts, log)?;
     }
     Ok(())
 }
@@ -43,8 +44,8 @@ fn show_at(
     solver: &mut Solver,
     log: &mut Log,
 ) -> Result<(), Memory>
-    requires { (max : ℕ) × (given : List Clause) × IsBegun max given conflicts solver.old log.old }
-    ensures { OnOk result (StaysBegun conflicts solver.old log.old solver.new log.new) }
+    requires { (max : ℕ) × (given : List Clause) × IsBegunAlike max given conflicts solver.old log.old }
+    ensures { OnOk result (StaysBegunAlike conflicts solver.old log.old solver.new log.new) }
 {
     match merged.gates().get(place) {
         Some(gate) if !merged.is_first(gate) => {
@@ -63,8 +64,8 @@ fn show_twin(
     solver: &mut Solver,
     log: &mut Log,
 ) -> Result<(), Memory>
-    requires { (max : ℕ) × (given : List Clause) × IsBegun max given conflicts solver.old log.old }
-    ensures { OnOk result (StaysBegun conflicts solver.old log.old solver.new log.new) }
+    requires { (max : ℕ) × (given : List Clause) × IsBegunAlike max given conflicts solver.old log.old }
+    ensures { OnOk result (StaysBegunAlike conflicts solver.old log.old solver.new log.new) }
 {
     // so that the goals have their part
     if conflicts / 4 < twins.spent() {

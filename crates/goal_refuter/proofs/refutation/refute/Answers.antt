@@ -25,7 +25,7 @@ returns-clause-answer c = λ given same.
     let solved = c.in_ok-solved.solved in
     let limit = c.args.conflicts in
     let is = c.deref.ensures.value ∙ c.in_ok-negated.ensures in
-    let adds = c.additions-lines.ensures.additions in
+    let adds = c.solve.ensures.adds in
     let continues = continues_kept max given live limit old mid same adds c.in_ok-solved.ensures.log in
     let answer = answer_kept max given live limit old mid same adds c.in_ok-solved.ensures.log c.deref.result.now solved c.in_ok-solved.ensures.answer in
     elim c.match-solved.branch [
@@ -44,7 +44,7 @@ returns-clause-live c = λ given same.
     let here = c.args.goal.now in
     let mid = c.solve.new.log in
     let after = c.solve.new.self in
-    let kept = live_kept max given c.args.solver.now.live c.args.conflicts c.args.log.now mid same c.additions-lines.ensures.additions c.in_ok-solved.ensures.log after.live c.in_ok-solved.ensures.live in
+    let kept = live_kept max given c.args.solver.now.live c.args.conflicts c.args.log.now mid same c.solve.ensures.adds c.in_ok-solved.ensures.log after.live c.in_ok-solved.ensures.live in
     elim c.match-solved.branch [
       | in-Refuted+in_ok-add+in_ok-copy+in_ok-push w ↦
           let copy : Clause = w.in_ok-copy.field-0 in

@@ -13,7 +13,7 @@ show-requires-clause-log c = begun_range c.requires.0 c.requires.1 c.args.confli
 pub returns-clause-begun : goal.returns-clause-begun
 returns-clause-begun c max given begun =
     begun_more max given c.args.conflicts c.min.result c.args.solver.now c.show.new.self c.args.log.now c.show.new.log begun (let added = c.added.ensures in let least = c.min.ensures in omega arith)
-    c.in_ok-shown.ensures.max c.additions-lines.ensures.additions c.in_ok-shown.ensures.log c.in_ok-shown.ensures.in_range c.in_ok-shown.ensures.live
+    c.in_ok-shown.ensures.max c.show.ensures.adds c.in_ok-shown.ensures.log c.in_ok-shown.ensures.in_range c.in_ok-shown.ensures.live
 
 pub returns-clause-live : goal.returns-clause-live
 returns-clause-live c = live_stays c.args.solver.now.live c.show.new.self.live c.show.new.log c.in_ok-shown.ensures.live

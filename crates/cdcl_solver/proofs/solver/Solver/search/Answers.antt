@@ -4,8 +4,8 @@ use Rattle.cdcl_solver.specs.declared.solver.Turn.{Turn}
 use Rattle.cdcl_solver.specs.Loading.{SameLive}
 use Rattle.cdcl_solver.specs.Logs.{LogView}
 use Rattle.cdcl_solver.specs.Solvers.{IsTurn}
-use Rattle.cdcl_solver.proofs.LogLemmas.{continues_none}
-use Rattle.cdcl_solver.proofs.SolverLemmas.{turn_more, known_live, turned, end_answer}
+use Rattle.cdcl_solver.proofs.LogLemmas.{adds_none, alike_none, continues_none}
+use Rattle.cdcl_solver.proofs.SolverLemmas.{turn_alike, turn_more, known_live, turned, end_answer}
 use Rattle.cdcl_solver.proofs.solver.Solver.search.Goals as goal
 
 pub loop-turn-init : goal.loop-turn-init
@@ -14,6 +14,8 @@ loop-turn-init c = record {
   live = known_live c.args.log.now.left c.args.self.now.live c.requires.known;
   continues = continues_none c.args.self.now.max c.args.self.now.live c.args.log.now;
   in_range = c.requires.log;
+  alike = alike_none c.args.self.now.live c.args.log.now;
+  adds = adds_none c.args.log.now;
   count = omega arith;
 }
 
@@ -39,4 +41,5 @@ loop-turn-preserved c =
     let inv = c.loop-turn.invariant in
     let turns = subst (λ (t : Turn). IsTurn c.loop-turn.self c.loop-turn.log c.turn.new.self c.turn.new.log c.args.assumptions.now c.args.few t) c.in-Learnt.is c.in_ok-turn.ensures.turn in
     let t = turn_more c.args.self.now.max c.args.self.now.live c.args.log.now c.loop-turn.turn c.loop-turn.self c.turn.new.self c.loop-turn.log c.turn.new.log c.args.assumptions.now inv.max inv.live inv.continues inv.in_range inv.count turns in
-    record { max = t.0; live = t.1; continues = t.2; in_range = t.3; count = t.4 }
+    let u = turn_alike c.args.self.now.live c.args.log.now inv.continues.more c.loop-turn.self c.turn.new.self c.loop-turn.log c.turn.new.log c.args.assumptions.now inv.continues.lines inv.alike inv.adds turns in
+    record { max = t.0; live = t.1; continues = t.2; in_range = t.3; alike = u.0; adds = u.1; count = t.4 }

@@ -4,7 +4,8 @@ use Rattle.clause_core.specs.Clause.{IsClauseInRange}
 use Rattle.clause_core.specs.UnitPropagation.{IsRup}
 use Rattle.cdcl_solver.specs.Solvers.{SolverView}
 use Rattle.cdcl_solver.proofs.SearchLemmas.{rup_wider}
-use Rattle.cdcl_solver.proofs.ShowLemmas.{kept_follows, kept_more, negated_range, refuted_follows, some_answer, two_equal}
+use Rattle.cdcl_solver.proofs.LogLemmas.{adds_none}
+use Rattle.cdcl_solver.proofs.ShowLemmas.{kept_alike, kept_follows, kept_more, negated_range, refuted_follows, some_answer, two_equal}
 use Rattle.cdcl_solver.proofs.SolverLemmas.{known_live}
 use Rattle.cdcl_solver.proofs.solver.Solver.show.Goals as goal
 
@@ -17,6 +18,18 @@ returns-then-conflicts-eq0-clause-live c = known_live c.args.log.now.left c.args
 
 pub returns-then-not-are_apart-clause-live : goal.returns-then-not-are_apart-clause-live
 returns-then-not-are_apart-clause-live c = known_live c.args.log.now.left c.args.self.now.live c.requires.known
+
+pub returns-then-conflicts-eq0-clause-adds : goal.returns-then-conflicts-eq0-clause-adds
+returns-then-conflicts-eq0-clause-adds c = adds_none c.args.log.now
+
+pub returns-then-not-are_apart-clause-adds : goal.returns-then-not-are_apart-clause-adds
+returns-then-not-are_apart-clause-adds c = adds_none c.args.log.now
+
+pub keep-requires-clause-range : goal.keep-requires-clause-range
+keep-requires-clause-range c =
+    let apart = c.are_apart.ensures c.if-not-are_apart.false in
+    let both = to_z w32 (of_z w32 c.args.one) ∷ to_z w32 (of_z w32 c.args.other) ∷ [] in
+    subst (λ m. IsClauseInRange m both) (sym c.search.ensures.max) (subst (λ (v : SolverView). IsClauseInRange v.max both) c.self.view_is apart.0)
 
 pub search-requires-clause-assumptions : goal.search-requires-clause-assumptions
 search-requires-clause-assumptions c =
@@ -50,10 +63,14 @@ returns c =
     let follows = refuted_follows c.args.self.now.max c.args.self.now.live _ (c.args.conflicts - 1) c.args.log.now c.search.new.log c.in-Some-Refuted.field-0 c.args.one c.args.other answer c.in-Some-Refuted.field-0-is both in
     let kept = c.in_ok-keep-in-Some-Refuted.ensures.kept in
     let more = kept_more c.args.self.now.max c.args.self.now.live c.args.log.now (c.args.conflicts - 1) c.args.conflicts c.search.new.self c.keep.new.self c.search.new.log c.keep.new.log (omega arith) c.search.ensures.max c.in_ok-search.ensures.live c.search.ensures.log c.search.ensures.in_range kept in
+    let goes = c.search.ensures.log in
+    let alike = kept_alike c.args.self.now.live c.args.log.now goes.more c.search.new.self c.keep.new.self c.search.new.log c.keep.new.log goes.lines c.in_ok-search.ensures.alike c.search.ensures.adds kept in
     record {
       max = c.keep.ensures.max ∙ c.search.ensures.max;
       log = more.1;
       in_range = more.2;
       live = more.0;
+      alike = alike.0;
+      adds = alike.1;
       shown = kept_follows c.args.self.now.live c.search.new.self c.keep.new.self c.search.new.log c.keep.new.log (c.args.one ∷ c.args.other ∷ []) kept follows;
     }
