@@ -1,6 +1,7 @@
 -- What is asked for has its numbers in range, and names that differ where they must.
 use Rattle.std.proofs.Common.{◌≡◌, ◌≢◌, ◌<◌, ◌≤◌, ◌⊎◌, ◌^◌, ◌==◌, ◌&&◌, ◌||◌, inl, inr, ℕ, Bool, true, false, List, [], ◌∷◌, Option, Some, None, nat_le, nat_lt, refl, sym, ◌∙◌, true≢false, subst, codes, arith}
-use Rattle.std.specs.Prelude.{IfSome, if◌then◌else◌, option_and_then}
+use Rattle.std.specs.Prelude.{IfSome, if◌then◌else◌, option_and_then, option_map, ⊤}
+use Rattle.std.specs.List.{after_first, before_first}
 use Rattle.std.specs.Option.{option_map_or}
 use Rattle.std.specs.Str.{bytes_eq}
 use Rattle.std.proofs.lemmas.Bool.Decides.{nat_tests}
@@ -8,7 +9,12 @@ use Rattle.std.proofs.lemmas.Slice.Eq.{bytes_eq-Decides}
 use Rattle.clap.specs.Words.{Kinds, Row, Text, fault_of, first_of, subcommand_of}
 use Rattle.graph_core.specs.declared.claim.Claim.{Claim}
 use Rattle.graph_maker.specs.declared.adder.Adder.{Adder}
+use Rattle.graph_core.specs.declared.widths.Widths.{Widths}
+use Rattle.graph_core.specs.declared.widths.Widths.TheVariants.{Equal, Given}
+use Rattle.graph_maker.specs.Designed.{IsDesign}
 use Rattle.graph_maker.specs.declared.design.Design.{Design}
+use Rattle.graph_maker.specs.declared.design.Design.TheVariants.{Corrected, Multiplier, MultiplyAdd, OfWidths}
+use Rattle.graph_maker.specs.declared.kind.Kind.{Kind}
 use Rattle.command_line.specs.declared.command.Command.{Command}
 use Rattle.command_line.specs.declared.command.Command.TheVariants.{Check, CheckSame, Eval, Make, Same, Trial, Trim, Verify}
 use Rattle.command_line.specs.declared.files.Files.{Files}
@@ -16,7 +22,7 @@ use Rattle.command_line.specs.declared.files.PairFiles.{PairFiles}
 use Rattle.command_line.specs.declared.files.TrimFiles.{TrimFiles}
 use Rattle.command_line.specs.declared.point.Point.{Point}
 use Rattle.command_core.specs.Files.{AreDistinct}
-use Rattle.command_line.specs.Asked.{AreBits, IsCommandInRange, IsUnread, LeavesFiles, LeavesGraphs, adder_named, are_reused, are_shared, asked, bits_asked, check_of, check_same_of, check_same_with, check_with, claim_at, design_named, is_overwriting, is_file_read, is_set, pair_at, same_of, same_with, files_at, verify_of, verify_with, version_at, version_from, word_at, word_from, eval_of, eval_with, make_of, make_with, met, command_named, number_of, point_at, read_at, trial_of, trial_with, trim_files_at, trim_asked, trim_with, where_taken}
+use Rattle.command_line.specs.Asked.{AreBits, IsCommandInRange, IsUnread, LeavesFiles, LeavesGraphs, adder_named, are_reused, are_shared, asked, bits_asked, check_of, check_same_of, check_same_with, check_with, claim_at, design_asked, design_at, design_named, design_with, is_overwriting, is_file_read, is_set, is_x, kind_named, pair_at, same_of, same_with, files_at, verify_of, verify_with, version_at, version_from, word_at, word_from, eval_of, eval_with, make_of, make_with, met, command_named, number_of, point_at, read_at, trial_of, trial_with, trim_files_at, trim_asked, trim_with, where_taken, widths_named, widths_with}
 use Rattle.command_line.specs.FixedCommand.{mulver}
 
 -- ---- the number
@@ -30,9 +36,62 @@ in_bits : (o : Option ℕ) → IfSome (option_and_then (λ n. if nat_le 1 n && n
 in_bits None = tt
 in_bits (Some n) = if_in_range (nat_le 1 n) (nat_le n 64) n refl refl
 
-bits_in : (o : Option Text) → IfSome (option_and_then bits_asked o) AreBits
-bits_in None = tt
-bits_in (Some text) = in_bits (number_of text)
+bits_in : (text : Text) → IfSome (bits_asked text) AreBits
+bits_in text = in_bits (number_of text)
+
+-- ---- a design
+
+abbrev AreOfWidths : Widths → Type 0
+AreOfWidths (Equal add) = ⊤
+AreOfWidths (Given a b add) = AreBits a × AreBits b
+
+abbrev IsDesignOf : Design × ℕ → Type 0
+IsDesignOf d = AreBits d.1 × IsDesign d.0
+
+widths_in : (add : Bool) (a b : Option ℕ) → IfSome a AreBits → IfSome b AreBits → IfSome (widths_with add a b) AreOfWidths
+widths_in add (Some a) (Some b) h k = (h, k)
+widths_in add (Some a) None h k = tt
+widths_in add None b h k = tt
+
+kind_in : (add : Bool) (kind : Option Kind) → IfSome (option_map (λ k. if add then MultiplyAdd k else Multiplier k) kind) IsDesign
+kind_in true (Some k) = tt
+kind_in false (Some k) = tt
+kind_in add None = tt
+
+named_in : (add : Bool) (text : Text) → IfSome (design_named add text) IsDesign
+named_in add text = at add (bytes_eq text (codes "corrected"))
+  where
+    at : (add t : Bool) → IfSome (if t then (if add then None else Some Corrected) else option_map (λ k. if add then MultiplyAdd k else Multiplier k) (kind_named text)) IsDesign
+    at true true = tt
+    at false true = tt
+    at add false = kind_in add (kind_named text)
+
+with_bits : (n : ℕ) (design : Option Design) → AreBits n → IfSome design IsDesign → IfSome (option_map (λ d. (d, n)) design) IsDesignOf
+with_bits n (Some d) h k = (h, k)
+with_bits n None h k = tt
+
+of_widths_in : (a b : ℕ) (kind : Option Kind) → AreBits a → AreBits b → IfSome (option_map (λ k. (OfWidths k b, a)) kind) IsDesignOf
+of_widths_in a b (Some k) h i = (h, i)
+of_widths_in a b None h i = tt
+
+design_in : (add : Bool) (kind : Text) (bits : Option ℕ) (widths : Option Widths) → IfSome bits AreBits → IfSome widths AreOfWidths
+    → IfSome (design_with add kind bits widths) IsDesignOf
+design_in add kind (Some n) widths h k = with_bits n (design_named add kind) h (named_in add kind)
+design_in add kind None (Some (Given a b false)) h k = of_widths_in a b (kind_named kind) k.0 k.1
+design_in add kind None (Some (Given a b true)) h k = tt
+design_in add kind None (Some (Equal sum)) h k = tt
+design_in add kind None None h k = tt
+
+asked_in : (add : Bool) (kind bits : Text) → IfSome (design_asked add kind bits) IsDesignOf
+asked_in add kind bits =
+    design_in add kind (bits_asked bits) (widths_named add bits) (bits_in bits)
+    (widths_in add (bits_asked (before_first is_x bits)) (bits_asked (after_first is_x bits)) (bits_in (before_first is_x bits)) (bits_in (after_first is_x bits)))
+
+designs_in : (add : Bool) (kind bits : Option Text)
+    → IfSome (option_and_then (λ k. option_and_then (design_asked add k) bits) kind) IsDesignOf
+designs_in add (Some kind) (Some bits) = asked_in add kind bits
+designs_in add (Some kind) None = tt
+designs_in add None bits = tt
 
 -- a number below 2^32 from a least one on
 abbrev AreFrom : ℕ → ℕ → Type 0
@@ -111,13 +170,12 @@ eval_range (Some g) (Some p) command e = same_range command (Eval g p) tt e
 eval_range None point command e = cc
 eval_range (Some g) None command e = cc
 
-make_range : (design : Option Design) (bits : Option ℕ) (adder : Option Adder) (out : Option Text) (command : Command)
-    → IfSome bits AreBits → make_with design bits adder out ≡ Some command → IsCommandInRange command
-make_range (Some d) (Some n) (Some a) (Some o) command in_range e = same_range command (Make d n a o) in_range e
-make_range None bits adder out command in_range e = cc
-make_range (Some d) None adder out command in_range e = cc
-make_range (Some d) (Some n) None out command in_range e = cc
-make_range (Some d) (Some n) (Some a) None command in_range e = cc
+make_range : (design : Option (Design × ℕ)) (adder : Option Adder) (out : Option Text) (command : Command)
+    → IfSome design IsDesignOf → make_with design adder out ≡ Some command → IsCommandInRange command
+make_range (Some (d, n)) (Some a) (Some o) command in_range e = same_range command (Make d n a o) in_range e
+make_range None adder out command in_range e = cc
+make_range (Some (d, n)) None out command in_range e = cc
+make_range (Some (d, n)) (Some a) None command in_range e = cc
 
 trial_range : (number : Option ℕ) (command : Command) → IfSome number (AreFrom 0) → trial_with number ≡ Some command → IsCommandInRange command
 trial_range (Some n) command in_range e = same_range command (Trial n) in_range.1 e
@@ -184,8 +242,8 @@ named_range name rows command =
     pick false true x y z s t r e = verify_range (files_at rows) (claim_at rows) (word_at 1 1000000 (codes "budget") rows) (word_at 0 100000 (codes "conflicts") rows) (version_at rows) command
         (word_in 1 1000000 (first_of (codes "budget") rows) (omega arith, omega arith)) (word_in 0 100000 (first_of (codes "conflicts") rows) (omega arith, omega arith)) (version_in (word_at 1 1 (codes "format") rows)) e
     pick false false true y z s t r e = eval_range (first_of (codes "graph") rows) (point_at rows) command e
-    pick false false false true z s t r e = make_range (read_at (design_named (is_set (codes "add") rows)) (codes "kind") rows) (read_at bits_asked (codes "bits") rows)
-        (read_at adder_named (codes "adder") rows) (first_of (codes "out") rows) command (bits_in (first_of (codes "bits") rows)) e
+    pick false false false true z s t r e = make_range (design_at rows) (read_at adder_named (codes "adder") rows) (first_of (codes "out") rows) command
+        (designs_in (is_set (codes "add") rows) (first_of (codes "kind") rows) (first_of (codes "bits") rows)) e
     pick false false false false true s t r e = trial_range (read_at (word_from 0) (codes "number") rows) command (word_of_in (first_of (codes "number") rows)) e
     pick false false false false false true t r e = pair_range (pair_at rows) (word_at 0 100000 (codes "conflicts") rows) command
         (word_in 0 100000 (first_of (codes "conflicts") rows) (omega arith, omega arith)) e

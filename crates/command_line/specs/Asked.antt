@@ -16,9 +16,10 @@ use Rattle.graph_core.specs.declared.widths.Widths.TheVariants.{Equal, Given}
 use Rattle.graph_maker.specs.declared.adder.Adder.{Adder}
 use Rattle.graph_maker.specs.declared.adder.Adder.TheVariants.{Ripple, Kogge, Sklansky}
 use Rattle.graph_maker.specs.declared.design.Design.{Design}
-use Rattle.graph_maker.specs.declared.design.Design.TheVariants.{Corrected, Multiplier, MultiplyAdd}
+use Rattle.graph_maker.specs.declared.design.Design.TheVariants.{Corrected, Multiplier, MultiplyAdd, OfWidths}
 use Rattle.graph_maker.specs.declared.kind.Kind.{Kind}
 use Rattle.graph_maker.specs.declared.kind.Kind.TheVariants.{Array, Dadda}
+use Rattle.graph_maker.specs.Designed.{IsDesign}
 use Rattle.command_core.specs.Files.{AreDistinct}
 use Rattle.command_core.specs.declared.names.Names.{Names}
 use Rattle.mv_nums.specs.Numeral.{decimal_value}
@@ -105,6 +106,15 @@ is_x byte = byte == 120
 abbrev pub widths_named : Bool → Text → Option Widths
 widths_named add text = widths_with add (bits_asked (before_first is_x text)) (bits_asked (after_first is_x text))
 
+-- a design and its bits: of one number of bits any design, and of two a multiplier without an addend
+abbrev pub design_with : Bool → Text → Option ℕ → Option Widths → Option (Design × ℕ)
+design_with add kind (Some bits) widths = option_map (λ design. (design, bits)) (design_named add kind)
+design_with add kind None (Some (Given a b false)) = option_map (λ k. (OfWidths k b, a)) (kind_named kind)
+design_with add kind None _ = None
+
+abbrev pub design_asked : Bool → Text → Text → Option (Design × ℕ)
+design_asked add kind bits = design_with add kind (bits_asked bits) (widths_named add bits)
+
 -- a number below 2^32, from a least one on
 abbrev pub word_from : ℕ → Text → Option ℕ
 word_from least text =
@@ -137,12 +147,12 @@ abbrev pub widths_at : Bool → List Row → Option Widths
 widths_at add rows = option_map_or (widths_named add) (first_of (codes "widths") rows) (Some (Equal add))
 
 -- what is claimed: an order, a kind of operands, and their widths; no rule says how operands of given widths interleave
-abbrev pub claim_of : Order → Sign → Widths → Option Claim
-claim_of Interleaved sign (Given a b add) = None
-claim_of order sign widths = Some (record { order = order; sign = sign; widths = widths })
+abbrev pub claim_asked : Order → Sign → Widths → Option Claim
+claim_asked Interleaved sign (Given a b add) = None
+claim_asked order sign widths = Some (record { order = order; sign = sign; widths = widths })
 
 abbrev pub claim_with : Option Order → Option Sign → Option Widths → Option Claim
-claim_with (Some order) (Some sign) (Some widths) = claim_of order sign widths
+claim_with (Some order) (Some sign) (Some widths) = claim_asked order sign widths
 claim_with _ _ _ = None
 
 abbrev pub claim_at : List Row → Option Claim
@@ -229,15 +239,19 @@ eval_with _ _ = None
 abbrev pub eval_of : List Row → Option Command
 eval_of rows = eval_with (first_of (codes "graph") rows) (point_at rows)
 
--- `make`: a design, a number of bits, an adder, and the name of a file
-abbrev pub make_with : Option Design → Option ℕ → Option Adder → Option Text → Option Command
-make_with (Some design) (Some bits) (Some adder) (Some out) = Some (Make design bits adder out)
-make_with _ _ _ _ = None
+-- the design of the kind and the bits that are named, with an addend or without it
+abbrev pub design_at : List Row → Option (Design × ℕ)
+design_at rows =
+    read_at (λ kind. read_at (design_asked (is_set (codes "add") rows) kind) (codes "bits") rows) (codes "kind") rows
+
+-- `make`: a design with its bits, an adder, and the name of a file
+abbrev pub make_with : Option (Design × ℕ) → Option Adder → Option Text → Option Command
+make_with (Some (design, bits)) (Some adder) (Some out) = Some (Make design bits adder out)
+make_with _ _ _ = None
 
 abbrev pub make_of : List Row → Option Command
 make_of rows = make_with
-    (read_at (design_named (is_set (codes "add") rows)) (codes "kind") rows)
-    (read_at bits_asked (codes "bits") rows)
+    (design_at rows)
     (read_at adder_named (codes "adder") rows)
     (first_of (codes "out") rows)
 
@@ -392,7 +406,7 @@ pub record LeavesFiles (files : TrimFiles) : Type 0 where
 -- The numbers of `make`, `verify`, `trial` and `same` are in their ranges, no two names of `verify` are equal, `same` writes over no
 -- graph, and `trim` writes two files over none that it reads.
 abbrev pub IsCommandInRange : Command → Type 0
-IsCommandInRange (Make design bits adder out) = AreBits bits
+IsCommandInRange (Make design bits adder out) = AreBits bits × IsDesign design
 IsCommandInRange (Verify files claim budget conflicts version) =
     AreDistinct files.graph files.clauses files.algebra × (1 ≤ budget) × (budget < 2 ^ 32) × (conflicts < 2 ^ 32) × ((version ≡ 1) ⊎ (version ≡ 2))
 IsCommandInRange (Trial number) = number < 2 ^ 32

@@ -75,6 +75,14 @@ abbrev pub make_array : List Text
 make_array =
     codes "mulver" ∷ codes "make" ∷ codes "array" ∷ codes "064" ∷ codes "ripple" ∷ codes "x" ∷ []
 
+abbrev pub make_widths : List Text
+make_widths =
+    codes "mulver" ∷ codes "make" ∷ codes "dadda" ∷ codes "24x17" ∷ codes "kogge" ∷ codes "x" ∷ []
+
+abbrev pub make_widths_add : List Text
+make_widths_add =
+    codes "mulver" ∷ codes "make" ∷ codes "dadda" ∷ codes "24x17" ∷ codes "kogge" ∷ codes "x" ∷ codes "--add" ∷ []
+
 abbrev pub make_corrected : List Text
 make_corrected =
     codes "mulver" ∷ codes "make" ∷ codes "corrected" ∷ codes "8" ∷ codes "kogge" ∷ codes "x" ∷ []

@@ -4,16 +4,17 @@ ghost use Rattle.graph_core.specs.declared.order.Order.TheVariants.{Interleaved,
 ghost use Rattle.graph_core.specs.declared.sign.Sign.TheVariants.{Signed, Unsigned};
 ghost use Rattle.graph_core.specs.Graph.Operands.{adding, multiplying};
 ghost use Rattle.graph_maker.specs.declared.adder.Adder.TheVariants.{Kogge, Ripple};
-ghost use Rattle.graph_maker.specs.declared.design.Design.TheVariants.{Corrected, Multiplier, MultiplyAdd};
+ghost use Rattle.graph_maker.specs.declared.design.Design.TheVariants.{Corrected, Multiplier, MultiplyAdd, OfWidths};
 ghost use Rattle.graph_maker.specs.declared.kind.Kind.TheVariants.{Array, Dadda};
 ghost use Rattle.command_line.specs.declared.command.Command.TheVariants.{Eval, Make, Trial};
 ghost use Rattle.command_line.specs.Asked.{AsksTrim, IsCheck, asked};
-ghost use Rattle.command_line.specs.Examples.{NamesAreChecked, NumbersAreNumerals, WidthsAreNumerals, adding_to_24x17, g_c_a, g_c_a_x_y, check_interleaved, check_interleaved_widths, check_signed_sum, check_widths, check_g, make_array, make_corrected, make_dadda_add, make_corrected_add, eval_addend, one_two_three, trial_of_21, trim_interleaved, trim_to};
+ghost use Rattle.command_line.specs.Examples.{NamesAreChecked, NumbersAreNumerals, WidthsAreNumerals, adding_to_24x17, g_c_a, g_c_a_x_y, check_interleaved, check_interleaved_widths, check_signed_sum, check_widths, check_g, make_array, make_widths, make_widths_add, make_corrected, make_dadda_add, make_corrected_add, eval_addend, one_two_three, trial_of_21, trim_interleaved, trim_to};
 
 /// `mulver check` with any three names asks for `check` of these files: that the graph multiplies unsigned operands
 /// under `separate`. With an order, a kind of operands, `--add` or widths after them it asks for that claim, and with one
 /// name for nothing, nor for operands of given widths that are interleaved. Widths are two numerals with an x between
-/// them. `make corrected` takes no `--add`. `trim` is asked for like `check`, with two names more, neither of which may
+/// them. `make corrected` takes no `--add`, and nor does `make`
+/// of two widths. `trim` is asked for like `check`, with two names more, neither of which may
 /// be another of the five.
 pub fn plain_words()
     ensures names { NamesAreChecked }
@@ -24,6 +25,8 @@ pub fn plain_words()
     ensures wide { IsCheck check_widths g_c_a adding_to_24x17 }
     ensures wide_interleaved { asked check_interleaved_widths ≡ None }
     ensures made { asked make_array ≡ Some (Make (Multiplier Array) 64 Ripple (codes "x")) }
+    ensures made_wide { asked make_widths ≡ Some (Make (OfWidths Dadda 17) 24 Kogge (codes "x")) }
+    ensures no_wide_sum { asked make_widths_add ≡ None }
     ensures corrected { asked make_corrected ≡ Some (Make Corrected 8 Kogge (codes "x")) }
     ensures sum { asked make_dadda_add ≡ Some (Make (MultiplyAdd Dadda) 8 Kogge (codes "x")) }
     ensures no_sum { asked make_corrected_add ≡ None }

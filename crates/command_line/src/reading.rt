@@ -10,7 +10,7 @@ use crate::defaults::{BUDGET, CONFLICTS};
 use crate::fail::WordsFail;
 use crate::files::{Files, PairFiles, TrimFiles};
 use crate::texts::{
-    adder_at, bits_at, claim_at, design_at, file_at, point_at, version_at, word_at, word_of,
+    adder_at, claim_at, design_at, file_at, point_at, version_at, word_at, word_of,
 };
 use clap::ArgMatches;
 use clap::error::ErrorKind;
@@ -119,8 +119,7 @@ fn eval(alloc: Global, matches: &ArgMatches<'_>) -> Result<Command, WordsFail>
 fn make(alloc: Global, matches: &ArgMatches<'_>) -> Result<Command, WordsFail>
     ensures { ReadsAsked (make_of (rows_of (found_of matches.now))) result }
 {
-    let design = design_at(matches).ok_or(WordsFail::Usage)?;
-    let bits = bits_at(matches, "bits").ok_or(WordsFail::Usage)?;
+    let (design, bits) = design_at(matches).ok_or(WordsFail::Usage)?;
     let adder = adder_at(matches, "adder").ok_or(WordsFail::Usage)?;
     let out = file_at(alloc, matches, "out")?;
     Ok(Command::Make {

@@ -1,6 +1,6 @@
 // What a single text says.
 ghost use Rattle.std.specs.Prelude.{◌≡◌};
-ghost use Rattle.command_line.specs.Asked.{adder_named, bits_asked, design_named, kind_named, number_of, order_named, sign_named, widths_named, word_from};
+ghost use Rattle.command_line.specs.Asked.{adder_named, bits_asked, design_asked, design_named, kind_named, number_of, order_named, sign_named, widths_named, word_from};
 
 use graph_core::{Order, Sign, Widths};
 use graph_maker::{Adder, Design, Kind};
@@ -26,8 +26,8 @@ pub(crate) fn sign_named(text: &str) -> Option<Sign>
     }
 }
 
-/// `corrected` is made without an addend alone, and the other kinds without one and with one.
-pub(crate) fn design_named(add: bool, text: &str) -> Option<Design>
+// `corrected` is made without an addend alone, and the other kinds without one and with one.
+fn design_named(add: bool, text: &str) -> Option<Design>
     ensures { result ≡ design_named add text.now }
 {
     if text == "corrected" {
@@ -39,6 +39,19 @@ pub(crate) fn design_named(add: bool, text: &str) -> Option<Design>
     } else {
         Design::Multiplier(kind)
     })
+}
+
+/// The design of a kind with its bits: of one number of bits any design, and of two a multiplier without an addend.
+pub(crate) fn design_asked(add: bool, kind: &str, bits: &str) -> Option<(Design, u32)>
+    ensures { result ≡ design_asked add kind.now bits.now }
+{
+    match (bits_of(bits), widths_named(add, bits)) {
+        (Some(bits), _) => Some((design_named(add, kind)?, bits)),
+        (None, Some(Widths::Given { a, b, add: false })) => {
+            Some((Design::OfWidths(kind_named(kind)?, b), a))
+        }
+        (None, _) => None,
+    }
 }
 
 pub(crate) fn adder_named(text: &str) -> Option<Adder>
@@ -59,8 +72,8 @@ pub(crate) fn number_of(text: &str) -> Option<u128>
     read_decimal(text.as_bytes()).ok()
 }
 
-/// A number of bits, from 1 to 64.
-pub(crate) fn bits_of(text: &str) -> Option<u32>
+// A number of bits, from 1 to 64.
+fn bits_of(text: &str) -> Option<u32>
     ensures { result ≡ bits_asked text.now }
 {
     let bits = number_of(text)?;

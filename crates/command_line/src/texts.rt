@@ -1,14 +1,14 @@
 // The texts of a subcommand, each under its name.
-ghost use Rattle.std.specs.Prelude.{◌≡◌, codes, option_map};
+ghost use Rattle.std.specs.Prelude.{◌≡◌, option_map};
 ghost use Rattle.clap.specs.Words.{first_of, found_of, rows_of};
-ghost use Rattle.command_line.specs.Asked.{addend_at, adder_named, bits_asked, claim_at, claim_of, design_named, is_given, is_set, number_of, order_at, point_at, read_at, sign_at, version_at, widths_at, word_at, word_from};
+ghost use Rattle.command_line.specs.Asked.{addend_at, adder_named, claim_at, claim_asked, design_at, is_given, is_set, number_of, order_at, point_at, read_at, sign_at, version_at, widths_at, word_at, word_from};
 ghost use Rattle.command_line.specs.Reading.{ReadsAsked};
 
 use crate::fail::WordsFail;
 use crate::files::FileName;
 use crate::point::Point;
 use crate::single::{
-    adder_named, bits_of, design_named, number_of, order_named, sign_named, widths_named, word_from,
+    adder_named, design_asked, number_of, order_named, sign_named, widths_named, word_from,
 };
 use clap::ArgMatches;
 use graph_core::{Claim, Order, Sign, Widths};
@@ -35,7 +35,7 @@ pub(crate) fn claim_at(matches: &ArgMatches<'_>) -> Option<Claim>
     let order = order_at(matches)?;
     let sign = sign_at(matches)?;
     let widths = widths_at(matches, is_set(matches, "add"))?;
-    claim_of(order, sign, widths)
+    claim_asked(order, sign, widths)
 }
 
 /// The operands that are given, and the addend where one is.
@@ -47,7 +47,7 @@ pub(crate) fn point_at(matches: &ArgMatches<'_>) -> Option<Point>
     let c = addend_at(matches)?;
     let order = order_at(matches)?;
     let widths = widths_at(matches, is_given(matches, "addend"))?;
-    let claim = claim_of(order, Sign::Unsigned, widths)?;
+    let claim = claim_asked(order, Sign::Unsigned, widths)?;
     Some(Point { claim, a, b, c })
 }
 
@@ -79,18 +79,13 @@ pub(crate) fn word_of(matches: &ArgMatches<'_>, name: &str) -> Option<u64>
     word_from(0, text_at(matches, name)?)
 }
 
-/// The design of the kind that is named, with the flag `add` or without it.
-pub(crate) fn design_at(matches: &ArgMatches<'_>) -> Option<Design>
-    ensures { result ≡ read_at (design_named (is_set (codes "add") (rows_of (found_of matches.now))))
-        (codes "kind") (rows_of (found_of matches.now)) }
+/// The design of the kind and the bits that are named, with the flag `add` or without it.
+pub(crate) fn design_at(matches: &ArgMatches<'_>) -> Option<(Design, u32)>
+    ensures { result ≡ design_at (rows_of (found_of matches.now)) }
 {
-    design_named(is_set(matches, "add"), text_at(matches, "kind")?)
-}
-
-pub(crate) fn bits_at(matches: &ArgMatches<'_>, name: &str) -> Option<u32>
-    ensures { result ≡ read_at bits_asked name.now (rows_of (found_of matches.now)) }
-{
-    bits_of(text_at(matches, name)?)
+    let kind = text_at(matches, "kind")?;
+    let bits = text_at(matches, "bits")?;
+    design_asked(is_set(matches, "add"), kind, bits)
 }
 
 pub(crate) fn adder_at(matches: &ArgMatches<'_>, name: &str) -> Option<Adder>
@@ -130,8 +125,8 @@ fn widths_at(matches: &ArgMatches<'_>, add: bool) -> Option<Widths>
 }
 
 // No rule says how operands of given widths interleave.
-fn claim_of(order: Order, sign: Sign, widths: Widths) -> Option<Claim>
-    ensures { result ≡ claim_of order sign widths }
+fn claim_asked(order: Order, sign: Sign, widths: Widths) -> Option<Claim>
+    ensures { result ≡ claim_asked order sign widths }
 {
     match (order, widths) {
         (Order::Interleaved, Widths::Given { .. }) => None,

@@ -1,6 +1,6 @@
 use Rattle.command_line.proofs.AnyNames.{names_are_checked}
 use Rattle.command_line.proofs.Numerals.{numbers_are_numerals}
-use Rattle.command_line.proofs.PlainWords.{added, corrected, interleaved, made, no_sum, over_clauses, over_graph, signed_sum, sum, too_few, tried, trimmed, twice, wide, wide_interleaved}
+use Rattle.command_line.proofs.PlainWords.{added, corrected, interleaved, made, made_wide, no_sum, no_wide_sum, over_clauses, over_graph, signed_sum, sum, too_few, tried, trimmed, twice, wide, wide_interleaved}
 use Rattle.command_line.proofs.WidthTexts.{widths_are_numerals}
 use Rattle.command_line.proofs.examples.plain_words.Goals as goal
 
@@ -14,6 +14,8 @@ returns c = record {
   wide = wide;
   wide_interleaved = wide_interleaved;
   made = made;
+  made_wide = made_wide;
+  no_wide_sum = no_wide_sum;
   corrected = corrected;
   sum = sum;
   no_sum = no_sum;
