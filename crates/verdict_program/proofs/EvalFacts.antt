@@ -5,11 +5,11 @@ use Rattle.std.specs.Prelude.{IsSome}
 use Rattle.command_core.specs.Stopping.{GivesDue, IsGraphStop}
 use Rattle.command_core.proofs.CallerLemmas.{stop_gives}
 use Rattle.command_line.specs.declared.command.Command.TheVariants.{Eval}
+use Rattle.command_line.specs.declared.point.Point.{Point}
 use Rattle.mv_desk.specs.View.{View, Rose, bytes_under}
 use Rattle.verdict_program.specs.declared.answer.Answer.TheVariants as answer
 use Rattle.verdict_program.specs.declared.evaluated.Evaluated.{Evaluated}
 use Rattle.verdict_program.specs.declared.evaluated.Evaluated.TheVariants as evaluated
-use Rattle.verdict_program.specs.declared.point.Point.{Point}
 use Rattle.verdict_program.specs.Answer.{status_of, status_of_eval}
 use Rattle.verdict_program.specs.Evaluation.{IsEvaluated, IsValueDue, profile_at}
 use Rattle.verdict_program.specs.Runs.{EndsAsDue, standard}
@@ -30,13 +30,13 @@ module _ (graph : List ℕ) (point : Point) (a b : View) where
   six : (outcome : Evaluated) → Is outcome → status_of_eval outcome ≡ 6 → Rose a.read_faults b.read_faults
   six (evaluated.Value value) h e = absurd (omega arith)
   six evaluated.TooGreat h e = absurd (omega arith)
-  six (evaluated.Stopped why) h e = read_failed a b (IsGraphStop slot.Graph (profile_at point.addend) standard.graph (bytes_under a graph)) why h e
+  six (evaluated.Stopped why) h e = read_failed a b (IsGraphStop slot.Graph (profile_at point) standard.graph (bytes_under a graph)) why h e
 
   -- no other status has a cause to be told
   others : (outcome : Evaluated) → Is outcome → (status_of_eval outcome ≡ 1 → ⊥) × (status_of_eval outcome ≡ 5 → ⊥) × (status_of_eval outcome ≡ 7 → ⊥)
   others (evaluated.Value value) h = ((λ e. absurd (omega arith)), (λ e. absurd (omega arith)), (λ e. absurd (omega arith)))
   others evaluated.TooGreat h = ((λ e. absurd (omega arith)), (λ e. absurd (omega arith)), (λ e. absurd (omega arith)))
-  others (evaluated.Stopped why) h = let apart = stop_is_apart why in (apart.one, apart.five, no_write_failed a b (IsGraphStop slot.Graph (profile_at point.addend) standard.graph (bytes_under a graph)) why h)
+  others (evaluated.Stopped why) h = let apart = stop_is_apart why in (apart.one, apart.five, no_write_failed a b (IsGraphStop slot.Graph (profile_at point) standard.graph (bytes_under a graph)) why h)
 
   -- of a file that is told one answer is due
   one_due : (file : Option (List ℕ)) (given due : Evaluated) → IsSome file → IsValueDue standard.graph file point given → IsValueDue standard.graph file point due → given ≡ due
@@ -47,9 +47,9 @@ module _ (graph : List ℕ) (point : Point) (a b : View) where
   gives : (outcome : Evaluated) → Is outcome → (due : Evaluated) → IsSome (bytes_under a graph) → IsValueDue standard.graph (bytes_under a graph) point due → GivesDue evaluated.Stopped a b due outcome
   gives (evaluated.Value value) h due told k = inl (one_due (bytes_under a graph) (evaluated.Value value) due told h k)
   gives evaluated.TooGreat h due told k = inl (one_due (bytes_under a graph) evaluated.TooGreat due told h k)
-  gives (evaluated.Stopped why) h due told k = stop_gives (IsGraphStop slot.Graph (profile_at point.addend) standard.graph (bytes_under a graph)) a b evaluated.Stopped due why (λ stops. one_due (bytes_under a graph) (evaluated.Stopped why) due told stops k) h
+  gives (evaluated.Stopped why) h due told k = stop_gives (IsGraphStop slot.Graph (profile_at point) standard.graph (bytes_under a graph)) a b evaluated.Stopped due why (λ stops. one_due (bytes_under a graph) (evaluated.Stopped why) due told stops k) h
 
-  pub eval_facts : (outcome : Evaluated) → Is outcome → Facts (Eval graph point.a point.b point.order point.addend) a b (answer.Evaluated outcome)
+  pub eval_facts : (outcome : Evaluated) → Is outcome → Facts (Eval graph point) a b (answer.Evaluated outcome)
   eval_facts outcome h = let none = others outcome h in record {
     zero = λ e. tt;
     one = λ e. absurd (none.0 e);

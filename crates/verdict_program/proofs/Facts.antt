@@ -34,7 +34,7 @@ Succeeds (Check files claim) given a b = IsAsClaimed a files.graph claim
 Succeeds (Verify files claim budget conflicts version) given a b =
     TellsHeld a → TellsNames a → (noted : Option Note) × (long : Option Slot) × (given ≡ answer.Verified (verdict.Proved long) noted) ×
     HoldsPair (task_asked claim budget conflicts version) (files_asked files) b standard.graph noted × IsFirstTooLongHeld standard (files_asked files) b long
-Succeeds (Eval graph x y order addend) given a b = ⊤
+Succeeds (Eval graph point) given a b = ⊤
 Succeeds (Make design bits adder out) given a b = TellsHeld a → TellsNames a → b.held out ≡ Some (Some (text_for out (designed design bits adder)))
 Succeeds (Trial number) given a b = (n : Note) × OfMade (sample_of number) (IsAcceptedWith n)
 Succeeds (Same files conflicts) given a b = AreTheSame a files.graph files.other × (TellsHeld a → TellsNames a → HoldsEqual standard.graph conflicts (pair_asked files) b)
@@ -50,7 +50,7 @@ IsWrongFor (Same files conflicts) a =
 IsWrongFor command a = ⊥
 
 abbrev pub IsTooGreatFor : Command → View → Type 0
-IsTooGreatFor (Eval graph x y order addend) a = IsValueDue standard.graph (bytes_under a graph) (record { a = x; b = y; order = order; addend = addend }) TooGreat
+IsTooGreatFor (Eval graph point) a = IsValueDue standard.graph (bytes_under a graph) point TooGreat
 IsTooGreatFor command a = ⊥
 
 abbrev pub IsUndecidedFor : Command → View → Type 0

@@ -11,7 +11,7 @@ use Rattle.graph_core.specs.Aiger.Writing.{ascii_text}
 use Rattle.algebra_core.specs.AlgebraLines.{Premises}
 use Rattle.algebra_core.specs.Certificates.{IsLawfulAlgebra}
 use Rattle.graph_core.specs.Graph.{Aig}
-use Rattle.graph_core.specs.Graph.Operands.{Multiplies, product_under, sides_of}
+use Rattle.graph_core.specs.Graph.Operands.{Does, product_under, sides_of}
 use Rattle.graph_core.specs.declared.order.Order.TheVariants.{Separate}
 use Rattle.graph_core.specs.declared.profile.Profile.TheVariants.{Multiplier as TwoOperands}
 use Rattle.graph_maker.specs.declared.design.Design.TheVariants.{Multiplier}
@@ -25,7 +25,7 @@ use Rattle.joint_checker.specs.declared.checked.Checked.TheVariants as checked
 use Rattle.joint_checker.specs.declared.checked.Refusal.{Refusal}
 use Rattle.joint_prover.specs.Notes.{IsNote, cut_of}
 use Rattle.joint_prover.specs.Pairs.{IsPairFor}
-use Rattle.joint_prover.specs.Verdicts.{HasNote, IsVerdict, IsWrong, IsWrongSum}
+use Rattle.joint_prover.specs.Verdicts.{HasNote, IsVerdict, IsWrong, IsWrongSum, two}
 use Rattle.command_core.specs.Written.{ReadsGraph, WritesFile, WritesPair}
 use Rattle.joint_prover.specs.declared.note.Note.{Note}
 use Rattle.joint_prover.specs.declared.verdict.Tried.{Tried}
@@ -50,6 +50,7 @@ use Rattle.verdict_program.specs.Making.{sample_graph, text_for}
 use Rattle.verdict_program.specs.Runs.{SpellsAsClaimed}
 use Rattle.verdict_program.specs.Trial.{HoldsGraph, HoldsTrial, IsAcceptedWith, IsOfMemory, OfMade, no_limits, trial_files, trial_task}
 use Rattle.verdict_program.proofs.MakingLemmas.{design_spells}
+use Rattle.verdict_program.proofs.ProductClaims.{product_is_claimed}
 use Rattle.verdict_program.proofs.MemoryFiles.{TellsFiles, algebra_is_held, clauses_are_held, file_is_held, graph_stays, honest_tells, is_written_to, within_no_limits}
 
 -- no count of read faults rose
@@ -102,7 +103,7 @@ module _ (sample : Sample) (some : 1 ≤ sample.bits) (narrow : sample.bits ≤ 
   Is v = IsVerdict no_limits trial_task trial_files a b v noted
 
   made : SpellsAsClaimed (product_under Separate) sample.bits text
-  made = design_spells (Multiplier sample.kind) sample.bits sample.adder trial_files.graph some narrow
+  made = design_spells (Multiplier sample.kind) sample.bits sample.adder trial_files.graph some narrow tt
 
   within : SpellsWithin TwoOperands no_limits.graph text made.0
   within = record { short = short; spells = made.1 }
@@ -116,14 +117,14 @@ module _ (sample : Sample) (some : 1 ≤ sample.bits) (narrow : sample.bits ≤ 
   never_wrong : (x y value product : ℕ) → Is (verdict.Wrong x y value product) → ⊥
   never_wrong x y value product h =
       let s = of_file (λ g. IsWrong g trial_task.claim x y value product × HasNote g trial_task noted (λ used. ⊤)) h.0 in
-      let multiplies = subst (λ g. Multiplies g Separate) (one_graph TwoOperands text made.0 s.0 made.1 s.1) made.3 in
+      let does = subst (Does (product_under Separate)) (one_graph TwoOperands text made.0 s.0 made.1 s.1) made.3 in
       let far = s.2.0.least.difference in
-      far.differs (multiplies x y far.a_below far.b_below)
+      far.differs (does (two x y) far.range)
 
   never_wrong_sum : (x y z value sum : ℕ) → Is (verdict.WrongSum x y z value sum) → ⊥
   never_wrong_sum x y z value sum h =
       let s = of_file (λ g. IsWrongSum g trial_task.claim x y z value sum × HasNote g trial_task noted (λ used. ⊤)) h.0 in
-      absurd (true≢false (sym s.2.0.added))
+      absurd (true≢false (sym s.2.0.addend))
 
   -- no other verdict comes
   pub never_other : (v : Verdict) → Is v → ((long : Option Slot) → v ≢ verdict.Proved long) → ((tried : Vec Tried Global) (step size : ℕ) (seen : Option Seen) → v ≢ verdict.Undecided tried step size seen) →
@@ -227,7 +228,7 @@ module _ (sample : Sample) (v : View) (n : Note) (held : HoldsGraph v sample) (h
         h.graph,
         subst (λ bytes. Spells TwoOperands bytes h.graph) same h.spells.spells,
         record {
-          multiplies = h.does;
+          multiplies = (product_is_claimed (ascii_text (sample_graph sample)) h.graph Separate (subst (λ bytes. Spells TwoOperands bytes h.graph) same h.spells.spells)).0 h.does;
           noted = h.note.0;
           clauses = h.clause_file;
           algebra = h.algebra_file;

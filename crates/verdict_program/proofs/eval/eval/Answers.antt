@@ -8,8 +8,8 @@ use Rattle.mv_desk.specs.declared.slot.Slot.TheVariants as slot
 use Rattle.verdict_program.proofs.EvalLemmas.{value_is_due}
 use Rattle.verdict_program.proofs.eval.eval.Goals as goal
 
-pub value_at-requires : goal.value_at-requires
-value_at-requires g c = subst (λ p. IsSizedAs p c.in-Ok.graph) c.profile.ensures c.in-Ok.ensures.sized
+pub evaluate-requires : goal.evaluate-requires
+evaluate-requires g c = subst (λ p. IsSizedAs p c.in-Ok.graph) c.profile.ensures c.in-Ok.ensures.sized
 
 pub returns-in-Ok : goal.returns-in-Ok
 returns-in-Ok g c =
@@ -19,7 +19,7 @@ returns-in-Ok g c =
     let read = c.in-Ok.ensures in
     let told = subst (λ p. IfSome (bytes_under a c.args.name.now) (λ bytes. SpellsWithin p limit bytes c.in-Ok.graph)) c.profile.ensures read.spelled in
     record {
-      outcome = value_is_due limit c.args.name.now c.in-Ok.graph c.args.point a b c.value_at.result told c.value_at.ensures;
+      outcome = value_is_due limit c.args.name.now c.in-Ok.graph c.args.point a b c.evaluate.result told c.evaluate.ensures;
       opens = record { opened = read.opens.opened; others = read.opens.others };
       inspects = read.inspects;
       tells = read.opens.tells;

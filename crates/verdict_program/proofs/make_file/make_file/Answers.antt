@@ -5,7 +5,7 @@ use Rattle.verdict_program.proofs.CreatingLemmas.{IsSame-refl, no_fault, same_le
 use Rattle.verdict_program.proofs.make_file.make_file.Goals as goal
 
 pub make_design-requires : goal.make_design-requires
-make_design-requires g c = record { some = c.requires.some; few = c.requires.narrow }
+make_design-requires g c = record { some = c.requires.some; few = c.requires.narrow; design = c.requires.design }
 
 pub create_file-requires : goal.create_file-requires
 create_file-requires g c = record { packed = c.in-Ok.ensures.packed }
