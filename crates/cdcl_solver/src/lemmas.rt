@@ -16,7 +16,7 @@ const OFTEN: u64 = 4;
 
 const SELDOM: u64 = 50;
 
-const MANY: u64 = 1000;
+const MANY: u64 = 20_000;
 
 /// A lemma: its clause, the place of its line in the log, and how many literals it has.
 #[derive(Clone, Copy, Debug)]
