@@ -11,11 +11,10 @@ ghost use Rattle.command_line.specs.Asked.{AsksTrim, IsCheck, asked};
 ghost use Rattle.command_line.specs.Examples.{NamesAreChecked, NumbersAreNumerals, WidthsAreNumerals, adding_to_24x17, g_c_a, g_c_a_x_y, check_interleaved, check_interleaved_widths, check_signed_sum, check_widths, check_g, make_array, make_widths, make_widths_add, make_corrected, make_dadda_add, make_corrected_add, eval_addend, one_two_three, trial_of_21, trim_interleaved, trim_to};
 
 /// `mulver check` with any three names asks for `check` of these files: that the graph multiplies unsigned operands
-/// under `separate`. With an order, a kind of operands, `--add` or widths after them it asks for that claim, and with one
-/// name for nothing, nor for operands of given widths that are interleaved. Widths are two numerals with an x between
-/// them. `make corrected` takes no `--add`, and nor does `make`
-/// of two widths. `trim` is asked for like `check`, with two names more, neither of which may
-/// be another of the five.
+/// under `separate`. With an order, a kind of operands, `--add` or widths after them it asks for that claim, and for
+/// nothing with one name, or for operands of given widths that are interleaved. Widths are two numerals with an x
+/// between them. `make corrected` takes no `--add`, nor does `make` of two widths. `trim` is asked for like `check`,
+/// with two names more, neither of which may be another of the five.
 pub fn plain_words()
     ensures names { NamesAreChecked }
     ensures numbers { NumbersAreNumerals }

@@ -28,7 +28,8 @@ pub(crate) struct Position {
 
 /// The pairs near an output whose sum with the carry it is, one for each carry out: the lowest. First come those after
 /// which the next column's output is the sum of the carry and one literal, and of like ones those with a constant, or
-/// without one where they are to come late. In the last column the lowest comes first: no carry out tells of them there.
+/// without one where they are to come late. In the last column the lowest comes first: no carry out tells of them
+/// there.
 pub(crate) fn choices(
     alloc: Global,
     graph: &Graph,
