@@ -1,5 +1,5 @@
 -- Reading an algebra certificate from the front.
-use Rattle.std.specs.Prelude.{◌≡◌, ℕ, Bool, true, false, ◌||◌, List, [], ◌∷◌, ◌++◌, codes, ◌==◌, ◌↔◌, if◌then◌else◌}
+use Rattle.std.specs.Prelude.{◌≡◌, ℕ, Bool, true, false, ◌||◌, List, [], ◌∷◌, ◌++◌, codes, ◌==◌, ◌↔◌, if◌then◌else◌, nat_lt}
 use Rattle.std.specs.declared.option.Option.{Option}
 use Rattle.std.specs.declared.option.Option.TheVariants.{None, Some}
 use Rattle.graph_core.specs.Text.{newline}
@@ -73,9 +73,9 @@ import_at id = map_at (λ x. Import id x.0 x.1) (behind_at (codes "c ") (then_at
 abbrev pub drop_at : ℕ → Reader Line
 drop_at id = text_at (codes "d;") (Delete id)
 
--- what only version 2 has
+-- what only versions above 1 have
 abbrev pub second_at : {A : Type 0} → ℕ → Reader A → Reader A
-second_at version item bytes = if version == 2 then item bytes else None
+second_at version item bytes = if nat_lt 1 version then item bytes else None
 
 -- a line, by the byte after its id
 unfoldable pub algebra_line_at : ℕ → Reader Line
