@@ -1,5 +1,5 @@
 -- The lines of an algebra certificate have no line feed in them.
-use Rattle.std.specs.Prelude.{◌≡◌, ℕ, Bool, true, false, cond, List, [], ◌∷◌, ◌++◌, codes, ◌==◌}
+use Rattle.std.specs.Prelude.{ℕ, Bool, true, false, cond, List, [], ◌∷◌, ◌++◌, codes, ◌==◌}
 use Rattle.std.proofs.Common.{refl, ⊎_elim}
 use Rattle.algebra_core.specs.Polynomials.{Term, Polynomial}
 use Rattle.algebra_core.specs.AlgebraLines.{Line, Sum, Product, Combination, Import, Delete, Part}

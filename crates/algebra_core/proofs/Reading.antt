@@ -2,11 +2,10 @@
 use Rattle.std.specs.Prelude.{◌≡◌, ℕ, ◌<◌, ◌⊎◌, Bool, true, false, cond, ◌||◌, List, [], ◌∷◌, ◌++◌, codes, ◌==◌, nat_lt}
 use Rattle.std.specs.declared.option.Option.{Option}
 use Rattle.std.specs.declared.option.Option.TheVariants.{None, Some}
-use Rattle.std.proofs.Common.{refl, sym, ap, ap₂, subst, ◌∙◌, arith, append_assoc, inl, inr, ⊎_elim, eqb-true, lt-ltb, ltb-true}
+use Rattle.std.proofs.Common.{refl, sym, ap, ap₂, subst, ◌∙◌, append_assoc, inl, inr, ⊎_elim, eqb-true, lt-ltb, ltb-true}
 use Rattle.std.proofs.lemmas.Option.{same_Some}
 use Rattle.std.proofs.lemmas.List.{append-nil}
-use Rattle.std.proofs.lemmas.List.Elements.{recursion_from_All}
-use Rattle.graph_core.specs.Text.{newline, IsNumeral, IsDigit}
+use Rattle.graph_core.specs.Text.{newline, IsNumeral}
 use Rattle.graph_core.specs.Text.Numerals.{number_at, is_digit, ◌>>=◌}
 use Rattle.graph_core.specs.Text.Readers.{Reader, behind_at, ended_at, then_at, choose_at, many_at, put_before}
 use Rattle.graph_core.proofs.OfTexts.CallerLemmas.{Ended, IsReaderOf, BehindText, Then, Bind, AreMany, NoneOf, OneOf, Anything, reads_number, reads_as, reads_map, reads_behind, reads_ended, reads_then, reads_text, reads_bind, reads_choice, reads_many, many_next, OtherOf, one_longer, numeral_first}

@@ -5,7 +5,6 @@ use Rattle.std.specs.declared.option.Option.TheVariants.{None, Some}
 use Rattle.graph_core.specs.Text.{newline}
 use Rattle.graph_core.specs.Text.Numerals.{number_at, is_digit}
 use Rattle.graph_core.specs.Text.Readers.{Reader, map_at, behind_at, ended_at, then_at, text_at, bind_at, choose_at, many_at}
-use Rattle.graph_core.proofs.OfTexts.CallerLemmas.{NoneOf}
 use Rattle.algebra_core.specs.Polynomials.{Term, Polynomial}
 use Rattle.algebra_core.specs.AlgebraLines.{Line, Sum, Product, Combination, Import, Delete, Part}
 use Rattle.algebra_core.specs.Text.{IsLineText, IsCloseText, IsAlgebraText, algebra_header}
