@@ -283,8 +283,8 @@ so_far_built g blocks i e h built = subst IsBuilt (ap (λ (x : Extended). x.grap
 
 -- ---- what is kept
 
-pub alone_kept : (g : Aig) (o : Option Added) (a : Added) (e : Extended) → IsAddedGrafted g o → seen g o ≡ e → o ≡ None → seen_in g a ≡ without_cut g → seen_in e.graph a ≡ e
-alone_kept g o a e h view is alone =
+pub alone_kept : (g : Aig) (o : Option Added) (a : Added) (e : Extended) → seen g o ≡ e → o ≡ None → seen_in g a ≡ without_cut g → seen_in e.graph a ≡ e
+alone_kept g o a e view is alone =
     let whole : e ≡ without_cut g = sym view ∙ ap (seen g) is in
     subst (λ (x : Extended). seen_in x.graph a ≡ x) (sym whole) alone
 

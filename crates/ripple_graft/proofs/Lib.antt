@@ -14,4 +14,5 @@ pub mod GraftedGraphs
 pub mod KnownLiterals
 pub mod PlacedBeside
 pub mod CutTests
+pub mod HeaderParts
 pub mod CallerLemmas

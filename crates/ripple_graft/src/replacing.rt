@@ -1,5 +1,5 @@
 // What is kept beside a graph, with a block, a gate or an output more.
-ghost use Rattle.std.specs.Prelude.{◌≡◌, ◌+◌, ◌<◌, ◌^◌, IfOk, length};
+ghost use Rattle.std.specs.Prelude.{◌≡◌, ◌<◌, IfOk, length, suc};
 ghost use Rattle.graph_core.specs.Graph.{Aig};
 ghost use Rattle.graph_core.specs.Graph.Extended.{without_cut};
 ghost use Rattle.ripple_graft.specs.Beside.{with_gate, with_output};
@@ -51,20 +51,16 @@ pub fn with_block(
     })
 }
 
-// One gate more, the conjunction of two literals.
-pub fn with_gate(before: Added, left: Lit, right: Lit) -> Result<Added, AllocError>
-    requires { before.max + 1 < 2 ^ 31 }
-    ensures { IfOk result (λ a. (g : Aig) → seen_in g a ≡ with_gate (seen_in g before) (left, right)) }
+// One gate more, with the variable after the greatest.
+pub fn with_gate(before: Added, gate: Gate) -> Result<Added, AllocError>
+    requires { gate.v ≡ suc before.max }
+    ensures { IfOk result (λ a. (g : Aig) →
+        seen_in g a ≡ with_gate (seen_in g before) (gate.left, gate.right)) }
 {
-    let max = before.max + 1;
     let mut gates = before.gates;
-    gates.push(Gate {
-        v: max,
-        left,
-        right,
-    })?;
+    gates.push(gate)?;
     Ok(Added {
-        max,
+        max: gate.v,
         gates,
         columns: before.columns,
     })
