@@ -125,15 +125,13 @@ module _ (later : Later) (g : Aig) where
 
   pub behind_header : (lengths : Lengths) (bytes : List ℕ) (h : Header) (body : List ℕ) (p : ℕ × LineCause) → PassesAnyHeader g lengths bytes h body → later (extended_with g h) (header_line_count h + 1) body p → IsFirstHeaderRefusal later g lengths bytes p
   behind_header lengths bytes h body p passes refused =
+      let IsLong = IsTooLong lengths (length bytes) in
       ⊎_elim
       (λ a. let t = a.1.2 in inr (t.short, inr (inl (t.rest, t.version, cut_behind IsLong t.rest a.1.0 body p t.cut_passes (subst (λ bs. later (with_blocks g bs) (2 + block_lines 0 bs + 1) body p) a.1.1 (plain 1 refl a.0 a.2))))))
       (λ o. ⊎_elim
       (λ b. let t = b.1 in inr (t.short, inr (inr (inl (t.rest, t.version, count_behind IsLong t.rest h.blocks body p t.blocks_pass (plain 2 refl b.0 b.2))))))
       (λ c. let t = c.1 in inr (t.short, inr (inr (inr (t.rest, t.version, parts_behind g later IsLong t.rest h.beside body p t.parts_pass (third c.0 c.2)))))) o) passes
     where
-      abbrev IsLong : List ℕ → Type 0
-      IsLong = IsTooLong lengths (length bytes)
-
       at : (version : ℕ) → h.version ≡ version → later (extended_with g h) (2 + block_lines (own_line version) h.blocks + beside_lines version h.beside + 1) body p
       at version is = subst (λ v. later (extended_with g h) (2 + block_lines (own_line v) h.blocks + beside_lines v h.beside + 1) body p) is refused
 

@@ -149,11 +149,9 @@ first_of outputs (Some cut) = refl
 pub header_written : (g : Aig) (h : Header) (after : List ℕ) → IsBuilt g → IsHeaderOf g h → IsAnyHeaderText (length g.outputs) (header_text h ++ after) h after
 header_written g h after built takes = ⊎_elim (λ k. ⊎_elim (λ a. one a.0 a.1.0 a.1.1 a.1.2 k.1) (λ b. two b.0 b.2 k.1) k.0) (λ k. three k.0 k.1 k.2) takes
   where
-    abbrev text_of : ℕ → List ℕ
-    text_of version = cond (version == 3) (third_line ++ beside_text h.beside) (cond (version == 2) (second_line ++ count_text h.blocks) (version_line ++ cut_text (first_cut h.blocks)))
-
-    text : (version : ℕ) → h.version ≡ version → header_text h ≡ text_of version
-    text version is = ap text_of is
+    text : (version : ℕ) → h.version ≡ version →
+        header_text h ≡ cond (version == 3) (third_line ++ beside_text h.beside) (cond (version == 2) (second_line ++ count_text h.blocks) (version_line ++ cut_text (first_cut h.blocks)))
+    text version is = ap (λ v. cond (v == 3) (third_line ++ beside_text h.beside) (cond (v == 2) (second_line ++ count_text h.blocks) (version_line ++ cut_text (first_cut h.blocks)))) is
 
     one : h.version ≡ 1 → (cut : Option Cut) → h.blocks ≡ cut_blocks (length g.outputs) cut → IsCutOf g cut → h.beside ≡ nothing → IsAnyHeaderText (length g.outputs) (header_text h ++ after) h after
     one is cut blocks fits alone =

@@ -45,12 +45,12 @@ next_output outputs i d early =
 abbrev pub no_output : ℕ × Lit
 no_output = (0, record { 0 = 0 })
 
--- a number and lines, after a word and before more
-pub listed_end : (word count lines : List ℕ) → ((word ++ count) ++ newline ∷ []) ++ lines ≡ word ++ count ++ newline ∷ lines
-listed_end word count lines = append_assoc (word ++ count) (newline ∷ []) lines ∙ append_assoc word count (newline ∷ lines)
+pub outputs_end : (count outputs : List ℕ) → ((codes "replace " ++ count) ++ newline ∷ []) ++ outputs ≡ codes "replace " ++ count ++ newline ∷ outputs
+outputs_end count outputs = ap (λ z. codes "replace " ++ z) (append_assoc count (newline ∷ []) outputs)
 
-pub beside_end : (count pairs outputs : List ℕ) → ((((codes "joined 3\ngates ") ++ count) ++ newline ∷ []) ++ pairs) ++ outputs ≡ third_line ++ ((codes "gates " ++ count ++ newline ∷ pairs) ++ outputs)
-beside_end count pairs outputs = ap (λ z. z ++ outputs) (listed_end (codes "joined 3\ngates ") count pairs)
+pub beside_end : (count gates outputs : List ℕ) →
+    ((((codes "joined 3\ngates ") ++ count) ++ newline ∷ []) ++ gates) ++ outputs ≡ third_line ++ ((codes "gates " ++ count ++ newline ∷ gates) ++ outputs)
+beside_end count gates outputs = ap (λ z. codes "joined 3\ngates " ++ z) (ap (λ z. z ++ outputs) (append_assoc count (newline ∷ []) gates))
 
 -- the cut of the first block
 pub first_there : (blocks : List Block) (d : Block) → 0 < length blocks → first_cut blocks ≡ Some (get_or blocks 0 d).cut

@@ -167,7 +167,11 @@ fn any_header<D: Desk>(
         return match beside(alloc, file, desk, graph) {
             Ok(beside) => {
                 let blocks = BlockList::from_vec(Vec::new(alloc));
-                Ok(Header { version, blocks, beside })
+                Ok(Header {
+                    version,
+                    blocks,
+                    beside,
+                })
             }
             Err(fail) => Err(fail),
         };
@@ -176,7 +180,11 @@ fn any_header<D: Desk>(
         Ok(blocks) => {
             let blocks = BlockList::from_vec(blocks);
             let beside = Beside::nothing(alloc);
-            Ok(Header { version, blocks, beside })
+            Ok(Header {
+                version,
+                blocks,
+                beside,
+            })
         }
         Err(fail) => Err(fail),
     }

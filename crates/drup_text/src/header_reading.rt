@@ -115,11 +115,7 @@ fn has_pair(extended: &Extended<'_>, x: Lit, y: Lit) -> bool
     extended.is_known(x) && extended.is_known(y)
 }
 
-fn number_line(
-    scanner: &mut Scanner<'_>,
-    word: &[u8],
-    most: u32,
-) -> Result<Option<u32>, LineFail>
+fn number_line(scanner: &mut Scanner<'_>, word: &[u8], most: u32) -> Result<Option<u32>, LineFail>
     ensures ok { IfOk result (TakesNumberLine word.now most scanner.old scanner.new) }
     ensures err { IfErr result (IsMisfit (number_line_at word.now scanner.old ≡ None)) }
 {
@@ -134,7 +130,10 @@ fn output(
     ensures ok { IfOk result (TakesOutput extended.now scanner.old scanner.new) }
     ensures err { IfErr result (IsMisfit (output_line_at scanner.old ≡ None)) }
 {
-    let Some((column, new)) = two(scanner, u32::MAX)? else {
+    let columns = extended.graph().outputs();
+    let greatest = extended.max();
+    let most = columns.max(2 * greatest + 1);
+    let Some((column, new)) = two(scanner, most)? else {
         return Ok(None);
     };
     if has_output(extended, column, Lit(new)) {
