@@ -2,7 +2,9 @@
 use Rattle.std.specs.Prelude.{◌≡◌, ◌≢◌, ℕ, zero, suc, ◌+◌, ◌*◌, ◌<◌, ◌≤◌, Bool, true, false, List, [], ◌∷◌, ◌++◌, map, length, take, drop, slice_get, slice_index_or}
 use Rattle.std.specs.declared.option.Option.{Option}
 use Rattle.std.specs.declared.option.Option.TheVariants.{None, Some}
+use Rattle.std.specs.declared.result.Result.{Result}
 use Rattle.std.specs.Option.{IfSome}
+use Rattle.std.specs.Result.{IfOk}
 use Rattle.std.specs.List.{AllByRecursion, Contains}
 use Rattle.std.proofs.Common.{refl, sym, ap, subst, ◌∙◌, arith, append_assoc, append-nil, length-append, length-drop, get_or, get_or-append-add, Fits, w32}
 use Rattle.std.proofs.lemmas.List.{length-map, take_more}
@@ -283,17 +285,17 @@ so_far_built g blocks i e h built = subst IsBuilt (ap (λ (x : Extended). x.grap
 
 -- ---- what is kept
 
-pub alone_kept : (g : Aig) (o : Option Added) (a : Added) (e : Extended) → seen g o ≡ e → o ≡ None → seen_in g a ≡ without_cut g → seen_in e.graph a ≡ e
-alone_kept g o a e view is alone =
+pub alone_kept : {X : Type 0} (g : Aig) (o : Option Added) (r : Result Added X) (e : Extended) → seen g o ≡ e → o ≡ None → IfOk r (λ a. seen_in g a ≡ without_cut g) → IfOk r (λ a. seen_in e.graph a ≡ e)
+alone_kept g o r e view is alone =
     let whole : e ≡ without_cut g = sym view ∙ ap (seen g) is in
-    subst (λ (x : Extended). seen_in x.graph a ≡ x) (sym whole) alone
+    subst (λ (x : Extended). IfOk r (λ a. seen_in x.graph a ≡ x)) (sym whole) alone
 
 pub more_kept : (g : Aig) (o : Option Added) (a : Added) (e : Extended) → seen g o ≡ e → o ≡ Some a → seen_in e.graph a ≡ e
 more_kept g o a e view is =
     let whole : seen_in g a ≡ e = ap (seen g) (sym is) ∙ view in
     subst (λ (x : Extended). seen_in x.graph a ≡ x) whole refl
 
--- it is the extended graph, and without faults where the graph is
+-- as the graph's, it is the extended graph
 pub kept_is : (g : Aig) (o : Option Added) (a : Added) (e : Extended) → IsAddedGrafted g o → seen g o ≡ e → seen_in e.graph a ≡ e → seen_in g a ≡ e
 kept_is g o a e h view kept =
     let same : e.graph ≡ g = ap (λ (x : Extended). x.graph) (sym view) ∙ grafted_graph g (seen g o) h in

@@ -103,6 +103,7 @@ module _ (e : Extended) (high : ℕ) (own : List Gate) (made : IsExtension e) (c
   own_known : (v : ℕ) → e.max < v → v ≤ high → Contains (defined (whole longer)) v
   own_known v lt le =
       let all = length-map own (λ x. x.v) in
+      let top = many in
       subst (λ z. Contains z v) defined_is
       (Contains-append_right (defined (whole e)) (map (λ x. x.v) own) v (counts_contain (e.max + 1) (map (λ x. x.v) own) counts v (omega arith) (omega arith)))
 
@@ -110,7 +111,7 @@ module _ (e : Extended) (high : ℕ) (own : List Gate) (made : IsExtension e) (c
   one_readable l le one = (le, ⊎_elim (still_of (variable_of l)) (λ lt. inr (own_known (variable_of l) lt le)) one)
 
   still_readable : (l : Lit) → IsReadable e l → IsReadable longer l
-  still_readable l h = let low = h.0 in (omega arith, still_of (variable_of l) h.1)
+  still_readable l h = let low = h.0 in let top = many in (omega arith, still_of (variable_of l) h.1)
 
   operands : All (λ x. IsReadable longer x.left × IsReadable longer x.right) (e.gates ++ own)
   operands =
@@ -162,7 +163,7 @@ module _ (e : Extended) (high : ℕ) (own : List Gate) (made : IsExtension e) (c
   pub gates_extend : IsExtension longer
   gates_extend = record {
     graph = made.graph;
-    room = let room = made.room in omega arith;
+    room = let room = made.room in let top = many in omega arith;
     defined_once = record {
       inputs = made.defined_once.inputs;
       gates = All-append (λ x. 0 < x.v) e.gates own made.defined_once.gates (λ k d h. omega (arith, (each k d h).from));
