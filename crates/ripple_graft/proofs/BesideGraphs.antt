@@ -1,7 +1,7 @@
 -- What stands beside an extended graph keeps it without faults, and each evaluation goes on to one with it.
-use Rattle.std.specs.Prelude.{◌≡◌, ◌≢◌, ℕ, suc, zero, ◌+◌, ◌<◌, ◌≤◌, List, [], ◌∷◌, ◌++◌, map, length}
+use Rattle.std.specs.Prelude.{◌≡◌, ◌≢◌, ℕ, suc, ◌+◌, ◌<◌, ◌≤◌, List, [], ◌∷◌, map, length}
 use Rattle.std.specs.List.{AllByRecursion, Any}
-use Rattle.std.proofs.Common.{refl, sym, subst, ◌∙◌, arith, inl, inr}
+use Rattle.std.proofs.Common.{refl, sym, subst, ◌∙◌, arith, inl}
 use Rattle.graph_core.specs.declared.literal.Lit.{Lit}
 use Rattle.graph_core.specs.declared.gate.Gate.{Gate}
 use Rattle.graph_core.specs.Graph.Assignments.{Assignment}
@@ -9,11 +9,11 @@ use Rattle.graph_core.specs.Graph.Extended.{Column, Extended}
 use Rattle.graph_core.specs.Graph.Literals.{and_gate}
 use Rattle.graph_core.specs.Graph.{IsEvaluation}
 use Rattle.graph_core.proofs.OfAiger.CallerLemmas.{Counts}
-use Rattle.ripple_graft.specs.Beside.{AreGates, AreOutputs, Beside, BesideExtends, EvaluationsGoOnBeside, FitsBeside, IsOutput, with_gate, with_gates, with_output, with_outputs}
+use Rattle.ripple_graft.specs.Beside.{AreGates, AreOutputs, BesideExtends, EvaluationsGoOnBeside, IsOutput, with_gate, with_gates, with_output, with_outputs}
 use Rattle.ripple_graft.specs.Blocks.{SameUpTo}
-use Rattle.ripple_graft.specs.Extension.{IsExtension, IsReplaced}
+use Rattle.ripple_graft.specs.Extension.{IsExtension}
 use Rattle.ripple_graft.specs.Grafts.{IsKnownPair}
-use Rattle.ripple_graft.proofs.MoreColumns.{AreFree, columns_extend}
+use Rattle.ripple_graft.proofs.MoreColumns.{columns_extend}
 use Rattle.ripple_graft.proofs.MoreGates.{IsAbove, IsOf, gates_extend, gates_go_on, known_low}
 
 -- ---- one gate

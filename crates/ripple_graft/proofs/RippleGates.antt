@@ -1,9 +1,8 @@
 -- The variables of a ripple-carry adder's gates: they count on, and each reads variables below its own.
-use Rattle.std.specs.Prelude.{◌≡◌, ℕ, ◌+◌, ◌*◌, ◌<◌, ◌≤◌, ◌⊎◌, List, [], ◌∷◌, map, length}
+use Rattle.std.specs.Prelude.{◌≡◌, ℕ, ◌+◌, ◌*◌, ◌<◌, ◌≤◌, List, [], ◌∷◌, map, length}
 use Rattle.std.specs.List.{AllByRecursion}
 use Rattle.std.proofs.Common.{refl, sym, subst, arith, inl, inr}
 use Rattle.graph_core.specs.declared.literal.Lit.{Lit}
-use Rattle.graph_core.specs.declared.gate.Gate.{Gate}
 use Rattle.graph_core.specs.Graph.Literals.{constant_false, variable_of, negation_of}
 use Rattle.graph_core.proofs.OfGraphs.CallerLemmas.{variable_of-negated}
 use Rattle.graph_core.specs.Graph.Positions.{position, carry_after}

@@ -18,7 +18,7 @@ use Rattle.ripple_graft.specs.declared.fault.GraftFail.{GraftFail}
 use Rattle.ripple_graft.specs.declared.fault.GraftFail.TheVariants.{Columns, Literal, Memory}
 use Rattle.ripple_graft.specs.Ripple.{ripple_gates, ripple_outputs}
 use Rattle.ripple_graft.specs.Extension.{IsExtension, IsKnown}
-use Rattle.ripple_graft.specs.Blocks.{AreBlocks, Block, Cut, IsBlock, graft_block, reach, with_blocks}
+use Rattle.ripple_graft.specs.Blocks.{Block, Cut, IsBlock, graft_block, reach}
 
 -- The cut has a pair, and its sums end at the last column or the one before it.
 pub record HasColumns (g : Aig) (cut : Cut) : Type 0 where

@@ -1,4 +1,3 @@
-use Rattle.std.specs.Prelude.{◌≡◌}
 use Rattle.std.proofs.Common.{ap, subst, sym, ◌∙◌}
 use Rattle.graph_core.specs.Graph.Extended.{Extended}
 use Rattle.ripple_graft.specs.Blocks.{IsBlock, block, graft_block}

@@ -1,4 +1,3 @@
-use Rattle.std.specs.Prelude.{suc}
 use Rattle.std.proofs.Common.{ap, subst, sym, ◌∙◌, arith}
 use Rattle.graph_core.specs.Graph.Extended.{Extended}
 use Rattle.ripple_graft.specs.Beside.{with_gate}
