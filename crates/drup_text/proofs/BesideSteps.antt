@@ -10,7 +10,8 @@ use Rattle.graph_core.specs.Graph.Extended.{Extended, without_cut}
 use Rattle.mv_desk.specs.View.{View}
 use Rattle.mv_text.specs.CertificateFiles.{FileState}
 use Rattle.mv_text.specs.declared.line_fail.LineFail.{LineFail}
-use Rattle.ripple_graft.specs.Beside.{AreGates, AreOutputs, Beside, IsBeside, IsOutput, with_gate, with_gates, with_output, with_outputs}
+use Rattle.ripple_graft.specs.Beside.{AreGates, AreOutputs, IsBeside, IsOutput, with_gate, with_gates, with_output, with_outputs}
+use Rattle.ripple_graft.specs.declared.beside.Beside.{Beside}
 use Rattle.drup_text.specs.PassingHeaders.{PassesListing, PassesParts}
 use Rattle.drup_text.specs.HeaderRefusal.{Later, LineCause, IsRefusedBeside, IsRefusedListing, nothing_later}
 use Rattle.drup_text.specs.HeaderSteps.{ReadsHeaderPart, beside_part, listing_part}
