@@ -1,5 +1,5 @@
 -- Gates beside a graph and outputs, as they are read: the graph that they make, what passes, and the first refusal.
-use Rattle.std.specs.Prelude.{◌≡◌, ◌+◌, ◌≤◌, ◌<◌, ℕ, suc, List, [], ◌∷◌, ◌++◌, length, IfOk, Result, Ok, Err}
+use Rattle.std.specs.Prelude.{◌≡◌, ◌+◌, ◌≤◌, ◌<◌, ℕ, List, [], ◌∷◌, ◌++◌, length, Ok, Err}
 use Rattle.std.specs.Global.{Global}
 use Rattle.std.specs.declared.vec.Vec.{Vec}
 use Rattle.std.proofs.Common.{refl, sym, ap, subst, ◌∙◌, arith}
@@ -10,14 +10,15 @@ use Rattle.graph_core.specs.Graph.Extended.{Extended, without_cut}
 use Rattle.mv_desk.specs.View.{View}
 use Rattle.mv_text.specs.CertificateFiles.{FileState}
 use Rattle.mv_text.specs.declared.line_fail.LineFail.{LineFail}
-use Rattle.ripple_graft.specs.Beside.{AreGates, AreOutputs, Beside, IsBeside, IsOutput, with_gate, with_gates, with_output, with_outputs}
+use Rattle.ripple_graft.specs.Beside.{AreGates, AreOutputs, IsBeside, IsOutput, with_gate, with_gates, with_output, with_outputs}
+use Rattle.ripple_graft.specs.declared.beside.Beside.{Beside}
 use Rattle.drup_text.specs.PassingHeaders.{PassesListing, PassesParts}
 use Rattle.drup_text.specs.HeaderRefusal.{Later, LineCause, IsRefusedBeside, IsRefusedListing, nothing_later}
 use Rattle.drup_text.specs.HeaderSteps.{ReadsHeaderPart, beside_part, listing_part}
 use Rattle.drup_text.specs.LineTexts.{IsPairOf}
 use Rattle.drup_text.specs.Listings.{gate_listing, output_listing}
 use Rattle.drup_text.proofs.HeaderSteps.{part_behind, refused_behind, refused_front}
-use Rattle.drup_text.proofs.ListedSteps.{listing_behind, listing_more, listing_said, listing_whatever}
+use Rattle.drup_text.proofs.ListedSteps.{listing_behind, listing_more, listing_whatever}
 
 -- ---- the graph so far
 

@@ -1,17 +1,11 @@
 -- The lines of a header of version 2, as they are read.
-use Rattle.std.specs.Prelude.{◌≡◌, ◌==◌, ◌≤◌, ℕ, Bool, true, false, cond, List, [], ◌∷◌, codes}
-use Rattle.std.specs.Result.{IfErr, IfOk}
-use Rattle.std.specs.declared.result.Result.{Result}
-use Rattle.std.specs.declared.result.Result.TheVariants.{Err, Ok}
-use Rattle.std.specs.declared.option.Option.{Option}
+use Rattle.std.specs.Prelude.{◌≡◌, ◌==◌, ℕ, Bool, true, false, cond, List, [], ◌∷◌, codes}
 use Rattle.std.specs.declared.option.Option.TheVariants.{None, Some}
-use Rattle.std.proofs.Common.{refl, sym, ap, subst, ◌∙◌, arith, length}
+use Rattle.std.proofs.Common.{refl, sym, ap, subst, arith, length}
 use Rattle.graph_core.specs.Graph.Extended.{Extended}
-use Rattle.graph_core.specs.Text.Numerals.{◌>>=◌, number_at, front_at}
+use Rattle.graph_core.specs.Text.Numerals.{◌>>=◌, front_at}
 use Rattle.graph_core.specs.Text.Readers.{text_at, then_at}
-use Rattle.mv_text.specs.declared.line_fail.LineFail.{LineFail}
-use Rattle.mv_text.proofs.CallerLemmas.{misfit_from}
-use Rattle.mv_text.specs.Steps.{IsMisfit, Takes, begins}
+use Rattle.mv_text.specs.Steps.{Takes, begins}
 use Rattle.ripple_graft.proofs.GraftedGraphs.{reach_is}
 use Rattle.drup_text.specs.ClauseReading.{block_line_at, carry_at, head_from, two_at}
 use Rattle.drup_text.specs.LineTexts.{IsHeadOf}

@@ -12,7 +12,8 @@ use Rattle.graph_core.specs.Graph.{Aig}
 use Rattle.graph_core.specs.Text.JudgedLines.{Behind, IsTooLong, Lengths}
 use Rattle.ripple_graft.specs.declared.block.Block.{Block}
 use Rattle.ripple_graft.specs.declared.cut.Cut.{Cut}
-use Rattle.ripple_graft.specs.Beside.{Beside, nothing, with_beside, with_gates, with_outputs}
+use Rattle.ripple_graft.specs.Beside.{nothing, with_beside, with_gates, with_outputs}
+use Rattle.ripple_graft.specs.declared.beside.Beside.{Beside}
 use Rattle.ripple_graft.specs.Blocks.{graft_all, graft_block, with_blocks}
 use Rattle.ripple_graft.specs.HeaderBlocks.{cut_blocks}
 use Rattle.drup_text.specs.declared.head.Header.{Header}

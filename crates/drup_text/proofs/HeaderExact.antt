@@ -12,7 +12,8 @@ use Rattle.graph_core.specs.Text.JudgedLines.{BeginsWith, Behind, IsTooLong, Len
 use Rattle.graph_core.proofs.OfTexts.CallerLemmas.{ShortFrom, short_rest, start_here, within_short}
 use Rattle.ripple_graft.specs.declared.block.Block.{Block}
 use Rattle.ripple_graft.specs.declared.cut.Cut.{Cut}
-use Rattle.ripple_graft.specs.Beside.{AreGates, AreOutputs, Beside, IsBeside, with_gates, with_outputs}
+use Rattle.ripple_graft.specs.Beside.{AreGates, AreOutputs, IsBeside, with_gates, with_outputs}
+use Rattle.ripple_graft.specs.declared.beside.Beside.{Beside}
 use Rattle.ripple_graft.specs.Blocks.{AreBlocks, graft_all, graft_block, with_blocks}
 use Rattle.ripple_graft.specs.HeaderBlocks.{IsCutOf, cut_blocks}
 use Rattle.drup_text.specs.declared.head.Header.{Header}

@@ -1,13 +1,12 @@
 -- Listed lines, each of which adds to an extended graph, as they are read: what passes, and the first refusal.
-use Rattle.std.specs.Prelude.{◌≡◌, ◌⊎◌, ◌+◌, ◌<◌, ℕ, zero, suc, List, [], ◌∷◌, ◌++◌, length, IfOk, Result, Ok, Err}
+use Rattle.std.specs.Prelude.{◌≡◌, ◌+◌, ◌<◌, ℕ, zero, suc, List, [], ◌∷◌, ◌++◌, length, IfOk, Result, Ok, Err}
 use Rattle.std.specs.Global.{Global}
 use Rattle.std.specs.declared.vec.Vec.{Vec}
 use Rattle.std.specs.List.{fold}
 use Rattle.std.proofs.Common.{refl, sym, ap, subst, ◌∙◌, arith, append_assoc, inl, inr, length-append, ⊎_elim}
 use Rattle.graph_core.specs.Graph.Extended.{Extended}
-use Rattle.graph_core.specs.Text.JudgedLines.{BeginsWith, Unless}
 use Rattle.mv_desk.specs.View.{View}
-use Rattle.mv_text.specs.CertificateFiles.{BeginsWithNone, FileState}
+use Rattle.mv_text.specs.CertificateFiles.{FileState}
 use Rattle.mv_text.specs.declared.line_fail.LineFail.{LineFail}
 use Rattle.drup_text.specs.PassingHeaders.{PassListed, PassesListing}
 use Rattle.drup_text.specs.HeaderRefusal.{Later, LineCause, IsRefusedListedLine, IsRefusedListedLines, IsRefusedListing, nothing_later}

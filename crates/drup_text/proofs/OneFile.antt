@@ -9,7 +9,7 @@ use Rattle.graph_core.specs.Text.{newline}
 use Rattle.graph_core.specs.Text.JudgedLines.{BeginsWith}
 use Rattle.graph_core.proofs.OfTexts.CallerLemmas.{Anything, IsReaderOf, Ended, one_line}
 use Rattle.graph_core.specs.Text.Readers.{Reader, ended_at}
-use Rattle.ripple_graft.specs.Beside.{Beside}
+use Rattle.ripple_graft.specs.declared.beside.Beside.{Beside}
 use Rattle.ripple_graft.specs.declared.block.Block.{Block}
 use Rattle.ripple_graft.specs.declared.cut.Cut.{Cut}
 use Rattle.ripple_graft.specs.HeaderBlocks.{cut_blocks}

@@ -19,7 +19,8 @@ use Rattle.mv_text.specs.LineReading.{Lines}
 use Rattle.mv_text.proofs.CallerLemmas.{told_from}
 use Rattle.ripple_graft.specs.declared.block.Block.{Block}
 use Rattle.ripple_graft.specs.declared.cut.Cut.{Cut}
-use Rattle.ripple_graft.specs.Beside.{Beside, IsBeside, nothing}
+use Rattle.ripple_graft.specs.Beside.{IsBeside, nothing}
+use Rattle.ripple_graft.specs.declared.beside.Beside.{Beside}
 use Rattle.ripple_graft.specs.Blocks.{AreBlocks}
 use Rattle.ripple_graft.specs.HeaderBlocks.{AreHeaderBlocks, IsCutOf, cut_blocks}
 use Rattle.drup_text.specs.declared.head.Header.{Header}
@@ -129,24 +130,25 @@ not_13 version one three = omega (arith, one, three)
 not_23 : (version : ℕ) → version ≡ 2 → version ≡ 3 → ⊥
 not_23 version two three = omega (arith, two, three)
 
+-- a file begins with this line
+abbrev Begun : FileState → View → List ℕ → List ℕ → Type 0
+Begun file now line bytes = HasFirstLine line file.lines bytes (left_of_file Clauses file now)
+
 module _ (g : Aig) (lengths : Lengths) {old new : FileState} {between now : View} (before : Option (List ℕ)) (same : old.lines.lengths ≡ lengths)
     (first : IfSome before (λ bytes. HasAnyFirst version_line second_line third_line old bytes (left_of_file Clauses old between))) where
-  abbrev Begun : List ℕ → List ℕ → Type 0
-  Begun line bytes = HasFirstLine line old.lines bytes (left_of_file Clauses old between)
-
   pub header_there : (h : Header) → h.version ≡ old.version → new.lines.lengths ≡ old.lines.lengths → ReadsHeaderPart (version_part g old.version) old new between now (Ok h) →
       IfSome before (λ bytes. HasClauseHeader g new bytes (left_of_file Clauses new now) h)
   header_there h version_is kept behind =
       told_from before (λ bytes. HasAnyFirst version_line second_line third_line old bytes (left_of_file Clauses old between)) (λ bytes. HasClauseHeader g new bytes (left_of_file Clauses new now) h)
       (λ bytes e t. ⊎_elim (λ a. has version_line bytes a.1 (one bytes a.0 a.1)) (λ o. ⊎_elim (λ b. has second_line bytes b.1 (two bytes b.0 b.1)) (λ c. has third_line bytes c.1 (three bytes c.0 c.1)) o) t) first
     where
-      part : (line bytes : List ℕ) (t : Begun line bytes) → TakesHeaderPart (version_part g old.version) old.lines new.lines t.body (left_of_file Clauses new now) h
+      part : (line bytes : List ℕ) (t : Begun old between line bytes) → TakesHeaderPart (version_part g old.version) old.lines new.lines t.body (left_of_file Clauses new now) h
       part line bytes t = subst (λ o. IfSome o (λ z. TakesHeaderPart (version_part g old.version) old.lines new.lines z (left_of_file Clauses new now) h)) t.left behind.value
 
-      over : (line bytes : List ℕ) (t : Begun line bytes) (P : (List ℕ → Type 0) → Type 0) → P (IsLongIn old.lines t.body) → P (IsTooLong lengths (length bytes))
+      over : (line bytes : List ℕ) (t : Begun old between line bytes) (P : (List ℕ → Type 0) → Type 0) → P (IsLongIn old.lines t.body) → P (IsTooLong lengths (length bytes))
       over line bytes t P k = over_file P lengths old.lines bytes t.body same t.taken k
 
-      has : (line bytes : List ℕ) (t : Begun line bytes) → PassesAnyHeader g lengths bytes h (part line bytes t).body → HasClauseHeader g new bytes (left_of_file Clauses new now) h
+      has : (line bytes : List ℕ) (t : Begun old between line bytes) → PassesAnyHeader g lengths bytes h (part line bytes t).body → HasClauseHeader g new bytes (left_of_file Clauses new now) h
       has line bytes t passes =
           let k = part line bytes t in
           record {
@@ -156,7 +158,7 @@ module _ (g : Aig) (lengths : Lengths) {old new : FileState} {between now : View
             taken = k.taken ∙ t.taken;
           }
 
-      one : (bytes : List ℕ) → old.version ≡ 1 → (t : Begun version_line bytes) → PassesAnyHeader g lengths bytes h (part version_line bytes t).body
+      one : (bytes : List ℕ) → old.version ≡ 1 → (t : Begun old between version_line bytes) → PassesAnyHeader g lengths bytes h (part version_line bytes t).body
       one bytes is t =
           let k = part version_line bytes t in
           ⊎_elim
@@ -176,7 +178,7 @@ module _ (g : Aig) (lengths : Lengths) {old new : FileState} {between now : View
           ))
           (λ o. ⊎_elim (λ p. absurd (not_12 old.version is p.0)) (λ p. absurd (not_13 old.version is p.0)) o) k.passes
 
-      two : (bytes : List ℕ) → old.version ≡ 2 → (t : Begun second_line bytes) → PassesAnyHeader g lengths bytes h (part second_line bytes t).body
+      two : (bytes : List ℕ) → old.version ≡ 2 → (t : Begun old between second_line bytes) → PassesAnyHeader g lengths bytes h (part second_line bytes t).body
       two bytes is t =
           let k = part second_line bytes t in
           ⊎_elim (λ p. absurd (not_12 old.version p.0 is))
@@ -193,7 +195,7 @@ module _ (g : Aig) (lengths : Lengths) {old new : FileState} {between now : View
           )))
           (λ p. absurd (not_23 old.version is p.0)) o) k.passes
 
-      three : (bytes : List ℕ) → old.version ≡ 3 → (t : Begun third_line bytes) → PassesAnyHeader g lengths bytes h (part third_line bytes t).body
+      three : (bytes : List ℕ) → old.version ≡ 3 → (t : Begun old between third_line bytes) → PassesAnyHeader g lengths bytes h (part third_line bytes t).body
       three bytes is t =
           let k = part third_line bytes t in
           ⊎_elim (λ p. absurd (not_13 old.version p.0 is))
@@ -219,24 +221,24 @@ module _ (g : Aig) (lengths : Lengths) {old new : FileState} {between now : View
       (λ bytes e t. ⊎_elim (λ a. (a.1.body, a.1.left, one bytes a.0 a.1)) (λ o. ⊎_elim (λ b. (b.1.body, b.1.left, two bytes b.0 b.1)) (λ c. (c.1.body, c.1.left, three bytes c.0 c.1)) o) t) first)
       behind.refused
     where
-      over : (line bytes : List ℕ) (t : Begun line bytes) (P : (List ℕ → Type 0) → Type 0) → P (IsLongIn old.lines t.body) → P (IsTooLong lengths (length bytes))
+      over : (line bytes : List ℕ) (t : Begun old between line bytes) (P : (List ℕ → Type 0) → Type 0) → P (IsLongIn old.lines t.body) → P (IsTooLong lengths (length bytes))
       over line bytes t P k = over_file P lengths old.lines bytes t.body same t.taken k
 
-      one : (bytes : List ℕ) → old.version ≡ 1 → (t : Begun version_line bytes) (p : ℕ × LineCause) → (version_part g old.version).refused (IsLongIn old.lines t.body) (old.number + 1) t.body p → IsClauseHeaderRefusal g lengths bytes p
+      one : (bytes : List ℕ) → old.version ≡ 1 → (t : Begun old between version_line bytes) (p : ℕ × LineCause) → (version_part g old.version).refused (IsLongIn old.lines t.body) (old.number + 1) t.body p → IsClauseHeaderRefusal g lengths bytes p
       one bytes is t p r = inr (
         short lengths old.lines version_line bytes (left_of_file Clauses old between) same t,
         inr (⊎_elim (λ c. inl (t.body, t.begins, over version_line bytes t (λ IsLong. IsRefusedCut nothing_later g IsLong t.body p) c.1))
             (λ o. ⊎_elim (λ c. absurd (not_12 old.version is c.0)) (λ c. absurd (not_13 old.version is c.0)) o) r),
       )
 
-      two : (bytes : List ℕ) → old.version ≡ 2 → (t : Begun second_line bytes) (p : ℕ × LineCause) → (version_part g old.version).refused (IsLongIn old.lines t.body) (old.number + 1) t.body p → IsClauseHeaderRefusal g lengths bytes p
+      two : (bytes : List ℕ) → old.version ≡ 2 → (t : Begun old between second_line bytes) (p : ℕ × LineCause) → (version_part g old.version).refused (IsLongIn old.lines t.body) (old.number + 1) t.body p → IsClauseHeaderRefusal g lengths bytes p
       two bytes is t p r = inr (
         short lengths old.lines second_line bytes (left_of_file Clauses old between) same t,
         inr (⊎_elim (λ c. absurd (not_12 old.version c.0 is))
             (λ o. ⊎_elim (λ c. inr (inl (t.body, t.begins, over second_line bytes t (λ IsLong. IsRefusedCount nothing_later g IsLong t.body p) c.1))) (λ c. absurd (not_23 old.version is c.0)) o) r),
       )
 
-      three : (bytes : List ℕ) → old.version ≡ 3 → (t : Begun third_line bytes) (p : ℕ × LineCause) → (version_part g old.version).refused (IsLongIn old.lines t.body) (old.number + 1) t.body p → IsClauseHeaderRefusal g lengths bytes p
+      three : (bytes : List ℕ) → old.version ≡ 3 → (t : Begun old between third_line bytes) (p : ℕ × LineCause) → (version_part g old.version).refused (IsLongIn old.lines t.body) (old.number + 1) t.body p → IsClauseHeaderRefusal g lengths bytes p
       three bytes is t p r = inr (
         short lengths old.lines third_line bytes (left_of_file Clauses old between) same t,
         inr (⊎_elim (λ c. absurd (not_13 old.version c.0 is))

@@ -8,7 +8,8 @@ use Rattle.graph_core.specs.declared.literal.Lit.{Lit}
 use Rattle.graph_core.specs.Graph.Extended.{Extended, without_cut}
 use Rattle.graph_core.specs.Graph.{Aig, IsBuilt}
 use Rattle.ripple_graft.specs.declared.block.Block.{Block}
-use Rattle.ripple_graft.specs.Beside.{AreGates, AreOutputs, Beside, IsBeside, with_gate, with_gates, with_output}
+use Rattle.ripple_graft.specs.Beside.{AreGates, AreOutputs, IsBeside, with_gate, with_gates, with_output}
+use Rattle.ripple_graft.specs.declared.beside.Beside.{Beside}
 use Rattle.ripple_graft.specs.Blocks.{IsBlock}
 use Rattle.ripple_graft.specs.Extension.{IsKnown}
 use Rattle.ripple_graft.specs.Grafts.{IsGrafted}

@@ -15,7 +15,8 @@ use Rattle.graph_core.specs.Graph.Extended.{Extended, without_cut}
 use Rattle.graph_core.specs.Graph.{Aig, IsBuilt}
 use Rattle.ripple_graft.specs.declared.block.Block.{Block}
 use Rattle.ripple_graft.specs.declared.cut.Cut.{Cut}
-use Rattle.ripple_graft.specs.Beside.{Beside, IsBeside, nothing}
+use Rattle.ripple_graft.specs.Beside.{IsBeside, nothing}
+use Rattle.ripple_graft.specs.declared.beside.Beside.{Beside}
 use Rattle.ripple_graft.specs.Blocks.{AreBlocks, block_of, graft_block}
 use Rattle.ripple_graft.specs.Grafts.{IsGrafted}
 use Rattle.ripple_graft.specs.HeaderBlocks.{IsCutOf, cut_blocks}
@@ -126,11 +127,7 @@ outputs_written (c ∷ outputs) after h =
     )
 
 number_written : (word : List ℕ) (n : ℕ) (lines after : List ℕ) → n < 2 ^ 32 → BeginsWith (IsNumberLine word) ((word ++ decimal n ++ newline ∷ lines) ++ after) n (lines ++ after)
-number_written word n lines after small = (
-  word ++ decimal n,
-  (decimal n, numeral n small, refl),
-  append_assoc word (decimal n ++ newline ∷ lines) after ∙ ap (λ z. word ++ z) (append_assoc (decimal n) (newline ∷ lines) after) ∙ sym (append_assoc word (decimal n) (newline ∷ (lines ++ after))),
-)
+number_written word n lines after small = (word ++ decimal n, (decimal n, numeral n small, refl), append_assoc (word ++ decimal n) (newline ∷ lines) after)
 
 beside_written : (g : Aig) (b : Beside) (after : List ℕ) → IsBuilt g → IsBeside g b → IsBesideText (beside_text b ++ after) b after
 beside_written g b after built fits =

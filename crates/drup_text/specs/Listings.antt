@@ -6,7 +6,7 @@ use Rattle.graph_core.specs.Graph.Extended.{Extended}
 use Rattle.graph_core.specs.Text.JudgedLines.{BeginsWith}
 use Rattle.ripple_graft.specs.Beside.{IsOutput, with_gate, with_output}
 use Rattle.drup_text.specs.ClauseTexts.{AreLinesOf, IsGatesLine, IsOutputLine, IsPairLine, IsReplaceLine}
-use Rattle.drup_text.specs.LineTexts.{IsCountInRange, IsPairOf}
+use Rattle.drup_text.specs.LineTexts.{IsPairOf}
 
 -- A line with a number, and so many lines: their texts, what is in range over the graph with the lines before, and that graph with
 -- one line more.

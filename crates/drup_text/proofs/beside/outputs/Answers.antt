@@ -21,8 +21,8 @@ returns-in-Ok-clause-outputs g c =
     let number = subst (λ n. ReadsHeaderPart (line_part IsReplaceLine (IsCountInRange n)) c.args.file.now c.next_number.new.file before between (Ok c.in-Ok.count)) most c.in-Ok.ensures.number in
     listing_read output_listing c.args.extended c.in-Ok.count c.counted_outputs.result c.in-Ok.ensures.keeps.lengths c.in-Ok.ensures.reads.stands number c.counted_outputs.ensures.count c.counted_outputs.ensures.outputs
 
-pub returns-in-Err-clause-outputs : goal.returns-in-Err-clause-outputs
-returns-in-Err-clause-outputs g c =
+pub returns-clause-outputs : goal.returns-clause-outputs
+returns-clause-outputs g c =
     let e = c.args.extended in
     let before = g.D.Desk.seen c.args.desk.now in
     let between = g.D.Desk.seen c.next_number.new.desk in

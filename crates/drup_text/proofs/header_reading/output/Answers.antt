@@ -1,5 +1,5 @@
 use Rattle.std.proofs.Common.{◌≡◌, ◌∙◌, ◌≤◌, ◌*◌, ◌+◌, None, ap, false, length, true, sym, subst, rules}
-use Rattle.std.proofs.Math.Nat.{le-max_left, le-max_right, max}
+use Rattle.std.proofs.Math.Nat.{le-max_left, le-max_right}
 use Rattle.graph_core.specs.Graph.{Aig}
 use Rattle.mv_text.proofs.CallerLemmas.{misfit_from}
 use Rattle.mv_text.specs.Steps.{IsMisfit}
