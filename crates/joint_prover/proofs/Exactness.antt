@@ -22,7 +22,7 @@ use Rattle.graph_core.proofs.OfTexts.CallerLemmas.{one_graph}
 use Rattle.command_core.specs.Files.{HasGraph, Files}
 use Rattle.mv_desk.specs.View.{View, bytes_under}
 use Rattle.mv_desk.specs.declared.slot.Slot.TheVariants as slot
-use Rattle.joint_prover.specs.declared.task.Task.{Task}
+use Rattle.command_core.specs.declared.task.Task.{Task}
 use Rattle.joint_prover.specs.declared.verdict.Verdict.{Verdict}
 use Rattle.joint_prover.specs.declared.verdict.Verdict.TheVariants.{Proved, Wrong, WrongSum, Undecided, Stopped}
 use Rattle.joint_prover.specs.Tries.{IsWithinBudget, AreTried, IsAbove}

@@ -19,7 +19,7 @@ use Rattle.mv_text.specs.LineReading.{lengths_of}
 use Rattle.pair_core.proofs.CallerLemmas.{pair_leaves_report, report_stays, report_stays_on, stopping_leaves_report, stops_with}
 use Rattle.command_core.specs.Files.{Files}
 use Rattle.graph_core.specs.declared.memory.Memory.{Memory}
-use Rattle.joint_prover.specs.declared.task.Task.{Task}
+use Rattle.command_core.specs.declared.task.Task.{Task}
 use Rattle.joint_prover.specs.declared.verdict.Verdict.{Verdict}
 use Rattle.joint_prover.specs.declared.verdict.Verdict.TheVariants.{Proved, Wrong, WrongSum, Undecided, Stopped}
 use Rattle.joint_prover.specs.declared.note.Note.{Note}

@@ -28,7 +28,7 @@ use Rattle.ripple_graft.specs.declared.cut.Cut.{Cut}
 use Rattle.pair_core.proofs.CallerLemmas.{same_self}
 use Rattle.stage_rewriter.specs.Rewriting.{IsShownRewriting}
 use Rattle.joint_prover.specs.declared.shown.Shown.{Shown}
-use Rattle.joint_prover.specs.declared.task.Task.{Task}
+use Rattle.command_core.specs.declared.task.Task.{Task}
 use Rattle.joint_prover.specs.Pairs.{AreClausesOver, IsVersion, IsPairOver, IsSpareFile}
 use Rattle.joint_prover.specs.Endings.{IsShown, cut_named, header_of, Decides, IsEnd, IsProof, IsWrongAs}
 use Rattle.joint_prover.specs.Tries.{extended_by, AreTried, EndsOver, EndsWithCut, HasPassedBudget, IsProvedOver, IsTried, IsWithinBudget}

@@ -38,7 +38,7 @@ use Rattle.joint_prover.specs.declared.decision.Outcome.TheVariants.{Decided, Pa
 use Rattle.joint_prover.specs.declared.note.Note.{Note}
 use Rattle.joint_prover.specs.declared.shown.Shown.{Shown}
 use Rattle.joint_prover.specs.declared.task.Job.{Job}
-use Rattle.joint_prover.specs.declared.task.Task.{Task}
+use Rattle.command_core.specs.declared.task.Task.{Task}
 use Rattle.joint_prover.specs.declared.verdict.Tried.{Tried}
 use Rattle.joint_prover.specs.declared.verdict.Verdict.{Verdict}
 use Rattle.joint_prover.specs.declared.verdict.Verdict.TheVariants as verdict

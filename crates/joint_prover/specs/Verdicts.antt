@@ -24,7 +24,7 @@ use Rattle.command_core.specs.Files.{AreDistinct, Files, HasGraph}
 use Rattle.joint_prover.specs.declared.note.Note.{Note}
 use Rattle.joint_prover.specs.declared.seen.Seen.{Seen}
 use Rattle.joint_prover.specs.declared.seen.Seen.TheVariants.{Product, Sum}
-use Rattle.joint_prover.specs.declared.task.Task.{Task}
+use Rattle.command_core.specs.declared.task.Task.{Task}
 use Rattle.joint_prover.specs.declared.verdict.Verdict.{Verdict}
 use Rattle.joint_prover.specs.declared.verdict.Verdict.TheVariants.{Proved, Wrong, WrongSum, Undecided, Stopped}
 use Rattle.joint_prover.specs.Notes.{IsNote, cut_of}

@@ -1,10 +1,10 @@
 //! Decides whether a graph does what is claimed, gives a verdict on a graph file, and writes both certificates where it
 //! does.
 //!
-//! What is asked is a `Task`: the claim, a product of two operands or such a product plus an addend, two bounds, and
-//! the version of the certificates. `decide` takes a graph that is in memory, and looks whether a ripple-carry adder
-//! may stand in place of its final stage: the *note* says what became of that. Then it reduces the columns of the
-//! multiplier along plans (`plans.rt`). With a small budget the slice plan comes first, over the graph with the adder,
+//! What is asked is a `Task` of `command_core`: the claim, a product of two operands or such a product plus an addend,
+//! two bounds, and the version of the certificates. `decide` takes a graph that is in memory, and looks whether a
+//! ripple-carry adder may stand in place of its final stage: the *note* says what became of that. Then it reduces the
+//! columns of the multiplier along plans (`plans.rt`). With a small budget the slice plan comes first, over the graph with the adder,
 //! where that is used, or over the graph. Where that passes its budget, an adder at a cut that is found by the values
 //! of the variables may stand in the graph, if a solver shows it: plans over that graph come next. At last come the
 //! plans with the whole budget, each where the ones before it had a frontier with more monomials: the slice plan over
@@ -46,10 +46,10 @@ mod shown;
 mod task;
 mod verdict;
 
+pub use command_core::Task;
 pub use decision::Decision;
 pub use laws::{enough_is_proved, proved_pairs_are_held, verdicts_are_exact};
 pub use note::Note;
 pub use proving::{decide, verify};
 pub use seen::Seen;
-pub use task::Task;
 pub use verdict::{Tried, Verdict};
