@@ -226,21 +226,18 @@ module _ (g : Aig) (task : Task) where
 
   pub wrong_is_decision : (used : Option Cut) (d : Decision) → IsWrongAs g claim d → IsDecision g task used d
   wrong_is_decision used (decision.Proved p) h = absurd h
-  wrong_is_decision used (decision.Wrong a b value product) h = h
-  wrong_is_decision used (decision.WrongSum a b c value sum) h = h
+  wrong_is_decision used (decision.Wrong d) h = h
   wrong_is_decision used (decision.Undecided tried step size seen) h = absurd h
 
   pub wrong_decides : (cut : Option Cut) (d : Decision) → IsWrongAs g claim d → Decides g task cut d
   wrong_decides cut (decision.Proved p) h = absurd h
-  wrong_decides cut (decision.Wrong a b value product) h = h
-  wrong_decides cut (decision.WrongSum a b c value sum) h = h
+  wrong_decides cut (decision.Wrong d) h = h
   wrong_decides cut (decision.Undecided tried step size seen) h = absurd h
 
   -- over a graph that is one to end with
   decided : (used cut : Option Cut) (d : Decision) → IsProvedOver g claim budget used cut → Decides g task cut d → IsDecision g task used d
   decided used cut (decision.Proved p) over h = (h.0, h.1, (cut, over, h.2))
-  decided used cut (decision.Wrong a b value product) over h = h
-  decided used cut (decision.WrongSum a b c value sum) over h = h
+  decided used cut (decision.Wrong d) over h = h
   decided used cut (decision.Undecided tried step size seen) over h = absurd h
 
   -- that with the cut in use, or alone where none is

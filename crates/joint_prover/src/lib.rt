@@ -13,11 +13,11 @@
 //! (`drafted.rt`): what is drafted comes from a heuristic, so such a plan decides rightly or not at all.
 //!
 //! Where the remainder is 0 the decision is `Proved`, with a pair of certificates in memory, over the graph with an
-//! adder where a plan over that ended; else it is `Wrong` with the least operands on which the graph differs, or with
-//! an addend `WrongSum`. Where all plans pass the budget it is `Undecided`, with numbers on which the graph was
-//! *seen* to differ, if some are known: those with few ones are tried once more then. `verify` opens and reads the
-//! graph file alone, decides, and tells: with `Proved` the clause certificate and then the algebra certificate are
-//! written. No certificate file is created before the decision, and writing them takes no memory.
+//! adder where a plan over that ended; else it is `Wrong` with the least operands, and addend, on which the graph
+//! differs. Where all plans pass the budget it is `Undecided`, with numbers on which the graph was *seen* to differ, if
+//! some are known: those with few ones are tried once more then. `verify` opens and reads the graph file alone,
+//! decides, and tells: with `Proved` the clause certificate and then the algebra certificate are written. No
+//! certificate file is created before the decision, and writing them takes no memory.
 //!
 //! Each decision, each verdict and each note has its cause, what is written is spare, and the plan that ended kept to
 //! the budget, or lines were drafted (`decision`, `verdict`). One file is opened, whatever is answered (`opened`). A
@@ -35,6 +35,7 @@
 
 mod conclusion;
 mod decision;
+mod difference;
 mod drafted;
 mod laws;
 mod note;
@@ -48,8 +49,8 @@ mod verdict;
 
 pub use command_core::Task;
 pub use decision::Decision;
+pub use difference::Difference;
 pub use laws::{enough_is_proved, proved_pairs_are_held, verdicts_are_exact};
 pub use note::Note;
 pub use proving::{decide, verify};
-pub use seen::Seen;
 pub use verdict::{Tried, Verdict};

@@ -33,7 +33,7 @@ use stage_rewriter::rewrite;
 use std::alloc::Global;
 
 /// The verdict on a graph file, and what became of a rewriting of its final stage, where the verdict is `Proved`,
-/// `Wrong`, `WrongSum` or `Undecided`.
+/// `Wrong` or `Undecided`.
 pub fn verify<D: Desk>(
     alloc: Global,
     desk: &mut D,
@@ -114,36 +114,7 @@ fn tell<D: Desk>(
                     Err(_) => (Verdict::Stopped(Stop::WriteFault), None),
                 }
             }
-            Decision::Wrong {
-                a,
-                b,
-                value,
-                product,
-            } => {
-                let verdict = Verdict::Wrong {
-                    a,
-                    b,
-                    value,
-                    product,
-                };
-                (verdict, Some(note))
-            }
-            Decision::WrongSum {
-                a,
-                b,
-                c,
-                value,
-                sum,
-            } => {
-                let verdict = Verdict::WrongSum {
-                    a,
-                    b,
-                    c,
-                    value,
-                    sum,
-                };
-                (verdict, Some(note))
-            }
+            Decision::Wrong(difference) => (Verdict::Wrong(difference), Some(note)),
             Decision::Undecided {
                 tried,
                 plain_step,
