@@ -1,5 +1,5 @@
 -- What follows from an answer of `verify`.
-use Rattle.std.proofs.Common.{◌≡◌, ℕ, List, Option, Some, None, refl, ap, subst, sym, arith, inl, inr}
+use Rattle.std.proofs.Common.{◌≡◌, ℕ, List, Option, Some, None, refl, ap, subst, sym, arith}
 use Rattle.std.specs.Prelude.{⊤}
 use Rattle.command_line.specs.declared.command.Command.TheVariants.{Verify}
 use Rattle.graph_core.specs.Graph.Operands.{profile_of}
@@ -26,8 +26,7 @@ use Rattle.verdict_program.proofs.StopFacts.{gives_as_due, is_read_fault, is_wri
 -- the status says nothing of lengths
 pub status_of_judgement : (v : Verdict) → status_of_verify (judgement v) ≡ status_of_verify v
 status_of_judgement (verdict.Proved long) = refl
-status_of_judgement (verdict.Wrong a b value product) = refl
-status_of_judgement (verdict.WrongSum a b c value sum) = refl
+status_of_judgement (verdict.Wrong d) = refl
 status_of_judgement (verdict.Undecided tried step size seen) = refl
 status_of_judgement (verdict.Stopped why) = refl
 
@@ -47,45 +46,39 @@ module _ (files : Files) (task : Task) (a b : View) (apart : AreDistinct files.g
   zero (verdict.Proved long) h e told names =
       let pair = proved_pairs_are_held standard task files a b long noted (record { held = told; names = names }) apart h in
       (long, refl, pair.0, pair.1)
-  zero (verdict.Wrong x y value product) h e told names = absurd (omega arith)
-  zero (verdict.WrongSum x y z value sum) h e told names = absurd (omega arith)
+  zero (verdict.Wrong d) h e told names = absurd (omega arith)
   zero (verdict.Undecided tried step size seen) h e told names = absurd (omega arith)
   zero (verdict.Stopped why) h e told names = absurd ((stop_is_apart why).zero e)
 
   one : (outcome : Verdict) → Is outcome → status_of_verify outcome ≡ 1 →
       HasGraph (profile_of task.claim.widths) standard.graph (bytes_under a files.graph) (λ g. DiffersSomewhere g task.claim × ((n : Note) × IsNote g task.claim task.conflicts n))
   one (verdict.Proved long) h e = absurd (omega arith)
-  one (verdict.Wrong x y value product) h e = let r = h.0 in let n = note_there r.0 (λ used. ⊤) r.2.1 in (r.0, r.1, (inl (x, y, value, product, r.2.0), (n.0, n.1)))
-  one (verdict.WrongSum x y z value sum) h e = let r = h.0 in let n = note_there r.0 (λ used. ⊤) r.2.1 in (r.0, r.1, (inr (x, y, z, value, sum, r.2.0), (n.0, n.1)))
+  one (verdict.Wrong d) h e = let r = h.0 in let n = note_there r.0 (λ used. ⊤) r.2.1 in (r.0, r.1, ((d, r.2.0), (n.0, n.1)))
   one (verdict.Undecided tried step size seen) h e = absurd (omega arith)
   one (verdict.Stopped why) h e = absurd ((stop_is_apart why).one e)
 
   five : (outcome : Verdict) → Is outcome → status_of_verify outcome ≡ 5 →
       HasGraph (profile_of task.claim.widths) standard.graph (bytes_under a files.graph) (λ g. (step : ℕ) × (size : ℕ) × IsFirstAbove g task.claim task.budget step size × ((n : Note) × IsNote g task.claim task.conflicts n × (tried : List Tried) × AreTried g task.claim task.budget (cut_of n) tried) × HaveManyOnes g task.claim)
   five (verdict.Proved long) h e = absurd (omega arith)
-  five (verdict.Wrong x y value product) h e = absurd (omega arith)
-  five (verdict.WrongSum x y z value sum) h e = absurd (omega arith)
+  five (verdict.Wrong d) h e = absurd (omega arith)
   five (verdict.Undecided tried step size seen) h e = let r = h.0 in let n = note_there r.0 (λ used. AreTried r.0 task.claim task.budget used tried.items) r.2.1 in (r.0, r.1, (step, size, r.2.0, (n.0, n.1, tried.items, n.2), r.2.2))
   five (verdict.Stopped why) h e = absurd ((stop_is_apart why).five e)
 
   six : (outcome : Verdict) → Is outcome → status_of_verify outcome ≡ 6 → Rose a.read_faults b.read_faults
   six (verdict.Proved long) h e = absurd (omega arith)
-  six (verdict.Wrong x y value product) h e = absurd (omega arith)
-  six (verdict.WrongSum x y z value sum) h e = absurd (omega arith)
+  six (verdict.Wrong d) h e = absurd (omega arith)
   six (verdict.Undecided tried step size seen) h e = absurd (omega arith)
   six (verdict.Stopped why) h e = (subst (λ x. Is (verdict.Stopped x)) (is_read_fault why e) h).0
 
   seven : (outcome : Verdict) → Is outcome → status_of_verify outcome ≡ 7 → Rose a.write_faults b.write_faults
   seven (verdict.Proved long) h e = absurd (omega arith)
-  seven (verdict.Wrong x y value product) h e = absurd (omega arith)
-  seven (verdict.WrongSum x y z value sum) h e = absurd (omega arith)
+  seven (verdict.Wrong d) h e = absurd (omega arith)
   seven (verdict.Undecided tried step size seen) h e = absurd (omega arith)
   seven (verdict.Stopped why) h e = (subst (λ x. Is (verdict.Stopped x)) (is_write_fault why e) h).0
 
   two : (outcome : Verdict) → status_of_verify outcome ≡ 2 → ⊥
   two (verdict.Proved long) e = absurd (omega arith)
-  two (verdict.Wrong x y value product) e = absurd (omega arith)
-  two (verdict.WrongSum x y z value sum) e = absurd (omega arith)
+  two (verdict.Wrong d) e = absurd (omega arith)
   two (verdict.Undecided tried step size seen) e = absurd (omega arith)
   two (verdict.Stopped why) e = (stop_is_apart why).two e
 
