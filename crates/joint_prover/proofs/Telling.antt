@@ -28,7 +28,7 @@ use Rattle.ripple_graft.specs.declared.cut.Cut.{Cut}
 use Rattle.pair_core.proofs.CallerLemmas.{same_self}
 use Rattle.stage_rewriter.specs.Rewriting.{IsShownRewriting}
 use Rattle.joint_prover.specs.declared.shown.Shown.{Shown}
-use Rattle.joint_prover.specs.declared.task.Task.{Task}
+use Rattle.command_core.specs.declared.task.Task.{Task}
 use Rattle.joint_prover.specs.Pairs.{AreClausesOver, IsVersion, IsPairOver, IsSpareFile}
 use Rattle.joint_prover.specs.Endings.{IsShown, cut_named, header_of, Decides, IsEnd, IsProof, IsWrongAs}
 use Rattle.joint_prover.specs.Tries.{extended_by, AreTried, EndsOver, EndsWithCut, HasPassedBudget, IsProvedOver, IsTried, IsWithinBudget}
@@ -226,21 +226,18 @@ module _ (g : Aig) (task : Task) where
 
   pub wrong_is_decision : (used : Option Cut) (d : Decision) → IsWrongAs g claim d → IsDecision g task used d
   wrong_is_decision used (decision.Proved p) h = absurd h
-  wrong_is_decision used (decision.Wrong a b value product) h = h
-  wrong_is_decision used (decision.WrongSum a b c value sum) h = h
+  wrong_is_decision used (decision.Wrong d) h = h
   wrong_is_decision used (decision.Undecided tried step size seen) h = absurd h
 
   pub wrong_decides : (cut : Option Cut) (d : Decision) → IsWrongAs g claim d → Decides g task cut d
   wrong_decides cut (decision.Proved p) h = absurd h
-  wrong_decides cut (decision.Wrong a b value product) h = h
-  wrong_decides cut (decision.WrongSum a b c value sum) h = h
+  wrong_decides cut (decision.Wrong d) h = h
   wrong_decides cut (decision.Undecided tried step size seen) h = absurd h
 
   -- over a graph that is one to end with
   decided : (used cut : Option Cut) (d : Decision) → IsProvedOver g claim budget used cut → Decides g task cut d → IsDecision g task used d
   decided used cut (decision.Proved p) over h = (h.0, h.1, (cut, over, h.2))
-  decided used cut (decision.Wrong a b value product) over h = h
-  decided used cut (decision.WrongSum a b c value sum) over h = h
+  decided used cut (decision.Wrong d) over h = h
   decided used cut (decision.Undecided tried step size seen) over h = absurd h
 
   -- that with the cut in use, or alone where none is

@@ -1,5 +1,5 @@
 -- What plans run over and come to, and what is told of it. Private clauses alone cite this file.
-use Rattle.std.specs.Prelude.{◌≡◌, ◌⊎◌, ℕ, ◌+◌, ◌*◌, ◌≤◌, Bool, true, false, List, [], length, option_map, take, IfSome, IsSome}
+use Rattle.std.specs.Prelude.{◌≡◌, ◌⊎◌, ℕ, ◌+◌, ◌*◌, ◌≤◌, Bool, List, [], length, option_map, take, IfSome, IsSome}
 use Rattle.std.specs.declared.option.Option.{Option}
 use Rattle.std.specs.declared.option.Option.TheVariants.{None, Some}
 use Rattle.clause_core.specs.ClauseLines.{AreLawfulClauseLines}
@@ -38,15 +38,13 @@ use Rattle.joint_prover.specs.declared.decision.Outcome.TheVariants.{Decided, Pa
 use Rattle.joint_prover.specs.declared.note.Note.{Note}
 use Rattle.joint_prover.specs.declared.shown.Shown.{Shown}
 use Rattle.joint_prover.specs.declared.task.Job.{Job}
-use Rattle.joint_prover.specs.declared.task.Task.{Task}
+use Rattle.command_core.specs.declared.task.Task.{Task}
 use Rattle.joint_prover.specs.declared.verdict.Tried.{Tried}
 use Rattle.joint_prover.specs.declared.verdict.Verdict.{Verdict}
 use Rattle.joint_prover.specs.declared.verdict.Verdict.TheVariants as verdict
 use Rattle.joint_prover.specs.Pairs.{IsPairOver, IsVersion}
 use Rattle.joint_prover.specs.Tries.{EndsWithCut, extended_by}
-use Rattle.joint_prover.specs.declared.seen.Seen.{Seen}
-use Rattle.joint_prover.specs.declared.seen.Seen.TheVariants as sight
-use Rattle.joint_prover.specs.Verdicts.{IsWrong, IsWrongSum}
+use Rattle.joint_prover.specs.Verdicts.{IsWrong}
 
 -- ---- the graphs that plans run over
 
@@ -128,20 +126,9 @@ pub record IsTriedAt (steps : List Step) (count size : ℕ) (rewritten : Bool) (
 
 -- ---- what a plan decides
 
--- the decision that numbers are the least on which the graph differs, without an addend and with one
-abbrev pub wrong_at : Bool → Numbers → ℕ → ℕ → Decision
-wrong_at false x value due = decision.Wrong x.a x.b value due
-wrong_at true x value due = decision.WrongSum x.a x.b x.c value due
-
--- and that it is seen to differ on them
-abbrev pub seen_as : Bool → Numbers → ℕ → ℕ → Seen
-seen_as false x value due = sight.Product x.a x.b value due
-seen_as true x value due = sight.Sum x.a x.b x.c value due
-
 -- the least numbers on which the graph differs
 abbrev pub IsWrongAs : Aig → Claim → Decision → Type 0
-IsWrongAs g claim (decision.Wrong a b value product) = IsWrong g claim a b value product
-IsWrongAs g claim (decision.WrongSum a b c value sum) = IsWrongSum g claim a b c value sum
+IsWrongAs g claim (decision.Wrong d) = IsWrong g claim d
 IsWrongAs g claim _ = ⊥
 
 -- over the graph with this cut or alone
@@ -173,6 +160,5 @@ IsTold lengths files before after (decision.Proved p) n v noted =
     IsFirstTooLong lengths (clauses_text p) (algebra_text p) long) ⊎
     ((v ≡ verdict.Stopped stop.WriteFault) × (noted ≡ None) × Rose before.write_faults after.write_faults ×
     StopsWriting files (λ text. text ≡ clauses_text p) (λ beside text. text ≡ algebra_text p) before after)
-IsTold lengths files before after (decision.Wrong a b value product) n v noted = (v ≡ verdict.Wrong a b value product) × (noted ≡ Some n) × (after ≡ before)
-IsTold lengths files before after (decision.WrongSum a b c value sum) n v noted = (v ≡ verdict.WrongSum a b c value sum) × (noted ≡ Some n) × (after ≡ before)
+IsTold lengths files before after (decision.Wrong d) n v noted = (v ≡ verdict.Wrong d) × (noted ≡ Some n) × (after ≡ before)
 IsTold lengths files before after (decision.Undecided tried step size seen) n v noted = (v ≡ verdict.Undecided tried step size seen) × (noted ≡ Some n) × (after ≡ before)

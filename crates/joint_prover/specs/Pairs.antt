@@ -17,7 +17,7 @@ use Rattle.drup_text.specs.WrittenTexts.{any_file_text}
 use Rattle.pac_writer.specs.Certificates.{written_certificate}
 use Rattle.pac_writer.specs.Spare.{IsSpareLine}
 use Rattle.pair_core.specs.ClauseFiles.{GivesPremises, premises}
-use Rattle.joint_prover.specs.declared.task.Task.{Task}
+use Rattle.command_core.specs.declared.task.Task.{Task}
 use Rattle.joint_prover.specs.Tries.{IsProvedOver, extended_by}
 
 -- a version of certificates
