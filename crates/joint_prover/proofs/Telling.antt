@@ -110,7 +110,7 @@ module _ (g : Aig) (widths : Widths) (sized : IsSizedAs (profile_of widths) g) (
     takes =
         let one = one_block (length g.outputs) cut in
         let some = some_outputs widths g sized in
-        ⊎_elim (λ first. inl (first, (cut, refl, fits))) (λ second. inr (second, omega arith, blocks_fit g cut fits)) known
+        inl (⊎_elim (λ first. inl (first, (cut, refl, fits))) (λ second. inr (second, omega arith, blocks_fit g cut fits)) known, refl)
 
     grafted : IsGrafted g (extended_by g cut)
     grafted = blocks_grafted g (cut_blocks (length g.outputs) cut) (blocks_fit g cut fits)

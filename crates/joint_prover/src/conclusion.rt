@@ -16,7 +16,7 @@ use drup_text::Header;
 use graph_core::{Graph, Memory, Numbers};
 use pac_writer::Lines;
 use pair_core::Pair;
-use ripple_graft::{Block, BlockList, Cut, Pairs};
+use ripple_graft::{Beside, Block, BlockList, Cut, Pairs};
 use std::alloc::Global;
 
 /// Lines that are closed over an extended graph are an algebra certificate. What shows that graph is the clause
@@ -55,6 +55,7 @@ fn header(alloc: Global, job: &Job<'_>, shown: Shown<'_>) -> Result<Header, Memo
     Ok(Header {
         version: job.task.version,
         blocks: BlockList::from_vec(blocks),
+        beside: Beside::nothing(alloc),
     })
 }
 
