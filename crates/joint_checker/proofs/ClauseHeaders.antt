@@ -14,7 +14,8 @@ use Rattle.graph_core.specs.Text.Readers.{Reader, ended_at}
 use Rattle.graph_core.proofs.OfTexts.CallerLemmas.{Ended, IsReaderOf, Anything, behind_map, behind_either, behind_some, decided_long, StepsOn, walk, one_line, line_or_none, meet, unless_exact, last_exact, exact_as, front_exact}
 use Rattle.graph_core.specs.Text.JudgedLines.{BeginsWith, Behind, IsTooLong, Lengths, Unless, Never, IsExact}
 use Rattle.graph_core.proofs.OfGraphs.CallerLemmas.{Decided, decided_all, decided_and, decided_or, decided_eq, decided_le, decided_lt}
-use Rattle.ripple_graft.specs.Beside.{AreGates, AreOutputs, Beside, IsBeside, IsOutput, nothing, with_beside, with_gates}
+use Rattle.ripple_graft.specs.declared.beside.Beside.{Beside}
+use Rattle.ripple_graft.specs.Beside.{AreGates, AreOutputs, IsBeside, IsOutput, nothing, with_beside, with_gates}
 use Rattle.ripple_graft.specs.Blocks.{AreBlocks, block, graft_all, graft_block, reach, with_blocks}
 use Rattle.ripple_graft.specs.Extension.{IsKnown, IsReplaced, whole}
 use Rattle.ripple_graft.specs.HeaderBlocks.{IsCutOf, cut_blocks}
@@ -298,17 +299,32 @@ module _ (IsLong : List ℕ → Type 0) (d : (bytes : List ℕ) → Decided (IsL
         IsCountLine (ended_at count_line_at (newline ∷ [])) count_item (2, Text) bytes
         (λ n rest. unless_exact (2, Range) (decided_le n (length g.outputs)) (λ m i. m i) (λ i. blocks_exact n (without_cut g) 3 rest)))
 
+    -- ---- all of them
+
+    abbrev Second : Aig → List ℕ → Type 0
+    Second g bytes = (body : List ℕ) × (bytes ≡ second_line ++ body) × GoodCount IsLong Good g body
+
+    abbrev Third : Aig → List ℕ → Type 0
+    Third g bytes = (body : List ℕ) × (bytes ≡ third_line ++ body) × GoodBeside IsLong Good g body
+
+    abbrev SecondRefused : Aig → List ℕ → ℕ × LineCause → Type 0
+    SecondRefused g bytes p = (body : List ℕ) × (bytes ≡ second_line ++ body) × IsRefusedCount later g IsLong body p
+
+    abbrev ThirdRefused : Aig → List ℕ → ℕ × LineCause → Type 0
+    ThirdRefused g bytes p = (body : List ℕ) × (bytes ≡ third_line ++ body) × IsRefusedBeside later g IsLong body p
+
     first_exact : (g : Aig) (bytes : List ℕ) →
         IsExact (GoodFirst IsLong Good g bytes) (λ p. (HasNoVersion bytes × (p ≡ (1, Text))) ⊎
         (((body : List ℕ) × (bytes ≡ version_line ++ body) × IsRefusedCut later g IsLong body p) ⊎
         (((body : List ℕ) × (bytes ≡ second_line ++ body) × IsRefusedCount later g IsLong body p) ⊎
         ((body : List ℕ) × (bytes ≡ third_line ++ body) × IsRefusedBeside later g IsLong body p))))
     first_exact g bytes =
-        front_before version_line (1, Text) bytes
-        (λ x e r. ⊎_elim (λ t. other_version x t.0 (sym e ∙ t.1)) (λ t. first_or_third x t.0 (sym e ∙ t.1)) r)
-        (λ x e c r. ⊎_elim (λ t. other_version x t.0 (sym e ∙ t.1)) (λ t. first_or_third x t.0 (sym e ∙ t.1)) r)
+        front_before {Rest = Second g bytes ⊎ Third g bytes} {None = ((body : List ℕ) → bytes ≢ second_line ++ body) × ((body : List ℕ) → bytes ≢ third_line ++ body)} {Worse = λ p. SecondRefused g bytes p ⊎ ThirdRefused g bytes p} version_line (1, Text) bytes
+        (λ x e r. ⊎_elim (λ (t : Second g bytes). other_version x t.0 (sym e ∙ t.1)) (λ (t : Third g bytes). first_or_third x t.0 (sym e ∙ t.1)) r)
+        (λ x e c r. ⊎_elim (λ (t : SecondRefused g bytes c). other_version x t.0 (sym e ∙ t.1)) (λ (t : ThirdRefused g bytes c). first_or_third x t.0 (sym e ∙ t.1)) r)
         (λ body. cut_exact g body)
-        (front_before second_line (1, Text) bytes (λ x e t. second_or_third x t.0 (sym e ∙ t.1)) (λ x e c t. second_or_third x t.0 (sym e ∙ t.1)) (λ body. count_exact g body)
+        (front_before {Rest = Third g bytes} {None = (body : List ℕ) → bytes ≢ third_line ++ body} {Worse = ThirdRefused g bytes} second_line (1, Text) bytes
+        (λ x e t. second_or_third x t.0 (sym e ∙ t.1)) (λ x e c t. second_or_third x t.0 (sym e ∙ t.1)) (λ body. count_exact g body)
         (front_exact third_line (1, Text) bytes (λ body. beside_exact later Good exact g body)))
 
 -- ---- the same by a header that passes

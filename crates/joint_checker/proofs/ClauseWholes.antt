@@ -13,7 +13,8 @@ use Rattle.graph_core.specs.Text.JudgedLines.{BeginsWith, Behind, IsExact, IsLin
 use Rattle.graph_core.specs.Text.{newline}
 use Rattle.graph_core.proofs.OfGraphs.CallerLemmas.{Decided}
 use Rattle.graph_core.proofs.OfTexts.CallerLemmas.{HasNoNewline, ShortFrom, decided_long, exact_as, none_in, short_next, short_within, start_later, within_short}
-use Rattle.ripple_graft.specs.Beside.{Beside, with_gates}
+use Rattle.ripple_graft.specs.declared.beside.Beside.{Beside}
+use Rattle.ripple_graft.specs.Beside.{with_gates}
 use Rattle.ripple_graft.specs.Blocks.{graft_block}
 use Rattle.ripple_graft.specs.declared.block.Block.{Block}
 use Rattle.ripple_graft.specs.declared.cut.Cut.{Cut}

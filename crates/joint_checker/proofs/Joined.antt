@@ -91,7 +91,7 @@ module _ (g : Aig) (well : IsWellFormed g) where
     -- Where the outputs' word is what is claimed on the evaluations of an extended graph, it is on those of the graph.
     claimed_below : (p : Premises) → ArePremisesOf g p → ((σ : Assignment) → IsEvaluation p.extended.gates σ → IsClaimed σ) → MeetsClaimOnEvaluations g s
     claimed_below p of on τ evaluates =
-        let longer = header_goes_on g of.header.version of.header.blocks of.header.beside τ well of.takes evaluates in
+        let longer = header_goes_on g of.header.version of.header.blocks of.header.beside of.takes τ well evaluates in
         let gates : IsEvaluation p.extended.gates longer.0 = subst (λ (x : Extended). IsEvaluation x.gates longer.0) (sym of.extended) longer.1 in
         claim_back longer.0 τ longer.2 (on longer.0 gates)
 

@@ -1,6 +1,6 @@
 use Rattle.std.proofs.Common.{subst, sym, ap, ◌∙◌}
 use Rattle.graph_core.specs.Graph.Extended.{Extended, without_cut}
-use Rattle.ripple_graft.specs.Beside.{FitsBeside, with_beside}
+use Rattle.ripple_graft.specs.Beside.{FitsBeside}
 use Rattle.ripple_graft.specs.Blocks.{AreBlocks, with_blocks}
 use Rattle.ripple_graft.proofs.CallerLemmas.{header_parts_fit}
 use Rattle.joint_checker.proofs.clause_file.extend.Goals as goal
@@ -17,7 +17,3 @@ graft_beside-requires c =
     let header = c.args.header.now in
     subst (λ (e : Extended). FitsBeside e header.beside) (sym (c.in_ok-extended.ensures ∙ ap (with_blocks graph) c.as_slice.ensures))
     (header_parts_fit graph header.version header.blocks header.beside c.requires).1
-
-pub returns-clause : goal.returns-clause
-returns-clause c =
-    c.in_ok.ensures ∙ ap (λ (e : Extended). with_beside e c.args.header.now.beside) (c.in_ok-extended.ensures ∙ ap (with_blocks c.args.graph.now) c.as_slice.ensures)
