@@ -319,13 +319,16 @@ module _ (IsLong : List ℕ → Type 0) (d : (bytes : List ℕ) → Decided (IsL
         (((body : List ℕ) × (bytes ≡ second_line ++ body) × IsRefusedCount later g IsLong body p) ⊎
         ((body : List ℕ) × (bytes ≡ third_line ++ body) × IsRefusedBeside later g IsLong body p))))
     first_exact g bytes =
-        front_before {Rest = Second g bytes ⊎ Third g bytes} {None = ((body : List ℕ) → bytes ≢ second_line ++ body) × ((body : List ℕ) → bytes ≢ third_line ++ body)} {Worse = λ p. SecondRefused g bytes p ⊎ ThirdRefused g bytes p} version_line (1, Text) bytes
+        exact_as (λ k. k) (λ k. k)
+        (λ p r. ⊎_elim (λ none. inl ((none.0.0, none.0.1.0, none.0.1.1), none.1)) inr r)
+        (λ p r. ⊎_elim (λ none. inl ((none.0.0, (none.0.1, none.0.2)), none.1)) inr r)
+        (front_before {Rest = Second g bytes ⊎ Third g bytes} {None = ((body : List ℕ) → bytes ≢ second_line ++ body) × ((body : List ℕ) → bytes ≢ third_line ++ body)} {Worse = λ p. SecondRefused g bytes p ⊎ ThirdRefused g bytes p} version_line (1, Text) bytes
         (λ x e r. ⊎_elim (λ (t : Second g bytes). other_version x t.0 (sym e ∙ t.1)) (λ (t : Third g bytes). first_or_third x t.0 (sym e ∙ t.1)) r)
         (λ x e c r. ⊎_elim (λ (t : SecondRefused g bytes c). other_version x t.0 (sym e ∙ t.1)) (λ (t : ThirdRefused g bytes c). first_or_third x t.0 (sym e ∙ t.1)) r)
         (λ body. cut_exact g body)
         (front_before {Rest = Third g bytes} {None = (body : List ℕ) → bytes ≢ third_line ++ body} {Worse = ThirdRefused g bytes} second_line (1, Text) bytes
         (λ x e t. second_or_third x t.0 (sym e ∙ t.1)) (λ x e c t. second_or_third x t.0 (sym e ∙ t.1)) (λ body. count_exact g body)
-        (front_exact third_line (1, Text) bytes (λ body. beside_exact later Good exact g body)))
+        (front_exact third_line (1, Text) bytes (λ body. beside_exact later Good exact g body))))
 
 -- ---- the same by a header that passes
 
