@@ -1,5 +1,5 @@
 -- Numbers on which a graph isn't what is claimed, and the least of them.
-use Rattle.std.proofs.Common.{◌≡◌, ◌≢◌, ℕ, ◌%◌, ◌^◌, ◌<◌, Bool, true, false, length, sym, ap, subst, ◌∙◌}
+use Rattle.std.proofs.Common.{◌≡◌, ◌≢◌, ℕ, ◌%◌, ◌^◌, Bool, true, false, length, sym, subst, ◌∙◌}
 use Rattle.frontier_core.proofs.CallerLemmas.{difference_is_of_numbers}
 use Rattle.graph_core.specs.Graph.{Aig, IsDefinedOnce}
 use Rattle.graph_core.specs.Graph.Operands.{AreInRange, HasShapeFor, Sides, claimed_at, has_addend, output_modulus, sides_for, value_at}

@@ -1,6 +1,7 @@
 // What is asked of a graph, and what travels from plan to plan.
 use crate::shown::Shown;
 use graph_core::{Claim, Graph, Numbers, Operands};
+use mv_desk::Limits;
 
 /// What is asked of a graph.
 #[derive(Clone, Copy, Debug, PartialEq, Eq)]
@@ -20,6 +21,8 @@ pub struct Task {
 pub(crate) struct Job<'a> {
     pub(crate) graph: &'a Graph,
     pub(crate) task: Task,
+    /// How long certificates may be that a checker takes.
+    pub(crate) limits: Limits,
     /// The operands that the claim names in the graph.
     pub(crate) operands: &'a Operands,
     /// The graph alone.

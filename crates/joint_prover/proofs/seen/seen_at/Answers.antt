@@ -1,4 +1,4 @@
-use Rattle.std.proofs.Common.{◌≤◌, refl, subst, sym}
+use Rattle.std.proofs.Common.{◌≤◌, subst, sym}
 use Rattle.graph_core.proofs.OfAiger.CallerLemmas.{shape_for}
 use Rattle.joint_prover.specs.Verdicts.{IsSeen}
 use Rattle.joint_prover.proofs.Sizes.{few_outputs}
