@@ -1,5 +1,5 @@
 -- What is decided of a graph, from what is shown, the lines of a plan, and what was tried.
-use Rattle.std.proofs.Common.{◌≡◌, ℕ, ◌+◌, ◌*◌, ◌≤◌, Bool, List, [], length, refl, sym, subst, arith, inl, inr, ⊎_elim, ◌∷◌, true, false, ap, ap₂, ◌∙◌}
+use Rattle.std.proofs.Common.{◌≡◌, ℕ, ◌+◌, ◌*◌, ◌≤◌, List, [], length, refl, sym, subst, arith, inl, inr, ⊎_elim, ◌∷◌, true, false, ap, ap₂, ◌∙◌}
 use Rattle.std.specs.List.{All}
 use Rattle.std.specs.declared.option.Option.{Option}
 use Rattle.std.specs.declared.option.Option.TheVariants.{None, Some}

@@ -1,5 +1,5 @@
 -- What plans run over and come to, and what is told of it. Private clauses alone cite this file.
-use Rattle.std.specs.Prelude.{◌≡◌, ◌⊎◌, ℕ, ◌+◌, ◌*◌, ◌≤◌, Bool, List, [], length, option_map, take, IfSome, IsSome}
+use Rattle.std.specs.Prelude.{◌≡◌, ◌⊎◌, ℕ, ◌+◌, ◌*◌, ◌≤◌, ◌&&◌, not, if◌then◌else◌, Bool, true, false, List, [], length, option_map, take, IfSome, IsSome, ⊤}
 use Rattle.std.specs.declared.option.Option.{Option}
 use Rattle.std.specs.declared.option.Option.TheVariants.{None, Some}
 use Rattle.clause_core.specs.ClauseLines.{AreLawfulClauseLines}
@@ -20,6 +20,7 @@ use Rattle.graph_core.specs.declared.claim.Claim.{Claim}
 use Rattle.graph_core.specs.declared.numbers.Numbers.{Numbers}
 use Rattle.graph_core.specs.Text.JudgedLines.{Lengths}
 use Rattle.mv_desk.specs.View.{View, Rose}
+use Rattle.mv_text.specs.LineReading.{lengths_of}
 use Rattle.mv_desk.specs.declared.slot.Slot.{Slot}
 use Rattle.pac_writer.specs.Writing.{Made, written_ledger}
 use Rattle.pair_core.specs.Texts.{CanBeWritten, algebra_text, clauses_text}
@@ -35,6 +36,7 @@ use Rattle.slice_planner.specs.declared.order.Order.TheVariants.{Slices}
 use Rattle.joint_prover.specs.declared.decision.Decision.{Decision}
 use Rattle.joint_prover.specs.declared.decision.Decision.TheVariants as decision
 use Rattle.joint_prover.specs.declared.decision.Outcome.{Outcome}
+use Rattle.joint_prover.specs.declared.ended.Ended.{Ended}
 use Rattle.joint_prover.specs.declared.decision.Outcome.TheVariants.{Decided, Passed}
 use Rattle.joint_prover.specs.declared.note.Note.{Note}
 use Rattle.joint_prover.specs.declared.shown.Shown.{Shown}
@@ -43,6 +45,8 @@ use Rattle.command_core.specs.declared.task.Task.{Task}
 use Rattle.joint_prover.specs.declared.verdict.Tried.{Tried}
 use Rattle.joint_prover.specs.declared.verdict.Verdict.{Verdict}
 use Rattle.joint_prover.specs.declared.verdict.Verdict.TheVariants as verdict
+use Rattle.joint_prover.specs.Decisions.{IsDecision}
+use Rattle.joint_prover.specs.Notes.{IsFoundCut}
 use Rattle.joint_prover.specs.Pairs.{IsPairOver, IsVersion}
 use Rattle.joint_prover.specs.Tries.{EndsWithCut, extended_by}
 use Rattle.joint_prover.specs.Verdicts.{IsWrong}
@@ -146,6 +150,54 @@ abbrev pub IsOutcome : Aig → Task → Option Cut → Order → ℕ → Outcome
 IsOutcome g task cut order budget (Decided d) = IsEnd g task cut d
 IsOutcome g task cut order budget (Passed plan step size) = order ≡ Slices →
     IsSlicePlan (extended_by g cut) plan.steps × IsPassed (planned (extended_by g cut) plan.steps 0) (sides_for task.claim g) budget step size
+
+-- ---- what several plans decide
+
+-- a pair that it has can be written
+abbrev pub HasWritable : Decision → Type 0
+HasWritable (decision.Proved p) = CanBeWritten p
+HasWritable d = ⊤
+
+-- a pair that it has is within the limits
+abbrev pub IsShort : Lengths → Decision → Type 0
+IsShort lengths (decision.Proved p) = IsFirstTooLong lengths (clauses_text p) (algebra_text p) None
+IsShort lengths d = ⊤
+
+-- Whether it is so is told.
+pub record IsMeasured (lengths : Lengths) (e : Ended) : Type 0 where
+  pub short : e.is_long ≡ false → IsShort lengths e.decision
+  pub long : e.is_long ≡ true → ¬ (IsShort lengths e.decision)
+
+-- A plan over the graph with this cut or alone has decided this.
+pub record IsEndedOver (job : Job) (cut : Option Cut) (e : Ended) : Type 0 where
+  pub decides : Decides job.graph.now job.task cut e.decision
+  pub found : e.found ≡ None
+  pub measured : IsMeasured (lengths_of job.limits) e
+
+-- Plans have decided this, with the cut in use or one that was found.
+pub record IsEndedFor (job : Job) (e : Ended) : Type 0 where
+  pub decision : IsDecision job.graph.now job.task (cut_of_found (cut_named job.used) e.found) e.decision
+  pub found : IfSome e.found (IsFoundCut job.graph.now)
+  pub measured : IsMeasured (lengths_of job.limits) e
+
+-- the same over the graph with a cut that was found
+abbrev pub over_cut : Cut → Ended → Ended
+over_cut cut e = record { decision = e.decision; found = Some cut; is_long = e.is_long }
+
+-- something is decided, and by no pair past the limits
+abbrev pub is_settled : Option Ended → Bool
+is_settled None = false
+is_settled (Some e) = not e.is_long
+
+-- the first, unless it is long and the later one isn't
+abbrev pub shorter : Ended → Option Ended → Ended
+shorter first None = first
+shorter first (Some later) = if first.is_long && not later.is_long then later else first
+
+-- the first that isn't long, or else the first
+abbrev pub first_short : Option Ended → Option Ended → Option Ended
+first_short None later = later
+first_short (Some first) later = Some (shorter first later)
 
 -- the header that names a cut
 abbrev pub header_of : Aig → ℕ → Option Cut → Header

@@ -10,7 +10,9 @@
 //! plans with the whole budget, each where the ones before it had a frontier with more monomials: the slice plan over
 //! the graph with the adder that is used, the slice plan over the graph, and the plain plan over it. Between these,
 //! values of the inputs with few ones are tried, and plans whose lines are drafted by implications between variables
-//! (`drafted.rt`): what is drafted comes from a heuristic, so such a plan decides rightly or not at all.
+//! (`drafted.rt`): what is drafted comes from a heuristic, so such a plan decides rightly or not at all. A pair past
+//! the limits is put aside while a plan with a small budget is left, and its long lines are written as several
+//! (`ended.rt`, `shortened.rt`); which of several pairs is decided no public clause says.
 //!
 //! Where the remainder is 0 the decision is `Proved`, with a pair of certificates in memory, over the graph with an
 //! adder where a plan over that ended; else it is `Wrong` with the least operands, and addend, on which the graph
@@ -37,12 +39,14 @@ mod conclusion;
 mod decision;
 mod difference;
 mod drafted;
+mod ended;
 mod laws;
 mod note;
 mod plans;
 mod proving;
 mod reduction;
 mod seen;
+mod shortened;
 mod shown;
 mod task;
 mod verdict;

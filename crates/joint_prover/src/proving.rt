@@ -55,13 +55,19 @@ pub fn verify<D: Desk>(
 {
     let profile = task.claim.profile();
     match read_graph(alloc, desk, Slot::Graph, names.graph, profile, limits) {
-        Ok(graph) => tell(desk, decide(alloc, task, &graph), limits, names),
+        Ok(graph) => tell(desk, decide(alloc, task, limits, &graph), limits, names),
         Err(why) => (Verdict::Stopped(why), None),
     }
 }
 
-/// What is decided of a graph, and what became of a rewriting of its final stage.
-pub fn decide(alloc: Global, task: &Task, graph: &Graph) -> Result<(Decision, Note), Memory>
+/// What is decided of a graph, and what became of a rewriting of its final stage. A pair within the limits comes before
+/// one that isn't.
+pub fn decide(
+    alloc: Global,
+    task: &Task,
+    limits: &Limits,
+    graph: &Graph,
+) -> Result<(Decision, Note), Memory>
     requires sized { IsSizedAs (profile_of task.now.claim.widths) graph.now }
     requires version { IsVersion task.now.version }
     ensures decision { IfOk result (λ r. IsDecision graph.now task.now (cut_of r.1) r.0) }
@@ -76,6 +82,7 @@ pub fn decide(alloc: Global, task: &Task, graph: &Graph) -> Result<(Decision, No
     let job = Job {
         graph,
         task: *task,
+        limits: *limits,
         operands: &operands,
         alone,
         used: Shown::used(&rewritten, alone),

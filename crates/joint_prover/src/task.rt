@@ -2,12 +2,15 @@
 use crate::shown::Shown;
 use command_core::Task;
 use graph_core::{Graph, Numbers, Operands};
+use mv_desk::Limits;
 
 /// A graph and what is asked of it.
 #[derive(Clone, Copy)]
 pub(crate) struct Job<'a> {
     pub(crate) graph: &'a Graph,
     pub(crate) task: Task,
+    /// How long certificates may be that a checker takes.
+    pub(crate) limits: Limits,
     /// The operands that the claim names in the graph.
     pub(crate) operands: &'a Operands,
     /// The graph alone.
