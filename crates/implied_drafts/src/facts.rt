@@ -210,7 +210,7 @@ impl<'a> Facts<'a> {
         Ok(wanted.max(REACH))
     }
 
-    // The same of a product's gate, as many for each variable that is below it.
+    // How many are looked at for a product's gate: so many for each variable that the product joins.
     fn most_of_product(&self, v: u32) -> Result<usize, Memory> {
         let mut open = vec![in self.alloc; v; 1]?;
         let mut count = 0usize;

@@ -45,7 +45,7 @@ fn width_of(facts: &Facts<'_>, widths: &[u32], gate: Gate) -> u32 {
     }
 }
 
-// The same of an operand: a top is one.
+// How many tops an operand is the product of: one where it is a top itself, 0 where it is no product.
 fn width_below(facts: &Facts<'_>, widths: &[u32], lit: Lit) -> u32 {
     if lit.negated() {
         return 0;

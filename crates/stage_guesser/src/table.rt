@@ -62,7 +62,7 @@ impl Table {
         self.set_gates(alloc, graph)
     }
 
-    // The same of the constant, the inputs and the gates, from those of operands.
+    // Sets the values of the gates from those of the operands' bits, and the keys of all variables, by rising level.
     fn set_gates(&mut self, alloc: Global, graph: &Graph) -> Result<(), Memory> {
         let order = by_level(alloc, graph)?;
         for (_level, v) in order.as_slice() {
