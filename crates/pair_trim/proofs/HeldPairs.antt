@@ -23,7 +23,8 @@ use Rattle.pair_trim.specs.Trimming.{ReadsOld, TrimmedFiles, TrimmedPairsAreHeld
 
 no_clause_file : (outputs : ℕ) (h : Header) (lines : List ClauseLine) → IsAnyClauseFile outputs [] h lines → ⊥
 no_clause_file outputs h lines file =
-    ⊎_elim (λ first. absurd (omega (arith, simp length-append at (ap length first.1.2.2)))) (λ second. absurd (omega (arith, simp length-append at (ap length second.1.2)))) file.1
+    ⊎_elim (λ first. absurd (omega (arith, simp length-append at (ap length first.1.2.2))))
+    (λ o. ⊎_elim (λ second. absurd (omega (arith, simp length-append at (ap length second.1.2)))) (λ third. absurd (omega (arith, simp length-append at (ap length third.1.2)))) o) file.1
 
 no_algebra_file : (version : ℕ) (lines : List Line) (closing : ℕ) → IsAlgebraText version [] lines closing → ⊥
 no_algebra_file version lines closing file = absurd (omega (arith, simp length-append at (ap length file.6)))
