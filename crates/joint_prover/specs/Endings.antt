@@ -26,7 +26,7 @@ use Rattle.pac_writer.specs.Writing.{Made, written_ledger}
 use Rattle.pair_core.specs.Texts.{CanBeWritten, algebra_text, clauses_text}
 use Rattle.pair_limits.specs.TooLong.{IsFirstTooLong}
 use Rattle.poly_terms.specs.Tables.{Sum, modulus_in}
-use Rattle.ripple_graft.specs.Beside.{nothing}
+use Rattle.ripple_graft.specs.Beside.{nothing as nothing_beside}
 use Rattle.ripple_graft.specs.Extension.{IsExtension}
 use Rattle.ripple_graft.specs.HeaderBlocks.{IsCutOf, cut_blocks}
 use Rattle.ripple_graft.specs.declared.cut.Cut.{Cut}
@@ -201,7 +201,7 @@ first_short (Some first) later = Some (shorter first later)
 
 -- the header that names a cut
 abbrev pub header_of : Aig → ℕ → Option Cut → Header
-header_of g version cut = record { version = version; blocks = cut_blocks (length g.outputs) cut; beside = nothing }
+header_of g version cut = record { version = version; blocks = cut_blocks (length g.outputs) cut; beside = nothing_beside }
 
 -- ---- what is told
 
