@@ -1,5 +1,5 @@
 // reference_guesser: what a guessed reference gives on all operands.
-ghost use Rattle.std.specs.Prelude.{◌×◌, ◌≤◌};
+ghost use Rattle.std.specs.Prelude.{◌≤◌};
 
 use aiger_reader::graph_of_text;
 use graph_core::{Claim, Graph, Lit, Numbers, Operands, Order, Sign, Widths};
