@@ -1,4 +1,4 @@
-use Rattle.std.proofs.Common.{◌<◌, ◌∷◌, ◌∙◌, [], ap, arith, length, length-append, refl}
+use Rattle.std.proofs.Common.{◌<◌, arith, length, refl}
 use Rattle.graph_core.specs.declared.bounds.TheConstants.{MOST_VARIABLES}
 use Rattle.graph_core.specs.Graph.Extended.{without_cut}
 use Rattle.reference_guesser.proofs.Fits.{few_more, gate_room, gates_step, many_more}
