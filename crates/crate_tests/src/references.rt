@@ -41,12 +41,12 @@ fn given(
         operands.c_literals(),
         (numbers.c % (1 << 64)) as u64,
     );
-    for (x, y) in reference.gates.iter() {
+    for (x, y) in reference.beside.gates.as_slice() {
         let both = value(&values, *x) && value(&values, *y);
         values.push(both)?;
     }
     let mut number = 0;
-    for (k, lit) in reference.outputs.iter() {
+    for (k, lit) in reference.beside.outputs.as_slice() {
         if *k < 64 && value(&values, *lit) {
             number |= 1u64 << *k;
         }

@@ -23,7 +23,7 @@ use Rattle.ripple_graft.specs.Blocks.{AreBlocks}
 use Rattle.ripple_graft.specs.Grafts.{IsGrafted}
 use Rattle.ripple_graft.specs.HeaderBlocks.{IsCutOf, cut_blocks}
 use Rattle.ripple_graft.proofs.BlockLists.{cut_is_block}
-use Rattle.ripple_graft.proofs.GraftedGraphs.{grafted_small}
+use Rattle.ripple_graft.proofs.GraftedGraphs.{blocks_grafted, grafted_small}
 use Rattle.ripple_graft.specs.declared.cut.Cut.{Cut}
 use Rattle.pair_core.proofs.CallerLemmas.{same_self}
 use Rattle.stage_rewriter.specs.Rewriting.{IsShownRewriting}
@@ -113,7 +113,7 @@ module _ (g : Aig) (widths : Widths) (sized : IsSizedAs (profile_of widths) g) (
         ⊎_elim (λ first. inl (first, (cut, refl, fits))) (λ second. inr (second, omega arith, blocks_fit g cut fits)) known
 
     grafted : IsGrafted g (extended_by g cut)
-    grafted = record { blocks = cut_blocks (length g.outputs) cut; fit = blocks_fit g cut fits; is = refl }
+    grafted = blocks_grafted g (cut_blocks (length g.outputs) cut) (blocks_fit g cut fits)
 
     clauses_over : (lines : List ClauseLine) → length lines ≤ 2 * (task.conflicts + 2 * length g.outputs) → All (λ line. IsClause (clause_in line)) lines → (cut ≡ None → lines ≡ []) → AreLawfulClauseLines (extended_by g cut) lines →
         AreClausesOver g task cut (any_file_text header lines)
