@@ -1,5 +1,5 @@
 // reference_guesser: what a guessed reference gives on all operands.
-ghost use Rattle.std.specs.Prelude.{◌×◌, ◌≤◌};
+ghost use Rattle.std.specs.Prelude.{◌≤◌};
 
 use aiger_reader::graph_of_text;
 use graph_core::{Claim, Graph, Lit, Numbers, Operands, Order, Sign, Widths};
@@ -41,12 +41,12 @@ fn given(
         operands.c_literals(),
         (numbers.c % (1 << 64)) as u64,
     );
-    for (x, y) in reference.gates.iter() {
+    for (x, y) in reference.beside.gates.as_slice() {
         let both = value(&values, *x) && value(&values, *y);
         values.push(both)?;
     }
     let mut number = 0;
-    for (k, lit) in reference.outputs.iter() {
+    for (k, lit) in reference.beside.outputs.as_slice() {
         if *k < 64 && value(&values, *lit) {
             number |= 1u64 << *k;
         }

@@ -1,4 +1,8 @@
 // A reference multiplier by the values of a graph's signals.
+ghost use Rattle.std.specs.Prelude.{IfOk, IfSome};
+ghost use Rattle.ripple_graft.specs.Beside.{IsBeside};
+
+use crate::fitting::if_fitting;
 use crate::gates::Gates;
 use crate::known::Known;
 use crate::products::{Form, Products};
@@ -7,83 +11,128 @@ use crate::style::{Shape, Style};
 use crate::tree::Tree;
 use crate::values::values;
 use graph_core::{Graph, Lit, Memory, Operands, Sign};
+use ripple_graft::Beside;
 use std::alloc::Global;
 
 // No reference is made for a graph of more variables.
-const MOST_VARIABLES: u32 = 1 << 18;
+const MOST_READ: u32 = 1 << 18;
 
 // So many full adders are judged in all, at most.
-const MOST_JUDGED: u64 = 1 << 28;
+const MOST_JUDGED: u64 = 1 << 27;
 
 const SHAPES: [Shape; 3] = [Shape::Level, Shape::Rows, Shape::Array];
 
-/// A reference: gates beside the graph, numbered on from its greatest variable, and a new output for each column.
+/// A reference: gates beside the graph, and a new output for each column.
 #[derive(Debug, Drop)]
 pub struct Reference {
-    pub gates: Vec<(Lit, Lit)>,
-    /// columns, and their new outputs
-    pub outputs: Vec<(u32, Lit)>,
+    pub beside: Beside,
     /// of how many in a thousand gates some signal of the graph has the values
     pub known: u32,
 }
 
-/// A multiplier whose tree is read off the values of a graph's signals; none for a very large graph.
-pub fn guess(
-    alloc: Global,
-    graph: &Graph,
-    operands: &Operands,
-) -> Result<Option<Reference>, Memory> {
-    let mut references = guesses(alloc, graph, operands, 1)?;
-    Ok(references.pop())
+/// The multiplier of which most is known; none for a very large graph.
+pub fn guess(alloc: Global, graph: &Graph, operands: &Operands) -> Result<Option<Reference>, Memory>
+    ensures { IfOk result (λ found. IfSome found (λ r. IsBeside graph.now r.beside)) }
+{
+    let mut guesses = Guesses::new(alloc, graph, operands, 1)?;
+    guesses.take(alloc, graph)
 }
 
-/// Several such multipliers, no more than asked for, that of which most is known last.
-pub fn guesses(
-    alloc: Global,
-    graph: &Graph,
-    operands: &Operands,
-    most: usize,
-) -> Result<Vec<Reference>, Memory> {
-    let mut references = Vec::new(alloc);
-    if graph.max() > MOST_VARIABLES {
-        return Ok(references);
+/// Multipliers whose trees are read off the values of a graph's signals.
+#[derive(Debug, Drop)]
+pub struct Guesses {
+    /// that of which most is known last
+    guesses: Vec<Made>,
+}
+
+// What is made in one style.
+#[derive(Debug, Drop)]
+struct Made {
+    gates: Vec<(Lit, Lit)>,
+    /// columns, and their new outputs
+    outputs: Vec<(u32, Lit)>,
+    known: u32,
+}
+
+impl Guesses {
+    /// No more than are asked for; none for a very large graph.
+    pub fn new(
+        alloc: Global,
+        graph: &Graph,
+        operands: &Operands,
+        most: usize,
+    ) -> Result<Guesses, Memory> {
+        let mut guesses = Guesses {
+            guesses: Vec::new(alloc),
+        };
+        if graph.max() <= MOST_READ {
+            guesses.fill(alloc, graph, operands, most)?;
+        }
+        Ok(guesses)
     }
-    let rows = values(alloc, graph, operands)?;
-    let known = Known::new(alloc, graph, &rows)?;
-    let mut left = MOST_JUDGED;
-    for style in styles(alloc, graph, operands, &rows, &known)? {
-        let tree = Tree::new(alloc, graph, operands, &rows, &known, style, left)?;
-        left = tree.left;
-        let is_whole = tree.is_whole;
-        enter(&mut references, reference_of(alloc, tree)?, most)?;
-        if is_whole {
-            break;
+
+    fn fill(
+        &mut self,
+        alloc: Global,
+        graph: &Graph,
+        operands: &Operands,
+        most: usize,
+    ) -> Result<(), Memory> {
+        let rows = values(alloc, graph, operands)?;
+        let known = Known::new(alloc, graph, &rows)?;
+        let mut left = MOST_JUDGED;
+        for style in styles(alloc, graph, operands, &rows, &known)? {
+            let tree = Tree::new(alloc, graph, operands, &rows, &known, style, left)?;
+            left = tree.left;
+            let is_whole = tree.is_whole;
+            self.enter(made_of(alloc, tree)?, most)?;
+            if is_whole {
+                break;
+            }
+        }
+        Ok(())
+    }
+
+    // Puts a guess at its place, unless it is there, and drops the first one where there are too many.
+    fn enter(&mut self, guess: Made, most: usize) -> Result<(), Memory> {
+        if self
+            .guesses
+            .iter()
+            .any(|other| other.gates.as_slice() == guess.gates.as_slice())
+        {
+            return Ok(());
+        }
+        self.guesses.push(guess)?;
+        self.guesses.sort_by_key(|guess| guess.known)?;
+        if self.guesses.len() > most {
+            self.guesses.remove(0);
+        }
+        Ok(())
+    }
+
+    /// Takes the multiplier of which most is known, if one is left. The graph is the one that they are made for.
+    pub fn take(&mut self, alloc: Global, graph: &Graph) -> Result<Option<Reference>, Memory>
+        ensures { IfOk result (λ found. IfSome found (λ r. IsBeside graph.now r.beside)) }
+    {
+        let Some(guess) = self.guesses.pop() else {
+            return Ok(None);
+        };
+        let known = guess.known;
+        match if_fitting(alloc, graph, &guess.gates, &guess.outputs)? {
+            Some(beside) => Ok(Some(Reference { beside, known })),
+            None => Ok(None),
         }
     }
-    Ok(references)
-}
-
-// Puts a reference at its place, unless it is there, and drops the first one where there are too many.
-fn enter(references: &mut Vec<Reference>, reference: Reference, most: usize) -> Result<(), Memory> {
-    if references.iter().any(|other| other.gates.as_slice() == reference.gates.as_slice()) {
-        return Ok(());
-    }
-    references.push(reference)?;
-    references.sort_by_key(|reference| reference.known)?;
-    if references.len() > most {
-        references.remove(0);
-    }
-    Ok(())
 }
 
 // The gates and outputs of a tree.
-fn reference_of(alloc: Global, tree: Tree<'_>) -> Result<Reference, Memory> {
+fn made_of(alloc: Global, tree: Tree<'_>) -> Result<Made, Memory> {
     let known = tree.share();
     let mut outputs = Vec::new(alloc);
     for (k, lit) in tree.sums.iter().enumerate() {
         outputs.push(((k % (1 << 32)) as u32, *lit))?;
     }
-    Ok(Reference {
+    Ok(Made {
         gates: tree.gates.pairs,
         outputs,
         known,
@@ -112,9 +161,9 @@ fn styles(
     Ok(styles)
 }
 
-// Each shape without any signal, and with a low and a high price of lost carries.
+// Each shape without any signal, and with several prices of lost carries.
 fn push_styles(styles: &mut Vec<Style>, form: Form, shapes: &[Shape]) -> Result<(), Memory> {
-    for (lost, is_blind) in [(5, true), (5, false), (2, false)] {
+    for (lost, is_blind) in [(5, true), (5, false), (9, false), (2, false)] {
         for shape in shapes {
             styles.push(Style {
                 form,

@@ -1,5 +1,4 @@
 // Two or three addends of a column, to be put together.
-ghost use Rattle.std.specs.Prelude.{◌≡◌};
 
 /// The addends of a half adder or a full adder, by their numbers in a column, rising.
 #[derive(Clone, Copy, Debug, PartialEq, Eq, PartialOrd, Ord)]

@@ -69,11 +69,6 @@ impl<'a> Pool<'a> {
         }
     }
 
-    /// How many addends and sums there are.
-    pub(crate) fn len(&self) -> usize {
-        self.members.len()
-    }
-
     /// One more, and its number.
     pub(crate) fn push(&mut self, row: Row, level: u32) -> Result<u32, Memory> {
         let number = (self.members.len() as u64 % (1 << 32)) as u32;

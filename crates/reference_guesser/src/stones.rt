@@ -32,7 +32,7 @@ fn third_of(addends: &[Lit], place: usize, other: usize) -> Option<Lit> {
     None
 }
 
-// The known conjunctions of two literals, and of them and the third, in all signs.
+// The known conjunctions of two literals, and of theirs or its negation and the third, in all signs.
 fn make_ands(
     gates: &mut Gates<'_>,
     known: &Known,
@@ -45,19 +45,26 @@ fn make_ands(
             gates.and(x, y)?;
         }
         if let Some(z) = third {
-            make_triple(gates, known, x, y, z)?;
-            make_triple(gates, known, x, y, z.not())?;
+            make_third(gates, known, (x, y), z)?;
+            make_third(gates, known, (x, y), z.not())?;
         }
     }
     Ok(())
 }
 
-// The conjunction of three literals, if it is known.
-fn make_triple(gates: &mut Gates<'_>, known: &Known, x: Lit, y: Lit, z: Lit) -> Result<(), Memory> {
-    let both = gates.row(x).and(&gates.row(y));
-    if known.has_and(&both, &gates.row(z)) {
-        let both = gates.and(x, y)?;
-        gates.and(both, z)?;
+// The conjunctions of a third literal with that of two and with its negation, if they are known.
+fn make_third(
+    gates: &mut Gates<'_>,
+    known: &Known,
+    pair: (Lit, Lit),
+    z: Lit,
+) -> Result<(), Memory> {
+    let both = gates.row(pair.0).and(&gates.row(pair.1));
+    for negated in [false, true] {
+        if known.has_and(&both.not_if(negated), &gates.row(z)) {
+            let both = gates.and(pair.0, pair.1)?;
+            gates.and(if negated { both.not() } else { both }, z)?;
+        }
     }
     Ok(())
 }
