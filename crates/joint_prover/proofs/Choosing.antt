@@ -14,21 +14,19 @@ use Rattle.joint_prover.specs.declared.decision.Decision.{Decision}
 use Rattle.joint_prover.specs.declared.decision.Decision.TheVariants as decision
 use Rattle.joint_prover.specs.declared.ended.Ended.{Ended}
 use Rattle.joint_prover.specs.declared.task.Job.{Job}
-use Rattle.joint_prover.specs.declared.task.Task.{Task}
+use Rattle.command_core.specs.declared.task.Task.{Task}
 use Rattle.joint_prover.proofs.Telling.{over_decides}
 
 -- ---- a pair that can be written
 
 pub decides_writable : (g : Aig) (task : Task) (cut : Option Cut) (d : Decision) → Decides g task cut d → HasWritable d
 decides_writable g task cut (decision.Proved p) h = h.1
-decides_writable g task cut (decision.Wrong a b value product) h = tt
-decides_writable g task cut (decision.WrongSum a b c value sum) h = tt
+decides_writable g task cut (decision.Wrong x) h = tt
 decides_writable g task cut (decision.Undecided tried step size seen) h = tt
 
 pub decision_writable : (g : Aig) (task : Task) (used : Option Cut) (d : Decision) → IsDecision g task used d → HasWritable d
 decision_writable g task used (decision.Proved p) h = h.1
-decision_writable g task used (decision.Wrong a b value product) h = tt
-decision_writable g task used (decision.WrongSum a b c value sum) h = tt
+decision_writable g task used (decision.Wrong x) h = tt
 decision_writable g task used (decision.Undecided tried step size seen) h = tt
 
 -- ---- which is taken
