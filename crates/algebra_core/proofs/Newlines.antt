@@ -1,5 +1,5 @@
 -- The lines of an algebra certificate have no line feed in them.
-use Rattle.std.specs.Prelude.{◌≡◌, ℕ, Bool, true, false, cond, List, [], ◌∷◌, ◌++◌, codes, ◌==◌}
+use Rattle.std.specs.Prelude.{ℕ, Bool, true, false, cond, List, [], ◌∷◌, ◌++◌, codes, ◌==◌}
 use Rattle.std.proofs.Common.{refl, ⊎_elim}
 use Rattle.algebra_core.specs.Polynomials.{Term, Polynomial}
 use Rattle.algebra_core.specs.AlgebraLines.{Line, Sum, Product, Combination, Import, Delete, Part}
@@ -55,7 +55,10 @@ semicolon = none_in (codes ";") refl
 
 -- the first line
 pub none_first : (version : ℕ) → HasNoNewline (first_line version)
-none_first version = elim (version == 2) as (λ b. HasNoNewline (cond b (codes "pac 2") (codes "pac 1"))) [ true ↦ none_in (codes "pac 2") refl | false ↦ none_in (codes "pac 1") refl ]
+none_first version = elim (version == 1) as (λ b. HasNoNewline (cond b (codes "pac 1") (cond (version == 2) (codes "pac 2") (codes "pac 3")))) [ true ↦ none_in (codes "pac 1") refl | false ↦ later ]
+  where
+    later : HasNoNewline (cond (version == 2) (codes "pac 2") (codes "pac 3"))
+    later = elim (version == 2) as (λ b. HasNoNewline (cond b (codes "pac 2") (codes "pac 3"))) [ true ↦ none_in (codes "pac 2") refl | false ↦ none_in (codes "pac 3") refl ]
 
 pub none_line : (version : ℕ) (bytes : List ℕ) (x : Line) → IsLineText version bytes x → HasNoNewline bytes
 none_line version bytes (Sum id i j p) h =

@@ -1,12 +1,11 @@
 -- What is read of an algebra certificate is what its text says.
-use Rattle.std.specs.Prelude.{◌≡◌, ℕ, ◌<◌, ◌⊎◌, Bool, true, false, cond, ◌||◌, List, [], ◌∷◌, ◌++◌, codes, ◌==◌}
+use Rattle.std.specs.Prelude.{◌≡◌, ℕ, ◌<◌, ◌⊎◌, Bool, true, false, cond, ◌||◌, List, [], ◌∷◌, ◌++◌, codes, ◌==◌, nat_lt}
 use Rattle.std.specs.declared.option.Option.{Option}
 use Rattle.std.specs.declared.option.Option.TheVariants.{None, Some}
-use Rattle.std.proofs.Common.{refl, sym, ap, ap₂, subst, ◌∙◌, arith, append_assoc, inl, inr, ⊎_elim, eqb-true}
+use Rattle.std.proofs.Common.{refl, sym, ap, ap₂, subst, ◌∙◌, append_assoc, inl, inr, ⊎_elim, eqb-true, lt-ltb, ltb-true}
 use Rattle.std.proofs.lemmas.Option.{same_Some}
 use Rattle.std.proofs.lemmas.List.{append-nil}
-use Rattle.std.proofs.lemmas.List.Elements.{recursion_from_All}
-use Rattle.graph_core.specs.Text.{newline, IsNumeral, IsDigit}
+use Rattle.graph_core.specs.Text.{newline, IsNumeral}
 use Rattle.graph_core.specs.Text.Numerals.{number_at, is_digit, ◌>>=◌}
 use Rattle.graph_core.specs.Text.Readers.{Reader, behind_at, ended_at, then_at, choose_at, many_at, put_before}
 use Rattle.graph_core.proofs.OfTexts.CallerLemmas.{Ended, IsReaderOf, BehindText, Then, Bind, AreMany, NoneOf, OneOf, Anything, reads_number, reads_as, reads_map, reads_behind, reads_ended, reads_then, reads_text, reads_bind, reads_choice, reads_many, many_next, OtherOf, one_longer, numeral_first}
@@ -398,19 +397,19 @@ reads_import id =
       ),
     )
 
--- what only version 2 has
+-- what only versions above 1 have
 abbrev InSecond : {A : Type 0} → ℕ → (List ℕ → A → Type 0) → List ℕ → A → Type 0
-InSecond version Is bytes x = (version ≡ 2) × Is bytes x
+InSecond version Is bytes x = (1 < version) × Is bytes x
 
 reads_second : {A : Type 0} {item : Reader A} {Is : List ℕ → A → Type 0} (version : ℕ) → IsReaderOf item Is Anything → IsReaderOf (second_at version item) (InSecond version Is) Anything
-reads_second {A} {item} {Is} version r = record { takes = λ bytes x rest h. takes bytes x rest (version == 2) refl h; again = again }
+reads_second {A} {item} {Is} version r = record { takes = λ bytes x rest h. takes bytes x rest (nat_lt 1 version) refl h; again = again }
   where
-    takes : (bytes : List ℕ) (x : A) (rest : List ℕ) (b : Bool) → (version == 2) ≡ b → cond b (item bytes) None ≡ Some (x, rest) → (front : List ℕ) × InSecond version Is front x × (bytes ≡ front ++ rest)
-    takes bytes x rest true e h = let t = r.takes bytes x rest h in (t.0, (eqb-true version 2 e, t.1), t.2)
+    takes : (bytes : List ℕ) (x : A) (rest : List ℕ) (b : Bool) → nat_lt 1 version ≡ b → cond b (item bytes) None ≡ Some (x, rest) → (front : List ℕ) × InSecond version Is front x × (bytes ≡ front ++ rest)
+    takes bytes x rest true e h = let t = r.takes bytes x rest h in (t.0, (ltb-true 1 version e, t.1), t.2)
     takes bytes x rest false e h = absurd (cc)
 
     again : (front : List ℕ) (x : A) (rest : List ℕ) → InSecond version Is front x → Anything rest → second_at version item (front ++ rest) ≡ Some (x, rest)
-    again front x rest h any = ap (λ v. second_at v item (front ++ rest)) h.0 ∙ r.again front x rest h.1 any
+    again front x rest h any = ap (λ b. cond b (item (front ++ rest)) None) (lt-ltb 1 version h.0) ∙ r.again front x rest h.1 any
 
 abbrev IsDrop : ℕ → List ℕ → Line → Type 0
 IsDrop id bytes x = (x ≡ Delete id) × (bytes ≡ codes "d;")

@@ -21,7 +21,7 @@ pub record Part : Type 0 where
   pub factor : Polynomial
 
 -- The lines: each but Delete introduces an id, and states a polynomial last. An import names a value by its number; it stands in
--- version 2 alone.
+-- versions above 1.
 pub data Line : Type 0 where
   Sum : ℕ → ℕ → ℕ → Polynomial → Line
   Product : ℕ → ℕ → Polynomial → Polynomial → Line

@@ -1,11 +1,10 @@
 -- Reading an algebra certificate from the front.
-use Rattle.std.specs.Prelude.{◌≡◌, ℕ, Bool, true, false, ◌||◌, List, [], ◌∷◌, ◌++◌, codes, ◌==◌, ◌↔◌, if◌then◌else◌}
+use Rattle.std.specs.Prelude.{◌≡◌, ℕ, Bool, true, false, ◌||◌, List, [], ◌∷◌, ◌++◌, codes, ◌==◌, ◌↔◌, if◌then◌else◌, nat_lt}
 use Rattle.std.specs.declared.option.Option.{Option}
 use Rattle.std.specs.declared.option.Option.TheVariants.{None, Some}
 use Rattle.graph_core.specs.Text.{newline}
 use Rattle.graph_core.specs.Text.Numerals.{number_at, is_digit}
 use Rattle.graph_core.specs.Text.Readers.{Reader, map_at, behind_at, ended_at, then_at, text_at, bind_at, choose_at, many_at}
-use Rattle.graph_core.proofs.OfTexts.CallerLemmas.{NoneOf}
 use Rattle.algebra_core.specs.Polynomials.{Term, Polynomial}
 use Rattle.algebra_core.specs.AlgebraLines.{Line, Sum, Product, Combination, Import, Delete, Part}
 use Rattle.algebra_core.specs.Text.{IsLineText, IsCloseText, IsAlgebraText, algebra_header}
@@ -73,9 +72,9 @@ import_at id = map_at (λ x. Import id x.0 x.1) (behind_at (codes "c ") (then_at
 abbrev pub drop_at : ℕ → Reader Line
 drop_at id = text_at (codes "d;") (Delete id)
 
--- what only version 2 has
+-- what only versions above 1 have
 abbrev pub second_at : {A : Type 0} → ℕ → Reader A → Reader A
-second_at version item bytes = if version == 2 then item bytes else None
+second_at version item bytes = if nat_lt 1 version then item bytes else None
 
 -- a line, by the byte after its id
 unfoldable pub algebra_line_at : ℕ → Reader Line

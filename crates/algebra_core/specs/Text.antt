@@ -39,7 +39,7 @@ AreParts bytes [] = ⊥
 AreParts bytes (part ∷ []) = IsPart bytes part
 AreParts bytes (part ∷ next ∷ parts) = (front rest : List ℕ) × IsPart front part × AreParts rest (next ∷ parts) × (bytes ≡ front ++ codes " + " ++ rest)
 
--- a line of a version, without its line feed; only version 2 has imports
+-- a line of a version, without its line feed; only versions above 1 have imports
 abbrev pub IsLineText : ℕ → List ℕ → Line → Type 0
 IsLineText version bytes (Sum id i j p) = (new left right poly : List ℕ) × IsNumeral 15 new id × IsNumeral 15 left i ×
     IsNumeral 15 right j × IsPolynomial poly p ×
@@ -49,7 +49,7 @@ IsLineText version bytes (Product id i q p) = (new left factor poly : List ℕ) 
     (bytes ≡ new ++ codes " * " ++ left ++ codes ", " ++ factor ++ codes ", " ++ poly ++ codes ";")
 IsLineText version bytes (Combination id parts p) = (new sum poly : List ℕ) × IsNumeral 15 new id × AreParts sum parts × IsPolynomial poly p ×
     (bytes ≡ new ++ codes " % " ++ sum ++ codes ", " ++ poly ++ codes ";")
-IsLineText version bytes (Import id number p) = (version ≡ 2) × ((new digits poly : List ℕ) × IsNumeral 15 new id × IsNumeral 15 digits number ×
+IsLineText version bytes (Import id number p) = (1 < version) × ((new digits poly : List ℕ) × IsNumeral 15 new id × IsNumeral 15 digits number ×
     IsPolynomial poly p × (bytes ≡ new ++ codes " c " ++ digits ++ codes ", " ++ poly ++ codes ";"))
 IsLineText version bytes (Delete id) = (old : List ℕ) × IsNumeral 15 old id × (bytes ≡ old ++ codes " d;")
 
@@ -63,9 +63,9 @@ AreLineTexts version bytes [] after = bytes ≡ after
 AreLineTexts version bytes (x ∷ xs) after =
     (line rest : List ℕ) × IsLineText version line x × AreLineTexts version rest xs after × (bytes ≡ line ++ newline ∷ rest)
 
--- the first line: `pac 1` in version 1, and `pac 2`
+-- the first line: `pac 1`, `pac 2` or `pac 3`
 abbrev pub first_line : ℕ → List ℕ
-first_line version = if version == 2 then codes "pac 2" else codes "pac 1"
+first_line version = if version == 1 then codes "pac 1" else if version == 2 then codes "pac 2" else codes "pac 3"
 
 abbrev pub algebra_header : ℕ → List ℕ
 algebra_header version = first_line version ++ newline ∷ []

@@ -10,7 +10,7 @@ use Rattle.clap.specs.Walk.{Held, Walk, arg_by_index, finished, idle, nothing_he
 use Rattle.clap.specs.Faults.{check_fault, defaults_fault, entered_fault, level_fault, settle_fault, step_fault, turn_fault, walk_fault}
 use Rattle.clap.specs.Kinds.{or_else}
 use Rattle.clap.proofs.OnLiterals.{clap_on_literals}
-use Rattle.command_line.specs.declared.files.Files.{Files}
+use Rattle.command_core.specs.Files.{Files}
 use Rattle.command_line.specs.Asked.{asked, met, where_taken}
 use Rattle.command_line.specs.Examples.{BeginsPlain, NamesAreChecked}
 use Rattle.command_line.specs.FixedCommand.{mulver}

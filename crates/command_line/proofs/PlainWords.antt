@@ -8,7 +8,7 @@ use Rattle.graph_maker.specs.declared.adder.Adder.TheVariants.{Kogge, Ripple}
 use Rattle.graph_maker.specs.declared.design.Design.TheVariants.{Corrected, Multiplier, MultiplyAdd, OfWidths}
 use Rattle.graph_maker.specs.declared.kind.Kind.TheVariants.{Array, Dadda}
 use Rattle.command_line.specs.declared.command.Command.TheVariants.{Eval, Make, Trial}
-use Rattle.command_line.specs.Asked.{AsksTrim, IsCheck, asked}
+use Rattle.command_line.specs.Asked.{AsksTrim, IsCheck, asked, making_of}
 use Rattle.command_line.specs.Examples.{adding_to_24x17, g_c_a, g_c_a_x_y, check_interleaved, check_interleaved_widths, check_signed_sum, check_widths, check_g, make_array, make_widths, make_widths_add, make_corrected, make_dadda_add, make_corrected_add, eval_addend, one_two_three, trial_of_21, trim_interleaved, trim_to}
 
 pub interleaved : IsCheck check_interleaved g_c_a (multiplying Interleaved Unsigned)
@@ -35,11 +35,11 @@ pub tried : asked trial_of_21 ≡ Some (Trial 21)
 unfolding asked clap_on_literals
 tried = refl
 
-pub made : asked make_array ≡ Some (Make (Multiplier Array) 64 Ripple (codes "x"))
+pub made : asked make_array ≡ Some (Make (making_of (Multiplier Array) 64 Ripple) (codes "x"))
 unfolding asked clap_on_literals
 made = refl
 
-pub made_wide : asked make_widths ≡ Some (Make (OfWidths Dadda 17) 24 Kogge (codes "x"))
+pub made_wide : asked make_widths ≡ Some (Make (making_of (OfWidths Dadda 17) 24 Kogge) (codes "x"))
 unfolding asked clap_on_literals
 made_wide = refl
 
@@ -47,11 +47,11 @@ pub no_wide_sum : asked make_widths_add ≡ None
 unfolding asked clap_on_literals
 no_wide_sum = refl
 
-pub corrected : asked make_corrected ≡ Some (Make Corrected 8 Kogge (codes "x"))
+pub corrected : asked make_corrected ≡ Some (Make (making_of Corrected 8 Kogge) (codes "x"))
 unfolding asked clap_on_literals
 corrected = refl
 
-pub sum : asked make_dadda_add ≡ Some (Make (MultiplyAdd Dadda) 8 Kogge (codes "x"))
+pub sum : asked make_dadda_add ≡ Some (Make (making_of (MultiplyAdd Dadda) 8 Kogge) (codes "x"))
 unfolding asked clap_on_literals
 sum = refl
 

@@ -17,12 +17,10 @@ use Rattle.graph_maker.specs.declared.design.Design.TheVariants.{Corrected, Mult
 use Rattle.graph_maker.specs.declared.kind.Kind.{Kind}
 use Rattle.command_line.specs.declared.command.Command.{Command}
 use Rattle.command_line.specs.declared.command.Command.TheVariants.{Check, CheckSame, Eval, Make, Same, Trial, Trim, Verify}
-use Rattle.command_line.specs.declared.files.Files.{Files}
-use Rattle.command_line.specs.declared.files.PairFiles.{PairFiles}
-use Rattle.command_line.specs.declared.files.TrimFiles.{TrimFiles}
 use Rattle.command_line.specs.declared.point.Point.{Point}
-use Rattle.command_core.specs.Files.{AreDistinct}
-use Rattle.command_line.specs.Asked.{AreBits, IsCommandInRange, IsUnread, LeavesFiles, LeavesGraphs, adder_named, are_reused, are_shared, asked, bits_asked, check_of, check_same_of, check_same_with, check_with, claim_at, design_asked, design_at, design_named, design_with, is_overwriting, is_file_read, is_set, is_x, kind_named, pair_at, same_of, same_with, files_at, verify_of, verify_with, version_at, version_from, word_at, word_from, eval_of, eval_with, make_of, make_with, met, command_named, number_of, point_at, read_at, trial_of, trial_with, trim_files_at, trim_asked, trim_with, where_taken, widths_named, widths_with}
+use Rattle.command_core.specs.Files.{AreDistinct, ComparedFiles, Files, IsUnread, LeavesFiles, TrimmedFiles}
+use Rattle.command_core.specs.declared.task.Task.{Task}
+use Rattle.command_line.specs.Asked.{AreBits, IsCommandInRange, LeavesGraphs, adder_named, are_reused, are_shared, asked, bits_asked, check_of, check_same_of, check_same_with, check_with, claim_at, design_asked, design_at, design_named, design_with, is_overwriting, is_file_read, is_set, is_x, kind_named, making_of, making_with, pair_at, same_of, same_with, files_at, task_at, task_with, verify_of, verify_with, version_at, version_from, word_at, word_from, eval_of, eval_with, make_of, make_with, met, command_named, number_of, point_at, read_at, trial_of, trial_with, trim_files_at, trim_asked, trim_with, where_taken, widths_named, widths_with}
 use Rattle.command_line.specs.FixedCommand.{mulver}
 
 -- ---- the number
@@ -151,19 +149,28 @@ version_in (Some n) = go (n == 1) (n == 2)
     go false true = inr refl
     go false false = tt
 
-verify_one : (files : Files) (claim : Claim) (budget conflicts version : ℕ) (command : Command) → (1 ≤ budget) × (budget < 2 ^ 32) → conflicts < 2 ^ 32 → IsVersion version
-    → (shared : Bool) → are_shared files ≡ shared → (if shared then None else Some (Verify files claim budget conflicts version)) ≡ Some command → IsCommandInRange command
-verify_one files claim budget conflicts version command b c v true test e = cc
-verify_one files claim budget conflicts version command b c v false test e = same_range command (Verify files claim budget conflicts version) (apart files test, b.0, b.1, c, v) e
+-- the numbers of a task are in their ranges
+abbrev IsTaskInRange : Task → Type 0
+IsTaskInRange task = (1 ≤ task.budget) × (task.budget < 2 ^ 32) × (task.conflicts < 2 ^ 32) × IsVersion task.version
 
-verify_range : (files : Option Files) (claim : Option Claim) (budget conflicts version : Option ℕ) (command : Command)
-    → IfSome budget (AreFrom 1) → IfSome conflicts (AreFrom 0) → IfSome version IsVersion → verify_with files claim budget conflicts version ≡ Some command → IsCommandInRange command
-verify_range (Some f) (Some k) (Some b) (Some c) (Some v) command b_range c_range v_range e = verify_one f k b c v command b_range c_range.1 v_range (are_shared f) refl e
-verify_range None claim budget conflicts version command b_range c_range v_range e = cc
-verify_range (Some f) None budget conflicts version command b_range c_range v_range e = cc
-verify_range (Some f) (Some k) None conflicts version command b_range c_range v_range e = cc
-verify_range (Some f) (Some k) (Some b) None version command b_range c_range v_range e = cc
-verify_range (Some f) (Some k) (Some b) (Some c) None command b_range c_range v_range e = cc
+task_in : (claim : Option Claim) (budget conflicts version : Option ℕ) → IfSome budget (AreFrom 1) → IfSome conflicts (AreFrom 0) → IfSome version IsVersion
+    → IfSome (task_with claim budget conflicts version) IsTaskInRange
+task_in (Some k) (Some b) (Some c) (Some v) b_range c_range v_range = (b_range.0, b_range.1, c_range.1, v_range)
+task_in None budget conflicts version b_range c_range v_range = tt
+task_in (Some k) None conflicts version b_range c_range v_range = tt
+task_in (Some k) (Some b) None version b_range c_range v_range = tt
+task_in (Some k) (Some b) (Some c) None b_range c_range v_range = tt
+
+verify_one : (files : Files) (task : Task) (command : Command) → IsTaskInRange task
+    → (shared : Bool) → are_shared files ≡ shared → (if shared then None else Some (Verify files task)) ≡ Some command → IsCommandInRange command
+verify_one files task command in_range true test e = cc
+verify_one files task command in_range false test e = same_range command (Verify files task) (apart files test, in_range.0, in_range.1, in_range.2, in_range.3) e
+
+verify_range : (files : Option Files) (task : Option Task) (command : Command)
+    → IfSome task IsTaskInRange → verify_with files task ≡ Some command → IsCommandInRange command
+verify_range (Some f) (Some t) command in_range e = verify_one f t command in_range (are_shared f) refl e
+verify_range None task command in_range e = cc
+verify_range (Some f) None command in_range e = cc
 
 eval_range : (graph : Option Text) (point : Option Point) (command : Command) → eval_with graph point ≡ Some command → IsCommandInRange command
 eval_range (Some g) (Some p) command e = same_range command (Eval g p) tt e
@@ -171,8 +178,8 @@ eval_range None point command e = cc
 eval_range (Some g) None command e = cc
 
 make_range : (design : Option (Design × ℕ)) (adder : Option Adder) (out : Option Text) (command : Command)
-    → IfSome design IsDesignOf → make_with design adder out ≡ Some command → IsCommandInRange command
-make_range (Some (d, n)) (Some a) (Some o) command in_range e = same_range command (Make d n a o) in_range e
+    → IfSome design IsDesignOf → make_with (making_with design adder) out ≡ Some command → IsCommandInRange command
+make_range (Some (d, n)) (Some a) (Some o) command in_range e = same_range command (Make (making_of d n a) o) in_range e
 make_range None adder out command in_range e = cc
 make_range (Some (d, n)) None out command in_range e = cc
 make_range (Some (d, n)) (Some a) None command in_range e = cc
@@ -181,48 +188,48 @@ trial_range : (number : Option ℕ) (command : Command) → IfSome number (AreFr
 trial_range (Some n) command in_range e = same_range command (Trial n) in_range.1 e
 trial_range None command in_range e = cc
 
-leaves_graphs : (files : PairFiles) → is_overwriting files ≡ false → LeavesGraphs files
+leaves_graphs : (files : ComparedFiles) → is_overwriting files ≡ false → LeavesGraphs files
 leaves_graphs files test =
     let two = or_none (bytes_eq files.clauses files.graph) (bytes_eq files.clauses files.other) test in
     record { graph = differ files.clauses files.graph two.0; other = differ files.clauses files.other two.1 }
 
-same_one : (files : PairFiles) (conflicts : ℕ) (command : Command) → conflicts < 2 ^ 32
+same_one : (files : ComparedFiles) (conflicts : ℕ) (command : Command) → conflicts < 2 ^ 32
     → (over : Bool) → is_overwriting files ≡ over → (if over then None else Some (Same files conflicts)) ≡ Some command → IsCommandInRange command
 same_one files conflicts command c true test e = cc
 same_one files conflicts command c false test e = same_range command (Same files conflicts) (leaves_graphs files test, c) e
 
-pair_range : (files : Option PairFiles) (conflicts : Option ℕ) (command : Command)
+pair_range : (files : Option ComparedFiles) (conflicts : Option ℕ) (command : Command)
     → IfSome conflicts (AreFrom 0) → same_with files conflicts ≡ Some command → IsCommandInRange command
 pair_range (Some f) (Some c) command c_range e = same_one f c command c_range.1 (is_overwriting f) refl e
 pair_range None conflicts command c_range e = cc
 pair_range (Some f) None command c_range e = cc
 
-check_same_range : (files : Option PairFiles) (command : Command) → check_same_with files ≡ Some command → IsCommandInRange command
+check_same_range : (files : Option ComparedFiles) (command : Command) → check_same_with files ≡ Some command → IsCommandInRange command
 check_same_range (Some f) command e = same_range command (CheckSame f) tt e
 check_same_range None command e = cc
 
-unread : (files : TrimFiles) (name : Text) → is_file_read files name ≡ false → IsUnread files name
+unread : (files : Files) (name : Text) → is_file_read files name ≡ false → IsUnread files name
 unread files name test =
     let one = or_none (bytes_eq name files.graph) (bytes_eq name files.clauses || bytes_eq name files.algebra) test in
     let two = or_none (bytes_eq name files.clauses) (bytes_eq name files.algebra) one.1 in
     record { graph = differ name files.graph one.0; clauses = differ name files.clauses two.0; algebra = differ name files.algebra two.1 }
 
-leaves_files : (files : TrimFiles) → are_reused files ≡ false → LeavesFiles files
+leaves_files : (files : TrimmedFiles) → are_reused files ≡ false → LeavesFiles files
 leaves_files files test =
-    let one = or_none (is_file_read files files.to_clauses) (is_file_read files files.to_algebra || bytes_eq files.to_clauses files.to_algebra) test in
-    let two = or_none (is_file_read files files.to_algebra) (bytes_eq files.to_clauses files.to_algebra) one.1 in
+    let one = or_none (is_file_read files.old files.to_clauses) (is_file_read files.old files.to_algebra || bytes_eq files.to_clauses files.to_algebra) test in
+    let two = or_none (is_file_read files.old files.to_algebra) (bytes_eq files.to_clauses files.to_algebra) one.1 in
     record {
-      clauses = unread files files.to_clauses one.0;
-      algebra = unread files files.to_algebra two.0;
+      clauses = unread files.old files.to_clauses one.0;
+      algebra = unread files.old files.to_algebra two.0;
       apart = differ files.to_clauses files.to_algebra two.1;
     }
 
-trim_one : (files : TrimFiles) (claim : Claim) (command : Command)
+trim_one : (files : TrimmedFiles) (claim : Claim) (command : Command)
     → (reused : Bool) → are_reused files ≡ reused → (if reused then None else Some (Trim files claim)) ≡ Some command → IsCommandInRange command
 trim_one files claim command true test e = cc
 trim_one files claim command false test e = same_range command (Trim files claim) (leaves_files files test) e
 
-trim_range : (files : Option TrimFiles) (claim : Option Claim) (command : Command) → trim_with files claim ≡ Some command → IsCommandInRange command
+trim_range : (files : Option TrimmedFiles) (claim : Option Claim) (command : Command) → trim_with files claim ≡ Some command → IsCommandInRange command
 trim_range (Some f) (Some k) command e = trim_one f k command (are_reused f) refl e
 trim_range None claim command e = cc
 trim_range (Some f) None command e = cc
@@ -239,8 +246,8 @@ named_range name rows command =
         else (if s then same_of rows else (if t then check_same_of rows else (if r then trim_asked rows else None)))))))) ≡ Some command
         → IsCommandInRange command
     pick true w x y z s t r e = check_range (files_at rows) (claim_at rows) command e
-    pick false true x y z s t r e = verify_range (files_at rows) (claim_at rows) (word_at 1 1000000 (codes "budget") rows) (word_at 0 100000 (codes "conflicts") rows) (version_at rows) command
-        (word_in 1 1000000 (first_of (codes "budget") rows) (omega arith, omega arith)) (word_in 0 100000 (first_of (codes "conflicts") rows) (omega arith, omega arith)) (version_in (word_at 1 1 (codes "format") rows)) e
+    pick false true x y z s t r e = verify_range (files_at rows) (task_at rows) command
+        (task_in (claim_at rows) (word_at 1 1000000 (codes "budget") rows) (word_at 0 100000 (codes "conflicts") rows) (version_at rows) (word_in 1 1000000 (first_of (codes "budget") rows) (omega arith, omega arith)) (word_in 0 100000 (first_of (codes "conflicts") rows) (omega arith, omega arith)) (version_in (word_at 1 1 (codes "format") rows))) e
     pick false false true y z s t r e = eval_range (first_of (codes "graph") rows) (point_at rows) command e
     pick false false false true z s t r e = make_range (design_at rows) (read_at adder_named (codes "adder") rows) (first_of (codes "out") rows) command
         (designs_in (is_set (codes "add") rows) (first_of (codes "kind") rows) (first_of (codes "bits") rows)) e

@@ -20,36 +20,18 @@ use Rattle.graph_maker.specs.declared.design.Design.TheVariants.{Corrected, Mult
 use Rattle.graph_maker.specs.declared.kind.Kind.{Kind}
 use Rattle.graph_maker.specs.declared.kind.Kind.TheVariants.{Array, Dadda}
 use Rattle.graph_maker.specs.Designed.{IsDesign}
-use Rattle.command_core.specs.Files.{AreDistinct}
-use Rattle.command_core.specs.declared.names.Names.{Names}
+use Rattle.command_core.specs.Files.{AreDistinct, ComparedFiles, Files, LeavesFiles, TrimmedFiles}
+use Rattle.command_core.specs.declared.task.Task.{Task}
 use Rattle.mv_nums.specs.Numeral.{decimal_value}
 use Rattle.command_line.specs.declared.command.Command.{Command}
 use Rattle.command_line.specs.declared.command.Command.TheVariants.{Check, CheckSame, Eval, Make, Same, Trial, Trim, Verify}
-use Rattle.command_line.specs.declared.files.Files.{Files}
-use Rattle.command_line.specs.declared.files.PairFiles.{PairFiles}
-use Rattle.command_line.specs.declared.files.TrimFiles.{TrimFiles}
+use Rattle.command_line.specs.declared.making.Making.{Making}
 use Rattle.command_line.specs.declared.point.Point.{Point}
 use Rattle.command_line.specs.FixedCommand.{mulver}
 
 -- the words as texts
 abbrev pub texts : List (String Global) → List Text
 texts words = map string_bytes words
-
--- the names of three files, as texts
-abbrev pub named_files_of : Names → Files
-named_files_of names = record { graph = names.graph.now; clauses = names.clauses.now; algebra = names.algebra.now }
-
-abbrev pub pair_files_of : Names → PairFiles
-pair_files_of names = record { graph = names.graph.now; other = names.other.now; clauses = names.clauses.now }
-
-abbrev pub trim_files_of : Names → TrimFiles
-trim_files_of names = record {
-  graph = names.graph.now;
-  clauses = names.clauses.now;
-  algebra = names.algebra.now;
-  to_clauses = names.to_clauses.now;
-  to_algebra = names.to_algebra.now;
-}
 
 -- ---- single texts
 
@@ -201,19 +183,26 @@ version_from n = if n == 1 then Some 1 else (if n == 2 then Some 2 else None)
 abbrev pub version_at : List Row → Option ℕ
 version_at rows = option_and_then version_from (word_at 1 1 (codes "format") rows)
 
--- `verify`: the names of three files, no two of which are equal, a claim, a budget, a number of conflicts, and a version
-abbrev pub verify_with : Option Files → Option Claim → Option ℕ → Option ℕ → Option ℕ → Option Command
-verify_with (Some files) (Some claim) (Some budget) (Some conflicts) (Some version) =
-    if are_shared files then None else Some (Verify files claim budget conflicts version)
-verify_with _ _ _ _ _ = None
+-- what is asked of a graph: a claim, a budget, a number of conflicts, and a version
+abbrev pub task_with : Option Claim → Option ℕ → Option ℕ → Option ℕ → Option Task
+task_with (Some claim) (Some budget) (Some conflicts) (Some version) =
+    Some (record { claim = claim; budget = budget; conflicts = conflicts; version = version })
+task_with _ _ _ _ = None
 
-abbrev pub verify_of : List Row → Option Command
-verify_of rows = verify_with
-    (files_at rows)
+abbrev pub task_at : List Row → Option Task
+task_at rows = task_with
     (claim_at rows)
     (word_at 1 default_budget (codes "budget") rows)
     (word_at 0 default_conflicts (codes "conflicts") rows)
     (version_at rows)
+
+-- `verify`: the names of three files, no two of which are equal, and what is asked
+abbrev pub verify_with : Option Files → Option Task → Option Command
+verify_with (Some files) (Some task) = if are_shared files then None else Some (Verify files task)
+verify_with _ _ = None
+
+abbrev pub verify_of : List Row → Option Command
+verify_of rows = verify_with (files_at rows) (task_at rows)
 
 -- the addend that is given, or 0
 abbrev pub addend_at : List Row → Option ℕ
@@ -244,16 +233,24 @@ abbrev pub design_at : List Row → Option (Design × ℕ)
 design_at rows =
     read_at (λ kind. read_at (design_asked (is_set (codes "add") rows) kind) (codes "bits") rows) (codes "kind") rows
 
--- `make`: a design with its bits, an adder, and the name of a file
-abbrev pub make_with : Option (Design × ℕ) → Option Adder → Option Text → Option Command
-make_with (Some (design, bits)) (Some adder) (Some out) = Some (Make design bits adder out)
-make_with _ _ _ = None
+-- what is made: a design with its bits, and an adder
+abbrev pub making_of : Design → ℕ → Adder → Making
+making_of design bits adder = record { design = design; bits = bits; adder = adder }
+
+abbrev pub making_with : Option (Design × ℕ) → Option Adder → Option Making
+making_with (Some (design, bits)) (Some adder) = Some (making_of design bits adder)
+making_with _ _ = None
+
+abbrev pub making_at : List Row → Option Making
+making_at rows = making_with (design_at rows) (read_at adder_named (codes "adder") rows)
+
+-- `make`: what is made, and the name of a file
+abbrev pub make_with : Option Making → Option Text → Option Command
+make_with (Some making) (Some out) = Some (Make making out)
+make_with _ _ = None
 
 abbrev pub make_of : List Row → Option Command
-make_of rows = make_with
-    (design_at rows)
-    (read_at adder_named (codes "adder") rows)
-    (first_of (codes "out") rows)
+make_of rows = make_with (making_at rows) (first_of (codes "out") rows)
 
 -- `trial`: a number below 2^32
 abbrev pub trial_with : Option ℕ → Option Command
@@ -264,23 +261,23 @@ abbrev pub trial_of : List Row → Option Command
 trial_of rows = trial_with (read_at (word_from 0) (codes "number") rows)
 
 -- the names of two graphs and of their certificate; nothing where one is missing
-abbrev pub pair_with : Option Text → Option Text → Option Text → Option PairFiles
+abbrev pub pair_with : Option Text → Option Text → Option Text → Option ComparedFiles
 pair_with (Some graph) (Some other) (Some clauses) =
     Some (record { graph = graph; other = other; clauses = clauses })
 pair_with _ _ _ = None
 
-abbrev pub pair_at : List Row → Option PairFiles
+abbrev pub pair_at : List Row → Option ComparedFiles
 pair_at rows = pair_with
     (first_of (codes "graph") rows)
     (first_of (codes "other") rows)
     (first_of (codes "clauses") rows)
 
 -- the certificate has the name of a graph
-abbrev pub is_overwriting : PairFiles → Bool
+abbrev pub is_overwriting : ComparedFiles → Bool
 is_overwriting files = bytes_eq files.clauses files.graph || bytes_eq files.clauses files.other
 
 -- `same`: the names of three files, of which the last one is neither of the others, and a number of conflicts
-abbrev pub same_with : Option PairFiles → Option ℕ → Option Command
+abbrev pub same_with : Option ComparedFiles → Option ℕ → Option Command
 same_with (Some files) (Some conflicts) = if is_overwriting files then None else Some (Same files conflicts)
 same_with _ _ = None
 
@@ -288,7 +285,7 @@ abbrev pub same_of : List Row → Option Command
 same_of rows = same_with (pair_at rows) (word_at 0 default_conflicts (codes "conflicts") rows)
 
 -- `check-same`: the names of three files
-abbrev pub check_same_with : Option PairFiles → Option Command
+abbrev pub check_same_with : Option ComparedFiles → Option Command
 check_same_with (Some files) = Some (CheckSame files)
 check_same_with None = None
 
@@ -296,33 +293,28 @@ abbrev pub check_same_of : List Row → Option Command
 check_same_of rows = check_same_with (pair_at rows)
 
 -- the names of three files and of the two that are written; nothing where one is missing
-abbrev pub trim_files_with : Option Files → Option Text → Option Text → Option TrimFiles
-trim_files_with (Some files) (Some to_clauses) (Some to_algebra) = Some (record {
-  graph = files.graph;
-  clauses = files.clauses;
-  algebra = files.algebra;
-  to_clauses = to_clauses;
-  to_algebra = to_algebra;
-})
+abbrev pub trim_files_with : Option Files → Option Text → Option Text → Option TrimmedFiles
+trim_files_with (Some old) (Some to_clauses) (Some to_algebra) =
+    Some (record { old = old; to_clauses = to_clauses; to_algebra = to_algebra })
 trim_files_with _ _ _ = None
 
-abbrev pub trim_files_at : List Row → Option TrimFiles
+abbrev pub trim_files_at : List Row → Option TrimmedFiles
 trim_files_at rows = trim_files_with
     (files_at rows)
     (first_of (codes "to-clauses") rows)
     (first_of (codes "to-algebra") rows)
 
 -- the name is that of a file that is read
-abbrev pub is_file_read : TrimFiles → Text → Bool
+abbrev pub is_file_read : Files → Text → Bool
 is_file_read files name = bytes_eq name files.graph || (bytes_eq name files.clauses || bytes_eq name files.algebra)
 
 -- the name of a file that is written is that of another file
-abbrev pub are_reused : TrimFiles → Bool
+abbrev pub are_reused : TrimmedFiles → Bool
 are_reused files =
-    is_file_read files files.to_clauses || (is_file_read files files.to_algebra || bytes_eq files.to_clauses files.to_algebra)
+    is_file_read files.old files.to_clauses || (is_file_read files.old files.to_algebra || bytes_eq files.to_clauses files.to_algebra)
 
 -- `trim`: the names of five files, of which each of the last two is none of the others, and a claim
-abbrev pub trim_with : Option TrimFiles → Option Claim → Option Command
+abbrev pub trim_with : Option TrimmedFiles → Option Claim → Option Command
 trim_with (Some files) (Some claim) = if are_reused files then None else Some (Trim files claim)
 trim_with _ _ = None
 
@@ -362,24 +354,24 @@ asked words = where_taken (fault_of mulver words) (met (subcommand_of mulver wor
 abbrev pub IsUsage : List Text → Type 0
 IsUsage words = asked words ≡ None
 
--- The words ask for `verify` of these files and this claim, with this budget and so many conflicts, by certificates of this version.
-abbrev pub IsVerify : List Text → Files → Claim → ℕ → ℕ → ℕ → Type 0
-IsVerify words files claim budget conflicts version = asked words ≡ Some (Verify files claim budget conflicts version)
+-- The words ask for `verify` of these files and this task.
+abbrev pub IsVerify : List Text → Files → Task → Type 0
+IsVerify words files task = asked words ≡ Some (Verify files task)
 
 -- The words ask for `check` of these files and this claim.
 abbrev pub IsCheck : List Text → Files → Claim → Type 0
 IsCheck words files claim = asked words ≡ Some (Check files claim)
 
 -- The words ask for `same` of these files, with so many conflicts.
-abbrev pub AsksSame : List Text → PairFiles → ℕ → Type 0
+abbrev pub AsksSame : List Text → ComparedFiles → ℕ → Type 0
 AsksSame words files conflicts = asked words ≡ Some (Same files conflicts)
 
 -- The words ask for `check-same` of these files.
-abbrev pub AsksCheckSame : List Text → PairFiles → Type 0
+abbrev pub AsksCheckSame : List Text → ComparedFiles → Type 0
 AsksCheckSame words files = asked words ≡ Some (CheckSame files)
 
 -- The words ask for `trim` of these files and this claim.
-abbrev pub AsksTrim : List Text → TrimFiles → Claim → Type 0
+abbrev pub AsksTrim : List Text → TrimmedFiles → Claim → Type 0
 AsksTrim words files claim = asked words ≡ Some (Trim files claim)
 
 -- the widths of multipliers
@@ -387,28 +379,16 @@ abbrev pub AreBits : ℕ → Type 0
 AreBits bits = (1 ≤ bits) × (bits ≤ 64)
 
 -- the certificate is neither of the graphs
-pub record LeavesGraphs (files : PairFiles) : Type 0 where
+pub record LeavesGraphs (files : ComparedFiles) : Type 0 where
   pub graph : files.clauses ≢ files.graph
   pub other : files.clauses ≢ files.other
-
--- the name is none of those of the files that are read
-pub record IsUnread (files : TrimFiles) (name : Text) : Type 0 where
-  pub graph : name ≢ files.graph
-  pub clauses : name ≢ files.clauses
-  pub algebra : name ≢ files.algebra
-
--- two files are written, neither of them over one that is read
-pub record LeavesFiles (files : TrimFiles) : Type 0 where
-  pub clauses : IsUnread files files.to_clauses
-  pub algebra : IsUnread files files.to_algebra
-  pub apart : files.to_clauses ≢ files.to_algebra
 
 -- The numbers of `make`, `verify`, `trial` and `same` are in their ranges, no two names of `verify` are equal, `same` writes over no
 -- graph, and `trim` writes two files over none that it reads.
 abbrev pub IsCommandInRange : Command → Type 0
-IsCommandInRange (Make design bits adder out) = AreBits bits × IsDesign design
-IsCommandInRange (Verify files claim budget conflicts version) =
-    AreDistinct files.graph files.clauses files.algebra × (1 ≤ budget) × (budget < 2 ^ 32) × (conflicts < 2 ^ 32) × ((version ≡ 1) ⊎ (version ≡ 2))
+IsCommandInRange (Make making out) = AreBits making.bits × IsDesign making.design
+IsCommandInRange (Verify files task) = AreDistinct files.graph files.clauses files.algebra × (1 ≤ task.budget) × (task.budget < 2 ^ 32) ×
+    (task.conflicts < 2 ^ 32) × ((task.version ≡ 1) ⊎ (task.version ≡ 2))
 IsCommandInRange (Trial number) = number < 2 ^ 32
 IsCommandInRange (Same files conflicts) = LeavesGraphs files × (conflicts < 2 ^ 32)
 IsCommandInRange (Trim files claim) = LeavesFiles files

@@ -6,9 +6,8 @@ use Rattle.graph_core.specs.declared.order.Order.TheVariants.{Separate}
 use Rattle.graph_core.specs.declared.sign.Sign.TheVariants.{Unsigned}
 use Rattle.graph_core.specs.declared.widths.Widths.TheVariants.{Given}
 use Rattle.graph_core.specs.Graph.Operands.{adding, product_under}
+use Rattle.command_core.specs.Files.{Files, TrimmedFiles}
 use Rattle.mv_nums.specs.Numeral.{SpellsNumber}
-use Rattle.command_line.specs.declared.files.Files.{Files}
-use Rattle.command_line.specs.declared.files.TrimFiles.{TrimFiles}
 use Rattle.command_line.specs.declared.point.Point.{Point}
 use Rattle.command_line.specs.Asked.{AreBits, IsCheck, number_of, widths_named}
 
@@ -105,8 +104,8 @@ one_two_three = record { claim = adding Separate Unsigned; a = 1; b = 2; c = 3 }
 abbrev pub trial_of_21 : List Text
 trial_of_21 = codes "mulver" ∷ codes "trial" ∷ codes "21" ∷ []
 
-abbrev pub g_c_a_x_y : TrimFiles
-g_c_a_x_y = record { graph = codes "g"; clauses = codes "c"; algebra = codes "a"; to_clauses = codes "x"; to_algebra = codes "y" }
+abbrev pub g_c_a_x_y : TrimmedFiles
+g_c_a_x_y = record { old = g_c_a; to_clauses = codes "x"; to_algebra = codes "y" }
 
 abbrev pub trim_interleaved : List Text
 trim_interleaved =

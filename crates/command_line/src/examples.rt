@@ -7,7 +7,7 @@ ghost use Rattle.graph_maker.specs.declared.adder.Adder.TheVariants.{Kogge, Ripp
 ghost use Rattle.graph_maker.specs.declared.design.Design.TheVariants.{Corrected, Multiplier, MultiplyAdd, OfWidths};
 ghost use Rattle.graph_maker.specs.declared.kind.Kind.TheVariants.{Array, Dadda};
 ghost use Rattle.command_line.specs.declared.command.Command.TheVariants.{Eval, Make, Trial};
-ghost use Rattle.command_line.specs.Asked.{AsksTrim, IsCheck, asked};
+ghost use Rattle.command_line.specs.Asked.{AsksTrim, IsCheck, asked, making_of};
 ghost use Rattle.command_line.specs.Examples.{NamesAreChecked, NumbersAreNumerals, WidthsAreNumerals, adding_to_24x17, g_c_a, g_c_a_x_y, check_interleaved, check_interleaved_widths, check_signed_sum, check_widths, check_g, make_array, make_widths, make_widths_add, make_corrected, make_dadda_add, make_corrected_add, eval_addend, one_two_three, trial_of_21, trim_interleaved, trim_to};
 
 /// `mulver check` with any three names asks for `check` of these files: that the graph multiplies unsigned operands
@@ -23,11 +23,11 @@ pub fn plain_words()
     ensures signed_sum { IsCheck check_signed_sum g_c_a (adding Separate Signed) }
     ensures wide { IsCheck check_widths g_c_a adding_to_24x17 }
     ensures wide_interleaved { asked check_interleaved_widths ≡ None }
-    ensures made { asked make_array ≡ Some (Make (Multiplier Array) 64 Ripple (codes "x")) }
-    ensures made_wide { asked make_widths ≡ Some (Make (OfWidths Dadda 17) 24 Kogge (codes "x")) }
+    ensures made { asked make_array ≡ Some (Make (making_of (Multiplier Array) 64 Ripple) (codes "x")) }
+    ensures made_wide { asked make_widths ≡ Some (Make (making_of (OfWidths Dadda 17) 24 Kogge) (codes "x")) }
     ensures no_wide_sum { asked make_widths_add ≡ None }
-    ensures corrected { asked make_corrected ≡ Some (Make Corrected 8 Kogge (codes "x")) }
-    ensures sum { asked make_dadda_add ≡ Some (Make (MultiplyAdd Dadda) 8 Kogge (codes "x")) }
+    ensures corrected { asked make_corrected ≡ Some (Make (making_of Corrected 8 Kogge) (codes "x")) }
+    ensures sum { asked make_dadda_add ≡ Some (Make (making_of (MultiplyAdd Dadda) 8 Kogge) (codes "x")) }
     ensures no_sum { asked make_corrected_add ≡ None }
     ensures added { asked eval_addend ≡ Some (Eval (codes "g") one_two_three) }
     ensures tried { asked trial_of_21 ≡ Some (Trial 21) }

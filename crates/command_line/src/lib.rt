@@ -1,8 +1,8 @@
 //! The words of a command line, by `clap`.
 //!
 //! `read_words` answers with what the words ask for (`ok`), and `Usage` exactly where they ask for nothing (`usage`);
-//! memory may be wanting. Numbers are in their ranges, and names apart where writing would harm a file (`range`). The
-//! names that `Files::names` lends are those of the command. This is the one crate that loads `clap`.
+//! memory may be wanting. Numbers are in their ranges, and names apart where writing would harm a file (`range`). This
+//! is the one crate that loads `clap`.
 //!
 //! What plain words ask for is a law, the contract of `plain_words`: any three names that begin with no hyphen, after
 //! `check`, are the files that are asked for; a number is what decimal digits spell below 2^128, and two widths are two
@@ -18,7 +18,8 @@ mod command;
 mod defaults;
 mod examples;
 mod fail;
-mod files;
+mod making;
+mod overwriting;
 mod point;
 mod reading;
 mod single;
@@ -28,6 +29,6 @@ pub use command::Command;
 pub use defaults::{BUDGET, CONFLICTS};
 pub use examples::plain_words;
 pub use fail::WordsFail;
-pub use files::{FileName, Files, PairFiles, TrimFiles};
+pub use making::Making;
 pub use point::Point;
 pub use reading::read_words;

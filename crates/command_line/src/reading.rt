@@ -6,14 +6,13 @@ ghost use Rattle.command_line.specs.Reading.{ReadsAsked, TakesAs};
 
 use crate::builders::mulver;
 use crate::command::Command;
-use crate::defaults::{BUDGET, CONFLICTS};
+use crate::defaults::CONFLICTS;
 use crate::fail::WordsFail;
-use crate::files::{Files, PairFiles, TrimFiles};
-use crate::texts::{
-    adder_at, claim_at, design_at, file_at, point_at, version_at, word_at, word_of,
-};
+use crate::overwriting::{are_reused, are_shared, is_overwriting};
+use crate::texts::{claim_at, file_at, making_at, point_at, task_at, word_at, word_of};
 use clap::ArgMatches;
 use clap::error::ErrorKind;
+use command_core::{FileName, Names, SameNames, TrimNames};
 use std::alloc::Global;
 
 /// What the words of a command line ask for. The first is the program's name, whatever it is.
@@ -70,38 +69,29 @@ fn named(alloc: Global, name: &str, matches: &ArgMatches<'_>) -> Result<Command,
 fn check(alloc: Global, matches: &ArgMatches<'_>) -> Result<Command, WordsFail>
     ensures { ReadsAsked (check_of (rows_of (found_of matches.now))) result }
 {
-    let files = files_at(alloc, matches)?;
+    let names = names_at(alloc, matches)?;
     let claim = claim_at(matches).ok_or(WordsFail::Usage)?;
-    Ok(Command::Check { files, claim })
+    Ok(Command::Check { names, claim })
 }
 
 fn verify(alloc: Global, matches: &ArgMatches<'_>) -> Result<Command, WordsFail>
     ensures { ReadsAsked (verify_of (rows_of (found_of matches.now))) result }
 {
-    let files = files_at(alloc, matches)?;
-    let claim = claim_at(matches).ok_or(WordsFail::Usage)?;
-    let budget = word_at(matches, "budget", 1, BUDGET).ok_or(WordsFail::Usage)?;
-    let conflicts = word_at(matches, "conflicts", 0, CONFLICTS).ok_or(WordsFail::Usage)?;
-    let version = version_at(matches).ok_or(WordsFail::Usage)?;
-    if files.are_shared() {
+    let names = names_at(alloc, matches)?;
+    let task = task_at(matches).ok_or(WordsFail::Usage)?;
+    if are_shared(&names) {
         return Err(WordsFail::Usage);
     }
-    Ok(Command::Verify {
-        files,
-        claim,
-        budget,
-        conflicts,
-        version,
-    })
+    Ok(Command::Verify { names, task })
 }
 
-fn files_at(alloc: Global, matches: &ArgMatches<'_>) -> Result<Files, WordsFail>
+fn names_at(alloc: Global, matches: &ArgMatches<'_>) -> Result<Names<FileName>, WordsFail>
     ensures { ReadsAsked (files_at (rows_of (found_of matches.now))) result }
 {
     let graph = file_at(alloc, matches, "graph")?;
     let clauses = file_at(alloc, matches, "clauses")?;
     let algebra = file_at(alloc, matches, "algebra")?;
-    Ok(Files {
+    Ok(Names {
         graph,
         clauses,
         algebra,
@@ -119,15 +109,9 @@ fn eval(alloc: Global, matches: &ArgMatches<'_>) -> Result<Command, WordsFail>
 fn make(alloc: Global, matches: &ArgMatches<'_>) -> Result<Command, WordsFail>
     ensures { ReadsAsked (make_of (rows_of (found_of matches.now))) result }
 {
-    let (design, bits) = design_at(matches).ok_or(WordsFail::Usage)?;
-    let adder = adder_at(matches, "adder").ok_or(WordsFail::Usage)?;
+    let making = making_at(matches).ok_or(WordsFail::Usage)?;
     let out = file_at(alloc, matches, "out")?;
-    Ok(Command::Make {
-        design,
-        bits,
-        adder,
-        out,
-    })
+    Ok(Command::Make { making, out })
 }
 
 fn trial(matches: &ArgMatches<'_>) -> Result<Command, WordsFail>
@@ -140,28 +124,28 @@ fn trial(matches: &ArgMatches<'_>) -> Result<Command, WordsFail>
 fn same(alloc: Global, matches: &ArgMatches<'_>) -> Result<Command, WordsFail>
     ensures { ReadsAsked (same_of (rows_of (found_of matches.now))) result }
 {
-    let files = pair_at(alloc, matches)?;
+    let names = pair_at(alloc, matches)?;
     let conflicts = word_at(matches, "conflicts", 0, CONFLICTS).ok_or(WordsFail::Usage)?;
-    if files.is_overwriting() {
+    if is_overwriting(&names) {
         return Err(WordsFail::Usage);
     }
-    Ok(Command::Same { files, conflicts })
+    Ok(Command::Same { names, conflicts })
 }
 
 fn check_same(alloc: Global, matches: &ArgMatches<'_>) -> Result<Command, WordsFail>
     ensures { ReadsAsked (check_same_of (rows_of (found_of matches.now))) result }
 {
-    let files = pair_at(alloc, matches)?;
-    Ok(Command::CheckSame { files })
+    let names = pair_at(alloc, matches)?;
+    Ok(Command::CheckSame { names })
 }
 
-fn pair_at(alloc: Global, matches: &ArgMatches<'_>) -> Result<PairFiles, WordsFail>
+fn pair_at(alloc: Global, matches: &ArgMatches<'_>) -> Result<SameNames<FileName>, WordsFail>
     ensures { ReadsAsked (pair_at (rows_of (found_of matches.now))) result }
 {
     let graph = file_at(alloc, matches, "graph")?;
     let other = file_at(alloc, matches, "other")?;
     let clauses = file_at(alloc, matches, "clauses")?;
-    Ok(PairFiles {
+    Ok(SameNames {
         graph,
         other,
         clauses,
@@ -171,24 +155,22 @@ fn pair_at(alloc: Global, matches: &ArgMatches<'_>) -> Result<PairFiles, WordsFa
 fn trim(alloc: Global, matches: &ArgMatches<'_>) -> Result<Command, WordsFail>
     ensures { ReadsAsked (trim_asked (rows_of (found_of matches.now))) result }
 {
-    let files = trim_files_at(alloc, matches)?;
+    let names = trimmed_at(alloc, matches)?;
     let claim = claim_at(matches).ok_or(WordsFail::Usage)?;
-    if files.are_reused() {
+    if are_reused(&names) {
         return Err(WordsFail::Usage);
     }
-    Ok(Command::Trim { files, claim })
+    Ok(Command::Trim { names, claim })
 }
 
-fn trim_files_at(alloc: Global, matches: &ArgMatches<'_>) -> Result<TrimFiles, WordsFail>
+fn trimmed_at(alloc: Global, matches: &ArgMatches<'_>) -> Result<TrimNames<FileName>, WordsFail>
     ensures { ReadsAsked (trim_files_at (rows_of (found_of matches.now))) result }
 {
-    let files = files_at(alloc, matches)?;
+    let old = names_at(alloc, matches)?;
     let to_clauses = file_at(alloc, matches, "to-clauses")?;
     let to_algebra = file_at(alloc, matches, "to-algebra")?;
-    Ok(TrimFiles {
-        graph: files.graph,
-        clauses: files.clauses,
-        algebra: files.algebra,
+    Ok(TrimNames {
+        old,
         to_clauses,
         to_algebra,
     })

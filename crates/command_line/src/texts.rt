@@ -1,16 +1,18 @@
 // The texts of a subcommand, each under its name.
 ghost use Rattle.std.specs.Prelude.{◌≡◌, option_map};
 ghost use Rattle.clap.specs.Words.{first_of, found_of, rows_of};
-ghost use Rattle.command_line.specs.Asked.{addend_at, adder_named, claim_at, claim_asked, design_at, is_given, is_set, number_of, order_at, point_at, read_at, sign_at, version_at, widths_at, word_at, word_from};
+ghost use Rattle.command_line.specs.Asked.{addend_at, adder_named, claim_at, claim_asked, design_at, is_given, is_set, making_at, number_of, order_at, point_at, read_at, sign_at, task_at, version_at, widths_at, word_at, word_from};
 ghost use Rattle.command_line.specs.Reading.{ReadsAsked};
 
+use crate::defaults::{BUDGET, CONFLICTS};
 use crate::fail::WordsFail;
-use crate::files::FileName;
+use crate::making::Making;
 use crate::point::Point;
 use crate::single::{
     adder_named, design_asked, number_of, order_named, sign_named, widths_named, word_from,
 };
 use clap::ArgMatches;
+use command_core::{FileName, Task};
 use graph_core::{Claim, Order, Sign, Widths};
 use graph_maker::{Adder, Design};
 use std::alloc::Global;
@@ -51,6 +53,22 @@ pub(crate) fn point_at(matches: &ArgMatches<'_>) -> Option<Point>
     Some(Point { claim, a, b, c })
 }
 
+/// What is asked of a graph: what is claimed, two bounds, and the version of certificates.
+pub(crate) fn task_at(matches: &ArgMatches<'_>) -> Option<Task>
+    ensures { result ≡ task_at (rows_of (found_of matches.now)) }
+{
+    let claim = claim_at(matches)?;
+    let budget = word_at(matches, "budget", 1, BUDGET)?;
+    let conflicts = word_at(matches, "conflicts", 0, CONFLICTS)?;
+    let version = version_at(matches)?;
+    Some(Task {
+        claim,
+        budget,
+        conflicts,
+        version,
+    })
+}
+
 /// A number below 2^32, from a least one on, or a default where none is named.
 pub(crate) fn word_at(matches: &ArgMatches<'_>, name: &str, least: u64, default: u64) -> Option<u64>
     ensures { result ≡ word_at least default name.now (rows_of (found_of matches.now)) }
@@ -61,8 +79,8 @@ pub(crate) fn word_at(matches: &ArgMatches<'_>, name: &str, least: u64, default:
     }
 }
 
-/// The version of certificates that is asked for: 1, which is the default, or 2.
-pub(crate) fn version_at(matches: &ArgMatches<'_>) -> Option<u8>
+// The version of certificates that is asked for: 1, which is the default, or 2.
+fn version_at(matches: &ArgMatches<'_>) -> Option<u8>
     ensures { result ≡ version_at (rows_of (found_of matches.now)) }
 {
     match word_at(matches, "format", 1, 1)? {
@@ -79,8 +97,21 @@ pub(crate) fn word_of(matches: &ArgMatches<'_>, name: &str) -> Option<u64>
     word_from(0, text_at(matches, name)?)
 }
 
-/// The design of the kind and the bits that are named, with the flag `add` or without it.
-pub(crate) fn design_at(matches: &ArgMatches<'_>) -> Option<(Design, u32)>
+/// What is made: a design with its bits, and an adder.
+pub(crate) fn making_at(matches: &ArgMatches<'_>) -> Option<Making>
+    ensures { result ≡ making_at (rows_of (found_of matches.now)) }
+{
+    let (design, bits) = design_at(matches)?;
+    let adder = adder_at(matches, "adder")?;
+    Some(Making {
+        design,
+        bits,
+        adder,
+    })
+}
+
+// The design of the kind and the bits that are named, with the flag `add` or without it.
+fn design_at(matches: &ArgMatches<'_>) -> Option<(Design, u32)>
     ensures { result ≡ design_at (rows_of (found_of matches.now)) }
 {
     let kind = text_at(matches, "kind")?;
@@ -88,7 +119,7 @@ pub(crate) fn design_at(matches: &ArgMatches<'_>) -> Option<(Design, u32)>
     design_asked(is_set(matches, "add"), kind, bits)
 }
 
-pub(crate) fn adder_at(matches: &ArgMatches<'_>, name: &str) -> Option<Adder>
+fn adder_at(matches: &ArgMatches<'_>, name: &str) -> Option<Adder>
     ensures { result ≡ read_at adder_named name.now (rows_of (found_of matches.now)) }
 {
     adder_named(text_at(matches, name)?)

@@ -6,13 +6,10 @@ use joint_checker::{AlgebraWhy, Checked, Refusal, check};
 use mv_desk::{Limits, MemoryDesk, Slot};
 use std::alloc::{AllocError, Global};
 
-const NAMES: Names<'static> = Names {
+const NAMES: Names<&'static str> = Names {
     graph: "g",
-    other: "",
     clauses: "c",
     algebra: "a",
-    to_clauses: "",
-    to_algebra: "",
 };
 
 // A file under a name.

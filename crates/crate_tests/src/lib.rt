@@ -17,6 +17,8 @@ mod making;
 #[cfg(test)]
 mod polynomials;
 #[cfg(test)]
+mod references;
+#[cfg(test)]
 mod refutations;
 #[cfg(test)]
 mod searching;

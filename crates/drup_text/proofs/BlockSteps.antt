@@ -165,7 +165,7 @@ pub lines_more : (own : ℕ) (blocks : List Block) (b : Block) → block_lines o
 lines_more own [] b = omega arith
 lines_more own (c ∷ blocks) b = let more = lines_more own blocks b in omega arith
 
-some_left : (i count : ℕ) → i < count → (n : ℕ) × (suc n + i ≡ count)
+pub some_left : (i count : ℕ) → i < count → (n : ℕ) × (suc n + i ≡ count)
 some_left i zero h = absurd (omega arith)
 some_left zero (suc count) h = (count, omega arith)
 some_left (suc i) (suc count) h = let more = some_left i count (omega arith) in let same = more.1 in (more.0, omega arith)
@@ -217,7 +217,7 @@ module _ (start x : Extended) (count : ℕ) (blocks : Vec Block Global) (early :
       (block_whatever (IsRefusedBlocks nothing_later IsLong n.0) IsLong (graft_all start blocks.items) (first + 1 + block_lines 1 blocks.items) rest p
       (subst (λ k. IsRefusedBlock nothing_later IsLong (graft_all start blocks.items) k rest p) number (subst (λ (y : Extended). IsRefusedBlock nothing_later IsLong y (first + block_lines 1 blocks.items + 1) rest p) is r)))
 
-append_none : {X : Type 0} (xs : List X) → xs ++ [] ≡ xs
+pub append_none : {X : Type 0} (xs : List X) → xs ++ [] ≡ xs
 append_none [] = refl
 append_none (x ∷ xs) = ap (λ ys. x ∷ ys) (append_none xs)
 

@@ -1,47 +1,18 @@
 -- The lines of a header of version 2, as they are read.
-use Rattle.std.specs.Prelude.{◌≡◌, ◌==◌, ◌≤◌, ℕ, Bool, true, false, cond, List, [], ◌∷◌, codes}
-use Rattle.std.specs.Result.{IfErr, IfOk}
-use Rattle.std.specs.declared.result.Result.{Result}
-use Rattle.std.specs.declared.result.Result.TheVariants.{Err, Ok}
-use Rattle.std.specs.declared.option.Option.{Option}
+use Rattle.std.specs.Prelude.{◌≡◌, ◌==◌, ℕ, Bool, true, false, cond, List, [], ◌∷◌, codes}
 use Rattle.std.specs.declared.option.Option.TheVariants.{None, Some}
-use Rattle.std.proofs.Common.{refl, sym, ap, subst, ◌∙◌, arith, length}
+use Rattle.std.proofs.Common.{refl, sym, ap, subst, arith, length}
 use Rattle.graph_core.specs.Graph.Extended.{Extended}
-use Rattle.graph_core.specs.Text.Numerals.{◌>>=◌, number_at, front_at}
+use Rattle.graph_core.specs.Text.Numerals.{◌>>=◌, front_at}
 use Rattle.graph_core.specs.Text.Readers.{text_at, then_at}
-use Rattle.mv_text.specs.declared.line_fail.LineFail.{LineFail}
-use Rattle.mv_text.proofs.CallerLemmas.{misfit_from}
-use Rattle.mv_text.specs.Steps.{IsMisfit, Takes, begins}
+use Rattle.mv_text.specs.Steps.{Takes, begins}
 use Rattle.ripple_graft.proofs.GraftedGraphs.{reach_is}
-use Rattle.drup_text.specs.ClauseReading.{block_line_at, carry_at, count_line_at, head_from, two_at}
-use Rattle.drup_text.specs.LineTexts.{IsCountInRange, IsHeadOf}
+use Rattle.drup_text.specs.ClauseReading.{block_line_at, carry_at, head_from, two_at}
+use Rattle.drup_text.specs.LineTexts.{IsHeadOf}
 use Rattle.drup_text.specs.Steps.{AreBothUpTo}
 
 abbrev IsSame : {A : Type 0} → A → A → Type 0
 IsSame x y = x ≡ y
-
--- ---- the number of blocks
-
-pub count_front_fails : (bytes : List ℕ) → front_at (codes "cuts ") bytes ≡ None → count_line_at bytes ≡ None
-unfolding count_line_at
-count_front_fails bytes e = ap (λ o. o >>= number_at 10) e
-
-pub count_fails : (bytes mid : List ℕ) → front_at (codes "cuts ") bytes ≡ Some mid → number_at 10 mid ≡ None → count_line_at bytes ≡ None
-unfolding count_line_at
-count_fails bytes mid e h = ap (λ o. o >>= number_at 10) e ∙ h
-
-pub count_taken : (outputs : ℕ) (old mid new : List ℕ) (given : Option ℕ) → front_at (codes "cuts ") old ≡ Some mid → Takes (number_at 10) (λ n. n ≤ outputs) IsSame mid new given → Takes count_line_at (IsCountInRange outputs) IsSame old new given
-unfolding count_line_at
-count_taken outputs old mid new given e h = record { read = h.read; taken = ap (λ o. o >>= number_at 10) e ∙ h.taken; gives = h.gives }
-
--- what reads the number reads the line
-pub count_ok : (outputs : ℕ) (old mid new : List ℕ) (r : Result (Option ℕ) LineFail) → front_at (codes "cuts ") old ≡ Some mid → IfOk r (Takes (number_at 10) (λ n. n ≤ outputs) IsSame mid new) → IfOk r (Takes count_line_at (IsCountInRange outputs) IsSame old new)
-count_ok outputs old mid new (Ok given) e h = count_taken outputs old mid new given e h
-count_ok outputs old mid new (Err f) e h = h
-
-pub count_err : (old mid : List ℕ) (r : Result (Option ℕ) LineFail) → front_at (codes "cuts ") old ≡ Some mid → IfErr r (IsMisfit (number_at 10 mid ≡ None)) → IfErr r (IsMisfit (count_line_at old ≡ None))
-count_err old mid (Ok given) e h = h
-count_err old mid (Err f) e h = misfit_from f (count_fails old mid e) h
 
 -- ---- the word carry
 

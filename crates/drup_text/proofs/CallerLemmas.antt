@@ -1,24 +1,30 @@
 -- What a caller that judges a clause file may cite: its header, and refusals of the whole file.
 pub use Rattle.mv_text.proofs.CallerLemmas.{long_of, short_of}
-pub use Rattle.drup_text.proofs.ClauseReading.{block_item, clause_item, count_item, cut_item, none_block, none_clause_line, none_count, none_cut, none_pair, pair_item}
+pub use Rattle.drup_text.proofs.ClauseReading.{block_item, clause_item, count_item, cut_item, gates_item, none_block, none_clause_line, none_count, none_cut, none_gates, none_output, none_pair, none_replace, output_item, pair_item, replace_item}
+pub use Rattle.drup_text.proofs.OneFile.{first_or_third, gates_are_one, other_version, outputs_are_one, second_or_third}
 use Rattle.std.specs.Prelude.{◌≡◌, ℕ, ◌+◌, List, [], ◌∷◌, length}
 use Rattle.std.specs.declared.option.Option.{Option}
 use Rattle.std.specs.declared.option.Option.TheVariants.{None, Some}
-use Rattle.std.proofs.Common.{sym, subst, arith, ⊎_elim, inl, inr}
+use Rattle.std.proofs.Common.{refl, sym, subst, arith, ⊎_elim, inl, inr}
 use Rattle.graph_core.specs.declared.literal.Lit.{Lit}
 use Rattle.graph_core.specs.Graph.Extended.{Extended, without_cut}
 use Rattle.graph_core.specs.Graph.{Aig}
 use Rattle.graph_core.specs.Text.JudgedLines.{Behind, IsTooLong, Lengths}
 use Rattle.ripple_graft.specs.declared.block.Block.{Block}
 use Rattle.ripple_graft.specs.declared.cut.Cut.{Cut}
+use Rattle.ripple_graft.specs.Beside.{nothing, with_beside, with_gates, with_outputs}
+use Rattle.ripple_graft.specs.declared.beside.Beside.{Beside}
 use Rattle.ripple_graft.specs.Blocks.{graft_all, graft_block, with_blocks}
 use Rattle.ripple_graft.specs.HeaderBlocks.{cut_blocks}
 use Rattle.drup_text.specs.declared.head.Header.{Header}
 use Rattle.drup_text.specs.ClauseTexts.{AreLinesOf, IsPairLine}
-use Rattle.drup_text.specs.PassingHeaders.{PassBlocks, PassesAnyHeader, PassesCount, PassesCut, block_lines, header_line_count}
-use Rattle.drup_text.specs.HeaderRefusal.{LineCause, IsFirstHeaderRefusal, IsClauseHeaderRefusal, IsPairStep, IsRefusedBehindCut, IsRefusedBlocks, IsRefusedCount, IsRefusedCut, Later, cut_at, nothing_later}
-use Rattle.drup_text.specs.Headers.{AreBlockTexts, IsAnyHeaderText, IsBlocksText, IsCutText, extended_with}
+use Rattle.drup_text.specs.PassingHeaders.{PassBlocks, PassesAnyHeader, PassesCount, PassesCut, PassesParts, beside_lines, block_lines, header_line_count, own_line}
+use Rattle.drup_text.specs.HeaderRefusal.{LineCause, IsFirstHeaderRefusal, IsClauseHeaderRefusal, IsPairStep, IsRefusedBehindCut, IsRefusedBeside, IsRefusedBlocks, IsRefusedCount, IsRefusedCut, Later, cut_at, nothing_later}
+use Rattle.drup_text.specs.Headers.{AreBlockTexts, IsAnyHeaderText, IsBesideText, IsBlocksText, IsCutText, extended_with}
+use Rattle.drup_text.specs.Listings.{gate_listing, output_listing}
+use Rattle.drup_text.proofs.BesideSteps.{beside_more, parts_behind}
 use Rattle.drup_text.proofs.BlockSteps.{block_passes_on, blocks_whatever, pairs_pass_on, pairs_whatever}
+use Rattle.drup_text.proofs.ListedSteps.{listing_said}
 
 -- ---- what a header says
 
@@ -38,12 +44,17 @@ module _ (IsLong : List ℕ → Type 0) where
   count_said : (g : Aig) (bytes : List ℕ) (blocks : List Block) (body : List ℕ) → PassesCount g IsLong bytes blocks body → IsBlocksText bytes blocks body
   count_said g bytes blocks body h = (h.0, h.2, blocks_said (without_cut g) h.0 blocks body h.4)
 
--- the text of a header that passes is that of its blocks
+  beside_said : (g : Aig) (bytes : List ℕ) (b : Beside) (body : List ℕ) → PassesParts g IsLong bytes b body → IsBesideText bytes b body
+  beside_said g bytes b body h =
+      (h.0, listing_said gate_listing IsLong (without_cut g) bytes b.gates h.0 h.1, listing_said output_listing IsLong (with_gates (without_cut g) b.gates) h.0 b.outputs body h.2)
+
+-- the text of a header that passes is that of what it names
 pub header_said : (g : Aig) (lengths : Lengths) (bytes : List ℕ) (h : Header) (body : List ℕ) → PassesAnyHeader g lengths bytes h body → IsAnyHeaderText (length g.outputs) bytes h body
 header_said g lengths bytes h body passes =
     let IsLong = IsTooLong lengths (length bytes) in
-    ⊎_elim (λ a. let t = a.1.2 in inl (a.0, (a.1.0, a.1.1, (t.rest, cut_said IsLong g t.rest a.1.0 body t.cut_passes, t.version))))
-    (λ b. let t = b.1 in inr (b.0, (t.rest, count_said IsLong g t.rest h.blocks body t.blocks_pass, t.version))) passes
+    ⊎_elim (λ a. let t = a.1.2 in inl (a.0, (a.1.0, a.1.1, (t.rest, cut_said IsLong g t.rest a.1.0 body t.cut_passes, t.version)), a.2))
+    (λ o. ⊎_elim (λ b. let t = b.1 in inr (inl (b.0, (t.rest, count_said IsLong g t.rest h.blocks body t.blocks_pass, t.version), b.2)))
+    (λ c. let t = c.1 in inr (inr (c.0, (t.rest, beside_said IsLong g t.rest h.beside body t.parts_pass, t.version), c.2))) o) passes
 
 -- ---- what is refused within a header is so whatever is after it
 
@@ -65,6 +76,9 @@ module _ (later : Later) (g : Aig) where
             (λ c. inr (c.0, c.1, c.2, ⊎_elim (λ f. inl f) (λ r. inr (r.0, blocks_whatever later IsLong c.0 (without_cut g) 3 c.1 p r.1)) c.3)) l.1,
       )) h
 
+  beside_anyhow : (IsLong : List ℕ → Type 0) (bytes : List ℕ) (p : ℕ × LineCause) → IsRefusedBeside nothing_later g IsLong bytes p → IsRefusedBeside later g IsLong bytes p
+  beside_anyhow IsLong bytes p h = beside_more g nothing_later later (λ e n rest q k. absurd k) IsLong bytes p h
+
   pub header_anyhow : (lengths : Lengths) (bytes : List ℕ) (p : ℕ × LineCause) → IsClauseHeaderRefusal g lengths bytes p → IsFirstHeaderRefusal later g lengths bytes p
   header_anyhow lengths bytes p h =
       let IsLong = IsTooLong lengths (length bytes) in
@@ -72,13 +86,14 @@ module _ (later : Later) (g : Aig) where
       (λ l. inr (
         l.0,
         ⊎_elim (λ none. inl none)
-            (λ v. inr (⊎_elim (λ c. inl (c.0, c.1, cut_anyhow IsLong c.0 p c.2)) (λ c. inr (c.0, c.1, count_anyhow IsLong c.0 p c.2)) v)) l.1,
+            (λ v. inr (⊎_elim (λ c. inl (c.0, c.1, cut_anyhow IsLong c.0 p c.2))
+            (λ o. inr (⊎_elim (λ c. inl (c.0, c.1, count_anyhow IsLong c.0 p c.2)) (λ c. inr (c.0, c.1, beside_anyhow IsLong c.0 p c.2)) o)) v)) l.1,
       )) h
 
   -- ---- what is refused after a header that passes
 
   cut_behind : (IsLong : List ℕ → Type 0) (bytes : List ℕ) (cut : Option Cut) (body : List ℕ) (p : ℕ × LineCause) → PassesCut g IsLong bytes cut body →
-      later (with_blocks g (cut_blocks (length g.outputs) cut)) (header_line_count 1 (cut_blocks (length g.outputs) cut) + 1) body p → IsRefusedCut later g IsLong bytes p
+      later (with_blocks g (cut_blocks (length g.outputs) cut)) (2 + block_lines 0 (cut_blocks (length g.outputs) cut) + 1) body p → IsRefusedCut later g IsLong bytes p
   cut_behind IsLong bytes None body p h refused = inr (h.0, inr (None, body, h.1, refused))
   cut_behind IsLong bytes (Some cut) body p h refused =
       let next = subst (λ n. later (cut_at g cut.lo cut.pairs) n body p) (number (length cut.pairs)) refused in
@@ -102,17 +117,33 @@ module _ (later : Later) (g : Aig) where
       further n k = omega arith
 
   count_behind : (IsLong : List ℕ → Type 0) (bytes : List ℕ) (blocks : List Block) (body : List ℕ) (p : ℕ × LineCause) → PassesCount g IsLong bytes blocks body →
-      later (with_blocks g blocks) (header_line_count 2 blocks + 1) body p → IsRefusedCount later g IsLong bytes p
+      later (with_blocks g blocks) (2 + block_lines 1 blocks + 1) body p → IsRefusedCount later g IsLong bytes p
   count_behind IsLong bytes blocks body p h refused =
       inr (h.1, inr (length blocks, h.0, h.2, inr (h.3, blocks_behind IsLong (without_cut g) 3 blocks h.0 body p h.4 (subst (λ n. later (with_blocks g blocks) n body p) (number (block_lines 1 blocks)) refused))))
     where
       number : (n : ℕ) → 2 + n + 1 ≡ 3 + n
       number n = omega arith
 
-  pub behind_header : (lengths : Lengths) (bytes : List ℕ) (h : Header) (body : List ℕ) (p : ℕ × LineCause) → PassesAnyHeader g lengths bytes h body → later (extended_with g h) (header_line_count h.version h.blocks + 1) body p → IsFirstHeaderRefusal later g lengths bytes p
+  pub behind_header : (lengths : Lengths) (bytes : List ℕ) (h : Header) (body : List ℕ) (p : ℕ × LineCause) → PassesAnyHeader g lengths bytes h body → later (extended_with g h) (header_line_count h + 1) body p → IsFirstHeaderRefusal later g lengths bytes p
   behind_header lengths bytes h body p passes refused =
       let IsLong = IsTooLong lengths (length bytes) in
-      let of : (version : ℕ) → h.version ≡ version → later (with_blocks g h.blocks) (header_line_count version h.blocks + 1) body p = λ version is. subst (λ v. later (with_blocks g h.blocks) (header_line_count v h.blocks + 1) body p) is refused in
       ⊎_elim
-      (λ a. let t = a.1.2 in inr (t.short, inr (inl (t.rest, t.version, cut_behind IsLong t.rest a.1.0 body p t.cut_passes (subst (λ bs. later (with_blocks g bs) (header_line_count 1 bs + 1) body p) a.1.1 (of 1 a.0))))))
-      (λ b. let t = b.1 in inr (t.short, inr (inr (t.rest, t.version, count_behind IsLong t.rest h.blocks body p t.blocks_pass (of 2 b.0))))) passes
+      (λ a. let t = a.1.2 in inr (t.short, inr (inl (t.rest, t.version, cut_behind IsLong t.rest a.1.0 body p t.cut_passes (subst (λ bs. later (with_blocks g bs) (2 + block_lines 0 bs + 1) body p) a.1.1 (plain 1 refl a.0 a.2))))))
+      (λ o. ⊎_elim
+      (λ b. let t = b.1 in inr (t.short, inr (inr (inl (t.rest, t.version, count_behind IsLong t.rest h.blocks body p t.blocks_pass (plain 2 refl b.0 b.2))))))
+      (λ c. let t = c.1 in inr (t.short, inr (inr (inr (t.rest, t.version, parts_behind g later IsLong t.rest h.beside body p t.parts_pass (third c.0 c.2)))))) o) passes
+    where
+      at : (version : ℕ) → h.version ≡ version → later (extended_with g h) (2 + block_lines (own_line version) h.blocks + beside_lines version h.beside + 1) body p
+      at version is = subst (λ v. later (extended_with g h) (2 + block_lines (own_line v) h.blocks + beside_lines v h.beside + 1) body p) is refused
+
+      -- of a version with nothing beside
+      plain : (version : ℕ) → beside_lines version h.beside ≡ 0 → h.version ≡ version → h.beside ≡ nothing → later (with_blocks g h.blocks) (2 + block_lines (own_line version) h.blocks + 1) body p
+      plain version none is alone =
+          subst (λ n. later (with_blocks g h.blocks) n body p) (omega (arith, none))
+          (subst (λ (b : Beside). later (with_beside (with_blocks g h.blocks) b) (2 + block_lines (own_line version) h.blocks + beside_lines version h.beside + 1) body p) alone (at version is))
+
+      third : h.version ≡ 3 → h.blocks ≡ [] → later (with_outputs (with_gates (without_cut g) h.beside.gates) h.beside.outputs) (2 + 1 + length h.beside.gates + 1 + length h.beside.outputs) body p
+      third is none =
+          let all : later (with_beside (without_cut g) h.beside) (2 + 0 + (length h.beside.gates + (1 + length h.beside.outputs)) + 1) body p =
+          subst (λ bs. later (with_beside (with_blocks g bs) h.beside) (2 + block_lines 0 bs + beside_lines 3 h.beside + 1) body p) none (at 3 is) in
+          subst (λ n. later (with_beside (without_cut g) h.beside) n body p) (omega arith) all

@@ -13,8 +13,8 @@ use Rattle.graph_core.specs.Text.Readers.{map_at, behind_at, ended_at, text_at, 
 use Rattle.clause_core.specs.Clause.{Clause}
 use Rattle.clause_core.specs.ClauseLines.{ClauseLine}
 use Rattle.clause_core.specs.declared.line.Line.TheVariants.{Add, Delete}
-use Rattle.drup_text.specs.ClauseTexts.{IsBlockLine, IsVariableText, IsLiteralText, IsClauseText, IsClauseLine, IsCountLine, IsCutLine, IsPairLine, carry_text}
-use Rattle.drup_text.specs.ClauseReading.{is_no_zero, nonzero_at, minus_number, literal_at, clause_literals_at, clause_read_at, clause_line_at, two_at, some_cut, cut_line_at, lits, pair_line_at, count_line_at, carry_at, head_from, block_line_at}
+use Rattle.drup_text.specs.ClauseTexts.{IsBlockLine, IsVariableText, IsLiteralText, IsClauseText, IsClauseLine, IsCountLine, IsCutLine, IsGatesLine, IsNumberLine, IsOutputLine, IsPairLine, IsReplaceLine, carry_text}
+use Rattle.drup_text.specs.ClauseReading.{is_no_zero, nonzero_at, minus_number, literal_at, clause_literals_at, clause_read_at, clause_line_at, two_at, some_cut, cut_line_at, lits, pair_line_at, number_line_at, count_line_at, gates_line_at, replace_line_at, output_from, output_line_at, carry_at, head_from, block_line_at}
 
 -- a number whose first digit isn't 0
 nonzero_takes : (bytes : List ℕ) (v : ℕ) (rest : List ℕ) → nonzero_at bytes ≡ Some (v, rest) → (front : List ℕ) × IsVariableText front v × (bytes ≡ front ++ rest)
@@ -214,11 +214,17 @@ pub literals_next : (b : ℕ) (bytes : List ℕ) → clause_literals_at (b ∷ b
 literals_next = many_next is_no_zero (ended_at literal_at (codes " ")) IsEndedLiteral Anything (reads_ended (codes " ") reads_literal (λ rest. refl))
     (λ front l h. subst (OneOf is_no_zero) (sym h.2) (one_longer is_no_zero h.0 (codes " ") (literal_first h.0 l h.1))) (λ rest h. tt)
 
--- ---- the lines of version 2
+-- ---- the lines of version 3
 
-pub reads_count_line : IsReaderOf count_line_at IsCountLine (NoneOf is_digit)
-unfolding count_line_at
-reads_count_line = reads_as IsCountLine (reads_behind (codes "cuts ") (reads_number 10)) (λ bytes n h. h) (λ bytes n h. h)
+pub reads_number_line : (word : List ℕ) → IsReaderOf (number_line_at word) (IsNumberLine word) (NoneOf is_digit)
+unfolding number_line_at
+reads_number_line word = reads_as (IsNumberLine word) (reads_behind word (reads_number 10)) (λ bytes n h. h) (λ bytes n h. h)
+
+pub reads_output_line : IsReaderOf output_line_at IsOutputLine (NoneOf is_digit)
+unfolding output_line_at
+reads_output_line = reads_map output_from IsOutputLine reads_two (λ bytes n h. h) (λ bytes c h. ((c.0, c.1.0), h, refl))
+
+-- ---- the lines of version 2
 
 -- neither a digit nor a space
 abbrev ends_head : ℕ → Bool
@@ -298,8 +304,20 @@ pair_item = reads_ended (newline ∷ []) reads_pair_line (λ rest. refl)
 pub cut_item : IsReaderOf (ended_at cut_line_at (newline ∷ [])) (Ended IsCutLine (newline ∷ [])) Anything
 cut_item = reads_ended (newline ∷ []) reads_cut_line (λ rest. refl)
 
+number_item : (word : List ℕ) → IsReaderOf (ended_at (number_line_at word) (newline ∷ [])) (Ended (IsNumberLine word) (newline ∷ [])) Anything
+number_item word = reads_ended (newline ∷ []) (reads_number_line word) (λ rest. refl)
+
 pub count_item : IsReaderOf (ended_at count_line_at (newline ∷ [])) (Ended IsCountLine (newline ∷ [])) Anything
-count_item = reads_ended (newline ∷ []) reads_count_line (λ rest. refl)
+count_item = number_item (codes "cuts ")
+
+pub gates_item : IsReaderOf (ended_at gates_line_at (newline ∷ [])) (Ended IsGatesLine (newline ∷ [])) Anything
+gates_item = number_item (codes "gates ")
+
+pub replace_item : IsReaderOf (ended_at replace_line_at (newline ∷ [])) (Ended IsReplaceLine (newline ∷ [])) Anything
+replace_item = number_item (codes "replace ")
+
+pub output_item : IsReaderOf (ended_at output_line_at (newline ∷ [])) (Ended IsOutputLine (newline ∷ [])) Anything
+output_item = reads_ended (newline ∷ []) reads_output_line (λ rest. refl)
 
 pub block_item : IsReaderOf (ended_at block_line_at (newline ∷ [])) (Ended IsBlockLine (newline ∷ [])) Anything
 block_item = reads_ended (newline ∷ []) reads_block_line (λ rest. refl)
@@ -332,8 +350,20 @@ none_cut line None h = none_same line _ h (none_in (codes "none") refl)
 none_cut line (Some n) h =
     none_same line _ (h.4 ∙ append_assoc (codes "replace ") h.0 (space ∷ h.1)) (none_append (codes "replace ") (h.0 ++ space ∷ h.1) (none_in (codes "replace ") refl) (none_two h.0 h.1 n.0 n.1 h.2 h.3))
 
+pub none_number : (word : List ℕ) → HasNoNewline word → (line : List ℕ) (n : ℕ) → IsNumberLine word line n → HasNoNewline line
+none_number word plain line n h = none_same line _ h.2 (none_append word h.0 plain (none_numeral 10 h.0 n h.1))
+
 pub none_count : (line : List ℕ) (n : ℕ) → IsCountLine line n → HasNoNewline line
-none_count line n h = none_same line _ h.2 (none_append (codes "cuts ") h.0 (none_in (codes "cuts ") refl) (none_numeral 10 h.0 n h.1))
+none_count = none_number (codes "cuts ") (none_in (codes "cuts ") refl)
+
+pub none_gates : (line : List ℕ) (n : ℕ) → IsGatesLine line n → HasNoNewline line
+none_gates = none_number (codes "gates ") (none_in (codes "gates ") refl)
+
+pub none_replace : (line : List ℕ) (n : ℕ) → IsReplaceLine line n → HasNoNewline line
+none_replace = none_number (codes "replace ") (none_in (codes "replace ") refl)
+
+pub none_output : (line : List ℕ) (c : ℕ × Lit) → IsOutputLine line c → HasNoNewline line
+none_output line c h = none_same line _ h.4 (none_two h.0 h.1 c.0 c.1.0 h.2 h.3)
 
 none_carry : (c : Bool) → HasNoNewline (carry_text c)
 none_carry true = none_in (codes " carry") refl

@@ -1,4 +1,4 @@
--- A header within the lengths passes over a graph that takes its blocks, and one that passes has no refusal.
+-- A header within the lengths passes over a graph that takes it, and one that passes has no refusal.
 use Rattle.std.specs.Prelude.{◌≡◌, ◌≤◌, ℕ, zero, suc, ◌+◌, Bool, List, [], ◌∷◌, ◌++◌, codes, length}
 use Rattle.std.specs.List.{All}
 use Rattle.std.specs.declared.option.Option.{Option}
@@ -12,17 +12,22 @@ use Rattle.graph_core.specs.Text.JudgedLines.{BeginsWith, Behind, IsTooLong, Len
 use Rattle.graph_core.proofs.OfTexts.CallerLemmas.{ShortFrom, short_rest, start_here, within_short}
 use Rattle.ripple_graft.specs.declared.block.Block.{Block}
 use Rattle.ripple_graft.specs.declared.cut.Cut.{Cut}
+use Rattle.ripple_graft.specs.Beside.{AreGates, AreOutputs, IsBeside, with_gates, with_outputs}
+use Rattle.ripple_graft.specs.declared.beside.Beside.{Beside}
 use Rattle.ripple_graft.specs.Blocks.{AreBlocks, graft_all, graft_block, with_blocks}
 use Rattle.ripple_graft.specs.HeaderBlocks.{IsCutOf, cut_blocks}
 use Rattle.drup_text.specs.declared.head.Header.{Header}
 use Rattle.drup_text.specs.ClauseTexts.{AreLinesOf, IsPairLine}
-use Rattle.drup_text.specs.PassingHeaders.{PassBlocks, PassesAnyHeader, PassesBlock, PassesBlocks, PassesCount, PassesCut, PassesHeader}
-use Rattle.drup_text.specs.HeaderRefusal.{Later, LineCause, IsClauseHeaderRefusal, IsPairStep, IsRefusedBehindCut, IsRefusedBehindPairs, IsRefusedBlock, IsRefusedBlocks, IsRefusedCount, IsRefusedCut, IsRefusedPair, IsRefusedPairs, cut_at, block_at, nothing_later}
-use Rattle.drup_text.specs.Headers.{AreBlockTexts, IsAnyHeaderText, IsBlocksText, IsClauseHeaderText, IsCutText, IsHeaderOf, head_of, second_line}
+use Rattle.drup_text.specs.PassingHeaders.{PassBlocks, PassListed, PassesAnyHeader, PassesBeside, PassesBlock, PassesBlocks, PassesCount, PassesCut, PassesHeader, PassesListing, PassesParts}
+use Rattle.drup_text.specs.HeaderRefusal.{Later, LineCause, IsClauseHeaderRefusal, IsPairStep, IsRefusedBehindCut, IsRefusedBehindPairs, IsRefusedBeside, IsRefusedBlock, IsRefusedBlocks, IsRefusedCount, IsRefusedCut, IsRefusedListedLines, IsRefusedListing, IsRefusedPair, IsRefusedPairs, cut_at, block_at, nothing_later}
+use Rattle.drup_text.specs.Headers.{AreBlockTexts, IsAnyHeaderText, IsBesideText, IsBlocksText, IsClauseHeaderText, IsCutText, IsHeaderOf, head_of, second_line, third_line}
+use Rattle.drup_text.specs.Listings.{IsListed, Listing, gate_listing, output_listing}
 use Rattle.drup_text.specs.LineTexts.{IsCountInRange, IsCutSize, IsHeadOf, IsPairOf}
 use Rattle.drup_text.specs.WrittenLaws.{PassingHeadersAreNotRefused, WrittenHeadersPass}
 use Rattle.drup_text.specs.WrittenTexts.{any_file_text, clause_lines_text}
-use Rattle.drup_text.proofs.OneFile.{other_version, same_body, same_count, same_head, same_pair, same_size, second_body}
+use Rattle.drup_text.proofs.OneFile.{AreLinesOne, first_or_third, gates_are_one, other_version, outputs_are_one, same_body, same_count, same_head, same_pair, same_size, second_body, second_or_third, third_body}
+use Rattle.drup_text.proofs.ListedSteps.{with_all}
+use Rattle.drup_text.proofs.OutputColumns.{outputs_few}
 use Rattle.drup_text.proofs.WrittenAgain.{header_written}
 
 -- ---- what passes
@@ -64,6 +69,34 @@ module _ (IsLong : List ℕ → Type 0) where
   count_passes g blocks bytes body short h few fit =
       (h.0, short bytes (start_here bytes), h.1, few, blocks_pass (without_cut g) blocks h.0 body (short_rest IsLong bytes h.1.0 h.0 h.1.2 short) h.2 fit)
 
+  -- listed lines
+  module _ {X : Type 0} (l : Listing X) (Fit : Extended → List X → Type 0) (first : (e : Extended) (x : X) (xs : List X) → Fit e (x ∷ xs) → l.in_range e x × Fit (l.more e x) xs) where
+    listed_pass : (e : Extended) (xs : List X) (bytes body : List ℕ) → ShortFrom IsLong bytes → AreLinesOf l.text bytes xs body → Fit e xs → PassListed l IsLong e bytes xs body
+    listed_pass e [] bytes body short h fit = h
+    listed_pass e (x ∷ xs) bytes body short h fit =
+        let k = first e x xs fit in
+        (h.0, short bytes (start_here bytes), h.1, k.0, listed_pass (l.more e x) xs h.0 body (short_rest IsLong bytes h.1.0 h.0 h.1.2 short) h.2 k.1)
+
+    listing_passes : (e : Extended) (xs : List X) (bytes body : List ℕ) → ShortFrom IsLong bytes → IsListed l bytes xs body → length xs ≤ l.most e → Fit e xs → PassesListing l IsLong e bytes xs body
+    listing_passes e xs bytes body short h few fit =
+        (h.0, short bytes (start_here bytes), h.1, few, listed_pass e xs h.0 body (short_rest IsLong bytes h.1.0 h.0 h.1.2 short) h.2 fit)
+
+    -- what is short is so after them
+    listed_short : (xs : List X) (bytes after : List ℕ) → ShortFrom IsLong bytes → AreLinesOf l.text bytes xs after → ShortFrom IsLong after
+    listed_short [] bytes after short h = subst (ShortFrom IsLong) h short
+    listed_short (x ∷ xs) bytes after short h = listed_short xs h.0 after (short_rest IsLong bytes h.1.0 h.0 h.1.2 short) h.2
+
+    listing_short : (xs : List X) (bytes after : List ℕ) → ShortFrom IsLong bytes → IsListed l bytes xs after → ShortFrom IsLong after
+    listing_short xs bytes after short h = listed_short xs h.0 after (short_rest IsLong bytes h.1.0 h.0 h.1.2 short) h.2
+
+  parts_pass : (g : Aig) (b : Beside) (bytes body : List ℕ) → ShortFrom IsLong bytes → IsBesideText bytes b body → IsBeside g b → PassesParts g IsLong bytes b body
+  parts_pass g b bytes body short h fits =
+      let e = with_gates (without_cut g) b.gates in (
+        h.0,
+        listing_passes gate_listing AreGates (λ x p ps k. (k.0, k.1)) (without_cut g) b.gates bytes h.0 short h.1 fits.few fits.gates,
+        listing_passes output_listing AreOutputs (λ x c cs k. (k.0, k.1)) e b.outputs h.0 body (listing_short gate_listing AreGates (λ x p ps k. (k.0, k.1)) b.gates bytes h.0 short h.1) h.2 (outputs_few e b.outputs fits.outputs) fits.outputs,
+      )
+
 -- no blocks are those of two cuts
 one_cut : (outputs : ℕ) (c d : Option Cut) → cut_blocks outputs c ≡ cut_blocks outputs d → c ≡ d
 one_cut outputs None None e = refl
@@ -77,11 +110,25 @@ one_cut outputs (Some c) (Some d) e = ap cut_in e
 
 pub header_passes : (g : Aig) (lengths : Lengths) (bytes : List ℕ) (h : Header) (body : List ℕ) → IsHeaderOf g h → IsAnyHeaderText (length g.outputs) bytes h body → ShortFrom (IsTooLong lengths (length bytes)) bytes → PassesAnyHeader g lengths bytes h body
 header_passes g lengths bytes h body takes text short =
-    ⊎_elim (λ t. ⊎_elim (λ a. inl (t.0, (t.1.0, t.1.1, first t.1.0 t.1.2 (subst (IsCutOf g) (one_cut (length g.outputs) a.1.0 t.1.0 (sym a.1.1 ∙ t.1.1)) a.1.2)))) (λ b. absurd (differ t.0 b.0)) takes)
-    (λ t. ⊎_elim (λ a. absurd (differ a.0 t.0)) (λ b. inr (t.0, second t.1.0 t.1.1 t.1.2 b.1 b.2)) takes) text
+    ⊎_elim (λ t. inl (t.0, (t.1.0, t.1.1, first t.1.0 t.1.2 (of_cut t.0 t.1.0 t.1.1)), t.2))
+    (λ o. ⊎_elim (λ t. inr (inl (t.0, second t.1.0 t.1.1 t.1.2 (of_blocks t.0), t.2))) (λ t. inr (inr (t.0, third t.1.0 t.1.1 t.1.2 (of_beside t.0), t.2))) o) text
   where
-    differ : h.version ≡ 1 → h.version ≡ 2 → ⊥
-    differ e f = omega arith
+    differ : (m n : ℕ) → h.version ≡ m → h.version ≡ n → ¬ (m ≡ n) → ⊥
+    differ m n e f other = other (sym e ∙ f)
+
+    of_cut : h.version ≡ 1 → (cut : Option Cut) → h.blocks ≡ cut_blocks (length g.outputs) cut → IsCutOf g cut
+    of_cut one cut blocks =
+        ⊎_elim (λ k. ⊎_elim (λ a. subst (IsCutOf g) (one_cut (length g.outputs) a.1.0 cut (sym a.1.1 ∙ blocks)) a.1.2) (λ b. absurd (differ 1 2 one b.0 (λ e. omega (arith, e)))) k.0)
+        (λ k. absurd (differ 1 3 one k.0 (λ e. omega (arith, e)))) takes
+
+    of_blocks : h.version ≡ 2 → (length h.blocks ≤ length g.outputs) × AreBlocks (without_cut g) h.blocks
+    of_blocks two =
+        ⊎_elim (λ k. ⊎_elim (λ a. absurd (differ 2 1 two a.0 (λ e. omega (arith, e)))) (λ b. (b.1, b.2)) k.0)
+        (λ k. absurd (differ 2 3 two k.0 (λ e. omega (arith, e)))) takes
+
+    of_beside : h.version ≡ 3 → IsBeside g h.beside
+    of_beside three =
+        ⊎_elim (λ k. ⊎_elim (λ a. absurd (differ 3 1 three a.0 (λ e. omega (arith, e)))) (λ b. absurd (differ 3 2 three b.0 (λ e. omega (arith, e)))) k.0) (λ k. k.2) takes
 
     first : (cut : Option Cut) → IsClauseHeaderText bytes cut body → IsCutOf g cut → PassesHeader g lengths bytes cut body
     first cut t fits = record {
@@ -91,12 +138,20 @@ header_passes g lengths bytes h body takes text short =
       cut_passes = cut_passes (IsTooLong lengths (length bytes)) g cut t.0 body (short_rest (IsTooLong lengths (length bytes)) bytes (codes "joined 1") t.0 t.2 short) t.1 fits;
     }
 
-    second : (rest : List ℕ) → IsBlocksText rest h.blocks body → bytes ≡ second_line ++ rest → length h.blocks ≤ length g.outputs → AreBlocks (without_cut g) h.blocks → PassesBlocks g lengths bytes h.blocks body
-    second rest t is few fit = record {
+    second : (rest : List ℕ) → IsBlocksText rest h.blocks body → bytes ≡ second_line ++ rest → (length h.blocks ≤ length g.outputs) × AreBlocks (without_cut g) h.blocks → PassesBlocks g lengths bytes h.blocks body
+    second rest t is fits = record {
       rest = rest;
       short = short bytes (start_here bytes);
       version = is;
-      blocks_pass = count_passes (IsTooLong lengths (length bytes)) g h.blocks rest body (short_rest (IsTooLong lengths (length bytes)) bytes (codes "joined 2") rest is short) t few fit;
+      blocks_pass = count_passes (IsTooLong lengths (length bytes)) g h.blocks rest body (short_rest (IsTooLong lengths (length bytes)) bytes (codes "joined 2") rest is short) t fits.0 fits.1;
+    }
+
+    third : (rest : List ℕ) → IsBesideText rest h.beside body → bytes ≡ third_line ++ rest → IsBeside g h.beside → PassesBeside g lengths bytes h.beside body
+    third rest t is fits = record {
+      rest = rest;
+      short = short bytes (start_here bytes);
+      version = is;
+      parts_pass = parts_pass (IsTooLong lengths (length bytes)) g h.beside rest body (short_rest (IsTooLong lengths (length bytes)) bytes (codes "joined 3") rest is short) t fits;
     }
 
 pub written_headers_pass : WrittenHeadersPass
@@ -207,6 +262,41 @@ module _ (IsLong : List ℕ → Type 0) (p : ℕ × LineCause) where
       t.1)
       refused
 
+  -- ---- listed lines
+
+  module _ {X : Type 0} (l : Listing X) (one : AreLinesOne l) where
+    behind_listed : (later : Later) (e : Extended) (number : ℕ) (xs : List X) (bytes body : List ℕ) → PassListed l IsLong e bytes xs body → IsRefusedListedLines l later IsLong (length xs) e number bytes p → IsLater later (with_all l e xs) body p
+    behind_listed later e number [] bytes body h refused = (number, subst (λ z. later e number z p) h refused)
+    behind_listed later e number (x ∷ xs) bytes body h refused =
+        ⊎_elim (λ long. absurd (h.1 long.0))
+        (λ t. ⊎_elim (λ none. absurd (none.0 x h.0 h.2))
+        (λ c.
+        let same = one.line bytes x c.0 h.0 c.1 h.2 c.2 in
+        ⊎_elim (λ out. absurd (out.0 (subst (l.in_range e) same.0 h.3)))
+        (λ r. behind_listed later (l.more e x) (number + 1) xs h.0 body h.4
+        (subst (λ z. IsRefusedListedLines l later IsLong (length xs) (l.more e x) (number + 1) z p) (sym same.1)
+        (subst (λ y. IsRefusedListedLines l later IsLong (length xs) (l.more e y) (number + 1) c.1 p) (sym same.0) r.1))) c.3)
+        t.1)
+        refused
+
+    behind_listing : (later : Later) (e : Extended) (number : ℕ) (xs : List X) (bytes body : List ℕ) → PassesListing l IsLong e bytes xs body → IsRefusedListing l later IsLong e number bytes p → IsLater later (with_all l e xs) body p
+    behind_listing later e number xs bytes body h refused =
+        ⊎_elim (λ long. absurd (h.1 long.0))
+        (λ t. ⊎_elim (λ none. absurd (none.0 (length xs) h.0 h.2))
+        (λ c.
+        let same = one.number bytes (length xs) c.0 h.0 c.1 h.2 c.2 in
+        ⊎_elim (λ out. absurd (out.0 (subst (IsCountInRange (l.most e)) same.0 h.3)))
+        (λ r. behind_listed later e (number + 1) xs h.0 body h.4
+        (subst (λ z. IsRefusedListedLines l later IsLong (length xs) e (number + 1) z p) (sym same.1)
+        (subst (λ n. IsRefusedListedLines l later IsLong n e (number + 1) c.1 p) (sym same.0) r.1))) c.3)
+        t.1)
+        refused
+
+  pub behind_beside : (later : Later) (g : Aig) (b : Beside) (bytes body : List ℕ) → PassesParts g IsLong bytes b body → IsRefusedBeside later g IsLong bytes p → IsLater later (with_outputs (with_gates (without_cut g) b.gates) b.outputs) body p
+  behind_beside later g b bytes body h refused =
+      let more = behind_listing gate_listing gates_are_one (IsRefusedListing output_listing later IsLong) (without_cut g) 2 b.gates bytes h.0 h.1 refused in
+      behind_listing output_listing outputs_are_one later (with_gates (without_cut g) b.gates) more.0 b.outputs h.0 body h.2 more.1
+
 -- ---- the whole header
 
 module _ (g : Aig) (lengths : Lengths) (bytes : List ℕ) (p : ℕ × LineCause) where
@@ -219,7 +309,7 @@ module _ (g : Aig) (lengths : Lengths) (bytes : List ℕ) (p : ℕ × LineCause)
       (λ t. ⊎_elim (λ none. none.0.0 h.rest h.version)
       (λ v. ⊎_elim
       (λ c. (behind_cut IsLong p nothing_later g body cut h.rest h.cut_passes (subst (λ z. IsRefusedCut nothing_later g IsLong z p) (same_body c.0 h.rest (sym c.1 ∙ h.version)) c.2)).1)
-      (λ c. other_version h.rest c.0 (sym h.version ∙ c.1)) v) t.1)
+      (λ o. ⊎_elim (λ c. other_version h.rest c.0 (sym h.version ∙ c.1)) (λ c. first_or_third h.rest c.0 (sym h.version ∙ c.1)) o) v) t.1)
       refused
 
   second_not_refused : (blocks : List Block) (body : List ℕ) → PassesBlocks g lengths bytes blocks body → IsClauseHeaderRefusal g lengths bytes p → ⊥
@@ -228,9 +318,23 @@ module _ (g : Aig) (lengths : Lengths) (bytes : List ℕ) (p : ℕ × LineCause)
       (λ t. ⊎_elim (λ none. none.0.1 h.rest h.version)
       (λ v. ⊎_elim
       (λ c. other_version c.0 h.rest (sym c.1 ∙ h.version))
-      (λ c. (behind_count IsLong p nothing_later g blocks h.rest body h.blocks_pass (subst (λ z. IsRefusedCount nothing_later g IsLong z p) (second_body c.0 h.rest (sym c.1 ∙ h.version)) c.2)).1) v) t.1)
+      (λ o. ⊎_elim
+      (λ c. (behind_count IsLong p nothing_later g blocks h.rest body h.blocks_pass (subst (λ z. IsRefusedCount nothing_later g IsLong z p) (second_body c.0 h.rest (sym c.1 ∙ h.version)) c.2)).1)
+      (λ c. second_or_third h.rest c.0 (sym h.version ∙ c.1)) o) v) t.1)
+      refused
+
+  third_not_refused : (beside : Beside) (body : List ℕ) → PassesBeside g lengths bytes beside body → IsClauseHeaderRefusal g lengths bytes p → ⊥
+  third_not_refused beside body h refused =
+      ⊎_elim (λ l. h.short l.0)
+      (λ t. ⊎_elim (λ none. none.0.2 h.rest h.version)
+      (λ v. ⊎_elim
+      (λ c. first_or_third c.0 h.rest (sym c.1 ∙ h.version))
+      (λ o. ⊎_elim
+      (λ c. second_or_third c.0 h.rest (sym c.1 ∙ h.version))
+      (λ c. (behind_beside IsLong p nothing_later g beside h.rest body h.parts_pass (subst (λ z. IsRefusedBeside nothing_later g IsLong z p) (third_body c.0 h.rest (sym c.1 ∙ h.version)) c.2)).1) o) v) t.1)
       refused
 
 pub passing_headers_are_not_refused : PassingHeadersAreNotRefused
 passing_headers_are_not_refused g lengths bytes h body p passes refused =
-    ⊎_elim (λ a. first_not_refused g lengths bytes p a.1.0 body a.1.2 refused) (λ b. second_not_refused g lengths bytes p h.blocks body b.1 refused) passes
+    ⊎_elim (λ a. first_not_refused g lengths bytes p a.1.0 body a.1.2 refused)
+    (λ o. ⊎_elim (λ b. second_not_refused g lengths bytes p h.blocks body b.1 refused) (λ c. third_not_refused g lengths bytes p h.beside body c.1 refused) o) passes

@@ -1,20 +1,23 @@
 -- The lines of a header, as they are read.
-use Rattle.std.specs.Prelude.{◌≡◌, ◌==◌, ◌+◌, ◌*◌, ◌≤◌, ℕ, true, false, List, codes}
+use Rattle.std.specs.Prelude.{◌≡◌, ◌==◌, ◌+◌, ◌*◌, ◌≤◌, ℕ, true, false, List, codes, length, IfErr, IfOk, Result, Ok, Err}
 use Rattle.std.specs.declared.option.Option.{Option}
 use Rattle.std.specs.declared.option.Option.TheVariants.{None, Some}
 use Rattle.std.specs.Option.{option_zip}
-use Rattle.std.proofs.Common.{refl, sym, ap, ◌∙◌, arith, ⊎_elim}
+use Rattle.std.proofs.Common.{refl, sym, ap, subst, ◌∙◌, arith, ⊎_elim}
 use Rattle.graph_core.specs.declared.literal.Lit.{Lit}
 use Rattle.graph_core.specs.Graph.Extended.{Extended}
 use Rattle.graph_core.specs.Graph.Literals.{variable_of}
 use Rattle.graph_core.specs.Text.Numerals.{◌>>=◌, number_at, front_at}
 use Rattle.graph_core.specs.Text.Readers.{Reader, behind_at, ended_at, map_at, text_at}
 use Rattle.graph_core.proofs.OfGraphs.CallerLemmas.{input_in_range}
-use Rattle.mv_text.specs.Steps.{Gives, Takes, begins}
+use Rattle.mv_text.specs.declared.line_fail.LineFail.{LineFail}
+use Rattle.mv_text.proofs.CallerLemmas.{misfit_from}
+use Rattle.mv_text.specs.Steps.{Gives, IsMisfit, Takes, begins}
+use Rattle.ripple_graft.specs.Beside.{IsOutput}
 use Rattle.ripple_graft.specs.Extension.{IsExtension, IsKnown, whole}
 use Rattle.ripple_graft.proofs.KnownLiterals.{defined_is}
-use Rattle.drup_text.specs.ClauseReading.{cut_line_at, lits, pair_line_at, some_cut, two_at}
-use Rattle.drup_text.specs.LineTexts.{IsCutSize, IsPairOf, IsSizeInRange}
+use Rattle.drup_text.specs.ClauseReading.{cut_line_at, lits, number_line_at, output_from, output_line_at, pair_line_at, some_cut, two_at}
+use Rattle.drup_text.specs.LineTexts.{IsCountInRange, IsCutSize, IsPairOf, IsSizeInRange}
 use Rattle.drup_text.specs.Steps.{AreBothUpTo}
 use Rattle.drup_text.proofs.LineSteps.{chosen_one, chosen_other, fails_behind, fails_front, fails_map, taken_behind, taken_map}
 
@@ -134,4 +137,61 @@ pair_none e old new made h = record {
   read = lits h.read;
   taken = pair_read old new h.read h.taken;
   gives = λ is. h.gives (known_low e (lits h.read).0 made is.0, known_low e (lits h.read).1 made is.1);
+}
+
+-- ---- a number after a word
+
+module _ (word : List ℕ) where
+  pub number_front_fails : (bytes : List ℕ) → front_at word bytes ≡ None → number_line_at word bytes ≡ None
+  unfolding number_line_at
+  number_front_fails bytes e = ap (λ o. o >>= number_at 10) e
+
+  pub number_fails : (bytes mid : List ℕ) → front_at word bytes ≡ Some mid → number_at 10 mid ≡ None → number_line_at word bytes ≡ None
+  unfolding number_line_at
+  number_fails bytes mid e h = ap (λ o. o >>= number_at 10) e ∙ h
+
+  number_taken : (most : ℕ) (old mid new : List ℕ) (given : Option ℕ) → front_at word old ≡ Some mid → Takes (number_at 10) (λ n. n ≤ most) IsSame mid new given → Takes (number_line_at word) (IsCountInRange most) IsSame old new given
+  unfolding number_line_at
+  number_taken most old mid new given e h = record { read = h.read; taken = ap (λ o. o >>= number_at 10) e ∙ h.taken; gives = h.gives }
+
+  -- what reads the number reads the line
+  pub number_ok : (most : ℕ) (old mid new : List ℕ) (r : Result (Option ℕ) LineFail) → front_at word old ≡ Some mid → IfOk r (Takes (number_at 10) (λ n. n ≤ most) IsSame mid new) →
+      IfOk r (Takes (number_line_at word) (IsCountInRange most) IsSame old new)
+  number_ok most old mid new (Ok given) e h = number_taken most old mid new given e h
+  number_ok most old mid new (Err f) e h = h
+
+  pub number_err : (old mid : List ℕ) (r : Result (Option ℕ) LineFail) → front_at word old ≡ Some mid → IfErr r (IsMisfit (number_at 10 mid ≡ None)) → IfErr r (IsMisfit (number_line_at word old ≡ None))
+  number_err old mid (Ok given) e h = h
+  number_err old mid (Err f) e h = misfit_from f (number_fails old mid e) h
+
+-- ---- the line of an output
+
+pub output_fails : (bytes : List ℕ) → two_at bytes ≡ None → output_line_at bytes ≡ None
+unfolding output_line_at
+output_fails bytes h = fails_map output_from two_at bytes h
+
+output_read : (old new : List ℕ) (n : ℕ × ℕ) → two_at old ≡ Some (n, new) → output_line_at old ≡ Some (output_from n, new)
+unfolding output_line_at
+output_read old new n h = taken_map output_from two_at old new n h
+
+pub output_some : (e : Extended) (most : ℕ) (old new : List ℕ) (n : ℕ × ℕ) → Takes two_at (AreBothUpTo most) IsSame old new (Some n) → IsOutput e (output_from n) → Takes output_line_at (IsOutput e) IsSame old new (Some (output_from n))
+output_some e most old new n h is = record {
+  read = output_from h.read;
+  taken = output_read old new h.read h.taken;
+  gives = (subst (λ (k : ℕ × ℕ). IsOutput e (output_from k)) (sym h.gives.1) is, ap output_from h.gives.1);
+}
+
+pub output_other : (e : Extended) (most : ℕ) (old new : List ℕ) (n : ℕ × ℕ) → Takes two_at (AreBothUpTo most) IsSame old new (Some n) → ¬ (IsOutput e (output_from n)) → Takes output_line_at (IsOutput e) IsSame old new None
+output_other e most old new n h other = record {
+  read = output_from h.read;
+  taken = output_read old new h.read h.taken;
+  gives = λ is. other (subst (λ (k : ℕ × ℕ). IsOutput e (output_from k)) h.gives.1 is);
+}
+
+-- a number that is above each column and each literal
+pub output_none : (e : Extended) (most : ℕ) (old new : List ℕ) → IsExtension e → length e.graph.outputs ≤ most → 2 * e.max + 1 ≤ most → Takes two_at (AreBothUpTo most) IsSame old new None → Takes output_line_at (IsOutput e) IsSame old new None
+output_none e most old new made columns literals h = record {
+  read = output_from h.read;
+  taken = output_read old new h.read h.taken;
+  gives = λ is. let within = is.within in let low = known_low e (output_from h.read).1 made is.known in h.gives (omega arith, omega arith);
 }

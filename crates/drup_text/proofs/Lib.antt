@@ -5,11 +5,14 @@ pub mod HeaderTexts
 pub mod HeaderSteps
 pub mod BlockTexts
 pub mod BlockSteps
+pub mod ListedSteps
+pub mod BesideSteps
 pub mod VersionSteps
 pub mod CallerLemmas
 pub mod WrittenLoops
 pub mod WrittenAgain
 pub mod Writable
+pub mod OutputColumns
 pub mod OneFile
 pub mod HeaderExact
 pub mod SameHeaders

@@ -7,8 +7,8 @@ use Rattle.graph_core.specs.Text.{newline, space}
 use Rattle.std.specs.declared.option.Option.TheVariants.{None, Some}
 use Rattle.ripple_graft.specs.declared.block.Block.{Block}
 use Rattle.clause_core.specs.ClauseLines.{ClauseLine}
-use Rattle.drup_text.specs.Headers.{second_line}
-use Rattle.drup_text.specs.WrittenTexts.{block_text, blocks_text, clause_line_text, clause_lines_text, clause_text, first_cut, literals_text, pairs_text, two_text}
+use Rattle.drup_text.specs.Headers.{second_line, third_line}
+use Rattle.drup_text.specs.WrittenTexts.{block_text, blocks_text, clause_line_text, clause_lines_text, clause_text, first_cut, literals_text, output_lines_text, pairs_text, two_text}
 
 pub next_item : {A : Type 0} (xs : List A) (i : ℕ) (d : A) → i < length xs → drop i xs ≡ get_or xs i d ∷ drop (i + 1) xs
 next_item xs i d early = let one : suc i ≡ i + 1 = omega arith in drop-cons xs i d early ∙ ap (λ n. get_or xs i d ∷ drop n xs) one
@@ -35,6 +35,22 @@ block_end head pairs = append_assoc head (newline ∷ []) pairs
 
 pub count_end : (count blocks : List ℕ) → (((codes "joined 2\ncuts ") ++ count) ++ newline ∷ []) ++ blocks ≡ second_line ++ (codes "cuts " ++ count ++ newline ∷ blocks)
 count_end count blocks = ap (λ z. codes "joined 2\ncuts " ++ z) (append_assoc count (newline ∷ []) blocks)
+
+pub next_output : (outputs : List (ℕ × Lit)) (i : ℕ) (d : ℕ × Lit) → i < length outputs →
+    output_lines_text (drop i outputs) ≡ (two_text (get_or outputs i d).0 (get_or outputs i d).1.0 ++ newline ∷ []) ++ output_lines_text (drop (i + 1) outputs)
+next_output outputs i d early =
+    let c = get_or outputs i d in
+    ap output_lines_text (next_item outputs i d early) ∙ sym (append_assoc (two_text c.0 c.1.0) (newline ∷ []) (output_lines_text (drop (i + 1) outputs)))
+
+abbrev pub no_output : ℕ × Lit
+no_output = (0, record { 0 = 0 })
+
+pub outputs_end : (count outputs : List ℕ) → ((codes "replace " ++ count) ++ newline ∷ []) ++ outputs ≡ codes "replace " ++ count ++ newline ∷ outputs
+outputs_end count outputs = ap (λ z. codes "replace " ++ z) (append_assoc count (newline ∷ []) outputs)
+
+pub beside_end : (count gates outputs : List ℕ) →
+    ((((codes "joined 3\ngates ") ++ count) ++ newline ∷ []) ++ gates) ++ outputs ≡ third_line ++ ((codes "gates " ++ count ++ newline ∷ gates) ++ outputs)
+beside_end count gates outputs = ap (λ z. codes "joined 3\ngates " ++ z) (ap (λ z. z ++ outputs) (append_assoc count (newline ∷ []) gates))
 
 -- the cut of the first block
 pub first_there : (blocks : List Block) (d : Block) → 0 < length blocks → first_cut blocks ≡ Some (get_or blocks 0 d).cut

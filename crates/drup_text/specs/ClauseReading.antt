@@ -60,10 +60,14 @@ some_cut n = Some n
 unfoldable pub cut_line_at : Reader (Option (ℕ × ℕ))
 cut_line_at = choose_at (λ b. b == 110) (text_at (codes "none") None) (map_at some_cut (behind_at (codes "replace ") two_at))
 
+-- a number after a word
+unfoldable pub number_line_at : List ℕ → Reader ℕ
+number_line_at word = behind_at word (number_at 10)
+
 -- ---- version 2
 
-unfoldable pub count_line_at : Reader ℕ
-count_line_at = behind_at (codes "cuts ") (number_at 10)
+abbrev pub count_line_at : Reader ℕ
+count_line_at = number_line_at (codes "cuts ")
 
 -- the word carry, if there is a space
 abbrev pub carry_at : Reader Bool
@@ -75,3 +79,17 @@ head_from x = (x.0.0, x.0.1, x.1)
 
 unfoldable pub block_line_at : Reader (ℕ × ℕ × Bool)
 block_line_at = map_at head_from (behind_at (codes "replace ") (then_at two_at carry_at))
+
+-- ---- version 3
+
+abbrev pub gates_line_at : Reader ℕ
+gates_line_at = number_line_at (codes "gates ")
+
+abbrev pub replace_line_at : Reader ℕ
+replace_line_at = number_line_at (codes "replace ")
+
+abbrev pub output_from : ℕ × ℕ → ℕ × Lit
+output_from n = (n.0, record { 0 = n.1 })
+
+unfoldable pub output_line_at : Reader (ℕ × Lit)
+output_line_at = map_at output_from two_at

@@ -38,9 +38,13 @@ abbrev pub IsCutLine : List ℕ → Option (ℕ × ℕ) → Type 0
 IsCutLine bytes None = bytes ≡ codes "none"
 IsCutLine bytes (Some n) = (low count : List ℕ) × IsNumeral 10 low n.0 × IsNumeral 10 count n.1 × (bytes ≡ codes "replace " ++ low ++ space ∷ count)
 
+-- a number after a word
+abbrev pub IsNumberLine : List ℕ → List ℕ → ℕ → Type 0
+IsNumberLine word bytes n = (count : List ℕ) × IsNumeral 10 count n × (bytes ≡ word ++ count)
+
 -- of version 2: the number of blocks
 abbrev pub IsCountLine : List ℕ → ℕ → Type 0
-IsCountLine bytes n = (count : List ℕ) × IsNumeral 10 count n × (bytes ≡ codes "cuts " ++ count)
+IsCountLine = IsNumberLine (codes "cuts ")
 
 abbrev pub carry_text : Bool → List ℕ
 carry_text true = codes " carry"
@@ -50,6 +54,17 @@ carry_text false = []
 abbrev pub IsBlockLine : List ℕ → ℕ × ℕ × Bool → Type 0
 IsBlockLine bytes h = (low count : List ℕ) × IsNumeral 10 low h.0 × IsNumeral 10 count h.1 ×
     (bytes ≡ codes "replace " ++ low ++ space ∷ (count ++ carry_text h.2))
+
+-- of version 3: the number of gates beside the graph, and that of replaced outputs
+abbrev pub IsGatesLine : List ℕ → ℕ → Type 0
+IsGatesLine = IsNumberLine (codes "gates ")
+
+abbrev pub IsReplaceLine : List ℕ → ℕ → Type 0
+IsReplaceLine = IsNumberLine (codes "replace ")
+
+-- a column, and the literal that takes the place of its output
+abbrev pub IsOutputLine : List ℕ → ℕ × Lit → Type 0
+IsOutputLine bytes c = (column literal : List ℕ) × IsNumeral 10 column c.0 × IsNumeral 10 literal c.1.0 × (bytes ≡ column ++ space ∷ literal)
 
 -- ---- lines one after the other, each with its line feed, and the bytes after them
 

@@ -8,8 +8,9 @@ use Rattle.graph_core.specs.Graph.{Aig}
 use Rattle.graph_core.specs.Text.JudgedLines.{BeginsWith, Behind, IsTooLong, Lengths, Never, Unless}
 use Rattle.ripple_graft.specs.Blocks.{block, graft_block, with_cut}
 use Rattle.drup_text.specs.ClauseTexts.{IsBlockLine, IsCountLine, IsCutLine, IsPairLine}
-use Rattle.drup_text.specs.Headers.{second_line, version_line}
+use Rattle.drup_text.specs.Headers.{second_line, third_line, version_line}
 use Rattle.drup_text.specs.LineTexts.{IsCountInRange, IsCutSize, IsHeadOf, IsPairOf}
+use Rattle.drup_text.specs.Listings.{Listing, gate_listing, output_listing}
 
 -- why a line of a clause certificate is refused
 pub data LineCause : Type 0 where
@@ -97,11 +98,37 @@ IsRefusedCount later g IsLong bytes = Unless (¬ (IsLong bytes)) (IsLong bytes) 
     Unless (IsCountInRange (length g.outputs) n) (¬ (IsCountInRange (length g.outputs) n)) (2, Range)
     (IsRefusedBlocks later IsLong n (without_cut g) 3 rest) p))
 
+-- ---- version 3: a line with a number, and so many lines
+
+-- one line, whose number this is, and what comes after it
+abbrev pub IsRefusedListedLine : {X : Type 0} → Listing X → Later → (List ℕ → Type 0) → Later
+IsRefusedListedLine {X} l later IsLong e number bytes = Unless (¬ (IsLong bytes)) (IsLong bytes) (number, TooLong)
+    (λ q. (((x : X) (rest : List ℕ) → BeginsWith l.text bytes x rest → ⊥) × (q ≡ (number, Text))) ⊎
+    ((x : X) × (rest : List ℕ) × BeginsWith l.text bytes x rest ×
+    Unless (l.in_range e x) (¬ (l.in_range e x)) (number, Range) (later (l.more e x) (number + 1) rest) q))
+
+-- so many lines
+abbrev pub IsRefusedListedLines : {X : Type 0} → Listing X → Later → (List ℕ → Type 0) → ℕ → Later
+IsRefusedListedLines l later IsLong zero = later
+IsRefusedListedLines l later IsLong (suc n) = IsRefusedListedLine l (IsRefusedListedLines l later IsLong n) IsLong
+
+-- the line with their number, and they
+abbrev pub IsRefusedListing : {X : Type 0} → Listing X → Later → (List ℕ → Type 0) → Later
+IsRefusedListing l later IsLong e number bytes = Unless (¬ (IsLong bytes)) (IsLong bytes) (number, TooLong)
+    (λ q. (((n : ℕ) (rest : List ℕ) → BeginsWith l.number_text bytes n rest → ⊥) × (q ≡ (number, Text))) ⊎
+    ((n : ℕ) × (rest : List ℕ) × BeginsWith l.number_text bytes n rest ×
+    Unless (IsCountInRange (l.most e) n) (¬ (IsCountInRange (l.most e) n)) (number, Range) (IsRefusedListedLines l later IsLong n e (number + 1) rest) q))
+
+-- after the first line: gates, and then outputs
+abbrev pub IsRefusedBeside : Later → Aig → (List ℕ → Type 0) → List ℕ → ℕ × LineCause → Type 0
+IsRefusedBeside later g IsLong = IsRefusedListing gate_listing (IsRefusedListing output_listing later IsLong) IsLong (without_cut g) 2
+
 -- ---- the whole
 
--- the first line is one of neither version
+-- the first line is one of no version
 abbrev pub HasNoVersion : List ℕ → Type 0
-HasNoVersion bytes = ((body : List ℕ) → bytes ≢ version_line ++ body) × ((body : List ℕ) → bytes ≢ second_line ++ body)
+HasNoVersion bytes =
+    ((body : List ℕ) → bytes ≢ version_line ++ body) × ((body : List ℕ) → bytes ≢ second_line ++ body) × ((body : List ℕ) → bytes ≢ third_line ++ body)
 
 -- The first refusal of a file: its line, from 1, and its cause.
 abbrev pub IsFirstHeaderRefusal : Later → Aig → Lengths → List ℕ → ℕ × LineCause → Type 0
@@ -109,7 +136,8 @@ IsFirstHeaderRefusal later g lengths bytes =
     Unless (¬ (IsTooLong lengths (length bytes) bytes)) (IsTooLong lengths (length bytes) bytes) (1, TooLong)
     (λ p. (HasNoVersion bytes × (p ≡ (1, Text))) ⊎
     (((body : List ℕ) × (bytes ≡ version_line ++ body) × IsRefusedCut later g (IsTooLong lengths (length bytes)) body p) ⊎
-    ((body : List ℕ) × (bytes ≡ second_line ++ body) × IsRefusedCount later g (IsTooLong lengths (length bytes)) body p)))
+    (((body : List ℕ) × (bytes ≡ second_line ++ body) × IsRefusedCount later g (IsTooLong lengths (length bytes)) body p) ⊎
+    ((body : List ℕ) × (bytes ≡ third_line ++ body) × IsRefusedBeside later g (IsTooLong lengths (length bytes)) body p))))
 
 -- nothing is refused after a header
 abbrev pub nothing_later : Later

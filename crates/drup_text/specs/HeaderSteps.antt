@@ -1,5 +1,5 @@
 -- The parts of a header, as they are read over what is left of a file: a line, or lines one after the other.
-use Rattle.std.specs.Prelude.{◌≡◌, ◌⊎◌, ◌+◌, ℕ, false, List, length, Result, IfErr, IfOk, IfSome, OnOk}
+use Rattle.std.specs.Prelude.{◌≡◌, ◌⊎◌, ◌+◌, ℕ, false, List, [], length, Result, IfErr, IfOk, IfSome, OnOk}
 use Rattle.std.specs.Global.{Global}
 use Rattle.std.specs.declared.option.Option.{Option}
 use Rattle.std.specs.declared.option.Option.TheVariants.{None, Some}
@@ -13,12 +13,16 @@ use Rattle.mv_desk.specs.declared.slot.Slot.TheVariants.{Clauses}
 use Rattle.mv_text.specs.CertificateFiles.{BeginsOutOfRange, BeginsWithNone, FileState, left_of_file}
 use Rattle.mv_text.specs.LineReading.{Lines}
 use Rattle.mv_text.specs.declared.line_fail.LineFail.{LineFail}
+use Rattle.ripple_graft.specs.declared.beside.Beside.{Beside}
 use Rattle.ripple_graft.specs.declared.block.Block.{Block}
+use Rattle.ripple_graft.specs.Beside.{nothing}
 use Rattle.ripple_graft.specs.declared.cut.Cut.{Cut}
 use Rattle.ripple_graft.specs.HeaderBlocks.{cut_blocks}
+use Rattle.drup_text.specs.declared.head.Header.{Header}
 use Rattle.drup_text.specs.ClauseTexts.{IsPairLine}
-use Rattle.drup_text.specs.PassingHeaders.{IsCause, PassBlocks, PassesBlock, PassesCount, PassesCut, block_lines, own_line}
-use Rattle.drup_text.specs.HeaderRefusal.{IsPairStep, IsRefusedBlock, IsRefusedBlocks, IsRefusedCount, IsRefusedCut, IsRefusedPairs, LineCause, Range, Text, TooLong, nothing_later}
+use Rattle.drup_text.specs.Listings.{Listing}
+use Rattle.drup_text.specs.PassingHeaders.{IsCause, PassBlocks, PassListed, PassesBlock, PassesCount, PassesCut, PassesListing, PassesParts, beside_lines, block_lines, own_line}
+use Rattle.drup_text.specs.HeaderRefusal.{IsPairStep, IsRefusedBeside, IsRefusedBlock, IsRefusedBlocks, IsRefusedCount, IsRefusedCut, IsRefusedListedLines, IsRefusedListing, IsRefusedPairs, LineCause, Range, Text, TooLong, nothing_later}
 
 -- of a file of which these bytes are left, those that some bytes begin a line that is too long
 abbrev pub IsLongIn : Lines → List ℕ → List ℕ → Type 0
@@ -98,15 +102,53 @@ count_part g = record {
   lines = λ blocks. 1 + block_lines 1 blocks.items;
 }
 
--- ---- both
+-- ---- version 3
 
--- what stands after the line of a version
-abbrev pub version_part : Aig → ℕ → HeaderPart (Vec Block Global)
-version_part g version = record {
+-- listed lines, and the line with their number and they; with them comes the graph that they make
+abbrev pub listed_part : {X : Type 0} → Listing X → Extended → ℕ → HeaderPart (Extended × Vec X Global)
+listed_part l e count = record {
+  passes = λ IsLong bytes made. PassListed l IsLong e bytes made.1.items;
+  refused = λ IsLong. IsRefusedListedLines l nothing_later IsLong count e;
+  lines = λ made. length made.1.items;
+}
+
+abbrev pub listing_part : {X : Type 0} → Listing X → Extended → HeaderPart (Extended × Vec X Global)
+listing_part l e = record {
+  passes = λ IsLong bytes made. PassesListing l IsLong e bytes made.1.items;
+  refused = λ IsLong. IsRefusedListing l nothing_later IsLong e;
+  lines = λ made. 1 + length made.1.items;
+}
+
+-- gates, and then outputs
+abbrev pub beside_part : Aig → HeaderPart Beside
+beside_part g = record {
+  passes = PassesParts g;
+  refused = λ IsLong number. IsRefusedBeside nothing_later g IsLong;
+  lines = λ b. 1 + (length b.gates + (1 + length b.outputs));
+}
+
+-- ---- all of them
+
+-- what stands after the line of a version, where nothing stands beside
+abbrev pub blocks_version_part : Aig → ℕ → HeaderPart (Vec Block Global)
+blocks_version_part g version = record {
   passes = λ IsLong bytes blocks body.
       ((version ≡ 1) × ((cut : Option Cut) × (blocks.items ≡ cut_blocks (length g.outputs) cut) × PassesCut g IsLong bytes cut body)) ⊎
       ((version ≡ 2) × PassesCount g IsLong bytes blocks.items body);
   refused = λ IsLong number bytes p.
       ((version ≡ 1) × IsRefusedCut nothing_later g IsLong bytes p) ⊎ ((version ≡ 2) × IsRefusedCount nothing_later g IsLong bytes p);
   lines = λ blocks. 1 + block_lines (own_line version) blocks.items;
+}
+
+-- and where something does
+abbrev pub version_part : Aig → ℕ → HeaderPart Header
+version_part g version = record {
+  passes = λ IsLong bytes h body.
+      ((version ≡ 1) × ((cut : Option Cut) × (h.blocks ≡ cut_blocks (length g.outputs) cut) × PassesCut g IsLong bytes cut body) × (h.beside ≡ nothing)) ⊎
+      ((version ≡ 2) × PassesCount g IsLong bytes h.blocks body × (h.beside ≡ nothing)) ⊎
+      ((version ≡ 3) × PassesParts g IsLong bytes h.beside body × (h.blocks ≡ []));
+  refused = λ IsLong number bytes p.
+      ((version ≡ 1) × IsRefusedCut nothing_later g IsLong bytes p) ⊎ ((version ≡ 2) × IsRefusedCount nothing_later g IsLong bytes p) ⊎
+      ((version ≡ 3) × IsRefusedBeside nothing_later g IsLong bytes p);
+  lines = λ h. 1 + block_lines (own_line version) h.blocks + beside_lines version h.beside;
 }

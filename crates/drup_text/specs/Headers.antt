@@ -1,4 +1,4 @@
--- The header of a clause certificate: its version, the blocks that it names, and its text.
+-- The header of a clause certificate: its version, what it adds to a graph and replaces, and its text.
 use Rattle.std.specs.Prelude.{◌≡◌, ◌⊎◌, ℕ, Bool, List, [], ◌∷◌, ◌++◌, length, codes}
 use Rattle.std.specs.declared.option.Option.{Option}
 use Rattle.std.specs.declared.option.Option.TheVariants.{None, Some}
@@ -7,12 +7,15 @@ use Rattle.graph_core.specs.Graph.{Aig}
 use Rattle.graph_core.specs.Text.JudgedLines.{BeginsWith}
 use Rattle.graph_core.specs.Text.{newline}
 use Rattle.ripple_graft.specs.declared.block.Block.{Block}
+use Rattle.ripple_graft.specs.Beside.{nothing, with_beside}
 use Rattle.ripple_graft.specs.Blocks.{with_blocks}
-use Rattle.ripple_graft.specs.HeaderBlocks.{AreHeaderBlocks, cut_blocks}
+use Rattle.ripple_graft.specs.HeaderBlocks.{AreHeaderParts, cut_blocks}
+use Rattle.ripple_graft.specs.declared.beside.Beside.{Beside}
 use Rattle.ripple_graft.specs.declared.cut.Cut.{Cut}
 use Rattle.clause_core.specs.ClauseLines.{ClauseLine}
 use Rattle.drup_text.specs.declared.head.Header.{Header}
 use Rattle.drup_text.specs.ClauseTexts.{AreLinesOf, IsBlockLine, IsClauseLine, IsCountLine, IsCutLine, IsPairLine}
+use Rattle.drup_text.specs.Listings.{IsListed, gate_listing, output_listing}
 
 -- ---- version 1: a cut, or none
 
@@ -48,21 +51,31 @@ AreBlockTexts bytes (b ∷ blocks) after =
 abbrev pub IsBlocksText : List ℕ → List Block → List ℕ → Type 0
 IsBlocksText bytes blocks after = (rest : List ℕ) × BeginsWith IsCountLine bytes (length blocks) rest × AreBlockTexts rest blocks after
 
--- ---- both
+-- ---- version 3: gates beside the graph, and outputs
+
+abbrev pub third_line : List ℕ
+third_line = codes "joined 3" ++ newline ∷ []
+
+-- after the first line: the gates, and then the outputs
+abbrev pub IsBesideText : List ℕ → Beside → List ℕ → Type 0
+IsBesideText bytes b after = (middle : List ℕ) × IsListed gate_listing bytes b.gates middle × IsListed output_listing middle b.outputs after
+
+-- ---- all of them
 
 -- The whole header over a graph with so many outputs, and the bytes after it.
 abbrev pub IsAnyHeaderText : ℕ → List ℕ → Header → List ℕ → Type 0
 IsAnyHeaderText outputs bytes h after =
-    ((h.version ≡ 1) × ((cut : Option Cut) × (h.blocks ≡ cut_blocks outputs cut) × IsClauseHeaderText bytes cut after)) ⊎
-    ((h.version ≡ 2) × ((rest : List ℕ) × IsBlocksText rest h.blocks after × (bytes ≡ second_line ++ rest)))
+    ((h.version ≡ 1) × ((cut : Option Cut) × (h.blocks ≡ cut_blocks outputs cut) × IsClauseHeaderText bytes cut after) × (h.beside ≡ nothing)) ⊎
+    ((h.version ≡ 2) × ((rest : List ℕ) × IsBlocksText rest h.blocks after × (bytes ≡ second_line ++ rest)) × (h.beside ≡ nothing)) ⊎
+    ((h.version ≡ 3) × ((rest : List ℕ) × IsBesideText rest h.beside after × (bytes ≡ third_line ++ rest)) × (h.blocks ≡ []))
 
--- The graph takes its blocks.
+-- The graph takes its blocks, and what stands beside.
 abbrev pub IsHeaderOf : Aig → Header → Type 0
-IsHeaderOf g h = AreHeaderBlocks g h.version h.blocks
+IsHeaderOf g h = AreHeaderParts g h.version h.blocks h.beside
 
--- the graph with its blocks
+-- the graph with its blocks, and with what stands beside
 abbrev pub extended_with : Aig → Header → Extended
-extended_with g h = with_blocks g h.blocks
+extended_with g h = with_beside (with_blocks g h.blocks) h.beside
 
 -- the whole file: a header, lines, and nothing after them
 abbrev pub IsAnyClauseFile : ℕ → List ℕ → Header → List ClauseLine → Type 0

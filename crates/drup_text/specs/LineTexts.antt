@@ -3,12 +3,13 @@ use Rattle.std.specs.Prelude.{◌≡◌, ◌⊎◌, ℕ, ◌+◌, ◌<◌, ◌�
 use Rattle.std.specs.declared.option.Option.{Option}
 use Rattle.graph_core.specs.declared.literal.Lit.{Lit}
 use Rattle.graph_core.specs.Graph.Extended.{Extended}
+use Rattle.ripple_graft.specs.Beside.{IsOutput}
 use Rattle.ripple_graft.specs.Extension.{IsKnown}
 use Rattle.ripple_graft.specs.Grafts.{HasColumnRoom}
 use Rattle.clause_core.specs.Clause.{IsClauseInRange, SameSet}
 use Rattle.clause_core.specs.ClauseLines.{ClauseLine, clause_in}
 use Rattle.clause_core.specs.declared.line.Line.TheVariants.{Add, Delete}
-use Rattle.drup_text.specs.ClauseTexts.{IsBlockLine, IsClauseLine, IsCountLine, IsCutLine, IsPairLine}
+use Rattle.drup_text.specs.ClauseTexts.{IsBlockLine, IsClauseLine, IsCutLine, IsNumberLine, IsOutputLine, IsPairLine}
 
 -- ---- what is in range
 
@@ -24,9 +25,9 @@ IsCutSize outputs n = (0 < n.1) × ((n.0 + n.1 + 1 ≡ outputs) ⊎ (n.0 + n.1 �
 abbrev pub IsSizeInRange : ℕ → Option (ℕ × ℕ) → Type 0
 IsSizeInRange outputs size = IfSome size (IsCutSize outputs)
 
--- no more blocks than columns
+-- no more of something than so many: of blocks than columns, say
 abbrev pub IsCountInRange : ℕ → ℕ → Type 0
-IsCountInRange outputs n = n ≤ outputs
+IsCountInRange most n = n ≤ most
 
 -- the block has its columns after the blocks before it
 abbrev pub IsHeadOf : Extended → ℕ × ℕ × Bool → Type 0
@@ -56,9 +57,12 @@ IsCutTextOf outputs bytes size = IsCutLine bytes size × IsSizeInRange outputs s
 abbrev pub IsPairTextOf : Extended → List ℕ → Lit × Lit → Type 0
 IsPairTextOf e bytes p = IsPairLine bytes p × IsPairOf e p
 
--- The text is one of this number of blocks in range, or of this block.
-abbrev pub IsCountTextOf : ℕ → List ℕ → ℕ → Type 0
-IsCountTextOf outputs bytes n = IsCountLine bytes n × IsCountInRange outputs n
+-- The text is one of this number in range after a word, of this block, or of this output.
+abbrev pub IsNumberTextOf : List ℕ → ℕ → List ℕ → ℕ → Type 0
+IsNumberTextOf word most bytes n = IsNumberLine word bytes n × IsCountInRange most n
 
 abbrev pub IsBlockTextOf : Extended → List ℕ → ℕ × ℕ × Bool → Type 0
 IsBlockTextOf e bytes h = IsBlockLine bytes h × IsHeadOf e h
+
+abbrev pub IsOutputTextOf : Extended → List ℕ → ℕ × Lit → Type 0
+IsOutputTextOf e bytes c = IsOutputLine bytes c × IsOutput e c

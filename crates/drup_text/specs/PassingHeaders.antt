@@ -9,13 +9,16 @@ use Rattle.graph_core.specs.Graph.{Aig}
 use Rattle.graph_core.specs.Text.JudgedLines.{BeginsWith, Behind, IsTooLong, Lengths}
 use Rattle.mv_text.specs.CertificateFiles.{FileState}
 use Rattle.graph_core.specs.Graph.Extended.{Extended, without_cut}
+use Rattle.ripple_graft.specs.declared.beside.Beside.{Beside}
 use Rattle.ripple_graft.specs.declared.block.Block.{Block}
+use Rattle.ripple_graft.specs.Beside.{nothing, with_gates}
 use Rattle.ripple_graft.specs.Blocks.{graft_block}
 use Rattle.ripple_graft.specs.declared.cut.Cut.{Cut}
 use Rattle.drup_text.specs.declared.head.Header.{Header}
 use Rattle.drup_text.specs.ClauseTexts.{IsBlockLine, IsCountLine, IsCutLine, IsPairLine}
 use Rattle.drup_text.specs.HeaderRefusal.{LineCause, IsClauseHeaderRefusal, IsPairStep, Range, Text, TooLong}
-use Rattle.drup_text.specs.Headers.{head_of, second_line, version_line}
+use Rattle.drup_text.specs.Headers.{head_of, second_line, third_line, version_line}
+use Rattle.drup_text.specs.Listings.{Listing, gate_listing, output_listing}
 use Rattle.ripple_graft.specs.HeaderBlocks.{cut_blocks}
 use Rattle.drup_text.specs.LineTexts.{IsCountInRange, IsCutSize, IsHeadOf}
 use Rattle.drup_text.specs.declared.fault.StartFail.{StartFail}
@@ -45,6 +48,22 @@ PassesCount g IsLong bytes blocks body =
     (rest : List ℕ) × ¬ (IsLong bytes) × BeginsWith IsCountLine bytes (length blocks) rest ×
     IsCountInRange (length g.outputs) (length blocks) × PassBlocks IsLong (without_cut g) rest blocks body
 
+-- The same of listed lines, each in range over the graph with those before; and of the line with their number, and they.
+abbrev pub PassListed : {X : Type 0} → Listing X → (List ℕ → Type 0) → Extended → List ℕ → List X → List ℕ → Type 0
+PassListed l IsLong e bytes [] body = bytes ≡ body
+PassListed l IsLong e bytes (x ∷ xs) body =
+    (rest : List ℕ) × ¬ (IsLong bytes) × BeginsWith l.text bytes x rest × l.in_range e x × PassListed l IsLong (l.more e x) rest xs body
+
+abbrev pub PassesListing : {X : Type 0} → Listing X → (List ℕ → Type 0) → Extended → List ℕ → List X → List ℕ → Type 0
+PassesListing l IsLong e bytes xs body =
+    (rest : List ℕ) × ¬ (IsLong bytes) × BeginsWith l.number_text bytes (length xs) rest × IsCountInRange (l.most e) (length xs) × PassListed l IsLong e rest xs body
+
+-- gates, and then outputs of the graph with all of them
+abbrev pub PassesParts : Aig → (List ℕ → Type 0) → List ℕ → Beside → List ℕ → Type 0
+PassesParts g IsLong bytes b body =
+    (middle : List ℕ) × PassesListing gate_listing IsLong (without_cut g) bytes b.gates middle ×
+    PassesListing output_listing IsLong (with_gates (without_cut g) b.gates) middle b.outputs body
+
 -- A file begins with the header of a cut, or of none, which the graph takes and no line of which is too long.
 pub record PassesHeader (g : Aig) (lengths : Lengths) (bytes : List ℕ) (cut : Option Cut) (body : List ℕ) : Type 0 where
   pub rest : List ℕ
@@ -59,11 +78,19 @@ pub record PassesBlocks (g : Aig) (lengths : Lengths) (bytes : List ℕ) (blocks
   pub version : bytes ≡ second_line ++ rest
   pub blocks_pass : PassesCount g (IsTooLong lengths (length bytes)) rest blocks body
 
--- a header of either version
+-- A file begins with the header of gates and outputs, likewise.
+pub record PassesBeside (g : Aig) (lengths : Lengths) (bytes : List ℕ) (beside : Beside) (body : List ℕ) : Type 0 where
+  pub rest : List ℕ
+  pub short : ¬ (IsTooLong lengths (length bytes) bytes)
+  pub version : bytes ≡ third_line ++ rest
+  pub parts_pass : PassesParts g (IsTooLong lengths (length bytes)) rest beside body
+
+-- a header of any version
 abbrev pub PassesAnyHeader : Aig → Lengths → List ℕ → Header → List ℕ → Type 0
 PassesAnyHeader g lengths bytes h body =
-    ((h.version ≡ 1) × ((cut : Option Cut) × (h.blocks ≡ cut_blocks (length g.outputs) cut) × PassesHeader g lengths bytes cut body)) ⊎
-    ((h.version ≡ 2) × PassesBlocks g lengths bytes h.blocks body)
+    ((h.version ≡ 1) × ((cut : Option Cut) × (h.blocks ≡ cut_blocks (length g.outputs) cut) × PassesHeader g lengths bytes cut body) × (h.beside ≡ nothing)) ⊎
+    ((h.version ≡ 2) × PassesBlocks g lengths bytes h.blocks body × (h.beside ≡ nothing)) ⊎
+    ((h.version ≡ 3) × PassesBeside g lengths bytes h.beside body × (h.blocks ≡ []))
 
 -- So it does, and these bytes are left after it.
 pub record HasClauseHeader (g : Aig) (new : FileState) (bytes : List ℕ) (after : Option (List ℕ)) (h : Header) : Type 0 where
@@ -81,9 +108,13 @@ block_lines own (b ∷ blocks) = own + length b.cut.pairs + block_lines own bloc
 abbrev pub own_line : ℕ → ℕ
 own_line version = if version == 2 then 1 else 0
 
--- how many lines a header of either version has
-abbrev pub header_line_count : ℕ → List Block → ℕ
-header_line_count version blocks = 2 + block_lines (own_line version) blocks
+-- how many lines gates and outputs have, with the one that has the number of outputs
+abbrev pub beside_lines : ℕ → Beside → ℕ
+beside_lines version b = if version == 3 then length b.gates + (1 + length b.outputs) else 0
+
+-- how many lines a header of any version has
+abbrev pub header_line_count : Header → ℕ
+header_line_count h = 2 + block_lines (own_line h.version) h.blocks + beside_lines h.version h.beside
 
 -- Why some of the lines of a header aren't had, where what is left has such first refusals: this one, a failed read, or out of memory.
 abbrev pub IsCause : (List ℕ → ℕ × LineCause → Type 0) → Option (List ℕ) → ℕ → ℕ → ℕ → LineFail → Type 0

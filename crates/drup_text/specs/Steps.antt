@@ -8,10 +8,11 @@ use Rattle.std.specs.declared.vec.Vec.{Vec}
 use Rattle.graph_core.specs.declared.literal.Lit.{Lit}
 use Rattle.graph_core.specs.Graph.Extended.{Extended}
 use Rattle.graph_core.specs.Text.Readers.{Reader}
+use Rattle.ripple_graft.specs.Beside.{IsOutput}
 use Rattle.clause_core.specs.Clause.{Clause, IsClauseInRange, SameSet}
 use Rattle.clause_core.specs.ClauseLines.{ClauseLine}
 use Rattle.mv_text.specs.Steps.{Takes}
-use Rattle.drup_text.specs.ClauseReading.{block_line_at, carry_at, clause_literals_at, clause_read_at, count_line_at, cut_line_at, pair_line_at, two_at}
+use Rattle.drup_text.specs.ClauseReading.{block_line_at, carry_at, clause_literals_at, clause_read_at, cut_line_at, number_line_at, output_line_at, pair_line_at, two_at}
 use Rattle.drup_text.specs.LineTexts.{IsClauseLineInRange, IsCountInRange, IsHeadOf, IsPairOf, IsSameClauseLine, IsSizeInRange}
 
 -- a variable from 1 to the greatest one, or its negation
@@ -47,8 +48,8 @@ TakesSize outputs = Takes cut_line_at (IsSizeInRange outputs) (λ n k. n ≡ k)
 abbrev pub TakesPair : Extended → List ℕ → List ℕ → Option (Lit × Lit) → Type 0
 TakesPair e = Takes pair_line_at (IsPairOf e) (λ p q. p ≡ q)
 
-abbrev pub TakesCountLine : ℕ → List ℕ → List ℕ → Option ℕ → Type 0
-TakesCountLine outputs = Takes count_line_at (IsCountInRange outputs) (λ n k. n ≡ k)
+abbrev pub TakesNumberLine : List ℕ → ℕ → List ℕ → List ℕ → Option ℕ → Type 0
+TakesNumberLine word most = Takes (number_line_at word) (IsCountInRange most) (λ n k. n ≡ k)
 
 -- a word, or nothing
 abbrev pub TakesCarry : List ℕ → List ℕ → Bool → Type 0
@@ -56,3 +57,6 @@ TakesCarry old new carry = carry_at old ≡ Some (carry, new)
 
 abbrev pub TakesHead : Extended → List ℕ → List ℕ → Option (ℕ × ℕ × Bool) → Type 0
 TakesHead e = Takes block_line_at (IsHeadOf e) (λ h k. h ≡ k)
+
+abbrev pub TakesOutput : Extended → List ℕ → List ℕ → Option (ℕ × Lit) → Type 0
+TakesOutput e = Takes output_line_at (IsOutput e) (λ c d. c ≡ d)

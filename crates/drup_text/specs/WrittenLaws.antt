@@ -20,7 +20,7 @@ IsWritableLine x = All IsLiteral (clause_in x)
 abbrev pub WrittenClausesAreRead : Type 0
 WrittenClausesAreRead = (max : ℕ) (line : ClauseLine) → IsWritableLine line → IsClauseLineInRange max line → IsClauseTextOf max (clause_line_text line) line
 
--- A whole text that is written for a header whose blocks the graph takes is the file of this header and of these lines.
+-- A whole text that is written for a header that the graph takes is the file of this header and of these lines.
 abbrev pub WrittenFilesAreRead : Type 0
 WrittenFilesAreRead = (g : Aig) (h : Header) (lines : List ClauseLine) → IsBuilt g → IsHeaderOf g h → All IsWritableLine lines →
     IsAnyClauseFile (length g.outputs) (any_file_text h lines) h lines
@@ -30,7 +30,7 @@ abbrev pub OneTextIsOneFile : Type 0
 OneTextIsOneFile = (outputs : ℕ) (bytes : List ℕ) (h k : Header) (lines others : List ClauseLine) → IsAnyClauseFile outputs bytes h lines →
     IsAnyClauseFile outputs bytes k others → (h ≡ k) × (lines ≡ others)
 
--- Within the lengths the header that is written passes over each graph that takes its blocks, and the lines are left after it.
+-- Within the lengths the header that is written passes over each graph that takes it, and the lines are left after it.
 abbrev pub WrittenHeadersPass : Type 0
 WrittenHeadersPass = (g : Aig) (lengths : Lengths) (h : Header) (lines : List ClauseLine) → IsBuilt g → IsHeaderOf g h →
     IsWithin lengths (any_file_text h lines) → PassesAnyHeader g lengths (any_file_text h lines) h (clause_lines_text lines)

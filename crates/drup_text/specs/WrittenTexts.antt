@@ -5,6 +5,7 @@ use Rattle.std.specs.declared.option.Option.{Option}
 use Rattle.std.specs.declared.option.Option.TheVariants.{None, Some}
 use Rattle.graph_core.specs.declared.literal.Lit.{Lit}
 use Rattle.graph_core.specs.Text.{newline, space}
+use Rattle.ripple_graft.specs.declared.beside.Beside.{Beside}
 use Rattle.ripple_graft.specs.declared.block.Block.{Block}
 use Rattle.ripple_graft.specs.declared.cut.Cut.{Cut}
 use Rattle.clause_core.specs.Clause.{Clause}
@@ -12,7 +13,7 @@ use Rattle.clause_core.specs.ClauseLines.{ClauseLine}
 use Rattle.clause_core.specs.declared.line.Line.TheVariants.{Add, Delete}
 use Rattle.drup_text.specs.declared.head.Header.{Header}
 use Rattle.drup_text.specs.ClauseTexts.{carry_text}
-use Rattle.drup_text.specs.Headers.{second_line, version_line}
+use Rattle.drup_text.specs.Headers.{second_line, third_line, version_line}
 
 -- ---- clauses
 
@@ -72,6 +73,23 @@ blocks_text (b ∷ blocks) = block_text b ++ blocks_text blocks
 abbrev pub count_text : List Block → List ℕ
 count_text blocks = codes "cuts " ++ decimal (length blocks) ++ newline ∷ blocks_text blocks
 
+-- ---- version 3
+
+abbrev pub gates_text : List (Lit × Lit) → List ℕ
+gates_text pairs = codes "gates " ++ decimal (length pairs) ++ newline ∷ pairs_text pairs
+
+-- outputs, each in a line
+abbrev pub output_lines_text : List (ℕ × Lit) → List ℕ
+output_lines_text [] = []
+output_lines_text (c ∷ outputs) = two_text c.0 c.1.0 ++ newline ∷ output_lines_text outputs
+
+abbrev pub outputs_text : List (ℕ × Lit) → List ℕ
+outputs_text outputs = codes "replace " ++ decimal (length outputs) ++ newline ∷ output_lines_text outputs
+
+-- after the first line
+abbrev pub beside_text : Beside → List ℕ
+beside_text b = gates_text b.gates ++ outputs_text b.outputs
+
 -- ---- the whole
 
 -- the cut of the first block, if there is one
@@ -79,9 +97,13 @@ abbrev pub first_cut : List Block → Option Cut
 first_cut [] = None
 first_cut (b ∷ blocks) = Some b.cut
 
--- a header of either version; in version 1 the first block's cut says all
+-- a header without what stands beside; in version 1 the first block's cut says all
+abbrev pub blocks_header_text : Header → List ℕ
+blocks_header_text h = if h.version == 2 then second_line ++ count_text h.blocks else version_line ++ cut_text (first_cut h.blocks)
+
+-- a header of any version
 abbrev pub header_text : Header → List ℕ
-header_text h = if h.version == 2 then second_line ++ count_text h.blocks else version_line ++ cut_text (first_cut h.blocks)
+header_text h = if h.version == 3 then third_line ++ beside_text h.beside else blocks_header_text h
 
 abbrev pub any_file_text : Header → List ClauseLine → List ℕ
 any_file_text h lines = header_text h ++ clause_lines_text lines

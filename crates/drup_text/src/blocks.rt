@@ -6,12 +6,12 @@ ghost use Rattle.mv_desk.specs.declared.slot.Slot.TheVariants.{Clauses};
 ghost use Rattle.mv_text.specs.CertificateFiles.{GoesOn, KeepsFile};
 ghost use Rattle.mv_text.specs.LineReading.{FitsPiece};
 ghost use Rattle.ripple_graft.specs.Blocks.{AreBlocks, IsBlock, graft_block};
-ghost use Rattle.drup_text.specs.ClauseTexts.{IsBlockLine, IsCountLine};
+ghost use Rattle.drup_text.specs.ClauseTexts.{IsBlockLine};
 ghost use Rattle.drup_text.specs.HeaderSteps.{ReadsHeaderPart, block_part, blocks_part, count_part, line_part};
-ghost use Rattle.drup_text.specs.LineTexts.{IsCountInRange, IsHeadOf};
+ghost use Rattle.drup_text.specs.LineTexts.{IsHeadOf};
 
-use crate::header::pairs;
-use crate::header_reading::{read_count, read_head};
+use crate::header::{next_number, pairs};
+use crate::header_reading::read_head;
 use graph_core::Graph;
 use mv_desk::{Desk, Slot};
 use mv_text::{CertificateFile, LineFail};
@@ -35,29 +35,8 @@ pub(crate) fn listed_blocks<D: Desk>(
     ensures keeps { KeepsFile file.old file.new result }
     ensures reads { Reads Clauses (D.seen desk.old) (D.seen desk.new) result }
 {
-    match next_count(alloc, file, desk, graph) {
+    match next_number(alloc, file, desk, b"cuts ", graph.outputs()) {
         Ok(count) => counted_blocks(alloc, file, desk, graph, count),
-        Err(fail) => Err(fail),
-    }
-}
-
-// The line with the number of blocks.
-fn next_count<D: Desk>(
-    alloc: Global,
-    file: &mut CertificateFile,
-    desk: &mut D,
-    graph: &Graph,
-) -> Result<u32, LineFail>
-    requires open { (D.seen desk.old).reads Clauses ≡ true }
-    requires goes_on { GoesOn file.old }
-    ensures count { ReadsHeaderPart (line_part IsCountLine (IsCountInRange (length graph.now.outputs)))
-        file.old file.new (D.seen desk.old) (D.seen desk.new) result }
-    ensures in_range { IfOk result (IsCountInRange (length graph.now.outputs)) }
-    ensures keeps { KeepsFile file.old file.new result }
-    ensures reads { Reads Clauses (D.seen desk.old) (D.seen desk.new) result }
-{
-    match file.needed_line(alloc, desk, Slot::Clauses) {
-        Ok(line) => file.settle(read_count(&line, graph.outputs())),
         Err(fail) => Err(fail),
     }
 }

@@ -8,12 +8,13 @@ ghost use Rattle.ripple_graft.specs.Blocks.{IsCut, block_of};
 ghost use Rattle.drup_text.specs.ClauseTexts.{IsClauseLine};
 ghost use Rattle.mv_text.specs.CertificateFiles.{AnswersAgain, GoesOn, HasFirstLine, IsStarted, KeepsFile, ReadsLine, left_of_file};
 ghost use Rattle.drup_text.specs.PassingHeaders.{HasClauseHeader, IsStartRefusal, header_line_count};
-ghost use Rattle.drup_text.specs.HeaderSteps.{ReadsHeaderPart, version_part};
+ghost use Rattle.drup_text.specs.HeaderSteps.{ReadsHeaderPart, blocks_version_part, version_part};
 ghost use Rattle.drup_text.specs.Headers.{IsHeaderOf};
 ghost use Rattle.ripple_graft.specs.HeaderBlocks.{AreHeaderBlocks};
 ghost use Rattle.drup_text.specs.LineTexts.{IsClauseLineInRange, IsClauseTextOf};
 ghost use Rattle.drup_text.specs.SameFiles.{IsSameStartRefusal, same_line};
 
+use crate::beside::beside;
 use crate::blocks::listed_blocks;
 use crate::fault::StartFail;
 use crate::head::Header;
@@ -23,7 +24,7 @@ use clause_core::Line;
 use graph_core::Graph;
 use mv_desk::{Desk, Limits, Slot};
 use mv_text::{CertificateFile, LineFail};
-use ripple_graft::{Block, BlockList, Cut};
+use ripple_graft::{Beside, Block, BlockList, Cut};
 use std::alloc::Global;
 use std::marker::Model;
 
@@ -47,14 +48,17 @@ impl Model for ClauseFile {
 }
 
 impl ClauseFile {
-    /// Reads the header, and answers it: its version, and the blocks that it names; the graph takes them.
+    /// Reads the header, and answers it: its version, and the blocks or what stands beside; the graph takes them.
     ///
     /// `Text` comes where a line of the header isn't there as it has to be. `Range` comes in version 1 on line 2 where
     /// there is no pair or the cut ends neither at the last column nor at the one before it; in version 2 on line 2
     /// where there are more blocks than columns, and on a block's line where there is no pair or a column isn't there
     /// or is replaced by a block before; and on a pair's line where the variable of a literal is neither 0, an input
-    /// nor a gate of the graph or of a block before. `TooLong` comes where the line is too long or holds the first
-    /// byte past the limit of the file.
+    /// nor a gate of the graph or of a block before. In version 3 it comes on line 2 where there are more gates than
+    /// `MOST_VARIABLES`, on a gate's line where a literal's variable is neither 0, an input nor a gate of the graph or
+    /// of a line before, on the line with the number of outputs where there are more of them than columns, and on an
+    /// output's line where the column isn't there or is replaced by a line before, or the literal's variable is none of
+    /// those. `TooLong` comes where the line is too long or holds the first byte past the limit of the file.
     pub fn start<D: Desk>(
         alloc: Global,
         desk: &mut D,
@@ -67,20 +71,15 @@ impl ClauseFile {
         ensures fits { IfOk result (λ r. IsHeaderOf graph.now r.1) }
         ensures refused { IfErr result (IsStartRefusal graph.now (lengths_of limits.now)
             ((D.seen desk.old).left Clauses) (D.seen desk.old).read_faults (D.seen desk.new).read_faults) }
-        ensures file { IfOk result (λ r. IsStarted r.1.version (header_line_count r.1.version r.1.blocks) limits.now r.0) }
+        ensures file { IfOk result (λ r. IsStarted r.1.version (header_line_count r.1) limits.now r.0) }
         ensures reads { Reads Clauses (D.seen desk.old) (D.seen desk.new) result }
     {
         let one = b"joined 1".as_slice();
         let two = b"joined 2".as_slice();
-        match CertificateFile::start_either(alloc, desk, Slot::Clauses, one, two, limits) {
-            Ok(mut file) => match any_blocks(alloc, &mut file, desk, graph) {
-                Ok(blocks) => {
-                    let header = Header {
-                        version: file.version(),
-                        blocks: BlockList::from_vec(blocks),
-                    };
-                    Ok((ClauseFile { alloc, file }, header))
-                }
+        let three = b"joined 3".as_slice();
+        match CertificateFile::start_any(alloc, desk, Slot::Clauses, one, two, three, limits) {
+            Ok(mut file) => match any_header(alloc, &mut file, desk, graph) {
+                Ok(header) => Ok((ClauseFile { alloc, file }, header)),
                 Err(why) => Err(StartFail {
                     line: file.line_no(),
                     why,
@@ -146,6 +145,52 @@ impl ClauseFile {
 }
 
 // The lines of a header after the first one, by the version.
+fn any_header<D: Desk>(
+    alloc: Global,
+    file: &mut CertificateFile,
+    desk: &mut D,
+    graph: &Graph,
+) -> Result<Header, LineFail>
+    requires open { (D.seen desk.old).reads Clauses ≡ true }
+    requires version { (file.old.version ≡ 1) ⊎ (file.old.version ≡ 2) ⊎ (file.old.version ≡ 3) }
+    requires goes_on { GoesOn file.old }
+    requires first { file.old.number ≡ 1 }
+    ensures header { ReadsHeaderPart (version_part graph.now file.old.version)
+        file.old file.new (D.seen desk.old) (D.seen desk.new) result }
+    ensures version { IfOk result (λ h. h.version ≡ file.old.version) }
+    ensures fits { IfOk result (IsHeaderOf graph.now) }
+    ensures keeps { KeepsFile file.old file.new result }
+    ensures reads { Reads Clauses (D.seen desk.old) (D.seen desk.new) result }
+{
+    let version = file.version();
+    if version == 3 {
+        return match beside(alloc, file, desk, graph) {
+            Ok(beside) => {
+                let blocks = BlockList::from_vec(Vec::new(alloc));
+                Ok(Header {
+                    version,
+                    blocks,
+                    beside,
+                })
+            }
+            Err(fail) => Err(fail),
+        };
+    }
+    match any_blocks(alloc, file, desk, graph) {
+        Ok(blocks) => {
+            let blocks = BlockList::from_vec(blocks);
+            let beside = Beside::nothing(alloc);
+            Ok(Header {
+                version,
+                blocks,
+                beside,
+            })
+        }
+        Err(fail) => Err(fail),
+    }
+}
+
+// The same of a version without what stands beside.
 fn any_blocks<D: Desk>(
     alloc: Global,
     file: &mut CertificateFile,
@@ -156,7 +201,7 @@ fn any_blocks<D: Desk>(
     requires version { (file.old.version ≡ 1) ⊎ (file.old.version ≡ 2) }
     requires goes_on { GoesOn file.old }
     requires first { file.old.number ≡ 1 }
-    ensures blocks { ReadsHeaderPart (version_part graph.now file.old.version)
+    ensures blocks { ReadsHeaderPart (blocks_version_part graph.now file.old.version)
         file.old file.new (D.seen desk.old) (D.seen desk.new) result }
     ensures fits { IfOk result (λ blocks. AreHeaderBlocks graph.now file.old.version blocks.items) }
     ensures keeps { KeepsFile file.old file.new result }

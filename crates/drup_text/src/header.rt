@@ -1,15 +1,17 @@
 // The lines of a header, and those of a cut of version 1.
-ghost use Rattle.std.specs.Prelude.{◌≡◌, ◌++◌, ◌∷◌, [], true, All, IfOk, IfErr, OnOk, length};
+ghost use Rattle.std.specs.Prelude.{◌≡◌, ◌≢◌, ◌++◌, ◌∷◌, [], true, All, IfOk, IfErr, OnOk, length};
+ghost use Rattle.std.specs.List.{AllByRecursion};
+ghost use Rattle.graph_core.specs.Text.{newline};
 ghost use Rattle.mv_desk.specs.Calls.{Reads};
 ghost use Rattle.mv_desk.specs.declared.slot.Slot.TheVariants.{Clauses};
 ghost use Rattle.mv_text.specs.CertificateFiles.{GoesOn, KeepsFile};
 ghost use Rattle.mv_text.specs.LineReading.{FitsPiece};
 ghost use Rattle.ripple_graft.specs.HeaderBlocks.{IsCutOf};
-ghost use Rattle.drup_text.specs.ClauseTexts.{IsCutLine, IsPairLine};
+ghost use Rattle.drup_text.specs.ClauseTexts.{IsCutLine, IsNumberLine, IsPairLine};
 ghost use Rattle.drup_text.specs.HeaderSteps.{ReadsHeaderPart, cut_part, line_part, pairs_part};
-ghost use Rattle.drup_text.specs.LineTexts.{IsPairOf, IsSizeInRange};
+ghost use Rattle.drup_text.specs.LineTexts.{IsCountInRange, IsPairOf, IsSizeInRange};
 
-use crate::header_reading::{read_pair, read_size};
+use crate::header_reading::{read_number, read_pair, read_size};
 use graph_core::{Graph, Lit};
 use mv_desk::{Desk, Slot};
 use mv_text::{CertificateFile, LineFail};
@@ -67,6 +69,29 @@ fn next_size<D: Desk>(
     }
 }
 
+// A line with a number after a word.
+pub(crate) fn next_number<D: Desk>(
+    alloc: Global,
+    file: &mut CertificateFile,
+    desk: &mut D,
+    word: &[u8],
+    most: u32,
+) -> Result<u32, LineFail>
+    requires open { (D.seen desk.old).reads Clauses ≡ true }
+    requires goes_on { GoesOn file.old }
+    requires plain { AllByRecursion (λ b. b ≢ newline) word.now }
+    ensures number { ReadsHeaderPart (line_part (IsNumberLine word.now) (IsCountInRange most))
+        file.old file.new (D.seen desk.old) (D.seen desk.new) result }
+    ensures in_range { IfOk result (IsCountInRange most) }
+    ensures keeps { KeepsFile file.old file.new result }
+    ensures reads { Reads Clauses (D.seen desk.old) (D.seen desk.new) result }
+{
+    match file.needed_line(alloc, desk, Slot::Clauses) {
+        Ok(line) => file.settle(read_number(&line, word, most)),
+        Err(fail) => Err(fail),
+    }
+}
+
 // So many pairs.
 pub(crate) fn pairs<D: Desk>(
     alloc: Global,
@@ -99,8 +124,8 @@ pub(crate) fn pairs<D: Desk>(
     Ok(pairs)
 }
 
-// The line of a pair.
-fn next_pair<D: Desk>(
+// The line of a pair, or of a gate.
+pub(crate) fn next_pair<D: Desk>(
     alloc: Global,
     file: &mut CertificateFile,
     desk: &mut D,

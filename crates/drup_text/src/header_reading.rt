@@ -1,11 +1,12 @@
 // The lines of a header, as they are read.
 ghost use Rattle.std.specs.Prelude.{◌≡◌, ◌↔◌, None, IsTrue, IfOk, IfErr, length};
 ghost use Rattle.mv_text.specs.Steps.{IsMisfit, Takes};
-ghost use Rattle.drup_text.specs.ClauseReading.{block_line_at, carry_at, count_line_at, cut_line_at, pair_line_at, two_at};
-ghost use Rattle.drup_text.specs.ClauseTexts.{IsBlockLine, IsCountLine, IsCutLine, IsPairLine};
+ghost use Rattle.drup_text.specs.ClauseReading.{block_line_at, carry_at, cut_line_at, number_line_at, output_line_at, pair_line_at, two_at};
+ghost use Rattle.drup_text.specs.ClauseTexts.{IsBlockLine, IsCutLine, IsNumberLine, IsOutputLine, IsPairLine};
 ghost use Rattle.mv_text.specs.CertificateFiles.{SaysNothing};
-ghost use Rattle.drup_text.specs.LineTexts.{IsBlockTextOf, IsCountInRange, IsCountTextOf, IsCutSize, IsCutTextOf, IsHeadOf, IsPairOf, IsPairTextOf, IsSizeInRange};
-ghost use Rattle.drup_text.specs.Steps.{TakesCarry, TakesCountLine, TakesHead, TakesPair, TakesSize, TakesTwo};
+ghost use Rattle.drup_text.specs.LineTexts.{IsBlockTextOf, IsCountInRange, IsCutSize, IsCutTextOf, IsHeadOf, IsNumberTextOf, IsOutputTextOf, IsPairOf, IsPairTextOf, IsSizeInRange};
+ghost use Rattle.drup_text.specs.Steps.{TakesCarry, TakesHead, TakesNumberLine, TakesOutput, TakesPair, TakesSize, TakesTwo};
+ghost use Rattle.ripple_graft.specs.Beside.{IsOutput};
 
 use crate::numbers::{number, spaced_number};
 use graph_core::Lit;
@@ -24,7 +25,8 @@ pub(crate) fn read_size(bytes: &[u8], outputs: u32) -> Result<Option<(u32, u32)>
     scanner.all(size)
 }
 
-// The two literals of a position. `Range` comes exactly where the graph with the blocks so far doesn't have both.
+// The two literals of a position or a gate. `Range` comes exactly where the graph with what was added so far doesn't
+// have both.
 pub(crate) fn read_pair(bytes: &[u8], extended: &Extended<'_>) -> Result<(Lit, Lit), LineFail>
     ensures ok { IfOk result (IsPairTextOf extended.now bytes.now) }
     ensures err { IfErr result (SaysNothing IsPairLine (IsPairOf extended.now) bytes.now) }
@@ -34,14 +36,26 @@ pub(crate) fn read_pair(bytes: &[u8], extended: &Extended<'_>) -> Result<(Lit, L
     scanner.all(pair)
 }
 
-// The number of blocks. `Range` comes exactly where there are more of them than columns.
-pub(crate) fn read_count(bytes: &[u8], outputs: u32) -> Result<u32, LineFail>
-    ensures ok { IfOk result (IsCountTextOf outputs bytes.now) }
-    ensures err { IfErr result (SaysNothing IsCountLine (IsCountInRange outputs) bytes.now) }
+// The number after a word. `Range` comes exactly where it is above the greatest one.
+pub(crate) fn read_number(bytes: &[u8], word: &[u8], most: u32) -> Result<u32, LineFail>
+    ensures ok { IfOk result (IsNumberTextOf word.now most bytes.now) }
+    ensures err { IfErr result
+        (SaysNothing (IsNumberLine word.now) (IsCountInRange most) bytes.now) }
 {
     let mut scanner = Scanner::new(bytes);
-    let count = count(&mut scanner, outputs)?;
-    scanner.all(count)
+    let number = number_line(&mut scanner, word, most)?;
+    scanner.all(number)
+}
+
+// A column, and the literal that takes the place of its output. `Range` comes exactly where the column isn't there or
+// is replaced already, or the graph with its gates so far doesn't have the literal.
+pub(crate) fn read_output(bytes: &[u8], extended: &Extended<'_>) -> Result<(u32, Lit), LineFail>
+    ensures ok { IfOk result (IsOutputTextOf extended.now bytes.now) }
+    ensures err { IfErr result (SaysNothing IsOutputLine (IsOutput extended.now) bytes.now) }
+{
+    let mut scanner = Scanner::new(bytes);
+    let output = output(&mut scanner, extended)?;
+    scanner.all(output)
 }
 
 // The first column of a block, the number of its pairs, and whether its last carry replaces a column too. `Range`
@@ -101,12 +115,38 @@ fn has_pair(extended: &Extended<'_>, x: Lit, y: Lit) -> bool
     extended.is_known(x) && extended.is_known(y)
 }
 
-fn count(scanner: &mut Scanner<'_>, outputs: u32) -> Result<Option<u32>, LineFail>
-    ensures ok { IfOk result (TakesCountLine outputs scanner.old scanner.new) }
-    ensures err { IfErr result (IsMisfit (count_line_at scanner.old ≡ None)) }
+fn number_line(scanner: &mut Scanner<'_>, word: &[u8], most: u32) -> Result<Option<u32>, LineFail>
+    ensures ok { IfOk result (TakesNumberLine word.now most scanner.old scanner.new) }
+    ensures err { IfErr result (IsMisfit (number_line_at word.now scanner.old ≡ None)) }
 {
-    scanner.text(b"cuts ")?;
-    number(scanner, outputs)
+    scanner.text(word)?;
+    number(scanner, most)
+}
+
+fn output(
+    scanner: &mut Scanner<'_>,
+    extended: &Extended<'_>,
+) -> Result<Option<(u32, Lit)>, LineFail>
+    ensures ok { IfOk result (TakesOutput extended.now scanner.old scanner.new) }
+    ensures err { IfErr result (IsMisfit (output_line_at scanner.old ≡ None)) }
+{
+    let columns = extended.graph().outputs();
+    let greatest = extended.max();
+    let most = columns.max(2 * greatest + 1);
+    let Some((column, new)) = two(scanner, most)? else {
+        return Ok(None);
+    };
+    if has_output(extended, column, Lit(new)) {
+        Ok(Some((column, Lit(new))))
+    } else {
+        Ok(None)
+    }
+}
+
+fn has_output(extended: &Extended<'_>, column: u32, new: Lit) -> bool
+    ensures { IsTrue result ↔ IsOutput extended.now (column, new) }
+{
+    column < extended.graph().outputs() && !extended.replaced(column) && extended.is_known(new)
 }
 
 fn head(

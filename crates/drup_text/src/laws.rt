@@ -7,7 +7,7 @@ pub fn written_lines_are_read()
     ensures { WrittenClausesAreRead }
 {}
 
-/// What `write_clauses` writes for a header whose blocks the graph takes is the text of the same header and lines.
+/// What `write_clauses` writes for a header that the graph takes is the text of the same header and lines.
 pub fn written_files_are_read()
     ensures { WrittenFilesAreRead }
 {}
@@ -22,7 +22,7 @@ pub fn one_text_is_one_file()
     ensures { OneTextIsOneFile }
 {}
 
-/// Within the lengths a header that is written passes over each graph that takes its blocks.
+/// Within the lengths a header that is written passes over each graph that takes it.
 pub fn written_headers_pass()
     ensures { WrittenHeadersPass }
 {}

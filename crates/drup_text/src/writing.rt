@@ -6,16 +6,16 @@ ghost use Rattle.mv_desk.specs.Calls.{Writes};
 ghost use Rattle.mv_desk.specs.declared.slot.Slot.TheVariants.{Clauses};
 ghost use Rattle.mv_text.specs.Puts.{Puts};
 ghost use Rattle.drup_text.specs.ClauseTexts.{carry_text};
-ghost use Rattle.drup_text.specs.Headers.{second_line, version_line};
+ghost use Rattle.drup_text.specs.Headers.{second_line, third_line, version_line};
 ghost use Rattle.drup_text.specs.SameFiles.{same_text};
-ghost use Rattle.drup_text.specs.WrittenTexts.{any_file_text, block_head_text, blocks_text, clause_line_text, clause_lines_text, clause_text, count_text, cut_text, first_cut, header_text, literal_sign, literals_text, pairs_text, two_text};
+ghost use Rattle.drup_text.specs.WrittenTexts.{any_file_text, beside_text, block_head_text, blocks_header_text, blocks_text, clause_line_text, clause_lines_text, clause_text, count_text, cut_text, first_cut, header_text, literal_sign, literals_text, output_lines_text, outputs_text, pairs_text, two_text};
 
 use crate::head::Header;
 use clause_core::{Clause, Line};
 use graph_core::Lit;
 use mv_desk::{Desk, Slot, WriteFault};
 use mv_text::Output;
-use ripple_graft::{Block, Cut};
+use ripple_graft::{Beside, Block, Cut};
 
 /// Appends a certificate to the slot `Clauses`: a header, and lines. In version 1 there is one block at most, and
 /// only its cut is written. After an error a front part was written.
@@ -54,11 +54,66 @@ fn put_header<D: Desk>(output: &mut Output, desk: &mut D, header: &Header)
     ensures puts { Puts (header_text header.now)
         output.old output.new (D.seen desk.old) (D.seen desk.new) }
 {
+    if header.version == 3 {
+        put_beside(output, desk, &header.beside);
+    } else {
+        put_any_blocks(output, desk, header);
+    }
+}
+
+// The lines of a header without what stands beside.
+fn put_any_blocks<D: Desk>(output: &mut Output, desk: &mut D, header: &Header)
+    requires { (D.seen desk.old).writes output.old.slot ≡ true }
+    ensures open { (D.seen desk.new).writes output.new.slot ≡ true }
+    ensures puts { Puts (blocks_header_text header.now)
+        output.old output.new (D.seen desk.old) (D.seen desk.new) }
+{
     let blocks = header.blocks.as_slice();
     if header.version == 2 {
         put_count(output, desk, blocks);
     } else {
         put_first(output, desk, blocks);
+    }
+}
+
+// The header of version 3: gates, and outputs.
+fn put_beside<D: Desk>(output: &mut Output, desk: &mut D, beside: &Beside)
+    requires { (D.seen desk.old).writes output.old.slot ≡ true }
+    ensures open { (D.seen desk.new).writes output.new.slot ≡ true }
+    ensures puts { Puts (third_line ++ beside_text beside.now)
+        output.old output.new (D.seen desk.old) (D.seen desk.new) }
+{
+    let gates = beside.gates.as_slice();
+    let outputs = beside.outputs.as_slice();
+    output.put(desk, b"joined 3\ngates ");
+    output.put_number(desk, gates.len() as u128);
+    output.put(desk, b"\n");
+    put_pairs(output, desk, gates);
+    put_outputs(output, desk, outputs);
+}
+
+// The number of outputs, and each in a line.
+fn put_outputs<D: Desk>(output: &mut Output, desk: &mut D, outputs: &[(u32, Lit)])
+    requires { (D.seen desk.old).writes output.old.slot ≡ true }
+    ensures open { (D.seen desk.new).writes output.new.slot ≡ true }
+    ensures puts { Puts (outputs_text outputs.now)
+        output.old output.new (D.seen desk.old) (D.seen desk.new) }
+{
+    output.put(desk, b"replace ");
+    output.put_number(desk, outputs.len() as u128);
+    output.put(desk, b"\n");
+    put_output_lines(output, desk, outputs);
+}
+
+// Outputs, each in a line.
+fn put_output_lines<D: Desk>(output: &mut Output, desk: &mut D, outputs: &[(u32, Lit)])
+    requires { (D.seen desk.old).writes output.old.slot ≡ true }
+    ensures open { (D.seen desk.new).writes output.new.slot ≡ true }
+    ensures puts { Puts (output_lines_text outputs.now)
+        output.old output.new (D.seen desk.old) (D.seen desk.new) }
+{
+    for item in outputs {
+        put_two(output, desk, u128::from(item.0), u128::from(item.1.0));
     }
 }
 

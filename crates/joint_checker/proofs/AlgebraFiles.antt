@@ -27,11 +27,12 @@ use Rattle.joint_checker.specs.Outcome.{cause_of}
 use Rattle.clause_judge.proofs.Told.{rose_before, told_more, told_of}
 
 none_first : (version : ℕ) → HasNoNewline (first_line version)
-none_first version = go (version == 2)
+none_first version = go (version == 1) (version == 2)
   where
-    go : (t : Bool) → HasNoNewline (cond t (codes "pac 2") (codes "pac 1"))
-    go true = none_in (codes "pac 2") refl
-    go false = none_in (codes "pac 1") refl
+    go : (one two : Bool) → HasNoNewline (cond one (codes "pac 1") (cond two (codes "pac 2") (codes "pac 3")))
+    go true two = none_in (codes "pac 1") refl
+    go false true = none_in (codes "pac 2") refl
+    go false false = none_in (codes "pac 3") refl
 
 module _ (lengths : Lengths) (given : Premises) (sides : Sides) where
   -- the first line isn't the header

@@ -14,22 +14,25 @@ use Rattle.graph_core.specs.Text.Readers.{Reader, ended_at}
 use Rattle.graph_core.proofs.OfTexts.CallerLemmas.{Ended, IsReaderOf, Anything, behind_map, behind_either, behind_some, decided_long, StepsOn, walk, one_line, line_or_none, meet, unless_exact, last_exact, exact_as, front_exact}
 use Rattle.graph_core.specs.Text.JudgedLines.{BeginsWith, Behind, IsTooLong, Lengths, Unless, Never, IsExact}
 use Rattle.graph_core.proofs.OfGraphs.CallerLemmas.{Decided, decided_all, decided_and, decided_or, decided_eq, decided_le, decided_lt}
+use Rattle.ripple_graft.specs.declared.beside.Beside.{Beside}
+use Rattle.ripple_graft.specs.Beside.{AreGates, AreOutputs, IsBeside, IsOutput, nothing, with_beside, with_gates}
 use Rattle.ripple_graft.specs.Blocks.{AreBlocks, block, graft_all, graft_block, reach, with_blocks}
-use Rattle.ripple_graft.specs.Extension.{IsKnown, whole}
+use Rattle.ripple_graft.specs.Extension.{IsKnown, IsReplaced, whole}
 use Rattle.ripple_graft.specs.HeaderBlocks.{IsCutOf, cut_blocks}
 use Rattle.ripple_graft.specs.declared.block.Block.{Block}
 use Rattle.ripple_graft.specs.declared.cut.Cut.{Cut}
-use Rattle.clause_core.proofs.Decided.{decided_contains}
+use Rattle.clause_core.proofs.Decided.{decided_any, decided_contains, decided_not}
 use Rattle.drup_text.specs.declared.head.Header.{Header}
 use Rattle.drup_text.specs.ClauseTexts.{IsBlockLine, IsCountLine, IsCutLine, IsPairLine}
-use Rattle.drup_text.specs.ClauseReading.{block_line_at, count_line_at, cut_line_at, pair_line_at}
-use Rattle.drup_text.specs.PassingHeaders.{PassBlocks, PassesAnyHeader, PassesCount, PassesCut}
-use Rattle.drup_text.specs.HeaderRefusal.{HasNoVersion, IsFirstHeaderRefusal, IsPairStep, IsRefusedBehindCut, IsRefusedBehindPairs, IsRefusedBlocks, IsRefusedCount, IsRefusedCut, IsRefusedPair, IsRefusedPairs, Later, LineCause, Range, Text, TooLong, block_at, cut_at}
-use Rattle.drup_text.specs.Headers.{IsHeaderOf, extended_with, head_of, second_line, version_line}
+use Rattle.drup_text.specs.ClauseReading.{block_line_at, count_line_at, cut_line_at, gates_line_at, output_line_at, pair_line_at, replace_line_at}
+use Rattle.drup_text.specs.Listings.{Listing, gate_listing, output_listing}
+use Rattle.drup_text.specs.PassingHeaders.{PassBlocks, PassListed, PassesAnyHeader, PassesCount, PassesCut, PassesListing, PassesParts}
+use Rattle.drup_text.specs.HeaderRefusal.{HasNoVersion, IsFirstHeaderRefusal, IsPairStep, IsRefusedBehindCut, IsRefusedBehindPairs, IsRefusedBeside, IsRefusedBlocks, IsRefusedCount, IsRefusedCut, IsRefusedListedLines, IsRefusedListing, IsRefusedPair, IsRefusedPairs, Later, LineCause, Range, Text, TooLong, block_at, cut_at}
+use Rattle.drup_text.specs.Headers.{IsHeaderOf, extended_with, head_of, second_line, third_line, version_line}
 use Rattle.drup_text.specs.LineTexts.{IsCountInRange, IsCutSize, IsHeadOf, IsPairOf}
 use Rattle.drup_text.proofs.BlockSteps.{block_fits}
-use Rattle.drup_text.proofs.CallerLemmas.{block_item, count_item, cut_item, pair_item}
-use Rattle.drup_text.proofs.OneFile.{other_version}
+use Rattle.drup_text.proofs.CallerLemmas.{block_item, count_item, cut_item, first_or_third, gates_item, other_version, output_item, pair_item, replace_item, second_or_third}
+use Rattle.drup_text.proofs.ListedSteps.{with_all}
 
 abbrev NoStep : {Line : Type 0} → ℕ → Line → ℕ → Type 0
 NoStep s x t = ⊥
@@ -58,28 +61,27 @@ line_case {C} {Line} {Good} {Refused} IsText item r cause bytes exact = ⊎_elim
       one = λ a b q s. ⊎_elim (λ t. ⊎_elim (λ u. t.1 ∙ sym u.1) (λ u. absurd (n u.0 u.1 u.2)) s) (λ t. absurd (n t.0 t.1 t.2)) q;
     }
 
--- one text or another at the front, or a cause
-fronts_exact : {C : Type 0} {Good Better : List ℕ → Type 0} {Refused Worse : List ℕ → C → Type 0} (one two : List ℕ) → ((x y : List ℕ) → one ++ x ≡ two ++ y → ⊥) → (cause : C) (bytes : List ℕ) →
-    ((body : List ℕ) → IsExact (Good body) (Refused body)) → ((body : List ℕ) → IsExact (Better body) (Worse body)) →
-    IsExact (((body : List ℕ) × (bytes ≡ one ++ body) × Good body) ⊎ ((body : List ℕ) × (bytes ≡ two ++ body) × Better body))
-    (λ c. ((((body : List ℕ) → bytes ≢ one ++ body) × ((body : List ℕ) → bytes ≢ two ++ body)) × (c ≡ cause)) ⊎
-    (((body : List ℕ) × (bytes ≡ one ++ body) × Refused body c) ⊎ ((body : List ℕ) × (bytes ≡ two ++ body) × Worse body c)))
-fronts_exact one two apart cause bytes first second =
+-- a text at the front, or what else there may be, or a cause
+front_before : {C : Type 0} {Good : List ℕ → Type 0} {Refused : List ℕ → C → Type 0} {Rest None : Type 0} {Worse : C → Type 0} (one : List ℕ) (cause : C) (bytes : List ℕ) →
+    ((x : List ℕ) → bytes ≡ one ++ x → Rest → ⊥) → ((x : List ℕ) → bytes ≡ one ++ x → (c : C) → Worse c → ⊥) →
+    ((body : List ℕ) → IsExact (Good body) (Refused body)) → IsExact Rest (λ c. (None × (c ≡ cause)) ⊎ Worse c) →
+    IsExact (((body : List ℕ) × (bytes ≡ one ++ body) × Good body) ⊎ Rest)
+    (λ c. ((((body : List ℕ) → bytes ≢ one ++ body) × None) × (c ≡ cause)) ⊎ (((body : List ℕ) × (bytes ≡ one ++ body) × Refused body c) ⊎ Worse c))
+front_before one cause bytes apart away first s =
     let f = front_exact one cause bytes first in
-    let s = front_exact two cause bytes second in
     record {
       decided = ⊎_elim (λ g. inl (inl g))
           (λ r. ⊎_elim (λ none. ⊎_elim (λ g. inl (inr g)) (λ q. ⊎_elim (λ neither. inr (cause, inl ((none.0, neither.0), refl))) (λ w. inr (q.0, inr (inr w))) q.1) s.decided) (λ w. inr (r.0, inr (inl w))) r.1) f.decided;
-      not_both = λ c g r. ⊎_elim (λ none. ⊎_elim (λ x. none.0.0 x.0 x.1) (λ x. none.0.1 x.0 x.1) g)
+      not_both = λ c g r. ⊎_elim (λ none. ⊎_elim (λ x. none.0.0 x.0 x.1) (λ x. s.not_both c x (inl (none.0.1, none.1))) g)
           (λ q. ⊎_elim
-          (λ x. ⊎_elim (λ w. f.not_both c x (inr w)) (λ w. apart x.0 w.0 (sym x.1 ∙ w.1)) q)
-          (λ x. ⊎_elim (λ w. apart w.0 x.0 (sym w.1 ∙ x.1)) (λ w. s.not_both c x (inr w)) q) g) r;
+          (λ x. ⊎_elim (λ w. f.not_both c x (inr w)) (λ w. away x.0 x.1 c w) q)
+          (λ x. ⊎_elim (λ w. apart w.0 w.1 x) (λ w. s.not_both c x (inr w)) q) g) r;
       one = λ a b r q. ⊎_elim
-          (λ none. ⊎_elim (λ other. none.1 ∙ sym other.1) (λ w. ⊎_elim (λ x. absurd (none.0.0 x.0 x.1)) (λ x. absurd (none.0.1 x.0 x.1)) w) q)
-          (λ v. ⊎_elim (λ none. ⊎_elim (λ x. absurd (none.0.0 x.0 x.1)) (λ x. absurd (none.0.1 x.0 x.1)) v)
+          (λ none. ⊎_elim (λ other. none.1 ∙ sym other.1) (λ w. ⊎_elim (λ x. absurd (none.0.0 x.0 x.1)) (λ x. s.one a b (inl (none.0.1, none.1)) (inr x)) w) q)
+          (λ v. ⊎_elim (λ none. ⊎_elim (λ x. absurd (none.0.0 x.0 x.1)) (λ x. s.one a b (inr x) (inl (none.0.1, none.1))) v)
           (λ w. ⊎_elim
-          (λ x. ⊎_elim (λ y. f.one a b (inr x) (inr y)) (λ y. absurd (apart x.0 y.0 (sym x.1 ∙ y.1))) w)
-          (λ x. ⊎_elim (λ y. absurd (apart y.0 x.0 (sym y.1 ∙ x.1))) (λ y. s.one a b (inr x) (inr y)) w) v) q) r;
+          (λ x. ⊎_elim (λ y. f.one a b (inr x) (inr y)) (λ y. absurd (away x.0 x.1 b y)) w)
+          (λ x. ⊎_elim (λ y. absurd (away y.0 y.1 a x)) (λ y. s.one a b (inr x) (inr y)) w) v) q) r;
     }
 
 decided_known : (e : Extended) (l : Lit) → Decided (IsKnown e l)
@@ -96,6 +98,28 @@ decided_head e h =
     ⊎_elim (λ k. inl (record { some = k.0; within = k.1.0; apart = k.1.1 })) (λ n. inr (λ k. n (k.some, (k.within, k.apart))))
     (decided_and (decided_lt 0 h.1) (decided_and (decided_le (h.0 + reach h.1 h.2) (length e.graph.outputs))
     (decided_all _ (λ (c : Column). decided_or (decided_lt c.number h.0) (decided_le (h.0 + reach h.1 h.2) c.number)) e.replaced)))
+
+decided_replaced : (e : Extended) (k : ℕ) → Decided (IsReplaced e k)
+decided_replaced e k = decided_any (λ (c : Column). c.number ≡ k) (λ c. decided_eq c.number k) e.replaced
+
+decided_output : (e : Extended) (c : ℕ × Lit) → Decided (IsOutput e c)
+decided_output e c =
+    ⊎_elim (λ k. inl (record { within = k.0; once = k.1.0; known = k.1.1 })) (λ n. inr (λ k. n (k.within, (k.once, k.known))))
+    (decided_and (decided_lt c.0 (length e.graph.outputs)) (decided_and (decided_not (decided_replaced e c.0)) (decided_known e c.1)))
+
+-- how the lines of a listing are read
+record ReadsListing {X : Type 0} (l : Listing X) : Type 1 where
+  number_at : Reader ℕ
+  line_at : Reader X
+  number_item : IsReaderOf number_at (Ended l.number_text (newline ∷ [])) Anything
+  line_item : IsReaderOf line_at (Ended l.text (newline ∷ [])) Anything
+  decided : (e : Extended) (x : X) → Decided (l.in_range e x)
+
+reads_gates : ReadsListing gate_listing
+reads_gates = record { number_at = ended_at gates_line_at (newline ∷ []); line_at = ended_at pair_line_at (newline ∷ []); number_item = gates_item; line_item = pair_item; decided = decided_pair }
+
+reads_outputs : ReadsListing output_listing
+reads_outputs = record { number_at = ended_at replace_line_at (newline ∷ []); line_at = ended_at output_line_at (newline ∷ []); number_item = replace_item; line_item = output_item; decided = decided_output }
 
 -- ---- what passes, and what is wanted after it
 
@@ -127,9 +151,22 @@ GoodNumber IsLong Good g n bytes = IsCountInRange (length g.outputs) n × GoodBl
 abbrev GoodCount : (List ℕ → Type 0) → (Extended → List ℕ → Type 0) → Aig → List ℕ → Type 0
 GoodCount IsLong Good g bytes = ¬ (IsLong bytes) × ((n : ℕ) × (rest : List ℕ) × BeginsWith IsCountLine bytes n rest × GoodNumber IsLong Good g n rest)
 
+abbrev GoodListed : {X : Type 0} → Listing X → (List ℕ → Type 0) → (Extended → List ℕ → Type 0) → ℕ → Extended → List ℕ → Type 0
+GoodListed l IsLong Good zero e bytes = Good e bytes
+GoodListed {X} l IsLong Good (suc n) e bytes =
+    ¬ (IsLong bytes) × ((x : X) × (rest : List ℕ) × BeginsWith l.text bytes x rest × (l.in_range e x × GoodListed l IsLong Good n (l.more e x) rest))
+
+abbrev GoodListing : {X : Type 0} → Listing X → (List ℕ → Type 0) → (Extended → List ℕ → Type 0) → Extended → List ℕ → Type 0
+GoodListing l IsLong Good e bytes =
+    ¬ (IsLong bytes) × ((n : ℕ) × (rest : List ℕ) × BeginsWith l.number_text bytes n rest × (IsCountInRange (l.most e) n × GoodListed l IsLong Good n e rest))
+
+abbrev GoodBeside : (List ℕ → Type 0) → (Extended → List ℕ → Type 0) → Aig → List ℕ → Type 0
+GoodBeside IsLong Good g = GoodListing gate_listing IsLong (GoodListing output_listing IsLong Good) (without_cut g)
+
 abbrev GoodFirst : (List ℕ → Type 0) → (Extended → List ℕ → Type 0) → Aig → List ℕ → Type 0
 GoodFirst IsLong Good g bytes = ((body : List ℕ) × (bytes ≡ version_line ++ body) × GoodCut IsLong Good g body) ⊎
-    ((body : List ℕ) × (bytes ≡ second_line ++ body) × GoodCount IsLong Good g body)
+    (((body : List ℕ) × (bytes ≡ second_line ++ body) × GoodCount IsLong Good g body) ⊎
+    ((body : List ℕ) × (bytes ≡ third_line ++ body) × GoodBeside IsLong Good g body))
 
 module _ (IsLong : List ℕ → Type 0) (d : (bytes : List ℕ) → Decided (IsLong bytes)) where
   -- ---- pairs
@@ -203,6 +240,32 @@ module _ (IsLong : List ℕ → Type 0) (d : (bytes : List ℕ) → Decided (IsL
           one_cause k.0 p q m.1.1 m.1.2 (subst (λ z. Refused z p m.1.1 m.1.2) m.0 (subst (λ z. Refused r.0 p z m.1.2) m.1.3 m.1.4)) m.1.5;
     }
 
+  -- ---- version 3
+
+  module _ {X : Type 0} (l : Listing X) (reads : ReadsListing l) (later : Later) (Good : Extended → List ℕ → Type 0) (exact : (e : Extended) (number : ℕ) (bytes : List ℕ) → IsExact (Good e bytes) (later e number bytes)) where
+    listed_exact : (n : ℕ) (e : Extended) (number : ℕ) (bytes : List ℕ) → IsExact (GoodListed l IsLong Good n e bytes) (IsRefusedListedLines l later IsLong n e number bytes)
+    listed_exact zero e number bytes = exact e number bytes
+    listed_exact (suc n) e number bytes =
+        unless_exact (number, TooLong) (⊎_elim inr inl (d bytes)) (λ h m. m h)
+        (λ h. line_case {Good = λ x rest. l.in_range e x × GoodListed l IsLong Good n (l.more e x) rest}
+        {Refused = λ x rest. Unless (l.in_range e x) (¬ (l.in_range e x)) (number, Range) (IsRefusedListedLines l later IsLong n (l.more e x) (number + 1) rest)}
+        l.text reads.line_at reads.line_item (number, Text) bytes
+        (λ x rest. unless_exact (number, Range) (reads.decided e x) (λ m i. m i) (λ i. listed_exact n (l.more e x) (number + 1) rest)))
+
+    listing_exact : (e : Extended) (number : ℕ) (bytes : List ℕ) → IsExact (GoodListing l IsLong Good e bytes) (IsRefusedListing l later IsLong e number bytes)
+    listing_exact e number bytes =
+        unless_exact (number, TooLong) (⊎_elim inr inl (d bytes)) (λ h m. m h)
+        (λ h. line_case {Good = λ n rest. IsCountInRange (l.most e) n × GoodListed l IsLong Good n e rest}
+        {Refused = λ n rest. Unless (IsCountInRange (l.most e) n) (¬ (IsCountInRange (l.most e) n)) (number, Range) (IsRefusedListedLines l later IsLong n e (number + 1) rest)}
+        l.number_text reads.number_at reads.number_item (number, Text) bytes
+        (λ n rest. unless_exact (number, Range) (decided_le n (l.most e)) (λ m i. m i) (λ i. listed_exact n e (number + 1) rest)))
+
+  beside_exact : (later : Later) (Good : Extended → List ℕ → Type 0) → ((e : Extended) (number : ℕ) (bytes : List ℕ) → IsExact (Good e bytes) (later e number bytes)) → (g : Aig) (bytes : List ℕ) →
+      IsExact (GoodBeside IsLong Good g bytes) (IsRefusedBeside later g IsLong bytes)
+  beside_exact later Good exact g bytes =
+      listing_exact gate_listing reads_gates (IsRefusedListing output_listing later IsLong) (GoodListing output_listing IsLong Good)
+      (listing_exact output_listing reads_outputs later Good exact) (without_cut g) 2 bytes
+
   module _ (later : Later) (Good : Extended → List ℕ → Type 0) (exact : (e : Extended) (number : ℕ) (bytes : List ℕ) → IsExact (Good e bytes) (later e number bytes)) where
     -- ---- version 1
 
@@ -236,10 +299,36 @@ module _ (IsLong : List ℕ → Type 0) (d : (bytes : List ℕ) → Decided (IsL
         IsCountLine (ended_at count_line_at (newline ∷ [])) count_item (2, Text) bytes
         (λ n rest. unless_exact (2, Range) (decided_le n (length g.outputs)) (λ m i. m i) (λ i. blocks_exact n (without_cut g) 3 rest)))
 
+    -- ---- all of them
+
+    abbrev Second : Aig → List ℕ → Type 0
+    Second g bytes = (body : List ℕ) × (bytes ≡ second_line ++ body) × GoodCount IsLong Good g body
+
+    abbrev Third : Aig → List ℕ → Type 0
+    Third g bytes = (body : List ℕ) × (bytes ≡ third_line ++ body) × GoodBeside IsLong Good g body
+
+    abbrev SecondRefused : Aig → List ℕ → ℕ × LineCause → Type 0
+    SecondRefused g bytes p = (body : List ℕ) × (bytes ≡ second_line ++ body) × IsRefusedCount later g IsLong body p
+
+    abbrev ThirdRefused : Aig → List ℕ → ℕ × LineCause → Type 0
+    ThirdRefused g bytes p = (body : List ℕ) × (bytes ≡ third_line ++ body) × IsRefusedBeside later g IsLong body p
+
     first_exact : (g : Aig) (bytes : List ℕ) →
         IsExact (GoodFirst IsLong Good g bytes) (λ p. (HasNoVersion bytes × (p ≡ (1, Text))) ⊎
-        (((body : List ℕ) × (bytes ≡ version_line ++ body) × IsRefusedCut later g IsLong body p) ⊎ ((body : List ℕ) × (bytes ≡ second_line ++ body) × IsRefusedCount later g IsLong body p)))
-    first_exact g bytes = fronts_exact version_line second_line other_version (1, Text) bytes (λ body. cut_exact g body) (λ body. count_exact g body)
+        (((body : List ℕ) × (bytes ≡ version_line ++ body) × IsRefusedCut later g IsLong body p) ⊎
+        (((body : List ℕ) × (bytes ≡ second_line ++ body) × IsRefusedCount later g IsLong body p) ⊎
+        ((body : List ℕ) × (bytes ≡ third_line ++ body) × IsRefusedBeside later g IsLong body p))))
+    first_exact g bytes =
+        exact_as (λ k. k) (λ k. k)
+        (λ p r. ⊎_elim (λ none. inl ((none.0.0, none.0.1.0, none.0.1.1), none.1)) inr r)
+        (λ p r. ⊎_elim (λ none. inl ((none.0.0, (none.0.1, none.0.2)), none.1)) inr r)
+        (front_before {Rest = Second g bytes ⊎ Third g bytes} {None = ((body : List ℕ) → bytes ≢ second_line ++ body) × ((body : List ℕ) → bytes ≢ third_line ++ body)} {Worse = λ p. SecondRefused g bytes p ⊎ ThirdRefused g bytes p} version_line (1, Text) bytes
+        (λ x e r. ⊎_elim (λ (t : Second g bytes). other_version x t.0 (sym e ∙ t.1)) (λ (t : Third g bytes). first_or_third x t.0 (sym e ∙ t.1)) r)
+        (λ x e c r. ⊎_elim (λ (t : SecondRefused g bytes c). other_version x t.0 (sym e ∙ t.1)) (λ (t : ThirdRefused g bytes c). first_or_third x t.0 (sym e ∙ t.1)) r)
+        (λ body. cut_exact g body)
+        (front_before {Rest = Third g bytes} {None = (body : List ℕ) → bytes ≢ third_line ++ body} {Worse = ThirdRefused g bytes} second_line (1, Text) bytes
+        (λ x e t. second_or_third x t.0 (sym e ∙ t.1)) (λ x e c t. second_or_third x t.0 (sym e ∙ t.1)) (λ body. count_exact g body)
+        (front_exact third_line (1, Text) bytes (λ body. beside_exact later Good exact g body))))
 
 -- ---- the same by a header that passes
 
@@ -336,7 +425,62 @@ module _ (IsLong : List ℕ → Type 0) where
     count_good : (blocks : List Block) (body : List ℕ) → PassesCount g IsLong bytes blocks body → Good (with_blocks g blocks) body → GoodCount IsLong Good g bytes
     count_good blocks body h good = (h.1, (length blocks, h.0, h.2, (h.3, blocks_good Good (without_cut g) h.0 blocks body h.4 good)))
 
+  -- ---- listed lines
+
+  module _ {X : Type 0} (l : Listing X) (Good : Extended → List ℕ → Type 0) where
+    abbrev PassedListed : ℕ → Extended → List ℕ → Type 0
+    PassedListed n e bytes = (xs : List X) × (body : List ℕ) × (length xs ≡ n) × PassListed l IsLong e bytes xs body × Good (with_all l e xs) body
+
+    listed_pass : (n : ℕ) (e : Extended) (bytes : List ℕ) → GoodListed l IsLong Good n e bytes → PassedListed n e bytes
+    listed_pass zero e bytes h = ([], bytes, refl, refl, h)
+    listed_pass (suc n) e bytes (short, (x, rest, begins, (in_range, good))) =
+        let more = listed_pass n (l.more e x) rest good in
+        (x ∷ more.0, more.1, ap suc more.2, (rest, short, begins, in_range, more.3), more.4)
+
+    listed_good : (e : Extended) (bytes : List ℕ) (xs : List X) (body : List ℕ) → PassListed l IsLong e bytes xs body → Good (with_all l e xs) body → GoodListed l IsLong Good (length xs) e bytes
+    listed_good e bytes [] body h good = subst (Good e) (sym h) good
+    listed_good e bytes (x ∷ xs) body h good = (h.1, (x, h.0, h.2, (h.3, listed_good (l.more e x) h.0 xs body h.4 good)))
+
+    listing_passes : (e : Extended) (bytes : List ℕ) → GoodListing l IsLong Good e bytes → (xs : List X) × (body : List ℕ) × PassesListing l IsLong e bytes xs body × Good (with_all l e xs) body
+    listing_passes e bytes (short, (n, rest, begins, (few, good))) =
+        let t = listed_pass n e rest good in (
+          t.0,
+          t.1,
+          (rest, short, subst (λ k. BeginsWith l.number_text bytes k rest) (sym t.2) begins, subst (IsCountInRange (l.most e)) (sym t.2) few, t.3),
+          t.4,
+        )
+
+    listing_good : (e : Extended) (bytes : List ℕ) (xs : List X) (body : List ℕ) → PassesListing l IsLong e bytes xs body → Good (with_all l e xs) body → GoodListing l IsLong Good e bytes
+    listing_good e bytes xs body h good = (h.1, (length xs, h.0, h.2, (h.3, listed_good e h.0 xs body h.4 good)))
+
+  module _ (Good : Extended → List ℕ → Type 0) (g : Aig) (bytes : List ℕ) where
+    beside_passes : GoodBeside IsLong Good g bytes → (b : Beside) × (body : List ℕ) × PassesParts g IsLong bytes b body × Good (with_beside (without_cut g) b) body
+    beside_passes h =
+        let gates = listing_passes gate_listing (GoodListing output_listing IsLong Good) (without_cut g) bytes h in
+        let outputs = listing_passes output_listing Good (with_gates (without_cut g) gates.0) gates.1 gates.3 in
+        (record { gates = gates.0; outputs = outputs.0 }, outputs.1, (gates.1, gates.2, outputs.2), outputs.3)
+
+    beside_good : (b : Beside) (body : List ℕ) → PassesParts g IsLong bytes b body → Good (with_beside (without_cut g) b) body → GoodBeside IsLong Good g bytes
+    beside_good b body h good =
+        listing_good gate_listing (GoodListing output_listing IsLong Good) (without_cut g) bytes b.gates h.0 h.1
+        (listing_good output_listing Good (with_gates (without_cut g) b.gates) h.0 b.outputs body h.2 good)
+
   -- ---- the graph takes what passes
+
+  gates_fit : (e : Extended) (bytes : List ℕ) (pairs : List (Lit × Lit)) (body : List ℕ) → PassListed gate_listing IsLong e bytes pairs body → AreGates e pairs
+  gates_fit e bytes [] body h = tt
+  gates_fit e bytes (p ∷ pairs) body h = (h.3, gates_fit (gate_listing.more e p) h.0 pairs body h.4)
+
+  outputs_fit : (e : Extended) (bytes : List ℕ) (outputs : List (ℕ × Lit)) (body : List ℕ) → PassListed output_listing IsLong e bytes outputs body → AreOutputs e outputs
+  outputs_fit e bytes [] body h = tt
+  outputs_fit e bytes (c ∷ outputs) body h = (h.3, outputs_fit (output_listing.more e c) h.0 outputs body h.4)
+
+  beside_fits : (g : Aig) (bytes : List ℕ) (b : Beside) (body : List ℕ) → PassesParts g IsLong bytes b body → IsBeside g b
+  beside_fits g bytes b body h = record {
+    few = h.1.3;
+    gates = gates_fit (without_cut g) h.1.0 b.gates h.0 h.1.4;
+    outputs = outputs_fit (with_gates (without_cut g) b.gates) h.2.0 b.outputs body h.2.4;
+  }
 
   pairs_known : (e : Extended) (F : ℕ → List ℕ → Type 0) (pairs : List (Lit × Lit)) (count : ℕ) (bytes : List ℕ) → Behind IsPairLine (IsPairStep e) IsLong F pairs count bytes → All (IsPairOf e) pairs
   pairs_known e F [] count bytes h = All-nil (IsPairOf e)
@@ -359,8 +503,10 @@ module _ (g : Aig) (lengths : Lengths) (bytes : List ℕ) where
 
   pub header_takes : (h : Header) (body : List ℕ) → PassesAnyHeader g lengths bytes h body → IsHeaderOf g h
   header_takes h body passes =
-      ⊎_elim (λ a. inl (a.0, (a.1.0, a.1.1, cut_fits IsLong g a.1.2.rest a.1.0 body a.1.2.cut_passes)))
-      (λ b. let t = b.1.blocks_pass in inr (b.0, t.3, blocks_fit IsLong (without_cut g) t.0 h.blocks body t.4)) passes
+      ⊎_elim (λ a. inl (inl (a.0, (a.1.0, a.1.1, cut_fits IsLong g a.1.2.rest a.1.0 body a.1.2.cut_passes)), a.2))
+      (λ o. ⊎_elim
+      (λ b. let t = b.1.blocks_pass in inl (inr (b.0, t.3, blocks_fit IsLong (without_cut g) t.0 h.blocks body t.4), b.2))
+      (λ c. inr (c.0, c.2, beside_fits IsLong g c.1.rest h.beside body c.1.parts_pass)) o) passes
 
   -- a header passes, and after it is what is wanted
   abbrev pub HasPassed : (Extended → List ℕ → Type 0) → Type 0
@@ -376,12 +522,23 @@ module _ (g : Aig) (lengths : Lengths) (bytes : List ℕ) where
 
       there : ¬ (IsLong bytes) × GoodFirst IsLong Good g bytes → HasPassed Good
       there (short, inl (rest, is, good)) =
-          let t = cut_passes IsLong Good g rest good in
-          (record { version = 1; blocks = cut_blocks (length g.outputs) t.0 }, t.1, inl (refl, (t.0, refl, record { rest = rest; short = short; version = is; cut_passes = t.2 })), t.3)
-      there (short, inr (rest, is, good)) =
+          let t = cut_passes IsLong Good g rest good in (
+            record { version = 1; blocks = cut_blocks (length g.outputs) t.0; beside = nothing },
+            t.1,
+            inl (refl, (t.0, refl, record { rest = rest; short = short; version = is; cut_passes = t.2 }), refl),
+            t.3,
+          )
+      there (short, inr (inl (rest, is, good))) =
           let t = count_passes IsLong Good g rest good in
-          (record { version = 2; blocks = t.0 }, t.1, inr (refl, record { rest = rest; short = short; version = is; blocks_pass = t.2 }), t.3)
+          (record { version = 2; blocks = t.0; beside = nothing }, t.1, inr (inl (refl, record { rest = rest; short = short; version = is; blocks_pass = t.2 }, refl)), t.3)
+      there (short, inr (inr (rest, is, good))) =
+          let t = beside_passes IsLong Good g rest good in
+          (record { version = 3; blocks = []; beside = t.0 }, t.1, inr (inr (refl, record { rest = rest; short = short; version = is; parts_pass = t.2 }, refl)), t.3)
 
       back : HasPassed Good → ¬ (IsLong bytes) × GoodFirst IsLong Good g bytes
-      back (h, body, inl (one, (cut, of, t)), good) = (t.short, inl (t.rest, t.version, cut_good IsLong Good g t.rest cut body t.cut_passes (subst (λ bs. Good (with_blocks g bs) body) of good)))
-      back (h, body, inr (two, t), good) = (t.short, inr (t.rest, t.version, count_good IsLong Good g t.rest h.blocks body t.blocks_pass good))
+      back (h, body, inl (one, (cut, of, t), alone), good) =
+          (t.short, inl (t.rest, t.version, cut_good IsLong Good g t.rest cut body t.cut_passes (subst (λ bs. Good (with_blocks g bs) body) of (subst (λ b. Good (with_beside (with_blocks g h.blocks) b) body) alone good))))
+      back (h, body, inr (inl (two, t, alone)), good) =
+          (t.short, inr (inl (t.rest, t.version, count_good IsLong Good g t.rest h.blocks body t.blocks_pass (subst (λ b. Good (with_beside (with_blocks g h.blocks) b) body) alone good))))
+      back (h, body, inr (inr (three, t, none)), good) =
+          (t.short, inr (inr (t.rest, t.version, beside_good IsLong Good g t.rest h.beside body t.parts_pass (subst (λ bs. Good (with_beside (with_blocks g bs) h.beside) body) none good))))

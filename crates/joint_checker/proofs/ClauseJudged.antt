@@ -50,7 +50,7 @@ module _ (lengths : Lengths) (g : Aig) where
 
   -- ---- what stands after it
 
-  module _ (file : FileState) (h : Header) (same : file.lines.lengths ≡ lengths) (count : file.number ≡ header_line_count h.version h.blocks)
+  module _ (file : FileState) (h : Header) (same : file.lines.lengths ≡ lengths) (count : file.number ≡ header_line_count h)
       (text behind : Option (List ℕ)) (header : IfSome text (λ bytes. HasClauseHeader g file bytes behind h)) where
     abbrev e : Extended
     e = extended_with g h

@@ -13,6 +13,8 @@ use Rattle.graph_core.specs.Text.JudgedLines.{BeginsWith, Behind, IsExact, IsLin
 use Rattle.graph_core.specs.Text.{newline}
 use Rattle.graph_core.proofs.OfGraphs.CallerLemmas.{Decided}
 use Rattle.graph_core.proofs.OfTexts.CallerLemmas.{HasNoNewline, ShortFrom, decided_long, exact_as, none_in, short_next, short_within, start_later, within_short}
+use Rattle.ripple_graft.specs.declared.beside.Beside.{Beside}
+use Rattle.ripple_graft.specs.Beside.{with_gates}
 use Rattle.ripple_graft.specs.Blocks.{graft_block}
 use Rattle.ripple_graft.specs.declared.block.Block.{Block}
 use Rattle.ripple_graft.specs.declared.cut.Cut.{Cut}
@@ -22,10 +24,11 @@ use Rattle.clause_core.specs.GateClauses.{gate_clauses}
 use Rattle.clause_core.proofs.Goals.{goals_are_exact}
 use Rattle.drup_text.specs.declared.head.Header.{Header}
 use Rattle.drup_text.specs.ClauseTexts.{IsBlockLine, IsCountLine, IsCutLine, IsPairLine}
-use Rattle.drup_text.specs.PassingHeaders.{PassBlocks, PassesAnyHeader, PassesBlocks, PassesCount, PassesCut, PassesHeader}
+use Rattle.drup_text.specs.PassingHeaders.{PassBlocks, PassListed, PassesAnyHeader, PassesBeside, PassesBlocks, PassesCount, PassesCut, PassesHeader, PassesListing, PassesParts}
 use Rattle.drup_text.specs.HeaderRefusal.{IsPairStep}
 use Rattle.drup_text.specs.Headers.{extended_with}
-use Rattle.drup_text.proofs.CallerLemmas.{header_said, none_block, none_count, none_cut, none_pair}
+use Rattle.drup_text.specs.Listings.{Listing, gate_listing, output_listing}
+use Rattle.drup_text.proofs.CallerLemmas.{header_said, none_block, none_count, none_cut, none_gates, none_output, none_pair, none_replace}
 use Rattle.drup_text.proofs.HeaderExact.{header_passes}
 use Rattle.drup_text.proofs.OneFile.{one_text_is_one_file}
 use Rattle.pair_core.specs.ClauseFiles.{GivesPremises, HasLawfulLines, importable, premises}
@@ -70,6 +73,19 @@ module _ (IsLong : List ℕ → Type 0) where
   count_leads : (g : Aig) (bytes : List ℕ) (blocks : List Block) (body : List ℕ) → PassesCount g IsLong bytes blocks body → Leads bytes body
   count_leads g bytes blocks body h = further bytes h.0 body (line_leads IsCountLine none_count bytes (length blocks) h.0 h.1 h.2) (blocks_lead (without_cut g) h.0 blocks body h.4)
 
+  module _ {X : Type 0} (l : Listing X) (no_number : (line : List ℕ) (n : ℕ) → l.number_text line n → HasNoNewline line) (none : (line : List ℕ) (x : X) → l.text line x → HasNoNewline line) where
+    listed_lead : (e : Extended) (bytes : List ℕ) (xs : List X) (body : List ℕ) → PassListed l IsLong e bytes xs body → Leads bytes body
+    listed_lead e bytes [] body h = (inl h, λ short. subst (ShortFrom IsLong) (sym h) short)
+    listed_lead e bytes (x ∷ xs) body h = further bytes h.0 body (line_leads l.text none bytes x h.0 h.1 h.2) (listed_lead (l.more e x) h.0 xs body h.4)
+
+    listing_leads : (e : Extended) (bytes : List ℕ) (xs : List X) (body : List ℕ) → PassesListing l IsLong e bytes xs body → Leads bytes body
+    listing_leads e bytes xs body h = further bytes h.0 body (line_leads l.number_text no_number bytes (length xs) h.0 h.1 h.2) (listed_lead e h.0 xs body h.4)
+
+  beside_leads : (g : Aig) (bytes : List ℕ) (b : Beside) (body : List ℕ) → PassesParts g IsLong bytes b body → Leads bytes body
+  beside_leads g bytes b body h =
+      further bytes h.0 body (listing_leads gate_listing none_gates none_pair (without_cut g) bytes b.gates h.0 h.1)
+      (listing_leads output_listing none_replace none_output (with_gates (without_cut g) b.gates) h.0 b.outputs body h.2)
+
 -- ---- lines over an extended graph
 
 abbrev pub Long : Lengths → List ℕ → List ℕ → Type 0
@@ -83,13 +99,16 @@ module _ (g : Aig) (lengths : Lengths) (bytes : List ℕ) where
   IsLong = Long lengths bytes
 
   header_leads : (h : Header) (body : List ℕ) → PassesAnyHeader g lengths bytes h body → Leads IsLong bytes body
-  header_leads h body passes = ⊎_elim (λ a. first a.1.0 a.1.2) (λ b. second b.1) passes
+  header_leads h body passes = ⊎_elim (λ a. first a.1.0 a.1.2) (λ o. ⊎_elim (λ b. second b.1) (λ c. third c.1) o) passes
     where
       first : (cut : Option Cut) → PassesHeader g lengths bytes cut body → Leads IsLong bytes body
       first cut t = further IsLong bytes t.rest body (one_leads IsLong bytes (codes "joined 1") t.rest t.short (none_in (codes "joined 1") refl) t.version) (cut_leads IsLong g t.rest cut body t.cut_passes)
 
       second : PassesBlocks g lengths bytes h.blocks body → Leads IsLong bytes body
       second t = further IsLong bytes t.rest body (one_leads IsLong bytes (codes "joined 2") t.rest t.short (none_in (codes "joined 2") refl) t.version) (count_leads IsLong g t.rest h.blocks body t.blocks_pass)
+
+      third : PassesBeside g lengths bytes h.beside body → Leads IsLong bytes body
+      third t = further IsLong bytes t.rest body (one_leads IsLong bytes (codes "joined 3") t.rest t.short (none_in (codes "joined 3") refl) t.version) (beside_leads IsLong g t.rest h.beside body t.parts_pass)
 
   abbrev pub GoodLines : Extended → List ℕ → Type 0
   GoodLines e left = (lines : List ClauseLine) × Passes e IsLong (long_or lengths bytes) lines (gate_clauses e.gates) left

@@ -18,10 +18,10 @@ use Rattle.graph_core.proofs.OfAiger.CallerLemmas.{shape_for, spelled_shape, wel
 use Rattle.algebra_core.proofs.CallerLemmas.{axioms-vanish, specification-zero, vanishing_means_claim}
 use Rattle.graph_core.proofs.OfGraphs.CallerLemmas.{all_split, all_weaker, claim_is_done, claim_same, evaluations_suffice, literal_same, sides_read_inputs}
 use Rattle.mv_fact.specs.Always.{Always}
-use Rattle.ripple_graft.specs.Blocks.{AreBlocks, SameUpTo}
-use Rattle.ripple_graft.specs.HeaderBlocks.{IsCutOf, cut_blocks}
-use Rattle.ripple_graft.specs.declared.cut.Cut.{Cut}
-use Rattle.ripple_graft.proofs.BlockLists.{cut_is_block, evaluations_extend}
+use Rattle.ripple_graft.specs.Beside.{nothing}
+use Rattle.ripple_graft.specs.Blocks.{SameUpTo}
+use Rattle.ripple_graft.specs.Grafts.{IsGrafted}
+use Rattle.ripple_graft.proofs.CallerLemmas.{header_goes_on, header_grafted}
 use Rattle.ripple_graft.proofs.GraftedGraphs.{grafted_graph}
 use Rattle.clause_core.specs.Clause.{Clause, IsClauseInRange, holds}
 use Rattle.clause_core.specs.ClauseLines.{IsShown, added, clause_in}
@@ -42,15 +42,12 @@ use Rattle.pair_core.proofs.CallerLemmas.{same_all, same_self}
 
 -- ---- the graph below an extended one
 
-pub blocks_fit : (g : Aig) (h : Header) → IsHeaderOf g h → AreBlocks (without_cut g) h.blocks
-blocks_fit g h takes = ⊎_elim (λ a. subst (AreBlocks (without_cut g)) (sym a.1.1) (cut_fits a.1.0 a.1.2)) (λ b. b.2) takes
-  where
-    cut_fits : (cut : Option Cut) → IsCutOf g cut → AreBlocks (without_cut g) (cut_blocks (length g.outputs) cut)
-    cut_fits None fits = tt
-    cut_fits (Some cut) fits = (cut_is_block g cut fits, tt)
+-- the graph with its header's blocks, and with what stands beside, is made of it
+pub header_made : (g : Aig) (h : Header) → IsHeaderOf g h → IsGrafted g (extended_with g h)
+header_made g h takes = header_grafted g h.version h.blocks h.beside takes
 
 pub graph_is : (g : Aig) (p : Premises) → ArePremisesOf g p → p.extended.graph ≡ g
-graph_is g p of = grafted_graph g p.extended (record { blocks = of.header.blocks; fit = blocks_fit g of.header of.takes; is = of.extended })
+graph_is g p of = grafted_graph g p.extended (subst (IsGrafted g) (sym of.extended) (header_made g of.header of.takes))
 
 -- words of low literals are as they were
 word_same : (σ τ : Assignment) (low : ℕ) (ls : List Lit) → SameUpTo low σ τ → AllByRecursion (λ l. variable_of l ≤ low) ls → word σ ls ≡ word τ ls
@@ -94,7 +91,7 @@ module _ (g : Aig) (well : IsWellFormed g) where
     -- Where the outputs' word is what is claimed on the evaluations of an extended graph, it is on those of the graph.
     claimed_below : (p : Premises) → ArePremisesOf g p → ((σ : Assignment) → IsEvaluation p.extended.gates σ → IsClaimed σ) → MeetsClaimOnEvaluations g s
     claimed_below p of on τ evaluates =
-        let longer = evaluations_extend g of.header.blocks τ well (blocks_fit g of.header of.takes) evaluates in
+        let longer = header_goes_on g of.header.version of.header.blocks of.header.beside of.takes τ well evaluates in
         let gates : IsEvaluation p.extended.gates longer.0 = subst (λ (x : Extended). IsEvaluation x.gates longer.0) (sym of.extended) longer.1 in
         claim_back longer.0 τ longer.2 (on longer.0 gates)
 
@@ -115,11 +112,11 @@ shown_fits g s of = record { header = s.header; takes = of.takes; version = refl
 -- ---- lawful pairs
 
 pub all_imported : (P : Clause → Type 0) (version : ℕ) (cs : List Clause) → All P cs → All P (importable version cs)
-all_imported P version cs h = go (version == 2)
+all_imported P version cs h = go (version == 1)
   where
-    go : (t : Bool) → All P (cond t cs [])
-    go true = h
-    go false = All-nil P
+    go : (t : Bool) → All P (cond t [] cs)
+    go true = All-nil P
+    go false = h
 
 module _ (lengths : Lengths) (g : Aig) (bytes : List ℕ) (p : Premises) (gives : GivesPremises lengths g bytes p) where
   abbrev e : Extended
@@ -163,11 +160,11 @@ lawful_pairs_are_sound file lengths g claim clauses algebra spells pair =
 -- the certificate that replaces nothing gives the graph itself
 pub no_cut_gives : (lengths : Lengths) (g : Aig) → IsWithin lengths no_cut → GivesPremises lengths g no_cut (premises 1 (without_cut g) [])
 no_cut_gives lengths g within = record {
-  header = record { version = 1; blocks = [] };
+  header = record { version = 1; blocks = []; beside = nothing };
   lines = [];
   lawful = record {
-    text = ([], inl (refl, (None, refl, (codes "none" ++ newline ∷ [], (codes "none", refl, refl), refl))), refl);
-    takes = inl (refl, (None, refl, tt));
+    text = ([], inl (refl, (None, refl, (codes "none" ++ newline ∷ [], (codes "none", refl, refl), refl)), refl), refl);
+    takes = inl (inl (refl, (None, refl, tt)), refl);
     in_range = All-nil (λ x. IsClauseInRange g.max (clause_in x));
     lawful = tt;
     within = within;

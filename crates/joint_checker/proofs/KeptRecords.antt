@@ -12,18 +12,18 @@ use Rattle.joint_checker.specs.Shown.{keeps_of}
 -- ---- imports
 
 same_imported : (version : ℕ) (cs ds : List Clause) → AreSameSets cs ds → AreSameSets (importable version cs) (importable version ds)
-same_imported version cs ds same = go (version == 2)
+same_imported version cs ds same = go (version == 1)
   where
-    go : (t : Bool) → AreSameSets (cond t cs []) (cond t ds [])
-    go true = same
-    go false = tt
+    go : (t : Bool) → AreSameSets (cond t [] cs) (cond t [] ds)
+    go true = tt
+    go false = same
 
 -- whatever may be imported is kept
 imports_kept : (chains : Bool) (version : ℕ) (ds : List Clause) → importable version (kept (keeps_of chains version) ds) ≡ importable version ds
 imports_kept true version ds = refl
-imports_kept false version ds = go (version == 2)
+imports_kept false version ds = go (version == 1)
   where
-    go : (t : Bool) → cond t (kept (cond t keep.Clauses keep.Nothing) ds) [] ≡ cond t ds []
+    go : (t : Bool) → cond t [] (kept (cond t keep.Nothing keep.Clauses) ds) ≡ cond t [] ds
     go true = refl
     go false = refl
 

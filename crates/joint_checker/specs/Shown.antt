@@ -17,7 +17,7 @@ use Rattle.pair_core.specs.ClauseFiles.{importable, premises}
 abbrev pub premises_of : Shown → Premises
 premises_of s = premises s.header.version s.extended (importable s.header.version s.recorded.added)
 
--- The graph takes its header, and with the header's blocks it is the extended graph, over whose evaluations the columns agree and the
+-- The graph takes its header, and with the header's blocks and what stands beside it is the extended graph, over whose evaluations the columns agree and the
 -- kept clauses hold. A kept chain uses clauses before its own.
 pub record IsShownOf (g : Aig) (s : Shown) : Type 0 where
   pub takes : IsHeaderOf g s.header
@@ -29,4 +29,4 @@ pub record IsShownOf (g : Aig) (s : Shown) : Type 0 where
 -- what is kept: with the chains each clause, else those that may be imported
 abbrev pub keeps_of : Bool → ℕ → Keeps
 keeps_of true version = keep.Chains
-keeps_of false version = if version == 2 then keep.Clauses else keep.Nothing
+keeps_of false version = if version == 1 then keep.Nothing else keep.Clauses

@@ -144,10 +144,10 @@ fn imports<'s>(shown: &'s Shown<'_>, none: &'s ClauseList) -> &'s ClauseList
     requires { none.now ≡ [] }
     ensures { result.now ≡ importable shown.now.header.version shown.now.recorded.added }
 {
-    if shown.header.version == 2 {
-        &shown.recorded.added
-    } else {
+    if shown.header.version == 1 {
         none
+    } else {
+        &shown.recorded.added
     }
 }
 

@@ -1,5 +1,5 @@
 -- Which verdict a graph file gets: the one that is due, but for a fault or out of memory; and where the budget is enough.
-use Rattle.std.proofs.Common.{◌≡◌, ℕ, ◌+◌, ◌*◌, ◌%◌, Bool, true, false, List, ◌++◌, refl, sym, ap, ap₂, subst, ◌∙◌, arith, inl, inr, ⊎_elim, take}
+use Rattle.std.proofs.Common.{◌≡◌, ℕ, ◌+◌, ◌*◌, ◌%◌, Bool, List, ◌++◌, refl, sym, ap, ap₂, subst, ◌∙◌, arith, inl, inr, ⊎_elim, take}
 use Rattle.std.specs.Prelude.{◌⊎◌, IfSome}
 use Rattle.std.specs.declared.option.Option.{Option}
 use Rattle.aiger_reader.specs.Refusals.{SpellsWithin}
@@ -22,11 +22,12 @@ use Rattle.graph_core.proofs.OfTexts.CallerLemmas.{one_graph}
 use Rattle.command_core.specs.Files.{HasGraph, Files}
 use Rattle.mv_desk.specs.View.{View, bytes_under}
 use Rattle.mv_desk.specs.declared.slot.Slot.TheVariants as slot
-use Rattle.joint_prover.specs.declared.task.Task.{Task}
+use Rattle.command_core.specs.declared.task.Task.{Task}
+use Rattle.joint_prover.specs.declared.difference.Difference.{Difference}
 use Rattle.joint_prover.specs.declared.verdict.Verdict.{Verdict}
-use Rattle.joint_prover.specs.declared.verdict.Verdict.TheVariants.{Proved, Wrong, WrongSum, Undecided, Stopped}
+use Rattle.joint_prover.specs.declared.verdict.Verdict.TheVariants.{Proved, Wrong, Undecided, Stopped}
 use Rattle.joint_prover.specs.Tries.{IsWithinBudget, AreTried, IsAbove}
-use Rattle.joint_prover.specs.Verdicts.{HasFewOnes, HaveManyOnes, IsFirstAbove, IsVerdict, IsVerdictDue, IsWrongAt, VerdictsAreExact, HasNote, judgement, three, two}
+use Rattle.joint_prover.specs.Verdicts.{HasFewOnes, HaveManyOnes, IsFirstAbove, IsVerdict, IsVerdictDue, IsWrong, VerdictsAreExact, HasNote, judgement}
 use Rattle.std.specs.declared.option.Option.TheVariants.{None, Some}
 use Rattle.enough_budget.specs.Budgets.{PassesBySlices}
 use Rattle.enough_budget.proofs.MadePlans.{made_budget_is_enough}
@@ -45,24 +46,28 @@ use Rattle.joint_prover.specs.Budgets.{EnoughIsProved, IsEnough}
 use Rattle.mv_desk.specs.declared.limits.Limits.{Limits}
 use Rattle.joint_prover.specs.Notes.{cut_of}
 
--- the verdict that numbers are the least on which the graph differs, with an addend or without
-abbrev pub wrong_of : Bool → Numbers → ℕ → ℕ → Verdict
-wrong_of false x v p = Wrong x.a x.b v p
-wrong_of true x v p = WrongSum x.a x.b x.c v p
-
--- a claim has an addend or none
-both_ways : (add : Bool) → add ≡ false → add ≡ true → ⊥
-both_ways add alone added = cc
-
 -- ---- a graph that is wrong
 
-module _ (g : Aig) (claim : Claim) (add : Bool) (x : Numbers) (v p : ℕ) where
-  does_or_wrong : Does claim g → IsWrongAt g claim add x v p → ⊥
-  does_or_wrong does wrong = wrong.least.difference.differs (does x wrong.least.difference.range)
+module _ (g : Aig) (claim : Claim) (d : Difference) where
+  does_or_wrong : Does claim g → IsWrong g claim d → ⊥
+  does_or_wrong does wrong = wrong.least.difference.differs (does d.numbers wrong.least.difference.range)
 
   -- the values of the inputs at which it is
-  differs_there : HasShapeFor claim.widths g → IsDefinedOnce g → IsWrongAt g claim add x v p → IsDifferenceAt g (sides_for claim g) (inputs_at (sides_for claim g) x)
-  differs_there shape once wrong = ((difference_is_of_numbers g claim x shape once wrong.least.difference.range).1 wrong.least).difference
+  differs_there : HasShapeFor claim.widths g → IsDefinedOnce g → IsWrong g claim d → IsDifferenceAt g (sides_for claim g) (inputs_at (sides_for claim g) d.numbers)
+  differs_there shape once wrong = ((difference_is_of_numbers g claim d.numbers shape once wrong.least.difference.range).1 wrong.least).difference
+
+abbrev told_of : Numbers → Bool → ℕ → ℕ → Difference
+told_of x add value claimed = record { numbers = x; has_addend = add; value = value; claimed = claimed }
+
+-- what is told of the same numbers is the same
+same_told : (g : Aig) (claim : Claim) (d e : Difference) → d.numbers ≡ e.numbers → IsWrong g claim d → IsWrong g claim e → d ≡ e
+same_told g claim d e same one other =
+    let s = sides_for claim g in
+    let m = output_modulus g in
+    let value : d.value ≡ e.value = one.valued.value_is ∙ ap (value_at g s) same ∙ sym other.valued.value_is in
+    let claimed : d.claimed ≡ e.claimed = one.valued.claimed_is ∙ ap (λ z. claimed_at m s z % m) same ∙ sym other.valued.claimed_is in
+    ap (λ x. told_of x d.has_addend d.value d.claimed) same ∙
+    ap (λ add. told_of e.numbers add d.value d.claimed) (sym one.valued.addend ∙ other.valued.addend) ∙ ap₂ (told_of e.numbers e.has_addend) value claimed
 
 -- ---- two verdicts on a file
 
@@ -86,12 +91,8 @@ module _ (limit : ℕ) (task : Task) (file : List ℕ) where
   once_there : (g : Aig) → SpellsWithin profile limit file g → IsDefinedOnce g
   once_there g s = (well_formed profile file g s.spells).defined_once
 
-  pub right_or_wrong : (add : Bool) (x : Numbers) (v p : ℕ) → Spelled (Does claim) → Spelled (λ g. IsWrongAt g claim add x v p) → ⊥
-  right_or_wrong add x v p h k =
-      let both = together (Does claim) (λ g. IsWrongAt g claim add x v p) h k in does_or_wrong both.0 claim add x v p both.2.0 both.2.1
-
-  product_or_sum : (x y : Numbers) (v p w q : ℕ) → Spelled (λ g. IsWrongAt g claim false x v p) → Spelled (λ g. IsWrongAt g claim true y w q) → ⊥
-  product_or_sum x y v p w q h k = both_ways (has_addend claim.widths) h.2.addend k.2.addend
+  pub right_or_wrong : (d : Difference) → Spelled (Does claim) → Spelled (λ g. IsWrong g claim d) → ⊥
+  right_or_wrong d h k = let both = together (Does claim) (λ g. IsWrong g claim d) h k in does_or_wrong both.0 claim d both.2.0 both.2.1
 
   within_or_above : (t n : ℕ) → Spelled (λ g. IsWithinBudget g claim task.budget) → Spelled (λ g. IsFirstAbove g claim task.budget t n) → ⊥
   within_or_above t n h k =
@@ -101,31 +102,24 @@ module _ (limit : ℕ) (task : Task) (file : List ℕ) where
       let high = first.above in
       omega arith
 
-  few_or_many : (add : Bool) (x : Numbers) (v p : ℕ) → Spelled (λ g. HasFewOnes (inputs_at (sides_for claim g) x) × IsWrongAt g claim add x v p) → Spelled (λ g. HaveManyOnes g claim) → ⊥
-  few_or_many add x v p h k =
-      let both = together (λ g. HasFewOnes (inputs_at (sides_for claim g) x) × IsWrongAt g claim add x v p) (λ g. HaveManyOnes g claim) h k in
+  few_or_many : (d : Difference) → Spelled (λ g. HasFewOnes (inputs_at (sides_for claim g) d.numbers) × IsWrong g claim d) → Spelled (λ g. HaveManyOnes g claim) → ⊥
+  few_or_many d h k =
+      let both = together (λ g. HasFewOnes (inputs_at (sides_for claim g) d.numbers) × IsWrong g claim d) (λ g. HaveManyOnes g claim) h k in
       let g = both.0 in
       let told = both.2.0 in
-      both.2.1 (inputs_at (sides_for claim g) x) (differs_there g claim add x v p (shape_there g both.1) (once_there g both.1) told.1) told.0
+      both.2.1 (inputs_at (sides_for claim g) d.numbers) (differs_there g claim d (shape_there g both.1) (once_there g both.1) told.1) told.0
 
-  one_wrong : (add : Bool) (x y : Numbers) (v p w q : ℕ) → Spelled (λ g. IsWrongAt g claim add x v p) → Spelled (λ g. IsWrongAt g claim add y w q) → wrong_of add y w q ≡ wrong_of add x v p
-  one_wrong add x y v p w q h k =
-      let both = together (λ g. IsWrongAt g claim add x v p) (λ g. IsWrongAt g claim add y w q) h k in
+  one_wrong : (d e : Difference) → Spelled (λ g. IsWrong g claim d) → Spelled (λ g. IsWrong g claim e) → Wrong e ≡ Wrong d
+  one_wrong d e h k =
+      let both = together (λ g. IsWrong g claim d) (λ g. IsWrong g claim e) h k in
       let g = both.0 in
-      let s = sides_for claim g in
-      let m = output_modulus g in
-      let one = both.2.0 in
-      let two = both.2.1 in
-      let same : y ≡ x = least_difference_is_one.1 g s x y one.least two.least in
-      ap (λ z. wrong_of add z w q) same ∙
-      ap₂ (wrong_of add x) (two.value_is ∙ ap (value_at g s) same ∙ sym one.value_is) (two.claimed_is ∙ ap (λ z. claimed_at m s z % m) same ∙ sym one.claimed_is)
+      ap Wrong (same_told g claim e d (least_difference_is_one.1 g (sides_for claim g) d.numbers e.numbers both.2.0.least both.2.1.least) both.2.1 both.2.0)
 
   -- what the verdict says of the file
   module _ (before after : View) where
     abbrev Says : Verdict → Type 0
     Says (Proved long) = Spelled (Does claim)
-    Says (Wrong a b v p) = Spelled (λ g. IsWrongAt g claim false (two a b) v p)
-    Says (WrongSum a b c v p) = Spelled (λ g. IsWrongAt g claim true (three a b c) v p)
+    Says (Wrong d) = Spelled (λ g. IsWrong g claim d)
     Says (Undecided tried t n seen) = Spelled (λ g. IsFirstAbove g claim task.budget t n × HaveManyOnes g claim)
     Says (Stopped why) = IsGraphStop slot.Graph profile limit (Some file) why ⊎ Interrupts before after why
 
@@ -136,27 +130,18 @@ module _ (limit : ℕ) (task : Task) (file : List ℕ) where
     exact given (Undecided others u m other) h d = absurd d
     exact given (Proved (Some at)) h d = absurd d
     exact (Proved long) (Proved None) h d = inl refl
-    exact (Proved long) (Wrong x y w q) h d = absurd (right_or_wrong false (two x y) w q h (d.0, d.1, d.3))
-    exact (Proved long) (WrongSum x y z w q) h d = absurd (right_or_wrong true (three x y z) w q h (d.0, d.1, d.3))
+    exact (Proved long) (Wrong e) h d = absurd (right_or_wrong e h (d.0, d.1, d.3))
     exact (Proved long) (Stopped other) h d = absurd (never_stopped h.0 other h.1 d)
-    exact (Wrong a b v p) (Proved None) h d = absurd (right_or_wrong false (two a b) v p (d.0, d.1, d.3) h)
-    exact (Wrong a b v p) (Wrong x y w q) h d = inl (one_wrong false (two x y) (two a b) w q v p (d.0, d.1, d.3) h)
-    exact (Wrong a b v p) (WrongSum x y z w q) h d = absurd (product_or_sum (two a b) (three x y z) v p w q h (d.0, d.1, d.3))
-    exact (Wrong a b v p) (Stopped other) h d = absurd (never_stopped h.0 other h.1 d)
-    exact (WrongSum a b c v p) (Proved None) h d = absurd (right_or_wrong true (three a b c) v p (d.0, d.1, d.3) h)
-    exact (WrongSum a b c v p) (Wrong x y w q) h d = absurd (product_or_sum (two x y) (three a b c) w q v p (d.0, d.1, d.3) h)
-    exact (WrongSum a b c v p) (WrongSum x y z w q) h d = inl (one_wrong true (three x y z) (three a b c) w q v p (d.0, d.1, d.3) h)
-    exact (WrongSum a b c v p) (Stopped other) h d = absurd (never_stopped h.0 other h.1 d)
+    exact (Wrong e) (Proved None) h d = absurd (right_or_wrong e (d.0, d.1, d.3) h)
+    exact (Wrong e) (Wrong f) h d = inl (one_wrong f e (d.0, d.1, d.3) h)
+    exact (Wrong e) (Stopped other) h d = absurd (never_stopped h.0 other h.1 d)
     exact (Undecided tried t n seen) (Proved None) h d = absurd (within_or_above t n (d.0, d.1, d.2) (h.0, h.1, h.2.0))
-    exact (Undecided tried t n seen) (Wrong x y w q) h d =
-        absurd (⊎_elim (λ within. within_or_above t n (d.0, d.1, within) (h.0, h.1, h.2.0)) (λ few. few_or_many false (two x y) w q (d.0, d.1, (few, d.3)) (h.0, h.1, h.2.1)) d.2)
-    exact (Undecided tried t n seen) (WrongSum x y z w q) h d =
-        absurd (⊎_elim (λ within. within_or_above t n (d.0, d.1, within) (h.0, h.1, h.2.0)) (λ few. few_or_many true (three x y z) w q (d.0, d.1, (few, d.3)) (h.0, h.1, h.2.1)) d.2)
+    exact (Undecided tried t n seen) (Wrong e) h d =
+        absurd (⊎_elim (λ within. within_or_above t n (d.0, d.1, within) (h.0, h.1, h.2.0)) (λ few. few_or_many e (d.0, d.1, (few, d.3)) (h.0, h.1, h.2.1)) d.2)
     exact (Undecided tried t n seen) (Stopped other) h d = absurd (never_stopped h.0 other h.1 d)
     exact (Stopped why) due (inr interrupts) d = inr (why, refl, interrupts)
     exact (Stopped why) (Proved None) (inl h) d = absurd (never_stopped d.0 why d.1 h)
-    exact (Stopped why) (Wrong x y w q) (inl h) d = absurd (never_stopped d.0 why d.1 h)
-    exact (Stopped why) (WrongSum x y z w q) (inl h) d = absurd (never_stopped d.0 why d.1 h)
+    exact (Stopped why) (Wrong e) (inl h) d = absurd (never_stopped d.0 why d.1 h)
     exact (Stopped why) (Stopped other) (inl h) d = inl (ap Stopped ((graph_exact profile limit file slot.Graph).one why other h d))
 
   -- where the file is told
@@ -173,8 +158,7 @@ verdicts_are_exact limits task files before after file due given noted told d h 
 
     says : (v : Verdict) → IsVerdict limits task files before after v noted → Says limits.graph task file before after v
     says (Proved long) h = let s = spelled limits.graph task file _ _ told h in (s.0, s.1, s.2.0)
-    says (Wrong a b value product) h = let s = spelled limits.graph task file _ _ told h.0 in (s.0, s.1, s.2.0)
-    says (WrongSum a b c value sum) h = let s = spelled limits.graph task file _ _ told h.0 in (s.0, s.1, s.2.0)
+    says (Wrong d) h = let s = spelled limits.graph task file _ _ told h.0 in (s.0, s.1, s.2.0)
     says (Undecided tried t n seen) h = let s = spelled limits.graph task file _ _ told h.0 in (s.0, s.1, (s.2.0, s.2.2))
     says (Stopped stop.WriteFault) h = inr h.0
     says (Stopped (stop.Graph at why)) h = of_stop (stop.Graph at why) h.0
@@ -235,12 +219,8 @@ module _ (limits : Limits) (task : Task) (file : List ℕ) (h : IsEnough limits.
 
     pub proved_or_not : (given : Verdict) (noted : Option Note) → IsVerdict limits task files a b given noted → GivesDue Stopped a b (Proved None) (judgement given)
     proved_or_not (Proved long) noted k = inl refl
-    proved_or_not (Wrong x y value product) noted k =
-        let s = spelled limits.graph task file _ _ told k.0 in
-        absurd (right_or_wrong limits.graph task file false (two x y) value product (h.graph, spells, does) (s.0, s.1, s.2.0))
-    proved_or_not (WrongSum x y z value sum) noted k =
-        let s = spelled limits.graph task file _ _ told k.0 in
-        absurd (right_or_wrong limits.graph task file true (three x y z) value sum (h.graph, spells, does) (s.0, s.1, s.2.0))
+    proved_or_not (Wrong d) noted k =
+        let s = spelled limits.graph task file _ _ told k.0 in absurd (right_or_wrong limits.graph task file d (h.graph, spells, does) (s.0, s.1, s.2.0))
     proved_or_not (Undecided tried t n seen) noted k =
         let s = spelled limits.graph task file _ _ told k.0 in
         let same = one_graph (profile_of task.claim.widths) file s.0 h.graph s.1.spells spells.spells in

@@ -1,5 +1,5 @@
 -- A graph was read, and then it was told what was decided of it.
-use Rattle.std.proofs.Common.{◌≡◌, ℕ, refl, sym, ap, subst, inl, inr}
+use Rattle.std.proofs.Common.{◌≡◌, refl, sym, ap, subst, inl, inr}
 use Rattle.std.specs.Prelude.{IfOk, IfSome, OnErr, Result, Ok, Err}
 use Rattle.std.specs.declared.option.Option.{Option}
 use Rattle.std.specs.declared.option.Option.TheVariants.{None, Some}
@@ -19,9 +19,9 @@ use Rattle.mv_text.specs.LineReading.{lengths_of}
 use Rattle.pair_core.proofs.CallerLemmas.{pair_leaves_report, report_stays, report_stays_on, stopping_leaves_report, stops_with}
 use Rattle.command_core.specs.Files.{Files}
 use Rattle.graph_core.specs.declared.memory.Memory.{Memory}
-use Rattle.joint_prover.specs.declared.task.Task.{Task}
+use Rattle.command_core.specs.declared.task.Task.{Task}
 use Rattle.joint_prover.specs.declared.verdict.Verdict.{Verdict}
-use Rattle.joint_prover.specs.declared.verdict.Verdict.TheVariants.{Proved, Wrong, WrongSum, Undecided, Stopped}
+use Rattle.joint_prover.specs.declared.verdict.Verdict.TheVariants.{Proved, Wrong, Undecided, Stopped}
 use Rattle.joint_prover.specs.declared.note.Note.{Note}
 use Rattle.joint_prover.specs.Notes.{IsNote, cut_of}
 use Rattle.joint_prover.specs.Pairs.{AreClausesFor, IsPairFor}
@@ -50,10 +50,8 @@ module _ (limits : Limits) (task : Task) (files : Files) (a r : View) (reads : R
       named c v (Proved t.0) noted (Some n) t.1 t.2 (g, spelled, (h.0, (note, (r, reads, (clauses_text p, algebra_text p, h.2, t.3, t.4)))))
   told c g (decision.Proved p) n v noted spelled same note h (inr t) = named c v (Stopped stop.WriteFault) noted None t.0 t.1
       (subst (λ k. Rose k c.write_faults) same t.2, (g, spelled, (h.0, (n, note, r, reads, stops_with files (clauses_text p) (algebra_text p) (AreClausesFor g task (cut_of n)) (IsPairFor g task (cut_of n)) r c (h.2.0, h.2.1, h.2.2.clause_file) h.2 t.3))), refl)
-  told c g (decision.Wrong x y value product) n v noted spelled same note h t =
-      named c v (Wrong x y value product) noted (Some n) t.0 t.1 ((g, spelled, (h, (note, tt))), subst (ReadsGraph a) (sym t.2) reads)
-  told c g (decision.WrongSum x y z value sum) n v noted spelled same note h t =
-      named c v (WrongSum x y z value sum) noted (Some n) t.0 t.1 ((g, spelled, (h, (note, tt))), subst (ReadsGraph a) (sym t.2) reads)
+  told c g (decision.Wrong d) n v noted spelled same note h t =
+      named c v (Wrong d) noted (Some n) t.0 t.1 ((g, spelled, (h, (note, tt))), subst (ReadsGraph a) (sym t.2) reads)
   told c g (decision.Undecided tried step size seen) n v noted spelled same note h t =
       named c v (Undecided tried step size seen) noted (Some n) t.0 t.1 ((g, spelled, (h.0, (note, h.1), h.2, h.3)), subst (ReadsGraph a) (sym t.2) reads)
 
@@ -77,8 +75,7 @@ module _ (limits : Limits) (task : Task) (files : Files) (a r : View) (reads : R
 told_leaves : (lengths : Lengths) (files : Files) (a b : View) (d : Decision) (n : Note) (v : Verdict) (noted : Option Note) → IsTold lengths files a b d n v noted → ReportStays a b
 told_leaves lengths files a b (decision.Proved p) n v noted (inl t) = pair_leaves_report files (clauses_text p) (algebra_text p) a b t.3
 told_leaves lengths files a b (decision.Proved p) n v noted (inr t) = stopping_leaves_report files (λ text. text ≡ clauses_text p) (λ beside text. text ≡ algebra_text p) a b t.3
-told_leaves lengths files a b (decision.Wrong x y value product) n v noted t = subst (ReportStays a) (sym t.2) (report_stays a)
-told_leaves lengths files a b (decision.WrongSum x y z value sum) n v noted t = subst (ReportStays a) (sym t.2) (report_stays a)
+told_leaves lengths files a b (decision.Wrong d) n v noted t = subst (ReportStays a) (sym t.2) (report_stays a)
 told_leaves lengths files a b (decision.Undecided tried step size seen) n v noted t = subst (ReportStays a) (sym t.2) (report_stays a)
 
 judged_leaves : (lengths : Lengths) (files : Files) (a b : View) (decided : Result (Decision × Note) Memory) (v : Verdict) (noted : Option Note) → IfOk decided (λ d. IsTold lengths files a b d.0 d.1 v noted) → OnErr decided (b ≡ a) → ReportStays a b

@@ -1,15 +1,12 @@
 -- The note has the cause of what came of the rewriting.
-use Rattle.std.proofs.Common.{◌≡◌, ℕ, ◌+◌, ◌^◌, ◌<◌, ◌≤◌, Bool, true, false, List, arith, length, refl, sym, ap, subst, ◌∙◌}
+use Rattle.std.proofs.Common.{◌≡◌, ℕ, ◌≤◌, Bool, List, arith, refl, sym, subst, ◌∙◌}
 use Rattle.std.specs.Prelude.{IfSome}
 use Rattle.std.specs.declared.option.Option.{Option}
 use Rattle.std.specs.declared.option.Option.TheVariants.{None, Some}
 use Rattle.graph_core.specs.Graph.Extended.{AgreeOnColumns, Extended}
 use Rattle.clause_core.specs.ClauseLines.{ClauseLine}
 use Rattle.graph_core.specs.Graph.{Aig, IsWellFormed}
-use Rattle.graph_core.specs.Graph.Operands.{AreInRange, AreOperandsOf, HasShapeFor, Sides, a_width, addend_width, b_width, c_literals, has_addend, sides_for}
-use Rattle.graph_core.specs.declared.claim.Claim.{Claim}
-use Rattle.graph_core.specs.declared.numbers.Numbers.{Numbers}
-use Rattle.graph_core.proofs.OfGraphs.CallerLemmas.{length-c_literals}
+use Rattle.graph_core.specs.Graph.Operands.{AreOperandsOf, Sides, has_addend}
 use Rattle.mv_fact.specs.Always.{Always}
 use Rattle.ripple_graft.specs.Blocks.{with_cut}
 use Rattle.ripple_graft.specs.declared.cut.Cut.{Cut}
@@ -18,47 +15,29 @@ use Rattle.stage_rewriter.specs.Rewriting.{Agrees, IsRewriting, IsRewritingDiffe
 use Rattle.stage_rewriter.specs.declared.rewriting.Rewriting.{Rewriting}
 use Rattle.stage_rewriter.specs.declared.rewriting.Rewriting.TheVariants as kind
 use Rattle.joint_prover.specs.Endings.{cut_of_found}
-use Rattle.joint_prover.specs.Notes.{DiffersAtStage, IsFoundCut, IsNote, cut_in, cut_of, differing, note_of, rewriting_note_of}
+use Rattle.joint_prover.specs.Notes.{IsFoundCut, IsNote, cut_in, cut_of, note_of, rewriting_note_of}
 
--- without an addend only 0 stands for one
-pub no_addend : (g : Aig) (claim : Claim) (x : Numbers) → HasShapeFor claim.widths g → has_addend claim.widths ≡ false → AreInRange (sides_for claim g) x → x.c ≡ 0
-no_addend g claim x shape alone range =
-    let bits = a_width claim.widths g + b_width claim.widths g in
-    let none : length (c_literals claim.widths g) ≡ 0 = length-c_literals claim.widths g shape ∙ ap (λ add. addend_width add bits) alone in
-    let low : x.c < 2 ^ 0 = subst (λ n. x.c < 2 ^ n) none range.c in
-    omega arith
-
-differing_is : (g : Aig) (claim : Claim) (conflicts : ℕ) (add : Bool) (x : Numbers) → HasShapeFor claim.widths g → has_addend claim.widths ≡ add → DiffersAtStage g claim x →
-    IsNote g claim conflicts (differing add x)
-differing_is g claim conflicts false x shape alone h =
-    (alone, subst (λ c. DiffersAtStage g claim (record { a = x.a; b = x.b; c = c })) (no_addend g claim x shape alone h.2.range) h)
-differing_is g claim conflicts true x shape added h = (added, h)
-
-rewriting_note_is : (g : Aig) (s : Sides) (conflicts : ℕ) (r : Rewriting) → HasShapeFor s.claim.widths g → AreOperandsOf g s → IsRewriting g s conflicts r → Agrees r →
+rewriting_note_is : (g : Aig) (s : Sides) (conflicts : ℕ) (r : Rewriting) → AreOperandsOf g s → IsRewriting g s conflicts r → Agrees r →
     IsNote g s.claim conflicts (rewriting_note_of (has_addend s.claim.widths) r)
-rewriting_note_is g s conflicts (kind.Used cut extended log) shape of used agrees = record {
+rewriting_note_is g s conflicts (kind.Used cut extended log) of used agrees = record {
   stage = used.stage;
   agree = subst (λ (x : Extended). Always x.gates (AgreeOnColumns x)) used.extended_is agrees;
 }
-rewriting_note_is g s conflicts kind.None shape of none agrees = none
-rewriting_note_is g s conflicts (kind.Differs x) shape of h agrees =
-    differing_is g s.claim conflicts (has_addend s.claim.widths) x shape refl (h.0, h.1, subst (λ (t : Sides). IsRewritingDifference (with_cut g h.0) t x) of h.2)
-rewriting_note_is g s conflicts (kind.Spent lemmas goal log) shape of spent agrees = spent
+rewriting_note_is g s conflicts kind.None of none agrees = none
+rewriting_note_is g s conflicts (kind.Differs x) of h agrees =
+    (refl, (h.0, h.1, subst (λ (t : Sides). IsRewritingDifference (with_cut g h.0) t x) of h.2))
+rewriting_note_is g s conflicts (kind.Spent lemmas goal log) of spent agrees = spent
 
-pub note_is : (g : Aig) (s : Sides) (conflicts : ℕ) (r : Rewriting) (found : Option Cut) → HasShapeFor s.claim.widths g → AreOperandsOf g s → IsRewriting g s conflicts r → Agrees r → IfSome found (IsFoundCut g) →
+pub note_is : (g : Aig) (s : Sides) (conflicts : ℕ) (r : Rewriting) (found : Option Cut) → AreOperandsOf g s → IsRewriting g s conflicts r → Agrees r → IfSome found (IsFoundCut g) →
     IsNote g s.claim conflicts (note_of (has_addend s.claim.widths) r found)
-note_is g s conflicts r None shape of rewriting agrees cut = rewriting_note_is g s conflicts r shape of rewriting agrees
-note_is g s conflicts r (Some cut) shape of rewriting agrees found = found
+note_is g s conflicts r None of rewriting agrees cut = rewriting_note_is g s conflicts r of rewriting agrees
+note_is g s conflicts r (Some cut) of rewriting agrees found = found
 
 -- The note has the cut whose adder is used.
-cut_of_differing : (add : Bool) (x : Numbers) → cut_of (differing add x) ≡ None
-cut_of_differing false x = refl
-cut_of_differing true x = refl
-
 cut_of_rewriting : (add : Bool) (r : Rewriting) → cut_of (rewriting_note_of add r) ≡ cut_in r
 cut_of_rewriting add (kind.Used cut extended log) = refl
 cut_of_rewriting add kind.None = refl
-cut_of_rewriting add (kind.Differs x) = cut_of_differing add x
+cut_of_rewriting add (kind.Differs x) = refl
 cut_of_rewriting add (kind.Spent lemmas goal log) = refl
 
 -- or the one that was found

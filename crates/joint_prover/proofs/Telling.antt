@@ -1,5 +1,5 @@
 -- What is decided of a graph, from what is shown, the lines of a plan, and what was tried.
-use Rattle.std.proofs.Common.{◌≡◌, ℕ, ◌+◌, ◌*◌, ◌≤◌, Bool, List, [], length, refl, sym, subst, arith, inl, inr, ⊎_elim, ◌∷◌, true, false, ap, ap₂, ◌∙◌}
+use Rattle.std.proofs.Common.{◌≡◌, ℕ, ◌+◌, ◌*◌, ◌≤◌, List, [], length, refl, sym, subst, arith, inl, inr, ⊎_elim, ◌∷◌, true, false, ap, ap₂, ◌∙◌}
 use Rattle.std.specs.List.{All}
 use Rattle.std.specs.declared.option.Option.{Option}
 use Rattle.std.specs.declared.option.Option.TheVariants.{None, Some}
@@ -23,12 +23,12 @@ use Rattle.ripple_graft.specs.Blocks.{AreBlocks}
 use Rattle.ripple_graft.specs.Grafts.{IsGrafted}
 use Rattle.ripple_graft.specs.HeaderBlocks.{IsCutOf, cut_blocks}
 use Rattle.ripple_graft.proofs.BlockLists.{cut_is_block}
-use Rattle.ripple_graft.proofs.GraftedGraphs.{grafted_small}
+use Rattle.ripple_graft.proofs.GraftedGraphs.{blocks_grafted, grafted_small}
 use Rattle.ripple_graft.specs.declared.cut.Cut.{Cut}
 use Rattle.pair_core.proofs.CallerLemmas.{same_self}
 use Rattle.stage_rewriter.specs.Rewriting.{IsShownRewriting}
 use Rattle.joint_prover.specs.declared.shown.Shown.{Shown}
-use Rattle.joint_prover.specs.declared.task.Task.{Task}
+use Rattle.command_core.specs.declared.task.Task.{Task}
 use Rattle.joint_prover.specs.Pairs.{AreClausesOver, IsVersion, IsPairOver, IsSpareFile}
 use Rattle.joint_prover.specs.Endings.{IsShown, cut_named, header_of, Decides, IsEnd, IsProof, IsWrongAs}
 use Rattle.joint_prover.specs.Tries.{extended_by, AreTried, EndsOver, EndsWithCut, HasPassedBudget, IsProvedOver, IsTried, IsWithinBudget}
@@ -110,10 +110,10 @@ module _ (g : Aig) (widths : Widths) (sized : IsSizedAs (profile_of widths) g) (
     takes =
         let one = one_block (length g.outputs) cut in
         let some = some_outputs widths g sized in
-        ⊎_elim (λ first. inl (first, (cut, refl, fits))) (λ second. inr (second, omega arith, blocks_fit g cut fits)) known
+        inl (⊎_elim (λ first. inl (first, (cut, refl, fits))) (λ second. inr (second, omega arith, blocks_fit g cut fits)) known, refl)
 
     grafted : IsGrafted g (extended_by g cut)
-    grafted = record { blocks = cut_blocks (length g.outputs) cut; fit = blocks_fit g cut fits; is = refl }
+    grafted = blocks_grafted g (cut_blocks (length g.outputs) cut) (blocks_fit g cut fits)
 
     clauses_over : (lines : List ClauseLine) → length lines ≤ 2 * (task.conflicts + 2 * length g.outputs) → All (λ line. IsClause (clause_in line)) lines → (cut ≡ None → lines ≡ []) → AreLawfulClauseLines (extended_by g cut) lines →
         AreClausesOver g task cut (any_file_text header lines)
@@ -226,21 +226,18 @@ module _ (g : Aig) (task : Task) where
 
   pub wrong_is_decision : (used : Option Cut) (d : Decision) → IsWrongAs g claim d → IsDecision g task used d
   wrong_is_decision used (decision.Proved p) h = absurd h
-  wrong_is_decision used (decision.Wrong a b value product) h = h
-  wrong_is_decision used (decision.WrongSum a b c value sum) h = h
+  wrong_is_decision used (decision.Wrong d) h = h
   wrong_is_decision used (decision.Undecided tried step size seen) h = absurd h
 
   pub wrong_decides : (cut : Option Cut) (d : Decision) → IsWrongAs g claim d → Decides g task cut d
   wrong_decides cut (decision.Proved p) h = absurd h
-  wrong_decides cut (decision.Wrong a b value product) h = h
-  wrong_decides cut (decision.WrongSum a b c value sum) h = h
+  wrong_decides cut (decision.Wrong d) h = h
   wrong_decides cut (decision.Undecided tried step size seen) h = absurd h
 
   -- over a graph that is one to end with
   decided : (used cut : Option Cut) (d : Decision) → IsProvedOver g claim budget used cut → Decides g task cut d → IsDecision g task used d
   decided used cut (decision.Proved p) over h = (h.0, h.1, (cut, over, h.2))
-  decided used cut (decision.Wrong a b value product) over h = h
-  decided used cut (decision.WrongSum a b c value sum) over h = h
+  decided used cut (decision.Wrong d) over h = h
   decided used cut (decision.Undecided tried step size seen) over h = absurd h
 
   -- that with the cut in use, or alone where none is

@@ -15,7 +15,7 @@ use Rattle.mv_desk.specs.View.{View, bytes_under}
 use Rattle.mv_desk.specs.declared.limits.Limits.{Limits}
 use Rattle.command_core.specs.Files.{Files}
 use Rattle.joint_prover.specs.declared.note.Note.{Note}
-use Rattle.joint_prover.specs.declared.task.Task.{Task}
+use Rattle.command_core.specs.declared.task.Task.{Task}
 use Rattle.joint_prover.specs.declared.verdict.Verdict.{Verdict}
 use Rattle.joint_prover.specs.declared.verdict.Verdict.TheVariants.{Proved, Stopped}
 use Rattle.joint_prover.specs.Verdicts.{IsVerdict, judgement}

@@ -6,18 +6,17 @@ use Rattle.graph_core.specs.Graph.Operands.{Does}
 use Rattle.ripple_graft.specs.declared.cut.Cut.{Cut}
 use Rattle.pair_core.specs.Texts.{CanBeWritten, algebra_text, clauses_text}
 use Rattle.joint_prover.specs.declared.decision.Decision.{Decision}
-use Rattle.joint_prover.specs.declared.decision.Decision.TheVariants.{Proved, Wrong, WrongSum, Undecided}
-use Rattle.joint_prover.specs.declared.task.Task.{Task}
+use Rattle.joint_prover.specs.declared.decision.Decision.TheVariants.{Proved, Wrong, Undecided}
+use Rattle.command_core.specs.declared.task.Task.{Task}
 use Rattle.joint_prover.specs.Pairs.{IsPairFor}
 use Rattle.joint_prover.specs.Tries.{AreTried}
-use Rattle.joint_prover.specs.Verdicts.{HaveManyOnes, IsFirstAbove, IsSeen, IsWrong, IsWrongSum}
+use Rattle.joint_prover.specs.Verdicts.{HaveManyOnes, IsFirstAbove, IsSeen, IsWrong}
 
 -- With this cut in use or none: the graph does what is claimed, and the pair is one for it that can be written; the least numbers on which
 -- it doesn't; or what was tried, where all plans passed the budget, and perhaps numbers on which it is seen that it doesn't.
 abbrev pub IsDecision : Aig → Task → Option Cut → Decision → Type 0
 IsDecision g task used (Proved p) = Does task.claim g × CanBeWritten p × IsPairFor g task used (clauses_text p) (algebra_text p)
-IsDecision g task used (Wrong a b value product) = IsWrong g task.claim a b value product
-IsDecision g task used (WrongSum a b c value sum) = IsWrongSum g task.claim a b c value sum
+IsDecision g task used (Wrong d) = IsWrong g task.claim d
 IsDecision g task used (Undecided tried step size seen) =
     IsFirstAbove g task.claim task.budget step size × AreTried g task.claim task.budget used tried.items × HaveManyOnes g task.claim ×
     IfSome seen (IsSeen g task.claim)

@@ -1,5 +1,5 @@
 -- What plans run over and come to, and what is told of it. Private clauses alone cite this file.
-use Rattle.std.specs.Prelude.{◌≡◌, ◌⊎◌, ℕ, ◌+◌, ◌*◌, ◌≤◌, Bool, true, false, List, [], length, option_map, take, IfSome, IsSome}
+use Rattle.std.specs.Prelude.{◌≡◌, ◌⊎◌, ℕ, ◌+◌, ◌*◌, ◌≤◌, ◌&&◌, not, if◌then◌else◌, Bool, true, false, List, [], length, option_map, take, IfSome, IsSome, ⊤}
 use Rattle.std.specs.declared.option.Option.{Option}
 use Rattle.std.specs.declared.option.Option.TheVariants.{None, Some}
 use Rattle.clause_core.specs.ClauseLines.{AreLawfulClauseLines}
@@ -20,11 +20,13 @@ use Rattle.graph_core.specs.declared.claim.Claim.{Claim}
 use Rattle.graph_core.specs.declared.numbers.Numbers.{Numbers}
 use Rattle.graph_core.specs.Text.JudgedLines.{Lengths}
 use Rattle.mv_desk.specs.View.{View, Rose}
+use Rattle.mv_text.specs.LineReading.{lengths_of}
 use Rattle.mv_desk.specs.declared.slot.Slot.{Slot}
 use Rattle.pac_writer.specs.Writing.{Made, written_ledger}
 use Rattle.pair_core.specs.Texts.{CanBeWritten, algebra_text, clauses_text}
 use Rattle.pair_limits.specs.TooLong.{IsFirstTooLong}
 use Rattle.poly_terms.specs.Tables.{Sum, modulus_in}
+use Rattle.ripple_graft.specs.Beside.{nothing as nothing_beside}
 use Rattle.ripple_graft.specs.Extension.{IsExtension}
 use Rattle.ripple_graft.specs.HeaderBlocks.{IsCutOf, cut_blocks}
 use Rattle.ripple_graft.specs.declared.cut.Cut.{Cut}
@@ -34,19 +36,20 @@ use Rattle.slice_planner.specs.declared.order.Order.TheVariants.{Slices}
 use Rattle.joint_prover.specs.declared.decision.Decision.{Decision}
 use Rattle.joint_prover.specs.declared.decision.Decision.TheVariants as decision
 use Rattle.joint_prover.specs.declared.decision.Outcome.{Outcome}
+use Rattle.joint_prover.specs.declared.ended.Ended.{Ended}
 use Rattle.joint_prover.specs.declared.decision.Outcome.TheVariants.{Decided, Passed}
 use Rattle.joint_prover.specs.declared.note.Note.{Note}
 use Rattle.joint_prover.specs.declared.shown.Shown.{Shown}
 use Rattle.joint_prover.specs.declared.task.Job.{Job}
-use Rattle.joint_prover.specs.declared.task.Task.{Task}
+use Rattle.command_core.specs.declared.task.Task.{Task}
 use Rattle.joint_prover.specs.declared.verdict.Tried.{Tried}
 use Rattle.joint_prover.specs.declared.verdict.Verdict.{Verdict}
 use Rattle.joint_prover.specs.declared.verdict.Verdict.TheVariants as verdict
+use Rattle.joint_prover.specs.Decisions.{IsDecision}
+use Rattle.joint_prover.specs.Notes.{IsFoundCut}
 use Rattle.joint_prover.specs.Pairs.{IsPairOver, IsVersion}
 use Rattle.joint_prover.specs.Tries.{EndsWithCut, extended_by}
-use Rattle.joint_prover.specs.declared.seen.Seen.{Seen}
-use Rattle.joint_prover.specs.declared.seen.Seen.TheVariants as sight
-use Rattle.joint_prover.specs.Verdicts.{IsWrong, IsWrongSum}
+use Rattle.joint_prover.specs.Verdicts.{IsWrong}
 
 -- ---- the graphs that plans run over
 
@@ -128,20 +131,9 @@ pub record IsTriedAt (steps : List Step) (count size : ℕ) (rewritten : Bool) (
 
 -- ---- what a plan decides
 
--- the decision that numbers are the least on which the graph differs, without an addend and with one
-abbrev pub wrong_at : Bool → Numbers → ℕ → ℕ → Decision
-wrong_at false x value due = decision.Wrong x.a x.b value due
-wrong_at true x value due = decision.WrongSum x.a x.b x.c value due
-
--- and that it is seen to differ on them
-abbrev pub seen_as : Bool → Numbers → ℕ → ℕ → Seen
-seen_as false x value due = sight.Product x.a x.b value due
-seen_as true x value due = sight.Sum x.a x.b x.c value due
-
 -- the least numbers on which the graph differs
 abbrev pub IsWrongAs : Aig → Claim → Decision → Type 0
-IsWrongAs g claim (decision.Wrong a b value product) = IsWrong g claim a b value product
-IsWrongAs g claim (decision.WrongSum a b c value sum) = IsWrongSum g claim a b c value sum
+IsWrongAs g claim (decision.Wrong d) = IsWrong g claim d
 IsWrongAs g claim _ = ⊥
 
 -- over the graph with this cut or alone
@@ -159,9 +151,57 @@ IsOutcome g task cut order budget (Decided d) = IsEnd g task cut d
 IsOutcome g task cut order budget (Passed plan step size) = order ≡ Slices →
     IsSlicePlan (extended_by g cut) plan.steps × IsPassed (planned (extended_by g cut) plan.steps 0) (sides_for task.claim g) budget step size
 
+-- ---- what several plans decide
+
+-- a pair that it has can be written
+abbrev pub HasWritable : Decision → Type 0
+HasWritable (decision.Proved p) = CanBeWritten p
+HasWritable d = ⊤
+
+-- a pair that it has is within the limits
+abbrev pub IsShort : Lengths → Decision → Type 0
+IsShort lengths (decision.Proved p) = IsFirstTooLong lengths (clauses_text p) (algebra_text p) None
+IsShort lengths d = ⊤
+
+-- Whether it is so is told.
+pub record IsMeasured (lengths : Lengths) (e : Ended) : Type 0 where
+  pub short : e.is_long ≡ false → IsShort lengths e.decision
+  pub long : e.is_long ≡ true → ¬ (IsShort lengths e.decision)
+
+-- A plan over the graph with this cut or alone has decided this.
+pub record IsEndedOver (job : Job) (cut : Option Cut) (e : Ended) : Type 0 where
+  pub decides : Decides job.graph.now job.task cut e.decision
+  pub found : e.found ≡ None
+  pub measured : IsMeasured (lengths_of job.limits) e
+
+-- Plans have decided this, with the cut in use or one that was found.
+pub record IsEndedFor (job : Job) (e : Ended) : Type 0 where
+  pub decision : IsDecision job.graph.now job.task (cut_of_found (cut_named job.used) e.found) e.decision
+  pub found : IfSome e.found (IsFoundCut job.graph.now)
+  pub measured : IsMeasured (lengths_of job.limits) e
+
+-- the same over the graph with a cut that was found
+abbrev pub over_cut : Cut → Ended → Ended
+over_cut cut e = record { decision = e.decision; found = Some cut; is_long = e.is_long }
+
+-- something is decided, and by no pair past the limits
+abbrev pub is_settled : Option Ended → Bool
+is_settled None = false
+is_settled (Some e) = not e.is_long
+
+-- the first, unless it is long and the later one isn't
+abbrev pub shorter : Ended → Option Ended → Ended
+shorter first None = first
+shorter first (Some later) = if first.is_long && not later.is_long then later else first
+
+-- the first that isn't long, or else the first
+abbrev pub first_short : Option Ended → Option Ended → Option Ended
+first_short None later = later
+first_short (Some first) later = Some (shorter first later)
+
 -- the header that names a cut
 abbrev pub header_of : Aig → ℕ → Option Cut → Header
-header_of g version cut = record { version = version; blocks = cut_blocks (length g.outputs) cut }
+header_of g version cut = record { version = version; blocks = cut_blocks (length g.outputs) cut; beside = nothing_beside }
 
 -- ---- what is told
 
@@ -173,6 +213,5 @@ IsTold lengths files before after (decision.Proved p) n v noted =
     IsFirstTooLong lengths (clauses_text p) (algebra_text p) long) ⊎
     ((v ≡ verdict.Stopped stop.WriteFault) × (noted ≡ None) × Rose before.write_faults after.write_faults ×
     StopsWriting files (λ text. text ≡ clauses_text p) (λ beside text. text ≡ algebra_text p) before after)
-IsTold lengths files before after (decision.Wrong a b value product) n v noted = (v ≡ verdict.Wrong a b value product) × (noted ≡ Some n) × (after ≡ before)
-IsTold lengths files before after (decision.WrongSum a b c value sum) n v noted = (v ≡ verdict.WrongSum a b c value sum) × (noted ≡ Some n) × (after ≡ before)
+IsTold lengths files before after (decision.Wrong d) n v noted = (v ≡ verdict.Wrong d) × (noted ≡ Some n) × (after ≡ before)
 IsTold lengths files before after (decision.Undecided tried step size seen) n v noted = (v ≡ verdict.Undecided tried step size seen) × (noted ≡ Some n) × (after ≡ before)

@@ -1,5 +1,5 @@
 -- The note on a rewriting, and where each kind of it comes.
-use Rattle.std.specs.Prelude.{◌≡◌, ℕ, Bool, true, false}
+use Rattle.std.specs.Prelude.{◌≡◌, ℕ, Bool}
 use Rattle.std.specs.declared.option.Option.{Option}
 use Rattle.std.specs.declared.option.Option.TheVariants.{None, Some}
 use Rattle.graph_core.specs.Graph.Extended.{AgreeOnColumns}
@@ -32,13 +32,12 @@ pub record IsFoundCut (g : Aig) (cut : Cut) : Type 0 where
 abbrev pub DiffersAtStage : Aig → Claim → Numbers → Type 0
 DiffersAtStage g claim x = (cut : Cut) × IsFinalStage g cut × IsRewritingDifference (with_cut g cut) (sides_for claim g) x
 
--- Each kind by its cause: there is no final stage; operands on which some new output differs from the old one, or operands and an addend;
--- as many lemmas as there may be conflicts, and the goal in hand doesn't follow.
+-- Each kind by its cause: there is no final stage; numbers on which some new output differs from the old one, and whether there is an
+-- addend; as many lemmas as there may be conflicts, and the goal in hand doesn't follow.
 abbrev pub IsNote : Aig → Claim → ℕ → Note → Type 0
 IsNote g claim conflicts (note.Used cut) = IsUsedCut g cut
 IsNote g claim conflicts note.None = (cut : Cut) → ¬ (IsFinalStage g cut)
-IsNote g claim conflicts (note.Differs a b) = (has_addend claim.widths ≡ false) × DiffersAtStage g claim (record { a = a; b = b; c = 0 })
-IsNote g claim conflicts (note.DiffersSum a b c) = (has_addend claim.widths ≡ true) × DiffersAtStage g claim (record { a = a; b = b; c = c })
+IsNote g claim conflicts (note.Differs x add) = (has_addend claim.widths ≡ add) × DiffersAtStage g claim x
 IsNote g claim conflicts (note.Spent lemmas goal log) = (cut : Cut) × IsFinalStage g cut × IsSpent (with_cut g cut) conflicts lemmas goal log
 IsNote g claim conflicts (note.Found cut) = IsFoundCut g cut
 
@@ -46,21 +45,15 @@ IsNote g claim conflicts (note.Found cut) = IsFoundCut g cut
 abbrev pub cut_of : Note → Option Cut
 cut_of (note.Used cut) = Some cut
 cut_of note.None = None
-cut_of (note.Differs a b) = None
-cut_of (note.DiffersSum a b c) = None
+cut_of (note.Differs x add) = None
 cut_of (note.Spent lemmas goal log) = None
 cut_of (note.Found cut) = Some cut
-
--- the note that numbers differ, without an addend and with one
-abbrev pub differing : Bool → Numbers → Note
-differing false x = note.Differs x.a x.b
-differing true x = note.DiffersSum x.a x.b x.c
 
 -- the note on what came of a rewriting
 abbrev pub rewriting_note_of : Bool → Rewriting → Note
 rewriting_note_of add (kind.Used cut extended log) = note.Used cut
 rewriting_note_of add kind.None = note.None
-rewriting_note_of add (kind.Differs x) = differing add x
+rewriting_note_of add (kind.Differs x) = note.Differs x add
 rewriting_note_of add (kind.Spent lemmas goal log) = note.Spent lemmas goal log
 
 -- and where a cut was found

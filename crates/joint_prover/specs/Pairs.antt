@@ -9,6 +9,7 @@ use Rattle.algebra_core.specs.Text.{IsLawfulAlgebraFile}
 use Rattle.graph_core.specs.Graph.Operands.{sides_for}
 use Rattle.graph_core.specs.Graph.{Aig}
 use Rattle.graph_core.specs.Text.JudgedLines.{IsWithin, Lengths}
+use Rattle.ripple_graft.specs.Beside.{nothing}
 use Rattle.ripple_graft.specs.HeaderBlocks.{cut_blocks}
 use Rattle.ripple_graft.specs.declared.cut.Cut.{Cut}
 use Rattle.clause_core.specs.Clause.{IsClause}
@@ -17,7 +18,7 @@ use Rattle.drup_text.specs.WrittenTexts.{any_file_text}
 use Rattle.pac_writer.specs.Certificates.{written_certificate}
 use Rattle.pac_writer.specs.Spare.{IsSpareLine}
 use Rattle.pair_core.specs.ClauseFiles.{GivesPremises, premises}
-use Rattle.joint_prover.specs.declared.task.Task.{Task}
+use Rattle.command_core.specs.declared.task.Task.{Task}
 use Rattle.joint_prover.specs.Tries.{IsProvedOver, extended_by}
 
 -- a version of certificates
@@ -31,7 +32,7 @@ pub record NamesCut (most version : ℕ) (g : Aig) (cut : Option Cut) (text : Li
   pub few : length lines ≤ most
   pub once : All (λ line. IsClause (clause_in line)) lines
   pub none : cut ≡ None → lines ≡ []
-  pub text_is : text ≡ any_file_text (record { version = version; blocks = cut_blocks (length g.outputs) cut }) lines
+  pub text_is : text ≡ any_file_text (record { version = version; blocks = cut_blocks (length g.outputs) cut; beside = nothing }) lines
 
 -- Premises of this version over the graph with this cut.
 pub record ArePremisesOver (g : Aig) (version : ℕ) (cut : Option Cut) (p : Premises) : Type 0 where

@@ -1,5 +1,5 @@
 -- What `verify` says of a graph file, and where each verdict comes.
-use Rattle.std.specs.Prelude.{◌≡◌, ◌⊎◌, ℕ, ◌%◌, ◌<◌, ◌≤◌, Bool, true, false, List, length, IfSome, IsSomeAnd, ⊤}
+use Rattle.std.specs.Prelude.{◌≡◌, ◌⊎◌, ℕ, ◌%◌, ◌<◌, ◌≤◌, Bool, List, length, IfSome, IsSomeAnd, ⊤}
 use Rattle.std.specs.declared.option.Option.{Option}
 use Rattle.std.specs.declared.option.Option.TheVariants.{None, Some}
 use Rattle.aiger_reader.specs.Refusals.{SpellsWithin}
@@ -11,7 +11,6 @@ use Rattle.graph_core.specs.Graph.{Aig}
 use Rattle.graph_core.specs.Graph.Extended.{without_cut}
 use Rattle.graph_core.specs.Graph.Operands.{Does, claimed_at, has_addend, inputs_at, output_modulus, profile_of, sides_for, value_at}
 use Rattle.graph_core.specs.declared.claim.Claim.{Claim}
-use Rattle.graph_core.specs.declared.numbers.Numbers.{Numbers}
 use Rattle.mv_desk.specs.View.{View, Rose, bytes_under, IsTold}
 use Rattle.mv_desk.specs.declared.limits.Limits.{Limits}
 use Rattle.mv_desk.specs.declared.slot.Slot.{Slot}
@@ -21,12 +20,11 @@ use Rattle.mv_text.specs.LineReading.{lengths_of}
 use Rattle.pair_core.specs.Certificates.{IsPair}
 use Rattle.pair_limits.specs.TooLong.{IsFirstTooLong}
 use Rattle.command_core.specs.Files.{AreDistinct, Files, HasGraph}
+use Rattle.joint_prover.specs.declared.difference.Difference.{Difference}
 use Rattle.joint_prover.specs.declared.note.Note.{Note}
-use Rattle.joint_prover.specs.declared.seen.Seen.{Seen}
-use Rattle.joint_prover.specs.declared.seen.Seen.TheVariants.{Product, Sum}
-use Rattle.joint_prover.specs.declared.task.Task.{Task}
+use Rattle.command_core.specs.declared.task.Task.{Task}
 use Rattle.joint_prover.specs.declared.verdict.Verdict.{Verdict}
-use Rattle.joint_prover.specs.declared.verdict.Verdict.TheVariants.{Proved, Wrong, WrongSum, Undecided, Stopped}
+use Rattle.joint_prover.specs.declared.verdict.Verdict.TheVariants.{Proved, Wrong, Undecided, Stopped}
 use Rattle.joint_prover.specs.Notes.{IsNote, cut_of}
 use Rattle.joint_prover.specs.Pairs.{AreClausesFor, IsPairFor}
 use Rattle.joint_prover.specs.Tries.{AreTried, IsWithinBudget}
@@ -75,41 +73,21 @@ HaveManyOnes g claim = (bits : List Bool) → IsDifferenceAt g (sides_for claim 
 
 -- ---- the verdicts
 
--- The least numbers on which the graph's value isn't what is claimed of them, with both; and whether there is an addend.
-pub record IsWrongAt (g : Aig) (claim : Claim) (add : Bool) (x : Numbers) (value due : ℕ) : Type 0 where
-  pub addend : has_addend claim.widths ≡ add
-  pub least : IsLeastDifference g (sides_for claim g) x
-  pub value_is : value ≡ value_at g (sides_for claim g) x
-  pub claimed_is : due ≡ claimed_at (output_modulus g) (sides_for claim g) x % output_modulus g
+-- They are the graph's value on the numbers, and what is claimed of these; and whether there is an addend.
+pub record IsValued (g : Aig) (claim : Claim) (d : Difference) : Type 0 where
+  pub addend : has_addend claim.widths ≡ d.has_addend
+  pub value_is : d.value ≡ value_at g (sides_for claim g) d.numbers
+  pub claimed_is : d.claimed ≡ claimed_at (output_modulus g) (sides_for claim g) d.numbers % output_modulus g
 
--- two operands, and two operands and an addend, as numbers
-abbrev pub two : ℕ → ℕ → Numbers
-two a b = record { a = a; b = b; c = 0 }
-
-abbrev pub three : ℕ → ℕ → ℕ → Numbers
-three a b c = record { a = a; b = b; c = c }
-
--- The least operands on which the graph's value isn't the product of the numbers that they stand for, with its value and the product.
-abbrev pub IsWrong : Aig → Claim → ℕ → ℕ → ℕ → ℕ → Type 0
-IsWrong g claim a b value product = IsWrongAt g claim false (two a b) value product
-
--- The same for a claim with an addend: the least operands and addend, the graph's value, and the product plus the addend.
-abbrev pub IsWrongSum : Aig → Claim → ℕ → ℕ → ℕ → ℕ → ℕ → Type 0
-IsWrongSum g claim a b c value sum = IsWrongAt g claim true (three a b c) value sum
-
--- ---- seen
+-- The least numbers on which the graph's value isn't what is claimed of them, with both.
+pub record IsWrong (g : Aig) (claim : Claim) (d : Difference) : Type 0 where
+  pub least : IsLeastDifference g (sides_for claim g) d.numbers
+  pub valued : IsValued g claim d
 
 -- Numbers on which the graph's value isn't what is claimed of them, with both; other ones may be less.
-pub record IsSeenAt (g : Aig) (claim : Claim) (add : Bool) (x : Numbers) (value due : ℕ) : Type 0 where
-  pub addend : has_addend claim.widths ≡ add
-  pub difference : IsDifference g (sides_for claim g) x
-  pub value_is : value ≡ value_at g (sides_for claim g) x
-  pub claimed_is : due ≡ claimed_at (output_modulus g) (sides_for claim g) x % output_modulus g
-
--- The graph differs on these numbers from what is claimed, and has this value there.
-abbrev pub IsSeen : Aig → Claim → Seen → Type 0
-IsSeen g claim (Product a b value product) = IsSeenAt g claim false (two a b) value product
-IsSeen g claim (Sum a b c value sum) = IsSeenAt g claim true (three a b c) value sum
+pub record IsSeen (g : Aig) (claim : Claim) (d : Difference) : Type 0 where
+  pub difference : IsDifference g (sides_for claim g) d.numbers
+  pub valued : IsValued g claim d
 
 -- ---- where each verdict comes
 
@@ -129,12 +107,8 @@ IsVerdict limits task files before after (Proved long) noted =
     (read : View) × ReadsGraph before read ×
     ((clauses : List ℕ) × (algebra : List ℕ) × IsPairFor g task used clauses algebra × WritesPair files clauses algebra read after ×
     IsFirstTooLong (lengths_of limits) clauses algebra long)))
-IsVerdict limits task files before after (Wrong a b value product) noted =
-    IsOfFile limits.graph task files before (λ g. IsWrong g task.claim a b value product × HasNote g task noted (λ used. ⊤)) ×
-    ReadsGraph before after
-IsVerdict limits task files before after (WrongSum a b c value sum) noted =
-    IsOfFile limits.graph task files before (λ g. IsWrongSum g task.claim a b c value sum × HasNote g task noted (λ used. ⊤)) ×
-    ReadsGraph before after
+IsVerdict limits task files before after (Wrong d) noted =
+    IsOfFile limits.graph task files before (λ g. IsWrong g task.claim d × HasNote g task noted (λ used. ⊤)) × ReadsGraph before after
 IsVerdict limits task files before after (Undecided tried step size seen) noted =
     IsOfFile limits.graph task files before (λ g. IsFirstAbove g task.claim task.budget step size ×
     HasNote g task noted (λ used. AreTried g task.claim task.budget used tried.items) × HaveManyOnes g task.claim ×
@@ -168,13 +142,9 @@ judgement given = given
 abbrev pub IsVerdictDue : ℕ → Task → List ℕ → Verdict → Type 0
 IsVerdictDue limit task file (Proved None) =
     (g : Aig) × SpellsWithin (profile_of task.claim.widths) limit file g × IsWithinBudget g task.claim task.budget × Does task.claim g
-IsVerdictDue limit task file (Wrong a b value product) =
+IsVerdictDue limit task file (Wrong d) =
     (g : Aig) × SpellsWithin (profile_of task.claim.widths) limit file g ×
-    (IsWithinBudget g task.claim task.budget ⊎ HasFewOnes (inputs_at (sides_for task.claim g) (two a b))) × IsWrong g task.claim a b value product
-IsVerdictDue limit task file (WrongSum a b c value sum) =
-    (g : Aig) × SpellsWithin (profile_of task.claim.widths) limit file g ×
-    (IsWithinBudget g task.claim task.budget ⊎ HasFewOnes (inputs_at (sides_for task.claim g) (three a b c))) ×
-    IsWrongSum g task.claim a b c value sum
+    (IsWithinBudget g task.claim task.budget ⊎ HasFewOnes (inputs_at (sides_for task.claim g) d.numbers)) × IsWrong g task.claim d
 IsVerdictDue limit task file (Stopped why) = IsGraphStop slot.Graph (profile_of task.claim.widths) limit (Some file) why
 IsVerdictDue limit task file _ = ⊥
 

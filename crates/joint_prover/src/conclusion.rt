@@ -5,18 +5,18 @@ ghost use Rattle.std.specs.List.{All};
 ghost use Rattle.clause_core.specs.Clause.{IsClause};
 ghost use Rattle.clause_core.specs.ClauseLines.{clause_in};
 ghost use Rattle.ripple_graft.specs.Blocks.{block_of};
-ghost use Rattle.joint_prover.specs.Endings.{AreLeast, Decides, IsJob, IsProof, IsShown, IsWrongAs, cut_named, header_of, wrong_at};
+ghost use Rattle.joint_prover.specs.Endings.{AreLeast, Decides, IsJob, IsProof, IsShown, IsWrongAs, cut_named, header_of};
 
 use crate::decision::Decision;
+use crate::difference::value_on;
 use crate::shown::Shown;
 use crate::task::Job;
 use clause_core::Line;
 use drup_text::Header;
 use graph_core::{Graph, Memory, Numbers};
-use operand_search::claimed_value;
 use pac_writer::Lines;
 use pair_core::Pair;
-use ripple_graft::{Block, BlockList, Cut, Pairs};
+use ripple_graft::{Beside, Block, BlockList, Cut, Pairs};
 use std::alloc::Global;
 
 /// Lines that are closed over an extended graph are an algebra certificate. What shows that graph is the clause
@@ -55,6 +55,7 @@ fn header(alloc: Global, job: &Job<'_>, shown: Shown<'_>) -> Result<Header, Memo
     Ok(Header {
         version: job.task.version,
         blocks: BlockList::from_vec(blocks),
+        beside: Beside::nothing(alloc),
     })
 }
 
@@ -108,30 +109,6 @@ pub(crate) fn refute(alloc: Global, job: &Job<'_>, numbers: Numbers) -> Result<D
     requires least { AreLeast job.now.graph.now job.now.operands.now numbers }
     ensures { IfOk result (IsWrongAs job.now.graph.now job.now.task.claim) }
 {
-    let value = job.graph.value_at(alloc, job.operands, numbers)?;
-    let claimed = claimed_value(job.operands, numbers, job.graph.outputs());
-    Ok(wrong(job.task.claim.widths.has_addend(), numbers, value, claimed))
-}
-
-// With an addend or without.
-fn wrong(has_addend: bool, numbers: Numbers, value: u128, claimed: u128) -> Decision
-    ensures { result ≡ wrong_at has_addend numbers value claimed }
-{
-    let Numbers { a, b, c } = numbers;
-    if has_addend {
-        Decision::WrongSum {
-            a,
-            b,
-            c,
-            value,
-            sum: claimed,
-        }
-    } else {
-        Decision::Wrong {
-            a,
-            b,
-            value,
-            product: claimed,
-        }
-    }
+    let difference = value_on(alloc, job, numbers)?;
+    Ok(Decision::Wrong(difference))
 }

@@ -1,5 +1,5 @@
 // What is decided of a graph, and what a plan comes to.
-use crate::seen::Seen;
+use crate::difference::Difference;
 use crate::verdict::Tried;
 use column_reducer::Plan;
 use pair_core::Pair;
@@ -10,24 +10,12 @@ pub enum Decision {
     /// The graph does what is claimed, as these certificates show.
     Proved(Pair),
     /// As of a `Verdict`.
-    Wrong {
-        a: u64,
-        b: u64,
-        value: u128,
-        product: u128,
-    },
-    WrongSum {
-        a: u64,
-        b: u64,
-        c: u128,
-        value: u128,
-        sum: u128,
-    },
+    Wrong(Difference),
     Undecided {
         tried: Vec<Tried>,
         plain_step: u64,
         plain_size: u64,
-        seen: Option<Seen>,
+        seen: Option<Difference>,
     },
 }
 

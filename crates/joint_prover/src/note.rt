@@ -3,7 +3,7 @@ ghost use Rattle.std.specs.Prelude.{◌≡◌, ℕ, IfSome};
 ghost use Rattle.graph_core.specs.Graph.{Aig};
 ghost use Rattle.graph_core.specs.Graph.Operands.{AreInRange, Sides};
 ghost use Rattle.stage_rewriter.specs.Rewriting.{IsRewriting};
-ghost use Rattle.joint_prover.specs.Notes.{differing, note_of, rewriting_note_of};
+ghost use Rattle.joint_prover.specs.Notes.{note_of, rewriting_note_of};
 
 use cdcl_solver::Log;
 use graph_core::Numbers;
@@ -17,10 +17,8 @@ pub enum Note {
     Used(Cut),
     /// The graph has no final stage.
     None,
-    /// Operands at which an output of the adder isn't the graph's.
-    Differs { a: u64, b: u64 },
-    /// With an addend the same: operands and an addend.
-    DiffersSum { a: u64, b: u64, c: u128 },
+    /// Operands, and an addend where there is one, at which an output of the adder isn't the graph's.
+    Differs { numbers: Numbers, has_addend: bool },
     /// As many lemmas as there may be conflicts, and beside them so many goals refuted before the one in hand.
     Spent { lemmas: u64, goal: u64, log: Log },
     /// At a cut that was found by the values of its variables the adder's outputs are the graph's on every evaluation,
@@ -30,12 +28,12 @@ pub enum Note {
 
 /// The note: a cut that was found, where a plan over the graph with its adder gave the verdict, or else what came of
 /// the rewriting. Neither the graph with the adder is kept nor the lines that show its goals.
-pub(crate) fn make_note(add: bool, rewritten: Rewriting<'_>, found: Option<Cut>) -> Note
-    ensures { result ≡ note_of add rewritten.entry found }
+pub(crate) fn make_note(has_addend: bool, rewritten: Rewriting<'_>, found: Option<Cut>) -> Note
+    ensures { result ≡ note_of has_addend rewritten.entry found }
 {
     match found {
         Some(cut) => Note::Found(cut),
-        None => rewriting_note(add, rewritten),
+        None => rewriting_note(has_addend, rewritten),
     }
 }
 
@@ -51,25 +49,16 @@ pub(crate) fn numbers_of(rewritten: &Rewriting<'_>) -> Option<Numbers>
 }
 
 // Where the claim has an addend or none.
-fn rewriting_note(add: bool, rewritten: Rewriting<'_>) -> Note
-    ensures { result ≡ rewriting_note_of add rewritten.entry }
+fn rewriting_note(has_addend: bool, rewritten: Rewriting<'_>) -> Note
+    ensures { result ≡ rewriting_note_of has_addend rewritten.entry }
 {
     match rewritten {
         Rewriting::Used { cut, .. } => Note::Used(cut),
         Rewriting::None => Note::None,
-        Rewriting::Differs(numbers) => differing(add, numbers),
+        Rewriting::Differs(numbers) => Note::Differs {
+            numbers,
+            has_addend,
+        },
         Rewriting::Spent { lemmas, goal, log } => Note::Spent { lemmas, goal, log },
-    }
-}
-
-// The note that numbers differ.
-fn differing(add: bool, numbers: Numbers) -> Note
-    ensures { result ≡ differing add numbers }
-{
-    let Numbers { a, b, c } = numbers;
-    if add {
-        Note::DiffersSum { a, b, c }
-    } else {
-        Note::Differs { a, b }
     }
 }

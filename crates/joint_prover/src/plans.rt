@@ -1,10 +1,10 @@
 // The order of plans: what is tried over which graph, with which budget, until one decides.
-ghost use Rattle.std.specs.Prelude.{◌≡◌, ◌≤◌, ◌++◌, ◌∷◌, [], Some, IfOk, IfSome, IsNone};
+ghost use Rattle.std.specs.Prelude.{◌≡◌, ◌≤◌, ◌++◌, ◌∷◌, [], Some, IfOk, IfSome, IsNone, option_map};
 ghost use Rattle.frontier_core.specs.LastFrontier.{AgreeEverywhere};
 ghost use Rattle.stage_rewriter.specs.Rewriting.{IsShownRewriting};
 ghost use Rattle.joint_prover.specs.declared.verdict.Tried.{Tried as TriedPlan};
 ghost use Rattle.joint_prover.specs.Decisions.{IsDecision};
-ghost use Rattle.joint_prover.specs.Endings.{AreLeast, Decides, IsEnd, IsJob, IsShown, cut_named, cut_of_found};
+ghost use Rattle.joint_prover.specs.Endings.{AreLeast, Decides, IsEnd, IsEndedFor, IsEndedOver, IsJob, IsShown, cut_named, cut_of_found, over_cut};
 ghost use Rattle.joint_prover.specs.Notes.{IsFoundCut};
 ghost use Rattle.joint_prover.specs.Tries.{IsTried};
 ghost use Rattle.joint_prover.specs.Verdicts.{HaveManyOnes};
@@ -12,7 +12,9 @@ ghost use Rattle.joint_prover.specs.Verdicts.{HaveManyOnes};
 use crate::conclusion::refute;
 use crate::decision::{Decision, Outcome};
 use crate::drafted::decide_by_drafts;
+use crate::ended::{Ended, first_short, is_settled};
 use crate::reduction::{frontier_after, reduce_along, reduce_plainly};
+use crate::shortened::shortened;
 use crate::shown::{Found, Shown, find_cut};
 use crate::task::Job;
 use crate::verdict::Tried;
@@ -61,7 +63,9 @@ const MORE: u64 = 1 << 29;
 // What it may cost where the graph is known to be wrong, and no plan tells where: at 64 bits, those with four ones.
 const LATE: u64 = 1 << 35;
 
-/// What the plans decide, and the cut that was found where a plan over the graph with its adder decided it.
+/// What the plans decide, and the cut that was found where a plan over the graph with its adder decided it. A pair that
+/// is past the limits is taken only where no plan with a small budget comes to one that isn't; then none with the whole
+/// budget is tried.
 pub(crate) fn decide_by_plans(
     alloc: Global,
     job: &Job<'_>,
@@ -71,35 +75,44 @@ pub(crate) fn decide_by_plans(
     ensures decision { IfOk result (λ r. IsDecision job.now.graph.now job.now.task
         (cut_of_found (cut_named job.now.used) r.1) r.0) }
 {
-    if let Some(decision) = decide_soon(alloc, job)? {
-        return Ok((decision, None));
-    }
-    if let Some(decided) = decide_by_values(alloc, job)? {
-        return Ok(decided);
+    if let Some(ended) = decide_early(alloc, job)? {
+        let Ended {
+            decision,
+            found,
+            ..
+        } = ended;
+        return Ok((decision, found));
     }
     let decision = decide_at_last(alloc, job)?;
     Ok((decision, None))
 }
 
-// What plans decide over the graph with an adder that is found by values, and over the graph of the first plan lines
-// that are drafted.
-fn decide_by_values(alloc: Global, job: &Job<'_>) -> Result<Option<(Decision, Option<Cut>)>, Memory>
+// What plans decide before the whole budget is spent on the graphs of the first plan and of the last.
+fn decide_early(alloc: Global, job: &Job<'_>) -> Result<Option<Ended>, Memory>
     requires { IsJob job.now }
-    ensures found { IfOk result (λ r. IfSome r (λ d. IfSome d.1 (IsFoundCut job.now.graph.now))) }
-    ensures decision { IfOk result (λ r. IfSome r (λ d. IsDecision job.now.graph.now job.now.task
-        (cut_of_found (cut_named job.now.used) d.1) d.0)) }
+    ensures { IfOk result (λ e. IfSome e (IsEndedFor job.now)) }
+{
+    let soon = decide_soon(alloc, job)?;
+    if is_settled(&soon) {
+        return Ok(soon);
+    }
+    let later = decide_by_values(alloc, job, soon.is_none())?;
+    Ok(first_short(soon, later))
+}
+
+// What plans decide over the graph with an adder that is found by values, and over the graph of the first plan lines
+// that are drafted. The whole budget is spent only where none has come to a pair, before them neither.
+fn decide_by_values(alloc: Global, job: &Job<'_>, is_open: bool) -> Result<Option<Ended>, Memory>
+    requires { IsJob job.now }
+    ensures { IfOk result (λ e. IfSome e (IsEndedFor job.now)) }
 {
     let (before, between) = drafted(job);
-    if let Some(decision) = decide_over(alloc, job, job.used, before)? {
-        return Ok(Some((decision, None)));
+    let first = decide_over(alloc, job, job.used, before)?;
+    if is_settled(&first) {
+        return Ok(first);
     }
-    if let Some(found) = find_cut(alloc, job.graph, job.operands, job.task.conflicts)? {
-        return decide_with(alloc, job, found, between);
-    }
-    if let Some(decision) = decide_over(alloc, job, job.used, between)? {
-        return Ok(Some((decision, None)));
-    }
-    Ok(None)
+    let later = decide_after(alloc, job, between, is_open && first.is_none())?;
+    Ok(first_short(first, later))
 }
 
 // The plans whose lines are drafted over the graph of the first plan: those before an adder by values, and those after
@@ -114,6 +127,22 @@ fn drafted(job: &Job<'_>) -> (&'static [Try], &'static [Try]) {
     }
 }
 
+// What plans decide over the graph with an adder that is found by values, if one is, and over that of the first plan.
+fn decide_after(
+    alloc: Global,
+    job: &Job<'_>,
+    between: &[Try],
+    is_open: bool,
+) -> Result<Option<Ended>, Memory>
+    requires { IsJob job.now }
+    ensures { IfOk result (λ e. IfSome e (IsEndedFor job.now)) }
+{
+    match find_cut(alloc, job.graph, job.operands, job.task.conflicts)? {
+        Some(found) => decide_with(alloc, job, found, between, is_open),
+        None => decide_over(alloc, job, job.used, between),
+    }
+}
+
 // What plans decide over the graph with the adder that was found, before and after some over the graph of the first
 // plan.
 fn decide_with<'a>(
@@ -121,27 +150,24 @@ fn decide_with<'a>(
     job: &Job<'a>,
     found: Found<'a>,
     between: &[Try],
-) -> Result<Option<(Decision, Option<Cut>)>, Memory>
+    is_open: bool,
+) -> Result<Option<Ended>, Memory>
     requires job { IsJob job.now }
     requires shown { IsShownRewriting job.now.graph.now job.now.task.conflicts
         found.cut found.extended found.log.lines }
     requires agree { AgreeEverywhere found.extended }
-    ensures found { IfOk result (λ r. IfSome r (λ d. IfSome d.1 (IsFoundCut job.now.graph.now))) }
-    ensures decision { IfOk result (λ r. IfSome r (λ d. IsDecision job.now.graph.now job.now.task
-        (cut_of_found (cut_named job.now.used) d.1) d.0)) }
+    ensures { IfOk result (λ e. IfSome e (IsEndedFor job.now)) }
 {
-    if let Some(decision) = decide_over_found(alloc, job, &found, &FOUND)? {
-        let Found { cut, .. } = found;
-        return Ok(Some((decision, Some(cut))));
+    let first = decide_over_found(alloc, job, &found, &FOUND)?;
+    if is_settled(&first) {
+        return Ok(with_cut(first, found));
     }
-    if let Some(decision) = decide_over(alloc, job, job.used, between)? {
-        return Ok(Some((decision, None)));
+    let second = decide_over(alloc, job, job.used, between)?;
+    if is_open && first.is_none() && second.is_none() {
+        let last = decide_over_found(alloc, job, &found, &FOUND_AT_LAST)?;
+        return Ok(with_cut(last, found));
     }
-    if let Some(decision) = decide_over_found(alloc, job, &found, &FOUND_AT_LAST)? {
-        let Found { cut, .. } = found;
-        return Ok(Some((decision, Some(cut))));
-    }
-    Ok(None)
+    Ok(first_short(with_cut(first, found), second))
 }
 
 // What the first of these plans over the graph with an adder decides that keeps to its budget.
@@ -150,32 +176,45 @@ fn decide_over_found<'a>(
     job: &Job<'a>,
     found: &Found<'a>,
     plans: &[Try],
-) -> Result<Option<Decision>, Memory>
+) -> Result<Option<Ended>, Memory>
     requires job { IsJob job.now }
     requires shown { IsShownRewriting job.now.graph.now job.now.task.conflicts
         found.now.cut found.now.extended found.now.log.lines }
     requires agree { AgreeEverywhere found.now.extended }
-    ensures { IfOk result (λ d. IfSome d
-        (Decides job.now.graph.now job.now.task (Some found.now.cut))) }
+    ensures { IfOk result (λ e. IfSome e (IsEndedOver job.now (Some found.now.cut))) }
 {
     let shown = Shown::with_adder(&found.cut, &found.extended, &found.log);
     // the job is lent again, since what was found lives shorter
     decide_over(alloc, &*job, shown, plans)
 }
 
+// What plans over the graph with an adder that was found have decided, with its cut.
+fn with_cut(ended: Option<Ended>, found: Found<'_>) -> Option<Ended>
+    ensures { result ≡ option_map (over_cut found.entry.cut) ended }
+{
+    let Found { cut, .. } = found;
+    match ended {
+        Some(ended) => Some(ended.over(cut)),
+        None => None,
+    }
+}
+
 // Before a plan has more than the small budget: most graphs are decided here.
-fn decide_soon(alloc: Global, job: &Job<'_>) -> Result<Option<Decision>, Memory>
+fn decide_soon(alloc: Global, job: &Job<'_>) -> Result<Option<Ended>, Memory>
     requires { IsJob job.now }
-    ensures { IfOk result (λ d. IfSome d
-        (IsDecision job.now.graph.now job.now.task (cut_named job.now.used))) }
+    ensures { IfOk result (λ e. IfSome e (IsEndedFor job.now)) }
 {
     if let Some(decision) = seen_wrong(alloc, job)? {
-        return Ok(Some(decision));
+        return Ok(Some(Ended::of(decision, &job.limits)));
     }
-    if let Some(decision) = decide_over(alloc, job, job.used, &SOON)? {
-        return Ok(Some(decision));
+    let soon = decide_over(alloc, job, job.used, &SOON)?;
+    if soon.is_some() {
+        return Ok(soon);
     }
-    wrong_on_few(alloc, job, FEW)
+    match wrong_on_few(alloc, job, FEW)? {
+        Some(decision) => Ok(Some(Ended::of(decision, &job.limits))),
+        None => Ok(None),
+    }
 }
 
 // With the whole budget, where values of the inputs with few ones don't show that the graph is wrong, the slice plan
@@ -210,30 +249,72 @@ fn is_seen(decision: &Decision) -> bool {
     matches!(decision, Decision::Undecided { seen: Some(_), .. })
 }
 
-// What the first of these plans over an extended graph decides that keeps to its budget.
+// What the first of these plans over an extended graph decides that keeps to its budget, and comes to no pair past the
+// limits; or else the first that keeps to its budget, with its long lines in several.
 fn decide_over<'a>(
     alloc: Global,
     job: &Job<'a>,
     shown: Shown<'a>,
     plans: &[Try],
-) -> Result<Option<Decision>, Memory>
+) -> Result<Option<Ended>, Memory>
     requires job { IsJob job.now }
     requires shown { IsShown job.now.graph.now job.now.task.conflicts shown }
-    ensures { IfOk result (λ d. IfSome d
-        (Decides job.now.graph.now job.now.task (cut_named shown.entry))) }
+    ensures { IfOk result (λ e. IfSome e (IsEndedOver job.now (cut_named shown.entry))) }
 {
-    let small = small_budget(job.operands.a_width().max(job.operands.b_width()));
-    for &(lines, order, times) in plans {
-        let budget = job.task.budget.min(small.saturating_mul(times));
-        let decided = match lines {
-            Lines::Reduced => decide_along(alloc, job, shown, order, budget)?,
-            Lines::Drafted => decide_by_drafts(alloc, job, shown, order, budget)?,
-        };
-        if let Some(decision) = decided {
-            return Ok(Some(decision));
+    let mut first = None;
+    for &plan in plans {
+        let ended = decide_by(alloc, job, shown, plan)?;
+        first = first_short(first, ended);
+        if is_settled(&first) {
+            return Ok(first);
         }
     }
-    Ok(None)
+    Ok(with_short_lines(alloc, job, shown, first))
+}
+
+// The same, where a pair that is past the limits is written anew.
+fn with_short_lines<'a>(
+    alloc: Global,
+    job: &Job<'a>,
+    shown: Shown<'a>,
+    ended: Option<Ended>,
+) -> Option<Ended>
+    requires job { IsJob job.now }
+    requires shown { IsShown job.now.graph.now job.now.task.conflicts shown }
+    requires over { IfSome ended (IsEndedOver job.now (cut_named shown)) }
+    ensures { IfSome result (IsEndedOver job.now (cut_named shown.entry)) }
+{
+    match ended {
+        Some(ended) => {
+            let decision = shortened(alloc, job, shown, ended.decision);
+            Some(Ended::of(decision, &job.limits))
+        }
+        None => None,
+    }
+}
+
+// What one of them decides, if it keeps to its budget.
+fn decide_by<'a>(
+    alloc: Global,
+    job: &Job<'a>,
+    shown: Shown<'a>,
+    plan: Try,
+) -> Result<Option<Ended>, Memory>
+    requires job { IsJob job.now }
+    requires shown { IsShown job.now.graph.now job.now.task.conflicts shown }
+    ensures { IfOk result (λ e. IfSome e (IsEndedOver job.now (cut_named shown.entry))) }
+{
+    let (lines, order, times) = plan;
+    let small = small_budget(job.operands.a_width().max(job.operands.b_width()));
+    let budget = job.task.budget.min(small.saturating_mul(times));
+    let decided = match lines {
+        Lines::Reduced => decide_along(alloc, job, shown, order, budget)?,
+        Lines::Drafted => decide_by_drafts(alloc, job, shown, order, budget)?,
+    };
+    match decided {
+        Some(decision) => Ok(Some(Ended::of(decision, &job.limits))),
+        None => Ok(None),
+    }
 }
 
 // What the plan of this order decides, where it keeps to the budget.
@@ -272,7 +353,7 @@ fn try_whole<'a>(
         IsTried job.now.graph.now job.now.task.claim job.now.task.budget (cut_named shown.entry) last) }
 {
     match reduce_along(alloc, job, shown, Order::Slices, job.task.budget)? {
-        Outcome::Decided(decision) => Ok(Some(decision)),
+        Outcome::Decided(decision) => Ok(Some(shortened(alloc, job, shown, decision))),
         Outcome::Passed { plan, step, size } => {
             let last = frontier_after(alloc, &plan, step, size, shown.cut.is_some())?;
             tried.push(last)?;

@@ -8,7 +8,7 @@ ghost use Rattle.graph_core.specs.Graph.Operands.{profile_of};
 ghost use Rattle.command_core.specs.Files.{files_of};
 ghost use Rattle.mv_desk.specs.View.{KeepsTelling, OpensFiles};
 ghost use Rattle.mv_text.specs.LineReading.{lengths_of};
-ghost use Rattle.joint_prover.specs.declared.task.Task.{Task as TaskOf};
+ghost use Rattle.command_core.specs.declared.task.Task.{Task as TaskOf};
 ghost use Rattle.joint_prover.specs.Budgets.{ProvesEnough};
 ghost use Rattle.joint_prover.specs.Notes.{IsNote, cut_of};
 ghost use Rattle.joint_prover.specs.Pairs.{IsVersion};
@@ -21,9 +21,9 @@ use crate::decision::Decision;
 use crate::note::{Note, make_note, numbers_of};
 use crate::plans::decide_by_plans;
 use crate::shown::Shown;
-use crate::task::{Job, Task};
+use crate::task::Job;
 use crate::verdict::Verdict;
-use command_core::{Names, Stop, read_graph};
+use command_core::{Names, Stop, Task, read_graph};
 use graph_core::{Graph, Memory, Operands};
 use mv_desk::{Desk, Limits, Slot};
 use pair_core::write_pair;
@@ -33,13 +33,13 @@ use stage_rewriter::rewrite;
 use std::alloc::Global;
 
 /// The verdict on a graph file, and what became of a rewriting of its final stage, where the verdict is `Proved`,
-/// `Wrong`, `WrongSum` or `Undecided`.
+/// `Wrong` or `Undecided`.
 pub fn verify<D: Desk>(
     alloc: Global,
     desk: &mut D,
     task: &Task,
     limits: &Limits,
-    names: &Names<'_>,
+    names: &Names<&str>,
 ) -> (Verdict, Option<Note>)
     requires { IsVersion task.now.version }
     ensures verdict { IsVerdict limits.now task.now (files_of names.now)
@@ -55,13 +55,19 @@ pub fn verify<D: Desk>(
 {
     let profile = task.claim.profile();
     match read_graph(alloc, desk, Slot::Graph, names.graph, profile, limits) {
-        Ok(graph) => tell(desk, decide(alloc, task, &graph), limits, names),
+        Ok(graph) => tell(desk, decide(alloc, task, limits, &graph), limits, names),
         Err(why) => (Verdict::Stopped(why), None),
     }
 }
 
-/// What is decided of a graph, and what became of a rewriting of its final stage.
-pub fn decide(alloc: Global, task: &Task, graph: &Graph) -> Result<(Decision, Note), Memory>
+/// What is decided of a graph, and what became of a rewriting of its final stage. A pair within the limits comes before
+/// one that isn't.
+pub fn decide(
+    alloc: Global,
+    task: &Task,
+    limits: &Limits,
+    graph: &Graph,
+) -> Result<(Decision, Note), Memory>
     requires sized { IsSizedAs (profile_of task.now.claim.widths) graph.now }
     requires version { IsVersion task.now.version }
     ensures decision { IfOk result (λ r. IsDecision graph.now task.now (cut_of r.1) r.0) }
@@ -76,6 +82,7 @@ pub fn decide(alloc: Global, task: &Task, graph: &Graph) -> Result<(Decision, No
     let job = Job {
         graph,
         task: *task,
+        limits: *limits,
         operands: &operands,
         alone,
         used: Shown::used(&rewritten, alone),
@@ -94,7 +101,7 @@ fn tell<D: Desk>(
     desk: &mut D,
     decided: Result<(Decision, Note), Memory>,
     limits: &Limits,
-    names: &Names<'_>,
+    names: &Names<&str>,
 ) -> (Verdict, Option<Note>)
     requires { (g : Aig) × (task : TaskOf) × IfOk decided (λ r. IsDecision g task (cut_of r.1) r.0) }
     ensures told { IfOk decided (λ r. IsTold (lengths_of limits.now) (files_of names.now)
@@ -114,36 +121,7 @@ fn tell<D: Desk>(
                     Err(_) => (Verdict::Stopped(Stop::WriteFault), None),
                 }
             }
-            Decision::Wrong {
-                a,
-                b,
-                value,
-                product,
-            } => {
-                let verdict = Verdict::Wrong {
-                    a,
-                    b,
-                    value,
-                    product,
-                };
-                (verdict, Some(note))
-            }
-            Decision::WrongSum {
-                a,
-                b,
-                c,
-                value,
-                sum,
-            } => {
-                let verdict = Verdict::WrongSum {
-                    a,
-                    b,
-                    c,
-                    value,
-                    sum,
-                };
-                (verdict, Some(note))
-            }
+            Decision::Wrong(difference) => (Verdict::Wrong(difference), Some(note)),
             Decision::Undecided {
                 tried,
                 plain_step,

@@ -11,6 +11,7 @@ ghost use Rattle.joint_prover.specs.Verdicts.{HaveManyOnes};
 use crate::conclusion::{prove, refute};
 use crate::decision::{Decision, Outcome};
 use crate::seen::see;
+use crate::shortened::shortened;
 use crate::shown::Shown;
 use crate::task::Job;
 use crate::verdict::Tried;
@@ -62,7 +63,10 @@ pub(crate) fn reduce_plainly(
     let mut lines = start_lines(alloc, job, job.alone)?;
     let plan = plain_plan(alloc, job.alone.extended)?;
     match reduce(alloc, &plan, job.task.budget, &mut lines)? {
-        Reduced::Rest { poly, id } => end_plan(alloc, job, job.alone, lines, &poly, id),
+        Reduced::Rest { poly, id } => {
+            let decision = end_plan(alloc, job, job.alone, lines, &poly, id)?;
+            Ok(shortened(alloc, job, job.alone, decision))
+        }
         Reduced::Passed { step, size } => {
             let seen = see(alloc, job)?;
             Ok(Decision::Undecided {

@@ -1,5 +1,5 @@
 // The ends of a verification.
-use crate::seen::Seen;
+use crate::difference::Difference;
 use command_core::Stop;
 use mv_desk::Slot;
 
@@ -11,29 +11,15 @@ pub enum Verdict {
         /// the first of them that is past the limits, if one is: `check` takes no such pair
         too_long: Option<Slot>,
     },
-    /// The least operands on which the graph differs, its value there, and the product modulo 2 ^ the number of
-    /// outputs. Operands are told as their bits count unsigned.
-    Wrong {
-        a: u64,
-        b: u64,
-        value: u128,
-        product: u128,
-    },
-    /// With an addend the same: the least operands and addend, the value there, and the product plus the addend.
-    WrongSum {
-        a: u64,
-        b: u64,
-        c: u128,
-        value: u128,
-        sum: u128,
-    },
+    /// The least operands, and addend where there is one, on which the graph differs.
+    Wrong(Difference),
     /// All plans passed the budget: what was tried before the plain one, and the plain order's first frontier above it.
     Undecided {
         tried: Vec<Tried>,
         plain_step: u64,
         plain_size: u64,
         /// numbers on which the graph was seen to differ, if some are known
-        seen: Option<Seen>,
+        seen: Option<Difference>,
     },
     /// There is no such answer. With a write fault what is there is a front part of a certificate.
     Stopped(Stop),

@@ -119,14 +119,15 @@ IsFirstRefusal first lengths left before now fail.Fault = Rose before now
 IsFirstRefusal first lengths left before now fail.TooLong = IfSome left (λ bytes. IsTooLong lengths (length bytes) bytes)
 IsFirstRefusal first lengths left before now fail.Memory = Unit {0}
 
--- It begins with the first line of version 1, or with that of version 2; and why with neither.
-abbrev pub HasEitherFirst : List ℕ → List ℕ → FileState → List ℕ → Option (List ℕ) → Type 0
-HasEitherFirst one two file bytes after =
-    ((file.version ≡ 1) × HasFirstLine one file.lines bytes after) ⊎ ((file.version ≡ 2) × HasFirstLine two file.lines bytes after)
+-- It begins with the first line of version 1, with that of version 2, or with that of version 3; and why with none of them.
+abbrev pub HasAnyFirst : List ℕ → List ℕ → List ℕ → FileState → List ℕ → Option (List ℕ) → Type 0
+HasAnyFirst one two three file bytes after =
+    ((file.version ≡ 1) × HasFirstLine one file.lines bytes after) ⊎ ((file.version ≡ 2) × HasFirstLine two file.lines bytes after) ⊎
+    ((file.version ≡ 3) × HasFirstLine three file.lines bytes after)
 
-abbrev pub IsEitherRefusal : List ℕ → List ℕ → Lengths → Option (List ℕ) → ℕ → ℕ → LineFail → Type 0
-IsEitherRefusal one two lengths left before now why =
-    IsFirstRefusal one lengths left before now why × IsFirstRefusal two lengths left before now why
+abbrev pub IsAnyRefusal : List ℕ → List ℕ → List ℕ → Lengths → Option (List ℕ) → ℕ → ℕ → LineFail → Type 0
+IsAnyRefusal one two three lengths left before now why =
+    IsFirstRefusal one lengths left before now why × IsFirstRefusal two lengths left before now why × IsFirstRefusal three lengths left before now why
 
 -- ---- what is kept
 

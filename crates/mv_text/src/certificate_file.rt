@@ -4,7 +4,7 @@ ghost use Rattle.std.specs.List.{AllByRecursion};
 ghost use Rattle.std.specs.Result.{result_err};
 ghost use Rattle.graph_core.specs.Text.{newline};
 ghost use Rattle.mv_desk.specs.Calls.{Reads};
-ghost use Rattle.mv_text.specs.CertificateFiles.{AnswersAgain, GivesEnd, GivesLine, GivesNeeded, GoesOn, HasEitherFirst, HasFirstLine, IsEitherRefusal, IsFirstRefusal, IsStarted, KeepsFile, left_of_file, settled};
+ghost use Rattle.mv_text.specs.CertificateFiles.{AnswersAgain, GivesEnd, GivesLine, GivesNeeded, GoesOn, HasAnyFirst, HasFirstLine, IsAnyRefusal, IsFirstRefusal, IsStarted, KeepsFile, left_of_file, settled};
 ghost use Rattle.mv_text.specs.LineReading.{FitsPiece, lengths_of};
 
 use crate::line_fail::LineFail;
@@ -73,25 +73,27 @@ impl CertificateFile {
         }
     }
 
-    /// Reads the first line as `start` does, where a certificate of version 1 begins with one text, and one of
-    /// version 2 with the other.
-    pub fn start_either<D: Desk>(
+    /// Reads the first line as `start` does, where certificates of the versions 1, 2 and 3 begin with a text each.
+    pub fn start_any<D: Desk>(
         alloc: Global,
         desk: &mut D,
         slot: Slot,
         one: &[u8],
         two: &[u8],
+        three: &[u8],
         limits: &Limits,
     ) -> Result<CertificateFile, LineFail>
         requires reads { (D.seen desk.old).reads slot ≡ true }
-        requires plain { AllByRecursion (λ b. b ≢ newline) one.now × AllByRecursion (λ b. b ≢ newline) two.now }
-        requires some { (0 < length one.now) × (0 < length two.now) }
-        ensures version { IfOk result (λ file. (file.version ≡ 1) ⊎ (file.version ≡ 2)) }
+        requires plain { AllByRecursion (λ b. b ≢ newline) one.now × AllByRecursion (λ b. b ≢ newline) two.now ×
+            AllByRecursion (λ b. b ≢ newline) three.now }
+        requires some { (0 < length one.now) × (0 < length two.now) × (0 < length three.now) }
+        ensures version { IfOk result (λ file. (file.version ≡ 1) ⊎ (file.version ≡ 2) ⊎ (file.version ≡ 3)) }
         ensures first { IfOk result (λ file. IfSome ((D.seen desk.old).left slot)
-            (λ bytes. HasEitherFirst (one.now ++ newline ∷ []) (two.now ++ newline ∷ []) file bytes
-            (left_of_file slot file (D.seen desk.new)))) }
-        ensures refused { IfErr result (IsEitherRefusal (one.now ++ newline ∷ []) (two.now ++ newline ∷ [])
-            (lengths_of limits.now) ((D.seen desk.old).left slot) (D.seen desk.old).read_faults (D.seen desk.new).read_faults) }
+            (λ bytes. HasAnyFirst (one.now ++ newline ∷ []) (two.now ++ newline ∷ []) (three.now ++ newline ∷ [])
+            file bytes (left_of_file slot file (D.seen desk.new)))) }
+        ensures refused { IfErr result (IsAnyRefusal (one.now ++ newline ∷ []) (two.now ++ newline ∷ [])
+            (three.now ++ newline ∷ []) (lengths_of limits.now) ((D.seen desk.old).left slot)
+            (D.seen desk.old).read_faults (D.seen desk.new).read_faults) }
         ensures file { IfOk result (λ file. IsStarted file.version 1 limits.now file) }
         ensures reads { Reads slot (D.seen desk.old) (D.seen desk.new) result }
     {
@@ -103,6 +105,9 @@ impl CertificateFile {
                 }
                 if line.as_slice() == two {
                     return Ok(CertificateFile::behind(lines, 2));
+                }
+                if line.as_slice() == three {
+                    return Ok(CertificateFile::behind(lines, 3));
                 }
                 Err(LineFail::Text)
             }

@@ -1,5 +1,5 @@
 -- Which lines are read as what they say, once they are written.
-use Rattle.std.specs.Prelude.{◌≡◌, ◌⊎◌, ℕ, zero, suc, List, [], ◌∷◌, map, IsSome, IsSomeAnd}
+use Rattle.std.specs.Prelude.{◌≡◌, ◌⊎◌, ◌<◌, ℕ, zero, suc, List, [], ◌∷◌, map, IsSome, IsSomeAnd}
 use Rattle.std.specs.declared.option.Option.{Option}
 use Rattle.std.specs.declared.option.Option.TheVariants.{None, Some}
 use Rattle.std.specs.List.{All, AllByRecursion, cons_option}
@@ -80,7 +80,7 @@ nothing_there : (number : ℕ) → IsSome (import_of [] number) → ⊥
 nothing_there zero h = cc h
 nothing_there (suc i) h = cc h
 
-of_version : (version : ℕ) (t : Table) (imports : List (Assignment → ℕ)) (x : PacLine) → (version ≡ 2) ⊎ (imports ≡ []) → IsSomeAnd (line_in t x) (IsThere imports) → IsOfVersion version x
+of_version : (version : ℕ) (t : Table) (imports : List (Assignment → ℕ)) (x : PacLine) → (1 < version) ⊎ (imports ≡ []) → IsSomeAnd (line_in t x) (IsThere imports) → IsOfVersion version x
 of_version version t imports (Sum id i j poly) two h = tt
 of_version version t imports (Product id i factor poly) two h = tt
 of_version version t imports (Combination id parts poly) two h = tt
@@ -109,7 +109,7 @@ range_first : (max : ℕ) (o : Option Line) (ys : List Line) → IsSome o → Al
 range_first max None ys some h = absurd (cc some)
 range_first max (Some y) ys some h = h
 
-module _ (version max m : ℕ) (t : Table) (imports : List (Assignment → ℕ)) (two : (version ≡ 2) ⊎ (imports ≡ [])) where
+module _ (version max m : ℕ) (t : Table) (imports : List (Assignment → ℕ)) (two : (1 < version) ⊎ (imports ≡ [])) where
   told : (l : Ledger) (xs : List PacLine) → l.imports ≡ imports → AllByRecursion (λ x. IsSome (line_in t x)) xs → AllByRecursion (AreOf t) xs → AllByRecursion IsWritable xs →
       AllByRecursion (IsLineInRange max) (lines_in t xs) → AreLawfulLines m l (lines_in t xs) → AllByRecursion (IsTold version max t) xs
   told l [] same go_on are writable in_range lawful = tt

@@ -25,11 +25,11 @@ pub record IsLawfulTextOf (p : Premises) (s : Sides) (lines : List Line) (closin
   pub alike : AreAllAlike (graphs.modulus p.extended) file.lines lines
   pub closing_is : file.closing ≡ closing
 
--- The certificate that is written of lawful lines that can be read is a lawful algebra file with these lines. It is of version 2, or there
--- is nothing to import.
+-- The certificate that is written of lawful lines that can be read is a lawful algebra file with these lines. It is of a version above 1, or
+-- there is nothing to import.
 abbrev pub WrittenCertificatesAreLawful : Type 0
 WrittenCertificatesAreLawful = (p : Premises) (s : Sides) (t : Table) (lines : List PacLine) (closing : ℕ) →
     IsWidth (length p.extended.graph.outputs) → p.extended.max < 2 ^ 32 → modulus_in t ≡ graphs.modulus p.extended →
-    (p.version ≡ 2) ⊎ (p.imports ≡ []) → AreReadable p.extended.max t lines → IsId closing →
+    (1 < p.version) ⊎ (p.imports ≡ []) → AreReadable p.extended.max t lines → IsId closing →
     AreLawful p s (lines_in t lines) closing →
     IsLawfulTextOf p s (lines_in t lines) closing (written_certificate p.version (modulus_in t) (lines_in t lines) closing)

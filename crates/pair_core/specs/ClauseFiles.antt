@@ -16,7 +16,7 @@ use Rattle.gate_axioms.specs.ClauseValues.{clause_value}
 
 -- of added clauses those that an algebra certificate of the version may import
 abbrev pub importable : ℕ → List Clause → List Clause
-importable version cs = if version == 2 then cs else []
+importable version cs = if version == 1 then [] else cs
 
 -- the premises of a version over an extended graph, with the values of these clauses to import
 abbrev pub premises : ℕ → Extended → List Clause → Premises
@@ -29,7 +29,7 @@ pub record ArePremisesOf (g : Aig) (p : Premises) : Type 0 where
   pub version : p.version ≡ header.version
   pub extended : p.extended ≡ extended_with g header
 
--- A file within the lengths with this header, whose blocks the graph takes, and these lines, each of which is lawful after those before
+-- A file within the lengths with this header, which the graph takes, and these lines, each of which is lawful after those before
 -- it, whatever the goals.
 pub record HasLawfulLines (lengths : Lengths) (g : Aig) (bytes : List ℕ) (header : Header) (lines : List ClauseLine) : Type 0 where
   pub text : IsAnyClauseFile (length g.outputs) bytes header lines
@@ -39,7 +39,7 @@ pub record HasLawfulLines (lengths : Lengths) (g : Aig) (bytes : List ℕ) (head
   pub within : IsWithin lengths bytes
 
 -- Which premises a clause file within the lengths gives for a graph, where its lines are lawful and every goal of a replaced column is met
--- or shown by an added clause: its version, the graph with its blocks, and the values of its added clauses, in version 2.
+-- or shown by an added clause: its version, the graph extended by its header, and in versions above 1 the values of its added clauses.
 pub record GivesPremises (lengths : Lengths) (g : Aig) (bytes : List ℕ) (p : Premises) : Type 0 where
   pub header : Header
   pub lines : List ClauseLine

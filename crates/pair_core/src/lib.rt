@@ -2,9 +2,9 @@
 //! written.
 //!
 //! A clause certificate *gives premises* where its lines are lawful and each replaced column is met or shown: its
-//! version, the graph with its blocks, and the values that its added clauses have (`specs/ClauseFiles.antt`). A *pair*
-//! is lawful where the algebra certificate is lawful over premises that the clause certificate gives
-//! (`specs/Certificates.antt`).
+//! version, the graph extended by its header, and in versions above 1 the values of its added clauses
+//! (`specs/ClauseFiles.antt`). A *pair* is lawful where the algebra certificate is lawful over premises that the clause
+//! certificate gives (`specs/Certificates.antt`).
 //!
 //! A `Pair` has both certificates in memory. `write_pair` creates the clause file and writes it, and then the algebra
 //! file, whole (`whole`) or in front parts with a counted fault (`stops`, `cause`); it takes no memory. The texts are

@@ -32,7 +32,7 @@ pub struct Pair {
 
 /// Creates the clause file and writes it, and then the algebra file. It takes no memory. After an error a front part of
 /// each created file was written.
-pub fn write_pair<D: Desk>(desk: &mut D, pair: &Pair, names: &Names<'_>) -> Result<(), WriteFault>
+pub fn write_pair<D: Desk>(desk: &mut D, pair: &Pair, names: &Names<&str>) -> Result<(), WriteFault>
     requires { CanBeWritten pair.now }
     ensures whole { OnOk result (WritesPair (files_of names.now) (clauses_text pair.now) (algebra_text pair.now)
         (D.seen desk.old) (D.seen desk.new)) }

@@ -36,7 +36,11 @@ pub(crate) fn put_certificate(
 fn header(version: u8) -> &'static [u8]
     ensures { result.now ≡ first_line version }
 {
-    if version == 2 { b"pac 2" } else { b"pac 1" }
+    match version {
+        1 => b"pac 1",
+        2 => b"pac 2",
+        _ => b"pac 3",
+    }
 }
 
 fn put_lines(room: &mut Room, terms: &Terms, lines: &[PacLine])

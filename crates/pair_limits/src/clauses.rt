@@ -3,15 +3,15 @@ ghost use Rattle.std.specs.Prelude.{◌≡◌, ◌++◌, ◌∷◌, [], Some, le
 ghost use Rattle.std.specs.Fmt.{signed_decimal};
 ghost use Rattle.graph_core.specs.Text.{newline, space};
 ghost use Rattle.drup_text.specs.ClauseTexts.{carry_text};
-ghost use Rattle.drup_text.specs.Headers.{second_line, version_line};
-ghost use Rattle.drup_text.specs.WrittenTexts.{any_file_text, block_head_text, blocks_text, clause_line_text, clause_lines_text, clause_text, count_text, cut_text, first_cut, header_text, literal_sign, literals_text, pairs_text, two_text};
+ghost use Rattle.drup_text.specs.Headers.{second_line, third_line, version_line};
+ghost use Rattle.drup_text.specs.WrittenTexts.{any_file_text, beside_text, block_head_text, blocks_header_text, blocks_text, clause_line_text, clause_lines_text, clause_text, count_text, cut_text, first_cut, header_text, literal_sign, literals_text, output_lines_text, outputs_text, pairs_text, two_text};
 ghost use Rattle.pair_limits.specs.Rooms.{Takes};
 
 use crate::room::Room;
 use clause_core::{Clause, Line};
 use drup_text::Header;
 use graph_core::Lit;
-use ripple_graft::{Block, Cut};
+use ripple_graft::{Beside, Block, Cut};
 
 /// The header and lines. In version 1 only the cut of the first block is written.
 pub(crate) fn put_clauses(room: &mut Room, header: &Header, lines: &[Line])
@@ -24,6 +24,49 @@ pub(crate) fn put_clauses(room: &mut Room, header: &Header, lines: &[Line])
 // The lines of a header.
 fn put_header(room: &mut Room, header: &Header)
     ensures { Takes (header_text header.now) room.old room.new }
+{
+    if header.version == 3 {
+        put_beside(room, &header.beside);
+    } else {
+        put_any_blocks(room, header);
+    }
+}
+
+// The header of version 3: the gates beside the graph, and the outputs.
+fn put_beside(room: &mut Room, beside: &Beside)
+    ensures { Takes (third_line ++ beside_text beside.now) room.old room.new }
+{
+    let gates = beside.gates.as_slice();
+    let outputs = beside.outputs.as_slice();
+    room.put(b"joined 3\ngates ");
+    room.put_number(gates.len() as u128);
+    room.put(b"\n");
+    put_pairs(room, gates);
+    put_outputs(room, outputs);
+}
+
+// The number of outputs, and they.
+fn put_outputs(room: &mut Room, outputs: &[(u32, Lit)])
+    ensures { Takes (outputs_text outputs.now) room.old room.new }
+{
+    room.put(b"replace ");
+    room.put_number(outputs.len() as u128);
+    room.put(b"\n");
+    put_output_lines(room, outputs);
+}
+
+// Outputs, each in a line.
+fn put_output_lines(room: &mut Room, outputs: &[(u32, Lit)])
+    ensures { Takes (output_lines_text outputs.now) room.old room.new }
+{
+    for output in outputs {
+        put_two(room, u128::from(output.0), u128::from(output.1.0));
+    }
+}
+
+// The header of version 1 or 2.
+fn put_any_blocks(room: &mut Room, header: &Header)
+    ensures { Takes (blocks_header_text header.now) room.old room.new }
 {
     let blocks = header.blocks.as_slice();
     if header.version == 2 {

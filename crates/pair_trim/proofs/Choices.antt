@@ -18,11 +18,11 @@ use Rattle.pair_trim.specs.Lines.{AreLinesKept, imports_in}
 use Rattle.pair_trim.proofs.Renumbering.{kept_imports_are_there}
 
 few_imports : (f : Clause → Assignment → ℕ) (version : ℕ) (cs : List Clause) → length (map f (importable version cs)) ≤ length cs
-few_imports f version cs = go (version == 2)
+few_imports f version cs = go (version == 1)
   where
-    go : (b : Bool) → length (map f (cond b cs [])) ≤ length cs
-    go true = let same = length-map cs f in omega (arith, same)
-    go false = omega arith
+    go : (b : Bool) → length (map f (cond b [] cs)) ≤ length cs
+    go true = omega arith
+    go false = let same = length-map cs f in omega (arith, same)
 
 module _ (claim : Claim) (j : Judged) (judged : IsJudgedPair claim j) where
   pub imports_there : (kept : List PacLine) → AreLinesKept j.closed.record.lines.items j.closed.id kept → AreBelow (length j.recorded.added) (imports_in kept)

@@ -40,7 +40,7 @@ use Rattle.pair_core.specs.Certificates.{IsLawfulPair, IsPair}
 use Rattle.pair_core.specs.ClauseFiles.{importable, premises}
 use Rattle.joint_checker.specs.Judged.{IsJudgedPair, extended_of, premises_for}
 use Rattle.joint_checker.specs.declared.checking.Judged.{Judged}
-use Rattle.joint_checker.proofs.CallerLemmas.{blocks_fit, extended_graph, outputs_of}
+use Rattle.joint_checker.proofs.CallerLemmas.{extended_graph, header_made, outputs_of}
 use Rattle.pair_core.proofs.CallerLemmas.{same_self}
 use Rattle.pair_trim.specs.Lines.{AreLinesKept, AreLinesUsed, all_renumbered, imports_in}
 use Rattle.pair_trim.specs.Marking.{unmet}
@@ -57,21 +57,24 @@ use Rattle.pair_trim.proofs.Parts.{all_added, all_chosen, all_in_range, all_line
 -- what may be imported becomes what is kept of it, or nothing may
 imports_these : (version : ℕ) (e : Extended) (old : List Clause) (lines : List ClauseLine) →
     ImportThese clause_value old lines (premises version e (importable version old)) (premises version e (importable version (added lines)))
-imports_these version e old lines = go (version == 2)
+imports_these version e old lines = go (version == 1)
   where
-    go : (b : Bool) → (map clause_value (cond b old []) ≡ []) ⊎ ((map clause_value (cond b old []) ≡ map clause_value old) × (map clause_value (cond b (added lines) []) ≡ map clause_value (added lines)))
-    go true = inr (refl, refl)
-    go false = inl refl
+    go : (b : Bool) → (map clause_value (cond b [] old) ≡ []) ⊎ ((map clause_value (cond b [] old) ≡ map clause_value old) × (map clause_value (cond b [] (added lines)) ≡ map clause_value (added lines)))
+    go true = inl refl
+    go false = inr (refl, refl)
 
-version_or_none : (g : Aig) (h : Header) (cs : List Clause) → IsHeaderOf g h → (h.version ≡ 2) ⊎ (map clause_value (importable h.version cs) ≡ [])
-version_or_none g h cs takes = ⊎_elim (λ first. inr (ap (λ v. map clause_value (importable v cs)) first.0)) (λ second. inl second.0) takes
+version_or_none : (g : Aig) (h : Header) (cs : List Clause) → IsHeaderOf g h → (1 < h.version) ⊎ (map clause_value (importable h.version cs) ≡ [])
+version_or_none g h cs takes =
+    ⊎_elim (λ a. ⊎_elim (λ first. inr (ap (λ v. map clause_value (importable v cs)) first.0)) (λ second. let two = second.0 in inl (omega (arith, two))) a.0) (λ third. let three = third.0 in inl (omega (arith, three))) takes
 
 one_block : (outputs : ℕ) (cut : Option Cut) → length (cut_blocks outputs cut) ≤ 1
 one_block outputs None = omega arith
 one_block outputs (Some cut) = omega arith
 
 has_one : (g : Aig) (h : Header) → IsHeaderOf g h → (h.version ≡ 2) ⊎ (length h.blocks ≤ 1)
-has_one g h takes = ⊎_elim (λ first. inr (subst (λ (bs : List Block). length bs ≤ 1) (sym first.1.1) (one_block (length g.outputs) first.1.0))) (λ second. inl second.0) takes
+has_one g h takes =
+    ⊎_elim (λ a. ⊎_elim (λ first. inr (subst (λ (bs : List Block). length bs ≤ 1) (sym first.1.1) (one_block (length g.outputs) first.1.0))) (λ second. inl second.0) a.0)
+    (λ third. inr (subst (λ (bs : List Block). length bs ≤ 1) (sym third.1) (omega arith))) takes
 
 module _ (claim : Claim) (j : Judged) (t : Trimmed) (judged : IsJudgedPair claim j) (chosen : IsChosen j t) where
   abbrev e : Extended
@@ -90,7 +93,7 @@ module _ (claim : Claim) (j : Judged) (t : Trimmed) (judged : IsJudgedPair claim
   same_graph = extended_graph j.graph j.header judged.takes
 
   small : e.max < 2147483648
-  small = grafted_small j.graph e judged.built (record { blocks = j.header.blocks; fit = blocks_fit j.graph j.header judged.takes; is = refl })
+  small = grafted_small j.graph e judged.built (header_made j.graph j.header judged.takes)
 
   ids : All (λ x. 0 < id_in x) old
   ids = both_all HasNewId (IsRecordable e.max terms) (λ x. 0 < id_in x) (λ x one two. has_id x one two.writable) old judged.lines.new_ids judged.lines.recordable

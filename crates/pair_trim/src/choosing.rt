@@ -51,11 +51,11 @@ pub(crate) fn choose(alloc: Global, claim: Claim, judged: Judged) -> Result<Trim
     })
 }
 
-// The goals of the graph with the blocks of a header.
+// The goals of the graph with the blocks of a header, and with what stands beside.
 fn goals_of(alloc: Global, graph: &Graph, header: &Header) -> Result<Goals, Memory>
     requires { IsHeaderOf graph.now header.now }
     ensures { IfOk result (AreGoalsOf (extended_with graph.now header.now)) }
 {
-    let extended = extend(alloc, graph, header.blocks.as_slice())?;
+    let extended = extend(alloc, graph, header)?;
     goals(alloc, &extended)
 }

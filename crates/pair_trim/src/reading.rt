@@ -7,7 +7,6 @@ ghost use Rattle.joint_checker.specs.Outcome.{IsOutcome, OpensFor, OpensNeeded, 
 ghost use Rattle.pair_core.specs.Texts.{CanBeWritten};
 ghost use Rattle.pair_trim.specs.Choosing.{HasChosen};
 ghost use Rattle.pair_trim.specs.Trimming.{ReadsOld};
-ghost use Rattle.pair_trim.specs.Trimming as trimming;
 
 use crate::answer::Trimmed;
 use crate::choosing::choose;
@@ -23,7 +22,7 @@ pub(crate) fn read_trimmed<D: Desk>(
     desk: &mut D,
     claim: Claim,
     limits: &Limits,
-    names: &Names<'_>,
+    names: &Names<&str>,
 ) -> Result<Trimmed, Checked>
     ensures trims { IfOk result (HasChosen limits.now claim (texts_of (D.seen desk.old) (files_of names.now))) }
     ensures writes { IfOk result (λ t. CanBeWritten t.pair) }
@@ -33,7 +32,7 @@ pub(crate) fn read_trimmed<D: Desk>(
     ensures opens { OpensNeeded (profile_of claim.widths) limits.now (texts_of (D.seen desk.old) (files_of names.now))
         (D.seen desk.old) (D.seen desk.new) (answer_of result) }
     ensures opened { OpensFor (answer_of result) (D.seen desk.old) (D.seen desk.new) }
-    ensures reads { ReadsOld (trimming.trimmed_files_of names.now) (D.seen desk.old) (D.seen desk.new) }
+    ensures reads { ReadsOld (files_of names.now) (D.seen desk.old) (D.seen desk.new) }
     ensures tells { KeepsTelling (D.seen desk.old) (D.seen desk.new) }
 {
     let judged = judge_pair(alloc, desk, claim, limits, names, true)?;

@@ -6,7 +6,7 @@ ghost use Rattle.pair_trim.specs.Trimming.{IsTrimAnswer, checked_of, trimmed_fil
 
 use crate::answer::TrimAnswer;
 use crate::reading::read_trimmed;
-use command_core::{Names, Stop};
+use command_core::{Names, Stop, TrimNames};
 use graph_core::Claim;
 use joint_checker::Checked;
 use mv_desk::{Desk, Limits};
@@ -21,7 +21,7 @@ pub fn trim<D: Desk>(
     desk: &mut D,
     claim: Claim,
     limits: &Limits,
-    names: &Names<'_>,
+    names: &TrimNames<&str>,
 ) -> TrimAnswer
     ensures answer { IsTrimAnswer limits.now claim (trimmed_files_of names.now) (D.seen desk.old) (D.seen desk.new) result }
     ensures opened { OpensFor (checked_of result) (D.seen desk.old) (D.seen desk.new) }
@@ -29,11 +29,11 @@ pub fn trim<D: Desk>(
     ensures tells { KeepsTelling (D.seen desk.old) (D.seen desk.new) }
 {
     let to = Names {
+        graph: names.old.graph,
         clauses: names.to_clauses,
         algebra: names.to_algebra,
-        ..*names
     };
-    match read_trimmed(alloc, desk, claim, limits, names) {
+    match read_trimmed(alloc, desk, claim, limits, &names.old) {
         Ok(kept) => match write_pair(desk, &kept.pair, &to) {
             Ok(()) => TrimAnswer::Trimmed(kept),
             Err(_) => TrimAnswer::Stopped(Stop::WriteFault),

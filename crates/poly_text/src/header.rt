@@ -23,5 +23,9 @@ pub(crate) fn header(version: u8) -> &'static [u8]
     ensures text { result.now ≡ first_line version }
     ensures few { length result.now ≤ 5 }
 {
-    if version == 2 { b"pac 2" } else { b"pac 1" }
+    match version {
+        1 => b"pac 1",
+        2 => b"pac 2",
+        _ => b"pac 3",
+    }
 }

@@ -15,7 +15,6 @@ use Rattle.ripple_graft.specs.Blocks.{Block, Cut, IsBlock, IsCut, block, graft_b
 use Rattle.ripple_graft.specs.Extension.{IsKnown}
 use Rattle.ripple_graft.specs.Grafts.{HasColumnRoom, HasColumns, IsFirstUnknown, IsKnownPair}
 use Rattle.ripple_graft.proofs.BlockLists.{cut_is_block}
-use Rattle.ripple_graft.proofs.GraftedGraphs.{reach_is}
 
 -- ---- columns
 

@@ -1,28 +1,34 @@
--- A graph with blocks, as it is kept: one block more, how many there can be, and the gates of its variables.
+-- An extended graph, as it is kept: with a block, a gate or an output more, how large it can be, and the gates of its variables.
 use Rattle.std.specs.Prelude.{◌≡◌, ◌≢◌, ℕ, zero, suc, ◌+◌, ◌*◌, ◌<◌, ◌≤◌, Bool, true, false, List, [], ◌∷◌, ◌++◌, map, length, take, drop, slice_get, slice_index_or}
 use Rattle.std.specs.declared.option.Option.{Option}
 use Rattle.std.specs.declared.option.Option.TheVariants.{None, Some}
+use Rattle.std.specs.declared.result.Result.{Result}
 use Rattle.std.specs.Option.{IfSome}
-use Rattle.std.specs.List.{AllByRecursion, Contains, flat_map}
-use Rattle.std.proofs.Common.{refl, sym, ap, subst, ◌∙◌, arith, length-append, length-drop, get_or, get_or-append-add, Fits, w32}
-use Rattle.std.proofs.lemmas.List.{get_or-map, length-map, map-append, take_more}
+use Rattle.std.specs.Result.{IfOk}
+use Rattle.std.specs.List.{AllByRecursion, Contains}
+use Rattle.std.proofs.Common.{refl, sym, ap, subst, ◌∙◌, arith, append_assoc, append-nil, length-append, length-drop, get_or, get_or-append-add, Fits, w32}
+use Rattle.std.proofs.lemmas.List.{length-map, take_more}
 use Rattle.std.proofs.lemmas.List.Elements.{All-from_recursion, recursion_from_All, All-append, All-contains, Contains-append_left}
-use Rattle.graph_core.specs.declared.bounds.TheConstants.{MOST_OUTPUTS}
+use Rattle.graph_core.specs.declared.bounds.TheConstants.{MOST_OUTPUTS, MOST_VARIABLES}
 use Rattle.graph_core.specs.declared.literal.Lit.{Lit}
 use Rattle.graph_core.specs.declared.gate.Gate.{Gate}
 use Rattle.graph_core.specs.Graph.{Aig, IsBuilt, IsFree, IsGateOf}
 use Rattle.graph_core.specs.Graph.Extended.{Column, Extended, without_cut}
-use Rattle.graph_core.specs.Graph.Literals.{constant_false}
-use Rattle.graph_core.proofs.OfAiger.CallerLemmas.{Counts, counts_append}
+use Rattle.graph_core.specs.Graph.Literals.{and_gate, constant_false}
+use Rattle.graph_core.proofs.OfAiger.CallerLemmas.{Counts}
 use Rattle.graph_core.proofs.OfGraphs.CallerLemmas.{Apart, apart_from_pairs, few_numbers}
 use Rattle.ripple_graft.specs.Ripple.{ripple_gates, ripple_outputs}
 use Rattle.ripple_graft.specs.Extension.{IsExtension}
-use Rattle.ripple_graft.specs.Blocks.{AreBlocks, Block, IsBlock, block_columns, block_outputs, columns, graft_all, graft_block, pair_count, placed, reach, span, with_blocks}
+use Rattle.ripple_graft.specs.Beside.{IsOutput, with_gate, with_output}
+use Rattle.ripple_graft.specs.Blocks.{AreBlocks, Block, IsBlock, block_columns, block_outputs, columns, graft_all, graft_block, pair_count, reach, span, with_blocks}
 use Rattle.ripple_graft.specs.declared.fault.GraftFail.{GraftFail}
 use Rattle.ripple_graft.specs.declared.added.Added.{Added}
-use Rattle.ripple_graft.specs.Grafts.{IsBlockFault, IsFirstFault, IsGrafted, seen, seen_in}
-use Rattle.ripple_graft.proofs.BlockLists.{all_split_at, blocks_are_joined, blocks_extend, length-ripple_outputs}
-use Rattle.ripple_graft.proofs.OneBlock.{pairs_from_apart}
+use Rattle.ripple_graft.specs.Grafts.{AreNumberedOn, IsAddedGrafted, IsBlockFault, IsFirstFault, IsGrafted, IsKnownPair, seen, seen_in}
+use Rattle.ripple_graft.proofs.BesideGraphs.{gate_extends, output_extends}
+use Rattle.ripple_graft.proofs.BlockLists.{all_split_at, blocks_extend, length-ripple_outputs}
+use Rattle.ripple_graft.proofs.MoreGates.{pairs_from_apart}
+use Rattle.ripple_graft.proofs.OneBlock.{graft_extends}
+use Rattle.ripple_graft.proofs.Plain.{graph_extends}
 use Rattle.ripple_graft.proofs.RippleGates.{length-ripple_gates, ripple_counts}
 
 -- ---- one block more
@@ -34,19 +40,6 @@ graft_more e (c ∷ blocks) b = graft_more (graft_block e c) blocks b
 blocks_more : (e : Extended) (blocks : List Block) (b : Block) → AreBlocks e blocks → IsBlock (graft_all e blocks) b → AreBlocks e (blocks ++ b ∷ [])
 blocks_more e [] b fit one = (one, tt)
 blocks_more e (c ∷ blocks) b fit one = (fit.0, blocks_more (graft_block e c) blocks b fit.1 one)
-
-pub grafted_none : (g : Aig) → IsGrafted g (without_cut g)
-grafted_none g = record { blocks = []; fit = tt; is = refl }
-
-pub grafted_more : (g : Aig) (e : Extended) (b : Block) → IsGrafted g e → IsBlock e b → IsGrafted g (graft_block e b)
-grafted_more g e b h one = record {
-  blocks = h.blocks ++ b ∷ [];
-  fit = blocks_more (without_cut g) h.blocks b h.fit (subst (λ (x : Extended). IsBlock x b) h.is one);
-  is = ap (λ (x : Extended). graft_block x b) h.is ∙ sym (graft_more (without_cut g) h.blocks b);
-}
-
-pub grafted_extends : (g : Aig) (e : Extended) → IsBuilt g → IsGrafted g e → IsExtension e
-grafted_extends g e built h = subst IsExtension (sym h.is) (blocks_extend g h.blocks built.well_formed h.fit)
 
 -- ---- there are at most as many pairs as outputs
 
@@ -128,75 +121,119 @@ few_blocks e (b ∷ blocks) fit = let more = few_blocks (graft_block e b) blocks
 pub blocks_few : (g : Aig) (blocks : List Block) → IsBuilt g → AreBlocks (without_cut g) blocks → length blocks ≤ MOST_OUTPUTS
 blocks_few g blocks built fit = let few = few_pairs g blocks built fit in let some = few_blocks (without_cut g) blocks fit in omega arith
 
--- and variables have 31 bits
-pub grafted_small : (g : Aig) (e : Extended) → IsBuilt g → IsGrafted g e → e.max < 2147483648
-grafted_small g e built h =
-    let all : e.max ≡ g.max + 7 * pair_count h.blocks = ap (λ (x : Extended). x.max) (h.is ∙ blocks_are_joined g h.blocks) in
-    let few = few_pairs g h.blocks built h.fit in
-    let small = built.small in
-    omega arith
+-- ---- one block, gate or output more
+
+numbered_append : (v : ℕ) (xs ys : List Gate) → AreNumberedOn v xs → AreNumberedOn (v + length xs) ys → AreNumberedOn v (xs ++ ys)
+numbered_append v [] ys a b = subst (λ n. AreNumberedOn n ys) (omega arith) b
+numbered_append v (x ∷ xs) ys a b = (a.0, numbered_append (suc v) xs ys a.1 (subst (λ n. AreNumberedOn n ys) (omega arith) b))
+
+numbered_from : (v : ℕ) (gates : List Gate) → Counts (v + 1) (map (λ x. x.v) gates) → AreNumberedOn v gates
+numbered_from v [] c = tt
+numbered_from v (x ∷ gates) c = (omega (arith, c.0), numbered_from (suc v) gates (subst (λ n. Counts n (map (λ y. y.v) gates)) (omega arith) c.1))
+
+numbered_at : (v : ℕ) (gates : List Gate) → AreNumberedOn v gates → (i : ℕ) (d : Gate) → i < length gates → (slice_index_or gates i d).v ≡ v + 1 + i
+numbered_at v [] h i d below = absurd (omega arith)
+numbered_at v (x ∷ gates) h zero d below = omega (arith, h.0)
+numbered_at v (x ∷ gates) h (suc i) d below = omega (arith, numbered_at (suc v) gates h.1 i d (omega arith))
+
+pub grafted_none : (g : Aig) → IsGrafted g (without_cut g)
+grafted_none g = record {
+  own = [];
+  graph_is = refl;
+  extends = λ well. graph_extends g well;
+  gates_are = sym (append-nil g.gates);
+  numbered = tt;
+  max_is = omega arith;
+  room = omega arith;
+}
+
+-- with gates numbered on, and columns: seven gates for each of them, or else as many as have room
+module _ (g : Aig) (e : Extended) (more : List Gate) (replaced : List Column) (high : ℕ) (h : IsGrafted g e) where
+  abbrev longer : Extended
+  longer = record { graph = e.graph; max = high; gates = e.gates ++ more; replaced = replaced }
+
+  pub grafted_longer : (IsExtension e → IsExtension longer) → Counts (e.max + 1) (map (λ x. x.v) more) → high ≡ e.max + length more → high ≤ g.max + MOST_VARIABLES + 7 * length replaced → IsGrafted g longer
+  grafted_longer extends counts many room = record {
+    own = h.own ++ more;
+    graph_is = h.graph_is;
+    extends = λ well. extends (h.extends well);
+    gates_are = ap (λ xs. xs ++ more) h.gates_are ∙ append_assoc g.gates h.own more;
+    numbered = numbered_append g.max h.own more h.numbered (subst (λ v. AreNumberedOn v more) h.max_is (numbered_from e.max more counts));
+    max_is = omega (arith, many, h.max_is, length-append h.own more);
+    room = room;
+  }
+
+pub grafted_more : (g : Aig) (e : Extended) (b : Block) → IsGrafted g e → IsBlock e b → IsGrafted g (graft_block e b)
+grafted_more g e b h one =
+    let adder = ripple_gates e.max constant_false b.cut.pairs in
+    let many = length-ripple_gates e.max constant_false b.cut.pairs in
+    let wide = (reach_is (length b.cut.pairs) b.carry).0 in
+    let own = length-block_columns e b one.within in
+    let all = length-append e.replaced (block_columns e.graph e.max b) in
+    let before = h.room in
+    grafted_longer g e adder (e.replaced ++ block_columns e.graph e.max b) (e.max + 7 * length b.cut.pairs) h (λ made. graft_extends e b made one) (ripple_counts e.max constant_false b.cut.pairs) (omega arith) (omega arith)
+
+pub gate_grafted : (g : Aig) (e : Extended) (p : Lit × Lit) → IsGrafted g e → IsKnownPair e p → e.max < e.graph.max + MOST_VARIABLES → IsGrafted g (with_gate e p)
+gate_grafted g e p h known room =
+    let same : e.graph.max ≡ g.max = ap (λ (x : Aig). x.max) h.graph_is in
+    grafted_longer g e (and_gate (suc e.max) p.0 p.1 ∷ []) e.replaced (suc e.max) h (λ made. gate_extends e p made known) (omega arith, tt) (omega arith) (omega arith)
+
+pub output_grafted : (g : Aig) (e : Extended) (c : ℕ × Lit) → IsGrafted g e → IsOutput e c → IsGrafted g (with_output e c)
+output_grafted g e c h fits =
+    let all = length-append e.replaced (columns c.0 (drop c.0 e.graph.outputs) (c.1 ∷ [])) in
+    let before = h.room in record {
+      own = h.own;
+      graph_is = h.graph_is;
+      extends = λ well. output_extends e c (h.extends well) fits;
+      gates_are = h.gates_are;
+      numbered = h.numbered;
+      max_is = h.max_is;
+      room = omega arith;
+    }
+
+blocks_grafted_on : (g : Aig) (e : Extended) (blocks : List Block) → IsGrafted g e → AreBlocks e blocks → IsGrafted g (graft_all e blocks)
+blocks_grafted_on g e [] h fit = h
+blocks_grafted_on g e (b ∷ blocks) h fit = blocks_grafted_on g (graft_block e b) blocks (grafted_more g e b h fit.0) fit.1
+
+pub blocks_grafted : (g : Aig) (blocks : List Block) → AreBlocks (without_cut g) blocks → IsGrafted g (with_blocks g blocks)
+blocks_grafted g blocks fit = blocks_grafted_on g (without_cut g) blocks (grafted_none g) fit
+
+pub grafted_extends : (g : Aig) (e : Extended) → IsBuilt g → IsGrafted g e → IsExtension e
+grafted_extends g e built h = h.extends built.well_formed
 
 pub grafted_graph : (g : Aig) (e : Extended) → IsGrafted g e → e.graph ≡ g
-grafted_graph g e h = ap (λ (x : Extended). x.graph) h.is ∙ graft_keeps (without_cut g) h.blocks
+grafted_graph g e h = h.graph_is
+
+-- variables have 31 bits
+pub grafted_small : (g : Aig) (e : Extended) → IsBuilt g → IsGrafted g e → e.max < 2147483648
+grafted_small g e built h =
+    let few = few_replaced e (grafted_extends g e built h) in
+    let same : length e.graph.outputs ≡ length g.outputs = ap (λ (x : Aig). length x.outputs) h.graph_is in
+    let most = built.few_outputs in
+    let small = built.small in
+    let room = h.room in
+    omega arith
 
 -- ---- gates
 
-abbrev own_gates : ℕ → List Block → List Gate
-own_gates v blocks = flat_map (λ p. ripple_gates p.0 constant_false p.1.cut.pairs) (placed v blocks)
-
-own_counts : (v : ℕ) (blocks : List Block) → Counts (v + 1) (map (λ x. x.v) (own_gates v blocks))
-own_counts v [] = tt
-own_counts v (b ∷ blocks) =
-    let next = v + 7 * length b.cut.pairs in
-    let first = ripple_gates v constant_false b.cut.pairs in
-    let many : length (map (λ x. x.v) first) ≡ 7 * length b.cut.pairs = length-map first (λ x. x.v) ∙ length-ripple_gates v constant_false b.cut.pairs in
-    let later : v + 1 + length (map (λ x. x.v) first) ≡ next + 1 = omega arith in
-    subst (Counts (v + 1)) (sym (map-append (λ x. x.v) first (own_gates next blocks)))
-    (counts_append (v + 1) (map (λ x. x.v) first) (map (λ x. x.v) (own_gates next blocks)) (ripple_counts v constant_false b.cut.pairs)
-    (subst (λ n. Counts n (map (λ x. x.v) (own_gates next blocks))) (sym later) (own_counts next blocks)))
-
-length-own : (v : ℕ) (blocks : List Block) → length (own_gates v blocks) ≡ 7 * pair_count blocks
-length-own v [] = refl
-length-own v (b ∷ blocks) =
-    let next = v + 7 * length b.cut.pairs in
-    let all = length-append (ripple_gates v constant_false b.cut.pairs) (own_gates next blocks) in
-    let first = length-ripple_gates v constant_false b.cut.pairs in
-    let more = length-own next blocks in
-    omega arith
-
 module _ (g : Aig) (e : Extended) (h : IsGrafted g e) where
-  abbrev own : List Gate
-  own = own_gates g.max h.blocks
-
-  gates_are : e.gates ≡ g.gates ++ own
-  gates_are = ap (λ (x : Extended). x.gates) (h.is ∙ blocks_are_joined g h.blocks)
-
-  max_is : e.max ≡ g.max + 7 * pair_count h.blocks
-  max_is = ap (λ (x : Extended). x.max) (h.is ∙ blocks_are_joined g h.blocks)
-
   pub length-gates : length e.gates + g.max ≡ length g.gates + e.max
-  length-gates = let all = ap length gates_are in let both = length-append g.gates own in let many = length-own g.max h.blocks in let top = max_is in omega arith
+  length-gates = let all = ap length h.gates_are in let both = length-append g.gates h.own in let top = h.max_is in omega arith
 
-  own_at : (i : ℕ) (d : Gate) → i < length own → (slice_index_or own i d).v ≡ g.max + 1 + i
-  own_at i d below = sym (get_or-map (λ x. x.v) own i d 0 below) ∙ counts_at (g.max + 1) (map (λ x. x.v) own) (own_counts g.max h.blocks) i 0 (omega (arith, length-map own (λ x. x.v)))
-    where
-      counts_at : (k : ℕ) (xs : List ℕ) → Counts k xs → (i d : ℕ) → i < length xs → slice_index_or xs i d ≡ k + i
-      counts_at k [] c i d h = absurd (omega arith)
-      counts_at k (x ∷ xs) c zero d h = omega (arith, c.0)
-      counts_at k (x ∷ xs) c (suc i) d h = omega (arith, counts_at (suc k) xs c.1 i d (omega arith))
+  own_at : (i : ℕ) (d : Gate) → i < length h.own → (slice_index_or h.own i d).v ≡ g.max + 1 + i
+  own_at i d below = numbered_at g.max h.own h.numbered i d below
 
   -- a variable above the graph's is that of the added gate in its place
   pub added_gate : (v i : ℕ) (x : Gate) → g.max < v → v ≤ e.max → v ≡ g.max + 1 + i → x ≡ slice_index_or e.gates (length g.gates + i) x → IsGateOf e.gates v x
   added_gate v i x low high place is =
       let all = length-gates in
-      let many = length-own g.max h.blocks in
-      let top = max_is in (
+      let top = h.max_is in (
         (length g.gates + i, omega arith, sym is),
-        ap (λ y. y.v) (is ∙ ap (λ xs. slice_index_or xs (length g.gates + i) x) gates_are ∙ get_or-append-add g.gates own i x) ∙ own_at i x (omega arith) ∙ sym place,
+        ap (λ y. y.v) (is ∙ ap (λ xs. slice_index_or xs (length g.gates + i) x) h.gates_are ∙ get_or-append-add g.gates h.own i x) ∙ own_at i x (omega arith) ∙ sym place,
       )
 
   kept_gate : (v : ℕ) (x : Gate) → IsGateOf g.gates v x → IsGateOf e.gates v x
-  kept_gate v x is = (subst (λ xs. Contains xs x) (sym gates_are) (Contains-append_left g.gates own x is.0), is.1)
+  kept_gate v x is = (subst (λ xs. Contains xs x) (sym h.gates_are) (Contains-append_left g.gates h.own x is.0), is.1)
 
   pub kept_gates : (v : ℕ) (r : Option Gate) → IfSome r (IsGateOf g.gates v) → IfSome r (IsGateOf e.gates v)
   kept_gates v None is = is
@@ -205,11 +242,11 @@ module _ (g : Aig) (e : Extended) (h : IsGrafted g e) where
   -- and no other variable is an added gate's
   pub kept_free : (v : ℕ) → v ≤ g.max → IsFree g.gates v → IsFree e.gates v
   kept_free v low free =
-      subst (λ xs. IsFree xs v) (sym gates_are)
-      (All-append (λ x. x.v ≢ v) g.gates own free (λ i d below same. let at = own_at i d below in absurd (omega arith)))
+      subst (λ xs. IsFree xs v) (sym h.gates_are)
+      (All-append (λ x. x.v ≢ v) g.gates h.own free (λ i d below same. let at = own_at i d below in absurd (omega arith)))
 
   pub free_before : (v : ℕ) → IsFree e.gates v → IsFree g.gates v
-  free_before v free = (all_split_at (λ x. x.v ≢ v) g.gates own (subst (λ xs. IsFree xs v) gates_are free)).0
+  free_before v free = (all_split_at (λ x. x.v ≢ v) g.gates h.own (subst (λ xs. IsFree xs v) h.gates_are free)).0
 
   pub not_free : (v : ℕ) (x : Gate) → IsGateOf e.gates v x → IsFree e.gates v → ⊥
   not_free v x is free = All-contains (λ y. y.v ≢ v) e.gates x free is.0 is.1
@@ -248,8 +285,21 @@ so_far_built g blocks i e h built = subst IsBuilt (ap (λ (x : Extended). x.grap
 
 -- ---- what is kept
 
-pub alone_seen : (g : Aig) (o : Option Added) (a b : Added) (e : Extended) → a ≡ b → seen_in g b ≡ without_cut g → o ≡ None → seen g o ≡ e → seen_in g a ≡ e
-alone_seen g o a b e same alone is view = ap (seen_in g) same ∙ alone ∙ ap (seen g) (sym is) ∙ view
+pub alone_kept : {X : Type 0} (g : Aig) (o : Option Added) (r : Result Added X) (e : Extended) → seen g o ≡ e → o ≡ None → IfOk r (λ a. seen_in g a ≡ without_cut g) → IfOk r (λ a. seen_in e.graph a ≡ e)
+alone_kept g o r e view is alone =
+    let whole : e ≡ without_cut g = sym view ∙ ap (seen g) is in
+    subst (λ (x : Extended). IfOk r (λ a. seen_in x.graph a ≡ x)) (sym whole) alone
 
-pub more_seen : (g : Aig) (o : Option Added) (a b : Added) (e : Extended) → a ≡ b → o ≡ Some b → seen g o ≡ e → seen_in g a ≡ e
-more_seen g o a b e same is view = ap (seen_in g) same ∙ ap (seen g) (sym is) ∙ view
+pub more_kept : (g : Aig) (o : Option Added) (a : Added) (e : Extended) → seen g o ≡ e → o ≡ Some a → seen_in e.graph a ≡ e
+more_kept g o a e view is =
+    let whole : seen_in g a ≡ e = ap (seen g) (sym is) ∙ view in
+    subst (λ (x : Extended). seen_in x.graph a ≡ x) whole refl
+
+-- as the graph's, it is the extended graph
+pub kept_is : (g : Aig) (o : Option Added) (a : Added) (e : Extended) → IsAddedGrafted g o → seen g o ≡ e → seen_in e.graph a ≡ e → seen_in g a ≡ e
+kept_is g o a e h view kept =
+    let same : e.graph ≡ g = ap (λ (x : Extended). x.graph) (sym view) ∙ grafted_graph g (seen g o) h in
+    subst (λ (x : Aig). seen_in x a ≡ e) same kept
+
+pub grafted_is : (g : Aig) (o : Option Added) (e : Extended) → IsAddedGrafted g o → seen g o ≡ e → IsGrafted g e
+grafted_is g o e h view = subst (IsGrafted g) view h

@@ -2,12 +2,17 @@ pub mod RippleAdds
 pub mod RippleGates
 pub mod Orders
 pub mod Plain
+pub mod MoreGates
+pub mod MoreColumns
 pub mod OneBlock
+pub mod BesideGraphs
 pub mod BlockLists
 pub mod NewOutputs
 pub mod Adders
 pub mod ReplacedColumns
 pub mod GraftedGraphs
 pub mod KnownLiterals
+pub mod PlacedBeside
 pub mod CutTests
+pub mod HeaderParts
 pub mod CallerLemmas

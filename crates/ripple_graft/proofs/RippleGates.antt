@@ -1,27 +1,14 @@
 -- The variables of a ripple-carry adder's gates: they count on, and each reads variables below its own.
-use Rattle.std.specs.Prelude.{◌≡◌, ℕ, ◌+◌, ◌*◌, ◌<◌, ◌≤◌, ◌⊎◌, List, [], ◌∷◌, map, length}
+use Rattle.std.specs.Prelude.{◌≡◌, ℕ, ◌+◌, ◌*◌, ◌<◌, ◌≤◌, List, [], ◌∷◌, map, length}
 use Rattle.std.specs.List.{AllByRecursion}
 use Rattle.std.proofs.Common.{refl, sym, subst, arith, inl, inr}
 use Rattle.graph_core.specs.declared.literal.Lit.{Lit}
-use Rattle.graph_core.specs.declared.gate.Gate.{Gate}
 use Rattle.graph_core.specs.Graph.Literals.{constant_false, variable_of, negation_of}
 use Rattle.graph_core.proofs.OfGraphs.CallerLemmas.{variable_of-negated}
 use Rattle.graph_core.specs.Graph.Positions.{position, carry_after}
 use Rattle.ripple_graft.specs.Ripple.{ripple_gates}
+use Rattle.ripple_graft.proofs.MoreGates.{IsAbove, IsOne}
 use Rattle.graph_core.proofs.OfAiger.CallerLemmas.{Counts, counts_append, placed_count, position_placed}
-
--- a variable of those below, or one of the adder's
-abbrev pub IsOne : (ℕ → Type 0) → ℕ → ℕ → Type 0
-IsOne Below low v = Below v ⊎ (low < v)
-
--- a gate of the adder: its variable is above `low` and at most `high`, and its operands are below it
-pub record IsAbove (Below : ℕ → Type 0) (low high : ℕ) (x : Gate) : Type 0 where
-  pub from : low < x.v
-  pub upto : x.v ≤ high
-  pub left : variable_of x.left < x.v
-  pub right : variable_of x.right < x.v
-  pub left_one : IsOne Below low (variable_of x.left)
-  pub right_one : IsOne Below low (variable_of x.right)
 
 -- a pair of variables below
 abbrev pub IsLowPair : (ℕ → Type 0) → ℕ → Lit × Lit → Type 0

@@ -3,9 +3,10 @@ use Rattle.std.specs.Prelude.{◌≡◌, ℕ, zero, suc, ◌+◌, ◌*◌, ◌<�
 use Rattle.std.specs.declared.option.Option.{Option}
 use Rattle.std.specs.declared.option.Option.TheVariants.{None, Some}
 use Rattle.std.specs.List.{All, AllWithin, HoldsAt}
+use Rattle.graph_core.specs.declared.bounds.TheConstants.{MOST_VARIABLES}
 use Rattle.graph_core.specs.declared.literal.Lit.{Lit}
 use Rattle.graph_core.specs.declared.gate.Gate.{Gate}
-use Rattle.graph_core.specs.Graph.{Aig}
+use Rattle.graph_core.specs.Graph.{Aig, IsWellFormed}
 use Rattle.graph_core.specs.Graph.Extended.{Column, Extended, without_cut}
 use Rattle.graph_core.specs.Graph.Literals.{constant_false}
 use Rattle.ripple_graft.specs.declared.added.Added.{Added}
@@ -16,8 +17,8 @@ use Rattle.ripple_graft.specs.declared.fault.BlocksFail.TheVariants as blocks_fa
 use Rattle.ripple_graft.specs.declared.fault.GraftFail.{GraftFail}
 use Rattle.ripple_graft.specs.declared.fault.GraftFail.TheVariants.{Columns, Literal, Memory}
 use Rattle.ripple_graft.specs.Ripple.{ripple_gates, ripple_outputs}
-use Rattle.ripple_graft.specs.Extension.{IsKnown}
-use Rattle.ripple_graft.specs.Blocks.{AreBlocks, Block, Cut, IsBlock, graft_block, reach, with_blocks}
+use Rattle.ripple_graft.specs.Extension.{IsExtension, IsKnown}
+use Rattle.ripple_graft.specs.Blocks.{Block, Cut, IsBlock, graft_block, reach}
 
 -- The cut has a pair, and its sums end at the last column or the one before it.
 pub record HasColumns (g : Aig) (cut : Cut) : Type 0 where
@@ -68,7 +69,7 @@ IsBlocksFault g blocks (blocks_fail.Columns i) = IsFirstFault (without_cut g) bl
 IsBlocksFault g blocks (blocks_fail.Literal i p) = IsFirstFault (without_cut g) blocks i (Literal p)
 IsBlocksFault g blocks blocks_fail.Memory = Unit {0}
 
--- ---- how an extended graph is kept: the graph, and perhaps adders after its gates
+-- ---- how an extended graph is kept: the graph, and perhaps gates after its own
 
 -- the adder of some pairs after gates, the greatest variable so far
 pub record IsAdderBehind (max : ℕ) (gates : List Gate) (pairs : List (Lit × Lit)) (a : Adder) : Type 0 where
@@ -89,11 +90,21 @@ abbrev pub seen : Aig → Option Added → Extended
 seen g None = without_cut g
 seen g (Some a) = seen_in g a
 
--- the graph with blocks that fit one after the other
+-- gates with the variables after v, one after the other
+abbrev pub AreNumberedOn : ℕ → List Gate → Type 0
+AreNumberedOn v [] = Unit {0}
+AreNumberedOn v (x ∷ gates) = (x.v ≡ suc v) × AreNumberedOn (suc v) gates
+
+-- The graph's gates, and others numbered on: for each replaced column at most seven, those of adders, and besides at most
+-- MOST_VARIABLES. It is without faults where the graph is.
 pub record IsGrafted (g : Aig) (e : Extended) : Type 0 where
-  pub blocks : List Block
-  pub fit : AreBlocks (without_cut g) blocks
-  pub is : e ≡ with_blocks g blocks
+  pub own : List Gate
+  pub graph_is : e.graph ≡ g
+  pub extends : IsWellFormed g → IsExtension e
+  pub gates_are : e.gates ≡ g.gates ++ own
+  pub numbered : AreNumberedOn g.max own
+  pub max_is : e.max ≡ g.max + length own
+  pub room : e.max ≤ g.max + MOST_VARIABLES + 7 * length e.replaced
 
 abbrev pub IsAddedGrafted : Aig → Option Added → Type 0
 IsAddedGrafted g added = IsGrafted g (seen g added)

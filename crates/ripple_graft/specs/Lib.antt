@@ -2,5 +2,6 @@
 pub mod Ripple
 pub mod Extension
 pub mod Blocks
-pub mod HeaderBlocks
 pub mod Grafts
+pub mod Beside
+pub mod HeaderBlocks

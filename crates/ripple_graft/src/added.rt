@@ -1,4 +1,4 @@
-// What stands beside a graph: gates of adders, and the columns that they replace.
+// What is kept of an extended graph beside the graph: all gates, and the columns that are replaced.
 use graph_core::{Gate, Lit};
 
 // A column with the graph's output and the new one.
@@ -9,13 +9,13 @@ pub struct Replaced {
     pub new: Lit,
 }
 
-// Adders after a graph's gates.
+// Gates after a graph's own, and replaced columns.
 #[derive(Debug, Drop)]
 pub struct Added {
     // the greatest variable
     pub max: u32,
-    // the graph's gates, and then those of the adders
+    // the graph's gates, and then those that were added
     pub gates: Vec<Gate>,
-    // the columns of each block after those of the blocks before
+    // in the order in which they were replaced
     pub columns: Vec<Replaced>,
 }

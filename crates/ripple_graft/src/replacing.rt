@@ -1,6 +1,8 @@
-// What stands beside a graph, with a block more.
-ghost use Rattle.std.specs.Prelude.{◌≡◌, IfOk};
+// What is kept beside a graph, with a block, a gate or an output more.
+ghost use Rattle.std.specs.Prelude.{◌≡◌, ◌<◌, IfOk, length, suc};
+ghost use Rattle.graph_core.specs.Graph.{Aig};
 ghost use Rattle.graph_core.specs.Graph.Extended.{without_cut};
+ghost use Rattle.ripple_graft.specs.Beside.{with_gate, with_output};
 ghost use Rattle.ripple_graft.specs.Blocks.{IsBlock, block, graft_block};
 ghost use Rattle.ripple_graft.specs.Grafts.{IsGrafted, seen_in};
 
@@ -8,7 +10,7 @@ use crate::added::Added;
 use crate::adder::adder_behind;
 use crate::columns::{columns_behind, reach};
 use crate::cut::Cut;
-use graph_core::Graph;
+use graph_core::{Gate, Graph, Lit};
 use std::alloc::{AllocError, Global};
 
 // Nothing beside a graph but its own gates.
@@ -45,6 +47,34 @@ pub fn with_block(
     Ok(Added {
         max: adder.max,
         gates: adder.gates,
+        columns,
+    })
+}
+
+// One gate more, with the variable after the greatest.
+pub fn with_gate(before: Added, gate: Gate) -> Result<Added, AllocError>
+    requires { gate.v ≡ suc before.max }
+    ensures { IfOk result (λ a. (g : Aig) →
+        seen_in g a ≡ with_gate (seen_in g before) (gate.left, gate.right)) }
+{
+    let mut gates = before.gates;
+    gates.push(gate)?;
+    Ok(Added {
+        max: gate.v,
+        gates,
+        columns: before.columns,
+    })
+}
+
+// One output more that a literal takes the place of.
+pub fn with_output(graph: &Graph, before: Added, column: u32, new: Lit) -> Result<Added, AllocError>
+    requires { column < length graph.now.outputs }
+    ensures { IfOk result (λ a. seen_in graph.now a ≡ with_output (seen_in graph.now before) (column, new)) }
+{
+    let columns = columns_behind(before.columns, column, graph.output_literals(), &[new])?;
+    Ok(Added {
+        max: before.max,
+        gates: before.gates,
         columns,
     })
 }

@@ -6,17 +6,8 @@ use Rattle.graph_core.specs.declared.profile.Profile.TheVariants.{Any}
 use Rattle.graph_core.specs.Graph.{Aig}
 use Rattle.mv_desk.specs.View.{View, bytes_under}
 use Rattle.command_core.specs.Files.{HasGraph}
-use Rattle.command_core.specs.declared.names.Names.{Names}
+pub use Rattle.command_core.specs.Files.{ComparedFiles, compared_files_of}
 use Rattle.same_core.specs.Merged.{AreOfOneShape}
-
--- the names, as texts
-pub record ComparedFiles : Type 0 where
-  pub graph : List ℕ
-  pub other : List ℕ
-  pub clauses : List ℕ
-
-abbrev pub compared_files_of : Names → ComparedFiles
-compared_files_of names = record { graph = names.graph.now; other = names.other.now; clauses = names.clauses.now }
 
 -- what the files have, each where it is told
 pub record ComparedTexts : Type 0 where

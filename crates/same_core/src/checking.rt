@@ -8,7 +8,7 @@ ghost use Rattle.same_core.specs.Outcome.{IsExactPairAnswer, IsPairOutcome, Open
 use crate::checked::SameChecked;
 use crate::clauses::check_clauses;
 use crate::pairs::read_pair;
-use command_core::Names;
+use command_core::SameNames;
 use mv_desk::{Desk, Limits};
 use std::alloc::Global;
 
@@ -18,7 +18,7 @@ pub fn check_same<D: Desk>(
     alloc: Global,
     desk: &mut D,
     limits: &Limits,
-    names: &Names<'_>,
+    names: &SameNames<&str>,
 ) -> SameChecked
     ensures outcome { IsPairOutcome limits.now (compared_files_of names.now) (D.seen desk.old) (D.seen desk.new) result }
     ensures exact { IsExactPairAnswer limits.now (compared_files_of names.now) (D.seen desk.old) (D.seen desk.new) result }
@@ -37,7 +37,7 @@ fn check_files<D: Desk>(
     alloc: Global,
     desk: &mut D,
     limits: &Limits,
-    names: &Names<'_>,
+    names: &SameNames<&str>,
 ) -> Result<(), SameChecked>
     ensures accepted { OnOk result (IsPairOutcome limits.now (compared_files_of names.now)
         (D.seen desk.old) (D.seen desk.new) SameChecked.Accepted) }

@@ -8,7 +8,7 @@ use crate::certificate::write_certificate;
 use crate::pairs::read_pair;
 use crate::solving::{decide, inputs_at};
 use crate::verdict::Same;
-use command_core::{Names, Stop};
+use command_core::{SameNames, Stop};
 use goal_refuter::Outcome;
 use mv_desk::{Desk, Limits};
 use std::alloc::Global;
@@ -20,7 +20,7 @@ pub fn same<D: Desk>(
     desk: &mut D,
     conflicts: u64,
     limits: &Limits,
-    names: &Names<'_>,
+    names: &SameNames<&str>,
 ) -> Same
     ensures answer { IsCompared limits.now conflicts (compared_files_of names.now) (D.seen desk.old) (D.seen desk.new) result }
     ensures opened { OpensForCompared result (D.seen desk.old) (D.seen desk.new) }

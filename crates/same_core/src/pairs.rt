@@ -8,7 +8,7 @@ ghost use Rattle.same_core.specs.Files.{compared_files_of, compared_texts_of};
 ghost use Rattle.same_core.specs.Pairs.{IsPairFail, IsReadPair};
 
 use crate::merged::{MergeFail, Merged, merge};
-use command_core::{Names, Stop, read_graph};
+use command_core::{SameNames, Stop, read_graph};
 use graph_core::{Graph, Profile};
 use mv_desk::{Desk, Limits, Slot};
 use std::alloc::Global;
@@ -51,7 +51,7 @@ pub(crate) fn read_pair<D: Desk>(
     alloc: Global,
     desk: &mut D,
     limits: &Limits,
-    names: &Names<'_>,
+    names: &SameNames<&str>,
 ) -> Result<(Graph, Merged), PairFail>
     ensures pair { IfOk result (λ pair. IsReadPair limits.now.graph
         (compared_texts_of (D.seen desk.old) (compared_files_of names.now)) pair.0 pair.1) }

@@ -55,7 +55,7 @@ fn show_at(
     }
 }
 
-// Shows a gate equal to its candidate, if it has one; the variables below both are decided first.
+// Shows a gate that an output depends on equal to its candidate, if it has one.
 fn show_twin(
     gates: &[Gate],
     gate: &Gate,
@@ -68,20 +68,147 @@ fn show_twin(
     ensures { OnOk result (StaysBegunAlike conflicts solver.old log.old solver.new log.new) }
 {
     // so that the goals have their part
-    if conflicts / 4 < twins.spent() {
+    if conflicts / 4 < twins.spent() || !twins.is_read(gate) {
         return Ok(());
     }
-    if let Some(twin) = twins.candidate(gate) {
-        solver.prefer(twins.near(gates, gate.v, twin.var())?);
-        let own = Lit(gate.v.wrapping_mul(2));
-        let before = log.added();
-        if show_equal(solver, own, twin, FEW, conflicts, log)? {
-            twins.join(gate.v, twin);
-        } else {
-            twins.spend(log.added().saturating_sub(before));
-        }
+    if let Some(twin) = twins.folded(gate) {
+        twins.join(gate.v, twin);
+        return log_operands(gates, gate, conflicts, twins, solver, log);
+    }
+    if let Some(twin) = twins.of_equal_operands(gate) {
+        return show_alike(gates, gate, twin, conflicts, twins, solver, log);
+    }
+    if let Some(twin) = twins.of_equal_values(gate) {
+        return show_near(gates, gate, twin, conflicts, twins, solver, log);
     }
     Ok(())
+}
+
+// Joins a gate to one of equal operands. Lemmas are needed where propagation doesn't lead from both operands to those
+// that they equal; and it has to lead from one of them.
+fn show_alike(
+    gates: &[Gate],
+    gate: &Gate,
+    twin: Lit,
+    conflicts: u64,
+    twins: &mut Twins,
+    solver: &mut Solver,
+    log: &mut Log,
+) -> Result<(), Memory>
+    requires { (max : ℕ) × (given : List Clause) × IsBegunAlike max given conflicts solver.old log.old }
+    ensures { OnOk result (StaysBegunAlike conflicts solver.old log.old solver.new log.new) }
+{
+    if twins.follows(gate.left) && twins.follows(gate.right) {
+        twins.join_unlogged(gate.v, twin);
+        return Ok(());
+    }
+    log_one(gates, gate, conflicts, twins, solver, log)?;
+    show_within(gates, gate.v, twin, FEW, conflicts, twins, solver, log)?;
+    Ok(())
+}
+
+// Logs what an operand of a gate equals, unless propagation leads from the other one.
+fn log_one(
+    gates: &[Gate],
+    gate: &Gate,
+    conflicts: u64,
+    twins: &mut Twins,
+    solver: &mut Solver,
+    log: &mut Log,
+) -> Result<(), Memory>
+    requires { (max : ℕ) × (given : List Clause) × IsBegunAlike max given conflicts solver.old log.old }
+    ensures { OnOk result (StaysBegunAlike conflicts solver.old log.old solver.new log.new) }
+{
+    if twins.follows(gate.left) || twins.follows(gate.right) {
+        return Ok(());
+    }
+    log_twin(gates, twins.more_read(gate), conflicts, twins, solver, log)
+}
+
+// Logs what both operands of a gate equal.
+fn log_operands(
+    gates: &[Gate],
+    gate: &Gate,
+    conflicts: u64,
+    twins: &mut Twins,
+    solver: &mut Solver,
+    log: &mut Log,
+) -> Result<(), Memory>
+    requires { (max : ℕ) × (given : List Clause) × IsBegunAlike max given conflicts solver.old log.old }
+    ensures { OnOk result (StaysBegunAlike conflicts solver.old log.old solver.new log.new) }
+{
+    log_twin(gates, gate.left.var(), conflicts, twins, solver, log)?;
+    log_twin(gates, gate.right.var(), conflicts, twins, solver, log)
+}
+
+// Logs what a variable equals, if the log doesn't say so.
+fn log_twin(
+    gates: &[Gate],
+    variable: u32,
+    conflicts: u64,
+    twins: &mut Twins,
+    solver: &mut Solver,
+    log: &mut Log,
+) -> Result<(), Memory>
+    requires { (max : ℕ) × (given : List Clause) × IsBegunAlike max given conflicts solver.old log.old }
+    ensures { OnOk result (StaysBegunAlike conflicts solver.old log.old solver.new log.new) }
+{
+    if let Some(twin) = twins.unlogged(variable) {
+        show_within(gates, variable, twin, FEW, conflicts, twins, solver, log)?;
+    }
+    Ok(())
+}
+
+// Shows a gate equal to one with the same values, first by propagation alone. The more gates weren't shown to equal
+// that one, the fewer lemmas there are.
+fn show_near(
+    gates: &[Gate],
+    gate: &Gate,
+    twin: Lit,
+    conflicts: u64,
+    twins: &mut Twins,
+    solver: &mut Solver,
+    log: &mut Log,
+) -> Result<(), Memory>
+    requires { (max : ℕ) × (given : List Clause) × IsBegunAlike max given conflicts solver.old log.old }
+    ensures { OnOk result (StaysBegunAlike conflicts solver.old log.old solver.new log.new) }
+{
+    if show_within(gates, gate.v, twin, 1, conflicts, twins, solver, log)? {
+        return Ok(());
+    }
+    let few = FEW >> twins.missed(twin.var()).min(63);
+    if !show_within(gates, gate.v, twin, few, conflicts, twins, solver, log)? {
+        twins.miss(twin.var());
+    }
+    Ok(())
+}
+
+// Shows that a variable equals a literal, each implication within so many lemmas; whether it did. The variables below
+// both are decided first.
+fn show_within(
+    gates: &[Gate],
+    variable: u32,
+    twin: Lit,
+    few: u64,
+    conflicts: u64,
+    twins: &mut Twins,
+    solver: &mut Solver,
+    log: &mut Log,
+) -> Result<bool, Memory>
+    requires { (max : ℕ) × (given : List Clause) × IsBegunAlike max given conflicts solver.old log.old }
+    ensures { OnOk result (StaysBegunAlike conflicts solver.old log.old solver.new log.new) }
+{
+    solver.prefer(twins.near(gates, variable, twin.var())?);
+    let before = log.added();
+    let own = Lit(variable.wrapping_mul(2));
+    let shown = show_equal(solver, own, twin, few, conflicts, log)?;
+    if shown {
+        twins.join(variable, twin);
+        twins.set_logged(variable);
+    } else {
+        twins.spend(log.added().saturating_sub(before));
+    }
+    Ok(shown)
 }
 
 // The values of all gates on the patterns, and the gates of the first graph by operands and by values.

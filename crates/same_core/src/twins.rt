@@ -6,13 +6,22 @@ use indexmap::IndexMap;
 use stage_guesser::{Draws, Signature, WORDS};
 use std::alloc::Global;
 
-/// By row of a variable its values on some patterns of the inputs and the literal that it was shown to equal; and by
-/// operands and by values the gates of the first graph. No answer depends on it.
+/// By row of a variable its values on some patterns of the inputs and the literal that it equals; and by operands and
+/// by values the gates of the first graph. No answer depends on it.
+///
+/// A gate whose operands equal those of another one is true where that one is, by propagation alone. So it is joined
+/// to it without lemmas, *unlogged*, until a gate that reads its negation needs them.
 #[derive(Drop)]
 pub(crate) struct Twins {
     rows: Rows,
     signatures: Vec<Signature>,
     twins: Vec<Option<Lit>>,
+    /// Whether what a variable equals isn't in the log.
+    unlogged: Vec<bool>,
+    /// How many operands of gates it is, as far as outputs depend on them.
+    readers: Vec<u32>,
+    /// How many gates weren't shown to equal it.
+    missed: Vec<u32>,
     /// Whether an output depends on it.
     read: Vec<bool>,
     by_operands: IndexMap<u64, u32>,
@@ -33,6 +42,9 @@ impl Twins {
             rows,
             signatures: vec![in alloc; Signature::zero(); count]?,
             twins: vec![in alloc; None; count]?,
+            unlogged: vec![in alloc; false; count]?,
+            readers: vec![in alloc; 0; count]?,
+            missed: vec![in alloc; 0; count]?,
             read: vec![in alloc; false; count]?,
             by_operands: IndexMap::new(alloc),
             by_values: IndexMap::new(alloc),
@@ -77,8 +89,12 @@ impl Twins {
     /// Where an output depends on a gate, it depends on the gate's operands.
     pub(crate) fn read_operands(&mut self, gate: &Gate) {
         if self.is_read(gate) {
-            self.read(gate.left.var());
-            self.read(gate.right.var());
+            for lit in [gate.left, gate.right] {
+                self.read(lit.var());
+                if let Some(readers) = self.readers.get_mut(self.rows.of(lit.var())) {
+                    *readers = readers.saturating_add(1);
+                }
+            }
         }
     }
 
@@ -98,21 +114,14 @@ impl Twins {
         Ok(())
     }
 
-    /// A literal of the first graph that a gate of the second one may equal: one of a gate with equal operands, else
-    /// one with the same values. None where no output depends on the gate, or it equals a literal by propagation
-    /// alone.
-    pub(crate) fn candidate(&mut self, gate: &Gate) -> Option<Lit> {
-        if !self.is_read(gate) {
-            return None;
-        }
-        if let Some(lit) = self.folded(gate) {
-            self.join(gate.v, lit);
-            return None;
-        }
+    /// A gate of the first graph whose operands equal those of a gate of the second one.
+    pub(crate) fn of_equal_operands(&self, gate: &Gate) -> Option<Lit> {
         let key = operands(self.twin(gate.left), self.twin(gate.right));
-        if let Some(v) = self.by_operands.get(&key) {
-            return Some(plain(*v));
-        }
+        Some(plain(*self.by_operands.get(&key)?))
+    }
+
+    /// A literal of the first graph with the values of a gate of the second one.
+    pub(crate) fn of_equal_values(&self, gate: &Gate) -> Option<Lit> {
         let values = self.values(plain(gate.v));
         let lit = plain(*self.by_values.get(&self.class_of(&values))?);
         if self.values(lit).is(&values) {
@@ -129,11 +138,45 @@ impl Twins {
         self.cones.near(&self.rows, gates, one, other)
     }
 
-    /// Keeps a literal that a variable was shown to equal.
+    /// The operand of a gate that more gates read.
+    pub(crate) fn more_read(&self, gate: &Gate) -> u32 {
+        let (left, right) = (gate.left.var(), gate.right.var());
+        if self.readers(left) < self.readers(right) {
+            right
+        } else {
+            left
+        }
+    }
+
+    /// Keeps a literal that a variable equals.
     pub(crate) fn join(&mut self, variable: u32, lit: Lit) {
         if let Some(twin) = self.twins.get_mut(self.rows.of(variable)) {
             *twin = Some(lit);
         }
+    }
+
+    /// Keeps a literal that a variable equals, and that the log doesn't say so.
+    pub(crate) fn join_unlogged(&mut self, variable: u32, lit: Lit) {
+        self.join(variable, lit);
+        self.set_unlogged(variable, true);
+    }
+
+    /// The log says now what a variable equals.
+    pub(crate) fn set_logged(&mut self, variable: u32) {
+        self.set_unlogged(variable, false);
+    }
+
+    /// The literal that a variable equals, if the log doesn't say so.
+    pub(crate) fn unlogged(&self, variable: u32) -> Option<Lit> {
+        match self.unlogged.get(self.rows.of(variable)) {
+            Some(true) => Some(self.twin(plain(variable))),
+            _ => None,
+        }
+    }
+
+    /// Whether propagation derives from a literal the one that it equals.
+    pub(crate) fn follows(&self, lit: Lit) -> bool {
+        !lit.negated() || self.unlogged(lit.var()).is_none()
     }
 
     /// Counts lemmas that showed nothing.
@@ -145,15 +188,44 @@ impl Twins {
         self.spent
     }
 
-    fn is_read(&self, gate: &Gate) -> bool {
+    /// A gate wasn't shown to equal a variable.
+    pub(crate) fn miss(&mut self, variable: u32) {
+        if let Some(missed) = self.missed.get_mut(self.rows.of(variable)) {
+            *missed = missed.saturating_add(1);
+        }
+    }
+
+    /// How many gates weren't.
+    pub(crate) fn missed(&self, variable: u32) -> u32 {
+        match self.missed.get(self.rows.of(variable)) {
+            Some(missed) => *missed,
+            None => 0,
+        }
+    }
+
+    /// Whether an output depends on a gate.
+    pub(crate) fn is_read(&self, gate: &Gate) -> bool {
         match self.read.get(self.rows.of(gate.v)) {
             Some(read) => *read,
             None => false,
         }
     }
 
-    // The literal that a gate equals by propagation alone: one operand is a constant, or both are of one variable.
-    fn folded(&self, gate: &Gate) -> Option<Lit> {
+    fn set_unlogged(&mut self, variable: u32, is: bool) {
+        if let Some(unlogged) = self.unlogged.get_mut(self.rows.of(variable)) {
+            *unlogged = is;
+        }
+    }
+
+    fn readers(&self, variable: u32) -> u32 {
+        match self.readers.get(self.rows.of(variable)) {
+            Some(readers) => *readers,
+            None => 0,
+        }
+    }
+
+    /// The literal that a gate equals by propagation alone: one operand is a constant, or both are of one variable.
+    pub(crate) fn folded(&self, gate: &Gate) -> Option<Lit> {
         let (left, right) = (gate.left, gate.right);
         if left.0 == 0 || right.0 == 0 || left == right.not() {
             return Some(Lit(0));

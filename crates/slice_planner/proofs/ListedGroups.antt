@@ -11,7 +11,7 @@ use Rattle.graph_core.specs.Graph.Literals.{variable_of}
 use Rattle.graph_core.specs.Graph.{defined}
 use Rattle.graph_core.proofs.OfGraphs.CallerLemmas.{Apart, all_join, all_split, all_weaker, apart_from_pairs, rest_apart}
 use Rattle.ripple_graft.specs.Extension.{whole}
-use Rattle.ripple_graft.proofs.OneBlock.{pairs_from_apart}
+use Rattle.ripple_graft.proofs.MoreGates.{pairs_from_apart}
 use Rattle.frontier_core.specs.Sets.{has}
 use Rattle.frontier_core.proofs.Everywhere.{all_of_map}
 use Rattle.frontier_core.proofs.PlainOrders.{plain_order_leaves_frontiers, plain_order_finishes}

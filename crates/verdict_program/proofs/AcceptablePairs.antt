@@ -12,7 +12,7 @@ use Rattle.graph_core.specs.Graph.Operands.{profile_of, sides_for}
 use Rattle.graph_core.specs.Text.JudgedLines.{IsWithin}
 use Rattle.joint_prover.specs.Verdicts.{HoldsPair, IsFirstTooLongHeld}
 use Rattle.joint_prover.specs.declared.note.Note.{Note}
-use Rattle.joint_prover.specs.declared.task.Task.{Task}
+use Rattle.command_core.specs.declared.task.Task.{Task}
 use Rattle.mv_desk.specs.View.{View, bytes_under}
 use Rattle.mv_text.specs.LineReading.{lengths_of}
 use Rattle.pair_core.specs.Certificates.{IsLawfulPair}

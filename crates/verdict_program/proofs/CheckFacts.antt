@@ -2,10 +2,9 @@
 use Rattle.std.proofs.Common.{◌≡◌, refl, subst, sym, arith}
 use Rattle.aiger_reader.specs.Refusals.{SpellsWithin}
 use Rattle.command_line.specs.declared.command.Command.TheVariants.{Check}
-use Rattle.command_line.specs.declared.files.Files as named
 use Rattle.graph_core.specs.Graph.Operands.{profile_of}
 use Rattle.graph_core.specs.declared.claim.Claim.{Claim}
-use Rattle.command_core.specs.Files.{texts_of}
+use Rattle.command_core.specs.Files.{Files, texts_of}
 use Rattle.joint_checker.specs.Outcome.{IsDue, IsOutcome, IsStopDue}
 use Rattle.joint_checker.proofs.DueRows.{outcomes_are_exact}
 use Rattle.joint_checker.specs.declared.checked.Checked.{Checked}
@@ -14,14 +13,14 @@ use Rattle.mv_desk.specs.View.{View, Rose, bytes_under}
 use Rattle.verdict_program.specs.declared.answer.Answer.TheVariants as answer
 use Rattle.verdict_program.specs.Answer.{status_of, status_of_check}
 use Rattle.verdict_program.specs.Headline.{IsAsClaimed}
-use Rattle.verdict_program.specs.Runs.{EndsAsDue, TellsHeld, files_asked, standard}
+use Rattle.verdict_program.specs.Runs.{EndsAsDue, TellsHeld, standard}
 use Rattle.verdict_program.proofs.StopFacts.{gives_as_due, no_write_failed, read_failed, stop_is_apart}
 use Rattle.verdict_program.proofs.Facts.{Facts, told_bytes}
 use Rattle.verdict_program.proofs.Told.{some_more}
 
-module _ (files : named.Files) (claim : Claim) (a b : View) where
+module _ (files : Files) (claim : Claim) (a b : View) where
   abbrev Is : Checked → Type 0
-  Is outcome = IsOutcome standard claim (files_asked files) a b outcome
+  Is outcome = IsOutcome standard claim files a b outcome
 
   zero : (outcome : Checked) → Is outcome → status_of_check outcome ≡ 0 → IsAsClaimed a files.graph claim
   zero checked.Accepted h e =
@@ -32,17 +31,17 @@ module _ (files : named.Files) (claim : Claim) (a b : View) where
   six : (outcome : Checked) → Is outcome → status_of_check outcome ≡ 6 → Rose a.read_faults b.read_faults
   six checked.Accepted h e = absurd (omega arith)
   six (checked.Refused why) h e = absurd (omega arith)
-  six (checked.Stopped why) h e = read_failed a b (IsStopDue standard claim (texts_of a (files_asked files))) why h e
+  six (checked.Stopped why) h e = read_failed a b (IsStopDue standard claim (texts_of a files)) why h e
 
   -- no other status has a cause to be told
   others : (outcome : Checked) → Is outcome → (status_of_check outcome ≡ 1 → ⊥) × (status_of_check outcome ≡ 2 → ⊥) × (status_of_check outcome ≡ 5 → ⊥) × (status_of_check outcome ≡ 7 → ⊥)
   others checked.Accepted h = ((λ e. absurd (omega arith)), (λ e. absurd (omega arith)), (λ e. absurd (omega arith)), (λ e. absurd (omega arith)))
   others (checked.Refused why) h = ((λ e. absurd (omega arith)), (λ e. absurd (omega arith)), (λ e. absurd (omega arith)), (λ e. absurd (omega arith)))
-  others (checked.Stopped why) h = let apart = stop_is_apart why in (apart.one, apart.two, apart.five, no_write_failed a b (IsStopDue standard claim (texts_of a (files_asked files))) why h)
+  others (checked.Stopped why) h = let apart = stop_is_apart why in (apart.one, apart.two, apart.five, no_write_failed a b (IsStopDue standard claim (texts_of a files)) why h)
 
-  given_as_due : (outcome : Checked) → Is outcome → TellsHeld a → (due : Checked) → IsDue standard claim (texts_of a (files_asked files)) due → EndsAsDue (status_of_check due) (status_of_check outcome)
+  given_as_due : (outcome : Checked) → Is outcome → TellsHeld a → (due : Checked) → IsDue standard claim (texts_of a files) due → EndsAsDue (status_of_check due) (status_of_check outcome)
   given_as_due outcome h told due k =
-      gives_as_due a b checked.Stopped status_of_check (λ why. refl) due outcome (outcomes_are_exact standard claim (files_asked files) a b outcome h
+      gives_as_due a b checked.Stopped status_of_check (λ why. refl) due outcome (outcomes_are_exact standard claim files a b outcome h
       (record { graph_told = told_bytes a told files.graph; clauses_told = told_bytes a told files.clauses; algebra_told = told_bytes a told files.algebra }) due k)
 
   pub check_facts : (outcome : Checked) → Is outcome → Facts (Check files claim) a b (answer.Checked outcome)

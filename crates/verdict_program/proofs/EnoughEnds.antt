@@ -12,27 +12,27 @@ use Rattle.mv_desk.specs.View.{View}
 use Rattle.verdict_program.specs.declared.answer.Answer.{Answer}
 use Rattle.verdict_program.specs.Answer.{status_of, status_of_verify}
 use Rattle.verdict_program.specs.EnoughBudget.{HasEnoughBudget}
-use Rattle.verdict_program.specs.Runs.{EndsAsDue, EndsWith, IsRight, IsRightOf, files_asked, standard, task_asked}
+use Rattle.verdict_program.specs.Runs.{EndsAsDue, EndsWith, IsRight, IsRightOf, standard}
 use Rattle.verdict_program.proofs.Asking.{no_command, one_command}
 use Rattle.verdict_program.proofs.StopFacts.{gives_as_due}
 use Rattle.verdict_program.proofs.VerifyFacts.{status_of_judgement}
 
 module _ (words : List (List ℕ)) (a b c : View) (given : Answer) (status : ℕ) (right : IsRight words a b given) (ends : EndsWith given b c status) (h : HasEnoughBudget words a) where
   abbrev asks : Command
-  asks = Verify h.0 h.1 h.2 h.3 h.4
+  asks = Verify h.0 h.1
 
   verify_ends : IsRightOf asks a b given → EndsAsDue 0 (status_of given)
   verify_ends r =
-      let told = enough_is_proved standard (task_asked h.1 h.2 h.3 h.4) (files_asked h.0) a b r.0 r.1 r.3.0 in
+      let told = enough_is_proved standard h.1 h.0 a b r.0 r.1 r.3.0 in
       subst (λ x. EndsAsDue 0 (status_of x)) (sym r.2)
       (subst (EndsAsDue 0) (status_of_judgement r.0)
       (gives_as_due a b verdict.Stopped status_of_verify (λ why. refl) (verdict.Proved None) (judgement r.0)
-      (subst (λ o. IfSome o (λ file. IsEnough standard.graph (task_asked h.1 h.2 h.3 h.4) file → GivesDue verdict.Stopped a b (verdict.Proved None) (judgement r.0))) h.7 told h.8)))
+      (subst (λ o. IfSome o (λ file. IsEnough standard.graph h.1 file → GivesDue verdict.Stopped a b (verdict.Proved None) (judgement r.0))) h.4 told h.5)))
 
   answer_ends : IsRight words a b given → EndsAsDue 0 (status_of given)
-  answer_ends (inl none) = absurd (no_command words asks h.5 none.1)
+  answer_ends (inl none) = absurd (no_command words asks h.2 none.1)
   answer_ends (inr (inl memory)) = inr (inr (inr (ap status_of memory.0)))
-  answer_ends (inr (inr r)) = verify_ends (subst (λ command. IsRightOf command a b given) (one_command words r.0 asks r.1 h.5) r.2)
+  answer_ends (inr (inr r)) = verify_ends (subst (λ command. IsRightOf command a b given) (one_command words r.0 asks r.1 h.2) r.2)
 
   pub run_has_enough : EndsAsDue 0 status
   run_has_enough = go ends

@@ -25,28 +25,28 @@ use Rattle.verdict_program.specs.Evaluation.{IsValueDue}
 use Rattle.verdict_program.specs.Headline.{AreTheSame, IsAsClaimed}
 use Rattle.verdict_program.specs.Making.{text_for}
 use Rattle.verdict_program.specs.Trial.{IsAcceptedWith, IsUndecidedWith, OfMade, sample_of}
-use Rattle.verdict_program.specs.Runs.{DiffersSomewhere, EndsAsDue, HasSpentPair, IsDueOf, TellsHeld, TellsNames, files_asked, pair_asked, standard, task_asked, trim_files_asked}
+use Rattle.verdict_program.specs.Runs.{DiffersSomewhere, EndsAsDue, HasSpentPair, IsDueOf, TellsHeld, TellsNames, standard}
 use Rattle.verdict_program.proofs.Told.{none_told}
 
 -- what status 0 means
 abbrev pub Succeeds : Command → Answer → View → View → Type 0
 Succeeds (Check files claim) given a b = IsAsClaimed a files.graph claim
-Succeeds (Verify files claim budget conflicts version) given a b =
+Succeeds (Verify files task) given a b =
     TellsHeld a → TellsNames a → (noted : Option Note) × (long : Option Slot) × (given ≡ answer.Verified (verdict.Proved long) noted) ×
-    HoldsPair (task_asked claim budget conflicts version) (files_asked files) b standard.graph noted × IsFirstTooLongHeld standard (files_asked files) b long
+    HoldsPair task files b standard.graph noted × IsFirstTooLongHeld standard files b long
 Succeeds (Eval graph point) given a b = ⊤
-Succeeds (Make design bits adder out) given a b = TellsHeld a → TellsNames a → b.held out ≡ Some (Some (text_for out (designed design bits adder)))
+Succeeds (Make making out) given a b = TellsHeld a → TellsNames a → b.held out ≡ Some (Some (text_for out (designed making.design making.bits making.adder)))
 Succeeds (Trial number) given a b = (n : Note) × OfMade (sample_of number) (IsAcceptedWith n)
-Succeeds (Same files conflicts) given a b = AreTheSame a files.graph files.other × (TellsHeld a → TellsNames a → HoldsEqual standard.graph conflicts (pair_asked files) b)
+Succeeds (Same files conflicts) given a b = AreTheSame a files.graph files.other × (TellsHeld a → TellsNames a → HoldsEqual standard.graph conflicts files b)
 Succeeds (CheckSame files) given a b = AreTheSame a files.graph files.other
-Succeeds (Trim files claim) given a b = IsAsClaimed a files.graph claim × (TellsHeld a → TellsNames a → HoldsTrimmed standard claim (trim_files_asked files) a b)
+Succeeds (Trim files claim) given a b = IsAsClaimed a files.old.graph claim × (TellsHeld a → TellsNames a → HoldsTrimmed standard claim files a b)
 
 -- where statuses 1, 2 and 5 come
 abbrev pub IsWrongFor : Command → View → Type 0
-IsWrongFor (Verify files claim budget conflicts version) a =
-    HasGraph (profile_of claim.widths) standard.graph (bytes_under a files.graph) (λ g. DiffersSomewhere g claim × ((n : Note) × IsNote g claim conflicts n))
+IsWrongFor (Verify files task) a =
+    HasGraph (profile_of task.claim.widths) standard.graph (bytes_under a files.graph) (λ g. DiffersSomewhere g task.claim × ((n : Note) × IsNote g task.claim task.conflicts n))
 IsWrongFor (Same files conflicts) a =
-    pair.HasPair standard.graph (pair.compared_texts_of a (pair_asked files)) (λ g h. (inputs : List Bool) × IsPairDifference g h inputs)
+    pair.HasPair standard.graph (pair.compared_texts_of a files) (λ g h. (inputs : List Bool) × IsPairDifference g h inputs)
 IsWrongFor command a = ⊥
 
 abbrev pub IsTooGreatFor : Command → View → Type 0
@@ -54,9 +54,9 @@ IsTooGreatFor (Eval graph point) a = IsValueDue standard.graph (bytes_under a gr
 IsTooGreatFor command a = ⊥
 
 abbrev pub IsUndecidedFor : Command → View → Type 0
-IsUndecidedFor (Verify files claim budget conflicts version) a =
-    HasGraph (profile_of claim.widths) standard.graph (bytes_under a files.graph) (λ g. (step : ℕ) × (size : ℕ) × IsFirstAbove g claim budget step size ×
-    ((n : Note) × IsNote g claim conflicts n × (tried : List Tried) × AreTried g claim budget (cut_of n) tried) × HaveManyOnes g claim)
+IsUndecidedFor (Verify files task) a =
+    HasGraph (profile_of task.claim.widths) standard.graph (bytes_under a files.graph) (λ g. (step : ℕ) × (size : ℕ) × IsFirstAbove g task.claim task.budget step size ×
+    ((n : Note) × IsNote g task.claim task.conflicts n × (tried : List Tried) × AreTried g task.claim task.budget (cut_of n) tried) × HaveManyOnes g task.claim)
 IsUndecidedFor (Trial number) a = (step : ℕ) × (size : ℕ) × (n : Note) × OfMade (sample_of number) (IsUndecidedWith step size n)
 IsUndecidedFor (Same files conflicts) a = HasSpentPair conflicts a files
 IsUndecidedFor command a = ⊥

@@ -1,7 +1,7 @@
 -- What follows from an answer of `check-same`.
 use Rattle.std.proofs.Common.{◌≡◌, refl, subst, sym, arith}
 use Rattle.command_line.specs.declared.command.Command.TheVariants.{CheckSame}
-use Rattle.command_line.specs.declared.files.PairFiles.{PairFiles}
+use Rattle.command_core.specs.Files.{ComparedFiles}
 use Rattle.mv_desk.specs.View.{View, Rose}
 use Rattle.same_core.specs.Files.{compared_texts_of}
 use Rattle.same_core.specs.Outcome.{IsPairCheckDue, IsPairOutcome, IsPairStopDue}
@@ -11,14 +11,14 @@ use Rattle.same_core.specs.declared.checked.SameChecked.TheVariants as judged
 use Rattle.verdict_program.specs.declared.answer.Answer.TheVariants as answer
 use Rattle.verdict_program.specs.Answer.{status_of, status_of_judged}
 use Rattle.verdict_program.specs.Headline.{AreTheSame}
-use Rattle.verdict_program.specs.Runs.{EndsAsDue, TellsHeld, pair_asked, standard}
+use Rattle.verdict_program.specs.Runs.{EndsAsDue, TellsHeld, standard}
 use Rattle.verdict_program.proofs.Facts.{Facts, told_bytes}
 use Rattle.verdict_program.proofs.PairLemmas.{are_the_same}
 use Rattle.verdict_program.proofs.StopFacts.{gives_as_due, no_write_failed, read_failed, stop_is_apart}
 
-module _ (files : PairFiles) (a b : View) where
+module _ (files : ComparedFiles) (a b : View) where
   abbrev Is : SameChecked → Type 0
-  Is outcome = IsPairOutcome standard (pair_asked files) a b outcome
+  Is outcome = IsPairOutcome standard files a b outcome
 
   zero : (outcome : SameChecked) → Is outcome → status_of_judged outcome ≡ 0 → AreTheSame a files.graph files.other
   zero judged.Accepted (g, spelled, (h, other_spelled, (shape, (lawful, agree)))) e = are_the_same a files g h spelled other_spelled shape agree
@@ -30,18 +30,18 @@ module _ (files : PairFiles) (a b : View) where
   six judged.Accepted h e = absurd (omega arith)
   six (judged.Refused why) h e = absurd (omega arith)
   six judged.Shapes h e = absurd (omega arith)
-  six (judged.Stopped why) h e = read_failed a b (IsPairStopDue standard (compared_texts_of a (pair_asked files))) why h e
+  six (judged.Stopped why) h e = read_failed a b (IsPairStopDue standard (compared_texts_of a files)) why h e
 
   -- no other status has a cause to be told
   others : (outcome : SameChecked) → Is outcome → (status_of_judged outcome ≡ 1 → ⊥) × (status_of_judged outcome ≡ 2 → ⊥) × (status_of_judged outcome ≡ 5 → ⊥) × (status_of_judged outcome ≡ 7 → ⊥)
   others judged.Accepted h = ((λ e. absurd (omega arith)), (λ e. absurd (omega arith)), (λ e. absurd (omega arith)), (λ e. absurd (omega arith)))
   others (judged.Refused why) h = ((λ e. absurd (omega arith)), (λ e. absurd (omega arith)), (λ e. absurd (omega arith)), (λ e. absurd (omega arith)))
   others judged.Shapes h = ((λ e. absurd (omega arith)), (λ e. absurd (omega arith)), (λ e. absurd (omega arith)), (λ e. absurd (omega arith)))
-  others (judged.Stopped why) h = let apart = stop_is_apart why in (apart.one, apart.two, apart.five, no_write_failed a b (IsPairStopDue standard (compared_texts_of a (pair_asked files))) why h)
+  others (judged.Stopped why) h = let apart = stop_is_apart why in (apart.one, apart.two, apart.five, no_write_failed a b (IsPairStopDue standard (compared_texts_of a files)) why h)
 
-  given_as_due : (outcome : SameChecked) → Is outcome → TellsHeld a → (due : SameChecked) → IsPairCheckDue standard (compared_texts_of a (pair_asked files)) due → EndsAsDue (status_of_judged due) (status_of_judged outcome)
+  given_as_due : (outcome : SameChecked) → Is outcome → TellsHeld a → (due : SameChecked) → IsPairCheckDue standard (compared_texts_of a files) due → EndsAsDue (status_of_judged due) (status_of_judged outcome)
   given_as_due outcome h told due k =
-      gives_as_due a b judged.Stopped status_of_judged (λ why. refl) due outcome (outcomes_are_exact standard (pair_asked files) a b outcome h
+      gives_as_due a b judged.Stopped status_of_judged (λ why. refl) due outcome (outcomes_are_exact standard files a b outcome h
       (record { graph_told = told_bytes a told files.graph; other_told = told_bytes a told files.other; clauses_told = told_bytes a told files.clauses }) due k)
 
   pub judged_facts : (outcome : SameChecked) → Is outcome → Facts (CheckSame files) a b (answer.Judged outcome)

@@ -10,7 +10,7 @@ use Rattle.same_core.specs.declared.verdict.Same as compared
 use Rattle.same_core.specs.declared.verdict.Same.TheVariants as same
 use Rattle.verdict_program.specs.declared.answer.Answer.{Answer}
 use Rattle.verdict_program.specs.Answer.{status_of, status_of_same}
-use Rattle.verdict_program.specs.Runs.{EndsOnPair, EndsWith, HasPairAsked, IsRight, IsRightOf, pair_asked, standard}
+use Rattle.verdict_program.specs.Runs.{EndsOnPair, EndsWith, HasPairAsked, IsRight, IsRightOf, standard}
 use Rattle.verdict_program.proofs.Asking.{no_command, one_command}
 
 on_pair : (outcome : compared.Same) → IsOnPair outcome → EndsOnPair (status_of_same outcome)
@@ -30,7 +30,7 @@ module _ (words : List (List ℕ)) (a b c : View) (given : Answer) (status : ℕ
 
   same_ends : IsRightOf asks a b given → EndsOnPair (status_of given)
   same_ends r =
-      subst (λ x. EndsOnPair (status_of x)) (sym r.1) (on_pair r.0 (pairs_are_decided standard h.1 (pair_asked h.0) a b r.0 h.3 r.2.0))
+      subst (λ x. EndsOnPair (status_of x)) (sym r.1) (on_pair r.0 (pairs_are_decided standard h.1 h.0 a b r.0 h.3 r.2.0))
 
   answer_ends : IsRight words a b given → EndsOnPair (status_of given)
   answer_ends (inl none) = absurd (no_command words asks h.2 none.1)

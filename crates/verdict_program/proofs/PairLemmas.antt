@@ -4,14 +4,13 @@ use Rattle.std.specs.Prelude.{IfSome}
 use Rattle.aiger_reader.specs.Refusals.{SpellsWithin}
 use Rattle.command_core.specs.Written.{FailsToWrite}
 use Rattle.command_core.specs.declared.stop.Stop.TheVariants as stop
-use Rattle.command_line.specs.declared.files.PairFiles.{PairFiles}
+use Rattle.command_core.specs.Files.{ComparedFiles}
 use Rattle.graph_core.specs.Graph.{Aig}
 use Rattle.graph_core.specs.declared.profile.Profile.TheVariants.{Any}
 use Rattle.mv_desk.specs.View.{View, bytes_under}
 use Rattle.mv_desk.specs.declared.limits.Limits.{Limits}
 use Rattle.mv_desk.specs.declared.slot.Slot.TheVariants as slot
 use Rattle.same_core.specs.Deciding.{IsCompared}
-use Rattle.same_core.specs.Files.{ComparedFiles}
 use Rattle.same_core.specs.Merged.{AgreeOnInputs, AreOfOneShape}
 use Rattle.same_core.specs.declared.verdict.Same.{Same}
 use Rattle.same_core.specs.declared.verdict.Same.TheVariants as same
@@ -22,7 +21,7 @@ use Rattle.verdict_program.specs.Runs.{ReportStays, standard}
 use Rattle.verdict_program.proofs.CreatingLemmas.{leaves_both, no_clauses, reads_leave, same_leaves, slot_leaves}
 use Rattle.verdict_program.proofs.Told.{some_more}
 
-pub are_the_same : (a : View) (files : PairFiles) (g h : Aig) → IfSome (bytes_under a files.graph) (λ bytes. SpellsWithin Any standard.graph bytes g) →
+pub are_the_same : (a : View) (files : ComparedFiles) (g h : Aig) → IfSome (bytes_under a files.graph) (λ bytes. SpellsWithin Any standard.graph bytes g) →
     IfSome (bytes_under a files.other) (λ bytes. SpellsWithin Any standard.graph bytes h) → AreOfOneShape g h → AgreeOnInputs g h → AreTheSame a files.graph files.other
 are_the_same a files g h spelled other_spelled shape agree =
     some_more (bytes_under a files.graph) (λ bytes. SpellsWithin Any standard.graph bytes g) _

@@ -10,11 +10,3 @@ pub numbers_line : (old text digits more other : List ℕ) → ((old ++ text ++ 
 numbers_line old text digits more other =
     ap (λ xs. xs ++ more ++ other ++ newline ∷ []) (append_assoc old text digits) ∙ ap (λ xs. xs ++ other ++ newline ∷ []) (append_assoc old (text ++ digits) more) ∙
     number_line old (text ++ digits ++ more) other
-
-pub sums_line : (old text digits more other last tail : List ℕ) → (((old ++ text ++ digits) ++ more ++ other) ++ last ++ tail) ++ newline ∷ [] ≡ old ++ (text ++ digits ++ more ++ other ++ last ++ tail ++ newline ∷ [])
-sums_line old text digits more other last tail =
-    let front = text ++ digits ++ more in
-    ap (λ xs. xs ++ more ++ other ++ last ++ tail ++ newline ∷ []) (append_assoc old text digits) ∙
-    ap (λ xs. xs ++ other ++ last ++ tail ++ newline ∷ []) (append_assoc old (text ++ digits) more) ∙
-    ap (λ xs. xs ++ last ++ tail ++ newline ∷ []) (append_assoc old front other) ∙ ap (λ xs. xs ++ tail ++ newline ∷ []) (append_assoc old (front ++ other) last) ∙
-    number_line old (front ++ other ++ last) tail

@@ -1,5 +1,5 @@
 -- What `verify` and `check` answer over a made graph that is held in memory.
-use Rattle.std.proofs.Common.{◌≡◌, ◌≢◌, ℕ, ◌-◌, ◌^◌, ◌≤◌, List, length, Option, Some, refl, sym, ap, subst, ◌∙◌, arith, inl, inr, ⊎_elim, true≢false}
+use Rattle.std.proofs.Common.{◌≡◌, ◌≢◌, ℕ, ◌-◌, ◌^◌, ◌≤◌, List, length, Option, Some, refl, sym, ap, subst, ◌∙◌, arith, inl, inr, ⊎_elim}
 use Rattle.std.specs.Prelude.{IfSome, IsSome, IsSomeAnd, ⊤, [], option_map, unwrap_or}
 use Rattle.aiger_reader.specs.Refusals.{SpellsWithin}
 use Rattle.command_core.specs.Stopping.{GivesDue, Interrupts, IsGraphStop, IsStop}
@@ -25,11 +25,11 @@ use Rattle.joint_checker.specs.declared.checked.Checked.TheVariants as checked
 use Rattle.joint_checker.specs.declared.checked.Refusal.{Refusal}
 use Rattle.joint_prover.specs.Notes.{IsNote, cut_of}
 use Rattle.joint_prover.specs.Pairs.{IsPairFor}
-use Rattle.joint_prover.specs.Verdicts.{HasNote, IsVerdict, IsWrong, IsWrongSum, two}
+use Rattle.joint_prover.specs.Verdicts.{HasNote, IsVerdict, IsWrong}
 use Rattle.command_core.specs.Written.{ReadsGraph, WritesFile, WritesPair}
 use Rattle.joint_prover.specs.declared.note.Note.{Note}
 use Rattle.joint_prover.specs.declared.verdict.Tried.{Tried}
-use Rattle.joint_prover.specs.declared.seen.Seen.{Seen}
+use Rattle.joint_prover.specs.declared.difference.Difference.{Difference}
 use Rattle.joint_prover.specs.declared.verdict.Verdict.{Verdict}
 use Rattle.joint_prover.specs.declared.verdict.Verdict.TheVariants as verdict
 use Rattle.joint_prover.proofs.Telling.{pair_is_lawful}
@@ -114,26 +114,20 @@ module _ (sample : Sample) (some : 1 ≤ sample.bits) (narrow : sample.bits ≤ 
       let spelled = subst (λ o. IfSome o (λ bytes. SpellsWithin TwoOperands no_limits.graph bytes h.0)) held h.1 in
       (h.0, spelled.spells, h.2)
 
-  never_wrong : (x y value product : ℕ) → Is (verdict.Wrong x y value product) → ⊥
-  never_wrong x y value product h =
-      let s = of_file (λ g. IsWrong g trial_task.claim x y value product × HasNote g trial_task noted (λ used. ⊤)) h.0 in
+  never_wrong : (d : Difference) → Is (verdict.Wrong d) → ⊥
+  never_wrong d h =
+      let s = of_file (λ g. IsWrong g trial_task.claim d × HasNote g trial_task noted (λ used. ⊤)) h.0 in
       let does = subst (Does (product_under Separate)) (one_graph TwoOperands text made.0 s.0 made.1 s.1) made.3 in
       let far = s.2.0.least.difference in
-      far.differs (does (two x y) far.range)
-
-  never_wrong_sum : (x y z value sum : ℕ) → Is (verdict.WrongSum x y z value sum) → ⊥
-  never_wrong_sum x y z value sum h =
-      let s = of_file (λ g. IsWrongSum g trial_task.claim x y z value sum × HasNote g trial_task noted (λ used. ⊤)) h.0 in
-      absurd (true≢false (sym s.2.0.addend))
+      far.differs (does d.numbers far.range)
 
   -- no other verdict comes
-  pub never_other : (v : Verdict) → Is v → ((long : Option Slot) → v ≢ verdict.Proved long) → ((tried : Vec Tried Global) (step size : ℕ) (seen : Option Seen) → v ≢ verdict.Undecided tried step size seen) →
+  pub never_other : (v : Verdict) → Is v → ((long : Option Slot) → v ≢ verdict.Proved long) → ((tried : Vec Tried Global) (step size : ℕ) (seen : Option Difference) → v ≢ verdict.Undecided tried step size seen) →
       ((why : Stop) → v ≢ verdict.Stopped why) → ⊥
   never_other (verdict.Proved long) h p u s = p long refl
   never_other (verdict.Undecided tried step size seen) h p u s = u tried step size seen refl
   never_other (verdict.Stopped why) h p u s = s why refl
-  never_other (verdict.Wrong x y value product) h p u s = never_wrong x y value product h
-  never_other (verdict.WrongSum x y z value sum) h p u s = never_wrong_sum x y z value sum h
+  never_other (verdict.Wrong d) h p u s = never_wrong d h
 
   -- and no other stop
   stop_refused : b.read_faults ≡ 0 → (why : Stop) → IsStop (IsGraphStop slot.Graph TwoOperands no_limits.graph (bytes_under a trial_files.graph)) a b why → IsOfMemory why

@@ -1,58 +1,40 @@
 -- What follows from an answer of `trim`.
 use Rattle.std.proofs.Common.{◌≡◌, refl, subst, sym, arith, inl, inr}
 use Rattle.command_core.specs.declared.stop.Stop.TheVariants as stop
-use Rattle.command_line.specs.Asked.{LeavesFiles}
 use Rattle.command_line.specs.declared.command.Command.TheVariants.{Check, Trim}
-use Rattle.command_line.specs.declared.files.Files as named
-use Rattle.command_line.specs.declared.files.TrimFiles.{TrimFiles}
 use Rattle.graph_core.specs.declared.claim.Claim.{Claim}
-use Rattle.command_core.specs.Files.{texts_of}
+use Rattle.command_core.specs.Files.{LeavesFiles, TrimmedFiles, texts_of}
 use Rattle.joint_checker.specs.Outcome.{IsOutcome}
 use Rattle.joint_checker.specs.declared.checked.Checked.{Checked}
 use Rattle.joint_checker.specs.declared.checked.Checked.TheVariants as checked
 use Rattle.mv_desk.specs.View.{View, Rose}
-use Rattle.pair_trim.specs.Trimming.{HoldsTrimmed, IsTrimAnswer, IsTrimDue, LeavesOld, checked_of, old_files}
+use Rattle.pair_trim.specs.Trimming.{HoldsTrimmed, IsTrimAnswer, IsTrimDue, checked_of}
 use Rattle.pair_trim.specs.declared.answer.TrimAnswer.{TrimAnswer}
 use Rattle.pair_trim.specs.declared.answer.TrimAnswer.TheVariants as trim
 use Rattle.pair_trim.proofs.HeldPairs.{trimmed_pairs_are_held}
 use Rattle.verdict_program.specs.declared.answer.Answer.TheVariants as answer
 use Rattle.verdict_program.specs.Answer.{status_of, status_of_check, status_of_trim}
 use Rattle.verdict_program.specs.Headline.{IsAsClaimed}
-use Rattle.verdict_program.specs.Runs.{EndsAsDue, TellsHeld, TellsNames, files_asked, standard, trim_files_asked}
+use Rattle.verdict_program.specs.Runs.{EndsAsDue, TellsHeld, TellsNames, standard}
 use Rattle.verdict_program.proofs.CheckFacts.{check_facts}
 use Rattle.verdict_program.proofs.Facts.{Facts}
 use Rattle.verdict_program.proofs.StopFacts.{is_read_fault, is_write_fault, stop_is_apart}
 
-module _ (files : TrimFiles) (claim : Claim) (a b : View) (leaves : LeavesFiles files) where
+module _ (files : TrimmedFiles) (claim : Claim) (a b : View) (leaves : LeavesFiles files) where
   abbrev Is : TrimAnswer → Type 0
-  Is outcome = IsTrimAnswer standard claim (trim_files_asked files) a b outcome
-
-  -- the files that `check` judges
-  abbrev old : named.Files
-  old = record { graph = files.graph; clauses = files.clauses; algebra = files.algebra }
+  Is outcome = IsTrimAnswer standard claim files a b outcome
 
   -- what follows from an answer of `check`, which `trim` has too
-  checks : (outcome : Checked) → IsOutcome standard claim (files_asked old) a b outcome → Facts (Check old claim) a b (answer.Checked outcome)
-  checks outcome h = check_facts old claim a b outcome h
+  checks : (outcome : Checked) → IsOutcome standard claim files.old a b outcome → Facts (Check files.old claim) a b (answer.Checked outcome)
+  checks outcome h = check_facts files.old claim a b outcome h
 
-  zero : (outcome : TrimAnswer) → Is outcome → status_of_trim outcome ≡ 0 → IsAsClaimed a files.graph claim
+  zero : (outcome : TrimAnswer) → Is outcome → status_of_trim outcome ≡ 0 → IsAsClaimed a files.old.graph claim
   zero (trim.Trimmed pair) h e = (checks checked.Accepted h.0).zero refl
   zero (trim.Refused why) h e = absurd (omega arith)
   zero (trim.Stopped why) h e = absurd ((stop_is_apart why).zero e)
 
-  leaves_old : LeavesOld (trim_files_asked files)
-  leaves_old = record {
-    clauses_graph = leaves.clauses.graph;
-    clauses_clauses = leaves.clauses.clauses;
-    clauses_algebra = leaves.clauses.algebra;
-    algebra_graph = leaves.algebra.graph;
-    algebra_clauses = leaves.algebra.clauses;
-    algebra_algebra = leaves.algebra.algebra;
-    apart = leaves.apart;
-  }
-
-  held : (outcome : TrimAnswer) → Is outcome → status_of_trim outcome ≡ 0 → TellsHeld a → TellsNames a → HoldsTrimmed standard claim (trim_files_asked files) a b
-  held (trim.Trimmed pair) h e told names = trimmed_pairs_are_held standard claim (trim_files_asked files) a b pair (record { held = told; names = names }) leaves_old h
+  held : (outcome : TrimAnswer) → Is outcome → status_of_trim outcome ≡ 0 → TellsHeld a → TellsNames a → HoldsTrimmed standard claim files a b
+  held (trim.Trimmed pair) h e told names = trimmed_pairs_are_held standard claim files a b pair (record { held = told; names = names }) leaves h
   held (trim.Refused why) h e told names = absurd (omega arith)
   held (trim.Stopped why) h e told names = absurd ((stop_is_apart why).zero e)
 
@@ -78,13 +60,13 @@ module _ (files : TrimFiles) (claim : Claim) (a b : View) (leaves : LeavesFiles 
   same_status (trim.Refused why) = refl
   same_status (trim.Stopped why) = refl
 
-  ends : (outcome : TrimAnswer) → IsOutcome standard claim (files_asked old) a b (checked_of outcome) → TellsHeld a →
-      (due : TrimAnswer) → IsTrimDue standard claim (texts_of a (old_files (trim_files_asked files))) due → EndsAsDue (status_of_trim due) (status_of_trim outcome)
+  ends : (outcome : TrimAnswer) → IsOutcome standard claim files.old a b (checked_of outcome) → TellsHeld a →
+      (due : TrimAnswer) → IsTrimDue standard claim (texts_of a files.old) due → EndsAsDue (status_of_trim due) (status_of_trim outcome)
   ends outcome h told due k = subst (λ n. EndsAsDue n (status_of_trim outcome)) (sym (same_status due))
       (subst (EndsAsDue (status_of_check (checked_of due))) (sym (same_status outcome)) ((checks (checked_of outcome) h).due told (answer.Checked (checked_of due)) (checked_of due, refl, k)))
 
   given_as_due : (outcome : TrimAnswer) → Is outcome → TellsHeld a →
-      (due : TrimAnswer) → IsTrimDue standard claim (texts_of a (old_files (trim_files_asked files))) due → EndsAsDue (status_of_trim due) (status_of_trim outcome)
+      (due : TrimAnswer) → IsTrimDue standard claim (texts_of a files.old) due → EndsAsDue (status_of_trim due) (status_of_trim outcome)
   given_as_due (trim.Trimmed pair) h told due k = ends (trim.Trimmed pair) h.0 told due k
   given_as_due (trim.Refused why) h told due k = ends (trim.Refused why) h.outcome_is told due k
   given_as_due (trim.Stopped (stop.Graph at why)) h told due k = ends (trim.Stopped (stop.Graph at why)) h.outcome_is told due k

@@ -1,11 +1,10 @@
 -- What follows from an answer of `verify`.
-use Rattle.std.proofs.Common.{◌≡◌, ℕ, List, Option, Some, None, refl, ap, subst, sym, arith, inl, inr}
+use Rattle.std.proofs.Common.{◌≡◌, ℕ, List, Option, Some, None, refl, ap, subst, sym, arith}
 use Rattle.std.specs.Prelude.{⊤}
 use Rattle.command_line.specs.declared.command.Command.TheVariants.{Verify}
-use Rattle.command_line.specs.declared.files.Files as named
 use Rattle.graph_core.specs.Graph.Operands.{profile_of}
-use Rattle.graph_core.specs.declared.claim.Claim.{Claim}
-use Rattle.command_core.specs.Files.{AreDistinct, HasGraph}
+use Rattle.command_core.specs.Files.{AreDistinct, Files, HasGraph}
+use Rattle.command_core.specs.declared.task.Task.{Task}
 use Rattle.joint_prover.specs.declared.note.Note.{Note}
 use Rattle.joint_prover.specs.declared.verdict.Tried.{Tried}
 use Rattle.joint_prover.specs.Notes.{IsNote, cut_of}
@@ -20,77 +19,70 @@ use Rattle.mv_desk.specs.View.{View, Rose, bytes_under}
 use Rattle.mv_desk.specs.declared.slot.Slot.{Slot}
 use Rattle.verdict_program.specs.declared.answer.Answer.TheVariants as answer
 use Rattle.verdict_program.specs.Answer.{status_of, status_of_verify}
-use Rattle.verdict_program.specs.Runs.{DiffersSomewhere, EndsAsDue, TellsHeld, TellsNames, files_asked, standard, task_asked}
+use Rattle.verdict_program.specs.Runs.{DiffersSomewhere, EndsAsDue, TellsHeld, TellsNames, standard}
 use Rattle.verdict_program.proofs.Facts.{Facts}
 use Rattle.verdict_program.proofs.StopFacts.{gives_as_due, is_read_fault, is_write_fault, stop_is_apart}
 
 -- the status says nothing of lengths
 pub status_of_judgement : (v : Verdict) → status_of_verify (judgement v) ≡ status_of_verify v
 status_of_judgement (verdict.Proved long) = refl
-status_of_judgement (verdict.Wrong a b value product) = refl
-status_of_judgement (verdict.WrongSum a b c value sum) = refl
+status_of_judgement (verdict.Wrong d) = refl
 status_of_judgement (verdict.Undecided tried step size seen) = refl
 status_of_judgement (verdict.Stopped why) = refl
 
-module _ (files : named.Files) (claim : Claim) (budget conflicts version : ℕ) (a b : View) (apart : AreDistinct files.graph files.clauses files.algebra) (noted : Option Note) where
+module _ (files : Files) (task : Task) (a b : View) (apart : AreDistinct files.graph files.clauses files.algebra) (noted : Option Note) where
   abbrev Is : Verdict → Type 0
-  Is outcome = IsVerdict standard (task_asked claim budget conflicts version) (files_asked files) a b outcome noted
+  Is outcome = IsVerdict standard task files a b outcome noted
 
-  note_there : (g : Aig) (P : Option Cut → Type 0) → HasNote g (task_asked claim budget conflicts version) noted P → (n : Note) × IsNote g claim conflicts n × P (cut_of n)
+  note_there : (g : Aig) (P : Option Cut → Type 0) → HasNote g task noted P → (n : Note) × IsNote g task.claim task.conflicts n × P (cut_of n)
   note_there g P h = go noted h
     where
-      go : (told : Option Note) → HasNote g (task_asked claim budget conflicts version) told P → (n : Note) × IsNote g claim conflicts n × P (cut_of n)
+      go : (told : Option Note) → HasNote g task told P → (n : Note) × IsNote g task.claim task.conflicts n × P (cut_of n)
       go None k = absurd k
       go (Some n) k = (n, k.0, k.1)
 
   zero : (outcome : Verdict) → Is outcome → status_of_verify outcome ≡ 0 → TellsHeld a → TellsNames a → (long : Option Slot) × (outcome ≡ verdict.Proved long) ×
-      HoldsPair (task_asked claim budget conflicts version) (files_asked files) b standard.graph noted × IsFirstTooLongHeld standard (files_asked files) b long
+      HoldsPair task files b standard.graph noted × IsFirstTooLongHeld standard files b long
   zero (verdict.Proved long) h e told names =
-      let pair = proved_pairs_are_held standard (task_asked claim budget conflicts version) (files_asked files) a b long noted (record { held = told; names = names }) apart h in
+      let pair = proved_pairs_are_held standard task files a b long noted (record { held = told; names = names }) apart h in
       (long, refl, pair.0, pair.1)
-  zero (verdict.Wrong x y value product) h e told names = absurd (omega arith)
-  zero (verdict.WrongSum x y z value sum) h e told names = absurd (omega arith)
+  zero (verdict.Wrong d) h e told names = absurd (omega arith)
   zero (verdict.Undecided tried step size seen) h e told names = absurd (omega arith)
   zero (verdict.Stopped why) h e told names = absurd ((stop_is_apart why).zero e)
 
   one : (outcome : Verdict) → Is outcome → status_of_verify outcome ≡ 1 →
-      HasGraph (profile_of claim.widths) standard.graph (bytes_under a files.graph) (λ g. DiffersSomewhere g claim × ((n : Note) × IsNote g claim conflicts n))
+      HasGraph (profile_of task.claim.widths) standard.graph (bytes_under a files.graph) (λ g. DiffersSomewhere g task.claim × ((n : Note) × IsNote g task.claim task.conflicts n))
   one (verdict.Proved long) h e = absurd (omega arith)
-  one (verdict.Wrong x y value product) h e = let r = h.0 in let n = note_there r.0 (λ used. ⊤) r.2.1 in (r.0, r.1, (inl (x, y, value, product, r.2.0), (n.0, n.1)))
-  one (verdict.WrongSum x y z value sum) h e = let r = h.0 in let n = note_there r.0 (λ used. ⊤) r.2.1 in (r.0, r.1, (inr (x, y, z, value, sum, r.2.0), (n.0, n.1)))
+  one (verdict.Wrong d) h e = let r = h.0 in let n = note_there r.0 (λ used. ⊤) r.2.1 in (r.0, r.1, ((d, r.2.0), (n.0, n.1)))
   one (verdict.Undecided tried step size seen) h e = absurd (omega arith)
   one (verdict.Stopped why) h e = absurd ((stop_is_apart why).one e)
 
   five : (outcome : Verdict) → Is outcome → status_of_verify outcome ≡ 5 →
-      HasGraph (profile_of claim.widths) standard.graph (bytes_under a files.graph) (λ g. (step : ℕ) × (size : ℕ) × IsFirstAbove g claim budget step size × ((n : Note) × IsNote g claim conflicts n × (tried : List Tried) × AreTried g claim budget (cut_of n) tried) × HaveManyOnes g claim)
+      HasGraph (profile_of task.claim.widths) standard.graph (bytes_under a files.graph) (λ g. (step : ℕ) × (size : ℕ) × IsFirstAbove g task.claim task.budget step size × ((n : Note) × IsNote g task.claim task.conflicts n × (tried : List Tried) × AreTried g task.claim task.budget (cut_of n) tried) × HaveManyOnes g task.claim)
   five (verdict.Proved long) h e = absurd (omega arith)
-  five (verdict.Wrong x y value product) h e = absurd (omega arith)
-  five (verdict.WrongSum x y z value sum) h e = absurd (omega arith)
-  five (verdict.Undecided tried step size seen) h e = let r = h.0 in let n = note_there r.0 (λ used. AreTried r.0 claim budget used tried.items) r.2.1 in (r.0, r.1, (step, size, r.2.0, (n.0, n.1, tried.items, n.2), r.2.2))
+  five (verdict.Wrong d) h e = absurd (omega arith)
+  five (verdict.Undecided tried step size seen) h e = let r = h.0 in let n = note_there r.0 (λ used. AreTried r.0 task.claim task.budget used tried.items) r.2.1 in (r.0, r.1, (step, size, r.2.0, (n.0, n.1, tried.items, n.2), r.2.2))
   five (verdict.Stopped why) h e = absurd ((stop_is_apart why).five e)
 
   six : (outcome : Verdict) → Is outcome → status_of_verify outcome ≡ 6 → Rose a.read_faults b.read_faults
   six (verdict.Proved long) h e = absurd (omega arith)
-  six (verdict.Wrong x y value product) h e = absurd (omega arith)
-  six (verdict.WrongSum x y z value sum) h e = absurd (omega arith)
+  six (verdict.Wrong d) h e = absurd (omega arith)
   six (verdict.Undecided tried step size seen) h e = absurd (omega arith)
   six (verdict.Stopped why) h e = (subst (λ x. Is (verdict.Stopped x)) (is_read_fault why e) h).0
 
   seven : (outcome : Verdict) → Is outcome → status_of_verify outcome ≡ 7 → Rose a.write_faults b.write_faults
   seven (verdict.Proved long) h e = absurd (omega arith)
-  seven (verdict.Wrong x y value product) h e = absurd (omega arith)
-  seven (verdict.WrongSum x y z value sum) h e = absurd (omega arith)
+  seven (verdict.Wrong d) h e = absurd (omega arith)
   seven (verdict.Undecided tried step size seen) h e = absurd (omega arith)
   seven (verdict.Stopped why) h e = (subst (λ x. Is (verdict.Stopped x)) (is_write_fault why e) h).0
 
   two : (outcome : Verdict) → status_of_verify outcome ≡ 2 → ⊥
   two (verdict.Proved long) e = absurd (omega arith)
-  two (verdict.Wrong x y value product) e = absurd (omega arith)
-  two (verdict.WrongSum x y z value sum) e = absurd (omega arith)
+  two (verdict.Wrong d) e = absurd (omega arith)
   two (verdict.Undecided tried step size seen) e = absurd (omega arith)
   two (verdict.Stopped why) e = (stop_is_apart why).two e
 
-  pub verify_facts : (outcome : Verdict) → Is outcome → Facts (Verify files claim budget conflicts version) a b (answer.Verified outcome noted)
+  pub verify_facts : (outcome : Verdict) → Is outcome → Facts (Verify files task) a b (answer.Verified outcome noted)
   verify_facts outcome h = record {
     zero = λ e told names. let z = zero outcome h e told names in (noted, z.0, ap (λ o. answer.Verified o noted) z.1, z.2, z.3);
     one = λ e. one outcome h e;
@@ -101,5 +93,5 @@ module _ (files : named.Files) (claim : Claim) (budget conflicts version : ℕ) 
     due = λ told due k. subst (λ d. EndsAsDue (status_of d) (status_of_verify outcome)) (sym k.2)
         (subst (EndsAsDue (status_of_verify k.0)) (status_of_judgement outcome)
         (let file = k.3 in gives_as_due a b verdict.Stopped status_of_verify (λ why. refl) k.0 (judgement outcome)
-        (verdicts_are_exact standard (task_asked claim budget conflicts version) (files_asked files) a b file.0 k.0 outcome noted file.1 file.2 h)));
+        (verdicts_are_exact standard task files a b file.0 k.0 outcome noted file.1 file.2 h)));
   }

@@ -20,7 +20,7 @@ use Rattle.joint_prover.specs.Pairs.{IsPairFor}
 use Rattle.joint_prover.specs.Tries.{AreTried, IsWithinBudget}
 use Rattle.joint_prover.specs.Verdicts.{HoldsPair, IsFirstAbove}
 use Rattle.joint_prover.specs.declared.note.Note.{Note}
-use Rattle.joint_prover.specs.declared.task.Task.{Task}
+use Rattle.command_core.specs.declared.task.Task.{Task}
 use Rattle.joint_prover.specs.declared.verdict.Tried.{Tried}
 use Rattle.mv_desk.specs.View.{View, bytes_under}
 use Rattle.mv_desk.specs.declared.limits.Limits.{Limits}

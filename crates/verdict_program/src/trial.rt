@@ -15,12 +15,12 @@ use crate::made::Made;
 use crate::make_file::create_file;
 use crate::sample::sample_of;
 use crate::tested::{Multiplier, Tested};
-use command_core::{Names, Stop};
+use command_core::{Names, Stop, Task};
 use command_line::{BUDGET, CONFLICTS};
 use graph_core::{Claim, Graph, Order, Sign, Widths};
 use graph_maker::make;
 use joint_checker::{Checked, check};
-use joint_prover::{Note, Task, Verdict, verify};
+use joint_prover::{Note, Verdict, verify};
 use mv_desk::{Desk, HonestDesk, Limits};
 use std::alloc::Global;
 
@@ -96,7 +96,7 @@ fn judge(alloc: Global, desk: &mut HonestDesk, multiplier: Multiplier) -> Tested
 }
 
 // The verdict on a file, within the default budgets.
-fn verdict_on(alloc: Global, desk: &mut HonestDesk, names: &Names<'_>) -> (Verdict, Option<Note>)
+fn verdict_on(alloc: Global, desk: &mut HonestDesk, names: &Names<&str>) -> (Verdict, Option<Note>)
     ensures { IsVerdict no_limits trial_task (files_of names.now)
         (⟦<HonestDesk as Desk>⟧.seen desk.old) (⟦<HonestDesk as Desk>⟧.seen desk.new) result.0 result.1 }
 {
@@ -148,15 +148,12 @@ fn measure(desk: &HonestDesk, name: &str) -> usize
 }
 
 // The names of the files in memory.
-fn names() -> Names<'static>
+fn names() -> Names<&'static str>
     ensures { files_of result ≡ trial_files }
 {
     Names {
         graph: "graph",
-        other: "",
         clauses: "clauses",
         algebra: "algebra",
-        to_clauses: "",
-        to_algebra: "",
     }
 }

@@ -1,7 +1,7 @@
 use Rattle.std.proofs.Common.{◌≡◌, ◌∙◌, None, Ok, inl, subst, sym, ⊎_elim}
 use Rattle.mv_text.specs.CertificateFiles.{FileState}
 use Rattle.ripple_graft.specs.HeaderBlocks.{IsCutOf}
-use Rattle.drup_text.specs.HeaderSteps.{ReadsHeaderPart, cut_part, version_part}
+use Rattle.drup_text.specs.HeaderSteps.{ReadsHeaderPart, blocks_version_part, cut_part}
 use Rattle.drup_text.proofs.VersionSteps.{fit_cut, fit_two, refused_cut, version_block, version_cut, version_two}
 use Rattle.drup_text.proofs.clause_file.any_blocks.Goals as goal
 
@@ -32,7 +32,7 @@ returns-in-Ok-Some-clause-blocks g c =
     let now = g.D.Desk.seen c.cut.new.desk in
     let one : version ≡ 1 = ⊎_elim (λ a. a) (λ b. absurd (c.if-version-eq2.false (c.version.ensures ∙ b))) c.requires.version in
     rw (c.settle.ensures.read)
-    (subst (λ (f : FileState). ReadsHeaderPart (version_part c.args.graph.now version) c.args.file.now f before now c.one_block.result) (sym c.settle.ensures.settled)
+    (subst (λ (f : FileState). ReadsHeaderPart (blocks_version_part c.args.graph.now version) c.args.file.now f before now c.one_block.result) (sym c.settle.ensures.settled)
     (version_block c.args.graph.now version c.in-Ok-Some.cut c.one_block.result one c.one_block.ensures.ok c.one_block.ensures.err
     (subst (λ o. ReadsHeaderPart (cut_part c.args.graph.now) c.args.file.now c.cut.new.file before now (Ok o)) c.in-Ok-Some.field-0-is c.in-Ok-Some.ensures.cut)))
 

@@ -234,6 +234,25 @@ returns-clause-algebra_named g c =
     told_earlier slot.Algebra name first second last (c.read_graph.ensures.opens.others slot.Algebra (λ e. cc)) (c.read_graph.ensures.inspects.held name)
     (told_earlier slot.Algebra name second third last (c.check_clauses.ensures.reads.others slot.Algebra (λ e. cc)) (c.check_clauses.ensures.reads.inspects.held name) c.check_algebra.ensures.reads.named)
 
+pub returns-in_err-closed-clause-clauses_named : goal.returns-in_err-closed-clause-clauses_named
+returns-in_err-closed-clause-clauses_named g c =
+    let first = g.D.Desk.seen c.args.desk.now in
+    let second = g.D.Desk.seen c.read_graph.new.desk in
+    let third = g.D.Desk.seen c.check_clauses.new.desk in
+    let name = c.args.names.now.clauses.now in
+    told_later slot.Clauses name first third (g.D.Desk.seen c.check_algebra.new.desk)
+    (told_earlier slot.Clauses name first second third (c.read_graph.ensures.opens.others slot.Clauses (λ e. cc)) (c.read_graph.ensures.inspects.held name) c.check_clauses.ensures.reads.named) (c.check_algebra.ensures.reads.others slot.Clauses (λ e. cc))
+
+pub returns-in_err-closed-clause-algebra_named : goal.returns-in_err-closed-clause-algebra_named
+returns-in_err-closed-clause-algebra_named g c =
+    let first = g.D.Desk.seen c.args.desk.now in
+    let second = g.D.Desk.seen c.read_graph.new.desk in
+    let third = g.D.Desk.seen c.check_clauses.new.desk in
+    let last = g.D.Desk.seen c.check_algebra.new.desk in
+    let name = c.args.names.now.algebra.now in
+    told_earlier slot.Algebra name first second last (c.read_graph.ensures.opens.others slot.Algebra (λ e. cc)) (c.read_graph.ensures.inspects.held name)
+    (told_earlier slot.Algebra name second third last (c.check_clauses.ensures.reads.others slot.Algebra (λ e. cc)) (c.check_clauses.ensures.reads.inspects.held name) c.check_algebra.ensures.reads.named)
+
 -- ---- no refusal accepts
 
 pub returns-in_err-graph-clause-not_accepted : goal.returns-in_err-graph-clause-not_accepted

@@ -1,17 +1,19 @@
-use Rattle.std.proofs.Common.{subst}
-use Rattle.graph_core.specs.Graph.Extended.{without_cut}
-use Rattle.ripple_graft.specs.Grafts.{IsBlocksFault}
-use Rattle.joint_checker.proofs.Grafted.{no_columns, no_literal}
+use Rattle.std.proofs.Common.{subst, sym, ap, ◌∙◌}
+use Rattle.graph_core.specs.Graph.Extended.{Extended, without_cut}
+use Rattle.ripple_graft.specs.Beside.{FitsBeside}
+use Rattle.ripple_graft.specs.Blocks.{AreBlocks, with_blocks}
+use Rattle.ripple_graft.proofs.CallerLemmas.{header_parts_fit}
 use Rattle.joint_checker.proofs.clause_file.extend.Goals as goal
 
-pub unreachable-requires : goal.unreachable-requires
-unreachable-requires c =
+pub with_blocks-requires : goal.with_blocks-requires
+with_blocks-requires c =
     let graph = c.args.graph.now in
-    let blocks = c.args.blocks.now in
-    no_columns (without_cut graph) blocks c.in-Columns.field-0 c.requires (subst (IsBlocksFault graph blocks) c.in-Columns.is c.in-Err.ensures.fault)
+    let header = c.args.header.now in
+    subst (AreBlocks (without_cut graph)) (sym c.as_slice.ensures) (header_parts_fit graph header.version header.blocks header.beside c.requires).0
 
-pub unreachable-requires-in-Literal : goal.unreachable-requires-in-Literal
-unreachable-requires-in-Literal c =
+pub graft_beside-requires : goal.graft_beside-requires
+graft_beside-requires c =
     let graph = c.args.graph.now in
-    let blocks = c.args.blocks.now in
-    no_literal (without_cut graph) blocks c.in-Literal.field-0 c.in-Literal.field-1 c.requires (subst (IsBlocksFault graph blocks) c.in-Literal.is c.in-Err.ensures.fault)
+    let header = c.args.header.now in
+    subst (λ (e : Extended). FitsBeside e header.beside) (sym (c.in_ok-extended.ensures ∙ ap (with_blocks graph) c.as_slice.ensures))
+    (header_parts_fit graph header.version header.blocks header.beside c.requires).1

@@ -24,3 +24,13 @@ returns-in_ok-push-in-Passed-clause-none c = λ none.
         above = above_of (extended_by g cut) (sides_for job.task.claim g) p.plan.steps passed.0 job.task.budget p.step p.size passed.1 _ last at;
       },
     )
+
+pub shortened-requires-clause-decides : goal.shortened-requires-clause-decides
+shortened-requires-clause-decides c =
+    let job = c.args.job.now in
+    (subst (IsOutcome job.graph.now job.task (cut_named c.args.shown) Slices job.task.budget) c.in-Decided.is c.in_ok-decision.ensures).1
+
+pub returns-in-Decided-clause-some : goal.returns-in-Decided-clause-some
+returns-in-Decided-clause-some c =
+    let job = c.args.job.now in
+    ((subst (IsOutcome job.graph.now job.task (cut_named c.args.shown) Slices job.task.budget) c.in-Decided.is c.in_ok-decision.ensures).0, c.shortened.ensures)

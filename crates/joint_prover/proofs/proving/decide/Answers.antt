@@ -60,4 +60,4 @@ returns-clause-note c =
     subst (IsNote graph task.claim task.conflicts) {x = note_of (has_addend task.claim.widths) r found} (sym (c.make_note.ensures ∙ ap (λ add. note_of add r found) c.has_addend.ensures))
     (subst (λ (t : Sides). IsNote graph t.claim task.conflicts (note_of (has_addend t.claim.widths) r found)) c.in_ok-operands.ensures
     (note_is graph s task.conflicts r found
-    (subst (λ (t : Sides). HasShapeFor t.claim.widths graph) (sym c.in_ok-operands.ensures) (shape_for task.claim.widths graph c.requires.sized)) (subst (AreOperandsOf graph) (sym c.in_ok-operands.ensures) refl) c.in_ok-rewritten.ensures.rewriting c.in_ok-rewritten.ensures.agrees c.in_ok-decision.ensures.found))
+    (subst (AreOperandsOf graph) (sym c.in_ok-operands.ensures) refl) c.in_ok-rewritten.ensures.rewriting c.in_ok-rewritten.ensures.agrees c.in_ok-decision.ensures.found))

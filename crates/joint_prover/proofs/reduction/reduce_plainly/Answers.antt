@@ -1,10 +1,8 @@
 use Rattle.std.proofs.Common.{◌≡◌, sym, ap, subst, ◌∙◌}
-use Rattle.std.proofs.lemmas.Result.{IfOk-weaker}
 use Rattle.column_reducer.specs.Reducing.{IsReduced}
 use Rattle.graph_core.specs.Graph.Extended.{Extended, without_cut}
 use Rattle.graph_core.specs.Graph.Operands.{ReadInputs}
-use Rattle.joint_prover.specs.Decisions.{IsDecision}
-use Rattle.joint_prover.specs.Endings.{Decides, cut_named}
+use Rattle.joint_prover.specs.Endings.{cut_named}
 use Rattle.joint_prover.specs.Tries.{extended_by}
 use Rattle.joint_prover.specs.Verdicts.{HaveManyOnes}
 use Rattle.joint_prover.proofs.Remainders.{first_alone, plain_remainder, plainly_reduced, reads_inputs, within_alone}
@@ -39,8 +37,8 @@ end_plan-requires-clause-left c =
       plain_remainder l c.in_ok-lines.ensures.start job.task.budget after c.in-Rest.poly c.in-Rest.id reduced,
     )
 
-pub returns-in-Rest : goal.returns-in-Rest
-returns-in-Rest c =
+pub returns-in_ok-decision-in-Rest : goal.returns-in_ok-decision-in-Rest
+returns-in_ok-decision-in-Rest c =
     let job = c.args.job.now in
     let l = c.in_ok-lines.lines in
     let after = c.reduce.new.lines in
@@ -52,9 +50,8 @@ returns-in-Rest c =
     let g = job.graph.now in
     let start = c.in_ok-lines.ensures in
     let lone = c.requires.job.lone in
-    IfOk-weaker c.end_plan.result (Decides g job.task (cut_named job.alone)) (IsDecision g job.task (cut_named job.used))
-    (λ d. plain_decides g job.task (cut_named job.used) (cut_named job.alone) c.args.tried.items d lone c.requires.tried
-    (within_alone g job.task.claim l start.start (start.extended ∙ ap (extended_by g) lone) start.sides job.task.budget after c.in-Rest.poly c.in-Rest.id reduced)) c.end_plan.ensures
+    plain_decides g job.task (cut_named job.used) (cut_named job.alone) c.args.tried.items c.shortened.result lone c.requires.tried
+    (within_alone g job.task.claim l start.start (start.extended ∙ ap (extended_by g) lone) start.sides job.task.budget after c.in-Rest.poly c.in-Rest.id reduced) c.shortened.ensures
 
 pub returns-in_ok-seen-in-Passed : goal.returns-in_ok-seen-in-Passed
 returns-in_ok-seen-in-Passed c =

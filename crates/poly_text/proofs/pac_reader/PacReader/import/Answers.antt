@@ -4,13 +4,13 @@ use Rattle.poly_text.proofs.FormSteps.{form_there}
 use Rattle.poly_text.proofs.LineSteps.{import_in_second, none_in_first}
 use Rattle.poly_text.proofs.pac_reader.PacReader.import.Goals as goal
 
-pub returns-then-self-ne2 : goal.returns-then-self-ne2
-returns-then-self-ne2 c = record {
+pub returns-then-self-le1 : goal.returns-then-self-le1
+returns-then-self-le1 c = record {
   ok = λ n g. tt;
-  err = λ n. none_in_first c.args.self.now.version n c.args.scanner.now c.if-self-ne2.true;
+  err = λ n. none_in_first c.args.self.now.version n c.args.scanner.now c.if-self-le1.true;
   extends = extends_itself c.args.terms.now;
 }
 
 pub returns : goal.returns
 returns c =
-    form_there import_at c.numbered_import.result (λ n. import_in_second c.args.self.now.version n c.args.scanner.now c.if-self-ne2.false) c.numbered_import.ensures
+    form_there import_at c.numbered_import.result (λ n. import_in_second c.args.self.now.version n c.args.scanner.now c.if-self-le1.false) c.numbered_import.ensures

@@ -1,0 +1,24 @@
+// How merges are chosen.
+use crate::products::Form;
+
+/// What is put together where no signal tells it.
+#[derive(Clone, Copy, Debug, PartialEq, Eq)]
+pub(crate) enum Shape {
+    /// three of the least levels
+    Level,
+    /// the last sum, the next product and the first carry, products by rising bits of the first operand
+    Array,
+    /// the same, by rising bits of the second one
+    Rows,
+}
+
+/// A way to guess.
+#[derive(Clone, Copy, Debug)]
+pub(crate) struct Style {
+    pub(crate) form: Form,
+    pub(crate) shape: Shape,
+    /// whether no signal is asked
+    pub(crate) is_blind: bool,
+    /// what a full adder costs whose carry isn't known
+    pub(crate) lost: i32,
+}

@@ -1,0 +1,218 @@
+// A reference in one style: its columns, the lowest first.
+use crate::beam::Beam;
+use crate::fallback::Extent;
+use crate::gates::Gates;
+use crate::known::Known;
+use crate::merge::{Merge, Step};
+use crate::pool::Pool;
+use crate::products::{Column, Products};
+use crate::row::Row;
+use crate::stones::make_stones;
+use crate::style::Style;
+use crate::sure::sure_adders;
+use graph_core::{Graph, Lit, Memory, Operands};
+use std::alloc::Global;
+
+// An addend of a column.
+#[derive(Clone, Copy, Debug)]
+struct Addend {
+    lit: Lit,
+    level: u32,
+}
+
+/// What is made so far.
+#[derive(Drop)]
+pub(crate) struct Tree<'a> {
+    alloc: Global,
+    known: &'a Known,
+    style: Style,
+    pub(crate) gates: Gates<'a>,
+    /// by column: the literal of its sum
+    pub(crate) sums: Vec<Lit>,
+    /// the carries into the next column
+    carries: Vec<Addend>,
+    /// how many full adders may yet be judged
+    pub(crate) left: u64,
+    /// whether what each merge gives is known
+    pub(crate) is_whole: bool,
+}
+
+impl<'a> Tree<'a> {
+    /// The whole reference of a graph, whose rows are told by variable; no more than so many full adders are judged.
+    pub(crate) fn new(
+        alloc: Global,
+        graph: &Graph,
+        operands: &Operands,
+        rows: &'a [Row],
+        known: &'a Known,
+        style: Style,
+        most: u64,
+    ) -> Result<Tree<'a>, Memory> {
+        let mut tree = Tree {
+            alloc,
+            known,
+            style,
+            gates: Gates::new(alloc, rows),
+            sums: Vec::new(alloc),
+            carries: Vec::new(alloc),
+            left: most,
+            is_whole: true,
+        };
+        let count = graph.outputs();
+        let products = Products::of(alloc, &mut tree.gates, operands, count, style.form)?;
+        for (k, column) in products.columns.iter().enumerate() {
+            let is_low = k < operands.a_literals().len();
+            let is_last = k.wrapping_add(1) == count as usize;
+            tree.add_column(column, is_low, is_last)?;
+        }
+        Ok(tree)
+    }
+
+    // One column more: what is to be added there and the carries into it are put together.
+    fn add_column(&mut self, column: &Column, is_low: bool, is_last: bool) -> Result<(), Memory> {
+        let mut addends = Vec::new(self.alloc);
+        push_lits(&mut addends, &column.products)?;
+        addends.extend_from_slice(&self.carries)?;
+        push_lits(&mut addends, &column.others)?;
+        self.carries.clear();
+        let extent = Extent {
+            products: (column.products.len() % (1 << 32)) as u32,
+            addends: (addends.len() % (1 << 32)) as u32,
+            is_low,
+        };
+        let path = self.plan(&addends, extent, is_last)?;
+        self.build(&addends, &path)
+    }
+
+    // The merges of a column's addends.
+    fn plan(
+        &mut self,
+        addends: &[Addend],
+        extent: Extent,
+        is_last: bool,
+    ) -> Result<Vec<Step>, Memory> {
+        let mut pool = Pool::new(self.alloc, self.known, self.style.lost, is_last);
+        let mut members = Vec::new(self.alloc);
+        for addend in addends {
+            members.push(pool.push(self.gates.row(addend.lit), addend.level)?)?;
+        }
+        let mut path = Vec::new(self.alloc);
+        if !self.style.is_blind {
+            path = sure_adders(self.alloc, &mut pool, &mut members)?;
+        }
+        let mut beam = Beam::new(self.alloc, pool, extent, self.style, self.left);
+        for step in beam.best_path(members)? {
+            path.push(step)?;
+        }
+        self.left = beam.left;
+        self.is_whole = self.is_whole && path.iter().all(|step| beam.pool.is_whole(&step.merge));
+        Ok(path)
+    }
+
+    // Makes the gates of merges; the sum of the last one is the column's.
+    fn build(&mut self, addends: &[Addend], path: &[Step]) -> Result<(), Memory> {
+        let mut numbered = Vec::new(self.alloc);
+        numbered.extend_from_slice(addends)?;
+        let mut sum = match addends.first() {
+            Some(addend) => addend.lit,
+            None => Lit(0),
+        };
+        for step in path {
+            sum = self.make(&mut numbered, step)?;
+        }
+        self.sums.push(sum)?;
+        Ok(())
+    }
+
+    // Makes the gates of a merge, and tells its sum.
+    fn make(&mut self, numbered: &mut Vec<Addend>, step: &Step) -> Result<Lit, Memory> {
+        let (lits, level) = taken(self.alloc, numbered, &step.merge)?;
+        make_stones(&mut self.gates, self.known, &lits)?;
+        let (sum, carry) = self.make_adder(&lits)?;
+        put(numbered, step.sum as usize, sum, level.wrapping_add(2))?;
+        if carry.0 != 0 {
+            self.carries.push(Addend {
+                lit: carry,
+                level: level.wrapping_add(1),
+            })?;
+        }
+        Ok(sum)
+    }
+
+    // The sum and the carry of two or three literals; of three those are put together first whose sum is known.
+    fn make_adder(&mut self, lits: &[Lit]) -> Result<(Lit, Lit), Memory> {
+        match lits {
+            [x, y] => self.gates.half_adder(*x, *y),
+            [x, y, z] => {
+                if self.is_inner(*x, *y) {
+                    self.gates.full_adder(*x, *y, *z)
+                } else if self.is_inner(*y, *z) {
+                    self.gates.full_adder(*y, *z, *x)
+                } else if self.is_inner(*z, *x) {
+                    self.gates.full_adder(*z, *x, *y)
+                } else {
+                    self.gates.full_adder(*x, *y, *z)
+                }
+            }
+            _ => Ok((Lit(0), Lit(0))),
+        }
+    }
+
+    // Whether the sum of two literals is known.
+    fn is_inner(&self, x: Lit, y: Lit) -> bool {
+        let row = self.gates.row(x).xor(&self.gates.row(y));
+        self.known.has(row.key())
+    }
+
+    /// How many of a thousand gates are known.
+    pub(crate) fn share(&self) -> u32 {
+        let mut count = 0u64;
+        for row in self.gates.rows.iter() {
+            if self.known.has(row.key()) {
+                count = count.saturating_add(1);
+            }
+        }
+        let all = (self.gates.rows.len() as u64).max(1);
+        (count.saturating_mul(1000) / all).min(1000) as u32
+    }
+}
+
+// Puts literals that are no sums or carries.
+fn push_lits(addends: &mut Vec<Addend>, lits: &[Lit]) -> Result<(), Memory> {
+    for lit in lits {
+        addends.push(Addend {
+            lit: *lit,
+            level: 0,
+        })?;
+    }
+    Ok(())
+}
+
+// The literals that a merge takes, and the greatest of their levels.
+fn taken(alloc: Global, numbered: &[Addend], merge: &Merge) -> Result<(Vec<Lit>, u32), Memory> {
+    let mut lits = Vec::new(alloc);
+    let mut level = 0u32;
+    for number in [Some(merge.x), Some(merge.y), merge.z] {
+        if let Some(number) = number {
+            if let Some(addend) = numbered.get(number as usize) {
+                lits.push(addend.lit)?;
+                level = level.max(addend.level);
+            }
+        }
+    }
+    Ok((lits, level))
+}
+
+// Puts an addend at a place, with nothing at those before it that have none.
+fn put(numbered: &mut Vec<Addend>, place: usize, lit: Lit, level: u32) -> Result<(), Memory> {
+    for _place in numbered.len()..place.saturating_add(1) {
+        numbered.push(Addend {
+            lit: Lit(0),
+            level: 0,
+        })?;
+    }
+    if let Some(addend) = numbered.get_mut(place) {
+        *addend = Addend { lit, level };
+    }
+    Ok(())
+}
