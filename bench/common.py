@@ -15,6 +15,10 @@ ONE_BIT = b"aag 3 2 0 2 1\n2\n4\n6\n0\n6 4 2\n"
 NO_CUT = b"joined 1\nnone\n"
 ALGEBRA = b"pac 1\n6 % 3 * (-1), x3-x1*x2;\nq 6;\n"
 
+# A pair of version 3 for it: a gate beside the graph takes the place of output 0.
+BESIDE = b"joined 3\ngates 1\n4 2\nreplace 1\n0 8\n-3 4 0\n3 -4 0\n"
+BESIDE_ALGEBRA = b"pac 3\n7 % 5 * (1) + 4 * (-1), x3-x1*x2;\nq 7;\n"
+
 # The same with the greatest variable that a graph may have, and its algebra certificate.
 MOST_VARIABLES = b"aag 4194303 2 0 2 1\n2\n4\n6\n0\n6 4 2\n"
 WITH_MOST = b"pac 1\n4194306 % 3 * (-1), x3-x1*x2;\nq 4194306;\n"
