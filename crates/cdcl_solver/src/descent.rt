@@ -16,7 +16,7 @@ use graph_core::Memory;
 use unit_prop::{Assumed, Propagator};
 
 // How many decisions a search that may be given up makes before it is.
-const FEW: u32 = 1000;
+const FEW: u32 = 100;
 
 /// How a descent ends.
 #[derive(Clone, Copy, Debug)]

@@ -10,7 +10,8 @@
 //! `same` lets a solver refute that some output differs, within a number of conflicts: where each goal is refuted it
 //! writes the certificate, which `check_same` accepts, or a front part of it after a write fault; where an evaluation
 //! differs it gives its inputs. Before the goals, gates of both graphs that look equal are shown to be, from the inputs
-//! upward (SAT sweeping): which ones, is a heuristic, and what shows it are lemmas, which count among the conflicts.
+//! upward (SAT sweeping): which ones, is a heuristic, and what shows it are lemmas, which count among the conflicts;
+//! where propagation alone shows it, there is none.
 //!
 //! Laws: graphs with a lawful certificate agree; what is written is lawful; to two graphs and a certificate one answer
 //! is due; the pairs that are called equal are held under their names.

@@ -72,6 +72,11 @@ impl Merged {
         self.levels.as_slice()
     }
 
+    /// The greatest variable of the first graph. No answer depends on it.
+    pub(crate) fn first(&self) -> u32 {
+        self.first
+    }
+
     /// Whether a gate is one of the first graph.
     pub(crate) fn is_first(&self, gate: &Gate) -> bool {
         gate.v <= self.first

@@ -75,7 +75,7 @@ fn show_twin(
         twins.join(gate.v, twin);
         return log_operands(gates, gate, conflicts, twins, solver, log);
     }
-    if let Some(twin) = twins.of_equal_operands(gate) {
+    if let Some(twin) = twins.of_equal_operands(gates, gate) {
         return show_alike(gates, gate, twin, conflicts, twins, solver, log);
     }
     if let Some(twin) = twins.of_equal_values(gate) {
@@ -214,7 +214,7 @@ fn show_within(
 // The values of all gates on the patterns, and the gates of the first graph by operands and by values.
 fn simulate(alloc: Global, merged: &Merged, order: &[(u32, usize)]) -> Result<Twins, Memory> {
     let gates = merged.gates();
-    let mut twins = Twins::new(alloc, merged.max(), gates)?;
+    let mut twins = Twins::new(alloc, merged)?;
     draw(&mut twins, gates);
     read(&mut twins, merged, order);
     for step in order {

@@ -1,5 +1,6 @@
 // Literals of the first graph that those of the second one may equal.
 use crate::cones::Cones;
+use crate::merged::Merged;
 use crate::rows::Rows;
 use graph_core::{Gate, Lit, Memory};
 use indexmap::IndexMap;
@@ -13,6 +14,8 @@ use std::alloc::Global;
 /// to it without lemmas, *unlogged*, until a gate that reads its negation needs them.
 #[derive(Drop)]
 pub(crate) struct Twins {
+    /// The greatest variable of the first graph.
+    first: u32,
     rows: Rows,
     signatures: Vec<Signature>,
     twins: Vec<Option<Lit>>,
@@ -34,11 +37,12 @@ pub(crate) struct Twins {
 }
 
 impl Twins {
-    /// No twins, over the variables up to the greatest one.
-    pub(crate) fn new(alloc: Global, max: u32, gates: &[Gate]) -> Result<Twins, Memory> {
-        let rows = Rows::new(alloc, max, gates)?;
+    /// No twins, over merged gates.
+    pub(crate) fn new(alloc: Global, merged: &Merged) -> Result<Twins, Memory> {
+        let rows = Rows::new(alloc, merged.max(), merged.gates())?;
         let count = rows.count();
         Ok(Twins {
+            first: merged.first(),
             rows,
             signatures: vec![in alloc; Signature::zero(); count]?,
             twins: vec![in alloc; None; count]?,
@@ -103,7 +107,7 @@ impl Twins {
         if let Some(lit) = self.folded(gate) {
             self.join(gate.v, lit);
         }
-        let key = operands(self.twin(gate.left), self.twin(gate.right));
+        let key = self.key_of(gate);
         if self.by_operands.get(&key).is_none() {
             self.by_operands.insert(key, gate.v)?;
         }
@@ -114,9 +118,15 @@ impl Twins {
         Ok(())
     }
 
-    /// A gate of the first graph whose operands equal those of a gate of the second one.
-    pub(crate) fn of_equal_operands(&self, gate: &Gate) -> Option<Lit> {
-        let key = operands(self.twin(gate.left), self.twin(gate.right));
+    /// A gate of the first graph whose operands equal those of a gate of the second one: that of its number, if it is
+    /// one.
+    pub(crate) fn of_equal_operands(&self, gates: &[Gate], gate: &Gate) -> Option<Lit> {
+        let key = self.key_of(gate);
+        if let Some(own) = self.rows.gate(gates, gate.v.wrapping_sub(self.first)) {
+            if self.key_of(&own) == key {
+                return Some(plain(own.v));
+            }
+        }
         Some(plain(*self.by_operands.get(&key)?))
     }
 
@@ -246,6 +256,11 @@ impl Twins {
             Some(Some(twin)) => *twin,
             _ => lit,
         }
+    }
+
+    // The literals that both operands of a gate equal, in one number.
+    fn key_of(&self, gate: &Gate) -> u64 {
+        operands(self.twin(gate.left), self.twin(gate.right))
     }
 
     fn values(&self, lit: Lit) -> Signature {
