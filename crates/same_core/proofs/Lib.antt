@@ -6,7 +6,6 @@ pub mod Judged
 pub mod OutcomeRows
 pub mod DueRows
 pub mod MergedColumns
-pub mod Swept
 pub mod Differing
 pub mod Decided
 pub mod Inputs

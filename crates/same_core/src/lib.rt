@@ -24,16 +24,11 @@ mod certificate;
 mod checked;
 mod checking;
 mod clauses;
-mod cones;
 mod deciding;
 mod laws;
-mod levels;
 mod merged;
 mod pairs;
-mod rows;
 mod solving;
-mod sweeping;
-mod twins;
 mod verdict;
 
 pub use checked::{SameChecked, SameRefusal};

@@ -3,7 +3,7 @@ ghost use Rattle.std.specs.Prelude.{◌≡◌, ◌<◌, ◌≤◌, ◌^◌, ◌�
 ghost use Rattle.same_core.specs.Merged.{AreOfOneShape, both, moved, moved_gate as gate_moved, moved_literal as literal_moved, pairs_of};
 ghost use Rattle.same_core.specs.Places.{IsReadableIn};
 
-use crate::levels::push_levels;
+use gate_sweeper::{Models, Swept, push_levels};
 use graph_core::{Gate, Graph, Lit, Memory};
 use std::alloc::Global;
 use std::marker::Model;
@@ -67,26 +67,24 @@ impl Merged {
         self.gates.as_slice()
     }
 
-    /// The level of each gate in its graph, in their order. No answer depends on it.
-    pub(crate) fn levels(&self) -> &[u32] {
-        self.levels.as_slice()
-    }
-
-    /// The greatest variable of the first graph. No answer depends on it.
-    pub(crate) fn first(&self) -> u32 {
-        self.first
-    }
-
-    /// Whether a gate is one of the first graph.
-    pub(crate) fn is_first(&self, gate: &Gate) -> bool {
-        gate.v <= self.first
-    }
-
     /// Of each output that of the first graph and that of the second one.
     pub fn pairs(&self) -> &[(Lit, Lit)]
         ensures { result.now ≡ self.now.pairs }
     {
         self.pairs.as_slice()
+    }
+
+    /// What is swept: gates of the second graph may be shown equal to gates of the first one.
+    pub(crate) fn swept(&self) -> Swept<'_>
+        ensures { result.max ≡ self.now.max }
+    {
+        Swept {
+            max: self.max,
+            gates: self.gates.as_slice(),
+            levels: self.levels.as_slice(),
+            pairs: self.pairs.as_slice(),
+            models: Models::UpTo(self.first),
+        }
     }
 }
 

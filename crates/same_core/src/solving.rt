@@ -7,9 +7,8 @@ ghost use Rattle.same_core.specs.Merged.{over};
 ghost use Rattle.same_core.specs.Places.{IsMerged};
 
 use crate::merged::Merged;
-use crate::sweeping::sweep;
-use cdcl_solver::Log;
-use goal_refuter::{Outcome, pair_goals, refute_alike, solver_of};
+use gate_sweeper::refute_swept;
+use goal_refuter::{Outcome, pair_goals};
 use graph_core::{Graph, Memory};
 use miter_encoder::gate_clauses_of;
 use std::alloc::Global;
@@ -19,14 +18,11 @@ pub(crate) fn decide(alloc: Global, merged: &Merged, conflicts: u64) -> Result<O
     requires { IsMerged merged.now }
     ensures { IfOk result (IsGoalsOutcome (over merged.now) conflicts) }
 {
-    let greatest = merged.max();
     let merged_gates = merged.gates();
     let clauses = gate_clauses_of(alloc, merged_gates)?;
     let goals = pair_goals(alloc, merged.pairs())?;
-    let mut solver = solver_of(alloc, greatest, &clauses)?;
-    let mut log = Log::new(alloc);
-    sweep(alloc, merged, conflicts, &mut solver, &mut log)?;
-    refute_alike(alloc, &goals, conflicts, &mut solver, log)
+    let swept = merged.swept();
+    refute_swept(alloc, &swept, &clauses, &goals, conflicts)
 }
 
 // The inputs of a graph where its variables have these values.

@@ -1,6 +1,5 @@
 pub mod Columns
-pub mod ColumnGoals
 pub mod Using
-pub mod Values
 pub mod NearLogs
 pub mod OpenGoals
+pub mod Placings

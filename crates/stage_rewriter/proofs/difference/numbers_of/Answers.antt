@@ -3,7 +3,7 @@ use Rattle.std.proofs.lemmas.List.{length-map}
 use Rattle.graph_core.specs.declared.literal.Lit.{Lit}
 use Rattle.graph_core.specs.Graph.Assignments.{literal}
 use Rattle.cdcl_solver.specs.Solving.{assignment_of}
-use Rattle.stage_rewriter.proofs.Values.{map_all, map_more}
+use Rattle.gate_sweeper.proofs.Values.{map_all, map_more}
 use Rattle.graph_core.proofs.OfGraphs.CallerLemmas.{length-literals}
 use Rattle.stage_rewriter.proofs.difference.numbers_of.Goals as goal
 

@@ -7,7 +7,7 @@ use Rattle.cdcl_solver.specs.Loading.{SameLive}
 use Rattle.cdcl_solver.specs.Solvers.{SolverView}
 use Rattle.goal_refuter.proofs.GoalClauses.{sets_range}
 use Rattle.goal_refuter.proofs.Kept.{live_itself}
-use Rattle.stage_rewriter.proofs.ColumnGoals.{gates_range}
+use Rattle.gate_sweeper.proofs.ColumnGoals.{gates_range}
 use Rattle.stage_rewriter.proofs.NearLogs.{near_range}
 use Rattle.stage_rewriter.proofs.near.refute_near.Goals as goal
 

@@ -6,7 +6,7 @@ use Rattle.clause_core.specs.GateClauses.{gate_clauses}
 use Rattle.goal_refuter.specs.Refutations.{unmet_goals}
 use Rattle.goal_refuter.specs.Refuting.{IsGoalsOutcome, IsOutcomeOver}
 use Rattle.goal_refuter.proofs.GoalClauses.{sets_range}
-use Rattle.stage_rewriter.proofs.ColumnGoals.{gates_range, goals_range}
+use Rattle.gate_sweeper.proofs.ColumnGoals.{gates_range, goals_range}
 use Rattle.stage_rewriter.proofs.outcome.refute_over_all.Goals as goal
 
 pub refute_goals-requires-clause-clauses : goal.refute_goals-requires-clause-clauses

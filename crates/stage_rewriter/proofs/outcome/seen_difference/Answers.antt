@@ -8,7 +8,7 @@ use Rattle.clause_core.specs.GateClauses.{gate_clauses}
 use Rattle.goal_refuter.specs.Refutations.{unmet_goals}
 use Rattle.goal_refuter.specs.Refuting.{AreOver, IsDiffering, IsDifferingOver}
 use Rattle.goal_refuter.proofs.GoalClauses.{sets_range}
-use Rattle.stage_rewriter.proofs.ColumnGoals.{gates_range, goals_range}
+use Rattle.gate_sweeper.proofs.ColumnGoals.{gates_range, goals_range}
 use Rattle.stage_rewriter.proofs.outcome.seen_difference.Goals as goal
 
 pub differ_at-requires-clause-clauses : goal.differ_at-requires-clause-clauses

@@ -8,7 +8,7 @@ use Rattle.stage_rewriter.specs.NearClauses.{IsNearLine}
 use Rattle.goal_refuter.specs.Refuting.{IsKeptOver, IsRefutation}
 use Rattle.goal_refuter.specs.Refutations.{unmet_goals}
 use Rattle.goal_refuter.proofs.GoalClauses.{sets_range}
-use Rattle.stage_rewriter.proofs.ColumnGoals.{goals_range}
+use Rattle.gate_sweeper.proofs.ColumnGoals.{goals_range}
 use Rattle.goal_refuter.proofs.Kept.{left_live}
 use Rattle.stage_rewriter.proofs.NearLogs.{shown_near}
 use Rattle.goal_refuter.proofs.Outcomes.{at_goal, so_far_all, so_far_next, so_far_none}

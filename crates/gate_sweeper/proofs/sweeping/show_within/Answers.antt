@@ -4,7 +4,7 @@ use Rattle.cdcl_solver.specs.Logs.{LogView}
 use Rattle.cdcl_solver.specs.Solvers.{SolverView}
 use Rattle.goal_refuter.specs.Beginnings.{IsBegunAlike}
 use Rattle.goal_refuter.proofs.AsMany.{many_on}
-use Rattle.same_core.proofs.sweeping.show_within.Goals as goal
+use Rattle.gate_sweeper.proofs.sweeping.show_within.Goals as goal
 
 -- what is preferred changes nothing
 begun_still : (max : ℕ) (given : List Clause) (conflicts : ℕ) (solver new : SolverView) (log : LogView) → new ≡ solver → IsBegunAlike max given conflicts solver log → IsBegunAlike max given conflicts new log

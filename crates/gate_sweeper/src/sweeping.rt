@@ -1,10 +1,10 @@
-// Equal gates of two graphs, from the inputs upward.
+// Equal gates, from the inputs upward.
 ghost use Rattle.std.specs.Prelude.{ℕ, List, OnOk};
 ghost use Rattle.clause_core.specs.Clause.{Clause};
 ghost use Rattle.goal_refuter.specs.Beginnings.{IsBegunAlike, StaysBegunAlike};
 
 use crate::levels::by_level;
-use crate::merged::Merged;
+use crate::swept::Swept;
 use crate::twins::Twins;
 use cdcl_solver::{Log, Solver};
 use goal_refuter::{forget, show_equal};
@@ -15,10 +15,10 @@ use std::alloc::Global;
 // Within how many lemmas an implication is shown.
 const FEW: u64 = 100;
 
-/// Shows gates of the second graph equal to gates of the first one, level by level. What is shown are lemmas.
+/// Shows gates equal to models, level by level. What is shown are lemmas.
 pub(crate) fn sweep(
     alloc: Global,
-    merged: &Merged,
+    swept: &Swept<'_>,
     conflicts: u64,
     solver: &mut Solver,
     log: &mut Log,
@@ -26,18 +26,18 @@ pub(crate) fn sweep(
     requires { (max : ℕ) × (given : List Clause) × IsBegunAlike max given conflicts solver.old log.old }
     ensures { OnOk result (StaysBegunAlike conflicts solver.old log.old solver.new log.new) }
 {
-    let order = by_level(alloc, merged.levels())?;
-    let mut twins = simulate(alloc, merged, &order)?;
+    let order = by_level(alloc, swept.levels)?;
+    let mut twins = simulate(alloc, swept, &order)?;
     for step in order.as_slice() {
-        show_at(merged, step.1, conflicts, &mut twins, solver, log)?;
+        show_at(swept, step.1, conflicts, &mut twins, solver, log)?;
         forget(solver, conflicts, log)?;
     }
     Ok(())
 }
 
-// Shows the gate at a place equal to its candidate, if it is one of the second graph.
+// Shows the gate at a place equal to its candidate, unless it is a model.
 fn show_at(
-    merged: &Merged,
+    swept: &Swept<'_>,
     place: usize,
     conflicts: u64,
     twins: &mut Twins,
@@ -47,9 +47,9 @@ fn show_at(
     requires { (max : ℕ) × (given : List Clause) × IsBegunAlike max given conflicts solver.old log.old }
     ensures { OnOk result (StaysBegunAlike conflicts solver.old log.old solver.new log.new) }
 {
-    match merged.gates().get(place) {
-        Some(gate) if !merged.is_first(gate) => {
-            show_twin(merged.gates(), gate, conflicts, twins, solver, log)
+    match swept.gates.get(place) {
+        Some(gate) if !swept.models.has(gate) => {
+            show_twin(swept.gates, gate, conflicts, twins, solver, log)
         }
         _ => Ok(()),
     }
@@ -211,16 +211,16 @@ fn show_within(
     Ok(shown)
 }
 
-// The values of all gates on the patterns, and the gates of the first graph by operands and by values.
-fn simulate(alloc: Global, merged: &Merged, order: &[(u32, usize)]) -> Result<Twins, Memory> {
-    let gates = merged.gates();
-    let mut twins = Twins::new(alloc, merged)?;
+// The values of all gates on the patterns, and the models by operands and by values.
+fn simulate(alloc: Global, swept: &Swept<'_>, order: &[(u32, usize)]) -> Result<Twins, Memory> {
+    let gates = swept.gates;
+    let mut twins = Twins::new(alloc, swept)?;
     draw(&mut twins, gates);
-    read(&mut twins, merged, order);
+    read(&mut twins, swept, order);
     for step in order {
         if let Some(gate) = gates.get(step.1) {
             twins.set(gate);
-            if merged.is_first(gate) {
+            if swept.models.has(gate) {
                 twins.enter(gate)?;
             }
         }
@@ -238,13 +238,13 @@ fn draw(twins: &mut Twins, gates: &[Gate]) {
 }
 
 // Finds what the outputs depend on.
-fn read(twins: &mut Twins, merged: &Merged, order: &[(u32, usize)]) {
-    for pair in merged.pairs() {
+fn read(twins: &mut Twins, swept: &Swept<'_>, order: &[(u32, usize)]) {
+    for pair in swept.pairs {
         twins.read(pair.0.var());
         twins.read(pair.1.var());
     }
     for step in order.iter().rev() {
-        if let Some(gate) = merged.gates().get(step.1) {
+        if let Some(gate) = swept.gates.get(step.1) {
             twins.read_operands(gate);
         }
     }

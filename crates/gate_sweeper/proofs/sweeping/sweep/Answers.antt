@@ -1,4 +1,4 @@
-use Rattle.same_core.proofs.sweeping.sweep.Goals as goal
+use Rattle.gate_sweeper.proofs.sweeping.sweep.Goals as goal
 
 pub show_at-requires : goal.show_at-requires
 show_at-requires c = (c.requires.0, c.requires.1, c.loop-step.invariant c.requires.0 c.requires.1 c.requires.2)

@@ -1,21 +1,20 @@
-// Literals of the first graph that those of the second one may equal.
+// Literals of models that other gates may equal.
 use crate::cones::Cones;
-use crate::merged::Merged;
 use crate::rows::Rows;
+use crate::swept::{Models, Swept};
 use graph_core::{Gate, Lit, Memory};
 use indexmap::IndexMap;
 use stage_guesser::{Draws, Signature, WORDS};
 use std::alloc::Global;
 
 /// By row of a variable its values on some patterns of the inputs and the literal that it equals; and by operands and
-/// by values the gates of the first graph. No answer depends on it.
+/// by values the models. No answer depends on it.
 ///
 /// A gate whose operands equal those of another one is true where that one is, by propagation alone. So it is joined
 /// to it without lemmas, *unlogged*, until a gate that reads its negation needs them.
 #[derive(Drop)]
 pub(crate) struct Twins {
-    /// The greatest variable of the first graph.
-    first: u32,
+    models: Models,
     rows: Rows,
     signatures: Vec<Signature>,
     twins: Vec<Option<Lit>>,
@@ -37,12 +36,12 @@ pub(crate) struct Twins {
 }
 
 impl Twins {
-    /// No twins, over merged gates.
-    pub(crate) fn new(alloc: Global, merged: &Merged) -> Result<Twins, Memory> {
-        let rows = Rows::new(alloc, merged.max(), merged.gates())?;
+    /// No twins, over gates that are swept.
+    pub(crate) fn new(alloc: Global, swept: &Swept<'_>) -> Result<Twins, Memory> {
+        let rows = Rows::new(alloc, swept.max, swept.gates)?;
         let count = rows.count();
         Ok(Twins {
-            first: merged.first(),
+            models: swept.models,
             rows,
             signatures: vec![in alloc; Signature::zero(); count]?,
             twins: vec![in alloc; None; count]?,
@@ -102,7 +101,7 @@ impl Twins {
         }
     }
 
-    /// Enters a gate of the first graph.
+    /// Enters a model.
     pub(crate) fn enter(&mut self, gate: &Gate) -> Result<(), Memory> {
         if let Some(lit) = self.folded(gate) {
             self.join(gate.v, lit);
@@ -118,11 +117,10 @@ impl Twins {
         Ok(())
     }
 
-    /// A gate of the first graph whose operands equal those of a gate of the second one: that of its number, if it is
-    /// one.
+    /// A model whose operands equal those of a gate: that of its number, if it is one.
     pub(crate) fn of_equal_operands(&self, gates: &[Gate], gate: &Gate) -> Option<Lit> {
         let key = self.key_of(gate);
-        if let Some(own) = self.rows.gate(gates, gate.v.wrapping_sub(self.first)) {
+        if let Some(own) = self.of_number(gates, gate) {
             if self.key_of(&own) == key {
                 return Some(plain(own.v));
             }
@@ -130,7 +128,7 @@ impl Twins {
         Some(plain(*self.by_operands.get(&key)?))
     }
 
-    /// A literal of the first graph with the values of a gate of the second one.
+    /// A literal of a model with the values of a gate.
     pub(crate) fn of_equal_values(&self, gate: &Gate) -> Option<Lit> {
         let values = self.values(plain(gate.v));
         let lit = plain(*self.by_values.get(&self.class_of(&values))?);
@@ -255,6 +253,16 @@ impl Twins {
             Some(Some(twin)) if lit.negated() => twin.not(),
             Some(Some(twin)) => *twin,
             _ => lit,
+        }
+    }
+
+    // The model with the number of a gate.
+    fn of_number(&self, gates: &[Gate], gate: &Gate) -> Option<Gate> {
+        let own = self.rows.gate(gates, self.models.of_number(gate.v)?)?;
+        if self.models.has(&own) {
+            Some(own)
+        } else {
+            None
         }
     }
 

@@ -1,6 +1,6 @@
 use Rattle.std.proofs.lemmas.Result.{on_ok_weaker}
 use Rattle.goal_refuter.specs.Beginnings.{StaysBegunAlike}
-use Rattle.same_core.proofs.sweeping.log_operands.Goals as goal
+use Rattle.gate_sweeper.proofs.sweeping.log_operands.Goals as goal
 
 pub log_twin-requires-2 : goal.log_twin-requires-2
 log_twin-requires-2 c = (c.requires.0, c.requires.1, c.in_ok-log_twin.ensures c.requires.0 c.requires.1 c.requires.2)

@@ -1,0 +1,3 @@
+pub mod Values
+pub mod ColumnGoals
+pub mod Replaced

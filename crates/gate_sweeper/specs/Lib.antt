@@ -1,0 +1,2 @@
+-- Private clauses alone cite it.
+pub mod Pairs
