@@ -9,8 +9,8 @@
 //! (`shown`). `forget` deletes lemmas from the solver and its log, by lawful lines; each clause comes and goes in the
 //! one as in the other (`alike`), and a search only adds (`adds`). Which lemmas go, which variable is decided next, and
 //! where a search goes on, is a heuristic; so are the values that `suggest` has tried first. Variables of no clause are
-//! never decided, and a model has them false. The function `solve`, without a `Solver`, is a promised call of the
-//! library, and no command needs it.
+//! never decided, and a model has them false. The function `solve`, without a `Solver`, is public for other
+//! programs; no command uses it.
 //!
 //! *Lemma*: it follows from the live clauses by unit propagation, is no tautology, and has no live clause within it;
 //! *lawful* lines: `specs/Log.antt` of `clause_core`. What the lines of a log leave live, and how a log goes on:

@@ -4,8 +4,8 @@
 //! propagation, `delete` one exactly where a live clause has its set, and a refused call changes nothing (`unchanged`).
 //! `unshown` is the least column with a goal that is neither met nor shown. Each live clause holds on every evaluation
 //! of the gates, and so do the added ones. A checker may keep these, with what their tight chains use (`Keeps`,
-//! `into_record`, `chains`). `chain` gives a tight chain exactly for a clause that follows (`some`, `none`): it is a
-//! promised call of the library, and no command needs it. Only `new`, `add` and `chain` take memory.
+//! `into_record`, `chains`). `chain` gives a tight chain exactly for a clause that follows (`some`, `none`): it is
+//! public for other programs; no command uses it. Only `new`, `add` and `chain` take memory.
 //!
 //! *Tight*: by `specs/TightChains.antt` of `clause_core`. *Follows*, *chain*, *live*, *shown*: by
 //! `specs/UnitPropagation.antt` and `specs/ClauseLines.antt` of `clause_core`.

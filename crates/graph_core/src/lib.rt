@@ -6,8 +6,8 @@
 //! which are its evaluation (`value_into`). A `Claim` is what is claimed of a graph: how its inputs make two operands,
 //! whether these are signed, and whether there is an addend. `Operands` tells which input is then which bit;
 //! `Graph::value_on` gives the value on two operands, `Graph::sum_on` that with an addend. Only these two,
-//! `Graph::build` and the makers of `Operands` take memory. `Graph::input` and `Operands::of` are promised calls of the
-//! library that no command needs.
+//! `Graph::build` and the makers of `Operands` take memory. `Graph::input` and `Operands::of` are public for other
+//! programs; no command uses them.
 //!
 //! The contracts of all crates above cite the words of `specs/`: graphs, their evaluation, operands and the product,
 //! and graphs with gates that stand for a final stage (`Graph` and its files), what bytes spell and how a text is

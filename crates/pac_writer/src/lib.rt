@@ -8,7 +8,7 @@
 //! value; each asks its caller for just what makes the line lawful. `emit` takes no memory and writes their text, whole
 //! or in a front part with a counted fault (`writes`). The whole text is a lawful algebra file that imports nothing
 //! (`lawful`), and each of its lines is spare (`spare`). `into_parts` gives closed lines as `write_certificate` takes
-//! them. `emit` and `drop_line` are promised calls of the library that no command needs.
+//! them. `emit` and `drop_line` are public for other programs; no command uses them.
 //!
 //! *Ledger*: the live lines after all that were made (`written_ledger` in `specs/Writing.antt`). *Puts*: one line more
 //! stands after the others. *Spare*: no line twice in a combination, none times 0, each polynomial in its normal

@@ -5,7 +5,7 @@
 //! grows: each monomial is kept once, and an older polynomial keeps its values. `Indexed` is a polynomial that changes
 //! in place, and from which the terms with a variable are taken out in their own number's time, `PolySum` a sum of
 //! many, which is taken whole and leaves 0. Nothing but the calls that make or change a polynomial takes memory.
-//! `substitute` and `value_at` are promised calls of the library, which no command needs.
+//! `substitute` and `value_at` are public for other programs; no command uses them.
 //!
 //! What `Indexed::take` leaves has the variable in no term. That its index is complete is a clause of each call, also
 //! where the table grows; after an error nothing is known of it.

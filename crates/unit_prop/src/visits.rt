@@ -107,8 +107,7 @@ fn settle(watch: &Watch<'_>, trail: &mut Trail) -> Settled
     }
 }
 
-// Where a node whose literal is false is hung up again, 0 where its clause was removed. After a conflict that is where
-// it was.
+// The literal to watch in place of the false one; 0 if the clause was removed. After a conflict it is the same literal.
 fn next_literal(watch: &Watch<'_>, trail: &mut Trail, conflict: &mut Option<u32>) -> i32
     requires visit { IsVisit watch.now trail.old }
     requires conflict { IfSome conflict.old (IsFalse watch.now.clauses.now trail.old.lits) }
