@@ -136,18 +136,19 @@ apart files test =
     let two = or_none (bytes_eq files.graph files.algebra) (bytes_eq files.clauses files.algebra) one.1 in
     record { clauses = differ files.graph files.clauses one.0; algebra = differ files.graph files.algebra two.0; certificates = differ files.clauses files.algebra two.1 }
 
--- a version is 1 or 2
+-- a version is 1, 2 or 3
 abbrev IsVersion : ℕ → Type 0
-IsVersion v = (v ≡ 1) ⊎ (v ≡ 2)
+IsVersion v = (v ≡ 1) ⊎ ((v ≡ 2) ⊎ (v ≡ 3))
 
 version_in : (o : Option ℕ) → IfSome (option_and_then version_from o) IsVersion
 version_in None = tt
-version_in (Some n) = go (n == 1) (n == 2)
+version_in (Some n) = go (n == 1) (n == 2) (n == 3)
   where
-    go : (t u : Bool) → IfSome (if t then Some 1 else (if u then Some 2 else None)) IsVersion
-    go true u = inl refl
-    go false true = inr refl
-    go false false = tt
+    go : (t u w : Bool) → IfSome (if t then Some 1 else (if u then Some 2 else (if w then Some 3 else None))) IsVersion
+    go true u w = inl refl
+    go false true w = inr (inl refl)
+    go false false true = inr (inr refl)
+    go false false false = tt
 
 -- the numbers of a task are in their ranges
 abbrev IsTaskInRange : Task → Type 0
@@ -247,7 +248,7 @@ named_range name rows command =
         → IsCommandInRange command
     pick true w x y z s t r e = check_range (files_at rows) (claim_at rows) command e
     pick false true x y z s t r e = verify_range (files_at rows) (task_at rows) command
-        (task_in (claim_at rows) (word_at 1 1000000 (codes "budget") rows) (word_at 0 100000 (codes "conflicts") rows) (version_at rows) (word_in 1 1000000 (first_of (codes "budget") rows) (omega arith, omega arith)) (word_in 0 100000 (first_of (codes "conflicts") rows) (omega arith, omega arith)) (version_in (word_at 1 1 (codes "format") rows))) e
+        (task_in (claim_at rows) (word_at 1 1000000 (codes "budget") rows) (word_at 0 100000 (codes "conflicts") rows) (version_at rows) (word_in 1 1000000 (first_of (codes "budget") rows) (omega arith, omega arith)) (word_in 0 100000 (first_of (codes "conflicts") rows) (omega arith, omega arith)) (version_in (word_at 1 3 (codes "format") rows))) e
     pick false false true y z s t r e = eval_range (first_of (codes "graph") rows) (point_at rows) command e
     pick false false false true z s t r e = make_range (design_at rows) (read_at adder_named (codes "adder") rows) (first_of (codes "out") rows) command
         (designs_in (is_set (codes "add") rows) (first_of (codes "kind") rows) (first_of (codes "bits") rows)) e

@@ -176,14 +176,14 @@ default_budget = 1000000
 abbrev pub default_conflicts : ℕ
 default_conflicts = 100000
 
--- the version of certificates: 1, the default, or 2
+-- the greatest version of certificates that may be written: 1, 2 or 3
 abbrev pub version_from : ℕ → Option ℕ
-version_from n = if n == 1 then Some 1 else (if n == 2 then Some 2 else None)
+version_from n = if n == 1 then Some 1 else (if n == 2 then Some 2 else (if n == 3 then Some 3 else None))
 
 abbrev pub version_at : List Row → Option ℕ
-version_at rows = option_and_then version_from (word_at 1 1 (codes "format") rows)
+version_at rows = option_and_then version_from (word_at 1 3 (codes "format") rows)
 
--- what is asked of a graph: a claim, a budget, a number of conflicts, and a version
+-- what is asked of a graph: a claim, a budget, a number of conflicts, and a greatest version
 abbrev pub task_with : Option Claim → Option ℕ → Option ℕ → Option ℕ → Option Task
 task_with (Some claim) (Some budget) (Some conflicts) (Some version) =
     Some (record { claim = claim; budget = budget; conflicts = conflicts; version = version })
@@ -388,7 +388,7 @@ pub record LeavesGraphs (files : ComparedFiles) : Type 0 where
 abbrev pub IsCommandInRange : Command → Type 0
 IsCommandInRange (Make making out) = AreBits making.bits × IsDesign making.design
 IsCommandInRange (Verify files task) = AreDistinct files.graph files.clauses files.algebra × (1 ≤ task.budget) × (task.budget < 2 ^ 32) ×
-    (task.conflicts < 2 ^ 32) × ((task.version ≡ 1) ⊎ (task.version ≡ 2))
+    (task.conflicts < 2 ^ 32) × ((task.version ≡ 1) ⊎ ((task.version ≡ 2) ⊎ (task.version ≡ 3)))
 IsCommandInRange (Trial number) = number < 2 ^ 32
 IsCommandInRange (Same files conflicts) = LeavesGraphs files × (conflicts < 2 ^ 32)
 IsCommandInRange (Trim files claim) = LeavesFiles files

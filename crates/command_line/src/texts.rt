@@ -53,7 +53,7 @@ pub(crate) fn point_at(matches: &ArgMatches<'_>) -> Option<Point>
     Some(Point { claim, a, b, c })
 }
 
-/// What is asked of a graph: what is claimed, two bounds, and the version of certificates.
+/// What is asked of a graph: what is claimed, two bounds, and the greatest version of certificates.
 pub(crate) fn task_at(matches: &ArgMatches<'_>) -> Option<Task>
     ensures { result ≡ task_at (rows_of (found_of matches.now)) }
 {
@@ -79,13 +79,14 @@ pub(crate) fn word_at(matches: &ArgMatches<'_>, name: &str, least: u64, default:
     }
 }
 
-// The version of certificates that is asked for: 1, which is the default, or 2.
+// The greatest version of certificates that may be written: 1, 2, or 3, which is the default.
 fn version_at(matches: &ArgMatches<'_>) -> Option<u8>
     ensures { result ≡ version_at (rows_of (found_of matches.now)) }
 {
-    match word_at(matches, "format", 1, 1)? {
+    match word_at(matches, "format", 1, 3)? {
         1 => Some(1),
         2 => Some(2),
+        3 => Some(3),
         _ => None,
     }
 }

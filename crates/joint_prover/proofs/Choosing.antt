@@ -6,10 +6,10 @@ use Rattle.std.specs.declared.option.Option.TheVariants.{None, Some}
 use Rattle.graph_core.specs.Graph.{Aig}
 use Rattle.graph_core.specs.Text.JudgedLines.{Lengths}
 use Rattle.mv_text.specs.LineReading.{lengths_of}
-use Rattle.ripple_graft.specs.declared.cut.Cut.{Cut}
+use Rattle.joint_prover.specs.declared.replacement.Replacement.{Replacement}
 use Rattle.joint_prover.specs.Decisions.{IsDecision}
-use Rattle.joint_prover.specs.Endings.{Decides, HasWritable, IsEndedFor, IsEndedOver, IsMeasured, cut_named, cut_of_found, first_short, over_cut, shorter}
-use Rattle.joint_prover.specs.Notes.{IsFoundCut}
+use Rattle.joint_prover.specs.Endings.{Decides, HasWritable, IsEndedFor, IsEndedOver, IsMeasured, replacement_named, replacement_of_found, first_short, over_replacement, shorter}
+use Rattle.joint_prover.specs.Notes.{IsFound}
 use Rattle.joint_prover.specs.declared.decision.Decision.{Decision}
 use Rattle.joint_prover.specs.declared.decision.Decision.TheVariants as decision
 use Rattle.joint_prover.specs.declared.ended.Ended.{Ended}
@@ -19,12 +19,12 @@ use Rattle.joint_prover.proofs.Telling.{over_decides}
 
 -- ---- a pair that can be written
 
-pub decides_writable : (g : Aig) (task : Task) (cut : Option Cut) (d : Decision) → Decides g task cut d → HasWritable d
-decides_writable g task cut (decision.Proved p) h = h.1
-decides_writable g task cut (decision.Wrong x) h = tt
-decides_writable g task cut (decision.Undecided tried step size seen) h = tt
+pub decides_writable : (g : Aig) (task : Task) (r : Option Replacement) (d : Decision) → Decides g task r d → HasWritable d
+decides_writable g task r (decision.Proved p) h = h.1
+decides_writable g task r (decision.Wrong x) h = tt
+decides_writable g task r (decision.Undecided tried step size seen) h = tt
 
-pub decision_writable : (g : Aig) (task : Task) (used : Option Cut) (d : Decision) → IsDecision g task used d → HasWritable d
+pub decision_writable : (g : Aig) (task : Task) (used : Option Replacement) (d : Decision) → IsDecision g task used d → HasWritable d
 decision_writable g task used (decision.Proved p) h = h.1
 decision_writable g task used (decision.Wrong x) h = tt
 decision_writable g task used (decision.Undecided tried step size seen) h = tt
@@ -46,41 +46,41 @@ short_is P (Some first) later h k = shorter_is P first later h k
 
 -- ---- over which graph
 
-measured_over : (lengths : Lengths) (cut : Cut) (e : Ended) → IsMeasured lengths e → IsMeasured lengths (over_cut cut e)
-measured_over lengths cut e h = record { short = h.short; long = h.long }
+measured_over : (lengths : Lengths) (r : Replacement) (e : Ended) → IsMeasured lengths e → IsMeasured lengths (over_replacement r e)
+measured_over lengths r e h = record { short = h.short; long = h.long }
 
 module _ (job : Job) where
-  pub ended_for : (e : Ended) → IsEndedOver job (cut_named job.used) e → IsEndedFor job e
+  pub ended_for : (e : Ended) → IsEndedOver job (replacement_named job.used) e → IsEndedFor job e
   ended_for e h = record {
-    decision = subst (λ f. IsDecision job.graph.now job.task (cut_of_found (cut_named job.used) f) e.decision) (sym h.found)
-        (over_decides job.graph.now job.task (cut_named job.used) e.decision h.decides);
-    found = subst (λ f. IfSome f (IsFoundCut job.graph.now)) (sym h.found) tt;
+    decision = subst (λ f. IsDecision job.graph.now job.task (replacement_of_found (replacement_named job.used) f) e.decision) (sym h.found)
+        (over_decides job.graph.now job.task (replacement_named job.used) e.decision h.decides);
+    found = subst (λ f. IfSome f (IsFound job.graph.now)) (sym h.found) tt;
     measured = h.measured;
   }
 
-  pub some_ended_for : (e : Option Ended) → IfSome e (IsEndedOver job (cut_named job.used)) → IfSome e (IsEndedFor job)
+  pub some_ended_for : (e : Option Ended) → IfSome e (IsEndedOver job (replacement_named job.used)) → IfSome e (IsEndedFor job)
   some_ended_for None h = tt
   some_ended_for (Some e) h = ended_for e h
 
-  ended_over_found : (cut : Cut) (e : Ended) → IsFoundCut job.graph.now cut → IsEndedOver job (Some cut) e → IsEndedFor job (over_cut cut e)
-  ended_over_found cut e found h = record {
-    decision = over_decides job.graph.now job.task (Some cut) e.decision h.decides;
+  ended_over_found : (r : Replacement) (e : Ended) → IsFound job.graph.now r → IsEndedOver job (Some r) e → IsEndedFor job (over_replacement r e)
+  ended_over_found r e found h = record {
+    decision = over_decides job.graph.now job.task (Some r) e.decision h.decides;
     found = found;
-    measured = measured_over (lengths_of job.limits) cut e h.measured;
+    measured = measured_over (lengths_of job.limits) r e h.measured;
   }
 
-  pub some_ended_over : (cut : Cut) (e : Option Ended) → IsFoundCut job.graph.now cut → IfSome e (IsEndedOver job (Some cut)) → IfSome (option_map (over_cut cut) e) (IsEndedFor job)
-  some_ended_over cut None found h = tt
-  some_ended_over cut (Some e) found h = ended_over_found cut e found h
+  pub some_ended_over : (r : Replacement) (e : Option Ended) → IsFound job.graph.now r → IfSome e (IsEndedOver job (Some r)) → IfSome (option_map (over_replacement r) e) (IsEndedFor job)
+  some_ended_over r None found h = tt
+  some_ended_over r (Some e) found h = ended_over_found r e found h
 
   -- where a decision is measured
-  pub ended_decides : (cut : Option Cut) (e : Ended) (d : Decision) → Decides job.graph.now job.task cut d → e.decision ≡ d → e.found ≡ None → IsMeasured (lengths_of job.limits) e → IsEndedOver job cut e
-  ended_decides cut e d h is none measured = record { decides = subst (Decides job.graph.now job.task cut) (sym is) h; found = none; measured = measured }
+  pub ended_decides : (r : Option Replacement) (e : Ended) (d : Decision) → Decides job.graph.now job.task r d → e.decision ≡ d → e.found ≡ None → IsMeasured (lengths_of job.limits) e → IsEndedOver job r e
+  ended_decides r e d h is none measured = record { decides = subst (Decides job.graph.now job.task r) (sym is) h; found = none; measured = measured }
 
-  pub ended_decision : (e : Ended) (d : Decision) → IsDecision job.graph.now job.task (cut_named job.used) d → e.decision ≡ d → e.found ≡ None → IsMeasured (lengths_of job.limits) e → IsEndedFor job e
+  pub ended_decision : (e : Ended) (d : Decision) → IsDecision job.graph.now job.task (replacement_named job.used) d → e.decision ≡ d → e.found ≡ None → IsMeasured (lengths_of job.limits) e → IsEndedFor job e
   ended_decision e d h is none measured = record {
-    decision = subst (λ f. IsDecision job.graph.now job.task (cut_of_found (cut_named job.used) f) e.decision) (sym none)
-        (subst (IsDecision job.graph.now job.task (cut_named job.used)) (sym is) h);
-    found = subst (λ f. IfSome f (IsFoundCut job.graph.now)) (sym none) tt;
+    decision = subst (λ f. IsDecision job.graph.now job.task (replacement_of_found (replacement_named job.used) f) e.decision) (sym none)
+        (subst (IsDecision job.graph.now job.task (replacement_named job.used)) (sym is) h);
+    found = subst (λ f. IfSome f (IsFound job.graph.now)) (sym none) tt;
     measured = measured;
   }

@@ -1,5 +1,5 @@
 -- Which verdict a graph file gets: the one that is due, but for a fault or out of memory; and where the budget is enough.
-use Rattle.std.proofs.Common.{◌≡◌, ℕ, ◌+◌, ◌*◌, ◌%◌, Bool, List, ◌++◌, refl, sym, ap, ap₂, subst, ◌∙◌, arith, inl, inr, ⊎_elim, take}
+use Rattle.std.proofs.Common.{◌≡◌, ℕ, ◌%◌, Bool, List, refl, sym, ap, ap₂, subst, ◌∙◌, arith, inl, inr, ⊎_elim, take}
 use Rattle.std.specs.Prelude.{◌⊎◌, IfSome}
 use Rattle.std.specs.declared.option.Option.{Option}
 use Rattle.aiger_reader.specs.Refusals.{SpellsWithin}
@@ -10,7 +10,7 @@ use Rattle.command_core.proofs.CallerLemmas.{due_or_interrupts, graph_exact, sto
 use Rattle.frontier_core.proofs.CallerLemmas.{difference_is_of_numbers, least_difference_is_one}
 use Rattle.frontier_core.specs.LeastDifference.{IsDifferenceAt}
 use Rattle.graph_core.specs.Graph.{Aig, IsDefinedOnce}
-use Rattle.graph_core.specs.Graph.Operands.{Does, HasShapeFor, claimed_at, has_addend, inputs_at, output_modulus, profile_of, sides_for, value_at, Sides}
+use Rattle.graph_core.specs.Graph.Operands.{Does, HasShapeFor, claimed_at, inputs_at, output_modulus, profile_of, sides_for, value_at, Sides}
 use Rattle.graph_core.specs.declared.claim.Claim.{Claim}
 use Rattle.graph_core.specs.declared.numbers.Numbers.{Numbers}
 use Rattle.graph_core.specs.declared.profile.Profile.{Profile}
@@ -39,12 +39,12 @@ use Rattle.algebra_core.specs.NormalForm.{HasSize}
 use Rattle.graph_maker.specs.Made.{IsMadeMultiplier, made}
 use Rattle.graph_maker.specs.declared.adder.Adder.TheVariants.{Ripple}
 use Rattle.graph_maker.proofs.MadeMultiplies.{made_multiplies}
-use Rattle.ripple_graft.specs.declared.cut.Cut.{Cut}
+use Rattle.joint_prover.specs.declared.replacement.Replacement.{Replacement}
 use Rattle.joint_prover.specs.declared.note.Note.{Note}
 use Rattle.joint_prover.specs.declared.verdict.Tried.{Tried}
 use Rattle.joint_prover.specs.Budgets.{EnoughIsProved, IsEnough}
 use Rattle.mv_desk.specs.declared.limits.Limits.{Limits}
-use Rattle.joint_prover.specs.Notes.{cut_of}
+use Rattle.joint_prover.specs.Notes.{replacement_of}
 
 -- ---- a graph that is wrong
 
@@ -186,9 +186,9 @@ module _ (e : Extended) (s : Sides) (budget : ℕ) where
       }
 
 module _ (g : Aig) (claim : Claim) (budget : ℕ) where
-  pub tried_passes : (used : Option Cut) (tried : List Tried) → AreTried g claim budget used tried → PassesBySlices (without_cut g) (sides_for claim g) budget
+  pub tried_passes : (used : Option Replacement) (tried : List Tried) → AreTried g claim budget used tried → PassesBySlices (without_cut g) (sides_for claim g) budget
   tried_passes None tried h = passes (without_cut g) (sides_for claim g) budget h.0 h.2.above
-  tried_passes (Some cut) tried h = passes (without_cut g) (sides_for claim g) budget h.1 h.4.above
+  tried_passes (Some r) tried h = passes (without_cut g) (sides_for claim g) budget h.1 h.4.above
 
 -- ---- the verdict
 
@@ -209,7 +209,7 @@ module _ (limits : Limits) (task : Task) (file : List ℕ) (h : IsEnough limits.
 
   never_tried : (tried : List Tried) (noted : Option Note) → HasNote h.graph task noted (λ used. AreTried h.graph task.claim task.budget used tried) → ⊥
   never_tried tried None k = absurd k
-  never_tried tried (Some n) k = never_passes (tried_passes h.graph task.claim task.budget (cut_of n) tried k.1)
+  never_tried tried (Some n) k = never_passes (tried_passes h.graph task.claim task.budget (replacement_of n) tried k.1)
 
   module _ (files : Files) (a b : View) (told : bytes_under a files.graph ≡ Some file) where
     stops_or_not : (why : Stop) → IsStop (IsGraphStop slot.Graph (profile_of task.claim.widths) limits.graph (bytes_under a files.graph)) a b why → GivesDue Stopped a b (Proved None) (Stopped why)

@@ -13,10 +13,10 @@ use Rattle.mv_text.specs.LineReading.{lengths_of}
 use Rattle.pair_limits.specs.TooLong.{IsFirstTooLong}
 use Rattle.graph_core.specs.Graph.{Aig}
 use Rattle.graph_core.specs.Graph.Operands.{profile_of}
-use Rattle.ripple_graft.specs.declared.cut.Cut.{Cut}
+use Rattle.joint_prover.specs.declared.replacement.Replacement.{Replacement}
 use Rattle.joint_prover.specs.declared.note.Note.{Note}
 use Rattle.command_core.specs.declared.task.Task.{Task}
-use Rattle.joint_prover.specs.Notes.{IsNote, cut_of}
+use Rattle.joint_prover.specs.Notes.{IsNote, replacement_of}
 use Rattle.joint_prover.specs.Pairs.{IsPairFor}
 use Rattle.joint_prover.proofs.Telling.{pair_is_lawful}
 
@@ -27,7 +27,7 @@ algebra_no_graph : slot.Algebra ≢ slot.Graph
 algebra_no_graph e = cc
 
 -- the note, with what else holds of its cut
-note_there : (g : Aig) (task : Task) (noted : Option Note) (P : Option Cut → Type 0) → HasNote g task noted P → (n : Note) × (noted ≡ Some n) × IsNote g task.claim task.conflicts n × P (cut_of n)
+note_there : (g : Aig) (task : Task) (noted : Option Note) (P : Option Replacement → Type 0) → HasNote g task noted P → (n : Note) × (noted ≡ Some n) × IsNote g task.claim task.conflicts n × P (replacement_of n)
 note_there g task None P h = absurd h
 note_there g task (Some n) P h = (n, refl, h.0, h.1)
 
@@ -62,7 +62,7 @@ proved_pairs_are_held limits task files a c long noted told apart h =
         spells = subst (λ o. IfSome o (λ b. SpellsWithin (profile_of task.claim.widths) limits.graph b g)) file.1 h.1;
         pair = pair_is_lawful g task pair.0 clauses text pair.2;
         does = h.2.0;
-        note = subst (λ o. IsSomeAnd o (λ m. IsNote g task.claim task.conflicts m × IsPairFor g task (cut_of m) clauses text)) (sym n.1) (n.2, pair);
+        note = subst (λ o. IsSomeAnd o (λ m. IsNote g task.claim task.conflicts m × IsPairFor g task (replacement_of m) clauses text)) (sym n.1) (n.2, pair);
       },
       subst (λ o. IfSome o (λ x. IfSome (bytes_under c files.algebra) (λ y. IsFirstTooLong (lengths_of limits) x y long))) (sym clauses_held)
           (subst (λ o. IfSome o (λ y. IsFirstTooLong (lengths_of limits) clauses y long)) (sym algebra_held) written.4),

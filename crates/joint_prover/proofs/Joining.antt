@@ -23,7 +23,7 @@ use Rattle.command_core.specs.declared.task.Task.{Task}
 use Rattle.joint_prover.specs.declared.verdict.Verdict.{Verdict}
 use Rattle.joint_prover.specs.declared.verdict.Verdict.TheVariants.{Proved, Wrong, Undecided, Stopped}
 use Rattle.joint_prover.specs.declared.note.Note.{Note}
-use Rattle.joint_prover.specs.Notes.{IsNote, cut_of}
+use Rattle.joint_prover.specs.Notes.{IsNote, replacement_of}
 use Rattle.joint_prover.specs.Pairs.{AreClausesFor, IsPairFor}
 use Rattle.joint_prover.specs.Decisions.{IsDecision}
 use Rattle.joint_prover.specs.Endings.{IsTold}
@@ -45,11 +45,11 @@ module _ (limits : Limits) (task : Task) (files : Files) (a r : View) (reads : R
   named c v w noted other is same h = subst (λ x. IsVerdict limits task files a c x noted) (sym is) (subst (IsVerdict limits task files a c w) (sym same) h)
 
   told : (c : View) (g : Aig) (d : Decision) (n : Note) (v : Verdict) (noted : Option Note) → IfSome (bytes_under a files.graph) (λ bytes. SpellsWithin (profile_of task.claim.widths) limits.graph bytes g) →
-      r.write_faults ≡ a.write_faults → IsNote g task.claim task.conflicts n → IsDecision g task (cut_of n) d → IsTold (lengths_of limits) files r c d n v noted → IsVerdict limits task files a c v noted
+      r.write_faults ≡ a.write_faults → IsNote g task.claim task.conflicts n → IsDecision g task (replacement_of n) d → IsTold (lengths_of limits) files r c d n v noted → IsVerdict limits task files a c v noted
   told c g (decision.Proved p) n v noted spelled same note h (inl t) =
       named c v (Proved t.0) noted (Some n) t.1 t.2 (g, spelled, (h.0, (note, (r, reads, (clauses_text p, algebra_text p, h.2, t.3, t.4)))))
   told c g (decision.Proved p) n v noted spelled same note h (inr t) = named c v (Stopped stop.WriteFault) noted None t.0 t.1
-      (subst (λ k. Rose k c.write_faults) same t.2, (g, spelled, (h.0, (n, note, r, reads, stops_with files (clauses_text p) (algebra_text p) (AreClausesFor g task (cut_of n)) (IsPairFor g task (cut_of n)) r c (h.2.0, h.2.1, h.2.2.clause_file) h.2 t.3))), refl)
+      (subst (λ k. Rose k c.write_faults) same t.2, (g, spelled, (h.0, (n, note, r, reads, stops_with files (clauses_text p) (algebra_text p) (AreClausesFor g task (replacement_of n)) (IsPairFor g task (replacement_of n)) r c (h.2.0, h.2.1, h.2.2.clause_file) h.2 t.3))), refl)
   told c g (decision.Wrong d) n v noted spelled same note h t =
       named c v (Wrong d) noted (Some n) t.0 t.1 ((g, spelled, (h, (note, tt))), subst (ReadsGraph a) (sym t.2) reads)
   told c g (decision.Undecided tried step size seen) n v noted spelled same note h t =
@@ -64,7 +64,7 @@ module _ (limits : Limits) (task : Task) (files : Files) (a r : View) (reads : R
 
   -- where there was memory, or none
   pub judged : (c : View) (g : Aig) (decided : Result (Decision × Note) Memory) (v : Verdict) (noted : Option Note) → IfSome (bytes_under a files.graph) (λ bytes. SpellsWithin (profile_of task.claim.widths) limits.graph bytes g) →
-      r.write_faults ≡ a.write_faults → IfOk decided (λ d. IsDecision g task (cut_of d.1) d.0) → IfOk decided (λ d. IsNote g task.claim task.conflicts d.1) → IfOk decided (λ d. IsTold (lengths_of limits) files r c d.0 d.1 v noted) →
+      r.write_faults ≡ a.write_faults → IfOk decided (λ d. IsDecision g task (replacement_of d.1) d.0) → IfOk decided (λ d. IsNote g task.claim task.conflicts d.1) → IfOk decided (λ d. IsTold (lengths_of limits) files r c d.0 d.1 v noted) →
       OnErr decided (◌≡◌ {A = Verdict × Option Note} (v, noted) (Stopped stop.Memory, None)) → OnErr decided (c ≡ r) → IsVerdict limits task files a c v noted
   judged c g (Ok d) v noted spelled same decision note h none untouched = told c g d.0 d.1 v noted spelled same note decision h
   judged c g (Err e) v noted spelled same decision note h none untouched =

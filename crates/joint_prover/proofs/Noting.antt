@@ -14,8 +14,12 @@ use Rattle.adder_finder.proofs.FitCuts.{fit_is_cut}
 use Rattle.stage_rewriter.specs.Rewriting.{Agrees, IsRewriting, IsRewritingDifference, IsShownRewriting, IsUsed}
 use Rattle.stage_rewriter.specs.declared.rewriting.Rewriting.{Rewriting}
 use Rattle.stage_rewriter.specs.declared.rewriting.Rewriting.TheVariants as kind
-use Rattle.joint_prover.specs.Endings.{cut_of_found}
-use Rattle.joint_prover.specs.Notes.{IsFoundCut, IsNote, cut_in, cut_of, note_of, rewriting_note_of}
+use Rattle.stage_rewriter.specs.Placing.{IsShownBeside}
+use Rattle.stage_rewriter.specs.declared.placing.Placed.{Placed}
+use Rattle.joint_prover.specs.declared.replacement.Replacement.{Replacement}
+use Rattle.joint_prover.specs.declared.replacement.Replacement.TheVariants.{Adder, Beside}
+use Rattle.joint_prover.specs.Endings.{replacement_of_found}
+use Rattle.joint_prover.specs.Notes.{IsFound, IsNote, replacement_in, replacement_of, note_of, rewriting_note_of}
 
 rewriting_note_is : (g : Aig) (s : Sides) (conflicts : ℕ) (r : Rewriting) → AreOperandsOf g s → IsRewriting g s conflicts r → Agrees r →
     IsNote g s.claim conflicts (rewriting_note_of (has_addend s.claim.widths) r)
@@ -28,22 +32,24 @@ rewriting_note_is g s conflicts (kind.Differs x) of h agrees =
     (refl, (h.0, h.1, subst (λ (t : Sides). IsRewritingDifference (with_cut g h.0) t x) of h.2))
 rewriting_note_is g s conflicts (kind.Spent lemmas goal log) of spent agrees = spent
 
-pub note_is : (g : Aig) (s : Sides) (conflicts : ℕ) (r : Rewriting) (found : Option Cut) → AreOperandsOf g s → IsRewriting g s conflicts r → Agrees r → IfSome found (IsFoundCut g) →
+pub note_is : (g : Aig) (s : Sides) (conflicts : ℕ) (r : Rewriting) (found : Option Replacement) → AreOperandsOf g s → IsRewriting g s conflicts r → Agrees r → IfSome found (IsFound g) →
     IsNote g s.claim conflicts (note_of (has_addend s.claim.widths) r found)
-note_is g s conflicts r None of rewriting agrees cut = rewriting_note_is g s conflicts r of rewriting agrees
-note_is g s conflicts r (Some cut) of rewriting agrees found = found
+note_is g s conflicts r None of rewriting agrees found = rewriting_note_is g s conflicts r of rewriting agrees
+note_is g s conflicts r (Some (Adder cut)) of rewriting agrees found = found
+note_is g s conflicts r (Some (Beside b)) of rewriting agrees found = found
 
--- The note has the cut whose adder is used.
-cut_of_rewriting : (add : Bool) (r : Rewriting) → cut_of (rewriting_note_of add r) ≡ cut_in r
-cut_of_rewriting add (kind.Used cut extended log) = refl
-cut_of_rewriting add kind.None = refl
-cut_of_rewriting add (kind.Differs x) = refl
-cut_of_rewriting add (kind.Spent lemmas goal log) = refl
+-- The note has the adder that is used.
+replacement_of_rewriting : (add : Bool) (r : Rewriting) → replacement_of (rewriting_note_of add r) ≡ replacement_in r
+replacement_of_rewriting add (kind.Used cut extended log) = refl
+replacement_of_rewriting add kind.None = refl
+replacement_of_rewriting add (kind.Differs x) = refl
+replacement_of_rewriting add (kind.Spent lemmas goal log) = refl
 
--- or the one that was found
-pub cut_of_note : (add : Bool) (r : Rewriting) (used found : Option Cut) → used ≡ cut_in r → cut_of_found used found ≡ cut_of (note_of add r found)
-cut_of_note add r used None is = is ∙ sym (cut_of_rewriting add r)
-cut_of_note add r used (Some cut) is = refl
+-- or what was found
+pub replacement_of_note : (add : Bool) (r : Rewriting) (used found : Option Replacement) → used ≡ replacement_in r → replacement_of_found used found ≡ replacement_of (note_of add r found)
+replacement_of_note add r used None is = is ∙ sym (replacement_of_rewriting add r)
+replacement_of_note add r used (Some (Adder cut)) is = refl
+replacement_of_note add r used (Some (Beside b)) is = refl
 
 -- The final stage in use is a cut that is shown.
 pub shown_of : (g : Aig) (conflicts : ℕ) (cut : Cut) (e : Extended) (lines : List ClauseLine) → IsWellFormed g → IsUsed g conflicts cut e lines → IsShownRewriting g conflicts cut e lines
@@ -63,8 +69,23 @@ shown_by_more g few more cut e lines low shown = record {
   few = let short = shown.few in omega arith;
 }
 
-pub found_is : (g : Aig) (conflicts : ℕ) (cut : Cut) (e : Extended) (lines : List ClauseLine) → IsShownRewriting g conflicts cut e lines → Always e.gates (AgreeOnColumns e) → IsFoundCut g cut
+pub found_is : (g : Aig) (conflicts : ℕ) (cut : Cut) (e : Extended) (lines : List ClauseLine) → IsShownRewriting g conflicts cut e lines → Always e.gates (AgreeOnColumns e) → IsFound g (Adder cut)
 found_is g conflicts cut e lines shown agree = record {
+  takes = shown.fits;
+  agree = subst (λ (x : Extended). Always x.gates (AgreeOnColumns x)) shown.extended_is agree;
+}
+
+-- The same of what stands beside.
+pub placed_by_more : (g : Aig) (few more : ℕ) (placed : Placed) → few ≤ more → IsShownBeside g few placed → IsShownBeside g more placed
+placed_by_more g few more placed low shown = record {
   fits = shown.fits;
+  extended_is = shown.extended_is;
+  lawful = shown.lawful;
+  few = let short = shown.few in omega arith;
+}
+
+pub placed_is_found : (g : Aig) (conflicts : ℕ) (placed : Placed) → IsShownBeside g conflicts placed → Always placed.extended.gates (AgreeOnColumns placed.extended) → IsFound g (Beside placed.beside)
+placed_is_found g conflicts placed shown agree = record {
+  takes = shown.fits;
   agree = subst (λ (x : Extended). Always x.gates (AgreeOnColumns x)) shown.extended_is agree;
 }

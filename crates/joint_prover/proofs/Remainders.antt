@@ -28,7 +28,8 @@ use Rattle.graph_core.specs.Graph.Extended.{Extended, without_cut, modulus}
 use Rattle.graph_core.specs.Graph.Operands.{AreInRange, Does, HasShapeFor, MeetsClaim, ReadInputs, Sides, claimed, inputs_at, inputs_in, sides_for, AreOperandsOf, profile_of}
 use Rattle.graph_core.specs.declared.claim.Claim.{Claim}
 use Rattle.graph_core.specs.declared.numbers.Numbers.{Numbers}
-use Rattle.ripple_graft.specs.declared.cut.Cut.{Cut}
+use Rattle.joint_prover.specs.declared.replacement.Replacement.{Replacement}
+use Rattle.joint_prover.specs.declared.replacement.Replacement.TheVariants.{Adder, Beside}
 use Rattle.std.specs.declared.option.Option.{Option}
 use Rattle.algebra_core.specs.AlgebraLines.{Closes, LiveLine, line_of, specification, value_of, value_or_zero}
 use Rattle.algebra_core.specs.Polynomials.{difference, value}
@@ -40,18 +41,21 @@ use Rattle.poly_terms.specs.Laws.{modulus_stays}
 use Rattle.poly_terms.specs.Tables as table
 use Rattle.poly_terms.specs.Tables.{Table, Sum, monomials_in, value_in}
 use Rattle.poly_terms.proofs.Values.{normal}
+use Rattle.ripple_graft.specs.Beside.{with_gate, with_gates, with_output, with_outputs}
 use Rattle.ripple_graft.specs.Extension.{IsExtension}
 use Rattle.slice_planner.specs.ColumnPlans.{IsColumnPlan}
 use Rattle.slice_planner.specs.Slices.{IsSlicePlan}
 use Rattle.joint_prover.proofs.Sizes.{some_bits, some_outputs}
 use Rattle.joint_prover.specs.declared.verdict.Tried.{Tried}
-use Rattle.joint_prover.specs.Endings.{AreFew, AreLeast, IsProof, IsRemainder, IsStart, IsTriedAt, IsJob, IsShown, cut_named}
-use Rattle.joint_prover.specs.Tries.{EndsWithin, IsAbove, IsWithinBudget, extended_by}
+use Rattle.joint_prover.specs.Endings.{AreFew, AreLeast, IsProof, IsRemainder, IsStart, IsTriedAt, IsJob, IsShown, replacement_named}
+use Rattle.joint_prover.specs.Replacements.{extended_by}
+use Rattle.joint_prover.specs.Tries.{EndsWithin, IsAbove, IsWithinBudget}
 use Rattle.joint_prover.specs.Verdicts.{IsFirstAbove}
 use Rattle.std.specs.declared.option.Option.TheVariants.{None, Some}
 use Rattle.graph_core.specs.Aiger.Sizes.{IsSizedAs}
 use Rattle.joint_prover.specs.declared.shown.Shown.{Shown}
 use Rattle.joint_prover.specs.declared.task.Job.{Job}
+use Rattle.command_core.specs.declared.task.Task.{Task}
 use Rattle.frontier_core.specs.Sets.{count_from}
 
 -- ---- lines that are fresh
@@ -69,15 +73,24 @@ starts l e s fresh of sized extension agree = record {
 }
 
 -- an extended graph is over its graph
-pub graph_by : (g : Aig) (cut : Option Cut) → (extended_by g cut).graph ≡ g
+gates_keep : (e : Extended) (pairs : List (Lit × Lit)) → (with_gates e pairs).graph ≡ e.graph
+gates_keep e [] = refl
+gates_keep e (p ∷ pairs) = gates_keep (with_gate e p) pairs
+
+outputs_keep : (e : Extended) (outputs : List (ℕ × Lit)) → (with_outputs e outputs).graph ≡ e.graph
+outputs_keep e [] = refl
+outputs_keep e (c ∷ outputs) = outputs_keep (with_output e c) outputs
+
+pub graph_by : (g : Aig) (r : Option Replacement) → (extended_by g r).graph ≡ g
 graph_by g None = refl
-graph_by g (Some cut) = refl
+graph_by g (Some (Adder cut)) = refl
+graph_by g (Some (Beside b)) = outputs_keep (with_gates (without_cut g) b.gates) b.outputs ∙ gates_keep (without_cut g) b.gates
 
 -- and so over a graph that is shown
-pub starts_shown : (l : Made) (g : Aig) (conflicts : ℕ) (s : Sides) (shown : Shown) → IsShown g conflicts shown → IsFresh shown.extended.now s l → AreOperandsOf g s → IsSizedAs (profile_of s.claim.widths) g →
+pub starts_shown : (l : Made) (g : Aig) (task : Task) (s : Sides) (shown : Shown) → IsShown g task shown → IsFresh shown.extended.now s l → AreOperandsOf g s → IsSizedAs (profile_of s.claim.widths) g →
     IsExtension shown.extended.now → IsStart l
-starts_shown l g conflicts s shown is fresh of sized extension =
-    let graph = sym (ap (λ (x : Extended). x.graph) is.extended ∙ graph_by g (cut_named shown)) in
+starts_shown l g task s shown is fresh of sized extension =
+    let graph = sym (ap (λ (x : Extended). x.graph) is.extended ∙ graph_by g (replacement_named shown)) in
     starts l shown.extended.now s fresh (subst (λ h. AreOperandsOf h s) graph of) (subst (IsSizedAs (profile_of s.claim.widths)) graph sized) extension
     (subst AgreeEverywhere (sym is.extended) is.agree)
 
@@ -330,9 +343,9 @@ module _ (l : Made) (start : IsStart l) (after : Made) (poly : Sum) (id : ℕ) (
     least = λ other size nonzero. least.least other size (λ vanishes. nonzero (sym (same (of_inputs ls other)) ∙ vanishes));
   }
 
-  module _ (graph : Aig) (claim : Claim) (cut : Option Cut) (extended : l.extended ≡ extended_by graph cut) (sides : l.sides ≡ sides_for claim graph) where
+  module _ (graph : Aig) (claim : Claim) (r : Option Replacement) (extended : l.extended ≡ extended_by graph r) (sides : l.sides ≡ sides_for claim graph) where
     same_graph : g ≡ graph
-    same_graph = ap (λ (x : Extended). x.graph) extended ∙ graph_by graph cut
+    same_graph = ap (λ (x : Extended). x.graph) extended ∙ graph_by graph r
 
     pub witness_is_least : (x : Numbers) → IsLeastNonzero (value_in after.table poly) (inputs_in after.sides) (inputs_at after.sides x) → AreInRange after.sides x → AreLeast graph (sides_for claim graph) x
     witness_is_least x nonzero in_range =
@@ -345,7 +358,7 @@ module _ (l : Made) (start : IsStart l) (after : Made) (poly : Sum) (id : ℕ) (
 
     -- ---- what is decided
 
-    pub remainder_proves : AreLawfulSoFar after → ((σ : Assignment) → value_in after.table poly σ ≡ 0) → IsProof graph claim cut (closed after id)
+    pub remainder_proves : AreLawfulSoFar after → ((σ : Assignment) → value_in after.table poly σ ≡ 0) → IsProof graph claim r (closed after id)
     remainder_proves lawful vanishes = record {
       extended = goes.extended ∙ extended;
       sides = goes.sides ∙ sides;

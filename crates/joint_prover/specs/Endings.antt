@@ -7,7 +7,6 @@ use Rattle.column_reducer.specs.Reducing.{ContinuesLines, IsLastRest, IsPassed, 
 use Rattle.command_core.specs.Files.{Files}
 use Rattle.command_core.specs.Written.{StopsWriting, WritesPair}
 use Rattle.command_core.specs.declared.stop.Stop.TheVariants as stop
-use Rattle.drup_text.specs.declared.head.Header.{Header}
 use Rattle.frontier_core.specs.LastFrontier.{AgreeEverywhere}
 use Rattle.frontier_core.specs.LeastDifference.{IsLeastDifferenceAt}
 use Rattle.frontier_core.specs.declared.step.Step.{Step}
@@ -26,19 +25,23 @@ use Rattle.pac_writer.specs.Writing.{Made, written_ledger}
 use Rattle.pair_core.specs.Texts.{CanBeWritten, algebra_text, clauses_text}
 use Rattle.pair_limits.specs.TooLong.{IsFirstTooLong}
 use Rattle.poly_terms.specs.Tables.{Sum, modulus_in}
-use Rattle.ripple_graft.specs.Beside.{nothing as nothing_beside}
 use Rattle.ripple_graft.specs.Extension.{IsExtension}
-use Rattle.ripple_graft.specs.HeaderBlocks.{IsCutOf, cut_blocks}
-use Rattle.ripple_graft.specs.declared.cut.Cut.{Cut}
+use Rattle.joint_prover.specs.declared.reference.Compared.{Compared}
+use Rattle.joint_prover.specs.declared.reference.Compared.TheVariants as compared
+use Rattle.joint_prover.specs.declared.replacement.Replacement.{Replacement}
 use Rattle.slice_planner.specs.Slices.{IsSlicePlan}
 use Rattle.slice_planner.specs.declared.order.Order.{Order}
 use Rattle.slice_planner.specs.declared.order.Order.TheVariants.{Slices}
+use Rattle.stage_rewriter.specs.Placing.{IsShownBeside}
 use Rattle.joint_prover.specs.declared.decision.Decision.{Decision}
 use Rattle.joint_prover.specs.declared.decision.Decision.TheVariants as decision
 use Rattle.joint_prover.specs.declared.decision.Outcome.{Outcome}
 use Rattle.joint_prover.specs.declared.ended.Ended.{Ended}
 use Rattle.joint_prover.specs.declared.decision.Outcome.TheVariants.{Decided, Passed}
 use Rattle.joint_prover.specs.declared.note.Note.{Note}
+use Rattle.joint_prover.specs.declared.replacement.Replacement.TheVariants.{Adder, Beside}
+use Rattle.joint_prover.specs.declared.replacement.Lent.{Lent}
+use Rattle.joint_prover.specs.declared.replacement.Lent.TheVariants as lend
 use Rattle.joint_prover.specs.declared.shown.Shown.{Shown}
 use Rattle.joint_prover.specs.declared.task.Job.{Job}
 use Rattle.command_core.specs.declared.task.Task.{Task}
@@ -46,25 +49,32 @@ use Rattle.joint_prover.specs.declared.verdict.Tried.{Tried}
 use Rattle.joint_prover.specs.declared.verdict.Verdict.{Verdict}
 use Rattle.joint_prover.specs.declared.verdict.Verdict.TheVariants as verdict
 use Rattle.joint_prover.specs.Decisions.{IsDecision}
-use Rattle.joint_prover.specs.Notes.{IsFoundCut}
-use Rattle.joint_prover.specs.Pairs.{IsPairOver, IsVersion}
-use Rattle.joint_prover.specs.Tries.{EndsWithCut, extended_by}
+use Rattle.joint_prover.specs.Notes.{IsFound}
+use Rattle.joint_prover.specs.Pairs.{IsPairOver}
+use Rattle.joint_prover.specs.Replacements.{IsAllowed, IsVersion, Takes, extended_by}
+use Rattle.joint_prover.specs.Tries.{EndsWithinBy}
 use Rattle.joint_prover.specs.Verdicts.{IsWrong}
 
 -- ---- the graphs that plans run over
 
--- the cut that is named, if one is
-abbrev pub cut_named : Shown → Option Cut
-cut_named s = option_map (λ cut. cut.now) s.cut
+-- what is lent
+abbrev pub lent : Lent → Replacement
+lent (lend.Adder cut) = Adder cut.now
+lent (lend.Beside b) = Beside b.now
 
--- It is the graph with that cut's adder, or the graph alone. The new outputs are the old ones, and lines show it, of which there are few.
-pub record IsShown (g : Aig) (conflicts : ℕ) (s : Shown) : Type 0 where
-  pub extended : s.extended.now ≡ extended_by g (cut_named s)
-  pub fits : IsCutOf g (cut_named s)
-  pub agree : AgreeEverywhere (extended_by g (cut_named s))
-  pub lawful : AreLawfulClauseLines (extended_by g (cut_named s)) s.log.now
-  pub few : length s.log.now ≤ 2 * (conflicts + 2 * length g.outputs)
-  pub none : cut_named s ≡ None → s.log.now ≡ []
+-- what takes the place of outputs, if anything does
+abbrev pub replacement_named : Shown → Option Replacement
+replacement_named s = option_map lent s.by
+
+-- It is the graph with that, or the graph alone. The new outputs are the old ones, and lines show it, of which there are few.
+pub record IsShown (g : Aig) (task : Task) (s : Shown) : Type 0 where
+  pub extended : s.extended.now ≡ extended_by g (replacement_named s)
+  pub takes : Takes g (replacement_named s)
+  pub allowed : IsAllowed task.version (replacement_named s)
+  pub agree : AgreeEverywhere (extended_by g (replacement_named s))
+  pub lawful : AreLawfulClauseLines (extended_by g (replacement_named s)) s.log.now
+  pub few : length s.log.now ≤ 2 * (task.conflicts + 2 * length g.outputs)
+  pub none : replacement_named s ≡ None → s.log.now ≡ []
 
 -- The operands are those that their claim names in the graph, which has no fault and is of a size for it; that is what is asked; the version
 -- of certificates is one; the graph is shown, alone and with the adder that is used; and numbers on which an adder differs are in range.
@@ -74,15 +84,15 @@ pub record IsJob (job : Job) : Type 0 where
   pub claim : job.operands.now.claim ≡ job.task.claim
   pub well_formed : IsWellFormed job.graph.now
   pub version : IsVersion job.task.version
-  pub alone : IsShown job.graph.now job.task.conflicts job.alone
-  pub lone : cut_named job.alone ≡ None
-  pub used : IsShown job.graph.now job.task.conflicts job.used
+  pub alone : IsShown job.graph.now job.task job.alone
+  pub lone : replacement_named job.alone ≡ None
+  pub used : IsShown job.graph.now job.task job.used
   pub differing : IfSome job.differing (AreInRange job.operands.now)
 
--- the cut in use: one that was found, or that of the adder that is used
-abbrev pub cut_of_found : Option Cut → Option Cut → Option Cut
-cut_of_found used None = used
-cut_of_found used (Some cut) = Some cut
+-- what is in use: what was found, or the adder that is used
+abbrev pub replacement_of_found : Option Replacement → Option Replacement → Option Replacement
+replacement_of_found used None = used
+replacement_of_found used (Some r) = Some r
 
 -- ---- a plan
 
@@ -114,9 +124,9 @@ pub record AreLeast (g : Aig) (s : Sides) (x : Numbers) : Type 0 where
   pub least : IsLeastDifferenceAt g s (inputs_at s x)
   pub range : AreInRange s x
 
--- Lines over the graph with this cut or alone are few and closed, and the graph does what is claimed.
-pub record IsProof (g : Aig) (claim : Claim) (cut : Option Cut) (l : Made) : Type 0 where
-  pub extended : l.extended ≡ extended_by g cut
+-- Lines over the graph with this or alone are few and closed, and the graph does what is claimed.
+pub record IsProof (g : Aig) (claim : Claim) (r : Option Replacement) (l : Made) : Type 0 where
+  pub extended : l.extended ≡ extended_by g r
   pub sides : l.sides ≡ sides_for claim g
   pub few : AreFew l
   pub closed : IsSome l.closing
@@ -136,20 +146,26 @@ abbrev pub IsWrongAs : Aig → Claim → Decision → Type 0
 IsWrongAs g claim (decision.Wrong d) = IsWrong g claim d
 IsWrongAs g claim _ = ⊥
 
--- over the graph with this cut or alone
-abbrev pub Decides : Aig → Task → Option Cut → Decision → Type 0
-Decides g task cut (decision.Proved p) = Does task.claim g × CanBeWritten p × IsPairOver g task cut (clauses_text p) (algebra_text p)
-Decides g task cut d = IsWrongAs g task.claim d
+-- over the graph with this or alone
+abbrev pub Decides : Aig → Task → Option Replacement → Decision → Type 0
+Decides g task r (decision.Proved p) = Does task.claim g × CanBeWritten p × IsPairOver g task r (clauses_text p) (algebra_text p)
+Decides g task r d = IsWrongAs g task.claim d
 
 -- and by a plan that keeps to the budget
-abbrev pub IsEnd : Aig → Task → Option Cut → Decision → Type 0
-IsEnd g task cut d = EndsWithCut g task.claim task.budget cut × Decides g task cut d
+abbrev pub IsEnd : Aig → Task → Option Replacement → Decision → Type 0
+IsEnd g task r d = EndsWithinBy g task.claim task.budget r × Decides g task r d
 
 -- what a plan comes to; of a slice plan it is known where it passed its budget
-abbrev pub IsOutcome : Aig → Task → Option Cut → Order → ℕ → Outcome → Type 0
-IsOutcome g task cut order budget (Decided d) = IsEnd g task cut d
-IsOutcome g task cut order budget (Passed plan step size) = order ≡ Slices →
-    IsSlicePlan (extended_by g cut) plan.steps × IsPassed (planned (extended_by g cut) plan.steps 0) (sides_for task.claim g) budget step size
+abbrev pub IsOutcome : Aig → Task → Option Replacement → Order → ℕ → Outcome → Type 0
+IsOutcome g task r order budget (Decided d) = IsEnd g task r d
+IsOutcome g task r order budget (Passed plan step size) = order ≡ Slices →
+    IsSlicePlan (extended_by g r) plan.steps × IsPassed (planned (extended_by g r) plan.steps 0) (sides_for task.claim g) budget step size
+
+-- What comes of a reference beside the graph: it is shown, by lines of which there are few; or the graph is wrong at some numbers.
+abbrev pub IsCompared : Job → ℕ → Compared → Type 0
+IsCompared job conflicts (compared.Equal placed) = IsShownBeside job.graph.now conflicts placed × AgreeEverywhere placed.extended
+IsCompared job conflicts (compared.Wrong x) = AreInRange job.operands.now x
+IsCompared job conflicts compared.Open = ⊤
 
 -- ---- what several plans decide
 
@@ -168,21 +184,21 @@ pub record IsMeasured (lengths : Lengths) (e : Ended) : Type 0 where
   pub short : e.is_long ≡ false → IsShort lengths e.decision
   pub long : e.is_long ≡ true → ¬ (IsShort lengths e.decision)
 
--- A plan over the graph with this cut or alone has decided this.
-pub record IsEndedOver (job : Job) (cut : Option Cut) (e : Ended) : Type 0 where
-  pub decides : Decides job.graph.now job.task cut e.decision
+-- A plan over the graph with this or alone has decided this.
+pub record IsEndedOver (job : Job) (r : Option Replacement) (e : Ended) : Type 0 where
+  pub decides : Decides job.graph.now job.task r e.decision
   pub found : e.found ≡ None
   pub measured : IsMeasured (lengths_of job.limits) e
 
--- Plans have decided this, with the cut in use or one that was found.
+-- Plans have decided this, with the adder in use or what was found.
 pub record IsEndedFor (job : Job) (e : Ended) : Type 0 where
-  pub decision : IsDecision job.graph.now job.task (cut_of_found (cut_named job.used) e.found) e.decision
-  pub found : IfSome e.found (IsFoundCut job.graph.now)
+  pub decision : IsDecision job.graph.now job.task (replacement_of_found (replacement_named job.used) e.found) e.decision
+  pub found : IfSome e.found (IsFound job.graph.now)
   pub measured : IsMeasured (lengths_of job.limits) e
 
--- the same over the graph with a cut that was found
-abbrev pub over_cut : Cut → Ended → Ended
-over_cut cut e = record { decision = e.decision; found = Some cut; is_long = e.is_long }
+-- the same over the graph with what was found
+abbrev pub over_replacement : Replacement → Ended → Ended
+over_replacement r e = record { decision = e.decision; found = Some r; is_long = e.is_long }
 
 -- something is decided, and by no pair past the limits
 abbrev pub is_settled : Option Ended → Bool
@@ -198,10 +214,6 @@ shorter first (Some later) = if first.is_long && not later.is_long then later el
 abbrev pub first_short : Option Ended → Option Ended → Option Ended
 first_short None later = later
 first_short (Some first) later = Some (shorter first later)
-
--- the header that names a cut
-abbrev pub header_of : Aig → ℕ → Option Cut → Header
-header_of g version cut = record { version = version; blocks = cut_blocks (length g.outputs) cut; beside = nothing_beside }
 
 -- ---- what is told
 

@@ -1,5 +1,5 @@
 -- The plans that were tried, and the one that ended.
-use Rattle.std.specs.Prelude.{◌≡◌, ◌⊎◌, ℕ, ◌<◌, ◌≤◌, List, [], ◌∷◌, length, take, is_some}
+use Rattle.std.specs.Prelude.{◌≡◌, ◌⊎◌, ℕ, ◌<◌, ◌≤◌, List, [], ◌∷◌, take, is_some}
 use Rattle.std.specs.declared.option.Option.{Option}
 use Rattle.std.specs.declared.option.Option.TheVariants.{None, Some}
 use Rattle.frontier_core.specs.Frontier.{IsFrontier, frontier_value}
@@ -11,12 +11,11 @@ use Rattle.algebra_core.specs.NormalForm.{HasSize}
 use Rattle.graph_core.specs.Graph.{Aig}
 use Rattle.graph_core.specs.Graph.Operands.{Sides, sides_for}
 use Rattle.graph_core.specs.declared.claim.Claim.{Claim}
-use Rattle.ripple_graft.specs.Blocks.{with_blocks}
-use Rattle.ripple_graft.specs.HeaderBlocks.{cut_blocks}
-use Rattle.ripple_graft.specs.declared.cut.Cut.{Cut}
+use Rattle.joint_prover.specs.declared.replacement.Replacement.{Replacement}
 use Rattle.slice_planner.specs.ColumnPlans.{IsColumnPlan}
 use Rattle.slice_planner.specs.Slices.{IsSlicePlan}
 use Rattle.column_reducer.specs.Reducing.{KeepsBudget, planned}
+use Rattle.joint_prover.specs.Replacements.{extended_by}
 use Rattle.joint_prover.specs.declared.verdict.Tried.{Tried}
 
 -- The columns and gates are those that the first steps of a slice plan take.
@@ -34,20 +33,16 @@ pub record IsAbove (e : Extended) (s : Sides) (budget : ℕ) (tried : Tried) : T
   pub size : HasSize (modulus e) (frontier_value e s tried.columns.items tried.gates.items) tried.size
   pub above : budget < tried.size
 
--- the graph with this cut, or without one
-abbrev pub extended_by : Aig → Option Cut → Extended
-extended_by g cut = with_blocks g (cut_blocks (length g.outputs) cut)
+-- over the graph with this, or alone
+pub record IsTried (g : Aig) (claim : Claim) (budget : ℕ) (r : Option Replacement) (tried : Tried) : Type 0 where
+  pub rewritten : tried.rewritten ≡ is_some r
+  pub above : IsAbove (extended_by g r) (sides_for claim g) budget tried
 
--- over that graph
-pub record IsTried (g : Aig) (claim : Claim) (budget : ℕ) (cut : Option Cut) (tried : Tried) : Type 0 where
-  pub rewritten : tried.rewritten ≡ is_some cut
-  pub above : IsAbove (extended_by g cut) (sides_for claim g) budget tried
-
--- What was tried in this order: where a cut is used, the plan over the graph with it; and the plan over the graph.
-abbrev pub AreTried : Aig → Claim → ℕ → Option Cut → List Tried → Type 0
+-- What was tried in this order: where an adder is used, the plan over the graph with it; and the plan over the graph.
+abbrev pub AreTried : Aig → Claim → ℕ → Option Replacement → List Tried → Type 0
 AreTried g claim budget None tried = (only : Tried) × (tried ≡ only ∷ []) × IsTried g claim budget None only
-AreTried g claim budget (Some cut) tried =
-    (first : Tried) × (second : Tried) × (tried ≡ first ∷ second ∷ []) × IsTried g claim budget (Some cut) first × IsTried g claim budget None second
+AreTried g claim budget (Some r) tried =
+    (first : Tried) × (second : Tried) × (tried ≡ first ∷ second ∷ []) × IsTried g claim budget (Some r) first × IsTried g claim budget None second
 
 -- ---- the plan that ended
 
@@ -62,21 +57,21 @@ pub record EndsWithin (e : Extended) (s : Sides) (budget : ℕ) : Type 0 where
   pub within : KeepsBudget (planned e steps 0) s budget
 
 -- And it is over this graph.
-abbrev pub EndsWithCut : Aig → Claim → ℕ → Option Cut → Type 0
-EndsWithCut g claim budget cut = EndsWithin (extended_by g cut) (sides_for claim g) budget
+abbrev pub EndsWithinBy : Aig → Claim → ℕ → Option Replacement → Type 0
+EndsWithinBy g claim budget r = EndsWithin (extended_by g r) (sides_for claim g) budget
 
--- Where a cut is in use, the plan over the graph with it has passed the budget.
-abbrev pub HasPassedBudget : Aig → Claim → ℕ → Option Cut → Type 0
-HasPassedBudget g claim budget used = (cut : Cut) → used ≡ Some cut → (tried : Tried) × IsTried g claim budget (Some cut) tried
+-- Where something takes the place of outputs, the plan over the graph with it has passed the budget.
+abbrev pub HasPassedBudget : Aig → Claim → ℕ → Option Replacement → Type 0
+HasPassedBudget g claim budget used = (r : Replacement) → used ≡ Some r → (tried : Tried) × IsTried g claim budget (Some r) tried
 
--- The plan that ended kept to the budget. It is over the graph with the cut in use; or over the graph alone, and a plan with a cut came
+-- The plan that ended kept to the budget. It is over the graph with what is in use; or over the graph alone, and a plan over that came
 -- before it; or it is the plain one, and the slice plans came before it.
-abbrev pub EndsOver : Aig → Claim → ℕ → Option Cut → Option Cut → Type 0
-EndsOver g claim budget used (Some cut) = (used ≡ Some cut) × EndsWithCut g claim budget (Some cut)
+abbrev pub EndsOver : Aig → Claim → ℕ → Option Replacement → Option Replacement → Type 0
+EndsOver g claim budget used (Some r) = (used ≡ Some r) × EndsWithinBy g claim budget (Some r)
 EndsOver g claim budget used None =
-    (HasPassedBudget g claim budget used × EndsWithCut g claim budget None) ⊎
+    (HasPassedBudget g claim budget used × EndsWithinBy g claim budget None) ⊎
     (((tried : List Tried) × AreTried g claim budget used tried) × IsWithinBudget g claim budget)
 
--- A plan ended; or lines were drafted, over the graph with the cut in use, or over the graph alone where none is.
-abbrev pub IsProvedOver : Aig → Claim → ℕ → Option Cut → Option Cut → Type 0
-IsProvedOver g claim budget used cut = EndsOver g claim budget used cut ⊎ (cut ≡ used)
+-- A plan ended; or lines were drafted, over the graph with what is in use, or over the graph alone where nothing is.
+abbrev pub IsProvedOver : Aig → Claim → ℕ → Option Replacement → Option Replacement → Type 0
+IsProvedOver g claim budget used r = EndsOver g claim budget used r ⊎ (r ≡ used)

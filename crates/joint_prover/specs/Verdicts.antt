@@ -15,7 +15,7 @@ use Rattle.mv_desk.specs.View.{View, Rose, bytes_under, IsTold}
 use Rattle.mv_desk.specs.declared.limits.Limits.{Limits}
 use Rattle.mv_desk.specs.declared.slot.Slot.{Slot}
 use Rattle.mv_desk.specs.declared.slot.Slot.TheVariants as slot
-use Rattle.ripple_graft.specs.declared.cut.Cut.{Cut}
+use Rattle.joint_prover.specs.declared.replacement.Replacement.{Replacement}
 use Rattle.mv_text.specs.LineReading.{lengths_of}
 use Rattle.pair_core.specs.Certificates.{IsPair}
 use Rattle.pair_limits.specs.TooLong.{IsFirstTooLong}
@@ -25,7 +25,7 @@ use Rattle.joint_prover.specs.declared.note.Note.{Note}
 use Rattle.command_core.specs.declared.task.Task.{Task}
 use Rattle.joint_prover.specs.declared.verdict.Verdict.{Verdict}
 use Rattle.joint_prover.specs.declared.verdict.Verdict.TheVariants.{Proved, Wrong, Undecided, Stopped}
-use Rattle.joint_prover.specs.Notes.{IsNote, cut_of}
+use Rattle.joint_prover.specs.Notes.{IsNote, replacement_of}
 use Rattle.joint_prover.specs.Pairs.{AreClausesFor, IsPairFor}
 use Rattle.joint_prover.specs.Tries.{AreTried, IsWithinBudget}
 use Rattle.command_core.specs.Written.{ReadsGraph, StopsWriting, WritesPair}
@@ -33,7 +33,7 @@ use Rattle.command_core.specs.Written.{ReadsGraph, StopsWriting, WritesPair}
 -- ---- proved
 
 -- The files that a desk holds: a graph that does what is claimed, a pair of certificates for it, which is the pair that is written with
--- the cut of this note, and the note's cause.
+-- what this note names in use, and the note's cause.
 pub record HoldsPair (task : Task) (files : Files) (view : View) (limit : ℕ) (noted : Option Note) : Type 0 where
   pub graph_file : List ℕ
   pub clause_file : List ℕ
@@ -45,7 +45,7 @@ pub record HoldsPair (task : Task) (files : Files) (view : View) (limit : ℕ) (
   pub spells : SpellsWithin (profile_of task.claim.widths) limit graph_file graph
   pub pair : IsPair graph task.claim clause_file algebra_file
   pub does : Does task.claim graph
-  pub note : IsSomeAnd noted (λ n. IsNote graph task.claim task.conflicts n × IsPairFor graph task (cut_of n) clause_file algebra_file)
+  pub note : IsSomeAnd noted (λ n. IsNote graph task.claim task.conflicts n × IsPairFor graph task (replacement_of n) clause_file algebra_file)
 
 -- Of the certificates that a desk holds, where it tells them, the first one that is past the limits, if one is.
 abbrev pub IsFirstTooLongHeld : Limits → Files → View → Option Slot → Type 0
@@ -91,9 +91,9 @@ pub record IsSeen (g : Aig) (claim : Claim) (d : Difference) : Type 0 where
 
 -- ---- where each verdict comes
 
--- There is a note, which has its cause, and something holds of the cut that it has in use.
-abbrev pub HasNote : Aig → Task → Option Note → (Option Cut → Type 0) → Type 0
-HasNote g task noted P = IsSomeAnd noted (λ n. IsNote g task.claim task.conflicts n × P (cut_of n))
+-- There is a note, which has its cause, and something holds of what it names in use.
+abbrev pub HasNote : Aig → Task → Option Note → (Option Replacement → Type 0) → Type 0
+HasNote g task noted P = IsSomeAnd noted (λ n. IsNote g task.claim task.conflicts n × P (replacement_of n))
 
 -- Something holds of the graph, as far as the file is told.
 abbrev pub IsOfFile : ℕ → Task → Files → View → (Aig → Type 0) → Type 0
@@ -118,7 +118,7 @@ IsVerdict limits task files before after (Stopped stop.WriteFault) noted =
     Rose before.write_faults after.write_faults ×
     IsOfFile limits.graph task files before (λ g. Does task.claim g ×
     ((n : Note) × IsNote g task.claim task.conflicts n × (read : View) × ReadsGraph before read ×
-    StopsWriting files (AreClausesFor g task (cut_of n)) (IsPairFor g task (cut_of n)) read after)) × (noted ≡ None)
+    StopsWriting files (AreClausesFor g task (replacement_of n)) (IsPairFor g task (replacement_of n)) read after)) × (noted ≡ None)
 IsVerdict limits task files before after (Stopped why) noted =
     IsStop (IsGraphStop slot.Graph (profile_of task.claim.widths) limits.graph (bytes_under before files.graph)) before after why ×
     ReadsGraph before after × (noted ≡ None)

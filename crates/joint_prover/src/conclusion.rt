@@ -1,14 +1,16 @@
 // What is concluded from a plan that ended: the certificates of its lines, or the numbers that show the graph to be
 // wrong.
-ghost use Rattle.std.specs.Prelude.{◌≡◌, IfOk, length};
+ghost use Rattle.std.specs.Prelude.{◌≡◌, IfOk, length, option_map};
 ghost use Rattle.std.specs.List.{All};
 ghost use Rattle.clause_core.specs.Clause.{IsClause};
 ghost use Rattle.clause_core.specs.ClauseLines.{clause_in};
 ghost use Rattle.ripple_graft.specs.Blocks.{block_of};
-ghost use Rattle.joint_prover.specs.Endings.{AreLeast, Decides, IsJob, IsProof, IsShown, IsWrongAs, cut_named, header_of};
+ghost use Rattle.joint_prover.specs.Endings.{AreLeast, Decides, IsJob, IsProof, IsShown, IsWrongAs, lent, replacement_named};
+ghost use Rattle.joint_prover.specs.Replacements.{header_of, version_for};
 
 use crate::decision::Decision;
 use crate::difference::value_on;
+use crate::replacement::Lent;
 use crate::shown::Shown;
 use crate::task::Job;
 use clause_core::Line;
@@ -16,7 +18,7 @@ use drup_text::Header;
 use graph_core::{Graph, Memory, Numbers};
 use pac_writer::Lines;
 use pair_core::Pair;
-use ripple_graft::{Beside, Block, BlockList, Cut, Pairs};
+use ripple_graft::{Beside, Block, BlockList, Cut, Outputs, Pairs};
 use std::alloc::Global;
 
 /// Lines that are closed over an extended graph are an algebra certificate. What shows that graph is the clause
@@ -28,9 +30,9 @@ pub(crate) fn prove(
     lines: Lines<'_>,
 ) -> Result<Decision, Memory>
     requires job { IsJob job.now }
-    requires shown { IsShown job.now.graph.now job.now.task.conflicts shown }
-    requires proof { IsProof job.now.graph.now job.now.task.claim (cut_named shown) lines }
-    ensures { IfOk result (Decides job.now.graph.now job.now.task (cut_named shown.entry)) }
+    requires shown { IsShown job.now.graph.now job.now.task shown }
+    requires proof { IsProof job.now.graph.now job.now.task.claim (replacement_named shown) lines }
+    ensures { IfOk result (Decides job.now.graph.now job.now.task (replacement_named shown.entry)) }
 {
     let header = header(alloc, job, shown)?;
     let clauses = copied(alloc, shown.log)?;
@@ -44,19 +46,35 @@ pub(crate) fn prove(
     }))
 }
 
-// The header that names the cut as a block of the graph.
+// The header that names what takes the place of outputs.
 fn header(alloc: Global, job: &Job<'_>, shown: Shown<'_>) -> Result<Header, Memory>
-    ensures { IfOk result (λ h. h ≡ header_of job.now.graph.now job.now.task.version (cut_named shown.entry)) }
+    ensures { IfOk result (λ h. h ≡ header_of job.now.graph.now job.now.task.version (replacement_named shown.entry)) }
 {
+    let version = version_for(job.task.version, shown.by);
     let mut blocks = Vec::new(alloc);
-    if let Some(cut) = shown.cut {
-        blocks.push(block(alloc, job.graph, cut)?)?;
-    }
+    let beside = match shown.by {
+        Some(Lent::Adder(cut)) => {
+            blocks.push(block(alloc, job.graph, cut)?)?;
+            Beside::nothing(alloc)
+        }
+        Some(Lent::Beside(beside)) => beside_again(alloc, beside)?,
+        None => Beside::nothing(alloc),
+    };
     Ok(Header {
-        version: job.task.version,
+        version,
         blocks: BlockList::from_vec(blocks),
-        beside: Beside::nothing(alloc),
+        beside,
     })
+}
+
+// The version of what is written, where this is the greatest that may be.
+fn version_for(most: u8, by: Option<Lent<'_>>) -> u8
+    ensures { result ≡ version_for most (option_map lent by.entry) }
+{
+    match by {
+        Some(Lent::Beside(_)) => 3,
+        _ => { if most == 2 { 2 } else { 1 } }
+    }
 }
 
 // The block of a cut: the last carry is replaced too where it is that of the last column.
@@ -71,6 +89,18 @@ fn block(alloc: Global, graph: &Graph, cut: &Cut) -> Result<Block, Memory>
         pairs: Pairs::from_vec(pairs),
     };
     Ok(Block { cut, carry })
+}
+
+// The same gates and outputs once more.
+fn beside_again(alloc: Global, beside: &Beside) -> Result<Beside, Memory>
+    ensures { IfOk result (λ b. b ≡ beside.now) }
+{
+    let gates = Vec::from_slice(alloc, beside.gates.as_slice())?;
+    let outputs = Vec::from_slice(alloc, beside.outputs.as_slice())?;
+    Ok(Beside {
+        gates: Pairs::from_vec(gates),
+        outputs: Outputs::from_vec(outputs),
+    })
 }
 
 // The same lines once more. Each has a literal once.

@@ -1,7 +1,7 @@
 // Plans whose lines are drafted: what is drafted comes from a heuristic, and the lines that are written of it decide.
 ghost use Rattle.std.specs.Prelude.{IfOk, IfSome};
 ghost use Rattle.frontier_core.specs.Plan.{IsPlan};
-ghost use Rattle.joint_prover.specs.Endings.{Decides, IsJob, IsShown, cut_named};
+ghost use Rattle.joint_prover.specs.Endings.{Decides, IsJob, IsShown, replacement_named};
 
 use crate::decision::Decision;
 use crate::reduction::{end_plan, start_lines};
@@ -25,9 +25,9 @@ pub(crate) fn decide_by_drafts<'a>(
     budget: u64,
 ) -> Result<Option<Decision>, Memory>
     requires job { IsJob job.now }
-    requires shown { IsShown job.now.graph.now job.now.task.conflicts shown }
+    requires shown { IsShown job.now.graph.now job.now.task shown }
     ensures { IfOk result (λ d. IfSome d
-        (Decides job.now.graph.now job.now.task (cut_named shown.entry))) }
+        (Decides job.now.graph.now job.now.task (replacement_named shown.entry))) }
 {
     let plan = column_plan(alloc, order, shown.extended)?;
     let drafts = draft_plan(alloc, shown.extended, job.operands, plan.steps(), budget)?;
@@ -46,10 +46,10 @@ pub(crate) fn decide_by_lines<'a>(
     drafts: &[Draft],
 ) -> Result<Option<Decision>, Memory>
     requires job { IsJob job.now }
-    requires shown { IsShown job.now.graph.now job.now.task.conflicts shown }
+    requires shown { IsShown job.now.graph.now job.now.task shown }
     requires plan { IsPlan shown.extended.now plan.now.steps }
     ensures { IfOk result (λ d. IfSome d
-        (Decides job.now.graph.now job.now.task (cut_named shown.entry))) }
+        (Decides job.now.graph.now job.now.task (replacement_named shown.entry))) }
 {
     let mut lines = start_lines(alloc, job, shown)?;
     let Some((poly, id)) = write_drafts(alloc, &mut lines, drafts)? else {

@@ -1,25 +1,25 @@
 // What plans that ended decide, and whether a checker takes the pair that they come to.
 ghost use Rattle.std.specs.Prelude.{◌≡◌, true, false, None};
 ghost use Rattle.mv_text.specs.LineReading.{lengths_of};
-ghost use Rattle.joint_prover.specs.Endings.{HasWritable, IsMeasured, IsShort, first_short, is_settled, over_cut, shorter};
+ghost use Rattle.joint_prover.specs.Endings.{HasWritable, IsMeasured, IsShort, first_short, is_settled, over_replacement, shorter};
 
 use crate::decision::Decision;
+use crate::replacement::Replacement;
 use mv_desk::Limits;
 use pair_limits::first_too_long;
-use ripple_graft::Cut;
 
 /// What a plan that ended decides.
 #[derive(Drop)]
 pub(crate) struct Ended {
     pub(crate) decision: Decision,
-    /// The cut of the plan's graph, where that was found by values.
-    pub(crate) found: Option<Cut>,
+    /// What takes the place of outputs in the plan's graph, where that was found by values.
+    pub(crate) found: Option<Replacement>,
     /// Whether it has a pair that is past the limits, which no checker takes.
     pub(crate) is_long: bool,
 }
 
 impl Ended {
-    /// What was decided by a plan that is over no cut that was found.
+    /// What was decided by a plan that is over nothing that was found.
     pub(crate) fn of(decision: Decision, limits: &Limits) -> Ended
         requires { HasWritable decision }
         ensures decision { result.decision ≡ decision }
@@ -34,9 +34,9 @@ impl Ended {
         }
     }
 
-    /// The same over the graph with the adder of a cut that was found.
-    pub(crate) fn over(self, cut: Cut) -> Ended
-        ensures { result ≡ over_cut cut self }
+    /// The same over the graph with what was found.
+    pub(crate) fn over(self, found: Replacement) -> Ended
+        ensures { result ≡ over_replacement found self }
     {
         let Ended {
             decision,
@@ -45,7 +45,7 @@ impl Ended {
         } = self;
         Ended {
             decision,
-            found: Some(cut),
+            found: Some(found),
             is_long,
         }
     }

@@ -5,9 +5,10 @@ ghost use Rattle.graph_core.specs.Graph.Operands.{AreInRange, Sides};
 ghost use Rattle.stage_rewriter.specs.Rewriting.{IsRewriting};
 ghost use Rattle.joint_prover.specs.Notes.{note_of, rewriting_note_of};
 
+use crate::replacement::Replacement;
 use cdcl_solver::Log;
 use graph_core::Numbers;
-use ripple_graft::Cut;
+use ripple_graft::{Beside, Cut};
 use stage_rewriter::Rewriting;
 
 /// What became of putting a ripple-carry adder in place of a graph's final stage.
@@ -24,15 +25,23 @@ pub enum Note {
     /// At a cut that was found by the values of its variables the adder's outputs are the graph's on every evaluation,
     /// and a plan over the graph with it was tried.
     Found(Cut),
+    /// With these gates beside the graph and outputs in place of its own, each new output is the old one on every
+    /// evaluation, and a plan over the graph with them was tried.
+    Beside(Beside),
 }
 
-/// The note: a cut that was found, where a plan over the graph with its adder gave the verdict, or else what came of
-/// the rewriting. Neither the graph with the adder is kept nor the lines that show its goals.
-pub(crate) fn make_note(has_addend: bool, rewritten: Rewriting<'_>, found: Option<Cut>) -> Note
+/// The note: what was found, where a plan over the graph with it gave the verdict, or else what came of the rewriting.
+/// Neither the graph with the adder is kept nor the lines that show its goals.
+pub(crate) fn make_note(
+    has_addend: bool,
+    rewritten: Rewriting<'_>,
+    found: Option<Replacement>,
+) -> Note
     ensures { result ≡ note_of has_addend rewritten.entry found }
 {
     match found {
-        Some(cut) => Note::Found(cut),
+        Some(Replacement::Adder(cut)) => Note::Found(cut),
+        Some(Replacement::Beside(beside)) => Note::Beside(beside),
         None => rewriting_note(has_addend, rewritten),
     }
 }

@@ -1,11 +1,14 @@
 // The order of plans: what is tried over which graph, with which budget, until one decides.
 ghost use Rattle.std.specs.Prelude.{◌≡◌, ◌≤◌, ◌++◌, ◌∷◌, [], Some, IfOk, IfSome, IsNone, option_map};
 ghost use Rattle.frontier_core.specs.LastFrontier.{AgreeEverywhere};
+ghost use Rattle.graph_core.specs.Graph.Operands.{AreInRange};
+ghost use Rattle.stage_rewriter.specs.Placing.{IsShownBeside};
 ghost use Rattle.stage_rewriter.specs.Rewriting.{IsShownRewriting};
+ghost use Rattle.joint_prover.specs.declared.replacement.Replacement.TheVariants.{Adder, Beside};
 ghost use Rattle.joint_prover.specs.declared.verdict.Tried.{Tried as TriedPlan};
 ghost use Rattle.joint_prover.specs.Decisions.{IsDecision};
-ghost use Rattle.joint_prover.specs.Endings.{AreLeast, Decides, IsEnd, IsEndedFor, IsEndedOver, IsJob, IsShown, cut_named, cut_of_found, over_cut};
-ghost use Rattle.joint_prover.specs.Notes.{IsFoundCut};
+ghost use Rattle.joint_prover.specs.Endings.{AreLeast, Decides, IsEnd, IsEndedFor, IsEndedOver, IsJob, IsShown, replacement_named, replacement_of_found, over_replacement};
+ghost use Rattle.joint_prover.specs.Notes.{IsFound};
 ghost use Rattle.joint_prover.specs.Tries.{IsTried};
 ghost use Rattle.joint_prover.specs.Verdicts.{HaveManyOnes};
 
@@ -14,14 +17,17 @@ use crate::decision::{Decision, Outcome};
 use crate::drafted::decide_by_drafts;
 use crate::ended::{Ended, first_short, is_settled};
 use crate::reduction::{frontier_after, reduce_along, reduce_plainly};
+use crate::reference::{Compared, compare};
+use crate::replacement::Replacement;
 use crate::shortened::shortened;
 use crate::shown::{Found, Shown, find_cut};
 use crate::task::Job;
 use crate::verdict::Tried;
 use graph_core::{Memory, Numbers, Sign};
 use operand_search::{least_seen, least_within, most_ones_within};
-use ripple_graft::Cut;
+use reference_guesser::Guesses;
 use slice_planner::Order;
+use stage_rewriter::Placed;
 use std::alloc::Global;
 
 // How a plan's lines come about.
@@ -53,6 +59,16 @@ const FOUND: [Try; 5] = [
 // What comes there at last.
 const FOUND_AT_LAST: [Try; 1] = [(Lines::Reduced, Order::Slices, WHOLE)];
 
+// What comes over the graph with a reference beside it.
+const BESIDE: [Try; 3] = [
+    (Lines::Reduced, Order::Slices, 1),
+    (Lines::Drafted, Order::Slices, 1),
+    (Lines::Drafted, Order::SumsLast, 16),
+];
+
+// How many references are compared with the graph.
+const REFERENCES: usize = 3;
+
 // What comes before any whole budget, over the same graph as what comes first.
 const DRAFTED: [Try; 1] = [(Lines::Drafted, Order::SumsLast, 16)];
 
@@ -63,19 +79,20 @@ const MORE: u64 = 1 << 29;
 // What it may cost where the graph is known to be wrong, and no plan tells where: at 64 bits, those with four ones.
 const LATE: u64 = 1 << 35;
 
-/// What the plans decide, and the cut that was found where a plan over the graph with its adder decided it. A pair that
-/// is past the limits is taken only where no plan with a small budget comes to one that isn't; then none with the whole
-/// budget is tried.
+/// What the plans decide, and what was found where a plan over the graph with it decided that. A pair that is past the
+/// limits is taken only where no plan with a small budget comes to one that isn't; then none with the whole budget is
+/// tried.
 pub(crate) fn decide_by_plans(
     alloc: Global,
     job: &Job<'_>,
-) -> Result<(Decision, Option<Cut>), Memory>
+) -> Result<(Decision, Option<Replacement>), Memory>
     requires { IsJob job.now }
-    ensures found { IfOk result (λ r. IfSome r.1 (IsFoundCut job.now.graph.now)) }
+    ensures found { IfOk result (λ r. IfSome r.1 (IsFound job.now.graph.now)) }
     ensures decision { IfOk result (λ r. IsDecision job.now.graph.now job.now.task
-        (cut_of_found (cut_named job.now.used) r.1) r.0) }
+        (replacement_of_found (replacement_named job.now.used) r.1) r.0) }
 {
-    if let Some(ended) = decide_early(alloc, job)? {
+    let mut differing = job.differing;
+    if let Some(ended) = decide_early(alloc, job, &mut differing)? {
         let Ended {
             decision,
             found,
@@ -83,35 +100,50 @@ pub(crate) fn decide_by_plans(
         } = ended;
         return Ok((decision, found));
     }
-    let decision = decide_at_last(alloc, job)?;
+    let job = Job { differing, ..*job };
+    let decision = decide_at_last(alloc, &job)?;
     Ok((decision, None))
 }
 
-// What plans decide before the whole budget is spent on the graphs of the first plan and of the last.
-fn decide_early(alloc: Global, job: &Job<'_>) -> Result<Option<Ended>, Memory>
-    requires { IsJob job.now }
-    ensures { IfOk result (λ e. IfSome e (IsEndedFor job.now)) }
+// What plans decide before the whole budget is spent on the graphs of the first plan and of the last. Numbers at which
+// the graph is seen to be wrong on the way are kept.
+fn decide_early(
+    alloc: Global,
+    job: &Job<'_>,
+    differing: &mut Option<Numbers>,
+) -> Result<Option<Ended>, Memory>
+    requires job { IsJob job.now }
+    requires differing { IfSome differing.old (AreInRange job.now.operands.now) }
+    ensures ended { IfOk result (λ e. IfSome e (IsEndedFor job.now)) }
+    ensures differing { IfSome differing.new (AreInRange job.now.operands.now) }
 {
     let soon = decide_soon(alloc, job)?;
     if is_settled(&soon) {
         return Ok(soon);
     }
-    let later = decide_by_values(alloc, job, soon.is_none())?;
+    let later = decide_by_values(alloc, job, soon.is_none(), differing)?;
     Ok(first_short(soon, later))
 }
 
 // What plans decide over the graph with an adder that is found by values, and over the graph of the first plan lines
 // that are drafted. The whole budget is spent only where none has come to a pair, before them neither.
-fn decide_by_values(alloc: Global, job: &Job<'_>, is_open: bool) -> Result<Option<Ended>, Memory>
-    requires { IsJob job.now }
-    ensures { IfOk result (λ e. IfSome e (IsEndedFor job.now)) }
+fn decide_by_values(
+    alloc: Global,
+    job: &Job<'_>,
+    is_open: bool,
+    differing: &mut Option<Numbers>,
+) -> Result<Option<Ended>, Memory>
+    requires job { IsJob job.now }
+    requires differing { IfSome differing.old (AreInRange job.now.operands.now) }
+    ensures ended { IfOk result (λ e. IfSome e (IsEndedFor job.now)) }
+    ensures differing { IfSome differing.new (AreInRange job.now.operands.now) }
 {
     let (before, between) = drafted(job);
     let first = decide_over(alloc, job, job.used, before)?;
     if is_settled(&first) {
         return Ok(first);
     }
-    let later = decide_after(alloc, job, between, is_open && first.is_none())?;
+    let later = decide_after(alloc, job, between, is_open && first.is_none(), differing)?;
     Ok(first_short(first, later))
 }
 
@@ -120,49 +152,193 @@ fn decide_by_values(alloc: Global, job: &Job<'_>, is_open: bool) -> Result<Optio
 fn drafted(job: &Job<'_>) -> (&'static [Try], &'static [Try]) {
     let claim = job.task.claim;
     let is_product = !claim.widths.has_addend() && matches!(claim.sign, Sign::Unsigned);
-    if job.used.cut.is_some() && !is_product {
+    if job.used.by.is_some() && !is_product {
         (&DRAFTED, &[])
     } else {
         (&[], &DRAFTED)
     }
 }
 
-// What plans decide over the graph with an adder that is found by values, if one is, and over that of the first plan.
+// What plans decide over the graph with an adder that is found by values, if one is, and over other graphs.
 fn decide_after(
     alloc: Global,
     job: &Job<'_>,
     between: &[Try],
     is_open: bool,
+    differing: &mut Option<Numbers>,
 ) -> Result<Option<Ended>, Memory>
-    requires { IsJob job.now }
-    ensures { IfOk result (λ e. IfSome e (IsEndedFor job.now)) }
+    requires job { IsJob job.now }
+    requires differing { IfSome differing.old (AreInRange job.now.operands.now) }
+    ensures ended { IfOk result (λ e. IfSome e (IsEndedFor job.now)) }
+    ensures differing { IfSome differing.new (AreInRange job.now.operands.now) }
 {
     match find_cut(alloc, job.graph, job.operands, job.task.conflicts)? {
-        Some(found) => decide_with(alloc, job, found, between, is_open),
-        None => decide_over(alloc, job, job.used, between),
+        Some(found) => decide_with(alloc, job, found, between, is_open, differing),
+        None => decide_further(alloc, job, between, differing),
     }
 }
 
-// What plans decide over the graph with the adder that was found, before and after some over the graph of the first
-// plan.
+// What plans decide over the graph of the first plan, and over the graph with a reference beside it.
+fn decide_further(
+    alloc: Global,
+    job: &Job<'_>,
+    between: &[Try],
+    differing: &mut Option<Numbers>,
+) -> Result<Option<Ended>, Memory>
+    requires job { IsJob job.now }
+    requires differing { IfSome differing.old (AreInRange job.now.operands.now) }
+    ensures ended { IfOk result (λ e. IfSome e (IsEndedFor job.now)) }
+    ensures differing { IfSome differing.new (AreInRange job.now.operands.now) }
+{
+    let first = decide_over(alloc, job, job.used, between)?;
+    if is_settled(&first) {
+        return Ok(first);
+    }
+    let later = decide_beside(alloc, job, differing)?;
+    Ok(first_short(first, later))
+}
+
+// What plans decide over the graph with a reference beside it that is shown to be equal. Version 3 says that alone.
+fn decide_beside(
+    alloc: Global,
+    job: &Job<'_>,
+    differing: &mut Option<Numbers>,
+) -> Result<Option<Ended>, Memory>
+    requires job { IsJob job.now }
+    requires differing { IfSome differing.old (AreInRange job.now.operands.now) }
+    ensures ended { IfOk result (λ e. IfSome e (IsEndedFor job.now)) }
+    ensures differing { IfSome differing.new (AreInRange job.now.operands.now) }
+{
+    if job.task.version != 3 {
+        return Ok(None);
+    }
+    let mut guesses = Guesses::new(alloc, job.graph, job.operands, REFERENCES)?;
+    let mut wrong = None;
+    let ended = decide_by_guesses(alloc, job, &mut guesses, &mut wrong)?;
+    if wrong.is_some() {
+        *differing = wrong;
+    }
+    Ok(ended)
+}
+
+// The same for these references, each with half as many conflicts as the one before, until one settles it or shows the
+// graph to be wrong.
+fn decide_by_guesses(
+    alloc: Global,
+    job: &Job<'_>,
+    guesses: &mut Guesses,
+    wrong: &mut Option<Numbers>,
+) -> Result<Option<Ended>, Memory>
+    requires job { IsJob job.now }
+    requires version { job.now.task.version ≡ 3 }
+    requires wrong { IfSome wrong.old (AreInRange job.now.operands.now) }
+    ensures ended { IfOk result (λ e. IfSome e (IsEndedFor job.now)) }
+    ensures wrong { IfSome wrong.new (AreInRange job.now.operands.now) }
+{
+    let mut first = None;
+    let mut left = job.task.conflicts;
+    for _try in 0..REFERENCES {
+        let ended = decide_by_guess(alloc, job, guesses, left, wrong)?;
+        first = first_short(first, ended);
+        if is_settled(&first) || wrong.is_some() {
+            return Ok(first);
+        }
+        left /= 2;
+    }
+    Ok(first)
+}
+
+// The same for one reference, with so many conflicts.
+fn decide_by_guess(
+    alloc: Global,
+    job: &Job<'_>,
+    guesses: &mut Guesses,
+    conflicts: u64,
+    wrong: &mut Option<Numbers>,
+) -> Result<Option<Ended>, Memory>
+    requires job { IsJob job.now }
+    requires version { job.now.task.version ≡ 3 }
+    requires few { conflicts ≤ job.now.task.conflicts }
+    requires wrong { IfSome wrong.old (AreInRange job.now.operands.now) }
+    ensures ended { IfOk result (λ e. IfSome e (IsEndedFor job.now)) }
+    ensures wrong { IfSome wrong.new (AreInRange job.now.operands.now) }
+{
+    match compare(alloc, job, guesses, conflicts)? {
+        Compared::Equal(placed) => decide_with_reference(alloc, job, placed),
+        Compared::Wrong(numbers) => {
+            *wrong = Some(numbers);
+            Ok(None)
+        }
+        Compared::Open => Ok(None),
+    }
+}
+
+// What plans decide over the graph with what is placed beside it.
+fn decide_with_reference<'a>(
+    alloc: Global,
+    job: &Job<'a>,
+    placed: Placed<'a>,
+) -> Result<Option<Ended>, Memory>
+    requires job { IsJob job.now }
+    requires version { job.now.task.version ≡ 3 }
+    requires shown { IsShownBeside job.now.graph.now job.now.task.conflicts placed }
+    requires agree { AgreeEverywhere placed.extended }
+    ensures { IfOk result (λ e. IfSome e (IsEndedFor job.now)) }
+{
+    let ended = decide_over_placed(alloc, job, &placed)?;
+    Ok(with_beside(ended, placed))
+}
+
+// What the first of the plans over it decides that keeps to its budget.
+fn decide_over_placed<'a>(
+    alloc: Global,
+    job: &Job<'a>,
+    placed: &Placed<'a>,
+) -> Result<Option<Ended>, Memory>
+    requires job { IsJob job.now }
+    requires version { job.now.task.version ≡ 3 }
+    requires shown { IsShownBeside job.now.graph.now job.now.task.conflicts placed.now }
+    requires agree { AgreeEverywhere placed.now.extended }
+    ensures { IfOk result (λ e. IfSome e (IsEndedOver job.now (Some (Beside placed.now.beside)))) }
+{
+    let shown = Shown::with_beside(placed);
+    // the job is lent again, since what is placed lives shorter
+    decide_over(alloc, &*job, shown, &BESIDE)
+}
+
+// What plans over it have decided, with it.
+fn with_beside(ended: Option<Ended>, placed: Placed<'_>) -> Option<Ended>
+    ensures { result ≡ option_map (over_replacement (Beside placed.entry.beside)) ended }
+{
+    let Placed { beside, .. } = placed;
+    match ended {
+        Some(ended) => Some(ended.over(Replacement::Beside(beside))),
+        None => None,
+    }
+}
+
+// What plans decide over the graph with the adder that was found, before and after some over other graphs.
 fn decide_with<'a>(
     alloc: Global,
     job: &Job<'a>,
     found: Found<'a>,
     between: &[Try],
     is_open: bool,
+    differing: &mut Option<Numbers>,
 ) -> Result<Option<Ended>, Memory>
     requires job { IsJob job.now }
+    requires differing { IfSome differing.old (AreInRange job.now.operands.now) }
     requires shown { IsShownRewriting job.now.graph.now job.now.task.conflicts
         found.cut found.extended found.log.lines }
     requires agree { AgreeEverywhere found.extended }
-    ensures { IfOk result (λ e. IfSome e (IsEndedFor job.now)) }
+    ensures ended { IfOk result (λ e. IfSome e (IsEndedFor job.now)) }
+    ensures differing { IfSome differing.new (AreInRange job.now.operands.now) }
 {
     let first = decide_over_found(alloc, job, &found, &FOUND)?;
     if is_settled(&first) {
         return Ok(with_cut(first, found));
     }
-    let second = decide_over(alloc, job, job.used, between)?;
+    let second = decide_further(alloc, job, between, differing)?;
     if is_open && first.is_none() && second.is_none() {
         let last = decide_over_found(alloc, job, &found, &FOUND_AT_LAST)?;
         return Ok(with_cut(last, found));
@@ -181,7 +357,7 @@ fn decide_over_found<'a>(
     requires shown { IsShownRewriting job.now.graph.now job.now.task.conflicts
         found.now.cut found.now.extended found.now.log.lines }
     requires agree { AgreeEverywhere found.now.extended }
-    ensures { IfOk result (λ e. IfSome e (IsEndedOver job.now (Some found.now.cut))) }
+    ensures { IfOk result (λ e. IfSome e (IsEndedOver job.now (Some (Adder found.now.cut)))) }
 {
     let shown = Shown::with_adder(&found.cut, &found.extended, &found.log);
     // the job is lent again, since what was found lives shorter
@@ -190,11 +366,11 @@ fn decide_over_found<'a>(
 
 // What plans over the graph with an adder that was found have decided, with its cut.
 fn with_cut(ended: Option<Ended>, found: Found<'_>) -> Option<Ended>
-    ensures { result ≡ option_map (over_cut found.entry.cut) ended }
+    ensures { result ≡ option_map (over_replacement (Adder found.entry.cut)) ended }
 {
     let Found { cut, .. } = found;
     match ended {
-        Some(ended) => Some(ended.over(cut)),
+        Some(ended) => Some(ended.over(Replacement::Adder(cut))),
         None => None,
     }
 }
@@ -221,7 +397,7 @@ fn decide_soon(alloc: Global, job: &Job<'_>) -> Result<Option<Ended>, Memory>
 // over the graph with the adder that is used, if any, the slice plan over the graph alone, and the plain plan.
 fn decide_at_last(alloc: Global, job: &Job<'_>) -> Result<Decision, Memory>
     requires { IsJob job.now }
-    ensures { IfOk result (IsDecision job.now.graph.now job.now.task (cut_named job.now.used)) }
+    ensures { IfOk result (IsDecision job.now.graph.now job.now.task (replacement_named job.now.used)) }
 {
     if let Some(decision) = wrong_on_few(alloc, job, MORE)? {
         return Ok(decision);
@@ -230,7 +406,7 @@ fn decide_at_last(alloc: Global, job: &Job<'_>) -> Result<Decision, Memory>
     if let Some(decision) = try_whole(alloc, job, job.used, &mut tried)? {
         return Ok(decision);
     }
-    if job.used.cut.is_some() {
+    if job.used.by.is_some() {
         if let Some(decision) = try_whole(alloc, job, job.alone, &mut tried)? {
             return Ok(decision);
         }
@@ -258,8 +434,8 @@ fn decide_over<'a>(
     plans: &[Try],
 ) -> Result<Option<Ended>, Memory>
     requires job { IsJob job.now }
-    requires shown { IsShown job.now.graph.now job.now.task.conflicts shown }
-    ensures { IfOk result (λ e. IfSome e (IsEndedOver job.now (cut_named shown.entry))) }
+    requires shown { IsShown job.now.graph.now job.now.task shown }
+    ensures { IfOk result (λ e. IfSome e (IsEndedOver job.now (replacement_named shown.entry))) }
 {
     let mut first = None;
     for &plan in plans {
@@ -280,9 +456,9 @@ fn with_short_lines<'a>(
     ended: Option<Ended>,
 ) -> Option<Ended>
     requires job { IsJob job.now }
-    requires shown { IsShown job.now.graph.now job.now.task.conflicts shown }
-    requires over { IfSome ended (IsEndedOver job.now (cut_named shown)) }
-    ensures { IfSome result (IsEndedOver job.now (cut_named shown.entry)) }
+    requires shown { IsShown job.now.graph.now job.now.task shown }
+    requires over { IfSome ended (IsEndedOver job.now (replacement_named shown)) }
+    ensures { IfSome result (IsEndedOver job.now (replacement_named shown.entry)) }
 {
     match ended {
         Some(ended) => {
@@ -301,8 +477,8 @@ fn decide_by<'a>(
     plan: Try,
 ) -> Result<Option<Ended>, Memory>
     requires job { IsJob job.now }
-    requires shown { IsShown job.now.graph.now job.now.task.conflicts shown }
-    ensures { IfOk result (λ e. IfSome e (IsEndedOver job.now (cut_named shown.entry))) }
+    requires shown { IsShown job.now.graph.now job.now.task shown }
+    ensures { IfOk result (λ e. IfSome e (IsEndedOver job.now (replacement_named shown.entry))) }
 {
     let (lines, order, times) = plan;
     let small = small_budget(job.operands.a_width().max(job.operands.b_width()));
@@ -326,10 +502,10 @@ fn decide_along<'a>(
     budget: u64,
 ) -> Result<Option<Decision>, Memory>
     requires job { IsJob job.now }
-    requires shown { IsShown job.now.graph.now job.now.task.conflicts shown }
+    requires shown { IsShown job.now.graph.now job.now.task shown }
     requires within { budget ≤ job.now.task.budget }
     ensures { IfOk result (λ d. IfSome d
-        (Decides job.now.graph.now job.now.task (cut_named shown.entry))) }
+        (Decides job.now.graph.now job.now.task (replacement_named shown.entry))) }
 {
     match reduce_along(alloc, job, shown, order, budget)? {
         Outcome::Decided(decision) => Ok(Some(decision)),
@@ -345,17 +521,17 @@ fn try_whole<'a>(
     tried: &mut Vec<Tried>,
 ) -> Result<Option<Decision>, Memory>
     requires job { IsJob job.now }
-    requires shown { IsShown job.now.graph.now job.now.task.conflicts shown }
+    requires shown { IsShown job.now.graph.now job.now.task shown }
     ensures some { IfOk result (λ d. IfSome d
-        (IsEnd job.now.graph.now job.now.task (cut_named shown.entry))) }
+        (IsEnd job.now.graph.now job.now.task (replacement_named shown.entry))) }
     ensures none { IfOk result (λ d. IsNone d → (last : TriedPlan) ×
         (tried.new.items ≡ tried.old.items ++ last ∷ []) ×
-        IsTried job.now.graph.now job.now.task.claim job.now.task.budget (cut_named shown.entry) last) }
+        IsTried job.now.graph.now job.now.task.claim job.now.task.budget (replacement_named shown.entry) last) }
 {
     match reduce_along(alloc, job, shown, Order::Slices, job.task.budget)? {
         Outcome::Decided(decision) => Ok(Some(shortened(alloc, job, shown, decision))),
         Outcome::Passed { plan, step, size } => {
-            let last = frontier_after(alloc, &plan, step, size, shown.cut.is_some())?;
+            let last = frontier_after(alloc, &plan, step, size, shown.by.is_some())?;
             tried.push(last)?;
             Ok(None)
         }
@@ -372,7 +548,7 @@ fn small_budget(bits: u32) -> u64 {
 fn seen_wrong(alloc: Global, job: &Job<'_>) -> Result<Option<Decision>, Memory>
     requires { IsJob job.now }
     ensures { IfOk result (λ d. IfSome d
-        (IsDecision job.now.graph.now job.now.task (cut_named job.now.used))) }
+        (IsDecision job.now.graph.now job.now.task (replacement_named job.now.used))) }
 {
     let most = most_ones_within(job.graph, MORE);
     let numbers = least_seen(alloc, job.graph, job.operands, most)?;
@@ -384,7 +560,7 @@ fn seen_wrong(alloc: Global, job: &Job<'_>) -> Result<Option<Decision>, Memory>
 fn wrong_on_few(alloc: Global, job: &Job<'_>, work: u64) -> Result<Option<Decision>, Memory>
     requires { IsJob job.now }
     ensures some { IfOk result (λ d. IfSome d
-        (IsDecision job.now.graph.now job.now.task (cut_named job.now.used))) }
+        (IsDecision job.now.graph.now job.now.task (replacement_named job.now.used))) }
     ensures none { IfOk result (λ d. IsNone d → HaveManyOnes job.now.graph.now job.now.operands.now.claim) }
 {
     let most = most_ones_within(job.graph, work);
@@ -401,7 +577,7 @@ fn wrong_at(
     requires job { IsJob job.now }
     requires least { IfSome numbers (AreLeast job.now.graph.now job.now.operands.now) }
     ensures some { IfOk result (λ d. IfSome d
-        (IsDecision job.now.graph.now job.now.task (cut_named job.now.used))) }
+        (IsDecision job.now.graph.now job.now.task (replacement_named job.now.used))) }
     ensures none { IfOk result (λ d. IsNone d → IsNone numbers) }
 {
     match numbers {

@@ -10,8 +10,8 @@ ghost use Rattle.mv_desk.specs.View.{KeepsTelling, OpensFiles};
 ghost use Rattle.mv_text.specs.LineReading.{lengths_of};
 ghost use Rattle.command_core.specs.declared.task.Task.{Task as TaskOf};
 ghost use Rattle.joint_prover.specs.Budgets.{ProvesEnough};
-ghost use Rattle.joint_prover.specs.Notes.{IsNote, cut_of};
-ghost use Rattle.joint_prover.specs.Pairs.{IsVersion};
+ghost use Rattle.joint_prover.specs.Notes.{IsNote, replacement_of};
+ghost use Rattle.joint_prover.specs.Replacements.{IsVersion};
 ghost use Rattle.joint_prover.specs.Decisions.{IsDecision};
 ghost use Rattle.joint_prover.specs.Endings.{IsTold};
 ghost use Rattle.joint_prover.specs.Verdicts.{IsVerdict};
@@ -70,7 +70,7 @@ pub fn decide(
 ) -> Result<(Decision, Note), Memory>
     requires sized { IsSizedAs (profile_of task.now.claim.widths) graph.now }
     requires version { IsVersion task.now.version }
-    ensures decision { IfOk result (λ r. IsDecision graph.now task.now (cut_of r.1) r.0) }
+    ensures decision { IfOk result (λ r. IsDecision graph.now task.now (replacement_of r.1) r.0) }
     ensures note { IfOk result (λ r. IsNote graph.now task.now.claim task.now.conflicts r.1) }
 {
     // without faults
@@ -103,7 +103,7 @@ fn tell<D: Desk>(
     limits: &Limits,
     names: &Names<&str>,
 ) -> (Verdict, Option<Note>)
-    requires { (g : Aig) × (task : TaskOf) × IfOk decided (λ r. IsDecision g task (cut_of r.1) r.0) }
+    requires { (g : Aig) × (task : TaskOf) × IfOk decided (λ r. IsDecision g task (replacement_of r.1) r.0) }
     ensures told { IfOk decided (λ r. IsTold (lengths_of limits.now) (files_of names.now)
         (D.seen desk.old) (D.seen desk.new) r.0 r.1 result.0 result.1) }
     ensures memory { OnErr decided (result ≡ (Stopped stop.Memory, None)) }

@@ -4,8 +4,9 @@ ghost use Rattle.frontier_core.specs.Plan.{nothing, taken};
 ghost use Rattle.graph_core.specs.Graph.Operands.{sides_for};
 ghost use Rattle.pac_writer.specs.Writing.{Made};
 ghost use Rattle.joint_prover.specs.Decisions.{IsDecision};
-ghost use Rattle.joint_prover.specs.Endings.{Decides, IsJob, IsOutcome, IsRemainder, IsShown, IsStart, IsTriedAt, cut_named};
-ghost use Rattle.joint_prover.specs.Tries.{AreTried, extended_by};
+ghost use Rattle.joint_prover.specs.Endings.{Decides, IsJob, IsOutcome, IsRemainder, IsShown, IsStart, IsTriedAt, replacement_named};
+ghost use Rattle.joint_prover.specs.Replacements.{extended_by};
+ghost use Rattle.joint_prover.specs.Tries.{AreTried};
 ghost use Rattle.joint_prover.specs.Verdicts.{HaveManyOnes};
 
 use crate::conclusion::{prove, refute};
@@ -33,9 +34,9 @@ pub(crate) fn reduce_along<'a>(
     budget: u64,
 ) -> Result<Outcome<'a>, Memory>
     requires job { IsJob job.now }
-    requires shown { IsShown job.now.graph.now job.now.task.conflicts shown }
+    requires shown { IsShown job.now.graph.now job.now.task shown }
     requires within { budget ≤ job.now.task.budget }
-    ensures { IfOk result (IsOutcome job.now.graph.now job.now.task (cut_named shown.entry) order budget) }
+    ensures { IfOk result (IsOutcome job.now.graph.now job.now.task (replacement_named shown.entry) order budget) }
 {
     let mut lines = start_lines(alloc, job, shown)?;
     let plan = column_plan(alloc, order, shown.extended)?;
@@ -57,8 +58,8 @@ pub(crate) fn reduce_plainly(
     requires job { IsJob job.now }
     requires many { HaveManyOnes job.now.graph.now job.now.operands.now.claim }
     requires tried { AreTried job.now.graph.now job.now.task.claim job.now.task.budget
-        (cut_named job.now.used) tried.items }
-    ensures { IfOk result (IsDecision job.now.graph.now job.now.task (cut_named job.now.used)) }
+        (replacement_named job.now.used) tried.items }
+    ensures { IfOk result (IsDecision job.now.graph.now job.now.task (replacement_named job.now.used)) }
 {
     let mut lines = start_lines(alloc, job, job.alone)?;
     let plan = plain_plan(alloc, job.alone.extended)?;
@@ -86,9 +87,9 @@ pub(crate) fn start_lines<'a>(
     shown: Shown<'a>,
 ) -> Result<Lines<'a>, Memory>
     requires job { IsJob job.now }
-    requires shown { IsShown job.now.graph.now job.now.task.conflicts shown }
+    requires shown { IsShown job.now.graph.now job.now.task shown }
     ensures start { IfOk result IsStart }
-    ensures extended { IfOk result (λ l. l.extended ≡ extended_by job.now.graph.now (cut_named shown.entry)) }
+    ensures extended { IfOk result (λ l. l.extended ≡ extended_by job.now.graph.now (replacement_named shown.entry)) }
     ensures sides { IfOk result (λ l. l.sides ≡ sides_for job.now.task.claim job.now.graph.now) }
 {
     let _gates = shown.extended.gates();
@@ -105,10 +106,10 @@ pub(crate) fn end_plan(
     id: u64,
 ) -> Result<Decision, Memory>
     requires job { IsJob job.now }
-    requires shown { IsShown job.now.graph.now job.now.task.conflicts shown }
+    requires shown { IsShown job.now.graph.now job.now.task shown }
     requires left { (start : Made) × IsStart start × (start.sides ≡ sides_for job.now.task.claim job.now.graph.now) ×
-        (start.extended ≡ extended_by job.now.graph.now (cut_named shown)) × IsRemainder start lines poly.now id }
-    ensures { IfOk result (Decides job.now.graph.now job.now.task (cut_named shown.entry)) }
+        (start.extended ≡ extended_by job.now.graph.now (replacement_named shown)) × IsRemainder start lines poly.now id }
+    ensures { IfOk result (Decides job.now.graph.now job.now.task (replacement_named shown.entry)) }
 {
     let _last = lines.last();
     match least(lines.terms(), poly, lines.operands()) {

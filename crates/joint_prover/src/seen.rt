@@ -24,8 +24,12 @@ pub(crate) fn see(alloc: Global, job: &Job<'_>) -> Result<Option<Difference>, Me
     }
 }
 
-// What is seen on these numbers.
-fn seen_at(alloc: Global, job: &Job<'_>, numbers: Numbers) -> Result<Option<Difference>, Memory>
+/// What is seen on these numbers.
+pub(crate) fn seen_at(
+    alloc: Global,
+    job: &Job<'_>,
+    numbers: Numbers,
+) -> Result<Option<Difference>, Memory>
     requires job { IsJob job.now }
     requires range { AreInRange job.now.operands.now numbers }
     ensures { IfOk result (λ seen. IfSome seen (IsSeen job.now.graph.now job.now.task.claim)) }

@@ -1,7 +1,7 @@
 // Pairs past the limits, whose long lines are written as several.
 ghost use Rattle.std.specs.Prelude.{IfOk, IfSome};
 ghost use Rattle.pair_core.specs.Texts.{CanBeWritten};
-ghost use Rattle.joint_prover.specs.Endings.{Decides, IsJob, IsShown, cut_named};
+ghost use Rattle.joint_prover.specs.Endings.{Decides, IsJob, IsShown, replacement_named};
 
 use crate::decision::Decision;
 use crate::drafted::decide_by_lines;
@@ -24,9 +24,9 @@ pub(crate) fn shortened<'a>(
     decision: Decision,
 ) -> Decision
     requires job { IsJob job.now }
-    requires shown { IsShown job.now.graph.now job.now.task.conflicts shown }
-    requires decides { Decides job.now.graph.now job.now.task (cut_named shown) decision }
-    ensures { Decides job.now.graph.now job.now.task (cut_named shown.entry) result }
+    requires shown { IsShown job.now.graph.now job.now.task shown }
+    requires decides { Decides job.now.graph.now job.now.task (replacement_named shown) decision }
+    ensures { Decides job.now.graph.now job.now.task (replacement_named shown.entry) result }
 {
     // without memory for it the first pair stays
     match written_anew(alloc, job, shown, &decision) {
@@ -43,10 +43,10 @@ fn written_anew<'a>(
     decision: &Decision,
 ) -> Result<Option<Decision>, Memory>
     requires job { IsJob job.now }
-    requires shown { IsShown job.now.graph.now job.now.task.conflicts shown }
-    requires decides { Decides job.now.graph.now job.now.task (cut_named shown) decision.now }
+    requires shown { IsShown job.now.graph.now job.now.task shown }
+    requires decides { Decides job.now.graph.now job.now.task (replacement_named shown) decision.now }
     ensures { IfOk result (λ d. IfSome d
-        (Decides job.now.graph.now job.now.task (cut_named shown.entry))) }
+        (Decides job.now.graph.now job.now.task (replacement_named shown.entry))) }
 {
     if !has_long_pair(decision, &job.limits) {
         return Ok(None);
@@ -68,10 +68,10 @@ fn split<'a>(
     decision: &Decision,
 ) -> Result<Option<Decision>, Memory>
     requires job { IsJob job.now }
-    requires shown { IsShown job.now.graph.now job.now.task.conflicts shown }
-    requires decides { Decides job.now.graph.now job.now.task (cut_named shown) decision.now }
+    requires shown { IsShown job.now.graph.now job.now.task shown }
+    requires decides { Decides job.now.graph.now job.now.task (replacement_named shown) decision.now }
     ensures { IfOk result (λ d. IfSome d
-        (Decides job.now.graph.now job.now.task (cut_named shown.entry))) }
+        (Decides job.now.graph.now job.now.task (replacement_named shown.entry))) }
 {
     match decision {
         Decision::Proved(pair) => split_pair(alloc, job, shown, pair),
@@ -86,10 +86,10 @@ fn split_pair<'a>(
     pair: &Pair,
 ) -> Result<Option<Decision>, Memory>
     requires job { IsJob job.now }
-    requires shown { IsShown job.now.graph.now job.now.task.conflicts shown }
+    requires shown { IsShown job.now.graph.now job.now.task shown }
     requires written { CanBeWritten pair.now }
     ensures { IfOk result (λ d. IfSome d
-        (Decides job.now.graph.now job.now.task (cut_named shown.entry))) }
+        (Decides job.now.graph.now job.now.task (replacement_named shown.entry))) }
 {
     // with one term more a line stays within the limit
     let most = job.limits.line / 4 * 3;

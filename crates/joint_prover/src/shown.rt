@@ -1,68 +1,87 @@
 // The graphs that plans run over: the graph that was read, alone or with an adder at a cut that a solver has shown.
-ghost use Rattle.std.specs.Prelude.{◌≡◌, ℕ, None, Some, IfOk, IfSome};
+ghost use Rattle.std.specs.Prelude.{◌≡◌, None, Some, IfOk, IfSome};
+ghost use Rattle.command_core.specs.declared.task.Task.{Task as TaskOf};
 ghost use Rattle.frontier_core.specs.LastFrontier.{AgreeEverywhere};
 ghost use Rattle.graph_core.specs.Graph.Extended.{AgreeOnColumns, without_cut};
 ghost use Rattle.graph_core.specs.Graph.{Aig, IsWellFormed};
 ghost use Rattle.graph_core.specs.Graph.Operands.{AreOperandsOf, HasShapeFor, Sides};
 ghost use Rattle.mv_fact.specs.Always.{Always};
+ghost use Rattle.stage_rewriter.specs.Placing.{IsShownBeside};
 ghost use Rattle.stage_rewriter.specs.Rewriting.{Agrees, IsRewriting, IsShownRewriting};
-ghost use Rattle.joint_prover.specs.Endings.{IsShown, cut_named};
-ghost use Rattle.joint_prover.specs.Notes.{cut_in};
+ghost use Rattle.joint_prover.specs.declared.replacement.Replacement.TheVariants.{Adder, Beside};
+ghost use Rattle.joint_prover.specs.Endings.{IsShown, replacement_named};
+ghost use Rattle.joint_prover.specs.Notes.{replacement_in};
 
+use crate::replacement::Lent;
 use cdcl_solver::Log;
 use clause_core::Line;
 use graph_core::{Graph, Memory, Operands};
 use ripple_graft::{Cut, Extended};
 use stage_guesser::candidate;
-use stage_rewriter::{Rewriting, rewrite_at};
+use stage_rewriter::{Placed, Rewriting, rewrite_at};
 use std::alloc::Global;
 
 // How many cuts are looked at.
 const TRIES: u32 = 8;
 
-/// An extended graph, the cut where its adder is, if any, and the lines that show that its outputs are the graph's.
+/// An extended graph, what takes the place of its outputs, if anything, and the lines that show that these are the
+/// graph's.
 #[derive(Clone, Copy)]
 pub(crate) struct Shown<'a> {
     pub(crate) extended: &'a Extended<'a>,
-    pub(crate) cut: Option<&'a Cut>,
+    pub(crate) by: Option<Lent<'a>>,
     pub(crate) log: &'a [Line],
 }
 
 impl<'a> Shown<'a> {
     /// The graph alone, of which nothing has to be shown.
     pub(crate) fn alone(extended: &'a Extended<'a>) -> Shown<'a>
-        ensures shown { (g : Aig) (conflicts : ℕ) →
-            extended.entry.now ≡ without_cut g → IsShown g conflicts result }
-        ensures named { cut_named result ≡ None }
+        ensures shown { (g : Aig) (task : TaskOf) →
+            extended.entry.now ≡ without_cut g → IsShown g task result }
+        ensures named { replacement_named result ≡ None }
     {
         Shown {
             extended,
-            cut: None,
+            by: None,
             log: &[],
         }
     }
 
     /// The graph with the adder of a cut, which this log shows.
     pub(crate) fn with_adder(cut: &'a Cut, extended: &'a Extended<'a>, log: &'a Log) -> Shown<'a>
-        ensures shown { (g : Aig) (conflicts : ℕ) →
-            IsShownRewriting g conflicts cut.entry.now extended.entry.now log.entry.now.lines →
-            Always extended.entry.now.gates (AgreeOnColumns extended.entry.now) → IsShown g conflicts result }
-        ensures named { cut_named result ≡ Some cut.entry.now }
+        ensures shown { (g : Aig) (task : TaskOf) →
+            IsShownRewriting g task.conflicts cut.entry.now extended.entry.now log.entry.now.lines →
+            Always extended.entry.now.gates (AgreeOnColumns extended.entry.now) → IsShown g task result }
+        ensures named { replacement_named result ≡ Some (Adder cut.entry.now) }
     {
         Shown {
             extended,
-            cut: Some(cut),
+            by: Some(Lent::Adder(cut)),
             log: log.lines(),
+        }
+    }
+
+    /// The graph with what is placed beside it.
+    pub(crate) fn with_beside(placed: &'a Placed<'a>) -> Shown<'a>
+        ensures shown { (g : Aig) (task : TaskOf) → IsShownBeside g task.conflicts placed.entry.now →
+            Always placed.entry.now.extended.gates (AgreeOnColumns placed.entry.now.extended) →
+            task.version ≡ 3 → IsShown g task result }
+        ensures named { replacement_named result ≡ Some (Beside placed.entry.now.beside) }
+    {
+        Shown {
+            extended: &placed.extended,
+            by: Some(Lent::Beside(&placed.beside)),
+            log: placed.log.lines(),
         }
     }
 
     /// The graph with the adder in place of its final stage, where that is used, else the graph alone.
     pub(crate) fn used(rewritten: &'a Rewriting<'a>, alone: Shown<'a>) -> Shown<'a>
-        requires none { cut_named alone ≡ None }
-        ensures shown { (g : Aig) (conflicts : ℕ) → IsWellFormed g → (operands : Sides) →
-            IsRewriting g operands conflicts rewritten.entry.now →
-            Agrees rewritten.entry.now → IsShown g conflicts alone.entry → IsShown g conflicts result }
-        ensures named { cut_named result ≡ cut_in rewritten.entry.now }
+        requires none { replacement_named alone ≡ None }
+        ensures shown { (g : Aig) (task : TaskOf) → IsWellFormed g → (operands : Sides) →
+            IsRewriting g operands task.conflicts rewritten.entry.now →
+            Agrees rewritten.entry.now → IsShown g task alone.entry → IsShown g task result }
+        ensures named { replacement_named result ≡ replacement_in rewritten.entry.now }
     {
         match rewritten {
             Rewriting::Used { cut, extended, log } => Shown::with_adder(cut, extended, log),

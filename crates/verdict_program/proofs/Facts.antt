@@ -8,7 +8,7 @@ use Rattle.graph_maker.specs.Designed.{designed}
 use Rattle.command_core.specs.Files.{HasGraph}
 use Rattle.joint_prover.specs.declared.note.Note.{Note}
 use Rattle.joint_prover.specs.declared.verdict.Tried.{Tried}
-use Rattle.joint_prover.specs.Notes.{IsNote, cut_of}
+use Rattle.joint_prover.specs.Notes.{IsNote, replacement_of}
 use Rattle.joint_prover.specs.Tries.{AreTried}
 use Rattle.joint_prover.specs.Verdicts.{HaveManyOnes, HoldsPair, IsFirstAbove, IsFirstTooLongHeld}
 use Rattle.joint_prover.specs.declared.verdict.Verdict.TheVariants as verdict
@@ -56,7 +56,7 @@ IsTooGreatFor command a = ⊥
 abbrev pub IsUndecidedFor : Command → View → Type 0
 IsUndecidedFor (Verify files task) a =
     HasGraph (profile_of task.claim.widths) standard.graph (bytes_under a files.graph) (λ g. (step : ℕ) × (size : ℕ) × IsFirstAbove g task.claim task.budget step size ×
-    ((n : Note) × IsNote g task.claim task.conflicts n × (tried : List Tried) × AreTried g task.claim task.budget (cut_of n) tried) × HaveManyOnes g task.claim)
+    ((n : Note) × IsNote g task.claim task.conflicts n × (tried : List Tried) × AreTried g task.claim task.budget (replacement_of n) tried) × HaveManyOnes g task.claim)
 IsUndecidedFor (Trial number) a = (step : ℕ) × (size : ℕ) × (n : Note) × OfMade (sample_of number) (IsUndecidedWith step size n)
 IsUndecidedFor (Same files conflicts) a = HasSpentPair conflicts a files
 IsUndecidedFor command a = ⊥

@@ -23,7 +23,7 @@ use Rattle.joint_checker.specs.Outcome.{IsDue}
 use Rattle.joint_checker.specs.declared.checked.Checked.{Checked}
 use Rattle.joint_checker.specs.declared.checked.Checked.TheVariants as checked
 use Rattle.joint_checker.specs.declared.checked.Refusal.{Refusal}
-use Rattle.joint_prover.specs.Notes.{IsNote, cut_of}
+use Rattle.joint_prover.specs.Notes.{IsNote, replacement_of}
 use Rattle.joint_prover.specs.Pairs.{IsPairFor}
 use Rattle.joint_prover.specs.Verdicts.{HasNote, IsVerdict, IsWrong}
 use Rattle.command_core.specs.Written.{ReadsGraph, WritesFile, WritesPair}
@@ -40,7 +40,7 @@ use Rattle.mv_desk.specs.declared.memory.honest_desk.HonestDesk.{HonestDesk}
 use Rattle.mv_desk.specs.declared.slot.Slot.{Slot}
 use Rattle.mv_desk.specs.declared.slot.Slot.TheVariants as slot
 use Rattle.mv_text.specs.LineReading.{lengths_of}
-use Rattle.ripple_graft.specs.declared.cut.Cut.{Cut}
+use Rattle.joint_prover.specs.declared.replacement.Replacement.{Replacement}
 use Rattle.std.specs.declared.vec.Vec.{Vec}
 use Rattle.std.specs.Global.{Global}
 use Rattle.verdict_program.specs.declared.made.Made.TheVariants as answered
@@ -66,9 +66,9 @@ interrupts_in_memory a b none (stop.TooLong at) h = absurd h
 interrupts_in_memory a b none stop.Memory h = tt
 
 -- the note, with what else holds of its cut
-note_of_some : (g : Aig) (n : Note) (noted : Option Note) (P : Option Cut → Type 0) → noted ≡ Some n → HasNote g trial_task noted P →
-    IsNote g trial_task.claim trial_task.conflicts n × P (cut_of n)
-note_of_some g n noted P same h = subst (λ o. IsSomeAnd o (λ m. IsNote g trial_task.claim trial_task.conflicts m × P (cut_of m))) same h
+note_of_some : (g : Aig) (n : Note) (noted : Option Note) (P : Option Replacement → Type 0) → noted ≡ Some n → HasNote g trial_task noted P →
+    IsNote g trial_task.claim trial_task.conflicts n × P (replacement_of n)
+note_of_some g n noted P same h = subst (λ o. IsSomeAnd o (λ m. IsNote g trial_task.claim trial_task.conflicts m × P (replacement_of m))) same h
 
 -- ---- the graph file
 
@@ -145,7 +145,7 @@ module _ (sample : Sample) (some : 1 ≤ sample.bits) (narrow : sample.bits ≤ 
   refused_alone none stop.Memory h = tt
 
   module _ (told : (name : List ℕ) → IsSome (a.held name)) (tells : TellsFiles b) (long : Option Slot) (h : Is (verdict.Proved long)) where
-    abbrev Wrote : Option Cut → Type 0
+    abbrev Wrote : Option Replacement → Type 0
     Wrote used = (read : View) × ReadsGraph a read ×
         ((clauses : List ℕ) × (algebra : List ℕ) × IsPairFor h.0 trial_task used clauses algebra × WritesPair trial_files clauses algebra read b ×
         IsFirstTooLong (lengths_of no_limits) clauses algebra long)

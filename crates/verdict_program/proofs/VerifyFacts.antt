@@ -7,10 +7,10 @@ use Rattle.command_core.specs.Files.{AreDistinct, Files, HasGraph}
 use Rattle.command_core.specs.declared.task.Task.{Task}
 use Rattle.joint_prover.specs.declared.note.Note.{Note}
 use Rattle.joint_prover.specs.declared.verdict.Tried.{Tried}
-use Rattle.joint_prover.specs.Notes.{IsNote, cut_of}
+use Rattle.joint_prover.specs.Notes.{IsNote, replacement_of}
 use Rattle.joint_prover.specs.Tries.{AreTried}
 use Rattle.graph_core.specs.Graph.{Aig}
-use Rattle.ripple_graft.specs.declared.cut.Cut.{Cut}
+use Rattle.joint_prover.specs.declared.replacement.Replacement.{Replacement}
 use Rattle.joint_prover.specs.Verdicts.{HasNote, HaveManyOnes, HoldsPair, IsFirstAbove, IsFirstTooLongHeld, IsVerdict, judgement}
 use Rattle.joint_prover.specs.declared.verdict.Verdict.{Verdict}
 use Rattle.joint_prover.specs.declared.verdict.Verdict.TheVariants as verdict
@@ -34,10 +34,10 @@ module _ (files : Files) (task : Task) (a b : View) (apart : AreDistinct files.g
   abbrev Is : Verdict → Type 0
   Is outcome = IsVerdict standard task files a b outcome noted
 
-  note_there : (g : Aig) (P : Option Cut → Type 0) → HasNote g task noted P → (n : Note) × IsNote g task.claim task.conflicts n × P (cut_of n)
+  note_there : (g : Aig) (P : Option Replacement → Type 0) → HasNote g task noted P → (n : Note) × IsNote g task.claim task.conflicts n × P (replacement_of n)
   note_there g P h = go noted h
     where
-      go : (told : Option Note) → HasNote g task told P → (n : Note) × IsNote g task.claim task.conflicts n × P (cut_of n)
+      go : (told : Option Note) → HasNote g task told P → (n : Note) × IsNote g task.claim task.conflicts n × P (replacement_of n)
       go None k = absurd k
       go (Some n) k = (n, k.0, k.1)
 
@@ -58,7 +58,7 @@ module _ (files : Files) (task : Task) (a b : View) (apart : AreDistinct files.g
   one (verdict.Stopped why) h e = absurd ((stop_is_apart why).one e)
 
   five : (outcome : Verdict) → Is outcome → status_of_verify outcome ≡ 5 →
-      HasGraph (profile_of task.claim.widths) standard.graph (bytes_under a files.graph) (λ g. (step : ℕ) × (size : ℕ) × IsFirstAbove g task.claim task.budget step size × ((n : Note) × IsNote g task.claim task.conflicts n × (tried : List Tried) × AreTried g task.claim task.budget (cut_of n) tried) × HaveManyOnes g task.claim)
+      HasGraph (profile_of task.claim.widths) standard.graph (bytes_under a files.graph) (λ g. (step : ℕ) × (size : ℕ) × IsFirstAbove g task.claim task.budget step size × ((n : Note) × IsNote g task.claim task.conflicts n × (tried : List Tried) × AreTried g task.claim task.budget (replacement_of n) tried) × HaveManyOnes g task.claim)
   five (verdict.Proved long) h e = absurd (omega arith)
   five (verdict.Wrong d) h e = absurd (omega arith)
   five (verdict.Undecided tried step size seen) h e = let r = h.0 in let n = note_there r.0 (λ used. AreTried r.0 task.claim task.budget used tried.items) r.2.1 in (r.0, r.1, (step, size, r.2.0, (n.0, n.1, tried.items, n.2), r.2.2))

@@ -15,7 +15,7 @@ use Rattle.graph_maker.specs.declared.kind.Kind.{Kind}
 use Rattle.graph_maker.specs.declared.kind.Kind.TheVariants.{Array, Dadda}
 use Rattle.pair_core.specs.Certificates.{IsLawfulPair}
 use Rattle.command_core.specs.Files.{Files}
-use Rattle.joint_prover.specs.Notes.{IsNote, cut_of}
+use Rattle.joint_prover.specs.Notes.{IsNote, replacement_of}
 use Rattle.joint_prover.specs.Pairs.{IsPairFor}
 use Rattle.joint_prover.specs.Tries.{AreTried, IsWithinBudget}
 use Rattle.joint_prover.specs.Verdicts.{HoldsPair, IsFirstAbove}
@@ -61,13 +61,13 @@ no_limits = record { graph = 2 ^ 64 - 1; certificate = 2 ^ 64 - 1; line = 2 ^ 64
 abbrev pub OfMade : Sample → (Aig → Type 0) → Type 0
 OfMade sample P = (g : Aig) × Spells TwoOperands (ascii_text (sample_graph sample)) g × P g
 
--- The graph multiplies, the note has its cause, and there is a lawful pair of certificates: the pair that is written with the note's cut.
+-- The graph multiplies, the note has its cause, and there is a lawful pair of certificates: the pair that is written with what the note names.
 pub record IsAcceptedWith (note : Note) (g : Aig) : Type 0 where
   pub multiplies : Multiplies g Separate
   pub noted : IsNote g trial_task.claim trial_task.conflicts note
   pub clauses : List ℕ
   pub algebra : List ℕ
-  pub written : IsPairFor g trial_task (cut_of note) clauses algebra
+  pub written : IsPairFor g trial_task (replacement_of note) clauses algebra
   pub lawful : IsLawfulPair (lengths_of no_limits) g (product_under Separate) clauses algebra
 
 -- This is the plain order's first frontier above the budget, the note has its cause, and each plan that was tried before has a frontier
@@ -76,7 +76,7 @@ pub record IsUndecidedWith (step size : ℕ) (note : Note) (g : Aig) : Type 0 wh
   pub first : IsFirstAbove g trial_task.claim trial_task.budget step size
   pub noted : IsNote g trial_task.claim trial_task.conflicts note
   pub tried : List Tried
-  pub above : AreTried g trial_task.claim trial_task.budget (cut_of note) tried
+  pub above : AreTried g trial_task.claim trial_task.budget (replacement_of note) tried
 
 -- Where each answer comes, and of which multiplier.
 abbrev pub IsTested : Multiplier → Tested → Type 0

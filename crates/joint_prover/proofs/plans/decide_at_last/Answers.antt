@@ -1,6 +1,6 @@
 use Rattle.std.proofs.Common.{◌++◌, ◌∷◌, [], rules, sym, ap, subst, ◌∙◌}
 use Rattle.std.specs.Prelude.{IfSome, IsNone}
-use Rattle.joint_prover.specs.Endings.{IsEnd, cut_named}
+use Rattle.joint_prover.specs.Endings.{IsEnd, replacement_named}
 use Rattle.joint_prover.specs.Tries.{IsTried}
 use Rattle.joint_prover.proofs.Telling.{both_tried, later_decides, names_some, one_tried}
 use Rattle.joint_prover.proofs.plans.decide_at_last.Goals as goal
@@ -12,15 +12,15 @@ returns-in-Some-3 c =
     let g = job.graph.now in
     let none : IsNone c.in_ok-decision-2.field-0 = search rules in
     let first = c.in_ok-decision-2.ensures.none none in
-    let alone = subst (λ o. IfSome o (IsEnd g job.task (cut_named job.alone))) c.in-Some-3.is c.in_ok-decision-3.ensures.some in
-    later_decides g job.task (cut_named job.used) (cut_named job.alone) first.0 c.in-Some-3.decision c.requires.lone first.2 alone
+    let alone = subst (λ o. IfSome o (IsEnd g job.task (replacement_named job.alone))) c.in-Some-3.is c.in_ok-decision-3.ensures.some in
+    later_decides g job.task (replacement_named job.used) (replacement_named job.alone) first.0 c.in-Some-3.decision c.requires.lone first.2 alone
 
 pub reduce_plainly-requires-clause-tried : goal.reduce_plainly-requires-clause-tried
 reduce_plainly-requires-clause-tried c =
     let job = c.args.job.now in
     let g = job.graph.now in
     let task = job.task in
-    let used = cut_named job.used in
+    let used = replacement_named job.used in
     let none : IsNone c.in_ok-decision-2.field-0 = search rules in
     let first = c.in_ok-decision-2.ensures.none none in
     let one = first.1 ∙ ap (λ ts. ts ++ first.0 ∷ []) c.new-tried.ensures.items in

@@ -6,4 +6,4 @@ use Rattle.joint_prover.proofs.plans.decide_by_plans.Goals as goal
 pub returns-in-Some-clause-decision : goal.returns-in-Some-clause-decision
 returns-in-Some-clause-decision c =
     let job = c.args.job.now in
-    (subst (λ o. IfSome o (IsEndedFor job)) c.in-Some.is c.in_ok-ended.ensures).decision
+    (subst (λ o. IfSome o (IsEndedFor job)) c.in-Some.is c.in_ok-ended.ensures.ended).decision

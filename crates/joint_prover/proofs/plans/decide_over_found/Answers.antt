@@ -6,7 +6,7 @@ use Rattle.joint_prover.proofs.plans.decide_over_found.Goals as goal
 pub decide_over-requires-clause-shown : goal.decide_over-requires-clause-shown
 decide_over-requires-clause-shown c =
     let job = c.args.job.now in
-    c.with_adder-shown.ensures.shown job.graph.now job.task.conflicts c.requires.shown c.requires.agree
+    c.with_adder-shown.ensures.shown job.graph.now job.task c.requires.shown c.requires.agree
 
 pub returns : goal.returns
 returns c =

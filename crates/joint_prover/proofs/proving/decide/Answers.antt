@@ -3,9 +3,9 @@ use Rattle.graph_core.specs.Aiger.Sizes.{IsSizedAs}
 use Rattle.graph_core.specs.Graph.Operands.{AreOperandsOf, HasShapeFor, Sides, has_addend, profile_of}
 use Rattle.graph_core.proofs.OfAiger.CallerLemmas.{narrow_for, shape_for}
 use Rattle.joint_prover.specs.Decisions.{IsDecision}
-use Rattle.joint_prover.specs.Endings.{cut_named}
-use Rattle.joint_prover.specs.Notes.{IsNote, cut_of, note_of}
-use Rattle.joint_prover.proofs.Noting.{cut_of_note, note_is}
+use Rattle.joint_prover.specs.Endings.{replacement_named}
+use Rattle.joint_prover.specs.Notes.{IsNote, replacement_of, note_of}
+use Rattle.joint_prover.proofs.Noting.{replacement_of_note, note_is}
 use Rattle.joint_prover.proofs.proving.decide.Goals as goal
 
 pub under-requires-clause-shape : goal.under-requires-clause-shape
@@ -24,9 +24,9 @@ rewrite-requires-clause-operands c = subst (AreOperandsOf c.args.graph.now) (sym
 pub decide_by_plans-requires : goal.decide_by_plans-requires
 decide_by_plans-requires c =
     let graph = c.args.graph.now in
-    let conflicts = c.args.task.now.conflicts in
+    let task = c.args.task.now in
     let is = sym c.in_ok-operands.ensures in
-    let alone = c.alone-alone.ensures.shown graph conflicts c.without_cut-extended.ensures in
+    let alone = c.alone-alone.ensures.shown graph task c.without_cut-extended.ensures in
     let well = c.max-max.ensures.built.well_formed in
     record {
       operands = subst (AreOperandsOf graph) is refl;
@@ -36,8 +36,8 @@ decide_by_plans-requires c =
       version = c.requires.version;
       alone = alone;
       lone = c.alone-alone.ensures.named;
-      used = c.used.ensures.shown graph conflicts well c.in_ok-operands.operands c.in_ok-rewritten.ensures.rewriting c.in_ok-rewritten.ensures.agrees alone;
-      differing = c.numbers_of.ensures graph c.in_ok-operands.operands conflicts c.in_ok-rewritten.ensures.rewriting;
+      used = c.used.ensures.shown graph task well c.in_ok-operands.operands c.in_ok-rewritten.ensures.rewriting c.in_ok-rewritten.ensures.agrees alone;
+      differing = c.numbers_of.ensures graph c.in_ok-operands.operands task.conflicts c.in_ok-rewritten.ensures.rewriting;
     }
 
 pub returns-clause-decision : goal.returns-clause-decision
@@ -47,8 +47,8 @@ returns-clause-decision c =
     let d = c.in_ok-decision.decision in
     let r = c.in_ok-rewritten.rewritten in
     let found = c.in_ok-decision.found in
-    subst (λ n. IsDecision graph task (cut_of n) d) {x = note_of (has_addend task.claim.widths) r found} (sym (c.make_note.ensures ∙ ap (λ add. note_of add r found) c.has_addend.ensures))
-    (subst (λ cut. IsDecision graph task cut d) (cut_of_note (has_addend task.claim.widths) r (cut_named c.used.result) found c.used.ensures.named) c.in_ok-decision.ensures.decision)
+    subst (λ n. IsDecision graph task (replacement_of n) d) {x = note_of (has_addend task.claim.widths) r found} (sym (c.make_note.ensures ∙ ap (λ add. note_of add r found) c.has_addend.ensures))
+    (subst (λ r. IsDecision graph task r d) (replacement_of_note (has_addend task.claim.widths) r (replacement_named c.used.result) found c.used.ensures.named) c.in_ok-decision.ensures.decision)
 
 pub returns-clause-note : goal.returns-clause-note
 returns-clause-note c =

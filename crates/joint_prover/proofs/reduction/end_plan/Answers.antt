@@ -5,7 +5,7 @@ use Rattle.frontier_core.specs.LeastDifference.{AreInputs, IsLeastNonzero}
 use Rattle.graph_core.specs.Graph.Assignments.{Assignment}
 use Rattle.graph_core.specs.Graph.Operands.{AreInRange, Sides, inputs_at, inputs_in}
 use Rattle.poly_terms.specs.Tables.{Table, monomials_in, value_in}
-use Rattle.joint_prover.specs.Endings.{AreLeast, Decides, IsProof, IsWrongAs, cut_named}
+use Rattle.joint_prover.specs.Endings.{AreLeast, Decides, IsProof, IsWrongAs, replacement_named}
 use Rattle.joint_prover.proofs.Remainders.{operands_are, remainder_proves, rest_closes, rest_inputs, rest_over, witness_is_least}
 use Rattle.joint_prover.proofs.Telling.{wrong_decides}
 use Rattle.joint_prover.proofs.reduction.end_plan.Goals as goal
@@ -31,12 +31,12 @@ refute-requires-clause-least c =
     let P : Table → Sides → Type 0 = λ t s. IsLeastNonzero (value_in t c.args.poly.now) (inputs_in s) (inputs_at s x) in
     let at : P l.table l.sides = subst (λ t. P t l.sides) c.terms.ensures.table (subst (P c.terms.result.now) c.operands.ensures c.in-Some.ensures.some) in
     subst (λ t. AreLeast job.graph.now t x) (sym (operands_are job c.requires.job))
-    (witness_is_least h.0 h.1 l c.args.poly.now c.args.id h.4 job.graph.now job.task.claim (cut_named c.args.shown) h.3 h.2 x at (subst (λ s. AreInRange s x) c.operands.ensures c.in-Some.ensures.range))
+    (witness_is_least h.0 h.1 l c.args.poly.now c.args.id h.4 job.graph.now job.task.claim (replacement_named c.args.shown) h.3 h.2 x at (subst (λ s. AreInRange s x) c.operands.ensures c.in-Some.ensures.range))
 
 pub returns-in-Some : goal.returns-in-Some
 returns-in-Some c =
     let job = c.args.job.now in
-    IfOk-weaker c.refute.result (IsWrongAs job.graph.now job.task.claim) (Decides job.graph.now job.task (cut_named c.args.shown)) (wrong_decides job.graph.now job.task (cut_named c.args.shown)) c.refute.ensures
+    IfOk-weaker c.refute.result (IsWrongAs job.graph.now job.task.claim) (Decides job.graph.now job.task (replacement_named c.args.shown)) (wrong_decides job.graph.now job.task (replacement_named c.args.shown)) c.refute.ensures
 
 pub close-requires-clause-closes : goal.close-requires-clause-closes
 close-requires-clause-closes c =
@@ -48,7 +48,7 @@ pub prove-requires-clause-proof : goal.prove-requires-clause-proof
 prove-requires-clause-proof c =
     let h = c.requires.left in
     let job = c.args.job.now in
-    let cut = cut_named c.args.shown in
+    let cut = replacement_named c.args.shown in
     let zero = subst (λ t. (σ : Assignment) → value_in t c.args.poly.now σ ≡ 0) c.terms.ensures.table (c.least.ensures.none.0 c.in-None.is) in
     subst (IsProof job.graph.now job.task.claim cut) (sym c.close.ensures)
     (remainder_proves h.0 h.1 c.args.lines c.args.poly.now c.args.id h.4 job.graph.now job.task.claim cut h.3 h.2 c.last-last.ensures.lawful zero)

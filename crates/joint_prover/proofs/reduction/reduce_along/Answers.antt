@@ -4,8 +4,8 @@ use Rattle.frontier_core.specs.Plan.{IsPlan}
 use Rattle.graph_core.specs.Graph.Extended.{Extended}
 use Rattle.graph_core.specs.Graph.Operands.{ReadInputs, sides_for}
 use Rattle.slice_planner.specs.ColumnPlans.{IsColumnPlan}
-use Rattle.joint_prover.specs.Endings.{cut_named}
-use Rattle.joint_prover.specs.Tries.{extended_by}
+use Rattle.joint_prover.specs.Endings.{replacement_named}
+use Rattle.joint_prover.specs.Replacements.{extended_by}
 use Rattle.joint_prover.proofs.Remainders.{ends_at, ends_within, few_over, reads_inputs, remainder_of}
 use Rattle.joint_prover.proofs.reduction.reduce_along.Goals as goal
 
@@ -38,6 +38,6 @@ returns-in-Rest c =
     let same = c.requires.shown.extended ∙ sym c.in_ok-lines.ensures.extended in
     let reduced = subst (IsReduced p l.sides c.args.budget c.reduce.new.lines) c.in-Rest.is c.in_ok-poly.ensures.reduced in
     let within = ends_within l p c.args.budget (c.in_ok-plan.ensures.extended ∙ same) c.in_ok-plan.ensures.uncounted (subst (λ x. IsColumnPlan x p.steps) same c.in_ok-plan.ensures.columns) reduced.1 in (
-      ends_at l (extended_by g (cut_named c.args.shown)) (sides_for job.task.claim g) c.args.budget job.task.budget c.in_ok-lines.ensures.extended c.in_ok-lines.ensures.sides c.requires.within within,
+      ends_at l (extended_by g (replacement_named c.args.shown)) (sides_for job.task.claim g) c.args.budget job.task.budget c.in_ok-lines.ensures.extended c.in_ok-lines.ensures.sides c.requires.within within,
       c.in_ok-decision-in-Rest.ensures,
     )

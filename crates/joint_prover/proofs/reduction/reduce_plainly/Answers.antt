@@ -2,8 +2,8 @@ use Rattle.std.proofs.Common.{◌≡◌, sym, ap, subst, ◌∙◌}
 use Rattle.column_reducer.specs.Reducing.{IsReduced}
 use Rattle.graph_core.specs.Graph.Extended.{Extended, without_cut}
 use Rattle.graph_core.specs.Graph.Operands.{ReadInputs}
-use Rattle.joint_prover.specs.Endings.{cut_named}
-use Rattle.joint_prover.specs.Tries.{extended_by}
+use Rattle.joint_prover.specs.Endings.{replacement_named}
+use Rattle.joint_prover.specs.Replacements.{extended_by}
 use Rattle.joint_prover.specs.Verdicts.{HaveManyOnes}
 use Rattle.joint_prover.proofs.Remainders.{first_alone, plain_remainder, plainly_reduced, reads_inputs, within_alone}
 use Rattle.joint_prover.proofs.Telling.{plain_decides}
@@ -50,7 +50,7 @@ returns-in_ok-decision-in-Rest c =
     let g = job.graph.now in
     let start = c.in_ok-lines.ensures in
     let lone = c.requires.job.lone in
-    plain_decides g job.task (cut_named job.used) (cut_named job.alone) c.args.tried.items c.shortened.result lone c.requires.tried
+    plain_decides g job.task (replacement_named job.used) (replacement_named job.alone) c.args.tried.items c.shortened.result lone c.requires.tried
     (within_alone g job.task.claim l start.start (start.extended ∙ ap (extended_by g) lone) start.sides job.task.budget after c.in-Rest.poly c.in-Rest.id reduced) c.shortened.ensures
 
 pub returns-in_ok-seen-in-Passed : goal.returns-in_ok-seen-in-Passed

@@ -1,7 +1,7 @@
 use Rattle.std.specs.Prelude.{[], ◌∷◌, ◌++◌, codes, decimal}
 use Rattle.std.proofs.Common.{ap, sym, ◌∙◌}
 use Rattle.graph_core.specs.Text.{newline}
-use Rattle.verdict_program.specs.Answer.{numbers_text, report_of_note}
+use Rattle.verdict_program.specs.Answer.{least_column, numbers_text, report_of_note}
 use Rattle.verdict_program.proofs.ReportLines.{number_line}
 use Rattle.verdict_program.proofs.report_texts.push_note.Goals as goal
 
@@ -18,6 +18,14 @@ returns-in-Found-clause-text c =
     let text = codes "rewriting found from column " in
     c.push-in-Found.ensures ∙ ap (λ xs. xs ++ newline ∷ []) (c.push_numbered-in-Found.ensures.text ∙ ap (λ n. old ++ text ++ decimal n) c.from-in-Found.ensures) ∙
     number_line old text (decimal c.in-Found.cut.lo) ∙ ap (λ n. old ++ report_of_note n) (sym c.in-Found.is)
+
+pub returns-in-Beside-clause-text : goal.returns-in-Beside-clause-text
+returns-in-Beside-clause-text c =
+    let old = c.args.report.now in
+    let text = codes "rewriting beside from column " in
+    let least = ap (λ n. old ++ text ++ decimal n) (c.from-in-Beside.ensures ∙ c.least_column-least.ensures ∙ ap least_column c.as_slice.ensures) in
+    c.push-in-Beside.ensures ∙ ap (λ xs. xs ++ newline ∷ []) (c.push_numbered-in-Beside.ensures.text ∙ least) ∙
+    number_line old text (decimal (least_column c.in-Beside.beside.outputs)) ∙ ap (λ n. old ++ report_of_note n) (sym c.in-Beside.is)
 
 pub returns-in-Differs-clause-text : goal.returns-in-Differs-clause-text
 returns-in-Differs-clause-text c =
