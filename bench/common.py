@@ -106,6 +106,12 @@ def quiet(words):
 
 def timed(words, limits=()):
     """The report of a run within limits of resources, its seconds of processor time and its peak memory in MB."""
+    done, *costs = measured(words, limits)
+    return (done.stdout, *costs)
+
+
+def measured(words, limits=()):
+    """A run within limits of resources, its seconds of processor time and its peak memory in MB."""
 
     def limit():
         for what, most in limits:
@@ -115,7 +121,7 @@ def timed(words, limits=()):
     timing = ["/usr/bin/time", "-f", "%U %S %M"] + words
     done = subprocess.run(timing, stdout=subprocess.PIPE, stderr=subprocess.PIPE, text=True, preexec_fn=limit if limits else None)
     user, system, peak = done.stderr.split()[-3:]
-    return done.stdout, float(user) + float(system), int(peak) / 1024
+    return done, float(user) + float(system), int(peak) / 1024
 
 
 def instructions(words):
@@ -142,14 +148,14 @@ def verify(run, mulver, graph, claim=()):
     return run(verifying(mulver, graph) + [*claim])
 
 
-def prove(run, mulver, name, graph, claim=()):
+def prove(run, mulver, name, graph, claim=(), more_cells=()):
     """A row below PROVED_HEADS; the verdict, what `check` says of a proved graph's certificates, and the seconds and MB of both."""
     verdict, seconds, peak = verify(run, mulver, graph, claim)
     checked, more = ["-"], 0.0
     if verdict[0] == "proved":
         checked, more, _ = run([mulver, "check", graph, "clauses", "algebra", *claim])
     costs = ["%.2f" % seconds, "%.0f" % peak, "%.2f" % more]
-    row([name] + verdict + checked + costs + [size("clauses"), size("algebra")])
+    row([name, *more_cells] + verdict + checked + costs + [size("clauses"), size("algebra")])
     return verdict[0], checked[0], seconds, peak, more
 
 
@@ -202,12 +208,13 @@ def values(graph, pairs):
     def of(literal):
         return at[literal & ~1] ^ (all_ones if literal & 1 else 0)
 
+    backward = pairs[::-1]
     for place, literal in enumerate(inputs):
-        at[literal] = sum((pair[place // bits] >> place % bits & 1) << t for t, pair in enumerate(pairs))
+        at[literal] = int("".join("01"[pair[place // bits] >> place % bits & 1] for pair in backward), 2)
     for left, one, two in gates:
         at[left] = of(one) & of(two)
-    words = [of(literal) for literal in outputs]
-    return [sum((word >> t & 1) << k for k, word in enumerate(words)) for t in range(len(pairs))]
+    words = [format(of(literal), "0%db" % len(pairs)) for literal in reversed(outputs)]
+    return [int("".join(column), 2) for column in zip(*words)][::-1]
 
 
 # Runs below a small library that stands before the C library's own (LD_PRELOAD) and lets calls fail.

@@ -4,6 +4,7 @@ use crate::fallback::{Extent, lowest, next_of_array};
 use crate::merge::{Merge, Step};
 use crate::pool::Pool;
 use crate::style::{Shape, Style};
+use crate::words::Word;
 use graph_core::Memory;
 use std::alloc::Global;
 use std::mem;
@@ -233,7 +234,11 @@ impl<'a> Beam<'a> {
             let (Some((from, merge)), Some(sum)) = (state.before, state.members.last()) else {
                 break;
             };
-            path.push(Step { merge, sum: *sum })?;
+            path.push(Step {
+                merge,
+                sum: *sum,
+                word: Word::first(),
+            })?;
             let Some(before) = self.states.get(from) else {
                 break;
             };

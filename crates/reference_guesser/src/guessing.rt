@@ -22,6 +22,8 @@ const MOST_JUDGED: u64 = 1 << 27;
 
 const SHAPES: [Shape; 3] = [Shape::Level, Shape::Rows, Shape::Array];
 
+const BLIND: [Shape; 4] = [Shape::Words, Shape::Level, Shape::Rows, Shape::Array];
+
 /// A reference: gates beside the graph, and a new output for each column.
 #[derive(Debug, Drop)]
 pub struct Reference {
@@ -151,20 +153,25 @@ fn styles(
     let booth = share_of(alloc, graph, operands, rows, known, Form::Booth)?;
     let mut styles = Vec::new(alloc);
     if booth > simple {
-        push_styles(&mut styles, Form::Booth, &[Shape::Level])?;
+        push_styles(&mut styles, Form::Booth, &[Shape::Level], &[Shape::Level])?;
     } else {
-        push_styles(&mut styles, Form::Simple, &SHAPES)?;
+        push_styles(&mut styles, Form::Simple, &BLIND, &SHAPES)?;
         if operands.sign() == Sign::Signed {
-            push_styles(&mut styles, Form::Extended, &SHAPES)?;
+            push_styles(&mut styles, Form::Extended, &BLIND, &SHAPES)?;
         }
     }
     Ok(styles)
 }
 
-// Each shape without any signal, and with several prices of lost carries.
-fn push_styles(styles: &mut Vec<Style>, form: Form, shapes: &[Shape]) -> Result<(), Memory> {
+// Some shapes without any signal, and some with several prices of lost carries.
+fn push_styles(
+    styles: &mut Vec<Style>,
+    form: Form,
+    blind: &[Shape],
+    shapes: &[Shape],
+) -> Result<(), Memory> {
     for (lost, is_blind) in [(5, true), (5, false), (9, false), (2, false)] {
-        for shape in shapes {
+        for shape in if is_blind { blind } else { shapes } {
             styles.push(Style {
                 form,
                 shape: *shape,

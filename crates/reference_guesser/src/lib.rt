@@ -30,5 +30,6 @@ mod style;
 mod sure;
 mod tree;
 mod values;
+mod words;
 
 pub use guessing::{Guesses, Reference, guess};

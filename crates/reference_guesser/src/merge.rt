@@ -1,4 +1,5 @@
 // Two or three addends of a column, to be put together.
+use crate::words::Word;
 
 /// The addends of a half adder or a full adder, by their numbers in a column, rising.
 #[derive(Clone, Copy, Debug, PartialEq, Eq, PartialOrd, Ord)]
@@ -58,9 +59,10 @@ impl Merge {
     }
 }
 
-/// A merge that is made, and the number of its sum.
+/// A merge that is made, the number of its sum, and the word that its carry is of.
 #[derive(Clone, Copy, Debug)]
 pub(crate) struct Step {
     pub(crate) merge: Merge,
     pub(crate) sum: u32,
+    pub(crate) word: Word,
 }

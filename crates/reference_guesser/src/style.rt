@@ -10,6 +10,8 @@ pub(crate) enum Shape {
     Array,
     /// the same, by rising bits of the second one
     Rows,
+    /// three neighbours of the words in hand, of which each row of products is one
+    Words,
 }
 
 /// A way to guess.

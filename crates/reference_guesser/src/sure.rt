@@ -1,6 +1,7 @@
 // Full adders of which the sum and the carry are known.
 use crate::merge::{Merge, Step};
 use crate::pool::Pool;
+use crate::words::Word;
 use graph_core::Memory;
 use std::alloc::Global;
 
@@ -33,7 +34,11 @@ pub(crate) fn sure_adders(
         looked = addends.len();
         let sum = pool.sum(&lowest)?;
         addends.push(sum)?;
-        path.push(Step { merge: lowest, sum })?;
+        path.push(Step {
+            merge: lowest,
+            sum,
+            word: Word::first(),
+        })?;
     }
     Ok(path)
 }

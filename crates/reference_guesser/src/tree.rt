@@ -8,8 +8,9 @@ use crate::pool::Pool;
 use crate::products::{Column, Products};
 use crate::row::Row;
 use crate::stones::make_stones;
-use crate::style::Style;
+use crate::style::{Shape, Style};
 use crate::sure::sure_adders;
+use crate::words::{Rows, Word, word_steps};
 use graph_core::{Graph, Lit, Memory, Operands};
 use std::alloc::Global;
 
@@ -18,6 +19,14 @@ use std::alloc::Global;
 struct Addend {
     lit: Lit,
     level: u32,
+    word: Word,
+}
+
+// A column by its number.
+#[derive(Clone, Copy)]
+struct Place {
+    column: u32,
+    is_last: bool,
 }
 
 /// What is made so far.
@@ -26,6 +35,7 @@ pub(crate) struct Tree<'a> {
     alloc: Global,
     known: &'a Known,
     style: Style,
+    rows: Rows,
     pub(crate) gates: Gates<'a>,
     /// by column: the literal of its sum
     pub(crate) sums: Vec<Lit>,
@@ -52,6 +62,11 @@ impl<'a> Tree<'a> {
             alloc,
             known,
             style,
+            rows: Rows {
+                form: style.form,
+                a: operands.a_width(),
+                b: operands.b_width(),
+            },
             gates: Gates::new(alloc, rows),
             sums: Vec::new(alloc),
             carries: Vec::new(alloc),
@@ -61,26 +76,33 @@ impl<'a> Tree<'a> {
         let count = graph.outputs();
         let products = Products::of(alloc, &mut tree.gates, operands, count, style.form)?;
         for (k, column) in products.columns.iter().enumerate() {
-            let is_low = k < operands.a_literals().len();
-            let is_last = k.wrapping_add(1) == count as usize;
-            tree.add_column(column, is_low, is_last)?;
+            let place = Place {
+                column: (k % (1 << 32)) as u32,
+                is_last: k.wrapping_add(1) == count as usize,
+            };
+            tree.add_column(column, place)?;
         }
         Ok(tree)
     }
 
     // One column more: what is to be added there and the carries into it are put together.
-    fn add_column(&mut self, column: &Column, is_low: bool, is_last: bool) -> Result<(), Memory> {
+    fn add_column(&mut self, column: &Column, place: Place) -> Result<(), Memory> {
         let mut addends = Vec::new(self.alloc);
-        push_lits(&mut addends, &column.products)?;
+        for (number, lit) in column.products.iter().enumerate() {
+            let word = self.rows.word(place.column, (number % (1 << 32)) as u32);
+            push_lit(&mut addends, *lit, word)?;
+        }
         addends.extend_from_slice(&self.carries)?;
-        push_lits(&mut addends, &column.others)?;
+        for lit in column.others.iter() {
+            push_lit(&mut addends, *lit, self.rows.other())?;
+        }
         self.carries.clear();
         let extent = Extent {
             products: (column.products.len() % (1 << 32)) as u32,
             addends: (addends.len() % (1 << 32)) as u32,
-            is_low,
+            is_low: place.column < self.rows.a,
         };
-        let path = self.plan(&addends, extent, is_last)?;
+        let path = self.plan(&addends, extent, place.is_last)?;
         self.build(&addends, &path)
     }
 
@@ -96,6 +118,11 @@ impl<'a> Tree<'a> {
         for addend in addends {
             members.push(pool.push(self.gates.row(addend.lit), addend.level)?)?;
         }
+        if self.style.shape == Shape::Words {
+            let path = self.word_path(addends, &mut pool)?;
+            self.see(&pool, &path);
+            return Ok(path);
+        }
         let mut path = Vec::new(self.alloc);
         if !self.style.is_blind {
             path = sure_adders(self.alloc, &mut pool, &mut members)?;
@@ -105,8 +132,22 @@ impl<'a> Tree<'a> {
             path.push(step)?;
         }
         self.left = beam.left;
-        self.is_whole = self.is_whole && path.iter().all(|step| beam.pool.is_whole(&step.merge));
+        self.see(&beam.pool, &path);
         Ok(path)
+    }
+
+    // Keeps whether what each merge gives is known.
+    fn see(&mut self, pool: &Pool<'_>, path: &[Step]) {
+        self.is_whole = self.is_whole && path.iter().all(|step| pool.is_whole(&step.merge));
+    }
+
+    // Those of words.
+    fn word_path(&self, addends: &[Addend], pool: &mut Pool<'_>) -> Result<Vec<Step>, Memory> {
+        let mut words = Vec::new(self.alloc);
+        for addend in addends {
+            words.push(addend.word)?;
+        }
+        word_steps(self.alloc, pool, &words, self.rows.count())
     }
 
     // Makes the gates of merges; the sum of the last one is the column's.
@@ -134,6 +175,7 @@ impl<'a> Tree<'a> {
             self.carries.push(Addend {
                 lit: carry,
                 level: level.wrapping_add(1),
+                word: step.word,
             })?;
         }
         Ok(sum)
@@ -177,14 +219,13 @@ impl<'a> Tree<'a> {
     }
 }
 
-// Puts literals that are no sums or carries.
-fn push_lits(addends: &mut Vec<Addend>, lits: &[Lit]) -> Result<(), Memory> {
-    for lit in lits {
-        addends.push(Addend {
-            lit: *lit,
-            level: 0,
-        })?;
-    }
+// Puts a literal that is no sum or carry.
+fn push_lit(addends: &mut Vec<Addend>, lit: Lit, word: Word) -> Result<(), Memory> {
+    addends.push(Addend {
+        lit,
+        level: 0,
+        word,
+    })?;
     Ok(())
 }
 
@@ -209,10 +250,12 @@ fn put(numbered: &mut Vec<Addend>, place: usize, lit: Lit, level: u32) -> Result
         numbered.push(Addend {
             lit: Lit(0),
             level: 0,
+            word: Word::first(),
         })?;
     }
     if let Some(addend) = numbered.get_mut(place) {
-        *addend = Addend { lit, level };
+        addend.lit = lit;
+        addend.level = level;
     }
     Ok(())
 }
