@@ -11,7 +11,7 @@ use stage_rewriter::{Placed, Placing, place_beside};
 use std::alloc::Global;
 
 // Of fewer gates in a thousand no signal of the graph has the values: then it isn't worth while to compare the two.
-const LEAST_KNOWN: u32 = 150;
+const LEAST_KNOWN: u32 = 400;
 
 /// What comes of a reference beside the graph.
 #[derive(Debug, Drop)]

@@ -24,6 +24,9 @@ use std::alloc::Global;
 // How many cuts are looked at.
 const TRIES: u32 = 8;
 
+// The share of the conflicts that the first of them may have: the rest is kept for a reference beside the graph.
+const SHARE: u64 = 4;
+
 /// An extended graph, what takes the place of its outputs, if anything, and the lines that show that these are the
 /// graph's.
 #[derive(Clone, Copy)]
@@ -98,8 +101,8 @@ pub(crate) struct Found<'a> {
     pub(crate) log: Log,
 }
 
-/// A cut that is found and shown, within so many conflicts. Numbers at which one differs are held against the next,
-/// which may have half as many conflicts.
+/// A cut that is found and shown, within a share of so many conflicts. Numbers at which one differs are held against the
+/// next, which may have half as many conflicts.
 pub(crate) fn find_cut<'a>(
     alloc: Global,
     graph: &'a Graph,
@@ -113,7 +116,7 @@ pub(crate) fn find_cut<'a>(
     ensures agree { IfOk result (λ found. IfSome found (λ f. AgreeEverywhere f.extended)) }
 {
     let mut given = Vec::new(alloc);
-    let mut left = conflicts;
+    let mut left = conflicts / SHARE;
     for _try in 0..TRIES {
         let Some(cut) = candidate(alloc, graph, operands, &given)? else {
             return Ok(None);
