@@ -4,15 +4,15 @@
 //! What is asked is a `Task` of `command_core`: the claim, a product of two operands or such a product plus an addend,
 //! two bounds, and the version of the certificates. `decide` takes a graph that is in memory, and looks whether a
 //! ripple-carry adder may stand in place of its final stage: the *note* says what became of that. Then it reduces the
-//! columns of the multiplier along plans (`plans.rt`). With a small budget the slice plan comes first, over the graph with the adder,
-//! where that is used, or over the graph. Where that passes its budget, an adder at a cut that is found by the values
-//! of the variables may stand in the graph, if a solver shows it: plans over that graph come next. At last come the
-//! plans with the whole budget, each where the ones before it had a frontier with more monomials: the slice plan over
-//! the graph with the adder that is used, the slice plan over the graph, and the plain plan over it. Between these,
-//! values of the inputs with few ones are tried, and plans whose lines are drafted by implications between variables
-//! (`drafted.rt`): what is drafted comes from a heuristic, so such a plan decides rightly or not at all. A pair past
-//! the limits is put aside while a plan with a small budget is left, and its long lines are written as several
-//! (`ended.rt`, `shortened.rt`); which of several pairs is decided no public clause says.
+//! columns of the multiplier along plans (`plans.rt`). With a small budget the slice plan comes first, over the graph
+//! with the adder, where that is used, or over the graph. Where that passes its budget, an adder at a cut that is found
+//! by the values of the variables may stand in the graph, if a solver shows it: plans over that graph come next. At
+//! last come the plans with the whole budget, each where the ones before it had a frontier with more monomials: the
+//! slice plan over the graph with the adder that is used, the slice plan over the graph, and the plain plan over it.
+//! Between these, values of the inputs with few ones are tried, and plans whose lines are drafted by implications
+//! between variables (`drafted.rt`): what is drafted comes from a heuristic, so such a plan decides rightly or not at
+//! all. A pair past the limits is put aside while a plan with a small budget is left, and its long lines are written as
+//! several (`ended.rt`, `shortened.rt`); which of several pairs is decided no public clause says.
 //!
 //! Where the remainder is 0 the decision is `Proved`, with a pair of certificates in memory, over the graph with an
 //! adder where a plan over that ended; else it is `Wrong` with the least operands, and addend, on which the graph
