@@ -2,7 +2,7 @@
 //!
 //! `xor_of` gives the shape of a gate exactly where it is an exclusive or over two gates (`some`, `none`);
 //! `final_stage` the fit cut with the least low column, or none exactly where no cut is fit. `xor_of` takes no memory,
-//! and the only other answer of `final_stage` is want of it.
+//! and the only other answer of `final_stage` is out of memory.
 //!
 //! A gate of *XOR shape* is the exclusive or of its two *sides*, over two gates of which one *generates*; that one's
 //! operands are its *pair* (`specs/XorShape.antt`). A cut is *fit* by what the outputs from its low column on are,

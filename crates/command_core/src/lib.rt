@@ -10,7 +10,8 @@
 //! `Task` is what is asked of a graph.
 //!
 //! *Stop*, *due*, *interrupts*: `specs/Stopping.antt`. *Told*: the desk tells the bytes under a name. The names that
-//! are lent, as texts: `files_of` and its like (both in `specs/Files.antt`). What writing a file, or a pair of certificates, does to the outside: `specs/Written.antt`.
+//! are lent, as texts: `files_of` and its like (both in `specs/Files.antt`). What writing a file, or a pair of
+//! certificates, does to the outside: `specs/Written.antt`.
 #![tactic(auto)]
 
 mod file_name;

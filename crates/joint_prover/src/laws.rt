@@ -9,7 +9,7 @@ pub fn proved_pairs_are_held()
 {}
 
 /// Where no frontier of the plain order is above the budget, the verdict is `Proved` or `Wrong`, whichever is right; a
-/// file that spells no graph gets its first refusal. In place of these a fault may come, which was counted, or want of
+/// file that spells no graph gets its first refusal. In place of these a fault may come, which was counted, or out of
 /// memory.
 pub fn verdicts_are_exact()
     ensures { VerdictsAreExact }

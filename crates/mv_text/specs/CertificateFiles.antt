@@ -109,8 +109,8 @@ pub record HasFirstLine (first : List ℕ) (new : Lines) (bytes : List ℕ) (aft
   pub left : after ≡ Some body
   pub taken : new.taken + length body ≡ length bytes
 
--- Why a file doesn't begin with it: the line there is too long, or it is another one or has no line feed, a read failed, or want of
--- memory.
+-- Why a file doesn't begin with it: the line there is too long, or it is another one or has no line feed, a read failed, or memory
+-- ran out.
 abbrev pub IsFirstRefusal : List ℕ → Lengths → Option (List ℕ) → ℕ → ℕ → LineFail → Type 0
 IsFirstRefusal first lengths left before now fail.Text =
     IfSome left (λ bytes. ¬ (IsTooLong lengths (length bytes) bytes) × ((body : List ℕ) → bytes ≢ first ++ body))

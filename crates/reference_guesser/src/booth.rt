@@ -127,8 +127,8 @@ fn bit_of(
     gates.xor(part, negative)
 }
 
-// The sign of a multiple, which counts negative at a column. What the constants of all are together is a multiple of 2 to as many
-// bits as both operands have.
+// The sign of a multiple, which counts negative at a column. What the constants of all are together is a multiple of 2
+// to as many bits as both operands have.
 fn put_sign(products: &mut Products, low: usize, column: usize, sign: Lit) -> Result<(), Memory> {
     let next = column.wrapping_add(1);
     if low == 0 {

@@ -8,8 +8,8 @@
 //! constants, inputs, gates of the graph or earlier ones, and each column has at most one new output. Which one it is,
 //! is a heuristic.
 //!
-//! *Beside*: `specs/Beside.antt` of `ripple_graft`. *Row*: the values of a signal on all patterns. *Known*: some gate of
-//! the graph has the row, or its negation's. *Merge*: a half adder or a full adder over addends of a column.
+//! *Beside*: `specs/Beside.antt` of `ripple_graft`. *Row*: the values of a signal on all patterns. *Known*: some gate
+//! of the graph has the row, or its negation's. *Merge*: a half adder or a full adder over addends of a column.
 #![tactic(auto)]
 
 mod beam;

@@ -1,5 +1,5 @@
-//! Putting a ripple-carry adder in place of a graph's final stage, or gates beside a graph, where a solver shows that the
-//! outputs stay the same.
+//! Putting a ripple-carry adder in place of a graph's final stage, or gates beside a graph, where a solver shows that
+//! the outputs stay the same.
 //!
 //! `rewrite` looks for the final stage, grafts the adder, holds the goals against a few inputs, and has the negation of
 //! each goal refuted, column by column upward, within a budget of conflicts. What it answers is one of four kinds, each

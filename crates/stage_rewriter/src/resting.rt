@@ -10,7 +10,8 @@ use graph_core::{Gate, Lit, Memory};
 use ripple_graft::Extended;
 use std::alloc::Global;
 
-// So often the gates are passed, there and back, until nothing changes. Where that isn't enough, nothing is seen.
+// So many passes go over the gates, forward and backward in turn, until nothing changes. Where that isn't enough,
+// nothing is seen.
 const ROUNDS: u32 = 16;
 
 // There are fewer variables.
