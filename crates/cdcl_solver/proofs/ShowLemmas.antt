@@ -4,11 +4,11 @@ use Rattle.std.specs.List.{All, Contains}
 use Rattle.std.specs.Option.{IfSome}
 use Rattle.std.specs.declared.option.Option.{Option}
 use Rattle.std.specs.declared.option.Option.TheVariants.{Some}
-use Rattle.std.proofs.Common.{refl, sym, ap, subst, ◌∙◌, arith, inl, inr, ⊎_elim}
+use Rattle.std.proofs.Common.{Bool, Err, IfOk, IsTrue, Ok, Result, refl, sym, ap, subst, ◌∙◌, arith, inl, inr, ⊎_elim}
 use Rattle.std.proofs.lemmas.List.Elements.{All-cons, All-contains, All-map, Contains-get_or, Contains-push, Contains-push_cases, Contains-append_left}
 use Rattle.clause_core.specs.Clause.{Clause, IsClauseInRange, IsSubset, SameSet}
 use Rattle.clause_core.specs.Log.{IsLemma}
-use Rattle.clause_core.specs.UnitPropagation.{IsRup, IsTautology}
+use Rattle.clause_core.specs.UnitPropagation.{IsRefuted, IsRup, IsTautology}
 use Rattle.clause_core.specs.declared.line.Line.{Line}
 use Rattle.clause_core.specs.declared.line.Line.TheVariants.{Add}
 use Rattle.clause_core.proofs.Decided.{contains_nil, contains_there}
@@ -113,6 +113,15 @@ pub refuted_follows : (max : ℕ) (live : List Clause) (assumptions : List ℤ) 
 refuted_follows max live assumptions conflicts old new solved one other answer is both =
     let refuted : IsAnswer max live assumptions conflicts old new Refuted = subst (λ (s : Solved). IsAnswer max live assumptions conflicts old new s) is answer in
     subst (IsRup (new.left ++ live)) (ap (map neg_ℤ) both ∙ map_neg_twice (one ∷ other ∷ [])) refuted
+
+-- where the negations of two literals are refuted, the clause of both follows
+pub near_follows : {E : Type 0} (live : List Clause) (lits : List ℤ) (one other : ℤ) (r : Result Bool E) → lits ≡ neg_ℤ one ∷ neg_ℤ other ∷ [] → IfOk r (λ found. IsTrue found → IsRefuted live lits) → IfOk r (λ near. IsTrue near → IsRup live (one ∷ other ∷ []))
+near_follows live lits one other (Ok near) is h = λ t. inl (subst (IsRefuted live) is (h t))
+near_follows live lits one other (Err e) is h = tt
+
+-- two literals, pushed one after the other
+pub two_pushed : (a b d : List ℤ) (x y one other : ℤ) → a ≡ [] → b ≡ a ++ x ∷ [] → d ≡ b ++ y ∷ [] → x ≡ one → y ≡ other → d ≡ one ∷ other ∷ []
+two_pushed a b d x y one other e f g h k = g ∙ (ap (λ (ls : List ℤ). ls ++ y ∷ []) (f ∙ ap (λ (ls : List ℤ). ls ++ x ∷ []) e) ∙ two_equal x y one other h k)
 
 -- the log goes on by what is kept
 pub kept_more : (max : ℕ) (live : List Clause) (first : LogView) (n wider : ℕ) (s new : SolverView) (log after : LogView) → n + 1 ≤ wider → s.max ≡ max → SameLive s.live (log.left ++ live) → Continues max live n first log → All (IsClauseInRange max) log.left → KeepsOrLearns s log new after

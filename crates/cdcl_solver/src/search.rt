@@ -86,8 +86,9 @@ pub(crate) fn is_settled(max: u32, propagator: &mut Propagator, assumptions: &[i
     settled
 }
 
-/// Whether propagation derives each of two literals from the other's negation, or a conflict. Where it doesn't, no live
-/// clause is within the clause of both.
+/// Whether propagation derives each of two literals from the other's negation, or a conflict; where it doesn't, no live
+/// clause is within the clause of both. It isn't tried, and is taken not to, where the clauses that watch the first
+/// literal show that none is within.
 ///
 /// Which one is negated first is a heuristic: a gate that is false says little, and one that is true says what all
 /// below it are.
@@ -99,6 +100,9 @@ pub(crate) fn derive_each_other(max: u32, propagator: &mut Propagator, one: i32,
     ensures same { propagator.new ≡ propagator.old }
     ensures none { IsFalse result → HasNoneWithin (live_of propagator.old.clauses) (one ∷ other ∷ []) }
 {
+    if !propagator.may_have_within(one, other) {
+        return false;
+    }
     if one < 0 {
         return derive_both(max, propagator, other, one);
     }

@@ -48,6 +48,8 @@ pub struct Solver {
     room: Room,
     /// What was learnt here and may be deleted.
     lemmas: Lemmas,
+    /// The variables that were preferred last.
+    near: Vec<u32>,
 }
 
 impl Model for Solver {
@@ -78,6 +80,7 @@ impl Solver {
             order,
             room: Room::new(alloc),
             lemmas: Lemmas::new(alloc),
+            near: Vec::new(alloc),
         })
     }
 
@@ -126,11 +129,13 @@ impl Solver {
         Ok(())
     }
 
-    /// Decides these variables before the others, the last one first. No answer depends on it.
+    /// Decides these variables before the others, the last one first; and `show` tries propagation over these alone
+    /// first. No answer depends on it.
     pub fn prefer(&mut self, vars: &[u32])
         ensures { self.new ≡ self.old }
     {
         self.order.prefer(vars);
+        keep_all(&mut self.near, vars);
     }
 
     /// Decides the variables of these literals before the others, the last one first, and tries these values first. No
@@ -229,12 +234,27 @@ impl Solver {
         if !are_apart(self.max, one, other) {
             return Ok(false);
         }
+        if self.follows_near(one, other)? {
+            self.keep(one, other, log)?;
+            return Ok(true);
+        }
         let negated = [negation(one), negation(other)];
         match self.search(&negated, conflicts - 1, true, log)? {
             Some(Solved::Refuted) => self.keep(one, other, log)?,
             _ => return Ok(false),
         }
         Ok(true)
+    }
+
+    // Whether a clause of two literals follows from a few clauses near them, of the variables that were preferred last.
+    fn follows_near(&self, one: i32, other: i32) -> Result<bool, Memory>
+        requires { IsClauseInRange self.now.max (one ∷ other ∷ []) }
+        ensures { IfOk result (λ near. IsTrue near → IsRup self.now.live (one ∷ other ∷ [])) }
+    {
+        let mut lits = Vec::new(self.alloc);
+        lits.push(negation(one))?;
+        lits.push(negation(other))?;
+        self.propagator.is_refuted_near(&self.near, &mut lits)
     }
 
     // Logs and adds a clause of two literals that follows, but where propagation derives each from the other's
@@ -315,6 +335,14 @@ impl Solver {
             return Solved::Spent;
         }
         Solved::Refuted
+    }
+}
+
+// Keeps numbers in place of others, as many as there is room for.
+fn keep_all(kept: &mut Vec<u32>, numbers: &[u32]) {
+    kept.clear();
+    for number in numbers {
+        let _ = kept.push(*number);
     }
 }
 

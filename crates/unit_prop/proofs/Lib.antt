@@ -4,6 +4,7 @@ pub mod Codes
 pub mod ChainSteps
 pub mod Hanging
 pub mod HungViews
+pub mod PairWalks
 pub mod TrailSteps
 pub mod VisitSteps
 pub mod Visiting
@@ -13,5 +14,6 @@ pub mod Grounds
 pub mod Adding
 pub mod Removing
 pub mod FoundSets
+pub mod NearSteps
 pub mod Chains
 pub mod CallerLemmas

@@ -7,3 +7,4 @@ pub mod Trail
 pub mod Standing
 pub mod Visits
 pub mod Ground
+pub mod Near

@@ -1,6 +1,8 @@
 // Clauses, and what stands over them.
-ghost use Rattle.std.specs.Prelude.{◌≡◌, ◌≢◌, ◌↔◌, ◌<◌, ◌≤◌, ◌^◌, [], length, neg_ℤ, ℤ, IfOk, IfSome, MatchOption, OnErr, None, IsNone, IsSome, IsTrue, Some};
+ghost use Rattle.std.specs.Prelude.{◌≡◌, ◌≢◌, ◌↔◌, ◌<◌, ◌≤◌, ◌^◌, [], ◌∷◌, length, neg_ℤ, ℤ, IfOk, IfSome, IsFalse, MatchOption, OnErr, None, IsNone, IsSome, IsTrue, Some};
 ghost use Rattle.std.specs.List.{Contains};
+ghost use Rattle.clause_core.specs.Clause.{Clause as Literals, IsSubset};
+ghost use Rattle.clause_core.specs.UnitPropagation.{IsRefuted};
 ghost use Rattle.unit_prop.specs.Trail.{IsLiteralUpTo, HasValue};
 ghost use Rattle.unit_prop.specs.Standing.{
   Standing,
@@ -16,6 +18,7 @@ ghost use Rattle.unit_prop.specs.Standing.{
   IsReasonOf,
   HasSetAt,
   clause_at,
+  live_of,
   standing_with,
   standing_more,
   back_at,
@@ -23,6 +26,7 @@ ghost use Rattle.unit_prop.specs.Standing.{
 
 use crate::assumed::Assumed;
 use crate::ground::{forget, len_of, make_room, stand, stand_all};
+use crate::near::visit_near;
 use crate::reference::{Mark, Ref};
 use crate::trail::Trail;
 use crate::visits::visit_all;
@@ -215,6 +219,33 @@ impl Propagator {
             self.head = self.trail.visited(mark.count);
             self.trail.truncate(mark.count);
         }
+    }
+
+    /// Whether a live clause may be within the clause of two literals. False only where none is; true also where one of
+    /// the two is no longer open, or too many clauses watch the first one.
+    pub fn may_have_within(&self, one: i32, other: i32) -> bool
+        requires one { IsLiteralUpTo self.now.trail.greatest one }
+        requires other { IsLiteralUpTo self.now.trail.greatest other }
+        ensures { IsFalse result → (c : Literals) → Contains (live_of self.now.clauses) c → ¬ (IsSubset c (one ∷ other ∷ [])) }
+    {
+        if let Some(_) = self.refuted {
+            return true;
+        }
+        if let Some(_) = self.trail.value(one) {
+            return true;
+        }
+        if let Some(_) = self.trail.value(other) {
+            return true;
+        }
+        self.watches.may_pair(one, other)
+    }
+
+    /// Whether a chain of a few clauses refutes some literals: of those that watch their negations, or the negation of
+    /// what they lead to of some variables, which is appended. True only where one does. What stands says nothing here.
+    pub fn is_refuted_near(&self, vars: &[u32], lits: &mut Vec<i32>) -> Result<bool, Memory>
+        ensures { IfOk result (λ found. IsTrue found → IsRefuted (live_of self.now.clauses) lits.old.items) }
+    {
+        visit_near(&self.clauses, &self.watches, vars, lits)
     }
 
     /// Whether a literal is true or false, or neither.

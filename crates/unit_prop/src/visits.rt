@@ -26,11 +26,11 @@ ghost use Rattle.unit_prop.specs.Literals.{IsLiteral};
 ghost use Rattle.unit_prop.specs.Watches.{none};
 ghost use Rattle.unit_prop.specs.Trail.{IsLiteralUpTo};
 ghost use Rattle.unit_prop.specs.Standing.{clause_at};
-ghost use Rattle.unit_prop.specs.Visits.{IsVisitedUpTo, GainsLiterals, IsVisit, Settles, IsChosenWatch, IsFalse, IsPropagating, partner};
+ghost use Rattle.unit_prop.specs.Visits.{IsVisitedUpTo, GainsLiterals, IsVisit, Settles, IsChosenWatch, IsFalse, IsPropagating};
 
 use crate::literal::negation;
 use crate::trail::Trail;
-use crate::watches::Watches;
+use crate::watches::{Watches, partner_of};
 use clause_core::Clause;
 
 /// A watch whose literal is false.
@@ -56,14 +56,6 @@ pub(crate) enum Settled {
     Conflict,
     /// The clause was removed.
     Gone,
-}
-
-// The other node of a node's clause.
-fn partner_of(node: u32) -> u32
-    requires { node < 4294967295 }
-    ensures { result ≡ partner node }
-{
-    if node % 2 == 0 { node + 1 } else { node - 1 }
 }
 
 // A literal of the clause that isn't false, other than this one.

@@ -19,12 +19,16 @@ ghost use Rattle.std.specs.Prelude.{
   take,
   drop,
   IfOk,
+  IfSome,
+  IsFalse,
   OnOk,
   OnErr,
   MatchOption,
 };
 ghost use Rattle.unit_prop.specs.Literals.{IsLiteral};
-ghost use Rattle.unit_prop.specs.Watches.{code, IsHandOf, TakesNode};
+ghost use Rattle.unit_prop.specs.Visits.{partner};
+ghost use Rattle.unit_prop.specs.Watches.{code, no_node, none, IsHandOf, TakesNode};
+ghost use Rattle.unit_prop.specs.Near.{HasNoPair};
 
 use crate::literal::code_of;
 use graph_core::Memory;
@@ -33,6 +37,9 @@ use std::marker::Model;
 
 /// The end of each chain, and no clause.
 pub(crate) const NONE: u32 = u32::MAX;
+
+// How many nodes of a chain are looked at.
+const MANY: u32 = 1000;
 
 // One watch of a clause: nodes 2r and 2r + 1 are those of clause r.
 #[derive(Clone, Copy)]
@@ -107,6 +114,36 @@ impl Watches {
         self.nodes[node as usize].lit
     }
 
+    /// The first node that watches a literal, or `NONE`.
+    pub(crate) fn first(&self, lit: i32) -> u32 {
+        let list = 2 * lit.unsigned_abs() as usize + usize::from(lit < 0);
+        match self.heads.get(list) {
+            Some(node) => *node,
+            None => NONE,
+        }
+    }
+
+    /// The next node in the chain of a node, or `NONE`.
+    pub(crate) fn after(&self, node: u32) -> u32 {
+        match self.nodes.get(node as usize) {
+            Some(own) => own.next,
+            None => NONE,
+        }
+    }
+
+    /// Whether a node that watches one literal may have a partner that watches another one. False only where none has;
+    /// true also where there are too many.
+    pub(crate) fn may_pair(&self, one: i32, other: i32) -> bool
+        requires lit { IsLiteral one }
+        requires chain { code one < self.now.chains }
+        requires idle { self.now.hand ≡ [] }
+        ensures { IsFalse result → (n : ℕ) → n < length self.now.places → slice_index_or self.now.places n (pos 0) ≡ one →
+            slice_index_or self.now.places (partner n) (pos 0) ≢ other }
+    {
+        let first = self.heads[code_of(one) as usize];
+        may_pair_from(&self.nodes, first, other)
+    }
+
     /// Takes all nodes that watch a literal into the hand.
     pub(crate) fn take_up(&mut self, lit: i32)
         requires lit { IsLiteral lit }
@@ -151,6 +188,47 @@ impl Watches {
         };
         self.heads[list] = node;
     }
+}
+
+/// The other node of a node's clause.
+pub(crate) fn partner_of(node: u32) -> u32
+    requires { node < 4294967295 }
+    ensures { result ≡ partner node }
+{
+    if node % 2 == 0 { node + 1 } else { node - 1 }
+}
+
+// Whether a node of the chain from a place on may have a partner that watches a literal.
+fn may_pair_from(nodes: &[Node], first: u32, other: i32) -> bool
+    requires { length nodes.now ≤ none }
+    ensures { IsFalse result → HasNoPair nodes.now first other }
+{
+    let mut node = first;
+    for _step in 0..MANY {
+        if node >= NONE {
+            return false;
+        }
+        let Some(beside) = node_at(nodes, partner_of(node)) else {
+            return true;
+        };
+        if beside.lit == other {
+            return true;
+        }
+        let Some(own) = node_at(nodes, node) else {
+            return true;
+        };
+        node = own.next;
+    }
+    true
+}
+
+fn node_at(nodes: &[Node], place: u32) -> Option<Node>
+    ensures { IfSome result (λ n. n ≡ slice_index_or nodes.now place no_node) }
+{
+    if (place as usize) < nodes.len() {
+        return Some(nodes[place as usize]);
+    }
+    None
 }
 
 // one node more, where there is room

@@ -16,3 +16,10 @@ returns-clause-none c f =
     let other = c.ranges.other in
     let none = simp to_z-of_z at c.derive_both-2.ensures.none in
     none f
+
+pub returns-then-not-may_have_within-clause-none : goal.returns-then-not-may_have_within-clause-none
+returns-then-not-may_have_within-clause-none c f =
+    let one = c.ranges.one in
+    let other = c.ranges.other in
+    let none = simp to_z-of_z at c.may_have_within.ensures in
+    none c.if-not-may_have_within.true

@@ -1,0 +1,6 @@
+use Rattle.clause_core.specs.UnitPropagation.{IsRefuted}
+use Rattle.unit_prop.specs.Standing.{live_of}
+use Rattle.unit_prop.proofs.near.visit_near.Given as goal
+
+abbrev pub invariant-loop-pass : goal.invariant-loop-pass
+invariant-loop-pass l = IsRefuted (live_of l.clauses) l.lits.items → IsRefuted (live_of l.clauses) l.initial.lits.items
