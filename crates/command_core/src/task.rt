@@ -10,6 +10,6 @@ pub struct Task {
     pub budget: u64,
     /// How many conflicts the solver may have before a rewriting is given up.
     pub conflicts: u64,
-    /// The version of the certificates that are written, 1 or 2.
+    /// The greatest version of certificates that may be written, 1 to 3.
     pub version: u8,
 }
