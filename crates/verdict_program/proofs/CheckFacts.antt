@@ -1,5 +1,5 @@
 -- What follows from an answer of `check`.
-use Rattle.std.proofs.Common.{◌≡◌, refl, subst, sym, arith}
+use Rattle.std.proofs.Common.{refl, subst, sym}
 use Rattle.aiger_reader.specs.Refusals.{SpellsWithin}
 use Rattle.command_line.specs.declared.command.Command.TheVariants.{Check}
 use Rattle.graph_core.specs.Graph.Operands.{profile_of}
@@ -9,35 +9,23 @@ use Rattle.joint_checker.specs.Outcome.{IsDue, IsOutcome, IsStopDue}
 use Rattle.joint_checker.proofs.DueRows.{outcomes_are_exact}
 use Rattle.joint_checker.specs.declared.checked.Checked.{Checked}
 use Rattle.joint_checker.specs.declared.checked.Checked.TheVariants as checked
-use Rattle.mv_desk.specs.View.{View, Rose, bytes_under}
+use Rattle.mv_desk.specs.View.{View, bytes_under}
 use Rattle.verdict_program.specs.declared.answer.Answer.TheVariants as answer
 use Rattle.verdict_program.specs.Answer.{status_of, status_of_check}
-use Rattle.verdict_program.specs.Headline.{IsAsClaimed}
 use Rattle.verdict_program.specs.Runs.{EndsAsDue, TellsHeld, standard}
-use Rattle.verdict_program.proofs.StopFacts.{gives_as_due, no_write_failed, read_failed, stop_is_apart}
-use Rattle.verdict_program.proofs.Facts.{Facts, told_bytes}
+use Rattle.verdict_program.proofs.StopFacts.{gives_as_due}
+use Rattle.verdict_program.proofs.Facts.{Facts, Says, stop_says, told_bytes}
 use Rattle.verdict_program.proofs.Told.{some_more}
 
 module _ (files : Files) (claim : Claim) (a b : View) where
   abbrev Is : Checked → Type 0
   Is outcome = IsOutcome standard claim files a b outcome
 
-  zero : (outcome : Checked) → Is outcome → status_of_check outcome ≡ 0 → IsAsClaimed a files.graph claim
-  zero checked.Accepted h e =
+  says : (outcome : Checked) → Is outcome → Says (Check files claim) (answer.Checked outcome) a b (status_of_check outcome)
+  says checked.Accepted h =
       some_more (bytes_under a files.graph) (λ bytes. SpellsWithin (profile_of claim.widths) standard.graph bytes h.0) _ (λ bytes spelled. (h.0, spelled.spells, h.2.3.1)) h.1
-  zero (checked.Refused why) h e = absurd (omega arith)
-  zero (checked.Stopped why) h e = absurd ((stop_is_apart why).zero e)
-
-  six : (outcome : Checked) → Is outcome → status_of_check outcome ≡ 6 → Rose a.read_faults b.read_faults
-  six checked.Accepted h e = absurd (omega arith)
-  six (checked.Refused why) h e = absurd (omega arith)
-  six (checked.Stopped why) h e = read_failed a b (IsStopDue standard claim (texts_of a files)) why h e
-
-  -- no other status has a cause to be told
-  others : (outcome : Checked) → Is outcome → (status_of_check outcome ≡ 1 → ⊥) × (status_of_check outcome ≡ 2 → ⊥) × (status_of_check outcome ≡ 5 → ⊥) × (status_of_check outcome ≡ 7 → ⊥)
-  others checked.Accepted h = ((λ e. absurd (omega arith)), (λ e. absurd (omega arith)), (λ e. absurd (omega arith)), (λ e. absurd (omega arith)))
-  others (checked.Refused why) h = ((λ e. absurd (omega arith)), (λ e. absurd (omega arith)), (λ e. absurd (omega arith)), (λ e. absurd (omega arith)))
-  others (checked.Stopped why) h = let apart = stop_is_apart why in (apart.one, apart.two, apart.five, no_write_failed a b (IsStopDue standard claim (texts_of a files)) why h)
+  says (checked.Refused why) h = tt
+  says (checked.Stopped why) h = stop_says (Check files claim) (answer.Checked (checked.Stopped why)) a b (IsStopDue standard claim (texts_of a files)) why h
 
   given_as_due : (outcome : Checked) → Is outcome → TellsHeld a → (due : Checked) → IsDue standard claim (texts_of a files) due → EndsAsDue (status_of_check due) (status_of_check outcome)
   given_as_due outcome h told due k =
@@ -45,12 +33,7 @@ module _ (files : Files) (claim : Claim) (a b : View) where
       (record { graph_told = told_bytes a told files.graph; clauses_told = told_bytes a told files.clauses; algebra_told = told_bytes a told files.algebra }) due k)
 
   pub check_facts : (outcome : Checked) → Is outcome → Facts (Check files claim) a b (answer.Checked outcome)
-  check_facts outcome h = let none = others outcome h in record {
-    zero = λ e. zero outcome h e;
-    one = λ e. absurd (none.0 e);
-    two = λ e. absurd (none.1 e);
-    five = λ e. absurd (none.2 e);
-    six = λ e. six outcome h e;
-    seven = λ e. absurd (none.3 e);
+  check_facts outcome h = record {
+    says = says outcome h;
     due = λ told due k. subst (λ d. EndsAsDue (status_of d) (status_of_check outcome)) (sym k.1) (given_as_due outcome h told k.0 k.2);
   }

@@ -1,11 +1,14 @@
 -- What follows from a command's answer, by its status.
-use Rattle.std.proofs.Common.{◌≡◌, ℕ, List, Some, None}
-use Rattle.std.specs.Prelude.{[], Bool, ⊤, IsSome, Option, option_map, unwrap_or}
+use Rattle.std.proofs.Common.{◌≡◌, ℕ, List, Some, None, subst}
+use Rattle.std.specs.Prelude.{[], Bool, ⊤, IsSome, Option, option_map, suc, unwrap_or, zero}
 use Rattle.command_line.specs.declared.command.Command.{Command}
 use Rattle.command_line.specs.declared.command.Command.TheVariants.{Check, CheckSame, Eval, Make, Same, Trial, Trim, Verify}
 use Rattle.graph_core.specs.Graph.Operands.{profile_of}
 use Rattle.graph_maker.specs.Designed.{designed}
 use Rattle.command_core.specs.Files.{HasGraph}
+use Rattle.command_core.specs.Stopping.{IsStop}
+use Rattle.command_core.specs.declared.stop.Stop.{Stop}
+use Rattle.command_core.specs.declared.stop.Stop.TheVariants as stop
 use Rattle.joint_prover.specs.declared.note.Note.{Note}
 use Rattle.joint_prover.specs.declared.verdict.Tried.{Tried}
 use Rattle.joint_prover.specs.Notes.{IsNote, replacement_of}
@@ -24,6 +27,7 @@ use Rattle.verdict_program.specs.Answer.{status_of}
 use Rattle.verdict_program.specs.Evaluation.{IsValueDue}
 use Rattle.verdict_program.specs.Headline.{AreTheSame, IsAsClaimed}
 use Rattle.verdict_program.specs.Making.{text_for}
+use Rattle.verdict_program.specs.Stops.{status_of_stop}
 use Rattle.verdict_program.specs.Trial.{IsAcceptedWith, IsUndecidedWith, OfMade, sample_of}
 use Rattle.verdict_program.specs.Runs.{DiffersSomewhere, EndsAsDue, HasSpentPair, IsDueOf, TellsHeld, TellsNames, standard}
 use Rattle.verdict_program.proofs.Told.{none_told}
@@ -61,15 +65,31 @@ IsUndecidedFor (Trial number) a = (step : ℕ) × (size : ℕ) × (n : Note) × 
 IsUndecidedFor (Same files conflicts) a = HasSpentPair conflicts a files
 IsUndecidedFor command a = ⊥
 
--- One command's answer: what each status says, and that the answer which is due is given.
+-- what a status says of a command's answer
+abbrev pub Says : Command → Answer → View → View → ℕ → Type 0
+Says command given a b zero = Succeeds command given a b
+Says command given a b (suc zero) = IsWrongFor command a
+Says command given a b (suc (suc zero)) = IsTooGreatFor command a
+Says command given a b (suc (suc (suc (suc (suc zero))))) = IsUndecidedFor command a
+Says command given a b (suc (suc (suc (suc (suc (suc zero)))))) = Rose a.read_faults b.read_faults
+Says command given a b (suc (suc (suc (suc (suc (suc (suc zero))))))) = Rose a.write_faults b.write_faults
+Says command given a b _ = ⊤
+
+-- One command's answer: what its status says, and that the answer which is due is given.
 pub record Facts (command : Command) (a b : View) (given : Answer) : Type 0 where
-  pub zero : status_of given ≡ 0 → Succeeds command given a b
-  pub one : status_of given ≡ 1 → IsWrongFor command a
-  pub two : status_of given ≡ 2 → IsTooGreatFor command a
-  pub five : status_of given ≡ 5 → IsUndecidedFor command a
-  pub six : status_of given ≡ 6 → Rose a.read_faults b.read_faults
-  pub seven : status_of given ≡ 7 → Rose a.write_faults b.write_faults
+  pub says : Says command given a b (status_of given)
   pub due : TellsHeld a → (due : Answer) → IsDueOf command a due → EndsAsDue (status_of due) (status_of given)
+
+pub said : (command : Command) (a b : View) (given : Answer) → Facts command a b given → (status : ℕ) → status_of given ≡ status → Says command given a b status
+said command a b given facts status is = subst (Says command given a b) is facts.says
+
+-- the answer is a stop of a call that only reads
+pub stop_says : (command : Command) (given : Answer) (a b : View) (P : Stop → Type 0) (why : Stop) → IsStop P a b why → Says command given a b (status_of_stop why)
+stop_says command given a b P (stop.Graph at fail) h = tt
+stop_says command given a b P stop.ReadFault h = h
+stop_says command given a b P stop.WriteFault h = absurd h
+stop_says command given a b P (stop.TooLong at) h = tt
+stop_says command given a b P stop.Memory h = tt
 
 -- ---- what is told
 
