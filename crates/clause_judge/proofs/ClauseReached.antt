@@ -24,7 +24,9 @@ use Rattle.drup_text.specs.LineTexts.{IsClauseLineInRange, IsSameClauseLine}
 use Rattle.drup_text.proofs.CallerLemmas.{long_of, none_clause_line, short_of}
 use Rattle.drup_text.specs.HeaderSteps.{IsLongIn}
 use Rattle.miter_encoder.specs.ColumnGoals.{AreGoalsOf}
+use Rattle.command_core.specs.declared.stop.Stop.TheVariants as stop
 use Rattle.mv_desk.specs.View.{View}
+use Rattle.mv_desk.specs.declared.slot.Slot.TheVariants as slot
 use Rattle.mv_text.specs.declared.line_fail.LineFail.{LineFail}
 use Rattle.mv_text.specs.declared.line_fail.LineFail.TheVariants as text
 use Rattle.mv_text.specs.LineReading.{IsLongAhead}
@@ -114,8 +116,11 @@ module _ (e : Extended) (start : FileState) (body : Option (List ℕ)) where
             refused_lines n Range (λ bytes. ¬ (IsLongAhead file.lines bytes) × BeginsOutOfRange IsClauseLine (IsClauseLineInRange e.max) bytes) same k
             (λ bytes p r. inr (short_here bytes p r.0, inr (r.1.0, r.1.1, r.1.2, inl (r.1.3, refl))))
         go text.Fault k = rose_before first.read_faults before.read_faults now.read_faults later k
-        go text.TooLong k = told_more body (λ bytes. IsRefusedLines (IsLongIn start.lines bytes) e (start.number + 1) bytes (n, TooLong)) (λ bytes. (m : ℕ) × IsRefusedLines (IsLongIn start.lines bytes) e (start.number + 1) bytes (m, TooLong))
-            (λ bytes r. (n, r)) (refused_lines n TooLong (IsLongAhead file.lines) same k (λ bytes p r. inl (long_here bytes p r, refl)))
+        go text.TooLong k = (
+          refl,
+          told_more body (λ bytes. IsRefusedLines (IsLongIn start.lines bytes) e (start.number + 1) bytes (n, TooLong)) (λ bytes. (m : ℕ) × IsRefusedLines (IsLongIn start.lines bytes) e (start.number + 1) bytes (m, TooLong))
+              (λ bytes r. (n, r)) (refused_lines n TooLong (IsLongAhead file.lines) same k (λ bytes p r. inl (long_here bytes p r, refl))),
+        )
         go text.Memory k = tt
 
     -- ---- the end
@@ -126,9 +131,12 @@ module _ (e : Extended) (start : FileState) (body : Option (List ℕ)) where
         pass_map e (IsLongIn start.lines bytes) (Ends (IsLongIn start.lines bytes)) xs live p.rest (gate_clauses e.gates) bytes p.passed (short_here bytes p end.short, end.none)) stands.passed
 
     -- a reader within its limit doesn't read so many lines
-    pub too_many : (first now : View) → 2 ^ 63 ≤ length xs → start.lines.lengths.file < 2 ^ 64 → Fails first now fail.TooLong
-    too_many first now many limit = told_more body (IsPassedTo e start.lines xs live file.lines left) (λ bytes. (m : ℕ) × IsRefusedLines (IsLongIn start.lines bytes) e (start.number + 1) bytes (m, TooLong))
-        (λ bytes p. let room = p.room in let turns = p.turns in absurd (omega (arith, many, limit, turns, p.room (omega (arith, many))))) stands.passed
+    pub too_many : (first now : View) → 2 ^ 63 ≤ length xs → start.lines.lengths.file < 2 ^ 64 → Fails first now (fail.Stopped (stop.TooLong slot.Clauses))
+    too_many first now many limit = (
+      refl,
+      told_more body (IsPassedTo e start.lines xs live file.lines left) (λ bytes. (m : ℕ) × IsRefusedLines (IsLongIn start.lines bytes) e (start.number + 1) bytes (m, TooLong))
+          (λ bytes p. let room = p.room in let turns = p.turns in absurd (omega (arith, many, limit, turns, p.room (omega (arith, many))))) stands.passed,
+    )
 
     -- ---- a line was read
 

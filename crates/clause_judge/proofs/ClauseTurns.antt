@@ -20,11 +20,12 @@ use Rattle.drup_checker.specs.declared.keeps.Keeps.{Keeps}
 use Rattle.mv_text.specs.CertificateFiles.{FileState, GoesOn, left_of_file}
 use Rattle.miter_encoder.specs.ColumnGoals.{AreGoalsOf, HasGoals, IsGoalOf}
 use Rattle.miter_encoder.specs.declared.goal.Goal.{Goal}
+use Rattle.command_core.specs.declared.stop.Stop.TheVariants as stop
 use Rattle.mv_desk.specs.View.{View}
 use Rattle.mv_desk.specs.declared.slot.Slot.TheVariants as slot
 use Rattle.clause_judge.specs.declared.fail.ClauseFail.{ClauseFail}
 use Rattle.clause_judge.specs.declared.fail.ClauseFail.TheVariants as fail
-use Rattle.clause_judge.specs.ClauseBody.{AreClausesJudged, BeginsBody, BeginsSomewhere, HasJudgedClauses, HasPassed, IsAtHand, IsClauseReached, IsFailFrom, IsRestFail, IsSameTask, IsShownFrom, IsShownWith, JoinsFrom, KeepsClauseTask, ShowsFrom}
+use Rattle.clause_judge.specs.ClauseBody.{AreClausesJudged, BeginsBody, BeginsSomewhere, HasJudgedClauses, HasPassed, IsAtHand, IsClauseReached, IsFailFrom, IsOver, IsRestFail, IsSameTask, IsShownFrom, IsShownWith, JoinsFrom, KeepsClauseTask, ShowsFrom}
 use Rattle.clause_judge.specs.ClauseLines.{IsGoalFail, IsRuleFail, IsTextFail, NextLine, ReadsNext, TakesClauseLine}
 use Rattle.clause_judge.specs.Taking.{IsShownOver}
 use Rattle.clause_judge.specs.declared.judging.JudgeClauses.{JudgeClauses}
@@ -83,16 +84,16 @@ module _ (e : Extended) (start : FileState) (body : Option (List ℕ)) where
   }
 
   -- a new checker over these gates and goals, where the first line was read with the greatest variable of the gates
-  pub begins_with : (k : Checking) (gates : List Gate) (cs : List Clause) (goals : List Goal) (keeps : Keeps) (m : ℕ) (next : Option ClauseLine) (file : FileState) (left : Option (List ℕ)) →
-      Starts gates m cs goals keeps k → All (λ b. b ≡ false) k.shown → AreSameSets cs (gate_clauses gates) → e.gates ≡ gates → m ≡ e.max → AreGoalsOf e goals →
-      file.lines.lengths ≡ start.lines.lengths → start.lines.lengths.file < 2 ^ 64 → ReadsNext m start file body left next → BeginsBody e k start file body left next
-  begins_with k gates cs goals keeps m next file left starts none clauses own is of lengths limit read = record {
-    taken = checker_begins e cs k (subst (λ (gs : List Gate). AreSameSets cs (gate_clauses gs)) (sym own) clauses) starts.live_is starts.added_is none;
-    max = starts.max_is ∙ is;
-    goals = subst (AreGoalsOf e) (sym starts.goals_are) of;
+  pub begins_with : (max : ℕ) (gates : List Gate) (goals : List Goal) → IsOver max gates goals e → (k : Checking) (cs : List Clause) (keeps : Keeps) (next : Option ClauseLine) (file : FileState) (left : Option (List ℕ)) →
+      Starts gates max cs goals keeps k → All (λ b. b ≡ false) k.shown → AreSameSets cs (gate_clauses gates) → file.lines.lengths ≡ start.lines.lengths → start.lines.lengths.file < 2 ^ 64 →
+      ReadsNext max start file body left next → BeginsBody e k start file body left next
+  begins_with max gates goals over k cs keeps next file left starts none clauses lengths limit read = record {
+    taken = checker_begins e cs k (subst (λ (gs : List Gate). AreSameSets cs (gate_clauses gs)) (sym over.gates_are) clauses) starts.live_is starts.added_is none;
+    max = starts.max_is ∙ over.max_is;
+    goals = subst (AreGoalsOf e) (sym starts.goals_are) over.goals_are;
     lengths = lengths;
     limit = limit;
-    read = subst (λ (n : ℕ). ReadsNext n start file body left next) is read;
+    read = subst (λ (n : ℕ). ReadsNext n start file body left next) over.max_is read;
   }
 
   -- there is no line and no goal
@@ -211,7 +212,7 @@ module _ {start it : JudgeClauses} {first before : View} {count : ℕ} (judged :
         let r = at None is e file body b in
         reached.goals_fail e file body r.xs r.live r.before r.ahead r.stands it.checker.now r.taken (same_goals e b.goals) r.read earlier now answer h
 
-  pub too_many : 2 ^ 63 ≤ count → (now : View) → FailsSince now fail.TooLong
+  pub too_many : 2 ^ 63 ≤ count → (now : View) → FailsSince now (fail.Stopped (stop.TooLong slot.Clauses))
   too_many many now e file body b earlier later =
       let r = judged.reached e file body b in
       let turns = r.turns in

@@ -1,6 +1,8 @@
 pub mod Told
+pub mod Fails
 pub mod LineEnds
 pub mod Causes
+pub mod KeptRecords
 pub mod ClauseRests
 pub mod Joins
 pub mod CheckerBegins

@@ -2,6 +2,7 @@
 use Rattle.std.specs.Prelude.{◌≡◌, ◌+◌, ◌*◌, ◌<◌, ◌≤◌, ◌^◌, ℕ, List, [], length, IfErr, IfOk, IfSome, OnOk, Result, ⊤}
 use Rattle.std.specs.declared.option.Option.{Option}
 use Rattle.std.specs.declared.option.Option.TheVariants.{None, Some}
+use Rattle.graph_core.specs.declared.gate.Gate.{Gate}
 use Rattle.graph_core.specs.Graph.Extended.{Extended, AgreeOnColumns}
 use Rattle.graph_core.specs.Text.JudgedLines.{Behind}
 use Rattle.mv_fact.specs.Always.{Always}
@@ -13,16 +14,16 @@ use Rattle.drup_checker.specs.Checking.{Checking, kept}
 use Rattle.drup_checker.specs.declared.keeps.Keeps.{Keeps}
 use Rattle.drup_text.specs.ClauseTexts.{IsClauseLine}
 use Rattle.mv_text.specs.CertificateFiles.{FileState, GoesOn, left_of_file}
-use Rattle.drup_text.specs.HeaderRefusal.{TooLong}
 use Rattle.drup_text.specs.HeaderSteps.{IsLongIn}
 use Rattle.miter_encoder.specs.ColumnGoals.{AreGoalsOf}
-use Rattle.mv_desk.specs.View.{Rose, View}
+use Rattle.miter_encoder.specs.declared.goal.Goal.{Goal}
+use Rattle.mv_desk.specs.View.{View}
 use Rattle.mv_desk.specs.declared.slot.Slot.TheVariants as slot
 use Rattle.mv_text.specs.LineReading.{Lines}
 use Rattle.clause_judge.specs.declared.fail.ClauseFail.{ClauseFail}
-use Rattle.clause_judge.specs.declared.fail.ClauseFail.TheVariants as fail
 use Rattle.clause_judge.specs.ClauseLines.{ReadsNext}
-use Rattle.clause_judge.specs.LineRefusals.{IsClauseStep, IsRefusedLines, line_cause}
+use Rattle.clause_judge.specs.Fails.{IsFailOf}
+use Rattle.clause_judge.specs.LineRefusals.{IsClauseStep, IsRefusedLines}
 use Rattle.clause_judge.specs.Taking.{HasTaken, IsShownOver}
 use Rattle.clause_judge.specs.declared.judging.JudgeClauses.{JudgeClauses}
 
@@ -48,16 +49,16 @@ IsShownWith e lines keeps clauses count body = (xs : List ClauseLine) × HasPass
 
 -- Why that isn't so, the first line having this number.
 abbrev pub IsRestFail : ℕ → Extended → Lines → Option (List ℕ) → View → View → ClauseFail → Type 0
-IsRestFail number e lines left before now (fail.Line line why) =
-    IfSome left (λ body. IsRefusedLines (IsLongIn lines body) e number body (line, line_cause why))
-IsRestFail number e lines left before now (fail.Goals column) =
-    IfSome left (λ body. (xs : List ClauseLine) × HasPassed e lines xs body × IsGoalRefusal e xs column)
-IsRestFail number e lines left before now fail.TooLong =
-    IfSome left (λ body. (line : ℕ) × IsRefusedLines (IsLongIn lines body) e number body (line, TooLong))
-IsRestFail number e lines left before now fail.ReadFault = Rose before.read_faults now.read_faults
-IsRestFail number e lines left before now fail.Memory = ⊤
+IsRestFail number e lines left = IsFailOf left (λ body. IsRefusedLines (IsLongIn lines body) e number body)
+    (λ body column. (xs : List ClauseLine) × HasPassed e lines xs body × IsGoalRefusal e xs column)
 
--- ---- from the first line on
+-- An extended graph has these gates, with this greatest variable, and these are the goals of its columns.
+pub record IsOver (max : ℕ) (gates : List Gate) (goals : List Goal) (e : Extended) : Type 0 where
+  pub max_is : max ≡ e.max
+  pub gates_are : e.gates ≡ gates
+  pub goals_are : AreGoalsOf e goals
+
+-- ---- from the first line on. Private clauses alone cite what follows.
 
 -- Of a body that a reader had before it the first line was read, or its end, and a checker has taken no line.
 pub record BeginsBody (e : Extended) (k : Checking) (start file : FileState) (body left : Option (List ℕ)) (first : Option ClauseLine) : Type 0 where
@@ -96,7 +97,7 @@ IsFailFrom k first file left entry now answer =
     (before : View) → before.read_faults ≤ entry.read_faults →
     IsRestFail (start.number + 1) e start.lines body before now answer
 
--- ---- how far the lines are judged. Private clauses alone cite what follows.
+-- ---- how far the lines are judged
 
 -- lawful lines from these live clauses and bytes on, up to those
 abbrev pub PassTo : Extended → (List ℕ → Type 0) → List ClauseLine → List Clause → List ℕ → List Clause → List ℕ → Type 0

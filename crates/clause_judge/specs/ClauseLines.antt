@@ -5,11 +5,13 @@ use Rattle.std.specs.declared.option.Option.TheVariants.{None, Some}
 use Rattle.clause_core.specs.ClauseLines.{ClauseLine}
 use Rattle.clause_core.specs.UnitPropagation.{IsRup}
 use Rattle.clause_core.specs.declared.line.Line.TheVariants.{Add, Delete}
+use Rattle.command_core.specs.declared.stop.Stop.TheVariants as stop
 use Rattle.drup_checker.specs.Checking.{AddsRup, Checking, Deletes, IsLeastUnshown, IsNowhere}
 use Rattle.drup_text.specs.ClauseTexts.{IsClauseLine}
 use Rattle.mv_text.specs.CertificateFiles.{FileState, GoesOn, IsAtEnd, IsNextRefusal, TakesText}
 use Rattle.drup_text.specs.LineTexts.{IsClauseLineInRange, IsSameClauseLine}
 use Rattle.mv_desk.specs.View.{View}
+use Rattle.mv_desk.specs.declared.slot.Slot.TheVariants as slot
 use Rattle.mv_text.specs.declared.line_fail.LineFail.{LineFail}
 use Rattle.mv_text.specs.LineReading.{Lines}
 use Rattle.mv_text.specs.declared.line_fail.LineFail.TheVariants as text
@@ -37,9 +39,9 @@ ReadsNext max old new left behind (Some line) = NextLine max old new left behind
 abbrev pub answer_of_line : ℕ → LineFail → ClauseFail
 answer_of_line line text.Text = fail.Line line why.Text
 answer_of_line line text.Range = fail.Line line why.Range
-answer_of_line line text.Fault = fail.ReadFault
-answer_of_line line text.TooLong = fail.TooLong
-answer_of_line line text.Memory = fail.Memory
+answer_of_line line text.Fault = fail.Stopped stop.ReadFault
+answer_of_line line text.TooLong = fail.Stopped (stop.TooLong slot.Clauses)
+answer_of_line line text.Memory = fail.Stopped stop.Memory
 
 -- Why the line with this number isn't read.
 abbrev pub IsTextFail : ℕ → ℕ → Lines → Option (List ℕ) → View → View → ClauseFail → Type 0
@@ -56,7 +58,7 @@ TakesClauseLine (Delete c) old new = Deletes c old new
 
 -- Why it doesn't take the line with this number.
 abbrev pub IsRuleFail : ℕ → ClauseLine → Checking → ClauseFail → Type 0
-IsRuleFail n (Add c) k answer = ((answer ≡ fail.Line n why.NotImplied) × ¬ (IsRup k.live c)) ⊎ (answer ≡ fail.Memory)
+IsRuleFail n (Add c) k answer = ((answer ≡ fail.Line n why.NotImplied) × ¬ (IsRup k.live c)) ⊎ (answer ≡ fail.Stopped stop.Memory)
 IsRuleFail n (Delete c) k answer = (answer ≡ fail.Line n why.NoSuchClause) × IsNowhere c k
 
 -- Some goal isn't shown: the least column with one.

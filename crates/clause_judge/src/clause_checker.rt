@@ -8,6 +8,7 @@ ghost use Rattle.clause_judge.specs.ClauseLines.{IsGoalFail, IsRuleFail, TakesCl
 use crate::clause_line::refused;
 use crate::fail::{ClauseFail, ClauseWhy};
 use clause_core::Line;
+use command_core::Stop;
 use drup_checker::{AddFail, Checker, NoSuchClause};
 
 /// The checker takes a line, which has this number.
@@ -25,7 +26,7 @@ pub(crate) fn take_line(
         Line::Add(clause) => match checker.add(clause) {
             Ok(()) => Ok(()),
             Err(AddFail::NotImplied) => Err(refused(number, ClauseWhy::NotImplied)),
-            Err(AddFail::Memory) => Err(ClauseFail::Memory),
+            Err(AddFail::Memory) => Err(ClauseFail::Stopped(Stop::Memory)),
         },
         Line::Delete(clause) => match checker.delete(clause) {
             Ok(()) => Ok(()),

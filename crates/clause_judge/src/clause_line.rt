@@ -8,12 +8,13 @@ ghost use Rattle.clause_judge.specs.ClauseLines.{IsTextFail, ReadsNext, answer_o
 
 use crate::fail::{ClauseFail, ClauseWhy};
 use clause_core::Line;
+use command_core::Stop;
 use drup_text::ClauseFile;
-use mv_desk::Desk;
+use mv_desk::{Desk, Slot};
 use mv_text::LineFail;
 
 /// The next line, or none at the end of the file.
-pub fn read_line<D: Desk>(
+pub(crate) fn read_line<D: Desk>(
     desk: &mut D,
     file: &mut ClauseFile,
     max: u32,
@@ -42,9 +43,9 @@ pub fn line_refused(line: u64, why: LineFail) -> ClauseFail
     match why {
         LineFail::Text => refused(line, ClauseWhy::Text),
         LineFail::Range => refused(line, ClauseWhy::Range),
-        LineFail::Fault => ClauseFail::ReadFault,
-        LineFail::TooLong => ClauseFail::TooLong,
-        LineFail::Memory => ClauseFail::Memory,
+        LineFail::Fault => ClauseFail::Stopped(Stop::ReadFault),
+        LineFail::TooLong => ClauseFail::Stopped(Stop::TooLong(Slot::Clauses)),
+        LineFail::Memory => ClauseFail::Stopped(Stop::Memory),
     }
 }
 

@@ -1,4 +1,5 @@
 // Why the lines of a clause certificate aren't taken.
+use command_core::Stop;
 use graph_core::Memory;
 
 /// Why a line of a clause certificate is refused.
@@ -21,20 +22,18 @@ pub enum ClauseFail {
     Line { line: u64, why: ClauseWhy },
     /// The least column with a goal that no added clause shows.
     Goals { column: u32 },
-    /// A read failed.
-    ReadFault,
-    /// The file, or a line of it, is longer than its limit, and no refusal comes before that.
-    TooLong,
-    Memory,
+    /// A failed read, a length, or out of memory.
+    Stopped(Stop),
 }
 
 impl From<Memory> for ClauseFail {
     ghost use Rattle.std.specs.Prelude.{◌≡◌};
+    ghost use Rattle.command_core.specs.declared.stop.Stop.TheVariants as stop;
     ghost use Rattle.clause_judge.specs.declared.fail.ClauseFail.TheVariants as fail;
 
-    ghost from_gives = { λ _ answer. answer ≡ fail.Memory };
+    ghost from_gives = { λ _ answer. answer ≡ fail.Stopped stop.Memory };
 
     fn from(_: Memory) -> Self {
-        ClauseFail::Memory
+        ClauseFail::Stopped(Stop::Memory)
     }
 }

@@ -2,10 +2,11 @@
 use Rattle.std.proofs.Common.{◌≡◌, ℕ, ◌≤◌, List, [], ◌∷◌, ◌++◌, length, Option, IfSome, refl, sym, ap, subst, ◌∙◌, append_assoc, inl, inr}
 use Rattle.std.specs.Prelude.{Bool, true, false, cond, codes, ◌==◌}
 use Rattle.algebra_core.specs.Refusal as cause
-use Rattle.graph_core.specs.Graph.Operands.{Sides}
 use Rattle.algebra_core.specs.Refusal.{AlgebraCause, IsAlgebraRefusal, IsRefusedBody}
-use Rattle.algebra_core.specs.AlgebraLines.{Premises}
+use Rattle.algebra_core.specs.AlgebraLines.{Line}
+use Rattle.algebra_core.specs.Certificates.{IsLawfulAlgebra}
 use Rattle.algebra_core.specs.Text.{algebra_header, first_line}
+use Rattle.graph_core.specs.Graph.Extended.{modulus}
 use Rattle.graph_core.specs.Text.JudgedLines.{IsTooLong, Lengths}
 use Rattle.graph_core.specs.Text.{newline}
 use Rattle.graph_core.proofs.OfTexts.CallerLemmas.{HasNoNewline, ShortFrom, short_next, short_within, start_later, none_in}
@@ -13,18 +14,18 @@ use Rattle.mv_desk.specs.View.{View}
 use Rattle.mv_text.specs.declared.line_fail.LineFail.{LineFail}
 use Rattle.mv_text.specs.declared.line_fail.LineFail.TheVariants as fail
 use Rattle.mv_desk.specs.declared.slot.Slot.TheVariants as slot
-use Rattle.command_core.specs.declared.stop.Stop.TheVariants as stop
+use Rattle.command_core.specs.Stopping.{IsLong}
+use Rattle.command_core.proofs.CallerLemmas.{IsLong-weaker, IsStop-weaker}
 use Rattle.mv_text.specs.CertificateFiles.{FileState, HasFirstLine, IsFirstRefusal}
-use Rattle.joint_checker.specs.declared.checked.Checked.{Checked}
-use Rattle.joint_checker.specs.declared.checked.Checked.TheVariants as checked
-use Rattle.joint_checker.specs.declared.checked.Refusal.TheVariants as refusal
-use Rattle.joint_checker.specs.AlgebraBody.{IsBodyFail, IsLawfulBody}
-use Rattle.drup_text.specs.HeaderSteps.{IsLongIn}
-use Rattle.joint_checker.specs.Answers.{answer_of_algebra_line}
-use Rattle.algebra_core.specs.Certificates.{IsLawfulAlgebra}
+use Rattle.algebra_judge.specs.AlgebraBody.{IsBodyFail, IsLawfulBody}
+use Rattle.algebra_judge.specs.AlgebraLines.{AlgebraTask, IsLongIn}
+use Rattle.algebra_judge.specs.Fails.{answer_of_line, cause_of}
+use Rattle.algebra_judge.specs.Records.{IsRecordOf, IsRecordedBody}
+use Rattle.algebra_judge.specs.declared.fail.AlgebraFail.{AlgebraFail}
+use Rattle.algebra_judge.specs.declared.fail.AlgebraFail.TheVariants as algebra
+use Rattle.joint_checker.specs.Answers.{answer_of_algebra}
 use Rattle.joint_checker.specs.Fails.{IsAlgebraFail}
-use Rattle.joint_checker.specs.Outcome.{cause_of}
-use Rattle.clause_judge.proofs.Told.{rose_before, told_more, told_of}
+use Rattle.clause_judge.proofs.Told.{told_more, told_of}
 
 none_first : (version : ℕ) → HasNoNewline (first_line version)
 none_first version = go (version == 1) (version == 2)
@@ -34,32 +35,32 @@ none_first version = go (version == 1) (version == 2)
     go false true = none_in (codes "pac 2") refl
     go false false = none_in (codes "pac 3") refl
 
-module _ (lengths : Lengths) (given : Premises) (sides : Sides) where
+module _ (lengths : Lengths) (t : AlgebraTask) where
   -- the first line isn't the header
-  pub header_fails : (text : Option (List ℕ)) (before now : View) (why : LineFail) → IsFirstRefusal (algebra_header given.version) lengths text before.read_faults now.read_faults why → IsAlgebraFail lengths given sides text before now (answer_of_algebra_line 1 why)
+  pub header_fails : (text : Option (List ℕ)) (before now : View) (why : LineFail) → IsFirstRefusal (algebra_header t.premises.version) lengths text before.read_faults now.read_faults why → IsAlgebraFail lengths t.premises t.sides text before now (answer_of_algebra (answer_of_line 1 why))
   header_fails text before now fail.Text h =
-      told_more text _ (λ bytes. IsAlgebraRefusal given sides lengths bytes (1, cause.Text)) (λ bytes k. inr (k.0, inl (k.1, refl))) h
+      told_more text _ (λ bytes. IsAlgebraRefusal t.premises t.sides lengths bytes (1, cause.Text)) (λ bytes k. inr (k.0, inl (k.1, refl))) h
   header_fails text before now fail.Range h = absurd h
   header_fails text before now fail.Fault h = h
   header_fails text before now fail.TooLong h =
-      (refl, told_more text (λ bytes. IsTooLong lengths (length bytes) bytes) (λ bytes. (line : ℕ) × IsAlgebraRefusal given sides lengths bytes (line, cause.TooLong)) (λ bytes k. (1, inl (k, refl))) h)
+      (refl, told_more text (λ bytes. IsTooLong lengths (length bytes) bytes) (λ bytes. (line : ℕ) × IsAlgebraRefusal t.premises t.sides lengths bytes (line, cause.TooLong)) (λ bytes k. (1, inl (k, refl))) h)
   header_fails text before now fail.Memory h = tt
 
-  module _ (file : FileState) (same : file.lines.lengths ≡ lengths) (bytes : List ℕ) (behind : Option (List ℕ)) (header : HasFirstLine (algebra_header given.version) file.lines bytes behind) where
+  module _ (file : FileState) (same : file.lines.lengths ≡ lengths) (bytes : List ℕ) (behind : Option (List ℕ)) (header : HasFirstLine (algebra_header t.premises.version) file.lines bytes behind) where
     whole : (P : (List ℕ → Type 0) → Type 0) → P (IsLongIn file.lines header.body) → P (IsTooLong lengths (length bytes))
     whole P h = subst (λ (k : Lengths). P (IsTooLong k (length bytes))) same (subst (λ (n : ℕ). P (IsTooLong file.lines.lengths n)) header.taken h)
 
     short : ¬ (IsTooLong lengths (length bytes) bytes)
     short = subst (λ (k : Lengths). ¬ (IsTooLong k (length bytes) bytes)) same header.short
 
-    pub file_is_lawful : IsLawfulBody given sides file.lines header.body → IsLawfulAlgebra lengths given sides bytes
+    pub file_is_lawful : IsLawfulBody t file.lines header.body → IsLawfulAlgebra lengths t.premises t.sides bytes
     file_is_lawful h =
-        let first = first_line given.version in
+        let first = first_line t.premises.version in
         let is : bytes ≡ first ++ newline ∷ header.body = header.begins ∙ append_assoc first (newline ∷ []) header.body in
         let later : ShortFrom (IsTooLong lengths (length bytes)) header.body = whole (λ IsLong. ShortFrom IsLong header.body) h.short in
         let all : ShortFrom (IsTooLong lengths (length bytes)) bytes =
         subst (ShortFrom (IsTooLong lengths (length bytes))) (sym is)
-        (short_next (IsTooLong lengths (length bytes)) first header.body (none_first given.version) (subst (λ (l : List ℕ). ¬ (IsTooLong lengths (length bytes) l)) is short) later) in (
+        (short_next (IsTooLong lengths (length bytes)) first header.body (none_first t.premises.version) (subst (λ (l : List ℕ). ¬ (IsTooLong lengths (length bytes) l)) is short) later) in (
           record {
             lines = h.lines;
             closing = h.closing;
@@ -71,39 +72,50 @@ module _ (lengths : Lengths) (given : Premises) (sides : Sides) where
           short_within lengths bytes all (start_later bytes header.body [] (inr (first, is)) h.ends),
         )
 
-    pub file_is_refused : (line : ℕ) (c : AlgebraCause) → IsRefusedBody given sides (IsLongIn file.lines header.body) header.body (line, c) → IsAlgebraRefusal given sides lengths bytes (line, c)
-    file_is_refused line c h = inr (short, inr (header.body, header.begins, whole (λ IsLong. IsRefusedBody given sides IsLong header.body (line, c)) h))
+    pub file_is_refused : (line : ℕ) (c : AlgebraCause) → IsRefusedBody t.premises t.sides (IsLongIn file.lines header.body) header.body (line, c) → IsAlgebraRefusal t.premises t.sides lengths bytes (line, c)
+    file_is_refused line c h = inr (short, inr (header.body, header.begins, whole (λ IsLong. IsRefusedBody t.premises t.sides IsLong header.body (line, c)) h))
 
   -- ---- where the file is told
 
-  module _ (file : FileState) (same : file.lines.lengths ≡ lengths) (text : Option (List ℕ)) (behind : Option (List ℕ)) (header : IfSome text (λ bytes. HasFirstLine (algebra_header given.version) file.lines bytes behind)) where
-    pub text_is_lawful : IfSome behind (IsLawfulBody given sides file.lines) → IfSome text (IsLawfulAlgebra lengths given sides)
-    text_is_lawful h = told_more text (λ bytes. HasFirstLine (algebra_header given.version) file.lines bytes behind) (IsLawfulAlgebra lengths given sides)
-        (λ bytes k. file_is_lawful file same bytes behind k (told_of behind k.body (IsLawfulBody given sides file.lines) k.left h)) header
+  module _ (file : FileState) (same : file.lines.lengths ≡ lengths) (text : Option (List ℕ)) (behind : Option (List ℕ)) (header : IfSome text (λ bytes. HasFirstLine (algebra_header t.premises.version) file.lines bytes behind)) where
+    pub text_is_lawful : IfSome behind (IsLawfulBody t file.lines) → IfSome text (IsLawfulAlgebra lengths t.premises t.sides)
+    text_is_lawful h = told_more text (λ bytes. HasFirstLine (algebra_header t.premises.version) file.lines bytes behind) (IsLawfulAlgebra lengths t.premises t.sides)
+        (λ bytes k. file_is_lawful file same bytes behind k (told_of behind k.body (IsLawfulBody t file.lines) k.left h)) header
 
-    refused_text : (line : ℕ) (c : AlgebraCause) → IfSome behind (λ body. IsRefusedBody given sides (IsLongIn file.lines body) body (line, c)) →
-        IfSome text (λ bytes. IsAlgebraRefusal given sides lengths bytes (line, c))
-    refused_text line c h = told_more text (λ bytes. HasFirstLine (algebra_header given.version) file.lines bytes behind) (λ bytes. IsAlgebraRefusal given sides lengths bytes (line, c))
-        (λ bytes k. file_is_refused file same bytes behind k line c (told_of behind k.body (λ body. IsRefusedBody given sides (IsLongIn file.lines body) body (line, c)) k.left h)) header
+    refused_text : (line : ℕ) (c : AlgebraCause) → IfSome behind (λ body. IsRefusedBody t.premises t.sides (IsLongIn file.lines body) body (line, c)) →
+        IfSome text (λ bytes. IsAlgebraRefusal t.premises t.sides lengths bytes (line, c))
+    refused_text line c h = told_more text (λ bytes. HasFirstLine (algebra_header t.premises.version) file.lines bytes behind) (λ bytes. IsAlgebraRefusal t.premises t.sides lengths bytes (line, c))
+        (λ bytes k. file_is_refused file same bytes behind k line c (told_of behind k.body (λ body. IsRefusedBody t.premises t.sides (IsLongIn file.lines body) body (line, c)) k.left h)) header
 
-    long_text : IfSome behind (λ body. (line : ℕ) × IsRefusedBody given sides (IsLongIn file.lines body) body (line, cause.TooLong)) →
-        IfSome text (λ bytes. (line : ℕ) × IsAlgebraRefusal given sides lengths bytes (line, cause.TooLong))
-    long_text h = told_more text (λ bytes. HasFirstLine (algebra_header given.version) file.lines bytes behind) (λ bytes. (line : ℕ) × IsAlgebraRefusal given sides lengths bytes (line, cause.TooLong))
-        (λ bytes k. let there = told_of behind k.body (λ body. (line : ℕ) × IsRefusedBody given sides (IsLongIn file.lines body) body (line, cause.TooLong)) k.left h in
+    long_text : IfSome behind (λ body. (line : ℕ) × IsRefusedBody t.premises t.sides (IsLongIn file.lines body) body (line, cause.TooLong)) →
+        IfSome text (λ bytes. (line : ℕ) × IsAlgebraRefusal t.premises t.sides lengths bytes (line, cause.TooLong))
+    long_text h = told_more text (λ bytes. HasFirstLine (algebra_header t.premises.version) file.lines bytes behind) (λ bytes. (line : ℕ) × IsAlgebraRefusal t.premises t.sides lengths bytes (line, cause.TooLong))
+        (λ bytes k. let there = told_of behind k.body (λ body. (line : ℕ) × IsRefusedBody t.premises t.sides (IsLongIn file.lines body) body (line, cause.TooLong)) k.left h in
         (there.0, file_is_refused file same bytes behind k there.0 cause.TooLong there.1)) header
 
     -- what is after the header isn't lawful
-    pub body_fails : (first before now : View) (answer : Checked) → first.read_faults ≤ before.read_faults → IsBodyFail given sides file.lines behind before now answer → IsAlgebraFail lengths given sides text first now answer
-    body_fails first before now checked.Accepted later h = absurd h
-    body_fails first before now (checked.Stopped (stop.Graph at why)) later h = absurd h
-    body_fails first before now (checked.Refused (refusal.Clauses n why)) later h = absurd h
-    body_fails first before now (checked.Refused (refusal.Goals column)) later h = absurd h
-    body_fails first before now (checked.Refused (refusal.Algebra n why)) later h = refused_text n (cause_of why) h
-    body_fails first before now (checked.Stopped (stop.TooLong slot.Graph)) later h = absurd h
-    body_fails first before now (checked.Stopped (stop.TooLong slot.Other)) later h = absurd h
-    body_fails first before now (checked.Stopped (stop.TooLong slot.Clauses)) later h = absurd h
-    body_fails first before now (checked.Stopped (stop.TooLong slot.Algebra)) later h = (refl, long_text h)
-    body_fails first before now (checked.Stopped (stop.TooLong slot.Report)) later h = absurd h
-    body_fails first before now (checked.Stopped stop.ReadFault) later h = rose_before first.read_faults before.read_faults now.read_faults later h
-    body_fails first before now (checked.Stopped stop.WriteFault) later h = absurd h
-    body_fails first before now (checked.Stopped stop.Memory) later h = tt
+    pub body_fails : (first before now : View) (given : AlgebraFail) → first.read_faults ≤ before.read_faults → IsBodyFail t file.lines behind before now given → IsAlgebraFail lengths t.premises t.sides text first now (answer_of_algebra given)
+    body_fails first before now (algebra.Line n why) later h = refused_text n (cause_of why) h
+    body_fails first before now (algebra.Stopped why) later h =
+        let P : Type 0 = IfSome behind (λ body. (line : ℕ) × IsRefusedBody t.premises t.sides (IsLongIn file.lines body) body (line, cause.TooLong)) in
+        let Q : Type 0 = IfSome text (λ bytes. (line : ℕ) × IsAlgebraRefusal t.premises t.sides lengths bytes (line, cause.TooLong)) in
+        IsStop-weaker (IsLong slot.Algebra P) before now (IsLong slot.Algebra Q) first (IsLong-weaker slot.Algebra P Q long_text) later why h
+
+    -- what is recorded of the lines after the header is so of the file
+    pub text_is_recorded : (recorded : List Line) (closing count : ℕ) → IfSome behind (IsRecordedBody t recorded closing count) → IfSome text (λ bytes. IsRecordOf t.records t.premises.version (modulus t.premises.extended) bytes recorded closing count)
+    text_is_recorded recorded closing count h = told_more text (λ bytes. HasFirstLine (algebra_header t.premises.version) file.lines bytes behind) (λ bytes. IsRecordOf t.records t.premises.version (modulus t.premises.extended) bytes recorded closing count) (λ bytes k.
+        let b = told_of behind k.body (IsRecordedBody t recorded closing count) k.left h in
+        record {
+          lines = b.lines;
+          text = (
+            k.body,
+            b.last,
+            b.close.1.0,
+            b.close.1.1,
+            b.texts,
+            b.close.2 ∙ ap (λ (l : List ℕ). l ++ newline ∷ []) b.close.1.2,
+            k.begins ∙ append_assoc (first_line t.premises.version) (newline ∷ []) k.body,
+          );
+          alike = b.alike;
+          counted = b.counted;
+        }) header

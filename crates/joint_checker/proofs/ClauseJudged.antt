@@ -16,7 +16,10 @@ use Rattle.drup_text.specs.HeaderRefusal.{IsClauseHeaderRefusal, LineCause, Rang
 use Rattle.drup_text.specs.Headers.{extended_with}
 use Rattle.drup_text.proofs.CallerLemmas.{behind_header, header_anyhow}
 use Rattle.drup_text.specs.HeaderSteps.{IsLongIn}
+use Rattle.command_core.specs.Stopping.{IsLong}
+use Rattle.command_core.proofs.CallerLemmas.{IsLong-weaker, IsStop-weaker}
 use Rattle.mv_desk.specs.View.{View}
+use Rattle.mv_desk.specs.declared.slot.Slot.TheVariants as slot
 use Rattle.mv_text.specs.declared.line_fail.LineFail.{LineFail}
 use Rattle.mv_text.specs.declared.line_fail.LineFail.TheVariants as fail
 use Rattle.joint_checker.specs.Answers.{answer_of_clauses}
@@ -32,7 +35,7 @@ use Rattle.joint_checker.specs.Shown.{keeps_of}
 use Rattle.joint_checker.proofs.ClauseWholes.{lawful_lines}
 use Rattle.joint_checker.proofs.KeptRecords.{imported_of_kept}
 use Rattle.gate_axioms.proofs.CallerLemmas.{same_imports}
-use Rattle.clause_judge.proofs.Told.{rose_before, told_more, told_of}
+use Rattle.clause_judge.proofs.Told.{told_more, told_of}
 
 module _ (lengths : Lengths) (g : Aig) where
   -- ---- the header
@@ -113,6 +116,7 @@ module _ (lengths : Lengths) (g : Aig) where
     pub rest_fails : (first before now : View) (given : ClauseFail) → first.read_faults ≤ before.read_faults → IsRestFail (file.number + 1) e file.lines behind before now given → IsClauseFail lengths g text first now (answer_of_clauses given)
     rest_fails first before now (clauses.Line n why) later k = told_refusal (n, line_cause why) k
     rest_fails first before now (clauses.Goals column) later k = column_refusal column k
-    rest_fails first before now clauses.TooLong later k = (refl, long_refusal k)
-    rest_fails first before now clauses.ReadFault later k = rose_before first.read_faults before.read_faults now.read_faults later k
-    rest_fails first before now clauses.Memory later k = tt
+    rest_fails first before now (clauses.Stopped why) later k =
+        let P : Type 0 = IfSome behind (λ body. (n : ℕ) × IsRefusedLines (IsLongIn file.lines body) e (file.number + 1) body (n, TooLong)) in
+        let Q : Type 0 = IfSome text (λ bytes. (n : ℕ) × IsClauseRefusal lengths g bytes (n, TooLong)) in
+        IsStop-weaker (IsLong slot.Clauses P) before now (IsLong slot.Clauses Q) first (IsLong-weaker slot.Clauses P Q long_refusal) later why k

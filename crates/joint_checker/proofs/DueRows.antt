@@ -19,8 +19,8 @@ use Rattle.mv_desk.specs.View.{View}
 use Rattle.mv_desk.specs.declared.limits.Limits.{Limits}
 use Rattle.mv_desk.specs.declared.slot.Slot.TheVariants as slot
 use Rattle.mv_text.specs.LineReading.{lengths_of}
-use Rattle.joint_checker.specs.declared.checked.AlgebraWhy.{AlgebraWhy}
-use Rattle.joint_checker.specs.declared.checked.AlgebraWhy.TheVariants as why
+use Rattle.algebra_judge.specs.declared.fail.AlgebraWhy.{AlgebraWhy}
+use Rattle.algebra_judge.specs.declared.fail.AlgebraWhy.TheVariants as why
 use Rattle.joint_checker.specs.declared.checked.Checked.{Checked}
 use Rattle.joint_checker.specs.declared.checked.Checked.TheVariants as checked
 use Rattle.clause_judge.specs.declared.fail.ClauseWhy.{ClauseWhy}
@@ -33,7 +33,8 @@ use Rattle.pair_core.specs.Certificates.{IsLawfulPair}
 use Rattle.pair_core.specs.ClauseFiles.{GivesPremises}
 use Rattle.joint_checker.specs.ClauseRefusals.{ClauseFault, Goals, IsClauseRefusal, IsFileRefusal, Line}
 use Rattle.command_core.specs.Files.{Files, Texts, texts_of}
-use Rattle.joint_checker.specs.Outcome.{IsDue, IsExactAnswer, IsOutcome, IsStopDue, MeetsAlgebra, MeetsClauses, OneAnswerIsDue, OutcomesAreExact, cause_of}
+use Rattle.joint_checker.specs.Outcome.{IsDue, IsExactAnswer, IsOutcome, IsStopDue, MeetsAlgebra, MeetsClauses, OneAnswerIsDue, OutcomesAreExact}
+use Rattle.algebra_judge.specs.Fails.{cause_of}
 use Rattle.clause_judge.specs.LineRefusals.{line_cause}
 use Rattle.clause_judge.proofs.Causes.{next_exact}
 use Rattle.joint_checker.proofs.ClauseWholes.{clauses_are_exact}

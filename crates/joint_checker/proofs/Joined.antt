@@ -1,10 +1,9 @@
 -- The join, and what it means for a graph: goals shown make replaced columns agree, and so a specification that vanishes makes the graph
 -- multiply.
-use Rattle.std.specs.Prelude.{◌≡◌, ℕ, ◌+◌, ◌*◌, ◌%◌, ◌≤◌, ◌==◌, Bool, true, false, cond, List, [], ◌∷◌, ◌++◌, length, map, codes}
-use Rattle.std.specs.declared.option.Option.{Option}
-use Rattle.std.specs.declared.option.Option.TheVariants.{None, Some}
+use Rattle.std.specs.Prelude.{◌≡◌, ℕ, ◌+◌, ◌*◌, ◌%◌, ◌≤◌, ◌==◌, Bool, true, false, cond, List, [], ◌∷◌, ◌++◌, map, codes}
+use Rattle.std.specs.declared.option.Option.TheVariants.{None}
 use Rattle.std.specs.List.{All, AllByRecursion, Contains, flat_map}
-use Rattle.std.proofs.Common.{refl, sym, ap, ap₂, subst, ◌∙◌, arith, inl, ⊎_elim}
+use Rattle.std.proofs.Common.{refl, sym, ap, ap₂, subst, ◌∙◌, arith, inl}
 use Rattle.std.proofs.lemmas.List.Elements.{All-nil, All-contains, All-from_recursion, All-weaker, recursion_from_All}
 use Rattle.algebra_core.specs.AlgebraLines.{AreMet, Premises, specification}
 use Rattle.graph_core.specs.Graph.Extended.{AgreeOnColumns, Extended, without_cut}

@@ -22,10 +22,10 @@ use Rattle.poly_text.specs.Recorded.{lines_in}
 use Rattle.clause_core.specs.KeptClauses.{AreEarlier, HaveTightChains}
 use Rattle.pair_core.specs.ClauseFiles.{AddsClauses, importable, premises}
 use Rattle.command_core.specs.Files.{Files, texts_of}
-use Rattle.joint_checker.specs.Judged.{IsJudgedPair, IsLawfulRecord, IsToldPair}
-use Rattle.joint_checker.specs.Records.{IsRecordOf}
+use Rattle.joint_checker.specs.Judged.{IsJudgedPair, IsToldPair}
+use Rattle.algebra_judge.specs.Records.{IsLawfulRecord, IsRecordOf}
 use Rattle.joint_checker.specs.Shown.{IsShownOf, premises_of}
-use Rattle.joint_checker.specs.declared.algebra_file.Closed.{Closed}
+use Rattle.algebra_judge.specs.declared.judging.Closed.{Closed}
 use Rattle.joint_checker.specs.declared.checking.Judged.{Judged}
 use Rattle.joint_checker.specs.declared.clause_file.Shown.{Shown}
 use Rattle.mv_desk.proofs.CallerLemmas.{Inspects-trans}

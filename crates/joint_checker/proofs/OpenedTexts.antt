@@ -20,7 +20,7 @@ use Rattle.joint_checker.specs.declared.checked.Refusal.{Refusal}
 use Rattle.joint_checker.specs.declared.checked.Refusal.TheVariants as refusal
 use Rattle.joint_checker.specs.ClauseRefusals.{IsClauseRefusal, IsColumnRefusal}
 use Rattle.joint_checker.specs.Fails.{IsAlgebraFail, IsClauseFail, IsFail, RefusesAlgebra, RefusesClauses}
-use Rattle.joint_checker.specs.Outcome.{cause_of}
+use Rattle.algebra_judge.specs.Fails.{cause_of}
 use Rattle.clause_judge.specs.LineRefusals.{line_cause}
 
 -- weaker causes, since an earlier time

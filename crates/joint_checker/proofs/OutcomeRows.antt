@@ -28,7 +28,8 @@ use Rattle.joint_checker.specs.ClauseRefusals.{IsClauseRefusal, IsColumnRefusal}
 use Rattle.joint_checker.specs.Fails.{IsAlgebraFail, IsClauseFail, IsFail, RefusesAlgebra, RefusesClauses}
 use Rattle.joint_checker.specs.LawfulFiles.{HasPremises}
 use Rattle.command_core.specs.Files.{Files, texts_of}
-use Rattle.joint_checker.specs.Outcome.{IsOutcome, IsRefusalDue, IsStopDue, MeetsAlgebra, MeetsClauses, cause_of}
+use Rattle.joint_checker.specs.Outcome.{IsOutcome, IsRefusalDue, IsStopDue, MeetsAlgebra, MeetsClauses}
+use Rattle.algebra_judge.specs.Fails.{cause_of}
 use Rattle.clause_judge.specs.LineRefusals.{line_cause}
 use Rattle.joint_checker.proofs.Joined.{graph_is, vanishing_does}
 

@@ -1,5 +1,5 @@
 -- How many outputs graphs of multipliers have, and that the graph with a header's blocks is of that graph.
-use Rattle.std.proofs.Common.{◌≡◌, refl, ◌≤◌, true, false, length, arith}
+use Rattle.std.proofs.Common.{◌≡◌, ◌≤◌, true, false, length, arith}
 use Rattle.graph_core.specs.declared.widths.Widths.{Widths}
 use Rattle.graph_core.specs.declared.widths.Widths.TheVariants.{Equal, Given}
 use Rattle.graph_core.specs.Aiger.Sizes.{IsSizedAs}

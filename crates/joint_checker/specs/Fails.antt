@@ -18,7 +18,7 @@ use Rattle.graph_core.specs.Graph.{Aig}
 use Rattle.drup_text.specs.HeaderRefusal.{TooLong}
 use Rattle.joint_checker.specs.ClauseRefusals.{IsClauseRefusal, IsColumnRefusal}
 use Rattle.clause_judge.specs.LineRefusals.{line_cause}
-use Rattle.joint_checker.specs.Outcome.{cause_of}
+use Rattle.algebra_judge.specs.Fails.{cause_of}
 
 -- It is refused so, or there is a stop.
 abbrev pub IsFail : (Refusal → Type 0) → (Stop → Type 0) → View → View → Checked → Type 0

@@ -1,13 +1,11 @@
 -- What is recorded of a pair of certificates that was judged and accepted.
-use Rattle.std.specs.Prelude.{◌≡◌, true, [], IfSome}
-use Rattle.std.specs.List.{All}
+use Rattle.std.specs.Prelude.{true, [], IfSome}
 use Rattle.aiger_reader.specs.Refusals.{SpellsWithin}
-use Rattle.algebra_core.specs.AlgebraLines.{AreLawful, Premises}
+use Rattle.algebra_core.specs.AlgebraLines.{Premises}
 use Rattle.graph_core.specs.Graph.Extended.{modulus, Extended}
-use Rattle.algebra_core.specs.Text.{IsId}
 use Rattle.graph_core.specs.Aiger.Sizes.{IsSizedAs}
 use Rattle.graph_core.specs.Graph.{IsBuilt}
-use Rattle.graph_core.specs.Graph.Operands.{Does, Sides, profile_of, sides_for}
+use Rattle.graph_core.specs.Graph.Operands.{Does, profile_of, sides_for}
 use Rattle.graph_core.specs.declared.claim.Claim.{Claim}
 use Rattle.clause_core.specs.GateClauses.{gate_clauses}
 use Rattle.clause_judge.specs.Taking.{IsShownOver}
@@ -15,15 +13,11 @@ use Rattle.drup_checker.specs.declared.keeps.Keeps.TheVariants as keep
 use Rattle.drup_text.specs.Headers.{IsHeaderOf, extended_with}
 use Rattle.mv_desk.specs.declared.limits.Limits.{Limits}
 use Rattle.mv_text.specs.LineReading.{lengths_of}
-use Rattle.pac_checker.specs.Checking.{IsRecordable}
-use Rattle.poly_terms.specs.Tables as table
-use Rattle.poly_text.specs.Lines.{AreOf}
-use Rattle.poly_text.specs.Recorded.{AreMadeOfEarlier, AreRisingIds, HasNewId, ids_in, lines_in}
+use Rattle.poly_text.specs.Recorded.{lines_in}
 use Rattle.clause_core.specs.KeptClauses.{AreEarlier, HaveTightChains}
 use Rattle.pair_core.specs.ClauseFiles.{AddsClauses, importable, premises}
 use Rattle.command_core.specs.Files.{Texts}
-use Rattle.joint_checker.specs.Records.{IsRecordOf}
-use Rattle.joint_checker.specs.declared.algebra_file.Closed.{Closed}
+use Rattle.algebra_judge.specs.Records.{IsLawfulRecord, IsRecordOf}
 use Rattle.joint_checker.specs.declared.checking.Judged.{Judged}
 
 -- the graph with the blocks of the header, and the premises that the clause file gives
@@ -37,17 +31,6 @@ premises_for j = premises j.header.version (extended_of j) (importable j.header.
 pub record HasChains (j : Judged) : Type 0 where
   pub chains : HaveTightChains (gate_clauses (extended_of j).gates) [] j.recorded.added j.recorded.uses.items
   pub earlier : AreEarlier j.recorded.uses.items
-
--- The recorded lines are lawful over these premises, and close. Each introduces an id, is made of earlier ones, and can be written.
-pub record IsLawfulRecord (p : Premises) (sides : Sides) (c : Closed) : Type 0 where
-  pub lawful : AreLawful p sides (lines_in c.record.terms c.record.lines.items) c.id
-  pub closing : IsId c.id
-  pub modulus_is : table.modulus_in c.record.terms ≡ modulus p.extended
-  pub of_table : All (AreOf c.record.terms) c.record.lines.items
-  pub recordable : All (IsRecordable p.extended.max c.record.terms) c.record.lines.items
-  pub new_ids : All HasNewId c.record.lines.items
-  pub rising : AreRisingIds (ids_in c.record.lines.items)
-  pub earlier : AreMadeOfEarlier c.record.lines.items
 
 -- What was judged, whether or not files are told.
 pub record IsJudgedPair (claim : Claim) (j : Judged) : Type 0 where

@@ -3,7 +3,7 @@ use Rattle.std.specs.Prelude.{◌≡◌, ◌⊎◌, ℕ, List, Err, IfSome, Ok, 
 use Rattle.command_core.specs.Stopping.{GivesDue, IsAbout, IsGraphStop, IsLong, IsStop, OpensUpTo}
 use Rattle.command_core.specs.declared.stop.Stop.{Stop}
 use Rattle.algebra_core.specs.Refusal as cause
-use Rattle.algebra_core.specs.Refusal.{AlgebraCause, IsAlgebraRefusal}
+use Rattle.algebra_core.specs.Refusal.{IsAlgebraRefusal}
 use Rattle.algebra_core.specs.AlgebraLines.{Premises}
 use Rattle.graph_core.specs.Graph.{Aig}
 use Rattle.graph_core.specs.Graph.Operands.{Does, profile_of, sides_for}
@@ -14,8 +14,7 @@ use Rattle.mv_desk.specs.declared.limits.Limits.{Limits}
 use Rattle.mv_desk.specs.declared.slot.Slot.{Slot}
 use Rattle.mv_desk.specs.declared.slot.Slot.TheVariants as slot
 use Rattle.mv_text.specs.LineReading.{lengths_of}
-use Rattle.joint_checker.specs.declared.checked.AlgebraWhy.{AlgebraWhy}
-use Rattle.joint_checker.specs.declared.checked.AlgebraWhy.TheVariants as why
+use Rattle.algebra_judge.specs.Fails.{cause_of}
 use Rattle.joint_checker.specs.declared.checked.Checked.{Checked}
 use Rattle.joint_checker.specs.declared.checked.Checked.TheVariants as checked
 use Rattle.joint_checker.specs.declared.checked.Refusal.{Refusal}
@@ -27,16 +26,6 @@ use Rattle.joint_checker.specs.LawfulFiles.{HasPremises, HasLawfulPair}
 use Rattle.command_core.specs.Files.{AreTold, Files, HasGraph, Texts, texts_of}
 
 -- ---- what the three files come to
-
--- the definitions' cause of that name
-abbrev pub cause_of : AlgebraWhy → AlgebraCause
-cause_of why.Text = cause.Text
-cause_of why.Range = cause.Range
-cause_of why.Id = cause.Id
-cause_of (why.NoSuchLine id) = cause.NoSuchLine id
-cause_of (why.NoSuchClause number) = cause.NoSuchClause number
-cause_of why.NotEqual = cause.NotEqual
-cause_of why.NotSpec = cause.NotSpecification
 
 -- The graph is spelled, and something holds of it and of the clause file.
 abbrev pub MeetsClauses : Profile → Limits → Texts → (Aig → List ℕ → Type 0) → Type 0

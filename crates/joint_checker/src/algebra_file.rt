@@ -1,4 +1,4 @@
-// The algebra certificate, line by line.
+// The algebra certificate: its header, and then its lines.
 ghost use Rattle.std.specs.List.{All};
 ghost use Rattle.std.specs.Prelude.{◌≡◌, ◌<◌, [], true, IfErr, IfOk, IfSome, OnOk};
 ghost use Rattle.graph_core.specs.Graph.Operands.{profile_of, sides_for};
@@ -16,41 +16,19 @@ ghost use Rattle.clause_core.specs.Facts.{IsClauseFact};
 ghost use Rattle.pair_core.specs.ClauseFiles.{importable};
 ghost use Rattle.joint_checker.specs.Reading.{ReadsCertificate};
 ghost use Rattle.joint_checker.specs.Fails.{IsAlgebraFail};
-ghost use Rattle.joint_checker.specs.Judged.{IsLawfulRecord};
-ghost use Rattle.joint_checker.specs.Records.{IsRecordOf};
+ghost use Rattle.algebra_judge.specs.Records.{IsLawfulRecord, IsRecordOf};
 ghost use Rattle.joint_checker.specs.Shown.{premises_of};
 
-use crate::algebra_line::{Turn, judge_end, judge_line, line_refused};
 use crate::checked::Checked;
 use crate::clause_file::Shown;
-use crate::read_line::ReadLine;
+use algebra_judge::{Closed, judge, line_refused};
 use clause_core::ClauseList;
 use command_core::Stop;
 use graph_core::{Claim, Operands};
 use mv_desk::{Desk, Limits, Slot};
-use mv_text::{JudgeLines, judge_lines};
-use pac_checker::{PacChecker, Record};
+use pac_checker::PacChecker;
 use poly_text::AlgebraFile;
 use std::alloc::Global;
-use std::marker::PhantomData;
-
-/// What is recorded of an algebra certificate that is lawful.
-#[derive(Drop)]
-pub struct Closed {
-    /// the lines that introduce ids, where lines are recorded, and the table of their polynomials
-    pub record: Record,
-    /// the id that the closing line names
-    pub id: u64,
-    /// how many lines stand before the closing one
-    pub lines: u64,
-}
-
-// The closing line: the id that it names, and how many lines stand before it.
-#[derive(Clone, Copy)]
-struct Closing {
-    id: u64,
-    lines: u64,
-}
 
 /// Whether a file is a lawful algebra certificate over what a clause file gives, and what is recorded of it.
 pub(crate) fn check_algebra<D: Desk>(
@@ -117,26 +95,16 @@ fn judge_algebra<D: Desk>(
 {
     let file = match AlgebraFile::start(alloc, desk, shown.header.version, limits) {
         Ok(file) => file,
-        Err(fail) => return Err(line_refused(1, fail)),
+        Err(fail) => return Err(Checked::from(line_refused(1, fail))),
     };
     let operands = Operands::under(alloc, shown.extended.graph(), claim)?;
     let none = ClauseList::new(alloc);
     let added = imports(shown, &none);
     let checker = PacChecker::new(alloc, &shown.extended, &operands, added, records)?;
-    let mut judge = JudgeAlgebra {
-        checker,
-        work: ReadLine {
-            file,
-            max: shown.extended.max(),
-            desk: PhantomData,
-        },
-    };
-    let closing = judge_lines(desk, &mut judge)?;
-    Ok(Closed {
-        record: judge.checker.into_record(),
-        id: closing.id,
-        lines: closing.lines,
-    })
+    match judge(desk, file, checker, shown.extended.max()) {
+        Ok(closed) => Ok(closed),
+        Err(fail) => Err(Checked::from(fail)),
+    }
 }
 
 // The clauses that the algebra may import.
@@ -148,48 +116,5 @@ fn imports<'s>(shown: &'s Shown<'_>, none: &'s ClauseList) -> &'s ClauseList
         none
     } else {
         &shown.recorded.added
-    }
-}
-
-// The lines after the header by a checker, as a work reads them, up to the end of the file.
-#[derive(Drop)]
-struct JudgeAlgebra<'a, D> {
-    checker: PacChecker<'a>,
-    work: ReadLine<D>,
-}
-
-impl<'a, D: Desk> JudgeLines<D> for JudgeAlgebra<'a, D> {
-    ghost use Rattle.std.specs.Prelude.{◌≡◌};
-    ghost use Rattle.mv_desk.specs.declared.slot.Slot.TheVariants.{Algebra};
-    ghost use Rattle.joint_checker.specs.AlgebraBody.{HasJudgedAlgebra, IsAlgebraJudged};
-
-    type End = Closing;
-
-    type Fail = Checked;
-
-    ghost slot = { Algebra };
-
-    ghost reached = { λ start first count it now.
-        HasJudgedAlgebra start.checker start.work.file first count it.checker it.work.file now ×
-        (it.work.max ≡ it.checker.extended.max) };
-
-    ghost judged = { λ start first answer it now.
-        IsAlgebraJudged start.checker start.work.file first answer it.checker now };
-
-    fn judge_line(&mut self, desk: &mut D, count: u64) -> Result<Option<Closing>, Checked> {
-        match judge_line(desk, &mut self.checker, &mut self.work, 2 + count)? {
-            Turn::Taken => {
-                self.checker.compact()?;
-                Ok(None)
-            }
-            Turn::Closed { id } => {
-                judge_end(desk, &mut self.work.file, 3 + count)?;
-                Ok(Some(Closing { id, lines: count }))
-            }
-        }
-    }
-
-    fn too_many(&self, _desk: &D) -> Checked {
-        Checked::Stopped(Stop::TooLong(Slot::Algebra))
     }
 }

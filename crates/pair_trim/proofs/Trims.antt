@@ -18,7 +18,7 @@ use Rattle.command_core.specs.Files.{Texts}
 use Rattle.joint_checker.specs.Outcome.{OpensNeeded}
 use Rattle.joint_checker.specs.declared.checked.Checked.TheVariants as checked
 use Rattle.joint_checker.specs.Judged.{IsJudgedPair, IsToldPair, extended_of}
-use Rattle.joint_checker.specs.Records.{IsRecordOf}
+use Rattle.algebra_judge.specs.Records.{IsRecordOf}
 use Rattle.joint_checker.specs.declared.checking.Judged.{Judged}
 use Rattle.pair_trim.specs.Choosing.{HasChosen, IsChosen}
 use Rattle.pair_core.specs.Texts.{algebra_text, clauses_text}

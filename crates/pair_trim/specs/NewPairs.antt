@@ -16,7 +16,7 @@ use Rattle.poly_text.specs.Recorded.{lines_in}
 use Rattle.pair_core.specs.Certificates.{IsPair}
 use Rattle.pair_core.specs.ClauseFiles.{HasLawfulLines}
 use Rattle.pair_core.specs.Texts.{algebra_text, clauses_text}
-use Rattle.joint_checker.specs.Records.{IsRecordOf}
+use Rattle.algebra_judge.specs.Records.{IsRecordOf}
 use Rattle.pair_trim.specs.Lines.{AreLinesKept, AreLinesUsed, all_renumbered, imports_in}
 use Rattle.pair_trim.specs.Marking.{IsKeptOf, unmet}
 use Rattle.pair_trim.specs.Trimmed.{AreClausesTrimmed}

@@ -9,12 +9,12 @@ use Rattle.clause_core.specs.ClauseLines.{ClauseLine, IsGoalRefusal}
 use Rattle.clause_core.specs.GateClauses.{gate_clauses}
 use Rattle.clause_judge.specs.ClauseBody.{HasPassed, IsRestFail, IsShownBody, Pass}
 use Rattle.clause_judge.specs.ClauseLines.{answer_of_line}
-use Rattle.clause_judge.specs.LineRefusals.{IsRefusedLines, line_cause}
+use Rattle.clause_judge.specs.LineRefusals.{IsRefusedLines}
 use Rattle.clause_judge.specs.declared.fail.ClauseFail.{ClauseFail}
-use Rattle.clause_judge.specs.declared.fail.ClauseFail.TheVariants as clauses
-use Rattle.clause_judge.proofs.Told.{rose_before, told_more, told_of}
+use Rattle.clause_judge.proofs.Fails.{fails_before}
+use Rattle.clause_judge.proofs.Told.{told_more, told_of}
 use Rattle.mv_text.specs.CertificateFiles.{FileState, HasFirstLine, IsFirstRefusal}
-use Rattle.drup_text.specs.HeaderRefusal.{LineCause, Range, Text, TooLong}
+use Rattle.drup_text.specs.HeaderRefusal.{LineCause, Text, TooLong}
 use Rattle.drup_text.specs.SameFiles.{same_line}
 use Rattle.drup_text.specs.HeaderSteps.{IsLongIn}
 use Rattle.mv_desk.specs.View.{View}
@@ -36,7 +36,7 @@ module _ (lengths : Lengths) (e : Extended) where
   start_fails text before now line fail.Range first h = absurd h
   start_fails text before now line fail.Fault first h = h
   start_fails text before now line fail.TooLong first h =
-      told_more text (λ bytes. IsTooLong lengths (length bytes) bytes) (λ bytes. (n : ℕ) × IsMergedLineRefusal lengths e bytes (n, TooLong)) (λ bytes k. (1, inl (k, refl))) h
+      (refl, told_more text (λ bytes. IsTooLong lengths (length bytes) bytes) (λ bytes. (n : ℕ) × IsMergedLineRefusal lengths e bytes (n, TooLong)) (λ bytes k. (1, inl (k, refl))) h)
   start_fails text before now line fail.Memory first h = tt
 
   -- ---- what stands after it
@@ -75,16 +75,12 @@ module _ (lengths : Lengths) (e : Extended) where
         (there.0, good bytes h there.0 there.1, there.2)) header
 
     pub rest_fails : (first before now : View) (given : ClauseFail) → first.read_faults ≤ before.read_faults → IsRestFail (file.number + 1) e file.lines behind before now given → IsPairClauseFail lengths e text first now given
-    rest_fails first before now (clauses.Line n why) later k = told_refusal (n, line_cause why) k
-    rest_fails first before now (clauses.Goals output) later k = output_refusal output k
-    rest_fails first before now clauses.TooLong later k = long_refusal k
-    rest_fails first before now clauses.ReadFault later k = rose_before first.read_faults before.read_faults now.read_faults later k
-    rest_fails first before now clauses.Memory later k = tt
+    rest_fails first before now given later =
+        fails_before text behind (λ body. IsRefusedLines (IsLongIn file.lines body) e (file.number + 1) body) (IsMergedLineRefusal lengths e) (λ body output. (xs : List ClauseLine) × HasPassed e file.lines xs body × IsGoalRefusal e xs output)
+        (IsOutputRefusal lengths e) told_refusal long_refusal output_refusal first before now later given
 
   -- by what is left in the slot once the file was opened
   pub opened_fails : (text left : Option (List ℕ)) → Keeps text left → (first before now : View) → first.read_faults ≤ before.read_faults → (given : ClauseFail) → IsPairClauseFail lengths e left before now given → IsPairClauseFail lengths e text first now given
-  opened_fails text left kept first before now later (clauses.Line line why) h = IfSome-Keeps text left (λ bytes. IsMergedLineRefusal lengths e bytes (line, line_cause why)) kept h
-  opened_fails text left kept first before now later (clauses.Goals output) h = IfSome-Keeps text left (λ bytes. IsOutputRefusal lengths e bytes output) kept h
-  opened_fails text left kept first before now later clauses.TooLong h = IfSome-Keeps text left (λ bytes. (line : ℕ) × IsMergedLineRefusal lengths e bytes (line, TooLong)) kept h
-  opened_fails text left kept first before now later clauses.ReadFault h = rose_before first.read_faults before.read_faults now.read_faults later h
-  opened_fails text left kept first before now later clauses.Memory h = tt
+  opened_fails text left kept first before now later given =
+      fails_before text left (IsMergedLineRefusal lengths e) (IsMergedLineRefusal lengths e) (IsOutputRefusal lengths e) (IsOutputRefusal lengths e) (λ p. IfSome-Keeps text left (λ bytes. IsMergedLineRefusal lengths e bytes p) kept)
+      (IfSome-Keeps text left (λ bytes. (line : ℕ) × IsMergedLineRefusal lengths e bytes (line, TooLong)) kept) (λ output. IfSome-Keeps text left (λ bytes. IsOutputRefusal lengths e bytes output) kept) first before now later given

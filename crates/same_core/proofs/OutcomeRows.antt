@@ -3,10 +3,10 @@ use Rattle.std.specs.Prelude.{◌≡◌, ℕ, List, IfSome}
 use Rattle.std.specs.declared.option.Option.{Option}
 use Rattle.std.proofs.Common.{refl, subst, arith, inl, inr}
 use Rattle.aiger_reader.specs.Refusals.{SpellsWithin}
-use Rattle.command_core.specs.Stopping.{IsGraphStop, IsStop}
+use Rattle.command_core.specs.Stopping.{IsGraphStop, IsLong, IsStop}
 use Rattle.command_core.specs.declared.stop.Stop.{Stop}
 use Rattle.command_core.specs.declared.stop.Stop.TheVariants as stop
-use Rattle.command_core.proofs.CallerLemmas.{IsGraphStop-about, IsStop-weaker, opens_up_to}
+use Rattle.command_core.proofs.CallerLemmas.{IsGraphStop-about, IsLong-about, IsLong-weaker, IsStop-weaker, opens_up_to}
 use Rattle.graph_core.specs.Graph.Extended.{AgreeOnColumns, Extended}
 use Rattle.graph_core.specs.declared.profile.Profile.TheVariants.{Any}
 use Rattle.graph_core.specs.Graph.{Aig, IsBuilt}
@@ -14,7 +14,6 @@ use Rattle.mv_fact.specs.Always.{Always}
 use Rattle.clause_judge.specs.LineRefusals.{line_cause}
 use Rattle.clause_judge.specs.declared.fail.ClauseFail.{ClauseFail}
 use Rattle.clause_judge.specs.declared.fail.ClauseFail.TheVariants as clauses
-use Rattle.clause_judge.proofs.Told.{rose_before}
 use Rattle.drup_text.specs.HeaderRefusal.{TooLong}
 use Rattle.mv_desk.specs.Calls.{Inspects}
 use Rattle.mv_desk.specs.View.{OpensFiles, View, bytes_under}
@@ -34,7 +33,7 @@ use Rattle.same_core.specs.Fails.{IsPairClauseFail}
 use Rattle.same_core.specs.Files.{ComparedFiles, IsSpelled, compared_texts_of}
 use Rattle.same_core.specs.Merged.{AreOfOneShape, Both, both, merged}
 use Rattle.same_core.specs.Deciding.{OpensForCompared}
-use Rattle.same_core.specs.Outcome.{IsPairOutcome, IsPairStop, IsPairStopDue, OpensForPair, pair_place}
+use Rattle.same_core.specs.Outcome.{IsPairOutcome, IsPairStop, IsPairStopDue, MeetsPairClauses, OpensForPair, pair_place}
 use Rattle.same_core.specs.Pairs.{IsPairFail, IsReadPair}
 use Rattle.same_core.proofs.Merging.{merged_outputs_agree}
 
@@ -103,9 +102,12 @@ module _ (limits : Limits) (files : ComparedFiles) where
     pub clauses_answers : (given : ClauseFail) → IsPairClauseFail (lengths_of limits) e (bytes_under c files.clauses) c d given → IsPairOutcome limits files a d (pair_answer_of_clauses given)
     clauses_answers (clauses.Line line why) k = (g, p.spelled, (p.other, p.other_spelled, (p.shape, earlier a c files.clauses (λ bytes. IsMergedLineRefusal (lengths_of limits) e bytes (line, line_cause why)) inspects k)))
     clauses_answers (clauses.Goals output) k = (g, p.spelled, (p.other, p.other_spelled, (p.shape, earlier a c files.clauses (λ bytes. IsOutputRefusal (lengths_of limits) e bytes output) inspects k)))
-    clauses_answers clauses.TooLong k = inr (refl, (g, p.spelled, (p.other, p.other_spelled, (p.shape, earlier a c files.clauses (λ bytes. (line : ℕ) × IsMergedLineRefusal (lengths_of limits) e bytes (line, TooLong)) inspects k))))
-    clauses_answers clauses.ReadFault k = rose_before a.read_faults c.read_faults d.read_faults inspects.later k
-    clauses_answers clauses.Memory k = tt
+    clauses_answers (clauses.Stopped why) k =
+        let Long : List ℕ → Type 0 = λ bytes. (line : ℕ) × IsMergedLineRefusal (lengths_of limits) e bytes (line, TooLong) in
+        IsStop-weaker (IsLong slot.Clauses (IfSome (bytes_under c files.clauses) Long)) c d (IsPairStopDue limits (compared_texts_of a files)) a
+        (λ w h. inr (IsLong-weaker slot.Clauses (IfSome (bytes_under c files.clauses) Long)
+        (MeetsPairClauses limits (compared_texts_of a files) (λ x y bytes. (line : ℕ) × IsMergedLineRefusal (lengths_of limits) (merged x y) bytes (line, TooLong)))
+        (λ long. (g, p.spelled, (p.other, p.other_spelled, (p.shape, earlier a c files.clauses Long inspects long)))) w h)) inspects.later why k
 
     -- It is lawful, and the outputs are equal on every evaluation of the merged gates.
     pub accepts : IfSome (bytes_under c files.clauses) (IsLawful (lengths_of limits) e) → Always e.gates (AgreeOnColumns e) → IsPairOutcome limits files a d checked.Accepted
@@ -114,9 +116,9 @@ module _ (limits : Limits) (files : ComparedFiles) where
         let well' = p.other_built.well_formed in
         (g, p.spelled, (p.other, p.other_spelled, (p.shape, (earlier a c files.clauses (IsLawful (lengths_of limits) e) inspects lawful, merged_outputs_agree g p.other well well' p.shape agree))))
 
-  pub clauses_opened : (a d : View) (given : ClauseFail) → OpensFiles 3 a d → OpensForPair (pair_answer_of_clauses given) a d
-  clauses_opened a d (clauses.Line line why) opened = opened
-  clauses_opened a d (clauses.Goals output) opened = opened
-  clauses_opened a d clauses.TooLong opened = opened
-  clauses_opened a d clauses.ReadFault opened = (3, omega arith, opened)
-  clauses_opened a d clauses.Memory opened = (3, omega arith, opened)
+  pub clauses_opened : (x : Extended) (text : Option (List ℕ)) (a c d : View) (given : ClauseFail) → IsPairClauseFail (lengths_of limits) x text c d given → OpensFiles 3 a d → OpensForPair (pair_answer_of_clauses given) a d
+  clauses_opened x text a c d (clauses.Line line why) k opened = opened
+  clauses_opened x text a c d (clauses.Goals output) k opened = opened
+  clauses_opened x text a c d (clauses.Stopped why) k opened =
+      let P : Type 0 = IfSome text (λ bytes. (line : ℕ) × IsMergedLineRefusal (lengths_of limits) x bytes (line, TooLong)) in
+      opens_up_to (IsLong slot.Clauses P) c d pair_place 3 slot.Clauses (IsLong-about slot.Clauses P) (omega arith) a opened why k

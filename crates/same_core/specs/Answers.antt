@@ -2,7 +2,6 @@
 use Rattle.command_core.specs.declared.stop.Stop.TheVariants as stop
 use Rattle.clause_judge.specs.declared.fail.ClauseFail.{ClauseFail}
 use Rattle.clause_judge.specs.declared.fail.ClauseFail.TheVariants as clauses
-use Rattle.mv_desk.specs.declared.slot.Slot.TheVariants as slot
 use Rattle.same_core.specs.declared.checked.SameChecked.{SameChecked}
 use Rattle.same_core.specs.declared.checked.SameChecked.TheVariants as checked
 use Rattle.same_core.specs.declared.checked.SameRefusal.TheVariants as refusal
@@ -32,6 +31,4 @@ same_of_pair (pair.Stopped why) = same.Stopped why
 abbrev pub pair_answer_of_clauses : ClauseFail → SameChecked
 pair_answer_of_clauses (clauses.Line line why) = checked.Refused (refusal.Clauses line why)
 pair_answer_of_clauses (clauses.Goals output) = checked.Refused (refusal.Goals output)
-pair_answer_of_clauses clauses.ReadFault = checked.Stopped stop.ReadFault
-pair_answer_of_clauses clauses.TooLong = checked.Stopped (stop.TooLong slot.Clauses)
-pair_answer_of_clauses clauses.Memory = checked.Stopped stop.Memory
+pair_answer_of_clauses (clauses.Stopped why) = checked.Stopped why

@@ -2,7 +2,6 @@
 use crate::pairs::PairFail;
 use clause_judge::{ClauseFail, ClauseWhy};
 use command_core::Stop;
-use mv_desk::Slot;
 
 /// Why a clause certificate is refused: at which of its lines (from 1) and why, or at which output (from 0) for its
 /// goals.
@@ -55,9 +54,7 @@ impl From<ClauseFail> for SameChecked {
             ClauseFail::Goals { column } => SameChecked::Refused(SameRefusal::Goals {
                 output: column,
             }),
-            ClauseFail::ReadFault => SameChecked::Stopped(Stop::ReadFault),
-            ClauseFail::TooLong => SameChecked::Stopped(Stop::TooLong(Slot::Clauses)),
-            ClauseFail::Memory => SameChecked::Stopped(Stop::Memory),
+            ClauseFail::Stopped(why) => SameChecked::Stopped(why),
         }
     }
 }

@@ -1,6 +1,5 @@
 // The clause certificate of merged gates.
-ghost use Rattle.std.specs.Prelude.{◌≡◌, ◌+◌, ◌<◌, ◌≤◌, ◌^◌, true, length, IfErr, IfSome, OnOk};
-ghost use Rattle.clause_core.specs.GateClauses.{AreGatesWithin};
+ghost use Rattle.std.specs.Prelude.{◌≡◌, ◌+◌, ◌<◌, ◌^◌, true, IfErr, IfSome, OnOk};
 ghost use Rattle.clause_judge.specs.ClauseBody.{IsRestFail, IsShownBody};
 ghost use Rattle.mv_text.specs.CertificateFiles.{GoesOn, left_of_file};
 ghost use Rattle.graph_core.specs.Graph.Extended.{AgreeOnColumns};
@@ -15,10 +14,11 @@ ghost use Rattle.same_core.specs.Merged.{over};
 ghost use Rattle.same_core.specs.Places.{IsMerged};
 
 use crate::merged::Merged;
-use clause_judge::{ClauseFail, judge_from, line_refused, read_line};
-use drup_checker::{Checker, Keeps};
+use clause_judge::{ClauseFail, judge, line_refused};
+use command_core::Stop;
+use drup_checker::Keeps;
 use drup_text::ClauseFile;
-use miter_encoder::{gate_clauses_of, goals_of};
+use miter_encoder::goals_of;
 use mv_desk::{Desk, Limits, Slot};
 use std::alloc::Global;
 
@@ -42,7 +42,7 @@ pub(crate) fn check_clauses<D: Desk>(
 {
     match desk.open_file(Slot::Clauses, name) {
         Ok(()) => judge_clauses(alloc, desk, limits, merged),
-        Err(_) => Err(ClauseFail::ReadFault),
+        Err(_) => Err(ClauseFail::Stopped(Stop::ReadFault)),
     }
 }
 
@@ -89,13 +89,9 @@ fn judge_lines<D: Desk>(
     ensures only { ReadsOnly slot.Clauses (D.seen desk.old) (D.seen desk.new) }
     ensures tells { KeepsTelling (D.seen desk.old) (D.seen desk.new) }
 {
-    let greatest = merged.max();
-    let merged_gates = merged.gates();
-    let clauses = gate_clauses_of(alloc, merged_gates)?;
     let goals = goals_of(alloc, merged.pairs())?;
-    let nothing = Keeps::Nothing;
-    let mut checker = Checker::new(alloc, greatest, merged_gates, &clauses, &goals, nothing)?;
-    let first = read_line(desk, file, greatest)?;
-    judge_from(desk, file, greatest, &mut checker, first)?;
+    let max = merged.max();
+    let gates = merged.gates();
+    judge(alloc, desk, file, max, gates, &goals, Keeps::Nothing)?;
     Ok(())
 }

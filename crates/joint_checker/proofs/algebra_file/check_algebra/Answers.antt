@@ -12,8 +12,8 @@ use Rattle.joint_checker.specs.Shown.{premises_of}
 use Rattle.joint_checker.proofs.OpenedTexts.{algebra_fails}
 use Rattle.graph_core.specs.Graph.Extended.{modulus}
 use Rattle.poly_text.specs.Recorded.{lines_in}
-use Rattle.joint_checker.specs.Records.{IsRecordOf}
-use Rattle.joint_checker.specs.declared.algebra_file.Closed.{Closed}
+use Rattle.algebra_judge.specs.Records.{IsRecordOf}
+use Rattle.algebra_judge.specs.declared.judging.Closed.{Closed}
 use Rattle.joint_checker.proofs.CertificateReading.{not_opened, opened_and_read}
 use Rattle.joint_checker.proofs.algebra_file.check_algebra.Goals as goal
 

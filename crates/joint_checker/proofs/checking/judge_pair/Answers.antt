@@ -10,7 +10,7 @@ use Rattle.graph_core.specs.Graph.{Aig}
 use Rattle.mv_desk.specs.declared.slot.Slot.TheVariants as slot
 use Rattle.mv_fact.specs.Always.{Always}
 use Rattle.poly_text.specs.Recorded.{lines_in}
-use Rattle.joint_checker.specs.Records.{IsRecordOf}
+use Rattle.algebra_judge.specs.Records.{IsRecordOf}
 use Rattle.std.proofs.lemmas.Result.{err_from_is_err_and}
 use Rattle.graph_core.specs.Aiger.Sizes.{IsSizedAs}
 use Rattle.graph_core.specs.Graph.Operands.{profile_of, sides_for}

@@ -66,4 +66,4 @@ returns-in_err-check_clauses-clause-opened g c =
     let last = g.D.Desk.seen c.check_clauses.new.desk in
     let same = err_from_is_err_and c.from_residual-in_err-check_clauses.result c.from_residual-in_err-check_clauses.ensures.1 in
     rw (same.1, same.2)
-    (clauses_opened c.args.limits.now (compared_files_of c.args.names.now) first last c.in_err-check_clauses.field-0.0 (OpensFiles-trans 2 1 first second last c.in_ok-pair.ensures.opened_all c.check_clauses.ensures.opened))
+    (clauses_opened c.args.limits.now (compared_files_of c.args.names.now) (over c.in_ok-pair.pair.1) (bytes_under second (compared_files_of c.args.names.now).clauses) first second last c.in_err-check_clauses.field-0.0 c.in_err-check_clauses.ensures.refused (OpensFiles-trans 2 1 first second last c.in_ok-pair.ensures.opened_all c.check_clauses.ensures.opened))
