@@ -11,6 +11,7 @@ pub mod Equality
 pub mod Assigned
 pub mod Leaving
 pub mod Interned
+pub mod Chaining
 pub mod Adding
 pub mod Given
 pub mod Placing
