@@ -132,16 +132,15 @@ hangs count ms heads links new_heads new_links m chains some here linked hung_up
 -- ---- before a monomial is added, and after it
 
 -- all monomials were linked anew
-pub widened : (ms : List (List ℕ)) (heads links : List ℕ) (count : ℕ) → length ms ≤ 4294967295 → 2 * length ms ≤ count → 16 ≤ count → length heads ≡ count → length links ≡ length ms → AreLinked count ms heads links →
+pub widened : (ms : List (List ℕ)) (heads links : List ℕ) (count : ℕ) → length ms < count → length heads ≡ count → length links ≡ length ms → AreLinked count ms heads links →
     IsChained ms heads links × (length ms < length heads)
-widened ms heads links count few twice some chains long linked = (
+widened ms heads links count more chains long linked = (
   record {
-    few = few;
-    wide = omega (arith, twice, chains);
+    wide = omega (arith, more, chains);
     long = long;
     linked = subst (λ n. AreLinked n ms heads links) (sym chains) linked;
   },
-  omega (arith, twice, some, chains),
+  omega (arith, more, chains),
 )
 
 pub not_widened : (ms : List (List ℕ)) (heads links : List ℕ) → (length ms ≡ length heads → ⊥) → IsChained ms heads links → IsChained ms heads links × (length ms < length heads)
@@ -151,20 +150,15 @@ not_widened ms heads links other chained = (chained, go (eq-or-lt_of_le chained.
     go (inl e) = absurd (other e)
     go (inr l) = l
 
-pub one_more : (ms : List (List ℕ)) (heads links new_heads new_links : List ℕ) (m : List ℕ) → IsChained ms heads links → length ms < length heads → (length ms ≡ 4294967295 → ⊥) →
+pub one_more : (ms : List (List ℕ)) (heads links new_heads new_links : List ℕ) (m : List ℕ) → IsChained ms heads links → length ms < length heads →
     Hangs (chain_of (length heads) m) heads links new_heads new_links → IsChained (ms ++ m ∷ []) new_heads new_links
-one_more ms heads links new_heads new_links m chained wide other hung_up =
+one_more ms heads links new_heads new_links m chained wide hung_up =
     let here : get_or (ms ++ m ∷ []) (length links) [] ≡ m = ap (λ n. get_or (ms ++ m ∷ []) n []) chained.long ∙ get_or-append_seam ms m [] [] in
     let on = linked_on (length heads) ms (m ∷ []) heads links (omega (arith, chained.long)) chained.linked in
     let o = hangs (length heads) (ms ++ m ∷ []) heads links new_heads new_links m refl (omega (arith, wide)) here on hung_up in
     let long : length (ms ++ m ∷ []) ≡ length ms + 1 = length-append ms (m ∷ []) in
     record {
-      few = few (eq-or-lt_of_le chained.few);
       wide = omega (arith, long, wide, o.0);
       long = omega (arith, long, o.1, chained.long);
       linked = subst (λ n. AreLinked n (ms ++ m ∷ []) new_heads new_links) (sym o.0) o.2;
     }
-  where
-    few : (length ms ≡ 4294967295) ⊎ (length ms < 4294967295) → length (ms ++ m ∷ []) ≤ 4294967295
-    few (inl e) = absurd (other e)
-    few (inr l) = omega (arith, length-append ms (m ∷ []), l)

@@ -20,7 +20,6 @@ pub record AreLinked (count : ℕ) (ms : List (List ℕ)) (heads links : List �
 
 -- All monomials are linked, in no fewer chains than there are of them.
 pub record IsChained (ms : List (List ℕ)) (heads links : List ℕ) : Type 0 where
-  pub few : length ms ≤ 4294967295
   pub wide : length ms ≤ length heads
   pub long : length links ≡ length ms
   pub linked : AreLinked (length heads) ms heads links

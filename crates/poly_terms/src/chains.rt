@@ -11,18 +11,15 @@ use std::marker::Model;
 // As many chains as there are at first.
 const FEW: usize = 16;
 
-// One more than a number has 32 bits.
-const MOST: usize = 4_294_967_295;
-
 /// Monomials by number, in any order; some may stand there twice.
 #[derive(Drop)]
 pub(crate) struct Chains {
     alloc: Global,
     monomials: Vec<Monomial>,
     /// by chain: one more than its last number, or 0
-    heads: Vec<u32>,
+    heads: Vec<usize>,
     /// by number: one more than the number before it in its chain, or 0
-    links: Vec<u32>,
+    links: Vec<usize>,
 }
 
 impl Model for Chains {
@@ -93,11 +90,8 @@ impl Chains {
         ensures unchanged { OnErr result (self.new ≡ self.old) }
     {
         let number = self.monomials.len();
-        if number == MOST {
-            return Err(AllocError);
-        }
         if number == self.heads.len() {
-            let (heads, links) = linked(self.alloc, &self.monomials, (2 * number).max(FEW))?;
+            let (heads, links) = linked(self.alloc, &self.monomials, chains_for(number)?)?;
             self.heads = heads;
             self.links = links;
         }
@@ -109,7 +103,7 @@ impl Chains {
 }
 
 // The number of a monomial that is linked, if it has one.
-fn find_in(monomials: &[Monomial], heads: &[u32], links: &[u32], monomial: &[u32]) -> Option<u64>
+fn find_in(monomials: &[Monomial], heads: &[usize], links: &[usize], monomial: &[u32]) -> Option<u64>
     requires some { 0 < length heads.now }
     requires long { length links.now ≡ length monomials.now }
     requires linked { AreLinked (length heads.now) (map (λ m. m.items) monomials.now) heads.now links.now }
@@ -118,7 +112,7 @@ fn find_in(monomials: &[Monomial], heads: &[u32], links: &[u32], monomial: &[u32
 {
     let mut link = heads[chain_of(monomial, heads.len())];
     while link != 0 {
-        let number = link as usize - 1;
+        let number = link - 1;
         if are_same(monomials[number].as_slice(), monomial) {
             return Some(number as u64);
         }
@@ -127,14 +121,23 @@ fn find_in(monomials: &[Monomial], heads: &[u32], links: &[u32], monomial: &[u32
     None
 }
 
+// How many chains there are from so many monomials on. No memory holds so many that they can't be doubled.
+fn chains_for(monomials: usize) -> Result<usize, AllocError>
+    ensures { IfOk result (λ count. monomials < count) }
+{
+    match monomials.checked_mul(2) {
+        Some(twice) => Ok(twice.max(FEW)),
+        None => Err(AllocError),
+    }
+}
+
 // The heads and the links of monomials in so many chains.
 fn linked(
     alloc: Global,
     monomials: &[Monomial],
     count: usize,
-) -> Result<(Vec<u32>, Vec<u32>), AllocError>
+) -> Result<(Vec<usize>, Vec<usize>), AllocError>
     requires some { 0 < count }
-    requires few { length monomials.now ≤ 4294967295 }
     ensures heads { IfOk result (λ r. length r.0.items ≡ count) }
     ensures links { IfOk result (λ r. length r.1.items ≡ length monomials.now) }
     ensures linked { IfOk result
@@ -149,18 +152,16 @@ fn linked(
 }
 
 // Puts the next number at the head of its monomial's chain.
-fn hang(monomial: &[u32], heads: &mut Vec<u32>, links: &mut Vec<u32>) -> Result<(), AllocError>
+fn hang(monomial: &[u32], heads: &mut Vec<usize>, links: &mut Vec<usize>) -> Result<(), AllocError>
     requires some { 0 < length heads.old.items }
-    requires few { length links.old.items < 4294967295 }
     ensures hangs { OnOk result (Hangs (chain_of (length heads.old.items) monomial.now)
         heads.old.items links.old.items heads.new.items links.new.items) }
     ensures unchanged_heads { OnErr result (heads.new.items ≡ heads.old.items) }
     ensures unchanged_links { OnErr result (links.new.items ≡ links.old.items) }
 {
     let chain = chain_of(monomial, heads.len());
-    let number = links.len() as u32;
     links.push(heads[chain])?;
-    heads[chain] = number + 1;
+    heads[chain] = links.len();
     Ok(())
 }
 

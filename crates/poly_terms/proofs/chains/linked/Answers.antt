@@ -1,6 +1,5 @@
-use Rattle.std.proofs.Common.{◌≡◌, ◌<◌, ◌+◌, [], ◌∷◌, get_or, length, map, sym, ap, subst, ◌∙◌, arith, length-append}
-use Rattle.std.proofs.lemmas.List.{get_or-map, length-set}
-use Rattle.poly_terms.specs.Chains.{AreLinked, chain_of}
+use Rattle.std.proofs.Common.{◌+◌, [], get_or, map, sym, ap, ◌∙◌}
+use Rattle.std.proofs.lemmas.List.{get_or-map}
 use Rattle.poly_terms.proofs.Chaining.{hangs}
 use Rattle.poly_terms.proofs.chains.linked.Goals as goal
 
