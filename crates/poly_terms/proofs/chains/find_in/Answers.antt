@@ -1,4 +1,4 @@
-use Rattle.std.proofs.Common.{◌≡◌, ◌<◌, ℕ, true, ◌+◌, ◌-◌, List, [], get_or, length, map, sym, ap, subst, ◌∙◌, arith, true≢false}
+use Rattle.std.proofs.Common.{◌≡◌, ◌<◌, ◌-◌, [], get_or, length, sym, ap, subst, ◌∙◌, arith, true≢false}
 use Rattle.std.proofs.lemmas.List.{get_or-map, length-map}
 use Rattle.poly_terms.specs.Chains.{chain_of}
 use Rattle.poly_terms.proofs.Chaining.{before_above, before_at, links_fall}
@@ -56,3 +56,15 @@ loop-link-preserved c =
           let up = c.loop-link.invariant.above n h is in
           before_above (length heads) _ heads links m k linked o.0 o.1 (λ same. true≢false (sym (c.are_same.ensures.1 (sym here ∙ same)) ∙ c.if-are_same.false)) n (omega (arith, up, c.loop-link-test.true)) is;
     }
+
+pub offset_bounds-monomials-number : goal.offset_bounds-monomials-number
+offset_bounds-monomials-number c =
+    let o = c.loop-link.invariant.at (c.loop-link.link - 1) (omega (arith, c.loop-link-test.true)) in
+    let low : c.loop-link.link - 1 < length c.args.monomials.now = omega (arith, o.0, c.requires.long) in
+    omega arith
+
+pub offset_bounds-links-number : goal.offset_bounds-links-number
+offset_bounds-links-number c =
+    let o = c.loop-link.invariant.at (c.loop-link.link - 1) (omega (arith, c.loop-link-test.true)) in
+    let low : c.loop-link.link - 1 < length c.args.links.now = o.0 in
+    omega arith
