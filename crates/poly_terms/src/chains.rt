@@ -49,10 +49,11 @@ impl Chains {
     pub(crate) fn with_capacity(alloc: Global, count: usize) -> Result<Chains, AllocError>
         ensures { IfOk result (λ c. c ≡ []) }
     {
+        let chains = count.checked_next_power_of_two().ok_or(AllocError)?;
         Ok(Chains {
             alloc,
             monomials: Vec::with_capacity(alloc, count)?,
-            heads: Vec::new(alloc),
+            heads: vec![in alloc; 0; chains]?,
             links: Vec::with_capacity(alloc, count)?,
         })
     }
@@ -73,6 +74,7 @@ impl Chains {
     }
 
     /// The number of a monomial, if it has one.
+    #[inline(always)]
     pub(crate) fn find(&self, monomial: &[u32]) -> Option<u64>
         ensures some { IfSome result (λ n. Stands self.now n monomial.now) }
         ensures none { IfNone result (IsAbsent self.now monomial.now) }
@@ -84,6 +86,7 @@ impl Chains {
     }
 
     /// Adds a monomial, and gives its number.
+    #[inline(never)]
     pub(crate) fn add(&mut self, monomial: Monomial) -> Result<u64, AllocError>
         ensures added { OnOk result (self.new ≡ self.old ++ monomial.items ∷ []) }
         ensures number { IfOk result (λ n. n ≡ length self.old) }
@@ -103,6 +106,7 @@ impl Chains {
 }
 
 // The number of a monomial that is linked, if it has one.
+#[inline(always)]
 fn find_in(monomials: &[Monomial], heads: &[usize], links: &[usize], monomial: &[u32]) -> Option<u64>
     requires some { 0 < length heads.now }
     requires long { length links.now ≡ length monomials.now }
@@ -132,6 +136,7 @@ fn chains_for(monomials: usize) -> Result<usize, AllocError>
 }
 
 // The heads and the links of monomials in so many chains.
+#[inline(never)]
 fn linked(
     alloc: Global,
     monomials: &[Monomial],

@@ -34,7 +34,7 @@ fn join_few(alloc: Global, left: &[u32], right: &[u32]) -> Result<Monomial, Allo
     requires { length left.now + length right.now ≤ 8 }
     ensures { IfOk result (λ both. both.items ≡ joined left.now right.now) }
 {
-    let mut both = [0; MOST_PLACES];
+    let mut both = [0, 0, 0, 0, 0, 0, 0, 0];
     let mut count: usize = 0;
     let mut i: usize = 0;
     let mut j: usize = 0;

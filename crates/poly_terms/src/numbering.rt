@@ -54,6 +54,7 @@ impl Numbering {
     }
 
     /// The number of a monomial, which is added where it is new.
+    #[inline(always)]
     pub(crate) fn intern(&mut self, monomial: Monomial) -> Result<u64, AllocError>
         requires { AreRising 0 monomial.items }
         ensures grows { Grows self.old self.new }
