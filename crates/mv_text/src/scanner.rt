@@ -32,6 +32,7 @@ impl<'a> Scanner<'a> {
         Scanner { left: bytes }
     }
 
+    #[inline(always)]
     pub fn is_empty(&self) -> bool
         ensures { IsTrue result ↔ (self.now ≡ []) }
     {
@@ -39,6 +40,7 @@ impl<'a> Scanner<'a> {
     }
 
     /// The next byte, which stays.
+    #[inline(always)]
     pub fn peek(&self) -> Option<u8>
         ensures { result ≡ first_byte self.now }
     {
@@ -46,12 +48,14 @@ impl<'a> Scanner<'a> {
     }
 
     /// Whether this byte comes next.
+    #[inline(always)]
     pub fn is_at(&self, byte: u8) -> bool
         ensures { result ≡ begins (λ b. b == byte) self.now }
     {
         self.peek() == Some(byte)
     }
 
+    #[inline(always)]
     pub fn is_at_digit(&self) -> bool
         ensures { result ≡ begins is_digit self.now }
     {
@@ -62,6 +66,7 @@ impl<'a> Scanner<'a> {
     }
 
     /// Takes a text, where it is what comes next.
+    #[inline(always)]
     pub fn text(&mut self, text: &[u8]) -> Result<(), LineFail>
         ensures ok { OnOk result (front_at text.now self.old ≡ Some self.new) }
         ensures err { IfErr result (IsMisfit (front_at text.now self.old ≡ None)) }
@@ -73,6 +78,7 @@ impl<'a> Scanner<'a> {
     }
 
     /// Takes a number of at most so many digits. It is nothing where it is 2^128 or more.
+    #[inline(always)]
     pub fn number(&mut self, most: usize) -> Result<Option<u128>, LineFail>
         ensures ok { IfOk result
             (TakesNumber (number_at most) (λ n. n < 2 ^ 128) self.old self.new) }
@@ -91,6 +97,7 @@ impl<'a> Scanner<'a> {
     }
 
     /// Takes a number of at most so many digits, of which there may be 19.
+    #[inline(always)]
     pub fn small(&mut self, most: usize) -> Result<u64, LineFail>
         requires { most ≤ 19 }
         ensures ok { IfOk result (λ n. number_at most self.old ≡ Some (n, self.new)) }
@@ -119,6 +126,7 @@ impl<'a> Scanner<'a> {
     }
 
     // Takes one byte, where it is the next one.
+    #[inline(always)]
     fn byte(&mut self, byte: u8) -> Result<(), LineFail>
         ensures ok { OnOk result (behind_byte byte self.old ≡ Some self.new) }
         ensures err { IfErr result (IsMisfit (behind_byte byte self.old ≡ None)) }
@@ -147,6 +155,7 @@ impl<'a> Scanner<'a> {
 
 // The number of the digits at the front, and how many there are: at least one and at most so many, or there is none.
 // Each byte is looked at once.
+#[inline(always)]
 fn number_ahead(bytes: &[u8], most: usize) -> Option<(u64, usize)>
     requires { most ≤ 19 }
     ensures some { IfSome result (λ r. IsNumberAhead most bytes.now r.0 r.1) }

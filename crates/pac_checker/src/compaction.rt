@@ -15,6 +15,9 @@ use std::alloc::Global;
 // So many lines and terms are few: a table with at most twice as many monomials isn't made anew.
 const FEW: u64 = 1 << 13;
 
+// As many monomials as there may be where few lines and terms are live: a table that is made anew has room for them.
+const ROOM: usize = 1 << 14;
+
 /// How many monomials a table may have before it is made anew: twice as many as there are live lines and terms now.
 /// These are what making it anew goes over, so that costs no more than reading what was read since.
 pub(crate) fn most_monomials(live: &Live<'_, Poly>) -> u64 {
@@ -37,7 +40,8 @@ pub(crate) fn compacted<'a>(
     requires { gates.now ≡ live.now.gates }
     ensures { IfOk result (Carries live.now) }
 {
-    let mut compact = Live::new(alloc, gates, Terms::new(alloc, live.table().exponent()));
+    let table = Terms::with_room(alloc, live.table().exponent(), ROOM)?;
+    let mut compact = Live::new(alloc, gates, table);
     carry_all(&mut compact, live)?;
     Ok(compact)
 }

@@ -126,7 +126,6 @@ impl<'a> Judge<'a> {
             return Ok(());
         }
         self.live = compacted(self.alloc, self.left.extended().gates(), &self.live)?;
-        self.products = PolySum::new(self.alloc);
         self.most_monomials = most_monomials(&self.live);
         Ok(())
     }

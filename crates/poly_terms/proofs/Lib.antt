@@ -10,7 +10,7 @@ pub mod Gathering
 pub mod Equality
 pub mod Assigned
 pub mod Leaving
-pub mod Interned
+pub mod Chaining
 pub mod Adding
 pub mod Given
 pub mod Placing

@@ -1,5 +1,5 @@
 -- To be trusted by whoever reads the contracts: `Tables`, and what `Indexed` says before it comes to coefficients by number. `Laws` proves what it
--- states of tables that grow. `Merges`, `Entries`, `Monomials`, `PolySums` and `Hashed` say how the monomials of a polynomial are kept, and serve private clauses alone.
+-- states of tables that grow. `Merges`, `Entries`, `Monomials`, `PolySums`, `Hashed` and `Chains` say how the monomials of a polynomial are kept, and serve private clauses alone.
 pub mod Merges
 pub mod Entries
 pub mod Monomials
@@ -7,4 +7,5 @@ pub mod Tables
 pub mod Indexed
 pub mod PolySums
 pub mod Hashed
+pub mod Chains
 pub mod Laws

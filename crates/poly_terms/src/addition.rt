@@ -105,6 +105,7 @@ fn is_orderly(exponent: u32, entries: &[Term]) -> bool
     true
 }
 
+#[inline(always)]
 fn is_placed(exponent: u32, entries: &[Term], i: usize) -> bool
     requires exponent { IsWidth exponent }
     requires in_range { i < length entries.now }
@@ -119,6 +120,7 @@ fn is_placed(exponent: u32, entries: &[Term], i: usize) -> bool
 }
 
 // Puts an entry after others: added to the last where that has its monomial, and not at all where the sum is 0.
+#[inline(always)]
 fn put_behind(exponent: u32, entry: Term, out: &mut Vec<Term>) -> Result<(), AllocError>
     requires { IsWidth exponent }
     ensures { OnOk result (IsPutBehind (2 ^ exponent) entry out.old.items out.new.items) }

@@ -36,6 +36,7 @@ impl Coefficients {
     }
 
     /// Has a number within, by as many 0 as it takes.
+    #[inline(always)]
     pub(crate) fn reach(&mut self, number: u64) -> Result<(), AllocError>
         ensures longer { IsLonger self.old self.new }
         ensures long { OnOk result (number < length self.new) }
@@ -44,6 +45,7 @@ impl Coefficients {
     }
 
     /// Puts a coefficient in place of a number's.
+    #[inline(always)]
     pub(crate) fn put(&mut self, number: u64, coefficient: u128)
         requires { number < length self.old }
         ensures { self.new ≡ set self.old number coefficient }
@@ -54,6 +56,7 @@ impl Coefficients {
     }
 
     /// The coefficient of a number.
+    #[inline(always)]
     pub(crate) fn at(&self, number: u64) -> u128
         ensures { result ≡ get_or self.now number 0 }
     {
@@ -90,6 +93,7 @@ fn lengthen(by_number: &mut Vec<u128>, number: u64) -> Result<(), AllocError>
 }
 
 // How many there are once a coefficient stands in place of another.
+#[inline(always)]
 fn recount(count: u64, before: u128, after: u128) -> u64
     requires some { before ≢ 0 → 0 < count }
     requires room { before ≡ 0 → count + 1 < 2 ^ 64 }

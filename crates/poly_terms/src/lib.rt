@@ -25,6 +25,7 @@
 
 mod addition;
 mod carrying;
+mod chains;
 mod coefficient;
 mod coefficients;
 mod evaluation;

@@ -17,6 +17,7 @@ const MOST_PLACES: usize = 8;
 pub(crate) type Monomial = SmallVec<u32, FEW>;
 
 /// The product of two monomials: the variables of either, since a truth value is its own square.
+#[inline(always)]
 pub(crate) fn join(alloc: Global, left: &[u32], right: &[u32]) -> Result<Monomial, AllocError>
     ensures { IfOk result (λ both. both.items ≡ joined left.now right.now) }
 {
@@ -28,11 +29,12 @@ pub(crate) fn join(alloc: Global, left: &[u32], right: &[u32]) -> Result<Monomia
 
 // The product of two monomials that have few variables, as nearly all have. Those that both have count twice here, so
 // that the product may take no memory where the places of both would.
+#[inline(always)]
 fn join_few(alloc: Global, left: &[u32], right: &[u32]) -> Result<Monomial, AllocError>
     requires { length left.now + length right.now ≤ 8 }
     ensures { IfOk result (λ both. both.items ≡ joined left.now right.now) }
 {
-    let mut both = [0; MOST_PLACES];
+    let mut both = [0, 0, 0, 0, 0, 0, 0, 0];
     let mut count: usize = 0;
     let mut i: usize = 0;
     let mut j: usize = 0;
@@ -64,6 +66,7 @@ fn join_few(alloc: Global, left: &[u32], right: &[u32]) -> Result<Monomial, Allo
 }
 
 // Puts variables after so many, and gives how many there are then.
+#[inline(always)]
 fn put_all(variables: &[u32], both: &mut [u32; MOST_PLACES], count: usize) -> usize
     requires { count + length variables.now ≤ 8 }
     ensures items { take result both.new ≡ take count both.old ++ variables.now }
@@ -78,6 +81,7 @@ fn put_all(variables: &[u32], both: &mut [u32; MOST_PLACES], count: usize) -> us
 }
 
 // The first so many places.
+#[inline(always)]
 fn front(alloc: Global, both: &[u32; MOST_PLACES], count: usize) -> Result<Monomial, AllocError>
     requires { count ≤ 8 }
     ensures { IfOk result (λ monomial. monomial.items ≡ take count both.now) }
@@ -137,6 +141,7 @@ pub(crate) fn from_variables(alloc: Global, variables: &[u32]) -> Result<Monomia
 }
 
 /// Whether the variables are a monomial's as they stand.
+#[inline(always)]
 pub(crate) fn is_rising(variables: &[u32]) -> bool
     ensures { IsTrue result → AreRising 0 variables.now }
 {
@@ -150,6 +155,7 @@ pub(crate) fn is_rising(variables: &[u32]) -> bool
     true
 }
 
+#[inline(always)]
 pub(crate) fn copy(alloc: Global, variables: &[u32]) -> Result<Monomial, AllocError>
     ensures { IfOk result (λ monomial. monomial.items ≡ variables.now) }
 {
@@ -158,6 +164,7 @@ pub(crate) fn copy(alloc: Global, variables: &[u32]) -> Result<Monomial, AllocEr
     Ok(out)
 }
 
+#[inline(always)]
 pub(crate) fn has_variable(variables: &[u32], v: u32) -> bool
     ensures { result ≡ has_variable v variables.now }
 {
@@ -178,6 +185,7 @@ pub(crate) fn without(alloc: Global, variables: &[u32], v: u32) -> Result<Monomi
 }
 
 // one by one: most often there is none, or one
+#[inline(always)]
 fn push_all(variables: &[u32], out: &mut Monomial)
     requires { HasRoomFor out.old (length variables.now) }
     ensures items { out.new.items ≡ out.old.items ++ variables.now }

@@ -48,6 +48,7 @@ pub(crate) fn add_multiples(
 }
 
 // Adds the products of each term with a part. A part over the constant 0 adds nothing.
+#[inline(always)]
 fn add_part(
     alloc: Global,
     width: u32,
@@ -94,6 +95,7 @@ fn add_part(
 }
 
 // Adds a monomial with its coefficient times each term.
+#[inline(always)]
 fn add_scaled(
     width: u32,
     table: &mut Numbering,
@@ -118,6 +120,7 @@ fn add_scaled(
     Ok(())
 }
 
+#[inline(always)]
 fn add_one(
     width: u32,
     table: &mut Numbering,

@@ -58,6 +58,7 @@ pub(crate) fn multiply_behind(
 }
 
 /// A monomial with its coefficient, after others.
+#[inline(always)]
 pub(crate) fn push_term(
     table: &mut Numbering,
     monomial: Monomial,

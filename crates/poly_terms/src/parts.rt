@@ -73,6 +73,7 @@ pub(crate) fn products_of(
 }
 
 // Puts the term of a part after others. A part over the constant 0 has none.
+#[inline(always)]
 fn push_part(
     alloc: Global,
     table: &mut Numbering,

@@ -145,6 +145,7 @@ impl PolySum {
 }
 
 /// Adds a term.
+#[inline(always)]
 pub(crate) fn add_term(
     width: u32,
     coefficients: &mut Coefficients,
@@ -184,6 +185,7 @@ fn add_all(
 }
 
 // Puts a number into the list, where it had the coefficient 0.
+#[inline(always)]
 fn list_new(numbers: &mut Vec<u64>, number: u64, before: u128) -> Result<(), AllocError>
     ensures kept { (n : ℕ) → Contains numbers.old.items n → Contains numbers.new.items n }
     ensures listed { OnOk result (before ≡ 0 → Contains numbers.new.items number) }
@@ -213,6 +215,7 @@ fn take_out(
 }
 
 // Takes out a number's term, if it has one.
+#[inline(always)]
 fn take_one(
     coefficients: &mut Coefficients,
     number: u64,
@@ -240,6 +243,7 @@ fn clear_all(coefficients: &mut Coefficients, numbers: &[u64])
     }
 }
 
+#[inline(always)]
 fn clear_one(coefficients: &mut Coefficients, listed: u64)
     ensures less { IsLess coefficients.old coefficients.new }
     ensures gone { get_or coefficients.new listed 0 ≡ 0 }

@@ -60,6 +60,7 @@ fn add_multiple(
     Ok(())
 }
 
+#[inline(always)]
 fn add_product(
     width: u32,
     table: &mut Numbering,

@@ -57,7 +57,14 @@ impl Terms {
         requires { IsWidth w }
         ensures { IfOk result (λ t. t.exponent ≡ w) }
     {
-        let count = gates.saturating_mul(MONOMIALS_OF_GATE);
+        Terms::with_room(alloc, w, gates.saturating_mul(MONOMIALS_OF_GATE))
+    }
+
+    /// The same with room for so many monomials.
+    pub fn with_room(alloc: Global, w: u32, count: usize) -> Result<Terms, Memory>
+        requires { IsWidth w }
+        ensures { IfOk result (λ t. t.exponent ≡ w) }
+    {
         let monomials = Numbering::with_capacity(alloc, count)?;
         Ok(Terms {
             alloc,

@@ -24,6 +24,7 @@ impl Model for Variables {
 
 impl Variables {
     /// No variables: their product is 1.
+    #[inline(always)]
     pub fn new(alloc: Global) -> Variables
         ensures { result ≡ [] }
     {
@@ -33,6 +34,7 @@ impl Variables {
     }
 
     /// The variables of a list.
+    #[inline(always)]
     pub fn of(alloc: Global, variables: &[u32]) -> Result<Variables, Memory>
         ensures { IfOk result (λ vs. vs ≡ variables.now) }
     {
@@ -41,6 +43,7 @@ impl Variables {
     }
 
     /// One more variable, after the others.
+    #[inline(always)]
     pub fn push(&mut self, v: u32) -> Result<(), Memory>
         ensures { OnOk result (self.new ≡ self.old ++ v ∷ []) }
     {
@@ -49,6 +52,7 @@ impl Variables {
     }
 
     // Their monomial. There is none where one of them is the constant 0: then their product is 0.
+    #[inline(always)]
     pub(crate) fn into_monomial(self, alloc: Global) -> Result<Option<Monomial>, AllocError>
         ensures some { IfOk result (λ m. IfSome m (λ monomial. IsMonomialOf self monomial.items)) }
         ensures none { IfOk result (λ m. IfNone m (has_variable 0 self ≡ true)) }
@@ -64,6 +68,7 @@ impl Variables {
         Ok(Some(monomial))
     }
 
+    #[inline(always)]
     pub(crate) fn as_slice(&self) -> &[u32]
         ensures { result.now ≡ self.now }
     {

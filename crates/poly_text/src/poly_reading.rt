@@ -34,6 +34,7 @@ impl PacReader {
     }
 
     // The terms of a polynomial.
+    #[inline(always)]
     fn all_terms(
         &self,
         scanner: &mut Scanner<'_>,
@@ -50,6 +51,7 @@ impl PacReader {
     }
 
     // The first term, which has no plus.
+    #[inline(always)]
     fn first_term(&self, scanner: &mut Scanner<'_>) -> Result<Option<(u128, Variables)>, LineFail>
         ensures ok { IfOk result
             (TakesTerm first_term_at self.now.max self.now.exponent scanner.old scanner.new) }
@@ -63,6 +65,7 @@ impl PacReader {
     }
 
     // Terms with their signs, put after other terms.
+    #[inline(always)]
     fn later_terms(
         &self,
         scanner: &mut Scanner<'_>,
@@ -81,6 +84,7 @@ impl PacReader {
     }
 
     // A term with its sign.
+    #[inline(always)]
     fn later_term(&self, scanner: &mut Scanner<'_>) -> Result<Option<(u128, Variables)>, LineFail>
         ensures ok { IfOk result
             (TakesTerm signed_term_at self.now.max self.now.exponent scanner.old scanner.new) }
@@ -92,6 +96,7 @@ impl PacReader {
     }
 }
 
+#[inline(always)]
 fn is_at_sign(scanner: &Scanner<'_>) -> bool
     ensures { result ≡ begins is_sign scanner.now }
 {

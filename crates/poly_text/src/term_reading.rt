@@ -16,6 +16,7 @@ impl PacReader {
     ghost use Rattle.std.specs.Prelude.{codes};
 
     // A term after its sign.
+    #[inline(always)]
     pub(crate) fn term(
         &self,
         scanner: &mut Scanner<'_>,
@@ -33,6 +34,7 @@ impl PacReader {
     }
 
     // A coefficient, and variables after stars.
+    #[inline(always)]
     fn with_coefficient(
         &self,
         scanner: &mut Scanner<'_>,
@@ -49,6 +51,7 @@ impl PacReader {
     }
 
     // A variable, and variables after stars.
+    #[inline(always)]
     fn product(
         &self,
         scanner: &mut Scanner<'_>,
@@ -67,6 +70,7 @@ impl PacReader {
     }
 
     // The variables after stars, put after other variables.
+    #[inline(always)]
     fn factors(
         &self,
         scanner: &mut Scanner<'_>,
@@ -84,6 +88,7 @@ impl PacReader {
     }
 
     // A variable after a star.
+    #[inline(always)]
     fn factor(&self, scanner: &mut Scanner<'_>) -> Result<Option<u32>, LineFail>
         ensures ok { IfOk result
             (TakesNumber (behind_at (codes "*x") (number_at 10)) (IsVariable self.now.max)
@@ -96,6 +101,7 @@ impl PacReader {
     }
 
     // A coefficient with its sign and variables, where both are in range.
+    #[inline(always)]
     fn signed_term(
         &self,
         negative: bool,
@@ -110,6 +116,7 @@ impl PacReader {
     }
 
     // A coefficient with its sign, modulo 2^exponent.
+    #[inline(always)]
     fn signed(&self, negative: bool, coefficient: u128) -> u128
         ensures plus { negative ≡ false → result ≡ coefficient }
         ensures minus { negative ≡ true → (result + coefficient) % 2 ^ self.now.exponent ≡ 0 }
@@ -123,6 +130,7 @@ impl PacReader {
 }
 
 // Puts one more variable after others, where both are there; else there are no variables any more.
+#[inline(always)]
 fn times(variables: &mut Option<Variables>, v: Option<u32>) -> Result<(), LineFail>
     ensures ok { OnOk result (IsTimes variables.old v variables.new) }
     ensures err { IfErr result (IsMisfit ⊥) }

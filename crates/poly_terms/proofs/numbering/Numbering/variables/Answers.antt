@@ -1,12 +1,10 @@
-use Rattle.std.proofs.Common.{◌≡◌, map, slice_get, Some, sym, subst, ◌∙◌}
+use Rattle.std.proofs.Common.{◌<◌, length, ap, subst, arith}
 use Rattle.algebra_core.specs.NormalForm.{AreRising}
-use Rattle.poly_terms.proofs.Interned.{stands_at}
 use Rattle.poly_terms.proofs.Values.{rises}
 use Rattle.poly_terms.proofs.numbering.Numbering.variables.Goals as goal
 
 pub returns-clause-rising : goal.returns-clause-rising
 returns-clause-rising c =
-    let keys = c.self.inside.monomials.keys in
-    let at : slice_get keys c.args.number ≡ Some c.in-Some.key.now = sym c.in-Some.ensures.key in
-    let s = stands_at (λ k. k.monomial.items) keys c.args.number c.in-Some.key.now at in
-    subst (AreRising 0) (s.monomial ∙ sym c.as_slice.ensures) (rises (map (λ k. k.monomial.items) keys) c.args.number c.self.invariant s.in_table)
+    let ms = c.self.inside.monomials in
+    let low : c.args.number < length ms = omega (arith, c.requires, ap length c.self.view_is) in
+    subst (AreRising 0) c.variables.ensures (rises ms c.args.number c.self.invariant low)
