@@ -107,7 +107,12 @@ impl Chains {
 
 // The number of a monomial that is linked, if it has one.
 #[inline(always)]
-fn find_in(monomials: &[Monomial], heads: &[usize], links: &[usize], monomial: &[u32]) -> Option<u64>
+fn find_in(
+    monomials: &[Monomial],
+    heads: &[usize],
+    links: &[usize],
+    monomial: &[u32],
+) -> Option<u64>
     requires some { 0 < length heads.now }
     requires long { length links.now ≡ length monomials.now }
     requires linked { AreLinked (length heads.now) (map (λ m. m.items) monomials.now) heads.now links.now }
