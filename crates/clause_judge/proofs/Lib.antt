@@ -1,7 +1,6 @@
 pub mod Told
 pub mod Fails
 pub mod LineEnds
-pub mod Causes
 pub mod KeptRecords
 pub mod ClauseRests
 pub mod Joins

@@ -9,7 +9,8 @@
 //! graphs, and of a pair that is trimmed. A command line owns each `FileName`; `lent` gives the same names as texts.
 //! `Task` is what is asked of a graph.
 //!
-//! *Stop*, *due*, *interrupts*: `specs/Stopping.antt`. *Told*: the desk tells the bytes under a name. The names that
+//! *Stop*, *due*, *interrupts*: `specs/Stopping.antt`. Which answer is due of files that are read in an order, each over
+//! what the one before it gives: `specs/InOrder.antt`. *Told*: the desk tells the bytes under a name. The names that
 //! are lent, as texts: `files_of` and its like (both in `specs/Files.antt`). What writing a file, or a pair of
 //! certificates, does to the outside: `specs/Written.antt`.
 #![tactic(auto)]

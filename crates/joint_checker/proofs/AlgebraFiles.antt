@@ -13,18 +13,14 @@ use Rattle.graph_core.proofs.OfTexts.CallerLemmas.{HasNoNewline, ShortFrom, shor
 use Rattle.mv_desk.specs.View.{View}
 use Rattle.mv_text.specs.declared.line_fail.LineFail.{LineFail}
 use Rattle.mv_text.specs.declared.line_fail.LineFail.TheVariants as fail
-use Rattle.mv_desk.specs.declared.slot.Slot.TheVariants as slot
-use Rattle.command_core.specs.Stopping.{IsLong}
-use Rattle.command_core.proofs.CallerLemmas.{IsLong-weaker, IsStop-weaker}
 use Rattle.mv_text.specs.CertificateFiles.{FileState, HasFirstLine, IsFirstRefusal}
 use Rattle.algebra_judge.specs.AlgebraBody.{IsBodyFail, IsLawfulBody}
 use Rattle.algebra_judge.specs.AlgebraLines.{AlgebraTask, IsLongIn}
-use Rattle.algebra_judge.specs.Fails.{answer_of_line, cause_of}
+use Rattle.algebra_judge.specs.Fails.{answer_of_line}
 use Rattle.algebra_judge.specs.Records.{IsRecordOf, IsRecordedBody}
 use Rattle.algebra_judge.specs.declared.fail.AlgebraFail.{AlgebraFail}
-use Rattle.algebra_judge.specs.declared.fail.AlgebraFail.TheVariants as algebra
-use Rattle.joint_checker.specs.Answers.{answer_of_algebra}
 use Rattle.joint_checker.specs.Fails.{IsAlgebraFail}
+use Rattle.algebra_judge.proofs.Fails.{fails_before}
 use Rattle.clause_judge.proofs.Told.{told_more, told_of}
 
 none_first : (version : ℕ) → HasNoNewline (first_line version)
@@ -37,7 +33,7 @@ none_first version = go (version == 1) (version == 2)
 
 module _ (lengths : Lengths) (t : AlgebraTask) where
   -- the first line isn't the header
-  pub header_fails : (text : Option (List ℕ)) (before now : View) (why : LineFail) → IsFirstRefusal (algebra_header t.premises.version) lengths text before.read_faults now.read_faults why → IsAlgebraFail lengths t.premises t.sides text before now (answer_of_algebra (answer_of_line 1 why))
+  pub header_fails : (text : Option (List ℕ)) (before now : View) (why : LineFail) → IsFirstRefusal (algebra_header t.premises.version) lengths text before.read_faults now.read_faults why → IsAlgebraFail lengths t.premises t.sides text before now (answer_of_line 1 why)
   header_fails text before now fail.Text h =
       told_more text _ (λ bytes. IsAlgebraRefusal t.premises t.sides lengths bytes (1, cause.Text)) (λ bytes k. inr (k.0, inl (k.1, refl))) h
   header_fails text before now fail.Range h = absurd h
@@ -94,12 +90,9 @@ module _ (lengths : Lengths) (t : AlgebraTask) where
         (there.0, file_is_refused file same bytes behind k there.0 cause.TooLong there.1)) header
 
     -- what is after the header isn't lawful
-    pub body_fails : (first before now : View) (given : AlgebraFail) → first.read_faults ≤ before.read_faults → IsBodyFail t file.lines behind before now given → IsAlgebraFail lengths t.premises t.sides text first now (answer_of_algebra given)
-    body_fails first before now (algebra.Line n why) later h = refused_text n (cause_of why) h
-    body_fails first before now (algebra.Stopped why) later h =
-        let P : Type 0 = IfSome behind (λ body. (line : ℕ) × IsRefusedBody t.premises t.sides (IsLongIn file.lines body) body (line, cause.TooLong)) in
-        let Q : Type 0 = IfSome text (λ bytes. (line : ℕ) × IsAlgebraRefusal t.premises t.sides lengths bytes (line, cause.TooLong)) in
-        IsStop-weaker (IsLong slot.Algebra P) before now (IsLong slot.Algebra Q) first (IsLong-weaker slot.Algebra P Q long_text) later why h
+    pub body_fails : (first before now : View) → first.read_faults ≤ before.read_faults → (given : AlgebraFail) → IsBodyFail t file.lines behind before now given → IsAlgebraFail lengths t.premises t.sides text first now given
+    body_fails first before now later given =
+        fails_before text behind (λ body. IsRefusedBody t.premises t.sides (IsLongIn file.lines body) body) (IsAlgebraRefusal t.premises t.sides lengths) refused_text long_text first before now later given
 
     -- what is recorded of the lines after the header is so of the file
     pub text_is_recorded : (recorded : List Line) (closing count : ℕ) → IfSome behind (IsRecordedBody t recorded closing count) → IfSome text (λ bytes. IsRecordOf t.records t.premises.version (modulus t.premises.extended) bytes recorded closing count)

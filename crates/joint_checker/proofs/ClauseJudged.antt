@@ -16,25 +16,21 @@ use Rattle.drup_text.specs.HeaderRefusal.{IsClauseHeaderRefusal, LineCause, Rang
 use Rattle.drup_text.specs.Headers.{extended_with}
 use Rattle.drup_text.proofs.CallerLemmas.{behind_header, header_anyhow}
 use Rattle.drup_text.specs.HeaderSteps.{IsLongIn}
-use Rattle.command_core.specs.Stopping.{IsLong}
-use Rattle.command_core.proofs.CallerLemmas.{IsLong-weaker, IsStop-weaker}
 use Rattle.mv_desk.specs.View.{View}
-use Rattle.mv_desk.specs.declared.slot.Slot.TheVariants as slot
 use Rattle.mv_text.specs.declared.line_fail.LineFail.{LineFail}
 use Rattle.mv_text.specs.declared.line_fail.LineFail.TheVariants as fail
-use Rattle.joint_checker.specs.Answers.{answer_of_clauses}
 use Rattle.clause_judge.specs.ClauseLines.{answer_of_line}
 use Rattle.clause_judge.specs.declared.fail.ClauseFail.{ClauseFail}
-use Rattle.clause_judge.specs.declared.fail.ClauseFail.TheVariants as clauses
 use Rattle.clause_judge.specs.ClauseBody.{HasPassed, IsRestFail, IsShownWith, Pass}
 use Rattle.pair_core.specs.ClauseFiles.{AddsClauses, GivesPremises, HasLawfulLines, importable, premises}
 use Rattle.joint_checker.specs.ClauseRefusals.{IsClauseRefusal, IsColumnRefusal}
-use Rattle.clause_judge.specs.LineRefusals.{IsRefusedLines, line_cause}
+use Rattle.clause_judge.specs.LineRefusals.{IsRefusedLines}
 use Rattle.joint_checker.specs.Fails.{IsClauseFail}
 use Rattle.joint_checker.specs.Shown.{keeps_of}
 use Rattle.joint_checker.proofs.ClauseWholes.{lawful_lines}
 use Rattle.joint_checker.proofs.KeptRecords.{imported_of_kept}
 use Rattle.gate_axioms.proofs.CallerLemmas.{same_imports}
+use Rattle.clause_judge.proofs.Fails.{fails_before}
 use Rattle.clause_judge.proofs.Told.{told_more, told_of}
 
 module _ (lengths : Lengths) (g : Aig) where
@@ -43,7 +39,7 @@ module _ (lengths : Lengths) (g : Aig) where
   started : (bytes : List ℕ) (p : ℕ × LineCause) → IsClauseHeaderRefusal g lengths bytes p → IsClauseRefusal lengths g bytes p
   started bytes p h = header_anyhow (IsRefusedLines (IsTooLong lengths (length bytes))) g lengths bytes p h
 
-  pub header_fails : (text : Option (List ℕ)) (before now : View) (line : ℕ) (why : LineFail) → IsCause (IsClauseHeaderRefusal g lengths) text before.read_faults now.read_faults line why → IsClauseFail lengths g text before now (answer_of_clauses (answer_of_line line why))
+  pub header_fails : (text : Option (List ℕ)) (before now : View) (line : ℕ) (why : LineFail) → IsCause (IsClauseHeaderRefusal g lengths) text before.read_faults now.read_faults line why → IsClauseFail lengths g text before now (answer_of_line line why)
   header_fails text before now line fail.Text h = told_more text (λ bytes. IsClauseHeaderRefusal g lengths bytes (line, Text)) (λ bytes. IsClauseRefusal lengths g bytes (line, Text)) (λ bytes k. started bytes (line, Text) k) h
   header_fails text before now line fail.Range h = told_more text (λ bytes. IsClauseHeaderRefusal g lengths bytes (line, Range)) (λ bytes. IsClauseRefusal lengths g bytes (line, Range)) (λ bytes k. started bytes (line, Range) k) h
   header_fails text before now line fail.Fault h = h
@@ -113,10 +109,7 @@ module _ (lengths : Lengths) (g : Aig) where
         let unshown = told_of behind t.body (λ body. (xs : List ClauseLine) × HasPassed e file.lines xs body × IsGoalRefusal e xs column) t.left k in
         (h, unshown.0, good bytes t unshown.0 unshown.1, unshown.2)) header
 
-    pub rest_fails : (first before now : View) (given : ClauseFail) → first.read_faults ≤ before.read_faults → IsRestFail (file.number + 1) e file.lines behind before now given → IsClauseFail lengths g text first now (answer_of_clauses given)
-    rest_fails first before now (clauses.Line n why) later k = told_refusal (n, line_cause why) k
-    rest_fails first before now (clauses.Goals column) later k = column_refusal column k
-    rest_fails first before now (clauses.Stopped why) later k =
-        let P : Type 0 = IfSome behind (λ body. (n : ℕ) × IsRefusedLines (IsLongIn file.lines body) e (file.number + 1) body (n, TooLong)) in
-        let Q : Type 0 = IfSome text (λ bytes. (n : ℕ) × IsClauseRefusal lengths g bytes (n, TooLong)) in
-        IsStop-weaker (IsLong slot.Clauses P) before now (IsLong slot.Clauses Q) first (IsLong-weaker slot.Clauses P Q long_refusal) later why k
+    pub rest_fails : (first before now : View) → first.read_faults ≤ before.read_faults → (given : ClauseFail) → IsRestFail (file.number + 1) e file.lines behind before now given → IsClauseFail lengths g text first now given
+    rest_fails first before now later given =
+        fails_before text behind (λ body. IsRefusedLines (IsLongIn file.lines body) e (file.number + 1) body) (IsClauseRefusal lengths g) (λ body column. (xs : List ClauseLine) × HasPassed e file.lines xs body × IsGoalRefusal e xs column)
+        (IsColumnRefusal lengths g) told_refusal long_refusal column_refusal first before now later given

@@ -32,7 +32,8 @@ use Rattle.drup_text.proofs.CallerLemmas.{header_said, none_block, none_count, n
 use Rattle.drup_text.proofs.HeaderExact.{header_passes}
 use Rattle.drup_text.proofs.OneFile.{one_text_is_one_file}
 use Rattle.pair_core.specs.ClauseFiles.{GivesPremises, HasLawfulLines, importable, premises}
-use Rattle.joint_checker.specs.ClauseRefusals.{ClauseFault, ClausesAreExact, Goals, IsClauseRefusal, IsFileRefusal, Line}
+use Rattle.clause_judge.specs.Faults.{ClauseFault, Goals, Line}
+use Rattle.joint_checker.specs.ClauseRefusals.{ClausesAreExact, IsClauseRefusal, IsFileRefusal}
 use Rattle.clause_judge.specs.LineRefusals.{IsRefusedLines}
 use Rattle.joint_checker.proofs.ClauseHeaders.{HasPassed, Reaches, header_exact, header_takes}
 use Rattle.pair_core.proofs.CallerLemmas.{same_back, same_joined, same_self}

@@ -5,6 +5,7 @@ use Rattle.algebra_core.specs.Agreement.{AreSamePremises}
 use Rattle.graph_core.specs.Graph.{Aig}
 use Rattle.graph_core.specs.Text.JudgedLines.{IsExact, IsTooLong, Lengths}
 use Rattle.clause_core.specs.ClauseLines.{ClauseLine, IsGoalRefusal}
+use Rattle.clause_judge.specs.Faults.{ClauseFault, Goals, Line}
 use Rattle.clause_judge.specs.LineRefusals.{IsRefusedLines}
 use Rattle.drup_text.specs.HeaderRefusal.{IsFirstHeaderRefusal, LineCause}
 use Rattle.drup_text.specs.declared.head.Header.{Header}
@@ -20,12 +21,7 @@ abbrev pub IsColumnRefusal : Lengths → Aig → List ℕ → ℕ → Type 0
 IsColumnRefusal lengths g bytes column =
     (header : Header) × (lines : List ClauseLine) × HasLawfulLines lengths g bytes header lines × IsGoalRefusal (extended_with g header) lines column
 
--- why a clause file gives no premises: a line and its cause, or a column
-pub data ClauseFault : Type 0 where
-  Line : ℕ × LineCause → ClauseFault
-  Goals : ℕ → ClauseFault
-
--- The first refusal of a clause file.
+-- The first refusal of a clause file, which gives no premises then.
 abbrev pub IsFileRefusal : Lengths → Aig → List ℕ → ClauseFault → Type 0
 IsFileRefusal lengths g bytes (Line p) = IsClauseRefusal lengths g bytes p
 IsFileRefusal lengths g bytes (Goals column) = IsColumnRefusal lengths g bytes column

@@ -1,12 +1,18 @@
 -- What `check` says of three files, and where each answer comes.
 use Rattle.std.specs.Prelude.{◌≡◌, ◌⊎◌, ℕ, List, Err, IfSome, Ok, Result, ⊤}
-use Rattle.command_core.specs.Stopping.{GivesDue, IsAbout, IsGraphStop, IsLong, IsStop, OpensUpTo}
-use Rattle.command_core.specs.declared.stop.Stop.{Stop}
-use Rattle.algebra_core.specs.Refusal as cause
-use Rattle.algebra_core.specs.Refusal.{IsAlgebraRefusal}
+use Rattle.std.specs.declared.option.Option.{Option}
 use Rattle.algebra_core.specs.AlgebraLines.{Premises}
+use Rattle.algebra_core.specs.Certificates.{IsLawfulAlgebra}
+use Rattle.algebra_core.specs.Refusal.{AlgebraCause, IsAlgebraRefusal}
+use Rattle.algebra_judge.specs.Faults as algebraic
+use Rattle.clause_judge.specs.Faults as clausal
+use Rattle.clause_judge.specs.Faults.{ClauseFault}
+use Rattle.command_core.specs.Files.{AreTold, Files, HasGraph, Texts, texts_of}
+use Rattle.command_core.specs.InOrder.{IsOneDue, IsSaidOf, Last, OverGraph, Then}
+use Rattle.command_core.specs.Stopping.{GivesDue, IsAbout, IsStop, OpensUpTo}
 use Rattle.graph_core.specs.Graph.{Aig}
-use Rattle.graph_core.specs.Graph.Operands.{Does, profile_of, sides_for}
+use Rattle.graph_core.specs.Graph.Operands.{Does, Sides, profile_of, sides_for}
+use Rattle.graph_core.specs.Text.JudgedLines.{Lengths}
 use Rattle.graph_core.specs.declared.claim.Claim.{Claim}
 use Rattle.graph_core.specs.declared.profile.Profile.{Profile}
 use Rattle.mv_desk.specs.View.{View, OpensFiles, SlotStays}
@@ -14,59 +20,49 @@ use Rattle.mv_desk.specs.declared.limits.Limits.{Limits}
 use Rattle.mv_desk.specs.declared.slot.Slot.{Slot}
 use Rattle.mv_desk.specs.declared.slot.Slot.TheVariants as slot
 use Rattle.mv_text.specs.LineReading.{lengths_of}
-use Rattle.algebra_judge.specs.Fails.{cause_of}
+use Rattle.pair_core.specs.ClauseFiles.{ArePremisesOf, GivesPremises}
+use Rattle.joint_checker.specs.Answers.{answer_of_algebra, answer_of_clauses}
+use Rattle.joint_checker.specs.ClauseRefusals.{IsFileRefusal}
+use Rattle.joint_checker.specs.LawfulFiles.{HasPremises, HasLawfulPair}
 use Rattle.joint_checker.specs.declared.checked.Checked.{Checked}
 use Rattle.joint_checker.specs.declared.checked.Checked.TheVariants as checked
-use Rattle.joint_checker.specs.declared.checked.Refusal.{Refusal}
 use Rattle.joint_checker.specs.declared.checked.Refusal.TheVariants as refusal
-use Rattle.drup_text.specs.HeaderRefusal as clausal
-use Rattle.clause_judge.specs.LineRefusals.{line_cause}
-use Rattle.joint_checker.specs.ClauseRefusals.{IsClauseRefusal, IsColumnRefusal}
-use Rattle.joint_checker.specs.LawfulFiles.{HasPremises, HasLawfulPair}
-use Rattle.command_core.specs.Files.{AreTold, Files, HasGraph, Texts, texts_of}
 
 -- ---- what the three files come to
 
--- The graph is spelled, and something holds of it and of the clause file.
-abbrev pub MeetsClauses : Profile → Limits → Texts → (Aig → List ℕ → Type 0) → Type 0
-MeetsClauses profile limits texts P = HasGraph profile limits.graph texts.graph (λ g. IfSome texts.clauses (P g))
+-- The clause file is refused for a graph, where it is told, and this is said of it.
+abbrev pub RefusesClauses : Lengths → Aig → Option (List ℕ) → Checked → Type 0
+RefusesClauses lengths g text =
+    IsSaidOf (λ (f : ClauseFault). IfSome text (λ bytes. IsFileRefusal lengths g bytes f)) (λ (f : ClauseFault). answer_of_clauses (clausal.fail_of f))
 
--- The graph is spelled, the clause file gives premises, and something holds of both and of the algebra file.
-abbrev pub MeetsAlgebra : Profile → Limits → Texts → (Aig → Premises → List ℕ → Type 0) → Type 0
-MeetsAlgebra profile limits texts P = HasPremises profile limits texts (λ g p. IfSome texts.algebra (P g p))
+-- The algebra file is refused over premises and operands, where it is told, and this is said of it.
+abbrev pub RefusesAlgebra : Lengths → Premises → Sides → Option (List ℕ) → Checked → Type 0
+RefusesAlgebra lengths p sides text =
+    IsSaidOf (λ (f : ℕ × AlgebraCause). IfSome text (λ bytes. IsAlgebraRefusal p sides lengths bytes f)) (λ (f : ℕ × AlgebraCause). answer_of_algebra (algebraic.fail_of f))
 
--- A certificate is refused, by its first line that is, or for the column of a goal that isn't shown.
-abbrev pub IsRefusalDue : Limits → Claim → Texts → Refusal → Type 0
-IsRefusalDue limits claim texts (refusal.Clauses n why) =
-    MeetsClauses (profile_of claim.widths) limits texts (λ g bytes. IsClauseRefusal (lengths_of limits) g bytes (n, line_cause why))
-IsRefusalDue limits claim texts (refusal.Goals column) =
-    MeetsClauses (profile_of claim.widths) limits texts (λ g bytes. IsColumnRefusal (lengths_of limits) g bytes column)
-IsRefusalDue limits claim texts (refusal.Algebra line why) =
-    MeetsAlgebra (profile_of claim.widths) limits texts (λ g p bytes.
-    IsAlgebraRefusal p (sides_for claim g) (lengths_of limits) bytes (line, cause_of why))
+-- What is due over premises: the algebra file is refused, or the pair is lawful.
+abbrev pub IsAlgebraDue : Lengths → Sides → Option (List ℕ) → Premises → Checked → Type 0
+IsAlgebraDue lengths sides text p = Last (IfSome text (IsLawfulAlgebra lengths p sides)) (RefusesAlgebra lengths p sides text) checked.Accepted
 
--- The graph file spells no graph, or a certificate is too long before any refusal.
-abbrev pub IsStopDue : Limits → Claim → Texts → Stop → Type 0
-IsStopDue limits claim texts why =
-    IsGraphStop slot.Graph (profile_of claim.widths) limits.graph texts.graph why ⊎
-    IsLong slot.Clauses (MeetsClauses (profile_of claim.widths) limits texts (λ g bytes. (n : ℕ) ×
-    IsClauseRefusal (lengths_of limits) g bytes (n, clausal.TooLong))) why ⊎
-    IsLong slot.Algebra (MeetsAlgebra (profile_of claim.widths) limits texts (λ g p bytes. (line : ℕ) ×
-    IsAlgebraRefusal p (sides_for claim g) (lengths_of limits) bytes (line, cause.TooLong))) why
+-- What is due over a graph: the clause file is refused, or gives premises.
+abbrev pub IsDueOver : Lengths → Claim → Texts → Aig → Checked → Type 0
+IsDueOver lengths claim texts g =
+    Then (λ (p : Premises). ArePremisesOf g p × IfSome texts.clauses (λ bytes. GivesPremises lengths g bytes p)) (RefusesClauses lengths g texts.clauses)
+    (IsAlgebraDue lengths (sides_for claim g) texts.algebra)
 
--- The answer that is due: the pair is lawful, or the first refusal, or a length that is met before any refusal.
+-- The answer that is due: the first refusal of the three files, or a length that is met before any refusal; else the pair is lawful.
 abbrev pub IsDue : Limits → Claim → Texts → Checked → Type 0
-IsDue limits claim texts checked.Accepted = HasLawfulPair limits claim texts (λ g. ⊤)
-IsDue limits claim texts (checked.Refused why) = IsRefusalDue limits claim texts why
-IsDue limits claim texts (checked.Stopped why) = IsStopDue limits claim texts why
+IsDue limits claim texts =
+    OverGraph checked.Stopped slot.Graph (profile_of claim.widths) limits.graph texts.graph (IsDueOver (lengths_of limits) claim texts)
 
 -- ---- what `check` answers
 
 -- Where each answer comes, as far as the desk tells the files.
 abbrev pub IsOutcome : Limits → Claim → Files → View → View → Checked → Type 0
 IsOutcome limits claim files before after checked.Accepted = HasLawfulPair limits claim (texts_of before files) (Does claim)
-IsOutcome limits claim files before after (checked.Refused why) = IsRefusalDue limits claim (texts_of before files) why
-IsOutcome limits claim files before after (checked.Stopped why) = IsStop (IsStopDue limits claim (texts_of before files)) before after why
+IsOutcome limits claim files before after (checked.Refused why) = IsDue limits claim (texts_of before files) (checked.Refused why)
+IsOutcome limits claim files before after (checked.Stopped why) =
+    IsStop (λ stop. IsDue limits claim (texts_of before files) (checked.Stopped stop)) before after why
 
 -- The answer where something is made of an accepted pair, or else why there is none.
 abbrev pub answer_of : {X : Type 0} → Result X Checked → Checked
@@ -118,10 +114,8 @@ IsExactAnswer limits claim files before after given =
     AreTold (texts_of before files) → (due : Checked) → IsDue limits claim (texts_of before files) due → GivesDue checked.Stopped before after due given
 
 -- Of three files that are told just one answer is due.
-pub record OneAnswerIsDue : Type 0 where
-  pub some : (limits : Limits) (claim : Claim) (texts : Texts) → AreTold texts → (due : Checked) × IsDue limits claim texts due
-  pub one : (limits : Limits) (claim : Claim) (texts : Texts) → AreTold texts → (due other : Checked) →
-      IsDue limits claim texts due → IsDue limits claim texts other → due ≡ other
+abbrev pub OneAnswerIsDue : Type 0
+OneAnswerIsDue = (limits : Limits) (claim : Claim) (texts : Texts) → AreTold texts → IsOneDue (IsDue limits claim texts)
 
 -- So what has its cause is the answer that is due, or a failed read or out of memory.
 abbrev pub OutcomesAreExact : Type 0

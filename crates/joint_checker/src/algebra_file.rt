@@ -19,9 +19,8 @@ ghost use Rattle.joint_checker.specs.Fails.{IsAlgebraFail};
 ghost use Rattle.algebra_judge.specs.Records.{IsLawfulRecord, IsRecordOf};
 ghost use Rattle.joint_checker.specs.Shown.{premises_of};
 
-use crate::checked::Checked;
 use crate::clause_file::Shown;
-use algebra_judge::{Closed, judge, line_refused};
+use algebra_judge::{AlgebraFail, Closed, judge, line_refused};
 use clause_core::ClauseList;
 use command_core::Stop;
 use graph_core::{Claim, Operands};
@@ -39,7 +38,7 @@ pub(crate) fn check_algebra<D: Desk>(
     shown: &Shown<'_>,
     claim: Claim,
     records: bool,
-) -> Result<Closed, Checked>
+) -> Result<Closed, AlgebraFail>
     requires sized { IsSizedAs (profile_of claim.widths) shown.now.extended.graph }
     requires columns { Always shown.now.extended.gates (AgreeOnColumns shown.now.extended) }
     requires facts { All (IsClauseFact shown.now.extended.gates) shown.now.recorded.added }
@@ -60,7 +59,7 @@ pub(crate) fn check_algebra<D: Desk>(
 {
     match desk.open_file(Slot::Algebra, name) {
         Ok(()) => judge_algebra(alloc, desk, limits, shown, claim, records),
-        Err(_) => Err(Checked::Stopped(Stop::ReadFault)),
+        Err(_) => Err(AlgebraFail::Stopped(Stop::ReadFault)),
     }
 }
 
@@ -72,7 +71,7 @@ fn judge_algebra<D: Desk>(
     shown: &Shown<'_>,
     claim: Claim,
     records: bool,
-) -> Result<Closed, Checked>
+) -> Result<Closed, AlgebraFail>
     requires reads { (D.seen desk.old).reads slot.Algebra ≡ true }
     requires sized { IsSizedAs (profile_of claim.widths) shown.now.extended.graph }
     requires columns { Always shown.now.extended.gates (AgreeOnColumns shown.now.extended) }
@@ -95,16 +94,13 @@ fn judge_algebra<D: Desk>(
 {
     let file = match AlgebraFile::start(alloc, desk, shown.header.version, limits) {
         Ok(file) => file,
-        Err(fail) => return Err(Checked::from(line_refused(1, fail))),
+        Err(fail) => return Err(line_refused(1, fail)),
     };
     let operands = Operands::under(alloc, shown.extended.graph(), claim)?;
     let none = ClauseList::new(alloc);
     let added = imports(shown, &none);
     let checker = PacChecker::new(alloc, &shown.extended, &operands, added, records)?;
-    match judge(desk, file, checker, shown.extended.max()) {
-        Ok(closed) => Ok(closed),
-        Err(fail) => Err(Checked::from(fail)),
-    }
+    judge(desk, file, checker, shown.extended.max())
 }
 
 // The clauses that the algebra may import.

@@ -2,7 +2,6 @@
 use Rattle.std.specs.Prelude.{◌≡◌, ◌≢◌, ℕ, ◌+◌, ◌++◌, ◌≤◌, List, length, IfSome}
 use Rattle.std.specs.declared.option.Option.{Option}
 use Rattle.std.proofs.Common.{refl, ap, subst, inl, inr}
-use Rattle.std.specs.Io.KnownBytes.{Keeps}
 use Rattle.graph_core.specs.Graph.Extended.{Extended}
 use Rattle.graph_core.specs.Text.JudgedLines.{IsTooLong, Lengths}
 use Rattle.clause_core.specs.ClauseLines.{ClauseLine, IsGoalRefusal}
@@ -20,7 +19,6 @@ use Rattle.drup_text.specs.HeaderSteps.{IsLongIn}
 use Rattle.mv_desk.specs.View.{View}
 use Rattle.mv_text.specs.declared.line_fail.LineFail.{LineFail}
 use Rattle.mv_text.specs.declared.line_fail.LineFail.TheVariants as fail
-use Rattle.mv_desk.proofs.CallerLemmas.{IfSome-Keeps}
 use Rattle.same_core.specs.Certificates.{HasLawfulMergedLines, IsLawful, IsMergedLineRefusal, IsOutputRefusal}
 use Rattle.same_core.specs.Fails.{IsPairClauseFail}
 use Rattle.same_core.proofs.Wholes.{body_lawful}
@@ -78,9 +76,3 @@ module _ (lengths : Lengths) (e : Extended) where
     rest_fails first before now given later =
         fails_before text behind (λ body. IsRefusedLines (IsLongIn file.lines body) e (file.number + 1) body) (IsMergedLineRefusal lengths e) (λ body output. (xs : List ClauseLine) × HasPassed e file.lines xs body × IsGoalRefusal e xs output)
         (IsOutputRefusal lengths e) told_refusal long_refusal output_refusal first before now later given
-
-  -- by what is left in the slot once the file was opened
-  pub opened_fails : (text left : Option (List ℕ)) → Keeps text left → (first before now : View) → first.read_faults ≤ before.read_faults → (given : ClauseFail) → IsPairClauseFail lengths e left before now given → IsPairClauseFail lengths e text first now given
-  opened_fails text left kept first before now later given =
-      fails_before text left (IsMergedLineRefusal lengths e) (IsMergedLineRefusal lengths e) (IsOutputRefusal lengths e) (IsOutputRefusal lengths e) (λ p. IfSome-Keeps text left (λ bytes. IsMergedLineRefusal lengths e bytes p) kept)
-      (IfSome-Keeps text left (λ bytes. (line : ℕ) × IsMergedLineRefusal lengths e bytes (line, TooLong)) kept) (λ output. IfSome-Keeps text left (λ bytes. IsOutputRefusal lengths e bytes output) kept) first before now later given

@@ -1,19 +1,22 @@
 -- The answers of `check_same`, as files are opened and read one after the other.
 use Rattle.std.specs.Prelude.{◌≡◌, ℕ, List, IfSome}
 use Rattle.std.specs.declared.option.Option.{Option}
-use Rattle.std.proofs.Common.{refl, subst, arith, inl, inr}
+use Rattle.std.proofs.Common.{refl, sym, subst, arith, inl, inr}
 use Rattle.aiger_reader.specs.Refusals.{SpellsWithin}
 use Rattle.command_core.specs.Stopping.{IsGraphStop, IsLong, IsStop}
 use Rattle.command_core.specs.declared.stop.Stop.{Stop}
 use Rattle.command_core.specs.declared.stop.Stop.TheVariants as stop
-use Rattle.command_core.proofs.CallerLemmas.{IsGraphStop-about, IsLong-about, IsLong-weaker, IsStop-weaker, opens_up_to}
+use Rattle.command_core.proofs.CallerLemmas.{IsGraphStop-about, IsLong-about, IsLong-due, IsStop-weaker, opens_up_to, some_number}
 use Rattle.graph_core.specs.Graph.Extended.{AgreeOnColumns, Extended}
 use Rattle.graph_core.specs.declared.profile.Profile.TheVariants.{Any}
 use Rattle.graph_core.specs.Graph.{Aig, IsBuilt}
 use Rattle.mv_fact.specs.Always.{Always}
+use Rattle.clause_judge.specs.Faults as fault
+use Rattle.clause_judge.specs.Faults.{ClauseFault, fail_of}
 use Rattle.clause_judge.specs.LineRefusals.{line_cause}
 use Rattle.clause_judge.specs.declared.fail.ClauseFail.{ClauseFail}
 use Rattle.clause_judge.specs.declared.fail.ClauseFail.TheVariants as clauses
+use Rattle.clause_judge.proofs.Fails.{line_is}
 use Rattle.drup_text.specs.HeaderRefusal.{TooLong}
 use Rattle.mv_desk.specs.Calls.{Inspects}
 use Rattle.mv_desk.specs.View.{OpensFiles, View, bytes_under}
@@ -28,12 +31,12 @@ use Rattle.same_core.specs.declared.pairs.PairFail.{PairFail}
 use Rattle.same_core.specs.declared.pairs.PairFail.TheVariants as pair
 use Rattle.same_core.specs.declared.verdict.Same.TheVariants as same
 use Rattle.same_core.specs.Answers.{answer_of_merge, answer_of_pair, pair_answer_of_clauses, same_of_pair}
-use Rattle.same_core.specs.Certificates.{IsLawful, IsMergedLineRefusal, IsOutputRefusal}
+use Rattle.same_core.specs.Certificates.{IsLawful, IsMergedFileRefusal, IsMergedLineRefusal}
 use Rattle.same_core.specs.Fails.{IsPairClauseFail}
 use Rattle.same_core.specs.Files.{ComparedFiles, IsSpelled, compared_texts_of}
 use Rattle.same_core.specs.Merged.{AreOfOneShape, Both, both, merged}
 use Rattle.same_core.specs.Deciding.{OpensForCompared}
-use Rattle.same_core.specs.Outcome.{IsPairOutcome, IsPairStop, IsPairStopDue, MeetsPairClauses, OpensForPair, pair_place}
+use Rattle.same_core.specs.Outcome.{IsPairCheckDue, IsPairOutcome, IsPairStop, OpensForPair, pair_place}
 use Rattle.same_core.specs.Pairs.{IsPairFail, IsReadPair}
 use Rattle.same_core.proofs.Merging.{merged_outputs_agree}
 
@@ -83,8 +86,13 @@ module _ (limits : Limits) (files : ComparedFiles) where
 
   -- no pair was read for a check
   pub pair_answers : (a b : View) (given : PairFail) → IsPairFail limits files a b given → IsPairOutcome limits files a b (answer_of_pair given)
-  pair_answers a b pair.Shapes h = h
-  pair_answers a b (pair.Stopped why) h = IsStop-weaker (IsPairStop limits.graph (compared_texts_of a files)) a b (IsPairStopDue limits (compared_texts_of a files)) a (λ w k. inl k) (omega arith) why h
+  pair_answers a b pair.Shapes (g, s, (h, t, differ)) = inr (g, s, inr (h, t, inl (differ, refl)))
+  pair_answers a b (pair.Stopped why) h =
+      IsStop-weaker (IsPairStop limits.graph (compared_texts_of a files)) a b (λ stop. IsPairCheckDue limits (compared_texts_of a files) (checked.Stopped stop)) a due (omega arith) why h
+    where
+      due : (w : Stop) → IsPairStop limits.graph (compared_texts_of a files) w → IsPairCheckDue limits (compared_texts_of a files) (checked.Stopped w)
+      due w (inl k) = inl (w, k, refl)
+      due w (inr (g, s, k)) = inr (g, s, inl (w, k, refl))
 
   pub pair_opened : (a b : View) (given : PairFail) → IsPairFail limits files a b given → OpensForCompared (same_of_pair given) a b → OpensForPair (answer_of_pair given) a b
   pair_opened a b pair.Shapes h opened = opened
@@ -98,16 +106,21 @@ module _ (limits : Limits) (files : ComparedFiles) where
     abbrev e : Extended
     e = merged g p.other
 
+    refused : (f : ClauseFault) → IfSome (bytes_under c files.clauses) (λ bytes. IsMergedFileRefusal (lengths_of limits) e bytes f) →
+        IsPairCheckDue limits (compared_texts_of a files) (pair_answer_of_clauses (fail_of f))
+    refused f h = inr (g, p.spelled, inr (p.other, p.other_spelled, inr (p.shape, inl (f, earlier a c files.clauses (λ bytes. IsMergedFileRefusal (lengths_of limits) e bytes f) inspects h, refl))))
+
     -- the clause file isn't lawful
     pub clauses_answers : (given : ClauseFail) → IsPairClauseFail (lengths_of limits) e (bytes_under c files.clauses) c d given → IsPairOutcome limits files a d (pair_answer_of_clauses given)
-    clauses_answers (clauses.Line line why) k = (g, p.spelled, (p.other, p.other_spelled, (p.shape, earlier a c files.clauses (λ bytes. IsMergedLineRefusal (lengths_of limits) e bytes (line, line_cause why)) inspects k)))
-    clauses_answers (clauses.Goals output) k = (g, p.spelled, (p.other, p.other_spelled, (p.shape, earlier a c files.clauses (λ bytes. IsOutputRefusal (lengths_of limits) e bytes output) inspects k)))
+    clauses_answers (clauses.Line line why) k =
+        subst (λ (x : ClauseFail). IsPairCheckDue limits (compared_texts_of a files) (pair_answer_of_clauses x)) (sym (line_is line why)) (refused (fault.Line (line, line_cause why)) k)
+    clauses_answers (clauses.Goals output) k = refused (fault.Goals output) k
     clauses_answers (clauses.Stopped why) k =
-        let Long : List ℕ → Type 0 = λ bytes. (line : ℕ) × IsMergedLineRefusal (lengths_of limits) e bytes (line, TooLong) in
-        IsStop-weaker (IsLong slot.Clauses (IfSome (bytes_under c files.clauses) Long)) c d (IsPairStopDue limits (compared_texts_of a files)) a
-        (λ w h. inr (IsLong-weaker slot.Clauses (IfSome (bytes_under c files.clauses) Long)
-        (MeetsPairClauses limits (compared_texts_of a files) (λ x y bytes. (line : ℕ) × IsMergedLineRefusal (lengths_of limits) (merged x y) bytes (line, TooLong)))
-        (λ long. (g, p.spelled, (p.other, p.other_spelled, (p.shape, earlier a c files.clauses Long inspects long)))) w h)) inspects.later why k
+        let Long : List ℕ → ℕ → Type 0 = λ bytes line. IsMergedLineRefusal (lengths_of limits) e bytes (line, TooLong) in
+        let text = bytes_under c files.clauses in
+        let Due : Stop → Type 0 = λ stop. IsPairCheckDue limits (compared_texts_of a files) (checked.Stopped stop) in
+        IsStop-weaker (IsLong slot.Clauses (IfSome text (λ bytes. (line : ℕ) × Long bytes line))) c d Due a
+        (IsLong-due slot.Clauses (IfSome text (λ bytes. (line : ℕ) × Long bytes line)) Due (λ long. let n = some_number text Long long in refused (fault.Line (n.0, TooLong)) n.1)) inspects.later why k
 
     -- It is lawful, and the outputs are equal on every evaluation of the merged gates.
     pub accepts : IfSome (bytes_under c files.clauses) (IsLawful (lengths_of limits) e) → Always e.gates (AgreeOnColumns e) → IsPairOutcome limits files a d checked.Accepted

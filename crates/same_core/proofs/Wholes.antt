@@ -11,12 +11,13 @@ use Rattle.clause_core.specs.ClauseLines.{ClauseLine, IsGoalRefusal, clause_in}
 use Rattle.clause_core.specs.GateClauses.{gate_clauses}
 use Rattle.clause_core.proofs.AddedClauses.{columns_agree}
 use Rattle.clause_core.proofs.Goals.{goals_are_exact}
+use Rattle.clause_judge.specs.Faults.{ClauseFault, Goals, Line}
 use Rattle.clause_judge.specs.LineRefusals.{IsRefusedLines}
 use Rattle.clause_judge.proofs.ClauseRests.{Passes, lawful_passes, lines_exact, passes_lawful, passes_short, short_line}
 use Rattle.drup_text.specs.HeaderRefusal.{Text, TooLong}
 use Rattle.drup_text.specs.SameFiles.{same_line}
 use Rattle.drup_text.proofs.SameHeaders.{one_same_file, written_same_is_read}
-use Rattle.same_core.specs.Certificates.{CertificatesAreExact, Goals, HasLawfulMergedLines, IsLawful, IsMergedFileRefusal, IsMergedLineRefusal, LawfulGraphsAgree, Line, SameFault}
+use Rattle.same_core.specs.Certificates.{CertificatesAreExact, HasLawfulMergedLines, IsLawful, IsMergedFileRefusal, IsMergedLineRefusal, LawfulGraphsAgree}
 use Rattle.same_core.specs.Deciding.{WrittenIsLawful}
 use Rattle.same_core.specs.Merged.{merged}
 use Rattle.same_core.proofs.Merging.{merged_outputs_agree}
@@ -69,21 +70,21 @@ module _ (lengths : Lengths) (e : Extended) (bytes : List ℕ) where
 
   -- ---- and their goals
 
-  decide : IsLawful lengths e bytes ⊎ ((f : SameFault) × IsMergedFileRefusal lengths e bytes f)
+  decide : IsLawful lengths e bytes ⊎ ((f : ClauseFault) × IsMergedFileRefusal lengths e bytes f)
   decide = ⊎_elim (λ l. goals l.0 l.1) (λ r. inr (Line r.0, r.1)) lines_are_exact.decided
     where
-      goals : (lines : List ClauseLine) → HasLawfulMergedLines lengths e bytes lines → IsLawful lengths e bytes ⊎ ((f : SameFault) × IsMergedFileRefusal lengths e bytes f)
+      goals : (lines : List ClauseLine) → HasLawfulMergedLines lengths e bytes lines → IsLawful lengths e bytes ⊎ ((f : ClauseFault) × IsMergedFileRefusal lengths e bytes f)
       goals lines h = ⊎_elim (λ shown. inl (record { lines = lines; lawful = h; shown = shown })) (λ r. inr (Goals r.0, (lines, h, r.1))) (goals_are_exact e lines).decided
 
   one_file : (xs ys : List ClauseLine) → HasLawfulMergedLines lengths e bytes xs → HasLawfulMergedLines lengths e bytes ys → xs ≡ ys
   one_file xs ys h i = one_same_file bytes xs ys h.text i.text
 
-  not_both : (f : SameFault) → IsLawful lengths e bytes → IsMergedFileRefusal lengths e bytes f → ⊥
+  not_both : (f : ClauseFault) → IsLawful lengths e bytes → IsMergedFileRefusal lengths e bytes f → ⊥
   not_both (Line p) s r = lines_are_exact.not_both p (s.lines, s.lawful) r
   not_both (Goals output) s r =
       (goals_are_exact e s.lines).not_both output s.shown (subst (λ z. IsGoalRefusal e z output) (one_file r.0 s.lines r.1 s.lawful) r.2)
 
-  one_refusal : (a b : SameFault) → IsMergedFileRefusal lengths e bytes a → IsMergedFileRefusal lengths e bytes b → a ≡ b
+  one_refusal : (a b : ClauseFault) → IsMergedFileRefusal lengths e bytes a → IsMergedFileRefusal lengths e bytes b → a ≡ b
   one_refusal (Line p) (Line q) h k = ap Line (lines_are_exact.one p q h k)
   one_refusal (Line p) (Goals c) h k = absurd (lines_are_exact.not_both p (k.0, k.1) h)
   one_refusal (Goals c) (Line q) h k = absurd (lines_are_exact.not_both q (h.0, h.1) k)

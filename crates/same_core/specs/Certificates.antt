@@ -7,6 +7,7 @@ use Rattle.graph_core.specs.Text.JudgedLines.{IsExact, IsTooLong, IsWithin, Leng
 use Rattle.clause_core.specs.Clause.{IsClauseInRange}
 use Rattle.clause_core.specs.ClauseLines.{AreGoalsShown, AreLawfulClauses, ClauseLine, IsGoalRefusal, clause_in}
 use Rattle.clause_core.specs.GateClauses.{gate_clauses}
+use Rattle.clause_judge.specs.Faults.{ClauseFault, Goals, Line}
 use Rattle.clause_judge.specs.LineRefusals.{IsRefusedLines}
 use Rattle.drup_text.specs.HeaderRefusal.{LineCause, Text, TooLong}
 use Rattle.drup_text.specs.SameFiles.{IsSameFile, same_line}
@@ -35,13 +36,8 @@ IsMergedLineRefusal lengths e bytes = Unless (¬ (IsTooLong lengths (length byte
 abbrev pub IsOutputRefusal : Lengths → Extended → List ℕ → ℕ → Type 0
 IsOutputRefusal lengths e bytes output = (lines : List ClauseLine) × HasLawfulMergedLines lengths e bytes lines × IsGoalRefusal e lines output
 
--- why a file isn't lawful: a line and its cause, or an output
-pub data SameFault : Type 0 where
-  Line : ℕ × LineCause → SameFault
-  Goals : ℕ → SameFault
-
 -- The first refusal of a file.
-abbrev pub IsMergedFileRefusal : Lengths → Extended → List ℕ → SameFault → Type 0
+abbrev pub IsMergedFileRefusal : Lengths → Extended → List ℕ → ClauseFault → Type 0
 IsMergedFileRefusal lengths e bytes (Line p) = IsMergedLineRefusal lengths e bytes p
 IsMergedFileRefusal lengths e bytes (Goals output) = IsOutputRefusal lengths e bytes output
 

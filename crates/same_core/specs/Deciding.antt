@@ -15,7 +15,6 @@ use Rattle.mv_desk.specs.View.{IsTold, OpensFiles, Rose, SlotStays, View, bytes_
 use Rattle.mv_desk.specs.declared.limits.Limits.{Limits}
 use Rattle.mv_desk.specs.declared.slot.Slot.{Slot}
 use Rattle.mv_desk.specs.declared.slot.Slot.TheVariants as slot
-use Rattle.same_core.specs.declared.checked.SameChecked.TheVariants as checked
 use Rattle.same_core.specs.declared.verdict.Same.{Same}
 use Rattle.same_core.specs.declared.verdict.Same.TheVariants as same
 use Rattle.same_core.specs.Certificates.{IsLawful}
@@ -23,9 +22,9 @@ use Rattle.aiger_reader.specs.Refusals.{SpellsWithin}
 use Rattle.command_core.specs.Stopping.{GivesDue, IsStop, OpensUpTo}
 use Rattle.command_core.specs.Written.{FailsToWrite, WritesFile}
 use Rattle.command_core.specs.declared.stop.Stop.TheVariants as stop
-use Rattle.same_core.specs.Files.{ComparedFiles, ComparedTexts, HasPair, compared_texts_of}
+use Rattle.same_core.specs.Files.{ComparedFiles, ComparedTexts, HasOtherShapes, HasPair, compared_texts_of}
 use Rattle.same_core.specs.Merged.{AgreeOnInputs, AreOfOneShape, merged}
-use Rattle.same_core.specs.Outcome.{IsPairCheckDue, IsPairStop, pair_place}
+use Rattle.same_core.specs.Outcome.{IsPairStop, pair_place}
 
 -- Inputs on which some output of the two graphs differs.
 pub record IsPairDifference (g h : Aig) (inputs : List Bool) : Type 0 where
@@ -60,7 +59,7 @@ IsCompared limits conflicts files before after (same.Differs inputs) =
     HasPair limits.graph (compared_texts_of before files) (λ g h. IsPairDifference g h inputs.items) × Inspects before after
 IsCompared limits conflicts files before after (same.Spent lemmas goal log) =
     HasPair limits.graph (compared_texts_of before files) (λ g h. IsSpent (merged g h) conflicts lemmas goal log) × Inspects before after
-IsCompared limits conflicts files before after same.Shapes = IsPairCheckDue limits (compared_texts_of before files) checked.Shapes × Inspects before after
+IsCompared limits conflicts files before after same.Shapes = HasOtherShapes limits.graph (compared_texts_of before files) × Inspects before after
 IsCompared limits conflicts files before after (same.Stopped stop.WriteFault) =
     Rose before.write_faults after.write_faults ×
     HasEqualPair limits.graph conflicts files before (λ text between. FailsToWrite slot.Clauses files.clauses text between after)
@@ -74,7 +73,7 @@ OpensForCompared _ before after = OpensFiles 2 before after
 
 -- The answer that is due where no pair of graphs is spelled: that of a check.
 abbrev pub IsPairDue : Limits → ComparedTexts → Same → Type 0
-IsPairDue limits texts same.Shapes = IsPairCheckDue limits texts checked.Shapes
+IsPairDue limits texts same.Shapes = HasOtherShapes limits.graph texts
 IsPairDue limits texts (same.Stopped why) = IsPairStop limits.graph texts why
 IsPairDue limits texts _ = ⊥
 

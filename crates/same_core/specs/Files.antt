@@ -42,3 +42,7 @@ HasBoth limit texts P = HasFirst limit texts (λ g. HasGraph Any limit texts.oth
 -- and they are of one shape
 abbrev pub HasPair : ℕ → ComparedTexts → (Aig → Aig → Type 0) → Type 0
 HasPair limit texts P = HasBoth limit texts (λ g h. AreOfOneShape g h × P g h)
+
+-- and they aren't
+abbrev pub HasOtherShapes : ℕ → ComparedTexts → Type 0
+HasOtherShapes limit texts = HasBoth limit texts (λ g h. ¬ (AreOfOneShape g h))

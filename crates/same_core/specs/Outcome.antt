@@ -1,11 +1,15 @@
 -- What `check_same` says of three files, and where each answer comes.
-use Rattle.std.specs.Prelude.{◌≡◌, ◌⊎◌, ℕ, List, IfSome}
-use Rattle.command_core.specs.Stopping.{GivesDue, IsGraphStop, IsLong, IsStop, OpensUpTo}
+use Rattle.std.specs.Prelude.{◌⊎◌, ℕ, List, IfSome}
+use Rattle.std.specs.declared.option.Option.{Option}
+use Rattle.clause_judge.specs.Faults as clausal
+use Rattle.clause_judge.specs.Faults.{ClauseFault}
+use Rattle.command_core.specs.InOrder.{IsOneDue, IsSaidOf, Last, OverGraph}
+use Rattle.command_core.specs.Stopping.{GivesDue, IsGraphStop, IsStop, OpensUpTo}
 use Rattle.command_core.specs.declared.stop.Stop.{Stop}
-use Rattle.clause_judge.specs.LineRefusals.{line_cause}
-use Rattle.drup_text.specs.HeaderRefusal as clausal
 use Rattle.graph_core.specs.declared.profile.Profile.TheVariants.{Any}
+use Rattle.graph_core.specs.Graph.Extended.{Extended}
 use Rattle.graph_core.specs.Graph.{Aig}
+use Rattle.graph_core.specs.Text.JudgedLines.{Lengths, Unless}
 use Rattle.mv_desk.specs.View.{View, OpensFiles}
 use Rattle.mv_desk.specs.declared.limits.Limits.{Limits}
 use Rattle.mv_desk.specs.declared.slot.Slot.{Slot}
@@ -13,48 +17,38 @@ use Rattle.mv_desk.specs.declared.slot.Slot.TheVariants as slot
 use Rattle.mv_text.specs.LineReading.{lengths_of}
 use Rattle.same_core.specs.declared.checked.SameChecked.{SameChecked}
 use Rattle.same_core.specs.declared.checked.SameChecked.TheVariants as checked
-use Rattle.same_core.specs.declared.checked.SameRefusal.{SameRefusal}
-use Rattle.same_core.specs.declared.checked.SameRefusal.TheVariants as refusal
-use Rattle.same_core.specs.Certificates.{IsLawful, IsMergedLineRefusal, IsOutputRefusal}
-use Rattle.same_core.specs.Files.{AreComparedTold, ComparedFiles, ComparedTexts, HasBoth, HasFirst, HasPair, compared_texts_of}
+use Rattle.same_core.specs.Answers.{pair_answer_of_clauses}
+use Rattle.same_core.specs.Certificates.{IsLawful, IsMergedFileRefusal}
+use Rattle.same_core.specs.Files.{AreComparedTold, ComparedFiles, ComparedTexts, HasFirst, HasPair, compared_texts_of}
 use Rattle.same_core.specs.Merged.{AgreeOnInputs, AreOfOneShape, merged}
-
--- The graphs are of one shape, and something holds of them and of the clause file.
-abbrev pub MeetsPairClauses : Limits → ComparedTexts → (Aig → Aig → List ℕ → Type 0) → Type 0
-MeetsPairClauses limits texts P = HasPair limits.graph texts (λ g h. IfSome texts.clauses (P g h))
-
--- The certificate is refused, by its first line that is, or for the output of a goal that isn't shown.
-abbrev pub IsPairRefusalDue : Limits → ComparedTexts → SameRefusal → Type 0
-IsPairRefusalDue limits texts (refusal.Clauses line why) =
-    MeetsPairClauses limits texts (λ g h bytes. IsMergedLineRefusal (lengths_of limits) (merged g h) bytes (line, line_cause why))
-IsPairRefusalDue limits texts (refusal.Goals output) =
-    MeetsPairClauses limits texts (λ g h bytes. IsOutputRefusal (lengths_of limits) (merged g h) bytes output)
 
 -- The first file spells no graph, or it does, and the second one spells none.
 abbrev pub IsPairStop : ℕ → ComparedTexts → Stop → Type 0
 IsPairStop limit texts why =
     IsGraphStop slot.Graph Any limit texts.graph why ⊎ HasFirst limit texts (λ g. IsGraphStop slot.Other Any limit texts.other why)
 
--- There is no pair, or the certificate is too long before any refusal.
-abbrev pub IsPairStopDue : Limits → ComparedTexts → Stop → Type 0
-IsPairStopDue limits texts why =
-    IsPairStop limits.graph texts why ⊎
-    IsLong slot.Clauses (MeetsPairClauses limits texts (λ g h bytes. (line : ℕ) ×
-    IsMergedLineRefusal (lengths_of limits) (merged g h) bytes (line, clausal.TooLong))) why
+-- The clause file is refused over merged gates, where it is told, and this is said of it.
+abbrev pub RefusesMerged : Lengths → Extended → Option (List ℕ) → SameChecked → Type 0
+RefusesMerged lengths e text =
+    IsSaidOf (λ (f : ClauseFault). IfSome text (λ bytes. IsMergedFileRefusal lengths e bytes f)) (λ (f : ClauseFault). pair_answer_of_clauses (clausal.fail_of f))
 
--- The answer that is due: the file is lawful, or the first refusal, or a length that is met before any refusal.
+-- What is due over two graphs: they aren't of one shape, or the clause file is refused, or lawful.
+abbrev pub IsMergedDue : Lengths → Option (List ℕ) → Aig → Aig → SameChecked → Type 0
+IsMergedDue lengths text g h = Unless (AreOfOneShape g h) (¬ (AreOfOneShape g h)) checked.Shapes
+    (Last (IfSome text (IsLawful lengths (merged g h))) (RefusesMerged lengths (merged g h) text) checked.Accepted)
+
+-- The answer that is due: the first refusal of the three files, or a length that is met before any refusal; else the file is lawful.
 abbrev pub IsPairCheckDue : Limits → ComparedTexts → SameChecked → Type 0
-IsPairCheckDue limits texts checked.Accepted = MeetsPairClauses limits texts (λ g h bytes. IsLawful (lengths_of limits) (merged g h) bytes)
-IsPairCheckDue limits texts (checked.Refused why) = IsPairRefusalDue limits texts why
-IsPairCheckDue limits texts checked.Shapes = HasBoth limits.graph texts (λ g h. ¬ (AreOfOneShape g h))
-IsPairCheckDue limits texts (checked.Stopped why) = IsPairStopDue limits texts why
+IsPairCheckDue limits texts = OverGraph checked.Stopped slot.Graph Any limits.graph texts.graph (λ g.
+    OverGraph checked.Stopped slot.Other Any limits.graph texts.other (IsMergedDue (lengths_of limits) texts.clauses g))
 
 -- Where each answer comes, as far as the desk tells the files. Accepted graphs agree on all inputs.
 abbrev pub IsPairOutcome : Limits → ComparedFiles → View → View → SameChecked → Type 0
 IsPairOutcome limits files before after checked.Accepted =
     HasPair limits.graph (compared_texts_of before files) (λ g h.
     IfSome (compared_texts_of before files).clauses (IsLawful (lengths_of limits) (merged g h)) × AgreeOnInputs g h)
-IsPairOutcome limits files before after (checked.Stopped why) = IsStop (IsPairStopDue limits (compared_texts_of before files)) before after why
+IsPairOutcome limits files before after (checked.Stopped why) =
+    IsStop (λ stop. IsPairCheckDue limits (compared_texts_of before files) (checked.Stopped stop)) before after why
 IsPairOutcome limits files before after outcome = IsPairCheckDue limits (compared_texts_of before files) outcome
 
 -- the place of a file in their order
@@ -78,10 +72,8 @@ IsExactPairAnswer limits files before after given =
     GivesDue checked.Stopped before after due given
 
 -- Of three files that are told just one answer is due.
-pub record OnePairAnswerIsDue : Type 0 where
-  pub some : (limits : Limits) (texts : ComparedTexts) → AreComparedTold texts → (due : SameChecked) × IsPairCheckDue limits texts due
-  pub one : (limits : Limits) (texts : ComparedTexts) → AreComparedTold texts → (due other : SameChecked) → IsPairCheckDue limits texts due →
-      IsPairCheckDue limits texts other → due ≡ other
+abbrev pub OnePairAnswerIsDue : Type 0
+OnePairAnswerIsDue = (limits : Limits) (texts : ComparedTexts) → AreComparedTold texts → IsOneDue (IsPairCheckDue limits texts)
 
 -- So what has its cause is the answer that is due, or a failed read or out of memory.
 abbrev pub PairOutcomesAreExact : Type 0

@@ -4,12 +4,11 @@ use Rattle.command_core.specs.Stopping.{IsStop}
 use Rattle.graph_core.specs.Graph.{Aig, IsBuilt}
 use Rattle.mv_desk.specs.View.{View}
 use Rattle.mv_desk.specs.declared.limits.Limits.{Limits}
-use Rattle.same_core.specs.declared.checked.SameChecked.TheVariants as checked
 use Rattle.same_core.specs.declared.pairs.PairFail.{PairFail}
 use Rattle.same_core.specs.declared.pairs.PairFail.TheVariants as pair
-use Rattle.same_core.specs.Files.{ComparedFiles, ComparedTexts, IsSpelled, compared_texts_of}
+use Rattle.same_core.specs.Files.{ComparedFiles, ComparedTexts, HasOtherShapes, IsSpelled, compared_texts_of}
 use Rattle.same_core.specs.Merged.{AreOfOneShape, Both, both}
-use Rattle.same_core.specs.Outcome.{IsPairCheckDue, IsPairStop}
+use Rattle.same_core.specs.Outcome.{IsPairStop}
 
 -- The first graph, and the merged gates of both.
 pub record IsReadPair (limit : ℕ) (texts : ComparedTexts) (g : Aig) (m : Both) : Type 0 where
@@ -23,5 +22,5 @@ pub record IsReadPair (limit : ℕ) (texts : ComparedTexts) (g : Aig) (m : Both)
 
 -- why there is no pair
 abbrev pub IsPairFail : Limits → ComparedFiles → View → View → PairFail → Type 0
-IsPairFail limits files before after pair.Shapes = IsPairCheckDue limits (compared_texts_of before files) checked.Shapes
+IsPairFail limits files before after pair.Shapes = HasOtherShapes limits.graph (compared_texts_of before files)
 IsPairFail limits files before after (pair.Stopped why) = IsStop (IsPairStop limits.graph (compared_texts_of before files)) before after why

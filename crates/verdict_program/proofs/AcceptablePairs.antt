@@ -2,7 +2,7 @@
 use Rattle.std.specs.Prelude.{ℕ, List, IfSome}
 use Rattle.std.specs.declared.option.Option.{Option}
 use Rattle.std.specs.declared.option.Option.TheVariants.{None}
-use Rattle.std.proofs.Common.{sym, subst}
+use Rattle.std.proofs.Common.{refl, sym, subst, inr}
 use Rattle.aiger_reader.specs.Refusals.{SpellsWithin}
 use Rattle.algebra_core.specs.AlgebraLines.{Premises}
 use Rattle.algebra_core.specs.Certificates.{IsLawfulAlgebra}
@@ -32,13 +32,8 @@ module _ (task : Task) (files : Files) (v : View) (noted : Option Note) (h : Hol
   given_of g bytes p k = record { header = k.header; takes = k.lawful.takes; version = k.same.version; extended = k.same.extended }
 
   pub short_is_acceptable : AreAcceptable v files task.claim
-  short_is_acceptable = (
-    h.graph,
-    subst (λ o. IfSome o (λ bytes. SpellsWithin (profile_of task.claim.widths) standard.graph bytes h.graph)) (sym h.graph_held) h.spells,
-    (
-      lawful.premises,
-      given_of h.graph h.clause_file lawful.premises lawful.gives,
-      subst (λ o. IfSome o (λ bytes. GivesPremises (lengths_of standard) h.graph bytes lawful.premises)) (sym h.clauses_held) lawful.gives,
-      (subst (λ o. IfSome o (IsLawfulAlgebra (lengths_of standard) lawful.premises (sides_for task.claim h.graph))) (sym h.algebra_held) lawful.lawful, tt),
-    ),
-  )
+  short_is_acceptable =
+      let spelled = subst (λ o. IfSome o (λ bytes. SpellsWithin (profile_of task.claim.widths) standard.graph bytes h.graph)) (sym h.graph_held) h.spells in
+      let gives = subst (λ o. IfSome o (λ bytes. GivesPremises (lengths_of standard) h.graph bytes lawful.premises)) (sym h.clauses_held) lawful.gives in
+      let good = subst (λ o. IfSome o (IsLawfulAlgebra (lengths_of standard) lawful.premises (sides_for task.claim h.graph))) (sym h.algebra_held) lawful.lawful in
+      inr (h.graph, spelled, inr (lawful.premises, (given_of h.graph h.clause_file lawful.premises lawful.gives, gives), inr (good, refl)))

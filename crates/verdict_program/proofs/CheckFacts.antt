@@ -5,7 +5,7 @@ use Rattle.command_line.specs.declared.command.Command.TheVariants.{Check}
 use Rattle.graph_core.specs.Graph.Operands.{profile_of}
 use Rattle.graph_core.specs.declared.claim.Claim.{Claim}
 use Rattle.command_core.specs.Files.{Files, texts_of}
-use Rattle.joint_checker.specs.Outcome.{IsDue, IsOutcome, IsStopDue}
+use Rattle.joint_checker.specs.Outcome.{IsDue, IsOutcome}
 use Rattle.joint_checker.proofs.DueRows.{outcomes_are_exact}
 use Rattle.joint_checker.specs.declared.checked.Checked.{Checked}
 use Rattle.joint_checker.specs.declared.checked.Checked.TheVariants as checked
@@ -25,7 +25,7 @@ module _ (files : Files) (claim : Claim) (a b : View) where
   says checked.Accepted h =
       some_more (bytes_under a files.graph) (λ bytes. SpellsWithin (profile_of claim.widths) standard.graph bytes h.0) _ (λ bytes spelled. (h.0, spelled.spells, h.2.3.1)) h.1
   says (checked.Refused why) h = tt
-  says (checked.Stopped why) h = stop_says (Check files claim) (answer.Checked (checked.Stopped why)) a b (IsStopDue standard claim (texts_of a files)) why h
+  says (checked.Stopped why) h = stop_says (Check files claim) (answer.Checked (checked.Stopped why)) a b (λ stop. IsDue standard claim (texts_of a files) (checked.Stopped stop)) why h
 
   given_as_due : (outcome : Checked) → Is outcome → TellsHeld a → (due : Checked) → IsDue standard claim (texts_of a files) due → EndsAsDue (status_of_check due) (status_of_check outcome)
   given_as_due outcome h told due k =

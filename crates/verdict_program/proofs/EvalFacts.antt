@@ -16,7 +16,7 @@ use Rattle.verdict_program.specs.Runs.{EndsAsDue, standard}
 use Rattle.verdict_program.proofs.Facts.{Facts, Says, stop_says, told_bytes}
 use Rattle.verdict_program.proofs.StopFacts.{gives_as_due}
 use Rattle.verdict_program.proofs.Told.{none_told}
-use Rattle.verdict_program.proofs.ValueDue.{one_value_due}
+use Rattle.verdict_program.proofs.ValueDue.{one_value_is_due}
 
 module _ (graph : List ℕ) (point : Point) (a b : View) where
   abbrev Is : Evaluated → Type 0
@@ -31,13 +31,13 @@ module _ (graph : List ℕ) (point : Point) (a b : View) where
   -- of a file that is told one answer is due
   one_due : (file : Option (List ℕ)) (given due : Evaluated) → IsSome file → IsValueDue standard.graph file point given → IsValueDue standard.graph file point due → given ≡ due
   one_due None given due told h k = absurd (none_told (List ℕ) told)
-  one_due (Some bytes) given due told h k = one_value_due standard.graph bytes point given due h k
+  one_due (Some bytes) given due told h k = (one_value_is_due standard.graph bytes point).one given due h k
 
   -- it is given, or what interrupts
   gives : (outcome : Evaluated) → Is outcome → (due : Evaluated) → IsSome (bytes_under a graph) → IsValueDue standard.graph (bytes_under a graph) point due → GivesDue evaluated.Stopped a b due outcome
   gives (evaluated.Value value) h due told k = inl (one_due (bytes_under a graph) (evaluated.Value value) due told h k)
   gives evaluated.TooGreat h due told k = inl (one_due (bytes_under a graph) evaluated.TooGreat due told h k)
-  gives (evaluated.Stopped why) h due told k = stop_gives (IsGraphStop slot.Graph (profile_at point) standard.graph (bytes_under a graph)) a b evaluated.Stopped due why (λ stops. one_due (bytes_under a graph) (evaluated.Stopped why) due told stops k) h
+  gives (evaluated.Stopped why) h due told k = stop_gives (IsGraphStop slot.Graph (profile_at point) standard.graph (bytes_under a graph)) a b evaluated.Stopped due why (λ stops. one_due (bytes_under a graph) (evaluated.Stopped why) due told (inl (why, stops, refl)) k) h
 
   pub eval_facts : (outcome : Evaluated) → Is outcome → Facts (Eval graph point) a b (answer.Evaluated outcome)
   eval_facts outcome h = record {

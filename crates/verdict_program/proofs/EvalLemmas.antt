@@ -1,5 +1,5 @@
 -- What `eval` says of a graph that was read is due.
-use Rattle.std.proofs.Common.{ℕ, ◌≤◌, List, true, false, length, subst, sym, arith}
+use Rattle.std.proofs.Common.{ℕ, ◌≤◌, List, true, false, length, ap, refl, subst, sym, arith, inl, inr}
 use Rattle.std.specs.Prelude.{IfSome}
 use Rattle.aiger_reader.specs.Refusals.{SpellsWithin}
 use Rattle.command_line.specs.declared.point.Point.{Point}
@@ -12,13 +12,12 @@ use Rattle.mv_desk.specs.View.{View, bytes_under}
 use Rattle.verdict_program.specs.declared.evaluated.Evaluated.{Evaluated}
 use Rattle.verdict_program.specs.declared.evaluated.Evaluated.TheVariants as evaluated
 use Rattle.verdict_program.specs.Evaluation.{IsEvaluated, IsValueOf, profile_at}
-use Rattle.verdict_program.proofs.Told.{some_more}
 
 -- of a graph that the file spells
 pub value_is_due : (limit : ℕ) (name : List ℕ) (g : Aig) (point : Point) (a b : View) (v : Evaluated) →
     IfSome (bytes_under a name) (λ bytes. SpellsWithin (profile_at point) limit bytes g) → IsValueOf g point v → IsEvaluated limit name point a b v
-value_is_due limit name g point a b (evaluated.Value value) s h = some_more (bytes_under a name) _ _ (λ bytes spells. (g, spells, h)) s
-value_is_due limit name g point a b evaluated.TooGreat s h = some_more (bytes_under a name) _ _ (λ bytes spells. (g, spells, h)) s
+value_is_due limit name g point a b (evaluated.Value value) s h = inr (g, s, inr (h.0, ap evaluated.Value h.1))
+value_is_due limit name g point a b evaluated.TooGreat s h = inr (g, s, inl (h, refl))
 value_is_due limit name g point a b (evaluated.Stopped why) s h = subst (λ x. IsEvaluated limit name point a b (evaluated.Stopped x)) (sym h) tt
 
 -- a graph that is evaluated has few outputs

@@ -4,7 +4,7 @@ use Rattle.command_line.specs.declared.command.Command.TheVariants.{CheckSame}
 use Rattle.command_core.specs.Files.{ComparedFiles}
 use Rattle.mv_desk.specs.View.{View}
 use Rattle.same_core.specs.Files.{compared_texts_of}
-use Rattle.same_core.specs.Outcome.{IsPairCheckDue, IsPairOutcome, IsPairStopDue}
+use Rattle.same_core.specs.Outcome.{IsPairCheckDue, IsPairOutcome}
 use Rattle.same_core.proofs.DueRows.{outcomes_are_exact}
 use Rattle.same_core.specs.declared.checked.SameChecked.{SameChecked}
 use Rattle.same_core.specs.declared.checked.SameChecked.TheVariants as judged
@@ -23,7 +23,7 @@ module _ (files : ComparedFiles) (a b : View) where
   says judged.Accepted (g, spelled, (h, other_spelled, (shape, (lawful, agree)))) = are_the_same a files g h spelled other_spelled shape agree
   says (judged.Refused why) h = tt
   says judged.Shapes h = tt
-  says (judged.Stopped why) h = stop_says (CheckSame files) (answer.Judged (judged.Stopped why)) a b (IsPairStopDue standard (compared_texts_of a files)) why h
+  says (judged.Stopped why) h = stop_says (CheckSame files) (answer.Judged (judged.Stopped why)) a b (λ stop. IsPairCheckDue standard (compared_texts_of a files) (judged.Stopped stop)) why h
 
   given_as_due : (outcome : SameChecked) → Is outcome → TellsHeld a → (due : SameChecked) → IsPairCheckDue standard (compared_texts_of a files) due → EndsAsDue (status_of_judged due) (status_of_judged outcome)
   given_as_due outcome h told due k =

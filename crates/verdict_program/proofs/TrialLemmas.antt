@@ -188,16 +188,11 @@ module _ (sample : Sample) (v : View) (n : Note) (held : HoldsGraph v sample) (h
   given_of g bytes p k = record { header = k.header; takes = k.lawful.takes; version = k.same.version; extended = k.same.extended }
 
   acceptance_is_due : IsDue no_limits (product_under Separate) (texts_of v trial_files) checked.Accepted
-  acceptance_is_due = (
-    h.graph,
-    subst (λ o. IfSome o (λ bytes. SpellsWithin TwoOperands no_limits.graph bytes h.graph)) (sym h.graph_held) h.spells,
-    (
-      lawful.premises,
-      given_of h.graph h.clause_file lawful.premises lawful.gives,
-      subst (λ o. IfSome o (λ bytes. GivesPremises (lengths_of no_limits) h.graph bytes lawful.premises)) (sym h.clauses_held) lawful.gives,
-      (subst (λ o. IfSome o (IsLawfulAlgebra (lengths_of no_limits) lawful.premises (sides_of Separate h.graph))) (sym h.algebra_held) lawful.lawful, tt),
-    ),
-  )
+  acceptance_is_due =
+      let spelled = subst (λ o. IfSome o (λ bytes. SpellsWithin TwoOperands no_limits.graph bytes h.graph)) (sym h.graph_held) h.spells in
+      let gives = subst (λ o. IfSome o (λ bytes. GivesPremises (lengths_of no_limits) h.graph bytes lawful.premises)) (sym h.clauses_held) lawful.gives in
+      let good = subst (λ o. IfSome o (IsLawfulAlgebra (lengths_of no_limits) lawful.premises (sides_of Separate h.graph))) (sym h.algebra_held) lawful.lawful in
+      inr (h.graph, spelled, inr (lawful.premises, (given_of h.graph h.clause_file lawful.premises lawful.gives, gives), inr (good, refl)))
 
   module _ (w : View) (none : w.read_faults ≡ 0) (given : Checked) (exact : (due : Checked) → IsDue no_limits (product_under Separate) (texts_of v trial_files) due → GivesDue checked.Stopped v w due given) where
     -- what comes in its place

@@ -2,6 +2,7 @@ use Rattle.std.proofs.Common.{List, ℕ}
 use Rattle.std.specs.Option.{IfSome}
 use Rattle.std.proofs.lemmas.Result.{IfErr-weaker, IfOk-weaker, on_ok_weaker}
 use Rattle.algebra_core.specs.Certificates.{IsLawfulAlgebra}
+use Rattle.algebra_core.specs.Refusal.{IsAlgebraRefusal}
 use Rattle.graph_core.specs.Graph.Operands.{sides_for}
 use Rattle.mv_desk.specs.View.{bytes_under}
 use Rattle.mv_desk.specs.declared.slot.Slot.TheVariants as slot
@@ -9,7 +10,7 @@ use Rattle.mv_desk.proofs.CallerLemmas.{IfSome-Keeps}
 use Rattle.mv_text.specs.LineReading.{lengths_of}
 use Rattle.joint_checker.specs.Fails.{IsAlgebraFail}
 use Rattle.joint_checker.specs.Shown.{premises_of}
-use Rattle.joint_checker.proofs.OpenedTexts.{algebra_fails}
+use Rattle.algebra_judge.proofs.Fails.{fails_of_left}
 use Rattle.graph_core.specs.Graph.Extended.{modulus}
 use Rattle.poly_text.specs.Recorded.{lines_in}
 use Rattle.algebra_judge.specs.Records.{IsRecordOf}
@@ -40,7 +41,7 @@ returns-in-Ok-clause-refused g c =
     let text = bytes_under first c.args.name.now in
     let left = before.left slot.Algebra in
     IfErr-weaker c.judge_algebra.result (IsAlgebraFail lengths p sides left before now) (IsAlgebraFail lengths p sides text first now)
-    (algebra_fails text left c.in-Ok.ensures.opens.left first before now c.in-Ok.ensures.cause.later lengths p sides) c.judge_algebra.ensures.refused
+    (fails_of_left text left c.in-Ok.ensures.opens.left (IsAlgebraRefusal p sides lengths) first before now c.in-Ok.ensures.cause.later) c.judge_algebra.ensures.refused
 
 pub returns-in-Ok-clause-told : goal.returns-in-Ok-clause-told
 returns-in-Ok-clause-told g c =

@@ -1,11 +1,13 @@
 use Rattle.std.proofs.Common.{rules, ◌≡◌, ◌≤◌, ℕ, Bool, List, ap, length, sym, subst, ◌∙◌}
 use Rattle.std.specs.List.{All}
 use Rattle.std.specs.Option.{IfSome}
+use Rattle.std.specs.Prelude.{IfErr, IfOk}
+use Rattle.std.proofs.lemmas.Result.{IfErr-weaker, IfOk-weaker, on_ok_weaker}
 use Rattle.algebra_core.specs.Agreement.{LedgersAgree}
-use Rattle.algebra_core.specs.AlgebraLines.{beginning}
+use Rattle.algebra_core.specs.AlgebraLines.{Line, beginning}
 use Rattle.clause_core.specs.Clause.{Clause}
 use Rattle.clause_core.specs.Facts.{IsClauseFact}
-use Rattle.graph_core.specs.Graph.Extended.{Extended}
+use Rattle.graph_core.specs.Graph.Extended.{Extended, modulus}
 use Rattle.graph_core.specs.Graph.Operands.{Sides, sides_for}
 use Rattle.mv_desk.specs.declared.slot.Slot.TheVariants as slot
 use Rattle.mv_desk.proofs.CallerLemmas.{KeepsTelling-trans, ReadsOnly-trans}
@@ -15,7 +17,10 @@ use Rattle.pac_checker.specs.Checking.{ledger_of}
 use Rattle.poly_text.specs.Recorded.{lines_in}
 use Rattle.algebra_judge.specs.AlgebraBody.{IsBodyFail, IsLawfulBody}
 use Rattle.algebra_judge.specs.AlgebraLines.{AlgebraTask, Vanishes}
-use Rattle.algebra_judge.specs.Records.{IsLawfulRecord, IsRecordedBody}
+use Rattle.algebra_judge.specs.Records.{IsLawfulRecord, IsRecordOf, IsRecordedBody}
+use Rattle.algebra_judge.specs.declared.fail.AlgebraFail.{AlgebraFail}
+use Rattle.algebra_judge.specs.declared.judging.Closed.{Closed}
+use Rattle.joint_checker.specs.Fails.{IsAlgebraFail}
 use Rattle.pair_core.specs.ClauseFiles.{importable, premises}
 use Rattle.joint_checker.proofs.AlgebraFiles.{body_fails, header_fails, text_is_lawful, text_is_recorded}
 use Rattle.joint_checker.proofs.Joined.{all_imported}
@@ -66,99 +71,37 @@ returns-in-Err-clause-refused g c =
     let before = g.D.Desk.seen c.args.desk.now in
     let shown = c.args.shown.now in
     let e = shown.extended in
-    rw c.from.ensures
-    (rw c.line_refused.ensures
-    (header_fails (lengths_of c.args.limits.now) (task shown.header.version e (importable shown.header.version shown.recorded.added) (sides_for c.args.claim e.graph) c.args.records) (before.left slot.Algebra) before (g.D.Desk.seen c.start.new.desk) c.in-Err.fail c.in-Err.ensures.refused))
+    rw c.line_refused.ensures
+    (header_fails (lengths_of c.args.limits.now) (task shown.header.version e (importable shown.header.version shown.recorded.added) (sides_for c.args.claim e.graph) c.args.records) (before.left slot.Algebra) before (g.D.Desk.seen c.start.new.desk) c.in-Err.fail c.in-Err.ensures.refused)
 
-pub returns-in-Ok-judge-clause-lawful : goal.returns-in-Ok-judge-clause-lawful
-returns-in-Ok-judge-clause-lawful g c =
+pub returns : goal.returns
+returns g c =
+    let lengths = lengths_of c.args.limits.now in
     let shown = c.args.shown.now in
     let e = shown.extended in
     let file = c.in-Ok.file in
     let checker = c.in_ok-checker.checker in
     let imports = importable shown.header.version shown.recorded.added in
     let sides = sides_for c.args.claim e.graph in
+    let wanted = task shown.header.version e imports sides c.args.records in
     let same = task_is file.version shown.header.version checker.extended e checker.added imports checker.sides sides checker.records c.args.records c.in-Ok.ensures.file.version_is c.in_ok-checker.ensures.extended
     (c.in_ok-checker.ensures.added ∙ c.imports-added.ensures) (c.in_ok-checker.ensures.sides ∙ c.in_ok-operands.ensures ∙ ap (λ x. sides_for c.args.claim x) c.graph.ensures) c.in_ok-checker.ensures.records in
     let before = g.D.Desk.seen c.args.desk.now in
-    let behind = left_of_file slot.Algebra file (g.D.Desk.seen c.start.new.desk) in
-    text_is_lawful (lengths_of c.args.limits.now) (task shown.header.version e imports sides c.args.records) file c.in-Ok.ensures.file.lengths (before.left slot.Algebra) behind c.in-Ok.ensures.header
-    (subst (λ (t : AlgebraTask). IfSome behind (IsLawfulBody t file.lines)) same c.in-Ok-judge.ensures.lawful)
-
-pub returns-in-Ok-judge-clause-vanishes : goal.returns-in-Ok-judge-clause-vanishes
-returns-in-Ok-judge-clause-vanishes g c =
-    let shown = c.args.shown.now in
-    let e = shown.extended in
-    let file = c.in-Ok.file in
-    let checker = c.in_ok-checker.checker in
-    let imports = importable shown.header.version shown.recorded.added in
-    let sides = sides_for c.args.claim e.graph in
-    let same = task_is file.version shown.header.version checker.extended e checker.added imports checker.sides sides checker.records c.args.records c.in-Ok.ensures.file.version_is c.in_ok-checker.ensures.extended
-    (c.in_ok-checker.ensures.added ∙ c.imports-added.ensures) (c.in_ok-checker.ensures.sides ∙ c.in_ok-operands.ensures ∙ ap (λ x. sides_for c.args.claim x) c.graph.ensures) c.in_ok-checker.ensures.records in
-    subst Vanishes same c.in-Ok-judge.ensures.vanishes
-
-pub returns-in-Ok-judge-clause-recorded : goal.returns-in-Ok-judge-clause-recorded
-returns-in-Ok-judge-clause-recorded g c = λ yes.
-    let shown = c.args.shown.now in
-    let e = shown.extended in
-    let file = c.in-Ok.file in
-    let checker = c.in_ok-checker.checker in
-    let imports = importable shown.header.version shown.recorded.added in
-    let sides = sides_for c.args.claim e.graph in
-    let same = task_is file.version shown.header.version checker.extended e checker.added imports checker.sides sides checker.records c.args.records c.in-Ok.ensures.file.version_is c.in_ok-checker.ensures.extended
-    (c.in_ok-checker.ensures.added ∙ c.imports-added.ensures) (c.in_ok-checker.ensures.sides ∙ c.in_ok-operands.ensures ∙ ap (λ x. sides_for c.args.claim x) c.graph.ensures) c.in_ok-checker.ensures.records in
-    subst (λ (t : AlgebraTask). IsLawfulRecord t.premises t.sides c.in-Ok-judge.closed) same (c.in-Ok-judge.ensures.recorded (c.in_ok-checker.ensures.records ∙ yes))
-
-pub returns-in-Ok-judge-clause-told : goal.returns-in-Ok-judge-clause-told
-returns-in-Ok-judge-clause-told g c =
-    let shown = c.args.shown.now in
-    let e = shown.extended in
-    let file = c.in-Ok.file in
-    let checker = c.in_ok-checker.checker in
-    let imports = importable shown.header.version shown.recorded.added in
-    let sides = sides_for c.args.claim e.graph in
-    let same = task_is file.version shown.header.version checker.extended e checker.added imports checker.sides sides checker.records c.args.records c.in-Ok.ensures.file.version_is c.in_ok-checker.ensures.extended
-    (c.in_ok-checker.ensures.added ∙ c.imports-added.ensures) (c.in_ok-checker.ensures.sides ∙ c.in_ok-operands.ensures ∙ ap (λ x. sides_for c.args.claim x) c.graph.ensures) c.in_ok-checker.ensures.records in
-    let before = g.D.Desk.seen c.args.desk.now in
-    let behind = left_of_file slot.Algebra file (g.D.Desk.seen c.start.new.desk) in
-    let closed = c.in-Ok-judge.closed in
-    let lines = lines_in closed.record.terms closed.record.lines.items in
-    text_is_recorded (lengths_of c.args.limits.now) (task shown.header.version e imports sides c.args.records) file c.in-Ok.ensures.file.lengths (before.left slot.Algebra) behind c.in-Ok.ensures.header lines closed.id closed.lines
-    (subst (λ (t : AlgebraTask). IfSome behind (IsRecordedBody t lines closed.id closed.lines)) same c.in-Ok-judge.ensures.told)
-
-pub returns-clause-refused : goal.returns-clause-refused
-returns-clause-refused g c =
-    let shown = c.args.shown.now in
-    let e = shown.extended in
-    let file = c.in-Ok.file in
-    let checker = c.in_ok-checker.checker in
-    let imports = importable shown.header.version shown.recorded.added in
-    let sides = sides_for c.args.claim e.graph in
-    let same = task_is file.version shown.header.version checker.extended e checker.added imports checker.sides sides checker.records c.args.records c.in-Ok.ensures.file.version_is c.in_ok-checker.ensures.extended
-    (c.in_ok-checker.ensures.added ∙ c.imports-added.ensures) (c.in_ok-checker.ensures.sides ∙ c.in_ok-operands.ensures ∙ ap (λ x. sides_for c.args.claim x) c.graph.ensures) c.in_ok-checker.ensures.records in
-    let before = g.D.Desk.seen c.args.desk.now in
-    let behind = left_of_file slot.Algebra file (g.D.Desk.seen c.start.new.desk) in
     let middle = g.D.Desk.seen c.start.new.desk in
     let now = g.D.Desk.seen c.judge.new.desk in
-    let given = c.in-Err-judge.fail in
-    rw c.from-in-Err-judge.ensures
-    (body_fails (lengths_of c.args.limits.now) (task shown.header.version e imports sides c.args.records) file c.in-Ok.ensures.file.lengths (before.left slot.Algebra) behind c.in-Ok.ensures.header before middle now given c.in-Ok.ensures.reads.only.later
-    (subst (λ (t : AlgebraTask). IsBodyFail t file.lines behind middle now given) same c.in-Err-judge.ensures.refused))
-
--- ---- the desk
-
-pub returns-in-Ok-judge-clause-only : goal.returns-in-Ok-judge-clause-only
-returns-in-Ok-judge-clause-only g c =
-    ReadsOnly-trans slot.Algebra (g.D.Desk.seen c.args.desk.now) (g.D.Desk.seen c.start.new.desk) (g.D.Desk.seen c.judge.new.desk) c.in-Ok.ensures.reads.only c.judge.ensures.only
-
-pub returns-in-Ok-judge-clause-tells : goal.returns-in-Ok-judge-clause-tells
-returns-in-Ok-judge-clause-tells g c =
-    KeepsTelling-trans (g.D.Desk.seen c.args.desk.now) (g.D.Desk.seen c.start.new.desk) (g.D.Desk.seen c.judge.new.desk) c.in-Ok.ensures.reads.tells c.judge.ensures.tells
-
-pub returns-clause-only : goal.returns-clause-only
-returns-clause-only g c =
-    ReadsOnly-trans slot.Algebra (g.D.Desk.seen c.args.desk.now) (g.D.Desk.seen c.start.new.desk) (g.D.Desk.seen c.judge.new.desk) c.in-Ok.ensures.reads.only c.judge.ensures.only
-
-pub returns-clause-tells : goal.returns-clause-tells
-returns-clause-tells g c =
-    KeepsTelling-trans (g.D.Desk.seen c.args.desk.now) (g.D.Desk.seen c.start.new.desk) (g.D.Desk.seen c.judge.new.desk) c.in-Ok.ensures.reads.tells c.judge.ensures.tells
+    let text = before.left slot.Algebra in
+    let behind = left_of_file slot.Algebra file middle in
+    let lines : Closed → List Line = λ closed. lines_in closed.record.terms closed.record.lines.items in
+    let Told : AlgebraTask → Closed → Type 0 = λ t closed. IfSome behind (IsRecordedBody t (lines closed) closed.id closed.lines) in
+    let Fails : AlgebraTask → AlgebraFail → Type 0 = λ t given. IsBodyFail t file.lines behind middle now given in
+    record {
+      lawful = on_ok_weaker c.judge.result (λ h. text_is_lawful lengths wanted file c.in-Ok.ensures.file.lengths text behind c.in-Ok.ensures.header (subst (λ (t : AlgebraTask). IfSome behind (IsLawfulBody t file.lines)) same h)) c.judge.ensures.lawful;
+      vanishes = on_ok_weaker c.judge.result (subst Vanishes same) c.judge.ensures.vanishes;
+      recorded = λ yes. subst (λ (t : AlgebraTask). IfOk c.judge.result (IsLawfulRecord t.premises t.sides)) same (c.judge.ensures.recorded (c.in_ok-checker.ensures.records ∙ yes));
+      told = IfOk-weaker c.judge.result (Told wanted) (λ closed. IfSome text (λ bytes. IsRecordOf c.args.records shown.header.version (modulus e) bytes (lines closed) closed.id closed.lines))
+          (λ closed. text_is_recorded lengths wanted file c.in-Ok.ensures.file.lengths text behind c.in-Ok.ensures.header (lines closed) closed.id closed.lines) (subst (λ (t : AlgebraTask). IfOk c.judge.result (Told t)) same c.judge.ensures.told);
+      refused = IfErr-weaker c.judge.result (Fails wanted) (IsAlgebraFail lengths wanted.premises sides text before now)
+          (body_fails lengths wanted file c.in-Ok.ensures.file.lengths text behind c.in-Ok.ensures.header before middle now c.in-Ok.ensures.reads.only.later) (subst (λ (t : AlgebraTask). IfErr c.judge.result (Fails t)) same c.judge.ensures.refused);
+      only = ReadsOnly-trans slot.Algebra before middle now c.in-Ok.ensures.reads.only c.judge.ensures.only;
+      tells = KeepsTelling-trans before middle now c.in-Ok.ensures.reads.tells c.judge.ensures.tells;
+    }

@@ -18,14 +18,13 @@ use Rattle.graph_core.proofs.OfAiger.CallerLemmas.{shape_for}
 use Rattle.mv_desk.specs.View.{View, bytes_under}
 use Rattle.mv_desk.proofs.CallerLemmas.{Inspects-trans, KeepsTelling-trans, OpensFiles-trans}
 use Rattle.mv_text.specs.LineReading.{lengths_of}
-use Rattle.joint_checker.specs.Fails.{IsAlgebraFail, IsClauseFail}
 use Rattle.command_core.specs.Files.{files_of}
 use Rattle.joint_checker.specs.declared.checked.Checked.TheVariants as checked
 use Rattle.joint_checker.specs.Shown.{premises_of}
 use Rattle.joint_checker.proofs.Joined.{graph_is, shown_fits, vanishing_does}
 use Rattle.joint_checker.proofs.Needs.{accepted_needed, algebra_needed, clauses_needed, graph_needed}
 use Rattle.joint_checker.proofs.Opened.{algebra_opened, clauses_opened, graph_opened}
-use Rattle.joint_checker.proofs.OutcomeRows.{accepts, algebra_answers, clauses_answer, graph_answers}
+use Rattle.joint_checker.proofs.OutcomeRows.{accepts, algebra_answers, algebra_refuses, clauses_answer, clauses_refuse, graph_answers}
 use Rattle.joint_checker.proofs.JudgedPairs.{is_judged, is_told}
 use Rattle.command_core.proofs.CallerLemmas.{told_earlier, told_later}
 use Rattle.joint_checker.proofs.checking.judge_pair.Goals as goal
@@ -262,15 +261,10 @@ returns-in_err-graph-clause-not_accepted g c =
 
 pub returns-in_err-shown-clause-not_accepted : goal.returns-in_err-shown-clause-not_accepted
 returns-in_err-shown-clause-not_accepted g c =
-    let second = g.D.Desk.seen c.read_graph.new.desk in
     let same = err_from_is_err_and c.from_residual-in_err-shown.result c.from_residual-in_err-shown.ensures.1 in
-    rw (same.1, same.2)
-    (λ e. subst (IsClauseFail (lengths_of c.args.limits.now) c.in_ok-graph.graph (bytes_under second c.args.names.now.clauses.now) second (g.D.Desk.seen c.check_clauses.new.desk)) e c.in_err-shown.ensures.refused)
+    rw (same.1, same.2) (clauses_refuse c.in_err-shown.field-0.0)
 
 pub returns-in_err-closed-clause-not_accepted : goal.returns-in_err-closed-clause-not_accepted
 returns-in_err-closed-clause-not_accepted g c =
-    let third = g.D.Desk.seen c.check_clauses.new.desk in
-    let p = premises_of c.in_ok-shown.shown in
     let same = err_from_is_err_and c.from_residual-in_err-closed.result c.from_residual-in_err-closed.ensures.1 in
-    rw (same.1, same.2)
-    (λ e. subst (IsAlgebraFail (lengths_of c.args.limits.now) p (sides_for c.args.claim p.extended.graph) (bytes_under third c.args.names.now.algebra.now) third (g.D.Desk.seen c.check_algebra.new.desk)) e c.in_err-closed.ensures.refused)
+    rw (same.1, same.2) (algebra_refuses c.in_err-closed.field-0.0)

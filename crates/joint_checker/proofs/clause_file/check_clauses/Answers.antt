@@ -5,9 +5,10 @@ use Rattle.mv_desk.specs.declared.slot.Slot.TheVariants as slot
 use Rattle.mv_desk.proofs.CallerLemmas.{IfSome-Keeps}
 use Rattle.mv_text.specs.LineReading.{lengths_of}
 use Rattle.pair_core.specs.ClauseFiles.{AddsClauses, GivesPremises}
+use Rattle.joint_checker.specs.ClauseRefusals.{IsClauseRefusal, IsColumnRefusal}
 use Rattle.joint_checker.specs.Fails.{IsClauseFail}
 use Rattle.joint_checker.specs.Shown.{premises_of}
-use Rattle.joint_checker.proofs.OpenedTexts.{clauses_fail}
+use Rattle.clause_judge.proofs.Fails.{fails_of_left}
 use Rattle.joint_checker.proofs.CertificateReading.{not_opened, opened_and_read}
 use Rattle.joint_checker.proofs.clause_file.check_clauses.Goals as goal
 
@@ -41,7 +42,7 @@ returns-in-Ok-clause-refused g c =
     let text = bytes_under first c.args.name.now in
     let left = before.left slot.Clauses in
     IfErr-weaker c.judge_clauses.result (IsClauseFail lengths graph left before now) (IsClauseFail lengths graph text first now)
-    (clauses_fail text left c.in-Ok.ensures.opens.left first before now c.in-Ok.ensures.cause.later lengths graph) c.judge_clauses.ensures.refused
+    (fails_of_left text left c.in-Ok.ensures.opens.left (IsClauseRefusal lengths graph) (IsColumnRefusal lengths graph) first before now c.in-Ok.ensures.cause.later) c.judge_clauses.ensures.refused
 
 pub returns-in-Ok-clause-reads : goal.returns-in-Ok-clause-reads
 returns-in-Ok-clause-reads g c =

@@ -3,10 +3,10 @@ use Rattle.mv_desk.specs.View.{bytes_under}
 use Rattle.mv_desk.specs.declared.slot.Slot.TheVariants as slot
 use Rattle.mv_desk.proofs.CallerLemmas.{IfSome-Keeps, Inspects-Opens, Inspects-ReadsOnly, Inspects-trans, KeepsTelling-trans, OpensFiles-still}
 use Rattle.mv_text.specs.LineReading.{lengths_of}
-use Rattle.same_core.specs.Certificates.{IsLawful}
+use Rattle.same_core.specs.Certificates.{IsLawful, IsMergedLineRefusal, IsOutputRefusal}
 use Rattle.same_core.specs.Fails.{IsPairClauseFail}
 use Rattle.same_core.specs.Merged.{over}
-use Rattle.same_core.proofs.Judged.{opened_fails}
+use Rattle.clause_judge.proofs.Fails.{fails_of_left}
 use Rattle.same_core.proofs.clauses.check_clauses.Goals as goal
 
 pub returns-in-Ok-clause-lawful : goal.returns-in-Ok-clause-lawful
@@ -26,7 +26,7 @@ returns-in-Ok-clause-refused g c =
     let text = bytes_under first c.args.name.now in
     let left = before.left slot.Clauses in
     IfErr-weaker c.judge_clauses.result (IsPairClauseFail lengths e left before now) (IsPairClauseFail lengths e text first now)
-    (opened_fails lengths e text left c.in-Ok.ensures.opens.left first before now c.in-Ok.ensures.cause.later) c.judge_clauses.ensures.refused
+    (fails_of_left text left c.in-Ok.ensures.opens.left (IsMergedLineRefusal lengths e) (IsOutputRefusal lengths e) first before now c.in-Ok.ensures.cause.later) c.judge_clauses.ensures.refused
 
 pub returns-in-Ok-clause-opened : goal.returns-in-Ok-clause-opened
 returns-in-Ok-clause-opened g c =
