@@ -103,7 +103,7 @@ impl Terms {
         ensures value { IfOk result (λ r. (σ : Assignment) →
             value_in self.new r σ ≡ value (modulus_in self.old) (said parts.items) σ) }
     {
-        let raw = parts::entries_of(self.alloc, &mut self.monomials, parts)?;
+        let raw = parts::entries_of(self.alloc, &mut self.monomials, &parts)?;
         self.monomials.stand_once();
         let entries = addition::gather(self.alloc, self.exponent, raw)?;
         Ok(Poly::of(entries))
