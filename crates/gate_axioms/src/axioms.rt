@@ -1,7 +1,7 @@
 // The polynomials of a graph: axioms of its gates, differences of literals, columns, the specification.
 #![tactic(auto, using(poly_terms::specs::Laws::stays, poly_terms::specs::Laws::extends_on, poly_terms::specs::Laws::extends_itself))]
 
-ghost use Rattle.std.specs.Prelude.{◌≡◌, ◌+◌, ◌*◌, ◌%◌, ◌<◌, IfOk, Some, length, slice_get};
+ghost use Rattle.std.specs.Prelude.{◌≡◌, ◌+◌, ◌*◌, ◌%◌, ◌<◌, [], IfOk, Some, length, slice_get};
 ghost use Rattle.frontier_core.specs.Columns.{column_value};
 ghost use Rattle.frontier_core.specs.Substitution.{gate_value};
 ghost use Rattle.graph_core.specs.declared.literal.Lit.{Lit};
@@ -33,17 +33,18 @@ pub fn gate_poly(alloc: Global, terms: &mut Terms, gate: &Gate) -> Result<Poly, 
     ensures of { IfOk result (λ p. IsOf terms.new p) }
     ensures value { IfOk result (λ p. IsGateAxiom terms.new p gate.now) }
 {
-    let form = gate_form(alloc, terms, gate)?;
+    let room = Form::with_room(alloc, MAX_AXIOM_PARTS)?;
+    let form = gate_form(room, terms, gate)?;
     let poly = form.poly_in(terms)?;
     Ok(poly)
 }
 
-/// The same as a form.
-pub(crate) fn gate_form(alloc: Global, terms: &Terms, gate: &Gate) -> Result<Form, Memory>
+/// The same as a form, which has no parts yet.
+pub(crate) fn gate_form(mut form: Form, terms: &Terms, gate: &Gate) -> Result<Form, Memory>
+    requires { form ≡ [] }
     ensures { IfOk result (λ form. HasFormValue (modulus_in terms.now) form
         (gate_axiom (modulus_in terms.now) gate.now).value) }
 {
-    let mut form = Form::with_room(alloc, MAX_AXIOM_PARTS)?;
     // The gate's variable is most often new to the table, so it comes last: then nothing has to be sorted.
     form.add_product(one(terms), gate.left, gate.right)?;
     form.add_variable(minus_one(terms), gate.v)?;
@@ -75,22 +76,22 @@ pub fn equal_poly(alloc: Global, terms: &mut Terms, left: Lit, right: Lit) -> Re
     ensures of { IfOk result (λ p. IsOf terms.new p) }
     ensures value { IfOk result (λ p. IsLiteralDifference terms.new p left right) }
 {
-    let form = equal_form(alloc, terms, left, right)?;
+    let form = equal_form(Form::new(alloc), terms, left, right)?;
     let poly = form.poly_in(terms)?;
     Ok(poly)
 }
 
-/// The same as a form.
+/// The same as a form, which has no parts yet.
 pub(crate) fn equal_form(
-    alloc: Global,
+    mut form: Form,
     terms: &Terms,
     left: Lit,
     right: Lit,
 ) -> Result<Form, Memory>
+    requires { form ≡ [] }
     ensures { IfOk result (λ form. HasFormValue (modulus_in terms.now) form
         (λ σ. difference (modulus_in terms.now) (bit (literal σ left)) (bit (literal σ right)))) }
 {
-    let mut form = Form::new(alloc);
     form.add_literal(one(terms), left)?;
     form.add_literal(minus_one(terms), right)?;
     Ok(form)

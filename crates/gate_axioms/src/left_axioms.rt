@@ -14,7 +14,7 @@ use crate::axioms::{equal_form, equal_poly, gate_form, gate_poly};
 use crate::form::Form;
 use graph_core::{Gate, Lit, Memory};
 use indexmap::IndexSet;
-use poly_terms::{Poly, PolySum, Terms};
+use poly_terms::{Poly, PolySum, Terms, Variables};
 use ripple_graft::Extended;
 use std::alloc::Global;
 use std::marker::Model;
@@ -57,18 +57,27 @@ impl Axiom {
             (value_in terms.old sum.old σ + axiom_value (modulus_in terms.old) self.now σ * value_in terms.old factor.now σ)
             % modulus_in terms.old) }
     {
-        let form = self.form(alloc, terms)?;
-        form.add_times(terms, sum, factor)
+        let form = self.form(alloc, terms, sum.take_room())?;
+        form.add_times(terms, sum, factor)?;
+        sum.keep_room(form.into_room());
+        Ok(())
     }
 
-    // Its parts.
-    fn form(&self, alloc: Global, terms: &Terms) -> Result<Form, Memory>
+    // Its parts, in room that has none.
+    fn form(
+        &self,
+        alloc: Global,
+        terms: &Terms,
+        room: Vec<(u128, Variables)>,
+    ) -> Result<Form, Memory>
+        requires { room.items ≡ [] }
         ensures { IfOk result (λ form. HasFormValue (modulus_in terms.now) form
             (axiom_value (modulus_in terms.now) self.now)) }
     {
+        let form = Form::in_room(alloc, room);
         match self {
-            Axiom::Gate(gate) => gate_form(alloc, terms, gate),
-            Axiom::Column(old, new) => equal_form(alloc, terms, *old, *new),
+            Axiom::Gate(gate) => gate_form(form, terms, gate),
+            Axiom::Column(old, new) => equal_form(form, terms, *old, *new),
         }
     }
 }

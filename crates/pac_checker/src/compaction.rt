@@ -13,10 +13,10 @@ use poly_terms::{Poly, Terms};
 use std::alloc::Global;
 
 // So many lines and terms are few: a table with at most twice as many monomials isn't made anew.
-const FEW: u64 = 1 << 13;
+const FEW: u64 = 12_000;
 
 // As many monomials as there may be where few lines and terms are live: a table that is made anew has room for them.
-const ROOM: usize = 1 << 14;
+const ROOM: usize = 1 << 15;
 
 /// How many monomials a table may have before it is made anew: twice as many as there are live lines and terms now.
 /// These are what making it anew goes over, so that costs no more than reading what was read since.

@@ -1,5 +1,5 @@
 // Monomials: rising lists of variables. Nearly all are short, and stay inline.
-ghost use Rattle.std.specs.Prelude.{◌≡◌, ◌≤◌, ◌+◌, ◌++◌, false, IfOk, IsTrue, length, take};
+ghost use Rattle.std.specs.Prelude.{◌≡◌, ◌<◌, ◌≤◌, ◌+◌, ◌++◌, ◌∷◌, [], false, IfOk, IsTrue, length, take};
 ghost use Rattle.algebra_core.specs.NormalForm.{AreRising};
 ghost use Rattle.poly_terms.specs.Monomials.{IsMonomialOf, has_variable, joined, without_variable};
 ghost use Rattle.smallvec.specs.SmallVec.{HasRoomFor};
@@ -12,7 +12,7 @@ use std::cmp::Ordering;
 const FEW: usize = 4;
 
 // The places of both factors, where a product is put together before it is known how many variables it has.
-const MOST_PLACES: usize = 8;
+pub(crate) const MOST_PLACES: usize = 8;
 
 pub(crate) type Monomial = SmallVec<u32, FEW>;
 
@@ -22,19 +22,21 @@ pub(crate) fn join(alloc: Global, left: &[u32], right: &[u32]) -> Result<Monomia
     ensures { IfOk result (λ both. both.items ≡ joined left.now right.now) }
 {
     if left.len() + right.len() <= MOST_PLACES {
-        return join_few(alloc, left, right);
+        let mut both = [0, 0, 0, 0, 0, 0, 0, 0];
+        let count = join_few(left, right, &mut both);
+        return front(alloc, &both, count);
     }
     join_many(alloc, left, right)
 }
 
-// The product of two monomials that have few variables, as nearly all have. Those that both have count twice here, so
-// that the product may take no memory where the places of both would.
+/// The same of two monomials that have few variables, as nearly all have: puts the product into the first places, and
+/// gives how many variables it has. Those that both have count twice here.
 #[inline(always)]
-fn join_few(alloc: Global, left: &[u32], right: &[u32]) -> Result<Monomial, AllocError>
+pub(crate) fn join_few(left: &[u32], right: &[u32], both: &mut [u32; MOST_PLACES]) -> usize
     requires { length left.now + length right.now ≤ 8 }
-    ensures { IfOk result (λ both. both.items ≡ joined left.now right.now) }
+    ensures items { take result both.new ≡ joined left.now right.now }
+    ensures within { result ≤ 8 }
 {
-    let mut both = [0, 0, 0, 0, 0, 0, 0, 0];
     let mut count: usize = 0;
     let mut i: usize = 0;
     let mut j: usize = 0;
@@ -60,18 +62,25 @@ fn join_few(alloc: Global, left: &[u32], right: &[u32]) -> Result<Monomial, Allo
             }
         }
     }
-    let with_left = put_all(&left[i..], &mut both, count);
-    let with_right = put_all(&right[j..], &mut both, with_left);
-    front(alloc, &both, with_right)
+    let with_left = put_all(&left[i..], both, count);
+    put_all(&right[j..], both, with_left)
 }
 
-// Puts variables after so many, and gives how many there are then.
+// Puts variables after so many, and gives how many there are then. Of most factors one or two are left, which a loop
+// would copy by a call.
 #[inline(always)]
 fn put_all(variables: &[u32], both: &mut [u32; MOST_PLACES], count: usize) -> usize
     requires { count + length variables.now ≤ 8 }
     ensures items { take result both.new ≡ take count both.old ++ variables.now }
     ensures count { result ≡ count + length variables.now }
 {
+    if variables.len() == 1 {
+        return put(variables[0], both, count);
+    }
+    if variables.len() == 2 {
+        let with_first = put(variables[0], both, count);
+        return put(variables[1], both, with_first);
+    }
     let mut place = count;
     for v in variables {
         both[place] = *v;
@@ -80,8 +89,18 @@ fn put_all(variables: &[u32], both: &mut [u32; MOST_PLACES], count: usize) -> us
     place
 }
 
-// The first so many places.
+// Puts a variable after so many, and gives how many there are then.
 #[inline(always)]
+fn put(v: u32, both: &mut [u32; MOST_PLACES], count: usize) -> usize
+    requires { count < 8 }
+    ensures items { take result both.new ≡ take count both.old ++ v ∷ [] }
+    ensures count { result ≡ count + 1 }
+{
+    both[count] = v;
+    count + 1
+}
+
+// The first so many places.
 fn front(alloc: Global, both: &[u32; MOST_PLACES], count: usize) -> Result<Monomial, AllocError>
     requires { count ≤ 8 }
     ensures { IfOk result (λ monomial. monomial.items ≡ take count both.now) }
@@ -159,6 +178,12 @@ pub(crate) fn is_rising(variables: &[u32]) -> bool
 pub(crate) fn copy(alloc: Global, variables: &[u32]) -> Result<Monomial, AllocError>
     ensures { IfOk result (λ monomial. monomial.items ≡ variables.now) }
 {
+    // Most often they take no memory.
+    if variables.len() <= FEW {
+        let mut few = SmallVec::new(alloc);
+        push_all(variables, &mut few);
+        return Ok(few);
+    }
     let mut out = SmallVec::with_capacity(alloc, variables.len())?;
     push_all(variables, &mut out);
     Ok(out)

@@ -75,6 +75,24 @@ pub(crate) fn push_term(
     Ok(())
 }
 
+/// The same of a monomial's variables.
+#[inline(always)]
+pub(crate) fn push_variables(
+    table: &mut Numbering,
+    variables: &[u32],
+    coefficient: u128,
+    out: &mut Vec<Term>,
+) -> Result<(), AllocError>
+    requires { AreRising 0 variables.now }
+    ensures grows { Grows table.old table.new }
+    ensures adds { OnOk result ((m : ℕ) → Adds m table.old table.new out.old.items out.new.items
+        (λ σ. coefficient * product σ variables.now)) }
+{
+    let number = table.intern_slice(variables)?;
+    out.push(Term::new(number, coefficient))?;
+    Ok(())
+}
+
 fn multiply_by(
     alloc: Global,
     table: &mut Numbering,

@@ -4,7 +4,7 @@ ghost use Rattle.algebra_core.specs.NormalForm.{AreRising};
 ghost use Rattle.poly_terms.specs.Monomials.{AreMonomials, Grows, Stands, joined, without_variable};
 
 use crate::chains::Chains;
-use crate::monomial::{self, Monomial};
+use crate::monomial::{self, MOST_PLACES, Monomial};
 use std::alloc::{AllocError, Global};
 use std::marker::Model;
 
@@ -67,6 +67,22 @@ impl Numbering {
         }
     }
 
+    /// The same of a monomial's variables. They are copied only where it is new.
+    #[inline(always)]
+    pub(crate) fn intern_slice(&mut self, variables: &[u32]) -> Result<u64, AllocError>
+        requires { AreRising 0 variables.now }
+        ensures grows { Grows self.old self.new }
+        ensures number { IfOk result (λ n. Stands self.new n variables.now) }
+    {
+        match self.monomials.find(variables) {
+            Some(number) => Ok(number),
+            None => {
+                let monomial = monomial::copy(self.alloc, variables)?;
+                self.monomials.add(monomial)
+            }
+        }
+    }
+
     /// Each monomial rises and stands once.
     pub(crate) fn stand_once(&self)
         ensures { AreMonomials self.now }
@@ -96,7 +112,13 @@ impl Numbering {
         if monomial.is_empty() {
             return Ok(number);
         }
-        let both = monomial::join(self.alloc, monomial, self.variables(number))?;
+        let variables = self.variables(number);
+        if monomial.len() + variables.len() <= MOST_PLACES {
+            let mut places = [0, 0, 0, 0, 0, 0, 0, 0];
+            let count = monomial::join_few(monomial, variables, &mut places);
+            return self.intern_slice(&places[..count]);
+        }
+        let both = monomial::join(self.alloc, monomial, variables)?;
         self.intern(both)
     }
 

@@ -29,15 +29,15 @@ pub(crate) fn copies(
 pub(crate) fn entries_of(
     alloc: Global,
     table: &mut Numbering,
-    parts: Vec<(u128, Variables)>,
+    parts: &[(u128, Variables)],
 ) -> Result<Vec<Term>, AllocError>
     ensures grows { Grows table.old table.new }
     ensures adds { IfOk result (λ out. (m : ℕ) → Adds m table.old table.new [] out.items
-        (λ σ. sum_of m (said parts.items) σ)) }
+        (λ σ. sum_of m (said parts.now) σ)) }
 {
     let mut out = Vec::with_capacity(alloc, parts.len())?;
     for (coefficient, variables) in parts {
-        push_part(alloc, table, coefficient, variables, &mut out)?;
+        push_part(alloc, table, *coefficient, variables.as_slice(), &mut out)?;
     }
     Ok(out)
 }
@@ -78,20 +78,22 @@ fn push_part(
     alloc: Global,
     table: &mut Numbering,
     coefficient: u128,
-    variables: Variables,
+    variables: &[u32],
     out: &mut Vec<Term>,
 ) -> Result<(), AllocError>
     ensures grows { Grows table.old table.new }
     ensures adds { OnOk result ((m : ℕ) → Adds m table.old table.new out.old.items out.new.items
-        (λ σ. coefficient * product σ variables)) }
+        (λ σ. coefficient * product σ variables.now)) }
 {
-    match variables.into_monomial(alloc)? {
-        Some(monomial) => {
-            multiplication::push_term(table, monomial, coefficient, out)?;
-            Ok(())
-        }
-        None => Ok(()),
+    // Most often they rise as they stand.
+    if monomial::is_rising(variables) {
+        return multiplication::push_variables(table, variables, coefficient, out);
     }
+    if monomial::has_variable(variables, 0) {
+        return Ok(());
+    }
+    let monomial = monomial::from_variables(alloc, variables)?;
+    multiplication::push_term(table, monomial, coefficient, out)
 }
 
 // Puts the products of a part with each term after others. A part over the constant 0 has none.

@@ -15,6 +15,7 @@ use crate::{Poly, Terms, Variables, addition, coefficient, multiple_sum, product
 use graph_core::Memory;
 use std::alloc::{AllocError, Global};
 use std::marker::Model;
+use std::mem;
 
 /// Polynomials and products of a table, as far as they are added up. Each monomial has one place, so that nothing is
 /// sorted before the whole sum is taken. Where a call wants memory, nothing more is known of the sum.
@@ -24,6 +25,8 @@ pub struct PolySum {
     coefficients: Coefficients,
     /// the numbers of the terms; some may stand there twice, and some that have no term any more
     numbers: Vec<u64>,
+    /// room for parts, in which nothing is kept
+    room: Vec<(u128, Variables)>,
 }
 
 impl Model for PolySum {
@@ -47,6 +50,7 @@ impl PolySum {
             alloc,
             coefficients: Coefficients::new(alloc),
             numbers: Vec::new(alloc),
+            room: Vec::new(alloc),
         }
     }
 
@@ -75,6 +79,24 @@ impl PolySum {
         terms.numbering().stand_once();
         clear_all(&mut self.coefficients, &self.numbers);
         self.numbers.clear();
+    }
+
+    /// Lends room for parts that are to be added, which has none yet: to take it anew for each few parts would cost more
+    /// than to add them.
+    pub fn take_room(&mut self) -> Vec<(u128, Variables)>
+        ensures none { result.items ≡ [] }
+        ensures same { self.new ≡ self.old }
+    {
+        let mut room = mem::replace(&mut self.room, Vec::new(self.alloc));
+        room.clear();
+        room
+    }
+
+    /// Takes room back, whatever is in it.
+    pub fn keep_room(&mut self, room: Vec<(u128, Variables)>)
+        ensures { self.new ≡ self.old }
+    {
+        self.room = room;
     }
 
     // the products of each term with each

@@ -16,9 +16,13 @@ use crate::{
 use graph_core::Memory;
 use std::alloc::Global;
 use std::marker::Model;
+use std::mem;
 
 // A gate's axiom brings its variable and the product of its operands, and the lines of a certificate about one more.
 const MONOMIALS_OF_GATE: usize = 3;
+
+// The most parts whose room is kept: nearly all polynomials have fewer.
+const MOST_KEPT: usize = 1 << 10;
 
 /// The table of a modulus 2^w, w from 1 to 128, in which polynomials have their values.
 #[derive(Drop)]
@@ -26,6 +30,8 @@ pub struct Terms {
     alloc: Global,
     exponent: u32,
     monomials: Numbering,
+    /// room for parts, in which nothing is kept
+    room: Vec<(u128, Variables)>,
 }
 
 impl Model for Terms {
@@ -49,6 +55,7 @@ impl Terms {
             alloc,
             exponent: w,
             monomials: Numbering::new(alloc),
+            room: Vec::new(alloc),
         }
     }
 
@@ -70,6 +77,7 @@ impl Terms {
             alloc,
             exponent: w,
             monomials,
+            room: Vec::new(alloc),
         })
     }
 
@@ -79,6 +87,17 @@ impl Terms {
         ensures in_range { IsWidth result }
     {
         self.exponent
+    }
+
+    /// Lends room for the parts of one polynomial, which has none yet: `make_of` takes it back. To take it anew for each
+    /// polynomial that is read would cost more than to read it.
+    pub fn take_room(&mut self) -> Vec<(u128, Variables)>
+        ensures none { result.items ≡ [] }
+        ensures same { self.new ≡ self.old }
+    {
+        let mut room = mem::replace(&mut self.room, Vec::new(self.alloc));
+        room.clear();
+        room
     }
 
     /// The sum of coefficients of any size, each times a product of variables. Parts and variables come in any order
@@ -103,7 +122,8 @@ impl Terms {
         ensures value { IfOk result (λ r. (σ : Assignment) →
             value_in self.new r σ ≡ value (modulus_in self.old) (said parts.items) σ) }
     {
-        let raw = parts::entries_of(self.alloc, &mut self.monomials, parts)?;
+        let raw = parts::entries_of(self.alloc, &mut self.monomials, &parts)?;
+        keep(&mut self.room, parts);
         self.monomials.stand_once();
         let entries = addition::gather(self.alloc, self.exponent, raw)?;
         Ok(Poly::of(entries))
@@ -439,5 +459,12 @@ impl Terms {
     {
         let entry = &p.entries()[i as usize];
         self.monomials.variables(entry.number())
+    }
+}
+
+// Keeps the room of parts that were made a polynomial, unless it is great.
+fn keep(room: &mut Vec<(u128, Variables)>, parts: Vec<(u128, Variables)>) {
+    if parts.capacity() <= MOST_KEPT {
+        *room = parts;
     }
 }

@@ -1,15 +1,14 @@
 // The variables of a product, as a caller gives them.
-ghost use Rattle.std.specs.Prelude.{◌≡◌, ◌∷◌, ◌++◌, [], true, IfNone, IfOk, IfSome, OnOk};
-ghost use Rattle.poly_terms.specs.Monomials.{IsMonomialOf, has_variable};
+ghost use Rattle.std.specs.Prelude.{◌≡◌, ◌∷◌, ◌++◌, [], IfOk, OnOk};
 
 use crate::monomial::{self, Monomial};
 use graph_core::Memory;
 use smallvec::SmallVec;
-use std::alloc::{AllocError, Global};
+use std::alloc::Global;
 use std::marker::Model;
 
 /// Variables in any order, of which some may be repeated. Up to four take no memory of their own.
-#[derive(Drop)]
+#[derive(Debug, Drop)]
 pub struct Variables {
     items: Monomial,
 }
@@ -49,23 +48,6 @@ impl Variables {
     {
         self.items.push(v)?;
         Ok(())
-    }
-
-    // Their monomial. There is none where one of them is the constant 0: then their product is 0.
-    #[inline(always)]
-    pub(crate) fn into_monomial(self, alloc: Global) -> Result<Option<Monomial>, AllocError>
-        ensures some { IfOk result (λ m. IfSome m (λ monomial. IsMonomialOf self monomial.items)) }
-        ensures none { IfOk result (λ m. IfNone m (has_variable 0 self ≡ true)) }
-    {
-        // Most often they rise as they stand.
-        if monomial::is_rising(self.as_slice()) {
-            return Ok(Some(self.items));
-        }
-        if monomial::has_variable(self.as_slice(), 0) {
-            return Ok(None);
-        }
-        let monomial = monomial::from_variables(alloc, self.as_slice())?;
-        Ok(Some(monomial))
     }
 
     #[inline(always)]

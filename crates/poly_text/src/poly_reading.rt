@@ -1,5 +1,5 @@
 // Polynomials, as they are read.
-ghost use Rattle.std.specs.Prelude.{◌≡◌, ◌^◌, None, IfOk, IfErr};
+ghost use Rattle.std.specs.Prelude.{◌≡◌, ◌^◌, [], None, IfOk, IfErr};
 ghost use Rattle.graph_core.specs.Text.Readers.{many_at};
 ghost use Rattle.algebra_core.specs.Reading.{is_sign, first_term_at, signed_term_at, poly_at};
 ghost use Rattle.algebra_core.specs.Text.{IsInRange};
@@ -24,7 +24,8 @@ impl PacReader {
         ensures err { IfErr result (IsMisfit (poly_at scanner.old ≡ None)) }
         ensures extends { Extends terms.old terms.new }
     {
-        let Some(given) = self.all_terms(scanner)? else {
+        let room = terms.take_room();
+        let Some(given) = self.all_terms(scanner, room)? else {
             return Ok(None);
         };
         match terms.make_of(given) {
@@ -33,18 +34,20 @@ impl PacReader {
         }
     }
 
-    // The terms of a polynomial.
+    // The terms of a polynomial, in room that has none.
     #[inline(always)]
     fn all_terms(
         &self,
         scanner: &mut Scanner<'_>,
+        room: Vec<(u128, Variables)>,
     ) -> Result<Option<Vec<(u128, Variables)>>, LineFail>
+        requires { room.items ≡ [] }
         ensures ok { IfOk result (
             Takes poly_at (IsInRange self.now.max) (AreTermsOf (2 ^ self.now.exponent)) scanner.old scanner.new) }
         ensures err { IfErr result (IsMisfit (poly_at scanner.old ≡ None)) }
     {
         let first = self.first_term(scanner)?;
-        let mut terms = Some(Vec::new(self.alloc));
+        let mut terms = Some(room);
         push(&mut terms, first)?;
         let terms = self.later_terms(scanner, terms)?;
         Ok(terms)

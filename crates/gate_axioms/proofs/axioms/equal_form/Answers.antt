@@ -13,5 +13,5 @@ returns c =
     let o = c.minus_one.result.value in
     let form = c.add_literal-2.new.self in
     let second : AddsNumber w c.add_literal.new.self form (λ σ. o * bit (literal σ c.args.right)) = rw (c.one.ensures.width, ← c.minus_one.ensures.width) (c.in_ok-add_literal-2.ensures) in
-    let both = adds_on w c.new-form.result c.add_literal.new.self form _ _ (λ σ. n * bit (literal σ c.args.left) + o * bit (literal σ c.args.right)) c.in_ok-add_literal.ensures second (λ σ. refl) in
-    literals_have t form n o c.args.left c.args.right c.one.ensures.value c.minus_one.ensures.value (form_has t w c.new-form.result form _ c.one.ensures.width c.new-form.ensures both)
+    let both = adds_on w c.args.form c.add_literal.new.self form _ _ (λ σ. n * bit (literal σ c.args.left) + o * bit (literal σ c.args.right)) c.in_ok-add_literal.ensures second (λ σ. refl) in
+    literals_have t form n o c.args.left c.args.right c.one.ensures.value c.minus_one.ensures.value (form_has t w c.args.form form _ c.one.ensures.width c.requires both)

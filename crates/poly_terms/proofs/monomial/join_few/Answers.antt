@@ -1,23 +1,21 @@
 use Rattle.std.proofs.Common.{◌≡◌, ◌≤◌, ◌<◌, ◌+◌, ◌++◌, ◌⊎◌, ◌∷◌, get_or, set, take, length, drop, inl, inr, refl, sym, ap, ap₂, ◌∙◌, append_assoc, arith}
 use Rattle.std.specs.Ordering.{nat_cmp}
 use Rattle.std.proofs.lemmas.List.{get_or_default, length-set, take_more_set}
-use Rattle.std.proofs.lemmas.Result.{IfOk-weaker}
 use Rattle.poly_terms.proofs.Merging.{rest_is, ends, step_equal, step_greater, step_less}
 use Rattle.poly_terms.proofs.monomial.join_few.Goals as goal
 use Rattle.poly_terms.proofs.monomial.join_few.Goals.{then-loop-i-test+else-j-right, else-loop-i-test}
 
-pub returns : goal.returns
-returns c =
+pub returns-clause-items : goal.returns-clause-items
+returns-clause-items c =
     let past : (length c.args.left.now ≤ c.loop-i.i) ⊎ (length c.args.right.now ≤ c.loop-i.j) =
     elim c.loop-i-test.branch [ then-loop-i-test+else-j-right w ↦ inr (omega arith) | else-loop-i-test w ↦ inl (omega arith) ] in
     let xs = drop c.loop-i.i c.args.left.now in
     let ys = drop c.loop-i.j c.args.right.now in
     let before = take c.loop-i.count c.loop-i.both in
-    let all = c.put_all-with_right.ensures.items ∙
+    c.put_all.ensures.items ∙
     ap₂ ◌++◌ (c.put_all-with_left.ensures.items ∙ ap (λ z. before ++ z) (rest_is c.args.left.now c.loop-i.i)) (rest_is c.args.right.now c.loop-i.j) ∙
     append_assoc before xs ys ∙
-    ap (λ z. before ++ z) (ends nat_cmp (λ x y rest. x ∷ rest) c.args.left.now c.args.right.now c.loop-i.i c.loop-i.j past) ∙ c.loop-i.invariant.same in
-    IfOk-weaker c.front.result _ _ (λ monomial is. is ∙ all) c.front.ensures
+    ap (λ z. before ++ z) (ends nat_cmp (λ x y rest. x ∷ rest) c.args.left.now c.args.right.now c.loop-i.i c.loop-i.j past) ∙ c.loop-i.invariant.same
 
 pub loop-i-preserved-in-Less : goal.loop-i-preserved-in-Less
 loop-i-preserved-in-Less c =
