@@ -5,6 +5,7 @@ use Rattle.std.specs.declared.option.Option.TheVariants.{Some}
 use Rattle.std.specs.List.{Contains}
 use Rattle.std.proofs.Common.{refl, sym, ap, ap₂, subst, ◌∙◌, arith}
 use Rattle.std.proofs.Math.Nat.{mod-mod}
+use Rattle.std.proofs.Math.Path.{fun_ext}
 use Rattle.std.proofs.lemmas.Option.{slice_get-get_or}
 use Rattle.graph_core.specs.declared.literal.Lit.{Lit}
 use Rattle.graph_core.specs.declared.gate.Gate.{Gate}
@@ -170,6 +171,15 @@ walk_settled e s t0 t f w more grown settles h =
           (settles.gathered e s f p h.rest.same_modulus (gap_fixed e s f.added p h.rest.known h.rest.fixed) h.gathered);
       few = omega (arith, settles.count);
     }
+
+-- with the index made anew
+pub walk_indexed : (e : Extended) (s : Sides) (t : Table) (f : Taken) (w : Walk) (rest : IndexedSum) → IsOf t rest.sum → IsIndexed t rest → ((σ : Assignment) → value_in t rest.sum σ ≡ value_in t w.rest.sum σ) →
+    IsWalked e s t f w → IsWalked e s t f (walk_of rest w.gathered)
+walk_indexed e s t f w rest of indexed is h = record {
+  rest = rest_renewed e s t t f w.rest rest refl of indexed is h.rest;
+  gathered = subst (λ (k : Assignment → ℕ). IsGathered e s t f k w.gathered) (sym (fun_ext is)) h.gathered;
+  few = h.few;
+}
 
 pub walk_ended : (e : Extended) (s : Sides) (t0 t : Table) (f : Taken) (w : Walk) (last : Sum) (more : Gathered) → last ≡ w.rest.sum → Extends t0 t → IsEndedBatch t0 t w.gathered more → IsWalked e s t0 f w → HasEnded e s t f last more
 walk_ended e s t0 t f w last more is grown ends h =

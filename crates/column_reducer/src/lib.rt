@@ -18,6 +18,7 @@
 
 mod batch_lines;
 mod elimination;
+mod fresh_index;
 mod frontier;
 mod frontier_walk;
 mod gate_part;

@@ -14,6 +14,7 @@ ghost use Rattle.column_reducer.specs.Gathering.{IsWalkOutcome, IsWalked, HasEnd
 ghost use Rattle.column_reducer.specs.Reducing.{IsPassed, KeepsBudget};
 
 use crate::elimination::eliminate;
+use crate::fresh_index::index_anew;
 use crate::frontier::{add_column, gate_to_eliminate, passed};
 use crate::frontier_walk::first_passed;
 use crate::gathered::Gathered;
@@ -27,6 +28,14 @@ use std::alloc::Global;
 // More monomials than this aren't kept, in parts or in the table, before it is known that all steps stay within the
 // budget.
 const MOST_KEPT: u64 = 1 << 19;
+
+// A frontier that has more monomials than this share of the budget, and than this share of all new ones, of which few
+// are gone then: mostly a later one has more than the budget.
+const SHARE: u64 = 4;
+
+// The frontier's index is made anew once the table has got so many monomials since, twice as many as the frontier has,
+// and half as many as there are variables: an index has a place for each.
+const MANY_NEW: u64 = 1 << 14;
 
 /// What there is after some steps.
 #[derive(Debug, Drop)]
@@ -90,7 +99,7 @@ impl Walk {
     }
 
     // Takes the steps, from before the first one, and answers the first that leaves more monomials than the budget, and
-    // how many. Once much is kept the frontiers alone are walked first.
+    // how many. Where that may come, or much is kept, the frontiers alone are walked first from there on.
     fn follow(
         &mut self,
         alloc: Global,
@@ -110,26 +119,33 @@ impl Walk {
         let extended = plan.extended();
         let steps = plan.steps();
         let before = terms.count();
+        let mut indexed = before;
         let mut is_within = false;
         for count in 0..steps.len() {
             if let Some(at) = passed(terms, plan, &self.rest, count, budget) {
                 return Ok(Some(at));
             }
-            if !is_within && self.keeps_much(terms.count().saturating_sub(before)) {
-                if let Some(at) = first_passed(alloc, terms.exponent(), plan, operands, budget)? {
+            if !is_within && self.may_pass(terms.count().saturating_sub(before), budget) {
+                if let Some(at) = first_passed(
+                    alloc, terms, &self.rest, plan, operands, budget, count,
+                )? {
                     return Ok(Some(at));
                 }
                 is_within = true;
             }
             self.take_step(alloc, terms, extended, operands, steps[count])?;
             self.settle(alloc, terms)?;
+            indexed = self.clear_index(alloc, terms, extended.max(), indexed)?;
         }
         Ok(passed(terms, plan, &self.rest, steps.len(), budget))
     }
 
-    // Whether much is kept, in parts or, with so many new monomials, in the table.
-    fn keeps_much(&self, new: u64) -> bool {
-        new > MOST_KEPT || self.gathered.pending.saturating_add(self.gathered.ended) > MOST_KEPT
+    // Whether the frontier is large, and few monomials are gone, or much is kept, in parts or, with so many new monomials,
+    // in the table.
+    fn may_pass(&self, new: u64, budget: u64) -> bool {
+        let size = self.rest.size();
+        let kept = self.gathered.pending.saturating_add(self.gathered.ended);
+        (size > budget / SHARE && size > new / SHARE) || new > MOST_KEPT || kept > MOST_KEPT
     }
 
     // Takes a step.
@@ -210,6 +226,28 @@ impl Walk {
             IsWalked e s terms.old f self.old → IsWalked e s terms.new f self.new) }
     {
         self.gathered.settle(alloc, terms)
+    }
+
+    // Makes the frontier's index anew, where the table has got many monomials since it had so many, and answers how many
+    // it had when that was done last.
+    fn clear_index(
+        &mut self,
+        alloc: Global,
+        terms: &Terms,
+        max: u32,
+        indexed: u64,
+    ) -> Result<u64, Memory>
+        requires walked { (e : ExtendedGraph) × (s : Sides) × (f : Taken) × IsWalked e s terms.now f self.old }
+        ensures walked { OnOk result ((e : ExtendedGraph) (s : Sides) (f : Taken) →
+            IsWalked e s terms.now f self.old → IsWalked e s terms.now f self.new) }
+    {
+        let count = terms.count();
+        let new = count.saturating_sub(indexed);
+        if new <= MANY_NEW || new / 2 <= self.rest.size() || new <= u64::from(max) / 2 {
+            return Ok(indexed);
+        }
+        index_anew(alloc, terms, &mut self.rest)?;
+        Ok(count)
     }
 
     // Ends the last batch.

@@ -11,7 +11,7 @@ use Rattle.column_reducer.proofs.frontier_walk.passed_from.Goals as goal
 pub loop-count-init : goal.loop-count-init
 loop-count-init c = record {
   rest = c.requires.rest;
-  within = λ i n low has. absurd (omega arith);
+  within = c.requires.before;
 }
 
 pub returns-in-Some-clause-passed : goal.returns-in-Some-clause-passed
@@ -54,6 +54,7 @@ returns-clause-passed c =
     let all = ap length c.steps-steps.ensures.steps in
     let finish = c.loop-count.auto.count-end in
     let past = c.loop-count-test.false in
+    let begun = c.requires.low in
     let is : c.loop-count.count ≡ length p.steps = omega arith in
     let end : length c.steps-steps.result.now ≡ length p.steps = all in
     let low : length p.steps ≤ length p.steps = omega arith in
@@ -69,6 +70,7 @@ returns-clause-within c none i n low has =
     let all = ap length c.steps-steps.ensures.steps in
     let finish = c.loop-count.auto.count-end in
     let past = c.loop-count-test.false in
+    let begun = c.requires.low in
     let is : c.loop-count.count ≡ length p.steps = omega arith in
     within_more p s c.loop-count.terms c.args.budget c.loop-count.count c.loop-count.rest c.loop-count.invariant.rest
     (λ counts. c.passed-2.ensures.within none (omega arith)) c.loop-count.invariant.within i n (omega arith) has

@@ -25,6 +25,15 @@ returns-in-Some-clause-passed c =
     is_passed p c.args.operands.now c.loop-count.terms c.args.budget c.loop-count.count c.in-Some.at.0 c.in-Some.at.1 c.loop-count.self.rest c.loop-count.invariant.walked.rest
     c.in-Some.ensures.step low c.in-Some.ensures.size c.in-Some.ensures.above c.loop-count.invariant.within
 
+pub first_passed-requires-clause-rest : goal.first_passed-requires-clause-rest
+first_passed-requires-clause-rest c = c.loop-count.invariant.walked.rest
+
+pub first_passed-requires-clause-low : goal.first_passed-requires-clause-low
+first_passed-requires-clause-low c = omega (arith, c.loop-count-test.true, ap length c.steps-steps.ensures.steps)
+
+pub first_passed-requires-clause-before : goal.first_passed-requires-clause-before
+first_passed-requires-clause-before c = c.loop-count.invariant.within
+
 pub take_step-requires-clause-inputs : goal.take_step-requires-clause-inputs
 take_step-requires-clause-inputs c = subst (λ e. ReadInputs e.graph c.args.operands.now) (sym c.extended-extended.ensures) c.requires.inputs
 
@@ -55,6 +64,23 @@ settle-requires c =
       );
     }
 
+pub clear_index-requires : goal.clear_index-requires
+clear_index-requires c =
+    let p = c.args.plan.now in
+    let s = c.args.operands.now in
+    let i = c.loop-count.count in
+    let low : i < length p.steps = omega (arith, c.loop-count-test.true, ap length c.steps-steps.ensures.steps) in
+    record {
+      walked = (
+        p.extended,
+        s,
+        taken_after p (i + 1),
+        c.in_ok-settle.ensures.walked p.extended s (taken_after p (i + 1))
+            (step_on p.extended c.extended-extended.result.now p.steps c.steps-steps.result.now i (Add 0) (λ e f. IsWalked e s c.loop-count.terms f c.loop-count.self) (λ e f. IsWalked e s c.take_step.new.terms f c.take_step.new.self)
+            c.extended-extended.ensures c.steps-steps.ensures.steps c.steps-steps.ensures.plan.plan.follow low c.in_ok-take_step.ensures.walked c.loop-count.invariant.walked),
+      );
+    }
+
 pub loop-count-preserved : goal.loop-count-preserved
 loop-count-preserved c =
     let p = c.args.plan.now in
@@ -66,9 +92,10 @@ loop-count-preserved c =
     let t2 = c.settle.new.terms in
     record {
       table = extends_on c.args.terms.now t0 t2 c.loop-count.invariant.table (extends_on t0 t1 t2 c.in_ok-take_step.ensures.extends c.in_ok-settle.ensures.extends);
-      walked = c.in_ok-settle.ensures.walked p.extended s (taken_after p (i + 1))
+      walked = c.in_ok-indexed.ensures.walked p.extended s (taken_after p (i + 1))
+          (c.in_ok-settle.ensures.walked p.extended s (taken_after p (i + 1))
           (step_on p.extended c.extended-extended.result.now p.steps c.steps-steps.result.now i (Add 0) (λ e f. IsWalked e s t0 f c.loop-count.self) (λ e f. IsWalked e s t1 f c.take_step.new.self)
-          c.extended-extended.ensures c.steps-steps.ensures.steps c.steps-steps.ensures.plan.plan.follow low c.in_ok-take_step.ensures.walked c.loop-count.invariant.walked);
+          c.extended-extended.ensures c.steps-steps.ensures.steps c.steps-steps.ensures.plan.plan.follow low c.in_ok-take_step.ensures.walked c.loop-count.invariant.walked));
       within = within_more p s t0 c.args.budget i c.loop-count.self.rest c.loop-count.invariant.walked.rest (c.in_default.ensures.within refl) c.loop-count.invariant.within;
     }
 
