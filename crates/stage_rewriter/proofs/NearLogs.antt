@@ -1,7 +1,7 @@
 -- A log over the clauses near an adder is one over all, where its lines are near.
-use Rattle.std.specs.Prelude.{◌≡◌, ℕ, ◌+◌, ◌<◌, Bool, List, [], ◌∷◌, ◌++◌, length, drop, take, slice_index_or}
+use Rattle.std.specs.Prelude.{◌≡◌, ℕ, ◌+◌, ◌<◌, ◌≤◌, Bool, List, [], ◌∷◌, ◌++◌, length, drop, take, slice_index_or}
 use Rattle.std.specs.List.{All, AllByRecursion, Contains}
-use Rattle.std.proofs.Common.{sym, ap, subst, ◌∙◌, inl, inr, ⊎_elim, append_assoc}
+use Rattle.std.proofs.Common.{sym, ap, subst, ◌∙◌, inl, inr, ⊎_elim, append_assoc, arith}
 use Rattle.std.proofs.Math.Seq.{drop-append_seam}
 use Rattle.std.proofs.lemmas.List.{take_more}
 use Rattle.std.proofs.lemmas.List.Elements.{All-contains, Contains-append_cases, Contains-append_left, Contains-append_right, Contains-get_or, Contains-push, Contains-push_cases, recursion_from_All}
@@ -13,7 +13,7 @@ use Rattle.clause_core.specs.UnitPropagation.{IsRup}
 use Rattle.clause_core.proofs.CallerLemmas.{contains_nil}
 use Rattle.clause_core.proofs.Copies.{same_self}
 use Rattle.clause_core.proofs.Sets.{rup_by_sets}
-use Rattle.cdcl_solver.specs.Logs.{LogView}
+use Rattle.cdcl_solver.specs.Logs.{LogView, lemmas}
 use Rattle.stage_rewriter.specs.NearClauses.{AreNearOf, IsMarkedLiteral, IsNear, IsNearLine, PushesNear}
 use Rattle.goal_refuter.specs.Refuting.{IsShownNext}
 use Rattle.goal_refuter.proofs.Kept.{Within}
@@ -102,6 +102,22 @@ module _ (marks : List Bool) (clauses near : List Clause) (is : AreNearOf marks 
 
       near_lines : AllByRecursion (IsNearLine marks) (more ++ Add goal ∷ [])
       near_lines = recursion_from_All (IsNearLine marks) (more ++ Add goal ∷ []) (subst (All (IsNearLine marks)) rest all)
+
+-- what is shown within some conflicts is shown within more
+pub shown_within : (max least limit : ℕ) (given : List Clause) (goal : Clause) (old new : LogView) → least ≤ limit → IsShownNext max given goal least old new → IsShownNext max given goal limit old new
+shown_within max least limit given goal old new less h = record {
+  between = h.between;
+  continues = record {
+    more = h.continues.more;
+    lines = h.continues.lines;
+    in_range = h.continues.in_range;
+    lawful = h.continues.lawful;
+    spaced = h.continues.spaced;
+    few = let few : lemmas h.between ≤ lemmas old + least = h.continues.few in omega arith;
+  };
+  rup = h.rup;
+  added_is = h.added_is;
+}
 
 -- the clauses that are near are over the variables
 pub near_range : (marks : List Bool) (max : ℕ) (clauses near : List Clause) → AreNearOf marks clauses near → All (IsClauseInRange max) clauses → All (IsClauseInRange max) near

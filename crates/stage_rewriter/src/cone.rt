@@ -97,6 +97,9 @@ impl Walk {
     fn deepen(&mut self, extended: &Extended<'_>, first: usize, depth: u32) -> Result<(), Memory> {
         let (mut start, mut end) = (0, first);
         for _depth in 0..depth {
+            if start == end {
+                break;
+            }
             let count = self.path.len();
             for place in start..end {
                 if let Some(var) = self.path.get(place).copied() {

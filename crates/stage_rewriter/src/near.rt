@@ -18,8 +18,12 @@ use miter_encoder::gate_clauses;
 use ripple_graft::{Cut, Extended};
 use std::alloc::Global;
 
+// How many conflicts a goal may have there: a search that takes more is lost.
+const MOST: u64 = 5_000;
+
 /// Refutes the negation of each goal that isn't met over the clauses whose variables are all near the adder, or read at
-/// most so deep below its pairs, within so many conflicts; None where that doesn't come off.
+/// most so deep below its pairs, within so many conflicts; None where that doesn't come off, and whether a search
+/// was lost then.
 ///
 /// A log over these clauses is one over all: what is over other variables is within none of its clauses.
 pub(crate) fn refute_near(
@@ -28,6 +32,7 @@ pub(crate) fn refute_near(
     cut: &Cut,
     depth: u32,
     conflicts: u64,
+    is_lost: &mut bool,
 ) -> Result<Option<Log>, Memory>
     requires cut { IsCut extended.now.graph cut.now }
     requires graph { extended.now ≡ with_cut extended.now.graph cut.now }
@@ -45,7 +50,7 @@ pub(crate) fn refute_near(
     };
     let some = near_clauses(alloc, &clauses, near.marks)?;
     let mut solver = solver_of(alloc, max, &some)?;
-    near.refute_each(alloc, &mut solver, &goals, conflicts)
+    near.refute_each(alloc, &mut solver, &goals, conflicts, is_lost)
 }
 
 // What lies near an adder.
@@ -66,6 +71,7 @@ impl Near<'_> {
         solver: &mut Solver,
         goals: &ClauseList,
         conflicts: u64,
+        is_lost: &mut bool,
     ) -> Result<Option<Log>, Memory>
         requires goals { AreSameSets goals.now (unmet_goals self.now.extended.now) }
         requires near { IsKeptNear self.now.extended.now self.now.marks.now solver.old
@@ -82,10 +88,13 @@ impl Near<'_> {
             let start = log.lines().len();
             let clause = goals.get(goal);
             self.prefer_below(alloc, solver, clause)?;
-            match refute(alloc, solver, clause, left, &mut log)? {
+            match refute(alloc, solver, clause, left.min(MOST), &mut log)? {
                 Solved::Refuted => {}
                 Solved::Model(_) => return Ok(None),
-                Solved::Spent => return Ok(None),
+                Solved::Spent => {
+                    *is_lost = true;
+                    return Ok(None);
+                }
             }
             if !are_near(log.lines(), start, self.marks) {
                 return Ok(None);

@@ -16,9 +16,10 @@ use ripple_graft::{Cut, Extended};
 use std::alloc::Global;
 
 /// Refutes the negation of each goal that isn't met, within so many conflicts: over the clauses near the adder, so deep
-/// below its pairs, and where that doesn't come off, over all. First the goals are held against a few inputs, so that a
-/// wrong adder costs no conflict. Where no conflict is allowed, the first goal is looked at without a clause being
-/// made.
+/// below its pairs; where that doesn't come off, though conflicts are left, and what lies below the pairs counts as
+/// near, over those of all that lies below them; and then over all. First the goals are held against a few inputs, so
+/// that a wrong adder costs no conflict. Where no conflict is allowed, the first goal is looked at without a clause
+/// being made.
 pub(crate) fn refute_all(
     alloc: Global,
     extended: &Extended<'_>,
@@ -38,8 +39,15 @@ pub(crate) fn refute_all(
         if let Some(values) = seen_difference(alloc, extended, cut)? {
             return Ok(Outcome::Model(values));
         }
-        if let Some(log) = refute_near(alloc, extended, cut, depth, conflicts)? {
+        let mut is_lost = false;
+        if let Some(log) = refute_near(alloc, extended, cut, depth, conflicts, &mut is_lost)? {
             return Ok(Outcome::Refuted(log));
+        }
+        if depth > 0 && !is_lost {
+            let all = extended.max();
+            if let Some(log) = refute_near(alloc, extended, cut, all, conflicts, &mut is_lost)? {
+                return Ok(Outcome::Refuted(log));
+            }
         }
     }
     refute_over_all(alloc, extended, cut, conflicts)

@@ -1,4 +1,4 @@
-use Rattle.std.proofs.Common.{◌≡◌, ◌<◌, ◌-◌, ℕ, [], length, drop, slice_index_or, List, sym, ap, subst, rules, ◌∙◌, arith}
+use Rattle.std.proofs.Common.{◌≡◌, ◌<◌, ◌≤◌, ◌-◌, ℕ, [], length, drop, slice_index_or, List, sym, ap, subst, rules, ◌∙◌, arith}
 use Rattle.std.specs.List.{All}
 use Rattle.clause_core.specs.Clause.{Clause, IsClauseInRange}
 use Rattle.cdcl_solver.specs.Logs.{LogView}
@@ -10,7 +10,7 @@ use Rattle.goal_refuter.specs.Refutations.{unmet_goals}
 use Rattle.goal_refuter.proofs.GoalClauses.{sets_range}
 use Rattle.gate_sweeper.proofs.ColumnGoals.{goals_range}
 use Rattle.goal_refuter.proofs.Kept.{left_live}
-use Rattle.stage_rewriter.proofs.NearLogs.{shown_near}
+use Rattle.stage_rewriter.proofs.NearLogs.{shown_near, shown_within}
 use Rattle.goal_refuter.proofs.Outcomes.{at_goal, so_far_all, so_far_next, so_far_none}
 use Rattle.stage_rewriter.specs.NearKept.{IsKeptNear}
 use Rattle.stage_rewriter.proofs.near.Near.refute_each.Goals as goal
@@ -57,14 +57,16 @@ loop-goal-preserved c =
     let over = preferred c.loop-goal.solver solver c.prefer_below.ensures c.loop-goal.invariant.kept.over in
     let below : i < length goals = omega arith in
     let spent : ℕ = c.added.result - i in
-    let known = at_goal solver.max e.max near goals i (c.args.conflicts - spent) c.get-clause.result.now log c.refute.new.log c.in_ok-refute.field-0 over.max_is below c.get-clause.ensures
+    let least : c.min.result ≤ c.args.conflicts - spent = omega arith in
+    let known = at_goal solver.max e.max near goals i c.min.result c.get-clause.result.now log c.refute.new.log c.in_ok-refute.field-0 over.max_is below c.get-clause.ensures
     (c.in_ok-refute.ensures.answer near over.live) in
     let range = sets_range e.max goals (unmet_goals e) c.requires.goals (goals_range e c.gates-gates.ensures.extension) i [] below in
-    let shown = subst (λ (s : Solved). IsRefutation e.max near (slice_index_or goals i []) (c.args.conflicts - spent) log c.refute.new.log s) c.in-Refuted.is known in
+    let shown = subst (λ (s : Solved). IsRefutation e.max near (slice_index_or goals i []) c.min.result log c.refute.new.log s) c.in-Refuted.is known in
     let lines : All (IsNearLine c.args.self.now.marks.now) (drop (length log.lines) c.refute.new.log.lines) = search rules in
     record {
       so_far = so_far_next e c.args.conflicts clauses goals c.loop-goal.invariant.kept.sets c.requires.goals i below log c.loop-goal.invariant.so_far spent (ap (λ n. n - i) c.added.ensures) c.refute.new.log range
-          (shown_near c.args.self.now.marks.now clauses near c.loop-goal.invariant.kept.is_near e.max (c.args.conflicts - spent) (slice_index_or goals i []) log c.refute.new.log shown lines);
+          (shown_within e.max c.min.result (c.args.conflicts - spent) clauses (slice_index_or goals i []) log c.refute.new.log least
+          (shown_near c.args.self.now.marks.now clauses near c.loop-goal.invariant.kept.is_near e.max c.min.result (slice_index_or goals i []) log c.refute.new.log shown lines));
       kept = record {
         clauses = clauses;
         sets = c.loop-goal.invariant.kept.sets;
