@@ -1,5 +1,5 @@
 -- Of three files that are told just one answer is due, and what has its cause is that answer, or a stop that interrupts.
-use Rattle.std.proofs.Common.{◌≡◌, ℕ, List, Option, Some, None, refl, inl, inr}
+use Rattle.std.proofs.Common.{ℕ, List, Option, Some, None, refl, inl, inr}
 use Rattle.std.specs.Prelude.{IsSome}
 use Rattle.algebra_core.specs.AlgebraLines.{Premises}
 use Rattle.algebra_core.specs.Refusal.{AlgebraCause}
@@ -7,7 +7,7 @@ use Rattle.algebra_core.proofs.CallerLemmas.{algebra_is_exact, premises_are_kept
 use Rattle.algebra_judge.specs.Faults as algebraic
 use Rattle.clause_judge.specs.Faults as clausal
 use Rattle.clause_judge.specs.Faults.{ClauseFault}
-use Rattle.command_core.specs.Files.{Texts, texts_of}
+use Rattle.command_core.specs.Files.{texts_of}
 use Rattle.command_core.specs.InOrder.{IsOneDue}
 use Rattle.command_core.specs.Stopping.{GivesDue}
 use Rattle.command_core.proofs.CallerLemmas.{caused_is_due, one_last, one_over_graph, one_then, stopped_is_due}

@@ -1,5 +1,5 @@
 -- The answers of `check`, as files are opened and read one after the other.
-use Rattle.std.proofs.Common.{◌≡◌, ◌≢◌, ◌≤◌, ℕ, List, Option, IfSome, refl, sym, subst, arith, inl, inr}
+use Rattle.std.proofs.Common.{◌≡◌, ◌≢◌, ℕ, List, Option, IfSome, refl, sym, subst, arith, inl, inr}
 use Rattle.aiger_reader.specs.Refusals.{SpellsWithin}
 use Rattle.algebra_core.specs.AlgebraLines.{Premises, specification}
 use Rattle.algebra_core.specs.Certificates.{IsLawfulAlgebra}

@@ -1,5 +1,5 @@
 -- Of three files that are told just one answer is due, and what has its cause is that answer, or a stop that interrupts.
-use Rattle.std.proofs.Common.{◌≡◌, ℕ, List, Option, Some, None, refl, inl, inr, ⊎_elim}
+use Rattle.std.proofs.Common.{ℕ, List, Option, Some, None, refl, inl, inr, ⊎_elim}
 use Rattle.std.specs.Prelude.{IsSome, length}
 use Rattle.clause_judge.specs.Faults as clausal
 use Rattle.clause_judge.specs.Faults.{ClauseFault}

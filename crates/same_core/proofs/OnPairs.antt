@@ -13,7 +13,7 @@ use Rattle.mv_desk.specs.declared.limits.Limits.{Limits}
 use Rattle.mv_desk.specs.declared.slot.Slot.TheVariants as slot
 use Rattle.same_core.specs.declared.verdict.Same.{Same}
 use Rattle.same_core.specs.declared.verdict.Same.TheVariants as same
-use Rattle.same_core.specs.Deciding.{HasToldPair, IsCompared, IsOnPair, IsPairDue, PairAnswersAreExact, PairsAreDecided}
+use Rattle.same_core.specs.Deciding.{IsCompared, IsOnPair, IsPairDue, PairAnswersAreExact, PairsAreDecided}
 use Rattle.same_core.specs.Files.{ComparedTexts, HasPair, compared_texts_of}
 use Rattle.same_core.specs.Merged.{AreOfOneShape}
 use Rattle.same_core.proofs.DueRows.{decided_shape}

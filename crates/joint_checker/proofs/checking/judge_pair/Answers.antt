@@ -114,26 +114,6 @@ returns-in_err-closed-clause-outcome g c =
     (algebra_answers c.args.limits.now c.args.claim (files_of c.args.names.now) first second third last c.read_graph.ensures.inspects c.check_clauses.ensures.reads.inspects graph (premises_of shown) (shown_fits graph shown c.in_ok-shown.ensures.of_graph)
     (spelled_for _ _ _ _ _ c.profile.ensures c.in_ok-graph.ensures.spelled) c.in_ok-shown.ensures.gives c.in_err-closed.field-0.0 c.in_err-closed.ensures.refused)
 
-pub returns-clause-outcome : goal.returns-clause-outcome
-returns-clause-outcome g c =
-    let first = g.D.Desk.seen c.args.desk.now in
-    let second = g.D.Desk.seen c.read_graph.new.desk in
-    let third = g.D.Desk.seen c.check_clauses.new.desk in
-    let last = g.D.Desk.seen c.check_algebra.new.desk in
-    let graph = c.in_ok-graph.graph in
-    let shown = c.in_ok-shown.shown in
-    accepts c.args.limits.now c.args.claim (files_of c.args.names.now) first second third last c.read_graph.ensures.inspects c.check_clauses.ensures.reads.inspects graph (premises_of shown) (shown_fits graph shown c.in_ok-shown.ensures.of_graph)
-    (spelled_for _ _ _ _ _ c.profile.ensures c.in_ok-graph.ensures.spelled) c.in_ok-shown.ensures.gives c.in_ok-graph.ensures.built.well_formed (shape_for c.args.claim.widths graph (sized_for _ _ _ c.profile.ensures c.in_ok-graph.ensures.sized)) c.in_ok-closed.ensures.lawful c.in_ok-closed.ensures.vanishes
-
-pub returns-clause-opens : goal.returns-clause-opens
-returns-clause-opens g c =
-    let first = g.D.Desk.seen c.args.desk.now in
-    let second = g.D.Desk.seen c.read_graph.new.desk in
-    let third = g.D.Desk.seen c.check_clauses.new.desk in
-    let last = g.D.Desk.seen c.check_algebra.new.desk in
-    accepted_needed c.args.limits.now c.args.claim (files_of c.args.names.now) first second third c.read_graph.ensures.opens.others c.check_clauses.ensures.reads.others c.in_ok-graph.graph (spelled_for _ _ _ _ _ c.profile.ensures c.in_ok-graph.ensures.spelled)
-    last c.check_algebra.ensures.reads.others c.read_graph.ensures.inspects (premises_of c.in_ok-shown.shown) (shown_fits c.in_ok-graph.graph c.in_ok-shown.shown c.in_ok-shown.ensures.of_graph) c.in_ok-shown.ensures.gives
-
 pub returns-in_err-closed-clause-opens : goal.returns-in_err-closed-clause-opens
 returns-in_err-closed-clause-opens g c =
     let first = g.D.Desk.seen c.args.desk.now in
@@ -147,13 +127,6 @@ returns-in_err-closed-clause-opens g c =
     (algebra_needed c.args.limits.now c.args.claim (files_of c.args.names.now) first second third c.read_graph.ensures.opens.others c.check_clauses.ensures.reads.others c.in_ok-graph.graph (spelled_for _ _ _ _ _ c.profile.ensures c.in_ok-graph.ensures.spelled) last c.check_algebra.ensures.reads.others
     c.read_graph.ensures.inspects p (shown_fits c.in_ok-graph.graph shown c.in_ok-shown.ensures.of_graph) c.in_ok-shown.ensures.gives (sides_for c.args.claim p.extended.graph) c.in_err-closed.field-0.0 c.in_err-closed.ensures.refused)
 
-pub returns-clause-opened : goal.returns-clause-opened
-returns-clause-opened g c =
-    let first = g.D.Desk.seen c.args.desk.now in
-    let second = g.D.Desk.seen c.read_graph.new.desk in
-    let third = g.D.Desk.seen c.check_clauses.new.desk in
-    OpensFiles-trans 2 1 first third (g.D.Desk.seen c.check_algebra.new.desk) (OpensFiles-trans 1 1 first second third c.read_graph.ensures.opens.opened c.check_clauses.ensures.reads.opened) c.check_algebra.ensures.reads.opened
-
 pub returns-in_err-closed-clause-opened : goal.returns-in_err-closed-clause-opened
 returns-in_err-closed-clause-opened g c =
     let first = g.D.Desk.seen c.args.desk.now in
@@ -166,29 +139,50 @@ returns-in_err-closed-clause-opened g c =
     rw (same.1, same.2)
     (algebra_opened first third last (lengths_of c.args.limits.now) p (sides_for c.args.claim p.extended.graph) (bytes_under third (files_of c.args.names.now).algebra) c.in_err-closed.field-0.0 c.in_err-closed.ensures.refused opened)
 
--- ---- what was recorded
+-- ---- an accepted pair
 
-pub returns-clause-judged : goal.returns-clause-judged
-returns-clause-judged g c = λ yes.
-    let graph = c.in_ok-graph.graph in
-    let shown = c.in_ok-shown.shown in
-    let fits = c.in_ok-shown.ensures.of_graph in
-    is_judged c.args.claim graph shown fits (sized_for _ _ _ c.profile.ensures c.in_ok-graph.ensures.sized) c.in_ok-graph.ensures.built
-    (vanishing_does graph c.args.claim (premises_of shown) c.in_ok-graph.ensures.built.well_formed (shape_for c.args.claim.widths graph (sized_for _ _ _ c.profile.ensures c.in_ok-graph.ensures.sized)) (shown_fits graph shown fits)
-    (subst (λ (x : Aig). Always shown.extended.gates (λ σ. specification shown.extended (sides_for c.args.claim x) σ ≡ 0)) (graph_is graph (premises_of shown) (shown_fits graph shown fits)) c.in_ok-closed.ensures.vanishes))
-    (c.in_ok-shown.ensures.shown yes) (c.in_ok-shown.ensures.chains yes) c.in_ok-shown.ensures.of_graph.earlier c.in_ok-closed.closed (c.in_ok-closed.ensures.recorded yes)
-    (c.parts_of-header.result.0) (c.parts_of-header.result.1) c.parts_of-header.ensures.header c.parts_of-header.ensures.recorded c.parts_of-header.result.2
-
-pub returns-clause-told : goal.returns-clause-told
-returns-clause-told g c = λ yes.
+pub returns : goal.returns
+returns g c =
     let first = g.D.Desk.seen c.args.desk.now in
     let second = g.D.Desk.seen c.read_graph.new.desk in
     let third = g.D.Desk.seen c.check_clauses.new.desk in
-    is_told c.args.claim c.in_ok-graph.graph c.in_ok-shown.shown c.in_ok-shown.ensures.of_graph c.args.limits.now (files_of c.args.names.now) first second third c.read_graph.ensures.inspects c.check_clauses.ensures.reads.inspects
-    (spelled_for _ _ _ _ _ c.profile.ensures c.in_ok-graph.ensures.spelled) (c.in_ok-shown.ensures.adds yes) c.in_ok-closed.closed
-    (subst (λ (b : Bool). IfSome (bytes_under third (files_of c.args.names.now).algebra) (λ bytes. IsRecordOf b c.in_ok-shown.shown.header.version (modulus c.in_ok-shown.shown.extended) bytes
-    (lines_in c.in_ok-closed.closed.record.terms c.in_ok-closed.closed.record.lines.items) c.in_ok-closed.closed.id c.in_ok-closed.closed.lines)) yes c.in_ok-closed.ensures.told)
-    c.parts_of-header.result.0 c.parts_of-header.result.1 c.parts_of-header.result.2 c.parts_of-header.ensures.header c.parts_of-header.ensures.recorded c.parts_of-header.ensures.lines
+    let last = g.D.Desk.seen c.check_algebra.new.desk in
+    let limits = c.args.limits.now in
+    let claim = c.args.claim in
+    let files = files_of c.args.names.now in
+    let graph = c.in_ok-graph.graph in
+    let shown = c.in_ok-shown.shown in
+    let closed = c.in_ok-closed.closed in
+    let p = premises_of shown in
+    let fits = c.in_ok-shown.ensures.of_graph in
+    let of = shown_fits graph shown fits in
+    let well = c.in_ok-graph.ensures.built.well_formed in
+    let spelled = spelled_for _ _ _ _ _ c.profile.ensures c.in_ok-graph.ensures.spelled in
+    let sized = sized_for _ _ _ c.profile.ensures c.in_ok-graph.ensures.sized in
+    let shape = shape_for claim.widths graph sized in
+    let reads = c.check_clauses.ensures.reads in
+    let ends = c.check_algebra.ensures.reads in
+    let inspects = c.read_graph.ensures.inspects in
+    let opens = c.read_graph.ensures.opens in
+    let parts = c.parts_of-header in
+    record {
+      outcome = accepts limits claim files first second third last inspects reads.inspects graph p of spelled c.in_ok-shown.ensures.gives well shape c.in_ok-closed.ensures.lawful c.in_ok-closed.ensures.vanishes;
+      opens = accepted_needed limits claim files first second third opens.others reads.others graph spelled last ends.others inspects p of c.in_ok-shown.ensures.gives;
+      opened = OpensFiles-trans 2 1 first third last (OpensFiles-trans 1 1 first second third opens.opened reads.opened) ends.opened;
+      inspects = Inspects-trans first third last (Inspects-trans first second third inspects reads.inspects) ends.inspects;
+      tells = KeepsTelling-trans first third last (KeepsTelling-trans first second third opens.tells reads.tells) ends.tells;
+      not_accepted = tt;
+      clauses_named = told_later slot.Clauses files.clauses first third last
+          (told_earlier slot.Clauses files.clauses first second third (opens.others slot.Clauses (λ e. cc)) (inspects.held files.clauses) reads.named) (ends.others slot.Clauses (λ e. cc));
+      algebra_named = told_earlier slot.Algebra files.algebra first second last (opens.others slot.Algebra (λ e. cc)) (inspects.held files.algebra)
+          (told_earlier slot.Algebra files.algebra second third last (reads.others slot.Algebra (λ e. cc)) (reads.inspects.held files.algebra) ends.named);
+      judged = λ yes. is_judged claim graph shown fits sized c.in_ok-graph.ensures.built
+          (vanishing_does graph claim p well shape of (subst (λ (x : Aig). Always shown.extended.gates (λ σ. specification shown.extended (sides_for claim x) σ ≡ 0)) (graph_is graph p of) c.in_ok-closed.ensures.vanishes))
+          (c.in_ok-shown.ensures.shown yes) (c.in_ok-shown.ensures.chains yes) fits.earlier closed (c.in_ok-closed.ensures.recorded yes) parts.result.0 parts.result.1 parts.ensures.header parts.ensures.recorded parts.result.2;
+      told = λ yes. is_told claim graph shown fits limits files first second third inspects reads.inspects spelled (c.in_ok-shown.ensures.adds yes) closed
+          (subst (λ (b : Bool). IfSome (bytes_under third files.algebra) (λ bytes. IsRecordOf b shown.header.version (modulus shown.extended) bytes (lines_in closed.record.terms closed.record.lines.items) closed.id closed.lines)) yes c.in_ok-closed.ensures.told)
+          parts.result.0 parts.result.1 parts.result.2 parts.ensures.header parts.ensures.recorded parts.ensures.lines;
+    }
 
 -- ---- the desk
 
@@ -196,42 +190,9 @@ pub returns-in_err-shown-clause-inspects : goal.returns-in_err-shown-clause-insp
 returns-in_err-shown-clause-inspects g c =
     Inspects-trans (g.D.Desk.seen c.args.desk.now) (g.D.Desk.seen c.read_graph.new.desk) (g.D.Desk.seen c.check_clauses.new.desk) c.read_graph.ensures.inspects c.check_clauses.ensures.reads.inspects
 
-pub returns-clause-inspects : goal.returns-clause-inspects
-returns-clause-inspects g c =
-    let first = g.D.Desk.seen c.args.desk.now in
-    let third = g.D.Desk.seen c.check_clauses.new.desk in
-    Inspects-trans first third (g.D.Desk.seen c.check_algebra.new.desk)
-    (Inspects-trans first (g.D.Desk.seen c.read_graph.new.desk) third c.read_graph.ensures.inspects c.check_clauses.ensures.reads.inspects) c.check_algebra.ensures.reads.inspects
-
 pub returns-in_err-shown-clause-tells : goal.returns-in_err-shown-clause-tells
 returns-in_err-shown-clause-tells g c =
     KeepsTelling-trans (g.D.Desk.seen c.args.desk.now) (g.D.Desk.seen c.read_graph.new.desk) (g.D.Desk.seen c.check_clauses.new.desk) c.read_graph.ensures.opens.tells c.check_clauses.ensures.reads.tells
-
-pub returns-clause-tells : goal.returns-clause-tells
-returns-clause-tells g c =
-    let first = g.D.Desk.seen c.args.desk.now in
-    let third = g.D.Desk.seen c.check_clauses.new.desk in
-    KeepsTelling-trans first third (g.D.Desk.seen c.check_algebra.new.desk)
-    (KeepsTelling-trans first (g.D.Desk.seen c.read_graph.new.desk) third c.read_graph.ensures.opens.tells c.check_clauses.ensures.reads.tells) c.check_algebra.ensures.reads.tells
-
-pub returns-clause-clauses_named : goal.returns-clause-clauses_named
-returns-clause-clauses_named g c =
-    let first = g.D.Desk.seen c.args.desk.now in
-    let second = g.D.Desk.seen c.read_graph.new.desk in
-    let third = g.D.Desk.seen c.check_clauses.new.desk in
-    let name = c.args.names.now.clauses.now in
-    told_later slot.Clauses name first third (g.D.Desk.seen c.check_algebra.new.desk)
-    (told_earlier slot.Clauses name first second third (c.read_graph.ensures.opens.others slot.Clauses (λ e. cc)) (c.read_graph.ensures.inspects.held name) c.check_clauses.ensures.reads.named) (c.check_algebra.ensures.reads.others slot.Clauses (λ e. cc))
-
-pub returns-clause-algebra_named : goal.returns-clause-algebra_named
-returns-clause-algebra_named g c =
-    let first = g.D.Desk.seen c.args.desk.now in
-    let second = g.D.Desk.seen c.read_graph.new.desk in
-    let third = g.D.Desk.seen c.check_clauses.new.desk in
-    let last = g.D.Desk.seen c.check_algebra.new.desk in
-    let name = c.args.names.now.algebra.now in
-    told_earlier slot.Algebra name first second last (c.read_graph.ensures.opens.others slot.Algebra (λ e. cc)) (c.read_graph.ensures.inspects.held name)
-    (told_earlier slot.Algebra name second third last (c.check_clauses.ensures.reads.others slot.Algebra (λ e. cc)) (c.check_clauses.ensures.reads.inspects.held name) c.check_algebra.ensures.reads.named)
 
 pub returns-in_err-closed-clause-clauses_named : goal.returns-in_err-closed-clause-clauses_named
 returns-in_err-closed-clause-clauses_named g c =
