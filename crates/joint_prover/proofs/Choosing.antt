@@ -1,5 +1,5 @@
 -- What several plans decide, and what is taken of it.
-use Rattle.std.proofs.Common.{◌≡◌, Bool, true, false, sym, subst}
+use Rattle.std.proofs.Common.{Bool, true, false, sym, subst}
 use Rattle.std.specs.Prelude.{◌&&◌, not, if◌then◌else◌, IfSome, option_map}
 use Rattle.std.specs.declared.option.Option.{Option}
 use Rattle.std.specs.declared.option.Option.TheVariants.{None, Some}
@@ -8,7 +8,7 @@ use Rattle.graph_core.specs.Text.JudgedLines.{Lengths}
 use Rattle.mv_text.specs.LineReading.{lengths_of}
 use Rattle.joint_prover.specs.declared.replacement.Replacement.{Replacement}
 use Rattle.joint_prover.specs.Decisions.{IsDecision}
-use Rattle.joint_prover.specs.Endings.{Decides, HasWritable, IsEndedFor, IsEndedOver, IsMeasured, replacement_named, replacement_of_found, first_short, over_replacement, shorter}
+use Rattle.joint_prover.specs.Endings.{Decides, HasWritable, IsEndedFor, IsEndedOver, IsEndedWithFound, IsMeasured, replacement_of_found, first_short, over_replacement, shorter}
 use Rattle.joint_prover.specs.Notes.{IsFound}
 use Rattle.joint_prover.specs.declared.decision.Decision.{Decision}
 use Rattle.joint_prover.specs.declared.decision.Decision.TheVariants as decision
@@ -50,37 +50,29 @@ measured_over : (lengths : Lengths) (r : Replacement) (e : Ended) → IsMeasured
 measured_over lengths r e h = record { short = h.short; long = h.long }
 
 module _ (job : Job) where
-  pub ended_for : (e : Ended) → IsEndedOver job (replacement_named job.used) e → IsEndedFor job e
-  ended_for e h = record {
-    decision = subst (λ f. IsDecision job.graph.now job.task (replacement_of_found (replacement_named job.used) f) e.decision) (sym h.found)
-        (over_decides job.graph.now job.task (replacement_named job.used) e.decision h.decides);
+  ended_for : (used : Option Replacement) (e : Ended) → IsEndedOver job used e → IsEndedFor job used e
+  ended_for used e h = record {
+    decision = subst (λ f. IsDecision job.graph.now job.task (replacement_of_found used f) e.decision) (sym h.found)
+        (over_decides job.graph.now job.task used e.decision h.decides);
     found = subst (λ f. IfSome f (IsFound job.graph.now)) (sym h.found) tt;
     measured = h.measured;
   }
 
-  pub some_ended_for : (e : Option Ended) → IfSome e (IsEndedOver job (replacement_named job.used)) → IfSome e (IsEndedFor job)
-  some_ended_for None h = tt
-  some_ended_for (Some e) h = ended_for e h
+  pub some_ended_for : (used : Option Replacement) (e : Option Ended) → IfSome e (IsEndedOver job used) → IfSome e (IsEndedFor job used)
+  some_ended_for used None h = tt
+  some_ended_for used (Some e) h = ended_for used e h
 
-  ended_over_found : (r : Replacement) (e : Ended) → IsFound job.graph.now r → IsEndedOver job (Some r) e → IsEndedFor job (over_replacement r e)
-  ended_over_found r e found h = record {
+  pub some_found_for : (used : Option Replacement) (e : Option Ended) → IfSome e (IsEndedWithFound job) → IfSome e (IsEndedFor job used)
+  some_found_for used None h = tt
+  some_found_for used (Some e) h = h used
+
+  ended_over_found : (r : Replacement) (e : Ended) → IsFound job.graph.now r → IsEndedOver job (Some r) e → IsEndedWithFound job (over_replacement r e)
+  ended_over_found r e found h = λ used. record {
     decision = over_decides job.graph.now job.task (Some r) e.decision h.decides;
     found = found;
     measured = measured_over (lengths_of job.limits) r e h.measured;
   }
 
-  pub some_ended_over : (r : Replacement) (e : Option Ended) → IsFound job.graph.now r → IfSome e (IsEndedOver job (Some r)) → IfSome (option_map (over_replacement r) e) (IsEndedFor job)
+  pub some_ended_over : (r : Replacement) (e : Option Ended) → IsFound job.graph.now r → IfSome e (IsEndedOver job (Some r)) → IfSome (option_map (over_replacement r) e) (IsEndedWithFound job)
   some_ended_over r None found h = tt
   some_ended_over r (Some e) found h = ended_over_found r e found h
-
-  -- where a decision is measured
-  pub ended_decides : (r : Option Replacement) (e : Ended) (d : Decision) → Decides job.graph.now job.task r d → e.decision ≡ d → e.found ≡ None → IsMeasured (lengths_of job.limits) e → IsEndedOver job r e
-  ended_decides r e d h is none measured = record { decides = subst (Decides job.graph.now job.task r) (sym is) h; found = none; measured = measured }
-
-  pub ended_decision : (e : Ended) (d : Decision) → IsDecision job.graph.now job.task (replacement_named job.used) d → e.decision ≡ d → e.found ≡ None → IsMeasured (lengths_of job.limits) e → IsEndedFor job e
-  ended_decision e d h is none measured = record {
-    decision = subst (λ f. IsDecision job.graph.now job.task (replacement_of_found (replacement_named job.used) f) e.decision) (sym none)
-        (subst (IsDecision job.graph.now job.task (replacement_named job.used)) (sym is) h);
-    found = subst (λ f. IfSome f (IsFound job.graph.now)) (sym none) tt;
-    measured = measured;
-  }

@@ -26,7 +26,7 @@ use Rattle.joint_prover.specs.declared.note.Note.{Note}
 use Rattle.joint_prover.specs.Notes.{IsNote, replacement_of}
 use Rattle.joint_prover.specs.Pairs.{AreClausesFor, IsPairFor}
 use Rattle.joint_prover.specs.Decisions.{IsDecision}
-use Rattle.joint_prover.specs.Endings.{IsTold}
+use Rattle.joint_prover.specs.Endings.{IsTold, IsToldAs, note_beside}
 use Rattle.joint_prover.specs.declared.decision.Decision.{Decision}
 use Rattle.joint_prover.specs.declared.decision.Decision.TheVariants as decision
 use Rattle.pair_core.specs.Texts.{algebra_text, clauses_text}
@@ -71,6 +71,13 @@ module _ (limits : Limits) (task : Task) (files : Files) (a r : View) (reads : R
       named c v (Stopped stop.Memory) noted None (ap (λ x. x.0) none) (ap (λ x. x.1) none) (tt, subst (ReadsGraph a) (sym untouched) reads, refl)
 
 -- ---- the report
+
+-- with the note beside the verdict
+pub told_beside : (lengths : Lengths) (files : Files) (a b : View) (d : Decision) (n : Note) (v : Verdict) → IsToldAs lengths files a b d v → IsTold lengths files a b d n v (note_beside v n)
+told_beside lengths files a b (decision.Proved p) n v (inl t) = inl (t.0, t.1, ap (λ w. note_beside w n) t.1, t.2, t.3)
+told_beside lengths files a b (decision.Proved p) n v (inr t) = inr (t.0, ap (λ w. note_beside w n) t.0, t.1, t.2)
+told_beside lengths files a b (decision.Wrong d) n v t = (t.0, ap (λ w. note_beside w n) t.0, t.1)
+told_beside lengths files a b (decision.Undecided tried step size seen) n v t = (t.0, ap (λ w. note_beside w n) t.0, t.1)
 
 told_leaves : (lengths : Lengths) (files : Files) (a b : View) (d : Decision) (n : Note) (v : Verdict) (noted : Option Note) → IsTold lengths files a b d n v noted → ReportStays a b
 told_leaves lengths files a b (decision.Proved p) n v noted (inl t) = pair_leaves_report files (clauses_text p) (algebra_text p) a b t.3

@@ -1,5 +1,5 @@
 -- The note has the cause of what came of the rewriting.
-use Rattle.std.proofs.Common.{◌≡◌, ℕ, ◌≤◌, Bool, List, arith, refl, sym, subst, ◌∙◌}
+use Rattle.std.proofs.Common.{◌≡◌, ℕ, ◌≤◌, Bool, List, arith, refl, sym, subst}
 use Rattle.std.specs.Prelude.{IfSome}
 use Rattle.std.specs.declared.option.Option.{Option}
 use Rattle.std.specs.declared.option.Option.TheVariants.{None, Some}
@@ -46,10 +46,10 @@ replacement_of_rewriting add (kind.Differs x) = refl
 replacement_of_rewriting add (kind.Spent lemmas goal log) = refl
 
 -- or what was found
-pub replacement_of_note : (add : Bool) (r : Rewriting) (used found : Option Replacement) → used ≡ replacement_in r → replacement_of_found used found ≡ replacement_of (note_of add r found)
-replacement_of_note add r used None is = is ∙ sym (replacement_of_rewriting add r)
-replacement_of_note add r used (Some (Adder cut)) is = refl
-replacement_of_note add r used (Some (Beside b)) is = refl
+pub replacement_of_note : (add : Bool) (r : Rewriting) (found : Option Replacement) → replacement_of_found (replacement_in r) found ≡ replacement_of (note_of add r found)
+replacement_of_note add r None = sym (replacement_of_rewriting add r)
+replacement_of_note add r (Some (Adder cut)) = refl
+replacement_of_note add r (Some (Beside b)) = refl
 
 -- The final stage in use is a cut that is shown.
 pub shown_of : (g : Aig) (conflicts : ℕ) (cut : Cut) (e : Extended) (lines : List ClauseLine) → IsWellFormed g → IsUsed g conflicts cut e lines → IsShownRewriting g conflicts cut e lines

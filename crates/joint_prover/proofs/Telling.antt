@@ -33,13 +33,13 @@ use Rattle.stage_rewriter.specs.declared.placing.Placed.{Placed}
 use Rattle.joint_prover.specs.declared.shown.Shown.{Shown}
 use Rattle.command_core.specs.declared.task.Task.{Task}
 use Rattle.joint_prover.specs.Pairs.{AreClausesOver, IsPairOver, IsSpareFile}
-use Rattle.joint_prover.specs.Endings.{IsShown, lent, replacement_named, Decides, IsEnd, IsProof, IsWrongAs}
+use Rattle.joint_prover.specs.Endings.{IsShown, lent, replacement_named, Decides, IsEnd, IsProof}
 use Rattle.joint_prover.specs.Replacements.{IsAllowed, IsVersion, Takes, blocks_of, extended_by, header_of, plain_version, version_for}
 use Rattle.joint_prover.specs.declared.replacement.Replacement.{Replacement}
 use Rattle.joint_prover.specs.declared.replacement.Replacement.TheVariants.{Adder, Beside}
 use Rattle.joint_prover.specs.Tries.{AreTried, EndsOver, EndsWithinBy, HasPassedBudget, IsProvedOver, IsTried, IsWithinBudget}
 use Rattle.joint_prover.proofs.Sizes.{few_inputs, few_outputs, few_variables, some_outputs}
-use Rattle.std.specs.Prelude.{◌⊎◌, ◌==◌, Bool, if◌then◌else◌, is_some, option_map}
+use Rattle.std.specs.Prelude.{◌⊎◌, ◌==◌, Bool, if◌then◌else◌, IfSome, is_some, option_map}
 use Rattle.std.proofs.lemmas.Option.{none-some}
 use Rattle.algebra_core.specs.Text.{IsLawfulAlgebraFile}
 use Rattle.algebra_core.proofs.SamePremises.{premises_are_kept}
@@ -268,16 +268,6 @@ module _ (g : Aig) (task : Task) where
   over_alone : (used r : Option Replacement) → r ≡ None → EndsOver g claim budget used None → EndsOver g claim budget used r
   over_alone used r none = subst (EndsOver g claim budget used) (sym none)
 
-  pub wrong_is_decision : (used : Option Replacement) (d : Decision) → IsWrongAs g claim d → IsDecision g task used d
-  wrong_is_decision used (decision.Proved p) h = absurd h
-  wrong_is_decision used (decision.Wrong d) h = h
-  wrong_is_decision used (decision.Undecided tried step size seen) h = absurd h
-
-  pub wrong_decides : (r : Option Replacement) (d : Decision) → IsWrongAs g claim d → Decides g task r d
-  wrong_decides r (decision.Proved p) h = absurd h
-  wrong_decides r (decision.Wrong d) h = h
-  wrong_decides r (decision.Undecided tried step size seen) h = absurd h
-
   -- over a graph that is one to end with
   decided : (used r : Option Replacement) (d : Decision) → IsProvedOver g claim budget used r → Decides g task r d → IsDecision g task used d
   decided used r (decision.Proved p) over h = (h.0, h.1, (r, over, h.2))
@@ -297,7 +287,10 @@ module _ (g : Aig) (task : Task) where
   later_decides used r first d none tried h = decided used r d
       (inl (over_alone used r none (inl (has_passed g claim budget used first tried, subst (EndsWithinBy g claim budget) none h.0)))) h.1
 
+  pub some_later_decides : (used r : Option Replacement) (first : Tried) (d : Option Decision) → r ≡ None → IsTried g claim budget used first → IfSome d (IsEnd g task r) → IfSome d (IsDecision g task used)
+  some_later_decides used r first None none tried h = tt
+  some_later_decides used r first (Some d) none tried h = later_decides used r first d none tried h
+
   -- at last by the plain plan
-  pub plain_decides : (used r : Option Replacement) (tried : List Tried) (d : Decision) → r ≡ None → AreTried g claim budget used tried → IsWithinBudget g claim budget → Decides g task r d →
-      IsDecision g task used d
-  plain_decides used r tried d none are within h = decided used r d (inl (over_alone used r none (inr ((tried, are), within)))) h
+  pub plain_decides : (used : Option Replacement) (tried : List Tried) (d : Decision) → AreTried g claim budget used tried → IsWithinBudget g claim budget → Decides g task None d → IsDecision g task used d
+  plain_decides used tried d are within h = decided used None d (inl (inr ((tried, are), within))) h

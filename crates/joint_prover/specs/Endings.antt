@@ -23,6 +23,7 @@ use Rattle.mv_text.specs.LineReading.{lengths_of}
 use Rattle.mv_desk.specs.declared.slot.Slot.{Slot}
 use Rattle.pac_writer.specs.Writing.{Made, written_ledger}
 use Rattle.pair_core.specs.Texts.{CanBeWritten, algebra_text, clauses_text}
+use Rattle.pair_core.specs.declared.pair.Pair.{Pair}
 use Rattle.pair_limits.specs.TooLong.{IsFirstTooLong}
 use Rattle.poly_terms.specs.Tables.{Sum, modulus_in}
 use Rattle.ripple_graft.specs.Extension.{IsExtension}
@@ -36,6 +37,8 @@ use Rattle.stage_rewriter.specs.Placing.{IsShownBeside}
 use Rattle.joint_prover.specs.declared.decision.Decision.{Decision}
 use Rattle.joint_prover.specs.declared.decision.Decision.TheVariants as decision
 use Rattle.joint_prover.specs.declared.decision.Outcome.{Outcome}
+use Rattle.joint_prover.specs.declared.decision.Plainly.{Plainly}
+use Rattle.joint_prover.specs.declared.decision.Plainly.TheVariants as plainly
 use Rattle.joint_prover.specs.declared.ended.Ended.{Ended}
 use Rattle.joint_prover.specs.declared.decision.Outcome.TheVariants.{Decided, Passed}
 use Rattle.joint_prover.specs.declared.note.Note.{Note}
@@ -52,8 +55,8 @@ use Rattle.joint_prover.specs.Decisions.{IsDecision}
 use Rattle.joint_prover.specs.Notes.{IsFound}
 use Rattle.joint_prover.specs.Pairs.{IsPairOver}
 use Rattle.joint_prover.specs.Replacements.{IsAllowed, IsVersion, Takes, extended_by}
-use Rattle.joint_prover.specs.Tries.{EndsWithinBy}
-use Rattle.joint_prover.specs.Verdicts.{IsWrong}
+use Rattle.joint_prover.specs.Tries.{AreTried, EndsWithinBy, IsWithinBudget}
+use Rattle.joint_prover.specs.Verdicts.{IsFirstAbove, IsWrong}
 
 -- ---- the graphs that plans run over
 
@@ -76,18 +79,14 @@ pub record IsShown (g : Aig) (task : Task) (s : Shown) : Type 0 where
   pub few : length s.log.now ≤ 2 * (task.conflicts + 2 * length g.outputs)
   pub none : replacement_named s ≡ None → s.log.now ≡ []
 
--- The operands are those that their claim names in the graph, which has no fault and is of a size for it; that is what is asked; the version
--- of certificates is one; the graph is shown, alone and with the adder that is used; and numbers on which an adder differs are in range.
+-- The operands are those that their claim names in the graph, which has no fault and is of a size for it; that is what is asked; and the
+-- version of certificates is one.
 pub record IsJob (job : Job) : Type 0 where
   pub operands : AreOperandsOf job.graph.now job.operands.now
   pub sized : IsSizedAs (profile_of job.operands.now.claim.widths) job.graph.now
   pub claim : job.operands.now.claim ≡ job.task.claim
   pub well_formed : IsWellFormed job.graph.now
   pub version : IsVersion job.task.version
-  pub alone : IsShown job.graph.now job.task job.alone
-  pub lone : replacement_named job.alone ≡ None
-  pub used : IsShown job.graph.now job.task job.used
-  pub differing : IfSome job.differing (AreInRange job.operands.now)
 
 -- what is in use: what was found, or the adder that is used
 abbrev pub replacement_of_found : Option Replacement → Option Replacement → Option Replacement
@@ -155,6 +154,15 @@ Decides g task r d = IsWrongAs g task.claim d
 abbrev pub IsEnd : Aig → Task → Option Replacement → Decision → Type 0
 IsEnd g task r d = EndsWithinBy g task.claim task.budget r × Decides g task r d
 
+-- with whatever is in use, where plans were tried and passed the budget
+abbrev pub DecidesAtLast : Aig → Task → List Tried → Decision → Type 0
+DecidesAtLast g task tried d = (used : Option Replacement) → AreTried g task.claim task.budget used tried → IsDecision g task used d
+
+-- what the plain plan comes to over the graph alone
+abbrev pub IsPlainEnd : Aig → Task → Plainly → Type 0
+IsPlainEnd g task (plainly.Decided d) = IsWithinBudget g task.claim task.budget × Decides g task None d
+IsPlainEnd g task (plainly.Passed step size) = IsFirstAbove g task.claim task.budget step size
+
 -- what a plan comes to; of a slice plan it is known where it passed its budget
 abbrev pub IsOutcome : Aig → Task → Option Replacement → Order → ℕ → Outcome → Type 0
 IsOutcome g task r order budget (Decided d) = IsEnd g task r d
@@ -190,11 +198,15 @@ pub record IsEndedOver (job : Job) (r : Option Replacement) (e : Ended) : Type 0
   pub found : e.found ≡ None
   pub measured : IsMeasured (lengths_of job.limits) e
 
--- Plans have decided this, with the adder in use or what was found.
-pub record IsEndedFor (job : Job) (e : Ended) : Type 0 where
-  pub decision : IsDecision job.graph.now job.task (replacement_of_found (replacement_named job.used) e.found) e.decision
+-- Plans have decided this, with what is in use or what was found.
+pub record IsEndedFor (job : Job) (used : Option Replacement) (e : Ended) : Type 0 where
+  pub decision : IsDecision job.graph.now job.task (replacement_of_found used e.found) e.decision
   pub found : IfSome e.found (IsFound job.graph.now)
   pub measured : IsMeasured (lengths_of job.limits) e
+
+-- with what was found, whatever is in use
+abbrev pub IsEndedWithFound : Job → Ended → Type 0
+IsEndedWithFound job e = (used : Option Replacement) → IsEndedFor job used e
 
 -- the same over the graph with what was found
 abbrev pub over_replacement : Replacement → Ended → Ended
@@ -216,6 +228,25 @@ first_short None later = later
 first_short (Some first) later = Some (shorter first later)
 
 -- ---- what is told
+
+-- Of a pair: it is written, and it is told whether a file is too long; or writing it stops.
+abbrev pub IsToldPair : Lengths → Files → View → View → Pair → Verdict → Type 0
+IsToldPair lengths files before after p v =
+    ((long : Option Slot) × (v ≡ verdict.Proved long) × WritesPair files (clauses_text p) (algebra_text p) before after ×
+    IsFirstTooLong lengths (clauses_text p) (algebra_text p) long) ⊎
+    ((v ≡ verdict.Stopped stop.WriteFault) × Rose before.write_faults after.write_faults ×
+    StopsWriting files (λ text. text ≡ clauses_text p) (λ beside text. text ≡ algebra_text p) before after)
+
+-- Of a decision: that of its pair; or nothing is done to the files.
+abbrev pub IsToldAs : Lengths → Files → View → View → Decision → Verdict → Type 0
+IsToldAs lengths files before after (decision.Proved p) v = IsToldPair lengths files before after p v
+IsToldAs lengths files before after (decision.Wrong d) v = (v ≡ verdict.Wrong d) × (after ≡ before)
+IsToldAs lengths files before after (decision.Undecided tried step size seen) v = (v ≡ verdict.Undecided tried step size seen) × (after ≡ before)
+
+-- with each verdict but a stop
+abbrev pub note_beside : Verdict → Note → Option Note
+note_beside (verdict.Stopped why) n = None
+note_beside v n = Some n
 
 -- Of a decision with its note: a pair is written, of which it is told whether a file is too long, or writing it stops; else nothing is done
 -- to the files.

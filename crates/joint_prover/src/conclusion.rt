@@ -5,11 +5,12 @@ ghost use Rattle.std.specs.List.{All};
 ghost use Rattle.clause_core.specs.Clause.{IsClause};
 ghost use Rattle.clause_core.specs.ClauseLines.{clause_in};
 ghost use Rattle.ripple_graft.specs.Blocks.{block_of};
-ghost use Rattle.joint_prover.specs.Endings.{AreLeast, Decides, IsJob, IsProof, IsShown, IsWrongAs, lent, replacement_named};
+ghost use Rattle.joint_prover.specs.Endings.{AreLeast, Decides, IsJob, IsProof, IsShown, lent, replacement_named};
 ghost use Rattle.joint_prover.specs.Replacements.{header_of, version_for};
+ghost use Rattle.joint_prover.specs.Verdicts.{IsWrong};
 
 use crate::decision::Decision;
-use crate::difference::value_on;
+use crate::difference::{Difference, value_on};
 use crate::replacement::Lent;
 use crate::shown::Shown;
 use crate::task::Job;
@@ -134,11 +135,11 @@ fn copy_of(alloc: Global, line: &Line) -> Result<Line, Memory>
 }
 
 /// The graph differs at these numbers and at none before them.
-pub(crate) fn refute(alloc: Global, job: &Job<'_>, numbers: Numbers) -> Result<Decision, Memory>
+pub(crate) fn refute(alloc: Global, job: &Job<'_>, numbers: Numbers) -> Result<Difference, Memory>
     requires job { IsJob job.now }
     requires least { AreLeast job.now.graph.now job.now.operands.now numbers }
-    ensures { IfOk result (IsWrongAs job.now.graph.now job.now.task.claim) }
+    ensures { IfOk result (IsWrong job.now.graph.now job.now.task.claim) }
 {
     let difference = value_on(alloc, job, numbers)?;
-    Ok(Decision::Wrong(difference))
+    Ok(difference)
 }

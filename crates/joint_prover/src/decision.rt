@@ -19,6 +19,14 @@ pub enum Decision {
     },
 }
 
+/// What the plain plan comes to.
+#[derive(Drop)]
+pub(crate) enum Plainly {
+    Decided(Decision),
+    /// The first frontier above the budget, and how many monomials that has.
+    Passed { step: u64, size: u64 },
+}
+
 /// What one plan comes to.
 #[derive(Drop)]
 pub(crate) enum Outcome<'a> {

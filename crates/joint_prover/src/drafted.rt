@@ -17,10 +17,10 @@ use std::alloc::Global;
 
 /// What lines decide that are drafted along the plan of this order, by implications, with this budget. None where the
 /// drafts give none, or where what they leave isn't over inputs alone.
-pub(crate) fn decide_by_drafts<'a>(
+pub(crate) fn decide_by_drafts(
     alloc: Global,
-    job: &Job<'a>,
-    shown: Shown<'a>,
+    job: &Job<'_>,
+    shown: Shown<'_>,
     order: Order,
     budget: u64,
 ) -> Result<Option<Decision>, Memory>
@@ -38,10 +38,10 @@ pub(crate) fn decide_by_drafts<'a>(
 }
 
 /// What lines decide that are written from drafts, whatever plan they are along.
-pub(crate) fn decide_by_lines<'a>(
+pub(crate) fn decide_by_lines(
     alloc: Global,
-    job: &Job<'a>,
-    shown: Shown<'a>,
+    job: &Job<'_>,
+    shown: Shown<'_>,
     plan: &Plan<'_>,
     drafts: &[Draft],
 ) -> Result<Option<Decision>, Memory>

@@ -1,9 +1,11 @@
 // What plans that ended decide, and whether a checker takes the pair that they come to.
 ghost use Rattle.std.specs.Prelude.{◌≡◌, true, false, None};
 ghost use Rattle.mv_text.specs.LineReading.{lengths_of};
+ghost use Rattle.joint_prover.specs.declared.decision.Decision.TheVariants.{Wrong};
 ghost use Rattle.joint_prover.specs.Endings.{HasWritable, IsMeasured, IsShort, first_short, is_settled, over_replacement, shorter};
 
 use crate::decision::Decision;
+use crate::difference::Difference;
 use crate::replacement::Replacement;
 use mv_desk::Limits;
 use pair_limits::first_too_long;
@@ -31,6 +33,19 @@ impl Ended {
             decision,
             found: None,
             is_long,
+        }
+    }
+
+    /// That the graph is wrong.
+    pub(crate) fn wrong(difference: Difference) -> Ended
+        ensures decision { result.decision ≡ Wrong difference }
+        ensures found { result.found ≡ None }
+        ensures short { result.is_long ≡ false }
+    {
+        Ended {
+            decision: Decision::Wrong(difference),
+            found: None,
+            is_long: false,
         }
     }
 

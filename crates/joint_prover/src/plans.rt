@@ -1,5 +1,5 @@
 // The order of plans: what is tried over which graph, with which budget, until one decides.
-ghost use Rattle.std.specs.Prelude.{◌≡◌, ◌≤◌, ◌++◌, ◌∷◌, [], Some, IfOk, IfSome, IsNone, option_map};
+ghost use Rattle.std.specs.Prelude.{◌≡◌, ◌≤◌, ◌++◌, ◌∷◌, [], None, Some, IfOk, IfSome, IsNone, option_map};
 ghost use Rattle.frontier_core.specs.LastFrontier.{AgreeEverywhere};
 ghost use Rattle.graph_core.specs.Graph.Operands.{AreInRange};
 ghost use Rattle.stage_rewriter.specs.Placing.{IsShownBeside};
@@ -7,18 +7,20 @@ ghost use Rattle.stage_rewriter.specs.Rewriting.{IsShownRewriting};
 ghost use Rattle.joint_prover.specs.declared.replacement.Replacement.TheVariants.{Adder, Beside};
 ghost use Rattle.joint_prover.specs.declared.verdict.Tried.{Tried as TriedPlan};
 ghost use Rattle.joint_prover.specs.Decisions.{IsDecision};
-ghost use Rattle.joint_prover.specs.Endings.{AreLeast, Decides, IsEnd, IsEndedFor, IsEndedOver, IsJob, IsShown, replacement_named, replacement_of_found, over_replacement};
+ghost use Rattle.joint_prover.specs.Endings.{AreLeast, Decides, DecidesAtLast, IsEnd, IsEndedFor, IsEndedOver, IsEndedWithFound, IsJob, IsShown, replacement_named, replacement_of_found, over_replacement};
 ghost use Rattle.joint_prover.specs.Notes.{IsFound};
-ghost use Rattle.joint_prover.specs.Tries.{IsTried};
-ghost use Rattle.joint_prover.specs.Verdicts.{HaveManyOnes};
+ghost use Rattle.joint_prover.specs.Tries.{AreTried, IsTried};
+ghost use Rattle.joint_prover.specs.Verdicts.{HaveManyOnes, IsFirstAbove, IsWrong};
 
 use crate::conclusion::refute;
-use crate::decision::{Decision, Outcome};
+use crate::decision::{Decision, Outcome, Plainly};
+use crate::difference::Difference;
 use crate::drafted::decide_by_drafts;
 use crate::ended::{Ended, first_short, is_settled};
 use crate::reduction::{frontier_after, reduce_along, reduce_plainly};
 use crate::reference::{Compared, compare};
 use crate::replacement::Replacement;
+use crate::seen::see;
 use crate::shortened::shortened;
 use crate::shown::{Found, Shown, find_cut};
 use crate::task::Job;
@@ -79,20 +81,28 @@ const MORE: u64 = 1 << 29;
 // What it may cost where the graph is known to be wrong, and no plan tells where: at 64 bits, those with four ones.
 const LATE: u64 = 1 << 35;
 
-/// What the plans decide, and what was found where a plan over the graph with it decided that. A pair that is past the
-/// limits is taken only where no plan with a small budget comes to one that isn't; then none with the whole budget is
-/// tried.
+/// What the plans decide over the graph alone and over the graph that is in use, and what was found where a plan over
+/// the graph with it decided that. Numbers are known, perhaps, on which an adder's outputs aren't the graph's. A pair
+/// that is past the limits is taken only where no plan with a small budget comes to one that isn't; then none with the
+/// whole budget is tried.
 pub(crate) fn decide_by_plans(
     alloc: Global,
     job: &Job<'_>,
+    alone: Shown<'_>,
+    used: Shown<'_>,
+    differing: Option<Numbers>,
 ) -> Result<(Decision, Option<Replacement>), Memory>
-    requires { IsJob job.now }
+    requires job { IsJob job.now }
+    requires alone { IsShown job.now.graph.now job.now.task alone }
+    requires lone { replacement_named alone ≡ None }
+    requires used { IsShown job.now.graph.now job.now.task used }
+    requires differing { IfSome differing (AreInRange job.now.operands.now) }
     ensures found { IfOk result (λ r. IfSome r.1 (IsFound job.now.graph.now)) }
     ensures decision { IfOk result (λ r. IsDecision job.now.graph.now job.now.task
-        (replacement_of_found (replacement_named job.now.used) r.1) r.0) }
+        (replacement_of_found (replacement_named used.entry) r.1) r.0) }
 {
-    let mut differing = job.differing;
-    if let Some(ended) = decide_early(alloc, job, &mut differing)? {
+    let mut differing = differing;
+    if let Some(ended) = decide_early(alloc, job, used, &mut differing)? {
         let Ended {
             decision,
             found,
@@ -100,8 +110,7 @@ pub(crate) fn decide_by_plans(
         } = ended;
         return Ok((decision, found));
     }
-    let job = Job { differing, ..*job };
-    let decision = decide_at_last(alloc, &job)?;
+    let decision = decide_at_last(alloc, job, alone, used, differing)?;
     Ok((decision, None))
 }
 
@@ -110,18 +119,20 @@ pub(crate) fn decide_by_plans(
 fn decide_early(
     alloc: Global,
     job: &Job<'_>,
+    used: Shown<'_>,
     differing: &mut Option<Numbers>,
 ) -> Result<Option<Ended>, Memory>
     requires job { IsJob job.now }
+    requires used { IsShown job.now.graph.now job.now.task used }
     requires differing { IfSome differing.old (AreInRange job.now.operands.now) }
-    ensures ended { IfOk result (λ e. IfSome e (IsEndedFor job.now)) }
+    ensures ended { IfOk result (λ e. IfSome e (IsEndedFor job.now (replacement_named used.entry))) }
     ensures differing { IfSome differing.new (AreInRange job.now.operands.now) }
 {
-    let soon = decide_soon(alloc, job)?;
+    let soon = decide_soon(alloc, job, used)?;
     if is_settled(&soon) {
         return Ok(soon);
     }
-    let later = decide_by_values(alloc, job, soon.is_none(), differing)?;
+    let later = decide_by_values(alloc, job, used, soon.is_none(), differing)?;
     Ok(first_short(soon, later))
 }
 
@@ -130,29 +141,32 @@ fn decide_early(
 fn decide_by_values(
     alloc: Global,
     job: &Job<'_>,
+    used: Shown<'_>,
     is_open: bool,
     differing: &mut Option<Numbers>,
 ) -> Result<Option<Ended>, Memory>
     requires job { IsJob job.now }
+    requires used { IsShown job.now.graph.now job.now.task used }
     requires differing { IfSome differing.old (AreInRange job.now.operands.now) }
-    ensures ended { IfOk result (λ e. IfSome e (IsEndedFor job.now)) }
+    ensures ended { IfOk result (λ e. IfSome e (IsEndedFor job.now (replacement_named used.entry))) }
     ensures differing { IfSome differing.new (AreInRange job.now.operands.now) }
 {
-    let (before, between) = drafted(job);
-    let first = decide_over(alloc, job, job.used, before)?;
+    let (before, between) = drafted(job, used.by.is_some());
+    let first = decide_over(alloc, job, used, before)?;
     if is_settled(&first) {
         return Ok(first);
     }
-    let later = decide_after(alloc, job, between, is_open && first.is_none(), differing)?;
+    let is_open = is_open && first.is_none();
+    let later = decide_after(alloc, job, used, between, is_open, differing)?;
     Ok(first_short(first, later))
 }
 
 // The plans whose lines are drafted over the graph of the first plan: those before an adder by values, and those after
 // it. Where an adder is used already, and the product isn't all that is claimed, another adder is in the way.
-fn drafted(job: &Job<'_>) -> (&'static [Try], &'static [Try]) {
+fn drafted(job: &Job<'_>, is_used: bool) -> (&'static [Try], &'static [Try]) {
     let claim = job.task.claim;
     let is_product = !claim.widths.has_addend() && matches!(claim.sign, Sign::Unsigned);
-    if job.used.by.is_some() && !is_product {
+    if is_used && !is_product {
         (&DRAFTED, &[])
     } else {
         (&[], &DRAFTED)
@@ -163,18 +177,20 @@ fn drafted(job: &Job<'_>) -> (&'static [Try], &'static [Try]) {
 fn decide_after(
     alloc: Global,
     job: &Job<'_>,
+    used: Shown<'_>,
     between: &[Try],
     is_open: bool,
     differing: &mut Option<Numbers>,
 ) -> Result<Option<Ended>, Memory>
     requires job { IsJob job.now }
+    requires used { IsShown job.now.graph.now job.now.task used }
     requires differing { IfSome differing.old (AreInRange job.now.operands.now) }
-    ensures ended { IfOk result (λ e. IfSome e (IsEndedFor job.now)) }
+    ensures ended { IfOk result (λ e. IfSome e (IsEndedFor job.now (replacement_named used.entry))) }
     ensures differing { IfSome differing.new (AreInRange job.now.operands.now) }
 {
     match find_cut(alloc, job.graph, job.operands, job.task.conflicts)? {
-        Some(found) => decide_with(alloc, job, found, between, is_open, differing),
-        None => decide_further(alloc, job, between, differing),
+        Some(found) => decide_with(alloc, job, used, found, between, is_open, differing),
+        None => decide_further(alloc, job, used, between, differing),
     }
 }
 
@@ -182,15 +198,17 @@ fn decide_after(
 fn decide_further(
     alloc: Global,
     job: &Job<'_>,
+    used: Shown<'_>,
     between: &[Try],
     differing: &mut Option<Numbers>,
 ) -> Result<Option<Ended>, Memory>
     requires job { IsJob job.now }
+    requires used { IsShown job.now.graph.now job.now.task used }
     requires differing { IfSome differing.old (AreInRange job.now.operands.now) }
-    ensures ended { IfOk result (λ e. IfSome e (IsEndedFor job.now)) }
+    ensures ended { IfOk result (λ e. IfSome e (IsEndedFor job.now (replacement_named used.entry))) }
     ensures differing { IfSome differing.new (AreInRange job.now.operands.now) }
 {
-    let first = decide_over(alloc, job, job.used, between)?;
+    let first = decide_over(alloc, job, used, between)?;
     if is_settled(&first) {
         return Ok(first);
     }
@@ -206,7 +224,7 @@ fn decide_beside(
 ) -> Result<Option<Ended>, Memory>
     requires job { IsJob job.now }
     requires differing { IfSome differing.old (AreInRange job.now.operands.now) }
-    ensures ended { IfOk result (λ e. IfSome e (IsEndedFor job.now)) }
+    ensures ended { IfOk result (λ e. IfSome e (IsEndedWithFound job.now)) }
     ensures differing { IfSome differing.new (AreInRange job.now.operands.now) }
 {
     if job.task.version != 3 {
@@ -232,7 +250,7 @@ fn decide_by_guesses(
     requires job { IsJob job.now }
     requires version { job.now.task.version ≡ 3 }
     requires wrong { IfSome wrong.old (AreInRange job.now.operands.now) }
-    ensures ended { IfOk result (λ e. IfSome e (IsEndedFor job.now)) }
+    ensures ended { IfOk result (λ e. IfSome e (IsEndedWithFound job.now)) }
     ensures wrong { IfSome wrong.new (AreInRange job.now.operands.now) }
 {
     let mut first = None;
@@ -260,7 +278,7 @@ fn decide_by_guess(
     requires version { job.now.task.version ≡ 3 }
     requires few { conflicts ≤ job.now.task.conflicts }
     requires wrong { IfSome wrong.old (AreInRange job.now.operands.now) }
-    ensures ended { IfOk result (λ e. IfSome e (IsEndedFor job.now)) }
+    ensures ended { IfOk result (λ e. IfSome e (IsEndedWithFound job.now)) }
     ensures wrong { IfSome wrong.new (AreInRange job.now.operands.now) }
 {
     match compare(alloc, job, guesses, conflicts)? {
@@ -274,26 +292,26 @@ fn decide_by_guess(
 }
 
 // What plans decide over the graph with what is placed beside it.
-fn decide_with_reference<'a>(
+fn decide_with_reference(
     alloc: Global,
-    job: &Job<'a>,
-    placed: Placed<'a>,
+    job: &Job<'_>,
+    placed: Placed<'_>,
 ) -> Result<Option<Ended>, Memory>
     requires job { IsJob job.now }
     requires version { job.now.task.version ≡ 3 }
     requires shown { IsShownBeside job.now.graph.now job.now.task.conflicts placed }
     requires agree { AgreeEverywhere placed.extended }
-    ensures { IfOk result (λ e. IfSome e (IsEndedFor job.now)) }
+    ensures { IfOk result (λ e. IfSome e (IsEndedWithFound job.now)) }
 {
     let ended = decide_over_placed(alloc, job, &placed)?;
     Ok(with_beside(ended, placed))
 }
 
 // What the first of the plans over it decides that keeps to its budget.
-fn decide_over_placed<'a>(
+fn decide_over_placed(
     alloc: Global,
-    job: &Job<'a>,
-    placed: &Placed<'a>,
+    job: &Job<'_>,
+    placed: &Placed<'_>,
 ) -> Result<Option<Ended>, Memory>
     requires job { IsJob job.now }
     requires version { job.now.task.version ≡ 3 }
@@ -302,8 +320,7 @@ fn decide_over_placed<'a>(
     ensures { IfOk result (λ e. IfSome e (IsEndedOver job.now (Some (Beside placed.now.beside)))) }
 {
     let shown = Shown::with_beside(placed);
-    // the job is lent again, since what is placed lives shorter
-    decide_over(alloc, &*job, shown, &BESIDE)
+    decide_over(alloc, job, shown, &BESIDE)
 }
 
 // What plans over it have decided, with it.
@@ -318,39 +335,112 @@ fn with_beside(ended: Option<Ended>, placed: Placed<'_>) -> Option<Ended>
 }
 
 // What plans decide over the graph with the adder that was found, before and after some over other graphs.
-fn decide_with<'a>(
+fn decide_with(
     alloc: Global,
-    job: &Job<'a>,
-    found: Found<'a>,
+    job: &Job<'_>,
+    used: Shown<'_>,
+    found: Found<'_>,
     between: &[Try],
     is_open: bool,
     differing: &mut Option<Numbers>,
 ) -> Result<Option<Ended>, Memory>
     requires job { IsJob job.now }
+    requires used { IsShown job.now.graph.now job.now.task used }
     requires differing { IfSome differing.old (AreInRange job.now.operands.now) }
     requires shown { IsShownRewriting job.now.graph.now job.now.task.conflicts
         found.cut found.extended found.log.lines }
     requires agree { AgreeEverywhere found.extended }
-    ensures ended { IfOk result (λ e. IfSome e (IsEndedFor job.now)) }
+    ensures ended { IfOk result (λ e. IfSome e (IsEndedFor job.now (replacement_named used.entry))) }
     ensures differing { IfSome differing.new (AreInRange job.now.operands.now) }
 {
-    let first = decide_over_found(alloc, job, &found, &FOUND)?;
-    if is_settled(&first) {
-        return Ok(with_cut(first, found));
+    let (over, beyond) = decide_around(alloc, job, used, &found, between, is_open, differing)?;
+    Ok(first_short(with_cut(over, found), beyond))
+}
+
+// What they decide over the graph with the adder, and what others decide beyond it, where the first isn't settled.
+fn decide_around(
+    alloc: Global,
+    job: &Job<'_>,
+    used: Shown<'_>,
+    found: &Found<'_>,
+    between: &[Try],
+    is_open: bool,
+    differing: &mut Option<Numbers>,
+) -> Result<(Option<Ended>, Option<Ended>), Memory>
+    requires job { IsJob job.now }
+    requires used { IsShown job.now.graph.now job.now.task used }
+    requires differing { IfSome differing.old (AreInRange job.now.operands.now) }
+    requires shown { IsShownRewriting job.now.graph.now job.now.task.conflicts
+        found.now.cut found.now.extended found.now.log.lines }
+    requires agree { AgreeEverywhere found.now.extended }
+    ensures over { IfOk result (λ r. IfSome r.0 (IsEndedOver job.now (Some (Adder found.now.cut)))) }
+    ensures beyond { IfOk result (λ r. IfSome r.1 (IsEndedFor job.now (replacement_named used.entry))) }
+    ensures differing { IfSome differing.new (AreInRange job.now.operands.now) }
+{
+    let over = decide_over_found(alloc, job, found, &FOUND)?;
+    if is_settled(&over) {
+        return Ok((over, None));
     }
-    let second = decide_further(alloc, job, between, differing)?;
-    if is_open && first.is_none() && second.is_none() {
-        let last = decide_over_found(alloc, job, &found, &FOUND_AT_LAST)?;
-        return Ok(with_cut(last, found));
+    let is_open = is_open && over.is_none();
+    let (last, beyond) = decide_beyond(alloc, job, used, found, between, is_open, differing)?;
+    Ok((first_short(over, last), beyond))
+}
+
+// What plans decide over other graphs; and over the graph with the adder at last, where that is open and they decide
+// nothing.
+fn decide_beyond(
+    alloc: Global,
+    job: &Job<'_>,
+    used: Shown<'_>,
+    found: &Found<'_>,
+    between: &[Try],
+    is_open: bool,
+    differing: &mut Option<Numbers>,
+) -> Result<(Option<Ended>, Option<Ended>), Memory>
+    requires job { IsJob job.now }
+    requires used { IsShown job.now.graph.now job.now.task used }
+    requires differing { IfSome differing.old (AreInRange job.now.operands.now) }
+    requires shown { IsShownRewriting job.now.graph.now job.now.task.conflicts
+        found.now.cut found.now.extended found.now.log.lines }
+    requires agree { AgreeEverywhere found.now.extended }
+    ensures over { IfOk result (λ r. IfSome r.0 (IsEndedOver job.now (Some (Adder found.now.cut)))) }
+    ensures beyond { IfOk result (λ r. IfSome r.1 (IsEndedFor job.now (replacement_named used.entry))) }
+    ensures differing { IfSome differing.new (AreInRange job.now.operands.now) }
+{
+    match decide_further(alloc, job, used, between, differing)? {
+        Some(beyond) => Ok((None, Some(beyond))),
+        None => {
+            let last = decide_at_end(alloc, job, found, is_open)?;
+            Ok((last, None))
+        }
     }
-    Ok(first_short(with_cut(first, found), second))
+}
+
+// What is decided with the whole budget over the graph with the adder, where that is open.
+fn decide_at_end(
+    alloc: Global,
+    job: &Job<'_>,
+    found: &Found<'_>,
+    is_open: bool,
+) -> Result<Option<Ended>, Memory>
+    requires job { IsJob job.now }
+    requires shown { IsShownRewriting job.now.graph.now job.now.task.conflicts
+        found.now.cut found.now.extended found.now.log.lines }
+    requires agree { AgreeEverywhere found.now.extended }
+    ensures { IfOk result (λ e. IfSome e (IsEndedOver job.now (Some (Adder found.now.cut)))) }
+{
+    if is_open {
+        decide_over_found(alloc, job, found, &FOUND_AT_LAST)
+    } else {
+        Ok(None)
+    }
 }
 
 // What the first of these plans over the graph with an adder decides that keeps to its budget.
-fn decide_over_found<'a>(
+fn decide_over_found(
     alloc: Global,
-    job: &Job<'a>,
-    found: &Found<'a>,
+    job: &Job<'_>,
+    found: &Found<'_>,
     plans: &[Try],
 ) -> Result<Option<Ended>, Memory>
     requires job { IsJob job.now }
@@ -360,8 +450,7 @@ fn decide_over_found<'a>(
     ensures { IfOk result (λ e. IfSome e (IsEndedOver job.now (Some (Adder found.now.cut)))) }
 {
     let shown = Shown::with_adder(&found.cut, &found.extended, &found.log);
-    // the job is lent again, since what was found lives shorter
-    decide_over(alloc, &*job, shown, plans)
+    decide_over(alloc, job, shown, plans)
 }
 
 // What plans over the graph with an adder that was found have decided, with its cut.
@@ -376,61 +465,95 @@ fn with_cut(ended: Option<Ended>, found: Found<'_>) -> Option<Ended>
 }
 
 // Before a plan has more than the small budget: most graphs are decided here.
-fn decide_soon(alloc: Global, job: &Job<'_>) -> Result<Option<Ended>, Memory>
-    requires { IsJob job.now }
-    ensures { IfOk result (λ e. IfSome e (IsEndedFor job.now)) }
+fn decide_soon(alloc: Global, job: &Job<'_>, used: Shown<'_>) -> Result<Option<Ended>, Memory>
+    requires job { IsJob job.now }
+    requires used { IsShown job.now.graph.now job.now.task used }
+    ensures { IfOk result (λ e. IfSome e (IsEndedFor job.now (replacement_named used.entry))) }
 {
-    if let Some(decision) = seen_wrong(alloc, job)? {
-        return Ok(Some(Ended::of(decision, &job.limits)));
+    if let Some(wrong) = seen_wrong(alloc, job)? {
+        return Ok(Some(Ended::wrong(wrong)));
     }
-    let soon = decide_over(alloc, job, job.used, &SOON)?;
-    if soon.is_some() {
-        return Ok(soon);
+    match decide_over(alloc, job, used, &SOON)? {
+        Some(soon) => Ok(Some(soon)),
+        None => decide_on_few(alloc, job),
     }
+}
+
+// That a graph is wrong, if it is on values of its inputs with few ones.
+fn decide_on_few(alloc: Global, job: &Job<'_>) -> Result<Option<Ended>, Memory>
+    requires { IsJob job.now }
+    ensures { IfOk result (λ e. IfSome e (IsEndedWithFound job.now)) }
+{
     match wrong_on_few(alloc, job, FEW)? {
-        Some(decision) => Ok(Some(Ended::of(decision, &job.limits))),
+        Some(wrong) => Ok(Some(Ended::wrong(wrong))),
         None => Ok(None),
     }
 }
 
 // With the whole budget, where values of the inputs with few ones don't show that the graph is wrong, the slice plan
 // over the graph with the adder that is used, if any, the slice plan over the graph alone, and the plain plan.
-fn decide_at_last(alloc: Global, job: &Job<'_>) -> Result<Decision, Memory>
-    requires { IsJob job.now }
-    ensures { IfOk result (IsDecision job.now.graph.now job.now.task (replacement_named job.now.used)) }
+fn decide_at_last(
+    alloc: Global,
+    job: &Job<'_>,
+    alone: Shown<'_>,
+    used: Shown<'_>,
+    differing: Option<Numbers>,
+) -> Result<Decision, Memory>
+    requires job { IsJob job.now }
+    requires alone { IsShown job.now.graph.now job.now.task alone }
+    requires lone { replacement_named alone ≡ None }
+    requires used { IsShown job.now.graph.now job.now.task used }
+    requires differing { IfSome differing (AreInRange job.now.operands.now) }
+    ensures { IfOk result (IsDecision job.now.graph.now job.now.task (replacement_named used.entry)) }
 {
-    if let Some(decision) = wrong_on_few(alloc, job, MORE)? {
-        return Ok(decision);
+    if let Some(wrong) = wrong_on_few(alloc, job, MORE)? {
+        return Ok(Decision::Wrong(wrong));
     }
     let mut tried = Vec::new(alloc);
-    if let Some(decision) = try_whole(alloc, job, job.used, &mut tried)? {
+    if let Some(decision) = try_slices(alloc, job, alone, used, &mut tried)? {
         return Ok(decision);
     }
-    if job.used.by.is_some() {
-        if let Some(decision) = try_whole(alloc, job, job.alone, &mut tried)? {
-            return Ok(decision);
-        }
+    match reduce_plainly(alloc, job, alone)? {
+        Plainly::Decided(decision) => Ok(decision),
+        Plainly::Passed { step, size } => undecided(alloc, job, tried, step, size, differing),
     }
-    let decision = reduce_plainly(alloc, job, tried)?;
-    if is_seen(&decision) {
-        if let Some(wrong) = wrong_on_few(alloc, job, LATE)? {
-            return Ok(wrong);
-        }
-    }
-    Ok(decision)
 }
 
-// Whether all plans passed the budget, and the graph is known to be wrong.
-fn is_seen(decision: &Decision) -> bool {
-    matches!(decision, Decision::Undecided { seen: Some(_), .. })
+// That all plans passed the budget; or that the graph is wrong, if it is seen to be and values with few ones show where.
+fn undecided(
+    alloc: Global,
+    job: &Job<'_>,
+    tried: Vec<Tried>,
+    plain_step: u64,
+    plain_size: u64,
+    differing: Option<Numbers>,
+) -> Result<Decision, Memory>
+    requires job { IsJob job.now }
+    requires differing { IfSome differing (AreInRange job.now.operands.now) }
+    requires first { IsFirstAbove job.now.graph.now job.now.task.claim job.now.task.budget plain_step plain_size }
+    requires many { HaveManyOnes job.now.graph.now job.now.operands.now.claim }
+    ensures { IfOk result (DecidesAtLast job.now.graph.now job.now.task tried.items) }
+{
+    let seen = see(alloc, job, differing)?;
+    if seen.is_some() {
+        if let Some(wrong) = wrong_on_few(alloc, job, LATE)? {
+            return Ok(Decision::Wrong(wrong));
+        }
+    }
+    Ok(Decision::Undecided {
+        tried,
+        plain_step,
+        plain_size,
+        seen,
+    })
 }
 
 // What the first of these plans over an extended graph decides that keeps to its budget, and comes to no pair past the
 // limits; or else the first that keeps to its budget, with its long lines in several.
-fn decide_over<'a>(
+fn decide_over(
     alloc: Global,
-    job: &Job<'a>,
-    shown: Shown<'a>,
+    job: &Job<'_>,
+    shown: Shown<'_>,
     plans: &[Try],
 ) -> Result<Option<Ended>, Memory>
     requires job { IsJob job.now }
@@ -449,10 +572,10 @@ fn decide_over<'a>(
 }
 
 // The same, where a pair that is past the limits is written anew.
-fn with_short_lines<'a>(
+fn with_short_lines(
     alloc: Global,
-    job: &Job<'a>,
-    shown: Shown<'a>,
+    job: &Job<'_>,
+    shown: Shown<'_>,
     ended: Option<Ended>,
 ) -> Option<Ended>
     requires job { IsJob job.now }
@@ -470,10 +593,10 @@ fn with_short_lines<'a>(
 }
 
 // What one of them decides, if it keeps to its budget.
-fn decide_by<'a>(
+fn decide_by(
     alloc: Global,
-    job: &Job<'a>,
-    shown: Shown<'a>,
+    job: &Job<'_>,
+    shown: Shown<'_>,
     plan: Try,
 ) -> Result<Option<Ended>, Memory>
     requires job { IsJob job.now }
@@ -494,10 +617,10 @@ fn decide_by<'a>(
 }
 
 // What the plan of this order decides, where it keeps to the budget.
-fn decide_along<'a>(
+fn decide_along(
     alloc: Global,
-    job: &Job<'a>,
-    shown: Shown<'a>,
+    job: &Job<'_>,
+    shown: Shown<'_>,
     order: Order,
     budget: u64,
 ) -> Result<Option<Decision>, Memory>
@@ -513,11 +636,39 @@ fn decide_along<'a>(
     }
 }
 
-// The slice plan with the whole budget over an extended graph; where it passes that, it was tried.
-fn try_whole<'a>(
+// The slice plan with the whole budget over the graph with the adder that is used, if any, and then over the graph alone;
+// where they pass that, both were tried.
+fn try_slices(
     alloc: Global,
-    job: &Job<'a>,
-    shown: Shown<'a>,
+    job: &Job<'_>,
+    alone: Shown<'_>,
+    used: Shown<'_>,
+    tried: &mut Vec<Tried>,
+) -> Result<Option<Decision>, Memory>
+    requires job { IsJob job.now }
+    requires alone { IsShown job.now.graph.now job.now.task alone }
+    requires lone { replacement_named alone ≡ None }
+    requires used { IsShown job.now.graph.now job.now.task used }
+    requires empty { tried.old.items ≡ [] }
+    ensures some { IfOk result (λ d. IfSome d
+        (IsDecision job.now.graph.now job.now.task (replacement_named used.entry))) }
+    ensures none { IfOk result (λ d. IsNone d →
+        AreTried job.now.graph.now job.now.task.claim job.now.task.budget (replacement_named used.entry) tried.new.items) }
+{
+    if let Some(decision) = try_whole(alloc, job, used, tried)? {
+        return Ok(Some(decision));
+    }
+    if used.by.is_some() {
+        return try_whole(alloc, job, alone, tried);
+    }
+    Ok(None)
+}
+
+// The slice plan with the whole budget over an extended graph; where it passes that, it was tried.
+fn try_whole(
+    alloc: Global,
+    job: &Job<'_>,
+    shown: Shown<'_>,
     tried: &mut Vec<Tried>,
 ) -> Result<Option<Decision>, Memory>
     requires job { IsJob job.now }
@@ -545,10 +696,9 @@ fn small_budget(bits: u32) -> u64 {
 }
 
 // That a graph is wrong which some fixed values of its inputs show to be, if values with few ones do too.
-fn seen_wrong(alloc: Global, job: &Job<'_>) -> Result<Option<Decision>, Memory>
+fn seen_wrong(alloc: Global, job: &Job<'_>) -> Result<Option<Difference>, Memory>
     requires { IsJob job.now }
-    ensures { IfOk result (λ d. IfSome d
-        (IsDecision job.now.graph.now job.now.task (replacement_named job.now.used))) }
+    ensures { IfOk result (λ d. IfSome d (IsWrong job.now.graph.now job.now.task.claim)) }
 {
     let most = most_ones_within(job.graph, MORE);
     let numbers = least_seen(alloc, job.graph, job.operands, most)?;
@@ -557,10 +707,9 @@ fn seen_wrong(alloc: Global, job: &Job<'_>) -> Result<Option<Decision>, Memory>
 
 // That a graph is wrong, if it is on values of its inputs with at most two ones, or with as many more as some work is
 // enough for.
-fn wrong_on_few(alloc: Global, job: &Job<'_>, work: u64) -> Result<Option<Decision>, Memory>
+fn wrong_on_few(alloc: Global, job: &Job<'_>, work: u64) -> Result<Option<Difference>, Memory>
     requires { IsJob job.now }
-    ensures some { IfOk result (λ d. IfSome d
-        (IsDecision job.now.graph.now job.now.task (replacement_named job.now.used))) }
+    ensures some { IfOk result (λ d. IfSome d (IsWrong job.now.graph.now job.now.task.claim)) }
     ensures none { IfOk result (λ d. IsNone d → HaveManyOnes job.now.graph.now job.now.operands.now.claim) }
 {
     let most = most_ones_within(job.graph, work);
@@ -573,18 +722,14 @@ fn wrong_at(
     alloc: Global,
     job: &Job<'_>,
     numbers: Option<Numbers>,
-) -> Result<Option<Decision>, Memory>
+) -> Result<Option<Difference>, Memory>
     requires job { IsJob job.now }
     requires least { IfSome numbers (AreLeast job.now.graph.now job.now.operands.now) }
-    ensures some { IfOk result (λ d. IfSome d
-        (IsDecision job.now.graph.now job.now.task (replacement_named job.now.used))) }
+    ensures some { IfOk result (λ d. IfSome d (IsWrong job.now.graph.now job.now.task.claim)) }
     ensures none { IfOk result (λ d. IsNone d → IsNone numbers) }
 {
     match numbers {
-        Some(numbers) => {
-            let decision = refute(alloc, job, numbers)?;
-            Ok(Some(decision))
-        }
+        Some(numbers) => Ok(Some(refute(alloc, job, numbers)?)),
         None => Ok(None),
     }
 }

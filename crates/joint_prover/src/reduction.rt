@@ -1,17 +1,13 @@
 // Single plans: the columns are reduced in an order of elimination, and the remainder decides.
-ghost use Rattle.std.specs.Prelude.{◌≡◌, ◌≤◌, ◌++◌, ◌∷◌, [], IfOk, OnOk, length};
+ghost use Rattle.std.specs.Prelude.{◌≡◌, ◌≤◌, ◌++◌, ◌∷◌, [], IfOk, None, OnOk, length};
 ghost use Rattle.frontier_core.specs.Plan.{nothing, taken};
 ghost use Rattle.graph_core.specs.Graph.Operands.{sides_for};
 ghost use Rattle.pac_writer.specs.Writing.{Made};
-ghost use Rattle.joint_prover.specs.Decisions.{IsDecision};
-ghost use Rattle.joint_prover.specs.Endings.{Decides, IsJob, IsOutcome, IsRemainder, IsShown, IsStart, IsTriedAt, replacement_named};
+ghost use Rattle.joint_prover.specs.Endings.{Decides, IsJob, IsOutcome, IsPlainEnd, IsRemainder, IsShown, IsStart, IsTriedAt, replacement_named};
 ghost use Rattle.joint_prover.specs.Replacements.{extended_by};
-ghost use Rattle.joint_prover.specs.Tries.{AreTried};
-ghost use Rattle.joint_prover.specs.Verdicts.{HaveManyOnes};
 
 use crate::conclusion::{prove, refute};
-use crate::decision::{Decision, Outcome};
-use crate::seen::see;
+use crate::decision::{Decision, Outcome, Plainly};
 use crate::shortened::shortened;
 use crate::shown::Shown;
 use crate::task::Job;
@@ -28,7 +24,7 @@ use witness_finder::least;
 /// What the plan of this order comes to over an extended graph, with this budget.
 pub(crate) fn reduce_along<'a>(
     alloc: Global,
-    job: &Job<'a>,
+    job: &Job<'_>,
     shown: Shown<'a>,
     order: Order,
     budget: u64,
@@ -49,34 +45,25 @@ pub(crate) fn reduce_along<'a>(
     }
 }
 
-/// What the plain plan decides at last, over the graph alone.
+/// What the plain plan comes to over the graph alone.
 pub(crate) fn reduce_plainly(
     alloc: Global,
     job: &Job<'_>,
-    tried: Vec<Tried>,
-) -> Result<Decision, Memory>
+    alone: Shown<'_>,
+) -> Result<Plainly, Memory>
     requires job { IsJob job.now }
-    requires many { HaveManyOnes job.now.graph.now job.now.operands.now.claim }
-    requires tried { AreTried job.now.graph.now job.now.task.claim job.now.task.budget
-        (replacement_named job.now.used) tried.items }
-    ensures { IfOk result (IsDecision job.now.graph.now job.now.task (replacement_named job.now.used)) }
+    requires alone { IsShown job.now.graph.now job.now.task alone }
+    requires lone { replacement_named alone ≡ None }
+    ensures { IfOk result (IsPlainEnd job.now.graph.now job.now.task) }
 {
-    let mut lines = start_lines(alloc, job, job.alone)?;
-    let plan = plain_plan(alloc, job.alone.extended)?;
+    let mut lines = start_lines(alloc, job, alone)?;
+    let plan = plain_plan(alloc, alone.extended)?;
     match reduce(alloc, &plan, job.task.budget, &mut lines)? {
         Reduced::Rest { poly, id } => {
-            let decision = end_plan(alloc, job, job.alone, lines, &poly, id)?;
-            Ok(shortened(alloc, job, job.alone, decision))
+            let decision = end_plan(alloc, job, alone, lines, &poly, id)?;
+            Ok(Plainly::Decided(shortened(alloc, job, alone, decision)))
         }
-        Reduced::Passed { step, size } => {
-            let seen = see(alloc, job)?;
-            Ok(Decision::Undecided {
-                tried,
-                plain_step: step,
-                plain_size: size,
-                seen,
-            })
-        }
+        Reduced::Passed { step, size } => Ok(Plainly::Passed { step, size }),
     }
 }
 
@@ -113,7 +100,7 @@ pub(crate) fn end_plan(
 {
     let _last = lines.last();
     match least(lines.terms(), poly, lines.operands()) {
-        Some(numbers) => refute(alloc, job, numbers),
+        Some(numbers) => Ok(Decision::Wrong(refute(alloc, job, numbers)?)),
         None => {
             let mut lines = lines;
             lines.close(id);

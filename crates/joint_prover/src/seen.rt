@@ -10,15 +10,21 @@ use graph_core::{Memory, Numbers};
 use operand_search::some_seen;
 use std::alloc::Global;
 
-/// What is seen on a few hundred fixed numbers, or on those where an adder's outputs aren't the graph's.
-pub(crate) fn see(alloc: Global, job: &Job<'_>) -> Result<Option<Difference>, Memory>
-    requires { IsJob job.now }
+/// What is seen on a few hundred fixed numbers, or on those where an adder's outputs aren't the graph's, if some are
+/// known.
+pub(crate) fn see(
+    alloc: Global,
+    job: &Job<'_>,
+    differing: Option<Numbers>,
+) -> Result<Option<Difference>, Memory>
+    requires job { IsJob job.now }
+    requires differing { IfSome differing (AreInRange job.now.operands.now) }
     ensures { IfOk result (λ seen. IfSome seen (IsSeen job.now.graph.now job.now.task.claim)) }
 {
     if let Some(numbers) = some_seen(alloc, job.graph, job.operands)? {
         return seen_at(alloc, job, numbers);
     }
-    match job.differing {
+    match differing {
         Some(numbers) => seen_at(alloc, job, numbers),
         None => Ok(None),
     }

@@ -17,10 +17,10 @@ use std::alloc::Global;
 
 /// The same decision. A pair that is past the limits is written anew, with each long line as several, and the new one
 /// is taken where it isn't past them.
-pub(crate) fn shortened<'a>(
+pub(crate) fn shortened(
     alloc: Global,
-    job: &Job<'a>,
-    shown: Shown<'a>,
+    job: &Job<'_>,
+    shown: Shown<'_>,
     decision: Decision,
 ) -> Decision
     requires job { IsJob job.now }
@@ -36,10 +36,10 @@ pub(crate) fn shortened<'a>(
 }
 
 // The decision with a pair that is within the limits, where that in hand isn't, and that is found.
-fn written_anew<'a>(
+fn written_anew(
     alloc: Global,
-    job: &Job<'a>,
-    shown: Shown<'a>,
+    job: &Job<'_>,
+    shown: Shown<'_>,
     decision: &Decision,
 ) -> Result<Option<Decision>, Memory>
     requires job { IsJob job.now }
@@ -61,10 +61,10 @@ fn written_anew<'a>(
 }
 
 // What its lines decide where each long one is several.
-fn split<'a>(
+fn split(
     alloc: Global,
-    job: &Job<'a>,
-    shown: Shown<'a>,
+    job: &Job<'_>,
+    shown: Shown<'_>,
     decision: &Decision,
 ) -> Result<Option<Decision>, Memory>
     requires job { IsJob job.now }
@@ -79,10 +79,10 @@ fn split<'a>(
     }
 }
 
-fn split_pair<'a>(
+fn split_pair(
     alloc: Global,
-    job: &Job<'a>,
-    shown: Shown<'a>,
+    job: &Job<'_>,
+    shown: Shown<'_>,
     pair: &Pair,
 ) -> Result<Option<Decision>, Memory>
     requires job { IsJob job.now }

@@ -1,35 +1,31 @@
-use Rattle.std.proofs.Common.{◌++◌, ◌∷◌, [], rules, sym, ap, subst, ◌∙◌}
-use Rattle.std.specs.Prelude.{IfSome, IsNone}
-use Rattle.joint_prover.specs.Endings.{IsEnd, replacement_named}
-use Rattle.joint_prover.specs.Tries.{IsTried}
-use Rattle.joint_prover.proofs.Telling.{both_tried, later_decides, names_some, one_tried}
+use Rattle.std.proofs.Common.{rules, subst}
+use Rattle.std.proofs.lemmas.Result.{IfOk-weaker}
+use Rattle.std.specs.Prelude.{IsNone}
+use Rattle.joint_prover.specs.Decisions.{IsDecision}
+use Rattle.joint_prover.specs.Endings.{DecidesAtLast, IsPlainEnd, replacement_named}
+use Rattle.joint_prover.proofs.Telling.{plain_decides}
 use Rattle.joint_prover.proofs.plans.decide_at_last.Goals as goal
-use Rattle.joint_prover.proofs.plans.decide_at_last.Goals.{then-is_some+in_ok-decision-3+in_default-3, else-is_some}
 
-pub returns-in-Some-3 : goal.returns-in-Some-3
-returns-in-Some-3 c =
+pub returns-in-Decided : goal.returns-in-Decided
+returns-in-Decided c =
+    let job = c.args.job.now in
+    let none : IsNone c.in_ok-decision.field-0 = search rules in
+    let plain = subst (IsPlainEnd job.graph.now job.task) c.in-Decided.is c.in_ok-decision-2.ensures in
+    plain_decides job.graph.now job.task (replacement_named c.args.used) c.try_slices.new.tried.items c.in-Decided.decision (c.in_ok-decision.ensures.none none) plain.0 plain.1
+
+pub undecided-requires-clause-first : goal.undecided-requires-clause-first
+undecided-requires-clause-first c = subst (IsPlainEnd c.args.job.now.graph.now c.args.job.now.task) c.in-Passed.is c.in_ok-decision-2.ensures
+
+pub undecided-requires-clause-many : goal.undecided-requires-clause-many
+undecided-requires-clause-many c =
+    let none : IsNone c.in_ok-wrong.field-0 = search rules in
+    c.in_ok-wrong.ensures.none none
+
+pub returns-in-Passed : goal.returns-in-Passed
+returns-in-Passed c =
     let job = c.args.job.now in
     let g = job.graph.now in
-    let none : IsNone c.in_ok-decision-2.field-0 = search rules in
-    let first = c.in_ok-decision-2.ensures.none none in
-    let alone = subst (λ o. IfSome o (IsEnd g job.task (replacement_named job.alone))) c.in-Some-3.is c.in_ok-decision-3.ensures.some in
-    later_decides g job.task (replacement_named job.used) (replacement_named job.alone) first.0 c.in-Some-3.decision c.requires.lone first.2 alone
-
-pub reduce_plainly-requires-clause-tried : goal.reduce_plainly-requires-clause-tried
-reduce_plainly-requires-clause-tried c =
-    let job = c.args.job.now in
-    let g = job.graph.now in
-    let task = job.task in
-    let used = replacement_named job.used in
-    let none : IsNone c.in_ok-decision-2.field-0 = search rules in
-    let first = c.in_ok-decision-2.ensures.none none in
-    let one = first.1 ∙ ap (λ ts. ts ++ first.0 ∷ []) c.new-tried.ensures.items in
-    let named = sym (names_some job.used) ∙ sym c.is_some.ensures in
-    elim c.if-is_some.branch [
-      | then-is_some+in_ok-decision-3+in_default-3 w ↦
-          let none2 : IsNone w.in_ok-decision-3.field-0 = search rules in
-          let last = w.in_ok-decision-3.ensures.none none2 in
-          both_tried g task.claim task.budget used first.0 last.0 c.if-is_some.tried.items (named ∙ w.if-is_some.true)
-          (ap (λ t. t.items) w.tried-is ∙ last.1 ∙ ap (λ ts. ts ++ last.0 ∷ []) one) first.2 (subst (λ cut. IsTried g task.claim task.budget cut last.0) c.requires.lone last.2)
-      | else-is_some w ↦ one_tried g task.claim task.budget used first.0 c.if-is_some.tried.items (named ∙ w.if-is_some.false) (ap (λ t. t.items) w.tried-is ∙ one) first.2
-    ]
+    let used = replacement_named c.args.used in
+    let none : IsNone c.in_ok-decision.field-0 = search rules in
+    IfOk-weaker c.undecided.result (DecidesAtLast g job.task c.try_slices.new.tried.items) (IsDecision g job.task used)
+    (λ d h. h used (c.in_ok-decision.ensures.none none)) c.undecided.ensures

@@ -3,7 +3,6 @@ use Rattle.graph_core.specs.Aiger.Sizes.{IsSizedAs}
 use Rattle.graph_core.specs.Graph.Operands.{AreOperandsOf, HasShapeFor, Sides, has_addend, profile_of}
 use Rattle.graph_core.proofs.OfAiger.CallerLemmas.{narrow_for, shape_for}
 use Rattle.joint_prover.specs.Decisions.{IsDecision}
-use Rattle.joint_prover.specs.Endings.{replacement_named}
 use Rattle.joint_prover.specs.Notes.{IsNote, replacement_of, note_of}
 use Rattle.joint_prover.proofs.Noting.{replacement_of_note, note_is}
 use Rattle.joint_prover.proofs.proving.decide.Goals as goal
@@ -21,23 +20,16 @@ rewrite-requires-clause-shape c =
 pub rewrite-requires-clause-operands : goal.rewrite-requires-clause-operands
 rewrite-requires-clause-operands c = subst (AreOperandsOf c.args.graph.now) (sym c.in_ok-operands.ensures) refl
 
-pub decide_by_plans-requires : goal.decide_by_plans-requires
-decide_by_plans-requires c =
+pub decide_rewritten-requires-clause-job : goal.decide_rewritten-requires-clause-job
+decide_rewritten-requires-clause-job c =
     let graph = c.args.graph.now in
-    let task = c.args.task.now in
     let is = sym c.in_ok-operands.ensures in
-    let alone = c.alone-alone.ensures.shown graph task c.without_cut-extended.ensures in
-    let well = c.max-max.ensures.built.well_formed in
     record {
       operands = subst (AreOperandsOf graph) is refl;
       sized = subst (λ (s : Sides). IsSizedAs (profile_of s.claim.widths) graph) is c.requires.sized;
       claim = ap (λ (s : Sides). s.claim) c.in_ok-operands.ensures;
-      well_formed = well;
+      well_formed = c.max-max.ensures.built.well_formed;
       version = c.requires.version;
-      alone = alone;
-      lone = c.alone-alone.ensures.named;
-      used = c.used.ensures.shown graph task well c.in_ok-operands.operands c.in_ok-rewritten.ensures.rewriting c.in_ok-rewritten.ensures.agrees alone;
-      differing = c.numbers_of.ensures graph c.in_ok-operands.operands task.conflicts c.in_ok-rewritten.ensures.rewriting;
     }
 
 pub returns-clause-decision : goal.returns-clause-decision
@@ -48,7 +40,7 @@ returns-clause-decision c =
     let r = c.in_ok-rewritten.rewritten in
     let found = c.in_ok-decision.found in
     subst (λ n. IsDecision graph task (replacement_of n) d) {x = note_of (has_addend task.claim.widths) r found} (sym (c.make_note.ensures ∙ ap (λ add. note_of add r found) c.has_addend.ensures))
-    (subst (λ r. IsDecision graph task r d) (replacement_of_note (has_addend task.claim.widths) r (replacement_named c.used.result) found c.used.ensures.named) c.in_ok-decision.ensures.decision)
+    (subst (λ r. IsDecision graph task r d) (replacement_of_note (has_addend task.claim.widths) r found) c.in_ok-decision.ensures.decision)
 
 pub returns-clause-note : goal.returns-clause-note
 returns-clause-note c =

@@ -1,13 +1,11 @@
 use Rattle.std.proofs.Common.{◌≡◌, sym, subst}
-use Rattle.std.proofs.lemmas.Result.{IfOk-weaker}
 use Rattle.frontier_core.specs.LastFrontier.{IsOverInputs}
 use Rattle.frontier_core.specs.LeastDifference.{AreInputs, IsLeastNonzero}
 use Rattle.graph_core.specs.Graph.Assignments.{Assignment}
 use Rattle.graph_core.specs.Graph.Operands.{AreInRange, Sides, inputs_at, inputs_in}
 use Rattle.poly_terms.specs.Tables.{Table, monomials_in, value_in}
-use Rattle.joint_prover.specs.Endings.{AreLeast, Decides, IsProof, IsWrongAs, replacement_named}
+use Rattle.joint_prover.specs.Endings.{AreLeast, IsProof, replacement_named}
 use Rattle.joint_prover.proofs.Remainders.{operands_are, remainder_proves, rest_closes, rest_inputs, rest_over, witness_is_least}
-use Rattle.joint_prover.proofs.Telling.{wrong_decides}
 use Rattle.joint_prover.proofs.reduction.end_plan.Goals as goal
 
 pub least-requires-clause-inputs : goal.least-requires-clause-inputs
@@ -32,11 +30,6 @@ refute-requires-clause-least c =
     let at : P l.table l.sides = subst (λ t. P t l.sides) c.terms.ensures.table (subst (P c.terms.result.now) c.operands.ensures c.in-Some.ensures.some) in
     subst (λ t. AreLeast job.graph.now t x) (sym (operands_are job c.requires.job))
     (witness_is_least h.0 h.1 l c.args.poly.now c.args.id h.4 job.graph.now job.task.claim (replacement_named c.args.shown) h.3 h.2 x at (subst (λ s. AreInRange s x) c.operands.ensures c.in-Some.ensures.range))
-
-pub returns-in-Some : goal.returns-in-Some
-returns-in-Some c =
-    let job = c.args.job.now in
-    IfOk-weaker c.refute.result (IsWrongAs job.graph.now job.task.claim) (Decides job.graph.now job.task (replacement_named c.args.shown)) (wrong_decides job.graph.now job.task (replacement_named c.args.shown)) c.refute.ensures
 
 pub close-requires-clause-closes : goal.close-requires-clause-closes
 close-requires-clause-closes c =
