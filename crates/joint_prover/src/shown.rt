@@ -25,7 +25,7 @@ use std::alloc::Global;
 const TRIES: u32 = 8;
 
 // The share of the conflicts that the first of them may have: the rest is kept for a reference beside the graph.
-const SHARE: u64 = 4;
+const SHARE: u64 = 8;
 
 /// An extended graph, what takes the place of its outputs, if anything, and the lines that show that these are the
 /// graph's.
