@@ -5,6 +5,7 @@ ghost use Rattle.goal_refuter.specs.Beginnings.{IsBegunAlike, StaysBegunAlike};
 
 use crate::levels::by_level;
 use crate::swept::Swept;
+use crate::turns::in_turn;
 use crate::twins::Twins;
 use cdcl_solver::{Log, Solver};
 use goal_refuter::{forget, show_equal};
@@ -28,7 +29,8 @@ pub(crate) fn sweep(
 {
     let order = by_level(alloc, swept.levels)?;
     let mut twins = simulate(alloc, swept, &order)?;
-    for step in order.as_slice() {
+    let turns = in_turn(alloc, swept, &order, &twins)?;
+    for step in turns.as_slice() {
         show_at(swept, step.1, conflicts, &mut twins, solver, log)?;
         forget(solver, conflicts, log)?;
     }
@@ -51,6 +53,7 @@ fn show_at(
         Some(gate) if !swept.models.has(gate) => {
             show_twin(swept.gates, gate, conflicts, twins, solver, log)
         }
+        Some(gate) => show_stone(swept.gates, gate, conflicts, twins, solver, log),
         _ => Ok(()),
     }
 }
@@ -82,6 +85,27 @@ fn show_twin(
         return show_near(gates, gate, twin, conflicts, twins, solver, log);
     }
     Ok(())
+}
+
+// Shows a model that no output depends on equal to an earlier one on which some do.
+fn show_stone(
+    gates: &[Gate],
+    gate: &Gate,
+    conflicts: u64,
+    twins: &mut Twins,
+    solver: &mut Solver,
+    log: &mut Log,
+) -> Result<(), Memory>
+    requires { (max : ℕ) × (given : List Clause) × IsBegunAlike max given conflicts solver.old log.old }
+    ensures { OnOk result (StaysBegunAlike conflicts solver.old log.old solver.new log.new) }
+{
+    if conflicts / 4 < twins.spent() {
+        return Ok(());
+    }
+    match twins.of_stone(gate) {
+        Some(twin) => show_near(gates, gate, twin, conflicts, twins, solver, log),
+        None => Ok(()),
+    }
 }
 
 // Joins a gate to one of equal operands. Lemmas are needed where propagation doesn't lead from both operands to those
@@ -220,12 +244,27 @@ fn simulate(alloc: Global, swept: &Swept<'_>, order: &[(u32, usize)]) -> Result<
     for step in order {
         if let Some(gate) = gates.get(step.1) {
             twins.set(gate);
+        }
+    }
+    enter_models(swept, order, &mut twins)?;
+    Ok(twins)
+}
+
+// Enters the models by level, or as they are listed where they read other gates.
+fn enter_models(
+    swept: &Swept<'_>,
+    order: &[(u32, usize)],
+    twins: &mut Twins,
+) -> Result<(), Memory> {
+    for (number, step) in order.iter().enumerate() {
+        let place = if twins.crosses() { number } else { step.1 };
+        if let Some(gate) = swept.gates.get(place) {
             if swept.models.has(gate) {
-                twins.enter(gate)?;
+                twins.enter(swept.gates, gate)?;
             }
         }
     }
-    Ok(twins)
+    Ok(())
 }
 
 // Draws the values of what gates read and is none.

@@ -26,6 +26,10 @@ pub(crate) struct Twins {
     missed: Vec<u32>,
     /// Whether an output depends on it.
     read: Vec<bool>,
+    /// Whether it is a model that reads a gate that is none, or is read by one.
+    crossed: Vec<bool>,
+    /// Whether a model reads gates that are none.
+    crosses: bool,
     by_operands: IndexMap<u64, u32>,
     by_values: IndexMap<u64, u32>,
     /// The key of the constant true.
@@ -40,6 +44,7 @@ impl Twins {
     pub(crate) fn new(alloc: Global, swept: &Swept<'_>) -> Result<Twins, Memory> {
         let rows = Rows::new(alloc, swept.max, swept.gates)?;
         let count = rows.count();
+        let crosses = has_crossing(swept, &rows);
         Ok(Twins {
             models: swept.models,
             rows,
@@ -49,6 +54,8 @@ impl Twins {
             readers: vec![in alloc; 0; count]?,
             missed: vec![in alloc; 0; count]?,
             read: vec![in alloc; false; count]?,
+            crossed: vec![in alloc; false; count]?,
+            crosses,
             by_operands: IndexMap::new(alloc),
             by_values: IndexMap::new(alloc),
             ones: Signature::zero().negated_if(true).key(),
@@ -102,7 +109,7 @@ impl Twins {
     }
 
     /// Enters a model.
-    pub(crate) fn enter(&mut self, gate: &Gate) -> Result<(), Memory> {
+    pub(crate) fn enter(&mut self, gates: &[Gate], gate: &Gate) -> Result<(), Memory> {
         if let Some(lit) = self.folded(gate) {
             self.join(gate.v, lit);
         }
@@ -110,11 +117,45 @@ impl Twins {
         if self.by_operands.get(&key).is_none() {
             self.by_operands.insert(key, gate.v)?;
         }
+        if self.cross(gates, gate) {
+            return Ok(());
+        }
         let key = self.class_of(&self.values(plain(gate.v)));
-        if self.by_values.get(&key).is_none() {
+        let is_first = match self.by_values.get(&key) {
+            Some(first) => self.crosses && self.is_read(gate) && !self.is_read_at(*first),
+            None => true,
+        };
+        if is_first {
             self.by_values.insert(key, gate.v)?;
         }
         Ok(())
+    }
+
+    // Whether a model reads gates that are none, and keeps that of all of them.
+    fn cross(&mut self, gates: &[Gate], gate: &Gate) -> bool {
+        let mut crosses = false;
+        for lit in [gate.left, gate.right] {
+            if is_other(self.models, &self.rows, gates, lit) {
+                self.set_crossed(lit.var());
+                self.set_crossed(gate.v);
+                crosses = true;
+            }
+        }
+        crosses
+    }
+
+    fn set_crossed(&mut self, variable: u32) {
+        if let Some(crossed) = self.crossed.get_mut(self.rows.of(variable)) {
+            *crossed = true;
+        }
+    }
+
+    // Whether a gate is a model that reads one that is none, or is read by one.
+    fn is_crossed(&self, gate: &Gate) -> bool {
+        match self.crossed.get(self.rows.of(gate.v)) {
+            Some(crossed) => *crossed,
+            None => false,
+        }
     }
 
     /// A model whose operands equal those of a gate: that of its number, if it is one.
@@ -130,12 +171,42 @@ impl Twins {
 
     /// A literal of a model with the values of a gate.
     pub(crate) fn of_equal_values(&self, gate: &Gate) -> Option<Lit> {
+        if self.is_crossed(gate) {
+            return None;
+        }
+        self.of_values(gate)
+    }
+
+    fn of_values(&self, gate: &Gate) -> Option<Lit> {
         let values = self.values(plain(gate.v));
         let lit = plain(*self.by_values.get(&self.class_of(&values))?);
         if self.values(lit).is(&values) {
             Some(lit)
         } else if self.values(lit.not()).is(&values) {
             Some(lit.not())
+        } else {
+            None
+        }
+    }
+
+    /// Whether a model reads gates that are none.
+    pub(crate) fn crosses(&self) -> bool {
+        self.crosses
+    }
+
+    /// Whether a gate has one value on all patterns.
+    pub(crate) fn is_constant(&self, gate: &Gate) -> bool {
+        self.class_of(&self.values(plain(gate.v))) == self.class_of(&Signature::zero())
+    }
+
+    /// The earlier model with the values of one that reads other gates, where outputs depend on the first and not on this.
+    pub(crate) fn of_stone(&self, gate: &Gate) -> Option<Lit> {
+        if self.is_read(gate) || !self.is_crossed(gate) {
+            return None;
+        }
+        let lit = self.of_values(gate)?;
+        if lit.var() < gate.v && self.is_read_at(lit.var()) {
+            Some(lit)
         } else {
             None
         }
@@ -213,7 +284,12 @@ impl Twins {
 
     /// Whether an output depends on a gate.
     pub(crate) fn is_read(&self, gate: &Gate) -> bool {
-        match self.read.get(self.rows.of(gate.v)) {
+        self.is_read_at(gate.v)
+    }
+
+    /// Whether one depends on a variable.
+    pub(crate) fn is_read_at(&self, variable: u32) -> bool {
+        match self.read.get(self.rows.of(variable)) {
             Some(read) => *read,
             None => false,
         }
@@ -282,6 +358,23 @@ impl Twins {
     fn class_of(&self, values: &Signature) -> u64 {
         let key = values.key();
         key.min(key ^ self.ones)
+    }
+}
+
+// Whether some model reads a gate that is none.
+fn has_crossing(swept: &Swept<'_>, rows: &Rows) -> bool {
+    swept.gates.iter().any(|gate| {
+        swept.models.has(gate)
+            && (is_other(swept.models, rows, swept.gates, gate.left)
+                || is_other(swept.models, rows, swept.gates, gate.right))
+    })
+}
+
+// Whether a literal is of a gate that is no model.
+fn is_other(models: Models, rows: &Rows, gates: &[Gate], lit: Lit) -> bool {
+    match rows.gate(gates, lit.var()) {
+        Some(gate) => !models.has(&gate),
+        None => false,
     }
 }
 

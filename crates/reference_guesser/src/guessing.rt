@@ -7,6 +7,7 @@ use crate::gates::Gates;
 use crate::known::Known;
 use crate::products::{Form, Products};
 use crate::row::Row;
+use crate::signals::Signals;
 use crate::style::{Shape, Style};
 use crate::tree::Tree;
 use crate::values::values;
@@ -22,7 +23,14 @@ const MOST_JUDGED: u64 = 1 << 27;
 
 const SHAPES: [Shape; 3] = [Shape::Level, Shape::Rows, Shape::Array];
 
-const BLIND: [Shape; 4] = [Shape::Words, Shape::Level, Shape::Rows, Shape::Array];
+const BLIND: [Shape; 6] = [
+    Shape::Words,
+    Shape::Pairs,
+    Shape::Turns,
+    Shape::Level,
+    Shape::Rows,
+    Shape::Array,
+];
 
 /// A reference: gates beside the graph, and a new output for each column.
 #[derive(Debug, Drop)]
@@ -82,9 +90,10 @@ impl Guesses {
     ) -> Result<(), Memory> {
         let rows = values(alloc, graph, operands)?;
         let known = Known::new(alloc, graph, &rows)?;
+        let signals = Signals::new(alloc, graph, &rows)?;
         let mut left = MOST_JUDGED;
         for style in styles(alloc, graph, operands, &rows, &known)? {
-            let tree = Tree::new(alloc, graph, operands, &rows, &known, style, left)?;
+            let tree = Tree::new(alloc, graph, operands, &signals, &known, style, left)?;
             left = tree.left;
             let is_whole = tree.is_whole;
             self.enter(made_of(alloc, tree)?, most)?;
@@ -134,8 +143,10 @@ fn made_of(alloc: Global, tree: Tree<'_>) -> Result<Made, Memory> {
     for (k, lit) in tree.sums.iter().enumerate() {
         outputs.push(((k % (1 << 32)) as u32, *lit))?;
     }
+    let Tree { gates, .. } = tree;
+    let Gates { pairs, .. } = gates;
     Ok(Made {
-        gates: tree.gates.pairs,
+        gates: pairs,
         outputs,
         known,
     })

@@ -6,25 +6,30 @@
 //!
 //! `Guesses` has several of them. Only that the answer is beside the graph (`IsBeside`) is proved: each gate reads
 //! constants, inputs, gates of the graph or earlier ones, and each column has at most one new output. Which one it is,
-//! is a heuristic.
+//! is a heuristic. Gates that no output depends on stand there too: *stones*, which make it easier to show that the
+//! outputs are equal.
 //!
 //! *Beside*: `specs/Beside.antt` of `ripple_graft`. *Row*: the values of a signal on all patterns. *Known*: some gate
 //! of the graph has the row, or its negation's. *Merge*: a half adder or a full adder over addends of a column.
 #![tactic(auto)]
 
+mod adders;
 mod beam;
 mod booth;
 mod evidence;
 mod fallback;
 mod fitting;
 mod gates;
+mod groups;
 mod guessing;
+mod joining;
 mod known;
 mod merge;
 mod patterns;
 mod pool;
 mod products;
 mod row;
+mod signals;
 mod stones;
 mod style;
 mod sure;

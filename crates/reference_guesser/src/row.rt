@@ -50,6 +50,11 @@ impl Row {
         Row { words }
     }
 
+    /// Whether two signals have the same values.
+    pub(crate) fn is(&self, other: &Row) -> bool {
+        self.xor(other).is_zero()
+    }
+
     /// Whether the signal is false on all patterns.
     pub(crate) fn is_zero(&self) -> bool {
         self.words.iter().all(|word| *word == 0)

@@ -12,6 +12,10 @@ pub(crate) enum Shape {
     Rows,
     /// three neighbours of the words in hand, of which each row of products is one
     Words,
+    /// two neighbours of the words in hand, by an adder
+    Pairs,
+    /// the next word and the sum of those before, by an adder
+    Turns,
 }
 
 /// A way to guess.

@@ -1,12 +1,14 @@
 // A reference in one style: its columns, the lowest first.
+use crate::adders::{pair_steps, turn_steps};
 use crate::beam::Beam;
 use crate::fallback::Extent;
 use crate::gates::Gates;
+use crate::groups::Groups;
 use crate::known::Known;
 use crate::merge::{Merge, Step};
 use crate::pool::Pool;
 use crate::products::{Column, Products};
-use crate::row::Row;
+use crate::signals::Signals;
 use crate::stones::make_stones;
 use crate::style::{Shape, Style};
 use crate::sure::sure_adders;
@@ -34,8 +36,12 @@ struct Place {
 pub(crate) struct Tree<'a> {
     alloc: Global,
     known: &'a Known,
+    signals: &'a Signals<'a>,
     style: Style,
     rows: Rows,
+    /// whether what isn't a product is added
+    has_others: bool,
+    groups: Groups,
     pub(crate) gates: Gates<'a>,
     /// by column: the literal of its sum
     pub(crate) sums: Vec<Lit>,
@@ -53,7 +59,7 @@ impl<'a> Tree<'a> {
         alloc: Global,
         graph: &Graph,
         operands: &Operands,
-        rows: &'a [Row],
+        signals: &'a Signals<'a>,
         known: &'a Known,
         style: Style,
         most: u64,
@@ -61,13 +67,16 @@ impl<'a> Tree<'a> {
         let mut tree = Tree {
             alloc,
             known,
+            signals,
             style,
             rows: Rows {
                 form: style.form,
                 a: operands.a_width(),
                 b: operands.b_width(),
             },
-            gates: Gates::new(alloc, rows),
+            has_others: false,
+            groups: Groups::new(alloc),
+            gates: Gates::new(alloc, signals.rows),
             sums: Vec::new(alloc),
             carries: Vec::new(alloc),
             left: most,
@@ -75,6 +84,10 @@ impl<'a> Tree<'a> {
         };
         let count = graph.outputs();
         let products = Products::of(alloc, &mut tree.gates, operands, count, style.form)?;
+        tree.has_others = products
+            .columns
+            .iter()
+            .any(|column| !column.others.is_empty());
         for (k, column) in products.columns.iter().enumerate() {
             let place = Place {
                 column: (k % (1 << 32)) as u32,
@@ -118,7 +131,7 @@ impl<'a> Tree<'a> {
         for addend in addends {
             members.push(pool.push(self.gates.row(addend.lit), addend.level)?)?;
         }
-        if self.style.shape == Shape::Words {
+        if let Shape::Words | Shape::Pairs | Shape::Turns = self.style.shape {
             let path = self.word_path(addends, &mut pool)?;
             self.see(&pool, &path);
             return Ok(path);
@@ -147,7 +160,14 @@ impl<'a> Tree<'a> {
         for addend in addends {
             words.push(addend.word)?;
         }
-        word_steps(self.alloc, pool, &words, self.rows.count())
+        // what is no product is one word more
+        let more = u32::from(self.has_others);
+        let count = self.rows.count();
+        match self.style.shape {
+            Shape::Pairs => pair_steps(self.alloc, pool, &words, count.saturating_add(more)),
+            Shape::Turns => turn_steps(self.alloc, pool, &words, count.saturating_add(more)),
+            _ => word_steps(self.alloc, pool, &words, count),
+        }
     }
 
     // Makes the gates of merges; the sum of the last one is the column's.
@@ -184,20 +204,54 @@ impl<'a> Tree<'a> {
     // The sum and the carry of two or three literals; of three those are put together first whose sum is known.
     fn make_adder(&mut self, lits: &[Lit]) -> Result<(Lit, Lit), Memory> {
         match lits {
-            [x, y] => self.gates.half_adder(*x, *y),
+            [x, y] => self.make_end(*x, *y),
             [x, y, z] => {
                 if self.is_inner(*x, *y) {
-                    self.gates.full_adder(*x, *y, *z)
+                    self.make_position((*x, *y), *z)
                 } else if self.is_inner(*y, *z) {
-                    self.gates.full_adder(*y, *z, *x)
+                    self.make_position((*y, *z), *x)
                 } else if self.is_inner(*z, *x) {
-                    self.gates.full_adder(*z, *x, *y)
+                    self.make_position((*z, *x), *y)
                 } else {
                     self.gates.full_adder(*x, *y, *z)
                 }
             }
             _ => Ok((Lit(0), Lit(0))),
         }
+    }
+
+    // The same of two literals.
+    fn make_end(&mut self, x: Lit, y: Lit) -> Result<(Lit, Lit), Memory> {
+        let (sum, out) = self.gates.half_adder(x, y)?;
+        self.put_end(x, y, out)?;
+        Ok((sum, out))
+    }
+
+    // The position that adds two literals, of which one may be a carry into it.
+    fn put_end(&mut self, x: Lit, y: Lit, out: Lit) -> Result<(), Memory> {
+        let (low, high) = if x.0 <= y.0 { (x, y) } else { (y, x) };
+        let (pair, carry) = if self.groups.is_carry(high) {
+            ((low, Lit(0)), high)
+        } else if self.groups.is_carry(low) {
+            ((high, Lit(0)), low)
+        } else {
+            ((low, high), Lit(0))
+        };
+        self.groups
+            .put(&mut self.gates, self.signals, pair, carry, out)
+    }
+
+    // The sum and the carry of a pair and a carry, and what the graph puts together with it.
+    fn make_position(&mut self, pair: (Lit, Lit), carry: Lit) -> Result<(Lit, Lit), Memory> {
+        let (sum, out) = self.gates.full_adder(pair.0, pair.1, carry)?;
+        if self.groups.is_carry(pair.0) || self.groups.is_carry(pair.1) {
+            // two adders end here
+            let both = self.gates.and(pair.0, pair.1)?;
+            self.put_end(pair.0, pair.1, both)?;
+        }
+        self.groups
+            .put(&mut self.gates, self.signals, pair, carry, out)?;
+        Ok((sum, out))
     }
 
     // Whether the sum of two literals is known.

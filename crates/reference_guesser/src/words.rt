@@ -1,5 +1,6 @@
 // Words that are put together three by three, as Yosys does it: each row of products is one.
-use crate::merge::{Merge, Step};
+use crate::joining::{Bit, Joining, push_bits};
+use crate::merge::Step;
 use crate::pool::Pool;
 use crate::products::Form;
 use graph_core::Memory;
@@ -11,15 +12,8 @@ const LAYERS: u32 = 32;
 /// The word that an addend is of: in each layer three neighbours become their sum and, behind it, the carries.
 #[derive(Clone, Copy, Debug)]
 pub(crate) struct Word {
-    layer: u32,
-    place: u32,
-}
-
-// An addend, or a sum, of a column by its number, and the place of its word.
-#[derive(Clone, Copy, Debug)]
-struct Bit {
-    number: u32,
-    place: u32,
+    pub(crate) layer: u32,
+    pub(crate) place: u32,
 }
 
 /// The words of a multiplier's products.
@@ -82,11 +76,7 @@ pub(crate) fn word_steps(
     words: &[Word],
     count: u32,
 ) -> Result<Vec<Step>, Memory> {
-    let mut joining = Joining {
-        alloc,
-        pool,
-        steps: Vec::new(alloc),
-    };
+    let mut joining = Joining::new(alloc, pool);
     let mut count = count;
     let mut bits = Vec::new(alloc);
     for layer in 0..LAYERS {
@@ -96,83 +86,42 @@ pub(crate) fn word_steps(
             joining.join(&bits, Word { layer, place: 2 })?;
             break;
         }
-        bits = joining.next_layer(&bits, layer, count / 3)?;
+        bits = next_layer(alloc, &mut joining, &bits, layer, count / 3)?;
         count = count / 3 * 2 + count % 3;
     }
     Ok(joining.steps)
 }
 
-// Merges of a column.
-#[derive(Drop)]
-struct Joining<'a, 'b> {
+// A layer's bits by those of the layer before, of which so many groups of three words are joined.
+fn next_layer(
     alloc: Global,
-    pool: &'a mut Pool<'b>,
-    steps: Vec<Step>,
-}
-
-impl<'a, 'b> Joining<'a, 'b> {
-    // A layer's bits by those of the layer before, of which so many groups of three words are joined.
-    fn next_layer(&mut self, bits: &[Bit], layer: u32, groups: u32) -> Result<Vec<Bit>, Memory> {
-        let layer = layer.saturating_add(1);
-        let mut next = Vec::new(self.alloc);
-        for group in 0..groups {
-            let place = group.saturating_mul(2);
-            let carries = Word {
-                layer,
-                place: place.saturating_add(1),
-            };
-            let members = group_of(self.alloc, bits, group)?;
-            if let Some(number) = self.join(&members, carries)? {
-                next.push(Bit { number, place })?;
-            }
+    joining: &mut Joining<'_, '_>,
+    bits: &[Bit],
+    layer: u32,
+    groups: u32,
+) -> Result<Vec<Bit>, Memory> {
+    let layer = layer.saturating_add(1);
+    let mut next = Vec::new(alloc);
+    for group in 0..groups {
+        let place = group.saturating_mul(2);
+        let carries = Word {
+            layer,
+            place: place.saturating_add(1),
+        };
+        let members = group_of(alloc, bits, group)?;
+        if let Some(number) = joining.join(&members, carries)? {
+            next.push(Bit { number, place })?;
         }
-        for bit in bits {
-            if groups <= bit.place / 3 {
-                next.push(Bit {
-                    number: bit.number,
-                    place: bit.place.saturating_sub(groups),
-                })?;
-            }
-        }
-        Ok(next)
     }
-
-    // Merges bits up to one, whose number it is.
-    fn join(&mut self, bits: &[Bit], carries: Word) -> Result<Option<u32>, Memory> {
-        let mut left = Vec::new(self.alloc);
-        for bit in bits {
-            left.push(bit.number)?;
-        }
-        for _merge in 0..bits.len() {
-            let merge = match left.as_slice() {
-                [x, y] => Merge::half(*x, *y),
-                [x, y, z, ..] => Merge::full(*x, *y, *z),
-                _ => break,
-            };
-            let sum = self.pool.sum(&merge)?;
-            left.retain(|member| !merge.takes(*member));
-            left.push(sum)?;
-            self.steps.push(Step {
-                merge,
-                sum,
-                word: carries,
-            })?;
-        }
-        Ok(left.first().copied())
-    }
-}
-
-// Appends the addends of a layer.
-fn push_bits(bits: &mut Vec<Bit>, words: &[Word], layer: u32) -> Result<(), Memory> {
-    for (number, word) in words.iter().enumerate() {
-        if word.layer == layer {
-            bits.push(Bit {
-                number: (number % (1 << 32)) as u32,
-                place: word.place,
+    for bit in bits {
+        if groups <= bit.place / 3 {
+            next.push(Bit {
+                number: bit.number,
+                place: bit.place.saturating_sub(groups),
             })?;
         }
     }
-    Ok(())
+    Ok(next)
 }
 
 // The bits of a group of three words.
