@@ -10,6 +10,7 @@ pub mod Gathering
 pub mod Equality
 pub mod Assigned
 pub mod Leaving
+pub mod Listing
 pub mod Chaining
 pub mod Adding
 pub mod Given

@@ -1,10 +1,11 @@
 // Monomials by number, which are found by chains of those that are hashed alike.
-ghost use Rattle.std.specs.Prelude.{◌≡◌, ◌<◌, ◌≤◌, ◌++◌, ◌∷◌, [], IfNone, IfOk, IfSome, OnErr, OnOk, get_or, length, map};
-ghost use Rattle.poly_terms.specs.Chains.{AreLinked, Hangs, IsAbsent, chain_of};
+ghost use Rattle.std.specs.Prelude.{◌≡◌, ◌<◌, ◌≤◌, ◌++◌, ◌∷◌, [], IfNone, IfOk, IfSome, OnErr, OnOk, get_or, length};
+ghost use Rattle.poly_terms.specs.Chains.{AreLinked, Hangs, IsAbsent, IsChained, chain_of};
 ghost use Rattle.poly_terms.specs.Monomials.{Stands};
 
 use crate::key::{are_same, folded};
-use crate::monomial::Monomial;
+use crate::lists::Lists;
+use crate::numbers::Numbers;
 use std::alloc::{AllocError, Global};
 use std::marker::Model;
 
@@ -15,22 +16,22 @@ const FEW: usize = 16;
 #[derive(Drop)]
 pub(crate) struct Chains {
     alloc: Global,
-    monomials: Vec<Monomial>,
+    monomials: Lists,
     /// by chain: one more than its last number, or 0
-    heads: Vec<usize>,
+    heads: Numbers,
     /// by number: one more than the number before it in its chain, or 0
-    links: Vec<usize>,
+    links: Numbers,
 }
 
 impl Model for Chains {
-    ghost use Rattle.std.specs.Prelude.{List, ℕ, map};
+    ghost use Rattle.std.specs.Prelude.{List, ℕ};
     ghost use Rattle.poly_terms.specs.Chains.{IsChained};
 
     ghost Value = { List (List ℕ) };
 
-    ghost view = { λ c. map (λ m. m.items) c.monomials.items };
+    ghost view = { λ c. c.monomials };
 
-    ghost invariant = { λ c. IsChained (map (λ m. m.items) c.monomials.items) c.heads.items c.links.items };
+    ghost invariant = { λ c. IsChained c.monomials c.heads c.links };
 }
 
 impl Chains {
@@ -39,9 +40,9 @@ impl Chains {
     {
         Chains {
             alloc,
-            monomials: Vec::new(alloc),
-            heads: Vec::new(alloc),
-            links: Vec::new(alloc),
+            monomials: Lists::new(alloc),
+            heads: Numbers::new(alloc),
+            links: Numbers::new(alloc),
         }
     }
 
@@ -52,9 +53,9 @@ impl Chains {
         let chains = count.checked_next_power_of_two().ok_or(AllocError)?;
         Ok(Chains {
             alloc,
-            monomials: Vec::with_capacity(alloc, count)?,
-            heads: vec![in alloc; 0; chains]?,
-            links: Vec::with_capacity(alloc, count)?,
+            monomials: Lists::with_capacity(alloc, count)?,
+            heads: Numbers::zeros(alloc, chains)?,
+            links: Numbers::with_capacity(alloc, count)?,
         })
     }
 
@@ -66,11 +67,12 @@ impl Chains {
     }
 
     /// The variables of a number.
+    #[inline(always)]
     pub(crate) fn variables(&self, number: u64) -> &[u32]
         requires { number < length self.now }
         ensures { get_or self.now number [] ≡ result.now }
     {
-        self.monomials[number as usize].as_slice()
+        self.monomials.at(number as usize)
     }
 
     /// The number of a monomial, if it has one.
@@ -79,7 +81,7 @@ impl Chains {
         ensures some { IfSome result (λ n. Stands self.now n monomial.now) }
         ensures none { IfNone result (IsAbsent self.now monomial.now) }
     {
-        if self.heads.is_empty() {
+        if self.heads.len() == 0 {
             return None;
         }
         find_in(&self.monomials, &self.heads, &self.links, monomial)
@@ -87,47 +89,67 @@ impl Chains {
 
     /// Adds a monomial, and gives its number.
     #[inline(never)]
-    pub(crate) fn add(&mut self, monomial: Monomial) -> Result<u64, AllocError>
-        ensures added { OnOk result (self.new ≡ self.old ++ monomial.items ∷ []) }
+    pub(crate) fn add(&mut self, monomial: &[u32]) -> Result<u64, AllocError>
+        ensures added { OnOk result (self.new ≡ self.old ++ monomial.now ∷ []) }
         ensures number { IfOk result (λ n. n ≡ length self.old) }
         ensures unchanged { OnErr result (self.new ≡ self.old) }
     {
         let number = self.monomials.len();
-        if number == self.heads.len() {
-            let (heads, links) = linked(self.alloc, &self.monomials, chains_for(number)?)?;
-            self.heads = heads;
-            self.links = links;
+        make_wide(
+            self.alloc,
+            &self.monomials,
+            &mut self.heads,
+            &mut self.links,
+        )?;
+        self.monomials.push(monomial)?;
+        match hang(monomial, &mut self.heads, &mut self.links) {
+            Ok(()) => Ok(number as u64),
+            Err(fail) => {
+                self.monomials.truncate(number);
+                Err(fail)
+            }
         }
-        self.monomials.try_reserve(1)?;
-        hang(monomial.as_slice(), &mut self.heads, &mut self.links)?;
-        self.monomials.push_reserved(monomial);
-        Ok(number as u64)
     }
 }
 
 // The number of a monomial that is linked, if it has one.
 #[inline(always)]
-fn find_in(
-    monomials: &[Monomial],
-    heads: &[usize],
-    links: &[usize],
-    monomial: &[u32],
-) -> Option<u64>
+fn find_in(monomials: &Lists, heads: &Numbers, links: &Numbers, monomial: &[u32]) -> Option<u64>
     requires some { 0 < length heads.now }
     requires long { length links.now ≡ length monomials.now }
-    requires linked { AreLinked (length heads.now) (map (λ m. m.items) monomials.now) heads.now links.now }
-    ensures some { IfSome result (λ n. Stands (map (λ m. m.items) monomials.now) n monomial.now) }
-    ensures none { IfNone result (IsAbsent (map (λ m. m.items) monomials.now) monomial.now) }
+    requires linked { AreLinked (length heads.now) monomials.now heads.now links.now }
+    ensures some { IfSome result (λ n. Stands monomials.now n monomial.now) }
+    ensures none { IfNone result (IsAbsent monomials.now monomial.now) }
 {
-    let mut link = heads[chain_of(monomial, heads.len())];
+    let mut link = heads.at(chain_of(monomial, heads.len()));
     while link != 0 {
         let number = link - 1;
-        if are_same(monomials[number].as_slice(), monomial) {
+        if are_same(monomials.at(number), monomial) {
             return Some(number as u64);
         }
-        link = links[number];
+        link = links.at(number);
     }
     None
+}
+
+// Links the monomials anew, where there is no chain more than there are of them.
+#[inline(always)]
+fn make_wide(
+    alloc: Global,
+    monomials: &Lists,
+    heads: &mut Numbers,
+    links: &mut Numbers,
+) -> Result<(), AllocError>
+    requires { IsChained monomials.now heads.old links.old }
+    ensures chained { IsChained monomials.now heads.new links.new }
+    ensures wide { OnOk result (length monomials.now < length heads.new) }
+{
+    if monomials.len() == heads.len() {
+        let (new_heads, new_links) = linked(alloc, monomials, chains_for(monomials.len())?)?;
+        *heads = new_heads;
+        *links = new_links;
+    }
+    Ok(())
 }
 
 // How many chains there are from so many monomials on. No memory holds so many that they can't be doubled.
@@ -142,37 +164,38 @@ fn chains_for(monomials: usize) -> Result<usize, AllocError>
 
 // The heads and the links of monomials in so many chains.
 #[inline(never)]
-fn linked(
-    alloc: Global,
-    monomials: &[Monomial],
-    count: usize,
-) -> Result<(Vec<usize>, Vec<usize>), AllocError>
+fn linked(alloc: Global, monomials: &Lists, count: usize) -> Result<(Numbers, Numbers), AllocError>
     requires some { 0 < count }
-    ensures heads { IfOk result (λ r. length r.0.items ≡ count) }
-    ensures links { IfOk result (λ r. length r.1.items ≡ length monomials.now) }
-    ensures linked { IfOk result
-        (λ r. AreLinked count (map (λ m. m.items) monomials.now) r.0.items r.1.items) }
+    ensures heads { IfOk result (λ r. length r.0 ≡ count) }
+    ensures links { IfOk result (λ r. length r.1 ≡ length monomials.now) }
+    ensures linked { IfOk result (λ r. AreLinked count monomials.now r.0 r.1) }
 {
-    let mut heads = vec![in alloc; 0; count]?;
-    let mut links = Vec::with_capacity(alloc, count)?;
-    for monomial in monomials {
-        hang(monomial.as_slice(), &mut heads, &mut links)?;
+    let mut heads = Numbers::zeros(alloc, count)?;
+    let mut links = Numbers::with_capacity(alloc, count)?;
+    for number in 0..monomials.len() {
+        hang(monomials.at(number), &mut heads, &mut links)?;
     }
     Ok((heads, links))
 }
 
 // Puts the next number at the head of its monomial's chain.
-fn hang(monomial: &[u32], heads: &mut Vec<usize>, links: &mut Vec<usize>) -> Result<(), AllocError>
-    requires some { 0 < length heads.old.items }
-    ensures hangs { OnOk result (Hangs (chain_of (length heads.old.items) monomial.now)
-        heads.old.items links.old.items heads.new.items links.new.items) }
-    ensures unchanged_heads { OnErr result (heads.new.items ≡ heads.old.items) }
-    ensures unchanged_links { OnErr result (links.new.items ≡ links.old.items) }
+fn hang(monomial: &[u32], heads: &mut Numbers, links: &mut Numbers) -> Result<(), AllocError>
+    requires some { 0 < length heads.old }
+    ensures hangs { OnOk result
+        (Hangs (chain_of (length heads.old) monomial.now) heads.old links.old heads.new links.new) }
+    ensures unchanged_heads { OnErr result (heads.new ≡ heads.old) }
+    ensures unchanged_links { OnErr result (links.new ≡ links.old) }
 {
     let chain = chain_of(monomial, heads.len());
-    links.push(heads[chain])?;
-    heads[chain] = links.len();
-    Ok(())
+    let count = links.len();
+    links.push(heads.at(chain))?;
+    match heads.put(chain, links.len()) {
+        Ok(()) => Ok(()),
+        Err(fail) => {
+            links.truncate(count);
+            Err(fail)
+        }
+    }
 }
 
 // Which of so many chains a monomial is in.

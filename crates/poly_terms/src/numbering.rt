@@ -63,11 +63,11 @@ impl Numbering {
     {
         match self.monomials.find(monomial.as_slice()) {
             Some(number) => Ok(number),
-            None => self.monomials.add(monomial),
+            None => self.monomials.add(monomial.as_slice()),
         }
     }
 
-    /// The same of a monomial's variables. They are copied only where it is new.
+    /// The same of a monomial's variables.
     #[inline(always)]
     pub(crate) fn intern_slice(&mut self, variables: &[u32]) -> Result<u64, AllocError>
         requires { AreRising 0 variables.now }
@@ -76,10 +76,7 @@ impl Numbering {
     {
         match self.monomials.find(variables) {
             Some(number) => Ok(number),
-            None => {
-                let monomial = monomial::copy(self.alloc, variables)?;
-                self.monomials.add(monomial)
-            }
+            None => self.monomials.add(variables),
         }
     }
 
