@@ -3,14 +3,16 @@ ghost use Rattle.std.specs.Prelude.{◌≡◌, ◌↔◌, ◌+◌, ◌<◌, ◌^
 ghost use Rattle.std.specs.List.{All, Any};
 ghost use Rattle.clause_core.specs.Clause.{IsClauseInRange, SameSet};
 ghost use Rattle.clause_core.specs.ClauseLines.{Removes};
+ghost use Rattle.clause_core.specs.GateClauses.{AreGatesWithin};
 ghost use Rattle.clause_core.specs.UnitPropagation.{IsRup};
-ghost use Rattle.drup_checker.specs.Checking.{Held, IsTightChainOf, LosesOne, added_numbers, held_with, unnumbered};
+ghost use Rattle.drup_checker.specs.Checking.{Held, HoldsGates, IsTightChainOf, LosesOne, added_numbers, held_more, held_with};
 
 use crate::chains::{chain_of, find, unlink};
 use crate::rup::is_rup;
 use crate::tight::tight_chain;
 use clause_core::{Clause, ClauseList};
-use graph_core::Memory;
+use graph_core::{Gate, Memory};
+use miter_encoder::gate_clauses_of;
 use std::alloc::Global;
 use std::marker::Model;
 use unit_prop::Propagator;
@@ -42,15 +44,17 @@ impl Model for Store {
 }
 
 impl Store {
-    /// The clauses of a list, which have no numbers.
-    pub(crate) fn new(alloc: Global, max: u32, clauses: &ClauseList) -> Result<Store, Memory>
+    /// The clauses of some gates, which have no numbers. They are made gate by gate, so that no list stands beside the
+    /// store.
+    pub(crate) fn new(alloc: Global, max: u32, gates: &[Gate]) -> Result<Store, Memory>
         requires small { max < 2 ^ 31 }
-        requires in_range { All (IsClauseInRange max) clauses.now }
-        ensures { IfOk result (λ s. s ≡ record { max = max; live = clauses.now; numbered = unnumbered clauses.now }) }
+        requires within { AreGatesWithin max gates.now }
+        ensures { IfOk result (λ s. HoldsGates max gates.now s) }
     {
-        let mut store = Store::empty(alloc, max, clauses.len())?;
-        for place in 0..clauses.len() {
-            store.append(clauses.get(place), 0)?;
+        let mut store = Store::empty(alloc, max, gates.len().saturating_mul(3))?;
+        for gate in gates {
+            let clauses = gate_clauses_of(alloc, &[*gate])?;
+            store.append_all(&clauses)?;
         }
         Ok(store)
     }
@@ -110,6 +114,17 @@ impl Store {
             }
         }
         count
+    }
+
+    // The clauses of a list, which have no numbers.
+    fn append_all(&mut self, clauses: &ClauseList) -> Result<(), Memory>
+        requires { All (IsClauseInRange self.old.max) clauses.now }
+        ensures { OnOk result (self.new ≡ held_more self.old clauses.now) }
+    {
+        for place in 0..clauses.len() {
+            self.append(clauses.get(place), 0)?;
+        }
+        Ok(())
     }
 
     fn append(&mut self, clause: &Clause, number: u64) -> Result<(), Memory>
