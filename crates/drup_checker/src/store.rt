@@ -65,7 +65,7 @@ impl Store {
         Ok(store)
     }
 
-    // No clauses, and places for so many and as many again.
+    // No clauses, places for so many and as many again, and a chain for four places.
     fn empty(alloc: Global, max: u32, clauses: usize) -> Result<Store, Memory>
         requires { max < 2 ^ 31 }
         ensures { IfOk result (λ s. s ≡ record { max = max; live = []; numbered = [] }) }
@@ -73,7 +73,7 @@ impl Store {
         let most = clauses
             .saturating_mul(2)
             .saturating_add(max as usize + 1024);
-        let chains = (clauses / 2).saturating_add(1024);
+        let chains = most / 4;
         Ok(Store {
             alloc,
             max,
