@@ -21,7 +21,7 @@ use command_core::Stop;
 use drup_checker::{Checker, Keeps, Record};
 use drup_text::ClauseFile;
 use graph_core::Gate;
-use miter_encoder::{Goals, gate_clauses_of};
+use miter_encoder::Goals;
 use mv_desk::{Desk, Slot};
 use mv_text::{JudgeLines, judge_lines};
 use std::alloc::Global;
@@ -64,8 +64,7 @@ pub fn judge<D: Desk>(
     if is_nothing(&first, goals) {
         return Ok((nothing_kept(alloc), 0));
     }
-    let clauses = gate_clauses_of(alloc, gates)?;
-    let mut checker = Checker::new(alloc, max, gates, &clauses, goals, keeps)?;
+    let mut checker = Checker::new(alloc, max, gates, goals, keeps)?;
     let lines = judge_from(desk, file, max, &mut checker, first)?;
     Ok((checker.into_record(), lines))
 }

@@ -8,6 +8,7 @@ use Rattle.clause_core.specs.Clause.{Clause, IsSubset, SameSet}
 use Rattle.clause_core.specs.ClauseLines.{Removes}
 use Rattle.clause_core.specs.Facts.{IsClauseFact}
 use Rattle.clause_core.specs.GateClauses.{gate_clauses}
+use Rattle.clause_core.specs.Likeness.{AreSameSets}
 use Rattle.clause_core.specs.UnitPropagation.{IsRup}
 use Rattle.unit_prop.specs.Standing.{Standing, live_of}
 use Rattle.miter_encoder.specs.declared.goal.Goal.{Goal}
@@ -44,6 +45,15 @@ held s numbers = record { max = s.trail.greatest; live = live_of s.clauses; numb
 -- one clause more
 abbrev pub held_with : Held → Clause → ℕ → Held
 held_with h c number = record { max = h.max; live = h.live ++ c ∷ []; numbered = h.numbered ++ record { clause = c; number = number } ∷ [] }
+
+-- clauses more that weren't added
+abbrev pub held_more : Held → List Clause → Held
+held_more h clauses = record { max = h.max; live = h.live ++ clauses; numbered = h.numbered ++ unnumbered clauses }
+
+-- the clauses of gates, and no others
+abbrev pub HoldsGates : ℕ → List Gate → Held → Type 0
+HoldsGates max gates h = (clauses : List Clause) × AreSameSets clauses (gate_clauses gates) ×
+    (h ≡ record { max = max; live = clauses; numbered = unnumbered clauses })
 
 -- of added clauses those that are kept
 abbrev pub kept : Keeps → List Clause → List Clause
@@ -85,7 +95,7 @@ checking gates h goals shown keeps added uses count = record {
   count = count;
 }
 
--- the gates and the goals, and the clauses of a list; nothing is added yet
+-- the gates and the goals, and the gates' clauses; nothing is added yet
 pub record Starts (gates : List Gate) (max : ℕ) (clauses : List Clause) (goals : List Goal) (keeps : Keeps) (c : Checking) : Type 0 where
   pub keeps_is : c.keeps ≡ keeps
   pub added_is : c.added ≡ []

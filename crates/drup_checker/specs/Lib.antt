@@ -1,6 +1,7 @@
 -- To be read by whoever trusts the contracts.
 pub mod Opposing
 pub mod Chains
+pub mod PlaceNumbers
 pub mod Checking
 pub mod Tightness
 pub mod Steps

@@ -1,9 +1,9 @@
 // The checker of a clause certificate.
-ghost use Rattle.std.specs.Prelude.{◌≡◌, ◌↔◌, ◌<◌, ◌^◌, [], false, IfOk, IfSome, IsErrOf, IsNone, IsSome, OnErr, OnOk};
+ghost use Rattle.std.specs.Prelude.{◌≡◌, ◌↔◌, ◌<◌, ◌^◌, List, [], false, IfOk, IfSome, IsErrOf, IsNone, IsSome, OnErr, OnOk};
 ghost use Rattle.std.specs.List.{All};
-ghost use Rattle.clause_core.specs.Clause.{IsClauseInRange};
+ghost use Rattle.clause_core.specs.Clause.{Clause as Literals, IsClauseInRange};
 ghost use Rattle.clause_core.specs.Facts.{IsClauseFact};
-ghost use Rattle.clause_core.specs.GateClauses.{gate_clauses};
+ghost use Rattle.clause_core.specs.GateClauses.{AreGatesWithin, gate_clauses};
 ghost use Rattle.clause_core.specs.Likeness.{AreSameSets};
 ghost use Rattle.clause_core.specs.UnitPropagation.{IsRup};
 ghost use Rattle.drup_checker.specs.Checking.{AddsRup, Deletes, IsLeastUnshown, IsNowhere, IsTightChainOf, Starts};
@@ -53,17 +53,16 @@ impl<'a> Checker<'a> {
         alloc: Global,
         max: u32,
         gates: &'a [Gate],
-        clauses: &ClauseList,
         goals: &'a Goals,
         keeps: Keeps,
     ) -> Result<Checker<'a>, Memory>
         requires small { max < 2 ^ 31 }
-        requires in_range { All (IsClauseInRange max) clauses.now }
-        requires of_gates { AreSameSets clauses.now (gate_clauses gates.now) }
-        ensures starts { IfOk result (Starts gates.entry.now max clauses.now goals.entry.now keeps) }
+        requires within { AreGatesWithin max gates.now }
+        ensures starts { IfOk result (λ c. (clauses : List Literals) × AreSameSets clauses (gate_clauses gates.entry.now) ×
+            Starts gates.entry.now max clauses goals.entry.now keeps c) }
         ensures shown { IfOk result (λ c. All (λ b. b ≡ false) c.shown) }
     {
-        let store = Store::new(alloc, max, clauses)?;
+        let store = Store::new(alloc, max, gates)?;
         let shown = Vec::from_elem(alloc, false, goals.as_slice().len())?;
         Ok(Checker {
             alloc,

@@ -18,6 +18,7 @@ mod keeps;
 mod laws;
 mod least;
 mod numbers;
+mod place_numbers;
 mod record;
 mod rup;
 mod showing;

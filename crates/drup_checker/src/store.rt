@@ -3,20 +3,24 @@ ghost use Rattle.std.specs.Prelude.{◌≡◌, ◌↔◌, ◌+◌, ◌<◌, ◌^
 ghost use Rattle.std.specs.List.{All, Any};
 ghost use Rattle.clause_core.specs.Clause.{IsClauseInRange, SameSet};
 ghost use Rattle.clause_core.specs.ClauseLines.{Removes};
+ghost use Rattle.clause_core.specs.GateClauses.{AreGatesWithin};
 ghost use Rattle.clause_core.specs.UnitPropagation.{IsRup};
-ghost use Rattle.drup_checker.specs.Checking.{Held, IsTightChainOf, LosesOne, added_numbers, held_with, unnumbered};
+ghost use Rattle.drup_checker.specs.PlaceNumbers.{numbers_of};
+ghost use Rattle.drup_checker.specs.Checking.{Held, HoldsGates, IsTightChainOf, LosesOne, added_numbers, held_more, held_with};
 
 use crate::chains::{chain_of, find, unlink};
+use crate::place_numbers::PlaceNumbers;
 use crate::rup::is_rup;
 use crate::tight::tight_chain;
 use clause_core::{Clause, ClauseList};
-use graph_core::Memory;
+use graph_core::{Gate, Memory};
+use miter_encoder::gate_clauses_of;
 use std::alloc::Global;
 use std::marker::Model;
 use unit_prop::Propagator;
 
-/// The live clauses. Once more places were given out than there are chains, all is made anew over those that are live,
-/// so that memory is in proportion to them and to the variables.
+/// The live clauses. Once so many places were given out, all is made anew over those that are live, so that memory is
+/// in proportion to them and to the variables.
 #[derive(Drop)]
 pub(crate) struct Store {
     alloc: Global,
@@ -26,50 +30,58 @@ pub(crate) struct Store {
     heads: Vec<u32>,
     /// for each place of the propagator where it leads
     next: Vec<u32>,
+    /// how many places there are before all is made anew
+    most: usize,
     /// for each place the number of its clause, 0 for one that wasn't added
-    numbers: Vec<u64>,
+    numbers: PlaceNumbers,
 }
 
 impl Model for Store {
+    ghost use Rattle.drup_checker.specs.PlaceNumbers.{numbers_of};
     ghost use Rattle.drup_checker.specs.Checking.{Held, held};
     ghost use Rattle.drup_checker.specs.Chains.{IsNumberedStore};
+    ghost use Rattle.drup_checker.specs.PlaceNumbers.{numbers_of};
 
     ghost Value = { Held };
 
-    ghost view = { λ s. held s.propagator s.numbers.items };
+    ghost view = { λ s. held s.propagator (numbers_of s.numbers) };
 
-    ghost invariant = { λ s. IsNumberedStore s.max s.propagator s.heads.items s.next.items s.numbers.items };
+    ghost invariant = { λ s. IsNumberedStore s.max s.propagator s.heads.items s.next.items (numbers_of s.numbers) };
 }
 
 impl Store {
-    /// The clauses of a list, which have no numbers.
-    pub(crate) fn new(alloc: Global, max: u32, clauses: &ClauseList) -> Result<Store, Memory>
+    /// The clauses of some gates, which have no numbers. They are made gate by gate, so that no list stands beside the
+    /// store.
+    pub(crate) fn new(alloc: Global, max: u32, gates: &[Gate]) -> Result<Store, Memory>
         requires small { max < 2 ^ 31 }
-        requires in_range { All (IsClauseInRange max) clauses.now }
-        ensures { IfOk result (λ s. s ≡ record { max = max; live = clauses.now; numbered = unnumbered clauses.now }) }
+        requires within { AreGatesWithin max gates.now }
+        ensures { IfOk result (λ s. HoldsGates max gates.now s) }
     {
-        let mut store = Store::empty(alloc, max, clauses.len())?;
-        for place in 0..clauses.len() {
-            store.append(clauses.get(place), 0)?;
+        let mut store = Store::empty(alloc, max, gates.len().saturating_mul(3))?;
+        for gate in gates {
+            let clauses = gate_clauses_of(alloc, &[*gate])?;
+            store.append_all(&clauses)?;
         }
         Ok(store)
     }
 
-    // No clauses, and chains for so many and as many again.
+    // No clauses, places for so many and as many again, and a chain for four places.
     fn empty(alloc: Global, max: u32, clauses: usize) -> Result<Store, Memory>
         requires { max < 2 ^ 31 }
         ensures { IfOk result (λ s. s ≡ record { max = max; live = []; numbered = [] }) }
     {
-        let chains = clauses
+        let most = clauses
             .saturating_mul(2)
             .saturating_add(max as usize + 1024);
+        let chains = most / 4;
         Ok(Store {
             alloc,
             max,
             propagator: Propagator::new(alloc, max)?,
             heads: vec![in alloc; 0; chains]?,
             next: Vec::new(alloc),
-            numbers: Vec::new(alloc),
+            most,
+            numbers: PlaceNumbers::new(alloc),
         })
     }
 
@@ -79,7 +91,7 @@ impl Store {
         ensures ok { OnOk result (self.new ≡ held_with self.old clause.now number) }
         ensures err { OnErr result (self.new ≡ self.old) }
     {
-        if self.next.len() >= self.heads.len() {
+        if self.next.len() >= self.most {
             *self = self.renewed()?;
         }
         self.append(clause, number)
@@ -93,7 +105,7 @@ impl Store {
         for place in 0..self.next.len() {
             match self.propagator.get(place as u32) {
                 Some(clause) => {
-                    new.append(clause, self.numbers[place])?;
+                    new.append(clause, self.numbers.get(place))?;
                 }
                 None => {}
             }
@@ -112,6 +124,17 @@ impl Store {
         count
     }
 
+    // The clauses of a list, which have no numbers.
+    fn append_all(&mut self, clauses: &ClauseList) -> Result<(), Memory>
+        requires { All (IsClauseInRange self.old.max) clauses.now }
+        ensures { OnOk result (self.new ≡ held_more self.old clauses.now) }
+    {
+        for place in 0..clauses.len() {
+            self.append(clauses.get(place), 0)?;
+        }
+        Ok(())
+    }
+
     fn append(&mut self, clause: &Clause, number: u64) -> Result<(), Memory>
         requires { IsClauseInRange self.old.max clause.now }
         ensures ok { OnOk result (self.new ≡ held_with self.old clause.now number) }
@@ -120,11 +143,11 @@ impl Store {
         // none of its literals is past 31 bits
         let _lits = clause.lits();
         reserve(&mut self.next)?;
-        reserve(&mut self.numbers)?;
+        self.numbers.reserve()?;
         let chain = chain_of(clause, self.heads.len());
         let reference = self.propagator.add(clause)?;
         push(&mut self.next, self.heads[chain]);
-        push(&mut self.numbers, number);
+        self.numbers.push(number);
         self.heads[chain] = reference.place() + 1;
         Ok(())
     }
@@ -175,13 +198,13 @@ impl Store {
 }
 
 // The numbers at some places, but for those that are 0.
-fn added_at(alloc: Global, numbers: &[u64], places: &[u32]) -> Result<Vec<u64>, Memory>
-    requires { All (λ r. r < length numbers.now) places.now }
-    ensures { IfOk result (λ out. out.items ≡ added_numbers (map (λ r. slice_index numbers.now r) places.now)) }
+fn added_at(alloc: Global, numbers: &PlaceNumbers, places: &[u32]) -> Result<Vec<u64>, Memory>
+    requires { All (λ r. r < length (numbers_of numbers.now)) places.now }
+    ensures { IfOk result (λ out. out.items ≡ added_numbers (map (λ r. slice_index (numbers_of numbers.now) r) places.now)) }
 {
     let mut added = Vec::new(alloc);
     for &place in places {
-        let number = numbers[place as usize];
+        let number = numbers.get(place as usize);
         if number > 0 {
             added.push(number)?;
         }

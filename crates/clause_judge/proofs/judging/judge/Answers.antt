@@ -1,4 +1,4 @@
-use Rattle.std.proofs.Common.{◌+◌, ℕ, List, Option, IfSome, sym, ap, subst, ◌∙◌, arith}
+use Rattle.std.proofs.Common.{◌+◌, ℕ, List, Option, IfSome, sym, ap, subst, ◌∙◌}
 use Rattle.std.specs.List.{All}
 use Rattle.std.proofs.lemmas.Result.{err_from_is_err_and}
 use Rattle.graph_core.specs.declared.gate.Gate.{Gate}
@@ -8,7 +8,6 @@ use Rattle.clause_core.specs.Facts.{IsClauseFact}
 use Rattle.clause_core.specs.GateClauses.{gate_clauses}
 use Rattle.clause_core.specs.KeptClauses.{AreEarlier}
 use Rattle.drup_checker.specs.declared.keeps.Keeps.{Keeps}
-use Rattle.miter_encoder.proofs.GateRanges.{within_range}
 use Rattle.mv_desk.specs.declared.slot.Slot.TheVariants as slot
 use Rattle.mv_desk.proofs.CallerLemmas.{KeepsTelling-trans, ReadsOnly-trans}
 use Rattle.mv_text.specs.CertificateFiles.{left_of_file}
@@ -67,12 +66,6 @@ returns-then-is_nothing-clause-earlier g c = none_earlier c.nothing_kept.result.
 
 -- ---- all lines
 
-pub gate_clauses_of-requires : goal.gate_clauses_of-requires
-gate_clauses_of-requires g c = λ k d below. let own = c.requires.within.own k d below in let small = c.requires.small in omega (arith, own.1, small)
-
-pub new-requires-clause-in_range : goal.new-requires-clause-in_range
-new-requires-clause-in_range g c = within_range c.args.max c.args.gates.now c.in_ok-clauses.clauses c.requires.within c.in_ok-clauses.ensures.sets
-
 pub judge_from-requires-clause-begins : goal.judge_from-requires-clause-begins
 judge_from-requires-clause-begins g c =
     let e = c.requires.over.0 in
@@ -80,8 +73,8 @@ judge_from-requires-clause-begins g c =
     let start = c.args.file.now in
     let file = c.read_line.new.file in
     let body = left_of_file slot.Clauses start (g.D.Desk.seen c.args.desk.now) in
-    let begins = begins_with e start body c.args.max c.args.gates.now c.args.goals.now over c.in_ok-checker.checker c.in_ok-clauses.clauses c.args.keeps c.in_ok-first.first file (left_of_file slot.Clauses file (g.D.Desk.seen c.read_line.new.desk))
-    c.in_ok-checker.ensures.starts c.in_ok-checker.ensures.shown c.in_ok-clauses.ensures.sets c.in_ok-first.ensures.lengths c.requires.limit c.in_ok-first.ensures.next in
+    let begins = begins_with e start body c.args.max c.args.gates.now c.args.goals.now over c.in_ok-checker.checker c.in_ok-checker.ensures.starts.0 c.args.keeps c.in_ok-first.first file (left_of_file slot.Clauses file (g.D.Desk.seen c.read_line.new.desk))
+    c.in_ok-checker.ensures.starts.2 c.in_ok-checker.ensures.shown c.in_ok-checker.ensures.starts.1 c.in_ok-first.ensures.lengths c.requires.limit c.in_ok-first.ensures.next in
     (e, start, body, begins)
 
 pub returns-clause-lawful : goal.returns-clause-lawful
@@ -89,34 +82,34 @@ returns-clause-lawful g c = λ e over.
     let start = c.args.file.now in
     let file = c.read_line.new.file in
     let body = left_of_file slot.Clauses start (g.D.Desk.seen c.args.desk.now) in
-    let begins = begins_with e start body c.args.max c.args.gates.now c.args.goals.now over c.in_ok-checker.checker c.in_ok-clauses.clauses c.args.keeps c.in_ok-first.first file (left_of_file slot.Clauses file (g.D.Desk.seen c.read_line.new.desk))
-    c.in_ok-checker.ensures.starts c.in_ok-checker.ensures.shown c.in_ok-clauses.ensures.sets c.in_ok-first.ensures.lengths c.requires.limit c.in_ok-first.ensures.next in
+    let begins = begins_with e start body c.args.max c.args.gates.now c.args.goals.now over c.in_ok-checker.checker c.in_ok-checker.ensures.starts.0 c.args.keeps c.in_ok-first.first file (left_of_file slot.Clauses file (g.D.Desk.seen c.read_line.new.desk))
+    c.in_ok-checker.ensures.starts.2 c.in_ok-checker.ensures.shown c.in_ok-checker.ensures.starts.1 c.in_ok-first.ensures.lengths c.requires.limit c.in_ok-first.ensures.next in
     let count = c.in_ok-lines.lines in
     subst (λ (cs : List Clause). IfSome body (IsShownWith e start.lines c.args.keeps cs count)) (sym c.into_record.ensures.added)
-    (subst (λ (v : Keeps). IfSome body (IsShownWith e start.lines v c.judge_from.new.checker.added count)) c.in_ok-checker.ensures.starts.keeps_is (c.in_ok-lines.ensures.lawful e start body begins))
+    (subst (λ (v : Keeps). IfSome body (IsShownWith e start.lines v c.judge_from.new.checker.added count)) c.in_ok-checker.ensures.starts.2.keeps_is (c.in_ok-lines.ensures.lawful e start body begins))
 
 pub returns-clause-shown : goal.returns-clause-shown
 returns-clause-shown g c = λ e over.
     let start = c.args.file.now in
     let file = c.read_line.new.file in
     let body = left_of_file slot.Clauses start (g.D.Desk.seen c.args.desk.now) in
-    let begins = begins_with e start body c.args.max c.args.gates.now c.args.goals.now over c.in_ok-checker.checker c.in_ok-clauses.clauses c.args.keeps c.in_ok-first.first file (left_of_file slot.Clauses file (g.D.Desk.seen c.read_line.new.desk))
-    c.in_ok-checker.ensures.starts c.in_ok-checker.ensures.shown c.in_ok-clauses.ensures.sets c.in_ok-first.ensures.lengths c.requires.limit c.in_ok-first.ensures.next in
+    let begins = begins_with e start body c.args.max c.args.gates.now c.args.goals.now over c.in_ok-checker.checker c.in_ok-checker.ensures.starts.0 c.args.keeps c.in_ok-first.first file (left_of_file slot.Clauses file (g.D.Desk.seen c.read_line.new.desk))
+    c.in_ok-checker.ensures.starts.2 c.in_ok-checker.ensures.shown c.in_ok-checker.ensures.starts.1 c.in_ok-first.ensures.lengths c.requires.limit c.in_ok-first.ensures.next in
     subst (λ (cs : List Clause). IsShownOver e c.args.keeps cs) (sym c.into_record.ensures.added)
-    (subst (λ (v : Keeps). IsShownOver e v c.judge_from.new.checker.added) c.in_ok-checker.ensures.starts.keeps_is (c.in_ok-lines.ensures.shown e start body begins))
+    (subst (λ (v : Keeps). IsShownOver e v c.judge_from.new.checker.added) c.in_ok-checker.ensures.starts.2.keeps_is (c.in_ok-lines.ensures.shown e start body begins))
 
 pub returns-clause-columns : goal.returns-clause-columns
 returns-clause-columns g c = λ e over.
     let start = c.args.file.now in
     let file = c.read_line.new.file in
     let body = left_of_file slot.Clauses start (g.D.Desk.seen c.args.desk.now) in
-    let begins = begins_with e start body c.args.max c.args.gates.now c.args.goals.now over c.in_ok-checker.checker c.in_ok-clauses.clauses c.args.keeps c.in_ok-first.first file (left_of_file slot.Clauses file (g.D.Desk.seen c.read_line.new.desk))
-    c.in_ok-checker.ensures.starts c.in_ok-checker.ensures.shown c.in_ok-clauses.ensures.sets c.in_ok-first.ensures.lengths c.requires.limit c.in_ok-first.ensures.next in
+    let begins = begins_with e start body c.args.max c.args.gates.now c.args.goals.now over c.in_ok-checker.checker c.in_ok-checker.ensures.starts.0 c.args.keeps c.in_ok-first.first file (left_of_file slot.Clauses file (g.D.Desk.seen c.read_line.new.desk))
+    c.in_ok-checker.ensures.starts.2 c.in_ok-checker.ensures.shown c.in_ok-checker.ensures.starts.1 c.in_ok-first.ensures.lengths c.requires.limit c.in_ok-first.ensures.next in
     c.in_ok-lines.ensures.columns e start body begins
 
 pub returns-clause-facts : goal.returns-clause-facts
 returns-clause-facts g c =
-    let same = c.judge_from.ensures.gates ∙ c.in_ok-checker.ensures.starts.gates_are in
+    let same = c.judge_from.ensures.gates ∙ c.in_ok-checker.ensures.starts.2.gates_are in
     subst (All (IsClauseFact c.args.gates.now)) (sym c.into_record.ensures.added)
     (subst (λ (gates : List Gate). All (IsClauseFact gates) c.judge_from.new.checker.added) same c.into_record.ensures.facts)
 
@@ -124,9 +117,9 @@ pub returns-clause-chains : goal.returns-clause-chains
 returns-clause-chains g c given =
     let k = c.judge_from.new.checker in
     let r = c.into_record.result in
-    let same = c.judge_from.ensures.gates ∙ c.in_ok-checker.ensures.starts.gates_are in
+    let same = c.judge_from.ensures.gates ∙ c.in_ok-checker.ensures.starts.2.gates_are in
     tight_moved (gate_clauses k.gates) (gate_clauses c.args.gates.now) k.added r.added k.uses r.uses.items (ap gate_clauses same) (sym c.into_record.ensures.added) (sym c.into_record.ensures.uses)
-    (c.into_record.ensures.chains (c.judge_from.ensures.keeps ∙ c.in_ok-checker.ensures.starts.keeps_is ∙ given))
+    (c.into_record.ensures.chains (c.judge_from.ensures.keeps ∙ c.in_ok-checker.ensures.starts.2.keeps_is ∙ given))
 
 pub returns-clause-earlier : goal.returns-clause-earlier
 returns-clause-earlier g c = subst AreEarlier (sym c.into_record.ensures.uses) c.into_record.ensures.earlier
@@ -139,8 +132,8 @@ returns-in_err-lines-clause-refused g c =
     let start = c.args.file.now in
     let file = c.read_line.new.file in
     let body = left_of_file slot.Clauses start (g.D.Desk.seen c.args.desk.now) in
-    let begins = begins_with e start body c.args.max c.args.gates.now c.args.goals.now over c.in_ok-checker.checker c.in_ok-clauses.clauses c.args.keeps c.in_ok-first.first file (left_of_file slot.Clauses file (g.D.Desk.seen c.read_line.new.desk))
-    c.in_ok-checker.ensures.starts c.in_ok-checker.ensures.shown c.in_ok-clauses.ensures.sets c.in_ok-first.ensures.lengths c.requires.limit c.in_ok-first.ensures.next in
+    let begins = begins_with e start body c.args.max c.args.gates.now c.args.goals.now over c.in_ok-checker.checker c.in_ok-checker.ensures.starts.0 c.args.keeps c.in_ok-first.first file (left_of_file slot.Clauses file (g.D.Desk.seen c.read_line.new.desk))
+    c.in_ok-checker.ensures.starts.2 c.in_ok-checker.ensures.shown c.in_ok-checker.ensures.starts.1 c.in_ok-first.ensures.lengths c.requires.limit c.in_ok-first.ensures.next in
     c.in_err-lines.ensures.refused e start body begins (g.D.Desk.seen c.args.desk.now) c.in_ok-first.ensures.only.later)
 
 -- ---- the desk

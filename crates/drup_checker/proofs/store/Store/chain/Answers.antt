@@ -1,10 +1,11 @@
 use Rattle.std.specs.Prelude.{◌↔◌, IsNone}
 use Rattle.std.specs.declared.option.Option.{Option}
-use Rattle.std.proofs.Common.{ℕ, List, None, map, slice_index, ap₂, refl, subst, ◌∙◌}
+use Rattle.std.proofs.Common.{ℕ, List, None, map, slice_index, ap, refl, subst, ◌∙◌}
 use Rattle.clause_core.specs.UnitPropagation.{IsRup}
 use Rattle.unit_prop.specs.Standing.{live_of}
 use Rattle.drup_checker.specs.Checking.{Held, IsTightChainOf, added_numbers}
 use Rattle.drup_checker.specs.Tightness.{AreTightAt}
+use Rattle.drup_checker.specs.PlaceNumbers.{numbers_of}
 use Rattle.drup_checker.proofs.Stores.{chain_of_places}
 use Rattle.drup_checker.proofs.Tightening.{decided_follows}
 use Rattle.std.proofs.lemmas.Result.{err_from_is_err_and}
@@ -20,9 +21,9 @@ pub returns-clause-some : goal.returns-clause-some
 returns-clause-some c =
     let i = c.self.inside in
     let tight : AreTightAt i.propagator.clauses c.args.clause.now c.in-Some.places.items = rw c.in-Some.is at c.in_ok-places.ensures.some in
-    let out = c.in_ok-added.ensures ∙ ap₂ (λ (ns ps : List ℕ). added_numbers (map (λ r. slice_index ns r) ps)) c.deref.ensures.value c.deref-2.ensures.value in
+    let out = c.in_ok-added.ensures ∙ ap (λ (ps : List ℕ). added_numbers (map (λ r. slice_index (numbers_of i.numbers) r) ps)) c.deref.ensures.value in
     subst (λ (h : Held). IsTightChainOf h.numbered c.args.clause.now c.in_ok-added.added.items) c.self.view_is
-    (chain_of_places i.propagator.clauses i.numbers.items (c.self.invariant.counted ∙ c.self.invariant.store.indexed.places) c.args.clause.now c.in-Some.places.items c.in_ok-added.added.items tight out)
+    (chain_of_places i.propagator.clauses (numbers_of i.numbers) (c.self.invariant.counted ∙ c.self.invariant.store.indexed.places) c.args.clause.now c.in-Some.places.items c.in_ok-added.added.items tight out)
 
 pub returns-clause-none : goal.returns-clause-none
 returns-clause-none c =

@@ -1,7 +1,7 @@
 use Rattle.std.proofs.Common.{◌≡◌, ◌<◌, ℕ, length, ap, sym, subst, ◌∙◌, arith}
-use Rattle.std.proofs.lemmas.List.{get_or_default}
 use Rattle.clause_core.specs.Clause.{IsClauseInRange}
 use Rattle.drup_checker.specs.Checking.{Held}
+use Rattle.drup_checker.specs.PlaceNumbers.{numbers_of}
 use Rattle.drup_checker.proofs.Stores.{renew_none, renew_some}
 use Rattle.drup_checker.proofs.store.Store.renewed.Goals.{in-Some+in_ok-append-in-Some, in-None}
 use Rattle.drup_checker.proofs.store.Store.renewed.Goals as goal
@@ -14,10 +14,9 @@ append-requires c =
 pub loop-place-preserved : goal.loop-place-preserved
 loop-place-preserved c =
     let below : c.loop-place.place < length c.self.inside.propagator.clauses = omega (arith, c.self.invariant.store.indexed.places, c.len-place-end.ensures, c.self.inside.next.ok) in
-    let even : length c.self.inside.numbers.items ≡ length c.self.inside.propagator.clauses = c.self.invariant.counted ∙ c.self.invariant.store.indexed.places in
-    let room : c.loop-place.place < length c.self.inside.numbers.items = omega arith in
+    let even : length (numbers_of c.self.inside.numbers) ≡ length c.self.inside.propagator.clauses = c.self.invariant.counted ∙ c.self.invariant.store.indexed.places in
     elim c.match-get.branch [
-      | in-Some+in_ok-append-in-Some w ↦ rw w.new-is (renew_some c.self.inside.propagator c.self.inside.numbers.items c.args.self.now c.loop-place.new w.append.new.self c.loop-place.place w.index.result.now w.in-Some.clause.now even below w.in-Some.ensures
-          (sym (w.index.ensures ∙ sym (get_or_default c.self.inside.numbers.items c.loop-place.place 0 w.index.result.now room))) c.loop-place.invariant w.in_ok-append-in-Some.ensures.ok)
-      | in-None w ↦ rw w.new-is (renew_none c.self.inside.propagator c.self.inside.numbers.items c.args.self.now c.loop-place.new c.loop-place.place even below w.in-None.ensures c.loop-place.invariant)
+      | in-Some+in_ok-append-in-Some w ↦ rw w.new-is (renew_some c.self.inside.propagator (numbers_of c.self.inside.numbers) c.args.self.now c.loop-place.new w.append.new.self c.loop-place.place w.get-in-Some.result w.in-Some.clause.now even below w.in-Some.ensures
+          (sym w.get-in-Some.ensures) c.loop-place.invariant w.in_ok-append-in-Some.ensures.ok)
+      | in-None w ↦ rw w.new-is (renew_none c.self.inside.propagator (numbers_of c.self.inside.numbers) c.args.self.now c.loop-place.new c.loop-place.place even below w.in-None.ensures c.loop-place.invariant)
     ]

@@ -5,6 +5,7 @@ use Rattle.clause_core.specs.Clause.{SameSet}
 use Rattle.unit_prop.specs.Standing.{HasSetAt}
 use Rattle.drup_checker.specs.Chains.{IsStore, Leads, clause_hash}
 use Rattle.drup_checker.specs.Checking.{Held}
+use Rattle.drup_checker.specs.PlaceNumbers.{numbers_of}
 use Rattle.drup_checker.proofs.LiveClauses.{written}
 use Rattle.drup_checker.proofs.Stores.{held_fewer, nowhere, store_fewer}
 use Rattle.drup_checker.proofs.store.Store.take.Goals as goal
@@ -47,4 +48,4 @@ returns-in-None-clause-none c e =
 
 pub returns-in-Some-clause-some : goal.returns-in-Some-clause-some
 returns-in-Some-clause-some c t =
-    held_fewer c.self.inside.propagator c.remove.new.self c.self.inside.numbers.items c.args.self.now c.self.view_is (c.self.invariant.counted ∙ c.self.invariant.store.indexed.places) c.args.clause.now c.in-Some.reference c.in-Some.ensures.some.1 c.remove.ensures
+    held_fewer c.self.inside.propagator c.remove.new.self (numbers_of c.self.inside.numbers) c.args.self.now c.self.view_is (c.self.invariant.counted ∙ c.self.invariant.store.indexed.places) c.args.clause.now c.in-Some.reference c.in-Some.ensures.some.1 c.remove.ensures
