@@ -74,8 +74,9 @@ const REFERENCES: usize = 3;
 // What comes before any whole budget, over the same graph as what comes first.
 const DRAFTED: [Try; 1] = [(Lines::Drafted, Order::SumsLast, 16)];
 
-// What it may cost to try values of the inputs before a plan is known to be hard: at 64 bits, those with two ones.
-const FEW: u64 = 1 << 24;
+// What it may cost to try values of the inputs before a plan is known to be hard: from 32 bits on those with two ones,
+// which are always tried, and at 16 bits those with three.
+const FEW: u64 = 1 << 20;
 // What it may cost where a plan is: at 64 bits, those with three ones.
 const MORE: u64 = 1 << 29;
 // What it may cost where the graph is known to be wrong, and no plan tells where: at 64 bits, those with four ones.
