@@ -100,7 +100,6 @@ impl Groups {
             if count > 1 {
                 self.make_stone(gates, &last)?;
             }
-            // read by a stone, so that neither is taken for what has its values by chance
             gates.and(next.generate, next.propagate)?;
             position.groups.push(next)?;
         }
