@@ -158,7 +158,7 @@ impl Analysis {
         ensures marks { OnOk result (MarksClause propagator.now self.old self.new clause) }
     {
         let trail = propagator.trail();
-        for &lit in propagator.clause(clause).lits() {
+        for &lit in propagator.clause(clause) {
             self.see(trail, lit)?;
         }
         Ok(())

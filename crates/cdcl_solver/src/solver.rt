@@ -120,8 +120,10 @@ impl Solver {
         ensures max { self.new.max ≡ self.old.max }
         ensures deletes { StaysOrDeletes self.old.live log.old self.new.live log.new }
     {
-        if let Some(clause) = self.propagator.get(lemma.clause.place()) {
-            let own = clause.copy(self.alloc)?;
+        if let Some(lits) = self.propagator.get(lemma.clause.place()) {
+            let own = Clause::new(self.alloc, lits)?;
+            // both rise, so the lists are the same
+            let _lits = own.lits();
             if log.delete(lemma.line, own)? {
                 self.levels.remove(&mut self.propagator, lemma.clause);
             }

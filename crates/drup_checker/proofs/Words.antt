@@ -1,5 +1,5 @@
 -- Words that proofs alone cite.
-use Rattle.std.specs.Prelude.{◌≡◌, ◌↔◌, ◌≤◌, ◌<◌, ◌⊎◌, ◌-◌, ℕ, Bool, true, List, length, slice_index_or, suc, reverse, ℤ, neg_ℤ, IsSome}
+use Rattle.std.specs.Prelude.{◌≡◌, ◌↔◌, ◌≤◌, ◌<◌, ◌⊎◌, ℕ, Bool, true, List, length, slice_index_or, suc, reverse, ℤ, neg_ℤ, IsSome}
 use Rattle.clause_core.specs.Clause.{Clause, IsSubset}
 use Rattle.miter_encoder.specs.declared.goal.Goal.{Goal}
 use Rattle.drup_checker.specs.Checking.{shown_at}

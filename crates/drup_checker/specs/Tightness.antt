@@ -1,10 +1,10 @@
 -- How a tight chain is found from the reasons of what stands, from the last literal down. Private clauses alone cite it.
-use Rattle.std.specs.Prelude.{◌≡◌, ◌≢◌, ◌⊎◌, ◌<◌, ℕ, suc, Bool, true, false, List, [], map, length, take, reverse, ℤ, neg_ℤ, slice_index_or, IsSome}
+use Rattle.std.specs.Prelude.{◌≡◌, ◌≢◌, ◌⊎◌, ◌<◌, ℕ, Bool, true, false, List, [], map, length, take, ℤ, neg_ℤ, slice_index_or, IsSome}
 use Rattle.std.specs.declared.option.Option.{Option}
 use Rattle.std.specs.declared.option.Option.TheVariants.{None, Some}
-use Rattle.std.specs.List.{All, Any, Contains}
-use Rattle.clause_core.specs.Clause.{Clause, IsSubset}
-use Rattle.clause_core.specs.TightChains.{IsTight, IsTightChain}
+use Rattle.std.specs.List.{All, Contains}
+use Rattle.clause_core.specs.Clause.{Clause}
+use Rattle.clause_core.specs.TightChains.{IsTightChain}
 use Rattle.unit_prop.specs.Standing.{Standing, at, clause_at}
 use Rattle.unit_prop.specs.Trail.{signed_variable}
 

@@ -1,7 +1,7 @@
 // The live clauses, each of which is found by a look into one chain.
 ghost use Rattle.std.specs.Prelude.{◌≡◌, ◌↔◌, ◌+◌, ◌<◌, ◌^◌, ◌++◌, ◌∷◌, [], false, length, map, slice_index, IfOk, IfSome, IsNone, IsTrue, OnErr, OnOk, vec_capacity, vec_len};
 ghost use Rattle.std.specs.List.{All, Any};
-ghost use Rattle.clause_core.specs.Clause.{IsClauseInRange, SameSet};
+ghost use Rattle.clause_core.specs.Clause.{IsClause, IsClauseInRange, SameSet};
 ghost use Rattle.clause_core.specs.ClauseLines.{Removes};
 ghost use Rattle.clause_core.specs.GateClauses.{AreGatesWithin};
 ghost use Rattle.clause_core.specs.UnitPropagation.{IsRup};
@@ -104,8 +104,8 @@ impl Store {
         let mut new = Store::empty(self.alloc, self.max, self.len())?;
         for place in 0..self.next.len() {
             match self.propagator.get(place as u32) {
-                Some(clause) => {
-                    new.append(clause, self.numbers.get(place))?;
+                Some(lits) => {
+                    new.append_lits(lits, self.numbers.get(place))?;
                 }
                 None => {}
             }
@@ -133,6 +133,18 @@ impl Store {
             self.append(clauses.get(place), 0)?;
         }
         Ok(())
+    }
+
+    // The clause of some literals, each once, rising.
+    fn append_lits(&mut self, lits: &[i32], number: u64) -> Result<(), Memory>
+        requires range { IsClauseInRange self.old.max lits.now }
+        requires clause { IsClause lits.now }
+        ensures { OnOk result (self.new ≡ held_with self.old lits.now number) }
+    {
+        let clause = Clause::new(self.alloc, lits)?;
+        // both rise, so the lists are the same
+        let _lits = clause.lits();
+        self.append(&clause, number)
     }
 
     fn append(&mut self, clause: &Clause, number: u64) -> Result<(), Memory>

@@ -148,11 +148,11 @@ fn explain(
 }
 
 // Marks the variables of a clause.
-fn mark(seen: &mut [bool], clause: &Clause)
-    requires { All (λ l. signed_variable l < length seen.old) clause.now }
-    ensures { Marks clause.now seen.old seen.new }
+fn mark(seen: &mut [bool], lits: &[i32])
+    requires { All (λ l. signed_variable l < length seen.old) lits.now }
+    ensures { Marks lits.now seen.old seen.new }
 {
-    for &lit in clause.lits() {
+    for &lit in lits {
         seen[variable_of(lit) as usize] = true;
     }
 }

@@ -1,7 +1,7 @@
 -- What one clause says where some literals stand.
-use Rattle.std.specs.Prelude.{◌≡◌, ◌≢◌, ◌⊎◌, List, [], ◌∷◌, ◌++◌, ℤ, pos, neg_ℤ}
+use Rattle.std.specs.Prelude.{◌≡◌, ◌⊎◌, List, [], ◌∷◌, ◌++◌, ℤ, pos, neg_ℤ}
 use Rattle.std.specs.List.{All, Contains}
-use Rattle.std.proofs.Common.{Bool, Err, IfOk, IsTrue, Ok, Result, true, false, inl, inr, subst, ⊎_elim}
+use Rattle.std.proofs.Common.{Bool, Err, IfOk, IsTrue, Ok, Result, true, false, subst, ⊎_elim}
 use Rattle.std.proofs.lemmas.Bool.{false≢true}
 use Rattle.std.proofs.lemmas.List.Elements.{All-cons, All-contains, All-nil, Contains-push_cases}
 use Rattle.clause_core.specs.Clause.{Clause, IsLiteral, IsSubset}

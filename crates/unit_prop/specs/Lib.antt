@@ -7,4 +7,5 @@ pub mod Trail
 pub mod Standing
 pub mod Visits
 pub mod Ground
+pub mod Kept
 pub mod Near

@@ -5,9 +5,9 @@ ghost use Rattle.unit_prop.specs.Standing.{clause_at};
 ghost use Rattle.unit_prop.specs.Visits.{AreClauses, IsVisitedUpTo};
 ghost use Rattle.unit_prop.specs.Ground.{AreShorts, IsGround, Forgets};
 
+use crate::kept::Kept;
 use crate::trail::Trail;
 use crate::watches::Watches;
-use clause_core::Clause;
 use graph_core::Memory;
 
 // The most clauses that there can be.
@@ -15,7 +15,7 @@ const MOST: usize = 2147483646;
 
 /// Takes the room for one more clause.
 pub(crate) fn make_room(
-    clauses: &mut Vec<Option<Clause>>,
+    clauses: &mut Vec<Kept>,
     shorts: &mut Vec<u32>,
     watches: &mut Watches,
 ) -> Result<(), Memory>
@@ -37,12 +37,7 @@ pub(crate) fn make_room(
 }
 
 /// A clause of fewer than two literals counts at once: its literal stands, or it is false.
-pub(crate) fn stand(
-    clauses: &[Option<Clause>],
-    trail: &mut Trail,
-    refuted: &mut Option<u32>,
-    place: u32,
-)
+pub(crate) fn stand(clauses: &[Kept], trail: &mut Trail, refuted: &mut Option<u32>, place: u32)
     requires kept { IsVisitedUpTo clauses.now trail.old 0 }
     requires clauses { AreClauses trail.old.max clauses.now }
     requires few { length clauses.now < 4294967295 }
@@ -52,10 +47,9 @@ pub(crate) fn stand(
     ensures kept { IsVisitedUpTo clauses.now trail.new 0 }
     ensures ground { IsGround clauses.now (place + 1) trail.new.lits trail.new.reasons refuted.new }
 {
-    let Some(clause) = &clauses[place as usize] else {
+    let Some(lits) = clauses[place as usize].lits() else {
         return;
     };
-    let lits = clause.lits();
     if lits.is_empty() {
         *refuted = Some(place);
         return;
@@ -70,7 +64,7 @@ pub(crate) fn stand(
 
 /// The clauses of fewer than two literals count, one after the other.
 pub(crate) fn stand_all(
-    clauses: &[Option<Clause>],
+    clauses: &[Kept],
     shorts: &[u32],
     trail: &mut Trail,
     refuted: &mut Option<u32>,
@@ -90,12 +84,12 @@ pub(crate) fn stand_all(
 }
 
 /// How many literals a live clause has.
-pub(crate) fn len_of(clauses: &[Option<Clause>], place: u32) -> usize
+pub(crate) fn len_of(clauses: &[Kept], place: u32) -> usize
     requires { IsSome (clause_at clauses.now place) }
     ensures { (c : Literals) → clause_at clauses.now place ≡ Some c → result ≡ length c }
 {
-    match &clauses[place as usize] {
-        Some(clause) => clause.lits().len(),
+    match clauses[place as usize].lits() {
+        Some(lits) => lits.len(),
         None => 0,
     }
 }

@@ -12,6 +12,7 @@
 
 mod assumed;
 mod ground;
+mod kept;
 mod literal;
 mod near;
 mod propagator;

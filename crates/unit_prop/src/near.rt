@@ -1,12 +1,12 @@
 // Propagation through the clauses near a few literals.
 ghost use Rattle.std.specs.Prelude.{◌≡◌, ◌⊎◌, ◌↔◌, neg_ℤ, IfOk, IfSome, IsTrue, MatchOption, Some};
 ghost use Rattle.std.specs.List.{All, Contains};
-ghost use Rattle.clause_core.specs.Clause.{IsLiteral as IsClauseLiteral};
+ghost use Rattle.clause_core.specs.Clause.{IsClause, IsLiteral as IsClauseLiteral};
 ghost use Rattle.unit_prop.specs.Standing.{clause_at, live_of};
 ghost use Rattle.unit_prop.specs.Near.{FindsNear};
 
+use crate::kept::Kept;
 use crate::watches::{NONE, Watches};
-use clause_core::Clause;
 use graph_core::Memory;
 
 // How often the literals are gone through: each time this many more of them, and at this many clauses of each.
@@ -21,7 +21,7 @@ const FEW: u32 = 12;
 /// there is one. A clause that leads to none
 /// may do so once more literals are there, so they are gone through again.
 pub(crate) fn visit_near(
-    clauses: &[Option<Clause>],
+    clauses: &[Kept],
     watches: &Watches,
     vars: &[u32],
     lits: &mut Vec<i32>,
@@ -38,7 +38,7 @@ pub(crate) fn visit_near(
 
 // The same for so many literals, once.
 fn visit_each(
-    clauses: &[Option<Clause>],
+    clauses: &[Kept],
     watches: &Watches,
     vars: &[u32],
     most: usize,
@@ -59,7 +59,7 @@ fn visit_each(
 
 // The same for the clauses that watch one literal.
 fn visit_watching(
-    clauses: &[Option<Clause>],
+    clauses: &[Kept],
     watches: &Watches,
     vars: &[u32],
     lit: i32,
@@ -82,17 +82,16 @@ fn visit_watching(
 
 // The same for one clause.
 fn look_at(
-    clauses: &[Option<Clause>],
+    clauses: &[Kept],
     vars: &[u32],
     reference: u32,
     lits: &mut Vec<i32>,
 ) -> Result<bool, Memory>
     ensures { IfOk result (FindsNear (live_of clauses.now) lits.old.items lits.new.items) }
 {
-    let Some(clause) = clause_of(clauses, reference) else {
+    let Some(own) = clause_of(clauses, reference) else {
         return Ok(false);
     };
-    let own = clause.lits();
     let Some(first) = other_open(lits, own, 0) else {
         return Ok(true);
     };
@@ -109,12 +108,13 @@ fn is_new(lits: &[i32], vars: &[u32], lit: i32) -> bool {
     !has(lits, lit) && vars.contains(&lit.unsigned_abs())
 }
 
-// The clause of a reference, if it is live.
-fn clause_of(clauses: &[Option<Clause>], reference: u32) -> Option<&Clause>
-    ensures { IfSome result (λ c. clause_at clauses.now reference ≡ Some c.now) }
+// The literals of the clause of a reference, if it is live.
+fn clause_of(clauses: &[Kept], reference: u32) -> Option<&[i32]>
+    ensures value { IfSome result (λ c. clause_at clauses.now reference ≡ Some c.now) }
+    ensures clause { IfSome result (λ c. IsClause c.now) }
 {
     if (reference as usize) < clauses.len() {
-        return clauses[reference as usize].as_ref();
+        return clauses[reference as usize].lits();
     }
     None
 }

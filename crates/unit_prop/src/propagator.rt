@@ -1,7 +1,7 @@
 // Clauses, and what stands over them.
 ghost use Rattle.std.specs.Prelude.{◌≡◌, ◌≢◌, ◌↔◌, ◌<◌, ◌≤◌, ◌^◌, [], ◌∷◌, length, neg_ℤ, ℤ, IfOk, IfSome, IsFalse, MatchOption, OnErr, None, IsNone, IsSome, IsTrue, Some};
 ghost use Rattle.std.specs.List.{Contains};
-ghost use Rattle.clause_core.specs.Clause.{Clause as Literals, IsSubset};
+ghost use Rattle.clause_core.specs.Clause.{Clause as Literals, IsClause, IsSubset};
 ghost use Rattle.clause_core.specs.UnitPropagation.{IsRefuted};
 ghost use Rattle.unit_prop.specs.Trail.{IsLiteralUpTo, HasValue};
 ghost use Rattle.unit_prop.specs.Standing.{
@@ -26,6 +26,7 @@ ghost use Rattle.unit_prop.specs.Standing.{
 
 use crate::assumed::Assumed;
 use crate::ground::{forget, len_of, make_room, stand, stand_all};
+use crate::kept::Kept;
 use crate::near::visit_near;
 use crate::reference::{Mark, Ref};
 use crate::trail::Trail;
@@ -41,7 +42,7 @@ use std::marker::Model;
 pub struct Propagator {
     alloc: Global,
     /// The clauses by reference; None for one that was removed.
-    clauses: Vec<Option<Clause>>,
+    clauses: Vec<Kept>,
     /// Those of fewer than two literals, which nothing watches.
     shorts: Vec<u32>,
     /// Two watches for each other one, also for one that was removed, until propagation meets them.
@@ -95,13 +96,13 @@ impl Propagator {
         ensures few { IfOk result (λ r. r < 2 ^ 31) }
         ensures err { OnErr result (self.new ≡ self.old) }
     {
-        let own = clause.copy(self.alloc)?;
+        let own = Kept::of(self.alloc, clause)?;
         make_room(&mut self.clauses, &mut self.shorts, &mut self.watches)?;
         let units = self.units;
         self.trail.truncate(units);
         self.head = 0;
         let place = self.clauses.len() as u32;
-        let _ = self.clauses.push(Some(own));
+        let _ = self.clauses.push(own);
         let lits = clause.lits();
         if lits.len() < 2 {
             let _ = self.shorts.push(place);
@@ -124,10 +125,10 @@ impl Propagator {
         ensures err { OnErr result (self.new ≡ self.old) }
     {
         let _distinct = clause.lits();
-        let own = clause.copy(self.alloc)?;
+        let own = Kept::of(self.alloc, clause)?;
         make_room(&mut self.clauses, &mut self.shorts, &mut self.watches)?;
         let place = self.clauses.len() as u32;
-        let _ = self.clauses.push(Some(own));
+        let _ = self.clauses.push(own);
         self.watches.hang(2 * place, first);
         self.watches.hang(2 * place + 1, second);
         Ok(Ref { place })
@@ -142,7 +143,7 @@ impl Propagator {
         let len = len_of(&self.clauses, place);
         self.head = 0;
         if len < 2 {
-            self.clauses[place as usize] = None;
+            self.clauses[place as usize] = Kept::gone();
             forget(&mut self.shorts, place);
             self.trail.truncate(0);
             self.refuted = None;
@@ -157,7 +158,7 @@ impl Propagator {
         }
         let units = self.units;
         self.trail.truncate(units);
-        self.clauses[place as usize] = None;
+        self.clauses[place as usize] = Kept::gone();
     }
 
     /// Lets each consequence of what stands stand, or gives a clause that is false.
@@ -291,35 +292,37 @@ impl Propagator {
         None
     }
 
-    /// The clause of a place, if it is live.
-    pub fn get(&self, place: u32) -> Option<&Clause>
-        ensures { MatchOption result (clause_at self.now.clauses place ≡ None)
+    /// The literals of the clause of a place, each once, rising, if it is live.
+    pub fn get(&self, place: u32) -> Option<&[i32]>
+        ensures value { MatchOption result (clause_at self.now.clauses place ≡ None)
             (λ c. clause_at self.now.clauses place ≡ Some c.now) }
+        ensures clause { IfSome result (λ c. IsClause c.now) }
     {
         if (place as usize) < self.clauses.len() {
-            return self.clauses[place as usize].as_ref();
+            return self.clauses[place as usize].lits();
         }
         None
     }
 
-    /// A clause of the propagator.
-    pub fn clause(&self, reference: Ref) -> &Clause
+    /// The literals of a clause of the propagator, each once, rising.
+    pub fn clause(&self, reference: Ref) -> &[i32]
         requires { IsSome (clause_at self.now.clauses reference) }
-        ensures { clause_at self.now.clauses reference ≡ Some result.now }
+        ensures value { clause_at self.now.clauses reference ≡ Some result.now }
+        ensures clause { IsClause result.now }
     {
-        match &self.clauses[reference.place as usize] {
-            Some(clause) => clause,
+        match self.clauses[reference.place as usize].lits() {
+            Some(lits) => lits,
             None => unreachable!(),
         }
     }
 }
 
-fn is_at(clauses: &[Option<Clause>], place: u32, clause: &Clause) -> bool
+fn is_at(clauses: &[Kept], place: u32, clause: &Clause) -> bool
     requires { place < length clauses.now }
     ensures { IsTrue result ↔ HasSetAt clauses.now clause.now place }
 {
-    match &clauses[place as usize] {
+    match clauses[place as usize].lits() {
         None => false,
-        Some(other) => other.is_subset(clause) && clause.is_subset(other),
+        Some(lits) => lits == clause.lits(),
     }
 }

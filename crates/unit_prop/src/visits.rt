@@ -28,15 +28,15 @@ ghost use Rattle.unit_prop.specs.Trail.{IsLiteralUpTo};
 ghost use Rattle.unit_prop.specs.Standing.{clause_at};
 ghost use Rattle.unit_prop.specs.Visits.{IsVisitedUpTo, GainsLiterals, IsVisit, Settles, IsChosenWatch, IsFalse, IsPropagating};
 
+use crate::kept::Kept;
 use crate::literal::negation;
 use crate::trail::Trail;
 use crate::watches::{Watches, partner_of};
-use clause_core::Clause;
 
 /// A watch whose literal is false.
 #[derive(Clone, Copy)]
 pub(crate) struct Watch<'a> {
-    clauses: &'a [Option<Clause>],
+    clauses: &'a [Kept],
     reference: u32,
     lit: i32,
     /// The other literal that its clause watches, or 0.
@@ -86,10 +86,10 @@ fn settle(watch: &Watch<'_>, trail: &mut Trail) -> Settled
     if trail.is_true(watch.other) {
         return Settled::Stays;
     }
-    let Some(clause) = &watch.clauses[watch.reference as usize] else {
+    let Some(lits) = watch.clauses[watch.reference as usize].lits() else {
         return Settled::Gone;
     };
-    match replacement(trail, clause.lits(), watch.other) {
+    match replacement(trail, lits, watch.other) {
         Some(lit) => Settled::Moves(lit),
         None if !trail.is_false(watch.other) => {
             trail.push(watch.other, watch.reference, watch.head);
@@ -125,7 +125,7 @@ fn next_literal(watch: &Watch<'_>, trail: &mut Trail, conflict: &mut Option<u32>
 /// Visits the clauses that watch the negation of the literal at a place of the trail, the first place that wasn't
 /// visited yet. The nodes of clauses that were removed are taken out. Gives a clause that is false, if there is one.
 pub(crate) fn visit(
-    clauses: &[Option<Clause>],
+    clauses: &[Kept],
     watches: &mut Watches,
     trail: &mut Trail,
     at: u32,
@@ -160,7 +160,7 @@ pub(crate) fn visit(
 /// Visits the clauses for each literal of the trail, also for those that come to stand, up to its end or to a clause
 /// that is false.
 pub(crate) fn visit_all(
-    clauses: &[Option<Clause>],
+    clauses: &[Kept],
     watches: &mut Watches,
     trail: &mut Trail,
     head: &mut u32,

@@ -15,7 +15,7 @@ pub mark-requires : goal.mark-requires
 mark-requires c k d low =
     let s = c.args.propagator.now in
     let range = subst (λ (m : ℕ). IsClauseInRange m c.args.clause.now) (sym c.requires.max) c.requires.in_range in
-    let most = opposed_range s c.args.from c.args.clause.now c.clause.result.now c.requires.sound c.requires.from range (c.requires.opposed c.clause.result.now c.clause.ensures) (slice_index_or c.clause.result.now k d) (Contains-get_or c.clause.result.now k d low) in
+    let most = opposed_range s c.args.from c.args.clause.now c.clause.result.now c.requires.sound c.requires.from range (c.requires.opposed c.clause.result.now c.clause.ensures.value) (slice_index_or c.clause.result.now k d) (Contains-get_or c.clause.result.now k d low) in
     omega (arith, most, ap length c.deref_mut.ensures.value, c.in_ok-seen.ensures.len, c.in_ok-seen.seen.ok.0, c.requires.max)
 
 pub walk-init : goal.walk-init
@@ -25,8 +25,8 @@ walk-init c =
     let same : c.deref_mut.result.now ≡ v.items = c.deref_mut.ensures.value in
     let many : length c.deref_mut.result.now ≡ suc s.trail.greatest = omega (arith, ap length same, c.in_ok-seen.ensures.len, v.ok.0, c.requires.max) in
     let nothing : c.deref_mut.result.now ≡ replicate (c.args.max + 1) false = same ∙ c.in_ok-seen.ensures.items_if_clones_equal (λ y h. search rules) in
-    let reached = reached_first s c.requires.sound (map neg_ℤ c.args.clause.now) c.args.from (c.args.max + 1) c.deref_mut.result.now c.mark.new.seen c.args.last c.clause.result.now c.requires.from c.clause.ensures
-    (c.requires.opposed c.clause.result.now c.clause.ensures) nothing many c.mark.ensures in
+    let reached = reached_first s c.requires.sound (map neg_ℤ c.args.clause.now) c.args.from (c.args.max + 1) c.deref_mut.result.now c.mark.new.seen c.args.last c.clause.result.now c.requires.from c.clause.ensures.value
+    (c.requires.opposed c.clause.result.now c.clause.ensures.value) nothing many c.mark.ensures in
     let places : c.push.new.self.items ≡ c.args.last ∷ [] = c.in_ok-push.ensures.items ∙ ap₂ (λ (xs : List ℕ) (x : ℕ). xs ++ x ∷ []) c.new-places.ensures.items c.place.ensures in
     record {
       within = c.requires.from;
@@ -44,7 +44,7 @@ mark-requires-in-Some c k d low =
     let var : c.variable_of-var.result ≡ signed_variable (at s.trail.literals p) = rw (to_z-of_z, same) at c.variable_of-var.ensures in
     let is : IsReasonOf s.trail (signed_variable (at s.trail.literals p)) (Some c.in-Some.reason) = rw (var, c.in-Some.is) at c.reason.ensures in
     let reason = reason_place s p c.in-Some.reason c.requires.sound b is in
-    let most = reason_range s p c.in-Some.reason c.clause-in-Some.result.now c.requires.sound b reason c.clause-in-Some.ensures (slice_index_or c.clause-in-Some.result.now k d) (Contains-get_or c.clause-in-Some.result.now k d low) in
+    let most = reason_range s p c.in-Some.reason c.clause-in-Some.result.now c.requires.sound b reason c.clause-in-Some.ensures.value (slice_index_or c.clause-in-Some.result.now k d) (Contains-get_or c.clause-in-Some.result.now k d low) in
     omega (arith, most, ap length c.deref_mut-in-Some.ensures.value, c.walk.invariant.reached.size)
 
 pub walk-preserved-in-Continue-branch-3 : goal.walk-preserved-in-Continue-branch-3
@@ -70,7 +70,7 @@ walk-preserved-in-Continue-branch-3 c =
       within = omega (arith, b);
       reached = subst (λ (xs : List Bool). IsReached s opposed xs c.push-in-Some.new.self.items p) (sym (written v.len c.mark-in-Some.new.seen v.items (omega (arith, v.ok.0)) marks.places))
           (subst (λ (ps : List ℕ). IsReached s opposed c.mark-in-Some.new.seen ps p) (sym places)
-          (reached_forced s c.requires.sound opposed v.items c.walk.places.items p reached b c.mark-in-Some.new.seen c.in-Some.reason c.clause-in-Some.result.now needs reason c.clause-in-Some.ensures marks));
+          (reached_forced s c.requires.sound opposed v.items c.walk.places.items p reached b c.mark-in-Some.new.seen c.in-Some.reason c.clause-in-Some.result.now needs reason c.clause-in-Some.ensures.value marks));
     }
 
 pub walk-preserved-in_default : goal.walk-preserved-in_default

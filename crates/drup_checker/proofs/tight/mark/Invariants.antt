@@ -3,4 +3,4 @@ use Rattle.drup_checker.specs.Tightness.{Marks}
 use Rattle.drup_checker.proofs.tight.mark.Given as goal
 
 abbrev pub invariant-loop-lit : goal.invariant-loop-lit
-invariant-loop-lit l = Marks (take l.lit-index l.lit-items) l.initial.seen l.seen
+invariant-loop-lit l = Marks (take l.lit-index l.lits) l.initial.seen l.seen

@@ -1,4 +1,4 @@
-use Rattle.std.proofs.Common.{◌≡◌, ◌++◌, ◌∷◌, [], ℤ, length, ap, sym, subst, ◌∙◌, arith, w32, neg_ℤ, to_z, of_z, Some}
+use Rattle.std.proofs.Common.{◌≡◌, ◌++◌, ◌∷◌, [], ℤ, length, ap, sym, subst, ◌∙◌, arith, w32, neg_ℤ, to_z, of_z, Option, Some}
 use Rattle.std.specs.List.{Contains}
 use Rattle.std.proofs.lemmas.Int.{to_z-of_z}
 use Rattle.clause_core.specs.Clause.{Clause}
@@ -31,7 +31,7 @@ invariant_of-self-2 c =
     let room = c.in_ok-make_room.ensures in
     let place : c.len-place.result ≡ length i.clauses.items = omega (arith, c.len-place.ensures, c.make_room.new.clauses.ok, ap length room.clauses) in
     let added = if_true _ _ _ _ (c.push.ensures.succeeds room.room.0) c.push.ensures.items in
-    let pushed : c.push.new.self.items ≡ i.clauses.items ++ Some c.args.clause.now ∷ [] = added ∙ (ap (λ xs. xs ++ Some c.in_ok-own.own ∷ []) room.clauses ∙ ap (λ (d : Clause). i.clauses.items ++ Some d ∷ []) c.in_ok-own.ensures) in
+    let pushed : c.push.new.self.items ≡ i.clauses.items ++ Some c.args.clause.now ∷ [] = added ∙ (ap (λ xs. xs ++ c.in_ok-own.own ∷ []) room.clauses ∙ ap (λ (d : Option Clause). i.clauses.items ++ d ∷ []) c.in_ok-own.ensures) in
     let within : (l : ℤ) → Contains c.args.clause.now l → IsLiteralUpTo i.trail.max l = subst (λ (s : Standing). (l : ℤ) → Contains c.args.clause.now l → IsLiteralUpTo s.trail.greatest l) (sym c.self.view_is) c.requires.within in
     let x : to_z w32 (of_z w32 c.args.first) ≡ c.args.first = to_z-of_z w32 c.args.first (literal_fits c.args.first (within c.args.first c.requires.two.0).0) in
     let y : to_z w32 (of_z w32 c.args.second) ≡ c.args.second = to_z-of_z w32 c.args.second (literal_fits c.args.second (within c.args.second c.requires.two.1).0) in
@@ -48,5 +48,5 @@ returns-clause-ok c =
     let room = c.in_ok-make_room.ensures in
     let place : c.len-place.result ≡ length i.clauses.items = omega (arith, c.len-place.ensures, c.make_room.new.clauses.ok, ap length room.clauses) in
     let added = if_true _ _ _ _ (c.push.ensures.succeeds room.room.0) c.push.ensures.items in
-    let pushed : c.push.new.self.items ≡ i.clauses.items ++ Some c.args.clause.now ∷ [] = added ∙ (ap (λ xs. xs ++ Some c.in_ok-own.own ∷ []) room.clauses ∙ ap (λ (d : Clause). i.clauses.items ++ Some d ∷ []) c.in_ok-own.ensures) in
+    let pushed : c.push.new.self.items ≡ i.clauses.items ++ Some c.args.clause.now ∷ [] = added ∙ (ap (λ xs. xs ++ c.in_ok-own.own ∷ []) room.clauses ∙ ap (λ (d : Option Clause). i.clauses.items ++ d ∷ []) c.in_ok-own.ensures) in
     (place ∙ ap (λ (s : Standing). length s.clauses) c.self.view_is, rw pushed (ap (λ (s : Standing). standing_more s c.args.clause.now) c.self.view_is))

@@ -1,4 +1,4 @@
-use Rattle.std.proofs.Common.{[], ◌∷◌, List, ℤ, subst, w32}
+use Rattle.std.proofs.Common.{[], ◌∷◌, subst, w32}
 use Rattle.std.specs.List.{Contains}
 use Rattle.std.proofs.lemmas.Int.{to_z-of_z}
 use Rattle.clause_core.specs.Clause.{Clause, IsSubset}
