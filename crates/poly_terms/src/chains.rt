@@ -179,6 +179,7 @@ fn linked(alloc: Global, monomials: &Lists, count: usize) -> Result<(Numbers, Nu
 }
 
 // Puts the next number at the head of its monomial's chain.
+#[inline(always)]
 fn hang(monomial: &[u32], heads: &mut Numbers, links: &mut Numbers) -> Result<(), AllocError>
     requires some { 0 < length heads.old }
     ensures hangs { OnOk result

@@ -59,8 +59,8 @@ impl Lists {
         requires { number < length self.now }
         ensures { get_or self.now number [] ≡ result.now }
     {
-        let start = start_of(&self.ends, number);
-        part(&self.variables, start, self.ends.at(number))
+        let (start, end) = self.ends.around(number);
+        part(&self.variables, start, end)
     }
 
     /// One more list, after the others.

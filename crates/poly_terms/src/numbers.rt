@@ -1,5 +1,6 @@
 // Lists of numbers that take four bytes each.
 ghost use Rattle.std.specs.Prelude.{◌≡◌, ◌<◌, ◌^◌, ◌++◌, ◌∷◌, [], IfOk, OnErr, OnOk, get_or, length, replicate, set, take};
+ghost use Rattle.poly_terms.specs.Lists.{start_at};
 
 use std::alloc::{AllocError, Global};
 use std::marker::Model;
@@ -71,6 +72,19 @@ impl Numbers {
         at(&self.narrow, &self.wide, place)
     }
 
+    /// The number before that at a place, or 0 where it is the first, and that at the place.
+    #[inline(always)]
+    pub(crate) fn around(&self, place: usize) -> (usize, usize)
+        requires { place < length self.now }
+        ensures before { result.0 ≡ start_at 0 self.now place }
+        ensures at { result.1 ≡ get_or self.now place 0 }
+    {
+        if place < self.narrow.len() {
+            return narrow_around(&self.narrow, place);
+        }
+        any_around(&self.narrow, &self.wide, place)
+    }
+
     /// One more number, after the others.
     #[inline(always)]
     pub(crate) fn push(&mut self, number: usize) -> Result<(), AllocError>
@@ -116,6 +130,36 @@ fn at(narrow: &[u32], wide: &[usize], place: usize) -> usize
     } else {
         wide[place - narrow.len()]
     }
+}
+
+// The number before a place, and that at it, where both are narrow.
+#[inline(always)]
+fn narrow_around(narrow: &[u32], place: usize) -> (usize, usize)
+    requires { place < length narrow.now }
+    ensures before { result.0 ≡ start_at 0 narrow.now place }
+    ensures at { result.1 ≡ get_or narrow.now place 0 }
+{
+    let before = if place == 0 {
+        0
+    } else {
+        narrow[place - 1] as usize
+    };
+    (before, narrow[place] as usize)
+}
+
+// The same of any, apart so that the test is inlined.
+#[inline(never)]
+fn any_around(narrow: &[u32], wide: &[usize], place: usize) -> (usize, usize)
+    requires { place < length (narrow.now ++ wide.now) }
+    ensures before { result.0 ≡ start_at 0 (narrow.now ++ wide.now) place }
+    ensures at { result.1 ≡ get_or (narrow.now ++ wide.now) place 0 }
+{
+    let before = if place == 0 {
+        0
+    } else {
+        at(narrow, wide, place - 1)
+    };
+    (before, at(narrow, wide, place))
 }
 
 #[inline(always)]
