@@ -1,13 +1,12 @@
 -- Numbers put at the places of variables.
-use Rattle.std.proofs.Common.{◌≡◌, ◌≢◌, ◌⊎◌, ℕ, zero, suc, ◌+◌, ◌<◌, Bool, true, false, ◌||◌, ◌==◌, List, [], ◌∷◌, ◌++◌, length, get_or, map, set, take, inl, inr, refl, sym, ap, ap₂, subst, ◌∙◌, ⊎_elim, arith, eqb-true, true≢false, get_or-set_same, get_or-set_other}
+use Rattle.std.proofs.Common.{◌≡◌, ◌≢◌, ◌⊎◌, ℕ, ◌+◌, ◌<◌, Bool, true, false, ◌||◌, ◌==◌, List, [], ◌∷◌, ◌++◌, length, get_or, set, take, inl, inr, refl, sym, ap, ap₂, subst, ◌∙◌, ⊎_elim, arith, eqb-true, true≢false, get_or-set_same, get_or-set_other}
 use Rattle.std.proofs.lemmas.Bool.{cases_Bool, eqb-false}
-use Rattle.std.proofs.lemmas.List.{get_or-map, length-map, take_more}
+use Rattle.std.proofs.lemmas.List.{take_more}
 use Rattle.std.proofs.lemmas.List.Elements.{Contains-append_left, Contains-push}
-use Rattle.std.specs.Global.{Global}
 use Rattle.std.specs.List.{Contains}
-use Rattle.std.specs.declared.vec.Vec.{Vec}
 use Rattle.poly_terms.specs.Indexed.{Enters}
 use Rattle.poly_terms.specs.Monomials.{has_variable}
+use Rattle.poly_terms.proofs.Sparse.{any_default, get_or-more}
 
 pub enters_none : (number : ℕ) (places : List (List ℕ)) → Enters number [] places places
 enters_none number places = record { kept = λ v n h. h; entered = λ v has. absurd (true≢false (sym has)) }
@@ -59,33 +58,16 @@ enters_one number v old mid new same low is = record {
 
 -- ---- as they are kept
 
-map-set : {X Y : Type 0} (g : X → Y) (xs : List X) (n : ℕ) (x : X) → map g (set xs n x) ≡ set (map g xs) n (g x)
-map-set g [] n x = refl
-map-set g (y ∷ ys) zero x = refl
-map-set g (y ∷ ys) (suc n) x = ap (λ zs. g y ∷ zs) (map-set g ys n x)
-
 -- one variable more, that has no number
-pub with_one_more : (old : List (List ℕ)) (xs ys : List (Vec ℕ Global)) (none : Vec ℕ Global) → ys ≡ xs ++ none ∷ [] → none.items ≡ [] →
-    ((u : ℕ) → get_or (map (λ ns. ns.items) xs) u [] ≡ get_or old u []) → (u : ℕ) → get_or (map (λ ns. ns.items) ys) u [] ≡ get_or old u []
-with_one_more old xs ys none is empty same u = ap (λ zs. get_or (map (λ (ns : Vec ℕ Global). ns.items) zs) u []) is ∙ go xs u ∙ same u
-  where
-    go : (zs : List (Vec ℕ Global)) (k : ℕ) → get_or (map (λ ns. ns.items) (zs ++ none ∷ [])) k [] ≡ get_or (map (λ ns. ns.items) zs) k []
-    go [] zero = empty
-    go [] (suc k) = refl
-    go (z ∷ zs) zero = refl
-    go (z ∷ zs) (suc k) = go zs k
+pub with_one_more : (old xs ys : List (List ℕ)) (none : List ℕ) → ys ≡ xs ++ none ∷ [] → none ≡ [] → ((u : ℕ) → get_or xs u [] ≡ get_or old u []) → (u : ℕ) → get_or ys u [] ≡ get_or old u []
+with_one_more old xs ys none is empty same u = ap (λ zs. get_or zs u []) (is ∙ ap (λ ns. xs ++ ns ∷ []) empty) ∙ get_or-more xs u [] ∙ same u
 
-pub enters_item : (number v : ℕ) (old mid : List (List ℕ)) (xs : List (Vec ℕ Global)) (item more : Vec ℕ Global) → map (λ ns. ns.items) xs ≡ mid → ((u : ℕ) → get_or mid u [] ≡ get_or old u []) →
-    v < length mid → item ≡ get_or xs v item → more.items ≡ item.items ++ number ∷ [] → Enters number (v ∷ []) old (map (λ ns. ns.items) (set xs v more))
+pub enters_item : (number v : ℕ) (old mid xs : List (List ℕ)) (item more : List ℕ) → xs ≡ mid → ((u : ℕ) → get_or mid u [] ≡ get_or old u []) → v < length mid → item ≡ get_or xs v item →
+    more ≡ item ++ number ∷ [] → Enters number (v ∷ []) old (set xs v more)
 enters_item number v old mid xs item more view same low at is =
-    let long : length mid ≡ length xs = ap length (sym view) ∙ length-map xs (λ (ns : Vec ℕ Global). ns.items) in
-    let within : v < length xs = omega arith in
-    let there : get_or mid v [] ≡ item.items =
-    ap (λ ps. get_or ps v []) (sym view) ∙ get_or-map (λ (ns : Vec ℕ Global). ns.items) xs v item [] within ∙ ap (λ (ns : Vec ℕ Global). ns.items) (sym at) in
-    enters_one number v old mid (map (λ ns. ns.items) (set xs v more)) same low
-    (map-set (λ (ns : Vec ℕ Global). ns.items) xs v more ∙ ap₂ (λ ps ns. set ps v ns) view (is ∙ ap (λ ns. ns ++ number ∷ []) (sym there)))
+    let within : v < length xs = omega (arith, low, ap length view) in
+    let there : get_or mid v [] ≡ item = ap (λ ps. get_or ps v []) (sym view) ∙ any_default xs v [] item within ∙ sym at in
+    enters_one number v old mid (set xs v more) same low (ap₂ (λ ps ns. set ps v ns) view (is ∙ ap (λ ns. ns ++ number ∷ []) (sym there)))
 
-pub others_item : (v : ℕ) (old : List (List ℕ)) (xs : List (Vec ℕ Global)) (item : Vec ℕ Global) → map (λ ns. ns.items) xs ≡ old → (u : ℕ) → u ≢ v →
-    get_or (map (λ ns. ns.items) (set xs v item)) u [] ≡ get_or old u []
-others_item v old xs item view u other =
-    ap (λ ps. get_or ps u []) (map-set (λ (ns : Vec ℕ Global). ns.items) xs v item) ∙ get_or-set_other (map (λ ns. ns.items) xs) v u item.items [] other ∙ ap (λ ps. get_or ps u []) view
+pub others_item : (v : ℕ) (old xs : List (List ℕ)) (item : List ℕ) → xs ≡ old → (u : ℕ) → u ≢ v → get_or (set xs v item) u [] ≡ get_or old u []
+others_item v old xs item view u other = get_or-set_other xs v u item [] other ∙ ap (λ ps. get_or ps u []) view

@@ -1,28 +1,25 @@
-// Coefficients by the numbers of monomials, with a count of those that aren't 0.
-ghost use Rattle.std.specs.Prelude.{◌≡◌, ◌≢◌, ◌+◌, ◌<◌, ◌^◌, ◌++◌, ◌∷◌, [], IfOk, OnOk, get_or, length, set};
-ghost use Rattle.poly_terms.specs.Indexed.{IsLonger, counted, terms_from};
+// Coefficients by the numbers of monomials.
+ghost use Rattle.std.specs.Prelude.{◌≡◌, ◌<◌, [], OnOk, get_or, length, set};
+ghost use Rattle.poly_terms.specs.Indexed.{IsLonger};
 
-use crate::term::Term;
 use std::alloc::{AllocError, Global};
 use std::marker::Model;
+
+// From so many on a move leaves a hole of a MB or more, which is often too small for what comes after it.
+const MANY: usize = 1 << 16;
 
 /// The coefficients of a polynomial, by number. A number past the end has 0.
 #[derive(Debug, Drop)]
 pub(crate) struct Coefficients {
     by_number: Vec<u128>,
-    /// how many aren't 0
-    count: u64,
 }
 
 impl Model for Coefficients {
-    ghost use Rattle.std.specs.Prelude.{List, ℕ, ◌≡◌, length};
-    ghost use Rattle.poly_terms.specs.Indexed.{terms_from};
+    ghost use Rattle.std.specs.Prelude.{List, ℕ};
 
     ghost Value = { List ℕ };
 
     ghost view = { λ c. c.by_number.items };
-
-    ghost invariant = { λ c. c.count ≡ length (terms_from 0 c.by_number.items) };
 }
 
 impl Coefficients {
@@ -31,8 +28,14 @@ impl Coefficients {
     {
         Coefficients {
             by_number: Vec::new(alloc),
-            count: 0,
         }
+    }
+
+    /// How many numbers are within.
+    pub(crate) fn len(&self) -> usize
+        ensures { result ≡ length self.now }
+    {
+        self.by_number.len()
     }
 
     /// Has a number within, by as many 0 as it takes.
@@ -41,6 +44,9 @@ impl Coefficients {
         ensures longer { IsLonger self.old self.new }
         ensures long { OnOk result (number < length self.new) }
     {
+        if (number as usize) < self.by_number.len() {
+            return Ok(());
+        }
         lengthen(&mut self.by_number, number)
     }
 
@@ -50,9 +56,7 @@ impl Coefficients {
         requires { number < length self.old }
         ensures { self.new ≡ set self.old number coefficient }
     {
-        let place = number as usize;
-        self.count = recount(self.count, self.by_number[place], coefficient);
-        self.by_number[place] = coefficient;
+        self.by_number[number as usize] = coefficient;
     }
 
     /// The coefficient of a number.
@@ -65,24 +69,19 @@ impl Coefficients {
             None => 0,
         }
     }
-
-    /// How many terms there are.
-    pub(crate) fn count(&self) -> u64
-        ensures { result ≡ length (terms_from 0 self.now) }
-    {
-        self.count
-    }
-
-    /// The terms, rising.
-    pub(crate) fn terms(&self, alloc: Global) -> Result<Vec<Term>, AllocError>
-        ensures { IfOk result (λ out. out.items ≡ terms_from 0 self.now) }
-    {
-        terms_of(alloc, &self.by_number)
-    }
 }
 
 // Coefficients of 0 up to a number.
+#[inline(never)]
 fn lengthen(by_number: &mut Vec<u128>, number: u64) -> Result<(), AllocError>
+    ensures longer { IsLonger by_number.old.items by_number.new.items }
+    ensures long { OnOk result (number < length by_number.new.items) }
+{
+    make_room(by_number);
+    put_zeros(by_number, number)
+}
+
+fn put_zeros(by_number: &mut Vec<u128>, number: u64) -> Result<(), AllocError>
     ensures longer { IsLonger by_number.old.items by_number.new.items }
     ensures long { OnOk result (number < length by_number.new.items) }
 {
@@ -92,38 +91,12 @@ fn lengthen(by_number: &mut Vec<u128>, number: u64) -> Result<(), AllocError>
     Ok(())
 }
 
-// How many there are once a coefficient stands in place of another.
-#[inline(always)]
-fn recount(count: u64, before: u128, after: u128) -> u64
-    requires some { before ≢ 0 → 0 < count }
-    requires room { before ≡ 0 → count + 1 < 2 ^ 64 }
-    ensures { result + counted before ≡ count + counted after }
+// Makes much room at once where there are many, if there is as much: what isn't used takes no memory.
+fn make_room(by_number: &mut Vec<u128>)
+    ensures { by_number.new.items ≡ by_number.old.items }
 {
-    if before == 0 {
-        if after == 0 { count } else { count + 1 }
-    } else if after == 0 {
-        count - 1
-    } else {
-        count
+    let count = by_number.len();
+    if count >= MANY && count == by_number.capacity() {
+        let _ = by_number.try_reserve(count.saturating_mul(7));
     }
-}
-
-fn terms_of(alloc: Global, by_number: &[u128]) -> Result<Vec<Term>, AllocError>
-    ensures { IfOk result (λ out. out.items ≡ terms_from 0 by_number.now) }
-{
-    let mut out = Vec::new(alloc);
-    for number in 0..by_number.len() {
-        push_term(number as u64, by_number[number], &mut out)?;
-    }
-    Ok(out)
-}
-
-// A term after others, unless it is 0.
-fn push_term(number: u64, coefficient: u128, out: &mut Vec<Term>) -> Result<(), AllocError>
-    ensures { OnOk result (out.new.items ≡ out.old.items ++ terms_from number (coefficient ∷ [])) }
-{
-    if coefficient != 0 {
-        out.push(Term::new(number, coefficient))?;
-    }
-    Ok(())
 }

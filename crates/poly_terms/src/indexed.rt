@@ -8,8 +8,9 @@ ghost use Rattle.poly_terms.specs.Indexed.{AreIndexed, HasAddedTerms, IsGone, Is
 ghost use Rattle.poly_terms.specs.Monomials.{AreIn};
 ghost use Rattle.poly_terms.specs.Tables.{ArePlacesOf, IsOf, Table, assigned, modulus_in, quotient_value, value_in};
 
-use crate::coefficients::Coefficients;
+use crate::counted_coefficients::CountedCoefficients;
 use crate::numbering::Numbering;
+use crate::numbers::Numbers;
 use crate::places::Places;
 use crate::term::Term;
 use crate::{Poly, Terms, addition, coefficient, monomial};
@@ -22,7 +23,7 @@ use std::marker::Model;
 #[derive(Debug, Drop)]
 pub struct Indexed {
     alloc: Global,
-    coefficients: Coefficients,
+    coefficients: CountedCoefficients,
     places: Places,
 }
 
@@ -44,7 +45,7 @@ impl Indexed {
         terms.numbering().stand_once();
         Indexed {
             alloc,
-            coefficients: Coefficients::new(alloc),
+            coefficients: CountedCoefficients::new(alloc),
             places: Places::new(alloc),
         }
     }
@@ -119,7 +120,7 @@ impl Indexed {
 fn add_all(
     width: u32,
     table: &Numbering,
-    coefficients: &mut Coefficients,
+    coefficients: &mut CountedCoefficients,
     places: &mut Places,
     entries: &[Term],
 ) -> Result<(), AllocError>
@@ -138,7 +139,7 @@ fn add_all(
 fn add_term(
     width: u32,
     table: &Numbering,
-    coefficients: &mut Coefficients,
+    coefficients: &mut CountedCoefficients,
     places: &mut Places,
     term: &Term,
 ) -> Result<(), AllocError>
@@ -176,9 +177,9 @@ fn enter_new(
 fn take_out(
     alloc: Global,
     table: &Numbering,
-    coefficients: &mut Coefficients,
+    coefficients: &mut CountedCoefficients,
     v: u32,
-    numbers: &[u64],
+    numbers: &Numbers,
 ) -> Result<Vec<Term>, AllocError>
     requires { (n : ℕ) → 0 < get_or coefficients.old n 0 → n < length table.now }
     ensures taken { IfOk result (λ out. TakesOut table.now v coefficients.old coefficients.new [] out.items) }
@@ -186,8 +187,8 @@ fn take_out(
         IsGone table.now v coefficients.new (get_or numbers.now k 0)) }
 {
     let mut out = Vec::new(alloc);
-    for number in numbers {
-        take_one(table, coefficients, v, *number, &mut out)?;
+    for place in 0..numbers.len() {
+        take_one(table, coefficients, v, numbers.at(place) as u64, &mut out)?;
     }
     Ok(out)
 }
@@ -195,7 +196,7 @@ fn take_out(
 // Takes out a number's term, if it has the variable.
 fn take_one(
     table: &Numbering,
-    coefficients: &mut Coefficients,
+    coefficients: &mut CountedCoefficients,
     v: u32,
     number: u64,
     out: &mut Vec<Term>,

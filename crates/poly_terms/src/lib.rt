@@ -28,6 +28,7 @@ mod carrying;
 mod chains;
 mod coefficient;
 mod coefficients;
+mod counted_coefficients;
 mod evaluation;
 mod indexed;
 mod key;

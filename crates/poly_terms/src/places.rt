@@ -2,6 +2,7 @@
 ghost use Rattle.std.specs.Prelude.{◌≡◌, ◌≢◌, ◌<◌, ℕ, [], ◌∷◌, OnOk, get_or, length};
 ghost use Rattle.poly_terms.specs.Indexed.{Enters};
 
+use crate::numbers::Numbers;
 use std::alloc::{AllocError, Global};
 use std::marker::Model;
 use std::mem;
@@ -10,15 +11,15 @@ use std::mem;
 #[derive(Debug, Drop)]
 pub(crate) struct Places {
     alloc: Global,
-    by_variable: Vec<Vec<u64>>,
+    by_variable: Vec<Numbers>,
 }
 
 impl Model for Places {
-    ghost use Rattle.std.specs.Prelude.{List, ℕ, map};
+    ghost use Rattle.std.specs.Prelude.{List, ℕ};
 
     ghost Value = { List (List ℕ) };
 
-    ghost view = { λ p. map (λ ns. ns.items) p.by_variable.items };
+    ghost view = { λ p. p.by_variable.items };
 }
 
 impl Places {
@@ -45,7 +46,7 @@ impl Places {
         ensures { OnOk result (Enters number (v ∷ []) self.old self.new) }
     {
         self.reach(v)?;
-        self.by_variable[v as usize].push(number)?;
+        self.by_variable[v as usize].push(number as usize)?;
         Ok(())
     }
 
@@ -55,17 +56,17 @@ impl Places {
         ensures long { OnOk result (v < length self.new) }
     {
         for _ in self.by_variable.len()..=v as usize {
-            self.by_variable.push(Vec::new(self.alloc))?;
+            self.by_variable.push(Numbers::new(self.alloc))?;
         }
         Ok(())
     }
 
     /// Takes out the numbers of a variable.
-    pub(crate) fn take(&mut self, v: u32) -> Vec<u64>
-        ensures numbers { result.items ≡ get_or self.old v [] }
+    pub(crate) fn take(&mut self, v: u32) -> Numbers
+        ensures numbers { result ≡ get_or self.old v [] }
         ensures others { (u : ℕ) → u ≢ v → get_or self.new u [] ≡ get_or self.old u [] }
     {
-        let none = Vec::new(self.alloc);
+        let none = Numbers::new(self.alloc);
         if v as usize >= self.by_variable.len() {
             return none;
         }

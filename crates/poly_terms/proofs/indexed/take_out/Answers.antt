@@ -9,7 +9,7 @@ pub returns-in_err-take_one-clause-gone : goal.returns-in_err-take_one-clause-go
 returns-in_err-take_one-clause-gone c = not_done _ _ c.from_residual.result c.from_residual.ensures.1
 
 pub returns-clause-taken : goal.returns-clause-taken
-returns-clause-taken c = c.loop-number.invariant.taken
+returns-clause-taken c = c.loop-place.invariant.taken
 
 pub returns-clause-gone : goal.returns-clause-gone
-returns-clause-gone c k h = c.loop-number.invariant.gone k (omega (arith, h, c.loop-number-test.false))
+returns-clause-gone c k h = c.loop-place.invariant.gone k (omega (arith, h, c.loop-place-test.false))

@@ -1,7 +1,4 @@
-use Rattle.std.proofs.Common.{ℕ, ◌+◌, ◌∷◌, [], get_or, length, ap, ◌∙◌, length-append, arith}
-use Rattle.std.proofs.lemmas.List.{length-map}
-use Rattle.std.specs.Global.{Global}
-use Rattle.std.specs.declared.vec.Vec.{Vec}
+use Rattle.std.proofs.Common.{◌+◌, ◌∷◌, [], get_or, length, ap, ◌∙◌, length-append, arith}
 use Rattle.poly_terms.proofs.Entering.{with_one_more}
 use Rattle.poly_terms.proofs.Ends.{not_done}
 use Rattle.poly_terms.proofs.places.Places.reach.Goals as goal
@@ -11,7 +8,7 @@ loop-preserved c =
     let before = c.loop.self-inside.by_variable.items in
     let is = c.in_ok-push.ensures.items in
     record {
-      same = with_one_more _ before c.push.new.self.items c.new.result is c.new.ensures.items c.loop.invariant.same;
+      same = with_one_more _ before c.push.new.self.items c.new.result is c.new.ensures c.loop.invariant.same;
       counter = ap length is ∙ length-append before (c.new.result ∷ []) ∙ ap (λ n. n + 1) c.loop.invariant.counter;
     }
 
@@ -20,8 +17,7 @@ returns-clause-same c u = c.loop.invariant.same u ∙ ap (λ ps. get_or ps u [])
 
 pub returns-in_ok-push-clause-same : goal.returns-in_ok-push-clause-same
 returns-in_ok-push-clause-same c u =
-    with_one_more _ c.loop.self-inside.by_variable.items c.push.new.self.items c.new.result c.in_ok-push.ensures.items c.new.ensures.items c.loop.invariant.same u ∙
-    ap (λ ps. get_or ps u []) c.self.view_is
+    with_one_more _ c.loop.self-inside.by_variable.items c.push.new.self.items c.new.result c.in_ok-push.ensures.items c.new.ensures c.loop.invariant.same u ∙ ap (λ ps. get_or ps u []) c.self.view_is
 
 pub returns-in_err-push-clause-same : goal.returns-in_err-push-clause-same
 returns-in_err-push-clause-same c = not_done _ _ c.from_residual.result c.from_residual.ensures.1
@@ -29,14 +25,8 @@ returns-in_err-push-clause-same c = not_done _ _ c.from_residual.result c.from_r
 pub returns-in_err-push-clause-long : goal.returns-in_err-push-clause-long
 returns-in_err-push-clause-long c = not_done _ _ c.from_residual.result c.from_residual.ensures.1
 
-pub returns-clause-long : goal.returns-clause-long
-returns-clause-long c =
-    let long = length-map c.loop.self-inside.by_variable.items (λ (ns : Vec ℕ Global). ns.items) in
-    omega (arith, long, c.loop.invariant.counter, c.loop-test.false)
-
 pub returns-in_ok-push-clause-long : goal.returns-in_ok-push-clause-long
 returns-in_ok-push-clause-long c =
     let before = c.loop.self-inside.by_variable.items in
     let more = ap length c.in_ok-push.ensures.items ∙ length-append before (c.new.result ∷ []) in
-    let long = length-map c.push.new.self.items (λ (ns : Vec ℕ Global). ns.items) in
-    omega (arith, more, long, c.loop.invariant.counter)
+    omega (arith, more, c.loop.invariant.counter)

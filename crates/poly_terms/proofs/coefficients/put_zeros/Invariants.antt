@@ -1,6 +1,6 @@
 use Rattle.std.proofs.Common.{◌≡◌, length}
 use Rattle.poly_terms.specs.Indexed.{IsLonger}
-use Rattle.poly_terms.proofs.coefficients.lengthen.Given as goal
+use Rattle.poly_terms.proofs.coefficients.put_zeros.Given as goal
 
 abbrev pub invariant-loop : goal.invariant-loop
 invariant-loop l = record {
