@@ -53,8 +53,8 @@ const SOON: [Try; 1] = [(Lines::Reduced, Order::Slices, 1)];
 const FOUND: [Try; 5] = [
     (Lines::Reduced, Order::Slices, 1),
     (Lines::Drafted, Order::Slices, 1),
-    (Lines::Drafted, Order::SumsLast, 16),
     (Lines::Reduced, Order::ByColumn, 2),
+    (Lines::Drafted, Order::SumsLast, 16),
     (Lines::Reduced, Order::AtEnd, 16),
 ];
 
