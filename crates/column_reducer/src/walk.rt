@@ -29,9 +29,14 @@ use std::alloc::Global;
 // budget.
 const MOST_KEPT: u64 = 1 << 19;
 
-// A frontier that has more monomials than this share of the budget, and than this share of all new ones, of which few
-// are gone then: mostly a later one has more than the budget.
+// A frontier is large that has more monomials than this share of the budget, and more than so many: fewer are kept in
+// little memory, and to walk twice costs more than a plan that fails.
 const SHARE: u64 = 4;
+const FEW: u64 = 1 << 13;
+
+// Where a large frontier has more monomials than this share of all new ones, few are gone: mostly a later one has more
+// than the budget.
+const SHARE_OF_NEW: u64 = 3;
 
 // The frontier's index is made anew once the table has got so many monomials since, twice as many as the frontier has,
 // and half as many as there are variables: an index has a place for each.
@@ -144,8 +149,9 @@ impl Walk {
     // in the table.
     fn may_pass(&self, new: u64, budget: u64) -> bool {
         let size = self.rest.size();
+        let is_large = size > FEW && size > budget / SHARE;
         let kept = self.gathered.pending.saturating_add(self.gathered.ended);
-        (size > budget / SHARE && size > new / SHARE) || new > MOST_KEPT || kept > MOST_KEPT
+        (is_large && size > new / SHARE_OF_NEW) || new > MOST_KEPT || kept > MOST_KEPT
     }
 
     // Takes a step.
