@@ -32,6 +32,7 @@ const MOST_KEPT: u64 = 1 << 19;
 // A frontier is large that has more monomials than this share of the budget, and more than so many: fewer are kept in
 // little memory, and to walk twice costs more than a plan that fails.
 const SHARE: u64 = 4;
+
 const FEW: u64 = 1 << 13;
 
 // Where a large frontier has more monomials than this share of all new ones, few are gone: mostly a later one has more
