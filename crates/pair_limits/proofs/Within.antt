@@ -1,9 +1,9 @@
 -- A text is within the limits where there is room for it.
-use Rattle.std.specs.Prelude.{◌≡◌, ◌≤◌, ◌-◌, ◌==◌, ◌||◌, ◌&&◌, ℕ, not, cond, Bool, true, false, List, [], ◌∷◌, ◌++◌, length, if◌then◌else◌}
-use Rattle.std.proofs.Common.{refl, sym, ap, subst, ◌∙◌, arith, eqb-true, true≢false, inl, inr, ⊎_elim}
+use Rattle.std.specs.Prelude.{◌≡◌, ◌≤◌, ◌+◌, ◌-◌, ◌==◌, ◌||◌, ◌&&◌, ◌⊎◌, ℕ, not, cond, Bool, true, false, List, [], ◌∷◌, ◌++◌, length, if◌then◌else◌}
+use Rattle.std.proofs.Common.{refl, sym, ap, subst, ◌∙◌, arith, eqb-true, length-append, true≢false, inl, inr, ⊎_elim}
 use Rattle.std.proofs.lemmas.Bool.{eqb-false}
 use Rattle.graph_core.specs.Text.{newline}
-use Rattle.graph_core.specs.Text.JudgedLines.{IsWithin, Lengths, front_line}
+use Rattle.graph_core.specs.Text.JudgedLines.{IsLineStart, IsWithin, Lengths, front_line}
 use Rattle.pair_limits.specs.declared.room.Room.{Room}
 use Rattle.pair_limits.specs.Rooms.{Takes, TellsWhether, behind, passed, whole_room}
 
@@ -136,3 +136,42 @@ module _ (lengths : Lengths) (text : List ℕ) where
       go : (over : Bool) → r.over ≡ over → TellsWhether (not over) (IsWithin lengths text)
       go false e = fits_within (fits_from (whole_room lengths) text (ap (λ x. x.over) (sym is.left) ∙ e))
       go true e = λ h. true≢false (sym e ∙ ap (λ x. x.over) is.left ∙ fitting_stays (whole_room lengths) text (within_fits h))
+
+-- ---- a line more
+
+front_short : (piece rest : List ℕ) → length (front_line (piece ++ newline ∷ rest)) ≤ length piece
+front_short [] rest = omega arith
+front_short (b ∷ piece) rest = go (front_short piece rest) (b == newline)
+  where
+    go : length (front_line (piece ++ newline ∷ rest)) ≤ length piece → (starts : Bool) → length (cond starts [] (b ∷ front_line (piece ++ newline ∷ rest))) ≤ length (b ∷ piece)
+    go h true = omega arith
+    go h false = omega (arith, h)
+
+-- What is left behind a line feed of a line and a rest is short there, or it is a line's start of the rest.
+start_there : (piece rest before left : List ℕ) → piece ++ newline ∷ rest ≡ before ++ newline ∷ left → (length (front_line left) ≤ length piece) ⊎ IsLineStart rest left
+start_there [] rest [] left e = let same : rest ≡ left = cc in inr (inl same)
+start_there [] rest (x ∷ before) left e = let same : rest ≡ before ++ newline ∷ left = cc in inr (inr (before, same))
+start_there (b ∷ piece) rest [] left e =
+    let same : piece ++ newline ∷ rest ≡ left = cc in
+    inl (subst (λ xs. length (front_line xs) ≤ length (b ∷ piece)) same (let short = front_short piece rest in omega (arith, short)))
+start_there (b ∷ piece) rest (x ∷ before) left e =
+    let same : piece ++ newline ∷ rest ≡ before ++ newline ∷ left = cc in
+    ⊎_elim (λ short. inl (omega (arith, short))) (λ start. inr start) (start_there piece rest before left same)
+
+-- A rest with a line before it is within limits that have room for that line.
+pub line_more : (line before after : ℕ) (piece rest : List ℕ) → length piece ≤ line → length piece + 1 + after ≤ before →
+    IsWithin (record { file = after; line = line }) rest → IsWithin (record { file = before; line = line }) (piece ++ newline ∷ rest)
+line_more line before after piece rest short room h = record {
+  file = let few = h.file in omega (arith, length-append piece (newline ∷ rest), few, room);
+  lines = λ left start. ⊎_elim
+      (λ e. subst (λ xs. length (front_line xs) ≤ line) e (let few = front_short piece rest in omega (arith, few, short)))
+      (λ b. ⊎_elim (λ few. omega (arith, few, short)) (λ start. h.lines left start) (start_there piece rest b.0 left b.1))
+      start;
+}
+
+pub nothing_within : (line : ℕ) → IsWithin (record { file = 0; line = line }) []
+nothing_within line = record { file = omega arith; lines = λ left start. ⊎_elim (λ e. subst (λ xs. length (front_line xs) ≤ line) e (omega arith)) (λ b. absurd (nothing_there b.0 left b.1)) start }
+  where
+    nothing_there : (before left : List ℕ) → [] ≡ before ++ newline ∷ left → ⊥
+    nothing_there [] left e = cc
+    nothing_there (x ∷ before) left e = cc

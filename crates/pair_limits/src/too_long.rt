@@ -8,6 +8,7 @@ ghost use Rattle.pair_limits.specs.TooLong.{IsFirstTooLong};
 use crate::algebra::put_certificate;
 use crate::clauses::put_clauses;
 use crate::room::Room;
+use crate::surely::is_surely_within;
 use mv_desk::{Limits, Slot};
 use pair_core::Pair;
 
@@ -40,13 +41,11 @@ fn has_short_algebra(pair: &Pair, limits: &Limits) -> bool
     requires { CanBeWritten pair.now }
     ensures { TellsWhether result (IsWithin (lengths_of limits.now) (algebra_text pair.now)) }
 {
+    let version = pair.header.version;
+    if is_surely_within(version, &pair.terms, &pair.algebra, pair.closing, limits) {
+        return true;
+    }
     let mut room = Room::new(limits);
-    put_certificate(
-        &mut room,
-        pair.header.version,
-        &pair.terms,
-        &pair.algebra,
-        pair.closing,
-    );
+    put_certificate(&mut room, version, &pair.terms, &pair.algebra, pair.closing);
     !room.over
 }

@@ -1,7 +1,4 @@
-use Rattle.std.proofs.Common.{◌∙◌, append_assoc, decimal}
-use Rattle.std.specs.Prelude.{codes}
-use Rattle.poly_terms.specs.Tables.{modulus_in, monomials_in}
-use Rattle.poly_text.specs.WrittenLines.{poly_text}
+use Rattle.std.proofs.Common.{append_assoc}
 use Rattle.pair_limits.proofs.Behind.{text_is, text_then}
 use Rattle.pair_limits.proofs.algebra.put_part.Goals as goal
 

@@ -1,5 +1,4 @@
 use Rattle.std.proofs.Common.{◌++◌, ◌+◌, ◌==◌, ℕ, ap, sym, subst, drop, get_or}
-use Rattle.std.specs.List.{All}
 use Rattle.std.proofs.lemmas.List.Elements.{All-get_or}
 use Rattle.poly_terms.specs.Tables.{IsOf, Sum, modulus_in}
 use Rattle.poly_text.specs.Lines.{part_in, parts_in}

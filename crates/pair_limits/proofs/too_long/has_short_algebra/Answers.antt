@@ -15,5 +15,5 @@ returns c =
     let text = algebra_text c.args.pair.now in
     let pair = c.args.pair.now in
     let written : List PacLine → List ℕ = λ lines. written_certificate pair.header.version (modulus_in pair.terms) (lines_in pair.terms lines) pair.closing in
-    let taken = text_is (ap written c.deref.ensures.value) c.put_certificate.ensures in
+    let taken = text_is (ap written c.deref-2.ensures.value) c.put_certificate.ensures in
     room_tells (lengths_of c.args.limits.now) text c.put_certificate.new.room (subst (λ r. Takes text r c.put_certificate.new.room) c.new-room.ensures taken)
