@@ -21,6 +21,7 @@ pub(crate) struct Groups {
 // A position.
 #[derive(Drop)]
 struct Position {
+    pair: (Lit, Lit),
     carry: Lit,
     /// that below it, if there is one
     before: Option<usize>,
@@ -51,6 +52,17 @@ impl Groups {
         self.places.get(&lit.0).is_some()
     }
 
+    /// Whether a literal is the carry out of a position that adds the same two literals.
+    pub(crate) fn is_passed(&self, pair: (Lit, Lit), carry: Lit) -> bool {
+        match self.places.get(&carry.0) {
+            Some(place) => match self.positions.get(*place) {
+                Some(position) => { position.pair == pair || position.pair == (pair.1, pair.0) }
+                None => false,
+            },
+            None => false,
+        }
+    }
+
     /// One position more, which adds two literals and a carry, with its carry out. Its carry is made once more from each
     /// group but the greatest one and the carry into that: stones from each to the next.
     pub(crate) fn put(
@@ -63,6 +75,7 @@ impl Groups {
     ) -> Result<(), Memory> {
         let (x, y) = (gates.row(pair.0), gates.row(pair.1));
         let mut position = Position {
+            pair,
             carry,
             before: self.places.get(&carry.0).copied(),
             groups: Vec::new(self.alloc),

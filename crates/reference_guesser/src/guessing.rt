@@ -96,7 +96,10 @@ impl Guesses {
             let tree = Tree::new(alloc, graph, operands, &signals, &known, style, left)?;
             left = tree.left;
             let is_whole = tree.is_whole;
-            self.enter(made_of(alloc, tree)?, most)?;
+            let made = made_of(alloc, tree)?;
+            if is_whole || style.form != Form::Complemented {
+                self.enter(made, most)?;
+            }
             if is_whole {
                 break;
             }
@@ -166,12 +169,28 @@ fn styles(
     if booth > simple {
         push_styles(&mut styles, Form::Booth, &[Shape::Level], &[Shape::Level])?;
     } else {
+        if operands.sign() == Sign::Signed {
+            push_complemented(&mut styles)?;
+        }
         push_styles(&mut styles, Form::Simple, &BLIND, &SHAPES)?;
         if operands.sign() == Sign::Signed {
             push_styles(&mut styles, Form::Extended, &BLIND, &SHAPES)?;
         }
     }
     Ok(styles)
+}
+
+// Rows that are complemented are each added by an adder, or they are none.
+fn push_complemented(styles: &mut Vec<Style>) -> Result<(), Memory> {
+    for shape in [Shape::Pairs, Shape::Turns] {
+        styles.push(Style {
+            form: Form::Complemented,
+            shape,
+            is_blind: true,
+            lost: 5,
+        })?;
+    }
+    Ok(())
 }
 
 // Some shapes without any signal, and some with several prices of lost carries.

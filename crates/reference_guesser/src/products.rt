@@ -11,6 +11,8 @@ pub(crate) enum Form {
     Simple,
     /// multiples of a by bits of b, each up to the last column with its sign
     Extended,
+    /// the same, but that by the highest bit of b is complemented as a whole, and a word is 1
+    Complemented,
     /// multiples of a by digits of two bits of b
     Booth,
 }
@@ -41,6 +43,7 @@ impl Products {
         match form {
             Form::Simple => put_simple(gates, operands, &mut products)?,
             Form::Extended => put_extended(gates, operands, &mut products, count)?,
+            Form::Complemented => put_complemented(gates, operands, &mut products, count)?,
             Form::Booth => put_multiples(alloc, gates, operands, &mut products)?,
         }
         products.put_addend(operands.c_literals())?;
@@ -131,13 +134,41 @@ fn put_extended(
     for (low, y) in b.iter().enumerate() {
         let is_highest = low.wrapping_add(1) == b.len();
         for column in low..count as usize {
-            let x = match a.get(column.wrapping_sub(low)) {
-                Some(x) => *x,
-                None => last(a),
-            };
+            let x = extended_bit(a, column.wrapping_sub(low));
             let product = gates.and(if is_highest { x.not() } else { x }, *y)?;
             products.put(column, product)?;
         }
     }
     products.put(b.len().saturating_sub(1), last(b))
+}
+
+// The multiples of a signed operand by bits of another: that by the highest bit is subtracted, as its complement and 1.
+fn put_complemented(
+    gates: &mut Gates<'_>,
+    operands: &Operands,
+    products: &mut Products,
+    count: u32,
+) -> Result<(), Memory> {
+    let (a, b) = (operands.a_literals(), operands.b_literals());
+    for (low, y) in b.iter().enumerate() {
+        let is_highest = low.wrapping_add(1) == b.len();
+        for column in 0..low {
+            if is_highest {
+                products.put(column, Lit(1))?;
+            }
+        }
+        for column in low..count as usize {
+            let product = gates.and(extended_bit(a, column.wrapping_sub(low)), *y)?;
+            products.put(column, if is_highest { product.not() } else { product })?;
+        }
+    }
+    products.put(0, Lit(1))
+}
+
+// A bit of a signed operand, whose last one is repeated.
+fn extended_bit(a: &[Lit], place: usize) -> Lit {
+    match a.get(place) {
+        Some(x) => *x,
+        None => last(a),
+    }
 }

@@ -7,7 +7,7 @@ use crate::groups::Groups;
 use crate::known::Known;
 use crate::merge::{Merge, Step};
 use crate::pool::Pool;
-use crate::products::{Column, Products};
+use crate::products::{Column, Form, Products};
 use crate::signals::Signals;
 use crate::stones::make_stones;
 use crate::style::{Shape, Style};
@@ -206,7 +206,9 @@ impl<'a> Tree<'a> {
         match lits {
             [x, y] => self.make_end(*x, *y),
             [x, y, z] => {
-                if self.is_inner(*x, *y) {
+                if let Some(adder) = self.make_complemented(*x, *y, *z)? {
+                    Ok(adder)
+                } else if self.is_inner(*x, *y) {
                     self.make_position((*x, *y), *z)
                 } else if self.is_inner(*y, *z) {
                     self.make_position((*y, *z), *x)
@@ -217,6 +219,35 @@ impl<'a> Tree<'a> {
                 }
             }
             _ => Ok((Lit(0), Lit(0))),
+        }
+    }
+
+    // The same of complemented rows, where one literal alone is a carry. Where it is that of the other two, which repeat up
+    // to the last column, it stays what it is.
+    fn make_complemented(&mut self, x: Lit, y: Lit, z: Lit) -> Result<Option<(Lit, Lit)>, Memory> {
+        if self.style.form != Form::Complemented {
+            return Ok(None);
+        }
+        let Some((pair, carry)) = self.with_carry_last(x, y, z) else {
+            return Ok(None);
+        };
+        if self.groups.is_passed(pair, carry) {
+            let inner = self.gates.xor(pair.0, pair.1)?;
+            let sum = self.gates.xor(inner, carry)?;
+            return Ok(Some((sum, carry)));
+        }
+        let adder = self.make_position(pair, carry)?;
+        Ok(Some(adder))
+    }
+
+    // Three literals, of which the last one alone is a carry.
+    fn with_carry_last(&self, x: Lit, y: Lit, z: Lit) -> Option<((Lit, Lit), Lit)> {
+        let groups = &self.groups;
+        match (groups.is_carry(x), groups.is_carry(y), groups.is_carry(z)) {
+            (false, false, true) => Some(((x, y), z)),
+            (true, false, false) => Some(((y, z), x)),
+            (false, true, false) => Some(((z, x), y)),
+            _ => None,
         }
     }
 

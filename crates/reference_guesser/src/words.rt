@@ -30,7 +30,7 @@ impl Rows {
     pub(crate) fn count(&self) -> u32 {
         match self.form {
             Form::Simple => self.a.min(self.b),
-            Form::Extended => self.b.saturating_add(1),
+            Form::Extended | Form::Complemented => self.b.saturating_add(1),
             Form::Booth => self.b / 2 + 1,
         }
     }
@@ -48,7 +48,11 @@ impl Rows {
             // the highest bit of b itself comes last there, and is in the first word
             Form::Extended if column == highest && number == self.b => 0,
             Form::Extended if column == highest => number.saturating_add(1),
-            Form::Extended | Form::Booth => number,
+            // below the highest bit of b its row has the last product, but in the first column, where the word 1 is behind it
+            Form::Complemented if column < highest && column < number => {
+                highest.saturating_add(number.saturating_sub(column.saturating_add(1)))
+            }
+            Form::Extended | Form::Complemented | Form::Booth => number,
         };
         Word { layer: 0, place }
     }
