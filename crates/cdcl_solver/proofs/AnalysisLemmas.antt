@@ -6,11 +6,11 @@ use Rattle.std.specs.List.{All, Contains}
 use Rattle.std.proofs.Common.{refl, sym, ap, subst, ◌∙◌, arith, inl, inr, ⊎_elim, set, replicate, true≢false, rules}
 use Rattle.std.specs.Option.{IsSome}
 use Rattle.std.proofs.Math.ListN.{length-set}
-use Rattle.std.proofs.lemmas.Bool.{cases_lt, cases_eq}
+use Rattle.std.proofs.lemmas.Bool.{cases_lt, cases_eq, cases_Bool}
 use Rattle.std.proofs.lemmas.List.{get_or-set_other, get_or-set_same, get_or-take, length-take-le}
 use Rattle.std.proofs.lemmas.List.Elements.{Contains-append_left, Contains-push, Contains-push_cases}
 use Rattle.clause_core.specs.Clause.{Clause}
-use Rattle.clause_core.specs.UnitPropagation.{IsFalsified, IsUnit}
+use Rattle.clause_core.specs.UnitPropagation.{IsFalsified, IsRefuted, IsUnit}
 use Rattle.clause_core.proofs.Decided.{contains_here, contains_there, contains_nil}
 use Rattle.clause_core.proofs.Places.{below_suc, contains_at, at_contained, same_at}
 use Rattle.unit_prop.specs.Standing.{IsReasonOf, at, reason_at}
@@ -20,7 +20,7 @@ use Rattle.cdcl_solver.proofs.Trails.{neg-neg, variable-neg}
 use Rattle.cdcl_solver.proofs.Trails.{one_place}
 use Rattle.cdcl_solver.proofs.Standings.{refuted_now, refuted_before, live_has}
 use Rattle.cdcl_solver.specs.Search.{IsConflictAt}
-use Rattle.cdcl_solver.specs.Analyses.{AnalysisView, IsSeen, IsAnalysis, IsLate, Sees, SeesEarly, SeesLate, SeesAll, IsFalseOrSeen, Refutes, IsResolved, place_of}
+use Rattle.cdcl_solver.specs.Analyses.{AnalysisView, IsSeen, IsAnalysis, IsLate, Sees, SeesEarly, SeesLate, SeesAll, IsFalseOrSeen, Refutes, IsResolved, AreNeeded, Follows, HasStanding, IsLemmaOf, place_of}
 use Rattle.cdcl_solver.proofs.SearchLemmas.{IsLearnt, map_neg_has}
 use Rattle.cdcl_solver.proofs.Stamps.{length-none, unmarked}
 use Rattle.cdcl_solver.specs.Marks.{none_marked}
@@ -222,22 +222,27 @@ conflict_inside s a r level c at' same an e f seen = ⊎_elim (λ k. k) (λ k. a
 pub refutes_unseen : (s : Standing) (a : AnalysisView) (i : ℕ) → slice_index_or a.seen (signed_variable (at s.trail.literals i)) false ≡ false → Refutes s a (i + 1) → Refutes s a i
 refutes_unseen s a i not_seen h standing cover = h standing (λ j b seen. ⊎_elim (λ k. cover j k seen) (λ e. absurd (true≢false (sym seen ∙ ap (λ m. slice_index_or a.seen (signed_variable (at s.trail.literals m)) false) e ∙ not_seen))) (below_suc j i b))
 
--- what was seen at a place is resolved with its reason, once the reason's literals were seen
-pub refutes_resolved : (s : Standing) (old new : AnalysisView) (i r : ℕ) (c : Clause) → IsSound s → i < length s.trail.literals → reason_at s.trail.reasons i ≡ Some r → clause_at s.clauses r ≡ Some c → SeesAll old new c (length c) → Refutes s old (i + 1) → Refutes s new i
-refutes_resolved s old new i r c h b reason e sees more standing cover =
+-- what a reason forced at a place isn't needed, where all its variables were seen
+reason_refutes : (s : Standing) (a : AnalysisView) (i r : ℕ) (c : Clause) (standing : List ℤ) → IsSound s → i < length s.trail.literals → reason_at s.trail.reasons i ≡ Some r → clause_at s.clauses r ≡ Some c → ((j : ℕ) → j < length c → IsSeen a (signed_variable (at c j)))
+    → ((j : ℕ) → j < i → IsSeen a (signed_variable (at s.trail.literals j)) → Contains standing (at s.trail.literals j)) → IsRefuted (live_of s.clauses) (at s.trail.literals i ∷ standing) → IsRefuted (live_of s.clauses) standing
+reason_refutes s a i r c standing h b reason e sees cover more =
     let why = h.forced i r b reason in
     let same : why.0 ≡ c = let f : Some why.0 ≡ Some c = sym why.1 ∙ e in cc in
     let unit = subst (λ (d : Clause). IsUnit (take i s.trail.literals) d (at s.trail.literals i)) same why.2 in
-    refuted_before (live_of s.clauses) standing c (at s.trail.literals i) (live_has s.clauses r c e) (unit.0, λ k has. ⊎_elim inl (λ n. inr (stands unit k has n)) (unit.1 k has))
-    (more (at s.trail.literals i ∷ standing) (λ j k seen. ⊎_elim (λ low. contains_there (at s.trail.literals i) standing (at s.trail.literals j) (cover j low (sees.kept (signed_variable (at s.trail.literals j)) seen)))
-    (λ f. subst (λ m. Contains (at s.trail.literals i ∷ standing) (at s.trail.literals m)) (sym f) (contains_here (at s.trail.literals i) standing)) (below_suc j i k)))
+    refuted_before (live_of s.clauses) standing c (at s.trail.literals i) (live_has s.clauses r c e) (unit.0, λ k has. ⊎_elim inl (λ n. inr (stands unit k has n)) (unit.1 k has)) more
   where
     stands : IsUnit (take i s.trail.literals) c (at s.trail.literals i) → (k : ℤ) → Contains c k → Contains (take i s.trail.literals) (neg_ℤ k) → Contains standing (neg_ℤ k)
     stands unit k has n =
         let q = front_at i s.trail.literals (neg_ℤ k) (omega arith) n in
         let m = at_contained c k has in
         let size : signed_variable (at s.trail.literals q.0) ≡ signed_variable (at c m.0) = ap signed_variable q.2 ∙ variable-neg k ∙ sym (ap signed_variable m.2) in
-        subst (Contains standing) q.2 (cover q.0 q.1 (subst (IsSeen new) (sym size) (sees.seen m.0 m.1)))
+        subst (Contains standing) q.2 (cover q.0 q.1 (subst (IsSeen a) (sym size) (sees m.0 m.1)))
+
+-- what was seen at a place is resolved with its reason, once the reason's literals were seen
+pub refutes_resolved : (s : Standing) (old new : AnalysisView) (i r : ℕ) (c : Clause) → IsSound s → i < length s.trail.literals → reason_at s.trail.reasons i ≡ Some r → clause_at s.clauses r ≡ Some c → SeesAll old new c (length c) → Refutes s old (i + 1) → Refutes s new i
+refutes_resolved s old new i r c h b reason e sees more standing cover = reason_refutes s new i r c standing h b reason e sees.seen cover
+    (more (at s.trail.literals i ∷ standing) (λ j k seen. ⊎_elim (λ low. contains_there (at s.trail.literals i) standing (at s.trail.literals j) (cover j low (sees.kept (signed_variable (at s.trail.literals j)) seen)))
+    (λ f. subst (λ m. Contains (at s.trail.literals i ∷ standing) (at s.trail.literals m)) (sym f) (contains_here (at s.trail.literals i) standing)) (below_suc j i k)))
 
 -- the literals of a reason are false, or the one that it forced was seen
 pub reason_told_false : (s : Standing) (a : AnalysisView) (i r : ℕ) → IsSound s → i < length s.trail.literals → reason_at s.trail.reasons i ≡ Some r → IsSeen a (signed_variable (at s.trail.literals i)) → IsFalseOrSeen s a r
@@ -248,26 +253,105 @@ reason_told_false s a i r h b reason seen c e k has =
     ⊎_elim (λ f. inr (subst (λ x. IsSeen a (signed_variable x)) (sym f) seen))
     (λ n. let q = front_at i s.trail.literals (neg_ℤ k) (omega arith) n in inl (subst (Contains s.trail.literals) q.2 (contains_at s.trail.literals q.0 (omega (arith, q.1))))) (unit.1 k has)
 
--- the lemma of a resolved analysis
-pub learnt_by_analysis : (s : Standing) (a : AnalysisView) → IsResolved s a → IsLearnt s a.level (a.lits ++ neg_ℤ (at s.trail.literals a.lowest) ∷ [])
-learnt_by_analysis s a h = record {
-  refuted = h.refutes (map neg_ℤ lemma) (λ j b seen. subst (Contains (map neg_ℤ lemma)) (neg-neg (at s.trail.literals j)) (map_neg_has lemma (neg_ℤ (at s.trail.literals j)) (in_lemma j b seen)));
-  place = a.lowest;
-  high = h.analysis.low.0;
-  below = h.inside;
-  rest = λ k has. ⊎_elim (λ m. inr (h.analysis.from k m)) (λ e. inl (sym e)) (Contains-push_cases a.lits (neg_ℤ (at s.trail.literals a.lowest)) k has);
-}
-  where
-    lemma : List ℤ
-    lemma = a.lits ++ neg_ℤ (at s.trail.literals a.lowest) ∷ []
-
-    in_lemma : (j : ℕ) → j < suc a.lowest → IsSeen a (signed_variable (at s.trail.literals j)) → Contains (a.lits ++ neg_ℤ (at s.trail.literals a.lowest) ∷ []) (neg_ℤ (at s.trail.literals j))
-    in_lemma j b seen = ⊎_elim (λ low. Contains-append_left a.lits (neg_ℤ (at s.trail.literals a.lowest) ∷ []) (neg_ℤ (at s.trail.literals j)) (h.analysis.all j low seen))
-        (λ high. let one : a.lowest ≤ j = h.analysis.bound j high (omega (arith, h.inside)) seen in let same : a.lowest ≡ j = omega arith in
-        subst (λ m. Contains (a.lits ++ neg_ℤ (at s.trail.literals a.lowest) ∷ []) (neg_ℤ (at s.trail.literals m))) same (Contains-push a.lits (neg_ℤ (at s.trail.literals a.lowest)))) (cases_lt j a.level)
-
 pub reason_place : (s : Standing) (p r : ℕ) → IsSound s → p < length s.trail.literals → IsReasonOf s.trail (signed_variable (at s.trail.literals p)) (Some r) → reason_at s.trail.reasons p ≡ Some r
 reason_place s p r h b is = ap (reason_at s.trail.reasons) (sym (one_place s.trail (trail_of s h) is.0 p is.1 b is.2)) ∙ is.3
+
+-- the variables of a clause that forced a literal stand
+pub reason_stands : (s : Standing) (i r : ℕ) → IsSound s → i < length s.trail.literals → reason_at s.trail.reasons i ≡ Some r → HasStanding s r
+reason_stands s i r h b reason c e k has =
+    let why = h.forced i r b reason in
+    let same : why.0 ≡ c = let f : Some why.0 ≡ Some c = sym why.1 ∙ e in cc in
+    let unit = subst (λ (d : Clause). IsUnit (take i s.trail.literals) d (at s.trail.literals i)) same why.2 in
+    ⊎_elim (λ f. (i, (b, sym (ap signed_variable f))))
+    (λ n. let q = front_at i s.trail.literals (neg_ℤ k) (omega arith) n in (q.0, (omega (arith, q.1), ap signed_variable q.2 ∙ variable-neg k))) (unit.1 k has)
+
+-- the variable of a literal of the lemma stands before the last level
+pub early_false : (s : Standing) (a : AnalysisView) (l : ℤ) → IsAnalysis s a → Contains a.lits l → Contains s.trail.literals (neg_ℤ l)
+early_false s a l an has = let q = front_at a.level s.trail.literals (neg_ℤ l) an.low.1 (an.from l has) in subst (Contains s.trail.literals) q.2 (contains_at s.trail.literals q.0 (omega (arith, q.1, an.low.1)))
+
+-- those that are needed of the first n literals
+pub record AreNeededOf (s : Standing) (a : AnalysisView) (lits : List ℤ) (n : ℕ) (needed : List ℤ) : Type 0 where
+  pub within : (k : ℤ) → Contains needed k → Contains lits k
+  pub rest : (j : ℕ) → j < n → Contains needed (at lits j) ⊎ Follows s a (at lits j)
+
+pub needed_none : (s : Standing) (a : AnalysisView) (lits : List ℤ) → AreNeededOf s a lits 0 []
+needed_none s a lits = record { within = λ k has. absurd (contains_nil k has); rest = λ j b. absurd (omega (arith, b)) }
+
+pub needed_more : (s : Standing) (a : AnalysisView) (lits : List ℤ) (n : ℕ) (needed : List ℤ) → n < length lits → AreNeededOf s a lits n needed → AreNeededOf s a lits (n + 1) (needed ++ at lits n ∷ [])
+needed_more s a lits n needed b h = record {
+  within = λ k has. ⊎_elim (h.within k) (λ e. subst (Contains lits) e (contains_at lits n b)) (Contains-push_cases needed (at lits n) k has);
+  rest = λ j k. ⊎_elim (λ low. ⊎_elim (λ has. inl (Contains-append_left needed (at lits n ∷ []) (at lits j) has)) inr (h.rest j low))
+      (λ e. inl (subst (λ m. Contains (needed ++ at lits n ∷ []) (at lits m)) (sym e) (Contains-push needed (at lits n)))) (below_suc j n k);
+}
+
+pub needed_but_one : (s : Standing) (a : AnalysisView) (lits : List ℤ) (n : ℕ) (needed : List ℤ) → Follows s a (at lits n) → AreNeededOf s a lits n needed → AreNeededOf s a lits (n + 1) needed
+needed_but_one s a lits n needed follows h = record {
+  within = h.within;
+  rest = λ j k. ⊎_elim (h.rest j) (λ e. inr (subst (λ m. Follows s a (at lits m)) (sym e) follows)) (below_suc j n k);
+}
+
+pub needed_all : (s : Standing) (a : AnalysisView) (n : ℕ) (needed : List ℤ) → length a.lits ≤ n → AreNeededOf s a a.lits n needed → AreNeeded s a needed
+needed_all s a n needed b h = record {
+  within = h.within;
+  rest = λ k has. let p = at_contained a.lits k has in ⊎_elim (λ m. inl (subst (Contains needed) p.2 m)) (λ f. inr (subst (Follows s a) p.2 f)) (h.rest p.0 (omega (arith, p.1, b)));
+}
+
+-- ---- the lemma
+-- What was seen up to the lowest place refutes, and so does what was seen below a place together with what the lemma has of the rest.
+module _ (s : Standing) (h : IsSound s) (a : AnalysisView) (resolved : IsResolved s a) (needed : List ℤ) (are : AreNeeded s a needed) where
+  abbrev pub lemma : List ℤ
+  lemma = needed ++ neg_ℤ (at s.trail.literals a.lowest) ∷ []
+
+  abbrev RefutesUpTo : ℕ → Type 0
+  RefutesUpTo n = (standing : List ℤ) → ((j : ℕ) → j < n → IsSeen a (signed_variable (at s.trail.literals j)) → Contains standing (at s.trail.literals j))
+      → ((j : ℕ) → Contains lemma (neg_ℤ (at s.trail.literals j)) → Contains standing (at s.trail.literals j)) → IsRefuted (live_of s.clauses) standing
+
+  -- what was seen at a place is in the lemma, or follows
+  in_lemma : (j : ℕ) → j < suc a.lowest → IsSeen a (signed_variable (at s.trail.literals j)) → Contains lemma (neg_ℤ (at s.trail.literals j)) ⊎ Follows s a (neg_ℤ (at s.trail.literals j))
+  in_lemma j b seen = ⊎_elim
+      (λ low. ⊎_elim (λ has. inl (Contains-append_left needed (neg_ℤ (at s.trail.literals a.lowest) ∷ []) (neg_ℤ (at s.trail.literals j)) has)) inr (are.rest (neg_ℤ (at s.trail.literals j)) (resolved.analysis.all j low seen)))
+      (λ high. let one : a.lowest ≤ j = resolved.analysis.bound j high (omega (arith, resolved.inside)) seen in let same : a.lowest ≡ j = omega arith in
+      inl (subst (λ m. Contains lemma (neg_ℤ (at s.trail.literals m))) same (Contains-push needed (neg_ℤ (at s.trail.literals a.lowest))))) (cases_lt j a.level)
+
+  one_less : (n : ℕ) → n < suc a.lowest → RefutesUpTo (suc n) → RefutesUpTo n
+  one_less n b more standing cover kept = ⊎_elim seen not_seen (cases_Bool (slice_index_or a.seen (signed_variable (at s.trail.literals n)) false))
+    where
+      with_it : (wider : List ℤ) → ((k : ℤ) → Contains standing k → Contains wider k) → (IsSeen a (signed_variable (at s.trail.literals n)) → Contains wider (at s.trail.literals n)) → IsRefuted (live_of s.clauses) wider
+      with_it wider sub has = more wider (λ j k was. ⊎_elim (λ low. sub (at s.trail.literals j) (cover j low was)) (λ e. subst (λ m. Contains wider (at s.trail.literals m)) (sym e) (has (subst (λ m. IsSeen a (signed_variable (at s.trail.literals m))) e was))) (below_suc j n (omega (arith, k))))
+          (λ j k. sub (at s.trail.literals j) (kept j k))
+
+      not_seen : slice_index_or a.seen (signed_variable (at s.trail.literals n)) false ≡ false → IsRefuted (live_of s.clauses) standing
+      not_seen e = with_it standing (λ k has. has) (λ was. absurd (true≢false (sym was ∙ e)))
+
+      follows : Follows s a (neg_ℤ (at s.trail.literals n)) → IsRefuted (live_of s.clauses) standing
+      follows f = reason_refutes s a n f.0 f.2.0 standing h below reason f.2.1 f.2.2 cover (with_it (at s.trail.literals n ∷ standing) (λ k has. contains_there (at s.trail.literals n) standing k has) (λ was. contains_here (at s.trail.literals n) standing))
+        where
+          below : n < length s.trail.literals
+          below = omega (arith, resolved.inside)
+
+          reason : reason_at s.trail.reasons n ≡ Some f.0
+          reason = reason_place s n f.0 h below (subst (λ v. IsReasonOf s.trail v (Some f.0)) (variable-neg (at s.trail.literals n)) f.1)
+
+      seen : IsSeen a (signed_variable (at s.trail.literals n)) → IsRefuted (live_of s.clauses) standing
+      seen was = ⊎_elim (λ has. with_it standing (λ k there. there) (λ again. kept n has)) follows (in_lemma n b was)
+
+  all_less : (n : ℕ) → n ≤ suc a.lowest → RefutesUpTo n → RefutesUpTo 0
+  all_less zero b refutes = refutes
+  all_less (suc n) b refutes = all_less n (omega (arith, b)) (one_less n (omega (arith, b)) refutes)
+
+  -- the lemma of a resolved analysis
+  pub learnt_by_needed : IsLearnt s a.level lemma
+  learnt_by_needed = record {
+    refuted = all_less (suc a.lowest) (omega arith) (λ standing cover kept. resolved.refutes standing cover) (map neg_ℤ lemma) (λ j b. absurd (omega (arith, b)))
+        (λ j has. subst (Contains (map neg_ℤ lemma)) (neg-neg (at s.trail.literals j)) (map_neg_has lemma (neg_ℤ (at s.trail.literals j)) has));
+    place = a.lowest;
+    high = resolved.analysis.low.0;
+    below = resolved.inside;
+    rest = λ k has. ⊎_elim (λ m. inr (resolved.analysis.from k (are.within k m))) (λ e. inl (sym e)) (Contains-push_cases needed (neg_ℤ (at s.trail.literals a.lowest)) k has);
+  }
+
+pub learnt_by_analysis : (s : Standing) (a : AnalysisView) (lits : List ℤ) → IsSound s → IsResolved s a → IsLemmaOf s a lits → IsLearnt s a.level lits
+learnt_by_analysis s a lits h resolved of = subst (IsLearnt s a.level) (sym of.2) (learnt_by_needed s h a resolved of.0 of.1)
 
 pub live_reason : (s : Standing) (p r : ℕ) → IsSound s → p < length s.trail.literals → reason_at s.trail.reasons p ≡ Some r → IsSome (clause_at s.clauses r)
 live_reason s p r h b e = let why = h.forced p r b e in subst IsSome (sym why.1) (some_is why.0)

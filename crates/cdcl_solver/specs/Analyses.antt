@@ -4,7 +4,7 @@ use Rattle.std.specs.declared.option.Option.TheVariants.{None, Some}
 use Rattle.std.specs.List.{Contains}
 use Rattle.clause_core.specs.Clause.{Clause}
 use Rattle.clause_core.specs.UnitPropagation.{IsRefuted}
-use Rattle.unit_prop.specs.Standing.{at, reason_at}
+use Rattle.unit_prop.specs.Standing.{at, reason_at, IsReasonOf}
 use Rattle.unit_prop.specs.Standing.{Standing, clause_at, live_of}
 use Rattle.unit_prop.specs.Trail.{signed_variable}
 
@@ -93,6 +93,23 @@ pub record IsResolved (s : Standing) (a : AnalysisView) : Type 0 where
   pub inside : a.lowest < length s.trail.literals
   pub refutes : Refutes s a (suc a.lowest)
 
--- the literals of its lemma
-abbrev pub lemma_of : Standing → AnalysisView → List ℤ
-lemma_of s a = a.lits ++ neg_ℤ (at s.trail.literals a.lowest) ∷ []
+-- the variables of a clause stand
+abbrev pub HasStanding : Standing → ℕ → Type 0
+HasStanding s r = (c : Clause) → clause_at s.clauses r ≡ Some c → (k : ℤ) → Contains c k → (p : ℕ) × IsPlaceOf s.trail.literals p k
+
+-- the variables of a live clause were seen before
+abbrev pub SawClause : Standing → AnalysisView → ℕ → Type 0
+SawClause s a r = (c : Clause) × (clause_at s.clauses r ≡ Some c) × ((j : ℕ) → j < length c → IsSeen a (signed_variable (at c j)))
+
+-- A clause all of whose variables were seen forced the negation of the literal.
+abbrev pub Follows : Standing → AnalysisView → ℤ → Type 0
+Follows s a k = (r : ℕ) × IsReasonOf s.trail (signed_variable k) (Some r) × SawClause s a r
+
+-- of the literals from before the last level, at least those that don't follow
+pub record AreNeeded (s : Standing) (a : AnalysisView) (lits : List ℤ) : Type 0 where
+  pub within : (k : ℤ) → Contains lits k → Contains a.lits k
+  pub rest : (k : ℤ) → Contains a.lits k → Contains lits k ⊎ Follows s a k
+
+-- the literals of its lemma: those that are needed, and the one of the last level that is left
+abbrev pub IsLemmaOf : Standing → AnalysisView → List ℤ → Type 0
+IsLemmaOf s a lits = (needed : List ℤ) × AreNeeded s a needed × (lits ≡ needed ++ neg_ℤ (at s.trail.literals a.lowest) ∷ [])

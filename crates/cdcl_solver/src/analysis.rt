@@ -3,7 +3,8 @@ ghost use Rattle.std.specs.Prelude.{◌≡◌, ◌<◌, ◌≤◌, ◌^◌, ◌�
 ghost use Rattle.std.specs.List.{Contains};
 ghost use Rattle.unit_prop.specs.Standing.{Standing, IsSound, clause_at};
 ghost use Rattle.cdcl_solver.specs.Analyses.{AnalysisView, IsAnalysis, IsSeen, IsFalseOrSeen, IsForcedBehind};
-ghost use Rattle.cdcl_solver.specs.Analyses.{IsPlaceOf, IsResolved, MarksClause, Refutes, Sees, lemma_of};
+ghost use Rattle.cdcl_solver.specs.Analyses.{AreNeeded, Follows, HasStanding, IsLemmaOf, IsPlaceOf, IsResolved};
+ghost use Rattle.cdcl_solver.specs.Analyses.{MarksClause, Refutes, SawClause, Sees};
 ghost use Rattle.cdcl_solver.specs.Search.{IsConflictAt};
 ghost use Rattle.unit_prop.specs.Trail.{signed_variable};
 
@@ -81,23 +82,68 @@ impl Analysis {
         }
     }
 
-    /// The literals of the lemma. The room is given back.
+    /// The literals of the lemma, but those that follow from others of it. The room is given back.
     pub(crate) fn into_lits(
         self,
+        alloc: Global,
         propagator: &Propagator,
         room: &mut Room,
     ) -> Result<Vec<i32>, Memory>
         requires resolved { IsResolved propagator.now self }
         requires sound { IsSound propagator.now }
         requires signed { propagator.now.trail.greatest < 2 ^ 31 }
-        ensures { IfOk result (λ lits. lits.items ≡ lemma_of propagator.now self) }
+        ensures { IfOk result (λ lits. IsLemmaOf propagator.now self lits.items) }
     {
         let last = propagator.trail()[self.lowest];
-        let mut lits = self.lits;
+        let mut lits = self.needed(alloc, propagator)?;
         lits.push(negation(last))?;
         room.places = self.places;
         room.marks = self.seen;
         Ok(lits)
+    }
+
+    // The literals from before the last level that don't follow from others which were seen.
+    fn needed(&self, alloc: Global, propagator: &Propagator) -> Result<Vec<i32>, Memory>
+        requires sound { IsSound propagator.now }
+        requires analysis { IsAnalysis propagator.now self.now }
+        ensures { IfOk result (λ lits. AreNeeded propagator.now self.now lits.items) }
+    {
+        let mut needed = Vec::new(alloc);
+        for &lit in &self.lits {
+            if !self.follows(propagator, lit) {
+                needed.push(lit)?;
+            }
+        }
+        Ok(needed)
+    }
+
+    // Whether what was seen forces the negation of a literal of the lemma.
+    fn follows(&self, propagator: &Propagator, lit: i32) -> bool
+        requires sound { IsSound propagator.now }
+        requires analysis { IsAnalysis propagator.now self.now }
+        requires own { Contains self.now.lits lit }
+        ensures { IsTrue result → Follows propagator.now self.now lit }
+    {
+        match propagator.reason(variable(lit)) {
+            Some(reason) => self.saw(propagator, reason),
+            None => false,
+        }
+    }
+
+    // Whether all variables of a clause were seen.
+    fn saw(&self, propagator: &Propagator, clause: Ref) -> bool
+        requires sound { IsSound propagator.now }
+        requires live { IsSome (clause_at propagator.now.clauses clause) }
+        requires analysis { IsAnalysis propagator.now self.now }
+        requires standing { HasStanding propagator.now clause }
+        ensures { IsTrue result → SawClause propagator.now self.now clause }
+    {
+        for &lit in propagator.clause(clause) {
+            if !self.seen.has(variable(lit) as usize) {
+                return false;
+            }
+        }
+        true
     }
 
     // Sees one literal that is false.

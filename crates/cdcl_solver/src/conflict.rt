@@ -20,8 +20,9 @@ pub(crate) struct Conflict {
     pub level: usize,
 }
 
-/// The lemma of the first literal of the last level through which all its reasons pass. What was resolved moves to the
-/// front of the order. The room is memory that is used again, whatever is in it.
+/// The lemma of the first literal of the last level through which all its reasons pass, without literals that follow
+/// from its others. What was resolved moves to the front of the order. The room is memory that is used again, whatever
+/// is in it.
 pub(crate) fn learn(
     alloc: Global,
     propagator: &Propagator,
@@ -40,6 +41,6 @@ pub(crate) fn learn(
 {
     let analysis = Analysis::of(alloc, propagator, max, conflict, room)?;
     analysis.bump(propagator, order);
-    let lits = analysis.into_lits(propagator, room)?;
+    let lits = analysis.into_lits(alloc, propagator, room)?;
     Clause::new(alloc, &lits)
 }
