@@ -5,8 +5,12 @@ ghost use Rattle.poly_terms.specs.Indexed.{IsLonger};
 use std::alloc::{AllocError, Global};
 use std::marker::Model;
 
-// From so many on a move leaves a hole of a MB or more, which is often too small for what comes after it.
-const MANY: usize = 1 << 16;
+// From so many on, which take 256 KB, a move leaves a hole that is often too small for what comes after it.
+const MANY: u64 = 1 << 14;
+
+// So many take 32 MB, and a block of that size goes back to the system as soon as it is free. From lesser ones glibc's
+// allocator learns that such come and go: then it keeps all blocks that aren't greater, and the holes between them.
+const AT_ONCE: usize = 1 << 21;
 
 /// The coefficients of a polynomial, by number. A number past the end has 0.
 #[derive(Debug, Drop)]
@@ -77,7 +81,7 @@ fn lengthen(by_number: &mut Vec<u128>, number: u64) -> Result<(), AllocError>
     ensures longer { IsLonger by_number.old.items by_number.new.items }
     ensures long { OnOk result (number < length by_number.new.items) }
 {
-    make_room(by_number);
+    make_room(by_number, number);
     put_zeros(by_number, number)
 }
 
@@ -91,12 +95,11 @@ fn put_zeros(by_number: &mut Vec<u128>, number: u64) -> Result<(), AllocError>
     Ok(())
 }
 
-// Makes much room at once where there are many, if there is as much: what isn't used takes no memory.
-fn make_room(by_number: &mut Vec<u128>)
+// Makes much room at once for many, if there is as much: what isn't used takes no memory.
+fn make_room(by_number: &mut Vec<u128>, number: u64)
     ensures { by_number.new.items ≡ by_number.old.items }
 {
-    let count = by_number.len();
-    if count >= MANY && count == by_number.capacity() {
-        let _ = by_number.try_reserve(count.saturating_mul(7));
+    if number >= MANY && number as usize >= by_number.capacity() {
+        let _ = by_number.try_reserve(by_number.len().max(AT_ONCE));
     }
 }
