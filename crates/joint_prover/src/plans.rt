@@ -41,38 +41,57 @@ enum Lines {
     Drafted,
 }
 
-// A plan has lines of one kind, an order of elimination, and so many times the small budget; or the whole one.
-type Try = (Lines, Order, u64);
+// How many monomials a plan may keep.
+#[derive(Clone, Copy)]
+enum Budget {
+    // so few that a plan which passes it costs nothing
+    Few,
+    // so many times what made multipliers take
+    Small(u64),
+    Whole,
+}
 
-const WHOLE: u64 = u64::MAX;
+// A plan has lines of one kind, an order of elimination, and a budget.
+type Try = (Lines, Order, Budget);
 
 // What comes first, over the graph with the adder that is used, or over the graph alone where none is.
-const SOON: [Try; 1] = [(Lines::Reduced, Order::Slices, 1)];
+const SOON: [Try; 1] = [(Lines::Reduced, Order::Slices, Budget::Small(1))];
 
 // What comes over the graph with an adder at a cut that is found.
 const FOUND: [Try; 5] = [
-    (Lines::Reduced, Order::Slices, 1),
-    (Lines::Drafted, Order::Slices, 1),
-    (Lines::Reduced, Order::ByColumn, 2),
-    (Lines::Drafted, Order::SumsLast, 16),
-    (Lines::Reduced, Order::AtEnd, 16),
+    (Lines::Reduced, Order::Slices, Budget::Small(1)),
+    (Lines::Drafted, Order::Slices, Budget::Small(1)),
+    (Lines::Reduced, Order::ByColumn, Budget::Small(2)),
+    (Lines::Drafted, Order::SumsLast, Budget::Small(16)),
+    (Lines::Reduced, Order::AtEnd, Budget::Small(16)),
+];
+
+// The same where an addend is claimed: the adder that is found may be the one before the last, and the greater frontiers
+// of a plan by layers have shorter lines as long as they are small.
+const FOUND_OF_SUM: [Try; 6] = [
+    (Lines::Reduced, Order::Slices, Budget::Small(1)),
+    (Lines::Reduced, Order::AtEnd, Budget::Few),
+    (Lines::Drafted, Order::Slices, Budget::Small(1)),
+    (Lines::Drafted, Order::SumsLast, Budget::Small(16)),
+    (Lines::Reduced, Order::ByColumn, Budget::Small(2)),
+    (Lines::Reduced, Order::AtEnd, Budget::Small(16)),
 ];
 
 // What comes there at last.
-const FOUND_AT_LAST: [Try; 1] = [(Lines::Reduced, Order::Slices, WHOLE)];
+const FOUND_AT_LAST: [Try; 1] = [(Lines::Reduced, Order::Slices, Budget::Whole)];
 
 // What comes over the graph with a reference beside it.
 const BESIDE: [Try; 3] = [
-    (Lines::Reduced, Order::Slices, 1),
-    (Lines::Drafted, Order::Slices, 1),
-    (Lines::Drafted, Order::SumsLast, 16),
+    (Lines::Reduced, Order::Slices, Budget::Small(1)),
+    (Lines::Drafted, Order::Slices, Budget::Small(1)),
+    (Lines::Drafted, Order::SumsLast, Budget::Small(16)),
 ];
 
 // How many references are compared with the graph.
 const REFERENCES: usize = 3;
 
 // What comes before any whole budget, over the same graph as what comes first.
-const DRAFTED: [Try; 1] = [(Lines::Drafted, Order::SumsLast, 16)];
+const DRAFTED: [Try; 1] = [(Lines::Drafted, Order::SumsLast, Budget::Small(16))];
 
 // What it may cost to try values of the inputs before a plan is known to be hard: from 32 bits on those with two ones,
 // which are always tried, and at 16 bits those with three.
@@ -378,13 +397,22 @@ fn decide_around(
     ensures beyond { IfOk result (λ r. IfSome r.1 (IsEndedFor job.now (replacement_named used.entry))) }
     ensures differing { IfSome differing.new (AreInRange job.now.operands.now) }
 {
-    let over = decide_over_found(alloc, job, found, &FOUND)?;
+    let over = decide_over_found(alloc, job, found, found_plans(job))?;
     if is_settled(&over) {
         return Ok((over, None));
     }
     let is_open = is_open && over.is_none();
     let (last, beyond) = decide_beyond(alloc, job, used, found, between, is_open, differing)?;
     Ok((first_short(over, last), beyond))
+}
+
+// What is tried over the graph with an adder at a cut that is found.
+fn found_plans(job: &Job<'_>) -> &'static [Try] {
+    if job.task.claim.widths.has_addend() {
+        &FOUND_OF_SUM
+    } else {
+        &FOUND
+    }
 }
 
 // What plans decide over other graphs; and over the graph with the adder at last, where that is open and they decide
@@ -604,9 +632,9 @@ fn decide_by(
     requires shown { IsShown job.now.graph.now job.now.task shown }
     ensures { IfOk result (λ e. IfSome e (IsEndedOver job.now (replacement_named shown.entry))) }
 {
-    let (lines, order, times) = plan;
-    let small = small_budget(job.operands.a_width().max(job.operands.b_width()));
-    let budget = job.task.budget.min(small.saturating_mul(times));
+    let (lines, order, budget) = plan;
+    let bits = job.operands.a_width().max(job.operands.b_width());
+    let budget = job.task.budget.min(most_within(budget, bits));
     let decided = match lines {
         Lines::Reduced => decide_along(alloc, job, shown, order, budget)?,
         Lines::Drafted => decide_by_drafts(alloc, job, shown, order, budget)?,
@@ -687,6 +715,15 @@ fn try_whole(
             tried.push(last)?;
             Ok(None)
         }
+    }
+}
+
+// How many monomials that are.
+fn most_within(budget: Budget, bits: u32) -> u64 {
+    match budget {
+        Budget::Few => 512,
+        Budget::Small(times) => small_budget(bits).saturating_mul(times),
+        Budget::Whole => u64::MAX,
     }
 }
 
