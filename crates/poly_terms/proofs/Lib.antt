@@ -21,6 +21,7 @@ pub mod Dividing
 pub mod Summing
 pub mod Placed
 pub mod Sparse
+pub mod Blocks
 pub mod Entering
 pub mod Indexing
 pub mod PolySums

@@ -1,29 +1,29 @@
 // Coefficients by the numbers of monomials.
-ghost use Rattle.std.specs.Prelude.{◌≡◌, ◌<◌, [], OnOk, get_or, length, set};
+ghost use Rattle.std.specs.Prelude.{◌≡◌, ◌<◌, [], OnErr, OnOk, get_or, length, set};
+ghost use Rattle.poly_terms.specs.Blocks.{AreBlocks, joined};
 ghost use Rattle.poly_terms.specs.Indexed.{IsLonger};
 
+use crate::block::{Block, SIZE};
 use std::alloc::{AllocError, Global};
 use std::marker::Model;
 
-// From so many on, which take 256 KB, a move leaves a hole that is often too small for what comes after it.
-const MANY: u64 = 1 << 14;
-
-// So many take 32 MB, and a block of that size goes back to the system as soon as it is free. From lesser ones glibc's
-// allocator learns that such come and go: then it keeps all blocks that aren't greater, and the holes between them.
-const AT_ONCE: usize = 1 << 21;
-
-/// The coefficients of a polynomial, by number. A number past the end has 0.
+/// The coefficients of a polynomial, by number. A number past the end has 0. Numbers far from any with another
+/// coefficient than 0 take no memory.
 #[derive(Debug, Drop)]
 pub(crate) struct Coefficients {
-    by_number: Vec<u128>,
+    alloc: Global,
+    blocks: Vec<Block>,
 }
 
 impl Model for Coefficients {
     ghost use Rattle.std.specs.Prelude.{List, ℕ};
+    ghost use Rattle.poly_terms.specs.Blocks.{AreBlocks, joined};
 
     ghost Value = { List ℕ };
 
-    ghost view = { λ c. c.by_number.items };
+    ghost view = { λ c. joined c.blocks.items };
+
+    ghost invariant = { λ c. AreBlocks c.blocks.items };
 }
 
 impl Coefficients {
@@ -31,7 +31,8 @@ impl Coefficients {
         ensures { result ≡ [] }
     {
         Coefficients {
-            by_number: Vec::new(alloc),
+            alloc,
+            blocks: Vec::new(alloc),
         }
     }
 
@@ -39,7 +40,7 @@ impl Coefficients {
     pub(crate) fn len(&self) -> usize
         ensures { result ≡ length self.now }
     {
-        self.by_number.len()
+        self.blocks.len() * SIZE
     }
 
     /// Has a number within, by as many 0 as it takes.
@@ -48,19 +49,31 @@ impl Coefficients {
         ensures longer { IsLonger self.old self.new }
         ensures long { OnOk result (number < length self.new) }
     {
-        if (number as usize) < self.by_number.len() {
+        let last = number as usize / SIZE;
+        if last < self.blocks.len() {
             return Ok(());
         }
-        lengthen(&mut self.by_number, number)
+        lengthen(self.alloc, &mut self.blocks, last)
     }
 
     /// Puts a coefficient in place of a number's.
     #[inline(always)]
-    pub(crate) fn put(&mut self, number: u64, coefficient: u128)
+    pub(crate) fn put(&mut self, number: u64, coefficient: u128) -> Result<(), AllocError>
         requires { number < length self.old }
-        ensures { self.new ≡ set self.old number coefficient }
+        ensures put { OnOk result (self.new ≡ set self.old number coefficient) }
+        ensures kept { OnErr result (self.new ≡ self.old) }
     {
-        self.by_number[number as usize] = coefficient;
+        let place = number as usize % SIZE;
+        self.blocks[number as usize / SIZE].put(self.alloc, place, coefficient)
+    }
+
+    /// Puts 0 in place of a number's.
+    #[inline(always)]
+    pub(crate) fn clear(&mut self, number: u64)
+        requires { number < length self.old }
+        ensures { self.new ≡ set self.old number 0 }
+    {
+        self.blocks[number as usize / SIZE].clear(number as usize % SIZE);
     }
 
     /// The coefficient of a number.
@@ -68,38 +81,26 @@ impl Coefficients {
     pub(crate) fn at(&self, number: u64) -> u128
         ensures { result ≡ get_or self.now number 0 }
     {
-        match self.by_number.get(number as usize) {
-            Some(coefficient) => *coefficient,
+        match self.blocks.get(number as usize / SIZE) {
+            Some(block) => block.at(number as usize % SIZE),
             None => 0,
         }
     }
 }
 
-// Coefficients of 0 up to a number.
+// Blocks of 0 up to the last one. There are no more than have words as their numbers.
 #[inline(never)]
-fn lengthen(by_number: &mut Vec<u128>, number: u64) -> Result<(), AllocError>
-    ensures longer { IsLonger by_number.old.items by_number.new.items }
-    ensures long { OnOk result (number < length by_number.new.items) }
+fn lengthen(alloc: Global, blocks: &mut Vec<Block>, last: usize) -> Result<(), AllocError>
+    requires { AreBlocks blocks.old.items }
+    ensures blocks { AreBlocks blocks.new.items }
+    ensures longer { IsLonger (joined blocks.old.items) (joined blocks.new.items) }
+    ensures long { OnOk result (last < length blocks.new.items) }
 {
-    make_room(by_number, number);
-    put_zeros(by_number, number)
-}
-
-fn put_zeros(by_number: &mut Vec<u128>, number: u64) -> Result<(), AllocError>
-    ensures longer { IsLonger by_number.old.items by_number.new.items }
-    ensures long { OnOk result (number < length by_number.new.items) }
-{
-    for _ in by_number.len()..=number as usize {
-        by_number.push(0)?;
+    if last >= usize::MAX / SIZE {
+        return Err(AllocError);
+    }
+    for _ in blocks.len()..=last {
+        blocks.push(Block::new(alloc))?;
     }
     Ok(())
-}
-
-// Makes much room at once for many, if there is as much: what isn't used takes no memory.
-fn make_room(by_number: &mut Vec<u128>, number: u64)
-    ensures { by_number.new.items ≡ by_number.old.items }
-{
-    if number >= MANY && number as usize >= by_number.capacity() {
-        let _ = by_number.try_reserve(by_number.len().max(AT_ONCE));
-    }
 }

@@ -1,5 +1,5 @@
 // Coefficients by the numbers of monomials, with a count of those that aren't 0.
-ghost use Rattle.std.specs.Prelude.{◌≡◌, ◌≢◌, ◌+◌, ◌<◌, ◌^◌, ◌++◌, ◌∷◌, [], IfOk, OnOk, get_or, length, set};
+ghost use Rattle.std.specs.Prelude.{◌≡◌, ◌≢◌, ◌+◌, ◌<◌, ◌^◌, ◌++◌, ◌∷◌, [], IfOk, OnErr, OnOk, get_or, length, set};
 ghost use Rattle.poly_terms.specs.Indexed.{IsLonger, counted, terms_from};
 
 use crate::coefficients::Coefficients;
@@ -47,13 +47,27 @@ impl CountedCoefficients {
 
     /// Puts a coefficient in place of a number's.
     #[inline(always)]
-    pub(crate) fn put(&mut self, number: u64, coefficient: u128)
+    pub(crate) fn put(&mut self, number: u64, coefficient: u128) -> Result<(), AllocError>
         requires { number < length self.old }
-        ensures { self.new ≡ set self.old number coefficient }
+        ensures put { OnOk result (self.new ≡ set self.old number coefficient) }
+        ensures kept { OnErr result (self.new ≡ self.old) }
     {
         let _length = self.coefficients.len();
-        self.count = recount(self.count, self.coefficients.at(number), coefficient);
-        self.coefficients.put(number, coefficient);
+        let count = recount(self.count, self.coefficients.at(number), coefficient);
+        self.coefficients.put(number, coefficient)?;
+        self.count = count;
+        Ok(())
+    }
+
+    /// Puts 0 in place of a number's.
+    #[inline(always)]
+    pub(crate) fn clear(&mut self, number: u64)
+        requires { number < length self.old }
+        ensures { self.new ≡ set self.old number 0 }
+    {
+        let _length = self.coefficients.len();
+        self.count = recount(self.count, self.coefficients.at(number), 0);
+        self.coefficients.clear(number);
     }
 
     /// The coefficient of a number.

@@ -153,8 +153,7 @@ fn add_term(
     coefficients.reach(number)?;
     let before = coefficients.at(number);
     enter_new(table, places, number, before)?;
-    coefficients.put(number, coefficient::sum(width, before, term.coefficient()));
-    Ok(())
+    coefficients.put(number, coefficient::sum(width, before, term.coefficient()))
 }
 
 // Puts a number at the places of its variables, where it had the coefficient 0.
@@ -209,7 +208,7 @@ fn take_one(
     let coefficient = coefficients.at(number);
     if coefficient != 0 && monomial::has_variable(table.variables(number), v) {
         out.push(Term::new(number, coefficient))?;
-        coefficients.put(number, 0);
+        coefficients.clear(number);
     }
     Ok(())
 }

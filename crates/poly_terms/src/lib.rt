@@ -24,6 +24,7 @@
 #![tactic(auto)]
 
 mod addition;
+mod block;
 mod carrying;
 mod chains;
 mod coefficient;

@@ -184,8 +184,7 @@ pub(crate) fn add_term(
     coefficients.reach(number)?;
     let before = coefficients.at(number);
     list_new(numbers, number, before)?;
-    coefficients.put(number, coefficient::sum(width, before, term.coefficient()));
-    Ok(())
+    coefficients.put(number, coefficient::sum(width, before, term.coefficient()))
 }
 
 // Adds terms.
@@ -250,7 +249,7 @@ fn take_one(
     let coefficient = coefficients.at(number);
     if coefficient != 0 {
         out.push(Term::new(number, coefficient))?;
-        coefficients.put(number, 0);
+        coefficients.clear(number);
     }
     Ok(())
 }
@@ -271,6 +270,6 @@ fn clear_one(coefficients: &mut Coefficients, listed: u64)
     ensures gone { get_or coefficients.new listed 0 ≡ 0 }
 {
     if coefficients.at(listed) != 0 {
-        coefficients.put(listed, 0);
+        coefficients.clear(listed);
     }
 }

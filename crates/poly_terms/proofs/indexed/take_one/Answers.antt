@@ -14,8 +14,8 @@ returns-in_ok-push-clause-taken c =
     let ne0 = c.if-coefficient-ne0.true in
     let some : 0 < get_or old n 0 = omega (arith, c.at-coefficient.ensures, ne0) in
     let has : has_variable v (get_or ms n []) ≡ true = ap (has_variable v) c.variables.ensures.value ∙ sym c.if-has_variable.ensures in
-    takes_one ms v old c.put.new.self c.args.out.now.items c.push.new.self.items n c.at-coefficient.result c.at-coefficient.ensures (some_within old n some) (c.requires n some) has
-    (c.in_ok-push.ensures.items ∙ ap (λ e. c.args.out.now.items ++ e ∷ []) c.new.ensures) c.put.ensures
+    takes_one ms v old c.clear.new.self c.args.out.now.items c.push.new.self.items n c.at-coefficient.result c.at-coefficient.ensures (some_within old n some) (c.requires n some) has
+    (c.in_ok-push.ensures.items ∙ ap (λ e. c.args.out.now.items ++ e ∷ []) c.new.ensures) c.clear.ensures
 
 pub returns-in_err-push-clause-taken : goal.returns-in_err-push-clause-taken
 returns-in_err-push-clause-taken c = not_done _ _ c.from_residual.result c.from_residual.ensures.1
