@@ -15,6 +15,7 @@
 mod cones;
 mod extended;
 mod levels;
+mod patterns;
 mod refuting;
 mod rows;
 mod sweeping;

@@ -4,13 +4,13 @@ ghost use Rattle.clause_core.specs.Clause.{Clause};
 ghost use Rattle.goal_refuter.specs.Beginnings.{IsBegunAlike, StaysBegunAlike};
 
 use crate::levels::by_level;
+use crate::patterns::Patterns;
 use crate::swept::Swept;
 use crate::turns::in_turn;
 use crate::twins::Twins;
 use cdcl_solver::{Log, Solver};
 use goal_refuter::{forget, show_equal};
 use graph_core::{Gate, Lit, Memory};
-use stage_guesser::Draws;
 use std::alloc::Global;
 
 // Within how many lemmas an implication is shown.
@@ -239,7 +239,8 @@ fn show_within(
 fn simulate(alloc: Global, swept: &Swept<'_>, order: &[(u32, usize)]) -> Result<Twins, Memory> {
     let gates = swept.gates;
     let mut twins = Twins::new(alloc, swept)?;
-    draw(&mut twins, gates);
+    let mut patterns = patterns_of(&twins, gates);
+    draw(&mut twins, gates, &mut patterns);
     read(&mut twins, swept, order);
     for step in order {
         if let Some(gate) = gates.get(step.1) {
@@ -268,12 +269,33 @@ fn enter_models(
 }
 
 // Draws the values of what gates read and is none.
-fn draw(twins: &mut Twins, gates: &[Gate]) {
-    let mut draws = Draws::new();
+fn draw(twins: &mut Twins, gates: &[Gate], patterns: &mut Patterns) {
     for gate in gates {
-        twins.draw(gates, gate.left.var(), &mut draws);
-        twins.draw(gates, gate.right.var(), &mut draws);
+        twins.draw(gates, gate.left.var(), patterns);
+        twins.draw(gates, gate.right.var(), patterns);
     }
+}
+
+// Patterns of drawn values, with runs of zeros where models read other gates.
+fn patterns_of(twins: &Twins, gates: &[Gate]) -> Patterns {
+    if twins.crosses() {
+        Patterns::with_zeros(greatest_input(twins, gates))
+    } else {
+        Patterns::drawn()
+    }
+}
+
+// The greatest variable that a gate reads and that is none.
+fn greatest_input(twins: &Twins, gates: &[Gate]) -> u32 {
+    let mut most = 0u32;
+    for gate in gates {
+        for variable in [gate.left.var(), gate.right.var()] {
+            if twins.is_input(gates, variable) {
+                most = most.max(variable);
+            }
+        }
+    }
+    most
 }
 
 // Finds what the outputs depend on.

@@ -67,8 +67,8 @@ fn awaited_by(swept: &Swept<'_>, gate: &Gate, twins: &Twins, awaited: &[u32]) ->
     if twins.is_constant(gate) {
         return below;
     }
-    match twins.of_equal_values(gate) {
-        Some(lit) => below.max(lit.var()),
+    match twins.first_of_values(gate) {
+        Some(first) => below.max(first),
         None => below,
     }
 }

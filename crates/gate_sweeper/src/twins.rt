@@ -1,10 +1,11 @@
 // Literals of models that other gates may equal.
 use crate::cones::Cones;
+use crate::patterns::Patterns;
 use crate::rows::Rows;
 use crate::swept::{Models, Swept};
 use graph_core::{Gate, Lit, Memory};
 use indexmap::IndexMap;
-use stage_guesser::{Draws, Signature, WORDS};
+use stage_guesser::{Signature, WORDS};
 use std::alloc::Global;
 
 /// By row of a variable its values on some patterns of the inputs and the literal that it equals; and by operands and
@@ -32,6 +33,8 @@ pub(crate) struct Twins {
     crosses: bool,
     by_operands: IndexMap<u64, u32>,
     by_values: IndexMap<u64, u32>,
+    /// The first model with some values.
+    first_by_values: IndexMap<u64, u32>,
     /// The key of the constant true.
     ones: u64,
     cones: Cones,
@@ -58,6 +61,7 @@ impl Twins {
             crosses,
             by_operands: IndexMap::new(alloc),
             by_values: IndexMap::new(alloc),
+            first_by_values: IndexMap::new(alloc),
             ones: Signature::zero().negated_if(true).key(),
             cones: Cones::new(alloc)?,
             spent: 0,
@@ -65,8 +69,8 @@ impl Twins {
     }
 
     /// Draws the values of a variable, unless it is the constant, a gate's, or has some.
-    pub(crate) fn draw(&mut self, gates: &[Gate], variable: u32, draws: &mut Draws) {
-        if variable == 0 || self.rows.gate(gates, variable).is_some() {
+    pub(crate) fn draw(&mut self, gates: &[Gate], variable: u32, patterns: &mut Patterns) {
+        if variable == 0 || !self.is_input(gates, variable) {
             return;
         }
         if let Some(signature) = self.signatures.get_mut(self.rows.of(variable)) {
@@ -74,11 +78,16 @@ impl Twins {
                 return;
             }
             for pattern in 0..WORDS * 64 {
-                if draws.next() % 16 < share(pattern / 64) {
+                if patterns.value(variable, pattern) {
                     signature.set(pattern);
                 }
             }
         }
+    }
+
+    /// Whether no gate has a variable.
+    pub(crate) fn is_input(&self, gates: &[Gate], variable: u32) -> bool {
+        self.rows.gate(gates, variable).is_none()
     }
 
     /// Sets the values of a gate by those of its operands.
@@ -121,6 +130,9 @@ impl Twins {
             return Ok(());
         }
         let key = self.class_of(&self.values(plain(gate.v)));
+        if self.first_by_values.get(&key).is_none() {
+            self.first_by_values.insert(key, gate.v)?;
+        }
         let is_first = match self.by_values.get(&key) {
             Some(first) => self.crosses && self.is_read(gate) && !self.is_read_at(*first),
             None => true,
@@ -332,6 +344,15 @@ impl Twins {
         }
     }
 
+    /// The first model with the values of a gate, or those of its negation.
+    pub(crate) fn first_of_values(&self, gate: &Gate) -> Option<u32> {
+        if self.is_crossed(gate) {
+            return None;
+        }
+        let values = self.values(plain(gate.v));
+        self.first_by_values.get(&self.class_of(&values)).copied()
+    }
+
     // The model with the number of a gate.
     fn of_number(&self, gates: &[Gate], gate: &Gate) -> Option<Gate> {
         let own = self.rows.gate(gates, self.models.of_number(gate.v)?)?;
@@ -385,15 +406,4 @@ fn plain(variable: u32) -> Lit {
 // Both operands of a gate in one number, the lesser one first.
 fn operands(left: Lit, right: Lit) -> u64 {
     ((left.0.min(right.0) as u64) << 32) | left.0.max(right.0) as u64
-}
-
-// How many of sixteen values are true: of most words half, of some few or nearly all.
-fn share(word: usize) -> u64 {
-    match word % 8 {
-        0 => 4,
-        1 => 12,
-        2 => 14,
-        3 => 15,
-        _ => 8,
-    }
 }
