@@ -206,6 +206,8 @@ impl Gathered {
         ensures ended { OnOk result (IsEndedBatch terms.old terms.new self.old self.new) }
     {
         let poly = self.stated.take(terms)?;
+        // what it kept is by numbers that few later parts have
+        self.stated = PolySum::new(alloc);
         let weight = power_poly(alloc, terms, self.power)?;
         self.total = terms.combine(&self.total, &poly, &weight)?;
         let parts = mem::replace(&mut self.parts, Vec::new(alloc));

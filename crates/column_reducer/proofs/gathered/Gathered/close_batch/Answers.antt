@@ -15,4 +15,4 @@ returns-clause-ended c =
     batch_ended t0 t0 c.power_poly.new.terms c.combine.new.self c.args.self.now _ c.in_ok-poly.poly c.in_ok-weight.weight
     (extends_itself t0) c.in_ok-weight.ensures.extends c.in_ok-self.ensures.extends c.requires.some c.in_ok-poly.ensures.of c.in_ok-weight.ensures.of c.in_ok-self.ensures.of c.in_ok-poly.ensures.value
     c.in_ok-weight.ensures.value c.in_ok-self.ensures.value (c.in_ok-push.ensures.items ∙ ap (λ parts. c.args.self.now.batches.items ++ record { parts = parts; poly = c.in_ok-poly.poly; weight = c.in_ok-weight.weight } ∷ []) c.replace-parts.ensures.value) refl
-    (ap (λ parts. parts.items) c.replace-parts.ensures.after ∙ c.new.ensures.items) c.in_ok-poly.ensures.none refl
+    (ap (λ parts. parts.items) c.replace-parts.ensures.after ∙ c.new-2.ensures.items) c.new.ensures refl
