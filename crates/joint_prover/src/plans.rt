@@ -48,6 +48,8 @@ enum Budget {
     Few,
     // so many times what made multipliers take
     Small(u64),
+    // the twelfth part of the cube of the operands' bits: what passes it costs no more than drafted lines
+    Cubed,
     Whole,
 }
 
@@ -58,8 +60,9 @@ type Try = (Lines, Order, Budget);
 const SOON: [Try; 1] = [(Lines::Reduced, Order::Slices, Budget::Small(1))];
 
 // What comes over the graph with an adder at a cut that is found.
-const FOUND: [Try; 5] = [
+const FOUND: [Try; 6] = [
     (Lines::Reduced, Order::Slices, Budget::Small(1)),
+    (Lines::Reduced, Order::ByColumn, Budget::Cubed),
     (Lines::Drafted, Order::Slices, Budget::Small(1)),
     (Lines::Reduced, Order::ByColumn, Budget::Small(2)),
     (Lines::Drafted, Order::SumsLast, Budget::Small(16)),
@@ -723,14 +726,18 @@ fn most_within(budget: Budget, bits: u32) -> u64 {
     match budget {
         Budget::Few => 512,
         Budget::Small(times) => small_budget(bits).saturating_mul(times),
+        Budget::Cubed => square(bits).saturating_mul(u64::from(bits)) / 12,
         Budget::Whole => u64::MAX,
     }
 }
 
 // The budget of a plan that is tried before it is known whether it ends soon: that of made multipliers.
 fn small_budget(bits: u32) -> u64 {
-    let square = u64::from(bits).saturating_mul(u64::from(bits));
-    square.saturating_mul(8).saturating_add(64)
+    square(bits).saturating_mul(8).saturating_add(64)
+}
+
+fn square(bits: u32) -> u64 {
+    u64::from(bits).saturating_mul(u64::from(bits))
 }
 
 // That a graph is wrong which some fixed values of its inputs show to be, if values with few ones do too.
