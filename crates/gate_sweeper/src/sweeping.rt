@@ -276,9 +276,9 @@ fn draw(twins: &mut Twins, gates: &[Gate], patterns: &mut Patterns) {
     }
 }
 
-// Patterns of drawn values, with runs of zeros where models read other gates.
+// Patterns of drawn values, with runs of zeros where models read other gates and there are many inputs.
 fn patterns_of(twins: &Twins, gates: &[Gate]) -> Patterns {
-    if twins.crosses() {
+    if twins.crosses_widely() {
         Patterns::with_zeros(greatest_input(twins, gates))
     } else {
         Patterns::drawn()

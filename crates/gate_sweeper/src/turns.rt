@@ -67,8 +67,8 @@ fn awaited_by(swept: &Swept<'_>, gate: &Gate, twins: &Twins, awaited: &[u32]) ->
     if twins.is_constant(gate) {
         return below;
     }
-    match twins.first_of_values(gate) {
-        Some(first) => below.max(first),
+    match twins.awaited(gate) {
+        Some(model) => below.max(model),
         None => below,
     }
 }

@@ -8,6 +8,9 @@ use indexmap::IndexMap;
 use stage_guesser::{Signature, WORDS};
 use std::alloc::Global;
 
+// So many inputs aren't many yet: drawn values of more seldom end in many zeros.
+const FEW_INPUTS: usize = 40;
+
 /// By row of a variable its values on some patterns of the inputs and the literal that it equals; and by operands and
 /// by values the models. No answer depends on it.
 ///
@@ -31,6 +34,8 @@ pub(crate) struct Twins {
     crossed: Vec<bool>,
     /// Whether a model reads gates that are none.
     crosses: bool,
+    /// Whether one does, and there are many inputs.
+    crosses_widely: bool,
     by_operands: IndexMap<u64, u32>,
     by_values: IndexMap<u64, u32>,
     /// The first model with some values.
@@ -48,6 +53,7 @@ impl Twins {
         let rows = Rows::new(alloc, swept.max, swept.gates)?;
         let count = rows.count();
         let crosses = has_crossing(swept, &rows);
+        let crosses_widely = crosses && inputs(swept, &rows) > FEW_INPUTS;
         Ok(Twins {
             models: swept.models,
             rows,
@@ -59,6 +65,7 @@ impl Twins {
             read: vec![in alloc; false; count]?,
             crossed: vec![in alloc; false; count]?,
             crosses,
+            crosses_widely,
             by_operands: IndexMap::new(alloc),
             by_values: IndexMap::new(alloc),
             first_by_values: IndexMap::new(alloc),
@@ -206,6 +213,11 @@ impl Twins {
         self.crosses
     }
 
+    /// Whether one does, and there are many inputs.
+    pub(crate) fn crosses_widely(&self) -> bool {
+        self.crosses_widely
+    }
+
     /// Whether a gate has one value on all patterns.
     pub(crate) fn is_constant(&self, gate: &Gate) -> bool {
         self.class_of(&self.values(plain(gate.v))) == self.class_of(&Signature::zero())
@@ -344,13 +356,16 @@ impl Twins {
         }
     }
 
-    /// The first model with the values of a gate, or those of its negation.
-    pub(crate) fn first_of_values(&self, gate: &Gate) -> Option<u32> {
-        if self.is_crossed(gate) {
-            return None;
+    /// The model that a gate's turn comes after: its candidate; or, where there are many inputs, the first one with its
+    /// values or those of their negation, on which no output may depend.
+    pub(crate) fn awaited(&self, gate: &Gate) -> Option<u32> {
+        let candidate = self.of_equal_values(gate)?;
+        if self.crosses_widely {
+            let values = self.values(plain(gate.v));
+            self.first_by_values.get(&self.class_of(&values)).copied()
+        } else {
+            Some(candidate.var())
         }
-        let values = self.values(plain(gate.v));
-        self.first_by_values.get(&self.class_of(&values)).copied()
     }
 
     // The model with the number of a gate.
@@ -380,6 +395,13 @@ impl Twins {
         let key = values.key();
         key.min(key ^ self.ones)
     }
+}
+
+// How many inputs are read. A row that is no gate's is an input's or the constant's.
+fn inputs(swept: &Swept<'_>, rows: &Rows) -> usize {
+    rows.count()
+        .saturating_sub(swept.gates.len())
+        .saturating_sub(1)
 }
 
 // Whether some model reads a gate that is none.
